@@ -1,0 +1,77 @@
+-- Fields that are read one after another from the front of a list of bits or bytes. A field gives its value and what
+-- is left, or the first refusal.
+use Rattle.std.specs.Prelude.{◌≡◌, ℕ, ◌<◌, Bool, true, false, List, [], ◌∷◌, ◌++◌, length, take, drop, Option, Some, None, Result, Ok, Err, nat_lt, if◌then◌else◌}
+use Rattle.vc_types.specs.Codes.{uint_bits, uint_at}
+
+-- bits or bytes T, refusals E, values X
+abbrev pub Field : Type 0 → Type 0 → Type 0 → Type 0
+Field T E X = List T → Result (X × List T) E
+
+abbrev pub and_then : {A B E : Type 0} → Result A E → (A → Result B E) → Result B E
+and_then (Ok x) f = f x
+and_then (Err refusal) f = Err refusal
+
+-- one field after another, which may depend on it
+infixl 10 ◌>>=◌
+abbrev pub ◌>>=◌ : {T E X Y : Type 0} → Field T E X → (X → Field T E Y) → Field T E Y
+(first >>= second) all = and_then (first all) (λ read. second read.0 read.1)
+
+-- nothing is read
+abbrev pub give : {T E X : Type 0} → X → Field T E X
+give x all = Ok (x, all)
+
+abbrev pub skip : {T E : Type 0} → Field T E (Unit {0})
+skip all = Ok (tt, all)
+
+abbrev pub refuse : {T E X : Type 0} → E → Field T E X
+refuse refusal all = Err refusal
+
+-- a field that passes a test
+abbrev pub tested : {T E X : Type 0} → (X → Bool) → E → Field T E X → Field T E X
+tested test refusal field all = and_then (field all) (λ read. if test read.0 then Ok read else Err refusal)
+
+-- the next bit or byte
+abbrev pub next : {T E : Type 0} → E → Field T E T
+next short [] = Err short
+next short (item ∷ rest) = Ok (item, rest)
+
+-- the next n bits or bytes
+abbrev pub next_items : {T E : Type 0} → E → ℕ → Field T E (List T)
+next_items short n all = if nat_lt (length all) n then Err short else Ok (take n all, drop n all)
+
+-- a bit that says whether something follows
+abbrev pub flag : {E : Type 0} → E → Field Bool E Bool
+flag short = next short
+
+-- the next unsigned code
+abbrev pub number_from : {E : Type 0} → E → E → ℕ → Option (ℕ × List Bool) → Result (ℕ × List Bool) E
+number_from short too_large max None = Err short
+number_from short too_large max (Some read) = if nat_lt max read.0 then Err too_large else Ok read
+
+-- an unsigned code of a number up to max
+unfoldable pub number : {E : Type 0} → E → E → ℕ → Field Bool E ℕ
+number short too_large max bits = number_from short too_large max (uint_at bits)
+
+-- a field behind a flag that is 1, and what stands in its place where the flag is 0
+abbrev pub behind_flag : {E X : Type 0} → E → X → Field Bool E X → Field Bool E X
+behind_flag short default field all = and_then (flag short all) (λ custom. if custom.0 then field custom.1 else Ok (default, custom.1))
+
+-- ---- what the code answers
+
+-- What was answered, seen by view, and what is left then, are what the field gives.
+abbrev pub Gives : {T E X Y : Type 0} → (X → Y) → Result X E → List T → Result (Y × List T) E → Type 0
+Gives view (Ok x) left read = read ≡ Ok (view x, left)
+Gives view (Err refusal) left read = read ≡ Err refusal
+
+-- ---- what a field is written as
+
+-- a flag and, where it is 1, the field's own bits
+abbrev pub flagged_bits : {A : Type 0} → (A → List Bool) → Option A → List Bool
+flagged_bits field None = false ∷ []
+flagged_bits field (Some a) = true ∷ field a
+
+-- Reading and writing belong together: what is read is what was written of some accepted spelling, and each accepted
+-- spelling is read again, whatever follows it.
+pub record IsCodec {T E A X : Type 0} (field : Field T E X) (written : A → List T) (value : A → X) (Accepted : A → Type 0) : Type 0 where
+  pub takes : (all : List T) (x : X) (rest : List T) → field all ≡ Ok (x, rest) → (a : A) × Accepted a × (value a ≡ x) × (all ≡ written a ++ rest)
+  pub again : (a : A) (rest : List T) → Accepted a → field (written a ++ rest) ≡ Ok (value a, rest)

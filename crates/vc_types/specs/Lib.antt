@@ -1,0 +1,17 @@
+pub mod Bits
+pub mod Codes
+pub mod Bounded
+pub mod Video
+pub mod Limits
+pub mod Rasters
+pub mod Fields
+pub mod SequenceHeader
+pub mod TransformParameters
+pub mod Quantisation
+pub mod Subbands
+pub mod Lifting
+pub mod Wavelets
+pub mod Transforms
+pub mod Slices
+pub mod Pictures
+pub mod Planes

@@ -1,0 +1,184 @@
+-- Sequence headers (ST 2042-1, sequence header): the fields in order, and the first refusal.
+use Rattle.std.specs.Prelude.{◌≡◌, ℕ, ◌-◌, ◌^◌, ◌/◌, Bool, ◌||◌, List, length, Result, Ok, Err, nat_le, ◌==◌, if◌then◌else◌}
+use Rattle.vc_types.specs.declared.header.Header.{Header}
+use Rattle.vc_types.specs.declared.shape.Shape.{Shape}
+use Rattle.vc_types.specs.declared.video.Sampling.{Sampling}
+use Rattle.vc_types.specs.declared.video.Sampling.TheVariants.{S444, S422, S420}
+use Rattle.vc_types.specs.declared.video.SignalRange.{SignalRange}
+use Rattle.vc_types.specs.declared.refusal.HeaderRefusal.{HeaderRefusal}
+use Rattle.vc_types.specs.declared.refusal.HeaderRefusal.TheVariants as refusals
+use Rattle.vc_types.specs.Bits.{bits_of}
+use Rattle.vc_types.specs.Video.{BaseFormat, format_of, range_of, signal_range, dimensions_fit, excursion_fits, colour_width, colour_height, picture_height, video_depth}
+use Rattle.vc_types.specs.Fields.{Field, ◌>>=◌, give, skip, refuse, tested, behind_flag, number as number_up_to, flag}
+
+-- the value of a sequence header
+pub record Sequence : Type 0 where
+  pub major : ℕ
+  pub minor : ℕ
+  pub level : ℕ
+  pub base : ℕ
+  pub width : ℕ
+  pub height : ℕ
+  pub sampling : Sampling
+  pub interlaced : Bool
+  pub top_first : Bool
+  pub range : SignalRange
+  pub fields : Bool
+
+abbrev pub sequence_of : Header → Sequence
+sequence_of h = record {
+  major = h.major;
+  minor = h.minor;
+  level = h.level;
+  base = h.base;
+  width = h.width;
+  height = h.height;
+  sampling = h.sampling;
+  interlaced = h.interlaced;
+  top_first = h.top_first;
+  range = h.range;
+  fields = h.fields;
+}
+
+abbrev pub HeaderField : Type 0 → Type 0
+HeaderField X = Field Bool HeaderRefusal X
+
+-- ---- the fields
+
+unfoldable pub number : HeaderField ℕ
+number = number_up_to refusals.Short refusals.TooLarge (2 ^ 32 - 1)
+
+-- a number of at most a limit
+abbrev pub index : ℕ → HeaderRefusal → HeaderField ℕ
+index limit refusal = tested (λ n. nat_le n limit) refusal number
+
+-- a part of the header behind its flag
+abbrev pub part : {X : Type 0} → X → HeaderField X → HeaderField X
+part default field = behind_flag refusals.Short default field
+
+unfoldable pub major_version : HeaderField ℕ
+major_version = tested (λ n. n == 2 || n == 3) refusals.Version number
+
+unfoldable pub profile : HeaderField ℕ
+profile = tested (λ n. n == 3) refusals.Profile number
+
+unfoldable pub base_video_format : HeaderField ℕ
+base_video_format = index 16 refusals.BaseFormat
+
+unfoldable pub frame_size : BaseFormat → HeaderField (ℕ × ℕ)
+frame_size base = part (base.width, base.height) (do
+  width ← number
+  height ← number
+  give (width, height))
+
+abbrev pub sampling_of : ℕ → Sampling
+sampling_of index = if index == 0 then S444 else (if index == 1 then S422 else S420)
+
+unfoldable pub colour_difference_sampling : BaseFormat → HeaderField Sampling
+colour_difference_sampling base = part base.sampling (do
+  format ← index 2 refusals.SamplingIndex
+  give (sampling_of format))
+
+unfoldable pub scan_format : BaseFormat → HeaderField Bool
+scan_format base = part base.interlaced (do
+  scan ← index 1 refusals.ScanIndex
+  give (scan == 1))
+
+-- an index and, where it is 0, two numbers: frame rate and pixel aspect ratio, which aren't kept
+unfoldable pub ratio : HeaderField (Unit {0})
+ratio = part tt (do
+  preset ← number
+  if preset == 0 then (do
+    numerator ← number
+    denominator ← number
+    skip) else skip)
+
+unfoldable pub clean_area : HeaderField (Unit {0})
+clean_area = part tt (do
+  width ← number
+  height ← number
+  left ← number
+  top ← number
+  skip)
+
+unfoldable pub excursion : HeaderField ℕ
+excursion = tested excursion_fits refusals.SignalRange number
+
+unfoldable pub custom_signal_range : HeaderField SignalRange
+custom_signal_range = do
+  luma_offset ← number
+  luma_excursion ← excursion
+  colour_offset ← number
+  colour_excursion ← excursion
+  give (signal_range luma_offset luma_excursion colour_offset colour_excursion)
+
+unfoldable pub signal_range_of : BaseFormat → HeaderField SignalRange
+signal_range_of base = part (range_of base.range) (do
+  preset ← index 4 refusals.SignalRange
+  if preset == 0 then custom_signal_range else give (range_of preset))
+
+-- colour primaries, colour matrix or transfer function, which aren't kept
+unfoldable pub colour_part : HeaderField (Unit {0})
+colour_part = part tt (do
+  preset ← number
+  skip)
+
+unfoldable pub colour_specification : HeaderField (Unit {0})
+colour_specification = part tt (do
+  preset ← number
+  if preset == 0 then (do
+    primaries ← colour_part
+    matrix ← colour_part
+    transfer ← colour_part
+    skip) else skip)
+
+unfoldable pub picture_coding_mode : HeaderField ℕ
+picture_coding_mode = index 1 refusals.CodingMode
+
+-- ---- the whole header
+
+unfoldable pub sequence_header : HeaderField Sequence
+sequence_header = do
+  major ← major_version
+  minor ← number
+  high_quality ← profile
+  level ← number
+  base ← base_video_format
+  size ← frame_size (format_of base)
+  sampling ← colour_difference_sampling (format_of base)
+  interlaced ← scan_format (format_of base)
+  frame_rate ← ratio
+  aspect_ratio ← ratio
+  area ← clean_area
+  range ← signal_range_of (format_of base)
+  colour ← colour_specification
+  mode ← picture_coding_mode
+  if dimensions_fit size.0 size.1 sampling (mode == 1) then give (record {
+    major = major;
+    minor = minor;
+    level = level;
+    base = base;
+    width = size.0;
+    height = size.1;
+    sampling = sampling;
+    interlaced = interlaced;
+    top_first = (format_of base).top_first;
+    range = range;
+    fields = mode == 1;
+  }) else refuse refusals.Dimensions
+
+-- how many bytes were used, where these bits are left behind a field
+abbrev pub bytes_used : List ℕ → List Bool → ℕ
+bytes_used bytes left = length bytes - length left / 8
+
+-- ---- the planes of one picture of the sequence
+
+unfoldable pub picture_shape : Sequence → Shape
+picture_shape s = record {
+  luma_width = s.width;
+  luma_height = picture_height s.fields s.height;
+  colour_width = colour_width s.sampling s.width;
+  colour_height = picture_height s.fields (colour_height s.sampling s.height);
+  luma_depth = video_depth s.range.luma_excursion;
+  colour_depth = video_depth s.range.colour_excursion;
+}

@@ -1,0 +1,119 @@
+-- Transform parameters (ST 2042-1, transform parameters): the fields in order, and the first refusal. The transform is
+-- the same across as down.
+use Rattle.std.specs.Prelude.{◌≡◌, ℕ, zero, suc, ◌+◌, ◌-◌, ◌*◌, ◌^◌, Bool, ◌||◌, ◌&&◌, not, List, [], ◌∷◌, Option, Some, None, nat_le, ◌==◌, if◌then◌else◌}
+use Rattle.vc_types.specs.declared.plan.Plan.{Plan}
+use Rattle.vc_types.specs.declared.shape.Shape.{Shape}
+use Rattle.vc_types.specs.declared.refusal.ParamsRefusal.{ParamsRefusal}
+use Rattle.vc_types.specs.declared.refusal.ParamsRefusal.TheVariants as refusals
+use Rattle.vc_types.specs.Fields.{Field, ◌>>=◌, give, skip, refuse, tested, behind_flag, number as number_up_to, flag}
+use Rattle.vc_types.specs.Limits.{slices_fit, padded_luma_fits}
+use Rattle.vc_types.specs.Quantisation.{filled_matrix, default_matrix}
+use Rattle.vc_types.specs.SequenceHeader.{Sequence, picture_shape}
+
+-- the value of transform parameters, with the shape of the picture that they are for
+pub record Parameters : Type 0 where
+  pub shape : Shape
+  pub wavelet : ℕ
+  pub wavelet_ho : ℕ
+  pub depth : ℕ
+  pub depth_ho : ℕ
+  pub slices_x : ℕ
+  pub slices_y : ℕ
+  pub prefix : ℕ
+  pub scaler : ℕ
+  pub matrix : List ℕ
+
+abbrev pub parameters_of : Plan → Parameters
+parameters_of p = record {
+  shape = p.shape;
+  wavelet = p.wavelet;
+  wavelet_ho = p.wavelet_ho;
+  depth = p.depth;
+  depth_ho = p.depth_ho;
+  slices_x = p.slices_x;
+  slices_y = p.slices_y;
+  prefix = p.prefix;
+  scaler = p.scaler;
+  matrix = p.matrix;
+}
+
+abbrev pub ParamsField : Type 0 → Type 0
+ParamsField X = Field Bool ParamsRefusal X
+
+-- ---- the fields
+
+unfoldable pub number : ParamsField ℕ
+number = number_up_to refusals.Short refusals.TooLarge (2 ^ 32 - 1)
+
+unfoldable pub wavelet_index : ParamsField ℕ
+wavelet_index = tested (λ n. nat_le n 6) refusals.Wavelet number
+
+unfoldable pub wavelet_depth : ParamsField ℕ
+wavelet_depth = tested (λ n. nat_le 1 n && nat_le n 5) refusals.Depth number
+
+-- the wavelet across and the levels across alone: fields of major version 3, each behind a flag
+unfoldable pub extended_parameters : ℕ → ℕ → ℕ → ParamsField (ℕ × ℕ)
+extended_parameters major wavelet depth = if major == 3 then (do
+  wavelet_ho ← behind_flag refusals.Short wavelet wavelet_index
+  depth_ho ← behind_flag refusals.Short 0 (tested (λ n. nat_le (depth + n) 5) refusals.Depth number)
+  give (wavelet_ho, depth_ho)) else give (wavelet, 0)
+
+unfoldable pub slice_counts : ParamsField (ℕ × ℕ)
+slice_counts = tested (λ n. slices_fit n.0 n.1) refusals.Slices (do
+  across ← number
+  down ← number
+  give (across, down))
+
+unfoldable pub prefix_bytes : ParamsField ℕ
+prefix_bytes = tested (λ n. nat_le n 65535) refusals.SliceBytes number
+
+unfoldable pub size_scaler : ParamsField ℕ
+size_scaler = tested (λ n. nat_le 1 n && nat_le n 65535) refusals.SliceBytes number
+
+unfoldable pub matrix_value : ParamsField ℕ
+matrix_value = tested (λ n. nat_le n 127) refusals.Matrix number
+
+-- so many values of a custom matrix
+unfoldable pub matrix_values : ℕ → ParamsField (List ℕ)
+matrix_values zero = give []
+matrix_values (suc n) = do
+  value ← matrix_value
+  values ← matrix_values n
+  give (value ∷ values)
+
+abbrev pub matrix_by_default : Option (List ℕ) → ParamsField (List ℕ)
+matrix_by_default None = refuse refusals.NoDefault
+matrix_by_default (Some matrix) = give matrix
+
+-- LL, then HL, LH and HH of each level upwards, where the flag is 1
+unfoldable pub quantisation_matrix : ℕ → ℕ → ParamsField (List ℕ)
+quantisation_matrix wavelet depth = do
+  custom ← flag refusals.Short
+  if custom then (do
+    values ← matrix_values (1 + 3 * depth)
+    give (filled_matrix values)) else matrix_by_default (default_matrix wavelet depth)
+
+-- ---- the whole parameters, of a picture of this sequence
+
+unfoldable pub transform_parameters : Sequence → ParamsField Parameters
+transform_parameters sequence = do
+  wavelet ← wavelet_index
+  depth ← wavelet_depth
+  across ← extended_parameters sequence.major wavelet depth
+  symmetric ← if across.0 == wavelet && across.1 == 0 then skip else refuse refusals.Asymmetric
+  slices ← slice_counts
+  prefix ← prefix_bytes
+  scaler ← size_scaler
+  matrix ← quantisation_matrix wavelet depth
+  if padded_luma_fits (picture_shape sequence) depth then give (record {
+    shape = picture_shape sequence;
+    wavelet = wavelet;
+    wavelet_ho = across.0;
+    depth = depth;
+    depth_ho = across.1;
+    slices_x = slices.0;
+    slices_y = slices.1;
+    prefix = prefix;
+    scaler = scaler;
+    matrix = matrix;
+  }) else refuse refusals.TooLarge

@@ -1,0 +1,92 @@
+ghost use Rattle.std.specs.Prelude.{◌≡◌, ◌≤◌, IsTrue, nat_le, position};
+ghost use Rattle.vc_types.specs.Video.{dimensions_fit, excursion_fits, colour_width, colour_height, picture_height, video_depth};
+
+use crate::shape::Shape;
+use crate::video::{Sampling, SignalRange};
+
+/// A sequence header that was accepted (ST 2042-1, sequence header). Width and height are those of a frame.
+#[derive(Clone, Copy, Debug)]
+pub struct Header {
+    pub major: u32,
+    pub minor: u32,
+    pub level: u32,
+    pub base: u8,
+    pub width: u32,
+    pub height: u32,
+    pub sampling: Sampling,
+    pub interlaced: bool,
+    pub top_first: bool,
+    pub range: SignalRange,
+    pub fields: bool,
+    pub ghost base_is_known: { base ≤ 16 },
+    pub ghost dimensions: { IsTrue (dimensions_fit width height sampling fields) },
+    pub ghost luma_excursion: { IsTrue (excursion_fits range.luma_excursion) },
+    pub ghost colour_excursion: { IsTrue (excursion_fits range.colour_excursion) },
+}
+
+// The powers of two that an excursion is held against.
+const POWERS_OF_TWO: [u32; 17] = [
+    1, 2, 4, 8, 16, 32, 64, 128, 256, 512, 1024, 2048, 4096, 8192, 16384, 32768, 65536,
+];
+
+fn picture_height(fields: bool, height: u32) -> u32
+    ensures { result ≡ picture_height fields height }
+{
+    if fields { height / 2 } else { height }
+}
+
+fn colour_width(sampling: Sampling, width: u32) -> u32
+    ensures { result ≡ colour_width sampling width }
+{
+    match sampling {
+        Sampling::S444 => width,
+        Sampling::S422 | Sampling::S420 => width / 2,
+    }
+}
+
+fn colour_height(sampling: Sampling, height: u32) -> u32
+    ensures { result ≡ colour_height sampling height }
+{
+    match sampling {
+        Sampling::S444 | Sampling::S422 => height,
+        Sampling::S420 => height / 2,
+    }
+}
+
+// The place of the first of these numbers that is large enough.
+fn first_from(numbers: &[u32], least: u32) -> Option<usize>
+    ensures { result ≡ position (λ number. nat_le least number) numbers.now }
+{
+    numbers.iter().position(|number| least <= *number)
+}
+
+// How many bits the samples of an excursion have.
+#[tactic(auto, unfolding(crate::specs::Video::video_depth))]
+fn video_depth(excursion: u32) -> u8
+    requires { excursion ≤ 65535 }
+    ensures { result ≡ video_depth excursion }
+{
+    match first_from(&POWERS_OF_TWO, excursion + 1) {
+        Some(depth) => depth as u8,
+        None => 16,
+    }
+}
+
+impl Header {
+    ghost use Rattle.vc_types.specs.SequenceHeader.{sequence_of, picture_shape};
+
+    /// The shape of one picture of the sequence: of a frame or, with field coding, of a field.
+    #[tactic(auto, unfolding(crate::specs::SequenceHeader::picture_shape))]
+    pub fn shape(&self) -> Shape
+        ensures { result ≡ picture_shape (sequence_of self.now) }
+    {
+        Shape {
+            luma_width: self.width,
+            luma_height: picture_height(self.fields, self.height),
+            colour_width: colour_width(self.sampling, self.width),
+            colour_height: picture_height(self.fields, colour_height(self.sampling, self.height)),
+            luma_depth: video_depth(self.range.luma_excursion),
+            colour_depth: video_depth(self.range.colour_excursion),
+        }
+    }
+}

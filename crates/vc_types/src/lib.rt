@@ -1,0 +1,24 @@
+//! The words that every other crate shares: the values of VC-2, and in specs/ what the standard says of them.
+#![tactic(auto)]
+
+mod grid;
+mod header;
+mod memory;
+mod plan;
+mod plane;
+mod rect;
+mod refusal;
+mod shape;
+mod video;
+mod words;
+
+pub use grid::Grid;
+pub use header::Header;
+pub use memory::NoMemory;
+pub use plan::Plan;
+pub use plane::Plane;
+pub use rect::Rect;
+pub use refusal::{HeaderRefusal, ParamsRefusal, Short, Unsound};
+pub use shape::Shape;
+pub use video::{Component, Sampling, SignalRange};
+pub use words::Words;
