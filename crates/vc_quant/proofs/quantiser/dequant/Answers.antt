@@ -1,9 +1,9 @@
-use Rattle.std.proofs.Common.{◌≡◌, ◌+◌, ◌*◌, ◌/◌, ◌^◌, ◌<◌, ◌≤◌, ◌≢◌, ℕ, ℤ, pos, ◌≤ℤ◌, ◌<ℤ◌, unsigned_abs, arith, ◌∙◌, sym, ap, refl}
+use Rattle.std.proofs.Common.{◌≡◌, ◌+◌, ◌*◌, ◌/◌, ◌^◌, ◌≢◌, ℕ, ℤ, pos, ◌≤ℤ◌, ◌<ℤ◌, unsigned_abs, arith, ◌∙◌, sym, ap}
 use Rattle.std.specs.Int.{w64}
 use Rattle.std.proofs.lemmas.Int.{ints, to_z-of_z}
 use Rattle.std.proofs.Common.{negsuc}
 use Rattle.std.proofs.lemmas.Nat.{mul-le}
-use Rattle.vc_types.specs.Quantisation.{quant_factor, quant_offset, dequantised_magnitude, dequantised, with_sign_of}
+use Rattle.vc_types.specs.Quantisation.{quant_factor, quant_offset, dequantised, with_sign_of}
 use Rattle.vc_types.proofs.Magnitudes.{negated_128, kept_128}
 use Rattle.vc_types.proofs.Quantisers.{dequantised_magnitude-zero, dequantised_magnitude-other}
 use Rattle.vc_quant.proofs.quantiser.dequant.Goals as goal

@@ -1,8 +1,8 @@
-use Rattle.std.proofs.Common.{◌≡◌, ◌+◌, ◌*◌, ◌/◌, ◌^◌, ◌<◌, ◌≤◌, ◌≢◌, ℕ, ℤ, pos, ◌≤ℤ◌, ◌<ℤ◌, unsigned_abs, arith, ◌∙◌, sym, ap, refl}
+use Rattle.std.proofs.Common.{◌*◌, ◌/◌, pos, ◌≤ℤ◌, ◌<ℤ◌, unsigned_abs, arith, ◌∙◌, ap}
 use Rattle.std.specs.Int.{w64}
 use Rattle.std.proofs.lemmas.Int.{ints, to_z-of_z}
 use Rattle.std.proofs.Math.Nat.{div-le_self}
-use Rattle.vc_types.specs.Quantisation.{quant_factor, quantised, with_sign_of}
+use Rattle.vc_types.specs.Quantisation.{quant_factor, quantised}
 use Rattle.vc_types.proofs.Magnitudes.{negated_64, kept_64}
 use Rattle.vc_quant.proofs.quantiser.quant.Goals as goal
 
