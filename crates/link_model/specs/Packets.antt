@@ -93,10 +93,10 @@ packet_fields bytes = record {
 
 unfoldable pub rtp_packet : List ℕ → Result RtpPacket RtpRefusal
 rtp_packet bytes =
-  if nat_lt (length bytes) 12 then Err rtp_refusals.Short
-  else (if not (version bytes == 2) then Err rtp_refusals.Version
-  else (if not (is_shaped bytes) then Err rtp_refusals.Shape
-  else Ok (packet_fields bytes)))
+    if nat_lt (length bytes) 12 then Err rtp_refusals.Short
+    else (if not (version bytes == 2) then Err rtp_refusals.Version
+    else (if not (is_shaped bytes) then Err rtp_refusals.Shape
+    else Ok (packet_fields bytes)))
 
 -- a header of version 2 without CSRC list, extension or padding
 unfoldable pub rtp_header : RtpPacket → List ℕ
@@ -162,8 +162,8 @@ fragment_fits bytes = nat_le 16 (length bytes) && nat_le (body_place bytes + fra
 -- transform parameters where no slices are told, else slices
 unfoldable pub fragment_value : List ℕ → PayloadValue
 fragment_value bytes =
-  if slice_count bytes == 0 then Params (fragment_head bytes) 16 (fragment_body bytes)
-  else Slices (fragment_head bytes) (slice_count bytes) (number_at 2 16 bytes) (number_at 2 18 bytes) 20 (fragment_body bytes)
+    if slice_count bytes == 0 then Params (fragment_head bytes) 16 (fragment_body bytes)
+    else Slices (fragment_head bytes) (slice_count bytes) (number_at 2 16 bytes) (number_at 2 18 bytes) 20 (fragment_body bytes)
 
 -- ---- reading and writing
 
@@ -174,11 +174,11 @@ is_known_code code = code == 0x00 || code == 0x10 || code == 0x20 || code == 0x3
 
 abbrev pub coded_payload : ℕ → List ℕ → Result PayloadValue PayloadRefusal
 coded_payload code bytes =
-  if code == 0x00 then Ok (Header (high_of bytes) 4 (drop 4 bytes))
-  else (if code == 0x10 then Ok (End (high_of bytes))
-  else (if code == 0x20 || code == 0x30 then Ok (Skip (high_of bytes) code)
-  else (if code == 0xEC then (if fragment_fits bytes then Ok (fragment_value bytes) else Err payload_refusals.Fragment)
-  else Err payload_refusals.Code)))
+    if code == 0x00 then Ok (Header (high_of bytes) 4 (drop 4 bytes))
+    else (if code == 0x10 then Ok (End (high_of bytes))
+    else (if code == 0x20 || code == 0x30 then Ok (Skip (high_of bytes) code)
+    else (if code == 0xEC then (if fragment_fits bytes then Ok (fragment_value bytes) else Err payload_refusals.Fragment)
+    else Err payload_refusals.Code)))
 
 unfoldable pub payload : List ℕ → Result PayloadValue PayloadRefusal
 payload bytes = if nat_lt (length bytes) 4 then Err payload_refusals.Short else coded_payload (code_of bytes) bytes
@@ -190,7 +190,7 @@ payload_head high flags code = to_be_bytes w16 high ++ (flags ∷ code ∷ [])
 -- the first sixteen bytes of a fragment
 abbrev pub fragment_bytes : FragmentHead → ℕ → ℕ → List ℕ
 fragment_bytes head bytes slices =
-  payload_head head.high head.flags 0xEC ++ (to_be_bytes w32 head.number ++ (to_be_bytes w16 head.prefix ++ (to_be_bytes w16 head.scaler ++ (to_be_bytes w16 bytes ++ to_be_bytes w16 slices))))
+    payload_head head.high head.flags 0xEC ++ (to_be_bytes w32 head.number ++ (to_be_bytes w16 head.prefix ++ (to_be_bytes w16 head.scaler ++ (to_be_bytes w16 bytes ++ to_be_bytes w16 slices))))
 
 -- what a payload is written as
 unfoldable pub payload_bytes : PayloadValue → List ℕ

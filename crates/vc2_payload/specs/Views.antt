@@ -10,8 +10,20 @@ abbrev pub head_of : FragmentHead → packets.FragmentHead
 head_of h = record { high = h.high; flags = h.flags; number = h.number; prefix = h.prefix; scaler = h.scaler }
 
 abbrev pub value_of : Payload → PayloadValue
-value_of (Header p) = packets.Header p.high p.from p.body.now
-value_of (End p) = packets.End p.high
-value_of (Skip p) = packets.Skip p.high p.code
-value_of (Params p) = packets.Params (head_of p.head) p.from p.body.now
-value_of (Slices p) = packets.Slices (head_of p.head) p.count p.x p.y p.from p.body.now
+value_of (Header high from body) = packets.Header high from body.now
+value_of (End high) = packets.End high
+value_of (Skip high code) = packets.Skip high code
+value_of (Params head from body) = packets.Params (head_of head) from body.now
+value_of (Slices head count x y from body) = packets.Slices (head_of head) count x y from body.now
+
+-- the body is what stands at a place of the bytes
+abbrev pub StandsAt : List ℕ → ℕ → List ℕ → Type 0
+StandsAt bytes from body = (from + length body ≤ length bytes) × (body ≡ slice_range bytes from (from + length body))
+
+-- a payload's body, if it has one, stands at its place
+abbrev pub HasBodyIn : List ℕ → Payload → Type 0
+HasBodyIn bytes (Header high from body) = StandsAt bytes from body.now
+HasBodyIn bytes (End high) = Unit {0}
+HasBodyIn bytes (Skip high code) = Unit {0}
+HasBodyIn bytes (Params head from body) = StandsAt bytes from body.now
+HasBodyIn bytes (Slices head count x y from body) = StandsAt bytes from body.now
