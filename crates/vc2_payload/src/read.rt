@@ -40,21 +40,6 @@ fn fragment_head(bytes: &[u8]) -> FragmentHead
     }
 }
 
-// So many bytes from a place on, if there are as many.
-fn body(bytes: &[u8], from: usize, len: usize) -> Option<&[u8]>
-    requires { from ≤ 20 }
-    ensures passes { IsNone result ↔ (length bytes.now < from + len) }
-    ensures value { IfSome result (λ body. body.now ≡ take len (drop from bytes.now)) }
-    ensures place { IfSome result (λ body. StandsAt bytes.now from body.now) }
-{
-    if bytes.len() < from || bytes.len() - from < len {
-        return None;
-    }
-    let (_, rest) = bytes.split_at(from);
-    let (body, _) = rest.split_at(len);
-    Some(body)
-}
-
 #[tactic(auto, unfolding(link_model::specs::Packets::fragment_fits, link_model::specs::Packets::fragment_value))]
 fn fragment(bytes: &[u8]) -> Option<Payload<'_>>
     ensures fits { IsSome result ↔ IsTrue (fragment_fits bytes.now) }
@@ -68,7 +53,7 @@ fn fragment(bytes: &[u8]) -> Option<Payload<'_>>
     let len = usize::from(number_16(bytes, 12));
     match number_16(bytes, 14) {
         0 => {
-            let body = body(bytes, PARAMS_BYTES, len)?;
+            let body = bytes.get(PARAMS_BYTES..PARAMS_BYTES + len)?;
             Some(Payload::Params {
                 head,
                 from: PARAMS_BYTES,
@@ -76,7 +61,7 @@ fn fragment(bytes: &[u8]) -> Option<Payload<'_>>
             })
         }
         count => {
-            let body = body(bytes, SLICES_BYTES, len)?;
+            let body = bytes.get(SLICES_BYTES..SLICES_BYTES + len)?;
             Some(Payload::Slices {
                 head,
                 count,
