@@ -1,0 +1,9 @@
+//! Payloads of VC-2 in RTP packets (RFC 8450, 4), read out of datagrams and written into them.
+#![tactic(auto)]
+
+mod payload;
+mod read;
+
+pub use link_model::PayloadRefusal;
+pub use payload::{FragmentHead, Payload};
+pub use read::read_payload;
