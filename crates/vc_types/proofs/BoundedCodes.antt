@@ -1,13 +1,13 @@
 -- A code that is read in a block is the code that stands there, and it is the only one.
-use Rattle.std.proofs.Common.{◌≡◌, ℕ, ◌+◌, ◌-◌, ◌*◌, ◌<◌, ◌≤◌, ℤ, Bool, true, false, List, [], ◌∷◌, ◌++◌, length, get_or, drop, refl, sym, ap, ◌∙◌, arith, inl, inr, append_assoc, append-nil, length-append, replicate}
+use Rattle.std.proofs.Common.{◌≡◌, ℕ, zero, suc, ◌+◌, ◌-◌, ◌*◌, ◌<◌, ◌≤◌, ℤ, pos, eqb, cond, Bool, true, false, List, [], ◌∷◌, ◌++◌, length, get_or, drop, refl, sym, ap, subst, ◌∙◌, arith, inl, inr, append_assoc, append-nil, length-append, replicate}
 use Rattle.std.specs.Prelude.{unsigned_abs}
-use Rattle.std.proofs.lemmas.Bool.{cases_lt}
+use Rattle.std.proofs.lemmas.Bool.{cases_lt, ne_eqb}
 use Rattle.std.proofs.lemmas.List.{get_or_append_left, get_or-replicate, get_or_past, get_or_push, drop-drop, length-replicate}
 use Rattle.std.proofs.Math.Seq.{get_or-append_right}
 use Rattle.std.proofs.lemmas.List.Prefix.{front_from_reads}
 use Rattle.vc_types.specs.Bits.{digit_of}
 use Rattle.vc_types.specs.Codes.{spread_digits, uint_bits, uint_at, sign_bits, sint_bits}
-use Rattle.vc_types.specs.Bounded.{BeginsWith, bounded_uint_after, bounded_uint}
+use Rattle.vc_types.specs.Bounded.{BeginsWith, LargeSint, bounded, bounded_uint_after, bounded_uint, signed, with_sign, bounded_sint}
 use Rattle.vc_types.proofs.Codes.{spread_digits-push, uint_at-uint_bits, some_is, none_before}
 
 -- two blocks have the same bits, with the ones behind them
@@ -146,7 +146,64 @@ begins_push bits code bit begin next place lt =
           rw last (next ∙ sym (get_or_push code bit true (length code) refl))
     ]
 
--- one magnitude's code begins a block
-pub one_sint : (bits : List Bool) (m : ℕ) (v : ℤ) → BeginsWith bits (uint_bits m) → BeginsWith bits (sint_bits v) → m ≡ unsigned_abs v
+-- what is read in a block is what stands there
+pub record IsSint (bits : List Bool) (v : ℤ) (rest : List Bool) : Type 0 where
+  pub code : BeginsWith bits (sint_bits v)
+  pub behind : rest ≡ drop (length (sint_bits v)) bits
+
+pub signed-abs : (negative : Bool) (magnitude : ℕ) → unsigned_abs (signed negative magnitude) ≡ magnitude
+signed-abs true zero = refl
+signed-abs true (suc n) = refl
+signed-abs false n = refl
+
+sint_bits-signed : (negative : Bool) (magnitude : ℕ) → 0 < magnitude → sint_bits (signed negative magnitude) ≡ uint_bits magnitude ++ negative ∷ []
 unfolding sint_bits
-one_sint bits m v first second = one_uint bits m (unsigned_abs v) first (front_begins bits (uint_bits (unsigned_abs v)) (sign_bits v) second)
+sint_bits-signed negative zero some = absurd (omega arith)
+sint_bits-signed true (suc n) some = refl
+sint_bits-signed false (suc n) some = refl
+
+zero_is : (bits : List Bool) (whole : ℕ) (rest : List Bool) → IsBounded bits whole rest → whole ≡ 0 → IsSint bits (pos 0) rest
+unfolding sint_bits
+zero_is bits whole rest read none =
+    let same : uint_bits whole ≡ sint_bits (pos 0) = ap uint_bits none ∙ sym (append-nil (uint_bits 0)) in
+    record { code = subst (BeginsWith bits) same read.code; behind = read.behind ∙ ap (λ (code : List Bool). drop (length code) bits) same }
+
+first_is : (n : ℕ) (xs : List Bool) → bounded (drop n xs) 0 ≡ bounded xs n
+first_is zero xs = refl
+first_is (suc n) [] = refl
+first_is (suc n) (x ∷ xs) = first_is n xs
+
+sint_is : (bits : List Bool) (whole : ℕ) (rest : List Bool) → IsBounded bits whole rest → 0 < whole → IsSint bits (signed (bounded rest 0) whole) (drop 1 rest)
+sint_is bits whole rest read some =
+    let sign = bounded rest 0 in
+    let here : get_or bits (length (uint_bits whole)) true ≡ sign = sym (first_is (length (uint_bits whole)) bits) ∙ ap (λ (xs : List Bool). bounded xs 0) (sym read.behind) in
+    let same : uint_bits whole ++ sign ∷ [] ≡ sint_bits (signed sign whole) = sym (sint_bits-signed sign whole some) in
+    let long : length (sint_bits (signed sign whole)) ≡ length (uint_bits whole) + 1 = ap length (sym same) ∙ length-append (uint_bits whole) (sign ∷ []) in
+    record {
+      code = subst (BeginsWith bits) same (begins_push bits (uint_bits whole) sign read.code here);
+      behind = ap (drop 1) read.behind ∙ drop-drop 1 (length (uint_bits whole)) bits ∙ ap (λ (n : ℕ). drop n bits) (sym long);
+    }
+
+pub with_sign-none : (whole : ℕ) (rest : List Bool) → whole ≡ 0 → with_sign (whole, rest) ≡ (pos 0, rest)
+with_sign-none whole rest none = rw none refl
+
+pub with_sign-some : (whole : ℕ) (rest : List Bool) → 0 < whole → with_sign (whole, rest) ≡ (signed (bounded rest 0) whole, drop 1 rest)
+with_sign-some whole rest some = let other : eqb whole 0 ≡ false = ne_eqb whole 0 (omega arith) in rw other refl
+
+with_sign-is : (bits : List Bool) (whole : ℕ) (rest : List Bool) → IsBounded bits whole rest → IsSint bits (with_sign (whole, rest)).0 (with_sign (whole, rest)).1
+with_sign-is bits whole rest read =
+    elim (cases_lt 0 whole) [
+      | inl some ↦ subst (λ (x : ℤ × List Bool). IsSint bits x.0 x.1) (sym (with_sign-some whole rest some)) (sint_is bits whole rest read some)
+      | inr none ↦ let zero : whole ≡ 0 = omega arith in subst (λ (x : ℤ × List Bool). IsSint bits x.0 x.1) (sym (with_sign-none whole rest zero)) (zero_is bits whole rest read zero)
+    ]
+
+-- the signed number that is read in a block stands there
+pub bounded_sint-is : (bits : List Bool) → IsSint bits (bounded_sint bits).0 (bounded_sint bits).1
+unfolding bounded_sint
+bounded_sint-is bits = with_sign-is bits (bounded_uint bits).0 (bounded_uint bits).1 (bounded_uint-is bits)
+
+-- a number that stands there has the magnitude that is read
+pub one_sint : (bits : List Bool) (v w : ℤ) → BeginsWith bits (sint_bits v) → BeginsWith bits (sint_bits w) → unsigned_abs v ≡ unsigned_abs w
+unfolding sint_bits
+one_sint bits v w first second =
+    one_uint bits (unsigned_abs v) (unsigned_abs w) (front_begins bits (uint_bits (unsigned_abs v)) (sign_bits v) first) (front_begins bits (uint_bits (unsigned_abs w)) (sign_bits w) second)
