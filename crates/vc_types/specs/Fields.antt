@@ -63,6 +63,11 @@ abbrev pub Gives : {T E X Y : Type 0} → (X → Y) → Result X E → List T �
 Gives view (Ok x) left read = read ≡ Ok (view x, left)
 Gives view (Err refusal) left read = read ≡ Err refusal
 
+-- What was answered, seen by view, is what was read.
+abbrev pub Answers : {E X Y : Type 0} → (X → Y) → Result X E → Result Y E → Type 0
+Answers view (Ok x) read = read ≡ Ok (view x)
+Answers view (Err refusal) read = read ≡ Err refusal
+
 -- ---- what a field is written as
 
 -- a flag and, where it is 1, the field's own bits

@@ -170,6 +170,15 @@ sequence_header = do
 abbrev pub bytes_used : List ℕ → List Bool → ℕ
 bytes_used bytes left = length bytes - length left / 8
 
+-- a field at the front of these bytes: its value and the bytes that it takes
+abbrev pub with_bytes_used : {E X : Type 0} → List ℕ → Result (X × List Bool) E → Result (X × ℕ) E
+with_bytes_used bytes (Ok read) = Ok (read.0, bytes_used bytes read.1)
+with_bytes_used bytes (Err refusal) = Err refusal
+
+-- the header at the front of bytes and how many of them it takes, or the first refusal
+abbrev pub coded_header : List ℕ → Result (Sequence × ℕ) HeaderRefusal
+coded_header bytes = with_bytes_used bytes (sequence_header (bits_of bytes))
+
 -- ---- the planes of one picture of the sequence
 
 unfoldable pub picture_shape : Sequence → Shape

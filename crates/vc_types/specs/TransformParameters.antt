@@ -1,6 +1,6 @@
 -- Transform parameters (ST 2042-1, transform parameters): the fields in order, and the first refusal. The transform is
 -- the same across as down.
-use Rattle.std.specs.Prelude.{ℕ, zero, suc, ◌+◌, ◌-◌, ◌*◌, ◌^◌, Bool, ◌&&◌, List, [], ◌∷◌, Option, Some, None, nat_le, ◌==◌, if◌then◌else◌}
+use Rattle.std.specs.Prelude.{ℕ, zero, suc, ◌+◌, ◌-◌, ◌*◌, ◌^◌, Bool, ◌&&◌, List, [], ◌∷◌, Option, Some, None, Result, nat_le, ◌==◌, if◌then◌else◌}
 use Rattle.vc_types.specs.declared.plan.Plan.{Plan}
 use Rattle.vc_types.specs.declared.shape.Shape.{Shape}
 use Rattle.vc_types.specs.declared.refusal.ParamsRefusal.{ParamsRefusal}
@@ -8,7 +8,8 @@ use Rattle.vc_types.specs.declared.refusal.ParamsRefusal.TheVariants as refusals
 use Rattle.vc_types.specs.Fields.{Field, ◌>>=◌, give, skip, refuse, tested, behind_flag, number as number_up_to, flag}
 use Rattle.vc_types.specs.Limits.{slices_fit, padded_luma_fits}
 use Rattle.vc_types.specs.Quantisation.{filled_matrix, default_matrix}
-use Rattle.vc_types.specs.SequenceHeader.{Sequence, picture_shape}
+use Rattle.vc_types.specs.Bits.{bits_of}
+use Rattle.vc_types.specs.SequenceHeader.{Sequence, picture_shape, with_bytes_used}
 
 -- the value of transform parameters, with the shape of the picture that they are for
 pub record Parameters : Type 0 where
@@ -117,3 +118,7 @@ transform_parameters sequence = do
     scaler = scaler;
     matrix = matrix;
   }) else refuse refusals.TooLarge
+
+-- the parameters at the front of bytes and how many of them they take, or the first refusal
+abbrev pub coded_parameters : Sequence → List ℕ → Result (Parameters × ℕ) ParamsRefusal
+coded_parameters sequence bytes = with_bytes_used bytes (transform_parameters sequence (bits_of bytes))
