@@ -7,7 +7,7 @@ use Rattle.vc_golomb.specs.declared.uint.UintRefusal.{UintRefusal}
 use Rattle.vc_golomb.specs.declared.uint.UintRefusal.TheVariants.{End, TooLarge}
 use Rattle.vc_golomb.proofs.Reading.{accepted, refused, ended}
 
-small_is : {E : Type 0} (short large : E) (max : ℕ) (x : ℕ × List Bool) → x.0 ≤ max → number_from short large max (Some x) ≡ Ok x
+pub small_is : {E : Type 0} (short large : E) (max : ℕ) (x : ℕ × List Bool) → x.0 ≤ max → number_from short large max (Some x) ≡ Ok x
 small_is short large max x le = let test : ltb max x.0 ≡ false = le-ltb _ _ le in rw test refl
 
 large_is : {E : Type 0} (short large : E) (max : ℕ) (x : ℕ × List Bool) → max < x.0 → number_from short large max (Some x) ≡ Err large
