@@ -11,3 +11,6 @@ pub use laws::written_rtp_is_read;
 pub use read::read_rtp;
 pub use view::RtpView;
 pub use write::write_rtp;
+
+#[cfg(test)]
+mod tests;

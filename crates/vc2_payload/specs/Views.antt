@@ -28,9 +28,10 @@ HasBodyIn bytes (Skip high code) = Unit {0}
 HasBodyIn bytes (Params head from body) = StandsAt bytes from body.now
 HasBodyIn bytes (Slices head count x y from body) = StandsAt bytes from body.now
 
--- a body's length fits its field, there is a slice, and what is skipped has one of the two codes
+-- a fragment's length fits its field, there is a slice where slices are told, and what is skipped has one of the two
+-- codes
 abbrev pub CanBeWritten : Payload → Type 0
-CanBeWritten (Header high from body) = length body.now < 2 ^ 16
+CanBeWritten (Header high from body) = Unit {0}
 CanBeWritten (End high) = Unit {0}
 CanBeWritten (Skip high code) = (code ≡ 0x20) ⊎ (code ≡ 0x30)
 CanBeWritten (Params head from body) = length body.now < 2 ^ 16
