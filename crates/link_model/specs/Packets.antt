@@ -1,6 +1,6 @@
 -- Datagrams: an RTP packet (RFC 3550, 5.1) whose payload is one of VC-2 (RFC 8450, 4). Each has its fields at their
 -- places, or the first refusal.
-use Rattle.std.specs.Prelude.{◌≡◌, ℕ, zero, suc, ◌+◌, ◌-◌, ◌*◌, ◌/◌, ◌%◌, ◌^◌, Bool, ◌&&◌, ◌||◌, not, List, [], ◌∷◌, ◌++◌, length, take, drop, slice_index, Result, Ok, Err, nat_lt, nat_le, ◌==◌, if◌then◌else◌}
+use Rattle.std.specs.Prelude.{◌≡◌, ◌<◌, ◌≤◌, ◌⊎◌, ℕ, zero, suc, ◌+◌, ◌-◌, ◌*◌, ◌/◌, ◌%◌, ◌^◌, Bool, ◌&&◌, ◌||◌, not, List, [], ◌∷◌, ◌++◌, length, take, drop, slice_index, Result, Ok, Err, nat_lt, nat_le, ◌==◌, if◌then◌else◌}
 use Rattle.std.specs.Int.{w16, w32, to_be_bytes}
 use Rattle.link_model.specs.declared.refusal.RtpRefusal.{RtpRefusal}
 use Rattle.link_model.specs.declared.refusal.RtpRefusal.TheVariants as rtp_refusals
@@ -98,6 +98,13 @@ rtp_packet bytes =
     else (if not (is_shaped bytes) then Err rtp_refusals.Shape
     else Ok (packet_fields bytes)))
 
+-- each field has its number of bits
+pub record RtpFits (p : RtpPacket) : Type 0 where
+  pub payload_type : p.payload_type < 2 ^ 7
+  pub sequence : p.sequence < 2 ^ 16
+  pub timestamp : p.timestamp < 2 ^ 32
+  pub ssrc : p.ssrc < 2 ^ 32
+
 -- a header of version 2 without CSRC list, extension or padding
 unfoldable pub rtp_header : RtpPacket → List ℕ
 rtp_header p = 128 ∷ (if p.marker then 128 + p.payload_type else p.payload_type) ∷ (to_be_bytes w16 p.sequence ++ (to_be_bytes w32 p.timestamp ++ to_be_bytes w32 p.ssrc))
@@ -183,12 +190,36 @@ coded_payload code bytes =
 unfoldable pub payload : List ℕ → Result PayloadValue PayloadRefusal
 payload bytes = if nat_lt (length bytes) 4 then Err payload_refusals.Short else coded_payload (code_of bytes) bytes
 
+-- each field has its number of bits
+pub record HeadFits (head : FragmentHead) : Type 0 where
+  pub high : head.high < 2 ^ 16
+  pub number : head.number < 2 ^ 32
+  pub prefix : head.prefix < 2 ^ 16
+  pub scaler : head.scaler < 2 ^ 16
+
+-- each field has its number of bits, there is a slice, and what is skipped has one of the two codes
+abbrev pub IsWritable : PayloadValue → Type 0
+IsWritable (Header high from body) = high < 2 ^ 16
+IsWritable (End high) = high < 2 ^ 16
+IsWritable (Skip high code) = (high < 2 ^ 16) × ((code ≡ 0x20) ⊎ (code ≡ 0x30))
+IsWritable (Params head from body) = HeadFits head × (length body < 2 ^ 16)
+IsWritable (Slices head count x y from body) = HeadFits head × (1 ≤ count) × (count < 2 ^ 16) × (x < 2 ^ 16) × (y < 2 ^ 16) × (length body < 2 ^ 16)
+
+-- what is read where a payload is written and other bytes follow: its body stands behind its head, and a sequence
+-- header, whose length isn't told, goes on to the end
+abbrev pub read_back : PayloadValue → List ℕ → PayloadValue
+read_back (Header high from body) behind = Header high 4 (body ++ behind)
+read_back (End high) behind = End high
+read_back (Skip high code) behind = Skip high code
+read_back (Params head from body) behind = Params head 16 body
+read_back (Slices head count x y from body) behind = Slices head count x y 20 body
+
 -- the first four bytes
-abbrev pub payload_head : ℕ → ℕ → ℕ → List ℕ
+unfoldable pub payload_head : ℕ → ℕ → ℕ → List ℕ
 payload_head high flags code = to_be_bytes w16 high ++ (flags ∷ code ∷ [])
 
 -- the first sixteen bytes of a fragment
-abbrev pub fragment_bytes : FragmentHead → ℕ → ℕ → List ℕ
+unfoldable pub fragment_bytes : FragmentHead → ℕ → ℕ → List ℕ
 fragment_bytes head bytes slices =
     payload_head head.high head.flags 0xEC ++ (to_be_bytes w32 head.number ++ (to_be_bytes w16 head.prefix ++ (to_be_bytes w16 head.scaler ++ (to_be_bytes w16 bytes ++ to_be_bytes w16 slices))))
 

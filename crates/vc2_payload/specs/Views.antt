@@ -1,5 +1,5 @@
 -- What code keeps of a payload.
-use Rattle.std.specs.Prelude.{◌≡◌, ◌+◌, ◌≤◌, ℕ, List, length, slice_range}
+use Rattle.std.specs.Prelude.{◌≡◌, ◌+◌, ◌<◌, ◌≤◌, ◌^◌, ◌⊎◌, ℕ, List, length, slice_range}
 use Rattle.link_model.specs.Packets as packets
 use Rattle.link_model.specs.Packets.{PayloadValue}
 use Rattle.vc2_payload.specs.declared.payload.FragmentHead.{FragmentHead}
@@ -27,3 +27,12 @@ HasBodyIn bytes (End high) = Unit {0}
 HasBodyIn bytes (Skip high code) = Unit {0}
 HasBodyIn bytes (Params head from body) = StandsAt bytes from body.now
 HasBodyIn bytes (Slices head count x y from body) = StandsAt bytes from body.now
+
+-- a fragment's length fits its field, there is a slice where slices are told, and what is skipped has one of the two
+-- codes
+abbrev pub CanBeWritten : Payload → Type 0
+CanBeWritten (Header high from body) = Unit {0}
+CanBeWritten (End high) = Unit {0}
+CanBeWritten (Skip high code) = (code ≡ 0x20) ⊎ (code ≡ 0x30)
+CanBeWritten (Params head from body) = length body.now < 2 ^ 16
+CanBeWritten (Slices head count x y from body) = (1 ≤ count) × (length body.now < 2 ^ 16)

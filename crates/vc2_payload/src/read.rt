@@ -1,6 +1,6 @@
 ghost use Rattle.std.specs.Prelude.{◌≡◌, ◌+◌, ◌-◌, ◌≤◌, ◌<◌, ◌↔◌, ◌≢◌, ◌&&◌, length, take, drop, IfOk, IfSome, IsNone, IsSome, IsTrue, IsFalse, nat_le};
 ghost use Rattle.link_model.specs.Packets.{Answers, number_at, code_of, fragment_fits, fragment_value, fragment_head, is_known_code, payload};
-ghost use Rattle.vc2_payload.specs.Views.{head_of, value_of, StandsAt, HasBodyIn};
+ghost use Rattle.vc2_payload.specs.Views.{head_of, value_of, HasBodyIn, CanBeWritten};
 
 use crate::payload::{FragmentHead, Payload};
 use byteorder::{BigEndian, ByteOrder};
@@ -45,6 +45,7 @@ fn fragment(bytes: &[u8]) -> Option<Payload<'_>>
     ensures fits { IsSome result ↔ IsTrue (fragment_fits bytes.now) }
     ensures value { IfSome result (λ p. value_of p ≡ fragment_value bytes.now) }
     ensures place { IfSome result (HasBodyIn bytes.now) }
+    ensures writable { IfSome result CanBeWritten }
 {
     if bytes.len() < PARAMS_BYTES {
         return None;
@@ -80,6 +81,7 @@ fn fragment(bytes: &[u8]) -> Option<Payload<'_>>
 pub fn read_payload(bytes: &[u8]) -> Result<Payload<'_>, PayloadRefusal>
     ensures value { Answers value_of result (payload bytes.now) }
     ensures place { IfOk result (HasBodyIn bytes.now) }
+    ensures writable { IfOk result CanBeWritten }
 
     ensures short_exactly { (result ≡ Err PayloadRefusal.Short) ↔ (length bytes.now < 4) }
     ensures code_exactly { (result ≡ Err PayloadRefusal.Code) ↔ ((4 ≤ length bytes.now) × IsFalse (is_known_code (code_of bytes.now))) }
