@@ -1,5 +1,6 @@
 -- Sequence headers (ST 2042-1, sequence header): the fields in order, and the first refusal.
-use Rattle.std.specs.Prelude.{ℕ, ◌-◌, ◌^◌, ◌/◌, Bool, ◌||◌, List, length, nat_le, ◌==◌, if◌then◌else◌}
+use Rattle.std.specs.Prelude.{ℕ, ◌-◌, ◌^◌, ◌/◌, Bool, ◌||◌, List, length, nat_le, ◌==◌, if◌then◌else◌, Result, Ok, Err}
+use Rattle.vc_types.specs.Bits.{bits_of}
 use Rattle.vc_types.specs.declared.header.Header.{Header}
 use Rattle.vc_types.specs.declared.shape.Shape.{Shape}
 use Rattle.vc_types.specs.declared.video.Sampling.{Sampling}
@@ -131,8 +132,11 @@ colour_specification = part tt (do
     transfer ← colour_part
     skip) else skip)
 
-unfoldable pub picture_coding_mode : HeaderField ℕ
-picture_coding_mode = index 1 refusals.CodingMode
+-- whether pictures are fields
+unfoldable pub picture_coding_mode : HeaderField Bool
+picture_coding_mode = do
+  mode ← index 1 refusals.CodingMode
+  give (mode == 1)
 
 -- ---- the whole header
 
@@ -151,8 +155,8 @@ sequence_header = do
   area ← clean_area
   range ← signal_range_of (format_of base)
   colour ← colour_specification
-  mode ← picture_coding_mode
-  if dimensions_fit size.0 size.1 sampling (mode == 1) then give (record {
+  fields ← picture_coding_mode
+  if dimensions_fit size.0 size.1 sampling fields then give (record {
     major = major;
     minor = minor;
     level = level;
@@ -163,7 +167,7 @@ sequence_header = do
     interlaced = interlaced;
     top_first = (format_of base).top_first;
     range = range;
-    fields = mode == 1;
+    fields = fields;
   }) else refuse refusals.Dimensions
 
 -- how many bytes were used, where these bits are left behind a field
