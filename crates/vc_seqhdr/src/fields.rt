@@ -7,7 +7,7 @@ use vc_golomb::{UintRefusal, read_uint};
 use vc_types::HeaderRefusal;
 
 /// The next number.
-#[tactic(auto, unfolding(vc_types::specs::SequenceHeader::number, vc_types::specs::Fields::number, vc_golomb::specs::Uint::uint_field))]
+#[tactic(auto, unfolding(vc_types::specs::SequenceHeader::number, vc_types::specs::Fields::number))]
 pub fn number(r: &mut BitReader) -> Result<u32, HeaderRefusal>
     ensures { Gives (λ n. n) result r.new.left (number r.old.left) }
 {

@@ -1,11 +1,11 @@
 -- Reading and writing belong together, combinator by combinator.
 use Rattle.std.proofs.Common.{◌≡◌, ℕ, length-append, ◌+◌, ◌-◌, ◌^◌, ◌<◌, ◌≤◌, Bool, true, false, cond, ltb, eqb, List, [], ◌∷◌, ◌++◌, length, take, drop, Option, Some, None, Result, Ok, Err, refl, sym, ap, subst, ◌∙◌, append_assoc, arith}
 use Rattle.std.proofs.lemmas.Bool.{ltb-false, le-ltb}
-use Rattle.std.specs.Prelude.{IsTrue, IfSome, MatchOption}
+use Rattle.std.specs.Prelude.{IsTrue, IfSome, MatchOption, unwrap_or}
 use Rattle.std.proofs.lemmas.List.{take-append-drop, length-take-le}
 use Rattle.std.proofs.Math.Seq.{drop-append_seam, take-append_seam}
 use Rattle.vc_types.specs.Codes.{uint_bits, uint_at}
-use Rattle.vc_types.specs.Fields.{Field, and_then, ◌>>=◌, give, skip, refuse, tested, next, next_items, flag, number_from, number, behind_flag, flagged_bits, IsCodec}
+use Rattle.vc_types.specs.Fields.{Field, and_then, ◌>>=◌, give, skip, refuse, tested, next, next_items, flag, number_from, number, behind_flag, flagged_bits, flagged_value, IsCodec}
 use Rattle.vc_types.proofs.Codes.{uint_at-is, uint_at-uint_bits}
 
 -- ---- results
@@ -61,6 +61,18 @@ give_if_codec {T = T} {X = X} true value refusal = record {
 give_if_codec {T = T} {X = X} false value refusal = record {
   takes = λ all x rest h. absurd cc;
   again = λ a rest ok. absurd cc;
+}
+
+-- a field by another value
+pub mapped_codec : {T E A X Y : Type 0} {field : Field T E X} {bits : A → List T} {value : A → X} {IsRead : A → Type 0} (f : X → Y)
+    → IsCodec field bits value IsRead → IsCodec (field >>= λ x. give (f x)) bits (λ a. f (value a)) IsRead
+mapped_codec {T = T} {E = E} {X = X} {Y = Y} {field = field} {bits = bits} f c = record {
+  takes = λ all y rest h.
+      let one = and_then_ok (field all) (λ read. Ok (f read.0, read.1)) (y, rest) h in
+      let whole : (f one.0.0, one.0.1) ≡ (y, rest) = ok_is {E = E} (f one.0.0, one.0.1) (y, rest) one.2 in
+      let a = c.takes all one.0.0 one.0.1 one.1 in
+      (a.0, a.1, ap f a.2 ∙ ap (λ (w : Y × List T). w.0) whole, a.3 ∙ ap (λ (w : Y × List T). bits a.0 ++ w.1) whole);
+  again = λ a rest ok. ap (λ (r : Result (X × List T) E). and_then r (λ read. Ok (f read.0, read.1))) (c.again a rest ok);
 }
 
 -- ---- other words for what is written
@@ -125,11 +137,6 @@ tested_codec {T = T} {E = E} {X = X} {field = field} {bits = bits} {value = valu
 
 -- ---- a field behind a flag
 
--- what stands in the field's place, or the field's value
-abbrev pub flagged_value : {A X : Type 0} → X → (A → X) → Option A → X
-flagged_value default value None = default
-flagged_value default value (Some a) = value a
-
 pub behind_flag_codec : {E A X : Type 0} {field : Field Bool E X} {bits : A → List Bool} {value : A → X} {IsRead : A → Type 0} (short : E) (default : X)
     → IsCodec field bits value IsRead → IsCodec (behind_flag short default field) (flagged_bits bits) (flagged_value default value) (λ a. IfSome a IsRead)
 behind_flag_codec {E = E} {A = A} {X = X} {field = field} {bits = bits} {value = value} {IsRead = IsRead} short default c = record {
@@ -148,6 +155,18 @@ behind_flag_codec {E = E} {A = A} {X = X} {field = field} {bits = bits} {value =
     flag_again None rest ok = refl
     flag_again (Some a) rest ok = c.again a rest ok
 
+-- the field's own value behind a flag
+pub plain_flag_codec : {E X : Type 0} {field : Field Bool E X} {bits : X → List Bool} {IsRead : X → Type 0} (short : E) (default : X)
+    → IsCodec field bits (λ x. x) IsRead → IsCodec (behind_flag short default field) (flagged_bits bits) (λ a. unwrap_or a default) (λ a. IfSome a IsRead)
+plain_flag_codec {X = X} {bits = bits} {IsRead = IsRead} short default c = retold (flagged_bits bits) (λ a. unwrap_or a default) (λ a. IfSome a IsRead) (λ (a : Option X). a) (λ (a : Option X). a)
+    (λ a ok. (ok, same a, refl))
+    (λ a ok. (ok, sym (same a), refl))
+    (behind_flag_codec short default c)
+  where
+    same : (a : Option X) → unwrap_or a default ≡ flagged_value default (λ x. x) a
+    same None = refl
+    same (Some x) = refl
+
 -- one field where a flag is 1, and another, that reads nothing, where it is 0
 pub flag_choice_codec : {E A X : Type 0} {field other : Field Bool E X} {bits : A → List Bool} {value : A → X} {default : X} {IsRead : A → Type 0} {IsDefault : Type 0} (short : E)
     → IsCodec field bits value IsRead → IsCodec other (λ (a : Unit {0}). []) (λ a. default) (λ a. IsDefault)
@@ -157,9 +176,6 @@ flag_choice_codec {E = E} {A = A} {X = X} {field = field} {other = other} {bits 
   again = flag_again;
 }
   where
-    whole : Field Bool E X
-    whole = flag short >>= λ custom. cond custom field other
-
     flag_takes : (all : List Bool) (x : X) (rest : List Bool) → (flag short >>= λ custom. cond custom field other) all ≡ Ok (x, rest) → (a : Option A) × MatchOption a IsDefault IsRead × (flagged_value default value a ≡ x) × (all ≡ flagged_bits bits a ++ rest)
     flag_takes [] x rest h = absurd cc
     flag_takes (true ∷ all) x rest h = let t = c.takes all x rest h in (Some t.0, t.1, t.2, ap (λ (l : List Bool). true ∷ l) t.3)

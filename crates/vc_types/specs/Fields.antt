@@ -68,12 +68,22 @@ abbrev pub Answers : {E X Y : Type 0} → (X → Y) → Result X E → Result Y 
 Answers view (Ok x) read = read ≡ Ok (view x)
 Answers view (Err refusal) read = read ≡ Err refusal
 
--- ---- what a field is written as
+-- ---- what fields are written as
+
+-- parts one after another
+abbrev pub joined : {T : Type 0} → List (List T) → List T
+joined [] = []
+joined (part ∷ parts) = part ++ joined parts
 
 -- a flag and, where it is 1, the field's own bits
 abbrev pub flagged_bits : {A : Type 0} → (A → List Bool) → Option A → List Bool
 flagged_bits field None = false ∷ []
 flagged_bits field (Some a) = true ∷ field a
+
+-- what such a part stands for: something else where it isn't coded
+abbrev pub flagged_value : {A X : Type 0} → X → (A → X) → Option A → X
+flagged_value default value None = default
+flagged_value default value (Some a) = value a
 
 -- Reading and writing belong together: what is read is what was written of some accepted spelling, and each accepted
 -- spelling is read again, whatever follows it.

@@ -82,6 +82,12 @@ matrix_values (suc n) = do
   values ← matrix_values n
   give (value ∷ values)
 
+-- a custom matrix of so many values
+abbrev pub custom_matrix : ℕ → ParamsField (List ℕ)
+custom_matrix count = do
+  values ← matrix_values count
+  give (filled_matrix values)
+
 abbrev pub matrix_by_default : Option (List ℕ) → ParamsField (List ℕ)
 matrix_by_default None = refuse refusals.NoDefault
 matrix_by_default (Some matrix) = give matrix
@@ -90,9 +96,7 @@ matrix_by_default (Some matrix) = give matrix
 unfoldable pub quantisation_matrix : ℕ → ℕ → ParamsField (List ℕ)
 quantisation_matrix wavelet depth = do
   custom ← flag refusals.Short
-  if custom then (do
-    values ← matrix_values (1 + 3 * depth)
-    give (filled_matrix values)) else matrix_by_default (default_matrix wavelet depth)
+  if custom then custom_matrix (1 + 3 * depth) else matrix_by_default (default_matrix wavelet depth)
 
 -- ---- the whole parameters, of a picture of this sequence
 
