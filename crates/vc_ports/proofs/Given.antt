@@ -1,7 +1,8 @@
 -- What a source gave, one piece after another.
-use Rattle.std.proofs.Common.{◌≡◌, ℕ, List, [], ◌++◌, Option, Some, None, refl, ap, sym, ◌∙◌, append_assoc}
+use Rattle.std.proofs.Common.{◌≡◌, ℕ, ◌+◌, List, [], ◌++◌, length, take, subst, Option, Some, None, refl, ap, sym, ◌∙◌, append_assoc}
 use Rattle.std.proofs.lemmas.List.{append-nil}
 use Rattle.std.specs.Option.{option_map}
+use Rattle.std.proofs.Math.Seq.{take-append-add}
 use Rattle.vc_ports.specs.Reading.{Gave, GaveAll}
 
 some_is : {A : Type 0} (x y : A) → Some x ≡ Some y → x ≡ y
@@ -30,3 +31,7 @@ GaveAll-told left None bytes all = absurd (none_is_not left all.gave) where
   none_is_not : (left : List ℕ) → Some left ≡ None → ⊥
   none_is_not left p = cc
 GaveAll-told left (Some rest) bytes all = some_is left (bytes ++ rest) all.gave ∙ ap (λ (end : List ℕ). bytes ++ end) all.at_end ∙ append-nil bytes
+
+-- a buffer whose front was given before, and the next bytes behind it
+pub Gave-next : (at count : ℕ) (front back : List ℕ) (before mid after : Option (List ℕ)) → length front ≡ at → Gave before mid front → Gave mid after (take count back) → Gave before after (take (at + count) (front ++ back))
+Gave-next at count front back before mid after len p q = subst (λ (n : ℕ). Gave before after (take (n + count) (front ++ back))) len (rw take-append-add (Gave-then before mid after front (take count back) p q))

@@ -21,7 +21,7 @@ pub use sink::{Sink, Took, WriteFault};
 pub use source::{Got, Source};
 pub use std_sink::StdSink;
 pub use std_source::StdSource;
-pub use whole::write_all;
+pub use whole::{Filled, fill, write_all};
 
 #[cfg(test)]
 mod tests;

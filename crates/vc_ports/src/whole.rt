@@ -1,8 +1,10 @@
 ghost use Rattle.std.specs.Prelude.{◌≡◌, OnOk, OnErr, IsErr};
 ghost use Rattle.vc_ports.specs.Faults.{HasCause};
+ghost use Rattle.vc_ports.specs.Filling.{Fills, IsFillFault};
 ghost use Rattle.vc_ports.specs.Writing.{Grew, GrewBySome};
 
 use crate::sink::{Sink, Took, WriteFault};
+use crate::source::{Got, Source};
 
 /// Writes a whole piece, which may be empty. After a fault a prefix of it went out.
 pub fn write_all<O: Sink>(sink: &mut O, bytes: &[u8]) -> Result<(), WriteFault>
@@ -19,4 +21,32 @@ pub fn write_all<O: Sink>(sink: &mut O, bytes: &[u8]) -> Result<(), WriteFault>
         }
     }
     Ok(())
+}
+
+/// What filling a buffer came to.
+#[derive(Clone, Copy, Debug, PartialEq, Eq)]
+pub enum Filled {
+    /// The buffer is full.
+    Whole,
+    /// The source ended when so many bytes, fewer than the buffer's length, had come to its front.
+    End(usize),
+    /// A read failed when so many bytes, fewer than the buffer's length, had come to its front.
+    Failed(usize),
+}
+
+/// Reads until a buffer, which may be empty, is full.
+pub fn fill<S: Source>(source: &mut S, buf: &mut [u8]) -> Filled
+    ensures bytes { Fills (S.left source.old) (S.left source.new) buf.new result }
+    ensures cause { HasCause (S.faults source.old) (S.faults source.new) (IsFillFault result) }
+{
+    let mut at = 0;
+    'pieces: while at < buf.len() {
+        let (_, rest) = buf.split_at_mut(at);
+        match source.read(rest) {
+            Got::Bytes(count) => at += count,
+            Got::End => return Filled::End(at),
+            Got::Failed => return Filled::Failed(at),
+        }
+    }
+    Filled::Whole
 }
