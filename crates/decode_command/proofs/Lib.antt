@@ -1,1 +1,2 @@
 pub mod EmptySlices
+pub mod EmptySteps
