@@ -156,6 +156,12 @@ module _ (p : Parameters) (c : Component) (x y : ℕ) where
           (e, once.only i (subst (λ t. i < sum_by area (slice_rectangles p c t)) e below) (subst (λ t. place_among (slice_rectangles p c t) i ≡ (x, y)) e at));
     }
 
+  -- a slice has no cell outside the padded grid
+  pub count-outside : 0 < p.slices_x → (s : ℕ) → s < slice_count p → (nat_lt x (padded_width p c) && nat_lt y (padded_height p c)) ≡ false → count_by (has_cell x y) (slice_rectangles p c s) ≡ 0
+  count-outside some_across s h outside =
+      ap (count_by (has_cell x y)) (as_shares s)
+      ∙ share-none p.slices_x p.slices_y x y (subband_rectangles p c) (slice_column p s) (slice_row p s) (mod_below s p.slices_x some_across) (div_below s p.slices_x p.slices_y some_across (omega arith)) (count-subband_rectangles p c x y ∙ ap (λ t. cond t 1 0) outside)
+
   pub met_once : 0 < p.slices_x → 0 < p.slices_y → x < padded_width p c → y < padded_height p c → IsMetOnce p c x y
   met_once some_across some_down across down =
       let one : count_by (has_cell x y) (subband_rectangles p c) ≡ 1 = count-subband_rectangles p c x y ∙ inside_both x y (padded_width p c) (padded_height p c) across down in
