@@ -78,7 +78,14 @@ pub fn write_payload(out: &mut Vec<u8>, p: &Payload<'_>) -> Result<(), NoMemory>
         Payload::Params { head, body, .. } => {
             append(out, &fragment_bytes(head, body.len() as u16, 0), &[], body)
         }
-        Payload::Slices { head, count, x, y, body, .. } => {
+        Payload::Slices {
+            head,
+            count,
+            x,
+            y,
+            body,
+            ..
+        } => {
             let start = fragment_bytes(head, body.len() as u16, *count);
             append(out, &start, &offset_bytes(*x, *y), body)
         }
