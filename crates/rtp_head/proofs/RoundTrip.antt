@@ -33,4 +33,4 @@ unfolding rtp_header
 rtp_packet-rtp_header p rest fits =
     plain_packet (rtp_header p ++ rest) (omega arith) refl refl refl refl
     ∙ ap Ok (same_packet (marker_is p.marker p.payload_type fits.payload_type) (type_is p.marker p.payload_type fits.payload_type)
-      (big_number-reads_back 2 p.sequence [] fits.sequence) (big_number-reads_back 4 p.timestamp [] fits.timestamp) (big_number-reads_back 4 p.ssrc [] fits.ssrc) (omega arith))
+    (big_number-reads_back 2 p.sequence [] fits.sequence) (big_number-reads_back 4 p.timestamp [] fits.timestamp) (big_number-reads_back 4 p.ssrc [] fits.ssrc) (omega arith))
