@@ -1,7 +1,7 @@
 -- The entry that begins some bytes.
 use Rattle.std.proofs.Common.{◌≡◌, ◌≢◌, ℕ, zero, suc, ◌+◌, ◌-◌, ◌*◌, ◌/◌, ◌%◌, ◌^◌, ◌<◌, ◌≤◌, List, [], ◌∷◌, ◌++◌, length, take, drop, Option, Some, None, Bool, true, false, nat_lt, refl, sym, ap, ◌∙◌, subst, arith, inl, inr, All, slice_index}
 use Rattle.std.proofs.lemmas.Bool.{cases_lt, lt-ltb, le-ltb}
-use Rattle.std.proofs.lemmas.List.{length-append, length-drop, length-take-le, take-append-drop}
+use Rattle.std.proofs.lemmas.List.{length-append, length-drop, length-take-le, take-append-drop, take-append-le, drop-append-le}
 use Rattle.std.proofs.Math.Seq.{take-append_seam, drop-append_seam}
 use Rattle.byteorder.specs.Endian.{big_bytes, big_number}
 use Rattle.link_capture.specs.Capture.{entry, first_entry}
@@ -92,3 +92,13 @@ unfolding first_entry
 first_entry-stub [] short = refl
 first_entry-stub (high ∷ []) short = refl
 first_entry-stub (high ∷ low ∷ bytes) short = absurd (omega arith)
+
+-- bytes behind the first entry stay behind it
+pub first_entry-append : (bytes more : List ℕ) (first : List ℕ × List ℕ) → first_entry bytes ≡ Some first → first_entry (bytes ++ more) ≡ Some (first.0, first.1 ++ more)
+unfolding first_entry
+first_entry-append [] more first is = absurd (none_is_not first is)
+first_entry-append (high ∷ []) more first is = absurd (none_is_not first is)
+first_entry-append (high ∷ low ∷ bytes) more first is =
+    let found = first_entry-found high low bytes first is in
+    let whole : 256 * high + low ≤ length (bytes ++ more) = omega (arith, length-append bytes more, found.0) in
+    rw (found.1, le-ltb (length (bytes ++ more)) (256 * high + low) whole, take-append-le (256 * high + low) bytes more found.0, drop-append-le (256 * high + low) bytes more found.0) refl
