@@ -1,12 +1,12 @@
 -- A code that is read in a block is the code that stands there, and it is the only one.
-use Rattle.std.proofs.Common.{◌≡◌, ℕ, zero, suc, ◌+◌, ◌-◌, ◌*◌, ◌<◌, ◌≤◌, ℤ, pos, eqb, cond, Bool, true, false, List, [], ◌∷◌, ◌++◌, length, get_or, drop, refl, sym, ap, subst, ◌∙◌, arith, inl, inr, append_assoc, append-nil, length-append, replicate}
+use Rattle.std.proofs.Common.{◌≡◌, ℕ, zero, suc, ◌+◌, ◌-◌, ◌*◌, ◌<◌, ◌≤◌, ℤ, pos, eqb, cond, Bool, true, false, List, [], ◌∷◌, ◌++◌, length, get_or, drop, refl, sym, ap, subst, ◌∙◌, arith, inl, inr, append_assoc, append-nil, length-append, replicate, Some, negsuc}
 use Rattle.std.specs.Prelude.{unsigned_abs}
 use Rattle.std.proofs.lemmas.Bool.{cases_lt, ne_eqb}
 use Rattle.std.proofs.lemmas.List.{get_or_append_left, get_or-replicate, get_or_past, get_or_push, drop-drop, length-replicate}
 use Rattle.std.proofs.Math.Seq.{get_or-append_right}
 use Rattle.std.proofs.lemmas.List.Prefix.{front_from_reads}
 use Rattle.vc_types.specs.Bits.{digit_of}
-use Rattle.vc_types.specs.Codes.{spread_digits, uint_bits, uint_at, sign_bits, sint_bits}
+use Rattle.vc_types.specs.Codes.{spread_digits, uint_bits, uint_at, sign_bits, sint_bits, uint_after}
 use Rattle.vc_types.specs.Bounded.{BeginsWith, LargeSint, bounded, bounded_uint_after, bounded_uint, signed, with_sign, bounded_sint}
 use Rattle.vc_types.proofs.Codes.{spread_digits-push, uint_at-uint_bits, some_is, none_before}
 
@@ -207,3 +207,45 @@ pub one_sint : (bits : List Bool) (v w : ℤ) → BeginsWith bits (sint_bits v) 
 unfolding sint_bits
 one_sint bits v w first second =
     one_uint bits (unsigned_abs v) (unsigned_abs w) (front_begins bits (uint_bits (unsigned_abs v)) (sign_bits v) first) (front_begins bits (uint_bits (unsigned_abs w)) (sign_bits w) second)
+
+-- ---- a code is read
+
+bounded_uint_after-of : (number : ℕ) (bits : List Bool) (x : ℕ × List Bool) → uint_after number bits ≡ Some x → bounded_uint_after number bits ≡ x
+unfolding uint_after bounded_uint_after
+bounded_uint_after-of number [] x h = absurd cc
+bounded_uint_after-of number (true ∷ bits) x h = some_is (number - 1, bits) x h
+bounded_uint_after-of number (false ∷ []) x h = absurd cc
+bounded_uint_after-of number (false ∷ bit ∷ bits) x h = bounded_uint_after-of (2 * number + digit_of bit) bits x h
+
+-- a whole code is read as its number, whatever follows it
+pub bounded_uint-uint_bits : (v : ℕ) (rest : List Bool) → bounded_uint (uint_bits v ++ rest) ≡ (v, rest)
+unfolding bounded_uint uint_at
+bounded_uint-uint_bits v rest = bounded_uint_after-of 1 (uint_bits v ++ rest) (v, rest) (uint_at-uint_bits v rest)
+
+pub bounded_sint-sint_bits : (v : ℤ) (rest : List Bool) → bounded_sint (sint_bits v ++ rest) ≡ (v, rest)
+unfolding bounded_sint sint_bits
+bounded_sint-sint_bits v rest =
+    let regrouped : bounded_uint (sint_bits v ++ rest) ≡ (unsigned_abs v, sign_bits v ++ rest) = ap bounded_uint (append_assoc (uint_bits (unsigned_abs v)) (sign_bits v) rest) ∙ bounded_uint-uint_bits (unsigned_abs v) (sign_bits v ++ rest) in
+    ap with_sign regrouped ∙ signed_back v
+  where
+    signed_back : (v : ℤ) → with_sign (unsigned_abs v, sign_bits v ++ rest) ≡ (v, rest)
+    signed_back (pos zero) = refl
+    signed_back (pos (suc n)) = with_sign-some (suc n) (false ∷ rest) (omega arith)
+    signed_back (negsuc n) = with_sign-some (suc n) (true ∷ rest) (omega arith)
+
+-- one signed number's code begins a block, and it is the number that is read
+pub one_number : (bits : List Bool) (v w : ℤ) → BeginsWith bits (sint_bits v) → BeginsWith bits (sint_bits w) → v ≡ w
+one_number bits v w begin_v begin_w =
+    let n = length (sint_bits v) + length (sint_bits w) in
+    let whole = bits ++ replicate n true in
+    let a : whole ≡ sint_bits v ++ drop (length (sint_bits v)) whole = stands bits (sint_bits v) n (omega arith) begin_v in
+    let b : whole ≡ sint_bits w ++ drop (length (sint_bits w)) whole = stands bits (sint_bits w) n (omega arith) begin_w in
+    let read_a = ap bounded_sint a ∙ bounded_sint-sint_bits v (drop (length (sint_bits v)) whole) in
+    let read_b = ap bounded_sint b ∙ bounded_sint-sint_bits w (drop (length (sint_bits w)) whole) in
+    ap (λ (x : ℤ × List Bool). x.0) (sym read_a ∙ read_b)
+
+pub bounded_sint-begins : (bits : List Bool) (v : ℤ) → BeginsWith bits (sint_bits v) → bounded_sint bits ≡ (v, drop (length (sint_bits v)) bits)
+bounded_sint-begins bits v begin =
+    let read = bounded_sint-is bits in
+    let same : (bounded_sint bits).0 ≡ v = one_number bits (bounded_sint bits).0 v read.code begin in
+    ap (λ (rest : List Bool). let x : ℤ × List Bool = ((bounded_sint bits).0, rest) in x) read.behind ∙ ap (λ (w : ℤ). let x : ℤ × List Bool = (w, drop (length (sint_bits w)) bits) in x) same
