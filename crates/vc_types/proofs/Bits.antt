@@ -112,3 +112,8 @@ byte_bits-push number bit = rw (bit_shifted number 6 bit, bit_shifted number 5 b
 pub bits_of-push : (bytes : List ℕ) (byte : ℕ) → bits_of (bytes ++ byte ∷ []) ≡ bits_of bytes ++ byte_bits byte
 unfolding bits_of
 bits_of-push bytes byte = flat_map-append byte_bits bytes (byte ∷ []) ∙ ap (λ (bits : List Bool). flat_map byte_bits bytes ++ bits) (flat_map-cons byte_bits byte [] ∙ append-nil (byte_bits byte))
+
+-- bytes behind bytes
+pub bits_of-append : (xs ys : List ℕ) → bits_of (xs ++ ys) ≡ bits_of xs ++ bits_of ys
+unfolding bits_of
+bits_of-append xs ys = flat_map-append byte_bits xs ys

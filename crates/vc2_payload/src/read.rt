@@ -1,0 +1,111 @@
+ghost use Rattle.std.specs.Prelude.{◌≡◌, ◌+◌, ◌-◌, ◌≤◌, ◌<◌, ◌↔◌, ◌≢◌, ◌&&◌, length, take, drop, IfOk, IfSome, IsNone, IsSome, IsTrue, IsFalse, nat_le};
+ghost use Rattle.link_model.specs.Packets.{Answers, number_at, code_of, fragment_fits, fragment_value, fragment_head, is_known_code, payload};
+ghost use Rattle.vc2_payload.specs.Views.{head_of, value_of, HasBodyIn, CanBeWritten};
+
+use crate::payload::{FragmentHead, Payload};
+use byteorder::{BigEndian, ByteOrder};
+use link_model::PayloadRefusal;
+
+// The bytes that every payload begins with, those of a fragment with parameters, and those of one with slices.
+const HEAD_BYTES: usize = 4;
+
+const PARAMS_BYTES: usize = 16;
+
+const SLICES_BYTES: usize = 20;
+
+fn number_16(bytes: &[u8], place: usize) -> u16
+    requires { place + 2 ≤ length bytes.now }
+    ensures { result ≡ number_at 2 place bytes.now }
+{
+    BigEndian::read_u16(&bytes[place..])
+}
+
+fn number_32(bytes: &[u8], place: usize) -> u32
+    requires { place + 4 ≤ length bytes.now }
+    ensures { result ≡ number_at 4 place bytes.now }
+{
+    BigEndian::read_u32(&bytes[place..])
+}
+
+fn fragment_head(bytes: &[u8]) -> FragmentHead
+    requires { 16 ≤ length bytes.now }
+    ensures { head_of result ≡ fragment_head bytes.now }
+{
+    FragmentHead {
+        high: number_16(bytes, 0),
+        flags: bytes[2],
+        number: number_32(bytes, 4),
+        prefix: number_16(bytes, 8),
+        scaler: number_16(bytes, 10),
+    }
+}
+
+#[tactic(auto, unfolding(link_model::specs::Packets::fragment_fits, link_model::specs::Packets::fragment_value))]
+fn fragment(bytes: &[u8]) -> Option<Payload<'_>>
+    ensures fits { IsSome result ↔ IsTrue (fragment_fits bytes.now) }
+    ensures value { IfSome result (λ p. value_of p ≡ fragment_value bytes.now) }
+    ensures place { IfSome result (HasBodyIn bytes.now) }
+    ensures writable { IfSome result CanBeWritten }
+{
+    if bytes.len() < PARAMS_BYTES {
+        return None;
+    }
+    let head = fragment_head(bytes);
+    let len = usize::from(number_16(bytes, 12));
+    match number_16(bytes, 14) {
+        0 => {
+            let body = bytes.get(PARAMS_BYTES..PARAMS_BYTES + len)?;
+            Some(Payload::Params {
+                head,
+                from: PARAMS_BYTES,
+                body,
+            })
+        }
+        count => {
+            let body = bytes.get(SLICES_BYTES..SLICES_BYTES + len)?;
+            Some(Payload::Slices {
+                head,
+                count,
+                x: number_16(bytes, 16),
+                y: number_16(bytes, 18),
+                from: SLICES_BYTES,
+                body,
+            })
+        }
+    }
+}
+
+/// Reads a payload (RFC 8450, 4). Bytes behind a fragment's body and behind code 10 are ignored, and so are the
+/// contents of codes 20 and 30.
+#[tactic(auto, unfolding(link_model::specs::Packets::payload))]
+pub fn read_payload(bytes: &[u8]) -> Result<Payload<'_>, PayloadRefusal>
+    ensures value { Answers value_of result (payload bytes.now) }
+    ensures place { IfOk result (HasBodyIn bytes.now) }
+    ensures writable { IfOk result CanBeWritten }
+
+    ensures short_exactly { (result ≡ Err PayloadRefusal.Short) ↔ (length bytes.now < 4) }
+    ensures code_exactly { (result ≡ Err PayloadRefusal.Code) ↔ ((4 ≤ length bytes.now) × IsFalse (is_known_code (code_of bytes.now))) }
+    ensures fragment_exactly { (result ≡ Err PayloadRefusal.Fragment) ↔ ((4 ≤ length bytes.now) × (code_of bytes.now ≡ 0xEC) × IsFalse (fragment_fits bytes.now)) }
+{
+    if bytes.len() < HEAD_BYTES {
+        return Err(PayloadRefusal::Short);
+    }
+    let high = number_16(bytes, 0);
+    match bytes[3] {
+        0x00 => {
+            let (_, body) = bytes.split_at(HEAD_BYTES);
+            Ok(Payload::Header {
+                high,
+                from: HEAD_BYTES,
+                body,
+            })
+        }
+        0x10 => Ok(Payload::End { high }),
+        code @ (0x20 | 0x30) => Ok(Payload::Skip { high, code }),
+        0xEC => match fragment(bytes) {
+            Some(payload) => Ok(payload),
+            None => Err(PayloadRefusal::Fragment),
+        },
+        _ => Err(PayloadRefusal::Code),
+    }
+}
