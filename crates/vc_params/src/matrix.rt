@@ -1,8 +1,7 @@
 ghost use Rattle.std.specs.Prelude.{◌≡◌, ◌≤◌, ◌+◌, ◌*◌, IfOk, IsTrue};
-ghost use Rattle.vc_types.specs.Fields.{Gives, ◌>>=◌, give};
+ghost use Rattle.vc_types.specs.Fields.{Gives};
 ghost use Rattle.vc_types.specs.Limits.{matrix_fits};
-ghost use Rattle.vc_types.specs.Quantisation.{filled_matrix};
-ghost use Rattle.vc_types.specs.TransformParameters.{matrix_value, matrix_values, quantisation_matrix};
+ghost use Rattle.vc_types.specs.TransformParameters.{matrix_value, custom_matrix, quantisation_matrix};
 
 use crate::fields::{flag, number};
 use vc_bits::BitReader;
@@ -24,7 +23,7 @@ fn matrix_value(r: &mut BitReader) -> Result<u8, ParamsRefusal>
 // So many values of a custom matrix, and 0 behind them.
 fn matrix_values(count: usize, r: &mut BitReader) -> Result<[u8; 16], ParamsRefusal>
     requires { count ≤ 16 }
-    ensures gives { Gives (λ m. m) result r.new.left ((matrix_values count >>= λ values. give (filled_matrix values)) r.old.left) }
+    ensures gives { Gives (λ m. m) result r.new.left (custom_matrix count r.old.left) }
     ensures fits { IfOk result (λ m. IsTrue (matrix_fits m)) }
 {
     let mut matrix = [0; 16];
@@ -36,7 +35,11 @@ fn matrix_values(count: usize, r: &mut BitReader) -> Result<[u8; 16], ParamsRefu
 
 /// The custom matrix, or the default one of the wavelet at the depth.
 #[tactic(auto, unfolding(vc_types::specs::TransformParameters::quantisation_matrix))]
-pub fn quantisation_matrix(wavelet: u8, depth: u8, r: &mut BitReader) -> Result<[u8; 16], ParamsRefusal>
+pub fn quantisation_matrix(
+    wavelet: u8,
+    depth: u8,
+    r: &mut BitReader,
+) -> Result<[u8; 16], ParamsRefusal>
     requires wavelet { wavelet ≤ 6 }
     requires some_levels { 1 ≤ depth }
     requires few_levels { depth ≤ 5 }

@@ -58,7 +58,12 @@ fn levels_across(depth: u8, r: &mut BitReader) -> Result<u8, ParamsRefusal>
 
 /// The wavelet across and how many levels are across alone, which major version 3 may code.
 #[tactic(auto, unfolding(vc_types::specs::TransformParameters::extended_parameters))]
-pub fn extended_parameters(major: u32, wavelet: u8, depth: u8, r: &mut BitReader) -> Result<(u8, u8), ParamsRefusal>
+pub fn extended_parameters(
+    major: u32,
+    wavelet: u8,
+    depth: u8,
+    r: &mut BitReader,
+) -> Result<(u8, u8), ParamsRefusal>
     requires { depth ≤ 5 }
     ensures { Gives (λ x. (x.0, x.1)) result r.new.left (extended_parameters major wavelet depth r.old.left) }
 {

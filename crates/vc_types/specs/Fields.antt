@@ -1,7 +1,7 @@
 -- Fields that are read one after another from the front of a list of bits or bytes. A field gives its value and what
 -- is left, or the first refusal.
 use Rattle.std.specs.Prelude.{◌≡◌, ℕ, Bool, true, false, List, [], ◌∷◌, ◌++◌, length, take, drop, Option, Some, None, Result, Ok, Err, nat_lt, if◌then◌else◌}
-use Rattle.vc_types.specs.Codes.{uint_at}
+use Rattle.vc_types.specs.Codes.{uint_bits, uint_at}
 
 -- bits or bytes T, refusals E, values X
 abbrev pub Field : Type 0 → Type 0 → Type 0 → Type 0
@@ -74,6 +74,10 @@ Answers view (Err refusal) read = read ≡ Err refusal
 abbrev pub joined : {T : Type 0} → List (List T) → List T
 joined [] = []
 joined (part ∷ parts) = part ++ joined parts
+
+-- two numbers
+abbrev pub pair_bits : ℕ × ℕ → List Bool
+pair_bits p = joined (uint_bits p.0 ∷ uint_bits p.1 ∷ [])
 
 -- a flag and, where it is 1, the field's own bits
 abbrev pub flagged_bits : {A : Type 0} → (A → List Bool) → Option A → List Bool

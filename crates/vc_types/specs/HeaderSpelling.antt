@@ -3,7 +3,7 @@
 use Rattle.std.specs.Prelude.{◌≡◌, ℕ, ◌<◌, ◌≤◌, ◌-◌, ◌^◌, ◌⊎◌, Bool, List, [], ◌∷◌, ◌++◌, Option, Some, None, IsTrue, IfSome, unwrap_or, if◌then◌else◌}
 use Rattle.vc_types.specs.Bits.{digit_of}
 use Rattle.vc_types.specs.Codes.{uint_bits}
-use Rattle.vc_types.specs.Fields.{flagged_bits, flagged_value, joined}
+use Rattle.vc_types.specs.Fields.{flagged_bits, flagged_value, joined, pair_bits}
 use Rattle.vc_types.specs.SequenceHeader.{Sequence}
 use Rattle.vc_types.specs.Video.{format_of, range_of, signal_range, dimensions_fit, excursion_fits}
 use Rattle.vc_types.specs.declared.video.Sampling.{Sampling}
@@ -20,9 +20,6 @@ pub data Choice (A : Type 0) : Type 0 where
 abbrev pub choice_bits : {A : Type 0} → (A → List Bool) → Choice A → List Bool
 choice_bits custom (Preset index) = uint_bits index
 choice_bits custom (Custom a) = uint_bits 0 ++ custom a
-
-abbrev pub pair_bits : ℕ × ℕ → List Bool
-pair_bits p = joined (uint_bits p.0 ∷ uint_bits p.1 ∷ [])
 
 abbrev pub sampling_index : Sampling → ℕ
 sampling_index S444 = 0

@@ -3,7 +3,7 @@
 use Rattle.std.specs.Prelude.{◌≡◌, ℕ, ◌+◌, ◌*◌, ◌≤◌, Bool, true, false, List, [], ◌∷◌, length, Option, Some, None, IsTrue, IfSome, IsSome, MatchOption, unwrap_or, ◌==◌, if◌then◌else◌}
 use Rattle.std.specs.List.{flat_map}
 use Rattle.vc_types.specs.Codes.{uint_bits}
-use Rattle.vc_types.specs.Fields.{flagged_bits, flagged_value, joined}
+use Rattle.vc_types.specs.Fields.{flagged_bits, flagged_value, joined, pair_bits}
 use Rattle.vc_types.specs.Limits.{slices_fit, slice_bytes_fit, padded_luma_fits, matrix_fits}
 use Rattle.vc_types.specs.Quantisation.{default_matrix, filled_matrix}
 use Rattle.vc_types.specs.SequenceHeader.{Sequence, picture_shape}
@@ -34,8 +34,7 @@ parameter_bits major s = joined (
     uint_bits s.wavelet ∷
     uint_bits s.depth ∷
     extension_bits major (s.wavelet_ho, s.depth_ho) ∷
-    uint_bits s.slices_x ∷
-    uint_bits s.slices_y ∷
+    pair_bits (s.slices_x, s.slices_y) ∷
     uint_bits s.prefix ∷
     uint_bits s.scaler ∷
     flagged_bits numbers_bits s.matrix ∷
