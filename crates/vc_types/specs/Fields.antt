@@ -1,7 +1,7 @@
 -- Fields that are read one after another from the front of a list of bits or bytes. A field gives its value and what
 -- is left, or the first refusal.
-use Rattle.std.specs.Prelude.{◌≡◌, ℕ, ◌<◌, Bool, true, false, List, [], ◌∷◌, ◌++◌, length, take, drop, Option, Some, None, Result, Ok, Err, nat_lt, if◌then◌else◌}
-use Rattle.vc_types.specs.Codes.{uint_bits, uint_at}
+use Rattle.std.specs.Prelude.{◌≡◌, ℕ, Bool, true, false, List, [], ◌∷◌, ◌++◌, length, take, drop, Option, Some, None, Result, Ok, Err, nat_lt, if◌then◌else◌}
+use Rattle.vc_types.specs.Codes.{uint_at}
 
 -- bits or bytes T, refusals E, values X
 abbrev pub Field : Type 0 → Type 0 → Type 0 → Type 0
