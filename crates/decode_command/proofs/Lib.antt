@@ -1,2 +1,4 @@
 pub mod EmptySlices
 pub mod EmptySteps
+pub mod StageSteps
+pub mod GreyRows

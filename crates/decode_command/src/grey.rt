@@ -32,6 +32,17 @@ fn is_wide(shape: &Shape) -> bool
     shape.luma_depth > 8 || shape.colour_depth > 8
 }
 
+// Half of the range of samples of so many bits.
+#[tactic(auto, using(std::proofs::lemmas::Nat::one_shl))]
+fn half_range(depth: u8) -> u16
+    requires some_bits { 1 ≤ depth }
+    requires bits { depth ≤ 16 }
+    ensures value { result ≡ 2 ^ (depth - 1) }
+    ensures narrow { depth ≤ 8 → result < 256 }
+{
+    1 << (depth - 1)
+}
+
 // So many samples of one value, in one byte each or in two, the lowest first.
 #[tactic(auto, unfolding(link_model::specs::Frames::sample_bytes))]
 fn grey_row(alloc: Global, width: u32, sample: u16, two: bool) -> Result<Vec<u8>, AllocError>
@@ -65,7 +76,7 @@ fn write_plane<O: Sink>(
     ensures err { OnErr result (GrewBySome (O.held sink.old) (O.held sink.new) (grey_bytes width height depth two)) }
     ensures cause { HasCause (O.faults sink.old) (O.faults sink.new) (result ≡ Err GreyFault.WriteFault) }
 {
-    let row = grey_row(alloc, width, 1u16 << (depth - 1), two)?;
+    let row = grey_row(alloc, width, half_range(depth), two)?;
     'rows: for _ in 0..height {
         match write_all(sink, &row) {
             Ok(()) => {}

@@ -6,6 +6,7 @@ mod datagram;
 mod ended;
 mod grey;
 mod slices;
+mod stage;
 
 pub use command::decode;
 pub use ended::Ended;

@@ -105,7 +105,10 @@ impl Stage {
         ensures { (heard : List (List ℕ)) → Stands self.now heard → MatchOption result (HasNoForm (heard ++ datagram.now ∷ [])) (λ stage. Stands stage (heard ++ datagram.now ∷ [])) }
     {
         match self {
-            Stage::Empty => opens(datagram).map(Stage::Opened),
+            Stage::Empty => match opens(datagram) {
+                Some(session) => Some(Stage::Opened(session)),
+                None => None,
+            },
             Stage::Opened(session) => {
                 let (number, plan) = session.plans(datagram)?;
                 Some(Stage::Planned(*session, number, plan))
