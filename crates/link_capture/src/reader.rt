@@ -1,4 +1,4 @@
-ghost use Rattle.std.specs.Prelude.{◌≡◌, ◌+◌, ◌<◌, ◌^◌, None, Err, IfNone, IfSome};
+ghost use Rattle.std.specs.Prelude.{◌≡◌, ◌+◌, ◌<◌, ◌≤◌, ◌^◌, None, Err, IfNone, IfSome};
 ghost use Rattle.byteorder.specs.Endian.{big_bytes};
 ghost use Rattle.vc_ports.specs.Faults.{HasCause};
 ghost use Rattle.link_capture.specs.Reading.{ReadsEntry, place_after, fault_after};
@@ -9,6 +9,7 @@ use std::alloc::Global;
 use vc_ports::{Filled, Source, fill};
 
 /// A source that is read entry by entry.
+#[derive(Drop)]
 pub struct CaptureReader<'a, S> {
     alloc: Global,
     source: &'a mut S,
@@ -44,6 +45,7 @@ pub fn next_entry<S: Source>(r: &mut CaptureReader<S>) -> Result<Option<Vec<u8>>
     ensures cause { IfNone r.old.fault (HasCause (S.faults r.old.source.now) (S.faults r.new.source.now) (result ≡ Err EntryFault.ReadFault)) }
     ensures again { IfSome r.old.fault (λ fault. (result ≡ Err fault) × (r.new.source.now ≡ r.old.source.now)) }
     ensures place { r.new.place ≡ place_after r.old.place result }
+    ensures grows { r.new.place ≤ r.old.place + 65537 }
     ensures fault { r.new.fault ≡ fault_after r.old.fault result }
 {
     if let Some(fault) = r.fault {
@@ -59,7 +61,11 @@ pub fn next_entry<S: Source>(r: &mut CaptureReader<S>) -> Result<Option<Vec<u8>>
 }
 
 // Reads the entry whose first byte is at a place.
-fn read_entry<S: Source>(alloc: Global, source: &mut S, place: u64) -> Result<Option<Vec<u8>>, EntryFault>
+fn read_entry<S: Source>(
+    alloc: Global,
+    source: &mut S,
+    place: u64,
+) -> Result<Option<Vec<u8>>, EntryFault>
     ensures entry { ReadsEntry (S.left source.old) (S.left source.new) place result }
     ensures cause { HasCause (S.faults source.old) (S.faults source.new) (result ≡ Err EntryFault.ReadFault) }
 {
