@@ -12,8 +12,10 @@ pub fn count_entries<S: Source>(
     source: &mut S,
     most: u32,
 ) -> Option<(u32, Option<EntryFault>)>
-    ensures heard { IfSome result (λ count. (entries : List (List ℕ)) × (length entries ≡ count.0) × ((place : ℕ) × Ends (S.left source.old) (S.left source.new) place entries count.1)) }
-    ensures cause { HasCause (S.faults source.old) (S.faults source.new) (IsSomeAnd result (λ count. count.1 ≡ Some EntryFault.ReadFault)) }
+    ensures heard { IfSome result (λ count. (entries : List (List ℕ)) × (length entries ≡ count.0)
+        × ((place : ℕ) × Ends (S.left source.old) (S.left source.new) place entries count.1)) }
+    ensures cause { HasCause (S.faults source.old) (S.faults source.new)
+        (IsSomeAnd result (λ count. count.1 ≡ Some EntryFault.ReadFault)) }
 {
     let mut reader = CaptureReader::new(alloc, source);
     let count = count_with(&mut reader, most);
@@ -35,9 +37,12 @@ fn count_with<S: Source>(
     requires place { reader.old.place ≡ 0 }
     requires sound { reader.old.fault ≡ None }
     ensures borrows { reader.new.source.ghost_name ≡ reader.old.source.ghost_name }
-    ensures heard { IfSome result (λ count. (entries : List (List ℕ)) × (length entries ≡ count.0) × ((place : ℕ) × Ends (S.left reader.old.source.now) (S.left reader.new.source.now) place entries count.1)) }
-    ensures whole { IfNone result ((entries : List (List ℕ)) × (length entries ≡ most) × ((place : ℕ) × GaveEntries (S.left reader.old.source.now) (S.left reader.new.source.now) place entries [])) }
-    ensures cause { HasCause (S.faults reader.old.source.now) (S.faults reader.new.source.now) (IsSomeAnd result (λ count. count.1 ≡ Some EntryFault.ReadFault)) }
+    ensures heard { IfSome result (λ count. (entries : List (List ℕ)) × (length entries ≡ count.0)
+        × ((place : ℕ) × Ends (S.left reader.old.source.now) (S.left reader.new.source.now) place entries count.1)) }
+    ensures whole { IfNone result ((entries : List (List ℕ)) × (length entries ≡ most)
+        × ((place : ℕ) × GaveEntries (S.left reader.old.source.now) (S.left reader.new.source.now) place entries [])) }
+    ensures cause { HasCause (S.faults reader.old.source.now) (S.faults reader.new.source.now)
+        (IsSomeAnd result (λ count. count.1 ≡ Some EntryFault.ReadFault)) }
 {
     let mut count = 0;
     'entries: while count < most {
