@@ -2,7 +2,7 @@
 use Rattle.std.specs.Prelude.{◌≡◌, ◌≢◌, ℕ, ◌+◌, ◌<◌, ◌^◌, List, [], length, Option, Some, None, Result, Ok, Err}
 use Rattle.std.specs.Global.{Vec}
 use Rattle.vc_ports.specs.Reading.{Gave, GaveAll}
-use Rattle.link_capture.specs.Capture.{entry, first_entry, entries_of}
+use Rattle.link_capture.specs.Capture.{entry, first_entry}
 use Rattle.link_capture.specs.declared.fault.EntryFault.{EntryFault}
 use Rattle.link_capture.specs.declared.fault.EntryFault.TheVariants.{Cut, ReadFault, NoMemory}
 
@@ -37,10 +37,3 @@ abbrev pub fault_after : Option EntryFault → Result (Option (Vec ℕ)) EntryFa
 fault_after (Some fault) answer = Some fault
 fault_after None (Err fault) = Some fault
 fault_after None (Ok entry) = None
-
--- the source gave bytes whose entries are these and whose rest is this; the rest begins at the place
-pub record GaveEntries (before after : Option (List ℕ)) (place : ℕ) (entries : List (List ℕ)) (rest : List ℕ) : Type 0 where
-  pub given : List ℕ
-  pub gave : Gave before after given
-  pub split : entries_of given ≡ (entries, rest)
-  pub edge : length given ≡ place + length rest
