@@ -32,10 +32,10 @@ row_some width height done depth two row before mid after below is grew some =
     let rest = grey_bytes width (height - (done + 1)) depth two in
     let all : done + (1 + (height - (done + 1))) ≡ height = omega arith in
     let whole : grey_bytes width done depth two ++ (row ++ rest) ≡ grey_bytes width height depth two =
-      ap (λ (r : List ℕ). grey_bytes width done depth two ++ (r ++ rest)) (is ∙ one_row width depth two)
-      ∙ ap (λ (r : List ℕ). grey_bytes width done depth two ++ r) (sym (rows_behind width 1 (height - (done + 1)) depth two))
-      ∙ sym (rows_behind width done (1 + (height - (done + 1))) depth two)
-      ∙ ap (λ (n : ℕ). grey_bytes width n depth two) all in
+    ap (λ (r : List ℕ). grey_bytes width done depth two ++ (r ++ rest)) (is ∙ one_row width depth two)
+    ∙ ap (λ (r : List ℕ). grey_bytes width done depth two ++ r) (sym (rows_behind width 1 (height - (done + 1)) depth two))
+    ∙ sym (rows_behind width done (1 + (height - (done + 1))) depth two)
+    ∙ ap (λ (n : ℕ). grey_bytes width n depth two) all in
     subst (GrewBySome before after) whole (GrewBySome-then before mid after (grey_bytes width done depth two) (row ++ rest) grew (GrewBySome-front mid after row rest some))
 
 -- ---- the three planes of a frame

@@ -51,3 +51,10 @@ frames_at stages.Empty = []
 frames_at (stages.Opened s) = []
 frames_at (stages.Planned s number plan) = []
 frames_at (stages.Whole plan) = grey_frame (parameters_of plan)
+
+-- how many datagrams the list may still have
+abbrev pub datagrams_left : Stage → ℕ
+datagrams_left stages.Empty = 3
+datagrams_left (stages.Opened s) = 2
+datagrams_left (stages.Planned s number plan) = 1
+datagrams_left (stages.Whole plan) = 0

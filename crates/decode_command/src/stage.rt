@@ -1,4 +1,4 @@
-ghost use Rattle.std.specs.Prelude.{◌≡◌, ℕ, List, ◌++◌, ◌∷◌, [], MatchOption, None, Some, is_some};
+ghost use Rattle.std.specs.Prelude.{◌≡◌, ℕ, List, ◌++◌, ◌∷◌, [], MatchOption, IfSome, None, Some, is_some, ◌+◌};
 ghost use Rattle.vc_types.specs.SequenceHeader.{sequence_of};
 ghost use Rattle.vc_types.specs.TransformParameters.{parameters_of};
 ghost use Rattle.decode_command.specs.OnePicture.{opens, plans, completes, is_of};
@@ -6,10 +6,10 @@ ghost use Rattle.vc2_payload.specs.Views.{head_of};
 
 use crate::datagram::{Received, from_source, read_datagram};
 use crate::slices::are_empty;
-use vc2_payload::{FragmentHead, Payload};
 use vc_params::read_params;
 use vc_seqhdr::read_header;
 use vc_types::{Header, Plan};
+use vc2_payload::{FragmentHead, Payload};
 
 /// A session: its source, and the sequence header that began it.
 #[derive(Clone, Copy, Debug)]
@@ -69,14 +69,16 @@ impl Session {
         ensures { result ≡ is_some (completes (session_of self.now) number (parameters_of plan.now) datagram.now) }
     {
         match from_source(self.ssrc, datagram) {
-            Some(Payload::Slices {
-                head,
-                count,
-                x,
-                y,
-                body,
-                ..
-            }) => {
+            Some(
+                Payload::Slices {
+                    head,
+                    count,
+                    x,
+                    y,
+                    body,
+                    ..
+                },
+            ) => {
                 is_of(number, plan, &head)
                     && u32::from(count) == plan.slices_x * plan.slices_y
                     && x == 0
@@ -98,11 +100,12 @@ fn is_of(number: u32, plan: &Plan, head: &FragmentHead) -> bool
 }
 
 impl Stage {
-    ghost use Rattle.decode_command.specs.Stages.{Stands, HasNoForm};
+    ghost use Rattle.decode_command.specs.Stages.{Stands, HasNoForm, datagrams_left};
 
     /// What comes of one datagram more, if the list still has the form.
     pub fn next(&self, datagram: &[u8]) -> Option<Stage>
-        ensures { (heard : List (List ℕ)) → Stands self.now heard → MatchOption result (HasNoForm (heard ++ datagram.now ∷ [])) (λ stage. Stands stage (heard ++ datagram.now ∷ [])) }
+        ensures list { (heard : List (List ℕ)) → Stands self.now heard → MatchOption result (HasNoForm (heard ++ datagram.now ∷ [])) (λ stage. Stands stage (heard ++ datagram.now ∷ [])) }
+        ensures fewer { IfSome result (λ stage. datagrams_left stage + 1 ≡ datagrams_left self.now) }
     {
         match self {
             Stage::Empty => match opens(datagram) {

@@ -5,16 +5,16 @@ use Rattle.decode_command.specs.declared.stage.Stage.{Stage}
 use Rattle.decode_command.proofs.StageSteps.{first_datagram, last_datagram, no_last_datagram}
 use Rattle.decode_command.proofs.stage.Stage.next.Goals as goal
 
-pub returns-then-completes : goal.returns-then-completes
-returns-then-completes c = λ heard planned. last_datagram (session_of c.in-Planned.session) c.in-Planned.number (parameters_of c.in-Planned.plan) heard c.args.datagram.now (subst (λ (stage : Stage). Stands stage heard) c.in-Planned.is planned)
+pub returns-then-completes-clause-list : goal.returns-then-completes-clause-list
+returns-then-completes-clause-list c = λ heard planned. last_datagram (session_of c.in-Planned.session) c.in-Planned.number (parameters_of c.in-Planned.plan) heard c.args.datagram.now (subst (λ (stage : Stage). Stands stage heard) c.in-Planned.is planned)
     (sym c.completes.ensures ∙ c.if-completes.true)
 
-pub returns-else-completes : goal.returns-else-completes
-returns-else-completes c = λ heard planned. no_last_datagram (session_of c.in-Planned.session) c.in-Planned.number (parameters_of c.in-Planned.plan) heard c.args.datagram.now (subst (λ (stage : Stage). Stands stage heard) c.in-Planned.is planned)
+pub returns-else-completes-clause-list : goal.returns-else-completes-clause-list
+returns-else-completes-clause-list c = λ heard planned. no_last_datagram (session_of c.in-Planned.session) c.in-Planned.number (parameters_of c.in-Planned.plan) heard c.args.datagram.now (subst (λ (stage : Stage). Stands stage heard) c.in-Planned.is planned)
     (sym c.completes.ensures ∙ c.if-completes.false)
 
-pub returns-in-Some : goal.returns-in-Some
-returns-in-Some c = λ heard none more. first_datagram heard c.args.datagram.now more _ (subst (λ (stage : Stage). Stands stage heard) c.in-Empty.is none) c.in-Some.ensures
+pub returns-in-Some-clause-list : goal.returns-in-Some-clause-list
+returns-in-Some-clause-list c = λ heard none more. first_datagram heard c.args.datagram.now more _ (subst (λ (stage : Stage). Stands stage heard) c.in-Empty.is none) c.in-Some.ensures
 
-pub returns-in-None : goal.returns-in-None
-returns-in-None c = λ heard none more. first_datagram heard c.args.datagram.now more _ (subst (λ (stage : Stage). Stands stage heard) c.in-Empty.is none) c.in-None.ensures
+pub returns-in-None-clause-list : goal.returns-in-None-clause-list
+returns-in-None-clause-list c = λ heard none more. first_datagram heard c.args.datagram.now more _ (subst (λ (stage : Stage). Stands stage heard) c.in-Empty.is none) c.in-None.ensures
