@@ -1,15 +1,16 @@
 -- The next eight bits, from the two bytes that hold them.
-use Rattle.std.proofs.Common.{◌≡◌, ℕ, zero, suc, ◌+◌, ◌-◌, ◌*◌, ◌/◌, ◌%◌, ◌^◌, ◌<◌, ◌≤◌, Bool, true, eqb, List, [], ◌∷◌, ◌++◌, length, get_or, drop, refl, sym, ap, ◌∙◌, arith, inl, inr, zero-add, suc-add, leb}
+use Rattle.std.proofs.Common.{◌≡◌, ℕ, zero, suc, ◌+◌, ◌-◌, ◌*◌, ◌/◌, ◌%◌, ◌^◌, ◌<◌, ◌≤◌, Bool, true, eqb, List, [], ◌∷◌, ◌++◌, length, get_or, drop, refl, sym, ap, ◌∙◌, arith, inl, inr, leb}
 use Rattle.std.specs.Int.{bit_at}
 use Rattle.std.proofs.lemmas.Bool.{cases_lt, lt-leb, le-leb}
 use Rattle.std.proofs.lemmas.Nat.{pow-add, div-add-mod', mod_below}
 use Rattle.std.proofs.lemmas.Nat.Bits.{bit_at_cat_low, bit_at_cat_high, bit_at_ones}
-use Rattle.std.proofs.lemmas.List.{get_or_append_left, get_or_past, drop-drop}
+use Rattle.std.proofs.lemmas.List.{get_or_append_left, drop-drop}
 use Rattle.std.proofs.Math.Nat.{div-div-eq-div-mul, mul_comm}
 use Rattle.std.proofs.Math.Seq.{get_or-append_right, drop-length}
 use Rattle.std.proofs.Math.ListN.{drop_of_length-le}
 use Rattle.vc_types.specs.Bits.{byte_bits, bits_of}
 use Rattle.vc_types.specs.Bounded.{bounded, BeginsWith}
+use Rattle.vc_types.proofs.BoundedCodes.{bounded-drop}
 use Rattle.vc_types.proofs.Bits.{bits_of-nil, bits_of-cons, length-byte_bits, length-bits_of, drop-bits_of}
 
 -- a bit of a byte
@@ -72,18 +73,13 @@ bit_of_either bytes place fits small =
       | inr le ↦ bit_of_second bytes place le small ∙ ap (λ (n : ℕ). eqb n 1) (sym (bit_at_cat_low (get_or bytes 0 255) 8 (get_or bytes 1 255) (15 - place) (omega arith)))
     ]
 
-further : (n place : ℕ) (bits : List Bool) → bounded (drop n bits) place ≡ bounded bits (n + place)
-further zero place bits = ap (bounded bits) (sym (zero-add place))
-further (suc n) place [] = get_or_past [] place true (omega arith) ∙ sym (get_or_past [] (suc n + place) true (omega arith))
-further (suc n) place (bit ∷ bits) = further n place bits ∙ ap (bounded (bit ∷ bits)) (sym (suc-add n place))
-
 -- the eight bits behind the used ones
 pub peeked : (bytes : List ℕ) (used first second : ℕ) → used < 8 → second < 256 → first ≡ get_or bytes 0 255 → second ≡ get_or bytes 1 255 → BeginsWith (drop used (bits_of bytes)) (byte_bits ((first * 256 + second) / 2 ^ (8 - used) % 256))
 peeked bytes used first second small fits is_first is_second place lt =
     let within : place < 8 = omega (arith, length-byte_bits ((first * 256 + second) / 2 ^ (8 - used) % 256)) in
     let fits_too : get_or bytes 1 255 < 2 ^ 8 = omega arith in
     let here : bounded (bits_of bytes) (used + place) ≡ eqb (bit_at (first * 2 ^ 8 + second) (15 - (used + place))) 1 = rw (is_first, is_second) (bit_of_either bytes (used + place) fits_too (omega arith)) in
-    further used place (bits_of bytes) ∙ here ∙ ap (λ (n : ℕ). eqb n 1) (sym (bit_of_word first second used place fits small within)) ∙ sym (bit_of_byte ((first * 256 + second) / 2 ^ (8 - used) % 256) place within)
+    bounded-drop used place (bits_of bytes) ∙ here ∙ ap (λ (n : ℕ). eqb n 1) (sym (bit_of_word first second used place fits small within)) ∙ sym (bit_of_byte ((first * 256 + second) / 2 ^ (8 - used) % 256) place within)
 
 -- ---- behind some bits
 
