@@ -1,6 +1,7 @@
 -- A code is read by the digits that a byte's bits say.
 use Rattle.std.proofs.Common.{◌≡◌, ℕ, zero, suc, ◌+◌, ◌-◌, ◌*◌, ◌/◌, ◌^◌, ◌<◌, ◌≤◌, Bool, true, false, List, [], ◌∷◌, ◌++◌, length, drop, fold, Option, Some, None, refl, sym, ap, subst, ◌∙◌, arith, length-drop, add-zero, inl, inr}
 use Rattle.std.proofs.lemmas.Bool.{cases_lt}
+use Rattle.std.proofs.lemmas.Nat.{mul-le, pow_pos}
 use Rattle.std.proofs.lemmas.List.{drop-drop}
 use Rattle.vc_types.specs.Bits.{byte_bits, digit_of, number_of}
 use Rattle.vc_types.specs.Codes.{uint_after}
@@ -133,4 +134,8 @@ uint_ends_here byte taken digits number bits look begin fewer enough =
 pub uint_cut : (byte taken digits number : ℕ) (bits : List Bool) → IsLook byte taken digits → BeginsWith bits (byte_bits byte) → length bits < taken → uint_after number bits ≡ None
 uint_cut byte taken digits number bits look begin few =
     uint_none look.list number bits (begins_pairs byte taken digits bits look begin)
-      (elim (cases_lt taken 8) [ | inl fewer ↦ omega (arith, (look.ends fewer).0) | inr all ↦ omega (arith, look.whole all) ])
+    (elim (cases_lt taken 8) [ inl fewer ↦ omega (arith, (look.ends fewer).0) | inr all ↦ omega (arith, look.whole all) ])
+
+-- a number that isn't 0 stays so
+pub more_is_some : (number taken digits : ℕ) → 0 < number → 0 < number * 2 ^ (taken / 2) + digits
+more_is_some number taken digits some = omega (arith, mul-le 1 1 number (2 ^ (taken / 2)) some (pow_pos (taken / 2)))

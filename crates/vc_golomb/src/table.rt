@@ -8,7 +8,7 @@ pub(crate) const CAP: u64 = (1 << 62) + 1;
 /// among them. Where it is fewer than eight bits, the code ends with them.
 #[derive(Clone, Copy)]
 pub(crate) struct Look {
-    pub(crate) taken: u8,
+    pub(crate) taken: u32,
     pub(crate) digits: u8,
 }
 
@@ -18,7 +18,7 @@ pub(crate) fn look_up(byte: u8) -> Look
     ensures digits { result.digits < 16 }
 {
     Look {
-        taken: TAKEN[byte as usize],
+        taken: u32::from(TAKEN[byte as usize]),
         digits: DIGITS[byte as usize],
     }
 }
