@@ -14,7 +14,7 @@ use Rattle.vc_types.proofs.BoundedCodes.{bounded-drop}
 use Rattle.vc_types.proofs.Bits.{bits_of-nil, bits_of-cons, length-byte_bits, length-bits_of, drop-bits_of}
 
 -- a bit of a byte
-bit_of_byte : (byte place : ℕ) → place < 8 → get_or (byte_bits byte) place true ≡ eqb (bit_at byte (7 - place)) 1
+pub bit_of_byte : (byte place : ℕ) → place < 8 → get_or (byte_bits byte) place true ≡ eqb (bit_at byte (7 - place)) 1
 unfolding byte_bits
 bit_of_byte byte zero small = refl
 bit_of_byte byte (suc zero) small = refl
@@ -27,7 +27,7 @@ bit_of_byte byte (suc (suc (suc (suc (suc (suc (suc zero))))))) small = refl
 bit_of_byte byte (suc (suc (suc (suc (suc (suc (suc (suc place)))))))) small = absurd (omega arith)
 
 -- a one, where there is no byte
-no_byte : (place : ℕ) → place < 8 → true ≡ eqb (bit_at 255 (7 - place)) 1
+pub no_byte : (place : ℕ) → place < 8 → true ≡ eqb (bit_at 255 (7 - place)) 1
 no_byte place small = sym (ap (λ (n : ℕ). eqb n 1) (bit_at_ones 8 (7 - place) (omega arith)))
 
 -- a bit of the first byte, and of the second
@@ -50,10 +50,10 @@ bit_of_second (byte ∷ bytes) place le small =
 
 -- ---- the bits of a word of two bytes
 
-low_bits_of : (n width place : ℕ) → place < width → bit_at (n % 2 ^ width) place ≡ bit_at n place
+pub low_bits_of : (n width place : ℕ) → place < width → bit_at (n % 2 ^ width) place ≡ bit_at n place
 low_bits_of n width place small = sym (bit_at_cat_low (n / 2 ^ width) width (n % 2 ^ width) place small) ∙ ap (λ (m : ℕ). bit_at m place) (div-add-mod' n (2 ^ width))
 
-high_bits_of : (n shift place : ℕ) → bit_at (n / 2 ^ shift) place ≡ bit_at n (place + shift)
+pub high_bits_of : (n shift place : ℕ) → bit_at (n / 2 ^ shift) place ≡ bit_at n (place + shift)
 high_bits_of n shift place =
     let power : 2 ^ shift * 2 ^ place ≡ 2 ^ (place + shift) = mul_comm (2 ^ shift) (2 ^ place) ∙ sym (pow-add 2 place shift) in
     ap (λ (m : ℕ). m % 2) (div-div-eq-div-mul n (2 ^ shift) (2 ^ place) ∙ ap (λ (m : ℕ). n / m) power)

@@ -21,7 +21,7 @@ trans : (xs ys zs : List Bool) → SameBounded xs ys → SameBounded ys zs → S
 trans xs ys zs p q = record { at = λ place. p.at place ∙ q.at place }
 
 -- ones at the end are there already
-same_ones : (xs : List Bool) (n : ℕ) → SameBounded xs (xs ++ replicate n true)
+pub same_ones : (xs : List Bool) (n : ℕ) → SameBounded xs (xs ++ replicate n true)
 same_ones xs n = record {
   at = λ place.
       elim (cases_lt place (length xs)) [
