@@ -11,20 +11,7 @@ use Rattle.std.proofs.Math.ListN.{drop_of_length-le}
 use Rattle.vc_types.specs.Bits.{byte_bits, bits_of}
 use Rattle.vc_types.specs.Bounded.{bounded, BeginsWith}
 use Rattle.vc_types.proofs.BoundedCodes.{bounded-drop}
-use Rattle.vc_types.proofs.Bits.{bits_of-nil, bits_of-cons, length-byte_bits, length-bits_of, drop-bits_of}
-
--- a bit of a byte
-pub bit_of_byte : (byte place : ℕ) → place < 8 → get_or (byte_bits byte) place true ≡ eqb (bit_at byte (7 - place)) 1
-unfolding byte_bits
-bit_of_byte byte zero small = refl
-bit_of_byte byte (suc zero) small = refl
-bit_of_byte byte (suc (suc zero)) small = refl
-bit_of_byte byte (suc (suc (suc zero))) small = refl
-bit_of_byte byte (suc (suc (suc (suc zero)))) small = refl
-bit_of_byte byte (suc (suc (suc (suc (suc zero))))) small = refl
-bit_of_byte byte (suc (suc (suc (suc (suc (suc zero)))))) small = refl
-bit_of_byte byte (suc (suc (suc (suc (suc (suc (suc zero))))))) small = refl
-bit_of_byte byte (suc (suc (suc (suc (suc (suc (suc (suc place)))))))) small = absurd (omega arith)
+use Rattle.vc_types.proofs.Bits.{bit_of_byte, bits_of-nil, bits_of-cons, length-byte_bits, length-bits_of, drop-bits_of}
 
 -- a one, where there is no byte
 pub no_byte : (place : ℕ) → place < 8 → true ≡ eqb (bit_at 255 (7 - place)) 1

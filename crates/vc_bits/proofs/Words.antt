@@ -9,10 +9,10 @@ use Rattle.std.proofs.lemmas.Nat.Bits.{bit_at_cat_low}
 use Rattle.std.proofs.lemmas.List.{get_or_append_left, drop-drop, drop-append-le}
 use Rattle.vc_types.specs.Bits.{byte_bits, bits_of}
 use Rattle.vc_types.specs.Bounded.{bounded, BeginsWith}
-use Rattle.vc_types.proofs.Bits.{bits_of-nil, bits_of-cons, length-byte_bits, length-bits_of, drop-bits_of}
+use Rattle.vc_types.proofs.Bits.{bit_of_byte, bits_of-nil, bits_of-cons, length-byte_bits, length-bits_of, drop-bits_of}
 use Rattle.vc_types.proofs.BoundedCodes.{same_ones}
 use Rattle.vc_bits.specs.Inside.{low_bits, word_bits}
-use Rattle.vc_bits.proofs.Peeking.{low_bits_of, high_bits_of, bit_of_byte, no_byte}
+use Rattle.vc_bits.proofs.Peeking.{low_bits_of, high_bits_of, no_byte}
 
 pub length-word_bits : (count word : ℕ) → length (word_bits count word) ≡ count
 unfolding word_bits

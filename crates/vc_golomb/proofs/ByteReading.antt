@@ -1,16 +1,18 @@
 -- A code is read by the digits that a byte's bits say.
-use Rattle.std.proofs.Common.{◌≡◌, ℕ, zero, suc, ◌+◌, ◌-◌, ◌*◌, ◌/◌, ◌^◌, ◌<◌, ◌≤◌, Bool, true, false, List, [], ◌∷◌, ◌++◌, length, drop, fold, Option, Some, None, refl, sym, ap, subst, ◌∙◌, arith, length-drop, add-zero, inl, inr}
-use Rattle.std.proofs.lemmas.Bool.{cases_lt}
+use Rattle.std.proofs.Common.{◌≡◌, ℕ, zero, suc, ◌+◌, ◌-◌, ◌*◌, ◌/◌, ◌^◌, ◌<◌, ◌≤◌, Bool, true, false, ℤ, pos, eqb, ltb, List, [], ◌∷◌, ◌++◌, length, drop, fold, Option, Some, None, refl, sym, ap, subst, ◌∙◌, arith, length-drop, add-zero, inl, inr}
+use Rattle.std.proofs.lemmas.Bool.{cases_lt, lt-ltb, le-ltb}
+use Rattle.std.specs.Int.{bit_at}
+use mir.Val.{bool_byte}
 use Rattle.std.proofs.lemmas.Nat.{mul-le, pow_pos}
 use Rattle.std.proofs.lemmas.List.{drop-drop}
 use Rattle.vc_types.specs.Bits.{byte_bits, digit_of, number_of}
 use Rattle.vc_types.specs.Codes.{uint_after}
-use Rattle.vc_types.specs.Bounded.{bounded, BeginsWith, bounded_uint_after}
-use Rattle.vc_types.proofs.Bits.{length-byte_bits}
+use Rattle.vc_types.specs.Bounded.{bounded, BeginsWith, bounded_uint_after, bounded_uint, bounded_sint, signed}
+use Rattle.vc_types.proofs.Bits.{length-byte_bits, bit_of_byte}
 use Rattle.vc_types.proofs.BoundedCodes.{bounded-drop, front_begins}
 use Rattle.vc_types.proofs.Digits.{more_digits}
 use Rattle.vc_golomb.specs.Table.{pairs_of, IsLook}
-use Rattle.vc_golomb.proofs.SignedReading.{code_ends, code_goes_on}
+use Rattle.vc_golomb.proofs.SignedReading.{code_ends, code_goes_on, sint-none, sint-some}
 
 length-pairs_of : (list : List Bool) → length (pairs_of list) ≡ 2 * length list
 length-pairs_of [] = refl
@@ -139,3 +141,35 @@ uint_cut byte taken digits number bits look begin few =
 -- a number that isn't 0 stays so
 pub more_is_some : (number taken digits : ℕ) → 0 < number → 0 < number * 2 ^ (taken / 2) + digits
 more_is_some number taken digits some = omega (arith, mul-le 1 1 number (2 ^ (taken / 2)) some (pow_pos (taken / 2)))
+
+-- ---- a signed number whose code and sign are within a byte
+
+short_unsigned : (byte taken digits : ℕ) (bits : List Bool) → IsLook byte taken digits → BeginsWith bits (byte_bits byte) → taken < 8 → bounded_uint bits ≡ (1 * 2 ^ (taken / 2) + digits - 1, drop taken bits)
+unfolding bounded_uint
+short_unsigned byte taken digits bits look begin fewer = block_ends byte taken digits 1 bits look begin fewer
+
+signed-zero : (negative : Bool) (magnitude : ℕ) → magnitude ≡ 0 → signed negative magnitude ≡ pos 0
+signed-zero true magnitude none = rw none refl
+signed-zero false magnitude none = rw none refl
+
+pub short_signed : (byte taken digits magnitude : ℕ) (negative : Bool) (bits : List Bool) → IsLook byte taken digits → BeginsWith bits (byte_bits byte) → taken < 8
+    → magnitude ≡ 1 * 2 ^ (taken / 2) + digits - 1 → negative ≡ eqb (bit_at byte (7 - taken)) 1 → bounded_sint bits ≡ (signed negative magnitude, drop (taken + bool_byte (ltb 0 magnitude)) bits)
+short_signed byte taken digits magnitude negative bits look begin fewer number sign =
+    let read = short_unsigned byte taken digits bits look begin fewer in
+    let whole : (bounded_uint bits).0 ≡ magnitude = ap (λ (x : ℕ × List Bool). x.0) read ∙ sym number in
+    let rest : (bounded_uint bits).1 ≡ drop taken bits = ap (λ (x : ℕ × List Bool). x.1) read in
+    elim (cases_lt 0 magnitude) [
+      | inl some ↦
+          let here : bounded (bounded_uint bits).1 0 ≡ negative = ap (λ (xs : List Bool). bounded xs 0) rest ∙ bounded-drop taken 0 bits ∙ ap (bounded bits) (add-zero taken) ∙ begin taken (omega (arith, length-byte_bits byte)) ∙ bit_of_byte byte taken fewer ∙ sym sign in
+          let test : bool_byte (ltb 0 magnitude) ≡ 1 = ap bool_byte (lt-ltb 0 magnitude some) in
+          let behind : drop 1 (bounded_uint bits).1 ≡ drop (taken + bool_byte (ltb 0 magnitude)) bits = ap (drop 1) rest ∙ drop-drop 1 taken bits ∙ ap (λ (n : ℕ). drop (taken + n) bits) (sym test) in
+          sint-some bits (omega (arith, whole)) ∙ pair (ap (λ (b : Bool). signed b (bounded_uint bits).0) here ∙ ap (signed negative) whole) behind
+      | inr none ↦
+          let zero : magnitude ≡ 0 = omega arith in
+          let test : bool_byte (ltb 0 magnitude) ≡ 0 = ap bool_byte (le-ltb 0 magnitude none) in
+          let behind : (bounded_uint bits).1 ≡ drop (taken + bool_byte (ltb 0 magnitude)) bits = rest ∙ ap (λ (n : ℕ). drop n bits) (sym (add-zero taken)) ∙ ap (λ (n : ℕ). drop (taken + n) bits) (sym test) in
+          sint-none bits (whole ∙ zero) ∙ pair (sym (signed-zero negative magnitude zero)) behind
+    ]
+  where
+    pair : {v w : ℤ} {xs ys : List Bool} → v ≡ w → xs ≡ ys → ◌≡◌ {A = ℤ × List Bool} (v, xs) (w, ys)
+    pair {v} {w} {xs} {ys} first second = ap (λ (x : ℤ). let y : ℤ × List Bool = (x, xs) in y) first ∙ ap (λ (rest : List Bool). let y : ℤ × List Bool = (w, rest) in y) second
