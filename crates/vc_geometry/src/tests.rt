@@ -1,4 +1,4 @@
-ghost use Rattle.std.specs.Prelude.{◌≡◌, ◌*◌, ◌≤◌};
+ghost use Rattle.std.specs.Prelude.{◌≡◌, ◌*◌, ◌<◌};
 
 use crate::{Rect, band, bands, padded, place_of, slice_len, slice_rect};
 use vc_types::{Component, Plan, Shape};
@@ -128,39 +128,50 @@ fn cuts_slices_by_division(rt: HostRuntime) {
     }
 }
 
+// The place of a luma coefficient, where the slice has it.
+fn luma_place(plan: &Plan, slice: u32, i: u32) -> Option<(u32, u32)>
+    requires { slice < plan.now.slices_x * plan.now.slices_y }
+{
+    if i < slice_len(plan, Component::Y, slice) {
+        Some(place_of(plan, Component::Y, slice, i))
+    } else {
+        None
+    }
+}
+
 #[test]
 fn numbers_places_by_subband_and_row(rt: HostRuntime) {
     let wide = [
-        (0, 0),
-        (1, 0),
-        (0, 1),
-        (1, 1),
-        (4, 0),
-        (5, 0),
-        (4, 1),
-        (5, 1),
-        (0, 2),
-        (1, 2),
-        (0, 3),
-        (1, 3),
-        (4, 2),
-        (5, 2),
-        (4, 3),
-        (5, 3),
+        (0, (0, 0)),
+        (1, (1, 0)),
+        (2, (0, 1)),
+        (3, (1, 1)),
+        (4, (4, 0)),
+        (7, (5, 1)),
+        (8, (0, 2)),
+        (12, (4, 2)),
+        (15, (5, 3)),
     ];
-    assert_eq!(rt; slice_len(&two_slices(), Component::Y, 0), 16);
-    for i in 0..slice_len(&two_slices(), Component::Y, 0) {
+    for (i, want) in wide {
         assert_eq!(rt;
-            Some(&place_of(&two_slices(), Component::Y, 0, i)),
-            wide.get(i as usize),
+            luma_place(&two_slices(), 0, i),
+            Some(want),
             "coefficient {i}"
         );
     }
-    let tall = [(4, 0), (4, 1), (0, 4), (0, 5), (4, 4), (4, 5)];
-    for i in 0..slice_len(&odd_sizes(), Component::Y, 0) {
+    assert_eq!(rt; luma_place(&two_slices(), 0, 16), None);
+    assert_eq!(rt; luma_place(&two_slices(), 1, 4), Some((6, 0)));
+    for (i, want) in [
+        (0, (4, 0)),
+        (1, (4, 1)),
+        (2, (0, 4)),
+        (3, (0, 5)),
+        (4, (4, 4)),
+        (5, (4, 5)),
+    ] {
         assert_eq!(rt;
-            Some(&place_of(&odd_sizes(), Component::Y, 0, i)),
-            tall.get(i as usize),
+            luma_place(&odd_sizes(), 0, i),
+            Some(want),
             "coefficient {i}"
         );
     }
