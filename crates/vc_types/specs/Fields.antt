@@ -1,6 +1,6 @@
 -- Fields that are read one after another from the front of a list of bits or bytes. A field gives its value and what
 -- is left, or the first refusal.
-use Rattle.std.specs.Prelude.{◌≡◌, ℕ, ◌<◌, Bool, true, false, List, [], ◌∷◌, ◌++◌, length, take, drop, Option, Some, None, Result, Ok, Err, nat_lt, if◌then◌else◌}
+use Rattle.std.specs.Prelude.{◌≡◌, ℕ, Bool, true, false, List, [], ◌∷◌, ◌++◌, length, take, drop, Option, Some, None, Result, Ok, Err, nat_lt, if◌then◌else◌}
 use Rattle.vc_types.specs.Codes.{uint_bits, uint_at}
 
 -- bits or bytes T, refusals E, values X
@@ -63,12 +63,31 @@ abbrev pub Gives : {T E X Y : Type 0} → (X → Y) → Result X E → List T �
 Gives view (Ok x) left read = read ≡ Ok (view x, left)
 Gives view (Err refusal) left read = read ≡ Err refusal
 
--- ---- what a field is written as
+-- What was answered, seen by view, is what was read.
+abbrev pub Answers : {E X Y : Type 0} → (X → Y) → Result X E → Result Y E → Type 0
+Answers view (Ok x) read = read ≡ Ok (view x)
+Answers view (Err refusal) read = read ≡ Err refusal
+
+-- ---- what fields are written as
+
+-- parts one after another
+abbrev pub joined : {T : Type 0} → List (List T) → List T
+joined [] = []
+joined (part ∷ parts) = part ++ joined parts
+
+-- two numbers
+abbrev pub pair_bits : ℕ × ℕ → List Bool
+pair_bits p = joined (uint_bits p.0 ∷ uint_bits p.1 ∷ [])
 
 -- a flag and, where it is 1, the field's own bits
 abbrev pub flagged_bits : {A : Type 0} → (A → List Bool) → Option A → List Bool
 flagged_bits field None = false ∷ []
 flagged_bits field (Some a) = true ∷ field a
+
+-- what such a part stands for: something else where it isn't coded
+abbrev pub flagged_value : {A X : Type 0} → X → (A → X) → Option A → X
+flagged_value default value None = default
+flagged_value default value (Some a) = value a
 
 -- Reading and writing belong together: what is read is what was written of some accepted spelling, and each accepted
 -- spelling is read again, whatever follows it.

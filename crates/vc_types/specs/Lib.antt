@@ -15,3 +15,5 @@ pub mod Transforms
 pub mod Slices
 pub mod Pictures
 pub mod Planes
+pub mod HeaderSpelling
+pub mod ParameterSpelling

@@ -1,7 +1,11 @@
 -- One lifting step of a line (ST 2042-1, lifting). A line is the sample at each place; it is an even number of samples
 -- long, and past its end a step leaves it as it is.
-use Rattle.std.specs.Prelude.{ℕ, ◌+◌, ◌-◌, ◌*◌, ◌/◌, ◌%◌, ◌^◌, Bool, true, false, ◌&&◌, nat_lt, ◌==◌, if◌then◌else◌, List, [], ◌∷◌, ℤ, pos, negsuc, ◌+ℤ◌, ◌-ℤ◌, ◌*ℤ◌, min, max}
+use Rattle.std.specs.Prelude.{ℕ, ◌-◌, ◌/◌, ◌%◌, ◌^◌, Bool, true, false, ◌&&◌, nat_lt, ◌==◌, if◌then◌else◌, List, [], ◌∷◌, ℤ, pos, negsuc, ◌+ℤ◌, ◌-ℤ◌, ◌*ℤ◌, min, max, slice_index_or}
 use Rattle.std.specs.Int.{int_shr}
+
+-- the samples of a list, and 0 past its end
+abbrev pub line_of : List ℤ → ℕ → ℤ
+line_of samples k = slice_index_or samples k (pos 0)
 
 -- A step on the even samples changes each sample 2 * n, one on the odd samples each sample 2 * n + 1.
 pub data Parity : Type 0 where

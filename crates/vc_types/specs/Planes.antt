@@ -3,7 +3,7 @@ use Rattle.std.specs.Prelude.{ℕ, ◌-◌, ◌^◌, List, ℤ, pos, negsuc, ◌
 use Rattle.std.specs.Option.{option_map}
 use Rattle.vc_types.specs.declared.video.Component.{Component}
 use Rattle.vc_types.specs.declared.video.Component.TheVariants.{Y, C1, C2}
-use Rattle.vc_types.specs.Pictures.{Picture, decoded_picture, component_cells}
+use Rattle.vc_types.specs.Pictures.{decoded_picture, component_cells}
 use Rattle.vc_types.specs.Rasters.{Raster, raster}
 use Rattle.vc_types.specs.SequenceHeader.{Sequence}
 use Rattle.vc_types.specs.Slices.{Coefficients}

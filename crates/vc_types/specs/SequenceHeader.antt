@@ -1,5 +1,6 @@
 -- Sequence headers (ST 2042-1, sequence header): the fields in order, and the first refusal.
-use Rattle.std.specs.Prelude.{◌≡◌, ℕ, ◌-◌, ◌^◌, ◌/◌, Bool, ◌||◌, List, length, Result, Ok, Err, nat_le, ◌==◌, if◌then◌else◌}
+use Rattle.std.specs.Prelude.{ℕ, ◌-◌, ◌^◌, ◌/◌, Bool, ◌||◌, List, length, nat_le, ◌==◌, if◌then◌else◌, Result, Ok, Err}
+use Rattle.vc_types.specs.Bits.{bits_of}
 use Rattle.vc_types.specs.declared.header.Header.{Header}
 use Rattle.vc_types.specs.declared.shape.Shape.{Shape}
 use Rattle.vc_types.specs.declared.video.Sampling.{Sampling}
@@ -7,9 +8,8 @@ use Rattle.vc_types.specs.declared.video.Sampling.TheVariants.{S444, S422, S420}
 use Rattle.vc_types.specs.declared.video.SignalRange.{SignalRange}
 use Rattle.vc_types.specs.declared.refusal.HeaderRefusal.{HeaderRefusal}
 use Rattle.vc_types.specs.declared.refusal.HeaderRefusal.TheVariants as refusals
-use Rattle.vc_types.specs.Bits.{bits_of}
 use Rattle.vc_types.specs.Video.{BaseFormat, format_of, range_of, signal_range, dimensions_fit, excursion_fits, colour_width, colour_height, picture_height, video_depth}
-use Rattle.vc_types.specs.Fields.{Field, ◌>>=◌, give, skip, refuse, tested, behind_flag, number as number_up_to, flag}
+use Rattle.vc_types.specs.Fields.{Field, ◌>>=◌, give, skip, refuse, tested, behind_flag, number as number_up_to}
 
 -- the value of a sequence header
 pub record Sequence : Type 0 where
@@ -132,8 +132,11 @@ colour_specification = part tt (do
     transfer ← colour_part
     skip) else skip)
 
-unfoldable pub picture_coding_mode : HeaderField ℕ
-picture_coding_mode = index 1 refusals.CodingMode
+-- whether pictures are fields
+unfoldable pub picture_coding_mode : HeaderField Bool
+picture_coding_mode = do
+  mode ← index 1 refusals.CodingMode
+  give (mode == 1)
 
 -- ---- the whole header
 
@@ -152,8 +155,8 @@ sequence_header = do
   area ← clean_area
   range ← signal_range_of (format_of base)
   colour ← colour_specification
-  mode ← picture_coding_mode
-  if dimensions_fit size.0 size.1 sampling (mode == 1) then give (record {
+  fields ← picture_coding_mode
+  if dimensions_fit size.0 size.1 sampling fields then give (record {
     major = major;
     minor = minor;
     level = level;
@@ -164,12 +167,21 @@ sequence_header = do
     interlaced = interlaced;
     top_first = (format_of base).top_first;
     range = range;
-    fields = mode == 1;
+    fields = fields;
   }) else refuse refusals.Dimensions
 
 -- how many bytes were used, where these bits are left behind a field
 abbrev pub bytes_used : List ℕ → List Bool → ℕ
 bytes_used bytes left = length bytes - length left / 8
+
+-- a field at the front of these bytes: its value and the bytes that it takes
+abbrev pub with_bytes_used : {E X : Type 0} → List ℕ → Result (X × List Bool) E → Result (X × ℕ) E
+with_bytes_used bytes (Ok read) = Ok (read.0, bytes_used bytes read.1)
+with_bytes_used bytes (Err refusal) = Err refusal
+
+-- the header at the front of bytes and how many of them it takes, or the first refusal
+abbrev pub coded_header : List ℕ → Result (Sequence × ℕ) HeaderRefusal
+coded_header bytes = with_bytes_used bytes (sequence_header (bits_of bytes))
 
 -- ---- the planes of one picture of the sequence
 

@@ -1,6 +1,6 @@
 -- Transform parameters (ST 2042-1, transform parameters): the fields in order, and the first refusal. The transform is
 -- the same across as down.
-use Rattle.std.specs.Prelude.{◌≡◌, ℕ, zero, suc, ◌+◌, ◌-◌, ◌*◌, ◌^◌, Bool, ◌||◌, ◌&&◌, not, List, [], ◌∷◌, Option, Some, None, nat_le, ◌==◌, if◌then◌else◌}
+use Rattle.std.specs.Prelude.{ℕ, zero, suc, ◌+◌, ◌-◌, ◌*◌, ◌^◌, Bool, ◌&&◌, List, [], ◌∷◌, Option, Some, None, Result, nat_le, ◌==◌, if◌then◌else◌}
 use Rattle.vc_types.specs.declared.plan.Plan.{Plan}
 use Rattle.vc_types.specs.declared.shape.Shape.{Shape}
 use Rattle.vc_types.specs.declared.refusal.ParamsRefusal.{ParamsRefusal}
@@ -8,7 +8,8 @@ use Rattle.vc_types.specs.declared.refusal.ParamsRefusal.TheVariants as refusals
 use Rattle.vc_types.specs.Fields.{Field, ◌>>=◌, give, skip, refuse, tested, behind_flag, number as number_up_to, flag}
 use Rattle.vc_types.specs.Limits.{slices_fit, padded_luma_fits}
 use Rattle.vc_types.specs.Quantisation.{filled_matrix, default_matrix}
-use Rattle.vc_types.specs.SequenceHeader.{Sequence, picture_shape}
+use Rattle.vc_types.specs.Bits.{bits_of}
+use Rattle.vc_types.specs.SequenceHeader.{Sequence, picture_shape, with_bytes_used}
 
 -- the value of transform parameters, with the shape of the picture that they are for
 pub record Parameters : Type 0 where
@@ -81,6 +82,12 @@ matrix_values (suc n) = do
   values ← matrix_values n
   give (value ∷ values)
 
+-- a custom matrix of so many values
+abbrev pub custom_matrix : ℕ → ParamsField (List ℕ)
+custom_matrix count = do
+  values ← matrix_values count
+  give (filled_matrix values)
+
 abbrev pub matrix_by_default : Option (List ℕ) → ParamsField (List ℕ)
 matrix_by_default None = refuse refusals.NoDefault
 matrix_by_default (Some matrix) = give matrix
@@ -89,9 +96,7 @@ matrix_by_default (Some matrix) = give matrix
 unfoldable pub quantisation_matrix : ℕ → ℕ → ParamsField (List ℕ)
 quantisation_matrix wavelet depth = do
   custom ← flag refusals.Short
-  if custom then (do
-    values ← matrix_values (1 + 3 * depth)
-    give (filled_matrix values)) else matrix_by_default (default_matrix wavelet depth)
+  if custom then custom_matrix (1 + 3 * depth) else matrix_by_default (default_matrix wavelet depth)
 
 -- ---- the whole parameters, of a picture of this sequence
 
@@ -117,3 +122,7 @@ transform_parameters sequence = do
     scaler = scaler;
     matrix = matrix;
   }) else refuse refusals.TooLarge
+
+-- the parameters at the front of bytes and how many of them they take, or the first refusal
+abbrev pub coded_parameters : Sequence → List ℕ → Result (Parameters × ℕ) ParamsRefusal
+coded_parameters sequence bytes = with_bytes_used bytes (transform_parameters sequence (bits_of bytes))

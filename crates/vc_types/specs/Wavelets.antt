@@ -1,5 +1,5 @@
 -- The seven wavelets (ST 2042-1, wavelet filters): lines synthesised and analysed.
-use Rattle.std.specs.Prelude.{ℕ, ◌-◌, Bool, true, false, not, List, [], ◌∷◌, ℤ, pos, negsuc, fold, map, reverse, slice_index_or}
+use Rattle.std.specs.Prelude.{ℕ, ◌≡◌, ◌-◌, ◌*◌, ◌%◌, ◌^◌, ◌<◌, ◌≤◌, Bool, true, false, not, List, [], ◌∷◌, ℤ, pos, negsuc, fold, map, reverse, slice_index_or, unsigned_abs}
 use Rattle.vc_types.specs.Lifting.{LiftingStep, Parity, even, odd, lifted}
 
 -- a step that adds its change, and one that takes it away: taps, S, D
@@ -76,3 +76,13 @@ synthesised wavelet length x = lifted_by (synthesis_steps wavelet) length x
 
 unfoldable pub analysed : ℕ → ℕ → (ℕ → ℤ) → ℕ → ℤ
 analysed wavelet length x = lifted_by (analysis_steps wavelet) length x
+
+-- ---- what is promised of them
+
+-- a bound on the magnitudes of a line rises at most 16 times
+abbrev pub GrowsLittle : (ℕ → (ℕ → ℤ) → ℕ → ℤ) → Type 0
+GrowsLittle make = (size m : ℕ) (x : ℕ → ℤ) → size % 2 ≡ 0 → 2 ^ 16 ≤ m → ((k : ℕ) → k < size → unsigned_abs (x k) < m) → (k : ℕ) → k < size → unsigned_abs (make size x k) < 16 * m
+
+-- what is made of a line depends on its own samples alone
+abbrev pub IsLocal : (ℕ → (ℕ → ℤ) → ℕ → ℤ) → Type 0
+IsLocal make = (size : ℕ) (x y : ℕ → ℤ) → size % 2 ≡ 0 → ((k : ℕ) → k < size → x k ≡ y k) → (k : ℕ) → k < size → make size x k ≡ make size y k

@@ -22,3 +22,6 @@ pub use refusal::{HeaderRefusal, ParamsRefusal, Short, Unsound};
 pub use shape::Shape;
 pub use video::{Component, Sampling, SignalRange};
 pub use words::Words;
+
+#[cfg(test)]
+mod tests;

@@ -1,0 +1,2 @@
+pub mod EmptySlices
+pub mod EmptySteps

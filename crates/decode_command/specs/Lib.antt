@@ -1,0 +1,3 @@
+pub mod OnePicture
+pub mod Grey
+pub mod Stages

@@ -1,0 +1,104 @@
+-- The entry that begins some bytes.
+use Rattle.std.proofs.Common.{◌≡◌, ◌≢◌, ℕ, zero, suc, ◌+◌, ◌-◌, ◌*◌, ◌/◌, ◌%◌, ◌^◌, ◌<◌, ◌≤◌, List, [], ◌∷◌, ◌++◌, length, take, drop, Option, Some, None, Bool, true, false, nat_lt, refl, sym, ap, ◌∙◌, subst, arith, inl, inr, All, slice_index}
+use Rattle.std.proofs.lemmas.Bool.{cases_lt, lt-ltb, le-ltb}
+use Rattle.std.proofs.lemmas.List.{length-append, length-drop, length-take-le, take-append-drop, take-append-le, drop-append-le}
+use Rattle.std.proofs.Math.Seq.{take-append_seam, drop-append_seam}
+use Rattle.byteorder.specs.Endian.{big_bytes, big_number}
+use Rattle.link_capture.specs.Capture.{entry, first_entry}
+
+-- two bytes are those of the number that they are read as
+pub two_bytes : (head : List ℕ) → length head ≡ 2 → ((i : ℕ) → slice_index head i < 256) → big_bytes 2 (big_number 2 head) ≡ head
+two_bytes [] len fit = absurd (omega arith)
+two_bytes (high ∷ []) len fit = absurd (omega arith)
+two_bytes (high ∷ low ∷ []) len fit =
+    let h : high < 256 = fit 0 in
+    let l : low < 256 = fit 1 in
+    let first : (high * 256 + (low * 1 + 0)) / 256 % 256 ≡ high = omega arith in
+    let second : (high * 256 + (low * 1 + 0)) % 256 ≡ low = omega arith in
+    rw (first, second) refl
+two_bytes (high ∷ low ∷ more ∷ rest) len fit = absurd (omega arith)
+
+-- a datagram behind its length
+pub entry_is : (high low : ℕ) (datagram : List ℕ) → high < 256 → low < 256 → length datagram ≡ 256 * high + low → entry datagram ≡ high ∷ low ∷ datagram
+unfolding entry
+entry_is high low datagram h l len =
+    let first : length datagram / 256 % 256 ≡ high = omega arith in
+    let second : length datagram % 256 ≡ low = omega arith in
+    rw (first, second) refl
+
+-- an entry is two bytes longer than its datagram
+pub length-entry : (datagram : List ℕ) → length (entry datagram) ≡ length datagram + 2
+unfolding entry
+length-entry datagram = omega arith
+
+-- fewer bytes than their length tells begin with no whole entry
+pub first_entry-short : (high low : ℕ) (bytes : List ℕ) → length bytes < 256 * high + low → first_entry (high ∷ low ∷ bytes) ≡ None
+unfolding first_entry
+first_entry-short high low bytes short = rw (lt-ltb (length bytes) (256 * high + low) short) refl
+
+-- as many bytes as their length tells are the first datagram
+pub first_entry-whole : (high low : ℕ) (datagram rest : List ℕ) → length datagram ≡ 256 * high + low → first_entry (high ∷ low ∷ datagram ++ rest) ≡ Some (datagram, rest)
+unfolding first_entry
+first_entry-whole high low datagram rest len =
+    let whole : 256 * high + low ≤ length (datagram ++ rest) = omega (arith, length-append datagram rest) in
+    rw (le-ltb (length (datagram ++ rest)) (256 * high + low) whole, ← len, take-append_seam datagram rest, drop-append_seam datagram rest) refl
+
+-- an entry that begins the bytes is the first one
+pub first_entry-entry : (datagram rest : List ℕ) → length datagram < 2 ^ 16 → first_entry (entry datagram ++ rest) ≡ Some (datagram, rest)
+unfolding entry
+first_entry-entry datagram rest fits = first_entry-whole (length datagram / 256 % 256) (length datagram % 256) datagram rest (omega arith)
+
+some_is : {A : Type 0} (x y : A) → Some x ≡ Some y → x ≡ y
+some_is x y same = cc
+
+none_is_not : {A : Type 0} (x : A) → None ≡ Some x → ⊥
+none_is_not x same = cc
+
+-- the first entry, where there is one, is as long as its length tells
+first_entry-found : (high low : ℕ) (bytes : List ℕ) (first : List ℕ × List ℕ) → first_entry (high ∷ low ∷ bytes) ≡ Some first
+    → (256 * high + low ≤ length bytes) × (first ≡ (take (256 * high + low) bytes, drop (256 * high + low) bytes))
+unfolding first_entry
+first_entry-found high low bytes first is = elim (cases_lt (length bytes) (256 * high + low)) [
+  | inl short ↦ absurd (none_is_not first (sym (first_entry-short high low bytes short) ∙ is))
+  | inr whole ↦
+      let found : Some (take (256 * high + low) bytes, drop (256 * high + low) bytes) ≡ Some first = rw (le-ltb (length bytes) (256 * high + low) whole) at is in
+      (whole, sym (some_is _ first found))
+]
+
+-- what is behind the first entry is shorter than the whole
+pub first_entry-shorter : (bytes : List ℕ) (first : List ℕ × List ℕ) → first_entry bytes ≡ Some first → length first.1 < length bytes
+unfolding first_entry
+first_entry-shorter [] first is = absurd (none_is_not first is)
+first_entry-shorter (high ∷ []) first is = absurd (none_is_not first is)
+first_entry-shorter (high ∷ low ∷ bytes) first is =
+    let found = first_entry-found high low bytes first is in
+    rw (found.1) (omega (arith, length-drop (256 * high + low) bytes))
+
+-- the first entry's bytes begin the bytes, and what it leaves is behind them
+pub first_entry-is : (bytes : List ℕ) (first : List ℕ × List ℕ) → All (λ byte. byte < 256) bytes → first_entry bytes ≡ Some first
+    → (length first.0 < 2 ^ 16) × (bytes ≡ entry first.0 ++ first.1)
+unfolding first_entry
+first_entry-is [] first fit is = absurd (none_is_not first is)
+first_entry-is (high ∷ []) first fit is = absurd (none_is_not first is)
+first_entry-is (high ∷ low ∷ bytes) first fit is =
+    let found = first_entry-found high low bytes first is in
+    let len : length (take (256 * high + low) bytes) ≡ 256 * high + low = length-take-le (256 * high + low) bytes found.0 in
+    rw (found.1, entry_is high low (take (256 * high + low) bytes) (fit 0 0 (omega arith)) (fit 1 0 (omega arith)) len, take-append-drop (256 * high + low) bytes)
+        (omega (arith, len, fit 0 0 (omega arith), fit 1 0 (omega arith)), refl)
+
+-- fewer bytes than a length has begin with no whole entry
+pub first_entry-stub : (bytes : List ℕ) → length bytes < 2 → first_entry bytes ≡ None
+unfolding first_entry
+first_entry-stub [] short = refl
+first_entry-stub (high ∷ []) short = refl
+first_entry-stub (high ∷ low ∷ bytes) short = absurd (omega arith)
+
+-- bytes behind the first entry stay behind it
+pub first_entry-append : (bytes more : List ℕ) (first : List ℕ × List ℕ) → first_entry bytes ≡ Some first → first_entry (bytes ++ more) ≡ Some (first.0, first.1 ++ more)
+unfolding first_entry
+first_entry-append [] more first is = absurd (none_is_not first is)
+first_entry-append (high ∷ []) more first is = absurd (none_is_not first is)
+first_entry-append (high ∷ low ∷ bytes) more first is =
+    let found = first_entry-found high low bytes first is in
+    let whole : 256 * high + low ≤ length (bytes ++ more) = omega (arith, length-append bytes more, found.0) in
+    rw (found.1, le-ltb (length (bytes ++ more)) (256 * high + low) whole, take-append-le (256 * high + low) bytes more found.0, drop-append-le (256 * high + low) bytes more found.0) refl

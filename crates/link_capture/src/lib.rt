@@ -1,0 +1,10 @@
+//! Captures: lists of datagrams as bytes, each behind its length in 2 bytes, read and written entry by entry.
+#![tactic(auto)]
+
+mod fault;
+mod reader;
+mod writer;
+
+pub use fault::EntryFault;
+pub use reader::{CaptureReader, next_entry};
+pub use writer::put_entry;

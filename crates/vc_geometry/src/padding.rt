@@ -1,0 +1,42 @@
+ghost use Rattle.std.specs.Prelude.{◌≡◌, ◌+◌, ◌-◌, ◌*◌, ◌/◌, ◌^◌, ◌≤◌, IsTrue};
+ghost use Rattle.vc_types.specs.Limits.{padded};
+ghost use Rattle.vc_types.specs.Subbands.{plane_width, plane_height, padded_width, padded_height};
+ghost use Rattle.vc_types.specs.TransformParameters.{parameters_of};
+ghost use Rattle.vc_types.specs.Video.{side_fits};
+
+use vc_types::{Component, Plan};
+
+/// The width and height of a component's plane, padded up to multiples of 2^depth (ST 2042-1, subband data dimensions).
+pub fn padded(plan: &Plan, c: Component) -> (u32, u32)
+    ensures width { result.0 ≡ padded_width (parameters_of plan.now) c }
+    ensures height { result.1 ≡ padded_height (parameters_of plan.now) c }
+    ensures range { (1 ≤ result.0) × (result.0 ≤ 8192) × (1 ≤ result.1) × (result.1 ≤ 8192) }
+{
+    let (width, height) = size(plan, c);
+    (
+        padded_side(width, plan.depth),
+        padded_side(height, plan.depth),
+    )
+}
+
+// The width and height of a component's plane.
+fn size(plan: &Plan, c: Component) -> (u32, u32)
+    ensures width { result.0 ≡ plane_width plan.now.shape c }
+    ensures height { result.1 ≡ plane_height plan.now.shape c }
+    ensures range { (1 ≤ result.0) × (result.0 ≤ 8192) × (1 ≤ result.1) × (result.1 ≤ 8192) }
+{
+    match c {
+        Component::Y => (plan.shape.luma_width, plan.shape.luma_height),
+        Component::C1 | Component::C2 => (plan.shape.colour_width, plan.shape.colour_height),
+    }
+}
+
+fn padded_side(side: u32, depth: u8) -> u32
+    requires side { (1 ≤ side) × (side ≤ 8192) }
+    requires depth { depth ≤ 5 }
+    ensures value { result ≡ padded side depth }
+    ensures range { (1 ≤ result) × (result ≤ 8192) }
+{
+    let unit = 1u32 << depth;
+    (side + unit - 1) / unit * unit
+}

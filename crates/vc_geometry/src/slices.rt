@@ -1,0 +1,62 @@
+ghost use Rattle.std.specs.Prelude.{◌≡◌, ◌+◌, ◌-◌, ◌*◌, ◌/◌, ◌^◌, ◌<◌, ◌≤◌};
+ghost use Rattle.vc_types.specs.Subbands.{subband_at, slice_rectangle, slice_count, slice_coefficient_count, share, share_start, padded_width, padded_height};
+ghost use Rattle.vc_types.specs.TransformParameters.{parameters_of};
+
+use crate::subbands::{band, bands};
+use vc_types::{Component, Plan, Rect};
+
+/// The part of subband number `b` that belongs to a slice, as a rectangle of the component's padded grid (ST 2042-1, slice
+/// coordinates). It may be empty.
+pub fn slice_rect(plan: &Plan, c: Component, b: u32, slice: u32) -> Rect
+    requires number { b < 1 + 3 * plan.now.depth }
+    requires slice { slice < slice_count (parameters_of plan.now) }
+    ensures value { result ≡ slice_rectangle (parameters_of plan.now) c (subband_at plan.now.depth b) slice }
+    ensures right { result.x + result.width ≤ padded_width (parameters_of plan.now) c }
+    ensures bottom { result.y + result.height ≤ padded_height (parameters_of plan.now) c }
+    ensures range { (result.x + result.width ≤ 8192) × (result.y + result.height ≤ 8192) }
+{
+    let band = band(plan, c, b);
+    let (column, row) = (slice % plan.slices_x, slice / plan.slices_x);
+    let (x, width) = share_of(band.width, plan.slices_x, column);
+    let (y, height) = share_of(band.height, plan.slices_y, row);
+    Rect {
+        x: band.x + x,
+        y: band.y + y,
+        width,
+        height,
+    }
+}
+
+// Where share k of n begins in a length, and how long it is.
+fn share_of(length: u32, n: u32, k: u32) -> (u32, u32)
+    requires share { k < n }
+    ensures from { result.0 ≡ share_start length n k }
+    ensures len { result.1 ≡ share_start length n (k + 1) - share_start length n k }
+    ensures within { result.0 + result.1 ≤ length }
+{
+    let from = start(length, n, k);
+    (from, start(length, n, k + 1) - from)
+}
+
+fn start(length: u32, n: u32, k: u32) -> u32
+    requires some { 0 < n }
+    requires share { k ≤ n }
+    ensures value { result ≡ share_start length n k }
+    ensures within { result ≤ length }
+{
+    (u64::from(length) * u64::from(k) / u64::from(n)) as u32
+}
+
+/// How many coefficients of a component a slice has.
+pub fn slice_len(plan: &Plan, c: Component, slice: u32) -> u32
+    requires slice { slice < slice_count (parameters_of plan.now) }
+    ensures value { result ≡ slice_coefficient_count (parameters_of plan.now) c slice }
+    ensures range { result ≤ 2 ^ 30 }
+{
+    let mut len = 0;
+    for b in 0..bands(plan) {
+        let rect = slice_rect(plan, c, b, slice);
+        len += rect.width * rect.height;
+    }
+    len
+}

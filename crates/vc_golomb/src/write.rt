@@ -1,0 +1,37 @@
+ghost use Rattle.std.specs.Prelude.{◌≡◌, ◌<◌, ◌^◌, ◌++◌, unsigned_abs, OnOk, OnErr};
+ghost use Rattle.vc_types.specs.Codes.{uint_bits, sint_bits};
+ghost use Rattle.vc_golomb.specs.Writing.{WroteFront};
+
+use vc_bits::BitWriter;
+use vc_types::NoMemory;
+
+/// Adds the unsigned code of a number. Where memory runs out, a front of the code stands there.
+pub fn write_uint(w: &mut BitWriter, v: u64) -> Result<(), NoMemory>
+    requires { v < 2 ^ 62 }
+    ensures ok { OnOk result (w.new ≡ w.old ++ uint_bits v) }
+    ensures front { OnErr result (WroteFront (uint_bits v) w.old w.new) }
+{
+    let number = v + 1;
+    let mut place = number.ilog2();
+    'digits: while place > 0 {
+        place -= 1;
+        w.bit(false)?;
+        w.bit((number >> place) % 2 == 1)?;
+    }
+    w.bit(true)
+}
+
+/// Adds the signed code of a number. Where memory runs out, a front of the code stands there.
+pub fn write_sint(w: &mut BitWriter, v: i64) -> Result<(), NoMemory>
+    requires { unsigned_abs v < 2 ^ 62 }
+    ensures ok { OnOk result (w.new ≡ w.old ++ sint_bits v) }
+    ensures front { OnErr result (WroteFront (sint_bits v) w.old w.new) }
+{
+    let magnitude = v.unsigned_abs();
+    write_uint(w, magnitude)?;
+    if magnitude == 0 {
+        Ok(())
+    } else {
+        w.bit(v.is_negative())
+    }
+}

@@ -1,0 +1,41 @@
+use Rattle.std.proofs.Common.{rules, ◌≡◌, ◌+◌, ◌-◌, ◌*◌, ◌/◌, ◌%◌, ◌^◌, ◌<◌, ◌≤◌, ◌≢◌, ℕ, length, take, map, unsigned_abs, pos, ℤ, ◌+ℤ◌, ◌*ℤ◌, slice_index_or, min, to_z, of_z, arith, refl, sym, ap, subst, ◌∙◌, inl, inr, true}
+use Rattle.std.specs.Int.{w128}
+use Rattle.vc_types.specs.Lifting.{line_of}
+use Rattle.vc_types.proofs.CountedSteps.{sum_met, place_met}
+use Rattle.vc_types.proofs.WeightedSums.{sum_below, sum_below_none, sum_below_more}
+use Rattle.vc_lift.specs.Columns.{column_of}
+use Rattle.vc_lift.specs.Steps.{counted_of}
+use Rattle.vc_lift.proofs.Sums.{term_fits, sum_fits, sum_read, sum_bound}
+use Rattle.vc_lift.proofs.columns.weigh_edge.Goals as goal
+
+pub loop-j-init : goal.loop-j-init
+loop-j-init c = record { value = sym (sum_below_none _); bound = search rules }
+
+pub overflow_mul-sum-in-loop-j-2 : goal.overflow_mul-sum-in-loop-j-2
+overflow_mul-sum-in-loop-j-2 c =
+    let k = (2 * c.min-met.result + (1 - c.args.step.now.parity)) * c.args.width + c.args.x in
+    let small : unsigned_abs (line_of c.args.cells.now k) ≤ 2 ^ 112 = c.requires.met.within c.min-met.result (omega arith) in
+    term_fits c.args.step.now.taps.now c.loop-j.j (slice_index_or c.args.cells.now k (pos 0)) (to_z w128 c.loop-j.sum-bits) c.loop-j-test.true c.requires.plain.light small c.loop-j.invariant.bound
+
+pub overflow_add-sum-in-loop-j-2 : goal.overflow_add-sum-in-loop-j-2
+overflow_add-sum-in-loop-j-2 c =
+    let k = (2 * c.min-met.result + (1 - c.args.step.now.parity)) * c.args.width + c.args.x in
+    let small : unsigned_abs (line_of c.args.cells.now k) ≤ 2 ^ 112 = c.requires.met.within c.min-met.result (omega arith) in
+    sum_fits c.args.step.now.taps.now c.loop-j.j (slice_index_or c.args.cells.now k (pos 0)) (to_z w128 c.loop-j.sum-bits) c.loop-j-test.true c.requires.plain.light small c.loop-j.invariant.bound
+
+pub loop-j-preserved : goal.loop-j-preserved
+loop-j-preserved c =
+    let k = (2 * c.min-met.result + (1 - c.args.step.now.parity)) * c.args.width + c.args.x in
+    let x = slice_index_or c.args.cells.now k (pos 0) in
+    let small : unsigned_abs x ≤ 2 ^ 112 = c.requires.met.within c.min-met.result (omega arith) in
+    let sum = to_z w128 c.loop-j.sum-bits in
+    let read = sum_read c.args.step.now.taps.now c.loop-j.j x sum c.loop-j-test.true c.requires.plain.light small c.loop-j.invariant.bound in
+    let met : c.min-met.result ≡ min (c.args.n + c.loop-j.j - c.args.step.now.back) (c.args.half - 1) = omega arith in
+    record {
+      value = rw (read, sum_below_more, ← met, c.loop-j.invariant.value);
+      bound = rw read (sum_bound c.args.step.now.taps.now c.loop-j.j x sum c.loop-j-test.true c.requires.plain.light small c.loop-j.invariant.bound);
+    }
+
+pub returns-clause-value : goal.returns-clause-value
+unfolding sum_met
+returns-clause-value c = let end : c.loop-j.j ≡ length c.args.step.now.taps.now = omega arith in rw (← end) c.loop-j.invariant.value

@@ -1,0 +1,11 @@
+//! Wavelet lifting: lines of samples taken apart and put together in place (ST 2042-1, lifting).
+#![tactic(auto)]
+
+mod columns;
+mod laws;
+mod line;
+mod step;
+
+pub use columns::{analyse_columns, synth_columns};
+pub use laws::{lines_grow_little, lines_stand_alone, synthesis_undoes_analysis};
+pub use line::{analyse, synth};

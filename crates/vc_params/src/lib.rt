@@ -1,0 +1,12 @@
+//! Transform parameters: how a picture was transformed and cut into slices (ST 2042-1, transform parameters).
+#![tactic(auto)]
+
+mod fields;
+mod limits;
+mod matrix;
+mod reader;
+mod slices;
+mod transform;
+
+pub use reader::read_params;
+pub use vc_types::ParamsRefusal;

@@ -1,0 +1,54 @@
+ghost use Rattle.std.specs.Prelude.{◌≡◌};
+ghost use Rattle.vc_types.specs.Fields.{Gives, Answers};
+ghost use Rattle.vc_types.specs.SequenceHeader.{sequence_of};
+ghost use Rattle.vc_types.specs.TransformParameters.{parameters_of, transform_parameters, coded_parameters};
+
+use crate::limits::{padded_luma_fits, picture_shape};
+use crate::matrix::quantisation_matrix;
+use crate::slices::{prefix_bytes, size_scaler, slice_counts};
+use crate::transform::{extended_parameters, wavelet_depth, wavelet_index};
+use vc_bits::BitReader;
+use vc_types::{Header, ParamsRefusal, Plan};
+
+/// The transform parameters at the front of the bytes, of a picture of this header's sequence, and how many bytes
+/// they take.
+pub fn read_params(h: &Header, bytes: &[u8]) -> Result<(Plan, usize), ParamsRefusal>
+    ensures exact { Answers (λ x. (parameters_of x.0, x.1)) result (coded_parameters (sequence_of h.now) bytes.now) }
+{
+    let mut r = BitReader::new(bytes);
+    let plan = parameters(h, &mut r)?;
+    let used = bytes.len().saturating_sub(r.bytes_left());
+    Ok((plan, used))
+}
+
+#[tactic(auto, unfolding(vc_types::specs::TransformParameters::transform_parameters))]
+fn parameters(h: &Header, r: &mut BitReader) -> Result<Plan, ParamsRefusal>
+    ensures { Gives (λ p. parameters_of p) result r.new.left (transform_parameters (sequence_of h.now) r.old.left) }
+{
+    let wavelet = wavelet_index(r)?;
+    let depth = wavelet_depth(r)?;
+    let (wavelet_ho, depth_ho) = extended_parameters(h.major, wavelet, depth, r)?;
+    if wavelet_ho != wavelet || depth_ho != 0 {
+        return Err(ParamsRefusal::Asymmetric);
+    }
+    let (slices_x, slices_y) = slice_counts(r)?;
+    let prefix = prefix_bytes(r)?;
+    let scaler = size_scaler(r)?;
+    let matrix = quantisation_matrix(wavelet, depth, r)?;
+    let shape = picture_shape(h);
+    if !padded_luma_fits(&shape, depth) {
+        return Err(ParamsRefusal::TooLarge);
+    }
+    Ok(Plan {
+        shape,
+        wavelet,
+        wavelet_ho,
+        depth,
+        depth_ho,
+        slices_x,
+        slices_y,
+        prefix,
+        scaler,
+        matrix,
+    })
+}

@@ -1,0 +1,27 @@
+//! The outside: where bytes come from and where they go. A source and a sink tell their bytes where they can,
+//! and count their faults, so that a caller's contract can say what was read and written, and why it stopped.
+#![tactic(auto)]
+
+mod front;
+mod memory_sink;
+mod memory_source;
+mod plain_sink;
+mod plain_source;
+mod sink;
+mod source;
+mod std_sink;
+mod std_source;
+mod whole;
+
+pub use memory_sink::MemSink;
+pub use memory_source::MemSource;
+pub use plain_sink::PlainSink;
+pub use plain_source::PlainSource;
+pub use sink::{Sink, Took, WriteFault};
+pub use source::{Got, Source};
+pub use std_sink::StdSink;
+pub use std_source::StdSource;
+pub use whole::{Filled, fill, write_all};
+
+#[cfg(test)]
+mod tests;

@@ -1,0 +1,51 @@
+ghost use Rattle.std.specs.Prelude.{◌≡◌, None};
+
+use crate::source::{Got, Source};
+use std::io::Read;
+
+// How many bytes one read takes at most.
+const PIECE: usize = 8192;
+
+/// Any reader of std. It tells nothing.
+#[derive(Drop)]
+pub struct StdSource<R> {
+    reader: R,
+    // A reader may write past what it gives, so it writes into a buffer of its own.
+    piece: [u8; PIECE],
+    faults: u64,
+}
+
+impl<R: Read> StdSource<R> {
+    /// The adapter of this reader, with no fault so far.
+    pub fn new(reader: R) -> StdSource<R>
+        ensures { result.faults ≡ 0 }
+    {
+        StdSource {
+            reader,
+            piece: [0; PIECE],
+            faults: 0,
+        }
+    }
+}
+
+impl<R: Read> Source for StdSource<R> {
+    ghost left = { λ _. None };
+
+    ghost faults = { λ s. s.faults };
+
+    fn read(&mut self, buf: &mut [u8]) -> Got {
+        let room = buf.len().min(PIECE);
+        let piece = &mut self.piece[..];
+        match self.reader.read(&mut piece[..room]) {
+            Ok(0) => Got::End,
+            Ok(count) => {
+                buf[..count].copy_from_slice(&piece[..count]);
+                Got::Bytes(count)
+            }
+            Err(_) => {
+                self.faults = self.faults.saturating_add(1);
+                Got::Failed
+            }
+        }
+    }
+}

@@ -1,0 +1,13 @@
+//! The quantisers of high-quality slices, and the default quantisation matrices.
+#![tactic(auto)]
+
+mod laws;
+mod matrix;
+mod quantiser;
+
+pub use laws::{dequantising_never_shrinks, quantisation_is_near};
+pub use matrix::{NoDefault, default_matrix};
+pub use quantiser::{dequant, factor, offset, quant};
+
+#[cfg(test)]
+mod tests;

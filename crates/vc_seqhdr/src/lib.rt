@@ -1,0 +1,10 @@
+//! Sequence headers: what a stream says of its pictures before the first of them (ST 2042-1, sequence header).
+#![tactic(auto)]
+
+mod fields;
+mod formats;
+mod parts;
+mod reader;
+
+pub use reader::read_header;
+pub use vc_types::HeaderRefusal;

@@ -1,0 +1,172 @@
+ghost use Rattle.std.specs.Prelude.{◌≡◌, ◌≤◌, IfOk, IsTrue};
+ghost use Rattle.vc_types.specs.Fields.{Gives};
+ghost use Rattle.vc_types.specs.SequenceHeader.{major_version, profile, frame_size, colour_difference_sampling, scan_format, ratio, clean_area, excursion, custom_signal_range, signal_range_of, colour_part, colour_specification};
+ghost use Rattle.vc_types.specs.Video.{excursion_fits};
+ghost use Rattle.vc_seqhdr.specs.Formats.{format_view};
+
+use crate::fields::{flag, index, number};
+use crate::formats::{Format, preset_range};
+use vc_bits::BitReader;
+use vc_types::{HeaderRefusal, Sampling, SignalRange};
+
+#[tactic(auto, unfolding(vc_types::specs::SequenceHeader::major_version))]
+pub fn major_version(r: &mut BitReader) -> Result<u32, HeaderRefusal>
+    ensures { Gives (λ n. n) result r.new.left (major_version r.old.left) }
+{
+    let major = number(r)?;
+    if major != 2 && major != 3 {
+        return Err(HeaderRefusal::Version);
+    }
+    Ok(major)
+}
+
+#[tactic(auto, unfolding(vc_types::specs::SequenceHeader::profile))]
+pub fn profile(r: &mut BitReader) -> Result<u32, HeaderRefusal>
+    ensures { Gives (λ n. n) result r.new.left (profile r.old.left) }
+{
+    let profile = number(r)?;
+    if profile != 3 {
+        return Err(HeaderRefusal::Profile);
+    }
+    Ok(profile)
+}
+
+/// Width and height of a frame.
+#[tactic(auto, unfolding(vc_types::specs::SequenceHeader::frame_size))]
+pub fn frame_size(format: &Format, r: &mut BitReader) -> Result<(u32, u32), HeaderRefusal>
+    ensures { Gives (λ x. (x.0, x.1)) result r.new.left (frame_size (format_view format.now) r.old.left) }
+{
+    if flag(r)? {
+        let width = number(r)?;
+        let height = number(r)?;
+        return Ok((width, height));
+    }
+    Ok((format.width, format.height))
+}
+
+#[tactic(auto, unfolding(vc_types::specs::SequenceHeader::colour_difference_sampling))]
+pub fn sampling(format: &Format, r: &mut BitReader) -> Result<Sampling, HeaderRefusal>
+    ensures { Gives (λ x. x) result r.new.left (colour_difference_sampling (format_view format.now) r.old.left) }
+{
+    if !flag(r)? {
+        return Ok(format.sampling);
+    }
+    match index(r, 2, HeaderRefusal::SamplingIndex)? {
+        0 => Ok(Sampling::S444),
+        1 => Ok(Sampling::S422),
+        _ => Ok(Sampling::S420),
+    }
+}
+
+/// Whether frames are interlaced.
+#[tactic(auto, unfolding(vc_types::specs::SequenceHeader::scan_format))]
+pub fn scan_format(format: &Format, r: &mut BitReader) -> Result<bool, HeaderRefusal>
+    ensures { Gives (λ x. x) result r.new.left (scan_format (format_view format.now) r.old.left) }
+{
+    if !flag(r)? {
+        return Ok(format.interlaced);
+    }
+    Ok(index(r, 1, HeaderRefusal::ScanIndex)? == 1)
+}
+
+/// A frame rate or a pixel aspect ratio.
+#[tactic(auto, unfolding(vc_types::specs::SequenceHeader::ratio))]
+pub fn ratio(r: &mut BitReader) -> Result<(), HeaderRefusal>
+    ensures { Gives (λ x. x) result r.new.left (ratio r.old.left) }
+{
+    if flag(r)? {
+        let preset = number(r)?;
+        if preset == 0 {
+            let _numerator = number(r)?;
+            let _denominator = number(r)?;
+        }
+    }
+    Ok(())
+}
+
+#[tactic(auto, unfolding(vc_types::specs::SequenceHeader::clean_area))]
+pub fn clean_area(r: &mut BitReader) -> Result<(), HeaderRefusal>
+    ensures { Gives (λ x. x) result r.new.left (clean_area r.old.left) }
+{
+    if flag(r)? {
+        let _width = number(r)?;
+        let _height = number(r)?;
+        let _left = number(r)?;
+        let _top = number(r)?;
+    }
+    Ok(())
+}
+
+#[tactic(auto, unfolding(vc_types::specs::SequenceHeader::excursion))]
+fn excursion(r: &mut BitReader) -> Result<u32, HeaderRefusal>
+    ensures gives { Gives (λ n. n) result r.new.left (excursion r.old.left) }
+    ensures fits { IfOk result (λ n. IsTrue (excursion_fits n)) }
+{
+    let excursion = number(r)?;
+    if excursion < 1 || excursion > 65535 {
+        return Err(HeaderRefusal::SignalRange);
+    }
+    Ok(excursion)
+}
+
+#[tactic(auto, unfolding(vc_types::specs::SequenceHeader::custom_signal_range))]
+fn custom_range(r: &mut BitReader) -> Result<SignalRange, HeaderRefusal>
+    ensures gives { Gives (λ x. x) result r.new.left (custom_signal_range r.old.left) }
+    ensures luma { IfOk result (λ x. IsTrue (excursion_fits x.luma_excursion)) }
+    ensures colour { IfOk result (λ x. IsTrue (excursion_fits x.colour_excursion)) }
+{
+    let luma_offset = number(r)?;
+    let luma_excursion = excursion(r)?;
+    let colour_offset = number(r)?;
+    let colour_excursion = excursion(r)?;
+    Ok(SignalRange {
+        luma_offset,
+        luma_excursion,
+        colour_offset,
+        colour_excursion,
+    })
+}
+
+#[tactic(auto, unfolding(vc_types::specs::SequenceHeader::signal_range_of))]
+pub fn signal_range(format: &Format, r: &mut BitReader) -> Result<SignalRange, HeaderRefusal>
+    requires low { 1 ≤ format.now.range }
+    requires high { format.now.range ≤ 4 }
+    ensures gives { Gives (λ x. x) result r.new.left (signal_range_of (format_view format.now) r.old.left) }
+    ensures luma { IfOk result (λ x. IsTrue (excursion_fits x.luma_excursion)) }
+    ensures colour { IfOk result (λ x. IsTrue (excursion_fits x.colour_excursion)) }
+{
+    if !flag(r)? {
+        return Ok(preset_range(format.range));
+    }
+    let preset = index(r, 4, HeaderRefusal::SignalRange)?;
+    if preset == 0 {
+        return custom_range(r);
+    }
+    Ok(preset_range(preset))
+}
+
+/// Colour primaries, a colour matrix or a transfer function.
+#[tactic(auto, unfolding(vc_types::specs::SequenceHeader::colour_part))]
+fn colour_part(r: &mut BitReader) -> Result<(), HeaderRefusal>
+    ensures { Gives (λ x. x) result r.new.left (colour_part r.old.left) }
+{
+    if flag(r)? {
+        let _preset = number(r)?;
+    }
+    Ok(())
+}
+
+#[tactic(auto, unfolding(vc_types::specs::SequenceHeader::colour_specification))]
+pub fn colour_specification(r: &mut BitReader) -> Result<(), HeaderRefusal>
+    ensures { Gives (λ x. x) result r.new.left (colour_specification r.old.left) }
+{
+    if flag(r)? {
+        let preset = number(r)?;
+        if preset == 0 {
+            colour_part(r)?;
+            colour_part(r)?;
+            colour_part(r)?;
+        }
+    }
+    Ok(())
+}

@@ -1,0 +1,78 @@
+-- Transform parameters depend on nothing but their own bits, and on nothing but their own bytes.
+use Rattle.std.proofs.Common.{◌≡◌, ℕ, zero, suc, ◌+◌, ◌-◌, ◌*◌, ◌/◌, ◌^◌, ◌<◌, ◌≤◌, Bool, true, false, List, [], ◌∷◌, ◌++◌, length, take, drop, Option, Some, None, Result, Ok, Err, refl, sym, ap, ◌∙◌, append_assoc, arith}
+use Rattle.std.specs.Prelude.{if◌then◌else◌, nat_le, ◌==◌, ◌&&◌}
+use Rattle.vc_types.specs.declared.refusal.ParamsRefusal.{ParamsRefusal}
+use Rattle.vc_types.specs.declared.refusal.ParamsRefusal.TheVariants as refusals
+use Rattle.vc_types.specs.Fields.{Field, ◌>>=◌, give, skip, refuse, tested, flag, behind_flag}
+use Rattle.vc_types.specs.Limits.{slices_fit, padded_luma_fits}
+use Rattle.vc_types.specs.Quantisation.{filled_matrix, default_matrix}
+use Rattle.vc_types.specs.SequenceHeader.{Sequence, picture_shape}
+use Rattle.vc_types.specs.TransformParameters.{ParamsField, Parameters, number, wavelet_index, wavelet_depth, extended_parameters, slice_counts, prefix_bytes, size_scaler, matrix_value, matrix_values, matrix_by_default, quantisation_matrix, transform_parameters}
+use Rattle.vc_types.proofs.OwnBits.{ReadsOwn, give_own, refuse_own, then_own, tested_own, next_own, number_own, behind_flag_own}
+
+one_number : ReadsOwn number
+unfolding number
+one_number = number_own refusals.Short refusals.TooLarge (2 ^ 32 - 1)
+
+wavelet_own : ReadsOwn wavelet_index
+unfolding wavelet_index
+wavelet_own = tested_own (λ n. nat_le n 6) refusals.Wavelet number one_number
+
+depth_own : ReadsOwn wavelet_depth
+unfolding wavelet_depth
+depth_own = tested_own (λ n. nat_le 1 n && nat_le n 5) refusals.Depth number one_number
+
+choice_own : {X : Type 0} (b : Bool) (field other : ParamsField X) → ReadsOwn field → ReadsOwn other → ReadsOwn (if b then field else other)
+choice_own true field other p q = p
+choice_own false field other p q = q
+
+extended_own : (major wavelet depth : ℕ) → ReadsOwn (extended_parameters major wavelet depth)
+unfolding extended_parameters
+extended_own major wavelet depth = choice_own (major == 3) _ (give (wavelet, 0))
+    (then_own (behind_flag refusals.Short wavelet wavelet_index) _ (behind_flag_own refusals.Short wavelet wavelet_index wavelet_own)
+    (λ across. then_own (behind_flag refusals.Short 0 (tested (λ n. nat_le (depth + n) 5) refusals.Depth number)) (λ levels. give (across, levels)) (behind_flag_own refusals.Short 0 (tested (λ n. nat_le (depth + n) 5) refusals.Depth number) (tested_own (λ n. nat_le (depth + n) 5) refusals.Depth number one_number))
+    (λ levels. give_own (across, levels))))
+    (give_own (wavelet, 0))
+
+counts_own : ReadsOwn slice_counts
+unfolding slice_counts
+counts_own = tested_own (λ n. slices_fit n.0 n.1) refusals.Slices _ (then_own number _ one_number (λ across. then_own number (λ down. give (across, down)) one_number (λ down. give_own (across, down))))
+
+prefix_own : ReadsOwn prefix_bytes
+unfolding prefix_bytes
+prefix_own = tested_own (λ n. nat_le n 65535) refusals.SliceBytes number one_number
+
+scaler_own : ReadsOwn size_scaler
+unfolding size_scaler
+scaler_own = tested_own (λ n. nat_le 1 n && nat_le n 65535) refusals.SliceBytes number one_number
+
+value_own : ReadsOwn matrix_value
+unfolding matrix_value
+value_own = tested_own (λ n. nat_le n 127) refusals.Matrix number one_number
+
+values_own : (n : ℕ) → ReadsOwn (matrix_values n)
+unfolding matrix_values
+values_own zero = give_own []
+values_own (suc n) = then_own matrix_value _ value_own (λ value. then_own (matrix_values n) (λ values. give (value ∷ values)) (values_own n) (λ values. give_own (value ∷ values)))
+
+default_own : (matrix : Option (List ℕ)) → ReadsOwn (matrix_by_default matrix)
+default_own None = refuse_own refusals.NoDefault
+default_own (Some matrix) = give_own matrix
+
+matrix_own : (wavelet depth : ℕ) → ReadsOwn (quantisation_matrix wavelet depth)
+unfolding quantisation_matrix
+matrix_own wavelet depth = then_own (flag refusals.Short) _ (next_own refusals.Short)
+    (λ custom. choice_own custom _ (matrix_by_default (default_matrix wavelet depth)) (then_own (matrix_values (1 + 3 * depth)) (λ values. give (filled_matrix values)) (values_own (1 + 3 * depth)) (λ values. give_own (filled_matrix values))) (default_own (default_matrix wavelet depth)))
+
+pub parameters_own : (sequence : Sequence) → ReadsOwn (transform_parameters sequence)
+unfolding transform_parameters
+parameters_own sequence =
+    then_own wavelet_index _ wavelet_own (λ wavelet.
+    then_own wavelet_depth _ depth_own (λ depth.
+    then_own (extended_parameters sequence.major wavelet depth) _ (extended_own sequence.major wavelet depth) (λ across.
+    then_own (if across.0 == wavelet && across.1 == 0 then skip else refuse refusals.Asymmetric) _ (choice_own (across.0 == wavelet && across.1 == 0) skip (refuse refusals.Asymmetric) (give_own tt) (refuse_own refusals.Asymmetric)) (λ symmetric.
+    then_own slice_counts _ counts_own (λ slices.
+    then_own prefix_bytes _ prefix_own (λ prefix.
+    then_own size_scaler _ scaler_own (λ scaler.
+    then_own (quantisation_matrix wavelet depth) _ (matrix_own wavelet depth) (λ matrix.
+    choice_own (padded_luma_fits (picture_shape sequence) depth) _ (refuse refusals.TooLarge) (give_own _) (refuse_own refusals.TooLarge)))))))))

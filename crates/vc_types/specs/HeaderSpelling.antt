@@ -1,0 +1,147 @@
+-- The spelling of a sequence header (ST 2042-1, sequence header): which of its parts are coded and by what numbers, the
+-- bits that they are written as, and the value that they stand for.
+use Rattle.std.specs.Prelude.{◌≡◌, ℕ, ◌<◌, ◌≤◌, ◌-◌, ◌^◌, ◌⊎◌, Bool, List, [], ◌∷◌, ◌++◌, Option, Some, None, IsTrue, IfSome, unwrap_or, if◌then◌else◌}
+use Rattle.vc_types.specs.Bits.{digit_of}
+use Rattle.vc_types.specs.Codes.{uint_bits}
+use Rattle.vc_types.specs.Fields.{flagged_bits, flagged_value, joined, pair_bits}
+use Rattle.vc_types.specs.SequenceHeader.{Sequence}
+use Rattle.vc_types.specs.Video.{format_of, range_of, signal_range, dimensions_fit, excursion_fits}
+use Rattle.vc_types.specs.declared.video.Sampling.{Sampling}
+use Rattle.vc_types.specs.declared.video.Sampling.TheVariants.{S444, S422, S420}
+use Rattle.vc_types.specs.declared.video.SignalRange.{SignalRange}
+
+-- ---- parts
+
+-- the index of a preset, or what is coded in its place behind the index 0
+pub data Choice (A : Type 0) : Type 0 where
+  Preset : ℕ → Choice A
+  Custom : A → Choice A
+
+abbrev pub choice_bits : {A : Type 0} → (A → List Bool) → Choice A → List Bool
+choice_bits custom (Preset index) = uint_bits index
+choice_bits custom (Custom a) = uint_bits 0 ++ custom a
+
+abbrev pub sampling_index : Sampling → ℕ
+sampling_index S444 = 0
+sampling_index S422 = 1
+sampling_index S420 = 2
+
+-- the visible part of a frame
+pub record CleanArea : Type 0 where
+  pub width : ℕ
+  pub height : ℕ
+  pub left : ℕ
+  pub top : ℕ
+
+abbrev pub area_bits : CleanArea → List Bool
+area_bits a = joined (uint_bits a.width ∷ uint_bits a.height ∷ uint_bits a.left ∷ uint_bits a.top ∷ [])
+
+abbrev pub range_bits : SignalRange → List Bool
+range_bits r = joined (uint_bits r.luma_offset ∷ uint_bits r.luma_excursion ∷ uint_bits r.colour_offset ∷ uint_bits r.colour_excursion ∷ [])
+
+-- colour primaries, colour matrix and transfer function
+pub record Colour : Type 0 where
+  pub primaries : Option ℕ
+  pub matrix : Option ℕ
+  pub transfer : Option ℕ
+
+abbrev pub colour_bits : Colour → List Bool
+colour_bits c = joined (flagged_bits uint_bits c.primaries ∷ flagged_bits uint_bits c.matrix ∷ flagged_bits uint_bits c.transfer ∷ [])
+
+-- ---- a header
+
+pub record HeaderSpelling : Type 0 where
+  pub major : ℕ
+  pub minor : ℕ
+  pub level : ℕ
+  pub base : ℕ
+  pub size : Option (ℕ × ℕ)
+  pub sampling : Option Sampling
+  pub interlaced : Option Bool
+  pub frame_rate : Option (Choice (ℕ × ℕ))
+  pub aspect_ratio : Option (Choice (ℕ × ℕ))
+  pub clean_area : Option CleanArea
+  pub range : Option (Choice SignalRange)
+  pub colour : Option (Choice Colour)
+  pub fields : Bool
+
+-- the fields, written in order; the profile is 3
+abbrev pub header_bits : HeaderSpelling → List Bool
+header_bits s = joined (
+    uint_bits s.major ∷
+    uint_bits s.minor ∷
+    uint_bits 3 ∷
+    uint_bits s.level ∷
+    uint_bits s.base ∷
+    flagged_bits pair_bits s.size ∷
+    flagged_bits (λ sampling. uint_bits (sampling_index sampling)) s.sampling ∷
+    flagged_bits (λ interlaced. uint_bits (digit_of interlaced)) s.interlaced ∷
+    flagged_bits (choice_bits pair_bits) s.frame_rate ∷
+    flagged_bits (choice_bits pair_bits) s.aspect_ratio ∷
+    flagged_bits area_bits s.clean_area ∷
+    flagged_bits (choice_bits range_bits) s.range ∷
+    flagged_bits (choice_bits colour_bits) s.colour ∷
+    uint_bits (digit_of s.fields) ∷
+    [])
+
+abbrev pub chosen_range : Choice SignalRange → SignalRange
+chosen_range (Preset index) = range_of index
+chosen_range (Custom range) = range
+
+-- what the header says: parts that aren't coded are those of the base video format
+abbrev pub spelled_header : HeaderSpelling → Sequence
+spelled_header s = record {
+  major = s.major;
+  minor = s.minor;
+  level = s.level;
+  base = s.base;
+  width = (unwrap_or s.size ((format_of s.base).width, (format_of s.base).height)).0;
+  height = (unwrap_or s.size ((format_of s.base).width, (format_of s.base).height)).1;
+  sampling = unwrap_or s.sampling (format_of s.base).sampling;
+  interlaced = unwrap_or s.interlaced (format_of s.base).interlaced;
+  top_first = (format_of s.base).top_first;
+  range = flagged_value (range_of (format_of s.base).range) chosen_range s.range;
+  fields = s.fields;
+}
+
+-- ---- which spellings are accepted
+
+abbrev pub IsNumber : ℕ → Type 0
+IsNumber n = n ≤ 2 ^ 32 - 1
+
+abbrev pub IsChoice : {A : Type 0} → ℕ → (A → Type 0) → Choice A → Type 0
+IsChoice limit IsCustom (Preset index) = (0 < index) × (index ≤ limit)
+IsChoice limit IsCustom (Custom a) = IsCustom a
+
+abbrev pub ArePair : ℕ × ℕ → Type 0
+ArePair p = IsNumber p.0 × IsNumber p.1
+
+pub record IsArea (a : CleanArea) : Type 0 where
+  pub width : IsNumber a.width
+  pub height : IsNumber a.height
+  pub left : IsNumber a.left
+  pub top : IsNumber a.top
+
+pub record IsRange (r : SignalRange) : Type 0 where
+  pub luma_offset : IsNumber r.luma_offset
+  pub luma_excursion : IsTrue (excursion_fits r.luma_excursion)
+  pub colour_offset : IsNumber r.colour_offset
+  pub colour_excursion : IsTrue (excursion_fits r.colour_excursion)
+
+pub record IsColour (c : Colour) : Type 0 where
+  pub primaries : IfSome c.primaries IsNumber
+  pub matrix : IfSome c.matrix IsNumber
+  pub transfer : IfSome c.transfer IsNumber
+
+pub record IsHeader (s : HeaderSpelling) : Type 0 where
+  pub major : (s.major ≡ 2) ⊎ (s.major ≡ 3)
+  pub minor : IsNumber s.minor
+  pub level : IsNumber s.level
+  pub base : s.base ≤ 16
+  pub size : IfSome s.size ArePair
+  pub frame_rate : IfSome s.frame_rate (IsChoice (2 ^ 32 - 1) ArePair)
+  pub aspect_ratio : IfSome s.aspect_ratio (IsChoice (2 ^ 32 - 1) ArePair)
+  pub clean_area : IfSome s.clean_area IsArea
+  pub range : IfSome s.range (IsChoice 4 IsRange)
+  pub colour : IfSome s.colour (IsChoice (2 ^ 32 - 1) IsColour)
+  pub dimensions : IsTrue (dimensions_fit (spelled_header s).width (spelled_header s).height (spelled_header s).sampling s.fields)

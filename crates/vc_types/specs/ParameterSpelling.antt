@@ -1,0 +1,82 @@
+-- The spelling of transform parameters (ST 2042-1, transform parameters): which of their parts are coded and by what
+-- numbers, the bits that they are written as, and the value that they stand for.
+use Rattle.std.specs.Prelude.{◌≡◌, ℕ, ◌+◌, ◌*◌, ◌≤◌, Bool, true, false, List, [], ◌∷◌, length, Option, Some, None, IsTrue, IfSome, IsSome, MatchOption, unwrap_or, ◌==◌, if◌then◌else◌}
+use Rattle.std.specs.List.{flat_map}
+use Rattle.vc_types.specs.Codes.{uint_bits}
+use Rattle.vc_types.specs.Fields.{flagged_bits, flagged_value, joined, pair_bits}
+use Rattle.vc_types.specs.Limits.{slices_fit, slice_bytes_fit, padded_luma_fits, matrix_fits}
+use Rattle.vc_types.specs.Quantisation.{default_matrix, filled_matrix}
+use Rattle.vc_types.specs.SequenceHeader.{Sequence, picture_shape}
+use Rattle.vc_types.specs.TransformParameters.{Parameters}
+
+-- The wavelet and the depth across are coded by major version 3 alone; the matrix has LL, then HL, LH and HH of each
+-- level upwards.
+pub record ParameterSpelling : Type 0 where
+  pub wavelet : ℕ
+  pub depth : ℕ
+  pub wavelet_ho : Option ℕ
+  pub depth_ho : Option ℕ
+  pub slices_x : ℕ
+  pub slices_y : ℕ
+  pub prefix : ℕ
+  pub scaler : ℕ
+  pub matrix : Option (List ℕ)
+
+abbrev pub extension_bits : ℕ → Option ℕ × Option ℕ → List Bool
+extension_bits major e = if major == 3 then joined (flagged_bits uint_bits e.0 ∷ flagged_bits uint_bits e.1 ∷ []) else []
+
+abbrev pub numbers_bits : List ℕ → List Bool
+numbers_bits numbers = flat_map uint_bits numbers
+
+-- the fields, written in order
+abbrev pub parameter_bits : ℕ → ParameterSpelling → List Bool
+parameter_bits major s = joined (
+    uint_bits s.wavelet ∷
+    uint_bits s.depth ∷
+    extension_bits major (s.wavelet_ho, s.depth_ho) ∷
+    pair_bits (s.slices_x, s.slices_y) ∷
+    uint_bits s.prefix ∷
+    uint_bits s.scaler ∷
+    flagged_bits numbers_bits s.matrix ∷
+    [])
+
+-- the custom matrix, or the default one of the wavelet at the depth
+abbrev pub chosen_matrix : ParameterSpelling → List ℕ
+chosen_matrix s = flagged_value (unwrap_or (default_matrix s.wavelet s.depth) []) filled_matrix s.matrix
+
+-- what the parameters of a picture of this sequence say
+abbrev pub spelled_parameters : Sequence → ParameterSpelling → Parameters
+spelled_parameters sequence s = record {
+  shape = picture_shape sequence;
+  wavelet = s.wavelet;
+  wavelet_ho = s.wavelet;
+  depth = s.depth;
+  depth_ho = 0;
+  slices_x = s.slices_x;
+  slices_y = s.slices_y;
+  prefix = s.prefix;
+  scaler = s.scaler;
+  matrix = chosen_matrix s;
+}
+
+-- ---- which spellings are accepted
+
+-- a part that only an extended header's parameters may code, and that then has this number
+abbrev pub IsExtension : Bool → ℕ → Option ℕ → Type 0
+IsExtension true number part = IfSome part (λ n. n ≡ number)
+IsExtension false number part = part ≡ None
+
+pub record IsMatrix (depth : ℕ) (values : List ℕ) : Type 0 where
+  pub many : length values ≡ 1 + 3 * depth
+  pub small : IsTrue (matrix_fits values)
+
+pub record AreParameters (sequence : Sequence) (s : ParameterSpelling) : Type 0 where
+  pub wavelet : s.wavelet ≤ 6
+  pub some_levels : 1 ≤ s.depth
+  pub few_levels : s.depth ≤ 5
+  pub wavelet_ho : IsExtension (sequence.major == 3) s.wavelet s.wavelet_ho
+  pub depth_ho : IsExtension (sequence.major == 3) 0 s.depth_ho
+  pub slices : IsTrue (slices_fit s.slices_x s.slices_y)
+  pub slice_bytes : IsTrue (slice_bytes_fit s.prefix s.scaler)
+  pub matrix : MatchOption s.matrix (IsSome (default_matrix s.wavelet s.depth)) (IsMatrix s.depth)
+  pub padded_luma : IsTrue (padded_luma_fits (picture_shape sequence) s.depth)
