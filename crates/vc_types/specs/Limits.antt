@@ -1,5 +1,5 @@
 -- What is decoded: this project's limits on pictures, slices and matrices.
-use Rattle.std.specs.Prelude.{ℕ, ◌+◌, ◌-◌, ◌*◌, ◌/◌, ◌^◌, Bool, ◌&&◌, nat_le, List, ◌==◌, drop}
+use Rattle.std.specs.Prelude.{ℕ, ◌+◌, ◌-◌, ◌*◌, ◌/◌, ◌^◌, Bool, ◌&&◌, nat_le, List}
 use Rattle.std.specs.List.{list_all}
 use Rattle.vc_types.specs.declared.shape.Shape.{Shape}
 use Rattle.vc_types.specs.Video.{side_fits}
@@ -31,7 +31,3 @@ padded_luma_fits s depth = nat_le (padded s.luma_width depth * padded s.luma_hei
 
 abbrev pub matrix_fits : List ℕ → Bool
 matrix_fits matrix = list_all (λ value. nat_le value 127) matrix
-
--- entries that no subband uses are 0
-abbrev pub matrix_ends : ℕ → List ℕ → Bool
-matrix_ends depth matrix = list_all (λ value. value == 0) (drop (1 + 3 * depth) matrix)

@@ -1,12 +1,12 @@
 -- The spelling of transform parameters (ST 2042-1, transform parameters): which of their parts are coded and by what
 -- numbers, the bits that they are written as, and the value that they stand for.
-use Rattle.std.specs.Prelude.{◌≡◌, ℕ, ◌+◌, ◌*◌, ◌≤◌, Bool, true, false, List, [], ◌∷◌, length, take, Option, Some, None, IsTrue, IfSome, IsSome, MatchOption, unwrap_or, ◌==◌, if◌then◌else◌}
+use Rattle.std.specs.Prelude.{◌≡◌, ℕ, ◌+◌, ◌*◌, ◌≤◌, Bool, true, false, List, [], ◌∷◌, length, Option, Some, None, IsTrue, IfSome, IsSome, MatchOption, unwrap_or, ◌==◌, if◌then◌else◌}
 use Rattle.std.specs.List.{flat_map}
 use Rattle.std.specs.Str.{bytes_eq}
 use Rattle.vc_types.specs.Codes.{uint_bits}
 use Rattle.vc_types.specs.Fields.{flagged_bits, flagged_value, joined, pair_bits, Begins}
 use Rattle.vc_types.specs.Limits.{slices_fit, slice_bytes_fit, padded_luma_fits, matrix_fits}
-use Rattle.vc_types.specs.Quantisation.{default_matrix, filled_matrix}
+use Rattle.vc_types.specs.Quantisation.{default_matrix, filled_matrix, used_entries}
 use Rattle.vc_types.specs.SequenceHeader.{Sequence, picture_shape}
 use Rattle.vc_types.specs.TransformParameters.{Parameters}
 
@@ -104,5 +104,5 @@ encoder_parameters p = record {
   slices_y = p.slices_y;
   prefix = p.prefix;
   scaler = p.scaler;
-  matrix = if is_default (default_matrix p.wavelet p.depth) p.matrix then None else Some (take (1 + 3 * p.depth) p.matrix);
+  matrix = if is_default (default_matrix p.wavelet p.depth) p.matrix then None else Some (used_entries p.depth p.matrix);
 }
