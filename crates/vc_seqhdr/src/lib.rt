@@ -10,3 +10,6 @@ mod writer;
 pub use reader::read_header;
 pub use vc_types::HeaderRefusal;
 pub use writer::write_header;
+
+#[cfg(test)]
+mod tests;

@@ -13,8 +13,8 @@ returns c =
     let picture : List Bool = joined ((true ∷ pair_bits (h.width, h.height)) ∷ (true ∷ uint_bits (sampling_index h.sampling)) ∷ (true ∷ uint_bits (digit_of h.fields)) ∷ []) in
     let colour : List Bool = joined ((false ∷ []) ∷ (false ∷ []) ∷ (false ∷ []) ∷ (true ∷ uint_bits (preset_of h.range)) ∷ (false ∷ []) ∷ uint_bits (digit_of h.fields) ∷ []) in
     let version : c.write_version.new.w ≡ joined (uint_bits 3 ∷ uint_bits 0 ∷ uint_bits 3 ∷ uint_bits 0 ∷ uint_bits (encoder_base h.top_first) ∷ []) =
-        c.in_ok-write_version.ensures ∙ ap (λ (l : List Bool). l ++ joined (uint_bits 3 ∷ uint_bits 0 ∷ uint_bits 3 ∷ uint_bits 0 ∷ uint_bits h.base ∷ [])) c.new-w.ensures ∙ ap (λ (base : ℕ). joined (uint_bits 3 ∷ uint_bits 0 ∷ uint_bits 3 ∷ uint_bits 0 ∷ uint_bits base ∷ [])) c.requires in
+    c.in_ok-write_version.ensures ∙ ap (λ (l : List Bool). l ++ joined (uint_bits 3 ∷ uint_bits 0 ∷ uint_bits 3 ∷ uint_bits 0 ∷ uint_bits h.base ∷ [])) c.new-w.ensures ∙ ap (λ (base : ℕ). joined (uint_bits 3 ∷ uint_bits 0 ∷ uint_bits 3 ∷ uint_bits 0 ∷ uint_bits base ∷ [])) c.requires in
     let whole : c.write_colour.new.w ≡ header_bits (encoder_header (sequence_of h)) =
-        c.in_ok-write_colour.ensures ∙ ap (λ (l : List Bool). l ++ colour) (c.in_ok-write_picture.ensures ∙ ap (λ (l : List Bool). l ++ picture) version)
-        ∙ whole_header (uint_bits 3) (uint_bits 0) (uint_bits (encoder_base h.top_first)) (uint_bits h.width) (uint_bits h.height) (uint_bits (sampling_index h.sampling)) (uint_bits (digit_of h.fields)) (uint_bits (preset_of h.range)) in
+    c.in_ok-write_colour.ensures ∙ ap (λ (l : List Bool). l ++ colour) (c.in_ok-write_picture.ensures ∙ ap (λ (l : List Bool). l ++ picture) version)
+    ∙ whole_header (uint_bits 3) (uint_bits 0) (uint_bits (encoder_base h.top_first)) (uint_bits h.width) (uint_bits h.height) (uint_bits (sampling_index h.sampling)) (uint_bits (digit_of h.fields)) (uint_bits (preset_of h.range)) in
     c.finish.ensures ∙ ap filled_up whole
