@@ -17,6 +17,6 @@ returns c =
     let extended : c.write_extension.new.w ≡ (uint_bits p.wavelet ++ uint_bits p.depth) ++ extension = c.in_ok-write_extension.ensures ∙ ap (λ (l : List Bool). l ++ extension) depth in
     let cut : c.write_slices.new.w ≡ ((uint_bits p.wavelet ++ uint_bits p.depth) ++ extension) ++ slices = c.in_ok-write_slices.ensures ∙ ap (λ (l : List Bool). l ++ slices) extended in
     let whole : c.write_matrix.new.w ≡ parameter_bits c.args.major (encoder_parameters (parameters_of p)) =
-        c.in_ok-write_matrix.ensures ∙ ap (λ (l : List Bool). l ++ matrix) cut
-        ∙ whole_parameters (uint_bits p.wavelet) (uint_bits p.depth) extension (uint_bits p.slices_x) (uint_bits p.slices_y) (uint_bits p.prefix) (uint_bits p.scaler) matrix in
+    c.in_ok-write_matrix.ensures ∙ ap (λ (l : List Bool). l ++ matrix) cut
+    ∙ whole_parameters (uint_bits p.wavelet) (uint_bits p.depth) extension (uint_bits p.slices_x) (uint_bits p.slices_y) (uint_bits p.prefix) (uint_bits p.scaler) matrix in
     c.finish.ensures ∙ ap filled_up whole
