@@ -71,7 +71,7 @@ one_more_held count place matrix left all v rest held more few small h =
     next_zeros : (n : ℕ) (xs ys : List ℕ) → drop n xs ≡ drop n ys → drop (n + 1) xs ≡ drop (n + 1) ys
     next_zeros n xs ys e = sym (drop-drop 1 n xs) ∙ ap (drop 1) e ∙ drop-drop 1 n ys
 
-pub all_held : (count : ℕ) (matrix : List ℕ) (left all : List Bool) → HoldsValues count count matrix left all → count ≤ 16 → (custom_matrix count all ≡ Ok (matrix, left)) × IsTrue (matrix_fits matrix)
+pub all_held : (count : ℕ) (matrix : List ℕ) (left all : List Bool) → HoldsValues count count matrix left all → count ≤ 16 → (custom_matrix count all ≡ Ok (matrix, left)) × IsTrue (matrix_fits matrix) × (filled_matrix (take count matrix) ≡ matrix)
 unfolding matrix_values
 all_held count matrix left all held few =
     let len = held.long in
@@ -81,7 +81,7 @@ all_held count matrix left all held few =
     let whole : matrix ≡ filled_matrix (take count matrix) =
     sym (take-append-drop count matrix) ∙ ap (λ (l : List ℕ). take count matrix ++ l) (held.zeros ∙ ap (λ (n : ℕ). drop n (replicate 16 0)) (sym long)) ∙ filled-front (take count matrix) (omega arith) in
     let values : matrix_values count all ≡ Ok (take count matrix, left) = read ∙ ap (λ (l : List ℕ). Ok (l, left)) (append-nil (take count matrix)) in
-    (ap (λ (r : Read). and_then r (λ read. Ok (filled_matrix read.0, read.1))) values ∙ ap (λ (l : List ℕ). Ok (l, left)) (sym whole), subst (λ (m : List ℕ). IsTrue (matrix_fits m)) (sym whole) (matrix_fits-filled (take count matrix) held.small))
+    (ap (λ (r : Read). and_then r (λ read. Ok (filled_matrix read.0, read.1))) values ∙ ap (λ (l : List ℕ). Ok (l, left)) (sym whole), subst (λ (m : List ℕ). IsTrue (matrix_fits m)) (sym whole) (matrix_fits-filled (take count matrix) held.small), sym whole)
 
 pub value_refused : (count place : ℕ) (matrix : List ℕ) (left all : List Bool) (refusal : ParamsRefusal) → HoldsValues count place matrix left all → place < count → matrix_value left ≡ Err refusal → custom_matrix count all ≡ Err refusal
 value_refused count place matrix left all refusal held more h =

@@ -1,1 +1,2 @@
 pub mod CustomValues
+pub mod ParameterParts

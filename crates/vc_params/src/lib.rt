@@ -7,6 +7,11 @@ mod matrix;
 mod reader;
 mod slices;
 mod transform;
+mod writer;
 
 pub use reader::read_params;
 pub use vc_types::ParamsRefusal;
+pub use writer::write_params;
+
+#[cfg(test)]
+mod tests;

@@ -1,6 +1,7 @@
-ghost use Rattle.std.specs.Prelude.{◌≡◌, ◌≤◌, ◌+◌, ◌*◌, IfOk, IsTrue};
+ghost use Rattle.std.specs.Prelude.{◌≡◌, ◌≤◌, ◌+◌, ◌*◌, IfOk, IsTrue, take};
 ghost use Rattle.vc_types.specs.Fields.{Gives};
 ghost use Rattle.vc_types.specs.Limits.{matrix_fits};
+ghost use Rattle.vc_types.specs.Quantisation.{filled_matrix, used_entries};
 ghost use Rattle.vc_types.specs.TransformParameters.{matrix_value, custom_matrix, quantisation_matrix};
 
 use crate::fields::{flag, number};
@@ -25,6 +26,7 @@ fn matrix_values(count: usize, r: &mut BitReader) -> Result<[u8; 16], ParamsRefu
     requires { count ≤ 16 }
     ensures gives { Gives (λ m. m) result r.new.left (custom_matrix count r.old.left) }
     ensures fits { IfOk result (λ m. IsTrue (matrix_fits m)) }
+    ensures ends { IfOk result (λ m. filled_matrix (take count m) ≡ m) }
 {
     let mut matrix = [0; 16];
     for place in 0..count {
@@ -45,6 +47,7 @@ pub fn quantisation_matrix(
     requires few_levels { depth ≤ 5 }
     ensures gives { Gives (λ m. m) result r.new.left (quantisation_matrix wavelet depth r.old.left) }
     ensures fits { IfOk result (λ m. IsTrue (matrix_fits m)) }
+    ensures ends { IfOk result (λ m. filled_matrix (used_entries depth m) ≡ m) }
 {
     if flag(r)? {
         return matrix_values(1 + 3 * depth as usize, r);

@@ -5,6 +5,11 @@ mod fields;
 mod formats;
 mod parts;
 mod reader;
+mod writer;
 
 pub use reader::read_header;
 pub use vc_types::HeaderRefusal;
+pub use writer::write_header;
+
+#[cfg(test)]
+mod tests;

@@ -1,6 +1,8 @@
-ghost use Rattle.std.specs.Prelude.{◌≡◌};
-ghost use Rattle.vc_types.specs.Fields.{Gives, Answers};
-ghost use Rattle.vc_types.specs.SequenceHeader.{sequence_of, sequence_header, coded_header};
+ghost use Rattle.std.specs.Prelude.{◌≡◌, ◌++◌, ℕ, Bool, List, length, Ok, IfOk};
+ghost use Rattle.vc_types.specs.Bits.{bits_of};
+ghost use Rattle.vc_types.specs.Fields.{Gives, Answers, bytes_for};
+ghost use Rattle.vc_types.specs.HeaderSpelling.{HeaderSpelling, header_bits, spelled_header, IsHeader, BeginsWithHeader};
+ghost use Rattle.vc_types.specs.SequenceHeader.{Sequence, sequence_of, sequence_header, coded_header};
 ghost use Rattle.vc_types.specs.Video.{dimensions_fit};
 
 use crate::fields::{index, number};
@@ -12,9 +14,22 @@ use crate::parts::{
 use vc_bits::BitReader;
 use vc_types::{Header, HeaderRefusal, Sampling};
 
-/// The sequence header at the front of the bytes, and how many bytes it takes.
+/// The sequence header at the front of the bytes (ST 2042-1, sequence header), and how many bytes it takes. The fields
+/// are read in order, and the first that is missing or out of range decides the refusal; the dimensions are tested last.
+/// Frame rate, pixel aspect ratio, clean area and colour specification are read and not kept.
 pub fn read_header(bytes: &[u8]) -> Result<(Header, usize), HeaderRefusal>
+    // What is read is spelled so.
+    ensures found { IfOk result (λ x. BeginsWithHeader bytes.now (sequence_of x.0) x.1) }
+    // What is spelled so is read, whatever follows.
+    ensures only { (s : HeaderSpelling) (rest : List Bool) → IsHeader s → bits_of bytes.now ≡ header_bits s ++ rest → Answers {Y = Sequence × ℕ} (λ x. (sequence_of x.0, x.1)) result (Ok (spelled_header s, bytes_for (length (header_bits s)))) }
+    // Which header it is, or which refusal.
     ensures exact { Answers (λ x. (sequence_of x.0, x.1)) result (coded_header bytes.now) }
+{
+    front(bytes)
+}
+
+fn front(bytes: &[u8]) -> Result<(Header, usize), HeaderRefusal>
+    ensures { Answers (λ x. (sequence_of x.0, x.1)) result (coded_header bytes.now) }
 {
     let mut r = BitReader::new(bytes);
     let header = header(&mut r)?;

@@ -1,6 +1,7 @@
 -- Fields that are read one after another from the front of a list of bits or bytes. A field gives its value and what
 -- is left, or the first refusal.
-use Rattle.std.specs.Prelude.{◌≡◌, ℕ, Bool, true, false, List, [], ◌∷◌, ◌++◌, length, take, drop, Option, Some, None, Result, Ok, Err, nat_lt, if◌then◌else◌}
+use Rattle.std.specs.Prelude.{◌≡◌, ℕ, Bool, true, false, List, [], ◌∷◌, ◌++◌, length, take, drop, Option, Some, None, Result, Ok, Err, nat_lt, if◌then◌else◌, ◌+◌, ◌-◌, ◌/◌, ◌%◌, replicate}
+use Rattle.vc_types.specs.Bits.{bits_of}
 use Rattle.vc_types.specs.Codes.{uint_bits, uint_at}
 
 -- bits or bytes T, refusals E, values X
@@ -94,3 +95,22 @@ flagged_value default value (Some a) = value a
 pub record IsCodec {T E A X : Type 0} (field : Field T E X) (written : A → List T) (value : A → X) (Accepted : A → Type 0) : Type 0 where
   pub takes : (all : List T) (x : X) (rest : List T) → field all ≡ Ok (x, rest) → (a : A) × Accepted a × (value a ≡ x) × (all ≡ written a ++ rest)
   pub again : (a : A) (rest : List T) → Accepted a → field (written a ++ rest) ≡ Ok (value a, rest)
+
+-- ---- fields at the front of bytes
+
+-- how many bytes so many bits take
+abbrev pub bytes_for : ℕ → ℕ
+bytes_for bits = (bits + 7) / 8
+
+-- bits, and zeros up to the edge of a byte
+abbrev pub filled_up : List Bool → List Bool
+filled_up bits = bits ++ replicate ((8 - length bits % 8) % 8) false
+
+-- Bytes begin with the bits of an accepted spelling, which stands for a value and takes so many bytes.
+pub record Begins {A X : Type 0} (written : A → List Bool) (value : A → X) (Accepted : A → Type 0) (bytes : List ℕ) (x : X) (used : ℕ) : Type 0 where
+  pub spelling : A
+  pub rest : List Bool
+  pub accepted : Accepted spelling
+  pub stands_for : value spelling ≡ x
+  pub bits : bits_of bytes ≡ written spelling ++ rest
+  pub takes : used ≡ bytes_for (length (written spelling))

@@ -1,9 +1,9 @@
 -- The spelling of a sequence header (ST 2042-1, sequence header): which of its parts are coded and by what numbers, the
 -- bits that they are written as, and the value that they stand for.
-use Rattle.std.specs.Prelude.{◌≡◌, ℕ, ◌<◌, ◌≤◌, ◌-◌, ◌^◌, ◌⊎◌, Bool, List, [], ◌∷◌, ◌++◌, Option, Some, None, IsTrue, IfSome, unwrap_or, if◌then◌else◌}
+use Rattle.std.specs.Prelude.{◌≡◌, ℕ, ◌<◌, ◌≤◌, ◌-◌, ◌^◌, ◌⊎◌, Bool, List, [], ◌∷◌, ◌++◌, Option, Some, None, IsTrue, IfSome, unwrap_or, ◌==◌, if◌then◌else◌}
 use Rattle.vc_types.specs.Bits.{digit_of}
 use Rattle.vc_types.specs.Codes.{uint_bits}
-use Rattle.vc_types.specs.Fields.{flagged_bits, flagged_value, joined, pair_bits}
+use Rattle.vc_types.specs.Fields.{flagged_bits, flagged_value, joined, pair_bits, Begins}
 use Rattle.vc_types.specs.SequenceHeader.{Sequence}
 use Rattle.vc_types.specs.Video.{format_of, range_of, signal_range, dimensions_fit, excursion_fits}
 use Rattle.vc_types.specs.declared.video.Sampling.{Sampling}
@@ -145,3 +145,44 @@ pub record IsHeader (s : HeaderSpelling) : Type 0 where
   pub range : IfSome s.range (IsChoice 4 IsRange)
   pub colour : IfSome s.colour (IsChoice (2 ^ 32 - 1) IsColour)
   pub dimensions : IsTrue (dimensions_fit (spelled_header s).width (spelled_header s).height (spelled_header s).sampling s.fields)
+
+-- bytes begin with a header of this value, which takes so many bytes
+abbrev pub BeginsWithHeader : List ℕ → Sequence → ℕ → Type 0
+BeginsWithHeader bytes sequence used = Begins header_bits spelled_header IsHeader bytes sequence used
+
+-- ---- the headers that this project writes
+
+abbrev pub encoder_base : Bool → ℕ
+encoder_base top_first = if top_first then 14 else 0
+
+-- Version 3.0, level 0, base 14 with the top field first and else 0, interlaced exactly with field coding, a preset
+-- signal range
+pub record IsEncoderHeader (s : Sequence) : Type 0 where
+  pub major : s.major ≡ 3
+  pub minor : s.minor ≡ 0
+  pub level : s.level ≡ 0
+  pub base : s.base ≡ encoder_base s.top_first
+  pub scan : s.interlaced ≡ s.fields
+  pub range : (index : ℕ) × (1 ≤ index) × (index ≤ 4) × (s.range ≡ range_of index)
+
+-- the index of a preset signal range, by its luma excursion
+abbrev pub preset_of : SignalRange → ℕ
+preset_of range = if range.luma_excursion == 255 then 1 else if range.luma_excursion == 219 then 2 else if range.luma_excursion == 876 then 3 else 4
+
+-- size, sampling, scan and signal range are coded, and nothing else
+abbrev pub encoder_header : Sequence → HeaderSpelling
+encoder_header s = record {
+  major = 3;
+  minor = 0;
+  level = 0;
+  base = encoder_base s.top_first;
+  size = Some (s.width, s.height);
+  sampling = Some s.sampling;
+  interlaced = Some s.fields;
+  frame_rate = None;
+  aspect_ratio = None;
+  clean_area = None;
+  range = Some (Preset (preset_of s.range));
+  colour = None;
+  fields = s.fields;
+}

@@ -2,10 +2,11 @@
 -- numbers, the bits that they are written as, and the value that they stand for.
 use Rattle.std.specs.Prelude.{◌≡◌, ℕ, ◌+◌, ◌*◌, ◌≤◌, Bool, true, false, List, [], ◌∷◌, length, Option, Some, None, IsTrue, IfSome, IsSome, MatchOption, unwrap_or, ◌==◌, if◌then◌else◌}
 use Rattle.std.specs.List.{flat_map}
+use Rattle.std.specs.Str.{bytes_eq}
 use Rattle.vc_types.specs.Codes.{uint_bits}
-use Rattle.vc_types.specs.Fields.{flagged_bits, flagged_value, joined, pair_bits}
+use Rattle.vc_types.specs.Fields.{flagged_bits, flagged_value, joined, pair_bits, Begins}
 use Rattle.vc_types.specs.Limits.{slices_fit, slice_bytes_fit, padded_luma_fits, matrix_fits}
-use Rattle.vc_types.specs.Quantisation.{default_matrix, filled_matrix}
+use Rattle.vc_types.specs.Quantisation.{default_matrix, filled_matrix, used_entries}
 use Rattle.vc_types.specs.SequenceHeader.{Sequence, picture_shape}
 use Rattle.vc_types.specs.TransformParameters.{Parameters}
 
@@ -80,3 +81,28 @@ pub record AreParameters (sequence : Sequence) (s : ParameterSpelling) : Type 0 
   pub slice_bytes : IsTrue (slice_bytes_fit s.prefix s.scaler)
   pub matrix : MatchOption s.matrix (IsSome (default_matrix s.wavelet s.depth)) (IsMatrix s.depth)
   pub padded_luma : IsTrue (padded_luma_fits (picture_shape sequence) s.depth)
+
+-- bytes begin with the parameters, of this value, of a picture of this sequence, and they take so many bytes
+abbrev pub BeginsWithParameters : Sequence → List ℕ → Parameters → ℕ → Type 0
+BeginsWithParameters sequence bytes parameters used = Begins (parameter_bits sequence.major) (spelled_parameters sequence) (AreParameters sequence) bytes parameters used
+
+-- ---- the parameters that this project writes
+
+-- whether a matrix is the default one
+abbrev pub is_default : Option (List ℕ) → List ℕ → Bool
+is_default None matrix = false
+is_default (Some default) matrix = bytes_eq default matrix
+
+-- no part across is coded, and the matrix where it isn't the default one
+abbrev pub encoder_parameters : Parameters → ParameterSpelling
+encoder_parameters p = record {
+  wavelet = p.wavelet;
+  depth = p.depth;
+  wavelet_ho = None;
+  depth_ho = None;
+  slices_x = p.slices_x;
+  slices_y = p.slices_y;
+  prefix = p.prefix;
+  scaler = p.scaler;
+  matrix = if is_default (default_matrix p.wavelet p.depth) p.matrix then None else Some (used_entries p.depth p.matrix);
+}

@@ -41,6 +41,10 @@ quantised z index = with_sign_of z (4 * unsigned_abs z / quant_factor index)
 abbrev pub filled_matrix : List ℕ → List ℕ
 filled_matrix entries = take 16 (entries ++ replicate 16 0)
 
+-- the entries that a depth uses
+abbrev pub used_entries : ℕ → List ℕ → List ℕ
+used_entries depth matrix = take (1 + 3 * depth) matrix
+
 -- a level's three entries
 abbrev pub level_entries : ℕ → ℕ → ℕ → List ℕ
 level_entries hl lh hh = hl ∷ lh ∷ hh ∷ []

@@ -1,5 +1,6 @@
 ghost use Rattle.std.specs.Prelude.{◌≡◌, ◌*◌, ◌≤◌, IsTrue};
 ghost use Rattle.vc_types.specs.Limits.{shape_fits, slices_fit, slice_bytes_fit, padded_luma_fits, matrix_fits};
+ghost use Rattle.vc_types.specs.Quantisation.{filled_matrix, used_entries};
 
 use crate::shape::Shape;
 
@@ -28,4 +29,5 @@ pub struct Plan {
     pub ghost slice_bytes: { IsTrue (slice_bytes_fit prefix scaler) },
     pub ghost padded_luma: { IsTrue (padded_luma_fits shape depth) },
     pub ghost matrix_values: { IsTrue (matrix_fits matrix) },
+    pub ghost unused_entries: { filled_matrix (used_entries depth matrix) ≡ matrix },
 }

@@ -19,3 +19,6 @@ returns-clause-gives c = (all_held c.args.count c.loop-place.matrix c.loop-place
 
 pub returns-clause-fits : goal.returns-clause-fits
 returns-clause-fits c = (all_held c.args.count c.loop-place.matrix c.loop-place.r.left c.args.r.now.left (ended c.args.count c.loop-place.place c.loop-place.matrix c.loop-place.r.left c.args.r.now.left (omega arith) c.loop-place.invariant) c.requires).1
+
+pub returns-clause-ends : goal.returns-clause-ends
+returns-clause-ends c = (all_held c.args.count c.loop-place.matrix c.loop-place.r.left c.args.r.now.left (ended c.args.count c.loop-place.place c.loop-place.matrix c.loop-place.r.left c.args.r.now.left (omega arith) c.loop-place.invariant) c.requires).2

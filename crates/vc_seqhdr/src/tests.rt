@@ -1,0 +1,271 @@
+use super::*;
+use std::test::Fail;
+use vc_types::{Header, Sampling, SignalRange};
+
+const FULL_8_BIT: SignalRange = SignalRange {
+    luma_offset: 0,
+    luma_excursion: 255,
+    colour_offset: 128,
+    colour_excursion: 255,
+};
+
+#[test]
+fn reads_a_header(rt: HostRuntime) -> Result<(), Fail> {
+    let bytes = [0x70, 0xF0, 0x63, 0xC0, 0x80];
+    let (header, used) = read_header(&bytes)?;
+    assert_eq!(rt; used, 5);
+    assert_eq!(rt;
+        (header.major, header.minor, header.level, header.base),
+        (2, 0, 0, 0)
+    );
+    assert_eq!(rt; (header.width, header.height), (8, 4));
+    assert_eq!(rt; header.sampling, Sampling::S444);
+    assert_eq!(rt;
+        (header.interlaced, header.top_first, header.fields),
+        (false, false, false)
+    );
+    assert_eq!(rt; header.range, FULL_8_BIT);
+    assert_eq!(rt; header.shape().luma_depth, 8);
+    Ok(())
+}
+
+#[test]
+fn reads_whether_pictures_are_fields(rt: HostRuntime) -> Result<(), Fail> {
+    let (frames, _) = read_header(&[0x70, 0xF6, 0xF0, 0x20])?;
+    assert_eq!(rt; (frames.width, frames.height, frames.fields), (2, 2, false));
+    let (fields, _) = read_header(&[0x70, 0xF0, 0x63, 0xC0, 0x20])?;
+    assert_eq!(rt; (fields.width, fields.height, fields.fields), (8, 4, true));
+    assert_eq!(rt; fields.shape().luma_height, 2);
+    Ok(())
+}
+
+// Each case has a second fault further on where there is room for one.
+#[test]
+fn refuses_at_the_first_fault(rt: HostRuntime) {
+    let cases = [
+        // A number whose code never ends.
+        (
+            [
+                0x70, 0x80, 0x00, 0x00, 0x00, 0x00, 0x00, 0x00, 0x00, 0x00, 0x00,
+            ],
+            HeaderRefusal::Short,
+        ),
+        // A number above 32 bits, then profile 0.
+        (
+            [
+                0x60, 0x00, 0x00, 0x00, 0x00, 0x00, 0x00, 0x00, 0x38, 0x00, 0x00,
+            ],
+            HeaderRefusal::TooLarge,
+        ),
+        // Version 1, then profile 0.
+        (
+            [
+                0x3E, 0x01, 0x00, 0x00, 0x00, 0x00, 0x00, 0x00, 0x00, 0x00, 0x00,
+            ],
+            HeaderRefusal::Version,
+        ),
+        // Version 4, then profile 0.
+        (
+            [
+                0x1F, 0x80, 0x40, 0x00, 0x00, 0x00, 0x00, 0x00, 0x00, 0x00, 0x00,
+            ],
+            HeaderRefusal::Version,
+        ),
+        // Profile 0, then base format 17.
+        (
+            [
+                0x7C, 0x12, 0x01, 0x00, 0x00, 0x00, 0x00, 0x00, 0x00, 0x00, 0x00,
+            ],
+            HeaderRefusal::Profile,
+        ),
+        // Base format 17, then sampling 3.
+        (
+            [
+                0x70, 0xC1, 0x28, 0x40, 0x80, 0x00, 0x00, 0x00, 0x00, 0x00, 0x00,
+            ],
+            HeaderRefusal::BaseFormat,
+        ),
+        // Width 0, sampling 3, then scan 2.
+        (
+            [
+                0x70, 0xF8, 0xE1, 0xB0, 0x40, 0x00, 0x00, 0x00, 0x00, 0x00, 0x00,
+            ],
+            HeaderRefusal::SamplingIndex,
+        ),
+        // Scan 2, then signal range 5.
+        (
+            [
+                0x70, 0xE5, 0x8A, 0x50, 0x00, 0x00, 0x00, 0x00, 0x00, 0x00, 0x00,
+            ],
+            HeaderRefusal::ScanIndex,
+        ),
+        // Signal range 5, then coding mode 2.
+        (
+            [
+                0x70, 0xE0, 0x52, 0x60, 0x00, 0x00, 0x00, 0x00, 0x00, 0x00, 0x00,
+            ],
+            HeaderRefusal::SignalRange,
+        ),
+        // A luma excursion of 0, then a number above 32 bits.
+        (
+            [
+                0x70, 0xE0, 0x78, 0x00, 0x00, 0x00, 0x00, 0x00, 0x00, 0x00, 0x0C,
+            ],
+            HeaderRefusal::SignalRange,
+        ),
+        // A colour excursion of 65,536, then coding mode 2.
+        (
+            [
+                0x70, 0xE0, 0x73, 0x00, 0x00, 0x00, 0x01, 0x98, 0x00, 0x00, 0x00,
+            ],
+            HeaderRefusal::SignalRange,
+        ),
+        // Width 0 and coding mode 2.
+        (
+            [
+                0x70, 0xF8, 0xC0, 0x30, 0x00, 0x00, 0x00, 0x00, 0x00, 0x00, 0x00,
+            ],
+            HeaderRefusal::CodingMode,
+        ),
+        // Width 0.
+        (
+            [
+                0x70, 0xF8, 0xF0, 0x20, 0x00, 0x00, 0x00, 0x00, 0x00, 0x00, 0x00,
+            ],
+            HeaderRefusal::Dimensions,
+        ),
+        // Height 8,193.
+        (
+            [
+                0x70, 0xF0, 0x60, 0x00, 0x00, 0x27, 0x02, 0x00, 0x00, 0x00, 0x00,
+            ],
+            HeaderRefusal::Dimensions,
+        ),
+        // An odd width in 4:2:2.
+        (
+            [
+                0x70, 0xF0, 0x23, 0x90, 0x20, 0x00, 0x00, 0x00, 0x00, 0x00, 0x00,
+            ],
+            HeaderRefusal::Dimensions,
+        ),
+        // An odd height in 4:2:0.
+        (
+            [
+                0x70, 0xF0, 0x69, 0xB0, 0x20, 0x00, 0x00, 0x00, 0x00, 0x00, 0x00,
+            ],
+            HeaderRefusal::Dimensions,
+        ),
+        // An odd height in field mode.
+        (
+            [
+                0x70, 0xF0, 0x69, 0xC0, 0x20, 0x00, 0x00, 0x00, 0x00, 0x00, 0x00,
+            ],
+            HeaderRefusal::Dimensions,
+        ),
+        // A height of 6 in 4:2:0 field mode.
+        (
+            [
+                0x70, 0xF0, 0x6B, 0xB0, 0x08, 0x00, 0x00, 0x00, 0x00, 0x00, 0x00,
+            ],
+            HeaderRefusal::Dimensions,
+        ),
+    ];
+    for (bytes, refusal) in cases {
+        assert_eq!(rt; read_header(&bytes).err(), Some(refusal));
+    }
+}
+
+#[test]
+fn reads_every_base_format(rt: HostRuntime) -> Result<(), Fail> {
+    use Sampling::{S420, S422, S444};
+    let cases = [
+        ([0x70, 0xE0, 0x10, 0x00], 640, 480, S420, false, false, 255),
+        ([0x70, 0xC8, 0x04, 0x00], 176, 120, S420, false, false, 255),
+        ([0x70, 0xD8, 0x04, 0x00], 176, 144, S420, false, true, 255),
+        ([0x70, 0xC2, 0x01, 0x00], 352, 240, S420, false, false, 255),
+        ([0x70, 0xC6, 0x01, 0x00], 352, 288, S420, false, true, 255),
+        ([0x70, 0xD2, 0x01, 0x00], 704, 480, S420, false, false, 255),
+        ([0x70, 0xD6, 0x01, 0x00], 704, 576, S420, false, true, 255),
+        ([0x70, 0xC0, 0x80, 0x40], 720, 480, S422, true, false, 876),
+        ([0x70, 0xC1, 0x80, 0x40], 720, 576, S422, true, true, 876),
+        ([0x70, 0xC4, 0x80, 0x40], 1280, 720, S422, false, true, 876),
+        ([0x70, 0xC5, 0x80, 0x40], 1280, 720, S422, false, true, 876),
+        ([0x70, 0xD0, 0x80, 0x40], 1920, 1080, S422, true, true, 876),
+        ([0x70, 0xD1, 0x80, 0x40], 1920, 1080, S422, true, true, 876),
+        ([0x70, 0xD4, 0x80, 0x40], 1920, 1080, S422, false, true, 876),
+        ([0x70, 0xD5, 0x80, 0x40], 1920, 1080, S422, false, true, 876),
+        (
+            [0x70, 0xC0, 0x20, 0x10],
+            2048,
+            1080,
+            S444,
+            false,
+            true,
+            3504,
+        ),
+        (
+            [0x70, 0xC0, 0x60, 0x10],
+            4096,
+            2160,
+            S444,
+            false,
+            true,
+            3504,
+        ),
+    ];
+    for (bytes, width, height, sampling, interlaced, top_first, excursion) in cases {
+        let (header, _) = read_header(&bytes)?;
+        assert_eq!(rt; (header.width, header.height), (width, height));
+        assert_eq!(rt; header.sampling, sampling);
+        assert_eq!(rt;
+            (header.interlaced, header.top_first),
+            (interlaced, top_first)
+        );
+        assert_eq!(rt; header.range.luma_excursion, excursion);
+    }
+    Ok(())
+}
+
+#[test]
+fn needs_every_byte(rt: HostRuntime) -> Result<(), Fail> {
+    // Every part is coded.
+    let bytes = [
+        0x09, 0x0B, 0xC1, 0x83, 0xB9, 0xD1, 0x27, 0x26, 0x0C, 0x1F, 0x80, 0xD1, 0x50, 0x80, 0x03,
+        0x50, 0x07, 0xCA, 0xC8,
+    ];
+    for len in 0..bytes.len() {
+        assert_eq!(rt;
+            read_header(&bytes[..len]).err(),
+            Some(HeaderRefusal::Short)
+        );
+    }
+    let (header, used) = read_header(&bytes)?;
+    assert_eq!(rt; used, bytes.len());
+    assert_eq!(rt; (header.minor, header.level), (1, 2));
+    assert_eq!(rt;
+        (header.sampling, header.interlaced, header.fields),
+        (Sampling::S420, true, true)
+    );
+    assert_eq!(rt; header.range.colour_excursion, 224);
+    Ok(())
+}
+
+#[test]
+fn writes_what_the_encoder_sends(rt: HostRuntime) -> Result<(), Fail> {
+    let header = Header {
+        major: 3,
+        minor: 0,
+        level: 0,
+        base: 14,
+        width: 2,
+        height: 2,
+        sampling: Sampling::S444,
+        interlaced: false,
+        top_first: true,
+        range: FULL_8_BIT,
+        fields: false,
+    };
+    let bytes = write_header(rt.alloc(), &header)?;
+    assert_eq!(rt; bytes.as_slice(), [0x0C, 0x35, 0x76, 0xFC, 0x4A].as_slice());
+    Ok(())
+}
