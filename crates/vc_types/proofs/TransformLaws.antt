@@ -13,8 +13,8 @@ use Rattle.vc_types.specs.TransformParameters.{Parameters}
 use Rattle.vc_types.specs.Transforms.{Cells, is_within, interleaved, deinterleaved, source_of, on_columns, on_rows, on_cells, halved, doubled, inverse_level, forward_level, inverse_levels, forward_levels, lowest_width, lowest_height, inverse_transform, padded_plane, forward_transform}
 use Rattle.vc_types.specs.Wavelets.{is_shifted, synthesised, analysed}
 use Rattle.vc_types.proofs.LineLaws.{synthesis_undoes_analysis, synthesis_grows_little, analysis_grows_less, synthesis_past, analysis_past, GrowsAtMost}
-use Rattle.vc_types.proofs.PlaneLines.{OfLines, LeavesPast, column_in, column_out, row_in, row_out, on_columns-on_columns, on_rows-on_rows, on_columns-same, on_rows-same}
-use Rattle.vc_types.proofs.Weaving.{half_place, half_place_below, source_of-half_place}
+use Rattle.vc_types.proofs.PlaneLines.{OfLines, LeavesPast, column_in, column_out, row_in, row_out, on_columns-on_columns, on_rows-on_rows, on_columns-same, on_rows-same, rearranged, rearranged_in, rearranged_past, changed}
+use Rattle.vc_types.proofs.Weaving.{half_place, half_place_below, source_below, source_of-half_place, woven, merged, parted, merged_row, parted_row}
 
 -- ---- the inverse undoes the forward transform
 
@@ -121,24 +121,45 @@ AreBelow m c = (x y : ℕ) → unsigned_abs (c x y) < m
 raised : (m most a : ℕ) → 0 < most → a < m → a < most * m
 raised m most a more h = let k = mul-le-mul_left m more in omega (arith, k)
 
-module _ (make : ℕ → OfLines) (most : ℕ) (more : 0 < most) (grow : GrowsAtMost most make) (half : ℕ) (past : LeavesPast (2 * half) (make (2 * half))) (m : ℕ) (large : 2 ^ 16 ≤ m) where
-  line_below : (l : ℕ → ℤ) → ((k : ℕ) → unsigned_abs (l k) < m) → (k : ℕ) → unsigned_abs (make (2 * half) l k) < most * m
-  line_below l small k = elim (cases_lt k (2 * half)) [
-    | inl h ↦ grow (2 * half) m l (omega arith) large (λ j lt. small j) k h
-    | inr h ↦ rw (past l k h) (raised m most (unsigned_abs (l k)) more (small k))
-  ]
+-- a function of lines that raises a bound on all samples of a line from m to n
+abbrev pub Raises : ℕ → ℕ → OfLines → Type 0
+Raises m n f = (l : ℕ → ℤ) → ((k : ℕ) → unsigned_abs (l k) < m) → (k : ℕ) → unsigned_abs (f l k) < n
 
-  columns_below : (n : ℕ) (c : Cells) → AreBelow m c → AreBelow (most * m) (on_columns (make (2 * half)) n c)
-  columns_below n c small x y = elim (cases_lt x n) [
-    | inl h ↦ rw (column_in (make (2 * half)) n c x y h) (line_below (λ k. c x k) (small x) y)
-    | inr h ↦ rw (column_out (make (2 * half)) n c x y h) (raised m most (unsigned_abs (c x y)) more (small x y))
-  ]
+pub columns_below : (f : OfLines) (m n width : ℕ) (c : Cells) → m ≤ n → Raises m n f → AreBelow m c → AreBelow n (on_columns f width c)
+columns_below f m n width c le raises small x y = elim (cases_lt x width) [
+  | inl h ↦ rw (column_in f width c x y h) (raises (λ k. c x k) (small x) y)
+  | inr h ↦ rw (column_out f width c x y h) (let a = small x y in omega (arith, a))
+]
 
-  rows_below : (n : ℕ) (c : Cells) → AreBelow m c → AreBelow (most * m) (on_rows (make (2 * half)) n c)
-  rows_below n c small x y = elim (cases_lt y n) [
-    | inl h ↦ rw (row_in (make (2 * half)) n c x y h) (line_below (λ k. c k y) (λ k. small k y) x)
-    | inr h ↦ rw (row_out (make (2 * half)) n c x y h) (raised m most (unsigned_abs (c x y)) more (small x y))
-  ]
+pub rows_below : (f : OfLines) (m n height : ℕ) (c : Cells) → m ≤ n → Raises m n f → AreBelow m c → AreBelow n (on_rows f height c)
+rows_below f m n height c le raises small x y = elim (cases_lt y height) [
+  | inl h ↦ rw (row_in f height c x y h) (raises (λ k. c k y) (λ k. small k y) x)
+  | inr h ↦ rw (row_out f height c x y h) (let a = small x y in omega (arith, a))
+]
+
+line_raises : (make : ℕ → OfLines) (most half m : ℕ) → 0 < most → GrowsAtMost most make → LeavesPast (2 * half) (make (2 * half)) → 2 ^ 16 ≤ m → Raises m (most * m) (make (2 * half))
+line_raises make most half m more grow past large l small k = elim (cases_lt k (2 * half)) [
+  | inl h ↦ grow (2 * half) m l (omega arith) large (λ j lt. small j) k h
+  | inr h ↦ rw (past l k h) (raised m most (unsigned_abs (l k)) more (small k))
+]
+
+pub synthesis_raises : (wavelet half m : ℕ) → 2 ^ 16 ≤ m → Raises m (16 * m) (synthesised wavelet (2 * half))
+synthesis_raises wavelet half m = line_raises (synthesised wavelet) 16 half m (omega arith) (synthesis_grows_little wavelet) (synthesis_past wavelet half)
+
+pub analysis_raises : (wavelet half m : ℕ) → 2 ^ 16 ≤ m → Raises m (8 * m) (analysed wavelet (2 * half))
+analysis_raises wavelet half m = line_raises (analysed wavelet) 8 half m (omega arith) (analysis_grows_less wavelet) (analysis_past wavelet half)
+
+pub rearranged_raises : (n : ℕ) (source : ℕ → ℕ) (m : ℕ) → Raises m m (rearranged n source)
+rearranged_raises n source m l small k = elim (cases_lt k n) [
+  | inl h ↦ rw (rearranged_in n source l k h) (small (source k))
+  | inr h ↦ rw (rearranged_past n source l k h) (small k)
+]
+
+pub merged_raises : (wavelet half m : ℕ) → 2 ^ 16 ≤ m → Raises m (16 * m) (merged wavelet half)
+merged_raises wavelet half m large l small = synthesis_raises wavelet half m large (woven half l) (rearranged_raises (2 * half) (half_place half) m l small)
+
+pub parted_raises : (wavelet half m : ℕ) → 2 ^ 16 ≤ m → Raises m (8 * m) (parted wavelet half)
+parted_raises wavelet half m large l small = rearranged_raises (2 * half) (source_of half) (8 * m) (analysed wavelet (2 * half) l) (analysis_raises wavelet half m large l small)
 
 interleaved_below : (w h m : ℕ) (c : Cells) → AreBelow m c → AreBelow m (interleaved w h c)
 unfolding interleaved
@@ -174,19 +195,19 @@ halved_pos_below n = omega arith
 halved_neg_below : (n : ℕ) (z : ℤ) → z ≡ negsuc n +ℤ pos 1 → unsigned_abs (int_shr z 1) ≤ n + 1
 halved_neg_below n z e = shifted_below z n (omega (arith, ints))
 
-halved_below : (m : ℕ) (z : ℤ) → unsigned_abs z < m → unsigned_abs (halved z) < m
+pub halved_below : (m : ℕ) (z : ℤ) → unsigned_abs z < m → unsigned_abs (halved z) < m
 halved_below m (pos n) h = omega (arith, halved_pos_below n)
 halved_below m (negsuc n) h = omega (arith, halved_neg_below n (negsuc n +ℤ pos 1) refl)
 
-doubled_below : (m : ℕ) (z : ℤ) → unsigned_abs z < m → unsigned_abs (doubled z) < 2 * m
+pub doubled_below : (m : ℕ) (z : ℤ) → unsigned_abs z < m → unsigned_abs (doubled z) < 2 * m
 doubled_below m z h = omega (arith, ints)
 
 pub inverse_level_grows : (wavelet w h m : ℕ) (c : Cells) → 2 ^ 16 ≤ m → AreBelow m c → AreBelow (256 * m) (inverse_level wavelet w h c)
 unfolding inverse_level
 inverse_level_grows wavelet w h m c large small =
     let woven = interleaved_below w h m c small in
-    let columns = columns_below (synthesised wavelet) 16 (omega arith) (synthesis_grows_little wavelet) h (synthesis_past wavelet h) m large (2 * w) (interleaved w h c) woven in
-    let rows = rows_below (synthesised wavelet) 16 (omega arith) (synthesis_grows_little wavelet) w (synthesis_past wavelet w) (16 * m) (omega arith) (2 * h) (on_columns (synthesised wavelet (2 * h)) (2 * w) (interleaved w h c)) columns in
+    let columns = columns_below (synthesised wavelet (2 * h)) m (16 * m) (2 * w) (interleaved w h c) (omega arith) (synthesis_raises wavelet h m large) woven in
+    let rows = rows_below (synthesised wavelet (2 * w)) (16 * m) (16 * (16 * m)) (2 * h) (on_columns (synthesised wavelet (2 * h)) (2 * w) (interleaved w h c)) (omega arith) (synthesis_raises wavelet w (16 * m) (omega arith)) columns in
     λ x y. (let a = cells_below halved (is_shifted wavelet) (2 * w) (2 * h) (16 * (16 * m)) (16 * (16 * m)) (on_rows (synthesised wavelet (2 * w)) (2 * h) (on_columns (synthesised wavelet (2 * h)) (2 * w) (interleaved w h c))) (halved_below (16 * (16 * m))) (omega arith) rows x y in omega (arith, a))
 
 pub forward_level_grows : (wavelet w h m : ℕ) (c : Cells) → 2 ^ 16 ≤ m → AreBelow m c → AreBelow (128 * m) (forward_level wavelet w h c)
@@ -194,8 +215,8 @@ unfolding forward_level
 forward_level_grows wavelet w h m c large small =
     let first = on_cells doubled (is_shifted wavelet) (2 * w) (2 * h) c in
     let doubles = cells_below doubled (is_shifted wavelet) (2 * w) (2 * h) m (2 * m) c (doubled_below m) (omega arith) small in
-    let rows = rows_below (analysed wavelet) 8 (omega arith) (analysis_grows_less wavelet) w (analysis_past wavelet w) (2 * m) (omega arith) (2 * h) first doubles in
-    let columns = columns_below (analysed wavelet) 8 (omega arith) (analysis_grows_less wavelet) h (analysis_past wavelet h) (8 * (2 * m)) (omega arith) (2 * w) (on_rows (analysed wavelet (2 * w)) (2 * h) first) rows in
+    let rows = rows_below (analysed wavelet (2 * w)) (2 * m) (8 * (2 * m)) (2 * h) first (omega arith) (analysis_raises wavelet w (2 * m) (omega arith)) doubles in
+    let columns = columns_below (analysed wavelet (2 * h)) (8 * (2 * m)) (8 * (8 * (2 * m))) (2 * w) (on_rows (analysed wavelet (2 * w)) (2 * h) first) (omega arith) (analysis_raises wavelet h (8 * (2 * m)) (omega arith)) rows in
     λ x y. (let a = deinterleaved_below w h (8 * (8 * (2 * m))) (on_columns (analysed wavelet (2 * h)) (2 * w) (on_rows (analysed wavelet (2 * w)) (2 * h) first)) columns x y in omega (arith, a))
 
 pow_some : (b d : ℕ) → 0 < b → 1 ≤ b ^ d

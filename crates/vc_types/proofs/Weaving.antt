@@ -7,7 +7,7 @@ use Rattle.std.proofs.lemmas.Bool.Decides.{nat_tests}
 use Rattle.vc_types.specs.Transforms.{Cells, interleaved, deinterleaved, source_of, on_columns, on_rows, on_cells, halved, doubled, inverse_level, forward_level}
 use Rattle.vc_types.specs.Wavelets.{is_shifted, synthesised, analysed}
 use Rattle.vc_types.proofs.LineLaws.{synthesis_is_local, analysis_is_local, synthesis_past, analysis_past}
-use Rattle.vc_types.proofs.PlaneLines.{OfLines, LeavesPast, ReadsBelow, StaysBelow, column_in, column_out, row_in, row_out, on_columns-on_columns, on_rows-on_rows, rearranged, rearranged_in, rearranged_past, rearranged_reads, on_columns-rearranged, changed, on_cells_rows}
+use Rattle.vc_types.proofs.PlaneLines.{OfLines, LeavesPast, ReadsBelow, StaysBelow, column_in, column_out, row_in, row_out, on_columns-on_columns, on_rows-on_rows, rearranged, rearranged_in, rearranged_past, rearranged_reads, on_columns-rearranged, changed, changed_past, on_cells_rows}
 
 -- ---- a line of two halves
 
@@ -124,6 +124,22 @@ merged_row wavelet half l = changed halved (is_shifted wavelet) (2 * half) (merg
 
 abbrev pub parted_row : ℕ → ℕ → OfLines
 parted_row wavelet half l = parted wavelet half (changed doubled (is_shifted wavelet) (2 * half) l)
+
+pub changed_reads : (f : ℤ → ℤ) (wanted : Bool) (n : ℕ) (l m : ℕ → ℤ) (k : ℕ) → l k ≡ m k → changed f wanted n l k ≡ changed f wanted n m k
+unfolding changed
+changed_reads f wanted n l m k e = ap (λ z. if wanted && nat_lt k n then f z else z) e
+
+pub merged_row_past : (wavelet half : ℕ) → LeavesPast (2 * half) (merged_row wavelet half)
+merged_row_past wavelet half l k h = changed_past halved (is_shifted wavelet) (2 * half) (merged wavelet half l) k h ∙ merged_past wavelet half l k h
+
+pub merged_row_reads : (wavelet half : ℕ) → ReadsBelow (2 * half) (merged_row wavelet half)
+merged_row_reads wavelet half l m e k h = changed_reads halved (is_shifted wavelet) (2 * half) (merged wavelet half l) (merged wavelet half m) k (merged_reads wavelet half l m e k h)
+
+pub parted_row_past : (wavelet half : ℕ) → LeavesPast (2 * half) (parted_row wavelet half)
+parted_row_past wavelet half l k h = parted_past wavelet half (changed doubled (is_shifted wavelet) (2 * half) l) k h ∙ changed_past doubled (is_shifted wavelet) (2 * half) l k h
+
+pub parted_row_reads : (wavelet half : ℕ) → ReadsBelow (2 * half) (parted_row wavelet half)
+parted_row_reads wavelet half l m e = parted_reads wavelet half (changed doubled (is_shifted wavelet) (2 * half) l) (changed doubled (is_shifted wavelet) (2 * half) m) (λ k h. changed_reads doubled (is_shifted wavelet) (2 * half) l m k (e k h))
 
 pub inverse_level_merged : (wavelet w h : ℕ) (c : Cells) → inverse_level wavelet w h c ≡ on_rows (merged_row wavelet w) (2 * h) (on_columns (merged wavelet h) (2 * w) c)
 unfolding inverse_level

@@ -1,0 +1,4 @@
+pub mod Copies
+pub mod PlaneSteps
+pub mod Levels
+pub mod Grids
