@@ -42,6 +42,12 @@ source_of-half_place half k h = elim (cases_eq (k % 2) 0) [
   | inr ne ↦ (let odd : k % 2 ≡ 1 = omega arith in let place : half_place half k ≡ k / 2 + half = rw odd (omega arith) in ap (source_of half) place ∙ second_source half (k / 2 + half) (omega arith) ∙ omega arith)
 ]
 
+pub half_place-source_of : (half k : ℕ) → k < 2 * half → half_place half (source_of half k) ≡ k
+half_place-source_of half k h = elim (cases_lt k half) [
+  | inl first ↦ (let place : source_of half k ≡ 2 * k = first_source half k first in let even : 2 * k % 2 ≡ 0 = omega arith in ap (half_place half) place ∙ rw even (omega arith))
+  | inr second ↦ (let place : source_of half k ≡ 2 * (k - half) + 1 = second_source half k second in let odd : (2 * (k - half) + 1) % 2 ≡ 1 = omega arith in ap (half_place half) place ∙ rw odd (omega arith))
+]
+
 woven_back : (half : ℕ) (l : ℕ → ℤ) (k : ℕ) → (k < 2 * half) ⊎ (2 * half ≤ k) → woven half (unwoven half l) k ≡ l k
 woven_back half l k (inl h) =
     rearranged_in (2 * half) (half_place half) (unwoven half l) k h

@@ -7,10 +7,11 @@ use Rattle.std.proofs.lemmas.List.Elements.{All-get_or, All-from_get_or}
 use Rattle.std.proofs.lemmas.Nat.{mul-add-lt, div-mul-add, div_below}
 use Rattle.std.proofs.Math.Nat.{mul-le-mul_left, mul-le-mul_right}
 use Rattle.vc_types.specs.Lifting.{line_of}
-use Rattle.vc_types.specs.Transforms.{source_of, halved}
-use Rattle.vc_types.specs.Wavelets.{synthesised}
-use Rattle.vc_types.proofs.LineLaws.{synthesis_grows_little, synthesis_is_local}
+use Rattle.vc_types.specs.Transforms.{source_of, doubled}
+use Rattle.vc_types.specs.Wavelets.{synthesised, analysed}
+use Rattle.vc_types.proofs.LineLaws.{synthesis_grows_little, synthesis_is_local, analysis_is_local}
 use Rattle.vc_types.proofs.PlaneLines.{changed, rearranged_in}
+use Rattle.vc_types.proofs.TransformLaws.{doubled_below}
 use Rattle.vc_types.proofs.Weaving.{half_place, half_place_below, source_of-half_place, woven, merged}
 use Rattle.vc_lift.specs.Columns.{column_of}
 use Rattle.vc_wave.specs.Places.{place_of}
@@ -107,3 +108,23 @@ module _ (wavelet half width : ℕ) (line : ℕ → ℤ) (gathered made : List �
 
   pub made_below : (m : ℕ) → 2 ^ 16 ≤ m → ((k : ℕ) → k < 2 * half → unsigned_abs (line k) < m) → (k : ℕ) → k < 2 * half → unsigned_abs (column_of width made x k) < 16 * m
   made_below m large small k h = rw (ap (λ f. f k) synth) (synthesis_grows_little wavelet (2 * half) m (column_of width gathered x) (omega arith) large (λ j lt. rw (from j lt) (small (half_place half j) (half_place_below half j lt))) k h)
+
+-- samples that were gathered in their order, and then doubled
+module _ (half width : ℕ) (shifted : Bool) (line : ℕ → ℤ) (gathered twice : List ℤ) (x : ℕ) (column : x < width) (whole : length gathered ≡ 2 * half * width)
+    (from : (k : ℕ) → k < 2 * half → column_of width gathered x k ≡ line k)
+    (double : (i : ℕ) → i < length gathered → line_of twice i ≡ (if shifted then doubled (line_of gathered i) else line_of gathered i)) where
+  pub doubled_column : (k : ℕ) → k < 2 * half → column_of width twice x k ≡ changed doubled shifted (2 * half) line k
+  doubled_column k h =
+      let inside = block_inside half width k (length gathered) h whole in
+      double (k * width + x) (omega (arith, inside)) ∙ ap (λ z. if shifted then doubled z else z) (from k h) ∙ sym (changed_in doubled shifted (2 * half) line k h)
+
+  pub doubled_small : (m : ℕ) → ((k : ℕ) → k < 2 * half → unsigned_abs (line k) < m) → (k : ℕ) → k < 2 * half → unsigned_abs (column_of width twice x k) < 2 * m
+  doubled_small m small k h = rw (doubled_column k h ∙ changed_in doubled shifted (2 * half) line k h) (either shifted)
+    where
+      either : (test : Bool) → unsigned_abs (if test then doubled (line k) else line k) < 2 * m
+      either true = doubled_below m (line k) (small k h)
+      either false = (let a = small k h in omega (arith, a))
+
+  -- and then taken apart
+  pub parted_column : (wavelet : ℕ) (taken : List ℤ) → column_of width taken x ≡ analysed wavelet (2 * half) (column_of width twice x) → (k : ℕ) → k < 2 * half → column_of width taken x k ≡ analysed wavelet (2 * half) (changed doubled shifted (2 * half) line) k
+  parted_column wavelet taken analyse k h = ap (λ f. f k) analyse ∙ analysis_is_local wavelet (2 * half) (column_of width twice x) (changed doubled shifted (2 * half) line) (omega arith) doubled_column k h

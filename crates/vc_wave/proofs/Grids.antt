@@ -81,6 +81,10 @@ lattice width height cells = record { width = width; height = height; cells = ce
 pub written_over : (len : ℕ) (xs ys : List ℤ) → len ≡ length xs → take len (xs ++ ys) ≡ xs
 written_over len xs ys e = rw e (take-append_seam xs ys)
 
+-- the cells of a grid that is made of a plane
+pub lattice_below : (m width height : ℕ) (made : Lattice) (cells : List ℤ) → 0 < width → made ≡ lattice width height cells → AreBelow m (plane_of width cells) → All (λ z. unsigned_abs z < m) made.cells
+lattice_below m width height made cells some is small = subst (λ (g : Lattice). All (λ z. unsigned_abs z < m) g.cells) (sym is) (cells_below_all m width cells some small)
+
 -- ---- a grid whose cells went through the levels
 
 module _ (p : Parameters) (c : Component) (coeffs made : Lattice) (width height : ℕ) (first cells : List ℤ)
@@ -109,9 +113,3 @@ module _ (p : Parameters) (c : Component) (coeffs made : Lattice) (width height 
       ∙ ap (λ n. inverse_levels p.wavelet p.depth (n / 2 ^ p.depth) (height / 2 ^ p.depth) (plane_of width first)) across
       ∙ ap (λ n. inverse_levels p.wavelet p.depth (lowest_width p c) (n / 2 ^ p.depth) (plane_of width first)) down
       ∙ ap (inverse_levels p.wavelet p.depth (lowest_width p c) (lowest_height p c)) first_plane
-
-  pub first_below : (m : ℕ) → 0 < m → All (λ z. unsigned_abs z < m) coeffs.cells → AreBelow m (plane_of width first)
-  first_below m some small = plane_below m width first some (subst (λ xs. All (λ z. unsigned_abs z < m) xs) (sym own) small)
-
-  pub made_below : (m : ℕ) → 0 < width → AreBelow m (plane_of width cells) → All (λ z. unsigned_abs z < m) made.cells
-  made_below m some small = subst (λ (g : Lattice). All (λ z. unsigned_abs z < m) g.cells) (sym is) (cells_below_all m width cells some small)

@@ -2,9 +2,14 @@
 //! wavelet transform).
 #![tactic(auto)]
 
+mod analysis;
+mod direction;
+mod laws;
 mod level;
 mod lines;
 mod shift;
 mod synthesis;
 
+pub use analysis::forward;
+pub use laws::inverse_undoes_forward;
 pub use synthesis::inverse;

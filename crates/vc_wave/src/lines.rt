@@ -1,13 +1,13 @@
 ghost use Rattle.std.specs.Prelude.{◌≡◌, ◌≢◌, ◌+◌, ◌*◌, ◌^◌, ◌<◌, ◌≤◌, ℕ, length, unsigned_abs, slice_index_or, ◌⊎◌};
 ghost use Rattle.vc_types.specs.Lifting.{line_of};
-ghost use Rattle.vc_types.specs.Transforms.{halved};
-ghost use Rattle.vc_types.proofs.PlaneLines.{changed};
-ghost use Rattle.vc_types.proofs.Weaving.{merged};
 ghost use Rattle.vc_lift.specs.Columns.{column_of};
+ghost use Rattle.vc_wave.specs.declared.direction.Direction.TheVariants.{Synthesis, Analysis};
+ghost use Rattle.vc_wave.specs.Made.{made};
 ghost use Rattle.vc_wave.specs.Places.{place_of};
 ghost use Rattle.vc_wave.specs.Lines.{line_at, IsInside};
 
-use crate::shift::halve;
+use crate::direction::Direction;
+use crate::shift::{double, halve};
 
 /// Lines of a grid that stand side by side: the place of the first one's first cell, how far each cell is from the next
 /// in its line, how many lines there are, and half of the cells that each has.
@@ -69,10 +69,42 @@ fn scatter(cells: &mut [i128], lines: &Lines, apart: bool, block: &[i128])
     }
 }
 
-/// Puts the two halves of each line together (ST 2042-1, synthesis), and shifts the samples if that is wanted. The
-/// block is room to work in.
+// Puts the two halves of each line together (ST 2042-1, synthesis), and halves the samples if that is wanted.
 #[inline(always)]
-pub(crate) fn merge(
+fn merge(wavelet: u8, cells: &mut [i128], lines: &Lines, shifted: bool, block: &mut [i128])
+    requires wavelet { wavelet ≤ 6 }
+    requires inside { IsInside lines.now (length cells.old) }
+    requires block { length block.old ≡ 2 * lines.now.half * lines.now.width }
+    requires small { (x k : ℕ) → x < lines.now.width → k < 2 * lines.now.half → unsigned_abs (line_at cells.old lines.now x k) < 2 ^ 107 }
+    ensures on { (x k : ℕ) → x < lines.now.width → k < 2 * lines.now.half → line_at cells.new lines.now x k ≡ made Synthesis wavelet shifted lines.now.half (line_at cells.old lines.now x) k }
+    ensures off { (i : ℕ) → ((x k : ℕ) → x < lines.now.width → k < 2 * lines.now.half → i ≢ lines.now.start + k * lines.now.step + x) → line_of cells.new i ≡ line_of cells.old i }
+{
+    gather(cells, lines, true, block);
+    vc_lift::synth_columns(wavelet, block, lines.width, lines.half);
+    halve(block, shifted);
+    scatter(cells, lines, false, block);
+}
+
+// Doubles the samples of each line if that is wanted, and takes it apart into two halves.
+#[inline(always)]
+fn part(wavelet: u8, cells: &mut [i128], lines: &Lines, shifted: bool, block: &mut [i128])
+    requires wavelet { wavelet ≤ 6 }
+    requires inside { IsInside lines.now (length cells.old) }
+    requires block { length block.old ≡ 2 * lines.now.half * lines.now.width }
+    requires small { (x k : ℕ) → x < lines.now.width → k < 2 * lines.now.half → unsigned_abs (line_at cells.old lines.now x k) < 2 ^ 107 }
+    ensures on { (x k : ℕ) → x < lines.now.width → k < 2 * lines.now.half → line_at cells.new lines.now x k ≡ made Analysis wavelet shifted lines.now.half (line_at cells.old lines.now x) k }
+    ensures off { (i : ℕ) → ((x k : ℕ) → x < lines.now.width → k < 2 * lines.now.half → i ≢ lines.now.start + k * lines.now.step + x) → line_of cells.new i ≡ line_of cells.old i }
+{
+    gather(cells, lines, false, block);
+    double(block, shifted);
+    vc_lift::analyse_columns(wavelet, block, lines.width, lines.half);
+    scatter(cells, lines, true, block);
+}
+
+/// Puts lines together or takes them apart. The block is room to work in.
+#[inline(always)]
+pub(crate) fn remake(
+    direction: Direction,
     wavelet: u8,
     cells: &mut [i128],
     lines: &Lines,
@@ -82,12 +114,12 @@ pub(crate) fn merge(
     requires wavelet { wavelet ≤ 6 }
     requires inside { IsInside lines.now (length cells.old) }
     requires block { length block.old ≡ 2 * lines.now.half * lines.now.width }
-    requires small { (x k : ℕ) → x < lines.now.width → k < 2 * lines.now.half → unsigned_abs (line_at cells.old lines.now x k) < 2 ^ 108 }
-    ensures on { (x k : ℕ) → x < lines.now.width → k < 2 * lines.now.half → line_at cells.new lines.now x k ≡ changed halved shifted (2 * lines.now.half) (merged wavelet lines.now.half (line_at cells.old lines.now x)) k }
+    requires small { (x k : ℕ) → x < lines.now.width → k < 2 * lines.now.half → unsigned_abs (line_at cells.old lines.now x k) < 2 ^ 107 }
+    ensures on { (x k : ℕ) → x < lines.now.width → k < 2 * lines.now.half → line_at cells.new lines.now x k ≡ made direction wavelet shifted lines.now.half (line_at cells.old lines.now x) k }
     ensures off { (i : ℕ) → ((x k : ℕ) → x < lines.now.width → k < 2 * lines.now.half → i ≢ lines.now.start + k * lines.now.step + x) → line_of cells.new i ≡ line_of cells.old i }
 {
-    gather(cells, lines, true, block);
-    vc_lift::synth_columns(wavelet, block, lines.width, lines.half);
-    halve(block, shifted);
-    scatter(cells, lines, false, block);
+    match direction {
+        Direction::Synthesis => merge(wavelet, cells, lines, shifted, block),
+        Direction::Analysis => part(wavelet, cells, lines, shifted, block),
+    }
 }

@@ -21,18 +21,15 @@ pub fn inverse(alloc: Global, plan: &Plan, c: Component, coeffs: Grid) -> Result
     ensures small { IfOk result (λ g. All (λ z. unsigned_abs z < 2 ^ 100) g.cells) }
 {
     let (width, height) = padded(plan, c);
-    let (w, h) = (width >> plan.depth, height >> plan.depth);
-    let stride = width as usize;
-    let room = stride.max(height as usize * BLOCK);
-    let mut scratch = vec![in alloc; 0i128; room]?;
+    let (columns, rows) = (width as usize, height as usize);
+    let mut scratch = vec![in alloc; 0i128; columns.max(rows * BLOCK)]?;
     let mut cells = coeffs.into_cells();
     merge_levels(
         plan.wavelet,
         plan.depth,
         &mut cells,
-        stride,
-        w as usize,
-        h as usize,
+        columns,
+        rows,
         &mut scratch,
     );
     Ok(Grid::new(width, height, cells))

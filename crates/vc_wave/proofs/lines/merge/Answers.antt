@@ -12,13 +12,13 @@ pub synth_columns-requires-clause-small : goal.synth_columns-requires-clause-sma
 synth_columns-requires-clause-small c =
     let lines = c.args.lines.now in
     all_of_block (2 ^ 108) lines.half lines.width c.gather.new.block (omega arith)
-    (λ x k h lt. rw (c.gather.ensures x k h lt) (c.requires.small x (half_place lines.half k) h (half_place_below lines.half k lt)))
+    (λ x k h lt. rw (c.gather.ensures x k h lt) (let small = c.requires.small x (half_place lines.half k) h (half_place_below lines.half k lt) in omega (arith, small)))
 
 pub halve-requires : goal.halve-requires
 halve-requires c =
     let lines = c.args.lines.now in
     all_of_block (2 ^ 126) lines.half lines.width c.synth_columns.new.cells (omega arith)
-    (λ x k h lt. (let small = made_below c.args.wavelet lines.half lines.width (line_at c.args.cells.now lines x) c.gather.new.block c.synth_columns.new.cells x (λ j. c.gather.ensures x j h) (c.synth_columns.ensures.value x h) (2 ^ 108) (omega arith) (λ j. c.requires.small x j h) k lt in omega (arith, small)))
+    (λ x k h lt. (let small = made_below c.args.wavelet lines.half lines.width (line_at c.args.cells.now lines x) c.gather.new.block c.synth_columns.new.cells x (λ j. c.gather.ensures x j h) (c.synth_columns.ensures.value x h) (2 ^ 107) (omega arith) (λ j. c.requires.small x j h) k lt in omega (arith, small)))
 
 pub returns-clause-on : goal.returns-clause-on
 returns-clause-on c = λ x k h lt.
