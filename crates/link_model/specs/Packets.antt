@@ -7,11 +7,6 @@ use Rattle.link_model.specs.declared.refusal.RtpRefusal.TheVariants as rtp_refus
 use Rattle.link_model.specs.declared.refusal.PayloadRefusal.{PayloadRefusal}
 use Rattle.link_model.specs.declared.refusal.PayloadRefusal.TheVariants as payload_refusals
 
--- What a call answered, seen by view, is what reading gives.
-abbrev pub Answers : {X Y E : Type 0} → (X → Y) → Result X E → Result Y E → Type 0
-Answers view (Ok x) read = read ≡ Ok (view x)
-Answers view (Err refusal) read = read ≡ Err refusal
-
 -- the number in so many bytes from a place on, the highest first
 abbrev pub number_at : ℕ → ℕ → List ℕ → ℕ
 number_at zero place bytes = 0

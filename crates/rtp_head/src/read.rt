@@ -1,5 +1,6 @@
 ghost use Rattle.std.specs.Prelude.{◌≡◌, ◌+◌, ◌≤◌, ◌<◌, ◌↔◌, ◌≢◌, length, IfOk, IfSome, IsNone, IsSome, IsTrue, IsFalse, MatchOption};
-ghost use Rattle.link_model.specs.Packets.{Answers, number_at, version, has_padding, has_extension, csrc_count, marker, payload_type, header_end, padding_count, payload_end, is_shaped, packet_fields, rtp_packet};
+ghost use Rattle.vc_types.specs.Fields.{Answers};
+ghost use Rattle.link_model.specs.Packets.{number_at, version, has_padding, has_extension, csrc_count, marker, payload_type, header_end, padding_count, payload_end, is_shaped, packet_fields, rtp_packet};
 ghost use Rattle.rtp_head.specs.Views.{packet_of};
 
 use crate::view::RtpView;

@@ -1,5 +1,6 @@
 ghost use Rattle.std.specs.Prelude.{◌≡◌, ◌+◌, ◌-◌, ◌≤◌, ◌<◌, ◌↔◌, ◌≢◌, ◌&&◌, length, take, drop, IfOk, IfSome, IsNone, IsSome, IsTrue, IsFalse, nat_le};
-ghost use Rattle.link_model.specs.Packets.{Answers, number_at, code_of, fragment_fits, fragment_value, fragment_head, is_known_code, payload};
+ghost use Rattle.vc_types.specs.Fields.{Answers};
+ghost use Rattle.link_model.specs.Packets.{number_at, code_of, fragment_fits, fragment_value, fragment_head, is_known_code, payload};
 ghost use Rattle.vc2_payload.specs.Views.{head_of, value_of, HasBodyIn, CanBeWritten};
 
 use crate::codes::{AUXILIARY_DATA, END_OF_SEQUENCE, FRAGMENT, PADDING_DATA, SEQUENCE_HEADER};
