@@ -1,12 +1,12 @@
 -- What a loop over the entries of a source knows: at its start, behind each entry, and at each of its ends.
-use Rattle.std.proofs.Common.{◌≡◌, ◌≢◌, ℕ, ◌+◌, List, [], ◌∷◌, ◌++◌, length, Option, Some, None, Result, Ok, Err, refl, sym, ◌∙◌, ap, arith}
+use Rattle.std.proofs.Common.{◌≡◌, ℕ, List, [], ◌∷◌, ◌++◌, Option, Some, None, Ok, Err, refl, arith}
 use Rattle.std.specs.Global.{Vec}
-use Rattle.std.proofs.lemmas.List.{append-nil, length-append}
-use Rattle.vc_ports.specs.Reading.{Gave, GaveAll, IsAtEnd}
+use Rattle.std.proofs.lemmas.List.{length-append}
+use Rattle.vc_ports.specs.Reading.{Gave, IsAtEnd}
 use Rattle.vc_ports.proofs.Given.{Gave-none, Gave-then, GaveAll-told}
 use Rattle.link_capture.specs.Capture.{entry, entries_of, first_entry}
 use Rattle.link_capture.specs.Endings.{GaveEntries, Ends}
-use Rattle.link_capture.specs.Reading.{GavePart, GaveCut, ReadsEntry, place_after}
+use Rattle.link_capture.specs.Reading.{ReadsEntry, place_after}
 use Rattle.link_capture.specs.declared.fault.EntryFault.{EntryFault}
 use Rattle.link_capture.specs.declared.fault.EntryFault.TheVariants.{Cut, ReadFault, NoMemory}
 use Rattle.link_capture.proofs.Heads.{length-entry}

@@ -1,14 +1,14 @@
 -- An entry that is read in two steps, its length and its datagram, and what each step's end means.
-use Rattle.std.proofs.Common.{◌≡◌, ◌≢◌, ℕ, zero, suc, ◌+◌, ◌*◌, ◌/◌, ◌%◌, ◌^◌, ◌<◌, ◌≤◌, List, [], ◌∷◌, ◌++◌, length, take, Option, Some, None, refl, sym, ap, ◌∙◌, subst, arith, All, slice_index}
-use Rattle.std.proofs.lemmas.List.{append-nil, length-append, length-take-le}
+use Rattle.std.proofs.Common.{◌≡◌, ◌≢◌, ℕ, ◌/◌, ◌%◌, ◌^◌, ◌<◌, List, [], ◌++◌, length, take, Option, None, sym, ap, ◌∙◌, arith}
+use Rattle.std.proofs.lemmas.List.{length-take-le}
 use Rattle.byteorder.specs.Endian.{big_bytes}
-use Rattle.vc_ports.specs.Reading.{Gave, GaveAll}
+use Rattle.vc_ports.specs.Reading.{Gave}
 use Rattle.vc_ports.specs.Filling.{Fills}
-use Rattle.vc_ports.specs.declared.whole.Filled.TheVariants.{Whole, End, Failed}
+use Rattle.vc_ports.specs.declared.whole.Filled.TheVariants.{End, Failed}
 use Rattle.vc_ports.proofs.Given.{Gave-then, GaveAll-then}
 use Rattle.link_capture.specs.Capture.{entry, first_entry}
 use Rattle.link_capture.specs.Reading.{GavePart, GaveCut}
-use Rattle.link_capture.proofs.Heads.{entry_is, first_entry-stub, first_entry-short}
+use Rattle.link_capture.proofs.Heads.{first_entry-stub, first_entry-short}
 
 -- the end came within the length
 pub cut_in_length : (before after : Option (List ℕ)) (head : List ℕ) (n : ℕ) → length head ≡ 2 → n ≢ 0 → Fills before after head (End n) → GaveCut before after

@@ -1,5 +1,5 @@
 -- An entry that is written in two steps, its length and its datagram.
-use Rattle.std.proofs.Common.{◌≡◌, ℕ, List, ◌++◌, length, Option, Result, Ok, Err, OnOk, OnErr}
+use Rattle.std.proofs.Common.{ℕ, List, length, Option, Result, Ok, Err, OnOk, OnErr}
 use Rattle.byteorder.specs.Endian.{big_bytes}
 use Rattle.vc_ports.specs.Writing.{Grew, GrewBySome}
 use Rattle.vc_ports.proofs.Growing.{Grew-then, GrewBySome-then, GrewBySome-front}

@@ -1,5 +1,5 @@
 -- What went out to a sink, one piece after another.
-use Rattle.std.proofs.Common.{◌≡◌, ℕ, ◌+◌, ◌≤◌, List, [], ◌++◌, length, take, drop, Option, Some, None, ap, sym, ◌∙◌, append_assoc, arith, refl}
+use Rattle.std.proofs.Common.{ℕ, ◌+◌, List, [], ◌++◌, length, take, drop, Option, Some, None, ap, sym, ◌∙◌, append_assoc, arith, refl}
 use Rattle.std.specs.Option.{option_map}
 use Rattle.std.proofs.Math.Seq.{take-add, take-append-add, take-length}
 use Rattle.std.proofs.lemmas.List.{append-nil, length-append, take-append-le}

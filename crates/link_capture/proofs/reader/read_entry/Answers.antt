@@ -1,6 +1,4 @@
-use Rattle.std.proofs.Common.{◌≡◌, List, ℕ, length, take, drop, ◌++◌, ◌∙◌, arith, refl}
-use Rattle.vc_ports.specs.Reading.{Gave}
-use Rattle.byteorder.specs.Endian.{big_bytes}
+use Rattle.std.proofs.Common.{◌≡◌, length, drop, arith, refl}
 use Rattle.std.proofs.Math.Seq.{take-append_seam}
 use Rattle.link_capture.proofs.Parts.{cut_in_length, fault_in_length, part_without_memory, whole_entry, cut_in_datagram, fault_in_datagram}
 use Rattle.link_capture.proofs.reader.read_entry.Goals as goal

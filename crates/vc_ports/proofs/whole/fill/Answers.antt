@@ -1,4 +1,4 @@
-use Rattle.std.proofs.Common.{arith, take, length, length-append}
+use Rattle.std.proofs.Common.{arith, take, length-append}
 use Rattle.vc_ports.specs.Reading.{Gave}
 use Rattle.vc_ports.proofs.Given.{Gave-next}
 use Rattle.vc_ports.proofs.whole.fill.Goals as goal
