@@ -3,7 +3,7 @@ ghost use Rattle.vc_types.specs.Bits.{byte_bits, bits_of};
 ghost use Rattle.vc_types.specs.Bounded.{bounded, BeginsWith};
 ghost use Rattle.vc_bits.specs.Inside.{word_bits};
 
-use crate::writer::filled;
+use crate::byte::filled;
 use std::marker::Model;
 
 /// A bounded block (ST 2042-1, data coding): the bits of some bytes, and ones without end behind them. It is seen as

@@ -1,8 +1,8 @@
 ghost use Rattle.std.specs.Prelude.{◌≡◌, ◌+◌, ◌-◌, ◌*◌, ◌%◌, ◌<◌, ◌≤◌, ◌^◌, ◌++◌, ◌∷◌, [], false, length, replicate, vec_len, vec_capacity, OnOk, OnErr, IsOk};
-ghost use Rattle.vc_types.specs.Bits.{byte_bits, bits_of, digit_of};
+ghost use Rattle.vc_types.specs.Bits.{bits_of};
 ghost use Rattle.vc_bits.specs.Bits.{to_edge};
-ghost use Rattle.vc_bits.specs.Inside.{low_bits};
 
+use crate::byte::{filled, with_bit};
 use std::alloc::Global;
 use std::marker::Model;
 use vc_types::NoMemory;
@@ -94,26 +94,4 @@ impl BitWriter {
         }
         bytes
     }
-}
-
-// One more bit behind some bits of a byte.
-fn with_bit(last: u8, count: u8, bit: bool) -> u8
-    requires bits { last < 2 ^ count }
-    requires count { count < 8 }
-    ensures { result ≡ 2 * last + digit_of bit }
-{
-    if bit { 2 * last + 1 } else { 2 * last }
-}
-
-// The byte that begins with some bits and goes on with one alone.
-pub(crate) fn filled(last: u8, count: u8, fill: bool) -> u8
-    requires bits { last < 2 ^ count }
-    requires count { count ≤ 8 }
-    ensures { byte_bits result ≡ low_bits count last ++ replicate (8 - count) fill }
-{
-    let mut byte = last;
-    for used in count..8 {
-        byte = with_bit(byte, used, fill);
-    }
-    byte
 }

@@ -3,6 +3,7 @@ use Rattle.std.proofs.Common.{◌≡◌, ℕ, zero, suc, ◌+◌, ◌-◌, ◌*�
 use Rattle.std.proofs.lemmas.Bool.{cases_lt, lt-ltb, le-ltb}
 use Rattle.std.specs.Int.{bit_at}
 use mir.Val.{bool_byte}
+use Rattle.std.proofs.Math.Nat.{pow-suc}
 use Rattle.std.proofs.lemmas.Nat.{mul-le, pow_pos}
 use Rattle.std.proofs.lemmas.List.{drop-drop}
 use Rattle.vc_types.specs.Bits.{byte_bits, digit_of, number_of}
@@ -173,3 +174,22 @@ short_signed byte taken digits magnitude negative bits look begin fewer number s
   where
     pair : {v w : ℤ} {xs ys : List Bool} → v ≡ w → xs ≡ ys → ◌≡◌ {A = ℤ × List Bool} (v, xs) (w, ys)
     pair {v} {w} {xs} {ys} first second = ap (λ (x : ℤ). let y : ℤ × List Bool = (x, xs) in y) first ∙ ap (λ (rest : List Bool). let y : ℤ × List Bool = (w, rest) in y) second
+
+-- a code of one bit is that of 0
+pub short_sign : (byte taken digits magnitude : ℕ) → IsLook byte taken digits → taken < 8 → magnitude ≡ 1 * 2 ^ (taken / 2) + digits - 1 → bool_byte (ltb 1 taken) ≡ bool_byte (ltb 0 magnitude)
+short_sign byte taken digits magnitude look fewer number =
+    let odd = (look.ends fewer).0 in
+    elim (cases_lt 1 taken) [
+      | inl more ↦
+          let two : 2 ^ (taken / 2) ≡ 2 ^ (taken / 2 - 1) * 2 = ap (λ (n : ℕ). 2 ^ n) (let e : taken / 2 ≡ suc (taken / 2 - 1) = omega arith in e) ∙ pow-suc 2 (taken / 2 - 1) in
+          let some : 0 < magnitude = omega (arith, two, pow_pos (taken / 2 - 1)) in
+          rw (lt-ltb 1 taken more, lt-ltb 0 magnitude some) refl
+      | inr one ↦
+          let none : number_of look.list ≡ 0 = no_digit look.list (omega (arith, odd)) in
+          let zero : magnitude ≤ 0 = omega (arith, look.number, none, ap (λ (n : ℕ). 2 ^ n) (let e : taken / 2 ≡ 0 = omega arith in e)) in
+          rw (le-ltb 1 taken one, le-ltb 0 magnitude zero) refl
+    ]
+  where
+    no_digit : (list : List Bool) → length list ≡ 0 → number_of list ≡ 0
+    no_digit [] none = refl
+    no_digit (digit ∷ list) none = absurd (omega arith)

@@ -82,7 +82,7 @@ from_test byte taken digits test =
       whole = λ all. omega (arith, count, small);
       ends = λ fewer.
           let odd : (eqb (taken % 2) 1 && get_or (byte_bits byte) (2 * (taken / 2)) false) ≡ true = or_right (eqb taken 8) _ (λ (eight : eqb taken 8 ≡ true). absurd (omega (arith, eqb-true taken 8 eight))) last.1 in
-          let both = and_parts _ _ odd in
+          let both : (eqb (taken % 2) 1 ≡ true) × (get_or (byte_bits byte) (2 * (taken / 2)) false ≡ true) = and_parts _ _ odd in
           let here : bounded (byte_bits byte) (2 * (taken / 2)) ≡ true = set_bit (byte_bits byte) (2 * (taken / 2)) both.1 in
           (omega (arith, count, eqb-true (taken % 2) 1 both.0), rw count here);
     }

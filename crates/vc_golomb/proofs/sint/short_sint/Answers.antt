@@ -5,7 +5,7 @@ use Rattle.std.specs.Int.{bit_at}
 use Rattle.std.proofs.lemmas.Nat.{one_shl}
 use Rattle.vc_types.specs.Bounded.{bounded_sint, signed}
 use Rattle.vc_types.proofs.BoundedCodes.{signed-abs}
-use Rattle.vc_golomb.proofs.ByteReading.{short_signed}
+use Rattle.vc_golomb.proofs.ByteReading.{short_signed, short_sign}
 use Rattle.vc_golomb.proofs.SignedReading.{value_of, refused_by}
 use Rattle.vc_golomb.proofs.sint.short_sint.Goals as goal
 
@@ -16,16 +16,17 @@ magnitude c = 1 * 2 ^ (c.args.look.taken / 2) % 2 ^ 64 + c.from.result - 1
 abbrev negative : goal.After-signed_within → Bool
 negative c = eqb (bit_at c.args.byte (7 - c.args.look.taken)) 1
 
+number : (c : goal.After-signed_within) → magnitude c ≡ 1 * 2 ^ (c.args.look.taken / 2) + c.args.look.digits - 1
+number c = omega (arith, one_shl (c.args.look.taken / 2) 64 (omega arith), c.from.ensures)
+
 read : (c : goal.After-signed_within) → bounded_sint c.args.b.now ≡ (signed (negative c) (magnitude c), drop (c.args.look.taken + bool_byte (ltb 0 (magnitude c))) c.args.b.now)
-read c =
-    let number : magnitude c ≡ 1 * 2 ^ (c.args.look.taken / 2) + c.args.look.digits - 1 = omega (arith, one_shl (c.args.look.taken / 2) 64 (omega arith), c.from.ensures) in
-    short_signed c.args.byte c.args.look.taken c.args.look.digits (magnitude c) (negative c) c.args.b.now c.requires.look c.requires.byte c.requires.ends number refl
+read c = short_signed c.args.byte c.args.look.taken c.args.look.digits (magnitude c) (negative c) c.args.b.now c.requires.look c.requires.byte c.requires.ends (number c) refl
 
 pub returns-clause-value : goal.returns-clause-value
 returns-clause-value c = value_of c.signed_within.result (signed (negative c) (magnitude c)) _ (sym (ap (λ (x : ℤ × List Bool). x.0) (read c))) c.signed_within.ensures.value
 
 pub returns-clause-rest : goal.returns-clause-rest
-returns-clause-rest c = c.skip.ensures ∙ ap (λ (n : ℕ). drop (c.args.look.taken + n) c.args.b.now) c.from-2.ensures ∙ sym (ap (λ (x : ℤ × List Bool). x.1) (read c))
+returns-clause-rest c = c.skip.ensures ∙ ap (λ (n : ℕ). drop (c.args.look.taken + n) c.args.b.now) (c.from-2.ensures ∙ short_sign c.args.byte c.args.look.taken c.args.look.digits (magnitude c) c.requires.look c.requires.ends (number c)) ∙ sym (ap (λ (x : ℤ × List Bool). x.1) (read c))
 
 pub returns-clause-refused : goal.returns-clause-refused
 returns-clause-refused c =

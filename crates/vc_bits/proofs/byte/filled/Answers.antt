@@ -3,7 +3,7 @@ use Rattle.vc_types.specs.Bits.{digit_of}
 use Rattle.vc_types.proofs.Digits.{fits_more, digit_of-lt}
 use Rattle.vc_bits.specs.Inside.{low_bits}
 use Rattle.vc_bits.proofs.Writing.{fill_more}
-use Rattle.vc_bits.proofs.writer.filled.Goals as goal
+use Rattle.vc_bits.proofs.byte.filled.Goals as goal
 
 pub loop-used-preserved : goal.loop-used-preserved
 loop-used-preserved c = record {

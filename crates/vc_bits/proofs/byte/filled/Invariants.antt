@@ -1,6 +1,6 @@
 use Rattle.std.proofs.Common.{◌≡◌, ◌-◌, ◌<◌, ◌^◌, ◌++◌, replicate}
 use Rattle.vc_bits.specs.Inside.{low_bits}
-use Rattle.vc_bits.proofs.writer.filled.Given as goal
+use Rattle.vc_bits.proofs.byte.filled.Given as goal
 
 abbrev pub invariant-loop-used : goal.invariant-loop-used
 invariant-loop-used l = record {
