@@ -19,7 +19,9 @@ use Rattle.vc_types.proofs.Grey.{AreZero, IsZeroSlice, block_coefficients-empty,
 use Rattle.vc_types.proofs.OwnBits.{and_then_ok}
 use Rattle.vc_types.proofs.OwnBytes.{read_again}
 use Rattle.vc_types.proofs.OwnParameters.{parameters_own}
-use Rattle.decode_command.specs.OnePicture.{is_empty, empty_slices, Session, Planned, raw_frame}
+use Rattle.std.proofs.lemmas.Grind.{flat_map-append}
+use Rattle.decode_command.specs.Grey.{grey_frame}
+use Rattle.decode_command.specs.OnePicture.{is_empty, empty_slice, empty_slices, Session, Planned, raw_frame}
 use Rattle.vc_types.specs.declared.refusal.ParamsRefusal.{ParamsRefusal}
 
 -- ---- one slice
@@ -90,9 +92,9 @@ nothing_read : (left rest : List ℕ) → skip {T = ℕ} {E = Unit {0}} left ≡
 nothing_read left rest h = ap (λ (r : Unit {0} × List ℕ). r.1) (same_read (tt, left) (tt, rest) h)
 
 -- an empty slice, and those behind it
-passes : (p : Parameters) (n : ℕ) (b : Bool) (left rest : List ℕ) → and_then ((if b then skip else refuse tt) left) (λ (read : Unit {0} × List ℕ). empty_slices p n read.1) ≡ Ok (tt, rest) → (b ≡ true) × (empty_slices p n left ≡ Ok (tt, rest))
-passes p n true left rest h = (refl, h)
-passes p n false left rest h = absurd cc
+passes : (b : Bool) (left : List ℕ) (read : Unit {0} × List ℕ) → (if b then skip else refuse tt) left ≡ as_read read → (b ≡ true) × (left ≡ read.1)
+passes true left read h = (refl, ap (λ (r : Unit {0} × List ℕ). r.1) (same_read (tt, left) read h))
+passes false left read h = absurd cc
 
 -- a slice, and those behind it
 one_more : (p : Parameters) (i n : ℕ) (bytes : List ℕ) (coded : CodedSlice) (left : List ℕ) (slice : Coefficients) (slices : List Coefficients) (rest : List ℕ) → coded_slice p.prefix p.scaler bytes ≡ Ok (coded, left) → decoded_slice p i coded ≡ Ok slice → slices_from p (i + 1) n left ≡ Ok (slices, rest)
@@ -101,14 +103,15 @@ unfolding slices_from
 one_more p i n bytes coded left slice slices rest read decoded more = rw (read, decoded, more) refl
 
 pub empty_slices_read : (p : Parameters) (i n : ℕ) (bytes rest : List ℕ) → empty_slices p n bytes ≡ Ok (tt, rest) → AllZeros p i n bytes rest
-unfolding empty_slices slices_from
+unfolding empty_slices empty_slice slices_from
 empty_slices_read p i zero bytes rest h = record { slices = []; zeros = tt; read = ap (λ (l : List ℕ). Ok ([], l)) (nothing_read bytes rest h) }
 empty_slices_read p i (suc n) bytes rest h =
-    let first = and_then_ok (coded_slice p.prefix p.scaler bytes) _ (tt, rest) h in
+    let slice = and_then_ok (empty_slice p bytes) _ (tt, rest) h in
+    let first = and_then_ok (coded_slice p.prefix p.scaler bytes) _ slice.0 slice.1 in
     let coded = first.0.0 in
-    let passed = passes p n (is_empty coded) first.0.1 rest first.2 in
+    let passed = passes (is_empty coded) first.0.1 slice.0 first.2 in
     let one = decodes_to_zeros p i coded (empty_is coded passed.0) in
-    let more = empty_slices_read p (i + 1) n first.0.1 rest passed.1 in
+    let more = empty_slices_read p (i + 1) n first.0.1 rest (ap (empty_slices p n) passed.1 ∙ slice.2) in
     record {
       slices = all_coefficients p i coded ∷ more.slices;
       zeros = (one.zeros, more.zeros);
@@ -117,15 +120,9 @@ empty_slices_read p i (suc n) bytes rest h =
 
 -- ---- the whole picture
 
-abbrev pub grey : ℕ → ℕ → ℕ → List ℕ
+-- the samples of a grey plane
+abbrev grey : ℕ → ℕ → ℕ → List ℕ
 grey width height depth = replicate (height * width) (2 ^ (depth - 1))
-
--- the samples of a grey picture, plane by plane
-abbrev pub grey_samples : Parameters → List ℕ
-grey_samples p = grey p.shape.luma_width p.shape.luma_height p.shape.luma_depth ++ (grey p.shape.colour_width p.shape.colour_height p.shape.colour_depth ++ grey p.shape.colour_width p.shape.colour_height p.shape.colour_depth)
-
-abbrev pub grey_frame : Parameters → List ℕ
-grey_frame p = flat_map (sample_bytes (is_wide p.shape)) (grey_samples p)
 
 abbrev as_answer : Parameters × ℕ → Result (Parameters × ℕ) ParamsRefusal
 as_answer x = Ok x
@@ -156,9 +153,14 @@ picture_of s bytes slices p left coefficients rest read used sliced =
 planes_grey : (p : Parameters) (coefficients : List Coefficients) → AllByRecursion IsZeroSlice coefficients → frame_bytes (planes_of p coefficients) (is_wide p.shape) ≡ grey_frame p
 unfolding frame_bytes
 planes_grey p coefficients zeros =
-    ap (flat_map (sample_bytes (is_wide p.shape))) (ap (λ (y : List ℕ). y ++ ((component_plane p C1 coefficients).samples ++ (component_plane p C2 coefficients).samples)) (component_plane-zero p Y coefficients zeros)
-    ∙ ap (λ (c : List ℕ). grey p.shape.luma_width p.shape.luma_height p.shape.luma_depth ++ (c ++ (component_plane p C2 coefficients).samples)) (component_plane-zero p C1 coefficients zeros)
-    ∙ ap (λ (c : List ℕ). grey p.shape.luma_width p.shape.luma_height p.shape.luma_depth ++ (grey p.shape.colour_width p.shape.colour_height p.shape.colour_depth ++ c)) (component_plane-zero p C2 coefficients zeros))
+    let bytes : List ℕ → List ℕ = flat_map (sample_bytes (is_wide p.shape)) in
+    let luma = grey p.shape.luma_width p.shape.luma_height p.shape.luma_depth in
+    let colour = grey p.shape.colour_width p.shape.colour_height p.shape.colour_depth in
+    ap bytes (ap (λ (y : List ℕ). y ++ ((component_plane p C1 coefficients).samples ++ (component_plane p C2 coefficients).samples)) (component_plane-zero p Y coefficients zeros)
+    ∙ ap (λ (c : List ℕ). luma ++ (c ++ (component_plane p C2 coefficients).samples)) (component_plane-zero p C1 coefficients zeros)
+    ∙ ap (λ (c : List ℕ). luma ++ (colour ++ c)) (component_plane-zero p C2 coefficients zeros))
+    ∙ flat_map-append (sample_bytes (is_wide p.shape)) luma (colour ++ colour)
+    ∙ ap (λ (c : List ℕ). bytes luma ++ c) (flat_map-append (sample_bytes (is_wide p.shape)) colour colour)
 
 framed : (s : Session) (p : Parameters) (number : ℕ) (bytes slices : List ℕ) (coefficients : List Coefficients) → decoded_picture s.sequence (bytes ++ slices) ≡ Some (record { parameters = p; slices = coefficients })
     → raw_frame s (record { number = number; bytes = bytes; parameters = p }) slices ≡ Some (frame_bytes (planes_of p coefficients) (is_wide p.shape))

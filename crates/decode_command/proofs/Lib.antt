@@ -1,1 +1,6 @@
 pub mod EmptySlices
+pub mod EmptySteps
+pub mod StageSteps
+pub mod GreyRows
+pub mod Listening
+pub mod Decoded

@@ -1,1 +1,4 @@
 pub mod OnePicture
+pub mod Grey
+pub mod Stages
+pub mod Decoding

@@ -1,7 +1,7 @@
 -- The lists of datagrams that are decoded so far: a sequence header with frame coding, the transform parameters of a
 -- picture, and all of its slices in one datagram, each slice with three blocks of length 0. The list may end after any
 -- of them.
-use Rattle.std.specs.Prelude.{ℕ, zero, suc, ◌-◌, Bool, ◌&&◌, nat_le, ◌==◌, if◌then◌else◌, List, [], ◌∷◌, ◌++◌, length, take, drop, Option, Some, None, Result, Ok, Err, is_ok, option_and_then}
+use Rattle.std.specs.Prelude.{ℕ, zero, suc, Bool, ◌&&◌, nat_le, ◌==◌, if◌then◌else◌, List, [], ◌∷◌, ◌++◌, length, take, slice_range, Option, Some, None, Result, Ok, Err, is_ok, option_and_then}
 use Rattle.std.specs.Option.{option_map}
 use Rattle.link_model.specs.Frames.{is_wide, frame_bytes}
 use Rattle.link_model.specs.Packets.{PayloadValue, Header, Params, Slices, FragmentHead, RtpPacket, rtp_packet, payload}
@@ -28,7 +28,7 @@ with_payload packet (Ok value) = Some (record { ssrc = packet.ssrc; value = valu
 with_payload packet (Err refusal) = None
 
 abbrev pub with_packet : List ℕ → Result RtpPacket RtpRefusal → Option Received
-with_packet datagram (Ok packet) = with_payload packet (payload (take (packet.to - packet.from) (drop packet.from datagram)))
+with_packet datagram (Ok packet) = with_payload packet (payload (slice_range datagram packet.from packet.to))
 with_packet datagram (Err refusal) = None
 
 unfoldable pub received : List ℕ → Option Received
@@ -69,26 +69,41 @@ planned_by s other = None
 abbrev pub is_empty : CodedSlice → Bool
 is_empty coded = nat_le coded.index 127 && length coded.y == 0 && length coded.c1 == 0 && length coded.c2 == 0
 
+unfoldable pub empty_slice : Parameters → ByteField (Unit {0})
+empty_slice p = do
+  coded ← coded_slice p.prefix p.scaler
+  if is_empty coded then skip else refuse tt
+
 -- so many empty slices
 unfoldable pub empty_slices : Parameters → ℕ → ByteField (Unit {0})
 empty_slices p zero = skip
 empty_slices p (suc n) = do
-  coded ← coded_slice p.prefix p.scaler
-  empty ← if is_empty coded then skip else refuse tt
+  empty ← empty_slice p
   empty_slices p n
 
-abbrev pub are_of : Planned → FragmentHead → Bool
-are_of p head = head.number == p.number && head.prefix == p.parameters.prefix && head.scaler == p.parameters.scaler
+-- a fragment of this picture
+abbrev pub is_of : ℕ → Parameters → FragmentHead → Bool
+is_of number p head = head.number == number && head.prefix == p.prefix && head.scaler == p.scaler
 
 -- all slices of the picture, each of them empty
-abbrev pub slices_by : Planned → PayloadValue → Option (List ℕ)
-slices_by p (Slices head count x y from body) = if are_of p head && count == slice_count p.parameters && x == 0 && y == 0 && is_ok (empty_slices p.parameters count body) then Some body else None
-slices_by p other = None
+abbrev pub slices_by : ℕ → Parameters → PayloadValue → Option (List ℕ)
+slices_by number p (Slices head count x y from body) = if is_of number p head && count == slice_count p && x == 0 && y == 0 && is_ok (empty_slices p count body) then Some body else None
+slices_by number p other = None
 
 -- the payload of a datagram of the session
 abbrev pub from_source : ℕ → Option Received → Option PayloadValue
 from_source ssrc None = None
 from_source ssrc (Some r) = if r.ssrc == ssrc then Some r.value else None
+
+-- what a datagram is to the three stages of a list: the header that begins it, the parameters of a picture, its slices
+unfoldable pub opens : List ℕ → Option Session
+opens datagram = option_and_then (λ r. opened r.ssrc r.value) (received datagram)
+
+unfoldable pub plans : Session → List ℕ → Option Planned
+plans s datagram = option_and_then (planned_by s) (from_source s.ssrc (received datagram))
+
+unfoldable pub completes : Session → ℕ → Parameters → List ℕ → Option (List ℕ)
+completes s number p datagram = option_and_then (slices_by number p) (from_source s.ssrc (received datagram))
 
 -- ---- the frames of a list
 
@@ -98,14 +113,14 @@ raw_frame s p slices = option_map (λ planes. frame_bytes planes (is_wide p.para
 
 abbrev pub with_slices : Session → Planned → List (List ℕ) → Option (List ℕ)
 with_slices s p [] = Some []
-with_slices s p (datagram ∷ []) = option_and_then (raw_frame s p) (option_and_then (slices_by p) (from_source s.ssrc (received datagram)))
+with_slices s p (datagram ∷ []) = option_and_then (raw_frame s p) (completes s p.number p.parameters datagram)
 with_slices s p (datagram ∷ next ∷ more) = None
 
 abbrev pub with_parameters : Session → List (List ℕ) → Option (List ℕ)
 with_parameters s [] = Some []
-with_parameters s (datagram ∷ more) = option_and_then (λ p. with_slices s p more) (option_and_then (planned_by s) (from_source s.ssrc (received datagram)))
+with_parameters s (datagram ∷ more) = option_and_then (λ p. with_slices s p more) (plans s datagram)
 
 -- the raw bytes of the frames of a list of datagrams, none where it doesn't have the form
 unfoldable pub frames_of : List (List ℕ) → Option (List ℕ)
 frames_of [] = Some []
-frames_of (datagram ∷ more) = option_and_then (λ s. with_parameters s more) (option_and_then (λ r. opened r.ssrc r.value) (received datagram))
+frames_of (datagram ∷ more) = option_and_then (λ s. with_parameters s more) (opens datagram)

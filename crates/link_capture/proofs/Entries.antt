@@ -1,11 +1,13 @@
 -- The entries of bytes that are read one entry after another.
-use Rattle.std.proofs.Common.{◌≡◌, ◌≢◌, ℕ, zero, suc, ◌+◌, ◌^◌, ◌<◌, ◌≤◌, List, [], ◌∷◌, ◌++◌, length, Option, Some, None, refl, sym, ap, ◌∙◌, subst, arith, inl, inr, append_assoc, All}
+use Rattle.std.proofs.Common.{◌≡◌, ◌≢◌, ℕ, zero, suc, ◌+◌, ◌^◌, ◌<◌, ◌≤◌, List, [], ◌∷◌, ◌++◌, length, drop, Option, Some, None, refl, sym, ap, ◌∙◌, subst, arith, inl, inr, append_assoc, All}
 use Rattle.std.specs.Option.{option_map_or}
 use Rattle.std.specs.List.{flat_map}
 use Rattle.std.proofs.lemmas.List.{append-nil, length-append}
+use Rattle.std.proofs.lemmas.List.Elements.{All-drop, All-head, All-tail}
+use Rattle.std.proofs.Math.Seq.{drop-append_seam}
 use Rattle.std.proofs.lemmas.List.Concat.{flat_map-cons}
-use Rattle.link_capture.specs.Capture.{entry, first_entry, entries_within, entries_of}
-use Rattle.link_capture.proofs.Heads.{first_entry-entry, first_entry-shorter, first_entry-is, length-entry}
+use Rattle.link_capture.specs.Capture.{entry, first_entry, entries_within, entries_of, BeginsEntry}
+use Rattle.link_capture.proofs.Heads.{first_entry-entry, first_entry-shorter, first_entry-is, first_entry-append, begins_entry}
 
 -- an entry before other entries
 abbrev then : List ℕ → List (List ℕ) × List ℕ → List (List ℕ) × List ℕ
@@ -37,8 +39,8 @@ within-cases (suc most) zero bytes h k (Some first) is = absurd (omega (arith, f
 within-cases (suc most) (suc enough) bytes h k (Some first) is =
     let short = first_entry-shorter bytes first is in
     within-next most bytes first is
-      ∙ ap (then first.0) (within-cases most enough first.1 (omega arith) (omega arith) (first_entry first.1) refl)
-      ∙ sym (within-next enough bytes first is)
+    ∙ ap (then first.0) (within-cases most enough first.1 (omega arith) (omega arith) (first_entry first.1) refl)
+    ∙ sym (within-next enough bytes first is)
 
 -- as many entries as there are bytes are enough
 pub entries_within-enough : (most : ℕ) (bytes : List ℕ) → length bytes ≤ most → entries_within most bytes ≡ entries_of bytes
@@ -55,9 +57,87 @@ pub entries_of-first : (bytes : List ℕ) (first : List ℕ × List ℕ) → fir
 entries_of-first bytes first is =
     let short = first_entry-shorter bytes first is in
     sym (entries_within-enough (suc (length bytes)) bytes (omega arith))
-      ∙ within-next (length bytes) bytes first is
-      ∙ ap (then first.0) (entries_within-enough (length bytes) first.1 (omega arith))
+    ∙ within-next (length bytes) bytes first is
+    ∙ ap (then first.0) (entries_within-enough (length bytes) first.1 (omega arith))
 
 -- an entry, and the entries of what is behind it
 pub entries_of-entry : (datagram rest : List ℕ) → length datagram < 2 ^ 16 → entries_of (entry datagram ++ rest) ≡ (datagram ∷ (entries_of rest).0, (entries_of rest).1)
 entries_of-entry datagram rest fits = entries_of-first (entry datagram ++ rest) (datagram, rest) (first_entry-entry datagram rest fits)
+
+entries_are : (p q : List (List ℕ) × List ℕ) → p ≡ q → p.0 ≡ q.0
+entries_are p q same = ap (λ (split : List (List ℕ) × List ℕ). split.0) same
+
+rests_are : (p q : List (List ℕ) × List ℕ) → p ≡ q → p.1 ≡ q.1
+rests_are p q same = ap (λ (split : List (List ℕ) × List ℕ). split.1) same
+
+then-cases : (most : ℕ) (bytes more : List ℕ) (entries : List (List ℕ)) → length bytes ≤ most → entries_of bytes ≡ (entries, []) → (found : Option (List ℕ × List ℕ)) → first_entry bytes ≡ found
+    → entries_of (bytes ++ more) ≡ (entries ++ (entries_of more).0, (entries_of more).1)
+then-cases most bytes more entries h whole None is =
+    let split = sym (entries_of-part bytes is) ∙ whole in
+    rw (sym (entries_are ([], bytes) (entries, []) split), rests_are ([], bytes) (entries, []) split) refl
+then-cases zero bytes more entries h whole (Some first) is = absurd (omega (arith, first_entry-shorter bytes first is))
+then-cases (suc most) bytes more entries h whole (Some first) is =
+    let split = sym (entries_of-first bytes first is) ∙ whole in
+    let behind : entries_of first.1 ≡ ((entries_of first.1).0, []) = ap (λ (rest : List ℕ). ((entries_of first.1).0, rest)) (rests_are (first.0 ∷ (entries_of first.1).0, (entries_of first.1).1) (entries, []) split) in
+    let all = then-cases most first.1 more (entries_of first.1).0 (omega (arith, first_entry-shorter bytes first is)) behind (first_entry first.1) refl in
+    entries_of-first (bytes ++ more) (first.0, first.1 ++ more) (first_entry-append bytes more first is)
+    ∙ ap (then first.0) all
+    ∙ ap (λ (front : List (List ℕ)). (front ++ (entries_of more).0, (entries_of more).1)) (entries_are (first.0 ∷ (entries_of first.1).0, (entries_of first.1).1) (entries, []) split)
+
+-- whole entries, and the entries of what is behind them
+pub entries_of-then : (bytes more : List ℕ) (entries : List (List ℕ)) → entries_of bytes ≡ (entries, []) → entries_of (bytes ++ more) ≡ (entries ++ (entries_of more).0, (entries_of more).1)
+entries_of-then bytes more entries whole = then-cases (length bytes) bytes more entries (omega arith) whole (first_entry bytes) refl
+
+-- no bytes have no entry
+pub entries_of-nothing : entries_of [] ≡ ([], [])
+entries_of-nothing = entries_of-part [] none-in-nothing
+
+-- whole entries, and one more
+pub entries_of-next : (bytes : List ℕ) (entries : List (List ℕ)) (datagram : List ℕ) → entries_of bytes ≡ (entries, []) → length datagram < 2 ^ 16
+    → entries_of (bytes ++ entry datagram) ≡ (entries ++ datagram ∷ [], [])
+entries_of-next bytes entries datagram whole fits =
+    let alone : entries_of (entry datagram) ≡ (datagram ∷ [], []) = rw append-nil at (rw entries_of-nothing at (entries_of-entry datagram [] fits)) in
+    rw alone at (entries_of-then bytes (entry datagram) entries whole)
+
+-- whole entries, and the part of one
+pub entries_of-cut : (bytes part : List ℕ) (entries : List (List ℕ)) → entries_of bytes ≡ (entries, []) → first_entry part ≡ None → entries_of (bytes ++ part) ≡ (entries, part)
+entries_of-cut bytes part entries whole not_whole =
+    rw (entries_of-part part not_whole, append-nil) at (entries_of-then bytes part entries whole)
+
+rest-cases : (most : ℕ) (bytes : List ℕ) → length bytes ≤ most → (found : Option (List ℕ × List ℕ)) → first_entry bytes ≡ found → first_entry (entries_of bytes).1 ≡ None
+rest-cases most bytes h None is = rw (entries_of-part bytes is) is
+rest-cases zero bytes h (Some first) is = absurd (omega (arith, first_entry-shorter bytes first is))
+rest-cases (suc most) bytes h (Some first) is =
+    rw (entries_of-first bytes first is) (rest-cases most first.1 (omega (arith, first_entry-shorter bytes first is)) (first_entry first.1) refl)
+
+-- the rest begins with no whole entry
+pub entries_of-rest : (bytes : List ℕ) → first_entry (entries_of bytes).1 ≡ None
+entries_of-rest bytes = rest-cases (length bytes) bytes (omega arith) (first_entry bytes) refl
+
+is-cases : (most : ℕ) (bytes : List ℕ) → length bytes ≤ most → All (λ byte. byte < 256) bytes → (found : Option (List ℕ × List ℕ)) → first_entry bytes ≡ found
+    → flat_map entry (entries_of bytes).0 ++ (entries_of bytes).1 ≡ bytes
+is-cases most bytes h fit None is = rw (entries_of-part bytes is) refl
+is-cases zero bytes h fit (Some first) is = absurd (omega (arith, first_entry-shorter bytes first is))
+is-cases (suc most) bytes h fit (Some first) is =
+    let front = first_entry-is bytes first fit is in
+    let fit_behind : All (λ (byte : ℕ). byte < 256) first.1 = rw drop-append_seam at (rw front.1 at (All-drop (λ byte. byte < 256) (length (entry first.0)) bytes fit)) in
+    let behind = is-cases most first.1 (omega (arith, first_entry-shorter bytes first is)) fit_behind (first_entry first.1) refl in
+    rw (entries_of-first bytes first is, flat_map-cons) (append_assoc (entry first.0) (flat_map entry (entries_of first.1).0) (entries_of first.1).1 ∙ ap (λ (rest : List ℕ). entry first.0 ++ rest) behind ∙ sym front.1)
+
+-- the entries' bytes and the rest are the bytes
+pub entries_of-is : (bytes : List ℕ) → All (λ byte. byte < 256) bytes → flat_map entry (entries_of bytes).0 ++ (entries_of bytes).1 ≡ bytes
+entries_of-is bytes fit = is-cases (length bytes) bytes (omega arith) fit (first_entry bytes) refl
+
+-- entries that are written one after another are read back
+pub entries_of-written : (datagrams : List (List ℕ)) → All (λ datagram. length datagram < 2 ^ 16) datagrams → entries_of (flat_map entry datagrams) ≡ (datagrams, [])
+entries_of-written [] fit = entries_of-nothing
+entries_of-written (datagram ∷ datagrams) fit =
+    let behind = entries_of-written datagrams (All-tail (λ datagram. length datagram < 2 ^ 16) datagram datagrams fit) in
+    rw flat_map-cons (rw behind at (entries_of-entry datagram (flat_map entry datagrams) (All-head (λ datagram. length datagram < 2 ^ 16) datagram datagrams fit)))
+
+-- the rest is the beginning of an entry
+pub entries_of-begun : (bytes : List ℕ) → All (λ byte. byte < 256) bytes → BeginsEntry (entries_of bytes).1
+entries_of-begun bytes fit =
+    let whole : All (λ (byte : ℕ). byte < 256) (flat_map entry (entries_of bytes).0 ++ (entries_of bytes).1) = rw (entries_of-is bytes fit) fit in
+    let rest : All (λ (byte : ℕ). byte < 256) (entries_of bytes).1 = rw drop-append_seam at (All-drop (λ byte. byte < 256) (length (flat_map entry (entries_of bytes).0)) _ whole) in
+    begins_entry (entries_of bytes).1 rest (entries_of-rest bytes)

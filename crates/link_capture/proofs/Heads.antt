@@ -1,10 +1,10 @@
 -- The entry that begins some bytes.
-use Rattle.std.proofs.Common.{◌≡◌, ◌≢◌, ℕ, zero, suc, ◌+◌, ◌-◌, ◌*◌, ◌/◌, ◌%◌, ◌^◌, ◌<◌, ◌≤◌, List, [], ◌∷◌, ◌++◌, length, take, drop, Option, Some, None, Bool, true, false, nat_lt, refl, sym, ap, ◌∙◌, subst, arith, inl, inr, All, slice_index}
+use Rattle.std.proofs.Common.{◌≡◌, ◌≢◌, ℕ, zero, suc, ◌+◌, ◌-◌, ◌*◌, ◌/◌, ◌%◌, ◌^◌, ◌<◌, ◌≤◌, List, [], ◌∷◌, ◌++◌, length, take, drop, replicate, Option, Some, None, Bool, true, false, nat_lt, refl, sym, ap, ◌∙◌, subst, arith, inl, inr, All, slice_index}
 use Rattle.std.proofs.lemmas.Bool.{cases_lt, lt-ltb, le-ltb}
-use Rattle.std.proofs.lemmas.List.{length-append, length-drop, length-take-le, take-append-drop}
+use Rattle.std.proofs.lemmas.List.{length-append, length-replicate, length-drop, length-take-le, take-append-drop, take-append-le, drop-append-le}
 use Rattle.std.proofs.Math.Seq.{take-append_seam, drop-append_seam}
 use Rattle.byteorder.specs.Endian.{big_bytes, big_number}
-use Rattle.link_capture.specs.Capture.{entry, first_entry}
+use Rattle.link_capture.specs.Capture.{entry, first_entry, BeginsEntry}
 
 -- two bytes are those of the number that they are read as
 pub two_bytes : (head : List ℕ) → length head ≡ 2 → ((i : ℕ) → slice_index head i < 256) → big_bytes 2 (big_number 2 head) ≡ head
@@ -84,7 +84,7 @@ first_entry-is (high ∷ low ∷ bytes) first fit is =
     let found = first_entry-found high low bytes first is in
     let len : length (take (256 * high + low) bytes) ≡ 256 * high + low = length-take-le (256 * high + low) bytes found.0 in
     rw (found.1, entry_is high low (take (256 * high + low) bytes) (fit 0 0 (omega arith)) (fit 1 0 (omega arith)) len, take-append-drop (256 * high + low) bytes)
-        (omega (arith, len, fit 0 0 (omega arith), fit 1 0 (omega arith)), refl)
+    (omega (arith, len, fit 0 0 (omega arith), fit 1 0 (omega arith)), refl)
 
 -- fewer bytes than a length has begin with no whole entry
 pub first_entry-stub : (bytes : List ℕ) → length bytes < 2 → first_entry bytes ≡ None
@@ -92,3 +92,48 @@ unfolding first_entry
 first_entry-stub [] short = refl
 first_entry-stub (high ∷ []) short = refl
 first_entry-stub (high ∷ low ∷ bytes) short = absurd (omega arith)
+
+-- bytes behind the first entry stay behind it
+pub first_entry-append : (bytes more : List ℕ) (first : List ℕ × List ℕ) → first_entry bytes ≡ Some first → first_entry (bytes ++ more) ≡ Some (first.0, first.1 ++ more)
+unfolding first_entry
+first_entry-append [] more first is = absurd (none_is_not first is)
+first_entry-append (high ∷ []) more first is = absurd (none_is_not first is)
+first_entry-append (high ∷ low ∷ bytes) more first is =
+    let found = first_entry-found high low bytes first is in
+    let whole : 256 * high + low ≤ length (bytes ++ more) = omega (arith, length-append bytes more, found.0) in
+    rw (found.1, le-ltb (length (bytes ++ more)) (256 * high + low) whole, take-append-le (256 * high + low) bytes more found.0, drop-append-le (256 * high + low) bytes more found.0) refl
+
+some_zeros : (n : ℕ) → 0 < n → replicate {A = ℕ} n 0 ≢ []
+some_zeros n some none = omega (arith, length-replicate {A = ℕ} n 0, ap length none)
+
+-- bytes that begin with no whole entry are the beginning of one
+pub begins_entry : (part : List ℕ) → All (λ byte. byte < 256) part → first_entry part ≡ None → BeginsEntry part
+begins_entry [] fit none = record { datagram = []; fits = omega arith; more = 0 ∷ 0 ∷ []; some = λ same. cc; is = sym (entry_is 0 0 [] (omega arith) (omega arith) refl) }
+begins_entry (high ∷ []) fit none =
+    let h : high < 256 = fit 0 0 (omega arith) in
+    let len : length (replicate {A = ℕ} (256 * high) 0) ≡ 256 * high + 0 = omega (arith, length-replicate {A = ℕ} (256 * high) 0) in
+    record {
+      datagram = replicate (256 * high) 0;
+      fits = omega (arith, len);
+      more = 0 ∷ replicate (256 * high) 0;
+      some = λ same. cc;
+      is = sym (entry_is high 0 (replicate (256 * high) 0) h (omega arith) len);
+    }
+begins_entry (high ∷ low ∷ bytes) fit none = elim (cases_lt (length bytes) (256 * high + low)) [
+  | inl short ↦
+      let h : high < 256 = fit 0 0 (omega arith) in
+      let l : low < 256 = fit 1 0 (omega arith) in
+      let zeros : List ℕ = replicate (256 * high + low - length bytes) 0 in
+      let len : length (bytes ++ zeros) ≡ 256 * high + low = omega (arith, length-append bytes zeros, length-replicate {A = ℕ} (256 * high + low - length bytes) 0) in
+      record {
+        datagram = bytes ++ zeros;
+        fits = omega (arith, len);
+        more = zeros;
+        some = some_zeros (256 * high + low - length bytes) (omega arith);
+        is = sym (entry_is high low (bytes ++ zeros) h l len);
+      }
+  | inr whole ↦
+      let n = 256 * high + low in
+      let found : first_entry (high ∷ low ∷ take n bytes ++ drop n bytes) ≡ Some (take n bytes, drop n bytes) = first_entry-whole high low (take n bytes) (drop n bytes) (length-take-le n bytes whole) in
+      absurd (none_is_not (take n bytes, drop n bytes) (sym none ∙ rw (take-append-drop n bytes) at found))
+]

@@ -1,3 +1,5 @@
 pub mod Heads
 pub mod Entries
 pub mod Parts
+pub mod Puts
+pub mod Loops

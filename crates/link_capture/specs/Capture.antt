@@ -1,5 +1,5 @@
 -- A capture: entries one after another, each a datagram behind its length in 2 bytes, high first (this project's profile).
-use Rattle.std.specs.Prelude.{ℕ, zero, suc, ◌+◌, ◌*◌, List, [], ◌∷◌, ◌++◌, length, take, drop, Option, Some, None, nat_lt, if◌then◌else◌}
+use Rattle.std.specs.Prelude.{◌≡◌, ◌≢◌, ℕ, zero, suc, ◌+◌, ◌*◌, ◌^◌, ◌<◌, List, [], ◌∷◌, ◌++◌, length, take, drop, Option, Some, None, nat_lt, if◌then◌else◌}
 use Rattle.std.specs.Option.{option_map_or}
 use Rattle.byteorder.specs.Endian.{big_bytes}
 
@@ -20,3 +20,11 @@ entries_within (suc most) bytes = option_map_or (λ first. let behind = entries_
 -- the datagrams of the whole entries that begin the bytes, and the rest
 unfoldable pub entries_of : List ℕ → List (List ℕ) × List ℕ
 entries_of bytes = entries_within (length bytes) bytes
+
+-- the part is the beginning of an entry, and not the whole of it
+pub record BeginsEntry (part : List ℕ) : Type 0 where
+  pub datagram : List ℕ
+  pub fits : length datagram < 2 ^ 16
+  pub more : List ℕ
+  pub some : more ≢ []
+  pub is : part ++ more ≡ entry datagram

@@ -2,9 +2,14 @@
 #![tactic(auto)]
 
 mod fault;
+mod laws;
 mod reader;
 mod writer;
 
 pub use fault::EntryFault;
+pub use laws::entries_are_read_back;
 pub use reader::{CaptureReader, next_entry};
 pub use writer::put_entry;
+
+#[cfg(test)]
+mod tests;

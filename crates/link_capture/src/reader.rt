@@ -1,4 +1,4 @@
-ghost use Rattle.std.specs.Prelude.{◌≡◌, ◌+◌, ◌<◌, ◌^◌, None, Err, IfNone, IfSome};
+ghost use Rattle.std.specs.Prelude.{◌≡◌, ◌+◌, ◌<◌, ◌≤◌, ◌^◌, None, Err, IfNone, IfSome};
 ghost use Rattle.byteorder.specs.Endian.{big_bytes};
 ghost use Rattle.vc_ports.specs.Faults.{HasCause};
 ghost use Rattle.link_capture.specs.Reading.{ReadsEntry, place_after, fault_after};
@@ -8,13 +8,14 @@ use byteorder::{BigEndian, ByteOrder};
 use std::alloc::Global;
 use vc_ports::{Filled, Source, fill};
 
-/// A source that is read entry by entry.
+/// A source that is read entry by entry. It keeps the source borrowed, and contracts see what the source is now.
+#[derive(Drop)]
 pub struct CaptureReader<'a, S> {
     alloc: Global,
     source: &'a mut S,
-    // the bytes of the entries that were read whole
+    // How many bytes the entries have that were read whole.
     place: u64,
-    // the fault that is answered from now on
+    // The fault that is answered from now on.
     fault: Option<EntryFault>,
 }
 
@@ -40,10 +41,14 @@ impl<'a, S: Source> CaptureReader<'a, S> {
 pub fn next_entry<S: Source>(r: &mut CaptureReader<S>) -> Result<Option<Vec<u8>>, EntryFault>
     requires { r.old.place < 2 ^ 63 }
     ensures borrows { r.new.source.ghost_name ≡ r.old.source.ghost_name }
-    ensures entry { IfNone r.old.fault (ReadsEntry (S.left r.old.source.now) (S.left r.new.source.now) r.old.place result) }
-    ensures cause { IfNone r.old.fault (HasCause (S.faults r.old.source.now) (S.faults r.new.source.now) (result ≡ Err EntryFault.ReadFault)) }
-    ensures again { IfSome r.old.fault (λ fault. (result ≡ Err fault) × (r.new.source.now ≡ r.old.source.now)) }
+    ensures entry { IfNone r.old.fault
+        (ReadsEntry (S.left r.old.source.now) (S.left r.new.source.now) r.old.place result) }
+    ensures cause { IfNone r.old.fault
+        (HasCause (S.faults r.old.source.now) (S.faults r.new.source.now) (result ≡ Err EntryFault.ReadFault)) }
+    ensures again { IfSome r.old.fault
+        (λ fault. (result ≡ Err fault) × (r.new.source.now ≡ r.old.source.now)) }
     ensures place { r.new.place ≡ place_after r.old.place result }
+    ensures grows { r.new.place ≤ r.old.place + 65537 }
     ensures fault { r.new.fault ≡ fault_after r.old.fault result }
 {
     if let Some(fault) = r.fault {
@@ -59,7 +64,11 @@ pub fn next_entry<S: Source>(r: &mut CaptureReader<S>) -> Result<Option<Vec<u8>>
 }
 
 // Reads the entry whose first byte is at a place.
-fn read_entry<S: Source>(alloc: Global, source: &mut S, place: u64) -> Result<Option<Vec<u8>>, EntryFault>
+fn read_entry<S: Source>(
+    alloc: Global,
+    source: &mut S,
+    place: u64,
+) -> Result<Option<Vec<u8>>, EntryFault>
     ensures entry { ReadsEntry (S.left source.old) (S.left source.new) place result }
     ensures cause { HasCause (S.faults source.old) (S.faults source.new) (result ≡ Err EntryFault.ReadFault) }
 {

@@ -1,7 +1,6 @@
 -- A header that was written is read back.
-use Rattle.std.proofs.Common.{◌≡◌, ◌<◌, ◌≤◌, ℕ, ◌+◌, ◌*◌, ◌/◌, ◌%◌, ◌^◌, Bool, true, false, List, [], ◌∷◌, ◌++◌, length, Ok, refl, ap, ◌∙◌, arith, if◌then◌else◌, ◌==◌}
+use Rattle.std.proofs.Common.{◌≡◌, ◌<◌, ◌≤◌, ℕ, ◌+◌, ◌/◌, ◌%◌, ◌^◌, Bool, true, false, List, [], ◌++◌, length, Ok, refl, ap, ◌∙◌, arith, if◌then◌else◌, ◌==◌}
 use Rattle.std.proofs.lemmas.Bool.{le-ltb}
-use Rattle.std.specs.Int.{w16, w32, to_be_bytes}
 use Rattle.byteorder.specs.Numbers.{big_number-reads_back}
 use Rattle.link_model.specs.Packets.{RtpPacket, RtpFits, number_at, version, has_padding, has_extension, csrc_count, marker, payload_type, rtp_packet, rtp_header, is_shaped, header_end, payload_end, packet_fields}
 
@@ -33,4 +32,4 @@ unfolding rtp_header
 rtp_packet-rtp_header p rest fits =
     plain_packet (rtp_header p ++ rest) (omega arith) refl refl refl refl
     ∙ ap Ok (same_packet (marker_is p.marker p.payload_type fits.payload_type) (type_is p.marker p.payload_type fits.payload_type)
-      (big_number-reads_back 2 p.sequence [] fits.sequence) (big_number-reads_back 4 p.timestamp [] fits.timestamp) (big_number-reads_back 4 p.ssrc [] fits.ssrc) (omega arith))
+    (big_number-reads_back 2 p.sequence [] fits.sequence) (big_number-reads_back 4 p.timestamp [] fits.timestamp) (big_number-reads_back 4 p.ssrc [] fits.ssrc) (omega arith))

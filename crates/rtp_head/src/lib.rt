@@ -6,8 +6,8 @@ mod read;
 mod view;
 mod write;
 
-pub use link_model::RtpRefusal;
 pub use laws::written_rtp_is_read;
+pub use link_model::RtpRefusal;
 pub use read::read_rtp;
 pub use view::RtpView;
 pub use write::write_rtp;

@@ -1,5 +1,5 @@
 ghost use Rattle.std.specs.Prelude.{◌≡◌, ◌+◌, ◌≤◌, ◌<◌, ◌↔◌, ◌≢◌, length, IfOk, IfSome, IsNone, IsSome, IsTrue, IsFalse, MatchOption};
-ghost use Rattle.link_model.specs.Packets.{Answers, number_at, version, has_padding, has_extension, csrc_count, header_end, padding_count, payload_end, is_shaped, packet_fields, rtp_packet};
+ghost use Rattle.link_model.specs.Packets.{Answers, number_at, version, has_padding, has_extension, csrc_count, marker, payload_type, header_end, padding_count, payload_end, is_shaped, packet_fields, rtp_packet};
 ghost use Rattle.rtp_head.specs.Views.{packet_of};
 
 use crate::view::RtpView;
@@ -23,6 +23,49 @@ fn number_32(bytes: &[u8], place: usize) -> u32
     BigEndian::read_u32(&bytes[place..])
 }
 
+fn version(bytes: &[u8]) -> u8
+    requires { 1 ≤ length bytes.now }
+    ensures { result ≡ version bytes.now }
+{
+    bytes[0] >> 6
+}
+
+fn has_padding(bytes: &[u8]) -> bool
+    requires { 1 ≤ length bytes.now }
+    ensures { result ≡ has_padding bytes.now }
+{
+    (bytes[0] >> 5) & 1 == 1
+}
+
+fn has_extension(bytes: &[u8]) -> bool
+    requires { 1 ≤ length bytes.now }
+    ensures { result ≡ has_extension bytes.now }
+{
+    (bytes[0] >> 4) & 1 == 1
+}
+
+fn csrc_count(bytes: &[u8]) -> u8
+    requires { 1 ≤ length bytes.now }
+    ensures value { result ≡ csrc_count bytes.now }
+    ensures small { result < 16 }
+{
+    bytes[0] & 0x0F
+}
+
+fn marker(bytes: &[u8]) -> bool
+    requires { 2 ≤ length bytes.now }
+    ensures { result ≡ marker bytes.now }
+{
+    bytes[1] >> 7 == 1
+}
+
+fn payload_type(bytes: &[u8]) -> u8
+    requires { 2 ≤ length bytes.now }
+    ensures { result ≡ payload_type bytes.now }
+{
+    bytes[1] & 0x7F
+}
+
 // Where the header ends, if it ends within the bytes.
 #[tactic(auto, unfolding(link_model::specs::Packets::header_end))]
 fn header_end(bytes: &[u8]) -> Option<usize>
@@ -30,9 +73,9 @@ fn header_end(bytes: &[u8]) -> Option<usize>
     ensures passes { IsNone result ↔ (length bytes.now < header_end bytes.now) }
     ensures place { IfSome result (λ end. end ≡ header_end bytes.now) }
 {
-    let csrc_end = FIXED_BYTES + 4 * usize::from(bytes[0] % 16);
+    let csrc_end = FIXED_BYTES + 4 * usize::from(csrc_count(bytes));
     let mut end = csrc_end;
-    if bytes[0] / 16 % 2 == 1 {
+    if has_extension(bytes) {
         if bytes.len() < csrc_end + 4 {
             return None;
         }
@@ -51,7 +94,7 @@ fn payload_end(bytes: &[u8], from: usize) -> Option<usize>
     ensures place { IfSome result (λ end. end ≡ payload_end bytes.now) }
     ensures within { IfSome result (λ end. (from ≤ end) × (end ≤ length bytes.now)) }
 {
-    if bytes[0] / 32 % 2 == 0 {
+    if !has_padding(bytes) {
         return Some(bytes.len());
     }
     let padding = usize::from(bytes[bytes.len() - 1]);
@@ -75,7 +118,7 @@ pub fn read_rtp(bytes: &[u8]) -> Result<RtpView, RtpRefusal>
     if bytes.len() < FIXED_BYTES {
         return Err(RtpRefusal::Short);
     }
-    if bytes[0] / 64 != 2 {
+    if version(bytes) != 2 {
         return Err(RtpRefusal::Version);
     }
     let Some(from) = header_end(bytes) else {
@@ -85,8 +128,8 @@ pub fn read_rtp(bytes: &[u8]) -> Result<RtpView, RtpRefusal>
         return Err(RtpRefusal::Shape);
     };
     Ok(RtpView {
-        marker: bytes[1] / 128 == 1,
-        payload_type: bytes[1] % 128,
+        marker: marker(bytes),
+        payload_type: payload_type(bytes),
         sequence: number_16(bytes, 2),
         timestamp: number_32(bytes, 4),
         ssrc: number_32(bytes, 8),

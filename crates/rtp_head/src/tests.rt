@@ -36,12 +36,42 @@ fn refuses_in_order(rt: HostRuntime) {
 
 #[test]
 fn reads_what_is_sent(rt: HostRuntime) {
-    let third = RtpView { sequence: 2, ..PLAIN };
-    assert_eq!(rt; read_rtp(&datagram::<21>(0x60, 0)), Ok(RtpView { to: 21, ..PLAIN }));
-    assert_eq!(rt; read_rtp(&datagram::<31>(0x60, 1)), Ok(RtpView { sequence: 1, to: 31, ..PLAIN }));
-    assert_eq!(rt; read_rtp(&datagram::<40>(0x60, 2)), Ok(RtpView { to: 40, ..third }));
-    assert_eq!(rt; read_rtp(&datagram::<38>(0xE0, 2)), Ok(RtpView { marker: true, to: 38, ..third }));
-    assert_eq!(rt; read_rtp(&datagram::<16>(0x60, 3)), Ok(RtpView { sequence: 3, to: 16, ..PLAIN }));
+    let third = RtpView {
+        sequence: 2,
+        ..PLAIN
+    };
+    assert_eq!(rt;
+        read_rtp(&datagram::<21>(0x60, 0)),
+        Ok(RtpView { to: 21, ..PLAIN })
+    );
+    assert_eq!(rt;
+        read_rtp(&datagram::<31>(0x60, 1)),
+        Ok(RtpView {
+            sequence: 1,
+            to: 31,
+            ..PLAIN
+        })
+    );
+    assert_eq!(rt;
+        read_rtp(&datagram::<40>(0x60, 2)),
+        Ok(RtpView { to: 40, ..third })
+    );
+    assert_eq!(rt;
+        read_rtp(&datagram::<38>(0xE0, 2)),
+        Ok(RtpView {
+            marker: true,
+            to: 38,
+            ..third
+        })
+    );
+    assert_eq!(rt;
+        read_rtp(&datagram::<16>(0x60, 3)),
+        Ok(RtpView {
+            sequence: 3,
+            to: 16,
+            ..PLAIN
+        })
+    );
 }
 
 #[test]
@@ -74,7 +104,16 @@ fn takes_padding_up_to_the_header(rt: HostRuntime) {
 
 #[test]
 fn writes_what_is_sent(rt: HostRuntime) {
+    written_rtp_is_read();
     let mut out = [0xFF; 12];
-    write_rtp(&RtpView { marker: true, sequence: 2, timestamp: 3600, ..PLAIN }, &mut out);
+    write_rtp(
+        &RtpView {
+            marker: true,
+            sequence: 2,
+            timestamp: 3600,
+            ..PLAIN
+        },
+        &mut out,
+    );
     assert_eq!(rt; out, [0x80, 0xE0, 0, 2, 0, 0, 0x0E, 0x10, 0, 0, 0, 1]);
 }

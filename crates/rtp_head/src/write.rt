@@ -13,7 +13,7 @@ const MARKER: u8 = 1 << 7;
 #[tactic(auto, unfolding(link_model::specs::Packets::rtp_header))]
 pub fn write_rtp(v: &RtpView, out: &mut [u8; 12])
     requires { v.now.payload_type ≤ 127 }
-    ensures { out.new ≡ rtp_header (packet_of v.now) }
+    ensures value { out.new ≡ rtp_header (packet_of v.now) }
 {
     let (bits, numbers) = out.split_at_mut(2);
     let (sequence, rest) = numbers.split_at_mut(2);

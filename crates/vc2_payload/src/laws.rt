@@ -5,5 +5,4 @@ ghost use Rattle.link_model.specs.Packets.{PayloadValue, IsWritable, payload, pa
 /// sequence header they join its body, and elsewhere they are ignored.
 pub fn written_payload_is_read()
     ensures { (value : PayloadValue) (behind : List ℕ) → IsWritable value → payload (payload_bytes value ++ behind) ≡ Ok (read_back value behind) }
-{
-}
+{}

@@ -2,6 +2,7 @@ ghost use Rattle.std.specs.Prelude.{◌≡◌, ◌+◌, ◌-◌, ◌≤◌, ◌<
 ghost use Rattle.link_model.specs.Packets.{Answers, number_at, code_of, fragment_fits, fragment_value, fragment_head, is_known_code, payload};
 ghost use Rattle.vc2_payload.specs.Views.{head_of, value_of, HasBodyIn, CanBeWritten};
 
+use crate::codes::{AUXILIARY_DATA, END_OF_SEQUENCE, FRAGMENT, PADDING_DATA, SEQUENCE_HEADER};
 use crate::payload::{FragmentHead, Payload};
 use byteorder::{BigEndian, ByteOrder};
 use link_model::PayloadRefusal;
@@ -92,7 +93,7 @@ pub fn read_payload(bytes: &[u8]) -> Result<Payload<'_>, PayloadRefusal>
     }
     let high = number_16(bytes, 0);
     match bytes[3] {
-        0x00 => {
+        SEQUENCE_HEADER => {
             let (_, body) = bytes.split_at(HEAD_BYTES);
             Ok(Payload::Header {
                 high,
@@ -100,12 +101,9 @@ pub fn read_payload(bytes: &[u8]) -> Result<Payload<'_>, PayloadRefusal>
                 body,
             })
         }
-        0x10 => Ok(Payload::End { high }),
-        code @ (0x20 | 0x30) => Ok(Payload::Skip { high, code }),
-        0xEC => match fragment(bytes) {
-            Some(payload) => Ok(payload),
-            None => Err(PayloadRefusal::Fragment),
-        },
+        END_OF_SEQUENCE => Ok(Payload::End { high }),
+        code @ (AUXILIARY_DATA | PADDING_DATA) => Ok(Payload::Skip { high, code }),
+        FRAGMENT => fragment(bytes).ok_or(PayloadRefusal::Fragment),
         _ => Err(PayloadRefusal::Code),
     }
 }

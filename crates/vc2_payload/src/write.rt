@@ -3,6 +3,7 @@ ghost use Rattle.std.specs.Int.{w16, to_be_bytes};
 ghost use Rattle.link_model.specs.Packets.{payload_head, fragment_bytes, payload_bytes};
 ghost use Rattle.vc2_payload.specs.Views.{head_of, value_of, CanBeWritten};
 
+use crate::codes::{END_OF_SEQUENCE, FRAGMENT, SEQUENCE_HEADER};
 use crate::payload::{FragmentHead, Payload};
 use byteorder::{BigEndian, ByteOrder};
 use vc_types::NoMemory;
@@ -25,7 +26,7 @@ fn fragment_bytes(head: &FragmentHead, len: u16, slices: u16) -> [u8; 16]
 {
     let mut bytes = [0; 16];
     let (start, rest) = bytes.split_at_mut(4);
-    start.copy_from_slice(&payload_head(head.high, head.flags, 0xEC));
+    start.copy_from_slice(&payload_head(head.high, head.flags, FRAGMENT));
     let (number, rest) = rest.split_at_mut(4);
     BigEndian::write_u32(number, head.number);
     let (prefix, rest) = rest.split_at_mut(2);
@@ -72,13 +73,25 @@ pub fn write_payload(out: &mut Vec<u8>, p: &Payload<'_>) -> Result<(), NoMemory>
     ensures unchanged { OnErr result (out.new.items ≡ out.old.items) }
 {
     match p {
-        Payload::Header { high, body, .. } => append(out, &payload_head(*high, 0, 0x00), &[], body),
-        Payload::End { high } => append(out, &payload_head(*high, 0, 0x10), &[], &[]),
+        Payload::Header { high, body, .. } => append(
+            out,
+            &payload_head(*high, 0, SEQUENCE_HEADER),
+            &[],
+            body,
+        ),
+        Payload::End { high } => append(out, &payload_head(*high, 0, END_OF_SEQUENCE), &[], &[]),
         Payload::Skip { high, code } => append(out, &payload_head(*high, 0, *code), &[], &[]),
         Payload::Params { head, body, .. } => {
             append(out, &fragment_bytes(head, body.len() as u16, 0), &[], body)
         }
-        Payload::Slices { head, count, x, y, body, .. } => {
+        Payload::Slices {
+            head,
+            count,
+            x,
+            y,
+            body,
+            ..
+        } => {
             let start = fragment_bytes(head, body.len() as u16, *count);
             append(out, &start, &offset_bytes(*x, *y), body)
         }

@@ -1,39 +1,123 @@
-ghost use Rattle.std.specs.Prelude.{◌≡◌, drop};
-ghost use Rattle.vc_types.specs.Bits.{bits_of};
-ghost use Rattle.vc_types.specs.Bounded.{bounded};
+ghost use Rattle.std.specs.Prelude.{◌≡◌, ◌+◌, ◌*◌, ◌<◌, ◌≤◌, ◌++◌, [], drop, length};
+ghost use Rattle.vc_types.specs.Bits.{byte_bits, bits_of};
+ghost use Rattle.vc_types.specs.Bounded.{bounded, BeginsWith};
+ghost use Rattle.vc_bits.specs.Inside.{word_bits};
 
-use crate::reader::BitReader;
+use crate::writer::filled;
 use std::marker::Model;
 
 /// A bounded block (ST 2042-1, data coding): the bits of some bytes, and ones without end behind them. It is seen as
 /// the bits that are left of the bytes.
 #[derive(Drop)]
 pub struct Block<'a> {
-    reader: BitReader<'a>,
+    // The bits that come next are the last bits of a word, and this many. The bytes behind them are read into it before
+    // fewer than eight bits are left there.
+    word: u64,
+    count: u32,
+    rest: &'a [u8],
 }
 
 impl<'a> Model for Block<'a> {
-    ghost use Rattle.std.specs.Prelude.{List, Bool};
+    ghost use Rattle.std.specs.Prelude.{◌≡◌, ◌<◌, ◌≤◌, ◌++◌, [], List, Bool};
+    ghost use Rattle.vc_types.specs.Bits.{bits_of};
+    ghost use Rattle.vc_bits.specs.Inside.{word_bits};
 
     ghost Value = { List Bool };
 
-    ghost view = { λ b. b.reader.left };
+    ghost view = { λ b. word_bits b.count b.word ++ bits_of b.rest.now };
+
+    ghost invariant = { λ b. (b.count ≤ 64) × (b.count < 8 → b.rest.now ≡ []) };
 }
 
 impl<'a> Block<'a> {
+    #[tactic(auto, using(crate::proofs::Words::behinds))]
     pub(crate) fn new(bytes: &'a [u8]) -> Block<'a>
         ensures { result ≡ bits_of bytes.now }
     {
-        Block {
-            reader: BitReader::new(bytes),
-        }
+        let (word, count, rest) = refilled(0, 0, bytes);
+        Block { word, count, rest }
     }
 
     /// The next bit, past the end a one.
+    #[tactic(auto, using(crate::proofs::Peeking::first_bit))]
     pub fn bit(&mut self) -> bool
         ensures bit { result ≡ bounded self.old 0 }
         ensures left { self.new ≡ drop 1 self.old }
     {
-        self.reader.bit().unwrap_or(true)
+        let bit = self.peek() >= 128;
+        self.skip(1);
+        bit
     }
+
+    /// The byte that the next eight bits make, past the end ones. The block stays.
+    #[tactic(auto, using(crate::proofs::Words::peeks))]
+    pub fn peek(&self) -> u8
+        ensures { BeginsWith self.now (byte_bits result) }
+    {
+        if self.count >= 8 {
+            ((self.word >> (self.count - 8)) % 256) as u8
+        } else if self.count > 0 {
+            filled(
+                (self.word % (1 << self.count)) as u8,
+                self.count as u8,
+                true,
+            )
+        } else {
+            255
+        }
+    }
+
+    /// Goes on behind the next bits.
+    #[tactic(auto, using(crate::proofs::Words::skips))]
+    pub fn skip(&mut self, bits: u32)
+        ensures { self.new ≡ drop bits self.old }
+    {
+        let (word, count, rest) = if bits <= self.count {
+            refilled(self.word, self.count - bits, self.rest)
+        } else {
+            behind(self.rest, bits - self.count)
+        };
+        self.word = word;
+        self.count = count;
+        self.rest = rest;
+    }
+}
+
+// The same bits, of which the word has at least eight or all.
+fn refilled<'a>(word: u64, count: u32, rest: &'a [u8]) -> (u64, u32, &'a [u8])
+    requires { count ≤ 64 }
+    ensures bits { word_bits result.1 result.0 ++ bits_of result.2.now ≡ word_bits count word ++ bits_of rest.now }
+    ensures count { result.1 ≤ 64 }
+    ensures few { result.1 < 8 → result.2.now ≡ [] }
+{
+    if count >= 8 {
+        return (word, count, rest);
+    }
+    let mut word = word;
+    let mut count = count;
+    let mut rest = rest;
+    'bytes: while count <= 56 && !rest.is_empty() {
+        word = word % (1 << 56) * 256 + u64::from(rest[0]);
+        count += 8;
+        let (_, after) = rest.split_at(1);
+        rest = after;
+    }
+    (word, count, rest)
+}
+
+// The bits behind some others.
+#[tactic(auto, using(crate::proofs::Words::behinds))]
+fn behind<'a>(rest: &'a [u8], bits: u32) -> (u64, u32, &'a [u8])
+    ensures bits { word_bits result.1 result.0 ++ bits_of result.2.now ≡ drop bits (bits_of rest.now) }
+    ensures count { result.1 ≤ 64 }
+    ensures few { result.1 < 8 → result.2.now ≡ [] }
+{
+    let bytes = (bits / 8) as usize;
+    if bytes >= rest.len() {
+        let (_, after) = rest.split_at(rest.len());
+        return (0, 0, after);
+    }
+    let (_, after) = rest.split_at(bytes);
+    let (_, more) = after.split_at(1);
+    refilled(u64::from(after[0]), 8 - bits % 8, more)
 }

@@ -106,7 +106,7 @@ fn with_bit(last: u8, count: u8, bit: bool) -> u8
 }
 
 // The byte that begins with some bits and goes on with one alone.
-fn filled(last: u8, count: u8, fill: bool) -> u8
+pub(crate) fn filled(last: u8, count: u8, fill: bool) -> u8
     requires bits { last < 2 ^ count }
     requires count { count ≤ 8 }
     ensures { byte_bits result ≡ low_bits count last ++ replicate (8 - count) fill }

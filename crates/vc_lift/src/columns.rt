@@ -199,7 +199,7 @@ pub(crate) fn run(cells: &mut [i128], width: usize, half: usize, steps: &[Step],
     requires whole { length cells.old ≡ 2 * half * width }
     requires some { 0 < half }
     requires small { All (λ z. unsigned_abs z < 2 ^ 108) cells.old }
-    requires steps { IsTrue (grows_little (in_order undo (map counted_of steps.now))) }
+    requires steps { IsTrue (grows_little 16 (in_order undo (map counted_of steps.now))) }
     ensures { (x : ℕ) → x < width → column_of width cells.new x ≡ lift_all (in_order undo (map counted_of steps.now)) half (column_of width cells.old x) }
 {
     for i in 0..steps.len() {

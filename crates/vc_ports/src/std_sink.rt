@@ -1,4 +1,7 @@
-ghost use Rattle.std.specs.Prelude.{◌≡◌, None};
+ghost use Rattle.std.specs.Prelude.{◌≡◌, ◌<◌, length, None};
+ghost use Rattle.vc_ports.specs.Adapters.{PassesWrite};
+ghost use Rattle.vc_ports.specs.Faults.{HasCause};
+ghost use Rattle.vc_ports.specs.Writing.{Writes};
 
 use crate::sink::{Sink, Took};
 use std::io::Write;
@@ -24,7 +27,12 @@ impl<W: Write> Sink for StdSink<W> {
 
     ghost faults = { λ s. s.faults };
 
-    fn write(&mut self, piece: &[u8]) -> Took {
+    fn write(&mut self, piece: &[u8]) -> Took
+        requires { 0 < length piece.now }
+        ensures bytes { Writes None None piece.now result }
+        ensures cause { HasCause self.old.faults self.new.faults (result ≡ Took.Failed) }
+        ensures passed { PassesWrite (W.contents self.old.writer) (W.contents self.new.writer) piece.now result }
+    {
         match self.writer.write(piece) {
             Ok(count) if count > 0 => Took::Bytes(count),
             _ => {

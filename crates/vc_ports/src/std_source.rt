@@ -1,4 +1,7 @@
-ghost use Rattle.std.specs.Prelude.{◌≡◌, None};
+ghost use Rattle.std.specs.Prelude.{◌≡◌, ◌<◌, length, None};
+ghost use Rattle.vc_ports.specs.Adapters.{PassesRead};
+ghost use Rattle.vc_ports.specs.Faults.{HasCause};
+ghost use Rattle.vc_ports.specs.Reading.{Reads};
 
 use crate::source::{Got, Source};
 use std::io::Read;
@@ -33,7 +36,12 @@ impl<R: Read> Source for StdSource<R> {
 
     ghost faults = { λ s. s.faults };
 
-    fn read(&mut self, buf: &mut [u8]) -> Got {
+    fn read(&mut self, buf: &mut [u8]) -> Got
+        requires { 0 < length buf.old }
+        ensures bytes { Reads None None buf.old buf.new result }
+        ensures cause { HasCause self.old.faults self.new.faults (result ≡ Got.Failed) }
+        ensures passed { PassesRead (R.remaining self.old.reader) (R.remaining self.new.reader) buf.new result }
+    {
         let room = buf.len().min(PIECE);
         let piece = &mut self.piece[..];
         match self.reader.read(&mut piece[..room]) {

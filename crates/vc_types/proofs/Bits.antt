@@ -39,6 +39,19 @@ pub length-byte_bits : (byte : ℕ) → length (byte_bits byte) ≡ 8
 unfolding byte_bits
 length-byte_bits byte = refl
 
+-- a bit of a byte
+pub bit_of_byte : (byte place : ℕ) → place < 8 → get_or (byte_bits byte) place true ≡ eqb (bit_at byte (7 - place)) 1
+unfolding byte_bits
+bit_of_byte byte zero small = refl
+bit_of_byte byte (suc zero) small = refl
+bit_of_byte byte (suc (suc zero)) small = refl
+bit_of_byte byte (suc (suc (suc zero))) small = refl
+bit_of_byte byte (suc (suc (suc (suc zero)))) small = refl
+bit_of_byte byte (suc (suc (suc (suc (suc zero))))) small = refl
+bit_of_byte byte (suc (suc (suc (suc (suc (suc zero)))))) small = refl
+bit_of_byte byte (suc (suc (suc (suc (suc (suc (suc zero))))))) small = refl
+bit_of_byte byte (suc (suc (suc (suc (suc (suc (suc (suc place)))))))) small = absurd (omega arith)
+
 behind_byte : (byte : ℕ) (more : List Bool) → drop 8 (byte_bits byte ++ more) ≡ more
 unfolding byte_bits
 behind_byte byte more = refl

@@ -1,5 +1,5 @@
 -- A code that is read in a block is the code that stands there, and it is the only one.
-use Rattle.std.proofs.Common.{◌≡◌, ℕ, zero, suc, ◌+◌, ◌-◌, ◌*◌, ◌<◌, ◌≤◌, ℤ, pos, eqb, cond, Bool, true, false, List, [], ◌∷◌, ◌++◌, length, get_or, drop, refl, sym, ap, subst, ◌∙◌, arith, inl, inr, append_assoc, append-nil, length-append, replicate, Some, negsuc}
+use Rattle.std.proofs.Common.{◌≡◌, ℕ, zero, suc, ◌+◌, ◌-◌, ◌*◌, ◌<◌, ◌≤◌, ℤ, pos, eqb, cond, Bool, true, false, List, [], ◌∷◌, ◌++◌, length, get_or, drop, refl, sym, ap, subst, ◌∙◌, arith, inl, inr, append_assoc, append-nil, length-append, replicate, Some, negsuc, zero-add, add-zero, suc-add}
 use Rattle.std.specs.Prelude.{unsigned_abs}
 use Rattle.std.proofs.lemmas.Bool.{cases_lt, ne_eqb}
 use Rattle.std.proofs.lemmas.List.{get_or_append_left, get_or-replicate, get_or_past, get_or_push, drop-drop, length-replicate}
@@ -21,7 +21,7 @@ trans : (xs ys zs : List Bool) → SameBounded xs ys → SameBounded ys zs → S
 trans xs ys zs p q = record { at = λ place. p.at place ∙ q.at place }
 
 -- ones at the end are there already
-same_ones : (xs : List Bool) (n : ℕ) → SameBounded xs (xs ++ replicate n true)
+pub same_ones : (xs : List Bool) (n : ℕ) → SameBounded xs (xs ++ replicate n true)
 same_ones xs n = record {
   at = λ place.
       elim (cases_lt place (length xs)) [
@@ -120,7 +120,7 @@ stands bits code n enough begin =
     front_from_reads true (bits ++ replicate n true) code (omega (arith, length-append bits (replicate n true), length-replicate n true)) (λ i lt. sym ((same_ones bits n).at i) ∙ begin i lt)
 
 -- the front of a code
-front_begins : (bits code others : List Bool) → BeginsWith bits (code ++ others) → BeginsWith bits code
+pub front_begins : (bits code others : List Bool) → BeginsWith bits (code ++ others) → BeginsWith bits code
 front_begins bits code others begin place lt = begin place (omega (arith, length-append code others)) ∙ get_or_append_left code others true place lt
 
 -- one number's code begins a block
@@ -168,10 +168,14 @@ zero_is bits whole rest read none =
     let same : uint_bits whole ≡ sint_bits (pos 0) = ap uint_bits none ∙ sym (append-nil (uint_bits 0)) in
     record { code = subst (BeginsWith bits) same read.code; behind = read.behind ∙ ap (λ (code : List Bool). drop (length code) bits) same }
 
-first_is : (n : ℕ) (xs : List Bool) → bounded (drop n xs) 0 ≡ bounded xs n
-first_is zero xs = refl
-first_is (suc n) [] = refl
-first_is (suc n) (x ∷ xs) = first_is n xs
+-- the bits behind some others
+pub bounded-drop : (n place : ℕ) (bits : List Bool) → bounded (drop n bits) place ≡ bounded bits (n + place)
+bounded-drop zero place bits = ap (bounded bits) (sym (zero-add place))
+bounded-drop (suc n) place [] = get_or_past [] place true (omega arith) ∙ sym (get_or_past [] (suc n + place) true (omega arith))
+bounded-drop (suc n) place (bit ∷ bits) = bounded-drop n place bits ∙ ap (bounded (bit ∷ bits)) (sym (suc-add n place))
+
+first_is : (n : ℕ) (bits : List Bool) → bounded (drop n bits) 0 ≡ bounded bits n
+first_is n bits = bounded-drop n 0 bits ∙ ap (bounded bits) (add-zero n)
 
 sint_is : (bits : List Bool) (whole : ℕ) (rest : List Bool) → IsBounded bits whole rest → 0 < whole → IsSint bits (signed (bounded rest 0) whole) (drop 1 rest)
 sint_is bits whole rest read some =

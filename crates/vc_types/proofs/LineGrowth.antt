@@ -32,15 +32,15 @@ raised s own other = own + weight s * other / 2 ^ s.shift + 2
 abbrev pub is_plain : CountedStep → Bool
 is_plain s = nat_lt s.parity 2 && nat_le (length s.taps) 8 && nat_lt (weight s) (2 ^ 14) && nat_le s.shift 12
 
--- from such bounds, no step takes any sample past 16 times that magnitude, and each step is plain
-abbrev pub stays_little : List CountedStep → ℕ → ℕ → Bool
-stays_little [] even odd = nat_le even 65536 && nat_le odd 65536
-stays_little (s ∷ steps) even odd =
-    (nat_le even 65536 && nat_le odd 65536) &&
-    (is_plain s && stays_little steps (if s.parity == 0 then raised s even odd else even) (if s.parity == 0 then odd else raised s odd even))
+-- from such bounds, no step takes any sample past most times that magnitude, and each step is plain
+abbrev pub stays_little : ℕ → List CountedStep → ℕ → ℕ → Bool
+stays_little most [] even odd = nat_le even (4096 * most) && nat_le odd (4096 * most)
+stays_little most (s ∷ steps) even odd =
+    (nat_le even (4096 * most) && nat_le odd (4096 * most)) &&
+    (is_plain s && stays_little most steps (if s.parity == 0 then raised s even odd else even) (if s.parity == 0 then odd else raised s odd even))
 
-abbrev pub grows_little : List CountedStep → Bool
-grows_little steps = stays_little steps 4096 4096
+abbrev pub grows_little : ℕ → List CountedStep → Bool
+grows_little most steps = stays_little most steps 4096 4096
 
 -- c times the magnitude of each sample of a parity is at most b
 pub record Rises (x : ℕ → ℤ) (half parity c b : ℕ) : Type 0 where
@@ -147,18 +147,18 @@ second_of_and : (p q : Bool) → (p && q) ≡ true → q ≡ true
 second_of_and true q h = h
 second_of_and false q h = absurd (false≢true h)
 
-pub plain_at : (steps : List CountedStep) (e o : ℕ) (i : ℕ) (d : CountedStep) → stays_little steps e o ≡ true → i < length steps → is_plain (get_or steps i d) ≡ true
-plain_at [] e o i d h k = absurd (omega arith)
-plain_at (s ∷ steps) e o zero d h k = first_of_and _ _ (second_of_and (nat_le e 65536 && nat_le o 65536) _ h)
-plain_at (s ∷ steps) e o (suc i) d h k = plain_at steps _ _ i d (second_of_and (is_plain s) _ (second_of_and (nat_le e 65536 && nat_le o 65536) _ h)) (omega arith)
+pub plain_at : (most : ℕ) (steps : List CountedStep) (e o : ℕ) (i : ℕ) (d : CountedStep) → stays_little most steps e o ≡ true → i < length steps → is_plain (get_or steps i d) ≡ true
+plain_at most [] e o i d h k = absurd (omega arith)
+plain_at most (s ∷ steps) e o zero d h k = first_of_and _ _ (second_of_and (nat_le e (4096 * most) && nat_le o (4096 * most)) _ h)
+plain_at most (s ∷ steps) e o (suc i) d h k = plain_at most steps _ _ i d (second_of_and (is_plain s) _ (second_of_and (nat_le e (4096 * most) && nat_le o (4096 * most)) _ h)) (omega arith)
 
 -- the magnitudes of all samples are at most b
 pub record IsLittle (x : ℕ → ℤ) (half b : ℕ) : Type 0 where
   pub even : IsWithin x half 0 b
   pub odd : IsWithin x half 1 b
 
-little : (x : ℕ → ℤ) (half p e m : ℕ) → e ≤ 65536 → Rises x half p 4096 (e * m) → IsWithin x half p (16 * m)
-little x half p e m h r = record { within = λ n k. (let a = r.rises n k in let b = mul-le-mul_right m h in omega (arith, a, b)) }
+little : (most : ℕ) (x : ℕ → ℤ) (half p e m : ℕ) → e ≤ 4096 * most → Rises x half p 4096 (e * m) → IsWithin x half p (most * m)
+little most x half p e m h r = record { within = λ n k. (let a = r.rises n k in let b = mul-le-mul_right m h in omega (arith, a, b)) }
 
 chosen_even : (q : ℕ) (y : ℕ → ℤ) (half e o r t m : ℕ) → q ≡ 0 → Rises y half 0 4096 (r * m) → Rises y half 1 4096 (o * m) → (Rises y half 0 4096 ((if q == 0 then r else e) * m)) × (Rises y half 1 4096 ((if q == 0 then o else t) * m))
 chosen_even q y half e o r t m p rises keeps = rw p (rises, keeps)
@@ -186,17 +186,17 @@ module _ (s : CountedStep) (half : ℕ) (x : ℕ → ℤ) (e o m : ℕ) (plain :
   pub next : (Rises (lift s half x) half 0 4096 ((if s.parity == 0 then raised s e o else e) * m)) × (Rises (lift s half x) half 1 4096 ((if s.parity == 0 then o else raised s o e) * m))
   next = elim (cases_eq s.parity 0) [ inl p ↦ when_even p | inr apart ↦ (let p : s.parity ≡ 1 = omega (arith, plain_parity s plain) in when_odd p) ]
 
-pub little_at : (steps : List CountedStep) (e o half m : ℕ) (x : ℕ → ℤ) (i : ℕ) → stays_little steps e o ≡ true → 0 < half → 8192 ≤ m → Rises x half 0 4096 (e * m) → Rises x half 1 4096 (o * m) → IsLittle (lift_all (take i steps) half x) half (16 * m)
+pub little_at : (most : ℕ) (steps : List CountedStep) (e o half m : ℕ) (x : ℕ → ℤ) (i : ℕ) → stays_little most steps e o ≡ true → 0 < half → 8192 ≤ m → Rises x half 0 4096 (e * m) → Rises x half 1 4096 (o * m) → IsLittle (lift_all (take i steps) half x) half (most * m)
 unfolding lift_all
-little_at [] e o half m x i h some large even odd =
-    rw take-nil (record { even = little x half 0 e m (grind (arith, nat_tests)) even; odd = little x half 1 o m (grind (arith, nat_tests)) odd })
-little_at (s ∷ steps) e o half m x zero h some large even odd =
-    let both = first_of_and (nat_le e 65536 && nat_le o 65536) _ h in
-    record { even = little x half 0 e m (grind (arith, nat_tests)) even; odd = little x half 1 o m (grind (arith, nat_tests)) odd }
-little_at (s ∷ steps) e o half m x (suc i) h some large even odd =
-    let rest = second_of_and (nat_le e 65536 && nat_le o 65536) _ h in
+little_at most [] e o half m x i h some large even odd =
+    rw take-nil (record { even = little most x half 0 e m (grind (arith, nat_tests)) even; odd = little most x half 1 o m (grind (arith, nat_tests)) odd })
+little_at most (s ∷ steps) e o half m x zero h some large even odd =
+    let both = first_of_and (nat_le e (4096 * most) && nat_le o (4096 * most)) _ h in
+    record { even = little most x half 0 e m (grind (arith, nat_tests)) even; odd = little most x half 1 o m (grind (arith, nat_tests)) odd }
+little_at most (s ∷ steps) e o half m x (suc i) h some large even odd =
+    let rest = second_of_and (nat_le e (4096 * most) && nat_le o (4096 * most)) _ h in
     let n = next s half x e o m (first_of_and _ _ rest) some large even odd in
-    little_at steps _ _ half m (lift s half x) i (second_of_and (is_plain s) _ rest) some large n.0 n.1
+    little_at most steps _ _ half m (lift s half x) i (second_of_and (is_plain s) _ rest) some large n.0 n.1
 
 -- a step of this form, by its parts
 pub record IsPlain (s : CountedStep) : Type 0 where
@@ -210,14 +210,14 @@ plain s h = record { parity = plain_parity s h; few = plain_few s h; light = pla
 
 -- ---- where the next of a list of steps is made
 
-module _ (steps : List CountedStep) (little : IsTrue (grows_little steps)) where
+module _ (most : ℕ) (steps : List CountedStep) (little : IsTrue (grows_little most steps)) where
   pub plain_now : (i : ℕ) (s : CountedStep) → s ≡ get_or steps i s → i < length steps → is_plain s ≡ true
-  plain_now i s e h = ap is_plain e ∙ plain_at steps 4096 4096 i s little h
+  plain_now i s e h = ap is_plain e ∙ plain_at most steps 4096 4096 i s little h
 
-  pub little_now : (half m : ℕ) (x y : ℕ → ℤ) (i : ℕ) → 0 < half → 8192 ≤ m → ((k : ℕ) → k < 2 * half → unsigned_abs (x k) ≤ m) → y ≡ lift_all (take i steps) half x → IsLittle y half (16 * m)
+  pub little_now : (half m : ℕ) (x y : ℕ → ℤ) (i : ℕ) → 0 < half → 8192 ≤ m → ((k : ℕ) → k < 2 * half → unsigned_abs (x k) ≤ m) → y ≡ lift_all (take i steps) half x → IsLittle y half (most * m)
   little_now half m x y i some large small e =
       let from : (p : ℕ) → p < 2 → Rises x half p 4096 (4096 * m) = λ p h. record { rises = λ n k. (let a : unsigned_abs (x (2 * n + p)) ≤ m = small (2 * n + p) (omega arith) in omega arith) } in
-      rw e (little_at steps 4096 4096 half m x i little some large (from 0 (omega arith)) (from 1 (omega arith)))
+      rw e (little_at most steps 4096 4096 half m x i little some large (from 0 (omega arith)) (from 1 (omega arith)))
 
 pub by_parity : (y : ℕ → ℤ) (half b p : ℕ) → p < 2 → IsLittle y half b → IsWithin y half p b
 by_parity y half b p h l = elim (cases_eq p 0) [ inl e ↦ rw e l.even | inr apart ↦ (let e : p ≡ 1 = omega arith in rw e l.odd) ]
@@ -225,16 +225,21 @@ by_parity y half b p h l = elim (cases_eq p 0) [ inl e ↦ rw e l.even | inr apa
 pub by_other : (y : ℕ → ℤ) (half b p : ℕ) → p < 2 → IsLittle y half b → IsWithin y half (1 - p) b
 by_other y half b p h l = by_parity y half b (1 - p) (omega arith) l
 
-pub grows : (steps : List CountedStep) → IsTrue (grows_little steps) → (half m : ℕ) (x : ℕ → ℤ) → 0 < half → 2 ^ 16 ≤ m → ((k : ℕ) → k < 2 * half → unsigned_abs (x k) < m) → (k : ℕ) → k < 2 * half → unsigned_abs (lift_all steps half x k) < 16 * m
-grows steps little half m x some large below k h =
-    let all : lift_all steps half x ≡ lift_all (take (length steps) steps) half x = ap (λ ss. lift_all ss half x) (sym (take_all (length steps) steps (omega arith))) in
-    let l = little_now steps little half (m - 1) x (lift_all steps half x) (length steps) some (omega arith) (λ k h. omega (arith, below k h)) all in
-    let w = (by_parity (lift_all steps half x) half (16 * (m - 1)) (k % 2) (omega arith) l).within (k / 2) (omega arith) in
-    let place : 2 * (k / 2) + k % 2 ≡ k = omega arith in
-    let at : unsigned_abs (lift_all steps half x k) ≤ 16 * (m - 1) = rw place at w in
-    omega (arith, at)
+below_times : (most m a : ℕ) → 0 < most → 0 < m → a ≤ most * (m - 1) → a < most * m
+below_times most m a some more h =
+    let one : m ≡ m - 1 + 1 = omega arith in
+    let all : most * m ≡ most * (m - 1) + most = ap (λ n. most * n) one ∙ omega arith in
+    omega (arith, all)
 
-pub synthesis_little : (w : ℕ) → grows_little (counted_steps w) ≡ true
+pub grows : (most : ℕ) (steps : List CountedStep) → 0 < most → IsTrue (grows_little most steps) → (half m : ℕ) (x : ℕ → ℤ) → 0 < half → 2 ^ 16 ≤ m → ((k : ℕ) → k < 2 * half → unsigned_abs (x k) < m) → (k : ℕ) → k < 2 * half → unsigned_abs (lift_all steps half x k) < most * m
+grows most steps more little half m x some large below k h =
+    let all : lift_all steps half x ≡ lift_all (take (length steps) steps) half x = ap (λ ss. lift_all ss half x) (sym (take_all (length steps) steps (omega arith))) in
+    let l = little_now most steps little half (m - 1) x (lift_all steps half x) (length steps) some (omega arith) (λ k h. omega (arith, below k h)) all in
+    let w = (by_parity (lift_all steps half x) half (most * (m - 1)) (k % 2) (omega arith) l).within (k / 2) (omega arith) in
+    let place : 2 * (k / 2) + k % 2 ≡ k = omega arith in
+    below_times most m (unsigned_abs (lift_all steps half x k)) more (omega arith) (rw place at w)
+
+pub synthesis_little : (w : ℕ) → grows_little 16 (counted_steps w) ≡ true
 
 unfolding synthesis_steps counted_steps
 synthesis_little zero = refl
@@ -246,7 +251,7 @@ synthesis_little (suc (suc (suc (suc (suc zero))))) = refl
 synthesis_little (suc (suc (suc (suc (suc (suc zero)))))) = refl
 synthesis_little (suc (suc (suc (suc (suc (suc (suc w))))))) = refl
 
-pub analysis_little : (w : ℕ) → grows_little (undone (counted_steps w)) ≡ true
+pub analysis_little : (w : ℕ) → grows_little 16 (undone (counted_steps w)) ≡ true
 
 unfolding synthesis_steps counted_steps
 analysis_little zero = refl
@@ -257,3 +262,16 @@ analysis_little (suc (suc (suc (suc zero)))) = refl
 analysis_little (suc (suc (suc (suc (suc zero))))) = refl
 analysis_little (suc (suc (suc (suc (suc (suc zero)))))) = refl
 analysis_little (suc (suc (suc (suc (suc (suc (suc w))))))) = refl
+
+-- analysis stays within 8 times
+pub analysis_lower : (w : ℕ) → grows_little 8 (undone (counted_steps w)) ≡ true
+
+unfolding synthesis_steps counted_steps
+analysis_lower zero = refl
+analysis_lower (suc zero) = refl
+analysis_lower (suc (suc zero)) = refl
+analysis_lower (suc (suc (suc zero))) = refl
+analysis_lower (suc (suc (suc (suc zero)))) = refl
+analysis_lower (suc (suc (suc (suc (suc zero))))) = refl
+analysis_lower (suc (suc (suc (suc (suc (suc zero)))))) = refl
+analysis_lower (suc (suc (suc (suc (suc (suc (suc w))))))) = refl

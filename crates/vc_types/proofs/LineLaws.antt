@@ -1,9 +1,9 @@
 -- The standard's lines: synthesis undoes analysis, magnitudes grow little, and a line depends on itself alone.
-use Rattle.std.proofs.Common.{◌≡◌, ℕ, ◌+◌, ◌*◌, ◌/◌, ◌%◌, ◌^◌, ◌<◌, ◌≤◌, ℤ, arith, sym, ap, ◌∙◌, ◌⊎◌, inl, inr, unsigned_abs}
+use Rattle.std.proofs.Common.{◌≡◌, ℕ, ◌+◌, ◌*◌, ◌/◌, ◌%◌, ◌^◌, ◌<◌, ◌≤◌, ℤ, arith, sym, ap, ◌∙◌, ◌⊎◌, inl, inr, unsigned_abs, true}
 use Rattle.std.proofs.lemmas.Bool.{cases_lt}
 use Rattle.vc_types.specs.Wavelets.{synthesised, analysed, GrowsLittle, IsLocal}
 use Rattle.vc_types.proofs.CountedSteps.{CountedStep, lift_all, undone, counted_steps, synthesised_counted, analysed_counted}
-use Rattle.vc_types.proofs.LineGrowth.{grows_little, grows, synthesis_little, analysis_little}
+use Rattle.vc_types.proofs.LineGrowth.{grows_little, grows, synthesis_little, analysis_little, analysis_lower}
 use Rattle.vc_types.proofs.LineLocality.{same_lift_all, lift_all_past}
 use Rattle.vc_types.proofs.LineUndoing.{lift_all-undone, parities}
 
@@ -19,16 +19,26 @@ undone_lines w half x =
 pub synthesis_undoes_analysis : (w size : ℕ) (x : ℕ → ℤ) → size % 2 ≡ 0 → synthesised w size (analysed w size x) ≡ x
 synthesis_undoes_analysis w size x e = ap (λ n. synthesised w n (analysed w n x)) (even_size size e) ∙ undone_lines w (size / 2) x
 
-lines_grow : (make : ℕ → (ℕ → ℤ) → ℕ → ℤ) → ((half m : ℕ) (x : ℕ → ℤ) → 0 < half → 2 ^ 16 ≤ m → ((k : ℕ) → k < 2 * half → unsigned_abs (x k) < m) → (k : ℕ) → k < 2 * half → unsigned_abs (make (2 * half) x k) < 16 * m) → GrowsLittle make
-lines_grow make grow size m x e large small k h =
+-- a bound on the magnitudes rises at most so many times
+abbrev pub GrowsAtMost : ℕ → (ℕ → (ℕ → ℤ) → ℕ → ℤ) → Type 0
+GrowsAtMost most make = (size m : ℕ) (x : ℕ → ℤ) → size % 2 ≡ 0 → 2 ^ 16 ≤ m → ((k : ℕ) → k < size → unsigned_abs (x k) < m) → (k : ℕ) → k < size → unsigned_abs (make size x k) < most * m
+
+lines_grow : (most : ℕ) (make : ℕ → (ℕ → ℤ) → ℕ → ℤ) → ((half m : ℕ) (x : ℕ → ℤ) → 0 < half → 2 ^ 16 ≤ m → ((k : ℕ) → k < 2 * half → unsigned_abs (x k) < m) → (k : ℕ) → k < 2 * half → unsigned_abs (make (2 * half) x k) < most * m) → GrowsAtMost most make
+lines_grow most make grow size m x e large small k h =
     let same : size ≡ 2 * (size / 2) = even_size size e in
     rw (ap (λ n. make n x k) same) (grow (size / 2) m x (omega arith) large (λ j lt. small j (omega arith)) k (omega arith))
 
+analysis_grows : (most w : ℕ) → 0 < most → grows_little most (undone (counted_steps w)) ≡ true → GrowsAtMost most (analysed w)
+analysis_grows most w more little = lines_grow most (analysed w) (λ half m x some large small k h. rw (ap (λ f. f k) (analysed_counted w half x)) (grows most (undone (counted_steps w)) more little half m x some large small k h))
+
 pub synthesis_grows_little : (w : ℕ) → GrowsLittle (synthesised w)
-synthesis_grows_little w = lines_grow (synthesised w) (λ half m x some large small k h. rw (ap (λ f. f k) (synthesised_counted w half x)) (grows (counted_steps w) (synthesis_little w) half m x some large small k h))
+synthesis_grows_little w = lines_grow 16 (synthesised w) (λ half m x some large small k h. rw (ap (λ f. f k) (synthesised_counted w half x)) (grows 16 (counted_steps w) (omega arith) (synthesis_little w) half m x some large small k h))
 
 pub analysis_grows_little : (w : ℕ) → GrowsLittle (analysed w)
-analysis_grows_little w = lines_grow (analysed w) (λ half m x some large small k h. rw (ap (λ f. f k) (analysed_counted w half x)) (grows (undone (counted_steps w)) (analysis_little w) half m x some large small k h))
+analysis_grows_little w = analysis_grows 16 w (omega arith) (analysis_little w)
+
+pub analysis_grows_less : (w : ℕ) → GrowsAtMost 8 (analysed w)
+analysis_grows_less w = analysis_grows 8 w (omega arith) (analysis_lower w)
 
 lines_local : (make : ℕ → (ℕ → ℤ) → ℕ → ℤ) → ((half : ℕ) (x y : ℕ → ℤ) → 0 < half → ((k : ℕ) → k < 2 * half → x k ≡ y k) → (k : ℕ) → k < 2 * half → make (2 * half) x k ≡ make (2 * half) y k) → IsLocal make
 lines_local make own size x y e same k h =

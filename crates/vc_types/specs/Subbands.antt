@@ -1,7 +1,7 @@
 -- Subbands and slices (ST 2042-1, subband data dimensions and slice coordinates). A component's coefficients stand in
 -- a grid of the padded size with the subbands nested: LL at the corner, then HL to the right, LH below and HH across,
 -- level by level.
-use Rattle.std.specs.Prelude.{ℕ, zero, suc, ◌+◌, ◌-◌, ◌*◌, ◌/◌, ◌%◌, ◌^◌, nat_lt, if◌then◌else◌, List, [], ◌∷◌, ◌++◌, map, slice_index_or}
+use Rattle.std.specs.Prelude.{◌≡◌, ◌<◌, ℕ, zero, suc, ◌+◌, ◌-◌, ◌*◌, ◌/◌, ◌%◌, ◌^◌, nat_lt, if◌then◌else◌, List, [], ◌∷◌, ◌++◌, map, slice_index_or}
 use Rattle.std.specs.List.{sum_by}
 use Rattle.vc_types.specs.declared.rect.Rect.{Rect}
 use Rattle.vc_types.specs.declared.shape.Shape.{Shape}
@@ -127,3 +127,12 @@ slice_coefficient_count p c slice = sum_by area (slice_rectangles p c slice)
 -- the place of coefficient i of a component in a slice
 unfoldable pub coefficient_place : Parameters → Component → ℕ → ℕ → Place
 coefficient_place p c slice i = place_among (slice_rectangles p c slice) i
+
+-- one coefficient of a component, and no other, stands in column x and row y: by its slice, and its number there
+pub record IsMetOnce (p : Parameters) (c : Component) (x y : ℕ) : Type 0 where
+  pub slice : ℕ
+  pub number : ℕ
+  pub slice_below : slice < slice_count p
+  pub number_below : number < slice_coefficient_count p c slice
+  pub place : coefficient_place p c slice number ≡ (x, y)
+  pub only : (s i : ℕ) → s < slice_count p → i < slice_coefficient_count p c s → coefficient_place p c s i ≡ (x, y) → (s ≡ slice) × (i ≡ number)

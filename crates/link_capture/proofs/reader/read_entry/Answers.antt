@@ -20,7 +20,7 @@ returns-in-Whole-fill-clause-entry g c =
     let len : length datagram ≡ c.length_told.result = omega (arith, c.fill-2.auto.buf, c.deref_mut.ensures.len, c.in-Ok.ensures.len, c.from.ensures) in
     let room : c.resize.new.self.len ≡ length datagram = omega (arith, len, c.in-Ok.ensures.len, c.from.ensures) in
     rw (room, take-append_seam datagram (drop (length datagram) c.resize.new.self.items))
-        (omega arith, whole_entry _ _ _ c.length_told.result datagram len (rw c.length_told.ensures at c.in-Whole.ensures.bytes) c.in-Whole-fill.ensures.bytes)
+    (omega arith, whole_entry _ _ _ c.length_told.result datagram len (rw c.length_told.ensures at c.in-Whole.ensures.bytes) c.in-Whole-fill.ensures.bytes)
 
 pub returns-in-End-fill-clause-entry : goal.returns-in-End-fill-clause-entry
 returns-in-End-fill-clause-entry g c = (refl, cut_in_datagram _ _ _ c.length_told.result c.fill-2.new.buf c.in-End-fill.field-0 (omega arith) (omega (arith, c.fill-2.auto.buf, c.deref_mut.ensures.len, c.in-Ok.ensures.len, c.from.ensures)) (rw c.length_told.ensures at c.in-Whole.ensures.bytes) c.in-End-fill.ensures.bytes)

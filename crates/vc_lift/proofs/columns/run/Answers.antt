@@ -17,12 +17,12 @@ in_list : (c : goal.After-step-1) → c.loop-i.i < length (in_order c.args.undo 
 in_list c = simp (length-in_order, length-map) c.loop-i-test.true
 
 pub lift-requires-clause-plain : goal.lift-requires-clause-plain
-lift-requires-clause-plain c = plain (counted_of c.step_at-step.result) (plain_now (in_order c.args.undo (map counted_of c.args.steps.now)) c.requires.steps c.loop-i.i (counted_of c.step_at-step.result) c.step_at-step.ensures (in_list c))
+lift-requires-clause-plain c = plain (counted_of c.step_at-step.result) (plain_now 16 (in_order c.args.undo (map counted_of c.args.steps.now)) c.requires.steps c.loop-i.i (counted_of c.step_at-step.result) c.step_at-step.ensures (in_list c))
 
 pub lift-requires-clause-little : goal.lift-requires-clause-little
 lift-requires-clause-little c = λ x h.
     let before = column_of c.args.width c.args.cells.now x in
-    little_now (in_order c.args.undo (map counted_of c.args.steps.now)) c.requires.steps c.args.half (2 ^ 108) before (column_of c.args.width c.loop-i.cells x) c.loop-i.i c.requires.some (omega arith)
+    little_now 16 (in_order c.args.undo (map counted_of c.args.steps.now)) c.requires.steps c.args.half (2 ^ 108) before (column_of c.args.width c.loop-i.cells x) c.loop-i.i c.requires.some (omega arith)
     (λ k lt. (let within : k * c.args.width + x < length c.args.cells.now = (let b = place_below c.args.half c.args.width k x lt h in omega (arith, b)) in
     let small : unsigned_abs (slice_index_or c.args.cells.now (k * c.args.width + x) (pos 0)) < 2 ^ 108 = All-get_or (λ z. unsigned_abs z < 2 ^ 108) c.args.cells.now (k * c.args.width + x) (pos 0) within c.requires.small in omega (arith, small)))
     (c.loop-i.invariant x h)

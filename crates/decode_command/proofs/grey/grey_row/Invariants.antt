@@ -1,0 +1,7 @@
+use Rattle.std.proofs.Common.{◌≡◌, replicate}
+use Rattle.std.specs.List.{flat_map}
+use Rattle.link_model.specs.Frames.{sample_bytes}
+use Rattle.decode_command.proofs.grey.grey_row.Given as goal
+
+abbrev pub invariant-loop : goal.invariant-loop
+invariant-loop l = l.row.items ≡ flat_map (sample_bytes l.two) (replicate l.counter l.sample)

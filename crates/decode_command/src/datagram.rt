@@ -1,0 +1,39 @@
+ghost use Rattle.std.specs.Prelude.{◌≡◌, MatchOption, None, Some};
+ghost use Rattle.decode_command.specs.OnePicture.{received, from_source};
+ghost use Rattle.vc2_payload.specs.Views.{value_of};
+
+use rtp_head::read_rtp;
+use vc2_payload::{Payload, read_payload};
+
+/// The source and the payload of a datagram.
+#[derive(Clone, Copy, Debug)]
+pub struct Received<'a> {
+    pub ssrc: u32,
+    pub payload: Payload<'a>,
+}
+
+#[tactic(auto, unfolding(crate::specs::OnePicture::received))]
+pub fn read_datagram(datagram: &[u8]) -> Option<Received<'_>>
+    ensures { MatchOption result (received datagram.now ≡ None) (λ r. received datagram.now ≡ Some (record { ssrc = r.ssrc; value = value_of r.payload })) }
+{
+    let Ok(view) = read_rtp(datagram) else {
+        return None;
+    };
+    match read_payload(&datagram[view.from..view.to]) {
+        Ok(payload) => Some(Received {
+            ssrc: view.ssrc,
+            payload,
+        }),
+        Err(_) => None,
+    }
+}
+
+/// The payload of a datagram of this source.
+pub fn from_source(ssrc: u32, datagram: &[u8]) -> Option<Payload<'_>>
+    ensures { MatchOption result (from_source ssrc (received datagram.now) ≡ None) (λ p. from_source ssrc (received datagram.now) ≡ Some (value_of p)) }
+{
+    match read_datagram(datagram) {
+        Some(r) if r.ssrc == ssrc => Some(r.payload),
+        _ => None,
+    }
+}

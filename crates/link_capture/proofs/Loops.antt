@@ -1,0 +1,59 @@
+-- What a loop over the entries of a source knows: at its start, behind each entry, and at each of its ends.
+use Rattle.std.proofs.Common.{◌≡◌, ◌≢◌, ℕ, ◌+◌, List, [], ◌∷◌, ◌++◌, length, Option, Some, None, Result, Ok, Err, refl, sym, ◌∙◌, ap, arith}
+use Rattle.std.specs.Global.{Vec}
+use Rattle.std.proofs.lemmas.List.{append-nil, length-append}
+use Rattle.vc_ports.specs.Reading.{Gave, GaveAll, IsAtEnd}
+use Rattle.vc_ports.proofs.Given.{Gave-none, Gave-then, GaveAll-told}
+use Rattle.link_capture.specs.Capture.{entry, entries_of, first_entry}
+use Rattle.link_capture.specs.Endings.{GaveEntries, Ends}
+use Rattle.link_capture.specs.Reading.{GavePart, GaveCut, ReadsEntry, place_after}
+use Rattle.link_capture.specs.declared.fault.EntryFault.{EntryFault}
+use Rattle.link_capture.specs.declared.fault.EntryFault.TheVariants.{Cut, ReadFault, NoMemory}
+use Rattle.link_capture.proofs.Heads.{length-entry}
+use Rattle.link_capture.proofs.Entries.{entries_of-nothing, entries_of-next, entries_of-cut}
+
+nothing_is_part : first_entry [] ≡ None
+unfolding first_entry
+nothing_is_part = refl
+
+-- before the first entry
+pub begun : (before : Option (List ℕ)) → GaveEntries before before 0 [] []
+begun before = record { given = []; gave = Gave-none before; split = entries_of-nothing; edge = refl }
+
+-- an entry more
+pub with_entry : (before mid after : Option (List ℕ)) (place : ℕ) (entries : List (List ℕ)) (datagram : Vec ℕ) → GaveEntries before mid place entries [] → ReadsEntry mid after place (Ok (Some datagram))
+    → GaveEntries before after (place_after place (Ok (Some datagram))) (entries ++ datagram.items ∷ []) []
+with_entry before mid after place entries datagram heard read = record {
+  given = heard.given ++ entry datagram.items;
+  gave = Gave-then before mid after heard.given (entry datagram.items) heard.gave read.1;
+  split = entries_of-next heard.given entries datagram.items heard.split read.0;
+  edge = omega (arith, length-append heard.given (entry datagram.items), length-entry datagram.items, heard.edge);
+}
+
+-- bytes that begin no whole entry
+pub with_rest : (before mid after : Option (List ℕ)) (place : ℕ) (entries : List (List ℕ)) (part : List ℕ) → GaveEntries before mid place entries [] → Gave mid after part → first_entry part ≡ None
+    → GaveEntries before after place entries part
+with_rest before mid after place entries part heard gave not_whole = record {
+  given = heard.given ++ part;
+  gave = Gave-then before mid after heard.given part heard.gave gave;
+  split = entries_of-cut heard.given part entries heard.split not_whole;
+  edge = omega (arith, length-append heard.given part, heard.edge);
+}
+
+-- the end at an entry's edge
+pub at_edge : (before mid after : Option (List ℕ)) (place : ℕ) (entries : List (List ℕ)) → GaveEntries before mid place entries [] → ReadsEntry mid after place (Ok None) → Ends before after place entries None
+at_edge before mid after place entries heard read = (with_rest before mid after place entries [] heard read.gave nothing_is_part, read.at_end)
+
+-- the end by a fault
+pub at_fault : (before mid after : Option (List ℕ)) (place : ℕ) (entries : List (List ℕ)) (fault : EntryFault) → GaveEntries before mid place entries [] → ReadsEntry mid after place (Err fault)
+    → Ends before after place entries (Some fault)
+at_fault before mid after place entries (Cut at) heard read =
+    let cut = read.1 in
+    (read.0, (cut.part, cut.some, with_rest before mid after place entries cut.part heard cut.gave.gave cut.not_whole, cut.gave.at_end))
+at_fault before mid after place entries ReadFault heard read = (read.part, with_rest before mid after place entries read.part heard read.gave read.not_whole)
+at_fault before mid after place entries NoMemory heard read = (read.part, with_rest before mid after place entries read.part heard read.gave read.not_whole)
+
+-- where the source told what was left and ended, the entries and the rest are those of all that was left
+pub of_all : (left : List ℕ) (after : Option (List ℕ)) (place : ℕ) (entries : List (List ℕ)) (rest : List ℕ) → GaveEntries (Some left) after place entries rest → IsAtEnd after → entries_of left ≡ (entries, rest)
+of_all left after place entries rest heard end =
+    rw (GaveAll-told left after heard.given (record { gave = heard.gave; at_end = end })) heard.split

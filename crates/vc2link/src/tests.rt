@@ -1,0 +1,108 @@
+use crate::link::link_main;
+use std::alloc::Global;
+use std::test::Fail;
+use vc_ports::{MemSink, MemSource};
+use vc_types::Words;
+
+// The three datagrams of a picture of 8 by 4 samples of 8 bits, whose two slices are empty, as entries of a capture.
+const HEADER: [u8; 23] = [
+    0x00, 0x15, 0x80, 0x60, 0, 0, 0, 0, 0, 0, 0, 0, 0, 1, 0, 0, 0, 0x00, 0x70, 0xF0, 0x63, 0xC0,
+    0x80,
+];
+
+const PARAMETERS: [u8; 33] = [
+    0x00, 0x1F, 0x80, 0x60, 0, 1, 0, 0, 0, 0, 0, 0, 0, 1, 0, 0, 0, 0xEC, 0, 0, 0, 0, 0, 0, 0, 1, 0,
+    3, 0, 0, 0x09, 0x66, 0x40,
+];
+
+const SLICES: [u8; 42] = [
+    0x00, 0x28, 0x80, 0x60, 0, 2, 0, 0, 0, 0, 0, 0, 0, 1, 0, 0, 0, 0xEC, 0, 0, 0, 0, 0, 0, 0, 1, 0,
+    8, 0, 2, 0, 0, 0, 0, 0, 0, 0, 0, 0, 0, 0, 0,
+];
+
+// One slice whose luma block has a byte, and one that is empty.
+const LUMA_SLICES: [u8; 43] = [
+    0x00, 0x29, 0x80, 0x60, 0, 2, 0, 0, 0, 0, 0, 0, 0, 1, 0, 0, 0, 0xEC, 0, 0, 0, 0, 0, 0, 0, 1, 0,
+    9, 0, 2, 0, 0, 0, 0, 0, 1, 0, 0, 0, 0, 0, 0, 0,
+];
+
+// Runs a command, and answers its status and how many bytes of 80 hexadecimal, and no others, it wrote.
+fn run(
+    alloc: Global,
+    word: &str,
+    parts: &[&[u8]],
+    read_fails: u64,
+    write_fails: u64,
+) -> Result<(u8, Option<usize>), Fail> {
+    let mut words = Words::new(alloc);
+    words.push(word)?;
+    let mut capture = Vec::new(alloc);
+    for part in parts {
+        capture.extend_from_slice(part)?;
+    }
+    let mut input = MemSource::new(capture, vec![in alloc; read_fails]?);
+    let mut output = MemSink::new(alloc, 1000, vec![in alloc; write_fails]?)?;
+    let mut report = MemSink::new(alloc, 0, vec![in alloc]?)?;
+    let status = link_main(alloc, &words, &mut input, &mut output, &mut report);
+    let held = output.bytes();
+    let grey = held.iter().all(|sample| *sample == 0x80);
+    Ok((status, if grey { Some(held.len()) } else { None }))
+}
+
+#[test]
+fn captures_of_one_picture(rt: HostRuntime) -> Result<(), Fail> {
+    let alloc = rt.alloc();
+    let whole: [&[u8]; 3] = [&HEADER, &PARAMETERS, &SLICES];
+    assert_eq!(rt; run(alloc, "decode", &whole, 0, 0)?, (0, Some(96)));
+    assert_eq!(rt; run(alloc, "decode", &[], 0, 0)?, (0, Some(0)), "empty");
+    assert_eq!(rt;
+        run(
+            alloc,
+            "decode",
+            &[&HEADER, &PARAMETERS, &SLICES, &[0]],
+            0,
+            0
+        )?,
+        (8, Some(96)),
+        "cut"
+    );
+    assert_eq!(rt;
+        run(alloc, "decode", &whole, 1, 0)?,
+        (4, Some(0)),
+        "the first read fails"
+    );
+    assert_eq!(rt;
+        run(alloc, "decode", &whole, 0, 1)?,
+        (5, Some(0)),
+        "the first write fails"
+    );
+    Ok(())
+}
+
+#[test]
+fn what_is_not_built_writes_nothing(rt: HostRuntime) -> Result<(), Fail> {
+    let alloc = rt.alloc();
+    let whole: [&[u8]; 3] = [&HEADER, &PARAMETERS, &SLICES];
+    assert_eq!(rt;
+        run(alloc, "encode", &whole, 0, 0)?,
+        (1, Some(0)),
+        "another command"
+    );
+    assert_eq!(rt;
+        run(alloc, "decode", &[&HEADER, &PARAMETERS, &LUMA_SLICES], 0, 0)?,
+        (1, Some(0)),
+        "a block of one byte"
+    );
+    assert_eq!(rt;
+        run(
+            alloc,
+            "decode",
+            &[&HEADER, &PARAMETERS, &SLICES, &PARAMETERS, &SLICES],
+            0,
+            0
+        )?,
+        (1, Some(0)),
+        "two pictures"
+    );
+    Ok(())
+}

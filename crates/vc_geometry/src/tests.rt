@@ -1,0 +1,178 @@
+ghost use Rattle.std.specs.Prelude.{◌≡◌, ◌*◌, ◌<◌};
+
+use crate::{Rect, band, bands, padded, place_of, slice_len, slice_rect};
+use vc_types::{Component, Plan, Shape};
+
+// 8 by 4 luma, 4 by 4 colour, one level, two slices side by side.
+fn two_slices() -> Plan
+    ensures { (result.depth ≡ 1) × (result.slices_x ≡ 2) × (result.slices_y ≡ 1) }
+{
+    Plan {
+        shape: Shape {
+            luma_width: 8,
+            luma_height: 4,
+            colour_width: 4,
+            colour_height: 4,
+            luma_depth: 8,
+            colour_depth: 8,
+        },
+        wavelet: 3,
+        wavelet_ho: 3,
+        depth: 1,
+        depth_ho: 0,
+        slices_x: 2,
+        slices_y: 1,
+        prefix: 0,
+        scaler: 1,
+        matrix: [0; 16],
+    }
+}
+
+// 7 by 5 luma and one sample of each colour, two levels, three slices across and two down.
+fn odd_sizes() -> Plan
+    ensures { (result.depth ≡ 2) × (result.slices_x ≡ 3) × (result.slices_y ≡ 2) }
+{
+    Plan {
+        shape: Shape {
+            luma_width: 7,
+            luma_height: 5,
+            colour_width: 1,
+            colour_height: 1,
+            luma_depth: 8,
+            colour_depth: 8,
+        },
+        wavelet: 1,
+        wavelet_ho: 1,
+        depth: 2,
+        depth_ho: 0,
+        slices_x: 3,
+        slices_y: 2,
+        prefix: 0,
+        scaler: 1,
+        matrix: [0; 16],
+    }
+}
+
+// One sample, five levels, one slice.
+fn one_sample() -> Plan
+    ensures { (result.depth ≡ 5) × (result.slices_x ≡ 1) × (result.slices_y ≡ 1) }
+{
+    Plan {
+        shape: Shape {
+            luma_width: 1,
+            luma_height: 1,
+            colour_width: 1,
+            colour_height: 1,
+            luma_depth: 8,
+            colour_depth: 8,
+        },
+        wavelet: 1,
+        wavelet_ho: 1,
+        depth: 5,
+        depth_ho: 0,
+        slices_x: 1,
+        slices_y: 1,
+        prefix: 0,
+        scaler: 1,
+        matrix: [0; 16],
+    }
+}
+
+fn rect(x: u32, y: u32, width: u32, height: u32) -> Rect {
+    Rect {
+        x,
+        y,
+        width,
+        height,
+    }
+}
+
+#[test]
+fn pads_and_nests_subbands(rt: HostRuntime) {
+    assert_eq!(rt; padded(&odd_sizes(), Component::Y), (8, 8));
+    assert_eq!(rt; padded(&odd_sizes(), Component::C2), (4, 4));
+    assert_eq!(rt; padded(&one_sample(), Component::Y), (32, 32));
+    assert_eq!(rt; bands(&one_sample()), 16);
+    for (b, want) in [
+        (0, rect(0, 0, 2, 2)),
+        (1, rect(2, 0, 2, 2)),
+        (2, rect(0, 2, 2, 2)),
+        (3, rect(2, 2, 2, 2)),
+        (4, rect(4, 0, 4, 4)),
+        (5, rect(0, 4, 4, 4)),
+        (6, rect(4, 4, 4, 4)),
+    ] {
+        assert!(rt; b < bands(&odd_sizes()));
+        assert_eq!(rt; band(&odd_sizes(), Component::Y, b), want, "subband {b}");
+    }
+    assert_eq!(rt; band(&one_sample(), Component::Y, 0), rect(0, 0, 1, 1));
+    assert_eq!(rt; band(&one_sample(), Component::Y, 15), rect(16, 16, 16, 16));
+}
+
+// By the standard's divisions: two columns among three slices go to the second and the third, four as 1, 1 and 2.
+#[test]
+fn cuts_slices_by_division(rt: HostRuntime) {
+    let plan = odd_sizes();
+    assert_eq!(rt; slice_rect(&plan, Component::Y, 0, 0), rect(0, 0, 0, 1));
+    assert_eq!(rt; slice_rect(&plan, Component::Y, 0, 1), rect(0, 0, 1, 1));
+    assert_eq!(rt; slice_rect(&plan, Component::Y, 3, 5), rect(3, 3, 1, 1));
+    assert_eq!(rt; slice_rect(&plan, Component::Y, 4, 0), rect(4, 0, 1, 2));
+    assert_eq!(rt; slice_rect(&plan, Component::Y, 6, 5), rect(6, 6, 2, 2));
+    for (slice, want) in [(0, 6), (1, 10), (2, 16), (3, 6), (4, 10), (5, 16)] {
+        assert!(rt; slice < 6);
+        assert_eq!(rt;
+            slice_len(&plan, Component::Y, slice),
+            want,
+            "slice {slice}"
+        );
+    }
+}
+
+// The place of a luma coefficient, where the slice has it.
+fn luma_place(plan: &Plan, slice: u32, i: u32) -> Option<(u32, u32)>
+    requires { slice < plan.now.slices_x * plan.now.slices_y }
+{
+    if i < slice_len(plan, Component::Y, slice) {
+        Some(place_of(plan, Component::Y, slice, i))
+    } else {
+        None
+    }
+}
+
+#[test]
+fn numbers_places_by_subband_and_row(rt: HostRuntime) {
+    let wide = [
+        (0, (0, 0)),
+        (1, (1, 0)),
+        (2, (0, 1)),
+        (3, (1, 1)),
+        (4, (4, 0)),
+        (7, (5, 1)),
+        (8, (0, 2)),
+        (12, (4, 2)),
+        (15, (5, 3)),
+    ];
+    for (i, want) in wide {
+        assert_eq!(rt;
+            luma_place(&two_slices(), 0, i),
+            Some(want),
+            "coefficient {i}"
+        );
+    }
+    assert_eq!(rt; luma_place(&two_slices(), 0, 16), None);
+    assert_eq!(rt; luma_place(&two_slices(), 1, 4), Some((6, 0)));
+    for (i, want) in [
+        (0, (4, 0)),
+        (1, (4, 1)),
+        (2, (0, 4)),
+        (3, (0, 5)),
+        (4, (4, 4)),
+        (5, (4, 5)),
+    ] {
+        assert_eq!(rt;
+            luma_place(&odd_sizes(), 0, i),
+            Some(want),
+            "coefficient {i}"
+        );
+    }
+}

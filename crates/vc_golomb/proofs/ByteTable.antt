@@ -1,0 +1,108 @@
+-- The table says of each byte what its bits say.
+use Rattle.std.proofs.Common.{◌≡◌, ℕ, zero, suc, ◌+◌, ◌-◌, ◌*◌, ◌/◌, ◌%◌, ◌^◌, ◌<◌, ◌≤◌, Bool, true, false, not, eqb, leb, List, [], ◌∷◌, ◌++◌, length, get_or, take, drop, refl, sym, ap, subst, ◌∙◌, arith, inl, inr}
+use Rattle.std.specs.Prelude.{◌&&◌, ◌||◌}
+use Rattle.std.proofs.lemmas.Bool.{and_parts, cases_lt, eqb-true, leb-true}
+use Rattle.std.proofs.lemmas.Nat.{pow_below}
+use Rattle.std.proofs.lemmas.List.{take-append-drop}
+use Rattle.vc_types.proofs.Digits.{number_of-lt}
+use Rattle.vc_types.specs.Bits.{byte_bits, number_of}
+use Rattle.vc_types.specs.Bounded.{bounded}
+use Rattle.vc_golomb.specs.Table.{pairs_of, IsLook}
+use Rattle.vc_golomb.specs.declared.table.TheConstants.{TAKEN, DIGITS}
+
+-- ---- a test of a whole table
+
+abbrev holds_below : (ℕ → Bool) → ℕ → Bool
+holds_below test zero = true
+holds_below test (suc n) = test n && holds_below test n
+
+at : (test : ℕ → Bool) (n k : ℕ) → holds_below test n ≡ true → k < n → test k ≡ true
+at test zero k all lt = absurd (omega arith)
+at test (suc n) k all lt =
+    let both = and_parts (test n) (holds_below test n) all in
+    elim (cases_lt k n) [
+      | inl less ↦ at test n k both.1 less
+      | inr le ↦ let same : n ≡ k = omega arith in subst (λ (m : ℕ). test m ≡ true) same both.0
+    ]
+
+abbrev same_bits : List Bool → List Bool → Bool
+same_bits [] [] = true
+same_bits (true ∷ xs) (true ∷ ys) = same_bits xs ys
+same_bits (false ∷ xs) (false ∷ ys) = same_bits xs ys
+same_bits xs ys = false
+
+same : (xs ys : List Bool) → same_bits xs ys ≡ true → xs ≡ ys
+same [] [] h = refl
+same (true ∷ xs) (true ∷ ys) h = ap (λ (bits : List Bool). true ∷ bits) (same xs ys h)
+same (false ∷ xs) (false ∷ ys) h = ap (λ (bits : List Bool). false ∷ bits) (same xs ys h)
+same [] (y ∷ ys) h = absurd cc
+same (true ∷ xs) [] h = absurd cc
+same (false ∷ xs) [] h = absurd cc
+same (true ∷ xs) (false ∷ ys) h = absurd cc
+same (false ∷ xs) (true ∷ ys) h = absurd cc
+
+-- ---- one byte
+
+-- the digits of a number
+abbrev digits_in : ℕ → ℕ → List Bool
+digits_in count number = drop (8 - count) (byte_bits number)
+
+abbrev is_look : ℕ → ℕ → ℕ → Bool
+is_look byte taken digits =
+    same_bits (take (2 * (taken / 2)) (byte_bits byte)) (pairs_of (digits_in (taken / 2) digits)) && (eqb (number_of (digits_in (taken / 2) digits)) digits
+    && ((leb (taken) 8 && eqb (length (digits_in (taken / 2) digits)) (taken / 2)) && (eqb taken 8 || (eqb (taken % 2) 1 && get_or (byte_bits byte) (2 * (taken / 2)) false))))
+
+all_looks : holds_below (λ byte. is_look byte (get_or TAKEN byte 0) (get_or DIGITS byte 0)) 256 ≡ true
+unfolding byte_bits
+all_looks = refl
+
+-- a 1 that is surely there stands among the bits, whatever is read past them
+set_bit : (bits : List Bool) (place : ℕ) → get_or bits place false ≡ true → bounded bits place ≡ true
+set_bit [] place h = refl
+set_bit (bit ∷ bits) zero h = h
+set_bit (bit ∷ bits) (suc place) h = set_bit bits place h
+
+from_test : (byte taken digits : ℕ) → is_look byte taken digits ≡ true → IsLook byte taken digits
+from_test byte taken digits test =
+    let list = digits_in (taken / 2) digits in
+    let parts = and_parts _ _ test in
+    let more = and_parts _ _ parts.1 in
+    let last = and_parts _ _ more.1 in
+    let sizes = and_parts _ _ last.0 in
+    let small : taken ≤ 8 = leb-true taken 8 sizes.0 in
+    let count : length list ≡ taken / 2 = eqb-true _ _ sizes.1 in
+    let front : take (2 * (taken / 2)) (byte_bits byte) ≡ pairs_of list = same _ _ parts.0 in
+    record {
+      list = list;
+      rest = drop (2 * (taken / 2)) (byte_bits byte);
+      front = sym (take-append-drop (2 * (taken / 2)) (byte_bits byte)) ∙ ap (λ (bits : List Bool). bits ++ drop (2 * (taken / 2)) (byte_bits byte)) front;
+      number = eqb-true _ _ more.0;
+      count = count;
+      small = small;
+      whole = λ all. omega (arith, count, small);
+      ends = λ fewer.
+          let odd : (eqb (taken % 2) 1 && get_or (byte_bits byte) (2 * (taken / 2)) false) ≡ true = or_right (eqb taken 8) _ (λ (eight : eqb taken 8 ≡ true). absurd (omega (arith, eqb-true taken 8 eight))) last.1 in
+          let both = and_parts _ _ odd in
+          let here : bounded (byte_bits byte) (2 * (taken / 2)) ≡ true = set_bit (byte_bits byte) (2 * (taken / 2)) both.1 in
+          (omega (arith, count, eqb-true (taken % 2) 1 both.0), rw count here);
+    }
+  where
+    or_right : (x y : Bool) → (x ≡ true → ⊥) → (x || y) ≡ true → y ≡ true
+    or_right true y never h = absurd (never refl)
+    or_right false y never h = h
+
+-- each byte's row
+pub looks : (byte : ℕ) → byte < 256 → IsLook byte (get_or TAKEN byte 0) (get_or DIGITS byte 0)
+looks byte small = from_test byte (get_or TAKEN byte 0) (get_or DIGITS byte 0) (at (λ byte. is_look byte (get_or TAKEN byte 0) (get_or DIGITS byte 0)) 256 byte all_looks small)
+
+few_digits : (n number digits : ℕ) → n ≤ 4 → number < 2 ^ n → number ≡ digits → digits < 16
+few_digits n number digits small below is =
+    elim (cases_lt n 4) [
+      | inl lt ↦ omega (arith, pow_below n 4 lt)
+      | inr le ↦ let four : n ≡ 4 = omega arith in let under : number < 16 = subst (λ (k : ℕ). number < 2 ^ k) four below in omega arith
+    ]
+
+pub looks_small : (byte : ℕ) → byte < 256 → (get_or TAKEN byte 0 ≤ 8) × (get_or DIGITS byte 0 < 16)
+looks_small byte small =
+    let row = looks byte small in
+    (row.small, few_digits (length row.list) (number_of row.list) (get_or DIGITS byte 0) (omega (arith, row.count, row.small)) (number_of-lt row.list) row.number)

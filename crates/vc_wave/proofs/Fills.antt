@@ -1,0 +1,100 @@
+-- Rows of cells that are filled with a plane's samples, and what the forward transform makes of them.
+use Rattle.std.proofs.Common.{◌≡◌, ◌≢◌, ℕ, ◌+◌, ◌-◌, ◌*◌, ◌/◌, ◌^◌, ◌<◌, ◌≤◌, List, length, set, ℤ, pos, ◌-ℤ◌, unsigned_abs, All, arith, ap, sym, ◌∙◌, ◌⊎◌, inl, inr, slice_index_or, min}
+use Rattle.std.proofs.lemmas.Bool.{cases_lt, cases_eq}
+use Rattle.std.proofs.lemmas.Int.{ints}
+use Rattle.std.proofs.lemmas.List.{get_or-set_same, get_or-set_other, get_or_past}
+use Rattle.std.proofs.lemmas.List.Elements.{All-get_or}
+use Rattle.std.proofs.lemmas.Nat.{same_from_place}
+use Rattle.std.proofs.Math.Nat.{mul-le-mul_right}
+use Rattle.std.proofs.Math.Pow.{pow_mono}
+use Rattle.vc_types.specs.declared.video.Component.{Component}
+use Rattle.vc_types.specs.Lifting.{line_of}
+use Rattle.vc_types.specs.Rasters.{Raster, Lattice, cell_at, sample_at}
+use Rattle.vc_types.specs.Subbands.{plane_width, plane_height, plane_depth, padded_width, padded_height}
+use Rattle.vc_types.specs.TransformParameters.{Parameters}
+use Rattle.vc_types.specs.Transforms.{forward_levels, forward_transform, lowest_width, lowest_height, padded_plane}
+use Rattle.vc_types.proofs.TransformLaws.{AreBelow}
+use Rattle.vc_types.proofs.TransformLocality.{forward_levels_agrees}
+use Rattle.vc_wave.specs.Places.{plane_of}
+use Rattle.vc_wave.specs.Samples.{padded_sample}
+use Rattle.vc_wave.proofs.Grids.{lattice, cell_at_plane}
+use Rattle.vc_wave.proofs.PlaneSteps.{plane_in, plane_out}
+
+-- ---- one sample more
+
+module _ (columns x y : ℕ) (cells : List ℤ) (v : ℤ) (value : ℕ → ℕ → ℤ) (inside : x < columns) (within : y * columns + x < length cells) (is : v ≡ value x y) where
+  pub above_kept : ((u t : ℕ) → u < columns → t < y → line_of cells (t * columns + u) ≡ value u t) → (u t : ℕ) → u < columns → t < y → line_of (set cells (y * columns + x) v) (t * columns + u) ≡ value u t
+  above_kept above u t h lt = get_or-set_other cells (y * columns + x) (t * columns + u) v (pos 0) (λ e. (let same = same_from_place t u y x columns h inside e in omega (arith, same))) ∙ above u t h lt
+
+  pub row_more : ((u : ℕ) → u < x → line_of cells (y * columns + u) ≡ value u y) → (u : ℕ) → u < x + 1 → line_of (set cells (y * columns + x) v) (y * columns + u) ≡ value u y
+  row_more row u h = elim (cases_eq u x) [
+    | inl e ↦ rw e (get_or-set_same cells (y * columns + x) v (pos 0) within ∙ is)
+    | inr ne ↦ (let apart : y * columns + u ≢ y * columns + x = omega arith in get_or-set_other cells (y * columns + x) (y * columns + u) v (pos 0) apart ∙ row u (omega arith))
+  ]
+
+pub rows_filled : (columns y : ℕ) (cells : List ℤ) (value : ℕ → ℕ → ℤ) → ((u t : ℕ) → u < columns → t < y → line_of cells (t * columns + u) ≡ value u t) → ((u : ℕ) → u < columns → line_of cells (y * columns + u) ≡ value u y) → (u t : ℕ) → u < columns → t < y + 1 → line_of cells (t * columns + u) ≡ value u t
+rows_filled columns y cells value above row u t h lt = elim (cases_eq t y) [ inl e ↦ rw e (row u h) | inr ne ↦ above u t h (omega arith) ]
+
+-- the sample that is read
+pub sample_read : (p : Raster) (samples : List ℕ) (w h x y row column : ℕ) → samples ≡ p.samples → w ≡ p.width → h ≡ p.height → row ≡ min y (h - 1) → column ≡ min x (w - 1) → slice_index_or samples (row * w + column) 0 ≡ sample_at p (min x (p.width - 1)) (min y (p.height - 1))
+unfolding sample_at
+sample_read p samples w h x y row column list wide high down across =
+    ap (λ xs. slice_index_or xs (row * w + column) 0) list
+    ∙ ap (λ n. slice_index_or p.samples (n * w + column) 0) (down ∙ ap (λ n. min y (n - 1)) high)
+    ∙ ap (λ n. slice_index_or p.samples (min y (p.height - 1) * w + n) 0) (across ∙ ap (λ n. min x (n - 1)) wide)
+    ∙ ap (λ n. slice_index_or p.samples (min y (p.height - 1) * n + min x (p.width - 1)) 0) wide
+
+-- ---- the forward transform of the filled cells
+
+centred_small : (s d : ℕ) → s < 2 ^ d → 1 ≤ d → d ≤ 16 → unsigned_abs (pos s -ℤ pos (2 ^ (d - 1))) < 2 ^ 16
+centred_small s d h some few =
+    let all : 2 ^ d ≤ 2 ^ 16 = pow_mono few in
+    let half : 2 ^ (d - 1) ≤ 2 ^ 15 = pow_mono {i = d - 1} {j = 15} (omega arith) in
+    omega (arith, ints, all, half)
+
+samples_below : (m : ℕ) (p : Raster) → 0 < m → All (λ s. s < m) p.samples → (x y : ℕ) → sample_at p x y < m
+unfolding sample_at
+samples_below m p some small x y = elim (cases_lt (y * p.width + x) (length p.samples)) [
+  | inl h ↦ All-get_or (λ s. s < m) p.samples (y * p.width + x) 0 h small
+  | inr h ↦ rw (get_or_past p.samples (y * p.width + x) 0 h) some
+]
+
+module _ (p : Parameters) (c : Component) (plane : Raster) (made : Lattice) (width height depth : ℕ) (first cells : List ℤ)
+    (across : width ≡ padded_width p c) (down : height ≡ padded_height p c)
+    (own_width : plane.width ≡ plane_width p.shape c) (own_height : plane.height ≡ plane_height p.shape c) (own_depth : depth ≡ plane_depth p.shape c)
+    (filled : (x y : ℕ) → x < width → y < height → line_of first (y * width + x) ≡ padded_sample plane depth x y)
+    (whole : length first ≡ height * width) (kept : length cells ≡ length first) (is : made ≡ lattice width height cells) where
+  same_sample : (x y : ℕ) → padded_sample plane depth x y ≡ padded_plane p c (sample_at plane) x y
+  unfolding padded_plane
+  same_sample x y =
+      ap (λ n. pos (sample_at plane (min x (n - 1)) (min y (plane.height - 1))) -ℤ pos (2 ^ (depth - 1))) own_width
+      ∙ ap (λ n. pos (sample_at plane (min x (plane_width p.shape c - 1)) (min y (n - 1))) -ℤ pos (2 ^ (depth - 1))) own_height
+      ∙ ap (λ n. pos (sample_at plane (min x (plane_width p.shape c - 1)) (min y (plane_height p.shape c - 1))) -ℤ pos (2 ^ (n - 1))) own_depth
+
+  first_agrees : (x y : ℕ) → x < padded_width p c → y < padded_height p c → plane_of width first x y ≡ padded_plane p c (sample_at plane) x y
+  first_agrees x y h lt = plane_in width first x y (omega (arith, across)) ∙ filled x y (omega (arith, across)) (omega (arith, down)) ∙ same_sample x y
+
+  made_plane : cell_at made ≡ plane_of width cells
+  made_plane = ap cell_at is ∙ cell_at_plane (lattice width height cells) (kept ∙ whole ∙ omega arith)
+
+  pub forward_made : plane_of width cells ≡ forward_levels p.wavelet p.depth (width / 2 ^ p.depth) (height / 2 ^ p.depth) (plane_of width first) → (x y : ℕ) → x < made.width → y < made.height → cell_at made x y ≡ forward_transform p c (sample_at plane) x y
+  unfolding forward_transform
+  forward_made levels x y h lt =
+      let wide : made.width ≡ width = ap (λ (g : Lattice). g.width) is in
+      let high : made.height ≡ height = ap (λ (g : Lattice). g.height) is in
+      ap (λ f. f x y) made_plane ∙ ap (λ f. f x y) levels
+      ∙ ap (λ n. forward_levels p.wavelet p.depth (n / 2 ^ p.depth) (height / 2 ^ p.depth) (plane_of width first) x y) across
+      ∙ ap (λ n. forward_levels p.wavelet p.depth (lowest_width p c) (n / 2 ^ p.depth) (plane_of width first) x y) down
+      ∙ forward_levels_agrees p c (plane_of width first) (padded_plane p c (sample_at plane)) first_agrees x y (omega (arith, wide, across, h)) (omega (arith, high, down, lt))
+
+-- how large the filled cells are
+module _ (plane : Raster) (width height depth : ℕ) (first : List ℤ) (filled : (x y : ℕ) → x < width → y < height → line_of first (y * width + x) ≡ padded_sample plane depth x y) (whole : length first ≡ height * width) where
+  pub filled_below : 1 ≤ depth → depth ≤ 16 → All (λ s. s < 2 ^ depth) plane.samples → AreBelow (2 ^ 16) (plane_of width first)
+  filled_below some few small x y = elim (cases_lt x width) [
+    | inl h ↦ rw (plane_in width first x y h) (within x y h (cases_lt y height))
+    | inr h ↦ rw (plane_out width first x y h) (omega arith)
+  ]
+    where
+      within : (x y : ℕ) → x < width → (y < height) ⊎ (height ≤ y) → unsigned_abs (line_of first (y * width + x)) < 2 ^ 16
+      within x y h (inl lt) = rw (filled x y h lt) (centred_small _ depth (samples_below (2 ^ depth) plane (omega (arith, pow_mono some)) small (min x (plane.width - 1)) (min y (plane.height - 1))) some few)
+      within x y h (inr ge) = (let below = mul-le-mul_right width ge in rw (get_or_past first (y * width + x) (pos 0) (omega (arith, below, whole))) (omega arith))

@@ -1,0 +1,35 @@
+use Rattle.std.proofs.Common.{◌≡◌, ◌+◌, ◌*◌, ◌^◌, ◌<◌, ◌≤◌, ℕ, ℤ, length, unsigned_abs, arith, ap, sym, ◌∙◌}
+use Rattle.std.specs.Prelude.{if◌then◌else◌}
+use Rattle.vc_types.specs.Lifting.{line_of}
+use Rattle.vc_types.specs.Transforms.{source_of, doubled}
+use Rattle.vc_types.specs.Wavelets.{analysed}
+use Rattle.vc_types.proofs.PlaneLines.{changed, rearranged_in}
+use Rattle.vc_types.proofs.Weaving.{half_place, half_place-source_of, source_below}
+use Rattle.vc_lift.specs.Columns.{column_of}
+use Rattle.vc_wave.specs.Lines.{line_at}
+use Rattle.vc_wave.proofs.Copies.{block_inside, all_of_block, changed_in, parted_column, doubled_column, doubled_small}
+use Rattle.vc_wave.proofs.lines.part.Goals as goal
+
+pub double-requires : goal.double-requires
+double-requires c =
+    let lines = c.args.lines.now in
+    all_of_block (2 ^ 126) lines.half lines.width c.gather.new.block (omega arith)
+    (λ x k h lt. rw (c.gather.ensures x k h lt) (let small = c.requires.small x k h lt in omega (arith, small)))
+
+pub analyse_columns-requires-clause-small : goal.analyse_columns-requires-clause-small
+analyse_columns-requires-clause-small c =
+    let lines = c.args.lines.now in
+    all_of_block (2 ^ 108) lines.half lines.width c.double.new.samples (omega arith)
+    (λ x k h lt. doubled_small lines.half lines.width c.args.shifted (line_at c.args.cells.now lines x) c.gather.new.block c.double.new.samples x h (omega arith) (λ j. c.gather.ensures x j h) c.double.ensures (2 ^ 107) (λ j. c.requires.small x j h) k lt)
+
+pub returns-clause-on : goal.returns-clause-on
+returns-clause-on c = λ x k h lt.
+    let lines = c.args.lines.now in
+    let half = lines.half in
+    let line = line_at c.args.cells.now lines x in
+    let j = source_of half k in
+    let below = source_below half k lt in
+    ap (line_at c.scatter.new.cells lines x) (sym (half_place-source_of half k lt))
+    ∙ c.scatter.ensures.on x j h below
+    ∙ parted_column half lines.width c.args.shifted line c.gather.new.block c.double.new.samples x h (omega arith) (λ i. c.gather.ensures x i h) c.double.ensures c.args.wavelet c.analyse_columns.new.cells (c.analyse_columns.ensures.value x h) j below
+    ∙ sym (rearranged_in (2 * half) (source_of half) (analysed c.args.wavelet (2 * half) (changed doubled c.args.shifted (2 * half) line)) k lt)

@@ -1,0 +1,15 @@
+//! The wavelet transform of a component's plane, level by level, in the grid of nested subbands (ST 2042-1, inverse
+//! wavelet transform).
+#![tactic(auto)]
+
+mod analysis;
+mod direction;
+mod laws;
+mod level;
+mod lines;
+mod shift;
+mod synthesis;
+
+pub use analysis::forward;
+pub use laws::inverse_undoes_forward;
+pub use synthesis::inverse;

@@ -1,0 +1,125 @@
+ghost use Rattle.std.specs.Prelude.{◌≡◌, ◌≢◌, ◌+◌, ◌*◌, ◌^◌, ◌<◌, ◌≤◌, ℕ, length, unsigned_abs, slice_index_or, ◌⊎◌};
+ghost use Rattle.vc_types.specs.Lifting.{line_of};
+ghost use Rattle.vc_lift.specs.Columns.{column_of};
+ghost use Rattle.vc_wave.specs.declared.direction.Direction.TheVariants.{Synthesis, Analysis};
+ghost use Rattle.vc_wave.specs.Made.{made};
+ghost use Rattle.vc_wave.specs.Places.{place_of};
+ghost use Rattle.vc_wave.specs.Lines.{line_at, IsInside};
+
+use crate::direction::Direction;
+use crate::shift::{double, halve};
+
+/// Lines of a grid that stand side by side: the place of the first one's first cell, how far each cell is from the next
+/// in its line, how many lines there are, and half of the cells that each has.
+#[derive(Clone, Copy)]
+pub(crate) struct Lines {
+    pub start: usize,
+    pub step: usize,
+    pub width: usize,
+    pub half: usize,
+}
+
+// Where a line has sample k: at k or, while its even and odd samples stand in two halves, in the half of its parity.
+#[inline(always)]
+fn place_of(apart: bool, half: usize, k: usize) -> usize
+    requires place { k < 2 * half }
+    requires half { half < 2 ^ 60 }
+    ensures { result ≡ place_of apart half k }
+{
+    if apart { k / 2 + k % 2 * half } else { k }
+}
+
+// Copies cells to a place from another.
+#[inline(always)]
+fn copy(to: &mut [i128], at: usize, from: &[i128], start: usize, width: usize)
+    requires at { at + width ≤ length to.old }
+    requires start { start + width ≤ length from.now }
+    ensures on { (x : ℕ) → x < width → line_of to.new (at + x) ≡ line_of from.now (start + x) }
+    ensures off { (i : ℕ) → (i < at) ⊎ (at + width ≤ i) → line_of to.new i ≡ line_of to.old i }
+{
+    for x in 0..width {
+        to[at + x] = from[start + x];
+    }
+}
+
+// Copies lines of a grid to columns of a block.
+#[inline(always)]
+fn gather(cells: &[i128], lines: &Lines, apart: bool, block: &mut [i128])
+    requires inside { IsInside lines.now (length cells.now) }
+    requires block { length block.old ≡ 2 * lines.now.half * lines.now.width }
+    ensures { (x k : ℕ) → x < lines.now.width → k < 2 * lines.now.half → column_of lines.now.width block.new x k ≡ line_at cells.now lines.now x (place_of apart lines.now.half k) }
+{
+    for k in 0..2 * lines.half {
+        let start = lines.start + place_of(apart, lines.half, k) * lines.step;
+        copy(block, k * lines.width, cells, start, lines.width);
+    }
+}
+
+// Copies columns of a block to lines of a grid.
+#[inline(always)]
+fn scatter(cells: &mut [i128], lines: &Lines, apart: bool, block: &[i128])
+    requires inside { IsInside lines.now (length cells.old) }
+    requires block { length block.now ≡ 2 * lines.now.half * lines.now.width }
+    ensures on { (x k : ℕ) → x < lines.now.width → k < 2 * lines.now.half → line_at cells.new lines.now x (place_of apart lines.now.half k) ≡ column_of lines.now.width block.now x k }
+    ensures off { (i : ℕ) → ((x k : ℕ) → x < lines.now.width → k < 2 * lines.now.half → i ≢ lines.now.start + k * lines.now.step + x) → line_of cells.new i ≡ line_of cells.old i }
+{
+    for k in 0..2 * lines.half {
+        let at = lines.start + place_of(apart, lines.half, k) * lines.step;
+        copy(cells, at, block, k * lines.width, lines.width);
+    }
+}
+
+// Puts the two halves of each line together (ST 2042-1, synthesis), and halves the samples if that is wanted.
+#[inline(always)]
+fn merge(wavelet: u8, cells: &mut [i128], lines: &Lines, shifted: bool, block: &mut [i128])
+    requires wavelet { wavelet ≤ 6 }
+    requires inside { IsInside lines.now (length cells.old) }
+    requires block { length block.old ≡ 2 * lines.now.half * lines.now.width }
+    requires small { (x k : ℕ) → x < lines.now.width → k < 2 * lines.now.half → unsigned_abs (line_at cells.old lines.now x k) < 2 ^ 107 }
+    ensures on { (x k : ℕ) → x < lines.now.width → k < 2 * lines.now.half → line_at cells.new lines.now x k ≡ made Synthesis wavelet shifted lines.now.half (line_at cells.old lines.now x) k }
+    ensures off { (i : ℕ) → ((x k : ℕ) → x < lines.now.width → k < 2 * lines.now.half → i ≢ lines.now.start + k * lines.now.step + x) → line_of cells.new i ≡ line_of cells.old i }
+{
+    gather(cells, lines, true, block);
+    vc_lift::synth_columns(wavelet, block, lines.width, lines.half);
+    halve(block, shifted);
+    scatter(cells, lines, false, block);
+}
+
+// Doubles the samples of each line if that is wanted, and takes it apart into two halves.
+#[inline(always)]
+fn part(wavelet: u8, cells: &mut [i128], lines: &Lines, shifted: bool, block: &mut [i128])
+    requires wavelet { wavelet ≤ 6 }
+    requires inside { IsInside lines.now (length cells.old) }
+    requires block { length block.old ≡ 2 * lines.now.half * lines.now.width }
+    requires small { (x k : ℕ) → x < lines.now.width → k < 2 * lines.now.half → unsigned_abs (line_at cells.old lines.now x k) < 2 ^ 107 }
+    ensures on { (x k : ℕ) → x < lines.now.width → k < 2 * lines.now.half → line_at cells.new lines.now x k ≡ made Analysis wavelet shifted lines.now.half (line_at cells.old lines.now x) k }
+    ensures off { (i : ℕ) → ((x k : ℕ) → x < lines.now.width → k < 2 * lines.now.half → i ≢ lines.now.start + k * lines.now.step + x) → line_of cells.new i ≡ line_of cells.old i }
+{
+    gather(cells, lines, false, block);
+    double(block, shifted);
+    vc_lift::analyse_columns(wavelet, block, lines.width, lines.half);
+    scatter(cells, lines, true, block);
+}
+
+/// Puts lines together or takes them apart. The block is room to work in.
+#[inline(always)]
+pub(crate) fn remake(
+    direction: Direction,
+    wavelet: u8,
+    cells: &mut [i128],
+    lines: &Lines,
+    shifted: bool,
+    block: &mut [i128],
+)
+    requires wavelet { wavelet ≤ 6 }
+    requires inside { IsInside lines.now (length cells.old) }
+    requires block { length block.old ≡ 2 * lines.now.half * lines.now.width }
+    requires small { (x k : ℕ) → x < lines.now.width → k < 2 * lines.now.half → unsigned_abs (line_at cells.old lines.now x k) < 2 ^ 107 }
+    ensures on { (x k : ℕ) → x < lines.now.width → k < 2 * lines.now.half → line_at cells.new lines.now x k ≡ made direction wavelet shifted lines.now.half (line_at cells.old lines.now x) k }
+    ensures off { (i : ℕ) → ((x k : ℕ) → x < lines.now.width → k < 2 * lines.now.half → i ≢ lines.now.start + k * lines.now.step + x) → line_of cells.new i ≡ line_of cells.old i }
+{
+    match direction {
+        Direction::Synthesis => merge(wavelet, cells, lines, shifted, block),
+        Direction::Analysis => part(wavelet, cells, lines, shifted, block),
+    }
+}
