@@ -71,17 +71,24 @@ one_more_held count place matrix left all v rest held more few small h =
     next_zeros : (n : ℕ) (xs ys : List ℕ) → drop n xs ≡ drop n ys → drop (n + 1) xs ≡ drop (n + 1) ys
     next_zeros n xs ys e = sym (drop-drop 1 n xs) ∙ ap (drop 1) e ∙ drop-drop 1 n ys
 
-pub all_held : (count : ℕ) (matrix : List ℕ) (left all : List Bool) → HoldsValues count count matrix left all → count ≤ 16 → (custom_matrix count all ≡ Ok (matrix, left)) × IsTrue (matrix_fits matrix) × (filled_matrix (take count matrix) ≡ matrix)
+filled_is : (count : ℕ) (matrix : List ℕ) → drop count matrix ≡ drop count (replicate 16 0) → count ≤ 16 → length matrix ≡ 16 → filled_matrix (take count matrix) ≡ matrix
+filled_is count matrix zeros few len =
+    let front : List ℕ = take count matrix in
+    let long : length front ≡ count = length-take-le count matrix (omega arith) in
+    let behind : drop (length front) (replicate 16 0) ≡ drop count matrix = ap (λ (n : ℕ). drop n (replicate 16 0)) long ∙ sym zeros in
+    sym (filled-front front (omega arith)) ∙ ap (λ (l : List ℕ). front ++ l) behind ∙ take-append-drop count matrix
+
+all_read : (count : ℕ) (matrix : List ℕ) (left all : List Bool) → HoldsValues count count matrix left all → matrix_values count all ≡ Ok (take count matrix, left)
 unfolding matrix_values
-all_held count matrix left all held few =
-    let len = held.long in
+all_read count matrix left all held =
     let none : count - count ≡ 0 = omega arith in
-    let read : matrix_values count all ≡ Ok (take count matrix ++ [], left) = sym held.same ∙ ap (λ (n : ℕ). behind (take count matrix) (matrix_values n left)) none in
-    let long : length (take count matrix) ≡ count = length-take-le count matrix (omega arith) in
-    let whole : matrix ≡ filled_matrix (take count matrix) =
-    sym (take-append-drop count matrix) ∙ ap (λ (l : List ℕ). take count matrix ++ l) (held.zeros ∙ ap (λ (n : ℕ). drop n (replicate 16 0)) (sym long)) ∙ filled-front (take count matrix) (omega arith) in
-    let values : matrix_values count all ≡ Ok (take count matrix, left) = read ∙ ap (λ (l : List ℕ). Ok (l, left)) (append-nil (take count matrix)) in
-    (ap (λ (r : Read). and_then r (λ read. Ok (filled_matrix read.0, read.1))) values ∙ ap (λ (l : List ℕ). Ok (l, left)) (sym whole), subst (λ (m : List ℕ). IsTrue (matrix_fits m)) (sym whole) (matrix_fits-filled (take count matrix) held.small), sym whole)
+    sym held.same ∙ ap (λ (n : ℕ). behind (take count matrix) (matrix_values n left)) none ∙ ap (λ (l : List ℕ). Ok (l, left)) (append-nil (take count matrix))
+
+pub all_held : (count : ℕ) (matrix : List ℕ) (left all : List Bool) → HoldsValues count count matrix left all → count ≤ 16 → (custom_matrix count all ≡ Ok (matrix, left)) × IsTrue (matrix_fits matrix) × (filled_matrix (take count matrix) ≡ matrix)
+all_held count matrix left all held few =
+    let filled = filled_is count matrix held.zeros few held.long in
+    let read : custom_matrix count all ≡ Ok (filled_matrix (take count matrix), left) = ap (λ (r : Read). and_then r (λ read. Ok (filled_matrix read.0, read.1))) (all_read count matrix left all held) in
+    (read ∙ ap (λ (l : List ℕ). Ok (l, left)) filled, subst (λ (m : List ℕ). IsTrue (matrix_fits m)) filled (matrix_fits-filled (take count matrix) held.small), filled)
 
 pub value_refused : (count place : ℕ) (matrix : List ℕ) (left all : List Bool) (refusal : ParamsRefusal) → HoldsValues count place matrix left all → place < count → matrix_value left ≡ Err refusal → custom_matrix count all ≡ Err refusal
 value_refused count place matrix left all refusal held more h =
