@@ -1,0 +1,21 @@
+//! High-quality slices: their bytes, their coefficients, and slices as jobs for workers.
+#![tactic(auto)]
+
+mod coded;
+mod coeffs;
+mod component;
+mod decoding;
+mod done;
+mod job;
+mod quantiser;
+mod subband;
+
+pub use coded::cut;
+pub use coeffs::SliceCoeffs;
+pub use decoding::decode;
+pub use done::SliceDone;
+pub use job::SliceJob;
+pub use vc_types::{Short, Unsound};
+
+#[cfg(test)]
+mod tests;
