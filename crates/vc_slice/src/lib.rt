@@ -7,6 +7,8 @@ mod component;
 mod decoding;
 mod done;
 mod job;
+mod no_places;
+mod places;
 mod quantiser;
 mod subband;
 
@@ -15,6 +17,8 @@ pub use coeffs::SliceCoeffs;
 pub use decoding::decode;
 pub use done::SliceDone;
 pub use job::SliceJob;
+pub use no_places::NoPlaces;
+pub use places::{Hands, Places};
 pub use vc_types::{Short, Unsound};
 
 #[cfg(test)]
