@@ -1,0 +1,3 @@
+pub mod BlockBits
+pub mod BlockCoefficients
+pub mod Dequantising

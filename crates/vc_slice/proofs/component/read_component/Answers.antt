@@ -1,0 +1,27 @@
+use Rattle.std.proofs.Common.{rules, ◌≡◌, ◌-◌, ◌+◌, ◌*◌, ◌<◌, ◌++◌, ℕ, List, Err, refl, true, arith, replicate, slice_index_or}
+use Rattle.std.specs.List.{list_any}
+use Rattle.vc_types.specs.Slices.{is_large}
+use Rattle.vc_types.specs.TransformParameters.{parameters_of}
+use Rattle.vc_slice.specs.Inside.{coefficients_by}
+use Rattle.vc_slice.proofs.BlockCoefficients.{none_read, subband_read, subband_large, all_read}
+use Rattle.vc_slice.proofs.component.read_component.Goals as goal
+
+pub loop-b-init : goal.loop-b-init
+loop-b-init c = record {
+  read = none_read (parameters_of c.args.plan.now) c.args.c c.args.slice c.args.index c.in_ok-coeffs.coeffs.items c.bits_of-bits.result c.args.block.now c.in_ok-coeffs.ensures.value c.bits_of-bits.ensures;
+  sound = rw c.in_ok-coeffs.ensures.value refl;
+}
+
+pub returns-in_err-read_subband-clause-large : goal.returns-in_err-read_subband-clause-large
+returns-in_err-read_subband-clause-large c = λ e.
+    let few : c.loop-b.b < 1 + 3 * c.args.plan.now.depth = omega arith in
+    subband_large (parameters_of c.args.plan.now) c.args.c c.args.slice c.args.index c.loop-b.coeffs.items _ c.loop-b.b c.count-count.result c.quantiser-quantiser.result.index c.loop-b.bits few c.count-count.ensures c.quantiser-quantiser.ensures c.loop-b.invariant.read (c.in_err-read_subband.ensures.large (search rules))
+
+pub loop-b-preserved : goal.loop-b-preserved
+loop-b-preserved c = record {
+  read = subband_read (parameters_of c.args.plan.now) c.args.c c.args.slice c.args.index c.loop-b.coeffs.items c.read_subband.new.coeffs.items _ c.loop-b.b c.count-count.result c.quantiser-quantiser.result.index c.loop-b.bits c.read_subband.new.block (omega arith) c.count-count.ensures c.quantiser-quantiser.ensures c.loop-b.invariant.read c.in_ok-read_subband.ensures.read;
+  sound = c.in_ok-read_subband.ensures.sound;
+}
+
+pub returns-clause-value : goal.returns-clause-value
+returns-clause-value c = all_read (parameters_of c.args.plan.now) c.args.c c.args.slice c.args.index c.loop-b.coeffs.items _ c.loop-b.b c.loop-b.bits (omega arith) c.loop-b.invariant.read

@@ -1,0 +1,73 @@
+-- What a form of places was asked to do, and what it answered.
+use Rattle.std.specs.Prelude.{◌≡◌, ℕ, List, [], ◌∷◌, ◌++◌, ⊤, Option, None, Some, Result, Ok, Err}
+use Rattle.vc_types.specs.declared.memory.NoMemory.{NoMemory}
+use Rattle.vc_slice.specs.declared.job.SliceJob.{SliceJob}
+use Rattle.vc_slice.specs.declared.done.SliceDone.{SliceDone}
+
+-- a job that was offered, and the place that was answered
+pub record Offer : Type 0 where
+  pub job : SliceJob
+  pub place : Option ℕ
+
+-- a decoded slice that was given back, and the place that was asked
+pub record Given : Type 0 where
+  pub place : ℕ
+  pub done : SliceDone
+
+-- the jobs that were offered, the places that were asked, what was given back, the places that were freed without a
+-- decoding, and the numbers of workers that were started: each list in the order of the calls
+pub record Told : Type 0 where
+  pub offered : List Offer
+  pub asked : List ℕ
+  pub given : List Given
+  pub freed : List ℕ
+  pub started : List ℕ
+
+abbrev pub nothing : Told
+nothing = record { offered = []; asked = []; given = []; freed = []; started = [] }
+
+abbrev pub joined : Told → Told → Told
+joined a b = record { offered = a.offered ++ b.offered; asked = a.asked ++ b.asked; given = a.given ++ b.given; freed = a.freed ++ b.freed; started = a.started ++ b.started }
+
+-- What is told grows by these. A form may stop telling, for good.
+abbrev pub Grows : Option Told → Option Told → Told → Type 0
+Grows None None more = ⊤
+Grows None (Some new) more = ⊥
+Grows (Some old) None more = ⊤
+Grows (Some old) (Some new) more = new ≡ joined old more
+
+-- ---- what each call adds
+
+abbrev pub one_offer : SliceJob → Option ℕ → Told
+one_offer job place = record { offered = record { job = job; place = place } ∷ []; asked = []; given = []; freed = []; started = [] }
+
+abbrev pub answered_place : Result ℕ SliceJob → Option ℕ
+answered_place (Ok place) = Some place
+answered_place (Err job) = None
+
+abbrev pub offering : SliceJob → Result ℕ SliceJob → Told
+offering job answer = one_offer job (answered_place answer)
+
+abbrev pub given_by : ℕ → Option SliceDone → List Given
+given_by place None = []
+given_by place (Some done) = record { place = place; done = done } ∷ []
+
+abbrev pub taking : ℕ → Option SliceDone → Told
+taking place answer = record { offered = []; asked = place ∷ []; given = given_by place answer; freed = []; started = [] }
+
+abbrev pub freed_by : ℕ → Option SliceJob → List ℕ
+freed_by place None = []
+freed_by place (Some job) = place ∷ []
+
+abbrev pub withdrawing : ℕ → Option SliceJob → Told
+withdrawing place answer = record { offered = []; asked = []; given = []; freed = freed_by place answer; started = [] }
+
+abbrev pub leaving : ℕ → Told
+leaving place = record { offered = []; asked = []; given = []; freed = place ∷ []; started = [] }
+
+abbrev pub started_by : ℕ → Result (Unit {0}) NoMemory → List ℕ
+started_by workers (Ok done) = workers ∷ []
+started_by workers (Err e) = []
+
+abbrev pub starting : ℕ → Result (Unit {0}) NoMemory → Told
+starting workers answer = record { offered = []; asked = []; given = []; freed = []; started = started_by workers answer }

@@ -1,0 +1,78 @@
+ghost use Rattle.std.specs.Prelude.{◌≡◌, ◌<◌, ◌≤◌, ◌-◌, ◌+◌, ◌*◌, [], Err, IfOk, IfErr, true, false, slice_index_or};
+ghost use Rattle.std.specs.List.{list_any};
+ghost use Rattle.vc_types.specs.Bits.{bits_of};
+ghost use Rattle.vc_types.specs.Slices.{is_large, block_coefficients};
+ghost use Rattle.vc_types.specs.Subbands.{area, slice_count, slice_rectangle, subband_at};
+ghost use Rattle.vc_types.specs.TransformParameters.{parameters_of};
+ghost use Rattle.vc_slice.specs.declared.subband.Stopped.TheVariants.{Large, NoMemory};
+
+use crate::quantiser::Quantiser;
+use crate::subband::{Stopped, read_subband};
+use std::alloc::Global;
+use vc_bits::{BitReader, Block};
+use vc_geometry::{bands, slice_len, slice_rect};
+use vc_types::{Component, Plan};
+
+// The coefficients that a component's block stands for.
+pub(crate) fn read_component(
+    alloc: Global,
+    plan: &Plan,
+    c: Component,
+    slice: u32,
+    index: u8,
+    block: &[u8],
+) -> Result<Vec<i64>, Stopped>
+    requires slice { slice < slice_count (parameters_of plan.now) }
+    requires index { index ≤ 127 }
+    ensures value { IfOk result (λ coeffs. coeffs.items ≡ block_coefficients (parameters_of plan.now) c slice index block.now) }
+    ensures sound { IfOk result (λ coeffs. list_any is_large coeffs.items ≡ false) }
+    ensures large { result ≡ Err Large → list_any is_large (block_coefficients (parameters_of plan.now) c slice index block.now) ≡ true }
+{
+    let mut bits = bits_of(block);
+    let mut coeffs = with_room(alloc, slice_len(plan, c, slice))?;
+    for b in 0..bands(plan) {
+        let count = count(plan, c, b, slice);
+        let quantiser = quantiser(plan, b, index);
+        read_subband(&mut bits, count, &quantiser, &mut coeffs)?;
+    }
+    Ok(coeffs)
+}
+
+fn with_room(alloc: Global, len: u32) -> Result<Vec<i64>, Stopped>
+    ensures value { IfOk result (λ coeffs. coeffs.items ≡ []) }
+    ensures cause { IfErr result (λ e. e ≡ NoMemory) }
+{
+    match Vec::with_capacity(alloc, len as usize) {
+        Ok(coeffs) => Ok(coeffs),
+        Err(_) => Err(Stopped::NoMemory),
+    }
+}
+
+#[tactic(auto, using(crate::proofs::BlockBits::blocks))]
+fn bits_of(block: &[u8]) -> Block<'_>
+    ensures { result ≡ bits_of block.now }
+{
+    match BitReader::new(block).block(block.len()) {
+        Ok(bits) => bits,
+        Err(_) => unreachable!(),
+    }
+}
+
+// How many coefficients of a slice a subband has.
+fn count(plan: &Plan, c: Component, b: u32, slice: u32) -> u32
+    requires number { b < 1 + 3 * plan.now.depth }
+    requires slice { slice < slice_count (parameters_of plan.now) }
+    ensures { result ≡ area (slice_rectangle (parameters_of plan.now) c (subband_at plan.now.depth b) slice) }
+{
+    let rect = slice_rect(plan, c, b, slice);
+    rect.width * rect.height
+}
+
+// The slice's index less the subband's matrix value, and at least 0.
+fn quantiser(plan: &Plan, b: u32, index: u8) -> Quantiser
+    requires number { b < 1 + 3 * plan.now.depth }
+    requires index { index ≤ 127 }
+    ensures { result.index ≡ index - slice_index_or plan.now.matrix b 0 }
+{
+    Quantiser::new(index.saturating_sub(plan.matrix[b as usize]))
+}

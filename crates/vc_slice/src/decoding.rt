@@ -1,0 +1,65 @@
+ghost use Rattle.std.specs.Prelude.{◌≡◌, ◌<◌, ◌≤◌, Ok, Err, Some, IfOk, length};
+ghost use Rattle.vc_types.specs.Slices.{all_coefficients, in_range, slice_coefficients, slice_length};
+ghost use Rattle.vc_types.specs.Subbands.{slice_count};
+ghost use Rattle.vc_types.specs.TransformParameters.{parameters_of};
+ghost use Rattle.vc_types.specs.declared.refusal.Unsound.TheVariants.{CoefficientRange};
+ghost use Rattle.vc_slice.specs.declared.subband.Stopped.TheVariants.{Large};
+
+use crate::coded::{CodedSlice, coded_slice};
+use crate::coeffs::SliceCoeffs;
+use crate::component::read_component;
+use crate::done::SliceDone;
+use crate::job::SliceJob;
+use crate::subband::Stopped;
+use std::alloc::Global;
+use vc_types::{Component, NoMemory, Plan, Unsound};
+
+/// Decodes a slice (ST 2042-1, high-quality slice): its coefficients; IndexRange where its quantisation index is above
+/// 127, and else CoefficientRange where a coefficient has a magnitude of 2^60 or more.
+pub fn decode(alloc: Global, job: SliceJob) -> Result<SliceDone, NoMemory>
+    ensures job { IfOk result (λ done. done.job ≡ job) }
+{
+    let answer = answer(alloc, &job.plan, job.index, job.bytes.as_slice())?;
+    Ok(SliceDone { job, answer })
+}
+
+#[tactic(auto, unfolding(vc_types::specs::Slices::slice_coefficients, vc_types::specs::Slices::decoded_slice, vc_types::specs::Slices::slice_length))]
+fn answer(
+    alloc: Global,
+    plan: &Plan,
+    slice: u32,
+    bytes: &[u8],
+) -> Result<Result<SliceCoeffs, Unsound>, NoMemory>
+    requires slice { slice < slice_count (parameters_of plan.now) }
+    requires whole { slice_length plan.now.prefix plan.now.scaler bytes.now ≡ Some (length bytes.now) }
+    ensures value { IfOk result (λ answer. answer ≡ slice_coefficients (parameters_of plan.now) slice bytes.now) }
+{
+    let Some((coded, _)) = coded_slice(plan.prefix, plan.scaler, bytes) else {
+        unreachable!();
+    };
+    if coded.index > 127 {
+        return Ok(Err(Unsound::IndexRange));
+    }
+    match coefficients(alloc, plan, slice, &coded) {
+        Ok(coeffs) => Ok(Ok(coeffs)),
+        Err(Stopped::Large) => Ok(Err(Unsound::CoefficientRange)),
+        Err(Stopped::NoMemory) => Err(NoMemory),
+    }
+}
+
+fn coefficients(
+    alloc: Global,
+    plan: &Plan,
+    slice: u32,
+    coded: &CodedSlice<'_>,
+) -> Result<SliceCoeffs, Stopped>
+    requires slice { slice < slice_count (parameters_of plan.now) }
+    requires index { coded.now.index ≤ 127 }
+    ensures value { IfOk result (λ coeffs. Ok coeffs ≡ in_range (all_coefficients (parameters_of plan.now) slice (record { index = coded.now.index; y = coded.now.y.now; c1 = coded.now.c1.now; c2 = coded.now.c2.now }))) }
+    ensures large { result ≡ Err Large → in_range (all_coefficients (parameters_of plan.now) slice (record { index = coded.now.index; y = coded.now.y.now; c1 = coded.now.c1.now; c2 = coded.now.c2.now })) ≡ Err CoefficientRange }
+{
+    let y = read_component(alloc, plan, Component::Y, slice, coded.index, coded.y)?;
+    let c1 = read_component(alloc, plan, Component::C1, slice, coded.index, coded.c1)?;
+    let c2 = read_component(alloc, plan, Component::C2, slice, coded.index, coded.c2)?;
+    Ok(SliceCoeffs::new(y, c1, c2))
+}
