@@ -9,6 +9,7 @@ use Rattle.std.proofs.lemmas.List.{replicate-append-replicate}
 use Rattle.std.proofs.lemmas.List.Concat.{flat_map-cons}
 use Rattle.std.proofs.lemmas.Nat.{div_below, pow_pos}
 use mathlib.Core.Path.{fun_ext}
+use Rattle.vc_types.proofs.ZeroTransform.{inverse_transform_zero}
 use Rattle.vc_types.specs.declared.video.Component.{Component}
 use Rattle.vc_types.specs.declared.video.Component.TheVariants.{Y, C1, C2}
 use Rattle.vc_types.specs.Bits.{bits_of}
@@ -23,89 +24,6 @@ use Rattle.vc_types.specs.Subbands.{Place, coefficient_place, plane_width, plane
 use Rattle.vc_types.specs.TransformParameters.{Parameters}
 use Rattle.vc_types.specs.Transforms.{Cells, interleaved, on_columns, on_rows, on_cells, halved, lowest_width, lowest_height, inverse_level, inverse_levels, inverse_transform}
 use Rattle.vc_types.specs.Wavelets.{is_shifted, lifted_by, synthesised, synthesis_steps}
-
--- ---- lines and grids of zeros
-
-abbrev pub zero_line : ℕ → ℤ
-zero_line k = pos 0
-
-abbrev pub zero_cells : Cells
-zero_cells x y = pos 0
-
-times_zero : (z : ℤ) → z *ℤ pos 0 ≡ pos 0
-times_zero z = omega (arith, ints)
-
-weighted_zero : (parity : Parity) (n m : ℕ) (taps : List ℤ) (i : ℤ) → weighted parity n zero_line m taps i ≡ pos 0
-unfolding weighted
-weighted_zero parity n m [] i = refl
-weighted_zero parity n m (tap ∷ taps) i = rw (times_zero tap, weighted_zero parity n m taps (i +ℤ pos 1)) refl
-
-half_gone : (k : ℕ) → half_of k / 2 ^ k ≡ 0
-half_gone k =
-    let some = pow_pos k in
-    let small : half_of k < 1 * 2 ^ k = omega (arith, some) in
-    let none = div_below (half_of k) (2 ^ k) 1 some small in
-    omega (arith, none)
-
-change_zero : (s : LiftingStep) (n m : ℕ) → change s n zero_line m ≡ pos 0
-unfolding change
-change_zero s n m =
-    ap (λ (z : ℤ). int_shr (z +ℤ pos (half_of s.shift)) s.shift) (weighted_zero s.parity n m s.taps s.first)
-    ∙ (let sum : pos 0 +ℤ pos (half_of s.shift) ≡ pos (half_of s.shift) = omega (arith, ints) in ap (λ (z : ℤ). int_shr z s.shift) sum)
-    ∙ ap pos (half_gone s.shift)
-
-changed_zero : (adds : Bool) → changed_by adds (pos 0) (pos 0) ≡ pos 0
-changed_zero true = refl
-changed_zero false = refl
-
-same_either : (b : Bool) (z : ℤ) → z ≡ pos 0 → (if b then z else pos 0) ≡ pos 0
-same_either true z e = e
-same_either false z e = refl
-
-lifted_zero : (s : LiftingStep) (n : ℕ) → lifted s n zero_line ≡ zero_line
-unfolding lifted
-lifted_zero s n = fun_ext (λ k. same_either (nat_lt k n && (k % 2 == offset_of s.parity)) (changed_by s.adds (pos 0) (change s n zero_line (k / 2))) (ap (changed_by s.adds (pos 0)) (change_zero s n (k / 2)) ∙ changed_zero s.adds))
-
-lifted_by_zero : (steps : List LiftingStep) (n : ℕ) → lifted_by steps n zero_line ≡ zero_line
-unfolding lifted_by
-lifted_by_zero [] n = refl
-lifted_by_zero (s ∷ steps) n = ap (λ (x : ℕ → ℤ). fold (λ line t. lifted t n line) x steps) (lifted_zero s n) ∙ lifted_by_zero steps n
-
-synthesised_zero : (wavelet n : ℕ) → synthesised wavelet n zero_line ≡ zero_line
-unfolding synthesised
-synthesised_zero wavelet n = lifted_by_zero (synthesis_steps wavelet) n
-
-taken_in_turn : (w h : ℕ) → interleaved w h zero_cells ≡ zero_cells
-unfolding interleaved
-taken_in_turn w h = fun_ext (λ x. fun_ext (λ y. same_either (nat_lt x (2 * w) && nat_lt y (2 * h)) (pos 0) refl))
-
-each_column : (wavelet n width : ℕ) → on_columns (synthesised wavelet n) width zero_cells ≡ zero_cells
-unfolding on_columns
-each_column wavelet n width = fun_ext (λ x. fun_ext (λ y. same_either (nat_lt x width) (synthesised wavelet n zero_line y) (ap (λ (l : ℕ → ℤ). l y) (synthesised_zero wavelet n))))
-
-each_row : (wavelet n height : ℕ) → on_rows (synthesised wavelet n) height zero_cells ≡ zero_cells
-unfolding on_rows
-each_row wavelet n height = fun_ext (λ x. fun_ext (λ y. same_either (nat_lt y height) (synthesised wavelet n zero_line x) (ap (λ (l : ℕ → ℤ). l x) (synthesised_zero wavelet n))))
-
-each_cell : (wanted : Bool) (width height : ℕ) → on_cells halved wanted width height zero_cells ≡ zero_cells
-unfolding on_cells
-each_cell wanted width height = fun_ext (λ x. fun_ext (λ y. same_either (wanted && (nat_lt x width && nat_lt y height)) (pos 0) refl))
-
-level_zero : (wavelet w h : ℕ) → inverse_level wavelet w h zero_cells ≡ zero_cells
-unfolding inverse_level
-level_zero wavelet w h =
-    let columns : on_columns (synthesised wavelet (2 * h)) (2 * w) (interleaved w h zero_cells) ≡ zero_cells = ap (on_columns (synthesised wavelet (2 * h)) (2 * w)) (taken_in_turn w h) ∙ each_column wavelet (2 * h) (2 * w) in
-    let rows : on_rows (synthesised wavelet (2 * w)) (2 * h) (on_columns (synthesised wavelet (2 * h)) (2 * w) (interleaved w h zero_cells)) ≡ zero_cells = ap (on_rows (synthesised wavelet (2 * w)) (2 * h)) columns ∙ each_row wavelet (2 * w) (2 * h) in
-    ap (on_cells halved (is_shifted wavelet) (2 * w) (2 * h)) rows ∙ each_cell (is_shifted wavelet) (2 * w) (2 * h)
-
-levels_zero : (wavelet d w h : ℕ) → inverse_levels wavelet d w h zero_cells ≡ zero_cells
-unfolding inverse_levels
-levels_zero wavelet zero w h = refl
-levels_zero wavelet (suc d) w h = ap (inverse_level wavelet (w * 2 ^ d) (h * 2 ^ d)) (levels_zero wavelet d w h) ∙ level_zero wavelet (w * 2 ^ d) (h * 2 ^ d)
-
-pub inverse_transform_zero : (p : Parameters) (c : Component) → inverse_transform p c zero_cells ≡ zero_cells
-unfolding inverse_transform
-inverse_transform_zero p c = levels_zero p.wavelet p.depth (lowest_width p c) (lowest_height p c)
 
 -- ---- slices of zeros
 
@@ -140,14 +58,18 @@ all_placed_zero p c i (s ∷ slices) h =
     rw (flat_map-cons (λ (t : ℕ × Coefficients). placed p c t.0 (coefficients_of t.1 c)) (i, s) (enumerate_from (i + 1) slices))
     (stand_both (placed p c i (coefficients_of s c)) (flat_map (λ (t : ℕ × Coefficients). placed p c t.0 (coefficients_of t.1 c)) (enumerate_from (i + 1) slices)) (placed_zero p c i 0 (coefficients_of s c) (zero_part s c h.0)) (all_placed_zero p c (i + 1) slices h.1))
 
+same_either : (b : Bool) → (if b then pos 0 else pos 0) ≡ pos 0
+same_either true = refl
+same_either false = refl
+
 standing_zero : (zs : List (Place × ℤ)) (x y : ℕ) → StandZero zs → standing_at zs x y ≡ pos 0
 unfolding standing_at
 standing_zero [] x y h = refl
-standing_zero (z ∷ zs) x y h = rw (h.0, standing_zero zs x y h.1) (same_either (z.0.0 == x && z.0.1 == y) (pos 0) refl)
+standing_zero (z ∷ zs) x y h = rw (h.0, standing_zero zs x y h.1) (same_either (z.0.0 == x && z.0.1 == y))
 
-component_zero : (p : Parameters) (c : Component) (slices : List Coefficients) → AllByRecursion IsZeroSlice slices → component_cells p c slices ≡ zero_cells
+component_zero : (p : Parameters) (c : Component) (slices : List Coefficients) → AllByRecursion IsZeroSlice slices → (x y : ℕ) → component_cells p c slices x y ≡ pos 0
 unfolding component_cells all_placed
-component_zero p c slices h = fun_ext (λ x. fun_ext (λ y. standing_zero (all_placed p c slices) x y (all_placed_zero p c 0 slices h)))
+component_zero p c slices h x y = standing_zero (all_placed p c slices) x y (all_placed_zero p c 0 slices h)
 
 -- ---- the plane
 
@@ -177,7 +99,7 @@ pub component_plane-zero : (p : Parameters) (c : Component) (slices : List Coeff
 unfolding component_plane
 component_plane-zero p c slices h =
     let w = plane_width p.shape c in
-    let cells : inverse_transform p c (component_cells p c slices) ≡ zero_cells = ap (inverse_transform p c) (component_zero p c slices h) ∙ inverse_transform_zero p c in
+    let cells : inverse_transform p c (component_cells p c slices) ≡ (λ x y. pos 0) = fun_ext (λ x. fun_ext (λ y. inverse_transform_zero p c (component_cells p c slices) (component_zero p c slices h) x y)) in
     ap (λ (f : Cells). raster w (plane_height p.shape c) (λ x y. output_sample (plane_depth p.shape c) (f x y))) cells
     ∙ ap (λ (v : ℕ). raster w (plane_height p.shape c) (λ x y. v)) (sample_of_zero (plane_depth p.shape c))
     ∙ raster-same (2 ^ (plane_depth p.shape c - 1)) w (plane_height p.shape c)
