@@ -1,5 +1,5 @@
 -- A code that is read in a block is the code that stands there, and it is the only one.
-use Rattle.std.proofs.Common.{◌≡◌, ℕ, zero, suc, ◌+◌, ◌-◌, ◌*◌, ◌<◌, ◌≤◌, ℤ, pos, eqb, cond, Bool, true, false, List, [], ◌∷◌, ◌++◌, length, get_or, drop, refl, sym, ap, subst, ◌∙◌, arith, inl, inr, append_assoc, append-nil, length-append, replicate, Some, negsuc, zero-add, add-zero, suc-add}
+use Rattle.std.proofs.Common.{◌≡◌, ℕ, zero, suc, ◌+◌, ◌-◌, ◌*◌, ◌<◌, ◌≤◌, ℤ, pos, eqb, Bool, true, false, List, [], ◌∷◌, ◌++◌, length, get_or, drop, refl, sym, ap, subst, ◌∙◌, arith, inl, inr, append_assoc, append-nil, length-append, replicate, Some, negsuc, zero-add, add-zero, suc-add}
 use Rattle.std.specs.Prelude.{unsigned_abs}
 use Rattle.std.proofs.lemmas.Bool.{cases_lt, ne_eqb}
 use Rattle.std.proofs.lemmas.List.{get_or_append_left, get_or-replicate, get_or_past, get_or_push, drop-drop, length-replicate}
@@ -7,7 +7,7 @@ use Rattle.std.proofs.Math.Seq.{get_or-append_right}
 use Rattle.std.proofs.lemmas.List.Prefix.{front_from_reads}
 use Rattle.vc_types.specs.Bits.{digit_of}
 use Rattle.vc_types.specs.Codes.{spread_digits, uint_bits, uint_at, sign_bits, sint_bits, uint_after}
-use Rattle.vc_types.specs.Bounded.{BeginsWith, LargeSint, bounded, bounded_uint_after, bounded_uint, signed, with_sign, bounded_sint}
+use Rattle.vc_types.specs.Bounded.{BeginsWith, bounded, bounded_uint_after, bounded_uint, signed, with_sign, bounded_sint}
 use Rattle.vc_types.proofs.Codes.{spread_digits-push, uint_at-uint_bits, some_is, none_before}
 
 -- two blocks have the same bits, with the ones behind them

@@ -1,6 +1,6 @@
 -- Lifting steps over samples that are counted in each parity, and that they are the standard's steps.
-use Rattle.std.proofs.Common.{◌≡◌, ℕ, zero, suc, ◌+◌, ◌-◌, ◌*◌, ◌/◌, ◌%◌, ◌^◌, ◌<◌, ◌≤◌, List, [], ◌∷◌, length, ℤ, pos, negsuc, ◌+ℤ◌, ◌-ℤ◌, ◌*ℤ◌, arith, sym, ap, refl, ◌∙◌, ◌⊎◌, inl, inr, unsigned_abs, Bool, true, false, not, min, max, map, reverse, fold, slice_index_or}
-use Rattle.std.specs.Prelude.{if◌then◌else◌, nat_lt, nat_le, ◌==◌, ◌&&◌}
+use Rattle.std.proofs.Common.{◌≡◌, ℕ, zero, suc, ◌+◌, ◌-◌, ◌*◌, ◌/◌, ◌%◌, ◌<◌, ◌≤◌, List, [], ◌∷◌, length, ℤ, pos, negsuc, ◌+ℤ◌, ◌-ℤ◌, ◌*ℤ◌, arith, sym, ap, refl, ◌∙◌, ◌⊎◌, inl, inr, unsigned_abs, Bool, true, false, not, min, max, map, reverse, fold, slice_index_or}
+use Rattle.std.specs.Prelude.{if◌then◌else◌, nat_lt, ◌==◌, ◌&&◌}
 use Rattle.std.specs.List.{list_all}
 use Rattle.std.specs.Int.{int_shr}
 use mathlib.Core.Path.{fun_ext}
@@ -8,7 +8,7 @@ use Rattle.std.proofs.lemmas.Int.{ints}
 use Rattle.std.proofs.lemmas.Bool.{cases_lt, false≢true}
 use Rattle.std.proofs.lemmas.Bool.Decides.{nat_tests}
 use Rattle.vc_types.specs.Lifting.{Parity, even, odd, offset_of, LiftingStep, held, met, weighted, half_of, change, changed_by, lifted}
-use Rattle.vc_types.specs.Wavelets.{synthesis_steps, analysis_steps, lifted_by, synthesised, analysed, opposite}
+use Rattle.vc_types.specs.Wavelets.{synthesis_steps, analysis_steps, lifted_by, synthesised, analysed}
 use Rattle.vc_types.proofs.WeightedSums.{sum_below, sum_below_none, sum_below_first}
 
 -- A step on the samples of one parity, 0 for the even and 1 for the odd ones. Beside sample number n of that parity, tap

@@ -1,20 +1,16 @@
 -- A picture all of whose coefficients are 0: its samples are half of their range.
-use Rattle.std.proofs.Common.{◌≡◌, ℕ, zero, suc, ◌+◌, ◌-◌, ◌*◌, ◌/◌, ◌%◌, ◌^◌, ◌<◌, ◌≤◌, Bool, true, false, cond, List, [], ◌∷◌, ◌++◌, length, replicate, map, ℤ, pos, negsuc, ◌+ℤ◌, ◌-ℤ◌, ◌*ℤ◌, refl, sym, ap, ◌∙◌, arith, min, unsigned_abs, Result, Ok, Err, fold}
-use Rattle.std.specs.Prelude.{nat_lt, nat_le, ◌==◌, ◌&&◌, ◌||◌, if◌then◌else◌}
-use Rattle.std.specs.Int.{int_shr}
-use Rattle.std.specs.List.{AllByRecursion, flat_map, range_with_len, enumerate_from, zip, list_any}
+use Rattle.std.proofs.Common.{◌≡◌, ℕ, zero, suc, ◌+◌, ◌-◌, ◌*◌, ◌^◌, Bool, true, false, List, [], ◌∷◌, ◌++◌, replicate, map, ℤ, pos, refl, ap, ◌∙◌, arith}
+use Rattle.std.specs.Prelude.{◌==◌, ◌&&◌, if◌then◌else◌}
+use Rattle.std.specs.List.{AllByRecursion, flat_map, range_with_len, enumerate_from, zip}
 use Rattle.std.proofs.lemmas.Int.{ints}
-use Rattle.std.proofs.lemmas.Bool.{cond_both}
 use Rattle.std.proofs.lemmas.List.{replicate-append-replicate}
 use Rattle.std.proofs.lemmas.List.Concat.{flat_map-cons}
-use Rattle.std.proofs.lemmas.Nat.{div_below, pow_pos}
 use mathlib.Core.Path.{fun_ext}
 use Rattle.vc_types.proofs.ZeroTransform.{inverse_transform_zero}
 use Rattle.vc_types.specs.declared.video.Component.{Component}
 use Rattle.vc_types.specs.declared.video.Component.TheVariants.{Y, C1, C2}
 use Rattle.vc_types.specs.Bits.{bits_of}
 use Rattle.vc_types.specs.Bounded.{bounded_sints, bounded_sint, bounded_uint, bounded_uint_after}
-use Rattle.vc_types.specs.Lifting.{LiftingStep, Parity, offset_of, weighted, change, lifted, changed_by, half_of, met}
 use Rattle.vc_types.specs.Pictures.{placed, all_placed, standing_at, component_cells}
 use Rattle.vc_types.specs.Planes.{output_sample, component_plane}
 use Rattle.vc_types.specs.Quantisation.{dequantised}
@@ -22,8 +18,7 @@ use Rattle.vc_types.specs.Rasters.{raster}
 use Rattle.vc_types.specs.Slices.{Coefficients, coefficients_of, block_coefficients, quantisers}
 use Rattle.vc_types.specs.Subbands.{Place, coefficient_place, plane_width, plane_height, plane_depth, slice_coefficient_count}
 use Rattle.vc_types.specs.TransformParameters.{Parameters}
-use Rattle.vc_types.specs.Transforms.{Cells, interleaved, on_columns, on_rows, on_cells, halved, lowest_width, lowest_height, inverse_level, inverse_levels, inverse_transform}
-use Rattle.vc_types.specs.Wavelets.{is_shifted, lifted_by, synthesised, synthesis_steps}
+use Rattle.vc_types.specs.Transforms.{Cells, inverse_transform}
 
 -- ---- slices of zeros
 

@@ -1,5 +1,5 @@
 -- How much steps may raise the magnitudes of a line's samples.
-use Rattle.std.proofs.Common.{◌≡◌, ℕ, zero, suc, ◌+◌, ◌-◌, ◌*◌, ◌/◌, ◌%◌, ◌^◌, ◌<◌, ◌≤◌, ◌≢◌, List, [], ◌∷◌, length, take, get_or, take_all, ℤ, pos, negsuc, ◌+ℤ◌, ◌-ℤ◌, ◌*ℤ◌, arith, subst, sym, ap, refl, ◌∙◌, unsigned_abs, Bool, true, false, ◌⊎◌, inl, inr, min, IsTrue, slice_index_or}
+use Rattle.std.proofs.Common.{◌≡◌, ℕ, zero, suc, ◌+◌, ◌-◌, ◌*◌, ◌/◌, ◌%◌, ◌^◌, ◌<◌, ◌≤◌, ◌≢◌, List, [], ◌∷◌, length, take, get_or, take_all, ℤ, pos, negsuc, ◌+ℤ◌, ◌*ℤ◌, arith, subst, sym, ap, refl, ◌∙◌, unsigned_abs, Bool, true, false, inl, inr, min, IsTrue}
 use Rattle.std.specs.Prelude.{if◌then◌else◌, nat_lt, nat_le, ◌==◌, ◌&&◌}
 use Rattle.std.specs.List.{sum_by}
 use Rattle.std.specs.Int.{int_shr}

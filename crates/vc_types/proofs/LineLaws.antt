@@ -1,8 +1,7 @@
 -- The standard's lines: synthesis undoes analysis, magnitudes grow little, and a line depends on itself alone.
-use Rattle.std.proofs.Common.{◌≡◌, ℕ, ◌+◌, ◌*◌, ◌/◌, ◌%◌, ◌^◌, ◌<◌, ◌≤◌, ℤ, arith, sym, ap, ◌∙◌, ◌⊎◌, inl, inr, unsigned_abs, true}
-use Rattle.std.proofs.lemmas.Bool.{cases_lt}
+use Rattle.std.proofs.Common.{◌≡◌, ℕ, ◌*◌, ◌/◌, ◌%◌, ◌^◌, ◌<◌, ◌≤◌, ℤ, arith, sym, ap, ◌∙◌, unsigned_abs, true}
 use Rattle.vc_types.specs.Wavelets.{synthesised, analysed, GrowsLittle, IsLocal}
-use Rattle.vc_types.proofs.CountedSteps.{CountedStep, lift_all, undone, counted_steps, synthesised_counted, analysed_counted}
+use Rattle.vc_types.proofs.CountedSteps.{lift_all, undone, counted_steps, synthesised_counted, analysed_counted}
 use Rattle.vc_types.proofs.LineGrowth.{grows_little, grows, synthesis_little, analysis_little, analysis_lower}
 use Rattle.vc_types.proofs.LineLocality.{same_lift_all, lift_all_past}
 use Rattle.vc_types.proofs.LineUndoing.{lift_all-undone, parities}

@@ -1,10 +1,8 @@
 -- A field depends on nothing but what it reads.
-use Rattle.std.proofs.Common.{◌≡◌, ℕ, ◌+◌, ◌-◌, ◌^◌, ◌<◌, ◌≤◌, Bool, true, false, cond, ltb, List, [], ◌∷◌, ◌++◌, length, take, drop, Option, Some, None, Result, Ok, Err, refl, sym, ap, subst, ◌∙◌, append_assoc, arith}
+use Rattle.std.proofs.Common.{◌≡◌, ℕ, Bool, true, false, cond, ltb, List, [], ◌∷◌, ◌++◌, Option, Some, None, Result, Ok, Err, refl, sym, ap, ◌∙◌, append_assoc}
 use Rattle.std.specs.Prelude.{if◌then◌else◌}
-use Rattle.std.proofs.lemmas.Bool.{ltb-false, le-ltb}
-use Rattle.std.proofs.Common.{take-append-drop}
 use Rattle.vc_types.specs.Codes.{uint_bits, uint_at}
-use Rattle.vc_types.specs.Fields.{Field, and_then, ◌>>=◌, give, skip, refuse, tested, next, next_items, flag, number_from, number, behind_flag}
+use Rattle.vc_types.specs.Fields.{Field, and_then, ◌>>=◌, give, refuse, tested, next, number_from, number, behind_flag}
 use Rattle.vc_types.proofs.Codes.{uint_at-is, uint_at-uint_bits}
 
 -- what a field that was read depends on: the part that was used, whatever follows it

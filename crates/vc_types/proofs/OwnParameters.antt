@@ -1,13 +1,12 @@
 -- Transform parameters depend on nothing but their own bits, and on nothing but their own bytes.
-use Rattle.std.proofs.Common.{◌≡◌, ℕ, zero, suc, ◌+◌, ◌-◌, ◌*◌, ◌/◌, ◌^◌, ◌<◌, ◌≤◌, Bool, true, false, List, [], ◌∷◌, ◌++◌, length, take, drop, Option, Some, None, Result, Ok, Err, refl, sym, ap, ◌∙◌, append_assoc, arith}
+use Rattle.std.proofs.Common.{ℕ, zero, suc, ◌+◌, ◌-◌, ◌*◌, ◌^◌, Bool, true, false, List, [], ◌∷◌, Option, Some, None}
 use Rattle.std.specs.Prelude.{if◌then◌else◌, nat_le, ◌==◌, ◌&&◌}
-use Rattle.vc_types.specs.declared.refusal.ParamsRefusal.{ParamsRefusal}
 use Rattle.vc_types.specs.declared.refusal.ParamsRefusal.TheVariants as refusals
-use Rattle.vc_types.specs.Fields.{Field, ◌>>=◌, give, skip, refuse, tested, flag, behind_flag}
+use Rattle.vc_types.specs.Fields.{give, skip, refuse, tested, flag, behind_flag}
 use Rattle.vc_types.specs.Limits.{slices_fit, padded_luma_fits}
 use Rattle.vc_types.specs.Quantisation.{filled_matrix, default_matrix}
 use Rattle.vc_types.specs.SequenceHeader.{Sequence, picture_shape}
-use Rattle.vc_types.specs.TransformParameters.{ParamsField, Parameters, number, wavelet_index, wavelet_depth, extended_parameters, slice_counts, prefix_bytes, size_scaler, matrix_value, matrix_values, matrix_by_default, quantisation_matrix, transform_parameters}
+use Rattle.vc_types.specs.TransformParameters.{ParamsField, number, wavelet_index, wavelet_depth, extended_parameters, slice_counts, prefix_bytes, size_scaler, matrix_value, matrix_values, matrix_by_default, quantisation_matrix, transform_parameters}
 use Rattle.vc_types.proofs.OwnBits.{ReadsOwn, give_own, refuse_own, then_own, tested_own, next_own, number_own, behind_flag_own}
 
 one_number : ReadsOwn number

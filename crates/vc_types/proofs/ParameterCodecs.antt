@@ -1,16 +1,14 @@
 -- Transform parameters are read as they are spelled, and each part of them.
-use Rattle.std.proofs.Common.{◌≡◌, ℕ, zero, suc, ◌+◌, ◌-◌, ◌*◌, ◌^◌, ◌<◌, ◌≤◌, Bool, true, false, cond, eqb, leb, List, [], ◌∷◌, ◌++◌, length, Option, Some, None, Result, Ok, refl, sym, ap, subst, ◌∙◌, arith, lit≤}
+use Rattle.std.proofs.Common.{◌≡◌, ℕ, zero, suc, ◌+◌, ◌-◌, ◌*◌, ◌^◌, ◌≤◌, Bool, true, false, cond, eqb, leb, List, [], ◌∷◌, ◌++◌, length, Option, Some, None, refl, sym, ap, ◌∙◌, arith, lit≤}
 use Rattle.std.specs.Prelude.{IsTrue, IfSome, IsSome, MatchOption, unwrap_or, ◌&&◌}
-use Rattle.std.specs.List.{flat_map}
 use Rattle.std.proofs.lemmas.Bool.{leb-true, le-leb, eqb-true, eq-eqb, and_parts, and_from}
-use Rattle.std.proofs.lemmas.List.Concat.{flat_map-cons}
 use Rattle.vc_types.specs.Codes.{uint_bits}
-use Rattle.vc_types.specs.Fields.{Field, ◌>>=◌, give, tested, behind_flag, flagged_bits, flagged_value, joined, pair_bits, IsCodec}
+use Rattle.vc_types.specs.Fields.{◌>>=◌, give, tested, behind_flag, flagged_bits, flagged_value, joined, pair_bits, IsCodec}
 use Rattle.vc_types.specs.Limits.{slices_fit, slice_bytes_fit, padded_luma_fits, matrix_fits}
 use Rattle.vc_types.specs.ParameterSpelling.{ParameterSpelling, extension_bits, numbers_bits, parameter_bits, chosen_matrix, spelled_parameters, IsExtension, IsMatrix, AreParameters}
 use Rattle.vc_types.specs.Quantisation.{filled_matrix, default_matrix}
 use Rattle.vc_types.specs.SequenceHeader.{Sequence, picture_shape}
-use Rattle.vc_types.specs.TransformParameters.{Parameters, ParamsField, number, wavelet_index, wavelet_depth, extended_parameters, slice_counts, prefix_bytes, size_scaler, matrix_value, matrix_values, custom_matrix, matrix_by_default, quantisation_matrix, transform_parameters}
+use Rattle.vc_types.specs.TransformParameters.{Parameters, ParamsField, number, wavelet_index, wavelet_depth, extended_parameters, slice_counts, prefix_bytes, size_scaler, matrix_value, matrix_values, matrix_by_default, quantisation_matrix, transform_parameters}
 use Rattle.vc_types.specs.declared.refusal.ParamsRefusal.{ParamsRefusal}
 use Rattle.vc_types.specs.declared.refusal.ParamsRefusal.TheVariants as refusals
 use Rattle.vc_types.proofs.FieldCodecs.{give_codec, give_if_codec, then_codec, mapped_codec, retold, number_codec, tested_codec, plain_flag_codec, flag_choice_codec}

@@ -1,17 +1,17 @@
 -- Whole pictures worked by hand, of 8 bits, wavelet 3 at depth 1.
-use Rattle.std.proofs.Common.{◌≡◌, ℕ, Bool, true, false, List, [], ◌∷◌, ◌++◌, Some, Ok, refl, replicate, ◌*◌}
+use Rattle.std.proofs.Common.{◌≡◌, ℕ, false, List, [], ◌∷◌, ◌++◌, Some, Ok, refl, replicate, ◌*◌}
 use Rattle.vc_types.specs.Bits.{bits_of, byte_bits}
 use Rattle.vc_types.specs.Codes.{uint_at, uint_after}
 use Rattle.vc_types.specs.Bounded.{bounded_uint_after, bounded_uint, bounded_sint, bounded_sints}
 use Rattle.vc_types.specs.Fields.{number}
 use Rattle.vc_types.specs.Lifting.{weighted, change, lifted}
-use Rattle.vc_types.specs.Pictures.{Picture, slices_from, decoded_picture, all_placed, standing_at, component_cells}
-use Rattle.vc_types.specs.Planes.{Planes, output_sample, component_plane, decoded_planes}
+use Rattle.vc_types.specs.Pictures.{slices_from, decoded_picture, all_placed, standing_at, component_cells}
+use Rattle.vc_types.specs.Planes.{output_sample, component_plane, decoded_planes}
 use Rattle.vc_types.specs.Quantisation.{quant_factor, quant_offset, dequantised, default_matrix}
 use Rattle.vc_types.specs.Rasters.{Raster, raster}
 use Rattle.vc_types.specs.SequenceHeader as header
 use Rattle.vc_types.specs.SequenceHeader.{Sequence, sequence_header}
-use Rattle.vc_types.specs.Slices.{block, coded_slice, quantisers, block_coefficients, decoded_slice, slice_coefficients}
+use Rattle.vc_types.specs.Slices.{block, coded_slice, quantisers, block_coefficients, decoded_slice}
 use Rattle.vc_types.specs.Subbands.{slice_rectangle, place_among, slice_coefficient_count, coefficient_place}
 use Rattle.vc_types.specs.TransformParameters as parameters
 use Rattle.vc_types.specs.TransformParameters.{transform_parameters}

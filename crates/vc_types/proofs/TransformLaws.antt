@@ -1,6 +1,6 @@
 -- The transform of a plane: the inverse undoes the forward transform, and magnitudes grow little.
-use Rattle.std.proofs.Common.{◌≡◌, ℕ, zero, suc, ◌+◌, ◌-◌, ◌*◌, ◌/◌, ◌%◌, ◌^◌, ◌<◌, ◌≤◌, ◌≢◌, ℤ, pos, negsuc, ◌+ℤ◌, ◌-ℤ◌, ◌*ℤ◌, unsigned_abs, arith, sym, ap, refl, ◌∙◌, ◌⊎◌, inl, inr, Bool, true, false, min}
-use Rattle.std.specs.Prelude.{if◌then◌else◌, nat_lt, ◌&&◌}
+use Rattle.std.proofs.Common.{◌≡◌, ℕ, zero, suc, ◌+◌, ◌-◌, ◌*◌, ◌/◌, ◌^◌, ◌<◌, ◌≤◌, ℤ, pos, negsuc, ◌+ℤ◌, ◌-ℤ◌, unsigned_abs, arith, ap, refl, ◌∙◌, ◌⊎◌, inl, inr, Bool, true, false, min}
+use Rattle.std.specs.Prelude.{if◌then◌else◌, ◌&&◌}
 use Rattle.std.specs.Int.{int_shr}
 use mathlib.Core.Path.{fun_ext}
 use Rattle.std.proofs.lemmas.Bool.{cases_lt}
@@ -13,8 +13,8 @@ use Rattle.vc_types.specs.TransformParameters.{Parameters}
 use Rattle.vc_types.specs.Transforms.{Cells, is_within, interleaved, deinterleaved, source_of, on_columns, on_rows, on_cells, halved, doubled, inverse_level, forward_level, inverse_levels, forward_levels, lowest_width, lowest_height, inverse_transform, padded_plane, forward_transform}
 use Rattle.vc_types.specs.Wavelets.{is_shifted, synthesised, analysed}
 use Rattle.vc_types.proofs.LineLaws.{synthesis_undoes_analysis, synthesis_grows_little, analysis_grows_less, synthesis_past, analysis_past, GrowsAtMost}
-use Rattle.vc_types.proofs.PlaneLines.{OfLines, LeavesPast, column_in, column_out, row_in, row_out, on_columns-on_columns, on_rows-on_rows, on_columns-same, on_rows-same, rearranged, rearranged_in, rearranged_past, changed}
-use Rattle.vc_types.proofs.Weaving.{half_place, half_place_below, source_below, source_of-half_place, woven, merged, parted, merged_row, parted_row}
+use Rattle.vc_types.proofs.PlaneLines.{OfLines, LeavesPast, column_in, column_out, row_in, row_out, on_columns-on_columns, on_rows-on_rows, on_columns-same, on_rows-same, rearranged, rearranged_in, rearranged_past}
+use Rattle.vc_types.proofs.Weaving.{half_place, half_place_below, source_of-half_place, woven, merged, parted}
 
 -- ---- the inverse undoes the forward transform
 

@@ -1,13 +1,12 @@
 -- The transforms of a part of the plane read that part alone.
-use Rattle.std.proofs.Common.{◌≡◌, ℕ, zero, suc, ◌+◌, ◌-◌, ◌*◌, ◌/◌, ◌^◌, ◌<◌, ◌≤◌, ℤ, pos, ◌-ℤ◌, arith, sym, ap, ◌∙◌, inl, inr}
+use Rattle.std.proofs.Common.{◌≡◌, ℕ, zero, suc, ◌*◌, ◌^◌, ◌<◌, ◌≤◌, arith, sym, ap, ◌∙◌, inl, inr}
 use Rattle.std.proofs.lemmas.Bool.{cases_lt}
 use Rattle.std.proofs.Math.Nat.{div-mul-le_self, pow-suc}
 use Rattle.vc_types.specs.declared.video.Component.{Component}
-use Rattle.vc_types.specs.Subbands.{plane_width, plane_height, plane_depth, padded_width, padded_height}
+use Rattle.vc_types.specs.Subbands.{padded_width, padded_height}
 use Rattle.vc_types.specs.TransformParameters.{Parameters}
-use Rattle.vc_types.specs.Transforms.{Cells, on_columns, on_rows, inverse_level, forward_level, inverse_levels, forward_levels, lowest_width, lowest_height, inverse_transform, forward_transform, padded_plane}
+use Rattle.vc_types.specs.Transforms.{Cells, on_columns, on_rows, inverse_level, forward_level, inverse_levels, forward_levels, lowest_width, lowest_height, inverse_transform}
 use Rattle.vc_types.proofs.PlaneLines.{OfLines, LeavesPast, ReadsBelow, column_in, column_out, row_in, row_out}
-use Rattle.vc_types.proofs.TransformLaws.{inverse_transform-forward_transform, padded_own}
 use Rattle.vc_types.proofs.Weaving.{merged, parted, merged_row, parted_row, merged_past, merged_reads, parted_past, parted_reads, merged_row_past, merged_row_reads, parted_row_past, parted_row_reads, inverse_level_merged, forward_level_parted}
 
 -- two planes are the same in the first columns and rows

@@ -1,5 +1,5 @@
 -- Where every coefficient is 0, so is every sample.
-use Rattle.std.proofs.Common.{◌≡◌, ℕ, zero, suc, ◌+◌, ◌*◌, ◌/◌, ◌%◌, ◌^◌, ◌<◌, List, [], ◌∷◌, length, ℤ, pos, ◌+ℤ◌, ◌-ℤ◌, ◌*ℤ◌, arith, ap, refl, ◌∙◌, Bool, true, false, fold, slice_index_or}
+use Rattle.std.proofs.Common.{◌≡◌, ℕ, zero, suc, ◌*◌, ◌/◌, ◌%◌, ◌^◌, ◌<◌, List, [], ◌∷◌, length, ℤ, pos, ◌+ℤ◌, ◌*ℤ◌, arith, ap, refl, ◌∙◌, Bool, true, false, fold, slice_index_or}
 use Rattle.std.specs.Prelude.{if◌then◌else◌, nat_lt, ◌==◌, ◌&&◌}
 use Rattle.std.specs.Int.{int_shr}
 use mathlib.Core.Path.{fun_ext}
@@ -11,7 +11,7 @@ use Rattle.vc_types.specs.Lifting.{half_of, changed_by}
 use Rattle.vc_types.specs.TransformParameters.{Parameters}
 use Rattle.vc_types.specs.Transforms.{Cells, is_within, interleaved, on_columns, on_rows, on_cells, halved, inverse_level, inverse_levels, lowest_width, lowest_height, inverse_transform}
 use Rattle.vc_types.specs.Wavelets.{is_shifted, synthesised}
-use Rattle.vc_types.proofs.CountedSteps.{CountedStep, place_met, sum_met, change_at, lift, lift_all, counted_steps, synthesised_counted}
+use Rattle.vc_types.proofs.CountedSteps.{CountedStep, sum_met, change_at, lift, lift_all, counted_steps, synthesised_counted}
 use Rattle.vc_types.proofs.WeightedSums.{sum_below}
 
 abbrev pub zero_line : ℕ → ℤ
