@@ -240,7 +240,6 @@ grows most steps more little half m x some large below k h =
     below_times most m (unsigned_abs (lift_all steps half x k)) more (omega arith) (rw place at w)
 
 pub synthesis_little : (w : ℕ) → grows_little 16 (counted_steps w) ≡ true
-
 unfolding synthesis_steps counted_steps
 synthesis_little zero = refl
 synthesis_little (suc zero) = refl
@@ -252,7 +251,6 @@ synthesis_little (suc (suc (suc (suc (suc (suc zero)))))) = refl
 synthesis_little (suc (suc (suc (suc (suc (suc (suc w))))))) = refl
 
 pub analysis_little : (w : ℕ) → grows_little 16 (undone (counted_steps w)) ≡ true
-
 unfolding synthesis_steps counted_steps
 analysis_little zero = refl
 analysis_little (suc zero) = refl
@@ -265,7 +263,6 @@ analysis_little (suc (suc (suc (suc (suc (suc (suc w))))))) = refl
 
 -- analysis stays within 8 times
 pub analysis_lower : (w : ℕ) → grows_little 8 (undone (counted_steps w)) ≡ true
-
 unfolding synthesis_steps counted_steps
 analysis_lower zero = refl
 analysis_lower (suc zero) = refl

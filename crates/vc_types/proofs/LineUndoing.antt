@@ -71,7 +71,6 @@ order_at f xs i d e h =
     get_or-undone (map f xs) i (f d) e within ∙ ap opposite_counted same
 
 pub parities : (w : ℕ) → list_all (λ s. nat_lt s.parity 2) (counted_steps w) ≡ true
-
 unfolding synthesis_steps counted_steps
 parities zero = refl
 parities (suc zero) = refl

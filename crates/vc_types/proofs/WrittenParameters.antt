@@ -76,8 +76,8 @@ parameters_again sequence p bytes behind plan shape written =
       padded_luma = subst (λ (s : Shape). IsTrue (padded_luma_fits s p.depth)) (sym shape) plan.padded_luma;
     } in
     let value : spelled_parameters sequence (encoder_parameters p) ≡ p =
-        ap (λ (m : List ℕ). parameters_with p (picture_shape sequence) p.wavelet 0 m) matrix.1
-        ∙ ap (λ (s : Shape). parameters_with p s p.wavelet 0 p.matrix) shape
-        ∙ ap (λ (n : ℕ). parameters_with p p.shape n 0 p.matrix) (sym plan.wavelet_ho)
-        ∙ ap (λ (n : ℕ). parameters_with p p.shape p.wavelet_ho n p.matrix) (sym plan.depth_ho) in
+    ap (λ (m : List ℕ). parameters_with p (picture_shape sequence) p.wavelet 0 m) matrix.1
+    ∙ ap (λ (s : Shape). parameters_with p s p.wavelet 0 p.matrix) shape
+    ∙ ap (λ (n : ℕ). parameters_with p p.shape n 0 p.matrix) (sym plan.wavelet_ho)
+    ∙ ap (λ (n : ℕ). parameters_with p p.shape p.wavelet_ho n p.matrix) (sym plan.depth_ho) in
     read_again bytes behind (encoder_parameters p) (replicate ((8 - length bits % 8) % 8) false) (parameters_are sequence) accepted written (filled_less bits) ∙ ap (λ (q : Parameters). Ok (q, length bytes)) value
