@@ -1,7 +1,6 @@
 -- Fields at the front of bytes: what is read is what is spelled there, and what is written is read again.
-use Rattle.std.proofs.Common.{◌≡◌, ℕ, ◌+◌, ◌-◌, ◌*◌, ◌/◌, ◌<◌, Bool, List, ◌++◌, length, Result, Ok, Err, refl, sym, ap, subst, ◌∙◌, append_assoc, length-append, arith}
+use Rattle.std.proofs.Common.{◌≡◌, ℕ, ◌+◌, ◌*◌, ◌<◌, Bool, List, ◌++◌, length, Result, Ok, Err, sym, ap, subst, ◌∙◌, append_assoc, length-append, arith}
 use Rattle.std.specs.Prelude.{IfOk}
-use Rattle.std.specs.List.{flat_map}
 use Rattle.std.proofs.lemmas.Grind.{flat_map-append}
 use Rattle.vc_types.specs.Bits.{bits_of, byte_bits}
 use Rattle.vc_types.specs.Fields.{Field, Answers, Begins, bytes_for, IsCodec}
@@ -46,7 +45,7 @@ pub only : {E A X Y : Type 0} {field : Field Bool E X} {bits : A → List Bool} 
 only {E = E} {X = X} {field = field} {bits = bits} {value = value} bytes view result c h a rest ok begins =
     let read : field (bits_of bytes) ≡ Ok (value a, rest) = ap field begins ∙ c.again a rest ok in
     let whole : with_bytes_used bytes (field (bits_of bytes)) ≡ Ok (value a, bytes_for (length (bits a))) =
-        ap (with_bytes_used bytes) read ∙ ap (λ (n : ℕ). Ok (value a, n)) (used_is bytes (bits a) rest begins) in
+    ap (with_bytes_used bytes) read ∙ ap (λ (n : ℕ). Ok (value a, n)) (used_is bytes (bits a) rest begins) in
     subst (λ (r : Result (X × ℕ) E). Answers view result r) whole h
 
 -- What is written, filled up to the edge of a byte, is read again, whatever follows.
@@ -56,5 +55,5 @@ read_again {field = field} {bits = bits} {value = value} bytes behind a fill c o
     let all : bits_of (bytes ++ behind) ≡ bits a ++ (fill ++ bits_of behind) = bits_of-append bytes behind ∙ ap (λ (l : List Bool). l ++ bits_of behind) written ∙ append_assoc (bits a) fill (bits_of behind) in
     let read : field (bits_of (bytes ++ behind)) ≡ Ok (value a, fill ++ bits_of behind) = ap field all ∙ c.again a (fill ++ bits_of behind) ok in
     let used : bytes_used (bytes ++ behind) (fill ++ bits_of behind) ≡ length bytes =
-        omega (arith, length-append bytes behind, length-append fill (bits_of behind), length-bits_of behind) in
+    omega (arith, length-append bytes behind, length-append fill (bits_of behind), length-bits_of behind) in
     ap (with_bytes_used (bytes ++ behind)) read ∙ ap (λ (n : ℕ). Ok (value a, n)) used

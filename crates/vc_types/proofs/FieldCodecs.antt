@@ -1,11 +1,11 @@
 -- Reading and writing belong together, combinator by combinator.
-use Rattle.std.proofs.Common.{◌≡◌, ℕ, length-append, ◌+◌, ◌-◌, ◌^◌, ◌<◌, ◌≤◌, Bool, true, false, cond, ltb, eqb, List, [], ◌∷◌, ◌++◌, length, take, drop, Option, Some, None, Result, Ok, Err, refl, sym, ap, subst, ◌∙◌, append_assoc, arith}
+use Rattle.std.proofs.Common.{◌≡◌, ℕ, length-append, ◌≤◌, Bool, true, false, cond, ltb, List, [], ◌∷◌, ◌++◌, length, take, drop, Option, Some, None, Result, Ok, Err, refl, sym, ap, subst, ◌∙◌, append_assoc, arith}
 use Rattle.std.proofs.lemmas.Bool.{ltb-false, le-ltb}
 use Rattle.std.specs.Prelude.{IsTrue, IfSome, MatchOption, unwrap_or}
 use Rattle.std.proofs.lemmas.List.{take-append-drop, length-take-le}
 use Rattle.std.proofs.Math.Seq.{drop-append_seam, take-append_seam}
 use Rattle.vc_types.specs.Codes.{uint_bits, uint_at}
-use Rattle.vc_types.specs.Fields.{Field, and_then, ◌>>=◌, give, skip, refuse, tested, next, next_items, flag, number_from, number, behind_flag, flagged_bits, flagged_value, IsCodec}
+use Rattle.vc_types.specs.Fields.{Field, and_then, ◌>>=◌, give, refuse, tested, next, next_items, flag, number_from, number, behind_flag, flagged_bits, flagged_value, IsCodec}
 use Rattle.vc_types.proofs.Codes.{uint_at-is, uint_at-uint_bits}
 
 -- ---- results

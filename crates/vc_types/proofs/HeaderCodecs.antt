@@ -1,13 +1,13 @@
 -- A sequence header is read as it is spelled, and each part of it.
-use Rattle.std.proofs.Common.{◌≡◌, ℕ, zero, suc, lit≤, ◌+◌, ◌-◌, ◌^◌, ◌<◌, ◌≤◌, ◌⊎◌, inl, inr, Bool, true, false, cond, eqb, leb, List, [], ◌∷◌, ◌++◌, Option, Some, None, Result, Ok, refl, sym, ap, subst, ◌∙◌, append_assoc, arith}
+use Rattle.std.proofs.Common.{◌≡◌, ℕ, zero, suc, lit≤, ◌-◌, ◌^◌, ◌<◌, ◌≤◌, ◌⊎◌, inl, inr, Bool, true, false, cond, eqb, leb, List, ◌++◌, Option, Some, None, Result, Ok, refl, sym, ap, subst, ◌∙◌, append_assoc, arith}
 use Rattle.std.specs.Prelude.{IsTrue, IfSome, unwrap_or, ◌||◌}
-use Rattle.std.proofs.lemmas.Bool.{leb-true, le-leb, eqb-true, eq-eqb}
+use Rattle.std.proofs.lemmas.Bool.{leb-true, le-leb, eqb-true}
 use Rattle.std.proofs.lemmas.Bool.Decides.{nat_tests}
 use Rattle.vc_types.specs.Bits.{digit_of}
 use Rattle.vc_types.specs.Codes.{uint_bits}
-use Rattle.vc_types.specs.Fields.{Field, ◌>>=◌, give, skip, flagged_bits, flagged_value, joined, pair_bits, IsCodec, and_then}
+use Rattle.vc_types.specs.Fields.{Field, ◌>>=◌, give, flagged_bits, flagged_value, pair_bits, IsCodec, and_then}
 use Rattle.vc_types.specs.HeaderSpelling.{Choice, Preset, Custom, choice_bits, sampling_index, CleanArea, area_bits, range_bits, Colour, colour_bits, HeaderSpelling, header_bits, chosen_range, spelled_header, IsNumber, IsChoice, ArePair, IsArea, IsRange, IsColour, IsHeader}
-use Rattle.vc_types.specs.SequenceHeader.{Sequence, HeaderField, number, index, part, major_version, profile, base_video_format, frame_size, sampling_of, colour_difference_sampling, scan_format, ratio, clean_area, excursion, custom_signal_range, signal_range_of, colour_part, colour_specification, picture_coding_mode, sequence_header}
+use Rattle.vc_types.specs.SequenceHeader.{HeaderField, number, index, part, major_version, profile, base_video_format, frame_size, sampling_of, colour_difference_sampling, scan_format, ratio, clean_area, excursion, custom_signal_range, signal_range_of, colour_part, colour_specification, picture_coding_mode, sequence_header}
 use Rattle.vc_types.specs.Video.{BaseFormat, format_of, range_of, signal_range, excursion_fits, dimensions_fit}
 use Rattle.vc_types.specs.declared.refusal.HeaderRefusal.{HeaderRefusal}
 use Rattle.vc_types.specs.declared.refusal.HeaderRefusal.TheVariants as refusals

@@ -1,5 +1,5 @@
 -- Sequence headers and transform parameters worked by hand.
-use Rattle.std.proofs.Common.{◌≡◌, ℕ, Bool, true, false, List, [], ◌∷◌, ◌++◌, Some, None, Ok, Err, refl, replicate}
+use Rattle.std.proofs.Common.{◌≡◌, ℕ, true, false, List, [], ◌∷◌, ◌++◌, Ok, Err, refl, replicate}
 use Rattle.vc_types.specs.Bits.{bits_of, byte_bits}
 use Rattle.vc_types.specs.Codes.{uint_at, uint_after, uint_bits, spread_digits}
 use Rattle.vc_types.specs.Fields.{number, filled_up}

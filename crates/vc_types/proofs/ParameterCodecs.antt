@@ -1,16 +1,14 @@
 -- Transform parameters are read as they are spelled, and each part of them.
-use Rattle.std.proofs.Common.{◌≡◌, ℕ, zero, suc, ◌+◌, ◌-◌, ◌*◌, ◌^◌, ◌<◌, ◌≤◌, Bool, true, false, cond, eqb, leb, List, [], ◌∷◌, ◌++◌, length, Option, Some, None, Result, Ok, refl, sym, ap, subst, ◌∙◌, arith, lit≤}
+use Rattle.std.proofs.Common.{◌≡◌, ℕ, zero, suc, ◌+◌, ◌-◌, ◌*◌, ◌^◌, ◌≤◌, Bool, true, false, cond, eqb, leb, List, [], ◌∷◌, ◌++◌, length, Option, Some, None, refl, sym, ap, ◌∙◌, arith, lit≤}
 use Rattle.std.specs.Prelude.{IsTrue, IfSome, IsSome, MatchOption, unwrap_or, ◌&&◌}
-use Rattle.std.specs.List.{flat_map}
 use Rattle.std.proofs.lemmas.Bool.{leb-true, le-leb, eqb-true, eq-eqb, and_parts, and_from}
-use Rattle.std.proofs.lemmas.List.Concat.{flat_map-cons}
 use Rattle.vc_types.specs.Codes.{uint_bits}
-use Rattle.vc_types.specs.Fields.{Field, ◌>>=◌, give, tested, behind_flag, flagged_bits, flagged_value, joined, pair_bits, IsCodec}
+use Rattle.vc_types.specs.Fields.{◌>>=◌, give, tested, behind_flag, flagged_bits, flagged_value, joined, pair_bits, IsCodec}
 use Rattle.vc_types.specs.Limits.{slices_fit, slice_bytes_fit, padded_luma_fits, matrix_fits}
 use Rattle.vc_types.specs.ParameterSpelling.{ParameterSpelling, extension_bits, numbers_bits, parameter_bits, chosen_matrix, spelled_parameters, IsExtension, IsMatrix, AreParameters}
 use Rattle.vc_types.specs.Quantisation.{filled_matrix, default_matrix}
 use Rattle.vc_types.specs.SequenceHeader.{Sequence, picture_shape}
-use Rattle.vc_types.specs.TransformParameters.{Parameters, ParamsField, number, wavelet_index, wavelet_depth, extended_parameters, slice_counts, prefix_bytes, size_scaler, matrix_value, matrix_values, custom_matrix, matrix_by_default, quantisation_matrix, transform_parameters}
+use Rattle.vc_types.specs.TransformParameters.{Parameters, ParamsField, number, wavelet_index, wavelet_depth, extended_parameters, slice_counts, prefix_bytes, size_scaler, matrix_value, matrix_values, matrix_by_default, quantisation_matrix, transform_parameters}
 use Rattle.vc_types.specs.declared.refusal.ParamsRefusal.{ParamsRefusal}
 use Rattle.vc_types.specs.declared.refusal.ParamsRefusal.TheVariants as refusals
 use Rattle.vc_types.proofs.FieldCodecs.{give_codec, give_if_codec, then_codec, mapped_codec, retold, number_codec, tested_codec, plain_flag_codec, flag_choice_codec}
@@ -224,12 +222,12 @@ pub parameters_are : (sequence : Sequence) → IsCodec (transform_parameters seq
 unfolding transform_parameters
 parameters_are sequence = retold (parameter_bits sequence.major) (spelled_parameters sequence) (AreParameters sequence) parts_told parts_of
     (λ a ok.
-      let same = and_parts (eqb (across_value a.0 a.1.1.0).0 a.0) (eqb (across_value a.0 a.1.1.0).1 0) ok.1.1.1.0 in
-      let wavelet-is : unwrap_or a.1.1.0.0 a.0 ≡ a.0 = eqb-true (unwrap_or a.1.1.0.0 a.0) a.0 same.0 in
-      let depth-is : unwrap_or a.1.1.0.1 0 ≡ 0 = eqb-true (unwrap_or a.1.1.0.1 0) 0 same.1 in
-      let extension = symmetric_told (eqb sequence.major 3) a.0 a.1.0 a.1.1.0 ok.1.1.0 wavelet-is depth-is in
-      let matrix : List ℕ = chosen_matrix (parts_told a) in
-      (record {
+    let same = and_parts (eqb (across_value a.0 a.1.1.0).0 a.0) (eqb (across_value a.0 a.1.1.0).1 0) ok.1.1.1.0 in
+    let wavelet-is : unwrap_or a.1.1.0.0 a.0 ≡ a.0 = eqb-true (unwrap_or a.1.1.0.0 a.0) a.0 same.0 in
+    let depth-is : unwrap_or a.1.1.0.1 0 ≡ 0 = eqb-true (unwrap_or a.1.1.0.1 0) 0 same.1 in
+    let extension = symmetric_told (eqb sequence.major 3) a.0 a.1.0 a.1.1.0 ok.1.1.0 wavelet-is depth-is in
+    let matrix : List ℕ = chosen_matrix (parts_told a) in (
+      record {
         wavelet = ok.0;
         some_levels = ok.1.0.0;
         few_levels = ok.1.0.1;
@@ -239,14 +237,19 @@ parameters_are sequence = retold (parameter_bits sequence.major) (spelled_parame
         slice_bytes = slice_bytes_is a.1.1.1.1.1.0 a.1.1.1.1.1.1.0 ok.1.1.1.1.1.0 ok.1.1.1.1.1.1.0.0 ok.1.1.1.1.1.1.0.1;
         matrix = matrix_told a.1.0 (IsSome (default_matrix a.0 a.1.0)) a.1.1.1.1.1.1.1.0 ok.1.1.1.1.1.1.1.0;
         padded_luma = ok.1.1.1.1.1.1.1.1;
-      }, sym (ap (λ (n : ℕ). with_across sequence a.0 (n, unwrap_or a.1.1.0.1 0) a.1.0 a.1.1.1.1.0 a.1.1.1.1.1.0 a.1.1.1.1.1.1.0 matrix) wavelet-is ∙ ap (λ (n : ℕ). with_across sequence a.0 (a.0, n) a.1.0 a.1.1.1.1.0 a.1.1.1.1.1.0 a.1.1.1.1.1.1.0 matrix) depth-is), refl))
+      },
+      sym (ap (λ (n : ℕ). with_across sequence a.0 (n, unwrap_or a.1.1.0.1 0) a.1.0 a.1.1.1.1.0 a.1.1.1.1.1.0 a.1.1.1.1.1.1.0 matrix) wavelet-is ∙ ap (λ (n : ℕ). with_across sequence a.0 (a.0, n) a.1.0 a.1.1.1.1.0 a.1.1.1.1.1.0 a.1.1.1.1.1.1.0 matrix) depth-is),
+      refl,
+    ))
     (λ s ok.
-      let wavelet-is : unwrap_or s.wavelet_ho s.wavelet ≡ s.wavelet = part_value (eqb sequence.major 3) s.wavelet s.wavelet_ho ok.wavelet_ho in
-      let depth-is : unwrap_or s.depth_ho 0 ≡ 0 = part_value (eqb sequence.major 3) 0 s.depth_ho ok.depth_ho in
-      let bytes = slice_bytes_are s.prefix s.scaler ok.slice_bytes in
-      let matrix : List ℕ = chosen_matrix s in
-      ((ok.wavelet, ((ok.some_levels, ok.few_levels), (across_of (eqb sequence.major 3) s.wavelet s.depth s.wavelet_ho s.depth_ho ok.wavelet ok.few_levels ok.wavelet_ho ok.depth_ho, (and_from (eqb (unwrap_or s.wavelet_ho s.wavelet) s.wavelet) (eqb (unwrap_or s.depth_ho 0) 0) (eq-eqb (unwrap_or s.wavelet_ho s.wavelet) s.wavelet wavelet-is) (eq-eqb (unwrap_or s.depth_ho 0) 0 depth-is), (ok.slices, (bytes.0, (bytes.1, (matrix_of s.depth (IsSome (default_matrix s.wavelet s.depth)) s.matrix ok.matrix, ok.padded_luma)))))))),
-      ap (λ (n : ℕ). with_across sequence s.wavelet (n, unwrap_or s.depth_ho 0) s.depth (s.slices_x, s.slices_y) s.prefix s.scaler matrix) wavelet-is ∙ ap (λ (n : ℕ). with_across sequence s.wavelet (s.wavelet, n) s.depth (s.slices_x, s.slices_y) s.prefix s.scaler matrix) depth-is, refl))
+    let wavelet-is : unwrap_or s.wavelet_ho s.wavelet ≡ s.wavelet = part_value (eqb sequence.major 3) s.wavelet s.wavelet_ho ok.wavelet_ho in
+    let depth-is : unwrap_or s.depth_ho 0 ≡ 0 = part_value (eqb sequence.major 3) 0 s.depth_ho ok.depth_ho in
+    let bytes = slice_bytes_are s.prefix s.scaler ok.slice_bytes in
+    let matrix : List ℕ = chosen_matrix s in (
+      (ok.wavelet, ((ok.some_levels, ok.few_levels), (across_of (eqb sequence.major 3) s.wavelet s.depth s.wavelet_ho s.depth_ho ok.wavelet ok.few_levels ok.wavelet_ho ok.depth_ho, (and_from (eqb (unwrap_or s.wavelet_ho s.wavelet) s.wavelet) (eqb (unwrap_or s.depth_ho 0) 0) (eq-eqb (unwrap_or s.wavelet_ho s.wavelet) s.wavelet wavelet-is) (eq-eqb (unwrap_or s.depth_ho 0) 0 depth-is), (ok.slices, (bytes.0, (bytes.1, (matrix_of s.depth (IsSome (default_matrix s.wavelet s.depth)) s.matrix ok.matrix, ok.padded_luma)))))))),
+      ap (λ (n : ℕ). with_across sequence s.wavelet (n, unwrap_or s.depth_ho 0) s.depth (s.slices_x, s.slices_y) s.prefix s.scaler matrix) wavelet-is ∙ ap (λ (n : ℕ). with_across sequence s.wavelet (s.wavelet, n) s.depth (s.slices_x, s.slices_y) s.prefix s.scaler matrix) depth-is,
+      refl,
+    ))
     (then_codec wavelet_is (λ (wavelet : ℕ).
     then_codec depth_is (λ (depth : ℕ).
     then_codec (extended_is sequence.major wavelet depth) (λ (across : ℕ × ℕ).

@@ -1,11 +1,11 @@
 -- Headers of the encoder's form are spelled in the encoder's way, and read again.
-use Rattle.std.proofs.Common.{◌≡◌, ℕ, zero, suc, ◌+◌, ◌-◌, ◌*◌, ◌%◌, ◌^◌, ◌≤◌, ◌<◌, Bool, true, false, List, ◌++◌, length, replicate, Result, Ok, refl, sym, ap, subst, ◌∙◌, arith, lit≤, inr}
+use Rattle.std.proofs.Common.{◌≡◌, ℕ, zero, suc, ◌-◌, ◌%◌, ◌≤◌, ◌<◌, Bool, true, false, List, ◌++◌, length, replicate, Ok, refl, sym, ap, ◌∙◌, arith, lit≤, inr}
 use Rattle.std.specs.Prelude.{IsTrue, ◌&&◌}
 use Rattle.std.proofs.lemmas.Bool.{and_parts}
 use Rattle.std.proofs.lemmas.List.{length-replicate}
 use Rattle.vc_types.specs.Bits.{bits_of}
 use Rattle.vc_types.specs.Fields.{filled_up}
-use Rattle.vc_types.specs.HeaderSpelling.{HeaderSpelling, header_bits, spelled_header, IsHeader, IsEncoderHeader, encoder_header, encoder_base, preset_of}
+use Rattle.vc_types.specs.HeaderSpelling.{header_bits, spelled_header, IsHeader, IsEncoderHeader, encoder_header, encoder_base, preset_of}
 use Rattle.vc_types.specs.SequenceHeader.{Sequence, coded_header}
 use Rattle.vc_types.specs.Video.{format_of, range_of, dimensions_fit, side_fits, sampling_fits}
 use Rattle.vc_types.specs.declared.video.SignalRange.{SignalRange}

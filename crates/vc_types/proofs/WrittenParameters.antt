@@ -1,5 +1,5 @@
 -- Parameters of a plan are spelled in the encoder's way, and read again.
-use Rattle.std.proofs.Common.{◌≡◌, ℕ, zero, suc, ◌+◌, ◌-◌, ◌*◌, ◌≤◌, ◌<◌, ◌%◌, Bool, true, false, cond, eqb, List, [], ◌++◌, length, take, replicate, Option, Some, None, Result, Ok, refl, sym, ap, subst, ◌∙◌, length-append, arith}
+use Rattle.std.proofs.Common.{◌≡◌, ℕ, ◌+◌, ◌-◌, ◌*◌, ◌≤◌, ◌%◌, Bool, true, false, cond, eqb, List, [], ◌++◌, length, take, replicate, Option, Some, None, Ok, refl, sym, ap, subst, ◌∙◌, length-append, arith}
 use Rattle.std.specs.Prelude.{IsTrue, IsSome, MatchOption, unwrap_or}
 use Rattle.std.specs.Str.{bytes_eq}
 use Rattle.std.proofs.lemmas.List.{length-take-le}
@@ -7,7 +7,7 @@ use Rattle.std.proofs.lemmas.Slice.Eq.{bytes_eq-Decides}
 use Rattle.vc_types.specs.Bits.{bits_of}
 use Rattle.vc_types.specs.Fields.{filled_up, flagged_value}
 use Rattle.vc_types.specs.Limits.{slices_fit, slice_bytes_fit, padded_luma_fits, matrix_fits}
-use Rattle.vc_types.specs.ParameterSpelling.{ParameterSpelling, parameter_bits, spelled_parameters, IsExtension, IsMatrix, AreParameters, is_default, encoder_parameters}
+use Rattle.vc_types.specs.ParameterSpelling.{parameter_bits, spelled_parameters, IsExtension, IsMatrix, AreParameters, is_default, encoder_parameters}
 use Rattle.vc_types.specs.Quantisation.{filled_matrix, used_entries, default_matrix}
 use Rattle.vc_types.specs.SequenceHeader.{Sequence, picture_shape}
 use Rattle.vc_types.specs.TransformParameters.{Parameters, coded_parameters}
@@ -76,8 +76,8 @@ parameters_again sequence p bytes behind plan shape written =
       padded_luma = subst (λ (s : Shape). IsTrue (padded_luma_fits s p.depth)) (sym shape) plan.padded_luma;
     } in
     let value : spelled_parameters sequence (encoder_parameters p) ≡ p =
-        ap (λ (m : List ℕ). parameters_with p (picture_shape sequence) p.wavelet 0 m) matrix.1
-        ∙ ap (λ (s : Shape). parameters_with p s p.wavelet 0 p.matrix) shape
-        ∙ ap (λ (n : ℕ). parameters_with p p.shape n 0 p.matrix) (sym plan.wavelet_ho)
-        ∙ ap (λ (n : ℕ). parameters_with p p.shape p.wavelet_ho n p.matrix) (sym plan.depth_ho) in
+    ap (λ (m : List ℕ). parameters_with p (picture_shape sequence) p.wavelet 0 m) matrix.1
+    ∙ ap (λ (s : Shape). parameters_with p s p.wavelet 0 p.matrix) shape
+    ∙ ap (λ (n : ℕ). parameters_with p p.shape n 0 p.matrix) (sym plan.wavelet_ho)
+    ∙ ap (λ (n : ℕ). parameters_with p p.shape p.wavelet_ho n p.matrix) (sym plan.depth_ho) in
     read_again bytes behind (encoder_parameters p) (replicate ((8 - length bits % 8) % 8) false) (parameters_are sequence) accepted written (filled_less bits) ∙ ap (λ (q : Parameters). Ok (q, length bytes)) value

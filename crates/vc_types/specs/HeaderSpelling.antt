@@ -5,7 +5,7 @@ use Rattle.vc_types.specs.Bits.{digit_of}
 use Rattle.vc_types.specs.Codes.{uint_bits}
 use Rattle.vc_types.specs.Fields.{flagged_bits, flagged_value, joined, pair_bits, Begins}
 use Rattle.vc_types.specs.SequenceHeader.{Sequence}
-use Rattle.vc_types.specs.Video.{format_of, range_of, signal_range, dimensions_fit, excursion_fits}
+use Rattle.vc_types.specs.Video.{format_of, range_of, dimensions_fit, excursion_fits}
 use Rattle.vc_types.specs.declared.video.Sampling.{Sampling}
 use Rattle.vc_types.specs.declared.video.Sampling.TheVariants.{S444, S422, S420}
 use Rattle.vc_types.specs.declared.video.SignalRange.{SignalRange}
