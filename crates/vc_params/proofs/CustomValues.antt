@@ -1,5 +1,5 @@
 -- The values of a custom matrix that are read one after another, and the matrix that they fill.
-use Rattle.std.proofs.Common.{◌≡◌, ℕ, zero, suc, ◌+◌, ◌-◌, ◌<◌, ◌≤◌, Bool, true, leb, List, [], ◌∷◌, ◌++◌, length, take, drop, set, replicate, Result, Ok, Err, refl, sym, ap, subst, ◌∙◌, append_assoc, length-set, arith}
+use Rattle.std.proofs.Common.{◌≡◌, ℕ, suc, ◌+◌, ◌-◌, ◌<◌, ◌≤◌, Bool, true, leb, List, [], ◌∷◌, ◌++◌, length, take, drop, set, replicate, Result, Ok, Err, refl, sym, ap, subst, ◌∙◌, append_assoc, length-set, arith}
 use Rattle.std.specs.Prelude.{IsTrue}
 use Rattle.std.proofs.lemmas.Bool.{and_from, le-leb}
 use Rattle.std.proofs.Math.Seq.{drop-drop}

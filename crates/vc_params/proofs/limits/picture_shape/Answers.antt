@@ -1,4 +1,4 @@
-use Rattle.std.proofs.Common.{◌≤◌, subst, sym, ap}
+use Rattle.std.proofs.Common.{◌≤◌, subst, sym}
 use Rattle.std.specs.Prelude.{IsTrue}
 use Rattle.vc_types.specs.Limits.{shape_fits}
 use Rattle.vc_types.specs.SequenceHeader.{sequence_of}

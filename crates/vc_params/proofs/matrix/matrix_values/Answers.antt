@@ -1,4 +1,4 @@
-use Rattle.std.proofs.Common.{◌≡◌, ℕ, ◌<◌, length, Bool, List, subst, sym, arith}
+use Rattle.std.proofs.Common.{◌≡◌, ℕ, Bool, List, subst, arith}
 use Rattle.std.proofs.lemmas.Result.{err_from_is_err_and}
 use Rattle.vc_params.proofs.CustomValues.{HoldsValues, one_more_held, all_held, value_refused}
 use Rattle.vc_params.proofs.matrix.matrix_values.Goals as goal

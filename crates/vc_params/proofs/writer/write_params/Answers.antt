@@ -1,6 +1,5 @@
-use Rattle.std.proofs.Common.{◌≡◌, ℕ, List, ◌++◌, length, Bool, ◌∙◌, sym, ap}
+use Rattle.std.proofs.Common.{ℕ, ◌∙◌, sym, ap}
 use Rattle.std.proofs.lemmas.Result.{IfOk-weaker}
-use Rattle.vc_types.specs.Bits.{bits_of}
 use Rattle.vc_types.specs.Fields.{filled_up}
 use Rattle.vc_types.specs.ParameterSpelling.{parameter_bits, encoder_parameters}
 use Rattle.vc_types.specs.TransformParameters.{parameters_of}

@@ -1,9 +1,5 @@
-use Rattle.std.proofs.Common.{◌≡◌, ℕ, List, ◌++◌, length, Ok}
 use Rattle.std.proofs.lemmas.Result.{IfOk-weaker}
-use Rattle.vc_types.specs.Bits.{bits_of}
-use Rattle.vc_types.specs.Fields.{filled_up}
-use Rattle.vc_types.specs.HeaderSpelling.{header_bits, encoder_header}
-use Rattle.vc_types.specs.SequenceHeader.{sequence_of, coded_header}
+use Rattle.vc_types.specs.SequenceHeader.{sequence_of}
 use Rattle.vc_types.proofs.WrittenHeaders.{header_again}
 use Rattle.vc_seqhdr.proofs.writer.write_header.Goals as goal
 
