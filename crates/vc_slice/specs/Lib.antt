@@ -1,3 +1,4 @@
 pub mod Asked
+pub mod Encoding
 pub mod Inside
 pub mod Jobs
