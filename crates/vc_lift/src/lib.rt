@@ -5,6 +5,8 @@ mod columns;
 mod laws;
 mod line;
 mod step;
+#[cfg(test)]
+mod tests;
 
 pub use columns::{analyse_columns, synth_columns};
 pub use laws::{lines_grow_little, lines_stand_alone, synthesis_undoes_analysis};

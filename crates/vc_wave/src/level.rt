@@ -10,7 +10,7 @@ use crate::lines::{Lines, remake};
 use crate::shift::is_shifted;
 
 /// So many columns are worked on side by side: whole cache lines of a row are read, and tall columns still fit the cache.
-pub(crate) const BLOCK: usize = 16;
+pub(crate) const BLOCK: usize = 32;
 
 // Puts the first columns together, or takes them apart.
 fn remake_columns(

@@ -9,6 +9,8 @@ mod level;
 mod lines;
 mod shift;
 mod synthesis;
+#[cfg(test)]
+mod tests;
 
 pub use analysis::forward;
 pub use laws::inverse_undoes_forward;
