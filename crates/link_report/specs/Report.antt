@@ -1,0 +1,91 @@
+-- The report's text (this project's own): lines of a name and a number, the lines of each command, and the line of each status.
+use Rattle.std.specs.Prelude.{ℕ, List, [], ◌∷◌, ◌++◌, codes}
+use Rattle.std.specs.List.{flat_map}
+use Rattle.std.specs.Fmt.{decimal}
+use Rattle.link_model.specs.declared.tally.Tally.{Tally}
+use Rattle.link_report.specs.declared.ending.Ending.{Ending}
+use Rattle.link_report.specs.declared.ending.Ending.TheVariants.{Usage, NoMemory, InputFailed, OutputFailed, WireFailed, CaptureCut, PacketLimit, RawCut, SampleTooLarge, SliceTooLarge, StreamBad, FrameLimit}
+use Rattle.link_report.specs.declared.summary.Summary.{Summary}
+use Rattle.link_report.specs.declared.summary.Summary.TheVariants.{Judged, Sent, Looped, Packed, Played, Generated, Compared}
+
+abbrev pub space : List ℕ
+space = 32 ∷ []
+
+abbrev pub newline : List ℕ
+newline = 10 ∷ []
+
+-- a name, a space, a number in decimal, and a newline
+unfoldable pub line : List ℕ → ℕ → List ℕ
+line name number = name ++ (space ++ (decimal number ++ newline))
+
+abbrev pub lines : List (List ℕ × ℕ) → List ℕ
+lines all = flat_map (λ named. line named.0 named.1) all
+
+-- the 31 lines of a tally
+unfoldable pub tally_lines : Tally → List (List ℕ × ℕ)
+tally_lines t =
+    (codes "datagrams", t.datagrams) ∷
+    (codes "rtp-short", t.rtp_short) ∷
+    (codes "rtp-version", t.rtp_version) ∷
+    (codes "rtp-shape", t.rtp_shape) ∷
+    (codes "payload-short", t.payload_short) ∷
+    (codes "payload-code", t.payload_code) ∷
+    (codes "payload-fragment", t.payload_fragment) ∷
+    (codes "foreign", t.foreign) ∷
+    (codes "header-new", t.header_new) ∷
+    (codes "header-same", t.header_same) ∷
+    (codes "header-other", t.header_other) ∷
+    (codes "header-bad", t.header_bad) ∷
+    (codes "end", t.end) ∷
+    (codes "skipped", t.skipped) ∷
+    (codes "late", t.late) ∷
+    (codes "params-kept", t.params_kept) ∷
+    (codes "params-repeat", t.params_repeat) ∷
+    (codes "params-conflict", t.params_conflict) ∷
+    (codes "params-bad", t.params_bad) ∷
+    (codes "slices-kept", t.slices_kept) ∷
+    (codes "slices-repeat", t.slices_repeat) ∷
+    (codes "slices-conflict", t.slices_conflict) ∷
+    (codes "slices-pending", t.slices_pending) ∷
+    (codes "slices-full", t.slices_full) ∷
+    (codes "slices-form", t.slices_form) ∷
+    (codes "slices-place", t.slices_place) ∷
+    (codes "slices-cut", t.slices_cut) ∷
+    (codes "incomplete", t.incomplete) ∷
+    (codes "unsound", t.unsound) ∷
+    (codes "unpaired", t.unpaired) ∷
+    (codes "frames", t.frames) ∷
+    []
+
+abbrev pub tally_text : Tally → List ℕ
+tally_text t = lines (tally_lines t)
+
+-- the lines of a command that came to status 0
+unfoldable pub summary_lines : Summary → List (List ℕ × ℕ)
+summary_lines (Judged tally) = tally_lines tally
+summary_lines (Sent frames datagrams bytes) = (codes "frames", frames) ∷ (codes "datagrams", datagrams) ∷ (codes "bytes", bytes) ∷ []
+summary_lines (Looped frames datagrams bytes tally) = ((codes "frames", frames) ∷ (codes "datagrams", datagrams) ∷ (codes "bytes", bytes) ∷ []) ++ tally_lines tally
+summary_lines (Packed pictures datagrams bytes) = (codes "pictures", pictures) ∷ (codes "datagrams", datagrams) ∷ (codes "bytes", bytes) ∷ []
+summary_lines (Played pictures unpaired frames) = (codes "pictures", pictures) ∷ (codes "unpaired", unpaired) ∷ (codes "frames", frames) ∷ []
+summary_lines (Generated frames samples) = (codes "frames", frames) ∷ (codes "samples", samples) ∷ []
+summary_lines (Compared frames samples different) = (codes "frames", frames) ∷ (codes "samples", samples) ∷ (codes "different", different) ∷ []
+
+abbrev pub summary_text : Summary → List ℕ
+summary_text summary = lines (summary_lines summary)
+
+-- the line of a status
+unfoldable pub status_line : Ending → List ℕ
+status_line (Usage place) = line (codes "usage at") place
+status_line NoMemory = codes "no memory" ++ newline
+status_line InputFailed = codes "input failed" ++ newline
+status_line OutputFailed = codes "output failed" ++ newline
+status_line WireFailed = codes "wire failed" ++ newline
+status_line (CaptureCut place) = line (codes "capture cut at") place
+status_line (PacketLimit limit) = line (codes "packet limit") limit
+status_line (RawCut frame) = line (codes "raw cut at frame") frame
+status_line (SampleTooLarge place plane value) =
+    codes "sample " ++ (decimal place ++ (codes " of plane " ++ (decimal plane ++ (codes " is " ++ (decimal value ++ newline)))))
+status_line (SliceTooLarge slice bytes) =
+    codes "slice " ++ (decimal slice ++ (codes " needs " ++ (decimal bytes ++ (codes " bytes" ++ newline))))
+status_line (StreamBad place) = line (codes "stream bad at") place
+status_line (FrameLimit limit) = line (codes "frame limit") limit

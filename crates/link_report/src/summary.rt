@@ -1,0 +1,187 @@
+ghost use Rattle.std.specs.Prelude.{◌≡◌, OnOk, ◌++◌, map, codes, [], ◌∷◌};
+ghost use Rattle.link_report.specs.Counts.{named};
+ghost use Rattle.link_report.specs.Report.{lines, tally_lines};
+ghost use Rattle.std.specs.String.{string_bytes};
+
+use crate::counts::{Count, push_counts, tally_counts};
+use link_model::Tally;
+use vc_types::NoMemory;
+
+/// What a command counted.
+#[derive(Clone, Copy, Debug, PartialEq, Eq)]
+pub enum Summary {
+    /// Datagrams were judged, and frames or units written: `decode`, `recv` and `unpack`.
+    Judged {
+        tally: Tally,
+    },
+    /// Frames were sent; `bytes` sums the datagrams' lengths: `encode` and `send`.
+    Sent {
+        frames: u64,
+        datagrams: u64,
+        bytes: u64,
+    },
+    /// Frames were sent and judged: `loop`.
+    Looped {
+        frames: u64,
+        datagrams: u64,
+        bytes: u64,
+        tally: Tally,
+    },
+    /// The pictures of a stream were sent: `pack`.
+    Packed {
+        pictures: u64,
+        datagrams: u64,
+        bytes: u64,
+    },
+    /// The pictures of a stream were decoded: `play`.
+    Played {
+        pictures: u64,
+        unpaired: u64,
+        frames: u64,
+    },
+    /// Frames were generated: `gen`.
+    Generated {
+        frames: u64,
+        samples: u64,
+    },
+    /// Frames were generated, sent, judged and compared: `gen` with a check.
+    Compared {
+        frames: u64,
+        samples: u64,
+        different: u64,
+    },
+}
+
+impl Summary {
+    ghost use Rattle.link_report.specs.Report.{summary_text};
+
+    // Adds the lines to a text.
+    #[tactic(auto, unfolding(crate::specs::Report::summary_lines))]
+    pub(crate) fn push_to(&self, text: &mut String) -> Result<(), NoMemory>
+        ensures { OnOk result (string_bytes text.new ≡ string_bytes text.old ++ summary_text self.now) }
+    {
+        match self {
+            Summary::Judged { tally } => push_counts(text, &tally_counts(tally)),
+            Summary::Sent {
+                frames,
+                datagrams,
+                bytes,
+            } => push_counts(text, &sent(*frames, *datagrams, *bytes)),
+            Summary::Looped {
+                frames,
+                datagrams,
+                bytes,
+                tally,
+            } => push_looped(text, &sent(*frames, *datagrams, *bytes), tally),
+            Summary::Packed {
+                pictures,
+                datagrams,
+                bytes,
+            } => push_counts(text, &packed(*pictures, *datagrams, *bytes)),
+            Summary::Played {
+                pictures,
+                unpaired,
+                frames,
+            } => push_counts(text, &played(*pictures, *unpaired, *frames)),
+            Summary::Generated { frames, samples } => push_counts(
+                text,
+                &[
+                    Count {
+                        name: "frames",
+                        number: *frames,
+                    },
+                    Count {
+                        name: "samples",
+                        number: *samples,
+                    },
+                ],
+            ),
+            Summary::Compared {
+                frames,
+                samples,
+                different,
+            } => push_counts(
+                text,
+                &[
+                    Count {
+                        name: "frames",
+                        number: *frames,
+                    },
+                    Count {
+                        name: "samples",
+                        number: *samples,
+                    },
+                    Count {
+                        name: "different",
+                        number: *different,
+                    },
+                ],
+            ),
+        }
+    }
+}
+
+fn sent(frames: u64, datagrams: u64, bytes: u64) -> [Count; 3]
+    ensures { map named result ≡ (codes "frames", frames) ∷ (codes "datagrams", datagrams) ∷ (codes "bytes", bytes) ∷ [] }
+{
+    [
+        Count {
+            name: "frames",
+            number: frames,
+        },
+        Count {
+            name: "datagrams",
+            number: datagrams,
+        },
+        Count {
+            name: "bytes",
+            number: bytes,
+        },
+    ]
+}
+
+#[tactic(auto, using(crate::proofs::Lines::lines_append))]
+fn push_looped(text: &mut String, sent: &[Count], tally: &Tally) -> Result<(), NoMemory>
+    ensures { OnOk result (string_bytes text.new ≡ string_bytes text.old ++ lines (map named sent.now ++ tally_lines tally.now)) }
+{
+    push_counts(text, sent)?;
+    push_counts(text, &tally_counts(tally))
+}
+
+fn packed(pictures: u64, datagrams: u64, bytes: u64) -> [Count; 3]
+    ensures { map named result ≡ (codes "pictures", pictures) ∷ (codes "datagrams", datagrams) ∷ (codes "bytes", bytes) ∷ [] }
+{
+    [
+        Count {
+            name: "pictures",
+            number: pictures,
+        },
+        Count {
+            name: "datagrams",
+            number: datagrams,
+        },
+        Count {
+            name: "bytes",
+            number: bytes,
+        },
+    ]
+}
+
+fn played(pictures: u64, unpaired: u64, frames: u64) -> [Count; 3]
+    ensures { map named result ≡ (codes "pictures", pictures) ∷ (codes "unpaired", unpaired) ∷ (codes "frames", frames) ∷ [] }
+{
+    [
+        Count {
+            name: "pictures",
+            number: pictures,
+        },
+        Count {
+            name: "unpaired",
+            number: unpaired,
+        },
+        Count {
+            name: "frames",
+            number: frames,
+        },
+    ]
+}
