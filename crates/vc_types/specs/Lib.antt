@@ -17,3 +17,4 @@ pub mod Pictures
 pub mod Planes
 pub mod HeaderSpelling
 pub mod ParameterSpelling
+pub mod Settings

@@ -1,0 +1,4 @@
+mod Digits
+mod Entries
+mod Places
+mod Slices

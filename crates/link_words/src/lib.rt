@@ -1,0 +1,16 @@
+//! The words of a command line: their grammar, and the settings that they mean.
+#![tactic(auto)]
+
+mod grammar;
+mod joint;
+mod lookup;
+mod numbers;
+mod options;
+mod read;
+mod sender;
+mod settings;
+mod usage;
+
+pub use read::read_words;
+pub use settings::Settings;
+pub use usage::Usage;

@@ -1,0 +1,55 @@
+use vc_types::{GenSettings, SendSettings};
+
+/// What the words of a command line say: a command and its options, defaults filled in. An address is a word.
+#[derive(Clone, Copy, Debug)]
+pub enum Settings<'a> {
+    Decode {
+        window: u8,
+        workers: u32,
+        packets: u32,
+    },
+    Encode {
+        sender: SendSettings,
+        frames: u32,
+    },
+    Send {
+        sender: SendSettings,
+        frames: u32,
+        to: &'a str,
+    },
+    Recv {
+        window: u8,
+        workers: u32,
+        packets: u32,
+        at: &'a str,
+    },
+    Loop {
+        sender: SendSettings,
+        frames: u32,
+        window: u8,
+        workers: u32,
+        at: &'a str,
+    },
+    Unpack {
+        window: u8,
+        workers: u32,
+        packets: u32,
+    },
+    Pack {
+        packets: u32,
+        size: u32,
+        ssrc: u32,
+        pt: u8,
+        seq: u32,
+        tick: u32,
+    },
+    Play {
+        packets: u32,
+    },
+    Gen {
+        frames_of: GenSettings,
+        check: bool,
+        window: u8,
+        workers: u32,
+    },
+}
