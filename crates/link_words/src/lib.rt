@@ -14,3 +14,6 @@ mod usage;
 pub use read::read_words;
 pub use settings::Settings;
 pub use usage::Usage;
+
+#[cfg(test)]
+mod tests;
