@@ -26,16 +26,23 @@ const LUMA_SLICES: [u8; 43] = [
     9, 0, 2, 0, 0, 0, 0, 0, 1, 0, 0, 0, 0, 0, 0, 0,
 ];
 
+fn words_of(alloc: Global, line: &[&str]) -> Result<Words, Fail> {
+    let mut words = Words::new(alloc);
+    for word in line {
+        words.push(*word)?;
+    }
+    Ok(words)
+}
+
 // Runs a command, and answers its status and how many bytes of 80 hexadecimal, and no others, it wrote.
 fn run(
     alloc: Global,
-    word: &str,
+    line: &[&str],
     parts: &[&[u8]],
     read_fails: u64,
     write_fails: u64,
 ) -> Result<(u8, Option<usize>), Fail> {
-    let mut words = Words::new(alloc);
-    words.push(word)?;
+    let words = words_of(alloc, line)?;
     let mut capture = Vec::new(alloc);
     for part in parts {
         capture.extend_from_slice(part)?;
@@ -53,12 +60,12 @@ fn run(
 fn captures_of_one_picture(rt: HostRuntime) -> Result<(), Fail> {
     let alloc = rt.alloc();
     let whole: [&[u8]; 3] = [&HEADER, &PARAMETERS, &SLICES];
-    assert_eq!(rt; run(alloc, "decode", &whole, 0, 0)?, (0, Some(96)));
-    assert_eq!(rt; run(alloc, "decode", &[], 0, 0)?, (0, Some(0)), "empty");
+    assert_eq!(rt; run(alloc, &["decode"], &whole, 0, 0)?, (0, Some(96)));
+    assert_eq!(rt; run(alloc, &["decode"], &[], 0, 0)?, (0, Some(0)), "empty");
     assert_eq!(rt;
         run(
             alloc,
-            "decode",
+            &["decode"],
             &[&HEADER, &PARAMETERS, &SLICES, &[0]],
             0,
             0
@@ -67,12 +74,12 @@ fn captures_of_one_picture(rt: HostRuntime) -> Result<(), Fail> {
         "cut"
     );
     assert_eq!(rt;
-        run(alloc, "decode", &whole, 1, 0)?,
+        run(alloc, &["decode"], &whole, 1, 0)?,
         (4, Some(0)),
         "the first read fails"
     );
     assert_eq!(rt;
-        run(alloc, "decode", &whole, 0, 1)?,
+        run(alloc, &["decode"], &whole, 0, 1)?,
         (5, Some(0)),
         "the first write fails"
     );
@@ -84,25 +91,78 @@ fn what_is_not_built_writes_nothing(rt: HostRuntime) -> Result<(), Fail> {
     let alloc = rt.alloc();
     let whole: [&[u8]; 3] = [&HEADER, &PARAMETERS, &SLICES];
     assert_eq!(rt;
-        run(alloc, "encode", &whole, 0, 0)?,
+        run(alloc, &["play"], &whole, 0, 0)?,
         (1, Some(0)),
         "another command"
     );
     assert_eq!(rt;
-        run(alloc, "decode", &[&HEADER, &PARAMETERS, &LUMA_SLICES], 0, 0)?,
+        run(alloc, &["decode", "--window", "5"], &whole, 0, 0)?,
+        (1, Some(0)),
+        "another window"
+    );
+    assert_eq!(rt;
+        run(
+            alloc,
+            &["decode"],
+            &[&HEADER, &PARAMETERS, &LUMA_SLICES],
+            0,
+            0
+        )?,
         (1, Some(0)),
         "a block of one byte"
     );
     assert_eq!(rt;
         run(
             alloc,
-            "decode",
+            &["decode"],
             &[&HEADER, &PARAMETERS, &SLICES, &PARAMETERS, &SLICES],
             0,
             0
         )?,
         (1, Some(0)),
         "two pictures"
+    );
+    Ok(())
+}
+
+// The status of words, and whether the report has this text.
+fn refused(
+    alloc: Global,
+    line: &[&str],
+    report_fails: u64,
+    text: &str,
+) -> Result<(u8, bool), Fail> {
+    let words = words_of(alloc, line)?;
+    let mut input = MemSource::new(Vec::new(alloc), vec![in alloc]?);
+    let mut output = MemSink::new(alloc, 0, vec![in alloc]?)?;
+    let mut report = MemSink::new(alloc, 100, vec![in alloc; report_fails]?)?;
+    let status = link_main(alloc, &words, &mut input, &mut output, &mut report);
+    Ok((status, report.bytes() == text.as_bytes()))
+}
+
+#[test]
+fn words_outside_the_grammar(rt: HostRuntime) -> Result<(), Fail> {
+    let alloc = rt.alloc();
+    let twice: [&str; 5] = ["decode", "--window", "4", "--window", "4"];
+    assert_eq!(rt; refused(alloc, &[], 0, "usage at 0\n")?, (2, true));
+    assert_eq!(rt; refused(alloc, &["encode"], 0, "usage at 1\n")?, (2, true));
+    assert_eq!(rt;
+        refused(alloc, &["play", "--window", "4"], 0, "usage at 1\n")?,
+        (2, true)
+    );
+    assert_eq!(rt;
+        refused(alloc, &["decode", "--window", "9"], 0, "usage at 2\n")?,
+        (2, true)
+    );
+    assert_eq!(rt;
+        refused(alloc, &["encode", "--width", "8"], 0, "usage at 3\n")?,
+        (2, true)
+    );
+    assert_eq!(rt; refused(alloc, &twice, 0, "usage at 3\n")?, (2, true));
+    assert_eq!(rt;
+        refused(alloc, &["nothing"], 1, "")?,
+        (2, true),
+        "the report fails"
     );
     Ok(())
 }
