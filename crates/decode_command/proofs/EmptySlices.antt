@@ -1,6 +1,6 @@
 -- A picture of empty slices decodes to a grey frame.
-use Rattle.std.proofs.Common.{◌≡◌, ℕ, zero, suc, ◌+◌, ◌-◌, ◌*◌, ◌/◌, ◌^◌, ◌<◌, ◌≤◌, Bool, true, false, cond, List, [], ◌∷◌, ◌++◌, length, take, drop, replicate, Option, Some, None, Result, Ok, Err, refl, sym, ap, subst, ◌∙◌, arith, ltb, append_assoc, append-nil, ℤ}
-use Rattle.std.specs.Prelude.{nat_lt, nat_le, ◌==◌, ◌&&◌, if◌then◌else◌, is_ok}
+use Rattle.std.proofs.Common.{◌≡◌, ℕ, zero, suc, ◌+◌, ◌-◌, ◌*◌, ◌^◌, ◌≤◌, Bool, true, false, List, [], ◌∷◌, ◌++◌, length, take, drop, replicate, Option, Some, Result, Ok, Err, refl, sym, ap, ◌∙◌, arith, ltb, append_assoc, append-nil, ℤ}
+use Rattle.std.specs.Prelude.{nat_le, ◌==◌, ◌&&◌, if◌then◌else◌}
 use Rattle.std.specs.List.{AllByRecursion, flat_map, list_any}
 use Rattle.std.proofs.lemmas.Bool.Decides.{nat_tests}
 use Rattle.std.proofs.Math.Seq.{drop-append_seam}
@@ -8,11 +8,11 @@ use Rattle.std.specs.Option.{option_map}
 use Rattle.link_model.specs.Frames.{is_wide, sample_bytes, frame_bytes}
 use Rattle.vc_types.specs.declared.video.Component.TheVariants.{Y, C1, C2}
 use Rattle.vc_types.specs.Bits.{bits_of}
-use Rattle.vc_types.specs.Fields.{Field, and_then, ◌>>=◌, give, skip, refuse}
+use Rattle.vc_types.specs.Fields.{skip, refuse}
 use Rattle.vc_types.specs.Pictures.{Picture, slices_from, decoded_picture, with_parameters, with_slices}
 use Rattle.vc_types.specs.Planes.{component_plane, planes_of, decoded_planes}
 use Rattle.vc_types.specs.SequenceHeader.{Sequence, bytes_used, with_bytes_used}
-use Rattle.vc_types.specs.Slices.{ByteField, CodedSlice, coded_slice, Coefficients, all_coefficients, block_coefficients, in_range, is_large, decoded_slice}
+use Rattle.vc_types.specs.Slices.{CodedSlice, coded_slice, Coefficients, all_coefficients, in_range, is_large, decoded_slice}
 use Rattle.vc_types.specs.Subbands.{slice_count}
 use Rattle.vc_types.specs.TransformParameters.{Parameters, transform_parameters, coded_parameters}
 use Rattle.vc_types.proofs.Grey.{AreZero, IsZeroSlice, block_coefficients-empty, component_plane-zero}
@@ -21,7 +21,7 @@ use Rattle.vc_types.proofs.OwnBytes.{read_again}
 use Rattle.vc_types.proofs.OwnParameters.{parameters_own}
 use Rattle.std.proofs.lemmas.Grind.{flat_map-append}
 use Rattle.decode_command.specs.Grey.{grey_frame}
-use Rattle.decode_command.specs.OnePicture.{is_empty, empty_slice, empty_slices, Session, Planned, raw_frame}
+use Rattle.decode_command.specs.OnePicture.{is_empty, empty_slice, empty_slices, Session, raw_frame}
 use Rattle.vc_types.specs.declared.refusal.ParamsRefusal.{ParamsRefusal}
 
 -- ---- one slice

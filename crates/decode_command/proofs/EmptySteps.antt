@@ -1,7 +1,5 @@
 -- One empty slice after another.
 use Rattle.std.proofs.Common.{◌≡◌, ℕ, suc, ◌+◌, ◌-◌, ◌<◌, List, Ok, refl, sym, arith}
-use Rattle.std.specs.Prelude.{is_ok}
-use Rattle.vc_types.specs.Fields.{and_then}
 use Rattle.vc_types.specs.TransformParameters.{Parameters}
 use Rattle.decode_command.specs.OnePicture.{empty_slice, empty_slices}
 

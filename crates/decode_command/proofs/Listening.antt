@@ -1,5 +1,5 @@
 -- What a loop over the datagrams of a capture knows.
-use Rattle.std.proofs.Common.{◌≡◌, ℕ, List, [], ◌++◌, Option, Some, None, refl, sym, ap, ◌∙◌, subst, append-nil}
+use Rattle.std.proofs.Common.{◌≡◌, ℕ, List, [], ◌++◌, Some, None, refl, sym, ap, ◌∙◌, append-nil}
 use Rattle.decode_command.specs.declared.stage.Stage.{Stage}
 use Rattle.decode_command.specs.declared.stage.Stage.TheVariants as stages
 use Rattle.decode_command.specs.OnePicture.{frames_of}

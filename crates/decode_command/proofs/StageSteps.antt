@@ -1,8 +1,8 @@
 -- One datagram more: what it makes of a list that has come so far.
-use Rattle.std.proofs.Common.{◌≡◌, ℕ, Bool, true, false, List, [], ◌∷◌, ◌++◌, Option, Some, None, Ok, refl, sym, ap, ◌∙◌, subst, append_assoc, arith, cond}
+use Rattle.std.proofs.Common.{◌≡◌, ℕ, Bool, true, false, List, [], ◌∷◌, ◌++◌, Option, Some, None, Ok, refl, sym, ap, ◌∙◌, append_assoc, arith}
 use Rattle.std.specs.Prelude.{is_ok, is_some, option_and_then, ◌&&◌, ◌==◌, if◌then◌else◌, Result}
 use Rattle.std.proofs.lemmas.Bool.Decides.{nat_tests}
-use Rattle.link_model.specs.Packets.{PayloadValue, Header, End, Skip, Params, Slices, FragmentHead}
+use Rattle.link_model.specs.Packets.{PayloadValue, Header, End, Skip, Params, Slices}
 use Rattle.vc_types.specs.Subbands.{slice_count}
 use Rattle.vc_types.specs.TransformParameters.{Parameters, coded_parameters}
 use Rattle.decode_command.specs.Grey.{grey_frame}

@@ -1,5 +1,5 @@
 -- The number of digits read one at a time.
-use Rattle.std.proofs.Common.{◌≡◌, ℕ, ◌+◌, ◌-◌, ◌*◌, ◌^◌, ◌<◌, List, length, take, get_or, min, arith}
+use Rattle.std.proofs.Common.{◌≡◌, ℕ, ◌+◌, ◌-◌, ◌*◌, ◌<◌, List, length, take, get_or}
 use Rattle.std.proofs.lemmas.List.Sums.{fold_more}
 use Rattle.link_words.specs.Numbers.{digits_number}
 

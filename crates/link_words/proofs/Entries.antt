@@ -1,9 +1,8 @@
 -- Options looked up in lists, one after another.
-use Rattle.std.proofs.Common.{◌≡◌, ℕ, ◌+◌, ◌<◌, List, [], ◌∷◌, ◌++◌, length, get_or, drop, map, Bool, true, false, refl, if◌then◌else◌, Option, Some, add-one, drop-cons}
+use Rattle.std.proofs.Common.{◌≡◌, ℕ, ◌+◌, ◌<◌, List, [], ◌∷◌, ◌++◌, length, get_or, drop, map, Bool, true, false, refl, if◌then◌else◌, Some, add-one, drop-cons}
 use Rattle.std.specs.Option.{option_or}
 use Rattle.std.specs.Str.{bytes_eq}
 use Rattle.link_words.specs.declared.options.Row.{Row}
-use Rattle.link_words.specs.declared.options.Values.{Values}
 use Rattle.link_words.specs.Options.{Entry, entry_of, values_in}
 
 pub values_of_joined : (xs ys : List Entry) (name : List ℕ) → values_in (xs ++ ys) name ≡ option_or (values_in xs name) (values_in ys name)

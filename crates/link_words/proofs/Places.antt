@@ -1,5 +1,5 @@
 -- The first place that passes a test, looked for one place at a time.
-use Rattle.std.proofs.Common.{◌≡◌, ℕ, ◌+◌, ◌-◌, ◌<◌, ◌≤◌, suc, zero, Bool, true, false, refl, if◌then◌else◌, List, length, drop, min, arith, add-zero}
+use Rattle.std.proofs.Common.{◌≡◌, ℕ, ◌+◌, ◌-◌, ◌<◌, ◌≤◌, suc, zero, Bool, true, false, refl, if◌then◌else◌, arith}
 use Rattle.link_words.specs.Grammar.{first_place}
 
 pub first_place_next : (passes : ℕ → Bool) (place bound : ℕ) → place < bound →

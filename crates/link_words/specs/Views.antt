@@ -3,7 +3,7 @@ use Rattle.vc_types.specs.declared.settings.SendSettings.{SendSettings}
 use Rattle.vc_types.specs.declared.settings.GenSettings.{GenSettings}
 use Rattle.link_words.specs.declared.settings.Settings.{Settings}
 use Rattle.link_words.specs.declared.settings.Settings.TheVariants.{Decode, Encode, Send, Recv, Loop, Unpack, Pack, Play, Gen}
-use Rattle.link_words.specs.Settings.{Frames, Sending, Generating, Meaning, ToDecode, ToEncode, ToSend, ToRecv, ToLoop, ToUnpack, ToPack, ToPlay, ToGen}
+use Rattle.link_words.specs.Settings.{Sending, Generating, Meaning, ToDecode, ToEncode, ToSend, ToRecv, ToLoop, ToUnpack, ToPack, ToPlay, ToGen}
 
 abbrev pub sending_view : SendSettings → Sending
 sending_view s = record {

@@ -1,5 +1,5 @@
 -- The coefficients of a block, read subband by subband.
-use Rattle.std.proofs.Common.{◌≡◌, ℕ, zero, suc, ◌+◌, ◌-◌, ◌*◌, ◌<◌, ◌≤◌, ℤ, Bool, true, false, List, [], ◌∷◌, ◌++◌, length, get_or, drop, replicate, refl, sym, ap, ◌∙◌, arith, append_assoc, append-nil, add-one, zero-add, length-append}
+use Rattle.std.proofs.Common.{◌≡◌, ℕ, suc, ◌+◌, ◌-◌, ◌*◌, ◌<◌, ℤ, Bool, true, false, List, [], ◌∷◌, ◌++◌, length, drop, replicate, refl, sym, ap, ◌∙◌, arith, append_assoc, append-nil, add-one, zero-add, length-append}
 use Rattle.std.specs.Prelude.{slice_index_or, map}
 use Rattle.std.specs.List.{flat_map, list_any, enumerate_from, zip, sum_by}
 use Rattle.std.proofs.Math.Bool.{or-true}
@@ -14,7 +14,7 @@ use Rattle.vc_types.specs.Bits.{bits_of}
 use Rattle.vc_types.specs.Bounded.{bounded_sint, bounded_sints}
 use Rattle.vc_types.specs.Quantisation.{dequantised}
 use Rattle.vc_types.specs.Slices.{is_large, quantisers, block_coefficients}
-use Rattle.vc_types.specs.Subbands.{Subband, subband, LL, area, subbands, subband_at, slice_rectangle, slice_rectangles, slice_coefficient_count}
+use Rattle.vc_types.specs.Subbands.{Subband, subband, LL, area, subbands, subband_at, slice_rectangle, slice_coefficient_count}
 use Rattle.vc_types.specs.TransformParameters.{Parameters}
 use Rattle.vc_types.proofs.SubbandOrder.{length-subbands}
 use Rattle.vc_slice.specs.Inside.{coefficients_by}

@@ -1,5 +1,5 @@
 use Rattle.std.proofs.Common.{◌++◌, ◌∷◌, [], ◌∙◌, ℕ, List, subst, arith, refl}
-use Rattle.link_capture.proofs.Loops.{begun, with_entry, at_edge, at_fault}
+use Rattle.link_capture.proofs.Loops.{begun, with_entry, at_fault}
 use Rattle.decode_command.specs.Stages.{Stands, HasNoForm}
 use Rattle.decode_command.proofs.command.hear_with.Goals as goal
 

@@ -1,4 +1,4 @@
-use Rattle.std.proofs.Common.{◌≡◌, ◌+◌, ◌-◌, ◌*◌, ◌≤◌, ℕ, List, [], None}
+use Rattle.std.proofs.Common.{◌≡◌, ◌+◌, ◌*◌, ◌≤◌, ℕ, List, [], None}
 use Rattle.link_capture.specs.Endings.{GaveEntries}
 use Rattle.decode_command.specs.Stages.{Stands, datagrams_left}
 use Rattle.decode_command.proofs.command.hear_with.Given as goal

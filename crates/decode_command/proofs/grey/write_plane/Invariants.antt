@@ -1,4 +1,4 @@
-use Rattle.std.proofs.Common.{◌≡◌, ◌-◌, ◌*◌, ◌^◌, ◌≤◌}
+use Rattle.std.proofs.Common.{◌≤◌}
 use Rattle.vc_ports.specs.Writing.{Grew}
 use Rattle.decode_command.specs.Grey.{grey_bytes}
 use Rattle.decode_command.proofs.grey.write_plane.Given as goal

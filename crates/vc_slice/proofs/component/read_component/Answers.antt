@@ -1,8 +1,5 @@
-use Rattle.std.proofs.Common.{rules, ◌≡◌, ◌-◌, ◌+◌, ◌*◌, ◌<◌, ◌++◌, ℕ, List, Err, refl, true, arith, replicate, slice_index_or}
-use Rattle.std.specs.List.{list_any}
-use Rattle.vc_types.specs.Slices.{is_large}
+use Rattle.std.proofs.Common.{rules, ◌+◌, ◌*◌, ◌<◌, refl, arith}
 use Rattle.vc_types.specs.TransformParameters.{parameters_of}
-use Rattle.vc_slice.specs.Inside.{coefficients_by}
 use Rattle.vc_slice.proofs.BlockCoefficients.{none_read, subband_read, subband_large, all_read}
 use Rattle.vc_slice.proofs.component.read_component.Goals as goal
 

@@ -1,4 +1,4 @@
-use Rattle.std.proofs.Common.{◌≡◌, ◌++◌, ◌≤◌, false}
+use Rattle.std.proofs.Common.{◌≡◌, ◌++◌, false}
 use Rattle.std.specs.List.{list_any}
 use Rattle.vc_types.specs.Slices.{is_large, block_coefficients}
 use Rattle.vc_types.specs.TransformParameters.{parameters_of}

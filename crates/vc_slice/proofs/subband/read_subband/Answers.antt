@@ -1,8 +1,7 @@
-use Rattle.std.proofs.Common.{rules, ◌≡◌, ◌++◌, ◌∷◌, [], ◌-◌, ◌+◌, ℤ, false, true, arith, suc, replicate}
+use Rattle.std.proofs.Common.{rules, ◌≡◌, ◌++◌, ◌∷◌, [], ◌-◌, ◌+◌, false, true, arith}
 use Rattle.vc_types.specs.Bounded.{bounded_sint}
 use Rattle.vc_types.specs.Quantisation.{dequantised}
 use Rattle.vc_types.specs.Slices.{is_large}
-use Rattle.vc_slice.specs.Inside.{coefficients_by}
 use Rattle.vc_slice.proofs.BlockCoefficients.{read_more, large_met, sound_more}
 use Rattle.vc_slice.proofs.subband.read_subband.Goals as goal
 
