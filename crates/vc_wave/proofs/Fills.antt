@@ -1,5 +1,5 @@
 -- Rows of cells that are filled with a plane's samples, and what the forward transform makes of them.
-use Rattle.std.proofs.Common.{◌≡◌, ◌≢◌, ℕ, ◌+◌, ◌-◌, ◌*◌, ◌/◌, ◌^◌, ◌<◌, ◌≤◌, List, length, set, ℤ, pos, ◌-ℤ◌, unsigned_abs, All, arith, ap, sym, ◌∙◌, ◌⊎◌, inl, inr, slice_index_or, min}
+use Rattle.std.proofs.Common.{◌≡◌, ◌≢◌, ℕ, ◌+◌, ◌-◌, ◌*◌, ◌/◌, ◌^◌, ◌<◌, ◌≤◌, List, length, set, ℤ, pos, ◌-ℤ◌, unsigned_abs, All, arith, ap, ◌∙◌, ◌⊎◌, inl, inr, slice_index_or, min}
 use Rattle.std.proofs.lemmas.Bool.{cases_lt, cases_eq}
 use Rattle.std.proofs.lemmas.Int.{ints}
 use Rattle.std.proofs.lemmas.List.{get_or-set_same, get_or-set_other, get_or_past}
@@ -12,7 +12,7 @@ use Rattle.vc_types.specs.Lifting.{line_of}
 use Rattle.vc_types.specs.Rasters.{Raster, Lattice, cell_at, sample_at}
 use Rattle.vc_types.specs.Subbands.{plane_width, plane_height, plane_depth, padded_width, padded_height}
 use Rattle.vc_types.specs.TransformParameters.{Parameters}
-use Rattle.vc_types.specs.Transforms.{forward_levels, forward_transform, lowest_width, lowest_height, padded_plane}
+use Rattle.vc_types.specs.Transforms.{forward_levels, forward_transform, lowest_width, padded_plane}
 use Rattle.vc_types.proofs.TransformLaws.{AreBelow}
 use Rattle.vc_types.proofs.TransformLocality.{forward_levels_agrees}
 use Rattle.vc_wave.specs.Places.{plane_of}

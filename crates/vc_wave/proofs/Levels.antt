@@ -1,6 +1,6 @@
 -- Sides and magnitudes level by level.
 use Rattle.std.proofs.Common.{◌≡◌, ℕ, zero, suc, ◌+◌, ◌*◌, ◌/◌, ◌^◌, ◌<◌, ◌≤◌, arith, ap, sym, ◌∙◌}
-use Rattle.std.proofs.Math.Nat.{mul-le-mul, mul-le-mul_left, mul-le-mul_right, pow-suc}
+use Rattle.std.proofs.Math.Nat.{mul-le-mul, mul-le-mul_left, pow-suc}
 use Rattle.std.proofs.Math.Pow.{pow_mono, pow_pos}
 use Rattle.std.proofs.Math.Numerals.{add-one}
 use Rattle.vc_types.specs.Transforms.{Cells, inverse_level, inverse_levels, forward_level, forward_levels}

@@ -1,12 +1,12 @@
 -- What either direction makes of lines: past their end nothing, from their own samples alone, and how large it gets.
-use Rattle.std.proofs.Common.{◌≡◌, ℕ, ◌+◌, ◌*◌, ◌^◌, ◌<◌, ◌≤◌, ℤ, unsigned_abs, arith, ap, refl, sym, ◌∙◌, Bool, true, false}
+use Rattle.std.proofs.Common.{◌≡◌, ℕ, ◌*◌, ◌^◌, ◌<◌, ◌≤◌, ℤ, unsigned_abs, arith, ap, refl, sym, ◌∙◌, Bool, true, false}
 use Rattle.std.specs.Prelude.{if◌then◌else◌, nat_lt, ◌&&◌}
 use mathlib.Core.Path.{fun_ext}
-use Rattle.vc_types.specs.Transforms.{Cells, on_columns, on_rows, halved, doubled, inverse_level, forward_level}
+use Rattle.vc_types.specs.Transforms.{Cells, on_columns, on_rows, halved, doubled}
 use Rattle.vc_types.specs.Wavelets.{is_shifted}
-use Rattle.vc_types.proofs.PlaneLines.{OfLines, LeavesPast, ReadsBelow, changed, changed_past}
+use Rattle.vc_types.proofs.PlaneLines.{LeavesPast, ReadsBelow, changed, changed_past}
 use Rattle.vc_types.proofs.TransformLaws.{AreBelow, Raises, columns_below, rows_below, halved_below, doubled_below, merged_raises, parted_raises}
-use Rattle.vc_types.proofs.Weaving.{merged, parted, merged_past, merged_reads, parted_past, parted_reads, changed_reads, merged_row, parted_row, inverse_level_merged, forward_level_parted}
+use Rattle.vc_types.proofs.Weaving.{merged, parted, merged_past, merged_reads, parted_past, parted_reads, changed_reads, merged_row, inverse_level_merged, forward_level_parted}
 use Rattle.vc_wave.specs.declared.direction.Direction.{Direction}
 use Rattle.vc_wave.specs.declared.direction.Direction.TheVariants.{Synthesis, Analysis}
 use Rattle.vc_wave.specs.Made.{made, level_made}

@@ -1,5 +1,6 @@
-ghost use Rattle.std.specs.Prelude.{◌≡◌, ◌^◌, ◌<◌, ◌≤◌, ◌↔◌, All, IsTrue, unsigned_abs};
+ghost use Rattle.std.specs.Prelude.{◌≡◌, ◌^◌, ◌<◌, ◌≤◌, ◌↔◌, All, IsTrue, unsigned_abs, replicate};
 ghost use Rattle.vc_types.specs.Limits.{shape_fits, padded_luma_fits};
+ghost use Rattle.vc_types.specs.Quantisation.{filled_matrix, used_entries};
 
 use crate::{forward, inverse, inverse_undoes_forward};
 use std::test::Fail;
@@ -10,6 +11,7 @@ fn plan(shape: Shape, wavelet: u8, depth: u8) -> Plan
     requires padded { IsTrue (padded_luma_fits shape depth) }
     requires wavelet { wavelet ≤ 6 }
     requires depth { (1 ≤ depth) × (depth ≤ 5) }
+    requires matrix { filled_matrix (used_entries depth (replicate 16 0)) ≡ replicate 16 0 }
     ensures { (result.shape ≡ shape) × (result.wavelet ≡ wavelet) × (result.depth ≡ depth) }
 {
     Plan {

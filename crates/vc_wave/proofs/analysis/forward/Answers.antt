@@ -1,7 +1,7 @@
-use Rattle.std.proofs.Common.{◌≡◌, ◌+◌, ◌*◌, ◌/◌, ◌^◌, ◌<◌, ◌≤◌, ℕ, All, length, drop, unsigned_abs, arith, ap, sym, subst, ◌∙◌}
-use Rattle.vc_types.specs.Subbands.{plane_width, plane_height, padded_width, padded_height}
+use Rattle.std.proofs.Common.{◌≡◌, ◌*◌, ◌/◌, ◌^◌, ◌<◌, All, length, drop, arith, ap, sym, subst, ◌∙◌}
+use Rattle.vc_types.specs.Subbands.{plane_width, plane_height}
 use Rattle.vc_types.specs.TransformParameters.{parameters_of}
-use Rattle.vc_types.specs.Transforms.{Cells, forward_levels}
+use Rattle.vc_types.specs.Transforms.{Cells}
 use Rattle.vc_types.proofs.TransformLaws.{AreBelow}
 use Rattle.vc_wave.specs.Places.{plane_of}
 use Rattle.vc_wave.proofs.Fills.{forward_made, filled_below}

@@ -1,6 +1,6 @@
-use Rattle.std.proofs.Common.{◌≡◌, ◌+◌, ◌*◌, ◌^◌, ◌<◌, ◌≤◌, length, ◌/◌, arith, ap, sym, subst, ◌∙◌}
+use Rattle.std.proofs.Common.{◌≡◌, ◌*◌, ◌^◌, ◌≤◌, ◌/◌, arith, ap, sym, subst, ◌∙◌}
 use Rattle.std.proofs.Math.Nat.{div-mul-le_self, mul-le-mul_right}
-use Rattle.vc_types.specs.Transforms.{Cells, inverse_level, inverse_levels}
+use Rattle.vc_types.specs.Transforms.{Cells, inverse_levels}
 use Rattle.vc_types.proofs.TransformLaws.{AreBelow}
 use Rattle.vc_wave.specs.Places.{plane_of}
 use Rattle.vc_wave.proofs.Levels.{level_fits, level_some, levels_below, side_next, no_levels, next_level}

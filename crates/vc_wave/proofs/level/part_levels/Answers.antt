@@ -1,4 +1,4 @@
-use Rattle.std.proofs.Common.{◌≡◌, ◌+◌, ◌-◌, ◌*◌, ◌/◌, ◌^◌, ◌<◌, ◌≤◌, length, arith, ap, sym, subst, ◌∙◌}
+use Rattle.std.proofs.Common.{◌≡◌, ◌+◌, ◌-◌, ◌*◌, ◌/◌, ◌^◌, ◌≤◌, arith, ap, sym, subst, ◌∙◌}
 use Rattle.std.proofs.Math.Nat.{mul-le-mul_right}
 use Rattle.vc_types.specs.Transforms.{forward_levels}
 use Rattle.vc_wave.specs.Places.{plane_of}

@@ -1,4 +1,4 @@
-use Rattle.std.proofs.Common.{◌≡◌, ◌+◌, ◌-◌, ◌*◌, ◌^◌, ◌<◌, ◌≤◌, ℕ, ℤ, unsigned_abs, arith, sym, subst, false, ◌∙◌}
+use Rattle.std.proofs.Common.{◌+◌, ◌*◌, ◌^◌, ◌<◌, ℕ, ℤ, unsigned_abs, arith, sym, subst, false}
 use Rattle.vc_wave.specs.Made.{made}
 use Rattle.vc_wave.specs.Places.{plane_of}
 use Rattle.vc_wave.proofs.MadeLines.{made_past}

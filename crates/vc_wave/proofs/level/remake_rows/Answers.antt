@@ -1,4 +1,4 @@
-use Rattle.std.proofs.Common.{◌≡◌, ◌+◌, ◌-◌, ◌*◌, ◌^◌, ◌<◌, ◌≤◌, ℕ, ℤ, unsigned_abs, arith, sym, subst, ap, ◌∙◌}
+use Rattle.std.proofs.Common.{◌≡◌, ◌+◌, ◌*◌, ◌^◌, ◌<◌, unsigned_abs, arith, sym, subst, ap, ◌∙◌}
 use Rattle.vc_types.specs.Wavelets.{is_shifted}
 use Rattle.vc_types.specs.Lifting.{line_of}
 use Rattle.vc_wave.specs.declared.lines.Lines.{Lines}

@@ -1,9 +1,8 @@
-use Rattle.std.proofs.Common.{rules, ◌≡◌, ◌≢◌, ◌+◌, ◌<◌, ◌≤◌, ℕ, length, pos, slice_index_or, FitsSigned, to_z, of_z, arith, ◌∙◌, inl, inr, ◌⊎◌}
+use Rattle.std.proofs.Common.{rules, ◌≢◌, ◌+◌, ◌<◌, length, pos, slice_index_or, FitsSigned, to_z, of_z, arith, ◌∙◌, inl, inr}
 use Rattle.std.specs.Int.{w128}
 use Rattle.std.proofs.lemmas.Bool.{cases_eq}
 use Rattle.std.proofs.lemmas.Int.{to_z-of_z}
 use Rattle.std.proofs.lemmas.List.{get_or-set_same, get_or-set_other}
-use Rattle.vc_types.specs.Lifting.{line_of}
 use Rattle.vc_wave.proofs.Copies.{not_between}
 use Rattle.vc_wave.proofs.lines.copy.Goals as goal
 

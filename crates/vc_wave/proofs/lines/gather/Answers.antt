@@ -1,6 +1,5 @@
-use Rattle.std.proofs.Common.{◌≡◌, ◌+◌, ◌-◌, ◌*◌, ◌<◌, ◌≤◌, ℕ, length, arith, ap, ◌∙◌}
+use Rattle.std.proofs.Common.{◌+◌, ◌*◌, length, arith, ap, ◌∙◌}
 use Rattle.vc_types.specs.Lifting.{line_of}
-use Rattle.vc_lift.specs.Columns.{column_of}
 use Rattle.vc_wave.specs.Lines.{line_at}
 use Rattle.vc_wave.specs.Places.{place_of}
 use Rattle.vc_wave.proofs.Copies.{placed_inside, half_small, gathered_more}

@@ -1,9 +1,7 @@
-use Rattle.std.proofs.Common.{◌≡◌, ◌+◌, ◌*◌, ◌^◌, ◌<◌, ◌≤◌, ℕ, ℤ, length, unsigned_abs, arith, ap, sym, ◌∙◌}
+use Rattle.std.proofs.Common.{◌+◌, ◌*◌, ◌^◌, ◌<◌, length, arith, ap, sym, ◌∙◌}
 use Rattle.std.specs.Prelude.{if◌then◌else◌}
-use Rattle.vc_types.specs.Lifting.{line_of}
 use Rattle.vc_types.specs.Transforms.{halved}
 use Rattle.vc_types.proofs.Weaving.{half_place, half_place_below, merged}
-use Rattle.vc_lift.specs.Columns.{column_of}
 use Rattle.vc_wave.specs.Lines.{line_at}
 use Rattle.vc_wave.proofs.Copies.{block_inside, all_of_block, changed_in, merged_column, made_below}
 use Rattle.vc_wave.proofs.lines.merge.Goals as goal

@@ -1,13 +1,10 @@
-use Rattle.std.proofs.Common.{◌≡◌, ◌+◌, ◌*◌, ◌^◌, ◌<◌, ◌≤◌, ℕ, ℤ, length, unsigned_abs, arith, ap, sym, ◌∙◌}
-use Rattle.std.specs.Prelude.{if◌then◌else◌}
-use Rattle.vc_types.specs.Lifting.{line_of}
+use Rattle.std.proofs.Common.{◌*◌, ◌^◌, arith, ap, sym, ◌∙◌}
 use Rattle.vc_types.specs.Transforms.{source_of, doubled}
 use Rattle.vc_types.specs.Wavelets.{analysed}
 use Rattle.vc_types.proofs.PlaneLines.{changed, rearranged_in}
-use Rattle.vc_types.proofs.Weaving.{half_place, half_place-source_of, source_below}
-use Rattle.vc_lift.specs.Columns.{column_of}
+use Rattle.vc_types.proofs.Weaving.{half_place-source_of, source_below}
 use Rattle.vc_wave.specs.Lines.{line_at}
-use Rattle.vc_wave.proofs.Copies.{block_inside, all_of_block, changed_in, parted_column, doubled_column, doubled_small}
+use Rattle.vc_wave.proofs.Copies.{all_of_block, parted_column, doubled_small}
 use Rattle.vc_wave.proofs.lines.part.Goals as goal
 
 pub double-requires : goal.double-requires

@@ -1,4 +1,4 @@
-use Rattle.std.proofs.Common.{◌≡◌, ◌+◌, ◌-◌, ◌*◌, ◌<◌, ◌≤◌, ℕ, ◌⊎◌, length, arith, ap, sym, subst, ◌∙◌}
+use Rattle.std.proofs.Common.{◌≡◌, ◌+◌, ◌*◌, ◌<◌, ◌≤◌, ℕ, ◌⊎◌, length, arith, ap, sym, subst, ◌∙◌}
 use Rattle.vc_types.specs.Lifting.{line_of}
 use Rattle.vc_wave.specs.Places.{place_of}
 use Rattle.vc_wave.proofs.Copies.{placed_inside, half_small, scattered_on, scattered_off}

@@ -1,7 +1,7 @@
-use Rattle.std.proofs.Common.{◌≡◌, ◌+◌, ◌*◌, ◌/◌, ◌^◌, ◌<◌, ◌≤◌, ℕ, length, drop, All, unsigned_abs, arith, ap, sym, subst, ◌∙◌}
-use Rattle.vc_types.specs.Subbands.{plane_width, plane_height, padded_width, padded_height}
+use Rattle.std.proofs.Common.{◌≡◌, ◌*◌, ◌/◌, ◌^◌, ◌<◌, length, drop, All, unsigned_abs, arith, ap, sym, subst, ◌∙◌}
+use Rattle.vc_types.specs.Subbands.{plane_width, plane_height}
 use Rattle.vc_types.specs.TransformParameters.{parameters_of}
-use Rattle.vc_types.specs.Transforms.{Cells, inverse_levels}
+use Rattle.vc_types.specs.Transforms.{Cells}
 use Rattle.vc_types.proofs.TransformLaws.{AreBelow}
 use Rattle.vc_wave.specs.Places.{plane_of}
 use Rattle.vc_wave.proofs.Grids.{lattice, written_over, padded_some, plane_below, lattice_below, inverse_made}
