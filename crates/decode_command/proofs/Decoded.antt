@@ -9,7 +9,8 @@ use Rattle.vc_ports.proofs.Growing.{GrewBySome-all}
 use Rattle.decode_command.specs.declared.ended.Ended.TheVariants as ends
 use Rattle.decode_command.specs.declared.ended.Ended.{Ended}
 use Rattle.decode_command.specs.declared.stage.Stage.{Stage}
-use Rattle.decode_command.specs.Decoding.{Run, Decodes, WroteFrames, WrotePart, ended_by}
+use Rattle.decode_command.specs.Decoding.{Decodes, WroteFrames, WrotePart, ended_by}
+use Rattle.vc_ports.specs.Runs.{Run}
 use Rattle.decode_command.specs.OnePicture.{frames_of}
 use Rattle.decode_command.specs.Stages.{Stands, HasNoForm, frames_at}
 use Rattle.decode_command.proofs.Listening.{stands_frames, no_form}

@@ -5,21 +5,11 @@ use Rattle.link_capture.specs.declared.fault.EntryFault.{EntryFault}
 use Rattle.link_capture.specs.declared.fault.EntryFault.TheVariants as faults
 use Rattle.vc_ports.specs.Faults.{Rose}
 use Rattle.vc_ports.specs.Reading.{IsAtEnd}
+use Rattle.vc_ports.specs.Runs.{Run}
 use Rattle.vc_ports.specs.Writing.{Grew, GrewBySome}
 use Rattle.decode_command.specs.declared.ended.Ended.{Ended}
 use Rattle.decode_command.specs.declared.ended.Ended.TheVariants.{Done, Unbuilt, NoMemory, InputFault, OutputFault, CaptureCut}
 use Rattle.decode_command.specs.OnePicture.{frames_of}
-
--- what an input had left, what an output held, and their counts of faults, before and after
-pub record Run : Type 0 where
-  pub left_before : Option (List ℕ)
-  pub left_after : Option (List ℕ)
-  pub held_before : Option (List ℕ)
-  pub held_after : Option (List ℕ)
-  pub input_faults_before : ℕ
-  pub input_faults_after : ℕ
-  pub output_faults_before : ℕ
-  pub output_faults_after : ℕ
 
 -- the output grew by the frames of a list that has the form
 abbrev pub WroteFrames : Run → Option (List ℕ) → Type 0

@@ -5,13 +5,13 @@ ghost use Rattle.link_words.specs.Settings.{window_of, workers_of, packets_of, c
 ghost use Rattle.link_words.specs.Views.{generating_view, meaning_view};
 
 use crate::grammar::first_bad;
-use crate::joint::{can_be_sent, dimensions_fit};
+use crate::joint::can_be_sent;
 use crate::lookup::{is_given, is_set, number_of, sampling_of, value_of};
 use crate::options::{Command, command_of};
 use crate::sender::{has_size, sender};
 use crate::settings::Settings;
 use crate::usage::Usage;
-use vc_types::{GenSettings, Words};
+use vc_types::{GenSettings, Words, dimensions_fit};
 
 fn window_of(words: &Words) -> u8
     requires { 0 < length words.now }

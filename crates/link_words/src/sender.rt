@@ -5,11 +5,9 @@ ghost use Rattle.link_words.specs.Settings.{value_of, has_size, sender};
 ghost use Rattle.link_words.specs.Views.{sending_view};
 
 use crate::grammar::{across_of, down_of};
-use crate::joint::{
-    default_across, default_down, dimensions_fit, first_picture_fits, luma_fits, slices_fit,
-};
+use crate::joint::{default_across, default_down, first_picture_fits, luma_fits};
 use crate::lookup::{choice_of, is_given, is_set, number_of, sampling_of, value_of};
-use vc_types::{SendSettings, Words};
+use vc_types::{SendSettings, Words, dimensions_fit, slices_fit};
 
 pub(crate) fn has_size(words: &Words) -> bool
     requires { 0 < length words.now }
@@ -50,7 +48,7 @@ pub(crate) fn sender(words: &Words) -> Option<SendSettings>
     let fits = size_is_given
         && dimensions_fit(width, height, sampling, fields)
         && slices_fit(slices_x, slices_y)
-        && luma_fits(width, height, fields, depth)
+        && luma_fits(width, height, fields, depth as u8)
         && first_picture_fits(fields, picture);
     if !fits {
         return None;

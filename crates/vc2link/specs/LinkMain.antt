@@ -1,14 +1,13 @@
 -- What vc2link did, by the status that it answered.
-use Rattle.std.specs.Prelude.{◌≡◌, ◌≢◌, ◌⊎◌, ℕ, List, Option, Result, Ok, Err}
-use Rattle.decode_command.specs.Decoding.{Run, Decodes}
+use Rattle.std.specs.Prelude.{◌≡◌, ◌≢◌, ◌⊎◌, ℕ, Result, Ok, Err}
+use Rattle.decode_command.specs.Decoding.{Decodes}
 use Rattle.decode_command.specs.declared.ended.Ended.{Ended}
 use Rattle.decode_command.specs.declared.ended.Ended.TheVariants.{Done, Unbuilt, NoMemory, InputFault, OutputFault, CaptureCut}
 use Rattle.link_report.specs.Report.{status_line}
 use Rattle.link_report.specs.declared.ending.Ending.{Ending}
 use Rattle.link_report.specs.declared.ending.Ending.TheVariants as endings
 use Rattle.link_words.specs.Settings.{Meaning, ToDecode}
-use Rattle.vc_ports.specs.Faults.{Rose}
-use Rattle.vc_ports.specs.Writing.{Grew, GrewBySome}
+use Rattle.vc_ports.specs.Runs.{Run, IsIdle, Reported, Says, SaysPart}
 
 -- the one form that is built: decode with a window of 4, 4 workers and any number of packets, which are the defaults
 abbrev pub built_decode : Meaning
@@ -22,13 +21,6 @@ status_of InputFault = 4
 status_of OutputFault = 5
 status_of CaptureCut = 8
 
--- neither the input nor the output was called
-pub record IsIdle (run : Run) : Type 0 where
-  pub left : run.left_after ≡ run.left_before
-  pub held : run.held_after ≡ run.held_before
-  pub input_faults : run.input_faults_after ≡ run.input_faults_before
-  pub output_faults : run.output_faults_after ≡ run.output_faults_before
-
 -- the capture was decoded to this status
 abbrev pub DecodesTo : ℕ → Run → Type 0
 DecodesTo status run = (ended : Ended) × (status ≡ status_of ended) × Decodes ended run
@@ -41,18 +33,9 @@ Answers (Ok meaning) status run =
     ⊎ ((meaning ≢ built_decode) × (status ≡ 1) × IsIdle run)
 Answers (Err place) status run = IsIdle run
 
--- what a report held and its count of faults, before and after
-pub record Reported : Type 0 where
-  pub held_before : Option (List ℕ)
-  pub held_after : Option (List ℕ)
-  pub faults_before : ℕ
-  pub faults_after : ℕ
-
 -- the report grew by the line, or by a prefix of it, where its count of faults rose
 abbrev pub SaysLine : Ending → Reported → Type 0
-SaysLine ending report =
-    Grew report.held_before report.held_after (status_line ending)
-    ⊎ (Rose report.faults_before report.faults_after × GrewBySome report.held_before report.held_after (status_line ending))
+SaysLine ending report = Says (status_line ending) report ⊎ SaysPart (status_line ending) report
 
 -- Words outside the grammar, by the place of the first bad one: status 2, or 3 for want of memory, with the line of each.
 abbrev pub Refuses : ℕ → ℕ → Reported → Type 0

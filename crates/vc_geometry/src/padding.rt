@@ -1,9 +1,8 @@
-ghost use Rattle.std.specs.Prelude.{◌≡◌, ◌+◌, ◌-◌, ◌*◌, ◌/◌, ◌^◌, ◌≤◌};
-ghost use Rattle.vc_types.specs.Limits.{padded};
+ghost use Rattle.std.specs.Prelude.{◌≡◌, ◌≤◌};
 ghost use Rattle.vc_types.specs.Subbands.{plane_width, plane_height, padded_width, padded_height};
 ghost use Rattle.vc_types.specs.TransformParameters.{parameters_of};
 
-use vc_types::{Component, Plan};
+use vc_types::{Component, Plan, padded as padded_side};
 
 /// The width and height of a component's plane, padded up to multiples of 2^depth (ST 2042-1, subband data dimensions).
 pub fn padded(plan: &Plan, c: Component) -> (u32, u32)
@@ -28,14 +27,4 @@ fn size(plan: &Plan, c: Component) -> (u32, u32)
         Component::Y => (plan.shape.luma_width, plan.shape.luma_height),
         Component::C1 | Component::C2 => (plan.shape.colour_width, plan.shape.colour_height),
     }
-}
-
-fn padded_side(side: u32, depth: u8) -> u32
-    requires side { (1 ≤ side) × (side ≤ 8192) }
-    requires depth { depth ≤ 5 }
-    ensures value { result ≡ padded side depth }
-    ensures range { (1 ≤ result) × (result ≤ 8192) }
-{
-    let unit = 1u32 << depth;
-    (side + unit - 1) / unit * unit
 }

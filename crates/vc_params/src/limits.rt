@@ -1,8 +1,8 @@
 ghost use Rattle.std.specs.Prelude.{◌≡◌, ◌≤◌, IsTrue};
-ghost use Rattle.vc_types.specs.Limits.{padded, padded_luma_fits, shape_fits};
+ghost use Rattle.vc_types.specs.Limits.{padded_luma_fits, shape_fits};
 ghost use Rattle.vc_types.specs.SequenceHeader.{sequence_of, picture_shape};
 
-use vc_types::{Header, Shape};
+use vc_types::{Header, Shape, padded};
 
 /// The shape of one picture of the sequence.
 pub fn picture_shape(h: &Header) -> Shape
@@ -12,17 +12,6 @@ pub fn picture_shape(h: &Header) -> Shape
     ensures height { result.luma_height ≤ 8192 }
 {
     h.shape()
-}
-
-// The least multiple of a power of two that is at least a side.
-fn padded(side: u32, depth: u8) -> u32
-    requires side { side ≤ 8192 }
-    requires few_levels { depth ≤ 5 }
-    ensures value { result ≡ padded side depth }
-    ensures small { result ≤ 8223 }
-{
-    let unit = 1u32 << depth;
-    (side + unit - 1) / unit * unit
 }
 
 /// Whether the luma of a picture, padded for the depth, has few enough samples.

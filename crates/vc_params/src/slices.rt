@@ -5,14 +5,7 @@ ghost use Rattle.vc_types.specs.TransformParameters.{slice_counts, prefix_bytes,
 
 use crate::fields::number;
 use vc_bits::BitReader;
-use vc_types::ParamsRefusal;
-
-fn slices_fit(across: u32, down: u32) -> bool
-    ensures { result ≡ slices_fit across down }
-{
-    let some = across >= 1 && down >= 1;
-    some && across <= 65535 && down <= 65535 && across as u64 * down as u64 <= 131072
-}
+use vc_types::{ParamsRefusal, slices_fit};
 
 /// How many slices there are across and down.
 #[tactic(auto, unfolding(vc_types::specs::TransformParameters::slice_counts))]

@@ -4,3 +4,4 @@ pub mod Writing
 pub mod Filling
 pub mod Memory
 pub mod Adapters
+pub mod Runs

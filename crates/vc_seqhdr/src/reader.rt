@@ -3,7 +3,6 @@ ghost use Rattle.vc_types.specs.Bits.{bits_of};
 ghost use Rattle.vc_types.specs.Fields.{Gives, Answers, bytes_for};
 ghost use Rattle.vc_types.specs.HeaderSpelling.{HeaderSpelling, header_bits, spelled_header, IsHeader, BeginsWithHeader};
 ghost use Rattle.vc_types.specs.SequenceHeader.{Sequence, sequence_of, sequence_header, coded_header};
-ghost use Rattle.vc_types.specs.Video.{dimensions_fit};
 
 use crate::fields::{index, number};
 use crate::formats::Format;
@@ -12,7 +11,7 @@ use crate::parts::{
     scan_format, signal_range,
 };
 use vc_bits::BitReader;
-use vc_types::{Header, HeaderRefusal, Sampling};
+use vc_types::{Header, HeaderRefusal, dimensions_fit};
 
 /// The sequence header at the front of the bytes (ST 2042-1, sequence header), and how many bytes it takes. The fields
 /// are read in order, and the first that is missing or out of range decides the refusal; the dimensions are tested last.
@@ -72,17 +71,4 @@ fn header(r: &mut BitReader) -> Result<Header, HeaderRefusal>
         range,
         fields,
     })
-}
-
-fn dimensions_fit(width: u32, height: u32, sampling: Sampling, fields: bool) -> bool
-    ensures { result ≡ dimensions_fit width height sampling fields }
-{
-    let sides = 1 <= width && width <= 8192 && 1 <= height && height <= 8192;
-    match sampling {
-        Sampling::S444 => sides && (!fields || height % 2 == 0),
-        Sampling::S422 => sides && width % 2 == 0 && (!fields || height % 2 == 0),
-        Sampling::S420 => {
-            sides && width % 2 == 0 && height % 2 == 0 && (!fields || height % 4 == 0)
-        }
-    }
 }

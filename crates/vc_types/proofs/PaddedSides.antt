@@ -25,9 +25,9 @@ padded-upto side depth h few =
     let whole : 13 - depth + depth ≡ 13 = omega arith in
     upto side (2 ^ depth) (2 ^ (13 - depth)) 8192 (pow_pos depth) (sym (pow-add 2 (13 - depth) depth) ∙ ap (λ n. 2 ^ n) whole) few
 
--- the numeral that code makes by a shift
-pub shifted-padded : (side depth unit : ℕ) → unit ≡ 2 ^ depth → 1 ≤ side → side ≤ 8192 → depth ≤ 5 → (1 ≤ (side + unit - 1) / unit * unit) × ((side + unit - 1) / unit * unit ≤ 8192)
-shifted-padded side depth unit e some few h =
-    let above = padded-above side depth some in
-    let upto = padded-upto side depth h few in
-    rw e (omega (arith, above), upto)
+-- with the numeral that code makes by a shift
+pub shifted-above : (side depth unit : ℕ) → unit ≡ 2 ^ depth → 1 ≤ side → 1 ≤ (side + unit - 1) / unit * unit
+shifted-above side depth unit e some = rw e (omega (arith, padded-above side depth some))
+
+pub shifted-upto : (side depth unit : ℕ) → unit ≡ 2 ^ depth → side ≤ 8192 → depth ≤ 5 → (side + unit - 1) / unit * unit ≤ 8192
+shifted-upto side depth unit e few h = rw e (omega (arith, padded-upto side depth h few))

@@ -1,5 +1,5 @@
 -- The planes of a decoded picture (ST 2042-1, picture output).
-use Rattle.std.specs.Prelude.{ℕ, ◌-◌, ◌^◌, List, ℤ, pos, negsuc, ◌+ℤ◌, unsigned_abs, min, Option}
+use Rattle.std.specs.Prelude.{ℕ, ◌-◌, ◌^◌, List, [], slice_index_or, ℤ, pos, negsuc, ◌+ℤ◌, unsigned_abs, min, Option}
 use Rattle.std.specs.Option.{option_map}
 use Rattle.vc_types.specs.declared.video.Component.{Component}
 use Rattle.vc_types.specs.declared.video.Component.TheVariants.{Y, C1, C2}
@@ -15,6 +15,14 @@ pub record Planes : Type 0 where
   pub y : Raster
   pub c1 : Raster
   pub c2 : Raster
+
+-- no columns and no rows
+abbrev pub no_plane : Raster
+no_plane = record { width = 0; height = 0; samples = [] }
+
+-- the planes of the three components, in this order
+abbrev pub planes_in : List Raster → Planes
+planes_in planes = record { y = slice_index_or planes 0 no_plane; c1 = slice_index_or planes 1 no_plane; c2 = slice_index_or planes 2 no_plane }
 
 -- a number is held from -half to half - 1
 abbrev pub clipped : ℕ → ℤ → ℤ

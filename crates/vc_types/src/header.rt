@@ -1,6 +1,7 @@
 ghost use Rattle.std.specs.Prelude.{◌≡◌, ◌≤◌, IsTrue, nat_le, position};
 ghost use Rattle.vc_types.specs.Video.{dimensions_fit, excursion_fits, colour_width, colour_height, picture_height, video_depth};
 
+use crate::limits::picture_height;
 use crate::shape::Shape;
 use crate::video::{Sampling, SignalRange};
 
@@ -28,12 +29,6 @@ pub struct Header {
 const POWERS_OF_TWO: [u32; 17] = [
     1, 2, 4, 8, 16, 32, 64, 128, 256, 512, 1024, 2048, 4096, 8192, 16384, 32768, 65536,
 ];
-
-fn picture_height(fields: bool, height: u32) -> u32
-    ensures { result ≡ picture_height fields height }
-{
-    if fields { height / 2 } else { height }
-}
 
 fn colour_width(sampling: Sampling, width: u32) -> u32
     ensures { result ≡ colour_width sampling width }

@@ -4,6 +4,7 @@
 mod choice;
 mod grid;
 mod header;
+mod limits;
 mod memory;
 mod plan;
 mod plane;
@@ -17,6 +18,7 @@ mod words;
 pub use choice::IndexChoice;
 pub use grid::Grid;
 pub use header::Header;
+pub use limits::{dimensions_fit, padded, picture_height, slices_fit};
 pub use memory::NoMemory;
 pub use plan::Plan;
 pub use plane::Plane;
