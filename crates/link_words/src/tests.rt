@@ -120,14 +120,59 @@ fn options_of_a_sender_have_ends(rt: HostRuntime) -> Result<(), Fail> {
     for row in &rows {
         assert!(rt; has_ends(rt.alloc(), &sized, row)?);
     }
-    let plain = ["encode", "--sampling", "444", "--height", "16"];
-    assert!(rt;
-        has_ends(
-            rt.alloc(),
-            &plain,
-            &("--width", ["1", "8192"], ["0", "8193"])
-        )?
-    );
+    let without_width = ["encode", "--sampling", "444", "--height", "16"];
+    let width: Ends = ("--width", ["1", "8192"], ["0", "8193"]);
+    assert!(rt; has_ends(rt.alloc(), &without_width, &width)?);
+    let without_height = ["encode", "--sampling", "444", "--width", "16"];
+    let height: Ends = ("--height", ["1", "8192"], ["0", "8193"]);
+    assert!(rt; has_ends(rt.alloc(), &without_height, &height)?);
+    Ok(())
+}
+
+#[test]
+fn there_are_three_samplings(rt: HostRuntime) -> Result<(), Fail> {
+    let sized = ["encode", "--width", "16", "--height", "16"];
+    for sampling in ["444", "422", "420"] {
+        assert_eq!(rt;
+            place_behind(rt.alloc(), &sized, "--sampling", sampling)?,
+            None
+        );
+    }
+    for other in ["411", "4444", "44", ""] {
+        assert_eq!(rt;
+            place_behind(rt.alloc(), &sized, "--sampling", other)?,
+            Some(6)
+        );
+    }
+    Ok(())
+}
+
+#[test]
+fn an_address_is_any_word_that_is_not_empty(rt: HostRuntime) -> Result<(), Fail> {
+    let rows: [(&[&str], Option<usize>); 10] = [
+        (&["recv"], Some(1)),
+        (&["recv", "--at"], Some(2)),
+        (&["recv", "--at", ""], Some(2)),
+        (&["recv", "--at", "127.0.0.1:5004"], None),
+        (&["recv", "--to", "127.0.0.1:5004"], Some(1)),
+        (&["send", "--width", "16", "--height", "16"], Some(5)),
+        (
+            &["send", "--width", "16", "--height", "16", "--to", ""],
+            Some(6),
+        ),
+        (
+            &["send", "--width", "16", "--height", "16", "--to", "here"],
+            None,
+        ),
+        (&["loop", "--width", "16", "--height", "16"], Some(5)),
+        (
+            &["loop", "--width", "16", "--height", "16", "--at", "here"],
+            None,
+        ),
+    ];
+    for (words, place) in &rows {
+        assert_eq!(rt; bad_place(rt.alloc(), *words)?, *place);
+    }
     Ok(())
 }
 
@@ -140,6 +185,17 @@ fn other_options_have_ends(rt: HostRuntime) -> Result<(), Fail> {
     ];
     for row in &rows {
         assert!(rt; has_ends(rt.alloc(), &["decode"], row)?);
+    }
+    let packed: [Ends; 6] = [
+        ("--packets", ["1", "4294967295"], ["0", "4294967296"]),
+        ("--size", ["64", "65507"], ["63", "65508"]),
+        ("--ssrc", ["0", "4294967295"], ["-1", "4294967296"]),
+        ("--pt", ["0", "127"], ["-1", "128"]),
+        ("--seq", ["0", "4294967295"], ["-1", "4294967296"]),
+        ("--tick", ["0", "4294967295"], ["-1", "4294967296"]),
+    ];
+    for row in &packed {
+        assert!(rt; has_ends(rt.alloc(), &["pack"], row)?);
     }
     let sized = ["gen", "--width", "16", "--height", "16"];
     let generated: [Ends; 3] = [

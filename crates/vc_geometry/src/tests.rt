@@ -1,6 +1,6 @@
 ghost use Rattle.std.specs.Prelude.{◌≡◌, ◌*◌, ◌<◌};
 
-use crate::{Rect, band, bands, padded, place_of, slice_len, slice_rect};
+use crate::{Rect, band, bands, each_cell_is_met_once, padded, place_of, slice_len, slice_rect};
 use vc_types::{Component, Plan, Shape};
 
 // 8 by 4 luma, 4 by 4 colour, one level, two slices side by side.
@@ -175,4 +175,9 @@ fn numbers_places_by_subband_and_row(rt: HostRuntime) {
             "coefficient {i}"
         );
     }
+}
+
+#[test]
+fn the_law_can_be_cited() {
+    each_cell_is_met_once(&two_slices(), Component::C1);
 }

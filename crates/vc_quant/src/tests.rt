@@ -1,4 +1,7 @@
-use crate::{NoDefault, default_matrix, dequant, factor, offset, quant};
+use crate::{
+    NoDefault, default_matrix, dequant, dequantising_never_shrinks, factor, offset, quant,
+    quantisation_is_near,
+};
 
 // Worked values of the quantisers, by hand from the standard's formulas.
 #[test]
@@ -45,4 +48,10 @@ fn has_default_matrices_below_depth_5(rt: HostRuntime) {
         default_matrix(5, 4),
         Ok([0, 4, 4, 8, 8, 8, 12, 13, 13, 17, 17, 17, 21, 0, 0, 0])
     );
+}
+
+#[test]
+fn laws_can_be_cited() {
+    quantisation_is_near(127);
+    dequantising_never_shrinks(127);
 }

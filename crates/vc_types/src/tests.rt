@@ -55,3 +55,34 @@ fn planes_and_grids_give_back_their_numbers(rt: HostRuntime) -> Result<(), Fail>
     assert_eq!(rt; grid.into_cells().as_slice(), [-7, 8].as_slice());
     Ok(())
 }
+
+#[test]
+fn frames_have_whole_planes_and_fields(rt: HostRuntime) {
+    assert!(rt; dimensions_fit(1, 8192, Sampling::S444, false));
+    assert!(rt; !dimensions_fit(0, 1, Sampling::S444, false));
+    assert!(rt; !dimensions_fit(1, 8193, Sampling::S444, false));
+    assert!(rt; !dimensions_fit(3, 4, Sampling::S422, false));
+    assert!(rt; !dimensions_fit(4, 3, Sampling::S420, false));
+    assert!(rt; !dimensions_fit(4, 3, Sampling::S444, true));
+    assert!(rt; !dimensions_fit(4, 6, Sampling::S420, true));
+    assert!(rt; dimensions_fit(4, 8, Sampling::S420, true));
+}
+
+#[test]
+fn pictures_have_few_slices(rt: HostRuntime) {
+    assert!(rt; slices_fit(65535, 2));
+    assert!(rt; slices_fit(2, 65535));
+    assert!(rt; !slices_fit(65536, 1));
+    assert!(rt; !slices_fit(65535, 3));
+    assert!(rt; !slices_fit(0, 1));
+}
+
+#[test]
+fn sides_are_padded_up(rt: HostRuntime) {
+    assert_eq!(rt; padded(1, 1), 2);
+    assert_eq!(rt; padded(1080, 3), 1080);
+    assert_eq!(rt; padded(1080, 4), 1088);
+    assert_eq!(rt; padded(8192, 5), 8192);
+    assert_eq!(rt; picture_height(true, 1080), 540);
+    assert_eq!(rt; picture_height(false, 1080), 1080);
+}
