@@ -1,0 +1,4 @@
+pub mod Infos
+pub mod Streams
+pub mod Written
+pub mod Parts
