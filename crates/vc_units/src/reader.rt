@@ -88,10 +88,7 @@ fn read_unit<S: Source>(
         Filled::End(_) => return Err(UnitFault::Short),
         Filled::Failed(_) => return Err(UnitFault::ReadFault),
     }
-    let count = match body_length(&info) {
-        Ok(count) => count,
-        Err(refusal) => return Err(refusal),
-    };
+    let count = body_length(&info)?;
     let mut body = Vec::new(alloc);
     match body.resize(count, 0) {
         Ok(()) => {}
