@@ -4,3 +4,6 @@ pub mod PlacedSlices
 pub mod WholeSlices
 pub mod RasterLists
 pub mod PlaneSizes
+pub mod GridCells
+pub mod PlacedGrids
+pub mod BuiltPlanes

@@ -20,6 +20,10 @@ module _ {A : Type 0} (w : ℕ) (f : ℕ → ℕ → A) where
   unfolding row
   row-length y = length-map-range_with_len (λ x. f x y) 0 w
 
+  row-at : (y x : ℕ) (d : A) → x < w → get_or (row y) x d ≡ f x y
+  unfolding row
+  row-at y x d h = get_or-map-range_with_len (λ x. f x y) 0 w x x d h (omega arith)
+
   rows-more : (m h : ℕ) → rows m (suc h) ≡ row m ++ rows (m + 1) h
   unfolding rows
   rows-more m h = flat_map-cons row m (range_with_len (m + 1) h)
@@ -39,12 +43,8 @@ module _ {A : Type 0} (w : ℕ) (f : ℕ → ℕ → A) where
       ap (λ xs. get_or xs (0 * w + x) d) (rows-more m h)
       ∙ ap (λ n. get_or (row m ++ rows (m + 1) h) n d) first
       ∙ get_or_append_left (row m) (rows (m + 1) h) d x (omega (arith, own))
-      ∙ in_row m x d across
+      ∙ row-at m x d across
       ∙ (let here : m ≡ m + 0 = omega arith in ap (f x) here)
-    where
-      in_row : (y x : ℕ) (d : A) → x < w → get_or (row y) x d ≡ f x y
-      unfolding row
-      in_row y x d h = get_or-map-range_with_len (λ x. f x y) 0 w x x d h (omega arith)
   rows-at m (suc h) x (suc y) d across down =
       let past : w ≤ suc y * w + x = omega arith in
       let back : suc y * w + x - w ≡ y * w + x = omega arith in

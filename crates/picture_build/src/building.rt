@@ -27,7 +27,6 @@ pub fn build(alloc: Global, plan: &Plan, slices: Vec<SliceCoeffs>) -> Result<[Pl
 }
 
 // The plane of a component.
-#[tactic(auto, unfolding(vc_types::specs::Planes::component_plane))]
 fn component(
     alloc: Global,
     plan: &Plan,

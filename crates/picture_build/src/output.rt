@@ -1,8 +1,9 @@
 ghost use Rattle.std.specs.Prelude.{◌≡◌, ◌+◌, ◌*◌, ◌<◌, ◌≤◌, ℕ, IfOk, length, slice_index_or};
 ghost use Rattle.vc_types.specs.Planes.{output_sample};
-ghost use Rattle.vc_types.specs.Rasters.{cell_at, raster};
+ghost use Rattle.vc_types.specs.Rasters.{cell_at};
 ghost use Rattle.vc_types.specs.Subbands.{plane_width, plane_height, plane_depth, padded_width, padded_height};
 ghost use Rattle.vc_types.specs.TransformParameters.{parameters_of};
+ghost use Rattle.picture_build.specs.Output.{output_plane};
 
 use crate::rows::output_row;
 use std::alloc::Global;
@@ -18,9 +19,7 @@ pub(crate) fn output(
 ) -> Result<Plane, NoMemory>
     requires width { grid.now.width ≡ padded_width (parameters_of plan.now) c }
     requires height { grid.now.height ≡ padded_height (parameters_of plan.now) c }
-    ensures width { IfOk result (λ plane. plane.width ≡ plane_width plan.now.shape c) }
-    ensures height { IfOk result (λ plane. plane.height ≡ plane_height plan.now.shape c) }
-    ensures value { IfOk result (λ plane. plane.samples ≡ raster (plane_width plan.now.shape c) (plane_height plan.now.shape c) (λ x y. output_sample (plane_depth plan.now.shape c) (cell_at grid.now x y))) }
+    ensures { IfOk result (λ plane. plane ≡ output_plane (parameters_of plan.now) c (cell_at grid.now)) }
 {
     let (width, height, depth) = format(plan, c);
     let (columns, rows) = (width as usize, height as usize);
