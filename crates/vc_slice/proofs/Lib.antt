@@ -1,5 +1,8 @@
 pub mod BlockBits
+pub mod BlockCodes
 pub mod BlockCoefficients
+pub mod CodeLengths
 pub mod Dequantising
 pub mod EncodedRows
+pub mod EncodedSlices
 pub mod SameJobs
