@@ -6,3 +6,5 @@ pub mod Dequantising
 pub mod EncodedRows
 pub mod EncodedSlices
 pub mod SameJobs
+pub mod SlicesApart
+pub mod WholeSlices
