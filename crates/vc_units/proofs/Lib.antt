@@ -2,3 +2,4 @@ pub mod Infos
 pub mod Streams
 pub mod Written
 pub mod Parts
+pub mod Rows

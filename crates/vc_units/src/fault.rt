@@ -3,9 +3,9 @@
 pub enum UnitFault {
     /// The first four bytes aren't "BBCD".
     Prefix,
-    /// The distance to the next unit is below 13 or above 268,435,456.
+    /// The distance to the next unit is below 13 or above 268,435,456. That of an end of sequence isn't used.
     Offset,
-    /// The parse code isn't one of the profile.
+    /// The parse code, in hexadecimal, isn't 00, 10, 20, 30 or E8.
     Code,
     /// The source ended within a unit.
     Short,

@@ -1,4 +1,4 @@
-use Rattle.std.proofs.Common.{rules, ◌∙◌, Err, ◌≡◌, length, drop, arith, refl, sym}
+use Rattle.std.proofs.Common.{rules, ◌∙◌, Ok, Err, ◌≡◌, length, drop, arith, refl, sym}
 use Rattle.std.proofs.Math.Seq.{take-append_seam}
 use Rattle.vc_units.specs.declared.fault.UnitFault.TheVariants.{ReadFault}
 use Rattle.vc_units.proofs.Parts.{cut_in_info, fault_in_info, fault_is, no_read_fault, refused_info, part_without_memory, whole_unit, cut_in_body, fault_in_body}
@@ -32,7 +32,7 @@ returns-in-Whole-fill-clause-unit g c =
     let len : length body ≡ c.in_ok-count.count = omega (arith, c.fill-2.auto.buf, c.deref_mut.ensures.len, c.in-Ok.ensures.len) in
     let room : c.resize.new.self.len ≡ length body = omega (arith, len, c.in-Ok.ensures.len) in
     rw (room, take-append_seam body (drop (length body) c.resize.new.self.items))
-    (refl, whole_unit _ _ _ c.fill.new.buf body c.in_ok-count.count c.fill.auto.buf (sym c.in_ok-count.ensures.value) len c.in-Whole.ensures.bytes c.in-Whole-fill.ensures.bytes)
+    (refl, whole_unit _ _ _ c.fill.new.buf body c.in_ok-count.count c.fill.auto.buf (sym {a = Ok c.in_ok-count.count} c.in_ok-count.ensures.value) len c.in-Whole.ensures.bytes c.in-Whole-fill.ensures.bytes)
 
 pub returns-in-Whole-fill-clause-grows : goal.returns-in-Whole-fill-clause-grows
 returns-in-Whole-fill-clause-grows g c =
