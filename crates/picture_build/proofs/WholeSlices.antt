@@ -75,18 +75,18 @@ module _ (p : Parameters) (n : ℕ) (s : Coefficients) where
   whole_from (Err short) e = absurd cc
 
   -- what decoding a sound slice answers
-  pub decoded-whole : (bytes : List ℕ) → slice_coefficients p n bytes ≡ Ok s → IsWholeSlice p n s
+  pub whole_slice : (bytes : List ℕ) → slice_coefficients p n bytes ≡ Ok s → IsWholeSlice p n s
   unfolding slice_coefficients
-  decoded-whole bytes e = whole_from (coded_slice p.prefix p.scaler bytes) e
+  whole_slice bytes e = whole_from (coded_slice p.prefix p.scaler bytes) e
 
 -- ---- slices in raster order
 
-pub whole-none : (p : Parameters) → AreWholeSlices p []
-whole-none p n none h = absurd (omega arith)
+pub whole_none : (p : Parameters) → AreWholeSlices p []
+whole_none p n none h = absurd (omega arith)
 
 -- one slice more
-pub whole-push : (p : Parameters) (slices : List Coefficients) (s : Coefficients) → AreWholeSlices p slices → IsWholeSlice p (length slices) s → AreWholeSlices p (slices ++ s ∷ [])
-whole-push p slices s before own n none h = elim (cases_eq n (length slices)) [
+pub whole_push : (p : Parameters) (slices : List Coefficients) (s : Coefficients) → AreWholeSlices p slices → IsWholeSlice p (length slices) s → AreWholeSlices p (slices ++ s ∷ [])
+whole_push p slices s before own n none h = elim (cases_eq n (length slices)) [
   | inl e ↦ rw (get_or_push slices s none n (sym e)) (rw e own)
   | inr ne ↦ (
       let count = length-append slices (s ∷ []) in
