@@ -1,5 +1,5 @@
 -- Slices that were decoded are whole, and their coefficients are small.
-use Rattle.std.proofs.Common.{◌≡◌, ℕ, zero, suc, ◌+◌, ◌-◌, ◌*◌, ◌^◌, ◌<◌, ◌≤◌, Bool, true, false, List, [], ◌∷◌, ◌++◌, length, ℤ, pos, unsigned_abs, All, arith, refl, ap, sym, ◌∙◌, ◌⊎◌, inl, inr, length-append}
+use Rattle.std.proofs.Common.{◌≡◌, ℕ, suc, ◌+◌, ◌-◌, ◌^◌, ◌<◌, Bool, true, false, List, [], ◌∷◌, ◌++◌, length, ℤ, pos, unsigned_abs, arith, refl, ap, sym, ◌∙◌, inl, inr, length-append}
 use Rattle.std.specs.Prelude.{map, replicate, slice_index_or, nat_le, nat_lt, if◌then◌else◌, ◌||◌, Result, Ok, Err}
 use Rattle.std.specs.List.{flat_map, list_any, enumerate_from, zip, sum_by}
 use Rattle.std.proofs.lemmas.Bool.{cases_eq}
@@ -66,7 +66,7 @@ module _ (p : Parameters) (n : ℕ) (s : Coefficients) where
   whole_indexed coded true e = absurd cc
   whole_indexed coded false e = whole_in_range (all_coefficients p n coded) (list_any is_large ((all_coefficients p n coded).y ++ (all_coefficients p n coded).c1 ++ (all_coefficients p n coded).c2)) (length-all p n coded) refl e
 
-  whole_decoded : (coded : CodedSlice) → decoded_slice p n coded ≡ Ok s → IsWholeSlice p n s
+  pub whole_decoded : (coded : CodedSlice) → decoded_slice p n coded ≡ Ok s → IsWholeSlice p n s
   unfolding decoded_slice
   whole_decoded coded e = whole_indexed coded (nat_lt 127 coded.index) e
 

@@ -1,5 +1,4 @@
-use Rattle.std.proofs.Common.{◌≡◌, ◌+◌, ◌*◌, ◌<◌, ◌≤◌, ℕ, length, arith, refl, sym}
-use Rattle.vc_types.specs.Subbands.{area}
+use Rattle.std.proofs.Common.{arith, refl, sym}
 use Rattle.vc_types.specs.TransformParameters.{parameters_of}
 use Rattle.vc_types.proofs.SliceCounts.{some_across, some_down}
 use Rattle.vc_types.proofs.SliceRectangles.{coefficients_before-none}
