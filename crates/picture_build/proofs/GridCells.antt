@@ -1,5 +1,5 @@
 -- Cells of a grid and of a list that is kept row by row.
-use Rattle.std.proofs.Common.{◌≡◌, ℕ, ◌+◌, ◌*◌, ◌<◌, ◌≤◌, Bool, true, false, List, ◌++◌, take, length, ℤ, pos, arith, ap, sym, ◌∙◌, ◌⊎◌, inl, inr}
+use Rattle.std.proofs.Common.{◌≡◌, ℕ, ◌+◌, ◌*◌, ◌<◌, ◌≤◌, false, List, ◌++◌, take, length, pos, arith, ap, sym, ◌∙◌, ◌⊎◌, inl, inr}
 use Rattle.std.specs.Prelude.{nat_lt, ◌&&◌, slice_index_or}
 use Rattle.std.proofs.lemmas.Bool.{cases_eq, and_from, lt-ltb, cond-true, cond-false}
 use Rattle.std.proofs.lemmas.Nat.{mul-add-lt}

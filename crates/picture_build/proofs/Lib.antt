@@ -7,3 +7,4 @@ pub mod PlaneSizes
 pub mod GridCells
 pub mod PlacedGrids
 pub mod BuiltPlanes
+pub mod WholePictures

@@ -10,12 +10,12 @@ use Rattle.vc_types.specs.Lifting.{line_of}
 use Rattle.vc_types.specs.Pictures.{component_cells}
 use Rattle.vc_types.specs.Rasters.{Lattice, cell_at}
 use Rattle.vc_types.specs.Slices.{Coefficients, coefficients_of}
-use Rattle.vc_types.specs.Subbands.{slice_count, slice_coefficient_count, coefficient_place, padded_width, padded_height, IsMetOnce}
+use Rattle.vc_types.specs.Subbands.{slice_count, slice_coefficient_count, padded_width, padded_height, IsMetOnce}
 use Rattle.vc_types.specs.TransformParameters.{Parameters}
 use Rattle.vc_types.proofs.PlacesMet.{met_once}
 use Rattle.vc_types.proofs.Standing.{component_cells-met, component_cells-outside}
 use Rattle.picture_build.specs.Cells.{cell_number}
-use Rattle.picture_build.specs.Whole.{IsWholeSlice, AreWholeSlices}
+use Rattle.picture_build.specs.Whole.{AreWholeSlices}
 use Rattle.picture_build.proofs.GridCells.{cell_in, cell_out}
 use Rattle.picture_build.proofs.PlacedSlices.{SlicesStand}
 use Rattle.picture_build.proofs.WholeSlices.{coefficient-small}

@@ -1,5 +1,5 @@
 -- Slices that are placed one after another, subband by subband: no coefficient is written over.
-use Rattle.std.proofs.Common.{◌≡◌, ◌≢◌, ℕ, ◌+◌, ◌-◌, ◌*◌, ◌<◌, ◌≤◌, List, ℤ, length, arith, ap, sym, subst, ◌∙◌, ◌⊎◌, inl, inr}
+use Rattle.std.proofs.Common.{◌≡◌, ◌≢◌, ℕ, ◌+◌, ◌-◌, ◌*◌, ◌<◌, ◌≤◌, List, ℤ, length, arith, ap, sym, subst, ◌∙◌, inl, inr}
 use Rattle.std.specs.Prelude.{slice_index_or}
 use Rattle.std.proofs.lemmas.Bool.{cases_lt, cases_eq}
 use Rattle.std.proofs.lemmas.Nat.{same_from_place}
@@ -7,12 +7,12 @@ use Rattle.vc_types.specs.declared.rect.Rect.{Rect}
 use Rattle.vc_types.specs.declared.video.Component.{Component}
 use Rattle.vc_types.specs.Lifting.{line_of}
 use Rattle.vc_types.specs.Slices.{Coefficients, coefficients_of}
-use Rattle.vc_types.specs.Subbands.{Place, area, place_in, slice_count, slice_coefficient_count, coefficient_place, padded_width}
+use Rattle.vc_types.specs.Subbands.{area, place_in, slice_count, slice_coefficient_count, coefficient_place, padded_width}
 use Rattle.vc_types.specs.TransformParameters.{Parameters}
 use Rattle.vc_types.proofs.Placing.{place-inside, places-apart}
 use Rattle.vc_types.proofs.RectangleCells.{same_place}
 use Rattle.vc_types.proofs.RectangleWalk.{rectangle, walked, walked-below}
-use Rattle.vc_types.proofs.SliceRectangles.{coefficients_before, coefficients_before-none, coefficients_before-more, coefficients_before-all}
+use Rattle.vc_types.proofs.SliceRectangles.{coefficients_before, coefficients_before-more, coefficients_before-all}
 use Rattle.picture_build.specs.Cells.{cell_number}
 
 module _ (p : Parameters) (c : Component) (stride : ℕ) where

@@ -1,5 +1,5 @@
 -- The planes of a picture have the sizes of its shape, and their samples have its bits.
-use Rattle.std.proofs.Common.{◌≡◌, ℕ, ◌*◌, ◌^◌, ◌<◌, ◌≤◌, List, length, All, refl, ap, sym, subst, ◌∙◌, arith}
+use Rattle.std.proofs.Common.{◌≡◌, ℕ, ◌*◌, ◌^◌, ◌<◌, ◌≤◌, List, length, All, refl, arith}
 use Rattle.std.specs.Prelude.{IsTrue}
 use Rattle.std.proofs.lemmas.Bool.Decides.{nat_tests}
 use Rattle.vc_types.specs.declared.video.Component.{Component}
@@ -8,7 +8,6 @@ use Rattle.vc_types.specs.declared.shape.Shape.{Shape}
 use Rattle.vc_types.specs.Limits.{shape_fits}
 use Rattle.vc_types.specs.Pictures.{component_cells}
 use Rattle.vc_types.specs.Planes.{component_plane, output_sample}
-use Rattle.vc_types.specs.Rasters.{Raster}
 use Rattle.vc_types.specs.Slices.{Coefficients}
 use Rattle.vc_types.specs.Subbands.{plane_width, plane_height, plane_depth}
 use Rattle.vc_types.specs.TransformParameters.{Parameters}

@@ -1,5 +1,5 @@
 -- Slices that were decoded are whole, and their coefficients are small.
-use Rattle.std.proofs.Common.{◌≡◌, ℕ, zero, suc, ◌+◌, ◌-◌, ◌*◌, ◌^◌, ◌<◌, ◌≤◌, Bool, true, false, List, [], ◌∷◌, ◌++◌, length, ℤ, pos, unsigned_abs, All, arith, refl, ap, sym, ◌∙◌, ◌⊎◌, inl, inr, length-append}
+use Rattle.std.proofs.Common.{◌≡◌, ℕ, suc, ◌+◌, ◌-◌, ◌^◌, ◌<◌, Bool, true, false, List, [], ◌∷◌, ◌++◌, length, ℤ, pos, unsigned_abs, arith, refl, ap, sym, ◌∙◌, inl, inr, length-append}
 use Rattle.std.specs.Prelude.{map, replicate, slice_index_or, nat_le, nat_lt, if◌then◌else◌, ◌||◌, Result, Ok, Err}
 use Rattle.std.specs.List.{flat_map, list_any, enumerate_from, zip, sum_by}
 use Rattle.std.proofs.lemmas.Bool.{cases_eq}
@@ -66,7 +66,7 @@ module _ (p : Parameters) (n : ℕ) (s : Coefficients) where
   whole_indexed coded true e = absurd cc
   whole_indexed coded false e = whole_in_range (all_coefficients p n coded) (list_any is_large ((all_coefficients p n coded).y ++ (all_coefficients p n coded).c1 ++ (all_coefficients p n coded).c2)) (length-all p n coded) refl e
 
-  whole_decoded : (coded : CodedSlice) → decoded_slice p n coded ≡ Ok s → IsWholeSlice p n s
+  pub whole_decoded : (coded : CodedSlice) → decoded_slice p n coded ≡ Ok s → IsWholeSlice p n s
   unfolding decoded_slice
   whole_decoded coded e = whole_indexed coded (nat_lt 127 coded.index) e
 
@@ -75,18 +75,18 @@ module _ (p : Parameters) (n : ℕ) (s : Coefficients) where
   whole_from (Err short) e = absurd cc
 
   -- what decoding a sound slice answers
-  pub decoded-whole : (bytes : List ℕ) → slice_coefficients p n bytes ≡ Ok s → IsWholeSlice p n s
+  pub whole_slice : (bytes : List ℕ) → slice_coefficients p n bytes ≡ Ok s → IsWholeSlice p n s
   unfolding slice_coefficients
-  decoded-whole bytes e = whole_from (coded_slice p.prefix p.scaler bytes) e
+  whole_slice bytes e = whole_from (coded_slice p.prefix p.scaler bytes) e
 
 -- ---- slices in raster order
 
-pub whole-none : (p : Parameters) → AreWholeSlices p []
-whole-none p n none h = absurd (omega arith)
+pub whole_none : (p : Parameters) → AreWholeSlices p []
+whole_none p n none h = absurd (omega arith)
 
 -- one slice more
-pub whole-push : (p : Parameters) (slices : List Coefficients) (s : Coefficients) → AreWholeSlices p slices → IsWholeSlice p (length slices) s → AreWholeSlices p (slices ++ s ∷ [])
-whole-push p slices s before own n none h = elim (cases_eq n (length slices)) [
+pub whole_push : (p : Parameters) (slices : List Coefficients) (s : Coefficients) → AreWholeSlices p slices → IsWholeSlice p (length slices) s → AreWholeSlices p (slices ++ s ∷ [])
+whole_push p slices s before own n none h = elim (cases_eq n (length slices)) [
   | inl e ↦ rw (get_or_push slices s none n (sym e)) (rw e own)
   | inr ne ↦ (
       let count = length-append slices (s ∷ []) in

@@ -4,7 +4,6 @@
 mod building;
 mod output;
 mod placing;
-mod rows;
 
 pub use building::build;
 

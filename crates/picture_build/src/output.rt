@@ -1,11 +1,11 @@
-ghost use Rattle.std.specs.Prelude.{◌≡◌, ◌+◌, ◌*◌, ◌<◌, ◌≤◌, ℕ, IfOk, length, slice_index_or};
+ghost use Rattle.std.specs.Prelude.{◌≡◌, ◌+◌, ◌*◌, ◌<◌, ◌≤◌, ◌⊎◌, ℕ, IfOk, length, slice_index_or};
+ghost use Rattle.vc_types.specs.Lifting.{line_of};
 ghost use Rattle.vc_types.specs.Planes.{output_sample};
 ghost use Rattle.vc_types.specs.Rasters.{cell_at};
 ghost use Rattle.vc_types.specs.Subbands.{plane_width, plane_height, plane_depth, padded_width, padded_height};
 ghost use Rattle.vc_types.specs.TransformParameters.{parameters_of};
 ghost use Rattle.picture_build.specs.Output.{output_plane};
 
-use crate::rows::output_row;
 use std::alloc::Global;
 use vc_types::{Component, Grid, NoMemory, Plan, Plane};
 
@@ -41,6 +41,30 @@ fn output_rows(samples: &mut [u16], columns: usize, rows: usize, grid: &Grid, de
     for y in 0..rows {
         output_row(samples, y * columns, cells, y * stride, columns, depth);
     }
+}
+
+// Clips so many cells, from one of them on, to samples of so many bits, from one of them on.
+#[inline(always)]
+fn output_row(samples: &mut [u16], at: usize, cells: &[i128], from: usize, width: usize, depth: u8)
+    requires depth { (1 ≤ depth) × (depth ≤ 16) }
+    requires at { at + width ≤ length samples.old }
+    requires from { from + width ≤ length cells.now }
+    ensures on { (x : ℕ) → x < width → slice_index_or samples.new (at + x) 0 ≡ output_sample depth (line_of cells.now (from + x)) }
+    ensures off { (i : ℕ) → (i < at) ⊎ (at + width ≤ i) → slice_index_or samples.new i 0 ≡ slice_index_or samples.old i 0 }
+{
+    for x in 0..width {
+        samples[at + x] = sample(cells[from + x], depth);
+    }
+}
+
+// The sample of so many bits: a number clipped to half of their range on either side of 0, and that half added.
+#[inline(always)]
+fn sample(cell: i128, depth: u8) -> u16
+    requires { (1 ≤ depth) × (depth ≤ 16) }
+    ensures { result ≡ output_sample depth cell }
+{
+    let half = i128::from(1u32 << (depth - 1));
+    (cell.clamp(-half, half - 1) + half) as u16
 }
 
 // The width and height of a component's plane, and the bits of its samples.

@@ -1,4 +1,4 @@
-ghost use Rattle.std.specs.Prelude.{◌≡◌, ◌≢◌, ◌+◌, ◌*◌, ◌^◌, ◌<◌, ◌≤◌, ℕ, All, IfOk, length, slice_index_or, unsigned_abs};
+ghost use Rattle.std.specs.Prelude.{◌≡◌, ◌≢◌, ◌+◌, ◌*◌, ◌^◌, ◌<◌, ◌≤◌, ◌⊎◌, ℕ, All, IfOk, length, slice_index_or, unsigned_abs};
 ghost use Rattle.vc_types.specs.Lifting.{line_of};
 ghost use Rattle.vc_types.specs.Pictures.{component_cells};
 ghost use Rattle.vc_types.specs.Rasters.{cell_at};
@@ -8,7 +8,6 @@ ghost use Rattle.vc_types.specs.TransformParameters.{parameters_of};
 ghost use Rattle.picture_build.specs.Cells.{cell_number};
 ghost use Rattle.picture_build.specs.Whole.{AreWholeSlices};
 
-use crate::rows::put_row;
 use std::alloc::Global;
 use vc_geometry::{bands, padded, slice_rect};
 use vc_slice::SliceCoeffs;
@@ -96,5 +95,18 @@ fn place_rect(rect: &Rect, coeffs: &[i64], from: usize, cells: &mut [i128], stri
     for row in 0..rect.height as usize {
         let at = (rect.y as usize + row) * stride + rect.x as usize;
         put_row(cells, at, coeffs, from + row * width, width);
+    }
+}
+
+// Copies so many coefficients, from one of them on, to cells from one of them on.
+#[inline(always)]
+fn put_row(cells: &mut [i128], at: usize, coeffs: &[i64], from: usize, width: usize)
+    requires at { at + width ≤ length cells.old }
+    requires from { from + width ≤ length coeffs.now }
+    ensures on { (x : ℕ) → x < width → line_of cells.new (at + x) ≡ line_of coeffs.now (from + x) }
+    ensures off { (i : ℕ) → (i < at) ⊎ (at + width ≤ i) → line_of cells.new i ≡ line_of cells.old i }
+{
+    for x in 0..width {
+        cells[at + x] = i128::from(coeffs[from + x]);
     }
 }

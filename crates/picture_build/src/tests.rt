@@ -1,4 +1,4 @@
-ghost use Rattle.std.specs.Prelude.{◌≡◌, ◌*◌, ◌<◌, ◌≤◌, IfOk, length};
+ghost use Rattle.std.specs.Prelude.{◌≡◌, ◌<◌, IfOk, length};
 ghost use Rattle.vc_types.specs.Subbands.{slice_count};
 ghost use Rattle.vc_types.specs.TransformParameters.{parameters_of};
 ghost use Rattle.picture_build.specs.Whole.{IsWholeSlice, AreWholeSlices};
@@ -122,11 +122,7 @@ fn decoded(alloc: Global, plan: Plan, index: u32, bytes: &'static [u8]) -> Resul
     let Ok(done) = decode(alloc, job) else {
         return Err(Fail::from("no memory"));
     };
-    let SliceDone { job: _, answer } = done;
-    match answer {
-        Ok(coeffs) => Ok(coeffs),
-        Err(_) => Err(Fail::from("unsound")),
-    }
+    coefficients(done)
 }
 
 fn job(plan: Plan, index: u32, bytes: Bytes) -> Result<SliceJob, Fail>
@@ -144,44 +140,65 @@ fn job(plan: Plan, index: u32, bytes: Bytes) -> Result<SliceJob, Fail>
     }
 }
 
-// The planes of a picture, by the bytes of each slice.
-fn planes(alloc: Global, plan: Plan, coded: &[&'static [u8]]) -> Result<[Plane; 3], Fail>
+fn coefficients(done: SliceDone) -> Result<SliceCoeffs, Fail>
+    ensures { IfOk result (λ coeffs. IsWholeSlice (parameters_of done.job.plan) done.job.index coeffs) }
+{
+    let SliceDone { job: _, answer } = done;
+    match answer {
+        Ok(coeffs) => Ok(coeffs),
+        Err(_) => Err(Fail::from("unsound")),
+    }
+}
+
+// The coefficients of each slice of a picture, by its bytes.
+fn slices(alloc: Global, plan: Plan, coded: &[&'static [u8]]) -> Result<Vec<SliceCoeffs>, Fail>
     requires { length coded.now ≡ slice_count (parameters_of plan) }
+    ensures count { IfOk result (λ slices. length slices.items ≡ slice_count (parameters_of plan)) }
+    ensures whole { IfOk result (λ slices. AreWholeSlices (parameters_of plan) slices.items) }
 {
     let mut slices = Vec::new(alloc);
     for i in 0..coded.len() {
-        slices.push(decoded(alloc, plan, i as u32, coded[i])?)?;
+        let coeffs = decoded(alloc, plan, i as u32, coded[i])?;
+        slices.push(coeffs)?;
     }
+    Ok(slices)
+}
+
+// The planes of a picture, by the bytes of each slice.
+fn built(alloc: Global, plan: Plan, coded: &[&'static [u8]]) -> Result<[Plane; 3], Fail>
+    requires { length coded.now ≡ slice_count (parameters_of plan) }
+{
+    let slices = slices(alloc, plan, coded)?;
     Ok(build(alloc, &plan, slices)?)
 }
 
 #[test]
 fn each_slice_has_its_own_columns(rt: HostRuntime) -> Result<(), Fail> {
-    let [y, c1, c2] = planes(rt.alloc(), two_slices(), &[&[0, 1, 0, 0, 0], &[0, 0, 0, 0]])?;
+    let planes = built(rt.alloc(), two_slices(), &[&[0, 1, 0, 0, 0], &[0, 0, 0, 0]])?;
     let rows = [
         0x71, 0x71, 0x80, 0x80, 0x80, 0x80, 0x80, 0x80, 0x71, 0x71, 0x80, 0x80, 0x80, 0x80, 0x80,
         0x80, 0x80, 0x80, 0x80, 0x80, 0x80, 0x80, 0x80, 0x80, 0x80, 0x80, 0x80, 0x80, 0x80, 0x80,
         0x80, 0x80,
     ];
-    assert_eq!(rt; y.samples(), rows.as_slice());
-    assert_eq!(rt; c1.samples(), [0x80; 32].as_slice());
-    assert_eq!(rt; c2.samples(), [0x80; 32].as_slice());
+    assert_eq!(rt; planes[0].samples(), rows.as_slice());
+    assert_eq!(rt; planes[1].samples(), [0x80; 32].as_slice());
+    assert_eq!(rt; planes[2].samples(), [0x80; 32].as_slice());
     Ok(())
 }
 
 #[test]
 fn columns_come_before_rows(rt: HostRuntime) -> Result<(), Fail> {
-    let [y, c1, c2] = planes(rt.alloc(), one_slice(), &[&[0, 2, 0x94, 0x80, 0, 0]])?;
-    assert_eq!(rt; y.samples(), [0x80, 0x80, 0x7f, 0x80].as_slice());
-    assert_eq!(rt; c1.samples(), [0x80; 4].as_slice());
-    assert_eq!(rt; c2.samples(), [0x80; 4].as_slice());
+    let planes = built(rt.alloc(), one_slice(), &[&[0, 2, 0x94, 0x80, 0, 0]])?;
+    assert_eq!(rt; planes[0].samples(), [0x80, 0x80, 0x7f, 0x80].as_slice());
+    assert_eq!(rt; planes[1].samples(), [0x80; 4].as_slice());
+    assert_eq!(rt; planes[2].samples(), [0x80; 4].as_slice());
     Ok(())
 }
 
 #[test]
 fn a_custom_matrix_counts(rt: HostRuntime) -> Result<(), Fail> {
-    let [y, _c1, _c2] = planes(rt.alloc(), without_matrix(), &[&[4, 1, 0x0b, 0, 0]])?;
-    assert_eq!(rt; y.samples(), [0x87; 4].as_slice());
+    let planes = built(rt.alloc(), without_matrix(), &[&[4, 1, 0x0b, 0, 0]])?;
+    assert_eq!(rt; planes[0].samples(), [0x87; 4].as_slice());
     Ok(())
 }
 
@@ -189,12 +206,12 @@ fn a_custom_matrix_counts(rt: HostRuntime) -> Result<(), Fail> {
 #[test]
 fn samples_are_clipped_at_both_ends(rt: HostRuntime) -> Result<(), Fail> {
     let large: &'static [u8] = &[0, 2, 0x41, 0x06, 2, 0x41, 0x06, 2, 0x41, 0x07];
-    let [y, c1, c2] = planes(rt.alloc(), without_matrix(), &[large])?;
-    assert_eq!(rt; y.samples(), [255; 4].as_slice());
-    assert_eq!(rt; c1.samples(), [712; 4].as_slice());
-    assert_eq!(rt; c2.samples(), [312; 4].as_slice());
-    let [y, _c1, _c2] = planes(rt.alloc(), without_matrix(), &[&[0, 2, 0x41, 0x07, 0, 0]])?;
-    assert_eq!(rt; y.samples(), [0; 4].as_slice());
+    let planes = built(rt.alloc(), without_matrix(), &[large])?;
+    assert_eq!(rt; planes[0].samples(), [255; 4].as_slice());
+    assert_eq!(rt; planes[1].samples(), [712; 4].as_slice());
+    assert_eq!(rt; planes[2].samples(), [312; 4].as_slice());
+    let planes = built(rt.alloc(), without_matrix(), &[&[0, 2, 0x41, 0x07, 0, 0]])?;
+    assert_eq!(rt; planes[0].samples(), [0; 4].as_slice());
     Ok(())
 }
 
@@ -202,14 +219,14 @@ fn samples_are_clipped_at_both_ends(rt: HostRuntime) -> Result<(), Fail> {
 fn slices_may_be_more_than_samples(rt: HostRuntime) -> Result<(), Fail> {
     let none: &'static [u8] = &[0, 1, 0x0b, 0, 0];
     let last: &'static [u8] = &[0, 1, 0x3f, 0, 0];
-    let [y, c1, c2] = planes(
+    let planes = built(
         rt.alloc(),
         one_sample(),
         &[none, none, none, none, none, last],
     )?;
-    assert_eq!(rt; (y.width(), y.height()), (1, 1));
-    assert_eq!(rt; y.samples(), [0x7f].as_slice());
-    assert_eq!(rt; c1.samples(), [0x80].as_slice());
-    assert_eq!(rt; c2.samples(), [0x80].as_slice());
+    assert_eq!(rt; (planes[0].width(), planes[0].height()), (1, 1));
+    assert_eq!(rt; planes[0].samples(), [0x7f].as_slice());
+    assert_eq!(rt; planes[1].samples(), [0x80].as_slice());
+    assert_eq!(rt; planes[2].samples(), [0x80].as_slice());
     Ok(())
 }

@@ -2,7 +2,7 @@ use Rattle.std.proofs.Common.{rules, ◌≡◌, ◌-◌, ◌^◌, pos, ◌-ℤ�
 use Rattle.std.specs.Int.{w128}
 use Rattle.std.proofs.lemmas.Int.{ints, to_z-of_z}
 use Rattle.picture_build.proofs.Samples.{output_sample-is}
-use Rattle.picture_build.proofs.rows.sample.Goals as goal
+use Rattle.picture_build.proofs.output.sample.Goals as goal
 
 pub returns : goal.returns
 returns c =

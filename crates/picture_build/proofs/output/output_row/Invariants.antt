@@ -1,7 +1,7 @@
 use Rattle.std.proofs.Common.{◌≡◌, ◌+◌, ◌<◌, ◌≤◌, ◌⊎◌, ℕ, slice_index_or}
 use Rattle.vc_types.specs.Lifting.{line_of}
 use Rattle.vc_types.specs.Planes.{output_sample}
-use Rattle.picture_build.proofs.rows.output_row.Given as goal
+use Rattle.picture_build.proofs.output.output_row.Given as goal
 
 abbrev pub invariant-loop-x : goal.invariant-loop-x
 invariant-loop-x l = record {
