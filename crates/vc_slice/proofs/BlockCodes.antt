@@ -1,5 +1,5 @@
 -- The codes of a block, number after number and subband after subband.
-use Rattle.std.proofs.Common.{◌≡◌, ℕ, zero, suc, ◌+◌, ◌-◌, ◌*◌, ◌<◌, ◌≤◌, ℤ, pos, negsuc, unsigned_abs, Bool, true, false, eqb, List, [], ◌∷◌, ◌++◌, length, take, drop, replicate, refl, sym, ap, subst, ◌∙◌, arith, append_assoc, append-nil, add-one, length-append, length-drop, inl, inr}
+use Rattle.std.proofs.Common.{◌≡◌, ℕ, zero, suc, ◌+◌, ◌-◌, ◌*◌, ◌<◌, ◌≤◌, ℤ, pos, negsuc, unsigned_abs, Bool, true, false, eqb, List, [], ◌∷◌, ◌++◌, length, take, drop, replicate, refl, sym, ap, ◌∙◌, arith, append_assoc, length-append, length-drop, inl, inr}
 use Rattle.std.specs.Prelude.{slice_index_or, map, ◌||◌}
 use Rattle.std.specs.List.{flat_map, list_any, zip}
 use Rattle.std.proofs.lemmas.List.{length-replicate, take-append-drop}
@@ -10,8 +10,8 @@ use Rattle.std.proofs.lemmas.Grind.{replicate_next}
 use Rattle.vc_types.specs.declared.video.Component.{Component}
 use Rattle.vc_types.specs.Codes.{uint_bits, spread_digits, sint_bits}
 use Rattle.vc_types.specs.Quantisation.{quantised}
-use Rattle.vc_types.specs.Slices.{Coefficients, coefficients_of, is_large, quantisers}
-use Rattle.vc_types.specs.Subbands.{area, subband_at, slice_rectangle, slice_coefficient_count}
+use Rattle.vc_types.specs.Slices.{Coefficients, coefficients_of, is_large}
+use Rattle.vc_types.specs.Subbands.{area, subband_at, slice_rectangle}
 use Rattle.vc_types.specs.TransformParameters.{Parameters}
 use Rattle.vc_slice.specs.Encoding.{AreCoefficients, kept_before, without_last_zeros, quantised_numbers, block_bits, component_bits}
 use Rattle.vc_slice.specs.Inside.{codes_behind, subband_numbers}

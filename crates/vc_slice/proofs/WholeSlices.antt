@@ -1,8 +1,8 @@
 -- A slice at the front of bytes: where it ends, and that it is decoded from its own bytes.
-use Rattle.std.proofs.Common.{◌≡◌, ℕ, zero, suc, ◌+◌, ◌-◌, ◌*◌, ◌<◌, ◌≤◌, List, [], ◌∷◌, ◌++◌, length, take, drop, Option, Some, None, Result, Ok, Err, refl, sym, ap, ◌∙◌, arith, append-nil, length-append}
+use Rattle.std.proofs.Common.{◌≡◌, ℕ, suc, ◌+◌, ◌-◌, ◌*◌, ◌≤◌, List, [], ◌∷◌, ◌++◌, length, take, drop, Some, None, Result, Ok, Err, refl, sym, ap, ◌∙◌, arith, append-nil, length-append}
 use Rattle.std.proofs.Math.Seq.{drop-append_seam, take-append_seam, take-length}
 use Rattle.vc_types.specs.declared.refusal.Unsound.{Unsound}
-use Rattle.vc_types.specs.Fields.{◌>>=◌, and_then, give, next, next_items}
+use Rattle.vc_types.specs.Fields.{and_then, next, next_items}
 use Rattle.vc_types.specs.Pictures.{slices_from, sound}
 use Rattle.vc_types.specs.Slices.{CodedSlice, Coefficients, block, coded_slice, length_read, slice_length, decoded_slice, decoded_from, slice_coefficients}
 use Rattle.vc_types.specs.TransformParameters.{Parameters}

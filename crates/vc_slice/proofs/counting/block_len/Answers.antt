@@ -1,8 +1,7 @@
-use Rattle.std.proofs.Common.{◌≡◌, ◌+◌, ◌*◌, ◌<◌, Bool, ℤ, List, length, refl, sym, ap, ◌∙◌, arith}
-use Rattle.std.specs.Prelude.{unsigned_abs}
+use Rattle.std.proofs.Common.{◌+◌, ◌*◌, ◌<◌, ℤ, List, length, sym, ap, ◌∙◌, arith}
 use Rattle.vc_types.specs.TransformParameters.{parameters_of}
 use Rattle.vc_slice.specs.Inside.{codes_behind}
-use Rattle.vc_slice.proofs.BlockCodes.{AreFrom, numbers_from, all_from, all_bits, none_from, no_more_codes, enough, rest_from, subband_from}
+use Rattle.vc_slice.proofs.BlockCodes.{numbers_from, all_from, all_bits, none_from, no_more_codes, enough, rest_from, subband_from}
 use Rattle.vc_slice.proofs.counting.block_len.Goals as goal
 
 pub loop-b-init : goal.loop-b-init

@@ -1,4 +1,4 @@
-use Rattle.std.proofs.Common.{◌≡◌, ◌∙◌, ◌*◌, ◌++◌, Bool, List, length, sym, ap, true}
+use Rattle.std.proofs.Common.{◌≡◌, ◌∙◌, ◌*◌, ◌++◌, Bool, List, length, sym, ap}
 use Rattle.vc_types.specs.TransformParameters.{parameters_of}
 use Rattle.vc_slice.specs.Encoding.{encoded_slice, encoded_length}
 use Rattle.vc_slice.proofs.EncodedSlices.{some_scaler, length_slice, length_by, too_long_by, finished, length_finished}

@@ -1,4 +1,3 @@
-use Rattle.std.proofs.Common.{◌≡◌}
 use Rattle.vc_types.specs.TransformParameters.{parameters_of}
 use Rattle.vc_golomb.proofs.WrittenCodes.{on_ok}
 use Rattle.vc_slice.specs.Encoding.{component_bits}

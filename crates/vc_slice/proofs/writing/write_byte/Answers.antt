@@ -1,5 +1,4 @@
-use Rattle.std.proofs.Common.{◌≡◌, ◌++◌, ◌∷◌, [], ◌<◌, Bool, true, List, take, length, ℕ, ap, sym, ◌∙◌, arith, append_assoc, subst}
-use Rattle.vc_types.specs.Bits.{byte_bits}
+use Rattle.std.proofs.Common.{arith}
 use Rattle.vc_slice.proofs.EncodedSlices.{byte_more, byte_whole}
 use Rattle.vc_slice.proofs.writing.write_byte.Goals as goal
 

@@ -1,8 +1,7 @@
-use Rattle.std.proofs.Common.{◌≡◌, ◌++◌, ◌<◌, Bool, true, List, replicate, unsigned_abs, arith, sym, ap, ◌∙◌, append_assoc}
+use Rattle.std.proofs.Common.{◌≡◌, ◌++◌, ◌<◌, Bool, List, unsigned_abs, arith, sym, ap, ◌∙◌}
 use Rattle.std.specs.Int.{w64}
 use Rattle.std.proofs.lemmas.Int.{ints, to_z-of_z}
 use Rattle.vc_types.specs.Codes.{sint_bits}
-use Rattle.vc_slice.specs.Inside.{codes_behind}
 use Rattle.vc_slice.proofs.BlockCodes.{behind_zero, written_number}
 use Rattle.vc_slice.proofs.writing.write_number.Goals as goal
 
