@@ -1,0 +1,12 @@
+pub mod Following
+pub mod SliceRuns
+pub mod PictureParts
+pub mod Shaped
+pub mod Weavable
+pub mod Showing
+pub mod Completing
+pub mod Bringing
+pub mod Hearing
+pub mod Loops
+pub mod Stopping
+pub mod Players

@@ -1,0 +1,57 @@
+-- A picture's own bytes: its transform parameters, and the slices behind them.
+use Rattle.std.proofs.Common.{◌≡◌, ℕ, ◌-◌, ◌≤◌, List, length, drop, Ok, Err, Some, None, refl, sym, ap, ◌∙◌, subst, arith}
+use Rattle.std.specs.Prelude.{Result, Bool, Option}
+use Rattle.std.specs.Option.{option_map}
+use Rattle.vc_types.specs.declared.refusal.ParamsRefusal.{ParamsRefusal}
+use Rattle.vc_types.specs.Bits.{bits_of}
+use Rattle.vc_types.specs.Pictures.{Picture, decoded_picture, slices_from, with_parameters, with_slices}
+use Rattle.vc_types.specs.Planes.{Planes, planes_of, decoded_planes}
+use Rattle.vc_types.specs.SequenceHeader.{Sequence, bytes_used, with_bytes_used}
+use Rattle.vc_types.specs.Slices.{Coefficients}
+use Rattle.vc_types.specs.Subbands.{slice_count}
+use Rattle.vc_types.specs.TransformParameters.{Parameters, transform_parameters, coded_parameters}
+
+abbrev SlicesRead : Type 0
+SlicesRead = Result (List Coefficients × List ℕ) (Unit {0})
+
+ok_is : {A E : Type 0} (a b : A) → ◌≡◌ {A = Result A E} (Ok a) (Ok b) → a ≡ b
+ok_is a b same = cc
+
+module _ (s : Sequence) (bytes : List ℕ) where
+  -- parameters that were read, and what they make of the bytes
+  record Reads (p : Parameters) (used : ℕ) : Type 0 where
+    within : used ≤ length bytes
+    picture : decoded_picture s bytes ≡ with_slices p (slices_from p 0 (slice_count p) (drop used bytes))
+
+  reads : (p : Parameters) (used : ℕ) (read : Result (Parameters × List Bool) ParamsRefusal) → transform_parameters s (bits_of bytes) ≡ read → with_bytes_used bytes read ≡ Ok (p, used) → Reads p used
+  unfolding decoded_picture
+  reads p used (Err refusal) is e = absurd cc
+  reads p used (Ok read) is e =
+      let same = ok_is (read.0, bytes_used bytes read.1) (p, used) e in
+      let parameters : read.0 ≡ p = ap (λ (x : Parameters × ℕ). x.0) same in
+      let count : bytes_used bytes read.1 ≡ used = ap (λ (x : Parameters × ℕ). x.1) same in
+      record {
+        within = subst (λ (n : ℕ). n ≤ length bytes) count (omega arith);
+        picture = ap (with_parameters bytes) is ∙ ap (λ (q : Parameters). with_slices q (slices_from q 0 (slice_count q) (drop (bytes_used bytes read.1) bytes))) parameters ∙ ap (λ (n : ℕ). with_slices p (slices_from p 0 (slice_count p) (drop n bytes))) count;
+      }
+
+  refused : (refusal : ParamsRefusal) (read : Result (Parameters × List Bool) ParamsRefusal) → transform_parameters s (bits_of bytes) ≡ read → with_bytes_used bytes read ≡ Err refusal → decoded_picture s bytes ≡ None
+  unfolding decoded_picture
+  refused refusal (Ok read) is e = absurd cc
+  refused refusal (Err why) is e = ap (with_parameters bytes) is
+
+  pub used-within : (p : Parameters) (used : ℕ) → coded_parameters s bytes ≡ Ok (p, used) → used ≤ length bytes
+  used-within p used e = (reads p used (transform_parameters s (bits_of bytes)) refl e).within
+
+  pub planes-refused : (refusal : ParamsRefusal) → coded_parameters s bytes ≡ Err refusal → decoded_planes s bytes ≡ None
+  unfolding decoded_planes
+  planes-refused refusal e = rw (refused refusal (transform_parameters s (bits_of bytes)) refl e) refl
+
+  pub planes-unsound : (p : Parameters) (used : ℕ) → coded_parameters s bytes ≡ Ok (p, used) → slices_from p 0 (slice_count p) (drop used bytes) ≡ Err tt → decoded_planes s bytes ≡ None
+  unfolding decoded_planes
+  planes-unsound p used e none = rw ((reads p used (transform_parameters s (bits_of bytes)) refl e).picture, none) refl
+
+  pub planes-sound : (p : Parameters) (used : ℕ) (slices : List Coefficients) (rest : List ℕ) → coded_parameters s bytes ≡ Ok (p, used) → slices_from p 0 (slice_count p) (drop used bytes) ≡ Ok (slices, rest)
+      → decoded_planes s bytes ≡ Some (planes_of p slices)
+  unfolding decoded_planes
+  planes-sound p used slices rest e all = rw ((reads p used (transform_parameters s (bits_of bytes)) refl e).picture, all) refl

@@ -1,0 +1,58 @@
+-- Slices that are read one after another.
+use Rattle.std.proofs.Common.{◌≡◌, ℕ, suc, ◌+◌, ◌-◌, ◌<◌, ◌≤◌, List, [], ◌∷◌, ◌++◌, take, drop, Some, None, Ok, Err, refl, sym, ap, ◌∙◌, arith, append_assoc, append-nil}
+use Rattle.std.specs.Prelude.{Result}
+use Rattle.std.specs.Result.{result_ok}
+use Rattle.picture_build.proofs.WholeSlices.{whole_slice}
+use Rattle.vc_types.specs.Fields.{and_then}
+use Rattle.vc_types.specs.Pictures.{slices_from}
+use Rattle.vc_types.specs.declared.refusal.Unsound.{Unsound}
+use Rattle.vc_types.specs.Slices.{Coefficients, slice_length, slice_coefficients}
+use Rattle.vc_slice.proofs.WholeSlices.{slices_from-sound, slices_from-unsound, slices_from-short}
+use Rattle.vc_types.specs.TransformParameters.{Parameters}
+use Rattle.play_command.specs.Slices.{GaveSlice, behind}
+
+abbrev Read : Type 0
+Read = Result (List Coefficients × List ℕ) (Unit {0})
+
+-- nothing before
+pub behind-nothing : (read : Read) → behind [] read ≡ read
+behind-nothing (Ok read) = refl
+behind-nothing (Err short) = refl
+
+behind-and : (done : List Coefficients) (s : Coefficients) (read : Read) → behind done (and_then read (λ more. Ok (s ∷ more.0, more.1))) ≡ behind (done ++ s ∷ []) read
+behind-and done s (Ok read) = ap (λ (all : List Coefficients). Ok (all, read.1)) (sym (append_assoc done (s ∷ []) read.0))
+behind-and done s (Err short) = refl
+
+module _ (p : Parameters) where
+  -- the slice at the front is cut short
+  pub gave-short : (i : ℕ) (old new : List ℕ) → slice_length p.prefix p.scaler old ≡ None → GaveSlice p i old new None
+  gave-short i old new short n = slices_from-short p i n old short
+
+  -- it is decoded, soundly or not
+  pub gave-answer : (i len : ℕ) (old piece new : List ℕ) (answer : Result Coefficients Unsound) → slice_length p.prefix p.scaler old ≡ Some len → piece ≡ take len old → new ≡ drop len old
+      → answer ≡ slice_coefficients p i piece → GaveSlice p i old new (result_ok answer)
+  gave-answer i len old piece new (Ok s) is front rest decoded =
+      let own : slice_coefficients p i piece ≡ Ok s = sym decoded in
+      (whole_slice p i s piece own, λ n. rw rest (slices_from-sound p i n len old s is (rw front at own)))
+  gave-answer i len old piece new (Err why) is front rest decoded = λ n. slices_from-unsound p i n len old why is (rw front at (sym decoded))
+
+  -- a slice more, of n
+  pub behind-slice : (i n : ℕ) (old new : List ℕ) (done : List Coefficients) (s : Coefficients) → i < n → GaveSlice p i old new (Some s)
+      → behind done (slices_from p i (n - i) old) ≡ behind (done ++ s ∷ []) (slices_from p (i + 1) (n - (i + 1)) new)
+  behind-slice i n old new done s h gave =
+      let next : n - i ≡ suc (n - (i + 1)) = omega arith in
+      ap (λ (count : ℕ). behind done (slices_from p i count old)) next
+      ∙ ap (behind done) (gave.1 (n - (i + 1))) ∙ behind-and done s (slices_from p (i + 1) (n - (i + 1)) new)
+
+  -- a slice that is refused
+  pub behind-refused : (i n : ℕ) (old new : List ℕ) (done : List Coefficients) → i < n → GaveSlice p i old new None → behind done (slices_from p i (n - i) old) ≡ Err tt
+  behind-refused i n old new done h gave =
+      let next : n - i ≡ suc (n - (i + 1)) = omega arith in
+      ap (λ (count : ℕ). behind done (slices_from p i count old)) next ∙ ap (behind done) (gave (n - (i + 1)))
+
+  -- no slice more
+  pub behind-last : (i n : ℕ) (rest : List ℕ) (done : List Coefficients) → n ≤ i → behind done (slices_from p i (n - i) rest) ≡ Ok (done, rest)
+  unfolding slices_from
+  behind-last i n rest done h =
+      let none : n - i ≡ 0 = omega arith in
+      ap (λ (count : ℕ). behind done (slices_from p i count rest)) none ∙ ap (λ (all : List Coefficients). Ok (all, rest)) (append-nil done)

@@ -1,0 +1,9 @@
+pub mod Stream
+pub mod Playing
+pub mod Steps
+pub mod Slices
+pub mod Views
+pub mod Shapes
+pub mod Taking
+pub mod Looping
+pub mod Endings

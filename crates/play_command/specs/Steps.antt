@@ -1,0 +1,63 @@
+-- The player between two units: what it keeps of the stream, and what a picture changes.
+use Rattle.std.specs.Prelude.{◌≡◌, ℕ, ◌+◌, ◌%◌, ◌==◌, if◌then◌else◌, List, [], ◌∷◌, length, Option, Some, None}
+use Rattle.std.specs.Option.{option_map}
+use Rattle.link_model.specs.Frames.{woven}
+use Rattle.vc_types.specs.Planes.{Planes}
+use Rattle.vc_types.specs.SequenceHeader.{Sequence}
+use Rattle.play_command.specs.Stream.{Heard, Stream, Picture, is_pair, frames_of}
+
+-- an even-numbered field waits for the very next picture
+abbrev pub waits : Picture → Option Picture
+waits p = if p.number % 2 == 0 then Some p else None
+
+abbrev pub next_waiting : Option Picture → Picture → Option Picture
+next_waiting None p = waits p
+next_waiting (Some earlier) p = if is_pair earlier p then None else waits p
+
+-- the frame that a field completes
+abbrev pub completed : Sequence → Option Picture → Picture → List Planes
+completed sequence None p = []
+completed sequence (Some earlier) p = if is_pair earlier p then woven sequence.top_first earlier.planes p.planes ∷ [] else []
+
+-- the frames that a picture brings
+abbrev pub new_frames : Sequence → Option Picture → Picture → List Planes
+new_frames sequence waiting p = if sequence.fields then completed sequence waiting p else p.planes ∷ []
+
+-- what is kept of a stream
+pub record Kept : Type 0 where
+  pub sequence : Sequence
+  pub waiting : Option Picture
+  pub pictures : ℕ
+  pub frames : ℕ
+
+-- a picture more
+abbrev pub shown : Kept → Picture → Kept
+shown k p = record {
+  sequence = k.sequence;
+  waiting = if k.sequence.fields then next_waiting k.waiting p else k.waiting;
+  pictures = k.pictures + 1;
+  frames = k.frames + length (new_frames k.sequence k.waiting p);
+}
+
+-- the field at the end of pictures that still waits
+unfoldable pub waiting_in : List Picture → Option Picture
+waiting_in (a ∷ b ∷ rest) = if is_pair a b then waiting_in rest else waiting_in (b ∷ rest)
+waiting_in (a ∷ []) = waits a
+waiting_in [] = None
+
+-- what is kept of this stream
+abbrev pub kept_of : Stream → Kept
+kept_of s = record {
+  sequence = s.sequence;
+  waiting = if s.sequence.fields then waiting_in s.pictures else None;
+  pictures = length s.pictures;
+  frames = length (frames_of s);
+}
+
+-- the player between two units: what it keeps once a header came, and the place of the next unit
+pub record Playing : Type 0 where
+  pub kept : Option Kept
+  pub place : ℕ
+
+abbrev pub playing_of : Heard → Playing
+playing_of h = record { kept = option_map kept_of h.stream; place = h.place }

@@ -1,0 +1,31 @@
+-- What code keeps, as plain data.
+use Rattle.std.specs.Option.{option_map}
+use Rattle.frame_writer.specs.declared.fault.FrameFault.{FrameFault}
+use Rattle.frame_writer.specs.declared.fault.FrameFault.TheVariants as frame
+use Rattle.play_command.specs.declared.fault.TakeFault.{TakeFault}
+use Rattle.play_command.specs.declared.fault.TakeFault.TheVariants as fault
+use Rattle.vc_types.specs.Planes.{planes_in}
+use Rattle.vc_types.specs.SequenceHeader.{sequence_of}
+use Rattle.play_command.specs.Stream.{Picture}
+use Rattle.play_command.specs.Steps.{Kept, Playing}
+use Rattle.play_command.specs.declared.picture.Picture as coded
+use Rattle.play_command.specs.declared.playback.Playback.{Playback}
+use Rattle.play_command.specs.declared.player.Player.{Player}
+
+abbrev pub picture_of : coded.Picture → Picture
+picture_of p = record { number = p.number; planes = planes_in p.planes }
+
+abbrev pub kept_by : Playback → Kept
+kept_by s = record {
+  sequence = sequence_of s.header;
+  waiting = option_map picture_of s.waiting;
+  pictures = s.pictures;
+  frames = s.frames;
+}
+
+abbrev pub player_of : Player → Playing
+player_of p = record { kept = option_map kept_by p.stream; place = p.place }
+
+abbrev pub take_fault : FrameFault → TakeFault
+take_fault frame.WriteFault = fault.WriteFault
+take_fault frame.NoMemory = fault.NoMemory

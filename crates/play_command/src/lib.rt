@@ -1,0 +1,13 @@
+//! `play`: an elementary stream to raw frames, picture by picture.
+#![tactic(auto)]
+
+mod command;
+mod fault;
+mod header;
+mod pairs;
+mod picture;
+mod playback;
+mod player;
+mod slices;
+
+pub use command::play;

@@ -1,0 +1,70 @@
+ghost use Rattle.std.specs.Prelude.{◌≡◌, IfOk, IfSome};
+ghost use Rattle.std.specs.Option.{option_map};
+ghost use Rattle.vc_types.specs.Planes.{planes_in, decoded_planes};
+ghost use Rattle.vc_types.specs.SequenceHeader.{sequence_of, picture_shape};
+ghost use Rattle.play_command.specs.Shapes.{HaveShape};
+ghost use Rattle.play_command.specs.Stream.{picture_in};
+ghost use Rattle.play_command.specs.Views.{picture_of};
+
+use crate::slices::read_slices;
+use byteorder::{BigEndian, ByteOrder};
+use bytes::Bytes;
+use picture_build::build;
+use std::alloc::Global;
+use vc_params::read_params;
+use vc_types::{Header, NoMemory, Plane};
+
+// A picture's number has so many bytes.
+const NUMBER_BYTES: usize = 4;
+
+/// A picture of the stream.
+#[derive(Drop)]
+pub(crate) struct Picture {
+    pub(crate) number: u32,
+    pub(crate) planes: [Plane; 3],
+}
+
+/// The picture of a data unit's body; none where it is refused.
+#[tactic(auto, unfolding(crate::specs::Stream::picture_in))]
+pub(crate) fn read_picture(
+    alloc: Global,
+    header: &Header,
+    body: Vec<u8>,
+) -> Result<Option<Picture>, NoMemory>
+    ensures value { IfOk result (λ picture. option_map picture_of picture ≡ picture_in (sequence_of header.now) body.items) }
+    ensures shape { IfOk result (λ picture. IfSome picture (λ p. HaveShape (picture_shape (sequence_of header.now)) (planes_in p.planes))) }
+{
+    if body.len() < NUMBER_BYTES {
+        return Ok(None);
+    }
+    let number = BigEndian::read_u32(&body);
+    let Ok(mut bytes) = Bytes::from_vec(body) else {
+        return Err(NoMemory);
+    };
+    bytes.advance(NUMBER_BYTES);
+    match read_planes(alloc, header, number, bytes)? {
+        Some(planes) => Ok(Some(Picture { number, planes })),
+        None => Ok(None),
+    }
+}
+
+// The planes of a picture's own bytes: its transform parameters and its slices.
+fn read_planes(
+    alloc: Global,
+    header: &Header,
+    number: u32,
+    bytes: Bytes,
+) -> Result<Option<[Plane; 3]>, NoMemory>
+    ensures value { IfOk result (λ planes. option_map planes_in planes ≡ decoded_planes (sequence_of header.now) bytes) }
+    ensures shape { IfOk result (λ planes. IfSome planes (λ p. HaveShape (picture_shape (sequence_of header.now)) (planes_in p))) }
+{
+    let Ok((plan, used)) = read_params(header, bytes.as_slice()) else {
+        return Ok(None);
+    };
+    let mut slices = bytes;
+    slices.advance(used);
+    match read_slices(alloc, &plan, number, slices)? {
+        Some(slices) => Ok(Some(build(alloc, &plan, slices)?)),
+        None => Ok(None),
+    }
+}

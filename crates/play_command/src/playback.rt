@@ -1,0 +1,111 @@
+ghost use Rattle.std.specs.Prelude.{◌≡◌, ◌<◌, ◌≤◌, ◌+◌, ◌^◌, [], Err, OnOk, IfOk};
+ghost use Rattle.std.specs.Option.{option_map};
+ghost use Rattle.link_model.specs.Frames.{is_wide};
+ghost use Rattle.vc_ports.specs.Faults.{HasCause};
+ghost use Rattle.vc_types.specs.Planes.{planes_in};
+ghost use Rattle.vc_types.specs.SequenceHeader.{sequence_of, picture_shape};
+ghost use Rattle.play_command.specs.Shapes.{HaveShape};
+ghost use Rattle.play_command.specs.Looping.{unpaired_of};
+ghost use Rattle.play_command.specs.Steps.{kept_of, next_waiting, new_frames};
+ghost use Rattle.play_command.specs.Taking.{HasShape, Completes, Shows};
+ghost use Rattle.play_command.specs.Views.{kept_by, picture_of};
+
+use crate::fault::TakeFault;
+use crate::pairs::{is_pair, waits};
+use crate::picture::{Picture, read_picture};
+use field_pairs::weave;
+use frame_writer::write_frame;
+use std::alloc::Global;
+use vc_ports::Sink;
+use vc_types::{Header, NoMemory, Plane, Shape};
+
+/// What is kept of a stream behind its first header: at most one field.
+#[derive(Drop)]
+pub(crate) struct Playback {
+    pub(crate) header: Header,
+    // With field coding, the earlier field of a frame, which waits for the very next picture.
+    pub(crate) waiting: Option<Picture>,
+    pub(crate) pictures: u64,
+    pub(crate) frames: u64,
+}
+
+impl Playback {
+    /// A stream without pictures.
+    pub(crate) fn new(header: Header) -> Playback
+        ensures { kept_by result ≡ kept_of (record { sequence = sequence_of header; pictures = [] }) }
+    {
+        Playback {
+            header,
+            waiting: None,
+            pictures: 0,
+            frames: 0,
+        }
+    }
+
+    /// Takes the picture of a data unit's body, and writes the frame that it completes.
+    pub(crate) fn show<O: Sink>(
+        &mut self,
+        alloc: Global,
+        body: Vec<u8>,
+        output: &mut O,
+    ) -> Result<(), TakeFault>
+        requires few { (self.old.pictures < 2 ^ 32) × (self.old.frames ≤ self.old.pictures) }
+        requires shape { HasShape (kept_by self.old) }
+        ensures value { Shows body.items (kept_by self.old) (kept_by self.new) (O.held output.old) (O.held output.new) result }
+        ensures cause { HasCause (O.faults output.old) (O.faults output.new) (result ≡ Err TakeFault.WriteFault) }
+        ensures few { OnOk result ((self.new.pictures ≡ self.old.pictures + 1) × (self.new.frames ≤ self.new.pictures)) }
+        ensures shape { OnOk result (HasShape (kept_by self.new)) }
+    {
+        let Some(picture) = read_picture(alloc, &self.header, body)? else {
+            return Err(TakeFault::Refused);
+        };
+        let frame = self.completed(alloc, picture)?;
+        self.pictures += 1;
+        if let Some(planes) = frame {
+            let two = is_wide(&self.header.shape());
+            write_frame(alloc, output, &planes, two)?;
+            self.frames += 1;
+        }
+        Ok(())
+    }
+
+    /// How many fields are part of no frame.
+    pub(crate) fn unpaired(&self) -> u64
+        requires { self.now.frames < 2 ^ 32 }
+        ensures { result ≡ unpaired_of (kept_by self.now) }
+    {
+        if self.header.fields {
+            self.pictures.saturating_sub(2 * self.frames)
+        } else {
+            0
+        }
+    }
+
+    // The frame that a picture completes: itself or, with field coding, the field that waits and it.
+    fn completed(&mut self, alloc: Global, picture: Picture) -> Result<Option<[Plane; 3]>, NoMemory>
+        requires shape { HasShape (kept_by self.old) }
+        requires picture { HaveShape (picture_shape (sequence_of self.old.header)) (planes_in picture.planes) }
+        ensures value { IfOk result (Completes (kept_by self.old) (picture_of picture) (kept_by self.new)) }
+        ensures shape { OnOk result (HasShape (kept_by self.new)) }
+    {
+        if !self.header.fields {
+            return Ok(Some(picture.planes));
+        }
+        match self.waiting.take() {
+            Some(earlier) if is_pair(&earlier, &picture) => {
+                let frame = weave(alloc, earlier.planes, picture.planes, self.header.top_first)?;
+                Ok(Some(frame))
+            }
+            _ => {
+                self.waiting = waits(picture);
+                Ok(None)
+            }
+        }
+    }
+}
+
+fn is_wide(shape: &Shape) -> bool
+    ensures { result ≡ is_wide shape.now }
+{
+    shape.luma_depth > 8 || shape.colour_depth > 8
+}
