@@ -1,0 +1,5 @@
+pub mod Infos
+pub mod Streams
+pub mod Written
+pub mod Parts
+pub mod Rows

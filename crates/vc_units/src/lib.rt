@@ -1,0 +1,18 @@
+//! Elementary streams: data units, each behind a parse info header of 13 bytes, read and written unit by unit.
+#![tactic(auto)]
+
+mod codes;
+mod fault;
+mod laws;
+mod reader;
+mod unit;
+mod writer;
+
+pub use fault::UnitFault;
+pub use laws::written_unit_is_read;
+pub use reader::{UnitReader, next_unit};
+pub use unit::Unit;
+pub use writer::write_unit;
+
+#[cfg(test)]
+mod tests;
