@@ -1,0 +1,3 @@
+pub mod RowsOfRasters
+pub mod Fields
+pub mod FieldRows

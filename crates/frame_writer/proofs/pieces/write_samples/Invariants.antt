@@ -1,0 +1,14 @@
+use Rattle.std.proofs.Common.{◌≤◌, ◌-◌, length, take}
+use Rattle.vc_ports.specs.Writing.{Grew}
+use Rattle.frame_writer.specs.Samples.{bytes_of}
+use Rattle.frame_writer.proofs.pieces.write_samples.Given as goal
+
+abbrev pub invariant-pieces : goal.invariant-pieces
+invariant-pieces g l = record {
+  within : l.at ≤ length l.samples;
+  grew : Grew (g.O.Sink.held l.fn.sink) (g.O.Sink.held l.sink) (bytes_of l.two (take l.at l.samples));
+  later : g.O.Sink.faults l.fn.sink ≤ g.O.Sink.faults l.sink;
+}
+
+abbrev pub decreases-pieces : goal.decreases-pieces
+decreases-pieces g l = length l.samples - l.at

@@ -1,0 +1,30 @@
+ghost use Rattle.std.specs.Prelude.{◌≡◌, false, length};
+ghost use Rattle.frame_writer.specs.Samples.{FitBytes, bytes_of, byte_count};
+
+use byteorder::{ByteOrder, LittleEndian};
+
+// How many bytes so many samples have.
+pub(crate) fn byte_count(samples: &[u16], two: bool) -> usize
+    ensures { result ≡ byte_count two samples.now }
+{
+    if two {
+        2 * samples.len()
+    } else {
+        samples.len()
+    }
+}
+
+// Fills a buffer with the bytes of samples, which are below 256 where they have one each.
+pub(crate) fn put_samples(buffer: &mut [u8], samples: &[u16], two: bool)
+    requires room { length buffer.old ≡ byte_count two samples.now }
+    requires narrow { (two ≡ false) → FitBytes samples.now }
+    ensures { buffer.new ≡ bytes_of two samples.now }
+{
+    if two {
+        LittleEndian::write_u16_into(samples, buffer);
+    } else {
+        for (i, sample) in samples.iter().enumerate() {
+            buffer[i] = *sample as u8;
+        }
+    }
+}
