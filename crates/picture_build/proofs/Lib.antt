@@ -1,0 +1,10 @@
+pub mod Samples
+pub mod FilledRows
+pub mod PlacedSlices
+pub mod WholeSlices
+pub mod RasterLists
+pub mod PlaneSizes
+pub mod GridCells
+pub mod PlacedGrids
+pub mod BuiltPlanes
+pub mod WholePictures

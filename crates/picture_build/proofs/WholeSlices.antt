@@ -1,0 +1,125 @@
+-- Slices that were decoded are whole, and their coefficients are small.
+use Rattle.std.proofs.Common.{◌≡◌, ℕ, suc, ◌+◌, ◌-◌, ◌^◌, ◌<◌, Bool, true, false, List, [], ◌∷◌, ◌++◌, length, ℤ, pos, unsigned_abs, arith, refl, ap, sym, ◌∙◌, inl, inr, length-append}
+use Rattle.std.specs.Prelude.{map, replicate, slice_index_or, nat_le, nat_lt, if◌then◌else◌, ◌||◌, Result, Ok, Err}
+use Rattle.std.specs.List.{flat_map, list_any, enumerate_from, zip, sum_by}
+use Rattle.std.proofs.lemmas.Bool.{cases_eq}
+use Rattle.std.proofs.lemmas.Bool.Decides.{nat_tests}
+use Rattle.std.proofs.lemmas.List.{length-map, length-replicate, get_or_append_left, get_or_push}
+use Rattle.std.proofs.lemmas.List.Folds.{list_any-append, list_any_at}
+use Rattle.std.proofs.lemmas.List.Sums.{sum_by-cons}
+use Rattle.vc_types.specs.declared.rect.Rect.{Rect}
+use Rattle.vc_types.specs.declared.refusal.Unsound.{Unsound}
+use Rattle.vc_types.specs.declared.refusal.Unsound.TheVariants.{IndexRange, CoefficientRange}
+use Rattle.vc_types.specs.declared.video.Component.{Component}
+use Rattle.vc_types.specs.declared.video.Component.TheVariants.{Y, C1, C2}
+use Rattle.vc_types.specs.Bits.{bits_of}
+use Rattle.vc_types.specs.Bounded.{bounded_sints}
+use Rattle.vc_types.specs.Slices.{CodedSlice, coded_slice, Coefficients, coefficients_of, is_large, in_range, all_coefficients, decoded_slice, decoded_from, slice_coefficients, block_coefficients, quantisers}
+use Rattle.vc_types.specs.Subbands.{Subband, area, subbands, slice_rectangle, slice_coefficient_count}
+use Rattle.vc_types.specs.TransformParameters.{Parameters}
+use Rattle.vc_types.proofs.BoundedLists.{length-bounded_sints}
+use Rattle.picture_build.specs.Whole.{IsWholeSlice, AreWholeSlices}
+
+-- ---- how many coefficients a slice has
+
+length-indices : (rectangle : Subband → Rect) (index : ℕ → ℕ) (n : ℕ) (bands : List Subband)
+    → length (flat_map (λ (b : ℕ × Subband). replicate (area (rectangle b.1)) (index b.0)) (enumerate_from n bands)) ≡ sum_by area (map rectangle bands)
+length-indices rectangle index n [] = refl
+length-indices rectangle index n (b ∷ bands) =
+    length-append (replicate (area (rectangle b)) (index n)) _
+    ∙ ap (λ (k : ℕ). k + length (flat_map (λ (b : ℕ × Subband). replicate (area (rectangle b.1)) (index b.0)) (enumerate_from (n + 1) bands))) (length-replicate (area (rectangle b)) (index n))
+    ∙ ap (λ (k : ℕ). area (rectangle b) + k) (length-indices rectangle index (n + 1) bands)
+    ∙ sym (sum_by-cons area (rectangle b) (map rectangle bands))
+
+length-pairs : (xs : List ℤ) (ys : List ℕ) → length xs ≡ length ys → length (zip xs ys) ≡ length xs
+length-pairs [] ys e = refl
+length-pairs (x ∷ xs) [] e = absurd (omega arith)
+length-pairs (x ∷ xs) (y ∷ ys) e = ap suc (length-pairs xs ys (omega arith))
+
+length-block : (p : Parameters) (c : Component) (n index : ℕ) (block : List ℕ) → length (block_coefficients p c n index block) ≡ slice_coefficient_count p c n
+unfolding block_coefficients quantisers slice_coefficient_count
+length-block p c n index block =
+    let read = length-bounded_sints (slice_coefficient_count p c n) (bits_of block) in
+    let indices = length-indices (λ b. slice_rectangle p c b n) (λ b. index - slice_index_or p.matrix b 0) 0 (subbands p.depth) in
+    length-map (zip (bounded_sints (slice_coefficient_count p c n) (bits_of block)) (quantisers p c n index)) _
+    ∙ length-pairs (bounded_sints (slice_coefficient_count p c n) (bits_of block)) (quantisers p c n index) (read ∙ sym indices) ∙ read
+
+length-all : (p : Parameters) (n : ℕ) (coded : CodedSlice) (c : Component) → length (coefficients_of (all_coefficients p n coded) c) ≡ slice_coefficient_count p c n
+length-all p n coded Y = length-block p Y n coded.index coded.y
+length-all p n coded C1 = length-block p C1 n coded.index coded.c1
+length-all p n coded C2 = length-block p C2 n coded.index coded.c2
+
+-- ---- a decoded slice
+
+module _ (p : Parameters) (n : ℕ) (s : Coefficients) where
+  whole_in_range : (all : Coefficients) (large : Bool) → ((c : Component) → length (coefficients_of all c) ≡ slice_coefficient_count p c n) → list_any is_large (all.y ++ all.c1 ++ all.c2) ≡ large
+      → ◌≡◌ {A = Result Coefficients Unsound} (if large then Err CoefficientRange else Ok all) (Ok s) → IsWholeSlice p n s
+  whole_in_range all true count small e = absurd cc
+  whole_in_range all false count small e =
+      let same : all ≡ s = cc in
+      record {
+        count = λ c. ap (λ t. length (coefficients_of t c)) (sym same) ∙ count c;
+        small = ap (λ t. list_any is_large (t.y ++ t.c1 ++ t.c2)) (sym same) ∙ small;
+      }
+
+  whole_indexed : (coded : CodedSlice) (high : Bool) → ◌≡◌ {A = Result Coefficients Unsound} (if high then Err IndexRange else in_range (all_coefficients p n coded)) (Ok s) → IsWholeSlice p n s
+  whole_indexed coded true e = absurd cc
+  whole_indexed coded false e = whole_in_range (all_coefficients p n coded) (list_any is_large ((all_coefficients p n coded).y ++ (all_coefficients p n coded).c1 ++ (all_coefficients p n coded).c2)) (length-all p n coded) refl e
+
+  pub whole_decoded : (coded : CodedSlice) → decoded_slice p n coded ≡ Ok s → IsWholeSlice p n s
+  unfolding decoded_slice
+  whole_decoded coded e = whole_indexed coded (nat_lt 127 coded.index) e
+
+  whole_from : (read : Result (CodedSlice × List ℕ) (Unit {0})) → decoded_from p n read ≡ Ok s → IsWholeSlice p n s
+  whole_from (Ok read) e = whole_decoded read.0 e
+  whole_from (Err short) e = absurd cc
+
+  -- what decoding a sound slice answers
+  pub whole_slice : (bytes : List ℕ) → slice_coefficients p n bytes ≡ Ok s → IsWholeSlice p n s
+  unfolding slice_coefficients
+  whole_slice bytes e = whole_from (coded_slice p.prefix p.scaler bytes) e
+
+-- ---- slices in raster order
+
+pub whole_none : (p : Parameters) → AreWholeSlices p []
+whole_none p n none h = absurd (omega arith)
+
+-- one slice more
+pub whole_push : (p : Parameters) (slices : List Coefficients) (s : Coefficients) → AreWholeSlices p slices → IsWholeSlice p (length slices) s → AreWholeSlices p (slices ++ s ∷ [])
+whole_push p slices s before own n none h = elim (cases_eq n (length slices)) [
+  | inl e ↦ rw (get_or_push slices s none n (sym e)) (rw e own)
+  | inr ne ↦ (
+      let count = length-append slices (s ∷ []) in
+      let earlier : n < length slices = omega (arith, count) in
+      rw (get_or_append_left slices (s ∷ []) none n earlier) (before n none earlier))
+]
+
+-- ---- small coefficients
+
+either-false : (a b : Bool) → (a || b) ≡ false → (a ≡ false) × (b ≡ false)
+either-false true b e = absurd cc
+either-false false b e = (refl, e)
+
+none_large : (s : Coefficients) (c : Component) → list_any is_large (s.y ++ s.c1 ++ s.c2) ≡ false → list_any is_large (coefficients_of s c) ≡ false
+none_large s c e = each c (either-false _ _ (sym (list_any-append is_large (s.y ++ s.c1) s.c2) ∙ e))
+  where
+    each : (c : Component) → (list_any is_large (s.y ++ s.c1) ≡ false) × (list_any is_large s.c2 ≡ false) → list_any is_large (coefficients_of s c) ≡ false
+    each Y h = (either-false _ _ (sym (list_any-append is_large s.y s.c1) ∙ h.0)).0
+    each C1 h = (either-false _ _ (sym (list_any-append is_large s.y s.c1) ∙ h.0)).1
+    each C2 h = h.1
+
+not_large : (z : ℤ) (large : Bool) → nat_le (2 ^ 60) (unsigned_abs z) ≡ large → large ≡ false → unsigned_abs z < 2 ^ 60
+not_large z large e f = grind (arith, nat_tests)
+
+-- each coefficient of a whole slice is below 2 ^ 60
+pub coefficient-small : (p : Parameters) (n : ℕ) (s : Coefficients) (c : Component) (i : ℕ) → IsWholeSlice p n s → i < slice_coefficient_count p c n → unsigned_abs (slice_index_or (coefficients_of s c) i (pos 0)) < 2 ^ 60
+coefficient-small p n s c i whole h =
+    let zs = coefficients_of s c in
+    let z = slice_index_or zs i (pos 0) in
+    let none = none_large s c whole.small in
+    let within : i < length zs = (let count = whole.count c in omega (arith, count)) in
+    not_large z (is_large z) refl (small_by (is_large z) refl none (λ e. list_any_at is_large zs i (pos 0) within e))
+  where
+    small_by : (large : Bool) {any : Bool} → large ≡ large → any ≡ false → (large ≡ true → any ≡ true) → large ≡ false
+    small_by true {any} e none at = absurd (let now = at refl in cc)
+    small_by false e none at = refl

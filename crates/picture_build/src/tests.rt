@@ -1,0 +1,232 @@
+ghost use Rattle.std.specs.Prelude.{◌≡◌, ◌<◌, IfOk, length};
+ghost use Rattle.vc_types.specs.Subbands.{slice_count};
+ghost use Rattle.vc_types.specs.TransformParameters.{parameters_of};
+ghost use Rattle.picture_build.specs.Whole.{IsWholeSlice, AreWholeSlices};
+
+use crate::build;
+use bytes::Bytes;
+use std::alloc::Global;
+use std::test::Fail;
+use vc_slice::{SliceCoeffs, SliceDone, SliceJob, cut, decode};
+use vc_types::{Plan, Plane, Shape};
+
+// The default quantisation matrix of wavelet 3 at depth 1.
+const MATRIX: [u8; 16] = [8, 4, 4, 0, 0, 0, 0, 0, 0, 0, 0, 0, 0, 0, 0, 0];
+
+// 8 by 4, two slices side by side.
+fn two_slices() -> Plan
+    ensures { (result.slices_x ≡ 2) × (result.slices_y ≡ 1) }
+{
+    Plan {
+        shape: Shape {
+            luma_width: 8,
+            luma_height: 4,
+            colour_width: 8,
+            colour_height: 4,
+            luma_depth: 8,
+            colour_depth: 8,
+        },
+        wavelet: 3,
+        wavelet_ho: 3,
+        depth: 1,
+        depth_ho: 0,
+        slices_x: 2,
+        slices_y: 1,
+        prefix: 0,
+        scaler: 1,
+        matrix: MATRIX,
+    }
+}
+
+// 2 by 2, one slice.
+fn one_slice() -> Plan
+    ensures { (result.slices_x ≡ 1) × (result.slices_y ≡ 1) }
+{
+    Plan {
+        shape: Shape {
+            luma_width: 2,
+            luma_height: 2,
+            colour_width: 2,
+            colour_height: 2,
+            luma_depth: 8,
+            colour_depth: 8,
+        },
+        wavelet: 3,
+        wavelet_ho: 3,
+        depth: 1,
+        depth_ho: 0,
+        slices_x: 1,
+        slices_y: 1,
+        prefix: 0,
+        scaler: 1,
+        matrix: MATRIX,
+    }
+}
+
+// The same with a matrix of zeros and 10 bits of colour.
+fn without_matrix() -> Plan
+    ensures { (result.slices_x ≡ 1) × (result.slices_y ≡ 1) }
+{
+    Plan {
+        shape: Shape {
+            luma_width: 2,
+            luma_height: 2,
+            colour_width: 2,
+            colour_height: 2,
+            luma_depth: 8,
+            colour_depth: 10,
+        },
+        wavelet: 3,
+        wavelet_ho: 3,
+        depth: 1,
+        depth_ho: 0,
+        slices_x: 1,
+        slices_y: 1,
+        prefix: 0,
+        scaler: 1,
+        matrix: [0; 16],
+    }
+}
+
+// One sample. Of its slices only the last has coefficients.
+fn one_sample() -> Plan
+    ensures { (result.slices_x ≡ 3) × (result.slices_y ≡ 2) }
+{
+    Plan {
+        shape: Shape {
+            luma_width: 1,
+            luma_height: 1,
+            colour_width: 1,
+            colour_height: 1,
+            luma_depth: 8,
+            colour_depth: 8,
+        },
+        wavelet: 3,
+        wavelet_ho: 3,
+        depth: 1,
+        depth_ho: 0,
+        slices_x: 3,
+        slices_y: 2,
+        prefix: 0,
+        scaler: 1,
+        matrix: MATRIX,
+    }
+}
+
+// The coefficients of a slice, by its number and its bytes.
+fn decoded(alloc: Global, plan: Plan, index: u32, bytes: &'static [u8]) -> Result<SliceCoeffs, Fail>
+    requires { index < slice_count (parameters_of plan) }
+    ensures { IfOk result (λ coeffs. IsWholeSlice (parameters_of plan) index coeffs) }
+{
+    let job = job(plan, index, Bytes::from_static(bytes))?;
+    let Ok(done) = decode(alloc, job) else {
+        return Err(Fail::from("no memory"));
+    };
+    coefficients(done)
+}
+
+fn job(plan: Plan, index: u32, bytes: Bytes) -> Result<SliceJob, Fail>
+    requires { index < slice_count (parameters_of plan) }
+    ensures { IfOk result (λ job. (job.plan ≡ plan) × (job.index ≡ index)) }
+{
+    match cut(plan.prefix, plan.scaler, bytes.as_slice()) {
+        Ok(len) if len == bytes.len() => Ok(SliceJob {
+            plan,
+            number: 0,
+            index,
+            bytes,
+        }),
+        _ => Err(Fail::from("not one whole slice")),
+    }
+}
+
+fn coefficients(done: SliceDone) -> Result<SliceCoeffs, Fail>
+    ensures { IfOk result (λ coeffs. IsWholeSlice (parameters_of done.job.plan) done.job.index coeffs) }
+{
+    let SliceDone { job: _, answer } = done;
+    match answer {
+        Ok(coeffs) => Ok(coeffs),
+        Err(_) => Err(Fail::from("unsound")),
+    }
+}
+
+// The coefficients of each slice of a picture, by its bytes.
+fn slices(alloc: Global, plan: Plan, coded: &[&'static [u8]]) -> Result<Vec<SliceCoeffs>, Fail>
+    requires { length coded.now ≡ slice_count (parameters_of plan) }
+    ensures count { IfOk result (λ slices. length slices.items ≡ slice_count (parameters_of plan)) }
+    ensures whole { IfOk result (λ slices. AreWholeSlices (parameters_of plan) slices.items) }
+{
+    let mut slices = Vec::new(alloc);
+    for i in 0..coded.len() {
+        let coeffs = decoded(alloc, plan, i as u32, coded[i])?;
+        slices.push(coeffs)?;
+    }
+    Ok(slices)
+}
+
+// The planes of a picture, by the bytes of each slice.
+fn built(alloc: Global, plan: Plan, coded: &[&'static [u8]]) -> Result<[Plane; 3], Fail>
+    requires { length coded.now ≡ slice_count (parameters_of plan) }
+{
+    let slices = slices(alloc, plan, coded)?;
+    Ok(build(alloc, &plan, slices)?)
+}
+
+#[test]
+fn each_slice_has_its_own_columns(rt: HostRuntime) -> Result<(), Fail> {
+    let planes = built(rt.alloc(), two_slices(), &[&[0, 1, 0, 0, 0], &[0, 0, 0, 0]])?;
+    let rows = [
+        0x71, 0x71, 0x80, 0x80, 0x80, 0x80, 0x80, 0x80, 0x71, 0x71, 0x80, 0x80, 0x80, 0x80, 0x80,
+        0x80, 0x80, 0x80, 0x80, 0x80, 0x80, 0x80, 0x80, 0x80, 0x80, 0x80, 0x80, 0x80, 0x80, 0x80,
+        0x80, 0x80,
+    ];
+    assert_eq!(rt; planes[0].samples(), rows.as_slice());
+    assert_eq!(rt; planes[1].samples(), [0x80; 32].as_slice());
+    assert_eq!(rt; planes[2].samples(), [0x80; 32].as_slice());
+    Ok(())
+}
+
+#[test]
+fn columns_come_before_rows(rt: HostRuntime) -> Result<(), Fail> {
+    let planes = built(rt.alloc(), one_slice(), &[&[0, 2, 0x94, 0x80, 0, 0]])?;
+    assert_eq!(rt; planes[0].samples(), [0x80, 0x80, 0x7f, 0x80].as_slice());
+    assert_eq!(rt; planes[1].samples(), [0x80; 4].as_slice());
+    assert_eq!(rt; planes[2].samples(), [0x80; 4].as_slice());
+    Ok(())
+}
+
+#[test]
+fn a_custom_matrix_counts(rt: HostRuntime) -> Result<(), Fail> {
+    let planes = built(rt.alloc(), without_matrix(), &[&[4, 1, 0x0b, 0, 0]])?;
+    assert_eq!(rt; planes[0].samples(), [0x87; 4].as_slice());
+    Ok(())
+}
+
+// 200 and -200 have the codes 41 06 and 41 07.
+#[test]
+fn samples_are_clipped_at_both_ends(rt: HostRuntime) -> Result<(), Fail> {
+    let large: &'static [u8] = &[0, 2, 0x41, 0x06, 2, 0x41, 0x06, 2, 0x41, 0x07];
+    let planes = built(rt.alloc(), without_matrix(), &[large])?;
+    assert_eq!(rt; planes[0].samples(), [255; 4].as_slice());
+    assert_eq!(rt; planes[1].samples(), [712; 4].as_slice());
+    assert_eq!(rt; planes[2].samples(), [312; 4].as_slice());
+    let planes = built(rt.alloc(), without_matrix(), &[&[0, 2, 0x41, 0x07, 0, 0]])?;
+    assert_eq!(rt; planes[0].samples(), [0; 4].as_slice());
+    Ok(())
+}
+
+#[test]
+fn slices_may_be_more_than_samples(rt: HostRuntime) -> Result<(), Fail> {
+    let none: &'static [u8] = &[0, 1, 0x0b, 0, 0];
+    let last: &'static [u8] = &[0, 1, 0x3f, 0, 0];
+    let planes = built(
+        rt.alloc(),
+        one_sample(),
+        &[none, none, none, none, none, last],
+    )?;
+    assert_eq!(rt; (planes[0].width(), planes[0].height()), (1, 1));
+    assert_eq!(rt; planes[0].samples(), [0x7f].as_slice());
+    assert_eq!(rt; planes[1].samples(), [0x80].as_slice());
+    assert_eq!(rt; planes[2].samples(), [0x80].as_slice());
+    Ok(())
+}
