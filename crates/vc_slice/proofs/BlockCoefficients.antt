@@ -72,7 +72,7 @@ length_of rectangle index n (b ∷ bands) =
     ∙ sym (sum_by-cons area (rectangle b) (map rectangle bands))
 
 module _ (p : Parameters) (c : Component) (slice index : ℕ) where
-  length-quantisers : length (quantisers p c slice index) ≡ slice_coefficient_count p c slice
+  pub length-quantisers : length (quantisers p c slice index) ≡ slice_coefficient_count p c slice
   unfolding quantisers slice_coefficient_count
   length-quantisers = length_of (λ b. slice_rectangle p c b slice) (λ b. index - slice_index_or p.matrix b 0) 0 (subbands p.depth)
 

@@ -1,13 +1,21 @@
 -- The slices of this project's encoder.
-use Rattle.std.specs.Prelude.{ℕ, ◌+◌, ◌-◌, ◌*◌, ◌/◌, Bool, true, ◌||◌, ◌==◌, nat_lt, if◌then◌else◌, ℤ, unsigned_abs, List, [], ◌∷◌, ◌++◌, length, map, replicate}
-use Rattle.std.specs.List.{flat_map, zip}
+use Rattle.std.specs.Prelude.{◌≡◌, ⊤, ℕ, ◌+◌, ◌-◌, ◌*◌, ◌/◌, Bool, true, false, ◌||◌, ◌==◌, nat_lt, if◌then◌else◌, ℤ, unsigned_abs, List, [], ◌∷◌, ◌++◌, length, map, replicate}
+use Rattle.std.specs.List.{flat_map, list_any, zip}
 use Rattle.vc_types.specs.declared.video.Component.{Component}
 use Rattle.vc_types.specs.declared.video.Component.TheVariants.{Y, C1, C2}
 use Rattle.vc_types.specs.Bits.{byte_bits, bits_of}
 use Rattle.vc_types.specs.Codes.{sint_bits}
 use Rattle.vc_types.specs.Quantisation.{quantised}
-use Rattle.vc_types.specs.Slices.{Coefficients, coefficients_of, quantisers}
+use Rattle.vc_types.specs.Slices.{Coefficients, coefficients_of, is_large, quantisers}
+use Rattle.vc_types.specs.Subbands.{slice_coefficient_count}
 use Rattle.vc_types.specs.TransformParameters.{Parameters}
+use Rattle.vc_slice.specs.declared.encoding.EncodeRefusal.{EncodeRefusal}
+use Rattle.vc_slice.specs.declared.encoding.EncodeRefusal.TheVariants.{TooLong, NoMemory}
+
+-- what can be encoded: lists of the lengths that the slice has, and magnitudes below 2 ^ 60
+pub record AreCoefficients (p : Parameters) (slice : ℕ) (s : Coefficients) : Type 0 where
+  pub lengths : (c : Component) → length (coefficients_of s c) ≡ slice_coefficient_count p c slice
+  pub small : (c : Component) → list_any is_large (coefficients_of s c) ≡ false
 
 -- ---- a block
 
@@ -54,6 +62,11 @@ encoded_length p slice index s = p.prefix + 4 + p.scaler * (component_units p sl
 -- a block's length doesn't fit its byte
 unfoldable pub is_too_long : Parameters → ℕ → ℕ → Coefficients → Bool
 is_too_long p slice index s = nat_lt 255 (component_units p slice index s Y) || nat_lt 255 (component_units p slice index s C1) || nat_lt 255 (component_units p slice index s C2)
+
+-- what a refusal says: want of memory says nothing
+abbrev pub IsRefusal : Parameters → ℕ → ℕ → Coefficients → EncodeRefusal → Type 0
+IsRefusal p slice index s (TooLong bytes) = (is_too_long p slice index s ≡ true) × (bytes ≡ encoded_length p slice index s)
+IsRefusal p slice index s NoMemory = ⊤
 
 -- the bits of a slice: prefix bytes of 0, the quantisation index, and the blocks of the three components
 unfoldable pub encoded_slice : Parameters → ℕ → ℕ → Coefficients → List Bool

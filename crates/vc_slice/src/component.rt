@@ -1,4 +1,4 @@
-ghost use Rattle.std.specs.Prelude.{◌≡◌, ◌<◌, ◌≤◌, ◌-◌, ◌+◌, ◌*◌, [], Err, IfOk, IfErr, true, false, slice_index_or};
+ghost use Rattle.std.specs.Prelude.{◌≡◌, ◌<◌, ◌≤◌, ◌-◌, ◌+◌, ◌*◌, ◌^◌, [], Err, IfOk, IfErr, true, false, slice_index_or};
 ghost use Rattle.std.specs.List.{list_any};
 ghost use Rattle.vc_types.specs.Bits.{bits_of};
 ghost use Rattle.vc_types.specs.Slices.{is_large, block_coefficients};
@@ -59,17 +59,18 @@ fn bits_of(block: &[u8]) -> Block<'_>
 }
 
 // How many coefficients of a slice a subband has.
-fn count(plan: &Plan, c: Component, b: u32, slice: u32) -> u32
+pub(crate) fn count(plan: &Plan, c: Component, b: u32, slice: u32) -> u32
     requires number { b < 1 + 3 * plan.now.depth }
     requires slice { slice < slice_count (parameters_of plan.now) }
-    ensures { result ≡ area (slice_rectangle (parameters_of plan.now) c (subband_at plan.now.depth b) slice) }
+    ensures range { result ≤ 2 ^ 26 }
+    ensures value { result ≡ area (slice_rectangle (parameters_of plan.now) c (subband_at plan.now.depth b) slice) }
 {
     let rect = slice_rect(plan, c, b, slice);
     rect.width * rect.height
 }
 
 // The slice's index less the subband's matrix value, and at least 0.
-fn quantiser(plan: &Plan, b: u32, index: u8) -> Quantiser
+pub(crate) fn quantiser(plan: &Plan, b: u32, index: u8) -> Quantiser
     requires number { b < 1 + 3 * plan.now.depth }
     requires index { index ≤ 127 }
     ensures { result.index ≡ index - slice_index_or plan.now.matrix b 0 }

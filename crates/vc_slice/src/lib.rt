@@ -4,19 +4,25 @@
 mod coded;
 mod coeffs;
 mod component;
+mod counting;
 mod decoding;
 mod done;
+mod encoding;
 mod job;
+mod laws;
 mod no_places;
 mod places;
 mod quantiser;
 mod subband;
+mod writing;
 
 pub use coded::cut;
 pub use coeffs::SliceCoeffs;
 pub use decoding::decode;
 pub use done::SliceDone;
+pub use encoding::{EncodeRefusal, encode, encoded_len};
 pub use job::SliceJob;
+pub use laws::slices_decode_apart;
 pub use no_places::NoPlaces;
 pub use places::{Hands, Places};
 pub use vc_types::{Short, Unsound};

@@ -1,5 +1,5 @@
-ghost use Rattle.std.specs.Prelude.{◌≡◌, ◌^◌, ◌<◌, ◌≤◌, ℤ, unsigned_abs, MatchOption, true, false};
-ghost use Rattle.vc_types.specs.Quantisation.{quant_factor, quant_offset, dequantised, dequantised_magnitude};
+ghost use Rattle.std.specs.Prelude.{◌≡◌, ◌^◌, ◌<◌, ◌≤◌, unsigned_abs, MatchOption, true, false};
+ghost use Rattle.vc_types.specs.Quantisation.{quant_factor, quant_offset, dequantised, dequantised_magnitude, quantised};
 ghost use Rattle.vc_types.specs.Slices.{is_large};
 
 use vc_quant::{factor, offset};
@@ -13,6 +13,7 @@ pub(crate) struct Quantiser {
     ghost factor_is: { factor ≡ quant_factor index },
     ghost offset_is: { offset ≡ quant_offset index },
     ghost factor_fits: { factor < 2 ^ 34 },
+    ghost factor_is_large: { 4 ≤ factor },
     ghost offset_fits: { offset < 2 ^ 34 },
 }
 
@@ -39,6 +40,16 @@ impl Quantiser {
         }
         let size = size as i64;
         Some(if number < 0 { -size } else { size })
+    }
+
+    // The number that a coefficient is quantised to.
+    pub(crate) fn number(&self, coefficient: i64) -> i64
+        requires { unsigned_abs coefficient < 2 ^ 60 }
+        ensures value { result ≡ quantised coefficient self.now.index }
+        ensures range { unsigned_abs result < 2 ^ 60 }
+    {
+        let size = (4 * coefficient.unsigned_abs() / self.factor) as i64;
+        if coefficient < 0 { -size } else { size }
     }
 
     fn magnitude(&self, size: u64) -> u128

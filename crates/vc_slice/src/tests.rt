@@ -1,9 +1,18 @@
+ghost use Rattle.std.specs.Prelude.{◌≡◌, IfOk, IsTrue, length, false};
+ghost use Rattle.std.specs.List.{list_any};
+ghost use Rattle.vc_types.specs.Slices.{coefficients_of, is_large};
+ghost use Rattle.vc_types.specs.Subbands.{slice_coefficient_count};
+ghost use Rattle.vc_types.specs.TransformParameters.{parameters_of};
+ghost use Rattle.vc_slice.specs.Encoding.{AreCoefficients};
+
 use crate::{
-    Hands, NoPlaces, Places, Short, SliceCoeffs, SliceDone, SliceJob, Unsound, cut, decode,
+    EncodeRefusal, Hands, NoPlaces, Places, Short, SliceCoeffs, SliceDone, SliceJob, Unsound, cut,
+    decode, encode, encoded_len, slices_decode_apart,
 };
 use bytes::Bytes;
 use std::alloc::Global;
 use std::test::Fail;
+use vc_geometry::slice_len;
 use vc_types::{Component, Plan, Shape};
 
 // 8 by 4, two slices side by side.
@@ -75,6 +84,75 @@ fn without_matrix() -> Plan {
     }
 }
 
+// One slice of a picture of 1 by 1, with two prefix bytes.
+fn one_sample() -> Plan {
+    Plan {
+        shape: Shape {
+            luma_width: 1,
+            luma_height: 1,
+            colour_width: 1,
+            colour_height: 1,
+            luma_depth: 8,
+            colour_depth: 8,
+        },
+        wavelet: 3,
+        wavelet_ho: 3,
+        depth: 1,
+        depth_ho: 0,
+        slices_x: 1,
+        slices_y: 1,
+        prefix: 2,
+        scaler: 1,
+        matrix: [8, 4, 4, 0, 0, 0, 0, 0, 0, 0, 0, 0, 0, 0, 0, 0],
+    }
+}
+
+// 2 by 2, nine slices.
+fn more_slices_than_samples() -> Plan {
+    Plan {
+        shape: Shape {
+            luma_width: 2,
+            luma_height: 2,
+            colour_width: 2,
+            colour_height: 2,
+            luma_depth: 8,
+            colour_depth: 8,
+        },
+        wavelet: 3,
+        wavelet_ho: 3,
+        depth: 1,
+        depth_ho: 0,
+        slices_x: 3,
+        slices_y: 3,
+        prefix: 0,
+        scaler: 1,
+        matrix: [8, 4, 4, 0, 0, 0, 0, 0, 0, 0, 0, 0, 0, 0, 0, 0],
+    }
+}
+
+// 128 by 64, and 2 by 2 in colour, one slice.
+fn large_slice() -> Plan {
+    Plan {
+        shape: Shape {
+            luma_width: 128,
+            luma_height: 64,
+            colour_width: 2,
+            colour_height: 2,
+            luma_depth: 8,
+            colour_depth: 8,
+        },
+        wavelet: 3,
+        wavelet_ho: 3,
+        depth: 1,
+        depth_ho: 0,
+        slices_x: 1,
+        slices_y: 1,
+        prefix: 0,
+        scaler: 255,
+        matrix: [0; 16],
+    }
+}
+
 // The first slice of a plan, as a job.
 fn first_job(plan: Plan, bytes: Bytes) -> Result<SliceJob, Fail> {
     match cut(plan.prefix, plan.scaler, bytes.as_slice()) {
@@ -106,6 +184,84 @@ fn coefficients(done: SliceDone) -> Result<SliceCoeffs, Fail> {
 fn answer(done: SliceDone) -> Result<SliceCoeffs, Unsound> {
     let SliceDone { job: _, answer } = done;
     answer
+}
+
+// The coefficients of a plan's first slice: those of Y, and zeros behind them and in colour.
+fn first_coeffs(alloc: Global, plan: &Plan, y: &[i64]) -> Result<SliceCoeffs, Fail>
+    ensures { IfOk result (λ s. AreCoefficients (parameters_of plan.now) 0 s) }
+{
+    let coeffs = SliceCoeffs::new(
+        padded(alloc, plan, Component::Y, y)?,
+        padded(alloc, plan, Component::C1, &[])?,
+        padded(alloc, plan, Component::C2, &[])?,
+    );
+    if fit(plan, &coeffs, Component::Y)
+        && fit(plan, &coeffs, Component::C1)
+        && fit(plan, &coeffs, Component::C2)
+    {
+        Ok(coeffs)
+    } else {
+        Err(Fail::from("not the slice's coefficients"))
+    }
+}
+
+fn padded(alloc: Global, plan: &Plan, c: Component, some: &[i64]) -> Result<Vec<i64>, Fail> {
+    let mut all = Vec::from_slice(alloc, some)?;
+    for _ in some.len()..slice_len(plan, c, 0) as usize {
+        all.push(0)?;
+    }
+    Ok(all)
+}
+
+fn fit(plan: &Plan, coeffs: &SliceCoeffs, c: Component) -> bool
+    ensures length { IsTrue result → length (coefficients_of coeffs.now c) ≡ slice_coefficient_count (parameters_of plan.now) c 0 }
+    ensures small { IsTrue result → list_any is_large (coefficients_of coeffs.now c) ≡ false }
+{
+    let some = coeffs.component(c);
+    some.len() == slice_len(plan, c, 0) as usize && !any_large(some)
+}
+
+fn any_large(coefficients: &[i64]) -> bool
+    ensures { result ≡ list_any is_large coefficients.now }
+{
+    for coefficient in coefficients {
+        if coefficient.unsigned_abs() >= 1 << 60 {
+            return true;
+        }
+    }
+    false
+}
+
+// Encodes the first slice of a plan from these coefficients of Y and no others. The length is that of `encoded_len`.
+fn encode_first(
+    alloc: Global,
+    plan: &Plan,
+    y: &[i64],
+    q: u8,
+) -> Result<Result<Vec<u8>, EncodeRefusal>, Fail> {
+    let coeffs = first_coeffs(alloc, plan, y)?;
+    if q > 127 {
+        return Err(Fail::from("no index"));
+    }
+    let len = encoded_len(plan, 0, &coeffs, q);
+    let answer = encode(alloc, plan, 0, &coeffs, q);
+    let told = match &answer {
+        Ok(bytes) => bytes.len() as u64,
+        Err(EncodeRefusal::TooLong { bytes }) => *bytes,
+        Err(EncodeRefusal::NoMemory) => len,
+    };
+    if told == len {
+        Ok(answer)
+    } else {
+        Err(Fail::from("another length"))
+    }
+}
+
+fn encoded(alloc: Global, plan: Plan, y: &[i64], q: u8) -> Result<Vec<u8>, Fail> {
+    match encode_first(alloc, &plan, y, q)? {
+        Ok(bytes) => Ok(bytes),
+        Err(_) => Err(Fail::from("refused")),
+    }
 }
 
 #[test]
@@ -146,6 +302,89 @@ fn an_index_of_128_is_unsound(rt: HostRuntime) -> Result<(), Fail> {
     let done = decoded(rt.alloc(), two_slices(), &[128, 0, 0, 0])?;
     assert!(rt; matches!(answer(done), Err(Unsound::IndexRange)));
     Ok(())
+}
+
+#[test]
+fn a_coefficient_of_2_to_60_is_unsound(rt: HostRuntime) -> Result<(), Fail> {
+    let most = decoded(
+        rt.alloc(),
+        one_slice(),
+        &[
+            0, 16, 0, 0, 0, 0, 0, 0, 0, 0, 0, 0, 0, 0, 0, 0, 0, 0xbf, 0, 0,
+        ],
+    )?;
+    assert_eq!(rt;
+        coefficients(most)?.component(Component::Y),
+        [(1 << 60) - 1, 0, 0, 0].as_slice()
+    );
+    let above = decoded(
+        rt.alloc(),
+        one_slice(),
+        &[
+            0, 16, 0, 0, 0, 0, 0, 0, 0, 0, 0, 0, 0, 0, 0, 0, 1, 0xbf, 0, 0,
+        ],
+    )?;
+    assert!(rt; matches!(answer(above), Err(Unsound::CoefficientRange)));
+    Ok(())
+}
+
+#[test]
+fn a_slice_is_encoded_up_to_its_last_number(rt: HostRuntime) -> Result<(), Fail> {
+    let alloc = rt.alloc();
+    assert_eq!(rt;
+        encoded(alloc, one_slice(), &[0, 1, 0, 1], 0)?.as_slice(),
+        [0, 2, 0x94, 0xbf, 0, 0].as_slice()
+    );
+    assert_eq!(rt;
+        encoded(alloc, one_slice(), &[-1], 0)?.as_slice(),
+        [0, 1, 0x3f, 0, 0].as_slice()
+    );
+    assert_eq!(rt;
+        encoded(alloc, one_slice(), &[], 9)?.as_slice(),
+        [9, 0, 0, 0].as_slice()
+    );
+    assert_eq!(rt;
+        encoded(alloc, one_sample(), &[-1], 0)?.as_slice(),
+        [0, 0, 0, 1, 0x3f, 0, 0].as_slice()
+    );
+    assert_eq!(rt;
+        encoded(alloc, more_slices_than_samples(), &[], 0)?.as_slice(),
+        [0, 0, 0, 0].as_slice()
+    );
+    Ok(())
+}
+
+#[test]
+fn the_matrix_counts_when_a_slice_is_encoded(rt: HostRuntime) -> Result<(), Fail> {
+    let alloc = rt.alloc();
+    assert_eq!(rt;
+        encoded(alloc, without_matrix(), &[7], 4)?.as_slice(),
+        [4, 1, 0x0b, 0, 0].as_slice()
+    );
+    assert_eq!(rt;
+        encoded(alloc, one_slice(), &[7], 4)?.as_slice(),
+        [4, 1, 0x02, 0, 0].as_slice()
+    );
+    Ok(())
+}
+
+// 4,335 codes of 120 bits are 255 units of 255 bytes.
+#[test]
+fn a_block_has_at_most_255_units(rt: HostRuntime) -> Result<(), Fail> {
+    let alloc = rt.alloc();
+    let plan = large_slice();
+    let most = encoded(alloc, plan, vec![in alloc; 1 << 59; 4335]?.as_slice(), 0)?;
+    assert_eq!(rt; most.len(), 4 + 255 * 255);
+    assert_eq!(rt; most[1], 255);
+    let above = vec![in alloc; 1 << 59; 4336]?;
+    let refused = encode_first(alloc, &plan, above.as_slice(), 0)?;
+    assert!(rt; matches!(refused, Err(EncodeRefusal::TooLong { bytes: 65284 })));
+    Ok(())
+}
+
+#[test]
+fn slices_are_decoded_apart() {
+    slices_decode_apart();
 }
 
 #[test]

@@ -12,11 +12,11 @@ loop-b-init c = record {
 pub returns-in_err-read_subband-clause-large : goal.returns-in_err-read_subband-clause-large
 returns-in_err-read_subband-clause-large c = λ e.
     let few : c.loop-b.b < 1 + 3 * c.args.plan.now.depth = omega arith in
-    subband_large (parameters_of c.args.plan.now) c.args.c c.args.slice c.args.index c.loop-b.coeffs.items _ c.loop-b.b c.count-count.result c.quantiser-quantiser.result.index c.loop-b.bits few c.count-count.ensures c.quantiser-quantiser.ensures c.loop-b.invariant.read (c.in_err-read_subband.ensures.large (search rules))
+    subband_large (parameters_of c.args.plan.now) c.args.c c.args.slice c.args.index c.loop-b.coeffs.items _ c.loop-b.b c.count-count.result c.quantiser-quantiser.result.index c.loop-b.bits few c.count-count.ensures.value c.quantiser-quantiser.ensures c.loop-b.invariant.read (c.in_err-read_subband.ensures.large (search rules))
 
 pub loop-b-preserved : goal.loop-b-preserved
 loop-b-preserved c = record {
-  read = subband_read (parameters_of c.args.plan.now) c.args.c c.args.slice c.args.index c.loop-b.coeffs.items c.read_subband.new.coeffs.items _ c.loop-b.b c.count-count.result c.quantiser-quantiser.result.index c.loop-b.bits c.read_subband.new.block (omega arith) c.count-count.ensures c.quantiser-quantiser.ensures c.loop-b.invariant.read c.in_ok-read_subband.ensures.read;
+  read = subband_read (parameters_of c.args.plan.now) c.args.c c.args.slice c.args.index c.loop-b.coeffs.items c.read_subband.new.coeffs.items _ c.loop-b.b c.count-count.result c.quantiser-quantiser.result.index c.loop-b.bits c.read_subband.new.block (omega arith) c.count-count.ensures.value c.quantiser-quantiser.ensures c.loop-b.invariant.read c.in_ok-read_subband.ensures.read;
   sound = c.in_ok-read_subband.ensures.sound;
 }
 

@@ -1,0 +1,30 @@
+use Rattle.std.proofs.Common.{◌+◌, ◌*◌, ◌<◌, ℤ, List, length, sym, ap, ◌∙◌, arith}
+use Rattle.vc_types.specs.TransformParameters.{parameters_of}
+use Rattle.vc_slice.specs.Inside.{codes_behind}
+use Rattle.vc_slice.proofs.BlockCodes.{numbers_from, all_from, all_bits, none_from, no_more_codes, enough, rest_from, subband_from}
+use Rattle.vc_slice.proofs.counting.block_len.Goals as goal
+
+pub loop-b-init : goal.loop-b-init
+loop-b-init c = record {
+  rest = rw c.component-rest.ensures (all_from (parameters_of c.args.plan.now) c.args.slice c.args.index c.args.c c.args.coeffs.now c.requires.coefficients);
+  bits = rw c.component-rest.ensures (omega (arith, ap length (all_bits (parameters_of c.args.plan.now) c.args.slice c.args.index c.args.c c.args.coeffs.now)));
+  room = omega arith;
+}
+
+pub split_at-requires : goal.split_at-requires
+split_at-requires c = enough (parameters_of c.args.plan.now) c.args.slice c.args.index c.args.c c.loop-b.b c.count.result c.loop-b.rest.now (omega arith) c.count.ensures.value c.loop-b.invariant.rest
+
+pub loop-b-preserved : goal.loop-b-preserved
+loop-b-preserved c =
+    let few : c.loop-b.b < 1 + 3 * c.args.plan.now.depth = omega arith in
+    let next = subband_from (parameters_of c.args.plan.now) c.args.slice c.args.index c.args.c c.loop-b.b c.count.result c.quantiser.result.index c.loop-b.rest.now c.split_at.result.0.now c.split_at.result.1.now few c.count.ensures.value c.quantiser.ensures c.split_at.ensures.front c.split_at.ensures.back c.loop-b.invariant.rest in
+    record {
+      rest = rest_from (parameters_of c.args.plan.now) c.args.slice c.args.index c.args.c c.loop-b.b c.count.result c.loop-b.rest.now c.split_at.result.1.now few c.count.ensures.value c.split_at.ensures.back c.loop-b.invariant.rest;
+      bits = c.count_subband.ensures.bits (numbers_from (parameters_of c.args.plan.now) c.args.slice c.args.index c.args.c (c.loop-b.b + 1) c.split_at.result.1.now) ∙ ap (λ (zs : List ℤ). c.loop-b.counted.bits + length (codes_behind c.loop-b.counted.zeros zs)) (sym next) ∙ c.loop-b.invariant.bits;
+      room = omega (arith, c.count_subband.ensures.room, c.split_at.ensures.front_len, c.count.ensures.range, c.loop-b.invariant.room);
+    }
+
+pub returns-clause-value : goal.returns-clause-value
+returns-clause-value c =
+    let none = none_from (parameters_of c.args.plan.now) c.args.slice c.args.index c.args.c c.loop-b.b c.loop-b.rest.now (omega arith) c.loop-b.invariant.rest in
+    omega (arith, c.loop-b.invariant.bits, ap (λ (zs : List ℤ). length (codes_behind c.loop-b.counted.zeros zs)) none, ap length (no_more_codes c.loop-b.counted.zeros))

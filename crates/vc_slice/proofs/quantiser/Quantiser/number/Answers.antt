@@ -1,0 +1,21 @@
+use Rattle.std.proofs.Common.{◌*◌, ◌/◌, pos, ◌≤ℤ◌, ◌<ℤ◌, unsigned_abs, arith, ◌∙◌, ap}
+use Rattle.std.specs.Int.{w64}
+use Rattle.std.proofs.lemmas.Int.{ints, to_z-of_z}
+use Rattle.std.proofs.Math.Nat.{div-le_self}
+use Rattle.vc_types.specs.Quantisation.{quant_factor, quantised}
+use Rattle.vc_types.proofs.Magnitudes.{negated_64, kept_64}
+use Rattle.vc_slice.proofs.quantiser.Quantiser.number.Goals as goal
+
+pub returns-then-coefficient-lt0-clause-value : goal.returns-then-coefficient-lt0-clause-value
+unfolding quantised
+returns-then-coefficient-lt0-clause-value c =
+    let size = c.unsigned_abs.ensures.value ∙ ap unsigned_abs (to_z-of_z w64 c.args.coefficient c.ranges.coefficient) in
+    let negative : c.args.coefficient <ℤ pos 0 = omega (arith, ints) in
+    negated_64 c.args.coefficient (4 * c.unsigned_abs.result / c.args.self.now.factor) (4 * unsigned_abs c.args.coefficient / quant_factor c.args.self.now.index) negative (omega (arith, size, div-le_self (4 * c.unsigned_abs.result) c.args.self.now.factor)) (cc)
+
+pub returns-else-coefficient-lt0-clause-value : goal.returns-else-coefficient-lt0-clause-value
+unfolding quantised
+returns-else-coefficient-lt0-clause-value c =
+    let size = c.unsigned_abs.ensures.value ∙ ap unsigned_abs (to_z-of_z w64 c.args.coefficient c.ranges.coefficient) in
+    let positive : pos 0 ≤ℤ c.args.coefficient = omega (arith, ints) in
+    kept_64 c.args.coefficient (4 * c.unsigned_abs.result / c.args.self.now.factor) (4 * unsigned_abs c.args.coefficient / quant_factor c.args.self.now.index) positive (omega (arith, size, div-le_self (4 * c.unsigned_abs.result) c.args.self.now.factor)) (cc)

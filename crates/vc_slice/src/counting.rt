@@ -1,0 +1,83 @@
+ghost use Rattle.std.specs.Prelude.{◌≡◌, ◌++◌, ◌∷◌, ◌+◌, ◌*◌, ◌^◌, ◌<◌, ◌≤◌, ℤ, List, unsigned_abs, length, false};
+ghost use Rattle.std.specs.List.{list_any};
+ghost use Rattle.vc_types.specs.Codes.{sint_bits};
+ghost use Rattle.vc_types.specs.Slices.{is_large};
+ghost use Rattle.vc_types.specs.Subbands.{slice_count};
+ghost use Rattle.vc_types.specs.TransformParameters.{parameters_of};
+ghost use Rattle.vc_slice.specs.Encoding.{AreCoefficients, component_bits};
+ghost use Rattle.vc_slice.specs.Inside.{subband_numbers, codes_behind};
+
+use crate::coeffs::SliceCoeffs;
+use crate::component::{count, quantiser};
+use crate::quantiser::Quantiser;
+use vc_geometry::bands;
+use vc_types::{Component, Plan};
+
+// The codes of a block's numbers, counted: the bits up to the last number that isn't 0, and the zeros behind it.
+#[derive(Clone, Copy)]
+struct Counted {
+    bits: u64,
+    zeros: u64,
+}
+
+impl Counted {
+    fn add(&mut self, number: i64)
+        requires size { unsigned_abs number < 2 ^ 60 }
+        requires room { self.old.bits + self.old.zeros < 2 ^ 62 }
+        ensures bits { (more : List ℤ) → self.new.bits + length (codes_behind self.new.zeros more) ≡ self.old.bits + length (codes_behind self.old.zeros (number ∷ more)) }
+        ensures room { self.new.bits + self.new.zeros ≤ self.old.bits + self.old.zeros + 128 }
+    {
+        if number == 0 {
+            self.zeros += 1;
+        } else {
+            self.bits += self.zeros + code_len(number);
+            self.zeros = 0;
+        }
+    }
+}
+
+// The length of a number's code in bits, its sign included.
+fn code_len(number: i64) -> u64
+    requires size { unsigned_abs number < 2 ^ 60 }
+    requires other { 0 < unsigned_abs number }
+    ensures value { result ≡ length (sint_bits number) }
+    ensures range { result ≤ 128 }
+{
+    2 * u64::from((number.unsigned_abs() + 1).ilog2()) + 2
+}
+
+// How many bits the codes of a component's numbers have, up to the last that isn't 0.
+pub(crate) fn block_len(
+    plan: &Plan,
+    c: Component,
+    slice: u32,
+    coeffs: &SliceCoeffs,
+    index: u8,
+) -> u64
+    requires slice { slice < slice_count (parameters_of plan.now) }
+    requires coefficients { AreCoefficients (parameters_of plan.now) slice coeffs.now }
+    requires index { index ≤ 127 }
+    ensures value { result ≡ length (component_bits (parameters_of plan.now) slice index coeffs.now c) }
+    ensures range { result < 2 ^ 40 }
+{
+    let mut counted = Counted { bits: 0, zeros: 0 };
+    let mut rest = coeffs.component(c);
+    for b in 0..bands(plan) {
+        let (subband, behind) = rest.split_at(count(plan, c, b, slice) as usize);
+        count_subband(&mut counted, subband, &quantiser(plan, b, index));
+        rest = behind;
+    }
+    counted.bits
+}
+
+// Counts the next numbers of a block.
+fn count_subband(counted: &mut Counted, coefficients: &[i64], quantiser: &Quantiser)
+    requires small { list_any is_large coefficients.now ≡ false }
+    requires room { counted.old.bits + counted.old.zeros + 128 * length coefficients.now < 2 ^ 61 }
+    ensures bits { (more : List ℤ) → counted.new.bits + length (codes_behind counted.new.zeros more) ≡ counted.old.bits + length (codes_behind counted.old.zeros (subband_numbers quantiser.now.index coefficients.now ++ more)) }
+    ensures room { counted.new.bits + counted.new.zeros ≤ counted.old.bits + counted.old.zeros + 128 * length coefficients.now }
+{
+    for coefficient in coefficients {
+        counted.add(quantiser.number(*coefficient));
+    }
+}

@@ -1,0 +1,137 @@
+ghost use Rattle.std.specs.Prelude.{◌≡◌, ◌++◌, ◌∷◌, [], ◌+◌, ◌*◌, ◌^◌, ◌<◌, ◌≤◌, ◌||◌, nat_lt, length, replicate, false, IfOk, IfErr, OnOk};
+ghost use Rattle.vc_types.specs.declared.video.Component.TheVariants.{Y, C1, C2};
+ghost use Rattle.vc_types.specs.Bits.{bits_of};
+ghost use Rattle.vc_types.specs.Subbands.{slice_count};
+ghost use Rattle.vc_types.specs.TransformParameters.{parameters_of};
+ghost use Rattle.vc_slice.specs.Encoding.{AreCoefficients, IsRefusal, component_bits, encoded_length, encoded_slice, is_too_long};
+ghost use Rattle.vc_slice.specs.Inside.{units_of};
+
+use crate::coeffs::SliceCoeffs;
+use crate::counting::block_len;
+use crate::writing::{units, write_block, write_byte};
+use std::alloc::Global;
+use vc_bits::BitWriter;
+use vc_types::{Component, NoMemory, Plan};
+
+/// Why a slice isn't encoded.
+#[derive(Clone, Copy, Debug, PartialEq, Eq)]
+pub enum EncodeRefusal {
+    /// A block is longer than 255 times the slice size scaler. The whole slice would have so many bytes.
+    TooLong { bytes: u64 },
+    NoMemory,
+}
+
+/// How many bytes a slice has, prefix bytes included, that is encoded at the quantisation index `q` from 0 to 127 (this
+/// project's own encoder): also where a block is longer than 255 times the slice size scaler.
+pub fn encoded_len(plan: &Plan, index: u32, coeffs: &SliceCoeffs, q: u8) -> u64
+    requires slice { index < slice_count (parameters_of plan.now) }
+    requires coefficients { AreCoefficients (parameters_of plan.now) index coeffs.now }
+    requires index { q ≤ 127 }
+    ensures { result ≡ encoded_length (parameters_of plan.now) index q coeffs.now }
+{
+    slice_len(plan, block_lens(plan, index, coeffs, q))
+}
+
+/// Encodes a slice (ST 2042-1, high-quality slice) at the quantisation index `q` from 0 to 127, in this project's own
+/// way: prefix bytes of 0, and each block as short as its codes allow. TooLong exactly where a block is longer than 255
+/// times the slice size scaler.
+pub fn encode(
+    alloc: Global,
+    plan: &Plan,
+    index: u32,
+    coeffs: &SliceCoeffs,
+    q: u8,
+) -> Result<Vec<u8>, EncodeRefusal>
+    requires slice { index < slice_count (parameters_of plan.now) }
+    requires coefficients { AreCoefficients (parameters_of plan.now) index coeffs.now }
+    requires index { q ≤ 127 }
+    ensures value { IfOk result (λ bytes. bits_of bytes.items ≡ encoded_slice (parameters_of plan.now) index q coeffs.now) }
+    ensures len { IfOk result (λ bytes. length bytes.items ≡ encoded_length (parameters_of plan.now) index q coeffs.now) }
+    ensures fits { OnOk result (is_too_long (parameters_of plan.now) index q coeffs.now ≡ false) }
+    ensures too_long { IfErr result (λ e. IsRefusal (parameters_of plan.now) index q coeffs.now e) }
+{
+    let lens = block_lens(plan, index, coeffs, q);
+    if is_too_long(plan, lens) {
+        return Err(EncodeRefusal::TooLong {
+            bytes: slice_len(plan, lens),
+        });
+    }
+    let mut w = BitWriter::new(alloc);
+    match write_slice(&mut w, plan, index, coeffs, q, lens) {
+        Ok(()) => Ok(w.finish()),
+        Err(_) => Err(EncodeRefusal::NoMemory),
+    }
+}
+
+// How many bits the codes of the three blocks have.
+#[derive(Clone, Copy)]
+struct BlockLens {
+    y: u64,
+    c1: u64,
+    c2: u64,
+}
+
+fn block_lens(plan: &Plan, index: u32, coeffs: &SliceCoeffs, q: u8) -> BlockLens
+    requires slice { index < slice_count (parameters_of plan.now) }
+    requires coefficients { AreCoefficients (parameters_of plan.now) index coeffs.now }
+    requires index { q ≤ 127 }
+    ensures y { result.y ≡ length (component_bits (parameters_of plan.now) index q coeffs.now Y) }
+    ensures c1 { result.c1 ≡ length (component_bits (parameters_of plan.now) index q coeffs.now C1) }
+    ensures c2 { result.c2 ≡ length (component_bits (parameters_of plan.now) index q coeffs.now C2) }
+    ensures range { (result.y < 2 ^ 40) × (result.c1 < 2 ^ 40) × (result.c2 < 2 ^ 40) }
+{
+    BlockLens {
+        y: block_len(plan, Component::Y, index, coeffs, q),
+        c1: block_len(plan, Component::C1, index, coeffs, q),
+        c2: block_len(plan, Component::C2, index, coeffs, q),
+    }
+}
+
+fn slice_len(plan: &Plan, lens: BlockLens) -> u64
+    requires { (lens.y < 2 ^ 40) × (lens.c1 < 2 ^ 40) × (lens.c2 < 2 ^ 40) }
+    ensures { result ≡ plan.now.prefix + 4 + plan.now.scaler * (units_of plan.now.scaler lens.y + units_of plan.now.scaler lens.c1 + units_of plan.now.scaler lens.c2) }
+{
+    let units = units(plan, lens.y) + units(plan, lens.c1) + units(plan, lens.c2);
+    u64::from(plan.prefix) + 4 + u64::from(plan.scaler) * units
+}
+
+fn is_too_long(plan: &Plan, lens: BlockLens) -> bool
+    requires { (lens.y < 2 ^ 40) × (lens.c1 < 2 ^ 40) × (lens.c2 < 2 ^ 40) }
+    ensures { result ≡ (nat_lt 255 (units_of plan.now.scaler lens.y) || nat_lt 255 (units_of plan.now.scaler lens.c1) || nat_lt 255 (units_of plan.now.scaler lens.c2)) }
+{
+    units(plan, lens.y) > 255 || units(plan, lens.c1) > 255 || units(plan, lens.c2) > 255
+}
+
+fn write_slice(
+    w: &mut BitWriter,
+    plan: &Plan,
+    index: u32,
+    coeffs: &SliceCoeffs,
+    q: u8,
+    lens: BlockLens,
+) -> Result<(), NoMemory>
+    requires slice { index < slice_count (parameters_of plan.now) }
+    requires coefficients { AreCoefficients (parameters_of plan.now) index coeffs.now }
+    requires index { q ≤ 127 }
+    requires y { lens.y ≡ length (component_bits (parameters_of plan.now) index q coeffs.now Y) }
+    requires c1 { lens.c1 ≡ length (component_bits (parameters_of plan.now) index q coeffs.now C1) }
+    requires c2 { lens.c2 ≡ length (component_bits (parameters_of plan.now) index q coeffs.now C2) }
+    requires range { (lens.y < 2 ^ 40) × (lens.c1 < 2 ^ 40) × (lens.c2 < 2 ^ 40) }
+    requires fits { (units_of plan.now.scaler lens.y ≤ 255) × (units_of plan.now.scaler lens.c1 ≤ 255) × (units_of plan.now.scaler lens.c2 ≤ 255) }
+    ensures { OnOk result (w.new ≡ w.old ++ encoded_slice (parameters_of plan.now) index q coeffs.now) }
+{
+    write_head(w, plan, q)?;
+    write_block(w, plan, Component::Y, index, coeffs, q, lens.y)?;
+    write_block(w, plan, Component::C1, index, coeffs, q, lens.c1)?;
+    write_block(w, plan, Component::C2, index, coeffs, q, lens.c2)
+}
+
+// Adds the prefix bytes, which are 0, and the quantisation index.
+fn write_head(w: &mut BitWriter, plan: &Plan, q: u8) -> Result<(), NoMemory>
+    ensures { OnOk result (w.new ≡ w.old ++ bits_of (replicate plan.now.prefix 0 ++ q ∷ [])) }
+{
+    for _i in 0..plan.prefix {
+        write_byte(w, 0)?;
+    }
+    write_byte(w, q)
+}

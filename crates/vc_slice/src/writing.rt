@@ -1,0 +1,128 @@
+ghost use Rattle.std.specs.Prelude.{◌≡◌, ◌++◌, ◌∷◌, ◌+◌, ◌-◌, ◌*◌, ◌^◌, ◌<◌, ◌≤◌, ℤ, List, unsigned_abs, length, replicate, true, false, OnOk, IfOk};
+ghost use Rattle.std.specs.List.{list_any};
+ghost use Rattle.vc_types.specs.Bits.{byte_bits};
+ghost use Rattle.vc_types.specs.Slices.{is_large};
+ghost use Rattle.vc_types.specs.Subbands.{slice_count};
+ghost use Rattle.vc_types.specs.TransformParameters.{parameters_of};
+ghost use Rattle.vc_slice.specs.Encoding.{AreCoefficients, component_bits, component_units, encoded_block};
+ghost use Rattle.vc_slice.specs.Inside.{subband_numbers, codes_behind, units_of};
+
+use crate::coeffs::SliceCoeffs;
+use crate::component::{count, quantiser};
+use crate::quantiser::Quantiser;
+use vc_bits::BitWriter;
+use vc_geometry::bands;
+use vc_golomb::write_sint;
+use vc_types::{Component, NoMemory, Plan};
+
+// The length of a block whose codes have so many bits, in units of the plan's slice size scaler.
+pub(crate) fn units(plan: &Plan, bits: u64) -> u64
+    requires range { bits < 2 ^ 40 }
+    ensures value { result ≡ units_of plan.now.scaler bits }
+    ensures enough { bits ≤ 8 * (result * plan.now.scaler) }
+    ensures range { result * plan.now.scaler < 2 ^ 40 }
+{
+    let bytes = (bits + 7) / 8;
+    let scaler = u64::from(plan.scaler);
+    (bytes + scaler - 1) / scaler
+}
+
+// Adds a component's block behind its length: the codes, which have so many bits, and ones up to the end.
+pub(crate) fn write_block(
+    w: &mut BitWriter,
+    plan: &Plan,
+    c: Component,
+    slice: u32,
+    coeffs: &SliceCoeffs,
+    index: u8,
+    bits: u64,
+) -> Result<(), NoMemory>
+    requires slice { slice < slice_count (parameters_of plan.now) }
+    requires coefficients { AreCoefficients (parameters_of plan.now) slice coeffs.now }
+    requires index { index ≤ 127 }
+    requires bits { bits ≡ length (component_bits (parameters_of plan.now) slice index coeffs.now c) }
+    requires range { bits < 2 ^ 40 }
+    requires fits { component_units (parameters_of plan.now) slice index coeffs.now c ≤ 255 }
+    ensures { OnOk result (w.new ≡ w.old ++ encoded_block plan.now.scaler (component_bits (parameters_of plan.now) slice index coeffs.now c)) }
+{
+    let units = units(plan, bits);
+    write_byte(w, units as u8)?;
+    write_codes(w, plan, c, slice, coeffs, index)?;
+    write_ones(w, 8 * (units * u64::from(plan.scaler)) - bits)
+}
+
+// Adds the codes of a component's numbers, up to the last that isn't 0.
+fn write_codes(
+    w: &mut BitWriter,
+    plan: &Plan,
+    c: Component,
+    slice: u32,
+    coeffs: &SliceCoeffs,
+    index: u8,
+) -> Result<(), NoMemory>
+    requires slice { slice < slice_count (parameters_of plan.now) }
+    requires coefficients { AreCoefficients (parameters_of plan.now) slice coeffs.now }
+    requires index { index ≤ 127 }
+    ensures { OnOk result (w.new ≡ w.old ++ component_bits (parameters_of plan.now) slice index coeffs.now c) }
+{
+    let mut zeros = 0;
+    let mut rest = coeffs.component(c);
+    for b in 0..bands(plan) {
+        let (subband, behind) = rest.split_at(count(plan, c, b, slice) as usize);
+        zeros = write_subband(w, zeros, subband, &quantiser(plan, b, index))?;
+        rest = behind;
+    }
+    Ok(())
+}
+
+// Adds the codes of the next numbers of a block, where so many zeros came just before. The zeros at the end wait for a
+// number that isn't 0: how many they are then.
+fn write_subband(
+    w: &mut BitWriter,
+    zeros: u64,
+    coefficients: &[i64],
+    quantiser: &Quantiser,
+) -> Result<u64, NoMemory>
+    requires small { list_any is_large coefficients.now ≡ false }
+    requires room { zeros + length coefficients.now < 2 ^ 61 }
+    ensures codes { IfOk result (λ left. (more : List ℤ) → w.new ++ codes_behind left more ≡ w.old ++ codes_behind zeros (subband_numbers quantiser.now.index coefficients.now ++ more)) }
+    ensures room { IfOk result (λ left. left ≤ zeros + length coefficients.now) }
+{
+    let mut zeros = zeros;
+    for coefficient in coefficients {
+        zeros = write_number(w, zeros, quantiser.number(*coefficient))?;
+    }
+    Ok(zeros)
+}
+
+fn write_number(w: &mut BitWriter, zeros: u64, number: i64) -> Result<u64, NoMemory>
+    requires size { unsigned_abs number < 2 ^ 60 }
+    requires room { zeros < 2 ^ 61 }
+    ensures codes { IfOk result (λ left. (more : List ℤ) → w.new ++ codes_behind left more ≡ w.old ++ codes_behind zeros (number ∷ more)) }
+    ensures room { IfOk result (λ left. left ≤ zeros + 1) }
+{
+    if number == 0 {
+        return Ok(zeros + 1);
+    }
+    write_ones(w, zeros)?;
+    write_sint(w, number)?;
+    Ok(0)
+}
+
+fn write_ones(w: &mut BitWriter, count: u64) -> Result<(), NoMemory>
+    ensures { OnOk result (w.new ≡ w.old ++ replicate count true) }
+{
+    for _i in 0..count {
+        w.bit(true)?;
+    }
+    Ok(())
+}
+
+pub(crate) fn write_byte(w: &mut BitWriter, byte: u8) -> Result<(), NoMemory>
+    ensures { OnOk result (w.new ≡ w.old ++ byte_bits byte) }
+{
+    for place in 0..8u8 {
+        w.bit((byte >> (7 - place)) & 1 == 1)?;
+    }
+    Ok(())
+}
