@@ -76,10 +76,6 @@ module _ (p : Parameters) (slice index : ℕ) (s : Coefficients) (y c1 c2 : ℕ)
   unfolding is_too_long
   too_long_by = rw (is_y, is_c1, is_c2) refl
 
--- none of the three is above 255
-pub all_fit : (a b c : ℕ) → (nat_lt 255 a || nat_lt 255 b || nat_lt 255 c) ≡ false → (a ≤ 255) × (b ≤ 255) × (c ≤ 255)
-all_fit a b c none = (grind (arith, nat_tests), grind (arith, nat_tests), grind (arith, nat_tests))
-
 -- ---- what is written
 
 -- one bit more of a byte
