@@ -1,6 +1,7 @@
 //! vc2link: a studio link for VC-2 pictures.
 #![tactic(auto)]
 
+mod answer;
 mod link;
 #[cfg(test)]
 mod tests;
