@@ -1,9 +1,8 @@
 -- What each kind of data unit brings.
-use Rattle.std.proofs.Common.{◌≡◌, ◌≢◌, ℕ, ◌+◌, ◌≤◌, Bool, true, false, List, [], ◌∷◌, ◌++◌, Option, Some, None, Ok, Err, refl, sym, ap, ◌∙◌, subst, arith, append-nil}
-use Rattle.std.specs.Prelude.{Result, if◌then◌else◌, ◌==◌, option_and_then, IfSome, OnOk}
+use Rattle.std.proofs.Common.{◌≡◌, ◌≢◌, ℕ, ◌+◌, Bool, true, false, List, [], Option, Some, None, Ok, Err, refl, sym, ap, ◌∙◌, subst, arith, append-nil}
+use Rattle.std.specs.Prelude.{Result, if◌then◌else◌, option_and_then, IfSome, OnOk}
 use Rattle.std.specs.Option.{option_map}
-use Rattle.std.proofs.lemmas.Bool.{cond-true, cond-false, cases_Bool, ne_eqb}
-use Rattle.vc_ports.specs.Writing.{Grew, GrewBySome}
+use Rattle.std.proofs.lemmas.Bool.{ne_eqb}
 use Rattle.vc_ports.proofs.Growing.{Grew-none}
 use Rattle.vc_types.specs.SequenceHeader.{Sequence, coded_header}
 use Rattle.vc_types.specs.declared.refusal.HeaderRefusal.{HeaderRefusal}
@@ -11,7 +10,7 @@ use Rattle.vc_units.specs.Units.{DataUnit}
 use Rattle.play_command.specs.declared.fault.TakeFault.{TakeFault}
 use Rattle.play_command.specs.declared.fault.TakeFault.TheVariants as faults
 use Rattle.play_command.specs.Steps.{Kept, kept_of, shown, new_frames, Playing}
-use Rattle.play_command.specs.Stream.{Stream, Picture, same_sequence, agreed, with_header, with_picture, picture_in, shows, takes, played, paired_frames, frames_of, raw_frames}
+use Rattle.play_command.specs.Stream.{Stream, Picture, same_sequence, with_header, with_picture, picture_in, shows, takes, played, paired_frames, raw_frames}
 use Rattle.play_command.specs.Taking.{agreed_kept, Agrees, Shows, Brought, IsKept, IsWithin}
 use Rattle.play_command.proofs.Showing.{begun, shown-kept, played-more}
 

@@ -1,5 +1,5 @@
 -- A field that completes a frame.
-use Rattle.std.proofs.Common.{◌≡◌, Bool, true, false, List, [], ◌∷◌, Option, Some, None, refl, sym, ap, ◌∙◌}
+use Rattle.std.proofs.Common.{◌≡◌, true, List, [], ◌∷◌, Some, None, refl, ap}
 use Rattle.link_model.specs.Frames.{woven}
 use Rattle.vc_types.specs.Planes.{Planes, planes_in}
 use Rattle.vc_types.specs.Rasters.{Raster}

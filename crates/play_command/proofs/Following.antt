@@ -1,12 +1,12 @@
 -- A picture more at the end of a stream's pictures: the frames that it brings, and the field that waits then.
-use Rattle.std.proofs.Common.{◌≡◌, ℕ, ◌+◌, ◌%◌, Bool, true, false, List, [], ◌∷◌, ◌++◌, length, map, Option, Some, None, refl, sym, ap, ◌∙◌, arith, inl, inr}
-use Rattle.std.specs.Prelude.{◌==◌, ◌&&◌, if◌then◌else◌}
-use Rattle.std.proofs.lemmas.Bool.{cond-true, cond-false, cases_Bool}
+use Rattle.std.proofs.Common.{◌≡◌, ◌%◌, List, [], ◌∷◌, ◌++◌, refl, ap, inl, inr}
+use Rattle.std.specs.Prelude.{◌==◌}
+use Rattle.std.proofs.lemmas.Bool.{cases_Bool}
 use Rattle.link_model.specs.Frames.{woven}
 use Rattle.vc_types.specs.Planes.{Planes}
 use Rattle.vc_types.specs.SequenceHeader.{Sequence}
 use Rattle.play_command.specs.Stream.{Picture, is_pair, paired_frames}
-use Rattle.play_command.specs.Steps.{waits, next_waiting, completed, waiting_in}
+use Rattle.play_command.specs.Steps.{next_waiting, completed, waiting_in}
 
 module _ (s : Sequence) (p : Picture) where
   abbrev frames : List Picture → List Planes

@@ -1,8 +1,7 @@
 -- What units bring, a unit more.
-use Rattle.std.proofs.Common.{◌≡◌, ℕ, Bool, true, false, List, [], ◌∷◌, ◌++◌, Option, Some, None, refl, sym, ap, ◌∙◌, append-nil, inl, inr}
-use Rattle.std.specs.Prelude.{if◌then◌else◌, ◌==◌, option_and_then, Result, Ok, Err}
+use Rattle.std.proofs.Common.{◌≡◌, ℕ, Bool, true, false, List, [], ◌∷◌, ◌++◌, Option, Some, None, refl, sym, ap, ◌∙◌, append-nil}
+use Rattle.std.specs.Prelude.{if◌then◌else◌, ◌==◌, option_and_then}
 use Rattle.std.specs.Option.{option_map}
-use Rattle.std.proofs.lemmas.Bool.{cases_Bool}
 use Rattle.vc_types.specs.SequenceHeader.{coded_header}
 use Rattle.vc_units.specs.Units.{DataUnit}
 use Rattle.play_command.specs.Stream.{Stream, Picture, Heard, nothing, with_header, with_picture, picture_in, shows, takes, takes_all, heard_of, behind, played}

@@ -1,31 +1,16 @@
 -- What a loop over the units of a source knows: at its start, behind each unit, and at each of its ends.
-use Rattle.std.proofs.Common.{◌≡◌, ◌≢◌, ℕ, suc, ◌+◌, ◌-◌, ◌<◌, ◌≤◌, Bool, true, false, List, [], ◌∷◌, ◌++◌, length, take, Option, Some, None, Ok, Err, refl, sym, ap, ◌∙◌, subst, arith, append_assoc, append-nil, length-append, inl, inr}
-use Rattle.std.specs.Prelude.{Result, ◌||◌}
-use Rattle.std.specs.List.{list_any}
+use Rattle.std.proofs.Common.{◌≡◌, ℕ, suc, ◌+◌, ◌-◌, ◌<◌, Bool, true, false, List, [], ◌∷◌, ◌++◌, Option, Some, refl, sym, ap, ◌∙◌, arith, append_assoc, append-nil, length-append, inl, inr}
 use Rattle.std.proofs.lemmas.List.Folds.{list_any-append}
-use Rattle.link_report.specs.declared.ending.Ending.{Ending}
-use Rattle.link_report.specs.declared.ending.Ending.TheVariants.{InputFailed, OutputFailed, NoMemory, PacketLimit, StreamBad}
-use Rattle.vc_ports.specs.Reading.{Gave, GaveAll, IsAtEnd}
-use Rattle.vc_ports.specs.Runs.{Run}
-use Rattle.vc_ports.specs.Writing.{Grew, GrewBySome}
-use Rattle.vc_ports.proofs.Given.{Gave-none, Gave-then, GaveAll-then}
-use Rattle.vc_ports.proofs.Growing.{Grew-none, Grew-then, GrewBySome-all, GrewBySome-then, GrewBySome-front}
-use Rattle.vc_units.specs.Reading.{GaveUnit, GaveRefused, GaveCut, GavePart, ReadsUnit, unit_of}
-use Rattle.vc_units.specs.Units.{DataUnit, data_unit, units_within, is_end_of_sequence, unit_length}
-use Rattle.vc_units.specs.declared.fault.UnitFault.{UnitFault}
-use Rattle.vc_units.specs.declared.fault.UnitFault.TheVariants as faults
-use Rattle.vc_units.specs.declared.unit.Unit.{Unit as CodedUnit}
-use Rattle.vc_units.proofs.Infos.{data_unit-stub}
-use Rattle.vc_units.proofs.Streams.{units_within-unit, units_within-end, units_within-refused, units_within-nothing}
-use Rattle.play_command.specs.declared.fault.TakeFault.{TakeFault}
-use Rattle.play_command.specs.declared.fault.TakeFault.TheVariants as taking
-use Rattle.play_command.specs.Endings.{reading_ended, taking_ended}
-use Rattle.play_command.specs.Looping.{IsBehind, HasEnded, Stops, ReadsEnd}
-use Rattle.play_command.specs.Playing.{Outcome, split_of, IsRefused}
-use Rattle.play_command.specs.Steps.{Kept, kept_of}
+use Rattle.vc_ports.specs.Reading.{GaveAll}
+use Rattle.vc_ports.specs.Writing.{Grew}
+use Rattle.vc_ports.proofs.Given.{Gave-none, Gave-then}
+use Rattle.vc_ports.proofs.Growing.{Grew-none, Grew-then}
+use Rattle.vc_units.specs.Reading.{GaveUnit}
+use Rattle.vc_units.specs.Units.{DataUnit, units_within, is_end_of_sequence}
+use Rattle.vc_units.proofs.Streams.{units_within-unit, units_within-end, units_within-nothing}
+use Rattle.play_command.specs.Looping.{IsBehind, HasEnded}
 use Rattle.play_command.specs.Stream.{Heard, Stream, nothing, takes_all, takes, behind, played}
-use Rattle.play_command.specs.Taking.{Brought}
-use Rattle.play_command.proofs.Hearing.{heard-taken, heard-refused, taken-grows}
+use Rattle.play_command.proofs.Hearing.{heard-taken}
 
 abbrev Units : Type 0
 Units = List DataUnit × List ℕ

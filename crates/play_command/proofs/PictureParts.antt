@@ -1,11 +1,10 @@
 -- A picture's own bytes: its transform parameters, and the slices behind them.
-use Rattle.std.proofs.Common.{◌≡◌, ℕ, ◌-◌, ◌≤◌, List, length, drop, Ok, Err, Some, None, refl, sym, ap, ◌∙◌, subst, arith}
-use Rattle.std.specs.Prelude.{Result, Bool, Option}
-use Rattle.std.specs.Option.{option_map}
+use Rattle.std.proofs.Common.{◌≡◌, ℕ, ◌≤◌, List, length, drop, Ok, Err, Some, None, refl, ap, ◌∙◌, subst, arith}
+use Rattle.std.specs.Prelude.{Result, Bool}
 use Rattle.vc_types.specs.declared.refusal.ParamsRefusal.{ParamsRefusal}
 use Rattle.vc_types.specs.Bits.{bits_of}
-use Rattle.vc_types.specs.Pictures.{Picture, decoded_picture, slices_from, with_parameters, with_slices}
-use Rattle.vc_types.specs.Planes.{Planes, planes_of, decoded_planes}
+use Rattle.vc_types.specs.Pictures.{decoded_picture, slices_from, with_parameters, with_slices}
+use Rattle.vc_types.specs.Planes.{planes_of, decoded_planes}
 use Rattle.vc_types.specs.SequenceHeader.{Sequence, bytes_used, with_bytes_used}
 use Rattle.vc_types.specs.Slices.{Coefficients}
 use Rattle.vc_types.specs.Subbands.{slice_count}

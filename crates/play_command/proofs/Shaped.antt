@@ -1,9 +1,9 @@
 -- The planes that a picture of a sequence has.
-use Rattle.std.proofs.Common.{◌≡◌, ℕ, ◌<◌, ◌≤◌, ◌^◌, List, false, refl, sym, subst, arith}
+use Rattle.std.proofs.Common.{◌≡◌, ℕ, ◌<◌, ◌≤◌, ◌^◌, List, false, subst, arith}
 use Rattle.std.specs.Prelude.{IsTrue}
 use Rattle.std.proofs.Math.Pow.{pow_mono}
 use Rattle.std.proofs.lemmas.Bool.Decides.{nat_tests}
-use Rattle.frame_writer.specs.Samples.{FitBytes, HaveByteSamples}
+use Rattle.frame_writer.specs.Samples.{FitBytes}
 use Rattle.link_model.specs.Frames.{is_wide}
 use Rattle.picture_build.proofs.PlaneSizes.{component_plane-width, component_plane-height, component_plane-samples}
 use Rattle.vc_types.specs.Limits.{shape_fits}
@@ -14,7 +14,7 @@ use Rattle.vc_types.specs.TransformParameters.{Parameters}
 use Rattle.vc_types.specs.declared.shape.Shape.{Shape}
 use Rattle.vc_types.specs.declared.video.Component.{Component}
 use Rattle.vc_types.specs.declared.video.Component.TheVariants.{Y, C1, C2}
-use Rattle.play_command.specs.Shapes.{HasSize, HaveShape}
+use Rattle.play_command.specs.Shapes.{HaveShape}
 
 below_byte : (depth sample : ℕ) → depth ≤ 8 → sample < 2 ^ depth → sample < 256
 below_byte depth sample narrow h = omega (arith, pow_mono narrow)

@@ -1,12 +1,12 @@
 -- How playing ends by a fault, behind the units that were played.
-use Rattle.std.proofs.Common.{◌≡◌, ◌≢◌, ℕ, ◌-◌, ◌<◌, Bool, true, false, List, [], ◌∷◌, ◌++◌, length, Option, Some, None, Ok, Err, refl, sym, ap, ◌∙◌, subst, arith, append-nil, length-append, inl, inr}
+use Rattle.std.proofs.Common.{◌≡◌, ◌≢◌, ℕ, ◌-◌, ◌<◌, Bool, true, false, List, [], ◌∷◌, ◌++◌, Option, Some, None, Ok, Err, refl, sym, ap, ◌∙◌, subst, arith, append-nil, inl, inr}
 use Rattle.std.specs.Prelude.{Result}
 use Rattle.link_report.specs.declared.ending.Ending.{Ending}
 use Rattle.link_report.specs.declared.ending.Ending.TheVariants.{Usage, NoMemory, InputFailed, OutputFailed, WireFailed, CaptureCut, PacketLimit, RawCut, SampleTooLarge, SliceTooLarge, StreamBad, FrameLimit}
 use Rattle.link_report.specs.declared.summary.Summary.{Summary}
 use Rattle.link_report.specs.declared.summary.Summary.TheVariants as summaries
 use Rattle.vc_ports.specs.Faults.{Rose}
-use Rattle.vc_ports.specs.Reading.{Gave, GaveAll, IsAtEnd}
+use Rattle.vc_ports.specs.Reading.{Gave, IsAtEnd}
 use Rattle.vc_ports.specs.Runs.{Run}
 use Rattle.vc_ports.specs.Writing.{Grew, GrewBySome}
 use Rattle.vc_ports.proofs.Given.{Gave-then}
@@ -16,7 +16,7 @@ use Rattle.vc_units.specs.Units.{DataUnit, data_unit, units_within, is_end_of_se
 use Rattle.vc_units.specs.declared.fault.UnitFault.{UnitFault}
 use Rattle.vc_units.specs.declared.fault.UnitFault.TheVariants as faults
 use Rattle.vc_units.proofs.Infos.{data_unit-stub}
-use Rattle.vc_units.proofs.Streams.{units_within-refused, units_within-nothing}
+use Rattle.vc_units.proofs.Streams.{units_within-refused}
 use Rattle.play_command.specs.declared.fault.TakeFault.{TakeFault}
 use Rattle.play_command.specs.declared.fault.TakeFault.TheVariants as taking
 use Rattle.play_command.specs.Endings.{reading_ended, taking_ended}

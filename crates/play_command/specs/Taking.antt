@@ -12,7 +12,7 @@ use Rattle.vc_units.specs.Units.{DataUnit}
 use Rattle.play_command.specs.declared.fault.TakeFault.{TakeFault}
 use Rattle.play_command.specs.declared.fault.TakeFault.TheVariants as faults
 use Rattle.play_command.specs.Shapes.{HaveShape}
-use Rattle.play_command.specs.Steps.{Kept, kept_of, Playing, playing_of, shown, new_frames}
+use Rattle.play_command.specs.Steps.{Kept, kept_of, Playing, shown, new_frames}
 use Rattle.play_command.specs.Stream.{Stream, Picture, same_sequence, picture_in, takes, played, raw_frames}
 
 -- the field that waits has the shape of the sequence's pictures

@@ -1,4 +1,4 @@
-use Rattle.std.proofs.Common.{rules, ◌≡◌, ◌∙◌, Err, sym, ap, subst, arith}
+use Rattle.std.proofs.Common.{◌∙◌, Err, ap, subst, arith}
 use Rattle.play_command.specs.Looping.{ReadsEnd, summary_of}
 use Rattle.play_command.proofs.Loops.{at_edge}
 use Rattle.play_command.proofs.Players.{summary_is}

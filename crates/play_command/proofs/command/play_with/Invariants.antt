@@ -1,4 +1,4 @@
-use Rattle.std.proofs.Common.{◌≡◌, ◌*◌, ◌≤◌, None, List, ℕ}
+use Rattle.std.proofs.Common.{◌≡◌, ◌*◌, ◌≤◌, None}
 use Rattle.play_command.specs.Looping.{IsBehind}
 use Rattle.play_command.specs.Steps.{playing_of}
 use Rattle.play_command.specs.Stream.{Heard}

@@ -1,4 +1,4 @@
-use Rattle.std.proofs.Common.{◌≡◌, None, Some, ◌∙◌, sym, ap}
+use Rattle.std.proofs.Common.{sym, ap}
 use Rattle.vc_types.specs.SequenceHeader.{sequence_of, picture_shape}
 use Rattle.vc_types.specs.TransformParameters.{Parameters, parameters_of}
 use Rattle.play_command.proofs.PictureParts.{used-within, planes-refused, planes-unsound, planes-sound}

@@ -1,6 +1,5 @@
 use Rattle.std.proofs.Common.{rules, ◌*◌, ◌∙◌, arith}
-use Rattle.std.specs.Prelude.{None, Some}
-use Rattle.picture_build.proofs.WholeSlices.{whole_none, whole_push}
+use Rattle.picture_build.proofs.WholeSlices.{whole_push}
 use Rattle.vc_types.specs.TransformParameters.{parameters_of}
 use Rattle.play_command.proofs.SliceRuns.{behind-slice, behind-refused, behind-last}
 use Rattle.play_command.proofs.slices.read_slices.Goals as goal

@@ -1,4 +1,4 @@
-use Rattle.std.proofs.Common.{rules, ◌≡◌, ◌≢◌, Some, None, sym}
+use Rattle.std.proofs.Common.{rules, ◌≢◌, None}
 use Rattle.vc_types.specs.SequenceHeader.{coded_header}
 use Rattle.vc_units.specs.Reading.{unit_of}
 use Rattle.play_command.specs.Views.{kept_by, player_of}
