@@ -20,4 +20,5 @@ pub completes-pair : (k : Kept) (earlier p : Picture) (frame : List Raster) → 
 completes-pair k earlier p frame fields waiting pair first second is = (
   rw (fields, waiting, pair) refl,
   rw (fields, waiting, pair) (ap (λ (planes : Planes). planes ∷ []) is),
-  λ narrow. rw is (woven_fits k.sequence.top_first earlier.planes p.planes (first.narrow narrow) (second.narrow narrow)))
+  λ narrow. rw is (woven_fits k.sequence.top_first earlier.planes p.planes (first.narrow narrow) (second.narrow narrow)),
+)

@@ -69,9 +69,9 @@ module _ (packets number : ℕ) (before mid held_before held_mid : Option (List 
       units = at.units ++ u ∷ [];
       gave = Gave-then before mid after at.given gave.bytes at.gave gave.gave;
       split = λ rest. (
-        ap (units_within packets) (append_assoc at.given gave.bytes rest)
-        ∙ then_units (gave.bytes ++ rest) (u ∷ (units_within (packets - (number + 1)) rest).0, (units_within (packets - (number + 1)) rest).1) (unit_within after u gave goes_on rest)
-        ∙ ap (λ (units : List DataUnit). (units, (units_within (packets - (number + 1)) rest).1)) (sym (append_assoc at.units (u ∷ []) (units_within (packets - (number + 1)) rest).0)));
+          ap (units_within packets) (append_assoc at.given gave.bytes rest)
+          ∙ then_units (gave.bytes ++ rest) (u ∷ (units_within (packets - (number + 1)) rest).0, (units_within (packets - (number + 1)) rest).1) (unit_within after u gave goes_on rest)
+          ∙ ap (λ (units : List DataUnit). (units, (units_within (packets - (number + 1)) rest).1)) (sym (append_assoc at.units (u ∷ []) (units_within (packets - (number + 1)) rest).0)));
       count = omega (arith, length-append at.units (u ∷ []), at.count);
       goes_on = rw (list_any-append is_end_of_sequence at.units (u ∷ []), at.goes_on, goes_on) refl;
       heard = heard-taken at.units u h stream at.heard taken;

@@ -172,7 +172,8 @@ module _ (packets : ℕ) (run : Run) where
       subst (λ (x : Heard × Bool). Grew run.held_before run.held_after (played x.0.stream)) (sym ended.heard) ended.wrote,
       ap (λ (x : Heard × Bool). pictures_in x.0.stream) (sym ended.heard),
       ap (λ (x : Heard × Bool). unpaired_in x.0.stream) (sym ended.heard),
-      ap (λ (x : Heard × Bool). frames_in x.0.stream) (sym ended.heard)));
+      ap (λ (x : Heard × Bool). frames_in x.0.stream) (sym ended.heard),
+    ));
     input_failed = λ e. cc;
     output_failed = λ e. cc;
   }

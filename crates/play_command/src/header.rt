@@ -10,7 +10,11 @@ pub(crate) fn same_header(a: &Header, b: &Header) -> bool
     ensures { result ≡ same_sequence (sequence_of a.now) (sequence_of b.now) }
 {
     let version = a.major == b.major && a.minor == b.minor && a.level == b.level;
-    version && a.base == b.base && same_size(a, b) && same_scan(a, b) && same_range(&a.range, &b.range)
+    version
+        && a.base == b.base
+        && same_size(a, b)
+        && same_scan(a, b)
+        && same_range(&a.range, &b.range)
 }
 
 fn same_size(a: &Header, b: &Header) -> bool

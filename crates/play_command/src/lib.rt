@@ -11,3 +11,6 @@ mod player;
 mod slices;
 
 pub use command::play;
+
+#[cfg(test)]
+mod tests;

@@ -68,12 +68,7 @@ impl Player {
         Ok(())
     }
 
-    fn bring<O: Sink>(
-        &mut self,
-        alloc: Global,
-        unit: Unit,
-        output: &mut O,
-    ) -> Result<(), TakeFault>
+    fn bring<O: Sink>(&mut self, alloc: Global, unit: Unit, output: &mut O) -> Result<(), TakeFault>
         requires few { IsWithin (2 ^ 32 - 1) (player_of self.old) }
         ensures brought { (stream : Option Stream) → (player_of self.old).kept ≡ option_map kept_of stream → Brought stream (unit_of unit) (player_of self.new).kept (O.held output.old) (O.held output.new) result }
         ensures cause { HasCause (O.faults output.old) (O.faults output.new) (result ≡ Err TakeFault.WriteFault) }

@@ -12,11 +12,7 @@ const REPORT_FAULT: u8 = 7;
 
 /// Says in the report what a command came to, and answers the status. A fault of the report is status 7 at the
 /// command's end, and leaves every other status as it is; want of memory for the text is status 3.
-pub(crate) fn answer<E: Sink>(
-    alloc: Global,
-    outcome: Result<Summary, Ending>,
-    report: &mut E,
-) -> u8
+pub(crate) fn answer<E: Sink>(alloc: Global, outcome: Result<Summary, Ending>, report: &mut E) -> u8
     ensures { Reports outcome result (record {
       held_before = E.held report.old;
       held_after = E.held report.new;

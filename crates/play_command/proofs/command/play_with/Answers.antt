@@ -28,9 +28,12 @@ returns-in-Ok-clause-ok g c =
     let read = rw c.in-Ok-Some.field-0-is at (rw c.loop-unit.invariant.sound at c.in-Ok-Some.ensures.unit) in
     let brought = c.in-Ok.ensures.brought at.0.stream (ap (λ (p : Playing). p.kept) at.1) in
     let ends : is_end_of_sequence u ≡ true = search rules in
-    let within = within_upto (c.loop-unit._unit + 1) (2 ^ 32 - 1) (player_of c.take.new.self) (omega (arith, c.loop-unit-test.true)) (c.in-Ok.ensures.few c.loop-unit._unit c.loop-unit.invariant.few) in
-    (behind at.0 u brought.0, player_behind at.0 u brought.0 _ _ at.1 brought.3 c.in-Ok.ensures.place, within,
-    with_last c.args.packets c.loop-unit._unit _ _ _ _ at.0 at.3 (omega (arith, c.loop-unit-test.true)) _ _ u brought.0 brought.1 read.1 ends brought.2 brought.4 brought.5)
+    let within = within_upto (c.loop-unit._unit + 1) (2 ^ 32 - 1) (player_of c.take.new.self) (omega (arith, c.loop-unit-test.true)) (c.in-Ok.ensures.few c.loop-unit._unit c.loop-unit.invariant.few) in (
+      behind at.0 u brought.0,
+      player_behind at.0 u brought.0 _ _ at.1 brought.3 c.in-Ok.ensures.place,
+      within,
+      with_last c.args.packets c.loop-unit._unit _ _ _ _ at.0 at.3 (omega (arith, c.loop-unit-test.true)) _ _ u brought.0 brought.1 read.1 ends brought.2 brought.4 brought.5,
+    )
 
 pub returns-in-Err-take-clause-err : goal.returns-in-Err-take-clause-err
 returns-in-Err-take-clause-err g c =
@@ -67,8 +70,12 @@ loop-unit-preserved g c =
       borrows = c.in-Ok-Some.ensures.borrows ∙ c.loop-unit.invariant.borrows;
       sound = rw c.loop-unit.invariant.sound at c.in-Ok-Some.ensures.fault;
       near = omega (arith, c.in-Ok-Some.ensures.grows, c.loop-unit.invariant.near);
-      behind = (behind at.0 u brought.0, player_behind at.0 u brought.0 _ _ at.1 brought.3 c.in-Ok.ensures.place, omega (arith, moved, at.2),
-      with_unit c.args.packets c.loop-unit._unit _ _ _ _ at.0 at.3 (omega (arith, c.loop-unit-test.true)) _ _ u brought.0 brought.1 read.1 goes_on brought.2 brought.4 brought.5);
+      behind = (
+        behind at.0 u brought.0,
+        player_behind at.0 u brought.0 _ _ at.1 brought.3 c.in-Ok.ensures.place,
+        omega (arith, moved, at.2),
+        with_unit c.args.packets c.loop-unit._unit _ _ _ _ at.0 at.3 (omega (arith, c.loop-unit-test.true)) _ _ u brought.0 brought.1 read.1 goes_on brought.2 brought.4 brought.5,
+      );
       few = c.in-Ok.ensures.few c.loop-unit._unit c.loop-unit.invariant.few;
       input_later = omega (arith, c.loop-unit.invariant.input_later, (rw c.loop-unit.invariant.sound at c.in-Ok-Some.ensures.cause).later);
       output_later = omega (arith, c.loop-unit.invariant.output_later, c.in-Ok.ensures.cause.later);

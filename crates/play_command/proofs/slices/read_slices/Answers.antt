@@ -25,9 +25,11 @@ pub returns : goal.returns
 returns c =
     let p = parameters_of c.args.plan.now in
     let count = c.args.plan.now.slices_x * c.args.plan.now.slices_y in
-    record { value = record {
-      rest = c.loop-index.rest;
-      read = c.loop-index.invariant.read ∙ behind-last p c.loop-index.index count c.loop-index.rest c.loop-index.slices.items (omega (arith, c.loop-index-test.false));
-      count = search rules;
-      whole = c.loop-index.invariant.whole;
-    } }
+    record {
+      value = record {
+        rest = c.loop-index.rest;
+        read = c.loop-index.invariant.read ∙ behind-last p c.loop-index.index count c.loop-index.rest c.loop-index.slices.items (omega (arith, c.loop-index-test.false));
+        count = search rules;
+        whole = c.loop-index.invariant.whole;
+      };
+    }
