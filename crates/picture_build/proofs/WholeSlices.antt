@@ -1,13 +1,11 @@
 -- Slices that were decoded are whole, and their coefficients are small.
-use Rattle.std.proofs.Common.{◌≡◌, ℕ, suc, ◌+◌, ◌-◌, ◌^◌, ◌<◌, Bool, true, false, List, [], ◌∷◌, ◌++◌, length, ℤ, pos, unsigned_abs, arith, refl, ap, sym, ◌∙◌, inl, inr, length-append}
-use Rattle.std.specs.Prelude.{map, replicate, slice_index_or, nat_le, nat_lt, if◌then◌else◌, ◌||◌, Result, Ok, Err}
-use Rattle.std.specs.List.{flat_map, list_any, enumerate_from, zip, sum_by}
+use Rattle.std.proofs.Common.{◌≡◌, ℕ, suc, ◌^◌, ◌<◌, Bool, true, false, List, [], ◌∷◌, ◌++◌, length, ℤ, pos, unsigned_abs, arith, refl, ap, sym, ◌∙◌, inl, inr, length-append}
+use Rattle.std.specs.Prelude.{slice_index_or, nat_le, nat_lt, if◌then◌else◌, ◌||◌, Result, Ok, Err}
+use Rattle.std.specs.List.{list_any, zip}
 use Rattle.std.proofs.lemmas.Bool.{cases_eq}
 use Rattle.std.proofs.lemmas.Bool.Decides.{nat_tests}
-use Rattle.std.proofs.lemmas.List.{length-map, length-replicate, get_or_append_left, get_or_push}
+use Rattle.std.proofs.lemmas.List.{length-map, get_or_append_left, get_or_push}
 use Rattle.std.proofs.lemmas.List.Folds.{list_any-append, list_any_at}
-use Rattle.std.proofs.lemmas.List.Sums.{sum_by-cons}
-use Rattle.vc_types.specs.declared.rect.Rect.{Rect}
 use Rattle.vc_types.specs.declared.refusal.Unsound.{Unsound}
 use Rattle.vc_types.specs.declared.refusal.Unsound.TheVariants.{IndexRange, CoefficientRange}
 use Rattle.vc_types.specs.declared.video.Component.{Component}
@@ -15,21 +13,13 @@ use Rattle.vc_types.specs.declared.video.Component.TheVariants.{Y, C1, C2}
 use Rattle.vc_types.specs.Bits.{bits_of}
 use Rattle.vc_types.specs.Bounded.{bounded_sints}
 use Rattle.vc_types.specs.Slices.{CodedSlice, coded_slice, Coefficients, coefficients_of, is_large, in_range, all_coefficients, decoded_slice, decoded_from, slice_coefficients, block_coefficients, quantisers}
-use Rattle.vc_types.specs.Subbands.{Subband, area, subbands, slice_rectangle, slice_coefficient_count}
+use Rattle.vc_types.specs.Subbands.{slice_coefficient_count}
 use Rattle.vc_types.specs.TransformParameters.{Parameters}
 use Rattle.vc_types.proofs.BoundedLists.{length-bounded_sints}
+use Rattle.vc_slice.proofs.BlockCoefficients.{length-quantisers}
 use Rattle.picture_build.specs.Whole.{IsWholeSlice, AreWholeSlices}
 
 -- ---- how many coefficients a slice has
-
-length-indices : (rectangle : Subband → Rect) (index : ℕ → ℕ) (n : ℕ) (bands : List Subband)
-    → length (flat_map (λ (b : ℕ × Subband). replicate (area (rectangle b.1)) (index b.0)) (enumerate_from n bands)) ≡ sum_by area (map rectangle bands)
-length-indices rectangle index n [] = refl
-length-indices rectangle index n (b ∷ bands) =
-    length-append (replicate (area (rectangle b)) (index n)) _
-    ∙ ap (λ (k : ℕ). k + length (flat_map (λ (b : ℕ × Subband). replicate (area (rectangle b.1)) (index b.0)) (enumerate_from (n + 1) bands))) (length-replicate (area (rectangle b)) (index n))
-    ∙ ap (λ (k : ℕ). area (rectangle b) + k) (length-indices rectangle index (n + 1) bands)
-    ∙ sym (sum_by-cons area (rectangle b) (map rectangle bands))
 
 length-pairs : (xs : List ℤ) (ys : List ℕ) → length xs ≡ length ys → length (zip xs ys) ≡ length xs
 length-pairs [] ys e = refl
@@ -37,10 +27,10 @@ length-pairs (x ∷ xs) [] e = absurd (omega arith)
 length-pairs (x ∷ xs) (y ∷ ys) e = ap suc (length-pairs xs ys (omega arith))
 
 length-block : (p : Parameters) (c : Component) (n index : ℕ) (block : List ℕ) → length (block_coefficients p c n index block) ≡ slice_coefficient_count p c n
-unfolding block_coefficients quantisers slice_coefficient_count
+unfolding block_coefficients
 length-block p c n index block =
     let read = length-bounded_sints (slice_coefficient_count p c n) (bits_of block) in
-    let indices = length-indices (λ b. slice_rectangle p c b n) (λ b. index - slice_index_or p.matrix b 0) 0 (subbands p.depth) in
+    let indices = length-quantisers p c n index in
     length-map (zip (bounded_sints (slice_coefficient_count p c n) (bits_of block)) (quantisers p c n index)) _
     ∙ length-pairs (bounded_sints (slice_coefficient_count p c n) (bits_of block)) (quantisers p c n index) (read ∙ sym indices) ∙ read
 

@@ -63,8 +63,33 @@ fn one_slice() -> Plan
     }
 }
 
-// The same with a matrix of zeros and 10 bits of colour.
+// The same with a matrix of zeros.
 fn without_matrix() -> Plan
+    ensures { (result.slices_x ≡ 1) × (result.slices_y ≡ 1) }
+{
+    Plan {
+        shape: Shape {
+            luma_width: 2,
+            luma_height: 2,
+            colour_width: 2,
+            colour_height: 2,
+            luma_depth: 8,
+            colour_depth: 8,
+        },
+        wavelet: 3,
+        wavelet_ho: 3,
+        depth: 1,
+        depth_ho: 0,
+        slices_x: 1,
+        slices_y: 1,
+        prefix: 0,
+        scaler: 1,
+        matrix: [0; 16],
+    }
+}
+
+// The same with 10 bits of colour.
+fn deep_colour() -> Plan
     ensures { (result.slices_x ≡ 1) × (result.slices_y ≡ 1) }
 {
     Plan {
@@ -88,8 +113,33 @@ fn without_matrix() -> Plan
     }
 }
 
-// One sample. Of its slices only the last has coefficients.
+// One sample.
 fn one_sample() -> Plan
+    ensures { (result.slices_x ≡ 1) × (result.slices_y ≡ 1) }
+{
+    Plan {
+        shape: Shape {
+            luma_width: 1,
+            luma_height: 1,
+            colour_width: 1,
+            colour_height: 1,
+            luma_depth: 8,
+            colour_depth: 8,
+        },
+        wavelet: 3,
+        wavelet_ho: 3,
+        depth: 1,
+        depth_ho: 0,
+        slices_x: 1,
+        slices_y: 1,
+        prefix: 0,
+        scaler: 1,
+        matrix: MATRIX,
+    }
+}
+
+// The same in six slices, of which only the last has coefficients.
+fn six_slices() -> Plan
     ensures { (result.slices_x ≡ 3) × (result.slices_y ≡ 2) }
 {
     Plan {
@@ -199,6 +249,8 @@ fn columns_come_before_rows(rt: HostRuntime) -> Result<(), Fail> {
 fn a_custom_matrix_counts(rt: HostRuntime) -> Result<(), Fail> {
     let planes = built(rt.alloc(), without_matrix(), &[&[4, 1, 0x0b, 0, 0]])?;
     assert_eq!(rt; planes[0].samples(), [0x87; 4].as_slice());
+    assert_eq!(rt; planes[1].samples(), [0x80; 4].as_slice());
+    assert_eq!(rt; planes[2].samples(), [0x80; 4].as_slice());
     Ok(())
 }
 
@@ -206,11 +258,11 @@ fn a_custom_matrix_counts(rt: HostRuntime) -> Result<(), Fail> {
 #[test]
 fn samples_are_clipped_at_both_ends(rt: HostRuntime) -> Result<(), Fail> {
     let large: &'static [u8] = &[0, 2, 0x41, 0x06, 2, 0x41, 0x06, 2, 0x41, 0x07];
-    let planes = built(rt.alloc(), without_matrix(), &[large])?;
+    let planes = built(rt.alloc(), deep_colour(), &[large])?;
     assert_eq!(rt; planes[0].samples(), [255; 4].as_slice());
     assert_eq!(rt; planes[1].samples(), [712; 4].as_slice());
     assert_eq!(rt; planes[2].samples(), [312; 4].as_slice());
-    let planes = built(rt.alloc(), without_matrix(), &[&[0, 2, 0x41, 0x07, 0, 0]])?;
+    let planes = built(rt.alloc(), deep_colour(), &[&[0, 2, 0x41, 0x07, 0, 0]])?;
     assert_eq!(rt; planes[0].samples(), [0; 4].as_slice());
     Ok(())
 }
@@ -221,10 +273,19 @@ fn slices_may_be_more_than_samples(rt: HostRuntime) -> Result<(), Fail> {
     let last: &'static [u8] = &[0, 1, 0x3f, 0, 0];
     let planes = built(
         rt.alloc(),
-        one_sample(),
+        six_slices(),
         &[none, none, none, none, none, last],
     )?;
     assert_eq!(rt; (planes[0].width(), planes[0].height()), (1, 1));
+    assert_eq!(rt; planes[0].samples(), [0x7f].as_slice());
+    assert_eq!(rt; planes[1].samples(), [0x80].as_slice());
+    assert_eq!(rt; planes[2].samples(), [0x80].as_slice());
+    Ok(())
+}
+
+#[test]
+fn a_picture_may_have_one_sample(rt: HostRuntime) -> Result<(), Fail> {
+    let planes = built(rt.alloc(), one_sample(), &[&[0, 1, 0x3f, 0, 0]])?;
     assert_eq!(rt; planes[0].samples(), [0x7f].as_slice());
     assert_eq!(rt; planes[1].samples(), [0x80].as_slice());
     assert_eq!(rt; planes[2].samples(), [0x80].as_slice());

@@ -13,10 +13,7 @@ use crate::player::Player;
 use link_report::{Ending, Summary};
 use std::alloc::Global;
 use vc_ports::{Filled, Sink, Source, fill};
-use vc_units::{UnitFault, UnitReader, next_unit};
-
-// Parse code of an end of sequence (ST 2042-1, parse codes).
-const END_OF_SEQUENCE: u8 = 0x10;
+use vc_units::{END_OF_SEQUENCE, UnitFault, UnitReader, next_unit};
 
 /// Why no unit more is read.
 #[derive(Clone, Copy)]

@@ -18,15 +18,7 @@ use link_report::Summary;
 use std::alloc::Global;
 use vc_ports::Sink;
 use vc_seqhdr::read_header;
-use vc_units::Unit;
-
-// Parse codes (ST 2042-1, parse codes).
-const SEQUENCE_HEADER: u8 = 0x00;
-
-const HIGH_QUALITY_PICTURE: u8 = 0xe8;
-
-// The bytes of a unit before its body.
-const INFO_BYTES: u64 = 13;
+use vc_units::{HIGH_QUALITY_PICTURE, PARSE_INFO_BYTES, SEQUENCE_HEADER, Unit};
 
 /// The player between two units.
 #[derive(Drop)]
@@ -62,7 +54,7 @@ impl Player {
         ensures place { OnOk result (self.new.place ≡ self.old.place + unit_length (unit_of unit)) }
         ensures stays { OnErr result (self.new.place ≡ self.old.place) }
     {
-        let bytes = INFO_BYTES + unit.body.len() as u64;
+        let bytes = (PARSE_INFO_BYTES + unit.body.len()) as u64;
         self.bring(alloc, unit, output)?;
         self.place += bytes;
         Ok(())

@@ -8,6 +8,7 @@ mod reader;
 mod unit;
 mod writer;
 
+pub use codes::{END_OF_SEQUENCE, HIGH_QUALITY_PICTURE, PARSE_INFO_BYTES, SEQUENCE_HEADER};
 pub use fault::UnitFault;
 pub use laws::written_unit_is_read;
 pub use reader::{UnitReader, next_unit};
