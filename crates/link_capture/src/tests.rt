@@ -89,3 +89,8 @@ fn datagrams_have_no_byte_to_65535(rt: HostRuntime) -> Result<(), Fail> {
     assert_eq!(rt; next_entry(&mut reader), Ok(None));
     Ok(())
 }
+
+#[test]
+fn the_law_can_be_cited() {
+    entries_are_read_back();
+}
