@@ -71,7 +71,7 @@ module _ (packets number : ℕ) (run : Run) (mid held_mid : Option (List ℕ)) (
   wrote same = wrote_of at.units h false at.heard (all_written same)
 
   pub input_failed : (rest : List ℕ) → Gave mid run.left_after rest → data_unit rest ≡ Err faults.Short → run.held_after ≡ held_mid → Stops packets (Err InputFailed) run
-  input_failed rest gave short same = stopped (Err InputFailed) rest (at.units, rest) gave (before_rest faults.Short rest short) (accepted, short, wrote same)
+  input_failed rest gave short same = stopped (Err InputFailed) rest (at.units, rest) gave (before_rest faults.Short rest short) (accepted, at.goes_on, short, wrote same)
 
   pub no_memory : (rest : List ℕ) → Gave mid run.left_after rest → data_unit rest ≡ Err faults.Short → run.held_after ≡ held_mid → Stops packets (Err NoMemory) run
   no_memory rest gave short same =

@@ -56,7 +56,9 @@ abbrev pub Outcome : ℕ → Result Summary Ending → Run → Split → Type 0
 Outcome packets (Ok (Played pictures unpaired frames)) run s =
     AreAccepted s × (s.rest ≡ []) × (IsAtEnd run.left_after ⊎ IsTrue (has_ended s)) × Wrote run s
     × (pictures ≡ pictures_in (heard_in s).stream) × (unpaired ≡ unpaired_in (heard_in s).stream) × (frames ≡ frames_in (heard_in s).stream)
-Outcome packets (Err InputFailed) run s = AreAccepted s × (data_unit s.rest ≡ Err Short) × Wrote run s
+-- a read failed, before any unit was refused and before an end of sequence
+Outcome packets (Err InputFailed) run s = AreAccepted s × IsFalse (has_ended s) × (data_unit s.rest ≡ Err Short) × Wrote run s
+-- a write failed, or memory ran out
 Outcome packets (Err OutputFailed) run s = WrotePart run s
 Outcome packets (Err NoMemory) run s = WrotePart run s
 -- so many units were read, none of them an end of sequence, and then one byte more
