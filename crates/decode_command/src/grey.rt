@@ -1,15 +1,16 @@
 ghost use Rattle.std.specs.Prelude.{◌≡◌, ◌-◌, ◌*◌, ◌^◌, ◌≤◌, ◌<◌, false, OnOk, OnErr, IfOk, IsErr, replicate, Err};
 ghost use Rattle.std.specs.List.{flat_map};
-ghost use Rattle.link_model.specs.Frames.{is_wide, sample_bytes};
+ghost use Rattle.link_model.specs.Frames.{sample_bytes};
 ghost use Rattle.vc_ports.specs.Faults.{HasCause};
 ghost use Rattle.vc_ports.specs.Writing.{Grew, GrewBySome};
 ghost use Rattle.vc_types.specs.TransformParameters.{parameters_of};
 ghost use Rattle.decode_command.specs.Grey.{grey_bytes, grey_frame};
 ghost use Rattle.decode_command.specs.declared.grey.GreyFault.TheVariants.{NoMemory as OutOfMemory};
 
+use frame_writer::is_wide;
 use std::alloc::{AllocError, Global};
 use vc_ports::{Sink, write_all};
-use vc_types::{Plan, Shape};
+use vc_types::Plan;
 
 /// Why a frame wasn't written.
 #[derive(Clone, Copy, Debug, PartialEq, Eq)]
@@ -24,12 +25,6 @@ impl From<AllocError> for GreyFault {
     fn from(_: AllocError) -> Self {
         GreyFault::NoMemory
     }
-}
-
-fn is_wide(shape: &Shape) -> bool
-    ensures { result ≡ is_wide shape.now }
-{
-    shape.luma_depth > 8 || shape.colour_depth > 8
 }
 
 // Half of the range of samples of so many bits.

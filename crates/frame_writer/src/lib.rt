@@ -5,9 +5,11 @@ mod bytes;
 mod fault;
 mod frame;
 mod pieces;
+mod width;
 
 pub use fault::FrameFault;
 pub use frame::write_frame;
+pub use width::is_wide;
 
 #[cfg(test)]
 mod tests;

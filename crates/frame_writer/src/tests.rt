@@ -4,7 +4,7 @@ use super::*;
 use std::alloc::Global;
 use std::test::Fail;
 use vc_ports::MemSink;
-use vc_types::Plane;
+use vc_types::{Plane, Shape};
 
 fn plane(alloc: Global, width: u32, height: u32, samples: &[u16]) -> Result<Plane, Fail>
     requires { length samples.now ≡ width * height }
@@ -77,4 +77,22 @@ fn a_large_plane_goes_out_in_pieces(rt: HostRuntime) -> Result<(), Fail> {
     );
     assert_eq!(rt; sink.bytes().len(), 65_536);
     Ok(())
+}
+
+fn shape(luma_depth: u8, colour_depth: u8) -> Shape {
+    Shape {
+        luma_width: 2,
+        luma_height: 1,
+        colour_width: 1,
+        colour_height: 1,
+        luma_depth,
+        colour_depth,
+    }
+}
+
+#[test]
+fn more_than_8_bits_have_two_bytes(rt: HostRuntime) {
+    assert!(rt; !is_wide(&shape(8, 8)));
+    assert!(rt; is_wide(&shape(9, 8)));
+    assert!(rt; is_wide(&shape(8, 9)));
 }

@@ -1,6 +1,5 @@
 ghost use Rattle.std.specs.Prelude.{◌≡◌, ◌<◌, ◌≤◌, ◌+◌, ◌^◌, [], Err, OnOk, IfOk};
 ghost use Rattle.std.specs.Option.{option_map};
-ghost use Rattle.link_model.specs.Frames.{is_wide};
 ghost use Rattle.vc_ports.specs.Faults.{HasCause};
 ghost use Rattle.vc_types.specs.Planes.{planes_in};
 ghost use Rattle.vc_types.specs.SequenceHeader.{sequence_of, picture_shape};
@@ -14,10 +13,10 @@ use crate::fault::TakeFault;
 use crate::pairs::{is_pair, waits};
 use crate::picture::{Picture, read_picture};
 use field_pairs::weave;
-use frame_writer::write_frame;
+use frame_writer::{is_wide, write_frame};
 use std::alloc::Global;
 use vc_ports::Sink;
-use vc_types::{Header, NoMemory, Plane, Shape};
+use vc_types::{Header, NoMemory, Plane};
 
 /// What is kept of a stream behind its first header: at most one field.
 #[derive(Drop)]
@@ -102,10 +101,4 @@ impl Playback {
             }
         }
     }
-}
-
-fn is_wide(shape: &Shape) -> bool
-    ensures { result ≡ is_wide shape.now }
-{
-    shape.luma_depth > 8 || shape.colour_depth > 8
 }
