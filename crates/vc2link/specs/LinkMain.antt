@@ -1,5 +1,5 @@
 -- What vc2link did, by the status that it answered.
-use Rattle.std.specs.Prelude.{◌≡◌, ◌≢◌, ◌⊎◌, ℕ, Result, Ok, Err}
+use Rattle.std.specs.Prelude.{◌≡◌, ◌≢◌, ◌⊎◌, ⊤, ℕ, Result, Ok, Err}
 use Rattle.decode_command.specs.Decoding.{Decodes}
 use Rattle.decode_command.specs.declared.ended.Ended.{Ended}
 use Rattle.decode_command.specs.declared.ended.Ended.TheVariants.{Done, Unbuilt, NoMemory, InputFault, OutputFault, CaptureCut}
@@ -88,3 +88,9 @@ Does meaning status run report = ((meaning ≡ built_decode) × DecodesTo status
 abbrev pub Answers : Result Meaning ℕ → ℕ → Run → Reported → Type 0
 Answers (Ok meaning) status run report = Does meaning status run report
 Answers (Err place) status run report = IsIdle run × Reports (Err (endings.Usage place)) status report
+
+-- the words of commands that report nothing: those in the grammar, but for play
+abbrev pub ReportsNothing : Result Meaning ℕ → Type 0
+ReportsNothing (Ok (ToPlay packets)) = ⊥
+ReportsNothing (Ok meaning) = ⊤
+ReportsNothing (Err place) = ⊥

@@ -1,7 +1,7 @@
 ghost use Rattle.std.specs.Prelude.{◌≡◌, IsTrue, ◌↔◌};
 ghost use Rattle.link_words.specs.Settings.{settings_of};
 ghost use Rattle.link_words.specs.Views.{meaning_view};
-ghost use Rattle.vc2link.specs.LinkMain.{built_decode, decoded_status, Answers};
+ghost use Rattle.vc2link.specs.LinkMain.{built_decode, decoded_status, Answers, ReportsNothing};
 
 use crate::answer::answer;
 use decode_command::{Ended, decode};
@@ -22,7 +22,7 @@ pub fn link_main<S: Source, O: Sink, E: Sink>(
     output: &mut O,
     report: &mut E,
 ) -> u8
-    ensures { Answers (settings_of words.now) result (record {
+    ensures answers { Answers (settings_of words.now) result (record {
       left_before = S.left input.old;
       left_after = S.left input.new;
       held_before = O.held output.old;
@@ -37,6 +37,8 @@ pub fn link_main<S: Source, O: Sink, E: Sink>(
       faults_before = E.faults report.old;
       faults_after = E.faults report.new;
     }) }
+    // The report is not even called.
+    ensures silent { ReportsNothing (settings_of words.now) → report.new ≡ report.old }
 {
     match read_words(words) {
         Ok(Settings::Play { packets }) => {
