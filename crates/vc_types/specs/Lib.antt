@@ -18,3 +18,4 @@ pub mod Planes
 pub mod HeaderSpelling
 pub mod ParameterSpelling
 pub mod Settings
+pub mod SenderSettings
