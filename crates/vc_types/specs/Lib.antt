@@ -18,3 +18,5 @@ pub mod Planes
 pub mod HeaderSpelling
 pub mod ParameterSpelling
 pub mod Settings
+pub mod SliceCoefficients
+pub mod Encoding
