@@ -3,7 +3,8 @@
 use Rattle.std.specs.Prelude.{ℕ, ◌+◌, ◌-◌, ◌*◌, ◌%◌, Bool, true, false, ◌&&◌, ◌==◌, nat_lt, if◌then◌else◌, List, [], ◌∷◌, ◌++◌, length, map, drop, Option, Some, None, Result, Ok, Err, option_and_then}
 use Rattle.std.specs.Option.{option_map, option_map_or}
 use Rattle.std.specs.List.{flat_map}
-use Rattle.link_model.specs.Frames.{is_wide, frame_bytes, woven}
+use Rattle.vc_types.specs.RawFrames.{is_wide, frame_bytes}
+use Rattle.vc_types.specs.FieldPairs.{woven}
 use Rattle.link_model.specs.Packets.{number_at}
 use Rattle.vc_types.specs.Bits.{digit_of}
 use Rattle.vc_types.specs.HeaderSpelling.{sampling_index}

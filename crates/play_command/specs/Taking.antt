@@ -2,7 +2,7 @@
 use Rattle.std.specs.Prelude.{◌≡◌, ℕ, ◌≤◌, List, [], ◌++◌, if◌then◌else◌, Option, Some, None, Result, Ok, Err, IfSome, false}
 use Rattle.std.specs.Option.{option_map, option_to_list}
 use Rattle.frame_writer.specs.Samples.{HaveByteSamples}
-use Rattle.link_model.specs.Frames.{is_wide}
+use Rattle.vc_types.specs.RawFrames.{is_wide}
 use Rattle.vc_ports.specs.Writing.{Grew, GrewBySome}
 use Rattle.vc_types.specs.Planes.{Planes, planes_in}
 use Rattle.vc_types.specs.Rasters.{Raster}

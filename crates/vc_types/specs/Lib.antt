@@ -18,5 +18,7 @@ pub mod Planes
 pub mod HeaderSpelling
 pub mod ParameterSpelling
 pub mod Settings
+pub mod RawFrames
+pub mod FieldPairs
 pub mod SliceCoefficients
 pub mod Encoding
