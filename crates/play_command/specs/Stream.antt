@@ -8,11 +8,12 @@ use Rattle.vc_types.specs.FieldPairs.{woven}
 use Rattle.link_model.specs.Packets.{number_at}
 use Rattle.vc_types.specs.Bits.{digit_of}
 use Rattle.vc_types.specs.HeaderSpelling.{sampling_index}
+use Rattle.vc_types.specs.ParseCodes.{header_code, picture_code}
 use Rattle.vc_types.specs.Planes.{Planes, decoded_planes}
 use Rattle.vc_types.specs.SequenceHeader.{Sequence, coded_header, picture_shape}
 use Rattle.vc_types.specs.declared.refusal.HeaderRefusal.{HeaderRefusal}
 use Rattle.vc_types.specs.declared.video.SignalRange.{SignalRange}
-use Rattle.vc_units.specs.Units.{DataUnit, unit_length}
+use Rattle.vc_types.specs.DataUnits.{DataUnit, unit_length}
 
 -- ---- headers of one value
 
@@ -63,8 +64,8 @@ shows body stream = option_map (with_picture stream) (picture_in stream.sequence
 -- units bring nothing. None where the unit is refused.
 unfoldable pub takes : Option Stream → DataUnit → Option (Option Stream)
 takes stream u =
-    if u.code == 0x00 then option_map (λ next. Some next) (with_header stream (coded_header u.body))
-    else if u.code == 0xE8 then option_map (λ next. Some next) (option_and_then (shows u.body) stream)
+    if u.code == header_code then option_map (λ next. Some next) (with_header stream (coded_header u.body))
+    else if u.code == picture_code then option_map (λ next. Some next) (option_and_then (shows u.body) stream)
     else Some stream
 
 -- what came up to now, and the place of the next unit

@@ -8,7 +8,7 @@ use Rattle.vc_types.specs.Planes.{Planes, planes_in}
 use Rattle.vc_types.specs.Rasters.{Raster}
 use Rattle.vc_types.specs.SequenceHeader.{Sequence, picture_shape}
 use Rattle.vc_types.specs.declared.refusal.HeaderRefusal.{HeaderRefusal}
-use Rattle.vc_units.specs.Units.{DataUnit}
+use Rattle.vc_types.specs.DataUnits.{DataUnit}
 use Rattle.play_command.specs.declared.fault.TakeFault.{TakeFault}
 use Rattle.play_command.specs.declared.fault.TakeFault.TheVariants as faults
 use Rattle.play_command.specs.Shapes.{HaveShape}
