@@ -19,3 +19,9 @@ pub mod HeaderSpelling
 pub mod ParameterSpelling
 pub mod Settings
 pub mod SenderSettings
+pub mod ParseCodes
+pub mod DataUnits
+pub mod RawFrames
+pub mod FieldPairs
+pub mod SliceCoefficients
+pub mod Encoding
