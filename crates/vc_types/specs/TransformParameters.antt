@@ -110,7 +110,7 @@ transform_parameters sequence = do
   prefix ← prefix_bytes
   scaler ← size_scaler
   matrix ← quantisation_matrix wavelet depth
-  if padded_luma_fits (picture_shape sequence) depth then give (record {
+  if padded_luma_fits (picture_shape sequence) 0 depth then give (record {
     shape = picture_shape sequence;
     wavelet = wavelet;
     wavelet_ho = across.0;
