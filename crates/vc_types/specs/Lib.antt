@@ -19,6 +19,7 @@ pub mod HeaderSpelling
 pub mod ParameterSpelling
 pub mod Settings
 pub mod SameValues
+pub mod PictureBytes
 pub mod ParseCodes
 pub mod DataUnits
 pub mod RawFrames
