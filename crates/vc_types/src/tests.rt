@@ -91,4 +91,5 @@ fn sides_are_padded_up(rt: HostRuntime) {
 fn laws_are_called(_: HostRuntime) {
     headers_of_one_value_are_equal();
     parameters_of_one_value_are_equal();
+    video_depths_are_least();
 }
