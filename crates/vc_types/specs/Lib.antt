@@ -19,6 +19,8 @@ pub mod HeaderSpelling
 pub mod ParameterSpelling
 pub mod Settings
 pub mod SenderSettings
+pub mod SameValues
+pub mod PictureBytes
 pub mod ParseCodes
 pub mod DataUnits
 pub mod RawFrames
