@@ -79,10 +79,10 @@ abbrev quarters : Lattice
 quarters = record { width = 2; height = 2; cells = pos 0 ∷ pos 1 ∷ pos 0 ∷ pos 1 ∷ [] }
 
 -- row by row, a level of wavelet 3 makes 0 0 and -1 0 of them: columns come before rows
-pub columns_before_rows : map (λ x. inverse_level 3 1 1 (cell_at quarters) x 0) (0 ∷ 1 ∷ []) ≡ pos 0 ∷ pos 0 ∷ []
+pub columns_before_rows : map (λ x. inverse_level 3 3 1 1 (cell_at quarters) x 0) (0 ∷ 1 ∷ []) ≡ pos 0 ∷ pos 0 ∷ []
 unfolding inverse_level interleaved on_columns on_rows on_cells cell_at synthesised lifted_by synthesis_steps lifted change weighted
 columns_before_rows = refl
 
-pub columns_before_rows_below : map (λ x. inverse_level 3 1 1 (cell_at quarters) x 1) (0 ∷ 1 ∷ []) ≡ negsuc 0 ∷ pos 0 ∷ []
+pub columns_before_rows_below : map (λ x. inverse_level 3 3 1 1 (cell_at quarters) x 1) (0 ∷ 1 ∷ []) ≡ negsuc 0 ∷ pos 0 ∷ []
 unfolding inverse_level interleaved on_columns on_rows on_cells cell_at synthesised lifted_by synthesis_steps lifted change weighted
 columns_before_rows_below = refl

@@ -8,6 +8,7 @@ mod laws;
 mod level;
 mod lines;
 mod shift;
+mod sides;
 mod synthesis;
 #[cfg(test)]
 mod tests;

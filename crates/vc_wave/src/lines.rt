@@ -2,8 +2,7 @@ ghost use Rattle.std.specs.Prelude.{◌≡◌, ◌≢◌, ◌+◌, ◌*◌, ◌^
 ghost use Rattle.vc_types.specs.Lifting.{line_of};
 ghost use Rattle.vc_lift.specs.Columns.{column_of};
 ghost use Rattle.vc_wave.specs.declared.direction.Direction.TheVariants.{Synthesis, Analysis};
-ghost use Rattle.vc_wave.specs.Made.{made};
-ghost use Rattle.vc_wave.specs.Places.{place_of};
+ghost use Rattle.vc_wave.specs.Remade.{remade, sample_place};
 ghost use Rattle.vc_wave.specs.Lines.{line_at, IsInside};
 
 use crate::direction::Direction;
@@ -21,10 +20,10 @@ pub(crate) struct Lines {
 
 // Where a line has sample k: at k or, while its even and odd samples stand in two halves, in the half of its parity.
 #[inline(always)]
-fn place_of(apart: bool, half: usize, k: usize) -> usize
+fn sample_place(apart: bool, half: usize, k: usize) -> usize
     requires place { k < 2 * half }
     requires half { half < 2 ^ 60 }
-    ensures { result ≡ place_of apart half k }
+    ensures { result ≡ sample_place apart half k }
 {
     if apart { k / 2 + k % 2 * half } else { k }
 }
@@ -47,10 +46,10 @@ fn copy(to: &mut [i128], at: usize, from: &[i128], start: usize, width: usize)
 fn gather(cells: &[i128], lines: &Lines, apart: bool, block: &mut [i128])
     requires inside { IsInside lines.now (length cells.now) }
     requires block { length block.old ≡ 2 * lines.now.half * lines.now.width }
-    ensures { (x k : ℕ) → x < lines.now.width → k < 2 * lines.now.half → column_of lines.now.width block.new x k ≡ line_at cells.now lines.now x (place_of apart lines.now.half k) }
+    ensures { (x k : ℕ) → x < lines.now.width → k < 2 * lines.now.half → column_of lines.now.width block.new x k ≡ line_at cells.now lines.now x (sample_place apart lines.now.half k) }
 {
     for k in 0..2 * lines.half {
-        let start = lines.start + place_of(apart, lines.half, k) * lines.step;
+        let start = lines.start + sample_place(apart, lines.half, k) * lines.step;
         copy(block, k * lines.width, cells, start, lines.width);
     }
 }
@@ -60,11 +59,11 @@ fn gather(cells: &[i128], lines: &Lines, apart: bool, block: &mut [i128])
 fn scatter(cells: &mut [i128], lines: &Lines, apart: bool, block: &[i128])
     requires inside { IsInside lines.now (length cells.old) }
     requires block { length block.now ≡ 2 * lines.now.half * lines.now.width }
-    ensures on { (x k : ℕ) → x < lines.now.width → k < 2 * lines.now.half → line_at cells.new lines.now x (place_of apart lines.now.half k) ≡ column_of lines.now.width block.now x k }
+    ensures on { (x k : ℕ) → x < lines.now.width → k < 2 * lines.now.half → line_at cells.new lines.now x (sample_place apart lines.now.half k) ≡ column_of lines.now.width block.now x k }
     ensures off { (i : ℕ) → ((x k : ℕ) → x < lines.now.width → k < 2 * lines.now.half → i ≢ lines.now.start + k * lines.now.step + x) → line_of cells.new i ≡ line_of cells.old i }
 {
     for k in 0..2 * lines.half {
-        let at = lines.start + place_of(apart, lines.half, k) * lines.step;
+        let at = lines.start + sample_place(apart, lines.half, k) * lines.step;
         copy(cells, at, block, k * lines.width, lines.width);
     }
 }
@@ -76,7 +75,7 @@ fn merge(wavelet: u8, cells: &mut [i128], lines: &Lines, shifted: bool, block: &
     requires inside { IsInside lines.now (length cells.old) }
     requires block { length block.old ≡ 2 * lines.now.half * lines.now.width }
     requires small { (x k : ℕ) → x < lines.now.width → k < 2 * lines.now.half → unsigned_abs (line_at cells.old lines.now x k) < 2 ^ 107 }
-    ensures on { (x k : ℕ) → x < lines.now.width → k < 2 * lines.now.half → line_at cells.new lines.now x k ≡ made Synthesis wavelet shifted lines.now.half (line_at cells.old lines.now x) k }
+    ensures on { (x k : ℕ) → x < lines.now.width → k < 2 * lines.now.half → line_at cells.new lines.now x k ≡ remade Synthesis wavelet shifted lines.now.half (line_at cells.old lines.now x) k }
     ensures off { (i : ℕ) → ((x k : ℕ) → x < lines.now.width → k < 2 * lines.now.half → i ≢ lines.now.start + k * lines.now.step + x) → line_of cells.new i ≡ line_of cells.old i }
 {
     gather(cells, lines, true, block);
@@ -92,7 +91,7 @@ fn part(wavelet: u8, cells: &mut [i128], lines: &Lines, shifted: bool, block: &m
     requires inside { IsInside lines.now (length cells.old) }
     requires block { length block.old ≡ 2 * lines.now.half * lines.now.width }
     requires small { (x k : ℕ) → x < lines.now.width → k < 2 * lines.now.half → unsigned_abs (line_at cells.old lines.now x k) < 2 ^ 107 }
-    ensures on { (x k : ℕ) → x < lines.now.width → k < 2 * lines.now.half → line_at cells.new lines.now x k ≡ made Analysis wavelet shifted lines.now.half (line_at cells.old lines.now x) k }
+    ensures on { (x k : ℕ) → x < lines.now.width → k < 2 * lines.now.half → line_at cells.new lines.now x k ≡ remade Analysis wavelet shifted lines.now.half (line_at cells.old lines.now x) k }
     ensures off { (i : ℕ) → ((x k : ℕ) → x < lines.now.width → k < 2 * lines.now.half → i ≢ lines.now.start + k * lines.now.step + x) → line_of cells.new i ≡ line_of cells.old i }
 {
     gather(cells, lines, false, block);
@@ -115,7 +114,7 @@ pub(crate) fn remake(
     requires inside { IsInside lines.now (length cells.old) }
     requires block { length block.old ≡ 2 * lines.now.half * lines.now.width }
     requires small { (x k : ℕ) → x < lines.now.width → k < 2 * lines.now.half → unsigned_abs (line_at cells.old lines.now x k) < 2 ^ 107 }
-    ensures on { (x k : ℕ) → x < lines.now.width → k < 2 * lines.now.half → line_at cells.new lines.now x k ≡ made direction wavelet shifted lines.now.half (line_at cells.old lines.now x) k }
+    ensures on { (x k : ℕ) → x < lines.now.width → k < 2 * lines.now.half → line_at cells.new lines.now x k ≡ remade direction wavelet shifted lines.now.half (line_at cells.old lines.now x) k }
     ensures off { (i : ℕ) → ((x k : ℕ) → x < lines.now.width → k < 2 * lines.now.half → i ≢ lines.now.start + k * lines.now.step + x) → line_of cells.new i ≡ line_of cells.old i }
 {
     match direction {

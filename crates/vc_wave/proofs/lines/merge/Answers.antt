@@ -1,9 +1,10 @@
 use Rattle.std.proofs.Common.{◌+◌, ◌*◌, ◌^◌, ◌<◌, length, arith, ap, sym, ◌∙◌}
 use Rattle.std.specs.Prelude.{if◌then◌else◌}
-use Rattle.vc_types.specs.Transforms.{halved}
-use Rattle.vc_types.proofs.Weaving.{half_place, half_place_below, merged}
+use Rattle.vc_types.specs.Transforms.{halved, half_place}
+use Rattle.vc_wave.proofs.Weaving.{half_place_below}
 use Rattle.vc_wave.specs.Lines.{line_at}
-use Rattle.vc_wave.proofs.Copies.{block_inside, all_of_block, changed_in, merged_column, made_below}
+use Rattle.vc_wave.specs.Remade.{merged}
+use Rattle.vc_wave.proofs.Copies.{block_inside, all_of_block, on_samples_in, merged_column, made_below}
 use Rattle.vc_wave.proofs.lines.merge.Goals as goal
 
 pub synth_columns-requires-clause-small : goal.synth_columns-requires-clause-small
@@ -25,4 +26,4 @@ returns-clause-on c = λ x k h lt.
     c.scatter.ensures.on x k h lt
     ∙ c.halve.ensures (k * lines.width + x) within
     ∙ ap (λ z. if c.args.shifted then halved z else z) (merged_column c.args.wavelet lines.half lines.width (line_at c.args.cells.now lines x) c.gather.new.block c.synth_columns.new.cells x (λ j. c.gather.ensures x j h) (c.synth_columns.ensures.value x h) k lt)
-    ∙ sym (changed_in halved c.args.shifted (2 * lines.half) (merged c.args.wavelet lines.half (line_at c.args.cells.now lines x)) k lt)
+    ∙ sym (on_samples_in halved c.args.shifted (2 * lines.half) (merged c.args.wavelet lines.half (line_at c.args.cells.now lines x)) k lt)

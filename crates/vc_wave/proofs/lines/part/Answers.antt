@@ -1,9 +1,10 @@
 use Rattle.std.proofs.Common.{◌*◌, ◌^◌, arith, ap, sym, ◌∙◌}
 use Rattle.vc_types.specs.Transforms.{source_of, doubled}
 use Rattle.vc_types.specs.Wavelets.{analysed}
-use Rattle.vc_types.proofs.PlaneLines.{changed, rearranged_in}
-use Rattle.vc_types.proofs.Weaving.{half_place-source_of, source_below}
 use Rattle.vc_wave.specs.Lines.{line_at}
+use Rattle.vc_wave.specs.Remade.{on_samples}
+use Rattle.vc_wave.proofs.PlaneLines.{rearranged_in}
+use Rattle.vc_wave.proofs.Weaving.{half_place-source_of, source_below}
 use Rattle.vc_wave.proofs.Copies.{all_of_block, parted_column, doubled_small}
 use Rattle.vc_wave.proofs.lines.part.Goals as goal
 
@@ -29,4 +30,4 @@ returns-clause-on c = λ x k h lt.
     ap (line_at c.scatter.new.cells lines x) (sym (half_place-source_of half k lt))
     ∙ c.scatter.ensures.on x j h below
     ∙ parted_column half lines.width c.args.shifted line c.gather.new.block c.double.new.samples x h (omega arith) (λ i. c.gather.ensures x i h) c.double.ensures c.args.wavelet c.analyse_columns.new.cells (c.analyse_columns.ensures.value x h) j below
-    ∙ sym (rearranged_in (2 * half) (source_of half) (analysed c.args.wavelet (2 * half) (changed doubled c.args.shifted (2 * half) line)) k lt)
+    ∙ sym (rearranged_in (2 * half) (source_of half) (analysed c.args.wavelet (2 * half) (on_samples doubled c.args.shifted (2 * half) line)) k lt)
