@@ -50,4 +50,4 @@ returns-clause-small c =
     let first = plane_of c.padded-width.result.0 c.fill.new.cells in
     let last = plane_of c.padded-width.result.0 c.part_levels.new.cells in
     lattice_below (2 ^ 60) c.padded-width.result.0 c.padded-width.result.1 c.new.result c.part_levels.new.cells (omega arith) (made_is c)
-    (forward_below c.args.plan.now.wavelet c.args.plan.now.depth c.lowest-w.result.0 c.lowest-w.result.1 first last (omega arith) c.part_levels.ensures (filled c.before.before.before.before.before.before.before))
+    (forward_below c.args.plan.now.wavelet c.args.plan.now.depth c.lowest-w.result.0 c.lowest-w.result.1 first last (omega arith) c.part_levels.ensures (filled c.before.before.before.before.before))
