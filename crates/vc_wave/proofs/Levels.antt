@@ -35,6 +35,17 @@ level_room w h level levels columns rows stride cells cells_now block scratch sc
       side_by_side = (let all = mul-le-mul_right block high in omega (arith, all, kept, room.side_by_side));
     }
 
+pub across_room : (w h level levels columns stride cells cells_now block scratch scratch_now : ℕ) → level < levels → columns ≡ w * 2 ^ level → cells_now ≡ cells → scratch_now ≡ scratch
+    → HasRoom (w * 2 ^ levels) h stride cells block scratch → HasRoom (2 * columns) h stride cells_now block scratch_now
+across_room w h level levels columns stride cells cells_now block scratch scratch_now lt across same kept room =
+    let wide = level_fits w level levels lt in
+    record {
+      across = omega (arith, wide, across, room.across);
+      down = omega (arith, same, room.down);
+      row = omega (arith, wide, across, kept, room.row);
+      side_by_side = omega (arith, kept, room.side_by_side);
+    }
+
 -- room for all levels of a component, where the lists are still as long as they were, and for the lowest levels alone
 pub whole_room : (p : Parameters) (c : Component) (w side h stride cells cells_now block scratch scratch_now : ℕ) → w ≡ lowest_width p c → side ≡ w * 2 ^ p.depth_ho → h ≡ lowest_height p c → cells_now ≡ cells → scratch_now ≡ scratch
     → HasRoom (padded_width p c) (padded_height p c) stride cells block scratch → HasRoom (side * 2 ^ p.depth) (h * 2 ^ p.depth) stride cells_now block scratch_now

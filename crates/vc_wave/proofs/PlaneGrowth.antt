@@ -11,8 +11,8 @@ use Rattle.vc_types.specs.Lifting.{Line}
 use Rattle.vc_types.specs.Transforms.{Cells, half_place, source_of, on_columns, on_rows, halved, doubled, level_across, inverse_level, forward_level, levels_across, inverse_levels, forward_levels}
 use Rattle.vc_types.specs.Wavelets.{is_shifted, synthesised, analysed, GrowsAtMost}
 use Rattle.vc_lift.proofs.LineLaws.{synthesis_grows_little, analysis_grows_less, synthesis_past, analysis_past}
-use Rattle.vc_wave.specs.declared.direction.Direction.{Direction}
-use Rattle.vc_wave.specs.declared.direction.Direction.TheVariants.{Synthesis, Analysis}
+use Rattle.vc_wave.specs.declared.pass.Direction.{Direction}
+use Rattle.vc_wave.specs.declared.pass.Direction.TheVariants.{Synthesis, Analysis}
 use Rattle.vc_wave.specs.Planes.{AreBelow}
 use Rattle.vc_wave.specs.Remade.{rearranged, halves_together, on_samples, merged, parted, remade}
 use Rattle.vc_wave.proofs.PlaneLines.{LeavesPast, column_in, column_out, row_in, row_out, rearranged_in, rearranged_past}

@@ -12,8 +12,8 @@ use Rattle.vc_types.specs.Transforms.{Cells, on_columns, on_rows, level_across, 
 use Rattle.vc_wave.proofs.PlaneLines.{LeavesPast, ReadsBelow, column_in, column_out, row_in, row_out}
 use Rattle.vc_wave.proofs.Weaving.{remade_past, remade_reads, level_across_remade, inverse_level_remade, forward_level_remade}
 use Rattle.vc_wave.specs.Remade.{remade}
-use Rattle.vc_wave.specs.declared.direction.Direction.{Direction}
-use Rattle.vc_wave.specs.declared.direction.Direction.TheVariants.{Synthesis, Analysis}
+use Rattle.vc_wave.specs.declared.pass.Direction.{Direction}
+use Rattle.vc_wave.specs.declared.pass.Direction.TheVariants.{Synthesis, Analysis}
 use Rattle.vc_types.specs.Wavelets.{is_shifted}
 
 -- two planes are the same in the first columns and rows

@@ -3,8 +3,8 @@ use Rattle.std.specs.Prelude.{ℕ, ◌*◌, Bool, true, false, ◌&&◌, nat_lt,
 use Rattle.vc_types.specs.Lifting.{Line}
 use Rattle.vc_types.specs.Transforms.{half_place, source_of, halved, doubled}
 use Rattle.vc_types.specs.Wavelets.{synthesised, analysed}
-use Rattle.vc_wave.specs.declared.direction.Direction.{Direction}
-use Rattle.vc_wave.specs.declared.direction.Direction.TheVariants.{Synthesis, Analysis}
+use Rattle.vc_wave.specs.declared.pass.Direction.{Direction}
+use Rattle.vc_wave.specs.declared.pass.Direction.TheVariants.{Synthesis, Analysis}
 
 -- the first n samples are taken from other places
 unfoldable pub rearranged : ℕ → (ℕ → ℕ) → Line → Line

@@ -4,9 +4,8 @@ ghost use Rattle.vc_types.specs.Wavelets.{is_shifted};
 ghost use Rattle.vc_wave.specs.Planes.{AreBelow, HasRoom, plane_of};
 ghost use Rattle.vc_wave.specs.Remade.{remade};
 
-use crate::direction::Direction;
 use crate::lines::{Lines, remake};
-use crate::shift::is_shifted;
+use crate::pass::{Direction, Pass, over_columns, over_rows};
 use crate::sides::side_at;
 
 /// So many columns are worked on side by side: whole cache lines of a row are read, and tall columns still fit the cache.
@@ -14,21 +13,18 @@ pub(crate) const BLOCK: usize = 32;
 
 // Puts the first columns together, or takes them apart.
 fn remake_columns(
-    direction: Direction,
-    wavelet: u8,
+    pass: Pass,
     cells: &mut [i128],
     stride: usize,
     columns: usize,
     half: usize,
     scratch: &mut [i128],
 )
-    requires wavelet { wavelet ≤ 6 }
-    requires columns { columns ≤ stride }
+    requires wavelet { pass.wavelet ≤ 6 }
     requires some { 0 < half }
-    requires scratch { 2 * half * BLOCK ≤ length scratch.old }
-    requires cells { 2 * half * stride ≤ length cells.old }
+    requires room { HasRoom columns (2 * half) stride (length cells.old) BLOCK (length scratch.old) }
     requires small { AreBelow (2 ^ 107) (plane_of stride cells.old) }
-    ensures { plane_of stride cells.new ≡ on_columns (remade direction wavelet false half) columns (plane_of stride cells.old) }
+    ensures { plane_of stride cells.new ≡ on_columns (remade pass.direction pass.wavelet pass.shifted half) columns (plane_of stride cells.old) }
 {
     let mut start = 0;
     while start < columns {
@@ -40,30 +36,26 @@ fn remake_columns(
             half,
         };
         let block = &mut scratch[..2 * half * width];
-        remake(direction, wavelet, cells, &lines, false, block);
+        remake(pass, cells, &lines, block);
         start += width;
     }
 }
 
-// Puts the first rows together, or takes them apart; their samples are shifted if the wavelet wants that.
+// Puts the first rows together, or takes them apart.
 fn remake_rows(
-    direction: Direction,
-    wavelet: u8,
+    pass: Pass,
     cells: &mut [i128],
     stride: usize,
     rows: usize,
     half: usize,
     scratch: &mut [i128],
 )
-    requires wavelet { wavelet ≤ 6 }
-    requires half { 2 * half ≤ stride }
+    requires wavelet { pass.wavelet ≤ 6 }
     requires some { 0 < half }
-    requires scratch { 2 * half ≤ length scratch.old }
-    requires cells { rows * stride ≤ length cells.old }
+    requires room { HasRoom (2 * half) rows stride (length cells.old) BLOCK (length scratch.old) }
     requires small { AreBelow (2 ^ 107) (plane_of stride cells.old) }
-    ensures { plane_of stride cells.new ≡ on_rows (remade direction wavelet (is_shifted wavelet) half) rows (plane_of stride cells.old) }
+    ensures { plane_of stride cells.new ≡ on_rows (remade pass.direction pass.wavelet pass.shifted half) rows (plane_of stride cells.old) }
 {
-    let shifted = is_shifted(wavelet);
     for y in 0..rows {
         let lines = Lines {
             start: y * stride,
@@ -71,8 +63,7 @@ fn remake_rows(
             width: 1,
             half,
         };
-        let line = &mut scratch[..2 * half];
-        remake(direction, wavelet, cells, &lines, shifted, line);
+        remake(pass, cells, &lines, &mut scratch[..2 * half]);
     }
 }
 
@@ -99,24 +90,10 @@ fn merge_level(
     requires small { AreBelow (2 ^ 100) (plane_of stride cells.old) }
     ensures { plane_of stride cells.new ≡ inverse_level wavelets.down wavelets.across w h (plane_of stride cells.old) }
 {
-    remake_columns(
-        Direction::Synthesis,
-        wavelets.down,
-        cells,
-        stride,
-        2 * w,
-        h,
-        scratch,
-    );
-    remake_rows(
-        Direction::Synthesis,
-        wavelets.across,
-        cells,
-        stride,
-        2 * h,
-        w,
-        scratch,
-    );
+    let down = over_columns(Direction::Synthesis, wavelets.down);
+    remake_columns(down, cells, stride, 2 * w, h, scratch);
+    let across = over_rows(Direction::Synthesis, wavelets.across);
+    remake_rows(across, cells, stride, 2 * h, w, scratch);
 }
 
 // One level of the forward transform, whose subbands have w columns and h rows: it goes over rows and then columns.
@@ -134,24 +111,10 @@ fn part_level(
     requires small { AreBelow (2 ^ 100) (plane_of stride cells.old) }
     ensures { plane_of stride cells.new ≡ forward_level wavelet w h (plane_of stride cells.old) }
 {
-    remake_rows(
-        Direction::Analysis,
-        wavelet,
-        cells,
-        stride,
-        2 * h,
-        w,
-        scratch,
-    );
-    remake_columns(
-        Direction::Analysis,
-        wavelet,
-        cells,
-        stride,
-        2 * w,
-        h,
-        scratch,
-    );
+    let across = over_rows(Direction::Analysis, wavelet);
+    remake_rows(across, cells, stride, 2 * h, w, scratch);
+    let down = over_columns(Direction::Analysis, wavelet);
+    remake_columns(down, cells, stride, 2 * w, h, scratch);
 }
 
 /// The inverse of so many levels across alone, the lowest of which has subbands of w columns and h rows.
@@ -171,17 +134,10 @@ pub(crate) fn merge_across(
     requires small { AreBelow (2 ^ 60) (plane_of stride cells.old) }
     ensures { plane_of stride cells.new ≡ levels_across wavelet levels w h (plane_of stride cells.old) }
 {
+    let across = over_rows(Direction::Synthesis, wavelet);
     for level in 0..levels {
         let half = side_at(w, level);
-        remake_rows(
-            Direction::Synthesis,
-            wavelet,
-            cells,
-            stride,
-            h,
-            half,
-            scratch,
-        );
+        remake_rows(across, cells, stride, h, half, scratch);
     }
 }
 

@@ -3,10 +3,10 @@
 #![tactic(auto)]
 
 mod analysis;
-mod direction;
 mod laws;
 mod level;
 mod lines;
+mod pass;
 mod shift;
 mod sides;
 mod synthesis;
