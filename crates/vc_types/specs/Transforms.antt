@@ -5,7 +5,7 @@ use Rattle.std.specs.Int.{int_shr}
 use Rattle.vc_types.specs.declared.video.Component.{Component}
 use Rattle.vc_types.specs.Lifting.{Line}
 use Rattle.vc_types.specs.TransformParameters.{Parameters}
-use Rattle.vc_types.specs.Subbands.{plane_width, plane_height, plane_depth, padded_width, padded_height}
+use Rattle.vc_types.specs.Subbands.{plane_width, plane_height, plane_depth, levels, padded_width, padded_height}
 use Rattle.vc_types.specs.Wavelets.{is_shifted, synthesised, analysed}
 
 abbrev pub Cells : Type 0
@@ -109,7 +109,7 @@ forward_levels wavelet (suc d) w h cells =
 
 -- the columns and rows of the lowest subband, LL or L
 abbrev pub lowest_width : Parameters → Component → ℕ
-lowest_width p c = padded_width p c / 2 ^ (p.depth + p.depth_ho)
+lowest_width p c = padded_width p c / 2 ^ levels p
 
 abbrev pub lowest_height : Parameters → Component → ℕ
 lowest_height p c = padded_height p c / 2 ^ p.depth

@@ -1,5 +1,5 @@
 -- The inverse of a symmetric transform undoes the forward transform.
-use Rattle.std.proofs.Common.{◌≡◌, ℕ, zero, suc, ◌+◌, ◌-◌, ◌*◌, ◌/◌, ◌^◌, ◌<◌, ◌≤◌, ℤ, pos, negsuc, ◌+ℤ◌, ◌-ℤ◌, unsigned_abs, arith, ap, refl, ◌∙◌, ◌⊎◌, inl, inr, Bool, true, false, min}
+use Rattle.std.proofs.Common.{◌≡◌, ℕ, zero, suc, ◌+◌, ◌-◌, ◌*◌, ◌/◌, ◌^◌, ◌<◌, ◌≤◌, ℤ, pos, negsuc, ◌+ℤ◌, ◌-ℤ◌, unsigned_abs, arith, ap, refl, ◌∙◌, ◌⊎◌, inl, inr, Bool, IsTrue, true, false, min}
 use Rattle.std.specs.Prelude.{if◌then◌else◌, ◌&&◌}
 use Rattle.std.specs.Int.{int_shr}
 use mathlib.Core.Path.{fun_ext}
@@ -10,7 +10,7 @@ use Rattle.std.proofs.Math.Nat.{mul-le-mul, mul-le-mul_left, mul-le-mul_right, p
 use Rattle.vc_types.specs.declared.video.Component.{Component}
 use Rattle.vc_types.specs.Lifting.{Line}
 use Rattle.vc_types.specs.Subbands.{plane_width, plane_height, plane_depth}
-use Rattle.vc_types.specs.TransformParameters.{Parameters}
+use Rattle.vc_types.specs.TransformParameters.{Parameters, is_symmetric}
 use Rattle.vc_types.specs.Transforms.{Cells, is_within, interleaved, deinterleaved, source_of, on_columns, on_rows, on_cells, halved, doubled, inverse_level, forward_level, inverse_levels, forward_levels, levels_across, lowest_width, lowest_height, inverse_transform, padded_plane, forward_transform, half_place}
 use Rattle.vc_types.specs.Wavelets.{is_shifted, synthesised, analysed, GrowsAtMost}
 use Rattle.vc_lift.proofs.LineLaws.{synthesis_undoes_analysis, synthesis_grows_little, analysis_grows_less, synthesis_past, analysis_past}
@@ -113,20 +113,27 @@ no_levels_across ho e w h c none = ap (λ n. levels_across ho n w h c) none ∙ 
 pub same_side : (w e : ℕ) → e ≡ 0 → w * 2 ^ e ≡ w
 same_side w e none = rw none (omega arith)
 
+same_wavelet : (p : Parameters) → IsTrue (is_symmetric p) → p.wavelet_ho ≡ p.wavelet
+same_wavelet p symmetric = grind (arith, nat_tests)
+
+pub no_levels : (p : Parameters) → IsTrue (is_symmetric p) → p.depth_ho ≡ 0
+no_levels p symmetric = grind (arith, nat_tests)
+
 -- the symmetric transform: levels both ways by one wavelet
-pub symmetric_transform : (p : Parameters) (c : Component) (cells : Cells) → p.wavelet_ho ≡ p.wavelet → p.depth_ho ≡ 0 → inverse_transform p c cells ≡ inverse_levels p.wavelet p.wavelet p.depth (lowest_width p c) (lowest_height p c) cells
+pub symmetric_transform : (p : Parameters) (c : Component) (cells : Cells) → IsTrue (is_symmetric p) → inverse_transform p c cells ≡ inverse_levels p.wavelet p.wavelet p.depth (lowest_width p c) (lowest_height p c) cells
 unfolding inverse_transform
-symmetric_transform p c cells same none =
+symmetric_transform p c cells symmetric =
+    let none = no_levels p symmetric in
     let w = lowest_width p c in
     let h = lowest_height p c in
     ap (inverse_levels p.wavelet p.wavelet_ho p.depth (w * 2 ^ p.depth_ho) h) (no_levels_across p.wavelet_ho p.depth_ho w h cells none)
     ∙ ap (λ n. inverse_levels p.wavelet p.wavelet_ho p.depth n h cells) (same_side w p.depth_ho none)
-    ∙ ap (λ n. inverse_levels p.wavelet n p.depth w h cells) same
+    ∙ ap (λ n. inverse_levels p.wavelet n p.depth w h cells) (same_wavelet p symmetric)
 
-pub inverse_transform-forward_transform : (p : Parameters) (c : Component) (samples : ℕ → ℕ → ℕ) → p.wavelet_ho ≡ p.wavelet → p.depth_ho ≡ 0 → inverse_transform p c (forward_transform p c samples) ≡ padded_plane p c samples
+pub inverse_transform-forward_transform : (p : Parameters) (c : Component) (samples : ℕ → ℕ → ℕ) → IsTrue (is_symmetric p) → inverse_transform p c (forward_transform p c samples) ≡ padded_plane p c samples
 unfolding forward_transform
-inverse_transform-forward_transform p c samples same none =
-    symmetric_transform p c (forward_transform p c samples) same none
+inverse_transform-forward_transform p c samples symmetric =
+    symmetric_transform p c (forward_transform p c samples) symmetric
     ∙ inverse_levels-forward_levels p.wavelet p.depth (lowest_width p c) (lowest_height p c) (padded_plane p c samples)
 
 pub padded_own : (p : Parameters) (c : Component) (samples : ℕ → ℕ → ℕ) (x y : ℕ) → x < plane_width p.shape c → y < plane_height p.shape c → padded_plane p c samples x y ≡ pos (samples x y) -ℤ pos (2 ^ (plane_depth p.shape c - 1))

@@ -1,8 +1,8 @@
-ghost use Rattle.std.specs.Prelude.{◌≡◌, ◌+◌, ◌-◌, ◌*◌, ◌^◌, ◌<◌, ◌≤◌, ℕ, All, IfOk, length, unsigned_abs, min, ℤ, pos, ◌-ℤ◌, slice_index_or};
+ghost use Rattle.std.specs.Prelude.{◌≡◌, ◌+◌, ◌-◌, ◌*◌, ◌^◌, ◌<◌, ◌≤◌, ℕ, All, IfOk, IsTrue, length, unsigned_abs, min, ℤ, pos, ◌-ℤ◌, slice_index_or};
 ghost use Rattle.vc_types.specs.Lifting.{line_of};
 ghost use Rattle.vc_types.specs.Rasters.{cell_at, sample_at};
 ghost use Rattle.vc_types.specs.Subbands.{plane_width, plane_height, plane_depth, padded_width, padded_height};
-ghost use Rattle.vc_types.specs.TransformParameters.{parameters_of};
+ghost use Rattle.vc_types.specs.TransformParameters.{is_symmetric, parameters_of};
 ghost use Rattle.vc_types.specs.Transforms.{forward_transform};
 ghost use Rattle.vc_wave.specs.Samples.{padded_sample};
 
@@ -16,8 +16,7 @@ use vc_types::{Component, Grid, NoMemory, Plan, Plane};
 /// row are repeated, half of the samples' range is taken away, and the forward transform is applied. It fails only where
 /// memory runs out.
 pub fn forward(alloc: Global, plan: &Plan, c: Component, plane: &Plane) -> Result<Grid, NoMemory>
-    requires wavelets { plan.now.wavelet_ho ≡ plan.now.wavelet }
-    requires levels { plan.now.depth_ho ≡ 0 }
+    requires symmetric { IsTrue (is_symmetric (parameters_of plan.now)) }
     requires width { plane.now.width ≡ plane_width plan.now.shape c }
     requires height { plane.now.height ≡ plane_height plan.now.shape c }
     requires samples { All (λ s. s < 2 ^ plane_depth plan.now.shape c) plane.now.samples }

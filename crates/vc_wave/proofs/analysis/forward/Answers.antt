@@ -7,7 +7,7 @@ use Rattle.vc_wave.proofs.Fills.{forward_made, filled_below}
 use Rattle.vc_wave.proofs.Grids.{lattice, lattice_below, written_over}
 use Rattle.vc_wave.proofs.Levels.{whole_room}
 use Rattle.vc_wave.proofs.PlaneGrowth.{forward_below}
-use Rattle.vc_wave.proofs.TransformLaws.{same_side}
+use Rattle.vc_wave.proofs.TransformLaws.{same_side, no_levels}
 use Rattle.vc_wave.proofs.analysis.forward.Goals as goal
 
 pub part_levels-requires-clause-room : goal.part_levels-requires-clause-room
@@ -21,7 +21,7 @@ part_levels-requires-clause-room c =
       row = omega (arith, c.padded-width.ensures.width, c.in_ok-scratch.ensures.len);
       side_by_side = (let rows = ap (λ n. n * BLOCK) c.padded-width.ensures.height in omega (arith, rows, c.in_ok-scratch.ensures.len));
     } in
-    whole_room p c.args.c w w c.lowest-w.result.1 c.padded-width.result.0 _ _ _ _ _ c.lowest-w.ensures.width (sym (same_side w p.depth_ho c.requires.levels)) c.lowest-w.ensures.height refl refl room
+    whole_room p c.args.c w w c.lowest-w.result.1 c.padded-width.result.0 _ _ _ _ _ c.lowest-w.ensures.width (sym (same_side w p.depth_ho (no_levels p c.requires.symmetric))) c.lowest-w.ensures.height refl refl room
 
 filled : (c : goal.After-deref_mut) → AreBelow (2 ^ 16) (plane_of c.padded-width.result.0 c.fill.new.cells)
 filled c =
