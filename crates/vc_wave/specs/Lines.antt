@@ -27,6 +27,6 @@ AreSmall lines cells =
 -- each line is what a function makes of it, and all other cells are as they were
 pub record IsMade (f : Line → Line) (lines : Lines) (before after : List ℤ) : Type 0 where
   pub on :
-    (x k : ℕ) → x < lines.width → k < 2 * lines.half →
-    line_at after lines x k ≡ f (line_at before lines x) k
+      (x k : ℕ) → x < lines.width → k < 2 * lines.half →
+      line_at after lines x k ≡ f (line_at before lines x) k
   pub off : (i : ℕ) → IsApart lines i → line_of after i ≡ line_of before i

@@ -111,10 +111,10 @@ fn part_level(
     requires small { AreBelow (2 ^ 100) (plane_of stride cells.old) }
     ensures { plane_of stride cells.new ≡ forward_level wavelet w h (plane_of stride cells.old) }
 {
-    let across = over_rows(Direction::Analysis, wavelet);
-    remake_rows(across, cells, stride, 2 * h, w, scratch);
-    let down = over_columns(Direction::Analysis, wavelet);
-    remake_columns(down, cells, stride, 2 * w, h, scratch);
+    let rows = over_rows(Direction::Analysis, wavelet);
+    remake_rows(rows, cells, stride, 2 * h, w, scratch);
+    let columns = over_columns(Direction::Analysis, wavelet);
+    remake_columns(columns, cells, stride, 2 * w, h, scratch);
 }
 
 /// The inverse of so many levels across alone, the lowest of which has subbands of w columns and h rows.

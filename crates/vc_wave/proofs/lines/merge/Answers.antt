@@ -22,11 +22,11 @@ halve-requires c =
 pub returns : goal.returns
 returns c = record {
   on = λ x k h lt.
-        let lines = c.args.lines.now in
-        let within : k * lines.width + x < length c.synth_columns.new.cells = (let inside = block_inside lines.half lines.width k (length c.synth_columns.new.cells) lt (omega arith) in omega (arith, inside)) in
-        c.scatter.ensures.on x k h lt
-        ∙ c.halve.ensures (k * lines.width + x) within
-        ∙ ap (λ z. if c.args.pass.shifted then halved z else z) (merged_column c.args.pass.wavelet lines.half lines.width (line_at c.args.cells.now lines x) c.gather.new.block c.synth_columns.new.cells x (λ j. c.gather.ensures x j h) (c.synth_columns.ensures.value x h) k lt)
-        ∙ sym (on_samples_in halved c.args.pass.shifted (2 * lines.half) (merged c.args.pass.wavelet lines.half (line_at c.args.cells.now lines x)) k lt);
+      let lines = c.args.lines.now in
+      let within : k * lines.width + x < length c.synth_columns.new.cells = (let inside = block_inside lines.half lines.width k (length c.synth_columns.new.cells) lt (omega arith) in omega (arith, inside)) in
+      c.scatter.ensures.on x k h lt
+      ∙ c.halve.ensures (k * lines.width + x) within
+      ∙ ap (λ z. if c.args.pass.shifted then halved z else z) (merged_column c.args.pass.wavelet lines.half lines.width (line_at c.args.cells.now lines x) c.gather.new.block c.synth_columns.new.cells x (λ j. c.gather.ensures x j h) (c.synth_columns.ensures.value x h) k lt)
+      ∙ sym (on_samples_in halved c.args.pass.shifted (2 * lines.half) (merged c.args.pass.wavelet lines.half (line_at c.args.cells.now lines x)) k lt);
   off = c.scatter.ensures.off;
 }

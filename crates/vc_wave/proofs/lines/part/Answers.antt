@@ -23,14 +23,14 @@ analyse_columns-requires-clause-small c =
 pub returns : goal.returns
 returns c = record {
   on = λ x k h lt.
-        let lines = c.args.lines.now in
-        let half = lines.half in
-        let line = line_at c.args.cells.now lines x in
-        let j = source_of half k in
-        let below = source_below half k lt in
-        ap (line_at c.scatter.new.cells lines x) (sym (half_place-source_of half k lt))
-        ∙ c.scatter.ensures.on x j h below
-        ∙ parted_column half lines.width c.args.pass.shifted line c.gather.new.block c.double.new.samples x h (omega arith) (λ i. c.gather.ensures x i h) c.double.ensures c.args.pass.wavelet c.analyse_columns.new.cells (c.analyse_columns.ensures.value x h) j below
-        ∙ sym (rearranged_in (2 * half) (source_of half) (analysed c.args.pass.wavelet (2 * half) (on_samples doubled c.args.pass.shifted (2 * half) line)) k lt);
+      let lines = c.args.lines.now in
+      let half = lines.half in
+      let line = line_at c.args.cells.now lines x in
+      let j = source_of half k in
+      let below = source_below half k lt in
+      ap (line_at c.scatter.new.cells lines x) (sym (half_place-source_of half k lt))
+      ∙ c.scatter.ensures.on x j h below
+      ∙ parted_column half lines.width c.args.pass.shifted line c.gather.new.block c.double.new.samples x h (omega arith) (λ i. c.gather.ensures x i h) c.double.ensures c.args.pass.wavelet c.analyse_columns.new.cells (c.analyse_columns.ensures.value x h) j below
+      ∙ sym (rearranged_in (2 * half) (source_of half) (analysed c.args.pass.wavelet (2 * half) (on_samples doubled c.args.pass.shifted (2 * half) line)) k lt);
   off = c.scatter.ensures.off;
 }
