@@ -1,7 +1,7 @@
 -- Values of the wavelets that were worked by hand: the ends of a line of four samples, a level of two by two, and levels across.
 use Rattle.std.proofs.Common.{◌≡◌, ℕ, List, [], ◌∷◌, ℤ, pos, negsuc, refl, map}
 use Rattle.std.specs.Prelude.{slice_index_or}
-use Rattle.vc_types.specs.Lifting.{LiftingStep, even, line_of, weighted, change, lifted}
+use Rattle.vc_types.specs.Lifting.{even, line_of, weighted, change, lifted}
 use Rattle.vc_types.specs.Rasters.{Lattice, cell_at}
 use Rattle.vc_types.specs.Transforms.{interleaved_across, interleaved, on_columns, on_rows, on_cells, level_across, inverse_level, levels_across, inverse_levels}
 use Rattle.vc_types.specs.Wavelets.{minus, synthesis_steps, lifted_by, synthesised}
