@@ -1,3 +1,5 @@
+pub mod WrittenPackets
+pub mod WrittenPayloads
 pub mod LinkRows
 pub mod Keeping
 pub mod Bookkeeping

@@ -1,4 +1,4 @@
-ghost use Rattle.std.specs.Prelude.{◌≡◌, ◌↔◌, ℕ, ◌+◌, ◌%◌, ◌^◌, ◌-◌, ◌<◌, ◌≤◌, true, false, List, [], ◌∷◌, ◌++◌, fold, filter_map, is_some, Some, None};
+ghost use Rattle.std.specs.Prelude.{◌≡◌, ◌↔◌, ℕ, ◌+◌, ◌%◌, ◌^◌, ◌-◌, ◌<◌, ◌≤◌, true, false, List, [], ◌∷◌, ◌++◌, fold, filter_map, is_some, Some, None, Ok, length};
 ghost use Rattle.std.specs.List.{flat_map, list_any};
 ghost use Rattle.link_model.specs.Books.{Book, empty_book, book_takes, book_outcome, book_whole, StandsFor};
 ghost use Rattle.link_model.specs.Complete.{whole_picture};
@@ -7,6 +7,7 @@ ghost use Rattle.link_model.specs.Judgement.{part_outcome, keeps, fragment_outco
 ghost use Rattle.link_model.specs.Kept.{Own, own, own_slice};
 ghost use Rattle.link_model.specs.Numbers.{Numbered, base_above, is_opened, greatest, nearest, picture_number, is_closed, is_late, enters, entered, parts_of, opened_numbers};
 ghost use Rattle.link_model.specs.Output.{is_let_go, let_go_numbers, frame_bytes_at, frames_so_far, all_frames, output_so_far, full_output, greatest_of, entered_behind, is_opened_in, all_output, last_so_far, IsPrefixOf};
+ghost use Rattle.link_model.specs.Packets.{RtpPacket, RtpFits, rtp_packet, rtp_header, PayloadValue, IsWritable, payload, payload_bytes, read_back};
 ghost use Rattle.link_model.specs.Session.{Part, Fragment, Session, HeardSession, just_opened, is_other, opens_other, opens_behind, opens_next, with_datagram, hears, sessions_of, begins, ends, fragment_in};
 ghost use Rattle.link_model.specs.declared.outcome.Outcome.TheVariants.{HeaderNew, End};
 ghost use Rattle.link_model.specs.Windows.{Window, empty_window, window_enters, window_outcome, forgets, let_go_in, StandsForEntries};
@@ -144,4 +145,12 @@ pub fn sessions_are_written_in_order()
 pub fn same_is_equal()
     ensures headers { (a b : Sequence) → (same_sequence a b ≡ true) ↔ (a ≡ b) }
     ensures parameters { (a b : Parameters) → (same_parameters a b ≡ true) ↔ (a ≡ b) }
+{}
+
+/// What a packet or a payload is written as is read back as the same value, the places aside. What follows an RTP header
+/// is its payload; bytes behind a payload join the body of a sequence header, and are ignored elsewhere.
+#[tactic(auto, using(crate::proofs::WrittenPackets::laws, crate::proofs::WrittenPayloads::laws))]
+pub fn what_is_written_is_read()
+    ensures rtp { (p : RtpPacket) (rest : List ℕ) → RtpFits p → rtp_packet (rtp_header p ++ rest) ≡ Ok (record p { from = 12; to = 12 + length rest }) }
+    ensures payload { (value : PayloadValue) (behind : List ℕ) → IsWritable value → payload (payload_bytes value ++ behind) ≡ Ok (read_back value behind) }
 {}

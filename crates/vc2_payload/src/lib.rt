@@ -2,12 +2,10 @@
 #![tactic(auto)]
 
 mod codes;
-mod laws;
 mod payload;
 mod read;
 mod write;
 
-pub use laws::written_payload_is_read;
 pub use link_model::PayloadRefusal;
 pub use payload::{FragmentHead, Payload};
 pub use read::read_payload;
