@@ -5,3 +5,4 @@ pub mod Filling
 pub mod Memory
 pub mod Adapters
 pub mod Runs
+pub mod Changes
