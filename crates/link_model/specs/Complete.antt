@@ -19,7 +19,8 @@ has_all_slices kept = list_all (λ i. is_some (own_slice kept i)) (slice_numbers
 
 -- the bytes of the parameters, and behind them the slices in raster order
 unfoldable pub all_bytes : Own → List ℕ
-all_bytes kept = kept.plan.bytes ++ flat_map (λ i. unwrap_or (own_slice kept i) []) (slice_numbers kept)
+all_bytes kept =
+    kept.plan.bytes ++ flat_map (λ i. unwrap_or (own_slice kept i) []) (slice_numbers kept)
 
 abbrev pub whole_of : Own → Option (List ℕ)
 whole_of kept = if has_all_slices kept then Some (all_bytes kept) else None
@@ -37,4 +38,5 @@ is_sound sequence bytes = is_some (decoded_picture sequence bytes)
 
 -- the planes of a picture that is complete and sound
 abbrev pub picture_planes : Sequence → List Part → Option Planes
-picture_planes sequence parts = option_and_then (decoded_planes sequence) (whole_picture sequence parts)
+picture_planes sequence parts =
+    option_and_then (decoded_planes sequence) (whole_picture sequence parts)

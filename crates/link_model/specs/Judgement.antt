@@ -1,14 +1,14 @@
 -- What becomes of each datagram of a list, and the counts of it (this project's profile).
-use Rattle.std.specs.Prelude.{ℕ, ◌+◌, ◌-◌, ◌%◌, Bool, true, false, ◌&&◌, not, is_some, is_none, nat_lt, ◌==◌, if◌then◌else◌, List, [], ◌∷◌, ◌++◌, length, fold, count_by, Option, Some, None, Result, Ok, Err}
+use Rattle.std.specs.Prelude.{ℕ, ◌+◌, ◌-◌, ◌%◌, Bool, true, false, ◌&&◌, not, is_some, is_none, nat_lt, ◌==◌, if◌then◌else◌, List, [], ◌∷◌, ◌++◌, length, filter_map, fold, count_by, Option, Some, None, Result, Ok, Err}
 use Rattle.std.specs.List.{list_any, enumerate_from}
 use Rattle.std.specs.Option.{option_map_or}
 use Rattle.std.specs.Str.{bytes_eq}
 use Rattle.link_model.specs.Headers.{same_sequence, same_parameters}
-use Rattle.link_model.specs.Kept.{KeptParameters, Own, own, own_parameters, own_slice, slices_in, waiting_limit, SliceRun, slice_run}
-use Rattle.link_model.specs.Numbers.{Numbered, base_above, entered, picture_number, is_late, parts_of, opened_numbers}
-use Rattle.link_model.specs.Output.{complete_at, planes_at, frame_at, greatest_of, entered_behind}
+use Rattle.link_model.specs.Kept.{KeptParameters, ReadParameters, Own, own, own_parameters, own_slice, slices_in, waiting_limit, SliceRun, slice_run}
+use Rattle.link_model.specs.Numbers.{Numbered, entered, picture_number, is_late, parts_of, opened_numbers}
+use Rattle.link_model.specs.Output.{complete_at, planes_at, frame_at, base_behind, entered_behind}
 use Rattle.link_model.specs.Packets.{PayloadValue, Header, End, Skip, Params, Slices}
-use Rattle.link_model.specs.Session.{Received, received, DatagramRefusal, OfRtp, OfPayload, HeardSession, opens_behind, session_by, sessions_of, Part, ParamsPart, SlicesPart, SlicePart, Fragment, slice_part}
+use Rattle.link_model.specs.Session.{Received, received, DatagramRefusal, OfRtp, OfPayload, HeardSession, opens_behind, session_by, sessions_of, Part, ParamsPart, SlicesPart, SlicePart, Fragment, params_fragment, slices_fragment}
 use Rattle.link_model.specs.declared.outcome.Outcome.{Outcome}
 use Rattle.link_model.specs.declared.outcome.Outcome.TheVariants as outcomes
 use Rattle.link_model.specs.declared.refusal.PayloadRefusal.{PayloadRefusal}
@@ -16,7 +16,6 @@ use Rattle.link_model.specs.declared.refusal.PayloadRefusal.TheVariants as paylo
 use Rattle.link_model.specs.declared.refusal.RtpRefusal.{RtpRefusal}
 use Rattle.link_model.specs.declared.refusal.RtpRefusal.TheVariants as rtp_refusals
 use Rattle.link_model.specs.declared.tally.Tally.{Tally}
-use Rattle.std.specs.Prelude.{filter_map}
 use Rattle.vc_types.specs.SequenceHeader.{Sequence, coded_header}
 use Rattle.vc_types.specs.TransformParameters.{Parameters, coded_parameters}
 use Rattle.vc_types.specs.declared.refusal.HeaderRefusal.{HeaderRefusal}
@@ -24,10 +23,12 @@ use Rattle.vc_types.specs.declared.refusal.ParamsRefusal.{ParamsRefusal}
 
 -- ---- a part of a picture, by the parts before it
 
-abbrev pub parameters_outcome : Option KeptParameters → Result (Parameters × ℕ) ParamsRefusal → Outcome
+abbrev pub parameters_outcome : Option KeptParameters → ReadParameters → Outcome
 parameters_outcome plan (Err refusal) = outcomes.ParamsBad
 parameters_outcome None (Ok read) = outcomes.ParamsKept
-parameters_outcome (Some plan) (Ok read) = if same_parameters plan.parameters read.0 then outcomes.ParamsRepeat else outcomes.ParamsConflict
+parameters_outcome (Some plan) (Ok read) =
+    if same_parameters plan.parameters read.0 then outcomes.ParamsRepeat
+    else outcomes.ParamsConflict
 
 -- a slice is kept with other bytes
 abbrev pub is_conflict : (ℕ → Option (List ℕ)) → ℕ × List ℕ → Bool
@@ -36,25 +37,33 @@ is_conflict kept slice = option_map_or (λ bytes. not (bytes_eq bytes slice.1)) 
 abbrev pub is_new : (ℕ → Option (List ℕ)) → ℕ × List ℕ → Bool
 is_new kept slice = is_none (kept slice.0)
 
+-- the slices of a run, each with its number
+abbrev pub numbered_slices : SliceRun → List (ℕ × List ℕ)
+numbered_slices run = enumerate_from run.first run.slices
+
 -- by the slices that are kept
 abbrev pub run_outcome : (ℕ → Option (List ℕ)) → Result SliceRun Outcome → Outcome
 run_outcome kept (Err outcome) = outcome
 run_outcome kept (Ok run) =
-    if list_any (is_conflict kept) (enumerate_from run.first run.slices) then outcomes.SlicesConflict
-    else (if list_any (is_new kept) (enumerate_from run.first run.slices) then outcomes.SlicesKept
+    if list_any (is_conflict kept) (numbered_slices run) then outcomes.SlicesConflict
+    else (if list_any (is_new kept) (numbered_slices run) then outcomes.SlicesKept
     else outcomes.SlicesRepeat)
 
 -- slices of a picture without parameters wait, up to a limit
 abbrev pub waiting_outcome : ℕ → Outcome
-waiting_outcome waiting = if nat_lt waiting waiting_limit then outcomes.SlicesPending else outcomes.SlicesFull
+waiting_outcome waiting =
+    if nat_lt waiting waiting_limit then outcomes.SlicesPending else outcomes.SlicesFull
 
 abbrev pub slices_outcome : ℕ → Option Own → SlicePart → Outcome
 slices_outcome waiting None slices = waiting_outcome waiting
-slices_outcome waiting (Some kept) slices = run_outcome (own_slice kept) (slice_run kept.plan.parameters slices)
+slices_outcome waiting (Some kept) slices =
+    run_outcome (own_slice kept) (slice_run kept.plan.parameters slices)
 
 unfoldable pub part_outcome : Sequence → List Part → Part → Outcome
-part_outcome sequence before (ParamsPart body) = parameters_outcome (own_parameters sequence before) (coded_parameters sequence body)
-part_outcome sequence before (SlicesPart slices) = slices_outcome (length (filter_map slices_in before)) (own sequence before) slices
+part_outcome sequence before (ParamsPart body) =
+    parameters_outcome (own_parameters sequence before) (coded_parameters sequence body)
+part_outcome sequence before (SlicesPart slices) =
+    slices_outcome (length (filter_map slices_in before)) (own sequence before) slices
 
 -- whether a part with this outcome changes what its picture keeps
 abbrev pub keeps : Outcome → Bool
@@ -97,25 +106,32 @@ early_outcome (Header high from body) = opening_outcome (coded_header body)
 early_outcome other = outcomes.Foreign
 
 abbrev pub header_outcome : Sequence → Result (Sequence × ℕ) HeaderRefusal → Outcome
-header_outcome sequence (Ok read) = if same_sequence sequence read.0 then outcomes.HeaderSame else outcomes.HeaderOther
+header_outcome sequence (Ok read) =
+    if same_sequence sequence read.0 then outcomes.HeaderSame else outcomes.HeaderOther
 header_outcome sequence (Err refusal) = outcomes.HeaderBad
 
--- within the last session, from its source; the numbers begin at the base
+-- a fragment of the last session, whose numbers begin at the base
+abbrev pub heard_outcome : ℕ → ℕ → HeardSession → Fragment → Outcome
+heard_outcome base window h f =
+    fragment_outcome base window h.session.sequence (entered base window h.fragments) f
+
+-- within the last session, from its source
 abbrev pub later_outcome : ℕ → ℕ → HeardSession → PayloadValue → Outcome
-later_outcome base window h (Header high from body) = header_outcome h.session.sequence (coded_header body)
+later_outcome base window h (Header high from body) =
+    header_outcome h.session.sequence (coded_header body)
 later_outcome base window h (End high) = outcomes.End
 later_outcome base window h (Skip high code) = outcomes.Skipped
 later_outcome base window h (Params head from body) =
-    fragment_outcome base window h.session.sequence (entered base window h.fragments) (record { number = head.number; part = ParamsPart body })
+    heard_outcome base window h (params_fragment head body)
 later_outcome base window h (Slices head count x y from body) =
-    fragment_outcome base window h.session.sequence (entered base window h.fragments) (record { number = head.number; part = SlicesPart (slice_part head count x y body) })
+    heard_outcome base window h (slices_fragment head count x y body)
 
 -- behind sessions, the last one first
 abbrev pub received_outcome : ℕ → List HeardSession → Received → Outcome
 received_outcome window [] r = early_outcome r.value
 received_outcome window (h ∷ hs) r =
     if is_some (opens_behind h (session_by r.ssrc r.value)) then outcomes.HeaderNew
-    else (if r.ssrc == h.session.ssrc then later_outcome (base_above (greatest_of window hs)) window h r.value
+    else (if r.ssrc == h.session.ssrc then later_outcome (base_behind window hs) window h r.value
     else outcomes.Foreign)
 
 abbrev pub outcome_of : ℕ → List HeardSession → Result Received DatagramRefusal → Outcome
@@ -128,7 +144,9 @@ outcome_behind window before datagram = outcome_of window (sessions_of before) (
 
 unfoldable pub outcomes_behind : ℕ → List (List ℕ) → List (List ℕ) → List Outcome
 outcomes_behind window before [] = []
-outcomes_behind window before (datagram ∷ datagrams) = outcome_behind window before datagram ∷ outcomes_behind window (before ++ datagram ∷ []) datagrams
+outcomes_behind window before (datagram ∷ datagrams) =
+    outcome_behind window before datagram
+    ∷ outcomes_behind window (before ++ datagram ∷ []) datagrams
 
 -- what becomes of each datagram of a list
 abbrev pub outcomes_in : ℕ → List (List ℕ) → List Outcome
@@ -242,8 +260,10 @@ with_pictures sequence es t = record t {
 -- with what became of the pictures of all sessions, the last one first
 unfoldable pub with_sessions : ℕ → List HeardSession → Tally → Tally
 with_sessions window [] t = t
-with_sessions window (h ∷ hs) t = with_pictures h.session.sequence (entered_behind window hs h) (with_sessions window hs t)
+with_sessions window (h ∷ hs) t =
+    with_pictures h.session.sequence (entered_behind window hs h) (with_sessions window hs t)
 
 -- the tally of a list of datagrams
 unfoldable pub tally_of : ℕ → List (List ℕ) → Tally
-tally_of window datagrams = with_sessions window (sessions_of datagrams) (outcome_counts (outcomes_in window datagrams))
+tally_of window datagrams =
+    with_sessions window (sessions_of datagrams) (outcome_counts (outcomes_in window datagrams))

@@ -19,7 +19,11 @@ pub record KeptParameters : Type 0 where
   pub parameters : Parameters
   pub bytes : List ℕ
 
-abbrev pub kept_parameters : List ℕ → Result (Parameters × ℕ) ParamsRefusal → Option KeptParameters
+-- what is read of a part's body
+abbrev pub ReadParameters : Type 0
+ReadParameters = Result (Parameters × ℕ) ParamsRefusal
+
+abbrev pub kept_parameters : List ℕ → ReadParameters → Option KeptParameters
 kept_parameters body (Ok read) = Some (record { parameters = read.0; bytes = take read.1 body })
 kept_parameters body (Err refusal) = None
 
@@ -43,12 +47,13 @@ parted_by behind plan = record { plan = plan; before = []; behind = filter_map s
 
 abbrev pub also_before : Part → Parted → Parted
 also_before (ParamsPart body) p = p
-also_before (SlicesPart slices) p = record { plan = p.plan; before = slices ∷ p.before; behind = p.behind }
+also_before (SlicesPart slices) p = record p { before = slices ∷ p.before }
 
 unfoldable pub parted : Sequence → List Part → Option Parted
 parted sequence [] = None
 parted sequence (part ∷ parts) =
-    option_map_or (λ plan. Some (parted_by parts plan)) (parameters_in sequence part) (option_map (also_before part) (parted sequence parts))
+    option_map_or (λ plan. Some (parted_by parts plan)) (parameters_in sequence part)
+    (option_map (also_before part) (parted sequence parts))
 
 -- ---- slices
 
@@ -85,7 +90,9 @@ abbrev pub has_form : Parameters → SlicePart → Bool
 has_form p s = s.prefix == p.prefix && s.scaler == p.scaler
 
 abbrev pub has_place : Parameters → SlicePart → Bool
-has_place p s = nat_lt s.x p.slices_x && nat_lt s.y p.slices_y && nat_le (first_slice p s + s.count) (slice_count p)
+has_place p s =
+    nat_lt s.x p.slices_x && nat_lt s.y p.slices_y
+    && nat_le (first_slice p s + s.count) (slice_count p)
 
 abbrev pub run_from : ℕ → Result (List (List ℕ) × List ℕ) (Unit {0}) → Result SliceRun Outcome
 run_from first (Ok read) = Ok (record { first = first; slices = read.0 })
@@ -112,7 +119,10 @@ runs_of p parts = filter_map (λ s. run_taken (slice_run p s)) parts
 
 -- of the slices before the parameters only so many wait
 abbrev pub own_of : Parted → Own
-own_of p = record { plan = p.plan; runs = runs_of p.plan.parameters (take waiting_limit p.before ++ p.behind) }
+own_of p = record {
+  plan = p.plan;
+  runs = runs_of p.plan.parameters (take waiting_limit p.before ++ p.behind);
+}
 
 -- what a picture keeps of its parts, once it has parameters
 unfoldable pub own : Sequence → List Part → Option Own

@@ -28,7 +28,9 @@ distance number bits = (bits + 2 ^ 32 - number % 2 ^ 32) % 2 ^ 32
 
 -- the number plus the signed 32-bit distance
 unfoldable pub nearest : ℕ → ℕ → ℕ
-nearest number bits = if nat_lt (distance number bits) (2 ^ 31) then number + distance number bits else number + distance number bits - 2 ^ 32
+nearest number bits =
+    if nat_lt (distance number bits) (2 ^ 31) then number + distance number bits
+    else number + distance number bits - 2 ^ 32
 
 -- where the numbers of a session begin: the least multiple of 2 ^ 32 that is more than 8 above the greatest number of
 -- the earlier sessions, which is 0 where they have none
@@ -42,17 +44,17 @@ picture_number base (e ∷ es) bits = nearest (greatest (e ∷ es)) bits
 
 -- a picture is closed once the greatest number is at least the window above its own
 unfoldable pub is_closed : ℕ → List Numbered → ℕ → Bool
-is_closed window entered number = nat_le (number + window) (greatest entered)
+is_closed window es number = nat_le (number + window) (greatest es)
 
 -- a number that comes too late, or that is too large to be one
 unfoldable pub is_late : ℕ → List Numbered → ℕ → Bool
-is_late window entered number = is_closed window entered number || nat_le (2 ^ 64 - 16) number
+is_late window es number = is_closed window es number || nat_le (2 ^ 64 - 16) number
 
 -- a fragment more: it enters with its number, unless that is late
 unfoldable pub enters : ℕ → ℕ → List Numbered → Fragment → List Numbered
-enters base window entered f =
-    if is_late window entered (picture_number base entered f.number) then entered
-    else entered ++ record { number = picture_number base entered f.number; part = f.part } ∷ []
+enters base window es f =
+    if is_late window es (picture_number base es f.number) then es
+    else es ++ record { number = picture_number base es f.number; part = f.part } ∷ []
 
 -- the parts of a session that aren't late, each with its picture's number
 abbrev pub entered : ℕ → ℕ → List Fragment → List Numbered
@@ -60,7 +62,7 @@ entered base window fragments = fold (enters base window) [] fragments
 
 -- the parts of one picture, in order
 unfoldable pub parts_of : ℕ → List Numbered → List Part
-parts_of number entered = map (λ e. e.part) (filter (λ e. e.number == number) entered)
+parts_of number es = map (λ e. e.part) (filter (λ e. e.number == number) es)
 
 abbrev pub has_parts : List Part → Bool
 has_parts [] = false
@@ -68,7 +70,7 @@ has_parts (part ∷ parts) = true
 
 -- a picture is opened by its first part
 abbrev pub is_opened : List Numbered → ℕ → Bool
-is_opened entered number = has_parts (parts_of number entered)
+is_opened es number = has_parts (parts_of number es)
 
 -- the numbers from one up to another
 abbrev pub span : ℕ → ℕ → List ℕ
@@ -76,4 +78,4 @@ span first last = range_with_len first (last + 1 - first)
 
 -- the pictures that are opened, in rising order
 unfoldable pub opened_numbers : List Numbered → List ℕ
-opened_numbers entered = filter (is_opened entered) (span (least entered) (greatest entered))
+opened_numbers es = filter (is_opened es) (span (least es) (greatest es))

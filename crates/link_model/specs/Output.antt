@@ -24,16 +24,19 @@ woven_fields top_first earlier later =
 -- the frame of two fields of neighbouring numbers, of which the even one is earlier
 abbrev pub field_frame_at : Sequence → List Numbered → ℕ → Option Planes
 field_frame_at sequence es n =
-    if n % 2 == 1 then woven_fields sequence.top_first (planes_at sequence es (n - 1)) (planes_at sequence es n)
+    if n % 2 == 1
+    then woven_fields sequence.top_first (planes_at sequence es (n - 1)) (planes_at sequence es n)
     else None
 
 -- A frame by the number of its last picture. There is none where a picture of it isn't complete and sound.
 unfoldable pub frame_at : Sequence → List Numbered → ℕ → Option Planes
-frame_at sequence es n = if sequence.fields then field_frame_at sequence es n else planes_at sequence es n
+frame_at sequence es n =
+    if sequence.fields then field_frame_at sequence es n else planes_at sequence es n
 
 -- the raw bytes of a frame, none where there is no such frame
 abbrev pub raw_bytes : Sequence → Option Planes → List ℕ
-raw_bytes sequence frame = option_map_or (λ planes. frame_bytes planes (is_wide (picture_shape sequence))) frame []
+raw_bytes sequence frame =
+    option_map_or (λ planes. frame_bytes planes (is_wide (picture_shape sequence))) frame []
 
 unfoldable pub frame_bytes_at : Sequence → List Numbered → ℕ → List ℕ
 frame_bytes_at sequence es n = raw_bytes sequence (frame_at sequence es n)
@@ -58,7 +61,8 @@ all_frames sequence es = flat_map (frame_bytes_at sequence es) (opened_numbers e
 
 -- the frames whose last picture is let go, in rising order
 unfoldable pub frames_so_far : ℕ → Sequence → List Numbered → List ℕ
-frames_so_far window sequence es = flat_map (frame_bytes_at sequence es) (let_go_numbers window sequence es)
+frames_so_far window sequence es =
+    flat_map (frame_bytes_at sequence es) (let_go_numbers window sequence es)
 
 -- ---- sessions one after another, the last one first
 
@@ -66,16 +70,22 @@ frames_so_far window sequence es = flat_map (frame_bytes_at sequence es) (let_go
 unfoldable pub greatest_of : ℕ → List HeardSession → ℕ
 greatest_of window [] = 0
 greatest_of window (h ∷ hs) =
-    max (greatest (entered (base_above (greatest_of window hs)) window h.fragments)) (greatest_of window hs)
+    let before = greatest_of window hs in
+    max (greatest (entered (base_above before) window h.fragments)) before
+
+-- where the numbers of the next session begin
+abbrev pub base_behind : ℕ → List HeardSession → ℕ
+base_behind window hs = base_above (greatest_of window hs)
 
 -- what was entered of a session behind others
 abbrev pub entered_behind : ℕ → List HeardSession → HeardSession → List Numbered
-entered_behind window hs h = entered (base_above (greatest_of window hs)) window h.fragments
+entered_behind window hs h = entered (base_behind window hs) window h.fragments
 
 -- all their frames, by session and then by number
 unfoldable pub all_output : ℕ → List HeardSession → List ℕ
 all_output window [] = []
-all_output window (h ∷ hs) = all_output window hs ++ all_frames h.session.sequence (entered_behind window hs h)
+all_output window (h ∷ hs) =
+    all_output window hs ++ all_frames h.session.sequence (entered_behind window hs h)
 
 -- all of those before the last, and those of the last so far
 unfoldable pub last_so_far : ℕ → List HeardSession → List ℕ
@@ -96,20 +106,25 @@ output_so_far window datagrams = last_so_far window (sessions_of datagrams)
 -- a picture is opened in one of the sessions
 abbrev pub is_opened_in : ℕ → List HeardSession → ℕ → Bool
 is_opened_in window [] n = false
-is_opened_in window (h ∷ hs) n = is_opened (entered_behind window hs h) n || is_opened_in window hs n
+is_opened_in window (h ∷ hs) n =
+    is_opened (entered_behind window hs h) n || is_opened_in window hs n
 
 -- a picture is closed by a later one of its session, or by the next session
 abbrev pub is_closed_in : ℕ → List HeardSession → ℕ → Bool
 is_closed_in window [] n = false
-is_closed_in window (h ∷ hs) n = is_opened_in window hs n || is_closed window (entered_behind window hs h) n
+is_closed_in window (h ∷ hs) n =
+    is_opened_in window hs n || is_closed window (entered_behind window hs h) n
 
 abbrev pub is_closed_behind : ℕ → List (List ℕ) → ℕ → ℕ → Bool
 is_closed_behind window datagrams n k = is_closed_in window (sessions_of (take (k + 1) datagrams)) n
 
+abbrev pub places_of : List (List ℕ) → List ℕ
+places_of datagrams = range_with_len 0 (length datagrams)
+
 -- the first place behind which a picture is closed, or the length of the list
 unfoldable pub closing_place : ℕ → List (List ℕ) → ℕ → ℕ
 closing_place window datagrams n =
-    length (take_while (λ k. not (is_closed_behind window datagrams n k)) (range_with_len 0 (length datagrams)))
+    length (take_while (λ k. not (is_closed_behind window datagrams n k)) (places_of datagrams))
 
 -- ---- how it grows
 

@@ -26,7 +26,8 @@ of_payload ssrc (Ok value) = Ok (record { ssrc = ssrc; value = value })
 of_payload ssrc (Err refusal) = Err (OfPayload refusal)
 
 abbrev pub of_packet : List ℕ → Result RtpPacket RtpRefusal → Result Received DatagramRefusal
-of_packet datagram (Ok packet) = of_payload packet.ssrc (payload (slice_range datagram packet.from packet.to))
+of_packet datagram (Ok packet) =
+    of_payload packet.ssrc (payload (slice_range datagram packet.from packet.to))
 of_packet datagram (Err refusal) = Err (OfRtp refusal)
 
 -- what a datagram is, or the first refusal
@@ -78,12 +79,28 @@ pub record Fragment : Type 0 where
   pub number : ℕ
   pub part : Part
 
+abbrev pub params_fragment : FragmentHead → List ℕ → Fragment
+params_fragment head body = record { number = head.number; part = ParamsPart body }
+
 abbrev pub slice_part : FragmentHead → ℕ → ℕ → ℕ → List ℕ → SlicePart
-slice_part head count x y body = record { prefix = head.prefix; scaler = head.scaler; count = count; x = x; y = y; body = body }
+slice_part head count x y body = record {
+  prefix = head.prefix;
+  scaler = head.scaler;
+  count = count;
+  x = x;
+  y = y;
+  body = body;
+}
+
+abbrev pub slices_fragment : FragmentHead → ℕ → ℕ → ℕ → List ℕ → Fragment
+slices_fragment head count x y body = record {
+  number = head.number;
+  part = SlicesPart (slice_part head count x y body);
+}
 
 abbrev pub fragment_by : PayloadValue → Option Fragment
-fragment_by (Params head from body) = Some (record { number = head.number; part = ParamsPart body })
-fragment_by (Slices head count x y from body) = Some (record { number = head.number; part = SlicesPart (slice_part head count x y body) })
+fragment_by (Params head from body) = Some (params_fragment head body)
+fragment_by (Slices head count x y from body) = Some (slices_fragment head count x y body)
 fragment_by other = None
 
 abbrev pub fragment_from : Session → Result Received DatagramRefusal → Option Fragment
@@ -139,7 +156,11 @@ opens_next [] o = o
 opens_next (h ∷ hs) o = opens_behind h o
 
 abbrev pub with_datagram : HeardSession → List ℕ → HeardSession
-with_datagram h datagram = record { session = h.session; has_ended = h.has_ended || ends h.session datagram; fragments = h.fragments ++ filter_map (fragment_in h.session) (datagram ∷ []) }
+with_datagram h datagram = record {
+  session = h.session;
+  has_ended = h.has_ended || ends h.session datagram;
+  fragments = h.fragments ++ filter_map (fragment_in h.session) (datagram ∷ []);
+}
 
 abbrev pub last_with : List HeardSession → List ℕ → List HeardSession
 last_with [] datagram = []
@@ -147,7 +168,9 @@ last_with (h ∷ hs) datagram = with_datagram h datagram ∷ hs
 
 -- a datagram more: it opens the next session, or belongs to the last
 unfoldable pub hears : List HeardSession → List ℕ → List HeardSession
-hears hs datagram = option_map_or (λ s. just_opened s ∷ hs) (opens_next hs (begins datagram)) (last_with hs datagram)
+hears hs datagram =
+    option_map_or (λ s. just_opened s ∷ hs) (opens_next hs (begins datagram))
+    (last_with hs datagram)
 
 -- the sessions of datagrams, the last one first
 abbrev pub sessions_of : List (List ℕ) → List HeardSession

@@ -33,7 +33,12 @@ with_book books n book m = if m == n then Some book else books m
 
 -- one fragment more
 abbrev pub opens_picture : Sequence → Window → ℕ → Fragment → Window
-opens_picture s w n f = record { base = w.base; top = max w.top n; is_new = false; books = with_book w.books n (book_takes s (book_in w n) f.part) }
+opens_picture s w n f = record {
+  base = w.base;
+  top = max w.top n;
+  is_new = false;
+  books = with_book w.books n (book_takes s (book_in w n) f.part);
+}
 
 unfoldable pub window_enters : ℕ → Sequence → Window → Fragment → Window
 window_enters window s w f =
@@ -48,7 +53,9 @@ window_outcome window s w f =
 
 -- the books of pictures that are closed and below what was released go
 abbrev pub forgets : ℕ → ℕ → Window → Window
-forgets window released w = record { base = w.base; top = w.top; is_new = w.is_new; books = λ n. if nat_le (n + window) w.top && nat_lt n released then None else w.books n }
+forgets window released w = record w {
+  books = λ n. if nat_le (n + window) w.top && nat_lt n released then None else w.books n;
+}
 
 -- ---- what it stands for
 
@@ -60,11 +67,16 @@ is_nothing (e ∷ es) = false
 abbrev pub is_needed : ℕ → ℕ → List Numbered → ℕ → Bool
 is_needed window released es n = is_opened es n && not (is_closed window es n && nat_lt n released)
 
-pub record StandsForEntries (base window : ℕ) (s : Sequence) (w : Window) (es : List Numbered) (released : ℕ) : Type 0 where
+-- a picture's book, where it is needed, stands for the picture's parts
+abbrev pub HasBook : Sequence → Window → List Numbered → ℕ → Type 0
+HasBook s w es n = (book : Book) × (w.books n ≡ Some book) × StandsFor s book (parts_of n es)
+
+pub record StandsForEntries (base window : ℕ) (s : Sequence) (w : Window) (es : List Numbered)
+    (released : ℕ) : Type 0 where
   pub begins : w.base ≡ base
   pub top : w.top ≡ greatest es
   pub is_new : w.is_new ≡ is_nothing es
-  pub books : (n : ℕ) → is_needed window released es n ≡ true → (book : Book) × (w.books n ≡ Some book) × StandsFor s book (parts_of n es)
+  pub books : (n : ℕ) → is_needed window released es n ≡ true → HasBook s w es n
   pub unopened : (n : ℕ) → is_opened es n ≡ false → w.books n ≡ None
 
 -- ---- when a picture is let go, by the window
