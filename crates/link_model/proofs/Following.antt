@@ -85,7 +85,7 @@ module _ (hs : List HeardSession) (s : Session) where
         fold-append hears (just_opened s ∷ hs) before (last ∷ behind)
         ∙ ap (λ (hs : List HeardSession). fold hears (hears hs last) behind) (session_open before none)
         ∙ ap (λ (hs : List HeardSession). fold hears hs behind)
-            (hears_on (heard false (found before) ∷ hs) last (none_before_end (found before) (begins last)) ∙ ap (λ (b : Bool). heard b (found before ++ found (last ∷ [])) ∷ hs) end_is)
+        (hears_on (heard false (found before) ∷ hs) last (none_before_end (found before) (begins last)) ∙ ap (λ (b : Bool). heard b (found before ++ found (last ∷ [])) ∷ hs) end_is)
         ∙ ended_run (found before ++ found (last ∷ [])) behind same
         ∙ joined true (found before) last behind
         ∙ ap (λ (l : List Fragment). heard true l ∷ hs) (sym (filter_map-append (fragment_in s) before (last ∷ behind)))

@@ -2,6 +2,7 @@ pub mod WrittenPackets
 pub mod WrittenPayloads
 pub mod LinkRows
 pub mod Keeping
+pub mod Slots
 pub mod Bookkeeping
 pub mod Unchanged
 pub mod Numbering

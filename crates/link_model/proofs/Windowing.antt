@@ -5,13 +5,13 @@ use Rattle.std.specs.List.{list_all, range_with_len}
 use Rattle.std.specs.Option.{option_map_or}
 use Rattle.std.proofs.lemmas.Bool.{cases_Bool, cases_eq, and_parts, and_from, and_left, cond-true, cond-false, eq-eqb, ne_eqb, leb-true, le-leb, le-ltb, ltb-false, false≢true, not-true, not_from_false, or_parts, false_from_ne_true, both_ways, lt-leb}
 use Rattle.std.proofs.lemmas.List.{append-nil}
-use Rattle.link_model.specs.Books.{book_whole, Book, empty_book, book_takes, book_outcome, StandsFor}
+use Rattle.link_model.specs.Books.{book_whole, Book, book_of, book_takes, book_outcome}
 use Rattle.link_model.specs.Judgement.{fragment_outcome, part_outcome}
 use Rattle.link_model.specs.Numbers.{Numbered, greatest, nearest, picture_number, is_closed, is_late, is_opened, has_parts, enters, parts_of, span}
 use Rattle.link_model.specs.Session.{Part, Fragment}
 use Rattle.link_model.specs.Windows.{Window, empty_window, number_in, late_in, book_in, with_book, opens_picture, window_enters, window_outcome, is_nothing, is_needed, forgets, complete_in, let_go_in, StandsForEntries}
 use Rattle.link_model.specs.declared.outcome.Outcome.TheVariants.{Late}
-use Rattle.link_model.proofs.Bookkeeping.{empty_stands, stands_for_more, book_outcome_is, book_whole_is}
+use Rattle.link_model.proofs.Bookkeeping.{takes-more, book_outcome_is, book_whole_is}
 use Rattle.link_model.specs.Output.{complete_at, is_let_go}
 use Rattle.link_model.proofs.Leaving.{complete_opened}
 use Rattle.link_model.proofs.Numbering.{greatest-append, parts_of-append, parts_of-other, late_changes_nothing, early_enters}
@@ -44,12 +44,10 @@ module _ (base window : ℕ) (s : Sequence) (w : Window) (es : List Numbered) (r
     unclosed = (or_parts (is_closed window es n) (nat_le (2 ^ 64 - 16) n) early).0
 
     -- the book of a picture that isn't closed, or a new one
-    book_stands : StandsFor s (book_in w n) (parts_of n es)
+    book_stands : book_in s w n ≡ book_of s (parts_of n es)
     book_stands = elim (cases_Bool (is_opened es n)) [
-      | inl was ↦ (let found = stands.books n (and_from (is_opened es n) (not (is_closed window es n && nat_lt n released)) was (not_from_false (is_closed window es n && nat_lt n released) (and_left (is_closed window es n) (nat_lt n released) unclosed))) in
-          subst (λ (o : Option Book). StandsFor s (unwrap_or o empty_book) (parts_of n es)) (sym found.1) found.2)
-      | inr shut ↦ subst (λ (o : Option Book). StandsFor s (unwrap_or o empty_book) (parts_of n es)) (sym (stands.unopened n shut))
-          (subst (StandsFor s empty_book) (sym (no_parts (parts_of n es) shut)) (empty_stands s))
+      | inl was ↦ ap (λ (o : Option Book). unwrap_or o (book_of s [])) (stands.books n (and_from (is_opened es n) (not (is_closed window es n && nat_lt n released)) was (not_from_false (is_closed window es n && nat_lt n released) (and_left (is_closed window es n) (nat_lt n released) unclosed))))
+      | inr shut ↦ ap (λ (o : Option Book). unwrap_or o (book_of s [])) (stands.unopened n shut) ∙ ap (book_of s) (sym (no_parts (parts_of n es) shut))
     ]
       where
         no_parts : (parts : List Part) → has_parts parts ≡ false → parts ≡ []
@@ -75,7 +73,7 @@ module _ (base window : ℕ) (s : Sequence) (w : Window) (es : List Numbered) (r
       rises = omega (arith, greatest-append es (record { number = n; part = part } ∷ []))
 
       new_books : ℕ → Option Book
-      new_books = with_book w.books n (book_takes s (book_in w n) part)
+      new_books = with_book w.books n (book_takes (book_in s w n) part)
 
       closed_later : (m : ℕ) → is_closed window es m ≡ true → is_closed window more m ≡ true
       unfolding is_closed
@@ -91,23 +89,22 @@ module _ (base window : ℕ) (s : Sequence) (w : Window) (es : List Numbered) (r
           open_before false new low stays e = refl
           open_before true new low stays e = sym (ap (λ (b : Bool). b && low) (stays refl)) ∙ e
 
-      opens_stands : StandsForEntries base window s (record { base = w.base; top = max w.top n; is_new = false; books = with_book w.books n (book_takes s (book_in w n) part) }) more released
+      opens_stands : StandsForEntries base window s (record { base = w.base; top = max w.top n; is_new = false; books = with_book w.books n (book_takes (book_in s w n) part) }) more released
       opens_stands = record {
         begins = stands.begins;
         top = ap (λ t. max t n) stands.top ∙ sym rises;
         is_new = sym (not_nothing es);
         books = λ m needed. elim (cases_eq m n) [
-          | inl same ↦ (
-            book_takes s (book_in w n) part,
-            cond-true (m == n) (Some (book_takes s (book_in w n) part)) (w.books m) (eq-eqb m n same),
-            subst (λ k. StandsFor s (book_takes s (book_in w n) part) (parts_of k more)) (sym same) (subst (StandsFor s (book_takes s (book_in w n) part)) (sym own_parts) (stands_for_more s (book_in w n) (parts_of n es) book_stands part)),
-          )
-          | inr apart ↦ (let found = stands.books m (still_needed m apart needed) in
-              (found.0, cond-false (m == n) (Some (book_takes s (book_in w n) part)) (w.books m) (ne_eqb m n apart) ∙ found.1, subst (StandsFor s found.0) (sym (other_parts m apart)) found.2))
+          | inl same ↦ cond-true (m == n) (Some (book_takes (book_in s w n) part)) (w.books m) (eq-eqb m n same)
+              ∙ ap (λ (b : Book). Some (book_takes b part)) book_stands
+              ∙ ap Some (takes-more s (parts_of n es) part ∙ ap (book_of s) (sym own_parts) ∙ ap (λ k. book_of s (parts_of k more)) (sym same))
+          | inr apart ↦ cond-false (m == n) (Some (book_takes (book_in s w n) part)) (w.books m) (ne_eqb m n apart)
+              ∙ stands.books m (still_needed m apart needed)
+              ∙ ap (λ (l : List Part). Some (book_of s l)) (sym (other_parts m apart))
         ];
         unopened = λ m shut. elim (cases_eq m n) [
           | inl same ↦ absurd (false≢true (sym shut ∙ ap (λ k. has_parts (parts_of k more)) same ∙ ap has_parts own_parts ∙ ends (parts_of n es)))
-          | inr apart ↦ cond-false (m == n) (Some (book_takes s (book_in w n) part)) (w.books m) (ne_eqb m n apart) ∙ stands.unopened m (sym (ap has_parts (other_parts m apart)) ∙ shut)
+          | inr apart ↦ cond-false (m == n) (Some (book_takes (book_in s w n) part)) (w.books m) (ne_eqb m n apart) ∙ stands.unopened m (sym (ap has_parts (other_parts m apart)) ∙ shut)
         ];
       }
         where
@@ -138,13 +135,15 @@ module _ (base window : ℕ) (s : Sequence) (w : Window) (es : List Numbered) (r
   pub window_outcome_is : (f : Fragment) → window_outcome window s w f ≡ fragment_outcome base window s es f
   unfolding window_outcome fragment_outcome
   window_outcome_is f =
-      ap (λ (b : Bool). cond b Late (book_outcome s (book_in w (number_in w f.number)) f.part)) (late_same f)
-      ∙ ap (λ k. cond (is_late window es (picture_number base es f.number)) Late (book_outcome s (book_in w k) f.part)) (number_is f.number)
+      ap (λ (b : Bool). cond b Late (book_outcome (book_in s w (number_in w f.number)) f.part)) (late_same f)
+      ∙ ap (λ k. cond (is_late window es (picture_number base es f.number)) Late (book_outcome (book_in s w k) f.part)) (number_is f.number)
       ∙ by_late (is_late window es (picture_number base es f.number)) refl
     where
-      by_late : (b : Bool) → is_late window es (picture_number base es f.number) ≡ b → cond b Late (book_outcome s (book_in w (picture_number base es f.number)) f.part) ≡ cond b Late (part_outcome s (parts_of (picture_number base es f.number) es) f.part)
+      by_late : (b : Bool) → is_late window es (picture_number base es f.number) ≡ b → cond b Late (book_outcome (book_in s w (picture_number base es f.number)) f.part) ≡ cond b Late (part_outcome s (parts_of (picture_number base es f.number) es) f.part)
       by_late true is = refl
-      by_late false is = book_outcome_is s (book_in w (picture_number base es f.number)) (parts_of (picture_number base es f.number) es) (book_stands (picture_number base es f.number) is) f.part
+      by_late false is =
+          ap (λ (b : Book). book_outcome b f.part) (book_stands (picture_number base es f.number) is)
+          ∙ book_outcome_is s (parts_of (picture_number base es f.number) es) f.part
 
 -- ---- books of pictures that are closed and released go
 
@@ -161,8 +160,8 @@ module _ (base window : ℕ) (s : Sequence) (w : Window) (es : List Numbered) (b
     books = λ n needed.
         let parts = and_parts (is_opened es n) (not (is_closed window es n && nat_lt n released)) needed in
         let kept = not-true (is_closed window es n && nat_lt n released) parts.1 in
-        let found = stands.books n (and_from (is_opened es n) (not (is_closed window es n && nat_lt n before)) parts.0 (not_from_false (is_closed window es n && nat_lt n before) (earlier n (is_closed window es n) kept))) in
-        (found.0, cond-false (nat_le (n + window) w.top && nat_lt n released) None (w.books n) (ap (λ (b : Bool). b && nat_lt n released) (closed_is n) ∙ kept) ∙ found.1, found.2);
+        cond-false (nat_le (n + window) w.top && nat_lt n released) None (w.books n) (ap (λ (b : Bool). b && nat_lt n released) (closed_is n) ∙ kept)
+        ∙ stands.books n (and_from (is_opened es n) (not (is_closed window es n && nat_lt n before)) parts.0 (not_from_false (is_closed window es n && nat_lt n before) (earlier n (is_closed window es n) kept)));
     unopened = λ n shut. none (nat_le (n + window) w.top && nat_lt n released) (w.books n) (stands.unopened n shut);
   }
     where
@@ -206,8 +205,9 @@ module _ (base window : ℕ) (s : Sequence) (w : Window) (es : List Numbered) (r
   complete_is : (n : ℕ) → greatest es < n + window → complete_in w n ≡ complete_at s es n
   unfolding complete_at
   complete_is n above = elim (cases_Bool (is_opened es n)) [
-    | inl was ↦ (let found = stands.books n (and_from (is_opened es n) (not (is_closed window es n && nat_lt n released)) was (not_from_false (is_closed window es n && nat_lt n released) (and_left (is_closed window es n) (nat_lt n released) (not_closed n above)))) in
-        ap (λ (o : Option Book). option_map_or (λ book. is_some (book_whole book)) o false) found.1 ∙ ap is_some (book_whole_is s found.0 (parts_of n es) found.2))
+    | inl was ↦ ap (λ (o : Option Book). option_map_or (λ book. is_some (book_whole book)) o false)
+        (stands.books n (and_from (is_opened es n) (not (is_closed window es n && nat_lt n released)) was (not_from_false (is_closed window es n && nat_lt n released) (and_left (is_closed window es n) (nat_lt n released) (not_closed n above)))))
+        ∙ ap is_some (book_whole_is s (parts_of n es))
     | inr shut ↦ ap (λ (o : Option Book). option_map_or (λ book. is_some (book_whole book)) o false) (stands.unopened n shut) ∙ sym (unopened_incomplete n shut)
   ]
 

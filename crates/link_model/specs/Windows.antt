@@ -2,7 +2,7 @@
 use Rattle.std.specs.Prelude.{◌≡◌, ℕ, ◌+◌, ◌-◌, ◌^◌, max, Bool, true, false, ◌&&◌, ◌||◌, not, nat_lt, nat_le, ◌==◌, if◌then◌else◌, List, [], ◌∷◌, Option, Some, None, is_some, unwrap_or}
 use Rattle.std.specs.List.{list_all}
 use Rattle.std.specs.Option.{option_map_or}
-use Rattle.link_model.specs.Books.{book_whole, Book, empty_book, book_takes, book_outcome, StandsFor}
+use Rattle.link_model.specs.Books.{book_whole, Book, book_of, book_takes, book_outcome}
 use Rattle.link_model.specs.Numbers.{Numbered, greatest, nearest, is_closed, is_opened, parts_of, span}
 use Rattle.link_model.specs.Session.{Fragment}
 use Rattle.link_model.specs.declared.outcome.Outcome.{Outcome}
@@ -25,8 +25,9 @@ number_in w bits = if w.is_new then w.base + bits else nearest w.top bits
 abbrev pub late_in : ℕ → Window → ℕ → Bool
 late_in window w n = nat_le (n + window) w.top || nat_le (2 ^ 64 - 16) n
 
-abbrev pub book_in : Window → ℕ → Book
-book_in w n = unwrap_or (w.books n) empty_book
+-- a picture's book, an empty one where it has none
+abbrev pub book_in : Sequence → Window → ℕ → Book
+book_in s w n = unwrap_or (w.books n) (book_of s [])
 
 abbrev pub with_book : (ℕ → Option Book) → ℕ → Book → ℕ → Option Book
 with_book books n book m = if m == n then Some book else books m
@@ -37,7 +38,7 @@ opens_picture s w n f = record {
   base = w.base;
   top = max w.top n;
   is_new = false;
-  books = with_book w.books n (book_takes s (book_in w n) f.part);
+  books = with_book w.books n (book_takes (book_in s w n) f.part);
 }
 
 unfoldable pub window_enters : ℕ → Sequence → Window → Fragment → Window
@@ -49,7 +50,7 @@ window_enters window s w f =
 unfoldable pub window_outcome : ℕ → Sequence → Window → Fragment → Outcome
 window_outcome window s w f =
     if late_in window w (number_in w f.number) then Late
-    else book_outcome s (book_in w (number_in w f.number)) f.part
+    else book_outcome (book_in s w (number_in w f.number)) f.part
 
 -- the books of pictures that are closed and below what was released go
 abbrev pub forgets : ℕ → ℕ → Window → Window
@@ -67,16 +68,12 @@ is_nothing (e ∷ es) = false
 abbrev pub is_needed : ℕ → ℕ → List Numbered → ℕ → Bool
 is_needed window released es n = is_opened es n && not (is_closed window es n && nat_lt n released)
 
--- a picture's book, where it is needed, stands for the picture's parts
-abbrev pub HasBook : Sequence → Window → List Numbered → ℕ → Type 0
-HasBook s w es n = (book : Book) × (w.books n ≡ Some book) × StandsFor s book (parts_of n es)
-
 pub record StandsForEntries (base window : ℕ) (s : Sequence) (w : Window) (es : List Numbered)
     (released : ℕ) : Type 0 where
   pub begins : w.base ≡ base
   pub top : w.top ≡ greatest es
   pub is_new : w.is_new ≡ is_nothing es
-  pub books : (n : ℕ) → is_needed window released es n ≡ true → HasBook s w es n
+  pub books : (n : ℕ) → is_needed window released es n ≡ true → w.books n ≡ Some (book_of s (parts_of n es))
   pub unopened : (n : ℕ) → is_opened es n ≡ false → w.books n ≡ None
 
 -- ---- when a picture is let go, by the window

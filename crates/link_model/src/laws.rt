@@ -1,6 +1,7 @@
 ghost use Rattle.std.specs.Prelude.{◌≡◌, ◌↔◌, ℕ, ◌+◌, ◌%◌, ◌^◌, ◌-◌, ◌<◌, ◌≤◌, true, false, List, [], ◌∷◌, ◌++◌, fold, filter_map, is_some, Some, None, Ok, length};
 ghost use Rattle.std.specs.List.{flat_map, list_any};
-ghost use Rattle.link_model.specs.Books.{Book, empty_book, book_takes, book_outcome, book_whole, StandsFor};
+ghost use Rattle.std.specs.Option.{option_and_then};
+ghost use Rattle.link_model.specs.Books.{Book, book_of, book_takes, book_outcome, book_slice, book_whole};
 ghost use Rattle.link_model.specs.Complete.{whole_picture};
 ghost use Rattle.link_model.specs.Headers.{same_sequence, same_parameters};
 ghost use Rattle.link_model.specs.Judgement.{part_outcome, keeps, fragment_outcome, outcome_behind, outcomes_in, with_outcome, outcome_counts};
@@ -77,24 +78,25 @@ pub fn pictures_leave_in_order()
         ≡ frames_so_far window s es ++ flat_map (frame_bytes_at s es) rest) }
 {}
 
-/// A book stands for the parts that it took: with one more it does so again, it answers the part's outcome, and has the
-/// picture's whole bytes.
+/// The book of a list of parts is with a part more the book of the longer list. It answers the part's outcome, has the
+/// slices that are kept, and the picture's whole bytes.
+#[tactic(auto, using(crate::proofs::Bookkeeping::laws))]
 pub fn books_stand_for_parts()
-    ensures none { (s : Sequence) → StandsFor s empty_book [] }
-    ensures more { (s : Sequence) (book : Book) (parts : List Part) → StandsFor s book parts
-        → (part : Part) → StandsFor s (book_takes s book part) (parts ++ part ∷ []) }
-    ensures outcome { (s : Sequence) (book : Book) (parts : List Part) → StandsFor s book parts
-        → (part : Part) → book_outcome s book part ≡ part_outcome s parts part }
-    ensures whole { (s : Sequence) (book : Book) (parts : List Part) → StandsFor s book parts
-        → book_whole book ≡ whole_picture s parts }
+    ensures more { (s : Sequence) (parts : List Part) (part : Part)
+        → book_takes (book_of s parts) part ≡ book_of s (parts ++ part ∷ []) }
+    ensures outcome { (s : Sequence) (parts : List Part) (part : Part)
+        → book_outcome (book_of s parts) part ≡ part_outcome s parts part }
+    ensures slice { (s : Sequence) (parts : List Part) (i : ℕ)
+        → book_slice (book_of s parts) i ≡ option_and_then (λ kept. own_slice kept i) (own s parts) }
+    ensures whole { (s : Sequence) (parts : List Part)
+        → book_whole (book_of s parts) ≡ whole_picture s parts }
 {}
 
 /// A part that isn't kept leaves the book as it was.
 #[tactic(auto, using(crate::proofs::Unchanged::laws))]
 pub fn what_is_not_kept_changes_nothing()
-    ensures { (s : Sequence) (book : Book) (part : Part) → keeps (book_outcome s book part) ≡ false
-        → ((book_takes s book part).plan ≡ book.plan) × ((book_takes s book part).waiting
-        ≡ book.waiting) × ((i : ℕ) → (book_takes s book part).slices i ≡ book.slices i) }
+    ensures { (book : Book) (part : Part) → keeps (book_outcome book part) ≡ false
+        → book_takes book part ≡ book }
 {}
 
 /// A window stands for the fragments that it took, with one more it does so again, and it answers the fragment's outcome.
@@ -166,14 +168,22 @@ pub fn sessions_follow_each_other()
     ensures ended { (hs : List HeardSession) (s : Session) (before : List (List ℕ)) (last : List ℕ) (behind : List (List ℕ))
         → list_any (ends s) before ≡ false → ends s last ≡ true → list_any (opens_other s) behind
         ≡ false → fold hears (just_opened s ∷ hs) (before ++ last ∷ behind)
-        ≡ record { session = s; has_ended = true; fragments = filter_map (fragment_in s) (before
-        ++ last ∷ behind) } ∷ hs }
+        ≡ record {
+          session = s;
+          has_ended = true;
+          fragments = filter_map (fragment_in s) (before
+              ++ last ∷ behind);
+        } ∷ hs }
     ensures next { (hs : List HeardSession) (s : Session) (before : List (List ℕ)) (last : List ℕ) (behind : List (List ℕ))
         → list_any (ends s) before ≡ false → ends s last ≡ true → list_any (opens_other s) behind
         ≡ false → (d : List ℕ) (t : Session) → begins d ≡ Some t → is_other s t ≡ true
         → fold hears (just_opened s ∷ hs) ((before ++ last ∷ behind) ++ d ∷ [])
-        ≡ just_opened t ∷ record { session = s; has_ended = true; fragments = filter_map (fragment_in s) (before
-        ++ last ∷ behind) } ∷ hs }
+        ≡ just_opened t ∷ record {
+          session = s;
+          has_ended = true;
+          fragments = filter_map (fragment_in s) (before
+              ++ last ∷ behind);
+        } ∷ hs }
 {}
 
 /// A datagram that opens a session is HeaderNew, an end of the last session is End, and a fragment of it has the fragment's
