@@ -5,7 +5,7 @@ use Rattle.std.specs.List.{list_all, range_with_len}
 use Rattle.std.specs.Option.{option_map_or, option_and_then}
 use Rattle.std.proofs.lemmas.Bool.{and_parts, and_from, cases_lt, both_ways, false≢true}
 use Rattle.link_model.specs.Complete.{whole_picture}
-use Rattle.link_model.specs.Frames.{frame_bytes, is_wide}
+use Rattle.vc_types.specs.RawFrames.{frame_bytes, is_wide}
 use Rattle.link_model.specs.Numbers.{Numbered, greatest, parts_of, entered}
 use Rattle.link_model.specs.Output.{complete_at, planes_at, frame_at, frame_bytes_at, raw_bytes, is_let_go, woven_fields}
 use Rattle.link_model.specs.Session.{Fragment}

@@ -3,7 +3,8 @@ use Rattle.std.specs.Prelude.{◌≡◌, ℕ, ◌+◌, ◌-◌, ◌%◌, ◌==�
 use Rattle.std.specs.List.{flat_map, list_all, range_with_len}
 use Rattle.std.specs.Option.{option_map, option_map_or, option_zip}
 use Rattle.link_model.specs.Complete.{is_complete, picture_planes}
-use Rattle.link_model.specs.Frames.{is_wide, frame_bytes, woven}
+use Rattle.vc_types.specs.FieldPairs.{woven}
+use Rattle.vc_types.specs.RawFrames.{is_wide, frame_bytes}
 use Rattle.link_model.specs.Numbers.{Numbered, greatest, base_above, parts_of, entered, is_closed, is_opened, opened_numbers, span}
 use Rattle.link_model.specs.Session.{HeardSession, sessions_of}
 use Rattle.vc_types.specs.Planes.{Planes}

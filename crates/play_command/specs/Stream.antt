@@ -3,15 +3,17 @@
 use Rattle.std.specs.Prelude.{ℕ, ◌+◌, ◌-◌, ◌*◌, ◌%◌, Bool, true, false, ◌&&◌, ◌==◌, nat_lt, if◌then◌else◌, List, [], ◌∷◌, ◌++◌, length, map, drop, Option, Some, None, Result, Ok, Err, option_and_then}
 use Rattle.std.specs.Option.{option_map, option_map_or}
 use Rattle.std.specs.List.{flat_map}
-use Rattle.link_model.specs.Frames.{is_wide, frame_bytes, woven}
-use Rattle.link_model.specs.Packets.{number_at}
+use Rattle.vc_types.specs.RawFrames.{is_wide, frame_bytes}
+use Rattle.vc_types.specs.FieldPairs.{woven}
+use Rattle.byteorder.specs.Endian.{big_number}
 use Rattle.vc_types.specs.Bits.{digit_of}
 use Rattle.vc_types.specs.HeaderSpelling.{sampling_index}
+use Rattle.vc_types.specs.ParseCodes.{header_code, picture_code}
 use Rattle.vc_types.specs.Planes.{Planes, decoded_planes}
 use Rattle.vc_types.specs.SequenceHeader.{Sequence, coded_header, picture_shape}
 use Rattle.vc_types.specs.declared.refusal.HeaderRefusal.{HeaderRefusal}
 use Rattle.vc_types.specs.declared.video.SignalRange.{SignalRange}
-use Rattle.vc_units.specs.Units.{DataUnit, unit_length}
+use Rattle.vc_types.specs.DataUnits.{DataUnit, unit_length}
 
 -- ---- headers of one value
 
@@ -50,7 +52,7 @@ with_header stream (Err refusal) = None
 
 -- the picture of a unit's body: its number in 4 bytes, the transform parameters and the slices
 unfoldable pub picture_in : Sequence → List ℕ → Option Picture
-picture_in sequence body = if nat_lt (length body) 4 then None else option_map (λ planes. record { number = number_at 4 0 body; planes = planes }) (decoded_planes sequence (drop 4 body))
+picture_in sequence body = if nat_lt (length body) 4 then None else option_map (λ planes. record { number = big_number 4 body; planes = planes }) (decoded_planes sequence (drop 4 body))
 
 abbrev pub with_picture : Stream → Picture → Stream
 with_picture stream p = record { sequence = stream.sequence; pictures = stream.pictures ++ p ∷ [] }
@@ -62,8 +64,8 @@ shows body stream = option_map (with_picture stream) (picture_in stream.sequence
 -- units bring nothing. None where the unit is refused.
 unfoldable pub takes : Option Stream → DataUnit → Option (Option Stream)
 takes stream u =
-    if u.code == 0x00 then option_map (λ next. Some next) (with_header stream (coded_header u.body))
-    else if u.code == 0xE8 then option_map (λ next. Some next) (option_and_then (shows u.body) stream)
+    if u.code == header_code then option_map (λ next. Some next) (with_header stream (coded_header u.body))
+    else if u.code == picture_code then option_map (λ next. Some next) (option_and_then (shows u.body) stream)
     else Some stream
 
 -- what came up to now, and the place of the next unit

@@ -6,7 +6,7 @@ use Rattle.vc_types.specs.Quantisation.{quantised, quant_factor}
 use Rattle.vc_types.specs.Slices.{Coefficients, quantisers}
 use Rattle.vc_types.specs.Subbands.{slice_rectangle}
 use Rattle.vc_types.specs.TransformParameters.{Parameters}
-use Rattle.vc_slice.specs.Encoding.{without_last_zeros, quantised_numbers, block_bits, encoded_block, encoded_length, encoded_slice}
+use Rattle.vc_types.specs.Encoding.{without_last_zeros, quantised_numbers, block_bits, encoded_block, encoded_length, encoded_slice}
 
 -- 2 by 2, 4:4:4, wavelet 3 at depth 1, one slice, the default matrix
 abbrev one_slice : Parameters
