@@ -31,12 +31,12 @@ sequence = record {
 }
 
 pub header_is : coded_header (0x70 ∷ 0xf0 ∷ 0x63 ∷ 0xc0 ∷ 0x80 ∷ []) ≡ Ok (sequence, 5)
-unfolding sequence_header header.number header.major_version header.profile header.base_video_format header.frame_size header.colour_difference_sampling header.scan_format header.ratio header.clean_area header.excursion header.custom_signal_range header.signal_range_of header.colour_part header.colour_specification header.picture_coding_mode number uint_at uint_after bits_of byte_bits format_of range_of
+unfolding sequence_header header.header_number header.major_version header.profile header.base_video_format header.frame_size header.colour_difference_sampling header.scan_format header.ratio header.clean_area header.excursion header.custom_signal_range header.signal_range_of header.colour_part header.colour_specification header.picture_coding_mode number uint_at uint_after bits_of byte_bits format_of range_of
 header_is = refl
 
 -- four of its bytes
 pub header_is_short : coded_header (0x70 ∷ 0xf0 ∷ 0x63 ∷ 0xc0 ∷ []) ≡ Err refusals.Short
-unfolding sequence_header header.number header.major_version header.profile header.base_video_format header.frame_size header.colour_difference_sampling header.scan_format header.ratio header.clean_area header.excursion header.custom_signal_range header.signal_range_of header.colour_part header.colour_specification header.picture_coding_mode number uint_at uint_after bits_of byte_bits format_of range_of
+unfolding sequence_header header.header_number header.major_version header.profile header.base_video_format header.frame_size header.colour_difference_sampling header.scan_format header.ratio header.clean_area header.excursion header.custom_signal_range header.signal_range_of header.colour_part header.colour_specification header.picture_coding_mode number uint_at uint_after bits_of byte_bits format_of range_of
 header_is_short = refl
 
 -- wavelet, slices across and the matrix; depth 1, one slice down, no prefix, scaler 1

@@ -37,7 +37,7 @@ sequence = record {
 }
 
 pub header_is : sequence_header (bits_of (0x70 ∷ 0xf6 ∷ 0xf0 ∷ 0x20 ∷ [])) ≡ Ok (sequence, false ∷ false ∷ false ∷ false ∷ false ∷ [])
-unfolding sequence_header header.number header.major_version header.profile header.base_video_format header.frame_size header.colour_difference_sampling header.scan_format header.ratio header.clean_area header.excursion header.custom_signal_range header.signal_range_of header.colour_part header.colour_specification header.picture_coding_mode number uint_at uint_after bits_of byte_bits format_of range_of
+unfolding sequence_header header.header_number header.major_version header.profile header.base_video_format header.frame_size header.colour_difference_sampling header.scan_format header.ratio header.clean_area header.excursion header.custom_signal_range header.signal_range_of header.colour_part header.colour_specification header.picture_coding_mode number uint_at uint_after bits_of byte_bits format_of range_of
 header_is = refl
 
 -- the planes of a component: these samples, row by row
