@@ -65,7 +65,8 @@ impl BitWriter {
     /// Fills the last byte.
     #[tactic(auto, using(crate::proofs::Writing::fills))]
     pub fn align(&mut self, fill: bool) -> Result<(), NoMemory>
-        ensures ok { OnOk result (self.new ≡ self.old ++ replicate (to_edge (length self.old)) fill) }
+        ensures ok { OnOk result (self.new
+            ≡ self.old ++ replicate (to_edge (length self.old)) fill) }
         ensures err { OnErr result (self.new ≡ self.old) }
     {
         if self.count > 0 {

@@ -7,7 +7,7 @@ use vc_golomb::{UintRefusal, read_uint};
 use vc_types::HeaderRefusal;
 
 /// The next number.
-#[tactic(auto, unfolding(vc_types::specs::SequenceHeader::header_number, vc_types::specs::Fields::number))]
+#[tactic(auto, unfolding(vc_types::specs::SequenceHeader::header_number, vc_types::specs::Fields::number_up_to))]
 pub fn number(r: &mut BitReader) -> Result<u32, HeaderRefusal>
     ensures { Gives (λ n. n) result r.new.left (header_number r.old.left) }
 {

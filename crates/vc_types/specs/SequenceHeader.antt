@@ -9,7 +9,7 @@ use Rattle.vc_types.specs.declared.video.SignalRange.{SignalRange}
 use Rattle.vc_types.specs.declared.refusal.HeaderRefusal.{HeaderRefusal}
 use Rattle.vc_types.specs.declared.refusal.HeaderRefusal.TheVariants as refusals
 use Rattle.vc_types.specs.Video.{BaseFormat, format_of, range_of, signal_range, dimensions_fit, excursion_fits, colour_width, colour_height, picture_height, video_depth}
-use Rattle.vc_types.specs.Fields.{Field, ◌>>=◌, give, skip, refuse, tested, behind_flag, number}
+use Rattle.vc_types.specs.Fields.{Field, ◌>>=◌, give, skip, refuse, tested, behind_flag, number_up_to}
 
 -- the value of a sequence header
 pub record Sequence : Type 0 where
@@ -46,7 +46,7 @@ HeaderField X = Field Bool HeaderRefusal X
 -- ---- the fields
 
 unfoldable pub header_number : HeaderField ℕ
-header_number = number refusals.Short refusals.TooLarge (2 ^ 32 - 1)
+header_number = number_up_to refusals.Short refusals.TooLarge (2 ^ 32 - 1)
 
 -- a number of at most a limit
 abbrev pub index : ℕ → HeaderRefusal → HeaderField ℕ
