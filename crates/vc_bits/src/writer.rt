@@ -26,7 +26,8 @@ impl Model for BitWriter {
 
     ghost view = { λ w. bits_of w.bytes.items ++ low_bits w.count w.last };
 
-    ghost invariant = { λ w. (w.count < 8) × (w.last < 2 ^ w.count) × (0 < w.count → vec_len w.bytes < vec_capacity w.bytes) };
+    ghost invariant = { λ w. (w.count < 8) × (w.last < 2 ^ w.count)
+        × (0 < w.count → vec_len w.bytes < vec_capacity w.bytes) };
 }
 
 impl BitWriter {

@@ -83,8 +83,8 @@ impl Quantiser {
     #[inline]
     fn magnitude(&self, size: u64) -> u128
         requires { size ≤ 2 ^ 62 }
-        ensures value { result
-            ≡ dequantised_magnitude size (quant_factor self.now.index) (quant_offset self.now.index) }
+        ensures value { result ≡ dequantised_magnitude size
+            (quant_factor self.now.index) (quant_offset self.now.index) }
         ensures range { result < 2 ^ 95 }
         ensures not_smaller { size ≤ result }
     {

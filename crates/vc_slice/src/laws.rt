@@ -14,7 +14,8 @@ ghost use Rattle.vc_types.specs.TransformParameters.{Parameters};
 /// sound, it is these parameters and the slices' coefficients in raster order; where one isn't, there is no picture.
 pub fn slices_decode_apart()
     ensures sound { (s : Sequence) (p : Parameters) (coded : List ℕ) (slices : List (List ℕ))
-        (behind : List ℕ) (answer : ℕ → Result Coefficients Unsound) (coefficients : ℕ → Coefficients)
+        (behind : List ℕ) (answer : ℕ → Result Coefficients Unsound)
+        (coefficients : ℕ → Coefficients)
         → ArePictureBytes s p coded slices → AreAnswers p slices answer
         → ((i : ℕ) → i < slice_count p → answer i ≡ Ok (coefficients i))
         → decoded_picture s (coded ++ (joined slices ++ behind)) ≡ Some (record {

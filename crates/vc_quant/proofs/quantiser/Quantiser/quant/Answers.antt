@@ -3,7 +3,7 @@ use Rattle.std.specs.Int.{w64}
 use Rattle.std.proofs.lemmas.Int.{ints, to_z-of_z}
 use Rattle.std.proofs.Math.Nat.{div-le_self}
 use Rattle.vc_types.specs.Quantisation.{quant_factor, quantised}
-use Rattle.vc_types.proofs.Magnitudes.{negated_64, kept_64}
+use Rattle.vc_quant.proofs.Magnitudes.{negated_64, kept_64}
 use Rattle.vc_quant.proofs.quantiser.Quantiser.quant.Goals as goal
 
 pub returns-then-c-lt0-clause-value : goal.returns-then-c-lt0-clause-value
