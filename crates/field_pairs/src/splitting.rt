@@ -23,7 +23,8 @@ fn every_other_row(alloc: Global, frame: &Plane, first: u32) -> Result<Plane, No
 fn field(alloc: Global, frame: &[Plane; 3], first: u32) -> Result<[Plane; 3], NoMemory>
     requires first { first < 2 }
     requires even { HaveEvenHeights (planes_in frame.now) }
-    ensures { IfOk result (λ field. planes_in field ≡ on_each (every_other_row first) (planes_in frame.now)) }
+    ensures { IfOk result
+        (λ field. planes_in field ≡ on_each (every_other_row first) (planes_in frame.now)) }
 {
     Ok([
         every_other_row(alloc, &frame[0], first)?,
@@ -40,7 +41,9 @@ pub fn split(
     top_first: bool,
 ) -> Result<([Plane; 3], [Plane; 3]), NoMemory>
     requires { HaveEvenHeights (planes_in frame.now) }
-    ensures value { IfOk result (λ fields. (planes_in fields.0, planes_in fields.1) ≡ fields_of top_first (planes_in frame.now)) }
+    ensures value { IfOk result
+        (λ fields. (planes_in fields.0, planes_in fields.1)
+        ≡ fields_of top_first (planes_in frame.now)) }
 {
     if top_first {
         Ok((field(alloc, frame, 0)?, field(alloc, frame, 1)?))

@@ -28,7 +28,9 @@ fn interleave_each(
 ) -> Result<[Plane; 3], NoMemory>
     requires sizes { HaveEqualSizes (planes_in even.now) (planes_in odd.now) }
     requires heights { HaveHeightsUpTo 4096 (planes_in even.now) }
-    ensures { IfOk result (λ planes. planes_in planes ≡ of_each interleaved_rows (planes_in even.now) (planes_in odd.now)) }
+    ensures { IfOk result
+        (λ planes. planes_in planes
+        ≡ of_each interleaved_rows (planes_in even.now) (planes_in odd.now)) }
 {
     Ok([
         interleave(alloc, &even[0], &odd[0])?,
@@ -48,7 +50,8 @@ pub fn weave(
 ) -> Result<[Plane; 3], NoMemory>
     requires sizes { HaveEqualSizes (planes_in first) (planes_in second) }
     requires heights { HaveHeightsUpTo 4096 (planes_in first) }
-    ensures value { IfOk result (λ planes. planes_in planes ≡ woven top_first (planes_in first) (planes_in second)) }
+    ensures value { IfOk result
+        (λ planes. planes_in planes ≡ woven top_first (planes_in first) (planes_in second)) }
 {
     if top_first {
         interleave_each(alloc, &first, &second)

@@ -27,8 +27,10 @@ fn write_planes<O: Sink>(
 ) -> Result<(), WriteFault>
     requires room { 2 * PIECE ≤ length buffer.old }
     requires narrow { (two ≡ false) → HaveByteSamples (planes_in planes.now) }
-    ensures ok { OnOk result (Grew (O.held sink.old) (O.held sink.new) (frame_bytes (planes_in planes.now) two)) }
-    ensures err { OnErr result (GrewBySome (O.held sink.old) (O.held sink.new) (frame_bytes (planes_in planes.now) two)) }
+    ensures ok { OnOk result
+        (Grew (O.held sink.old) (O.held sink.new) (frame_bytes (planes_in planes.now) two)) }
+    ensures err { OnErr result
+        (GrewBySome (O.held sink.old) (O.held sink.new) (frame_bytes (planes_in planes.now) two)) }
     ensures cause { HasCause (O.faults sink.old) (O.faults sink.new) (IsErr result) }
 {
     let [y, c1, c2] = planes;
@@ -47,9 +49,12 @@ pub fn write_frame<O: Sink>(
     two: bool,
 ) -> Result<(), FrameFault>
     requires { (two ≡ false) → HaveByteSamples (planes_in planes.now) }
-    ensures ok { OnOk result (Grew (O.held sink.old) (O.held sink.new) (frame_bytes (planes_in planes.now) two)) }
-    ensures err { OnErr result (GrewBySome (O.held sink.old) (O.held sink.new) (frame_bytes (planes_in planes.now) two)) }
-    ensures cause { HasCause (O.faults sink.old) (O.faults sink.new) (result ≡ Err FrameFault.WriteFault) }
+    ensures ok { OnOk result
+        (Grew (O.held sink.old) (O.held sink.new) (frame_bytes (planes_in planes.now) two)) }
+    ensures err { OnErr result
+        (GrewBySome (O.held sink.old) (O.held sink.new) (frame_bytes (planes_in planes.now) two)) }
+    ensures cause { HasCause (O.faults sink.old) (O.faults sink.new)
+        (result ≡ Err FrameFault.WriteFault) }
     ensures no_memory { result ≡ Err FrameFault.NoMemory → sink.new ≡ sink.old }
 {
     let mut buffer = piece_buffer(alloc)?;

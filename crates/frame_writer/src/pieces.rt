@@ -20,8 +20,10 @@ fn write_piece<O: Sink>(
 ) -> Result<(), WriteFault>
     requires room { 2 * length samples.now ≤ length buffer.old }
     requires narrow { (two ≡ false) → FitBytes samples.now }
-    ensures ok { OnOk result (Grew (O.held sink.old) (O.held sink.new) (samples_bytes two samples.now)) }
-    ensures err { OnErr result (GrewBySome (O.held sink.old) (O.held sink.new) (samples_bytes two samples.now)) }
+    ensures ok { OnOk result
+        (Grew (O.held sink.old) (O.held sink.new) (samples_bytes two samples.now)) }
+    ensures err { OnErr result
+        (GrewBySome (O.held sink.old) (O.held sink.new) (samples_bytes two samples.now)) }
     ensures cause { HasCause (O.faults sink.old) (O.faults sink.new) (IsErr result) }
 {
     let (bytes, _) = buffer.split_at_mut(byte_count(samples, two));
@@ -38,8 +40,10 @@ pub(crate) fn write_samples<O: Sink>(
 ) -> Result<(), WriteFault>
     requires room { 2 * PIECE ≤ length buffer.old }
     requires narrow { (two ≡ false) → FitBytes samples.now }
-    ensures ok { OnOk result (Grew (O.held sink.old) (O.held sink.new) (samples_bytes two samples.now)) }
-    ensures err { OnErr result (GrewBySome (O.held sink.old) (O.held sink.new) (samples_bytes two samples.now)) }
+    ensures ok { OnOk result
+        (Grew (O.held sink.old) (O.held sink.new) (samples_bytes two samples.now)) }
+    ensures err { OnErr result
+        (GrewBySome (O.held sink.old) (O.held sink.new) (samples_bytes two samples.now)) }
     ensures cause { HasCause (O.faults sink.old) (O.faults sink.new) (IsErr result) }
 {
     let mut at = 0;

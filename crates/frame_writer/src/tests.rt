@@ -8,7 +8,8 @@ use vc_types::{Plane, Shape};
 
 fn plane(alloc: Global, width: u32, height: u32, samples: &[u16]) -> Result<Plane, Fail>
     requires { length samples.now ≡ width * height }
-    ensures { IfOk result (λ plane. plane ≡ record { width = width; height = height; samples = samples.now }) }
+    ensures { IfOk result
+        (λ plane. plane ≡ record { width = width; height = height; samples = samples.now }) }
 {
     Ok(Plane::new(width, height, Vec::from_slice(alloc, samples)?))
 }

@@ -8,3 +8,7 @@ pub mod GridCells
 pub mod PlacedGrids
 pub mod BuiltPlanes
 pub mod WholePictures
+pub mod Placing
+pub mod Standing
+pub mod RectangleWalk
+pub mod BoundedLists

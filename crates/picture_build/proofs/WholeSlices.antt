@@ -15,7 +15,7 @@ use Rattle.vc_types.specs.Bounded.{bounded_sints}
 use Rattle.vc_types.specs.Slices.{CodedSlice, coded_slice, Coefficients, coefficients_of, is_large, in_range, all_coefficients, decoded_slice, decoded_from, slice_coefficients, block_coefficients, quantisers}
 use Rattle.vc_types.specs.Subbands.{slice_coefficient_count}
 use Rattle.vc_types.specs.TransformParameters.{Parameters}
-use Rattle.vc_types.proofs.BoundedLists.{length-bounded_sints}
+use Rattle.picture_build.proofs.BoundedLists.{length-bounded_sints}
 use Rattle.vc_slice.proofs.BlockCoefficients.{length-quantisers}
 use Rattle.vc_types.specs.SliceCoefficients.{AreSliceCoefficients}
 use Rattle.picture_build.specs.PictureCoefficients.{ArePictureCoefficients}

@@ -26,7 +26,8 @@ pub(crate) fn skip<'a>(rest: &'a [u8], used: u8, bits: u32) -> (&'a [u8], u8)
     ensures used { result.1 < 8 }
     ensures some { 0 < result.1 → 0 < length result.0.now }
     ensures shorter { length result.0.now ≤ length rest.now }
-    ensures counted { used + bits ≤ 8 * length rest.now → 8 * length result.0.now + (used + bits) ≡ 8 * length rest.now + result.1 }
+    ensures counted { used + bits ≤ 8 * length rest.now
+        → 8 * length result.0.now + (used + bits) ≡ 8 * length rest.now + result.1 }
 {
     let to = used as usize + bits as usize;
     if to / 8 < rest.len() {

@@ -86,7 +86,8 @@ impl<'a> Block<'a> {
 // The same bits, of which the word has at least eight or all.
 fn refilled<'a>(word: u64, count: u32, rest: &'a [u8]) -> (u64, u32, &'a [u8])
     requires { count ≤ 64 }
-    ensures bits { word_bits result.1 result.0 ++ bits_of result.2.now ≡ word_bits count word ++ bits_of rest.now }
+    ensures bits { word_bits result.1 result.0 ++ bits_of result.2.now
+        ≡ word_bits count word ++ bits_of rest.now }
     ensures count { result.1 ≤ 64 }
     ensures few { result.1 < 8 → result.2.now ≡ [] }
 {
@@ -108,7 +109,8 @@ fn refilled<'a>(word: u64, count: u32, rest: &'a [u8]) -> (u64, u32, &'a [u8])
 // The bits behind some others.
 #[tactic(auto, using(crate::proofs::Words::behinds))]
 fn behind<'a>(rest: &'a [u8], bits: u32) -> (u64, u32, &'a [u8])
-    ensures bits { word_bits result.1 result.0 ++ bits_of result.2.now ≡ drop bits (bits_of rest.now) }
+    ensures bits { word_bits result.1 result.0 ++ bits_of result.2.now
+        ≡ drop bits (bits_of rest.now) }
     ensures count { result.1 ≤ 64 }
     ensures few { result.1 < 8 → result.2.now ≡ [] }
 {

@@ -26,7 +26,8 @@ impl Model for BitWriter {
 
     ghost view = { λ w. bits_of w.bytes.items ++ low_bits w.count w.last };
 
-    ghost invariant = { λ w. (w.count < 8) × (w.last < 2 ^ w.count) × (0 < w.count → vec_len w.bytes < vec_capacity w.bytes) };
+    ghost invariant = { λ w. (w.count < 8) × (w.last < 2 ^ w.count)
+        × (0 < w.count → vec_len w.bytes < vec_capacity w.bytes) };
 }
 
 impl BitWriter {
@@ -65,7 +66,8 @@ impl BitWriter {
     /// Fills the last byte.
     #[tactic(auto, using(crate::proofs::Writing::fills))]
     pub fn align(&mut self, fill: bool) -> Result<(), NoMemory>
-        ensures ok { OnOk result (self.new ≡ self.old ++ replicate (to_edge (length self.old)) fill) }
+        ensures ok { OnOk result (self.new
+            ≡ self.old ++ replicate (to_edge (length self.old)) fill) }
         ensures err { OnErr result (self.new ≡ self.old) }
     {
         if self.count > 0 {

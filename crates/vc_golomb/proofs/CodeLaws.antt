@@ -2,7 +2,7 @@
 use Rattle.std.proofs.Common.{◌≡◌, ℕ, ◌≤◌, ◌++◌, ℤ, Bool, List, [], length, drop, Ok, sym, ap, ◌∙◌, append-nil}
 use Rattle.vc_types.specs.Codes.{uint_bits, sint_bits, uint_at}
 use Rattle.vc_types.specs.Bounded.{BeginsWith, bounded_sint}
-use Rattle.vc_types.specs.Fields.{number_from, number}
+use Rattle.vc_types.specs.Fields.{number_from, number_up_to}
 use Rattle.vc_types.proofs.Codes.{uint_at-uint_bits, some_is}
 use Rattle.vc_types.proofs.BoundedCodes.{bounded_sint-sint_bits, bounded_sint-begins}
 use Rattle.vc_golomb.specs.declared.uint.UintRefusal.TheVariants.{End, TooLarge}
@@ -23,8 +23,8 @@ one_signed v w rest same =
 
 pub ruleset apart = (one_unsigned, one_signed)
 
-pub unsigned_back : (v max : ℕ) (rest : List Bool) → v ≤ max → number End TooLarge max (uint_bits v ++ rest) ≡ Ok (v, rest)
-unfolding number
+pub unsigned_back : (v max : ℕ) (rest : List Bool) → v ≤ max → number_up_to End TooLarge max (uint_bits v ++ rest) ≡ Ok (v, rest)
+unfolding number_up_to
 unsigned_back v max rest small = ap (number_from End TooLarge max) (uint_at-uint_bits v rest) ∙ small_is End TooLarge max (v, rest) small
 
 pub ruleset back = (unsigned_back, bounded_sint-sint_bits, bounded_sint-begins)

@@ -17,4 +17,5 @@ pub record IsLook (byte taken digits : ℕ) : Type 0 where
   pub count : length list ≡ taken / 2
   pub small : taken ≤ 8
   pub whole : 8 ≤ taken → taken ≡ 2 * length list
-  pub ends : taken < 8 → (taken ≡ 2 * length list + 1) × (bounded (byte_bits byte) (2 * length list) ≡ true)
+  pub ends : taken < 8
+      → (taken ≡ 2 * length list + 1) × (bounded (byte_bits byte) (2 * length list) ≡ true)

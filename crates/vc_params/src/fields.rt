@@ -7,7 +7,7 @@ use vc_golomb::{UintRefusal, read_uint};
 use vc_types::ParamsRefusal;
 
 /// The next number.
-#[tactic(auto, unfolding(vc_types::specs::TransformParameters::number, vc_types::specs::Fields::number))]
+#[tactic(auto, unfolding(vc_types::specs::TransformParameters::number, vc_types::specs::Fields::number_up_to))]
 pub fn number(r: &mut BitReader) -> Result<u32, ParamsRefusal>
     ensures { Gives (λ n. n) result r.new.left (number r.old.left) }
 {

@@ -7,7 +7,7 @@ mod quantiser;
 
 pub use laws::{dequantising_never_shrinks, quantisation_is_near};
 pub use matrix::{NoDefault, default_matrix};
-pub use quantiser::{dequant, factor, offset, quant};
+pub use quantiser::{Quantiser, dequant, factor, offset, quant};
 
 #[cfg(test)]
 mod tests;

@@ -11,7 +11,8 @@ pub struct NoDefault;
 pub fn default_matrix(wavelet: u8, depth: u8) -> Result<[u8; 16], NoDefault>
     requires wavelet { wavelet ≤ 6 }
     requires levels { (1 ≤ depth) × (depth ≤ 5) }
-    ensures value { MatchResult result (λ m. default_matrix wavelet depth ≡ Some m) (λ e. default_matrix wavelet depth ≡ None) }
+    ensures value { MatchResult result (λ m. default_matrix wavelet depth ≡ Some m)
+        (λ e. default_matrix wavelet depth ≡ None) }
     ensures no_default_exactly { IsErr result ↔ (depth ≡ 5) }
     ensures fits { IfOk result (λ m. IsTrue (matrix_fits m)) }
 {
@@ -25,7 +26,8 @@ pub fn default_matrix(wavelet: u8, depth: u8) -> Result<[u8; 16], NoDefault>
 fn row(wavelet: u8, depth: u8) -> [u8; 13]
     requires wavelet { wavelet ≤ 6 }
     requires levels { (1 ≤ depth) × (depth ≤ 4) }
-    ensures value { take (1 + 3 * depth) result ≡ take (1 + 3 * depth) (slice_index_or (default_rows depth) wavelet []) }
+    ensures value { take (1 + 3 * depth) result
+        ≡ take (1 + 3 * depth) (slice_index_or (default_rows depth) wavelet []) }
     ensures fits { IsTrue (matrix_fits result) }
 {
     match wavelet {

@@ -1,5 +1,5 @@
 ghost use Rattle.std.specs.Prelude.{◌≡◌, ◌+◌, ◌*◌, ◌/◌, ◌^◌, ◌<◌, ◌≤◌, unsigned_abs, ℤ};
-ghost use Rattle.vc_types.specs.Quantisation.{quant_factor, quant_offset, dequantised, quantised};
+ghost use Rattle.vc_types.specs.Quantisation.{quant_factor, quant_offset, dequantised, dequantised_magnitude, quantised};
 
 /// The quantisation factor of an index from 0 to 127, in quarters (ST 2042-1, quantisation factor).
 #[tactic(auto, unfolding(vc_types::specs::Quantisation::quant_factor))]
@@ -31,7 +31,71 @@ pub fn offset(q: u8) -> u64
     }
 }
 
-/// The coefficient that the number `m` stands for at index `q` (ST 2042-1, inverse quantisation).
+/// An index from 0 to 127, with its factor and its offset.
+#[derive(Clone, Copy)]
+pub struct Quantiser {
+    pub index: u8,
+    factor: u64,
+    offset: u64,
+    ghost factor_is: { factor ≡ quant_factor index },
+    ghost offset_is: { offset ≡ quant_offset index },
+    ghost factor_fits: { factor < 2 ^ 34 },
+    ghost factor_is_large: { 4 ≤ factor },
+    ghost offset_fits: { offset < 2 ^ 34 },
+}
+
+impl Quantiser {
+    pub fn new(index: u8) -> Quantiser
+        requires { index ≤ 127 }
+        ensures { result.index ≡ index }
+    {
+        Quantiser {
+            index,
+            factor: factor(index),
+            offset: offset(index),
+        }
+    }
+
+    /// The coefficient that the number `m` stands for (ST 2042-1, inverse quantisation).
+    #[inline]
+    pub fn dequant(&self, m: i64) -> i128
+        requires size { unsigned_abs m ≤ 2 ^ 62 }
+        ensures value { result ≡ dequantised m self.now.index }
+        ensures range { unsigned_abs result < 2 ^ 95 }
+        ensures not_smaller { unsigned_abs m ≤ unsigned_abs result }
+    {
+        let size = self.magnitude(m.unsigned_abs());
+        let value = size as i128;
+        if m < 0 { -value } else { value }
+    }
+
+    /// The number that this encoder quantises the coefficient `c` to.
+    #[inline]
+    pub fn quant(&self, c: i64) -> i64
+        requires size { unsigned_abs c < 2 ^ 60 }
+        ensures value { result ≡ quantised c self.now.index }
+        ensures not_larger { unsigned_abs result ≤ unsigned_abs c }
+    {
+        let value = (4 * c.unsigned_abs() / self.factor) as i64;
+        if c < 0 { -value } else { value }
+    }
+
+    #[inline]
+    fn magnitude(&self, size: u64) -> u128
+        requires { size ≤ 2 ^ 62 }
+        ensures value { result ≡ dequantised_magnitude size
+            (quant_factor self.now.index) (quant_offset self.now.index) }
+        ensures range { result < 2 ^ 95 }
+        ensures not_smaller { size ≤ result }
+    {
+        if size == 0 {
+            return 0;
+        }
+        (u128::from(size) * u128::from(self.factor) + u128::from(self.offset) + 2) / 4
+    }
+}
+
+/// The coefficient that the number `m` stands for at index `q`.
 pub fn dequant(m: i64, q: u8) -> i128
     requires index { q ≤ 127 }
     requires size { unsigned_abs m ≤ 2 ^ 62 }
@@ -39,13 +103,7 @@ pub fn dequant(m: i64, q: u8) -> i128
     ensures range { unsigned_abs result < 2 ^ 95 }
     ensures not_smaller { unsigned_abs m ≤ unsigned_abs result }
 {
-    let size = m.unsigned_abs();
-    if size == 0 {
-        return 0;
-    }
-    let value = (u128::from(size) * u128::from(factor(q)) + u128::from(offset(q)) + 2) / 4;
-    let value = value as i128;
-    if m < 0 { -value } else { value }
+    Quantiser::new(q).dequant(m)
 }
 
 /// The number that this encoder quantises the coefficient `c` to at index `q`.
@@ -55,6 +113,5 @@ pub fn quant(c: i64, q: u8) -> i64
     ensures value { result ≡ quantised c q }
     ensures not_larger { unsigned_abs result ≤ unsigned_abs c }
 {
-    let value = (4 * c.unsigned_abs() / factor(q)) as i64;
-    if c < 0 { -value } else { value }
+    Quantiser::new(q).quant(c)
 }

@@ -1,15 +1,15 @@
 ghost use Rattle.std.specs.Prelude.{◌≡◌, ◌≤◌, IfOk};
 ghost use Rattle.vc_types.specs.Fields.{Gives, flag as flag_field};
-ghost use Rattle.vc_types.specs.SequenceHeader.{number, index};
+ghost use Rattle.vc_types.specs.SequenceHeader.{header_number, index};
 
 use vc_bits::BitReader;
 use vc_golomb::{UintRefusal, read_uint};
 use vc_types::HeaderRefusal;
 
 /// The next number.
-#[tactic(auto, unfolding(vc_types::specs::SequenceHeader::number, vc_types::specs::Fields::number))]
+#[tactic(auto, unfolding(vc_types::specs::SequenceHeader::header_number, vc_types::specs::Fields::number_up_to))]
 pub fn number(r: &mut BitReader) -> Result<u32, HeaderRefusal>
-    ensures { Gives (λ n. n) result r.new.left (number r.old.left) }
+    ensures { Gives (λ n. n) result r.new.left (header_number r.old.left) }
 {
     match read_uint(r, u32::MAX) {
         Ok(number) => Ok(number),

@@ -23,23 +23,29 @@ pub record Told : Type 0 where
   pub freed : List ℕ
   pub started : List ℕ
 
-abbrev pub nothing : Told
-nothing = record { offered = []; asked = []; given = []; freed = []; started = [] }
+abbrev pub nothing_told : Told
+nothing_told = record { offered = []; asked = []; given = []; freed = []; started = [] }
 
-abbrev pub joined : Told → Told → Told
-joined a b = record { offered = a.offered ++ b.offered; asked = a.asked ++ b.asked; given = a.given ++ b.given; freed = a.freed ++ b.freed; started = a.started ++ b.started }
+abbrev pub told_more : Told → Told → Told
+told_more old more = record {
+  offered = old.offered ++ more.offered;
+  asked = old.asked ++ more.asked;
+  given = old.given ++ more.given;
+  freed = old.freed ++ more.freed;
+  started = old.started ++ more.started;
+}
 
 -- What is told grows by these. A form may stop telling, for good.
 abbrev pub Grows : Option Told → Option Told → Told → Type 0
 Grows None None more = ⊤
 Grows None (Some new) more = ⊥
 Grows (Some old) None more = ⊤
-Grows (Some old) (Some new) more = new ≡ joined old more
+Grows (Some old) (Some new) more = new ≡ told_more old more
 
 -- ---- what each call adds
 
 abbrev pub one_offer : SliceJob → Option ℕ → Told
-one_offer job place = record { offered = record { job = job; place = place } ∷ []; asked = []; given = []; freed = []; started = [] }
+one_offer job place = record nothing_told { offered = record { job = job; place = place } ∷ [] }
 
 abbrev pub answered_place : Result ℕ SliceJob → Option ℕ
 answered_place (Ok place) = Some place
@@ -53,21 +59,21 @@ given_by place None = []
 given_by place (Some done) = record { place = place; done = done } ∷ []
 
 abbrev pub taking : ℕ → Option SliceDone → Told
-taking place answer = record { offered = []; asked = place ∷ []; given = given_by place answer; freed = []; started = [] }
+taking place answer = record nothing_told { asked = place ∷ []; given = given_by place answer }
 
 abbrev pub freed_by : ℕ → Option SliceJob → List ℕ
 freed_by place None = []
 freed_by place (Some job) = place ∷ []
 
 abbrev pub withdrawing : ℕ → Option SliceJob → Told
-withdrawing place answer = record { offered = []; asked = []; given = []; freed = freed_by place answer; started = [] }
+withdrawing place answer = record nothing_told { freed = freed_by place answer }
 
 abbrev pub leaving : ℕ → Told
-leaving place = record { offered = []; asked = []; given = []; freed = place ∷ []; started = [] }
+leaving place = record nothing_told { freed = place ∷ [] }
 
 abbrev pub started_by : ℕ → Result (Unit {0}) NoMemory → List ℕ
 started_by workers (Ok done) = workers ∷ []
 started_by workers (Err e) = []
 
 abbrev pub starting : ℕ → Result (Unit {0}) NoMemory → Told
-starting workers answer = record { offered = []; asked = []; given = []; freed = []; started = started_by workers answer }
+starting workers answer = record nothing_told { started = started_by workers answer }

@@ -1,13 +1,20 @@
 -- Reading and writing a block, coefficient after coefficient.
-use Rattle.std.specs.Prelude.{ℕ, ◌+◌, ℤ, unsigned_abs, Bool, true, ◌==◌, if◌then◌else◌, List, [], ◌∷◌, ◌++◌, map, replicate}
+use Rattle.std.specs.Prelude.{◌≡◌, Option, Some, None, false, ℕ, ◌+◌, ℤ, unsigned_abs, Bool, true, ◌==◌, if◌then◌else◌, List, [], ◌∷◌, ◌++◌, map, replicate}
 use Rattle.vc_types.specs.Bounded.{bounded_sint}
 use Rattle.vc_types.specs.Codes.{sint_bits}
 use Rattle.vc_types.specs.Quantisation.{dequantised, quantised}
+use Rattle.vc_types.specs.Slices.{is_large}
+
+-- a coefficient, or none where it is large
+abbrev pub IsNotLarge : ℤ → Option ℤ → Type 0
+IsNotLarge z None = is_large z ≡ true
+IsNotLarge z (Some kept) = (kept ≡ z) × (is_large z ≡ false)
 
 -- the coefficients that begin the bits of a block, by the quantisation index of each
 unfoldable pub coefficients_by : List ℕ → List Bool → List ℤ
 coefficients_by [] bits = []
-coefficients_by (index ∷ indices) bits = dequantised (bounded_sint bits).0 index ∷ coefficients_by indices (bounded_sint bits).1
+coefficients_by (index ∷ indices) bits =
+    dequantised (bounded_sint bits).0 index ∷ coefficients_by indices (bounded_sint bits).1
 
 -- the numbers that coefficients of one subband are quantised to
 abbrev pub subband_numbers : ℕ → List ℤ → List ℤ

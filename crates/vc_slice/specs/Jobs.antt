@@ -11,4 +11,9 @@ pub record Job : Type 0 where
   pub bytes : List ℕ
 
 abbrev pub job_of : SliceJob → Job
-job_of j = record { plan = parameters_of j.plan; number = j.number; index = j.index; bytes = j.bytes }
+job_of j = record {
+  plan = parameters_of j.plan;
+  number = j.number;
+  index = j.index;
+  bytes = j.bytes;
+}

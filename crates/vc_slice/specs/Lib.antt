@@ -1,4 +1,5 @@
 pub mod Asked
+pub mod Coded
 pub mod Refusals
 pub mod Inside
 pub mod Jobs

@@ -1,5 +1,6 @@
 ghost use Rattle.std.specs.Prelude.{◌≡◌, ◌*◌, ◌↔◌, MatchOption, None, Some, Ok, Err, IfOk, IfSome, IsErr, length, ◌≤◌};
 ghost use Rattle.vc_types.specs.Slices.{block, coded_slice, slice_length};
+ghost use Rattle.vc_slice.specs.Coded.{coded_of};
 
 use vc_types::Short;
 
@@ -27,7 +28,8 @@ pub fn cut(prefix: u32, scaler: u32, bytes: &[u8]) -> Result<usize, Short>
 // The parts of a slice, and what is behind it.
 #[tactic(auto, unfolding(vc_types::specs::Slices::coded_slice))]
 pub(crate) fn coded_slice(prefix: u32, scaler: u32, bytes: &[u8]) -> Option<(CodedSlice<'_>, &[u8])>
-    ensures value { MatchOption result (IsErr (coded_slice prefix scaler bytes.now)) (λ x. coded_slice prefix scaler bytes.now ≡ Ok (record { index = x.0.index; y = x.0.y.now; c1 = x.0.c1.now; c2 = x.0.c2.now }, x.1.now)) }
+    ensures value { MatchOption result (IsErr (coded_slice prefix scaler bytes.now))
+        (λ x. coded_slice prefix scaler bytes.now ≡ Ok (coded_of x.0, x.1.now)) }
     ensures rest { IfSome result (λ x. length x.1.now ≤ length bytes.now) }
 {
     let prefix = prefix as usize;
@@ -53,7 +55,8 @@ pub(crate) fn coded_slice(prefix: u32, scaler: u32, bytes: &[u8]) -> Option<(Cod
 // A block behind its length, and what is behind the block.
 #[tactic(auto, unfolding(vc_types::specs::Slices::block))]
 fn block(scaler: u32, bytes: &[u8]) -> Option<(&[u8], &[u8])>
-    ensures value { MatchOption result (IsErr (block scaler bytes.now)) (λ x. block scaler bytes.now ≡ Ok (x.0.now, x.1.now)) }
+    ensures value { MatchOption result (IsErr (block scaler bytes.now))
+        (λ x. block scaler bytes.now ≡ Ok (x.0.now, x.1.now)) }
     ensures rest { IfSome result (λ x. length x.1.now ≤ length bytes.now) }
 {
     let (units, rest) = bytes.split_first()?;

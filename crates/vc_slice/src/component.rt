@@ -7,11 +7,11 @@ ghost use Rattle.vc_types.specs.Subbands.{area, slice_count, slice_rectangle, su
 ghost use Rattle.vc_types.specs.TransformParameters.{parameters_of};
 ghost use Rattle.vc_slice.specs.declared.subband.Stopped.TheVariants.{Large, NoMemory};
 
-use crate::quantiser::Quantiser;
 use crate::subband::{Stopped, read_subband};
 use std::alloc::Global;
 use vc_bits::{BitReader, Block};
 use vc_geometry::{bands, slice_len, slice_rect};
+use vc_quant::Quantiser;
 use vc_types::{Component, Plan};
 
 // The coefficients that a component's block stands for.
@@ -25,9 +25,13 @@ pub(crate) fn read_component(
 ) -> Result<Vec<i64>, Stopped>
     requires slice { slice < slice_count (parameters_of plan.now) }
     requires index { index ≤ 127 }
-    ensures value { IfOk result (λ coeffs. coeffs.items ≡ block_coefficients (parameters_of plan.now) c slice index block.now) }
+    ensures value { IfOk result
+        (λ coeffs. coeffs.items
+        ≡ block_coefficients (parameters_of plan.now) c slice index block.now) }
     ensures sound { IfOk result (λ coeffs. list_any is_large coeffs.items ≡ false) }
-    ensures large { result ≡ Err Large → list_any is_large (block_coefficients (parameters_of plan.now) c slice index block.now) ≡ true }
+    ensures large { result ≡ Err Large
+        → list_any is_large (block_coefficients (parameters_of plan.now) c slice index block.now)
+        ≡ true }
 {
     let mut bits = bits_of(block);
     let mut coeffs = with_room(alloc, slice_len(plan, c, slice))?;
@@ -64,7 +68,8 @@ pub(crate) fn count(plan: &Plan, c: Component, b: u32, slice: u32) -> u32
     requires number { b < subband_count plan.now.depth_ho plan.now.depth }
     requires slice { slice < slice_count (parameters_of plan.now) }
     ensures range { result ≤ 2 ^ 26 }
-    ensures value { result ≡ area (slice_rectangle (parameters_of plan.now) c (subband_at plan.now.depth_ho plan.now.depth b) slice) }
+    ensures value { result ≡ area (slice_rectangle (parameters_of plan.now) c
+        (subband_at plan.now.depth_ho plan.now.depth b) slice) }
 {
     let rect = slice_rect(plan, c, b, slice);
     rect.width * rect.height

@@ -10,8 +10,8 @@ ghost use Rattle.vc_slice.specs.Inside.{subband_numbers, codes_behind};
 
 use crate::coeffs::SliceCoeffs;
 use crate::component::{count, quantiser};
-use crate::quantiser::Quantiser;
 use vc_geometry::bands;
+use vc_quant::Quantiser;
 use vc_types::{Component, Plan};
 
 // The codes of a block's numbers, counted: the bits up to the last number that isn't 0, and the zeros behind it.
@@ -25,7 +25,9 @@ impl Counted {
     fn add(&mut self, number: i64)
         requires size { unsigned_abs number < 2 ^ 60 }
         requires room { self.old.bits + self.old.zeros < 2 ^ 62 }
-        ensures bits { (more : List ℤ) → self.new.bits + length (codes_behind self.new.zeros more) ≡ self.old.bits + length (codes_behind self.old.zeros (number ∷ more)) }
+        ensures bits { (more : List ℤ)
+            → self.new.bits + length (codes_behind self.new.zeros more)
+            ≡ self.old.bits + length (codes_behind self.old.zeros (number ∷ more)) }
         ensures room { self.new.bits + self.new.zeros ≤ self.old.bits + self.old.zeros + 128 }
     {
         if number == 0 {
@@ -58,7 +60,8 @@ pub(crate) fn block_len(
     requires slice { slice < slice_count (parameters_of plan.now) }
     requires coefficients { AreSliceCoefficients (parameters_of plan.now) slice coeffs.now }
     requires index { index ≤ 127 }
-    ensures value { result ≡ length (component_bits (parameters_of plan.now) slice index coeffs.now c) }
+    ensures value { result
+        ≡ length (component_bits (parameters_of plan.now) slice index coeffs.now c) }
     ensures range { result < 2 ^ 40 }
 {
     let mut counted = Counted { bits: 0, zeros: 0 };
@@ -75,10 +78,14 @@ pub(crate) fn block_len(
 fn count_subband(counted: &mut Counted, coefficients: &[i64], quantiser: &Quantiser)
     requires small { list_any is_large coefficients.now ≡ false }
     requires room { counted.old.bits + counted.old.zeros + 128 * length coefficients.now < 2 ^ 61 }
-    ensures bits { (more : List ℤ) → counted.new.bits + length (codes_behind counted.new.zeros more) ≡ counted.old.bits + length (codes_behind counted.old.zeros (subband_numbers quantiser.now.index coefficients.now ++ more)) }
-    ensures room { counted.new.bits + counted.new.zeros ≤ counted.old.bits + counted.old.zeros + 128 * length coefficients.now }
+    ensures bits { (more : List ℤ)
+        → counted.new.bits + length (codes_behind counted.new.zeros more)
+        ≡ counted.old.bits + length (codes_behind counted.old.zeros
+        (subband_numbers quantiser.now.index coefficients.now ++ more)) }
+    ensures room { counted.new.bits + counted.new.zeros
+        ≤ counted.old.bits + counted.old.zeros + 128 * length coefficients.now }
 {
     for coefficient in coefficients {
-        counted.add(quantiser.number(*coefficient));
+        counted.add(quantiser.quant(*coefficient));
     }
 }

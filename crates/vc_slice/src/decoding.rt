@@ -3,6 +3,7 @@ ghost use Rattle.vc_types.specs.Slices.{all_coefficients, in_range, slice_coeffi
 ghost use Rattle.vc_types.specs.Subbands.{slice_count};
 ghost use Rattle.vc_types.specs.TransformParameters.{parameters_of};
 ghost use Rattle.vc_types.specs.declared.refusal.Unsound.TheVariants.{CoefficientRange};
+ghost use Rattle.vc_slice.specs.Coded.{coded_of};
 ghost use Rattle.vc_slice.specs.declared.subband.Stopped.TheVariants.{Large};
 
 use crate::coded::{CodedSlice, coded_slice};
@@ -31,8 +32,10 @@ fn answer(
     bytes: &[u8],
 ) -> Result<Result<SliceCoeffs, Unsound>, NoMemory>
     requires slice { slice < slice_count (parameters_of plan.now) }
-    requires whole { slice_length plan.now.prefix plan.now.scaler bytes.now ≡ Some (length bytes.now) }
-    ensures value { IfOk result (λ answer. answer ≡ slice_coefficients (parameters_of plan.now) slice bytes.now) }
+    requires whole { slice_length plan.now.prefix plan.now.scaler bytes.now
+        ≡ Some (length bytes.now) }
+    ensures value { IfOk result
+        (λ answer. answer ≡ slice_coefficients (parameters_of plan.now) slice bytes.now) }
 {
     let Some((coded, _)) = coded_slice(plan.prefix, plan.scaler, bytes) else {
         unreachable!();
@@ -55,8 +58,11 @@ fn coefficients(
 ) -> Result<SliceCoeffs, Stopped>
     requires slice { slice < slice_count (parameters_of plan.now) }
     requires index { coded.now.index ≤ 127 }
-    ensures value { IfOk result (λ coeffs. Ok coeffs ≡ in_range (all_coefficients (parameters_of plan.now) slice (record { index = coded.now.index; y = coded.now.y.now; c1 = coded.now.c1.now; c2 = coded.now.c2.now }))) }
-    ensures large { result ≡ Err Large → in_range (all_coefficients (parameters_of plan.now) slice (record { index = coded.now.index; y = coded.now.y.now; c1 = coded.now.c1.now; c2 = coded.now.c2.now })) ≡ Err CoefficientRange }
+    ensures value { IfOk result (λ coeffs. Ok coeffs
+        ≡ in_range (all_coefficients (parameters_of plan.now) slice (coded_of coded.now))) }
+    ensures large { result ≡ Err Large
+        → in_range (all_coefficients (parameters_of plan.now) slice (coded_of coded.now))
+        ≡ Err CoefficientRange }
 {
     let y = read_component(alloc, plan, Component::Y, slice, coded.index, coded.y)?;
     let c1 = read_component(alloc, plan, Component::C1, slice, coded.index, coded.c1)?;

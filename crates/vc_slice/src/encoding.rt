@@ -46,8 +46,10 @@ pub fn encode(
     requires slice { index < slice_count (parameters_of plan.now) }
     requires coefficients { AreSliceCoefficients (parameters_of plan.now) index coeffs.now }
     requires index { q ≤ 127 }
-    ensures value { IfOk result (λ bytes. bits_of bytes.items ≡ encoded_slice (parameters_of plan.now) index q coeffs.now) }
-    ensures len { IfOk result (λ bytes. length bytes.items ≡ encoded_length (parameters_of plan.now) index q coeffs.now) }
+    ensures value { IfOk result
+        (λ bytes. bits_of bytes.items ≡ encoded_slice (parameters_of plan.now) index q coeffs.now) }
+    ensures len { IfOk result
+        (λ bytes. length bytes.items ≡ encoded_length (parameters_of plan.now) index q coeffs.now) }
     ensures fits { OnOk result (is_too_long (parameters_of plan.now) index q coeffs.now ≡ false) }
     ensures too_long { IfErr result (λ e. IsRefusal (parameters_of plan.now) index q coeffs.now e) }
 {
@@ -77,8 +79,10 @@ fn block_lens(plan: &Plan, index: u32, coeffs: &SliceCoeffs, q: u8) -> BlockLens
     requires coefficients { AreSliceCoefficients (parameters_of plan.now) index coeffs.now }
     requires index { q ≤ 127 }
     ensures y { result.y ≡ length (component_bits (parameters_of plan.now) index q coeffs.now Y) }
-    ensures c1 { result.c1 ≡ length (component_bits (parameters_of plan.now) index q coeffs.now C1) }
-    ensures c2 { result.c2 ≡ length (component_bits (parameters_of plan.now) index q coeffs.now C2) }
+    ensures c1 { result.c1
+        ≡ length (component_bits (parameters_of plan.now) index q coeffs.now C1) }
+    ensures c2 { result.c2
+        ≡ length (component_bits (parameters_of plan.now) index q coeffs.now C2) }
     ensures range { (result.y < 2 ^ 40) × (result.c1 < 2 ^ 40) × (result.c2 < 2 ^ 40) }
 {
     BlockLens {
@@ -90,7 +94,9 @@ fn block_lens(plan: &Plan, index: u32, coeffs: &SliceCoeffs, q: u8) -> BlockLens
 
 fn slice_len(plan: &Plan, lens: BlockLens) -> u64
     requires { (lens.y < 2 ^ 40) × (lens.c1 < 2 ^ 40) × (lens.c2 < 2 ^ 40) }
-    ensures { result ≡ plan.now.prefix + 4 + plan.now.scaler * (block_units plan.now.scaler lens.y + block_units plan.now.scaler lens.c1 + block_units plan.now.scaler lens.c2) }
+    ensures { result ≡ plan.now.prefix + 4 + plan.now.scaler
+        * (block_units plan.now.scaler lens.y + block_units plan.now.scaler lens.c1
+        + block_units plan.now.scaler lens.c2) }
 {
     let units = units(plan, lens.y) + units(plan, lens.c1) + units(plan, lens.c2);
     u64::from(plan.prefix) + 4 + u64::from(plan.scaler) * units
@@ -98,7 +104,10 @@ fn slice_len(plan: &Plan, lens: BlockLens) -> u64
 
 fn is_too_long(plan: &Plan, lens: BlockLens) -> bool
     requires { (lens.y < 2 ^ 40) × (lens.c1 < 2 ^ 40) × (lens.c2 < 2 ^ 40) }
-    ensures { result ≡ (nat_lt 255 (block_units plan.now.scaler lens.y) || nat_lt 255 (block_units plan.now.scaler lens.c1) || nat_lt 255 (block_units plan.now.scaler lens.c2)) }
+    ensures { result
+        ≡ (nat_lt 255 (block_units plan.now.scaler lens.y)
+        || nat_lt 255 (block_units plan.now.scaler lens.c1)
+        || nat_lt 255 (block_units plan.now.scaler lens.c2)) }
 {
     units(plan, lens.y) > 255 || units(plan, lens.c1) > 255 || units(plan, lens.c2) > 255
 }
@@ -118,8 +127,11 @@ fn write_slice(
     requires c1 { lens.c1 ≡ length (component_bits (parameters_of plan.now) index q coeffs.now C1) }
     requires c2 { lens.c2 ≡ length (component_bits (parameters_of plan.now) index q coeffs.now C2) }
     requires range { (lens.y < 2 ^ 40) × (lens.c1 < 2 ^ 40) × (lens.c2 < 2 ^ 40) }
-    requires fits { (block_units plan.now.scaler lens.y ≤ 255) × (block_units plan.now.scaler lens.c1 ≤ 255) × (block_units plan.now.scaler lens.c2 ≤ 255) }
-    ensures { OnOk result (w.new ≡ w.old ++ encoded_slice (parameters_of plan.now) index q coeffs.now) }
+    requires fits { (block_units plan.now.scaler lens.y ≤ 255)
+        × (block_units plan.now.scaler lens.c1 ≤ 255)
+        × (block_units plan.now.scaler lens.c2 ≤ 255) }
+    ensures { OnOk result (w.new
+        ≡ w.old ++ encoded_slice (parameters_of plan.now) index q coeffs.now) }
 {
     write_head(w, plan, q)?;
     write_block(w, plan, Component::Y, index, coeffs, q, lens.y)?;

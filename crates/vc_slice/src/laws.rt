@@ -13,16 +13,17 @@ ghost use Rattle.vc_types.specs.TransformParameters.{Parameters};
 /// whole slices as it has, and by anything, it is put together from the answers of the slices. Where every answer is
 /// sound, it is these parameters and the slices' coefficients in raster order; where one isn't, there is no picture.
 pub fn slices_decode_apart()
-    ensures sound { (s : Sequence) (p : Parameters) (coded : List ℕ) (slices : List (List ℕ)) (behind : List ℕ)
-        (answer : ℕ → Result Coefficients Unsound) (coefficients : ℕ → Coefficients)
+    ensures sound { (s : Sequence) (p : Parameters) (coded : List ℕ) (slices : List (List ℕ))
+        (behind : List ℕ) (answer : ℕ → Result Coefficients Unsound)
+        (coefficients : ℕ → Coefficients)
         → ArePictureBytes s p coded slices → AreAnswers p slices answer
         → ((i : ℕ) → i < slice_count p → answer i ≡ Ok (coefficients i))
         → decoded_picture s (coded ++ (joined slices ++ behind)) ≡ Some (record {
           parameters = p;
           slices = map coefficients (range_with_len 0 (slice_count p));
         }) }
-    ensures unsound { (s : Sequence) (p : Parameters) (coded : List ℕ) (slices : List (List ℕ)) (behind : List ℕ)
-        (answer : ℕ → Result Coefficients Unsound) (i : ℕ) (why : Unsound)
+    ensures unsound { (s : Sequence) (p : Parameters) (coded : List ℕ) (slices : List (List ℕ))
+        (behind : List ℕ) (answer : ℕ → Result Coefficients Unsound) (i : ℕ) (why : Unsound)
         → ArePictureBytes s p coded slices → AreAnswers p slices answer
         → i < slice_count p → answer i ≡ Err why
         → decoded_picture s (coded ++ (joined slices ++ behind)) ≡ None }

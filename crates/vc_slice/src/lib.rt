@@ -12,7 +12,6 @@ mod job;
 mod laws;
 mod no_places;
 mod places;
-mod quantiser;
 mod subband;
 mod writing;
 

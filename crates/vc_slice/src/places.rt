@@ -49,5 +49,7 @@ pub trait Hands: Places {
     fn start_workers(&mut self, workers: u32) -> Result<(), NoMemory>
         requires free { is_free self.old }
         ensures told { Grows (Self.told self.old) (Self.told self.new) (starting workers result) }
-        ensures unchanged { OnErr result (is_free self.new × (Self.bound self.new ≡ Self.bound self.old) × (Self.told self.new ≡ Self.told self.old)) };
+        ensures unchanged { OnErr result (is_free self.new
+            × (Self.bound self.new ≡ Self.bound self.old)
+            × (Self.told self.new ≡ Self.told self.old)) };
 }

@@ -216,7 +216,8 @@ fn padded(alloc: Global, plan: &Plan, c: Component, some: &[i64]) -> Result<Vec<
 }
 
 fn fit(plan: &Plan, coeffs: &SliceCoeffs, c: Component) -> bool
-    ensures length { IsTrue result → length (coefficients_of coeffs.now c) ≡ slice_coefficient_count (parameters_of plan.now) c 0 }
+    ensures length { IsTrue result → length (coefficients_of coeffs.now c)
+        ≡ slice_coefficient_count (parameters_of plan.now) c 0 }
     ensures small { IsTrue result → list_any is_large (coefficients_of coeffs.now c) ≡ false }
 {
     let some = coeffs.component(c);

@@ -10,10 +10,10 @@ ghost use Rattle.vc_slice.specs.Inside.{subband_numbers, codes_behind};
 
 use crate::coeffs::SliceCoeffs;
 use crate::component::{count, quantiser};
-use crate::quantiser::Quantiser;
 use vc_bits::BitWriter;
 use vc_geometry::bands;
 use vc_golomb::write_sint;
+use vc_quant::Quantiser;
 use vc_types::{Component, NoMemory, Plan};
 
 // The length of a block whose codes have so many bits, in units of the plan's slice size scaler.
@@ -41,10 +41,12 @@ pub(crate) fn write_block(
     requires slice { slice < slice_count (parameters_of plan.now) }
     requires coefficients { AreSliceCoefficients (parameters_of plan.now) slice coeffs.now }
     requires index { index ≤ 127 }
-    requires bits { bits ≡ length (component_bits (parameters_of plan.now) slice index coeffs.now c) }
+    requires bits { bits
+        ≡ length (component_bits (parameters_of plan.now) slice index coeffs.now c) }
     requires range { bits < 2 ^ 40 }
     requires fits { component_units (parameters_of plan.now) slice index coeffs.now c ≤ 255 }
-    ensures { OnOk result (w.new ≡ w.old ++ encoded_block plan.now.scaler (component_bits (parameters_of plan.now) slice index coeffs.now c)) }
+    ensures { OnOk result (w.new ≡ w.old ++ encoded_block plan.now.scaler
+        (component_bits (parameters_of plan.now) slice index coeffs.now c)) }
 {
     let units = units(plan, bits);
     write_byte(w, units as u8)?;
@@ -64,7 +66,8 @@ fn write_codes(
     requires slice { slice < slice_count (parameters_of plan.now) }
     requires coefficients { AreSliceCoefficients (parameters_of plan.now) slice coeffs.now }
     requires index { index ≤ 127 }
-    ensures { OnOk result (w.new ≡ w.old ++ component_bits (parameters_of plan.now) slice index coeffs.now c) }
+    ensures { OnOk result (w.new
+        ≡ w.old ++ component_bits (parameters_of plan.now) slice index coeffs.now c) }
 {
     let mut zeros = 0;
     let mut rest = coeffs.component(c);
@@ -86,12 +89,16 @@ fn write_subband(
 ) -> Result<u64, NoMemory>
     requires small { list_any is_large coefficients.now ≡ false }
     requires room { zeros + length coefficients.now < 2 ^ 61 }
-    ensures codes { IfOk result (λ left. (more : List ℤ) → w.new ++ codes_behind left more ≡ w.old ++ codes_behind zeros (subband_numbers quantiser.now.index coefficients.now ++ more)) }
+    ensures codes { IfOk result
+        (λ left. (more : List ℤ)
+        → w.new ++ codes_behind left more
+        ≡ w.old ++ codes_behind zeros (subband_numbers quantiser.now.index coefficients.now
+        ++ more)) }
     ensures room { IfOk result (λ left. left ≤ zeros + length coefficients.now) }
 {
     let mut zeros = zeros;
     for coefficient in coefficients {
-        zeros = write_number(w, zeros, quantiser.number(*coefficient))?;
+        zeros = write_number(w, zeros, quantiser.quant(*coefficient))?;
     }
     Ok(zeros)
 }
@@ -99,7 +106,9 @@ fn write_subband(
 fn write_number(w: &mut BitWriter, zeros: u64, number: i64) -> Result<u64, NoMemory>
     requires size { unsigned_abs number < 2 ^ 60 }
     requires room { zeros < 2 ^ 61 }
-    ensures codes { IfOk result (λ left. (more : List ℤ) → w.new ++ codes_behind left more ≡ w.old ++ codes_behind zeros (number ∷ more)) }
+    ensures codes { IfOk result
+        (λ left. (more : List ℤ)
+        → w.new ++ codes_behind left more ≡ w.old ++ codes_behind zeros (number ∷ more)) }
     ensures room { IfOk result (λ left. left ≤ zeros + 1) }
 {
     if number == 0 {

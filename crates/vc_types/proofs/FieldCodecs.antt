@@ -5,7 +5,7 @@ use Rattle.std.specs.Prelude.{IsTrue, IfSome, MatchOption, unwrap_or}
 use Rattle.std.proofs.lemmas.List.{take-append-drop, length-take-le}
 use Rattle.std.proofs.Math.Seq.{drop-append_seam, take-append_seam}
 use Rattle.vc_types.specs.Codes.{uint_bits, uint_at}
-use Rattle.vc_types.specs.Fields.{Field, and_then, ◌>>=◌, give, refuse, tested, next, next_items, flag, number_from, number, behind_flag, flagged_bits, flagged_value, IsCodec}
+use Rattle.vc_types.specs.Fields.{Field, and_then, ◌>>=◌, give, refuse, tested, next, next_items, flag, number_from, number_up_to, behind_flag, flagged_bits, flagged_value, IsCodec}
 use Rattle.vc_types.proofs.Codes.{uint_at-is, uint_at-uint_bits}
 
 -- ---- results
@@ -105,14 +105,14 @@ number_takes {E = E} short too_large max (Some y) x h = chosen (ltb max y.0) ref
         let small : y.0 ≤ max = ltb-false _ _ t in
         (ap Some same, subst (λ (z : ℕ × List Bool). z.0 ≤ max) same small)
 
-number_again : {E : Type 0} (short too_large : E) (max n : ℕ) (rest : List Bool) → n ≤ max → number short too_large max (uint_bits n ++ rest) ≡ Ok (n, rest)
-unfolding number
+number_again : {E : Type 0} (short too_large : E) (max n : ℕ) (rest : List Bool) → n ≤ max → number_up_to short too_large max (uint_bits n ++ rest) ≡ Ok (n, rest)
+unfolding number_up_to
 number_again short too_large max n rest small =
     let fits : ltb max n ≡ false = le-ltb _ _ small in
     rw (uint_at-uint_bits n rest, fits) refl
 
-pub number_codec : {E : Type 0} (short too_large : E) (max : ℕ) → IsCodec (number short too_large max) uint_bits (λ n. n) (λ n. n ≤ max)
-unfolding number
+pub number_codec : {E : Type 0} (short too_large : E) (max : ℕ) → IsCodec (number_up_to short too_large max) uint_bits (λ n. n) (λ n. n ≤ max)
+unfolding number_up_to
 number_codec short too_large max = record {
   takes = λ all x rest h. let t = number_takes short too_large max (uint_at all) (x, rest) h in (x, t.1, refl, uint_at-is all x rest t.0);
   again = number_again short too_large max;

@@ -7,7 +7,7 @@ use Rattle.vc_types.specs.Bits.{digit_of}
 use Rattle.vc_types.specs.Codes.{uint_bits}
 use Rattle.vc_types.specs.Fields.{Field, ◌>>=◌, give, flagged_bits, flagged_value, pair_bits, IsCodec, and_then}
 use Rattle.vc_types.specs.HeaderSpelling.{Choice, Preset, Custom, choice_bits, sampling_index, CleanArea, area_bits, range_bits, Colour, colour_bits, HeaderSpelling, header_bits, chosen_range, spelled_header, IsNumber, IsChoice, ArePair, IsArea, IsRange, IsColour, IsHeader}
-use Rattle.vc_types.specs.SequenceHeader.{HeaderField, number, index, part, major_version, profile, base_video_format, frame_size, sampling_of, colour_difference_sampling, scan_format, ratio, clean_area, excursion, custom_signal_range, signal_range_of, colour_part, colour_specification, picture_coding_mode, sequence_header}
+use Rattle.vc_types.specs.SequenceHeader.{HeaderField, header_number, index, part, major_version, profile, base_video_format, frame_size, sampling_by_index, colour_difference_sampling, scan_format, ratio, clean_area, excursion, custom_signal_range, signal_range_of, colour_part, colour_specification, picture_coding_mode, sequence_header}
 use Rattle.vc_types.specs.Video.{BaseFormat, format_of, range_of, signal_range, excursion_fits, dimensions_fit}
 use Rattle.vc_types.specs.declared.refusal.HeaderRefusal.{HeaderRefusal}
 use Rattle.vc_types.specs.declared.refusal.HeaderRefusal.TheVariants as refusals
@@ -18,8 +18,8 @@ use Rattle.vc_types.proofs.FieldCodecs.{and_then_ok, give_codec, give_if_codec, 
 
 -- ---- numbers
 
-pub number_is : IsCodec number uint_bits (λ n. n) IsNumber
-unfolding number
+pub number_is : IsCodec header_number uint_bits (λ n. n) IsNumber
+unfolding header_number
 number_is = number_codec refusals.Short refusals.TooLarge (2 ^ 32 - 1)
 
 index_is : (limit : ℕ) (refusal : HeaderRefusal) → limit ≤ 2 ^ 32 - 1 → IsCodec (index limit refusal) uint_bits (λ n. n) (λ n. n ≤ limit)
@@ -98,7 +98,7 @@ choice_codec {E = E} {A = A} {X = X} {first = first} {custom = custom} {bits = b
 
 -- ---- parts
 
-pair_is : IsCodec (number >>= λ first. number >>= λ second. give (first, second)) pair_bits (λ p. p) ArePair
+pair_is : IsCodec (header_number >>= λ first. header_number >>= λ second. give (first, second)) pair_bits (λ p. p) ArePair
 pair_is = retold pair_bits (λ (p : ℕ × ℕ). p) ArePair (λ (a : ℕ × (ℕ × Unit {0})). (a.0, a.1.0)) (λ (p : ℕ × ℕ). (p.0, (p.1, tt)))
     (λ a ok. ((ok.0, ok.1.0), refl, refl))
     (λ p ok. ((ok.0, (ok.1, tt)), refl, refl))
@@ -108,12 +108,12 @@ size_is : (base : BaseFormat) → IsCodec (frame_size base) (flagged_bits pair_b
 unfolding frame_size
 size_is base = plain_flag_codec refusals.Short (base.width, base.height) pair_is
 
-sampling_again : (s : Sampling) → (sampling_index s ≤ 2) × (sampling_of (sampling_index s) ≡ s) × (uint_bits (sampling_index s) ≡ uint_bits (sampling_index s))
+sampling_again : (s : Sampling) → (sampling_index s ≤ 2) × (sampling_by_index (sampling_index s) ≡ s) × (uint_bits (sampling_index s) ≡ uint_bits (sampling_index s))
 sampling_again S444 = (lit≤ tt, refl, refl)
 sampling_again S422 = (lit≤ tt, refl, refl)
 sampling_again S420 = (lit≤ tt, refl, refl)
 
-index_of_sampling : (n : ℕ) → n ≤ 2 → n ≡ sampling_index (sampling_of n)
+index_of_sampling : (n : ℕ) → n ≤ 2 → n ≡ sampling_index (sampling_by_index n)
 index_of_sampling zero small = refl
 index_of_sampling (suc zero) small = refl
 index_of_sampling (suc (suc zero)) small = refl
@@ -122,10 +122,10 @@ index_of_sampling (suc (suc (suc n))) small = absurd (omega arith)
 sampling_is : (base : BaseFormat) → IsCodec (colour_difference_sampling base) (flagged_bits (λ s. uint_bits (sampling_index s))) (λ a. unwrap_or a base.sampling) (λ a. IfSome a (λ s. Unit {0}))
 unfolding colour_difference_sampling
 sampling_is base = plain_flag_codec refusals.Short base.sampling
-    (retold (λ s. uint_bits (sampling_index s)) (λ (s : Sampling). s) (λ s. Unit {0}) sampling_of sampling_index
+    (retold (λ s. uint_bits (sampling_index s)) (λ (s : Sampling). s) (λ s. Unit {0}) sampling_by_index sampling_index
     (λ n ok. (tt, refl, ap uint_bits (index_of_sampling n ok)))
     (λ s ok. sampling_again s)
-    (mapped_codec sampling_of (index_is 2 refusals.SamplingIndex (lit≤ tt))))
+    (mapped_codec sampling_by_index (index_is 2 refusals.SamplingIndex (lit≤ tt))))
 
 bit_again : (b : Bool) → (digit_of b ≤ 1) × (eqb (digit_of b) 1 ≡ b) × (uint_bits (digit_of b) ≡ uint_bits (digit_of b))
 bit_again true = (lit≤ tt, refl, refl)

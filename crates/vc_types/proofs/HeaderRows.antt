@@ -2,7 +2,7 @@
 use Rattle.std.proofs.Common.{◌≡◌, ℕ, true, false, List, [], ◌∷◌, ◌++◌, Ok, Err, refl, replicate}
 use Rattle.vc_types.specs.Bits.{bits_of, byte_bits}
 use Rattle.vc_types.specs.Codes.{uint_at, uint_after, uint_bits, spread_digits}
-use Rattle.vc_types.specs.Fields.{number, filled_up}
+use Rattle.vc_types.specs.Fields.{number_up_to, filled_up}
 use Rattle.vc_types.specs.HeaderSpelling.{header_bits, encoder_header}
 use Rattle.vc_types.specs.ParameterSpelling.{parameter_bits, encoder_parameters}
 use Rattle.vc_types.specs.Quantisation.{default_matrix}
@@ -31,12 +31,12 @@ sequence = record {
 }
 
 pub header_is : coded_header (0x70 ∷ 0xf0 ∷ 0x63 ∷ 0xc0 ∷ 0x80 ∷ []) ≡ Ok (sequence, 5)
-unfolding sequence_header header.number header.major_version header.profile header.base_video_format header.frame_size header.colour_difference_sampling header.scan_format header.ratio header.clean_area header.excursion header.custom_signal_range header.signal_range_of header.colour_part header.colour_specification header.picture_coding_mode number uint_at uint_after bits_of byte_bits format_of range_of
+unfolding sequence_header header.header_number header.major_version header.profile header.base_video_format header.frame_size header.colour_difference_sampling header.scan_format header.ratio header.clean_area header.excursion header.custom_signal_range header.signal_range_of header.colour_part header.colour_specification header.picture_coding_mode number_up_to uint_at uint_after bits_of byte_bits format_of range_of
 header_is = refl
 
 -- four of its bytes
 pub header_is_short : coded_header (0x70 ∷ 0xf0 ∷ 0x63 ∷ 0xc0 ∷ []) ≡ Err refusals.Short
-unfolding sequence_header header.number header.major_version header.profile header.base_video_format header.frame_size header.colour_difference_sampling header.scan_format header.ratio header.clean_area header.excursion header.custom_signal_range header.signal_range_of header.colour_part header.colour_specification header.picture_coding_mode number uint_at uint_after bits_of byte_bits format_of range_of
+unfolding sequence_header header.header_number header.major_version header.profile header.base_video_format header.frame_size header.colour_difference_sampling header.scan_format header.ratio header.clean_area header.excursion header.custom_signal_range header.signal_range_of header.colour_part header.colour_specification header.picture_coding_mode number_up_to uint_at uint_after bits_of byte_bits format_of range_of
 header_is_short = refl
 
 -- wavelet, slices across and the matrix; depth 1, one slice down, no prefix, scaler 1
@@ -55,11 +55,11 @@ parameters_of_it width height wavelet across matrix = record {
 }
 
 pub parameters_are : coded_parameters sequence (0x09 ∷ 0x66 ∷ 0x40 ∷ []) ≡ Ok (parameters_of_it 8 4 3 2 (8 ∷ 4 ∷ 4 ∷ 0 ∷ []), 3)
-unfolding transform_parameters parameters.number parameters.wavelet_index parameters.wavelet_depth parameters.extended_parameters parameters.slice_counts parameters.prefix_bytes parameters.size_scaler parameters.matrix_value parameters.matrix_values parameters.quantisation_matrix default_matrix header.picture_shape video_depth number uint_at uint_after bits_of byte_bits
+unfolding transform_parameters parameters.number parameters.wavelet_index parameters.wavelet_depth parameters.extended_parameters parameters.slice_counts parameters.prefix_bytes parameters.size_scaler parameters.matrix_value parameters.matrix_values parameters.quantisation_matrix default_matrix header.picture_shape video_depth number_up_to uint_at uint_after bits_of byte_bits
 parameters_are = refl
 
 pub other_parameters_are : coded_parameters sequence (0x25 ∷ 0x99 ∷ 0x00 ∷ []) ≡ Ok (parameters_of_it 8 4 1 2 (4 ∷ 2 ∷ 2 ∷ 0 ∷ []), 3)
-unfolding transform_parameters parameters.number parameters.wavelet_index parameters.wavelet_depth parameters.extended_parameters parameters.slice_counts parameters.prefix_bytes parameters.size_scaler parameters.matrix_value parameters.matrix_values parameters.quantisation_matrix default_matrix header.picture_shape video_depth number uint_at uint_after bits_of byte_bits
+unfolding transform_parameters parameters.number parameters.wavelet_index parameters.wavelet_depth parameters.extended_parameters parameters.slice_counts parameters.prefix_bytes parameters.size_scaler parameters.matrix_value parameters.matrix_values parameters.quantisation_matrix default_matrix header.picture_shape video_depth number_up_to uint_at uint_after bits_of byte_bits
 other_parameters_are = refl
 
 -- ---- what this project's encoder writes: 2 by 2, 4:4:4, top field first, the first signal range, frames

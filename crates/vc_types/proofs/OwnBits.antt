@@ -2,7 +2,7 @@
 use Rattle.std.proofs.Common.{◌≡◌, ℕ, Bool, true, false, cond, ltb, List, [], ◌∷◌, ◌++◌, Option, Some, None, Result, Ok, Err, refl, sym, ap, ◌∙◌, append_assoc}
 use Rattle.std.specs.Prelude.{if◌then◌else◌}
 use Rattle.vc_types.specs.Codes.{uint_bits, uint_at}
-use Rattle.vc_types.specs.Fields.{Field, and_then, ◌>>=◌, give, refuse, tested, next, number_from, number, behind_flag}
+use Rattle.vc_types.specs.Fields.{Field, and_then, ◌>>=◌, give, refuse, tested, next, number_from, number_up_to, behind_flag}
 use Rattle.vc_types.proofs.Codes.{uint_at-is, uint_at-uint_bits}
 
 -- what a field that was read depends on: the part that was used, whatever follows it
@@ -83,8 +83,8 @@ number_part {E = E} short too_large max (Some y) x rest h = small (ltb max y.0) 
     small true t g = absurd cc
     small false t g = let same : y ≡ (x, rest) = ok_is E y (x, rest) g in (ap Some same, ap (λ (z : ℕ × List Bool). ltb max z.0) (sym same) ∙ t)
 
-pub number_own : {E : Type 0} (short too_large : E) (max : ℕ) → ReadsOwn (number short too_large max)
-unfolding number
+pub number_own : {E : Type 0} (short too_large : E) (max : ℕ) → ReadsOwn (number_up_to short too_large max)
+unfolding number_up_to
 number_own short too_large max = record {
   own = λ all x rest h.
       let read = number_part short too_large max (uint_at all) x rest h in

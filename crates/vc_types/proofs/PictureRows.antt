@@ -3,7 +3,7 @@ use Rattle.std.proofs.Common.{◌≡◌, ℕ, false, List, [], ◌∷◌, ◌++�
 use Rattle.vc_types.specs.Bits.{bits_of, byte_bits}
 use Rattle.vc_types.specs.Codes.{uint_at, uint_after}
 use Rattle.vc_types.specs.Bounded.{bounded_uint_after, bounded_uint, bounded_sint, bounded_sints}
-use Rattle.vc_types.specs.Fields.{number}
+use Rattle.vc_types.specs.Fields.{number_up_to}
 use Rattle.vc_types.specs.Lifting.{weighted, change, lifted}
 use Rattle.vc_types.specs.Pictures.{slices_from, decoded_picture, all_placed, standing_at, component_cells}
 use Rattle.vc_types.specs.Planes.{output_sample, component_plane, decoded_planes}
@@ -37,7 +37,7 @@ sequence = record {
 }
 
 pub header_is : sequence_header (bits_of (0x70 ∷ 0xf6 ∷ 0xf0 ∷ 0x20 ∷ [])) ≡ Ok (sequence, false ∷ false ∷ false ∷ false ∷ false ∷ [])
-unfolding sequence_header header.number header.major_version header.profile header.base_video_format header.frame_size header.colour_difference_sampling header.scan_format header.ratio header.clean_area header.excursion header.custom_signal_range header.signal_range_of header.colour_part header.colour_specification header.picture_coding_mode number uint_at uint_after bits_of byte_bits format_of range_of
+unfolding sequence_header header.header_number header.major_version header.profile header.base_video_format header.frame_size header.colour_difference_sampling header.scan_format header.ratio header.clean_area header.excursion header.custom_signal_range header.signal_range_of header.colour_part header.colour_specification header.picture_coding_mode number_up_to uint_at uint_after bits_of byte_bits format_of range_of
 header_is = refl
 
 -- the planes of a component: these samples, row by row
@@ -46,12 +46,12 @@ two_by_two samples = record { width = 2; height = 2; samples = samples }
 
 -- one slice, whose luma coefficients are LL 0, HL 1, LH 0 and HH 1
 pub planes_are : decoded_planes sequence (0x09 ∷ 0x26 ∷ 0x40 ∷ 0x00 ∷ 0x02 ∷ 0x94 ∷ 0x80 ∷ 0x00 ∷ 0x00 ∷ []) ≡ Some (record { y = two_by_two (0x80 ∷ 0x80 ∷ 0x7f ∷ 0x80 ∷ []); c1 = two_by_two (0x80 ∷ 0x80 ∷ 0x80 ∷ 0x80 ∷ []); c2 = two_by_two (0x80 ∷ 0x80 ∷ 0x80 ∷ 0x80 ∷ []) })
-unfolding decoded_planes decoded_picture transform_parameters parameters.number parameters.wavelet_index parameters.wavelet_depth parameters.extended_parameters parameters.slice_counts parameters.prefix_bytes parameters.size_scaler parameters.matrix_value parameters.matrix_values parameters.quantisation_matrix default_matrix header.picture_shape video_depth number uint_at uint_after bits_of byte_bits slices_from coded_slice block decoded_slice block_coefficients quantisers slice_rectangle slice_coefficient_count bounded_sints bounded_sint bounded_uint bounded_uint_after dequantised quant_factor quant_offset component_plane raster output_sample inverse_transform levels_across inverse_levels inverse_level on_cells on_rows on_columns interleaved synthesised lifted_by synthesis_steps lifted change weighted component_cells standing_at all_placed coefficient_place place_among
+unfolding decoded_planes decoded_picture transform_parameters parameters.number parameters.wavelet_index parameters.wavelet_depth parameters.extended_parameters parameters.slice_counts parameters.prefix_bytes parameters.size_scaler parameters.matrix_value parameters.matrix_values parameters.quantisation_matrix default_matrix header.picture_shape video_depth number_up_to uint_at uint_after bits_of byte_bits slices_from coded_slice block decoded_slice block_coefficients quantisers slice_rectangle slice_coefficient_count bounded_sints bounded_sint bounded_uint bounded_uint_after dequantised quant_factor quant_offset component_plane raster output_sample inverse_transform levels_across inverse_levels inverse_level on_cells on_rows on_columns interleaved synthesised lifted_by synthesis_steps lifted change weighted component_cells standing_at all_placed coefficient_place place_among
 planes_are = refl
 
 -- a custom matrix of four zeros, so that at index 4 an LL of 3 stands for 7
 pub custom_matrix : decoded_planes sequence (0x09 ∷ 0x26 ∷ 0x7e ∷ 0x04 ∷ 0x01 ∷ 0x0b ∷ 0x00 ∷ 0x00 ∷ []) ≡ Some (record { y = two_by_two (0x87 ∷ 0x87 ∷ 0x87 ∷ 0x87 ∷ []); c1 = two_by_two (0x80 ∷ 0x80 ∷ 0x80 ∷ 0x80 ∷ []); c2 = two_by_two (0x80 ∷ 0x80 ∷ 0x80 ∷ 0x80 ∷ []) })
-unfolding decoded_planes decoded_picture transform_parameters parameters.number parameters.wavelet_index parameters.wavelet_depth parameters.extended_parameters parameters.slice_counts parameters.prefix_bytes parameters.size_scaler parameters.matrix_value parameters.matrix_values parameters.quantisation_matrix default_matrix header.picture_shape video_depth number uint_at uint_after bits_of byte_bits slices_from coded_slice block decoded_slice block_coefficients quantisers slice_rectangle slice_coefficient_count bounded_sints bounded_sint bounded_uint bounded_uint_after dequantised quant_factor quant_offset component_plane raster output_sample inverse_transform levels_across inverse_levels inverse_level on_cells on_rows on_columns interleaved synthesised lifted_by synthesis_steps lifted change weighted component_cells standing_at all_placed coefficient_place place_among
+unfolding decoded_planes decoded_picture transform_parameters parameters.number parameters.wavelet_index parameters.wavelet_depth parameters.extended_parameters parameters.slice_counts parameters.prefix_bytes parameters.size_scaler parameters.matrix_value parameters.matrix_values parameters.quantisation_matrix default_matrix header.picture_shape video_depth number_up_to uint_at uint_after bits_of byte_bits slices_from coded_slice block decoded_slice block_coefficients quantisers slice_rectangle slice_coefficient_count bounded_sints bounded_sint bounded_uint bounded_uint_after dequantised quant_factor quant_offset component_plane raster output_sample inverse_transform levels_across inverse_levels inverse_level on_cells on_rows on_columns interleaved synthesised lifted_by synthesis_steps lifted change weighted component_cells standing_at all_placed coefficient_place place_among
 custom_matrix = refl
 
 -- the first of two slices has a luma block that ends within a number: the bits past its end finish -15
@@ -68,5 +68,5 @@ abbrev pub eight_by_four_of : List ℕ → Raster
 eight_by_four_of samples = record { width = 8; height = 4; samples = samples }
 
 pub bounded_block : decoded_planes eight_by_four (0x09 ∷ 0x66 ∷ 0x40 ∷ 0x00 ∷ 0x01 ∷ 0x00 ∷ 0x00 ∷ 0x00 ∷ 0x00 ∷ 0x00 ∷ 0x00 ∷ 0x00 ∷ []) ≡ Some (record { y = eight_by_four_of (dark_row ++ (dark_row ++ grey_rows 2)); c1 = eight_by_four_of (grey_rows 4); c2 = eight_by_four_of (grey_rows 4) })
-unfolding decoded_planes decoded_picture transform_parameters parameters.number parameters.wavelet_index parameters.wavelet_depth parameters.extended_parameters parameters.slice_counts parameters.prefix_bytes parameters.size_scaler parameters.matrix_value parameters.matrix_values parameters.quantisation_matrix default_matrix header.picture_shape video_depth number uint_at uint_after bits_of byte_bits slices_from coded_slice block decoded_slice block_coefficients quantisers slice_rectangle slice_coefficient_count bounded_sints bounded_sint bounded_uint bounded_uint_after dequantised quant_factor quant_offset component_plane raster output_sample inverse_transform levels_across inverse_levels inverse_level on_cells on_rows on_columns interleaved synthesised lifted_by synthesis_steps lifted change weighted component_cells standing_at all_placed coefficient_place place_among
+unfolding decoded_planes decoded_picture transform_parameters parameters.number parameters.wavelet_index parameters.wavelet_depth parameters.extended_parameters parameters.slice_counts parameters.prefix_bytes parameters.size_scaler parameters.matrix_value parameters.matrix_values parameters.quantisation_matrix default_matrix header.picture_shape video_depth number_up_to uint_at uint_after bits_of byte_bits slices_from coded_slice block decoded_slice block_coefficients quantisers slice_rectangle slice_coefficient_count bounded_sints bounded_sint bounded_uint bounded_uint_after dequantised quant_factor quant_offset component_plane raster output_sample inverse_transform levels_across inverse_levels inverse_level on_cells on_rows on_columns interleaved synthesised lifted_by synthesis_steps lifted change weighted component_cells standing_at all_placed coefficient_place place_among
 bounded_block = refl

@@ -33,7 +33,8 @@ signed true magnitude = neg_ℤ (pos magnitude)
 signed false magnitude = pos magnitude
 
 abbrev pub with_sign : ℕ × List Bool → ℤ × List Bool
-with_sign read = if read.0 == 0 then (pos 0, read.1) else (signed (bounded read.1 0) read.0, drop 1 read.1)
+with_sign read =
+    if read.0 == 0 then (pos 0, read.1) else (signed (bounded read.1 0) read.0, drop 1 read.1)
 
 unfoldable pub bounded_sint : List Bool → ℤ × List Bool
 bounded_sint bits = with_sign (bounded_uint bits)

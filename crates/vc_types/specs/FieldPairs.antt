@@ -16,7 +16,8 @@ unfoldable pub interleaved_rows : Raster → Raster → Raster
 interleaved_rows even odd = record {
   width = even.width;
   height = 2 * even.height;
-  samples = raster even.width (2 * even.height) (λ x y. sample_at (if y % 2 == 0 then even else odd) x (y / 2));
+  samples = raster even.width (2 * even.height)
+      (λ x y. sample_at (if y % 2 == 0 then even else odd) x (y / 2));
 }
 
 -- every other row, from row 0 or row 1 on

@@ -29,7 +29,8 @@ refuse refusal all = Err refusal
 
 -- a field that passes a test
 abbrev pub tested : {T E X : Type 0} → (X → Bool) → E → Field T E X → Field T E X
-tested test refusal field all = and_then (field all) (λ read. if test read.0 then Ok read else Err refusal)
+tested test refusal field all =
+    and_then (field all) (λ read. if test read.0 then Ok read else Err refusal)
 
 -- the next bit or byte
 abbrev pub next : {T E : Type 0} → E → Field T E T
@@ -45,22 +46,26 @@ abbrev pub flag : {E : Type 0} → E → Field Bool E Bool
 flag short = next short
 
 -- the next unsigned code
-abbrev pub number_from : {E : Type 0} → E → E → ℕ → Option (ℕ × List Bool) → Result (ℕ × List Bool) E
+abbrev pub number_from : {E : Type 0} → E → E → ℕ → Option (ℕ × List Bool)
+    → Result (ℕ × List Bool) E
 number_from short too_large max None = Err short
 number_from short too_large max (Some read) = if nat_lt max read.0 then Err too_large else Ok read
 
 -- an unsigned code of a number up to max
-unfoldable pub number : {E : Type 0} → E → E → ℕ → Field Bool E ℕ
-number short too_large max bits = number_from short too_large max (uint_at bits)
+unfoldable pub number_up_to : {E : Type 0} → E → E → ℕ → Field Bool E ℕ
+number_up_to short too_large max bits = number_from short too_large max (uint_at bits)
 
 -- a field behind a flag that is 1, and what stands in its place where the flag is 0
 abbrev pub behind_flag : {E X : Type 0} → E → X → Field Bool E X → Field Bool E X
-behind_flag short default field all = and_then (flag short all) (λ custom. if custom.0 then field custom.1 else Ok (default, custom.1))
+behind_flag short default field all =
+    and_then (flag short all)
+    (λ custom. if custom.0 then field custom.1 else Ok (default, custom.1))
 
 -- ---- what the code answers
 
 -- What was answered, seen by view, and what is left then, are what the field gives.
-abbrev pub Gives : {T E X Y : Type 0} → (X → Y) → Result X E → List T → Result (Y × List T) E → Type 0
+abbrev pub Gives : {T E X Y : Type 0} → (X → Y) → Result X E → List T → Result (Y × List T) E
+    → Type 0
 Gives view (Ok x) left read = read ≡ Ok (view x, left)
 Gives view (Err refusal) left read = read ≡ Err refusal
 
@@ -92,8 +97,10 @@ flagged_value default value (Some a) = value a
 
 -- Reading and writing belong together: what is read is what was written of some accepted spelling, and each accepted
 -- spelling is read again, whatever follows it.
-pub record IsCodec {T E A X : Type 0} (field : Field T E X) (written : A → List T) (value : A → X) (Accepted : A → Type 0) : Type 0 where
-  pub takes : (all : List T) (x : X) (rest : List T) → field all ≡ Ok (x, rest) → (a : A) × Accepted a × (value a ≡ x) × (all ≡ written a ++ rest)
+pub record IsCodec {T E A X : Type 0} (field : Field T E X) (written : A → List T)
+    (value : A → X) (Accepted : A → Type 0) : Type 0 where
+  pub takes : (all : List T) (x : X) (rest : List T) → field all ≡ Ok (x, rest)
+      → (a : A) × Accepted a × (value a ≡ x) × (all ≡ written a ++ rest)
   pub again : (a : A) (rest : List T) → Accepted a → field (written a ++ rest) ≡ Ok (value a, rest)
 
 -- ---- fields at the front of bytes
@@ -107,7 +114,8 @@ abbrev pub filled_up : List Bool → List Bool
 filled_up bits = bits ++ replicate ((8 - length bits % 8) % 8) false
 
 -- Bytes begin with the bits of an accepted spelling, which stands for a value and takes so many bytes.
-pub record Begins {A X : Type 0} (written : A → List Bool) (value : A → X) (Accepted : A → Type 0) (bytes : List ℕ) (x : X) (used : ℕ) : Type 0 where
+pub record Begins {A X : Type 0} (written : A → List Bool) (value : A → X)
+    (Accepted : A → Type 0) (bytes : List ℕ) (x : X) (used : ℕ) : Type 0 where
   pub spelling : A
   pub rest : List Bool
   pub accepted : Accepted spelling

@@ -34,10 +34,13 @@ pub record CleanArea : Type 0 where
   pub top : ℕ
 
 abbrev pub area_bits : CleanArea → List Bool
-area_bits a = joined (uint_bits a.width ∷ uint_bits a.height ∷ uint_bits a.left ∷ uint_bits a.top ∷ [])
+area_bits a =
+    joined (uint_bits a.width ∷ uint_bits a.height ∷ uint_bits a.left ∷ uint_bits a.top ∷ [])
 
 abbrev pub range_bits : SignalRange → List Bool
-range_bits r = joined (uint_bits r.luma_offset ∷ uint_bits r.luma_excursion ∷ uint_bits r.colour_offset ∷ uint_bits r.colour_excursion ∷ [])
+range_bits r =
+    joined (uint_bits r.luma_offset ∷ uint_bits r.luma_excursion
+    ∷ uint_bits r.colour_offset ∷ uint_bits r.colour_excursion ∷ [])
 
 -- colour primaries, colour matrix and transfer function
 pub record Colour : Type 0 where
@@ -46,7 +49,9 @@ pub record Colour : Type 0 where
   pub transfer : Option ℕ
 
 abbrev pub colour_bits : Colour → List Bool
-colour_bits c = joined (flagged_bits uint_bits c.primaries ∷ flagged_bits uint_bits c.matrix ∷ flagged_bits uint_bits c.transfer ∷ [])
+colour_bits c =
+    joined (flagged_bits uint_bits c.primaries ∷ flagged_bits uint_bits c.matrix
+    ∷ flagged_bits uint_bits c.transfer ∷ [])
 
 -- ---- a header
 
@@ -144,11 +149,13 @@ pub record IsHeader (s : HeaderSpelling) : Type 0 where
   pub clean_area : IfSome s.clean_area IsArea
   pub range : IfSome s.range (IsChoice 4 IsRange)
   pub colour : IfSome s.colour (IsChoice (2 ^ 32 - 1) IsColour)
-  pub dimensions : IsTrue (dimensions_fit (spelled_header s).width (spelled_header s).height (spelled_header s).sampling s.fields)
+  pub dimensions : IsTrue (dimensions_fit (spelled_header s).width (spelled_header s).height
+      (spelled_header s).sampling s.fields)
 
 -- bytes begin with a header of this value, which takes so many bytes
 abbrev pub BeginsWithHeader : List ℕ → Sequence → ℕ → Type 0
-BeginsWithHeader bytes sequence used = Begins header_bits spelled_header IsHeader bytes sequence used
+BeginsWithHeader bytes sequence used =
+    Begins header_bits spelled_header IsHeader bytes sequence used
 
 -- ---- the headers that this project writes
 
@@ -167,7 +174,11 @@ pub record IsEncoderHeader (s : Sequence) : Type 0 where
 
 -- the index of a preset signal range, by its luma excursion
 abbrev pub preset_of : SignalRange → ℕ
-preset_of range = if range.luma_excursion == 255 then 1 else if range.luma_excursion == 219 then 2 else if range.luma_excursion == 876 then 3 else 4
+preset_of range =
+    if range.luma_excursion == 255 then 1
+    else if range.luma_excursion == 219 then 2
+    else if range.luma_excursion == 876 then 3
+    else 4
 
 -- size, sampling, scan and signal range are coded, and nothing else
 abbrev pub encoder_header : Sequence → HeaderSpelling

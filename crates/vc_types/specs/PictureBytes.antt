@@ -11,7 +11,8 @@ abbrev pub IsWholeSlice : Parameters → List ℕ → Type 0
 IsWholeSlice p bytes = slice_length p.prefix p.scaler bytes ≡ Some (length bytes)
 
 -- the coded parameters of a picture of a sequence, and as many whole slices as it has
-pub record ArePictureBytes (s : Sequence) (p : Parameters) (coded : List ℕ) (slices : List (List ℕ)) : Type 0 where
+pub record ArePictureBytes (s : Sequence) (p : Parameters) (coded : List ℕ)
+    (slices : List (List ℕ)) : Type 0 where
   pub parameters : coded_parameters s coded ≡ Ok (p, length coded)
   pub count : length slices ≡ slice_count p
   pub whole : All (IsWholeSlice p) slices

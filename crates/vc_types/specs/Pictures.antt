@@ -30,26 +30,32 @@ slices_from p i (suc n) = do
   slices ← slices_from p (i + 1) n
   give (slice ∷ slices)
 
-abbrev pub with_slices : Parameters → Result (List Coefficients × List ℕ) (Unit {0}) → Option Picture
+abbrev pub with_slices : Parameters → Result (List Coefficients × List ℕ) (Unit {0})
+    → Option Picture
 with_slices p (Ok read) = Some (record { parameters = p; slices = read.0 })
 with_slices p (Err none) = None
 
 abbrev pub with_parameters : List ℕ → Result (Parameters × List Bool) ParamsRefusal → Option Picture
-with_parameters bytes (Ok read) = with_slices read.0 (slices_from read.0 0 (slice_count read.0) (drop (bytes_used bytes read.1) bytes))
+with_parameters bytes (Ok read) =
+    with_slices read.0
+    (slices_from read.0 0 (slice_count read.0) (drop (bytes_used bytes read.1) bytes))
 with_parameters bytes (Err refusal) = None
 
 -- transform parameters and, from the next whole byte on, the slices in raster order
 unfoldable pub decoded_picture : Sequence → List ℕ → Option Picture
-decoded_picture sequence bytes = with_parameters bytes (transform_parameters sequence (bits_of bytes))
+decoded_picture sequence bytes =
+    with_parameters bytes (transform_parameters sequence (bits_of bytes))
 
 -- ---- the coefficients of a component, by their places
 
 -- the coefficients of slice number n at their places
 abbrev pub placed : Parameters → Component → ℕ → List ℤ → List (Place × ℤ)
-placed p c n coefficients = map (λ z. (coefficient_place p c n z.0, z.1)) (enumerate_from 0 coefficients)
+placed p c n coefficients =
+    map (λ z. (coefficient_place p c n z.0, z.1)) (enumerate_from 0 coefficients)
 
 unfoldable pub all_placed : Parameters → Component → List Coefficients → List (Place × ℤ)
-all_placed p c slices = flat_map (λ s. placed p c s.0 (coefficients_of s.1 c)) (enumerate_from 0 slices)
+all_placed p c slices =
+    flat_map (λ s. placed p c s.0 (coefficients_of s.1 c)) (enumerate_from 0 slices)
 
 -- the number that stands in column x and row y, 0 where none does
 unfoldable pub standing_at : List (Place × ℤ) → ℕ → ℕ → ℤ

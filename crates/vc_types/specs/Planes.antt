@@ -22,7 +22,11 @@ no_plane = record { width = 0; height = 0; samples = [] }
 
 -- the planes of the three components, in this order
 abbrev pub planes_in : List Raster → Planes
-planes_in planes = record { y = slice_index_or planes 0 no_plane; c1 = slice_index_or planes 1 no_plane; c2 = slice_index_or planes 2 no_plane }
+planes_in planes = record {
+  y = slice_index_or planes 0 no_plane;
+  c1 = slice_index_or planes 1 no_plane;
+  c2 = slice_index_or planes 2 no_plane;
+}
 
 -- a number is held from -half to half - 1
 abbrev pub clipped : ℕ → ℤ → ℤ
@@ -38,12 +42,20 @@ unfoldable pub component_plane : Parameters → Component → List Coefficients 
 component_plane p c slices = record {
   width = plane_width p.shape c;
   height = plane_height p.shape c;
-  samples = raster (plane_width p.shape c) (plane_height p.shape c) (λ x y. output_sample (plane_depth p.shape c) (inverse_transform p c (component_cells p c slices) x y));
+  samples = raster (plane_width p.shape c) (plane_height p.shape c)
+      (λ x y. output_sample (plane_depth p.shape c)
+      (inverse_transform p c (component_cells p c slices) x y));
 }
 
 abbrev pub planes_of : Parameters → List Coefficients → Planes
-planes_of p slices = record { y = component_plane p Y slices; c1 = component_plane p C1 slices; c2 = component_plane p C2 slices }
+planes_of p slices = record {
+  y = component_plane p Y slices;
+  c1 = component_plane p C1 slices;
+  c2 = component_plane p C2 slices;
+}
 
 -- the planes of a picture's own bytes, if it decodes
 unfoldable pub decoded_planes : Sequence → List ℕ → Option Planes
-decoded_planes sequence bytes = option_map (λ picture. planes_of picture.parameters picture.slices) (decoded_picture sequence bytes)
+decoded_planes sequence bytes =
+    option_map (λ picture. planes_of picture.parameters picture.slices)
+    (decoded_picture sequence bytes)

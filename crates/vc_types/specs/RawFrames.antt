@@ -16,4 +16,5 @@ abbrev pub samples_bytes : Bool → List ℕ → List ℕ
 samples_bytes two samples = flat_map (sample_bytes two) samples
 
 unfoldable pub frame_bytes : Planes → Bool → List ℕ
-frame_bytes planes two = samples_bytes two (planes.y.samples ++ (planes.c1.samples ++ planes.c2.samples))
+frame_bytes planes two =
+    samples_bytes two (planes.y.samples ++ (planes.c1.samples ++ planes.c2.samples))

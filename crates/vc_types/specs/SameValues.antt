@@ -12,7 +12,8 @@ use Rattle.vc_types.specs.TransformParameters.{Parameters}
 
 abbrev pub same_size : Sequence → Sequence → Bool
 same_size a b =
-    a.width == b.width && a.height == b.height && sampling_index a.sampling == sampling_index b.sampling
+    a.width == b.width && a.height == b.height
+    && sampling_index a.sampling == sampling_index b.sampling
 
 abbrev pub same_scan : Sequence → Sequence → Bool
 same_scan a b =
@@ -48,10 +49,11 @@ same_transform a b =
 
 abbrev pub same_slicing : Parameters → Parameters → Bool
 same_slicing a b =
-    a.slices_x == b.slices_x && a.slices_y == b.slices_y && a.prefix == b.prefix && a.scaler == b.scaler
+    a.slices_x == b.slices_x && a.slices_y == b.slices_y && a.prefix == b.prefix
+    && a.scaler == b.scaler
 
 -- both parameters have the same value
 unfoldable pub same_parameters : Parameters → Parameters → Bool
 same_parameters a b =
-    same_luma a.shape b.shape && same_colour a.shape b.shape && same_transform a b && same_slicing a b
-    && bytes_eq a.matrix b.matrix
+    same_luma a.shape b.shape && same_colour a.shape b.shape && same_transform a b
+    && same_slicing a b && bytes_eq a.matrix b.matrix

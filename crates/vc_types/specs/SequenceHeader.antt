@@ -9,7 +9,7 @@ use Rattle.vc_types.specs.declared.video.SignalRange.{SignalRange}
 use Rattle.vc_types.specs.declared.refusal.HeaderRefusal.{HeaderRefusal}
 use Rattle.vc_types.specs.declared.refusal.HeaderRefusal.TheVariants as refusals
 use Rattle.vc_types.specs.Video.{BaseFormat, format_of, range_of, signal_range, dimensions_fit, excursion_fits, colour_width, colour_height, picture_height, video_depth}
-use Rattle.vc_types.specs.Fields.{Field, ◌>>=◌, give, skip, refuse, tested, behind_flag, number as number_up_to}
+use Rattle.vc_types.specs.Fields.{Field, ◌>>=◌, give, skip, refuse, tested, behind_flag, number_up_to}
 
 -- the value of a sequence header
 pub record Sequence : Type 0 where
@@ -45,39 +45,39 @@ HeaderField X = Field Bool HeaderRefusal X
 
 -- ---- the fields
 
-unfoldable pub number : HeaderField ℕ
-number = number_up_to refusals.Short refusals.TooLarge (2 ^ 32 - 1)
+unfoldable pub header_number : HeaderField ℕ
+header_number = number_up_to refusals.Short refusals.TooLarge (2 ^ 32 - 1)
 
 -- a number of at most a limit
 abbrev pub index : ℕ → HeaderRefusal → HeaderField ℕ
-index limit refusal = tested (λ n. nat_le n limit) refusal number
+index limit refusal = tested (λ n. nat_le n limit) refusal header_number
 
 -- a part of the header behind its flag
 abbrev pub part : {X : Type 0} → X → HeaderField X → HeaderField X
 part default field = behind_flag refusals.Short default field
 
 unfoldable pub major_version : HeaderField ℕ
-major_version = tested (λ n. n == 2 || n == 3) refusals.Version number
+major_version = tested (λ n. n == 2 || n == 3) refusals.Version header_number
 
 unfoldable pub profile : HeaderField ℕ
-profile = tested (λ n. n == 3) refusals.Profile number
+profile = tested (λ n. n == 3) refusals.Profile header_number
 
 unfoldable pub base_video_format : HeaderField ℕ
 base_video_format = index 16 refusals.BaseFormat
 
 unfoldable pub frame_size : BaseFormat → HeaderField (ℕ × ℕ)
 frame_size base = part (base.width, base.height) (do
-  width ← number
-  height ← number
+  width ← header_number
+  height ← header_number
   give (width, height))
 
-abbrev pub sampling_of : ℕ → Sampling
-sampling_of index = if index == 0 then S444 else (if index == 1 then S422 else S420)
+abbrev pub sampling_by_index : ℕ → Sampling
+sampling_by_index index = if index == 0 then S444 else (if index == 1 then S422 else S420)
 
 unfoldable pub colour_difference_sampling : BaseFormat → HeaderField Sampling
 colour_difference_sampling base = part base.sampling (do
   format ← index 2 refusals.SamplingIndex
-  give (sampling_of format))
+  give (sampling_by_index format))
 
 unfoldable pub scan_format : BaseFormat → HeaderField Bool
 scan_format base = part base.interlaced (do
@@ -87,28 +87,28 @@ scan_format base = part base.interlaced (do
 -- an index and, where it is 0, two numbers: frame rate and pixel aspect ratio, which aren't kept
 unfoldable pub ratio : HeaderField (Unit {0})
 ratio = part tt (do
-  preset ← number
+  preset ← header_number
   if preset == 0 then (do
-    numerator ← number
-    denominator ← number
+    numerator ← header_number
+    denominator ← header_number
     skip) else skip)
 
 unfoldable pub clean_area : HeaderField (Unit {0})
 clean_area = part tt (do
-  width ← number
-  height ← number
-  left ← number
-  top ← number
+  width ← header_number
+  height ← header_number
+  left ← header_number
+  top ← header_number
   skip)
 
 unfoldable pub excursion : HeaderField ℕ
-excursion = tested excursion_fits refusals.SignalRange number
+excursion = tested excursion_fits refusals.SignalRange header_number
 
 unfoldable pub custom_signal_range : HeaderField SignalRange
 custom_signal_range = do
-  luma_offset ← number
+  luma_offset ← header_number
   luma_excursion ← excursion
-  colour_offset ← number
+  colour_offset ← header_number
   colour_excursion ← excursion
   give (signal_range luma_offset luma_excursion colour_offset colour_excursion)
 
@@ -120,12 +120,12 @@ signal_range_of base = part (range_of base.range) (do
 -- colour primaries, colour matrix or transfer function, which aren't kept
 unfoldable pub colour_part : HeaderField (Unit {0})
 colour_part = part tt (do
-  preset ← number
+  preset ← header_number
   skip)
 
 unfoldable pub colour_specification : HeaderField (Unit {0})
 colour_specification = part tt (do
-  preset ← number
+  preset ← header_number
   if preset == 0 then (do
     primaries ← colour_part
     matrix ← colour_part
@@ -143,9 +143,9 @@ picture_coding_mode = do
 unfoldable pub sequence_header : HeaderField Sequence
 sequence_header = do
   major ← major_version
-  minor ← number
+  minor ← header_number
   high_quality ← profile
-  level ← number
+  level ← header_number
   base ← base_video_format
   size ← frame_size (format_of base)
   sampling ← colour_difference_sampling (format_of base)

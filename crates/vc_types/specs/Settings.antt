@@ -16,7 +16,8 @@ choice_fits (Fit bytes) = within 4 65535 bytes
 
 -- the padded luma of a picture has at most 8,912,896 samples
 abbrev pub luma_fits : ℕ → ℕ → Bool → ℕ → Bool
-luma_fits width height fields depth = nat_le (padded width depth * padded (picture_height fields height) depth) 8912896
+luma_fits width height fields depth =
+    nat_le (padded width depth * padded (picture_height fields height) depth) 8912896
 
 -- with field coding a frame's first picture has an even number
 abbrev pub first_picture_fits : Bool → ℕ → Bool
@@ -31,4 +32,6 @@ default_down fields height = (picture_height fields height + 7) / 8
 
 -- a generator's frames can be sent with three levels and the slices that are the default
 abbrev pub can_be_sent : ℕ → ℕ → Bool → Bool
-can_be_sent width height fields = luma_fits width height fields 3 && slices_fit (default_across width) (default_down fields height)
+can_be_sent width height fields =
+    luma_fits width height fields 3
+    && slices_fit (default_across width) (default_down fields height)

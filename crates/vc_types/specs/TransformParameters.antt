@@ -5,7 +5,7 @@ use Rattle.vc_types.specs.declared.plan.Plan.{Plan}
 use Rattle.vc_types.specs.declared.shape.Shape.{Shape}
 use Rattle.vc_types.specs.declared.refusal.ParamsRefusal.{ParamsRefusal}
 use Rattle.vc_types.specs.declared.refusal.ParamsRefusal.TheVariants as refusals
-use Rattle.vc_types.specs.Fields.{Field, ◌>>=◌, give, skip, refuse, tested, behind_flag, number as number_up_to, flag}
+use Rattle.vc_types.specs.Fields.{Field, ◌>>=◌, give, skip, refuse, tested, behind_flag, number_up_to, flag}
 use Rattle.vc_types.specs.Limits.{slices_fit, padded_luma_fits}
 use Rattle.vc_types.specs.Quantisation.{filled_matrix, default_matrix}
 use Rattle.vc_types.specs.Bits.{bits_of}

@@ -15,7 +15,14 @@ pub record BaseFormat : Type 0 where
   pub range : ℕ
 
 abbrev pub base_format : ℕ → ℕ → Sampling → Bool → Bool → ℕ → BaseFormat
-base_format width height sampling interlaced top_first range = record { width = width; height = height; sampling = sampling; interlaced = interlaced; top_first = top_first; range = range }
+base_format width height sampling interlaced top_first range = record {
+  width = width;
+  height = height;
+  sampling = sampling;
+  interlaced = interlaced;
+  top_first = top_first;
+  range = range;
+}
 
 -- 0 to 16: width, height, sampling, interlaced, top field first, signal range
 abbrev pub base_formats : List BaseFormat
@@ -43,7 +50,12 @@ unfoldable pub format_of : ℕ → BaseFormat
 format_of base = slice_index_or base_formats base (base_format 0 0 S444 false false 0)
 
 abbrev pub signal_range : ℕ → ℕ → ℕ → ℕ → SignalRange
-signal_range luma_offset luma_excursion colour_offset colour_excursion = record { luma_offset = luma_offset; luma_excursion = luma_excursion; colour_offset = colour_offset; colour_excursion = colour_excursion }
+signal_range luma_offset luma_excursion colour_offset colour_excursion = record {
+  luma_offset = luma_offset;
+  luma_excursion = luma_excursion;
+  colour_offset = colour_offset;
+  colour_excursion = colour_excursion;
+}
 
 -- 1 to 4: luma offset, luma excursion, colour offset, colour excursion
 abbrev pub signal_ranges : List SignalRange
@@ -71,10 +83,12 @@ side_fits side = nat_le 1 side && nat_le side 8192
 abbrev pub sampling_fits : ℕ → ℕ → Sampling → Bool → Bool
 sampling_fits width height S444 fields = not fields || height % 2 == 0
 sampling_fits width height S422 fields = width % 2 == 0 && (not fields || height % 2 == 0)
-sampling_fits width height S420 fields = width % 2 == 0 && height % 2 == 0 && (not fields || height % 4 == 0)
+sampling_fits width height S420 fields =
+    width % 2 == 0 && height % 2 == 0 && (not fields || height % 4 == 0)
 
 abbrev pub dimensions_fit : ℕ → ℕ → Sampling → Bool → Bool
-dimensions_fit width height sampling fields = side_fits width && side_fits height && sampling_fits width height sampling fields
+dimensions_fit width height sampling fields =
+    side_fits width && side_fits height && sampling_fits width height sampling fields
 
 -- ---- the planes of one picture
 
