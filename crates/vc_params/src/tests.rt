@@ -2,6 +2,8 @@ ghost use Rattle.std.specs.Prelude.{◌≡◌, IsTrue, false};
 ghost use Rattle.vc_types.specs.Video.{dimensions_fit};
 ghost use Rattle.vc_types.specs.declared.video.Sampling.TheVariants.{S444};
 
+mod asymmetric;
+
 use super::*;
 use std::test::Fail;
 use vc_types::{Header, Sampling, SignalRange};
@@ -135,13 +137,13 @@ fn refuses_at_the_first_fault(rt: HostRuntime) {
         (
             3,
             [0x09, 0x94, 0xC8, 0x00, 0x00, 0x00, 0x00, 0x00, 0x00, 0x00],
-            ParamsRefusal::Asymmetric,
+            ParamsRefusal::Slices,
         ),
         // A level across alone, then no slices.
         (
             3,
             [0x09, 0x4C, 0xC8, 0x00, 0x00, 0x00, 0x00, 0x00, 0x00, 0x00],
-            ParamsRefusal::Asymmetric,
+            ParamsRefusal::Slices,
         ),
         // No slices across, then a prefix of 65,536 bytes.
         (
