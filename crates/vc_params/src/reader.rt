@@ -22,7 +22,7 @@ pub fn read_params(h: &Header, bytes: &[u8]) -> Result<(Plan, usize), ParamsRefu
     ensures only { (s : ParameterSpelling) (rest : List Bool) → AreParameters (sequence_of h.now) s
         → bits_of bytes.now ≡ parameter_bits h.now.major s ++ rest
         → Answers {Y = Parameters × ℕ} (λ x. (parameters_of x.0, x.1)) result
-            (Ok (spelled_parameters (sequence_of h.now) s, bytes_for (length (parameter_bits h.now.major s)))) }
+        (Ok (spelled_parameters (sequence_of h.now) s, bytes_for (length (parameter_bits h.now.major s)))) }
     // Which plan it is, or which refusal.
     ensures exact { Answers (λ x. (parameters_of x.0, x.1)) result (coded_parameters (sequence_of h.now) bytes.now) }
 {

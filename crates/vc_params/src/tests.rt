@@ -2,12 +2,11 @@ ghost use Rattle.std.specs.Prelude.{◌≡◌, IsTrue, false};
 ghost use Rattle.vc_types.specs.Video.{dimensions_fit};
 ghost use Rattle.vc_types.specs.declared.video.Sampling.TheVariants.{S444};
 
-mod asymmetric;
-
 use super::*;
 use std::test::Fail;
 use vc_types::{Header, Sampling, SignalRange};
 
+mod asymmetric;
 mod limits;
 
 // A header of 4:4:4 frames of 8 bits.

@@ -77,7 +77,9 @@ fn write_matrix(w: &mut BitWriter, plan: &Plan) -> Result<(), NoMemory>
         return w.bit(false);
     }
     w.bit(true)?;
-    let (values, _) = plan.matrix.split_at(1 + plan.depth_ho as usize + 3 * plan.depth as usize);
+    let (values, _) = plan
+        .matrix
+        .split_at(1 + plan.depth_ho as usize + 3 * plan.depth as usize);
     write_values(w, values)
 }
 

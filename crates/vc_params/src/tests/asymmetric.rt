@@ -32,7 +32,11 @@ fn each_subband_has_a_value(rt: HostRuntime) -> Result<(), Fail> {
             transform
         );
         for place in 0..16 {
-            let value = if place < count { first as usize + place } else { 0 };
+            let value = if place < count {
+                first as usize + place
+            } else {
+                0
+            };
             assert_eq!(rt; usize::from(plan.matrix[place]), value);
         }
         assert_eq!(rt; write_params(rt.alloc(), 3, &plan)?.as_slice(), bytes);
@@ -81,5 +85,8 @@ fn columns_are_padded_for_all_levels(rt: HostRuntime) {
     assert!(rt; read_params(&at_most, &four).is_ok());
     let above = header(3, 4066, 2178);
     assert!(rt; read_params(&above, &none).is_ok());
-    assert_eq!(rt; read_params(&above, &four).err(), Some(ParamsRefusal::TooLarge));
+    assert_eq!(rt;
+        read_params(&above, &four).err(),
+        Some(ParamsRefusal::TooLarge)
+    );
 }
