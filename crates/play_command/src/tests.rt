@@ -1,3 +1,4 @@
+mod asymmetric;
 mod coding;
 mod edges;
 mod faults;

@@ -78,6 +78,31 @@ fn one_sample() -> Plan
     }
 }
 
+// 5 by 3 luma and one sample of each colour, two levels across alone and one both ways, two slices side by side.
+fn levels_across() -> Plan
+    ensures { (result.depth ≡ 1) × (result.depth_ho ≡ 2) × (result.slices_x ≡ 2) × (result.slices_y ≡ 1) }
+{
+    Plan {
+        shape: Shape {
+            luma_width: 5,
+            luma_height: 3,
+            colour_width: 1,
+            colour_height: 1,
+            luma_depth: 8,
+            colour_depth: 8,
+        },
+        wavelet: 1,
+        wavelet_ho: 4,
+        depth: 1,
+        depth_ho: 2,
+        slices_x: 2,
+        slices_y: 1,
+        prefix: 0,
+        scaler: 1,
+        matrix: [0; 16],
+    }
+}
+
 fn rect(x: u32, y: u32, width: u32, height: u32) -> Rect {
     Rect {
         x,
@@ -107,6 +132,32 @@ fn pads_and_nests_subbands(rt: HostRuntime) {
     }
     assert_eq!(rt; band(&one_sample(), Component::Y, 0), rect(0, 0, 1, 1));
     assert_eq!(rt; band(&one_sample(), Component::Y, 15), rect(16, 16, 16, 16));
+}
+
+// `bench/reference bands` gives these rectangles.
+#[test]
+fn nests_levels_across(rt: HostRuntime) {
+    let plan = levels_across();
+    assert_eq!(rt; padded(&plan, Component::Y), (8, 4));
+    assert_eq!(rt; padded(&plan, Component::C1), (8, 2));
+    assert_eq!(rt; bands(&plan), 6);
+    for (b, want) in [
+        (0, rect(0, 0, 1, 2)),
+        (1, rect(1, 0, 1, 2)),
+        (2, rect(2, 0, 2, 2)),
+        (3, rect(4, 0, 4, 2)),
+        (4, rect(0, 2, 4, 2)),
+        (5, rect(4, 2, 4, 2)),
+    ] {
+        assert!(rt; b < bands(&plan));
+        assert_eq!(rt; band(&plan, Component::Y, b), want, "subband {b}");
+    }
+    // One column among two slices goes to the second.
+    assert_eq!(rt; slice_len(&plan, Component::Y, 0), 14);
+    assert_eq!(rt; slice_len(&plan, Component::Y, 1), 18);
+    for (i, want) in [(0, (2, 0)), (1, (2, 1)), (2, (4, 0)), (6, (0, 2)), (13, (5, 3))] {
+        assert_eq!(rt; luma_place(&plan, 0, i), Some(want), "coefficient {i}");
+    }
 }
 
 // By the standard's divisions: two columns among three slices go to the second and the third, four as 1, 1 and 2.

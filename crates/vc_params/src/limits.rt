@@ -1,4 +1,4 @@
-ghost use Rattle.std.specs.Prelude.{◌≡◌, ◌≤◌, IsTrue};
+ghost use Rattle.std.specs.Prelude.{◌≡◌, ◌+◌, ◌≤◌, IsTrue};
 ghost use Rattle.vc_types.specs.Limits.{padded_luma_fits, shape_fits};
 ghost use Rattle.vc_types.specs.SequenceHeader.{sequence_of, picture_shape};
 
@@ -14,12 +14,13 @@ pub fn picture_shape(h: &Header) -> Shape
     h.shape()
 }
 
-/// Whether the luma of a picture, padded for the depth, has few enough samples.
-pub fn padded_luma_fits(shape: &Shape, depth: u8) -> bool
+/// Whether the luma of a picture, padded for so many levels across alone and both ways, has few enough samples.
+pub fn padded_luma_fits(shape: &Shape, depth_ho: u8, depth: u8) -> bool
     requires width { shape.now.luma_width ≤ 8192 }
     requires height { shape.now.luma_height ≤ 8192 }
-    requires few_levels { depth ≤ 5 }
-    ensures { result ≡ padded_luma_fits shape.now 0 depth }
+    requires few_levels { depth + depth_ho ≤ 5 }
+    ensures { result ≡ padded_luma_fits shape.now depth_ho depth }
 {
-    padded(shape.luma_width, depth) * padded(shape.luma_height, depth) <= 8912896
+    let width = padded(shape.luma_width, depth + depth_ho);
+    width * padded(shape.luma_height, depth) <= 8912896
 }

@@ -19,7 +19,10 @@ pub fn read_params(h: &Header, bytes: &[u8]) -> Result<(Plan, usize), ParamsRefu
     // What is read is spelled so.
     ensures found { IfOk result (λ x. BeginsWithParameters (sequence_of h.now) bytes.now (parameters_of x.0) x.1) }
     // What is spelled so is read, whatever follows.
-    ensures only { (s : ParameterSpelling) (rest : List Bool) → AreParameters (sequence_of h.now) s → bits_of bytes.now ≡ parameter_bits h.now.major s ++ rest → Answers {Y = Parameters × ℕ} (λ x. (parameters_of x.0, x.1)) result (Ok (spelled_parameters (sequence_of h.now) s, bytes_for (length (parameter_bits h.now.major s)))) }
+    ensures only { (s : ParameterSpelling) (rest : List Bool) → AreParameters (sequence_of h.now) s
+        → bits_of bytes.now ≡ parameter_bits h.now.major s ++ rest
+        → Answers {Y = Parameters × ℕ} (λ x. (parameters_of x.0, x.1)) result
+        (Ok (spelled_parameters (sequence_of h.now) s, bytes_for (length (parameter_bits h.now.major s)))) }
     // Which plan it is, or which refusal.
     ensures exact { Answers (λ x. (parameters_of x.0, x.1)) result (coded_parameters (sequence_of h.now) bytes.now) }
 {
@@ -42,15 +45,12 @@ fn parameters(h: &Header, r: &mut BitReader) -> Result<Plan, ParamsRefusal>
     let wavelet = wavelet_index(r)?;
     let depth = wavelet_depth(r)?;
     let (wavelet_ho, depth_ho) = extended_parameters(h.major, wavelet, depth, r)?;
-    if wavelet_ho != wavelet || depth_ho != 0 {
-        return Err(ParamsRefusal::Asymmetric);
-    }
     let (slices_x, slices_y) = slice_counts(r)?;
     let prefix = prefix_bytes(r)?;
     let scaler = size_scaler(r)?;
-    let matrix = quantisation_matrix(wavelet, depth, r)?;
+    let matrix = quantisation_matrix(wavelet, depth, (wavelet_ho, depth_ho), r)?;
     let shape = picture_shape(h);
-    if !padded_luma_fits(&shape, depth) {
+    if !padded_luma_fits(&shape, depth_ho, depth) {
         return Err(ParamsRefusal::TooLarge);
     }
     Ok(Plan {

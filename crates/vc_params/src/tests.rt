@@ -6,6 +6,7 @@ use super::*;
 use std::test::Fail;
 use vc_types::{Header, Sampling, SignalRange};
 
+mod asymmetric;
 mod limits;
 
 // A header of 4:4:4 frames of 8 bits.
@@ -137,13 +138,13 @@ fn refuses_at_the_first_fault(rt: HostRuntime) {
         (
             3,
             [0x09, 0x94, 0xC8, 0x00, 0x00, 0x00, 0x00, 0x00, 0x00, 0x00],
-            ParamsRefusal::Asymmetric,
+            ParamsRefusal::Slices,
         ),
         // A level across alone, then no slices.
         (
             3,
             [0x09, 0x4C, 0xC8, 0x00, 0x00, 0x00, 0x00, 0x00, 0x00, 0x00],
-            ParamsRefusal::Asymmetric,
+            ParamsRefusal::Slices,
         ),
         // No slices across, then a prefix of 65,536 bytes.
         (

@@ -15,6 +15,7 @@ use std::test::Fail;
 use vc_geometry::slice_len;
 use vc_types::{Component, Plan, Shape};
 
+mod asymmetric;
 mod worked;
 
 // 8 by 4, two slices side by side.

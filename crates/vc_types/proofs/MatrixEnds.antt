@@ -6,6 +6,7 @@ use Rattle.std.proofs.lemmas.Bool.{and_parts, eqb-true}
 use Rattle.std.proofs.lemmas.List.{take-append-drop, drop-replicate, length-take, length-take-le, length-drop, drop-drop}
 use Rattle.std.proofs.Math.Seq.{drop-append-add}
 use Rattle.vc_types.specs.Quantisation.{filled_matrix, used_entries, default_matrix, default_rows}
+use Rattle.vc_types.specs.TransformParameters.{same_across, default_of}
 use Rattle.vc_types.proofs.Matrices.{filled-front}
 
 abbrev zeros : List ℕ → Bool
@@ -42,9 +43,9 @@ filled-ends depth matrix few len ends =
     sym (filled-front (take n matrix) (omega arith)) ∙ ap (λ (k : ℕ). take n matrix ++ drop k (replicate 16 0)) used ∙ ap (λ (l : List ℕ). take n matrix ++ l) (sym rest) ∙ take-append-drop n matrix
 
 -- A default matrix is what its used entries fill.
-pub default_filled : (wavelet depth : ℕ) (matrix : List ℕ) → depth ≤ 5 → default_matrix wavelet depth ≡ Some matrix → filled_matrix (used_entries 0 depth matrix) ≡ matrix
+symmetric_filled : (wavelet depth : ℕ) (matrix : List ℕ) → depth ≤ 5 → default_matrix wavelet depth ≡ Some matrix → filled_matrix (used_entries 0 depth matrix) ≡ matrix
 unfolding default_matrix
-default_filled wavelet depth matrix few h = chosen (eqb depth 5) h
+symmetric_filled wavelet depth matrix few h = chosen (eqb depth 5) h
   where
     row : List ℕ
     row = take (1 + 3 * depth) (slice_index_or (default_rows depth) wavelet [])
@@ -61,3 +62,12 @@ default_filled wavelet depth matrix few h = chosen (eqb depth 5) h
     chosen : (b : Bool) → cond b None (Some (filled_matrix row)) ≡ Some matrix → filled_matrix (used_entries 0 depth matrix) ≡ matrix
     chosen true e = absurd cc
     chosen false e = subst (λ (m : List ℕ). filled_matrix (used_entries 0 depth m) ≡ m) (some_is (filled_matrix row) matrix e) (filled-ends depth (filled_matrix row) few long ends)
+
+pub default_filled : (wavelet depth : ℕ) (across : ℕ × ℕ) (matrix : List ℕ) → depth ≤ 5 → default_of wavelet depth across ≡ Some matrix → filled_matrix (used_entries across.1 depth matrix) ≡ matrix
+default_filled wavelet depth across matrix few h = chosen (same_across wavelet across) refl h
+  where
+    chosen : (b : Bool) → same_across wavelet across ≡ b → cond b (default_matrix wavelet depth) None ≡ Some matrix → filled_matrix (used_entries across.1 depth matrix) ≡ matrix
+    chosen true same e =
+        let none = eqb-true across.1 0 (and_parts (eqb across.0 wavelet) (eqb across.1 0) same).1 in
+        ap (λ (n : ℕ). filled_matrix (used_entries n depth matrix)) none ∙ symmetric_filled wavelet depth matrix few e
+    chosen false other e = absurd cc

@@ -2,11 +2,11 @@
 use Rattle.std.proofs.Common.{ℕ, zero, suc, ◌+◌, ◌-◌, ◌*◌, ◌^◌, Bool, true, false, List, [], ◌∷◌, Option, Some, None}
 use Rattle.std.specs.Prelude.{if◌then◌else◌, nat_le, ◌==◌, ◌&&◌}
 use Rattle.vc_types.specs.declared.refusal.ParamsRefusal.TheVariants as refusals
-use Rattle.vc_types.specs.Fields.{give, skip, refuse, tested, flag, behind_flag}
+use Rattle.vc_types.specs.Fields.{give, refuse, tested, flag, behind_flag}
 use Rattle.vc_types.specs.Limits.{slices_fit, padded_luma_fits}
-use Rattle.vc_types.specs.Quantisation.{filled_matrix, default_matrix}
+use Rattle.vc_types.specs.Quantisation.{filled_matrix, subband_count}
 use Rattle.vc_types.specs.SequenceHeader.{Sequence, picture_shape}
-use Rattle.vc_types.specs.TransformParameters.{ParamsField, number, wavelet_index, wavelet_depth, extended_parameters, slice_counts, prefix_bytes, size_scaler, matrix_value, matrix_values, matrix_by_default, quantisation_matrix, transform_parameters}
+use Rattle.vc_types.specs.TransformParameters.{ParamsField, number, wavelet_index, wavelet_depth, extended_parameters, slice_counts, prefix_bytes, size_scaler, matrix_value, matrix_values, matrix_by_default, default_of, quantisation_matrix, transform_parameters}
 use Rattle.vc_types.proofs.OwnBits.{ReadsOwn, give_own, refuse_own, then_own, tested_own, next_own, number_own, behind_flag_own}
 
 one_number : ReadsOwn number
@@ -58,10 +58,13 @@ default_own : (matrix : Option (List ℕ)) → ReadsOwn (matrix_by_default matri
 default_own None = refuse_own refusals.NoDefault
 default_own (Some matrix) = give_own matrix
 
-matrix_own : (wavelet depth : ℕ) → ReadsOwn (quantisation_matrix wavelet depth)
+matrix_own : (wavelet depth : ℕ) (across : ℕ × ℕ) → ReadsOwn (quantisation_matrix wavelet depth across)
 unfolding quantisation_matrix
-matrix_own wavelet depth = then_own (flag refusals.Short) _ (next_own refusals.Short)
-    (λ custom. choice_own custom _ (matrix_by_default (default_matrix wavelet depth)) (then_own (matrix_values (1 + 3 * depth)) (λ values. give (filled_matrix values)) (values_own (1 + 3 * depth)) (λ values. give_own (filled_matrix values))) (default_own (default_matrix wavelet depth)))
+matrix_own wavelet depth across =
+    let count = subband_count across.1 depth in
+    let default = default_of wavelet depth across in
+    then_own (flag refusals.Short) _ (next_own refusals.Short)
+    (λ custom. choice_own custom _ (matrix_by_default default) (then_own (matrix_values count) (λ values. give (filled_matrix values)) (values_own count) (λ values. give_own (filled_matrix values))) (default_own default))
 
 pub parameters_own : (sequence : Sequence) → ReadsOwn (transform_parameters sequence)
 unfolding transform_parameters
@@ -69,9 +72,8 @@ parameters_own sequence =
     then_own wavelet_index _ wavelet_own (λ wavelet.
     then_own wavelet_depth _ depth_own (λ depth.
     then_own (extended_parameters sequence.major wavelet depth) _ (extended_own sequence.major wavelet depth) (λ across.
-    then_own (if across.0 == wavelet && across.1 == 0 then skip else refuse refusals.Asymmetric) _ (choice_own (across.0 == wavelet && across.1 == 0) skip (refuse refusals.Asymmetric) (give_own tt) (refuse_own refusals.Asymmetric)) (λ symmetric.
     then_own slice_counts _ counts_own (λ slices.
     then_own prefix_bytes _ prefix_own (λ prefix.
     then_own size_scaler _ scaler_own (λ scaler.
-    then_own (quantisation_matrix wavelet depth) _ (matrix_own wavelet depth) (λ matrix.
-    choice_own (padded_luma_fits (picture_shape sequence) 0 depth) _ (refuse refusals.TooLarge) (give_own _) (refuse_own refusals.TooLarge)))))))))
+    then_own (quantisation_matrix wavelet depth across) _ (matrix_own wavelet depth across) (λ matrix.
+    choice_own (padded_luma_fits (picture_shape sequence) across.1 depth) _ (refuse refusals.TooLarge) (give_own _) (refuse_own refusals.TooLarge))))))))

@@ -5,10 +5,10 @@ use Rattle.std.proofs.lemmas.Bool.{leb-true, le-leb, eqb-true, eq-eqb, and_parts
 use Rattle.vc_types.specs.Codes.{uint_bits}
 use Rattle.vc_types.specs.Fields.{◌>>=◌, give, tested, behind_flag, flagged_bits, flagged_value, joined, pair_bits, IsCodec}
 use Rattle.vc_types.specs.Limits.{slices_fit, slice_bytes_fit, padded_luma_fits, matrix_fits}
-use Rattle.vc_types.specs.ParameterSpelling.{ParameterSpelling, extension_bits, numbers_bits, parameter_bits, chosen_matrix, spelled_parameters, IsExtension, IsMatrix, AreParameters}
-use Rattle.vc_types.specs.Quantisation.{filled_matrix, default_matrix}
+use Rattle.vc_types.specs.ParameterSpelling.{ParameterSpelling, extension_bits, numbers_bits, parameter_bits, across_of, spelled_parameters, MayCode, IsMatrix, AreParameters}
+use Rattle.vc_types.specs.Quantisation.{filled_matrix, subband_count}
 use Rattle.vc_types.specs.SequenceHeader.{Sequence, picture_shape}
-use Rattle.vc_types.specs.TransformParameters.{Parameters, ParamsField, number, wavelet_index, wavelet_depth, extended_parameters, slice_counts, prefix_bytes, size_scaler, matrix_value, matrix_values, matrix_by_default, quantisation_matrix, transform_parameters}
+use Rattle.vc_types.specs.TransformParameters.{Parameters, ParamsField, number, wavelet_index, wavelet_depth, extended_parameters, slice_counts, prefix_bytes, size_scaler, matrix_value, matrix_values, matrix_by_default, default_of, quantisation_matrix, transform_parameters}
 use Rattle.vc_types.specs.declared.refusal.ParamsRefusal.{ParamsRefusal}
 use Rattle.vc_types.specs.declared.refusal.ParamsRefusal.TheVariants as refusals
 use Rattle.vc_types.proofs.FieldCodecs.{give_codec, give_if_codec, then_codec, mapped_codec, retold, number_codec, tested_codec, plain_flag_codec, flag_choice_codec}
@@ -143,14 +143,14 @@ default_is (Some m) = retold (λ (a : Unit {0}). []) (λ a. m) (λ a. IsSome (So
     (λ a ok. (tt, refl, refl))
     (give_codec m)
 
-matrix_is : (wavelet depth : ℕ) → IsCodec (quantisation_matrix wavelet depth) (flagged_bits numbers_bits) (flagged_value (unwrap_or (default_matrix wavelet depth) []) filled_matrix) (λ m. MatchOption m (IsSome (default_matrix wavelet depth)) (AreValues (1 + 3 * depth)))
+matrix_is : (wavelet depth : ℕ) (across : ℕ × ℕ) → IsCodec (quantisation_matrix wavelet depth across) (flagged_bits numbers_bits) (flagged_value (unwrap_or (default_of wavelet depth across) []) filled_matrix) (λ m. MatchOption m (IsSome (default_of wavelet depth across)) (AreValues (subband_count across.1 depth)))
 unfolding quantisation_matrix
-matrix_is wavelet depth = flag_choice_codec refusals.Short (mapped_codec filled_matrix (values_are (1 + 3 * depth))) (default_is (default_matrix wavelet depth))
+matrix_is wavelet depth across = flag_choice_codec refusals.Short (mapped_codec filled_matrix (values_are (subband_count across.1 depth))) (default_is (default_of wavelet depth across))
 
 -- ---- the whole parameters
 
 abbrev Parts : Type 0
-Parts = ℕ × (ℕ × ((Option ℕ × Option ℕ) × (Unit {0} × ((ℕ × ℕ) × (ℕ × (ℕ × (Option (List ℕ) × Unit {0})))))))
+Parts = ℕ × (ℕ × ((Option ℕ × Option ℕ) × ((ℕ × ℕ) × (ℕ × (ℕ × (Option (List ℕ) × Unit {0}))))))
 
 abbrev parts_told : Parts → ParameterSpelling
 parts_told a = record {
@@ -158,50 +158,53 @@ parts_told a = record {
   depth = a.1.0;
   wavelet_ho = a.1.1.0.0;
   depth_ho = a.1.1.0.1;
-  slices_x = a.1.1.1.1.0.0;
-  slices_y = a.1.1.1.1.0.1;
-  prefix = a.1.1.1.1.1.0;
-  scaler = a.1.1.1.1.1.1.0;
-  matrix = a.1.1.1.1.1.1.1.0;
+  slices_x = a.1.1.1.0.0;
+  slices_y = a.1.1.1.0.1;
+  prefix = a.1.1.1.1.0;
+  scaler = a.1.1.1.1.1.0;
+  matrix = a.1.1.1.1.1.1.0;
 }
 
 abbrev parts_of : ParameterSpelling → Parts
-parts_of s = (s.wavelet, (s.depth, ((s.wavelet_ho, s.depth_ho), (tt, ((s.slices_x, s.slices_y), (s.prefix, (s.scaler, (s.matrix, tt))))))))
+parts_of s = (s.wavelet, (s.depth, ((s.wavelet_ho, s.depth_ho), ((s.slices_x, s.slices_y), (s.prefix, (s.scaler, (s.matrix, tt)))))))
 
-matrix_told : (depth : ℕ) (d : Type 0) (m : Option (List ℕ)) → MatchOption m d (AreValues (1 + 3 * depth)) → MatchOption m d (IsMatrix depth)
-matrix_told depth d None ok = ok
-matrix_told depth d (Some m) ok = record { many = ok.0; small = ok.1 }
+matrix_told : (count : ℕ) (d : Type 0) (m : Option (List ℕ)) → MatchOption m d (AreValues count) → MatchOption m d (IsMatrix count)
+matrix_told count d None ok = ok
+matrix_told count d (Some m) ok = record { many = ok.0; small = ok.1 }
 
-matrix_of : (depth : ℕ) (d : Type 0) (m : Option (List ℕ)) → MatchOption m d (IsMatrix depth) → MatchOption m d (AreValues (1 + 3 * depth))
-matrix_of depth d None ok = ok
-matrix_of depth d (Some m) ok = (ok.many, ok.small)
+matrix_of : (count : ℕ) (d : Type 0) (m : Option (List ℕ)) → MatchOption m d (IsMatrix count) → MatchOption m d (AreValues count)
+matrix_of count d None ok = ok
+matrix_of count d (Some m) ok = (ok.many, ok.small)
 
--- the parts across are those of a symmetric transform
-symmetric_told : (extended : Bool) (wavelet depth : ℕ) (e : Option ℕ × Option ℕ) → ArePartsAcross extended depth e → unwrap_or e.0 wavelet ≡ wavelet → unwrap_or e.1 0 ≡ 0 → IsExtension extended wavelet e.0 × IsExtension extended 0 e.1
-symmetric_told true wavelet depth (o, p) ok same none = (part wavelet o same, part 0 p none)
+-- the wavelet and the levels across are known
+abbrev AreKnown : ℕ → ℕ × ℕ → Type 0
+AreKnown depth across = (across.0 ≤ 6) × (depth + across.1 ≤ 5)
+
+across_told : (extended : Bool) (wavelet depth : ℕ) (o p : Option ℕ) → wavelet ≤ 6 → depth ≤ 5 → ArePartsAcross extended depth (o, p) → MayCode extended (o, p) × AreKnown depth (across_value wavelet (o, p))
+across_told true wavelet depth o p w d ok = (tt, (known o ok.0, few p ok.1))
   where
-    part : (n : ℕ) (o : Option ℕ) → unwrap_or o n ≡ n → IfSome o (λ m. m ≡ n)
-    part n None h = tt
-    part n (Some m) h = h
-symmetric_told false wavelet depth e ok same none = ok
+    known : (o : Option ℕ) → IfSome o (λ n. n ≤ 6) → unwrap_or o wavelet ≤ 6
+    known None h = w
+    known (Some n) h = h
 
-across_of : (extended : Bool) (wavelet depth : ℕ) (o p : Option ℕ) → wavelet ≤ 6 → depth ≤ 5 → IsExtension extended wavelet o → IsExtension extended 0 p → ArePartsAcross extended depth (o, p)
-across_of true wavelet depth o p w d a b = (known o a, few p b)
+    few : (p : Option ℕ) → IfSome p (λ n. (n ≤ 2 ^ 32 - 1) × IsTrue (leb (depth + n) 5)) → depth + unwrap_or p 0 ≤ 5
+    few None h = omega arith
+    few (Some n) h = leb-true (depth + n) 5 h.1
+across_told false wavelet depth None None w d ok = (ok, (w, omega arith))
+across_told false wavelet depth (Some n) p w d ok = let some = ok.0 in absurd cc
+across_told false wavelet depth None (Some n) w d ok = let some = ok.1 in absurd cc
+
+across_from : (extended : Bool) (wavelet depth : ℕ) (o p : Option ℕ) → MayCode extended (o, p) → AreKnown depth (across_value wavelet (o, p)) → ArePartsAcross extended depth (o, p)
+across_from true wavelet depth o p may ok = (known o ok.0, few p ok.1)
   where
-    known : (o : Option ℕ) → IfSome o (λ n. n ≡ wavelet) → IfSome o (λ n. n ≤ 6)
+    known : (o : Option ℕ) → unwrap_or o wavelet ≤ 6 → IfSome o (λ n. n ≤ 6)
     known None h = tt
-    known (Some n) h = omega (arith, h)
+    known (Some n) h = h
 
-    few : (p : Option ℕ) → IfSome p (λ n. n ≡ 0) → IfSome p (λ n. (n ≤ 2 ^ 32 - 1) × IsTrue (leb (depth + n) 5))
+    few : (p : Option ℕ) → depth + unwrap_or p 0 ≤ 5 → IfSome p (λ n. (n ≤ 2 ^ 32 - 1) × IsTrue (leb (depth + n) 5))
     few None h = tt
-    few (Some n) h = (omega (arith, h), le-leb (depth + n) 5 (omega (arith, h)))
-across_of false wavelet depth o p w d a b = (a, b)
-
-part_value : (extended : Bool) (n : ℕ) (o : Option ℕ) → IsExtension extended n o → unwrap_or o n ≡ n
-part_value true n None h = refl
-part_value true n (Some m) h = h
-part_value false n None h = refl
-part_value false n (Some m) h = absurd cc
+    few (Some n) h = (omega (arith, h), le-leb (depth + n) 5 h)
+across_from false wavelet depth o p may ok = may
 
 abbrev with_across : Sequence → ℕ → ℕ × ℕ → ℕ → ℕ × ℕ → ℕ → ℕ → List ℕ → Parameters
 with_across sequence wavelet across depth slices prefix scaler matrix = record {
@@ -222,40 +225,34 @@ pub parameters_are : (sequence : Sequence) → IsCodec (transform_parameters seq
 unfolding transform_parameters
 parameters_are sequence = retold (parameter_bits sequence.major) (spelled_parameters sequence) (AreParameters sequence) parts_told parts_of
     (λ a ok.
-    let same = and_parts (eqb (across_value a.0 a.1.1.0).0 a.0) (eqb (across_value a.0 a.1.1.0).1 0) ok.1.1.1.0 in
-    let wavelet-is : unwrap_or a.1.1.0.0 a.0 ≡ a.0 = eqb-true (unwrap_or a.1.1.0.0 a.0) a.0 same.0 in
-    let depth-is : unwrap_or a.1.1.0.1 0 ≡ 0 = eqb-true (unwrap_or a.1.1.0.1 0) 0 same.1 in
-    let extension = symmetric_told (eqb sequence.major 3) a.0 a.1.0 a.1.1.0 ok.1.1.0 wavelet-is depth-is in
-    let matrix : List ℕ = chosen_matrix (parts_told a) in (
+    let across : ℕ × ℕ = across_value a.0 a.1.1.0 in
+    let known = across_told (eqb sequence.major 3) a.0 a.1.0 a.1.1.0.0 a.1.1.0.1 ok.0 ok.1.0.1 ok.1.1.0 in (
       record {
         wavelet = ok.0;
+        wavelet_ho = known.1.0;
         some_levels = ok.1.0.0;
-        few_levels = ok.1.0.1;
-        wavelet_ho = extension.0;
-        depth_ho = extension.1;
-        slices = ok.1.1.1.1.0;
-        slice_bytes = slice_bytes_is a.1.1.1.1.1.0 a.1.1.1.1.1.1.0 ok.1.1.1.1.1.0 ok.1.1.1.1.1.1.0.0 ok.1.1.1.1.1.1.0.1;
-        matrix = matrix_told a.1.0 (IsSome (default_matrix a.0 a.1.0)) a.1.1.1.1.1.1.1.0 ok.1.1.1.1.1.1.1.0;
-        padded_luma = ok.1.1.1.1.1.1.1.1;
+        few_levels = known.1.1;
+        extension = known.0;
+        slices = ok.1.1.1.0;
+        slice_bytes = slice_bytes_is a.1.1.1.1.0 a.1.1.1.1.1.0 ok.1.1.1.1.0 ok.1.1.1.1.1.0.0 ok.1.1.1.1.1.0.1;
+        matrix = matrix_told (subband_count across.1 a.1.0) (IsSome (default_of a.0 a.1.0 across)) a.1.1.1.1.1.1.0 ok.1.1.1.1.1.1.0;
+        padded_luma = ok.1.1.1.1.1.1.1;
       },
-      sym (ap (λ (n : ℕ). with_across sequence a.0 (n, unwrap_or a.1.1.0.1 0) a.1.0 a.1.1.1.1.0 a.1.1.1.1.1.0 a.1.1.1.1.1.1.0 matrix) wavelet-is ∙ ap (λ (n : ℕ). with_across sequence a.0 (a.0, n) a.1.0 a.1.1.1.1.0 a.1.1.1.1.1.0 a.1.1.1.1.1.1.0 matrix) depth-is),
+      refl,
       refl,
     ))
     (λ s ok.
-    let wavelet-is : unwrap_or s.wavelet_ho s.wavelet ≡ s.wavelet = part_value (eqb sequence.major 3) s.wavelet s.wavelet_ho ok.wavelet_ho in
-    let depth-is : unwrap_or s.depth_ho 0 ≡ 0 = part_value (eqb sequence.major 3) 0 s.depth_ho ok.depth_ho in
-    let bytes = slice_bytes_are s.prefix s.scaler ok.slice_bytes in
-    let matrix : List ℕ = chosen_matrix s in (
-      (ok.wavelet, ((ok.some_levels, ok.few_levels), (across_of (eqb sequence.major 3) s.wavelet s.depth s.wavelet_ho s.depth_ho ok.wavelet ok.few_levels ok.wavelet_ho ok.depth_ho, (and_from (eqb (unwrap_or s.wavelet_ho s.wavelet) s.wavelet) (eqb (unwrap_or s.depth_ho 0) 0) (eq-eqb (unwrap_or s.wavelet_ho s.wavelet) s.wavelet wavelet-is) (eq-eqb (unwrap_or s.depth_ho 0) 0 depth-is), (ok.slices, (bytes.0, (bytes.1, (matrix_of s.depth (IsSome (default_matrix s.wavelet s.depth)) s.matrix ok.matrix, ok.padded_luma)))))))),
-      ap (λ (n : ℕ). with_across sequence s.wavelet (n, unwrap_or s.depth_ho 0) s.depth (s.slices_x, s.slices_y) s.prefix s.scaler matrix) wavelet-is ∙ ap (λ (n : ℕ). with_across sequence s.wavelet (s.wavelet, n) s.depth (s.slices_x, s.slices_y) s.prefix s.scaler matrix) depth-is,
+    let few = ok.few_levels in
+    let bytes = slice_bytes_are s.prefix s.scaler ok.slice_bytes in (
+      (ok.wavelet, ((ok.some_levels, omega (arith, few)), (across_from (eqb sequence.major 3) s.wavelet s.depth s.wavelet_ho s.depth_ho ok.extension (ok.wavelet_ho, few), (ok.slices, (bytes.0, (bytes.1, (matrix_of (subband_count (across_of s).1 s.depth) (IsSome (default_of s.wavelet s.depth (across_of s))) s.matrix ok.matrix, ok.padded_luma))))))),
+      refl,
       refl,
     ))
     (then_codec wavelet_is (λ (wavelet : ℕ).
     then_codec depth_is (λ (depth : ℕ).
     then_codec (extended_is sequence.major wavelet depth) (λ (across : ℕ × ℕ).
-    then_codec (give_if_codec (eqb across.0 wavelet && eqb across.1 0) tt refusals.Asymmetric) (λ (symmetric : Unit {0}).
     then_codec slices_are (λ (slices : ℕ × ℕ).
     then_codec prefix_is (λ (prefix : ℕ).
     then_codec scaler_is (λ (scaler : ℕ).
-    then_codec (matrix_is wavelet depth) (λ (matrix : List ℕ).
-    give_if_codec (padded_luma_fits (picture_shape sequence) 0 depth) (with_across sequence wavelet across depth slices prefix scaler matrix) refusals.TooLarge)))))))))
+    then_codec (matrix_is wavelet depth across) (λ (matrix : List ℕ).
+    give_if_codec (padded_luma_fits (picture_shape sequence) across.1 depth) (with_across sequence wavelet across depth slices prefix scaler matrix) refusals.TooLarge))))))))

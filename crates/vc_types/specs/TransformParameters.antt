@@ -1,13 +1,12 @@
--- Transform parameters (ST 2042-1, transform parameters): the fields in order, and the first refusal. The transform is
--- the same across as down.
+-- Transform parameters (ST 2042-1, transform parameters): the fields in order, and the first refusal.
 use Rattle.std.specs.Prelude.{ℕ, zero, suc, ◌+◌, ◌-◌, ◌*◌, ◌^◌, Bool, ◌&&◌, List, [], ◌∷◌, Option, Some, None, Result, nat_le, ◌==◌, if◌then◌else◌}
 use Rattle.vc_types.specs.declared.plan.Plan.{Plan}
 use Rattle.vc_types.specs.declared.shape.Shape.{Shape}
 use Rattle.vc_types.specs.declared.refusal.ParamsRefusal.{ParamsRefusal}
 use Rattle.vc_types.specs.declared.refusal.ParamsRefusal.TheVariants as refusals
-use Rattle.vc_types.specs.Fields.{Field, ◌>>=◌, give, skip, refuse, tested, behind_flag, number_up_to, flag}
+use Rattle.vc_types.specs.Fields.{Field, ◌>>=◌, give, refuse, tested, behind_flag, number_up_to, flag}
 use Rattle.vc_types.specs.Limits.{slices_fit, padded_luma_fits}
-use Rattle.vc_types.specs.Quantisation.{filled_matrix, default_matrix}
+use Rattle.vc_types.specs.Quantisation.{filled_matrix, subband_count, default_matrix}
 use Rattle.vc_types.specs.Bits.{bits_of}
 use Rattle.vc_types.specs.SequenceHeader.{Sequence, picture_shape, with_bytes_used}
 
@@ -99,11 +98,16 @@ abbrev pub matrix_by_default : Option (List ℕ) → ParamsField (List ℕ)
 matrix_by_default None = refuse refusals.NoDefault
 matrix_by_default (Some matrix) = give matrix
 
--- LL, then HL, LH and HH of each level upwards, where the flag is 1
-unfoldable pub quantisation_matrix : ℕ → ℕ → ParamsField (List ℕ)
-quantisation_matrix wavelet depth = do
+-- the default matrix; a transform that isn't the same across as down has none
+abbrev pub default_of : ℕ → ℕ → ℕ × ℕ → Option (List ℕ)
+default_of wavelet depth across = if same_across wavelet across then default_matrix wavelet depth else None
+
+-- a value for each subband in order, where the flag is 1
+unfoldable pub quantisation_matrix : ℕ → ℕ → ℕ × ℕ → ParamsField (List ℕ)
+quantisation_matrix wavelet depth across = do
   custom ← flag refusals.Short
-  if custom then custom_matrix (1 + 3 * depth) else matrix_by_default (default_matrix wavelet depth)
+  if custom then custom_matrix (subband_count across.1 depth)
+      else matrix_by_default (default_of wavelet depth across)
 
 -- ---- the whole parameters, of a picture of this sequence
 
@@ -112,12 +116,11 @@ transform_parameters sequence = do
   wavelet ← wavelet_index
   depth ← wavelet_depth
   across ← extended_parameters sequence.major wavelet depth
-  symmetric ← if same_across wavelet across then skip else refuse refusals.Asymmetric
   slices ← slice_counts
   prefix ← prefix_bytes
   scaler ← size_scaler
-  matrix ← quantisation_matrix wavelet depth
-  if padded_luma_fits (picture_shape sequence) 0 depth then give (record {
+  matrix ← quantisation_matrix wavelet depth across
+  if padded_luma_fits (picture_shape sequence) across.1 depth then give (record {
     shape = picture_shape sequence;
     wavelet = wavelet;
     wavelet_ho = across.0;

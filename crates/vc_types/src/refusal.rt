@@ -34,11 +34,12 @@ pub enum ParamsRefusal {
     SliceBytes,
     /// A value of the custom quantisation matrix is above 127.
     Matrix,
-    /// The default quantisation matrix is asked for at a depth that has none.
+    /// The default quantisation matrix is asked for, at a depth that has none or of an asymmetric transform.
     NoDefault,
     /// A number is above 4,294,967,295, or the padded luma has too many samples.
     TooLarge,
-    /// The transform isn't the same across as down.
+    /// The transform isn't the same across as down: refused in low-delay pictures alone, never by the parameters of
+    /// high-quality ones.
     Asymmetric,
 }
 

@@ -1,7 +1,7 @@
-use Rattle.std.proofs.Common.{◌≡◌, Bool, List, [], ◌∷◌, ◌++◌, None, ap, ◌∙◌}
+use Rattle.std.proofs.Common.{◌≡◌, Bool, List, [], ◌∷◌, ◌++◌, ap, ◌∙◌}
 use Rattle.vc_types.specs.Codes.{uint_bits}
 use Rattle.vc_types.specs.Fields.{joined, pair_bits, filled_up, flagged_bits}
-use Rattle.vc_types.specs.ParameterSpelling.{parameter_bits, extension_bits, numbers_bits, encoder_parameters}
+use Rattle.vc_types.specs.ParameterSpelling.{parameter_bits, extension_bits, numbers_bits, coded_unless, encoder_parameters}
 use Rattle.vc_types.specs.TransformParameters.{parameters_of}
 use Rattle.vc_params.proofs.ParameterParts.{whole_parameters}
 use Rattle.vc_params.proofs.writer.spell.Goals as goal
@@ -9,7 +9,7 @@ use Rattle.vc_params.proofs.writer.spell.Goals as goal
 pub returns : goal.returns
 returns c =
     let p = c.args.plan.now in
-    let extension : List Bool = extension_bits c.args.major (None, None) in
+    let extension : List Bool = extension_bits c.args.major (coded_unless p.wavelet_ho p.wavelet, coded_unless p.depth_ho 0) in
     let slices : List Bool = joined (pair_bits (p.slices_x, p.slices_y) ∷ uint_bits p.prefix ∷ uint_bits p.scaler ∷ []) in
     let matrix : List Bool = flagged_bits numbers_bits (encoder_parameters (parameters_of p)).matrix in
     let wavelet : c.write_uint.new.w ≡ uint_bits p.wavelet = c.in_ok-write_uint.ensures.ok ∙ ap (λ (l : List Bool). l ++ uint_bits p.wavelet) c.new-w.ensures in

@@ -11,10 +11,9 @@ returns-clause-read_again c =
     let p = c.args.plan.now in
     let plan : IsPlan (parameters_of p) = record {
       wavelet = p.wavelet_is_known;
-      wavelet_ho = p.is_symmetric;
+      wavelet_ho = p.wavelet_ho_is_known;
       some_levels = p.some_levels;
       few_levels = p.few_levels;
-      depth_ho = p.no_levels_across;
       slices = p.slices;
       slice_bytes = p.slice_bytes;
       padded_luma = p.padded_luma;
@@ -22,5 +21,5 @@ returns-clause-read_again c =
       ends = p.unused_entries;
     } in
     IfOk-weaker c.spell.result _ _
-    (λ v written sequence behind major shape. parameters_again sequence (parameters_of p) v.items behind plan shape (written ∙ ap (λ (n : ℕ). filled_up (parameter_bits n (encoder_parameters (parameters_of p)))) (sym major)))
+    (λ v written sequence behind major shape. parameters_again sequence (parameters_of p) v.items behind plan (λ asymmetric. major ∙ c.requires.version asymmetric) shape (written ∙ ap (λ (n : ℕ). filled_up (parameter_bits n (encoder_parameters (parameters_of p)))) (sym major)))
     c.spell.ensures
