@@ -8,7 +8,7 @@ pub mod GridCells
 pub mod PlacedGrids
 pub mod BuiltPlanes
 pub mod WholePictures
-pub mod Placing
+pub mod Placements
 pub mod Standing
 pub mod RectangleWalk
 pub mod BoundedLists

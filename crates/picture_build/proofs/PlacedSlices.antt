@@ -10,7 +10,7 @@ use Rattle.vc_types.specs.Slices.{Coefficients, coefficients_of}
 use Rattle.vc_types.specs.Quantisation.{subband_count}
 use Rattle.vc_types.specs.Subbands.{area, place_in, slice_count, slice_coefficient_count, coefficient_place, padded_width}
 use Rattle.vc_types.specs.TransformParameters.{Parameters}
-use Rattle.picture_build.proofs.Placing.{place-inside, places-apart}
+use Rattle.picture_build.proofs.Placements.{place-inside, places-apart}
 use Rattle.vc_types.proofs.RectangleCells.{same_place}
 use Rattle.picture_build.proofs.RectangleWalk.{rectangle, walked, walked-below}
 use Rattle.vc_types.proofs.SliceRectangles.{coefficients_before, coefficients_before-more, coefficients_before-all}

@@ -8,7 +8,7 @@ use Rattle.vc_types.specs.Pictures.{placed, all_placed, standing_at, component_c
 use Rattle.vc_types.specs.Slices.{Coefficients, coefficients_of}
 use Rattle.vc_types.specs.Subbands.{Place, slice_count, slice_coefficient_count, coefficient_place, padded_width, padded_height, IsMetOnce}
 use Rattle.vc_types.specs.TransformParameters.{Parameters}
-use Rattle.picture_build.proofs.Placing.{place-inside, places-apart}
+use Rattle.picture_build.proofs.Placements.{place-inside, places-apart}
 use Rattle.vc_types.proofs.RectangleCells.{same_place}
 
 -- ---- items in a list
