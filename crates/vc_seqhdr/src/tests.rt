@@ -64,7 +64,7 @@ fn reads_whether_pictures_are_fields(rt: HostRuntime) -> Result<(), Fail> {
 // Each case has a second fault further on where there is room for one.
 #[test]
 fn refuses_at_the_first_fault(rt: HostRuntime) {
-    let cases: [(&[u8], HeaderRefusal); 23] = [
+    let cases: [(&[u8], HeaderRefusal); 24] = [
         // A number whose code never ends.
         (&[0x70, 0x80], HeaderRefusal::Short),
         // A number above 32 bits, then profile 0.
@@ -134,6 +134,11 @@ fn refuses_at_the_first_fault(rt: HostRuntime) {
         (&[0x70, 0xF8, 0xC0, 0x30], HeaderRefusal::CodingMode),
         // Width 0.
         (&[0x70, 0xF8, 0xF0, 0x20], HeaderRefusal::Dimensions),
+        // Width 8,193.
+        (
+            &[0x70, 0xF0, 0x00, 0x00, 0x12, 0x30, 0x10],
+            HeaderRefusal::Dimensions,
+        ),
         // Height 8,193.
         (
             &[0x70, 0xF0, 0x60, 0x00, 0x00, 0x27, 0x02],
@@ -342,24 +347,19 @@ fn reads_every_preset_range(rt: HostRuntime) -> Result<(), Fail> {
     Ok(())
 }
 
-// Excursions of luma and of colour, and the least d such that 2^d is above each. The offsets are 5 and 6.
+// Excursions of luma and of colour, each with the least d such that 2^d is above it. The offsets are 5 and 6.
 #[test]
 fn reads_custom_ranges(rt: HostRuntime) -> Result<(), Fail> {
-    let cases: [(&[u8], (u32, u8), (u32, u8)); 8] = [
+    let cases: [(&[u8], (u32, u8), (u32, u8)); 4] = [
         (
             &[0x70, 0xE0, 0x69, 0x2B, 0x00, 0x00, 0x00, 0x00, 0xA0],
             (1, 1),
             (65535, 16),
         ),
         (
-            &[0x70, 0xE0, 0x69, 0x6B, 0x00, 0x00, 0x00, 0xA0],
-            (2, 2),
-            (4095, 12),
-        ),
-        (
-            &[0x70, 0xE0, 0x69, 0x0A, 0xC0, 0x00, 0x02, 0x80],
-            (3, 2),
-            (1023, 10),
+            &[0x70, 0xE0, 0x69, 0x00, 0x00, 0x00, 0x00, 0xAC, 0xA0],
+            (65535, 16),
+            (1, 1),
         ),
         (
             &[0x70, 0xE0, 0x69, 0x45, 0x42, 0xB4, 0x51, 0x40, 0x68],
@@ -367,24 +367,9 @@ fn reads_custom_ranges(rt: HostRuntime) -> Result<(), Fail> {
             (3504, 12),
         ),
         (
-            &[0x70, 0xE0, 0x69, 0x00, 0x00, 0xAC, 0x00, 0x06, 0x80],
-            (255, 8),
+            &[0x70, 0xE0, 0x69, 0x00, 0x00, 0x00, 0xAC, 0x00, 0x06, 0x80],
+            (4095, 12),
             (256, 9),
-        ),
-        (
-            &[0x70, 0xE0, 0x69, 0x00, 0x00, 0x2B, 0x00, 0x00, 0x68],
-            (511, 9),
-            (512, 10),
-        ),
-        (
-            &[0x70, 0xE0, 0x69, 0x00, 0x00, 0x0A, 0xD1, 0x45, 0x1A],
-            (1023, 10),
-            (876, 10),
-        ),
-        (
-            &[0x70, 0xE0, 0x69, 0x00, 0x00, 0x00, 0x00, 0xAC, 0xA0],
-            (65535, 16),
-            (1, 1),
         ),
     ];
     for (bytes, luma, colour) in cases {
@@ -400,6 +385,54 @@ fn reads_custom_ranges(rt: HostRuntime) -> Result<(), Fail> {
         assert_eq!(rt; (luma_excursion, shape.luma_depth), luma);
         assert_eq!(rt; (colour_excursion, shape.colour_depth), colour);
     }
+    Ok(())
+}
+
+// The depth of luma, and of colour, of so many values.
+fn depths(excursion: u32) -> (u8, u8) {
+    if excursion < 1 || excursion > 65535 {
+        return (0, 0);
+    }
+    let header = Header {
+        major: 2,
+        minor: 0,
+        level: 0,
+        base: 0,
+        width: 2,
+        height: 2,
+        sampling: Sampling::S444,
+        interlaced: false,
+        top_first: false,
+        range: SignalRange {
+            luma_offset: 0,
+            luma_excursion: excursion,
+            colour_offset: 0,
+            colour_excursion: excursion,
+        },
+        fields: false,
+    };
+    let shape = header.shape();
+    (shape.luma_depth, shape.colour_depth)
+}
+
+// An excursion has d bits from 2^(d - 1) to 2^d - 1.
+#[test]
+fn depths_are_the_least(rt: HostRuntime) {
+    for depth in 1..17u8 {
+        assert_eq!(rt; depths(1 << (depth - 1)), (depth, depth));
+        assert_eq!(rt; depths((1 << depth) - 1), (depth, depth));
+    }
+}
+
+// Minor version and level are the largest numbers of 32 bits.
+#[test]
+fn takes_large_numbers(rt: HostRuntime) -> Result<(), Fail> {
+    let bytes = [
+        0x60, 0x00, 0x00, 0x00, 0x00, 0x00, 0x00, 0x00, 0x10, 0x80, 0x00, 0x00, 0x00, 0x00, 0x00,
+        0x00, 0x00, 0x60, 0x10,
+    ];
+    let (header, _) = read_header(&bytes)?;
+    assert_eq!(rt; (header.minor, header.level), (4294967295, 4294967295));
     Ok(())
 }
 
