@@ -69,7 +69,12 @@ fn the_bytes_of_slices_are_limited(rt: HostRuntime) -> Result<(), Fail> {
 #[test]
 fn numbers_are_limited(rt: HostRuntime) {
     let header = header(2, 8, 4);
-    let rows: [(&[u8], Option<ParamsRefusal>); 10] = [
+    let rows: [(&[u8], Option<ParamsRefusal>); 12] = [
+        // The wavelet is 2^32 - 1.
+        (
+            &[0x00, 0x00, 0x00, 0x00, 0x00, 0x00, 0x00, 0x00, 0x80],
+            Some(ParamsRefusal::Wavelet),
+        ),
         // The wavelet is 2^32.
         (
             &[0x00, 0x00, 0x00, 0x00, 0x00, 0x00, 0x00, 0x01, 0x80],
@@ -97,6 +102,8 @@ fn numbers_are_limited(rt: HostRuntime) {
             ],
             Some(ParamsRefusal::TooLarge),
         ),
+        // There are 512 by 256 slices, the most.
+        (&[0x24, 0x00, 0x01, 0x80, 0x00, 0xE4], None),
         // The prefix is 65,536.
         (
             &[0x24, 0x90, 0x00, 0x00, 0x00, 0x19],
