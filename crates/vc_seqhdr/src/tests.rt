@@ -64,171 +64,97 @@ fn reads_whether_pictures_are_fields(rt: HostRuntime) -> Result<(), Fail> {
 // Each case has a second fault further on where there is room for one.
 #[test]
 fn refuses_at_the_first_fault(rt: HostRuntime) {
-    let cases = [
+    let cases: [(&[u8], HeaderRefusal); 24] = [
         // A number whose code never ends.
-        (
-            [
-                0x70, 0x80, 0x00, 0x00, 0x00, 0x00, 0x00, 0x00, 0x00, 0x00, 0x00,
-            ],
-            HeaderRefusal::Short,
-        ),
+        (&[0x70, 0x80], HeaderRefusal::Short),
         // A number above 32 bits, then profile 0.
         (
-            [
-                0x60, 0x00, 0x00, 0x00, 0x00, 0x00, 0x00, 0x00, 0x38, 0x00, 0x00,
-            ],
+            &[0x60, 0x00, 0x00, 0x00, 0x00, 0x00, 0x00, 0x00, 0x38],
             HeaderRefusal::TooLarge,
         ),
         // A profile above 32 bits.
         (
-            [
-                0x70, 0x00, 0x00, 0x00, 0x00, 0x00, 0x00, 0x00, 0x18, 0x00, 0x00,
-            ],
+            &[0x70, 0x00, 0x00, 0x00, 0x00, 0x00, 0x00, 0x00, 0x18],
             HeaderRefusal::TooLarge,
         ),
         // A base format above 32 bits.
         (
-            [
-                0x70, 0xC0, 0x00, 0x00, 0x00, 0x00, 0x00, 0x00, 0x00, 0x60, 0x00,
-            ],
+            &[0x70, 0xC0, 0x00, 0x00, 0x00, 0x00, 0x00, 0x00, 0x00, 0x60],
             HeaderRefusal::TooLarge,
         ),
         // A sampling index above 32 bits.
         (
-            [
-                0x70, 0xE8, 0x00, 0x00, 0x00, 0x00, 0x00, 0x00, 0x00, 0x0C, 0x00,
-            ],
+            &[0x70, 0xE8, 0x00, 0x00, 0x00, 0x00, 0x00, 0x00, 0x00, 0x0C],
             HeaderRefusal::TooLarge,
         ),
         // A signal range index above 32 bits.
         (
-            [
+            &[
                 0x70, 0xE0, 0x40, 0x00, 0x00, 0x00, 0x00, 0x00, 0x00, 0x00, 0x60,
             ],
             HeaderRefusal::TooLarge,
         ),
         // A coding mode above 32 bits.
         (
-            [
+            &[
                 0x70, 0xE0, 0x00, 0x00, 0x00, 0x00, 0x00, 0x00, 0x00, 0x00, 0x30,
             ],
             HeaderRefusal::TooLarge,
         ),
         // Version 1, then profile 0.
-        (
-            [
-                0x3E, 0x01, 0x00, 0x00, 0x00, 0x00, 0x00, 0x00, 0x00, 0x00, 0x00,
-            ],
-            HeaderRefusal::Version,
-        ),
+        (&[0x3E, 0x01], HeaderRefusal::Version),
         // Version 4, then profile 0.
-        (
-            [
-                0x1F, 0x80, 0x40, 0x00, 0x00, 0x00, 0x00, 0x00, 0x00, 0x00, 0x00,
-            ],
-            HeaderRefusal::Version,
-        ),
+        (&[0x1F, 0x80, 0x40], HeaderRefusal::Version),
         // Profile 0, then base format 17.
-        (
-            [
-                0x7C, 0x12, 0x01, 0x00, 0x00, 0x00, 0x00, 0x00, 0x00, 0x00, 0x00,
-            ],
-            HeaderRefusal::Profile,
-        ),
+        (&[0x7C, 0x12, 0x01], HeaderRefusal::Profile),
         // Base format 17, then sampling 3.
-        (
-            [
-                0x70, 0xC1, 0x28, 0x40, 0x80, 0x00, 0x00, 0x00, 0x00, 0x00, 0x00,
-            ],
-            HeaderRefusal::BaseFormat,
-        ),
+        (&[0x70, 0xC1, 0x28, 0x40, 0x80], HeaderRefusal::BaseFormat),
         // Width 0, sampling 3, then scan 2.
         (
-            [
-                0x70, 0xF8, 0xE1, 0xB0, 0x40, 0x00, 0x00, 0x00, 0x00, 0x00, 0x00,
-            ],
+            &[0x70, 0xF8, 0xE1, 0xB0, 0x40],
             HeaderRefusal::SamplingIndex,
         ),
         // Scan 2, then signal range 5.
-        (
-            [
-                0x70, 0xE5, 0x8A, 0x50, 0x00, 0x00, 0x00, 0x00, 0x00, 0x00, 0x00,
-            ],
-            HeaderRefusal::ScanIndex,
-        ),
+        (&[0x70, 0xE5, 0x8A, 0x50], HeaderRefusal::ScanIndex),
         // Signal range 5, then coding mode 2.
-        (
-            [
-                0x70, 0xE0, 0x52, 0x60, 0x00, 0x00, 0x00, 0x00, 0x00, 0x00, 0x00,
-            ],
-            HeaderRefusal::SignalRange,
-        ),
+        (&[0x70, 0xE0, 0x52, 0x60], HeaderRefusal::SignalRange),
         // A luma excursion of 0, then a number above 32 bits.
         (
-            [
+            &[
                 0x70, 0xE0, 0x78, 0x00, 0x00, 0x00, 0x00, 0x00, 0x00, 0x00, 0x0C,
             ],
             HeaderRefusal::SignalRange,
         ),
         // A colour excursion of 65,536, then coding mode 2.
         (
-            [
-                0x70, 0xE0, 0x73, 0x00, 0x00, 0x00, 0x01, 0x98, 0x00, 0x00, 0x00,
-            ],
+            &[0x70, 0xE0, 0x73, 0x00, 0x00, 0x00, 0x01, 0x98],
             HeaderRefusal::SignalRange,
         ),
         // Width 0 and coding mode 2.
-        (
-            [
-                0x70, 0xF8, 0xC0, 0x30, 0x00, 0x00, 0x00, 0x00, 0x00, 0x00, 0x00,
-            ],
-            HeaderRefusal::CodingMode,
-        ),
+        (&[0x70, 0xF8, 0xC0, 0x30], HeaderRefusal::CodingMode),
         // Width 0.
+        (&[0x70, 0xF8, 0xF0, 0x20], HeaderRefusal::Dimensions),
+        // Width 8,193.
         (
-            [
-                0x70, 0xF8, 0xF0, 0x20, 0x00, 0x00, 0x00, 0x00, 0x00, 0x00, 0x00,
-            ],
+            &[0x70, 0xF0, 0x00, 0x00, 0x12, 0x30, 0x10],
             HeaderRefusal::Dimensions,
         ),
         // Height 8,193.
         (
-            [
-                0x70, 0xF0, 0x60, 0x00, 0x00, 0x27, 0x02, 0x00, 0x00, 0x00, 0x00,
-            ],
+            &[0x70, 0xF0, 0x60, 0x00, 0x00, 0x27, 0x02],
             HeaderRefusal::Dimensions,
         ),
         // An odd width in 4:2:2.
-        (
-            [
-                0x70, 0xF0, 0x23, 0x90, 0x20, 0x00, 0x00, 0x00, 0x00, 0x00, 0x00,
-            ],
-            HeaderRefusal::Dimensions,
-        ),
+        (&[0x70, 0xF0, 0x23, 0x90, 0x20], HeaderRefusal::Dimensions),
         // An odd height in 4:2:0.
-        (
-            [
-                0x70, 0xF0, 0x69, 0xB0, 0x20, 0x00, 0x00, 0x00, 0x00, 0x00, 0x00,
-            ],
-            HeaderRefusal::Dimensions,
-        ),
+        (&[0x70, 0xF0, 0x69, 0xB0, 0x20], HeaderRefusal::Dimensions),
         // An odd height in field mode.
-        (
-            [
-                0x70, 0xF0, 0x69, 0xC0, 0x20, 0x00, 0x00, 0x00, 0x00, 0x00, 0x00,
-            ],
-            HeaderRefusal::Dimensions,
-        ),
+        (&[0x70, 0xF0, 0x69, 0xC0, 0x20], HeaderRefusal::Dimensions),
         // A height of 6 in 4:2:0 field mode.
-        (
-            [
-                0x70, 0xF0, 0x6B, 0xB0, 0x08, 0x00, 0x00, 0x00, 0x00, 0x00, 0x00,
-            ],
-            HeaderRefusal::Dimensions,
-        ),
+        (&[0x70, 0xF0, 0x6B, 0xB0, 0x08], HeaderRefusal::Dimensions),
     ];
     for (bytes, refusal) in cases {
-        assert_eq!(rt; read_header(&bytes).err(), Some(refusal));
+        assert_eq!(rt; read_header(bytes).err(), Some(refusal));
     }
 }
 
@@ -421,77 +347,33 @@ fn reads_every_preset_range(rt: HostRuntime) -> Result<(), Fail> {
     Ok(())
 }
 
-// Excursions of luma and of colour, and the least d such that 2^d is above each. The offsets are 5 and 6.
+// Excursions of luma and of colour, each with the least d such that 2^d is above it. The offsets are 5 and 6.
 #[test]
 fn reads_custom_ranges(rt: HostRuntime) -> Result<(), Fail> {
-    let cases = [
+    let cases: [(&[u8], (u32, u8), (u32, u8)); 4] = [
         (
-            [
-                0x70, 0xE0, 0x69, 0x2B, 0x00, 0x00, 0x00, 0x00, 0xA0, 0x00, 0x00, 0x00, 0x00, 0x00,
-                0x00, 0x00,
-            ],
+            &[0x70, 0xE0, 0x69, 0x2B, 0x00, 0x00, 0x00, 0x00, 0xA0],
             (1, 1),
             (65535, 16),
         ),
         (
-            [
-                0x70, 0xE0, 0x69, 0x6B, 0x00, 0x00, 0x00, 0xA0, 0x00, 0x00, 0x00, 0x00, 0x00, 0x00,
-                0x00, 0x00,
-            ],
-            (2, 2),
-            (4095, 12),
+            &[0x70, 0xE0, 0x69, 0x00, 0x00, 0x00, 0x00, 0xAC, 0xA0],
+            (65535, 16),
+            (1, 1),
         ),
         (
-            [
-                0x70, 0xE0, 0x69, 0x0A, 0xC0, 0x00, 0x02, 0x80, 0x00, 0x00, 0x00, 0x00, 0x00, 0x00,
-                0x00, 0x00,
-            ],
-            (3, 2),
-            (1023, 10),
-        ),
-        (
-            [
-                0x70, 0xE0, 0x69, 0x45, 0x42, 0xB4, 0x51, 0x40, 0x68, 0x00, 0x00, 0x00, 0x00, 0x00,
-                0x00, 0x00,
-            ],
+            &[0x70, 0xE0, 0x69, 0x45, 0x42, 0xB4, 0x51, 0x40, 0x68],
             (219, 8),
             (3504, 12),
         ),
         (
-            [
-                0x70, 0xE0, 0x69, 0x00, 0x00, 0xAC, 0x00, 0x06, 0x80, 0x00, 0x00, 0x00, 0x00, 0x00,
-                0x00, 0x00,
-            ],
-            (255, 8),
+            &[0x70, 0xE0, 0x69, 0x00, 0x00, 0x00, 0xAC, 0x00, 0x06, 0x80],
+            (4095, 12),
             (256, 9),
-        ),
-        (
-            [
-                0x70, 0xE0, 0x69, 0x00, 0x00, 0x2B, 0x00, 0x00, 0x68, 0x00, 0x00, 0x00, 0x00, 0x00,
-                0x00, 0x00,
-            ],
-            (511, 9),
-            (512, 10),
-        ),
-        (
-            [
-                0x70, 0xE0, 0x69, 0x00, 0x00, 0x0A, 0xD1, 0x45, 0x1A, 0x00, 0x00, 0x00, 0x00, 0x00,
-                0x00, 0x00,
-            ],
-            (1023, 10),
-            (876, 10),
-        ),
-        (
-            [
-                0x70, 0xE0, 0x69, 0x00, 0x00, 0x00, 0x00, 0xAC, 0xA0, 0x00, 0x00, 0x00, 0x00, 0x00,
-                0x00, 0x00,
-            ],
-            (65535, 16),
-            (1, 1),
         ),
     ];
     for (bytes, luma, colour) in cases {
-        let (header, _) = read_header(&bytes)?;
+        let (header, _) = read_header(bytes)?;
         let SignalRange {
             luma_offset,
             luma_excursion,
@@ -503,6 +385,54 @@ fn reads_custom_ranges(rt: HostRuntime) -> Result<(), Fail> {
         assert_eq!(rt; (luma_excursion, shape.luma_depth), luma);
         assert_eq!(rt; (colour_excursion, shape.colour_depth), colour);
     }
+    Ok(())
+}
+
+// The depth of luma, and of colour, of so many values.
+fn depths(excursion: u32) -> (u8, u8) {
+    if excursion < 1 || excursion > 65535 {
+        return (0, 0);
+    }
+    let header = Header {
+        major: 2,
+        minor: 0,
+        level: 0,
+        base: 0,
+        width: 2,
+        height: 2,
+        sampling: Sampling::S444,
+        interlaced: false,
+        top_first: false,
+        range: SignalRange {
+            luma_offset: 0,
+            luma_excursion: excursion,
+            colour_offset: 0,
+            colour_excursion: excursion,
+        },
+        fields: false,
+    };
+    let shape = header.shape();
+    (shape.luma_depth, shape.colour_depth)
+}
+
+// An excursion has d bits from 2^(d - 1) to 2^d - 1.
+#[test]
+fn depths_are_the_least(rt: HostRuntime) {
+    for depth in 1..17u8 {
+        assert_eq!(rt; depths(1 << (depth - 1)), (depth, depth));
+        assert_eq!(rt; depths((1 << depth) - 1), (depth, depth));
+    }
+}
+
+// Minor version and level are the largest numbers of 32 bits.
+#[test]
+fn takes_large_numbers(rt: HostRuntime) -> Result<(), Fail> {
+    let bytes = [
+        0x60, 0x00, 0x00, 0x00, 0x00, 0x00, 0x00, 0x00, 0x10, 0x80, 0x00, 0x00, 0x00, 0x00, 0x00,
+        0x00, 0x00, 0x60, 0x10,
+    ];
+    let (header, _) = read_header(&bytes)?;
+    assert_eq!(rt; (header.minor, header.level), (4294967295, 4294967295));
     Ok(())
 }
 

@@ -61,3 +61,18 @@ fn a_block_ends_before_a_sign(rt: HostRuntime) -> Result<(), Fail> {
     assert_eq!(rt; coeffs.component(Component::Y), [0, -8, 0, 0].as_slice());
     Ok(())
 }
+
+// The number 1 at the highest index, where the factor is 14446490411 quarters and the offset 7223245206.
+#[test]
+fn an_index_of_127_is_the_highest(rt: HostRuntime) -> Result<(), Fail> {
+    let coeffs = coefficients(decoded(
+        rt.alloc(),
+        without_matrix(),
+        &[127, 1, 0b0010_1111, 0, 0],
+    )?)?;
+    assert_eq!(rt;
+        coeffs.component(Component::Y),
+        [5417433904, 0, 0, 0].as_slice()
+    );
+    Ok(())
+}
