@@ -1,5 +1,5 @@
 -- The levels of the transform in turn.
-use Rattle.std.proofs.Common.{◌≡◌, ℕ, zero, suc, ◌+◌, ◌-◌, ◌*◌, ◌^◌, ◌<◌, ◌≤◌, arith, ap, sym, ◌∙◌}
+use Rattle.std.proofs.Common.{◌≡◌, ℕ, zero, suc, ◌+◌, ◌-◌, ◌*◌, ◌^◌, ◌<◌, ◌≤◌, arith, refl, ap, sym, ◌∙◌}
 use Rattle.std.proofs.Math.Nat.{div-mul-le_self, mul-le-mul, mul-le-mul_left, mul-le-mul_right, pow-suc}
 use Rattle.std.proofs.Math.Pow.{pow_mono, pow_pos}
 use Rattle.std.proofs.Math.Numerals.{add-one}
@@ -59,7 +59,7 @@ whole_room p c w side h stride cells cells_now block scratch scratch_now narrow 
       side_by_side = (let fits = mul-le-mul_right block down in omega (arith, fits, kept, room.side_by_side));
     }
 
-pub lower_room : (w h d stride cells block scratch : ℕ) → HasRoom (w * 2 ^ d) (h * 2 ^ d) stride cells block scratch → HasRoom w h stride cells block scratch
+lower_room : (w h d stride cells block scratch : ℕ) → HasRoom (w * 2 ^ d) (h * 2 ^ d) stride cells block scratch → HasRoom w h stride cells block scratch
 lower_room w h d stride cells block scratch room =
     let across = less w d (w * 2 ^ d) (omega arith) in
     let down = less h d (h * 2 ^ d) (omega arith) in
@@ -69,6 +69,10 @@ lower_room w h d stride cells block scratch room =
       row = omega (arith, across, room.row);
       side_by_side = (let fits = mul-le-mul_right block down in omega (arith, fits, room.side_by_side));
     }
+
+pub lowest_room : (p : Parameters) (c : Component) (w h stride cells block scratch : ℕ) → w ≡ lowest_width p c → h ≡ lowest_height p c → HasRoom (padded_width p c) (padded_height p c) stride cells block scratch → HasRoom (w * 2 ^ p.depth_ho) h stride cells block scratch
+lowest_room p c w h stride cells block scratch narrow low room =
+    lower_room (w * 2 ^ p.depth_ho) h p.depth stride cells block scratch (whole_room p c w (w * 2 ^ p.depth_ho) h stride cells cells block scratch scratch narrow refl low refl refl room)
 
 -- ---- one level more
 

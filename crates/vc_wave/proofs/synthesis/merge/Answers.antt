@@ -1,18 +1,18 @@
-use Rattle.std.proofs.Common.{◌*◌, ◌^◌, arith, refl}
+use Rattle.std.proofs.Common.{◌*◌, ◌^◌, arith}
 use Rattle.vc_types.specs.TransformParameters.{parameters_of}
 use Rattle.vc_wave.specs.Planes.{plane_of}
 use Rattle.vc_wave.proofs.Grids.{all_levels}
-use Rattle.vc_wave.proofs.Levels.{whole_room, lower_room}
+use Rattle.vc_wave.proofs.Levels.{whole_room, lowest_room}
 use Rattle.vc_wave.proofs.PlaneGrowth.{across_below, all_below}
 use Rattle.vc_wave.proofs.synthesis.merge.Goals as goal
 
 pub merge_across-requires-clause-room : goal.merge_across-requires-clause-room
-merge_across-requires-clause-room c =
-    let p = parameters_of c.args.plan.now in
-    let w = c.lowest-w.result.0 in
-    let h = c.lowest-w.result.1 in
-    lower_room (w * 2 ^ p.depth_ho) h p.depth c.args.stride _ _ _
-    (whole_room p c.args.c w (w * 2 ^ p.depth_ho) h c.args.stride _ _ _ _ _ c.lowest-w.ensures.width refl c.lowest-w.ensures.height refl refl c.requires.room)
+merge_across-requires-clause-room c = lowest_room (parameters_of c.args.plan.now) c.args.c c.lowest-w.result.0 c.lowest-w.result.1 c.args.stride _ _ _ c.lowest-w.ensures.width c.lowest-w.ensures.height c.requires.room
+
+pub side_at-w-requires-clause-fits : goal.side_at-w-requires-clause-fits
+side_at-w-requires-clause-fits c =
+    let room = lowest_room (parameters_of c.args.plan.now) c.args.c c.lowest-w.result.0 c.lowest-w.result.1 c.args.stride _ _ _ c.lowest-w.ensures.width c.lowest-w.ensures.height c.requires.room in
+    omega (arith, room.across)
 
 pub merge_levels-requires-clause-room : goal.merge_levels-requires-clause-room
 merge_levels-requires-clause-room c =
