@@ -4,7 +4,7 @@ use Rattle.std.specs.Str.{bytes_eq}
 use Rattle.vc_types.specs.declared.video.Sampling.{Sampling}
 use Rattle.vc_types.specs.declared.video.Sampling.TheVariants.{S444, S422, S420}
 use Rattle.link_words.specs.Numbers.{number_within}
-use Rattle.link_words.specs.Options.{row_of, names_of, name_in}
+use Rattle.link_words.specs.Options.{option_row, names_of, name_in}
 use Rattle.link_words.specs.declared.options.Values.{Values}
 use Rattle.link_words.specs.declared.options.Values.TheVariants.{Number, Optional, Required, Subsampling, Pair, Address}
 use Rattle.link_words.specs.declared.options.Name.{Name}
@@ -13,7 +13,7 @@ use Rattle.link_words.specs.declared.options.Command.{Command}
 abbrev pub word_at : List (List ℕ) → ℕ → List ℕ
 word_at words place = slice_index_or words place []
 
--- of so many places from one on, the first that passes a test; the place behind them where none does
+-- the first of so many places from one on that passes a test; the place behind them where none does
 abbrev pub first_place : (ℕ → Bool) → ℕ → ℕ → ℕ
 first_place passes from zero = from
 first_place passes from (suc count) =
@@ -21,8 +21,8 @@ first_place passes from (suc count) =
 
 -- ---- values
 
-unfoldable pub sampling_in : List ℕ → Option Sampling
-sampling_in word =
+unfoldable pub sampling_written : List ℕ → Option Sampling
+sampling_written word =
     if bytes_eq word (codes "444") then Some S444
     else if bytes_eq word (codes "422") then Some S422
     else if bytes_eq word (codes "420") then Some S420
@@ -38,8 +38,8 @@ both (Some across) None = None
 both None down = None
 
 -- two numbers of 1 to 65,535 with x between
-unfoldable pub slices_in : List ℕ → Option (ℕ × ℕ)
-slices_in word =
+unfoldable pub slices_written : List ℕ → Option (ℕ × ℕ)
+slices_written word =
     let cross = cross_of word in
     both (number_within 1 65535 (take cross word)) (number_within 1 65535 (drop (cross + 1) word))
 
@@ -47,12 +47,12 @@ abbrev pub accepts : Values → List ℕ → Bool
 accepts (Number low high default) word = is_some (number_within low high word)
 accepts (Optional low high) word = is_some (number_within low high word)
 accepts (Required low high) word = is_some (number_within low high word)
-accepts Subsampling word = is_some (sampling_in word)
-accepts Pair word = is_some (slices_in word)
+accepts Subsampling word = is_some (sampling_written word)
+accepts Pair word = is_some (slices_written word)
 accepts Address word = nat_lt 0 (length word)
 
 abbrev pub accepts_as : Option Name → List ℕ → Bool
-accepts_as (Some name) word = accepts (row_of name).1 word
+accepts_as (Some name) word = accepts (option_row name).1 word
 accepts_as None word = false
 
 -- ---- names

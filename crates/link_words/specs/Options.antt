@@ -22,35 +22,35 @@ command_of word =
     else None
 
 -- the word of an option and its values: the least and the greatest number, and the default
-abbrev pub row_of : Name → List ℕ × Values
-row_of Width = (codes "--width", Required 1 8192)
-row_of Height = (codes "--height", Required 1 8192)
-row_of Sampling = (codes "--sampling", Subsampling)
-row_of Range = (codes "--range", Number 1 4 3)
-row_of Fields = (codes "--fields", Number 0 1 0)
-row_of Top = (codes "--top", Number 0 1 1)
-row_of Wavelet = (codes "--wavelet", Number 0 6 1)
-row_of Depth = (codes "--depth", Number 1 4 3)
-row_of Slices = (codes "--slices", Pair)
-row_of Prefix = (codes "--prefix", Number 0 255 0)
-row_of Scaler = (codes "--scaler", Number 1 255 2)
-row_of Size = (codes "--size", Number 64 65507 1400)
-row_of Index = (codes "--index", Number 0 127 0)
-row_of Fit = (codes "--fit", Optional 4 65535)
-row_of Ssrc = (codes "--ssrc", Number 0 4294967295 1)
-row_of Seq = (codes "--seq", Number 0 4294967295 0)
-row_of Picture = (codes "--picture", Number 0 4294967295 0)
-row_of Tick = (codes "--tick", Number 0 4294967295 3600)
-row_of Pt = (codes "--pt", Number 0 127 96)
-row_of Frames = (codes "--frames", Number 1 4294967295 4294967295)
-row_of Seed = (codes "--seed", Number 0 4294967295 0)
-row_of Count = (codes "--frames", Number 1 1000 1)
-row_of Check = (codes "--check", Number 0 1 0)
-row_of Window = (codes "--window", Number 2 8 4)
-row_of Workers = (codes "--workers", Number 0 64 4)
-row_of Packets = (codes "--packets", Number 1 4294967295 4294967295)
-row_of To = (codes "--to", Address)
-row_of At = (codes "--at", Address)
+abbrev pub option_row : Name → List ℕ × Values
+option_row Width = (codes "--width", Required 1 8192)
+option_row Height = (codes "--height", Required 1 8192)
+option_row Sampling = (codes "--sampling", Subsampling)
+option_row Range = (codes "--range", Number 1 4 3)
+option_row Fields = (codes "--fields", Number 0 1 0)
+option_row Top = (codes "--top", Number 0 1 1)
+option_row Wavelet = (codes "--wavelet", Number 0 6 1)
+option_row Depth = (codes "--depth", Number 1 4 3)
+option_row Slices = (codes "--slices", Pair)
+option_row Prefix = (codes "--prefix", Number 0 255 0)
+option_row Scaler = (codes "--scaler", Number 1 255 2)
+option_row Size = (codes "--size", Number 64 65507 1400)
+option_row Index = (codes "--index", Number 0 127 0)
+option_row Fit = (codes "--fit", Optional 4 65535)
+option_row Ssrc = (codes "--ssrc", Number 0 4294967295 1)
+option_row Seq = (codes "--seq", Number 0 4294967295 0)
+option_row Picture = (codes "--picture", Number 0 4294967295 0)
+option_row Tick = (codes "--tick", Number 0 4294967295 3600)
+option_row Pt = (codes "--pt", Number 0 127 96)
+option_row Frames = (codes "--frames", Number 1 4294967295 4294967295)
+option_row Seed = (codes "--seed", Number 0 4294967295 0)
+option_row Count = (codes "--frames", Number 1 1000 1)
+option_row Check = (codes "--check", Number 0 1 0)
+option_row Window = (codes "--window", Number 2 8 4)
+option_row Workers = (codes "--workers", Number 0 64 4)
+option_row Packets = (codes "--packets", Number 1 4294967295 4294967295)
+option_row To = (codes "--to", Address)
+option_row At = (codes "--at", Address)
 
 -- how frames are coded and sent
 abbrev pub sender_names : List Name
@@ -74,7 +74,7 @@ names_of Gen =
 
 -- the first of some options whose word this is
 abbrev pub name_in : List Name → List ℕ → Option Name
-name_in names word = find (λ name. bytes_eq (row_of name).0 word) names
+name_in names word = find (λ name. bytes_eq (option_row name).0 word) names
 
 -- whether an option has to be given
 abbrev pub is_required : Values → Bool
@@ -83,11 +83,11 @@ is_required Address = true
 is_required values = false
 
 -- a number of an option's range, and a default of it
-abbrev pub IsWithin : Values → ℕ → Type 0
-IsWithin (Number low high default) number = (low ≤ number) × (number ≤ high)
-IsWithin (Optional low high) number = (low ≤ number) × (number ≤ high)
-IsWithin (Required low high) number = (low ≤ number) × (number ≤ high)
-IsWithin others number = ⊤
+abbrev pub IsInRange : Values → ℕ → Type 0
+IsInRange (Number low high default) number = (low ≤ number) × (number ≤ high)
+IsInRange (Optional low high) number = (low ≤ number) × (number ≤ high)
+IsInRange (Required low high) number = (low ≤ number) × (number ≤ high)
+IsInRange others number = ⊤
 
 abbrev pub HasDefault : Values → Type 0
 HasDefault (Number low high default) = (low ≤ default) × (default ≤ high)

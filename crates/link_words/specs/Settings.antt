@@ -11,8 +11,8 @@ use Rattle.vc_types.specs.Limits.{slices_fit}
 use Rattle.vc_types.specs.Settings.{luma_fits, first_picture_fits, default_across, default_down, can_be_sent}
 use Rattle.vc_types.specs.SenderSettings.{Frames as FramesSent, Sending}
 use Rattle.link_words.specs.Numbers.{number_within}
-use Rattle.link_words.specs.Grammar.{word_at, first_place, sampling_in, slices_in, first_bad}
-use Rattle.link_words.specs.Options.{command_of, row_of, names_of, is_required}
+use Rattle.link_words.specs.Grammar.{word_at, first_place, sampling_written, slices_written, first_bad}
+use Rattle.link_words.specs.Options.{command_of, option_row, names_of, is_required}
 use Rattle.link_words.specs.declared.options.Values.{Values}
 use Rattle.link_words.specs.declared.options.Values.TheVariants as values
 use Rattle.link_words.specs.declared.options.Name.{Name}
@@ -23,7 +23,7 @@ use Rattle.link_words.specs.declared.options.Command.TheVariants.{Decode, Encode
 -- ---- what is given
 
 abbrev pub stands_at : List (List ℕ) → Name → ℕ → Bool
-stands_at words name place = place % 2 == 1 && bytes_eq (word_at words place) (row_of name).0
+stands_at words name place = place % 2 == 1 && bytes_eq (word_at words place) (option_row name).0
 
 -- the place of a name, or the number of words
 unfoldable pub place_of : List (List ℕ) → Name → ℕ
@@ -37,14 +37,14 @@ abbrev pub value_of : List (List ℕ) → Name → List ℕ
 value_of words name = word_at words (place_of words name + 1)
 
 -- the number that is given, or the default; the least where there is no default
-abbrev pub number_in : Values → List ℕ → ℕ
-number_in (values.Number low high default) word = unwrap_or (number_within low high word) default
-number_in (values.Optional low high) word = unwrap_or (number_within low high word) low
-number_in (values.Required low high) word = unwrap_or (number_within low high word) low
-number_in others word = 0
+abbrev pub number_meant : Values → List ℕ → ℕ
+number_meant (values.Number low high default) word = unwrap_or (number_within low high word) default
+number_meant (values.Optional low high) word = unwrap_or (number_within low high word) low
+number_meant (values.Required low high) word = unwrap_or (number_within low high word) low
+number_meant others word = 0
 
 abbrev pub given : List (List ℕ) → Name → ℕ
-given words name = number_in (row_of name).1 (value_of words name)
+given words name = number_meant (option_row name).1 (value_of words name)
 
 abbrev pub is_set : List (List ℕ) → Name → Bool
 is_set words name = given words name == 1
@@ -55,28 +55,30 @@ choice_of words =
 
 -- ---- settings without their facts
 
-abbrev pub sampling_of : List (List ℕ) → SamplingKind
-sampling_of words = unwrap_or (sampling_in (value_of words Sampling)) S422
+abbrev pub given_sampling : List (List ℕ) → SamplingKind
+given_sampling words = unwrap_or (sampling_written (value_of words Sampling)) S422
 
 abbrev pub given_frames : List (List ℕ) → FramesSent
 given_frames words = record {
   width = given words Width;
   height = given words Height;
-  sampling = sampling_of words;
+  sampling = given_sampling words;
   range = given words Range;
   fields = is_set words Fields;
   top = is_set words Top;
 }
 
 -- how many slices a picture has across and down
-abbrev pub slices_of : List (List ℕ) → (width height : ℕ) → (fields : Bool) → ℕ × ℕ
-slices_of words width height fields =
-    unwrap_or (slices_in (value_of words Slices)) (default_across width, default_down fields height)
+abbrev pub given_slices : List (List ℕ) → (width height : ℕ) → (fields : Bool) → ℕ × ℕ
+given_slices words width height fields =
+    unwrap_or
+    (slices_written (value_of words Slices))
+    (default_across width, default_down fields height)
 
 abbrev pub sending_of : List (List ℕ) → Sending
 sending_of words =
     let frames = given_frames words in
-    let slices = slices_of words frames.width frames.height frames.fields in
+    let slices = given_slices words frames.width frames.height frames.fields in
     record {
       frames = frames;
       wavelet = given words Wavelet;
@@ -163,7 +165,7 @@ meaning Gen words = option_map (λ g.
     ToGen g (is_set words Check) (given words Window) (given words Workers)) (generator words)
 
 abbrev pub lacks : List (List ℕ) → Name → Bool
-lacks words name = is_required (row_of name).1 && not (is_given words name)
+lacks words name = is_required (option_row name).1 && not (is_given words name)
 
 -- a name that has to be given is missing
 unfoldable pub lacks_name : Command → List (List ℕ) → Bool

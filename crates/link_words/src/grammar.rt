@@ -1,9 +1,9 @@
 ghost use Rattle.std.specs.Prelude.{◌≡◌, ◌<◌, ◌≤◌, ◌%◌, ◌-◌, length, nat_lt, is_some, position, IfSome, ◌==◌};
-ghost use Rattle.link_words.specs.Options.{row_of, names_of, name_in};
-ghost use Rattle.link_words.specs.Grammar.{word_at, cross_of, sampling_in, slices_in, accepts, accepts_as, is_choice, excludes, excluded_at, is_given_before, option_at, word_fits, first_bad};
+ghost use Rattle.link_words.specs.Options.{option_row, names_of, name_in};
+ghost use Rattle.link_words.specs.Grammar.{word_at, cross_of, sampling_written, slices_written, accepts, accepts_as, is_choice, excludes, excluded_at, is_given_before, option_at, word_fits, first_bad};
 
 use crate::numbers::number_within;
-use crate::options::{Command, Name, Values, name_in, names_of, row_of};
+use crate::options::{Command, Name, Values, name_in, names_of, option_row};
 use vc_types::{Sampling, Words};
 
 // The word at a place.
@@ -14,9 +14,9 @@ pub(crate) fn word_at(words: &Words, place: usize) -> &str
     words.word(place)
 }
 
-#[tactic(auto, unfolding(crate::specs::Grammar::sampling_in))]
-pub(crate) fn sampling_in(word: &str) -> Option<Sampling>
-    ensures { result ≡ sampling_in word.now }
+#[tactic(auto, unfolding(crate::specs::Grammar::sampling_written))]
+pub(crate) fn sampling_written(word: &str) -> Option<Sampling>
+    ensures { result ≡ sampling_written word.now }
 {
     match word {
         "444" => Some(Sampling::S444),
@@ -42,9 +42,9 @@ fn cross_of(word: &[u8]) -> usize
 }
 
 // Two numbers of 1 to 65,535 with `x` between.
-#[tactic(auto, using(crate::proofs::Slices::drop_held), unfolding(crate::specs::Grammar::slices_in))]
-pub(crate) fn slices_in(word: &[u8]) -> Option<(u32, u32)>
-    ensures { result ≡ slices_in word.now }
+#[tactic(auto, using(crate::proofs::Slices::drop_held), unfolding(crate::specs::Grammar::slices_written))]
+pub(crate) fn slices_written(word: &[u8]) -> Option<(u32, u32)>
+    ensures { result ≡ slices_written word.now }
 {
     let (across, _) = word.split_at(cross_of(word));
     let (_, down) = word.split_at((cross_of(word) + 1).min(word.len()));
@@ -59,8 +59,8 @@ fn accepts(values: Values, word: &str) -> bool
     match values {
         Values::Number(low, high, _) | Values::Optional(low, high) | Values::Required(low, high) =>
             { number_within(word.as_bytes(), low, high).is_some() }
-        Values::Subsampling => sampling_in(word).is_some(),
-        Values::Pair => slices_in(word.as_bytes()).is_some(),
+        Values::Subsampling => sampling_written(word).is_some(),
+        Values::Pair => slices_written(word.as_bytes()).is_some(),
         Values::Address => !word.is_empty(),
     }
 }
@@ -69,7 +69,7 @@ fn accepts_as(name: Option<Name>, word: &str) -> bool
     ensures { result ≡ accepts_as name word.now }
 {
     match name {
-        Some(name) => accepts(row_of(name).1, word),
+        Some(name) => accepts(option_row(name).1, word),
         None => false,
     }
 }

@@ -1,18 +1,18 @@
 ghost use Rattle.std.specs.Prelude.{◌≡◌, ◌<◌, ◌≤◌, length, IsTrue};
 ghost use Rattle.vc_types.specs.Settings.{choice_fits};
-ghost use Rattle.link_words.specs.Options.{row_of, is_required, HasDefault, IsWithin};
-ghost use Rattle.link_words.specs.Settings.{stands_at, place_of, is_given, value_of, number_in, given, is_set, choice_of, lacks};
+ghost use Rattle.link_words.specs.Options.{option_row, is_required, HasDefault, IsInRange};
+ghost use Rattle.link_words.specs.Settings.{stands_at, place_of, is_given, value_of, number_meant, given, is_set, choice_of, lacks};
 
 use crate::grammar::word_at;
 use crate::numbers::number_within;
-use crate::options::{Name, Values, row_of};
+use crate::options::{Name, Values, option_row};
 use vc_types::{IndexChoice, Words};
 
 fn stands_at(words: &Words, name: Name, place: usize) -> bool
     requires { place < length words.now }
     ensures { result ≡ stands_at words.now name place }
 {
-    place % 2 == 1 && word_at(words, place) == row_of(name).0
+    place % 2 == 1 && word_at(words, place) == option_row(name).0
 }
 
 // The place of a name, or the number of words.
@@ -50,10 +50,10 @@ pub(crate) fn value_of<'a>(words: &'a Words, name: Name) -> &'a str
 }
 
 // The number that is given, or the default; the least where there is no default.
-fn number_in(values: Values, word: &str) -> u32
+fn number_meant(values: Values, word: &str) -> u32
     requires { HasDefault values }
-    ensures value { result ≡ number_in values word.now }
-    ensures range { IsWithin values result }
+    ensures value { result ≡ number_meant values word.now }
+    ensures range { IsInRange values result }
 {
     let word = word.as_bytes();
     match values {
@@ -67,16 +67,16 @@ fn number_in(values: Values, word: &str) -> u32
 
 pub(crate) fn given(words: &Words, name: Name) -> u32
     requires some { 0 < length words.now }
-    requires default { HasDefault (row_of name).1 }
+    requires default { HasDefault (option_row name).1 }
     ensures value { result ≡ given words.now name }
-    ensures range { IsWithin (row_of name).1 result }
+    ensures range { IsInRange (option_row name).1 result }
 {
-    number_in(row_of(name).1, value_of(words, name))
+    number_meant(option_row(name).1, value_of(words, name))
 }
 
 pub(crate) fn is_set(words: &Words, name: Name) -> bool
     requires some { 0 < length words.now }
-    requires default { HasDefault (row_of name).1 }
+    requires default { HasDefault (option_row name).1 }
     ensures { result ≡ is_set words.now name }
 {
     given(words, name) == 1
@@ -99,5 +99,5 @@ pub(crate) fn lacks(words: &Words, name: Name) -> bool
     requires { 0 < length words.now }
     ensures { result ≡ lacks words.now name }
 {
-    row_of(name).1.is_required() && !is_given(words, name)
+    option_row(name).1.is_required() && !is_given(words, name)
 }

@@ -1,5 +1,5 @@
 ghost use Rattle.std.specs.Prelude.{◌≡◌};
-ghost use Rattle.link_words.specs.Options.{command_of, names_of, row_of, name_in, is_required};
+ghost use Rattle.link_words.specs.Options.{command_of, names_of, option_row, name_in, is_required};
 
 use Name::{
     At, Check, Count, Depth, Fields, Fit, Frames, Height, Index, Packets, Picture, Prefix, Pt,
@@ -89,8 +89,8 @@ pub(crate) fn command_of(word: &str) -> Option<Command>
 }
 
 /// The word of a name and its values.
-pub(crate) fn row_of(name: Name) -> (&'static str, Values)
-    ensures { (result.0.now, result.1) ≡ row_of name }
+pub(crate) fn option_row(name: Name) -> (&'static str, Values)
+    ensures { (result.0.now, result.1) ≡ option_row name }
 {
     match name {
         Width => ("--width", Required(1, 8192)),
@@ -155,7 +155,10 @@ pub(crate) fn names_of(command: Command) -> &'static [Name]
 pub(crate) fn name_in(names: &[Name], word: &str) -> Option<Name>
     ensures { result ≡ name_in names.now word.now }
 {
-    names.iter().copied().find(|name| row_of(*name).0 == word)
+    names
+        .iter()
+        .copied()
+        .find(|name| option_row(*name).0 == word)
 }
 
 impl Values {

@@ -1,30 +1,30 @@
 ghost use Rattle.std.specs.Prelude.{◌≡◌, ◌<◌, ◌≤◌, length};
 ghost use Rattle.std.specs.Option.{option_map};
 ghost use Rattle.vc_types.specs.SenderSettings.{sending_view};
-ghost use Rattle.link_words.specs.Settings.{sampling_of, slices_of, generator, sender};
+ghost use Rattle.link_words.specs.Settings.{given_sampling, given_slices, generator, sender};
 ghost use Rattle.link_words.specs.Views.{generating_view};
 
-use crate::grammar::{sampling_in, slices_in};
+use crate::grammar::{sampling_written, slices_written};
 use crate::joint::{can_be_sent, default_across, default_down, first_picture_fits, luma_fits};
 use crate::lookup::{choice_of, given, is_set, value_of};
 use crate::options::Name;
 use vc_types::{GenSettings, Sampling, SendSettings, Words, dimensions_fit, slices_fit};
 
-fn sampling_of(words: &Words) -> Sampling
+fn given_sampling(words: &Words) -> Sampling
     requires { 0 < length words.now }
-    ensures { result ≡ sampling_of words.now }
+    ensures { result ≡ given_sampling words.now }
 {
-    sampling_in(value_of(words, Name::Sampling)).unwrap_or(Sampling::S422)
+    sampling_written(value_of(words, Name::Sampling)).unwrap_or(Sampling::S422)
 }
 
 // How many slices a picture has across and down.
-fn slices_of(words: &Words, width: u32, height: u32, fields: bool) -> (u32, u32)
+fn given_slices(words: &Words, width: u32, height: u32, fields: bool) -> (u32, u32)
     requires some { 0 < length words.now }
     requires width { width ≤ 8192 }
     requires height { height ≤ 8192 }
-    ensures { result ≡ slices_of words.now width height fields }
+    ensures { result ≡ given_slices words.now width height fields }
 {
-    slices_in(value_of(words, Name::Slices).as_bytes()).unwrap_or((
+    slices_written(value_of(words, Name::Slices).as_bytes()).unwrap_or((
         default_across(width),
         default_down(fields, height),
     ))
@@ -38,10 +38,10 @@ pub(crate) fn sender(words: &Words) -> Option<SendSettings>
 {
     let width = given(words, Name::Width);
     let height = given(words, Name::Height);
-    let sampling = sampling_of(words);
+    let sampling = given_sampling(words);
     let fields = is_set(words, Name::Fields);
     let depth = given(words, Name::Depth) as u8;
-    let (slices_x, slices_y) = slices_of(words, width, height, fields);
+    let (slices_x, slices_y) = given_slices(words, width, height, fields);
     let picture = given(words, Name::Picture);
     let fits = dimensions_fit(width, height, sampling, fields)
         && slices_fit(slices_x, slices_y)
@@ -81,7 +81,7 @@ pub(crate) fn generator(words: &Words) -> Option<GenSettings>
 {
     let width = given(words, Name::Width);
     let height = given(words, Name::Height);
-    let sampling = sampling_of(words);
+    let sampling = given_sampling(words);
     let fields = is_set(words, Name::Fields);
     let fits = dimensions_fit(width, height, sampling, fields)
         && can_be_sent(width, height, fields);
