@@ -164,6 +164,31 @@ fn six_slices() -> Plan
     }
 }
 
+// 4 by 2, one level across alone and one both ways, one slice.
+fn level_across() -> Plan
+    ensures { (result.slices_x ≡ 1) × (result.slices_y ≡ 1) }
+{
+    Plan {
+        shape: Shape {
+            luma_width: 4,
+            luma_height: 2,
+            colour_width: 4,
+            colour_height: 2,
+            luma_depth: 8,
+            colour_depth: 8,
+        },
+        wavelet: 3,
+        wavelet_ho: 3,
+        depth: 1,
+        depth_ho: 1,
+        slices_x: 1,
+        slices_y: 1,
+        prefix: 0,
+        scaler: 1,
+        matrix: [0; 16],
+    }
+}
+
 // The coefficients of a slice, by its number and its bytes.
 fn decoded(alloc: Global, plan: Plan, index: u32, bytes: &'static [u8]) -> Result<SliceCoeffs, Fail>
     requires { index < slice_count (parameters_of plan) }
@@ -290,5 +315,16 @@ fn a_picture_may_have_one_sample(rt: HostRuntime) -> Result<(), Fail> {
     assert_eq!(rt; planes[0].samples(), [0x7f].as_slice());
     assert_eq!(rt; planes[1].samples(), [0x80].as_slice());
     assert_eq!(rt; planes[2].samples(), [0x80].as_slice());
+    Ok(())
+}
+
+// H is 1.
+#[test]
+fn a_level_may_be_across_alone(rt: HostRuntime) -> Result<(), Fail> {
+    let planes = built(rt.alloc(), level_across(), &[&[0, 1, 0x97, 0, 0]])?;
+    let row = [0x7F, 0x7F, 0x80, 0x80];
+    assert_eq!(rt; planes[0].samples()[..4], row[..]);
+    assert_eq!(rt; planes[0].samples()[4..], row[..]);
+    assert_eq!(rt; planes[1].samples(), [0x80; 8].as_slice());
     Ok(())
 }

@@ -12,6 +12,7 @@ use Rattle.vc_types.specs.TransformParameters as parameters
 use Rattle.vc_types.specs.TransformParameters.{Parameters, coded_parameters, transform_parameters}
 use Rattle.vc_types.specs.Video.{format_of, range_of, video_depth}
 use Rattle.vc_types.specs.declared.refusal.HeaderRefusal.TheVariants as refusals
+use Rattle.vc_types.specs.declared.refusal.ParamsRefusal.TheVariants as params
 use Rattle.vc_types.specs.declared.video.Sampling.TheVariants.{S444}
 
 -- version 2.0, level 0, base format 0, 8 by 4, 4:4:4, progressive, 8 bits full range, frames
@@ -61,6 +62,15 @@ parameters_are = refl
 pub other_parameters_are : coded_parameters sequence (0x25 ∷ 0x99 ∷ 0x00 ∷ []) ≡ Ok (parameters_of_it 8 4 1 2 (4 ∷ 2 ∷ 2 ∷ 0 ∷ []), 3)
 unfolding transform_parameters parameters.number parameters.wavelet_index parameters.wavelet_depth parameters.extended_parameters parameters.slice_counts parameters.prefix_bytes parameters.size_scaler parameters.matrix_value parameters.matrix_values parameters.quantisation_matrix default_matrix header.picture_shape video_depth number_up_to uint_at uint_after bits_of byte_bits
 other_parameters_are = refl
+
+-- one level across alone: each of the five subbands has a value, and there is no default matrix
+pub across_are : coded_parameters (record sequence { major = 3; width = 4; height = 2 }) (0x09 ∷ 0x49 ∷ 0x33 ∷ 0xf8 ∷ []) ≡ Ok (record (parameters_of_it 4 2 3 1 (replicate 4 0)) { depth_ho = 1 }, 4)
+unfolding transform_parameters parameters.number parameters.wavelet_index parameters.wavelet_depth parameters.extended_parameters parameters.slice_counts parameters.prefix_bytes parameters.size_scaler parameters.matrix_value parameters.matrix_values parameters.quantisation_matrix default_matrix header.picture_shape video_depth number uint_at uint_after bits_of byte_bits
+across_are = refl
+
+pub across_by_default : coded_parameters (record sequence { major = 3; width = 4; height = 2 }) (0x09 ∷ 0x49 ∷ 0x32 ∷ []) ≡ Err params.NoDefault
+unfolding transform_parameters parameters.number parameters.wavelet_index parameters.wavelet_depth parameters.extended_parameters parameters.slice_counts parameters.prefix_bytes parameters.size_scaler parameters.matrix_value parameters.matrix_values parameters.quantisation_matrix default_matrix header.picture_shape video_depth number uint_at uint_after bits_of byte_bits
+across_by_default = refl
 
 -- ---- what this project's encoder writes: 2 by 2, 4:4:4, top field first, the first signal range, frames
 
