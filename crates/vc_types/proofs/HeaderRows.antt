@@ -65,11 +65,11 @@ other_parameters_are = refl
 
 -- one level across alone: each of the five subbands has a value, and there is no default matrix
 pub across_are : coded_parameters (record sequence { major = 3; width = 4; height = 2 }) (0x09 ∷ 0x49 ∷ 0x33 ∷ 0xf8 ∷ []) ≡ Ok (record (parameters_of_it 4 2 3 1 (replicate 4 0)) { depth_ho = 1 }, 4)
-unfolding transform_parameters parameters.number parameters.wavelet_index parameters.wavelet_depth parameters.extended_parameters parameters.slice_counts parameters.prefix_bytes parameters.size_scaler parameters.matrix_value parameters.matrix_values parameters.quantisation_matrix default_matrix header.picture_shape video_depth number uint_at uint_after bits_of byte_bits
+unfolding transform_parameters parameters.number parameters.wavelet_index parameters.wavelet_depth parameters.extended_parameters parameters.slice_counts parameters.prefix_bytes parameters.size_scaler parameters.matrix_value parameters.matrix_values parameters.quantisation_matrix default_matrix header.picture_shape video_depth number_up_to uint_at uint_after bits_of byte_bits
 across_are = refl
 
 pub across_by_default : coded_parameters (record sequence { major = 3; width = 4; height = 2 }) (0x09 ∷ 0x49 ∷ 0x32 ∷ []) ≡ Err params.NoDefault
-unfolding transform_parameters parameters.number parameters.wavelet_index parameters.wavelet_depth parameters.extended_parameters parameters.slice_counts parameters.prefix_bytes parameters.size_scaler parameters.matrix_value parameters.matrix_values parameters.quantisation_matrix default_matrix header.picture_shape video_depth number uint_at uint_after bits_of byte_bits
+unfolding transform_parameters parameters.number parameters.wavelet_index parameters.wavelet_depth parameters.extended_parameters parameters.slice_counts parameters.prefix_bytes parameters.size_scaler parameters.matrix_value parameters.matrix_values parameters.quantisation_matrix default_matrix header.picture_shape video_depth number_up_to uint_at uint_after bits_of byte_bits
 across_by_default = refl
 
 -- ---- what this project's encoder writes: 2 by 2, 4:4:4, top field first, the first signal range, frames

@@ -76,10 +76,10 @@ abbrev four_by_two : List ℕ → Raster
 four_by_two samples = record { width = 4; height = 2; samples = samples }
 
 pub level_across_alone : decoded_planes (record sequence { major = 3; width = 4 }) (0x09 ∷ 0x49 ∷ 0x33 ∷ 0xf8 ∷ 0x00 ∷ 0x01 ∷ 0x97 ∷ 0x00 ∷ 0x00 ∷ []) ≡ Some (record { y = four_by_two (0x7f ∷ 0x7f ∷ 0x80 ∷ 0x80 ∷ 0x7f ∷ 0x7f ∷ 0x80 ∷ 0x80 ∷ []); c1 = four_by_two (replicate 8 0x80); c2 = four_by_two (replicate 8 0x80) })
-unfolding decoded_planes decoded_picture transform_parameters parameters.number parameters.wavelet_index parameters.wavelet_depth parameters.extended_parameters parameters.slice_counts parameters.prefix_bytes parameters.size_scaler parameters.matrix_value parameters.matrix_values parameters.quantisation_matrix default_matrix header.picture_shape video_depth number uint_at uint_after bits_of byte_bits slices_from coded_slice block decoded_slice block_coefficients quantisers slice_rectangle slice_coefficient_count bounded_sints bounded_sint bounded_uint bounded_uint_after dequantised quant_factor quant_offset component_plane raster output_sample inverse_transform levels_across level_across interleaved_across inverse_levels inverse_level on_cells on_rows on_columns interleaved synthesised lifted_by synthesis_steps lifted change weighted component_cells standing_at all_placed coefficient_place place_among
+unfolding decoded_planes decoded_picture transform_parameters parameters.number parameters.wavelet_index parameters.wavelet_depth parameters.extended_parameters parameters.slice_counts parameters.prefix_bytes parameters.size_scaler parameters.matrix_value parameters.matrix_values parameters.quantisation_matrix default_matrix header.picture_shape video_depth number_up_to uint_at uint_after bits_of byte_bits slices_from coded_slice block decoded_slice block_coefficients quantisers slice_rectangle slice_coefficient_count bounded_sints bounded_sint bounded_uint bounded_uint_after dequantised quant_factor quant_offset component_plane raster output_sample inverse_transform levels_across level_across interleaved_across inverse_levels inverse_level on_cells on_rows on_columns interleaved synthesised lifted_by synthesis_steps lifted change weighted component_cells standing_at all_placed coefficient_place place_among
 level_across_alone = refl
 
 -- wavelet 4 across and 3 down, of which the one across decides the shift; LL is 3
 pub wavelet_across : decoded_planes (record sequence { major = 3 }) (0x09 ∷ 0x8c ∷ 0x4c ∷ 0xfc ∷ 0x00 ∷ 0x01 ∷ 0x0b ∷ 0x00 ∷ 0x00 ∷ []) ≡ Some (record { y = two_by_two (replicate 4 0x82); c1 = two_by_two (replicate 4 0x80); c2 = two_by_two (replicate 4 0x80) })
-unfolding decoded_planes decoded_picture transform_parameters parameters.number parameters.wavelet_index parameters.wavelet_depth parameters.extended_parameters parameters.slice_counts parameters.prefix_bytes parameters.size_scaler parameters.matrix_value parameters.matrix_values parameters.quantisation_matrix default_matrix header.picture_shape video_depth number uint_at uint_after bits_of byte_bits slices_from coded_slice block decoded_slice block_coefficients quantisers slice_rectangle slice_coefficient_count bounded_sints bounded_sint bounded_uint bounded_uint_after dequantised quant_factor quant_offset component_plane raster output_sample inverse_transform levels_across level_across interleaved_across inverse_levels inverse_level on_cells on_rows on_columns interleaved synthesised lifted_by synthesis_steps lifted change weighted component_cells standing_at all_placed coefficient_place place_among
+unfolding decoded_planes decoded_picture transform_parameters parameters.number parameters.wavelet_index parameters.wavelet_depth parameters.extended_parameters parameters.slice_counts parameters.prefix_bytes parameters.size_scaler parameters.matrix_value parameters.matrix_values parameters.quantisation_matrix default_matrix header.picture_shape video_depth number_up_to uint_at uint_after bits_of byte_bits slices_from coded_slice block decoded_slice block_coefficients quantisers slice_rectangle slice_coefficient_count bounded_sints bounded_sint bounded_uint bounded_uint_after dequantised quant_factor quant_offset component_plane raster output_sample inverse_transform levels_across level_across interleaved_across inverse_levels inverse_level on_cells on_rows on_columns interleaved synthesised lifted_by synthesis_steps lifted change weighted component_cells standing_at all_placed coefficient_place place_among
 wavelet_across = refl
