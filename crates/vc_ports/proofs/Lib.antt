@@ -2,3 +2,4 @@ pub mod Fronts
 pub mod Given
 pub mod Growing
 pub mod Counts
+pub mod CutFrames

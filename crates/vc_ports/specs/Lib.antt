@@ -6,3 +6,4 @@ pub mod Memory
 pub mod Adapters
 pub mod Runs
 pub mod Changes
+pub mod Framed
