@@ -4,21 +4,17 @@ use Rattle.std.specs.Prelude.{IfNone}
 use Rattle.std.specs.Global.{Vec}
 use Rattle.std.specs.declared.convert.Infallible.{Infallible}
 use Rattle.byteorder.specs.Endian.{big_bytes, big_number}
-use Rattle.vc_ports.specs.Framed.{IsPart, GaveSome, GaveLast, ReadsFrame}
+use Rattle.vc_ports.specs.Framed.{IsPart, ReadsFrame}
 use Rattle.vc_ports.specs.Reading.{Gave}
 use Rattle.vc_ports.specs.declared.framed.FrameFault.{FrameFault}
 use Rattle.vc_ports.specs.declared.framed.FrameFault.TheVariants.{Refused, Cut, Failed, NoMemory}
+use Rattle.vc_ports.proofs.CutFrames.{GaveSome-map, GaveLast-map, unless_fault}
 use Rattle.link_capture.specs.Capture.{entry, first_entry}
 use Rattle.link_capture.specs.Reading.{HasNoEntry, ReadsEntry, entry_fault}
 use Rattle.link_capture.proofs.Heads.{two_bytes, first_entry-stub, first_entry-short}
 
 ok_is : {A E : Type 0} (x y : A) → ◌≡◌ {A = Result A E} (Ok x) (Ok y) → x ≡ y
 ok_is x y same = cc
-
--- what holds where no fault stands
-under : {A B F : Type 0} (fault : Option F) → (A → B) → IfNone fault A → IfNone fault B
-under None f read = f read
-under (Some fault) f read = tt
 
 abbrev told : List ℕ → Result ℕ Infallible
 told head = Ok (big_number 2 head)
@@ -54,7 +50,7 @@ whole_entry before after head datagram long fit tells gave =
 module _ (fault : Option (FrameFault Infallible)) (before after : Option (List ℕ)) (place : ℕ) (head : List ℕ) (long : length head ≡ 2) where
   -- a datagram, or the end at an edge
   pub reads_some : Bytes head → (datagram : Option (Vec ℕ)) → IfNone fault (ReadsFrame told before after head (Ok datagram)) → IfNone fault (ReadsEntry before after place (Ok datagram))
-  reads_some fit datagram read = under fault (by datagram) read
+  reads_some fit datagram read = unless_fault fault (by datagram) read
     where
       by : (datagram : Option (Vec ℕ)) → ReadsFrame told before after head (Ok datagram) → ReadsEntry before after place (Ok datagram)
       by None read = read
@@ -62,13 +58,13 @@ module _ (fault : Option (FrameFault Infallible)) (before after : Option (List �
 
   -- a fault
   pub reads_fault : (why : FrameFault Infallible) → IfNone fault (ReadsFrame told before after head (Err why)) → IfNone fault (ReadsEntry before after place (Err (entry_fault place why)))
-  reads_fault why read = under fault (by why) read
+  reads_fault why read = unless_fault fault (by why) read
     where
-      part : GaveSome (IsPart (length head) told) before after → GaveSome HasNoEntry before after
-      part gave = record { bytes = gave.bytes; gave = gave.gave; holds = no_entry gave.bytes (rw long at gave.holds) }
+      part : (bytes : List ℕ) → IsPart (length head) told bytes → HasNoEntry bytes
+      part bytes is = no_entry bytes (rw long at is)
 
       by : (why : FrameFault Infallible) → ReadsFrame told before after head (Err why) → ReadsEntry before after place (Err (entry_fault place why))
-      by Cut read = (refl, record { part = part read.part; some = read.some; at_end = read.at_end })
-      by Failed read = part read
-      by NoMemory read = part read
+      by Cut read = (refl, GaveLast-map part before after read)
+      by Failed read = GaveSome-map part before after read
+      by NoMemory read = GaveSome-map part before after read
       by (Refused none) read = elim none [ ]

@@ -1,5 +1,6 @@
 -- A frame that is cut short in its head or in its body.
-use Rattle.std.proofs.Common.{◌≡◌, ◌≢◌, ℕ, ◌<◌, List, [], ◌++◌, length, take, Option, Result, Ok, refl, sym, ap, ◌∙◌, arith, inl, inr}
+use Rattle.std.proofs.Common.{◌≡◌, ◌≢◌, ℕ, ◌<◌, List, [], ◌++◌, length, take, Option, Some, None, Result, Ok, refl, sym, ap, ◌∙◌, arith, inl, inr}
+use Rattle.std.specs.Prelude.{IfNone}
 use Rattle.std.proofs.lemmas.List.{length-append, length-take-le}
 use Rattle.vc_ports.specs.Filling.{Fills}
 use Rattle.vc_ports.specs.Framed.{IsPart, GaveSome, GaveLast}
@@ -37,3 +38,17 @@ module _ {R : Type 0} (told : List ℕ → Result ℕ R) (head : List ℕ) where
       some = λ none. (let empty : length (head ++ take n body) ≡ 0 = ap length none in omega (arith, empty, length-append head (take n body), some));
       at_end = fills.1.at_end;
     }
+
+-- ---- what a frame's parts are to a format
+
+pub GaveSome-map : {P Q : List ℕ → Type 0} → ((bytes : List ℕ) → P bytes → Q bytes) → (before after : Option (List ℕ)) → GaveSome P before after → GaveSome Q before after
+GaveSome-map f before after some = record { bytes = some.bytes; gave = some.gave; holds = f some.bytes some.holds }
+
+pub GaveLast-map : {P Q : List ℕ → Type 0} → ((bytes : List ℕ) → P bytes → Q bytes) → (before after : Option (List ℕ)) → GaveLast P before after → GaveLast Q before after
+unfolding GaveSome-map
+GaveLast-map f before after last = record { part = GaveSome-map f before after last.part; some = last.some; at_end = last.at_end }
+
+-- what is known where no fault stands
+pub unless_fault : {A B F : Type 0} (fault : Option F) → (A → B) → IfNone fault A → IfNone fault B
+unless_fault None f read = f read
+unless_fault (Some fault) f read = tt

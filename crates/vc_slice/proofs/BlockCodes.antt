@@ -13,7 +13,8 @@ use Rattle.vc_types.specs.Quantisation.{quantised}
 use Rattle.vc_types.specs.Slices.{Coefficients, coefficients_of, is_large}
 use Rattle.vc_types.specs.Subbands.{area, subband_at, slice_rectangle}
 use Rattle.vc_types.specs.TransformParameters.{Parameters}
-use Rattle.vc_slice.specs.Encoding.{AreCoefficients, kept_before, without_last_zeros, quantised_numbers, block_bits, component_bits}
+use Rattle.vc_types.specs.Encoding.{kept_before, without_last_zeros, quantised_numbers, block_bits, component_bits}
+use Rattle.vc_types.specs.SliceCoefficients.{AreSliceCoefficients}
 use Rattle.vc_slice.specs.Inside.{codes_behind, subband_numbers}
 use Rattle.vc_slice.proofs.BlockCoefficients.{quantisers_from, quantisers_from-all, quantisers_from-none, quantisers_from-more, length-quantisers}
 
@@ -122,8 +123,8 @@ module _ (p : Parameters) (slice index : ℕ) (c : Component) where
     pub count : length zs ≡ length (quantisers_from p c slice index b)
     pub small : list_any is_large zs ≡ false
 
-  pub all_from : (s : Coefficients) → AreCoefficients p slice s → AreFrom 0 (coefficients_of s c)
-  all_from s are = record { count = are.lengths c ∙ sym (length-quantisers p c slice index) ∙ ap length (sym (quantisers_from-all p c slice index)); small = are.small c }
+  pub all_from : (s : Coefficients) → AreSliceCoefficients p slice s → AreFrom 0 (coefficients_of s c)
+  all_from s are = record { count = are.count c ∙ sym (length-quantisers p c slice index) ∙ ap length (sym (quantisers_from-all p c slice index)); small = are.small c }
 
   pub all_bits : (s : Coefficients) → codes_behind 0 (numbers_from 0 (coefficients_of s c)) ≡ component_bits p slice index s c
   unfolding numbers_from block_bits quantised_numbers

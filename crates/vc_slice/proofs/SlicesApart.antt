@@ -8,7 +8,7 @@ use Rattle.vc_types.specs.Pictures.{slices_from, sound}
 use Rattle.vc_types.specs.Slices.{Coefficients, slice_length, slice_coefficients}
 use Rattle.vc_types.specs.TransformParameters.{Parameters}
 use Rattle.vc_slice.specs.Apart.{piece, AreWhole, AreAnswers}
-use Rattle.vc_slice.proofs.WholeSlices.{slice_before, slices_from-whole}
+use Rattle.vc_types.proofs.WholeSlices.{slice_before, slices_from-whole}
 
 module _ (p : Parameters) where
   -- a whole slice, and those behind it

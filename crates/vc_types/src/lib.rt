@@ -6,6 +6,7 @@ mod grid;
 mod header;
 mod limits;
 mod memory;
+mod parse_codes;
 mod plan;
 mod plane;
 mod rect;
@@ -20,6 +21,10 @@ pub use grid::Grid;
 pub use header::Header;
 pub use limits::{dimensions_fit, padded, picture_height, slices_fit};
 pub use memory::NoMemory;
+pub use parse_codes::{
+    AUXILIARY_DATA, END_OF_SEQUENCE, HIGH_QUALITY_FRAGMENT, HIGH_QUALITY_PICTURE, PADDING_DATA,
+    SEQUENCE_HEADER,
+};
 pub use plan::Plan;
 pub use plane::Plane;
 pub use rect::Rect;
