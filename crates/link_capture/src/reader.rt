@@ -10,9 +10,9 @@ use vc_ports::{FrameFault, FramedReader, Framing, Source, next_frame};
 
 /// The format of a capture: an entry's head is its datagram's length.
 #[derive(Drop)]
-pub enum Entries {}
+pub enum CaptureFormat {}
 
-impl Framing for Entries {
+impl Framing for CaptureFormat {
     type Refusal = Infallible;
 
     ghost head_size = { 2 };
@@ -27,7 +27,7 @@ impl Framing for Entries {
 }
 
 /// A source that is read entry by entry.
-pub type CaptureReader<'a, S> = FramedReader<'a, S, Entries>;
+pub type CaptureReader<'a, S> = FramedReader<'a, S, CaptureFormat>;
 
 /// Reads the next entry: its datagram, or None where the source ended at an entry's edge. After a fault the same
 /// fault is answered without reading.

@@ -6,17 +6,17 @@ use Rattle.play_command.specs.declared.fault.TakeFault.{TakeFault}
 use Rattle.play_command.specs.declared.fault.TakeFault.TheVariants as fault
 use Rattle.vc_types.specs.Planes.{planes_in}
 use Rattle.vc_types.specs.SequenceHeader.{sequence_of}
-use Rattle.play_command.specs.Stream.{Picture}
-use Rattle.play_command.specs.Steps.{Kept, Playing}
+use Rattle.play_command.specs.Stream.{StreamPicture}
+use Rattle.play_command.specs.Steps.{PlayState, Playing}
 use Rattle.play_command.specs.declared.picture.Picture as coded
 use Rattle.play_command.specs.declared.playback.Playback.{Playback}
 use Rattle.play_command.specs.declared.player.Player.{Player}
 
-abbrev pub picture_of : coded.Picture → Picture
+abbrev pub picture_of : coded.Picture → StreamPicture
 picture_of p = record { number = p.number; planes = planes_in p.planes }
 
-abbrev pub kept_by : Playback → Kept
-kept_by s = record {
+abbrev pub playback_state : Playback → PlayState
+playback_state s = record {
   sequence = sequence_of s.header;
   waiting = option_map picture_of s.waiting;
   pictures = s.pictures;
@@ -24,7 +24,7 @@ kept_by s = record {
 }
 
 abbrev pub player_of : Player → Playing
-player_of p = record { kept = option_map kept_by p.stream; place = p.place }
+player_of p = record { kept = option_map playback_state p.stream; place = p.place }
 
 abbrev pub take_fault : FrameFault → TakeFault
 take_fault frame.WriteFault = fault.WriteFault

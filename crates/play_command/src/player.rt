@@ -6,8 +6,8 @@ ghost use Rattle.vc_types.specs.DataUnits.{unit_length};
 ghost use Rattle.std.specs.Option.{option_map};
 ghost use Rattle.std.specs.declared.option.Option.{Option};
 ghost use Rattle.play_command.specs.Looping.{summary_of};
-ghost use Rattle.play_command.specs.Steps.{kept_of, playing_of};
-ghost use Rattle.play_command.specs.Stream.{Stream, nothing};
+ghost use Rattle.play_command.specs.Steps.{stream_state, playing_of};
+ghost use Rattle.play_command.specs.Stream.{Stream, at_start};
 ghost use Rattle.play_command.specs.Taking.{Agrees, Brought, IsWithin};
 ghost use Rattle.play_command.specs.Views.{player_of};
 
@@ -32,7 +32,7 @@ pub(crate) struct Player {
 
 impl Player {
     pub(crate) fn new() -> Player
-        ensures { player_of result ≡ playing_of nothing }
+        ensures { player_of result ≡ playing_of at_start }
     {
         Player {
             stream: None,
@@ -49,7 +49,7 @@ impl Player {
     ) -> Result<(), TakeFault>
         requires few { IsWithin (2 ^ 32 - 1) (player_of self.old) }
         requires near { self.old.place < 2 ^ 62 }
-        ensures brought { (stream : Option Stream) → (player_of self.old).kept ≡ option_map kept_of stream → Brought stream (unit_of unit) (player_of self.new).kept (O.held output.old) (O.held output.new) result }
+        ensures brought { (stream : Option Stream) → (player_of self.old).kept ≡ option_map stream_state stream → Brought stream (unit_of unit) (player_of self.new).kept (O.held output.old) (O.held output.new) result }
         ensures cause { HasCause (O.faults output.old) (O.faults output.new) (result ≡ Err TakeFault.WriteFault) }
         ensures few { OnOk result ((n : ℕ) → IsWithin n (player_of self.old) → IsWithin (n + 1) (player_of self.new)) }
         ensures place { OnOk result (self.new.place ≡ self.old.place + unit_length (unit_of unit)) }
@@ -63,7 +63,7 @@ impl Player {
 
     fn bring<O: Sink>(&mut self, alloc: Global, unit: Unit, output: &mut O) -> Result<(), TakeFault>
         requires few { IsWithin (2 ^ 32 - 1) (player_of self.old) }
-        ensures brought { (stream : Option Stream) → (player_of self.old).kept ≡ option_map kept_of stream → Brought stream (unit_of unit) (player_of self.new).kept (O.held output.old) (O.held output.new) result }
+        ensures brought { (stream : Option Stream) → (player_of self.old).kept ≡ option_map stream_state stream → Brought stream (unit_of unit) (player_of self.new).kept (O.held output.old) (O.held output.new) result }
         ensures cause { HasCause (O.faults output.old) (O.faults output.new) (result ≡ Err TakeFault.WriteFault) }
         ensures few { OnOk result ((n : ℕ) → IsWithin n (player_of self.old) → IsWithin (n + 1) (player_of self.new)) }
         ensures place { self.new.place ≡ self.old.place }

@@ -6,7 +6,7 @@ use Rattle.vc_ports.specs.Framed.{IsPart, GaveSome, ReadsFrame}
 use Rattle.vc_ports.specs.declared.framed.FrameFault.{FrameFault}
 use Rattle.vc_ports.specs.declared.framed.FrameFault.TheVariants.{Refused, Cut, Failed, NoMemory}
 use Rattle.vc_ports.proofs.CutFrames.{GaveSome-map, GaveLast-map, unless_fault}
-use Rattle.vc_units.specs.Units.{body_length, info_fault, code_of}
+use Rattle.vc_units.specs.Units.{body_length, info_fault, code_of, data_unit}
 use Rattle.vc_units.specs.Reading.{IsUnit, IsRefusedInfo, AreShort, ReadsUnit, unit_fault}
 use Rattle.vc_units.specs.declared.fault.InfoRefusal.{InfoRefusal}
 use Rattle.vc_units.specs.declared.fault.InfoRefusal.TheVariants.{Prefix, Code, Offset}
@@ -20,9 +20,9 @@ part_is_short part (inr cut) = rw cut.is (data_unit-cut cut.head cut.body cut.co
 
 module _ (fault : Option (FrameFault InfoRefusal)) (before after : Option (List ℕ)) (info : List ℕ) (long : length info ≡ 13) where
   -- a parse info and its body are a unit
-  pub reads_some : (body : Vec ℕ) → IfNone fault (ReadsFrame body_length before after info (Ok (Some body)))
-      → IfNone fault (GaveSome (IsUnit (record { code = code_of info; body = body.items })) before after)
-  reads_some body read = unless_fault fault (λ frame. record { bytes = info ++ body.items; gave = frame.1; holds = whole frame.0 }) read
+  pub reads_some : (at place : ℕ) (body : Vec ℕ) → at ≡ place → IfNone fault (ReadsFrame body_length before after info (Ok (Some body)))
+      → IfNone fault ((at ≡ place) × GaveSome (IsUnit (record { code = code_of info; body = body.items })) before after)
+  reads_some at place body is read = unless_fault fault (λ frame. (is, record { bytes = info ++ body.items; gave = frame.1; holds = whole frame.0 })) read
     where
       whole : body_length info ≡ Ok (length body.items) → IsUnit (record { code = code_of info; body = body.items }) (info ++ body.items)
       whole tells = record {

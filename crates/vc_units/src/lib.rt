@@ -11,7 +11,7 @@ mod writer;
 pub use fault::{InfoRefusal, UnitFault};
 pub use info::PARSE_INFO_BYTES;
 pub use laws::written_unit_is_read;
-pub use reader::{UnitReader, Units, next_unit};
+pub use reader::{UnitFormat, UnitReader, next_unit};
 pub use unit::Unit;
 pub use writer::write_unit;
 

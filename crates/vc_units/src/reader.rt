@@ -17,9 +17,9 @@ const LONGEST_UNIT: u32 = 268_435_456;
 
 /// The format of an elementary stream: a unit's head is its parse info header.
 #[derive(Drop)]
-pub enum Units {}
+pub enum UnitFormat {}
 
-impl Framing for Units {
+impl Framing for UnitFormat {
     type Refusal = InfoRefusal;
 
     ghost head_size = { 13 };
@@ -49,7 +49,7 @@ impl Framing for Units {
 }
 
 /// A source that is read unit by unit.
-pub type UnitReader<'a, S> = FramedReader<'a, S, Units>;
+pub type UnitReader<'a, S> = FramedReader<'a, S, UnitFormat>;
 
 /// Reads the next unit (ST 2042-1, data unit), or None where the source ended at a unit's edge. It is refused for the
 /// first of these: `Short` where the source ended within the 13 bytes before the body, `Prefix`, `Code`, `Offset`, and
