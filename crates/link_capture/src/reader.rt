@@ -1,7 +1,7 @@
 ghost use Rattle.std.specs.Prelude.{◌≡◌, ◌+◌, ◌<◌, ◌≤◌, ◌^◌, Ok, Err, IfNone, IfSome};
 ghost use Rattle.byteorder.specs.Endian.{big_number};
 ghost use Rattle.vc_ports.specs.Faults.{HasCause};
-ghost use Rattle.link_capture.specs.Reading.{ReadsEntry, entry_fault, place_after, fault_after};
+ghost use Rattle.link_capture.specs.Reading.{ReadsEntry, entry_fault, place_after_entry, fault_after_entry};
 
 use crate::fault::EntryFault;
 use byteorder::{BigEndian, ByteOrder};
@@ -37,12 +37,14 @@ pub fn next_entry<S: Source>(r: &mut CaptureReader<S>) -> Result<Option<Vec<u8>>
     ensures entry { IfNone r.old.fault
         (ReadsEntry (S.left r.old.source.now) (S.left r.new.source.now) r.old.place result) }
     ensures cause { IfNone r.old.fault
-        (HasCause (S.faults r.old.source.now) (S.faults r.new.source.now) (result ≡ Err EntryFault.ReadFault)) }
+        (HasCause (S.faults r.old.source.now) (S.faults r.new.source.now)
+            (result ≡ Err EntryFault.ReadFault)) }
     ensures again { IfSome r.old.fault
-        (λ fault. (result ≡ Err (entry_fault r.old.place fault)) × (r.new.source.now ≡ r.old.source.now)) }
-    ensures place { r.new.place ≡ place_after r.old.place result }
+        (λ fault. (result ≡ Err (entry_fault r.old.place fault))
+            × (r.new.source.now ≡ r.old.source.now)) }
+    ensures place { r.new.place ≡ place_after_entry r.old.place result }
     ensures grows { r.new.place ≤ r.old.place + 65537 }
-    ensures fault { r.new.fault ≡ fault_after r.old.fault result }
+    ensures fault { r.new.fault ≡ fault_after_entry r.old.fault result }
 {
     let place = r.place();
     match next_frame(r, &mut [0; 2]) {

@@ -23,20 +23,22 @@ then_units units behind = (units ++ behind.0, behind.1)
 
 -- the source gave the bytes of so many units, none of which ends the sequence or is refused; what they bring, and what
 -- was written of it
-pub record IsBehind (packets number : ℕ) (before after held_before held_after : Option (List ℕ)) (h : StreamSoFar)
+pub record IsBehind
+    (packets number : ℕ) (before after held_before held_after : Option (List ℕ)) (h : StreamSoFar)
     : Type 0 where
   pub given : List ℕ
   pub units : List DataUnit
   pub gave : Gave before after given
-  pub split : (more : List ℕ)
-      → units_within packets (given ++ more) ≡ then_units units (units_within (packets - number) more)
+  pub split : (more : List ℕ) → units_within packets (given ++ more)
+      ≡ then_units units (units_within (packets - number) more)
   pub count : length units ≡ number
   pub goes_on : list_any is_end_of_sequence units ≡ false
   pub so_far : units_taken units ≡ (h, false)
   pub wrote : Grew held_before held_after (played h.stream)
 
 -- the units end: at the end of the source, or with an end of sequence
-pub record HasEnded (packets : ℕ) (before after held_before held_after : Option (List ℕ)) (h : StreamSoFar)
+pub record HasEnded
+    (packets : ℕ) (before after held_before held_after : Option (List ℕ)) (h : StreamSoFar)
     : Type 0 where
   pub given : List ℕ
   pub units : List DataUnit
@@ -51,10 +53,12 @@ abbrev pub HasPlayedUnits : ℕ → Stop → InputChange → OutputChange → St
 HasPlayedUnits packets Ended input output h =
     HasEnded packets input.left.before input.left.after output.held.before output.held.after h
 HasPlayedUnits packets AtLimit input output h =
-    IsBehind packets packets input.left.before input.left.after output.held.before output.held.after h
+    IsBehind packets packets
+        input.left.before input.left.after output.held.before output.held.after h
 
 -- the loop stopped without a fault; what came, and what the player keeps
-pub record HasStopped (packets : ℕ) (stop : Stop) (player : Playing) (input : InputChange) (output : OutputChange)
+pub record HasStopped
+    (packets : ℕ) (stop : Stop) (player : Playing) (input : InputChange) (output : OutputChange)
     : Type 0 where
   pub so_far : StreamSoFar
   pub keeps : player ≡ playing_of so_far
@@ -62,7 +66,8 @@ pub record HasStopped (packets : ℕ) (stop : Stop) (player : Playing) (input : 
   pub units : HasPlayedUnits packets stop input output so_far
 
 -- the units ended in this way, whatever the causes
-pub record Stops (packets : ℕ) (answer : Result Summary Ending) (input : InputChange) (output : OutputChange)
+pub record Stops
+    (packets : ℕ) (answer : Result Summary Ending) (input : InputChange) (output : OutputChange)
     : Type 0 where
   pub given : List ℕ
   pub took : Took input given
@@ -80,4 +85,5 @@ unpaired_of k = if k.sequence.fields then k.pictures - 2 * k.frames else 0
 
 abbrev pub summary_of : Playing → Summary
 summary_of p =
-    option_map_or (λ k. summaries.Played k.pictures (unpaired_of k) k.frames) p.kept (summaries.Played 0 0 0)
+    option_map_or (λ k. summaries.Played k.pictures (unpaired_of k) k.frames)
+        p.kept (summaries.Played 0 0 0)

@@ -44,7 +44,9 @@ has_ended s = list_any is_end_of_sequence s.units
 -- ---- the ways to end
 
 -- the input was read to its end at a unit's edge, or to the end of the sequence
-pub record HasPlayed (input : InputChange) (output : OutputChange) (s : UnitSplit) (pictures unpaired frames : ℕ) : Type 0 where
+pub record HasPlayed
+    (input : InputChange) (output : OutputChange) (s : UnitSplit) (pictures unpaired frames : ℕ)
+    : Type 0 where
   pub accepted : AreAccepted s.units
   pub no_rest : s.rest ≡ []
   pub ended : IsAtEnd input.left.after ⊎ IsTrue (has_ended s)
@@ -62,7 +64,8 @@ pub record CouldNotRead (packets : ℕ) (output : OutputChange) (s : UnitSplit) 
   pub wrote : Wrote output (frames_due s)
 
 -- so many units were read, none of them an end of sequence, and then one byte more
-pub record IsPastLimit (packets : ℕ) (output : OutputChange) (s : UnitSplit) (limit : ℕ) : Type 0 where
+pub record IsPastLimit (packets : ℕ) (output : OutputChange) (s : UnitSplit) (limit : ℕ)
+    : Type 0 where
   pub limit_is : limit ≡ packets
   pub count : length s.units ≡ packets
   pub goes_on : IsFalse (has_ended s)
@@ -94,7 +97,9 @@ pub record HasRefusedRest (packets : ℕ) (input : InputChange) (s : UnitSplit) 
   pub last : IsLast input s.rest fault
 
 -- a unit is refused: by those before it, or as it stands
-pub record IsBad (packets : ℕ) (input : InputChange) (output : OutputChange) (s : UnitSplit) (place : ℕ) : Type 0 where
+pub record IsBad
+    (packets : ℕ) (input : InputChange) (output : OutputChange) (s : UnitSplit) (place : ℕ)
+    : Type 0 where
   pub refused : EndsWithRefused s ⊎ HasRefusedRest packets input s
   pub place_is : place ≡ (so_far s).place
   pub wrote : Wrote output (frames_due s)
@@ -110,7 +115,9 @@ PlayEnded packets (Err (StreamBad place)) input output s = IsBad packets input o
 PlayEnded packets answer input output s = ⊥
 
 -- playing at most so many units of the bytes that the input gave
-pub record Plays (packets : ℕ) (answer : Result Summary Ending) (input : InputChange) (output : OutputChange) : Type 0 where
+pub record Plays
+    (packets : ℕ) (answer : Result Summary Ending) (input : InputChange) (output : OutputChange)
+    : Type 0 where
   pub given : List ℕ
   pub took : Took input given
   pub ended : PlayEnded packets answer input output (unit_split packets given)

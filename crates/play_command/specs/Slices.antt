@@ -24,7 +24,8 @@ GaveSlice p index old new (Some s) =
     ≡ and_then (slices_from p (index + 1) n new) (λ read. Ok (s ∷ read.0, read.1)))
 
 -- all slices of a picture
-pub record GaveAllSlices (p : Parameters) (bytes : List ℕ) (slices : List Coefficients) : Type 0 where
+pub record GaveAllSlices (p : Parameters) (bytes : List ℕ) (slices : List Coefficients)
+    : Type 0 where
   pub rest : List ℕ
   pub read : slices_from p 0 (slice_count p) bytes ≡ Ok (slices, rest)
   pub count : length slices ≡ slice_count p

@@ -23,14 +23,27 @@ same_range a b =
     && a.colour_offset == b.colour_offset && a.colour_excursion == b.colour_excursion
 
 abbrev pub same_size : Sequence → Sequence → Bool
-same_size a b = a.width == b.width && a.height == b.height && sampling_index a.sampling == sampling_index b.sampling
+same_size a b =
+    a.width == b.width
+    && a.height == b.height
+    && sampling_index a.sampling == sampling_index b.sampling
 
 abbrev pub same_scan : Sequence → Sequence → Bool
-same_scan a b = digit_of a.interlaced == digit_of b.interlaced && digit_of a.top_first == digit_of b.top_first && digit_of a.fields == digit_of b.fields
+same_scan a b =
+    digit_of a.interlaced == digit_of b.interlaced
+    && digit_of a.top_first == digit_of b.top_first
+    && digit_of a.fields == digit_of b.fields
 
 -- both headers have the same value
 unfoldable pub same_sequence : Sequence → Sequence → Bool
-same_sequence a b = a.major == b.major && a.minor == b.minor && a.level == b.level && a.base == b.base && same_size a b && same_scan a b && same_range a.range b.range
+same_sequence a b =
+    a.major == b.major
+    && a.minor == b.minor
+    && a.level == b.level
+    && a.base == b.base
+    && same_size a b
+    && same_scan a b
+    && same_range a.range b.range
 
 -- ---- units
 
@@ -69,8 +82,10 @@ shows body stream = option_map (with_picture stream) (picture_in stream.sequence
 -- units bring nothing. None where the unit is refused.
 unfoldable pub takes : Option Stream → DataUnit → Option (Option Stream)
 takes stream u =
-    if u.code == header_code then option_map (λ next. Some next) (with_header stream (coded_header u.body))
-    else if u.code == picture_code then option_map (λ next. Some next) (option_and_then (shows u.body) stream)
+    if u.code == header_code then
+      option_map (λ next. Some next) (with_header stream (coded_header u.body))
+    else if u.code == picture_code then
+      option_map (λ next. Some next) (option_and_then (shows u.body) stream)
     else Some stream
 
 -- what came up to now, and the place of the next unit
@@ -132,4 +147,6 @@ frames_in stream = option_map_or (λ s. length (stream_frames s)) stream 0
 -- the fields that are part of no frame
 abbrev pub unpaired_in : Option Stream → ℕ
 unpaired_in stream =
-    option_map_or (λ s. if s.sequence.fields then length s.pictures - 2 * length (stream_frames s) else 0) stream 0
+    option_map_or
+        (λ s. if s.sequence.fields then length s.pictures - 2 * length (stream_frames s) else 0)
+        stream 0

@@ -24,7 +24,9 @@ abbrev pub is_frame : Option (List Raster) → List Planes
 is_frame frame = option_to_list (option_map planes_in frame)
 
 -- a picture was kept, and this is the frame to be written, which has bytes as its shape says
-pub record Completes (old : PlayState) (p : StreamPicture) (new : PlayState) (frame : Option (List Raster)) : Type 0 where
+pub record Completes
+    (old : PlayState) (p : StreamPicture) (new : PlayState) (frame : Option (List Raster))
+    : Type 0 where
   pub state : new ≡ record old { waiting = (shown old p).waiting }
   pub frame_is : is_frame frame ≡ new_frames old.sequence old.waiting p
   pub narrow : is_wide (picture_shape old.sequence) ≡ false
@@ -35,14 +37,16 @@ abbrev pub raw_frame : PlayState → StreamPicture → List ℕ
 raw_frame k p = raw_frames k.sequence (new_frames k.sequence k.waiting p)
 
 -- a picture was taken, and the frame that it brings went out
-pub record IsShown (body : List ℕ) (old new : PlayState) (before after : Option (List ℕ)) : Type 0 where
+pub record IsShown (body : List ℕ) (old new : PlayState) (before after : Option (List ℕ))
+    : Type 0 where
   pub picture : StreamPicture
   pub read : picture_in old.sequence body ≡ Some picture
   pub state : new ≡ shown old picture
   pub grew : Grew before after (raw_frame old picture)
 
 -- a picture was taken, and a prefix of the frame that it brings went out
-pub record IsPartlyShown (body : List ℕ) (old : PlayState) (before after : Option (List ℕ)) : Type 0 where
+pub record IsPartlyShown (body : List ℕ) (old : PlayState) (before after : Option (List ℕ))
+    : Type 0 where
   pub picture : StreamPicture
   pub read : picture_in old.sequence body ≡ Some picture
   pub grew : GrewBySome before after (raw_frame old picture)
@@ -63,7 +67,8 @@ agreed_state None (Ok read) = Some (stream_state (record { sequence = read.0; pi
 agreed_state (Some k) (Ok read) = if same_sequence k.sequence read.0 then Some k else None
 
 -- a header was taken, or refused
-abbrev pub Agrees : Result (Sequence × ℕ) HeaderRefusal → Playing → Playing → Result (Unit {0}) TakeFault → Type 0
+abbrev pub Agrees : Result (Sequence × ℕ) HeaderRefusal → Playing → Playing
+    → Result (Unit {0}) TakeFault → Type 0
 Agrees header old new (Ok done) =
     (k : PlayState) × (agreed_state old.kept header ≡ Some k) × (new ≡ record old { kept = Some k })
 Agrees header old new (Err faults.Refused) = agreed_state old.kept header ≡ None

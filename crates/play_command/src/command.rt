@@ -57,10 +57,13 @@ fn play_units<S: Source, O: Sink>(
     output: &mut O,
 ) -> Result<Stop, Ending>
     requires { player_of player.old ≡ playing_of at_start }
-    ensures ended { LoopEnded packets result (player_of player.new) (input_of S.left S.faults input.old input.new)
+    ensures ended { LoopEnded packets result (player_of player.new)
+        (input_of S.left S.faults input.old input.new)
         (output_of O.held O.faults output.old output.new) }
-    ensures input_cause { HasCause (S.faults input.old) (S.faults input.new) (result ≡ Err Ending.InputFailed) }
-    ensures output_cause { HasCause (O.faults output.old) (O.faults output.new) (result ≡ Err Ending.OutputFailed) }
+    ensures input_cause { HasCause (S.faults input.old) (S.faults input.new)
+        (result ≡ Err Ending.InputFailed) }
+    ensures output_cause { HasCause (O.faults output.old) (O.faults output.new)
+        (result ≡ Err Ending.OutputFailed) }
 {
     let mut reader = UnitReader::new(alloc, input);
     play_with(alloc, packets, player, &mut reader, output)
@@ -82,7 +85,8 @@ fn play_with<S: Source, O: Sink>(
         (output_of O.held O.faults output.old output.new) }
     ensures input_cause { HasCause (S.faults reader.old.source.now) (S.faults reader.new.source.now)
         (result ≡ Err Ending.InputFailed) }
-    ensures output_cause { HasCause (O.faults output.old) (O.faults output.new) (result ≡ Err Ending.OutputFailed) }
+    ensures output_cause { HasCause (O.faults output.old) (O.faults output.new)
+        (result ≡ Err Ending.OutputFailed) }
 {
     for _unit in 0..packets {
         let place = player.place;

@@ -31,7 +31,8 @@ pub(crate) struct Playback {
 impl Playback {
     /// A stream without pictures.
     pub(crate) fn new(header: Header) -> Playback
-        ensures { playback_state result ≡ stream_state (record { sequence = sequence_of header; pictures = [] }) }
+        ensures { playback_state result
+            ≡ stream_state (record { sequence = sequence_of header; pictures = [] }) }
     {
         Playback {
             header,
@@ -50,9 +51,12 @@ impl Playback {
     ) -> Result<(), TakeFault>
         requires few { (self.old.pictures < 2 ^ 32) × (self.old.frames ≤ self.old.pictures) }
         requires shape { HasShape (playback_state self.old) }
-        ensures value { Shows body.items (playback_state self.old) (playback_state self.new) (O.held output.old) (O.held output.new) result }
-        ensures cause { HasCause (O.faults output.old) (O.faults output.new) (result ≡ Err TakeFault.WriteFault) }
-        ensures few { OnOk result ((self.new.pictures ≡ self.old.pictures + 1) × (self.new.frames ≤ self.new.pictures)) }
+        ensures value { Shows body.items (playback_state self.old) (playback_state self.new)
+            (O.held output.old) (O.held output.new) result }
+        ensures cause { HasCause (O.faults output.old) (O.faults output.new)
+            (result ≡ Err TakeFault.WriteFault) }
+        ensures few { OnOk result ((self.new.pictures ≡ self.old.pictures + 1)
+            × (self.new.frames ≤ self.new.pictures)) }
         ensures shape { OnOk result (HasShape (playback_state self.new)) }
     {
         let Some(picture) = read_picture(alloc, &self.header, body)? else {
@@ -83,8 +87,10 @@ impl Playback {
     // The frame that a picture completes: itself or, with field coding, the field that waits and it.
     fn completed(&mut self, alloc: Global, picture: Picture) -> Result<Option<[Plane; 3]>, NoMemory>
         requires shape { HasShape (playback_state self.old) }
-        requires picture { HaveShape (picture_shape (sequence_of self.old.header)) (planes_in picture.planes) }
-        ensures value { IfOk result (Completes (playback_state self.old) (picture_of picture) (playback_state self.new)) }
+        requires picture { HaveShape (picture_shape (sequence_of self.old.header))
+            (planes_in picture.planes) }
+        ensures value { IfOk result
+            (Completes (playback_state self.old) (picture_of picture) (playback_state self.new)) }
         ensures shape { OnOk result (HasShape (playback_state self.new)) }
     {
         if !self.header.fields {

@@ -49,9 +49,14 @@ impl Player {
     ) -> Result<(), TakeFault>
         requires few { IsWithin (2 ^ 32 - 1) (player_of self.old) }
         requires near { self.old.place < 2 ^ 62 }
-        ensures brought { (stream : Option Stream) → (player_of self.old).kept ≡ option_map stream_state stream → Brought stream (unit_of unit) (player_of self.new).kept (O.held output.old) (O.held output.new) result }
-        ensures cause { HasCause (O.faults output.old) (O.faults output.new) (result ≡ Err TakeFault.WriteFault) }
-        ensures few { OnOk result ((n : ℕ) → IsWithin n (player_of self.old) → IsWithin (n + 1) (player_of self.new)) }
+        ensures brought { (stream : Option Stream)
+            → (player_of self.old).kept ≡ option_map stream_state stream
+            → Brought stream (unit_of unit) (player_of self.new).kept
+                (O.held output.old) (O.held output.new) result }
+        ensures cause { HasCause (O.faults output.old) (O.faults output.new)
+            (result ≡ Err TakeFault.WriteFault) }
+        ensures few { OnOk result ((n : ℕ)
+            → IsWithin n (player_of self.old) → IsWithin (n + 1) (player_of self.new)) }
         ensures place { OnOk result (self.new.place ≡ self.old.place + unit_length (unit_of unit)) }
         ensures stays { OnErr result (self.new.place ≡ self.old.place) }
     {
@@ -63,9 +68,14 @@ impl Player {
 
     fn bring<O: Sink>(&mut self, alloc: Global, unit: Unit, output: &mut O) -> Result<(), TakeFault>
         requires few { IsWithin (2 ^ 32 - 1) (player_of self.old) }
-        ensures brought { (stream : Option Stream) → (player_of self.old).kept ≡ option_map stream_state stream → Brought stream (unit_of unit) (player_of self.new).kept (O.held output.old) (O.held output.new) result }
-        ensures cause { HasCause (O.faults output.old) (O.faults output.new) (result ≡ Err TakeFault.WriteFault) }
-        ensures few { OnOk result ((n : ℕ) → IsWithin n (player_of self.old) → IsWithin (n + 1) (player_of self.new)) }
+        ensures brought { (stream : Option Stream)
+            → (player_of self.old).kept ≡ option_map stream_state stream
+            → Brought stream (unit_of unit) (player_of self.new).kept
+                (O.held output.old) (O.held output.new) result }
+        ensures cause { HasCause (O.faults output.old) (O.faults output.new)
+            (result ≡ Err TakeFault.WriteFault) }
+        ensures few { OnOk result ((n : ℕ)
+            → IsWithin n (player_of self.old) → IsWithin (n + 1) (player_of self.new)) }
         ensures place { self.new.place ≡ self.old.place }
     {
         match unit.code {
@@ -99,7 +109,8 @@ impl Player {
 
     // Takes a sequence header: the first, or one of the same value.
     fn agree(&mut self, body: &[u8]) -> Result<(), TakeFault>
-        ensures value { Agrees (coded_header body.now) (player_of self.old) (player_of self.new) result }
+        ensures value { Agrees (coded_header body.now)
+            (player_of self.old) (player_of self.new) result }
         ensures err { OnErr result (self.new ≡ self.old) }
     {
         let Ok((header, _)) = read_header(body) else {

@@ -18,7 +18,8 @@ pub record GaveLast (Holds : List ℕ → Type 0) (before after : Option (List �
   pub at_end : IsAtEnd after
 
 -- a head, and fewer bytes behind it than it tells
-pub record IsHeadAndPart {R : Type 0} (size : ℕ) (told : List ℕ → Result ℕ R) (part : List ℕ) : Type 0 where
+pub record IsHeadAndPart {R : Type 0} (size : ℕ) (told : List ℕ → Result ℕ R) (part : List ℕ)
+    : Type 0 where
   pub head : List ℕ
   pub body : List ℕ
   pub is : part ≡ head ++ body
@@ -32,21 +33,25 @@ abbrev pub IsPart : {R : Type 0} → ℕ → (List ℕ → Result ℕ R) → Lis
 IsPart size told part = (length part < size) ⊎ IsHeadAndPart size told part
 
 -- what a read of a frame did to its source, by what came to the head and by the answer
-abbrev pub ReadsFrame : {R : Type 0} → (List ℕ → Result ℕ R) → Option (List ℕ) → Option (List ℕ) → List ℕ → Result (Option (Vec ℕ)) (FrameFault R) → Type 0
-ReadsFrame told before after head (Ok (Some body)) = (told head ≡ Ok (length body.items)) × Gave before after (head ++ body.items)
+abbrev pub ReadsFrame : {R : Type 0} → (List ℕ → Result ℕ R) → Option (List ℕ) → Option (List ℕ)
+    → List ℕ → Result (Option (Vec ℕ)) (FrameFault R) → Type 0
+ReadsFrame told before after head (Ok (Some body)) =
+    (told head ≡ Ok (length body.items)) × Gave before after (head ++ body.items)
 ReadsFrame told before after head (Ok None) = GaveAll before after []
-ReadsFrame told before after head (Err (Refused why)) = (told head ≡ Err why) × Gave before after head
+ReadsFrame told before after head (Err (Refused why)) =
+    (told head ≡ Err why) × Gave before after head
 ReadsFrame told before after head (Err Cut) = GaveLast (IsPart (length head) told) before after
 ReadsFrame told before after head (Err Failed) = GaveSome (IsPart (length head) told) before after
 ReadsFrame told before after head (Err NoMemory) = GaveSome (IsPart (length head) told) before after
 
 -- the bytes of the frames that were read whole, after an answer
-abbrev pub place_after : {R : Type 0} → ℕ → ℕ → Result (Option (Vec ℕ)) (FrameFault R) → ℕ
-place_after place size (Ok (Some body)) = place + size + length body.items
-place_after place size answer = place
+abbrev pub place_after_frame : {R : Type 0} → ℕ → ℕ → Result (Option (Vec ℕ)) (FrameFault R) → ℕ
+place_after_frame place size (Ok (Some body)) = place + size + length body.items
+place_after_frame place size answer = place
 
 -- the fault that stands after an answer
-abbrev pub fault_after : {R : Type 0} → Option (FrameFault R) → Result (Option (Vec ℕ)) (FrameFault R) → Option (FrameFault R)
-fault_after (Some fault) answer = Some fault
-fault_after None (Err fault) = Some fault
-fault_after None (Ok frame) = None
+abbrev pub fault_after_frame : {R : Type 0} → Option (FrameFault R)
+    → Result (Option (Vec ℕ)) (FrameFault R) → Option (FrameFault R)
+fault_after_frame (Some fault) answer = Some fault
+fault_after_frame None (Err fault) = Some fault
+fault_after_frame None (Ok frame) = None

@@ -1,7 +1,7 @@
 ghost use Rattle.std.specs.Prelude.{◌≡◌, ◌+◌, ◌<◌, ◌≤◌, ◌^◌, ℕ, List, length, slice_index, None, Err, IfNone, IfSome, IfOk};
 ghost use Rattle.std.specs.declared.result.Result.{Result};
 ghost use Rattle.vc_ports.specs.Faults.{HasCause};
-ghost use Rattle.vc_ports.specs.Framed.{ReadsFrame, place_after, fault_after};
+ghost use Rattle.vc_ports.specs.Framed.{ReadsFrame, place_after_frame, fault_after_frame};
 
 use crate::source::Source;
 use crate::whole::{Filled, fill};
@@ -91,13 +91,14 @@ pub fn next_frame<S: Source, F: Framing>(
     ensures frame { IfNone r.old.fault
         (ReadsFrame F.told (S.left r.old.source.now) (S.left r.new.source.now) head.new result) }
     ensures cause { IfNone r.old.fault
-        (HasCause (S.faults r.old.source.now) (S.faults r.new.source.now) (result ≡ Err FrameFault.Failed)) }
+        (HasCause (S.faults r.old.source.now) (S.faults r.new.source.now)
+            (result ≡ Err FrameFault.Failed)) }
     ensures again { IfSome r.old.fault
         (λ fault. (result ≡ Err fault) × (r.new.source.now ≡ r.old.source.now)) }
     ensures bytes { (i : ℕ) → slice_index head.new i < 256 }
-    ensures place { r.new.place ≡ place_after r.old.place F.head_size result }
+    ensures place { r.new.place ≡ place_after_frame r.old.place F.head_size result }
     ensures grows { r.new.place ≤ r.old.place + F.head_size + F.longest }
-    ensures fault { r.new.fault ≡ fault_after r.old.fault result }
+    ensures fault { r.new.fault ≡ fault_after_frame r.old.fault result }
 {
     if let Some(fault) = r.fault {
         return Err(fault);
@@ -119,7 +120,8 @@ fn read_frame<S: Source, F: Framing>(
 ) -> Result<Option<Vec<u8>>, FrameFault<F::Refusal>>
     requires size { (0 < length head.old) × (length head.old ≡ F.head_size) }
     ensures frame { ReadsFrame F.told (S.left source.old) (S.left source.new) head.new result }
-    ensures cause { HasCause (S.faults source.old) (S.faults source.new) (result ≡ Err FrameFault.Failed) }
+    ensures cause { HasCause (S.faults source.old) (S.faults source.new)
+        (result ≡ Err FrameFault.Failed) }
     ensures within { IfOk result (λ body. IfSome body (λ bytes. length bytes.items ≤ F.longest)) }
 {
     match fill(source, head) {

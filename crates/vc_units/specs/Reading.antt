@@ -31,8 +31,10 @@ abbrev pub AreShort : List ℕ → Type 0
 AreShort bytes = data_unit bytes ≡ Err Short
 
 -- what a read of the unit at a place did to its source, by the answer
-abbrev pub ReadsUnit : Option (List ℕ) → Option (List ℕ) → ℕ → Result (Option unit.Unit) UnitFault → Type 0
-ReadsUnit before after place (Ok (Some u)) = (u.at ≡ place) × GaveSome (IsUnit (unit_of u)) before after
+abbrev pub ReadsUnit : Option (List ℕ) → Option (List ℕ) → ℕ → Result (Option unit.Unit) UnitFault
+    → Type 0
+ReadsUnit before after place (Ok (Some u)) =
+    (u.at ≡ place) × GaveSome (IsUnit (unit_of u)) before after
 ReadsUnit before after place (Ok None) = GaveAll before after []
 ReadsUnit before after place (Err Prefix) = GaveSome (IsRefusedInfo Prefix) before after
 ReadsUnit before after place (Err Offset) = GaveSome (IsRefusedInfo Offset) before after
@@ -42,9 +44,9 @@ ReadsUnit before after place (Err ReadFault) = GaveSome AreShort before after
 ReadsUnit before after place (Err NoMemory) = GaveSome AreShort before after
 
 -- the bytes of the units that were read whole, after an answer
-abbrev pub place_after : ℕ → Result (Option unit.Unit) UnitFault → ℕ
-place_after place (Ok (Some u)) = place + unit_length (unit_of u)
-place_after place answer = place
+abbrev pub place_after_unit : ℕ → Result (Option unit.Unit) UnitFault → ℕ
+place_after_unit place (Ok (Some u)) = place + unit_length (unit_of u)
+place_after_unit place answer = place
 
 -- what is answered where no unit is read
 abbrev pub unit_fault : FrameFault InfoRefusal → UnitFault
@@ -54,16 +56,16 @@ unit_fault frames.Failed = ReadFault
 unit_fault frames.NoMemory = NoMemory
 
 -- the fault that stands after an answer
-abbrev pub frame_fault : UnitFault → FrameFault InfoRefusal
-frame_fault Prefix = frames.Refused infos.Prefix
-frame_fault Offset = frames.Refused infos.Offset
-frame_fault Code = frames.Refused infos.Code
-frame_fault Short = frames.Cut
-frame_fault ReadFault = frames.Failed
-frame_fault NoMemory = frames.NoMemory
+abbrev pub unit_frame_fault : UnitFault → FrameFault InfoRefusal
+unit_frame_fault Prefix = frames.Refused infos.Prefix
+unit_frame_fault Offset = frames.Refused infos.Offset
+unit_frame_fault Code = frames.Refused infos.Code
+unit_frame_fault Short = frames.Cut
+unit_frame_fault ReadFault = frames.Failed
+unit_frame_fault NoMemory = frames.NoMemory
 
-abbrev pub fault_after : Option (FrameFault InfoRefusal) → Result (Option unit.Unit) UnitFault
+abbrev pub fault_after_unit : Option (FrameFault InfoRefusal) → Result (Option unit.Unit) UnitFault
     → Option (FrameFault InfoRefusal)
-fault_after (Some fault) answer = Some fault
-fault_after None (Err fault) = Some (frame_fault fault)
-fault_after None (Ok unit) = None
+fault_after_unit (Some fault) answer = Some fault
+fault_after_unit None (Err fault) = Some (unit_frame_fault fault)
+fault_after_unit None (Ok unit) = None

@@ -1,6 +1,6 @@
 ghost use Rattle.std.specs.Prelude.{◌≡◌, ◌+◌, ◌<◌, ◌≤◌, ◌^◌, Err, IfNone, IfSome};
 ghost use Rattle.vc_ports.specs.Faults.{HasCause};
-ghost use Rattle.vc_units.specs.Reading.{ReadsUnit, unit_fault, place_after, fault_after};
+ghost use Rattle.vc_units.specs.Reading.{ReadsUnit, unit_fault, place_after_unit, fault_after_unit};
 ghost use Rattle.vc_units.specs.Units.{body_length};
 
 use crate::fault::{InfoRefusal, UnitFault};
@@ -61,12 +61,13 @@ pub fn next_unit<S: Source>(r: &mut UnitReader<S>) -> Result<Option<Unit>, UnitF
     ensures unit { IfNone r.old.fault
         (ReadsUnit (S.left r.old.source.now) (S.left r.new.source.now) r.old.place result) }
     ensures cause { IfNone r.old.fault
-        (HasCause (S.faults r.old.source.now) (S.faults r.new.source.now) (result ≡ Err UnitFault.ReadFault)) }
+        (HasCause (S.faults r.old.source.now) (S.faults r.new.source.now)
+            (result ≡ Err UnitFault.ReadFault)) }
     ensures again { IfSome r.old.fault
         (λ fault. (result ≡ Err (unit_fault fault)) × (r.new.source.now ≡ r.old.source.now)) }
-    ensures place { r.new.place ≡ place_after r.old.place result }
+    ensures place { r.new.place ≡ place_after_unit r.old.place result }
     ensures grows { r.new.place ≤ r.old.place + 268435456 }
-    ensures fault { r.new.fault ≡ fault_after r.old.fault result }
+    ensures fault { r.new.fault ≡ fault_after_unit r.old.fault result }
 {
     let at = r.place();
     let mut info = [0; PARSE_INFO_BYTES];
