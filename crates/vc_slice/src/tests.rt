@@ -15,6 +15,8 @@ use std::test::Fail;
 use vc_geometry::slice_len;
 use vc_types::{Component, Plan, Shape};
 
+mod worked;
+
 // 8 by 4, two slices side by side.
 fn two_slices() -> Plan {
     Plan {
