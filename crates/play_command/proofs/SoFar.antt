@@ -9,43 +9,30 @@ use Rattle.play_command.specs.Taking.{Brings}
 use Rattle.play_command.proofs.Bringing.{played-header}
 use Rattle.play_command.proofs.Showing.{played-more}
 
--- a unit that is taken, behind others
-taken-from : (start : StreamSoFar) (units : List DataUnit) (u : DataUnit) (h : StreamSoFar) (stream : Option Stream) → all_taken start units ≡ (h, false) → takes h.stream u ≡ Some stream → all_taken start (units ++ u ∷ []) ≡ (after_unit h u stream, false)
+-- a unit behind others that are taken
+behind-others : (start : StreamSoFar) (units : List DataUnit) (u : DataUnit) (h : StreamSoFar) → all_taken start units ≡ (h, false) → all_taken start (units ++ u ∷ []) ≡ all_taken h (u ∷ [])
 unfolding all_taken
-taken-from start [] u h stream e t =
-    let same : start ≡ h = ap (λ (x : StreamSoFar × Bool). x.0) e in
-    rw (same, t) refl
-taken-from start (first ∷ units) u h stream e t = go (takes start.stream first) refl (λ next k. taken-from (after_unit start first next) units u h stream k t)
+behind-others start [] u h e = ap (λ (x : StreamSoFar × Bool). all_taken x.0 (u ∷ [])) e
+behind-others start (first ∷ units) u h e = go (takes start.stream first) refl (λ next k. behind-others (after_unit start first next) units u h k)
   where
     none_is : ◌≡◌ {A = StreamSoFar × Bool} (start, true) (h, false) → ⊥
     none_is k = (let other = ap (λ (x : StreamSoFar × Bool). x.1) k in cc)
 
-    go : (found : Option (Option Stream)) → takes start.stream first ≡ found → ((next : Option Stream) → all_taken (after_unit start first next) units ≡ (h, false) → all_taken (after_unit start first next) (units ++ u ∷ []) ≡ (after_unit h u stream, false))
-        → all_taken start ((first ∷ units) ++ u ∷ []) ≡ (after_unit h u stream, false)
+    go : (found : Option (Option Stream)) → takes start.stream first ≡ found
+        → ((next : Option Stream) → all_taken (after_unit start first next) units ≡ (h, false) → all_taken (after_unit start first next) (units ++ u ∷ []) ≡ all_taken h (u ∷ []))
+        → all_taken start ((first ∷ units) ++ u ∷ []) ≡ all_taken h (u ∷ [])
     go None is rest = absurd (none_is (rw is at e))
     go (Some next) is rest = rw is (rest next (rw is at e))
 
+-- it is taken
 pub so_far-taken : (units : List DataUnit) (u : DataUnit) (h : StreamSoFar) (stream : Option Stream) → units_taken units ≡ (h, false) → takes h.stream u ≡ Some stream → units_taken (units ++ u ∷ []) ≡ (after_unit h u stream, false)
-so_far-taken units u h stream e t = taken-from at_start units u h stream e t
-
--- a unit that is refused, behind others
-refused-from : (start : StreamSoFar) (units : List DataUnit) (u : DataUnit) (h : StreamSoFar) → all_taken start units ≡ (h, false) → takes h.stream u ≡ None → all_taken start (units ++ u ∷ []) ≡ (h, true)
 unfolding all_taken
-refused-from start [] u h e t =
-    let same : start ≡ h = ap (λ (x : StreamSoFar × Bool). x.0) e in
-    rw (same, t) refl
-refused-from start (first ∷ units) u h e t = go (takes start.stream first) refl (λ next k. refused-from (after_unit start first next) units u h k t)
-  where
-    none_is : ◌≡◌ {A = StreamSoFar × Bool} (start, true) (h, false) → ⊥
-    none_is k = (let other = ap (λ (x : StreamSoFar × Bool). x.1) k in cc)
+so_far-taken units u h stream e t = behind-others at_start units u h e ∙ rw t refl
 
-    go : (found : Option (Option Stream)) → takes start.stream first ≡ found → ((next : Option Stream) → all_taken (after_unit start first next) units ≡ (h, false) → all_taken (after_unit start first next) (units ++ u ∷ []) ≡ (h, true))
-        → all_taken start ((first ∷ units) ++ u ∷ []) ≡ (h, true)
-    go None is rest = absurd (none_is (rw is at e))
-    go (Some next) is rest = rw is (rest next (rw is at e))
-
+-- it is refused
 pub so_far-refused : (units : List DataUnit) (u : DataUnit) (h : StreamSoFar) → units_taken units ≡ (h, false) → takes h.stream u ≡ None → units_taken (units ++ u ∷ []) ≡ (h, true)
-so_far-refused units u h e t = refused-from at_start units u h e t
+unfolding all_taken
+so_far-refused units u h e t = behind-others at_start units u h e ∙ rw t refl
 
 -- ---- what is written only grows
 

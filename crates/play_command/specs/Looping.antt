@@ -54,7 +54,7 @@ HasPlayedUnits packets Ended input output h =
     HasEnded packets input.left.before input.left.after output.held.before output.held.after h
 HasPlayedUnits packets AtLimit input output h =
     IsBehind packets packets
-        input.left.before input.left.after output.held.before output.held.after h
+    input.left.before input.left.after output.held.before output.held.after h
 
 -- the loop stopped without a fault; what came, and what the player keeps
 pub record HasStopped
@@ -86,4 +86,4 @@ unpaired_of k = if k.sequence.fields then k.pictures - 2 * k.frames else 0
 abbrev pub summary_of : Playing → Summary
 summary_of p =
     option_map_or (λ k. summaries.Played k.pictures (unpaired_of k) k.frames)
-        p.kept (summaries.Played 0 0 0)
+    p.kept (summaries.Played 0 0 0)

@@ -83,9 +83,9 @@ shows body stream = option_map (with_picture stream) (picture_in stream.sequence
 unfoldable pub takes : Option Stream → DataUnit → Option (Option Stream)
 takes stream u =
     if u.code == header_code then
-      option_map (λ next. Some next) (with_header stream (coded_header u.body))
+    option_map (λ next. Some next) (with_header stream (coded_header u.body))
     else if u.code == picture_code then
-      option_map (λ next. Some next) (option_and_then (shows u.body) stream)
+    option_map (λ next. Some next) (option_and_then (shows u.body) stream)
     else Some stream
 
 -- what came up to now, and the place of the next unit
@@ -148,5 +148,5 @@ frames_in stream = option_map_or (λ s. length (stream_frames s)) stream 0
 abbrev pub unpaired_in : Option Stream → ℕ
 unpaired_in stream =
     option_map_or
-        (λ s. if s.sequence.fields then length s.pictures - 2 * length (stream_frames s) else 0)
-        stream 0
+    (λ s. if s.sequence.fields then length s.pictures - 2 * length (stream_frames s) else 0)
+    stream 0

@@ -25,9 +25,10 @@ pub(crate) enum Stop {
     AtLimit,
 }
 
-/// Plays an elementary stream: reads at most so many data units, up to an end of sequence or the end of the input, and
-/// writes the raw frames that its pictures make, each as soon as it stands (ST 2042-1, sequence; raw frames are this
-/// project's own). It keeps one unit, one picture and at most one earlier field.
+/// Plays an elementary stream: reads at most so many data units, up to an end of sequence, a unit that is refused or the
+/// end of the input, and writes the raw frames that its pictures make (ST 2042-1, sequence; raw frames are this project's
+/// own). A frame goes out as soon as it stands, and one unit, one picture and at most one earlier field are kept, which no
+/// clause says.
 pub fn play<S: Source, O: Sink>(
     alloc: Global,
     packets: u32,

@@ -52,7 +52,7 @@ impl Player {
         ensures brought { (stream : Option Stream)
             → (player_of self.old).kept ≡ option_map stream_state stream
             → Brought stream (unit_of unit) (player_of self.new).kept
-                (O.held output.old) (O.held output.new) result }
+            (O.held output.old) (O.held output.new) result }
         ensures cause { HasCause (O.faults output.old) (O.faults output.new)
             (result ≡ Err TakeFault.WriteFault) }
         ensures few { OnOk result ((n : ℕ)
@@ -71,7 +71,7 @@ impl Player {
         ensures brought { (stream : Option Stream)
             → (player_of self.old).kept ≡ option_map stream_state stream
             → Brought stream (unit_of unit) (player_of self.new).kept
-                (O.held output.old) (O.held output.new) result }
+            (O.held output.old) (O.held output.new) result }
         ensures cause { HasCause (O.faults output.old) (O.faults output.new)
             (result ≡ Err TakeFault.WriteFault) }
         ensures few { OnOk result ((n : ℕ)
