@@ -9,7 +9,7 @@ use Rattle.vc_types.specs.declared.refusal.HeaderRefusal.{HeaderRefusal}
 use Rattle.vc_types.specs.DataUnits.{DataUnit}
 use Rattle.play_command.specs.declared.fault.TakeFault.{TakeFault}
 use Rattle.play_command.specs.declared.fault.TakeFault.TheVariants as faults
-use Rattle.play_command.specs.Steps.{PlayState, stream_state, shown, new_frames, Playing}
+use Rattle.play_command.specs.Steps.{PlayState, stream_state, shown, new_frames}
 use Rattle.play_command.specs.Stream.{Stream, StreamPicture, same_sequence, with_header, with_picture, picture_in, shows, takes, played, paired_frames, raw_frames}
 use Rattle.play_command.specs.Taking.{agreed_state, Agrees, raw_frame, Shows, Brings, Brought, HasAtMost, IsWithin}
 use Rattle.play_command.proofs.Showing.{begun, shown-kept, played-more}
@@ -123,43 +123,37 @@ brings-picture (Some s) u k new before after result code is shown =
     brings-shown s u code new before after result (rw same at shown)
 
 -- a header
-pub brings-agreed : (stream : Option Stream) (u : DataUnit) (old new : Playing) (before : Option (List ℕ)) (result : Result (Unit {0}) TakeFault) → u.code ≡ 0 → old.kept ≡ kept_in stream
-    → Agrees (coded_header u.body) old new result → Brought stream u new.kept before before result
-brings-agreed stream u old new before (Ok done) code is (k, e, now) = rw now (brings-header stream u before old.kept k code is e)
-brings-agreed stream u old new before (Err faults.Refused) code is e = brings-no-header stream u before old.kept new.kept code is e
+pub brings-agreed : (stream : Option Stream) (u : DataUnit) (old new : Option PlayState) (before : Option (List ℕ)) (result : Result (Unit {0}) TakeFault) → u.code ≡ 0 → old ≡ kept_in stream
+    → Agrees (coded_header u.body) old new result → Brought stream u new before before result
+brings-agreed stream u old new before (Ok done) code is (k, e, now) = rw now (brings-header stream u before old k code is e)
+brings-agreed stream u old new before (Err faults.Refused) code is e = brings-no-header stream u before old new code is e
 brings-agreed stream u old new before (Err faults.WriteFault) code is none = absurd none
 brings-agreed stream u old new before (Err faults.NoMemory) code is none = absurd none
 
 -- ---- how much is kept
 
-pub kept_more : (n : ℕ) (k : PlayState) → HasAtMost n k → HasAtMost (n + 1) k
+kept_more : (n : ℕ) (k : PlayState) → HasAtMost n k → HasAtMost (n + 1) k
 kept_more n k is = record { pictures = omega (arith, is.pictures); frames = is.frames; shape = is.shape }
 
-pub within_more : (n : ℕ) (player : Playing) → IsWithin n player → IsWithin (n + 1) player
-within_more n player within = more player.kept within
-  where
-    more : (kept : Option PlayState) → IfSome kept (HasAtMost n) → IfSome kept (HasAtMost (n + 1))
-    more None h = h
-    more (Some k) h = kept_more n k h
+pub within_more : (n : ℕ) (kept : Option PlayState) → IsWithin n kept → IsWithin (n + 1) kept
+within_more n None h = h
+within_more n (Some k) h = kept_more n k h
 
-nothing_kept : (n : ℕ) (s : Sequence) → HasAtMost n (stream_state (record { sequence = s; pictures = [] }))
-nothing_kept n s = subst (HasAtMost n) (begun s) (record { pictures = omega arith; frames = omega arith; shape = tt })
+none_yet : (n : ℕ) (s : Sequence) → HasAtMost n (stream_state (record { sequence = s; pictures = [] }))
+none_yet n s = subst (HasAtMost n) (begun s) (record { pictures = omega arith; frames = omega arith; shape = tt })
 
 same_by : (same : Bool) (k next : PlayState) → (if same then Some k else None) ≡ Some next → k ≡ next
 same_by true k next e = cc
 same_by false k next e = absurd cc
 
-kept_agreed : (n : ℕ) (kept : Option PlayState) (header : Coded) (k : PlayState) → agreed_state kept header ≡ Some k → IfSome kept (HasAtMost n) → HasAtMost (n + 1) k
+kept_agreed : (n : ℕ) (kept : Option PlayState) (header : Coded) (k : PlayState) → agreed_state kept header ≡ Some k → IsWithin n kept → HasAtMost (n + 1) k
 kept_agreed n kept (Err refusal) k e h = absurd cc
-kept_agreed n None (Ok read) k e h = subst (HasAtMost (n + 1)) (some_is e) (nothing_kept (n + 1) read.0)
+kept_agreed n None (Ok read) k e h = subst (HasAtMost (n + 1)) (some_is e) (none_yet (n + 1) read.0)
   where
     some_is : {a b : PlayState} → Some a ≡ Some b → a ≡ b
     some_is e = cc
 kept_agreed n (Some was) (Ok read) k e h = subst (HasAtMost (n + 1)) (same_by (same_sequence was.sequence read.0) was k e) (kept_more n was h)
 
-agrees-within : (n : ℕ) (old new : Playing) (header : Coded) → Agrees header old new (Ok tt) → IsWithin n old → IsWithin (n + 1) new
-agrees-within n old new header (k, e, now) h = rw now (kept_agreed n old.kept header k e h)
-
-pub agrees-few : (old new : Playing) (header : Coded) (result : Result (Unit {0}) TakeFault) → Agrees header old new result → OnOk result ((n : ℕ) → IsWithin n old → IsWithin (n + 1) new)
-agrees-few old new header (Ok done) agrees = λ n h. agrees-within n old new header agrees h
+pub agrees-few : (old new : Option PlayState) (header : Coded) (result : Result (Unit {0}) TakeFault) → Agrees header old new result → OnOk result ((n : ℕ) → IsWithin n old → IsWithin (n + 1) new)
+agrees-few old new header (Ok done) (k, e, now) = λ n h. rw now (kept_agreed n old header k e h)
 agrees-few old new header (Err fault) agrees = tt

@@ -13,7 +13,7 @@ use Rattle.link_report.specs.declared.summary.Summary.TheVariants as summaries
 use Rattle.play_command.specs.declared.command.Stop.{Stop}
 use Rattle.play_command.specs.declared.command.Stop.TheVariants.{Ended, AtLimit}
 use Rattle.play_command.specs.Playing.{PlayEnded, unit_split}
-use Rattle.play_command.specs.Steps.{PlayState, Playing, playing_of}
+use Rattle.play_command.specs.Steps.{PlayState, state_so_far}
 use Rattle.play_command.specs.Stream.{StreamSoFar, units_taken, played}
 use Rattle.play_command.specs.Taking.{IsWithin}
 
@@ -56,13 +56,13 @@ HasPlayedUnits packets AtLimit input output h =
     IsBehind packets packets
     input.left.before input.left.after output.held.before output.held.after h
 
--- the loop stopped without a fault; what came, and what the player keeps
+-- the loop stopped without a fault; what came, and what is kept of it
 pub record HasStopped
-    (packets : ℕ) (stop : Stop) (player : Playing) (input : InputChange) (output : OutputChange)
+    (packets : ℕ) (stop : Stop) (kept : Option PlayState) (input : InputChange) (output : OutputChange)
     : Type 0 where
   pub so_far : StreamSoFar
-  pub keeps : player ≡ playing_of so_far
-  pub few : IsWithin (2 ^ 32 - 1) player
+  pub keeps : kept ≡ state_so_far so_far
+  pub few : IsWithin (2 ^ 32 - 1) kept
   pub units : HasPlayedUnits packets stop input output so_far
 
 -- the units ended in this way, whatever the causes
@@ -74,16 +74,16 @@ pub record Stops
   pub ended : PlayEnded packets answer input output (unit_split packets given)
 
 -- what a loop over the units did
-abbrev pub LoopEnded : ℕ → Result Stop Ending → Playing → InputChange → OutputChange → Type 0
-LoopEnded packets (Ok stop) player input output = HasStopped packets stop player input output
-LoopEnded packets (Err ending) player input output = Stops packets (Err ending) input output
+abbrev pub LoopEnded : ℕ → Result Stop Ending → Option PlayState → InputChange → OutputChange → Type 0
+LoopEnded packets (Ok stop) kept input output = HasStopped packets stop kept input output
+LoopEnded packets (Err ending) kept input output = Stops packets (Err ending) input output
 
 -- ---- what is said of it
 
 abbrev pub unpaired_of : PlayState → ℕ
 unpaired_of k = if k.sequence.fields then k.pictures - 2 * k.frames else 0
 
-abbrev pub summary_of : Playing → Summary
-summary_of p =
+abbrev pub summary_of : Option PlayState → Summary
+summary_of kept =
     option_map_or (λ k. summaries.Played k.pictures (unpaired_of k) k.frames)
-    p.kept (summaries.Played 0 0 0)
+    kept (summaries.Played 0 0 0)

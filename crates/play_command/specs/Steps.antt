@@ -56,10 +56,6 @@ stream_state s = record {
   frames = length (stream_frames s);
 }
 
--- the player between two units: what it keeps once a header came, and the place of the next unit
-pub record Playing : Type 0 where
-  pub kept : Option PlayState
-  pub place : ℕ
-
-abbrev pub playing_of : StreamSoFar → Playing
-playing_of h = record { kept = option_map stream_state h.stream; place = h.place }
+-- what is kept of what came up to now, once a header came
+abbrev pub state_so_far : StreamSoFar → Option PlayState
+state_so_far h = option_map stream_state h.stream

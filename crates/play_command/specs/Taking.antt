@@ -12,7 +12,7 @@ use Rattle.vc_types.specs.DataUnits.{DataUnit}
 use Rattle.play_command.specs.declared.fault.TakeFault.{TakeFault}
 use Rattle.play_command.specs.declared.fault.TakeFault.TheVariants as faults
 use Rattle.play_command.specs.Shapes.{HaveShape}
-use Rattle.play_command.specs.Steps.{PlayState, stream_state, Playing, shown, new_frames}
+use Rattle.play_command.specs.Steps.{PlayState, stream_state, shown, new_frames}
 use Rattle.play_command.specs.Stream.{Stream, StreamPicture, same_sequence, picture_in, takes, played, raw_frames}
 
 -- the field that waits has the shape of the sequence's pictures
@@ -67,11 +67,10 @@ agreed_state None (Ok read) = Some (stream_state (record { sequence = read.0; pi
 agreed_state (Some k) (Ok read) = if same_sequence k.sequence read.0 then Some k else None
 
 -- a header was taken, or refused
-abbrev pub Agrees : Result (Sequence × ℕ) HeaderRefusal → Playing → Playing
+abbrev pub Agrees : Result (Sequence × ℕ) HeaderRefusal → Option PlayState → Option PlayState
     → Result (Unit {0}) TakeFault → Type 0
-Agrees header old new (Ok done) =
-    (k : PlayState) × (agreed_state old.kept header ≡ Some k) × (new ≡ record old { kept = Some k })
-Agrees header old new (Err faults.Refused) = agreed_state old.kept header ≡ None
+Agrees header old new (Ok done) = (k : PlayState) × (agreed_state old header ≡ Some k) × (new ≡ Some k)
+Agrees header old new (Err faults.Refused) = agreed_state old header ≡ None
 Agrees header old new (Err other) = ⊥
 
 -- what is kept after so many units at most
@@ -80,8 +79,8 @@ pub record HasAtMost (units : ℕ) (k : PlayState) : Type 0 where
   pub frames : k.frames ≤ k.pictures
   pub shape : HasShape k
 
-abbrev pub IsWithin : ℕ → Playing → Type 0
-IsWithin units player = IfSome player.kept (HasAtMost units)
+abbrev pub IsWithin : ℕ → Option PlayState → Type 0
+IsWithin units kept = IfSome kept (HasAtMost units)
 
 -- a unit is taken: the stream with it, and the bytes that are due for it
 pub record Brings (stream : Option Stream) (u : DataUnit) : Type 0 where

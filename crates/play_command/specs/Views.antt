@@ -1,4 +1,5 @@
 -- What code keeps, as plain data.
+use Rattle.std.specs.Prelude.{Option}
 use Rattle.std.specs.Option.{option_map}
 use Rattle.frame_writer.specs.declared.fault.FrameFault.{FrameFault}
 use Rattle.frame_writer.specs.declared.fault.FrameFault.TheVariants as frame
@@ -7,7 +8,7 @@ use Rattle.play_command.specs.declared.fault.TakeFault.TheVariants as fault
 use Rattle.vc_types.specs.Planes.{planes_in}
 use Rattle.vc_types.specs.SequenceHeader.{sequence_of}
 use Rattle.play_command.specs.Stream.{StreamPicture}
-use Rattle.play_command.specs.Steps.{PlayState, Playing}
+use Rattle.play_command.specs.Steps.{PlayState}
 use Rattle.play_command.specs.declared.picture.Picture as coded
 use Rattle.play_command.specs.declared.playback.Playback.{Playback}
 use Rattle.play_command.specs.declared.player.Player.{Player}
@@ -23,8 +24,8 @@ playback_state s = record {
   frames = s.frames;
 }
 
-abbrev pub player_of : Player → Playing
-player_of p = record { kept = option_map playback_state p.stream; place = p.place }
+abbrev pub player_state : Player → Option PlayState
+player_state p = option_map playback_state p.stream
 
 abbrev pub take_fault : FrameFault → TakeFault
 take_fault frame.WriteFault = fault.WriteFault

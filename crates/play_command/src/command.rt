@@ -4,9 +4,9 @@ ghost use Rattle.vc_ports.specs.Faults.{HasCause};
 ghost use Rattle.play_command.specs.Endings.{reading_ended, taking_ended};
 ghost use Rattle.play_command.specs.Looping.{LoopEnded};
 ghost use Rattle.play_command.specs.Playing.{Plays};
-ghost use Rattle.play_command.specs.Steps.{playing_of};
+ghost use Rattle.play_command.specs.Steps.{state_so_far};
 ghost use Rattle.play_command.specs.Stream.{at_start};
-ghost use Rattle.play_command.specs.Views.{player_of};
+ghost use Rattle.play_command.specs.Views.{player_state};
 
 use crate::fault::TakeFault;
 use crate::player::Player;
@@ -57,8 +57,8 @@ fn play_units<S: Source, O: Sink>(
     input: &mut S,
     output: &mut O,
 ) -> Result<Stop, Ending>
-    requires { player_of player.old ≡ playing_of at_start }
-    ensures ended { LoopEnded packets result (player_of player.new)
+    requires { player_state player.old ≡ state_so_far at_start }
+    ensures ended { LoopEnded packets result (player_state player.new)
         (input_of S.left S.faults input.old input.new)
         (output_of O.held O.faults output.old output.new) }
     ensures input_cause { HasCause (S.faults input.old) (S.faults input.new)
@@ -77,11 +77,11 @@ fn play_with<S: Source, O: Sink>(
     reader: &mut UnitReader<S>,
     output: &mut O,
 ) -> Result<Stop, Ending>
-    requires player { player_of player.old ≡ playing_of at_start }
+    requires player { player_state player.old ≡ state_so_far at_start }
     requires place { reader.old.place ≡ 0 }
     requires sound { reader.old.fault ≡ None }
     ensures borrows { reader.new.source.ghost_name ≡ reader.old.source.ghost_name }
-    ensures ended { LoopEnded packets result (player_of player.new)
+    ensures ended { LoopEnded packets result (player_state player.new)
         (input_of S.left S.faults reader.old.source.now reader.new.source.now)
         (output_of O.held O.faults output.old output.new) }
     ensures input_cause { HasCause (S.faults reader.old.source.now) (S.faults reader.new.source.now)
@@ -90,7 +90,7 @@ fn play_with<S: Source, O: Sink>(
         (result ≡ Err Ending.OutputFailed) }
 {
     for _unit in 0..packets {
-        let place = player.place;
+        let place = reader.place();
         match next_unit(reader) {
             Ok(Some(unit)) => {
                 let is_last = unit.code == END_OF_SEQUENCE;
