@@ -1,5 +1,5 @@
 -- A unit that is read as a frame.
-use Rattle.std.proofs.Common.{◌≡◌, ℕ, ◌<◌, List, ◌++◌, length, Option, Result, Ok, Err, inl, inr, ap, ◌∙◌, append_assoc, length-append, refl, subst, arith}
+use Rattle.std.proofs.Common.{◌≡◌, ℕ, ◌<◌, List, ◌++◌, length, Option, Some, Result, Ok, Err, inl, inr, ap, ◌∙◌, append_assoc, length-append, refl, subst, arith}
 use Rattle.std.specs.Prelude.{IfNone}
 use Rattle.std.specs.Global.{Vec}
 use Rattle.vc_ports.specs.Framed.{IsPart, GaveSome, ReadsFrame}
