@@ -10,7 +10,8 @@ use Rattle.vc_types.specs.DataUnits.{DataUnit}
 use Rattle.play_command.specs.declared.fault.TakeFault.{TakeFault}
 use Rattle.play_command.specs.declared.fault.TakeFault.TheVariants as faults
 use Rattle.play_command.specs.Steps.{PlayState, stream_state, shown, new_frames}
-use Rattle.play_command.specs.Stream.{Stream, StreamPicture, same_sequence, with_header, with_picture, picture_in, shows, takes, played, paired_frames, raw_frames}
+use Rattle.vc_types.specs.SameValues.{same_sequence}
+use Rattle.play_command.specs.Stream.{Stream, StreamPicture, with_header, with_picture, picture_in, shows, takes, played, paired_frames, raw_frames}
 use Rattle.play_command.specs.Taking.{agreed_state, Agrees, raw_frame, Shows, Brings, Brought, HasAtMost, IsWithin}
 use Rattle.play_command.proofs.Showing.{begun, shown-kept, played-more}
 

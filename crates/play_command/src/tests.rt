@@ -8,7 +8,6 @@ mod streams;
 mod trickle;
 
 use self::streams::{END_UNIT, GREY_UNIT, HEADER_UNIT, counts, joined, played};
-use crate::headers_of_one_value_are_equal;
 use link_report::Ending;
 use std::test::Fail;
 
@@ -33,9 +32,4 @@ fn a_stream_is_cut_at_each_length(rt: HostRuntime) -> Result<(), Fail> {
         assert_eq!(rt; written.as_slice(), &[0x80; 96][..bytes], "{length} bytes");
     }
     Ok(())
-}
-
-#[test]
-fn the_law_can_be_cited() {
-    headers_of_one_value_are_equal();
 }
