@@ -7,7 +7,7 @@ use Rattle.byteorder.specs.Endian.{big_bytes, big_number}
 use Rattle.link_capture.specs.Capture.{entry, first_entry, BeginsEntry}
 
 -- two bytes are those of the number that they are read as
-pub two_bytes : (head : List ℕ) → length head ≡ 2 → ((i : ℕ) → slice_index head i < 256) → (big_bytes 2 (big_number 2 head) ≡ head) × (big_number 2 head < 2 ^ 16)
+pub two_bytes : (head : List ℕ) → length head ≡ 2 → ((i : ℕ) → slice_index head i < 256) → big_bytes 2 (big_number 2 head) ≡ head
 two_bytes [] len fit = absurd (omega arith)
 two_bytes (high ∷ []) len fit = absurd (omega arith)
 two_bytes (high ∷ low ∷ []) len fit =
@@ -15,7 +15,7 @@ two_bytes (high ∷ low ∷ []) len fit =
     let l : low < 256 = fit 1 in
     let first : (high * 256 + (low * 1 + 0)) / 256 % 256 ≡ high = omega arith in
     let second : (high * 256 + (low * 1 + 0)) % 256 ≡ low = omega arith in
-    (rw (first, second) refl, omega arith)
+    rw (first, second) refl
 two_bytes (high ∷ low ∷ more ∷ rest) len fit = absurd (omega arith)
 
 -- a datagram behind its length

@@ -49,10 +49,9 @@ pub at_fault : (before mid after : Option (List ℕ)) (place : ℕ) (entries : L
     → Ends before after place entries (Some fault)
 at_fault before mid after place entries (Cut at) heard read =
     let cut = read.1 in
-    let part = cut.part in
-    (read.0, (part.bytes, cut.some, with_rest before mid after place entries part.bytes heard part.gave part.holds, cut.at_end))
-at_fault before mid after place entries ReadFault heard read = (read.bytes, with_rest before mid after place entries read.bytes heard read.gave read.holds)
-at_fault before mid after place entries NoMemory heard read = (read.bytes, with_rest before mid after place entries read.bytes heard read.gave read.holds)
+    (read.0, (cut.part, cut.some, with_rest before mid after place entries cut.part heard cut.gave.gave cut.not_whole, cut.gave.at_end))
+at_fault before mid after place entries ReadFault heard read = (read.part, with_rest before mid after place entries read.part heard read.gave read.not_whole)
+at_fault before mid after place entries NoMemory heard read = (read.part, with_rest before mid after place entries read.part heard read.gave read.not_whole)
 
 -- where the source told what was left and ended, the entries and the rest are those of all that was left
 pub of_all : (left : List ℕ) (after : Option (List ℕ)) (place : ℕ) (entries : List (List ℕ)) (rest : List ℕ) → GaveEntries (Some left) after place entries rest → IsAtEnd after → entries_of left ≡ (entries, rest)

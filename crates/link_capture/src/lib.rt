@@ -8,7 +8,7 @@ mod writer;
 
 pub use fault::EntryFault;
 pub use laws::entries_are_read_back;
-pub use reader::{CaptureFormat, CaptureReader, next_entry};
+pub use reader::{CaptureReader, next_entry};
 pub use writer::put_entry;
 
 #[cfg(test)]

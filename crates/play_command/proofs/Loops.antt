@@ -5,8 +5,7 @@ use Rattle.vc_ports.specs.Reading.{GaveAll}
 use Rattle.vc_ports.specs.Writing.{Grew}
 use Rattle.vc_ports.proofs.Given.{Gave-none, Gave-then}
 use Rattle.vc_ports.proofs.Growing.{Grew-none, Grew-then}
-use Rattle.vc_ports.specs.Framed.{GaveSome}
-use Rattle.vc_units.specs.Reading.{IsUnit}
+use Rattle.vc_units.specs.Reading.{GaveUnit}
 use Rattle.vc_types.specs.DataUnits.{DataUnit, is_end_of_sequence}
 use Rattle.vc_units.specs.Units.{units_within}
 use Rattle.vc_units.proofs.Streams.{units_within-unit, units_within-end, units_within-nothing}
@@ -43,7 +42,7 @@ module _ (packets number : ℕ) (before mid held_before held_mid : Option (List 
   pub no_units : (more : List ℕ) → units_within (packets - number) more ≡ ([], more) → units_within packets (at.given ++ more) ≡ (at.units, more)
   no_units more is = with_units more ([], more) is ∙ ap (λ (units : List DataUnit). (units, more)) (append-nil at.units)
 
-  module _ (room : number < packets) (after : Option (List ℕ)) (u : DataUnit) (gave : GaveSome (IsUnit u) mid after) where
+  module _ (room : number < packets) (after : Option (List ℕ)) (u : DataUnit) (gave : GaveUnit mid after u) where
     next : packets - number ≡ suc (packets - (number + 1))
     next = omega arith
 
@@ -53,10 +52,10 @@ module _ (packets number : ℕ) (before mid held_before held_mid : Option (List 
 
     -- a unit behind the others
     unit_within : is_end_of_sequence u ≡ false → (more : List ℕ) → units_within (packets - number) (gave.bytes ++ more) ≡ then_units (u ∷ []) (following more)
-    unit_within goes_on more = ap (λ (most : ℕ). units_within most (gave.bytes ++ more)) next ∙ units_within-unit (packets - (number + 1)) gave.bytes u gave.holds.is goes_on more
+    unit_within goes_on more = ap (λ (most : ℕ). units_within most (gave.bytes ++ more)) next ∙ units_within-unit (packets - (number + 1)) gave.bytes u gave.is goes_on more
 
     last_within : is_end_of_sequence u ≡ true → (more : List ℕ) → units_within (packets - number) (gave.bytes ++ more) ≡ (u ∷ [], more)
-    last_within ends more = ap (λ (most : ℕ). units_within most (gave.bytes ++ more)) next ∙ units_within-end (packets - (number + 1)) gave.bytes u gave.holds.is ends more
+    last_within ends more = ap (λ (most : ℕ). units_within most (gave.bytes ++ more)) next ∙ units_within-end (packets - (number + 1)) gave.bytes u gave.is ends more
 
     pub one_unit : (ends : Bool) → is_end_of_sequence u ≡ ends → units_within packets (at.given ++ gave.bytes) ≡ (at.units ++ u ∷ [], [])
     one_unit true ends = with_units gave.bytes (u ∷ [], []) (rw append-nil at (last_within ends []))

@@ -6,13 +6,12 @@ use Rattle.link_report.specs.declared.ending.Ending.TheVariants.{NoMemory, Input
 use Rattle.link_report.specs.declared.summary.Summary.{Summary}
 use Rattle.link_report.specs.declared.summary.Summary.TheVariants as summaries
 use Rattle.vc_ports.specs.Changes.{InputChange, OutputChange, HasRisen}
-use Rattle.vc_ports.specs.Framed.{GaveSome}
 use Rattle.vc_ports.specs.Reading.{Gave, IsAtEnd}
 use Rattle.vc_ports.specs.Writing.{Grew, GrewBySome}
 use Rattle.vc_ports.proofs.Given.{Gave-then}
 use Rattle.vc_ports.proofs.Growing.{GrewBySome-all, GrewBySome-then, GrewBySome-front}
 use Rattle.vc_types.specs.DataUnits.{DataUnit, is_end_of_sequence}
-use Rattle.vc_units.specs.Reading.{IsUnit, IsRefusedInfo, AreShort, ReadsUnit}
+use Rattle.vc_units.specs.Reading.{GaveUnit, GaveRefused, GavePartOfUnit, ReadsUnit}
 use Rattle.vc_units.specs.Units.{data_unit, units_within}
 use Rattle.vc_units.specs.declared.fault.UnitFault.{UnitFault}
 use Rattle.vc_units.specs.declared.fault.UnitFault.TheVariants as faults
@@ -69,9 +68,9 @@ module _ (packets number : ℕ) (input : InputChange) (output : OutputChange) (m
     input_failed rest gave short wanted = stopped (Err InputFailed) rest (at.units, rest) gave (before_rest faults.Short rest short)
         (record { accepted = accepted; goes_on = at.goes_on; short = short; wanted = wanted; wrote = wrote })
 
-    no_memory : GaveSome AreShort mid input.left.after → Stops packets (Err NoMemory) input output
+    no_memory : GavePartOfUnit mid input.left.after → Stops packets (Err NoMemory) input output
     no_memory part =
-        stopped (Err NoMemory) part.bytes (at.units, part.bytes) part.gave (before_rest faults.Short part.bytes part.holds) (GrewBySome-all output.held.before output.held.after _ wrote)
+        stopped (Err NoMemory) part.part (at.units, part.part) part.gave (before_rest faults.Short part.part part.not_whole) (GrewBySome-all output.held.before output.held.after _ wrote)
 
     -- one byte more than as many units as were asked for
     pub past_limit : number ≡ packets → (more : List ℕ) → length more ≡ 1 → Gave mid input.left.after more → Stops packets (Err (PacketLimit packets)) input output
@@ -89,19 +88,19 @@ module _ (packets number : ℕ) (input : InputChange) (output : OutputChange) (m
             wrote = wrote;
           })
 
-      own : (fault : UnitFault) (bytes : List ℕ) → IsRefusedInfo fault bytes → data_unit bytes ≡ Err fault
-      own fault bytes is = rw append-nil at (is.refused [])
+      refused_info : (fault : UnitFault) (gave : GaveRefused mid input.left.after fault) → IsLast input gave.bytes fault → Stops packets (Err (StreamBad h.place)) input output
+      refused_info fault gave last = bad fault gave.bytes gave.gave (rw append-nil at (gave.refused [])) last
 
       -- a unit isn't read
       pub unit_unread : (fault : UnitFault) (place : ℕ) → ReadsUnit mid input.left.after place (Err fault) → Stops packets (Err (reading_ended fault h.place)) input output
-      unit_unread faults.Prefix place gave = bad faults.Prefix gave.bytes gave.gave (own faults.Prefix gave.bytes gave.holds) gave.holds.long
-      unit_unread faults.Offset place gave = bad faults.Offset gave.bytes gave.gave (own faults.Offset gave.bytes gave.holds) gave.holds.long
-      unit_unread faults.Code place gave = bad faults.Code gave.bytes gave.gave (own faults.Code gave.bytes gave.holds) gave.holds.long
-      unit_unread faults.Short place cut = bad faults.Short cut.part.bytes cut.part.gave cut.part.holds (cut.some, cut.at_end)
-      unit_unread faults.ReadFault place part = input_failed part.bytes part.gave part.holds (inl (omega (arith, at.count)))
+      unit_unread faults.Prefix place gave = refused_info faults.Prefix gave gave.long
+      unit_unread faults.Offset place gave = refused_info faults.Offset gave gave.long
+      unit_unread faults.Code place gave = refused_info faults.Code gave gave.long
+      unit_unread faults.Short place cut = bad faults.Short cut.part cut.gave.gave cut.not_whole (cut.some, cut.gave.at_end)
+      unit_unread faults.ReadFault place part = input_failed part.part part.gave part.not_whole (inl (omega (arith, at.count)))
       unit_unread faults.NoMemory place part = no_memory part
 
-  module _ (room : number < packets) (u : DataUnit) (gave : GaveSome (IsUnit u) mid input.left.after) where
+  module _ (room : number < packets) (u : DataUnit) (gave : GaveUnit mid input.left.after u) where
     with_one : (answer : Result Summary Ending) → PlayEnded packets answer input output (split (at.units ++ u ∷ [], [])) → Stops packets answer input output
     with_one answer ended = stopped answer gave.bytes (at.units ++ u ∷ [], []) gave.gave (one_unit packets number input.left.before mid output.held.before held_mid h at room input.left.after u gave (is_end_of_sequence u) refl) ended
 

@@ -2,4 +2,3 @@ pub mod Fronts
 pub mod Given
 pub mod Growing
 pub mod Counts
-pub mod CutFrames

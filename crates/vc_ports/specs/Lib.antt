@@ -6,4 +6,3 @@ pub mod Memory
 pub mod Adapters
 pub mod Runs
 pub mod Changes
-pub mod Framed

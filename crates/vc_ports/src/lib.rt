@@ -2,7 +2,6 @@
 //! and count their faults, so that a caller's contract can say what was read and written, and why it stopped.
 #![tactic(auto)]
 
-mod framed;
 mod front;
 mod memory_sink;
 mod memory_source;
@@ -14,7 +13,6 @@ mod std_sink;
 mod std_source;
 mod whole;
 
-pub use framed::{FrameFault, FramedReader, Framing, next_frame};
 pub use memory_sink::MemSink;
 pub use memory_source::MemSource;
 pub use plain_sink::PlainSink;

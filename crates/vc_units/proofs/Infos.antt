@@ -4,8 +4,7 @@ use Rattle.std.proofs.lemmas.Bool.{lt-ltb}
 use Rattle.vc_types.specs.Fields.{Field, and_then, ◌>>=◌, give, next_items}
 use Rattle.vc_types.proofs.FieldCodecs.{and_then_ok, ok_is, next_items_codec}
 use Rattle.vc_types.specs.DataUnits.{DataUnit, unit_length}
-use Rattle.vc_units.specs.Units.{code_of, body_length, info_fault, told, data_unit}
-use Rattle.vc_units.specs.declared.fault.InfoRefusal.{InfoRefusal}
+use Rattle.vc_units.specs.Units.{code_of, body_length, settled, data_unit}
 use Rattle.vc_units.specs.declared.fault.UnitFault.{UnitFault}
 use Rattle.vc_units.specs.declared.fault.UnitFault.TheVariants.{Short}
 
@@ -21,8 +20,8 @@ untaken n bytes short = rw (lt-ltb (length bytes) n short) refl
 abbrev body_behind : List ℕ → ℕ → Field ℕ UnitFault DataUnit
 body_behind info count = next_items Short count >>= λ body. give (record { code = code_of info; body = body })
 
-abbrev behind_info : List ℕ → Result ℕ InfoRefusal → Field ℕ UnitFault DataUnit
-behind_info info length_told = told length_told >>= λ count. body_behind info count
+abbrev behind_info : List ℕ → Result ℕ UnitFault → Field ℕ UnitFault DataUnit
+behind_info info told = settled told >>= λ count. body_behind info count
 
 by_info : (info rest : List ℕ) → length info ≡ 13 → data_unit (info ++ rest) ≡ behind_info info (body_length info) rest
 unfolding data_unit
@@ -34,11 +33,11 @@ unfolding data_unit
 data_unit-stub bytes short = ap (λ (r : Result (List ℕ × List ℕ) UnitFault). and_then r (λ read. behind_info read.0 (body_length read.0) read.1)) (untaken 13 bytes short)
 
 -- a parse info that is refused
-pub data_unit-refused : (info rest : List ℕ) (why : InfoRefusal) → length info ≡ 13 → body_length info ≡ Err why → data_unit (info ++ rest) ≡ Err (info_fault why)
-data_unit-refused info rest why len refused = by_info info rest len ∙ ap (λ (read : Result ℕ InfoRefusal). behind_info info read rest) refused
+pub data_unit-refused : (info rest : List ℕ) (fault : UnitFault) → length info ≡ 13 → body_length info ≡ Err fault → data_unit (info ++ rest) ≡ Err fault
+data_unit-refused info rest fault len refused = by_info info rest len ∙ ap (λ (told : Result ℕ UnitFault). behind_info info told rest) refused
 
 with_length : (info rest : List ℕ) (count : ℕ) → length info ≡ 13 → body_length info ≡ Ok count → data_unit (info ++ rest) ≡ body_behind info count rest
-with_length info rest count len is = by_info info rest len ∙ ap (λ (read : Result ℕ InfoRefusal). behind_info info read rest) is
+with_length info rest count len told = by_info info rest len ∙ ap (λ (told : Result ℕ UnitFault). behind_info info told rest) told
 
 -- fewer bytes behind it than the body has
 pub data_unit-cut : (info part : List ℕ) (count : ℕ) → length info ≡ 13 → body_length info ≡ Ok count → length part < count → data_unit (info ++ part) ≡ Err Short
@@ -68,22 +67,22 @@ pair u rest = (u, rest)
 same_lengths : (p q : DataUnit × List ℕ) → p ≡ q → (length p.0.body ≡ length q.0.body) × (length p.1 ≡ length q.1)
 same_lengths p q same = (ap (λ (r : DataUnit × List ℕ). length r.0.body) same, ap (λ (r : DataUnit × List ℕ). length r.1) same)
 
-told_is : (length_told : Result ℕ InfoRefusal) (bytes : List ℕ) (read : ℕ × List ℕ) → told length_told bytes ≡ Ok read → read.1 ≡ bytes
-told_is (Ok count) bytes read is =
+settled_is : (told : Result ℕ UnitFault) (bytes : List ℕ) (read : ℕ × List ℕ) → settled told bytes ≡ Ok read → read.1 ≡ bytes
+settled_is (Ok count) bytes read is =
     let same : (count, bytes) ≡ read = ok_is {E = UnitFault} (count, bytes) read is in
     ap (λ (r : ℕ × List ℕ). r.1) (sym same)
-told_is (Err why) bytes read is = absurd cc
+settled_is (Err fault) bytes read is = absurd cc
 
 -- the bytes are those of the unit and what is behind it
 pub data_unit-length : (bytes : List ℕ) (u : DataUnit) (rest : List ℕ) → data_unit bytes ≡ Ok (u, rest) → length bytes ≡ unit_length u + length rest
 unfolding data_unit
 data_unit-length bytes u rest is =
     let info = and_then_ok (next_items Short 13 bytes) (λ read. behind_info read.0 (body_length read.0) read.1) (u, rest) is in
-    let count = and_then_ok (told (body_length info.0.0) info.0.1) (λ read. body_behind info.0.0 read.0 read.1) (u, rest) info.2 in
-    let body = and_then_ok (next_items Short count.0.0 count.0.1) (λ read. Ok (record { code = code_of info.0.0; body = read.0 }, read.1)) (u, rest) count.2 in
+    let told = and_then_ok (settled (body_length info.0.0) info.0.1) (λ read. body_behind info.0.0 read.0 read.1) (u, rest) info.2 in
+    let body = and_then_ok (next_items Short told.0.0 told.0.1) (λ read. Ok (record { code = code_of info.0.0; body = read.0 }, read.1)) (u, rest) told.2 in
     let unit = pair (record { code = code_of info.0.0; body = body.0.0 }) body.0.1 in
     let own = same_lengths unit (u, rest) (ok_is {E = UnitFault} unit (u, rest) body.2) in
     let first = rest_of 13 bytes info.0 info.1 in
-    let second = rest_of count.0.0 count.0.1 body.0 body.1 in
-    let kept : length count.0.1 ≡ length info.0.1 = ap length (told_is (body_length info.0.0) info.0.1 count.0 count.1) in
+    let second = rest_of told.0.0 told.0.1 body.0 body.1 in
+    let kept : length told.0.1 ≡ length info.0.1 = ap length (settled_is (body_length info.0.0) info.0.1 told.0 told.1) in
     omega (arith, first.1, second.0, second.1, kept, own.0, own.1)

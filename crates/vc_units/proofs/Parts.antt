@@ -1,49 +1,116 @@
--- A unit that is read as a frame.
-use Rattle.std.proofs.Common.{◌≡◌, ℕ, ◌<◌, List, ◌++◌, length, Option, Some, Result, Ok, Err, inl, inr, ap, ◌∙◌, append_assoc, length-append, refl, subst, arith}
-use Rattle.std.specs.Prelude.{IfNone}
-use Rattle.std.specs.Global.{Vec}
-use Rattle.vc_ports.specs.Framed.{IsPart, GaveSome, ReadsFrame}
-use Rattle.vc_ports.specs.declared.framed.FrameFault.{FrameFault}
-use Rattle.vc_ports.specs.declared.framed.FrameFault.TheVariants.{Refused, Cut, Failed, NoMemory}
-use Rattle.vc_ports.proofs.CutFrames.{GaveSome-map, GaveLast-map, unless_fault}
-use Rattle.vc_units.specs.Units.{body_length, info_fault, code_of, data_unit}
-use Rattle.vc_units.specs.Reading.{IsUnit, IsRefusedInfo, AreShort, ReadsUnit, unit_fault}
-use Rattle.vc_units.specs.declared.fault.InfoRefusal.{InfoRefusal}
-use Rattle.vc_units.specs.declared.fault.InfoRefusal.TheVariants.{Prefix, Code, Offset}
+-- A unit that is read in two steps, its parse info and its body, and what each step's end means.
+use Rattle.std.proofs.Common.{◌≡◌, ◌≢◌, ℕ, ◌<◌, Bool, true, false, not, cond, List, [], ◌++◌, length, take, Option, Result, Ok, Err, sym, ap, subst, ◌∙◌, append_assoc, arith}
+use Rattle.std.proofs.lemmas.List.{length-append, length-take-le, append-nil}
+use Rattle.vc_ports.specs.Reading.{Gave}
+use Rattle.vc_ports.specs.Filling.{Fills}
+use Rattle.vc_ports.specs.declared.whole.Filled.TheVariants.{End, Failed}
+use Rattle.vc_ports.proofs.Given.{Gave-then, GaveAll-then}
+use Rattle.vc_units.specs.Units.{data_unit, code_of, body_length}
+use Rattle.vc_units.specs.Reading.{GaveUnit, GaveRefused, GavePartOfUnit, GaveCutUnit, ReadsUnit}
+use Rattle.vc_units.specs.declared.fault.UnitFault.{UnitFault}
+use Rattle.vc_units.specs.declared.fault.UnitFault.TheVariants.{Prefix, Offset, Code, Short, ReadFault, NoMemory}
 use Rattle.vc_units.proofs.Infos.{data_unit-stub, data_unit-refused, data_unit-cut, data_unit-whole}
-use Rattle.vc_types.specs.DataUnits.{DataUnit}
 
--- a part of a unit is short
-part_is_short : (part : List ℕ) → IsPart 13 body_length part → AreShort part
-part_is_short part (inl short) = data_unit-stub part short
-part_is_short part (inr cut) = rw cut.is (data_unit-cut cut.head cut.body cut.count cut.long cut.tells cut.short)
+-- the end came within the parse info
+pub cut_in_info : (before after : Option (List ℕ)) (info : List ℕ) (n : ℕ) → length info ≡ 13 → n ≢ 0 → Fills before after info (End n) → GaveCutUnit before after
+cut_in_info before after info n len some fills =
+    let taken : length (take n info) ≡ n = length-take-le n info (omega (arith, fills.0)) in
+    record {
+      part = take n info;
+      gave = fills.1;
+      some = λ none. some (sym taken ∙ ap length none);
+      not_whole = data_unit-stub (take n info) (omega (arith, fills.0));
+    }
 
-module _ (fault : Option (FrameFault InfoRefusal)) (before after : Option (List ℕ)) (info : List ℕ) (long : length info ≡ 13) where
-  -- a parse info and its body are a unit
-  pub reads_some : (at place : ℕ) (body : Vec ℕ) → at ≡ place → IfNone fault (ReadsFrame body_length before after info (Ok (Some body)))
-      → IfNone fault ((at ≡ place) × GaveSome (IsUnit (record { code = code_of info; body = body.items })) before after)
-  reads_some at place body is read = unless_fault fault (λ frame. (is, record { bytes = info ++ body.items; gave = frame.1; holds = whole frame.0 })) read
-    where
-      whole : body_length info ≡ Ok (length body.items) → IsUnit (record { code = code_of info; body = body.items }) (info ++ body.items)
-      whole tells = record {
-        long = omega (arith, length-append info body.items, long);
-        is = λ more. ap data_unit (append_assoc info body.items more) ∙ data_unit-whole info body.items more (length body.items) long tells refl;
-      }
+-- a read failed within the parse info
+pub fault_in_info : (before after : Option (List ℕ)) (info : List ℕ) (n : ℕ) → length info ≡ 13 → Fills before after info (Failed n) → GavePartOfUnit before after
+fault_in_info before after info n len fills =
+    let taken : length (take n info) ≡ n = length-take-le n info (omega (arith, fills.0)) in
+    record { part = take n info; gave = fills.1; not_whole = data_unit-stub (take n info) (omega (arith, fills.0)) }
 
-  -- what is read where there is a fault
-  pub reads_fault : (place : ℕ) (why : FrameFault InfoRefusal) → IfNone fault (ReadsFrame body_length before after info (Err why)) → IfNone fault (ReadsUnit before after place (Err (unit_fault why)))
-  reads_fault place why read = unless_fault fault (by why) read
-    where
-      short : (part : List ℕ) → IsPart (length info) body_length part → AreShort part
-      short part is = part_is_short part (rw long at is)
+-- the faults of a parse info
+abbrev pub IsInfoFault : UnitFault → Type 0
+IsInfoFault Prefix = Unit {0}
+IsInfoFault Offset = Unit {0}
+IsInfoFault Code = Unit {0}
+IsInfoFault fault = ⊥
 
-      refused : (why : InfoRefusal) → body_length info ≡ Err why → IsRefusedInfo (info_fault why) info
-      refused why is = record { long = long; refused = λ more. data_unit-refused info more why long is }
+abbrev failed : {A : Type 0} → UnitFault → Result A UnitFault
+failed fault = Err fault
 
-      by : (why : FrameFault InfoRefusal) → ReadsFrame body_length before after info (Err why) → ReadsUnit before after place (Err (unit_fault why))
-      by (Refused Prefix) read = record { bytes = info; gave = read.1; holds = refused Prefix read.0 }
-      by (Refused Code) read = record { bytes = info; gave = read.1; holds = refused Code read.0 }
-      by (Refused Offset) read = record { bytes = info; gave = read.1; holds = refused Offset read.0 }
-      by Cut read = GaveLast-map short before after read
-      by Failed read = GaveSome-map short before after read
-      by NoMemory read = GaveSome-map short before after read
+pub fault_is : {A : Type 0} (x y : UnitFault) → failed {A = A} x ≡ failed y → x ≡ y
+fault_is x y same = cc
+
+-- one of three faults, or a number
+told_fault : (prefix code ends offset : Bool) (count : ℕ) (fault : UnitFault)
+    → cond (not prefix) (Err Prefix) (cond (not code) (Err Code) (cond ends (Ok 0) (cond offset (Err Offset) (Ok count)))) ≡ Err fault → IsInfoFault fault
+told_fault false code ends offset count fault is = subst IsInfoFault (fault_is Prefix fault is) tt
+told_fault true false ends offset count fault is = subst IsInfoFault (fault_is Code fault is) tt
+told_fault true true true offset count fault is = absurd cc
+told_fault true true false true count fault is = subst IsInfoFault (fault_is Offset fault is) tt
+told_fault true true false false count fault is = absurd cc
+
+-- what a parse info is refused for
+pub info_fault : (info : List ℕ) (fault : UnitFault) → body_length info ≡ Err fault → IsInfoFault fault
+unfolding body_length
+info_fault info fault is = told_fault _ _ _ _ _ fault is
+
+-- such a fault is no failed read
+pub no_read_fault : (info : List ℕ) (fault : UnitFault) → body_length info ≡ Err fault → fault ≢ ReadFault
+no_read_fault info fault is same = subst IsInfoFault same (info_fault info fault is)
+
+-- the parse info is refused
+pub refused_info : (before after : Option (List ℕ)) (place : ℕ) (info : List ℕ) (fault : UnitFault) → length info ≡ 13 → Gave before after info → body_length info ≡ Err fault → ReadsUnit before after place (Err fault)
+refused_info before after place info fault len gave is = by_fault fault is (info_fault info fault is)
+  where
+    refused : (fault : UnitFault) → body_length info ≡ Err fault → GaveRefused before after fault
+    refused fault is = record { bytes = info; long = len; gave = gave; refused = λ more. data_unit-refused info more fault len is }
+
+    by_fault : (fault : UnitFault) → body_length info ≡ Err fault → IsInfoFault fault → ReadsUnit before after place (Err fault)
+    by_fault Prefix is own = refused Prefix is
+    by_fault Offset is own = refused Offset is
+    by_fault Code is own = refused Code is
+    by_fault Short is own = absurd own
+    by_fault ReadFault is own = absurd own
+    by_fault NoMemory is own = absurd own
+
+-- no memory for a body that isn't empty
+pub part_without_memory : (before mid : Option (List ℕ)) (info : List ℕ) (count : ℕ) → length info ≡ 13 → body_length info ≡ Ok count → 0 < count → Gave before mid info → GavePartOfUnit before mid
+part_without_memory before mid info count len told some first = record {
+  part = info;
+  gave = first;
+  not_whole = rw append-nil at (data_unit-cut info [] count len told some);
+}
+
+-- the body came whole
+pub whole_unit : (before mid after : Option (List ℕ)) (info body : List ℕ) (count : ℕ) → length info ≡ 13 → body_length info ≡ Ok count → length body ≡ count
+    → Gave before mid info → Gave mid after body → GaveUnit before after (record { code = code_of info; body = body })
+whole_unit before mid after info body count len told whole first second = record {
+  bytes = info ++ body;
+  gave = Gave-then before mid after info body first second;
+  long = omega (arith, length-append info body, len);
+  is = λ more. ap data_unit (append_assoc info body more) ∙ data_unit-whole info body more count len told whole;
+}
+
+-- the end came within the body
+pub cut_in_body : (before mid after : Option (List ℕ)) (info body : List ℕ) (count n : ℕ) → length info ≡ 13 → body_length info ≡ Ok count → length body ≡ count
+    → Gave before mid info → Fills mid after body (End n) → GaveCutUnit before after
+cut_in_body before mid after info body count n len told whole first fills =
+    let taken : length (take n body) ≡ n = length-take-le n body (omega (arith, fills.0)) in
+    record {
+      part = info ++ take n body;
+      gave = GaveAll-then before mid after info (take n body) first fills.1;
+      some = λ none. omega (arith, ap length none, length-append info (take n body), len);
+      not_whole = data_unit-cut info (take n body) count len told (omega (arith, fills.0));
+    }
+
+-- a read failed within the body
+pub fault_in_body : (before mid after : Option (List ℕ)) (info body : List ℕ) (count n : ℕ) → length info ≡ 13 → body_length info ≡ Ok count → length body ≡ count
+    → Gave before mid info → Fills mid after body (Failed n) → GavePartOfUnit before after
+fault_in_body before mid after info body count n len told whole first fills =
+    let taken : length (take n body) ≡ n = length-take-le n body (omega (arith, fills.0)) in
+    record {
+      part = info ++ take n body;
+      gave = Gave-then before mid after info (take n body) first fills.1;
+      not_whole = data_unit-cut info (take n body) count len told (omega (arith, fills.0));
+    }

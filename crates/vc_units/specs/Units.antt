@@ -5,10 +5,8 @@ use Rattle.byteorder.specs.Endian.{big_number}
 use Rattle.vc_types.specs.DataUnits.{DataUnit, is_end_of_sequence, is_unit_code, parse_info_prefix}
 use Rattle.vc_types.specs.ParseCodes.{end_code}
 use Rattle.vc_types.specs.Fields.{Field, ◌>>=◌, give, refuse, next_items}
-use Rattle.vc_units.specs.declared.fault.InfoRefusal.{InfoRefusal}
-use Rattle.vc_units.specs.declared.fault.InfoRefusal.TheVariants.{Prefix, Code, Offset}
 use Rattle.vc_units.specs.declared.fault.UnitFault.{UnitFault}
-use Rattle.vc_units.specs.declared.fault.UnitFault.TheVariants as faults
+use Rattle.vc_units.specs.declared.fault.UnitFault.TheVariants.{Prefix, Offset, Code, Short}
 
 -- ---- the 13 bytes before a body
 
@@ -22,7 +20,7 @@ abbrev pub next_offset_of : List ℕ → ℕ
 next_offset_of info = big_number 4 (drop 5 info)
 
 -- how many bytes the body has, or the first refusal; an end of sequence has none, and its distance isn't used
-unfoldable pub body_length : List ℕ → Result ℕ InfoRefusal
+unfoldable pub body_length : List ℕ → Result ℕ UnitFault
 body_length info =
     if not (prefix_of info == parse_info_prefix) then Err Prefix
     else (if not (is_unit_code (code_of info)) then Err Code
@@ -33,23 +31,17 @@ body_length info =
 
 -- ---- reading
 
--- why a unit is refused whose parse info is
-abbrev pub info_fault : InfoRefusal → UnitFault
-info_fault Prefix = faults.Prefix
-info_fault Code = faults.Code
-info_fault Offset = faults.Offset
-
--- the length that a parse info tells, which takes nothing
-abbrev pub told : Result ℕ InfoRefusal → Field ℕ UnitFault ℕ
-told (Ok count) = give count
-told (Err why) = refuse (info_fault why)
+-- a field of what was settled before, which takes nothing
+abbrev pub settled : {T E X : Type 0} → Result X E → Field T E X
+settled (Ok x) = give x
+settled (Err refusal) = refuse refusal
 
 -- the unit that begins the bytes and what is behind it, or the first refusal
 unfoldable pub data_unit : Field ℕ UnitFault DataUnit
 data_unit = do
-  info ← next_items faults.Short 13
-  count ← told (body_length info)
-  body ← next_items faults.Short count
+  info ← next_items Short 13
+  count ← settled (body_length info)
+  body ← next_items Short count
   give (record { code = code_of info; body = body })
 
 -- a unit before other units
@@ -58,8 +50,7 @@ before u behind = (u ∷ behind.0, behind.1)
 
 -- the first unit, and those behind it unless it ends the sequence; none where it is refused
 abbrev pub units_from : List ℕ → (List ℕ → List DataUnit × List ℕ)
-    → Result (DataUnit × List ℕ) UnitFault
-    → List DataUnit × List ℕ
+    → Result (DataUnit × List ℕ) UnitFault → List DataUnit × List ℕ
 units_from bytes behind (Err refusal) = ([], bytes)
 units_from bytes behind (Ok read) =
     if is_end_of_sequence read.0 then (read.0 ∷ [], read.1) else before read.0 (behind read.1)

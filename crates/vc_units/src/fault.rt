@@ -1,14 +1,3 @@
-/// Why a parse info header is refused, the first of these.
-#[derive(Clone, Copy, Debug, PartialEq, Eq)]
-pub enum InfoRefusal {
-    /// The first four bytes aren't "BBCD".
-    Prefix,
-    /// The parse code, in hexadecimal, isn't 00, 10, 20, 30 or E8.
-    Code,
-    /// The distance to the next unit is below 13 or above 268,435,456. That of an end of sequence isn't used.
-    Offset,
-}
-
 /// Why no unit was read.
 #[derive(Clone, Copy, Debug, PartialEq, Eq)]
 pub enum UnitFault {

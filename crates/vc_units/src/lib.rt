@@ -8,10 +8,10 @@ mod reader;
 mod unit;
 mod writer;
 
-pub use fault::{InfoRefusal, UnitFault};
+pub use fault::UnitFault;
 pub use info::PARSE_INFO_BYTES;
 pub use laws::written_unit_is_read;
-pub use reader::{UnitFormat, UnitReader, next_unit};
+pub use reader::{UnitReader, next_unit};
 pub use unit::Unit;
 pub use writer::write_unit;
 

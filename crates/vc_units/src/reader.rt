@@ -1,13 +1,14 @@
-ghost use Rattle.std.specs.Prelude.{◌≡◌, ◌+◌, ◌<◌, ◌≤◌, ◌^◌, Err, IfNone, IfSome};
+ghost use Rattle.std.specs.Prelude.{◌≡◌, ◌+◌, ◌<◌, ◌≤◌, ◌^◌, None, Err, IfNone, IfSome, IfOk};
 ghost use Rattle.vc_ports.specs.Faults.{HasCause};
-ghost use Rattle.vc_units.specs.Reading.{ReadsUnit, unit_fault, place_after_unit, fault_after_unit};
+ghost use Rattle.vc_units.specs.Reading.{ReadsUnit, place_after_unit, fault_after_unit};
 ghost use Rattle.vc_units.specs.Units.{body_length};
 
-use crate::fault::{InfoRefusal, UnitFault};
+use crate::fault::UnitFault;
 use crate::info::{PARSE_INFO_BYTES, PARSE_INFO_PREFIX};
 use crate::unit::Unit;
 use byteorder::{BigEndian, ByteOrder};
-use vc_ports::{FrameFault, FramedReader, Framing, Source, next_frame};
+use std::alloc::Global;
+use vc_ports::{Filled, Source, fill};
 use vc_types::{
     AUXILIARY_DATA, END_OF_SEQUENCE, HIGH_QUALITY_PICTURE, PADDING_DATA, SEQUENCE_HEADER,
 };
@@ -15,46 +16,45 @@ use vc_types::{
 // The most bytes that a unit may have.
 const LONGEST_UNIT: u32 = 268_435_456;
 
-/// The format of an elementary stream: a unit's head is its parse info header.
+/// A source that is read unit by unit. It keeps the source borrowed, and contracts see what the source is now.
 #[derive(Drop)]
-pub enum UnitFormat {}
+pub struct UnitReader<'a, S> {
+    alloc: Global,
+    source: &'a mut S,
+    // How many bytes the units have that were read whole.
+    place: u64,
+    // The fault that is answered from now on.
+    fault: Option<UnitFault>,
+}
 
-impl Framing for UnitFormat {
-    type Refusal = InfoRefusal;
-
-    ghost head_size = { 13 };
-
-    ghost longest = { 268435443 };
-
-    ghost told = { body_length };
-
-    // An end of sequence has no body, whatever its distance.
-    #[tactic(auto, unfolding(crate::specs::Units::body_length))]
-    fn body_length(info: &[u8]) -> Result<usize, InfoRefusal> {
-        if BigEndian::read_u32(info) != PARSE_INFO_PREFIX {
-            return Err(InfoRefusal::Prefix);
+impl<'a, S: Source> UnitReader<'a, S> {
+    /// A reader that begins where the source stands.
+    pub fn new(alloc: Global, source: &'a mut S) -> UnitReader<'a, S>
+        ensures borrows { result.source.ghost_name ≡ source.entry.ghost_name }
+        ensures source { result.source.now ≡ source.old }
+        ensures place { result.place ≡ 0 }
+        ensures sound { result.fault ≡ None }
+    {
+        UnitReader {
+            alloc,
+            source,
+            place: 0,
+            fault: None,
         }
-        match info[4] {
-            END_OF_SEQUENCE => Ok(0),
-            SEQUENCE_HEADER | AUXILIARY_DATA | PADDING_DATA | HIGH_QUALITY_PICTURE => {
-                let next = BigEndian::read_u32(&info[5..]);
-                if next < PARSE_INFO_BYTES as u32 || next > LONGEST_UNIT {
-                    return Err(InfoRefusal::Offset);
-                }
-                Ok(next as usize - PARSE_INFO_BYTES)
-            }
-            _ => Err(InfoRefusal::Code),
-        }
+    }
+
+    /// How many bytes the units have that were read whole: the place of the next one.
+    pub fn place(&self) -> u64
+        ensures { result ≡ self.now.place }
+    {
+        self.place
     }
 }
 
-/// A source that is read unit by unit.
-pub type UnitReader<'a, S> = FramedReader<'a, S, UnitFormat>;
-
 /// Reads the next unit (ST 2042-1, data unit), or None where the source ended at a unit's edge. It is refused for the
 /// first of these: `Short` where the source ended within the 13 bytes before the body, `Prefix`, `Code`, `Offset`, and
-/// `Short` where it ended within the body. No byte behind a refused head or an end of sequence is taken. After a fault
-/// the same fault is answered without reading.
+/// `Short` where it ended within the body. No byte behind a parse info that is refused, or behind an end of sequence, is
+/// taken. After a fault the same fault is answered without reading.
 pub fn next_unit<S: Source>(r: &mut UnitReader<S>) -> Result<Option<Unit>, UnitFault>
     requires { r.old.place < 2 ^ 63 }
     ensures borrows { r.new.source.ghost_name ≡ r.old.source.ghost_name }
@@ -64,34 +64,76 @@ pub fn next_unit<S: Source>(r: &mut UnitReader<S>) -> Result<Option<Unit>, UnitF
         (HasCause (S.faults r.old.source.now) (S.faults r.new.source.now)
             (result ≡ Err UnitFault.ReadFault)) }
     ensures again { IfSome r.old.fault
-        (λ fault. (result ≡ Err (unit_fault fault)) × (r.new.source.now ≡ r.old.source.now)) }
+        (λ fault. (result ≡ Err fault) × (r.new.source.now ≡ r.old.source.now)) }
     ensures place { r.new.place ≡ place_after_unit r.old.place result }
     ensures grows { r.new.place ≤ r.old.place + 268435456 }
     ensures fault { r.new.fault ≡ fault_after_unit r.old.fault result }
 {
-    let at = r.place();
+    if let Some(fault) = r.fault {
+        return Err(fault);
+    }
+    let answer = read_unit(r.alloc, r.source, r.place);
+    match &answer {
+        Ok(Some(unit)) => r.place += (PARSE_INFO_BYTES + unit.body.len()) as u64,
+        Ok(None) => {}
+        Err(fault) => r.fault = Some(*fault),
+    }
+    answer
+}
+
+// Reads the unit whose first byte is at a place.
+fn read_unit<S: Source>(
+    alloc: Global,
+    source: &mut S,
+    place: u64,
+) -> Result<Option<Unit>, UnitFault>
+    ensures unit { ReadsUnit (S.left source.old) (S.left source.new) place result }
+    ensures cause { HasCause (S.faults source.old) (S.faults source.new)
+        (result ≡ Err UnitFault.ReadFault) }
+    ensures grows { place_after_unit place result ≤ place + 268435456 }
+{
     let mut info = [0; PARSE_INFO_BYTES];
-    match next_frame(r, &mut info) {
-        Ok(Some(body)) => Ok(Some(Unit {
+    match fill(source, &mut info) {
+        Filled::Whole => {}
+        Filled::End(0) => return Ok(None),
+        Filled::End(_) => return Err(UnitFault::Short),
+        Filled::Failed(_) => return Err(UnitFault::ReadFault),
+    }
+    let count = body_length(&info)?;
+    let mut body = Vec::new(alloc);
+    match body.resize(count, 0) {
+        Ok(()) => {}
+        Err(_) => return Err(UnitFault::NoMemory),
+    }
+    match fill(source, &mut body) {
+        Filled::Whole => Ok(Some(Unit {
             code: info[4],
-            at,
+            at: place,
             body,
         })),
-        Ok(None) => Ok(None),
-        Err(fault) => Err(unit_fault(fault)),
+        Filled::End(_) => Err(UnitFault::Short),
+        Filled::Failed(_) => Err(UnitFault::ReadFault),
     }
 }
 
-// What is answered where no unit is read.
-fn unit_fault(fault: FrameFault<InfoRefusal>) -> UnitFault
-    ensures { result ≡ unit_fault fault }
+// How many bytes the body behind a parse info header has. An end of sequence has none, whatever its distance.
+#[tactic(auto, unfolding(crate::specs::Units::body_length))]
+fn body_length(info: &[u8; PARSE_INFO_BYTES]) -> Result<usize, UnitFault>
+    ensures value { result ≡ body_length info.now }
+    ensures within { IfOk result (λ count. 13 + count ≤ 268435456) }
 {
-    match fault {
-        FrameFault::Refused(InfoRefusal::Prefix) => UnitFault::Prefix,
-        FrameFault::Refused(InfoRefusal::Code) => UnitFault::Code,
-        FrameFault::Refused(InfoRefusal::Offset) => UnitFault::Offset,
-        FrameFault::Cut => UnitFault::Short,
-        FrameFault::Failed => UnitFault::ReadFault,
-        FrameFault::NoMemory => UnitFault::NoMemory,
+    if BigEndian::read_u32(info) != PARSE_INFO_PREFIX {
+        return Err(UnitFault::Prefix);
+    }
+    match info[4] {
+        END_OF_SEQUENCE => Ok(0),
+        SEQUENCE_HEADER | AUXILIARY_DATA | PADDING_DATA | HIGH_QUALITY_PICTURE => {
+            let next = BigEndian::read_u32(&info[5..]);
+            if next < PARSE_INFO_BYTES as u32 || next > LONGEST_UNIT {
+                return Err(UnitFault::Offset);
+            }
+            Ok(next as usize - PARSE_INFO_BYTES)
+        }
+        _ => Err(UnitFault::Code),
     }
 }
