@@ -19,8 +19,8 @@ unfoldable pub entries_within : ℕ → List ℕ → List (List ℕ) × List ℕ
 entries_within zero bytes = ([], bytes)
 entries_within (suc most) bytes =
     option_map_or
-        (λ first. let behind = entries_within most first.1 in (first.0 ∷ behind.0, behind.1))
-        (first_entry bytes) ([], bytes)
+    (λ first. let behind = entries_within most first.1 in (first.0 ∷ behind.0, behind.1))
+    (first_entry bytes) ([], bytes)
 
 -- the datagrams of the whole entries that begin the bytes, and the rest
 unfoldable pub entries_of : List ℕ → List (List ℕ) × List ℕ

@@ -45,7 +45,7 @@ pub fn next_entry<S: Source>(r: &mut CaptureReader<S>) -> Result<Option<Vec<u8>>
         (ReadsEntry (S.left r.old.source.now) (S.left r.new.source.now) r.old.place result) }
     ensures cause { IfNone r.old.fault
         (HasCause (S.faults r.old.source.now) (S.faults r.new.source.now)
-            (result ≡ Err EntryFault.ReadFault)) }
+        (result ≡ Err EntryFault.ReadFault)) }
     ensures again { IfSome r.old.fault
         (λ fault. (result ≡ Err fault) × (r.new.source.now ≡ r.old.source.now)) }
     ensures place { r.new.place ≡ place_after_entry r.old.place result }

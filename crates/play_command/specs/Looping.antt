@@ -58,8 +58,8 @@ HasPlayedUnits packets AtLimit input output h =
 
 -- the loop stopped without a fault; what came, and what is kept of it
 pub record HasStopped
-    (packets : ℕ) (stop : Stop) (kept : Option PlayState) (input : InputChange) (output : OutputChange)
-    : Type 0 where
+    (packets : ℕ) (stop : Stop) (kept : Option PlayState)
+    (input : InputChange) (output : OutputChange) : Type 0 where
   pub so_far : StreamSoFar
   pub keeps : kept ≡ state_so_far so_far
   pub few : IsWithin (2 ^ 32 - 1) kept
@@ -74,7 +74,8 @@ pub record Stops
   pub ended : PlayEnded packets answer input output (unit_split packets given)
 
 -- what a loop over the units did
-abbrev pub LoopEnded : ℕ → Result Stop Ending → Option PlayState → InputChange → OutputChange → Type 0
+abbrev pub LoopEnded : ℕ → Result Stop Ending → Option PlayState → InputChange → OutputChange
+    → Type 0
 LoopEnded packets (Ok stop) kept input output = HasStopped packets stop kept input output
 LoopEnded packets (Err ending) kept input output = Stops packets (Err ending) input output
 

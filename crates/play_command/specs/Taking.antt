@@ -70,7 +70,8 @@ agreed_state (Some k) (Ok read) = if same_sequence k.sequence read.0 then Some k
 -- a header was taken, or refused
 abbrev pub Agrees : Result (Sequence × ℕ) HeaderRefusal → Option PlayState → Option PlayState
     → Result (Unit {0}) TakeFault → Type 0
-Agrees header old new (Ok done) = (k : PlayState) × (agreed_state old header ≡ Some k) × (new ≡ Some k)
+Agrees header old new (Ok done) =
+    (k : PlayState) × (agreed_state old header ≡ Some k) × (new ≡ Some k)
 Agrees header old new (Err faults.Refused) = agreed_state old header ≡ None
 Agrees header old new (Err other) = ⊥
 

@@ -26,7 +26,7 @@ body_length info =
     else (if not (is_unit_code (code_of info)) then Err Code
     else (if code_of info == end_code then Ok 0
     else (if nat_lt (next_offset_of info) 13 || nat_lt 268435456 (next_offset_of info)
-      then Err Offset
+    then Err Offset
     else Ok (next_offset_of info - 13))))
 
 -- ---- reading

@@ -10,5 +10,5 @@ pub fn written_unit_is_read()
         → (code ≡ end_code → body ≡ [])
         → unit_length (record { code = code; body = body }) ≤ 268435456
         → data_unit (unit_bytes code body previous ++ more)
-            ≡ Ok (record { code = code; body = body }, more) }
+        ≡ Ok (record { code = code; body = body }, more) }
 {}

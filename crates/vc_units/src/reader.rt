@@ -62,7 +62,7 @@ pub fn next_unit<S: Source>(r: &mut UnitReader<S>) -> Result<Option<Unit>, UnitF
         (ReadsUnit (S.left r.old.source.now) (S.left r.new.source.now) r.old.place result) }
     ensures cause { IfNone r.old.fault
         (HasCause (S.faults r.old.source.now) (S.faults r.new.source.now)
-            (result ≡ Err UnitFault.ReadFault)) }
+        (result ≡ Err UnitFault.ReadFault)) }
     ensures again { IfSome r.old.fault
         (λ fault. (result ≡ Err fault) × (r.new.source.now ≡ r.old.source.now)) }
     ensures place { r.new.place ≡ place_after_unit r.old.place result }
