@@ -22,8 +22,8 @@ returns-in-End g c =
     plays_whole c.args.packets _ _ played.so_far c.summary-in-End.result (at_edge c.args.packets c.args.packets _ _ _ _ played.so_far played.units _ gave) (c.summary-in-End.ensures ∙ ap summary_of played.keeps ∙ summary_is played.so_far.stream)
 
 -- a failed read
-pub returns-in-Failed : goal.returns-in-Failed
-returns-in-Failed g c =
+pub returns : goal.returns
+returns g c =
     let played = rw c.in-AtLimit.is at c.in_ok-play_units.ensures.ended in
     let fills = c.in-Failed.ensures.bytes in
     let gave = subst (λ (bytes : List ℕ). Gave (g.S.Source.left c.play_units.new.input) (g.S.Source.left c.fill.new.source) bytes) (none_of c.fill.new.buf c.in-Failed.field-0 c.fill.auto.buf fills.0) fills.1 in
