@@ -6,7 +6,7 @@ use Rattle.vc_ports.specs.Reading.{Gave, IsAtEnd}
 use Rattle.vc_ports.proofs.Given.{Gave-none, Gave-then, GaveAll-told}
 use Rattle.link_capture.specs.Capture.{entry, entries_of, first_entry}
 use Rattle.link_capture.specs.Endings.{GaveEntries, Ends}
-use Rattle.link_capture.specs.Reading.{ReadsEntry, place_after}
+use Rattle.link_capture.specs.Reading.{ReadsEntry, place_after_entry}
 use Rattle.link_capture.specs.declared.fault.EntryFault.{EntryFault}
 use Rattle.link_capture.specs.declared.fault.EntryFault.TheVariants.{Cut, ReadFault, NoMemory}
 use Rattle.link_capture.proofs.Heads.{length-entry}
@@ -22,7 +22,7 @@ begun before = record { given = []; gave = Gave-none before; split = entries_of-
 
 -- an entry more
 pub with_entry : (before mid after : Option (List ℕ)) (place : ℕ) (entries : List (List ℕ)) (datagram : Vec ℕ) → GaveEntries before mid place entries [] → ReadsEntry mid after place (Ok (Some datagram))
-    → GaveEntries before after (place_after place (Ok (Some datagram))) (entries ++ datagram.items ∷ []) []
+    → GaveEntries before after (place_after_entry place (Ok (Some datagram))) (entries ++ datagram.items ∷ []) []
 with_entry before mid after place entries datagram heard read = record {
   given = heard.given ++ entry datagram.items;
   gave = Gave-then before mid after heard.given (entry datagram.items) heard.gave read.1;

@@ -7,11 +7,11 @@ use Rattle.vc_ports.specs.Filling.{Fills}
 use Rattle.vc_ports.specs.declared.whole.Filled.TheVariants.{End, Failed}
 use Rattle.vc_ports.proofs.Given.{Gave-then, GaveAll-then}
 use Rattle.link_capture.specs.Capture.{entry, first_entry}
-use Rattle.link_capture.specs.Reading.{GavePart, GaveCut}
+use Rattle.link_capture.specs.Reading.{GavePartOfEntry, GaveCutEntry}
 use Rattle.link_capture.proofs.Heads.{first_entry-stub, first_entry-short}
 
 -- the end came within the length
-pub cut_in_length : (before after : Option (List ℕ)) (head : List ℕ) (n : ℕ) → length head ≡ 2 → n ≢ 0 → Fills before after head (End n) → GaveCut before after
+pub cut_in_length : (before after : Option (List ℕ)) (head : List ℕ) (n : ℕ) → length head ≡ 2 → n ≢ 0 → Fills before after head (End n) → GaveCutEntry before after
 cut_in_length before after head n len some fills =
     let taken : length (take n head) ≡ n = length-take-le n head (omega (arith, fills.0)) in
     record {
@@ -22,7 +22,7 @@ cut_in_length before after head n len some fills =
     }
 
 -- a read failed within the length
-pub fault_in_length : (before after : Option (List ℕ)) (head : List ℕ) (n : ℕ) → length head ≡ 2 → Fills before after head (Failed n) → GavePart before after
+pub fault_in_length : (before after : Option (List ℕ)) (head : List ℕ) (n : ℕ) → length head ≡ 2 → Fills before after head (Failed n) → GavePartOfEntry before after
 fault_in_length before after head n len fills =
     let taken : length (take n head) ≡ n = length-take-le n head (omega (arith, fills.0)) in
     record { part = take n head; gave = fills.1; not_whole = first_entry-stub (take n head) (omega (arith, fills.0)) }
@@ -40,7 +40,7 @@ whole_entry before mid after told datagram whole first second =
     Gave-then before mid after (big_bytes 2 (length datagram)) datagram front second
 
 -- no memory for a datagram that isn't empty
-pub part_without_memory : (before mid : Option (List ℕ)) (told : ℕ) → told < 2 ^ 16 → 0 < told → Gave before mid (big_bytes 2 told) → GavePart before mid
+pub part_without_memory : (before mid : Option (List ℕ)) (told : ℕ) → told < 2 ^ 16 → 0 < told → Gave before mid (big_bytes 2 told) → GavePartOfEntry before mid
 part_without_memory before mid told fits some first = record {
   part = big_bytes 2 told;
   gave = first;
@@ -49,7 +49,7 @@ part_without_memory before mid told fits some first = record {
 
 -- the end came within the datagram
 pub cut_in_datagram : (before mid after : Option (List ℕ)) (told : ℕ) (datagram : List ℕ) (n : ℕ) → told < 2 ^ 16 → length datagram ≡ told
-    → Gave before mid (big_bytes 2 told) → Fills mid after datagram (End n) → GaveCut before after
+    → Gave before mid (big_bytes 2 told) → Fills mid after datagram (End n) → GaveCutEntry before after
 cut_in_datagram before mid after told datagram n fits whole first fills =
     let taken : length (take n datagram) ≡ n = length-take-le n datagram (omega (arith, fills.0)) in
     record {
@@ -61,7 +61,7 @@ cut_in_datagram before mid after told datagram n fits whole first fills =
 
 -- a read failed within the datagram
 pub fault_in_datagram : (before mid after : Option (List ℕ)) (told : ℕ) (datagram : List ℕ) (n : ℕ) → told < 2 ^ 16 → length datagram ≡ told
-    → Gave before mid (big_bytes 2 told) → Fills mid after datagram (Failed n) → GavePart before after
+    → Gave before mid (big_bytes 2 told) → Fills mid after datagram (Failed n) → GavePartOfEntry before after
 fault_in_datagram before mid after told datagram n fits whole first fills =
     let taken : length (take n datagram) ≡ n = length-take-le n datagram (omega (arith, fills.0)) in
     record {

@@ -9,13 +9,18 @@ entry datagram = big_bytes 2 (length datagram) ++ datagram
 
 -- the datagram of the entry that begins the bytes, and what is behind the entry
 unfoldable pub first_entry : List ℕ → Option (List ℕ × List ℕ)
-first_entry (high ∷ low ∷ bytes) = if nat_lt (length bytes) (256 * high + low) then None else Some (take (256 * high + low) bytes, drop (256 * high + low) bytes)
+first_entry (high ∷ low ∷ bytes) =
+    if nat_lt (length bytes) (256 * high + low) then None
+    else Some (take (256 * high + low) bytes, drop (256 * high + low) bytes)
 first_entry bytes = None
 
 -- so many entries at most
 unfoldable pub entries_within : ℕ → List ℕ → List (List ℕ) × List ℕ
 entries_within zero bytes = ([], bytes)
-entries_within (suc most) bytes = option_map_or (λ first. let behind = entries_within most first.1 in (first.0 ∷ behind.0, behind.1)) (first_entry bytes) ([], bytes)
+entries_within (suc most) bytes =
+    option_map_or
+    (λ first. let behind = entries_within most first.1 in (first.0 ∷ behind.0, behind.1))
+    (first_entry bytes) ([], bytes)
 
 -- the datagrams of the whole entries that begin the bytes, and the rest
 unfoldable pub entries_of : List ℕ → List (List ℕ) × List ℕ

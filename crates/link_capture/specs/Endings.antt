@@ -6,7 +6,9 @@ use Rattle.link_capture.specs.declared.fault.EntryFault.{EntryFault}
 use Rattle.link_capture.specs.declared.fault.EntryFault.TheVariants.{Cut, ReadFault, NoMemory}
 
 -- the source gave bytes whose entries are these and whose rest is this; the rest begins at the place
-pub record GaveEntries (before after : Option (List ℕ)) (place : ℕ) (entries : List (List ℕ)) (rest : List ℕ) : Type 0 where
+pub record GaveEntries
+    (before after : Option (List ℕ)) (place : ℕ) (entries : List (List ℕ)) (rest : List ℕ)
+    : Type 0 where
   pub given : List ℕ
   pub gave : Gave before after given
   pub split : entries_of given ≡ (entries, rest)
@@ -15,6 +17,10 @@ pub record GaveEntries (before after : Option (List ℕ)) (place : ℕ) (entries
 -- how a loop over the entries ended, at an edge or by a fault
 abbrev pub Ends : Option (List ℕ) → Option (List ℕ) → ℕ → List (List ℕ) → Option EntryFault → Type 0
 Ends before after place entries None = GaveEntries before after place entries [] × IsAtEnd after
-Ends before after place entries (Some (Cut at)) = (at ≡ place) × ((rest : List ℕ) × (rest ≢ []) × GaveEntries before after place entries rest × IsAtEnd after)
-Ends before after place entries (Some ReadFault) = (rest : List ℕ) × GaveEntries before after place entries rest
-Ends before after place entries (Some NoMemory) = (rest : List ℕ) × GaveEntries before after place entries rest
+Ends before after place entries (Some (Cut at)) =
+    (at ≡ place)
+    × ((rest : List ℕ) × (rest ≢ []) × GaveEntries before after place entries rest × IsAtEnd after)
+Ends before after place entries (Some ReadFault) =
+    (rest : List ℕ) × GaveEntries before after place entries rest
+Ends before after place entries (Some NoMemory) =
+    (rest : List ℕ) × GaveEntries before after place entries rest

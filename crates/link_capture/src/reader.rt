@@ -1,7 +1,7 @@
 ghost use Rattle.std.specs.Prelude.{◌≡◌, ◌+◌, ◌<◌, ◌≤◌, ◌^◌, None, Err, IfNone, IfSome};
 ghost use Rattle.byteorder.specs.Endian.{big_bytes};
 ghost use Rattle.vc_ports.specs.Faults.{HasCause};
-ghost use Rattle.link_capture.specs.Reading.{ReadsEntry, place_after, fault_after};
+ghost use Rattle.link_capture.specs.Reading.{ReadsEntry, place_after_entry, fault_after_entry};
 
 use crate::fault::EntryFault;
 use byteorder::{BigEndian, ByteOrder};
@@ -44,12 +44,13 @@ pub fn next_entry<S: Source>(r: &mut CaptureReader<S>) -> Result<Option<Vec<u8>>
     ensures entry { IfNone r.old.fault
         (ReadsEntry (S.left r.old.source.now) (S.left r.new.source.now) r.old.place result) }
     ensures cause { IfNone r.old.fault
-        (HasCause (S.faults r.old.source.now) (S.faults r.new.source.now) (result ≡ Err EntryFault.ReadFault)) }
+        (HasCause (S.faults r.old.source.now) (S.faults r.new.source.now)
+        (result ≡ Err EntryFault.ReadFault)) }
     ensures again { IfSome r.old.fault
         (λ fault. (result ≡ Err fault) × (r.new.source.now ≡ r.old.source.now)) }
-    ensures place { r.new.place ≡ place_after r.old.place result }
+    ensures place { r.new.place ≡ place_after_entry r.old.place result }
     ensures grows { r.new.place ≤ r.old.place + 65537 }
-    ensures fault { r.new.fault ≡ fault_after r.old.fault result }
+    ensures fault { r.new.fault ≡ fault_after_entry r.old.fault result }
 {
     if let Some(fault) = r.fault {
         return Err(fault);
@@ -70,7 +71,8 @@ fn read_entry<S: Source>(
     place: u64,
 ) -> Result<Option<Vec<u8>>, EntryFault>
     ensures entry { ReadsEntry (S.left source.old) (S.left source.new) place result }
-    ensures cause { HasCause (S.faults source.old) (S.faults source.new) (result ≡ Err EntryFault.ReadFault) }
+    ensures cause { HasCause (S.faults source.old) (S.faults source.new)
+        (result ≡ Err EntryFault.ReadFault) }
 {
     let mut head = [0; 2];
     match fill(source, &mut head) {

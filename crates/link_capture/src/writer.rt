@@ -11,7 +11,8 @@ use vc_ports::{Sink, WriteFault, write_all};
 pub fn put_entry<O: Sink>(sink: &mut O, datagram: &[u8]) -> Result<(), WriteFault>
     requires { length datagram.now < 2 ^ 16 }
     ensures ok { OnOk result (Grew (O.held sink.old) (O.held sink.new) (entry datagram.now)) }
-    ensures err { OnErr result (GrewBySome (O.held sink.old) (O.held sink.new) (entry datagram.now)) }
+    ensures err { OnErr result
+        (GrewBySome (O.held sink.old) (O.held sink.new) (entry datagram.now)) }
     ensures cause { HasCause (O.faults sink.old) (O.faults sink.new) (IsErr result) }
 {
     let mut head = [0; 2];

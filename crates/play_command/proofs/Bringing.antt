@@ -9,25 +9,25 @@ use Rattle.vc_types.specs.declared.refusal.HeaderRefusal.{HeaderRefusal}
 use Rattle.vc_types.specs.DataUnits.{DataUnit}
 use Rattle.play_command.specs.declared.fault.TakeFault.{TakeFault}
 use Rattle.play_command.specs.declared.fault.TakeFault.TheVariants as faults
-use Rattle.play_command.specs.Steps.{Kept, kept_of, shown, new_frames, Playing}
+use Rattle.play_command.specs.Steps.{PlayState, stream_state, shown, new_frames}
 use Rattle.vc_types.specs.SameValues.{same_sequence}
-use Rattle.play_command.specs.Stream.{Stream, Picture, with_header, with_picture, picture_in, shows, takes, played, paired_frames, raw_frames}
-use Rattle.play_command.specs.Taking.{agreed_kept, Agrees, Shows, Brought, IsKept, IsWithin}
+use Rattle.play_command.specs.Stream.{Stream, StreamPicture, with_header, with_picture, picture_in, shows, takes, played, paired_frames, raw_frames}
+use Rattle.play_command.specs.Taking.{agreed_state, Agrees, raw_frame, Shows, Brings, Brought, HasAtMost, IsWithin}
 use Rattle.play_command.proofs.Showing.{begun, shown-kept, played-more}
 
-abbrev kept_in : Option Stream → Option Kept
-kept_in stream = option_map kept_of stream
+abbrev kept_in : Option Stream → Option PlayState
+kept_in stream = option_map stream_state stream
 
 abbrev Coded : Type 0
 Coded = Result (Sequence × ℕ) HeaderRefusal
 
 -- ---- headers
 
-agreed-by : (stream : Stream) (same : Bool) → (if same then Some (kept_of stream) else None) ≡ kept_in (if same then Some stream else None)
+agreed-by : (stream : Stream) (same : Bool) → (if same then Some (stream_state stream) else None) ≡ kept_in (if same then Some stream else None)
 agreed-by stream true = refl
 agreed-by stream false = refl
 
-agreed-kept : (stream : Option Stream) (header : Coded) → agreed_kept (kept_in stream) header ≡ kept_in (with_header stream header)
+agreed-kept : (stream : Option Stream) (header : Coded) → agreed_state (kept_in stream) header ≡ kept_in (with_header stream header)
 agreed-kept None (Ok read) = refl
 agreed-kept (Some s) (Ok read) = agreed-by s (same_sequence s.sequence read.0)
 agreed-kept None (Err refusal) = refl
@@ -65,89 +65,96 @@ module _ (stream : Option Stream) (u : DataUnit) where
   takes-other header picture = rw (ne_eqb u.code 0 header, ne_eqb u.code 0xE8 picture) refl
 
   module _ (before : Option (List ℕ)) where
-    header-by : (next : Option Stream) (k : Kept) → with_header stream (coded_header u.body) ≡ next → kept_in next ≡ Some k → u.code ≡ 0 → Brought stream u (Some k) before before (Ok tt)
+    header-by : (next : Option Stream) (k : PlayState) → with_header stream (coded_header u.body) ≡ next → kept_in next ≡ Some k → u.code ≡ 0 → Brought stream u (Some k) before before (Ok tt)
     header-by None k e same code = absurd cc
-    header-by (Some next) k e same code = (Some next, [], takes-header code ∙ ap (option_map (λ next. Some next)) e, sym same, played-header stream (coded_header u.body) next e ∙ sym (append-nil (played stream)), Grew-none before)
+    header-by (Some next) k e same code = (
+      record {
+        next = Some next;
+        due = [];
+        taken = takes-header code ∙ ap (option_map (λ next. Some next)) e;
+        grows = played-header stream (coded_header u.body) next e ∙ sym (append-nil (played stream));
+      },
+      sym same,
+      Grew-none before,
+    )
 
-    pub brings-header : (kept : Option Kept) (k : Kept) → u.code ≡ 0 → kept ≡ kept_in stream → agreed_kept kept (coded_header u.body) ≡ Some k → Brought stream u (Some k) before before (Ok tt)
+    pub brings-header : (kept : Option PlayState) (k : PlayState) → u.code ≡ 0 → kept ≡ kept_in stream → agreed_state kept (coded_header u.body) ≡ Some k → Brought stream u (Some k) before before (Ok tt)
     brings-header kept k code is e =
-        header-by (with_header stream (coded_header u.body)) k refl (sym (agreed-kept stream (coded_header u.body)) ∙ ap (λ (was : Option Kept). agreed_kept was (coded_header u.body)) (sym is) ∙ e) code
+        header-by (with_header stream (coded_header u.body)) k refl (sym (agreed-kept stream (coded_header u.body)) ∙ ap (λ (was : Option PlayState). agreed_state was (coded_header u.body)) (sym is) ∙ e) code
 
     refused-by : (next : Option Stream) → with_header stream (coded_header u.body) ≡ next → kept_in next ≡ None → u.code ≡ 0 → takes stream u ≡ None
     refused-by None e same code = takes-header code ∙ ap (option_map (λ next. Some next)) e
     refused-by (Some next) e same code = absurd cc
 
-    pub brings-no-header : (kept new : Option Kept) → u.code ≡ 0 → kept ≡ kept_in stream → agreed_kept kept (coded_header u.body) ≡ None → Brought stream u new before before (Err faults.Refused)
+    pub brings-no-header : (kept new : Option PlayState) → u.code ≡ 0 → kept ≡ kept_in stream → agreed_state kept (coded_header u.body) ≡ None → Brought stream u new before before (Err faults.Refused)
     brings-no-header kept new code is e =
-        (refused-by (with_header stream (coded_header u.body)) refl (sym (agreed-kept stream (coded_header u.body)) ∙ ap (λ (was : Option Kept). agreed_kept was (coded_header u.body)) (sym is) ∙ e) code, refl)
+        (refused-by (with_header stream (coded_header u.body)) refl (sym (agreed-kept stream (coded_header u.body)) ∙ ap (λ (was : Option PlayState). agreed_state was (coded_header u.body)) (sym is) ∙ e) code, refl)
 
     pub brings-other : u.code ≢ 0 → u.code ≢ 0xE8 → Brought stream u (kept_in stream) before before (Ok tt)
-    brings-other header picture = (stream, [], takes-other header picture, refl, sym (append-nil (played stream)), Grew-none before)
+    brings-other header picture =
+        (record { next = stream; due = []; taken = takes-other header picture; grows = sym (append-nil (played stream)) }, refl, Grew-none before)
 
 -- a picture before any header
-pub brings-no-stream : (stream : Option Stream) (u : DataUnit) (new : Option Kept) (before : Option (List ℕ)) → u.code ≡ 0xE8 → None ≡ kept_in stream → Brought stream u new before before (Err faults.Refused)
+pub brings-no-stream : (stream : Option Stream) (u : DataUnit) (new : Option PlayState) (before : Option (List ℕ)) → u.code ≡ 0xE8 → None ≡ kept_in stream → Brought stream u new before before (Err faults.Refused)
 brings-no-stream None u new before code none = (takes-picture None u code, refl)
 brings-no-stream (Some s) u new before code none = absurd cc
 
 -- a picture behind a header
-module _ (s : Stream) (u : DataUnit) (code : u.code ≡ 0xE8) (new : Kept) (before after : Option (List ℕ)) where
-  shows-some : (p : Picture) → picture_in s.sequence u.body ≡ Some p → takes (Some s) u ≡ Some (Some (with_picture s p))
-  shows-some p e = takes-picture (Some s) u code ∙ ap (λ (picture : Option Picture). option_map (λ next. Some next) (option_map (with_picture s) picture)) e
+module _ (s : Stream) (u : DataUnit) (code : u.code ≡ 0xE8) (new : PlayState) (before after : Option (List ℕ)) where
+  shows-some : (p : StreamPicture) → picture_in s.sequence u.body ≡ Some p → takes (Some s) u ≡ Some (Some (with_picture s p))
+  shows-some p e = takes-picture (Some s) u code ∙ ap (λ (picture : Option StreamPicture). option_map (λ next. Some next) (option_map (with_picture s) picture)) e
 
   shows-none : picture_in s.sequence u.body ≡ None → takes (Some s) u ≡ None
-  shows-none e = takes-picture (Some s) u code ∙ ap (λ (picture : Option Picture). option_map (λ next. Some next) (option_map (with_picture s) picture)) e
+  shows-none e = takes-picture (Some s) u code ∙ ap (λ (picture : Option StreamPicture). option_map (λ next. Some next) (option_map (with_picture s) picture)) e
 
-  brings-shown : (result : Result (Unit {0}) TakeFault) → Shows u.body (kept_of s) new before after result → Brought (Some s) u (Some new) before after result
-  brings-shown (Ok done) (p, e, is, grew) = (Some (with_picture s p), raw_frames s.sequence (new_frames s.sequence (kept_of s).waiting p), shows-some p e, ap (λ (k : Kept). Some k) (is ∙ shown-kept s p), played-more s p, grew)
-  brings-shown (Err faults.WriteFault) (p, e, grew) = (Some (with_picture s p), raw_frames s.sequence (new_frames s.sequence (kept_of s).waiting p), shows-some p e, played-more s p, grew)
+  abbrev due_for : (p : StreamPicture) → picture_in s.sequence u.body ≡ Some p → Brings (Some s) u
+  due_for p e = record { next = Some (with_picture s p); due = raw_frame (stream_state s) p; taken = shows-some p e; grows = played-more s p }
+
+  brings-shown : (result : Result (Unit {0}) TakeFault) → Shows u.body (stream_state s) new before after result → Brought (Some s) u (Some new) before after result
+  brings-shown (Ok done) shown = (due_for shown.picture shown.read, ap (λ (k : PlayState). Some k) (shown.state ∙ shown-kept s shown.picture), shown.grew)
+  brings-shown (Err faults.WriteFault) shown = (due_for shown.picture shown.read, shown.grew)
   brings-shown (Err faults.Refused) (e, same) = (shows-none e, same)
   brings-shown (Err faults.NoMemory) same = same
 
-pub brings-picture : (stream : Option Stream) (u : DataUnit) (k new : Kept) (before after : Option (List ℕ)) (result : Result (Unit {0}) TakeFault) → u.code ≡ 0xE8 → Some k ≡ kept_in stream
+pub brings-picture : (stream : Option Stream) (u : DataUnit) (k new : PlayState) (before after : Option (List ℕ)) (result : Result (Unit {0}) TakeFault) → u.code ≡ 0xE8 → Some k ≡ kept_in stream
     → Shows u.body k new before after result → Brought stream u (Some new) before after result
 brings-picture None u k new before after result code is shown = absurd cc
 brings-picture (Some s) u k new before after result code is shown =
-    let same : k ≡ kept_of s = cc in
+    let same : k ≡ stream_state s = cc in
     brings-shown s u code new before after result (rw same at shown)
 
 -- a header
-pub brings-agreed : (stream : Option Stream) (u : DataUnit) (old new : Playing) (before : Option (List ℕ)) (result : Result (Unit {0}) TakeFault) → u.code ≡ 0 → old.kept ≡ kept_in stream
-    → Agrees (coded_header u.body) old new result → Brought stream u new.kept before before result
-brings-agreed stream u old new before (Ok done) code is (k, e, now) = rw now (brings-header stream u before old.kept k code is e)
-brings-agreed stream u old new before (Err faults.Refused) code is e = brings-no-header stream u before old.kept new.kept code is e
+pub brings-agreed : (stream : Option Stream) (u : DataUnit) (old new : Option PlayState) (before : Option (List ℕ)) (result : Result (Unit {0}) TakeFault) → u.code ≡ 0 → old ≡ kept_in stream
+    → Agrees (coded_header u.body) old new result → Brought stream u new before before result
+brings-agreed stream u old new before (Ok done) code is (k, e, now) = rw now (brings-header stream u before old k code is e)
+brings-agreed stream u old new before (Err faults.Refused) code is e = brings-no-header stream u before old new code is e
 brings-agreed stream u old new before (Err faults.WriteFault) code is none = absurd none
 brings-agreed stream u old new before (Err faults.NoMemory) code is none = absurd none
 
 -- ---- how much is kept
 
-pub kept_more : (n : ℕ) (k : Kept) → IsKept n k → IsKept (n + 1) k
+kept_more : (n : ℕ) (k : PlayState) → HasAtMost n k → HasAtMost (n + 1) k
 kept_more n k is = record { pictures = omega (arith, is.pictures); frames = is.frames; shape = is.shape }
 
-pub within_more : (n : ℕ) (player : Playing) → IsWithin n player → IsWithin (n + 1) player
-within_more n player within = more player.kept within
-  where
-    more : (kept : Option Kept) → IfSome kept (IsKept n) → IfSome kept (IsKept (n + 1))
-    more None h = h
-    more (Some k) h = kept_more n k h
+pub within_more : (n : ℕ) (kept : Option PlayState) → IsWithin n kept → IsWithin (n + 1) kept
+within_more n None h = h
+within_more n (Some k) h = kept_more n k h
 
-nothing_kept : (n : ℕ) (s : Sequence) → IsKept n (kept_of (record { sequence = s; pictures = [] }))
-nothing_kept n s = subst (IsKept n) (begun s) (record { pictures = omega arith; frames = omega arith; shape = tt })
+none_yet : (n : ℕ) (s : Sequence) → HasAtMost n (stream_state (record { sequence = s; pictures = [] }))
+none_yet n s = subst (HasAtMost n) (begun s) (record { pictures = omega arith; frames = omega arith; shape = tt })
 
-same_by : (same : Bool) (k next : Kept) → (if same then Some k else None) ≡ Some next → k ≡ next
+same_by : (same : Bool) (k next : PlayState) → (if same then Some k else None) ≡ Some next → k ≡ next
 same_by true k next e = cc
 same_by false k next e = absurd cc
 
-kept_agreed : (n : ℕ) (kept : Option Kept) (header : Coded) (k : Kept) → agreed_kept kept header ≡ Some k → IfSome kept (IsKept n) → IsKept (n + 1) k
+kept_agreed : (n : ℕ) (kept : Option PlayState) (header : Coded) (k : PlayState) → agreed_state kept header ≡ Some k → IsWithin n kept → HasAtMost (n + 1) k
 kept_agreed n kept (Err refusal) k e h = absurd cc
-kept_agreed n None (Ok read) k e h = subst (IsKept (n + 1)) (some_is e) (nothing_kept (n + 1) read.0)
+kept_agreed n None (Ok read) k e h = subst (HasAtMost (n + 1)) (some_is e) (none_yet (n + 1) read.0)
   where
-    some_is : {a b : Kept} → Some a ≡ Some b → a ≡ b
+    some_is : {a b : PlayState} → Some a ≡ Some b → a ≡ b
     some_is e = cc
-kept_agreed n (Some was) (Ok read) k e h = subst (IsKept (n + 1)) (same_by (same_sequence was.sequence read.0) was k e) (kept_more n was h)
+kept_agreed n (Some was) (Ok read) k e h = subst (HasAtMost (n + 1)) (same_by (same_sequence was.sequence read.0) was k e) (kept_more n was h)
 
-agrees-within : (n : ℕ) (old new : Playing) (header : Coded) → Agrees header old new (Ok tt) → IsWithin n old → IsWithin (n + 1) new
-agrees-within n old new header (k, e, now) h = rw now (kept_agreed n old.kept header k e h)
-
-pub agrees-few : (old new : Playing) (header : Coded) (result : Result (Unit {0}) TakeFault) → Agrees header old new result → OnOk result ((n : ℕ) → IsWithin n old → IsWithin (n + 1) new)
-agrees-few old new header (Ok done) agrees = λ n h. agrees-within n old new header agrees h
+pub agrees-few : (old new : Option PlayState) (header : Coded) (result : Result (Unit {0}) TakeFault) → Agrees header old new result → OnOk result ((n : ℕ) → IsWithin n old → IsWithin (n + 1) new)
+agrees-few old new header (Ok done) (k, e, now) = λ n h. rw now (kept_agreed n old header k e h)
 agrees-few old new header (Err fault) agrees = tt

@@ -5,20 +5,20 @@ use Rattle.std.proofs.lemmas.Bool.{cases_Bool}
 use Rattle.vc_types.specs.FieldPairs.{woven}
 use Rattle.vc_types.specs.Planes.{Planes}
 use Rattle.vc_types.specs.SequenceHeader.{Sequence}
-use Rattle.play_command.specs.Stream.{Picture, is_pair, paired_frames}
+use Rattle.play_command.specs.Stream.{StreamPicture, is_pair, paired_frames}
 use Rattle.play_command.specs.Steps.{next_waiting, completed, waiting_in}
 
-module _ (s : Sequence) (p : Picture) where
-  abbrev frames : List Picture → List Planes
+module _ (s : Sequence) (p : StreamPicture) where
+  abbrev frames : List StreamPicture → List Planes
   frames pictures = paired_frames s.top_first pictures
 
-  abbrev BringsFrames : List Picture → Type 0
+  abbrev BringsFrames : List StreamPicture → Type 0
   BringsFrames pictures = frames (pictures ++ p ∷ []) ≡ frames pictures ++ completed s (waiting_in pictures) p
 
-  abbrev LeavesWaiting : List Picture → Type 0
+  abbrev LeavesWaiting : List StreamPicture → Type 0
   LeavesWaiting pictures = waiting_in (pictures ++ p ∷ []) ≡ next_waiting (waiting_in pictures) p
 
-  pub paired-more : (pictures : List Picture) → BringsFrames pictures
+  pub paired-more : (pictures : List StreamPicture) → BringsFrames pictures
   unfolding paired_frames waiting_in
   paired-more [] = refl
   paired-more (a ∷ []) = elim (cases_Bool (a.number % 2 == 0)) [
@@ -30,7 +30,7 @@ module _ (s : Sequence) (p : Picture) where
     | inr apart ↦ rw apart (paired-more (b ∷ rest))
   ]
 
-  pub waiting-more : (pictures : List Picture) → LeavesWaiting pictures
+  pub waiting-more : (pictures : List StreamPicture) → LeavesWaiting pictures
   unfolding waiting_in
   waiting-more [] = refl
   waiting-more (a ∷ []) = elim (cases_Bool (a.number % 2 == 0)) [

@@ -6,7 +6,7 @@ pub mod Weavable
 pub mod Showing
 pub mod Completing
 pub mod Bringing
-pub mod Hearing
+pub mod SoFar
 pub mod Loops
 pub mod Stopping
 pub mod Players

@@ -6,55 +6,55 @@ use Rattle.std.proofs.lemmas.List.Concat.{flat_map-append}
 use Rattle.vc_types.specs.RawFrames.{is_wide, frame_bytes}
 use Rattle.vc_types.specs.Planes.{Planes}
 use Rattle.vc_types.specs.SequenceHeader.{Sequence, picture_shape}
-use Rattle.play_command.specs.Stream.{Stream, Picture, with_picture, paired_frames, frames_of, raw_frames, played}
-use Rattle.play_command.specs.Steps.{Kept, completed, next_waiting, new_frames, shown, waiting_in, kept_of}
+use Rattle.play_command.specs.Stream.{Stream, StreamPicture, with_picture, paired_frames, stream_frames, raw_frames, played}
+use Rattle.play_command.specs.Steps.{PlayState, completed, next_waiting, new_frames, shown, waiting_in, stream_state}
 use Rattle.play_command.proofs.Following.{paired-more, waiting-more}
 
-abbrev frames_with : Sequence → Bool → List Picture → List Planes
+abbrev frames_with : Sequence → Bool → List StreamPicture → List Planes
 frames_with s fields pictures = if fields then paired_frames s.top_first pictures else map (λ q. q.planes) pictures
 
-abbrev waiting_with : Bool → List Picture → Option Picture
+abbrev waiting_with : Bool → List StreamPicture → Option StreamPicture
 waiting_with fields pictures = if fields then waiting_in pictures else None
 
-module _ (s : Sequence) (p : Picture) where
-  abbrev new_with : Bool → Option Picture → List Planes
+module _ (s : Sequence) (p : StreamPicture) where
+  abbrev new_with : Bool → Option StreamPicture → List Planes
   new_with fields waiting = if fields then completed s waiting p else p.planes ∷ []
 
-  frames-by : (fields : Bool) (pictures : List Picture) → frames_with s fields (pictures ++ p ∷ []) ≡ frames_with s fields pictures ++ new_with fields (waiting_with fields pictures)
+  frames-by : (fields : Bool) (pictures : List StreamPicture) → frames_with s fields (pictures ++ p ∷ []) ≡ frames_with s fields pictures ++ new_with fields (waiting_with fields pictures)
   frames-by true pictures = paired-more s p pictures
-  frames-by false pictures = map-append (λ (q : Picture). q.planes) pictures (p ∷ [])
+  frames-by false pictures = map-append (λ (q : StreamPicture). q.planes) pictures (p ∷ [])
 
-  waiting-by : (fields : Bool) (pictures : List Picture) → (if fields then next_waiting (waiting_with fields pictures) p else waiting_with fields pictures) ≡ waiting_with fields (pictures ++ p ∷ [])
+  waiting-by : (fields : Bool) (pictures : List StreamPicture) → (if fields then next_waiting (waiting_with fields pictures) p else waiting_with fields pictures) ≡ waiting_with fields (pictures ++ p ∷ [])
   waiting-by true pictures = sym (waiting-more s p pictures)
   waiting-by false pictures = refl
 
-module _ (stream : Stream) (p : Picture) where
+module _ (stream : Stream) (p : StreamPicture) where
   -- the frames that it brings come last
-  pub frames-more : frames_of (with_picture stream p) ≡ frames_of stream ++ new_frames stream.sequence (kept_of stream).waiting p
+  pub frames-more : stream_frames (with_picture stream p) ≡ stream_frames stream ++ new_frames stream.sequence (stream_state stream).waiting p
   frames-more = frames-by stream.sequence p stream.sequence.fields stream.pictures
 
-  same_kept : (s : Sequence) (w v : Option Picture) (n m f g : ℕ) → w ≡ v → n ≡ m → f ≡ g
-      → ◌≡◌ {A = Kept} (record { sequence = s; waiting = w; pictures = n; frames = f }) (record { sequence = s; waiting = v; pictures = m; frames = g })
+  same_kept : (s : Sequence) (w v : Option StreamPicture) (n m f g : ℕ) → w ≡ v → n ≡ m → f ≡ g
+      → ◌≡◌ {A = PlayState} (record { sequence = s; waiting = w; pictures = n; frames = f }) (record { sequence = s; waiting = v; pictures = m; frames = g })
   same_kept s w v n m f g e h i = rw (e, h, i) refl
 
-  pub shown-kept : shown (kept_of stream) p ≡ kept_of (with_picture stream p)
+  pub shown-kept : shown (stream_state stream) p ≡ stream_state (with_picture stream p)
   shown-kept =
       let count = length-append stream.pictures (p ∷ []) in
-      let frames = ap (λ (frames : List Planes). length frames) frames-more ∙ length-append (frames_of stream) (new_frames stream.sequence (kept_of stream).waiting p) in
-      same_kept stream.sequence (shown (kept_of stream) p).waiting (kept_of (with_picture stream p)).waiting _ _ _ _ (waiting-by stream.sequence p stream.sequence.fields stream.pictures) (omega (arith, count)) (sym frames)
+      let frames = ap (λ (frames : List Planes). length frames) frames-more ∙ length-append (stream_frames stream) (new_frames stream.sequence (stream_state stream).waiting p) in
+      same_kept stream.sequence (shown (stream_state stream) p).waiting (stream_state (with_picture stream p)).waiting _ _ _ _ (waiting-by stream.sequence p stream.sequence.fields stream.pictures) (omega (arith, count)) (sym frames)
 
   -- and their bytes
-  pub played-more : played (Some (with_picture stream p)) ≡ played (Some stream) ++ raw_frames stream.sequence (new_frames stream.sequence (kept_of stream).waiting p)
+  pub played-more : played (Some (with_picture stream p)) ≡ played (Some stream) ++ raw_frames stream.sequence (new_frames stream.sequence (stream_state stream).waiting p)
   played-more =
       ap (raw_frames stream.sequence) frames-more
-      ∙ flat_map-append (λ frame. frame_bytes frame (is_wide (picture_shape stream.sequence))) (frames_of stream) (new_frames stream.sequence (kept_of stream).waiting p)
+      ∙ flat_map-append (λ frame. frame_bytes frame (is_wide (picture_shape stream.sequence))) (stream_frames stream) (new_frames stream.sequence (stream_state stream).waiting p)
 
 -- ---- no picture yet
 
-begun-by : (s : Sequence) (fields : Bool) → ◌≡◌ {A = Kept} (record { sequence = s; waiting = None; pictures = 0; frames = 0 }) (record { sequence = s; waiting = waiting_with fields []; pictures = 0; frames = length (frames_with s fields []) })
+begun-by : (s : Sequence) (fields : Bool) → ◌≡◌ {A = PlayState} (record { sequence = s; waiting = None; pictures = 0; frames = 0 }) (record { sequence = s; waiting = waiting_with fields []; pictures = 0; frames = length (frames_with s fields []) })
 unfolding paired_frames waiting_in
 begun-by s true = refl
 begun-by s false = refl
 
-pub begun : (s : Sequence) → ◌≡◌ {A = Kept} (record { sequence = s; waiting = None; pictures = 0; frames = 0 }) (kept_of (record { sequence = s; pictures = [] }))
+pub begun : (s : Sequence) → ◌≡◌ {A = PlayState} (record { sequence = s; waiting = None; pictures = 0; frames = 0 }) (stream_state (record { sequence = s; pictures = [] }))
 begun s = begun-by s s.fields

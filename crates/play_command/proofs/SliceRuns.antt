@@ -9,17 +9,17 @@ use Rattle.vc_types.specs.declared.refusal.Unsound.{Unsound}
 use Rattle.vc_types.specs.Slices.{Coefficients, slice_length, slice_coefficients}
 use Rattle.vc_types.proofs.WholeSlices.{slices_from-sound, slices_from-unsound, slices_from-short}
 use Rattle.vc_types.specs.TransformParameters.{Parameters}
-use Rattle.play_command.specs.Slices.{GaveSlice, behind}
+use Rattle.play_command.specs.Slices.{GaveSlice, slices_behind}
 
 abbrev Read : Type 0
 Read = Result (List Coefficients × List ℕ) (Unit {0})
 
 -- nothing before
-pub behind-nothing : (read : Read) → behind [] read ≡ read
+pub behind-nothing : (read : Read) → slices_behind [] read ≡ read
 behind-nothing (Ok read) = refl
 behind-nothing (Err short) = refl
 
-behind-and : (done : List Coefficients) (s : Coefficients) (read : Read) → behind done (and_then read (λ more. Ok (s ∷ more.0, more.1))) ≡ behind (done ++ s ∷ []) read
+behind-and : (done : List Coefficients) (s : Coefficients) (read : Read) → slices_behind done (and_then read (λ more. Ok (s ∷ more.0, more.1))) ≡ slices_behind (done ++ s ∷ []) read
 behind-and done s (Ok read) = ap (λ (all : List Coefficients). Ok (all, read.1)) (sym (append_assoc done (s ∷ []) read.0))
 behind-and done s (Err short) = refl
 
@@ -38,21 +38,21 @@ module _ (p : Parameters) where
 
   -- a slice more, of n
   pub behind-slice : (i n : ℕ) (old new : List ℕ) (done : List Coefficients) (s : Coefficients) → i < n → GaveSlice p i old new (Some s)
-      → behind done (slices_from p i (n - i) old) ≡ behind (done ++ s ∷ []) (slices_from p (i + 1) (n - (i + 1)) new)
+      → slices_behind done (slices_from p i (n - i) old) ≡ slices_behind (done ++ s ∷ []) (slices_from p (i + 1) (n - (i + 1)) new)
   behind-slice i n old new done s h gave =
       let next : n - i ≡ suc (n - (i + 1)) = omega arith in
-      ap (λ (count : ℕ). behind done (slices_from p i count old)) next
-      ∙ ap (behind done) (gave.1 (n - (i + 1))) ∙ behind-and done s (slices_from p (i + 1) (n - (i + 1)) new)
+      ap (λ (count : ℕ). slices_behind done (slices_from p i count old)) next
+      ∙ ap (slices_behind done) (gave.1 (n - (i + 1))) ∙ behind-and done s (slices_from p (i + 1) (n - (i + 1)) new)
 
   -- a slice that is refused
-  pub behind-refused : (i n : ℕ) (old new : List ℕ) (done : List Coefficients) → i < n → GaveSlice p i old new None → behind done (slices_from p i (n - i) old) ≡ Err tt
+  pub behind-refused : (i n : ℕ) (old new : List ℕ) (done : List Coefficients) → i < n → GaveSlice p i old new None → slices_behind done (slices_from p i (n - i) old) ≡ Err tt
   behind-refused i n old new done h gave =
       let next : n - i ≡ suc (n - (i + 1)) = omega arith in
-      ap (λ (count : ℕ). behind done (slices_from p i count old)) next ∙ ap (behind done) (gave (n - (i + 1)))
+      ap (λ (count : ℕ). slices_behind done (slices_from p i count old)) next ∙ ap (slices_behind done) (gave (n - (i + 1)))
 
   -- no slice more
-  pub behind-last : (i n : ℕ) (rest : List ℕ) (done : List Coefficients) → n ≤ i → behind done (slices_from p i (n - i) rest) ≡ Ok (done, rest)
+  pub behind-last : (i n : ℕ) (rest : List ℕ) (done : List Coefficients) → n ≤ i → slices_behind done (slices_from p i (n - i) rest) ≡ Ok (done, rest)
   unfolding slices_from
   behind-last i n rest done h =
       let none : n - i ≡ 0 = omega arith in
-      ap (λ (count : ℕ). behind done (slices_from p i count rest)) none ∙ ap (λ (all : List Coefficients). Ok (all, rest)) (append-nil done)
+      ap (λ (count : ℕ). slices_behind done (slices_from p i count rest)) none ∙ ap (λ (all : List Coefficients). Ok (all, rest)) (append-nil done)

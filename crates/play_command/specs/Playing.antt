@@ -1,77 +1,125 @@
 -- What playing a stream did, by how it ended.
-use Rattle.std.specs.Prelude.{◌≡◌, ◌≢◌, ◌⊎◌, ℕ, ◌<◌, Bool, true, false, List, [], length, IsTrue, IsFalse, Result, Ok, Err}
+use Rattle.std.specs.Prelude.{◌≡◌, ◌≢◌, ◌⊎◌, ℕ, ◌<◌, Bool, true, false, List, [], ◌∷◌, ◌++◌, length, Option, None, IsTrue, IsFalse, Result, Ok, Err}
 use Rattle.std.specs.List.{list_any}
 use Rattle.link_report.specs.declared.ending.Ending.{Ending}
 use Rattle.link_report.specs.declared.ending.Ending.TheVariants.{InputFailed, OutputFailed, NoMemory, PacketLimit, StreamBad}
 use Rattle.link_report.specs.declared.summary.Summary.{Summary}
 use Rattle.link_report.specs.declared.summary.Summary.TheVariants.{Played}
-use Rattle.vc_ports.specs.Faults.{Rose}
-use Rattle.vc_ports.specs.Reading.{Gave, IsAtEnd}
-use Rattle.vc_ports.specs.Runs.{Run}
-use Rattle.vc_ports.specs.Writing.{Grew, GrewBySome}
+use Rattle.vc_ports.specs.Changes.{InputChange, OutputChange, Took, Wrote, WrotePart, HasRisen}
+use Rattle.vc_ports.specs.Reading.{IsAtEnd}
 use Rattle.vc_types.specs.DataUnits.{DataUnit, is_end_of_sequence}
 use Rattle.vc_units.specs.Units.{data_unit, units_within}
 use Rattle.vc_units.specs.declared.fault.UnitFault.{UnitFault}
 use Rattle.vc_units.specs.declared.fault.UnitFault.TheVariants.{Short}
-use Rattle.play_command.specs.Stream.{Heard, heard_of, played, pictures_in, frames_in, unpaired_in}
+use Rattle.play_command.specs.Stream.{StreamSoFar, takes, units_taken, played, pictures_in, frames_in, unpaired_in}
 
--- the bytes that the input gave: the units that begin them, at most `packets` and up to an end of sequence, and the rest
-pub record Split : Type 0 where
+-- ---- what the input gave
+
+-- the units that begin the bytes, at most `packets` and up to an end of sequence, and the rest
+pub record UnitSplit : Type 0 where
   pub units : List DataUnit
   pub rest : List ℕ
 
-abbrev pub split_of : ℕ → List ℕ → Split
-split_of packets given = record { units = (units_within packets given).0; rest = (units_within packets given).1 }
+abbrev pub unit_split : ℕ → List ℕ → UnitSplit
+unit_split packets given = record {
+  units = (units_within packets given).0;
+  rest = (units_within packets given).1;
+}
 
 -- what the units up to the first refused one bring
-abbrev pub heard_in : Split → Heard
-heard_in s = (heard_of s.units).0
+abbrev pub so_far : UnitSplit → StreamSoFar
+so_far s = (units_taken s.units).0
+
+-- the bytes of the frames that they make
+abbrev pub frames_due : UnitSplit → List ℕ
+frames_due s = played (so_far s).stream
 
 -- no unit is refused by those before it
-abbrev pub AreAccepted : Split → Type 0
-AreAccepted s = (heard_of s.units).1 ≡ false
+abbrev pub AreAccepted : List DataUnit → Type 0
+AreAccepted units = (units_taken units).1 ≡ false
 
-abbrev pub has_ended : Split → Bool
+abbrev pub has_ended : UnitSplit → Bool
 has_ended s = list_any is_end_of_sequence s.units
 
--- the rest begins no unit: its first refusal; it ends within a unit only where the input ends
-pub record IsRefused (run : Run) (rest : List ℕ) : Type 0 where
-  pub fault : UnitFault
-  pub refused : data_unit rest ≡ Err fault
-  pub some : rest ≢ []
-  pub end : fault ≡ Short → IsAtEnd run.left_after
+-- ---- the ways to end
 
--- the unit at the end of what was heard is refused: by those before it, or as it stands, where another one may come
-abbrev pub IsBad : ℕ → Run → Split → Type 0
-IsBad packets run s = ((heard_of s.units).1 ≡ true) ⊎ (AreAccepted s × (length s.units < packets) × IsFalse (has_ended s) × IsRefused run s.rest)
-
--- the output grew by the frames of what was heard, or by a prefix of them
-abbrev pub Wrote : Run → Split → Type 0
-Wrote run s = Grew run.held_before run.held_after (played (heard_in s).stream)
-
-abbrev pub WrotePart : Run → Split → Type 0
-WrotePart run s = GrewBySome run.held_before run.held_after (played (heard_in s).stream)
-
-abbrev pub Outcome : ℕ → Result Summary Ending → Run → Split → Type 0
 -- the input was read to its end at a unit's edge, or to the end of the sequence
-Outcome packets (Ok (Played pictures unpaired frames)) run s =
-    AreAccepted s × (s.rest ≡ []) × (IsAtEnd run.left_after ⊎ IsTrue (has_ended s)) × Wrote run s
-    × (pictures ≡ pictures_in (heard_in s).stream) × (unpaired ≡ unpaired_in (heard_in s).stream) × (frames ≡ frames_in (heard_in s).stream)
--- a read failed, before any unit was refused and before an end of sequence
-Outcome packets (Err InputFailed) run s = AreAccepted s × IsFalse (has_ended s) × (data_unit s.rest ≡ Err Short) × Wrote run s
--- a write failed, or memory ran out
-Outcome packets (Err OutputFailed) run s = WrotePart run s
-Outcome packets (Err NoMemory) run s = WrotePart run s
+pub record HasPlayed
+    (input : InputChange) (output : OutputChange) (s : UnitSplit) (pictures unpaired frames : ℕ)
+    : Type 0 where
+  pub accepted : AreAccepted s.units
+  pub no_rest : s.rest ≡ []
+  pub ended : IsAtEnd input.left.after ⊎ IsTrue (has_ended s)
+  pub wrote : Wrote output (frames_due s)
+  pub pictures_are : pictures ≡ pictures_in (so_far s).stream
+  pub unpaired_are : unpaired ≡ unpaired_in (so_far s).stream
+  pub frames_are : frames ≡ frames_in (so_far s).stream
+
+-- a read failed, where a unit more was asked for, or a byte behind as many units as were asked for
+pub record CouldNotRead (packets : ℕ) (output : OutputChange) (s : UnitSplit) : Type 0 where
+  pub accepted : AreAccepted s.units
+  pub goes_on : IsFalse (has_ended s)
+  pub short : data_unit s.rest ≡ Err Short
+  pub wanted : (length s.units < packets) ⊎ (s.rest ≡ [])
+  pub wrote : Wrote output (frames_due s)
+
 -- so many units were read, none of them an end of sequence, and then one byte more
-Outcome packets (Err (PacketLimit limit)) run s =
-    (limit ≡ packets) × (length s.units ≡ packets) × IsFalse (has_ended s) × (length s.rest ≡ 1) × AreAccepted s × Wrote run s
-Outcome packets (Err (StreamBad place)) run s = IsBad packets run s × (place ≡ (heard_in s).place) × Wrote run s
-Outcome packets answer run s = ⊥
+pub record IsPastLimit (packets : ℕ) (output : OutputChange) (s : UnitSplit) (limit : ℕ)
+    : Type 0 where
+  pub limit_is : limit ≡ packets
+  pub count : length s.units ≡ packets
+  pub goes_on : IsFalse (has_ended s)
+  pub one_more : length s.rest ≡ 1
+  pub accepted : AreAccepted s.units
+  pub wrote : Wrote output (frames_due s)
+
+-- the last unit is refused by those before it, and nothing was read behind it
+pub record EndsWithRefused (s : UnitSplit) : Type 0 where
+  pub others : List DataUnit
+  pub last : DataUnit
+  pub units : s.units ≡ others ++ last ∷ []
+  pub accepted : AreAccepted others
+  pub refused : takes (units_taken others).0.stream last ≡ None
+  pub no_rest : s.rest ≡ []
+
+-- nothing was read behind the 13 bytes of a refused parse info; the input ends within a unit that is short
+abbrev pub IsLast : InputChange → List ℕ → UnitFault → Type 0
+IsLast input rest Short = (rest ≢ []) × IsAtEnd input.left.after
+IsLast input rest fault = length rest ≡ 13
+
+-- a unit more was asked for, and the rest, whatever follows, begins with none
+pub record HasRefusedRest (packets : ℕ) (input : InputChange) (s : UnitSplit) : Type 0 where
+  pub accepted : AreAccepted s.units
+  pub goes_on : IsFalse (has_ended s)
+  pub wanted : length s.units < packets
+  pub fault : UnitFault
+  pub refused : data_unit s.rest ≡ Err fault
+  pub last : IsLast input s.rest fault
+
+-- a unit is refused: by those before it, or as it stands
+pub record IsBad
+    (packets : ℕ) (input : InputChange) (output : OutputChange) (s : UnitSplit) (place : ℕ)
+    : Type 0 where
+  pub refused : EndsWithRefused s ⊎ HasRefusedRest packets input s
+  pub place_is : place ≡ (so_far s).place
+  pub wrote : Wrote output (frames_due s)
+
+abbrev pub PlayEnded : ℕ → Result Summary Ending → InputChange → OutputChange → UnitSplit → Type 0
+PlayEnded packets (Ok (Played pictures unpaired frames)) input output s =
+    HasPlayed input output s pictures unpaired frames
+PlayEnded packets (Err InputFailed) input output s = CouldNotRead packets output s
+PlayEnded packets (Err OutputFailed) input output s = WrotePart output (frames_due s)
+PlayEnded packets (Err NoMemory) input output s = WrotePart output (frames_due s)
+PlayEnded packets (Err (PacketLimit limit)) input output s = IsPastLimit packets output s limit
+PlayEnded packets (Err (StreamBad place)) input output s = IsBad packets input output s place
+PlayEnded packets answer input output s = ⊥
 
 -- playing at most so many units of the bytes that the input gave
-pub record Plays (packets : ℕ) (answer : Result Summary Ending) (run : Run) : Type 0 where
+pub record Plays
+    (packets : ℕ) (answer : Result Summary Ending) (input : InputChange) (output : OutputChange)
+    : Type 0 where
   pub given : List ℕ
-  pub gave : Gave run.left_before run.left_after given
-  pub outcome : Outcome packets answer run (split_of packets given)
-  pub input_failed : answer ≡ Err InputFailed → Rose run.input_faults_before run.input_faults_after
-  pub output_failed : answer ≡ Err OutputFailed → Rose run.output_faults_before run.output_faults_after
+  pub took : Took input given
+  pub ended : PlayEnded packets answer input output (unit_split packets given)
+  pub input_failed : answer ≡ Err InputFailed → HasRisen input.faults
+  pub output_failed : answer ≡ Err OutputFailed → HasRisen output.faults

@@ -9,18 +9,23 @@ use Rattle.vc_types.specs.Slices.{Coefficients}
 use Rattle.vc_types.specs.Subbands.{slice_count}
 use Rattle.vc_types.specs.TransformParameters.{Parameters}
 
+-- slices that were read before others
+abbrev pub slices_behind : List Coefficients → Result (List Coefficients × List ℕ) (Unit {0})
+    → Result (List Coefficients × List ℕ) (Unit {0})
+slices_behind done (Ok read) = Ok (done ++ read.0, read.1)
+slices_behind done (Err short) = Err short
+
 -- the slice with this number, and the slices behind it; none where it is refused
 abbrev pub GaveSlice : Parameters → ℕ → List ℕ → List ℕ → Option Coefficients → Type 0
 GaveSlice p index old new None = (n : ℕ) → slices_from p index (suc n) old ≡ Err tt
-GaveSlice p index old new (Some s) = AreSliceCoefficients p index s × ((n : ℕ) → slices_from p index (suc n) old ≡ and_then (slices_from p (index + 1) n new) (λ read. Ok (s ∷ read.0, read.1)))
-
--- slices that were read before others
-abbrev pub behind : List Coefficients → Result (List Coefficients × List ℕ) (Unit {0}) → Result (List Coefficients × List ℕ) (Unit {0})
-behind done (Ok read) = Ok (done ++ read.0, read.1)
-behind done (Err short) = Err short
+GaveSlice p index old new (Some s) =
+    AreSliceCoefficients p index s
+    × ((n : ℕ) → slices_from p index (suc n) old
+    ≡ and_then (slices_from p (index + 1) n new) (λ read. Ok (s ∷ read.0, read.1)))
 
 -- all slices of a picture
-pub record GaveAll (p : Parameters) (bytes : List ℕ) (slices : List Coefficients) : Type 0 where
+pub record GaveAllSlices (p : Parameters) (bytes : List ℕ) (slices : List Coefficients)
+    : Type 0 where
   pub rest : List ℕ
   pub read : slices_from p 0 (slice_count p) bytes ≡ Ok (slices, rest)
   pub count : length slices ≡ slice_count p
@@ -28,4 +33,4 @@ pub record GaveAll (p : Parameters) (bytes : List ℕ) (slices : List Coefficien
 
 abbrev pub GaveSlices : Parameters → List ℕ → Option (Vec Coefficients) → Type 0
 GaveSlices p bytes None = slices_from p 0 (slice_count p) bytes ≡ Err tt
-GaveSlices p bytes (Some slices) = GaveAll p bytes slices.items
+GaveSlices p bytes (Some slices) = GaveAllSlices p bytes slices.items

@@ -4,34 +4,36 @@ use Rattle.std.specs.Option.{option_map}
 use Rattle.vc_types.specs.FieldPairs.{woven}
 use Rattle.vc_types.specs.Planes.{Planes}
 use Rattle.vc_types.specs.SequenceHeader.{Sequence}
-use Rattle.play_command.specs.Stream.{Heard, Stream, Picture, is_pair, frames_of}
+use Rattle.play_command.specs.Stream.{StreamSoFar, Stream, StreamPicture, is_pair, stream_frames}
 
 -- an even-numbered field waits for the very next picture
-abbrev pub waits : Picture → Option Picture
+abbrev pub waits : StreamPicture → Option StreamPicture
 waits p = if p.number % 2 == 0 then Some p else None
 
-abbrev pub next_waiting : Option Picture → Picture → Option Picture
+abbrev pub next_waiting : Option StreamPicture → StreamPicture → Option StreamPicture
 next_waiting None p = waits p
 next_waiting (Some earlier) p = if is_pair earlier p then None else waits p
 
 -- the frame that a field completes
-abbrev pub completed : Sequence → Option Picture → Picture → List Planes
+abbrev pub completed : Sequence → Option StreamPicture → StreamPicture → List Planes
 completed sequence None p = []
-completed sequence (Some earlier) p = if is_pair earlier p then woven sequence.top_first earlier.planes p.planes ∷ [] else []
+completed sequence (Some earlier) p =
+    if is_pair earlier p then woven sequence.top_first earlier.planes p.planes ∷ [] else []
 
 -- the frames that a picture brings
-abbrev pub new_frames : Sequence → Option Picture → Picture → List Planes
-new_frames sequence waiting p = if sequence.fields then completed sequence waiting p else p.planes ∷ []
+abbrev pub new_frames : Sequence → Option StreamPicture → StreamPicture → List Planes
+new_frames sequence waiting p =
+    if sequence.fields then completed sequence waiting p else p.planes ∷ []
 
 -- what is kept of a stream
-pub record Kept : Type 0 where
+pub record PlayState : Type 0 where
   pub sequence : Sequence
-  pub waiting : Option Picture
+  pub waiting : Option StreamPicture
   pub pictures : ℕ
   pub frames : ℕ
 
 -- a picture more
-abbrev pub shown : Kept → Picture → Kept
+abbrev pub shown : PlayState → StreamPicture → PlayState
 shown k p = record {
   sequence = k.sequence;
   waiting = if k.sequence.fields then next_waiting k.waiting p else k.waiting;
@@ -40,24 +42,20 @@ shown k p = record {
 }
 
 -- the field at the end of pictures that still waits
-unfoldable pub waiting_in : List Picture → Option Picture
+unfoldable pub waiting_in : List StreamPicture → Option StreamPicture
 waiting_in (a ∷ b ∷ rest) = if is_pair a b then waiting_in rest else waiting_in (b ∷ rest)
 waiting_in (a ∷ []) = waits a
 waiting_in [] = None
 
 -- what is kept of this stream
-abbrev pub kept_of : Stream → Kept
-kept_of s = record {
+abbrev pub stream_state : Stream → PlayState
+stream_state s = record {
   sequence = s.sequence;
   waiting = if s.sequence.fields then waiting_in s.pictures else None;
   pictures = length s.pictures;
-  frames = length (frames_of s);
+  frames = length (stream_frames s);
 }
 
--- the player between two units: what it keeps once a header came, and the place of the next unit
-pub record Playing : Type 0 where
-  pub kept : Option Kept
-  pub place : ℕ
-
-abbrev pub playing_of : Heard → Playing
-playing_of h = record { kept = option_map kept_of h.stream; place = h.place }
+-- what is kept of what came up to now, once a header came
+abbrev pub state_so_far : StreamSoFar → Option PlayState
+state_so_far h = option_map stream_state h.stream

@@ -1,4 +1,5 @@
 -- What code keeps, as plain data.
+use Rattle.std.specs.Prelude.{Option}
 use Rattle.std.specs.Option.{option_map}
 use Rattle.frame_writer.specs.declared.fault.FrameFault.{FrameFault}
 use Rattle.frame_writer.specs.declared.fault.FrameFault.TheVariants as frame
@@ -6,25 +7,25 @@ use Rattle.play_command.specs.declared.fault.TakeFault.{TakeFault}
 use Rattle.play_command.specs.declared.fault.TakeFault.TheVariants as fault
 use Rattle.vc_types.specs.Planes.{planes_in}
 use Rattle.vc_types.specs.SequenceHeader.{sequence_of}
-use Rattle.play_command.specs.Stream.{Picture}
-use Rattle.play_command.specs.Steps.{Kept, Playing}
+use Rattle.play_command.specs.Stream.{StreamPicture}
+use Rattle.play_command.specs.Steps.{PlayState}
 use Rattle.play_command.specs.declared.picture.Picture as coded
 use Rattle.play_command.specs.declared.playback.Playback.{Playback}
 use Rattle.play_command.specs.declared.player.Player.{Player}
 
-abbrev pub picture_of : coded.Picture → Picture
+abbrev pub picture_of : coded.Picture → StreamPicture
 picture_of p = record { number = p.number; planes = planes_in p.planes }
 
-abbrev pub kept_by : Playback → Kept
-kept_by s = record {
+abbrev pub playback_state : Playback → PlayState
+playback_state s = record {
   sequence = sequence_of s.header;
   waiting = option_map picture_of s.waiting;
   pictures = s.pictures;
   frames = s.frames;
 }
 
-abbrev pub player_of : Player → Playing
-player_of p = record { kept = option_map kept_by p.stream; place = p.place }
+abbrev pub player_state : Player → Option PlayState
+player_state p = option_map playback_state p.stream
 
 abbrev pub take_fault : FrameFault → TakeFault
 take_fault frame.WriteFault = fault.WriteFault

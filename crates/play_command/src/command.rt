@@ -1,12 +1,12 @@
-ghost use Rattle.std.specs.Prelude.{◌≡◌, ◌-◌, ◌^◌, None, Err, IfOk, IfErr};
+ghost use Rattle.std.specs.Prelude.{◌≡◌, None, Err};
+ghost use Rattle.vc_ports.specs.Changes.{input_of, output_of};
 ghost use Rattle.vc_ports.specs.Faults.{HasCause};
 ghost use Rattle.play_command.specs.Endings.{reading_ended, taking_ended};
-ghost use Rattle.play_command.specs.Looping.{Stops, Played, ReadsEnd};
+ghost use Rattle.play_command.specs.Looping.{LoopEnded};
 ghost use Rattle.play_command.specs.Playing.{Plays};
-ghost use Rattle.play_command.specs.Steps.{playing_of};
-ghost use Rattle.play_command.specs.Stream.{Heard, nothing};
-ghost use Rattle.play_command.specs.Taking.{IsWithin};
-ghost use Rattle.play_command.specs.Views.{player_of};
+ghost use Rattle.play_command.specs.Steps.{state_so_far};
+ghost use Rattle.play_command.specs.Stream.{at_start};
+ghost use Rattle.play_command.specs.Views.{player_state};
 
 use crate::fault::TakeFault;
 use crate::player::Player;
@@ -25,45 +25,27 @@ pub(crate) enum Stop {
     AtLimit,
 }
 
-/// Plays an elementary stream: reads at most so many data units, up to an end of sequence or the end of the input, and
-/// writes the raw frames that its pictures make, each as soon as it stands (ST 2042-1, sequence; raw frames are this
-/// project's own). It keeps one unit, one picture and at most one earlier field.
+/// Plays an elementary stream: reads at most so many data units, up to an end of sequence, a unit that is refused or the
+/// end of the input, and writes the raw frames that its pictures make (ST 2042-1, sequence; raw frames are this project's
+/// own). A frame goes out as soon as it stands, and one unit, one picture and at most one earlier field are kept, which no
+/// clause says.
 pub fn play<S: Source, O: Sink>(
     alloc: Global,
     packets: u32,
     input: &mut S,
     output: &mut O,
 ) -> Result<Summary, Ending>
-    ensures { Plays packets result (record {
-      left_before = S.left input.old;
-      left_after = S.left input.new;
-      held_before = O.held output.old;
-      held_after = O.held output.new;
-      input_faults_before = S.faults input.old;
-      input_faults_after = S.faults input.new;
-      output_faults_before = O.faults output.old;
-      output_faults_after = O.faults output.new;
-    }) }
+    ensures { Plays packets result (input_of S.left S.faults input.old input.new)
+        (output_of O.held O.faults output.old output.new) }
 {
     let mut player = Player::new();
     match play_units(alloc, packets, &mut player, input, output)? {
         Stop::Ended => Ok(player.summary()),
-        Stop::AtLimit => match expect_end(packets, input) {
-            Ok(()) => Ok(player.summary()),
-            Err(ending) => Err(ending),
+        Stop::AtLimit => match fill(input, &mut [0; 1]) {
+            Filled::Whole => Err(Ending::PacketLimit { limit: packets }),
+            Filled::End(_) => Ok(player.summary()),
+            Filled::Failed(_) => Err(Ending::InputFailed),
         },
-    }
-}
-
-// Reads behind the last unit that is read, where nothing may follow.
-fn expect_end<S: Source>(packets: u32, input: &mut S) -> Result<(), Ending>
-    ensures end { ReadsEnd packets (S.left input.old) (S.left input.new) result }
-    ensures cause { HasCause (S.faults input.old) (S.faults input.new) (result ≡ Err Ending.InputFailed) }
-{
-    match fill(input, &mut [0; 1]) {
-        Filled::Whole => Err(Ending::PacketLimit { limit: packets }),
-        Filled::End(_) => Ok(()),
-        Filled::Failed(_) => Err(Ending::InputFailed),
     }
 }
 
@@ -75,29 +57,14 @@ fn play_units<S: Source, O: Sink>(
     input: &mut S,
     output: &mut O,
 ) -> Result<Stop, Ending>
-    requires { player_of player.old ≡ playing_of nothing }
-    ensures ok { IfOk result (λ stop. (h : Heard) × (player_of player.new ≡ playing_of h) × IsWithin (2 ^ 32 - 1) (player_of player.new) × Played packets stop (record {
-      left_before = S.left input.old;
-      left_after = S.left input.new;
-      held_before = O.held output.old;
-      held_after = O.held output.new;
-      input_faults_before = S.faults input.old;
-      input_faults_after = S.faults input.new;
-      output_faults_before = O.faults output.old;
-      output_faults_after = O.faults output.new;
-    }) h) }
-    ensures err { IfErr result (λ ending. Stops packets (Err ending) (record {
-      left_before = S.left input.old;
-      left_after = S.left input.new;
-      held_before = O.held output.old;
-      held_after = O.held output.new;
-      input_faults_before = S.faults input.old;
-      input_faults_after = S.faults input.new;
-      output_faults_before = O.faults output.old;
-      output_faults_after = O.faults output.new;
-    })) }
-    ensures input_cause { HasCause (S.faults input.old) (S.faults input.new) (result ≡ Err Ending.InputFailed) }
-    ensures output_cause { HasCause (O.faults output.old) (O.faults output.new) (result ≡ Err Ending.OutputFailed) }
+    requires { player_state player.old ≡ state_so_far at_start }
+    ensures ended { LoopEnded packets result (player_state player.new)
+        (input_of S.left S.faults input.old input.new)
+        (output_of O.held O.faults output.old output.new) }
+    ensures input_cause { HasCause (S.faults input.old) (S.faults input.new)
+        (result ≡ Err Ending.InputFailed) }
+    ensures output_cause { HasCause (O.faults output.old) (O.faults output.new)
+        (result ≡ Err Ending.OutputFailed) }
 {
     let mut reader = UnitReader::new(alloc, input);
     play_with(alloc, packets, player, &mut reader, output)
@@ -110,35 +77,20 @@ fn play_with<S: Source, O: Sink>(
     reader: &mut UnitReader<S>,
     output: &mut O,
 ) -> Result<Stop, Ending>
-    requires player { player_of player.old ≡ playing_of nothing }
+    requires player { player_state player.old ≡ state_so_far at_start }
     requires place { reader.old.place ≡ 0 }
     requires sound { reader.old.fault ≡ None }
     ensures borrows { reader.new.source.ghost_name ≡ reader.old.source.ghost_name }
-    ensures ok { IfOk result (λ stop. (h : Heard) × (player_of player.new ≡ playing_of h) × IsWithin (2 ^ 32 - 1) (player_of player.new) × Played packets stop (record {
-      left_before = S.left reader.old.source.now;
-      left_after = S.left reader.new.source.now;
-      held_before = O.held output.old;
-      held_after = O.held output.new;
-      input_faults_before = S.faults reader.old.source.now;
-      input_faults_after = S.faults reader.new.source.now;
-      output_faults_before = O.faults output.old;
-      output_faults_after = O.faults output.new;
-    }) h) }
-    ensures err { IfErr result (λ ending. Stops packets (Err ending) (record {
-      left_before = S.left reader.old.source.now;
-      left_after = S.left reader.new.source.now;
-      held_before = O.held output.old;
-      held_after = O.held output.new;
-      input_faults_before = S.faults reader.old.source.now;
-      input_faults_after = S.faults reader.new.source.now;
-      output_faults_before = O.faults output.old;
-      output_faults_after = O.faults output.new;
-    })) }
-    ensures input_cause { HasCause (S.faults reader.old.source.now) (S.faults reader.new.source.now) (result ≡ Err Ending.InputFailed) }
-    ensures output_cause { HasCause (O.faults output.old) (O.faults output.new) (result ≡ Err Ending.OutputFailed) }
+    ensures ended { LoopEnded packets result (player_state player.new)
+        (input_of S.left S.faults reader.old.source.now reader.new.source.now)
+        (output_of O.held O.faults output.old output.new) }
+    ensures input_cause { HasCause (S.faults reader.old.source.now) (S.faults reader.new.source.now)
+        (result ≡ Err Ending.InputFailed) }
+    ensures output_cause { HasCause (O.faults output.old) (O.faults output.new)
+        (result ≡ Err Ending.OutputFailed) }
 {
     for _unit in 0..packets {
-        let place = player.place;
+        let place = reader.place();
         match next_unit(reader) {
             Ok(Some(unit)) => {
                 let is_last = unit.code == END_OF_SEQUENCE;

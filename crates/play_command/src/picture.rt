@@ -31,8 +31,10 @@ pub(crate) fn read_picture(
     header: &Header,
     body: Vec<u8>,
 ) -> Result<Option<Picture>, NoMemory>
-    ensures value { IfOk result (λ picture. option_map picture_of picture ≡ picture_in (sequence_of header.now) body.items) }
-    ensures shape { IfOk result (λ picture. IfSome picture (λ p. HaveShape (picture_shape (sequence_of header.now)) (planes_in p.planes))) }
+    ensures value { IfOk result (λ picture.
+        option_map picture_of picture ≡ picture_in (sequence_of header.now) body.items) }
+    ensures shape { IfOk result (λ picture. IfSome picture (λ p.
+        HaveShape (picture_shape (sequence_of header.now)) (planes_in p.planes))) }
 {
     if body.len() < NUMBER_BYTES {
         return Ok(None);
@@ -55,8 +57,10 @@ fn read_planes(
     number: u32,
     bytes: Bytes,
 ) -> Result<Option<[Plane; 3]>, NoMemory>
-    ensures value { IfOk result (λ planes. option_map planes_in planes ≡ decoded_planes (sequence_of header.now) bytes) }
-    ensures shape { IfOk result (λ planes. IfSome planes (λ p. HaveShape (picture_shape (sequence_of header.now)) (planes_in p))) }
+    ensures value { IfOk result (λ planes.
+        option_map planes_in planes ≡ decoded_planes (sequence_of header.now) bytes) }
+    ensures shape { IfOk result (λ planes. IfSome planes (λ p.
+        HaveShape (picture_shape (sequence_of header.now)) (planes_in p))) }
 {
     let Ok((plan, used)) = read_params(header, bytes.as_slice()) else {
         return Ok(None);

@@ -5,9 +5,9 @@ ghost use Rattle.vc_types.specs.Planes.{planes_in};
 ghost use Rattle.vc_types.specs.SequenceHeader.{sequence_of, picture_shape};
 ghost use Rattle.play_command.specs.Shapes.{HaveShape};
 ghost use Rattle.play_command.specs.Looping.{unpaired_of};
-ghost use Rattle.play_command.specs.Steps.{kept_of, next_waiting, new_frames};
+ghost use Rattle.play_command.specs.Steps.{stream_state, next_waiting, new_frames};
 ghost use Rattle.play_command.specs.Taking.{HasShape, Completes, Shows};
-ghost use Rattle.play_command.specs.Views.{kept_by, picture_of};
+ghost use Rattle.play_command.specs.Views.{playback_state, picture_of};
 
 use crate::fault::TakeFault;
 use crate::pairs::{is_pair, waits};
@@ -31,7 +31,8 @@ pub(crate) struct Playback {
 impl Playback {
     /// A stream without pictures.
     pub(crate) fn new(header: Header) -> Playback
-        ensures { kept_by result ≡ kept_of (record { sequence = sequence_of header; pictures = [] }) }
+        ensures { playback_state result
+            ≡ stream_state (record { sequence = sequence_of header; pictures = [] }) }
     {
         Playback {
             header,
@@ -49,11 +50,14 @@ impl Playback {
         output: &mut O,
     ) -> Result<(), TakeFault>
         requires few { (self.old.pictures < 2 ^ 32) × (self.old.frames ≤ self.old.pictures) }
-        requires shape { HasShape (kept_by self.old) }
-        ensures value { Shows body.items (kept_by self.old) (kept_by self.new) (O.held output.old) (O.held output.new) result }
-        ensures cause { HasCause (O.faults output.old) (O.faults output.new) (result ≡ Err TakeFault.WriteFault) }
-        ensures few { OnOk result ((self.new.pictures ≡ self.old.pictures + 1) × (self.new.frames ≤ self.new.pictures)) }
-        ensures shape { OnOk result (HasShape (kept_by self.new)) }
+        requires shape { HasShape (playback_state self.old) }
+        ensures value { Shows body.items (playback_state self.old) (playback_state self.new)
+            (O.held output.old) (O.held output.new) result }
+        ensures cause { HasCause (O.faults output.old) (O.faults output.new)
+            (result ≡ Err TakeFault.WriteFault) }
+        ensures few { OnOk result ((self.new.pictures ≡ self.old.pictures + 1)
+            × (self.new.frames ≤ self.new.pictures)) }
+        ensures shape { OnOk result (HasShape (playback_state self.new)) }
     {
         let Some(picture) = read_picture(alloc, &self.header, body)? else {
             return Err(TakeFault::Refused);
@@ -71,7 +75,7 @@ impl Playback {
     /// How many fields are part of no frame.
     pub(crate) fn unpaired(&self) -> u64
         requires { self.now.frames < 2 ^ 32 }
-        ensures { result ≡ unpaired_of (kept_by self.now) }
+        ensures { result ≡ unpaired_of (playback_state self.now) }
     {
         if self.header.fields {
             self.pictures.saturating_sub(2 * self.frames)
@@ -82,10 +86,12 @@ impl Playback {
 
     // The frame that a picture completes: itself or, with field coding, the field that waits and it.
     fn completed(&mut self, alloc: Global, picture: Picture) -> Result<Option<[Plane; 3]>, NoMemory>
-        requires shape { HasShape (kept_by self.old) }
-        requires picture { HaveShape (picture_shape (sequence_of self.old.header)) (planes_in picture.planes) }
-        ensures value { IfOk result (Completes (kept_by self.old) (picture_of picture) (kept_by self.new)) }
-        ensures shape { OnOk result (HasShape (kept_by self.new)) }
+        requires shape { HasShape (playback_state self.old) }
+        requires picture { HaveShape (picture_shape (sequence_of self.old.header))
+            (planes_in picture.planes) }
+        ensures value { IfOk result
+            (Completes (playback_state self.old) (picture_of picture) (playback_state self.new)) }
+        ensures shape { OnOk result (HasShape (playback_state self.new)) }
     {
         if !self.header.fields {
             return Ok(Some(picture.planes));

@@ -9,6 +9,7 @@ use Rattle.link_report.specs.declared.ending.Ending.TheVariants as endings
 use Rattle.link_report.specs.declared.summary.Summary.{Summary}
 use Rattle.link_words.specs.Settings.{Meaning, ToDecode, ToPlay}
 use Rattle.play_command.specs.Playing.{Plays}
+use Rattle.vc_ports.specs.Changes.{InputChange, OutputChange}
 use Rattle.vc_ports.specs.Runs.{Run, IsIdle, Reported, Says, SaysPart, IsSilent}
 
 -- ---- the report
@@ -72,10 +73,22 @@ pub record DecodesTo (status : ℕ) (run : Run) (report : Reported) : Type 0 whe
   pub decodes : Decodes ended run
   pub silent : IsSilent report
 
+abbrev pub input_in : Run → InputChange
+input_in run = record {
+  left = record { before = run.left_before; after = run.left_after };
+  faults = record { before = run.input_faults_before; after = run.input_faults_after };
+}
+
+abbrev pub output_in : Run → OutputChange
+output_in run = record {
+  held = record { before = run.held_before; after = run.held_after };
+  faults = record { before = run.output_faults_before; after = run.output_faults_after };
+}
+
 -- the stream was played, and the report says how it ended
 pub record PlaysTo (packets status : ℕ) (run : Run) (report : Reported) : Type 0 where
   pub answer : Result Summary Ending
-  pub plays : Plays packets answer run
+  pub plays : Plays packets answer (input_in run) (output_in run)
   pub reports : Reports answer status report
 
 -- what each command does

@@ -6,13 +6,13 @@ use Rattle.vc_ports.specs.Filling.{Fills}
 use Rattle.vc_ports.specs.declared.whole.Filled.TheVariants.{End, Failed}
 use Rattle.vc_ports.proofs.Given.{Gave-then, GaveAll-then}
 use Rattle.vc_units.specs.Units.{data_unit, code_of, body_length}
-use Rattle.vc_units.specs.Reading.{GaveUnit, GaveRefused, GavePart, GaveCut, ReadsUnit}
+use Rattle.vc_units.specs.Reading.{GaveUnit, GaveRefused, GavePartOfUnit, GaveCutUnit, ReadsUnit}
 use Rattle.vc_units.specs.declared.fault.UnitFault.{UnitFault}
 use Rattle.vc_units.specs.declared.fault.UnitFault.TheVariants.{Prefix, Offset, Code, Short, ReadFault, NoMemory}
 use Rattle.vc_units.proofs.Infos.{data_unit-stub, data_unit-refused, data_unit-cut, data_unit-whole}
 
 -- the end came within the parse info
-pub cut_in_info : (before after : Option (List ℕ)) (info : List ℕ) (n : ℕ) → length info ≡ 13 → n ≢ 0 → Fills before after info (End n) → GaveCut before after
+pub cut_in_info : (before after : Option (List ℕ)) (info : List ℕ) (n : ℕ) → length info ≡ 13 → n ≢ 0 → Fills before after info (End n) → GaveCutUnit before after
 cut_in_info before after info n len some fills =
     let taken : length (take n info) ≡ n = length-take-le n info (omega (arith, fills.0)) in
     record {
@@ -23,7 +23,7 @@ cut_in_info before after info n len some fills =
     }
 
 -- a read failed within the parse info
-pub fault_in_info : (before after : Option (List ℕ)) (info : List ℕ) (n : ℕ) → length info ≡ 13 → Fills before after info (Failed n) → GavePart before after
+pub fault_in_info : (before after : Option (List ℕ)) (info : List ℕ) (n : ℕ) → length info ≡ 13 → Fills before after info (Failed n) → GavePartOfUnit before after
 fault_in_info before after info n len fills =
     let taken : length (take n info) ≡ n = length-take-le n info (omega (arith, fills.0)) in
     record { part = take n info; gave = fills.1; not_whole = data_unit-stub (take n info) (omega (arith, fills.0)) }
@@ -64,7 +64,7 @@ pub refused_info : (before after : Option (List ℕ)) (place : ℕ) (info : List
 refused_info before after place info fault len gave is = by_fault fault is (info_fault info fault is)
   where
     refused : (fault : UnitFault) → body_length info ≡ Err fault → GaveRefused before after fault
-    refused fault is = record { bytes = info; gave = gave; refused = λ more. data_unit-refused info more fault len is }
+    refused fault is = record { bytes = info; long = len; gave = gave; refused = λ more. data_unit-refused info more fault len is }
 
     by_fault : (fault : UnitFault) → body_length info ≡ Err fault → IsInfoFault fault → ReadsUnit before after place (Err fault)
     by_fault Prefix is own = refused Prefix is
@@ -75,7 +75,7 @@ refused_info before after place info fault len gave is = by_fault fault is (info
     by_fault NoMemory is own = absurd own
 
 -- no memory for a body that isn't empty
-pub part_without_memory : (before mid : Option (List ℕ)) (info : List ℕ) (count : ℕ) → length info ≡ 13 → body_length info ≡ Ok count → 0 < count → Gave before mid info → GavePart before mid
+pub part_without_memory : (before mid : Option (List ℕ)) (info : List ℕ) (count : ℕ) → length info ≡ 13 → body_length info ≡ Ok count → 0 < count → Gave before mid info → GavePartOfUnit before mid
 part_without_memory before mid info count len told some first = record {
   part = info;
   gave = first;
@@ -94,7 +94,7 @@ whole_unit before mid after info body count len told whole first second = record
 
 -- the end came within the body
 pub cut_in_body : (before mid after : Option (List ℕ)) (info body : List ℕ) (count n : ℕ) → length info ≡ 13 → body_length info ≡ Ok count → length body ≡ count
-    → Gave before mid info → Fills mid after body (End n) → GaveCut before after
+    → Gave before mid info → Fills mid after body (End n) → GaveCutUnit before after
 cut_in_body before mid after info body count n len told whole first fills =
     let taken : length (take n body) ≡ n = length-take-le n body (omega (arith, fills.0)) in
     record {
@@ -106,7 +106,7 @@ cut_in_body before mid after info body count n len told whole first fills =
 
 -- a read failed within the body
 pub fault_in_body : (before mid after : Option (List ℕ)) (info body : List ℕ) (count n : ℕ) → length info ≡ 13 → body_length info ≡ Ok count → length body ≡ count
-    → Gave before mid info → Fills mid after body (Failed n) → GavePart before after
+    → Gave before mid info → Fills mid after body (Failed n) → GavePartOfUnit before after
 fault_in_body before mid after info body count n len told whole first fills =
     let taken : length (take n body) ≡ n = length-take-le n body (omega (arith, fills.0)) in
     record {

@@ -18,43 +18,46 @@ pub record GaveUnit (before after : Option (List ℕ)) (u : DataUnit) : Type 0 w
   pub long : length bytes ≡ unit_length u
   pub is : (more : List ℕ) → data_unit (bytes ++ more) ≡ Ok (u, more)
 
--- what was given is refused so, whatever follows
+-- the 13 bytes that were given, and no more, are refused so, whatever follows
 pub record GaveRefused (before after : Option (List ℕ)) (fault : UnitFault) : Type 0 where
   pub bytes : List ℕ
+  pub long : length bytes ≡ 13
   pub gave : Gave before after bytes
   pub refused : (more : List ℕ) → data_unit (bytes ++ more) ≡ Err fault
 
 -- all that was left was given, and is the part of a unit
-pub record GaveCut (before after : Option (List ℕ)) : Type 0 where
+pub record GaveCutUnit (before after : Option (List ℕ)) : Type 0 where
   pub part : List ℕ
   pub gave : GaveAll before after part
   pub some : part ≢ []
   pub not_whole : data_unit part ≡ Err Short
 
 -- what was given holds no whole unit
-pub record GavePart (before after : Option (List ℕ)) : Type 0 where
+pub record GavePartOfUnit (before after : Option (List ℕ)) : Type 0 where
   pub part : List ℕ
   pub gave : Gave before after part
   pub not_whole : data_unit part ≡ Err Short
 
 -- what a read of the unit at a place did to its source, by the answer
-abbrev pub ReadsUnit : Option (List ℕ) → Option (List ℕ) → ℕ → Result (Option unit.Unit) UnitFault → Type 0
+abbrev pub ReadsUnit : Option (List ℕ) → Option (List ℕ) → ℕ → Result (Option unit.Unit) UnitFault
+    → Type 0
 ReadsUnit before after place (Ok (Some u)) = (u.at ≡ place) × GaveUnit before after (unit_of u)
 ReadsUnit before after place (Ok None) = GaveAll before after []
 ReadsUnit before after place (Err Prefix) = GaveRefused before after Prefix
 ReadsUnit before after place (Err Offset) = GaveRefused before after Offset
 ReadsUnit before after place (Err Code) = GaveRefused before after Code
-ReadsUnit before after place (Err Short) = GaveCut before after
-ReadsUnit before after place (Err ReadFault) = GavePart before after
-ReadsUnit before after place (Err NoMemory) = GavePart before after
+ReadsUnit before after place (Err Short) = GaveCutUnit before after
+ReadsUnit before after place (Err ReadFault) = GavePartOfUnit before after
+ReadsUnit before after place (Err NoMemory) = GavePartOfUnit before after
 
 -- the bytes of the units that were read whole, after an answer
-abbrev pub place_after : ℕ → Result (Option unit.Unit) UnitFault → ℕ
-place_after place (Ok (Some u)) = place + unit_length (unit_of u)
-place_after place answer = place
+abbrev pub place_after_unit : ℕ → Result (Option unit.Unit) UnitFault → ℕ
+place_after_unit place (Ok (Some u)) = place + unit_length (unit_of u)
+place_after_unit place answer = place
 
 -- the fault that stands after an answer
-abbrev pub fault_after : Option UnitFault → Result (Option unit.Unit) UnitFault → Option UnitFault
-fault_after (Some fault) answer = Some fault
-fault_after None (Err fault) = Some fault
-fault_after None (Ok unit) = None
+abbrev pub fault_after_unit : Option UnitFault → Result (Option unit.Unit) UnitFault
+    → Option UnitFault
+fault_after_unit (Some fault) answer = Some fault
+fault_after_unit None (Err fault) = Some fault
+fault_after_unit None (Ok unit) = None

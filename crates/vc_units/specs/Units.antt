@@ -25,7 +25,8 @@ body_length info =
     if not (prefix_of info == parse_info_prefix) then Err Prefix
     else (if not (is_unit_code (code_of info)) then Err Code
     else (if code_of info == end_code then Ok 0
-    else (if nat_lt (next_offset_of info) 13 || nat_lt 268435456 (next_offset_of info) then Err Offset
+    else (if nat_lt (next_offset_of info) 13 || nat_lt 268435456 (next_offset_of info)
+    then Err Offset
     else Ok (next_offset_of info - 13))))
 
 -- ---- reading
@@ -48,9 +49,11 @@ abbrev pub before : DataUnit → List DataUnit × List ℕ → List DataUnit × 
 before u behind = (u ∷ behind.0, behind.1)
 
 -- the first unit, and those behind it unless it ends the sequence; none where it is refused
-abbrev pub units_from : List ℕ → (List ℕ → List DataUnit × List ℕ) → Result (DataUnit × List ℕ) UnitFault → List DataUnit × List ℕ
+abbrev pub units_from : List ℕ → (List ℕ → List DataUnit × List ℕ)
+    → Result (DataUnit × List ℕ) UnitFault → List DataUnit × List ℕ
 units_from bytes behind (Err refusal) = ([], bytes)
-units_from bytes behind (Ok read) = if is_end_of_sequence read.0 then (read.0 ∷ [], read.1) else before read.0 (behind read.1)
+units_from bytes behind (Ok read) =
+    if is_end_of_sequence read.0 then (read.0 ∷ [], read.1) else before read.0 (behind read.1)
 
 -- the units that begin the bytes, at most so many, up to the first end of sequence and before the first that is
 -- refused; and the rest

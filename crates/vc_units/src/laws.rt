@@ -7,6 +7,8 @@ ghost use Rattle.vc_units.specs.Units.{data_unit};
 /// 268,435,456 bytes.
 pub fn written_unit_is_read()
     ensures { (code : ℕ) (body : List ℕ) (previous : ℕ) (more : List ℕ) → IsTrue (is_unit_code code)
-        → (code ≡ end_code → body ≡ []) → unit_length (record { code = code; body = body }) ≤ 268435456
-        → data_unit (unit_bytes code body previous ++ more) ≡ Ok (record { code = code; body = body }, more) }
+        → (code ≡ end_code → body ≡ [])
+        → unit_length (record { code = code; body = body }) ≤ 268435456
+        → data_unit (unit_bytes code body previous ++ more)
+        ≡ Ok (record { code = code; body = body }, more) }
 {}

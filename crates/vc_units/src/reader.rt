@@ -1,6 +1,6 @@
 ghost use Rattle.std.specs.Prelude.{◌≡◌, ◌+◌, ◌<◌, ◌≤◌, ◌^◌, None, Err, IfNone, IfSome, IfOk};
 ghost use Rattle.vc_ports.specs.Faults.{HasCause};
-ghost use Rattle.vc_units.specs.Reading.{ReadsUnit, place_after, fault_after};
+ghost use Rattle.vc_units.specs.Reading.{ReadsUnit, place_after_unit, fault_after_unit};
 ghost use Rattle.vc_units.specs.Units.{body_length};
 
 use crate::fault::UnitFault;
@@ -42,24 +42,32 @@ impl<'a, S: Source> UnitReader<'a, S> {
             fault: None,
         }
     }
+
+    /// How many bytes the units have that were read whole: the place of the next one.
+    pub fn place(&self) -> u64
+        ensures { result ≡ self.now.place }
+    {
+        self.place
+    }
 }
 
 /// Reads the next unit (ST 2042-1, data unit), or None where the source ended at a unit's edge. It is refused for the
 /// first of these: `Short` where the source ended within the 13 bytes before the body, `Prefix`, `Code`, `Offset`, and
-/// `Short` where it ended within the body. No byte behind an end of sequence is taken. After a fault the same fault is
-/// answered without reading.
+/// `Short` where it ended within the body. No byte behind a parse info that is refused, or behind an end of sequence, is
+/// taken. After a fault the same fault is answered without reading.
 pub fn next_unit<S: Source>(r: &mut UnitReader<S>) -> Result<Option<Unit>, UnitFault>
     requires { r.old.place < 2 ^ 63 }
     ensures borrows { r.new.source.ghost_name ≡ r.old.source.ghost_name }
     ensures unit { IfNone r.old.fault
         (ReadsUnit (S.left r.old.source.now) (S.left r.new.source.now) r.old.place result) }
     ensures cause { IfNone r.old.fault
-        (HasCause (S.faults r.old.source.now) (S.faults r.new.source.now) (result ≡ Err UnitFault.ReadFault)) }
+        (HasCause (S.faults r.old.source.now) (S.faults r.new.source.now)
+        (result ≡ Err UnitFault.ReadFault)) }
     ensures again { IfSome r.old.fault
         (λ fault. (result ≡ Err fault) × (r.new.source.now ≡ r.old.source.now)) }
-    ensures place { r.new.place ≡ place_after r.old.place result }
+    ensures place { r.new.place ≡ place_after_unit r.old.place result }
     ensures grows { r.new.place ≤ r.old.place + 268435456 }
-    ensures fault { r.new.fault ≡ fault_after r.old.fault result }
+    ensures fault { r.new.fault ≡ fault_after_unit r.old.fault result }
 {
     if let Some(fault) = r.fault {
         return Err(fault);
@@ -80,8 +88,9 @@ fn read_unit<S: Source>(
     place: u64,
 ) -> Result<Option<Unit>, UnitFault>
     ensures unit { ReadsUnit (S.left source.old) (S.left source.new) place result }
-    ensures cause { HasCause (S.faults source.old) (S.faults source.new) (result ≡ Err UnitFault.ReadFault) }
-    ensures grows { place_after place result ≤ place + 268435456 }
+    ensures cause { HasCause (S.faults source.old) (S.faults source.new)
+        (result ≡ Err UnitFault.ReadFault) }
+    ensures grows { place_after_unit place result ≤ place + 268435456 }
 {
     let mut info = [0; PARSE_INFO_BYTES];
     match fill(source, &mut info) {

@@ -1,20 +1,31 @@
-use Rattle.std.proofs.Common.{◌∙◌, Err, ap, subst, arith}
-use Rattle.play_command.specs.Looping.{ReadsEnd, summary_of}
+use Rattle.std.proofs.Common.{◌∙◌, Ok, Err, Option, ap, subst, arith, inr, refl, ◌≡◌, List, ℕ, []}
+use Rattle.vc_ports.specs.Reading.{GaveAll, Gave}
+use Rattle.vc_units.proofs.Infos.{data_unit-stub}
+use Rattle.play_command.specs.Looping.{summary_of}
 use Rattle.play_command.proofs.Loops.{at_edge}
 use Rattle.play_command.proofs.Players.{summary_is}
-use Rattle.play_command.proofs.Stopping.{limit_stops, plays_whole, plays_part}
-use Rattle.link_report.specs.declared.ending.Ending.{Ending}
+use Rattle.play_command.proofs.Stopping.{none_of, input_failed, past_limit, plays_whole, plays_part}
 use Rattle.play_command.proofs.command.play.Goals as goal
 
-pub returns-in-Ok : goal.returns-in-Ok
-returns-in-Ok g c =
-    let played = rw c.in-AtLimit.is at c.in_ok-play_units.ensures.ok in
-    plays_whole c.args.packets _ played.0 c.summary-in-Ok.result (at_edge c.args.packets c.args.packets _ _ _ _ played.0 played.3 _ c.in-Ok.ensures.end) (c.summary-in-Ok.ensures ∙ ap summary_of played.1 ∙ summary_is played.0)
+-- one byte more
+pub returns-in-Whole : goal.returns-in-Whole
+returns-in-Whole g c =
+    let played = rw c.in-AtLimit.is at c.in_ok-play_units.ensures.ended in
+    plays_part c.args.packets _ _ _ (past_limit c.args.packets c.args.packets _ _ (g.S.Source.left c.play_units.new.input) _ played.so_far played.units refl refl c.fill.new.buf c.fill.auto.buf c.in-Whole.ensures.bytes) (λ e. cc) (λ e. cc)
 
+-- the end
+pub returns-in-End : goal.returns-in-End
+returns-in-End g c =
+    let played = rw c.in-AtLimit.is at c.in_ok-play_units.ensures.ended in
+    let fills = c.in-End.ensures.bytes in
+    let gave = subst (λ (bytes : List ℕ). GaveAll (g.S.Source.left c.play_units.new.input) (g.S.Source.left c.fill.new.source) bytes) (none_of c.fill.new.buf c.in-End.field-0 c.fill.auto.buf fills.0) fills.1 in
+    plays_whole c.args.packets _ _ played.so_far c.summary-in-End.result (at_edge c.args.packets c.args.packets _ _ _ _ played.so_far played.units _ gave) (c.summary-in-End.ensures ∙ ap summary_of played.keeps ∙ summary_is played.so_far.stream)
+
+-- a failed read
 pub returns : goal.returns
 returns g c =
-    let played = rw c.in-AtLimit.is at c.in_ok-play_units.ensures.ok in
-    let end = c.in-Err.ensures.end in
-    plays_part c.args.packets _ c.in-Err.ending (limit_stops c.args.packets _ (g.S.Source.left c.play_units.new.input) played.0 played.3 c.in-Err.ending end)
-    (λ failed. omega (arith, c.in_ok-play_units.ensures.input_cause.later, c.in-Err.ensures.cause.rose (ap (λ (e : Ending). Err e) failed)))
-    (λ failed. absurd (subst (λ (e : Ending). ReadsEnd c.args.packets (g.S.Source.left c.play_units.new.input) (g.S.Source.left c.expect_end.new.input) (Err e)) failed end))
+    let played = rw c.in-AtLimit.is at c.in_ok-play_units.ensures.ended in
+    let fills = c.in-Failed.ensures.bytes in
+    let gave = subst (λ (bytes : List ℕ). Gave (g.S.Source.left c.play_units.new.input) (g.S.Source.left c.fill.new.source) bytes) (none_of c.fill.new.buf c.in-Failed.field-0 c.fill.auto.buf fills.0) fills.1 in
+    plays_part c.args.packets _ _ _ (input_failed c.args.packets c.args.packets _ _ (g.S.Source.left c.play_units.new.input) _ played.so_far played.units refl [] gave (data_unit-stub [] (omega arith)) (inr refl))
+    (λ e. omega (arith, c.in_ok-play_units.ensures.input_cause.later, c.in-Failed.ensures.cause.rose tt)) (λ e. cc)

@@ -1,9 +1,9 @@
 use Rattle.std.proofs.Common.{◌≡◌, ◌*◌, ◌≤◌, None}
 use Rattle.play_command.specs.Looping.{IsBehind}
-use Rattle.play_command.specs.Steps.{playing_of}
-use Rattle.play_command.specs.Stream.{Heard}
+use Rattle.play_command.specs.Steps.{state_so_far}
+use Rattle.play_command.specs.Stream.{StreamSoFar}
 use Rattle.play_command.specs.Taking.{IsWithin}
-use Rattle.play_command.specs.Views.{player_of}
+use Rattle.play_command.specs.Views.{player_state}
 use Rattle.play_command.proofs.command.play_with.Given as goal
 
 abbrev pub invariant-loop-unit : goal.invariant-loop-unit
@@ -11,9 +11,9 @@ invariant-loop-unit g l = record {
   borrows : l.reader.source.ghost_name ≡ l.fn.reader.source.ghost_name;
   sound : l.reader.fault ≡ None;
   near : l.reader.place ≤ 268435456 * l._unit;
-  behind : (h : Heard) × (player_of l.player ≡ playing_of h) × (l.reader.place ≡ h.place)
+  behind : (h : StreamSoFar) × (player_state l.player ≡ state_so_far h) × (l.reader.place ≡ h.place)
       × IsBehind l.fn.packets l._unit (g.S.Source.left l.fn.reader.source.now) (g.S.Source.left l.reader.source.now) (g.O.Sink.held l.fn.output) (g.O.Sink.held l.output) h;
-  few : IsWithin l._unit (player_of l.player);
+  few : IsWithin l._unit (player_state l.player);
   input_later : g.S.Source.faults l.fn.reader.source.now ≤ g.S.Source.faults l.reader.source.now;
   output_later : g.O.Sink.faults l.fn.output ≤ g.O.Sink.faults l.output;
 }

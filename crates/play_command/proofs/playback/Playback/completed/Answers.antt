@@ -2,7 +2,7 @@ use Rattle.std.proofs.Common.{rules, ◌≡◌, true, Some, sym, ap}
 use Rattle.std.specs.Option.{option_map}
 use Rattle.vc_types.specs.Planes.{planes_in}
 use Rattle.vc_types.specs.SequenceHeader.{sequence_of}
-use Rattle.play_command.specs.Views.{kept_by, picture_of}
+use Rattle.play_command.specs.Views.{playback_state, picture_of}
 use Rattle.play_command.proofs.Completing.{completes-pair}
 use Rattle.play_command.proofs.Weavable.{field_heights}
 use Rattle.play_command.proofs.playback.Playback.completed.Goals as goal
@@ -20,4 +20,4 @@ returns-in_ok-frame-in-Some-clause-value c =
     let shape = rw waiting at c.requires.shape in
     let fields : c.args.self.now.header.fields ≡ true = search rules in
     let pair = sym c.is_pair.ensures in
-    rw c.take.ensures.after (completes-pair (kept_by c.args.self.now) (picture_of c.in-Some.earlier) (picture_of c.args.picture) c.in_ok-frame-in-Some.frame fields (ap (option_map picture_of) waiting) (search rules) shape c.requires.picture c.in_ok-frame-in-Some.ensures.value)
+    rw c.take.ensures.after (completes-pair (playback_state c.args.self.now) (picture_of c.in-Some.earlier) (picture_of c.args.picture) c.in_ok-frame-in-Some.frame fields (ap (option_map picture_of) waiting) (search rules) shape c.requires.picture c.in_ok-frame-in-Some.ensures.value)

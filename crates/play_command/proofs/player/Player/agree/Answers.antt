@@ -1,7 +1,6 @@
 use Rattle.std.proofs.Common.{sym, refl}
-use Rattle.play_command.specs.Views.{kept_by}
+use Rattle.play_command.specs.Views.{playback_state}
 use Rattle.play_command.proofs.player.Player.agree.Goals as goal
 
-pub returns-in-Some-clause-value : goal.returns-in-Some-clause-value
-returns-in-Some-clause-value c =
-    (kept_by c.in-Some.stream, rw (c.in-Some.is, c.in-Ok.ensures.exact, sym c.if-same_header.ensures) refl, rw c.in-Some.is refl)
+pub returns-in-Some : goal.returns-in-Some
+returns-in-Some c = record { value = (playback_state c.in-Some.stream, rw (c.in-Some.is, c.in-Ok.ensures.exact, sym c.if-same_header.ensures) refl, rw c.in-Some.is refl) }
