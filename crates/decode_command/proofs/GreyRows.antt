@@ -5,7 +5,7 @@ use Rattle.std.proofs.lemmas.List.{replicate-append-replicate}
 use Rattle.std.proofs.lemmas.Grind.{flat_map-append}
 use Rattle.vc_ports.specs.Writing.{Grew, GrewBySome}
 use Rattle.vc_ports.proofs.Growing.{Grew-then, GrewBySome-then, GrewBySome-front}
-use Rattle.link_model.specs.Frames.{is_wide, sample_bytes}
+use Rattle.vc_types.specs.RawFrames.{is_wide, sample_bytes}
 use Rattle.vc_types.specs.TransformParameters.{Parameters}
 use Rattle.decode_command.specs.Grey.{grey_bytes, grey_frame}
 

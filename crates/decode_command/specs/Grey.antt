@@ -1,7 +1,7 @@
 -- Frames whose samples are half of their range.
 use Rattle.std.specs.Prelude.{ℕ, ◌-◌, ◌*◌, ◌^◌, Bool, List, ◌++◌, replicate}
 use Rattle.std.specs.List.{flat_map}
-use Rattle.link_model.specs.Frames.{is_wide, sample_bytes}
+use Rattle.vc_types.specs.RawFrames.{is_wide, sample_bytes}
 use Rattle.vc_types.specs.TransformParameters.{Parameters}
 
 -- the raw bytes of a plane

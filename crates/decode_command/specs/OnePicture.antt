@@ -3,7 +3,7 @@
 -- of them.
 use Rattle.std.specs.Prelude.{ℕ, zero, suc, Bool, ◌&&◌, nat_le, ◌==◌, if◌then◌else◌, List, [], ◌∷◌, ◌++◌, length, take, slice_range, Option, Some, None, Result, Ok, Err, is_ok, option_and_then}
 use Rattle.std.specs.Option.{option_map}
-use Rattle.link_model.specs.Frames.{is_wide, frame_bytes}
+use Rattle.vc_types.specs.RawFrames.{is_wide, frame_bytes}
 use Rattle.link_model.specs.Packets.{PayloadValue, Header, Params, Slices, FragmentHead, RtpPacket, rtp_packet, payload}
 use Rattle.link_model.specs.declared.refusal.PayloadRefusal.{PayloadRefusal}
 use Rattle.link_model.specs.declared.refusal.RtpRefusal.{RtpRefusal}

@@ -1,6 +1,6 @@
 ghost use Rattle.std.specs.Prelude.{◌≡◌, ◌-◌, ◌*◌, ◌^◌, ◌≤◌, ◌<◌, false, OnOk, OnErr, IfOk, IsErr, replicate, Err};
 ghost use Rattle.std.specs.List.{flat_map};
-ghost use Rattle.link_model.specs.Frames.{sample_bytes};
+ghost use Rattle.vc_types.specs.RawFrames.{sample_bytes};
 ghost use Rattle.vc_ports.specs.Faults.{HasCause};
 ghost use Rattle.vc_ports.specs.Writing.{Grew, GrewBySome};
 ghost use Rattle.vc_types.specs.TransformParameters.{parameters_of};
@@ -39,7 +39,7 @@ fn half_range(depth: u8) -> u16
 }
 
 // So many samples of one value, in one byte each or in two, the lowest first.
-#[tactic(auto, unfolding(link_model::specs::Frames::sample_bytes))]
+#[tactic(auto, unfolding(vc_types::specs::RawFrames::sample_bytes))]
 fn grey_row(alloc: Global, width: u32, sample: u16, two: bool) -> Result<Vec<u8>, AllocError>
     requires { (two ≡ false) → sample < 256 }
     ensures { IfOk result (λ row. row.items ≡ flat_map (sample_bytes two) (replicate width sample)) }

@@ -1,6 +1,6 @@
 -- Two fields and their frame, worked by hand.
 use Rattle.std.proofs.Common.{◌≡◌, ℕ, List, [], ◌∷◌, true, false, refl}
-use Rattle.link_model.specs.Frames.{interleaved_rows, every_other_row, woven, fields_of}
+use Rattle.vc_types.specs.FieldPairs.{interleaved_rows, every_other_row, woven, fields_of}
 use Rattle.vc_types.specs.Planes.{Planes}
 use Rattle.vc_types.specs.Rasters.{Raster, raster, sample_at}
 

@@ -4,7 +4,7 @@ use Rattle.std.specs.Prelude.{◌==◌, if◌then◌else◌}
 use Rattle.std.specs.List.{range_with_len}
 use mathlib.Core.Path.{fun_ext}
 use Rattle.std.proofs.lemmas.Bool.{cases_eq}
-use Rattle.link_model.specs.Frames.{interleaved_rows, every_other_row, woven, fields_of}
+use Rattle.vc_types.specs.FieldPairs.{interleaved_rows, every_other_row, woven, fields_of}
 use Rattle.vc_types.specs.Planes.{Planes}
 use Rattle.vc_types.specs.Rasters.{Raster, raster, sample_at}
 use Rattle.field_pairs.specs.Rows.{row_of}

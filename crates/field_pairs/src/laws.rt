@@ -1,5 +1,5 @@
 ghost use Rattle.std.specs.Prelude.{◌≡◌, Bool};
-ghost use Rattle.link_model.specs.Frames.{woven, fields_of};
+ghost use Rattle.vc_types.specs.FieldPairs.{woven, fields_of};
 ghost use Rattle.vc_types.specs.Planes.{Planes};
 ghost use Rattle.field_pairs.specs.Sizes.{HaveEqualSizes, HaveEvenHeights, AreWhole};
 

@@ -1,5 +1,5 @@
 ghost use Rattle.std.specs.Prelude.{◌≡◌, ◌<◌, ◌%◌, IfOk};
-ghost use Rattle.link_model.specs.Frames.{every_other_row, on_each, fields_of};
+ghost use Rattle.vc_types.specs.FieldPairs.{every_other_row, on_each, fields_of};
 ghost use Rattle.vc_types.specs.Planes.{planes_in};
 ghost use Rattle.field_pairs.specs.Sizes.{HaveEvenHeights};
 

@@ -20,7 +20,7 @@ fn plane(alloc: Global, width: u32, height: u32, samples: &[u16]) -> Result<Plan
 
 // The later field is grey, and the earlier one has two darker samples at the left of each luma row.
 #[test]
-#[tactic(auto, unfolding(link_model::specs::Frames::interleaved_rows))]
+#[tactic(auto, unfolding(vc_types::specs::FieldPairs::interleaved_rows))]
 fn the_earlier_field_is_below_with_the_bottom_first(rt: HostRuntime) -> Result<(), Fail> {
     let alloc = rt.alloc();
     let earlier = [
@@ -54,7 +54,7 @@ fn the_earlier_field_is_below_with_the_bottom_first(rt: HostRuntime) -> Result<(
 
 // 4:2:0: the colour planes have half of the columns and half of the rows.
 #[test]
-#[tactic(auto, unfolding(link_model::specs::Frames::interleaved_rows))]
+#[tactic(auto, unfolding(vc_types::specs::FieldPairs::interleaved_rows))]
 fn the_earlier_field_is_above_with_the_top_first(rt: HostRuntime) -> Result<(), Fail> {
     let alloc = rt.alloc();
     let earlier = [

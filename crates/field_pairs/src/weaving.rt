@@ -1,5 +1,5 @@
 ghost use Rattle.std.specs.Prelude.{◌≡◌, ◌≤◌, IfOk};
-ghost use Rattle.link_model.specs.Frames.{interleaved_rows, of_each, woven};
+ghost use Rattle.vc_types.specs.FieldPairs.{interleaved_rows, of_each, woven};
 ghost use Rattle.vc_types.specs.Planes.{planes_in};
 ghost use Rattle.field_pairs.specs.Sizes.{HasSizeOf, HaveEqualSizes, HaveHeightsUpTo};
 

@@ -1,6 +1,6 @@
 -- The bytes of a frame, worked by hand.
 use Rattle.std.proofs.Common.{◌≡◌, ℕ, List, [], ◌∷◌, true, false, refl}
-use Rattle.link_model.specs.Frames.{sample_bytes, frame_bytes}
+use Rattle.vc_types.specs.RawFrames.{sample_bytes, frame_bytes}
 use Rattle.vc_types.specs.Planes.{Planes}
 use Rattle.vc_types.specs.Rasters.{Raster}
 

@@ -1,8 +1,6 @@
 -- Samples as the bytes that go out.
 use Rattle.std.specs.Prelude.{ℕ, ◌*◌, ◌<◌, Bool, List, All, length, if◌then◌else◌}
-use Rattle.std.specs.List.{flat_map}
 use Rattle.vc_types.specs.Planes.{Planes}
-use Rattle.link_model.specs.Frames.{sample_bytes}
 
 -- each sample fits a byte
 abbrev pub FitBytes : List ℕ → Type 0
@@ -14,10 +12,6 @@ pub record HaveByteSamples (planes : Planes) : Type 0 where
   pub c1 : FitBytes planes.c1.samples
   pub c2 : FitBytes planes.c2.samples
 
--- the bytes of some samples
-abbrev pub bytes_of : Bool → List ℕ → List ℕ
-bytes_of two samples = flat_map (sample_bytes two) samples
-
--- how many bytes they have
+-- how many bytes samples have
 abbrev pub byte_count : Bool → List ℕ → ℕ
 byte_count two samples = if two then 2 * length samples else length samples

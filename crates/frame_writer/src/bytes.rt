@@ -1,5 +1,6 @@
 ghost use Rattle.std.specs.Prelude.{◌≡◌, false, length};
-ghost use Rattle.frame_writer.specs.Samples.{FitBytes, bytes_of, byte_count};
+ghost use Rattle.vc_types.specs.RawFrames.{samples_bytes};
+ghost use Rattle.frame_writer.specs.Samples.{FitBytes, byte_count};
 
 use byteorder::{ByteOrder, LittleEndian};
 
@@ -18,7 +19,7 @@ pub(crate) fn byte_count(samples: &[u16], two: bool) -> usize
 pub(crate) fn put_samples(buffer: &mut [u8], samples: &[u16], two: bool)
     requires room { length buffer.old ≡ byte_count two samples.now }
     requires narrow { (two ≡ false) → FitBytes samples.now }
-    ensures { buffer.new ≡ bytes_of two samples.now }
+    ensures { buffer.new ≡ samples_bytes two samples.now }
 {
     if two {
         LittleEndian::write_u16_into(samples, buffer);

@@ -1,5 +1,5 @@
 ghost use Rattle.std.specs.Prelude.{◌≡◌, ◌≤◌, ◌*◌, false, length, vec_len, OnOk, OnErr, IfOk, IsErr, Err};
-ghost use Rattle.link_model.specs.Frames.{frame_bytes};
+ghost use Rattle.vc_types.specs.RawFrames.{frame_bytes};
 ghost use Rattle.vc_ports.specs.Faults.{HasCause};
 ghost use Rattle.vc_ports.specs.Writing.{Grew, GrewBySome};
 ghost use Rattle.vc_types.specs.Planes.{planes_in};

@@ -1,7 +1,8 @@
 ghost use Rattle.std.specs.Prelude.{◌≡◌, ◌≤◌, ◌*◌, false, length, OnOk, OnErr, IsErr};
 ghost use Rattle.vc_ports.specs.Faults.{HasCause};
 ghost use Rattle.vc_ports.specs.Writing.{Grew, GrewBySome};
-ghost use Rattle.frame_writer.specs.Samples.{FitBytes, bytes_of, byte_count};
+ghost use Rattle.vc_types.specs.RawFrames.{samples_bytes};
+ghost use Rattle.frame_writer.specs.Samples.{FitBytes, byte_count};
 ghost use Rattle.frame_writer.specs.declared.pieces.TheConstants.{PIECE};
 
 use crate::bytes::{byte_count, put_samples};
@@ -19,8 +20,8 @@ fn write_piece<O: Sink>(
 ) -> Result<(), WriteFault>
     requires room { 2 * length samples.now ≤ length buffer.old }
     requires narrow { (two ≡ false) → FitBytes samples.now }
-    ensures ok { OnOk result (Grew (O.held sink.old) (O.held sink.new) (bytes_of two samples.now)) }
-    ensures err { OnErr result (GrewBySome (O.held sink.old) (O.held sink.new) (bytes_of two samples.now)) }
+    ensures ok { OnOk result (Grew (O.held sink.old) (O.held sink.new) (samples_bytes two samples.now)) }
+    ensures err { OnErr result (GrewBySome (O.held sink.old) (O.held sink.new) (samples_bytes two samples.now)) }
     ensures cause { HasCause (O.faults sink.old) (O.faults sink.new) (IsErr result) }
 {
     let (bytes, _) = buffer.split_at_mut(byte_count(samples, two));
@@ -37,8 +38,8 @@ pub(crate) fn write_samples<O: Sink>(
 ) -> Result<(), WriteFault>
     requires room { 2 * PIECE ≤ length buffer.old }
     requires narrow { (two ≡ false) → FitBytes samples.now }
-    ensures ok { OnOk result (Grew (O.held sink.old) (O.held sink.new) (bytes_of two samples.now)) }
-    ensures err { OnErr result (GrewBySome (O.held sink.old) (O.held sink.new) (bytes_of two samples.now)) }
+    ensures ok { OnOk result (Grew (O.held sink.old) (O.held sink.new) (samples_bytes two samples.now)) }
+    ensures err { OnErr result (GrewBySome (O.held sink.old) (O.held sink.new) (samples_bytes two samples.now)) }
     ensures cause { HasCause (O.faults sink.old) (O.faults sink.new) (IsErr result) }
 {
     let mut at = 0;

@@ -1,5 +1,5 @@
 ghost use Rattle.std.specs.Prelude.{◌≡◌};
-ghost use Rattle.link_model.specs.Frames.{is_wide};
+ghost use Rattle.vc_types.specs.RawFrames.{is_wide};
 
 use vc_types::Shape;
 

@@ -2,6 +2,7 @@
 -- places, or the first refusal.
 use Rattle.std.specs.Prelude.{◌≡◌, ◌<◌, ◌≤◌, ◌⊎◌, ℕ, zero, suc, ◌+◌, ◌-◌, ◌*◌, ◌/◌, ◌%◌, ◌^◌, Bool, ◌&&◌, ◌||◌, not, List, [], ◌∷◌, ◌++◌, length, take, drop, slice_index, Result, Ok, Err, nat_lt, nat_le, ◌==◌, if◌then◌else◌}
 use Rattle.std.specs.Int.{w16, w32, to_be_bytes}
+use Rattle.vc_types.specs.ParseCodes.{header_code, end_code, auxiliary_code, padding_code, fragment_code}
 use Rattle.link_model.specs.declared.refusal.RtpRefusal.{RtpRefusal}
 use Rattle.link_model.specs.declared.refusal.RtpRefusal.TheVariants as rtp_refusals
 use Rattle.link_model.specs.declared.refusal.PayloadRefusal.{PayloadRefusal}
@@ -169,17 +170,19 @@ fragment_value bytes =
 
 -- ---- reading and writing
 
--- the codes of this project's profile: sequence header, end of sequence, auxiliary data, padding data, high-quality
--- picture fragment
+-- the codes of a payload in this project's profile
 abbrev pub is_known_code : ℕ → Bool
-is_known_code code = code == 0x00 || code == 0x10 || code == 0x20 || code == 0x30 || code == 0xEC
+is_known_code code =
+    code == header_code || code == end_code || code == auxiliary_code || code == padding_code
+    || code == fragment_code
 
 abbrev pub coded_payload : ℕ → List ℕ → Result PayloadValue PayloadRefusal
 coded_payload code bytes =
-    if code == 0x00 then Ok (Header (high_of bytes) 4 (drop 4 bytes))
-    else (if code == 0x10 then Ok (End (high_of bytes))
-    else (if code == 0x20 || code == 0x30 then Ok (Skip (high_of bytes) code)
-    else (if code == 0xEC then (if fragment_fits bytes then Ok (fragment_value bytes) else Err payload_refusals.Fragment)
+    if code == header_code then Ok (Header (high_of bytes) 4 (drop 4 bytes))
+    else (if code == end_code then Ok (End (high_of bytes))
+    else (if code == auxiliary_code || code == padding_code then Ok (Skip (high_of bytes) code)
+    else (if code == fragment_code then
+    (if fragment_fits bytes then Ok (fragment_value bytes) else Err payload_refusals.Fragment)
     else Err payload_refusals.Code)))
 
 unfoldable pub payload : List ℕ → Result PayloadValue PayloadRefusal
@@ -196,7 +199,7 @@ pub record HeadFits (head : FragmentHead) : Type 0 where
 abbrev pub IsWritable : PayloadValue → Type 0
 IsWritable (Header high from body) = high < 2 ^ 16
 IsWritable (End high) = high < 2 ^ 16
-IsWritable (Skip high code) = (high < 2 ^ 16) × ((code ≡ 0x20) ⊎ (code ≡ 0x30))
+IsWritable (Skip high code) = (high < 2 ^ 16) × ((code ≡ auxiliary_code) ⊎ (code ≡ padding_code))
 IsWritable (Params head from body) = HeadFits head × (length body < 2 ^ 16)
 IsWritable (Slices head count x y from body) = HeadFits head × (1 ≤ count) × (count < 2 ^ 16) × (x < 2 ^ 16) × (y < 2 ^ 16) × (length body < 2 ^ 16)
 
@@ -216,12 +219,12 @@ payload_head high flags code = to_be_bytes w16 high ++ (flags ∷ code ∷ [])
 -- the first sixteen bytes of a fragment
 unfoldable pub fragment_bytes : FragmentHead → ℕ → ℕ → List ℕ
 fragment_bytes head bytes slices =
-    payload_head head.high head.flags 0xEC ++ (to_be_bytes w32 head.number ++ (to_be_bytes w16 head.prefix ++ (to_be_bytes w16 head.scaler ++ (to_be_bytes w16 bytes ++ to_be_bytes w16 slices))))
+    payload_head head.high head.flags fragment_code ++ (to_be_bytes w32 head.number ++ (to_be_bytes w16 head.prefix ++ (to_be_bytes w16 head.scaler ++ (to_be_bytes w16 bytes ++ to_be_bytes w16 slices))))
 
 -- what a payload is written as
 unfoldable pub payload_bytes : PayloadValue → List ℕ
-payload_bytes (Header high from body) = payload_head high 0 0x00 ++ body
-payload_bytes (End high) = payload_head high 0 0x10
+payload_bytes (Header high from body) = payload_head high 0 header_code ++ body
+payload_bytes (End high) = payload_head high 0 end_code
 payload_bytes (Skip high code) = payload_head high 0 code
 payload_bytes (Params head from body) = fragment_bytes head (length body) 0 ++ body
 payload_bytes (Slices head count x y from body) = fragment_bytes head (length body) count ++ (to_be_bytes w16 x ++ (to_be_bytes w16 y ++ body))

@@ -7,6 +7,7 @@ use Rattle.vc_types.specs.declared.rect.Rect.{Rect}
 use Rattle.vc_types.specs.declared.video.Component.{Component}
 use Rattle.vc_types.specs.Lifting.{line_of}
 use Rattle.vc_types.specs.Slices.{Coefficients, coefficients_of}
+use Rattle.vc_types.specs.Quantisation.{subband_count}
 use Rattle.vc_types.specs.Subbands.{area, place_in, slice_count, slice_coefficient_count, coefficient_place, padded_width}
 use Rattle.vc_types.specs.TransformParameters.{Parameters}
 use Rattle.vc_types.proofs.Placing.{place-inside, places-apart}
@@ -45,7 +46,7 @@ module _ (p : Parameters) (c : Component) (stride : ℕ) where
         places-apart p c some_across some_down s i t j hs hi ht hj (same_place a.0 a.1 b.0 b.1 same.1 same.0)
 
     -- a subband more
-    module _ (slice b from : ℕ) (r : Rect) (coeffs old new : List ℤ) (numbered : slice < slice_count p) (inside : b < 1 + 3 * p.depth)
+    module _ (slice b from : ℕ) (r : Rect) (coeffs old new : List ℤ) (numbered : slice < slice_count p) (inside : b < subband_count p.depth_ho p.depth)
         (is : r ≡ rectangle p c slice b) (at : from ≡ coefficients_before p c slice b) (whole : length coeffs ≡ slice_coefficient_count p c slice) where
       pub rectangle_within : from + area r ≤ length coeffs
       rectangle_within =
@@ -83,7 +84,7 @@ module _ (p : Parameters) (c : Component) (stride : ℕ) where
         others_stay first before k none =
             off k (λ j g e. none (from + j) (let below = rectangle_within in omega arith) (e ∙ there j g)) ∙ before k none
 
-    pub stand_all : (slice b from : ℕ) (coeffs cells : List ℤ) → b ≡ 1 + 3 * p.depth → from ≡ coefficients_before p c slice b → length coeffs ≡ slice_coefficient_count p c slice
+    pub stand_all : (slice b from : ℕ) (coeffs cells : List ℤ) → b ≡ subband_count p.depth_ho p.depth → from ≡ coefficients_before p c slice b → length coeffs ≡ slice_coefficient_count p c slice
         → FirstStand slice coeffs from cells → FirstStand slice coeffs (length coeffs) cells
     stand_all slice b from coeffs cells e at whole before i h =
         let all = coefficients_before-all p c slice b e in

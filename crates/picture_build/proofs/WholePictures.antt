@@ -10,13 +10,14 @@ use Rattle.vc_types.specs.Slices.{coded_slice, decoded_slice, Coefficients}
 use Rattle.vc_types.specs.Subbands.{slice_count}
 use Rattle.vc_types.specs.TransformParameters.{Parameters, transform_parameters}
 use Rattle.vc_types.proofs.FieldCodecs.{and_then_ok}
-use Rattle.picture_build.specs.Whole.{IsWholeSlice, AreWholeSlices}
+use Rattle.vc_types.specs.SliceCoefficients.{AreSliceCoefficients}
+use Rattle.picture_build.specs.PictureCoefficients.{ArePictureCoefficients}
 use Rattle.picture_build.proofs.WholeSlices.{whole_decoded}
 
 -- n slices that are numbered from m on
 record AreNumbered (p : Parameters) (m n : ℕ) (slices : List Coefficients) : Type 0 where
   count : length slices ≡ n
-  each : (k : ℕ) (none : Coefficients) → k < length slices → IsWholeSlice p (m + k) (slice_index_or slices k none)
+  each : (k : ℕ) (none : Coefficients) → k < length slices → AreSliceCoefficients p (m + k) (slice_index_or slices k none)
 
 abbrev Read : Type 0 → Type 0
 Read X = Result (X × List ℕ) (Unit {0})
@@ -32,12 +33,12 @@ module _ (p : Parameters) where
   numbered_none : (m : ℕ) → AreNumbered p m 0 []
   numbered_none m = record { count = refl; each = λ k none h. absurd (omega arith) }
 
-  numbered_more : (m n : ℕ) (s : Coefficients) (slices : List Coefficients) → IsWholeSlice p m s → AreNumbered p (m + 1) n slices → AreNumbered p m (suc n) (s ∷ slices)
+  numbered_more : (m n : ℕ) (s : Coefficients) (slices : List Coefficients) → AreSliceCoefficients p m s → AreNumbered p (m + 1) n slices → AreNumbered p m (suc n) (s ∷ slices)
   numbered_more m n s slices own rest = record { count = ap suc rest.count; each = at }
     where
-      at : (k : ℕ) (none : Coefficients) → k < suc (length slices) → IsWholeSlice p (m + k) (slice_index_or (s ∷ slices) k none)
-      at zero none h = let first : m ≡ m + 0 = omega arith in subst (λ n. IsWholeSlice p n s) first own
-      at (suc k) none h = let next : m + 1 + k ≡ m + suc k = omega arith in subst (λ n. IsWholeSlice p n (slice_index_or slices k none)) next (rest.each k none (omega arith))
+      at : (k : ℕ) (none : Coefficients) → k < suc (length slices) → AreSliceCoefficients p (m + k) (slice_index_or (s ∷ slices) k none)
+      at zero none h = let first : m ≡ m + 0 = omega arith in subst (λ n. AreSliceCoefficients p n s) first own
+      at (suc k) none h = let next : m + 1 + k ≡ m + suc k = omega arith in subst (λ n. AreSliceCoefficients p n (slice_index_or slices k none)) next (rest.each k none (omega arith))
 
   numbered_read : (m n : ℕ) (bytes : List ℕ) (read : List Coefficients × List ℕ) → slices_from p m n bytes ≡ Ok read → AreNumbered p m n read.0
   unfolding slices_from
@@ -53,7 +54,7 @@ module _ (p : Parameters) where
 -- as many slices as the parameters want, and each whole
 pub record IsWholePicture (picture : Picture) : Type 0 where
   pub count : length picture.slices ≡ slice_count picture.parameters
-  pub whole : AreWholeSlices picture.parameters picture.slices
+  pub whole : ArePictureCoefficients picture.parameters picture.slices
 
 from_slices : (p : Parameters) (bytes : List ℕ) (picture : Picture) (read : Read (List Coefficients)) → slices_from p 0 (slice_count p) bytes ≡ read → with_slices p read ≡ Some picture → IsWholePicture picture
 from_slices p bytes picture (Ok read) h e =
@@ -61,7 +62,7 @@ from_slices p bytes picture (Ok read) h e =
     let numbered = numbered_read p 0 (slice_count p) bytes read h in
     let own : IsWholePicture (record { parameters = p; slices = read.0 }) = record {
       count = numbered.count;
-      whole = λ k none below. (let number : 0 + k ≡ k = omega arith in subst (λ n. IsWholeSlice p n (slice_index_or read.0 k none)) number (numbered.each k none below));
+      whole = λ k none below. (let number : 0 + k ≡ k = omega arith in subst (λ n. AreSliceCoefficients p n (slice_index_or read.0 k none)) number (numbered.each k none below));
     } in
     subst IsWholePicture same own
 from_slices p bytes picture (Err short) h e = absurd cc

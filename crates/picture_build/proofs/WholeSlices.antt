@@ -17,7 +17,8 @@ use Rattle.vc_types.specs.Subbands.{slice_coefficient_count}
 use Rattle.vc_types.specs.TransformParameters.{Parameters}
 use Rattle.vc_types.proofs.BoundedLists.{length-bounded_sints}
 use Rattle.vc_slice.proofs.BlockCoefficients.{length-quantisers}
-use Rattle.picture_build.specs.Whole.{IsWholeSlice, AreWholeSlices}
+use Rattle.vc_types.specs.SliceCoefficients.{AreSliceCoefficients}
+use Rattle.picture_build.specs.PictureCoefficients.{ArePictureCoefficients}
 
 -- ---- how many coefficients a slice has
 
@@ -39,52 +40,7 @@ length-all p n coded Y = length-block p Y n coded.index coded.y
 length-all p n coded C1 = length-block p C1 n coded.index coded.c1
 length-all p n coded C2 = length-block p C2 n coded.index coded.c2
 
--- ---- a decoded slice
-
-module _ (p : Parameters) (n : ℕ) (s : Coefficients) where
-  whole_in_range : (all : Coefficients) (large : Bool) → ((c : Component) → length (coefficients_of all c) ≡ slice_coefficient_count p c n) → list_any is_large (all.y ++ all.c1 ++ all.c2) ≡ large
-      → ◌≡◌ {A = Result Coefficients Unsound} (if large then Err CoefficientRange else Ok all) (Ok s) → IsWholeSlice p n s
-  whole_in_range all true count small e = absurd cc
-  whole_in_range all false count small e =
-      let same : all ≡ s = cc in
-      record {
-        count = λ c. ap (λ t. length (coefficients_of t c)) (sym same) ∙ count c;
-        small = ap (λ t. list_any is_large (t.y ++ t.c1 ++ t.c2)) (sym same) ∙ small;
-      }
-
-  whole_indexed : (coded : CodedSlice) (high : Bool) → ◌≡◌ {A = Result Coefficients Unsound} (if high then Err IndexRange else in_range (all_coefficients p n coded)) (Ok s) → IsWholeSlice p n s
-  whole_indexed coded true e = absurd cc
-  whole_indexed coded false e = whole_in_range (all_coefficients p n coded) (list_any is_large ((all_coefficients p n coded).y ++ (all_coefficients p n coded).c1 ++ (all_coefficients p n coded).c2)) (length-all p n coded) refl e
-
-  pub whole_decoded : (coded : CodedSlice) → decoded_slice p n coded ≡ Ok s → IsWholeSlice p n s
-  unfolding decoded_slice
-  whole_decoded coded e = whole_indexed coded (nat_lt 127 coded.index) e
-
-  whole_from : (read : Result (CodedSlice × List ℕ) (Unit {0})) → decoded_from p n read ≡ Ok s → IsWholeSlice p n s
-  whole_from (Ok read) e = whole_decoded read.0 e
-  whole_from (Err short) e = absurd cc
-
-  -- what decoding a sound slice answers
-  pub whole_slice : (bytes : List ℕ) → slice_coefficients p n bytes ≡ Ok s → IsWholeSlice p n s
-  unfolding slice_coefficients
-  whole_slice bytes e = whole_from (coded_slice p.prefix p.scaler bytes) e
-
--- ---- slices in raster order
-
-pub whole_none : (p : Parameters) → AreWholeSlices p []
-whole_none p n none h = absurd (omega arith)
-
--- one slice more
-pub whole_push : (p : Parameters) (slices : List Coefficients) (s : Coefficients) → AreWholeSlices p slices → IsWholeSlice p (length slices) s → AreWholeSlices p (slices ++ s ∷ [])
-whole_push p slices s before own n none h = elim (cases_eq n (length slices)) [
-  | inl e ↦ rw (get_or_push slices s none n (sym e)) (rw e own)
-  | inr ne ↦ (
-      let count = length-append slices (s ∷ []) in
-      let earlier : n < length slices = omega (arith, count) in
-      rw (get_or_append_left slices (s ∷ []) none n earlier) (before n none earlier))
-]
-
--- ---- small coefficients
+-- ---- none is large
 
 either-false : (a b : Bool) → (a || b) ≡ false → (a ≡ false) × (b ≡ false)
 either-false true b e = absurd cc
@@ -98,15 +54,62 @@ none_large s c e = each c (either-false _ _ (sym (list_any-append is_large (s.y 
     each C1 h = (either-false _ _ (sym (list_any-append is_large s.y s.c1) ∙ h.0)).1
     each C2 h = h.1
 
+-- ---- a decoded slice
+
+module _ (p : Parameters) (n : ℕ) (s : Coefficients) where
+  whole_in_range : (all : Coefficients) (large : Bool) → ((c : Component) → length (coefficients_of all c) ≡ slice_coefficient_count p c n) → list_any is_large (all.y ++ all.c1 ++ all.c2) ≡ large
+      → ◌≡◌ {A = Result Coefficients Unsound} (if large then Err CoefficientRange else Ok all) (Ok s) → AreSliceCoefficients p n s
+  whole_in_range all true count small e = absurd cc
+  whole_in_range all false count small e =
+      let same : all ≡ s = cc in
+      record {
+        count = λ c. ap (λ t. length (coefficients_of t c)) (sym same) ∙ count c;
+        small = λ c. ap (λ t. list_any is_large (coefficients_of t c)) (sym same) ∙ none_large all c small;
+      }
+
+  whole_indexed : (coded : CodedSlice) (high : Bool) → ◌≡◌ {A = Result Coefficients Unsound} (if high then Err IndexRange else in_range (all_coefficients p n coded)) (Ok s) → AreSliceCoefficients p n s
+  whole_indexed coded true e = absurd cc
+  whole_indexed coded false e = whole_in_range (all_coefficients p n coded) (list_any is_large ((all_coefficients p n coded).y ++ (all_coefficients p n coded).c1 ++ (all_coefficients p n coded).c2)) (length-all p n coded) refl e
+
+  pub whole_decoded : (coded : CodedSlice) → decoded_slice p n coded ≡ Ok s → AreSliceCoefficients p n s
+  unfolding decoded_slice
+  whole_decoded coded e = whole_indexed coded (nat_lt 127 coded.index) e
+
+  whole_from : (read : Result (CodedSlice × List ℕ) (Unit {0})) → decoded_from p n read ≡ Ok s → AreSliceCoefficients p n s
+  whole_from (Ok read) e = whole_decoded read.0 e
+  whole_from (Err short) e = absurd cc
+
+  -- what decoding a sound slice answers
+  pub whole_slice : (bytes : List ℕ) → slice_coefficients p n bytes ≡ Ok s → AreSliceCoefficients p n s
+  unfolding slice_coefficients
+  whole_slice bytes e = whole_from (coded_slice p.prefix p.scaler bytes) e
+
+-- ---- slices in raster order
+
+pub whole_none : (p : Parameters) → ArePictureCoefficients p []
+whole_none p n none h = absurd (omega arith)
+
+-- one slice more
+pub whole_push : (p : Parameters) (slices : List Coefficients) (s : Coefficients) → ArePictureCoefficients p slices → AreSliceCoefficients p (length slices) s → ArePictureCoefficients p (slices ++ s ∷ [])
+whole_push p slices s before own n none h = elim (cases_eq n (length slices)) [
+  | inl e ↦ rw (get_or_push slices s none n (sym e)) (rw e own)
+  | inr ne ↦ (
+      let count = length-append slices (s ∷ []) in
+      let earlier : n < length slices = omega (arith, count) in
+      rw (get_or_append_left slices (s ∷ []) none n earlier) (before n none earlier))
+]
+
+-- ---- small coefficients
+
 not_large : (z : ℤ) (large : Bool) → nat_le (2 ^ 60) (unsigned_abs z) ≡ large → large ≡ false → unsigned_abs z < 2 ^ 60
 not_large z large e f = grind (arith, nat_tests)
 
 -- each coefficient of a whole slice is below 2 ^ 60
-pub coefficient-small : (p : Parameters) (n : ℕ) (s : Coefficients) (c : Component) (i : ℕ) → IsWholeSlice p n s → i < slice_coefficient_count p c n → unsigned_abs (slice_index_or (coefficients_of s c) i (pos 0)) < 2 ^ 60
+pub coefficient-small : (p : Parameters) (n : ℕ) (s : Coefficients) (c : Component) (i : ℕ) → AreSliceCoefficients p n s → i < slice_coefficient_count p c n → unsigned_abs (slice_index_or (coefficients_of s c) i (pos 0)) < 2 ^ 60
 coefficient-small p n s c i whole h =
     let zs = coefficients_of s c in
     let z = slice_index_or zs i (pos 0) in
-    let none = none_large s c whole.small in
+    let none = whole.small c in
     let within : i < length zs = (let count = whole.count c in omega (arith, count)) in
     not_large z (is_large z) refl (small_by (is_large z) refl none (λ e. list_any_at is_large zs i (pos 0) within e))
   where

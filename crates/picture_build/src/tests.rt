@@ -1,7 +1,8 @@
 ghost use Rattle.std.specs.Prelude.{◌≡◌, ◌<◌, IfOk, length};
 ghost use Rattle.vc_types.specs.Subbands.{slice_count};
 ghost use Rattle.vc_types.specs.TransformParameters.{parameters_of};
-ghost use Rattle.picture_build.specs.Whole.{IsWholeSlice, AreWholeSlices};
+ghost use Rattle.vc_types.specs.SliceCoefficients.{AreSliceCoefficients};
+ghost use Rattle.picture_build.specs.PictureCoefficients.{ArePictureCoefficients};
 
 use crate::build;
 use bytes::Bytes;
@@ -166,7 +167,7 @@ fn six_slices() -> Plan
 // The coefficients of a slice, by its number and its bytes.
 fn decoded(alloc: Global, plan: Plan, index: u32, bytes: &'static [u8]) -> Result<SliceCoeffs, Fail>
     requires { index < slice_count (parameters_of plan) }
-    ensures { IfOk result (λ coeffs. IsWholeSlice (parameters_of plan) index coeffs) }
+    ensures { IfOk result (λ coeffs. AreSliceCoefficients (parameters_of plan) index coeffs) }
 {
     let job = job(plan, index, Bytes::from_static(bytes))?;
     let Ok(done) = decode(alloc, job) else {
@@ -191,7 +192,7 @@ fn job(plan: Plan, index: u32, bytes: Bytes) -> Result<SliceJob, Fail>
 }
 
 fn coefficients(done: SliceDone) -> Result<SliceCoeffs, Fail>
-    ensures { IfOk result (λ coeffs. IsWholeSlice (parameters_of done.job.plan) done.job.index coeffs) }
+    ensures { IfOk result (λ coeffs. AreSliceCoefficients (parameters_of done.job.plan) done.job.index coeffs) }
 {
     let SliceDone { job: _, answer } = done;
     match answer {
@@ -204,7 +205,7 @@ fn coefficients(done: SliceDone) -> Result<SliceCoeffs, Fail>
 fn slices(alloc: Global, plan: Plan, coded: &[&'static [u8]]) -> Result<Vec<SliceCoeffs>, Fail>
     requires { length coded.now ≡ slice_count (parameters_of plan) }
     ensures count { IfOk result (λ slices. length slices.items ≡ slice_count (parameters_of plan)) }
-    ensures whole { IfOk result (λ slices. AreWholeSlices (parameters_of plan) slices.items) }
+    ensures whole { IfOk result (λ slices. ArePictureCoefficients (parameters_of plan) slices.items) }
 {
     let mut slices = Vec::new(alloc);
     for i in 0..coded.len() {

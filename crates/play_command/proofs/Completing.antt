@@ -1,6 +1,6 @@
 -- A field that completes a frame.
 use Rattle.std.proofs.Common.{◌≡◌, true, List, [], ◌∷◌, Some, None, refl, ap}
-use Rattle.link_model.specs.Frames.{woven}
+use Rattle.vc_types.specs.FieldPairs.{woven}
 use Rattle.vc_types.specs.Planes.{Planes, planes_in}
 use Rattle.vc_types.specs.Rasters.{Raster}
 use Rattle.vc_types.specs.SequenceHeader.{picture_shape}

@@ -3,7 +3,7 @@ use Rattle.std.proofs.Common.{◌≡◌, ℕ, Bool, true, false, List, [], ◌�
 use Rattle.std.specs.Prelude.{if◌then◌else◌, ◌==◌, option_and_then}
 use Rattle.std.specs.Option.{option_map}
 use Rattle.vc_types.specs.SequenceHeader.{coded_header}
-use Rattle.vc_units.specs.Units.{DataUnit}
+use Rattle.vc_types.specs.DataUnits.{DataUnit}
 use Rattle.play_command.specs.Stream.{Stream, Picture, Heard, nothing, with_header, with_picture, picture_in, shows, takes, takes_all, heard_of, behind, played}
 use Rattle.play_command.proofs.Bringing.{played-header}
 use Rattle.play_command.proofs.Showing.{played-more}

@@ -6,7 +6,8 @@ use Rattle.vc_ports.specs.Writing.{Grew}
 use Rattle.vc_ports.proofs.Given.{Gave-none, Gave-then}
 use Rattle.vc_ports.proofs.Growing.{Grew-none, Grew-then}
 use Rattle.vc_units.specs.Reading.{GaveUnit}
-use Rattle.vc_units.specs.Units.{DataUnit, units_within, is_end_of_sequence}
+use Rattle.vc_types.specs.DataUnits.{DataUnit, is_end_of_sequence}
+use Rattle.vc_units.specs.Units.{units_within}
 use Rattle.vc_units.proofs.Streams.{units_within-unit, units_within-end, units_within-nothing}
 use Rattle.play_command.specs.Looping.{IsBehind, HasEnded}
 use Rattle.play_command.specs.Stream.{Heard, Stream, nothing, takes_all, takes, behind, played}

@@ -3,7 +3,7 @@ use Rattle.std.proofs.Common.{◌≡◌, ℕ, ◌+◌, ◌≤◌, Option, Some, 
 use Rattle.std.specs.Prelude.{IfSome}
 use Rattle.std.specs.Option.{option_map, option_map_or}
 use Rattle.link_report.specs.declared.summary.Summary.TheVariants as summaries
-use Rattle.vc_units.specs.Units.{DataUnit, unit_length}
+use Rattle.vc_types.specs.DataUnits.{DataUnit, unit_length}
 use Rattle.play_command.specs.Looping.{summary_of}
 use Rattle.play_command.specs.Steps.{Kept, kept_of, Playing, playing_of}
 use Rattle.play_command.specs.Stream.{Heard, Stream, behind, pictures_in, frames_in, unpaired_in}

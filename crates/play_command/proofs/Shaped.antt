@@ -4,7 +4,7 @@ use Rattle.std.specs.Prelude.{IsTrue}
 use Rattle.std.proofs.Math.Pow.{pow_mono}
 use Rattle.std.proofs.lemmas.Bool.Decides.{nat_tests}
 use Rattle.frame_writer.specs.Samples.{FitBytes}
-use Rattle.link_model.specs.Frames.{is_wide}
+use Rattle.vc_types.specs.RawFrames.{is_wide}
 use Rattle.picture_build.proofs.PlaneSizes.{component_plane-width, component_plane-height, component_plane-samples}
 use Rattle.vc_types.specs.Limits.{shape_fits}
 use Rattle.vc_types.specs.Planes.{component_plane, planes_of}

@@ -7,7 +7,7 @@ use Rattle.vc_types.specs.Fields.{and_then}
 use Rattle.vc_types.specs.Pictures.{slices_from}
 use Rattle.vc_types.specs.declared.refusal.Unsound.{Unsound}
 use Rattle.vc_types.specs.Slices.{Coefficients, slice_length, slice_coefficients}
-use Rattle.vc_slice.proofs.WholeSlices.{slices_from-sound, slices_from-unsound, slices_from-short}
+use Rattle.vc_types.proofs.WholeSlices.{slices_from-sound, slices_from-unsound, slices_from-short}
 use Rattle.vc_types.specs.TransformParameters.{Parameters}
 use Rattle.play_command.specs.Slices.{GaveSlice, behind}
 

@@ -12,7 +12,8 @@ use Rattle.vc_ports.specs.Writing.{Grew, GrewBySome}
 use Rattle.vc_ports.proofs.Given.{Gave-then}
 use Rattle.vc_ports.proofs.Growing.{GrewBySome-all, GrewBySome-then, GrewBySome-front}
 use Rattle.vc_units.specs.Reading.{GaveUnit, ReadsUnit}
-use Rattle.vc_units.specs.Units.{DataUnit, data_unit, units_within, is_end_of_sequence}
+use Rattle.vc_types.specs.DataUnits.{DataUnit, is_end_of_sequence}
+use Rattle.vc_units.specs.Units.{data_unit, units_within}
 use Rattle.vc_units.specs.declared.fault.UnitFault.{UnitFault}
 use Rattle.vc_units.specs.declared.fault.UnitFault.TheVariants as faults
 use Rattle.vc_units.proofs.Infos.{data_unit-stub}

@@ -5,7 +5,7 @@ use Rattle.std.proofs.lemmas.Bool.{and_parts, cases_lt}
 use Rattle.std.proofs.lemmas.List.{get_or_past}
 use Rattle.field_pairs.specs.Sizes.{HaveHeightsUpTo}
 use Rattle.frame_writer.specs.Samples.{FitBytes, HaveByteSamples}
-use Rattle.link_model.specs.Frames.{interleaved_rows, of_each, woven}
+use Rattle.vc_types.specs.FieldPairs.{interleaved_rows, of_each, woven}
 use Rattle.picture_build.proofs.RasterLists.{raster-all}
 use Rattle.vc_types.specs.Planes.{Planes}
 use Rattle.vc_types.specs.Rasters.{Raster, sample_at}

@@ -5,7 +5,8 @@ use Rattle.std.specs.Option.{option_map_or}
 use Rattle.vc_ports.specs.Reading.{Gave, GaveAll, IsAtEnd}
 use Rattle.vc_ports.specs.Runs.{Run}
 use Rattle.vc_ports.specs.Writing.{Grew}
-use Rattle.vc_units.specs.Units.{DataUnit, units_within, is_end_of_sequence}
+use Rattle.vc_types.specs.DataUnits.{DataUnit, is_end_of_sequence}
+use Rattle.vc_units.specs.Units.{units_within}
 use Rattle.link_report.specs.declared.ending.Ending.{Ending}
 use Rattle.link_report.specs.declared.ending.Ending.TheVariants.{InputFailed, PacketLimit}
 use Rattle.link_report.specs.declared.summary.Summary.{Summary}

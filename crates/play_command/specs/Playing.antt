@@ -9,7 +9,8 @@ use Rattle.vc_ports.specs.Faults.{Rose}
 use Rattle.vc_ports.specs.Reading.{Gave, IsAtEnd}
 use Rattle.vc_ports.specs.Runs.{Run}
 use Rattle.vc_ports.specs.Writing.{Grew, GrewBySome}
-use Rattle.vc_units.specs.Units.{DataUnit, data_unit, units_within, is_end_of_sequence}
+use Rattle.vc_types.specs.DataUnits.{DataUnit, is_end_of_sequence}
+use Rattle.vc_units.specs.Units.{data_unit, units_within}
 use Rattle.vc_units.specs.declared.fault.UnitFault.{UnitFault}
 use Rattle.vc_units.specs.declared.fault.UnitFault.TheVariants.{Short}
 use Rattle.play_command.specs.Stream.{Heard, heard_of, played, pictures_in, frames_in, unpaired_in}

@@ -1,7 +1,7 @@
 -- Planes of a picture's shape.
 use Rattle.std.specs.Prelude.{◌≡◌, ℕ, false}
 use Rattle.frame_writer.specs.Samples.{HaveByteSamples}
-use Rattle.link_model.specs.Frames.{is_wide}
+use Rattle.vc_types.specs.RawFrames.{is_wide}
 use Rattle.vc_types.specs.Planes.{Planes}
 use Rattle.vc_types.specs.Rasters.{Raster}
 use Rattle.vc_types.specs.declared.shape.Shape.{Shape}

@@ -1,7 +1,7 @@
 -- The player between two units: what it keeps of the stream, and what a picture changes.
 use Rattle.std.specs.Prelude.{ℕ, ◌+◌, ◌%◌, ◌==◌, if◌then◌else◌, List, [], ◌∷◌, length, Option, Some, None}
 use Rattle.std.specs.Option.{option_map}
-use Rattle.link_model.specs.Frames.{woven}
+use Rattle.vc_types.specs.FieldPairs.{woven}
 use Rattle.vc_types.specs.Planes.{Planes}
 use Rattle.vc_types.specs.SequenceHeader.{Sequence}
 use Rattle.play_command.specs.Stream.{Heard, Stream, Picture, is_pair, frames_of}

@@ -3,30 +3,15 @@
 use Rattle.std.specs.Prelude.{ℕ, ◌+◌, ◌-◌, ◌*◌, ◌%◌, Bool, true, false, ◌&&◌, ◌==◌, nat_lt, if◌then◌else◌, List, [], ◌∷◌, ◌++◌, length, map, drop, Option, Some, None, Result, Ok, Err, option_and_then}
 use Rattle.std.specs.Option.{option_map, option_map_or}
 use Rattle.std.specs.List.{flat_map}
-use Rattle.link_model.specs.Frames.{is_wide, frame_bytes, woven}
+use Rattle.vc_types.specs.RawFrames.{is_wide, frame_bytes}
+use Rattle.vc_types.specs.FieldPairs.{woven}
 use Rattle.link_model.specs.Packets.{number_at}
-use Rattle.vc_types.specs.Bits.{digit_of}
-use Rattle.vc_types.specs.HeaderSpelling.{sampling_index}
+use Rattle.vc_types.specs.ParseCodes.{header_code, picture_code}
 use Rattle.vc_types.specs.Planes.{Planes, decoded_planes}
+use Rattle.vc_types.specs.SameValues.{same_sequence}
 use Rattle.vc_types.specs.SequenceHeader.{Sequence, coded_header, picture_shape}
 use Rattle.vc_types.specs.declared.refusal.HeaderRefusal.{HeaderRefusal}
-use Rattle.vc_types.specs.declared.video.SignalRange.{SignalRange}
-use Rattle.vc_units.specs.Units.{DataUnit, unit_length}
-
--- ---- headers of one value
-
-abbrev pub same_range : SignalRange → SignalRange → Bool
-same_range a b = a.luma_offset == b.luma_offset && a.luma_excursion == b.luma_excursion && a.colour_offset == b.colour_offset && a.colour_excursion == b.colour_excursion
-
-abbrev pub same_size : Sequence → Sequence → Bool
-same_size a b = a.width == b.width && a.height == b.height && sampling_index a.sampling == sampling_index b.sampling
-
-abbrev pub same_scan : Sequence → Sequence → Bool
-same_scan a b = digit_of a.interlaced == digit_of b.interlaced && digit_of a.top_first == digit_of b.top_first && digit_of a.fields == digit_of b.fields
-
--- both headers have the same value
-unfoldable pub same_sequence : Sequence → Sequence → Bool
-same_sequence a b = a.major == b.major && a.minor == b.minor && a.level == b.level && a.base == b.base && same_size a b && same_scan a b && same_range a.range b.range
+use Rattle.vc_types.specs.DataUnits.{DataUnit, unit_length}
 
 -- ---- units
 
@@ -62,8 +47,8 @@ shows body stream = option_map (with_picture stream) (picture_in stream.sequence
 -- units bring nothing. None where the unit is refused.
 unfoldable pub takes : Option Stream → DataUnit → Option (Option Stream)
 takes stream u =
-    if u.code == 0x00 then option_map (λ next. Some next) (with_header stream (coded_header u.body))
-    else if u.code == 0xE8 then option_map (λ next. Some next) (option_and_then (shows u.body) stream)
+    if u.code == header_code then option_map (λ next. Some next) (with_header stream (coded_header u.body))
+    else if u.code == picture_code then option_map (λ next. Some next) (option_and_then (shows u.body) stream)
     else Some stream
 
 -- what came up to now, and the place of the next unit

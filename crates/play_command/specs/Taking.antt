@@ -2,18 +2,19 @@
 use Rattle.std.specs.Prelude.{◌≡◌, ℕ, ◌≤◌, List, [], ◌++◌, if◌then◌else◌, Option, Some, None, Result, Ok, Err, IfSome, false}
 use Rattle.std.specs.Option.{option_map, option_to_list}
 use Rattle.frame_writer.specs.Samples.{HaveByteSamples}
-use Rattle.link_model.specs.Frames.{is_wide}
+use Rattle.vc_types.specs.RawFrames.{is_wide}
 use Rattle.vc_ports.specs.Writing.{Grew, GrewBySome}
 use Rattle.vc_types.specs.Planes.{Planes, planes_in}
 use Rattle.vc_types.specs.Rasters.{Raster}
 use Rattle.vc_types.specs.SequenceHeader.{Sequence, picture_shape}
 use Rattle.vc_types.specs.declared.refusal.HeaderRefusal.{HeaderRefusal}
-use Rattle.vc_units.specs.Units.{DataUnit}
+use Rattle.vc_types.specs.DataUnits.{DataUnit}
 use Rattle.play_command.specs.declared.fault.TakeFault.{TakeFault}
 use Rattle.play_command.specs.declared.fault.TakeFault.TheVariants as faults
 use Rattle.play_command.specs.Shapes.{HaveShape}
 use Rattle.play_command.specs.Steps.{Kept, kept_of, Playing, shown, new_frames}
-use Rattle.play_command.specs.Stream.{Stream, Picture, same_sequence, picture_in, takes, played, raw_frames}
+use Rattle.vc_types.specs.SameValues.{same_sequence}
+use Rattle.play_command.specs.Stream.{Stream, Picture, picture_in, takes, played, raw_frames}
 
 -- the field that waits has the shape of the sequence's pictures
 abbrev pub HasShape : Kept → Type 0

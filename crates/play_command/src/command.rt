@@ -13,7 +13,8 @@ use crate::player::Player;
 use link_report::{Ending, Summary};
 use std::alloc::Global;
 use vc_ports::{Filled, Sink, Source, fill};
-use vc_units::{END_OF_SEQUENCE, UnitFault, UnitReader, next_unit};
+use vc_types::END_OF_SEQUENCE;
+use vc_units::{UnitFault, UnitReader, next_unit};
 
 /// Why no unit more is read.
 #[derive(Clone, Copy)]

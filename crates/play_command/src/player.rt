@@ -2,7 +2,7 @@ ghost use Rattle.std.specs.Prelude.{◌≡◌, ◌+◌, ◌-◌, ◌<◌, ◌^�
 ghost use Rattle.vc_ports.specs.Faults.{HasCause};
 ghost use Rattle.vc_types.specs.SequenceHeader.{coded_header};
 ghost use Rattle.vc_units.specs.Reading.{unit_of};
-ghost use Rattle.vc_units.specs.Units.{unit_length};
+ghost use Rattle.vc_types.specs.DataUnits.{unit_length};
 ghost use Rattle.std.specs.Option.{option_map};
 ghost use Rattle.std.specs.declared.option.Option.{Option};
 ghost use Rattle.play_command.specs.Looping.{summary_of};
@@ -18,7 +18,8 @@ use link_report::Summary;
 use std::alloc::Global;
 use vc_ports::Sink;
 use vc_seqhdr::read_header;
-use vc_units::{HIGH_QUALITY_PICTURE, PARSE_INFO_BYTES, SEQUENCE_HEADER, Unit};
+use vc_types::{HIGH_QUALITY_PICTURE, SEQUENCE_HEADER};
+use vc_units::{PARSE_INFO_BYTES, Unit};
 
 /// The player between two units.
 #[derive(Drop)]

@@ -1,7 +1,6 @@
 //! Payloads of VC-2 in RTP packets (RFC 8450, 4), read out of datagrams and written into them.
 #![tactic(auto)]
 
-mod codes;
 mod laws;
 mod payload;
 mod read;

@@ -1,12 +1,15 @@
 ghost use Rattle.std.specs.Prelude.{◌≡◌, ◌+◌, ◌-◌, ◌≤◌, ◌<◌, ◌↔◌, ◌≢◌, ◌&&◌, length, take, drop, IfOk, IfSome, IsNone, IsSome, IsTrue, IsFalse, nat_le};
 ghost use Rattle.vc_types.specs.Fields.{Answers};
+ghost use Rattle.vc_types.specs.ParseCodes.{fragment_code};
 ghost use Rattle.link_model.specs.Packets.{number_at, code_of, fragment_fits, fragment_value, fragment_head, is_known_code, payload};
 ghost use Rattle.vc2_payload.specs.Views.{head_of, value_of, HasBodyIn, CanBeWritten};
 
-use crate::codes::{AUXILIARY_DATA, END_OF_SEQUENCE, FRAGMENT, PADDING_DATA, SEQUENCE_HEADER};
 use crate::payload::{FragmentHead, Payload};
 use byteorder::{BigEndian, ByteOrder};
 use link_model::PayloadRefusal;
+use vc_types::{
+    AUXILIARY_DATA, END_OF_SEQUENCE, HIGH_QUALITY_FRAGMENT, PADDING_DATA, SEQUENCE_HEADER,
+};
 
 // The bytes that every payload begins with, those of a fragment with parameters, and those of one with slices.
 const HEAD_BYTES: usize = 4;
@@ -87,7 +90,7 @@ pub fn read_payload(bytes: &[u8]) -> Result<Payload<'_>, PayloadRefusal>
 
     ensures short_exactly { (result ≡ Err PayloadRefusal.Short) ↔ (length bytes.now < 4) }
     ensures code_exactly { (result ≡ Err PayloadRefusal.Code) ↔ ((4 ≤ length bytes.now) × IsFalse (is_known_code (code_of bytes.now))) }
-    ensures fragment_exactly { (result ≡ Err PayloadRefusal.Fragment) ↔ ((4 ≤ length bytes.now) × (code_of bytes.now ≡ 0xEC) × IsFalse (fragment_fits bytes.now)) }
+    ensures fragment_exactly { (result ≡ Err PayloadRefusal.Fragment) ↔ ((4 ≤ length bytes.now) × (code_of bytes.now ≡ fragment_code) × IsFalse (fragment_fits bytes.now)) }
 {
     if bytes.len() < HEAD_BYTES {
         return Err(PayloadRefusal::Short);
@@ -104,7 +107,7 @@ pub fn read_payload(bytes: &[u8]) -> Result<Payload<'_>, PayloadRefusal>
         }
         END_OF_SEQUENCE => Ok(Payload::End { high }),
         code @ (AUXILIARY_DATA | PADDING_DATA) => Ok(Payload::Skip { high, code }),
-        FRAGMENT => fragment(bytes).ok_or(PayloadRefusal::Fragment),
+        HIGH_QUALITY_FRAGMENT => fragment(bytes).ok_or(PayloadRefusal::Fragment),
         _ => Err(PayloadRefusal::Code),
     }
 }

@@ -3,10 +3,9 @@ ghost use Rattle.std.specs.Int.{w16, to_be_bytes};
 ghost use Rattle.link_model.specs.Packets.{payload_head, fragment_bytes, payload_bytes};
 ghost use Rattle.vc2_payload.specs.Views.{head_of, value_of, CanBeWritten};
 
-use crate::codes::{END_OF_SEQUENCE, FRAGMENT, SEQUENCE_HEADER};
 use crate::payload::{FragmentHead, Payload};
 use byteorder::{BigEndian, ByteOrder};
-use vc_types::NoMemory;
+use vc_types::{END_OF_SEQUENCE, HIGH_QUALITY_FRAGMENT, NoMemory, SEQUENCE_HEADER};
 
 #[tactic(auto, unfolding(link_model::specs::Packets::payload_head))]
 fn payload_head(high: u16, flags: u8, code: u8) -> [u8; 4]
@@ -26,7 +25,7 @@ fn fragment_bytes(head: &FragmentHead, len: u16, slices: u16) -> [u8; 16]
 {
     let mut bytes = [0; 16];
     let (start, rest) = bytes.split_at_mut(4);
-    start.copy_from_slice(&payload_head(head.high, head.flags, FRAGMENT));
+    start.copy_from_slice(&payload_head(head.high, head.flags, HIGH_QUALITY_FRAGMENT));
     let (number, rest) = rest.split_at_mut(4);
     BigEndian::write_u32(number, head.number);
     let (prefix, rest) = rest.split_at_mut(2);

@@ -4,7 +4,8 @@ ghost use Rattle.vc_types.specs.TransformParameters.{parameters_of};
 
 use vc_types::{Component, Plan, padded as padded_side};
 
-/// The width and height of a component's plane, padded up to multiples of 2^depth (ST 2042-1, subband data dimensions).
+/// The width and height of a component's plane, padded up to multiples of 2^(depth + depth_ho) and 2^depth (ST
+/// 2042-1, subband data dimensions).
 pub fn padded(plan: &Plan, c: Component) -> (u32, u32)
     ensures width { result.0 ≡ padded_width (parameters_of plan.now) c }
     ensures height { result.1 ≡ padded_height (parameters_of plan.now) c }
@@ -12,7 +13,7 @@ pub fn padded(plan: &Plan, c: Component) -> (u32, u32)
 {
     let (width, height) = size(plan, c);
     (
-        padded_side(width, plan.depth),
+        padded_side(width, plan.depth + plan.depth_ho),
         padded_side(height, plan.depth),
     )
 }

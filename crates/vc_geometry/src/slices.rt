@@ -1,4 +1,5 @@
 ghost use Rattle.std.specs.Prelude.{◌≡◌, ◌+◌, ◌-◌, ◌*◌, ◌/◌, ◌^◌, ◌<◌, ◌≤◌};
+ghost use Rattle.vc_types.specs.Quantisation.{subband_count};
 ghost use Rattle.vc_types.specs.Subbands.{subband_at, slice_rectangle, slice_count, slice_coefficient_count, share, share_start, padded_width, padded_height};
 ghost use Rattle.vc_types.specs.TransformParameters.{parameters_of};
 
@@ -8,9 +9,9 @@ use vc_types::{Component, Plan, Rect};
 /// The part of subband number `b` that belongs to a slice, as a rectangle of the component's padded grid (ST 2042-1, slice
 /// coordinates). It may be empty.
 pub fn slice_rect(plan: &Plan, c: Component, b: u32, slice: u32) -> Rect
-    requires number { b < 1 + 3 * plan.now.depth }
+    requires number { b < subband_count plan.now.depth_ho plan.now.depth }
     requires slice { slice < slice_count (parameters_of plan.now) }
-    ensures value { result ≡ slice_rectangle (parameters_of plan.now) c (subband_at plan.now.depth b) slice }
+    ensures value { result ≡ slice_rectangle (parameters_of plan.now) c (subband_at plan.now.depth_ho plan.now.depth b) slice }
     ensures right { result.x + result.width ≤ padded_width (parameters_of plan.now) c }
     ensures bottom { result.y + result.height ≤ padded_height (parameters_of plan.now) c }
     ensures range { (result.x + result.width ≤ 8192) × (result.y + result.height ≤ 8192) }

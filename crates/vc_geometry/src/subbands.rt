@@ -1,74 +1,71 @@
-ghost use Rattle.std.specs.Prelude.{◌≡◌, ℕ, ◌+◌, ◌*◌, ◌/◌, ◌^◌, ◌<◌, ◌≤◌, length};
-ghost use Rattle.vc_types.specs.Subbands.{subbands, subband_at, subband_rectangle, level_side, nested, padded_width, padded_height};
+ghost use Rattle.std.specs.Prelude.{◌≡◌, ℕ, ◌+◌, ◌-◌, ◌*◌, ◌/◌, ◌^◌, ◌<◌, ◌≤◌, length};
+ghost use Rattle.vc_types.specs.Quantisation.{subband_count};
+ghost use Rattle.vc_types.specs.Subbands.{subbands, subband_at, subband_rectangle, level_side, rect, nested, padded_width, padded_height};
 ghost use Rattle.vc_types.specs.TransformParameters.{parameters_of};
 
 use crate::padding::padded;
 use vc_types::{Component, Plan, Rect};
 
-/// How many subbands a component has: LL, then HL, LH and HH of each level upwards.
+/// How many subbands a component has: LL, then H of each level across alone, then HL, LH and HH of each level both ways.
 pub fn bands(plan: &Plan) -> u32
-    ensures value { result ≡ length (subbands plan.now.depth) }
-    ensures count { result ≡ 1 + 3 * plan.now.depth }
+    ensures value { result ≡ length (subbands plan.now.depth_ho plan.now.depth) }
+    ensures count { result ≡ subband_count plan.now.depth_ho plan.now.depth }
     ensures range { (4 ≤ result) × (result ≤ 16) }
 {
-    1 + 3 * u32::from(plan.depth)
+    1 + u32::from(plan.depth_ho) + 3 * u32::from(plan.depth)
 }
 
 /// Where subband number `b` stands in a component's padded grid (ST 2042-1, subband data dimensions).
 pub fn band(plan: &Plan, c: Component, b: u32) -> Rect
-    requires number { b < 1 + 3 * plan.now.depth }
-    ensures value { result ≡ subband_rectangle (parameters_of plan.now) c (subband_at plan.now.depth b) }
+    requires number { b < subband_count plan.now.depth_ho plan.now.depth }
+    ensures value { result ≡ subband_rectangle (parameters_of plan.now) c (subband_at plan.now.depth_ho plan.now.depth b) }
     ensures right { result.x + result.width ≤ padded_width (parameters_of plan.now) c }
     ensures bottom { result.y + result.height ≤ padded_height (parameters_of plan.now) c }
     ensures range { (result.x + result.width ≤ 8192) × (result.y + result.height ≤ 8192) }
 {
     let (width, height) = padded(plan, c);
-    let halvings = halvings(u32::from(plan.depth), b);
-    quarter(b, width >> halvings, height >> halvings)
+    let (across, depth) = (u32::from(plan.depth_ho), u32::from(plan.depth));
+    let halvings = halvings(across, depth, b);
+    let (width, height) = (width >> halvings.0, height >> halvings.1);
+    let (x, y) = corner(across, b, width, height);
+    Rect {
+        x,
+        y,
+        width,
+        height,
+    }
 }
 
-// How often the padded plane is halved down to subband number b, LL having the lowest level.
-fn halvings(depth: u32, b: u32) -> u32
-    requires depth { depth ≤ 5 }
-    requires number { b < 1 + 3 * depth }
-    ensures value { (side : ℕ) → level_side side depth (subband_at depth b).level ≡ side / 2 ^ result }
-    ensures range { result ≤ depth }
-    ensures inner { 0 < b → 1 ≤ result }
+// How often the padded plane's width and height are halved down to subband number b.
+fn halvings(across: u32, depth: u32, b: u32) -> (u32, u32)
+    requires levels { depth + across ≤ 5 }
+    requires number { b < subband_count across depth }
+    ensures width { (side : ℕ) → level_side side (depth + across) (depth + across) (subband_at across depth b).level ≡ side / 2 ^ result.0 }
+    ensures height { (side : ℕ) → level_side side depth (depth + across) (subband_at across depth b).level ≡ side / 2 ^ result.1 }
+    ensures range { (result.0 ≤ 5) × (result.1 ≤ 5) }
+    ensures inner { (0 < b → 1 ≤ result.0) × (across < b → 1 ≤ result.1) }
 {
-    let level = (b + 2) / 3;
-    depth.min(depth + 1 - level)
+    let level = b.min(across) + (b.saturating_sub(across) + 2) / 3;
+    let levels = depth + across;
+    let above = levels + 1 - level;
+    (levels.min(above), depth.min(above))
 }
 
-// The quarter of a square that subband number b has, where a quarter has this size.
-fn quarter(b: u32, width: u32, height: u32) -> Rect
-    ensures value { (depth : ℕ) → b < 1 + 3 * depth → result ≡ nested (subband_at depth b).orientation width height }
-    ensures across { (result.width ≡ width) × (result.x ≤ width) × (b ≡ 0 → result.x ≡ 0) }
-    ensures down { (result.height ≡ height) × (result.y ≤ height) × (b ≡ 0 → result.y ≡ 0) }
+// The upper left corner of subband number b, where it has this size.
+fn corner(across: u32, b: u32, width: u32, height: u32) -> (u32, u32)
+    ensures value { (depth : ℕ) → b < subband_count across depth → rect result.0 result.1 width height ≡ nested (subband_at across depth b).orientation width height }
+    ensures left { (result.0 ≤ width) × (b ≡ 0 → result.0 ≡ 0) }
+    ensures top { (result.1 ≤ height) × (b ≤ across → result.1 ≡ 0) }
 {
-    match (b, b % 3) {
-        (0, _) => Rect {
-            x: 0,
-            y: 0,
-            width,
-            height,
-        },
-        (_, 1) => Rect {
-            x: width,
-            y: 0,
-            width,
-            height,
-        },
-        (_, 2) => Rect {
-            x: 0,
-            y: height,
-            width,
-            height,
-        },
-        _ => Rect {
-            x: width,
-            y: height,
-            width,
-            height,
-        },
+    if b == 0 {
+        return (0, 0);
+    }
+    if b <= across {
+        return (width, 0);
+    }
+    match (b - across) % 3 {
+        1 => (width, 0),
+        2 => (0, height),
+        _ => (width, height),
     }
 }

@@ -19,7 +19,7 @@ pub fn padded_luma_fits(shape: &Shape, depth: u8) -> bool
     requires width { shape.now.luma_width ≤ 8192 }
     requires height { shape.now.luma_height ≤ 8192 }
     requires few_levels { depth ≤ 5 }
-    ensures { result ≡ padded_luma_fits shape.now depth }
+    ensures { result ≡ padded_luma_fits shape.now 0 depth }
 {
     padded(shape.luma_width, depth) * padded(shape.luma_height, depth) <= 8912896
 }

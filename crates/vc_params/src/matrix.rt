@@ -47,7 +47,7 @@ pub fn quantisation_matrix(
     requires few_levels { depth ≤ 5 }
     ensures gives { Gives (λ m. m) result r.new.left (quantisation_matrix wavelet depth r.old.left) }
     ensures fits { IfOk result (λ m. IsTrue (matrix_fits m)) }
-    ensures ends { IfOk result (λ m. filled_matrix (used_entries depth m) ≡ m) }
+    ensures ends { IfOk result (λ m. filled_matrix (used_entries 0 depth m) ≡ m) }
 {
     if flag(r)? {
         return matrix_values(1 + 3 * depth as usize, r);

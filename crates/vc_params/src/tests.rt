@@ -6,6 +6,8 @@ use super::*;
 use std::test::Fail;
 use vc_types::{Header, Sampling, SignalRange};
 
+mod limits;
+
 // A header of 4:4:4 frames of 8 bits.
 fn header(major: u32, width: u32, height: u32) -> Header
     requires { IsTrue (dimensions_fit width height S444 false) }

@@ -3,24 +3,57 @@ use crate::{
     quantisation_is_near,
 };
 
-// Worked values of the quantisers, by hand from the standard's formulas.
+// Indices with their factors and offsets, by the standard's formulas in Python.
 #[test]
-fn dequantises_worked_values(rt: HostRuntime) {
-    for (q, want) in [
-        (0, 4),
-        (1, 5),
-        (2, 6),
-        (3, 7),
-        (4, 8),
-        (5, 10),
-        (6, 11),
-        (7, 13),
+fn factors_and_offsets_are_the_standards(rt: HostRuntime) {
+    for (q, of_factor, of_offset) in [
+        (0, 4, 1),
+        (1, 5, 2),
+        (2, 6, 3),
+        (3, 7, 4),
+        (4, 8, 4),
+        (5, 10, 5),
+        (6, 11, 6),
+        (7, 13, 7),
+        (8, 16, 8),
+        (9, 19, 10),
+        (10, 23, 12),
+        (11, 27, 14),
+        (37, 2435, 1218),
+        (38, 2896, 1448),
+        (39, 3444, 1722),
+        (62, 185364, 92682),
+        (63, 220436, 110218),
+        (93, 39903169, 19951585),
+        (94, 47453133, 23726567),
+        (95, 56431603, 28215802),
+        (124, 8589934592, 4294967296),
+        (125, 10215211334, 5107605667),
+        (126, 12148002000, 6074001000),
+        (127, 14446490411, 7223245206),
     ] {
-        assert_eq!(rt; factor(q), want, "factor at {q}");
+        assert!(rt; q < 128);
+        assert_eq!(rt; factor(q), of_factor, "factor at {q}");
+        assert_eq!(rt; offset(q), of_offset, "offset at {q}");
     }
-    for (q, want) in [(0, 1), (1, 2), (2, 3), (3, 4), (4, 4), (7, 7)] {
-        assert_eq!(rt; offset(q), want, "offset at {q}");
+}
+
+// All indices: sum(factor(q) * (q + 1) for q in range(128)) of these formulas in Python, and the same of the offsets.
+#[test]
+fn no_factor_or_offset_is_wrong(rt: HostRuntime) {
+    let mut factors: u64 = 0;
+    let mut offsets: u64 = 0;
+    for q in 0..128u8 {
+        let weight = u64::from(q) + 1;
+        factors = factors.wrapping_add(factor(q).wrapping_mul(weight));
+        offsets = offsets.wrapping_add(offset(q).wrapping_mul(weight));
     }
+    assert_eq!(rt; (factors, offsets), (11142413850866, 5571206926823));
+}
+
+// Worked out in Python from the standard's formulas.
+#[test]
+fn numbers_are_dequantised(rt: HostRuntime) {
     for (m, q, want) in [
         (1, 1, 2),
         (1, 2, 2),
@@ -29,25 +62,87 @@ fn dequantises_worked_values(rt: HostRuntime) {
         (3, 4, 7),
         (-3, 4, -7),
         (0, 9, 0),
+        (1, 37, 913),
+        (-5, 38, -3982),
+        (7, 63, 413318),
+        (1 << 62, 126, 14005692743806986279660452250),
+        (-(1 << 62), 127, -16655669460938507165534158438),
     ] {
+        assert!(rt; q < 128);
         assert_eq!(rt; dequant(m, q), want, "{m} at {q}");
     }
-    for (c, q, want) in [(7, 0, 7), (7, 4, 3), (-7, 4, -3), (1, 4, 0)] {
+    for (c, q, want) in [
+        (7, 0, 7),
+        (7, 4, 3),
+        (-7, 4, -3),
+        (1, 4, 0),
+        (1000, 37, 1),
+        (1 - (1 << 60), 63, -20920748055795),
+        ((1 << 60) - 1, 127, 319225354),
+    ] {
+        assert!(rt; q < 128);
         assert_eq!(rt; quant(c, q), want, "{c} at {q}");
     }
 }
 
+// The standard's tables, for each wavelet at depths 1 to 4: LL, then HL, LH and HH of each level.
+static DEFAULTS: [[[u8; 16]; 4]; 7] = [
+    [
+        [5, 3, 3, 0, 0, 0, 0, 0, 0, 0, 0, 0, 0, 0, 0, 0],
+        [5, 3, 3, 0, 4, 4, 1, 0, 0, 0, 0, 0, 0, 0, 0, 0],
+        [5, 3, 3, 0, 4, 4, 1, 5, 5, 2, 0, 0, 0, 0, 0, 0],
+        [5, 3, 3, 0, 4, 4, 1, 5, 5, 2, 6, 6, 3, 0, 0, 0],
+    ],
+    [
+        [4, 2, 2, 0, 0, 0, 0, 0, 0, 0, 0, 0, 0, 0, 0, 0],
+        [4, 2, 2, 0, 4, 4, 2, 0, 0, 0, 0, 0, 0, 0, 0, 0],
+        [4, 2, 2, 0, 4, 4, 2, 5, 5, 3, 0, 0, 0, 0, 0, 0],
+        [4, 2, 2, 0, 4, 4, 2, 5, 5, 3, 7, 7, 5, 0, 0, 0],
+    ],
+    [
+        [5, 3, 3, 0, 0, 0, 0, 0, 0, 0, 0, 0, 0, 0, 0, 0],
+        [5, 3, 3, 0, 4, 4, 1, 0, 0, 0, 0, 0, 0, 0, 0, 0],
+        [5, 3, 3, 0, 4, 4, 1, 5, 5, 2, 0, 0, 0, 0, 0, 0],
+        [5, 3, 3, 0, 4, 4, 1, 5, 5, 2, 6, 6, 3, 0, 0, 0],
+    ],
+    [
+        [8, 4, 4, 0, 0, 0, 0, 0, 0, 0, 0, 0, 0, 0, 0, 0],
+        [12, 8, 8, 4, 4, 4, 0, 0, 0, 0, 0, 0, 0, 0, 0, 0],
+        [16, 12, 12, 8, 8, 8, 4, 4, 4, 0, 0, 0, 0, 0, 0, 0],
+        [20, 16, 16, 12, 12, 12, 8, 8, 8, 4, 4, 4, 0, 0, 0, 0],
+    ],
+    [
+        [8, 4, 4, 0, 0, 0, 0, 0, 0, 0, 0, 0, 0, 0, 0, 0],
+        [8, 4, 4, 0, 4, 4, 0, 0, 0, 0, 0, 0, 0, 0, 0, 0],
+        [8, 4, 4, 0, 4, 4, 0, 4, 4, 0, 0, 0, 0, 0, 0, 0],
+        [8, 4, 4, 0, 4, 4, 0, 4, 4, 0, 4, 4, 0, 0, 0, 0],
+    ],
+    [
+        [0, 4, 4, 8, 0, 0, 0, 0, 0, 0, 0, 0, 0, 0, 0, 0],
+        [0, 4, 4, 8, 8, 8, 12, 0, 0, 0, 0, 0, 0, 0, 0, 0],
+        [0, 4, 4, 8, 8, 8, 12, 13, 13, 17, 0, 0, 0, 0, 0, 0],
+        [0, 4, 4, 8, 8, 8, 12, 13, 13, 17, 17, 17, 21, 0, 0, 0],
+    ],
+    [
+        [3, 1, 1, 0, 0, 0, 0, 0, 0, 0, 0, 0, 0, 0, 0, 0],
+        [3, 1, 1, 0, 4, 4, 2, 0, 0, 0, 0, 0, 0, 0, 0, 0],
+        [3, 1, 1, 0, 4, 4, 2, 6, 6, 5, 0, 0, 0, 0, 0, 0],
+        [3, 1, 1, 0, 4, 4, 2, 6, 6, 5, 9, 9, 7, 0, 0, 0],
+    ],
+];
+
 #[test]
-fn has_default_matrices_below_depth_5(rt: HostRuntime) {
-    assert_eq!(rt; default_matrix(0, 5), Err(NoDefault));
-    assert_eq!(rt;
-        default_matrix(3, 1),
-        Ok([8, 4, 4, 0, 0, 0, 0, 0, 0, 0, 0, 0, 0, 0, 0, 0])
-    );
-    assert_eq!(rt;
-        default_matrix(5, 4),
-        Ok([0, 4, 4, 8, 8, 8, 12, 13, 13, 17, 17, 17, 21, 0, 0, 0])
-    );
+fn default_matrices_are_the_tables(rt: HostRuntime) {
+    for wavelet in 0..7 {
+        for depth in 1..5 {
+            assert_eq!(rt;
+                default_matrix(wavelet, depth),
+                Ok(DEFAULTS[wavelet as usize][depth as usize - 1]),
+                "wavelet {wavelet}, depth {depth}"
+            );
+        }
+        assert_eq!(rt; default_matrix(wavelet, 5), Err(NoDefault));
+    }
 }
 
 #[test]

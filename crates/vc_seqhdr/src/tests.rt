@@ -2,11 +2,33 @@ use super::*;
 use std::test::Fail;
 use vc_types::{Header, Sampling, SignalRange};
 
+// The four preset signal ranges, in the order of their indices.
 const FULL_8_BIT: SignalRange = SignalRange {
     luma_offset: 0,
     luma_excursion: 255,
     colour_offset: 128,
     colour_excursion: 255,
+};
+
+const VIDEO_8_BIT: SignalRange = SignalRange {
+    luma_offset: 16,
+    luma_excursion: 219,
+    colour_offset: 128,
+    colour_excursion: 224,
+};
+
+const VIDEO_10_BIT: SignalRange = SignalRange {
+    luma_offset: 64,
+    luma_excursion: 876,
+    colour_offset: 512,
+    colour_excursion: 896,
+};
+
+const VIDEO_12_BIT: SignalRange = SignalRange {
+    luma_offset: 256,
+    luma_excursion: 3504,
+    colour_offset: 2048,
+    colour_excursion: 3584,
 };
 
 #[test]
@@ -54,6 +76,41 @@ fn refuses_at_the_first_fault(rt: HostRuntime) {
         (
             [
                 0x60, 0x00, 0x00, 0x00, 0x00, 0x00, 0x00, 0x00, 0x38, 0x00, 0x00,
+            ],
+            HeaderRefusal::TooLarge,
+        ),
+        // A profile above 32 bits.
+        (
+            [
+                0x70, 0x00, 0x00, 0x00, 0x00, 0x00, 0x00, 0x00, 0x18, 0x00, 0x00,
+            ],
+            HeaderRefusal::TooLarge,
+        ),
+        // A base format above 32 bits.
+        (
+            [
+                0x70, 0xC0, 0x00, 0x00, 0x00, 0x00, 0x00, 0x00, 0x00, 0x60, 0x00,
+            ],
+            HeaderRefusal::TooLarge,
+        ),
+        // A sampling index above 32 bits.
+        (
+            [
+                0x70, 0xE8, 0x00, 0x00, 0x00, 0x00, 0x00, 0x00, 0x00, 0x0C, 0x00,
+            ],
+            HeaderRefusal::TooLarge,
+        ),
+        // A signal range index above 32 bits.
+        (
+            [
+                0x70, 0xE0, 0x40, 0x00, 0x00, 0x00, 0x00, 0x00, 0x00, 0x00, 0x60,
+            ],
+            HeaderRefusal::TooLarge,
+        ),
+        // A coding mode above 32 bits.
+        (
+            [
+                0x70, 0xE0, 0x00, 0x00, 0x00, 0x00, 0x00, 0x00, 0x00, 0x00, 0x30,
             ],
             HeaderRefusal::TooLarge,
         ),
@@ -175,25 +232,146 @@ fn refuses_at_the_first_fault(rt: HostRuntime) {
     }
 }
 
+// The tables of base video formats and of signal ranges, whole.
 #[test]
 fn reads_every_base_format(rt: HostRuntime) -> Result<(), Fail> {
     use Sampling::{S420, S422, S444};
     let cases = [
-        ([0x70, 0xE0, 0x10, 0x00], 640, 480, S420, false, false, 255),
-        ([0x70, 0xC8, 0x04, 0x00], 176, 120, S420, false, false, 255),
-        ([0x70, 0xD8, 0x04, 0x00], 176, 144, S420, false, true, 255),
-        ([0x70, 0xC2, 0x01, 0x00], 352, 240, S420, false, false, 255),
-        ([0x70, 0xC6, 0x01, 0x00], 352, 288, S420, false, true, 255),
-        ([0x70, 0xD2, 0x01, 0x00], 704, 480, S420, false, false, 255),
-        ([0x70, 0xD6, 0x01, 0x00], 704, 576, S420, false, true, 255),
-        ([0x70, 0xC0, 0x80, 0x40], 720, 480, S422, true, false, 876),
-        ([0x70, 0xC1, 0x80, 0x40], 720, 576, S422, true, true, 876),
-        ([0x70, 0xC4, 0x80, 0x40], 1280, 720, S422, false, true, 876),
-        ([0x70, 0xC5, 0x80, 0x40], 1280, 720, S422, false, true, 876),
-        ([0x70, 0xD0, 0x80, 0x40], 1920, 1080, S422, true, true, 876),
-        ([0x70, 0xD1, 0x80, 0x40], 1920, 1080, S422, true, true, 876),
-        ([0x70, 0xD4, 0x80, 0x40], 1920, 1080, S422, false, true, 876),
-        ([0x70, 0xD5, 0x80, 0x40], 1920, 1080, S422, false, true, 876),
+        (
+            [0x70, 0xE0, 0x10, 0x00],
+            640,
+            480,
+            S420,
+            false,
+            false,
+            FULL_8_BIT,
+        ),
+        (
+            [0x70, 0xC8, 0x04, 0x00],
+            176,
+            120,
+            S420,
+            false,
+            false,
+            FULL_8_BIT,
+        ),
+        (
+            [0x70, 0xD8, 0x04, 0x00],
+            176,
+            144,
+            S420,
+            false,
+            true,
+            FULL_8_BIT,
+        ),
+        (
+            [0x70, 0xC2, 0x01, 0x00],
+            352,
+            240,
+            S420,
+            false,
+            false,
+            FULL_8_BIT,
+        ),
+        (
+            [0x70, 0xC6, 0x01, 0x00],
+            352,
+            288,
+            S420,
+            false,
+            true,
+            FULL_8_BIT,
+        ),
+        (
+            [0x70, 0xD2, 0x01, 0x00],
+            704,
+            480,
+            S420,
+            false,
+            false,
+            FULL_8_BIT,
+        ),
+        (
+            [0x70, 0xD6, 0x01, 0x00],
+            704,
+            576,
+            S420,
+            false,
+            true,
+            FULL_8_BIT,
+        ),
+        (
+            [0x70, 0xC0, 0x80, 0x40],
+            720,
+            480,
+            S422,
+            true,
+            false,
+            VIDEO_10_BIT,
+        ),
+        (
+            [0x70, 0xC1, 0x80, 0x40],
+            720,
+            576,
+            S422,
+            true,
+            true,
+            VIDEO_10_BIT,
+        ),
+        (
+            [0x70, 0xC4, 0x80, 0x40],
+            1280,
+            720,
+            S422,
+            false,
+            true,
+            VIDEO_10_BIT,
+        ),
+        (
+            [0x70, 0xC5, 0x80, 0x40],
+            1280,
+            720,
+            S422,
+            false,
+            true,
+            VIDEO_10_BIT,
+        ),
+        (
+            [0x70, 0xD0, 0x80, 0x40],
+            1920,
+            1080,
+            S422,
+            true,
+            true,
+            VIDEO_10_BIT,
+        ),
+        (
+            [0x70, 0xD1, 0x80, 0x40],
+            1920,
+            1080,
+            S422,
+            true,
+            true,
+            VIDEO_10_BIT,
+        ),
+        (
+            [0x70, 0xD4, 0x80, 0x40],
+            1920,
+            1080,
+            S422,
+            false,
+            true,
+            VIDEO_10_BIT,
+        ),
+        (
+            [0x70, 0xD5, 0x80, 0x40],
+            1920,
+            1080,
+            S422,
+            false,
+            true,
+            VIDEO_10_BIT,
+        ),
         (
             [0x70, 0xC0, 0x20, 0x10],
             2048,
@@ -201,7 +379,7 @@ fn reads_every_base_format(rt: HostRuntime) -> Result<(), Fail> {
             S444,
             false,
             true,
-            3504,
+            VIDEO_12_BIT,
         ),
         (
             [0x70, 0xC0, 0x60, 0x10],
@@ -210,10 +388,10 @@ fn reads_every_base_format(rt: HostRuntime) -> Result<(), Fail> {
             S444,
             false,
             true,
-            3504,
+            VIDEO_12_BIT,
         ),
     ];
-    for (bytes, width, height, sampling, interlaced, top_first, excursion) in cases {
+    for (bytes, width, height, sampling, interlaced, top_first, range) in cases {
         let (header, _) = read_header(&bytes)?;
         assert_eq!(rt; (header.width, header.height), (width, height));
         assert_eq!(rt; header.sampling, sampling);
@@ -221,7 +399,109 @@ fn reads_every_base_format(rt: HostRuntime) -> Result<(), Fail> {
             (header.interlaced, header.top_first),
             (interlaced, top_first)
         );
-        assert_eq!(rt; header.range.luma_excursion, excursion);
+        assert_eq!(rt; header.range, range);
+    }
+    Ok(())
+}
+
+#[test]
+fn reads_every_preset_range(rt: HostRuntime) -> Result<(), Fail> {
+    let cases = [
+        ([0x70, 0xE0, 0x4A, 0x00], FULL_8_BIT, 8),
+        ([0x70, 0xE0, 0x5A, 0x00], VIDEO_8_BIT, 8),
+        ([0x70, 0xE0, 0x42, 0x80], VIDEO_10_BIT, 10),
+        ([0x70, 0xE0, 0x46, 0x80], VIDEO_12_BIT, 12),
+    ];
+    for (bytes, range, depth) in cases {
+        let (header, _) = read_header(&bytes)?;
+        assert_eq!(rt; header.range, range);
+        let shape = header.shape();
+        assert_eq!(rt; (shape.luma_depth, shape.colour_depth), (depth, depth));
+    }
+    Ok(())
+}
+
+// Excursions of luma and of colour, and the least d such that 2^d is above each. The offsets are 5 and 6.
+#[test]
+fn reads_custom_ranges(rt: HostRuntime) -> Result<(), Fail> {
+    let cases = [
+        (
+            [
+                0x70, 0xE0, 0x69, 0x2B, 0x00, 0x00, 0x00, 0x00, 0xA0, 0x00, 0x00, 0x00, 0x00, 0x00,
+                0x00, 0x00,
+            ],
+            (1, 1),
+            (65535, 16),
+        ),
+        (
+            [
+                0x70, 0xE0, 0x69, 0x6B, 0x00, 0x00, 0x00, 0xA0, 0x00, 0x00, 0x00, 0x00, 0x00, 0x00,
+                0x00, 0x00,
+            ],
+            (2, 2),
+            (4095, 12),
+        ),
+        (
+            [
+                0x70, 0xE0, 0x69, 0x0A, 0xC0, 0x00, 0x02, 0x80, 0x00, 0x00, 0x00, 0x00, 0x00, 0x00,
+                0x00, 0x00,
+            ],
+            (3, 2),
+            (1023, 10),
+        ),
+        (
+            [
+                0x70, 0xE0, 0x69, 0x45, 0x42, 0xB4, 0x51, 0x40, 0x68, 0x00, 0x00, 0x00, 0x00, 0x00,
+                0x00, 0x00,
+            ],
+            (219, 8),
+            (3504, 12),
+        ),
+        (
+            [
+                0x70, 0xE0, 0x69, 0x00, 0x00, 0xAC, 0x00, 0x06, 0x80, 0x00, 0x00, 0x00, 0x00, 0x00,
+                0x00, 0x00,
+            ],
+            (255, 8),
+            (256, 9),
+        ),
+        (
+            [
+                0x70, 0xE0, 0x69, 0x00, 0x00, 0x2B, 0x00, 0x00, 0x68, 0x00, 0x00, 0x00, 0x00, 0x00,
+                0x00, 0x00,
+            ],
+            (511, 9),
+            (512, 10),
+        ),
+        (
+            [
+                0x70, 0xE0, 0x69, 0x00, 0x00, 0x0A, 0xD1, 0x45, 0x1A, 0x00, 0x00, 0x00, 0x00, 0x00,
+                0x00, 0x00,
+            ],
+            (1023, 10),
+            (876, 10),
+        ),
+        (
+            [
+                0x70, 0xE0, 0x69, 0x00, 0x00, 0x00, 0x00, 0xAC, 0xA0, 0x00, 0x00, 0x00, 0x00, 0x00,
+                0x00, 0x00,
+            ],
+            (65535, 16),
+            (1, 1),
+        ),
+    ];
+    for (bytes, luma, colour) in cases {
+        let (header, _) = read_header(&bytes)?;
+        let SignalRange {
+            luma_offset,
+            luma_excursion,
+            colour_offset,
+            colour_excursion,
+        } = header.range;
+        let shape = header.shape();
+        assert_eq!(rt; (luma_offset, colour_offset), (5, 6));
+        assert_eq!(rt; (luma_excursion, shape.luma_depth), luma);
+        assert_eq!(rt; (colour_excursion, shape.colour_depth), colour);
     }
     Ok(())
 }

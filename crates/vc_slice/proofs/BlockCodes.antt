@@ -9,11 +9,12 @@ use Rattle.std.proofs.lemmas.Bool.Decides.{nat_tests}
 use Rattle.std.proofs.lemmas.Grind.{replicate_next}
 use Rattle.vc_types.specs.declared.video.Component.{Component}
 use Rattle.vc_types.specs.Codes.{uint_bits, spread_digits, sint_bits}
-use Rattle.vc_types.specs.Quantisation.{quantised}
+use Rattle.vc_types.specs.Quantisation.{subband_count, quantised}
 use Rattle.vc_types.specs.Slices.{Coefficients, coefficients_of, is_large}
 use Rattle.vc_types.specs.Subbands.{area, subband_at, slice_rectangle}
 use Rattle.vc_types.specs.TransformParameters.{Parameters}
-use Rattle.vc_slice.specs.Encoding.{AreCoefficients, kept_before, without_last_zeros, quantised_numbers, block_bits, component_bits}
+use Rattle.vc_types.specs.Encoding.{kept_before, without_last_zeros, quantised_numbers, block_bits, component_bits}
+use Rattle.vc_types.specs.SliceCoefficients.{AreSliceCoefficients}
 use Rattle.vc_slice.specs.Inside.{codes_behind, subband_numbers}
 use Rattle.vc_slice.proofs.BlockCoefficients.{quantisers_from, quantisers_from-all, quantisers_from-none, quantisers_from-more, length-quantisers}
 
@@ -122,31 +123,31 @@ module _ (p : Parameters) (slice index : ℕ) (c : Component) where
     pub count : length zs ≡ length (quantisers_from p c slice index b)
     pub small : list_any is_large zs ≡ false
 
-  pub all_from : (s : Coefficients) → AreCoefficients p slice s → AreFrom 0 (coefficients_of s c)
-  all_from s are = record { count = are.lengths c ∙ sym (length-quantisers p c slice index) ∙ ap length (sym (quantisers_from-all p c slice index)); small = are.small c }
+  pub all_from : (s : Coefficients) → AreSliceCoefficients p slice s → AreFrom 0 (coefficients_of s c)
+  all_from s are = record { count = are.count c ∙ sym (length-quantisers p c slice index) ∙ ap length (sym (quantisers_from-all p c slice index)); small = are.small c }
 
   pub all_bits : (s : Coefficients) → codes_behind 0 (numbers_from 0 (coefficients_of s c)) ≡ component_bits p slice index s c
   unfolding numbers_from block_bits quantised_numbers
   all_bits s = all_codes (numbers_by (quantisers_from p c slice index 0) (coefficients_of s c)) ∙ ap (λ (qs : List ℕ). flat_map sint_bits (without_last_zeros (numbers_by qs (coefficients_of s c)))) (quantisers_from-all p c slice index)
 
-  pub none_from : (b : ℕ) (zs : List ℤ) → b ≡ 1 + 3 * p.depth → AreFrom b zs → numbers_from b zs ≡ []
+  pub none_from : (b : ℕ) (zs : List ℤ) → b ≡ subband_count p.depth_ho p.depth → AreFrom b zs → numbers_from b zs ≡ []
   unfolding numbers_from
   none_from b [] last are = refl
   none_from b (z ∷ zs) last are = ap (λ (qs : List ℕ). numbers_by qs (z ∷ zs)) (quantisers_from-none p c slice index b last)
 
-  length_more : (b : ℕ) → b < 1 + 3 * p.depth → length (quantisers_from p c slice index b) ≡ area (slice_rectangle p c (subband_at p.depth b) slice) + length (quantisers_from p c slice index (b + 1))
-  length_more b h = ap length (quantisers_from-more p c slice index b h) ∙ length-append (replicate (area (slice_rectangle p c (subband_at p.depth b) slice)) (index - slice_index_or p.matrix b 0)) _ ∙ ap (λ (k : ℕ). k + length (quantisers_from p c slice index (b + 1))) (length-replicate (area (slice_rectangle p c (subband_at p.depth b) slice)) (index - slice_index_or p.matrix b 0))
+  length_more : (b : ℕ) → b < subband_count p.depth_ho p.depth → length (quantisers_from p c slice index b) ≡ area (slice_rectangle p c (subband_at p.depth_ho p.depth b) slice) + length (quantisers_from p c slice index (b + 1))
+  length_more b h = ap length (quantisers_from-more p c slice index b h) ∙ length-append (replicate (area (slice_rectangle p c (subband_at p.depth_ho p.depth b) slice)) (index - slice_index_or p.matrix b 0)) _ ∙ ap (λ (k : ℕ). k + length (quantisers_from p c slice index (b + 1))) (length-replicate (area (slice_rectangle p c (subband_at p.depth_ho p.depth b) slice)) (index - slice_index_or p.matrix b 0))
 
   -- there are enough for the subband
-  pub enough : (b n : ℕ) (zs : List ℤ) → b < 1 + 3 * p.depth → n ≡ area (slice_rectangle p c (subband_at p.depth b) slice) → AreFrom b zs → n ≤ length zs
+  pub enough : (b n : ℕ) (zs : List ℤ) → b < subband_count p.depth_ho p.depth → n ≡ area (slice_rectangle p c (subband_at p.depth_ho p.depth b) slice) → AreFrom b zs → n ≤ length zs
   enough b n zs h count are = omega (arith, length_more b h, are.count)
 
   -- behind a subband
-  pub rest_from : (b n : ℕ) (zs behind : List ℤ) → b < 1 + 3 * p.depth → n ≡ area (slice_rectangle p c (subband_at p.depth b) slice) → behind ≡ drop n zs → AreFrom b zs → AreFrom (b + 1) behind
+  pub rest_from : (b n : ℕ) (zs behind : List ℤ) → b < subband_count p.depth_ho p.depth → n ≡ area (slice_rectangle p c (subband_at p.depth_ho p.depth b) slice) → behind ≡ drop n zs → AreFrom b zs → AreFrom (b + 1) behind
   rest_from b n zs behind h count is are = rw is (record { count = omega (arith, length_more b h, are.count, length-drop n zs); small = (none_large-parts n zs are.small).1 })
 
-  pub subband_from : (b n q : ℕ) (zs band behind : List ℤ) → b < 1 + 3 * p.depth
-      → n ≡ area (slice_rectangle p c (subband_at p.depth b) slice) → q ≡ index - slice_index_or p.matrix b 0
+  pub subband_from : (b n q : ℕ) (zs band behind : List ℤ) → b < subband_count p.depth_ho p.depth
+      → n ≡ area (slice_rectangle p c (subband_at p.depth_ho p.depth b) slice) → q ≡ index - slice_index_or p.matrix b 0
       → band ≡ take n zs → behind ≡ drop n zs → AreFrom b zs
       → numbers_from b zs ≡ subband_numbers q band ++ numbers_from (b + 1) behind
   unfolding numbers_from

@@ -12,7 +12,7 @@ use Rattle.vc_types.specs.declared.video.Component.{Component}
 use Rattle.vc_types.specs.declared.rect.Rect.{Rect}
 use Rattle.vc_types.specs.Bits.{bits_of}
 use Rattle.vc_types.specs.Bounded.{bounded_sint, bounded_sints}
-use Rattle.vc_types.specs.Quantisation.{dequantised}
+use Rattle.vc_types.specs.Quantisation.{subband_count, dequantised}
 use Rattle.vc_types.specs.Slices.{is_large, quantisers, block_coefficients}
 use Rattle.vc_types.specs.Subbands.{Subband, subband, LL, area, subbands, subband_at, slice_rectangle, slice_coefficient_count}
 use Rattle.vc_types.specs.TransformParameters.{Parameters}
@@ -74,7 +74,7 @@ length_of rectangle index n (b ∷ bands) =
 module _ (p : Parameters) (c : Component) (slice index : ℕ) where
   pub length-quantisers : length (quantisers p c slice index) ≡ slice_coefficient_count p c slice
   unfolding quantisers slice_coefficient_count
-  length-quantisers = length_of (λ b. slice_rectangle p c b slice) (λ b. index - slice_index_or p.matrix b 0) 0 (subbands p.depth)
+  length-quantisers = length_of (λ b. slice_rectangle p c b slice) (λ b. index - slice_index_or p.matrix b 0) 0 (subbands p.depth_ho p.depth)
 
   pub block_coefficients-by : (block : List ℕ) → block_coefficients p c slice index block ≡ coefficients_by (quantisers p c slice index) (bits_of block)
   unfolding block_coefficients
@@ -84,50 +84,50 @@ module _ (p : Parameters) (c : Component) (slice index : ℕ) where
 
   -- the indices of the subbands from number b on
   unfoldable pub quantisers_from : ℕ → List ℕ
-  quantisers_from b = flat_map (λ (b : ℕ × Subband). replicate (area (slice_rectangle p c b.1 slice)) (index - slice_index_or p.matrix b.0 0)) (drop b (enumerate_from 0 (subbands p.depth)))
+  quantisers_from b = flat_map (λ (b : ℕ × Subband). replicate (area (slice_rectangle p c b.1 slice)) (index - slice_index_or p.matrix b.0 0)) (drop b (enumerate_from 0 (subbands p.depth_ho p.depth)))
 
   pub quantisers_from-all : quantisers_from 0 ≡ quantisers p c slice index
   unfolding quantisers_from quantisers
   quantisers_from-all = refl
 
-  length_all : length (enumerate_from 0 (subbands p.depth)) ≡ 1 + 3 * p.depth
-  length_all = length-enumerate_from 0 (subbands p.depth) ∙ length-subbands p.depth
+  length_all : length (enumerate_from 0 (subbands p.depth_ho p.depth)) ≡ subband_count p.depth_ho p.depth
+  length_all = length-enumerate_from 0 (subbands p.depth_ho p.depth) ∙ length-subbands p.depth_ho p.depth
 
-  pub quantisers_from-none : (b : ℕ) → b ≡ 1 + 3 * p.depth → quantisers_from b ≡ []
+  pub quantisers_from-none : (b : ℕ) → b ≡ subband_count p.depth_ho p.depth → quantisers_from b ≡ []
   unfolding quantisers_from
-  quantisers_from-none b e = ap (λ (bs : List (ℕ × Subband)). flat_map (λ (b : ℕ × Subband). replicate (area (slice_rectangle p c b.1 slice)) (index - slice_index_or p.matrix b.0 0)) bs) (drop_all b (enumerate_from 0 (subbands p.depth)) (let count = length_all in omega (arith, count)))
+  quantisers_from-none b e = ap (λ (bs : List (ℕ × Subband)). flat_map (λ (b : ℕ × Subband). replicate (area (slice_rectangle p c b.1 slice)) (index - slice_index_or p.matrix b.0 0)) bs) (drop_all b (enumerate_from 0 (subbands p.depth_ho p.depth)) (let count = length_all in omega (arith, count)))
 
-  pub quantisers_from-more : (b : ℕ) → b < 1 + 3 * p.depth → quantisers_from b ≡ replicate (area (slice_rectangle p c (subband_at p.depth b) slice)) (index - slice_index_or p.matrix b 0) ++ quantisers_from (b + 1)
+  pub quantisers_from-more : (b : ℕ) → b < subband_count p.depth_ho p.depth → quantisers_from b ≡ replicate (area (slice_rectangle p c (subband_at p.depth_ho p.depth b) slice)) (index - slice_index_or p.matrix b 0) ++ quantisers_from (b + 1)
   unfolding quantisers_from
   quantisers_from-more b h =
       let count = length_all in
-      let few = length-subbands p.depth in
-      let first : drop b (enumerate_from 0 (subbands p.depth)) ≡ (b, subband_at p.depth b) ∷ drop (b + 1) (enumerate_from 0 (subbands p.depth)) = rw add-one (drop-cons (enumerate_from 0 (subbands p.depth)) b (0, subband 0 LL) (omega (arith, count)) ∙ ap (λ (x : ℕ × Subband). x ∷ drop (suc b) (enumerate_from 0 (subbands p.depth))) (get_or-enumerate_from 0 (subbands p.depth) b (0, subband 0 LL) (omega (arith, few)) ∙ ap (λ (k : ℕ). (k, subband_at p.depth b)) (zero-add b))) in
+      let few = length-subbands p.depth_ho p.depth in
+      let first : drop b (enumerate_from 0 (subbands p.depth_ho p.depth)) ≡ (b, subband_at p.depth_ho p.depth b) ∷ drop (b + 1) (enumerate_from 0 (subbands p.depth_ho p.depth)) = rw add-one (drop-cons (enumerate_from 0 (subbands p.depth_ho p.depth)) b (0, subband 0 LL) (omega (arith, count)) ∙ ap (λ (x : ℕ × Subband). x ∷ drop (suc b) (enumerate_from 0 (subbands p.depth_ho p.depth))) (get_or-enumerate_from 0 (subbands p.depth_ho p.depth) b (0, subband 0 LL) (omega (arith, few)) ∙ ap (λ (k : ℕ). (k, subband_at p.depth_ho p.depth b)) (zero-add b))) in
       ap (λ (bs : List (ℕ × Subband)). flat_map (λ (b : ℕ × Subband). replicate (area (slice_rectangle p c b.1 slice)) (index - slice_index_or p.matrix b.0 0)) bs) first
 
   -- a subband more
-  pub subband_read : (out after whole : List ℤ) (b n q : ℕ) (bits behind : List Bool) → b < 1 + 3 * p.depth
-      → n ≡ area (slice_rectangle p c (subband_at p.depth b) slice) → q ≡ index - slice_index_or p.matrix b 0
+  pub subband_read : (out after whole : List ℤ) (b n q : ℕ) (bits behind : List Bool) → b < subband_count p.depth_ho p.depth
+      → n ≡ area (slice_rectangle p c (subband_at p.depth_ho p.depth b) slice) → q ≡ index - slice_index_or p.matrix b 0
       → out ++ coefficients_by (quantisers_from b) bits ≡ whole
       → ((indices : List ℕ) → after ++ coefficients_by indices behind ≡ out ++ coefficients_by (replicate n q ++ indices) bits)
       → after ++ coefficients_by (quantisers_from (b + 1)) behind ≡ whole
   subband_read out after whole b n q bits behind h count quantiser before read =
       read (quantisers_from (b + 1))
       ∙ ap (λ (k : ℕ). out ++ coefficients_by (replicate k q ++ quantisers_from (b + 1)) bits) count
-      ∙ ap (λ (k : ℕ). out ++ coefficients_by (replicate (area (slice_rectangle p c (subband_at p.depth b) slice)) k ++ quantisers_from (b + 1)) bits) quantiser
+      ∙ ap (λ (k : ℕ). out ++ coefficients_by (replicate (area (slice_rectangle p c (subband_at p.depth_ho p.depth b) slice)) k ++ quantisers_from (b + 1)) bits) quantiser
       ∙ ap (λ (qs : List ℕ). out ++ coefficients_by qs bits) (sym (quantisers_from-more b h))
       ∙ before
 
   -- a subband with a large coefficient
-  pub subband_large : (out whole : List ℤ) (b n q : ℕ) (bits : List Bool) → b < 1 + 3 * p.depth
-      → n ≡ area (slice_rectangle p c (subband_at p.depth b) slice) → q ≡ index - slice_index_or p.matrix b 0
+  pub subband_large : (out whole : List ℤ) (b n q : ℕ) (bits : List Bool) → b < subband_count p.depth_ho p.depth
+      → n ≡ area (slice_rectangle p c (subband_at p.depth_ho p.depth b) slice) → q ≡ index - slice_index_or p.matrix b 0
       → out ++ coefficients_by (quantisers_from b) bits ≡ whole
       → ((indices : List ℕ) → list_any is_large (out ++ coefficients_by (replicate n q ++ indices) bits) ≡ true)
       → list_any is_large whole ≡ true
   subband_large out whole b n q bits h count quantiser before large =
       ap (list_any is_large) (sym (
       ap (λ (k : ℕ). out ++ coefficients_by (replicate k q ++ quantisers_from (b + 1)) bits) count
-      ∙ ap (λ (k : ℕ). out ++ coefficients_by (replicate (area (slice_rectangle p c (subband_at p.depth b) slice)) k ++ quantisers_from (b + 1)) bits) quantiser
+      ∙ ap (λ (k : ℕ). out ++ coefficients_by (replicate (area (slice_rectangle p c (subband_at p.depth_ho p.depth b) slice)) k ++ quantisers_from (b + 1)) bits) quantiser
       ∙ ap (λ (qs : List ℕ). out ++ coefficients_by qs bits) (sym (quantisers_from-more b h))
       ∙ before))
       ∙ large (quantisers_from (b + 1))
@@ -141,6 +141,6 @@ module _ (p : Parameters) (c : Component) (slice index : ℕ) where
       ∙ sym (block_coefficients-by block)
 
   -- every subband was read
-  pub all_read : (out whole : List ℤ) (b : ℕ) (bits : List Bool) → b ≡ 1 + 3 * p.depth → out ++ coefficients_by (quantisers_from b) bits ≡ whole → out ≡ whole
+  pub all_read : (out whole : List ℤ) (b : ℕ) (bits : List Bool) → b ≡ subband_count p.depth_ho p.depth → out ++ coefficients_by (quantisers_from b) bits ≡ whole → out ≡ whole
   unfolding coefficients_by
   all_read out whole b bits e read = sym (append-nil out) ∙ sym (ap (λ (qs : List ℕ). out ++ coefficients_by qs bits) (quantisers_from-none b e)) ∙ read

@@ -14,8 +14,7 @@ use Rattle.vc_types.specs.Slices.{Coefficients}
 use Rattle.vc_types.specs.TransformParameters.{Parameters}
 use Rattle.vc_types.proofs.Bits.{length-byte_bits, length-bits_of, bits_of-push, bit_of_byte}
 use Rattle.vc_bits.specs.Bits.{to_edge}
-use Rattle.vc_slice.specs.Encoding.{component_bits, block_units, encoded_block, encoded_length, encoded_slice, is_too_long}
-use Rattle.vc_slice.specs.Inside.{units_of}
+use Rattle.vc_types.specs.Encoding.{component_bits, block_units, encoded_block, encoded_length, encoded_slice, is_too_long}
 
 pub some_scaler : (prefix scaler : ℕ) → slice_bytes_fit prefix scaler ≡ true → 0 < scaler
 some_scaler prefix scaler h = grind (arith, nat_tests)
@@ -25,12 +24,12 @@ few_units prefix scaler h = grind (arith, nat_tests)
 
 -- ---- units of the slice size scaler
 
-pub enough_units : (bits scaler : ℕ) → 0 < scaler → bits ≤ 8 * (units_of scaler bits * scaler)
+pub enough_units : (bits scaler : ℕ) → 0 < scaler → bits ≤ 8 * (block_units scaler bits * scaler)
 enough_units bits scaler some =
     let above = lt-div-mul-add {a = (bits + 7) / 8 + scaler - 1} some in
     omega (arith, above)
 
-pub units_fit : (bits scaler : ℕ) → units_of scaler bits * scaler ≤ (bits + 7) / 8 + scaler - 1
+pub units_fit : (bits scaler : ℕ) → block_units scaler bits * scaler ≤ (bits + 7) / 8 + scaler - 1
 units_fit bits scaler = div-mul-le_self ((bits + 7) / 8 + scaler - 1) scaler
 
 -- the same by the scaler in other words
@@ -42,13 +41,13 @@ fit_at bits scaler k is few small = rw is (omega (arith, units_fit bits scaler))
 
 -- ---- lengths
 
-length_block : (scaler : ℕ) (bits : List Bool) → 0 < scaler → length (encoded_block scaler bits) ≡ 8 + 8 * (block_units scaler bits * scaler)
+length_block : (scaler : ℕ) (bits : List Bool) → 0 < scaler → length (encoded_block scaler bits) ≡ 8 + 8 * (block_units scaler (length bits) * scaler)
 unfolding encoded_block
 length_block scaler bits some =
-    let fill = replicate (8 * (block_units scaler bits * scaler) - length bits) true in
-    let whole = length-append (byte_bits (block_units scaler bits) ++ bits) fill in
-    let front = length-append (byte_bits (block_units scaler bits)) bits in
-    omega (arith, whole, front, length-byte_bits (block_units scaler bits), length-replicate (8 * (block_units scaler bits * scaler) - length bits) true, enough_units (length bits) scaler some)
+    let fill = replicate (8 * (block_units scaler (length bits) * scaler) - length bits) true in
+    let whole = length-append (byte_bits (block_units scaler (length bits)) ++ bits) fill in
+    let front = length-append (byte_bits (block_units scaler (length bits))) bits in
+    omega (arith, whole, front, length-byte_bits (block_units scaler (length bits)), length-replicate (8 * (block_units scaler (length bits) * scaler) - length bits) true, enough_units (length bits) scaler some)
 
 pub length_slice : (p : Parameters) (slice index : ℕ) (s : Coefficients) → 0 < p.scaler → length (encoded_slice p slice index s) ≡ 8 * encoded_length p slice index s
 unfolding encoded_slice encoded_length
@@ -68,11 +67,11 @@ length_slice p slice index s some =
 -- ---- by the numbers of bits
 
 module _ (p : Parameters) (slice index : ℕ) (s : Coefficients) (y c1 c2 : ℕ) (is_y : y ≡ length (component_bits p slice index s Y)) (is_c1 : c1 ≡ length (component_bits p slice index s C1)) (is_c2 : c2 ≡ length (component_bits p slice index s C2)) where
-  pub length_by : p.prefix + 4 + p.scaler * (units_of p.scaler y + units_of p.scaler c1 + units_of p.scaler c2) ≡ encoded_length p slice index s
+  pub length_by : p.prefix + 4 + p.scaler * (block_units p.scaler y + block_units p.scaler c1 + block_units p.scaler c2) ≡ encoded_length p slice index s
   unfolding encoded_length
   length_by = rw (is_y, is_c1, is_c2) refl
 
-  pub too_long_by : (nat_lt 255 (units_of p.scaler y) || nat_lt 255 (units_of p.scaler c1) || nat_lt 255 (units_of p.scaler c2)) ≡ is_too_long p slice index s
+  pub too_long_by : (nat_lt 255 (block_units p.scaler y) || nat_lt 255 (block_units p.scaler c1) || nat_lt 255 (block_units p.scaler c2)) ≡ is_too_long p slice index s
   unfolding is_too_long
   too_long_by = rw (is_y, is_c1, is_c2) refl
 
@@ -91,12 +90,12 @@ pub byte_whole : (byte place : ℕ) (old new : List Bool) → place ≡ 8 → ne
 unfolding byte_bits
 byte_whole byte place old new all is = is ∙ ap (λ (n : ℕ). old ++ take n (byte_bits byte)) all
 
-pub written_block : (scaler wide units bits : ℕ) (codes old first second new : List Bool) → wide ≡ scaler → units ≡ units_of scaler bits → bits ≡ length codes
+pub written_block : (scaler wide units bits : ℕ) (codes old first second new : List Bool) → wide ≡ scaler → units ≡ block_units scaler bits → bits ≡ length codes
     → first ≡ old ++ byte_bits units → second ≡ first ++ codes → new ≡ second ++ replicate (8 * (units * wide) - bits) true
     → new ≡ old ++ encoded_block scaler codes
 unfolding encoded_block
 written_block scaler wide units bits codes old first second new is_wide is_units is_bits is_first is_second is_new =
-    let is : units ≡ block_units scaler codes = is_units ∙ ap (units_of scaler) is_bits in
+    let is : units ≡ block_units scaler (length codes) = is_units ∙ ap (block_units scaler) is_bits in
     let fill = replicate (8 * (units * wide) - bits) true in
     is_new
     ∙ ap (λ (xs : List Bool). xs ++ fill) (is_second ∙ ap (λ (xs : List Bool). xs ++ codes) is_first ∙ append_assoc old (byte_bits units) codes)

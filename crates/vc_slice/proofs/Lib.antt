@@ -3,8 +3,5 @@ pub mod BlockCodes
 pub mod BlockCoefficients
 pub mod CodeLengths
 pub mod Dequantising
-pub mod EncodedRows
 pub mod EncodedSlices
 pub mod SameJobs
-pub mod SlicesApart
-pub mod WholeSlices

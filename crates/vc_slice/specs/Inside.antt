@@ -1,5 +1,5 @@
 -- Reading and writing a block, coefficient after coefficient.
-use Rattle.std.specs.Prelude.{ℕ, ◌+◌, ◌-◌, ◌/◌, ℤ, unsigned_abs, Bool, true, ◌==◌, if◌then◌else◌, List, [], ◌∷◌, ◌++◌, map, replicate}
+use Rattle.std.specs.Prelude.{ℕ, ◌+◌, ℤ, unsigned_abs, Bool, true, ◌==◌, if◌then◌else◌, List, [], ◌∷◌, ◌++◌, map, replicate}
 use Rattle.vc_types.specs.Bounded.{bounded_sint}
 use Rattle.vc_types.specs.Codes.{sint_bits}
 use Rattle.vc_types.specs.Quantisation.{dequantised, quantised}
@@ -16,8 +16,6 @@ subband_numbers index coefficients = map (λ z. quantised z index) coefficients
 -- the codes of numbers up to the last that isn't 0, where n zeros came just before: a 0 has the code 1
 unfoldable pub codes_behind : ℕ → List ℤ → List Bool
 codes_behind n [] = []
-codes_behind n (z ∷ zs) = if unsigned_abs z == 0 then codes_behind (n + 1) zs else replicate n true ++ sint_bits z ++ codes_behind 0 zs
-
--- the length of a block in units of the slice size scaler, by the number of bits of its codes
-abbrev pub units_of : ℕ → ℕ → ℕ
-units_of scaler bits = ((bits + 7) / 8 + scaler - 1) / scaler
+codes_behind n (z ∷ zs) =
+    if unsigned_abs z == 0 then codes_behind (n + 1) zs
+    else replicate n true ++ sint_bits z ++ codes_behind 0 zs

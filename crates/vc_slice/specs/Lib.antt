@@ -1,5 +1,4 @@
-pub mod Apart
 pub mod Asked
-pub mod Encoding
+pub mod Refusals
 pub mod Inside
 pub mod Jobs

@@ -2,6 +2,7 @@ ghost use Rattle.std.specs.Prelude.{◌≡◌, ◌<◌, ◌≤◌, ◌-◌, ◌+
 ghost use Rattle.std.specs.List.{list_any};
 ghost use Rattle.vc_types.specs.Bits.{bits_of};
 ghost use Rattle.vc_types.specs.Slices.{is_large, block_coefficients};
+ghost use Rattle.vc_types.specs.Quantisation.{subband_count};
 ghost use Rattle.vc_types.specs.Subbands.{area, slice_count, slice_rectangle, subband_at};
 ghost use Rattle.vc_types.specs.TransformParameters.{parameters_of};
 ghost use Rattle.vc_slice.specs.declared.subband.Stopped.TheVariants.{Large, NoMemory};
@@ -60,10 +61,10 @@ fn bits_of(block: &[u8]) -> Block<'_>
 
 // How many coefficients of a slice a subband has.
 pub(crate) fn count(plan: &Plan, c: Component, b: u32, slice: u32) -> u32
-    requires number { b < 1 + 3 * plan.now.depth }
+    requires number { b < subband_count plan.now.depth_ho plan.now.depth }
     requires slice { slice < slice_count (parameters_of plan.now) }
     ensures range { result ≤ 2 ^ 26 }
-    ensures value { result ≡ area (slice_rectangle (parameters_of plan.now) c (subband_at plan.now.depth b) slice) }
+    ensures value { result ≡ area (slice_rectangle (parameters_of plan.now) c (subband_at plan.now.depth_ho plan.now.depth b) slice) }
 {
     let rect = slice_rect(plan, c, b, slice);
     rect.width * rect.height
@@ -71,7 +72,7 @@ pub(crate) fn count(plan: &Plan, c: Component, b: u32, slice: u32) -> u32
 
 // The slice's index less the subband's matrix value, and at least 0.
 pub(crate) fn quantiser(plan: &Plan, b: u32, index: u8) -> Quantiser
-    requires number { b < 1 + 3 * plan.now.depth }
+    requires number { b < subband_count plan.now.depth_ho plan.now.depth }
     requires index { index ≤ 127 }
     ensures { result.index ≡ index - slice_index_or plan.now.matrix b 0 }
 {

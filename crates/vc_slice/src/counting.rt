@@ -4,7 +4,8 @@ ghost use Rattle.vc_types.specs.Codes.{sint_bits};
 ghost use Rattle.vc_types.specs.Slices.{is_large};
 ghost use Rattle.vc_types.specs.Subbands.{slice_count};
 ghost use Rattle.vc_types.specs.TransformParameters.{parameters_of};
-ghost use Rattle.vc_slice.specs.Encoding.{AreCoefficients, component_bits};
+ghost use Rattle.vc_types.specs.Encoding.{component_bits};
+ghost use Rattle.vc_types.specs.SliceCoefficients.{AreSliceCoefficients};
 ghost use Rattle.vc_slice.specs.Inside.{subband_numbers, codes_behind};
 
 use crate::coeffs::SliceCoeffs;
@@ -55,7 +56,7 @@ pub(crate) fn block_len(
     index: u8,
 ) -> u64
     requires slice { slice < slice_count (parameters_of plan.now) }
-    requires coefficients { AreCoefficients (parameters_of plan.now) slice coeffs.now }
+    requires coefficients { AreSliceCoefficients (parameters_of plan.now) slice coeffs.now }
     requires index { index ≤ 127 }
     ensures value { result ≡ length (component_bits (parameters_of plan.now) slice index coeffs.now c) }
     ensures range { result < 2 ^ 40 }

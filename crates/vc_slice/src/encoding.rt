@@ -3,8 +3,9 @@ ghost use Rattle.vc_types.specs.declared.video.Component.TheVariants.{Y, C1, C2}
 ghost use Rattle.vc_types.specs.Bits.{bits_of};
 ghost use Rattle.vc_types.specs.Subbands.{slice_count};
 ghost use Rattle.vc_types.specs.TransformParameters.{parameters_of};
-ghost use Rattle.vc_slice.specs.Encoding.{AreCoefficients, IsRefusal, component_bits, encoded_length, encoded_slice, is_too_long};
-ghost use Rattle.vc_slice.specs.Inside.{units_of};
+ghost use Rattle.vc_types.specs.SliceCoefficients.{AreSliceCoefficients};
+ghost use Rattle.vc_slice.specs.Refusals.{IsRefusal};
+ghost use Rattle.vc_types.specs.Encoding.{block_units, component_bits, encoded_length, encoded_slice, is_too_long};
 
 use crate::coeffs::SliceCoeffs;
 use crate::counting::block_len;
@@ -25,7 +26,7 @@ pub enum EncodeRefusal {
 /// project's own encoder): also where a block is longer than 255 times the slice size scaler.
 pub fn encoded_len(plan: &Plan, index: u32, coeffs: &SliceCoeffs, q: u8) -> u64
     requires slice { index < slice_count (parameters_of plan.now) }
-    requires coefficients { AreCoefficients (parameters_of plan.now) index coeffs.now }
+    requires coefficients { AreSliceCoefficients (parameters_of plan.now) index coeffs.now }
     requires index { q ≤ 127 }
     ensures { result ≡ encoded_length (parameters_of plan.now) index q coeffs.now }
 {
@@ -43,7 +44,7 @@ pub fn encode(
     q: u8,
 ) -> Result<Vec<u8>, EncodeRefusal>
     requires slice { index < slice_count (parameters_of plan.now) }
-    requires coefficients { AreCoefficients (parameters_of plan.now) index coeffs.now }
+    requires coefficients { AreSliceCoefficients (parameters_of plan.now) index coeffs.now }
     requires index { q ≤ 127 }
     ensures value { IfOk result (λ bytes. bits_of bytes.items ≡ encoded_slice (parameters_of plan.now) index q coeffs.now) }
     ensures len { IfOk result (λ bytes. length bytes.items ≡ encoded_length (parameters_of plan.now) index q coeffs.now) }
@@ -73,7 +74,7 @@ struct BlockLens {
 
 fn block_lens(plan: &Plan, index: u32, coeffs: &SliceCoeffs, q: u8) -> BlockLens
     requires slice { index < slice_count (parameters_of plan.now) }
-    requires coefficients { AreCoefficients (parameters_of plan.now) index coeffs.now }
+    requires coefficients { AreSliceCoefficients (parameters_of plan.now) index coeffs.now }
     requires index { q ≤ 127 }
     ensures y { result.y ≡ length (component_bits (parameters_of plan.now) index q coeffs.now Y) }
     ensures c1 { result.c1 ≡ length (component_bits (parameters_of plan.now) index q coeffs.now C1) }
@@ -89,7 +90,7 @@ fn block_lens(plan: &Plan, index: u32, coeffs: &SliceCoeffs, q: u8) -> BlockLens
 
 fn slice_len(plan: &Plan, lens: BlockLens) -> u64
     requires { (lens.y < 2 ^ 40) × (lens.c1 < 2 ^ 40) × (lens.c2 < 2 ^ 40) }
-    ensures { result ≡ plan.now.prefix + 4 + plan.now.scaler * (units_of plan.now.scaler lens.y + units_of plan.now.scaler lens.c1 + units_of plan.now.scaler lens.c2) }
+    ensures { result ≡ plan.now.prefix + 4 + plan.now.scaler * (block_units plan.now.scaler lens.y + block_units plan.now.scaler lens.c1 + block_units plan.now.scaler lens.c2) }
 {
     let units = units(plan, lens.y) + units(plan, lens.c1) + units(plan, lens.c2);
     u64::from(plan.prefix) + 4 + u64::from(plan.scaler) * units
@@ -97,7 +98,7 @@ fn slice_len(plan: &Plan, lens: BlockLens) -> u64
 
 fn is_too_long(plan: &Plan, lens: BlockLens) -> bool
     requires { (lens.y < 2 ^ 40) × (lens.c1 < 2 ^ 40) × (lens.c2 < 2 ^ 40) }
-    ensures { result ≡ (nat_lt 255 (units_of plan.now.scaler lens.y) || nat_lt 255 (units_of plan.now.scaler lens.c1) || nat_lt 255 (units_of plan.now.scaler lens.c2)) }
+    ensures { result ≡ (nat_lt 255 (block_units plan.now.scaler lens.y) || nat_lt 255 (block_units plan.now.scaler lens.c1) || nat_lt 255 (block_units plan.now.scaler lens.c2)) }
 {
     units(plan, lens.y) > 255 || units(plan, lens.c1) > 255 || units(plan, lens.c2) > 255
 }
@@ -111,13 +112,13 @@ fn write_slice(
     lens: BlockLens,
 ) -> Result<(), NoMemory>
     requires slice { index < slice_count (parameters_of plan.now) }
-    requires coefficients { AreCoefficients (parameters_of plan.now) index coeffs.now }
+    requires coefficients { AreSliceCoefficients (parameters_of plan.now) index coeffs.now }
     requires index { q ≤ 127 }
     requires y { lens.y ≡ length (component_bits (parameters_of plan.now) index q coeffs.now Y) }
     requires c1 { lens.c1 ≡ length (component_bits (parameters_of plan.now) index q coeffs.now C1) }
     requires c2 { lens.c2 ≡ length (component_bits (parameters_of plan.now) index q coeffs.now C2) }
     requires range { (lens.y < 2 ^ 40) × (lens.c1 < 2 ^ 40) × (lens.c2 < 2 ^ 40) }
-    requires fits { (units_of plan.now.scaler lens.y ≤ 255) × (units_of plan.now.scaler lens.c1 ≤ 255) × (units_of plan.now.scaler lens.c2 ≤ 255) }
+    requires fits { (block_units plan.now.scaler lens.y ≤ 255) × (block_units plan.now.scaler lens.c1 ≤ 255) × (block_units plan.now.scaler lens.c2 ≤ 255) }
     ensures { OnOk result (w.new ≡ w.old ++ encoded_slice (parameters_of plan.now) index q coeffs.now) }
 {
     write_head(w, plan, q)?;

@@ -3,7 +3,7 @@ ghost use Rattle.std.specs.List.{list_any};
 ghost use Rattle.vc_types.specs.Slices.{coefficients_of, is_large};
 ghost use Rattle.vc_types.specs.Subbands.{slice_coefficient_count};
 ghost use Rattle.vc_types.specs.TransformParameters.{parameters_of};
-ghost use Rattle.vc_slice.specs.Encoding.{AreCoefficients};
+ghost use Rattle.vc_types.specs.SliceCoefficients.{AreSliceCoefficients};
 
 use crate::{
     EncodeRefusal, Hands, NoPlaces, Places, Short, SliceCoeffs, SliceDone, SliceJob, Unsound, cut,
@@ -14,6 +14,8 @@ use std::alloc::Global;
 use std::test::Fail;
 use vc_geometry::slice_len;
 use vc_types::{Component, Plan, Shape};
+
+mod worked;
 
 // 8 by 4, two slices side by side.
 fn two_slices() -> Plan {
@@ -188,7 +190,7 @@ fn answer(done: SliceDone) -> Result<SliceCoeffs, Unsound> {
 
 // The coefficients of a plan's first slice: those of Y, and zeros behind them and in colour.
 fn first_coeffs(alloc: Global, plan: &Plan, y: &[i64]) -> Result<SliceCoeffs, Fail>
-    ensures { IfOk result (λ s. AreCoefficients (parameters_of plan.now) 0 s) }
+    ensures { IfOk result (λ s. AreSliceCoefficients (parameters_of plan.now) 0 s) }
 {
     let coeffs = SliceCoeffs::new(
         padded(alloc, plan, Component::Y, y)?,

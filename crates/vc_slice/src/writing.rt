@@ -4,8 +4,9 @@ ghost use Rattle.vc_types.specs.Bits.{byte_bits};
 ghost use Rattle.vc_types.specs.Slices.{is_large};
 ghost use Rattle.vc_types.specs.Subbands.{slice_count};
 ghost use Rattle.vc_types.specs.TransformParameters.{parameters_of};
-ghost use Rattle.vc_slice.specs.Encoding.{AreCoefficients, component_bits, component_units, encoded_block};
-ghost use Rattle.vc_slice.specs.Inside.{subband_numbers, codes_behind, units_of};
+ghost use Rattle.vc_types.specs.Encoding.{block_units, component_bits, component_units, encoded_block};
+ghost use Rattle.vc_types.specs.SliceCoefficients.{AreSliceCoefficients};
+ghost use Rattle.vc_slice.specs.Inside.{subband_numbers, codes_behind};
 
 use crate::coeffs::SliceCoeffs;
 use crate::component::{count, quantiser};
@@ -18,7 +19,7 @@ use vc_types::{Component, NoMemory, Plan};
 // The length of a block whose codes have so many bits, in units of the plan's slice size scaler.
 pub(crate) fn units(plan: &Plan, bits: u64) -> u64
     requires range { bits < 2 ^ 40 }
-    ensures value { result ≡ units_of plan.now.scaler bits }
+    ensures value { result ≡ block_units plan.now.scaler bits }
     ensures enough { bits ≤ 8 * (result * plan.now.scaler) }
     ensures range { result * plan.now.scaler < 2 ^ 40 }
 {
@@ -38,7 +39,7 @@ pub(crate) fn write_block(
     bits: u64,
 ) -> Result<(), NoMemory>
     requires slice { slice < slice_count (parameters_of plan.now) }
-    requires coefficients { AreCoefficients (parameters_of plan.now) slice coeffs.now }
+    requires coefficients { AreSliceCoefficients (parameters_of plan.now) slice coeffs.now }
     requires index { index ≤ 127 }
     requires bits { bits ≡ length (component_bits (parameters_of plan.now) slice index coeffs.now c) }
     requires range { bits < 2 ^ 40 }
@@ -61,7 +62,7 @@ fn write_codes(
     index: u8,
 ) -> Result<(), NoMemory>
     requires slice { slice < slice_count (parameters_of plan.now) }
-    requires coefficients { AreCoefficients (parameters_of plan.now) slice coeffs.now }
+    requires coefficients { AreSliceCoefficients (parameters_of plan.now) slice coeffs.now }
     requires index { index ≤ 127 }
     ensures { OnOk result (w.new ≡ w.old ++ component_bits (parameters_of plan.now) slice index coeffs.now c) }
 {

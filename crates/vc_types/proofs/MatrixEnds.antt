@@ -34,7 +34,7 @@ all_zero (x ∷ xs) h =
     ap (λ (n : ℕ). n ∷ xs) (eqb-true x 0 p.0) ∙ ap (λ (l : List ℕ). 0 ∷ l) (all_zero xs p.1)
 
 -- A matrix that ends in zeros is what its used entries fill.
-filled-ends : (depth : ℕ) (matrix : List ℕ) → depth ≤ 5 → length matrix ≡ 16 → zeros (drop (1 + 3 * depth) matrix) ≡ true → filled_matrix (used_entries depth matrix) ≡ matrix
+filled-ends : (depth : ℕ) (matrix : List ℕ) → depth ≤ 5 → length matrix ≡ 16 → zeros (drop (1 + 3 * depth) matrix) ≡ true → filled_matrix (used_entries 0 depth matrix) ≡ matrix
 filled-ends depth matrix few len ends =
     let n : ℕ = 1 + 3 * depth in
     let used : length (take n matrix) ≡ n = length-take n matrix ∙ omega arith in
@@ -42,7 +42,7 @@ filled-ends depth matrix few len ends =
     sym (filled-front (take n matrix) (omega arith)) ∙ ap (λ (k : ℕ). take n matrix ++ drop k (replicate 16 0)) used ∙ ap (λ (l : List ℕ). take n matrix ++ l) (sym rest) ∙ take-append-drop n matrix
 
 -- A default matrix is what its used entries fill.
-pub default_filled : (wavelet depth : ℕ) (matrix : List ℕ) → depth ≤ 5 → default_matrix wavelet depth ≡ Some matrix → filled_matrix (used_entries depth matrix) ≡ matrix
+pub default_filled : (wavelet depth : ℕ) (matrix : List ℕ) → depth ≤ 5 → default_matrix wavelet depth ≡ Some matrix → filled_matrix (used_entries 0 depth matrix) ≡ matrix
 unfolding default_matrix
 default_filled wavelet depth matrix few h = chosen (eqb depth 5) h
   where
@@ -58,6 +58,6 @@ default_filled wavelet depth matrix few h = chosen (eqb depth 5) h
     some_is : (x y : List ℕ) → Some x ≡ Some y → x ≡ y
     some_is x y e = cc
 
-    chosen : (b : Bool) → cond b None (Some (filled_matrix row)) ≡ Some matrix → filled_matrix (used_entries depth matrix) ≡ matrix
+    chosen : (b : Bool) → cond b None (Some (filled_matrix row)) ≡ Some matrix → filled_matrix (used_entries 0 depth matrix) ≡ matrix
     chosen true e = absurd cc
-    chosen false e = subst (λ (m : List ℕ). filled_matrix (used_entries depth m) ≡ m) (some_is (filled_matrix row) matrix e) (filled-ends depth (filled_matrix row) few long ends)
+    chosen false e = subst (λ (m : List ℕ). filled_matrix (used_entries 0 depth m) ≡ m) (some_is (filled_matrix row) matrix e) (filled-ends depth (filled_matrix row) few long ends)

@@ -74,4 +74,4 @@ parameters_own sequence =
     then_own prefix_bytes _ prefix_own (λ prefix.
     then_own size_scaler _ scaler_own (λ scaler.
     then_own (quantisation_matrix wavelet depth) _ (matrix_own wavelet depth) (λ matrix.
-    choice_own (padded_luma_fits (picture_shape sequence) depth) _ (refuse refusals.TooLarge) (give_own _) (refuse_own refusals.TooLarge)))))))))
+    choice_own (padded_luma_fits (picture_shape sequence) 0 depth) _ (refuse refusals.TooLarge) (give_own _) (refuse_own refusals.TooLarge)))))))))

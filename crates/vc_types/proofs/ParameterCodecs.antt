@@ -258,4 +258,4 @@ parameters_are sequence = retold (parameter_bits sequence.major) (spelled_parame
     then_codec prefix_is (λ (prefix : ℕ).
     then_codec scaler_is (λ (scaler : ℕ).
     then_codec (matrix_is wavelet depth) (λ (matrix : List ℕ).
-    give_if_codec (padded_luma_fits (picture_shape sequence) depth) (with_across sequence wavelet across depth slices prefix scaler matrix) refusals.TooLarge)))))))))
+    give_if_codec (padded_luma_fits (picture_shape sequence) 0 depth) (with_across sequence wavelet across depth slices prefix scaler matrix) refusals.TooLarge)))))))))

@@ -107,7 +107,7 @@ inside_both x y w h a b = grind (arith, nat_tests)
 module _ (p : Parameters) (c : Component) (x y : ℕ) where
   as_shares : (s : ℕ) → slice_rectangles p c s ≡ map (λ r. share r p.slices_x p.slices_y (slice_column p s) (slice_row p s)) (subband_rectangles p c)
   unfolding slice_rectangle
-  as_shares s = sym (map-map (λ r. share r p.slices_x p.slices_y (slice_column p s) (slice_row p s)) (λ b. subband_rectangle p c b) (subbands p.depth))
+  as_shares s = sym (map-map (λ r. share r p.slices_x p.slices_y (slice_column p s) (slice_row p s)) (λ b. subband_rectangle p c b) (subbands p.depth_ho p.depth))
 
   module _ (u : IsOwned p.slices_x p.slices_y x y (subband_rectangles p c)) (some_across : 0 < p.slices_x) where
     count-slice : (s : ℕ) → s < slice_count p → count_by (has_cell x y) (slice_rectangles p c s) ≡ cond (slice_column p s == u.column && slice_row p s == u.row) 1 0

@@ -3,6 +3,7 @@ use Rattle.std.proofs.Common.{◌≡◌, ℕ, zero, suc, ◌+◌, ◌-◌, ◌*�
 use Rattle.std.proofs.lemmas.Nat.{mul-add-lt, div-mul-add, mod-mul-add}
 use Rattle.vc_types.specs.declared.rect.Rect.{Rect}
 use Rattle.vc_types.specs.declared.video.Component.{Component}
+use Rattle.vc_types.specs.Quantisation.{subband_count}
 use Rattle.vc_types.specs.Subbands.{subband_at, slice_rectangle, slice_coefficient_count, area, place_in, coefficient_place}
 use Rattle.vc_types.specs.TransformParameters.{Parameters}
 use Rattle.vc_types.proofs.RectangleCells.{same_place}
@@ -10,21 +11,21 @@ use Rattle.vc_types.proofs.SliceRectangles.{IsLeft, IsLeft-first, IsLeft-here, I
 
 module _ (p : Parameters) (c : Component) (slice : ℕ) where
   abbrev pub rectangle : ℕ → Rect
-  rectangle b = slice_rectangle p c (subband_at p.depth b) slice
+  rectangle b = slice_rectangle p c (subband_at p.depth_ho p.depth b) slice
 
-  left : (b j i : ℕ) → b ≤ 1 + 3 * p.depth → i ≡ coefficients_before p c slice b + j → i < slice_coefficient_count p c slice → IsLeft p c slice i b j
+  left : (b j i : ℕ) → b ≤ subband_count p.depth_ho p.depth → i ≡ coefficients_before p c slice b + j → i < slice_coefficient_count p c slice → IsLeft p c slice i b j
   left zero j i h e below =
       let none = coefficients_before-none p c slice in
       subst (λ k. IsLeft p c slice i 0 k) (omega (arith, none)) (IsLeft-first p c slice i below)
   left (suc b) j i h e below =
-      let inside : b < 1 + 3 * p.depth = omega arith in
+      let inside : b < subband_count p.depth_ho p.depth = omega arith in
       let more : coefficients_before p c slice (suc b) ≡ coefficients_before p c slice b + area (rectangle b) = rw (← add-one) (coefficients_before-more p c slice b inside) in
       let before = left b (area (rectangle b) + j) i (omega arith) (omega (arith, more)) below in
       let next = IsLeft-past p c slice i b (area (rectangle b) + j) before inside (omega arith) in
       let back : area (rectangle b) + j - area (rectangle b) ≡ j = omega arith in
       subst (λ k. IsLeft p c slice i (suc b) k) back (rw (← add-one) next)
 
-  module _ (b : ℕ) (inside : b < 1 + 3 * p.depth) where
+  module _ (b : ℕ) (inside : b < subband_count p.depth_ho p.depth) where
     pub walked-below : coefficients_before p c slice b + area (rectangle b) ≤ slice_coefficient_count p c slice
     walked-below =
         let more = coefficients_before-more p c slice b inside in

@@ -8,6 +8,7 @@ use Rattle.std.proofs.lemmas.List.Sums.{sum_by-take-drop, sum_by-cons}
 use Rattle.std.proofs.Math.Seq.{drop-cons}
 use Rattle.vc_types.specs.declared.rect.Rect.{Rect}
 use Rattle.vc_types.specs.declared.video.Component.{Component}
+use Rattle.vc_types.specs.Quantisation.{subband_count}
 use Rattle.vc_types.specs.Subbands.{subband, LL, subbands, subband_at, rect, share, share_start, slice_rectangle, slice_rectangles, slice_coefficient_count, area, place_in, place_among, coefficient_place}
 use Rattle.vc_types.specs.TransformParameters.{Parameters}
 use Rattle.vc_types.proofs.SubbandOrder.{length-subbands}
@@ -33,16 +34,16 @@ unfolding place_among
 place_among-rest r rs i h = cond-false (nat_lt i (area r)) (place_in r i) (place_among rs (i - area r)) (le-ltb i (area r) h)
 
 module _ (p : Parameters) (c : Component) (slice : ℕ) where
-  pub length-slice_rectangles : length (slice_rectangles p c slice) ≡ 1 + 3 * p.depth
-  length-slice_rectangles = length-map (subbands p.depth) (λ b. slice_rectangle p c b slice) ∙ length-subbands p.depth
+  pub length-slice_rectangles : length (slice_rectangles p c slice) ≡ subband_count p.depth_ho p.depth
+  length-slice_rectangles = length-map (subbands p.depth_ho p.depth) (λ b. slice_rectangle p c b slice) ∙ length-subbands p.depth_ho p.depth
 
-  pub slice_rectangles-at : (b : ℕ) (d : Rect) → b < 1 + 3 * p.depth → get_or (slice_rectangles p c slice) b d ≡ slice_rectangle p c (subband_at p.depth b) slice
+  pub slice_rectangles-at : (b : ℕ) (d : Rect) → b < subband_count p.depth_ho p.depth → get_or (slice_rectangles p c slice) b d ≡ slice_rectangle p c (subband_at p.depth_ho p.depth b) slice
   slice_rectangles-at b d h =
-      let count = length-subbands p.depth in
-      get_or-map (λ s. slice_rectangle p c s slice) (subbands p.depth) b (subband 0 LL) d (omega (arith, count))
+      let count = length-subbands p.depth_ho p.depth in
+      get_or-map (λ s. slice_rectangle p c s slice) (subbands p.depth_ho p.depth) b (subband 0 LL) d (omega (arith, count))
 
   -- the rectangles from number b on
-  pub slice_rectangles-from : (b : ℕ) → b < 1 + 3 * p.depth → drop b (slice_rectangles p c slice) ≡ slice_rectangle p c (subband_at p.depth b) slice ∷ drop (b + 1) (slice_rectangles p c slice)
+  pub slice_rectangles-from : (b : ℕ) → b < subband_count p.depth_ho p.depth → drop b (slice_rectangles p c slice) ≡ slice_rectangle p c (subband_at p.depth_ho p.depth b) slice ∷ drop (b + 1) (slice_rectangles p c slice)
   slice_rectangles-from b h =
       let count = length-slice_rectangles in
       rw add-one (drop-cons (slice_rectangles p c slice) b (rect 0 0 0 0) (omega (arith, count)) ∙ ap (λ r. r ∷ drop (suc b) (slice_rectangles p c slice)) (slice_rectangles-at b (rect 0 0 0 0) h))
@@ -59,17 +60,17 @@ module _ (p : Parameters) (c : Component) (slice : ℕ) where
   unfolding coefficients_before slice_coefficient_count
   coefficients_before-rest b = sum_by-take-drop area (slice_rectangles p c slice) b
 
-  rest-more : (b : ℕ) → b < 1 + 3 * p.depth → sum_by area (drop b (slice_rectangles p c slice)) ≡ area (slice_rectangle p c (subband_at p.depth b) slice) + sum_by area (drop (b + 1) (slice_rectangles p c slice))
-  rest-more b h = ap (sum_by area) (slice_rectangles-from b h) ∙ sum_by-cons area (slice_rectangle p c (subband_at p.depth b) slice) (drop (b + 1) (slice_rectangles p c slice))
+  rest-more : (b : ℕ) → b < subband_count p.depth_ho p.depth → sum_by area (drop b (slice_rectangles p c slice)) ≡ area (slice_rectangle p c (subband_at p.depth_ho p.depth b) slice) + sum_by area (drop (b + 1) (slice_rectangles p c slice))
+  rest-more b h = ap (sum_by area) (slice_rectangles-from b h) ∙ sum_by-cons area (slice_rectangle p c (subband_at p.depth_ho p.depth b) slice) (drop (b + 1) (slice_rectangles p c slice))
 
-  pub coefficients_before-more : (b : ℕ) → b < 1 + 3 * p.depth → coefficients_before (b + 1) ≡ coefficients_before b + area (slice_rectangle p c (subband_at p.depth b) slice)
+  pub coefficients_before-more : (b : ℕ) → b < subband_count p.depth_ho p.depth → coefficients_before (b + 1) ≡ coefficients_before b + area (slice_rectangle p c (subband_at p.depth_ho p.depth b) slice)
   coefficients_before-more b h =
       let whole = coefficients_before-rest b in
       let next = coefficients_before-rest (b + 1) in
       let more = rest-more b h in
       omega (arith, whole, next, more)
 
-  pub coefficients_before-all : (b : ℕ) → b ≡ 1 + 3 * p.depth → coefficients_before b ≡ slice_coefficient_count p c slice
+  pub coefficients_before-all : (b : ℕ) → b ≡ subband_count p.depth_ho p.depth → coefficients_before b ≡ slice_coefficient_count p c slice
   unfolding coefficients_before slice_coefficient_count
   coefficients_before-all b e = ap (sum_by area) (take_all b (slice_rectangles p c slice) (let count = length-slice_rectangles in omega (arith, count)))
 
@@ -82,9 +83,9 @@ module _ (p : Parameters) (c : Component) (slice : ℕ) where
   unfolding coefficient_place slice_coefficient_count
   IsLeft-first i h = record { place = refl; below = h }
 
-  module _ (i b left : ℕ) (at : IsLeft i b left) (h : b < 1 + 3 * p.depth) where
+  module _ (i b left : ℕ) (at : IsLeft i b left) (h : b < subband_count p.depth_ho p.depth) where
     abbrev here : Rect
-    here = slice_rectangle p c (subband_at p.depth b) slice
+    here = slice_rectangle p c (subband_at p.depth_ho p.depth b) slice
 
     pub IsLeft-here : left < area here → place_in here left ≡ coefficient_place p c slice i
     IsLeft-here within =
@@ -99,7 +100,7 @@ module _ (p : Parameters) (c : Component) (slice : ℕ) where
           below = omega (arith, more, at.below);
         }
 
-  pub IsLeft-none : (i b left : ℕ) → IsLeft i b left → b ≡ 1 + 3 * p.depth → ⊥
+  pub IsLeft-none : (i b left : ℕ) → IsLeft i b left → b ≡ subband_count p.depth_ho p.depth → ⊥
   IsLeft-none i b left at e =
       let none = ap (sum_by area) (drop_all b (slice_rectangles p c slice) (let count = length-slice_rectangles in omega (arith, count))) in
       omega (arith, none, at.below)

@@ -26,9 +26,9 @@ pub record IsPlan (p : Parameters) : Type 0 where
   pub depth_ho : p.depth_ho ≡ 0
   pub slices : IsTrue (slices_fit p.slices_x p.slices_y)
   pub slice_bytes : IsTrue (slice_bytes_fit p.prefix p.scaler)
-  pub padded_luma : IsTrue (padded_luma_fits p.shape p.depth)
+  pub padded_luma : IsTrue (padded_luma_fits p.shape 0 p.depth)
   pub values : IsTrue (matrix_fits p.matrix)
-  pub ends : filled_matrix (used_entries p.depth p.matrix) ≡ p.matrix
+  pub ends : filled_matrix (used_entries 0 p.depth p.matrix) ≡ p.matrix
 
 not_extended : (extended : Bool) (n : ℕ) → IsExtension extended n None
 not_extended true n = tt
@@ -38,17 +38,17 @@ not_extended false n = refl
 abbrev SpellsMatrix : ℕ → Option (List ℕ) → List ℕ → Option (List ℕ) → Type 0
 SpellsMatrix depth default matrix spelled = MatchOption spelled (IsSome default) (IsMatrix depth) × (flagged_value (unwrap_or default []) filled_matrix spelled ≡ matrix)
 
-long_enough : (depth : ℕ) (matrix : List ℕ) → depth ≤ 5 → filled_matrix (used_entries depth matrix) ≡ matrix → 1 + 3 * depth ≤ length matrix
+long_enough : (depth : ℕ) (matrix : List ℕ) → depth ≤ 5 → filled_matrix (used_entries 0 depth matrix) ≡ matrix → 1 + 3 * depth ≤ length matrix
 long_enough depth matrix few ends =
-    let long : length (filled_matrix (used_entries depth matrix)) ≡ 16 = length-take-le 16 (used_entries depth matrix ++ replicate 16 0) (omega (arith, length-append (used_entries depth matrix) (replicate 16 0))) in
+    let long : length (filled_matrix (used_entries 0 depth matrix)) ≡ 16 = length-take-le 16 (used_entries 0 depth matrix ++ replicate 16 0) (omega (arith, length-append (used_entries 0 depth matrix) (replicate 16 0))) in
     let same : length matrix ≡ 16 = sym (ap length ends) ∙ long in
     omega arith
 
-custom_spelled : (depth : ℕ) (default : Option (List ℕ)) (matrix : List ℕ) → depth ≤ 5 → IsTrue (matrix_fits matrix) → filled_matrix (used_entries depth matrix) ≡ matrix → SpellsMatrix depth default matrix (Some (take (1 + 3 * depth) matrix))
+custom_spelled : (depth : ℕ) (default : Option (List ℕ)) (matrix : List ℕ) → depth ≤ 5 → IsTrue (matrix_fits matrix) → filled_matrix (used_entries 0 depth matrix) ≡ matrix → SpellsMatrix depth default matrix (Some (take (1 + 3 * depth) matrix))
 custom_spelled depth default matrix few values ends =
     (record { many = length-take-le (1 + 3 * depth) matrix (long_enough depth matrix few ends); small = matrix_fits-take (1 + 3 * depth) matrix values }, ends)
 
-matrix_spelled : (depth : ℕ) (default : Option (List ℕ)) (matrix : List ℕ) → depth ≤ 5 → IsTrue (matrix_fits matrix) → filled_matrix (used_entries depth matrix) ≡ matrix → SpellsMatrix depth default matrix (cond (is_default default matrix) None (Some (take (1 + 3 * depth) matrix)))
+matrix_spelled : (depth : ℕ) (default : Option (List ℕ)) (matrix : List ℕ) → depth ≤ 5 → IsTrue (matrix_fits matrix) → filled_matrix (used_entries 0 depth matrix) ≡ matrix → SpellsMatrix depth default matrix (cond (is_default default matrix) None (Some (take (1 + 3 * depth) matrix)))
 matrix_spelled depth None matrix few values ends = custom_spelled depth None matrix few values ends
 matrix_spelled depth (Some default) matrix few values ends = chosen (bytes_eq default matrix) refl
   where
@@ -73,7 +73,7 @@ parameters_again sequence p bytes behind plan shape written =
       slices = plan.slices;
       slice_bytes = plan.slice_bytes;
       matrix = matrix.0;
-      padded_luma = subst (λ (s : Shape). IsTrue (padded_luma_fits s p.depth)) (sym shape) plan.padded_luma;
+      padded_luma = subst (λ (s : Shape). IsTrue (padded_luma_fits s 0 p.depth)) (sym shape) plan.padded_luma;
     } in
     let value : spelled_parameters sequence (encoder_parameters p) ≡ p =
     ap (λ (m : List ℕ). parameters_with p (picture_shape sequence) p.wavelet 0 m) matrix.1

@@ -80,7 +80,7 @@ pub record AreParameters (sequence : Sequence) (s : ParameterSpelling) : Type 0 
   pub slices : IsTrue (slices_fit s.slices_x s.slices_y)
   pub slice_bytes : IsTrue (slice_bytes_fit s.prefix s.scaler)
   pub matrix : MatchOption s.matrix (IsSome (default_matrix s.wavelet s.depth)) (IsMatrix s.depth)
-  pub padded_luma : IsTrue (padded_luma_fits (picture_shape sequence) s.depth)
+  pub padded_luma : IsTrue (padded_luma_fits (picture_shape sequence) 0 s.depth)
 
 -- bytes begin with the parameters, of this value, of a picture of this sequence, and they take so many bytes
 abbrev pub BeginsWithParameters : Sequence → List ℕ → Parameters → ℕ → Type 0
@@ -104,5 +104,5 @@ encoder_parameters p = record {
   slices_y = p.slices_y;
   prefix = p.prefix;
   scaler = p.scaler;
-  matrix = if is_default (default_matrix p.wavelet p.depth) p.matrix then None else Some (used_entries p.depth p.matrix);
+  matrix = if is_default (default_matrix p.wavelet p.depth) p.matrix then None else Some (used_entries 0 p.depth p.matrix);
 }

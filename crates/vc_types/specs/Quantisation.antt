@@ -35,15 +35,19 @@ dequantised z index = with_sign_of z (dequantised_magnitude (unsigned_abs z) (qu
 unfoldable pub quantised : ℤ → ℕ → ℤ
 quantised z index = with_sign_of z (4 * unsigned_abs z / quant_factor index)
 
--- ---- matrices: LL, then HL, LH and HH of each level upwards
+-- ---- matrices: an entry for each subband, in the subbands' order
 
 -- 16 entries, of which those past the last subband are 0
 abbrev pub filled_matrix : List ℕ → List ℕ
 filled_matrix entries = take 16 (entries ++ replicate 16 0)
 
--- the entries that a depth uses
-abbrev pub used_entries : ℕ → List ℕ → List ℕ
-used_entries depth matrix = take (1 + 3 * depth) matrix
+-- how many subbands there are, with e levels across alone and d both ways: the lowest, then one and three for each level
+abbrev pub subband_count : ℕ → ℕ → ℕ
+subband_count e d = 1 + e + 3 * d
+
+-- the entries that the subbands use
+abbrev pub used_entries : ℕ → ℕ → List ℕ → List ℕ
+used_entries e d matrix = take (subband_count e d) matrix
 
 -- a level's three entries
 abbrev pub level_entries : ℕ → ℕ → ℕ → List ℕ

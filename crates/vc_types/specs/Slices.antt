@@ -64,11 +64,14 @@ coefficients_of s C2 = s.c2
 
 -- the quantisation index of each coefficient: the slice's less the subband's matrix value, and at least 0
 unfoldable pub quantisers : Parameters → Component → ℕ → ℕ → List ℕ
-quantisers p c slice index = flat_map (λ b. replicate (area (slice_rectangle p c b.1 slice)) (index - slice_index_or p.matrix b.0 0)) (enumerate_from 0 (subbands p.depth))
+quantisers p c slice index = flat_map
+    (λ b. replicate (area (slice_rectangle p c b.1 slice)) (index - slice_index_or p.matrix b.0 0))
+    (enumerate_from 0 (subbands p.depth_ho p.depth))
 
 -- the coefficients that a component's block stands for
 unfoldable pub block_coefficients : Parameters → Component → ℕ → ℕ → List ℕ → List ℤ
-block_coefficients p c slice index block = map (λ z. dequantised z.0 z.1) (zip (bounded_sints (slice_coefficient_count p c slice) (bits_of block)) (quantisers p c slice index))
+block_coefficients p c slice index block = map (λ z. dequantised z.0 z.1)
+    (zip (bounded_sints (slice_coefficient_count p c slice) (bits_of block)) (quantisers p c slice index))
 
 abbrev pub all_coefficients : Parameters → ℕ → CodedSlice → Coefficients
 all_coefficients p slice coded = record {

@@ -1,7 +1,7 @@
 -- Subbands and slices (ST 2042-1, subband data dimensions and slice coordinates). A component's coefficients stand in
--- a grid of the padded size with the subbands nested: LL at the corner, then HL to the right, LH below and HH across,
--- level by level.
-use Rattle.std.specs.Prelude.{◌≡◌, ◌<◌, ℕ, zero, suc, ◌+◌, ◌-◌, ◌*◌, ◌/◌, ◌%◌, ◌^◌, nat_lt, if◌then◌else◌, List, [], ◌∷◌, ◌++◌, map, slice_index_or}
+-- a grid of the padded size with the subbands nested: LL at the corner, then H to the right of what stands, level by
+-- level across alone, then HL to the right, LH below and HH across, level by level.
+use Rattle.std.specs.Prelude.{◌≡◌, ◌<◌, ℕ, zero, suc, ◌+◌, ◌-◌, ◌*◌, ◌/◌, ◌%◌, ◌^◌, min, nat_lt, if◌then◌else◌, List, [], ◌∷◌, ◌++◌, map, slice_index_or}
 use Rattle.std.specs.List.{sum_by}
 use Rattle.vc_types.specs.declared.rect.Rect.{Rect}
 use Rattle.vc_types.specs.declared.shape.Shape.{Shape}
@@ -27,16 +27,22 @@ plane_depth s Y = s.luma_depth
 plane_depth s C1 = s.colour_depth
 plane_depth s C2 = s.colour_depth
 
+-- the levels both ways and those across alone
+abbrev pub levels : Parameters → ℕ
+levels p = p.depth + p.depth_ho
+
 abbrev pub padded_width : Parameters → Component → ℕ
-padded_width p c = padded (plane_width p.shape c) p.depth
+padded_width p c = padded (plane_width p.shape c) (levels p)
 
 abbrev pub padded_height : Parameters → Component → ℕ
 padded_height p c = padded (plane_height p.shape c) p.depth
 
 -- ---- subbands
 
+-- Levels across alone have H; LL is the standard's L where there are such levels.
 pub data Orientation : Type 0 where
   LL : Orientation
+  H : Orientation
   HL : Orientation
   LH : Orientation
   HH : Orientation
@@ -49,18 +55,26 @@ pub record Subband : Type 0 where
 abbrev pub subband : ℕ → Orientation → Subband
 subband level orientation = record { level = level; orientation = orientation }
 
--- LL, then HL, LH and HH of each level upwards
-abbrev pub subbands : ℕ → List Subband
-subbands zero = subband 0 LL ∷ []
-subbands (suc level) = subbands level ++ subband (suc level) HL ∷ subband (suc level) LH ∷ subband (suc level) HH ∷ []
+-- LL, and H of each level across alone upwards
+abbrev pub subbands_across : ℕ → List Subband
+subbands_across zero = subband 0 LL ∷ []
+subbands_across (suc e) = subbands_across e ++ subband (suc e) H ∷ []
+
+abbrev pub both_ways : ℕ → List Subband
+both_ways level = subband level HL ∷ subband level LH ∷ subband level HH ∷ []
+
+-- the subbands of e levels across alone, then HL, LH and HH of each of d further levels upwards
+abbrev pub subbands : ℕ → ℕ → List Subband
+subbands e zero = subbands_across e
+subbands e (suc d) = subbands e d ++ both_ways (e + suc d)
 
 -- subband number b, in this order
-abbrev pub subband_at : ℕ → ℕ → Subband
-subband_at depth b = slice_index_or (subbands depth) b (subband 0 LL)
+abbrev pub subband_at : ℕ → ℕ → ℕ → Subband
+subband_at e d b = slice_index_or (subbands e d) b (subband 0 LL)
 
--- a side of the subbands of a level, where the padded plane has this side
-abbrev pub level_side : ℕ → ℕ → ℕ → ℕ
-level_side side depth level = side / 2 ^ (if nat_lt 0 level then depth + 1 - level else depth)
+-- a side of the subbands of a level, of so many levels, `most` of which have halved this side of the padded plane
+abbrev pub level_side : ℕ → ℕ → ℕ → ℕ → ℕ
+level_side side most levels level = side / 2 ^ min most (levels + 1 - level)
 
 abbrev pub rect : ℕ → ℕ → ℕ → ℕ → Rect
 rect x y width height = record { x = x; y = y; width = width; height = height }
@@ -68,12 +82,15 @@ rect x y width height = record { x = x; y = y; width = width; height = height }
 -- a subband's rectangle, of these sides
 abbrev pub nested : Orientation → ℕ → ℕ → Rect
 nested LL w h = rect 0 0 w h
+nested H w h = rect w 0 w h
 nested HL w h = rect w 0 w h
 nested LH w h = rect 0 h w h
 nested HH w h = rect w h w h
 
 abbrev pub subband_rectangle : Parameters → Component → Subband → Rect
-subband_rectangle p c b = nested b.orientation (level_side (padded_width p c) p.depth b.level) (level_side (padded_height p c) p.depth b.level)
+subband_rectangle p c b = nested b.orientation
+    (level_side (padded_width p c) (levels p) (levels p) b.level)
+    (level_side (padded_height p c) p.depth (levels p) b.level)
 
 -- ---- slices
 
@@ -93,11 +110,16 @@ share_start length n k = length * k / n
 
 -- the part of a rectangle that belongs to a column and a row of slices
 abbrev pub share : Rect → ℕ → ℕ → ℕ → ℕ → Rect
-share r across down column row = rect (r.x + share_start r.width across column) (r.y + share_start r.height down row) (share_start r.width across (column + 1) - share_start r.width across column) (share_start r.height down (row + 1) - share_start r.height down row)
+share r across down column row = rect
+    (r.x + share_start r.width across column)
+    (r.y + share_start r.height down row)
+    (share_start r.width across (column + 1) - share_start r.width across column)
+    (share_start r.height down (row + 1) - share_start r.height down row)
 
 -- the part of a subband that belongs to a slice
 unfoldable pub slice_rectangle : Parameters → Component → Subband → ℕ → Rect
-slice_rectangle p c b slice = share (subband_rectangle p c b) p.slices_x p.slices_y (slice_column p slice) (slice_row p slice)
+slice_rectangle p c b slice =
+    share (subband_rectangle p c b) p.slices_x p.slices_y (slice_column p slice) (slice_row p slice)
 
 -- ---- the places of a slice's coefficients: the subbands in order, and in each the slice's rectangle row by row
 
@@ -118,7 +140,7 @@ place_among [] i = (0, 0)
 place_among (r ∷ rs) i = if nat_lt i (area r) then place_in r i else place_among rs (i - area r)
 
 abbrev pub slice_rectangles : Parameters → Component → ℕ → List Rect
-slice_rectangles p c slice = map (λ b. slice_rectangle p c b slice) (subbands p.depth)
+slice_rectangles p c slice = map (λ b. slice_rectangle p c b slice) (subbands p.depth_ho p.depth)
 
 -- how many coefficients of a component a slice has
 unfoldable pub slice_coefficient_count : Parameters → Component → ℕ → ℕ
@@ -135,4 +157,5 @@ pub record IsMetOnce (p : Parameters) (c : Component) (x y : ℕ) : Type 0 where
   pub slice_below : slice < slice_count p
   pub number_below : number < slice_coefficient_count p c slice
   pub place : coefficient_place p c slice number ≡ (x, y)
-  pub only : (s i : ℕ) → s < slice_count p → i < slice_coefficient_count p c s → coefficient_place p c s i ≡ (x, y) → (s ≡ slice) × (i ≡ number)
+  pub only : (s i : ℕ) → s < slice_count p → i < slice_coefficient_count p c s
+      → coefficient_place p c s i ≡ (x, y) → (s ≡ slice) × (i ≡ number)

@@ -38,6 +38,13 @@ parameters_of p = record {
   matrix = p.matrix;
 }
 
+-- the transform is the same across as down: by the wavelet, and the wavelet and the levels across alone
+abbrev pub same_across : ℕ → ℕ × ℕ → Bool
+same_across wavelet across = across.0 == wavelet && across.1 == 0
+
+abbrev pub is_symmetric : Parameters → Bool
+is_symmetric p = same_across p.wavelet (p.wavelet_ho, p.depth_ho)
+
 abbrev pub ParamsField : Type 0 → Type 0
 ParamsField X = Field Bool ParamsRefusal X
 
@@ -105,12 +112,12 @@ transform_parameters sequence = do
   wavelet ← wavelet_index
   depth ← wavelet_depth
   across ← extended_parameters sequence.major wavelet depth
-  symmetric ← if across.0 == wavelet && across.1 == 0 then skip else refuse refusals.Asymmetric
+  symmetric ← if same_across wavelet across then skip else refuse refusals.Asymmetric
   slices ← slice_counts
   prefix ← prefix_bytes
   scaler ← size_scaler
   matrix ← quantisation_matrix wavelet depth
-  if padded_luma_fits (picture_shape sequence) depth then give (record {
+  if padded_luma_fits (picture_shape sequence) 0 depth then give (record {
     shape = picture_shape sequence;
     wavelet = wavelet;
     wavelet_ho = across.0;

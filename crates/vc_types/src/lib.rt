@@ -4,8 +4,10 @@
 mod choice;
 mod grid;
 mod header;
+mod laws;
 mod limits;
 mod memory;
+mod parse_codes;
 mod plan;
 mod plane;
 mod rect;
@@ -18,8 +20,15 @@ mod words;
 pub use choice::IndexChoice;
 pub use grid::Grid;
 pub use header::Header;
+pub use laws::{
+    headers_of_one_value_are_equal, parameters_of_one_value_are_equal, video_depths_are_least,
+};
 pub use limits::{dimensions_fit, padded, picture_height, slices_fit};
 pub use memory::NoMemory;
+pub use parse_codes::{
+    AUXILIARY_DATA, END_OF_SEQUENCE, HIGH_QUALITY_FRAGMENT, HIGH_QUALITY_PICTURE, PADDING_DATA,
+    SEQUENCE_HEADER,
+};
 pub use plan::Plan;
 pub use plane::Plane;
 pub use rect::Rect;

@@ -27,7 +27,7 @@ pub struct Plan {
     pub ghost no_levels_across: { depth_ho ≡ 0 },
     pub ghost slices: { IsTrue (slices_fit slices_x slices_y) },
     pub ghost slice_bytes: { IsTrue (slice_bytes_fit prefix scaler) },
-    pub ghost padded_luma: { IsTrue (padded_luma_fits shape depth) },
+    pub ghost padded_luma: { IsTrue (padded_luma_fits shape 0 depth) },
     pub ghost matrix_values: { IsTrue (matrix_fits matrix) },
-    pub ghost unused_entries: { filled_matrix (used_entries depth matrix) ≡ matrix },
+    pub ghost unused_entries: { filled_matrix (used_entries 0 depth matrix) ≡ matrix },
 }

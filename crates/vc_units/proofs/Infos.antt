@@ -3,7 +3,8 @@ use Rattle.std.proofs.Common.{◌≡◌, ℕ, ◌+◌, ◌<◌, List, ◌++◌, 
 use Rattle.std.proofs.lemmas.Bool.{lt-ltb}
 use Rattle.vc_types.specs.Fields.{Field, and_then, ◌>>=◌, give, next_items}
 use Rattle.vc_types.proofs.FieldCodecs.{and_then_ok, ok_is, next_items_codec}
-use Rattle.vc_units.specs.Units.{DataUnit, unit_length, code_of, body_length, settled, data_unit}
+use Rattle.vc_types.specs.DataUnits.{DataUnit, unit_length}
+use Rattle.vc_units.specs.Units.{code_of, body_length, settled, data_unit}
 use Rattle.vc_units.specs.declared.fault.UnitFault.{UnitFault}
 use Rattle.vc_units.specs.declared.fault.UnitFault.TheVariants.{Short}
 

@@ -1,6 +1,7 @@
 -- A stream worked by hand, and what is refused for what.
 use Rattle.std.proofs.Common.{◌≡◌, ℕ, List, [], ◌∷◌, ◌++◌, Ok, Err, refl, replicate}
-use Rattle.vc_units.specs.Units.{DataUnit, body_length, data_unit, units_within, parse_info, unit_bytes}
+use Rattle.vc_types.specs.DataUnits.{DataUnit, parse_info, unit_bytes}
+use Rattle.vc_units.specs.Units.{body_length, data_unit, units_within}
 use Rattle.vc_units.specs.declared.fault.UnitFault.TheVariants.{Prefix, Offset, Code, Short}
 
 -- a sequence header, one picture of 4 by 2 and an end of sequence

@@ -2,7 +2,8 @@
 use Rattle.std.proofs.Common.{◌≡◌, ℕ, zero, suc, ◌+◌, Bool, true, false, List, [], ◌∷◌, ◌++◌, length, Result, Ok, Err, refl, arith}
 use Rattle.std.specs.List.{sum_by}
 use Rattle.std.proofs.lemmas.List.Sums.{sum_by-cons}
-use Rattle.vc_units.specs.Units.{DataUnit, unit_length, is_end_of_sequence, data_unit, units_within}
+use Rattle.vc_types.specs.DataUnits.{DataUnit, unit_length, is_end_of_sequence}
+use Rattle.vc_units.specs.Units.{data_unit, units_within}
 use Rattle.vc_units.specs.declared.fault.UnitFault.{UnitFault}
 use Rattle.vc_units.specs.declared.fault.UnitFault.TheVariants.{Short}
 use Rattle.vc_units.proofs.Infos.{data_unit-stub, data_unit-length}

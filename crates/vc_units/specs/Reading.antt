@@ -1,7 +1,8 @@
 -- What reading a unit from a source did.
 use Rattle.std.specs.Prelude.{◌≡◌, ◌≢◌, ℕ, ◌+◌, List, [], ◌++◌, length, Option, Some, None, Result, Ok, Err}
 use Rattle.vc_ports.specs.Reading.{Gave, GaveAll}
-use Rattle.vc_units.specs.Units.{DataUnit, unit_length, data_unit}
+use Rattle.vc_types.specs.DataUnits.{DataUnit, unit_length}
+use Rattle.vc_units.specs.Units.{data_unit}
 use Rattle.vc_units.specs.declared.fault.UnitFault.{UnitFault}
 use Rattle.vc_units.specs.declared.fault.UnitFault.TheVariants.{Prefix, Offset, Code, Short, ReadFault, NoMemory}
 use Rattle.vc_units.specs.declared.unit.Unit as unit

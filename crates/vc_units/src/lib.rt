@@ -1,15 +1,15 @@
 //! Elementary streams: data units, each behind a parse info header of 13 bytes, read and written unit by unit.
 #![tactic(auto)]
 
-mod codes;
 mod fault;
+mod info;
 mod laws;
 mod reader;
 mod unit;
 mod writer;
 
-pub use codes::{END_OF_SEQUENCE, HIGH_QUALITY_PICTURE, PARSE_INFO_BYTES, SEQUENCE_HEADER};
 pub use fault::UnitFault;
+pub use info::PARSE_INFO_BYTES;
 pub use laws::written_unit_is_read;
 pub use reader::{UnitReader, next_unit};
 pub use unit::Unit;

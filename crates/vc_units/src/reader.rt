@@ -3,15 +3,15 @@ ghost use Rattle.vc_ports.specs.Faults.{HasCause};
 ghost use Rattle.vc_units.specs.Reading.{ReadsUnit, place_after, fault_after};
 ghost use Rattle.vc_units.specs.Units.{body_length};
 
-use crate::codes::{
-    AUXILIARY_DATA, END_OF_SEQUENCE, HIGH_QUALITY_PICTURE, PADDING_DATA, PARSE_INFO_BYTES,
-    PARSE_INFO_PREFIX, SEQUENCE_HEADER,
-};
 use crate::fault::UnitFault;
+use crate::info::{PARSE_INFO_BYTES, PARSE_INFO_PREFIX};
 use crate::unit::Unit;
 use byteorder::{BigEndian, ByteOrder};
 use std::alloc::Global;
 use vc_ports::{Filled, Source, fill};
+use vc_types::{
+    AUXILIARY_DATA, END_OF_SEQUENCE, HIGH_QUALITY_PICTURE, PADDING_DATA, SEQUENCE_HEADER,
+};
 
 // The most bytes that a unit may have.
 const LONGEST_UNIT: u32 = 268_435_456;

@@ -1,17 +1,18 @@
 ghost use Rattle.std.specs.Prelude.{◌≡◌, ◌++◌, [], OnOk, OnErr, IsTrue};
-ghost use Rattle.vc_units.specs.Units.{is_unit_code, parse_info, unit_bytes};
+ghost use Rattle.vc_types.specs.DataUnits.{is_unit_code, parse_info, unit_bytes};
+ghost use Rattle.vc_types.specs.ParseCodes.{end_code};
 
-use crate::codes::{END_OF_SEQUENCE, PARSE_INFO_BYTES, PARSE_INFO_PREFIX};
+use crate::info::{PARSE_INFO_BYTES, PARSE_INFO_PREFIX};
 use byteorder::{BigEndian, ByteOrder};
-use vc_types::NoMemory;
+use vc_types::{END_OF_SEQUENCE, NoMemory};
 
 /// Appends a data unit (ST 2042-1, data unit) behind a unit of `previous` bytes, 0 for the first. The code is one that
 /// `next_unit` accepts. The distance to the next unit is the unit's own length, its low 32 bits, and 0 in an end of
 /// sequence, which has no body. Where memory runs out, nothing is appended.
-#[tactic(auto, unfolding(crate::specs::Units::unit_bytes))]
+#[tactic(auto, unfolding(vc_types::specs::DataUnits::unit_bytes))]
 pub fn write_unit(out: &mut Vec<u8>, code: u8, body: &[u8], previous: u32) -> Result<(), NoMemory>
     requires code { IsTrue (is_unit_code code) }
-    requires body { code ≡ 0x10 → body.now ≡ [] }
+    requires body { code ≡ end_code → body.now ≡ [] }
     ensures ok { OnOk result (out.new.items ≡ out.old.items ++ unit_bytes code body.now previous) }
     ensures err { OnErr result (out.new.items ≡ out.old.items) }
 {
@@ -24,7 +25,7 @@ pub fn write_unit(out: &mut Vec<u8>, code: u8, body: &[u8], previous: u32) -> Re
 }
 
 // The 13 bytes before a body, with the low 32 bits of the distance to the next unit.
-#[tactic(auto, unfolding(crate::specs::Units::parse_info), using(crate::proofs::Written::low_bytes))]
+#[tactic(auto, unfolding(vc_types::specs::DataUnits::parse_info), using(crate::proofs::Written::low_bytes))]
 fn parse_info(code: u8, next: usize, previous: u32) -> [u8; PARSE_INFO_BYTES]
     ensures { result ≡ parse_info code next previous }
 {

@@ -8,10 +8,10 @@ use vc_types::{Component, Grid, Plan, Plane, Shape};
 
 fn plan(shape: Shape, wavelet: u8, depth: u8) -> Plan
     requires shape { IsTrue (shape_fits shape) }
-    requires padded { IsTrue (padded_luma_fits shape depth) }
+    requires padded { IsTrue (padded_luma_fits shape 0 depth) }
     requires wavelet { wavelet ≤ 6 }
     requires depth { (1 ≤ depth) × (depth ≤ 5) }
-    requires matrix { filled_matrix (used_entries depth (replicate 16 0)) ≡ replicate 16 0 }
+    requires matrix { filled_matrix (used_entries 0 depth (replicate 16 0)) ≡ replicate 16 0 }
     ensures { (result.shape ≡ shape) × (result.wavelet ≡ wavelet) × (result.depth ≡ depth) }
 {
     Plan {

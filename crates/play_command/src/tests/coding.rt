@@ -1,6 +1,6 @@
 ghost use Rattle.std.specs.Prelude.{◌<◌, ◌≤◌, ◌^◌, ◌≡◌, All, IsTrue, length, false};
 ghost use Rattle.std.specs.List.{list_any};
-ghost use Rattle.vc_slice.specs.Encoding.{AreCoefficients};
+ghost use Rattle.vc_types.specs.SliceCoefficients.{AreSliceCoefficients};
 ghost use Rattle.vc_types.specs.Slices.{coefficients_of, is_large};
 ghost use Rattle.vc_types.specs.Subbands.{slice_coefficient_count, slice_count};
 ghost use Rattle.vc_types.specs.TransformParameters.{parameters_of};
@@ -146,7 +146,7 @@ fn coefficients(
 
 fn fit(plan: &Plan, slice: u32, coeffs: &SliceCoeffs) -> bool
     requires { slice < slice_count (parameters_of plan.now) }
-    ensures { IsTrue result → AreCoefficients (parameters_of plan.now) slice coeffs.now }
+    ensures { IsTrue result → AreSliceCoefficients (parameters_of plan.now) slice coeffs.now }
 {
     component_fits(plan, slice, coeffs, Component::Y)
         && component_fits(plan, slice, coeffs, Component::C1)

@@ -1,6 +1,6 @@
 use Rattle.std.proofs.Common.{◌≡◌, replicate}
 use Rattle.std.specs.List.{flat_map}
-use Rattle.link_model.specs.Frames.{sample_bytes}
+use Rattle.vc_types.specs.RawFrames.{sample_bytes}
 use Rattle.decode_command.proofs.grey.grey_row.Given as goal
 
 abbrev pub invariant-loop : goal.invariant-loop

@@ -1,6 +1,6 @@
 use Rattle.std.proofs.Common.{ℕ, ◌∙◌, ap, arith, replicate}
 use Rattle.std.specs.List.{flat_map}
-use Rattle.link_model.specs.Frames.{sample_bytes}
+use Rattle.vc_types.specs.RawFrames.{sample_bytes}
 use Rattle.decode_command.proofs.GreyRows.{row_more, row_some}
 use Rattle.decode_command.proofs.grey.write_plane.Goals as goal
 

@@ -1,6 +1,6 @@
 use Rattle.std.proofs.Common.{rules, ◌≡◌, ◌^◌, ◌-◌, ◌+◌, ◌∙◌, refl, sym, ap, subst, arith, true, false}
 use Rattle.vc_units.specs.Reading.{unit_of}
-use Rattle.vc_units.specs.Units.{is_end_of_sequence}
+use Rattle.vc_types.specs.DataUnits.{is_end_of_sequence}
 use Rattle.play_command.specs.Steps.{Playing}
 use Rattle.play_command.specs.Stream.{nothing, behind}
 use Rattle.play_command.specs.Taking.{IsWithin}

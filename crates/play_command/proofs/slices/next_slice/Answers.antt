@@ -1,7 +1,7 @@
 use Rattle.std.proofs.Common.{rules, ◌∙◌, ap}
 use Rattle.vc_types.specs.Slices.{slice_coefficients}
 use Rattle.vc_types.specs.TransformParameters.{parameters_of}
-use Rattle.vc_slice.proofs.WholeSlices.{begins, whole_slice}
+use Rattle.vc_types.proofs.WholeSlices.{begins, whole_slice}
 use Rattle.vc_slice.specs.declared.job.SliceJob.{SliceJob}
 use Rattle.play_command.proofs.SliceRuns.{gave-short, gave-answer}
 use Rattle.play_command.proofs.slices.next_slice.Goals as goal

@@ -1,18 +1,22 @@
-use Rattle.std.proofs.Common.{◌+◌, ◌≤◌, arith, subst}
+use Rattle.std.proofs.Common.{◌+◌, ◌-◌, ◌/◌, ◌^◌, ◌≤◌, arith, subst, refl}
 use Rattle.vc_types.proofs.SubbandOrder.{subband-inside}
 use Rattle.vc_geometry.proofs.subbands.band.Goals as goal
 
 pub returns-clause-right : goal.returns-clause-right
 returns-clause-right c =
-    let across = c.quarter.ensures.across in
-    subst (λ side. c.quarter.result.x + c.quarter.result.width ≤ side) c.padded-width.ensures.width
-    (subband-inside c.padded-width.result.0 c.halvings-halvings.result c.args.b c.quarter.result.x c.quarter.result.width across.0 (omega (arith, across)) across.2 c.halvings-halvings.ensures.inner)
+    let halvings = c.halvings-halvings.result.0 in
+    let left = c.corner-x.ensures.left in
+    let width = c.padded-width.result.0 / 2 ^ halvings in
+    subst (λ side. c.corner-x.result.0 + width ≤ side) c.padded-width.ensures.width
+    (subband-inside c.padded-width.result.0 halvings c.args.b c.corner-x.result.0 width refl left.0 left.1 c.halvings-halvings.ensures.inner.0)
 
 pub returns-clause-bottom : goal.returns-clause-bottom
 returns-clause-bottom c =
-    let down = c.quarter.ensures.down in
-    subst (λ side. c.quarter.result.y + c.quarter.result.height ≤ side) c.padded-width.ensures.height
-    (subband-inside c.padded-width.result.1 c.halvings-halvings.result c.args.b c.quarter.result.y c.quarter.result.height down.0 (omega (arith, down)) down.2 c.halvings-halvings.ensures.inner)
+    let halvings = c.halvings-halvings.result.1 in
+    let top = c.corner-x.ensures.top in
+    let height = c.padded-width.result.1 / 2 ^ halvings in
+    subst (λ side. c.corner-x.result.1 + height ≤ side) c.padded-width.ensures.height
+    (subband-inside c.padded-width.result.1 halvings (c.args.b - c.args.plan.now.depth_ho) c.corner-x.result.1 height refl top.0 (λ e. top.1 (omega arith)) (λ up. c.halvings-halvings.ensures.inner.1 (omega arith)))
 
 pub returns-clause-range : goal.returns-clause-range
 returns-clause-range c =

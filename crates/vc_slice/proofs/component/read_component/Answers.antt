@@ -1,4 +1,5 @@
 use Rattle.std.proofs.Common.{rules, ◌+◌, ◌*◌, ◌<◌, refl, arith}
+use Rattle.vc_types.specs.Quantisation.{subband_count}
 use Rattle.vc_types.specs.TransformParameters.{parameters_of}
 use Rattle.vc_slice.proofs.BlockCoefficients.{none_read, subband_read, subband_large, all_read}
 use Rattle.vc_slice.proofs.component.read_component.Goals as goal
@@ -11,7 +12,7 @@ loop-b-init c = record {
 
 pub returns-in_err-read_subband-clause-large : goal.returns-in_err-read_subband-clause-large
 returns-in_err-read_subband-clause-large c = λ e.
-    let few : c.loop-b.b < 1 + 3 * c.args.plan.now.depth = omega arith in
+    let few : c.loop-b.b < subband_count c.args.plan.now.depth_ho c.args.plan.now.depth = omega arith in
     subband_large (parameters_of c.args.plan.now) c.args.c c.args.slice c.args.index c.loop-b.coeffs.items _ c.loop-b.b c.count-count.result c.quantiser-quantiser.result.index c.loop-b.bits few c.count-count.ensures.value c.quantiser-quantiser.ensures c.loop-b.invariant.read (c.in_err-read_subband.ensures.large (search rules))
 
 pub loop-b-preserved : goal.loop-b-preserved

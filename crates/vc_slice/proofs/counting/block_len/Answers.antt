@@ -1,4 +1,5 @@
 use Rattle.std.proofs.Common.{◌+◌, ◌*◌, ◌<◌, ℤ, List, length, sym, ap, ◌∙◌, arith}
+use Rattle.vc_types.specs.Quantisation.{subband_count}
 use Rattle.vc_types.specs.TransformParameters.{parameters_of}
 use Rattle.vc_slice.specs.Inside.{codes_behind}
 use Rattle.vc_slice.proofs.BlockCodes.{numbers_from, all_from, all_bits, none_from, no_more_codes, enough, rest_from, subband_from}
@@ -16,7 +17,7 @@ split_at-requires c = enough (parameters_of c.args.plan.now) c.args.slice c.args
 
 pub loop-b-preserved : goal.loop-b-preserved
 loop-b-preserved c =
-    let few : c.loop-b.b < 1 + 3 * c.args.plan.now.depth = omega arith in
+    let few : c.loop-b.b < subband_count c.args.plan.now.depth_ho c.args.plan.now.depth = omega arith in
     let next = subband_from (parameters_of c.args.plan.now) c.args.slice c.args.index c.args.c c.loop-b.b c.count.result c.quantiser.result.index c.loop-b.rest.now c.split_at.result.0.now c.split_at.result.1.now few c.count.ensures.value c.quantiser.ensures c.split_at.ensures.front c.split_at.ensures.back c.loop-b.invariant.rest in
     record {
       rest = rest_from (parameters_of c.args.plan.now) c.args.slice c.args.index c.args.c c.loop-b.b c.count.result c.loop-b.rest.now c.split_at.result.1.now few c.count.ensures.value c.split_at.ensures.back c.loop-b.invariant.rest;

@@ -1,6 +1,6 @@
 use Rattle.std.proofs.Common.{◌≡◌, ◌∙◌, ◌*◌, ◌++◌, Bool, List, length, sym, ap}
 use Rattle.vc_types.specs.TransformParameters.{parameters_of}
-use Rattle.vc_slice.specs.Encoding.{encoded_slice, encoded_length}
+use Rattle.vc_types.specs.Encoding.{encoded_slice, encoded_length}
 use Rattle.vc_slice.proofs.EncodedSlices.{some_scaler, length_slice, length_by, too_long_by, finished, length_finished}
 use Rattle.vc_slice.proofs.encoding.encode.Goals as goal
 

@@ -1,6 +1,6 @@
 use Rattle.vc_types.specs.TransformParameters.{parameters_of}
 use Rattle.vc_golomb.proofs.WrittenCodes.{on_ok}
-use Rattle.vc_slice.specs.Encoding.{component_bits}
+use Rattle.vc_types.specs.Encoding.{component_bits}
 use Rattle.vc_slice.proofs.EncodedSlices.{written_block}
 use Rattle.vc_slice.proofs.writing.write_block.Goals as goal
 

@@ -1,6 +1,6 @@
 use Rattle.std.proofs.Common.{◌≡◌, ◌++◌, ◌*◌, ◌^◌, ◌≤◌}
 use Rattle.vc_types.specs.TransformParameters.{parameters_of}
-use Rattle.vc_slice.specs.Encoding.{component_bits}
+use Rattle.vc_types.specs.Encoding.{component_bits}
 use Rattle.vc_slice.specs.Inside.{codes_behind}
 use Rattle.vc_slice.proofs.BlockCodes.{AreFrom, numbers_from}
 use Rattle.vc_slice.proofs.writing.write_codes.Given as goal

@@ -1,4 +1,5 @@
-use Rattle.std.proofs.Common.{◌≡◌, ◌*◌, ◌/◌, ◌^◌, ◌<◌, All, length, drop, arith, ap, sym, subst, ◌∙◌}
+use Rattle.std.proofs.Common.{◌≡◌, ◌+◌, ◌*◌, ◌/◌, ◌^◌, ◌<◌, All, length, drop, arith, ap, sym, subst, ◌∙◌}
+use Rattle.vc_types.specs.Limits.{padded}
 use Rattle.vc_types.specs.Subbands.{plane_width, plane_height}
 use Rattle.vc_types.specs.TransformParameters.{parameters_of}
 use Rattle.vc_types.specs.Transforms.{Cells}
@@ -12,7 +13,8 @@ use Rattle.vc_wave.proofs.analysis.forward.Goals as goal
 pub part_levels-requires-clause-some : goal.part_levels-requires-clause-some
 part_levels-requires-clause-some c =
     let depth = c.args.plan.now.depth in
-    let across = c.padded-width.ensures.width in
+    let none : depth + c.args.plan.now.depth_ho ≡ depth = omega (arith, c.args.plan.now.no_levels_across) in
+    let across = c.padded-width.ensures.width ∙ ap (padded (plane_width c.args.plan.now.shape c.args.c)) none in
     let down = c.padded-width.ensures.height in
     let w = padded_some (plane_width c.args.plan.now.shape c.args.c) depth (omega (arith, across)) in
     let h = padded_some (plane_height c.args.plan.now.shape c.args.c) depth (omega (arith, down)) in
@@ -21,9 +23,11 @@ part_levels-requires-clause-some c =
 pub part_levels-requires-clause-whole : goal.part_levels-requires-clause-whole
 part_levels-requires-clause-whole c =
     let depth = c.args.plan.now.depth in
+    let none : depth + c.args.plan.now.depth_ho ≡ depth = omega (arith, c.args.plan.now.no_levels_across) in
+    let across = c.padded-width.ensures.width ∙ ap (padded (plane_width c.args.plan.now.shape c.args.c)) none in
     let w = padded_whole (plane_width c.args.plan.now.shape c.args.c) depth in
     let h = padded_whole (plane_height c.args.plan.now.shape c.args.c) depth in
-    (subst (λ n. n / 2 ^ depth * 2 ^ depth ≡ n) (sym c.padded-width.ensures.width) w, subst (λ n. n / 2 ^ depth * 2 ^ depth ≡ n) (sym c.padded-width.ensures.height) h)
+    (subst (λ n. n / 2 ^ depth * 2 ^ depth ≡ n) (sym across) w, subst (λ n. n / 2 ^ depth * 2 ^ depth ≡ n) (sym c.padded-width.ensures.height) h)
 
 pub part_levels-requires-clause-small : goal.part_levels-requires-clause-small
 part_levels-requires-clause-small c =

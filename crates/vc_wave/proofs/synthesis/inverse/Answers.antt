@@ -1,4 +1,5 @@
-use Rattle.std.proofs.Common.{◌≡◌, ◌*◌, ◌/◌, ◌^◌, ◌<◌, length, drop, All, unsigned_abs, arith, ap, sym, subst, ◌∙◌}
+use Rattle.std.proofs.Common.{◌≡◌, ◌+◌, ◌*◌, ◌/◌, ◌^◌, ◌<◌, length, drop, All, unsigned_abs, arith, ap, sym, subst, ◌∙◌}
+use Rattle.vc_types.specs.Limits.{padded}
 use Rattle.vc_types.specs.Subbands.{plane_width, plane_height}
 use Rattle.vc_types.specs.TransformParameters.{parameters_of}
 use Rattle.vc_types.specs.Transforms.{Cells}
@@ -11,7 +12,8 @@ use Rattle.vc_wave.proofs.synthesis.inverse.Goals as goal
 pub merge_levels-requires-clause-some : goal.merge_levels-requires-clause-some
 merge_levels-requires-clause-some c =
     let depth = c.args.plan.now.depth in
-    let across = c.padded-width.ensures.width in
+    let none : depth + c.args.plan.now.depth_ho ≡ depth = omega (arith, c.args.plan.now.no_levels_across) in
+    let across = c.padded-width.ensures.width ∙ ap (padded (plane_width c.args.plan.now.shape c.args.c)) none in
     let down = c.padded-width.ensures.height in
     let w = padded_some (plane_width c.args.plan.now.shape c.args.c) depth (omega (arith, across)) in
     let h = padded_some (plane_height c.args.plan.now.shape c.args.c) depth (omega (arith, down)) in
