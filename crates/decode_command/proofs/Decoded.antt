@@ -22,14 +22,20 @@ EndsBy input place heard end = Ends input.left.before input.left.after place hea
 
 pub unbuilt : (input : InputChange) (output : OutputChange) (heard : List (List ℕ)) (place : ℕ) → HasNoForm heard → Reads input place heard [] → Stays output.held → Decodes ends.Unbuilt input output
 unbuilt input output heard place none gave silent = record {
-  heard = heard; rest = []; place = place; gave = gave;
+  heard = heard;
+  rest = [];
+  place = place;
+  gave = gave;
   outcome = subst (λ (frames : Option (List ℕ)). Outcome ends.Unbuilt input output frames []) (sym (no_form heard none)) (refl, silent);
 }
 
 module _ (input : InputChange) (output : OutputChange) (stage : Stage) (heard : List (List ℕ)) (stands : Stands stage heard) where
   decodes : (ended : Ended) (rest : List ℕ) (place : ℕ) → Reads input place heard rest → Outcome ended input output (Some (frames_at stage)) rest → Decodes ended input output
   decodes ended rest place gave outcome = record {
-    heard = heard; rest = rest; place = place; gave = gave;
+    heard = heard;
+    rest = rest;
+    place = place;
+    gave = gave;
     outcome = subst (λ (frames : Option (List ℕ)). Outcome ended input output frames rest) (sym (stands_frames stage heard stands)) outcome;
   }
 

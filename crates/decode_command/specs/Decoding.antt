@@ -1,5 +1,6 @@
 -- What decoding a capture did, by how it ended.
-use Rattle.std.specs.Prelude.{◌≡◌, ◌≢◌, ℕ, List, [], Option, Some, None}
+use Rattle.std.specs.Prelude.{◌≡◌, ◌≢◌, ℕ, List, [], Option, Some, None, IsSome}
+use Rattle.link_capture.specs.Capture.{entries_of}
 use Rattle.link_capture.specs.Endings.{GaveEntries}
 use Rattle.link_capture.specs.declared.fault.EntryFault.{EntryFault}
 use Rattle.link_capture.specs.declared.fault.EntryFault.TheVariants as faults
@@ -37,3 +38,8 @@ ended_by None = Done
 ended_by (Some (faults.Cut place)) = CaptureCut
 ended_by (Some faults.ReadFault) = InputFault
 ended_by (Some faults.NoMemory) = NoMemory
+
+-- the bytes of a capture end at an entry's edge, and its datagrams have the form
+pub record IsDecodable (bytes : List ℕ) : Type 0 where
+  pub at_edge : (entries_of bytes).1 ≡ []
+  pub form : IsSome (frames_of (entries_of bytes).0)

@@ -71,16 +71,22 @@ abbrev pub sent_lines : ℕ → ℕ → ℕ → List (List ℕ × ℕ)
 sent_lines frames datagrams bytes =
     (codes "frames", frames) ∷ (codes "datagrams", datagrams) ∷ (codes "bytes", bytes) ∷ []
 
+abbrev pub packed_lines : ℕ → ℕ → ℕ → List (List ℕ × ℕ)
+packed_lines pictures datagrams bytes =
+    (codes "pictures", pictures) ∷ (codes "datagrams", datagrams) ∷ (codes "bytes", bytes) ∷ []
+
+abbrev pub played_lines : ℕ → ℕ → ℕ → List (List ℕ × ℕ)
+played_lines pictures unpaired frames =
+    (codes "pictures", pictures) ∷ (codes "unpaired", unpaired) ∷ (codes "frames", frames) ∷ []
+
 -- the lines of a command that came to status 0
 unfoldable pub summary_lines : Summary → List (List ℕ × ℕ)
 summary_lines (Judged tally) = tally_lines tally
 summary_lines (Sent frames datagrams bytes) = sent_lines frames datagrams bytes
 summary_lines (Looped frames datagrams bytes tally) =
     sent_lines frames datagrams bytes ++ tally_lines tally
-summary_lines (Packed pictures datagrams bytes) =
-    (codes "pictures", pictures) ∷ (codes "datagrams", datagrams) ∷ (codes "bytes", bytes) ∷ []
-summary_lines (Played pictures unpaired frames) =
-    (codes "pictures", pictures) ∷ (codes "unpaired", unpaired) ∷ (codes "frames", frames) ∷ []
+summary_lines (Packed pictures datagrams bytes) = packed_lines pictures datagrams bytes
+summary_lines (Played pictures unpaired frames) = played_lines pictures unpaired frames
 summary_lines (Generated frames samples) = (codes "frames", frames) ∷ (codes "samples", samples) ∷ []
 summary_lines (Compared frames samples different) =
     (codes "frames", frames) ∷ (codes "samples", samples) ∷ (codes "different", different) ∷ []

@@ -1,6 +1,6 @@
 ghost use Rattle.std.specs.Prelude.{◌≡◌, OnOk, ◌++◌, map};
 ghost use Rattle.std.specs.String.{string_bytes};
-ghost use Rattle.link_report.specs.Report.{named, sent_lines};
+ghost use Rattle.link_report.specs.Report.{named, sent_lines, packed_lines, played_lines};
 
 use crate::counts::{Count, push_counts, tally_counts};
 use link_model::Tally;
@@ -79,26 +79,12 @@ impl Summary {
                 pictures,
                 datagrams,
                 bytes,
-            } => push_counts(
-                text,
-                &[
-                    Count("pictures", pictures),
-                    Count("datagrams", datagrams),
-                    Count("bytes", bytes),
-                ],
-            ),
+            } => push_counts(text, &packed(pictures, datagrams, bytes)),
             Summary::Played {
                 pictures,
                 unpaired,
                 frames,
-            } => push_counts(
-                text,
-                &[
-                    Count("pictures", pictures),
-                    Count("unpaired", unpaired),
-                    Count("frames", frames),
-                ],
-            ),
+            } => push_counts(text, &played(pictures, unpaired, frames)),
             Summary::Generated { frames, samples } => {
                 push_counts(text, &[Count("frames", frames), Count("samples", samples)])
             }
@@ -125,5 +111,25 @@ fn sent(frames: u64, datagrams: u64, bytes: u64) -> [Count; 3]
         Count("frames", frames),
         Count("datagrams", datagrams),
         Count("bytes", bytes),
+    ]
+}
+
+fn packed(pictures: u64, datagrams: u64, bytes: u64) -> [Count; 3]
+    ensures { map named result ≡ packed_lines pictures datagrams bytes }
+{
+    [
+        Count("pictures", pictures),
+        Count("datagrams", datagrams),
+        Count("bytes", bytes),
+    ]
+}
+
+fn played(pictures: u64, unpaired: u64, frames: u64) -> [Count; 3]
+    ensures { map named result ≡ played_lines pictures unpaired frames }
+{
+    [
+        Count("pictures", pictures),
+        Count("unpaired", unpaired),
+        Count("frames", frames),
     ]
 }
