@@ -1,17 +1,12 @@
 -- Datagrams: an RTP packet (RFC 3550, 5.1) whose payload is one of VC-2 (RFC 8450, 4). Each has its fields at their
 -- places, or the first refusal.
-use Rattle.std.specs.Prelude.{◌≡◌, ◌<◌, ◌≤◌, ◌⊎◌, ℕ, zero, suc, ◌+◌, ◌-◌, ◌*◌, ◌/◌, ◌%◌, ◌^◌, Bool, ◌&&◌, ◌||◌, not, List, [], ◌∷◌, ◌++◌, length, take, drop, slice_index, Result, Ok, Err, nat_lt, nat_le, ◌==◌, if◌then◌else◌}
-use Rattle.std.specs.Int.{w16, w32, to_be_bytes}
+use Rattle.std.specs.Prelude.{◌≡◌, ◌<◌, ◌≤◌, ◌⊎◌, ℕ, ◌+◌, ◌-◌, ◌*◌, ◌/◌, ◌%◌, ◌^◌, Bool, ◌&&◌, ◌||◌, not, List, [], ◌∷◌, ◌++◌, length, take, drop, slice_index, Result, Ok, Err, nat_lt, nat_le, ◌==◌, if◌then◌else◌}
+use Rattle.byteorder.specs.Endian.{big_bytes, big_number}
 use Rattle.vc_types.specs.ParseCodes.{header_code, end_code, auxiliary_code, padding_code, fragment_code}
 use Rattle.link_model.specs.declared.refusal.RtpRefusal.{RtpRefusal}
 use Rattle.link_model.specs.declared.refusal.RtpRefusal.TheVariants as rtp_refusals
 use Rattle.link_model.specs.declared.refusal.PayloadRefusal.{PayloadRefusal}
 use Rattle.link_model.specs.declared.refusal.PayloadRefusal.TheVariants as payload_refusals
-
--- the number in so many bytes from a place on, the highest first
-abbrev pub number_at : ℕ → ℕ → List ℕ → ℕ
-number_at zero place bytes = 0
-number_at (suc more) place bytes = slice_index bytes place * 256 ^ more + number_at more (suc place) bytes
 
 -- ==== RTP packets (RFC 3550, 5.1)
 
@@ -53,9 +48,14 @@ payload_type bytes = slice_index bytes 1 % 128
 abbrev pub csrc_end : List ℕ → ℕ
 csrc_end bytes = 12 + 4 * csrc_count bytes
 
--- where the header ends: an extension has a 16-bit word, its length in 16 bits, and that many 32-bit words
+-- an extension has a 16-bit word, its length in 16 bits, and that many 32-bit words
+abbrev pub extension_words : List ℕ → ℕ
+extension_words bytes = big_number 2 (drop (csrc_end bytes + 2) bytes)
+
+-- where the header ends
 unfoldable pub header_end : List ℕ → ℕ
-header_end bytes = if has_extension bytes then csrc_end bytes + 4 + 4 * number_at 2 (csrc_end bytes + 2) bytes else csrc_end bytes
+header_end bytes =
+    if has_extension bytes then csrc_end bytes + 4 + 4 * extension_words bytes else csrc_end bytes
 
 -- the last byte of a padded packet counts the padding, itself in it
 abbrev pub padding_count : List ℕ → ℕ
@@ -63,11 +63,13 @@ padding_count bytes = slice_index bytes (length bytes - 1)
 
 -- the padding has at least one byte, and no more than follow the header
 abbrev pub padding_fits : List ℕ → Bool
-padding_fits bytes = not (padding_count bytes == 0) && not (nat_lt (length bytes) (header_end bytes + padding_count bytes))
+padding_fits bytes =
+    not (padding_count bytes == 0) && nat_le (header_end bytes + padding_count bytes) (length bytes)
 
 -- the CSRC list and the extension end within the packet, and so does the padding
 unfoldable pub is_shaped : List ℕ → Bool
-is_shaped bytes = not (nat_lt (length bytes) (header_end bytes)) && (not (has_padding bytes) || padding_fits bytes)
+is_shaped bytes =
+    nat_le (header_end bytes) (length bytes) && (not (has_padding bytes) || padding_fits bytes)
 
 -- where the payload ends
 unfoldable pub payload_end : List ℕ → ℕ
@@ -80,9 +82,9 @@ unfoldable pub packet_fields : List ℕ → RtpPacket
 packet_fields bytes = record {
   marker = marker bytes;
   payload_type = payload_type bytes;
-  sequence = number_at 2 2 bytes;
-  timestamp = number_at 4 4 bytes;
-  ssrc = number_at 4 8 bytes;
+  sequence = big_number 2 (drop 2 bytes);
+  timestamp = big_number 4 (drop 4 bytes);
+  ssrc = big_number 4 (drop 8 bytes);
   from = header_end bytes;
   to = payload_end bytes;
 }
@@ -103,7 +105,9 @@ pub record RtpFits (p : RtpPacket) : Type 0 where
 
 -- a header of version 2 without CSRC list, extension or padding
 unfoldable pub rtp_header : RtpPacket → List ℕ
-rtp_header p = 128 ∷ (if p.marker then 128 + p.payload_type else p.payload_type) ∷ (to_be_bytes w16 p.sequence ++ (to_be_bytes w32 p.timestamp ++ to_be_bytes w32 p.ssrc))
+rtp_header p =
+    128 ∷ (if p.marker then 128 + p.payload_type else p.payload_type)
+    ∷ (big_bytes 2 p.sequence ++ (big_bytes 4 p.timestamp ++ big_bytes 4 p.ssrc))
 
 -- ==== payloads (RFC 8450, 4)
 
@@ -126,13 +130,13 @@ pub data PayloadValue : Type 0 where
 -- ---- the fields of every payload
 
 abbrev pub high_of : List ℕ → ℕ
-high_of bytes = number_at 2 0 bytes
+high_of bytes = big_number 2 bytes
 
 abbrev pub flags_of : List ℕ → ℕ
 flags_of bytes = slice_index bytes 2
 
-abbrev pub code_of : List ℕ → ℕ
-code_of bytes = slice_index bytes 3
+abbrev pub payload_code : List ℕ → ℕ
+payload_code bytes = slice_index bytes 3
 
 -- ---- the fields of a fragment
 
@@ -140,33 +144,46 @@ abbrev pub fragment_head : List ℕ → FragmentHead
 fragment_head bytes = record {
   high = high_of bytes;
   flags = flags_of bytes;
-  number = number_at 4 4 bytes;
-  prefix = number_at 2 8 bytes;
-  scaler = number_at 2 10 bytes;
+  number = big_number 4 (drop 4 bytes);
+  prefix = big_number 2 (drop 8 bytes);
+  scaler = big_number 2 (drop 10 bytes);
 }
 
 abbrev pub fragment_length : List ℕ → ℕ
-fragment_length bytes = number_at 2 12 bytes
+fragment_length bytes = big_number 2 (drop 12 bytes)
 
-abbrev pub slice_count : List ℕ → ℕ
-slice_count bytes = number_at 2 14 bytes
+abbrev pub fragment_slices : List ℕ → ℕ
+fragment_slices bytes = big_number 2 (drop 14 bytes)
+
+-- the column and the row of the first slice
+abbrev pub fragment_x : List ℕ → ℕ
+fragment_x bytes = big_number 2 (drop 16 bytes)
+
+abbrev pub fragment_y : List ℕ → ℕ
+fragment_y bytes = big_number 2 (drop 18 bytes)
 
 -- where the parameters or the slices begin
 abbrev pub body_place : List ℕ → ℕ
-body_place bytes = if slice_count bytes == 0 then 16 else 20
+body_place bytes = if fragment_slices bytes == 0 then 16 else 20
 
 abbrev pub fragment_body : List ℕ → List ℕ
 fragment_body bytes = take (fragment_length bytes) (drop (body_place bytes) bytes)
 
 -- the head and the body end within the payload
 unfoldable pub fragment_fits : List ℕ → Bool
-fragment_fits bytes = nat_le 16 (length bytes) && nat_le (body_place bytes + fragment_length bytes) (length bytes)
+fragment_fits bytes =
+    nat_le 16 (length bytes) && nat_le (body_place bytes + fragment_length bytes) (length bytes)
+
+abbrev pub slices_value : List ℕ → PayloadValue
+slices_value bytes =
+    Slices (fragment_head bytes) (fragment_slices bytes) (fragment_x bytes) (fragment_y bytes) 20
+    (fragment_body bytes)
 
 -- transform parameters where no slices are told, else slices
 unfoldable pub fragment_value : List ℕ → PayloadValue
 fragment_value bytes =
-    if slice_count bytes == 0 then Params (fragment_head bytes) 16 (fragment_body bytes)
-    else Slices (fragment_head bytes) (slice_count bytes) (number_at 2 16 bytes) (number_at 2 18 bytes) 20 (fragment_body bytes)
+    if fragment_slices bytes == 0 then Params (fragment_head bytes) 16 (fragment_body bytes)
+    else slices_value bytes
 
 -- ---- reading and writing
 
@@ -176,17 +193,22 @@ is_known_code code =
     code == header_code || code == end_code || code == auxiliary_code || code == padding_code
     || code == fragment_code
 
+abbrev pub fragment_payload : List ℕ → Result PayloadValue PayloadRefusal
+fragment_payload bytes =
+    if fragment_fits bytes then Ok (fragment_value bytes) else Err payload_refusals.Fragment
+
 abbrev pub coded_payload : ℕ → List ℕ → Result PayloadValue PayloadRefusal
 coded_payload code bytes =
     if code == header_code then Ok (Header (high_of bytes) 4 (drop 4 bytes))
     else (if code == end_code then Ok (End (high_of bytes))
     else (if code == auxiliary_code || code == padding_code then Ok (Skip (high_of bytes) code)
-    else (if code == fragment_code then
-    (if fragment_fits bytes then Ok (fragment_value bytes) else Err payload_refusals.Fragment)
+    else (if code == fragment_code then fragment_payload bytes
     else Err payload_refusals.Code)))
 
 unfoldable pub payload : List ℕ → Result PayloadValue PayloadRefusal
-payload bytes = if nat_lt (length bytes) 4 then Err payload_refusals.Short else coded_payload (code_of bytes) bytes
+payload bytes =
+    if nat_lt (length bytes) 4 then Err payload_refusals.Short
+    else coded_payload (payload_code bytes) bytes
 
 -- each field has its number of bits
 pub record HeadFits (head : FragmentHead) : Type 0 where
@@ -195,13 +217,21 @@ pub record HeadFits (head : FragmentHead) : Type 0 where
   pub prefix : head.prefix < 2 ^ 16
   pub scaler : head.scaler < 2 ^ 16
 
--- each field has its number of bits, there is a slice, and what is skipped has one of the two codes
+-- how many slices, at least one, and where they begin
+pub record RunFits (count x y : ℕ) : Type 0 where
+  pub some : 1 ≤ count
+  pub counted : count < 2 ^ 16
+  pub column : x < 2 ^ 16
+  pub row : y < 2 ^ 16
+
+-- each field has its number of bits, and what is skipped has one of the two codes
 abbrev pub IsWritable : PayloadValue → Type 0
 IsWritable (Header high from body) = high < 2 ^ 16
 IsWritable (End high) = high < 2 ^ 16
 IsWritable (Skip high code) = (high < 2 ^ 16) × ((code ≡ auxiliary_code) ⊎ (code ≡ padding_code))
 IsWritable (Params head from body) = HeadFits head × (length body < 2 ^ 16)
-IsWritable (Slices head count x y from body) = HeadFits head × (1 ≤ count) × (count < 2 ^ 16) × (x < 2 ^ 16) × (y < 2 ^ 16) × (length body < 2 ^ 16)
+IsWritable (Slices head count x y from body) =
+    HeadFits head × RunFits count x y × (length body < 2 ^ 16)
 
 -- what is read where a payload is written and other bytes follow: its body stands behind its head, and a sequence
 -- header, whose length isn't told, goes on to the end
@@ -214,12 +244,14 @@ read_back (Slices head count x y from body) behind = Slices head count x y 20 bo
 
 -- the first four bytes
 unfoldable pub payload_head : ℕ → ℕ → ℕ → List ℕ
-payload_head high flags code = to_be_bytes w16 high ++ (flags ∷ code ∷ [])
+payload_head high flags code = big_bytes 2 high ++ (flags ∷ code ∷ [])
 
 -- the first sixteen bytes of a fragment
 unfoldable pub fragment_bytes : FragmentHead → ℕ → ℕ → List ℕ
 fragment_bytes head bytes slices =
-    payload_head head.high head.flags fragment_code ++ (to_be_bytes w32 head.number ++ (to_be_bytes w16 head.prefix ++ (to_be_bytes w16 head.scaler ++ (to_be_bytes w16 bytes ++ to_be_bytes w16 slices))))
+    payload_head head.high head.flags fragment_code
+    ++ (big_bytes 4 head.number ++ (big_bytes 2 head.prefix
+    ++ (big_bytes 2 head.scaler ++ (big_bytes 2 bytes ++ big_bytes 2 slices))))
 
 -- what a payload is written as
 unfoldable pub payload_bytes : PayloadValue → List ℕ
@@ -227,4 +259,5 @@ payload_bytes (Header high from body) = payload_head high 0 header_code ++ body
 payload_bytes (End high) = payload_head high 0 end_code
 payload_bytes (Skip high code) = payload_head high 0 code
 payload_bytes (Params head from body) = fragment_bytes head (length body) 0 ++ body
-payload_bytes (Slices head count x y from body) = fragment_bytes head (length body) count ++ (to_be_bytes w16 x ++ (to_be_bytes w16 y ++ body))
+payload_bytes (Slices head count x y from body) =
+    fragment_bytes head (length body) count ++ (big_bytes 2 x ++ (big_bytes 2 y ++ body))

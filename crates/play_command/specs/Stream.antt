@@ -5,7 +5,7 @@ use Rattle.std.specs.Option.{option_map, option_map_or}
 use Rattle.std.specs.List.{flat_map}
 use Rattle.vc_types.specs.RawFrames.{is_wide, frame_bytes}
 use Rattle.vc_types.specs.FieldPairs.{woven}
-use Rattle.link_model.specs.Packets.{number_at}
+use Rattle.byteorder.specs.Endian.{big_number}
 use Rattle.vc_types.specs.ParseCodes.{header_code, picture_code}
 use Rattle.vc_types.specs.Planes.{Planes, decoded_planes}
 use Rattle.vc_types.specs.SameValues.{same_sequence}
@@ -35,7 +35,7 @@ with_header stream (Err refusal) = None
 
 -- the picture of a unit's body: its number in 4 bytes, the transform parameters and the slices
 unfoldable pub picture_in : Sequence → List ℕ → Option Picture
-picture_in sequence body = if nat_lt (length body) 4 then None else option_map (λ planes. record { number = number_at 4 0 body; planes = planes }) (decoded_planes sequence (drop 4 body))
+picture_in sequence body = if nat_lt (length body) 4 then None else option_map (λ planes. record { number = big_number 4 body; planes = planes }) (decoded_planes sequence (drop 4 body))
 
 abbrev pub with_picture : Stream → Picture → Stream
 with_picture stream p = record { sequence = stream.sequence; pictures = stream.pictures ++ p ∷ [] }

@@ -1,12 +1,10 @@
 //! RTP headers (RFC 3550, 5.1), read out of datagrams and written in front of payloads.
 #![tactic(auto)]
 
-mod laws;
 mod read;
 mod view;
 mod write;
 
-pub use laws::written_rtp_is_read;
 pub use link_model::RtpRefusal;
 pub use read::read_rtp;
 pub use view::RtpView;

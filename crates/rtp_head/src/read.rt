@@ -1,6 +1,6 @@
 ghost use Rattle.std.specs.Prelude.{◌≡◌, ◌+◌, ◌≤◌, ◌<◌, ◌↔◌, ◌≢◌, length, IfOk, IfSome, IsNone, IsSome, IsTrue, IsFalse, MatchOption};
 ghost use Rattle.vc_types.specs.Fields.{Answers};
-ghost use Rattle.link_model.specs.Packets.{number_at, version, has_padding, has_extension, csrc_count, marker, payload_type, header_end, padding_count, payload_end, is_shaped, packet_fields, rtp_packet};
+ghost use Rattle.link_model.specs.Packets.{version, has_padding, has_extension, csrc_count, marker, payload_type, header_end, padding_count, payload_end, is_shaped, packet_fields, rtp_packet};
 ghost use Rattle.rtp_head.specs.Views.{packet_of};
 
 use crate::view::RtpView;
@@ -9,20 +9,6 @@ use link_model::RtpRefusal;
 
 // The bytes of a header without CSRC list or extension.
 const FIXED_BYTES: usize = 12;
-
-fn number_16(bytes: &[u8], place: usize) -> u16
-    requires { place + 2 ≤ length bytes.now }
-    ensures { result ≡ number_at 2 place bytes.now }
-{
-    BigEndian::read_u16(&bytes[place..])
-}
-
-fn number_32(bytes: &[u8], place: usize) -> u32
-    requires { place + 4 ≤ length bytes.now }
-    ensures { result ≡ number_at 4 place bytes.now }
-{
-    BigEndian::read_u32(&bytes[place..])
-}
 
 fn version(bytes: &[u8]) -> u8
     requires { 1 ≤ length bytes.now }
@@ -80,7 +66,7 @@ fn header_end(bytes: &[u8]) -> Option<usize>
         if bytes.len() < csrc_end + 4 {
             return None;
         }
-        end = csrc_end + 4 + 4 * usize::from(number_16(bytes, csrc_end + 2));
+        end = csrc_end + 4 + 4 * usize::from(BigEndian::read_u16(&bytes[csrc_end + 2..]));
     }
     if end <= bytes.len() { Some(end) } else { None }
 }
@@ -131,9 +117,9 @@ pub fn read_rtp(bytes: &[u8]) -> Result<RtpView, RtpRefusal>
     Ok(RtpView {
         marker: marker(bytes),
         payload_type: payload_type(bytes),
-        sequence: number_16(bytes, 2),
-        timestamp: number_32(bytes, 4),
-        ssrc: number_32(bytes, 8),
+        sequence: BigEndian::read_u16(&bytes[2..]),
+        timestamp: BigEndian::read_u32(&bytes[4..]),
+        ssrc: BigEndian::read_u32(&bytes[8..]),
         from,
         to,
     })

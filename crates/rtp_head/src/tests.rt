@@ -104,7 +104,6 @@ fn takes_padding_up_to_the_header(rt: HostRuntime) {
 
 #[test]
 fn writes_what_is_sent(rt: HostRuntime) {
-    written_rtp_is_read();
     let mut out = [0xFF; 12];
     write_rtp(
         &RtpView {

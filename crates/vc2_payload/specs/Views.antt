@@ -9,12 +9,12 @@ use Rattle.vc2_payload.specs.declared.payload.Payload.TheVariants.{Header, End, 
 abbrev pub head_of : FragmentHead → packets.FragmentHead
 head_of h = record { high = h.high; flags = h.flags; number = h.number; prefix = h.prefix; scaler = h.scaler }
 
-abbrev pub value_of : Payload → PayloadValue
-value_of (Header high from body) = packets.Header high from body.now
-value_of (End high) = packets.End high
-value_of (Skip high code) = packets.Skip high code
-value_of (Params head from body) = packets.Params (head_of head) from body.now
-value_of (Slices head count x y from body) = packets.Slices (head_of head) count x y from body.now
+abbrev pub payload_value : Payload → PayloadValue
+payload_value (Header high from body) = packets.Header high from body.now
+payload_value (End high) = packets.End high
+payload_value (Skip high code) = packets.Skip high code
+payload_value (Params head from body) = packets.Params (head_of head) from body.now
+payload_value (Slices head count x y from body) = packets.Slices (head_of head) count x y from body.now
 
 -- the body is what stands at a place of the bytes
 abbrev pub StandsAt : List ℕ → ℕ → List ℕ → Type 0

@@ -1,12 +1,10 @@
 //! Payloads of VC-2 in RTP packets (RFC 8450, 4), read out of datagrams and written into them.
 #![tactic(auto)]
 
-mod laws;
 mod payload;
 mod read;
 mod write;
 
-pub use laws::written_payload_is_read;
 pub use link_model::PayloadRefusal;
 pub use payload::{FragmentHead, Payload};
 pub use read::read_payload;

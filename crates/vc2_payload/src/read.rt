@@ -1,8 +1,9 @@
 ghost use Rattle.std.specs.Prelude.{◌≡◌, ◌+◌, ◌-◌, ◌≤◌, ◌<◌, ◌↔◌, ◌≢◌, ◌&&◌, length, take, drop, IfOk, IfSome, IsNone, IsSome, IsTrue, IsFalse, nat_le};
+ghost use Rattle.byteorder.specs.Endian.{big_number};
 ghost use Rattle.vc_types.specs.Fields.{Answers};
 ghost use Rattle.vc_types.specs.ParseCodes.{fragment_code};
-ghost use Rattle.link_model.specs.Packets.{number_at, code_of, fragment_fits, fragment_value, fragment_head, is_known_code, payload};
-ghost use Rattle.vc2_payload.specs.Views.{head_of, value_of, HasBodyIn, CanBeWritten};
+ghost use Rattle.link_model.specs.Packets.{payload_code, fragment_fits, fragment_value, fragment_head, is_known_code, payload};
+ghost use Rattle.vc2_payload.specs.Views.{head_of, payload_value, HasBodyIn, CanBeWritten};
 
 use crate::payload::{FragmentHead, Payload};
 use byteorder::{BigEndian, ByteOrder};
@@ -20,16 +21,9 @@ const SLICES_BYTES: usize = 20;
 
 fn number_16(bytes: &[u8], place: usize) -> u16
     requires { place + 2 ≤ length bytes.now }
-    ensures { result ≡ number_at 2 place bytes.now }
+    ensures { result ≡ big_number 2 (drop place bytes.now) }
 {
     BigEndian::read_u16(&bytes[place..])
-}
-
-fn number_32(bytes: &[u8], place: usize) -> u32
-    requires { place + 4 ≤ length bytes.now }
-    ensures { result ≡ number_at 4 place bytes.now }
-{
-    BigEndian::read_u32(&bytes[place..])
 }
 
 fn fragment_head(bytes: &[u8]) -> FragmentHead
@@ -37,9 +31,9 @@ fn fragment_head(bytes: &[u8]) -> FragmentHead
     ensures { head_of result ≡ fragment_head bytes.now }
 {
     FragmentHead {
-        high: number_16(bytes, 0),
+        high: BigEndian::read_u16(bytes),
         flags: bytes[2],
-        number: number_32(bytes, 4),
+        number: BigEndian::read_u32(&bytes[4..]),
         prefix: number_16(bytes, 8),
         scaler: number_16(bytes, 10),
     }
@@ -48,7 +42,7 @@ fn fragment_head(bytes: &[u8]) -> FragmentHead
 #[tactic(auto, unfolding(link_model::specs::Packets::fragment_fits, link_model::specs::Packets::fragment_value))]
 fn fragment(bytes: &[u8]) -> Option<Payload<'_>>
     ensures fits { IsSome result ↔ IsTrue (fragment_fits bytes.now) }
-    ensures value { IfSome result (λ p. value_of p ≡ fragment_value bytes.now) }
+    ensures value { IfSome result (λ p. payload_value p ≡ fragment_value bytes.now) }
     ensures place { IfSome result (HasBodyIn bytes.now) }
     ensures writable { IfSome result CanBeWritten }
 {
@@ -84,18 +78,18 @@ fn fragment(bytes: &[u8]) -> Option<Payload<'_>>
 /// contents of codes 20 and 30.
 #[tactic(auto, unfolding(link_model::specs::Packets::payload))]
 pub fn read_payload(bytes: &[u8]) -> Result<Payload<'_>, PayloadRefusal>
-    ensures value { Answers value_of result (payload bytes.now) }
+    ensures value { Answers payload_value result (payload bytes.now) }
     ensures place { IfOk result (HasBodyIn bytes.now) }
     ensures writable { IfOk result CanBeWritten }
 
     ensures short_exactly { (result ≡ Err PayloadRefusal.Short) ↔ (length bytes.now < 4) }
-    ensures code_exactly { (result ≡ Err PayloadRefusal.Code) ↔ ((4 ≤ length bytes.now) × IsFalse (is_known_code (code_of bytes.now))) }
-    ensures fragment_exactly { (result ≡ Err PayloadRefusal.Fragment) ↔ ((4 ≤ length bytes.now) × (code_of bytes.now ≡ fragment_code) × IsFalse (fragment_fits bytes.now)) }
+    ensures code_exactly { (result ≡ Err PayloadRefusal.Code) ↔ ((4 ≤ length bytes.now) × IsFalse (is_known_code (payload_code bytes.now))) }
+    ensures fragment_exactly { (result ≡ Err PayloadRefusal.Fragment) ↔ ((4 ≤ length bytes.now) × (payload_code bytes.now ≡ fragment_code) × IsFalse (fragment_fits bytes.now)) }
 {
     if bytes.len() < HEAD_BYTES {
         return Err(PayloadRefusal::Short);
     }
-    let high = number_16(bytes, 0);
+    let high = BigEndian::read_u16(bytes);
     match bytes[3] {
         SEQUENCE_HEADER => {
             let (_, body) = bytes.split_at(HEAD_BYTES);

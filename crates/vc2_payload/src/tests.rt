@@ -151,7 +151,6 @@ fn wants_a_whole_fragment_head(rt: HostRuntime) {
 
 #[test]
 fn writes_what_was_read(rt: HostRuntime) -> Result<(), Fail> {
-    written_payload_is_read();
     let skipped = [0xAB, 0xCD, 0, 0x30];
     let all = [
         &SENT_HEADER[..],

@@ -1,7 +1,7 @@
 ghost use Rattle.std.specs.Prelude.{◌≡◌, ◌++◌, OnOk, OnErr, length};
-ghost use Rattle.std.specs.Int.{w16, to_be_bytes};
+ghost use Rattle.byteorder.specs.Endian.{big_bytes};
 ghost use Rattle.link_model.specs.Packets.{payload_head, fragment_bytes, payload_bytes};
-ghost use Rattle.vc2_payload.specs.Views.{head_of, value_of, CanBeWritten};
+ghost use Rattle.vc2_payload.specs.Views.{head_of, payload_value, CanBeWritten};
 
 use crate::payload::{FragmentHead, Payload};
 use byteorder::{BigEndian, ByteOrder};
@@ -40,7 +40,7 @@ fn fragment_bytes(head: &FragmentHead, len: u16, slices: u16) -> [u8; 16]
 
 // The offsets of the first slice.
 fn offset_bytes(x: u16, y: u16) -> [u8; 4]
-    ensures { result ≡ to_be_bytes w16 x ++ to_be_bytes w16 y }
+    ensures { result ≡ big_bytes 2 x ++ big_bytes 2 y }
 {
     let mut bytes = [0; 4];
     let (across, down) = bytes.split_at_mut(2);
@@ -68,7 +68,7 @@ fn append(out: &mut Vec<u8>, head: &[u8], offsets: &[u8], body: &[u8]) -> Result
 #[tactic(auto, unfolding(link_model::specs::Packets::payload_bytes))]
 pub fn write_payload(out: &mut Vec<u8>, p: &Payload<'_>) -> Result<(), NoMemory>
     requires { CanBeWritten p.now }
-    ensures value { OnOk result (out.new.items ≡ out.old.items ++ payload_bytes (value_of p.now)) }
+    ensures value { OnOk result (out.new.items ≡ out.old.items ++ payload_bytes (payload_value p.now)) }
     ensures unchanged { OnErr result (out.new.items ≡ out.old.items) }
 {
     match p {

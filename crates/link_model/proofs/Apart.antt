@@ -1,0 +1,95 @@
+-- The numbers of a session are above all of the earlier ones.
+use Rattle.std.proofs.Common.{◌≡◌, ℕ, ◌+◌, ◌%◌, ◌^◌, ◌<◌, ◌≤◌, Bool, true, false, List, [], ◌∷◌, ◌++◌, refl, ap, sym, subst, ◌∙◌, inl, inr, arith}
+use Rattle.std.specs.Prelude.{◌⊎◌, ◌||◌, fold}
+use Rattle.std.proofs.lemmas.Bool.{cases_Bool, cases_lt, both_ways}
+use Rattle.link_model.specs.Numbers.{Numbered, greatest, base_above, picture_number, is_late, is_opened, has_parts, enters, entered, parts_of}
+use Rattle.link_model.specs.Output.{greatest_of, entered_behind, is_opened_in}
+use Rattle.link_model.specs.Session.{Part, Fragment, HeardSession}
+use Rattle.link_model.proofs.Numbering.{greatest-append, parts_of-append, parts_of-other, parts_of-outside, early_is, late_changes_nothing, early_enters}
+
+-- ---- where numbers begin: the least multiple of 2 ^ 32 that is more than 8 above
+
+pub base_is_above : (number : ℕ) → number + 8 < base_above number
+unfolding base_above
+base_is_above number = omega arith
+
+pub base_is_near : (number : ℕ) → base_above number ≤ number + 8 + 2 ^ 32
+unfolding base_above
+base_is_near number = omega arith
+
+pub base_is_multiple : (number : ℕ) → base_above number % 2 ^ 32 ≡ 0
+unfolding base_above
+base_is_multiple number = omega arith
+
+-- ---- nothing enters with a number of the earlier sessions
+
+module _ (number window n : ℕ) (small : window ≤ 8) (low : n ≤ number) where
+  abbrev IsAbove : List Numbered → Type 0
+  IsAbove es = (es ≡ []) ⊎ ((base_above number ≤ greatest es) × (parts_of n es ≡ []))
+
+  one_more : (es : List Numbered) (e : Numbered) → base_above number ≤ greatest (es ++ e ∷ []) → parts_of n es ≡ [] → number < e.number
+      → (base_above number ≤ greatest (es ++ e ∷ [])) × (parts_of n (es ++ e ∷ []) ≡ [])
+  one_more es e above none high = (
+    above,
+    parts_of-append n es (e ∷ []) ∙ ap (λ (l : List Part). l ++ parts_of n (e ∷ [])) none ∙ parts_of-other n e (λ same. omega (arith, same, high, low)),
+  )
+
+  no_parts : parts_of n [] ≡ []
+  unfolding parts_of
+  no_parts = refl
+
+  first_number : (bits : ℕ) → picture_number (base_above number) [] bits ≡ base_above number + bits
+  unfolding picture_number
+  first_number bits = refl
+
+  one_number : (e : Numbered) → e.number ≤ greatest (e ∷ [])
+  unfolding greatest
+  one_number e = omega arith
+
+  adds : (es : List Numbered) (f : Fragment) → IsAbove es → greatest es < picture_number (base_above number) es f.number + window
+      → (base_above number ≤ greatest (es ++ record { number = picture_number (base_above number) es f.number; part = f.part } ∷ []))
+      × (parts_of n (es ++ record { number = picture_number (base_above number) es f.number; part = f.part } ∷ []) ≡ [])
+  adds es f (inl none) early = subst
+      (λ (es : List Numbered). (base_above number ≤ greatest (es ++ record { number = picture_number (base_above number) es f.number; part = f.part } ∷ []))
+      × (parts_of n (es ++ record { number = picture_number (base_above number) es f.number; part = f.part } ∷ []) ≡ []))
+      (sym none)
+      (let e : Numbered = record { number = picture_number (base_above number) [] f.number; part = f.part } in
+      one_more [] e (omega (arith, one_number e, first_number f.number)) no_parts (omega (arith, first_number f.number, base_is_above number)))
+  adds es f (inr above) early =
+      let e : Numbered = record { number = picture_number (base_above number) es f.number; part = f.part } in
+      one_more es e (omega (arith, greatest-append es (e ∷ []), above.0)) above.1 (omega (arith, above.0, early, small, base_is_above number))
+
+  enters_above : (es : List Numbered) (f : Fragment) → IsAbove es → IsAbove (enters (base_above number) window es f)
+  enters_above es f above = elim (cases_Bool (is_late window es (picture_number (base_above number) es f.number))) [
+    | inl late ↦ subst IsAbove (sym (late_changes_nothing (base_above number) window es f late)) above
+    | inr early ↦ subst IsAbove (sym (early_enters (base_above number) window es f early)) (inr (adds es f above (early_is window es (picture_number (base_above number) es f.number) early)))
+  ]
+
+  all_above : (es : List Numbered) (fragments : List Fragment) → IsAbove es → IsAbove (fold (enters (base_above number) window) es fragments)
+  all_above es [] above = above
+  all_above es (f ∷ fragments) above = all_above (enters (base_above number) window es f) fragments (enters_above es f above)
+
+  pub nothing_below : (fragments : List Fragment) → parts_of n (entered (base_above number) window fragments) ≡ []
+  nothing_below fragments = by_entries (entered (base_above number) window fragments) (all_above [] fragments (inl refl))
+    where
+      by_entries : (es : List Numbered) → IsAbove es → parts_of n es ≡ []
+      by_entries es (inl none) = ap (parts_of n) none ∙ no_parts
+      by_entries es (inr above) = above.1
+
+-- ---- of sessions
+
+module _ (window : ℕ) where
+  pub unopened_above : (hs : List HeardSession) (n : ℕ) → greatest_of window hs < n → is_opened_in window hs n ≡ false
+  unfolding greatest_of
+  unopened_above [] n above = refl
+  unopened_above (h ∷ hs) n above =
+      ap (λ (b : Bool). b || is_opened_in window hs n) (ap has_parts (parts_of-outside n (entered_behind window hs h) (inr (omega (arith, above)))))
+      ∙ unopened_above hs n (omega (arith, above))
+
+pub sessions_apart : (window : ℕ) (hs : List HeardSession) (h : HeardSession) (n : ℕ) → window ≤ 8 → is_opened_in window hs n ≡ true → is_opened (entered_behind window hs h) n ≡ false
+sessions_apart window hs h n small was = elim (cases_lt (greatest_of window hs) n) [
+  | inl above ↦ absurd (both_ways (is_opened_in window hs n) (unopened_above window hs n above) was)
+  | inr low ↦ ap has_parts (nothing_below (greatest_of window hs) window n small low h.fragments)
+]
+
+pub ruleset laws = (base_is_above, base_is_near, base_is_multiple, sessions_apart)

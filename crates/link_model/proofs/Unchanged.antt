@@ -1,0 +1,78 @@
+-- A part that isn't kept leaves its picture's book as it was.
+use Rattle.std.proofs.Common.{◌≡◌, ℕ, zero, suc, ◌+◌, Bool, true, false, List, [], ◌∷◌, ◌++◌, length, take, drop, Option, Some, None, Result, Ok, Err, refl, ap, sym, ◌∙◌, arith, cond}
+use Rattle.std.specs.Prelude.{nat_lt, is_none, slice_get}
+use Rattle.std.specs.List.{list_any, enumerate_from}
+use Rattle.std.specs.Option.{option_or}
+use Rattle.std.proofs.lemmas.Bool.{false≢true, or_parts}
+use Rattle.link_model.specs.Books.{Slots, slot_at, Gathered, Book, filled_with, with_run, gathers_run, gathers, takes_plan, takes_params, takes_slices, book_plan, book_takes, book_slices_outcome, book_outcome}
+use Rattle.link_model.specs.Judgement.{parameters_outcome, run_outcome, numbered_slices, is_conflict, is_new, keeps}
+use Rattle.link_model.specs.Kept.{KeptParameters, kept_parameters, SliceRun, slice_run, waiting_limit}
+use Rattle.link_model.specs.Session.{Part, ParamsPart, SlicesPart, SlicePart}
+use Rattle.link_model.specs.declared.outcome.Outcome.{Outcome}
+use Rattle.link_model.specs.declared.outcome.Outcome.TheVariants.{SlicesConflict, SlicesKept, SlicesRepeat, SlicesPending, SlicesFull}
+use Rattle.vc_types.specs.TransformParameters.{Parameters, coded_parameters}
+use Rattle.vc_types.specs.declared.refusal.ParamsRefusal.{ParamsRefusal}
+
+-- a run without a new slice changes nothing; the slots at hand are those from a number on
+same_from : (kept : ℕ → Option (List ℕ)) (slots : Slots) (slices : List (List ℕ)) (first : ℕ) → ((k : ℕ) → slot_at slots k ≡ kept (first + k))
+    → list_any (is_new kept) (enumerate_from first slices) ≡ false → filled_with slots slices ≡ slots
+same_from kept slots [] first at none = refl
+same_from kept [] (slice ∷ slices) first at none = refl
+same_from kept (slot ∷ slots) (slice ∷ slices) first at none =
+    let parts = or_parts (is_none (kept first)) (list_any (is_new kept) (enumerate_from (first + 1) slices)) none in
+    let here : kept first ≡ slot = ap kept (let e : first ≡ first + 0 = omega arith in e) ∙ sym (at 0) in
+    ap (λ (o : Option (List ℕ)). o ∷ filled_with slots slices) (stays slot (ap is_none (sym here) ∙ parts.0))
+    ∙ ap (λ (l : Slots). slot ∷ l) (same_from kept slots slices (first + 1) (λ k. at (suc k) ∙ ap kept (let e : first + suc k ≡ first + 1 + k = omega arith in e)) parts.1)
+  where
+    stays : (o : Option (List ℕ)) → is_none o ≡ false → option_or o (Some slice) ≡ o
+    stays None e = absurd (false≢true (sym e))
+    stays (Some bytes) e = refl
+
+slot_behind : (slots : Slots) (first k : ℕ) → slot_at (drop first slots) k ≡ slot_at slots (first + k)
+slot_behind slots zero k = let same : k ≡ 0 + k = omega arith in ap (slot_at slots) same
+slot_behind [] (suc first) k = refl
+slot_behind (slot ∷ slots) (suc first) k =
+    slot_behind slots first k ∙ (let same : suc (first + k) ≡ suc first + k = omega arith in ap (slot_at (slot ∷ slots)) same)
+
+take_drop : (n : ℕ) (slots : Slots) → take n slots ++ drop n slots ≡ slots
+take_drop zero slots = refl
+take_drop (suc n) [] = refl
+take_drop (suc n) (slot ∷ slots) = ap (λ (l : Slots). slot ∷ l) (take_drop n slots)
+
+repeat_same : (slots : Slots) (run : SliceRun) → list_any (is_new (slot_at slots)) (numbered_slices run) ≡ false → with_run slots run ≡ slots
+repeat_same slots run none =
+    ap (λ (l : Slots). take run.first slots ++ l) (same_from (slot_at slots) (drop run.first slots) run.slices run.first (slot_behind slots run.first) none)
+    ∙ take_drop run.first slots
+
+module _ (book : Book) where
+  params_unchanged : (o : Option Gathered) (body : List ℕ) (r : Result (Parameters × ℕ) ParamsRefusal) → coded_parameters book.sequence body ≡ r
+      → keeps (parameters_outcome (book_plan (record book { gathered = o })) r) ≡ false → takes_params o book body ≡ book
+  params_unchanged None body (Err refusal) is e = ap (λ (r : Result (Parameters × ℕ) ParamsRefusal). takes_plan book (kept_parameters body r)) is
+  params_unchanged None body (Ok read) is e = absurd (false≢true (sym e))
+  params_unchanged (Some g) body r is e = refl
+
+  run_unchanged : (g : Gathered) (r : Result SliceRun Outcome) → keeps (run_outcome (slot_at g.slots) r) ≡ false → gathers_run g r ≡ g
+  run_unchanged g (Err outcome) e = refl
+  run_unchanged g (Ok run) e = by_tests (list_any (is_conflict (slot_at g.slots)) (numbered_slices run)) (list_any (is_new (slot_at g.slots)) (numbered_slices run)) refl e
+    where
+      by_tests : (conflict new : Bool) → list_any (is_new (slot_at g.slots)) (numbered_slices run) ≡ new → keeps (cond conflict SlicesConflict (cond new SlicesKept SlicesRepeat)) ≡ false → gathers_run g (Ok run) ≡ g
+      by_tests true new is e = absurd (false≢true (sym e))
+      by_tests false true is e = absurd (false≢true (sym e))
+      by_tests false false is e = ap (λ (l : Slots). record g { slots = l }) (repeat_same g.slots run is)
+
+  slices_unchanged : (slices : SlicePart) (o : Option Gathered) → book.gathered ≡ o → keeps (book_slices_outcome o book slices) ≡ false → takes_slices o book slices ≡ book
+  slices_unchanged slices (Some g) is e =
+      ap (λ (g : Gathered). record book { gathered = Some g }) (run_unchanged g (slice_run g.plan.parameters slices) e)
+      ∙ ap (λ (o : Option Gathered). record book { gathered = o }) (sym is)
+  slices_unchanged slices None is e = by_room (nat_lt (length book.waiting) waiting_limit) e
+    where
+      by_room : (b : Bool) → keeps (cond b SlicesPending SlicesFull) ≡ false → cond b (record book { waiting = book.waiting ++ slices ∷ [] }) book ≡ book
+      by_room true e = absurd (false≢true (sym e))
+      by_room false e = refl
+
+  pub unkept_changes_nothing : (part : Part) → keeps (book_outcome book part) ≡ false → book_takes book part ≡ book
+  unfolding book_outcome book_takes
+  unkept_changes_nothing (ParamsPart body) e = params_unchanged book.gathered body (coded_parameters book.sequence body) refl e
+  unkept_changes_nothing (SlicesPart slices) e = slices_unchanged slices book.gathered refl e
+
+pub ruleset laws = (unkept_changes_nothing)

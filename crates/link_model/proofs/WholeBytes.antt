@@ -1,0 +1,162 @@
+-- The whole bytes of a picture are decoded as its parameters and, behind them, its own slices, each of which is one whole
+-- slice.
+use Rattle.std.proofs.Common.{◌≡◌, ℕ, zero, suc, ◌-◌, Bool, true, false, List, [], ◌∷◌, ◌++◌, length, map, take, drop, Option, Some, None, Result, Ok, Err, refl, ap, sym, subst, ◌∙◌, cond}
+use Rattle.std.specs.Prelude.{slice_get, unwrap_or, nat_le, not}
+use Rattle.std.specs.List.{flat_map, cons_option}
+use Rattle.std.specs.Option.{option_map, option_map_or, option_or}
+use Rattle.std.proofs.Math.Seq.{drop-append_seam}
+use Rattle.std.proofs.lemmas.Option.{same_Some, none-some}
+use Rattle.link_model.specs.Complete.{slice_numbers, all_bytes}
+use Rattle.link_model.specs.Kept.{KeptParameters, kept_parameters, parameters_in, Parted, parted_by, also_before, parted, Own, own_of, own, own_slice, SliceRun, runs_of, run_taken, run_from, slice_run, slice_in, first_copy, cut_off, next_slice, next_slices, has_form, has_place, first_slice, waiting_limit}
+use Rattle.link_model.specs.Session.{Part, ParamsPart, SlicesPart, SlicePart}
+use Rattle.link_model.specs.declared.outcome.Outcome.{Outcome}
+use Rattle.link_model.specs.declared.outcome.Outcome.TheVariants.{SlicesForm, SlicesPlace}
+use Rattle.vc_types.specs.Bits.{bits_of}
+use Rattle.vc_types.specs.Fields.{joined, and_then}
+use Rattle.vc_types.specs.Pictures.{decoded_picture, with_parameters, with_slices, slices_from}
+use Rattle.vc_types.specs.SequenceHeader.{Sequence, bytes_used, with_bytes_used}
+use Rattle.vc_types.specs.Slices.{slice_length}
+use Rattle.vc_types.specs.Subbands.{slice_count}
+use Rattle.vc_types.specs.TransformParameters.{Parameters, transform_parameters}
+use Rattle.vc_types.specs.declared.refusal.ParamsRefusal.{ParamsRefusal}
+use Rattle.vc_types.proofs.OwnBits.{and_then_ok}
+use Rattle.vc_types.proofs.OwnBytes.{ReadAgain, read_again}
+use Rattle.vc_types.proofs.OwnParameters.{parameters_own}
+
+-- ---- parameters
+
+-- these bytes are read as these parameters, whatever follows them
+abbrev pub IsReadAgain : Sequence → KeptParameters → Type 0
+IsReadAgain s plan = (more : List ℕ) → decoded_picture s (plan.bytes ++ more) ≡ with_slices plan.parameters (slices_from plan.parameters 0 (slice_count plan.parameters) more)
+
+module _ (s : Sequence) where
+  planned_again : (part : Part) (plan : KeptParameters) → parameters_in s part ≡ Some plan → IsReadAgain s plan
+  unfolding parameters_in decoded_picture
+  planned_again (SlicesPart slices) plan e = absurd (none-some plan e)
+  planned_again (ParamsPart body) plan e = by_read (transform_parameters s (bits_of body)) refl e
+    where
+      by_read : (r : Result (Parameters × List Bool) ParamsRefusal) → transform_parameters s (bits_of body) ≡ r → kept_parameters body (with_bytes_used body r) ≡ Some plan → IsReadAgain s plan
+      by_read (Err refusal) is e = absurd (none-some plan e)
+      by_read (Ok read) is e = subst (IsReadAgain s) (same_Some (record { parameters = read.0; bytes = take (bytes_used body read.1) body }) plan e)
+          (λ more. (let again : ReadAgain (transform_parameters s) (take (bytes_used body read.1) body) more read.0 = read_again (transform_parameters s) (parameters_own s) body read.0 read.1 is more in
+          let bytes = take (bytes_used body read.1) body in
+          ap (with_parameters (bytes ++ more)) again.read
+          ∙ ap (λ n. with_slices read.0 (slices_from read.0 0 (slice_count read.0) (drop n (bytes ++ more)))) again.used
+          ∙ ap (λ (l : List ℕ). with_slices read.0 (slices_from read.0 0 (slice_count read.0) l)) (drop-append_seam bytes more)))
+
+  parted_again : (parts : List Part) (p : Parted) → parted s parts ≡ Some p → IsReadAgain s p.plan
+  unfolding parted
+  parted_again [] p e = absurd (none-some p e)
+  parted_again (part ∷ parts) p e = by_plan (parameters_in s part) refl (parted s parts) e (parted_again parts)
+    where
+      also : (part : Part) (q : Parted) → IsReadAgain s q.plan → IsReadAgain s (also_before part q).plan
+      also (ParamsPart body) q again = again
+      also (SlicesPart slices) q again = again
+
+      by_plan : (o : Option KeptParameters) → parameters_in s part ≡ o → (old : Option Parted) → option_map_or (λ plan. Some (parted_by parts plan)) o (option_map (also_before part) old) ≡ Some p
+          → ((q : Parted) → old ≡ Some q → IsReadAgain s q.plan) → IsReadAgain s p.plan
+      by_plan (Some plan) is old e rest = subst (λ (p : Parted). IsReadAgain s p.plan) (same_Some (parted_by parts plan) p e) (planned_again part plan is)
+      by_plan None is None e rest = absurd (none-some p e)
+      by_plan None is (Some q) e rest = subst (λ (p : Parted). IsReadAgain s p.plan) (same_Some (also_before part q) p e) (also part q (rest q refl))
+
+-- ---- slices
+
+-- bytes that are one whole slice
+abbrev pub IsWholeSlice : Parameters → List ℕ → Type 0
+IsWholeSlice p bytes = slice_length p.prefix p.scaler bytes ≡ Some (length bytes)
+
+-- a slice that begins bytes is a whole slice by itself
+abbrev pub SlicesStandAlone : Parameters → Type 0
+SlicesStandAlone p = (bytes : List ℕ) (len : ℕ) → slice_length p.prefix p.scaler bytes ≡ Some len → IsWholeSlice p (take len bytes)
+
+abbrev okay : {A : Type 0} → A → Result A (Unit {0})
+okay x = Ok x
+
+okay_is : {A : Type 0} (x y : A) → okay x ≡ okay y → x ≡ y
+okay_is x y h = cc
+
+abbrev taken : SliceRun → Result SliceRun Outcome
+taken run = Ok run
+
+taken_is : (x y : SliceRun) → taken x ≡ taken y → x ≡ y
+taken_is x y h = cc
+
+module _ (p : Parameters) (alone : SlicesStandAlone p) where
+  abbrev AreWhole : List (List ℕ) → Type 0
+  AreWhole slices = (k : ℕ) (bytes : List ℕ) → slice_get slices k ≡ Some bytes → IsWholeSlice p bytes
+
+  cut_whole : (bytes : List ℕ) (x : List ℕ × List ℕ) (o : Option ℕ) → slice_length p.prefix p.scaler bytes ≡ o → cut_off bytes o ≡ Ok x → IsWholeSlice p x.0
+  cut_whole bytes x None is e = absurd cc
+  cut_whole bytes x (Some len) is e = subst (λ (x : List ℕ × List ℕ). IsWholeSlice p x.0) (okay_is (take len bytes, drop len bytes) x e) (alone bytes len is)
+
+  next_whole : (n : ℕ) (bytes : List ℕ) (x : List (List ℕ) × List ℕ) → next_slices p n bytes ≡ Ok x → AreWhole x.0
+  unfolding next_slices next_slice
+  next_whole zero bytes x e = subst (λ (x : List (List ℕ) × List ℕ). AreWhole x.0) (okay_is ([], bytes) x e) (λ k b none. absurd (none-some b none))
+  next_whole (suc n) bytes x e =
+      let first = and_then_ok (next_slice p bytes) (λ read. and_then (next_slices p n read.1) (λ more. Ok (read.0 ∷ more.0, more.1))) x e in
+      let second = and_then_ok (next_slices p n first.0.1) (λ more. Ok (first.0.0 ∷ more.0, more.1)) x first.2 in
+      subst (λ (x : List (List ℕ) × List ℕ). AreWhole x.0) (okay_is (first.0.0 ∷ second.0.0, second.0.1) x second.2)
+      (consed first.0.0 second.0.0 (cut_whole bytes first.0 (slice_length p.prefix p.scaler bytes) refl first.1) (next_whole n first.0.1 second.0 second.1))
+    where
+      consed : (b : List ℕ) (bs : List (List ℕ)) → IsWholeSlice p b → AreWhole bs → AreWhole (b ∷ bs)
+      consed b bs here rest zero bytes e = subst (IsWholeSlice p) (same_Some b bytes e) here
+      consed b bs here rest (suc k) bytes e = rest k bytes e
+
+  run_whole : (part : SlicePart) (run : SliceRun) → slice_run p part ≡ Ok run → AreWhole run.slices
+  unfolding slice_run
+  run_whole part run e = by_tests (has_form p part) (has_place p part) e
+    where
+      by_slices : (r : Result (List (List ℕ) × List ℕ) (Unit {0})) → next_slices p part.count part.body ≡ r → run_from (first_slice p part) r ≡ Ok run → AreWhole run.slices
+      by_slices (Err short) is e = absurd cc
+      by_slices (Ok read) is e = subst (λ (run : SliceRun). AreWhole run.slices) (taken_is (record { first = first_slice p part; slices = read.0 }) run e) (next_whole part.count part.body read is)
+
+      by_tests : (form place : Bool) → cond (not form) (Err SlicesForm) (cond (not place) (Err SlicesPlace) (run_from (first_slice p part) (next_slices p part.count part.body))) ≡ Ok run → AreWhole run.slices
+      by_tests false place e = absurd cc
+      by_tests true false e = absurd cc
+      by_tests true true e = by_slices (next_slices p part.count part.body) refl e
+
+  runs_whole : (parts : List SlicePart) (i : ℕ) (bytes : List ℕ) → first_copy (runs_of p parts) i ≡ Some bytes → IsWholeSlice p bytes
+  unfolding first_copy
+  runs_whole [] i bytes e = absurd (none-some bytes e)
+  runs_whole (part ∷ parts) i bytes e = by_run (slice_run p part) refl e (runs_whole parts i bytes)
+    where
+      by_copy : (run : SliceRun) → AreWhole run.slices → (b : Bool) → cond b (slice_get run.slices (i - run.first)) None ≡ Some bytes → IsWholeSlice p bytes
+      by_copy run whole true e = whole (i - run.first) bytes e
+      by_copy run whole false e = absurd (none-some bytes e)
+
+      by_first : (o later : Option (List ℕ)) → option_or o later ≡ Some bytes → (o ≡ Some bytes → IsWholeSlice p bytes) → (later ≡ Some bytes → IsWholeSlice p bytes) → IsWholeSlice p bytes
+      by_first None later e here rest = rest e
+      by_first (Some b) later e here rest = here e
+
+      by_run : (r : Result SliceRun Outcome) → slice_run p part ≡ r → first_copy (cons_option (run_taken r) (runs_of p parts)) i ≡ Some bytes → (first_copy (runs_of p parts) i ≡ Some bytes → IsWholeSlice p bytes) → IsWholeSlice p bytes
+      by_run (Err outcome) is e rest = rest e
+      by_run (Ok run) is e rest = by_first (slice_in run i) (first_copy (runs_of p parts) i) e (λ here. by_copy run (run_whole part run is) (nat_le run.first i) here) rest
+
+-- ---- the whole picture
+
+joined_is : {T X : Type 0} (f : X → List T) (xs : List X) → joined (map f xs) ≡ flat_map f xs
+joined_is f [] = refl
+joined_is f (x ∷ xs) = ap (λ l. f x ++ l) (joined_is f xs)
+
+-- the slices of a picture in raster order
+abbrev pub own_slices : Own → List (List ℕ)
+own_slices kept = map (λ i. unwrap_or (own_slice kept i) []) (slice_numbers kept)
+
+module _ (s : Sequence) (parts : List Part) (kept : Own) (is : own s parts ≡ Some kept) where
+  from_parted : (Q : Own → Type 0) → ((p : Parted) → parted s parts ≡ Some p → Q (own_of p)) → Q kept
+  unfolding own
+  from_parted Q each = by_parted (parted s parts) refl is
+    where
+      by_parted : (o : Option Parted) → parted s parts ≡ o → option_map own_of o ≡ Some kept → Q kept
+      by_parted None at e = absurd (none-some kept e)
+      by_parted (Some p) at e = subst Q (same_Some (own_of p) kept e) (each p at)
+
+  pub decoded_whole : decoded_picture s (all_bytes kept) ≡ with_slices kept.plan.parameters (slices_from kept.plan.parameters 0 (slice_count kept.plan.parameters) (joined (own_slices kept)))
+  unfolding all_bytes
+  decoded_whole =
+      from_parted (λ kept. IsReadAgain s kept.plan) (λ p at. parted_again s parts p at) (flat_map (λ i. unwrap_or (own_slice kept i) []) (slice_numbers kept))
+      ∙ ap (λ (l : List ℕ). with_slices kept.plan.parameters (slices_from kept.plan.parameters 0 (slice_count kept.plan.parameters) l)) (sym (joined_is (λ i. unwrap_or (own_slice kept i) []) (slice_numbers kept)))
+
+  pub own_slice_whole : SlicesStandAlone kept.plan.parameters → (i : ℕ) (bytes : List ℕ) → own_slice kept i ≡ Some bytes → IsWholeSlice kept.plan.parameters bytes
+  own_slice_whole = from_parted (λ kept. SlicesStandAlone kept.plan.parameters → (i : ℕ) (bytes : List ℕ) → own_slice kept i ≡ Some bytes → IsWholeSlice kept.plan.parameters bytes)
+      (λ p at alone i bytes e. runs_whole p.plan.parameters alone (take waiting_limit p.before ++ p.behind) i bytes e)

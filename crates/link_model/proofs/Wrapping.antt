@@ -1,0 +1,63 @@
+-- A picture's number has the 32 bits that were sent, is the nearest such number to the greatest one, and fits 64 bits.
+use Rattle.std.proofs.Common.{◌≡◌, ℕ, ◌+◌, ◌-◌, ◌%◌, ◌^◌, ◌<◌, ◌≤◌, false, List, [], ◌∷◌, ◌++◌, ap, sym, subst, ◌∙◌, inl, inr, arith}
+use Rattle.std.specs.Prelude.{fold, nat_le, nat_lt}
+use Rattle.std.proofs.lemmas.Bool.{cases_Bool, or_parts, leb-false, cases_lt, cond-true, cond-false, lt-ltb, le-ltb}
+use Rattle.link_model.specs.Numbers.{Numbered, greatest, distance, nearest, picture_number, is_closed, is_late, enters, entered}
+use Rattle.link_model.specs.Session.{Fragment}
+use Rattle.link_model.proofs.Numbering.{late_changes_nothing, early_enters, greatest-append}
+
+module _ (g bits : ℕ) (large : 2 ^ 32 ≤ g) (small : bits < 2 ^ 32) where
+  nearest-above : distance g bits < 2 ^ 31 → nearest g bits ≡ g + distance g bits
+  unfolding nearest
+  nearest-above h = cond-true (nat_lt (distance g bits) (2 ^ 31)) (g + distance g bits) (g + distance g bits - 2 ^ 32) (lt-ltb (distance g bits) (2 ^ 31) h)
+
+  nearest-below : 2 ^ 31 ≤ distance g bits → nearest g bits ≡ g + distance g bits - 2 ^ 32
+  unfolding nearest
+  nearest-below h = cond-false (nat_lt (distance g bits) (2 ^ 31)) (g + distance g bits) (g + distance g bits - 2 ^ 32) (le-ltb (distance g bits) (2 ^ 31) h)
+
+  pub nearest-bits : nearest g bits % 2 ^ 32 ≡ bits
+  nearest-bits = elim (cases_lt (distance g bits) (2 ^ 31)) [
+    | inl h ↦ ap (λ n. n % 2 ^ 32) (nearest-above h) ∙ omega arith
+    | inr h ↦ ap (λ n. n % 2 ^ 32) (nearest-below h) ∙ omega arith
+  ]
+
+  pub nearest-not_above : nearest g bits < g + 2 ^ 31
+  nearest-not_above = elim (cases_lt (distance g bits) (2 ^ 31)) [
+    | inl h ↦ omega (arith, nearest-above h, h)
+    | inr h ↦ omega (arith, nearest-below h, h)
+  ]
+
+  pub nearest-not_below : g ≤ nearest g bits + 2 ^ 31
+  nearest-not_below = elim (cases_lt (distance g bits) (2 ^ 31)) [
+    | inl h ↦ omega (arith, nearest-above h, h)
+    | inr h ↦ omega (arith, nearest-below h, h)
+  ]
+
+-- ---- all numbers that enter fit
+
+greatest-none : greatest [] < 2 ^ 64 - 16
+unfolding greatest
+greatest-none = omega arith
+
+greatest-one : (es : List Numbered) (e : Numbered) → greatest es < 2 ^ 64 - 16 → e.number < 2 ^ 64 - 16 → greatest (es ++ e ∷ []) < 2 ^ 64 - 16
+unfolding greatest
+greatest-one es e fits small = omega (arith, greatest-append es (e ∷ []), fits, small)
+
+unlate : (window : ℕ) (es : List Numbered) (n : ℕ) → is_late window es n ≡ false → n < 2 ^ 64 - 16
+unfolding is_late
+unlate window es n early = leb-false (2 ^ 64 - 16) n (or_parts (is_closed window es n) (nat_le (2 ^ 64 - 16) n) early).1
+
+pub enters_fits : (base window : ℕ) (es : List Numbered) (f : Fragment) → greatest es < 2 ^ 64 - 16 → greatest (enters base window es f) < 2 ^ 64 - 16
+enters_fits base window es f fits = elim (cases_Bool (is_late window es (picture_number base es f.number))) [
+  | inl late ↦ subst (λ (l : List Numbered). greatest l < 2 ^ 64 - 16) (sym (late_changes_nothing base window es f late)) fits
+  | inr early ↦ subst (λ (l : List Numbered). greatest l < 2 ^ 64 - 16) (sym (early_enters base window es f early)) (greatest-one es (record { number = picture_number base es f.number; part = f.part }) fits (unlate window es (picture_number base es f.number) early))
+]
+
+pub entered_fits : (base window : ℕ) (fragments : List Fragment) → greatest (entered base window fragments) < 2 ^ 64 - 16
+entered_fits base window fragments = all_fit [] fragments greatest-none
+  where
+    all_fit : (es : List Numbered) (fragments : List Fragment) → greatest es < 2 ^ 64 - 16 → greatest (fold (enters base window) es fragments) < 2 ^ 64 - 16
+    all_fit es [] fits = fits
+    all_fit es (f ∷ fragments) fits = all_fit (enters base window es f) fragments (enters_fits base window es f fits)
+
+pub ruleset laws = (nearest-bits, nearest-not_above, nearest-not_below, entered_fits)

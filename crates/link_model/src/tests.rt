@@ -1,0 +1,21 @@
+use super::*;
+
+#[test]
+fn laws_hold() {
+    what_is_written_is_read();
+    sessions_follow_each_other();
+    sessions_have_numbers_apart();
+    numbers_wrap();
+    closed_pictures_stay();
+    what_is_kept_stays();
+    let_go_pictures_stay();
+    pictures_leave_in_order();
+    sessions_are_written_in_order();
+    output_only_grows();
+    outcomes_are_counted();
+    outcomes_say_what_datagrams_do();
+    books_stand_for_parts();
+    what_is_not_kept_changes_nothing();
+    windows_stand_for_fragments();
+    same_is_equal();
+}
