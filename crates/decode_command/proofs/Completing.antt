@@ -10,7 +10,8 @@ use Rattle.vc_ports.specs.Reading.{IsAtEnd}
 use Rattle.decode_command.specs.declared.ended.Ended.{Ended}
 use Rattle.decode_command.specs.declared.ended.Ended.TheVariants as ends
 use Rattle.decode_command.specs.Decoding.{Decodes, Outcome, IsDecodable}
-use Rattle.decode_command.specs.OnePicture.{Session, Planned, opens, plans, with_slices, with_parameters, frames_of}
+use Rattle.link_model.specs.Session.{Session}
+use Rattle.decode_command.specs.OnePicture.{Planned, opens, plans, with_slices, with_parameters, frames_of}
 
 some_is_none : {A : Type 0} (x : A) → Some x ≡ None → ⊥
 some_is_none x p = cc

@@ -17,6 +17,7 @@ use vc_types::Words;
 const UNBUILT: u8 = 1;
 
 /// Does what the words say, and answers the status. The words are those behind the program's name.
+#[tactic(auto, using(crate::proofs::Ends::unbuilt_does, crate::proofs::Ends::decode_does, crate::proofs::Ends::play_does))]
 pub fn link_main<H: Threads + Copy + Send + Sync, S: Source, O: Sink, E: Sink, N: Wire, P: Hands>(
     _rt: H,
     alloc: Global,
