@@ -21,7 +21,8 @@ use Rattle.vc_types.proofs.OwnBytes.{read_again}
 use Rattle.vc_types.proofs.OwnParameters.{parameters_own}
 use Rattle.std.proofs.lemmas.Grind.{flat_map-append}
 use Rattle.decode_command.specs.Grey.{grey_frame}
-use Rattle.decode_command.specs.OnePicture.{is_empty, empty_slice, empty_slices, Session, raw_frame}
+use Rattle.link_model.specs.Session.{Session}
+use Rattle.decode_command.specs.OnePicture.{is_empty, empty_slice, empty_slices, raw_frame}
 use Rattle.vc_types.specs.declared.refusal.ParamsRefusal.{ParamsRefusal}
 
 -- ---- one slice

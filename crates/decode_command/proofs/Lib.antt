@@ -4,3 +4,4 @@ pub mod StageSteps
 pub mod GreyRows
 pub mod Listening
 pub mod Decoded
+pub mod Completing

@@ -6,7 +6,8 @@ use Rattle.link_model.specs.Packets.{PayloadValue, Header, End, Skip, Params, Sl
 use Rattle.vc_types.specs.Subbands.{slice_count}
 use Rattle.vc_types.specs.TransformParameters.{Parameters, coded_parameters}
 use Rattle.decode_command.specs.Grey.{grey_frame}
-use Rattle.decode_command.specs.OnePicture.{Session, Planned, received, from_source, is_of, empty_slices, slices_by, opens, completes, raw_frame, with_parameters, with_slices, frames_of}
+use Rattle.link_model.specs.Session.{Session, received}
+use Rattle.decode_command.specs.OnePicture.{Planned, from_source, is_of, empty_slices, slices_by, opens, completes, raw_frame, with_parameters, with_slices, frames_of}
 use Rattle.decode_command.specs.Stages.{IsPlanned, planned_as, only_frame}
 use Rattle.decode_command.proofs.EmptySlices.{raw_frame-empty}
 

@@ -1,45 +1,19 @@
 -- The lists of datagrams that are decoded so far: a sequence header with frame coding, the transform parameters of a
 -- picture, and all of its slices in one datagram, each slice with three blocks of length 0. The list may end after any
 -- of them.
-use Rattle.std.specs.Prelude.{ℕ, zero, suc, Bool, ◌&&◌, nat_le, ◌==◌, if◌then◌else◌, List, [], ◌∷◌, ◌++◌, length, take, slice_range, Option, Some, None, Result, Ok, Err, is_ok, option_and_then}
+use Rattle.std.specs.Prelude.{ℕ, zero, suc, Bool, ◌&&◌, nat_le, ◌==◌, if◌then◌else◌, List, [], ◌∷◌, ◌++◌, length, take, Option, Some, None, Result, Ok, Err, is_ok, option_and_then}
 use Rattle.std.specs.Option.{option_map}
 use Rattle.vc_types.specs.RawFrames.{is_wide, frame_bytes}
-use Rattle.link_model.specs.Packets.{PayloadValue, Header, Params, Slices, FragmentHead, RtpPacket, rtp_packet, payload}
-use Rattle.link_model.specs.declared.refusal.PayloadRefusal.{PayloadRefusal}
-use Rattle.link_model.specs.declared.refusal.RtpRefusal.{RtpRefusal}
+use Rattle.link_model.specs.Packets.{PayloadValue, Params, Slices, FragmentHead}
+use Rattle.link_model.specs.Session.{Received, DatagramRefusal, Session, received, begins}
 use Rattle.vc_types.specs.Fields.{◌>>=◌, skip, refuse}
 use Rattle.vc_types.specs.Planes.{decoded_planes}
-use Rattle.vc_types.specs.SequenceHeader.{Sequence, coded_header}
 use Rattle.vc_types.specs.Slices.{ByteField, CodedSlice, coded_slice}
 use Rattle.vc_types.specs.Subbands.{slice_count}
 use Rattle.vc_types.specs.TransformParameters.{Parameters, coded_parameters}
-use Rattle.vc_types.specs.declared.refusal.HeaderRefusal.{HeaderRefusal}
 use Rattle.vc_types.specs.declared.refusal.ParamsRefusal.{ParamsRefusal}
 
--- ---- what a datagram brings
-
--- the source and the payload of a datagram
-pub record Received : Type 0 where
-  pub ssrc : ℕ
-  pub value : PayloadValue
-
-abbrev pub with_payload : RtpPacket → Result PayloadValue PayloadRefusal → Option Received
-with_payload packet (Ok value) = Some (record { ssrc = packet.ssrc; value = value })
-with_payload packet (Err refusal) = None
-
-abbrev pub with_packet : List ℕ → Result RtpPacket RtpRefusal → Option Received
-with_packet datagram (Ok packet) = with_payload packet (payload (slice_range datagram packet.from packet.to))
-with_packet datagram (Err refusal) = None
-
-unfoldable pub received : List ℕ → Option Received
-received datagram = with_packet datagram (rtp_packet datagram)
-
 -- ---- the three datagrams
-
--- a session: its source, and the sequence of its header
-pub record Session : Type 0 where
-  pub ssrc : ℕ
-  pub sequence : Sequence
 
 -- a picture whose transform parameters are there: its number, their bytes and their value
 pub record Planned : Type 0 where
@@ -47,14 +21,9 @@ pub record Planned : Type 0 where
   pub bytes : List ℕ
   pub parameters : Parameters
 
-abbrev pub session : ℕ → Result (Sequence × ℕ) HeaderRefusal → Option Session
-session ssrc (Ok read) = if read.0.fields then None else Some (record { ssrc = ssrc; sequence = read.0 })
-session ssrc (Err refusal) = None
-
--- a header begins a session
-abbrev pub opened : ℕ → PayloadValue → Option Session
-opened ssrc (Header high from body) = session ssrc (coded_header body)
-opened ssrc other = None
+-- a header with frame coding begins a session
+abbrev pub of_frames : Session → Option Session
+of_frames s = if s.sequence.fields then None else Some s
 
 abbrev pub planned : ℕ → List ℕ → Result (Parameters × ℕ) ParamsRefusal → Option Planned
 planned number body (Ok read) = Some (record { number = number; bytes = take read.1 body; parameters = read.0 })
@@ -91,13 +60,13 @@ slices_by number p (Slices head count x y from body) = if is_of number p head &&
 slices_by number p other = None
 
 -- the payload of a datagram of the session
-abbrev pub from_source : ℕ → Option Received → Option PayloadValue
-from_source ssrc None = None
-from_source ssrc (Some r) = if r.ssrc == ssrc then Some r.value else None
+abbrev pub from_source : ℕ → Result Received DatagramRefusal → Option PayloadValue
+from_source ssrc (Err refusal) = None
+from_source ssrc (Ok r) = if r.ssrc == ssrc then Some r.value else None
 
 -- what a datagram is to the three stages of a list: the header that begins it, the parameters of a picture, its slices
 unfoldable pub opens : List ℕ → Option Session
-opens datagram = option_and_then (λ r. opened r.ssrc r.value) (received datagram)
+opens datagram = option_and_then of_frames (begins datagram)
 
 unfoldable pub plans : Session → List ℕ → Option Planned
 plans s datagram = option_and_then (planned_by s) (from_source s.ssrc (received datagram))

@@ -4,7 +4,8 @@ use Rattle.decode_command.specs.declared.stage.Session.{Session as OpenSession}
 use Rattle.decode_command.specs.declared.stage.Stage.{Stage}
 use Rattle.decode_command.specs.declared.stage.Stage.TheVariants as stages
 use Rattle.decode_command.specs.Grey.{grey_frame}
-use Rattle.decode_command.specs.OnePicture.{Session, Planned, plans, with_parameters, with_slices, frames_of}
+use Rattle.link_model.specs.Session.{Session}
+use Rattle.decode_command.specs.OnePicture.{Planned, plans, with_parameters, with_slices, frames_of}
 use Rattle.vc_types.specs.SequenceHeader.{sequence_of}
 use Rattle.vc_types.specs.TransformParameters.{Parameters, parameters_of, coded_parameters}
 

@@ -1,5 +1,6 @@
 ghost use Rattle.std.specs.Prelude.{◌≡◌, ℕ, List, [], None, Some, OnOk, OnErr, Err, IfNone, IfSome, IsSomeAnd};
 ghost use Rattle.link_capture.specs.Endings.{GaveEntries, Ends};
+ghost use Rattle.vc_ports.specs.Changes.{input_of, output_of};
 ghost use Rattle.vc_ports.specs.Faults.{HasCause};
 ghost use Rattle.vc_ports.specs.Writing.{Grew, GrewBySome};
 ghost use Rattle.decode_command.specs.Decoding.{Decodes, ended_by};
@@ -14,16 +15,8 @@ use vc_ports::{Sink, Source};
 
 /// Decodes a capture: reads its datagrams to the end of the input, and writes the frames that they make.
 pub fn decode<S: Source, O: Sink>(alloc: Global, input: &mut S, output: &mut O) -> Ended
-    ensures { Decodes result (record {
-      left_before = S.left input.old;
-      left_after = S.left input.new;
-      held_before = O.held output.old;
-      held_after = O.held output.new;
-      input_faults_before = S.faults input.old;
-      input_faults_after = S.faults input.new;
-      output_faults_before = O.faults output.old;
-      output_faults_after = O.faults output.new;
-    }) }
+    ensures { Decodes result (input_of S.left S.faults input.old input.new)
+        (output_of O.held O.faults output.old output.new) }
 {
     let Some((stage, end)) = hear(alloc, input) else {
         return Ended::Unbuilt;

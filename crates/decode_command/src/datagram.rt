@@ -1,5 +1,6 @@
-ghost use Rattle.std.specs.Prelude.{◌≡◌, MatchOption, None, Some};
-ghost use Rattle.decode_command.specs.OnePicture.{received, from_source};
+ghost use Rattle.std.specs.Prelude.{◌≡◌, MatchOption, IsErr, Ok, None, Some};
+ghost use Rattle.link_model.specs.Session.{received};
+ghost use Rattle.decode_command.specs.OnePicture.{from_source};
 ghost use Rattle.vc2_payload.specs.Views.{payload_value};
 
 use rtp_head::read_rtp;
@@ -12,9 +13,10 @@ pub struct Received<'a> {
     pub payload: Payload<'a>,
 }
 
-#[tactic(auto, unfolding(crate::specs::OnePicture::received))]
+#[tactic(auto, unfolding(link_model::specs::Session::received))]
 pub fn read_datagram(datagram: &[u8]) -> Option<Received<'_>>
-    ensures { MatchOption result (received datagram.now ≡ None) (λ r. received datagram.now ≡ Some (record { ssrc = r.ssrc; value = payload_value r.payload })) }
+    ensures { MatchOption result (IsErr (received datagram.now))
+        (λ r. received datagram.now ≡ Ok (record { ssrc = r.ssrc; value = payload_value r.payload })) }
 {
     let Ok(view) = read_rtp(datagram) else {
         return None;
@@ -30,7 +32,8 @@ pub fn read_datagram(datagram: &[u8]) -> Option<Received<'_>>
 
 /// The payload of a datagram of this source.
 pub fn from_source(ssrc: u32, datagram: &[u8]) -> Option<Payload<'_>>
-    ensures { MatchOption result (from_source ssrc (received datagram.now) ≡ None) (λ p. from_source ssrc (received datagram.now) ≡ Some (payload_value p)) }
+    ensures { MatchOption result (from_source ssrc (received datagram.now) ≡ None)
+        (λ p. from_source ssrc (received datagram.now) ≡ Some (payload_value p)) }
 {
     match read_datagram(datagram) {
         Some(r) if r.ssrc == ssrc => Some(r.payload),

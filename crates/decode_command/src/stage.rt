@@ -32,7 +32,7 @@ pub enum Stage {
 }
 
 // The session that a datagram begins.
-#[tactic(auto, unfolding(crate::specs::OnePicture::opens))]
+#[tactic(auto, unfolding(crate::specs::OnePicture::opens, link_model::specs::Session::begins))]
 fn opens(datagram: &[u8]) -> Option<Session>
     ensures { MatchOption result (opens datagram.now ≡ None) (λ s. opens datagram.now ≡ Some (record { ssrc = s.ssrc; sequence = sequence_of s.header })) }
 {

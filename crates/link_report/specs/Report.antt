@@ -1,8 +1,10 @@
--- The report's text (this project's own): lines of a name and a number, the lines of each command, and the line of each status.
+-- The report's text (this project's own): lines of a name and a number, the lines of each command, and the line of each
+-- status.
 use Rattle.std.specs.Prelude.{ℕ, List, [], ◌∷◌, ◌++◌, codes}
 use Rattle.std.specs.List.{flat_map}
 use Rattle.std.specs.Fmt.{decimal}
 use Rattle.link_model.specs.declared.tally.Tally.{Tally}
+use Rattle.link_report.specs.declared.counts.Count.{Count}
 use Rattle.link_report.specs.declared.ending.Ending.{Ending}
 use Rattle.link_report.specs.declared.ending.Ending.TheVariants.{Usage, NoMemory, InputFailed, OutputFailed, WireFailed, CaptureCut, PacketLimit, RawCut, SampleTooLarge, SliceTooLarge, StreamBad, FrameLimit}
 use Rattle.link_report.specs.declared.summary.Summary.{Summary}
@@ -20,6 +22,10 @@ line name number = name ++ (space ++ (decimal number ++ newline))
 
 abbrev pub lines : List (List ℕ × ℕ) → List ℕ
 lines all = flat_map (λ named. line named.0 named.1) all
+
+-- what a line of the code's tables says
+abbrev pub named : Count → List ℕ × ℕ
+named count = (count.0.now, count.1)
 
 -- the 31 lines of a tally
 unfoldable pub tally_lines : Tally → List (List ℕ × ℕ)
@@ -60,18 +66,48 @@ tally_lines t =
 abbrev pub tally_text : Tally → List ℕ
 tally_text t = lines (tally_lines t)
 
+-- the lines of what was sent
+abbrev pub sent_lines : ℕ → ℕ → ℕ → List (List ℕ × ℕ)
+sent_lines frames datagrams bytes =
+    (codes "frames", frames) ∷ (codes "datagrams", datagrams) ∷ (codes "bytes", bytes) ∷ []
+
+abbrev pub packed_lines : ℕ → ℕ → ℕ → List (List ℕ × ℕ)
+packed_lines pictures datagrams bytes =
+    (codes "pictures", pictures) ∷ (codes "datagrams", datagrams) ∷ (codes "bytes", bytes) ∷ []
+
+abbrev pub played_lines : ℕ → ℕ → ℕ → List (List ℕ × ℕ)
+played_lines pictures unpaired frames =
+    (codes "pictures", pictures) ∷ (codes "unpaired", unpaired) ∷ (codes "frames", frames) ∷ []
+
 -- the lines of a command that came to status 0
 unfoldable pub summary_lines : Summary → List (List ℕ × ℕ)
 summary_lines (Judged tally) = tally_lines tally
-summary_lines (Sent frames datagrams bytes) = (codes "frames", frames) ∷ (codes "datagrams", datagrams) ∷ (codes "bytes", bytes) ∷ []
-summary_lines (Looped frames datagrams bytes tally) = ((codes "frames", frames) ∷ (codes "datagrams", datagrams) ∷ (codes "bytes", bytes) ∷ []) ++ tally_lines tally
-summary_lines (Packed pictures datagrams bytes) = (codes "pictures", pictures) ∷ (codes "datagrams", datagrams) ∷ (codes "bytes", bytes) ∷ []
-summary_lines (Played pictures unpaired frames) = (codes "pictures", pictures) ∷ (codes "unpaired", unpaired) ∷ (codes "frames", frames) ∷ []
+summary_lines (Sent frames datagrams bytes) = sent_lines frames datagrams bytes
+summary_lines (Looped frames datagrams bytes tally) =
+    sent_lines frames datagrams bytes ++ tally_lines tally
+summary_lines (Packed pictures datagrams bytes) = packed_lines pictures datagrams bytes
+summary_lines (Played pictures unpaired frames) = played_lines pictures unpaired frames
 summary_lines (Generated frames samples) = (codes "frames", frames) ∷ (codes "samples", samples) ∷ []
-summary_lines (Compared frames samples different) = (codes "frames", frames) ∷ (codes "samples", samples) ∷ (codes "different", different) ∷ []
+summary_lines (Compared frames samples different) =
+    (codes "frames", frames) ∷ (codes "samples", samples) ∷ (codes "different", different) ∷ []
 
 abbrev pub summary_text : Summary → List ℕ
 summary_text summary = lines (summary_lines summary)
+
+-- the status of a command that did not come to its end
+abbrev pub ending_status : Ending → ℕ
+ending_status (Usage place) = 2
+ending_status NoMemory = 3
+ending_status InputFailed = 4
+ending_status OutputFailed = 5
+ending_status WireFailed = 6
+ending_status (CaptureCut place) = 8
+ending_status (PacketLimit limit) = 9
+ending_status (RawCut frame) = 10
+ending_status (SampleTooLarge place plane value) = 11
+ending_status (SliceTooLarge slice bytes) = 12
+ending_status (StreamBad place) = 13
+ending_status (FrameLimit limit) = 14
 
 -- the line of a status
 unfoldable pub status_line : Ending → List ℕ
@@ -84,8 +120,10 @@ status_line (CaptureCut place) = line (codes "capture cut at") place
 status_line (PacketLimit limit) = line (codes "packet limit") limit
 status_line (RawCut frame) = line (codes "raw cut at frame") frame
 status_line (SampleTooLarge place plane value) =
-    codes "sample " ++ (decimal place ++ (codes " of plane " ++ (decimal plane ++ (codes " is " ++ (decimal value ++ newline)))))
+    codes "sample " ++ (decimal place ++ (codes " of plane " ++ (decimal plane
+    ++ (codes " is " ++ (decimal value ++ newline)))))
 status_line (SliceTooLarge slice bytes) =
-    codes "slice " ++ (decimal slice ++ (codes " needs " ++ (decimal bytes ++ (codes " bytes" ++ newline))))
+    codes "slice " ++ (decimal slice ++ (codes " needs " ++ (decimal bytes
+    ++ (codes " bytes" ++ newline))))
 status_line (StreamBad place) = line (codes "stream bad at") place
 status_line (FrameLimit limit) = line (codes "frame limit") limit

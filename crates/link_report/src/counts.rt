@@ -1,24 +1,19 @@
 ghost use Rattle.std.specs.Prelude.{◌≡◌, OnOk, ◌++◌, map};
 ghost use Rattle.std.specs.String.{string_bytes};
-ghost use Rattle.link_report.specs.Counts.{named};
-ghost use Rattle.link_report.specs.Report.{line, lines, tally_lines};
+ghost use Rattle.link_report.specs.Report.{line, lines, named, tally_lines};
 
 use link_model::Tally;
 use vc_types::NoMemory;
 
-// One line of a report.
+// A line of a report: its name and its number.
 #[derive(Clone, Copy)]
-pub(crate) struct Count {
-    pub(crate) name: &'static str,
-    pub(crate) number: u64,
-}
+pub(crate) struct Count(pub(crate) &'static str, pub(crate) u64);
 
 #[tactic(auto, unfolding(crate::specs::Report::line))]
 fn push_count(text: &mut String, count: &Count) -> Result<(), NoMemory>
-    ensures { OnOk result (string_bytes text.new ≡ string_bytes text.old ++ line count.now.name.now count.now.number) }
+    ensures { OnOk result (string_bytes text.new ≡ string_bytes text.old ++ line count.now.0.now count.now.1) }
 {
-    let name = count.name;
-    let number = count.number;
+    let Count(name, number) = count;
     write!(text, "{name} {number}\n")?;
     Ok(())
 }
@@ -39,129 +34,36 @@ pub(crate) fn tally_counts(tally: &Tally) -> [Count; 31]
     ensures { map named result ≡ tally_lines tally.now }
 {
     [
-        Count {
-            name: "datagrams",
-            number: tally.datagrams,
-        },
-        Count {
-            name: "rtp-short",
-            number: tally.rtp_short,
-        },
-        Count {
-            name: "rtp-version",
-            number: tally.rtp_version,
-        },
-        Count {
-            name: "rtp-shape",
-            number: tally.rtp_shape,
-        },
-        Count {
-            name: "payload-short",
-            number: tally.payload_short,
-        },
-        Count {
-            name: "payload-code",
-            number: tally.payload_code,
-        },
-        Count {
-            name: "payload-fragment",
-            number: tally.payload_fragment,
-        },
-        Count {
-            name: "foreign",
-            number: tally.foreign,
-        },
-        Count {
-            name: "header-new",
-            number: tally.header_new,
-        },
-        Count {
-            name: "header-same",
-            number: tally.header_same,
-        },
-        Count {
-            name: "header-other",
-            number: tally.header_other,
-        },
-        Count {
-            name: "header-bad",
-            number: tally.header_bad,
-        },
-        Count {
-            name: "end",
-            number: tally.end,
-        },
-        Count {
-            name: "skipped",
-            number: tally.skipped,
-        },
-        Count {
-            name: "late",
-            number: tally.late,
-        },
-        Count {
-            name: "params-kept",
-            number: tally.params_kept,
-        },
-        Count {
-            name: "params-repeat",
-            number: tally.params_repeat,
-        },
-        Count {
-            name: "params-conflict",
-            number: tally.params_conflict,
-        },
-        Count {
-            name: "params-bad",
-            number: tally.params_bad,
-        },
-        Count {
-            name: "slices-kept",
-            number: tally.slices_kept,
-        },
-        Count {
-            name: "slices-repeat",
-            number: tally.slices_repeat,
-        },
-        Count {
-            name: "slices-conflict",
-            number: tally.slices_conflict,
-        },
-        Count {
-            name: "slices-pending",
-            number: tally.slices_pending,
-        },
-        Count {
-            name: "slices-full",
-            number: tally.slices_full,
-        },
-        Count {
-            name: "slices-form",
-            number: tally.slices_form,
-        },
-        Count {
-            name: "slices-place",
-            number: tally.slices_place,
-        },
-        Count {
-            name: "slices-cut",
-            number: tally.slices_cut,
-        },
-        Count {
-            name: "incomplete",
-            number: tally.incomplete,
-        },
-        Count {
-            name: "unsound",
-            number: tally.unsound,
-        },
-        Count {
-            name: "unpaired",
-            number: tally.unpaired,
-        },
-        Count {
-            name: "frames",
-            number: tally.frames,
-        },
+        Count("datagrams", tally.datagrams),
+        Count("rtp-short", tally.rtp_short),
+        Count("rtp-version", tally.rtp_version),
+        Count("rtp-shape", tally.rtp_shape),
+        Count("payload-short", tally.payload_short),
+        Count("payload-code", tally.payload_code),
+        Count("payload-fragment", tally.payload_fragment),
+        Count("foreign", tally.foreign),
+        Count("header-new", tally.header_new),
+        Count("header-same", tally.header_same),
+        Count("header-other", tally.header_other),
+        Count("header-bad", tally.header_bad),
+        Count("end", tally.end),
+        Count("skipped", tally.skipped),
+        Count("late", tally.late),
+        Count("params-kept", tally.params_kept),
+        Count("params-repeat", tally.params_repeat),
+        Count("params-conflict", tally.params_conflict),
+        Count("params-bad", tally.params_bad),
+        Count("slices-kept", tally.slices_kept),
+        Count("slices-repeat", tally.slices_repeat),
+        Count("slices-conflict", tally.slices_conflict),
+        Count("slices-pending", tally.slices_pending),
+        Count("slices-full", tally.slices_full),
+        Count("slices-form", tally.slices_form),
+        Count("slices-place", tally.slices_place),
+        Count("slices-cut", tally.slices_cut),
+        Count("incomplete", tally.incomplete),
+        Count("unsound", tally.unsound),
+        Count("unpaired", tally.unpaired),
+        Count("frames", tally.frames),
     ]
 }

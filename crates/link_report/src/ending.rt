@@ -1,7 +1,6 @@
-ghost use Rattle.std.specs.Prelude.{◌≡◌, IfOk};
+ghost use Rattle.std.specs.Prelude.{◌≡◌, ◌++◌, OnOk};
 ghost use Rattle.std.specs.String.{string_bytes};
 
-use std::alloc::Global;
 use vc_types::NoMemory;
 
 /// Why a command stopped: what the line of its status says.
@@ -28,33 +27,53 @@ pub enum Ending {
 }
 
 impl Ending {
-    ghost use Rattle.link_report.specs.Report.{status_line};
+    ghost use Rattle.link_report.specs.Report.{status_line, ending_status};
 
-    // The line of the status.
-    #[tactic(auto, unfolding(crate::specs::Report::status_line, crate::specs::Report::line))]
-    pub(crate) fn text(&self, alloc: Global) -> Result<String, NoMemory>
-        ensures { IfOk result (λ text. string_bytes text ≡ status_line self.now) }
+    /// The status of a command that stopped so.
+    pub fn status(&self) -> u8
+        ensures { result ≡ ending_status self.now }
     {
-        let text = match *self {
-            Ending::Usage { place } => format!(in alloc; "usage at {place}\n"),
-            Ending::NoMemory => format!(in alloc; "no memory\n"),
-            Ending::InputFailed => format!(in alloc; "input failed\n"),
-            Ending::OutputFailed => format!(in alloc; "output failed\n"),
-            Ending::WireFailed => format!(in alloc; "wire failed\n"),
-            Ending::CaptureCut { place } => format!(in alloc; "capture cut at {place}\n"),
-            Ending::PacketLimit { limit } => format!(in alloc; "packet limit {limit}\n"),
-            Ending::RawCut { frame } => format!(in alloc; "raw cut at frame {frame}\n"),
+        match self {
+            Ending::Usage { .. } => 2,
+            Ending::NoMemory => 3,
+            Ending::InputFailed => 4,
+            Ending::OutputFailed => 5,
+            Ending::WireFailed => 6,
+            Ending::CaptureCut { .. } => 8,
+            Ending::PacketLimit { .. } => 9,
+            Ending::RawCut { .. } => 10,
+            Ending::SampleTooLarge { .. } => 11,
+            Ending::SliceTooLarge { .. } => 12,
+            Ending::StreamBad { .. } => 13,
+            Ending::FrameLimit { .. } => 14,
+        }
+    }
+
+    // Adds the line of the status to a text.
+    #[tactic(auto, unfolding(crate::specs::Report::status_line, crate::specs::Report::line))]
+    pub(crate) fn push_to(&self, text: &mut String) -> Result<(), NoMemory>
+        ensures { OnOk result (string_bytes text.new ≡ string_bytes text.old ++ status_line self.now) }
+    {
+        match *self {
+            Ending::Usage { place } => write!(text, "usage at {place}\n")?,
+            Ending::NoMemory => write!(text, "no memory\n")?,
+            Ending::InputFailed => write!(text, "input failed\n")?,
+            Ending::OutputFailed => write!(text, "output failed\n")?,
+            Ending::WireFailed => write!(text, "wire failed\n")?,
+            Ending::CaptureCut { place } => write!(text, "capture cut at {place}\n")?,
+            Ending::PacketLimit { limit } => write!(text, "packet limit {limit}\n")?,
+            Ending::RawCut { frame } => write!(text, "raw cut at frame {frame}\n")?,
             Ending::SampleTooLarge {
                 place,
                 plane,
                 value,
-            } => { format!(in alloc; "sample {place} of plane {plane} is {value}\n") }
+            } => write!(text, "sample {place} of plane {plane} is {value}\n")?,
             Ending::SliceTooLarge { slice, bytes } => {
-                format!(in alloc; "slice {slice} needs {bytes} bytes\n")
+                write!(text, "slice {slice} needs {bytes} bytes\n")?;
             }
-            Ending::StreamBad { place } => format!(in alloc; "stream bad at {place}\n"),
-            Ending::FrameLimit { limit } => format!(in alloc; "frame limit {limit}\n"),
-        };
-        Ok(text?)
+            Ending::StreamBad { place } => write!(text, "stream bad at {place}\n")?,
+            Ending::FrameLimit { limit } => write!(text, "frame limit {limit}\n")?,
+        }
+        Ok(())
     }
 }

@@ -1,7 +1,6 @@
-ghost use Rattle.std.specs.Prelude.{◌≡◌, OnOk, ◌++◌, map, codes, [], ◌∷◌};
-ghost use Rattle.link_report.specs.Counts.{named};
-ghost use Rattle.link_report.specs.Report.{lines, tally_lines};
+ghost use Rattle.std.specs.Prelude.{◌≡◌, OnOk, ◌++◌, map};
 ghost use Rattle.std.specs.String.{string_bytes};
+ghost use Rattle.link_report.specs.Report.{named, sent_lines, packed_lines, played_lines};
 
 use crate::counts::{Count, push_counts, tally_counts};
 use link_model::Tally;
@@ -56,46 +55,39 @@ impl Summary {
     ghost use Rattle.link_report.specs.Report.{summary_text};
 
     // Adds the lines to a text.
-    #[tactic(auto, unfolding(crate::specs::Report::summary_lines))]
+    #[tactic(auto, using(crate::proofs::Lines::lines_append), unfolding(crate::specs::Report::summary_lines))]
     pub(crate) fn push_to(&self, text: &mut String) -> Result<(), NoMemory>
         ensures { OnOk result (string_bytes text.new ≡ string_bytes text.old ++ summary_text self.now) }
     {
-        match self {
-            Summary::Judged { tally } => push_counts(text, &tally_counts(tally)),
+        match *self {
+            Summary::Judged { tally } => push_counts(text, &tally_counts(&tally)),
             Summary::Sent {
                 frames,
                 datagrams,
                 bytes,
-            } => push_counts(text, &sent(*frames, *datagrams, *bytes)),
+            } => push_counts(text, &sent(frames, datagrams, bytes)),
             Summary::Looped {
                 frames,
                 datagrams,
                 bytes,
                 tally,
-            } => push_looped(text, &sent(*frames, *datagrams, *bytes), tally),
+            } => {
+                push_counts(text, &sent(frames, datagrams, bytes))?;
+                push_counts(text, &tally_counts(&tally))
+            }
             Summary::Packed {
                 pictures,
                 datagrams,
                 bytes,
-            } => push_counts(text, &packed(*pictures, *datagrams, *bytes)),
+            } => push_counts(text, &packed(pictures, datagrams, bytes)),
             Summary::Played {
                 pictures,
                 unpaired,
                 frames,
-            } => push_counts(text, &played(*pictures, *unpaired, *frames)),
-            Summary::Generated { frames, samples } => push_counts(
-                text,
-                &[
-                    Count {
-                        name: "frames",
-                        number: *frames,
-                    },
-                    Count {
-                        name: "samples",
-                        number: *samples,
-                    },
-                ],
-            ),
+            } => push_counts(text, &played(pictures, unpaired, frames)),
+            Summary::Generated { frames, samples } => {
+                push_counts(text, &[Count("frames", frames), Count("samples", samples)])
+            }
             Summary::Compared {
                 frames,
                 samples,
@@ -103,18 +95,9 @@ impl Summary {
             } => push_counts(
                 text,
                 &[
-                    Count {
-                        name: "frames",
-                        number: *frames,
-                    },
-                    Count {
-                        name: "samples",
-                        number: *samples,
-                    },
-                    Count {
-                        name: "different",
-                        number: *different,
-                    },
+                    Count("frames", frames),
+                    Count("samples", samples),
+                    Count("different", different),
                 ],
             ),
         }
@@ -122,66 +105,31 @@ impl Summary {
 }
 
 fn sent(frames: u64, datagrams: u64, bytes: u64) -> [Count; 3]
-    ensures { map named result ≡ (codes "frames", frames) ∷ (codes "datagrams", datagrams) ∷ (codes "bytes", bytes) ∷ [] }
+    ensures { map named result ≡ sent_lines frames datagrams bytes }
 {
     [
-        Count {
-            name: "frames",
-            number: frames,
-        },
-        Count {
-            name: "datagrams",
-            number: datagrams,
-        },
-        Count {
-            name: "bytes",
-            number: bytes,
-        },
+        Count("frames", frames),
+        Count("datagrams", datagrams),
+        Count("bytes", bytes),
     ]
 }
 
-#[tactic(auto, using(crate::proofs::Lines::lines_append))]
-fn push_looped(text: &mut String, sent: &[Count], tally: &Tally) -> Result<(), NoMemory>
-    ensures { OnOk result (string_bytes text.new ≡ string_bytes text.old ++ lines (map named sent.now ++ tally_lines tally.now)) }
-{
-    push_counts(text, sent)?;
-    push_counts(text, &tally_counts(tally))
-}
-
 fn packed(pictures: u64, datagrams: u64, bytes: u64) -> [Count; 3]
-    ensures { map named result ≡ (codes "pictures", pictures) ∷ (codes "datagrams", datagrams) ∷ (codes "bytes", bytes) ∷ [] }
+    ensures { map named result ≡ packed_lines pictures datagrams bytes }
 {
     [
-        Count {
-            name: "pictures",
-            number: pictures,
-        },
-        Count {
-            name: "datagrams",
-            number: datagrams,
-        },
-        Count {
-            name: "bytes",
-            number: bytes,
-        },
+        Count("pictures", pictures),
+        Count("datagrams", datagrams),
+        Count("bytes", bytes),
     ]
 }
 
 fn played(pictures: u64, unpaired: u64, frames: u64) -> [Count; 3]
-    ensures { map named result ≡ (codes "pictures", pictures) ∷ (codes "unpaired", unpaired) ∷ (codes "frames", frames) ∷ [] }
+    ensures { map named result ≡ played_lines pictures unpaired frames }
 {
     [
-        Count {
-            name: "pictures",
-            number: pictures,
-        },
-        Count {
-            name: "unpaired",
-            number: unpaired,
-        },
-        Count {
-            name: "frames",
-            number: frames,
-        },
+        Count("pictures", pictures),
+        Count("unpaired", unpaired),
+        Count("frames", frames),
     ]
 }

@@ -1,62 +1,79 @@
--- What vc2link did, by the status that it answered.
-use Rattle.std.specs.Prelude.{◌≡◌, ◌≢◌, ◌⊎◌, ⊤, ℕ, Result, Ok, Err}
-use Rattle.decode_command.specs.Decoding.{Decodes}
+-- What vc2link did, by what its words mean and by the status that it answered.
+use Rattle.std.specs.Prelude.{◌≡◌, ◌⊎◌, ℕ, Bool, true, false, ◌&&◌, ◌==◌, Option, IsTrue, IsFalse, IsSomeAnd, if◌then◌else◌, Result, Ok, Err}
+use Rattle.decode_command.specs.Decoding.{Decodes, IsDecodable}
 use Rattle.decode_command.specs.declared.ended.Ended.{Ended}
 use Rattle.decode_command.specs.declared.ended.Ended.TheVariants.{Done, Unbuilt, NoMemory, InputFault, OutputFault, CaptureCut}
-use Rattle.link_report.specs.Report.{status_line, summary_text}
+use Rattle.link_report.specs.Answers.{Reports, answer_of}
+use Rattle.link_report.specs.declared.answer.Answer.TheVariants.{Stopped}
 use Rattle.link_report.specs.declared.ending.Ending.{Ending}
-use Rattle.link_report.specs.declared.ending.Ending.TheVariants as endings
+use Rattle.link_report.specs.declared.ending.Ending.TheVariants.{Usage}
 use Rattle.link_report.specs.declared.summary.Summary.{Summary}
-use Rattle.link_words.specs.Settings.{Meaning, ToDecode, ToPlay}
+use Rattle.link_words.specs.Settings.{Meaning, ToDecode, ToEncode, ToSend, ToRecv, ToLoop, ToUnpack, ToPack, ToPlay, ToGen}
 use Rattle.play_command.specs.Playing.{Plays}
-use Rattle.vc_ports.specs.Changes.{InputChange, OutputChange}
-use Rattle.vc_ports.specs.Runs.{Run, IsIdle, Reported, Says, SaysPart, IsSilent}
+use Rattle.vc_ports.specs.Changes.{Change, InputChange, OutputChange, WireChange, HasRisen}
+use Rattle.vc_slice.specs.Asked.{Told}
 
--- ---- the report
+-- ---- what was done
 
--- the status of a command that did not come to its end
-abbrev pub status_of : Ending → ℕ
-status_of (endings.Usage place) = 2
-status_of endings.NoMemory = 3
-status_of endings.InputFailed = 4
-status_of endings.OutputFailed = 5
-status_of endings.WireFailed = 6
-status_of (endings.CaptureCut place) = 8
-status_of (endings.PacketLimit limit) = 9
-status_of (endings.RawCut frame) = 10
-status_of (endings.SampleTooLarge place plane value) = 11
-status_of (endings.SliceTooLarge slice bytes) = 12
-status_of (endings.StreamBad place) = 13
-status_of (endings.FrameLimit limit) = 14
+-- to the input, the output, the report, the wire and the hands
+pub record Changes : Type 0 where
+  pub input : InputChange
+  pub output : OutputChange
+  pub report : OutputChange
+  pub wire : WireChange
+  pub hands : Change (Option Told)
 
--- the report grew by the line of a status, or by a prefix of it, where its count of faults rose
-abbrev pub SaysLine : Ending → Reported → Type 0
-SaysLine ending report = Says (status_line ending) report ⊎ SaysPart (status_line ending) report
+abbrev pub changes : InputChange → OutputChange → OutputChange → WireChange → Change (Option Told) → Changes
+changes input output report wire hands = record {
+  input = input;
+  output = output;
+  report = report;
+  wire = wire;
+  hands = hands;
+}
 
--- there was no memory for the text: the report has the line of status 3 alone
-abbrev pub LacksMemory : ℕ → Reported → Type 0
-LacksMemory status report = (status ≡ 3) × SaysLine endings.NoMemory report
+-- ---- which of them a command calls
 
--- What a command came to, as its status and the report say. At its end the report has the command's lines; a fault of
--- the report is status 7 then, and leaves every other status as it is.
-abbrev pub Reports : Result Summary Ending → ℕ → Reported → Type 0
-Reports (Ok summary) status report =
-    ((status ≡ 0) × Says (summary_text summary) report)
-    ⊎ ((status ≡ 7) × SaysPart (summary_text summary) report)
-    ⊎ LacksMemory status report
-Reports (Err ending) status report = ((status ≡ status_of ending) × SaysLine ending report) ⊎ LacksMemory status report
+pub record Calls : Type 0 where
+  pub input : Bool
+  pub output : Bool
+  pub wire : Bool
+  pub hands : Bool
+  pub report : Bool
+
+abbrev pub calls : (input output wire hands report : Bool) → Calls
+calls input output wire hands report = record {
+  input = input;
+  output = output;
+  wire = wire;
+  hands = hands;
+  report = report;
+}
+
+abbrev pub calls_of : Meaning → Calls
+--                                                input output wire hands report
+calls_of (ToDecode window workers packets) = calls true true false true false
+calls_of (ToEncode sender frames) = calls true true false false true
+calls_of (ToSend sender frames to) = calls true false true false true
+calls_of (ToRecv window workers packets at) = calls false true true true true
+calls_of (ToLoop sender frames window workers at) = calls true true true true true
+calls_of (ToUnpack window workers packets) = calls true true false true true
+calls_of (ToPack packets size ssrc pt seq tick) = calls true true false false true
+calls_of (ToPlay packets) = calls true true false false true
+calls_of (ToGen generator check window workers) = calls false true false check true
+
+-- the forms that are built: of decode the one with a window of 4, 4 workers and any number of packets, the defaults
+abbrev pub is_built : Meaning → Bool
+is_built (ToDecode window workers packets) = window == 4 && workers == 4 && packets == 4294967295
+is_built (ToPlay packets) = true
+is_built meaning = false
+
+-- Words outside the grammar are refused in the report, and a form that is not built calls nothing.
+abbrev pub may_call : Result Meaning ℕ → Calls
+may_call (Ok meaning) = if is_built meaning then calls_of meaning else calls false false false false false
+may_call (Err place) = calls false false false false true
 
 -- ---- the commands
-
--- a form that is not built: neither input, output nor report was called
-pub record IsUnbuilt (status : ℕ) (run : Run) (report : Reported) : Type 0 where
-  pub status_is : status ≡ 1
-  pub idle : IsIdle run
-  pub silent : IsSilent report
-
--- the one form of decode that is built: a window of 4, 4 workers and any number of packets, which are the defaults
-abbrev pub built_decode : Meaning
-built_decode = ToDecode 4 4 4294967295
 
 abbrev pub decoded_status : Ended → ℕ
 decoded_status Done = 0
@@ -66,44 +83,48 @@ decoded_status InputFault = 4
 decoded_status OutputFault = 5
 decoded_status CaptureCut = 8
 
--- the capture was decoded to this status; the report was not called
-pub record DecodesTo (status : ℕ) (run : Run) (report : Reported) : Type 0 where
+-- the capture was decoded to this status
+pub record DecodesTo (status : ℕ) (c : Changes) : Type 0 where
   pub ended : Ended
   pub status_is : status ≡ decoded_status ended
-  pub decodes : Decodes ended run
-  pub silent : IsSilent report
-
-abbrev pub input_in : Run → InputChange
-input_in run = record {
-  left = record { before = run.left_before; after = run.left_after };
-  faults = record { before = run.input_faults_before; after = run.input_faults_after };
-}
-
-abbrev pub output_in : Run → OutputChange
-output_in run = record {
-  held = record { before = run.held_before; after = run.held_after };
-  faults = record { before = run.output_faults_before; after = run.output_faults_after };
-}
+  pub decodes : Decodes ended c.input c.output
 
 -- the stream was played, and the report says how it ended
-pub record PlaysTo (packets status : ℕ) (run : Run) (report : Reported) : Type 0 where
+pub record PlaysTo (packets status : ℕ) (c : Changes) : Type 0 where
   pub answer : Result Summary Ending
-  pub plays : Plays packets answer (input_in run) (output_in run)
-  pub reports : Reports answer status report
+  pub plays : Plays packets answer c.input c.output
+  pub reports : Reports (answer_of answer) status c.report
 
--- what each command does
-abbrev pub Does : Meaning → ℕ → Run → Reported → Type 0
-Does (ToPlay packets) status run report = PlaysTo packets status run report
-Does meaning status run report = ((meaning ≡ built_decode) × DecodesTo status run report) ⊎ ((meaning ≢ built_decode) × IsUnbuilt status run report)
+abbrev pub Did : Meaning → ℕ → Changes → Type 0
+Did (ToDecode window workers packets) status c = DecodesTo status c
+Did (ToPlay packets) status c = PlaysTo packets status c
+Did meaning status c = ⊥
 
--- By what the words mean. Words outside the grammar are refused by the place of the first bad one, and neither input nor
--- output is called.
-abbrev pub Answers : Result Meaning ℕ → ℕ → Run → Reported → Type 0
-Answers (Ok meaning) status run report = Does meaning status run report
-Answers (Err place) status run report = IsIdle run × Reports (Err (endings.Usage place)) status report
+-- ---- the status
 
--- the words of commands that report nothing: those in the grammar, but for play
-abbrev pub ReportsNothing : Result Meaning ℕ → Type 0
-ReportsNothing (Ok (ToPlay packets)) = ⊥
-ReportsNothing (Ok meaning) = ⊤
-ReportsNothing (Err place) = ⊥
+-- no count of faults rose
+pub record HasNoFault (c : Changes) : Type 0 where
+  pub input : HasRisen c.input.faults → ⊥
+  pub output : HasRisen c.output.faults → ⊥
+  pub report : HasRisen c.report.faults → ⊥
+  pub wire : HasRisen c.wire.faults → ⊥
+
+-- The input tells its bytes, which end where the command may end, and are accepted: a row for each command that is built.
+abbrev pub EndsWell : Meaning → Changes → Type 0
+EndsWell (ToDecode window workers packets) c = IsSomeAnd c.input.left.before IsDecodable
+EndsWell meaning c = ⊥
+
+-- The command came to its end, where no count of faults rose and the input ends well, unless memory ran out.
+abbrev pub Completes : Meaning → ℕ → Changes → Type 0
+Completes meaning status c = HasNoFault c → EndsWell meaning c → (status ≡ 0) ⊎ (status ≡ 3)
+
+-- what words in the grammar did
+pub record Does (meaning : Meaning) (status : ℕ) (c : Changes) : Type 0 where
+  pub built : IsTrue (is_built meaning) → Did meaning status c
+  pub unbuilt : IsFalse (is_built meaning) → status ≡ 1
+  pub completes : IsTrue (is_built meaning) → Completes meaning status c
+
+-- By what the words mean. Words outside the grammar are refused by the place of the first bad one.
+abbrev pub Answers : Result Meaning ℕ → ℕ → Changes → Type 0
+Answers (Ok meaning) status c = Does meaning status c
+Answers (Err place) status c = Reports (Stopped (Usage place)) status c.report

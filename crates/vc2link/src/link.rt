@@ -1,61 +1,65 @@
-ghost use Rattle.std.specs.Prelude.{◌≡◌, IsTrue, ◌↔◌};
+ghost use Rattle.std.specs.Prelude.{◌≡◌, IsFalse};
 ghost use Rattle.link_words.specs.Settings.{settings_of};
 ghost use Rattle.link_words.specs.Views.{meaning_view};
-ghost use Rattle.vc2link.specs.LinkMain.{built_decode, decoded_status, Answers, ReportsNothing};
+ghost use Rattle.vc_ports.specs.Changes.{changed, input_of, output_of, wire_of};
+ghost use Rattle.vc2link.specs.LinkMain.{changes, is_built, decoded_status, may_call, Answers};
 
-use crate::answer::answer;
 use decode_command::{Ended, decode};
-use link_report::Ending;
+use link_report::{Answer, Ending, write_answer};
 use link_words::{Settings, read_words};
 use play_command::play;
 use std::alloc::Global;
-use vc_ports::{Sink, Source};
+use std::thread::Threads;
+use vc_ports::{Sink, Source, Wire};
+use vc_slice::Hands;
 use vc_types::Words;
 
 const UNBUILT: u8 = 1;
 
 /// Does what the words say, and answers the status. The words are those behind the program's name.
-pub fn link_main<S: Source, O: Sink, E: Sink>(
+#[tactic(auto, using(crate::proofs::Ends::unbuilt_does, crate::proofs::Ends::decode_does, crate::proofs::Ends::play_does))]
+pub fn link_main<H: Threads + Copy + Send + Sync, S: Source, O: Sink, E: Sink, N: Wire, P: Hands>(
+    _rt: H,
     alloc: Global,
     words: &Words,
     input: &mut S,
     output: &mut O,
     report: &mut E,
+    wire: &mut N,
+    hands: &mut P,
 ) -> u8
-    ensures answers { Answers (settings_of words.now) result (record {
-      left_before = S.left input.old;
-      left_after = S.left input.new;
-      held_before = O.held output.old;
-      held_after = O.held output.new;
-      input_faults_before = S.faults input.old;
-      input_faults_after = S.faults input.new;
-      output_faults_before = O.faults output.old;
-      output_faults_after = O.faults output.new;
-    }) (record {
-      held_before = E.held report.old;
-      held_after = E.held report.new;
-      faults_before = E.faults report.old;
-      faults_after = E.faults report.new;
-    }) }
-    // The report is not even called.
-    ensures silent { ReportsNothing (settings_of words.now) → report.new ≡ report.old }
+    requires free { P.is_free hands.old }
+    ensures answers { Answers (settings_of words.now) result (changes
+        (input_of S.left S.faults input.old input.new)
+        (output_of O.held O.faults output.old output.new)
+        (output_of E.held E.faults report.old report.new)
+        (wire_of N.told N.faults wire.old wire.new)
+        (changed P.Places.told hands.old hands.new)) }
+    // What may not be called is itself as it was.
+    ensures input { IsFalse (may_call (settings_of words.now)).input → input.new ≡ input.old }
+    ensures output { IsFalse (may_call (settings_of words.now)).output → output.new ≡ output.old }
+    ensures wire { IsFalse (may_call (settings_of words.now)).wire → wire.new ≡ wire.old }
+    ensures hands { IsFalse (may_call (settings_of words.now)).hands → hands.new ≡ hands.old }
+    ensures report { IsFalse (may_call (settings_of words.now)).report → report.new ≡ report.old }
 {
     match read_words(words) {
+        Ok(settings) if !is_built(&settings) => UNBUILT,
+        Ok(Settings::Decode { .. }) => decoded_status(decode(alloc, input, output)),
         Ok(Settings::Play { packets }) => {
-            answer(alloc, play(alloc, packets, input, output), report)
+            let answer = Answer::from(play(alloc, packets, input, output));
+            write_answer(alloc, report, &answer)
         }
-        Ok(settings) if is_built(&settings) => decoded_status(decode(alloc, input, output)),
-        Ok(_) => UNBUILT,
+        Ok(_) => unreachable!(),
         Err(usage) => {
             let place = usage.place as u64;
-            answer(alloc, Err(Ending::Usage { place }), report)
+            write_answer(alloc, report, &Answer::Stopped(Ending::Usage { place }))
         }
     }
 }
 
-// Whether the settings are those of the decoding that is built.
+// Whether what the words ask for is built.
 fn is_built(settings: &Settings<'_>) -> bool
-    ensures { IsTrue result ↔ (meaning_view settings.now ≡ built_decode) }
+    ensures { result ≡ is_built (meaning_view settings.now) }
 {
     match settings {
         Settings::Decode {
@@ -63,6 +67,7 @@ fn is_built(settings: &Settings<'_>) -> bool
             workers,
             packets,
         } => *window == 4 && *workers == 4 && *packets == u32::MAX,
+        Settings::Play { .. } => true,
         _ => false,
     }
 }

@@ -1,21 +1,18 @@
 //! vc2link: a studio link for VC-2 pictures.
 #![tactic(auto)]
 
-mod answer;
 mod link;
 #[cfg(test)]
 mod tests;
 
 use link::link_main;
+use link_net::UdpWire;
+use link_report::Ending;
 use std::process::ExitCode;
 use std::{env, io};
 use vc_ports::{StdSink, StdSource};
+use vc_slice::NoPlaces;
 use vc_types::{NoMemory, Words};
-
-// Status of words that aren't text, as of all words outside the grammar.
-const USAGE: u8 = 2;
-
-const NO_MEMORY: u8 = 3;
 
 // The words behind the program's name.
 fn words_of(rt: &HostRuntime) -> io::Result<Result<Words, NoMemory>> {
@@ -29,15 +26,20 @@ fn words_of(rt: &HostRuntime) -> io::Result<Result<Words, NoMemory>> {
 }
 
 fn main(rt: HostRuntime) -> ExitCode {
-    match words_of(&rt) {
-        Ok(Ok(words)) => {
-            let mut input = StdSource::new(rt.stdin());
-            let mut output = StdSink::new(rt.stdout());
-            let mut report = StdSink::new(rt.stderr());
-            let status = link_main(rt.alloc(), &words, &mut input, &mut output, &mut report);
-            ExitCode::from(status)
-        }
-        Ok(Err(NoMemory)) => ExitCode::from(NO_MEMORY),
-        Err(_) => ExitCode::from(USAGE),
-    }
+    let status = match words_of(&rt) {
+        Ok(Ok(words)) => link_main(
+            &rt,
+            rt.alloc(),
+            &words,
+            &mut StdSource::new(rt.stdin()),
+            &mut StdSink::new(rt.stdout()),
+            &mut StdSink::new(rt.stderr()),
+            &mut UdpWire::new(&rt),
+            &mut NoPlaces,
+        ),
+        Ok(Err(NoMemory)) => Ending::NoMemory.status(),
+        // Words that aren't text are outside the grammar.
+        Err(_) => Ending::Usage { place: 0 }.status(),
+    };
+    ExitCode::from(status)
 }

@@ -1,7 +1,8 @@
 -- What a command did, seen through its input, its output, its report and its wire: what each told before and after.
-use Rattle.std.specs.Prelude.{◌≡◌, ℕ, Bool, List, Option}
+use Rattle.std.specs.Prelude.{◌≡◌, ℕ, List, Option}
 use Rattle.vc_ports.specs.Faults.{Rose}
 use Rattle.vc_ports.specs.Reading.{Gave}
+use Rattle.vc_ports.specs.Wires.{WireTold}
 use Rattle.vc_ports.specs.Writing.{Grew, GrewBySome}
 
 -- a value before a command, and after it
@@ -63,39 +64,14 @@ pub record OutputStays (output : OutputChange) : Type 0 where
 
 -- ---- the wire
 
--- The datagrams that will come, those that were given and those that were sent, and the addresses that it listens at and
--- is aimed to, each where the wire tells them; whether it listens and is aimed; and its count of faults.
+-- what it tells, and its count of faults
 pub record WireChange : Type 0 where
-  pub coming : Change (Option (List (List ℕ)))
-  pub given : Change (Option (List (List ℕ)))
-  pub sent : Change (Option (List (List ℕ)))
-  pub at : Change (Option (List (List ℕ)))
-  pub to : Change (Option (List (List ℕ)))
-  pub listens : Change Bool
-  pub aimed : Change Bool
+  pub told : Change WireTold
   pub faults : Change ℕ
 
-abbrev pub wire_of : {N : Type 0}
-    → (N → Option (List (List ℕ))) → (N → Option (List (List ℕ))) → (N → Option (List (List ℕ)))
-    → (N → Option (List (List ℕ))) → (N → Option (List (List ℕ)))
-    → (N → Bool) → (N → Bool) → (N → ℕ) → N → N → WireChange
-wire_of coming given sent at to listens aimed faults old new = record {
-  coming = changed coming old new;
-  given = changed given old new;
-  sent = changed sent old new;
-  at = changed at old new;
-  to = changed to old new;
-  listens = changed listens old new;
-  aimed = changed aimed old new;
-  faults = changed faults old new;
-}
+abbrev pub wire_of : {N : Type 0} → (N → WireTold) → (N → ℕ) → N → N → WireChange
+wire_of told faults old new = record { told = changed told old new; faults = changed faults old new }
 
 pub record WireStays (wire : WireChange) : Type 0 where
-  pub coming : Stays wire.coming
-  pub given : Stays wire.given
-  pub sent : Stays wire.sent
-  pub at : Stays wire.at
-  pub to : Stays wire.to
-  pub listens : Stays wire.listens
-  pub aimed : Stays wire.aimed
+  pub told : Stays wire.told
   pub faults : Stays wire.faults

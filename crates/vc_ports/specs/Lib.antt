@@ -4,5 +4,8 @@ pub mod Writing
 pub mod Filling
 pub mod Memory
 pub mod Adapters
+pub mod Wires
+pub mod MemoryWires
+pub mod Store
 pub mod Runs
 pub mod Changes

@@ -2,26 +2,37 @@
 //! and count their faults, so that a caller's contract can say what was read and written, and why it stopped.
 #![tactic(auto)]
 
+mod datagrams;
 mod front;
+mod gate;
 mod memory_sink;
 mod memory_source;
+mod memory_wire;
+mod meter;
 mod plain_sink;
 mod plain_source;
+mod plain_wire;
 mod sink;
 mod source;
 mod std_sink;
 mod std_source;
+mod store;
 mod whole;
+mod wire;
 
+pub use gate::{Gate, NoGate};
 pub use memory_sink::MemSink;
 pub use memory_source::MemSource;
+pub use memory_wire::MemWire;
 pub use plain_sink::PlainSink;
 pub use plain_source::PlainSource;
+pub use plain_wire::PlainWire;
 pub use sink::{Sink, Took, WriteFault};
 pub use source::{Got, Source};
 pub use std_sink::StdSink;
 pub use std_source::StdSource;
 pub use whole::{Filled, fill, write_all};
+pub use wire::{Came, Reached, Wire};
 
 #[cfg(test)]
 mod tests;

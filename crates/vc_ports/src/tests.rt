@@ -1,4 +1,7 @@
+ghost use Rattle.std.specs.Prelude.{◌≤◌, IsTrue, OnOk, length};
+
 use super::*;
+use std::alloc::Global;
 use std::io::Cursor;
 use std::test::Fail;
 
@@ -76,4 +79,79 @@ fn whole_piece_goes_out_or_a_prefix(rt: HostRuntime) -> Result<(), Fail> {
     assert_eq!(rt; write_all(&mut sink, &[]), Ok(()));
     assert_eq!(rt; sink.bytes(), [1, 2].as_slice());
     Ok(())
+}
+
+// Opens a wire: it listens here and is aimed there.
+fn open<N: Wire>(wire: &mut N) -> Result<(), Fail>
+    ensures { OnOk result (IsTrue (N.told wire.new).listens × IsTrue (N.told wire.new).aimed) }
+{
+    match (wire.listen("here"), wire.aim("there")) {
+        (Reached::Yes, Reached::Yes) => Ok(()),
+        _ => Err("the wire did not open")?,
+    }
+}
+
+fn send<N: Wire>(wire: &mut N, datagram: &[u8]) -> Reached
+    requires { IsTrue (N.told wire.old).listens × IsTrue (N.told wire.old).aimed × (length datagram.now ≤ 65507) }
+    ensures { IsTrue (N.told wire.new).listens × IsTrue (N.told wire.new).aimed }
+{
+    wire.send(datagram)
+}
+
+// Receives into a buffer that has room for any datagram, and answers what came and the first byte.
+fn recv<N: Wire>(wire: &mut N, alloc: Global) -> Result<(Came, u8), Fail>
+    requires { IsTrue (N.told wire.old).listens × IsTrue (N.told wire.old).aimed }
+    ensures { OnOk result (IsTrue (N.told wire.new).listens × IsTrue (N.told wire.new).aimed) }
+{
+    let mut buf = vec![in alloc; 9; 65535]?;
+    let came = wire.recv(&mut buf);
+    Ok((came, buf[0]))
+}
+
+#[test]
+fn memory_wire_gives_what_comes_and_then_what_was_sent(rt: HostRuntime) -> Result<(), Fail> {
+    let alloc = rt.alloc();
+    let coming = vec![in alloc; vec![in alloc; 7, 8]?]?;
+    let mut wire = MemWire::new(alloc, coming, true, 100, Vec::new(alloc))?;
+    open(&mut wire)?;
+    assert_eq!(rt; send(&mut wire, &[1, 2, 3]), Reached::Yes);
+    assert_eq!(rt; recv(&mut wire, alloc)?, (Came::Datagram(2), 7));
+    assert_eq!(rt; recv(&mut wire, alloc)?, (Came::Datagram(3), 1));
+    assert_eq!(rt; recv(&mut wire, alloc)?, (Came::End, 9));
+    assert_eq!(rt; wire.at(0), Some(b"here".as_slice()));
+    assert_eq!(rt; wire.to(0), Some(b"there".as_slice()));
+    assert_eq!(rt; wire.sent(0), Some([1, 2, 3].as_slice()));
+    assert_eq!(rt; wire.sent(1), None);
+    Ok(())
+}
+
+// The addresses take 13 bytes of the room, and a datagram of one byte 3. The fourth call of the wire fails.
+#[test]
+fn memory_wire_fails_at_its_calls_and_past_its_room(rt: HostRuntime) -> Result<(), Fail> {
+    let alloc = rt.alloc();
+    let mut wire = MemWire::new(alloc, Vec::new(alloc), false, 16, vec![in alloc; 4]?)?;
+    open(&mut wire)?;
+    assert_eq!(rt; send(&mut wire, &[1, 2]), Reached::Failed);
+    assert_eq!(rt; recv(&mut wire, alloc)?, (Came::Failed, 9));
+    assert_eq!(rt; send(&mut wire, &[1]), Reached::Yes);
+    assert_eq!(rt; send(&mut wire, &[]), Reached::Failed);
+    assert_eq!(rt; recv(&mut wire, alloc)?, (Came::End, 9));
+    Ok(())
+}
+
+#[test]
+fn plain_wire_gives_its_datagrams(rt: HostRuntime) -> Result<(), Fail> {
+    let alloc = rt.alloc();
+    let mut wire = PlainWire::new(vec![in alloc; vec![in alloc; 7]?, Vec::new(alloc)]?);
+    open(&mut wire)?;
+    assert_eq!(rt; send(&mut wire, &[1]), Reached::Yes);
+    assert_eq!(rt; recv(&mut wire, alloc)?, (Came::Datagram(1), 7));
+    assert_eq!(rt; recv(&mut wire, alloc)?, (Came::Datagram(0), 9));
+    assert_eq!(rt; recv(&mut wire, alloc)?, (Came::End, 9));
+    Ok(())
+}
+
+#[test]
+fn no_gate_is_open(_rt: HostRuntime) {
+    NoGate.pass(1, 2);
 }

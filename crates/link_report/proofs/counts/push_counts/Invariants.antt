@@ -1,7 +1,6 @@
 use Rattle.std.proofs.Common.{◌≡◌, ◌++◌, map, take}
 use Rattle.std.specs.String.{string_bytes}
-use Rattle.link_report.specs.Counts.{named}
-use Rattle.link_report.specs.Report.{lines}
+use Rattle.link_report.specs.Report.{lines, named}
 use Rattle.link_report.proofs.counts.push_counts.Given as goal
 
 abbrev pub invariant-counts : goal.invariant-counts

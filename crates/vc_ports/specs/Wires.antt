@@ -1,0 +1,59 @@
+-- What a wire tells, and what each of its calls makes of that.
+use Rattle.std.specs.Prelude.{◌≡◌, ℕ, ◌≤◌, Bool, true, if◌then◌else◌, List, [], ◌∷◌, ◌++◌, length, take, drop, Option, Some, IfSome}
+use Rattle.std.specs.Option.{option_map}
+use Rattle.vc_ports.specs.declared.wire.Came.{Came}
+use Rattle.vc_ports.specs.declared.wire.Came.TheVariants as came
+use Rattle.vc_ports.specs.declared.wire.Reached.{Reached}
+use Rattle.vc_ports.specs.declared.wire.Reached.TheVariants as reached
+
+-- The datagrams that will come, those that were given and those that were sent, and the addresses at which it listens and
+-- to which it is aimed: each list where the wire tells it. Whether what is sent comes, whether the wire listens, and
+-- whether it is aimed.
+pub record WireTold : Type 0 where
+  pub coming : Option (List (List ℕ))
+  pub given : Option (List (List ℕ))
+  pub sent : Option (List (List ℕ))
+  pub at : Option (List (List ℕ))
+  pub to : Option (List (List ℕ))
+  pub looped : Bool
+  pub listens : Bool
+  pub aimed : Bool
+
+-- a list that is told, with one more at its end
+abbrev pub grown : Option (List (List ℕ)) → List ℕ → Option (List (List ℕ))
+grown list one = option_map (λ all. all ++ one ∷ []) list
+
+-- ---- behind each call
+
+abbrev pub listening : WireTold → List ℕ → WireTold
+listening told at = record told { at = grown told.at at; listens = true }
+
+abbrev pub aiming : WireTold → List ℕ → WireTold
+aiming told to = record told { to = grown told.to to; aimed = true }
+
+abbrev pub sending : WireTold → List ℕ → WireTold
+sending told datagram = record told {
+  sent = grown told.sent datagram;
+  coming = if told.looped then grown told.coming datagram else told.coming;
+}
+
+abbrev pub receiving : WireTold → List ℕ → WireTold
+receiving told datagram = record told { coming = option_map (drop 1) told.coming; given = grown told.given datagram }
+
+-- ---- by the call's answer
+
+-- what was to be is so, or nothing changed
+abbrev pub Reaches : WireTold → WireTold → WireTold → Reached → Type 0
+Reaches before next after reached.Yes = after ≡ next
+Reaches before next after reached.Failed = after ≡ before
+
+-- the datagram at the front of the buffer is the first of those that were to come
+pub record Receives (before after : WireTold) (datagram : List ℕ) : Type 0 where
+  pub first : IfSome before.coming (λ coming. take 1 coming ≡ datagram ∷ [])
+  pub told : after ≡ receiving before datagram
+
+abbrev pub Comes : WireTold → WireTold → List ℕ → Came → Type 0
+Comes before after buf (came.Datagram n) = (n ≤ length buf) × Receives before after (take n buf)
+-- only a wire that tells what will come ends
+Comes before after buf came.End = (before.coming ≡ Some []) × (after ≡ before)
+Comes before after buf came.Failed = after ≡ before
