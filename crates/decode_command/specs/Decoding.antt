@@ -14,14 +14,17 @@ use Rattle.decode_command.specs.OnePicture.{frames_of}
 -- the output grew by, where the datagrams have the form of these frames.
 abbrev pub Outcome : Ended → InputChange → OutputChange → Option (List ℕ) → List ℕ → Type 0
 -- the input was read to its end, which lies at an entry's edge
-Outcome Done input output (Some frames) rest = IsAtEnd input.left.after × (rest ≡ []) × Wrote output frames
+Outcome Done input output (Some frames) rest =
+    IsAtEnd input.left.after × (rest ≡ []) × Wrote output frames
 -- what was heard doesn't have the form
 Outcome Unbuilt input output None rest = (rest ≡ []) × Stays output.held
 Outcome NoMemory input output (Some frames) rest = WrotePart output frames
 Outcome InputFault input output (Some frames) rest = HasRisen input.faults × Wrote output frames
-Outcome OutputFault input output (Some frames) rest = HasRisen output.faults × WrotePart output frames
+Outcome OutputFault input output (Some frames) rest =
+    HasRisen output.faults × WrotePart output frames
 -- the input was read to its end, which lies within an entry
-Outcome CaptureCut input output (Some frames) rest = IsAtEnd input.left.after × (rest ≢ []) × Wrote output frames
+Outcome CaptureCut input output (Some frames) rest =
+    IsAtEnd input.left.after × (rest ≢ []) × Wrote output frames
 Outcome ended input output frames rest = ⊥
 
 -- decoding the bytes that the input gave

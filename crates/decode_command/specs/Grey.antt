@@ -6,7 +6,8 @@ use Rattle.vc_types.specs.TransformParameters.{Parameters}
 
 -- the raw bytes of a plane
 abbrev pub grey_bytes : ℕ → ℕ → ℕ → Bool → List ℕ
-grey_bytes width height depth two = flat_map (sample_bytes two) (replicate (height * width) (2 ^ (depth - 1)))
+grey_bytes width height depth two =
+    flat_map (sample_bytes two) (replicate (height * width) (2 ^ (depth - 1)))
 
 -- the raw bytes of the three planes
 abbrev pub grey_frame : Parameters → List ℕ

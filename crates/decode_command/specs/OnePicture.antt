@@ -26,7 +26,8 @@ abbrev pub of_frames : Session → Option Session
 of_frames s = if s.sequence.fields then None else Some s
 
 abbrev pub planned : ℕ → List ℕ → Result (Parameters × ℕ) ParamsRefusal → Option Planned
-planned number body (Ok read) = Some (record { number = number; bytes = take read.1 body; parameters = read.0 })
+planned number body (Ok read) =
+    Some (record { number = number; bytes = take read.1 body; parameters = read.0 })
 planned number body (Err refusal) = None
 
 -- transform parameters begin a picture
@@ -36,7 +37,8 @@ planned_by s other = None
 
 -- a slice that stands for zeros
 abbrev pub is_empty : CodedSlice → Bool
-is_empty coded = nat_le coded.index 127 && length coded.y == 0 && length coded.c1 == 0 && length coded.c2 == 0
+is_empty coded =
+    nat_le coded.index 127 && length coded.y == 0 && length coded.c1 == 0 && length coded.c2 == 0
 
 unfoldable pub empty_slice : Parameters → ByteField (Unit {0})
 empty_slice p = do
@@ -56,7 +58,12 @@ is_of number p head = head.number == number && head.prefix == p.prefix && head.s
 
 -- all slices of the picture, each of them empty
 abbrev pub slices_by : ℕ → Parameters → PayloadValue → Option (List ℕ)
-slices_by number p (Slices head count x y from body) = if is_of number p head && count == slice_count p && x == 0 && y == 0 && is_ok (empty_slices p count body) then Some body else None
+slices_by number p (Slices head count x y from body) =
+    if is_of number p head
+    && count == slice_count p
+    && x == 0
+    && y == 0
+    && is_ok (empty_slices p count body) then Some body else None
 slices_by number p other = None
 
 -- the payload of a datagram of the session
@@ -72,7 +79,8 @@ unfoldable pub plans : Session → List ℕ → Option Planned
 plans s datagram = option_and_then (planned_by s) (from_source s.ssrc (received datagram))
 
 unfoldable pub completes : Session → ℕ → Parameters → List ℕ → Option (List ℕ)
-completes s number p datagram = option_and_then (slices_by number p) (from_source s.ssrc (received datagram))
+completes s number p datagram =
+    option_and_then (slices_by number p) (from_source s.ssrc (received datagram))
 
 -- ---- the frames of a list
 
@@ -82,7 +90,8 @@ raw_frame s p slices = option_map (λ planes. frame_bytes planes (is_wide p.para
 
 abbrev pub with_slices : Session → Planned → List (List ℕ) → Option (List ℕ)
 with_slices s p [] = Some []
-with_slices s p (datagram ∷ []) = option_and_then (raw_frame s p) (completes s p.number p.parameters datagram)
+with_slices s p (datagram ∷ []) =
+    option_and_then (raw_frame s p) (completes s p.number p.parameters datagram)
 with_slices s p (datagram ∷ next ∷ more) = None
 
 abbrev pub with_parameters : Session → List (List ℕ) → Option (List ℕ)

@@ -24,11 +24,13 @@ pub record BringsPlan (s : Session) (datagram : List ℕ) (number : ℕ) (p : Pa
   pub plans : plans s datagram ≡ Some (planned_as number body used p)
 
 -- the same of the last of the datagrams that were heard
-pub record IsPlanned (s : Session) (number : ℕ) (p : Parameters) (heard : List (List ℕ)) : Type 0 where
+pub record IsPlanned (s : Session) (number : ℕ) (p : Parameters) (heard : List (List ℕ))
+    : Type 0 where
   pub body : List ℕ
   pub used : ℕ
   pub coded : coded_parameters s.sequence body ≡ Ok (p, used)
-  pub frames : (more : List (List ℕ)) → frames_of (heard ++ more) ≡ with_slices s (planned_as number body used p) more
+  pub frames : (more : List (List ℕ))
+      → frames_of (heard ++ more) ≡ with_slices s (planned_as number body used p) more
 
 -- one frame, if nothing else comes
 abbrev pub only_frame : List ℕ → List (List ℕ) → Option (List ℕ)
@@ -38,8 +40,10 @@ only_frame frame (datagram ∷ more) = None
 -- the datagrams that were heard, and what becomes of those that come
 abbrev pub Stands : Stage → List (List ℕ) → Type 0
 Stands stages.Empty heard = heard ≡ []
-Stands (stages.Opened s) heard = (more : List (List ℕ)) → frames_of (heard ++ more) ≡ with_parameters (session_of s) more
-Stands (stages.Planned s number plan) heard = IsPlanned (session_of s) number (parameters_of plan) heard
+Stands (stages.Opened s) heard =
+    (more : List (List ℕ)) → frames_of (heard ++ more) ≡ with_parameters (session_of s) more
+Stands (stages.Planned s number plan) heard =
+    IsPlanned (session_of s) number (parameters_of plan) heard
 Stands (stages.Whole plan) heard = (more : List (List ℕ)) → frames_of (heard ++ more) ≡ only_frame (grey_frame (parameters_of plan)) more
 
 -- no list that begins so has the form

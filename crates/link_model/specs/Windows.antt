@@ -73,7 +73,8 @@ pub record StandsForEntries (base window : ℕ) (s : Sequence) (w : Window) (es 
   pub begins : w.base ≡ base
   pub top : w.top ≡ greatest es
   pub is_new : w.is_new ≡ is_nothing es
-  pub books : (n : ℕ) → is_needed window released es n ≡ true → w.books n ≡ Some (book_of s (parts_of n es))
+  pub books : (n : ℕ) → is_needed window released es n ≡ true
+      → w.books n ≡ Some (book_of s (parts_of n es))
   pub unopened : (n : ℕ) → is_opened es n ≡ false → w.books n ≡ None
 
 -- ---- when a picture is let go, by the window

@@ -87,7 +87,8 @@ summary_lines (Looped frames datagrams bytes tally) =
     sent_lines frames datagrams bytes ++ tally_lines tally
 summary_lines (Packed pictures datagrams bytes) = packed_lines pictures datagrams bytes
 summary_lines (Played pictures unpaired frames) = played_lines pictures unpaired frames
-summary_lines (Generated frames samples) = (codes "frames", frames) ∷ (codes "samples", samples) ∷ []
+summary_lines (Generated frames samples) =
+    (codes "frames", frames) ∷ (codes "samples", samples) ∷ []
 summary_lines (Compared frames samples different) =
     (codes "frames", frames) ∷ (codes "samples", samples) ∷ (codes "different", different) ∷ []
 

@@ -14,11 +14,13 @@ payload_value (Header high from body) = packets.Header high from body.now
 payload_value (End high) = packets.End high
 payload_value (Skip high code) = packets.Skip high code
 payload_value (Params head from body) = packets.Params (head_of head) from body.now
-payload_value (Slices head count x y from body) = packets.Slices (head_of head) count x y from body.now
+payload_value (Slices head count x y from body) =
+    packets.Slices (head_of head) count x y from body.now
 
 -- the body is what stands at a place of the bytes
 abbrev pub StandsAt : List ℕ → ℕ → List ℕ → Type 0
-StandsAt bytes from body = (from + length body ≤ length bytes) × (body ≡ slice_range bytes from (from + length body))
+StandsAt bytes from body =
+    (from + length body ≤ length bytes) × (body ≡ slice_range bytes from (from + length body))
 
 -- a payload's body, if it has one, stands at its place
 abbrev pub HasBodyIn : List ℕ → Payload → Type 0

@@ -23,7 +23,8 @@ pub record Changes : Type 0 where
   pub wire : WireChange
   pub hands : Change (Option Told)
 
-abbrev pub changes : InputChange → OutputChange → OutputChange → WireChange → Change (Option Told) → Changes
+abbrev pub changes : InputChange → OutputChange → OutputChange → WireChange → Change (Option Told)
+    → Changes
 changes input output report wire hands = record {
   input = input;
   output = output;
@@ -70,7 +71,8 @@ is_built meaning = false
 
 -- Words outside the grammar are refused in the report, and a form that is not built calls nothing.
 abbrev pub may_call : Result Meaning ℕ → Calls
-may_call (Ok meaning) = if is_built meaning then calls_of meaning else calls false false false false false
+may_call (Ok meaning) =
+    if is_built meaning then calls_of meaning else calls false false false false false
 may_call (Err place) = calls false false false false true
 
 -- ---- the commands

@@ -155,7 +155,13 @@ fn nests_levels_across(rt: HostRuntime) {
     // One column among two slices goes to the second.
     assert_eq!(rt; slice_len(&plan, Component::Y, 0), 14);
     assert_eq!(rt; slice_len(&plan, Component::Y, 1), 18);
-    for (i, want) in [(0, (2, 0)), (1, (2, 1)), (2, (4, 0)), (6, (0, 2)), (13, (5, 3))] {
+    for (i, want) in [
+        (0, (2, 0)),
+        (1, (2, 1)),
+        (2, (4, 0)),
+        (6, (0, 2)),
+        (13, (5, 3)),
+    ] {
         assert_eq!(rt; luma_place(&plan, 0, i), Some(want), "coefficient {i}");
     }
 }

@@ -13,11 +13,13 @@ parity_of Odd = standard.odd
 
 -- what a row of the code's table means
 abbrev pub lifting_step : Row → LiftingStep
-lifting_step r = record { parity = parity_of r.0; adds = r.1; taps = r.2.now; shift = r.3; first = r.4 }
+lifting_step r =
+    record { parity = parity_of r.0; adds = r.1; taps = r.2.now; shift = r.3; first = r.4 }
 
 abbrev pub counted_row : Row → CountedStep
 counted_row r = counted_step (lifting_step r)
 
 -- what a step of the code means
 abbrev pub counted_of : Step → CountedStep
-counted_of s = record { parity = s.parity; adds = s.adds; taps = s.taps.now; back = s.back; shift = s.shift }
+counted_of s =
+    record { parity = s.parity; adds = s.adds; taps = s.taps.now; back = s.back; shift = s.shift }

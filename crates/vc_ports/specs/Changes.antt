@@ -30,7 +30,8 @@ pub record InputChange : Type 0 where
   pub faults : Change ℕ
 
 abbrev pub input_of : {S : Type 0} → (S → Option (List ℕ)) → (S → ℕ) → S → S → InputChange
-input_of left faults old new = record { left = changed left old new; faults = changed faults old new }
+input_of left faults old new =
+    record { left = changed left old new; faults = changed faults old new }
 
 -- the input gave these bytes
 abbrev pub Took : InputChange → List ℕ → Type 0
@@ -48,7 +49,8 @@ pub record OutputChange : Type 0 where
   pub faults : Change ℕ
 
 abbrev pub output_of : {O : Type 0} → (O → Option (List ℕ)) → (O → ℕ) → O → O → OutputChange
-output_of held faults old new = record { held = changed held old new; faults = changed faults old new }
+output_of held faults old new =
+    record { held = changed held old new; faults = changed faults old new }
 
 -- it grew by these bytes
 abbrev pub Wrote : OutputChange → List ℕ → Type 0
@@ -70,7 +72,8 @@ pub record WireChange : Type 0 where
   pub faults : Change ℕ
 
 abbrev pub wire_of : {N : Type 0} → (N → WireTold) → (N → ℕ) → N → N → WireChange
-wire_of told faults old new = record { told = changed told old new; faults = changed faults old new }
+wire_of told faults old new =
+    record { told = changed told old new; faults = changed faults old new }
 
 pub record WireStays (wire : WireChange) : Type 0 where
   pub told : Stays wire.told

@@ -7,5 +7,4 @@ pub mod Adapters
 pub mod Wires
 pub mod MemoryWires
 pub mod Store
-pub mod Runs
 pub mod Changes

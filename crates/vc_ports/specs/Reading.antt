@@ -20,6 +20,7 @@ pub record GaveAll (before after : Option (List ℕ)) (bytes : List ℕ) : Type 
 -- what a read into a buffer did, by its answer
 abbrev pub Reads : Option (List ℕ) → Option (List ℕ) → List ℕ → List ℕ → Got → Type 0
 -- some bytes came to the front of the buffer, the rest of which stays
-Reads before after old new (Bytes n) = (0 < n) × (n ≤ length old) × Gave before after (take n new) × (drop n new ≡ drop n old)
+Reads before after old new (Bytes n) =
+    (0 < n) × (n ≤ length old) × Gave before after (take n new) × (drop n new ≡ drop n old)
 Reads before after old new End = IsAtEnd before × (after ≡ before)
 Reads before after old new Failed = after ≡ before

@@ -38,7 +38,8 @@ sending told datagram = record told {
 }
 
 abbrev pub receiving : WireTold → List ℕ → WireTold
-receiving told datagram = record told { coming = option_map (drop 1) told.coming; given = grown told.given datagram }
+receiving told datagram =
+    record told { coming = option_map (drop 1) told.coming; given = grown told.given datagram }
 
 -- ---- by the call's answer
 

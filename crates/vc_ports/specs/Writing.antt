@@ -17,5 +17,6 @@ pub record GrewBySome (before after : Option (List ℕ)) (bytes : List ℕ) : Ty
 -- what a write of a piece did, by its answer
 abbrev pub Writes : Option (List ℕ) → Option (List ℕ) → List ℕ → Took → Type 0
 -- the first bytes of the piece went out
-Writes before after piece (Bytes n) = (0 < n) × (n ≤ length piece) × Grew before after (take n piece)
+Writes before after piece (Bytes n) =
+    (0 < n) × (n ≤ length piece) × Grew before after (take n piece)
 Writes before after piece Failed = after ≡ before

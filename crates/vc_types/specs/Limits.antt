@@ -19,7 +19,8 @@ slice_count_fits slices = nat_le 1 slices && nat_le slices 65535
 
 -- at most 65,535 slices across and down, and 131,072 in all
 abbrev pub slices_fit : ℕ → ℕ → Bool
-slices_fit across down = slice_count_fits across && slice_count_fits down && nat_le (across * down) 131072
+slices_fit across down =
+    slice_count_fits across && slice_count_fits down && nat_le (across * down) 131072
 
 abbrev pub slice_bytes_fit : ℕ → ℕ → Bool
 slice_bytes_fit prefix scaler = nat_le prefix 65535 && nat_le 1 scaler && nat_le scaler 65535

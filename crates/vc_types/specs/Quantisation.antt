@@ -17,7 +17,8 @@ unfoldable pub quant_factor : ℕ → ℕ
 quant_factor index = factor_by (index % 4) (2 ^ (index / 4))
 
 unfoldable pub quant_offset : ℕ → ℕ
-quant_offset index = if index == 0 then 1 else if index == 1 then 2 else (quant_factor index + 1) / 2
+quant_offset index =
+    if index == 0 then 1 else if index == 1 then 2 else (quant_factor index + 1) / 2
 
 -- a magnitude under the sign of z
 abbrev pub with_sign_of : ℤ → ℕ → ℤ

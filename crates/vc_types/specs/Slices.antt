@@ -89,9 +89,11 @@ in_range s = if list_any is_large (s.y ++ s.c1 ++ s.c2) then Err CoefficientRang
 
 -- the coefficients of a slice by its number
 unfoldable pub decoded_slice : Parameters → ℕ → CodedSlice → Result Coefficients Unsound
-decoded_slice p slice coded = if nat_lt 127 coded.index then Err IndexRange else in_range (all_coefficients p slice coded)
+decoded_slice p slice coded =
+    if nat_lt 127 coded.index then Err IndexRange else in_range (all_coefficients p slice coded)
 
-abbrev pub decoded_from : Parameters → ℕ → Result (CodedSlice × List ℕ) (Unit {0}) → Result Coefficients Unsound
+abbrev pub decoded_from : Parameters → ℕ → Result (CodedSlice × List ℕ) (Unit {0})
+    → Result Coefficients Unsound
 decoded_from p slice (Ok read) = decoded_slice p slice read.0
 decoded_from p slice (Err short) = Err IndexRange
 

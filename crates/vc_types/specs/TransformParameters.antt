@@ -100,7 +100,8 @@ matrix_by_default (Some matrix) = give matrix
 
 -- the default matrix; a transform that isn't the same across as down has none
 abbrev pub default_of : ℕ → ℕ → ℕ × ℕ → Option (List ℕ)
-default_of wavelet depth across = if same_across wavelet across then default_matrix wavelet depth else None
+default_of wavelet depth across =
+    if same_across wavelet across then default_matrix wavelet depth else None
 
 -- a value for each subband in order, where the flag is 1
 unfoldable pub quantisation_matrix : ℕ → ℕ → ℕ × ℕ → ParamsField (List ℕ)
@@ -135,4 +136,5 @@ transform_parameters sequence = do
 
 -- the parameters at the front of bytes and how many of them they take, or the first refusal
 abbrev pub coded_parameters : Sequence → List ℕ → Result (Parameters × ℕ) ParamsRefusal
-coded_parameters sequence bytes = with_bytes_used bytes (transform_parameters sequence (bits_of bytes))
+coded_parameters sequence bytes =
+    with_bytes_used bytes (transform_parameters sequence (bits_of bytes))

@@ -36,5 +36,7 @@ parted wavelet half l = halves_apart half (analysed wavelet (2 * half) l)
 -- two halves are put together, and the samples are halved if that is wanted; or samples are doubled, and taken apart
 -- into two halves
 abbrev pub remade : Direction → ℕ → Bool → ℕ → Line → Line
-remade Synthesis wavelet shifted half l = on_samples halved shifted (2 * half) (merged wavelet half l)
-remade Analysis wavelet shifted half l = parted wavelet half (on_samples doubled shifted (2 * half) l)
+remade Synthesis wavelet shifted half l =
+    on_samples halved shifted (2 * half) (merged wavelet half l)
+remade Analysis wavelet shifted half l =
+    parted wavelet half (on_samples doubled shifted (2 * half) l)
