@@ -1,25 +1,30 @@
-ghost use Rattle.std.specs.Prelude.{◌≡◌, ◌^◌, ◌<◌, ◌≤◌, ◌↔◌, All, IsTrue, unsigned_abs, replicate};
+ghost use Rattle.std.specs.Prelude.{◌≡◌, ◌+◌, ◌^◌, ◌<◌, ◌≤◌, ◌↔◌, ℕ, All, IsTrue, length, unsigned_abs, replicate};
+ghost use Rattle.vc_types.specs.Lifting.{line_of};
 ghost use Rattle.vc_types.specs.Limits.{shape_fits, padded_luma_fits};
 ghost use Rattle.vc_types.specs.Quantisation.{filled_matrix, used_entries};
 
 use crate::{forward, inverse, inverse_undoes_forward};
+use std::alloc::Global;
 use std::test::Fail;
+use vc_geometry::padded;
 use vc_types::{Component, Grid, Plan, Plane, Shape};
 
-fn plan(shape: Shape, wavelet: u8, depth: u8) -> Plan
+fn plan(shape: Shape, wavelets: (u8, u8), levels: (u8, u8)) -> Plan
     requires shape { IsTrue (shape_fits shape) }
-    requires padded { IsTrue (padded_luma_fits shape 0 depth) }
-    requires wavelet { wavelet ≤ 6 }
-    requires depth { (1 ≤ depth) × (depth ≤ 5) }
-    requires matrix { filled_matrix (used_entries 0 depth (replicate 16 0)) ≡ replicate 16 0 }
-    ensures { (result.shape ≡ shape) × (result.wavelet ≡ wavelet) × (result.depth ≡ depth) }
+    requires padded { IsTrue (padded_luma_fits shape levels.1 levels.0) }
+    requires wavelets { (wavelets.0 ≤ 6) × (wavelets.1 ≤ 6) }
+    requires levels { (1 ≤ levels.0) × (levels.0 + levels.1 ≤ 5) }
+    requires matrix { filled_matrix (used_entries levels.1 levels.0 (replicate 16 0)) ≡ replicate 16 0 }
+    ensures shape { result.shape ≡ shape }
+    ensures wavelets { (result.wavelet ≡ wavelets.0) × (result.wavelet_ho ≡ wavelets.1) }
+    ensures levels { (result.depth ≡ levels.0) × (result.depth_ho ≡ levels.1) }
 {
     Plan {
         shape,
-        wavelet,
-        wavelet_ho: wavelet,
-        depth,
-        depth_ho: 0,
+        wavelet: wavelets.0,
+        wavelet_ho: wavelets.1,
+        depth: levels.0,
+        depth_ho: levels.1,
         slices_x: 1,
         slices_y: 1,
         prefix: 0,
@@ -53,7 +58,7 @@ fn digest(cells: &[i128]) -> i128 {
 // Columns come before rows: rows first would give -1 0 and -2 0.
 #[test]
 fn a_level_goes_down_and_then_across(rt: HostRuntime) -> Result<(), Fail> {
-    let plan = plan(size(2, 2), 3, 1);
+    let plan = plan(size(2, 2), (3, 3), (1, 0));
     let coefficients = Grid::new(2, 2, vec![in rt.alloc(); 0, 1, 0, 1]?);
     let samples = inverse(rt.alloc(), &plan, Component::Y, coefficients)?;
     assert_eq!(rt; samples.cells(), [0, 0, -1, 0].as_slice());
@@ -62,7 +67,7 @@ fn a_level_goes_down_and_then_across(rt: HostRuntime) -> Result<(), Fail> {
 
 #[test]
 fn zeros_are_grey(rt: HostRuntime) -> Result<(), Fail> {
-    let plan = plan(size(8, 4), 1, 1);
+    let plan = plan(size(8, 4), (1, 1), (1, 0));
     let coefficients = Grid::new(8, 4, vec![in rt.alloc(); 0; 32]?);
     let samples = inverse(rt.alloc(), &plan, Component::Y, coefficients)?;
     assert_eq!(rt; samples.cells(), [0; 32].as_slice());
@@ -71,7 +76,7 @@ fn zeros_are_grey(rt: HostRuntime) -> Result<(), Fail> {
 
 #[test]
 fn a_plane_of_one_sample_is_one_coefficient(rt: HostRuntime) -> Result<(), Fail> {
-    let plan = plan(size(1, 1), 3, 1);
+    let plan = plan(size(1, 1), (3, 3), (1, 0));
     let plane = Plane::new(1, 1, vec![in rt.alloc(); 0x7F]?);
     let coefficients = forward(rt.alloc(), &plan, Component::C1, &plane)?;
     assert_eq!(rt; coefficients.cells(), [-1, 0, 0, 0].as_slice());
@@ -96,7 +101,7 @@ static COEFFICIENTS: [i128; 7] = [
 #[test]
 fn five_by_three_samples_go_there_and_back(rt: HostRuntime) -> Result<(), Fail> {
     for wavelet in 0..7 {
-        let plan = plan(size(5, 3), wavelet, 2);
+        let plan = plan(size(5, 3), (wavelet, wavelet), (2, 0));
         let samples = vec![in rt.alloc();
             3, 250, 17, 99, 128, 200, 1, 77, 254, 0, 64, 65, 66, 255, 31,
         ]?;
@@ -111,5 +116,137 @@ fn five_by_three_samples_go_there_and_back(rt: HostRuntime) -> Result<(), Fail> 
         assert_eq!(rt; digest(back.cells()), -204849116223, "wavelet {wavelet}");
     }
     inverse_undoes_forward();
+    Ok(())
+}
+
+// H alone has a coefficient. A level across alone makes -1 0 of its row, which is LL of a level both ways.
+#[test]
+fn levels_across_come_first(rt: HostRuntime) -> Result<(), Fail> {
+    let plan = plan(size(4, 2), (3, 3), (1, 1));
+    let coefficients = Grid::new(4, 2, vec![in rt.alloc(); 0, 1, 0, 0, 0, 0, 0, 0]?);
+    let samples = inverse(rt.alloc(), &plan, Component::Y, coefficients)?;
+    assert_eq!(rt; samples.cells(), [-1, -1, 0, 0, -1, -1, 0, 0].as_slice());
+    Ok(())
+}
+
+// LL alone has a coefficient. Wavelet 3 would leave its value; wavelet 4, of the rows, halves it.
+#[test]
+fn rows_say_whether_samples_are_shifted(rt: HostRuntime) -> Result<(), Fail> {
+    let plan = plan(size(2, 2), (3, 4), (1, 0));
+    let coefficients = Grid::new(2, 2, vec![in rt.alloc(); 3, 0, 0, 0]?);
+    let samples = inverse(rt.alloc(), &plan, Component::Y, coefficients)?;
+    assert_eq!(rt; samples.cells(), [2; 4].as_slice());
+    Ok(())
+}
+
+// Coefficients: place i, row by row from 0, has (i * i + 7 * i) mod 61 - 30.
+fn fill(cells: &mut [i128])
+    ensures { All (λ z. unsigned_abs z < 2 ^ 60) cells.new }
+{
+    let mut i: u32 = 0;
+    for cell in cells.iter_mut() {
+        *cell = coefficient(i);
+        i = (i + 1) % 61;
+    }
+}
+
+fn coefficient(i: u32) -> i128
+    requires { i < 61 }
+    ensures { unsigned_abs result < 2 ^ 60 }
+{
+    i128::from((i * i + 7 * i) % 61) - 30
+}
+
+// The samples of these coefficients: the sum of each times its place, row by row from 1. `bench/reference inverse --sums`
+// prints such sums; it was written from the standard alone.
+fn sum(alloc: Global, plan: &Plan) -> Result<i128, Fail> {
+    let (width, height) = padded(plan, Component::Y);
+    let mut cells = vec![in alloc; 0i128; width as usize * height as usize]?;
+    fill(&mut cells);
+    let samples = inverse(alloc, plan, Component::Y, Grid::new(width, height, cells))?;
+    let mut sum: i128 = 0;
+    let mut place: i128 = 1;
+    for z in samples.cells() {
+        sum = sum.wrapping_add(z.wrapping_mul(place));
+        place = place.wrapping_add(1);
+    }
+    Ok(sum)
+}
+
+// A row for each wavelet of the columns, a column for each of the rows: 6 by 4 samples, a level across alone and one
+// both ways.
+static PAIRS: [[i128; 7]; 7] = [
+    [-1786, -1640, -1739, -80, -440, -3154, -1374],
+    [-1869, -1723, -1786, -632, -578, -3232, -1401],
+    [-1826, -1668, -1755, -111, -428, -3140, -1425],
+    [-1647, -1533, -1636, -1355, -520, -3016, -1295],
+    [-1647, -1533, -1636, -1355, -520, -3016, -1295],
+    [-1898, -1835, -1860, -1793, -1225, -2700, -1438],
+    [-1687, -1481, -1632, 193, -364, -2765, -1408],
+];
+
+#[test]
+fn each_pair_of_wavelets(rt: HostRuntime) -> Result<(), Fail> {
+    for down in 0..7 {
+        for across in 0..7 {
+            let plan = plan(size(6, 4), (down, across), (1, 1));
+            let wanted = PAIRS[down as usize][across as usize];
+            assert_eq!(rt; sum(rt.alloc(), &plan)?, wanted, "{down} {across}");
+        }
+    }
+    Ok(())
+}
+
+// Each split of up to five levels, with wavelet 1 down and 5 across, on 5 by 3 samples.
+#[test]
+fn one_level_both_ways(rt: HostRuntime) -> Result<(), Fail> {
+    let shape = size(5, 3);
+    assert_eq!(rt; sum(rt.alloc(), &plan(shape, (1, 5), (1, 0)))?, 681);
+    assert_eq!(rt; sum(rt.alloc(), &plan(shape, (1, 5), (1, 1)))?, -3232);
+    assert_eq!(rt; sum(rt.alloc(), &plan(shape, (1, 5), (1, 2)))?, -2330);
+    assert_eq!(rt; sum(rt.alloc(), &plan(shape, (1, 5), (1, 3)))?, -8455);
+    assert_eq!(rt; sum(rt.alloc(), &plan(shape, (1, 5), (1, 4)))?, -8436);
+    Ok(())
+}
+
+#[test]
+fn two_levels_both_ways(rt: HostRuntime) -> Result<(), Fail> {
+    let shape = size(5, 3);
+    assert_eq!(rt; sum(rt.alloc(), &plan(shape, (1, 5), (2, 0)))?, -4974);
+    assert_eq!(rt; sum(rt.alloc(), &plan(shape, (1, 5), (2, 1)))?, -5251);
+    assert_eq!(rt; sum(rt.alloc(), &plan(shape, (1, 5), (2, 2)))?, -10197);
+    assert_eq!(rt; sum(rt.alloc(), &plan(shape, (1, 5), (2, 3)))?, -19879);
+    Ok(())
+}
+
+#[test]
+fn three_levels_both_ways(rt: HostRuntime) -> Result<(), Fail> {
+    let shape = size(5, 3);
+    assert_eq!(rt; sum(rt.alloc(), &plan(shape, (1, 5), (3, 0)))?, -18947);
+    assert_eq!(rt; sum(rt.alloc(), &plan(shape, (1, 5), (3, 1)))?, -33570);
+    assert_eq!(rt; sum(rt.alloc(), &plan(shape, (1, 5), (3, 2)))?, -53085);
+    Ok(())
+}
+
+#[test]
+fn four_and_five_levels_both_ways(rt: HostRuntime) -> Result<(), Fail> {
+    let shape = size(5, 3);
+    assert_eq!(rt; sum(rt.alloc(), &plan(shape, (1, 5), (4, 0)))?, -111990);
+    assert_eq!(rt; sum(rt.alloc(), &plan(shape, (1, 5), (4, 1)))?, -224715);
+    assert_eq!(rt; sum(rt.alloc(), &plan(shape, (1, 5), (5, 0)))?, -1383817);
+    Ok(())
+}
+
+// Wavelet 2 down and 6 across, a level across alone and two both ways.
+#[test]
+fn small_and_odd_sizes(rt: HostRuntime) -> Result<(), Fail> {
+    assert_eq!(rt; sum(rt.alloc(), &plan(size(1, 1), (2, 6), (2, 1)))?, -2412);
+    assert_eq!(rt; sum(rt.alloc(), &plan(size(1, 5), (2, 6), (2, 1)))?, 155);
+    assert_eq!(rt; sum(rt.alloc(), &plan(size(2, 9), (2, 6), (2, 1)))?, -9931);
+    assert_eq!(rt; sum(rt.alloc(), &plan(size(13, 6), (2, 6), (2, 1)))?, 4717);
+    assert_eq!(rt;
+        sum(rt.alloc(), &plan(size(40, 9), (2, 6), (2, 1)))?,
+        -37751
+    );
     Ok(())
 }
