@@ -1,5 +1,5 @@
 -- Where no fault came, a capture that ends at an edge and has the form is decoded to its end, unless memory runs out.
-use Rattle.std.proofs.Common.{◌≡◌, ◌⊎◌, ℕ, List, [], ◌∷◌, ◌++◌, Option, Some, None, IsSome, IsSomeAnd, inl, inr, refl, sym, ap, subst, ◌∙◌}
+use Rattle.std.proofs.Common.{◌≡◌, ◌⊎◌, ℕ, List, [], ◌∷◌, ◌++◌, Option, Some, None, IsSome, IsSomeAnd, true, false, inl, inr, refl, sym, ap, subst, ◌∙◌}
 use Rattle.std.specs.Option.{option_and_then}
 use Rattle.link_capture.specs.Capture.{entries_of}
 use Rattle.link_capture.specs.Endings.{GaveEntries}
@@ -15,6 +15,9 @@ use Rattle.decode_command.specs.OnePicture.{Planned, opens, plans, with_slices, 
 
 some_is_none : {A : Type 0} (x : A) → Some x ≡ None → ⊥
 some_is_none x p = cc
+
+false_is_true : false ≡ true → ⊥
+false_is_true p = cc
 
 some_is : {A : Type 0} (x y : A) → Some x ≡ Some y → x ≡ y
 some_is x y p = cc
@@ -54,10 +57,10 @@ has_form : (before after : Option (List ℕ)) (place : ℕ) (heard : List (List 
 has_form None after place heard gave none whole = whole
 has_form (Some bytes) None place heard gave none whole = some_is_none bytes gave.gave
 has_form (Some bytes) (Some more) place heard gave none whole =
-    subst IsSome
+    false_is_true (subst IsSome
     (ap (λ (e : List (List ℕ) × List ℕ). frames_of e.0) (ap entries_of (some_is bytes (gave.given ++ more) gave.gave) ∙ entries_of-then gave.given more heard gave.split)
     ∙ form_lacks heard (entries_of more).0 none)
-    whole.form
+    whole.form)
 
 -- ---- by how it ended
 

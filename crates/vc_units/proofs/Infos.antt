@@ -17,10 +17,10 @@ untaken : (n : ℕ) (bytes : List ℕ) → length bytes < n → next_items Short
 untaken n bytes short = rw (lt-ltb (length bytes) n short) refl
 
 -- the body behind a parse info that tells its length
-abbrev body_behind : List ℕ → ℕ → Field ℕ UnitFault DataUnit
+abbrev pub body_behind : List ℕ → ℕ → Field ℕ UnitFault DataUnit
 body_behind info count = next_items Short count >>= λ body. give (record { code = code_of info; body = body })
 
-abbrev behind_info : List ℕ → Result ℕ UnitFault → Field ℕ UnitFault DataUnit
+abbrev pub behind_info : List ℕ → Result ℕ UnitFault → Field ℕ UnitFault DataUnit
 behind_info info told = settled told >>= λ count. body_behind info count
 
 by_info : (info rest : List ℕ) → length info ≡ 13 → data_unit (info ++ rest) ≡ behind_info info (body_length info) rest
@@ -61,7 +61,7 @@ rest_of n bytes read is =
     (first, omega (arith, all, a.1))
 
 -- a unit and what is behind it
-abbrev pair : DataUnit → List ℕ → DataUnit × List ℕ
+abbrev pub pair : DataUnit → List ℕ → DataUnit × List ℕ
 pair u rest = (u, rest)
 
 same_lengths : (p q : DataUnit × List ℕ) → p ≡ q → (length p.0.body ≡ length q.0.body) × (length p.1 ≡ length q.1)

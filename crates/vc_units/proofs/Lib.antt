@@ -3,3 +3,4 @@ pub mod Streams
 pub mod Written
 pub mod Parts
 pub mod Rows
+pub mod Behind

@@ -1,0 +1,169 @@
+-- Bytes behind a unit, and behind units: what stands stays as it is.
+use Rattle.std.proofs.Common.{◌≡◌, ◌⊎◌, ℕ, zero, suc, Bool, true, false, List, [], ◌∷◌, ◌++◌, length, Result, Ok, Err, inl, inr, refl, sym, ap, ◌∙◌, append_assoc, append-nil, arith}
+use Rattle.vc_types.specs.Fields.{and_then, next_items}
+use Rattle.vc_types.proofs.FieldCodecs.{and_then_ok, ok_is, next_items_codec}
+use Rattle.vc_types.specs.DataUnits.{DataUnit, is_end_of_sequence}
+use Rattle.vc_units.specs.Units.{body_length, code_of, settled, data_unit, units_within}
+use Rattle.vc_units.specs.declared.fault.UnitFault.{UnitFault}
+use Rattle.vc_units.specs.declared.fault.UnitFault.TheVariants.{Short}
+use Rattle.vc_units.proofs.Infos.{behind_info, body_behind, pair, data_unit-refused, data_unit-whole, data_unit-cut}
+
+abbrev Units : Type 0
+Units = List DataUnit × List ℕ
+
+-- ---- one unit
+
+-- what is read from the front, and the rest
+front_of : (n : ℕ) (bytes : List ℕ) (read : List ℕ × List ℕ) → next_items Short n bytes ≡ Ok read → (length read.0 ≡ n) × (bytes ≡ read.0 ++ read.1)
+front_of n bytes read is =
+    let a = (next_items_codec Short n).takes bytes read.0 read.1 is in
+    (ap length (sym a.2) ∙ a.1, a.3 ∙ ap (λ (l : List ℕ). l ++ read.1) a.2)
+
+settled_as : (told : Result ℕ UnitFault) (bytes : List ℕ) (read : ℕ × List ℕ) → settled told bytes ≡ Ok read → (told ≡ Ok read.0) × (read.1 ≡ bytes)
+settled_as (Ok count) bytes read is =
+    let same : (count, bytes) ≡ read = ok_is {E = UnitFault} (count, bytes) read is in
+    (ap (λ (r : ℕ × List ℕ). Ok r.0) same, ap (λ (r : ℕ × List ℕ). r.1) (sym same))
+settled_as (Err fault) bytes read is = absurd cc
+
+-- its parse info, its body and what is behind it
+record Cut (bytes : List ℕ) (u : DataUnit) (rest : List ℕ) : Type 0 where
+  info : List ℕ
+  body : List ℕ
+  count : ℕ
+  info_length : length info ≡ 13
+  told : body_length info ≡ Ok count
+  body_whole : length body ≡ count
+  bytes_are : bytes ≡ info ++ (body ++ rest)
+  unit_is : record { code = code_of info; body = body } ≡ u
+
+cut_of : (bytes : List ℕ) (u : DataUnit) (rest : List ℕ) → data_unit bytes ≡ Ok (u, rest) → Cut bytes u rest
+unfolding data_unit
+cut_of bytes u rest is =
+    let info = and_then_ok (next_items Short 13 bytes) (λ read. behind_info read.0 (body_length read.0) read.1) (u, rest) is in
+    let told = and_then_ok (settled (body_length info.0.0) info.0.1) (λ read. body_behind info.0.0 read.0 read.1) (u, rest) info.2 in
+    let body = and_then_ok (next_items Short told.0.0 told.0.1) (λ read. Ok (record { code = code_of info.0.0; body = read.0 }, read.1)) (u, rest) told.2 in
+    let own = ok_is {E = UnitFault} (pair (record { code = code_of info.0.0; body = body.0.0 }) body.0.1) (u, rest) body.2 in
+    let first = front_of 13 bytes info.0 info.1 in
+    let length_told = settled_as (body_length info.0.0) info.0.1 told.0 told.1 in
+    let second = front_of told.0.0 told.0.1 body.0 body.1 in
+    let behind : info.0.1 ≡ body.0.0 ++ rest = sym length_told.1 ∙ second.1 ∙ ap (λ (r : DataUnit × List ℕ). body.0.0 ++ r.1) own in
+    record {
+      info = info.0.0;
+      body = body.0.0;
+      count = told.0.0;
+      info_length = first.0;
+      told = length_told.0;
+      body_whole = second.0;
+      bytes_are = first.1 ∙ ap (λ (l : List ℕ). info.0.0 ++ l) behind;
+      unit_is = ap (λ (r : DataUnit × List ℕ). r.0) own;
+    }
+
+pub data_unit-more : (bytes more : List ℕ) (u : DataUnit) (rest : List ℕ) → data_unit bytes ≡ Ok (u, rest) → data_unit (bytes ++ more) ≡ Ok (u, rest ++ more)
+data_unit-more bytes more u rest is =
+    let c = cut_of bytes u rest is in
+    let regrouped : bytes ++ more ≡ c.info ++ (c.body ++ (rest ++ more)) =
+        ap (λ (l : List ℕ). l ++ more) c.bytes_are
+        ∙ append_assoc c.info (c.body ++ rest) more
+        ∙ ap (λ (l : List ℕ). c.info ++ l) (append_assoc c.body rest more) in
+    ap data_unit regrouped
+    ∙ data_unit-whole c.info c.body (rest ++ more) c.count c.info_length c.told c.body_whole
+    ∙ ap (λ (v : DataUnit). Ok (v, rest ++ more)) c.unit_is
+
+-- ---- a parse info that is refused
+
+ok_is_err : {A E : Type 0} (x : A) (e : E) → Ok x ≡ Err e → ⊥
+ok_is_err x e p = cc
+
+abbrev failed : UnitFault → Result (DataUnit × List ℕ) UnitFault
+failed fault = Err fault
+
+err_is : (e f : UnitFault) → failed e ≡ failed f → e ≡ f
+err_is e f p = cc
+
+-- thirteen bytes that are refused, but not because more are wanted
+pub data_unit-bad : (info more : List ℕ) (fault : UnitFault) → length info ≡ 13 → (fault ≡ Short → ⊥) → data_unit info ≡ Err fault → data_unit (info ++ more) ≡ Err fault
+data_unit-bad info more fault len other is = by_length (body_length info) refl
+  where
+    alone : data_unit (info ++ []) ≡ Err fault
+    alone = ap data_unit (append-nil info) ∙ is
+
+    of_body : (count : ℕ) → body_length info ≡ Ok count → data_unit (info ++ more) ≡ Err fault
+    of_body zero told = absurd (ok_is_err (record { code = code_of info; body = [] }, []) fault (sym (data_unit-whole info [] [] 0 len told refl) ∙ alone))
+    of_body (suc count) told = absurd (other (err_is fault Short (sym alone ∙ data_unit-cut info [] (suc count) len told (omega arith))))
+
+    by_length : (told : Result ℕ UnitFault) → body_length info ≡ told → data_unit (info ++ more) ≡ Err fault
+    by_length (Ok count) told = of_body count told
+    by_length (Err found) told =
+        let same : found ≡ fault = err_is found fault (sym (data_unit-refused info [] found len told) ∙ alone) in
+        data_unit-refused info more found len told ∙ ap Err same
+
+-- ---- units
+
+-- the units stand at the front of those that the bytes and more have
+pub units_within-more : (most : ℕ) (bytes more : List ℕ) → (behind : List DataUnit) × ((units_within most (bytes ++ more)).0 ≡ (units_within most bytes).0 ++ behind)
+unfolding units_within
+units_within-more zero bytes more = ([], refl)
+units_within-more (suc most) bytes more = by_unit (data_unit bytes) refl (λ rest. units_within-more most rest more)
+  where
+    Goal : Type 0
+    Goal = (behind : List DataUnit) × ((units_within (suc most) (bytes ++ more)).0 ≡ (units_within (suc most) bytes).0 ++ behind)
+
+    Deeper : Type 0
+    Deeper = (rest : List ℕ) → (behind : List DataUnit) × ((units_within most (rest ++ more)).0 ≡ (units_within most rest).0 ++ behind)
+
+    by_unit : (found : Result (DataUnit × List ℕ) UnitFault) → data_unit bytes ≡ found → Deeper → Goal
+    by_unit (Err fault) is deeper = ((units_within (suc most) (bytes ++ more)).0, rw is refl)
+    by_unit (Ok read) is deeper = by_end (is_end_of_sequence read.0) refl
+      where
+        again : data_unit (bytes ++ more) ≡ Ok (read.0, read.1 ++ more)
+        again = data_unit-more bytes more read.0 read.1 is
+
+        by_end : (ends : Bool) → is_end_of_sequence read.0 ≡ ends → Goal
+        by_end true ends = ([], rw (is, again, ends) refl)
+        by_end false goes_on =
+            let behind = deeper read.1 in
+            (behind.0, rw (is, again, goes_on) (ap (λ (units : List DataUnit). read.0 ∷ units) behind.1))
+
+-- as many units as may be, or no unit behind them
+abbrev pub NoneBehind : ℕ → Units → List ℕ → Type 0
+NoneBehind most split more =
+    (length split.0 ≡ most) ⊎ ((fault : UnitFault) × (data_unit (split.1 ++ more) ≡ Err fault))
+
+suc_is : (m n : ℕ) → suc m ≡ suc n → m ≡ n
+suc_is m n p = cc
+
+zero_is_suc : (n : ℕ) → zero ≡ suc n → ⊥
+zero_is_suc n p = cc
+
+-- then more bytes are part of the rest
+pub units_within-rest : (most : ℕ) (bytes more : List ℕ) → NoneBehind most (units_within most bytes) more → units_within most (bytes ++ more) ≡ ((units_within most bytes).0, (units_within most bytes).1 ++ more)
+unfolding units_within
+units_within-rest zero bytes more none = refl
+units_within-rest (suc most) bytes more none = by_unit (data_unit bytes) refl (λ rest. units_within-rest most rest more)
+  where
+    Goal : Type 0
+    Goal = units_within (suc most) (bytes ++ more) ≡ ((units_within (suc most) bytes).0, (units_within (suc most) bytes).1 ++ more)
+
+    no_unit : (fault : UnitFault) → data_unit bytes ≡ Err fault → NoneBehind (suc most) ([], bytes) more → Goal
+    no_unit fault is (inl full) = absurd (zero_is_suc most full)
+    no_unit fault is (inr behind) = rw (is, behind.1) refl
+
+    fewer : (u : DataUnit) (split : Units) → NoneBehind (suc most) (u ∷ split.0, split.1) more → NoneBehind most split more
+    fewer u split (inl full) = inl (suc_is (length split.0) most full)
+    fewer u split (inr behind) = inr behind
+
+    Deeper : Type 0
+    Deeper = (rest : List ℕ) → NoneBehind most (units_within most rest) more → units_within most (rest ++ more) ≡ ((units_within most rest).0, (units_within most rest).1 ++ more)
+
+    by_unit : (found : Result (DataUnit × List ℕ) UnitFault) → data_unit bytes ≡ found → Deeper → Goal
+    by_unit (Err fault) is deeper = no_unit fault is (rw is at none)
+    by_unit (Ok read) is deeper = by_end (is_end_of_sequence read.0) refl
+      where
+        again : data_unit (bytes ++ more) ≡ Ok (read.0, read.1 ++ more)
+        again = data_unit-more bytes more read.0 read.1 is
+
+        by_end : (ends : Bool) → is_end_of_sequence read.0 ≡ ends → Goal
+        by_end true ends = rw (is, again, ends) refl
+        by_end false goes_on =
+            let behind = deeper read.1 (fewer read.0 (units_within most read.1) (rw (is, goes_on) at none)) in
+            rw (is, again, goes_on) (ap (λ (split : Units). (read.0 ∷ split.0, split.1)) behind)
