@@ -1,0 +1,6 @@
+pub mod Counts
+pub mod Rule
+pub mod Plays
+pub mod Seats
+pub mod Calls
+pub mod Feeders
