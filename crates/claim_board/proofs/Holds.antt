@@ -65,3 +65,6 @@ below_less p q old new e h = omega arith
 
 pub less_held : (p t q : ℕ) (old new : List ℕ) (hs : List Hold) → occurrences q old ≡ cond (eqb p q) 1 0 + occurrences q new → 0 < holds_of p t hs → occurrences q old ≡ holds_at q hs → occurrences q new ≡ holds_at q (without p t hs)
 less_held p t q old new hs e there same = let w = held_without p t q hs there in omega arith
+
+pub one_held : (p t : ℕ) (hs : List Hold) → 0 < holds_of p t (hold p t ∷ hs)
+one_held p t hs = rw (holds_of-cons p t (hold p t) hs, eq-eqb p p refl, eq-eqb t t refl) (omega arith)

@@ -60,3 +60,6 @@ pub lane_after : (v w : View) (p q : ℕ) (new : Lane) (P : Lane → Type 0) →
 lane_after v w p q new P e h here there = subst (λ (ls : List Lane). P (get_or ls q (lane 0 false false))) (sym e) (dite (ℕ_discrete p q)
     (λ same. subst (λ (k : ℕ). P (get_or (set v.lanes p new) k (lane 0 false false))) same (subst P (sym (get_or-set_same v.lanes p new (lane 0 false false) h)) here))
     (λ ne. subst P (sym (get_or-set_other v.lanes p q new (lane 0 false false) (λ x. ne (sym x)))) there))
+
+pub lane_here : (v : View) (p : ℕ) (new : Lane) (w : View) → w.lanes ≡ set v.lanes p new → p < length v.lanes → lane_at w p ≡ new
+lane_here v p new w e h = ap (λ (ls : List Lane). get_or ls p (lane 0 false false)) e ∙ get_or-set_same v.lanes p new (lane 0 false false) h

@@ -38,7 +38,8 @@ pub record HasMissed (place tried found : ℕ) (old new : SeatState) : Type 0 wh
 
 abbrev pub tells_claim : Step Slot → SeatState → ℕ → SeatState → Type 0
 tells_claim step old found new =
-    (found ≡ step.first → (serial : ℕ) → step.first ≡ waiting_word serial → HasClaimed step.word serial old new)
+    (found ≡ step.first → (serial : ℕ) → step.first ≡ waiting_word serial
+    → HasClaimed step.word serial old new)
     × (found ≢ step.first → HasMissed step.word step.first found old new)
 
 abbrev pub tells_complete : Step Slot → SeatState → ℕ → SeatState → Type 0
@@ -64,12 +65,14 @@ pub record IsOtherwise (place found state : ℕ) (old new : SeatState) : Type 0 
 
 abbrev pub tells_take : Step Slot → SeatState → ℕ → SeatState → Type 0
 tells_take step old found new =
-    (found ≡ step.first → (serial : ℕ) → step.first ≡ done_word serial → HasTaken step.word serial old new)
+    (found ≡ step.first → (serial : ℕ) → step.first ≡ done_word serial
+    → HasTaken step.word serial old new)
     × (found ≢ step.first → IsOtherwise step.word found 3 old new)
 
 abbrev pub tells_withdraw : Step Slot → SeatState → ℕ → SeatState → Type 0
 tells_withdraw step old found new =
-    (found ≡ step.first → (serial : ℕ) → step.first ≡ waiting_word serial → HasWithdrawn step.word serial old new)
+    (found ≡ step.first → (serial : ℕ) → step.first ≡ waiting_word serial
+    → HasWithdrawn step.word serial old new)
     × (found ≢ step.first → IsOtherwise step.word found 1 old new)
 
 abbrev pub tells_fetch : Step Slot → SeatState → ℕ → SeatState → Type 0

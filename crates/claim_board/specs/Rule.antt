@@ -60,7 +60,8 @@ IsUnused serial fresh = serial ≡ 0
 IsUnused serial phase = Unit {0}
 
 -- a word, a slot and the feeder's lane belong together
-pub record IsAt (word : ℕ) (home : maybe.Option (maybe.Option Slot)) (known : Lane) (serial : ℕ) (phase : Phase) : Type 0 where
+pub record IsAt (word : ℕ) (home : maybe.Option (maybe.Option Slot)) (known : Lane) (serial : ℕ)
+    (phase : Phase) : Type 0 where
   pub shows : word ≡ 4 * serial + phase_number phase
   pub small : serial ≤ 2 ^ 61
   pub lies : home ≡ some (home_of serial phase)
@@ -87,5 +88,7 @@ pub record BoardRule (s : BoardState) : Type 0 where
   pub lanes : length feeder.lanes ≡ length s.words
   pub wide : length s.homes ≡ length s.words
   pub each : (place : ℕ) → place < length s.words → HasPhase s feeder place
-  pub claims : (place serial : ℕ) → sum_by (λ v. holds_of place serial v.held) s.views ≡ holders (slice_index s.words place) serial
+  pub claims : (place serial : ℕ)
+      → sum_by (λ v. holds_of place serial v.held) s.views
+      ≡ holders (slice_index s.words place) serial
   pub looked : (seat : ℕ) (v : View) → get_elem? s.views seat ≡ some v → IsNotAhead s.words v.last

@@ -12,10 +12,12 @@ places_of board = board.table.shared.table_id.words
 
 -- the board's `new` made the seat
 abbrev pub IsFeederOf : Board → FeederSeat → Type 0
-IsFeederOf board f = (f.seat.table_id ≡ board.table.shared.table_id) × (f.bell.table_id ≡ board.bell.table.shared.table_id)
+IsFeederOf board f = (f.seat.table_id ≡ board.table.shared.table_id)
+    × (f.bell.table_id ≡ board.bell.table.shared.table_id)
 
 abbrev pub IsWorkerOf : Board → WorkerSeat → Type 0
-IsWorkerOf board s = (s.seat.table_id ≡ board.table.shared.table_id) × (s.bell.table_id ≡ board.bell.table.shared.table_id)
+IsWorkerOf board s = (s.seat.table_id ≡ board.table.shared.table_id)
+    × (s.bell.table_id ≡ board.bell.table.shared.table_id)
 
 abbrev pub IsBellSeatOf : Board → BellSeat → Type 0
 IsBellSeatOf board b = b.bell.table_id ≡ board.bell.table.shared.table_id

@@ -4,6 +4,7 @@ ghost use Rattle.link_model.specs.Board.{lane, lane_at, after_load, after_put, a
 ghost use Rattle.claim_board.specs.Counts.{occurrences};
 ghost use Rattle.claim_board.specs.Plays.{empty_slots};
 ghost use Rattle.claim_board.specs.Seats.{IsFeederOf, feeder_sees, places_of};
+ghost use Rattle.claim_board.specs.Steps.{MayStep, IsSameSeat};
 
 use crate::board::Board;
 use crate::seats::{FeederSeat, Seat};
@@ -28,6 +29,8 @@ impl Board {
         requires serial { (lane_at (feeder_sees f.old) place).serial < 2 ^ 61 }
         ensures seat { IsFeederOf self.now f.new }
         ensures view { feeder_sees f.new ≡ after_put (feeder_sees f.old) place }
+        ensures out { lane_at (feeder_sees f.new) place
+            ≡ lane ((lane_at (feeder_sees f.old) place).serial + 1) true true }
     {
         let FeederSeat {
             seat,
@@ -54,14 +57,18 @@ impl Board {
         serial: u64,
         job: SliceJob,
     )
-        requires table { (seat.old.table_id ≡ self.now.table.shared.table_id) × (place < self.now.table.shared.table_id.words) }
+        requires table { MayStep self.now seat.old place }
         requires feeder { seat.old.me.0.feeds ≡ true }
-        requires idle { (lane_at seat.old.me.0 place ≡ lane (serial - 1) true false) × (0 < serial) × (serial ≤ 2 ^ 61) }
-        requires slots { (seat.old.me.1 ≡ empty_slots order.old.items) × (0 < occurrences place order.old.items) }
-        ensures id { (seat.new.table_id ≡ seat.old.table_id) × (seat.new.id ≡ seat.old.id) }
+        requires idle { (lane_at seat.old.me.0 place ≡ lane (serial - 1) true false)
+            × (0 < serial) × (serial ≤ 2 ^ 61) }
+        requires slots { (seat.old.me.1 ≡ empty_slots order.old.items)
+            × (0 < occurrences place order.old.items) }
+        ensures id { IsSameSeat seat.old seat.new }
         ensures view { seat.new.me.0 ≡ after_put seat.old.me.0 place }
         ensures slots { seat.new.me.1 ≡ empty_slots order.new.items }
-        ensures order { (q : ℕ) → occurrences q order.old.items ≡ cond (place == q) 1 0 + occurrences q order.new.items }
+        ensures order { (q : ℕ)
+            → occurrences q order.old.items
+            ≡ cond (place == q) 1 0 + occurrences q order.new.items }
         ensures room { deque_capacity order.new ≡ deque_capacity order.old }
     {
         bring(seat, order, place);
@@ -75,8 +82,11 @@ impl Board {
         requires place { place < places_of self.now }
         ensures seat { IsFeederOf self.now f.new }
         ensures took { OnOk result (feeder_sees f.new ≡ after_return (feeder_sees f.old) place) }
+        ensures empty { OnOk result (lane_at (feeder_sees f.new) place
+            ≡ lane (lane_at (feeder_sees f.old) place).serial true false) }
         ensures was_out { OnOk result ((lane_at (feeder_sees f.old) place).is_out ≡ true) }
-        ensures not_yet { IfErr result (λ e. (feeder_sees f.new ≡ after_load (feeder_sees f.old) place e.word) × (e.word % 4 ≢ 3)) }
+        ensures not_yet { IfErr result (λ e. (feeder_sees f.new
+            ≡ after_load (feeder_sees f.old) place e.word) × (e.word % 4 ≢ 3)) }
     {
         let FeederSeat {
             seat,
@@ -101,8 +111,11 @@ impl Board {
         requires place { place < places_of self.now }
         ensures seat { IsFeederOf self.now f.new }
         ensures took { OnOk result (feeder_sees f.new ≡ after_return (feeder_sees f.old) place) }
+        ensures empty { OnOk result (lane_at (feeder_sees f.new) place
+            ≡ lane (lane_at (feeder_sees f.old) place).serial true false) }
         ensures was_out { OnOk result ((lane_at (feeder_sees f.old) place).is_out ≡ true) }
-        ensures not_waiting { IfErr result (λ e. (feeder_sees f.new ≡ after_load (feeder_sees f.old) place e.word) × (e.word % 4 ≢ 1)) }
+        ensures not_waiting { IfErr result (λ e. (feeder_sees f.new
+            ≡ after_load (feeder_sees f.old) place e.word) × (e.word % 4 ≢ 1)) }
     {
         let FeederSeat {
             seat,

@@ -22,3 +22,6 @@ pub use feeding::NotYet;
 pub use resting::{bell, rest, wake};
 pub use seats::{BellSeat, FeederSeat, WorkerSeat};
 pub use working::{HeldPlace, NotWaiting};
+
+#[cfg(test)]
+mod tests;

@@ -26,7 +26,8 @@ impl Board {
         ensures places { IfOk result (λ made. places_of made.0 ≡ places) }
         ensures feeder { IfOk result (λ made. IsFeederOf made.0 made.1) }
         ensures empty { IfOk result (λ made. AreEmpty places (feeder_sees made.1)) }
-        ensures workers { IfOk result (λ made. (vec_len made.2 ≡ workers) × All (IsNewWorker made.0) made.2.items) }
+        ensures workers { IfOk result (λ made. (vec_len made.2 ≡ workers)
+            × All (IsNewWorker made.0) made.2.items) }
         ensures bell { IfOk result (λ made. IsBellSeatOf made.0 made.3) }
     {
         let (board, seat, bell) = board_of(alloc, places as usize)?;
@@ -87,7 +88,8 @@ impl Board {
         requires empty { AreEmpty (places_of self.now) (feeder_sees feeder.old) }
         ensures seat { IsFeederOf self.now feeder.new }
         ensures empty { AreEmpty (places_of self.now) (feeder_sees feeder.new) }
-        ensures workers { IfOk result (λ team. (vec_len team ≡ workers) × All (IsNewWorker self.now) team.items) }
+        ensures workers { IfOk result (λ team. (vec_len team ≡ workers)
+            × All (IsNewWorker self.now) team.items) }
     {
         let mut team = Vec::with_capacity(alloc, workers as usize)?;
         for _worker in 0..workers {
@@ -117,7 +119,8 @@ impl Board {
 fn board_of(alloc: Global, places: usize) -> Result<(Board, Seat, BellPass), AllocError>
     requires few { places < 2 ^ 32 }
     ensures places { IfOk result (λ made. places_of made.0 ≡ places) }
-    ensures seat { IfOk result (λ made. (made.1.table_id ≡ made.0.table.shared.table_id) × (made.1.me ≡ (first_view places, []))) }
+    ensures seat { IfOk result (λ made. (made.1.table_id ≡ made.0.table.shared.table_id)
+        × (made.1.me ≡ (first_view places, []))) }
     ensures bell { IfOk result (λ made. made.2.table_id ≡ made.0.bell.table.shared.table_id) }
 {
     let words = vec![in alloc; 0u64; places]?;
@@ -128,12 +131,16 @@ fn board_of(alloc: Global, places: usize) -> Result<(Board, Seat, BellPass), All
 
 // The feeder's seat, once each place is fetched.
 fn seated(seat: Seat, bell: BellPass, lanes: Vec<Lane>, order: VecDeque<usize>) -> FeederSeat
-    requires view { (seat.me.0.feeds ≡ true) × (seat.me.0.lanes ≡ lanes.items) × (vec_len lanes ≡ seat.table_id.words) }
+    requires view { (seat.me.0.feeds ≡ true) × (seat.me.0.lanes ≡ lanes.items)
+        × (vec_len lanes ≡ seat.table_id.words) }
     requires slots { seat.me.1 ≡ empty_slots order.items }
-    requires idle { (place : ℕ) → occurrences place order.items ≡ idle_count (lane_at seat.me.0 place) }
+    requires idle { (place : ℕ)
+        → occurrences place order.items ≡ idle_count (lane_at seat.me.0 place) }
     requires room { vec_len lanes ≤ deque_capacity order }
-    requires fetched { (place : ℕ) → place < vec_len lanes → lane_at seat.me.0 place ≡ lane 0 true false }
-    requires others { (place : ℕ) → vec_len lanes ≤ place → lane_at seat.me.0 place ≡ lane 0 false false }
+    requires fetched { (place : ℕ) → place < vec_len lanes
+        → lane_at seat.me.0 place ≡ lane 0 true false }
+    requires others { (place : ℕ) → vec_len lanes ≤ place
+        → lane_at seat.me.0 place ≡ lane 0 false false }
     ensures { (result.seat ≡ seat) × (result.bell ≡ bell) }
 {
     FeederSeat {

@@ -22,7 +22,8 @@ impl BoardFeeder {
         requires seat { IsFeederOf (arc_value board) seat }
         ensures bound { IfOk result (λ f. feeder_bound f ≡ places_of (arc_value board)) }
         ensures sees { IfOk result (λ f. form_sees f ≡ feeder_sees seat) }
-        ensures left { IfOk result (λ f. left_in f ≡ replicate (places_of (arc_value board)) false) }
+        ensures left { IfOk result (λ f. left_in f
+            ≡ replicate (places_of (arc_value board)) false) }
     {
         let places = board.places() as usize;
         let left = vec![in alloc; false; places]?;
@@ -32,7 +33,8 @@ impl BoardFeeder {
     // Asks each place that was left, and drops what is there.
     fn sweep(&mut self)
         ensures bound { feeder_bound self.new ≡ feeder_bound self.old }
-        ensures asked { (form_sees self.old).steps + count_by (λ left. left) (left_in self.old) ≤ (form_sees self.new).steps }
+        ensures asked { (form_sees self.old).steps + count_by (λ left. left) (left_in self.old) ≤
+            (form_sees self.new).steps }
     {
         for place in 0..self.board.places() {
             self.ask_if_left(place);
@@ -42,8 +44,10 @@ impl BoardFeeder {
     fn ask_if_left(&mut self, place: u32)
         requires place { place < feeder_bound self.old }
         ensures bound { feeder_bound self.new ≡ feeder_bound self.old }
-        ensures asked { (form_sees self.new).steps ≡ (form_sees self.old).steps + (if is_left self.old place then 1 else 0) }
-        ensures others { (other : ℕ) → other ≢ place → is_left self.new other ≡ is_left self.old other }
+        ensures asked { (form_sees self.new).steps
+            ≡ (form_sees self.old).steps + (if is_left self.old place then 1 else 0) }
+        ensures others { (other : ℕ) → other ≢ place
+            → is_left self.new other ≡ is_left self.old other }
     {
         if self.left[place as usize] {
             let _answer = self.take(place);
@@ -74,7 +78,8 @@ impl Places for BoardFeeder {
         ensures bound { feeder_bound self.new ≡ feeder_bound self.old }
         ensures place { IfOk result (λ place. place < feeder_bound self.old) }
         ensures back { IfErr result (λ same. same ≡ job) }
-        ensures asked { (form_sees self.old).steps + count_by (λ left. left) (left_in self.old) ≤ (form_sees self.new).steps }
+        ensures asked { (form_sees self.old).steps + count_by (λ left. left) (left_in self.old) ≤
+            (form_sees self.new).steps }
         ensures lowest { IfOk result (HasPut self.new) }
         ensures full { IfErr result (λ _. HasNoFree (feeder_bound self.new) (form_sees self.new)) }
     {
@@ -91,9 +96,11 @@ impl Places for BoardFeeder {
     fn take(&mut self, place: u32) -> Option<SliceDone>
         requires place { place < feeder_bound self.old }
         ensures bound { feeder_bound self.new ≡ feeder_bound self.old }
-        ensures took { OnSome result (form_sees self.new ≡ after_return (form_sees self.old) place) }
+        ensures took { OnSome result (form_sees self.new
+            ≡ after_return (form_sees self.old) place) }
         ensures mark { OnSome result (left_in self.new ≡ slice_set (left_in self.old) place false) }
-        ensures not_yet { IfNone result (FoundNot 3 place (form_sees self.old) (form_sees self.new)) }
+        ensures not_yet { IfNone result (FoundNot 3 place (form_sees self.old)
+            (form_sees self.new)) }
         ensures stays { IfNone result (left_in self.new ≡ left_in self.old) }
     {
         let Ok(done) = self.board.take(&mut self.seat, place) else {
@@ -106,9 +113,11 @@ impl Places for BoardFeeder {
     fn withdraw(&mut self, place: u32) -> Option<SliceJob>
         requires place { place < feeder_bound self.old }
         ensures bound { feeder_bound self.new ≡ feeder_bound self.old }
-        ensures took { OnSome result (form_sees self.new ≡ after_return (form_sees self.old) place) }
+        ensures took { OnSome result (form_sees self.new
+            ≡ after_return (form_sees self.old) place) }
         ensures mark { OnSome result (left_in self.new ≡ slice_set (left_in self.old) place false) }
-        ensures not_waiting { IfNone result (FoundNot 1 place (form_sees self.old) (form_sees self.new)) }
+        ensures not_waiting { IfNone result (FoundNot 1 place (form_sees self.old)
+            (form_sees self.new)) }
         ensures stays { IfNone result (left_in self.new ≡ left_in self.old) }
     {
         let Ok(job) = self.board.withdraw(&mut self.seat, place) else {
@@ -122,7 +131,9 @@ impl Places for BoardFeeder {
         requires place { place < feeder_bound self.old }
         ensures bound { feeder_bound self.new ≡ feeder_bound self.old }
         ensures view { form_sees self.new ≡ form_sees self.old }
-        ensures mark { left_in self.new ≡ (if (lane_at (form_sees self.old) place).is_out then slice_set (left_in self.old) place true else left_in self.old) }
+        ensures mark { left_in self.new
+            ≡ (if (lane_at (form_sees self.old) place).is_out then slice_set
+            (left_in self.old) place true else left_in self.old) }
     {
         if self.seat.lanes[place as usize].is_out {
             self.left[place as usize] = true;

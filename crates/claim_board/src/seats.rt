@@ -26,9 +26,11 @@ pub struct FeederSeat {
     ghost mirrors: { seat.me.0.lanes ≡ lanes.items },
     ghost wide: { vec_len lanes ≡ seat.table_id.words },
     ghost slots: { seat.me.1 ≡ empty_slots order.items },
-    ghost idle: { (place : ℕ) → occurrences place order.items ≡ idle_count (lane_at seat.me.0 place) },
+    ghost idle: { (place : ℕ)
+        → occurrences place order.items ≡ idle_count (lane_at seat.me.0 place) },
     ghost room: { vec_len lanes ≤ deque_capacity order },
-    ghost fetched: { (place : ℕ) → place < vec_len lanes → (lane_at seat.me.0 place).is_fetched ≡ true },
+    ghost fetched: { (place : ℕ) → place < vec_len lanes
+        → (lane_at seat.me.0 place).is_fetched ≡ true },
     ghost small: { (place : ℕ) → (lane_at seat.me.0 place).serial ≤ 2 ^ 61 },
 }
 

@@ -2,6 +2,7 @@ ghost use Rattle.std.specs.Prelude.{◌≡◌, ℕ, ◌<◌, ◌∷◌, slice_in
 ghost use Rattle.std.specs.VecDeque.{deque_len, deque_capacity};
 ghost use Rattle.claim_board.specs.Plays.{empty_slots};
 ghost use Rattle.claim_board.specs.Counts.{occurrences};
+ghost use Rattle.claim_board.specs.Steps.{IsSameSeat};
 
 use crate::seats::Seat;
 use std::collections::VecDeque;
@@ -23,11 +24,13 @@ fn index_of(order: &VecDeque<usize>, place: usize) -> usize
 pub(crate) fn bring(seat: &mut Seat, order: &mut VecDeque<usize>, place: usize)
     requires slots { seat.old.me.1 ≡ empty_slots order.old.items }
     requires place { 0 < occurrences place order.old.items }
-    ensures id { (seat.new.table_id ≡ seat.old.table_id) × (seat.new.id ≡ seat.old.id) × (seat.new.me.0 ≡ seat.old.me.0) }
+    ensures id { IsSameSeat seat.old seat.new }
+    ensures view { seat.new.me.0 ≡ seat.old.me.0 }
     ensures slots { seat.new.me.1 ≡ empty_slots order.new.items }
     ensures front { (rest : List ℕ) × (order.new.items ≡ place ∷ rest) }
     ensures same { (q : ℕ) → occurrences q order.new.items ≡ occurrences q order.old.items }
-    ensures room { (deque_len order.new ≡ deque_len order.old) × (deque_capacity order.new ≡ deque_capacity order.old) }
+    ensures room { (deque_len order.new ≡ deque_len order.old)
+        × (deque_capacity order.new ≡ deque_capacity order.old) }
 {
     let at = index_of(order, place);
     for _turn in 0..at {

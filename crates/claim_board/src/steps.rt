@@ -6,6 +6,7 @@ ghost use Rattle.vc_slice.specs.declared.job.SliceJob.{SliceJob};
 ghost use Rattle.claim_board.specs.Counts.{holds_of};
 ghost use Rattle.claim_board.specs.Plays.{HasClaimed, HasMissed, HasTaken, HasWithdrawn};
 ghost use Rattle.claim_board.specs.declared.cargo.Cargo.TheVariants.{Waiting, Finished};
+ghost use Rattle.claim_board.specs.Steps.{MayStep, IsSameSeat};
 
 use crate::board::Board;
 use crate::cargo::Cargo;
@@ -16,18 +17,18 @@ use vc_slice::{SliceDone, SliceJob};
 // One step each, and one exchange of a slot each.
 impl Board {
     pub(crate) fn look(&self, seat: &mut Seat, place: usize) -> u64
-        requires { (seat.old.table_id ≡ self.now.table.shared.table_id) × (place < self.now.table.shared.table_id.words) }
-        ensures id { (seat.new.table_id ≡ seat.old.table_id) × (seat.new.id ≡ seat.old.id) }
+        requires { MayStep self.now seat.old place }
+        ensures id { IsSameSeat seat.old seat.new }
         ensures view { seat.new.me ≡ (after_load seat.old.me.0 place result, seat.old.me.1) }
     {
         self.table.shared.load::<Load>(seat, place)
     }
 
     pub(crate) fn try_claim(&self, seat: &mut Seat, place: usize, word: u64) -> u64
-        requires table { (seat.old.table_id ≡ self.now.table.shared.table_id) × (place < self.now.table.shared.table_id.words) }
+        requires table { MayStep self.now seat.old place }
         requires waiting { word % 4 ≡ 1 }
         requires worker { seat.old.me.0.feeds ≡ false }
-        ensures id { (seat.new.table_id ≡ seat.old.table_id) × (seat.new.id ≡ seat.old.id) }
+        ensures id { IsSameSeat seat.old seat.new }
         ensures won { result ≡ word → HasClaimed place (word / 4) seat.old.me seat.new.me }
         ensures lost { result ≢ word → HasMissed place word result seat.old.me seat.new.me }
     {
@@ -37,12 +38,14 @@ impl Board {
     }
 
     pub(crate) fn try_take(&self, seat: &mut Seat, place: usize, serial: u64) -> u64
-        requires table { (seat.old.table_id ≡ self.now.table.shared.table_id) × (place < self.now.table.shared.table_id.words) }
-        requires feeder { (seat.old.me.0.feeds ≡ true) × ((lane_at seat.old.me.0 place).serial ≡ serial) × (serial ≤ 2 ^ 61) }
-        ensures id { (seat.new.table_id ≡ seat.old.table_id) × (seat.new.id ≡ seat.old.id) }
+        requires table { MayStep self.now seat.old place }
+        requires feeder { (seat.old.me.0.feeds ≡ true)
+            × ((lane_at seat.old.me.0 place).serial ≡ serial) × (serial ≤ 2 ^ 61) }
+        ensures id { IsSameSeat seat.old seat.new }
         ensures won { result ≡ 4 * serial + 3 → HasTaken place serial seat.old.me seat.new.me }
         ensures lost { result ≢ 4 * serial + 3
-            → (seat.new.me ≡ (after_load seat.old.me.0 place result, seat.old.me.1)) × (result % 4 ≢ 3) }
+            → (seat.new.me ≡ (after_load seat.old.me.0 place result, seat.old.me.1))
+            × (result % 4 ≢ 3) }
     {
         self.table
             .shared
@@ -50,12 +53,14 @@ impl Board {
     }
 
     pub(crate) fn try_withdraw(&self, seat: &mut Seat, place: usize, serial: u64) -> u64
-        requires table { (seat.old.table_id ≡ self.now.table.shared.table_id) × (place < self.now.table.shared.table_id.words) }
-        requires feeder { (seat.old.me.0.feeds ≡ true) × ((lane_at seat.old.me.0 place).serial ≡ serial) × (serial ≤ 2 ^ 61) }
-        ensures id { (seat.new.table_id ≡ seat.old.table_id) × (seat.new.id ≡ seat.old.id) }
+        requires table { MayStep self.now seat.old place }
+        requires feeder { (seat.old.me.0.feeds ≡ true)
+            × ((lane_at seat.old.me.0 place).serial ≡ serial) × (serial ≤ 2 ^ 61) }
+        ensures id { IsSameSeat seat.old seat.new }
         ensures won { result ≡ 4 * serial + 1 → HasWithdrawn place serial seat.old.me seat.new.me }
         ensures lost { result ≢ 4 * serial + 1
-            → (seat.new.me ≡ (after_load seat.old.me.0 place result, seat.old.me.1)) × (result % 4 ≢ 1) }
+            → (seat.new.me ≡ (after_load seat.old.me.0 place result, seat.old.me.1))
+            × (result % 4 ≢ 1) }
     {
         self.table
             .shared
@@ -65,9 +70,11 @@ impl Board {
     // The slot taken last has a job.
     pub(crate) fn open_job(&self, seat: &mut Seat, place: usize, serial: u64) -> SliceJob
         requires table { seat.old.table_id ≡ self.now.table.shared.table_id }
-        requires slot { (job : SliceJob) × (seat.old.me.1 ≡ (place, Some (Waiting serial job)) ∷ rest seat.old.me.1) }
-        ensures id { (seat.new.table_id ≡ seat.old.table_id) × (seat.new.id ≡ seat.old.id) }
-        ensures stamped { seat.old.me.1 ≡ (place, Some (Waiting serial result)) ∷ rest seat.old.me.1 }
+        requires slot { (job : SliceJob)
+            × (seat.old.me.1 ≡ (place, Some (Waiting serial job)) ∷ rest seat.old.me.1) }
+        ensures id { IsSameSeat seat.old seat.new }
+        ensures stamped { seat.old.me.1
+            ≡ (place, Some (Waiting serial result)) ∷ rest seat.old.me.1 }
         ensures slot { seat.new.me ≡ (seat.old.me.0, (place, None) ∷ rest seat.old.me.1) }
     {
         match self.table.shared.exchange(seat, place, None) {
@@ -79,9 +86,11 @@ impl Board {
     // The slot taken last has an answer.
     pub(crate) fn open_done(&self, seat: &mut Seat, place: usize, serial: u64) -> SliceDone
         requires table { seat.old.table_id ≡ self.now.table.shared.table_id }
-        requires slot { (done : SliceDone) × (seat.old.me.1 ≡ (place, Some (Finished serial done)) ∷ rest seat.old.me.1) }
-        ensures id { (seat.new.table_id ≡ seat.old.table_id) × (seat.new.id ≡ seat.old.id) }
-        ensures stamped { seat.old.me.1 ≡ (place, Some (Finished serial result)) ∷ rest seat.old.me.1 }
+        requires slot { (done : SliceDone)
+            × (seat.old.me.1 ≡ (place, Some (Finished serial done)) ∷ rest seat.old.me.1) }
+        ensures id { IsSameSeat seat.old seat.new }
+        ensures stamped { seat.old.me.1
+            ≡ (place, Some (Finished serial result)) ∷ rest seat.old.me.1 }
         ensures slot { seat.new.me ≡ (seat.old.me.0, (place, None) ∷ rest seat.old.me.1) }
     {
         match self.table.shared.exchange(seat, place, None) {
@@ -92,11 +101,12 @@ impl Board {
 
     // Puts a job into the slot in front, and gives the slot back.
     pub(crate) fn give_job(&self, seat: &mut Seat, place: usize, serial: u64, job: SliceJob)
-        requires table { (seat.old.table_id ≡ self.now.table.shared.table_id) × (place < self.now.table.shared.table_id.words) }
+        requires table { MayStep self.now seat.old place }
         requires feeder { seat.old.me.0.feeds ≡ true }
-        requires idle { (lane_at seat.old.me.0 place ≡ lane (serial - 1) true false) × (0 < serial) × (serial ≤ 2 ^ 61) }
+        requires idle { (lane_at seat.old.me.0 place ≡ lane (serial - 1) true false)
+            × (0 < serial) × (serial ≤ 2 ^ 61) }
         requires slot { seat.old.me.1 ≡ (place, None) ∷ rest seat.old.me.1 }
-        ensures id { (seat.new.table_id ≡ seat.old.table_id) × (seat.new.id ≡ seat.old.id) }
+        ensures id { IsSameSeat seat.old seat.new }
         ensures view { seat.new.me ≡ (after_put seat.old.me.0 place, rest seat.old.me.1) }
     {
         let _none = self
@@ -108,11 +118,13 @@ impl Board {
 
     // Puts an answer into the slot in front, and gives the slot back.
     pub(crate) fn give_done(&self, seat: &mut Seat, place: usize, serial: u64, done: SliceDone)
-        requires table { (seat.old.table_id ≡ self.now.table.shared.table_id) × (place < self.now.table.shared.table_id.words) }
-        requires worker { (seat.old.me.0.feeds ≡ false) × (0 < holds_of place serial seat.old.me.0.held) × (serial ≤ 2 ^ 61) }
+        requires table { MayStep self.now seat.old place }
+        requires worker { (seat.old.me.0.feeds ≡ false)
+            × (0 < holds_of place serial seat.old.me.0.held) × (serial ≤ 2 ^ 61) }
         requires slot { seat.old.me.1 ≡ (place, None) ∷ rest seat.old.me.1 }
-        ensures id { (seat.new.table_id ≡ seat.old.table_id) × (seat.new.id ≡ seat.old.id) }
-        ensures view { seat.new.me ≡ (after_complete seat.old.me.0 place serial, rest seat.old.me.1) }
+        ensures id { IsSameSeat seat.old seat.new }
+        ensures view { seat.new.me
+            ≡ (after_complete seat.old.me.0 place serial, rest seat.old.me.1) }
     {
         let _none = self
             .table
@@ -124,10 +136,12 @@ impl Board {
     }
 
     pub(crate) fn fetch(&self, seat: &mut Seat, place: usize)
-        requires table { (seat.old.table_id ≡ self.now.table.shared.table_id) × (place < self.now.table.shared.table_id.words) }
-        requires feeder { (seat.old.me.0.feeds ≡ true) × (lane_at seat.old.me.0 place ≡ lane 0 false false) }
-        ensures id { (seat.new.table_id ≡ seat.old.table_id) × (seat.new.id ≡ seat.old.id) }
-        ensures view { seat.new.me ≡ (after_return seat.old.me.0 place, (place, None) ∷ seat.old.me.1) }
+        requires table { MayStep self.now seat.old place }
+        requires feeder { (seat.old.me.0.feeds ≡ true)
+            × (lane_at seat.old.me.0 place ≡ lane 0 false false) }
+        ensures id { IsSameSeat seat.old seat.new }
+        ensures view { seat.new.me
+            ≡ (after_return seat.old.me.0 place, (place, None) ∷ seat.old.me.1) }
     {
         self.table.shared.load::<Fetch>(seat, place);
     }
@@ -136,7 +150,8 @@ impl Board {
         requires table { seat.old.table_id ≡ self.now.table.shared.table_id }
         requires some_place { 0 < self.now.table.shared.table_id.words }
         requires feeder { seat.old.me.0.feeds ≡ true }
-        ensures feeder { (seat.new.table_id ≡ seat.old.table_id) × (seat.new.id ≡ seat.old.id) × (seat.new.me ≡ (after_step seat.old.me.0, seat.old.me.1)) }
+        ensures feeder { IsSameSeat seat.old seat.new }
+        ensures view { seat.new.me ≡ (after_step seat.old.me.0, seat.old.me.1) }
         ensures worker { (result.table_id ≡ seat.old.table_id) × (result.me ≡ (worker_view, [])) }
     {
         self.table.shared.split_seat::<Hire>(seat)

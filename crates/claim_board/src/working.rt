@@ -5,6 +5,7 @@ ghost use Rattle.claim_board.specs.Calls.{HoldsOneMore, FoundOther};
 ghost use Rattle.claim_board.specs.Counts.{holds_of, occurrences};
 ghost use Rattle.claim_board.specs.Plays.{empty_slots};
 ghost use Rattle.claim_board.specs.Seats.{IsWorkerOf, places_of, worker_sees};
+ghost use Rattle.claim_board.specs.Steps.{MayStep, IsSameSeat};
 
 use crate::board::Board;
 use crate::seats::{Seat, WorkerSeat};
@@ -39,8 +40,11 @@ impl Board {
         requires seat { IsWorkerOf self.now s.old }
         requires place { place < places_of self.now }
         ensures seat { IsWorkerOf self.now s.new }
-        ensures held { IfOk result (λ h. (h.place ≡ place) × HoldsOneMore place h.serial (worker_sees s.old) (worker_sees s.new)) }
-        ensures refused { IfErr result (λ e. FoundOther place e.word (worker_sees s.old) (worker_sees s.new)) }
+        ensures held { IfOk result (λ h. (h.place ≡ place)
+            × HoldsOneMore place h.serial (worker_sees s.old) (worker_sees s.new)) }
+        ensures mine { IfOk result (λ h. 0 < holds_of place h.serial (worker_sees s.new).held) }
+        ensures refused { IfErr result (λ e. FoundOther place e.word (worker_sees s.old)
+            (worker_sees s.new)) }
     {
         let WorkerSeat {
             seat,
@@ -57,14 +61,16 @@ impl Board {
 
     // Each turn of the loop finds a word of a greater serial.
     fn claim_at(&self, seat: &mut Seat, place: usize) -> Result<Claimed, u64>
-        requires table { (seat.old.table_id ≡ self.now.table.shared.table_id) × (place < self.now.table.shared.table_id.words) }
+        requires table { MayStep self.now seat.old place }
         requires worker { seat.old.me.0.feeds ≡ false }
-        ensures id { (seat.new.table_id ≡ seat.old.table_id) × (seat.new.id ≡ seat.old.id) }
+        ensures id { IsSameSeat seat.old seat.new }
         ensures held { IfOk result (λ c. HoldsOneMore place c.serial seat.old.me.0 seat.new.me.0) }
         ensures slot { IfOk result (λ c. seat.new.me.1 ≡ (place, None) ∷ seat.old.me.1) }
         ensures small { IfOk result (λ c. c.serial ≤ 2 ^ 61) }
-        ensures free { IfOk result (λ c. (other : ℕ) → holds_of place other seat.old.me.0.held ≡ 0) }
-        ensures refused { IfErr result (λ word. FoundOther place word seat.old.me.0 seat.new.me.0 × (seat.new.me.1 ≡ seat.old.me.1)) }
+        ensures free { IfOk result (λ c. (other : ℕ)
+            → holds_of place other seat.old.me.0.held ≡ 0) }
+        ensures refused { IfErr result (λ word. FoundOther place word seat.old.me.0 seat.new.me.0
+            × (seat.new.me.1 ≡ seat.old.me.1)) }
     {
         let mut word = self.look(seat, place);
         while word % 4 == 1 {
@@ -112,13 +118,17 @@ impl Board {
         serial: u64,
         done: SliceDone,
     )
-        requires table { (seat.old.table_id ≡ self.now.table.shared.table_id) × (place < self.now.table.shared.table_id.words) }
-        requires worker { (seat.old.me.0.feeds ≡ false) × (0 < holds_of place serial seat.old.me.0.held) × (serial ≤ 2 ^ 61) }
-        requires slots { (seat.old.me.1 ≡ empty_slots order.old.items) × (0 < occurrences place order.old.items) }
-        ensures id { (seat.new.table_id ≡ seat.old.table_id) × (seat.new.id ≡ seat.old.id) }
+        requires table { MayStep self.now seat.old place }
+        requires worker { (seat.old.me.0.feeds ≡ false)
+            × (0 < holds_of place serial seat.old.me.0.held) × (serial ≤ 2 ^ 61) }
+        requires slots { (seat.old.me.1 ≡ empty_slots order.old.items)
+            × (0 < occurrences place order.old.items) }
+        ensures id { IsSameSeat seat.old seat.new }
         ensures view { seat.new.me.0 ≡ after_complete seat.old.me.0 place serial }
         ensures slots { seat.new.me.1 ≡ empty_slots order.new.items }
-        ensures order { (q : ℕ) → occurrences q order.old.items ≡ cond (place == q) 1 0 + occurrences q order.new.items }
+        ensures order { (q : ℕ)
+            → occurrences q order.old.items
+            ≡ cond (place == q) 1 0 + occurrences q order.new.items }
         ensures room { deque_capacity order.new ≡ deque_capacity order.old }
     {
         bring(seat, order, place);

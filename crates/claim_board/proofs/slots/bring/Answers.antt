@@ -16,7 +16,10 @@ loop-turn-preserved c = record {
 }
 
 pub returns-clause-id : goal.returns-clause-id
-returns-clause-id c = (c.loop-turn.invariant.table, c.loop-turn.invariant.id, c.loop-turn.invariant.view)
+returns-clause-id c = record { table = c.loop-turn.invariant.table; number = c.loop-turn.invariant.id }
+
+pub returns-clause-view : goal.returns-clause-view
+returns-clause-view c = c.loop-turn.invariant.view
 
 pub returns-clause-slots : goal.returns-clause-slots
 returns-clause-slots c = let e : c.loop-turn._turn ≡ c.index_of-at.result = (let a = c.loop-turn-test.false in let b = c.loop-turn.auto._turn-end in omega arith) in

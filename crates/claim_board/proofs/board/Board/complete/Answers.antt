@@ -24,5 +24,5 @@ invariant_of-s-clause-once c = λ q. once_less c.args.h.place q c.args.s.now.ord
 
 pub invariant_of-s-clause-below : goal.invariant_of-s-clause-below
 invariant_of-s-clause-below c = λ q past.
-    let same : c.complete_at.new.seat.table_id.words ≡ c.args.s.now.seat.table_id.words = ap (λ (t : TableId). t.words) c.complete_at.ensures.id.0 in
+    let same : c.complete_at.new.seat.table_id.words ≡ c.args.s.now.seat.table_id.words = ap (λ (t : TableId). t.words) c.complete_at.ensures.id.table in
     below_less c.args.h.place q c.args.s.now.order.items c.complete_at.new.order.items (c.complete_at.ensures.order q) (c.args.s.now.below q (omega arith))

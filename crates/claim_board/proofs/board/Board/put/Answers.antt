@@ -4,7 +4,7 @@ use Rattle.link_model.specs.declared.board.Lane.{Lane}
 use Rattle.link_model.specs.declared.board.View.{View}
 use Rattle.std.proofs.lemmas.List.{get_or_default}
 use Rattle.link_model.specs.Board.{lane, lane_at}
-use Rattle.claim_board.proofs.Idle.{idle_after_put, lane_after}
+use Rattle.claim_board.proofs.Idle.{idle_after_put, lane_after, lane_here}
 use Rattle.claim_board.proofs.board.Board.put.Goals as goal
 
 pub invariant_of-f-clause-idle : goal.invariant_of-f-clause-idle
@@ -42,3 +42,11 @@ invariant_of-f-clause-small c = λ q.
     let p = c.requires.place in
     let low = c.requires.serial in
     lane_after f.seat.me.0 c.put_at.new.seat.me.0 c.args.place q _ (λ (l : Lane). l.serial ≤ 2 ^ 61) (ap (λ (v : View). v.lanes) c.put_at.ensures.view) (omega arith) (omega arith) (f.small q)
+
+pub returns-clause-out : goal.returns-clause-out
+returns-clause-out c =
+    let f = c.args.f.now in
+    let wide : vec_len f.lanes ≡ c.args.self.now.table.shared.table_id.words = f.wide ∙ ap (λ (t : TableId). t.words) c.requires.seat.0 in
+    let long : length f.seat.me.0.lanes ≡ length f.lanes.items = ap length f.mirrors in
+    let p = c.requires.place in
+    lane_here f.seat.me.0 c.args.place (lane ((lane_at f.seat.me.0 c.args.place).serial + 1) true true) c.put_at.new.seat.me.0 (ap (λ (v : View). v.lanes) c.put_at.ensures.view) (omega arith)
