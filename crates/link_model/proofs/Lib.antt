@@ -22,3 +22,4 @@ pub mod Apart
 pub mod Following
 pub mod SessionOutcomes
 pub mod SessionOutput
+pub mod Rounds

@@ -1,0 +1,9 @@
+pub mod Sums
+pub mod Keeps
+pub mod Decks
+pub mod Few
+pub mod Backs
+pub mod Completes
+pub mod Opens
+pub mod Holds
+pub mod Idle

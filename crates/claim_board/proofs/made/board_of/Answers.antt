@@ -1,0 +1,14 @@
+use Rattle.std.proofs.Common.{rules, ◌≡◌, ◌∙◌, ℕ, List, sym, subst}
+use Rattle.std.specs.Prelude.{replicate, None}
+use Rattle.atomic_table.specs.Table.{opening}
+use Rattle.link_model.specs.Board.{first_view}
+use Rattle.claim_board.specs.Rule.{BoardRule, Slot}
+use Rattle.claim_board.proofs.Opens.{opens}
+use Rattle.claim_board.proofs.made.board_of.Goals as goal
+
+pub vacant-requires : goal.vacant-requires
+vacant-requires c =
+    let none : Slot = None in
+    let P : List ℕ → Type 0 = λ ws. BoardRule (opening ws (replicate c.args.places none) (first_view c.args.places)) in
+    let words : c.as_slice.result.now ≡ replicate c.args.places 0 = c.as_slice.ensures.value ∙ search rules in
+    subst P (sym words) (opens c.args.places)

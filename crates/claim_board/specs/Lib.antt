@@ -1,0 +1,7 @@
+pub mod Counts
+pub mod Rule
+pub mod Plays
+pub mod Seats
+pub mod Steps
+pub mod Calls
+pub mod Feeders

@@ -1,0 +1,153 @@
+ghost use Rattle.std.specs.Prelude.{◌≡◌, ◌≢◌, ℕ, ◌+◌, ◌-◌, ◌%◌, ◌<◌, ◌≤◌, ◌^◌, ◌∷◌, true, false, OnOk, OnErr, IfErr, cond, ◌==◌, slice_set, vec_len};
+ghost use Rattle.std.specs.VecDeque.{deque_len, deque_capacity};
+ghost use Rattle.link_model.specs.Board.{lane, lane_at, after_load, after_put, after_return};
+ghost use Rattle.claim_board.specs.Counts.{occurrences};
+ghost use Rattle.claim_board.specs.Plays.{empty_slots};
+ghost use Rattle.claim_board.specs.Seats.{IsFeederOf, feeder_sees, places_of};
+ghost use Rattle.claim_board.specs.Steps.{MayStep, IsSameSeat};
+
+use crate::board::Board;
+use crate::seats::{FeederSeat, Seat};
+use crate::slots::bring;
+use crate::working::NotWaiting;
+use link_model::Lane;
+use std::collections::VecDeque;
+use vc_slice::{SliceDone, SliceJob};
+
+/// The word that was read, which isn't done.
+#[derive(Clone, Copy, Debug, PartialEq, Eq)]
+pub struct NotYet {
+    pub word: u64,
+}
+
+impl Board {
+    /// Hands a job to an empty place, raises its serial by 1 and rings the bell.
+    pub fn put(&self, f: &mut FeederSeat, place: u32, job: SliceJob)
+        requires seat { IsFeederOf self.now f.old }
+        requires place { place < places_of self.now }
+        requires empty { (lane_at (feeder_sees f.old) place).is_out ≡ false }
+        requires serial { (lane_at (feeder_sees f.old) place).serial < 2 ^ 61 }
+        ensures seat { IsFeederOf self.now f.new }
+        ensures view { feeder_sees f.new ≡ after_put (feeder_sees f.old) place }
+        ensures out { lane_at (feeder_sees f.new) place
+            ≡ lane ((lane_at (feeder_sees f.old) place).serial + 1) true true }
+    {
+        let FeederSeat {
+            seat,
+            bell,
+            lanes,
+            order,
+        } = f;
+        let place = place as usize;
+        let serial = lanes[place].serial + 1;
+        self.put_at(seat, order, place, serial, job);
+        lanes[place] = Lane {
+            serial,
+            is_fetched: true,
+            is_out: true,
+        };
+        self.bell.ring(bell);
+    }
+
+    fn put_at(
+        &self,
+        seat: &mut Seat,
+        order: &mut VecDeque<usize>,
+        place: usize,
+        serial: u64,
+        job: SliceJob,
+    )
+        requires table { MayStep self.now seat.old place }
+        requires feeder { seat.old.me.0.feeds ≡ true }
+        requires idle { (lane_at seat.old.me.0 place ≡ lane (serial - 1) true false)
+            × (0 < serial) × (serial ≤ 2 ^ 61) }
+        requires slots { (seat.old.me.1 ≡ empty_slots order.old.items)
+            × (0 < occurrences place order.old.items) }
+        ensures id { IsSameSeat seat.old seat.new }
+        ensures view { seat.new.me.0 ≡ after_put seat.old.me.0 place }
+        ensures slots { seat.new.me.1 ≡ empty_slots order.new.items }
+        ensures order { (q : ℕ)
+            → occurrences q order.old.items
+            ≡ cond (place == q) 1 0 + occurrences q order.new.items }
+        ensures room { deque_capacity order.new ≡ deque_capacity order.old }
+    {
+        bring(seat, order, place);
+        self.give_job(seat, place, serial, job);
+        let _place = order.pop_front();
+    }
+
+    /// Takes the answer of a place that is done, which is empty then.
+    pub fn take(&self, f: &mut FeederSeat, place: u32) -> Result<SliceDone, NotYet>
+        requires seat { IsFeederOf self.now f.old }
+        requires place { place < places_of self.now }
+        ensures seat { IsFeederOf self.now f.new }
+        ensures took { OnOk result (feeder_sees f.new ≡ after_return (feeder_sees f.old) place) }
+        ensures empty { OnOk result (lane_at (feeder_sees f.new) place
+            ≡ lane (lane_at (feeder_sees f.old) place).serial true false) }
+        ensures was_out { OnOk result ((lane_at (feeder_sees f.old) place).is_out ≡ true) }
+        ensures not_yet { IfErr result (λ e. (feeder_sees f.new
+            ≡ after_load (feeder_sees f.old) place e.word) × (e.word % 4 ≢ 3)) }
+    {
+        let FeederSeat {
+            seat,
+            bell: _,
+            lanes,
+            order,
+        } = f;
+        let place = place as usize;
+        let serial = lanes[place].serial;
+        let word = self.try_take(seat, place, serial);
+        if word != 4 * serial + 3 {
+            return Err(NotYet { word });
+        }
+        let done = self.open_done(seat, place, serial);
+        returned(lanes, order, place, serial);
+        Ok(done)
+    }
+
+    /// Takes the job back of a place that waits, which is empty then.
+    pub fn withdraw(&self, f: &mut FeederSeat, place: u32) -> Result<SliceJob, NotWaiting>
+        requires seat { IsFeederOf self.now f.old }
+        requires place { place < places_of self.now }
+        ensures seat { IsFeederOf self.now f.new }
+        ensures took { OnOk result (feeder_sees f.new ≡ after_return (feeder_sees f.old) place) }
+        ensures empty { OnOk result (lane_at (feeder_sees f.new) place
+            ≡ lane (lane_at (feeder_sees f.old) place).serial true false) }
+        ensures was_out { OnOk result ((lane_at (feeder_sees f.old) place).is_out ≡ true) }
+        ensures not_waiting { IfErr result (λ e. (feeder_sees f.new
+            ≡ after_load (feeder_sees f.old) place e.word) × (e.word % 4 ≢ 1)) }
+    {
+        let FeederSeat {
+            seat,
+            bell: _,
+            lanes,
+            order,
+        } = f;
+        let place = place as usize;
+        let serial = lanes[place].serial;
+        let word = self.try_withdraw(seat, place, serial);
+        if word != 4 * serial + 1 {
+            return Err(NotWaiting { word });
+        }
+        let job = self.open_job(seat, place, serial);
+        returned(lanes, order, place, serial);
+        Ok(job)
+    }
+}
+
+// The place is empty again, and its slot is with the feeder.
+fn returned(lanes: &mut Vec<Lane>, order: &mut VecDeque<usize>, place: usize, serial: u64)
+    requires place { place < vec_len lanes.old }
+    requires room { deque_len order.old < deque_capacity order.old }
+    ensures lanes { lanes.new.items ≡ slice_set lanes.old.items place (lane serial true false) }
+    ensures wide { vec_len lanes.new ≡ vec_len lanes.old }
+    ensures order { order.new.items ≡ place ∷ order.old.items }
+    ensures room { deque_capacity order.new ≡ deque_capacity order.old }
+{
+    lanes[place] = Lane {
+        serial,
+        is_fetched: true,
+        is_out: false,
+    };
+    order.push_front_reserved(place);
+}

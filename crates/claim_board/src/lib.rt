@@ -1,0 +1,27 @@
+//! The claim board: places where a feeder puts slices and workers claim them. A step is one atomic operation on the word
+//! of one place; nothing waits, and nothing but `Board::new` takes memory.
+#![tactic(auto)]
+
+mod board;
+mod cargo;
+mod feeder;
+mod feeding;
+mod made;
+mod places;
+mod plays;
+mod resting;
+mod ring;
+mod seats;
+mod slots;
+mod steps;
+mod working;
+
+pub use board::Board;
+pub use feeder::BoardFeeder;
+pub use feeding::NotYet;
+pub use resting::{bell, rest, wake};
+pub use seats::{BellSeat, FeederSeat, WorkerSeat};
+pub use working::{HeldPlace, NotWaiting};
+
+#[cfg(test)]
+mod tests;

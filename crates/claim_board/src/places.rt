@@ -1,0 +1,142 @@
+ghost use Rattle.std.specs.Prelude.{◌≡◌, ◌≢◌, ◌+◌, ◌≤◌, ◌<◌, ◌^◌, ℕ, IfOk, IfErr, IfSome, IfNone, OnSome, None, false, true, replicate, slice_set, if◌then◌else◌};
+ghost use Rattle.link_model.specs.Board.{lane_at, after_return};
+ghost use Rattle.std.specs.List.{count_by};
+ghost use Rattle.std.specs.Arc.{arc_value};
+ghost use Rattle.claim_board.specs.Feeders.{feeder_bound, form_sees, left_in, IsLowestFree, HasNoFree, HasPut, FoundNot, is_left};
+ghost use Rattle.claim_board.specs.Seats.{IsFeederOf, feeder_sees, places_of};
+
+use crate::board::Board;
+use crate::feeder::BoardFeeder;
+use crate::seats::FeederSeat;
+use std::alloc::Global;
+use std::sync::Arc;
+use vc_slice::{Places, SliceDone, SliceJob};
+use vc_types::NoMemory;
+
+// The serial of a place stays below it.
+const LAST_SERIAL: u64 = 1 << 61;
+
+impl BoardFeeder {
+    /// The form of a board and its feeder's seat.
+    pub fn new(alloc: Global, board: Arc<Board>, seat: FeederSeat) -> Result<BoardFeeder, NoMemory>
+        requires seat { IsFeederOf (arc_value board) seat }
+        ensures bound { IfOk result (λ f. feeder_bound f ≡ places_of (arc_value board)) }
+        ensures sees { IfOk result (λ f. form_sees f ≡ feeder_sees seat) }
+        ensures left { IfOk result (λ f. left_in f
+            ≡ replicate (places_of (arc_value board)) false) }
+    {
+        let places = board.places() as usize;
+        let left = vec![in alloc; false; places]?;
+        Ok(BoardFeeder { board, seat, left })
+    }
+
+    // Asks each place that was left, and drops what is there.
+    fn sweep(&mut self)
+        ensures bound { feeder_bound self.new ≡ feeder_bound self.old }
+        ensures asked { (form_sees self.old).steps + count_by (λ left. left) (left_in self.old) ≤
+            (form_sees self.new).steps }
+    {
+        for place in 0..self.board.places() {
+            self.ask_if_left(place);
+        }
+    }
+
+    fn ask_if_left(&mut self, place: u32)
+        requires place { place < feeder_bound self.old }
+        ensures bound { feeder_bound self.new ≡ feeder_bound self.old }
+        ensures asked { (form_sees self.new).steps
+            ≡ (form_sees self.old).steps + (if is_left self.old place then 1 else 0) }
+        ensures others { (other : ℕ) → other ≢ place
+            → is_left self.new other ≡ is_left self.old other }
+    {
+        if self.left[place as usize] {
+            let _answer = self.take(place);
+        }
+    }
+
+    // The lowest place that is empty, with a serial that may rise.
+    fn free_place(&self) -> Option<u32>
+        ensures lowest { IfSome result (IsLowestFree (feeder_bound self.now) (form_sees self.now)) }
+        ensures none { IfNone result (HasNoFree (feeder_bound self.now) (form_sees self.now)) }
+    {
+        for place in 0..self.board.places() {
+            let lane = self.seat.lanes[place as usize];
+            if !lane.is_out && lane.serial < LAST_SERIAL {
+                return Some(place);
+            }
+        }
+        None
+    }
+}
+
+impl Places for BoardFeeder {
+    ghost bound = { feeder_bound };
+
+    ghost told = { λ _. None };
+
+    fn put(&mut self, job: SliceJob) -> Result<u32, SliceJob>
+        ensures bound { feeder_bound self.new ≡ feeder_bound self.old }
+        ensures place { IfOk result (λ place. place < feeder_bound self.old) }
+        ensures back { IfErr result (λ same. same ≡ job) }
+        ensures asked { (form_sees self.old).steps + count_by (λ left. left) (left_in self.old) ≤
+            (form_sees self.new).steps }
+        ensures lowest { IfOk result (HasPut self.new) }
+        ensures full { IfErr result (λ _. HasNoFree (feeder_bound self.new) (form_sees self.new)) }
+    {
+        self.sweep();
+        match self.free_place() {
+            Some(place) => {
+                self.board.put(&mut self.seat, place, job);
+                Ok(place)
+            }
+            None => Err(job),
+        }
+    }
+
+    fn take(&mut self, place: u32) -> Option<SliceDone>
+        requires place { place < feeder_bound self.old }
+        ensures bound { feeder_bound self.new ≡ feeder_bound self.old }
+        ensures took { OnSome result (form_sees self.new
+            ≡ after_return (form_sees self.old) place) }
+        ensures mark { OnSome result (left_in self.new ≡ slice_set (left_in self.old) place false) }
+        ensures not_yet { IfNone result (FoundNot 3 place (form_sees self.old)
+            (form_sees self.new)) }
+        ensures stays { IfNone result (left_in self.new ≡ left_in self.old) }
+    {
+        let Ok(done) = self.board.take(&mut self.seat, place) else {
+            return None;
+        };
+        self.left[place as usize] = false;
+        Some(done)
+    }
+
+    fn withdraw(&mut self, place: u32) -> Option<SliceJob>
+        requires place { place < feeder_bound self.old }
+        ensures bound { feeder_bound self.new ≡ feeder_bound self.old }
+        ensures took { OnSome result (form_sees self.new
+            ≡ after_return (form_sees self.old) place) }
+        ensures mark { OnSome result (left_in self.new ≡ slice_set (left_in self.old) place false) }
+        ensures not_waiting { IfNone result (FoundNot 1 place (form_sees self.old)
+            (form_sees self.new)) }
+        ensures stays { IfNone result (left_in self.new ≡ left_in self.old) }
+    {
+        let Ok(job) = self.board.withdraw(&mut self.seat, place) else {
+            return None;
+        };
+        self.left[place as usize] = false;
+        Some(job)
+    }
+
+    fn leave(&mut self, place: u32)
+        requires place { place < feeder_bound self.old }
+        ensures bound { feeder_bound self.new ≡ feeder_bound self.old }
+        ensures view { form_sees self.new ≡ form_sees self.old }
+        ensures mark { left_in self.new
+            ≡ (if (lane_at (form_sees self.old) place).is_out then slice_set
+            (left_in self.old) place true else left_in self.old) }
+    {
+        if self.seat.lanes[place as usize].is_out {
+            self.left[place as usize] = true;
+        }
+    }
+}

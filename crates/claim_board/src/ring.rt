@@ -1,0 +1,68 @@
+ghost use Rattle.std.specs.Prelude.{◌≡◌, ◌<◌, IfOk};
+
+use crate::seats::BellPass;
+use atomic_table::{Play, Split, Table, TableRule};
+use std::alloc::{AllocError, Global};
+use std::sync::Wait;
+
+/// The rule of the bell's table, which holds of every word: no claim rests on it.
+pub(crate) struct Anything;
+
+impl TableRule<u8, (), ()> for Anything {
+    ghost holds = { λ _ _. Unit {0} };
+
+    ghost first = { λ _. tt };
+}
+
+impl Play<u8, ()> for Anything {
+    ghost then = { λ _ _ _ _. Unit {0} };
+}
+
+impl Split<()> for Anything {
+    ghost left = { λ _. tt };
+
+    ghost right = { λ _. tt };
+}
+
+/// A word on which idle workers rest.
+#[derive(Drop)]
+pub(crate) struct Bell {
+    pub(crate) table: Table<u8, (), (), Anything, Global>,
+    ghost one: { table.shared.table_id.words ≡ 1 },
+}
+
+impl Bell {
+    pub(crate) fn new(alloc: Global) -> Result<(Bell, BellPass), AllocError>
+        ensures { IfOk result (λ made. made.1.table_id ≡ made.0.table.shared.table_id) }
+    {
+        let (table, pass) = Table::of_words(alloc, &[0], &())?;
+        Ok((Bell { table }, pass))
+    }
+
+    /// One more seat at the bell.
+    pub(crate) fn another(&self, pass: &mut BellPass) -> BellPass
+        requires { pass.old.table_id ≡ self.now.table.shared.table_id }
+        ensures old { pass.new.table_id ≡ pass.old.table_id }
+        ensures new { result.table_id ≡ pass.old.table_id }
+    {
+        self.table.shared.split_seat::<Anything>(pass)
+    }
+
+    pub(crate) fn number(&self) -> u64 {
+        self.table.shared.peek(0)
+    }
+
+    /// Rests while the low half of the bell's number is that of `seen`.
+    pub(crate) fn rest<H: Wait>(&self, rt: &H, seen: u64) {
+        self.table.shared.park(rt, 0, (seen % (1 << 32)) as u32);
+    }
+
+    /// Raises the number by 1, wrapping, and wakes one who rests.
+    pub(crate) fn ring(&self, pass: &mut BellPass)
+        requires { pass.old.table_id ≡ self.now.table.shared.table_id }
+        ensures { pass.new.table_id ≡ pass.old.table_id }
+    {
+        self.table.shared.fetch_add::<Anything>(pass, 0, 1);
+        self.table.shared.wake_one(0);
+    }
+}

@@ -1,0 +1,159 @@
+ghost use Rattle.std.specs.Prelude.{◌≡◌, ◌≢◌, ℕ, ◌+◌, ◌-◌, ◌*◌, ◌%◌, ◌/◌, ◌<◌, ◌≤◌, ◌^◌, true, false, [], ◌∷◌, Some, None};
+ghost use Rattle.atomic_table.specs.Table.{rest};
+ghost use Rattle.link_model.specs.Board.{lane, lane_at, after_load, after_put, after_complete, after_return, after_step, worker_view};
+ghost use Rattle.vc_slice.specs.declared.done.SliceDone.{SliceDone};
+ghost use Rattle.vc_slice.specs.declared.job.SliceJob.{SliceJob};
+ghost use Rattle.claim_board.specs.Counts.{holds_of};
+ghost use Rattle.claim_board.specs.Plays.{HasClaimed, HasMissed, HasTaken, HasWithdrawn};
+ghost use Rattle.claim_board.specs.declared.cargo.Cargo.TheVariants.{Waiting, Finished};
+ghost use Rattle.claim_board.specs.Steps.{MayStep, IsSameSeat};
+
+use crate::board::Board;
+use crate::cargo::Cargo;
+use crate::plays::{Claim, Complete, Fetch, Hire, Load, Put, Take, Withdraw};
+use crate::seats::Seat;
+use vc_slice::{SliceDone, SliceJob};
+
+// One step each, and one exchange of a slot each.
+impl Board {
+    pub(crate) fn look(&self, seat: &mut Seat, place: usize) -> u64
+        requires { MayStep self.now seat.old place }
+        ensures id { IsSameSeat seat.old seat.new }
+        ensures view { seat.new.me ≡ (after_load seat.old.me.0 place result, seat.old.me.1) }
+    {
+        self.table.shared.load::<Load>(seat, place)
+    }
+
+    pub(crate) fn try_claim(&self, seat: &mut Seat, place: usize, word: u64) -> u64
+        requires table { MayStep self.now seat.old place }
+        requires waiting { word % 4 ≡ 1 }
+        requires worker { seat.old.me.0.feeds ≡ false }
+        ensures id { IsSameSeat seat.old seat.new }
+        ensures won { result ≡ word → HasClaimed place (word / 4) seat.old.me seat.new.me }
+        ensures lost { result ≢ word → HasMissed place word result seat.old.me seat.new.me }
+    {
+        self.table
+            .shared
+            .compare_exchange::<Claim>(seat, place, word, word + 1)
+    }
+
+    pub(crate) fn try_take(&self, seat: &mut Seat, place: usize, serial: u64) -> u64
+        requires table { MayStep self.now seat.old place }
+        requires feeder { (seat.old.me.0.feeds ≡ true)
+            × ((lane_at seat.old.me.0 place).serial ≡ serial) × (serial ≤ 2 ^ 61) }
+        ensures id { IsSameSeat seat.old seat.new }
+        ensures won { result ≡ 4 * serial + 3 → HasTaken place serial seat.old.me seat.new.me }
+        ensures lost { result ≢ 4 * serial + 3
+            → (seat.new.me ≡ (after_load seat.old.me.0 place result, seat.old.me.1))
+            × (result % 4 ≢ 3) }
+    {
+        self.table
+            .shared
+            .compare_exchange::<Take>(seat, place, 4 * serial + 3, 4 * serial)
+    }
+
+    pub(crate) fn try_withdraw(&self, seat: &mut Seat, place: usize, serial: u64) -> u64
+        requires table { MayStep self.now seat.old place }
+        requires feeder { (seat.old.me.0.feeds ≡ true)
+            × ((lane_at seat.old.me.0 place).serial ≡ serial) × (serial ≤ 2 ^ 61) }
+        ensures id { IsSameSeat seat.old seat.new }
+        ensures won { result ≡ 4 * serial + 1 → HasWithdrawn place serial seat.old.me seat.new.me }
+        ensures lost { result ≢ 4 * serial + 1
+            → (seat.new.me ≡ (after_load seat.old.me.0 place result, seat.old.me.1))
+            × (result % 4 ≢ 1) }
+    {
+        self.table
+            .shared
+            .compare_exchange::<Withdraw>(seat, place, 4 * serial + 1, 4 * serial)
+    }
+
+    // The slot taken last has a job.
+    pub(crate) fn open_job(&self, seat: &mut Seat, place: usize, serial: u64) -> SliceJob
+        requires table { seat.old.table_id ≡ self.now.table.shared.table_id }
+        requires slot { (job : SliceJob)
+            × (seat.old.me.1 ≡ (place, Some (Waiting serial job)) ∷ rest seat.old.me.1) }
+        ensures id { IsSameSeat seat.old seat.new }
+        ensures stamped { seat.old.me.1
+            ≡ (place, Some (Waiting serial result)) ∷ rest seat.old.me.1 }
+        ensures slot { seat.new.me ≡ (seat.old.me.0, (place, None) ∷ rest seat.old.me.1) }
+    {
+        match self.table.shared.exchange(seat, place, None) {
+            Some(Cargo::Waiting(_, job)) => job,
+            _ => unreachable!(),
+        }
+    }
+
+    // The slot taken last has an answer.
+    pub(crate) fn open_done(&self, seat: &mut Seat, place: usize, serial: u64) -> SliceDone
+        requires table { seat.old.table_id ≡ self.now.table.shared.table_id }
+        requires slot { (done : SliceDone)
+            × (seat.old.me.1 ≡ (place, Some (Finished serial done)) ∷ rest seat.old.me.1) }
+        ensures id { IsSameSeat seat.old seat.new }
+        ensures stamped { seat.old.me.1
+            ≡ (place, Some (Finished serial result)) ∷ rest seat.old.me.1 }
+        ensures slot { seat.new.me ≡ (seat.old.me.0, (place, None) ∷ rest seat.old.me.1) }
+    {
+        match self.table.shared.exchange(seat, place, None) {
+            Some(Cargo::Finished(_, done)) => done,
+            _ => unreachable!(),
+        }
+    }
+
+    // Puts a job into the slot in front, and gives the slot back.
+    pub(crate) fn give_job(&self, seat: &mut Seat, place: usize, serial: u64, job: SliceJob)
+        requires table { MayStep self.now seat.old place }
+        requires feeder { seat.old.me.0.feeds ≡ true }
+        requires idle { (lane_at seat.old.me.0 place ≡ lane (serial - 1) true false)
+            × (0 < serial) × (serial ≤ 2 ^ 61) }
+        requires slot { seat.old.me.1 ≡ (place, None) ∷ rest seat.old.me.1 }
+        ensures id { IsSameSeat seat.old seat.new }
+        ensures view { seat.new.me ≡ (after_put seat.old.me.0 place, rest seat.old.me.1) }
+    {
+        let _none = self
+            .table
+            .shared
+            .exchange(seat, place, Some(Cargo::Waiting(serial, job)));
+        self.table.shared.store::<Put>(seat, place, 4 * serial + 1);
+    }
+
+    // Puts an answer into the slot in front, and gives the slot back.
+    pub(crate) fn give_done(&self, seat: &mut Seat, place: usize, serial: u64, done: SliceDone)
+        requires table { MayStep self.now seat.old place }
+        requires worker { (seat.old.me.0.feeds ≡ false)
+            × (0 < holds_of place serial seat.old.me.0.held) × (serial ≤ 2 ^ 61) }
+        requires slot { seat.old.me.1 ≡ (place, None) ∷ rest seat.old.me.1 }
+        ensures id { IsSameSeat seat.old seat.new }
+        ensures view { seat.new.me
+            ≡ (after_complete seat.old.me.0 place serial, rest seat.old.me.1) }
+    {
+        let _none = self
+            .table
+            .shared
+            .exchange(seat, place, Some(Cargo::Finished(serial, done)));
+        self.table
+            .shared
+            .store::<Complete>(seat, place, 4 * serial + 3);
+    }
+
+    pub(crate) fn fetch(&self, seat: &mut Seat, place: usize)
+        requires table { MayStep self.now seat.old place }
+        requires feeder { (seat.old.me.0.feeds ≡ true)
+            × (lane_at seat.old.me.0 place ≡ lane 0 false false) }
+        ensures id { IsSameSeat seat.old seat.new }
+        ensures view { seat.new.me
+            ≡ (after_return seat.old.me.0 place, (place, None) ∷ seat.old.me.1) }
+    {
+        self.table.shared.load::<Fetch>(seat, place);
+    }
+
+    pub(crate) fn hire(&self, seat: &mut Seat) -> Seat
+        requires table { seat.old.table_id ≡ self.now.table.shared.table_id }
+        requires some_place { 0 < self.now.table.shared.table_id.words }
+        requires feeder { seat.old.me.0.feeds ≡ true }
+        ensures feeder { IsSameSeat seat.old seat.new }
+        ensures view { seat.new.me ≡ (after_step seat.old.me.0, seat.old.me.1) }
+        ensures worker { (result.table_id ≡ seat.old.table_id) × (result.me ≡ (worker_view, [])) }
+    {
+        self.table.shared.split_seat::<Hire>(seat)
+    }
+}
