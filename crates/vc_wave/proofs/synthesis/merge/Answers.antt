@@ -14,15 +14,6 @@ side_at-w-requires-clause-fits c =
     let room = lowest_room (parameters_of c.args.plan.now) c.args.c c.lowest-w.result.0 c.lowest-w.result.1 c.args.stride _ _ _ c.lowest-w.ensures.width c.lowest-w.ensures.height c.requires.room in
     omega (arith, room.across)
 
-pub side_at-w-requires-clause-fits : goal.side_at-w-requires-clause-fits
-side_at-w-requires-clause-fits c =
-    let p = parameters_of c.args.plan.now in
-    let w = c.lowest-w.result.0 in
-    let h = c.lowest-w.result.1 in
-    let room = lower_room (w * 2 ^ p.depth_ho) h p.depth c.args.stride _ _ _
-    (whole_room p c.args.c w (w * 2 ^ p.depth_ho) h c.args.stride _ _ _ _ _ c.lowest-w.ensures.width refl c.lowest-w.ensures.height refl refl c.requires.room) in
-    omega (arith, room.across, c.ranges.stride.fits)
-
 pub merge_levels-requires-clause-room : goal.merge_levels-requires-clause-room
 merge_levels-requires-clause-room c =
     whole_room (parameters_of c.args.plan.now) c.args.c c.lowest-w.result.0 c.side_at-w.result c.lowest-w.result.1 c.args.stride _ _ _ _ _ c.lowest-w.ensures.width c.side_at-w.ensures c.lowest-w.ensures.height c.merge_across.auto.cells c.merge_across.auto.scratch c.requires.room
