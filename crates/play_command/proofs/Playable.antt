@@ -95,6 +95,8 @@ module _ (packets : ℕ) (given more : List ℕ) (whole : IsPlayable packets (gi
       by_fault faults.Prefix is last = no_bad faults.Prefix (λ e. cc) is last r.goes_on
       by_fault faults.Code is last = no_bad faults.Code (λ e. cc) is last r.goes_on
       by_fault faults.Offset is last = no_bad faults.Offset (λ e. cc) is last r.goes_on
+      by_fault faults.ReadFault is last = no_bad faults.ReadFault (λ e. cc) is last r.goes_on
+      by_fault faults.NoMemory is last = no_bad faults.NoMemory (λ e. cc) is last r.goes_on
 
   no_bad_unit : (input : InputChange) (output : OutputChange) (place : ℕ) → input.left.after ≡ Some more → IsBad packets input output split place → ⊥
   no_bad_unit input output place tells bad = by_refusal bad.refused
@@ -113,7 +115,10 @@ behind_given packets given (Some bytes) None took whole = absurd (some_is_none b
 behind_given packets given (Some bytes) (Some more) took whole = (more, refl, rw (some_is bytes (given ++ more) took) at whole)
 
 module _ (packets : ℕ) (input : InputChange) (output : OutputChange) (sound_input : HasRisen input.faults → ⊥) (sound_output : HasRisen output.faults → ⊥) (whole : IsSomeAnd input.left.before (IsPlayable packets)) where
-  Came : Result Summary Ending → Type 0
+  abbrev failed : Ending → Result Summary Ending
+  failed ending = Err ending
+
+  abbrev Came : Result Summary Ending → Type 0
   Came answer = IsOk answer ⊎ (answer ≡ Err endings.NoMemory)
 
   abbrev Behind : List ℕ → Type 0
@@ -123,7 +128,7 @@ module _ (packets : ℕ) (input : InputChange) (output : OutputChange) (sound_in
   behind given took = behind_given packets given input.left.before input.left.after took whole
 
   stopped : (ending : Ending) (given : List ℕ) → Behind given → PlayEnded packets (Err ending) input output (unit_split packets given)
-      → (Err ending ≡ Err endings.InputFailed → ⊥) → (Err ending ≡ Err endings.OutputFailed → ⊥) → Came (Err ending)
+      → (ending ≡ endings.InputFailed → ⊥) → (ending ≡ endings.OutputFailed → ⊥) → Came (Err ending)
   stopped endings.NoMemory given b ended read wrote = inr refl
   stopped endings.InputFailed given b ended read wrote = absurd (read refl)
   stopped endings.OutputFailed given b ended read wrote = absurd (wrote refl)
@@ -139,4 +144,4 @@ module _ (packets : ℕ) (input : InputChange) (output : OutputChange) (sound_in
 
   pub play_completes : (answer : Result Summary Ending) → Plays packets answer input output → IsOk answer ⊎ (answer ≡ Err endings.NoMemory)
   play_completes (Ok summary) p = inl refl
-  play_completes (Err ending) p = stopped ending p.given (behind p.given p.took) p.ended (λ e. sound_input (p.input_failed e)) (λ e. sound_output (p.output_failed e))
+  play_completes (Err ending) p = stopped ending p.given (behind p.given p.took) p.ended (λ e. sound_input (p.input_failed (ap failed e))) (λ e. sound_output (p.output_failed (ap failed e)))
