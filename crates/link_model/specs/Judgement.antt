@@ -3,7 +3,7 @@ use Rattle.std.specs.Prelude.{ℕ, ◌+◌, ◌-◌, ◌%◌, Bool, true, false,
 use Rattle.std.specs.List.{list_any, enumerate_from}
 use Rattle.std.specs.Option.{option_map_or}
 use Rattle.std.specs.Str.{bytes_eq}
-use Rattle.link_model.specs.Headers.{same_sequence, same_parameters}
+use Rattle.vc_types.specs.SameValues.{same_sequence, same_parameters}
 use Rattle.link_model.specs.Kept.{KeptParameters, ReadParameters, Own, own, own_parameters, own_slice, slices_in, waiting_limit, SliceRun, slice_run}
 use Rattle.link_model.specs.Numbers.{Numbered, entered, picture_number, is_late, parts_of, opened_numbers}
 use Rattle.link_model.specs.Output.{complete_at, planes_at, frame_at, base_behind, entered_behind}

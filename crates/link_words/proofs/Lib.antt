@@ -1,4 +1,3 @@
 mod Digits
-mod Entries
 mod Places
 mod Slices

@@ -7,8 +7,13 @@ abbrev pub digits_number : List ℕ → ℕ
 digits_number digits = fold (λ number digit. 10 * number + (digit - 48)) 0 digits
 
 abbrev pub is_decimal : List ℕ → Bool
-is_decimal word = nat_lt 0 (length word) && (length word == 1 || not (slice_index word 0 == 48)) && list_all (within 48 57) word
+is_decimal word =
+    nat_lt 0 (length word)
+    && (length word == 1 || not (slice_index word 0 == 48))
+    && list_all (within 48 57) word
 
 -- the number that a word writes, where it is in a range
 unfoldable pub number_within : ℕ → ℕ → List ℕ → Option ℕ
-number_within low high word = if is_decimal word && within low high (digits_number word) then Some (digits_number word) else None
+number_within low high word =
+    let number = digits_number word in
+    if is_decimal word && within low high number then Some number else None

@@ -1,31 +1,20 @@
 -- Settings without their facts.
-use Rattle.vc_types.specs.declared.settings.SendSettings.{SendSettings}
+use Rattle.vc_types.specs.SenderSettings.{sending_view}
 use Rattle.vc_types.specs.declared.settings.GenSettings.{GenSettings}
 use Rattle.link_words.specs.declared.settings.Settings.{Settings}
 use Rattle.link_words.specs.declared.settings.Settings.TheVariants.{Decode, Encode, Send, Recv, Loop, Unpack, Pack, Play, Gen}
-use Rattle.link_words.specs.Settings.{Sending, Generating, Meaning, ToDecode, ToEncode, ToSend, ToRecv, ToLoop, ToUnpack, ToPack, ToPlay, ToGen}
-
-abbrev pub sending_view : SendSettings → Sending
-sending_view s = record {
-  frames = record { width = s.width; height = s.height; sampling = s.sampling; range = s.range; fields = s.fields; top = s.top };
-  wavelet = s.wavelet;
-  depth = s.depth;
-  across = s.slices_x;
-  down = s.slices_y;
-  prefix = s.prefix;
-  scaler = s.scaler;
-  size = s.size;
-  choice = s.choice;
-  ssrc = s.ssrc;
-  seq = s.seq;
-  picture = s.picture;
-  tick = s.tick;
-  pt = s.pt;
-}
+use Rattle.link_words.specs.Settings.{Generating, Meaning, ToDecode, ToEncode, ToSend, ToRecv, ToLoop, ToUnpack, ToPack, ToPlay, ToGen}
 
 abbrev pub generating_view : GenSettings → Generating
 generating_view g = record {
-  frames = record { width = g.width; height = g.height; sampling = g.sampling; range = g.range; fields = g.fields; top = g.top };
+  frames = record {
+    width = g.width;
+    height = g.height;
+    sampling = g.sampling;
+    range = g.range;
+    fields = g.fields;
+    top = g.top;
+  };
   seed = g.seed;
   count = g.frames;
 }
@@ -35,8 +24,10 @@ meaning_view (Decode window workers packets) = ToDecode window workers packets
 meaning_view (Encode sender frames) = ToEncode (sending_view sender) frames
 meaning_view (Send sender frames to) = ToSend (sending_view sender) frames to.now
 meaning_view (Recv window workers packets at) = ToRecv window workers packets at.now
-meaning_view (Loop sender frames window workers at) = ToLoop (sending_view sender) frames window workers at.now
+meaning_view (Loop sender frames window workers at) =
+    ToLoop (sending_view sender) frames window workers at.now
 meaning_view (Unpack window workers packets) = ToUnpack window workers packets
 meaning_view (Pack packets size ssrc pt seq tick) = ToPack packets size ssrc pt seq tick
 meaning_view (Play packets) = ToPlay packets
-meaning_view (Gen generator check window workers) = ToGen (generating_view generator) check window workers
+meaning_view (Gen generator check window workers) =
+    ToGen (generating_view generator) check window workers

@@ -1,10 +1,10 @@
 ghost use Rattle.std.specs.Prelude.{◌≡◌, ◌<◌, ◌≤◌, ◌%◌, ◌-◌, length, nat_lt, is_some, position, IfSome, ◌==◌};
-ghost use Rattle.link_words.specs.Options.{options_of, values_in};
-ghost use Rattle.link_words.specs.Grammar.{word_at, cross_of, across_of, down_of, is_sampling, accepts, accepts_as, is_choice, excludes, excluded_at, is_given_before, word_fits, first_bad};
+ghost use Rattle.link_words.specs.Options.{row_of, names_of, name_in};
+ghost use Rattle.link_words.specs.Grammar.{word_at, cross_of, sampling_in, slices_in, accepts, accepts_as, is_choice, excludes, excluded_at, is_given_before, option_at, word_fits, first_bad};
 
 use crate::numbers::number_within;
-use crate::options::{Command, Values, values_of};
-use vc_types::Words;
+use crate::options::{Command, Name, Values, name_in, names_of, row_of};
+use vc_types::{Sampling, Words};
 
 // The word at a place.
 pub(crate) fn word_at(words: &Words, place: usize) -> &str
@@ -12,6 +12,18 @@ pub(crate) fn word_at(words: &Words, place: usize) -> &str
     ensures { result.now ≡ word_at words.now place }
 {
     words.word(place)
+}
+
+#[tactic(auto, unfolding(crate::specs::Grammar::sampling_in))]
+pub(crate) fn sampling_in(word: &str) -> Option<Sampling>
+    ensures { result ≡ sampling_in word.now }
+{
+    match word {
+        "444" => Some(Sampling::S444),
+        "422" => Some(Sampling::S422),
+        "420" => Some(Sampling::S420),
+        _ => None,
+    }
 }
 
 fn first_cross(word: &[u8]) -> Option<usize>
@@ -29,55 +41,43 @@ fn cross_of(word: &[u8]) -> usize
     first_cross(word).unwrap_or(word.len())
 }
 
-// The first of two numbers with `x` between.
-pub(crate) fn across_of(word: &[u8]) -> Option<u32>
-    ensures { result ≡ across_of word.now }
+// Two numbers of 1 to 65,535 with `x` between.
+#[tactic(auto, using(crate::proofs::Slices::drop_held), unfolding(crate::specs::Grammar::slices_in))]
+pub(crate) fn slices_in(word: &[u8]) -> Option<(u32, u32)>
+    ensures { result ≡ slices_in word.now }
 {
     let (across, _) = word.split_at(cross_of(word));
-    number_within(across, 1, 65535)
-}
-
-// The second.
-#[tactic(auto, using(crate::proofs::Slices::drop_held))]
-pub(crate) fn down_of(word: &[u8]) -> Option<u32>
-    ensures { result ≡ down_of word.now }
-{
     let (_, down) = word.split_at((cross_of(word) + 1).min(word.len()));
-    number_within(down, 1, 65535)
-}
-
-fn is_sampling(word: &str) -> bool
-    ensures { result ≡ is_sampling word.now }
-{
-    word == "444" || word == "422" || word == "420"
+    let across = number_within(across, 1, 65535)?;
+    let down = number_within(down, 1, 65535)?;
+    Some((across, down))
 }
 
 fn accepts(values: Values, word: &str) -> bool
     ensures { result ≡ accepts values word.now }
 {
     match values {
-        Values::Number { low, high } => number_within(word.as_bytes(), low, high).is_some(),
-        Values::Sampling => is_sampling(word),
-        Values::Slices => {
-            across_of(word.as_bytes()).is_some() && down_of(word.as_bytes()).is_some()
-        }
+        Values::Number(low, high, _) | Values::Optional(low, high) | Values::Required(low, high) =>
+            { number_within(word.as_bytes(), low, high).is_some() }
+        Values::Subsampling => sampling_in(word).is_some(),
+        Values::Pair => slices_in(word.as_bytes()).is_some(),
         Values::Address => !word.is_empty(),
     }
 }
 
-fn accepts_as(values: Option<Values>, word: &str) -> bool
-    ensures { result ≡ accepts_as values word.now }
+fn accepts_as(name: Option<Name>, word: &str) -> bool
+    ensures { result ≡ accepts_as name word.now }
 {
-    match values {
-        Some(values) => accepts(values, word),
+    match name {
+        Some(name) => accepts(row_of(name).1, word),
         None => false,
     }
 }
 
-fn is_choice(name: &str) -> bool
-    ensures { result ≡ is_choice name.now }
+fn is_choice(word: &str) -> bool
+    ensures { result ≡ is_choice word.now }
 {
-    name == "--index" || name == "--fit"
+    word == "--index" || word == "--fit"
 }
 
 fn excludes(earlier: &str, later: &str) -> bool
@@ -108,17 +108,23 @@ fn is_given_before(words: &Words, place: usize) -> bool
     false
 }
 
+fn option_at(command: Command, words: &Words, place: usize) -> Option<Name>
+    requires { place < length words.now }
+    ensures { result ≡ option_at command words.now place }
+{
+    name_in(names_of(command), word_at(words, place))
+}
+
 #[tactic(auto, unfolding(crate::specs::Grammar::word_fits))]
 fn word_fits(command: Command, words: &Words, place: usize) -> bool
     requires some { 1 ≤ place }
     requires place { place < length words.now }
     ensures { result ≡ word_fits command words.now place }
 {
-    let word = word_at(words, place);
     if place % 2 == 1 {
-        values_of(command, word).is_some() && !is_given_before(words, place)
+        option_at(command, words, place).is_some() && !is_given_before(words, place)
     } else {
-        accepts_as(values_of(command, word_at(words, place - 1)), word)
+        accepts_as(option_at(command, words, place - 1), word_at(words, place))
     }
 }
 

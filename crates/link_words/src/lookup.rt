@@ -1,23 +1,25 @@
-ghost use Rattle.std.specs.Prelude.{◌≡◌, ◌<◌, ◌≤◌, length, codes, IsTrue};
+ghost use Rattle.std.specs.Prelude.{◌≡◌, ◌<◌, ◌≤◌, length, IsTrue};
 ghost use Rattle.vc_types.specs.Settings.{choice_fits};
-ghost use Rattle.link_words.specs.Settings.{stands_at, place_of, is_given, number_of, is_set, sampling_of, choice_of, value_of};
+ghost use Rattle.link_words.specs.Options.{row_of, is_required, HasDefault, IsWithin};
+ghost use Rattle.link_words.specs.Settings.{stands_at, place_of, is_given, value_of, number_in, given, is_set, choice_of, lacks};
 
 use crate::grammar::word_at;
 use crate::numbers::number_within;
-use vc_types::{IndexChoice, Sampling, Words};
+use crate::options::{Name, Values, row_of};
+use vc_types::{IndexChoice, Words};
 
-fn stands_at(words: &Words, name: &str, place: usize) -> bool
+fn stands_at(words: &Words, name: Name, place: usize) -> bool
     requires { place < length words.now }
-    ensures { result ≡ stands_at words.now name.now place }
+    ensures { result ≡ stands_at words.now name place }
 {
-    place % 2 == 1 && word_at(words, place) == name
+    place % 2 == 1 && word_at(words, place) == row_of(name).0
 }
 
 // The place of a name, or the number of words.
 #[tactic(auto, using(crate::proofs::Places::first_place_next, crate::proofs::Places::first_place_none), unfolding(crate::specs::Settings::place_of))]
-fn place_of(words: &Words, name: &str) -> usize
+fn place_of(words: &Words, name: Name) -> usize
     requires { 0 < length words.now }
-    ensures { result ≡ place_of words.now name.now }
+    ensures { result ≡ place_of words.now name }
 {
     'names: for place in 1..words.len() {
         if stands_at(words, name, place) {
@@ -27,17 +29,17 @@ fn place_of(words: &Words, name: &str) -> usize
     words.len()
 }
 
-pub(crate) fn is_given(words: &Words, name: &str) -> bool
+pub(crate) fn is_given(words: &Words, name: Name) -> bool
     requires { 0 < length words.now }
-    ensures { result ≡ is_given words.now name.now }
+    ensures { result ≡ is_given words.now name }
 {
     place_of(words, name) < words.len()
 }
 
 // The word behind a name; no word where the name is not given.
-pub(crate) fn value_of<'a>(words: &'a Words, name: &str) -> &'a str
+pub(crate) fn value_of<'a>(words: &'a Words, name: Name) -> &'a str
     requires { 0 < length words.now }
-    ensures { result.now ≡ value_of words.now name.now }
+    ensures { result.now ≡ value_of words.now name }
 {
     let place = place_of(words, name);
     if place < words.len() - 1 {
@@ -47,41 +49,37 @@ pub(crate) fn value_of<'a>(words: &'a Words, name: &str) -> &'a str
     }
 }
 
-// The number that is given, or a default.
-pub(crate) fn number_of(words: &Words, name: &str, low: u32, high: u32, default: u32) -> u32
-    requires some { 0 < length words.now }
-    requires low { low ≤ default }
-    requires high { default ≤ high }
-    ensures value { result ≡ number_of words.now name.now low high default }
-    ensures low { low ≤ result }
-    ensures high { result ≤ high }
+// The number that is given, or the default; the least where there is no default.
+fn number_in(values: Values, word: &str) -> u32
+    requires { HasDefault values }
+    ensures value { result ≡ number_in values word.now }
+    ensures range { IsWithin values result }
 {
-    match number_within(value_of(words, name).as_bytes(), low, high) {
-        Some(number) => number,
-        None => default,
+    let word = word.as_bytes();
+    match values {
+        Values::Number(low, high, default) => number_within(word, low, high).unwrap_or(default),
+        Values::Optional(low, high) | Values::Required(low, high) => {
+            number_within(word, low, high).unwrap_or(low)
+        }
+        _ => 0,
     }
 }
 
-pub(crate) fn is_set(words: &Words, name: &str, default: u32) -> bool
+pub(crate) fn given(words: &Words, name: Name) -> u32
     requires some { 0 < length words.now }
-    requires bit { default ≤ 1 }
-    ensures { result ≡ is_set words.now name.now default }
+    requires default { HasDefault (row_of name).1 }
+    ensures value { result ≡ given words.now name }
+    ensures range { IsWithin (row_of name).1 result }
 {
-    number_of(words, name, 0, 1, default) == 1
+    number_in(row_of(name).1, value_of(words, name))
 }
 
-pub(crate) fn sampling_of(words: &Words) -> Sampling
-    requires { 0 < length words.now }
-    ensures { result ≡ sampling_of (value_of words.now (codes "--sampling")) }
+pub(crate) fn is_set(words: &Words, name: Name) -> bool
+    requires some { 0 < length words.now }
+    requires default { HasDefault (row_of name).1 }
+    ensures { result ≡ is_set words.now name }
 {
-    let word = value_of(words, "--sampling");
-    if word == "444" {
-        Sampling::S444
-    } else if word == "420" {
-        Sampling::S420
-    } else {
-        Sampling::S422
-    }
+    given(words, name) == 1
 }
 
 pub(crate) fn choice_of(words: &Words) -> IndexChoice
@@ -89,9 +87,17 @@ pub(crate) fn choice_of(words: &Words) -> IndexChoice
     ensures value { result ≡ choice_of words.now }
     ensures fits { IsTrue (choice_fits result) }
 {
-    if is_given(words, "--fit") {
-        IndexChoice::Fit(number_of(words, "--fit", 4, 65535, 4))
+    if is_given(words, Name::Fit) {
+        IndexChoice::Fit(given(words, Name::Fit))
     } else {
-        IndexChoice::Index(number_of(words, "--index", 0, 127, 0) as u8)
+        IndexChoice::Index(given(words, Name::Index) as u8)
     }
+}
+
+// A name that has to be given is missing.
+pub(crate) fn lacks(words: &Words, name: Name) -> bool
+    requires { 0 < length words.now }
+    ensures { result ≡ lacks words.now name }
+{
+    row_of(name).1.is_required() && !is_given(words, name)
 }

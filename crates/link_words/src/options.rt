@@ -1,6 +1,12 @@
-ghost use Rattle.std.specs.Prelude.{◌≡◌, ◌++◌, map};
-ghost use Rattle.std.specs.Str.{bytes_eq};
-ghost use Rattle.link_words.specs.Options.{command_of, options_of, values_in, entry_of, frame_options, coding_options, datagram_options, window_options, packet_options, to_options, at_options, generated_options};
+ghost use Rattle.std.specs.Prelude.{◌≡◌};
+ghost use Rattle.link_words.specs.Options.{command_of, names_of, row_of, name_in, is_required};
+
+use Name::{
+    At, Check, Count, Depth, Fields, Fit, Frames, Height, Index, Packets, Picture, Prefix, Pt,
+    Range, Sampling, Scaler, Seed, Seq, Size, Slices, Ssrc, Tick, To, Top, Wavelet, Width, Window,
+    Workers,
+};
+use Values::{Address, Number, Optional, Pair, Required, Subsampling};
 
 /// The first word.
 #[derive(Clone, Copy)]
@@ -16,318 +22,147 @@ pub(crate) enum Command {
     Gen,
 }
 
-// Which words may stand behind a name.
+/// The options of all commands. `--frames` is two: how many are sent, and how many are generated.
 #[derive(Clone, Copy)]
-pub(crate) enum Values {
-    Number { low: u32, high: u32 },
-    // 444, 422 or 420.
+pub(crate) enum Name {
+    Width,
+    Height,
     Sampling,
-    // Two numbers of 1 to 65535 with `x` between.
+    Range,
+    Fields,
+    Top,
+    Wavelet,
+    Depth,
     Slices,
-    // Any word that is not empty.
-    Address,
+    Prefix,
+    Scaler,
+    Size,
+    Index,
+    Fit,
+    Ssrc,
+    Seq,
+    Picture,
+    Tick,
+    Pt,
+    Frames,
+    Seed,
+    Count,
+    Check,
+    Window,
+    Workers,
+    Packets,
+    To,
+    At,
 }
 
-// An option of a command.
+/// Which words may stand behind a name.
 #[derive(Clone, Copy)]
-pub(crate) struct Row {
-    pub(crate) name: &'static str,
-    pub(crate) values: Values,
+pub(crate) enum Values {
+    // A number: the least, the greatest, and the one that is meant where none is given.
+    Number(u32, u32, u32),
+    // A number without a default, and one that has to be given.
+    Optional(u32, u32),
+    Required(u32, u32),
+    // 444, 422 or 420.
+    Subsampling,
+    // Two numbers with `x` between.
+    Pair,
+    // Any word that is not empty; it has to be given.
+    Address,
 }
 
 pub(crate) fn command_of(word: &str) -> Option<Command>
     ensures { result ≡ command_of word.now }
 {
-    if word == "decode" {
-        Some(Command::Decode)
-    } else if word == "encode" {
-        Some(Command::Encode)
-    } else if word == "send" {
-        Some(Command::Send)
-    } else if word == "recv" {
-        Some(Command::Recv)
-    } else if word == "loop" {
-        Some(Command::Loop)
-    } else if word == "unpack" {
-        Some(Command::Unpack)
-    } else if word == "pack" {
-        Some(Command::Pack)
-    } else if word == "play" {
-        Some(Command::Play)
-    } else if word == "gen" {
-        Some(Command::Gen)
-    } else {
-        None
+    match word {
+        "decode" => Some(Command::Decode),
+        "encode" => Some(Command::Encode),
+        "send" => Some(Command::Send),
+        "recv" => Some(Command::Recv),
+        "loop" => Some(Command::Loop),
+        "unpack" => Some(Command::Unpack),
+        "pack" => Some(Command::Pack),
+        "play" => Some(Command::Play),
+        "gen" => Some(Command::Gen),
+        _ => None,
     }
 }
 
-#[tactic(auto, unfolding(crate::specs::Options::frame_options))]
-fn frame_options() -> [Row; 7]
-    ensures { map entry_of result ≡ frame_options }
+/// The word of a name and its values.
+pub(crate) fn row_of(name: Name) -> (&'static str, Values)
+    ensures { (result.0.now, result.1) ≡ row_of name }
 {
-    [
-        Row {
-            name: "--width",
-            values: Values::Number { low: 1, high: 8192 },
-        },
-        Row {
-            name: "--height",
-            values: Values::Number { low: 1, high: 8192 },
-        },
-        Row {
-            name: "--sampling",
-            values: Values::Sampling,
-        },
-        Row {
-            name: "--range",
-            values: Values::Number { low: 1, high: 4 },
-        },
-        Row {
-            name: "--fields",
-            values: Values::Number { low: 0, high: 1 },
-        },
-        Row {
-            name: "--top",
-            values: Values::Number { low: 0, high: 1 },
-        },
-        Row {
-            name: "--frames",
-            values: Values::Number {
-                low: 1,
-                high: 4294967295,
-            },
-        },
-    ]
-}
-
-#[tactic(auto, unfolding(crate::specs::Options::coding_options))]
-fn coding_options() -> [Row; 8]
-    ensures { map entry_of result ≡ coding_options }
-{
-    [
-        Row {
-            name: "--wavelet",
-            values: Values::Number { low: 0, high: 6 },
-        },
-        Row {
-            name: "--depth",
-            values: Values::Number { low: 1, high: 4 },
-        },
-        Row {
-            name: "--slices",
-            values: Values::Slices,
-        },
-        Row {
-            name: "--prefix",
-            values: Values::Number { low: 0, high: 255 },
-        },
-        Row {
-            name: "--scaler",
-            values: Values::Number { low: 1, high: 255 },
-        },
-        Row {
-            name: "--index",
-            values: Values::Number { low: 0, high: 127 },
-        },
-        Row {
-            name: "--fit",
-            values: Values::Number {
-                low: 4,
-                high: 65535,
-            },
-        },
-        Row {
-            name: "--picture",
-            values: Values::Number {
-                low: 0,
-                high: 4294967295,
-            },
-        },
-    ]
-}
-
-#[tactic(auto, unfolding(crate::specs::Options::datagram_options))]
-fn datagram_options() -> [Row; 5]
-    ensures { map entry_of result ≡ datagram_options }
-{
-    [
-        Row {
-            name: "--size",
-            values: Values::Number {
-                low: 64,
-                high: 65507,
-            },
-        },
-        Row {
-            name: "--ssrc",
-            values: Values::Number {
-                low: 0,
-                high: 4294967295,
-            },
-        },
-        Row {
-            name: "--seq",
-            values: Values::Number {
-                low: 0,
-                high: 4294967295,
-            },
-        },
-        Row {
-            name: "--tick",
-            values: Values::Number {
-                low: 0,
-                high: 4294967295,
-            },
-        },
-        Row {
-            name: "--pt",
-            values: Values::Number { low: 0, high: 127 },
-        },
-    ]
-}
-
-#[tactic(auto, unfolding(crate::specs::Options::window_options))]
-fn window_options() -> [Row; 2]
-    ensures { map entry_of result ≡ window_options }
-{
-    [
-        Row {
-            name: "--window",
-            values: Values::Number { low: 2, high: 8 },
-        },
-        Row {
-            name: "--workers",
-            values: Values::Number { low: 0, high: 64 },
-        },
-    ]
-}
-
-#[tactic(auto, unfolding(crate::specs::Options::packet_options))]
-fn packet_options() -> [Row; 1]
-    ensures { map entry_of result ≡ packet_options }
-{
-    [Row {
-        name: "--packets",
-        values: Values::Number {
-            low: 1,
-            high: 4294967295,
-        },
-    }]
-}
-
-#[tactic(auto, unfolding(crate::specs::Options::to_options))]
-fn to_options() -> [Row; 1]
-    ensures { map entry_of result ≡ to_options }
-{
-    [Row {
-        name: "--to",
-        values: Values::Address,
-    }]
-}
-
-#[tactic(auto, unfolding(crate::specs::Options::at_options))]
-fn at_options() -> [Row; 1]
-    ensures { map entry_of result ≡ at_options }
-{
-    [Row {
-        name: "--at",
-        values: Values::Address,
-    }]
-}
-
-#[tactic(auto, unfolding(crate::specs::Options::generated_options))]
-fn generated_options() -> [Row; 9]
-    ensures { map entry_of result ≡ generated_options }
-{
-    [
-        Row {
-            name: "--width",
-            values: Values::Number { low: 1, high: 8192 },
-        },
-        Row {
-            name: "--height",
-            values: Values::Number { low: 1, high: 8192 },
-        },
-        Row {
-            name: "--sampling",
-            values: Values::Sampling,
-        },
-        Row {
-            name: "--range",
-            values: Values::Number { low: 1, high: 4 },
-        },
-        Row {
-            name: "--fields",
-            values: Values::Number { low: 0, high: 1 },
-        },
-        Row {
-            name: "--top",
-            values: Values::Number { low: 0, high: 1 },
-        },
-        Row {
-            name: "--seed",
-            values: Values::Number {
-                low: 0,
-                high: 4294967295,
-            },
-        },
-        Row {
-            name: "--frames",
-            values: Values::Number { low: 1, high: 1000 },
-        },
-        Row {
-            name: "--check",
-            values: Values::Number { low: 0, high: 1 },
-        },
-    ]
-}
-
-#[tactic(auto, using(crate::proofs::Entries::values_from))]
-fn values_in(rows: &[Row], name: &str) -> Option<Values>
-    ensures { result ≡ values_in (map entry_of rows.now) name.now }
-{
-    'rows: for row in rows {
-        if row.name == name {
-            return Some(row.values);
-        }
+    match name {
+        Width => ("--width", Required(1, 8192)),
+        Height => ("--height", Required(1, 8192)),
+        Sampling => ("--sampling", Subsampling),
+        Range => ("--range", Number(1, 4, 3)),
+        Fields => ("--fields", Number(0, 1, 0)),
+        Top => ("--top", Number(0, 1, 1)),
+        Wavelet => ("--wavelet", Number(0, 6, 1)),
+        Depth => ("--depth", Number(1, 4, 3)),
+        Slices => ("--slices", Pair),
+        Prefix => ("--prefix", Number(0, 255, 0)),
+        Scaler => ("--scaler", Number(1, 255, 2)),
+        Size => ("--size", Number(64, 65507, 1400)),
+        Index => ("--index", Number(0, 127, 0)),
+        Fit => ("--fit", Optional(4, 65535)),
+        Ssrc => ("--ssrc", Number(0, 4294967295, 1)),
+        Seq => ("--seq", Number(0, 4294967295, 0)),
+        Picture => ("--picture", Number(0, 4294967295, 0)),
+        Tick => ("--tick", Number(0, 4294967295, 3600)),
+        Pt => ("--pt", Number(0, 127, 96)),
+        Frames => ("--frames", Number(1, 4294967295, 4294967295)),
+        Seed => ("--seed", Number(0, 4294967295, 0)),
+        Count => ("--frames", Number(1, 1000, 1)),
+        Check => ("--check", Number(0, 1, 0)),
+        Window => ("--window", Number(2, 8, 4)),
+        Workers => ("--workers", Number(0, 64, 4)),
+        Packets => ("--packets", Number(1, 4294967295, 4294967295)),
+        To => ("--to", Address),
+        At => ("--at", Address),
     }
-    None
 }
 
-// The values that a name of a command may have.
-#[tactic(auto, using(crate::proofs::Entries::values_of_joined))]
-pub(crate) fn values_of(command: Command, name: &str) -> Option<Values>
-    ensures { result ≡ values_in (options_of command) name.now }
+/// The options of a command.
+pub(crate) fn names_of(command: Command) -> &'static [Name]
+    ensures { result.now ≡ names_of command }
 {
     match command {
-        Command::Decode | Command::Unpack => {
-            values_in(&window_options(), name).or(values_in(&packet_options(), name))
-        }
-        Command::Encode => sender_values(name),
-        Command::Send => sender_values(name).or(values_in(&to_options(), name)),
-        Command::Recv => values_in(&window_options(), name)
-            .or(values_in(&packet_options(), name))
-            .or(values_in(&at_options(), name)),
-        Command::Loop => sender_values(name)
-            .or(values_in(&window_options(), name))
-            .or(values_in(&at_options(), name)),
-        Command::Pack => values_in(&packet_options(), name).or(values_in(
-            &datagram_options(),
-            name,
-        )),
-        Command::Play => values_in(&packet_options(), name),
-        Command::Gen => values_in(&generated_options(), name).or(values_in(
-            &window_options(),
-            name,
-        )),
+        Command::Decode | Command::Unpack => &[Window, Workers, Packets],
+        Command::Encode => &[
+            Width, Height, Sampling, Range, Fields, Top, Wavelet, Depth, Slices, Prefix, Scaler,
+            Size, Index, Fit, Ssrc, Seq, Picture, Tick, Pt, Frames,
+        ],
+        Command::Send => &[
+            Width, Height, Sampling, Range, Fields, Top, Wavelet, Depth, Slices, Prefix, Scaler,
+            Size, Index, Fit, Ssrc, Seq, Picture, Tick, Pt, Frames, To,
+        ],
+        Command::Recv => &[Window, Workers, Packets, At],
+        Command::Loop => &[
+            Width, Height, Sampling, Range, Fields, Top, Wavelet, Depth, Slices, Prefix, Scaler,
+            Size, Index, Fit, Ssrc, Seq, Picture, Tick, Pt, Frames, Window, Workers, At,
+        ],
+        Command::Pack => &[Packets, Size, Ssrc, Pt, Seq, Tick],
+        Command::Play => &[Packets],
+        Command::Gen => &[
+            Width, Height, Sampling, Range, Fields, Top, Seed, Count, Check, Window, Workers,
+        ],
     }
 }
 
-#[tactic(auto, using(crate::proofs::Entries::values_of_joined))]
-fn sender_values(name: &str) -> Option<Values>
-    ensures { result ≡ values_in (frame_options ++ (coding_options ++ datagram_options)) name.now }
+/// The first of some options whose word this is.
+pub(crate) fn name_in(names: &[Name], word: &str) -> Option<Name>
+    ensures { result ≡ name_in names.now word.now }
 {
-    values_in(&frame_options(), name)
-        .or(values_in(&coding_options(), name))
-        .or(values_in(&datagram_options(), name))
+    names.iter().copied().find(|name| row_of(*name).0 == word)
+}
+
+impl Values {
+    /// Whether an option has to be given.
+    pub(crate) fn is_required(self) -> bool
+        ensures { result ≡ is_required self }
+    {
+        matches!(self, Required(_, _) | Address)
+    }
 }

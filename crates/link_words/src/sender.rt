@@ -1,54 +1,51 @@
-ghost use Rattle.std.specs.Prelude.{◌≡◌, ◌<◌, ◌≤◌, length, codes, unwrap_or};
+ghost use Rattle.std.specs.Prelude.{◌≡◌, ◌<◌, ◌≤◌, length};
 ghost use Rattle.std.specs.Option.{option_map};
-ghost use Rattle.link_words.specs.Grammar.{across_of, down_of};
-ghost use Rattle.link_words.specs.Settings.{value_of, has_size, sender};
-ghost use Rattle.link_words.specs.Views.{sending_view};
+ghost use Rattle.vc_types.specs.SenderSettings.{sending_view};
+ghost use Rattle.link_words.specs.Settings.{sampling_of, slices_of, generator, sender};
+ghost use Rattle.link_words.specs.Views.{generating_view};
 
-use crate::grammar::{across_of, down_of};
-use crate::joint::{default_across, default_down, first_picture_fits, luma_fits};
-use crate::lookup::{choice_of, is_given, is_set, number_of, sampling_of, value_of};
-use vc_types::{SendSettings, Words, dimensions_fit, slices_fit};
+use crate::grammar::{sampling_in, slices_in};
+use crate::joint::{can_be_sent, default_across, default_down, first_picture_fits, luma_fits};
+use crate::lookup::{choice_of, given, is_set, value_of};
+use crate::options::Name;
+use vc_types::{GenSettings, Sampling, SendSettings, Words, dimensions_fit, slices_fit};
 
-pub(crate) fn has_size(words: &Words) -> bool
+fn sampling_of(words: &Words) -> Sampling
     requires { 0 < length words.now }
-    ensures { result ≡ has_size words.now }
+    ensures { result ≡ sampling_of words.now }
 {
-    is_given(words, "--width") && is_given(words, "--height")
+    sampling_in(value_of(words, Name::Sampling)).unwrap_or(Sampling::S422)
 }
 
-fn across(words: &Words, default: u32) -> u32
-    requires { 0 < length words.now }
-    ensures { result ≡ unwrap_or (across_of (value_of words.now (codes "--slices"))) default }
+// How many slices a picture has across and down.
+fn slices_of(words: &Words, width: u32, height: u32, fields: bool) -> (u32, u32)
+    requires some { 0 < length words.now }
+    requires width { width ≤ 8192 }
+    requires height { height ≤ 8192 }
+    ensures { result ≡ slices_of words.now width height fields }
 {
-    across_of(value_of(words, "--slices").as_bytes()).unwrap_or(default)
+    slices_in(value_of(words, Name::Slices).as_bytes()).unwrap_or((
+        default_across(width),
+        default_down(fields, height),
+    ))
 }
 
-fn down(words: &Words, default: u32) -> u32
-    requires { 0 < length words.now }
-    ensures { result ≡ unwrap_or (down_of (value_of words.now (codes "--slices"))) default }
-{
-    down_of(value_of(words, "--slices").as_bytes()).unwrap_or(default)
-}
-
-// What a sender is set to, where its names are given and its settings go together.
+// What a sender is set to, where its settings go together.
 #[tactic(auto, unfolding(crate::specs::Settings::sender))]
 pub(crate) fn sender(words: &Words) -> Option<SendSettings>
     requires { 0 < length words.now }
     ensures { option_map sending_view result ≡ sender words.now }
 {
-    let size_is_given = has_size(words);
-    let width = number_of(words, "--width", 1, 8192, 1);
-    let height = number_of(words, "--height", 1, 8192, 1);
+    let width = given(words, Name::Width);
+    let height = given(words, Name::Height);
     let sampling = sampling_of(words);
-    let fields = is_set(words, "--fields", 0);
-    let depth = number_of(words, "--depth", 1, 4, 3);
-    let slices_x = across(words, default_across(width));
-    let slices_y = down(words, default_down(fields, height));
-    let picture = number_of(words, "--picture", 0, 4294967295, 0);
-    let fits = size_is_given
-        && dimensions_fit(width, height, sampling, fields)
+    let fields = is_set(words, Name::Fields);
+    let depth = given(words, Name::Depth) as u8;
+    let (slices_x, slices_y) = slices_of(words, width, height, fields);
+    let picture = given(words, Name::Picture);
+    let fits = dimensions_fit(width, height, sampling, fields)
         && slices_fit(slices_x, slices_y)
-        && luma_fits(width, height, fields, depth as u8)
+        && luma_fits(width, height, fields, depth)
         && first_picture_fits(fields, picture);
     if !fits {
         return None;
@@ -57,21 +54,48 @@ pub(crate) fn sender(words: &Words) -> Option<SendSettings>
         width,
         height,
         sampling,
-        range: number_of(words, "--range", 1, 4, 3) as u8,
+        range: given(words, Name::Range) as u8,
         fields,
-        top: is_set(words, "--top", 1),
-        wavelet: number_of(words, "--wavelet", 0, 6, 1) as u8,
-        depth: depth as u8,
+        top: is_set(words, Name::Top),
+        wavelet: given(words, Name::Wavelet) as u8,
+        depth,
         slices_x,
         slices_y,
-        prefix: number_of(words, "--prefix", 0, 255, 0),
-        scaler: number_of(words, "--scaler", 1, 255, 2),
-        size: number_of(words, "--size", 64, 65507, 1400),
+        prefix: given(words, Name::Prefix),
+        scaler: given(words, Name::Scaler),
+        size: given(words, Name::Size),
         choice: choice_of(words),
-        ssrc: number_of(words, "--ssrc", 0, 4294967295, 1),
-        seq: number_of(words, "--seq", 0, 4294967295, 0),
+        ssrc: given(words, Name::Ssrc),
+        seq: given(words, Name::Seq),
         picture,
-        tick: number_of(words, "--tick", 0, 4294967295, 3600),
-        pt: number_of(words, "--pt", 0, 127, 96) as u8,
+        tick: given(words, Name::Tick),
+        pt: given(words, Name::Pt) as u8,
+    })
+}
+
+// Which frames are generated, where they can be sent.
+#[tactic(auto, unfolding(crate::specs::Settings::generator))]
+pub(crate) fn generator(words: &Words) -> Option<GenSettings>
+    requires { 0 < length words.now }
+    ensures { option_map generating_view result ≡ generator words.now }
+{
+    let width = given(words, Name::Width);
+    let height = given(words, Name::Height);
+    let sampling = sampling_of(words);
+    let fields = is_set(words, Name::Fields);
+    let fits = dimensions_fit(width, height, sampling, fields)
+        && can_be_sent(width, height, fields);
+    if !fits {
+        return None;
+    }
+    Some(GenSettings {
+        width,
+        height,
+        sampling,
+        range: given(words, Name::Range) as u8,
+        fields,
+        top: is_set(words, Name::Top),
+        seed: given(words, Name::Seed),
+        frames: given(words, Name::Count),
     })
 }

@@ -15,14 +15,14 @@ use Rattle.vc_types.specs.TransformParameters.{Parameters}
 use Rattle.vc_types.proofs.PlacesMet.{met_once}
 use Rattle.vc_types.proofs.Standing.{component_cells-met, component_cells-outside}
 use Rattle.picture_build.specs.Cells.{cell_number}
-use Rattle.picture_build.specs.Whole.{AreWholeSlices}
+use Rattle.picture_build.specs.PictureCoefficients.{ArePictureCoefficients}
 use Rattle.picture_build.proofs.GridCells.{cell_in, cell_out}
 use Rattle.picture_build.proofs.PlacedSlices.{SlicesStand}
 use Rattle.picture_build.proofs.WholeSlices.{coefficient-small}
 
 module _ (p : Parameters) (c : Component) (slices : List Coefficients) (stride : ℕ) (cells : List ℤ)
     (some_across : 0 < p.slices_x) (some_down : 0 < p.slices_y) (wide : stride ≡ padded_width p c)
-    (all : length slices ≡ slice_count p) (whole : AreWholeSlices p slices) (stand : SlicesStand p c stride slices (length slices) cells) where
+    (all : length slices ≡ slice_count p) (whole : ArePictureCoefficients p slices) (stand : SlicesStand p c stride slices (length slices) cells) where
   no_coefficients : Coefficients
   no_coefficients = record { y = []; c1 = []; c2 = [] }
 

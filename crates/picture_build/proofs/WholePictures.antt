@@ -11,7 +11,7 @@ use Rattle.vc_types.specs.Subbands.{slice_count}
 use Rattle.vc_types.specs.TransformParameters.{Parameters, transform_parameters}
 use Rattle.vc_types.proofs.FieldCodecs.{and_then_ok}
 use Rattle.vc_types.specs.SliceCoefficients.{AreSliceCoefficients}
-use Rattle.picture_build.specs.Whole.{AreWholeSlices}
+use Rattle.picture_build.specs.PictureCoefficients.{ArePictureCoefficients}
 use Rattle.picture_build.proofs.WholeSlices.{whole_decoded}
 
 -- n slices that are numbered from m on
@@ -54,7 +54,7 @@ module _ (p : Parameters) where
 -- as many slices as the parameters want, and each whole
 pub record IsWholePicture (picture : Picture) : Type 0 where
   pub count : length picture.slices ≡ slice_count picture.parameters
-  pub whole : AreWholeSlices picture.parameters picture.slices
+  pub whole : ArePictureCoefficients picture.parameters picture.slices
 
 from_slices : (p : Parameters) (bytes : List ℕ) (picture : Picture) (read : Read (List Coefficients)) → slices_from p 0 (slice_count p) bytes ≡ read → with_slices p read ≡ Some picture → IsWholePicture picture
 from_slices p bytes picture (Ok read) h e =

@@ -18,7 +18,7 @@ use Rattle.vc_types.specs.TransformParameters.{Parameters}
 use Rattle.vc_types.proofs.BoundedLists.{length-bounded_sints}
 use Rattle.vc_slice.proofs.BlockCoefficients.{length-quantisers}
 use Rattle.vc_types.specs.SliceCoefficients.{AreSliceCoefficients}
-use Rattle.picture_build.specs.Whole.{AreWholeSlices}
+use Rattle.picture_build.specs.PictureCoefficients.{ArePictureCoefficients}
 
 -- ---- how many coefficients a slice has
 
@@ -86,11 +86,11 @@ module _ (p : Parameters) (n : ℕ) (s : Coefficients) where
 
 -- ---- slices in raster order
 
-pub whole_none : (p : Parameters) → AreWholeSlices p []
+pub whole_none : (p : Parameters) → ArePictureCoefficients p []
 whole_none p n none h = absurd (omega arith)
 
 -- one slice more
-pub whole_push : (p : Parameters) (slices : List Coefficients) (s : Coefficients) → AreWholeSlices p slices → AreSliceCoefficients p (length slices) s → AreWholeSlices p (slices ++ s ∷ [])
+pub whole_push : (p : Parameters) (slices : List Coefficients) (s : Coefficients) → ArePictureCoefficients p slices → AreSliceCoefficients p (length slices) s → ArePictureCoefficients p (slices ++ s ∷ [])
 whole_push p slices s before own n none h = elim (cases_eq n (length slices)) [
   | inl e ↦ rw (get_or_push slices s none n (sym e)) (rw e own)
   | inr ne ↦ (

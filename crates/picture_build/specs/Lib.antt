@@ -1,3 +1,3 @@
-pub mod Whole
+pub mod PictureCoefficients
 pub mod Cells
 pub mod Output

@@ -2,7 +2,7 @@ ghost use Rattle.std.specs.Prelude.{◌≡◌, IfOk, length};
 ghost use Rattle.vc_types.specs.Planes.{component_plane, planes_in, planes_of};
 ghost use Rattle.vc_types.specs.Subbands.{slice_count};
 ghost use Rattle.vc_types.specs.TransformParameters.{parameters_of};
-ghost use Rattle.picture_build.specs.Whole.{AreWholeSlices};
+ghost use Rattle.picture_build.specs.PictureCoefficients.{ArePictureCoefficients};
 
 use crate::output::output;
 use crate::placing::placed;
@@ -17,7 +17,7 @@ use vc_wave::inverse;
 /// the slices. It fails only where memory runs out.
 pub fn build(alloc: Global, plan: &Plan, slices: Vec<SliceCoeffs>) -> Result<[Plane; 3], NoMemory>
     requires count { length slices.items ≡ slice_count (parameters_of plan.now) }
-    requires whole { AreWholeSlices (parameters_of plan.now) slices.items }
+    requires whole { ArePictureCoefficients (parameters_of plan.now) slices.items }
     ensures value { IfOk result (λ planes. planes_in planes ≡ planes_of (parameters_of plan.now) slices.items) }
 {
     let y = component(alloc, plan, Component::Y, &slices)?;
@@ -34,7 +34,7 @@ fn component(
     slices: &[SliceCoeffs],
 ) -> Result<Plane, NoMemory>
     requires count { length slices.now ≡ slice_count (parameters_of plan.now) }
-    requires whole { AreWholeSlices (parameters_of plan.now) slices.now }
+    requires whole { ArePictureCoefficients (parameters_of plan.now) slices.now }
     ensures value { IfOk result (λ plane. plane ≡ component_plane (parameters_of plan.now) c slices.now) }
 {
     let coefficients = placed(alloc, plan, c, slices)?;

@@ -6,7 +6,7 @@ ghost use Rattle.vc_types.specs.Slices.{Coefficients, coefficients_of};
 ghost use Rattle.vc_types.specs.Subbands.{area, place_in, coefficient_place, padded_width, padded_height, slice_count, slice_coefficient_count};
 ghost use Rattle.vc_types.specs.TransformParameters.{parameters_of};
 ghost use Rattle.picture_build.specs.Cells.{cell_number};
-ghost use Rattle.picture_build.specs.Whole.{AreWholeSlices};
+ghost use Rattle.picture_build.specs.PictureCoefficients.{ArePictureCoefficients};
 
 use std::alloc::Global;
 use vc_geometry::{bands, padded, slice_rect};
@@ -21,7 +21,7 @@ pub(crate) fn placed(
     slices: &[SliceCoeffs],
 ) -> Result<Grid, NoMemory>
     requires count { length slices.now ≡ slice_count (parameters_of plan.now) }
-    requires whole { AreWholeSlices (parameters_of plan.now) slices.now }
+    requires whole { ArePictureCoefficients (parameters_of plan.now) slices.now }
     ensures width { IfOk result (λ g. g.width ≡ padded_width (parameters_of plan.now) c) }
     ensures height { IfOk result (λ g. g.height ≡ padded_height (parameters_of plan.now) c) }
     ensures value { IfOk result (λ g. cell_at g ≡ component_cells (parameters_of plan.now) c slices.now) }
@@ -42,7 +42,7 @@ fn place_slices(
     stride: usize,
 )
     requires count { length slices.now ≡ slice_count (parameters_of plan.now) }
-    requires whole { AreWholeSlices (parameters_of plan.now) slices.now }
+    requires whole { ArePictureCoefficients (parameters_of plan.now) slices.now }
     requires stride { stride ≡ padded_width (parameters_of plan.now) c }
     requires cells { length cells.old ≡ padded_height (parameters_of plan.now) c * stride }
     ensures { (n i : ℕ) (none : Coefficients) → n < length slices.now → i < slice_coefficient_count (parameters_of plan.now) c n → line_of cells.new (cell_number stride (coefficient_place (parameters_of plan.now) c n i)) ≡ line_of (coefficients_of (slice_index_or slices.now n none) c) i }

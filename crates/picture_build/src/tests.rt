@@ -2,7 +2,7 @@ ghost use Rattle.std.specs.Prelude.{◌≡◌, ◌<◌, IfOk, length};
 ghost use Rattle.vc_types.specs.Subbands.{slice_count};
 ghost use Rattle.vc_types.specs.TransformParameters.{parameters_of};
 ghost use Rattle.vc_types.specs.SliceCoefficients.{AreSliceCoefficients};
-ghost use Rattle.picture_build.specs.Whole.{AreWholeSlices};
+ghost use Rattle.picture_build.specs.PictureCoefficients.{ArePictureCoefficients};
 
 use crate::build;
 use bytes::Bytes;
@@ -205,7 +205,7 @@ fn coefficients(done: SliceDone) -> Result<SliceCoeffs, Fail>
 fn slices(alloc: Global, plan: Plan, coded: &[&'static [u8]]) -> Result<Vec<SliceCoeffs>, Fail>
     requires { length coded.now ≡ slice_count (parameters_of plan) }
     ensures count { IfOk result (λ slices. length slices.items ≡ slice_count (parameters_of plan)) }
-    ensures whole { IfOk result (λ slices. AreWholeSlices (parameters_of plan) slices.items) }
+    ensures whole { IfOk result (λ slices. ArePictureCoefficients (parameters_of plan) slices.items) }
 {
     let mut slices = Vec::new(alloc);
     for i in 0..coded.len() {

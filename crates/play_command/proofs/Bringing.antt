@@ -10,7 +10,8 @@ use Rattle.vc_types.specs.DataUnits.{DataUnit}
 use Rattle.play_command.specs.declared.fault.TakeFault.{TakeFault}
 use Rattle.play_command.specs.declared.fault.TakeFault.TheVariants as faults
 use Rattle.play_command.specs.Steps.{Kept, kept_of, shown, new_frames, Playing}
-use Rattle.play_command.specs.Stream.{Stream, Picture, same_sequence, with_header, with_picture, picture_in, shows, takes, played, paired_frames, raw_frames}
+use Rattle.vc_types.specs.SameValues.{same_sequence}
+use Rattle.play_command.specs.Stream.{Stream, Picture, with_header, with_picture, picture_in, shows, takes, played, paired_frames, raw_frames}
 use Rattle.play_command.specs.Taking.{agreed_kept, Agrees, Shows, Brought, IsKept, IsWithin}
 use Rattle.play_command.proofs.Showing.{begun, shown-kept, played-more}
 

@@ -10,4 +10,3 @@ pub mod Hearing
 pub mod Loops
 pub mod Stopping
 pub mod Players
-pub mod SameHeaders

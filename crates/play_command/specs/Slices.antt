@@ -2,7 +2,7 @@
 use Rattle.std.specs.Prelude.{◌≡◌, ℕ, suc, ◌+◌, List, ◌∷◌, ◌++◌, length, Option, Some, None, Result, Ok, Err}
 use Rattle.std.specs.Global.{Vec}
 use Rattle.vc_types.specs.SliceCoefficients.{AreSliceCoefficients}
-use Rattle.picture_build.specs.Whole.{AreWholeSlices}
+use Rattle.picture_build.specs.PictureCoefficients.{ArePictureCoefficients}
 use Rattle.vc_types.specs.Fields.{and_then}
 use Rattle.vc_types.specs.Pictures.{slices_from}
 use Rattle.vc_types.specs.Slices.{Coefficients}
@@ -24,7 +24,7 @@ pub record GaveAll (p : Parameters) (bytes : List ℕ) (slices : List Coefficien
   pub rest : List ℕ
   pub read : slices_from p 0 (slice_count p) bytes ≡ Ok (slices, rest)
   pub count : length slices ≡ slice_count p
-  pub whole : AreWholeSlices p slices
+  pub whole : ArePictureCoefficients p slices
 
 abbrev pub GaveSlices : Parameters → List ℕ → Option (Vec Coefficients) → Type 0
 GaveSlices p bytes None = slices_from p 0 (slice_count p) bytes ≡ Err tt

@@ -6,29 +6,12 @@ use Rattle.std.specs.List.{flat_map}
 use Rattle.vc_types.specs.RawFrames.{is_wide, frame_bytes}
 use Rattle.vc_types.specs.FieldPairs.{woven}
 use Rattle.byteorder.specs.Endian.{big_number}
-use Rattle.vc_types.specs.Bits.{digit_of}
-use Rattle.vc_types.specs.HeaderSpelling.{sampling_index}
 use Rattle.vc_types.specs.ParseCodes.{header_code, picture_code}
 use Rattle.vc_types.specs.Planes.{Planes, decoded_planes}
+use Rattle.vc_types.specs.SameValues.{same_sequence}
 use Rattle.vc_types.specs.SequenceHeader.{Sequence, coded_header, picture_shape}
 use Rattle.vc_types.specs.declared.refusal.HeaderRefusal.{HeaderRefusal}
-use Rattle.vc_types.specs.declared.video.SignalRange.{SignalRange}
 use Rattle.vc_types.specs.DataUnits.{DataUnit, unit_length}
-
--- ---- headers of one value
-
-abbrev pub same_range : SignalRange → SignalRange → Bool
-same_range a b = a.luma_offset == b.luma_offset && a.luma_excursion == b.luma_excursion && a.colour_offset == b.colour_offset && a.colour_excursion == b.colour_excursion
-
-abbrev pub same_size : Sequence → Sequence → Bool
-same_size a b = a.width == b.width && a.height == b.height && sampling_index a.sampling == sampling_index b.sampling
-
-abbrev pub same_scan : Sequence → Sequence → Bool
-same_scan a b = digit_of a.interlaced == digit_of b.interlaced && digit_of a.top_first == digit_of b.top_first && digit_of a.fields == digit_of b.fields
-
--- both headers have the same value
-unfoldable pub same_sequence : Sequence → Sequence → Bool
-same_sequence a b = a.major == b.major && a.minor == b.minor && a.level == b.level && a.base == b.base && same_size a b && same_scan a b && same_range a.range b.range
 
 -- ---- units
 

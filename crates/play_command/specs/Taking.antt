@@ -13,7 +13,8 @@ use Rattle.play_command.specs.declared.fault.TakeFault.{TakeFault}
 use Rattle.play_command.specs.declared.fault.TakeFault.TheVariants as faults
 use Rattle.play_command.specs.Shapes.{HaveShape}
 use Rattle.play_command.specs.Steps.{Kept, kept_of, Playing, shown, new_frames}
-use Rattle.play_command.specs.Stream.{Stream, Picture, same_sequence, picture_in, takes, played, raw_frames}
+use Rattle.vc_types.specs.SameValues.{same_sequence}
+use Rattle.play_command.specs.Stream.{Stream, Picture, picture_in, takes, played, raw_frames}
 
 -- the field that waits has the shape of the sequence's pictures
 abbrev pub HasShape : Kept → Type 0

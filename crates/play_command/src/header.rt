@@ -1,11 +1,11 @@
 ghost use Rattle.std.specs.Prelude.{◌≡◌};
 ghost use Rattle.vc_types.specs.SequenceHeader.{sequence_of};
-ghost use Rattle.play_command.specs.Stream.{same_range, same_size, same_scan, same_sequence};
+ghost use Rattle.vc_types.specs.SameValues.{same_range, same_size, same_scan, same_sequence};
 
 use vc_types::{Header, SignalRange};
 
 /// Whether two headers have the same value.
-#[tactic(auto, unfolding(crate::specs::Stream::same_sequence))]
+#[tactic(auto, unfolding(vc_types::specs::SameValues::same_sequence))]
 pub(crate) fn same_header(a: &Header, b: &Header) -> bool
     ensures { result ≡ same_sequence (sequence_of a.now) (sequence_of b.now) }
 {

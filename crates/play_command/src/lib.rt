@@ -4,7 +4,6 @@
 mod command;
 mod fault;
 mod header;
-mod laws;
 mod pairs;
 mod picture;
 mod playback;
@@ -12,7 +11,6 @@ mod player;
 mod slices;
 
 pub use command::play;
-pub use laws::headers_of_one_value_are_equal;
 
 #[cfg(test)]
 mod tests;

@@ -1,5 +1,5 @@
 ghost use Rattle.std.specs.Prelude.{◌≡◌, ◌<◌, ◌+◌, ℕ, suc, List, ◌∷◌, [], length, Ok, Err, None, Some, IfOk, IfSome, IfNone};
-ghost use Rattle.picture_build.specs.Whole.{AreWholeSlices};
+ghost use Rattle.picture_build.specs.PictureCoefficients.{ArePictureCoefficients};
 ghost use Rattle.vc_types.specs.Fields.{and_then};
 ghost use Rattle.vc_types.specs.Pictures.{slices_from};
 ghost use Rattle.vc_types.specs.Subbands.{slice_count};

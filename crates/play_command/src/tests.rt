@@ -10,7 +10,6 @@ mod trickle;
 mod video;
 
 use self::streams::{END_UNIT, GREY_UNIT, HEADER_UNIT, counts, joined, played};
-use crate::headers_of_one_value_are_equal;
 use link_report::Ending;
 use std::test::Fail;
 
@@ -27,9 +26,4 @@ fn a_picture_is_a_frame(rt: HostRuntime) -> Result<(), Fail> {
     assert_eq!(rt; answer, Err(Ending::StreamBad { place: 18 }));
     assert_eq!(rt; written.len(), 0);
     Ok(())
-}
-
-#[test]
-fn the_law_can_be_cited() {
-    headers_of_one_value_are_equal();
 }

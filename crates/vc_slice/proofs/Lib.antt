@@ -5,4 +5,3 @@ pub mod CodeLengths
 pub mod Dequantising
 pub mod EncodedSlices
 pub mod SameJobs
-pub mod SlicesApart

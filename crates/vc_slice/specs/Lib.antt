@@ -1,4 +1,3 @@
-pub mod Apart
 pub mod Asked
 pub mod Refusals
 pub mod Inside

@@ -1,20 +1,29 @@
-ghost use Rattle.std.specs.Prelude.{◌≡◌, ℕ, ◌<◌, List, ◌++◌, length, map, Result, Ok, Err};
+ghost use Rattle.std.specs.Prelude.{◌≡◌, ℕ, ◌<◌, List, ◌++◌, map, Some, None, Result, Ok, Err};
 ghost use Rattle.std.specs.List.{range_with_len};
 ghost use Rattle.vc_types.specs.declared.refusal.Unsound.{Unsound};
 ghost use Rattle.vc_types.specs.Fields.{joined};
-ghost use Rattle.vc_types.specs.Pictures.{slices_from};
+ghost use Rattle.vc_types.specs.PictureBytes.{ArePictureBytes, AreAnswers};
+ghost use Rattle.vc_types.specs.Pictures.{decoded_picture};
+ghost use Rattle.vc_types.specs.SequenceHeader.{Sequence};
 ghost use Rattle.vc_types.specs.Slices.{Coefficients};
+ghost use Rattle.vc_types.specs.Subbands.{slice_count};
 ghost use Rattle.vc_types.specs.TransformParameters.{Parameters};
-ghost use Rattle.vc_slice.specs.Apart.{AreWhole, AreAnswers};
 
-/// A picture's slices can be decoded apart, in any order: what they are decoded to one after another is put together from
-/// the answers of the slices. Where every answer is sound, it is their coefficients in raster order, and the bytes behind
-/// the last slice are left; where one isn't, it is refused.
+/// A picture's slices can be decoded apart, in any order: where its coded transform parameters are followed by as many
+/// whole slices as it has, and by anything, it is put together from the answers of the slices. Where every answer is
+/// sound, it is these parameters and the slices' coefficients in raster order; where one isn't, there is no picture.
 pub fn slices_decode_apart()
-    ensures sound { (p : Parameters) (pieces : List (List ℕ)) (behind : List ℕ) (answer : ℕ → Result Coefficients Unsound) (coefficients : ℕ → Coefficients) → AreWhole p pieces → AreAnswers p pieces answer
-        → ((i : ℕ) → i < length pieces → answer i ≡ Ok (coefficients i))
-        → slices_from p 0 (length pieces) (joined pieces ++ behind) ≡ Ok (map coefficients (range_with_len 0 (length pieces)), behind) }
-    ensures unsound { (p : Parameters) (pieces : List (List ℕ)) (behind : List ℕ) (answer : ℕ → Result Coefficients Unsound) → AreWhole p pieces → AreAnswers p pieces answer
-        → (i : ℕ) (why : Unsound) → i < length pieces → answer i ≡ Err why
-        → slices_from p 0 (length pieces) (joined pieces ++ behind) ≡ Err tt }
+    ensures sound { (s : Sequence) (p : Parameters) (coded : List ℕ) (slices : List (List ℕ)) (behind : List ℕ)
+        (answer : ℕ → Result Coefficients Unsound) (coefficients : ℕ → Coefficients)
+        → ArePictureBytes s p coded slices → AreAnswers p slices answer
+        → ((i : ℕ) → i < slice_count p → answer i ≡ Ok (coefficients i))
+        → decoded_picture s (coded ++ (joined slices ++ behind)) ≡ Some (record {
+          parameters = p;
+          slices = map coefficients (range_with_len 0 (slice_count p));
+        }) }
+    ensures unsound { (s : Sequence) (p : Parameters) (coded : List ℕ) (slices : List (List ℕ)) (behind : List ℕ)
+        (answer : ℕ → Result Coefficients Unsound) (i : ℕ) (why : Unsound)
+        → ArePictureBytes s p coded slices → AreAnswers p slices answer
+        → i < slice_count p → answer i ≡ Err why
+        → decoded_picture s (coded ++ (joined slices ++ behind)) ≡ None }
 {}

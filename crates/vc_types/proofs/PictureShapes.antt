@@ -1,12 +1,12 @@
 -- The shape of a picture is one that is coded, by what a header's fields have to be.
-use Rattle.std.proofs.Common.{◌≡◌, ℕ, zero, suc, ◌+◌, ◌/◌, ◌%◌, ◌≤◌, Bool, true, false, leb, Option, Some, None, refl, arith}
-use Rattle.std.specs.Prelude.{IsTrue, ◌&&◌, ◌==◌, position, unwrap_or}
+use Rattle.std.proofs.Common.{◌≡◌, ℕ, zero, suc, ◌+◌, ◌/◌, ◌%◌, ◌^◌, ◌≤◌, Bool, true, false, leb, refl, arith}
+use Rattle.std.specs.Prelude.{IsTrue, ◌&&◌, ◌==◌}
 use Rattle.std.proofs.lemmas.Bool.{and_parts, and_from, leb-true, le-leb}
 use Rattle.std.proofs.lemmas.Bool.Decides.{nat_tests}
-use Rattle.std.proofs.lemmas.List.Quantifiers.{position-Some}
 use Rattle.vc_types.specs.Limits.{shape_fits, depth_fits}
 use Rattle.vc_types.specs.SequenceHeader.{Sequence, picture_shape}
-use Rattle.vc_types.specs.Video.{side_fits, sampling_fits, dimensions_fit, excursion_fits, colour_width, colour_height, picture_height, powers_of_two, video_depth}
+use Rattle.vc_types.specs.Video.{side_fits, sampling_fits, dimensions_fit, excursion_fits, colour_width, colour_height, picture_height, video_depth}
+use Rattle.vc_types.proofs.VideoDepths.{is_least}
 use Rattle.vc_types.specs.declared.video.Sampling.{Sampling}
 use Rattle.vc_types.specs.declared.video.Sampling.TheVariants.{S444, S422, S420}
 
@@ -61,23 +61,16 @@ sides width height S420 true w h fits =
 
 -- the bits of a sample
 pub video_depth_fits : (excursion : ℕ) → IsTrue (excursion_fits excursion) → IsTrue (depth_fits (video_depth excursion))
-unfolding video_depth
-video_depth_fits excursion fits = chosen (position (λ power. leb (excursion + 1) power) powers_of_two) refl
+video_depth_fits excursion fits =
+    let range = and_parts (leb 1 excursion) (leb excursion 65535) fits in
+    let low = leb-true 1 excursion range.0 in
+    let high = leb-true excursion 65535 range.1 in
+    let least = is_least excursion high in
+    and_from (leb 1 (video_depth excursion)) (leb (video_depth excursion) 16) (le-leb 1 (video_depth excursion) (some (video_depth excursion) low least.enough)) (le-leb (video_depth excursion) 16 (least.least 16 (omega (arith, high))))
   where
-    some : 1 ≤ excursion
-    some = leb-true 1 excursion (and_parts (leb 1 excursion) (leb excursion 65535) fits).0
-
-    chosen : (o : Option ℕ) → position (λ power. leb (excursion + 1) power) powers_of_two ≡ o → IsTrue (depth_fits (unwrap_or o 16))
-    chosen None h = refl
-    chosen (Some zero) h =
-        let at = position-Some (λ power. leb (excursion + 1) power) powers_of_two 0 0 h in
-        let small : excursion + 1 ≤ 1 = leb-true (excursion + 1) 1 at.1 in
-        absurd (omega (arith, some))
-    chosen (Some (suc i)) h =
-        let at = position-Some (λ power. leb (excursion + 1) power) powers_of_two (suc i) 0 h in
-        let low : 1 ≤ suc i = omega arith in
-        let high : suc i ≤ 16 = omega (arith, at.0) in
-        and_from (leb 1 (suc i)) (leb (suc i) 16) (le-leb 1 (suc i) low) (le-leb (suc i) 16 high)
+    some : (d : ℕ) → 1 ≤ excursion → excursion + 1 ≤ 2 ^ d → 1 ≤ d
+    some zero low enough = absurd (omega (arith, low, enough))
+    some (suc d) low enough = omega arith
 
 pub picture_shape_fits : (s : Sequence) → IsTrue (dimensions_fit s.width s.height s.sampling s.fields) → IsTrue (excursion_fits s.range.luma_excursion) → IsTrue (excursion_fits s.range.colour_excursion) → IsTrue (shape_fits (picture_shape s))
 unfolding picture_shape

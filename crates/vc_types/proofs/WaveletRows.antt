@@ -1,7 +1,7 @@
 -- Values of the wavelets that were worked by hand: the ends of a line of four samples, and a level of two by two.
 use Rattle.std.proofs.Common.{◌≡◌, ℕ, List, [], ◌∷◌, ℤ, pos, negsuc, refl, map}
 use Rattle.std.specs.Prelude.{slice_index_or}
-use Rattle.vc_types.specs.Lifting.{LiftingStep, even, line_of, weighted, change, lifted}
+use Rattle.vc_types.specs.Lifting.{even, line_of, weighted, change, lifted}
 use Rattle.vc_types.specs.Rasters.{Lattice, cell_at}
 use Rattle.vc_types.specs.Transforms.{interleaved, on_columns, on_rows, on_cells, inverse_level}
 use Rattle.vc_types.specs.Wavelets.{minus, synthesis_steps, lifted_by, synthesised}

@@ -18,6 +18,9 @@ pub mod Planes
 pub mod HeaderSpelling
 pub mod ParameterSpelling
 pub mod Settings
+pub mod SameValues
+pub mod PictureBytes
+pub mod SenderSettings
 pub mod ParseCodes
 pub mod DataUnits
 pub mod RawFrames

@@ -1,5 +1,6 @@
 -- Video formats (ST 2042-1, base video formats and signal ranges; the rows are this project's profile).
-use Rattle.std.specs.Prelude.{ℕ, ◌+◌, ◌%◌, ◌/◌, Bool, true, false, ◌&&◌, ◌||◌, not, nat_le, ◌==◌, if◌then◌else◌, List, [], ◌∷◌, slice_index_or, position, unwrap_or}
+use Rattle.std.specs.Prelude.{◌≤◌, ℕ, ◌+◌, ◌%◌, ◌/◌, ◌^◌, Bool, true, false, ◌&&◌, ◌||◌, not, nat_le, ◌==◌, if◌then◌else◌, List, [], ◌∷◌, slice_index_or}
+use Rattle.std.specs.List.{position_or_len, range_with_len}
 use Rattle.vc_types.specs.declared.video.Sampling.{Sampling}
 use Rattle.vc_types.specs.declared.video.Sampling.TheVariants.{S444, S422, S420}
 use Rattle.vc_types.specs.declared.video.SignalRange.{SignalRange}
@@ -92,10 +93,11 @@ colour_height S420 height = height / 2
 abbrev pub picture_height : Bool → ℕ → ℕ
 picture_height fields height = if fields then height / 2 else height
 
--- the powers of two, up to the least that is above every excursion
-abbrev pub powers_of_two : List ℕ
-powers_of_two = 1 ∷ 2 ∷ 4 ∷ 8 ∷ 16 ∷ 32 ∷ 64 ∷ 128 ∷ 256 ∷ 512 ∷ 1024 ∷ 2048 ∷ 4096 ∷ 8192 ∷ 16384 ∷ 32768 ∷ 65536 ∷ []
-
--- the least d at which 2 ^ d is at least the excursion and 1 (ST 2042-1, video depth)
+-- the first d of 0, 1, 2, .. 16 at which 2 ^ d is at least the excursion and 1 (ST 2042-1, video depth)
 unfoldable pub video_depth : ℕ → ℕ
-video_depth excursion = unwrap_or (position (λ power. nat_le (excursion + 1) power) powers_of_two) 16
+video_depth excursion = position_or_len (λ d. nat_le (excursion + 1) (2 ^ d)) (range_with_len 0 17)
+
+-- 2 ^ d is at least the excursion and 1, and so is no lower power
+pub record IsLeastDepth (excursion d : ℕ) : Type 0 where
+  pub enough : excursion + 1 ≤ 2 ^ d
+  pub least : (other : ℕ) → excursion + 1 ≤ 2 ^ other → d ≤ other

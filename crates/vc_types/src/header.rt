@@ -1,4 +1,4 @@
-ghost use Rattle.std.specs.Prelude.{◌≡◌, ◌≤◌, IsTrue, nat_le, position};
+ghost use Rattle.std.specs.Prelude.{◌≡◌, ◌≤◌, IsTrue};
 ghost use Rattle.vc_types.specs.Video.{dimensions_fit, excursion_fits, colour_width, colour_height, picture_height, video_depth};
 
 use crate::limits::picture_height;
@@ -25,11 +25,6 @@ pub struct Header {
     pub ghost colour_excursion: { IsTrue (excursion_fits range.colour_excursion) },
 }
 
-// The powers of two that an excursion is held against.
-const POWERS_OF_TWO: [u32; 17] = [
-    1, 2, 4, 8, 16, 32, 64, 128, 256, 512, 1024, 2048, 4096, 8192, 16384, 32768, 65536,
-];
-
 fn colour_width(sampling: Sampling, width: u32) -> u32
     ensures { result ≡ colour_width sampling width }
 {
@@ -48,23 +43,13 @@ fn colour_height(sampling: Sampling, height: u32) -> u32
     }
 }
 
-// The place of the first of these numbers that is large enough.
-fn first_from(numbers: &[u32], least: u32) -> Option<usize>
-    ensures { result ≡ position (λ number. nat_le least number) numbers.now }
-{
-    numbers.iter().position(|number| least <= *number)
-}
-
 // How many bits the samples of an excursion have.
-#[tactic(auto, unfolding(crate::specs::Video::video_depth))]
+#[tactic(auto, using(crate::proofs::VideoDepths::depth_by_log))]
 fn video_depth(excursion: u32) -> u8
-    requires { excursion ≤ 65535 }
+    requires { (1 ≤ excursion) × (excursion ≤ 65535) }
     ensures { result ≡ video_depth excursion }
 {
-    match first_from(&POWERS_OF_TWO, excursion + 1) {
-        Some(depth) => depth as u8,
-        None => 16,
-    }
+    excursion.ilog2() as u8 + 1
 }
 
 impl Header {

@@ -4,6 +4,7 @@
 mod choice;
 mod grid;
 mod header;
+mod laws;
 mod limits;
 mod memory;
 mod parse_codes;
@@ -19,6 +20,9 @@ mod words;
 pub use choice::IndexChoice;
 pub use grid::Grid;
 pub use header::Header;
+pub use laws::{
+    headers_of_one_value_are_equal, parameters_of_one_value_are_equal, video_depths_are_least,
+};
 pub use limits::{dimensions_fit, padded, picture_height, slices_fit};
 pub use memory::NoMemory;
 pub use parse_codes::{

@@ -86,3 +86,10 @@ fn sides_are_padded_up(rt: HostRuntime) {
     assert_eq!(rt; picture_height(true, 1080), 540);
     assert_eq!(rt; picture_height(false, 1080), 1080);
 }
+
+#[test]
+fn laws_are_called(_: HostRuntime) {
+    headers_of_one_value_are_equal();
+    parameters_of_one_value_are_equal();
+    video_depths_are_least();
+}

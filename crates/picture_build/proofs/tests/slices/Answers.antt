@@ -2,7 +2,7 @@ use Rattle.std.proofs.Common.{rules, ◌≡◌, ◌+◌, ◌∷◌, ◌++◌, []
 use Rattle.std.proofs.lemmas.List.{length_push}
 use Rattle.vc_types.specs.TransformParameters.{parameters_of}
 use Rattle.vc_types.specs.SliceCoefficients.{AreSliceCoefficients}
-use Rattle.picture_build.specs.Whole.{AreWholeSlices}
+use Rattle.picture_build.specs.PictureCoefficients.{ArePictureCoefficients}
 use Rattle.picture_build.proofs.WholeSlices.{whole_push}
 use Rattle.picture_build.proofs.tests.slices.Goals as goal
 
@@ -15,5 +15,5 @@ loop-i-preserved c =
     let count = c.loop-i.invariant.count in
     record {
       count = ap length pushed ∙ length_push items coeffs ∙ ap (λ n. n + 1) count;
-      whole = subst (AreWholeSlices p) (sym pushed) (whole_push p items coeffs c.loop-i.invariant.whole (subst (λ n. AreSliceCoefficients p n coeffs) (sym count) c.in_ok-coeffs.ensures));
+      whole = subst (ArePictureCoefficients p) (sym pushed) (whole_push p items coeffs c.loop-i.invariant.whole (subst (λ n. AreSliceCoefficients p n coeffs) (sym count) c.in_ok-coeffs.ensures));
     }

@@ -1,5 +1,5 @@
 use Rattle.std.proofs.Common.{◌≡◌, ◌-◌, length}
-use Rattle.picture_build.specs.Whole.{AreWholeSlices}
+use Rattle.picture_build.specs.PictureCoefficients.{ArePictureCoefficients}
 use Rattle.vc_types.specs.Pictures.{slices_from}
 use Rattle.vc_types.specs.TransformParameters.{parameters_of}
 use Rattle.play_command.specs.Slices.{behind}
@@ -9,5 +9,5 @@ abbrev pub invariant-loop-index : goal.invariant-loop-index
 invariant-loop-index l = record {
   read : slices_from (parameters_of l.fn.plan) 0 l.count l.fn.bytes ≡ behind l.slices.items (slices_from (parameters_of l.fn.plan) l.index (l.count - l.index) l.rest);
   count : length l.slices.items ≡ l.index;
-  whole : AreWholeSlices (parameters_of l.fn.plan) l.slices.items;
+  whole : ArePictureCoefficients (parameters_of l.fn.plan) l.slices.items;
 }

@@ -1,0 +1,56 @@
+-- The settings of a sender without their facts.
+use Rattle.std.specs.Prelude.{ℕ, Bool}
+use Rattle.vc_types.specs.declared.choice.IndexChoice.{IndexChoice}
+use Rattle.vc_types.specs.declared.settings.SendSettings.{SendSettings}
+use Rattle.vc_types.specs.declared.video.Sampling.{Sampling}
+
+-- which frames are sent; the range is the number of their signal range
+pub record Frames : Type 0 where
+  pub width : ℕ
+  pub height : ℕ
+  pub sampling : Sampling
+  pub range : ℕ
+  pub fields : Bool
+  pub top : Bool
+
+-- how they are coded and sent
+pub record Sending : Type 0 where
+  pub frames : Frames
+  pub wavelet : ℕ
+  pub depth : ℕ
+  pub across : ℕ
+  pub down : ℕ
+  pub prefix : ℕ
+  pub scaler : ℕ
+  pub size : ℕ
+  pub choice : IndexChoice
+  pub ssrc : ℕ
+  pub seq : ℕ
+  pub picture : ℕ
+  pub tick : ℕ
+  pub pt : ℕ
+
+abbrev pub sending_view : SendSettings → Sending
+sending_view s = record {
+  frames = record {
+    width = s.width;
+    height = s.height;
+    sampling = s.sampling;
+    range = s.range;
+    fields = s.fields;
+    top = s.top;
+  };
+  wavelet = s.wavelet;
+  depth = s.depth;
+  across = s.slices_x;
+  down = s.slices_y;
+  prefix = s.prefix;
+  scaler = s.scaler;
+  size = s.size;
+  choice = s.choice;
+  ssrc = s.ssrc;
+  seq = s.seq;
+  picture = s.picture;
+  tick = s.tick;
+  pt = s.pt;
+}
