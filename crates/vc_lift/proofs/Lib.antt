@@ -1,3 +1,9 @@
+pub mod WeightedSums
+pub mod CountedSteps
+pub mod LineGrowth
+pub mod LineUndoing
+pub mod LineLocality
+pub mod LineLaws
 pub mod Sums
 pub mod Places
 pub mod Sweeps

@@ -7,8 +7,8 @@ use Rattle.std.proofs.lemmas.Bool.Decides.{nat_tests}
 use Rattle.std.proofs.lemmas.List.{get_or-set_same, get_or-set_other}
 use Rattle.std.proofs.lemmas.Nat.{mul-add-lt, same_from_place}
 use Rattle.vc_types.specs.Lifting.{line_of, changed_by}
-use Rattle.vc_types.proofs.CountedSteps.{CountedStep, change_at}
-use Rattle.vc_types.proofs.LineGrowth.{IsWithin}
+use Rattle.vc_lift.specs.CountedSteps.{CountedStep, change_at}
+use Rattle.vc_lift.specs.Growth.{IsWithin}
 use Rattle.vc_lift.specs.Columns.{column_of, with_sample, one_changed}
 
 pub place_below : (half width k x : ℕ) → k < 2 * half → x < width → k * width + x < 2 * half * width

@@ -2,7 +2,7 @@
 use Rattle.std.proofs.Common.{◌≡◌, ℕ, ◌+◌, ◌-◌, ◌*◌, ◌<◌, length, take, get_or, ℤ, sym, ap, refl, ◌∙◌, Bool, true, false, map, reverse, fold, List}
 use Rattle.std.proofs.lemmas.List.{length-map, length-reverse}
 use Rattle.std.proofs.lemmas.List.Sums.{fold_more}
-use Rattle.vc_types.proofs.CountedSteps.{CountedStep, lift, lift_all, in_order, undone}
+use Rattle.vc_lift.specs.CountedSteps.{CountedStep, lift, lift_all, in_order, undone}
 
 pub length-in_order : (undo : Bool) (steps : List CountedStep) → length (in_order undo steps) ≡ length steps
 length-in_order true steps = simp (length-map, length-reverse)

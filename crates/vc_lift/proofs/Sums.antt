@@ -1,5 +1,5 @@
 -- Weighted sums of 128-bit numbers fit, and are what is read back.
-use Rattle.std.proofs.Common.{◌≡◌, ℕ, ◌+◌, ◌*◌, ◌^◌, ◌<◌, ◌≤◌, ◌/◌, ◌%◌, List, length, take, get_or, ℤ, pos, negsuc, ◌+ℤ◌, ◌*ℤ◌, arith, ap, ◌∙◌, unsigned_abs, FitsSigned, to_z, of_z}
+use Rattle.std.proofs.Common.{◌≡◌, ℕ, ◌+◌, ◌*◌, ◌^◌, ◌<◌, ◌≤◌, ◌/◌, ◌%◌, List, length, take, get_or, ℤ, pos, negsuc, ◌+ℤ◌, ◌*ℤ◌, arith, ap, ◌∙◌, unsigned_abs, FitsSigned, to_z, of_z, Bool}
 use Rattle.std.specs.Int.{w128, int_shr}
 use Rattle.std.specs.List.{sum_by}
 use Rattle.std.proofs.lemmas.Int.{to_z-of_z, fits_signed_from_abs}
@@ -8,8 +8,7 @@ use Rattle.std.proofs.lemmas.List.Sums.{sum_by_more, sum_by-take-le, get_or-le-s
 use Rattle.std.proofs.Math.Nat.{div-le_self}
 use Rattle.std.proofs.Math.Pow.{pow_mono}
 use Rattle.vc_types.specs.Lifting.{changed_by}
-use Rattle.vc_types.proofs.WeightedSums.{abs-add, abs-mul}
-use Rattle.std.proofs.Common.{Bool}
+use Rattle.vc_lift.proofs.WeightedSums.{abs-add, abs-mul}
 
 -- a number that went to its bits and is read again
 pub read_back : (x : ℤ) → unsigned_abs x < 2 ^ 127 → to_z w128 (of_z w128 x) ≡ x

@@ -6,9 +6,8 @@ use mathlib.Core.Path.{fun_ext}
 use Rattle.std.proofs.lemmas.Bool.Decides.{nat_tests}
 use Rattle.std.proofs.lemmas.Bool.{cases_eq}
 use Rattle.vc_types.specs.Lifting.{half_of, changed_by}
-use Rattle.vc_types.proofs.CountedSteps.{CountedStep, place_met, sum_met, change_at, lift}
-use Rattle.vc_types.proofs.LineGrowth.{IsWithin}
-use Rattle.vc_types.proofs.WeightedSums.{sum_below}
+use Rattle.vc_lift.specs.CountedSteps.{CountedStep, place_met, sum_met, change_at, lift, sum_below}
+use Rattle.vc_lift.specs.Growth.{IsWithin}
 use Rattle.vc_lift.specs.Columns.{with_sample, one_changed}
 
 unfoldable pub part : CountedStep → ℕ → ℕ → (ℕ → ℤ) → ℕ → ℤ

@@ -1,7 +1,7 @@
 -- Columns that stand side by side, row by row.
 use Rattle.std.specs.Prelude.{ℕ, ◌+◌, ◌*◌, ◌==◌, if◌then◌else◌, List, ℤ}
 use Rattle.vc_types.specs.Lifting.{line_of, changed_by}
-use Rattle.vc_types.proofs.CountedSteps.{CountedStep, change_at}
+use Rattle.vc_lift.specs.CountedSteps.{CountedStep, change_at}
 
 -- column x, where a row has so many
 abbrev pub column_of : ℕ → List ℤ → ℕ → ℕ → ℤ

@@ -1,2 +1,4 @@
-pub mod Steps
+pub mod CountedSteps
+pub mod Growth
 pub mod Columns
+pub mod Steps

@@ -1,12 +1,12 @@
 ghost use Rattle.std.specs.Prelude.{◌≡◌, ◌+◌, ◌-◌, ◌*◌, ◌/◌, ◌%◌, ◌^◌, ◌<◌, ◌≤◌, ℕ, length, unsigned_abs, map, IsTrue, All};
 ghost use Rattle.vc_types.specs.Lifting.{changed_by};
 ghost use Rattle.vc_types.specs.Wavelets.{synthesised, analysed};
-ghost use Rattle.vc_types.proofs.CountedSteps.{sum_met, change_at, lift, lift_all, in_order};
-ghost use Rattle.vc_types.proofs.LineGrowth.{IsPlain, IsWithin, IsLittle, grows_little};
-ghost use Rattle.vc_lift.specs.Steps.{counted_of};
+ghost use Rattle.vc_lift.specs.CountedSteps.{sum_met, change_at, lift, lift_all, in_order};
+ghost use Rattle.vc_lift.specs.Growth.{IsPlain, IsWithin, IsLittle, grows_little};
+ghost use Rattle.vc_lift.specs.Steps.{counted_of, counted_row};
 ghost use Rattle.vc_lift.specs.Columns.{column_of, one_changed};
 
-use crate::step::{Step, step_at, steps};
+use crate::step::{Row, Step, step_at, steps};
 
 // The sum of the taps, each times the sample that it meets beside sample number n of a column, where none reaches past
 // the column's ends.
@@ -124,6 +124,18 @@ fn sweep(cells: &mut [i128], width: usize, step: &Step, half: usize)
     }
 }
 
+// The step with a slice of its taps whose length the compiler sees, if they are so many.
+#[inline(always)]
+fn with_taps<'a>(step: &Step<'a>, count: usize) -> Step<'a>
+    requires { length step.now.taps.now ≡ count }
+    ensures { counted_of result ≡ counted_of step.now }
+{
+    Step {
+        taps: &step.taps[..count],
+        ..*step
+    }
+}
+
 // Makes the step on each column, with a loop over the taps for each number of them that the table has, so that it can
 // be unrolled.
 #[inline(always)]
@@ -133,77 +145,26 @@ fn lift(cells: &mut [i128], width: usize, step: &Step, half: usize)
     requires little { (x : ℕ) → x < width → IsLittle (column_of width cells.old x) half (2 ^ 112) }
     ensures { (x : ℕ) → x < width → column_of width cells.new x ≡ lift (counted_of step.now) half (column_of width cells.old x) }
 {
-    let Step {
-        parity,
-        adds,
-        taps,
-        back,
-        shift,
-    } = *step;
-    match taps.len() {
-        1 => sweep(
-            cells,
-            width,
-            &Step {
-                parity,
-                adds,
-                taps: &taps[..1],
-                back,
-                shift,
-            },
-            half,
-        ),
-        2 => sweep(
-            cells,
-            width,
-            &Step {
-                parity,
-                adds,
-                taps: &taps[..2],
-                back,
-                shift,
-            },
-            half,
-        ),
-        4 => sweep(
-            cells,
-            width,
-            &Step {
-                parity,
-                adds,
-                taps: &taps[..4],
-                back,
-                shift,
-            },
-            half,
-        ),
-        8 => sweep(
-            cells,
-            width,
-            &Step {
-                parity,
-                adds,
-                taps: &taps[..8],
-                back,
-                shift,
-            },
-            half,
-        ),
+    match step.taps.len() {
+        1 => sweep(cells, width, &with_taps(step, 1), half),
+        2 => sweep(cells, width, &with_taps(step, 2), half),
+        4 => sweep(cells, width, &with_taps(step, 4), half),
+        8 => sweep(cells, width, &with_taps(step, 8), half),
         _ => sweep(cells, width, step, half),
     }
 }
 
 // Makes the steps in turn or, where they are to be undone, the opposite steps from the last to the first.
 #[inline(always)]
-pub(crate) fn run(cells: &mut [i128], width: usize, half: usize, steps: &[Step], undo: bool)
+pub(crate) fn run(cells: &mut [i128], width: usize, half: usize, rows: &[Row], undo: bool)
     requires whole { length cells.old ≡ 2 * half * width }
     requires some { 0 < half }
     requires small { All (λ z. unsigned_abs z < 2 ^ 108) cells.old }
-    requires steps { IsTrue (grows_little 16 (in_order undo (map counted_of steps.now))) }
-    ensures { (x : ℕ) → x < width → column_of width cells.new x ≡ lift_all (in_order undo (map counted_of steps.now)) half (column_of width cells.old x) }
+    requires steps { IsTrue (grows_little 16 (in_order undo (map counted_row rows.now))) }
+    ensures { (x : ℕ) → x < width → column_of width cells.new x ≡ lift_all (in_order undo (map counted_row rows.now)) half (column_of width cells.old x) }
 {
-    for i in 0..steps.len() {
-        let step = step_at(steps, undo, i);
+    for i in 0..rows.len() {
+        let step = step_at(rows, undo, i);
         lift(cells, width, &step, half);
     }
 }

@@ -1,5 +1,5 @@
 ghost use Rattle.std.specs.Prelude.{◌≡◌, ◌%◌, ℕ, ℤ};
-ghost use Rattle.vc_types.specs.Wavelets.{synthesised, analysed, GrowsLittle, IsLocal};
+ghost use Rattle.vc_types.specs.Wavelets.{synthesised, analysed, GrowsAtMost, IsLocal};
 
 /// Synthesis undoes analysis on every line.
 pub fn synthesis_undoes_analysis(wavelet: u8)
@@ -8,8 +8,8 @@ pub fn synthesis_undoes_analysis(wavelet: u8)
 
 /// Neither raises a magnitude past 16 times a bound of at least 2 ^ 16.
 pub fn lines_grow_little(wavelet: u8)
-    ensures synthesis { GrowsLittle (synthesised wavelet) }
-    ensures analysis { GrowsLittle (analysed wavelet) }
+    ensures synthesis { GrowsAtMost 16 (synthesised wavelet) }
+    ensures analysis { GrowsAtMost 16 (analysed wavelet) }
 {}
 
 /// Each reads its own line alone.

@@ -15,7 +15,7 @@ use Rattle.vc_types.specs.Slices.{block, coded_slice, quantisers, block_coeffici
 use Rattle.vc_types.specs.Subbands.{slice_rectangle, place_among, slice_coefficient_count, coefficient_place}
 use Rattle.vc_types.specs.TransformParameters as parameters
 use Rattle.vc_types.specs.TransformParameters.{transform_parameters}
-use Rattle.vc_types.specs.Transforms.{interleaved, on_columns, on_rows, on_cells, inverse_level, inverse_levels, inverse_transform}
+use Rattle.vc_types.specs.Transforms.{interleaved, on_columns, on_rows, on_cells, inverse_level, inverse_levels, levels_across, inverse_transform}
 use Rattle.vc_types.specs.Video.{format_of, range_of, video_depth}
 use Rattle.vc_types.specs.Wavelets.{synthesis_steps, lifted_by, synthesised}
 use Rattle.vc_types.specs.declared.video.Sampling.TheVariants.{S444}
@@ -46,12 +46,12 @@ two_by_two samples = record { width = 2; height = 2; samples = samples }
 
 -- one slice, whose luma coefficients are LL 0, HL 1, LH 0 and HH 1
 pub planes_are : decoded_planes sequence (0x09 ∷ 0x26 ∷ 0x40 ∷ 0x00 ∷ 0x02 ∷ 0x94 ∷ 0x80 ∷ 0x00 ∷ 0x00 ∷ []) ≡ Some (record { y = two_by_two (0x80 ∷ 0x80 ∷ 0x7f ∷ 0x80 ∷ []); c1 = two_by_two (0x80 ∷ 0x80 ∷ 0x80 ∷ 0x80 ∷ []); c2 = two_by_two (0x80 ∷ 0x80 ∷ 0x80 ∷ 0x80 ∷ []) })
-unfolding decoded_planes decoded_picture transform_parameters parameters.number parameters.wavelet_index parameters.wavelet_depth parameters.extended_parameters parameters.slice_counts parameters.prefix_bytes parameters.size_scaler parameters.matrix_value parameters.matrix_values parameters.quantisation_matrix default_matrix header.picture_shape video_depth number uint_at uint_after bits_of byte_bits slices_from coded_slice block decoded_slice block_coefficients quantisers slice_rectangle slice_coefficient_count bounded_sints bounded_sint bounded_uint bounded_uint_after dequantised quant_factor quant_offset component_plane raster output_sample inverse_transform inverse_levels inverse_level on_cells on_rows on_columns interleaved synthesised lifted_by synthesis_steps lifted change weighted component_cells standing_at all_placed coefficient_place place_among
+unfolding decoded_planes decoded_picture transform_parameters parameters.number parameters.wavelet_index parameters.wavelet_depth parameters.extended_parameters parameters.slice_counts parameters.prefix_bytes parameters.size_scaler parameters.matrix_value parameters.matrix_values parameters.quantisation_matrix default_matrix header.picture_shape video_depth number uint_at uint_after bits_of byte_bits slices_from coded_slice block decoded_slice block_coefficients quantisers slice_rectangle slice_coefficient_count bounded_sints bounded_sint bounded_uint bounded_uint_after dequantised quant_factor quant_offset component_plane raster output_sample inverse_transform levels_across inverse_levels inverse_level on_cells on_rows on_columns interleaved synthesised lifted_by synthesis_steps lifted change weighted component_cells standing_at all_placed coefficient_place place_among
 planes_are = refl
 
 -- a custom matrix of four zeros, so that at index 4 an LL of 3 stands for 7
 pub custom_matrix : decoded_planes sequence (0x09 ∷ 0x26 ∷ 0x7e ∷ 0x04 ∷ 0x01 ∷ 0x0b ∷ 0x00 ∷ 0x00 ∷ []) ≡ Some (record { y = two_by_two (0x87 ∷ 0x87 ∷ 0x87 ∷ 0x87 ∷ []); c1 = two_by_two (0x80 ∷ 0x80 ∷ 0x80 ∷ 0x80 ∷ []); c2 = two_by_two (0x80 ∷ 0x80 ∷ 0x80 ∷ 0x80 ∷ []) })
-unfolding decoded_planes decoded_picture transform_parameters parameters.number parameters.wavelet_index parameters.wavelet_depth parameters.extended_parameters parameters.slice_counts parameters.prefix_bytes parameters.size_scaler parameters.matrix_value parameters.matrix_values parameters.quantisation_matrix default_matrix header.picture_shape video_depth number uint_at uint_after bits_of byte_bits slices_from coded_slice block decoded_slice block_coefficients quantisers slice_rectangle slice_coefficient_count bounded_sints bounded_sint bounded_uint bounded_uint_after dequantised quant_factor quant_offset component_plane raster output_sample inverse_transform inverse_levels inverse_level on_cells on_rows on_columns interleaved synthesised lifted_by synthesis_steps lifted change weighted component_cells standing_at all_placed coefficient_place place_among
+unfolding decoded_planes decoded_picture transform_parameters parameters.number parameters.wavelet_index parameters.wavelet_depth parameters.extended_parameters parameters.slice_counts parameters.prefix_bytes parameters.size_scaler parameters.matrix_value parameters.matrix_values parameters.quantisation_matrix default_matrix header.picture_shape video_depth number uint_at uint_after bits_of byte_bits slices_from coded_slice block decoded_slice block_coefficients quantisers slice_rectangle slice_coefficient_count bounded_sints bounded_sint bounded_uint bounded_uint_after dequantised quant_factor quant_offset component_plane raster output_sample inverse_transform levels_across inverse_levels inverse_level on_cells on_rows on_columns interleaved synthesised lifted_by synthesis_steps lifted change weighted component_cells standing_at all_placed coefficient_place place_among
 custom_matrix = refl
 
 -- the first of two slices has a luma block that ends within a number: the bits past its end finish -15
@@ -68,5 +68,5 @@ abbrev pub eight_by_four_of : List ℕ → Raster
 eight_by_four_of samples = record { width = 8; height = 4; samples = samples }
 
 pub bounded_block : decoded_planes eight_by_four (0x09 ∷ 0x66 ∷ 0x40 ∷ 0x00 ∷ 0x01 ∷ 0x00 ∷ 0x00 ∷ 0x00 ∷ 0x00 ∷ 0x00 ∷ 0x00 ∷ 0x00 ∷ []) ≡ Some (record { y = eight_by_four_of (dark_row ++ (dark_row ++ grey_rows 2)); c1 = eight_by_four_of (grey_rows 4); c2 = eight_by_four_of (grey_rows 4) })
-unfolding decoded_planes decoded_picture transform_parameters parameters.number parameters.wavelet_index parameters.wavelet_depth parameters.extended_parameters parameters.slice_counts parameters.prefix_bytes parameters.size_scaler parameters.matrix_value parameters.matrix_values parameters.quantisation_matrix default_matrix header.picture_shape video_depth number uint_at uint_after bits_of byte_bits slices_from coded_slice block decoded_slice block_coefficients quantisers slice_rectangle slice_coefficient_count bounded_sints bounded_sint bounded_uint bounded_uint_after dequantised quant_factor quant_offset component_plane raster output_sample inverse_transform inverse_levels inverse_level on_cells on_rows on_columns interleaved synthesised lifted_by synthesis_steps lifted change weighted component_cells standing_at all_placed coefficient_place place_among
+unfolding decoded_planes decoded_picture transform_parameters parameters.number parameters.wavelet_index parameters.wavelet_depth parameters.extended_parameters parameters.slice_counts parameters.prefix_bytes parameters.size_scaler parameters.matrix_value parameters.matrix_values parameters.quantisation_matrix default_matrix header.picture_shape video_depth number uint_at uint_after bits_of byte_bits slices_from coded_slice block decoded_slice block_coefficients quantisers slice_rectangle slice_coefficient_count bounded_sints bounded_sint bounded_uint bounded_uint_after dequantised quant_factor quant_offset component_plane raster output_sample inverse_transform levels_across inverse_levels inverse_level on_cells on_rows on_columns interleaved synthesised lifted_by synthesis_steps lifted change weighted component_cells standing_at all_placed coefficient_place place_among
 bounded_block = refl

@@ -1,9 +1,9 @@
--- Values of the wavelets that were worked by hand: the ends of a line of four samples, and a level of two by two.
+-- Values of the wavelets that were worked by hand: the ends of a line of four samples, a level of two by two, and levels across.
 use Rattle.std.proofs.Common.{◌≡◌, ℕ, List, [], ◌∷◌, ℤ, pos, negsuc, refl, map}
 use Rattle.std.specs.Prelude.{slice_index_or}
 use Rattle.vc_types.specs.Lifting.{even, line_of, weighted, change, lifted}
 use Rattle.vc_types.specs.Rasters.{Lattice, cell_at}
-use Rattle.vc_types.specs.Transforms.{interleaved, on_columns, on_rows, on_cells, inverse_level}
+use Rattle.vc_types.specs.Transforms.{interleaved_across, interleaved, on_columns, on_rows, on_cells, level_across, inverse_level, levels_across, inverse_levels}
 use Rattle.vc_types.specs.Wavelets.{minus, synthesis_steps, lifted_by, synthesised}
 
 -- the samples 10, 20, 30 and 41 after one step of a wavelet, from which all steps take their taps past both ends
@@ -79,10 +79,30 @@ abbrev quarters : Lattice
 quarters = record { width = 2; height = 2; cells = pos 0 ∷ pos 1 ∷ pos 0 ∷ pos 1 ∷ [] }
 
 -- row by row, a level of wavelet 3 makes 0 0 and -1 0 of them: columns come before rows
-pub columns_before_rows : map (λ x. inverse_level 3 1 1 (cell_at quarters) x 0) (0 ∷ 1 ∷ []) ≡ pos 0 ∷ pos 0 ∷ []
+pub columns_before_rows : map (λ x. inverse_level 3 3 1 1 (cell_at quarters) x 0) (0 ∷ 1 ∷ []) ≡ pos 0 ∷ pos 0 ∷ []
 unfolding inverse_level interleaved on_columns on_rows on_cells cell_at synthesised lifted_by synthesis_steps lifted change weighted
 columns_before_rows = refl
 
-pub columns_before_rows_below : map (λ x. inverse_level 3 1 1 (cell_at quarters) x 1) (0 ∷ 1 ∷ []) ≡ negsuc 0 ∷ pos 0 ∷ []
+pub columns_before_rows_below : map (λ x. inverse_level 3 3 1 1 (cell_at quarters) x 1) (0 ∷ 1 ∷ []) ≡ negsuc 0 ∷ pos 0 ∷ []
 unfolding inverse_level interleaved on_columns on_rows on_cells cell_at synthesised lifted_by synthesis_steps lifted change weighted
 columns_before_rows_below = refl
+
+-- L 0 and H 1 in four columns and two rows: one level across alone, whose result is the LL of a level both ways
+abbrev high_across : Lattice
+high_across = record { width = 4; height = 2; cells = pos 0 ∷ pos 1 ∷ pos 0 ∷ pos 0 ∷ pos 0 ∷ pos 0 ∷ pos 0 ∷ pos 0 ∷ [] }
+
+pub across_and_then_both_ways : map (λ x. inverse_levels 3 3 1 2 1 (levels_across 3 1 1 1 (cell_at high_across)) x 1) (0 ∷ 1 ∷ 2 ∷ 3 ∷ []) ≡ negsuc 0 ∷ negsuc 0 ∷ pos 0 ∷ pos 0 ∷ []
+unfolding levels_across level_across interleaved_across inverse_levels inverse_level interleaved on_columns on_rows on_cells cell_at synthesised lifted_by synthesis_steps lifted change weighted
+across_and_then_both_ways = refl
+
+-- LL 3 alone; wavelet 4 across shifts it to 2, wavelet 3 down would leave it
+abbrev lowest_alone : Lattice
+lowest_alone = record { width = 2; height = 2; cells = pos 3 ∷ pos 0 ∷ pos 0 ∷ pos 0 ∷ [] }
+
+pub shift_of_the_wavelet_across : map (λ x. inverse_level 3 4 1 1 (cell_at lowest_alone) x 1) (0 ∷ 1 ∷ []) ≡ pos 2 ∷ pos 2 ∷ []
+unfolding inverse_level interleaved on_columns on_rows on_cells cell_at synthesised lifted_by synthesis_steps lifted change weighted
+shift_of_the_wavelet_across = refl
+
+pub shift_of_the_other_order : map (λ x. inverse_level 4 3 1 1 (cell_at lowest_alone) x 1) (0 ∷ 1 ∷ []) ≡ pos 3 ∷ pos 3 ∷ []
+unfolding inverse_level interleaved on_columns on_rows on_cells cell_at synthesised lifted_by synthesis_steps lifted change weighted
+shift_of_the_other_order = refl

@@ -3,8 +3,9 @@
 use Rattle.std.specs.Prelude.{ℕ, zero, suc, ◌+◌, ◌-◌, ◌*◌, ◌/◌, ◌%◌, ◌^◌, Bool, ◌&&◌, nat_lt, if◌then◌else◌, ℤ, pos, ◌+ℤ◌, ◌-ℤ◌, ◌*ℤ◌, min}
 use Rattle.std.specs.Int.{int_shr}
 use Rattle.vc_types.specs.declared.video.Component.{Component}
+use Rattle.vc_types.specs.Lifting.{Line}
 use Rattle.vc_types.specs.TransformParameters.{Parameters}
-use Rattle.vc_types.specs.Subbands.{plane_width, plane_height, plane_depth, padded_width, padded_height}
+use Rattle.vc_types.specs.Subbands.{plane_width, plane_height, plane_depth, levels, padded_width, padded_height}
 use Rattle.vc_types.specs.Wavelets.{is_shifted, synthesised, analysed}
 
 abbrev pub Cells : Type 0
@@ -14,26 +15,17 @@ Cells = ℕ → ℕ → ℤ
 abbrev pub is_within : ℕ → ℕ → ℕ → ℕ → Bool
 is_within width height x y = nat_lt x width && nat_lt y height
 
--- ---- one level, whose subbands have w columns and h rows
-
--- LL goes to the even columns and even rows, HL to the odd columns and even rows, LH to the even columns and odd rows,
--- HH to the odd columns and odd rows
-unfoldable pub interleaved : ℕ → ℕ → Cells → Cells
-interleaved w h cells x y = if is_within (2 * w) (2 * h) x y then cells (x / 2 + x % 2 * w) (y / 2 + y % 2 * h) else cells x y
-
--- and back: the four quarters are taken from every other column and row
-abbrev pub source_of : ℕ → ℕ → ℕ
-source_of half k = if nat_lt k half then 2 * k else 2 * (k - half) + 1
-
-unfoldable pub deinterleaved : ℕ → ℕ → Cells → Cells
-deinterleaved w h cells x y = if is_within (2 * w) (2 * h) x y then cells (source_of w x) (source_of h y) else cells x y
-
 -- a function of lines on each of the first columns, and on each of the first rows
-unfoldable pub on_columns : ((ℕ → ℤ) → ℕ → ℤ) → ℕ → Cells → Cells
+unfoldable pub on_columns : (Line → Line) → ℕ → Cells → Cells
 on_columns f width cells x y = if nat_lt x width then f (λ k. cells x k) y else cells x y
 
-unfoldable pub on_rows : ((ℕ → ℤ) → ℕ → ℤ) → ℕ → Cells → Cells
+unfoldable pub on_rows : (Line → Line) → ℕ → Cells → Cells
 on_rows f height cells x y = if nat_lt y height then f (λ k. cells k y) x else cells x y
+
+-- a function of samples on the first columns and rows, if that is wanted
+unfoldable pub on_cells : (ℤ → ℤ) → Bool → ℕ → ℕ → Cells → Cells
+on_cells f wanted width height cells x y =
+    if wanted && is_within width height x y then f (cells x y) else cells x y
 
 -- the shift after a level, and the doubling before a level of the forward transform
 abbrev pub halved : ℤ → ℤ
@@ -42,16 +34,50 @@ halved z = int_shr (z +ℤ pos 1) 1
 abbrev pub doubled : ℤ → ℤ
 doubled z = pos 2 *ℤ z
 
-unfoldable pub on_cells : (ℤ → ℤ) → Bool → ℕ → ℕ → Cells → Cells
-on_cells f wanted width height cells x y = if wanted && is_within width height x y then f (cells x y) else cells x y
+-- where column or row k of a level stands in its subbands, side by side: an even one in the first half, an odd one in
+-- the second
+abbrev pub half_place : ℕ → ℕ → ℕ
+half_place half k = k / 2 + k % 2 * half
 
--- the subbands are interleaved, each column is synthesised, then each row, and the samples are shifted
-unfoldable pub inverse_level : ℕ → ℕ → ℕ → Cells → Cells
-inverse_level wavelet w h cells =
-    on_cells halved (is_shifted wavelet) (2 * w) (2 * h)
-    (on_rows (synthesised wavelet (2 * w)) (2 * h)
-    (on_columns (synthesised wavelet (2 * h)) (2 * w)
+-- and back
+abbrev pub source_of : ℕ → ℕ → ℕ
+source_of half k = if nat_lt k half then 2 * k else 2 * (k - half) + 1
+
+-- ---- a level across alone, whose subbands have w columns and h rows
+
+-- L goes to the even columns, and H to the odd ones
+unfoldable pub interleaved_across : ℕ → ℕ → Cells → Cells
+interleaved_across w h cells x y =
+    if is_within (2 * w) h x y then cells (half_place w x) y else cells x y
+
+-- the subbands are interleaved, each row is synthesised, and the samples are shifted
+unfoldable pub level_across : ℕ → ℕ → ℕ → Cells → Cells
+level_across wavelet w h cells =
+    on_cells halved (is_shifted wavelet) (2 * w) h
+    (on_rows (synthesised wavelet (2 * w)) h
+    (interleaved_across w h cells))
+
+-- ---- a level both ways, whose subbands have w columns and h rows
+
+-- LL goes to the even columns and even rows, HL to the odd columns and even rows, LH to the even columns and odd rows,
+-- HH to the odd columns and odd rows
+unfoldable pub interleaved : ℕ → ℕ → Cells → Cells
+interleaved w h cells x y =
+    if is_within (2 * w) (2 * h) x y then cells (half_place w x) (half_place h y) else cells x y
+
+-- the subbands are interleaved, each column is synthesised with one wavelet, then each row with the other, and the
+-- samples are shifted as the one of the rows wants it
+unfoldable pub inverse_level : ℕ → ℕ → ℕ → ℕ → Cells → Cells
+inverse_level vertical horizontal w h cells =
+    on_cells halved (is_shifted horizontal) (2 * w) (2 * h)
+    (on_rows (synthesised horizontal (2 * w)) (2 * h)
+    (on_columns (synthesised vertical (2 * h)) (2 * w)
     (interleaved w h cells)))
+
+-- the four quarters are taken from every other column and row
+unfoldable pub deinterleaved : ℕ → ℕ → Cells → Cells
+deinterleaved w h cells x y =
+    if is_within (2 * w) (2 * h) x y then cells (source_of w x) (source_of h y) else cells x y
 
 -- the samples are doubled, each row is analysed, then each column, and the subbands are taken apart
 unfoldable pub forward_level : ℕ → ℕ → ℕ → Cells → Cells
@@ -63,30 +89,46 @@ forward_level wavelet w h cells =
 
 -- ---- all levels, the lowest of which has subbands of w columns and h rows
 
-unfoldable pub inverse_levels : ℕ → ℕ → ℕ → ℕ → Cells → Cells
-inverse_levels wavelet zero w h cells = cells
-inverse_levels wavelet (suc d) w h cells = inverse_level wavelet (w * 2 ^ d) (h * 2 ^ d) (inverse_levels wavelet d w h cells)
+unfoldable pub levels_across : ℕ → ℕ → ℕ → ℕ → Cells → Cells
+levels_across wavelet zero w h cells = cells
+levels_across wavelet (suc e) w h cells =
+    level_across wavelet (w * 2 ^ e) h (levels_across wavelet e w h cells)
+
+unfoldable pub inverse_levels : ℕ → ℕ → ℕ → ℕ → ℕ → Cells → Cells
+inverse_levels vertical horizontal zero w h cells = cells
+inverse_levels vertical horizontal (suc d) w h cells =
+    inverse_level vertical horizontal (w * 2 ^ d) (h * 2 ^ d)
+    (inverse_levels vertical horizontal d w h cells)
 
 unfoldable pub forward_levels : ℕ → ℕ → ℕ → ℕ → Cells → Cells
 forward_levels wavelet zero w h cells = cells
-forward_levels wavelet (suc d) w h cells = forward_levels wavelet d w h (forward_level wavelet (w * 2 ^ d) (h * 2 ^ d) cells)
+forward_levels wavelet (suc d) w h cells =
+    forward_levels wavelet d w h (forward_level wavelet (w * 2 ^ d) (h * 2 ^ d) cells)
 
--- the columns and rows of LL
+-- ---- the transform of a component
+
+-- the columns and rows of the lowest subband, LL or L
 abbrev pub lowest_width : Parameters → Component → ℕ
-lowest_width p c = padded_width p c / 2 ^ p.depth
+lowest_width p c = padded_width p c / 2 ^ levels p
 
 abbrev pub lowest_height : Parameters → Component → ℕ
 lowest_height p c = padded_height p c / 2 ^ p.depth
 
+-- the levels across alone, and then the levels both ways
 unfoldable pub inverse_transform : Parameters → Component → Cells → Cells
-inverse_transform p c cells = inverse_levels p.wavelet p.depth (lowest_width p c) (lowest_height p c) cells
-
--- ---- from a plane of samples
+inverse_transform p c cells =
+    inverse_levels p.wavelet p.wavelet_ho p.depth
+    (lowest_width p c * 2 ^ p.depth_ho) (lowest_height p c)
+    (levels_across p.wavelet_ho p.depth_ho (lowest_width p c) (lowest_height p c) cells)
 
 -- samples less 2 ^ (depth - 1); past the last column and row, those of the last
 unfoldable pub padded_plane : Parameters → Component → (ℕ → ℕ → ℕ) → Cells
-padded_plane p c samples x y = pos (samples (min x (plane_width p.shape c - 1)) (min y (plane_height p.shape c - 1))) -ℤ pos (2 ^ (plane_depth p.shape c - 1))
+padded_plane p c samples x y =
+    pos (samples (min x (plane_width p.shape c - 1)) (min y (plane_height p.shape c - 1)))
+    -ℤ pos (2 ^ (plane_depth p.shape c - 1))
 
--- the coefficients of a plane
+-- the coefficients of a plane, where the transform is symmetric
 unfoldable pub forward_transform : Parameters → Component → (ℕ → ℕ → ℕ) → Cells
-forward_transform p c samples = forward_levels p.wavelet p.depth (lowest_width p c) (lowest_height p c) (padded_plane p c samples)
+forward_transform p c samples =
+    forward_levels p.wavelet p.depth (lowest_width p c) (lowest_height p c)
+    (padded_plane p c samples)

@@ -7,25 +7,26 @@ use Rattle.std.proofs.lemmas.List.Elements.{All-from_get_or}
 use Rattle.std.proofs.lemmas.Nat.{mul-add-lt, div_below}
 use Rattle.std.proofs.Math.Nat.{mul-le-mul_left, mul-le-mul_right}
 use Rattle.vc_types.specs.Lifting.{line_of}
-use Rattle.vc_types.specs.Transforms.{source_of, doubled}
+use Rattle.vc_types.specs.Transforms.{source_of, doubled, half_place}
 use Rattle.vc_types.specs.Wavelets.{synthesised, analysed}
-use Rattle.vc_types.proofs.LineLaws.{synthesis_grows_little, synthesis_is_local, analysis_is_local}
-use Rattle.vc_types.proofs.PlaneLines.{changed, rearranged_in}
-use Rattle.vc_types.proofs.TransformLaws.{doubled_below}
-use Rattle.vc_types.proofs.Weaving.{half_place, half_place_below, source_of-half_place, woven, merged}
+use Rattle.vc_lift.proofs.LineLaws.{synthesis_grows_little, synthesis_is_local, analysis_is_local}
+use Rattle.vc_wave.specs.Remade.{on_samples, halves_together, merged}
+use Rattle.vc_wave.proofs.PlaneLines.{rearranged_in}
+use Rattle.vc_wave.proofs.PlaneGrowth.{doubled_below}
+use Rattle.vc_wave.proofs.Weaving.{half_place_below, source_of-half_place}
 use Rattle.vc_lift.specs.Columns.{column_of}
-use Rattle.vc_wave.specs.Places.{place_of}
+use Rattle.vc_wave.specs.Remade.{sample_place}
 
 -- ---- places
 
-pub place_below : (apart : Bool) (half k : ℕ) → k < 2 * half → place_of apart half k < 2 * half
+pub place_below : (apart : Bool) (half k : ℕ) → k < 2 * half → sample_place apart half k < 2 * half
 place_below true half k h = half_place_below half k h
 place_below false half k h = h
 
 place_back : (half j k : ℕ) → j < 2 * half → k < 2 * half → half_place half j ≡ half_place half k → j ≡ k
 place_back half j k h lt e = sym (source_of-half_place half j h) ∙ ap (source_of half) e ∙ source_of-half_place half k lt
 
-pub places_differ : (apart : Bool) (half j k : ℕ) → j < 2 * half → k < 2 * half → j ≢ k → place_of apart half j ≢ place_of apart half k
+pub places_differ : (apart : Bool) (half j k : ℕ) → j < 2 * half → k < 2 * half → j ≢ k → sample_place apart half j ≢ sample_place apart half k
 places_differ true half j k h lt ne e = ne (place_back half j k h lt e)
 places_differ false half j k h lt ne e = ne e
 
@@ -33,7 +34,7 @@ places_differ false half j k h lt ne e = ne e
 pub row_inside : (start step width half p n : ℕ) → p < 2 * half → start + (2 * half - 1) * step + width ≤ n → start + p * step + width ≤ n
 row_inside start step width half p n h inside = let last : p ≤ 2 * half - 1 = omega arith in omega (arith, mul-le-mul_right step last)
 
-pub placed_inside : (start step width half n : ℕ) (apart : Bool) (k p : ℕ) → p ≡ place_of apart half k → k < 2 * half → start + (2 * half - 1) * step + width ≤ n → start + p * step + width ≤ n
+pub placed_inside : (start step width half n : ℕ) (apart : Bool) (k p : ℕ) → p ≡ sample_place apart half k → k < 2 * half → start + (2 * half - 1) * step + width ≤ n → start + p * step + width ≤ n
 placed_inside start step width half n apart k p e h = row_inside start step width half p n (rw e (place_below apart half k h))
 
 pub block_inside : (half width k n : ℕ) → k < 2 * half → n ≡ 2 * half * width → k * width + width ≤ n
@@ -63,22 +64,22 @@ either_way : (p q : ℕ) → p ≢ q → (p < q) ⊎ (q < p)
 either_way p q ne = elim (cases_lt p q) [ inl lt ↦ inl lt | inr ge ↦ (let more : q < p = omega arith in inr more) ]
 
 module _ (start step width half : ℕ) (apart : Bool) (wide : width ≤ step) (k : ℕ) (below : k < 2 * half) (old new block : List ℤ)
-    (on : (x : ℕ) → x < width → line_of new (start + place_of apart half k * step + x) ≡ line_of block (k * width + x))
-    (off : (i : ℕ) → (i < start + place_of apart half k * step) ⊎ (start + place_of apart half k * step + width ≤ i) → line_of new i ≡ line_of old i) where
-  pub scattered_on : ((x j : ℕ) → x < width → j < k → line_of old (start + place_of apart half j * step + x) ≡ column_of width block x j) → (x j : ℕ) → x < width → j < k + 1 → line_of new (start + place_of apart half j * step + x) ≡ column_of width block x j
+    (on : (x : ℕ) → x < width → line_of new (start + sample_place apart half k * step + x) ≡ line_of block (k * width + x))
+    (off : (i : ℕ) → (i < start + sample_place apart half k * step) ⊎ (start + sample_place apart half k * step + width ≤ i) → line_of new i ≡ line_of old i) where
+  pub scattered_on : ((x j : ℕ) → x < width → j < k → line_of old (start + sample_place apart half j * step + x) ≡ column_of width block x j) → (x j : ℕ) → x < width → j < k + 1 → line_of new (start + sample_place apart half j * step + x) ≡ column_of width block x j
   scattered_on before x j h lt = elim (cases_eq j k) [
     | inl e ↦ rw e (on x h)
     | inr ne ↦ (let earlier : j < k = omega arith in
-        off (start + place_of apart half j * step + x) (rows_apart start step width (place_of apart half j) (place_of apart half k) x h wide (either_way _ _ (places_differ apart half j k (omega arith) below ne))) ∙ before x j h earlier)
+        off (start + sample_place apart half j * step + x) (rows_apart start step width (sample_place apart half j) (sample_place apart half k) x h wide (either_way _ _ (places_differ apart half j k (omega arith) below ne))) ∙ before x j h earlier)
   ]
 
   pub scattered_off : (first : List ℤ) → ((i : ℕ) → ((x j : ℕ) → x < width → j < 2 * half → i ≢ start + j * step + x) → line_of old i ≡ line_of first i) → (i : ℕ) → ((x j : ℕ) → x < width → j < 2 * half → i ≢ start + j * step + x) → line_of new i ≡ line_of first i
-  scattered_off first before i none = off i (outside (cases_lt i (start + place_of apart half k * step)) (cases_lt i (start + place_of apart half k * step + width))) ∙ before i none
+  scattered_off first before i none = off i (outside (cases_lt i (start + sample_place apart half k * step)) (cases_lt i (start + sample_place apart half k * step + width))) ∙ before i none
     where
-      outside : (i < start + place_of apart half k * step) ⊎ (start + place_of apart half k * step ≤ i) → (i < start + place_of apart half k * step + width) ⊎ (start + place_of apart half k * step + width ≤ i) → (i < start + place_of apart half k * step) ⊎ (start + place_of apart half k * step + width ≤ i)
+      outside : (i < start + sample_place apart half k * step) ⊎ (start + sample_place apart half k * step ≤ i) → (i < start + sample_place apart half k * step + width) ⊎ (start + sample_place apart half k * step + width ≤ i) → (i < start + sample_place apart half k * step) ⊎ (start + sample_place apart half k * step + width ≤ i)
       outside (inl before) second = inl before
       outside (inr from) (inr past) = inr past
-      outside (inr from) (inl within) = absurd (none (i - (start + place_of apart half k * step)) (place_of apart half k) (omega arith) (place_below apart half k below) (omega arith))
+      outside (inr from) (inl within) = absurd (none (i - (start + sample_place apart half k * step)) (sample_place apart half k) (omega arith) (place_below apart half k below) (omega arith))
 
 -- ---- blocks
 
@@ -92,10 +93,10 @@ all_of_block m half width block whole small = All-from_get_or (λ z. unsigned_ab
         subst (λ j. unsigned_abs (line_of block j) < m) place (small (i % width) (i / width) column (div_below i width (2 * half) some h))
     at i h (inr none) = (let zero : width ≡ 0 = omega arith in absurd (omega (arith, subst (λ n. i < 2 * half * n) zero h)))
 
-pub changed_in : (f : ℤ → ℤ) (wanted : Bool) (n : ℕ) (l : ℕ → ℤ) (k : ℕ) → k < n → changed f wanted n l k ≡ (if wanted then f (l k) else l k)
-unfolding changed
-changed_in f true n l k h = grind (arith, nat_tests)
-changed_in f false n l k h = refl'
+pub on_samples_in : (f : ℤ → ℤ) (wanted : Bool) (n : ℕ) (l : ℕ → ℤ) (k : ℕ) → k < n → on_samples f wanted n l k ≡ (if wanted then f (l k) else l k)
+unfolding on_samples
+on_samples_in f true n l k h = grind (arith, nat_tests)
+on_samples_in f false n l k h = refl'
   where
     refl' : l k ≡ l k
     refl' = λ i. l k
@@ -104,7 +105,7 @@ module _ (wavelet half width : ℕ) (line : ℕ → ℤ) (gathered made : List �
     (from : (k : ℕ) → k < 2 * half → column_of width gathered x k ≡ line (half_place half k))
     (synth : column_of width made x ≡ synthesised wavelet (2 * half) (column_of width gathered x)) where
   pub merged_column : (k : ℕ) → k < 2 * half → column_of width made x k ≡ merged wavelet half line k
-  merged_column k h = ap (λ f. f k) synth ∙ synthesis_is_local wavelet (2 * half) (column_of width gathered x) (woven half line) (omega arith) (λ j lt. from j lt ∙ sym (rearranged_in (2 * half) (half_place half) line j lt)) k h
+  merged_column k h = ap (λ f. f k) synth ∙ synthesis_is_local wavelet (2 * half) (column_of width gathered x) (halves_together half line) (omega arith) (λ j lt. from j lt ∙ sym (rearranged_in (2 * half) (half_place half) line j lt)) k h
 
   pub made_below : (m : ℕ) → 2 ^ 16 ≤ m → ((k : ℕ) → k < 2 * half → unsigned_abs (line k) < m) → (k : ℕ) → k < 2 * half → unsigned_abs (column_of width made x k) < 16 * m
   made_below m large small k h = rw (ap (λ f. f k) synth) (synthesis_grows_little wavelet (2 * half) m (column_of width gathered x) (omega arith) large (λ j lt. rw (from j lt) (small (half_place half j) (half_place_below half j lt))) k h)
@@ -113,18 +114,18 @@ module _ (wavelet half width : ℕ) (line : ℕ → ℤ) (gathered made : List �
 module _ (half width : ℕ) (shifted : Bool) (line : ℕ → ℤ) (gathered twice : List ℤ) (x : ℕ) (column : x < width) (whole : length gathered ≡ 2 * half * width)
     (from : (k : ℕ) → k < 2 * half → column_of width gathered x k ≡ line k)
     (double : (i : ℕ) → i < length gathered → line_of twice i ≡ (if shifted then doubled (line_of gathered i) else line_of gathered i)) where
-  pub doubled_column : (k : ℕ) → k < 2 * half → column_of width twice x k ≡ changed doubled shifted (2 * half) line k
+  pub doubled_column : (k : ℕ) → k < 2 * half → column_of width twice x k ≡ on_samples doubled shifted (2 * half) line k
   doubled_column k h =
       let inside = block_inside half width k (length gathered) h whole in
-      double (k * width + x) (omega (arith, inside)) ∙ ap (λ z. if shifted then doubled z else z) (from k h) ∙ sym (changed_in doubled shifted (2 * half) line k h)
+      double (k * width + x) (omega (arith, inside)) ∙ ap (λ z. if shifted then doubled z else z) (from k h) ∙ sym (on_samples_in doubled shifted (2 * half) line k h)
 
   pub doubled_small : (m : ℕ) → ((k : ℕ) → k < 2 * half → unsigned_abs (line k) < m) → (k : ℕ) → k < 2 * half → unsigned_abs (column_of width twice x k) < 2 * m
-  doubled_small m small k h = rw (doubled_column k h ∙ changed_in doubled shifted (2 * half) line k h) (either shifted)
+  doubled_small m small k h = rw (doubled_column k h ∙ on_samples_in doubled shifted (2 * half) line k h) (either shifted)
     where
       either : (test : Bool) → unsigned_abs (if test then doubled (line k) else line k) < 2 * m
       either true = doubled_below m (line k) (small k h)
       either false = (let a = small k h in omega (arith, a))
 
   -- and then taken apart
-  pub parted_column : (wavelet : ℕ) (taken : List ℤ) → column_of width taken x ≡ analysed wavelet (2 * half) (column_of width twice x) → (k : ℕ) → k < 2 * half → column_of width taken x k ≡ analysed wavelet (2 * half) (changed doubled shifted (2 * half) line) k
-  parted_column wavelet taken analyse k h = ap (λ f. f k) analyse ∙ analysis_is_local wavelet (2 * half) (column_of width twice x) (changed doubled shifted (2 * half) line) (omega arith) doubled_column k h
+  pub parted_column : (wavelet : ℕ) (taken : List ℤ) → column_of width taken x ≡ analysed wavelet (2 * half) (column_of width twice x) → (k : ℕ) → k < 2 * half → column_of width taken x k ≡ analysed wavelet (2 * half) (on_samples doubled shifted (2 * half) line) k
+  parted_column wavelet taken analyse k h = ap (λ f. f k) analyse ∙ analysis_is_local wavelet (2 * half) (column_of width twice x) (on_samples doubled shifted (2 * half) line) (omega arith) doubled_column k h

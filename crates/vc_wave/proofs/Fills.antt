@@ -12,10 +12,9 @@ use Rattle.vc_types.specs.Lifting.{line_of}
 use Rattle.vc_types.specs.Rasters.{Raster, Lattice, cell_at, sample_at}
 use Rattle.vc_types.specs.Subbands.{plane_width, plane_height, plane_depth, padded_width, padded_height}
 use Rattle.vc_types.specs.TransformParameters.{Parameters}
-use Rattle.vc_types.specs.Transforms.{forward_levels, forward_transform, lowest_width, padded_plane}
-use Rattle.vc_types.proofs.TransformLaws.{AreBelow}
-use Rattle.vc_types.proofs.TransformLocality.{forward_levels_agrees}
-use Rattle.vc_wave.specs.Places.{plane_of}
+use Rattle.vc_types.specs.Transforms.{forward_levels, forward_transform, lowest_width, lowest_height, padded_plane}
+use Rattle.vc_wave.specs.Planes.{AreBelow, plane_of}
+use Rattle.vc_wave.proofs.TransformLocality.{forward_levels_agrees}
 use Rattle.vc_wave.specs.Samples.{padded_sample}
 use Rattle.vc_wave.proofs.Grids.{lattice, cell_at_plane}
 use Rattle.vc_wave.proofs.PlaneSteps.{plane_in, plane_out}
@@ -77,15 +76,15 @@ module _ (p : Parameters) (c : Component) (plane : Raster) (made : Lattice) (wid
   made_plane : cell_at made ≡ plane_of width cells
   made_plane = ap cell_at is ∙ cell_at_plane (lattice width height cells) (kept ∙ whole ∙ omega arith)
 
-  pub forward_made : plane_of width cells ≡ forward_levels p.wavelet p.depth (width / 2 ^ p.depth) (height / 2 ^ p.depth) (plane_of width first) → (x y : ℕ) → x < made.width → y < made.height → cell_at made x y ≡ forward_transform p c (sample_at plane) x y
+  pub forward_made : (w h : ℕ) → w ≡ lowest_width p c → h ≡ lowest_height p c → plane_of width cells ≡ forward_levels p.wavelet p.depth w h (plane_of width first) → (x y : ℕ) → x < made.width → y < made.height → cell_at made x y ≡ forward_transform p c (sample_at plane) x y
   unfolding forward_transform
-  forward_made levels x y h lt =
+  forward_made w h lowest_across lowest_down levels x y a b =
       let wide : made.width ≡ width = ap (λ (g : Lattice). g.width) is in
       let high : made.height ≡ height = ap (λ (g : Lattice). g.height) is in
       ap (λ f. f x y) made_plane ∙ ap (λ f. f x y) levels
-      ∙ ap (λ n. forward_levels p.wavelet p.depth (n / 2 ^ p.depth) (height / 2 ^ p.depth) (plane_of width first) x y) across
-      ∙ ap (λ n. forward_levels p.wavelet p.depth (lowest_width p c) (n / 2 ^ p.depth) (plane_of width first) x y) down
-      ∙ forward_levels_agrees p c (plane_of width first) (padded_plane p c (sample_at plane)) first_agrees x y (omega (arith, wide, across, h)) (omega (arith, high, down, lt))
+      ∙ ap (λ n. forward_levels p.wavelet p.depth n h (plane_of width first) x y) lowest_across
+      ∙ ap (λ n. forward_levels p.wavelet p.depth (lowest_width p c) n (plane_of width first) x y) lowest_down
+      ∙ forward_levels_agrees p c (plane_of width first) (padded_plane p c (sample_at plane)) first_agrees x y (omega (arith, wide, across, a)) (omega (arith, high, down, b))
 
 -- how large the filled cells are
 module _ (plane : Raster) (width height depth : ℕ) (first : List ℤ) (filled : (x y : ℕ) → x < width → y < height → line_of first (y * width + x) ≡ padded_sample plane depth x y) (whole : length first ≡ height * width) where

@@ -1,6 +1,10 @@
-pub mod Copies
-pub mod MadeLines
-pub mod PlaneSteps
+pub mod PlaneLines
+pub mod Weaving
+pub mod TransformLaws
+pub mod TransformLocality
+pub mod PlaneGrowth
 pub mod Levels
+pub mod PlaneSteps
+pub mod Copies
 pub mod Grids
 pub mod Fills

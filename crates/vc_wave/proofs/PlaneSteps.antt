@@ -4,10 +4,10 @@ use mathlib.Core.Path.{fun_ext}
 use Rattle.std.proofs.lemmas.Bool.{cases_lt, cases_eq}
 use Rattle.std.proofs.lemmas.Bool.Decides.{nat_tests}
 use Rattle.std.proofs.lemmas.Nat.{same_from_place}
-use Rattle.vc_types.specs.Lifting.{line_of}
+use Rattle.vc_types.specs.Lifting.{Line, line_of}
 use Rattle.vc_types.specs.Transforms.{Cells, on_columns, on_rows}
-use Rattle.vc_types.proofs.PlaneLines.{OfLines, LeavesPast, ReadsBelow, column_in, column_out, row_in, row_out}
-use Rattle.vc_wave.specs.Places.{plane_of}
+use Rattle.vc_wave.proofs.PlaneLines.{LeavesPast, ReadsBelow, column_in, column_out, row_in, row_out}
+use Rattle.vc_wave.specs.Planes.{plane_of}
 
 pub plane_in : (stride : ℕ) (cells : List ℤ) (x y : ℕ) → x < stride → plane_of stride cells x y ≡ line_of cells (y * stride + x)
 unfolding plane_of
@@ -17,13 +17,13 @@ pub plane_out : (stride : ℕ) (cells : List ℤ) (x y : ℕ) → stride ≤ x �
 unfolding plane_of
 plane_out stride cells x y h = grind (arith, nat_tests)
 
-pub columns_none : (f : OfLines) (g : Cells) → g ≡ on_columns f 0 g
+pub columns_none : (f : Line → Line) (g : Cells) → g ≡ on_columns f 0 g
 columns_none f g = fun_ext (λ x. fun_ext (λ y. sym (column_out f 0 g x y (omega arith))))
 
-pub rows_none : (f : OfLines) (g : Cells) → g ≡ on_rows f 0 g
+pub rows_none : (f : Line → Line) (g : Cells) → g ≡ on_rows f 0 g
 rows_none f g = fun_ext (λ x. fun_ext (λ y. sym (row_out f 0 g x y (omega arith))))
 
-module _ (f : OfLines) (stride n b m : ℕ) (g : Cells) (old : List ℤ) (wide : n + b ≤ stride) (done : plane_of stride old ≡ on_columns f n g) where
+module _ (f : Line → Line) (stride n b m : ℕ) (g : Cells) (old : List ℤ) (wide : n + b ≤ stride) (done : plane_of stride old ≡ on_columns f n g) where
   old_at : (x y : ℕ) → plane_of stride old x y ≡ on_columns f n g x y
   old_at x y = ap (λ p. p x y) done
 
@@ -66,7 +66,7 @@ module _ (f : OfLines) (stride n b m : ℕ) (g : Cells) (old : List ℤ) (wide :
     pub columns_more : plane_of stride new ≡ on_columns f (n + b) g
     columns_more = fun_ext (λ x. fun_ext (λ y. more_at x y (cases_lt x n) (cases_lt x (n + b))))
 
-module _ (f : OfLines) (stride n m : ℕ) (g : Cells) (old : List ℤ) (wide : m ≤ stride) (done : plane_of stride old ≡ on_rows f n g) where
+module _ (f : Line → Line) (stride n m : ℕ) (g : Cells) (old : List ℤ) (wide : m ≤ stride) (done : plane_of stride old ≡ on_rows f n g) where
   row_at : (x y : ℕ) → plane_of stride old x y ≡ on_rows f n g x y
   row_at x y = ap (λ p. p x y) done
 

@@ -1,4 +1,4 @@
-pub mod Places
+pub mod Planes
 pub mod Lines
-pub mod Made
+pub mod Remade
 pub mod Samples

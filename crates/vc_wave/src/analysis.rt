@@ -1,19 +1,22 @@
-ghost use Rattle.std.specs.Prelude.{◌≡◌, ◌+◌, ◌-◌, ◌*◌, ◌^◌, ◌<◌, ◌≤◌, ℕ, All, IfOk, length, unsigned_abs, min, ℤ, pos, ◌-ℤ◌, slice_index_or};
+ghost use Rattle.std.specs.Prelude.{◌≡◌, ◌+◌, ◌-◌, ◌*◌, ◌^◌, ◌<◌, ◌≤◌, ℕ, All, IfOk, IsTrue, length, unsigned_abs, min, ℤ, pos, ◌-ℤ◌, slice_index_or};
 ghost use Rattle.vc_types.specs.Lifting.{line_of};
 ghost use Rattle.vc_types.specs.Rasters.{cell_at, sample_at};
 ghost use Rattle.vc_types.specs.Subbands.{plane_width, plane_height, plane_depth, padded_width, padded_height};
-ghost use Rattle.vc_types.specs.TransformParameters.{parameters_of};
+ghost use Rattle.vc_types.specs.TransformParameters.{is_symmetric, parameters_of};
 ghost use Rattle.vc_types.specs.Transforms.{forward_transform};
 ghost use Rattle.vc_wave.specs.Samples.{padded_sample};
 
 use crate::level::{BLOCK, part_levels};
+use crate::sides::lowest;
 use std::alloc::Global;
 use vc_geometry::padded;
 use vc_types::{Component, Grid, NoMemory, Plan, Plane};
 
-/// The coefficients of a component's plane, in the padded size: its last column and row are repeated, half of the
-/// samples' range is taken away, and the forward transform is applied. It fails only where memory runs out.
+/// The coefficients of a component's plane, in the padded size, by a symmetric transform: the plane's last column and
+/// row are repeated, half of the samples' range is taken away, and the forward transform is applied. It fails only where
+/// memory runs out.
 pub fn forward(alloc: Global, plan: &Plan, c: Component, plane: &Plane) -> Result<Grid, NoMemory>
+    requires symmetric { IsTrue (is_symmetric (parameters_of plan.now)) }
     requires width { plane.now.width ≡ plane_width plan.now.shape c }
     requires height { plane.now.height ≡ plane_height plan.now.shape c }
     requires samples { All (λ s. s < 2 ^ plane_depth plan.now.shape c) plane.now.samples }
@@ -28,7 +31,8 @@ pub fn forward(alloc: Global, plan: &Plan, c: Component, plane: &Plane) -> Resul
     let mut cells = vec![in alloc; 0i128; rows * columns]?;
     let sheet: &mut [i128] = &mut cells;
     fill(sheet, columns, rows, plane, sample_depth(plan, c));
-    part_levels(plan.wavelet, plan.depth, sheet, columns, rows, &mut scratch);
+    let (w, h) = lowest(plan, c);
+    part_levels(plan.wavelet, plan.depth, sheet, columns, w, h, &mut scratch);
     Ok(Grid::new(width, height, cells))
 }
 

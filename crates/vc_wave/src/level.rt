@@ -1,34 +1,30 @@
-ghost use Rattle.std.specs.Prelude.{◌≡◌, ◌+◌, ◌*◌, ◌/◌, ◌^◌, ◌<◌, ◌≤◌, length, unsigned_abs, All, false};
-ghost use Rattle.vc_types.specs.Transforms.{on_columns, on_rows, inverse_levels, forward_levels};
+ghost use Rattle.std.specs.Prelude.{◌≡◌, ◌+◌, ◌-◌, ◌*◌, ◌^◌, ◌<◌, ◌≤◌, length, unsigned_abs, All, false};
+ghost use Rattle.vc_types.specs.Transforms.{on_columns, on_rows, inverse_level, forward_level, levels_across, inverse_levels, forward_levels};
 ghost use Rattle.vc_types.specs.Wavelets.{is_shifted};
-ghost use Rattle.vc_types.proofs.TransformLaws.{AreBelow};
-ghost use Rattle.vc_wave.specs.Made.{made, level_made};
-ghost use Rattle.vc_wave.specs.Places.{plane_of};
+ghost use Rattle.vc_wave.specs.Planes.{AreBelow, HasRoom, plane_of};
+ghost use Rattle.vc_wave.specs.Remade.{remade};
 
-use crate::direction::Direction;
 use crate::lines::{Lines, remake};
-use crate::shift::is_shifted;
+use crate::pass::{Direction, Pass, over_columns, over_rows};
+use crate::sides::side_at;
 
 /// So many columns are worked on side by side: whole cache lines of a row are read, and tall columns still fit the cache.
 pub(crate) const BLOCK: usize = 32;
 
 // Puts the first columns together, or takes them apart.
 fn remake_columns(
-    direction: Direction,
-    wavelet: u8,
+    pass: Pass,
     cells: &mut [i128],
     stride: usize,
     columns: usize,
     half: usize,
     scratch: &mut [i128],
 )
-    requires wavelet { wavelet ≤ 6 }
-    requires columns { columns ≤ stride }
+    requires wavelet { pass.wavelet ≤ 6 }
     requires some { 0 < half }
-    requires scratch { 2 * half * BLOCK ≤ length scratch.old }
-    requires cells { 2 * half * stride ≤ length cells.old }
+    requires room { HasRoom columns (2 * half) stride (length cells.old) BLOCK (length scratch.old) }
     requires small { AreBelow (2 ^ 107) (plane_of stride cells.old) }
-    ensures { plane_of stride cells.new ≡ on_columns (made direction wavelet false half) columns (plane_of stride cells.old) }
+    ensures { plane_of stride cells.new ≡ on_columns (remade pass.direction pass.wavelet pass.shifted half) columns (plane_of stride cells.old) }
 {
     let mut start = 0;
     while start < columns {
@@ -40,30 +36,26 @@ fn remake_columns(
             half,
         };
         let block = &mut scratch[..2 * half * width];
-        remake(direction, wavelet, cells, &lines, false, block);
+        remake(pass, cells, &lines, block);
         start += width;
     }
 }
 
-// Puts the first rows together, or takes them apart; their samples are shifted if the wavelet wants that.
+// Puts the first rows together, or takes them apart.
 fn remake_rows(
-    direction: Direction,
-    wavelet: u8,
+    pass: Pass,
     cells: &mut [i128],
     stride: usize,
     rows: usize,
     half: usize,
     scratch: &mut [i128],
 )
-    requires wavelet { wavelet ≤ 6 }
-    requires half { 2 * half ≤ stride }
+    requires wavelet { pass.wavelet ≤ 6 }
     requires some { 0 < half }
-    requires scratch { 2 * half ≤ length scratch.old }
-    requires cells { rows * stride ≤ length cells.old }
+    requires room { HasRoom (2 * half) rows stride (length cells.old) BLOCK (length scratch.old) }
     requires small { AreBelow (2 ^ 107) (plane_of stride cells.old) }
-    ensures { plane_of stride cells.new ≡ on_rows (made direction wavelet (is_shifted wavelet) half) rows (plane_of stride cells.old) }
+    ensures { plane_of stride cells.new ≡ on_rows (remade pass.direction pass.wavelet pass.shifted half) rows (plane_of stride cells.old) }
 {
-    let shifted = is_shifted(wavelet);
     for y in 0..rows {
         let lines = Lines {
             start: y * stride,
@@ -71,15 +63,41 @@ fn remake_rows(
             width: 1,
             half,
         };
-        let line = &mut scratch[..2 * half];
-        remake(direction, wavelet, cells, &lines, shifted, line);
+        remake(pass, cells, &lines, &mut scratch[..2 * half]);
     }
 }
 
-// One level, whose subbands have w columns and h rows: the inverse transform goes over columns and then rows, the
-// forward transform over rows and then columns.
-fn remake_level(
-    direction: Direction,
+/// The wavelets that columns and rows are synthesised with.
+#[derive(Clone, Copy)]
+pub(crate) struct Wavelets {
+    pub down: u8,
+    pub across: u8,
+}
+
+// The inverse of one level both ways, whose subbands have w columns and h rows: it goes over columns and then rows.
+fn merge_level(
+    wavelets: Wavelets,
+    cells: &mut [i128],
+    stride: usize,
+    w: usize,
+    h: usize,
+    scratch: &mut [i128],
+)
+    requires down { wavelets.down ≤ 6 }
+    requires across { wavelets.across ≤ 6 }
+    requires some { (0 < w) × (0 < h) }
+    requires room { HasRoom (2 * w) (2 * h) stride (length cells.old) BLOCK (length scratch.old) }
+    requires small { AreBelow (2 ^ 100) (plane_of stride cells.old) }
+    ensures { plane_of stride cells.new ≡ inverse_level wavelets.down wavelets.across w h (plane_of stride cells.old) }
+{
+    let down = over_columns(Direction::Synthesis, wavelets.down);
+    remake_columns(down, cells, stride, 2 * w, h, scratch);
+    let across = over_rows(Direction::Synthesis, wavelets.across);
+    remake_rows(across, cells, stride, 2 * h, w, scratch);
+}
+
+// One level of the forward transform, whose subbands have w columns and h rows: it goes over rows and then columns.
+fn part_level(
     wavelet: u8,
     cells: &mut [i128],
     stride: usize,
@@ -88,72 +106,85 @@ fn remake_level(
     scratch: &mut [i128],
 )
     requires wavelet { wavelet ≤ 6 }
-    requires w { (0 < w) × (2 * w ≤ stride) }
-    requires h { 0 < h }
-    requires scratch { (2 * w ≤ length scratch.old) × (2 * h * BLOCK ≤ length scratch.old) }
-    requires cells { 2 * h * stride ≤ length cells.old }
+    requires some { (0 < w) × (0 < h) }
+    requires room { HasRoom (2 * w) (2 * h) stride (length cells.old) BLOCK (length scratch.old) }
     requires small { AreBelow (2 ^ 100) (plane_of stride cells.old) }
-    ensures { plane_of stride cells.new ≡ level_made direction wavelet w h (plane_of stride cells.old) }
+    ensures { plane_of stride cells.new ≡ forward_level wavelet w h (plane_of stride cells.old) }
 {
-    match direction {
-        Direction::Synthesis => {
-            remake_columns(direction, wavelet, cells, stride, 2 * w, h, scratch);
-            remake_rows(direction, wavelet, cells, stride, 2 * h, w, scratch);
-        }
-        Direction::Analysis => {
-            remake_rows(direction, wavelet, cells, stride, 2 * h, w, scratch);
-            remake_columns(direction, wavelet, cells, stride, 2 * w, h, scratch);
-        }
-    }
+    let rows = over_rows(Direction::Analysis, wavelet);
+    remake_rows(rows, cells, stride, 2 * h, w, scratch);
+    let columns = over_columns(Direction::Analysis, wavelet);
+    remake_columns(columns, cells, stride, 2 * w, h, scratch);
 }
 
-/// The inverse transform of so many levels, from the lowest on, of a grid of this width and height.
-pub(crate) fn merge_levels(
+/// The inverse of so many levels across alone, the lowest of which has subbands of w columns and h rows.
+pub(crate) fn merge_across(
     wavelet: u8,
-    depth: u8,
+    levels: u8,
     cells: &mut [i128],
-    width: usize,
-    height: usize,
+    stride: usize,
+    w: usize,
+    h: usize,
     scratch: &mut [i128],
 )
     requires wavelet { wavelet ≤ 6 }
-    requires depth { depth ≤ 5 }
-    requires some { (0 < width / 2 ^ depth) × (0 < height / 2 ^ depth) }
-    requires scratch { (width ≤ length scratch.old) × (height * BLOCK ≤ length scratch.old) }
-    requires cells { height * width ≤ length cells.old }
-    requires small { AreBelow (2 ^ 60) (plane_of width cells.old) }
-    ensures { plane_of width cells.new ≡ inverse_levels wavelet depth (width / 2 ^ depth) (height / 2 ^ depth) (plane_of width cells.old) }
+    requires levels { levels ≤ 5 }
+    requires some { 0 < w }
+    requires room { HasRoom (w * 2 ^ levels) h stride (length cells.old) BLOCK (length scratch.old) }
+    requires small { AreBelow (2 ^ 60) (plane_of stride cells.old) }
+    ensures { plane_of stride cells.new ≡ levels_across wavelet levels w h (plane_of stride cells.old) }
 {
-    let (mut w, mut h) = (width >> depth, height >> depth);
-    for _level in 0..depth {
-        remake_level(Direction::Synthesis, wavelet, cells, width, w, h, scratch);
-        w *= 2;
-        h *= 2;
+    let across = over_rows(Direction::Synthesis, wavelet);
+    for level in 0..levels {
+        let half = side_at(w, level);
+        remake_rows(across, cells, stride, h, half, scratch);
     }
 }
 
-/// The forward transform of so many levels, from the highest on, of a grid of this width and height.
+/// The inverse of so many levels both ways, the lowest of which has subbands of w columns and h rows.
+pub(crate) fn merge_levels(
+    wavelets: Wavelets,
+    levels: u8,
+    cells: &mut [i128],
+    stride: usize,
+    w: usize,
+    h: usize,
+    scratch: &mut [i128],
+)
+    requires down { wavelets.down ≤ 6 }
+    requires across { wavelets.across ≤ 6 }
+    requires levels { levels ≤ 5 }
+    requires some { (0 < w) × (0 < h) }
+    requires room { HasRoom (w * 2 ^ levels) (h * 2 ^ levels) stride (length cells.old) BLOCK (length scratch.old) }
+    requires small { AreBelow (2 ^ (100 - 8 * levels)) (plane_of stride cells.old) }
+    ensures { plane_of stride cells.new ≡ inverse_levels wavelets.down wavelets.across levels w h (plane_of stride cells.old) }
+{
+    for level in 0..levels {
+        let (columns, rows) = (side_at(w, level), side_at(h, level));
+        merge_level(wavelets, cells, stride, columns, rows, scratch);
+    }
+}
+
+/// So many levels of the forward transform, the lowest of which has subbands of w columns and h rows.
 pub(crate) fn part_levels(
     wavelet: u8,
-    depth: u8,
+    levels: u8,
     cells: &mut [i128],
-    width: usize,
-    height: usize,
+    stride: usize,
+    w: usize,
+    h: usize,
     scratch: &mut [i128],
 )
     requires wavelet { wavelet ≤ 6 }
-    requires depth { depth ≤ 5 }
-    requires some { (0 < width / 2 ^ depth) × (0 < height / 2 ^ depth) }
-    requires whole { (width / 2 ^ depth * 2 ^ depth ≡ width) × (height / 2 ^ depth * 2 ^ depth ≡ height) }
-    requires scratch { (width ≤ length scratch.old) × (height * BLOCK ≤ length scratch.old) }
-    requires cells { height * width ≤ length cells.old }
-    requires small { AreBelow (2 ^ 16) (plane_of width cells.old) }
-    ensures { plane_of width cells.new ≡ forward_levels wavelet depth (width / 2 ^ depth) (height / 2 ^ depth) (plane_of width cells.old) }
+    requires levels { levels ≤ 5 }
+    requires some { (0 < w) × (0 < h) }
+    requires room { HasRoom (w * 2 ^ levels) (h * 2 ^ levels) stride (length cells.old) BLOCK (length scratch.old) }
+    requires small { AreBelow (2 ^ 16) (plane_of stride cells.old) }
+    ensures { plane_of stride cells.new ≡ forward_levels wavelet levels w h (plane_of stride cells.old) }
 {
-    let (mut w, mut h) = (width, height);
-    for _level in 0..depth {
-        w /= 2;
-        h /= 2;
-        remake_level(Direction::Analysis, wavelet, cells, width, w, h, scratch);
+    for level in 0..levels {
+        let left = levels - 1 - level;
+        let (columns, rows) = (side_at(w, left), side_at(h, left));
+        part_level(wavelet, cells, stride, columns, rows, scratch);
     }
 }

@@ -3,11 +3,12 @@
 #![tactic(auto)]
 
 mod analysis;
-mod direction;
 mod laws;
 mod level;
 mod lines;
+mod pass;
 mod shift;
+mod sides;
 mod synthesis;
 #[cfg(test)]
 mod tests;

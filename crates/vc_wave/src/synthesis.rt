@@ -1,10 +1,12 @@
-ghost use Rattle.std.specs.Prelude.{◌≡◌, ◌^◌, ◌<◌, All, IfOk, unsigned_abs};
+ghost use Rattle.std.specs.Prelude.{◌≡◌, ◌^◌, ◌<◌, All, IfOk, length, unsigned_abs};
 ghost use Rattle.vc_types.specs.Rasters.{cell_at};
 ghost use Rattle.vc_types.specs.Subbands.{padded_width, padded_height};
 ghost use Rattle.vc_types.specs.TransformParameters.{parameters_of};
 ghost use Rattle.vc_types.specs.Transforms.{inverse_transform};
+ghost use Rattle.vc_wave.specs.Planes.{AreBelow, HasRoom, plane_of};
 
-use crate::level::{BLOCK, merge_levels};
+use crate::level::{BLOCK, Wavelets, merge_across, merge_levels};
+use crate::sides::{lowest, side_at};
 use std::alloc::Global;
 use vc_geometry::padded;
 use vc_types::{Component, Grid, NoMemory, Plan};
@@ -24,13 +26,23 @@ pub fn inverse(alloc: Global, plan: &Plan, c: Component, coeffs: Grid) -> Result
     let (columns, rows) = (width as usize, height as usize);
     let mut scratch = vec![in alloc; 0i128; columns.max(rows * BLOCK)]?;
     let mut cells = coeffs.into_cells();
-    merge_levels(
-        plan.wavelet,
-        plan.depth,
-        &mut cells,
-        columns,
-        rows,
-        &mut scratch,
-    );
+    merge(plan, c, &mut cells, columns, &mut scratch);
     Ok(Grid::new(width, height, cells))
+}
+
+// The inverse transform of a component's cells, which are kept row by row.
+fn merge(plan: &Plan, c: Component, cells: &mut [i128], stride: usize, scratch: &mut [i128])
+    requires room { HasRoom (padded_width (parameters_of plan.now) c) (padded_height (parameters_of plan.now) c) stride (length cells.old) BLOCK (length scratch.old) }
+    requires small { AreBelow (2 ^ 60) (plane_of stride cells.old) }
+    ensures value { plane_of stride cells.new ≡ inverse_transform (parameters_of plan.now) c (plane_of stride cells.old) }
+    ensures small { AreBelow (2 ^ 100) (plane_of stride cells.new) }
+{
+    let (w, h) = lowest(plan, c);
+    let wavelets = Wavelets {
+        down: plan.wavelet,
+        across: plan.wavelet_ho,
+    };
+    merge_across(wavelets.across, plan.depth_ho, cells, stride, w, h, scratch);
+    let w = side_at(w, plan.depth_ho);
+    merge_levels(wavelets, plan.depth, cells, stride, w, h, scratch);
 }

@@ -3,8 +3,8 @@ use Rattle.std.specs.Int.{w128}
 use Rattle.std.proofs.lemmas.Bool.{cases_eq}
 use Rattle.std.proofs.lemmas.Int.{to_z-of_z}
 use Rattle.vc_types.specs.Lifting.{line_of, changed_by}
-use Rattle.vc_types.proofs.CountedSteps.{change_at}
-use Rattle.vc_types.proofs.LineGrowth.{IsWithin}
+use Rattle.vc_lift.specs.CountedSteps.{change_at}
+use Rattle.vc_lift.specs.Growth.{IsWithin}
 use Rattle.vc_lift.specs.Columns.{column_of, one_changed}
 use Rattle.vc_lift.specs.Steps.{counted_of}
 use Rattle.vc_lift.proofs.Places.{place_below, column_of-set_same, column_of-set_other, one_written}

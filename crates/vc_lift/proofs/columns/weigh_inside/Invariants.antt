@@ -1,7 +1,6 @@
 use Rattle.std.proofs.Common.{◌≡◌, ◌*◌, ◌^◌, ◌≤◌, take, unsigned_abs, pos, ◌*ℤ◌, slice_index_or}
 use Rattle.std.specs.List.{sum_by}
-use Rattle.vc_types.proofs.CountedSteps.{place_met}
-use Rattle.vc_types.proofs.WeightedSums.{sum_below}
+use Rattle.vc_lift.specs.CountedSteps.{place_met, sum_below}
 use Rattle.vc_lift.specs.Columns.{column_of}
 use Rattle.vc_lift.specs.Steps.{counted_of}
 use Rattle.vc_lift.proofs.columns.weigh_inside.Given as goal

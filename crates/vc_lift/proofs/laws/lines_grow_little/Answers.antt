@@ -1,4 +1,4 @@
-use Rattle.vc_types.proofs.LineLaws.{synthesis_grows_little, analysis_grows_little}
+use Rattle.vc_lift.proofs.LineLaws.{synthesis_grows_little, analysis_grows_little}
 use Rattle.vc_lift.proofs.laws.lines_grow_little.Goals as goal
 
 pub returns-clause-synthesis : goal.returns-clause-synthesis

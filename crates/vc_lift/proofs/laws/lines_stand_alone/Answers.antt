@@ -1,4 +1,4 @@
-use Rattle.vc_types.proofs.LineLaws.{synthesis_is_local, analysis_is_local}
+use Rattle.vc_lift.proofs.LineLaws.{synthesis_is_local, analysis_is_local}
 use Rattle.vc_lift.proofs.laws.lines_stand_alone.Goals as goal
 
 pub returns-clause-synthesis : goal.returns-clause-synthesis

@@ -1,57 +1,53 @@
-use Rattle.std.proofs.Common.{◌≡◌, ◌+◌, ◌*◌, ◌/◌, ◌^◌, ◌<◌, All, length, drop, arith, ap, sym, subst, ◌∙◌}
-use Rattle.vc_types.specs.Limits.{padded}
-use Rattle.vc_types.specs.Subbands.{plane_width, plane_height}
+use Rattle.std.proofs.Common.{◌≡◌, ◌*◌, ◌^◌, ◌<◌, All, length, drop, arith, refl, ap, sym, subst, ◌∙◌}
+use Rattle.vc_types.specs.Subbands.{padded_width, padded_height}
 use Rattle.vc_types.specs.TransformParameters.{parameters_of}
-use Rattle.vc_types.specs.Transforms.{Cells}
-use Rattle.vc_types.proofs.TransformLaws.{AreBelow}
-use Rattle.vc_wave.specs.Places.{plane_of}
+use Rattle.vc_wave.specs.declared.level.TheConstants.{BLOCK}
+use Rattle.vc_wave.specs.Planes.{AreBelow, HasRoom, plane_of}
 use Rattle.vc_wave.proofs.Fills.{forward_made, filled_below}
-use Rattle.vc_wave.proofs.Grids.{lattice, lattice_below, written_over, padded_some, padded_whole}
-use Rattle.vc_wave.proofs.Levels.{all_forward_below}
+use Rattle.vc_wave.proofs.Grids.{lattice, lattice_below, written_over}
+use Rattle.vc_wave.proofs.Levels.{whole_room}
+use Rattle.vc_wave.proofs.PlaneGrowth.{forward_below}
+use Rattle.vc_wave.proofs.TransformLaws.{same_side, no_levels}
 use Rattle.vc_wave.proofs.analysis.forward.Goals as goal
 
-pub part_levels-requires-clause-some : goal.part_levels-requires-clause-some
-part_levels-requires-clause-some c =
-    let depth = c.args.plan.now.depth in
-    let none : depth + c.args.plan.now.depth_ho ≡ depth = omega (arith, c.args.plan.now.no_levels_across) in
-    let across = c.padded-width.ensures.width ∙ ap (padded (plane_width c.args.plan.now.shape c.args.c)) none in
-    let down = c.padded-width.ensures.height in
-    let w = padded_some (plane_width c.args.plan.now.shape c.args.c) depth (omega (arith, across)) in
-    let h = padded_some (plane_height c.args.plan.now.shape c.args.c) depth (omega (arith, down)) in
-    (subst (λ n. 0 < n / 2 ^ depth) (sym across) w, subst (λ n. 0 < n / 2 ^ depth) (sym down) h)
+pub part_levels-requires-clause-room : goal.part_levels-requires-clause-room
+part_levels-requires-clause-room c =
+    let p = parameters_of c.args.plan.now in
+    let w = c.lowest-w.result.0 in
+    let whole : length c.fill.new.cells ≡ c.padded-width.result.1 * c.padded-width.result.0 = omega (arith, c.in_ok-cells.ensures.len) in
+    let room : HasRoom (padded_width p c.args.c) (padded_height p c.args.c) c.padded-width.result.0 (length c.fill.new.cells) BLOCK (length c.deref_mut.result.now) = record {
+      across = omega (arith, c.padded-width.ensures.width);
+      down = (let rows = ap (λ n. n * c.padded-width.result.0) c.padded-width.ensures.height in omega (arith, whole, rows));
+      row = omega (arith, c.padded-width.ensures.width, c.in_ok-scratch.ensures.len);
+      side_by_side = (let rows = ap (λ n. n * BLOCK) c.padded-width.ensures.height in omega (arith, rows, c.in_ok-scratch.ensures.len));
+    } in
+    whole_room p c.args.c w w c.lowest-w.result.1 c.padded-width.result.0 _ _ _ _ _ c.lowest-w.ensures.width (sym (same_side w p.depth_ho (no_levels p c.requires.symmetric))) c.lowest-w.ensures.height refl refl room
 
-pub part_levels-requires-clause-whole : goal.part_levels-requires-clause-whole
-part_levels-requires-clause-whole c =
-    let depth = c.args.plan.now.depth in
-    let none : depth + c.args.plan.now.depth_ho ≡ depth = omega (arith, c.args.plan.now.no_levels_across) in
-    let across = c.padded-width.ensures.width ∙ ap (padded (plane_width c.args.plan.now.shape c.args.c)) none in
-    let w = padded_whole (plane_width c.args.plan.now.shape c.args.c) depth in
-    let h = padded_whole (plane_height c.args.plan.now.shape c.args.c) depth in
-    (subst (λ n. n / 2 ^ depth * 2 ^ depth ≡ n) (sym across) w, subst (λ n. n / 2 ^ depth * 2 ^ depth ≡ n) (sym c.padded-width.ensures.height) h)
-
-pub part_levels-requires-clause-small : goal.part_levels-requires-clause-small
-part_levels-requires-clause-small c =
+filled : (c : goal.After-deref_mut) → AreBelow (2 ^ 16) (plane_of c.padded-width.result.0 c.fill.new.cells)
+filled c =
     let whole : length c.fill.new.cells ≡ c.padded-width.result.1 * c.padded-width.result.0 = omega (arith, c.in_ok-cells.ensures.len) in
     filled_below c.args.plane.now c.padded-width.result.0 c.padded-width.result.1 c.sample_depth.result c.fill.new.cells c.fill.ensures whole c.sample_depth.ensures.range.0 c.sample_depth.ensures.range.1 (subst (λ n. All (λ s. s < 2 ^ n) c.args.plane.now.samples) (sym c.sample_depth.ensures.value) c.requires.samples)
+
+pub part_levels-requires-clause-small : goal.part_levels-requires-clause-small
+part_levels-requires-clause-small c = filled c
+
+made_is : (c : goal.After-drop-scratch-2) → c.new.result ≡ lattice c.padded-width.result.0 c.padded-width.result.1 c.part_levels.new.cells
+made_is c =
+    let len : c.in_ok-cells.cells.len ≡ length c.part_levels.new.cells = omega arith in
+    c.new.ensures ∙ ap (lattice c.padded-width.result.0 c.padded-width.result.1) (written_over c.in_ok-cells.cells.len c.part_levels.new.cells (drop (length c.part_levels.new.cells) c.in_ok-cells.cells.items) len)
 
 pub returns-clause-value : goal.returns-clause-value
 returns-clause-value c =
     let width = c.padded-width.result.0 in
     let height = c.padded-width.result.1 in
     let whole : length c.fill.new.cells ≡ height * width = omega (arith, c.in_ok-cells.ensures.len) in
-    let kept : length c.part_levels.new.cells ≡ length c.fill.new.cells = omega arith in
-    let len : c.in_ok-cells.cells.len ≡ length c.part_levels.new.cells = omega arith in
     forward_made (parameters_of c.args.plan.now) c.args.c c.args.plane.now c.new.result width height c.sample_depth.result c.fill.new.cells c.part_levels.new.cells
-    c.padded-width.ensures.width c.padded-width.ensures.height c.requires.width c.requires.height c.sample_depth.ensures.value c.fill.ensures whole kept
-    (c.new.ensures ∙ ap (lattice width height) (written_over c.in_ok-cells.cells.len c.part_levels.new.cells (drop (length c.part_levels.new.cells) c.in_ok-cells.cells.items) len)) c.part_levels.ensures
+    c.padded-width.ensures.width c.padded-width.ensures.height c.requires.width c.requires.height c.sample_depth.ensures.value c.fill.ensures whole c.part_levels.auto.cells (made_is c)
+    c.lowest-w.result.0 c.lowest-w.result.1 c.lowest-w.ensures.width c.lowest-w.ensures.height c.part_levels.ensures
 
 pub returns-clause-small : goal.returns-clause-small
 returns-clause-small c =
-    let width = c.padded-width.result.0 in
-    let height = c.padded-width.result.1 in
-    let depth = c.args.plan.now.depth in
-    let whole : length c.fill.new.cells ≡ height * width = omega (arith, c.in_ok-cells.ensures.len) in
-    let len : c.in_ok-cells.cells.len ≡ length c.part_levels.new.cells = omega arith in
-    let small = filled_below c.args.plane.now c.padded-width.result.0 c.padded-width.result.1 c.sample_depth.result c.fill.new.cells c.fill.ensures whole c.sample_depth.ensures.range.0 c.sample_depth.ensures.range.1 (subst (λ n. All (λ s. s < 2 ^ n) c.args.plane.now.samples) (sym c.sample_depth.ensures.value) c.requires.samples) in
-    let levels = all_forward_below c.args.plan.now.wavelet depth (width / 2 ^ depth) (height / 2 ^ depth) (plane_of width c.fill.new.cells) (omega arith) small in
-    lattice_below (2 ^ 60) width height c.new.result c.part_levels.new.cells (omega arith) (c.new.ensures ∙ ap (lattice width height) (written_over c.in_ok-cells.cells.len c.part_levels.new.cells (drop (length c.part_levels.new.cells) c.in_ok-cells.cells.items) len)) (subst (λ (p : Cells). AreBelow (2 ^ 60) p) (sym c.part_levels.ensures) levels)
+    let first = plane_of c.padded-width.result.0 c.fill.new.cells in
+    let last = plane_of c.padded-width.result.0 c.part_levels.new.cells in
+    lattice_below (2 ^ 60) c.padded-width.result.0 c.padded-width.result.1 c.new.result c.part_levels.new.cells (omega arith) (made_is c)
+    (forward_below c.args.plan.now.wavelet c.args.plan.now.depth c.lowest-w.result.0 c.lowest-w.result.1 first last (omega arith) c.part_levels.ensures (filled c.before.before.before.before.before))

@@ -1,23 +1,23 @@
-use Rattle.std.proofs.Common.{◌+◌, ◌*◌, ◌^◌, ◌<◌, ℕ, ℤ, unsigned_abs, arith, sym, subst, false}
-use Rattle.vc_wave.specs.Made.{made}
-use Rattle.vc_wave.specs.Places.{plane_of}
-use Rattle.vc_wave.proofs.MadeLines.{made_past}
+use Rattle.std.proofs.Common.{◌+◌, ◌*◌, ◌^◌, ◌<◌, ℕ, ℤ, unsigned_abs, arith, sym, subst}
+use Rattle.vc_wave.specs.Remade.{remade}
+use Rattle.vc_wave.specs.Planes.{plane_of}
+use Rattle.vc_wave.proofs.Weaving.{remade_past}
 use Rattle.vc_wave.proofs.PlaneSteps.{columns_none, column_left, columns_more}
 use Rattle.vc_wave.proofs.level.remake_columns.Goals as goal
 
 pub loop-start-init : goal.loop-start-init
-loop-start-init c = record { done = columns_none (made c.args.direction c.args.wavelet false c.args.half) (plane_of c.args.stride c.args.cells.now); within = omega arith }
+loop-start-init c = record { done = columns_none (remade c.args.pass.direction c.args.pass.wavelet c.args.pass.shifted c.args.half) (plane_of c.args.stride c.args.cells.now); within = omega arith }
 
 pub remake-requires-clause-small : goal.remake-requires-clause-small
 remake-requires-clause-small c = λ x k h lt.
-    let left = column_left (made c.args.direction c.args.wavelet false c.args.half) c.args.stride c.loop-start.start c.min-width.result (2 * c.args.half) (plane_of c.args.stride c.args.cells.now) c.loop-start.cells (omega arith) c.loop-start.invariant.done x h in
+    let left = column_left (remade c.args.pass.direction c.args.pass.wavelet c.args.pass.shifted c.args.half) c.args.stride c.loop-start.start c.min-width.result (2 * c.args.half) (plane_of c.args.stride c.args.cells.now) c.loop-start.cells (omega arith) c.loop-start.invariant.done x h in
     subst (λ (l : ℕ → ℤ). unsigned_abs (l k) < 2 ^ 107) (sym left) (c.requires.small (c.loop-start.start + x) k)
 
 pub loop-start-preserved : goal.loop-start-preserved
 loop-start-preserved c =
-    let f = made c.args.direction c.args.wavelet false c.args.half in
+    let f = remade c.args.pass.direction c.args.pass.wavelet c.args.pass.shifted c.args.half in
     record {
-      done = columns_more f c.args.stride c.loop-start.start c.min-width.result (2 * c.args.half) (plane_of c.args.stride c.args.cells.now) c.loop-start.cells (omega arith) c.loop-start.invariant.done c.remake.new.cells (made_past c.args.direction c.args.wavelet false c.args.half)
+      done = columns_more f c.args.stride c.loop-start.start c.min-width.result (2 * c.args.half) (plane_of c.args.stride c.args.cells.now) c.loop-start.cells (omega arith) c.loop-start.invariant.done c.remake.new.cells (remade_past c.args.pass.direction c.args.pass.wavelet c.args.pass.shifted c.args.half)
           c.remake.ensures.on
           c.remake.ensures.off;
       within = omega arith;

@@ -1,9 +1,8 @@
 use Rattle.std.proofs.Common.{◌≡◌}
 use Rattle.vc_types.specs.Transforms.{on_rows}
-use Rattle.vc_types.specs.Wavelets.{is_shifted}
-use Rattle.vc_wave.specs.Made.{made}
-use Rattle.vc_wave.specs.Places.{plane_of}
+use Rattle.vc_wave.specs.Remade.{remade}
+use Rattle.vc_wave.specs.Planes.{plane_of}
 use Rattle.vc_wave.proofs.level.remake_rows.Given as goal
 
 abbrev pub invariant-loop-y : goal.invariant-loop-y
-invariant-loop-y l = plane_of l.stride l.cells ≡ on_rows (made l.direction l.wavelet (is_shifted l.wavelet) l.half) l.y (plane_of l.stride l.initial.cells)
+invariant-loop-y l = plane_of l.stride l.cells ≡ on_rows (remade l.pass.direction l.pass.wavelet l.pass.shifted l.half) l.y (plane_of l.stride l.initial.cells)

@@ -3,11 +3,7 @@ use Rattle.std.proofs.Common.{◌≡◌, ℕ, zero, suc, ◌+◌, ◌*◌, ◌�
 use Rattle.std.proofs.lemmas.Int.{ints, unsigned_abs-mul}
 use Rattle.std.proofs.Math.Nat.{mul-le-mul}
 use Rattle.std.proofs.Math.Numerals.{add-one}
-
--- f 0 + f 1 + .. + f (n - 1)
-unfoldable pub sum_below : ℕ → (ℕ → ℤ) → ℤ
-sum_below zero f = pos 0
-sum_below (suc n) f = sum_below n f +ℤ f n
+use Rattle.vc_lift.specs.CountedSteps.{sum_below}
 
 pub sum_below_none : (f : ℕ → ℤ) → sum_below 0 f ≡ pos 0
 unfolding sum_below

@@ -13,34 +13,10 @@ use Rattle.std.proofs.Math.Pow.{pow_pos}
 use Rattle.std.proofs.Math.Seq.{take-nil}
 use Rattle.vc_types.specs.Lifting.{half_of, changed_by}
 use Rattle.vc_types.specs.Wavelets.{synthesis_steps}
-use Rattle.vc_types.proofs.CountedSteps.{CountedStep, place_met, sum_met, change_at, lift, lift_all, undone, counted_steps}
-use Rattle.vc_types.proofs.WeightedSums.{sum_below, abs-add}
-
--- the samples of a parity have magnitudes of at most m
-pub record IsWithin (x : ℕ → ℤ) (half parity m : ℕ) : Type 0 where
-  pub within : (n : ℕ) → n < half → unsigned_abs (x (2 * n + parity)) ≤ m
-
--- the taps' magnitudes in sum
-abbrev pub weight : CountedStep → ℕ
-weight s = sum_by unsigned_abs s.taps
-
--- Bounds on the even and on the odd samples, in 4096ths of a magnitude of at least 2 ^ 16, after a step
-abbrev pub raised : CountedStep → ℕ → ℕ → ℕ
-raised s own other = own + weight s * other / 2 ^ s.shift + 2
-
--- the form of step that the code can take
-abbrev pub is_plain : CountedStep → Bool
-is_plain s = nat_lt s.parity 2 && nat_le (length s.taps) 8 && nat_lt (weight s) (2 ^ 14) && nat_le s.shift 12
-
--- from such bounds, no step takes any sample past most times that magnitude, and each step is plain
-abbrev pub stays_little : ℕ → List CountedStep → ℕ → ℕ → Bool
-stays_little most [] even odd = nat_le even (4096 * most) && nat_le odd (4096 * most)
-stays_little most (s ∷ steps) even odd =
-    (nat_le even (4096 * most) && nat_le odd (4096 * most)) &&
-    (is_plain s && stays_little most steps (if s.parity == 0 then raised s even odd else even) (if s.parity == 0 then odd else raised s odd even))
-
-abbrev pub grows_little : ℕ → List CountedStep → Bool
-grows_little most steps = stays_little most steps 4096 4096
+use Rattle.vc_lift.specs.CountedSteps.{CountedStep, place_met, sum_met, change_at, lift, lift_all, undone, sum_below}
+use Rattle.vc_lift.proofs.CountedSteps.{counted_steps}
+use Rattle.vc_lift.proofs.WeightedSums.{abs-add}
+use Rattle.vc_lift.specs.Growth.{IsWithin, IsLittle, weight, IsPlain, is_plain, raised, stays_little, grows_little}
 
 -- c times the magnitude of each sample of a parity is at most b
 pub record Rises (x : ℕ → ℤ) (half parity c b : ℕ) : Type 0 where
@@ -152,11 +128,6 @@ plain_at most [] e o i d h k = absurd (omega arith)
 plain_at most (s ∷ steps) e o zero d h k = first_of_and _ _ (second_of_and (nat_le e (4096 * most) && nat_le o (4096 * most)) _ h)
 plain_at most (s ∷ steps) e o (suc i) d h k = plain_at most steps _ _ i d (second_of_and (is_plain s) _ (second_of_and (nat_le e (4096 * most) && nat_le o (4096 * most)) _ h)) (omega arith)
 
--- the magnitudes of all samples are at most b
-pub record IsLittle (x : ℕ → ℤ) (half b : ℕ) : Type 0 where
-  pub even : IsWithin x half 0 b
-  pub odd : IsWithin x half 1 b
-
 little : (most : ℕ) (x : ℕ → ℤ) (half p e m : ℕ) → e ≤ 4096 * most → Rises x half p 4096 (e * m) → IsWithin x half p (most * m)
 little most x half p e m h r = record { within = λ n k. (let a = r.rises n k in let b = mul-le-mul_right m h in omega (arith, a, b)) }
 
@@ -197,13 +168,6 @@ little_at most (s ∷ steps) e o half m x (suc i) h some large even odd =
     let rest = second_of_and (nat_le e (4096 * most) && nat_le o (4096 * most)) _ h in
     let n = next s half x e o m (first_of_and _ _ rest) some large even odd in
     little_at most steps _ _ half m (lift s half x) i (second_of_and (is_plain s) _ rest) some large n.0 n.1
-
--- a step of this form, by its parts
-pub record IsPlain (s : CountedStep) : Type 0 where
-  pub parity : s.parity < 2
-  pub few : length s.taps ≤ 8
-  pub light : weight s < 2 ^ 14
-  pub shift : s.shift ≤ 12
 
 pub plain : (s : CountedStep) → is_plain s ≡ true → IsPlain s
 plain s h = record { parity = plain_parity s h; few = plain_few s h; light = plain_light s h; shift = plain_shift s h }

@@ -4,70 +4,64 @@ use Rattle.std.specs.Prelude.{if◌then◌else◌, nat_lt, ◌&&◌}
 use mathlib.Core.Path.{fun_ext}
 use Rattle.std.proofs.lemmas.Bool.{cases_lt}
 use Rattle.std.proofs.lemmas.Bool.Decides.{nat_tests}
+use Rattle.vc_types.specs.Lifting.{Line}
 use Rattle.vc_types.specs.Transforms.{Cells, on_columns, on_rows, on_cells}
-
--- a function of lines
-abbrev pub OfLines : Type 0
-OfLines = (ℕ → ℤ) → ℕ → ℤ
+use Rattle.vc_wave.specs.Remade.{rearranged, on_samples}
 
 -- past n places it leaves a line as it is
-abbrev pub LeavesPast : ℕ → OfLines → Type 0
+abbrev pub LeavesPast : ℕ → (Line → Line) → Type 0
 LeavesPast n f = (l : ℕ → ℤ) (k : ℕ) → n ≤ k → f l k ≡ l k
 
 -- what it makes of the first n places depends on them alone
-abbrev pub ReadsBelow : ℕ → OfLines → Type 0
+abbrev pub ReadsBelow : ℕ → (Line → Line) → Type 0
 ReadsBelow n f = (l m : ℕ → ℤ) → ((k : ℕ) → k < n → l k ≡ m k) → (k : ℕ) → k < n → f l k ≡ f m k
 
 -- ---- at a place
 
-pub column_in : (f : OfLines) (n : ℕ) (g : Cells) (x y : ℕ) → x < n → on_columns f n g x y ≡ f (λ k. g x k) y
+pub column_in : (f : Line → Line) (n : ℕ) (g : Cells) (x y : ℕ) → x < n → on_columns f n g x y ≡ f (λ k. g x k) y
 unfolding on_columns
 column_in f n g x y h = grind (arith, nat_tests)
 
-pub column_out : (f : OfLines) (n : ℕ) (g : Cells) (x y : ℕ) → n ≤ x → on_columns f n g x y ≡ g x y
+pub column_out : (f : Line → Line) (n : ℕ) (g : Cells) (x y : ℕ) → n ≤ x → on_columns f n g x y ≡ g x y
 unfolding on_columns
 column_out f n g x y h = grind (arith, nat_tests)
 
-pub row_in : (f : OfLines) (n : ℕ) (g : Cells) (x y : ℕ) → y < n → on_rows f n g x y ≡ f (λ k. g k y) x
+pub row_in : (f : Line → Line) (n : ℕ) (g : Cells) (x y : ℕ) → y < n → on_rows f n g x y ≡ f (λ k. g k y) x
 unfolding on_rows
 row_in f n g x y h = grind (arith, nat_tests)
 
-pub row_out : (f : OfLines) (n : ℕ) (g : Cells) (x y : ℕ) → n ≤ y → on_rows f n g x y ≡ g x y
+pub row_out : (f : Line → Line) (n : ℕ) (g : Cells) (x y : ℕ) → n ≤ y → on_rows f n g x y ≡ g x y
 unfolding on_rows
 row_out f n g x y h = grind (arith, nat_tests)
 
 -- ---- one after another
 
-columns_after : (f g : OfLines) (c : Cells) (x y : ℕ) (test : Bool) → (if test then f (λ k. if test then g (λ j. c x j) k else c x k) y else (if test then g (λ j. c x j) y else c x y)) ≡ (if test then f (g (λ k. c x k)) y else c x y)
+columns_after : (f g : Line → Line) (c : Cells) (x y : ℕ) (test : Bool) → (if test then f (λ k. if test then g (λ j. c x j) k else c x k) y else (if test then g (λ j. c x j) y else c x y)) ≡ (if test then f (g (λ k. c x k)) y else c x y)
 columns_after f g c x y true = refl
 columns_after f g c x y false = refl
 
-pub on_columns-on_columns : (f g : OfLines) (n : ℕ) (c : Cells) → on_columns f n (on_columns g n c) ≡ on_columns (λ l. f (g l)) n c
+pub on_columns-on_columns : (f g : Line → Line) (n : ℕ) (c : Cells) → on_columns f n (on_columns g n c) ≡ on_columns (λ l. f (g l)) n c
 unfolding on_columns
 on_columns-on_columns f g n c = fun_ext (λ x. fun_ext (λ y. columns_after f g c x y (nat_lt x n)))
 
-pub on_rows-on_rows : (f g : OfLines) (n : ℕ) (c : Cells) → on_rows f n (on_rows g n c) ≡ on_rows (λ l. f (g l)) n c
+pub on_rows-on_rows : (f g : Line → Line) (n : ℕ) (c : Cells) → on_rows f n (on_rows g n c) ≡ on_rows (λ l. f (g l)) n c
 unfolding on_rows
 on_rows-on_rows f g n c = fun_ext (λ x. fun_ext (λ y. columns_after f g (λ u v. c v u) y x (nat_lt y n)))
 
-same_columns : (f : OfLines) (c : Cells) (x y : ℕ) (test : Bool) → ((l : ℕ → ℤ) → f l ≡ l) → (if test then f (λ k. c x k) y else c x y) ≡ c x y
+same_columns : (f : Line → Line) (c : Cells) (x y : ℕ) (test : Bool) → ((l : ℕ → ℤ) → f l ≡ l) → (if test then f (λ k. c x k) y else c x y) ≡ c x y
 same_columns f c x y true same = ap (λ l. l y) (same (λ k. c x k))
 same_columns f c x y false same = refl
 
 -- a function that leaves each line as it is
-pub on_columns-same : (f : OfLines) (n : ℕ) (c : Cells) → ((l : ℕ → ℤ) → f l ≡ l) → on_columns f n c ≡ c
+pub on_columns-same : (f : Line → Line) (n : ℕ) (c : Cells) → ((l : ℕ → ℤ) → f l ≡ l) → on_columns f n c ≡ c
 unfolding on_columns
 on_columns-same f n c same = fun_ext (λ x. fun_ext (λ y. same_columns f c x y (nat_lt x n) same))
 
-pub on_rows-same : (f : OfLines) (n : ℕ) (c : Cells) → ((l : ℕ → ℤ) → f l ≡ l) → on_rows f n c ≡ c
+pub on_rows-same : (f : Line → Line) (n : ℕ) (c : Cells) → ((l : ℕ → ℤ) → f l ≡ l) → on_rows f n c ≡ c
 unfolding on_rows
 on_rows-same f n c same = fun_ext (λ x. fun_ext (λ y. same_columns f (λ u v. c v u) y x (nat_lt y n) same))
 
--- ---- samples of a line moved and changed
-
--- the first n samples are taken from other places
-unfoldable pub rearranged : ℕ → (ℕ → ℕ) → OfLines
-rearranged n source l k = if nat_lt k n then l (source k) else l k
+-- ---- samples of a line moved and on_samples
 
 pub rearranged_in : (n : ℕ) (source : ℕ → ℕ) (l : ℕ → ℤ) (k : ℕ) → k < n → rearranged n source l k ≡ l (source k)
 unfolding rearranged
@@ -84,7 +78,7 @@ StaysBelow n source = (k : ℕ) → k < n → source k < n
 pub rearranged_reads : (n : ℕ) (source : ℕ → ℕ) → StaysBelow n source → ReadsBelow n (rearranged n source)
 rearranged_reads n source stays l m e k h = rearranged_in n source l k h ∙ e (source k) (stays k h) ∙ sym (rearranged_in n source m k h)
 
-module _ (f : OfLines) (m n : ℕ) (source : ℕ → ℕ) (past : LeavesPast m f) (reads : ReadsBelow m f) (stays : StaysBelow n source) (c : Cells) where
+module _ (f : Line → Line) (m n : ℕ) (source : ℕ → ℕ) (past : LeavesPast m f) (reads : ReadsBelow m f) (stays : StaysBelow n source) (c : Cells) where
   rows_first : Cells
   rows_first = on_rows (rearranged n source) m c
 
@@ -120,13 +114,9 @@ module _ (f : OfLines) (m n : ℕ) (source : ℕ → ℕ) (past : LeavesPast m f
   unfolding rows_first
   on_columns-rearranged = fun_ext (λ x. fun_ext (λ y. at_place x y (cases_lt x n) (cases_lt y m)))
 
--- the first n samples are changed, if that is wanted
-unfoldable pub changed : (ℤ → ℤ) → Bool → ℕ → OfLines
-changed f wanted n l k = if wanted && nat_lt k n then f (l k) else l k
-
-pub changed_past : (f : ℤ → ℤ) (wanted : Bool) (n : ℕ) → LeavesPast n (changed f wanted n)
-unfolding changed
-changed_past f wanted n l k h = past wanted
+pub on_samples_past : (f : ℤ → ℤ) (wanted : Bool) (n : ℕ) → LeavesPast n (on_samples f wanted n)
+unfolding on_samples
+on_samples_past f wanted n l k h = past wanted
   where
     past : (w : Bool) → (if w && nat_lt k n then f (l k) else l k) ≡ l k
     past true = grind (arith, nat_tests)
@@ -141,6 +131,6 @@ rows_changed f false inside true a = refl
 rows_changed f false inside false a = refl
 
 -- the cells of a part of the plane, row by row
-pub on_cells_rows : (f : ℤ → ℤ) (wanted : Bool) (width height : ℕ) (c : Cells) → on_cells f wanted width height c ≡ on_rows (changed f wanted width) height c
-unfolding on_cells on_rows changed
+pub on_cells_rows : (f : ℤ → ℤ) (wanted : Bool) (width height : ℕ) (c : Cells) → on_cells f wanted width height c ≡ on_rows (on_samples f wanted width) height c
+unfolding on_cells on_rows on_samples
 on_cells_rows f wanted width height c = fun_ext (λ x. fun_ext (λ y. rows_changed f wanted (nat_lt x width) (nat_lt y height) (c x y)))

@@ -10,9 +10,9 @@ use Rattle.std.proofs.lemmas.List.Sums.{fold-append}
 use Rattle.std.proofs.lemmas.List.{map-append, reverse-append, get_or-map, get_or-reverse, length-reverse, length-map}
 use Rattle.vc_types.specs.Lifting.{half_of, changed_by}
 use Rattle.vc_types.specs.Wavelets.{synthesis_steps}
-use Rattle.vc_types.proofs.CountedSteps.{CountedStep, sum_met, change_at, lift, lift_all, opposite_counted, undone, counted_steps}
-use Rattle.vc_types.proofs.LineGrowth.{kept_at}
-use Rattle.vc_types.proofs.WeightedSums.{sum_below}
+use Rattle.vc_lift.specs.CountedSteps.{CountedStep, sum_met, change_at, lift, lift_all, opposite_counted, undone, sum_below}
+use Rattle.vc_lift.proofs.CountedSteps.{counted_steps}
+use Rattle.vc_lift.proofs.LineGrowth.{kept_at}
 
 back_again : (adds : Bool) (a c : ℤ) → changed_by adds (changed_by (not adds) a c) c ≡ a
 back_again true a c = omega (arith, ints)

@@ -1,10 +1,12 @@
 -- The standard's lines: synthesis undoes analysis, magnitudes grow little, and a line depends on itself alone.
 use Rattle.std.proofs.Common.{◌≡◌, ℕ, ◌*◌, ◌/◌, ◌%◌, ◌^◌, ◌<◌, ◌≤◌, ℤ, arith, sym, ap, ◌∙◌, unsigned_abs, true}
-use Rattle.vc_types.specs.Wavelets.{synthesised, analysed, GrowsLittle, IsLocal}
-use Rattle.vc_types.proofs.CountedSteps.{lift_all, undone, counted_steps, synthesised_counted, analysed_counted}
-use Rattle.vc_types.proofs.LineGrowth.{grows_little, grows, synthesis_little, analysis_little, analysis_lower}
-use Rattle.vc_types.proofs.LineLocality.{same_lift_all, lift_all_past}
-use Rattle.vc_types.proofs.LineUndoing.{lift_all-undone, parities}
+use Rattle.vc_types.specs.Wavelets.{synthesised, analysed, GrowsAtMost, IsLocal}
+use Rattle.vc_lift.specs.CountedSteps.{lift_all, undone}
+use Rattle.vc_lift.proofs.CountedSteps.{counted_steps, synthesised_counted, analysed_counted}
+use Rattle.vc_lift.specs.Growth.{grows_little}
+use Rattle.vc_lift.proofs.LineGrowth.{grows, synthesis_little, analysis_little, analysis_lower}
+use Rattle.vc_lift.proofs.LineLocality.{same_lift_all, lift_all_past}
+use Rattle.vc_lift.proofs.LineUndoing.{lift_all-undone, parities}
 
 even_size : (size : ℕ) → size % 2 ≡ 0 → size ≡ 2 * (size / 2)
 even_size size e = omega arith
@@ -18,10 +20,6 @@ undone_lines w half x =
 pub synthesis_undoes_analysis : (w size : ℕ) (x : ℕ → ℤ) → size % 2 ≡ 0 → synthesised w size (analysed w size x) ≡ x
 synthesis_undoes_analysis w size x e = ap (λ n. synthesised w n (analysed w n x)) (even_size size e) ∙ undone_lines w (size / 2) x
 
--- a bound on the magnitudes rises at most so many times
-abbrev pub GrowsAtMost : ℕ → (ℕ → (ℕ → ℤ) → ℕ → ℤ) → Type 0
-GrowsAtMost most make = (size m : ℕ) (x : ℕ → ℤ) → size % 2 ≡ 0 → 2 ^ 16 ≤ m → ((k : ℕ) → k < size → unsigned_abs (x k) < m) → (k : ℕ) → k < size → unsigned_abs (make size x k) < most * m
-
 lines_grow : (most : ℕ) (make : ℕ → (ℕ → ℤ) → ℕ → ℤ) → ((half m : ℕ) (x : ℕ → ℤ) → 0 < half → 2 ^ 16 ≤ m → ((k : ℕ) → k < 2 * half → unsigned_abs (x k) < m) → (k : ℕ) → k < 2 * half → unsigned_abs (make (2 * half) x k) < most * m) → GrowsAtMost most make
 lines_grow most make grow size m x e large small k h =
     let same : size ≡ 2 * (size / 2) = even_size size e in
@@ -30,10 +28,10 @@ lines_grow most make grow size m x e large small k h =
 analysis_grows : (most w : ℕ) → 0 < most → grows_little most (undone (counted_steps w)) ≡ true → GrowsAtMost most (analysed w)
 analysis_grows most w more little = lines_grow most (analysed w) (λ half m x some large small k h. rw (ap (λ f. f k) (analysed_counted w half x)) (grows most (undone (counted_steps w)) more little half m x some large small k h))
 
-pub synthesis_grows_little : (w : ℕ) → GrowsLittle (synthesised w)
+pub synthesis_grows_little : (w : ℕ) → GrowsAtMost 16 (synthesised w)
 synthesis_grows_little w = lines_grow 16 (synthesised w) (λ half m x some large small k h. rw (ap (λ f. f k) (synthesised_counted w half x)) (grows 16 (counted_steps w) (omega arith) (synthesis_little w) half m x some large small k h))
 
-pub analysis_grows_little : (w : ℕ) → GrowsLittle (analysed w)
+pub analysis_grows_little : (w : ℕ) → GrowsAtMost 16 (analysed w)
 analysis_grows_little w = analysis_grows 16 w (omega arith) (analysis_little w)
 
 pub analysis_grows_less : (w : ℕ) → GrowsAtMost 8 (analysed w)

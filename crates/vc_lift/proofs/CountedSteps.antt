@@ -1,4 +1,4 @@
--- Lifting steps over samples that are counted in each parity, and that they are the standard's steps.
+-- Steps over samples that are counted in each parity are the standard's steps.
 use Rattle.std.proofs.Common.{◌≡◌, ℕ, zero, suc, ◌+◌, ◌-◌, ◌*◌, ◌/◌, ◌%◌, ◌<◌, ◌≤◌, List, [], ◌∷◌, length, ℤ, pos, negsuc, ◌+ℤ◌, ◌-ℤ◌, ◌*ℤ◌, arith, sym, ap, refl, ◌∙◌, ◌⊎◌, inl, inr, unsigned_abs, Bool, true, false, not, min, max, map, reverse, fold, slice_index_or}
 use Rattle.std.specs.Prelude.{if◌then◌else◌, nat_lt, ◌==◌, ◌&&◌}
 use Rattle.std.specs.List.{list_all}
@@ -9,69 +9,14 @@ use Rattle.std.proofs.lemmas.Bool.{cases_lt, false≢true}
 use Rattle.std.proofs.lemmas.Bool.Decides.{nat_tests}
 use Rattle.vc_types.specs.Lifting.{Parity, even, odd, offset_of, LiftingStep, held, met, weighted, half_of, change, changed_by, lifted}
 use Rattle.vc_types.specs.Wavelets.{synthesis_steps, analysis_steps, lifted_by, synthesised, analysed}
-use Rattle.vc_types.proofs.WeightedSums.{sum_below, sum_below_none, sum_below_first}
-
--- A step on the samples of one parity, 0 for the even and 1 for the odd ones. Beside sample number n of that parity, tap
--- j meets sample number n + j - back of the other parity.
-pub record CountedStep : Type 0 where
-  pub parity : ℕ
-  pub adds : Bool
-  pub taps : List ℤ
-  pub back : ℕ
-  pub shift : ℕ
-
--- the place of the sample that tap j meets; a number past the first or the last of `half` samples is held there
-abbrev pub place_met : CountedStep → ℕ → ℕ → ℕ → ℕ
-place_met s half n j = 2 * min (n + j - s.back) (half - 1) + (1 - s.parity)
-
-unfoldable pub sum_met : CountedStep → ℕ → (ℕ → ℤ) → ℕ → ℤ
-sum_met s half x n = sum_below (length s.taps) (λ j. slice_index_or s.taps j (pos 0) *ℤ x (place_met s half n j))
-
-unfoldable pub change_at : CountedStep → ℕ → (ℕ → ℤ) → ℕ → ℤ
-change_at s half x n = int_shr (sum_met s half x n +ℤ pos (half_of s.shift)) s.shift
-
--- a line of 2 * half samples after a step
-unfoldable pub lift : CountedStep → ℕ → (ℕ → ℤ) → ℕ → ℤ
-lift s half x k = if nat_lt (k / 2) half && (k % 2 == s.parity) then changed_by s.adds (x k) (change_at s half x (k / 2)) else x k
-
-unfoldable pub lift_all : List CountedStep → ℕ → (ℕ → ℤ) → ℕ → ℤ
-lift_all steps half x = fold (λ y s. lift s half y) x steps
-
-abbrev pub opposite_counted : CountedStep → CountedStep
-opposite_counted s = record s { adds = not s.adds }
-
--- the steps that take steps back
-abbrev pub undone : List CountedStep → List CountedStep
-undone steps = map opposite_counted (reverse steps)
-
-abbrev pub in_order : Bool → List CountedStep → List CountedStep
-in_order true steps = undone steps
-in_order false steps = steps
-
--- ---- the standard's steps, counted
-
-abbrev pub back_of : Parity → ℤ → ℕ
-back_of even first = unsigned_abs (pos 1 -ℤ first)
-back_of odd first = unsigned_abs first
-
-abbrev pub counted : LiftingStep → CountedStep
-counted s = record { parity = offset_of s.parity; adds = s.adds; taps = s.taps; back = back_of s.parity s.first; shift = s.shift }
-
--- the first tap is not ahead of the sample that it belongs to
-abbrev pub is_behind : Parity → ℤ → Bool
-is_behind even (pos zero) = true
-is_behind even (pos (suc zero)) = true
-is_behind even (pos (suc (suc n))) = false
-is_behind even (negsuc n) = true
-is_behind odd (pos zero) = true
-is_behind odd (pos (suc n)) = false
-is_behind odd (negsuc n) = true
-
-abbrev pub can_be_counted : LiftingStep → Bool
-can_be_counted s = is_behind s.parity s.first
+use Rattle.vc_lift.specs.CountedSteps.{sum_below}
+use Rattle.vc_lift.proofs.WeightedSums.{sum_below_none, sum_below_first}
+use Rattle.vc_lift.specs.CountedSteps.{CountedStep, back_of, is_behind, can_be_counted, counted_step, sum_below, place_met, sum_met, change_at, lift, lift_all, undone}
+use Rattle.vc_lift.specs.declared.step.Row.{Row}
+use Rattle.vc_lift.specs.Steps.{lifting_step, counted_row}
 
 unfoldable pub counted_steps : ℕ → List CountedStep
-counted_steps wavelet = map counted (synthesis_steps wavelet)
+counted_steps wavelet = map counted_step (synthesis_steps wavelet)
 
 -- ---- one step
 
@@ -128,7 +73,7 @@ weighted_sum parity size x n (tap ∷ taps) i =
     ∙ ap (λ z. tap *ℤ x (met parity size n z) +ℤ sum_below (length taps) (λ j. slice_index_or taps j (pos 0) *ℤ x (met parity size n (i +ℤ pos (suc j))))) (from_itself i)
     ∙ sym (sum_below_first (length taps) (λ j. slice_index_or (tap ∷ taps) j (pos 0) *ℤ x (met parity size n (i +ℤ pos j))))
 
-pub change_counted : (s : LiftingStep) (half : ℕ) (x : ℕ → ℤ) (n : ℕ) → can_be_counted s ≡ true → 0 < half → change s (2 * half) x n ≡ change_at (counted s) half x n
+pub change_counted : (s : LiftingStep) (half : ℕ) (x : ℕ → ℤ) (n : ℕ) → can_be_counted s ≡ true → 0 < half → change s (2 * half) x n ≡ change_at (counted_step s) half x n
 unfolding change change_at sum_met
 change_counted s half x n h some =
     ap (λ z. int_shr (z +ℤ pos (half_of s.shift)) s.shift)
@@ -138,25 +83,25 @@ change_counted s half x n h some =
 same_test : (half k : ℕ) → nat_lt k (2 * half) ≡ nat_lt (k / 2) half
 same_test half k = grind (arith, nat_tests)
 
-lifted_at : (s : LiftingStep) (half : ℕ) (x : ℕ → ℤ) (k : ℕ) → can_be_counted s ≡ true → (half < 1) ⊎ (1 ≤ half) → lifted s (2 * half) x k ≡ lift (counted s) half x k
+lifted_at : (s : LiftingStep) (half : ℕ) (x : ℕ → ℤ) (k : ℕ) → can_be_counted s ≡ true → (half < 1) ⊎ (1 ≤ half) → lifted s (2 * half) x k ≡ lift (counted_step s) half x k
 unfolding lifted lift
 lifted_at s half x k h (inl none) = grind (arith, nat_tests)
 lifted_at s half x k h (inr some) =
     ap (λ t. if t && (k % 2 == offset_of s.parity) then changed_by s.adds (x k) (change s (2 * half) x (k / 2)) else x k) (same_test half k)
     ∙ ap (λ z. if nat_lt (k / 2) half && (k % 2 == offset_of s.parity) then changed_by s.adds (x k) z else x k) (change_counted s half x (k / 2) h some)
 
--- a step of the standard is the counted step
-pub lifted_counted : (s : LiftingStep) (half : ℕ) (x : ℕ → ℤ) → can_be_counted s ≡ true → lifted s (2 * half) x ≡ lift (counted s) half x
+-- a step of the standard is the counted_step step
+pub lifted_counted : (s : LiftingStep) (half : ℕ) (x : ℕ → ℤ) → can_be_counted s ≡ true → lifted s (2 * half) x ≡ lift (counted_step s) half x
 lifted_counted s half x h = fun_ext (λ k. lifted_at s half x k h (cases_lt half 1))
 
 -- ---- all steps
 
-pub lifted_by_counted : (steps : List LiftingStep) (half : ℕ) (x : ℕ → ℤ) → list_all can_be_counted steps ≡ true → lifted_by steps (2 * half) x ≡ lift_all (map counted steps) half x
+pub lifted_by_counted : (steps : List LiftingStep) (half : ℕ) (x : ℕ → ℤ) → list_all can_be_counted steps ≡ true → lifted_by steps (2 * half) x ≡ lift_all (map counted_step steps) half x
 unfolding lifted_by lift_all
 lifted_by_counted [] half x h = refl
 lifted_by_counted (s ∷ steps) half x h =
     ap (λ y. fold (λ z t. lifted t (2 * half) z) y steps) (lifted_counted s half x (grind (arith, nat_tests)))
-    ∙ lifted_by_counted steps half (lift (counted s) half x) (grind (arith, nat_tests))
+    ∙ lifted_by_counted steps half (lift (counted_step s) half x) (grind (arith, nat_tests))
 
 synthesis_can : (w : ℕ) → list_all can_be_counted (synthesis_steps w) ≡ true
 unfolding synthesis_steps
@@ -180,7 +125,7 @@ analysis_can (suc (suc (suc (suc (suc zero))))) = refl
 analysis_can (suc (suc (suc (suc (suc (suc zero)))))) = refl
 analysis_can (suc (suc (suc (suc (suc (suc (suc w))))))) = refl
 
-analysis_undone : (w : ℕ) → map counted (analysis_steps w) ≡ undone (counted_steps w)
+analysis_undone : (w : ℕ) → map counted_step (analysis_steps w) ≡ undone (counted_steps w)
 unfolding synthesis_steps counted_steps
 analysis_undone zero = refl
 analysis_undone (suc zero) = refl
@@ -198,3 +143,12 @@ synthesised_counted w half x = lifted_by_counted (synthesis_steps w) half x (syn
 pub analysed_counted : (w half : ℕ) (x : ℕ → ℤ) → analysed w (2 * half) x ≡ lift_all (undone (counted_steps w)) half x
 unfolding analysed
 analysed_counted w half x = lifted_by_counted (analysis_steps w) half x (analysis_can w) ∙ ap (λ ss. lift_all ss half x) (analysis_undone w)
+
+-- rows of the code's table that mean the steps of a wavelet
+rows_counted : (rows : List Row) → map counted_row rows ≡ map counted_step (map lifting_step rows)
+rows_counted [] = refl
+rows_counted (row ∷ rows) = ap (λ ss. counted_row row ∷ ss) (rows_counted rows)
+
+pub same_rows : (w : ℕ) (rows : List Row) → map lifting_step rows ≡ synthesis_steps w → map counted_row rows ≡ counted_steps w
+unfolding counted_steps
+same_rows w rows e = rows_counted rows ∙ ap (map counted_step) e

@@ -5,8 +5,7 @@ use Rattle.std.specs.Int.{int_shr}
 use mathlib.Core.Path.{fun_ext}
 use Rattle.std.proofs.lemmas.Bool.Decides.{nat_tests}
 use Rattle.vc_types.specs.Lifting.{half_of, changed_by}
-use Rattle.vc_types.proofs.CountedSteps.{CountedStep, place_met, sum_met, change_at, lift, lift_all}
-use Rattle.vc_types.proofs.WeightedSums.{sum_below}
+use Rattle.vc_lift.specs.CountedSteps.{CountedStep, place_met, sum_met, change_at, lift, lift_all, sum_below}
 
 module _ (half : ℕ) (some : 0 < half) where
   same_change : (s : CountedStep) (x y : ℕ → ℤ) → ((k : ℕ) → k < 2 * half → x k ≡ y k) → (n : ℕ) → change_at s half x n ≡ change_at s half y n

@@ -1,0 +1,193 @@
+-- A level of the transform, with its subbands put together and taken apart column by column and row by row.
+use Rattle.std.proofs.Common.{◌≡◌, ℕ, ◌+◌, ◌-◌, ◌*◌, ◌/◌, ◌%◌, ◌<◌, ◌≤◌, ℤ, arith, sym, ap, ◌∙◌, ◌⊎◌, inl, inr, Bool, true, false, refl}
+use Rattle.std.specs.Prelude.{if◌then◌else◌, nat_lt, ◌&&◌}
+use mathlib.Core.Path.{fun_ext}
+use Rattle.std.proofs.lemmas.Bool.{cases_lt, cases_eq}
+use Rattle.std.proofs.lemmas.Bool.Decides.{nat_tests}
+use Rattle.vc_types.specs.Lifting.{Line}
+use Rattle.vc_types.specs.Transforms.{Cells, half_place, source_of, interleaved_across, interleaved, deinterleaved, level_across, on_columns, on_rows, on_cells, halved, doubled, inverse_level, forward_level}
+use Rattle.vc_types.specs.Wavelets.{is_shifted, synthesised, analysed}
+use Rattle.vc_lift.proofs.LineLaws.{synthesis_is_local, analysis_is_local, synthesis_past, analysis_past}
+use Rattle.vc_wave.proofs.PlaneLines.{LeavesPast, ReadsBelow, StaysBelow, column_in, column_out, row_in, row_out, on_columns-on_columns, on_rows-on_rows, rearranged_in, rearranged_past, rearranged_reads, on_columns-rearranged, on_samples_past, on_cells_rows}
+use Rattle.vc_wave.specs.declared.pass.Direction.{Direction}
+use Rattle.vc_wave.specs.declared.pass.Direction.TheVariants.{Synthesis, Analysis}
+use Rattle.vc_wave.specs.declared.pass.Pass.{Pass}
+use Rattle.vc_wave.specs.Remade.{rearranged, halves_together, halves_apart, on_samples, merged, parted, remade}
+
+-- ---- a line of two halves
+
+pub half_place_below : (half : ℕ) → StaysBelow (2 * half) (half_place half)
+half_place_below half k h = elim (cases_eq (k % 2) 0) [
+  | inl e ↦ (let none : k % 2 * half ≡ 0 = rw e (omega arith) in omega (arith, none))
+  | inr ne ↦ (let one : k % 2 ≡ 1 = omega arith in let all : k % 2 * half ≡ half = rw one (omega arith) in omega (arith, all))
+]
+
+pub source_below : (half : ℕ) → StaysBelow (2 * half) (source_of half)
+source_below half k h = grind (arith, nat_tests)
+
+first_source : (half k : ℕ) → k < half → source_of half k ≡ 2 * k
+first_source half k h = grind (arith, nat_tests)
+
+second_source : (half k : ℕ) → half ≤ k → source_of half k ≡ 2 * (k - half) + 1
+second_source half k h = grind (arith, nat_tests)
+
+pub source_of-half_place : (half k : ℕ) → k < 2 * half → source_of half (half_place half k) ≡ k
+source_of-half_place half k h = elim (cases_eq (k % 2) 0) [
+  | inl e ↦ (let place : half_place half k ≡ k / 2 = rw e (omega arith) in ap (source_of half) place ∙ first_source half (k / 2) (omega arith) ∙ omega arith)
+  | inr ne ↦ (let odd : k % 2 ≡ 1 = omega arith in let place : half_place half k ≡ k / 2 + half = rw odd (omega arith) in ap (source_of half) place ∙ second_source half (k / 2 + half) (omega arith) ∙ omega arith)
+]
+
+pub half_place-source_of : (half k : ℕ) → k < 2 * half → half_place half (source_of half k) ≡ k
+half_place-source_of half k h = elim (cases_lt k half) [
+  | inl first ↦ (let place : source_of half k ≡ 2 * k = first_source half k first in let even : 2 * k % 2 ≡ 0 = omega arith in ap (half_place half) place ∙ rw even (omega arith))
+  | inr second ↦ (let place : source_of half k ≡ 2 * (k - half) + 1 = second_source half k second in let odd : (2 * (k - half) + 1) % 2 ≡ 1 = omega arith in ap (half_place half) place ∙ rw odd (omega arith))
+]
+
+woven_back : (half : ℕ) (l : ℕ → ℤ) (k : ℕ) → (k < 2 * half) ⊎ (2 * half ≤ k) → halves_together half (halves_apart half l) k ≡ l k
+woven_back half l k (inl h) =
+    rearranged_in (2 * half) (half_place half) (halves_apart half l) k h
+    ∙ rearranged_in (2 * half) (source_of half) l (half_place half k) (half_place_below half k h)
+    ∙ ap l (source_of-half_place half k h)
+woven_back half l k (inr h) = rearranged_past (2 * half) (half_place half) (halves_apart half l) k h ∙ rearranged_past (2 * half) (source_of half) l k h
+
+pub halves_together-halves_apart : (half : ℕ) (l : ℕ → ℤ) → halves_together half (halves_apart half l) ≡ l
+halves_together-halves_apart half l = fun_ext (λ k. woven_back half l k (cases_lt k (2 * half)))
+
+twice_even : (half : ℕ) → 2 * half % 2 ≡ 0
+twice_even half = omega arith
+
+pub merged_past : (wavelet half : ℕ) → LeavesPast (2 * half) (merged wavelet half)
+merged_past wavelet half l k h = synthesis_past wavelet half (halves_together half l) k h ∙ rearranged_past (2 * half) (half_place half) l k h
+
+pub merged_reads : (wavelet half : ℕ) → ReadsBelow (2 * half) (merged wavelet half)
+merged_reads wavelet half l m e = synthesis_is_local wavelet (2 * half) (halves_together half l) (halves_together half m) (twice_even half) (rearranged_reads (2 * half) (half_place half) (half_place_below half) l m e)
+
+pub parted_past : (wavelet half : ℕ) → LeavesPast (2 * half) (parted wavelet half)
+parted_past wavelet half l k h = rearranged_past (2 * half) (source_of half) (analysed wavelet (2 * half) l) k h ∙ analysis_past wavelet half l k h
+
+pub parted_reads : (wavelet half : ℕ) → ReadsBelow (2 * half) (parted wavelet half)
+parted_reads wavelet half l m e = rearranged_reads (2 * half) (source_of half) (source_below half) (analysed wavelet (2 * half) l) (analysed wavelet (2 * half) m) (analysis_is_local wavelet (2 * half) l m (twice_even half) e)
+
+on_samples_reads : (f : ℤ → ℤ) (wanted : Bool) (n : ℕ) (l m : Line) (k : ℕ) → l k ≡ m k → on_samples f wanted n l k ≡ on_samples f wanted n m k
+unfolding on_samples
+on_samples_reads f wanted n l m k e = ap (λ z. if wanted && nat_lt k n then f z else z) e
+
+-- what either direction makes of a line
+pub remade_past : (d : Direction) (wavelet : ℕ) (shifted : Bool) (half : ℕ) → LeavesPast (2 * half) (remade d wavelet shifted half)
+remade_past Synthesis wavelet shifted half l k h = on_samples_past halved shifted (2 * half) (merged wavelet half l) k h ∙ merged_past wavelet half l k h
+remade_past Analysis wavelet shifted half l k h = parted_past wavelet half (on_samples doubled shifted (2 * half) l) k h ∙ on_samples_past doubled shifted (2 * half) l k h
+
+pub remade_reads : (d : Direction) (wavelet : ℕ) (shifted : Bool) (half : ℕ) → ReadsBelow (2 * half) (remade d wavelet shifted half)
+remade_reads Synthesis wavelet shifted half l m e k h = on_samples_reads halved shifted (2 * half) (merged wavelet half l) (merged wavelet half m) k (merged_reads wavelet half l m e k h)
+remade_reads Analysis wavelet shifted half l m e k h = parted_reads wavelet half (on_samples doubled shifted (2 * half) l) (on_samples doubled shifted (2 * half) m) (λ j lt. on_samples_reads doubled shifted (2 * half) l m j (e j lt)) k h
+
+not_changed : (f : ℤ → ℤ) (n : ℕ) (l : Line) → on_samples f false n l ≡ l
+unfolding on_samples
+not_changed f n l = refl
+
+-- on columns nothing is shifted
+remade_merged : (wavelet half : ℕ) → merged wavelet half ≡ remade Synthesis wavelet false half
+remade_merged wavelet half = fun_ext (λ l. sym (not_changed halved (2 * half) (merged wavelet half l)))
+
+remade_parted : (wavelet half : ℕ) → parted wavelet half ≡ remade Analysis wavelet false half
+remade_parted wavelet half = fun_ext (λ l. ap (parted wavelet half) (sym (not_changed doubled (2 * half) l)))
+
+synthesis_leaves : (wavelet half : ℕ) → LeavesPast (2 * half) (synthesised wavelet (2 * half))
+synthesis_leaves wavelet half l k h = synthesis_past wavelet half l k h
+
+synthesis_reads : (wavelet half : ℕ) → ReadsBelow (2 * half) (synthesised wavelet (2 * half))
+synthesis_reads wavelet half l m e = synthesis_is_local wavelet (2 * half) l m (twice_even half) e
+
+-- ---- four quarters, by direction
+
+module _ (n m : ℕ) (across down : ℕ → ℕ) (stays : StaysBelow n across) (c : Cells) where
+  quarters_at : (x y : ℕ) → (x < n) ⊎ (n ≤ x) → (y < m) ⊎ (m ≤ y) → (if nat_lt x n && nat_lt y m then c (across x) (down y) else c x y) ≡ on_rows (rearranged n across) m (on_columns (rearranged m down) n c) x y
+  quarters_at x y (inl h) (inl lt) =
+      inside ∙ sym (row_in (rearranged n across) m (on_columns (rearranged m down) n c) x y lt ∙ rearranged_in n across (λ k. on_columns (rearranged m down) n c k y) x h ∙ column_in (rearranged m down) n c (across x) y (stays x h) ∙ rearranged_in m down (λ k. c (across x) k) y lt)
+    where
+      inside : (if nat_lt x n && nat_lt y m then c (across x) (down y) else c x y) ≡ c (across x) (down y)
+      inside = grind (arith, nat_tests)
+  quarters_at x y (inr h) (inl lt) =
+      outside ∙ sym (row_in (rearranged n across) m (on_columns (rearranged m down) n c) x y lt ∙ rearranged_past n across (λ k. on_columns (rearranged m down) n c k y) x h ∙ column_out (rearranged m down) n c x y h)
+    where
+      outside : (if nat_lt x n && nat_lt y m then c (across x) (down y) else c x y) ≡ c x y
+      outside = grind (arith, nat_tests)
+  quarters_at x y (inl h) (inr ge) =
+      outside ∙ sym (row_out (rearranged n across) m (on_columns (rearranged m down) n c) x y ge ∙ column_in (rearranged m down) n c x y h ∙ rearranged_past m down (λ k. c x k) y ge)
+    where
+      outside : (if nat_lt x n && nat_lt y m then c (across x) (down y) else c x y) ≡ c x y
+      outside = grind (arith, nat_tests)
+  quarters_at x y (inr h) (inr ge) =
+      outside ∙ sym (row_out (rearranged n across) m (on_columns (rearranged m down) n c) x y ge ∙ column_out (rearranged m down) n c x y h)
+    where
+      outside : (if nat_lt x n && nat_lt y m then c (across x) (down y) else c x y) ≡ c x y
+      outside = grind (arith, nat_tests)
+
+  quarters : (λ x y. if nat_lt x n && nat_lt y m then c (across x) (down y) else c x y) ≡ on_rows (rearranged n across) m (on_columns (rearranged m down) n c)
+  quarters = fun_ext (λ x. fun_ext (λ y. quarters_at x y (cases_lt x n) (cases_lt y m)))
+
+pub interleaved_woven : (w h : ℕ) (c : Cells) → interleaved w h c ≡ on_rows (halves_together w) (2 * h) (on_columns (halves_together h) (2 * w) c)
+unfolding interleaved
+interleaved_woven w h c = quarters (2 * w) (2 * h) (half_place w) (half_place h) (half_place_below w) c
+
+pub deinterleaved_unwoven : (w h : ℕ) (c : Cells) → deinterleaved w h c ≡ on_rows (halves_apart w) (2 * h) (on_columns (halves_apart h) (2 * w) c)
+unfolding deinterleaved
+deinterleaved_unwoven w h c = quarters (2 * w) (2 * h) (source_of w) (source_of h) (source_below w) c
+
+-- ---- one level, by direction
+
+-- what a pass over columns and one over rows make of a plane
+abbrev pub columns_by : Pass → ℕ → ℕ → Cells → Cells
+columns_by p half columns c = on_columns (remade p.direction p.wavelet p.shifted half) columns c
+
+abbrev pub rows_by : Pass → ℕ → ℕ → Cells → Cells
+rows_by p half rows c = on_rows (remade p.direction p.wavelet p.shifted half) rows c
+
+-- rows that are put together, and then shifted
+rows_remade : (wavelet w rows : ℕ) (c : Cells) → on_cells halved (is_shifted wavelet) (2 * w) rows (on_rows (synthesised wavelet (2 * w)) rows (on_rows (halves_together w) rows c)) ≡ on_rows (remade Synthesis wavelet (is_shifted wavelet) w) rows c
+rows_remade wavelet w rows c =
+    ap (on_cells halved (is_shifted wavelet) (2 * w) rows) (on_rows-on_rows (synthesised wavelet (2 * w)) (halves_together w) rows c)
+    ∙ on_cells_rows halved (is_shifted wavelet) (2 * w) rows (on_rows (merged wavelet w) rows c)
+    ∙ on_rows-on_rows (on_samples halved (is_shifted wavelet) (2 * w)) (merged wavelet w) rows c
+
+both_tests : (inside above : Bool) (a b : ℤ) → (if inside && above then a else b) ≡ (if above then (if inside then a else b) else b)
+both_tests true true a b = refl
+both_tests true false a b = refl
+both_tests false true a b = refl
+both_tests false false a b = refl
+
+across_together : (w h : ℕ) (c : Cells) → interleaved_across w h c ≡ on_rows (halves_together w) h c
+unfolding interleaved_across on_rows rearranged
+across_together w h c = fun_ext (λ x. fun_ext (λ y. both_tests (nat_lt x (2 * w)) (nat_lt y h) (c (half_place w x) y) (c x y)))
+
+pub level_across_remade : (wavelet w h : ℕ) (c : Cells) → level_across wavelet w h c ≡ on_rows (remade Synthesis wavelet (is_shifted wavelet) w) h c
+unfolding level_across
+level_across_remade wavelet w h c =
+    ap (λ p. on_cells halved (is_shifted wavelet) (2 * w) h (on_rows (synthesised wavelet (2 * w)) h p)) (across_together w h c)
+    ∙ rows_remade wavelet w h c
+
+pub inverse_level_remade : (vertical horizontal w h : ℕ) (c : Cells) → inverse_level vertical horizontal w h c ≡ on_rows (remade Synthesis horizontal (is_shifted horizontal) w) (2 * h) (on_columns (remade Synthesis vertical false h) (2 * w) c)
+unfolding inverse_level
+inverse_level_remade vertical horizontal w h c =
+    let down = synthesised vertical (2 * h) in
+    let rows = λ (p : Cells). on_cells halved (is_shifted horizontal) (2 * w) (2 * h) (on_rows (synthesised horizontal (2 * w)) (2 * h) p) in
+    ap (λ p. rows (on_columns down (2 * w) p)) (interleaved_woven w h c)
+    ∙ ap rows (on_columns-rearranged down (2 * h) (2 * w) (half_place w) (synthesis_leaves vertical h) (synthesis_reads vertical h) (half_place_below w) (on_columns (halves_together h) (2 * w) c))
+    ∙ ap (λ p. rows (on_rows (halves_together w) (2 * h) p)) (on_columns-on_columns down (halves_together h) (2 * w) c)
+    ∙ rows_remade horizontal w (2 * h) (on_columns (merged vertical h) (2 * w) c)
+    ∙ ap (λ f. on_rows (remade Synthesis horizontal (is_shifted horizontal) w) (2 * h) (on_columns f (2 * w) c)) (remade_merged vertical h)
+
+pub forward_level_remade : (wavelet w h : ℕ) (c : Cells) → forward_level wavelet w h c ≡ on_columns (remade Analysis wavelet false h) (2 * w) (on_rows (remade Analysis wavelet (is_shifted wavelet) w) (2 * h) c)
+unfolding forward_level
+forward_level_remade wavelet w h c =
+    let across = analysed wavelet (2 * w) in
+    let down = analysed wavelet (2 * h) in
+    let first = on_cells doubled (is_shifted wavelet) (2 * w) (2 * h) c in
+    let row = on_samples doubled (is_shifted wavelet) (2 * w) in
+    deinterleaved_unwoven w h (on_columns down (2 * w) (on_rows across (2 * h) first))
+    ∙ ap (on_rows (halves_apart w) (2 * h)) (on_columns-on_columns (halves_apart h) down (2 * w) (on_rows across (2 * h) first))
+    ∙ sym (on_columns-rearranged (parted wavelet h) (2 * h) (2 * w) (source_of w) (parted_past wavelet h) (parted_reads wavelet h) (source_below w) (on_rows across (2 * h) first))
+    ∙ ap (on_columns (parted wavelet h) (2 * w)) (on_rows-on_rows (halves_apart w) across (2 * h) first)
+    ∙ ap (λ p. on_columns (parted wavelet h) (2 * w) (on_rows (parted wavelet w) (2 * h) p)) (on_cells_rows doubled (is_shifted wavelet) (2 * w) (2 * h) c)
+    ∙ ap (on_columns (parted wavelet h) (2 * w)) (on_rows-on_rows (parted wavelet w) row (2 * h) c)
+    ∙ ap (λ f. on_columns f (2 * w) (on_rows (remade Analysis wavelet (is_shifted wavelet) w) (2 * h) c)) (remade_parted wavelet h)

@@ -1,0 +1,7 @@
+use Rattle.std.proofs.Common.{◌≡◌}
+use Rattle.vc_types.specs.Transforms.{levels_across}
+use Rattle.vc_wave.specs.Planes.{plane_of}
+use Rattle.vc_wave.proofs.level.merge_across.Given as goal
+
+abbrev pub invariant-loop-level : goal.invariant-loop-level
+invariant-loop-level l = plane_of l.stride l.cells ≡ levels_across l.wavelet l.level l.w l.h (plane_of l.stride l.initial.cells)

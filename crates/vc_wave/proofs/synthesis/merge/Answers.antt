@@ -1,0 +1,40 @@
+use Rattle.std.proofs.Common.{◌*◌, ◌^◌, arith, refl}
+use Rattle.vc_types.specs.TransformParameters.{parameters_of}
+use Rattle.vc_wave.specs.Planes.{plane_of}
+use Rattle.vc_wave.proofs.Grids.{all_levels}
+use Rattle.vc_wave.proofs.Levels.{whole_room, lower_room}
+use Rattle.vc_wave.proofs.PlaneGrowth.{across_below, all_below}
+use Rattle.vc_wave.proofs.synthesis.merge.Goals as goal
+
+pub merge_across-requires-clause-room : goal.merge_across-requires-clause-room
+merge_across-requires-clause-room c =
+    let p = parameters_of c.args.plan.now in
+    let w = c.lowest-w.result.0 in
+    let h = c.lowest-w.result.1 in
+    lower_room (w * 2 ^ p.depth_ho) h p.depth c.args.stride _ _ _
+    (whole_room p c.args.c w (w * 2 ^ p.depth_ho) h c.args.stride _ _ _ _ _ c.lowest-w.ensures.width refl c.lowest-w.ensures.height refl refl c.requires.room)
+
+pub merge_levels-requires-clause-room : goal.merge_levels-requires-clause-room
+merge_levels-requires-clause-room c =
+    whole_room (parameters_of c.args.plan.now) c.args.c c.lowest-w.result.0 c.side_at-w.result c.lowest-w.result.1 c.args.stride _ _ _ _ _ c.lowest-w.ensures.width c.side_at-w.ensures c.lowest-w.ensures.height c.merge_across.auto.cells c.merge_across.auto.scratch c.requires.room
+
+pub merge_levels-requires-clause-small : goal.merge_levels-requires-clause-small
+merge_levels-requires-clause-small c =
+    let plan = c.args.plan.now in
+    across_below plan.wavelet_ho plan.depth_ho plan.depth c.lowest-w.result.0 c.lowest-w.result.1 (plane_of c.args.stride c.args.cells.now) (plane_of c.args.stride c.merge_across.new.cells) (omega arith) c.merge_across.ensures c.requires.small
+
+pub returns-clause-value : goal.returns-clause-value
+returns-clause-value c =
+    let stride = c.args.stride in
+    all_levels (parameters_of c.args.plan.now) c.args.c c.lowest-w.result.0 c.side_at-w.result c.lowest-w.result.1 (plane_of stride c.args.cells.now) (plane_of stride c.merge_across.new.cells) (plane_of stride c.merge_levels.new.cells)
+    c.lowest-w.ensures.width c.lowest-w.ensures.height c.side_at-w.ensures c.merge_across.ensures c.merge_levels.ensures
+
+pub returns-clause-small : goal.returns-clause-small
+returns-clause-small c =
+    let plan = c.args.plan.now in
+    let w = c.lowest-w.result.0 in
+    let h = c.lowest-w.result.1 in
+    let first = plane_of c.args.stride c.args.cells.now in
+    let second = plane_of c.args.stride c.merge_across.new.cells in
+    all_below plan.wavelet plan.wavelet_ho plan.depth c.side_at-w.result h second (plane_of c.args.stride c.merge_levels.new.cells) (omega arith) c.merge_levels.ensures
+    (across_below plan.wavelet_ho plan.depth_ho plan.depth w h first second (omega arith) c.merge_across.ensures c.requires.small)

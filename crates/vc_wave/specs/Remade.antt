@@ -1,0 +1,40 @@
+-- What either direction makes of a line.
+use Rattle.std.specs.Prelude.{ℕ, ◌*◌, Bool, true, false, ◌&&◌, nat_lt, if◌then◌else◌, ℤ}
+use Rattle.vc_types.specs.Lifting.{Line}
+use Rattle.vc_types.specs.Transforms.{half_place, source_of, halved, doubled}
+use Rattle.vc_types.specs.Wavelets.{synthesised, analysed}
+use Rattle.vc_wave.specs.declared.pass.Direction.{Direction}
+use Rattle.vc_wave.specs.declared.pass.Direction.TheVariants.{Synthesis, Analysis}
+
+-- the first n samples are taken from other places
+unfoldable pub rearranged : ℕ → (ℕ → ℕ) → Line → Line
+rearranged n source l k = if nat_lt k n then l (source k) else l k
+
+-- two halves become the even and the odd samples, and back
+abbrev pub halves_together : ℕ → Line → Line
+halves_together half = rearranged (2 * half) (half_place half)
+
+abbrev pub halves_apart : ℕ → Line → Line
+halves_apart half = rearranged (2 * half) (source_of half)
+
+-- where a line has sample k: at k or, while its halves stand apart, in the half of its parity
+abbrev pub sample_place : Bool → ℕ → ℕ → ℕ
+sample_place true half k = half_place half k
+sample_place false half k = k
+
+-- a function of samples on the first n of them, if that is wanted
+unfoldable pub on_samples : (ℤ → ℤ) → Bool → ℕ → Line → Line
+on_samples f wanted n l k = if wanted && nat_lt k n then f (l k) else l k
+
+-- two halves put together, and a line taken apart into two halves
+abbrev pub merged : ℕ → ℕ → Line → Line
+merged wavelet half l = synthesised wavelet (2 * half) (halves_together half l)
+
+abbrev pub parted : ℕ → ℕ → Line → Line
+parted wavelet half l = halves_apart half (analysed wavelet (2 * half) l)
+
+-- two halves are put together, and the samples are halved if that is wanted; or samples are doubled, and taken apart
+-- into two halves
+abbrev pub remade : Direction → ℕ → Bool → ℕ → Line → Line
+remade Synthesis wavelet shifted half l = on_samples halved shifted (2 * half) (merged wavelet half l)
+remade Analysis wavelet shifted half l = parted wavelet half (on_samples doubled shifted (2 * half) l)
