@@ -13,7 +13,7 @@ use Rattle.link_model.specs.Kept.{SliceRun, cut_off, next_slice, next_slices, ha
 use Rattle.link_model.specs.Session.{SlicePart}
 use Rattle.link_model.specs.declared.outcome.Outcome.{Outcome}
 use Rattle.link_model.specs.declared.outcome.Outcome.TheVariants.{SlicesForm, SlicesPlace, SlicesCut}
-use Rattle.link_gather.specs.Filling.{cut_by, slices_cut, run_cut, has_conflict, has_new, put_in, put_result, is_other, is_fresh}
+use Rattle.link_gather.specs.Filling.{cut_by, slices_cut, run_cut, has_conflict, has_new, put_in, put_result, is_put_other, is_put_new}
 use Rattle.link_gather.specs.declared.slots.Put.{Put}
 use Rattle.link_gather.specs.declared.slots.Put.TheVariants.{Same, Other}
 use Rattle.vc_types.specs.Fields.{and_then}
@@ -305,19 +305,19 @@ module _ (p : Parameters) (slots : Slots) (i : ℕ) (rest : List ℕ) where
         ∙ ap (λ (c : Bool). b || c) (sym (new_first slots i one behind) ∙ ap (λ (l : List (List ℕ)). list_any (is_new (slot_at slots)) (enumerate_from i l)) cut_is)
 
 -- what becomes of a slice, in words
-pub other_is : (o : Option (List ℕ)) (i : ℕ) (slice : List ℕ) → is_other (put_result o slice) ≡ option_map_or (λ bytes. not (bytes_eq bytes slice)) o false
+pub other_is : (o : Option (List ℕ)) (i : ℕ) (slice : List ℕ) → is_put_other (put_result o slice) ≡ option_map_or (λ bytes. not (bytes_eq bytes slice)) o false
 other_is None i slice = refl
 other_is (Some bytes) i slice = by_test (bytes_eq bytes slice)
   where
-    by_test : (b : Bool) → is_other (cond b Same Other) ≡ not b
+    by_test : (b : Bool) → is_put_other (cond b Same Other) ≡ not b
     by_test true = refl
     by_test false = refl
 
-pub fresh_is : (o : Option (List ℕ)) (i : ℕ) (slice : List ℕ) → is_fresh (put_result o slice) ≡ is_none o
+pub fresh_is : (o : Option (List ℕ)) (i : ℕ) (slice : List ℕ) → is_put_new (put_result o slice) ≡ is_none o
 fresh_is None i slice = refl
 fresh_is (Some bytes) i slice = by_test (bytes_eq bytes slice)
   where
-    by_test : (b : Bool) → is_fresh (cond b Same Other) ≡ false
+    by_test : (b : Bool) → is_put_new (cond b Same Other) ≡ false
     by_test true = refl
     by_test false = refl
 

@@ -41,13 +41,13 @@ abbrev pub put_result : Option (List ℕ) → List ℕ → Put
 put_result None slice = New
 put_result (Some kept) slice = if bytes_eq kept slice then Same else Other
 
-abbrev pub is_other : Put → Bool
-is_other Other = true
-is_other put = false
+abbrev pub is_put_other : Put → Bool
+is_put_other Other = true
+is_put_other put = false
 
-abbrev pub is_fresh : Put → Bool
-is_fresh New = true
-is_fresh put = false
+abbrev pub is_put_new : Put → Bool
+is_put_new New = true
+is_put_new put = false
 
 -- what becomes of a run
 abbrev pub seen_outcome : Bool → Bool → Outcome

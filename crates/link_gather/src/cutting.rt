@@ -1,7 +1,7 @@
 ghost use Rattle.std.specs.Prelude.{◌≡◌, ◌≤◌, ◌<◌, ◌||◌, ◌+◌, ◌^◌, IfOk, OnOk, is_ok, length};
 ghost use Rattle.link_model.specs.Books.{with_run};
 ghost use Rattle.link_model.specs.Kept.{next_slices};
-ghost use Rattle.link_gather.specs.Filling.{run_cut, has_conflict, has_new, is_other, is_fresh, seen_outcome};
+ghost use Rattle.link_gather.specs.Filling.{run_cut, has_conflict, has_new, is_put_other, is_put_new, seen_outcome};
 ghost use Rattle.vc_types.specs.TransformParameters.{parameters_of};
 
 use crate::slots::{Put, Slots};
@@ -38,8 +38,8 @@ pub(crate) struct Seen {
 impl Seen {
     // With what became of one slice more.
     fn with(self, put: Put) -> Seen
-        ensures conflict { result.conflict ≡ (self.conflict || is_other put) }
-        ensures new { result.new ≡ (self.new || is_fresh put) }
+        ensures conflict { result.conflict ≡ (self.conflict || is_put_other put) }
+        ensures new { result.new ≡ (self.new || is_put_new put) }
     {
         Seen {
             conflict: self.conflict || put == Put::Other,

@@ -2,7 +2,7 @@ ghost use Rattle.std.specs.Prelude.{◌≡◌, ◌+◌, ◌++◌, ◌^◌, ◌<�
 ghost use Rattle.std.specs.Option.{option_copied};
 ghost use Rattle.link_model.specs.Books.{nothing_gathered, gathers, gathered_bytes, gathered_outcome, gathered_whole, slot_at};
 ghost use Rattle.link_model.specs.Kept.{has_form, has_place, first_slice, slice_run};
-ghost use Rattle.link_model.specs.Headers.{same_luma, same_colour, same_transform, same_slicing, same_parameters};
+ghost use Rattle.vc_types.specs.SameValues.{same_luma, same_colour, same_transform, same_slicing, same_parameters};
 ghost use Rattle.link_gather.specs.Filling.{run_cut};
 ghost use Rattle.link_gather.specs.Views.{slice_part_of};
 ghost use Rattle.vc_types.specs.Subbands.{slice_count};
@@ -150,7 +150,7 @@ fn first_slice(plan: &Plan, part: &SlicePart) -> Option<usize>
 }
 
 /// Whether two plans have the same value.
-#[tactic(auto, unfolding(link_model::specs::Headers::same_parameters))]
+#[tactic(auto, unfolding(vc_types::specs::SameValues::same_parameters))]
 pub(crate) fn same_plan(a: &Plan, b: &Plan) -> bool
     ensures { result ≡ same_parameters (parameters_of a.now) (parameters_of b.now) }
 {

@@ -27,7 +27,7 @@ use Rattle.vc_types.specs.Slices.{block, coded_slice, slice_length, quantisers, 
 use Rattle.vc_types.specs.Subbands.{slice_rectangle, place_among, slice_coefficient_count, coefficient_place}
 use Rattle.vc_types.specs.TransformParameters as parameters
 use Rattle.vc_types.specs.TransformParameters.{transform_parameters}
-use Rattle.vc_types.specs.Transforms.{interleaved, on_columns, on_rows, on_cells, inverse_level, inverse_levels, inverse_transform}
+use Rattle.vc_types.specs.Transforms.{interleaved, on_columns, on_rows, on_cells, inverse_level, inverse_levels, inverse_transform, levels_across}
 use Rattle.vc_types.specs.Video.{format_of, range_of, video_depth}
 use Rattle.vc_types.specs.Wavelets.{synthesis_steps, lifted_by, synthesised}
 
@@ -164,7 +164,7 @@ pub outputs :
     × (closing_place 4 two_sessions (2 ^ 32) ≡ 4)
     × (closing_place 4 two_sessions (2 ^ 33) ≡ 7)
     × (closing_place 4 unended (2 ^ 32) ≡ 6)
-unfolding opened_numbers base_above greatest_of all_output last_so_far with_sessions has_all_slices all_bytes whole_picture sample_bytes frame_bytes interleaved_rows same_sequence same_parameters part_outcome fragment_outcome outcome_behind outcomes_behind with_pictures tally_of parameters_in parted next_slice next_slices slice_run own first_copy greatest least nearest picture_number is_closed is_late enters parts_of complete_at planes_at frame_at frame_bytes_at let_go_numbers is_let_go all_frames frames_so_far full_output output_so_far closing_place header_end is_shaped payload_end packet_fields rtp_packet fragment_fits fragment_value payload received begins ends fragment_in hears bits_of byte_bits uint_at uint_after bounded_uint_after bounded_uint bounded_sint bounded_sints number weighted change lifted slices_from decoded_picture all_placed standing_at component_cells output_sample component_plane decoded_planes sample_at quant_factor quant_offset dequantised default_matrix raster sequence_header block coded_slice slice_length quantisers block_coefficients decoded_slice slice_rectangle place_among slice_coefficient_count coefficient_place transform_parameters interleaved on_columns on_rows on_cells inverse_level inverse_levels inverse_transform format_of range_of video_depth synthesis_steps lifted_by synthesised header.number header.major_version header.profile header.base_video_format header.frame_size header.colour_difference_sampling header.scan_format header.ratio header.clean_area header.excursion header.custom_signal_range header.signal_range_of header.colour_part header.colour_specification header.picture_coding_mode header.picture_shape parameters.number parameters.wavelet_index parameters.wavelet_depth parameters.extended_parameters parameters.slice_counts parameters.prefix_bytes parameters.size_scaler parameters.matrix_value parameters.matrix_values parameters.quantisation_matrix
+unfolding opened_numbers base_above greatest_of all_output last_so_far with_sessions has_all_slices all_bytes whole_picture sample_bytes frame_bytes interleaved_rows same_sequence same_parameters part_outcome fragment_outcome outcome_behind outcomes_behind with_pictures tally_of parameters_in parted next_slice next_slices slice_run own first_copy greatest least nearest picture_number is_closed is_late enters parts_of complete_at planes_at frame_at frame_bytes_at let_go_numbers is_let_go all_frames frames_so_far full_output output_so_far closing_place header_end is_shaped payload_end packet_fields rtp_packet fragment_fits fragment_value payload received begins ends fragment_in hears bits_of byte_bits uint_at uint_after bounded_uint_after bounded_uint bounded_sint bounded_sints number weighted change lifted slices_from decoded_picture all_placed standing_at component_cells output_sample component_plane decoded_planes sample_at quant_factor quant_offset dequantised default_matrix raster sequence_header block coded_slice slice_length quantisers block_coefficients decoded_slice slice_rectangle place_among slice_coefficient_count coefficient_place transform_parameters interleaved on_columns on_rows on_cells inverse_level inverse_levels levels_across inverse_transform format_of range_of video_depth synthesis_steps lifted_by synthesised header.number header.major_version header.profile header.base_video_format header.frame_size header.colour_difference_sampling header.scan_format header.ratio header.clean_area header.excursion header.custom_signal_range header.signal_range_of header.colour_part header.colour_specification header.picture_coding_mode header.picture_shape parameters.number parameters.wavelet_index parameters.wavelet_depth parameters.extended_parameters parameters.slice_counts parameters.prefix_bytes parameters.size_scaler parameters.matrix_value parameters.matrix_values parameters.quantisation_matrix
 outputs = (refl, refl, refl, refl, refl, refl, refl, refl, refl, refl, refl, refl)
 
 pub tallies :
@@ -174,13 +174,13 @@ pub tallies :
     × (tally_of 4 (first_session ++ end_datagram ∷ []) ≡ record no_counts { datagrams = 4; header_new = 1; «end» = 1; params_kept = 1; slices_kept = 1; frames = 1 })
     × (tally_of 4 then_fields ≡ record no_counts { datagrams = 9; header_new = 2; «end» = 1; params_kept = 3; slices_kept = 3; frames = 2 })
     × (tally_of 4 (behind_the_end ++ end_datagram ∷ parameters_datagram 1 ∷ []) ≡ record no_counts { datagrams = 9; header_new = 2; «end» = 2; params_kept = 3; slices_kept = 2; incomplete = 1; frames = 2 })
-unfolding opened_numbers base_above greatest_of all_output last_so_far with_sessions has_all_slices all_bytes whole_picture sample_bytes frame_bytes interleaved_rows same_sequence same_parameters part_outcome fragment_outcome outcome_behind outcomes_behind with_pictures tally_of parameters_in parted next_slice next_slices slice_run own first_copy greatest least nearest picture_number is_closed is_late enters parts_of complete_at planes_at frame_at frame_bytes_at let_go_numbers is_let_go all_frames frames_so_far full_output output_so_far closing_place header_end is_shaped payload_end packet_fields rtp_packet fragment_fits fragment_value payload received begins ends fragment_in hears bits_of byte_bits uint_at uint_after bounded_uint_after bounded_uint bounded_sint bounded_sints number weighted change lifted slices_from decoded_picture all_placed standing_at component_cells output_sample component_plane decoded_planes sample_at quant_factor quant_offset dequantised default_matrix raster sequence_header block coded_slice slice_length quantisers block_coefficients decoded_slice slice_rectangle place_among slice_coefficient_count coefficient_place transform_parameters interleaved on_columns on_rows on_cells inverse_level inverse_levels inverse_transform format_of range_of video_depth synthesis_steps lifted_by synthesised header.number header.major_version header.profile header.base_video_format header.frame_size header.colour_difference_sampling header.scan_format header.ratio header.clean_area header.excursion header.custom_signal_range header.signal_range_of header.colour_part header.colour_specification header.picture_coding_mode header.picture_shape parameters.number parameters.wavelet_index parameters.wavelet_depth parameters.extended_parameters parameters.slice_counts parameters.prefix_bytes parameters.size_scaler parameters.matrix_value parameters.matrix_values parameters.quantisation_matrix
+unfolding opened_numbers base_above greatest_of all_output last_so_far with_sessions has_all_slices all_bytes whole_picture sample_bytes frame_bytes interleaved_rows same_sequence same_parameters part_outcome fragment_outcome outcome_behind outcomes_behind with_pictures tally_of parameters_in parted next_slice next_slices slice_run own first_copy greatest least nearest picture_number is_closed is_late enters parts_of complete_at planes_at frame_at frame_bytes_at let_go_numbers is_let_go all_frames frames_so_far full_output output_so_far closing_place header_end is_shaped payload_end packet_fields rtp_packet fragment_fits fragment_value payload received begins ends fragment_in hears bits_of byte_bits uint_at uint_after bounded_uint_after bounded_uint bounded_sint bounded_sints number weighted change lifted slices_from decoded_picture all_placed standing_at component_cells output_sample component_plane decoded_planes sample_at quant_factor quant_offset dequantised default_matrix raster sequence_header block coded_slice slice_length quantisers block_coefficients decoded_slice slice_rectangle place_among slice_coefficient_count coefficient_place transform_parameters interleaved on_columns on_rows on_cells inverse_level inverse_levels levels_across inverse_transform format_of range_of video_depth synthesis_steps lifted_by synthesised header.number header.major_version header.profile header.base_video_format header.frame_size header.colour_difference_sampling header.scan_format header.ratio header.clean_area header.excursion header.custom_signal_range header.signal_range_of header.colour_part header.colour_specification header.picture_coding_mode header.picture_shape parameters.number parameters.wavelet_index parameters.wavelet_depth parameters.extended_parameters parameters.slice_counts parameters.prefix_bytes parameters.size_scaler parameters.matrix_value parameters.matrix_values parameters.quantisation_matrix
 tallies = (refl, refl, refl, refl, refl, refl)
 
 pub all_outcomes :
     outcomes_in 4 behind_an_end
     ≡ outcomes.HeaderNew ∷ outcomes.Foreign ∷ outcomes.Foreign ∷ outcomes.HeaderOther ∷ outcomes.End ∷ outcomes.HeaderSame ∷ outcomes.HeaderBad ∷ outcomes.Foreign ∷ outcomes.Foreign ∷ outcomes.Foreign ∷ outcomes.End ∷ outcomes.HeaderNew ∷ outcomes.Foreign ∷ outcomes.Foreign ∷ outcomes.End ∷ outcomes.HeaderNew ∷ []
-unfolding opened_numbers base_above greatest_of all_output last_so_far with_sessions has_all_slices all_bytes whole_picture sample_bytes frame_bytes interleaved_rows same_sequence same_parameters part_outcome fragment_outcome outcome_behind outcomes_behind with_pictures tally_of parameters_in parted next_slice next_slices slice_run own first_copy greatest least nearest picture_number is_closed is_late enters parts_of complete_at planes_at frame_at frame_bytes_at let_go_numbers is_let_go all_frames frames_so_far full_output output_so_far closing_place header_end is_shaped payload_end packet_fields rtp_packet fragment_fits fragment_value payload received begins ends fragment_in hears bits_of byte_bits uint_at uint_after bounded_uint_after bounded_uint bounded_sint bounded_sints number weighted change lifted slices_from decoded_picture all_placed standing_at component_cells output_sample component_plane decoded_planes sample_at quant_factor quant_offset dequantised default_matrix raster sequence_header block coded_slice slice_length quantisers block_coefficients decoded_slice slice_rectangle place_among slice_coefficient_count coefficient_place transform_parameters interleaved on_columns on_rows on_cells inverse_level inverse_levels inverse_transform format_of range_of video_depth synthesis_steps lifted_by synthesised header.number header.major_version header.profile header.base_video_format header.frame_size header.colour_difference_sampling header.scan_format header.ratio header.clean_area header.excursion header.custom_signal_range header.signal_range_of header.colour_part header.colour_specification header.picture_coding_mode header.picture_shape parameters.number parameters.wavelet_index parameters.wavelet_depth parameters.extended_parameters parameters.slice_counts parameters.prefix_bytes parameters.size_scaler parameters.matrix_value parameters.matrix_values parameters.quantisation_matrix
+unfolding opened_numbers base_above greatest_of all_output last_so_far with_sessions has_all_slices all_bytes whole_picture sample_bytes frame_bytes interleaved_rows same_sequence same_parameters part_outcome fragment_outcome outcome_behind outcomes_behind with_pictures tally_of parameters_in parted next_slice next_slices slice_run own first_copy greatest least nearest picture_number is_closed is_late enters parts_of complete_at planes_at frame_at frame_bytes_at let_go_numbers is_let_go all_frames frames_so_far full_output output_so_far closing_place header_end is_shaped payload_end packet_fields rtp_packet fragment_fits fragment_value payload received begins ends fragment_in hears bits_of byte_bits uint_at uint_after bounded_uint_after bounded_uint bounded_sint bounded_sints number weighted change lifted slices_from decoded_picture all_placed standing_at component_cells output_sample component_plane decoded_planes sample_at quant_factor quant_offset dequantised default_matrix raster sequence_header block coded_slice slice_length quantisers block_coefficients decoded_slice slice_rectangle place_among slice_coefficient_count coefficient_place transform_parameters interleaved on_columns on_rows on_cells inverse_level inverse_levels levels_across inverse_transform format_of range_of video_depth synthesis_steps lifted_by synthesised header.number header.major_version header.profile header.base_video_format header.frame_size header.colour_difference_sampling header.scan_format header.ratio header.clean_area header.excursion header.custom_signal_range header.signal_range_of header.colour_part header.colour_specification header.picture_coding_mode header.picture_shape parameters.number parameters.wavelet_index parameters.wavelet_depth parameters.extended_parameters parameters.slice_counts parameters.prefix_bytes parameters.size_scaler parameters.matrix_value parameters.matrix_values parameters.quantisation_matrix
 all_outcomes = refl
 
 -- the numbers of the pictures, the last session first
@@ -211,7 +211,7 @@ pub numbers :
     × (numbers_of 4 (sessions_of (header_datagram ∷ end_datagram ∷ small_session)) ≡ first_number ∷ [] ∷ [])
     × (numbers_of 4 (sessions_of three_sessions) ≡ wrapping_numbers ∷ [] ∷ first_number ∷ [])
     × (full_output 4 three_sessions ≡ grey ++ (grey ++ grey))
-unfolding opened_numbers base_above greatest_of all_output last_so_far with_sessions has_all_slices all_bytes whole_picture sample_bytes frame_bytes interleaved_rows same_sequence same_parameters part_outcome fragment_outcome outcome_behind outcomes_behind with_pictures tally_of parameters_in parted next_slice next_slices slice_run own first_copy greatest least nearest picture_number is_closed is_late enters parts_of complete_at planes_at frame_at frame_bytes_at let_go_numbers is_let_go all_frames frames_so_far full_output output_so_far closing_place header_end is_shaped payload_end packet_fields rtp_packet fragment_fits fragment_value payload received begins ends fragment_in hears bits_of byte_bits uint_at uint_after bounded_uint_after bounded_uint bounded_sint bounded_sints number weighted change lifted slices_from decoded_picture all_placed standing_at component_cells output_sample component_plane decoded_planes sample_at quant_factor quant_offset dequantised default_matrix raster sequence_header block coded_slice slice_length quantisers block_coefficients decoded_slice slice_rectangle place_among slice_coefficient_count coefficient_place transform_parameters interleaved on_columns on_rows on_cells inverse_level inverse_levels inverse_transform format_of range_of video_depth synthesis_steps lifted_by synthesised header.number header.major_version header.profile header.base_video_format header.frame_size header.colour_difference_sampling header.scan_format header.ratio header.clean_area header.excursion header.custom_signal_range header.signal_range_of header.colour_part header.colour_specification header.picture_coding_mode header.picture_shape parameters.number parameters.wavelet_index parameters.wavelet_depth parameters.extended_parameters parameters.slice_counts parameters.prefix_bytes parameters.size_scaler parameters.matrix_value parameters.matrix_values parameters.quantisation_matrix
+unfolding opened_numbers base_above greatest_of all_output last_so_far with_sessions has_all_slices all_bytes whole_picture sample_bytes frame_bytes interleaved_rows same_sequence same_parameters part_outcome fragment_outcome outcome_behind outcomes_behind with_pictures tally_of parameters_in parted next_slice next_slices slice_run own first_copy greatest least nearest picture_number is_closed is_late enters parts_of complete_at planes_at frame_at frame_bytes_at let_go_numbers is_let_go all_frames frames_so_far full_output output_so_far closing_place header_end is_shaped payload_end packet_fields rtp_packet fragment_fits fragment_value payload received begins ends fragment_in hears bits_of byte_bits uint_at uint_after bounded_uint_after bounded_uint bounded_sint bounded_sints number weighted change lifted slices_from decoded_picture all_placed standing_at component_cells output_sample component_plane decoded_planes sample_at quant_factor quant_offset dequantised default_matrix raster sequence_header block coded_slice slice_length quantisers block_coefficients decoded_slice slice_rectangle place_among slice_coefficient_count coefficient_place transform_parameters interleaved on_columns on_rows on_cells inverse_level inverse_levels levels_across inverse_transform format_of range_of video_depth synthesis_steps lifted_by synthesised header.number header.major_version header.profile header.base_video_format header.frame_size header.colour_difference_sampling header.scan_format header.ratio header.clean_area header.excursion header.custom_signal_range header.signal_range_of header.colour_part header.colour_specification header.picture_coding_mode header.picture_shape parameters.number parameters.wavelet_index parameters.wavelet_depth parameters.extended_parameters parameters.slice_counts parameters.prefix_bytes parameters.size_scaler parameters.matrix_value parameters.matrix_values parameters.quantisation_matrix
 numbers = (refl, refl, refl, refl, refl, refl)
 
 -- where the numbers of the next session begin

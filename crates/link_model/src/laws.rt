@@ -1,4 +1,4 @@
-ghost use Rattle.std.specs.Prelude.{◌≡◌, ◌↔◌, ℕ, ◌+◌, ◌%◌, ◌^◌, ◌-◌, ◌<◌, ◌≤◌, true, false, List, [], ◌∷◌, ◌++◌, fold, filter_map, is_some, Some, None, Ok, length};
+ghost use Rattle.std.specs.Prelude.{◌≡◌, ℕ, ◌+◌, ◌%◌, ◌^◌, ◌-◌, ◌<◌, ◌≤◌, true, false, List, [], ◌∷◌, ◌++◌, fold, filter_map, is_some, Some, None, Ok, length};
 ghost use Rattle.std.specs.List.{flat_map, list_any};
 ghost use Rattle.std.specs.Option.{option_and_then};
 ghost use Rattle.link_model.specs.Books.{Book, book_of, book_takes, book_outcome, book_slice, book_whole};
@@ -12,7 +12,6 @@ ghost use Rattle.link_model.specs.Session.{Part, Fragment, Session, HeardSession
 ghost use Rattle.link_model.specs.declared.outcome.Outcome.TheVariants.{HeaderNew, End};
 ghost use Rattle.link_model.specs.Windows.{Window, empty_window, window_enters, window_outcome, forgets, let_go_in, StandsForEntries};
 ghost use Rattle.vc_types.specs.SequenceHeader.{Sequence};
-ghost use Rattle.vc_types.specs.TransformParameters.{Parameters};
 
 /// What a picture keeps stays as parts come: its parameters, each slice, and, once it is complete, its whole bytes.
 #[tactic(auto, using(crate::proofs::Keeping::laws))]

@@ -1,7 +1,7 @@
 use Rattle.std.proofs.Common.{◌≡◌, ◌+◌, ◌-◌, ◌<◌, ◌≤◌, ℕ, suc, Bool, List, Option, Some, None, length, take, drop, refl, ap, sym, ◌∙◌, arith, rules}
 use Rattle.std.specs.Prelude.{◌||◌}
 use Rattle.link_model.specs.Books.{Slots, slot_at, with_run}
-use Rattle.link_gather.specs.Filling.{run_cut, has_conflict, has_new, put_in, put_result, is_other, is_fresh}
+use Rattle.link_gather.specs.Filling.{run_cut, has_conflict, has_new, put_in, put_result, is_put_other, is_put_new}
 use Rattle.link_gather.specs.declared.slots.Put.{Put}
 use Rattle.link_gather.proofs.FillingLaws.{cut_within, put_length, run_step, conflict_step, new_step, other_is, fresh_is, run_none, conflict_none, new_none, none_left, none_cut}
 use Rattle.vc_types.specs.Slices.{slice_length}
@@ -39,14 +39,14 @@ loop-i-preserved c =
           ap (λ (l : List ℕ). c.with-seen.result.conflict || has_conflict c.put.new.self (run_cut p (i + 1) m l)) left
           ∙ ap (λ (l : Slots). c.with-seen.result.conflict || has_conflict l (run_cut p (i + 1) m (drop c.in-Ok.len rest))) after
           ∙ ap (λ (b : Bool). b || has_conflict (put_in slots i one) (run_cut p (i + 1) m (drop c.in-Ok.len rest)))
-          (c.with-seen.ensures.conflict ∙ ap (λ (b : Bool). c.loop-i.seen.conflict || b) (ap is_other put ∙ other_is (slot_at slots i) i one))
+          (c.with-seen.ensures.conflict ∙ ap (λ (b : Bool). c.loop-i.seen.conflict || b) (ap is_put_other put ∙ other_is (slot_at slots i) i one))
           ∙ conflict_step p slots i rest c.in-Ok.len inside cut (n - i) m size c.loop-i.seen.conflict
           ∙ c.loop-i.invariant.conflict;
       new =
           ap (λ (l : List ℕ). c.with-seen.result.new || has_new c.put.new.self (run_cut p (i + 1) m l)) left
           ∙ ap (λ (l : Slots). c.with-seen.result.new || has_new l (run_cut p (i + 1) m (drop c.in-Ok.len rest))) after
           ∙ ap (λ (b : Bool). b || has_new (put_in slots i one) (run_cut p (i + 1) m (drop c.in-Ok.len rest)))
-          (c.with-seen.ensures.new ∙ ap (λ (b : Bool). c.loop-i.seen.new || b) (ap is_fresh put ∙ fresh_is (slot_at slots i) i one))
+          (c.with-seen.ensures.new ∙ ap (λ (b : Bool). c.loop-i.seen.new || b) (ap is_put_new put ∙ fresh_is (slot_at slots i) i one))
           ∙ new_step p slots i rest c.in-Ok.len inside cut (n - i) m size c.loop-i.seen.new
           ∙ c.loop-i.invariant.new;
       length = ap (λ (l : Slots). length l) after ∙ put_length slots i one ∙ c.loop-i.invariant.length;
