@@ -13,7 +13,7 @@ use Rattle.std.proofs.lemmas.Option.{none-some}
 use Rattle.link_model.specs.Complete.{slice_numbers, has_all_slices, all_bytes, whole_of, whole_picture}
 use Rattle.link_model.specs.Books.{Slots, slot_at, Gathered, Book, nothing_gathered, with_run, gathers_run, gathers, takes_plan, takes_slices, waits_too, book_takes, book_outcome, gathered_of, book_by, book_of, book_slice, gathered_whole, book_whole}
 use Rattle.link_model.specs.Judgement.{part_outcome, parameters_outcome, slices_outcome, run_outcome, waiting_outcome, is_conflict, is_new}
-use Rattle.link_model.specs.Kept.{KeptParameters, parameters_in, kept_parameters, Parted, parted_by, also_before, parted, Own, own_of, own, own_slice, runs_of, run_taken, slices_in, slice_in, SliceRun, first_copy, slice_run, waiting_limit}
+use Rattle.link_model.specs.Kept.{KeptParameters, parameters_in, kept_parameters, Parted, parted_by, also_before, parted, Own, own_of, own, own_slice, runs_of, run_taken, part_slices, slice_in, SliceRun, first_copy, slice_run, waiting_limit}
 use Rattle.link_model.specs.Session.{Part, ParamsPart, SlicesPart, SlicePart}
 use Rattle.link_model.specs.declared.outcome.Outcome.{Outcome}
 use Rattle.link_model.specs.declared.outcome.Outcome.TheVariants.{SlicesConflict, SlicesKept, SlicesRepeat, SlicesPending, SlicesFull}
@@ -26,10 +26,10 @@ use Rattle.vc_types.specs.TransformParameters.{coded_parameters}
 -- ---- the first parameters
 
 abbrev first_plan : List Part → KeptParameters → Parted
-first_plan parts plan = record { plan = plan; before = filter_map slices_in parts; behind = [] }
+first_plan parts plan = record { plan = plan; before = filter_map part_slices parts; behind = [] }
 
 abbrev first_kept : List Part → KeptParameters → Own
-first_kept parts plan = record { plan = plan; runs = runs_of plan.parameters (take waiting_limit (filter_map slices_in parts)) }
+first_kept parts plan = record { plan = plan; runs = runs_of plan.parameters (take waiting_limit (filter_map part_slices parts)) }
 
 module _ (s : Sequence) (part : Part) where
   parted-first : (parts : List Part) → parted s parts ≡ None → parted s (parts ++ part ∷ []) ≡ option_map (first_plan parts) (parameters_in s part)
@@ -60,7 +60,7 @@ module _ (s : Sequence) (part : Part) where
     where
       kept : (o : Option KeptParameters) → option_map own_of (option_map (first_plan parts) o) ≡ option_map (first_kept parts) o
       kept None = refl
-      kept (Some plan) = ap (λ (l : List SlicePart). Some (let k : Own = record { plan = plan; runs = runs_of plan.parameters l } in k)) (append-nil (take waiting_limit (filter_map slices_in parts)))
+      kept (Some plan) = ap (λ (l : List SlicePart). Some (let k : Own = record { plan = plan; runs = runs_of plan.parameters l } in k)) (append-nil (take waiting_limit (filter_map part_slices parts)))
 
       by_parted : (old : Option Parted) → parted s parts ≡ old → option_map own_of old ≡ None → option_map own_of (parted s (parts ++ part ∷ [])) ≡ option_map (first_kept parts) (parameters_in s part)
       by_parted (Some p) is e = absurd (none-some (own_of p) (sym e))
@@ -123,17 +123,17 @@ module _ (s : Sequence) (parts : List Part) where
   gathered_book g = record { sequence = s; waiting = []; gathered = Some g }
 
   -- without parameters
-  params_first : (body : List ℕ) (o : Option KeptParameters) → takes_plan (waiting_book (take waiting_limit (filter_map slices_in parts))) o ≡ book_by s (parts ++ ParamsPart body ∷ []) (option_map (first_kept parts) o)
-  params_first body None = ap (λ (l : List SlicePart). waiting_book (take waiting_limit l)) (sym (filter_map-append slices_in parts (ParamsPart body ∷ []) ∙ append-nil (filter_map slices_in parts)))
+  params_first : (body : List ℕ) (o : Option KeptParameters) → takes_plan (waiting_book (take waiting_limit (filter_map part_slices parts))) o ≡ book_by s (parts ++ ParamsPart body ∷ []) (option_map (first_kept parts) o)
+  params_first body None = ap (λ (l : List SlicePart). waiting_book (take waiting_limit l)) (sym (filter_map-append part_slices parts (ParamsPart body ∷ []) ∙ append-nil (filter_map part_slices parts)))
   params_first body (Some plan) =
       ap gathered_book
-      (ap (λ (g : Gathered). fold gathers g (take waiting_limit (filter_map slices_in parts))) (nothing_is plan)
-      ∙ gathers-all (take waiting_limit (filter_map slices_in parts)) (record { plan = plan; runs = [] }))
+      (ap (λ (g : Gathered). fold gathers g (take waiting_limit (filter_map part_slices parts))) (nothing_is plan)
+      ∙ gathers-all (take waiting_limit (filter_map part_slices parts)) (record { plan = plan; runs = [] }))
 
-  slices_wait : (slices : SlicePart) → waits_too (waiting_book (take waiting_limit (filter_map slices_in parts))) slices ≡ book_by s (parts ++ SlicesPart slices ∷ []) None
+  slices_wait : (slices : SlicePart) → waits_too (waiting_book (take waiting_limit (filter_map part_slices parts))) slices ≡ book_by s (parts ++ SlicesPart slices ∷ []) None
   slices_wait slices =
-      waits-more s (filter_map slices_in parts) slices
-      ∙ ap (λ (l : List SlicePart). waiting_book (take waiting_limit l)) (sym (filter_map-append slices_in parts (SlicesPart slices ∷ [])))
+      waits-more s (filter_map part_slices parts) slices
+      ∙ ap (λ (l : List SlicePart). waiting_book (take waiting_limit l)) (sym (filter_map-append part_slices parts (SlicesPart slices ∷ [])))
 
   -- the book of the parts with one more
   pub takes-more : (part : Part) → book_takes (book_of s parts) part ≡ book_of s (parts ++ part ∷ [])
@@ -192,10 +192,10 @@ module _ (s : Sequence) (parts : List Part) where
   book_outcome_is (ParamsPart body) = ap (λ (p : Option KeptParameters). parameters_outcome p (coded_parameters s body)) (plan_is (own s parts))
   book_outcome_is (SlicesPart slices) = by_own (own s parts) refl
     where
-      by_own : (o : Option Own) → own s parts ≡ o → book_outcome (book_by s parts o) (SlicesPart slices) ≡ slices_outcome (length (filter_map slices_in parts)) o slices
+      by_own : (o : Option Own) → own s parts ≡ o → book_outcome (book_by s parts o) (SlicesPart slices) ≡ slices_outcome (length (filter_map part_slices parts)) o slices
       by_own None none =
-          ap waiting_outcome (length-take waiting_limit (filter_map slices_in parts))
-          ∙ ap (λ (b : Bool). cond b SlicesPending SlicesFull) (few_is (length (filter_map slices_in parts)) waiting_limit)
+          ap waiting_outcome (length-take waiting_limit (filter_map part_slices parts))
+          ∙ ap (λ (b : Bool). cond b SlicesPending SlicesFull) (few_is (length (filter_map part_slices parts)) waiting_limit)
       by_own (Some kept) some = λ j. run_outcome (λ i. slot_is s parts kept some i j) (slice_run kept.plan.parameters slices)
 
 -- ---- whole pictures

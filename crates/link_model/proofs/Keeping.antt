@@ -8,14 +8,14 @@ use Rattle.std.proofs.lemmas.List.{append_assoc}
 use Rattle.std.proofs.lemmas.List.Elements.{filter_map-append}
 use Rattle.std.proofs.lemmas.Option.{same_Some, none-some}
 use Rattle.link_model.specs.Complete.{slice_numbers, has_all_slices, all_bytes, whole_of, whole_picture}
-use Rattle.link_model.specs.Kept.{KeptParameters, parameters_in, Parted, parted_by, also_before, parted, SliceRun, Own, runs_of, own_of, own, slices_in, first_copy, slice_in, own_slice, waiting_limit, run_taken, slice_run}
+use Rattle.link_model.specs.Kept.{KeptParameters, parameters_in, Parted, parted_by, also_before, parted, SliceRun, Own, runs_of, own_of, own, part_slices, first_copy, slice_in, own_slice, waiting_limit, run_taken, slice_run}
 use Rattle.link_model.specs.Session.{Part, ParamsPart, SlicesPart, SlicePart}
 use Rattle.vc_types.specs.SequenceHeader.{Sequence}
 
 -- ---- more parts
 
 abbrev pub longer : List Part → Parted → Parted
-longer more p = record { plan = p.plan; before = p.before; behind = p.behind ++ filter_map slices_in more }
+longer more p = record { plan = p.plan; before = p.before; behind = p.behind ++ filter_map part_slices more }
 
 module _ (s : Sequence) (more : List Part) where
   parted-append : (parts : List Part) (p : Parted) → parted s parts ≡ Some p → parted s (parts ++ more) ≡ Some (longer more p)
@@ -31,20 +31,20 @@ module _ (s : Sequence) (more : List Part) where
           → ((q : Parted) → old ≡ Some q → parted s (parts ++ more) ≡ Some (longer more q))
           → option_map_or (λ plan. Some (parted_by (parts ++ more) plan)) plan (option_map (also_before part) (parted s (parts ++ more))) ≡ Some (longer more p)
       by_plan (Some plan) old p e again =
-          ap (λ (l : List SlicePart). Some (record { plan = plan; before = []; behind = l })) (filter_map-append slices_in parts more)
+          ap (λ (l : List SlicePart). Some (record { plan = plan; before = []; behind = l })) (filter_map-append part_slices parts more)
           ∙ ap (λ q. Some (longer more q)) (same_Some (parted_by parts plan) p e)
       by_plan None None p e again = absurd (none-some p e)
       by_plan None (Some q) p e again = ap (option_map (also_before part)) (again q refl) ∙ ap Some (behind part q p (same_Some (also_before part q) p e))
 
 -- what is kept with more runs
 abbrev pub grown : List Part → Own → Own
-grown more kept = record { plan = kept.plan; runs = kept.runs ++ runs_of kept.plan.parameters (filter_map slices_in more) }
+grown more kept = record { plan = kept.plan; runs = kept.runs ++ runs_of kept.plan.parameters (filter_map part_slices more) }
 
 own_of-longer : (more : List Part) (p : Parted) → own_of (longer more p) ≡ grown more (own_of p)
 own_of-longer more p =
     ap (λ (runs : List SliceRun). (let k : Own = record { plan = p.plan; runs = runs } in k))
-    (ap (runs_of p.plan.parameters) (sym (append_assoc (take waiting_limit p.before) p.behind (filter_map slices_in more)))
-    ∙ filter_map-append (λ r. run_taken (slice_run p.plan.parameters r)) (take waiting_limit p.before ++ p.behind) (filter_map slices_in more))
+    (ap (runs_of p.plan.parameters) (sym (append_assoc (take waiting_limit p.before) p.behind (filter_map part_slices more)))
+    ∙ filter_map-append (λ r. run_taken (slice_run p.plan.parameters r)) (take waiting_limit p.before ++ p.behind) (filter_map part_slices more))
 
 pub own-append : (s : Sequence) (parts more : List Part) (kept : Own) → own s parts ≡ Some kept → own s (parts ++ more) ≡ Some (grown more kept)
 unfolding own
@@ -66,7 +66,7 @@ first_copy-append [] more i = refl
 first_copy-append (run ∷ runs) more i = ap (option_or (slice_in run i)) (first_copy-append runs more i) ∙ sym (or_assoc (slice_in run i) (first_copy runs i) (first_copy more i))
 
 pub slice_stays : (more : List Part) (kept : Own) (i : ℕ) (bytes : List ℕ) → own_slice kept i ≡ Some bytes → own_slice (grown more kept) i ≡ Some bytes
-slice_stays more kept i bytes e = first_copy-append kept.runs (runs_of kept.plan.parameters (filter_map slices_in more)) i ∙ ap (λ (o : Option (List ℕ)). option_or o (first_copy (runs_of kept.plan.parameters (filter_map slices_in more)) i)) e
+slice_stays more kept i bytes e = first_copy-append kept.runs (runs_of kept.plan.parameters (filter_map part_slices more)) i ∙ ap (λ (o : Option (List ℕ)). option_or o (first_copy (runs_of kept.plan.parameters (filter_map part_slices more)) i)) e
 
 -- ---- whole pictures
 

@@ -14,8 +14,6 @@ pub mod Leaving
 pub mod Counting
 pub mod WholeBytes
 pub mod Windowing
-pub mod SameParameters
-pub mod SameHeaders
 pub mod Hearing
 pub mod SessionRows
 pub mod Apart

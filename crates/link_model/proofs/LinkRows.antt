@@ -4,7 +4,7 @@ use Rattle.std.specs.Int.{w16, w32, to_be_bytes}
 use Rattle.link_model.specs.Complete.{has_all_slices, all_bytes, whole_picture}
 use Rattle.vc_types.specs.FieldPairs.{interleaved_rows}
 use Rattle.vc_types.specs.RawFrames.{sample_bytes, frame_bytes}
-use Rattle.link_model.specs.Headers.{same_sequence, same_parameters}
+use Rattle.vc_types.specs.SameValues.{same_sequence, same_parameters}
 use Rattle.link_model.specs.Judgement.{waiting_outcome, part_outcome, fragment_outcome, outcome_behind, outcomes_behind, outcomes_in, with_pictures, with_sessions, tally_of, no_counts}
 use Rattle.link_model.specs.Kept.{parameters_in, parted, next_slice, next_slices, slice_run, own, first_copy}
 use Rattle.link_model.specs.Numbers.{base_above, greatest, least, nearest, picture_number, is_closed, is_late, enters, parts_of, opened_numbers}

@@ -9,7 +9,7 @@ use Rattle.link_model.specs.Books.{book_whole, Book, book_of, book_takes, book_o
 use Rattle.link_model.specs.Judgement.{fragment_outcome, part_outcome}
 use Rattle.link_model.specs.Numbers.{Numbered, greatest, nearest, picture_number, is_closed, is_late, is_opened, has_parts, enters, parts_of, span}
 use Rattle.link_model.specs.Session.{Part, Fragment}
-use Rattle.link_model.specs.Windows.{Window, empty_window, number_in, late_in, book_in, with_book, opens_picture, window_enters, window_outcome, is_nothing, is_needed, forgets, complete_in, let_go_in, StandsForEntries}
+use Rattle.link_model.specs.Windows.{Window, empty_window, number_by, late_in, book_in, with_book, opens_picture, window_enters, window_outcome, is_nothing, is_needed, forgets, complete_in, let_go_in, StandsForEntries}
 use Rattle.link_model.specs.declared.outcome.Outcome.TheVariants.{Late}
 use Rattle.link_model.proofs.Bookkeeping.{takes-more, book_outcome_is, book_whole_is}
 use Rattle.link_model.specs.Output.{complete_at, is_let_go}
@@ -22,7 +22,7 @@ unfolding greatest parts_of
 empty_window_stands base window s = record { begins = refl; top = refl; is_new = refl; books = λ n needed. absurd (false≢true needed); unopened = λ n shut. refl }
 
 module _ (base window : ℕ) (s : Sequence) (w : Window) (es : List Numbered) (released : ℕ) (stands : StandsForEntries base window s w es released) where
-  number_is : (bits : ℕ) → number_in w bits ≡ picture_number base es bits
+  number_is : (bits : ℕ) → number_by w bits ≡ picture_number base es bits
   unfolding picture_number
   number_is bits =
       ap (λ (b : Bool). cond b (w.base + bits) (nearest w.top bits)) stands.is_new
@@ -116,7 +116,7 @@ module _ (base window : ℕ) (s : Sequence) (w : Window) (es : List Numbered) (r
           ends [] = refl
           ends (p ∷ parts) = refl
 
-  late_same : (f : Fragment) → late_in window w (number_in w f.number) ≡ is_late window es (picture_number base es f.number)
+  late_same : (f : Fragment) → late_in window w (number_by w f.number) ≡ is_late window es (picture_number base es f.number)
   late_same f = ap (late_in window w) (number_is f.number) ∙ late_is (picture_number base es f.number)
 
   -- it stands for what was entered with one fragment more
@@ -124,9 +124,9 @@ module _ (base window : ℕ) (s : Sequence) (w : Window) (es : List Numbered) (r
   unfolding window_enters
   window_stands_for_more f = elim (cases_Bool (is_late window es (picture_number base es f.number))) [
     | inl late ↦ subst (λ (l : List Numbered). StandsForEntries base window s (window_enters window s w f) l released) (sym (late_changes_nothing base window es f late))
-        (subst (λ (v : Window). StandsForEntries base window s v es released) (sym (cond-true (late_in window w (number_in w f.number)) w (opens_picture s w (number_in w f.number) f) (late_same f ∙ late))) stands)
+        (subst (λ (v : Window). StandsForEntries base window s v es released) (sym (cond-true (late_in window w (number_by w f.number)) w (opens_picture s w (number_by w f.number) f) (late_same f ∙ late))) stands)
     | inr early ↦ subst (λ (l : List Numbered). StandsForEntries base window s (window_enters window s w f) l released) (sym (early_enters base window es f early))
-        (subst (λ (v : Window). StandsForEntries base window s v (es ++ record { number = picture_number base es f.number; part = f.part } ∷ []) released) (sym (cond-false (late_in window w (number_in w f.number)) w (opens_picture s w (number_in w f.number) f) (late_same f ∙ early)))
+        (subst (λ (v : Window). StandsForEntries base window s v (es ++ record { number = picture_number base es f.number; part = f.part } ∷ []) released) (sym (cond-false (late_in window w (number_by w f.number)) w (opens_picture s w (number_by w f.number) f) (late_same f ∙ early)))
         (subst (λ k. StandsForEntries base window s (opens_picture s w k f) (es ++ record { number = picture_number base es f.number; part = f.part } ∷ []) released) (sym (number_is f.number))
         (opens_stands (picture_number base es f.number) early f.part)))
   ]
@@ -135,7 +135,7 @@ module _ (base window : ℕ) (s : Sequence) (w : Window) (es : List Numbered) (r
   pub window_outcome_is : (f : Fragment) → window_outcome window s w f ≡ fragment_outcome base window s es f
   unfolding window_outcome fragment_outcome
   window_outcome_is f =
-      ap (λ (b : Bool). cond b Late (book_outcome (book_in s w (number_in w f.number)) f.part)) (late_same f)
+      ap (λ (b : Bool). cond b Late (book_outcome (book_in s w (number_by w f.number)) f.part)) (late_same f)
       ∙ ap (λ k. cond (is_late window es (picture_number base es f.number)) Late (book_outcome (book_in s w k) f.part)) (number_is f.number)
       ∙ by_late (is_late window es (picture_number base es f.number)) refl
     where

@@ -4,7 +4,7 @@ use Rattle.std.specs.List.{flat_map, list_all}
 use Rattle.std.specs.Option.{option_and_then, option_map, option_or}
 use Rattle.link_model.specs.Complete.{slice_numbers}
 use Rattle.link_model.specs.Judgement.{parameters_outcome, run_outcome, waiting_outcome}
-use Rattle.link_model.specs.Kept.{KeptParameters, kept_parameters, Own, own, own_slice, slices_in, SliceRun, slice_run, waiting_limit}
+use Rattle.link_model.specs.Kept.{KeptParameters, kept_parameters, Own, own, own_slice, part_slices, SliceRun, slice_run, waiting_limit}
 use Rattle.link_model.specs.Session.{Part, ParamsPart, SlicesPart, SlicePart}
 use Rattle.link_model.specs.declared.outcome.Outcome.{Outcome}
 use Rattle.vc_types.specs.SequenceHeader.{Sequence}
@@ -99,7 +99,7 @@ abbrev pub gathered_of : Own → Gathered
 gathered_of kept = record { plan = kept.plan; slots = map (own_slice kept) (slice_numbers kept) }
 
 abbrev pub waiting_by : Option Own → List Part → List SlicePart
-waiting_by None parts = take waiting_limit (filter_map slices_in parts)
+waiting_by None parts = take waiting_limit (filter_map part_slices parts)
 waiting_by (Some kept) parts = []
 
 abbrev pub book_by : Sequence → List Part → Option Own → Book

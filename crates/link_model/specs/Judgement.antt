@@ -3,8 +3,8 @@ use Rattle.std.specs.Prelude.{ℕ, ◌+◌, ◌-◌, ◌%◌, Bool, true, false,
 use Rattle.std.specs.List.{list_any, enumerate_from}
 use Rattle.std.specs.Option.{option_map_or}
 use Rattle.std.specs.Str.{bytes_eq}
-use Rattle.link_model.specs.Headers.{same_sequence, same_parameters}
-use Rattle.link_model.specs.Kept.{KeptParameters, ReadParameters, Own, own, own_parameters, own_slice, slices_in, waiting_limit, SliceRun, slice_run}
+use Rattle.vc_types.specs.SameValues.{same_sequence, same_parameters}
+use Rattle.link_model.specs.Kept.{KeptParameters, ReadParameters, Own, own, own_parameters, own_slice, part_slices, waiting_limit, SliceRun, slice_run}
 use Rattle.link_model.specs.Numbers.{Numbered, entered, picture_number, is_late, parts_of, opened_numbers}
 use Rattle.link_model.specs.Output.{complete_at, planes_at, frame_at, base_behind, entered_behind}
 use Rattle.link_model.specs.Packets.{PayloadValue, Header, End, Skip, Params, Slices}
@@ -63,7 +63,7 @@ unfoldable pub part_outcome : Sequence → List Part → Part → Outcome
 part_outcome sequence before (ParamsPart body) =
     parameters_outcome (own_parameters sequence before) (coded_parameters sequence body)
 part_outcome sequence before (SlicesPart slices) =
-    slices_outcome (length (filter_map slices_in before)) (own sequence before) slices
+    slices_outcome (length (filter_map part_slices before)) (own sequence before) slices
 
 -- whether a part with this outcome changes what its picture keeps
 abbrev pub keeps : Outcome → Bool

@@ -32,9 +32,9 @@ unfoldable pub parameters_in : Sequence → Part → Option KeptParameters
 parameters_in sequence (ParamsPart body) = kept_parameters body (coded_parameters sequence body)
 parameters_in sequence (SlicesPart slices) = None
 
-abbrev pub slices_in : Part → Option SlicePart
-slices_in (ParamsPart body) = None
-slices_in (SlicesPart slices) = Some slices
+abbrev pub part_slices : Part → Option SlicePart
+part_slices (ParamsPart body) = None
+part_slices (SlicesPart slices) = Some slices
 
 -- the first parameters that are accepted, and the slices that came before and behind them
 pub record Parted : Type 0 where
@@ -43,7 +43,7 @@ pub record Parted : Type 0 where
   pub behind : List SlicePart
 
 abbrev pub parted_by : List Part → KeptParameters → Parted
-parted_by behind plan = record { plan = plan; before = []; behind = filter_map slices_in behind }
+parted_by behind plan = record { plan = plan; before = []; behind = filter_map part_slices behind }
 
 abbrev pub also_before : Part → Parted → Parted
 also_before (ParamsPart body) p = p

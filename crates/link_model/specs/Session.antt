@@ -2,7 +2,7 @@
 -- the fragments of pictures that belong to each (this project's profile of RFC 8450).
 use Rattle.std.specs.Prelude.{ℕ, Bool, true, false, ◌&&◌, ◌||◌, not, ◌==◌, if◌then◌else◌, List, [], ◌∷◌, ◌++◌, slice_range, filter_map, fold, Option, Some, None, Result, Ok, Err}
 use Rattle.std.specs.Option.{option_map_or}
-use Rattle.link_model.specs.Headers.{same_sequence}
+use Rattle.vc_types.specs.SameValues.{same_sequence}
 use Rattle.link_model.specs.Packets.{PayloadValue, Header, End, Params, Slices, FragmentHead, RtpPacket, rtp_packet, payload}
 use Rattle.link_model.specs.declared.refusal.PayloadRefusal.{PayloadRefusal}
 use Rattle.link_model.specs.declared.refusal.RtpRefusal.{RtpRefusal}

@@ -19,8 +19,8 @@ pub record Window : Type 0 where
 abbrev pub empty_window : ℕ → Window
 empty_window base = record { base = base; top = 0; is_new = true; books = λ n. None }
 
-abbrev pub number_in : Window → ℕ → ℕ
-number_in w bits = if w.is_new then w.base + bits else nearest w.top bits
+abbrev pub number_by : Window → ℕ → ℕ
+number_by w bits = if w.is_new then w.base + bits else nearest w.top bits
 
 abbrev pub late_in : ℕ → Window → ℕ → Bool
 late_in window w n = nat_le (n + window) w.top || nat_le (2 ^ 64 - 16) n
@@ -43,14 +43,14 @@ opens_picture s w n f = record {
 
 unfoldable pub window_enters : ℕ → Sequence → Window → Fragment → Window
 window_enters window s w f =
-    if late_in window w (number_in w f.number) then w
-    else opens_picture s w (number_in w f.number) f
+    if late_in window w (number_by w f.number) then w
+    else opens_picture s w (number_by w f.number) f
 
 -- its outcome
 unfoldable pub window_outcome : ℕ → Sequence → Window → Fragment → Outcome
 window_outcome window s w f =
-    if late_in window w (number_in w f.number) then Late
-    else book_outcome (book_in s w (number_in w f.number)) f.part
+    if late_in window w (number_by w f.number) then Late
+    else book_outcome (book_in s w (number_by w f.number)) f.part
 
 -- the books of pictures that are closed and below what was released go
 abbrev pub forgets : ℕ → ℕ → Window → Window

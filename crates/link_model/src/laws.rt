@@ -1,9 +1,8 @@
-ghost use Rattle.std.specs.Prelude.{◌≡◌, ◌↔◌, ℕ, ◌+◌, ◌%◌, ◌^◌, ◌-◌, ◌<◌, ◌≤◌, true, false, List, [], ◌∷◌, ◌++◌, fold, filter_map, is_some, Some, None, Ok, length};
+ghost use Rattle.std.specs.Prelude.{◌≡◌, ℕ, ◌+◌, ◌%◌, ◌^◌, ◌-◌, ◌<◌, ◌≤◌, true, false, List, [], ◌∷◌, ◌++◌, fold, filter_map, is_some, Some, None, Ok, length};
 ghost use Rattle.std.specs.List.{flat_map, list_any};
 ghost use Rattle.std.specs.Option.{option_and_then};
 ghost use Rattle.link_model.specs.Books.{Book, book_of, book_takes, book_outcome, book_slice, book_whole};
 ghost use Rattle.link_model.specs.Complete.{whole_picture};
-ghost use Rattle.link_model.specs.Headers.{same_sequence, same_parameters};
 ghost use Rattle.link_model.specs.Judgement.{part_outcome, keeps, fragment_outcome, outcome_behind, outcomes_in, with_outcome, outcome_counts};
 ghost use Rattle.link_model.specs.Kept.{Own, own, own_slice};
 ghost use Rattle.link_model.specs.Numbers.{Numbered, base_above, is_opened, greatest, nearest, picture_number, is_closed, is_late, enters, entered, parts_of, opened_numbers};
@@ -13,7 +12,6 @@ ghost use Rattle.link_model.specs.Session.{Part, Fragment, Session, HeardSession
 ghost use Rattle.link_model.specs.declared.outcome.Outcome.TheVariants.{HeaderNew, End};
 ghost use Rattle.link_model.specs.Windows.{Window, empty_window, window_enters, window_outcome, forgets, let_go_in, StandsForEntries};
 ghost use Rattle.vc_types.specs.SequenceHeader.{Sequence};
-ghost use Rattle.vc_types.specs.TransformParameters.{Parameters};
 
 /// What a picture keeps stays as parts come: its parameters, each slice, and, once it is complete, its whole bytes.
 #[tactic(auto, using(crate::proofs::Keeping::laws))]
@@ -222,13 +220,6 @@ pub fn sessions_are_written_in_order()
         ≡ let_go_numbers window h.session.sequence (entered_behind window hs h) ++ rest)
         × (all_output window (h ∷ hs) ≡ last_so_far window (h ∷ hs)
         ++ flat_map (frame_bytes_at h.session.sequence (entered_behind window hs h)) rest) }
-{}
-
-/// Headers and parameters of one value are compared field by field, which is to say that they are equal.
-#[tactic(auto, using(crate::proofs::SameHeaders::same_exactly, crate::proofs::SameParameters::same_exactly))]
-pub fn same_is_equal()
-    ensures headers { (a b : Sequence) → (same_sequence a b ≡ true) ↔ (a ≡ b) }
-    ensures parameters { (a b : Parameters) → (same_parameters a b ≡ true) ↔ (a ≡ b) }
 {}
 
 /// What a packet or a payload is written as is read back as the same value, the places aside. What follows an RTP header

@@ -17,5 +17,4 @@ fn laws_hold() {
     books_stand_for_parts();
     what_is_not_kept_changes_nothing();
     windows_stand_for_fragments();
-    same_is_equal();
 }

@@ -10,3 +10,4 @@ pub mod SoFar
 pub mod Loops
 pub mod Stopping
 pub mod Players
+pub mod Playable

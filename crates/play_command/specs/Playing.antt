@@ -123,3 +123,8 @@ pub record Plays
   pub ended : PlayEnded packets answer input output (unit_split packets given)
   pub input_failed : answer ≡ Err InputFailed → HasRisen input.faults
   pub output_failed : answer ≡ Err OutputFailed → HasRisen output.faults
+
+-- the units that begin the bytes are accepted, and end with the bytes or with an end of sequence
+pub record IsPlayable (packets : ℕ) (bytes : List ℕ) : Type 0 where
+  pub accepted : AreAccepted (unit_split packets bytes).units
+  pub ended : ((unit_split packets bytes).rest ≡ []) ⊎ IsTrue (has_ended (unit_split packets bytes))

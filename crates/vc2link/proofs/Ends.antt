@@ -1,10 +1,24 @@
 -- Commands that come to their end.
-use Rattle.std.proofs.Common.{◌≡◌, ◌⊎◌, ℕ, true, false, inl, inr, refl, sym, ap, ◌∙◌}
+use Rattle.std.proofs.Common.{◌≡◌, ◌⊎◌, ℕ, List, Result, Ok, Err, true, false, inl, inr, refl, sym, ap, ◌∙◌}
+use Rattle.std.specs.Result.{IsOk}
 use Rattle.decode_command.specs.declared.ended.Ended.{Ended}
 use Rattle.decode_command.specs.declared.ended.Ended.TheVariants.{Done, NoMemory}
 use Rattle.decode_command.proofs.Completing.{decode_completes}
+use Rattle.link_report.specs.Answers.{Reports, Says, answer_of, answer_status, answer_text}
+use Rattle.link_report.specs.Report.{status_line}
+use Rattle.link_report.specs.declared.answer.Answer.{Answer}
+use Rattle.link_report.specs.declared.ending.Ending.{Ending}
+use Rattle.link_report.specs.declared.ending.Ending.TheVariants as endings
+use Rattle.link_report.specs.declared.summary.Summary.{Summary}
 use Rattle.link_words.specs.Settings.{Meaning, ToDecode, ToPlay}
+use Rattle.play_command.proofs.Playable.{play_completes}
+use Rattle.vc_ports.specs.Changes.{OutputChange, HasRisen}
 use Rattle.vc2link.specs.LinkMain.{Changes, DecodesTo, PlaysTo, Does, Completes, decoded_status, is_built}
+
+false_is_true : false ≡ true → ⊥
+false_is_true p = cc
+
+-- ---- decoding
 
 ended_well : (status : ℕ) (ended : Ended) → status ≡ decoded_status ended → (ended ≡ Done) ⊎ (ended ≡ NoMemory) → (status ≡ 0) ⊎ (status ≡ 3)
 ended_well status ended is (inl done) = inl (is ∙ ap decoded_status done)
@@ -13,6 +27,27 @@ ended_well status ended is (inr none) = inr (is ∙ ap decoded_status none)
 pub decode_ends : (window workers packets status : ℕ) (c : Changes) → DecodesTo status c → Completes (ToDecode window workers packets) status c
 decode_ends window workers packets status c d sound whole =
     ended_well status d.ended d.status_is (decode_completes c.input c.output sound.input sound.output whole d.ended d.decodes)
+
+-- ---- playing
+
+played_status : (answer : Result Summary Ending) → IsOk answer ⊎ (answer ≡ Err endings.NoMemory) → (answer_status (answer_of answer) ≡ 0) ⊎ (answer_status (answer_of answer) ≡ 3)
+played_status (Ok summary) came = inl refl
+played_status (Err ending) (inl ok) = absurd (false_is_true ok)
+played_status (Err ending) (inr none) = inr (ap (λ (a : Result Summary Ending). answer_status (answer_of a)) none)
+
+due_status : (status due : ℕ) (report : OutputChange) (text : List ℕ) → (HasRisen report.faults → ⊥) → Says text due status report → status ≡ due
+due_status status due report text sound (inl said) = said.0
+due_status status due report text sound (inr failed) = absurd (sound failed.1)
+
+answered_well : (answer : Answer) (status : ℕ) (report : OutputChange) → (HasRisen report.faults → ⊥) → (answer_status answer ≡ 0) ⊎ (answer_status answer ≡ 3) → Reports answer status report → (status ≡ 0) ⊎ (status ≡ 3)
+answered_well answer status report sound (inl done) (inl said) = inl (due_status status (answer_status answer) report (answer_text answer) sound said ∙ done)
+answered_well answer status report sound (inr none) (inl said) = inr (due_status status (answer_status answer) report (answer_text answer) sound said ∙ none)
+answered_well answer status report sound due (inr said) = inr (due_status status 3 report (status_line endings.NoMemory) sound said)
+
+pub play_ends : (packets status : ℕ) (c : Changes) → PlaysTo packets status c → Completes (ToPlay packets) status c
+play_ends packets status c d sound whole =
+    let came = play_completes packets c.input c.output sound.input sound.output whole d.answer d.plays in
+    answered_well (answer_of d.answer) status c.report sound.report (played_status d.answer came) d.reports
 
 true_is_false : true ≡ false → ⊥
 true_is_false p = cc
@@ -37,5 +72,5 @@ pub play_does : (packets status : ℕ) (c : Changes) → PlaysTo packets status 
 play_does packets status c did = record {
   built = λ _. did;
   unbuilt = λ is. absurd (true_is_false is);
-  completes = λ _ _ whole. absurd whole;
+  completes = λ _. play_ends packets status c did;
 }

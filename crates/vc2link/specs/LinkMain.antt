@@ -9,7 +9,7 @@ use Rattle.link_report.specs.declared.ending.Ending.{Ending}
 use Rattle.link_report.specs.declared.ending.Ending.TheVariants.{Usage}
 use Rattle.link_report.specs.declared.summary.Summary.{Summary}
 use Rattle.link_words.specs.Settings.{Meaning, ToDecode, ToEncode, ToSend, ToRecv, ToLoop, ToUnpack, ToPack, ToPlay, ToGen}
-use Rattle.play_command.specs.Playing.{Plays}
+use Rattle.play_command.specs.Playing.{Plays, IsPlayable}
 use Rattle.vc_ports.specs.Changes.{Change, InputChange, OutputChange, WireChange, HasRisen}
 use Rattle.vc_slice.specs.Asked.{Told}
 
@@ -114,6 +114,7 @@ pub record HasNoFault (c : Changes) : Type 0 where
 -- The input tells its bytes, which end where the command may end, and are accepted: a row for each command that is built.
 abbrev pub EndsWell : Meaning → Changes → Type 0
 EndsWell (ToDecode window workers packets) c = IsSomeAnd c.input.left.before IsDecodable
+EndsWell (ToPlay packets) c = IsSomeAnd c.input.left.before (IsPlayable packets)
 EndsWell meaning c = ⊥
 
 -- The command came to its end, where no count of faults rose and the input ends well, unless memory ran out.

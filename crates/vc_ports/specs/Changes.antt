@@ -37,10 +37,6 @@ input_of left faults old new =
 abbrev pub Took : InputChange → List ℕ → Type 0
 Took input bytes = Gave input.left.before input.left.after bytes
 
-pub record InputStays (input : InputChange) : Type 0 where
-  pub left : Stays input.left
-  pub faults : Stays input.faults
-
 -- ---- the output, and the report
 
 -- the bytes that it holds, where it tells them, and its count of faults
@@ -60,10 +56,6 @@ Wrote output bytes = Grew output.held.before output.held.after bytes
 abbrev pub WrotePart : OutputChange → List ℕ → Type 0
 WrotePart output bytes = GrewBySome output.held.before output.held.after bytes
 
-pub record OutputStays (output : OutputChange) : Type 0 where
-  pub held : Stays output.held
-  pub faults : Stays output.faults
-
 -- ---- the wire
 
 -- what it tells, and its count of faults
@@ -74,7 +66,3 @@ pub record WireChange : Type 0 where
 abbrev pub wire_of : {N : Type 0} → (N → WireTold) → (N → ℕ) → N → N → WireChange
 wire_of told faults old new =
     record { told = changed told old new; faults = changed faults old new }
-
-pub record WireStays (wire : WireChange) : Type 0 where
-  pub told : Stays wire.told
-  pub faults : Stays wire.faults

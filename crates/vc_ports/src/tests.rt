@@ -1,4 +1,4 @@
-ghost use Rattle.std.specs.Prelude.{◌≤◌, IsTrue, OnOk, length};
+ghost use Rattle.std.specs.Prelude.{◌≡◌, ◌≤◌, IfOk, IsTrue, OnOk, length};
 
 use super::*;
 use std::alloc::Global;
@@ -81,13 +81,22 @@ fn whole_piece_goes_out_or_a_prefix(rt: HostRuntime) -> Result<(), Fail> {
     Ok(())
 }
 
-// Opens a wire: it listens here and is aimed there.
-fn open<N: Wire>(wire: &mut N) -> Result<(), Fail>
+fn listen<N: Wire>(wire: &mut N) -> Result<(), Fail>
+    ensures { OnOk result (IsTrue (N.told wire.new).listens) }
+{
+    match wire.listen("here") {
+        Reached::Yes => Ok(()),
+        Reached::Failed => Err("it does not listen")?,
+    }
+}
+
+fn aim<N: Wire>(wire: &mut N) -> Result<(), Fail>
+    requires { IsTrue (N.told wire.old).listens }
     ensures { OnOk result (IsTrue (N.told wire.new).listens × IsTrue (N.told wire.new).aimed) }
 {
-    match (wire.listen("here"), wire.aim("there")) {
-        (Reached::Yes, Reached::Yes) => Ok(()),
-        _ => Err("the wire did not open")?,
+    match wire.aim("there") {
+        Reached::Yes => Ok(()),
+        Reached::Failed => Err("it is not aimed")?,
     }
 }
 
@@ -98,14 +107,37 @@ fn send<N: Wire>(wire: &mut N, datagram: &[u8]) -> Reached
     wire.send(datagram)
 }
 
-// Receives into a buffer that has room for any datagram, and answers what came and the first byte.
+// A buffer that has room for any datagram.
+fn buffer(alloc: Global) -> Result<Vec<u8>, Fail>
+    ensures { IfOk result (λ buf. length buf.items ≡ 65535) }
+{
+    Ok(vec![in alloc; 9; 65535]?)
+}
+
+// Receives, and answers what came and the first byte.
 fn recv<N: Wire>(wire: &mut N, alloc: Global) -> Result<(Came, u8), Fail>
     requires { IsTrue (N.told wire.old).listens × IsTrue (N.told wire.old).aimed }
     ensures { OnOk result (IsTrue (N.told wire.new).listens × IsTrue (N.told wire.new).aimed) }
 {
-    let mut buf = vec![in alloc; 9; 65535]?;
+    let mut buf = buffer(alloc)?;
     let came = wire.recv(&mut buf);
     Ok((came, buf[0]))
+}
+
+// Sends one datagram over a wire that was opened, and receives thrice.
+fn exchange<N: Wire>(
+    wire: &mut N,
+    datagram: &[u8],
+    alloc: Global,
+) -> Result<(Reached, [(Came, u8); 3]), Fail>
+    requires { length datagram.now ≤ 65507 }
+{
+    listen(wire)?;
+    aim(wire)?;
+    let sent = send(wire, datagram);
+    let first = recv(wire, alloc)?;
+    let second = recv(wire, alloc)?;
+    Ok((sent, [first, second, recv(wire, alloc)?]))
 }
 
 #[test]
@@ -113,11 +145,16 @@ fn memory_wire_gives_what_comes_and_then_what_was_sent(rt: HostRuntime) -> Resul
     let alloc = rt.alloc();
     let coming = vec![in alloc; vec![in alloc; 7, 8]?]?;
     let mut wire = MemWire::new(alloc, coming, true, 100, Vec::new(alloc))?;
-    open(&mut wire)?;
-    assert_eq!(rt; send(&mut wire, &[1, 2, 3]), Reached::Yes);
-    assert_eq!(rt; recv(&mut wire, alloc)?, (Came::Datagram(2), 7));
-    assert_eq!(rt; recv(&mut wire, alloc)?, (Came::Datagram(3), 1));
-    assert_eq!(rt; recv(&mut wire, alloc)?, (Came::End, 9));
+    let (sent, came) = exchange(&mut wire, &[1, 2, 3], alloc)?;
+    assert_eq!(rt; sent, Reached::Yes);
+    assert_eq!(rt;
+        came,
+        [
+            (Came::Datagram(2), 7),
+            (Came::Datagram(3), 1),
+            (Came::End, 9)
+        ]
+    );
     assert_eq!(rt; wire.at(0), Some(b"here".as_slice()));
     assert_eq!(rt; wire.to(0), Some(b"there".as_slice()));
     assert_eq!(rt; wire.sent(0), Some([1, 2, 3].as_slice()));
@@ -125,17 +162,15 @@ fn memory_wire_gives_what_comes_and_then_what_was_sent(rt: HostRuntime) -> Resul
     Ok(())
 }
 
-// The addresses take 13 bytes of the room, and a datagram of one byte 3. The fourth call of the wire fails.
+// The addresses take 13 bytes of the room, and a datagram of two bytes 4. The fourth call of the wire fails.
 #[test]
 fn memory_wire_fails_at_its_calls_and_past_its_room(rt: HostRuntime) -> Result<(), Fail> {
     let alloc = rt.alloc();
     let mut wire = MemWire::new(alloc, Vec::new(alloc), false, 16, vec![in alloc; 4]?)?;
-    open(&mut wire)?;
-    assert_eq!(rt; send(&mut wire, &[1, 2]), Reached::Failed);
-    assert_eq!(rt; recv(&mut wire, alloc)?, (Came::Failed, 9));
-    assert_eq!(rt; send(&mut wire, &[1]), Reached::Yes);
-    assert_eq!(rt; send(&mut wire, &[]), Reached::Failed);
-    assert_eq!(rt; recv(&mut wire, alloc)?, (Came::End, 9));
+    let (sent, came) = exchange(&mut wire, &[1, 2], alloc)?;
+    assert_eq!(rt; sent, Reached::Failed);
+    assert_eq!(rt; came, [(Came::Failed, 9), (Came::End, 9), (Came::End, 9)]);
+    assert_eq!(rt; wire.sent(0), None);
     Ok(())
 }
 
@@ -143,11 +178,16 @@ fn memory_wire_fails_at_its_calls_and_past_its_room(rt: HostRuntime) -> Result<(
 fn plain_wire_gives_its_datagrams(rt: HostRuntime) -> Result<(), Fail> {
     let alloc = rt.alloc();
     let mut wire = PlainWire::new(vec![in alloc; vec![in alloc; 7]?, Vec::new(alloc)]?);
-    open(&mut wire)?;
-    assert_eq!(rt; send(&mut wire, &[1]), Reached::Yes);
-    assert_eq!(rt; recv(&mut wire, alloc)?, (Came::Datagram(1), 7));
-    assert_eq!(rt; recv(&mut wire, alloc)?, (Came::Datagram(0), 9));
-    assert_eq!(rt; recv(&mut wire, alloc)?, (Came::End, 9));
+    let (sent, came) = exchange(&mut wire, &[1], alloc)?;
+    assert_eq!(rt; sent, Reached::Yes);
+    assert_eq!(rt;
+        came,
+        [
+            (Came::Datagram(1), 7),
+            (Came::Datagram(0), 9),
+            (Came::End, 9)
+        ]
+    );
     Ok(())
 }
 

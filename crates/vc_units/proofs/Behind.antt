@@ -62,9 +62,9 @@ pub data_unit-more : (bytes more : List ℕ) (u : DataUnit) (rest : List ℕ) �
 data_unit-more bytes more u rest is =
     let c = cut_of bytes u rest is in
     let regrouped : bytes ++ more ≡ c.info ++ (c.body ++ (rest ++ more)) =
-        ap (λ (l : List ℕ). l ++ more) c.bytes_are
-        ∙ append_assoc c.info (c.body ++ rest) more
-        ∙ ap (λ (l : List ℕ). c.info ++ l) (append_assoc c.body rest more) in
+    ap (λ (l : List ℕ). l ++ more) c.bytes_are
+    ∙ append_assoc c.info (c.body ++ rest) more
+    ∙ ap (λ (l : List ℕ). c.info ++ l) (append_assoc c.body rest more) in
     ap data_unit regrouped
     ∙ data_unit-whole c.info c.body (rest ++ more) c.count c.info_length c.told c.body_whole
     ∙ ap (λ (v : DataUnit). Ok (v, rest ++ more)) c.unit_is

@@ -2,6 +2,15 @@ use super::streams::{DARK_UNIT, HEADER_UNIT, dark_frame, joined, played};
 use link_report::Ending;
 use std::test::Fail;
 
+// The header and the dark picture that fill so many bytes.
+fn units_before(place: u64) -> (&'static [u8], &'static [u8]) {
+    match place {
+        0 => (&[], &[]),
+        18 => (&HEADER_UNIT, &[]),
+        _ => (&HEADER_UNIT, &DARK_UNIT),
+    }
+}
+
 // A unit that is refused comes first, behind a header, or behind a header and a dark picture: behind so many bytes. Of the
 // unit: its parse code, the low byte of its next offset, and its body.
 #[test]
@@ -97,14 +106,13 @@ fn each_refusal_tells_the_units_place(rt: HostRuntime) -> Result<(), Fail> {
         ),
     ];
     for (what, place, code, next, body) in cases {
-        let header: &[u8] = if place == 0 { &[] } else { &HEADER_UNIT };
-        let picture: &[u8] = if place == 47 { &DARK_UNIT } else { &[] };
+        let (header, picture) = units_before(place);
         let info = [0x42, 0x42, 0x43, 0x44, code, 0, 0, 0, next, 0, 0, 0, 0];
         let stream = joined(alloc, &[header, picture, &info, body])?;
         let (answer, written) = played(alloc, 9, &stream)?;
         assert_eq!(rt; answer, Err(Ending::StreamBad { place }), "{what}");
-        let want: &[u8] = if place == 47 { &frame } else { &[] };
-        assert_eq!(rt; written.as_slice(), want, "{what}");
+        let due = if place == 47 { frame.len() } else { 0 };
+        assert_eq!(rt; written.as_slice(), &frame[..due], "{what}");
     }
     Ok(())
 }
