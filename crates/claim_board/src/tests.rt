@@ -1,7 +1,7 @@
-ghost use Rattle.std.specs.Prelude.{◌≡◌, ◌<◌, IfOk, OnOk, false, length, Some};
+ghost use Rattle.std.specs.Prelude.{◌≡◌, ◌<◌, All, IfOk, OnOk, false, length, Some};
 ghost use Rattle.link_model.specs.Board.{lane, lane_at};
 ghost use Rattle.vc_types.specs.Slices.{slice_length};
-ghost use Rattle.claim_board.specs.Calls.{AreEmpty};
+ghost use Rattle.claim_board.specs.Calls.{AreEmpty, IsNewWorker};
 ghost use Rattle.claim_board.specs.Seats.{IsBellSeatOf, IsFeederOf, IsWorkerOf, feeder_sees, places_of};
 
 use crate::{
@@ -37,16 +37,17 @@ const PLAN: Plan = Plan {
 };
 
 // The job of an empty slice.
-fn job(number: u64) -> Result<SliceJob, Fail> {
+fn job(number: u64) -> Result<SliceJob, NoMemory> {
     let bytes = Bytes::from_static(&[0, 0, 0, 0]);
-    let len = cut(PLAN.prefix, PLAN.scaler, bytes.as_slice())?;
-    let mut bytes = bytes;
-    Ok(SliceJob {
-        plan: PLAN,
-        number,
-        index: 0,
-        bytes: bytes.split_to(len)?,
-    })
+    match cut(PLAN.prefix, PLAN.scaler, bytes.as_slice()) {
+        Ok(len) if len == bytes.len() => Ok(SliceJob {
+            plan: PLAN,
+            number,
+            index: 0,
+            bytes,
+        }),
+        _ => Err(NoMemory),
+    }
 }
 
 // A board of so many places, with its seats.
@@ -62,6 +63,18 @@ struct Fresh {
     ghost of_bells: { IsBellSeatOf board bells },
 }
 
+// The last of a board's workers.
+fn last_of(board: &Board, workers: &mut Vec<WorkerSeat>) -> Result<WorkerSeat, NoMemory>
+    requires { All (IsNewWorker board.now) workers.old.items }
+    ensures rest { All (IsNewWorker board.now) workers.new.items }
+    ensures seat { IfOk result (IsWorkerOf board.now) }
+{
+    match workers.pop() {
+        Some(worker) => Ok(worker),
+        None => Err(NoMemory),
+    }
+}
+
 fn new_board(alloc: Global, places: u32) -> Result<Fresh, Fail>
     requires some_place { 0 < places }
     ensures places { IfOk result (λ made. places_of made.board ≡ places) }
@@ -69,8 +82,8 @@ fn new_board(alloc: Global, places: u32) -> Result<Fresh, Fail>
 {
     let (board, feeder, workers, bells) = Board::new(alloc, places, 2)?;
     let mut workers = workers;
-    let second = workers.pop().ok_or(NoMemory)?;
-    let first = workers.pop().ok_or(NoMemory)?;
+    let second = last_of(&board, &mut workers)?;
+    let first = last_of(&board, &mut workers)?;
     Ok(Fresh {
         board,
         feeder,
