@@ -12,7 +12,7 @@ use Rattle.play_command.specs.declared.fault.TakeFault.TheVariants as faults
 use Rattle.play_command.specs.Steps.{PlayState, stream_state, shown, new_frames}
 use Rattle.vc_types.specs.SameValues.{same_sequence}
 use Rattle.play_command.specs.Stream.{Stream, StreamPicture, with_header, with_picture, picture_in, shows, takes, played, paired_frames, raw_frames}
-use Rattle.play_command.specs.Taking.{agreed_state, Agrees, raw_frame, Shows, Brings, Brought, HasAtMost, IsWithin}
+use Rattle.play_command.specs.Taking.{agreed_state, Agrees, frame_due, Shows, Brings, Brought, HasAtMost, CountsAtMost}
 use Rattle.play_command.proofs.Showing.{begun, shown-kept, played-more}
 
 abbrev kept_in : Option Stream → Option PlayState
@@ -108,7 +108,7 @@ module _ (s : Stream) (u : DataUnit) (code : u.code ≡ 0xE8) (new : PlayState) 
   shows-none e = takes-picture (Some s) u code ∙ ap (λ (picture : Option StreamPicture). option_map (λ next. Some next) (option_map (with_picture s) picture)) e
 
   abbrev due_for : (p : StreamPicture) → picture_in s.sequence u.body ≡ Some p → Brings (Some s) u
-  due_for p e = record { next = Some (with_picture s p); due = raw_frame (stream_state s) p; taken = shows-some p e; grows = played-more s p }
+  due_for p e = record { next = Some (with_picture s p); due = frame_due (stream_state s) p; taken = shows-some p e; grows = played-more s p }
 
   brings-shown : (result : Result (Unit {0}) TakeFault) → Shows u.body (stream_state s) new before after result → Brought (Some s) u (Some new) before after result
   brings-shown (Ok done) shown = (due_for shown.picture shown.read, ap (λ (k : PlayState). Some k) (shown.state ∙ shown-kept s shown.picture), shown.grew)
@@ -136,7 +136,7 @@ brings-agreed stream u old new before (Err faults.NoMemory) code is none = absur
 kept_more : (n : ℕ) (k : PlayState) → HasAtMost n k → HasAtMost (n + 1) k
 kept_more n k is = record { pictures = omega (arith, is.pictures); frames = is.frames; shape = is.shape }
 
-pub within_more : (n : ℕ) (kept : Option PlayState) → IsWithin n kept → IsWithin (n + 1) kept
+pub within_more : (n : ℕ) (kept : Option PlayState) → CountsAtMost n kept → CountsAtMost (n + 1) kept
 within_more n None h = h
 within_more n (Some k) h = kept_more n k h
 
@@ -147,7 +147,7 @@ same_by : (same : Bool) (k next : PlayState) → (if same then Some k else None)
 same_by true k next e = cc
 same_by false k next e = absurd cc
 
-kept_agreed : (n : ℕ) (kept : Option PlayState) (header : Coded) (k : PlayState) → agreed_state kept header ≡ Some k → IsWithin n kept → HasAtMost (n + 1) k
+kept_agreed : (n : ℕ) (kept : Option PlayState) (header : Coded) (k : PlayState) → agreed_state kept header ≡ Some k → CountsAtMost n kept → HasAtMost (n + 1) k
 kept_agreed n kept (Err refusal) k e h = absurd cc
 kept_agreed n None (Ok read) k e h = subst (HasAtMost (n + 1)) (some_is e) (none_yet (n + 1) read.0)
   where
@@ -155,6 +155,6 @@ kept_agreed n None (Ok read) k e h = subst (HasAtMost (n + 1)) (some_is e) (none
     some_is e = cc
 kept_agreed n (Some was) (Ok read) k e h = subst (HasAtMost (n + 1)) (same_by (same_sequence was.sequence read.0) was k e) (kept_more n was h)
 
-pub agrees-few : (old new : Option PlayState) (header : Coded) (result : Result (Unit {0}) TakeFault) → Agrees header old new result → OnOk result ((n : ℕ) → IsWithin n old → IsWithin (n + 1) new)
+pub agrees-few : (old new : Option PlayState) (header : Coded) (result : Result (Unit {0}) TakeFault) → Agrees header old new result → OnOk result ((n : ℕ) → CountsAtMost n old → CountsAtMost (n + 1) new)
 agrees-few old new header (Ok done) (k, e, now) = λ n h. rw now (kept_agreed n old header k e h)
 agrees-few old new header (Err fault) agrees = tt

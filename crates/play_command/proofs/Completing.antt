@@ -7,7 +7,7 @@ use Rattle.vc_types.specs.SequenceHeader.{picture_shape}
 use Rattle.play_command.specs.Shapes.{HaveShape}
 use Rattle.play_command.specs.Steps.{PlayState}
 use Rattle.play_command.specs.Stream.{StreamPicture, is_pair}
-use Rattle.play_command.specs.Taking.{Completes}
+use Rattle.play_command.specs.Taking.{CompletesFrame}
 use Rattle.play_command.proofs.Weavable.{woven_fits}
 
 -- what is kept when no field waits
@@ -16,7 +16,7 @@ without_waiting k = record { sequence = k.sequence; waiting = None; pictures = k
 
 pub completes-pair : (k : PlayState) (earlier p : StreamPicture) (frame : List Raster) → k.sequence.fields ≡ true → k.waiting ≡ Some earlier → is_pair earlier p ≡ true
     → HaveShape (picture_shape k.sequence) earlier.planes → HaveShape (picture_shape k.sequence) p.planes → planes_in frame ≡ woven k.sequence.top_first earlier.planes p.planes
-    → Completes k p (without_waiting k) (Some frame)
+    → CompletesFrame k p (without_waiting k) (Some frame)
 completes-pair k earlier p frame fields waiting pair first second is = record {
   state = rw (fields, waiting, pair) refl;
   frame_is = rw (fields, waiting, pair) (ap (λ (planes : Planes). planes ∷ []) is);

@@ -5,9 +5,9 @@ use Rattle.link_report.specs.declared.summary.Summary.TheVariants as summaries
 use Rattle.play_command.specs.Looping.{summary_of}
 use Rattle.play_command.specs.Steps.{PlayState, stream_state}
 use Rattle.play_command.specs.Stream.{Stream, pictures_in, frames_in, unpaired_in}
-use Rattle.play_command.specs.Taking.{IsWithin}
+use Rattle.play_command.specs.Taking.{CountsAtMost}
 
-pub within_upto : (n m : ℕ) (kept : Option PlayState) → n ≤ m → IsWithin n kept → IsWithin m kept
+pub within_upto : (n m : ℕ) (kept : Option PlayState) → n ≤ m → CountsAtMost n kept → CountsAtMost m kept
 within_upto n m None few h = h
 within_upto n m (Some k) few h = record { pictures = omega (arith, h.pictures, few); frames = h.frames; shape = h.shape }
 

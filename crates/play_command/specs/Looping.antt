@@ -15,7 +15,7 @@ use Rattle.play_command.specs.declared.command.Stop.TheVariants.{Ended, AtLimit}
 use Rattle.play_command.specs.Playing.{PlayEnded, unit_split}
 use Rattle.play_command.specs.Steps.{PlayState, state_so_far}
 use Rattle.play_command.specs.Stream.{StreamSoFar, units_taken, played}
-use Rattle.play_command.specs.Taking.{IsWithin}
+use Rattle.play_command.specs.Taking.{CountsAtMost}
 
 -- units, and those of other bytes behind them
 abbrev pub then_units : List DataUnit → List DataUnit × List ℕ → List DataUnit × List ℕ
@@ -62,7 +62,7 @@ pub record HasStopped
     (input : InputChange) (output : OutputChange) : Type 0 where
   pub so_far : StreamSoFar
   pub keeps : kept ≡ state_so_far so_far
-  pub few : IsWithin (2 ^ 32 - 1) kept
+  pub few : CountsAtMost (2 ^ 32 - 1) kept
   pub units : HasPlayedUnits packets stop input output so_far
 
 -- the units ended in this way, whatever the causes

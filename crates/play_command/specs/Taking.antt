@@ -25,7 +25,7 @@ abbrev pub is_frame : Option (List Raster) → List Planes
 is_frame frame = option_to_list (option_map planes_in frame)
 
 -- a picture was kept, and this is the frame to be written, which has bytes as its shape says
-pub record Completes
+pub record CompletesFrame
     (old : PlayState) (p : StreamPicture) (new : PlayState) (frame : Option (List Raster))
     : Type 0 where
   pub state : new ≡ record old { waiting = (shown old p).waiting }
@@ -34,8 +34,8 @@ pub record Completes
       → IfSome frame (λ planes. HaveByteSamples (planes_in planes))
 
 -- the raw bytes of the frame that a picture brings
-abbrev pub raw_frame : PlayState → StreamPicture → List ℕ
-raw_frame k p = raw_frames k.sequence (new_frames k.sequence k.waiting p)
+abbrev pub frame_due : PlayState → StreamPicture → List ℕ
+frame_due k p = raw_frames k.sequence (new_frames k.sequence k.waiting p)
 
 -- a picture was taken, and the frame that it brings went out
 pub record IsShown (body : List ℕ) (old new : PlayState) (before after : Option (List ℕ))
@@ -43,14 +43,14 @@ pub record IsShown (body : List ℕ) (old new : PlayState) (before after : Optio
   pub picture : StreamPicture
   pub read : picture_in old.sequence body ≡ Some picture
   pub state : new ≡ shown old picture
-  pub grew : Grew before after (raw_frame old picture)
+  pub grew : Grew before after (frame_due old picture)
 
 -- a picture was taken, and a prefix of the frame that it brings went out
 pub record IsPartlyShown (body : List ℕ) (old : PlayState) (before after : Option (List ℕ))
     : Type 0 where
   pub picture : StreamPicture
   pub read : picture_in old.sequence body ≡ Some picture
-  pub grew : GrewBySome before after (raw_frame old picture)
+  pub grew : GrewBySome before after (frame_due old picture)
 
 -- what was done with a picture
 abbrev pub Shows : List ℕ → PlayState → PlayState → Option (List ℕ) → Option (List ℕ)
@@ -81,8 +81,8 @@ pub record HasAtMost (units : ℕ) (k : PlayState) : Type 0 where
   pub frames : k.frames ≤ k.pictures
   pub shape : HasShape k
 
-abbrev pub IsWithin : ℕ → Option PlayState → Type 0
-IsWithin units kept = IfSome kept (HasAtMost units)
+abbrev pub CountsAtMost : ℕ → Option PlayState → Type 0
+CountsAtMost units kept = IfSome kept (HasAtMost units)
 
 -- a unit is taken: the stream with it, and the bytes that are due for it
 pub record Brings (stream : Option Stream) (u : DataUnit) : Type 0 where

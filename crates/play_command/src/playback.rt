@@ -6,7 +6,7 @@ ghost use Rattle.vc_types.specs.SequenceHeader.{sequence_of, picture_shape};
 ghost use Rattle.play_command.specs.Shapes.{HaveShape};
 ghost use Rattle.play_command.specs.Looping.{unpaired_of};
 ghost use Rattle.play_command.specs.Steps.{stream_state, next_waiting, new_frames};
-ghost use Rattle.play_command.specs.Taking.{HasShape, Completes, Shows};
+ghost use Rattle.play_command.specs.Taking.{HasShape, CompletesFrame, Shows};
 ghost use Rattle.play_command.specs.Views.{playback_state, picture_of};
 
 use crate::fault::TakeFault;
@@ -90,7 +90,7 @@ impl Playback {
         requires picture { HaveShape (picture_shape (sequence_of self.old.header))
             (planes_in picture.planes) }
         ensures value { IfOk result
-            (Completes (playback_state self.old) (picture_of picture) (playback_state self.new)) }
+            (CompletesFrame (playback_state self.old) (picture_of picture) (playback_state self.new)) }
         ensures shape { OnOk result (HasShape (playback_state self.new)) }
     {
         if !self.header.fields {

@@ -7,7 +7,7 @@ ghost use Rattle.vc_units.specs.Reading.{unit_of};
 ghost use Rattle.play_command.specs.Looping.{summary_of};
 ghost use Rattle.play_command.specs.Steps.{stream_state, state_so_far};
 ghost use Rattle.play_command.specs.Stream.{Stream, at_start};
-ghost use Rattle.play_command.specs.Taking.{Agrees, Brought, IsWithin};
+ghost use Rattle.play_command.specs.Taking.{Agrees, Brought, CountsAtMost};
 ghost use Rattle.play_command.specs.Views.{player_state};
 
 use crate::fault::TakeFault;
@@ -41,7 +41,7 @@ impl Player {
         unit: Unit,
         output: &mut O,
     ) -> Result<(), TakeFault>
-        requires few { IsWithin (2 ^ 32 - 1) (player_state self.old) }
+        requires few { CountsAtMost (2 ^ 32 - 1) (player_state self.old) }
         ensures brought { (stream : Option Stream)
             → player_state self.old ≡ option_map stream_state stream
             → Brought stream (unit_of unit) (player_state self.new)
@@ -49,7 +49,7 @@ impl Player {
         ensures cause { HasCause (O.faults output.old) (O.faults output.new)
             (result ≡ Err TakeFault.WriteFault) }
         ensures few { OnOk result ((n : ℕ)
-            → IsWithin n (player_state self.old) → IsWithin (n + 1) (player_state self.new)) }
+            → CountsAtMost n (player_state self.old) → CountsAtMost (n + 1) (player_state self.new)) }
     {
         match unit.code {
             SEQUENCE_HEADER => self.agree(&unit.body),
@@ -63,7 +63,7 @@ impl Player {
 
     /// What was counted.
     pub(crate) fn summary(&self) -> Summary
-        requires { IsWithin (2 ^ 32 - 1) (player_state self.now) }
+        requires { CountsAtMost (2 ^ 32 - 1) (player_state self.now) }
         ensures { result ≡ summary_of (player_state self.now) }
     {
         match &self.stream {

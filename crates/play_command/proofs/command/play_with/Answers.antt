@@ -2,7 +2,7 @@ use Rattle.std.proofs.Common.{rules, ◌≡◌, ◌^◌, ◌-◌, ◌+◌, ◌�
 use Rattle.vc_types.specs.DataUnits.{is_end_of_sequence}
 use Rattle.vc_units.specs.Reading.{unit_of}
 use Rattle.play_command.specs.Stream.{at_start, after_unit}
-use Rattle.play_command.specs.Taking.{IsWithin}
+use Rattle.play_command.specs.Taking.{CountsAtMost}
 use Rattle.play_command.specs.Views.{player_state}
 use Rattle.play_command.proofs.Loops.{begun, with_unit, with_last, at_edge}
 use Rattle.play_command.proofs.Players.{within_upto}
@@ -15,7 +15,7 @@ loop-unit-init g c = record {
   sound = c.requires.sound;
   near = omega (arith, c.requires.place);
   behind = (at_start, c.requires.player, c.requires.place, begun c.args.packets _ _);
-  few = subst (IsWithin 0) (sym c.requires.player) tt;
+  few = subst (CountsAtMost 0) (sym c.requires.player) tt;
   input_later = omega arith;
   output_later = omega arith;
 }
