@@ -7,6 +7,7 @@ mod header;
 mod laws;
 mod limits;
 mod memory;
+mod need;
 mod parse_codes;
 mod plan;
 mod plane;
@@ -25,6 +26,7 @@ pub use laws::{
 };
 pub use limits::{dimensions_fit, padded, picture_height, slices_fit};
 pub use memory::NoMemory;
+pub use need::SliceNeed;
 pub use parse_codes::{
     AUXILIARY_DATA, END_OF_SEQUENCE, HIGH_QUALITY_FRAGMENT, HIGH_QUALITY_PICTURE, PADDING_DATA,
     SEQUENCE_HEADER,
