@@ -7,8 +7,8 @@ use Rattle.claim_board.specs.declared.seats.FeederSeat.{FeederSeat}
 use Rattle.claim_board.specs.declared.seats.WorkerSeat.{WorkerSeat}
 
 -- how many places there are
-abbrev pub places_of : Board → ℕ
-places_of board = board.table.shared.table_id.words
+abbrev pub place_count : Board → ℕ
+place_count board = board.table.shared.table_id.words
 
 -- the board's `new` made the seat
 abbrev pub IsFeederOf : Board → FeederSeat → Type 0

@@ -3,7 +3,7 @@ ghost use Rattle.std.specs.VecDeque.{deque_len, deque_capacity};
 ghost use Rattle.link_model.specs.Board.{lane, lane_at, after_load, after_put, after_return};
 ghost use Rattle.claim_board.specs.Counts.{occurrences};
 ghost use Rattle.claim_board.specs.Plays.{empty_slots};
-ghost use Rattle.claim_board.specs.Seats.{IsFeederOf, feeder_sees, places_of};
+ghost use Rattle.claim_board.specs.Seats.{IsFeederOf, feeder_sees, place_count};
 ghost use Rattle.claim_board.specs.Steps.{MayStep, IsSameSeat};
 
 use crate::board::Board;
@@ -24,7 +24,7 @@ impl Board {
     /// Hands a job to an empty place, raises its serial by 1 and rings the bell.
     pub fn put(&self, f: &mut FeederSeat, place: u32, job: SliceJob)
         requires seat { IsFeederOf self.now f.old }
-        requires place { place < places_of self.now }
+        requires place { place < place_count self.now }
         requires empty { (lane_at (feeder_sees f.old) place).is_out ≡ false }
         requires serial { (lane_at (feeder_sees f.old) place).serial < 2 ^ 61 }
         ensures seat { IsFeederOf self.now f.new }
@@ -79,7 +79,7 @@ impl Board {
     /// Takes the answer of a place that is done, which is empty then.
     pub fn take(&self, f: &mut FeederSeat, place: u32) -> Result<SliceDone, NotYet>
         requires seat { IsFeederOf self.now f.old }
-        requires place { place < places_of self.now }
+        requires place { place < place_count self.now }
         ensures seat { IsFeederOf self.now f.new }
         ensures took { OnOk result (feeder_sees f.new ≡ after_return (feeder_sees f.old) place) }
         ensures empty { OnOk result (lane_at (feeder_sees f.new) place
@@ -108,7 +108,7 @@ impl Board {
     /// Takes the job back of a place that waits, which is empty then.
     pub fn withdraw(&self, f: &mut FeederSeat, place: u32) -> Result<SliceJob, NotWaiting>
         requires seat { IsFeederOf self.now f.old }
-        requires place { place < places_of self.now }
+        requires place { place < place_count self.now }
         ensures seat { IsFeederOf self.now f.new }
         ensures took { OnOk result (feeder_sees f.new ≡ after_return (feeder_sees f.old) place) }
         ensures empty { OnOk result (lane_at (feeder_sees f.new) place
