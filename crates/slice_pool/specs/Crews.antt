@@ -3,7 +3,6 @@ use Rattle.std.specs.Prelude.{◌≡◌, ℕ, false, replicate}
 use Rattle.claim_board.specs.Calls.{AreEmpty}
 use Rattle.claim_board.specs.Feeders.{feeder_bound, form_sees, left_in}
 use Rattle.claim_board.specs.declared.feeder.BoardFeeder.{BoardFeeder}
-use Rattle.slice_pool.specs.declared.crew.Crew.{Crew}
 use Rattle.slice_pool.specs.declared.team.Stage.{Stage}
 use Rattle.slice_pool.specs.declared.team.Stage.TheVariants.{Free, Alone, Working}
 
@@ -13,13 +12,10 @@ pub data CrewState : Type 0 where
   WithoutWorkers : CrewState
   AtWork : BoardFeeder → CrewState
 
-abbrev pub state_at : Stage → CrewState
-state_at Free = NotStarted
-state_at Alone = WithoutWorkers
-state_at (Working team) = AtWork team.form
-
-abbrev pub crew_at : {H G : Type 0} → Crew H G → CrewState
-crew_at c = state_at c.stage
+abbrev pub crew_at : Stage → CrewState
+crew_at Free = NotStarted
+crew_at Alone = WithoutWorkers
+crew_at (Working team) = AtWork team.form
 
 -- the number of places
 abbrev pub bound_at : CrewState → ℕ
@@ -28,7 +24,7 @@ bound_at state = 0
 
 -- the form of a new board of so many places
 pub record IsNewForm (places : ℕ) (form : BoardFeeder) : Type 0 where
-  pub places : feeder_bound form ≡ places
+  pub bound : feeder_bound form ≡ places
   pub empty : AreEmpty places (form_sees form)
   pub left : left_in form ≡ replicate places false
 

@@ -1,58 +1,63 @@
-use crate::team::{Stage, Team};
+ghost use Rattle.std.specs.Prelude.{◌≡◌};
+
+use crate::team::{Post, Stage, Team};
+use crate::worker::Worker;
 use claim_board::wake;
 use std::alloc::Global;
 use std::sync::atomic::Ordering;
-use std::sync::{Arc, Wait};
-use std::thread::Threads;
-use vc_ports::Gate;
+use std::thread::{JoinHandle, Threads};
 
 /// Workers for slices, numbered from 0. It can't be dropped: it ends in `stop`.
-pub struct Crew<H, G> {
+pub struct Crew<H, F> {
     pub(crate) rt: H,
     pub(crate) alloc: Global,
-    pub(crate) gate: Arc<G>,
+    // Starts a worker.
+    pub(crate) start: F,
     pub(crate) stage: Stage,
 }
 
-impl<H: Threads + Wait + Copy + Send + Sync + 'static, G: Gate + Send + Sync + 'static> Crew<H, G> {
-    ghost use Rattle.std.specs.Prelude.{◌≡◌};
+impl<H: Threads + Copy, F: Fn(Worker) -> Option<JoinHandle<()>> + Drop> Crew<H, F> {
     ghost use Rattle.slice_pool.specs.Crews.{crew_at, NotStarted};
 
-    /// A crew that no worker was started for. Each worker will pass the gate before it decodes a slice.
-    pub fn new(rt: H, alloc: Global, gate: Arc<G>) -> Crew<H, G>
-        ensures free { crew_at result ≡ NotStarted }
+    /// A crew that no worker was started for. Each worker will be started by `start`.
+    pub fn new(rt: H, alloc: Global, start: F) -> Crew<H, F>
+        requires callable { F.IsAlwaysCallable start }
+        ensures free { (crew_at result.stage ≡ NotStarted) × F.IsAlwaysCallable result.start }
     {
         Crew {
             rt,
             alloc,
-            gate,
+            start,
             stage: Stage::Free,
         }
     }
 
-    /// Ends all workers, and waits until they have ended. A worker ends the slice at hand first.
+    /// Ends all workers, and waits until they have ended. Each ends the slice at hand first.
     pub fn stop(self) {
         let Crew {
             rt,
             alloc: _,
-            gate: _,
+            start: _,
             stage,
         } = self;
         match stage {
             Stage::Free | Stage::Alone => {}
-            Stage::Working(team) => end(&rt, team),
+            Stage::Working(team) => dismiss(&rt, team),
         }
     }
 }
 
-fn end<H: Threads + Wait>(rt: &H, team: Team) {
+fn dismiss<H: Threads>(rt: &H, team: Team) {
     let Team {
         form: _,
+        post,
+        mut handles,
+    } = team;
+    let Post {
         board,
         mut bells,
         is_over,
-        mut handles,
-    } = team;
+    } = post;
     is_over.store(true, Ordering::SeqCst);
     for _worker in 0..handles.len() {
         wake(&board, &mut bells);

@@ -1,5 +1,6 @@
+ghost use Rattle.std.specs.Prelude.{◌<◌};
 ghost use Rattle.std.specs.Arc.{arc_value};
-ghost use Rattle.claim_board.specs.Seats.{IsBellSeatOf};
+ghost use Rattle.claim_board.specs.Seats.{IsBellSeatOf, place_count};
 
 use claim_board::{BellSeat, Board, BoardFeeder};
 use std::sync::Arc;
@@ -9,11 +10,17 @@ use std::thread::JoinHandle;
 /// The workers that run, and the feeder's form of their board.
 pub(crate) struct Team {
     pub(crate) form: BoardFeeder,
+    pub(crate) post: Post,
+    pub(crate) handles: Vec<JoinHandle<()>>,
+}
+
+/// What the workers are called by.
+#[derive(Drop)]
+pub(crate) struct Post {
     pub(crate) board: Arc<Board>,
     pub(crate) bells: BellSeat,
-    // Set once the workers are to end.
     pub(crate) is_over: Arc<AtomicBool>,
-    pub(crate) handles: Vec<JoinHandle<()>>,
+    ghost some_place: { 0 < place_count (arc_value board) },
     ghost of_board: { IsBellSeatOf (arc_value board) bells },
 }
 

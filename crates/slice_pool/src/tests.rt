@@ -1,6 +1,6 @@
 ghost use Rattle.std.specs.Prelude.{◌≡◌, ◌<◌, IfOk};
 
-use crate::{Crew, Gate, Hands, NoGate, Places};
+use crate::{Crew, Worker};
 use bytes::Bytes;
 use std::alloc::Global;
 use std::sync::atomic::{AtomicBool, AtomicU64, Ordering};
@@ -8,7 +8,8 @@ use std::sync::{Arc, Wait};
 use std::test::Fail;
 use std::thread;
 use std::thread::Threads;
-use vc_slice::{SliceDone, SliceJob, cut};
+use vc_ports::{Gate, NoGate};
+use vc_slice::{Hands, Places, SliceDone, SliceJob, cut};
 use vc_types::{Component, NoMemory, Plan, Shape};
 
 // A picture of 6 by 2 samples with three slices side by side, each with one coefficient of each subband.
@@ -114,7 +115,7 @@ fn is_picture_decoded<H: Threads + Wait + Copy + Send + Sync + 'static>(
     workers: u32,
 ) -> Result<bool, Fail> {
     let gate = Arc::new(alloc, NoGate)?;
-    let mut crew = Crew::new(rt, alloc, gate);
+    let mut crew = Crew::new(rt, alloc, |worker: Worker| worker.start(rt, &gate));
     let decoded = three_slices(&mut crew, workers);
     crew.stop();
     decoded
@@ -202,7 +203,7 @@ fn a_held_worker_holds_up_no_other(rt: HostRuntime) -> Result<(), Fail> {
             is_open: AtomicBool::new(false),
         },
     )?;
-    let mut crew = Crew::new(rt, alloc, Arc::try_clone(&door)?);
+    let mut crew = Crew::new(rt, alloc, |worker: Worker| worker.start(rt, &door));
     let passed = slices_past(&mut crew, &door);
     crew.stop();
     assert!(rt; passed?);
@@ -221,9 +222,9 @@ fn hands_back<P: Hands>(hands: &mut P) -> Result<bool, Fail>
 fn a_crew_without_workers(rt: HostRuntime) -> Result<(), Fail> {
     let alloc = rt.alloc();
     let gate = Arc::new(alloc, NoGate)?;
-    let idle = Crew::new(rt, alloc, Arc::try_clone(&gate)?);
+    let idle = Crew::new(rt, alloc, |worker: Worker| worker.start(rt, &gate));
     idle.stop();
-    let mut crew = Crew::new(rt, alloc, gate);
+    let mut crew = Crew::new(rt, alloc, |worker: Worker| worker.start(rt, &gate));
     let back = hands_back(&mut crew);
     crew.stop();
     assert!(rt; back?);

@@ -1,91 +1,37 @@
-ghost use Rattle.std.specs.Prelude.{◌≡◌, ◌<◌, ◌≤◌, IfSome, OnOk};
-ghost use Rattle.link_model.specs.Board.{after_complete};
-ghost use Rattle.slice_pool.specs.Holding.{IsHeldBy};
-ghost use Rattle.claim_board.specs.Seats.{IsWorkerOf, place_count, worker_sees};
+ghost use Rattle.std.specs.Prelude.{◌<◌};
+ghost use Rattle.std.specs.Arc.{arc_value};
+ghost use Rattle.claim_board.specs.Seats.{IsWorkerOf, place_count};
 
-use claim_board::{Board, HeldPlace, WorkerSeat, bell, rest};
+use crate::work::work;
+use claim_board::{Board, WorkerSeat};
 use std::alloc::Global;
-use std::sync::Wait;
-use std::sync::atomic::{AtomicBool, Ordering};
+use std::sync::atomic::AtomicBool;
+use std::sync::{Arc, Wait};
+use std::thread;
+use std::thread::{JoinHandle, Threads};
 use vc_ports::Gate;
-use vc_slice::decode;
-use vc_types::NoMemory;
 
-/// Decodes what waits on the board until the end is set. Where there is no memory for a slice its place stays held, and the
-/// worker ends.
-pub(crate) fn work<H: Wait + Copy, G: Gate>(
-    rt: H,
-    alloc: Global,
-    gate: &G,
-    board: &Board,
-    is_over: &AtomicBool,
-    mut seat: WorkerSeat,
-    number: u32,
-)
-    requires some_place { 0 < place_count board.now }
-    requires seat { IsWorkerOf board.now seat }
-{
-    for _ in rt.forever() {
-        // The bell is read first, so that what is put or set from here on ends the rest.
-        let seen = bell(board, &mut seat);
-        if is_over.load(Ordering::SeqCst) {
-            return;
-        }
-        let Some(held) = claim_next(board, &mut seat, number) else {
-            rest(rt, board, &mut seat, seen);
-            continue;
-        };
-        gate.pass(number, held.job.index);
-        if answer(alloc, board, &mut seat, held).is_err() {
-            return;
-        }
-    }
+/// A worker that is to start: its number, its seat, and a share of the board.
+#[derive(Drop)]
+pub struct Worker {
+    pub(crate) alloc: Global,
+    pub(crate) number: u32,
+    pub(crate) seat: WorkerSeat,
+    pub(crate) board: Arc<Board>,
+    // Set once the workers are to end.
+    pub(crate) is_over: Arc<AtomicBool>,
+    ghost some_place: { 0 < place_count (arc_value board) },
+    ghost of_board: { IsWorkerOf (arc_value board) seat },
 }
 
-// Claims the first place that waits, from the worker's own number on.
-fn claim_next(board: &Board, seat: &mut WorkerSeat, number: u32) -> Option<HeldPlace>
-    requires some_place { 0 < place_count board.now }
-    requires seat { IsWorkerOf board.now seat.old }
-    ensures seat { IsWorkerOf board.now seat.new }
-    ensures held { IfSome result (IsHeldBy board.now seat.new) }
-{
-    let places = board.places();
-    let own = number % places;
-    match claim_between(board, seat, own, places) {
-        Some(held) => Some(held),
-        None => claim_between(board, seat, 0, own),
+impl Worker {
+    /// Starts in a thread of its own, if one can be had. It passes the gate before it decodes a slice.
+    pub fn start<H: Threads + Wait + Copy + Send + Sync + 'static, G: Gate + Send + Sync + 'static>(
+        self,
+        rt: H,
+        gate: &Arc<G>,
+    ) -> Option<JoinHandle<()>> {
+        let gate = Arc::try_clone(gate).ok()?;
+        thread::spawn(&rt, move || work(rt, &*gate, self)).ok()
     }
-}
-
-// Claims the first place that waits, of those from one on and before another.
-fn claim_between(board: &Board, seat: &mut WorkerSeat, from: u32, to: u32) -> Option<HeldPlace>
-    requires places { to ≤ place_count board.now }
-    requires seat { IsWorkerOf board.now seat.old }
-    ensures seat { IsWorkerOf board.now seat.new }
-    ensures held { IfSome result (IsHeldBy board.now seat.new) }
-{
-    for place in from..to {
-        if let Ok(held) = board.claim(seat, place) {
-            return Some(held);
-        }
-    }
-    None
-}
-
-// Decodes a copy of the job, and completes the place.
-fn answer(
-    alloc: Global,
-    board: &Board,
-    seat: &mut WorkerSeat,
-    held: HeldPlace,
-) -> Result<(), NoMemory>
-    requires seat { IsWorkerOf board.now seat.old }
-    requires held { IsHeldBy board.now seat.old held }
-    ensures seat { IsWorkerOf board.now seat.new }
-    ensures completed { OnOk result (worker_sees seat.new
-        ≡ after_complete (worker_sees seat.old) held.place held.serial) }
-{
-    let done = decode(alloc, held.job.copy()?)?;
-    board.complete(seat, held, done);
-    Ok(())
 }
