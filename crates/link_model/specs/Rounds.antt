@@ -34,16 +34,16 @@ AreSteps words (e ∷ es) = (new : ℕ) × (e.place < length words)
 abbrev pub steps_at : ℕ → List StepAt → List BoardStep
 steps_at place steps = map (λ e. e.step) (filter (λ e. e.place == place) steps)
 
-pub data RoundState : Type 0 where
-  Idle : RoundState
-  Offered : RoundState
-  Claimed : RoundState
-  Answered : RoundState
+pub data Phase : Type 0 where
+  Idle : Phase
+  Offered : Phase
+  Claimed : Phase
+  Answered : Phase
 
 -- Rounds are put, claim, complete, take, or put, withdraw; the last one may be unfinished. So one seat at most claims in
 -- a round.
-abbrev pub AreRounds : RoundState → List BoardStep → Type 0
-AreRounds state [] = Unit {0}
+abbrev pub AreRounds : Phase → List BoardStep → Type 0
+AreRounds phase [] = Unit {0}
 AreRounds Idle (PutStep ∷ steps) = AreRounds Offered steps
 AreRounds Offered (ClaimStep seat ∷ steps) = AreRounds Claimed steps
 AreRounds Offered (WithdrawStep ∷ steps) = AreRounds Idle steps

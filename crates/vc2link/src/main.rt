@@ -8,7 +8,7 @@ mod tests;
 use link::link_main;
 use link_net::UdpWire;
 use link_report::Ending;
-use slice_pool::Crew;
+use slice_pool::{Crew, Worker};
 use std::process::ExitCode;
 use std::sync::Arc;
 use std::{env, io};
@@ -31,7 +31,7 @@ fn run(rt: HostRuntime, words: &Words) -> u8 {
     let Ok(gate) = Arc::new(rt.alloc(), NoGate) else {
         return Ending::NoMemory.status();
     };
-    let mut crew = Crew::new(rt, rt.alloc(), gate);
+    let mut crew = Crew::new(rt, rt.alloc(), |worker: Worker| worker.start(rt, &gate));
     let status = link_main(
         &rt,
         rt.alloc(),
