@@ -49,15 +49,19 @@ tells_complete step old found new = (serial : ℕ) → step.first ≡ done_word 
 -- a place was taken back: it was out, and its slot has an answer
 pub record HasTaken (place serial : ℕ) (old new : SeatState) : Type 0 where
   pub done : SliceDone
-  pub seat : new ≡ (after_open (after_return old.0 place) (Finished serial done),
-      (place, Some (Finished serial done)) ∷ old.1)
+  pub seat : new ≡ (
+    after_open (after_return old.0 place) (Finished serial done),
+    (place, Some (Finished serial done)) ∷ old.1,
+  )
   pub out : (lane_at old.0 place).is_out ≡ true
 
 -- the same for a job that waits
 pub record HasWithdrawn (place serial : ℕ) (old new : SeatState) : Type 0 where
   pub job : SliceJob
-  pub seat : new ≡ (after_open (after_return old.0 place) (Waiting serial job),
-      (place, Some (Waiting serial job)) ∷ old.1)
+  pub seat : new ≡ (
+    after_open (after_return old.0 place) (Waiting serial job),
+    (place, Some (Waiting serial job)) ∷ old.1,
+  )
   pub out : (lane_at old.0 place).is_out ≡ true
 
 -- The feeder's compare of a word of its own serial failed: the word was read, and isn't in this state at all.

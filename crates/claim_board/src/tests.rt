@@ -4,11 +4,12 @@ ghost use Rattle.vc_types.specs.Slices.{slice_length};
 ghost use Rattle.claim_board.specs.Calls.{AreEmpty, IsNewWorker};
 ghost use Rattle.claim_board.specs.Seats.{IsBellSeatOf, IsFeederOf, IsWorkerOf, feeder_sees, place_count};
 
+use crate::cargo::Cargo;
 use crate::{
     BellSeat, Board, BoardFeeder, FeederSeat, NotWaiting, NotYet, WorkerSeat, bell, rest, wake,
 };
 use bytes::Bytes;
-use link_model::each_place_goes_in_rounds;
+use link_model::{board_steps_are_events, each_place_goes_in_rounds};
 use std::alloc::Global;
 use std::sync::Arc;
 use std::test::Fail;
@@ -110,6 +111,7 @@ fn work(alloc: Global, board: &Board, worker: &mut WorkerSeat, place: u32) -> Re
 #[test]
 fn a_held_place_is_neither_claimed_nor_taken(rt: HostRuntime) -> Result<(), Fail> {
     each_place_goes_in_rounds();
+    board_steps_are_events::<Cargo>();
     let Fresh {
         board,
         mut feeder,

@@ -47,7 +47,8 @@ impl<H: Threads + Copy, F: Fn(Worker) -> Option<JoinHandle<()>> + Drop> Crew<H, 
     }
 }
 
-fn dismiss<H: Threads>(rt: &H, team: Team) {
+/// Ends all workers of a team, and waits until they have ended.
+pub(crate) fn dismiss<H: Threads>(rt: &H, team: Team) {
     let Team {
         form: _,
         post,

@@ -44,9 +44,9 @@ impl<H, F: Fn(Worker) -> Option<JoinHandle<()>>> Hands for Crew<H, F> {
     }
 }
 
-// So many workers at a new board of so many places. All memory is taken before the first of them
-// starts.
-fn team_of<F: Fn(Worker) -> Option<JoinHandle<()>>>(
+/// So many workers at a new board of so many places. All memory is taken before the first of them
+/// starts.
+pub(crate) fn team_of<F: Fn(Worker) -> Option<JoinHandle<()>>>(
     alloc: Global,
     places: u32,
     workers: u32,

@@ -1,5 +1,7 @@
 ghost use Rattle.std.specs.Prelude.{◌≡◌, ◌<◌, IfOk};
 
+use crate::crew::dismiss;
+use crate::hands::team_of;
 use crate::{Crew, Worker};
 use bytes::Bytes;
 use std::alloc::Global;
@@ -41,14 +43,14 @@ const LUMA: [i64; 4] = [0, 1, 0, 1];
 // How often a test asks before it fails. Each turn yields the processor.
 const TURNS: u64 = 10_000_000;
 
-fn job(index: u32) -> Result<SliceJob, NoMemory>
+fn job(number: u64, index: u32) -> Result<SliceJob, NoMemory>
     requires { index < 3 }
 {
     let bytes = Bytes::from_static(&SLICE);
     match cut(PLAN.prefix, PLAN.scaler, bytes.as_slice()) {
         Ok(len) if len == bytes.len() => Ok(SliceJob {
             plan: PLAN,
-            number: 7,
+            number,
             index,
             bytes,
         }),
@@ -61,7 +63,7 @@ fn offer<P: Places>(places: &mut P, index: u32) -> Result<u32, Fail>
     ensures bound { P.bound places.new ≡ P.bound places.old }
     ensures place { IfOk result (λ place. place < P.bound places.new) }
 {
-    match places.put(job(index)?) {
+    match places.put(job(7, index)?) {
         Ok(place) => Ok(place),
         Err(_) => Err(Fail::from("the slice has no place")),
     }
@@ -215,7 +217,7 @@ fn hands_back<P: Hands>(hands: &mut P) -> Result<bool, Fail>
     requires { P.is_free hands.old }
 {
     hands.start_workers(0)?;
-    Ok(hands.put(job(1)?).is_err_and(|job| job.index == 1))
+    Ok(hands.put(job(7, 1)?).is_err_and(|job| job.index == 1))
 }
 
 #[test]
@@ -228,5 +230,115 @@ fn a_crew_without_workers(rt: HostRuntime) -> Result<(), Fail> {
     let back = hands_back(&mut crew);
     crew.stop();
     assert!(rt; back?);
+    Ok(())
+}
+
+// Which job was put into each of four places, 0 where none is there, and which places were left.
+struct Book {
+    numbers: [u64; 4],
+    left: [bool; 4],
+}
+
+impl Book {
+    // Whether the place was free or left.
+    fn put<P: Places>(&mut self, places: &mut P, number: u64) -> Result<bool, NoMemory>
+        requires { P.bound places.old ≡ 4 }
+        ensures { P.bound places.new ≡ 4 }
+    {
+        let Ok(place) = places.put(job(number, 0)?) else {
+            return Ok(true);
+        };
+        let place = place as usize;
+        let was_free = self.numbers[place] == 0 || self.left[place];
+        self.numbers[place] = number;
+        self.left[place] = false;
+        Ok(was_free)
+    }
+
+    // Whether what comes back, if anything does, is of the job that was put there.
+    fn take<P: Places>(&mut self, places: &mut P, place: u32) -> bool
+        requires { (P.bound places.old ≡ 4) × (place < 4) }
+        ensures { P.bound places.new ≡ 4 }
+    {
+        match places.take(place) {
+            Some(done) => self.is_back(place, done.job.number) && has_luma(&done),
+            None => true,
+        }
+    }
+
+    fn withdraw<P: Places>(&mut self, places: &mut P, place: u32) -> bool
+        requires { (P.bound places.old ≡ 4) × (place < 4) }
+        ensures { P.bound places.new ≡ 4 }
+    {
+        match places.withdraw(place) {
+            Some(job) => self.is_back(place, job.number),
+            None => true,
+        }
+    }
+
+    fn leave<P: Places>(&mut self, places: &mut P, place: u32)
+        requires { (P.bound places.old ≡ 4) × (place < 4) }
+        ensures { P.bound places.new ≡ 4 }
+    {
+        places.leave(place);
+        self.left[place as usize] = true;
+    }
+
+    fn is_back(&mut self, place: u32, number: u64) -> bool
+        requires { place < 4 }
+    {
+        let place = place as usize;
+        let is_own = self.numbers[place] == number;
+        self.numbers[place] = 0;
+        self.left[place] = false;
+        is_own
+    }
+
+    // One call, which the dice choose.
+    fn turn<P: Places>(&mut self, places: &mut P, number: u64, dice: u64) -> Result<bool, NoMemory>
+        requires { P.bound places.old ≡ 4 }
+        ensures { IfOk result (λ _. P.bound places.new ≡ 4) }
+    {
+        let place = (dice / 8 % 4) as u32;
+        match dice % 8 {
+            0..=3 => self.put(places, number),
+            4 | 5 => Ok(self.take(places, place)),
+            6 => Ok(self.withdraw(places, place)),
+            _ => {
+                self.leave(places, place);
+                Ok(true)
+            }
+        }
+    }
+}
+
+// Whether each answer in ten thousand calls is of its own job.
+fn many_turns<P: Places>(places: &mut P) -> Result<bool, NoMemory>
+    requires { P.bound places.old ≡ 4 }
+{
+    let mut book = Book {
+        numbers: [0; 4],
+        left: [false; 4],
+    };
+    let mut dice: u64 = 1;
+    for number in 1..10_001 {
+        dice = dice
+            .wrapping_mul(6_364_136_223_846_793_005)
+            .wrapping_add(1_442_695_040_888_963_407);
+        if !book.turn(places, number, dice >> 33)? {
+            return Ok(false);
+        }
+    }
+    Ok(true)
+}
+
+#[test]
+fn answers_belong_to_their_jobs(rt: HostRuntime) -> Result<(), Fail> {
+    let alloc = rt.alloc();
+    let gate = Arc::new(alloc, NoGate)?;
+    let mut team = team_of(alloc, 4, 4, &|worker: Worker| worker.start(rt, &gate))?;
+    let are_own = many_turns(&mut team.form);
+    dismiss(&rt, team);
+    assert!(rt; are_own?);
     Ok(())
 }
