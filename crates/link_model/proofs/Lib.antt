@@ -22,3 +22,4 @@ pub mod SessionOutcomes
 pub mod SessionOutput
 pub mod Rounds
 pub mod MachineRows
+pub mod PlacesKept
