@@ -21,3 +21,5 @@ pub mod Following
 pub mod SessionOutcomes
 pub mod SessionOutput
 pub mod Rounds
+pub mod MachineRows
+pub mod PlacesKept
