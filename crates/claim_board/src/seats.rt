@@ -8,7 +8,7 @@ use crate::cargo::Cargo;
 use link_model::{Lane, View};
 use std::collections::VecDeque;
 
-pub(crate) type Seat = atomic_table::Seat<Option<Cargo>, View>;
+pub(crate) type Seat = atomic_table::Seat<Option<Cargo>, View<Cargo>>;
 
 pub(crate) type BellPass = atomic_table::Seat<u8, ()>;
 

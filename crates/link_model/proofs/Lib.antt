@@ -21,5 +21,6 @@ pub mod Following
 pub mod SessionOutcomes
 pub mod SessionOutput
 pub mod Rounds
+pub mod BoardEvents
 pub mod MachineRows
 pub mod PlacesKept
