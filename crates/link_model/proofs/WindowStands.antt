@@ -57,6 +57,10 @@ new_stands s size before = record { value = refl; in_order = refl }
 module _ (w : Window) (p : WindowPast) (stands : StandsForPast w p) where
   -- ---- a fragment more
 
+  pub running_is : w.is_ended ≡ false → p.is_ended ≡ false
+  unfolding window_of
+  running_is runs = sym (ap (λ (v : Window). v.is_ended) stands.value) ∙ runs
+
   module _ (runs : p.is_ended ≡ false) (f : Fragment) where
     more_in_order : past_let_go (past_enters p f) ≡ p.released ++ releasable_numbers (past_enters p f)
     more_in_order =
@@ -87,6 +91,14 @@ module _ (w : Window) (p : WindowPast) (stands : StandsForPast w p) where
           → next_release (window_of (record p { entries = es })) ≡ option_map (as_releasable (record p { entries = es })) (first_of (releasable_numbers (record p { entries = es })))
       by_entries [] in_order = ap (λ (l : List ℕ). option_map (as_releasable (record p { entries = [] })) (first_of l)) (sym (ap (drop (length p.released)) (none_yet p.is_ended) ∙ drop_none (length p.released)))
       by_entries (e ∷ es) in_order = next_some (record p { entries = e ∷ es }) in_order refl
+
+  -- its number
+  pub next_number : (n : ℕ) → option_map (λ (r : Releasable). r.number) (next_release w) ≡ Some n → first_of (releasable_numbers p) ≡ Some n
+  next_number n is = sym (ap (option_map (λ (r : Releasable). r.number)) next_is ∙ by_first (first_of (releasable_numbers p))) ∙ is
+    where
+      by_first : (o : Option ℕ) → option_map (λ (r : Releasable). r.number) (option_map (as_releasable p) o) ≡ o
+      by_first None = refl
+      by_first (Some k) = refl
 
   -- ---- a release
 
