@@ -24,5 +24,7 @@ pub mod SessionRows
 pub mod Apart
 pub mod Following
 pub mod SessionOutcomes
+pub mod OpeningOutcomes
+pub mod Closing
 pub mod SessionOutput
 pub mod Rounds

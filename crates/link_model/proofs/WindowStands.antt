@@ -1,6 +1,6 @@
 -- A window stands for its past: what carries over each step, and what it answers.
 use Rattle.std.proofs.Common.{◌≡◌, ℕ, zero, suc, ◌+◌, ◌-◌, ◌^◌, ◌<◌, ◌≤◌, max, Bool, true, false, List, [], ◌∷◌, ◌++◌, length, drop, Option, Some, None, refl, ap, sym, subst, ◌∙◌, inl, inr, arith, cond}
-use Rattle.std.specs.Prelude.{nat_le, not, ◌&&◌, ◌||◌, filter}
+use Rattle.std.specs.Prelude.{nat_le, nat_lt, not, ◌&&◌, ◌||◌, filter}
 use Rattle.std.specs.List.{flat_map, last_or, range_with_len}
 use Rattle.std.specs.Option.{option_map}
 use Rattle.std.proofs.lemmas.Bool.{cases_Bool, cases_lt, and_parts, and_from, and_left, cond-true, cond-false, false≢true, not-true, not_from_false, leb-false, leb-true, or_parts, both_ways}
@@ -11,7 +11,7 @@ use Rattle.link_model.specs.Judgement.{fragment_outcome}
 use Rattle.link_model.specs.Numbers.{Numbered, greatest, least, base_above, enters, is_closed, is_late, is_opened, has_parts, parts_of, picture_number, opened_numbers}
 use Rattle.link_model.specs.Output.{let_go_numbers}
 use Rattle.link_model.specs.Session.{Fragment}
-use Rattle.link_model.specs.Windows.{NumberedBook, with_number, book_at, Window, new_window, number_by, late_in, opens_picture, rises_to, closed_in, released_up_to, window_enters, window_outcome, Releasable, next_release, releases, finishes, WindowPast, new_past, past_enters, past_releases, past_finishes, past_let_go, releasable_numbers, as_releasable, first_of, greatest_behind, window_of, StandsForPast}
+use Rattle.link_model.specs.Windows.{NumberedBook, with_number, book_at, Window, new_window, number_by, late_in, forgets, opens_picture, rises_to, closed_in, released_up_to, window_enters, window_outcome, Releasable, next_release, releases, finishes, WindowPast, new_past, past_enters, past_releases, past_finishes, past_let_go, releasable_numbers, as_releasable, first_of, greatest_behind, window_of, StandsForPast}
 use Rattle.link_model.specs.declared.outcome.Outcome.{Outcome}
 use Rattle.link_model.proofs.BooksInOrder.{picked, books_over, fewer_books}
 use Rattle.link_model.proofs.Leaving.{past, let_go_numbers_grow, last_releases}
@@ -175,3 +175,14 @@ module _ (w : Window) (p : WindowPast) (stands : StandsForPast w p) where
 pub late_leaves : (w : Window) (f : Fragment) → late_in w (number_by w f.number) ≡ true → window_enters w f ≡ w
 unfolding window_enters
 late_leaves w f late = cond-true (late_in w (number_by w f.number)) w (rises_to (opens_picture w (number_by w f.number) f.part) (number_by w f.number)) late
+
+-- a fragment doesn't end the input
+pub enters_runs : (w : Window) (f : Fragment) → (window_enters w f).is_ended ≡ w.is_ended
+unfolding window_enters
+enters_runs w f = by_tests (late_in w (number_by w f.number)) (nat_lt w.top (number_by w f.number))
+  where
+    by_tests : (late rises : Bool)
+        → (cond late w (cond rises (forgets (record (opens_picture w (number_by w f.number) f.part) { top = number_by w f.number })) (opens_picture w (number_by w f.number) f.part))).is_ended ≡ w.is_ended
+    by_tests true rises = refl
+    by_tests false true = refl
+    by_tests false false = refl

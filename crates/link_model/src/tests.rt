@@ -10,6 +10,7 @@ fn laws_hold() {
     what_is_kept_stays();
     let_go_pictures_stay();
     pictures_leave_in_order();
+    pictures_close_at_their_place();
     sessions_are_written_in_order();
     output_only_grows();
     outcomes_are_counted();

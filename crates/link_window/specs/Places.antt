@@ -5,9 +5,9 @@ use Rattle.link_model.specs.Windows.{NumberedBook, with_number}
 use Rattle.vc_types.specs.SequenceHeader.{Sequence}
 
 -- how many books of lesser numbers come first
-abbrev pub place_in : List NumberedBook → ℕ → ℕ
-place_in [] n = 0
-place_in (b ∷ books) n = if nat_lt b.number n then suc (place_in books n) else 0
+abbrev pub number_place : List NumberedBook → ℕ → ℕ
+number_place [] n = 0
+number_place (b ∷ books) n = if nat_lt b.number n then suc (number_place books n) else 0
 
 -- with an empty book for a picture that has none
 abbrev pub with_book : Sequence → List NumberedBook → ℕ → List NumberedBook

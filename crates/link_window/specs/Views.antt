@@ -8,12 +8,12 @@ use Rattle.link_window.specs.declared.fragment.Part.{Part}
 use Rattle.link_window.specs.declared.fragment.Part.TheVariants.{Params, Slices}
 use Rattle.link_window.specs.declared.window.Released.{Released}
 
-abbrev pub part_of : Part → model.Part
-part_of (Params body) = ParamsPart body
-part_of (Slices slices) = SlicesPart (slice_part_of slices)
+abbrev pub sent_part : Part → model.Part
+sent_part (Params body) = ParamsPart body
+sent_part (Slices slices) = SlicesPart (slice_part_of slices)
 
-abbrev pub fragment_of : Fragment → model.Fragment
-fragment_of f = record { number = f.number; part = part_of f.part }
+abbrev pub sent_fragment : Fragment → model.Fragment
+sent_fragment f = record { number = f.number; part = sent_part f.part }
 
 abbrev pub releasable_of : Released → Releasable
 releasable_of r = record { number = r.number; complete = r.complete }

@@ -2,8 +2,8 @@ ghost use Rattle.std.specs.Prelude.{◌≡◌, ◌≤◌, IfOk, OnOk, length, un
 ghost use Rattle.std.specs.Option.{option_copied};
 ghost use Rattle.link_model.specs.Books.{book_of, book_outcome};
 ghost use Rattle.link_model.specs.Windows.{book_at, with_part};
-ghost use Rattle.link_window.specs.Places.{place_in, with_book};
-ghost use Rattle.link_window.specs.Views.{part_of};
+ghost use Rattle.link_window.specs.Places.{number_place, with_book};
+ghost use Rattle.link_window.specs.Views.{sent_part};
 ghost use Rattle.vc_types.specs.SequenceHeader.{sequence_of};
 
 use crate::fragment::Part;
@@ -15,7 +15,7 @@ use vc_types::{Header, NoMemory};
 
 // How many pictures of lesser numbers come first.
 fn place_of(pictures: &[OpenPicture], number: u64) -> usize
-    ensures value { result ≡ place_in pictures.now number }
+    ensures value { result ≡ number_place pictures.now number }
     ensures within { result ≤ length pictures.now }
 {
     for (place, picture) in pictures.iter().enumerate() {
@@ -45,7 +45,7 @@ fn opened(
     pictures: &mut Vec<OpenPicture>,
     number: u64,
 ) -> Result<usize, NoMemory>
-    ensures place { IfOk result (λ place. place ≡ place_in pictures.old.items number) }
+    ensures place { IfOk result (λ place. place ≡ number_place pictures.old.items number) }
     ensures value { OnOk result (pictures.new.items ≡ with_book (sequence_of h) pictures.old.items number) }
 {
     let place = place_of(pictures, number);
@@ -63,8 +63,8 @@ pub(crate) fn take_part(
     number: u64,
     part: Part,
 ) -> Result<Outcome, NoMemory>
-    ensures outcome { IfOk result (λ outcome. outcome ≡ book_outcome (unwrap_or (book_at pictures.old.items number) (book_of (sequence_of h) [])) (part_of part)) }
-    ensures value { OnOk result (pictures.new.items ≡ with_part (sequence_of h) pictures.old.items number (part_of part)) }
+    ensures outcome { IfOk result (λ outcome. outcome ≡ book_outcome (unwrap_or (book_at pictures.old.items number) (book_of (sequence_of h) [])) (sent_part part)) }
+    ensures value { OnOk result (pictures.new.items ≡ with_part (sequence_of h) pictures.old.items number (sent_part part)) }
 {
     let place = opened(alloc, h, pictures, number)?;
     pictures[place].take(part)

@@ -1,7 +1,7 @@
 ghost use Rattle.std.specs.Prelude.{◌≡◌, [], IfOk, OnOk};
 ghost use Rattle.link_model.specs.Books.{book_of, book_takes, book_outcome};
 ghost use Rattle.link_model.specs.Windows.{with_number};
-ghost use Rattle.link_window.specs.Views.{part_of};
+ghost use Rattle.link_window.specs.Views.{sent_part};
 ghost use Rattle.vc_types.specs.SequenceHeader.{sequence_of};
 
 use crate::fragment::Part;
@@ -49,8 +49,8 @@ impl OpenPicture {
     }
 
     pub(crate) fn take(&mut self, part: Part) -> Result<Outcome, NoMemory>
-        ensures outcome { IfOk result (λ outcome. outcome ≡ book_outcome self.old.book (part_of part)) }
-        ensures value { OnOk result (self.new ≡ with_number self.old.number (book_takes self.old.book (part_of part))) }
+        ensures outcome { IfOk result (λ outcome. outcome ≡ book_outcome self.old.book (sent_part part)) }
+        ensures value { OnOk result (self.new ≡ with_number self.old.number (book_takes self.old.book (sent_part part))) }
     {
         match part {
             Part::Params(body) => self.book.take_params(body),

@@ -6,7 +6,7 @@ ghost use Rattle.link_model.specs.Numbers as numbers;
 ghost use Rattle.link_model.specs.Numbers.{is_opened, parts_of};
 ghost use Rattle.link_model.specs.Windows as windows;
 ghost use Rattle.link_model.specs.Windows.{WindowPast, StandsForPast};
-ghost use Rattle.link_window.specs.Views.{part_of, fragment_of, releasable_of};
+ghost use Rattle.link_window.specs.Views.{sent_part, sent_fragment, releasable_of};
 ghost use Rattle.vc_types.specs.SequenceHeader.{sequence_of};
 
 use crate::books::{book_of_number, take_part};
@@ -92,21 +92,22 @@ impl Window {
     /// memory.
     pub fn enter(&mut self, f: Fragment) -> Result<Outcome, NoMemory>
         requires { self.old.is_ended ≡ false }
-        ensures outcome { IfOk result (λ outcome. outcome ≡ windows.window_outcome self.old (fragment_of f)) }
-        ensures value { OnOk result (self.new ≡ windows.window_enters self.old (fragment_of f)) }
+        ensures outcome { IfOk result (λ outcome. outcome ≡ windows.window_outcome self.old (sent_fragment f)) }
+        ensures value { OnOk result (self.new ≡ windows.window_enters self.old (sent_fragment f)) }
+        ensures running { OnOk result (self.new.is_ended ≡ false) }
         // By what came before.
         ensures judged { (p : WindowPast) → StandsForPast self.old p
-            → IfOk result (λ outcome. outcome ≡ fragment_outcome (numbers.base_above p.before) p.size p.sequence p.entries (fragment_of f)) }
+            → IfOk result (λ outcome. outcome ≡ fragment_outcome (numbers.base_above p.before) p.size p.sequence p.entries (sent_fragment f)) }
         ensures stands { (p : WindowPast) → StandsForPast self.old p
-            → OnOk result (StandsForPast self.new (windows.past_enters p (fragment_of f))) }
+            → OnOk result (StandsForPast self.new (windows.past_enters p (sent_fragment f))) }
     {
         self.entered(f)
     }
 
     #[tactic(auto, unfolding(link_model::specs::Windows::window_enters, link_model::specs::Windows::window_outcome))]
     fn entered(&mut self, f: Fragment) -> Result<Outcome, NoMemory>
-        ensures outcome { IfOk result (λ outcome. outcome ≡ windows.window_outcome self.old (fragment_of f)) }
-        ensures value { OnOk result (self.new ≡ windows.window_enters self.old (fragment_of f)) }
+        ensures outcome { IfOk result (λ outcome. outcome ≡ windows.window_outcome self.old (sent_fragment f)) }
+        ensures value { OnOk result (self.new ≡ windows.window_enters self.old (sent_fragment f)) }
     {
         let Some(number) = self.number_of(f.number) else {
             return Ok(Outcome::Late);
