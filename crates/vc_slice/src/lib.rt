@@ -16,7 +16,7 @@ mod places;
 mod subband;
 mod writing;
 
-pub use coded::cut;
+pub use coded::{CodedSlice, coded_slice, cut};
 pub use coeffs::SliceCoeffs;
 pub use decoding::decode;
 pub use done::SliceDone;
