@@ -1,5 +1,7 @@
 -- The feeder's form of a board.
-use Rattle.std.specs.Prelude.{◌≡◌, ◌≢◌, ℕ, ◌+◌, ◌%◌, ◌≤◌, ◌<◌, ◌^◌, Bool, true, false, ◌&&◌, not, nat_lt, if◌then◌else◌, List, slice_index_or, slice_set, Option, Result, IfOk, IfErr, OnSome, IfSome, IfNone}
+use Rattle.std.specs.Prelude.{◌≡◌, ◌≢◌, ℕ, ◌+◌, ◌%◌, ◌≤◌, ◌<◌, ◌^◌, Bool, true, false, ◌&&◌, not}
+use Rattle.std.specs.Prelude.{nat_lt, if◌then◌else◌, List, slice_index_or, slice_set, Option}
+use Rattle.std.specs.Prelude.{Result, IfOk, IfErr, OnSome, IfSome, IfNone}
 use Rattle.std.specs.List.{count_by}
 use Rattle.std.specs.Arc.{arc_value}
 use Rattle.link_model.specs.Board.{lane_at, after_load, after_put}
@@ -51,7 +53,8 @@ pub record FoundNot (state place : ℕ) (old new : SeatView) : Type 0 where
 
 -- ---- what the calls of places do
 
--- a put: each place that was left was asked; then the lowest free place has the job, if there is one
+-- a put: each place that was left was asked; then the lowest free place has the job, if there is
+-- one
 pub record HasOffered (old new : BoardFeeder) (answer : Result ℕ SliceJob) : Type 0 where
   pub asked : (form_sees old).steps + count_by (λ left. left) (left_in old) ≤ (form_sees new).steps
   pub lowest : IfOk answer (HasPut new)

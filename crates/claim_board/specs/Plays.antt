@@ -1,15 +1,19 @@
--- What each step tells its caller: of the step, the seat before it, the word that was found, and the seat behind it.
-use Rattle.std.specs.Prelude.{◌≡◌, ◌≢◌, ◌⊎◌, ℕ, ◌+◌, ◌/◌, ◌%◌, ◌*◌, ◌≤◌, ◌^◌, List, [], ◌∷◌, true, Some, None}
+-- What each step tells its caller: of the step, the seat before it, the word that was found, and
+-- the seat behind it.
+use Rattle.std.specs.Prelude.{◌≡◌, ◌≢◌, ◌⊎◌, ℕ, ◌+◌, ◌/◌, ◌%◌, ◌*◌, ◌≤◌, ◌^◌, List, [], ◌∷◌, true}
+use Rattle.std.specs.Prelude.{Some, None}
 use Rattle.atomic_table.specs.Table.{Me, Step, rest}
 use Rattle.vc_slice.specs.declared.job.SliceJob.{SliceJob}
 use Rattle.vc_slice.specs.declared.done.SliceDone.{SliceDone}
-use Rattle.link_model.specs.Board.{waiting_word, done_word, lane_at, seen, after_load, after_put, after_complete, after_return, after_open}
+use Rattle.link_model.specs.Board.{waiting_word, done_word, lane_at, seen, after_load, after_put}
+use Rattle.link_model.specs.Board.{after_complete, after_return, after_open}
 use Rattle.claim_board.specs.Views.{SeatView, after_job}
 use Rattle.claim_board.specs.declared.cargo.Cargo.TheVariants.{Waiting, Finished}
 use Rattle.claim_board.specs.Counts.{holds_of}
 use Rattle.claim_board.specs.Rule.{Slot}
 
--- a seat: its view, and the slots that are out with it, each with its place; the one taken last comes first
+-- a seat: its view, and the slots that are out with it, each with its place; the one taken last
+-- comes first
 abbrev pub SeatState : Type 0
 SeatState = Me Slot SeatView
 
@@ -31,7 +35,8 @@ pub record HasClaimed (place serial : ℕ) (old new : SeatState) : Type 0 where
   pub small : serial ≤ 2 ^ 61
   pub free : (other : ℕ) → holds_of place other old.0.held ≡ 0
 
--- a claim that failed: its word was read; it has no lower serial than the one that was tried, if that was read before
+-- a claim that failed: its word was read; it has no lower serial than the one that was tried, if
+-- that was read before
 pub record HasMissed (place tried found : ℕ) (old new : SeatState) : Type 0 where
   pub seat : new ≡ (after_load old.0 place found, old.1)
   pub later : old.0.last ≡ Some (seen place tried) → tried / 4 ≤ found / 4
@@ -64,7 +69,8 @@ pub record HasWithdrawn (place serial : ℕ) (old new : SeatState) : Type 0 wher
   )
   pub out : (lane_at old.0 place).is_out ≡ true
 
--- The feeder's compare of a word of its own serial failed: the word was read, and isn't in this state at all.
+-- The feeder's compare of a word of its own serial failed: the word was read, and isn't in this
+-- state at all.
 pub record IsOtherwise (place found state : ℕ) (old new : SeatState) : Type 0 where
   pub seat : new ≡ (after_load old.0 place found, old.1)
   pub other : found ≢ 4 * (lane_at old.0 place).serial + state → found % 4 ≢ state

@@ -1,5 +1,6 @@
 -- The rule of the board, which holds between any two steps.
-use Rattle.std.specs.Prelude.{◌≡◌, ℕ, ◌+◌, ◌*◌, ◌/◌, ◌^◌, ◌<◌, ◌≤◌, Bool, true, false, List, [], ◌∷◌, length, cond, ◌==◌, slice_index, IfSome, Option, None, Some}
+use Rattle.std.specs.Prelude.{◌≡◌, ℕ, ◌+◌, ◌*◌, ◌/◌, ◌^◌, ◌<◌, ◌≤◌, Bool, true, false, List, []}
+use Rattle.std.specs.Prelude.{◌∷◌, length, cond, ◌==◌, slice_index, IfSome, Option, None, Some}
 use Rattle.std.specs.List.{sum_by}
 use mathlib.Core.Option.{some, none}
 use mathlib.Core.Option as maybe
@@ -46,7 +47,8 @@ lane_of serial (waiting job) = lane serial true true
 lane_of serial held = lane serial true true
 lane_of serial (finished done) = lane serial true true
 
--- what lies at home: nothing while the feeder or the holder has the slot; a job or an answer is stamped with the serial
+-- what lies at home: nothing while the feeder or the holder has the slot; a job or an answer is
+-- stamped with the serial
 abbrev pub home_of : ℕ → Phase → maybe.Option Slot
 home_of serial fresh = some None
 home_of serial empty = none

@@ -16,7 +16,8 @@ use std::collections::VecDeque;
 use vc_types::NoMemory;
 
 impl Board {
-    /// A board whose places are all empty, the feeder's seat, one seat for each worker, and a seat at the bell.
+    /// A board whose places are all empty, the feeder's seat, one seat for each worker, and a seat
+    /// at the bell.
     pub fn new(
         alloc: Global,
         places: u32,

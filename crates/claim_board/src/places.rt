@@ -1,7 +1,10 @@
-ghost use Rattle.std.specs.Prelude.{◌≡◌, ◌≢◌, ◌+◌, ◌≤◌, ◌<◌, ◌^◌, ℕ, IfOk, IfErr, IfSome, IfNone, None, false, replicate, if◌then◌else◌};
+ghost use Rattle.std.specs.Prelude.{◌≡◌, ◌≢◌, ◌+◌, ◌≤◌, ◌<◌, ◌^◌, ℕ, IfOk, IfErr, IfSome, IfNone};
+ghost use Rattle.std.specs.Prelude.{None, false, replicate, if◌then◌else◌};
 ghost use Rattle.std.specs.List.{count_by};
 ghost use Rattle.std.specs.Arc.{arc_value};
-ghost use Rattle.claim_board.specs.Feeders.{feeder_bound, form_sees, left_in, is_left, IsLowestFree, HasNoFree, HasOffered, HasAsked, HasAskedBack, HasLeft};
+ghost use Rattle.claim_board.specs.Feeders.{feeder_bound, form_sees, left_in, is_left};
+ghost use Rattle.claim_board.specs.Feeders.{IsLowestFree, HasNoFree, HasOffered, HasAsked};
+ghost use Rattle.claim_board.specs.Feeders.{HasAskedBack, HasLeft};
 ghost use Rattle.claim_board.specs.Seats.{IsFeederOf, feeder_sees, place_count};
 
 use crate::board::Board;

@@ -1,6 +1,7 @@
 ghost use Rattle.link_model.specs.Board.{first_view, worker_view, after_step};
 ghost use Rattle.claim_board.specs.Rule.{BoardRule};
-ghost use Rattle.claim_board.specs.Plays.{tells_load, tells_put, tells_claim, tells_complete, tells_take, tells_withdraw, tells_fetch};
+ghost use Rattle.claim_board.specs.Plays.{tells_load, tells_put, tells_claim, tells_complete};
+ghost use Rattle.claim_board.specs.Plays.{tells_take, tells_withdraw, tells_fetch};
 
 use crate::cargo::Cargo;
 use atomic_table::{Play, Split, TableRule};

@@ -2,7 +2,8 @@ ghost use Rattle.std.specs.Prelude.{◌≡◌, ◌<◌, All, IfOk, OnOk, false, 
 ghost use Rattle.link_model.specs.Board.{lane, lane_at};
 ghost use Rattle.vc_types.specs.Slices.{slice_length};
 ghost use Rattle.claim_board.specs.Calls.{AreEmpty, IsNewWorker};
-ghost use Rattle.claim_board.specs.Seats.{IsBellSeatOf, IsFeederOf, IsWorkerOf, feeder_sees, place_count};
+ghost use Rattle.claim_board.specs.Seats.{IsBellSeatOf, IsFeederOf, IsWorkerOf, feeder_sees};
+ghost use Rattle.claim_board.specs.Seats.{place_count};
 
 use crate::cargo::Cargo;
 use crate::{

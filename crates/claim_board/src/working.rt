@@ -1,4 +1,5 @@
-ghost use Rattle.std.specs.Prelude.{◌≡◌, ◌≢◌, ℕ, ◌+◌, ◌%◌, ◌<◌, ◌≤◌, ◌^◌, false, ◌∷◌, None, IfOk, IfErr, cond, ◌==◌};
+ghost use Rattle.std.specs.Prelude.{◌≡◌, ◌≢◌, ℕ, ◌+◌, ◌%◌, ◌<◌, ◌≤◌, ◌^◌, false, ◌∷◌, None, IfOk};
+ghost use Rattle.std.specs.Prelude.{IfErr, cond, ◌==◌};
 ghost use Rattle.std.specs.VecDeque.{deque_capacity};
 ghost use Rattle.link_model.specs.Board.{after_complete};
 ghost use Rattle.claim_board.specs.Calls.{HoldsOneMore, FoundOther};

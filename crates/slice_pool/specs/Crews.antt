@@ -33,7 +33,8 @@ abbrev pub IsAtWork : ℕ → CrewState → Type 0
 IsAtWork places (AtWork form) = IsNewForm places form
 IsAtWork places state = ⊥
 
--- a call of places: with workers it is the form's, else this is the answer, and the crew is as it was
+-- a call of places: with workers it is the form's, else this is the answer, and the crew is as it
+-- was
 abbrev pub Does : (BoardFeeder → BoardFeeder → Type 0) → Type 0 → CrewState → CrewState → Type 0
 Does with_form without (AtWork old) (AtWork new) = with_form old new
 Does with_form without (AtWork old) new = ⊥

@@ -1,7 +1,9 @@
-ghost use Rattle.std.specs.Prelude.{◌≡◌, ◌<◌, ◌≤◌, ◌+◌, ◌^◌, IfOk, IsOk, OnOk, OnErr, All, vec_len, vec_capacity};
+ghost use Rattle.std.specs.Prelude.{◌≡◌, ◌<◌, ◌≤◌, ◌+◌, ◌^◌, IfOk, IsOk, OnOk, OnErr, All, vec_len};
+ghost use Rattle.std.specs.Prelude.{vec_capacity};
 ghost use Rattle.std.specs.Arc.{arc_value};
 ghost use Rattle.claim_board.specs.Calls.{IsNewWorker};
-ghost use Rattle.slice_pool.specs.Crews.{NotStarted, WithoutWorkers, IsAtWork, IsNewForm, bound_at, crew_at};
+ghost use Rattle.slice_pool.specs.Crews.{NotStarted, WithoutWorkers, IsAtWork, IsNewForm, bound_at};
+ghost use Rattle.slice_pool.specs.Crews.{crew_at};
 
 use crate::crew::Crew;
 use crate::team::{Post, Stage, Team};

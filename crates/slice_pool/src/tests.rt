@@ -14,7 +14,8 @@ use vc_ports::{Gate, NoGate};
 use vc_slice::{Hands, Places, SliceDone, SliceJob, cut};
 use vc_types::{Component, NoMemory, Plan, Shape};
 
-// A picture of 6 by 2 samples with three slices side by side, each with one coefficient of each subband.
+// A picture of 6 by 2 samples with three slices side by side, each with one coefficient of each
+// subband.
 const PLAN: Plan = Plan {
     shape: Shape {
         luma_width: 6,
@@ -177,8 +178,8 @@ fn comes(word: &AtomicU64, slice: u64) -> bool
     false
 }
 
-// The second slice is put once a worker is held with the first, and the third once the other worker passed with the
-// second; then the held worker goes on.
+// The second slice is put once a worker is held with the first, and the third once the other worker
+// passed with the second; then the held worker goes on.
 fn slices_past<P: Hands>(hands: &mut P, door: &Doorkeeper) -> Result<bool, Fail>
     requires { P.is_free hands.old }
 {
@@ -234,6 +235,7 @@ fn a_crew_without_workers(rt: HostRuntime) -> Result<(), Fail> {
 }
 
 // Which job was put into each of four places, 0 where none is there, and which places were left.
+#[derive(Drop)]
 struct Book {
     numbers: [u64; 4],
     left: [bool; 4],

@@ -25,7 +25,8 @@ pub struct Worker {
 }
 
 impl Worker {
-    /// Starts in a thread of its own, if one can be had. It passes the gate before it decodes a slice.
+    /// Starts in a thread of its own, if one can be had. It passes the gate before it decodes a
+    /// slice.
     pub fn start<H: Threads + Wait + Copy + Send + Sync + 'static, G: Gate + Send + Sync + 'static>(
         self,
         rt: H,

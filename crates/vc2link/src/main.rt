@@ -9,10 +9,13 @@ use link::link_main;
 use link_net::UdpWire;
 use link_report::Ending;
 use slice_pool::{Crew, Worker};
+use std::alloc::Global;
+use std::net::Net;
 use std::process::ExitCode;
-use std::sync::Arc;
+use std::sync::{Arc, Wait};
+use std::thread::Threads;
 use std::{env, io};
-use vc_ports::{NoGate, StdSink, StdSource};
+use vc_ports::{NoGate, Sink, Source, StdSink, StdSource};
 use vc_types::{NoMemory, Words};
 
 // The words behind the program's name.
@@ -27,20 +30,21 @@ fn words_of(rt: &HostRuntime) -> io::Result<Result<Words, NoMemory>> {
 }
 
 // Does what the words say with a crew at hand, which is stopped whatever that came to.
-fn run(rt: HostRuntime, words: &Words) -> u8 {
-    let Ok(gate) = Arc::new(rt.alloc(), NoGate) else {
+fn run<H: Threads + Wait + Net + Copy + Send + Sync + 'static, S: Source, O: Sink, E: Sink>(
+    rt: H,
+    alloc: Global,
+    words: &Words,
+    input: &mut S,
+    output: &mut O,
+    report: &mut E,
+) -> u8 {
+    let Ok(gate) = Arc::new(alloc, NoGate) else {
         return Ending::NoMemory.status();
     };
-    let mut crew = Crew::new(rt, rt.alloc(), |worker: Worker| worker.start(rt, &gate));
+    let mut wire = UdpWire::new(rt);
+    let mut crew = Crew::new(rt, alloc, |worker: Worker| worker.start(rt, &gate));
     let status = link_main(
-        &rt,
-        rt.alloc(),
-        words,
-        &mut StdSource::new(rt.stdin()),
-        &mut StdSink::new(rt.stdout()),
-        &mut StdSink::new(rt.stderr()),
-        &mut UdpWire::new(&rt),
-        &mut crew,
+        rt, alloc, words, input, output, report, &mut wire, &mut crew,
     );
     crew.stop();
     status
@@ -48,7 +52,14 @@ fn run(rt: HostRuntime, words: &Words) -> u8 {
 
 fn main(rt: HostRuntime) -> ExitCode {
     let status = match words_of(&rt) {
-        Ok(Ok(words)) => run(rt, &words),
+        Ok(Ok(words)) => run(
+            rt,
+            rt.alloc(),
+            &words,
+            &mut StdSource::new(rt.stdin()),
+            &mut StdSink::new(rt.stdout()),
+            &mut StdSink::new(rt.stderr()),
+        ),
         Ok(Err(NoMemory)) => Ending::NoMemory.status(),
         // Words that aren't text are outside the grammar.
         Err(_) => Ending::Usage { place: 0 }.status(),
