@@ -150,7 +150,8 @@ impl Window {
         ensures { self.new ≡ windows.forgets self.old }
     {
         let progress = self.progress;
-        self.pictures.retain(|picture| !progress.is_gone(picture.number()));
+        self.pictures
+            .retain(|picture| !progress.is_gone(picture.number()));
     }
 
     /// The book of a picture that is opened, until the picture is both closed and released.

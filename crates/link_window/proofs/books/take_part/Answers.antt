@@ -31,7 +31,7 @@ returns-clause-value c =
     let part = sent_part c.args.part in
     let own = read_own n s old c.opened.new.pictures.items c.in_ok-place.place c.index_mut.result.now c.in_ok-place.ensures.value c.in_ok-place.ensures.place c.index_mut.ensures.value in
     on_ok_weaker c.take.result (λ after.
-        ap (λ (l : List NumberedBook). set l c.in_ok-place.place c.take.new.self) c.in_ok-place.ensures.value
-        ∙ ap (λ k. set (with_book s old n) k c.take.new.self) c.in_ok-place.ensures.place
-        ∙ ap (set (with_book s old n) (number_place old n)) (after ∙ ap (λ (b : NumberedBook). with_number b.number (book_takes b.book part)) own)
-        ∙ takes_at_place n s part old) c.take.ensures.value
+    ap (λ (l : List NumberedBook). set l c.in_ok-place.place c.take.new.self) c.in_ok-place.ensures.value
+    ∙ ap (λ k. set (with_book s old n) k c.take.new.self) c.in_ok-place.ensures.place
+    ∙ ap (set (with_book s old n) (number_place old n)) (after ∙ ap (λ (b : NumberedBook). with_number b.number (book_takes b.book part)) own)
+    ∙ takes_at_place n s part old) c.take.ensures.value

@@ -25,4 +25,4 @@ returns-clause-stands c = λ p stands.
     let f = sent_fragment c.args.f in
     let w = c.args.self.now in
     on_ok_weaker c.entered.result (λ after.
-        subst (λ (v : Window). StandsForPast v (past_enters p f)) (sym after) (enters_stands w p stands (running_is w p stands c.requires) f)) c.entered.ensures.value
+    subst (λ (v : Window). StandsForPast v (past_enters p f)) (sym after) (enters_stands w p stands (running_is w p stands c.requires) f)) c.entered.ensures.value

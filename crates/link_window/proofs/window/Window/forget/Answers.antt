@@ -9,5 +9,5 @@ pub returns : goal.returns
 returns c =
     let w : Window = the_view c.self.inside in
     let kept : c.retain.new.self.items ≡ filter (stays_in w) w.books =
-        filter_same _ (stays_in w) _ (λ x b f k. search rules) _ _ c.retain.ensures.filtered in
+    filter_same _ (stays_in w) _ (λ x b f k. search rules) _ _ c.retain.ensures.filtered in
     ap (λ (l : List NumberedBook). let v : Window = record w { books = l } in v) kept ∙ ap forgets c.self.view_is
