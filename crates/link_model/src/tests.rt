@@ -10,11 +10,15 @@ fn laws_hold() {
     what_is_kept_stays();
     let_go_pictures_stay();
     pictures_leave_in_order();
+    pictures_close_at_their_place();
     sessions_are_written_in_order();
     output_only_grows();
     outcomes_are_counted();
     outcomes_say_what_datagrams_do();
     books_stand_for_parts();
     what_is_not_kept_changes_nothing();
-    windows_stand_for_fragments();
+    windows_stand_for_their_past();
+    windows_release_in_order();
+    windows_stay_small();
+    windows_follow_sessions();
 }

@@ -35,7 +35,7 @@ IsAtWork places state = ⊥
 
 -- a call of places: with workers it is the form's, else this is the answer, and the crew is as it
 -- was
-abbrev pub Does : (BoardFeeder → BoardFeeder → Type 0) → Type 0 → CrewState → CrewState → Type 0
-Does with_form without (AtWork old) (AtWork new) = with_form old new
-Does with_form without (AtWork old) new = ⊥
-Does with_form without old new = without × (new ≡ old)
+abbrev pub HandsOn : (BoardFeeder → BoardFeeder → Type 0) → Type 0 → CrewState → CrewState → Type 0
+HandsOn with_form without (AtWork old) (AtWork new) = with_form old new
+HandsOn with_form without (AtWork old) new = ⊥
+HandsOn with_form without old new = without × (new ≡ old)

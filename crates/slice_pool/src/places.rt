@@ -1,6 +1,6 @@
 ghost use Rattle.std.specs.Prelude.{◌≡◌, ◌<◌, IfOk, IfErr, None, Err};
 ghost use Rattle.claim_board.specs.Feeders.{HasOffered, HasAsked, HasAskedBack, HasLeft};
-ghost use Rattle.slice_pool.specs.Crews.{Does, bound_at, crew_at};
+ghost use Rattle.slice_pool.specs.Crews.{HandsOn, bound_at, crew_at};
 
 use crate::crew::Crew;
 use crate::team::Stage;
@@ -18,7 +18,7 @@ impl<H, F> Places for Crew<H, F> {
         ensures bound { bound_at (crew_at self.new.stage) ≡ bound_at (crew_at self.old.stage) }
         ensures place { IfOk result (λ place. place < bound_at (crew_at self.old.stage)) }
         ensures back { IfErr result (λ same. same ≡ job) }
-        ensures board { Does (λ old new. HasOffered old new result) (result ≡ Err job)
+        ensures board { HandsOn (λ old new. HasOffered old new result) (result ≡ Err job)
             (crew_at self.old.stage) (crew_at self.new.stage) }
     {
         match &mut self.stage {
@@ -30,7 +30,7 @@ impl<H, F> Places for Crew<H, F> {
     fn take(&mut self, place: u32) -> Option<SliceDone>
         requires place { place < bound_at (crew_at self.old.stage) }
         ensures bound { bound_at (crew_at self.new.stage) ≡ bound_at (crew_at self.old.stage) }
-        ensures board { Does (λ old new. HasAsked old new place result) (result ≡ None)
+        ensures board { HandsOn (λ old new. HasAsked old new place result) (result ≡ None)
             (crew_at self.old.stage) (crew_at self.new.stage) }
     {
         match &mut self.stage {
@@ -42,7 +42,7 @@ impl<H, F> Places for Crew<H, F> {
     fn withdraw(&mut self, place: u32) -> Option<SliceJob>
         requires place { place < bound_at (crew_at self.old.stage) }
         ensures bound { bound_at (crew_at self.new.stage) ≡ bound_at (crew_at self.old.stage) }
-        ensures board { Does (λ old new. HasAskedBack old new place result) (result ≡ None)
+        ensures board { HandsOn (λ old new. HasAskedBack old new place result) (result ≡ None)
             (crew_at self.old.stage) (crew_at self.new.stage) }
     {
         match &mut self.stage {
@@ -54,7 +54,7 @@ impl<H, F> Places for Crew<H, F> {
     fn leave(&mut self, place: u32)
         requires place { place < bound_at (crew_at self.old.stage) }
         ensures bound { bound_at (crew_at self.new.stage) ≡ bound_at (crew_at self.old.stage) }
-        ensures board { Does (λ old new. HasLeft old new place) Unit
+        ensures board { HandsOn (λ old new. HasLeft old new place) Unit
             (crew_at self.old.stage) (crew_at self.new.stage) }
     {
         match &mut self.stage {
