@@ -3,6 +3,7 @@ use Rattle.std.specs.Prelude.{◌≡◌, ℕ, false, replicate}
 use Rattle.claim_board.specs.Calls.{AreEmpty}
 use Rattle.claim_board.specs.Feeders.{feeder_bound, form_sees, left_in}
 use Rattle.claim_board.specs.declared.feeder.BoardFeeder.{BoardFeeder}
+use Rattle.slice_pool.specs.declared.crew.Crew.{Crew}
 use Rattle.slice_pool.specs.declared.team.Stage.{Stage}
 use Rattle.slice_pool.specs.declared.team.Stage.TheVariants.{Free, Alone, Working}
 
@@ -12,10 +13,13 @@ pub data CrewState : Type 0 where
   WithoutWorkers : CrewState
   AtWork : BoardFeeder → CrewState
 
-abbrev pub crew_at : Stage → CrewState
-crew_at Free = NotStarted
-crew_at Alone = WithoutWorkers
-crew_at (Working team) = AtWork team.form
+abbrev pub state_at : Stage → CrewState
+state_at Free = NotStarted
+state_at Alone = WithoutWorkers
+state_at (Working team) = AtWork team.form
+
+abbrev pub crew_at : {H F : Type 0} → Crew H F → CrewState
+crew_at c = state_at c.stage
 
 -- the number of places
 abbrev pub bound_at : CrewState → ℕ

@@ -22,7 +22,7 @@ impl<H: Threads + Copy, F: Fn(Worker) -> Option<JoinHandle<()>> + Drop> Crew<H, 
     /// A crew that no worker was started for. Each worker will be started by `start`.
     pub fn new(rt: H, alloc: Global, start: F) -> Crew<H, F>
         requires callable { F.IsAlwaysCallable start }
-        ensures free { (crew_at result.stage ≡ NotStarted) × F.IsAlwaysCallable result.start }
+        ensures free { (crew_at result ≡ NotStarted) × F.IsAlwaysCallable result.start }
     {
         Crew {
             rt,

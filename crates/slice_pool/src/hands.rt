@@ -21,16 +21,16 @@ use vc_types::NoMemory;
 const PLACES: u32 = 256;
 
 impl<H, F: Fn(Worker) -> Option<JoinHandle<()>>> Hands for Crew<H, F> {
-    ghost is_free = { λ c. (crew_at c.stage ≡ NotStarted) × F.IsAlwaysCallable c.start };
+    ghost is_free = { λ c. (crew_at c ≡ NotStarted) × F.IsAlwaysCallable c.start };
 
     fn start_workers(&mut self, workers: u32) -> Result<(), NoMemory>
-        requires free { crew_at self.old.stage ≡ NotStarted }
+        requires free { crew_at self.old ≡ NotStarted }
         requires callable { F.IsAlwaysCallable self.old.start }
         ensures none { workers ≡ 0
-            → IsOk result × (crew_at self.new.stage ≡ WithoutWorkers) }
-        ensures some { 0 < workers → OnOk result (IsAtWork 256 (crew_at self.new.stage)) }
-        ensures unchanged { OnErr result ((crew_at self.new.stage ≡ NotStarted)
-            × (bound_at (crew_at self.new.stage) ≡ bound_at (crew_at self.old.stage))
+            → IsOk result × (crew_at self.new ≡ WithoutWorkers) }
+        ensures some { 0 < workers → OnOk result (IsAtWork 256 (crew_at self.new)) }
+        ensures unchanged { OnErr result ((crew_at self.new ≡ NotStarted)
+            × (bound_at (crew_at self.new) ≡ bound_at (crew_at self.old))
             × F.IsAlwaysCallable self.new.start) }
     {
         let stage = if workers == 0 {

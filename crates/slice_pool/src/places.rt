@@ -10,16 +10,16 @@ use vc_slice::{Places, SliceDone, SliceJob};
 impl<H, F> Places for Crew<H, F> {
     ghost use Rattle.std.specs.Prelude.{None};
 
-    ghost bound = { λ c. bound_at (crew_at c.stage) };
+    ghost bound = { λ c. bound_at (crew_at c) };
 
     ghost told = { λ _. None };
 
     fn put(&mut self, job: SliceJob) -> Result<u32, SliceJob>
-        ensures bound { bound_at (crew_at self.new.stage) ≡ bound_at (crew_at self.old.stage) }
-        ensures place { IfOk result (λ place. place < bound_at (crew_at self.old.stage)) }
+        ensures bound { bound_at (crew_at self.new) ≡ bound_at (crew_at self.old) }
+        ensures place { IfOk result (λ place. place < bound_at (crew_at self.old)) }
         ensures back { IfErr result (λ same. same ≡ job) }
         ensures board { HandsOn (λ old new. HasOffered old new result) (result ≡ Err job)
-            (crew_at self.old.stage) (crew_at self.new.stage) }
+            (crew_at self.old) (crew_at self.new) }
     {
         match &mut self.stage {
             Stage::Working(team) => team.form.put(job),
@@ -28,10 +28,10 @@ impl<H, F> Places for Crew<H, F> {
     }
 
     fn take(&mut self, place: u32) -> Option<SliceDone>
-        requires place { place < bound_at (crew_at self.old.stage) }
-        ensures bound { bound_at (crew_at self.new.stage) ≡ bound_at (crew_at self.old.stage) }
+        requires place { place < bound_at (crew_at self.old) }
+        ensures bound { bound_at (crew_at self.new) ≡ bound_at (crew_at self.old) }
         ensures board { HandsOn (λ old new. HasAsked old new place result) (result ≡ None)
-            (crew_at self.old.stage) (crew_at self.new.stage) }
+            (crew_at self.old) (crew_at self.new) }
     {
         match &mut self.stage {
             Stage::Working(team) => team.form.take(place),
@@ -40,10 +40,10 @@ impl<H, F> Places for Crew<H, F> {
     }
 
     fn withdraw(&mut self, place: u32) -> Option<SliceJob>
-        requires place { place < bound_at (crew_at self.old.stage) }
-        ensures bound { bound_at (crew_at self.new.stage) ≡ bound_at (crew_at self.old.stage) }
+        requires place { place < bound_at (crew_at self.old) }
+        ensures bound { bound_at (crew_at self.new) ≡ bound_at (crew_at self.old) }
         ensures board { HandsOn (λ old new. HasAskedBack old new place result) (result ≡ None)
-            (crew_at self.old.stage) (crew_at self.new.stage) }
+            (crew_at self.old) (crew_at self.new) }
     {
         match &mut self.stage {
             Stage::Working(team) => team.form.withdraw(place),
@@ -52,10 +52,10 @@ impl<H, F> Places for Crew<H, F> {
     }
 
     fn leave(&mut self, place: u32)
-        requires place { place < bound_at (crew_at self.old.stage) }
-        ensures bound { bound_at (crew_at self.new.stage) ≡ bound_at (crew_at self.old.stage) }
+        requires place { place < bound_at (crew_at self.old) }
+        ensures bound { bound_at (crew_at self.new) ≡ bound_at (crew_at self.old) }
         ensures board { HandsOn (λ old new. HasLeft old new place) Unit
-            (crew_at self.old.stage) (crew_at self.new.stage) }
+            (crew_at self.old) (crew_at self.new) }
     {
         match &mut self.stage {
             Stage::Working(team) => team.form.leave(place),
