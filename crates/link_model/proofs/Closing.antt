@@ -2,9 +2,9 @@
 use Rattle.std.proofs.Common.{◌≡◌, ℕ, zero, suc, ◌+◌, ◌<◌, ◌≤◌, Bool, true, false, List, [], ◌∷◌, length, refl, ap, sym, subst, ◌∙◌, inl, inr, arith, cond}
 use Rattle.std.specs.Prelude.{not, take_while}
 use Rattle.std.specs.List.{range_with_len}
-use Rattle.std.proofs.lemmas.Bool.{cases_lt, false≢true, not-false, not-true}
+use Rattle.std.proofs.lemmas.Bool.{cases_lt, not-false, not-true}
 use Rattle.std.proofs.lemmas.List.Sums.{take_while-cons}
-use Rattle.link_model.specs.Output.{is_closed_behind, datagram_places, closing_place}
+use Rattle.link_model.specs.Output.{is_closed_behind, closing_place}
 
 module _ (test : ℕ → Bool) where
   abbrev reached : ℕ → ℕ → ℕ
@@ -30,15 +30,15 @@ module _ (test : ℕ → Bool) where
   at_reached : (a m : ℕ) → reached a m < m → test (a + reached a m) ≡ false
   at_reached a zero short = absurd (omega (arith, short))
   at_reached a (suc m) short = by_test (test a) refl (subst (λ n. n < suc m) (step a m) short) (at_reached (a + 1) m)
-      where
-        by_test : (b : Bool) → test a ≡ b → length (cond b (a ∷ take_while test (range_with_len (a + 1) m)) []) < suc m
-            → (reached (a + 1) m < m → test (a + 1 + reached (a + 1) m) ≡ false) → test (a + reached a (suc m)) ≡ false
-        by_test false is short later =
-            let here : a + reached a (suc m) ≡ a = omega (arith, step a m ∙ ap (λ (b : Bool). length (cond b (a ∷ take_while test (range_with_len (a + 1) m)) [])) is) in
-            ap test here ∙ is
-        by_test true is short later =
-            let there : a + reached a (suc m) ≡ a + 1 + reached (a + 1) m = omega (arith, step a m ∙ ap (λ (b : Bool). length (cond b (a ∷ take_while test (range_with_len (a + 1) m)) [])) is) in
-            ap test there ∙ later (omega (arith, short))
+    where
+      by_test : (b : Bool) → test a ≡ b → length (cond b (a ∷ take_while test (range_with_len (a + 1) m)) []) < suc m
+          → (reached (a + 1) m < m → test (a + 1 + reached (a + 1) m) ≡ false) → test (a + reached a (suc m)) ≡ false
+      by_test false is short later =
+          let here : a + reached a (suc m) ≡ a = omega (arith, step a m ∙ ap (λ (b : Bool). length (cond b (a ∷ take_while test (range_with_len (a + 1) m)) [])) is) in
+          ap test here ∙ is
+      by_test true is short later =
+          let there : a + reached a (suc m) ≡ a + 1 + reached (a + 1) m = omega (arith, step a m ∙ ap (λ (b : Bool). length (cond b (a ∷ take_while test (range_with_len (a + 1) m)) [])) is) in
+          ap test there ∙ later (omega (arith, short))
 
 module _ (window : ℕ) (datagrams : List (List ℕ)) (n : ℕ) where
   pub open_before : (k : ℕ) → k < closing_place window datagrams n → is_closed_behind window datagrams n k ≡ false
