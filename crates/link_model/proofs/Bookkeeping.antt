@@ -1,23 +1,22 @@
 -- The book of a list of parts: with a part more it is the book of the longer list, and it answers the part's outcome, the
 -- slices that are kept and the whole bytes.
-use Rattle.std.proofs.Common.{◌≡◌, ℕ, ◌+◌, ◌<◌, ◌≤◌, min, Bool, false, List, [], ◌∷◌, ◌++◌, length, map, take, Option, Some, None, Result, Ok, Err, refl, ap, sym, ◌∙◌, inl, inr, arith, cond}
-use Rattle.std.specs.Prelude.{filter_map, fold, nat_lt, nat_le, is_some, is_none, unwrap_or, not, ◌||◌}
-use Rattle.std.specs.List.{flat_map, list_any, list_all, enumerate_from, range_with_len}
+use Rattle.std.proofs.Common.{◌≡◌, ℕ, ◌+◌, ◌<◌, ◌≤◌, min, Bool, List, [], ◌∷◌, ◌++◌, length, map, take, Option, Some, None, Result, Ok, Err, refl, ap, sym, ◌∙◌, inl, inr, arith, cond}
+use Rattle.std.specs.Prelude.{filter_map, fold, nat_lt, is_some, unwrap_or}
+use Rattle.std.specs.List.{flat_map, list_all, range_with_len}
 use Rattle.std.specs.Option.{option_map, option_map_or, option_or, option_and_then}
-use Rattle.std.specs.Str.{bytes_eq}
 use Rattle.std.proofs.lemmas.Bool.{cases_lt, cond-true, cond-false, lt-ltb, le-ltb}
 use Rattle.std.proofs.lemmas.List.{append-nil, append_assoc, length-take, length-append, take_all, take-append-le}
 use Rattle.std.proofs.lemmas.List.Elements.{filter_map-append}
 use Rattle.std.proofs.lemmas.List.Folds.{list_all-map}
 use Rattle.std.proofs.lemmas.Option.{none-some}
 use Rattle.link_model.specs.Complete.{slice_numbers, has_all_slices, all_bytes, whole_of, whole_picture}
-use Rattle.link_model.specs.Books.{Slots, slot_at, Gathered, Book, nothing_gathered, with_run, gathers_run, gathers, takes_plan, takes_slices, waits_too, book_takes, book_outcome, gathered_of, book_by, book_of, book_slice, gathered_whole, book_whole}
-use Rattle.link_model.specs.Judgement.{part_outcome, parameters_outcome, slices_outcome, run_outcome, waiting_outcome, is_conflict, is_new}
+use Rattle.link_model.specs.Books.{Slots, slot_at, Gathered, Book, nothing_gathered, gathers_run, gathers, takes_plan, waits_too, book_takes, book_outcome, gathered_of, book_by, book_of, book_slice, book_whole}
+use Rattle.link_model.specs.Judgement.{part_outcome, parameters_outcome, slices_outcome, run_outcome, waiting_outcome}
 use Rattle.link_model.specs.Kept.{KeptParameters, parameters_in, kept_parameters, SplitParts, split_by, also_before, split_parts, Own, own_of, own, own_slice, runs_of, run_taken, part_slices, slice_in, SliceRun, first_copy, slice_run, waiting_limit}
 use Rattle.link_model.specs.Session.{Part, ParamsPart, SlicesPart, SlicePart}
 use Rattle.link_model.specs.declared.outcome.Outcome.{Outcome}
-use Rattle.link_model.specs.declared.outcome.Outcome.TheVariants.{SlicesConflict, SlicesKept, SlicesRepeat, SlicesPending, SlicesFull}
-use Rattle.link_model.proofs.Keeping.{grown, own-append, first_copy-append}
+use Rattle.link_model.specs.declared.outcome.Outcome.TheVariants.{SlicesPending, SlicesFull}
+use Rattle.link_model.proofs.Keeping.{own-append, first_copy-append}
 use Rattle.link_model.proofs.Slots.{or_none, no_slots, slot_inside, slot_outside, with_run_is, own_slice_inside}
 use Rattle.vc_types.specs.SequenceHeader.{Sequence}
 use Rattle.vc_types.specs.Subbands.{slice_count}

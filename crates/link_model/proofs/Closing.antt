@@ -2,9 +2,9 @@
 use Rattle.std.proofs.Common.{◌≡◌, ℕ, zero, suc, ◌+◌, ◌<◌, ◌≤◌, Bool, true, false, List, [], ◌∷◌, length, refl, ap, sym, subst, ◌∙◌, inl, inr, arith, cond}
 use Rattle.std.specs.Prelude.{not, take_while}
 use Rattle.std.specs.List.{range_with_len}
-use Rattle.std.proofs.lemmas.Bool.{cases_lt, false≢true, not-false, not-true}
+use Rattle.std.proofs.lemmas.Bool.{cases_lt, not-false, not-true}
 use Rattle.std.proofs.lemmas.List.Sums.{take_while-cons}
-use Rattle.link_model.specs.Output.{is_closed_behind, datagram_places, closing_place}
+use Rattle.link_model.specs.Output.{is_closed_behind, closing_place}
 
 module _ (test : ℕ → Bool) where
   abbrev reached : ℕ → ℕ → ℕ

@@ -4,20 +4,17 @@ use Rattle.std.specs.Prelude.{◌==◌, is_some, not, nat_lt, length, filter_map
 use Rattle.std.specs.List.{list_any}
 use Rattle.std.proofs.lemmas.Bool.{false≢true}
 use Rattle.vc_types.specs.SameValues.{same_sequence, same_parameters}
-use Rattle.link_model.specs.Judgement.{parameters_outcome, run_outcome, waiting_outcome, slices_outcome, part_outcome, fragment_outcome, rtp_outcome, payload_outcome, refusal_outcome, header_outcome, later_outcome, outcome_of, outcome_behind, early_outcome, opening_outcome, is_conflict, is_new, numbered_slices}
+use Rattle.link_model.specs.Judgement.{parameters_outcome, run_outcome, slices_outcome, part_outcome, fragment_outcome, refusal_outcome, header_outcome, later_outcome, outcome_of, outcome_behind, early_outcome, opening_outcome, is_conflict, is_new, numbered_slices}
 use Rattle.link_model.specs.Kept.{KeptParameters, ReadParameters, Own, own, own_parameters, own_slice, part_slices, waiting_limit, SliceRun, run_from, slice_run, has_form, has_place, first_slice, next_slices}
 use Rattle.link_model.specs.Numbers.{Numbered, entered, is_late, parts_of, picture_number}
-use Rattle.link_model.specs.Output.{base_behind, entered_behind}
+use Rattle.link_model.specs.Output.{base_behind}
 use Rattle.link_model.specs.Packets.{PayloadValue, Header, End, Skip, Params, Slices}
 use Rattle.link_model.specs.Session.{Received, received, DatagramRefusal, OfRtp, OfPayload, Session, Part, ParamsPart, SlicesPart, SlicePart, Fragment, params_fragment, slices_fragment, HeardSession, opens_behind, opens_next, sessions_of, session_with, session_by, session_from, begins}
 use Rattle.link_model.specs.declared.outcome.Outcome.{Outcome}
 use Rattle.link_model.specs.declared.outcome.Outcome.TheVariants as outcomes
-use Rattle.link_model.specs.declared.refusal.PayloadRefusal.{PayloadRefusal}
 use Rattle.link_model.specs.declared.refusal.PayloadRefusal.TheVariants as payload_refusals
-use Rattle.link_model.specs.declared.refusal.RtpRefusal.{RtpRefusal}
 use Rattle.link_model.specs.declared.refusal.RtpRefusal.TheVariants as rtp_refusals
 use Rattle.vc_types.specs.SequenceHeader.{Sequence, coded_header}
-use Rattle.vc_types.specs.Subbands.{slice_count}
 use Rattle.vc_types.specs.TransformParameters.{Parameters, coded_parameters}
 use Rattle.vc_types.specs.declared.refusal.HeaderRefusal.{HeaderRefusal}
 

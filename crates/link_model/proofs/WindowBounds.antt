@@ -1,16 +1,16 @@
 -- How many books a window has, its greatest number, and the number of a picture that a fragment opened.
-use Rattle.std.proofs.Common.{◌≡◌, ℕ, zero, suc, ◌+◌, ◌-◌, ◌%◌, ◌^◌, ◌<◌, ◌≤◌, max, Bool, true, false, List, [], ◌∷◌, ◌++◌, length, Option, Some, None, refl, ap, sym, subst, ◌∙◌, inl, inr, arith, cond}
-use Rattle.std.specs.Prelude.{nat_le, nat_lt, not, ◌&&◌, ◌||◌, filter, filter_map, fold}
-use Rattle.std.specs.List.{flat_map, last_or, range_with_len}
-use Rattle.std.proofs.lemmas.Bool.{cases_Bool, cases_lt, and_parts, cond-true, cond-false, false≢true, not-true, leb-true, leb-false, lt-ltb, le-ltb, or_parts, both_ways}
+use Rattle.std.proofs.Common.{◌≡◌, ℕ, zero, suc, ◌+◌, ◌-◌, ◌%◌, ◌^◌, ◌<◌, ◌≤◌, max, Bool, true, false, List, [], ◌∷◌, ◌++◌, length, Some, None, refl, ap, sym, subst, ◌∙◌, inl, inr, arith, cond}
+use Rattle.std.specs.Prelude.{nat_le, nat_lt, not, ◌&&◌, ◌||◌, filter, fold}
+use Rattle.std.specs.List.{last_or}
+use Rattle.std.proofs.lemmas.Bool.{cases_Bool, cases_lt, and_parts, cond-true, false≢true, not-true, leb-true, leb-false, lt-ltb, or_parts}
 use Rattle.std.proofs.lemmas.List.Sums.{fold-append}
 use Rattle.link_model.specs.Books.{Book}
-use Rattle.link_model.specs.Numbers.{Numbered, greatest, least, nearest, distance, base_above, enters, entered, is_closed, is_late, is_opened, has_parts, parts_of, picture_number, opened_numbers}
-use Rattle.link_model.specs.Output.{greatest_of, entered_behind, is_let_go}
+use Rattle.link_model.specs.Numbers.{Numbered, greatest, nearest, distance, base_above, enters, entered, is_closed, is_late, is_opened, has_parts, picture_number}
+use Rattle.link_model.specs.Output.{greatest_of, is_let_go}
 use Rattle.link_model.specs.Session.{Fragment, HeardSession, with_datagram, fragment_in}
-use Rattle.link_model.specs.Windows.{NumberedBook, with_number, Window, closed_in, released_up_to, WindowPast, past_enters, past_let_go, releasable_numbers, past_book, needed_numbers, greatest_behind, is_nothing, window_of, StandsForPast, session_past}
+use Rattle.link_model.specs.Windows.{NumberedBook, with_number, Window, closed_in, released_up_to, WindowPast, past_enters, past_let_go, releasable_numbers, greatest_behind, is_nothing, window_of, StandsForPast, session_past}
 use Rattle.link_model.proofs.Apart.{base_is_above, base_is_multiple}
-use Rattle.link_model.proofs.BooksInOrder.{picked, books_over, fewer_books}
+use Rattle.link_model.proofs.BooksInOrder.{books_over, fewer_books}
 use Rattle.link_model.proofs.Hearing.{with_fragment, without_fragment}
 use Rattle.link_model.proofs.Leaving.{past}
 use Rattle.link_model.proofs.LettingGo.{is_let_go_by, releasable_over}
@@ -18,8 +18,7 @@ use Rattle.link_model.proofs.Numbering.{early_enters, late_changes_nothing, grea
 use Rattle.link_model.proofs.Releasing.{closed_is_let_go}
 use Rattle.link_model.proofs.RisingNumbers.{numbers_over}
 use Rattle.link_model.proofs.Windowing.{gone_in, needed_by, books_by, books_range}
-use Rattle.link_model.proofs.Wrapping.{nearest-bits, nearest-not_above, nearest-not_below}
-use Rattle.vc_types.specs.SequenceHeader.{Sequence}
+use Rattle.link_model.proofs.Wrapping.{nearest-bits}
 
 -- ---- few books
 

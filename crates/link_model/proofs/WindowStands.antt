@@ -1,24 +1,22 @@
 -- A window stands for its past: what carries over each step, and what it answers.
-use Rattle.std.proofs.Common.{◌≡◌, ℕ, zero, suc, ◌+◌, ◌-◌, ◌^◌, ◌<◌, ◌≤◌, max, Bool, true, false, List, [], ◌∷◌, ◌++◌, length, drop, Option, Some, None, refl, ap, sym, subst, ◌∙◌, inl, inr, arith, cond}
-use Rattle.std.specs.Prelude.{nat_le, nat_lt, not, ◌&&◌, ◌||◌, filter}
-use Rattle.std.specs.List.{flat_map, last_or, range_with_len}
+use Rattle.std.proofs.Common.{◌≡◌, ℕ, zero, suc, ◌+◌, ◌<◌, Bool, true, false, List, [], ◌∷◌, ◌++◌, length, drop, Option, Some, None, refl, ap, sym, subst, ◌∙◌, arith, cond}
+use Rattle.std.specs.Prelude.{nat_lt, not, ◌&&◌, ◌||◌}
+use Rattle.std.specs.List.{last_or}
 use Rattle.std.specs.Option.{option_map}
-use Rattle.std.proofs.lemmas.Bool.{cases_Bool, cases_lt, and_parts, and_from, and_left, cond-true, cond-false, false≢true, not-true, not_from_false, leb-false, leb-true, or_parts, both_ways}
+use Rattle.std.proofs.lemmas.Bool.{and_parts, and_from, cond-true, cond-false, false≢true, not-true, not_from_false, leb-false, leb-true}
 use Rattle.std.proofs.lemmas.List.{append_assoc}
 use Rattle.std.proofs.lemmas.Option.{none-some}
-use Rattle.link_model.specs.Books.{Book, book_of}
+use Rattle.link_model.specs.Books.{book_of}
 use Rattle.link_model.specs.Judgement.{fragment_outcome}
-use Rattle.link_model.specs.Numbers.{Numbered, greatest, least, base_above, enters, is_closed, is_late, is_opened, has_parts, parts_of, picture_number, opened_numbers}
+use Rattle.link_model.specs.Numbers.{Numbered, greatest, least, base_above, is_closed, is_opened, parts_of, opened_numbers}
 use Rattle.link_model.specs.Output.{let_go_numbers}
 use Rattle.link_model.specs.Session.{Fragment}
-use Rattle.link_model.specs.Windows.{NumberedBook, with_number, book_at, Window, new_window, number_by, late_in, forgets, opens_picture, rises_to, closed_in, released_up_to, window_enters, window_outcome, Releasable, next_release, releases, finishes, WindowPast, new_past, past_enters, past_releases, past_finishes, past_let_go, releasable_numbers, as_releasable, first_of, greatest_behind, window_of, StandsForPast}
-use Rattle.link_model.specs.declared.outcome.Outcome.{Outcome}
-use Rattle.link_model.proofs.BooksInOrder.{picked, books_over, fewer_books}
+use Rattle.link_model.specs.Windows.{book_at, Window, new_window, number_by, late_in, forgets, opens_picture, rises_to, released_up_to, window_enters, window_outcome, Releasable, next_release, releases, finishes, WindowPast, new_past, past_enters, past_releases, past_finishes, past_let_go, releasable_numbers, as_releasable, first_of, window_of, StandsForPast}
 use Rattle.link_model.proofs.Leaving.{past, let_go_numbers_grow, last_releases}
 use Rattle.link_model.proofs.LettingGo.{is_let_go_by, releasable_over, next_some}
-use Rattle.link_model.proofs.Numbering.{enters_follows, parts_of-outside}
+use Rattle.link_model.proofs.Numbering.{enters_follows}
 use Rattle.link_model.proofs.RisingNumbers.{numbers_over, begins_with, rest_of}
-use Rattle.link_model.proofs.Windowing.{gone_in, needed_by, books_by, books_range, book_of_window, enters_is, outcome_is, finishes_is, releases_is}
+use Rattle.link_model.proofs.Windowing.{gone_in, needed_by, books_by, book_of_window, enters_is, outcome_is, finishes_is, releases_is}
 use Rattle.vc_types.specs.SequenceHeader.{Sequence}
 
 -- ---- lists

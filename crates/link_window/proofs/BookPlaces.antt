@@ -1,9 +1,9 @@
 -- What stands at a picture's place among books, and what opening a picture and taking a part into its book leave.
-use Rattle.std.proofs.Common.{◌≡◌, ℕ, zero, suc, ◌+◌, ◌<◌, ◌≤◌, Bool, true, false, List, [], ◌∷◌, ◌++◌, length, set, get_or, Option, Some, None, refl, ap, sym, ◌∙◌, arith, cond, Bor}
+use Rattle.std.proofs.Common.{◌≡◌, ℕ, suc, ◌<◌, ◌≤◌, Bool, true, false, List, [], ◌∷◌, length, set, get_or, Option, Some, None, refl, ap, sym, ◌∙◌, arith, cond, Bor}
 use Rattle.std.specs.Prelude.{nat_lt, ◌==◌, is_some, unwrap_or}
 use Rattle.std.specs.Option.{option_copied}
 use Rattle.std.specs.List.{insert}
-use Rattle.std.proofs.lemmas.Bool.{eqb-true, eq-eqb, ne_eqb, cond-true, cond-false, false≢true}
+use Rattle.std.proofs.lemmas.Bool.{eqb-true, false≢true}
 use Rattle.std.proofs.lemmas.Option.{none-some}
 use Rattle.link_model.specs.Books.{Book, book_of, book_takes}
 use Rattle.link_model.specs.Session.{Part}

@@ -1,4 +1,4 @@
-ghost use Rattle.std.specs.Prelude.{◌≡◌, ◌<◌, ◌≤◌};
+ghost use Rattle.std.specs.Prelude.{◌≡◌, ◌<◌, ◌≤◌, OnOk, false};
 
 use super::*;
 use bytes::Bytes;
@@ -55,55 +55,74 @@ fn slice(alloc: Global, number: u32, x: u16) -> Result<Fragment, NoMemory> {
     })
 }
 
-// Releases the picture that may be released next.
-fn let_go(window: &mut Window) -> Option<Released>
+// A picture's number and what is sent of it, its outcome, and which picture may be released then, and whether it is
+// complete.
+#[derive(Clone, Copy)]
+struct Step(u32, Sent, Outcome, Option<(u32, bool)>);
+
+#[derive(Clone, Copy)]
+enum Sent {
+    Params,
+    Slice(u16),
+}
+
+fn fragment(alloc: Global, step: Step) -> Result<Fragment, NoMemory> {
+    match step.1 {
+        Sent::Params => params(alloc, step.0),
+        Sent::Slice(x) => slice(alloc, step.0, x),
+    }
+}
+
+// Releases the picture that may be released next, and answers its place in the first session.
+fn let_go(window: &mut Window) -> Option<(u64, bool)>
     ensures { window.new.is_ended ≡ window.old.is_ended }
 {
     let next = window.next_release()?;
     window.release(next.number);
-    Some(next)
+    Some((next.number, next.complete))
 }
 
-// A picture of the first session that starts with number 0.
-fn released(number: u32, complete: bool) -> Option<Released> {
-    Some(Released {
-        number: FIRST + u64::from(number),
-        complete,
-    })
+fn place_of(released: Option<(u32, bool)>) -> Option<(u64, bool)> {
+    let (number, complete) = released?;
+    Some((FIRST + u64::from(number), complete))
 }
+
+// Whether a step goes as it should.
+fn goes(alloc: Global, window: &mut Window, step: Step) -> Result<bool, NoMemory>
+    requires { window.old.is_ended ≡ false }
+    ensures { OnOk result (window.new.is_ended ≡ false) }
+{
+    let outcome = window.enter(fragment(alloc, step)?)?;
+    Ok(outcome == step.2 && let_go(window) == place_of(step.3))
+}
+
+const PICTURES: [Step; 11] = [
+    Step(0, Sent::Params, Outcome::ParamsKept, None),
+    Step(0, Sent::Slice(0), Outcome::SlicesKept, None),
+    // The picture before it, which never came, delays it.
+    Step(0, Sent::Slice(1), Outcome::SlicesKept, None),
+    Step(1, Sent::Params, Outcome::ParamsKept, Some((0, true))),
+    // It is released, and its book stays until it is closed.
+    Step(0, Sent::Slice(1), Outcome::SlicesRepeat, None),
+    Step(1, Sent::Slice(0), Outcome::SlicesKept, None),
+    Step(3, Sent::Params, Outcome::ParamsKept, Some((1, false))),
+    Step(3, Sent::Slice(0), Outcome::SlicesKept, None),
+    Step(3, Sent::Slice(1), Outcome::SlicesKept, None),
+    Step(1, Sent::Slice(1), Outcome::Late, None),
+    Step(0, Sent::Slice(1), Outcome::Late, None),
+];
 
 #[test]
 fn pictures_leave_in_order(rt: HostRuntime) -> Result<(), Fail> {
     let alloc = rt.alloc();
     let mut window = Window::new(alloc, header(false), 2);
-    assert_eq!(rt; window.greatest(), 0);
-    assert_eq!(rt; window.enter(params(alloc, 0)?)?, Outcome::ParamsKept);
-    assert_eq!(rt; window.enter(slice(alloc, 0, 0)?)?, Outcome::SlicesKept);
-    assert_eq!(rt; window.enter(slice(alloc, 0, 1)?)?, Outcome::SlicesKept);
-    // The picture before it, which never came, delays it.
-    assert_eq!(rt; let_go(&mut window), None);
-    assert_eq!(rt; window.enter(params(alloc, 1)?)?, Outcome::ParamsKept);
-    assert_eq!(rt; let_go(&mut window), released(0, true));
-    assert_eq!(rt; let_go(&mut window), None);
-    // It is released, and its book stays until it is closed.
-    assert_eq!(rt; window.enter(slice(alloc, 0, 1)?)?, Outcome::SlicesRepeat);
-    assert_eq!(rt; window.enter(slice(alloc, 1, 0)?)?, Outcome::SlicesKept);
-    assert_eq!(rt; let_go(&mut window), None);
-    assert!(rt; window.book(FIRST).is_some());
-    assert_eq!(rt; window.enter(params(alloc, 3)?)?, Outcome::ParamsKept);
-    assert!(rt; window.book(FIRST).is_none() && window.book(FIRST + 1).is_some());
-    assert_eq!(rt; let_go(&mut window), released(1, false));
-    assert!(rt; window.book(FIRST + 1).is_none());
-    assert_eq!(rt; window.enter(slice(alloc, 3, 0)?)?, Outcome::SlicesKept);
-    assert_eq!(rt; window.enter(slice(alloc, 3, 1)?)?, Outcome::SlicesKept);
-    assert_eq!(rt; let_go(&mut window), None);
-    assert_eq!(rt; window.enter(slice(alloc, 1, 1)?)?, Outcome::Late);
-    assert_eq!(rt; window.enter(slice(alloc, 0, 1)?)?, Outcome::Late);
-    assert_eq!(rt; let_go(&mut window), None);
+    for step in PICTURES {
+        assert!(rt; goes(alloc, &mut window, step)?);
+    }
+    assert!(rt; window.greatest() == FIRST + 3);
     window.finish();
-    assert_eq!(rt; let_go(&mut window), released(3, true));
-    assert_eq!(rt; let_go(&mut window), None);
-    assert_eq!(rt; window.greatest(), FIRST + 3);
+    assert!(rt; let_go(&mut window) == Some((FIRST + 3, true)));
+    assert!(rt; let_go(&mut window).is_none());
     Ok(())
 }
 
@@ -128,60 +147,74 @@ fn edges(alloc: Global, w: u8, late: u32) -> Result<bool, NoMemory>
 #[test]
 fn fragments_come_just_late_and_just_in_time(rt: HostRuntime) -> Result<(), Fail> {
     let alloc = rt.alloc();
-    assert!(rt; edges(alloc, 2, 98)?);
-    assert!(rt; edges(alloc, 8, 92)?);
+    assert!(rt; edges(alloc, 2, 98)? && edges(alloc, 8, 92)?);
     Ok(())
 }
 
-#[test]
-fn numbers_wrap(rt: HostRuntime) -> Result<(), Fail> {
-    let alloc = rt.alloc();
+// Two numbers that wrap have their distance.
+fn wraps(alloc: Global) -> Result<bool, NoMemory> {
     let mut window = Window::new(alloc, header(false), 4);
-    assert_eq!(rt;
-        window.enter(params(alloc, 0xffff_ffff)?)?,
-        Outcome::ParamsKept
-    );
-    assert_eq!(rt; window.enter(params(alloc, 0)?)?, Outcome::ParamsKept);
-    assert_eq!(rt; window.greatest(), 2 * FIRST);
-    assert_eq!(rt;
-        window.enter(params(alloc, 0xffff_ffff)?)?,
-        Outcome::ParamsRepeat
-    );
-    assert_eq!(rt; window.greatest(), 2 * FIRST);
-    Ok(())
+    let first = window.enter(params(alloc, 0xffff_ffff)?)?;
+    let next = window.enter(params(alloc, 0)?)?;
+    let again = window.enter(params(alloc, 0xffff_ffff)?)?;
+    Ok(
+        first == Outcome::ParamsKept
+            && next == Outcome::ParamsKept
+            && again == Outcome::ParamsRepeat
+            && window.greatest() == 2 * FIRST,
+    )
 }
 
 // A jump as far as there is one closes what is open, and one further leads back.
-#[test]
-fn numbers_jump(rt: HostRuntime) -> Result<(), Fail> {
-    let alloc = rt.alloc();
+fn jumps(alloc: Global) -> Result<bool, NoMemory> {
     let mut window = Window::new(alloc, header(false), 8);
-    assert_eq!(rt; window.enter(params(alloc, 0)?)?, Outcome::ParamsKept);
-    assert_eq!(rt; window.enter(params(alloc, 0x8000_0000)?)?, Outcome::Late);
-    assert_eq!(rt;
-        window.enter(params(alloc, 0x7fff_ffff)?)?,
-        Outcome::ParamsKept
-    );
-    assert_eq!(rt; window.greatest(), FIRST + 0x7fff_ffff);
-    assert_eq!(rt; let_go(&mut window), released(0, false));
-    assert!(rt; window.book(FIRST).is_none());
-    assert_eq!(rt; let_go(&mut window), None);
+    window.enter(params(alloc, 0)?)?;
+    let back = window.enter(params(alloc, 0x8000_0000)?)?;
+    let far = window.enter(params(alloc, 0x7fff_ffff)?)?;
+    let was_there = window.book(FIRST).is_some();
+    Ok(
+        back == Outcome::Late
+            && far == Outcome::ParamsKept
+            && window.greatest() == FIRST + 0x7fff_ffff
+            && was_there
+            && let_go(&mut window) == Some((FIRST, false))
+            && window.book(FIRST).is_none(),
+    )
+}
+
+#[test]
+fn numbers_wrap_and_jump(rt: HostRuntime) -> Result<(), Fail> {
+    let alloc = rt.alloc();
+    assert!(rt; wraps(alloc)? && jumps(alloc)?);
     Ok(())
 }
 
 // A session of fields behind one of frames.
+fn follows(alloc: Global) -> Result<bool, NoMemory> {
+    let mut window = Window::after(alloc, header(true), 2, FIRST);
+    let before = window.greatest();
+    let first = window.enter(params(alloc, 7)?)?;
+    let second = window.enter(params(alloc, 6)?)?;
+    Ok(
+        before == FIRST
+            && first == Outcome::ParamsKept
+            && second == Outcome::ParamsKept
+            && window.greatest() == 2 * FIRST + 7
+            && window.book(2 * FIRST + 6).is_some(),
+    )
+}
+
+// No numbers are left for another session.
+fn is_last(alloc: Global) -> Result<bool, NoMemory> {
+    let greatest = 0xffff_ffff_ffff_ffef;
+    let mut window = Window::after(alloc, header(false), 8, greatest);
+    let first = window.enter(params(alloc, 0)?)?;
+    Ok(first == Outcome::Late && window.greatest() == greatest)
+}
+
 #[test]
 fn sessions_have_numbers_of_their_own(rt: HostRuntime) -> Result<(), Fail> {
     let alloc = rt.alloc();
-    let mut window = Window::after(alloc, header(true), 2, FIRST);
-    assert_eq!(rt; window.greatest(), FIRST);
-    assert_eq!(rt; window.enter(params(alloc, 7)?)?, Outcome::ParamsKept);
-    assert_eq!(rt; window.greatest(), 2 * FIRST + 7);
-    assert_eq!(rt; window.enter(params(alloc, 6)?)?, Outcome::ParamsKept);
-    assert!(rt; window.book(2 * FIRST + 6).is_some());
-    // The last numbers that there are.
-    let mut window = Window::after(alloc, header(false), 8, 0xffff_ffff_ffff_ffef);
-    assert_eq!(rt; window.enter(params(alloc, 0)?)?, Outcome::Late);
-    assert_eq!(rt; window.greatest(), 0xffff_ffff_ffff_ffef);
+    assert!(rt; follows(alloc)? && is_last(alloc)?);
     Ok(())
 }

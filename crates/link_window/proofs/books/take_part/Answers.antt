@@ -1,8 +1,7 @@
-use Rattle.std.proofs.Common.{◌≡◌, ◌<◌, List, ℕ, length, set, ap, sym, ◌∙◌, arith, rules}
+use Rattle.std.proofs.Common.{◌≡◌, ◌<◌, List, length, set, ap, ◌∙◌, arith, rules}
 use Rattle.std.proofs.lemmas.Result.{on_ok_weaker, IfOk-weaker}
-use Rattle.link_model.specs.Books.{Book, book_takes, book_outcome}
+use Rattle.link_model.specs.Books.{book_takes, book_outcome}
 use Rattle.link_model.specs.Windows.{NumberedBook, with_number}
-use Rattle.link_model.specs.declared.outcome.Outcome.{Outcome}
 use Rattle.link_window.proofs.BookPlaces.{own_book, place_inside, read_own, takes_at_place}
 use Rattle.link_window.specs.Places.{number_place, with_book}
 use Rattle.link_window.specs.Views.{sent_part}

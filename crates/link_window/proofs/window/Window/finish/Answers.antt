@@ -1,5 +1,5 @@
 use Rattle.std.proofs.Common.{◌≡◌, sym, subst, rules}
-use Rattle.link_model.specs.Windows.{Window, WindowPast, finishes, past_finishes, StandsForPast}
+use Rattle.link_model.specs.Windows.{Window, finishes, past_finishes, StandsForPast}
 use Rattle.link_model.proofs.WindowStands.{finishes_stands}
 use Rattle.link_window.proofs.window.Window.finish.Goals as goal
 

@@ -1,5 +1,5 @@
 use Rattle.std.proofs.Common.{◌≡◌, sym, subst, rules}
-use Rattle.link_model.specs.Windows.{Window, WindowPast, releases, past_releases, StandsForPast}
+use Rattle.link_model.specs.Windows.{Window, releases, past_releases, StandsForPast}
 use Rattle.link_model.proofs.WindowStands.{next_number, releases_stands}
 use Rattle.link_window.proofs.window.Window.release.Goals as goal
 
