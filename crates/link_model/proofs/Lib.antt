@@ -23,3 +23,10 @@ pub mod SessionOutput
 pub mod Rounds
 pub mod MachineRows
 pub mod PlacesKept
+pub mod RisingNumbers
+pub mod PicturesHeard
+pub mod PicturesStay
+pub mod BuiltFrames
+pub mod MachineHalves
+pub mod MachineKept
+pub mod MachineRuns

@@ -17,4 +17,8 @@ fn laws_hold() {
     books_stand_for_parts();
     what_is_not_kept_changes_nothing();
     windows_stand_for_fragments();
+    every_interleaving_writes_what_is_due();
+    every_answer_is_its_own_slice();
+    the_feeder_is_never_stuck();
+    events_are_legal_in_two_halves();
 }
