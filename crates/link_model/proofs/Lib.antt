@@ -31,3 +31,10 @@ pub mod Rounds
 pub mod BoardEvents
 pub mod MachineRows
 pub mod PlacesKept
+pub mod RisingLists
+pub mod PicturesHeard
+pub mod PicturesStay
+pub mod BuiltFrames
+pub mod MachineHalves
+pub mod MachineKept
+pub mod MachineRuns

@@ -21,4 +21,8 @@ fn laws_hold() {
     windows_release_in_order();
     windows_stay_small();
     windows_follow_sessions();
+    every_interleaving_writes_what_is_due();
+    every_answer_is_its_own_slice();
+    the_feeder_is_never_stuck();
+    events_are_legal_in_two_halves();
 }
