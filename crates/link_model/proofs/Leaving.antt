@@ -36,20 +36,20 @@ has_more (part ∷ parts) more e = refl
 -- ---- the opened pictures over any longer range
 
 module _ (es : List Numbered) where
-  abbrev one : ℕ → List ℕ
+  abbrev pub one : ℕ → List ℕ
   one n = cond (is_opened es n) (n ∷ []) []
 
-  abbrev long : ℕ
+  abbrev pub long : ℕ
   long = greatest es + 1 - least es
 
-  abbrev past : ℕ
+  abbrev pub past : ℕ
   past = least es + long
 
   one-outside : (n : ℕ) → (n < least es) ⊎ (past ≤ n) → one n ≡ []
   one-outside n (inl below) = ap (λ (b : Bool). cond b (n ∷ []) []) (opened_inside es n (inl below))
   one-outside n (inr above) = ap (λ (b : Bool). cond b (n ∷ []) []) (opened_inside es n (inr (omega arith)))
 
-  opened-over : (n rest : ℕ) → past + rest ≡ n → opened_numbers es ≡ flat_map one (range_with_len 0 n)
+  pub opened-over : (n rest : ℕ) → past + rest ≡ n → opened_numbers es ≡ flat_map one (range_with_len 0 n)
   unfolding opened_numbers
   opened-over n rest size =
       filter_is (is_opened es) (span (least es) (greatest es))
@@ -58,7 +58,7 @@ module _ (es : List Numbered) where
 
   -- those that pass a test
   module _ (test : ℕ → Bool) where
-    abbrev passing : ℕ → List ℕ
+    abbrev pub passing : ℕ → List ℕ
     passing n = cond (test n) (one n) []
 
     none_passes : (n : ℕ) → one n ≡ [] → passing n ≡ []
@@ -76,7 +76,7 @@ module _ (es : List Numbered) where
         by_tests false true = refl
         by_tests false false = refl
 
-    passing-over : (n rest : ℕ) → past + rest ≡ n → filter test (opened_numbers es) ≡ flat_map passing (range_with_len 0 n)
+    pub passing-over : (n rest : ℕ) → past + rest ≡ n → filter test (opened_numbers es) ≡ flat_map passing (range_with_len 0 n)
     unfolding opened_numbers
     passing-over n rest size =
         filter_is test (filter (is_opened es) (span (least es) (greatest es)))
@@ -145,7 +145,7 @@ module _ (window : ℕ) (s : Sequence) (old new : List Numbered) (later : Follow
 
 -- the pictures that are left when the input ends
 module _ (window : ℕ) (s : Sequence) (es : List Numbered) where
-  opened_grow : IsPrefixOf (let_go_numbers window s es) (opened_numbers es)
+  pub opened_grow : IsPrefixOf (let_go_numbers window s es) (opened_numbers es)
   unfolding let_go_numbers
   opened_grow =
       let prefix = prefix_over (is_let_go window s es) (λ n. true) (one es) (one es) (λ f g h gone. let_go_before window s es g f h gone) (λ n gone. refl) (λ n gone. refl) 0 (past es + 0) in

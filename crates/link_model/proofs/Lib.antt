@@ -13,7 +13,12 @@ pub mod Growing
 pub mod Leaving
 pub mod Counting
 pub mod WholeBytes
+pub mod BooksInOrder
 pub mod Windowing
+pub mod RisingNumbers
+pub mod LettingGo
+pub mod WindowStands
+pub mod WindowBounds
 pub mod Hearing
 pub mod SessionRows
 pub mod Apart

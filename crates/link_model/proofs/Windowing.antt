@@ -1,218 +1,378 @@
--- A window stands for the fragments that it took, and answers their outcomes.
-use Rattle.std.proofs.Common.{◌<◌, ◌≡◌, ℕ, ◌+◌, ◌-◌, ◌^◌, ◌≤◌, max, Bool, true, false, List, [], ◌∷◌, ◌++◌, map, Option, Some, None, refl, ap, sym, subst, ◌∙◌, inl, inr, arith, cond, zero, suc}
-use Rattle.std.specs.Prelude.{nat_lt, nat_le, not, ◌&&◌, ◌||◌, ◌==◌, unwrap_or, is_some}
-use Rattle.std.specs.List.{list_all, range_with_len}
-use Rattle.std.specs.Option.{option_map_or}
-use Rattle.std.proofs.lemmas.Bool.{cases_Bool, cases_eq, and_parts, and_from, and_left, cond-true, cond-false, eq-eqb, ne_eqb, leb-true, le-leb, le-ltb, ltb-false, false≢true, not-true, not_from_false, or_parts, false_from_ne_true, both_ways, lt-leb}
-use Rattle.std.proofs.lemmas.List.{append-nil}
-use Rattle.link_model.specs.Books.{book_whole, Book, book_of, book_takes, book_outcome}
+-- What a window's value is by its past, and that it stays so with a fragment more, a release, and the end of the input.
+use Rattle.std.proofs.Common.{◌≡◌, ℕ, ◌+◌, ◌-◌, ◌^◌, ◌<◌, ◌≤◌, max, Bool, true, false, List, [], ◌∷◌, ◌++◌, map, Option, Some, None, refl, ap, sym, subst, ◌∙◌, inl, inr, arith, cond}
+use Rattle.std.specs.Prelude.{nat_lt, nat_le, not, ◌&&◌, ◌||◌, ◌==◌, unwrap_or, filter}
+use Rattle.std.specs.List.{flat_map, range_with_len, last_or}
+use Rattle.std.proofs.lemmas.Bool.{cases_Bool, cases_lt, cases_eq, and_from, and_left, cond-true, cond-false, eq-eqb, ne_eqb, leb-true, le-leb, lt-leb, le-ltb, lt-ltb, ltb-true, ltb-false, leb-false, false≢true, not_from_false, or_parts, or_from}
+use Rattle.std.proofs.lemmas.List.{append-nil, map-append}
+use Rattle.link_model.specs.Books.{Book, book_of, book_takes, book_outcome}
 use Rattle.link_model.specs.Judgement.{fragment_outcome, part_outcome}
-use Rattle.link_model.specs.Numbers.{Numbered, greatest, nearest, picture_number, is_closed, is_late, is_opened, has_parts, enters, parts_of, span}
+use Rattle.link_model.specs.Numbers.{Numbered, greatest, nearest, base_above, picture_number, is_closed, is_late, is_opened, has_parts, enters, parts_of, least, opened_numbers}
 use Rattle.link_model.specs.Session.{Part, Fragment}
-use Rattle.link_model.specs.Windows.{Window, empty_window, number_by, late_in, book_in, with_book, opens_picture, window_enters, window_outcome, is_nothing, is_needed, forgets, complete_in, let_go_in, StandsForEntries}
+use Rattle.link_model.specs.Windows.{NumberedBook, with_number, book_at, with_part, Window, number_by, late_in, closed_in, released_up_to, stays_in, forgets, opens_picture, rises_to, window_enters, book_in, window_outcome, releases, finishes, WindowPast, past_enters, past_releases, past_finishes, is_needed, needed_numbers, past_book, greatest_behind, is_nothing, window_of}
+use Rattle.link_model.specs.declared.outcome.Outcome.{Outcome}
 use Rattle.link_model.specs.declared.outcome.Outcome.TheVariants.{Late}
-use Rattle.link_model.proofs.Bookkeeping.{takes-more, book_outcome_is, book_whole_is}
-use Rattle.link_model.specs.Output.{complete_at, is_let_go}
-use Rattle.link_model.proofs.Leaving.{complete_opened}
-use Rattle.link_model.proofs.Numbering.{greatest-append, parts_of-append, parts_of-other, late_changes_nothing, early_enters}
+use Rattle.link_model.proofs.Apart.{base_is_above}
+use Rattle.link_model.proofs.Bookkeeping.{takes-more, book_outcome_is}
+use Rattle.link_model.proofs.BooksInOrder.{picked, books_over, book_inside, same_books, fewer_books, part_inside}
+use Rattle.link_model.proofs.Leaving.{one, past, passing, passing-over}
+use Rattle.link_model.proofs.Numbering.{greatest-append, parts_of-append, parts_of-other, late_changes_nothing, early_enters, early_is}
 use Rattle.vc_types.specs.SequenceHeader.{Sequence}
 
-pub empty_window_stands : (base window : ℕ) (s : Sequence) → StandsForEntries base window s (empty_window base) [] 0
-unfolding greatest parts_of
-empty_window_stands base window s = record { begins = refl; top = refl; is_new = refl; books = λ n needed. absurd (false≢true needed); unopened = λ n shut. refl }
+-- ---- its books
 
-module _ (base window : ℕ) (s : Sequence) (w : Window) (es : List Numbered) (released : ℕ) (stands : StandsForEntries base window s w es released) where
-  number_is : (bits : ℕ) → number_by w bits ≡ picture_number base es bits
-  unfolding picture_number
-  number_is bits =
-      ap (λ (b : Bool). cond b (w.base + bits) (nearest w.top bits)) stands.is_new
-      ∙ ap (λ k. cond (is_nothing es) (k + bits) (nearest w.top bits)) stands.begins
-      ∙ ap (λ n. cond (is_nothing es) (base + bits) (nearest n bits)) stands.top
-      ∙ by_entries es
+map_flat : {A B C : Type 0} (g : B → C) (f : A → List B) (xs : List A) → map g (flat_map f xs) ≡ flat_map (λ x. map g (f x)) xs
+map_flat g f [] = refl
+map_flat {C = C} g f (x ∷ xs) = map-append g (f x) (flat_map f xs) ∙ ap (λ (l : List C). map g (f x) ++ l) (map_flat g f xs)
+
+same_flat : {A B : Type 0} (f g : A → List B) → ((x : A) → f x ≡ g x) → (xs : List A) → flat_map f xs ≡ flat_map g xs
+same_flat f g same [] = refl
+same_flat {B = B} f g same (x ∷ xs) = ap (λ (l : List B). l ++ flat_map f xs) (same x) ∙ ap (λ (l : List B). g x ++ l) (same_flat f g same xs)
+
+-- books that are needed, by which pictures are opened and which are gone
+abbrev pub needed_by : List Numbered → (ℕ → Bool) → ℕ → Bool
+needed_by es gone k = is_opened es k && not (gone k)
+
+abbrev pub books_by : Sequence → List Numbered → ℕ → Book
+books_by s es k = book_of s (parts_of k es)
+
+module _ (p : WindowPast) where
+  abbrev pub gone_in : ℕ → Bool
+  gone_in k = (p.is_ended || is_closed p.size p.entries k) && released_up_to (last_or None p.released) k
+
+  pub books_range : (n rest : ℕ) → past p.entries + rest ≡ n
+      → map (past_book p) (needed_numbers p) ≡ books_over (needed_by p.entries gone_in) (books_by p.sequence p.entries) 0 n
+  books_range n rest size =
+      ap (map (past_book p)) (passing-over p.entries (is_needed p) n rest size)
+      ∙ map_flat (past_book p) (passing p.entries (is_needed p)) (range_with_len 0 n)
+      ∙ same_flat (λ k. map (past_book p) (passing p.entries (is_needed p) k)) (picked (needed_by p.entries gone_in) (books_by p.sequence p.entries)) each (range_with_len 0 n)
     where
-      by_entries : (es : List Numbered) → cond (is_nothing es) (base + bits) (nearest (greatest es) bits) ≡ picture_number base es bits
+      by_tests : (k : ℕ) (needed was : Bool) → map (past_book p) (cond needed (cond was (k ∷ []) []) []) ≡ cond (was && needed) (past_book p k ∷ []) []
+      by_tests k true true = refl
+      by_tests k true false = refl
+      by_tests k false true = refl
+      by_tests k false false = refl
+
+      each : (k : ℕ) → map (past_book p) (passing p.entries (is_needed p) k) ≡ picked (needed_by p.entries gone_in) (books_by p.sequence p.entries) k
+      each k = by_tests k (is_needed p k) (is_opened p.entries k)
+
+  -- the book of any picture
+  pub book_of_window : (n : ℕ) → book_at (window_of p).books n ≡ cond (needed_by p.entries gone_in n) (Some (books_by p.sequence p.entries n)) None
+  unfolding window_of
+  book_of_window n =
+      ap (λ (l : List NumberedBook). book_at l n) (books_range (past p.entries + (n + 1)) (n + 1) refl)
+      ∙ book_inside (needed_by p.entries gone_in) (books_by p.sequence p.entries) n 0 (past p.entries + (n + 1)) (omega arith) (omega arith)
+
+-- more books are gone
+fewer : (es : List Numbered) (book : ℕ → Book) (gone later : ℕ → Bool) (n : ℕ) → ((k : ℕ) → gone k ≡ true → later k ≡ true)
+    → filter (λ (b : NumberedBook). not (later b.number)) (books_over (needed_by es gone) book 0 n) ≡ books_over (needed_by es later) book 0 n
+fewer es book gone later n stays =
+    fewer_books (needed_by es gone) (λ k. not (later k)) book 0 n
+    ∙ same_books (λ k. needed_by es gone k && not (later k)) (needed_by es later) book book 0 n (λ k from to. ap (λ (b : Bool). cond b (with_number k (book k) ∷ []) []) (by_tests (is_opened es k) (gone k) (later k) (stays k)))
+  where
+    by_tests : (was now then : Bool) → (now ≡ true → then ≡ true) → ((was && not now) && not then) ≡ (was && not then)
+    by_tests false now then stays = refl
+    by_tests true false then stays = refl
+    by_tests true true then stays = ap not (sym (stays refl))
+
+-- ---- numbers
+
+module _ (p : WindowPast) where
+  abbrev base : ℕ
+  base = base_above p.before
+
+  pub number_of_window : (bits : ℕ) → number_by (window_of p) bits ≡ picture_number base p.entries bits
+  unfolding window_of picture_number
+  number_of_window bits = by_entries p.entries
+    where
+      by_entries : (es : List Numbered) → cond (is_nothing es) (base_above (greatest_behind p.before es) + bits) (nearest (greatest_behind p.before es) bits) ≡ picture_number base es bits
       by_entries [] = refl
       by_entries (e ∷ es) = refl
 
-  late_is : (n : ℕ) → late_in window w n ≡ is_late window es n
-  unfolding is_late is_closed
-  late_is n = ap (λ t. nat_le (n + window) t || nat_le (2 ^ 64 - 16) n) stands.top
+  -- a first number is above those of the earlier sessions
+  first_is_above : (bits : ℕ) → is_nothing p.entries ≡ true → p.before < picture_number base p.entries bits
+  unfolding picture_number
+  first_is_above bits none = by_entries p.entries none
+    where
+      by_entries : (es : List Numbered) → is_nothing es ≡ true → p.before < picture_number base es bits
+      by_entries [] none = omega (arith, base_is_above p.before)
+      by_entries (e ∷ es) none = absurd (false≢true none)
 
-  module _ (n : ℕ) (early : is_late window es n ≡ false) where
-    unclosed : is_closed window es n ≡ false
+  late_of_window : (bits : ℕ) → late_in (window_of p) (number_by (window_of p) bits) ≡ is_late p.size p.entries (picture_number base p.entries bits)
+  unfolding window_of is_late is_closed greatest
+  late_of_window bits =
+      ap (late_in (window_of p)) (number_of_window bits)
+      ∙ by_entries p.entries (picture_number base p.entries bits) (first_is_above bits)
+    where
+      by_entries : (es : List Numbered) (n : ℕ) → (is_nothing es ≡ true → p.before < n)
+          → (nat_le (n + p.size) (greatest_behind p.before es) || nat_le (2 ^ 64 - 16) n) ≡ (nat_le (n + p.size) (greatest es) || nat_le (2 ^ 64 - 16) n)
+      by_entries [] n above =
+          ap (λ (b : Bool). b || nat_le (2 ^ 64 - 16) n)
+          (lt-leb (n + p.size) p.before (omega (arith, above refl)) ∙ sym (lt-leb (n + p.size) (greatest []) (omega (arith, above refl))))
+      by_entries (e ∷ es) n above = refl
+
+-- ---- one fragment more
+
+module _ (p : WindowPast) (runs : p.is_ended ≡ false) where
+  module _ (n : ℕ) (early : is_late p.size p.entries n ≡ false) where
+    unclosed : (p.is_ended || is_closed p.size p.entries n) ≡ false
     unfolding is_late
-    unclosed = (or_parts (is_closed window es n) (nat_le (2 ^ 64 - 16) n) early).0
+    unclosed = or_from p.is_ended (is_closed p.size p.entries n) runs (or_parts (is_closed p.size p.entries n) (nat_le (2 ^ 64 - 16) n) early).0
+
+    not_gone : gone_in p n ≡ false
+    not_gone = and_left (p.is_ended || is_closed p.size p.entries n) (released_up_to (last_or None p.released) n) unclosed
+
+    no_parts : (parts : List Part) → has_parts parts ≡ false → parts ≡ []
+    no_parts [] e = refl
+    no_parts (part ∷ parts) e = absurd (false≢true (sym e))
 
     -- the book of a picture that isn't closed, or a new one
-    book_stands : book_in s w n ≡ book_of s (parts_of n es)
-    book_stands = elim (cases_Bool (is_opened es n)) [
-      | inl was ↦ ap (λ (o : Option Book). unwrap_or o (book_of s [])) (stands.books n (and_from (is_opened es n) (not (is_closed window es n && nat_lt n released)) was (not_from_false (is_closed window es n && nat_lt n released) (and_left (is_closed window es n) (nat_lt n released) unclosed))))
-      | inr shut ↦ ap (λ (o : Option Book). unwrap_or o (book_of s [])) (stands.unopened n shut) ∙ ap (book_of s) (sym (no_parts (parts_of n es) shut))
-    ]
+    open_book : cond (needed_by p.entries (gone_in p) n) (books_by p.sequence p.entries n) (book_of p.sequence []) ≡ books_by p.sequence p.entries n
+    open_book = by_test (is_opened p.entries n) refl (gone_in p n) not_gone
       where
-        no_parts : (parts : List Part) → has_parts parts ≡ false → parts ≡ []
-        no_parts [] e = refl
-        no_parts (part ∷ parts) e = absurd (false≢true (sym e))
+        by_test : (was : Bool) → is_opened p.entries n ≡ was → (gone : Bool) → gone ≡ false → cond (was && not gone) (books_by p.sequence p.entries n) (book_of p.sequence []) ≡ books_by p.sequence p.entries n
+        by_test true is gone kept = cond-true (not gone) (books_by p.sequence p.entries n) (book_of p.sequence []) (not_from_false gone kept)
+        by_test false is gone kept = ap (book_of p.sequence) (sym (no_parts (parts_of n p.entries) is))
+
+    book_in_is : book_in (window_of p) n ≡ books_by p.sequence p.entries n
+    unfolding window_of
+    book_in_is =
+        ap (λ (o : Option Book). unwrap_or o (book_of p.sequence [])) (book_of_window p n)
+        ∙ by_test (needed_by p.entries (gone_in p) n)
+        ∙ open_book
+      where
+        by_test : (b : Bool) → unwrap_or (cond b (Some (books_by p.sequence p.entries n)) None) (book_of p.sequence []) ≡ cond b (books_by p.sequence p.entries n) (book_of p.sequence [])
+        by_test true = refl
+        by_test false = refl
 
     module _ (part : Part) where
       abbrev more : List Numbered
-      more = es ++ record { number = n; part = part } ∷ []
+      more = p.entries ++ record { number = n; part = part } ∷ []
 
-      own_parts : parts_of n more ≡ parts_of n es ++ part ∷ []
+      own_parts : parts_of n more ≡ parts_of n p.entries ++ part ∷ []
       unfolding parts_of
-      own_parts = parts_of-append n es (record { number = n; part = part } ∷ []) ∙ ap (λ (l : List Part). parts_of n es ++ l) one
+      own_parts = parts_of-append n p.entries (record { number = n; part = part } ∷ []) ∙ ap (λ (l : List Part). parts_of n p.entries ++ l) here
         where
-          one : parts_of n (record { number = n; part = part } ∷ []) ≡ part ∷ []
-          one = ap (λ (b : Bool). map (λ (e : Numbered). e.part) (cond b (record { number = n; part = part } ∷ []) [])) (eq-eqb n n refl)
+          here : parts_of n (record { number = n; part = part } ∷ []) ≡ part ∷ []
+          here = ap (λ (b : Bool). map (λ (e : Numbered). e.part) (cond b (record { number = n; part = part } ∷ []) [])) (eq-eqb n n refl)
 
-      other_parts : (m : ℕ) → (m ≡ n → ⊥) → parts_of m more ≡ parts_of m es
-      other_parts m apart = parts_of-append m es (record { number = n; part = part } ∷ []) ∙ ap (λ (l : List Part). parts_of m es ++ l) (parts_of-other m (record { number = n; part = part }) (λ same. apart (sym same))) ∙ append-nil (parts_of m es)
+      other_parts : (m : ℕ) → (m ≡ n → ⊥) → parts_of m more ≡ parts_of m p.entries
+      other_parts m apart = parts_of-append m p.entries (record { number = n; part = part } ∷ []) ∙ ap (λ (l : List Part). parts_of m p.entries ++ l) (parts_of-other m (record { number = n; part = part }) (λ same. apart (sym same))) ∙ append-nil (parts_of m p.entries)
 
-      rises : greatest more ≡ max (greatest es) n
+      rises : greatest more ≡ max (greatest p.entries) n
       unfolding greatest
-      rises = omega (arith, greatest-append es (record { number = n; part = part } ∷ []))
+      rises = omega (arith, greatest-append p.entries (record { number = n; part = part } ∷ []))
 
-      new_books : ℕ → Option Book
-      new_books = with_book w.books n (book_takes (book_in s w n) part)
+      abbrev long : ℕ
+      long = past p.entries + (past more + (n + 1))
 
-      closed_later : (m : ℕ) → is_closed window es m ≡ true → is_closed window more m ≡ true
-      unfolding is_closed
-      closed_later m closed = le-leb (m + window) (greatest more) (omega (arith, leb-true (m + window) (greatest es) closed, rises))
-
-      still_needed : (m : ℕ) → (m ≡ n → ⊥) → is_needed window released more m ≡ true → is_needed window released es m ≡ true
-      still_needed m apart needed =
-          let parts = and_parts (is_opened more m) (not (is_closed window more m && nat_lt m released)) needed in
-          and_from (is_opened es m) (not (is_closed window es m && nat_lt m released)) (sym (ap has_parts (other_parts m apart)) ∙ parts.0)
-          (not_from_false (is_closed window es m && nat_lt m released) (open_before (is_closed window es m) (is_closed window more m) (nat_lt m released) (closed_later m) (not-true (is_closed window more m && nat_lt m released) parts.1)))
+      opened_now : is_opened more n ≡ true
+      opened_now = ap has_parts own_parts ∙ ends (parts_of n p.entries)
         where
-          open_before : (old new low : Bool) → (old ≡ true → new ≡ true) → (new && low) ≡ false → (old && low) ≡ false
-          open_before false new low stays e = refl
-          open_before true new low stays e = sym (ap (λ (b : Bool). b && low) (stays refl)) ∙ e
-
-      opens_stands : StandsForEntries base window s (record { base = w.base; top = max w.top n; is_new = false; books = with_book w.books n (book_takes (book_in s w n) part) }) more released
-      opens_stands = record {
-        begins = stands.begins;
-        top = ap (λ t. max t n) stands.top ∙ sym rises;
-        is_new = sym (not_nothing es);
-        books = λ m needed. elim (cases_eq m n) [
-          | inl same ↦ cond-true (m == n) (Some (book_takes (book_in s w n) part)) (w.books m) (eq-eqb m n same)
-              ∙ ap (λ (b : Book). Some (book_takes b part)) book_stands
-              ∙ ap Some (takes-more s (parts_of n es) part ∙ ap (book_of s) (sym own_parts) ∙ ap (λ k. book_of s (parts_of k more)) (sym same))
-          | inr apart ↦ cond-false (m == n) (Some (book_takes (book_in s w n) part)) (w.books m) (ne_eqb m n apart)
-              ∙ stands.books m (still_needed m apart needed)
-              ∙ ap (λ (l : List Part). Some (book_of s l)) (sym (other_parts m apart))
-        ];
-        unopened = λ m shut. elim (cases_eq m n) [
-          | inl same ↦ absurd (false≢true (sym shut ∙ ap (λ k. has_parts (parts_of k more)) same ∙ ap has_parts own_parts ∙ ends (parts_of n es)))
-          | inr apart ↦ cond-false (m == n) (Some (book_takes (book_in s w n) part)) (w.books m) (ne_eqb m n apart) ∙ stands.unopened m (sym (ap has_parts (other_parts m apart)) ∙ shut)
-        ];
-      }
-        where
-          not_nothing : (es : List Numbered) → is_nothing (es ++ record { number = n; part = part } ∷ []) ≡ false
-          not_nothing [] = refl
-          not_nothing (e ∷ es) = refl
-
           ends : (parts : List Part) → has_parts (parts ++ part ∷ []) ≡ true
           ends [] = refl
-          ends (p ∷ parts) = refl
+          ends (q ∷ parts) = refl
 
-  late_same : (f : Fragment) → late_in window w (number_by w f.number) ≡ is_late window es (picture_number base es f.number)
-  late_same f = ap (late_in window w) (number_is f.number) ∙ late_is (picture_number base es f.number)
+      with_part_is : with_part p.sequence (map (past_book p) (needed_numbers p)) n part ≡ books_over (needed_by more (gone_in p)) (books_by p.sequence more) 0 long
+      with_part_is =
+          ap (λ (l : List NumberedBook). with_part p.sequence l n part) (books_range p long (past more + (n + 1)) refl)
+          ∙ part_inside p.sequence n part (needed_by p.entries (gone_in p)) (books_by p.sequence p.entries) (needed_by more (gone_in p)) (books_by p.sequence more)
+          (and_from (is_opened more n) (not (gone_in p n)) opened_now (not_from_false (gone_in p n) not_gone))
+          (ap (book_of p.sequence) own_parts ∙ sym (takes-more p.sequence (parts_of n p.entries) part) ∙ ap (λ (b : Book). book_takes b part) (sym open_book))
+          (λ k apart. ap (λ (l : List Part). cond (has_parts l && not (gone_in p k)) (with_number k (book_of p.sequence l) ∷ []) []) (other_parts k apart))
+          0 long (omega arith) (omega arith)
 
-  -- it stands for what was entered with one fragment more
-  pub window_stands_for_more : (f : Fragment) → StandsForEntries base window s (window_enters window s w f) (enters base window es f) released
+      abbrev later : WindowPast
+      later = record p { entries = more }
+
+      later_books : map (past_book later) (needed_numbers later) ≡ books_over (needed_by more (gone_in later)) (books_by p.sequence more) 0 long
+      later_books = books_range later long (past p.entries + (n + 1)) (omega arith)
+
+      not_nothing : is_nothing more ≡ false
+      not_nothing = by_entries p.entries
+        where
+          by_entries : (es : List Numbered) → is_nothing (es ++ record { number = n; part = part } ∷ []) ≡ false
+          by_entries [] = refl
+          by_entries (e ∷ es) = refl
+
+      top_later : greatest_behind p.before more ≡ greatest more
+      top_later = by_entries p.entries
+        where
+          by_entries : (es : List Numbered) → greatest_behind p.before (es ++ record { number = n; part = part } ∷ []) ≡ greatest (es ++ record { number = n; part = part } ∷ [])
+          by_entries [] = refl
+          by_entries (e ∷ es) = refl
+
+      top_at_least : greatest p.entries ≤ greatest_behind p.before p.entries
+      unfolding greatest
+      top_at_least = by_entries p.entries
+        where
+          by_entries : (es : List Numbered) → greatest es ≤ greatest_behind p.before es
+          by_entries [] = omega arith
+          by_entries (e ∷ es) = omega arith
+
+      closed_later : (k : ℕ) → gone_in p k ≡ true → gone_in later k ≡ true
+      unfolding is_closed
+      closed_later k = by_tests p.is_ended (nat_le (k + p.size) (greatest p.entries)) (nat_le (k + p.size) (greatest more)) (released_up_to (last_or None p.released) k)
+          (λ closed. le-leb (k + p.size) (greatest more) (omega (arith, leb-true (k + p.size) (greatest p.entries) closed, rises)))
+        where
+          by_tests : (over now then low : Bool) → (now ≡ true → then ≡ true) → ((over || now) && low) ≡ true → ((over || then) && low) ≡ true
+          by_tests true now then low stays e = e
+          by_tests false false then low stays e = absurd (false≢true e)
+          by_tests false true then low stays e = ap (λ (b : Bool). b && low) (stays refl) ∙ e
+
+      module _ (above : is_nothing p.entries ≡ true → p.before < n) where
+        -- the greatest number rises
+        raised : greatest_behind p.before p.entries < n → rises_to (opens_picture (window_of p) n part) n ≡ window_of later
+        unfolding window_of is_closed
+        raised less =
+            let top : n ≡ greatest more = omega (arith, rises, top_at_least, less) in
+            let opened = opens_picture (window_of p) n part in
+            cond-true (nat_lt (greatest_behind p.before p.entries) n) (forgets (record opened { top = n })) opened (lt-ltb (greatest_behind p.before p.entries) n less)
+            ∙ (λ j. record {
+              sequence = p.sequence;
+              size = p.size;
+              top = (top ∙ sym top_later) j;
+              is_new = sym not_nothing j;
+              last_released = last_or None p.released;
+              is_ended = p.is_ended;
+              books = (ap (filter (stays_in (record opened { top = n }))) with_part_is
+                  ∙ ap (λ t. filter (λ (b : NumberedBook). not ((p.is_ended || nat_le (b.number + p.size) t) && released_up_to (last_or None p.released) b.number)) (books_over (needed_by more (gone_in p)) (books_by p.sequence more) 0 long)) top
+                  ∙ fewer more (books_by p.sequence more) (gone_in p) (gone_in later) long closed_later
+                  ∙ sym later_books) j;
+            })
+
+        -- or stays
+        settled : n ≤ greatest_behind p.before p.entries → greatest_behind p.before p.entries ≡ greatest p.entries
+        settled high = by_entries p.entries above high
+          where
+            by_entries : (es : List Numbered) → (is_nothing es ≡ true → p.before < n) → n ≤ greatest_behind p.before es → greatest_behind p.before es ≡ greatest es
+            by_entries [] above high = absurd (omega (arith, above refl, high))
+            by_entries (e ∷ es) above high = refl
+
+        stayed : n ≤ greatest_behind p.before p.entries → rises_to (opens_picture (window_of p) n part) n ≡ window_of later
+        unfolding window_of is_closed
+        stayed high =
+            let same : greatest p.entries ≡ greatest more = omega (arith, rises, settled high, high) in
+            let opened = opens_picture (window_of p) n part in
+            cond-false (nat_lt (greatest_behind p.before p.entries) n) (forgets (record opened { top = n })) opened (le-ltb (greatest_behind p.before p.entries) n high)
+            ∙ (λ j. record {
+              sequence = p.sequence;
+              size = p.size;
+              top = (settled high ∙ same ∙ sym top_later) j;
+              is_new = sym not_nothing j;
+              last_released = last_or None p.released;
+              is_ended = p.is_ended;
+              books = (with_part_is
+                  ∙ ap (λ t. books_over (needed_by more (λ k. (p.is_ended || nat_le (k + p.size) t) && released_up_to (last_or None p.released) k)) (books_by p.sequence more) 0 long) same
+                  ∙ sym later_books) j;
+            })
+
+        entered_is : rises_to (opens_picture (window_of p) n part) n ≡ window_of later
+        entered_is = elim (cases_lt (greatest_behind p.before p.entries) n) [ inl less ↦ raised less | inr high ↦ stayed high ]
+
+  -- a fragment more
+  pub enters_is : (f : Fragment) → window_enters (window_of p) f ≡ window_of (past_enters p f)
   unfolding window_enters
-  window_stands_for_more f = elim (cases_Bool (is_late window es (picture_number base es f.number))) [
-    | inl late ↦ subst (λ (l : List Numbered). StandsForEntries base window s (window_enters window s w f) l released) (sym (late_changes_nothing base window es f late))
-        (subst (λ (v : Window). StandsForEntries base window s v es released) (sym (cond-true (late_in window w (number_by w f.number)) w (opens_picture s w (number_by w f.number) f) (late_same f ∙ late))) stands)
-    | inr early ↦ subst (λ (l : List Numbered). StandsForEntries base window s (window_enters window s w f) l released) (sym (early_enters base window es f early))
-        (subst (λ (v : Window). StandsForEntries base window s v (es ++ record { number = picture_number base es f.number; part = f.part } ∷ []) released) (sym (cond-false (late_in window w (number_by w f.number)) w (opens_picture s w (number_by w f.number) f) (late_same f ∙ early)))
-        (subst (λ k. StandsForEntries base window s (opens_picture s w k f) (es ++ record { number = picture_number base es f.number; part = f.part } ∷ []) released) (sym (number_is f.number))
-        (opens_stands (picture_number base es f.number) early f.part)))
-  ]
+  enters_is f =
+      let n = picture_number (base_above p.before) p.entries f.number in
+      let entered : Window = rises_to (opens_picture (window_of p) (number_by (window_of p) f.number) f.part) (number_by (window_of p) f.number) in
+      elim (cases_Bool (is_late p.size p.entries n)) [
+        | inl late ↦ cond-true (late_in (window_of p) (number_by (window_of p) f.number)) (window_of p) entered (late_of_window p f.number ∙ late)
+            ∙ ap (λ (es : List Numbered). window_of (record p { entries = es })) (sym (late_changes_nothing (base_above p.before) p.size p.entries f late))
+        | inr early ↦ cond-false (late_in (window_of p) (number_by (window_of p) f.number)) (window_of p) entered (late_of_window p f.number ∙ early)
+            ∙ ap (λ k. rises_to (opens_picture (window_of p) k f.part) k) (number_of_window p f.number)
+            ∙ entered_is n early f.part (first_is_above p f.number)
+            ∙ ap (λ (es : List Numbered). window_of (record p { entries = es })) (sym (early_enters (base_above p.before) p.size p.entries f early))
+      ]
 
-  -- and answers what its entries say
-  pub window_outcome_is : (f : Fragment) → window_outcome window s w f ≡ fragment_outcome base window s es f
+  -- and its outcome
+  pub outcome_is : (f : Fragment) → window_outcome (window_of p) f ≡ fragment_outcome (base_above p.before) p.size p.sequence p.entries f
   unfolding window_outcome fragment_outcome
-  window_outcome_is f =
-      ap (λ (b : Bool). cond b Late (book_outcome (book_in s w (number_by w f.number)) f.part)) (late_same f)
-      ∙ ap (λ k. cond (is_late window es (picture_number base es f.number)) Late (book_outcome (book_in s w k) f.part)) (number_is f.number)
-      ∙ by_late (is_late window es (picture_number base es f.number)) refl
+  outcome_is f =
+      let n = picture_number (base_above p.before) p.entries f.number in
+      ap (λ (b : Bool). cond b Late (book_outcome (book_in (window_of p) (number_by (window_of p) f.number)) f.part)) (late_of_window p f.number)
+      ∙ ap (λ k. cond (is_late p.size p.entries n) Late (book_outcome (book_in (window_of p) k) f.part)) (number_of_window p f.number)
+      ∙ by_late (is_late p.size p.entries n) refl
     where
-      by_late : (b : Bool) → is_late window es (picture_number base es f.number) ≡ b → cond b Late (book_outcome (book_in s w (picture_number base es f.number)) f.part) ≡ cond b Late (part_outcome s (parts_of (picture_number base es f.number) es) f.part)
+      by_late : (b : Bool) → is_late p.size p.entries (picture_number (base_above p.before) p.entries f.number) ≡ b
+          → cond b Late (book_outcome (book_in (window_of p) (picture_number (base_above p.before) p.entries f.number)) f.part)
+          ≡ cond b Late (part_outcome p.sequence (parts_of (picture_number (base_above p.before) p.entries f.number) p.entries) f.part)
       by_late true is = refl
       by_late false is =
-          ap (λ (b : Book). book_outcome b f.part) (book_stands (picture_number base es f.number) is)
-          ∙ book_outcome_is s (parts_of (picture_number base es f.number) es) f.part
+          ap (λ (b : Book). book_outcome b f.part) (book_in_is (picture_number (base_above p.before) p.entries f.number) is)
+          ∙ book_outcome_is p.sequence (parts_of (picture_number (base_above p.before) p.entries f.number) p.entries) f.part
 
--- ---- books of pictures that are closed and released go
+-- ---- the end, and a release
 
-module _ (base window : ℕ) (s : Sequence) (w : Window) (es : List Numbered) (before released : ℕ) (rises : before ≤ released) (stands : StandsForEntries base window s w es before) where
-  closed_is : (n : ℕ) → nat_le (n + window) w.top ≡ is_closed window es n
-  unfolding is_closed
-  closed_is n = ap (λ t. nat_le (n + window) t) stands.top
+module _ (p : WindowPast) where
+  abbrev all : ℕ
+  all = past p.entries + 0
 
-  pub forgets_stands : StandsForEntries base window s (forgets window released w) es released
-  forgets_stands = record {
-    begins = stands.begins;
-    top = stands.top;
-    is_new = stands.is_new;
-    books = λ n needed.
-        let parts = and_parts (is_opened es n) (not (is_closed window es n && nat_lt n released)) needed in
-        let kept = not-true (is_closed window es n && nat_lt n released) parts.1 in
-        cond-false (nat_le (n + window) w.top && nat_lt n released) None (w.books n) (ap (λ (b : Bool). b && nat_lt n released) (closed_is n) ∙ kept)
-        ∙ stands.books n (and_from (is_opened es n) (not (is_closed window es n && nat_lt n before)) parts.0 (not_from_false (is_closed window es n && nat_lt n before) (earlier n (is_closed window es n) kept)));
-    unopened = λ n shut. none (nat_le (n + window) w.top && nat_lt n released) (w.books n) (stands.unopened n shut);
+  pub finishes_is : finishes (window_of p) ≡ window_of (past_finishes p)
+  unfolding window_of is_closed
+  finishes_is = λ j. record {
+    sequence = p.sequence;
+    size = p.size;
+    top = greatest_behind p.before p.entries;
+    is_new = is_nothing p.entries;
+    last_released = last_or None p.released;
+    is_ended = true;
+    books = (ap (filter (stays_in (record (window_of p) { is_ended = true }))) (books_range p all 0 refl)
+        ∙ fewer p.entries (books_by p.sequence p.entries) (gone_in p) (gone_in (past_finishes p)) all
+        (λ k. by_tests (p.is_ended || nat_le (k + p.size) (greatest p.entries)) (released_up_to (last_or None p.released) k))
+        ∙ sym (books_range (past_finishes p) all 0 refl)) j;
   }
     where
-      none : (b : Bool) (o : Option Book) → o ≡ None → cond b None o ≡ None
-      none true o e = refl
-      none false o e = e
+      by_tests : (closed low : Bool) → (closed && low) ≡ true → low ≡ true
+      by_tests true low e = e
+      by_tests false low e = absurd (false≢true e)
 
-      earlier : (n : ℕ) (closed : Bool) → (closed && nat_lt n released) ≡ false → (closed && nat_lt n before) ≡ false
-      earlier n false e = refl
-      earlier n true e = le-ltb n before (omega (arith, ltb-false n released e, rises))
+last_is : (o : Option ℕ) (ns : List ℕ) (n : ℕ) → last_or o (ns ++ n ∷ []) ≡ Some n
+last_is o [] n = refl
+last_is o (m ∷ ns) n = last_is (Some m) ns n
 
-  -- what is left: no book but those that are needed
-  pub forgotten : (n : ℕ) → is_needed window released es n ≡ false → (forgets window released w).books n ≡ None
-  forgotten n spare = elim (cases_Bool (is_opened es n)) [
-    | inl was ↦ cond-true (nat_le (n + window) w.top && nat_lt n released) None (w.books n) (ap (λ (b : Bool). b && nat_lt n released) (closed_is n) ∙ gone (is_opened es n) (is_closed window es n && nat_lt n released) was spare)
-    | inr shut ↦ none (nat_le (n + window) w.top && nat_lt n released) (w.books n) (stands.unopened n shut)
-  ]
-    where
-      none : (b : Bool) (o : Option Book) → o ≡ None → cond b None o ≡ None
-      none true o e = refl
-      none false o e = e
+-- of a picture behind those that were released
+module _ (n : ℕ) where
+  module _ (p : WindowPast) (behind : released_up_to (last_or None p.released) n ≡ false) (top : greatest_behind p.before p.entries ≡ greatest p.entries) where
+    abbrev closed_at : ℕ → ℕ → Bool
+    closed_at t k = p.is_ended || nat_le (k + p.size) t
 
-      gone : (just_opened b : Bool) → just_opened ≡ true → (just_opened && not b) ≡ false → b ≡ true
-      gone just_opened true was e = refl
-      gone just_opened false was e = absurd (false≢true (sym e ∙ ap (λ (o : Bool). o && true) was))
+    gone_later : (k : ℕ) → (closed_at (greatest p.entries) k && released_up_to (last_or None p.released) k) ≡ true → (closed_at (greatest p.entries) k && nat_le k n) ≡ true
+    gone_later k = by_tests (closed_at (greatest p.entries) k) (last_or None p.released) behind
+      where
+        by_tests : (closed : Bool) (o : Option ℕ) → released_up_to o n ≡ false → (closed && released_up_to o k) ≡ true → (closed && nat_le k n) ≡ true
+        by_tests false o behind e = absurd (false≢true e)
+        by_tests true None behind e = absurd (false≢true e)
+        by_tests true (Some last) behind e = le-leb k n (omega (arith, leb-true k last e, leb-false n last behind))
 
--- ---- what is let go
+    releases_some : releases (window_of p) n ≡ window_of (past_releases p n)
+    unfolding window_of is_closed
+    releases_some = λ j. record {
+      sequence = p.sequence;
+      size = p.size;
+      top = greatest_behind p.before p.entries;
+      is_new = is_nothing p.entries;
+      last_released = sym (last_is None p.released n) j;
+      is_ended = p.is_ended;
+      books = (ap (filter (λ (b : NumberedBook). not (closed_at (greatest_behind p.before p.entries) b.number && nat_le b.number n))) (books_range p (past p.entries + 0) 0 refl)
+          ∙ ap (λ t. filter (λ (b : NumberedBook). not (closed_at t b.number && nat_le b.number n)) (books_over (needed_by p.entries (gone_in p)) (books_by p.sequence p.entries) 0 (past p.entries + 0))) top
+          ∙ fewer p.entries (books_by p.sequence p.entries) (gone_in p) (λ k. closed_at (greatest p.entries) k && nat_le k n) (past p.entries + 0) gone_later
+          ∙ ap (λ (o : Option ℕ). books_over (needed_by p.entries (λ k. closed_at (greatest p.entries) k && released_up_to o k)) (books_by p.sequence p.entries) 0 (past p.entries + 0)) (sym (last_is None p.released n))
+          ∙ sym (books_range (past_releases p n) (past p.entries + 0) 0 refl)) j;
+    }
 
-all_same : (f g : ℕ → Bool) (a n : ℕ) → ((k : ℕ) → a ≤ k → f k ≡ g k) → list_all f (range_with_len a n) ≡ list_all g (range_with_len a n)
-all_same f g a zero same = refl
-all_same f g a (suc n) same = ap (λ (b : Bool). b && list_all f (range_with_len (a + 1) n)) (same a (omega arith)) ∙ ap (λ (b : Bool). g a && b) (all_same f g (a + 1) n (λ k above. same k (omega arith)))
+  releases_by : (p : WindowPast) → released_up_to (last_or None p.released) n ≡ false → (es : List Numbered)
+      → releases (window_of (record p { entries = es })) n ≡ window_of (past_releases (record p { entries = es }) n)
+  unfolding window_of opened_numbers least greatest parts_of
+  releases_by p behind [] = λ j. record {
+    sequence = p.sequence;
+    size = p.size;
+    top = p.before;
+    is_new = true;
+    last_released = sym (last_is None p.released n) j;
+    is_ended = p.is_ended;
+    books = [];
+  }
+  releases_by p behind (e ∷ es) = releases_some (record p { entries = e ∷ es }) behind refl
 
-module _ (base window : ℕ) (s : Sequence) (w : Window) (es : List Numbered) (released : ℕ) (stands : StandsForEntries base window s w es released) where
-  not_closed : (n : ℕ) → greatest es < n + window → is_closed window es n ≡ false
-  unfolding is_closed
-  not_closed n above = lt-leb (n + window) (greatest es) above
-
-  unopened_incomplete : (n : ℕ) → is_opened es n ≡ false → complete_at s es n ≡ false
-  unopened_incomplete n shut = false_from_ne_true (complete_at s es n) (λ complete. both_ways (is_opened es n) shut (complete_opened s es n complete))
-
-  complete_is : (n : ℕ) → greatest es < n + window → complete_in w n ≡ complete_at s es n
-  unfolding complete_at
-  complete_is n above = elim (cases_Bool (is_opened es n)) [
-    | inl was ↦ ap (λ (o : Option Book). option_map_or (λ book. is_some (book_whole book)) o false)
-        (stands.books n (and_from (is_opened es n) (not (is_closed window es n && nat_lt n released)) was (not_from_false (is_closed window es n && nat_lt n released) (and_left (is_closed window es n) (nat_lt n released) (not_closed n above)))))
-        ∙ ap is_some (book_whole_is s (parts_of n es))
-    | inr shut ↦ ap (λ (o : Option Book). option_map_or (λ book. is_some (book_whole book)) o false) (stands.unopened n shut) ∙ sym (unopened_incomplete n shut)
-  ]
-
-  pub let_go_is : (n : ℕ) → let_go_in window w n ≡ is_let_go window s es n
-  unfolding is_let_go
-  let_go_is n =
-      ap (λ t. list_all (complete_in w) (span (t + 1 - window) n)) stands.top
-      ∙ all_same (complete_in w) (complete_at s es) (greatest es + 1 - window) (n + 1 - (greatest es + 1 - window)) (λ k above. complete_is k (omega arith))
+  pub releases_is : (p : WindowPast) → released_up_to (last_or None p.released) n ≡ false → releases (window_of p) n ≡ window_of (past_releases p n)
+  releases_is p behind = releases_by p behind p.entries

@@ -10,7 +10,6 @@ ghost use Rattle.link_model.specs.Output.{is_let_go, let_go_numbers, frame_bytes
 ghost use Rattle.link_model.specs.Packets.{RtpPacket, RtpFits, rtp_packet, rtp_header, PayloadValue, IsWritable, payload, payload_bytes, read_back};
 ghost use Rattle.link_model.specs.Session.{Part, Fragment, Session, HeardSession, just_opened, is_other, opens_other, opens_behind, opens_next, with_datagram, hears, sessions_of, begins, ends, fragment_in};
 ghost use Rattle.link_model.specs.declared.outcome.Outcome.TheVariants.{HeaderNew, End};
-ghost use Rattle.link_model.specs.Windows.{Window, empty_window, window_enters, window_outcome, forgets, let_go_in, StandsForEntries};
 ghost use Rattle.vc_types.specs.SequenceHeader.{Sequence};
 
 /// What a picture keeps stays as parts come: its parameters, each slice, and, once it is complete, its whole bytes.
@@ -95,24 +94,6 @@ pub fn books_stand_for_parts()
 pub fn what_is_not_kept_changes_nothing()
     ensures { (book : Book) (part : Part) → keeps (book_outcome book part) ≡ false
         → book_takes book part ≡ book }
-{}
-
-/// A window stands for the fragments that it took, with one more it does so again, and it answers the fragment's outcome.
-pub fn windows_stand_for_fragments()
-    ensures none { (base window : ℕ) (s : Sequence)
-        → StandsForEntries base window s (empty_window base) [] 0 }
-    ensures more { (base window : ℕ) (s : Sequence) (w : Window) (es : List Numbered) (released : ℕ)
-        → StandsForEntries base window s w es released → (f : Fragment)
-        → StandsForEntries base window s (window_enters window s w f) (enters base window es f) released }
-    ensures outcome { (base window : ℕ) (s : Sequence) (w : Window) (es : List Numbered) (released : ℕ)
-        → StandsForEntries base window s w es released → (f : Fragment)
-        → window_outcome window s w f ≡ fragment_outcome base window s es f }
-    ensures let_go { (base window : ℕ) (s : Sequence) (w : Window) (es : List Numbered) (released : ℕ)
-        → StandsForEntries base window s w es released → (n : ℕ) → let_go_in window w n
-        ≡ is_let_go window s es n }
-    ensures released { (base window : ℕ) (s : Sequence) (w : Window) (es : List Numbered) (before released : ℕ)
-        → before ≤ released → StandsForEntries base window s w es before
-        → StandsForEntries base window s (forgets window released w) es released }
 {}
 
 /// A picture's number has the 32 bits that were sent, is at most half of their range away from the greatest one, and fits

@@ -16,5 +16,8 @@ fn laws_hold() {
     outcomes_say_what_datagrams_do();
     books_stand_for_parts();
     what_is_not_kept_changes_nothing();
-    windows_stand_for_fragments();
+    windows_stand_for_their_past();
+    windows_release_in_order();
+    windows_stay_small();
+    windows_follow_sessions();
 }

@@ -1,0 +1,162 @@
+-- Books of pictures over a range of numbers: those of the numbers that pass a test, in rising order.
+use Rattle.std.proofs.Common.{◌≡◌, ℕ, zero, suc, ◌+◌, ◌<◌, ◌≤◌, Bool, true, false, List, [], ◌∷◌, ◌++◌, map, Option, Some, None, refl, ap, sym, subst, ◌∙◌, inl, inr, arith, cond}
+use Rattle.std.specs.Prelude.{nat_lt, ◌&&◌, ◌==◌, filter}
+use Rattle.std.specs.List.{flat_map, range_with_len}
+use Rattle.std.proofs.lemmas.Bool.{cases_lt, cases_eq, cond-true, cond-false, eq-eqb, ne_eqb, lt-ltb, le-ltb}
+use Rattle.link_model.specs.Books.{Book, book_of, book_takes}
+use Rattle.link_model.specs.Session.{Part}
+use Rattle.link_model.specs.Windows.{NumberedBook, with_number, book_at, with_part}
+use Rattle.vc_types.specs.SequenceHeader.{Sequence}
+
+abbrev pub picked : (ℕ → Bool) → (ℕ → Book) → ℕ → List NumberedBook
+picked test book k = cond (test k) (with_number k (book k) ∷ []) []
+
+-- the books of the numbers from a on, so many of them, that pass a test
+abbrev pub books_over : (ℕ → Bool) → (ℕ → Book) → ℕ → ℕ → List NumberedBook
+books_over test book a m = flat_map (picked test book) (range_with_len a m)
+
+-- ---- looking up
+
+-- a book that stands first
+module _ (k : ℕ) (book : Book) (books : List NumberedBook) (n : ℕ) where
+  at_later : k < n → book_at (with_number k book ∷ books) n ≡ book_at books n
+  at_later later = cond-true (nat_lt k n) (book_at books n) (cond (k == n) (Some book) None) (lt-ltb k n later)
+
+  at_here : k ≡ n → book_at (with_number k book ∷ books) n ≡ Some book
+  at_here here =
+      cond-false (nat_lt k n) (book_at books n) (cond (k == n) (Some book) None) (le-ltb k n (omega (arith, here)))
+      ∙ cond-true (k == n) (Some book) None (eq-eqb k n here)
+
+  at_earlier : n < k → book_at (with_number k book ∷ books) n ≡ None
+  at_earlier earlier =
+      cond-false (nat_lt k n) (book_at books n) (cond (k == n) (Some book) None) (le-ltb k n (omega (arith, earlier)))
+      ∙ cond-false (k == n) (Some book) None (ne_eqb k n (λ same. omega (arith, same, earlier)))
+
+module _ (test : ℕ → Bool) (book : ℕ → Book) (n : ℕ) where
+  abbrev front : Bool → ℕ → List NumberedBook → List NumberedBook
+  front b a books = cond b (with_number a (book a) ∷ []) [] ++ books
+
+  pub none_below : (a m : ℕ) → n < a → book_at (books_over test book a m) n ≡ None
+  none_below a zero below = refl
+  none_below a (suc m) below = by_test (test a) (none_below (a + 1) m (omega arith))
+    where
+      by_test : (b : Bool) → book_at (books_over test book (a + 1) m) n ≡ None → book_at (front b a (books_over test book (a + 1) m)) n ≡ None
+      by_test true rest = at_earlier a (book a) (books_over test book (a + 1) m) n below
+      by_test false rest = rest
+
+  pub none_above : (a m : ℕ) → a + m ≤ n → book_at (books_over test book a m) n ≡ None
+  none_above a zero above = refl
+  none_above a (suc m) above = by_test (test a) (none_above (a + 1) m (omega arith))
+    where
+      by_test : (b : Bool) → book_at (books_over test book (a + 1) m) n ≡ None → book_at (front b a (books_over test book (a + 1) m)) n ≡ None
+      by_test true rest = at_later a (book a) (books_over test book (a + 1) m) n (omega arith) ∙ rest
+      by_test false rest = rest
+
+  pub book_inside : (a m : ℕ) → a ≤ n → n < a + m → book_at (books_over test book a m) n ≡ cond (test n) (Some (book n)) None
+  book_inside a zero from to = absurd (omega arith)
+  book_inside a (suc m) from to = elim (cases_lt a n) [
+    | inl less ↦ past less (test a) (book_inside (a + 1) m (omega arith) (omega arith))
+    | inr more ↦ (let same : a ≡ n = omega arith in here same (test n) (test a) (ap test same))
+  ]
+    where
+      past : a < n → (b : Bool) → book_at (books_over test book (a + 1) m) n ≡ cond (test n) (Some (book n)) None → book_at (front b a (books_over test book (a + 1) m)) n ≡ cond (test n) (Some (book n)) None
+      past less true rest = at_later a (book a) (books_over test book (a + 1) m) n less ∙ rest
+      past less false rest = rest
+
+      here : a ≡ n → (now b : Bool) → b ≡ now → book_at (front b a (books_over test book (a + 1) m)) n ≡ cond now (Some (book n)) None
+      here same true b is =
+          ap (λ (c : Bool). book_at (front c a (books_over test book (a + 1) m)) n) is
+          ∙ at_here a (book a) (books_over test book (a + 1) m) n same
+          ∙ ap (λ k. Some (book k)) same
+      here same false b is =
+          ap (λ (c : Bool). book_at (front c a (books_over test book (a + 1) m)) n) is
+          ∙ none_below (a + 1) m (omega (arith, same))
+
+-- ---- the same books, and fewer
+
+pub same_books : (test other : ℕ → Bool) (book later : ℕ → Book) (a m : ℕ)
+    → ((k : ℕ) → a ≤ k → k < a + m → picked test book k ≡ picked other later k)
+    → books_over test book a m ≡ books_over other later a m
+same_books test other book later a zero each = refl
+same_books test other book later a (suc m) each =
+    ap (λ (l : List NumberedBook). l ++ books_over test book (a + 1) m) (each a (omega arith) (omega arith))
+    ∙ ap (λ (l : List NumberedBook). picked other later a ++ l) (same_books test other book later (a + 1) m (λ k from to. each k (omega arith) (omega arith)))
+
+pub fewer_books : (test keep : ℕ → Bool) (book : ℕ → Book) (a m : ℕ)
+    → filter (λ (b : NumberedBook). keep b.number) (books_over test book a m) ≡ books_over (λ k. test k && keep k) book a m
+fewer_books test keep book a zero = refl
+fewer_books test keep book a (suc m) =
+    by_test (test a) (books_over test book (a + 1) m) (books_over (λ k. test k && keep k) book (a + 1) m) (fewer_books test keep book (a + 1) m)
+  where
+    by_keep : (passes : Bool) (kept left : List NumberedBook) → kept ≡ left
+        → cond passes (with_number a (book a) ∷ kept) kept ≡ cond passes (with_number a (book a) ∷ []) [] ++ left
+    by_keep true kept left same = ap (λ (l : List NumberedBook). with_number a (book a) ∷ l) same
+    by_keep false kept left same = same
+
+    by_test : (b : Bool) (rest left : List NumberedBook) → filter (λ (b : NumberedBook). keep b.number) rest ≡ left
+        → filter (λ (b : NumberedBook). keep b.number) (cond b (with_number a (book a) ∷ []) [] ++ rest) ≡ cond (b && keep a) (with_number a (book a) ∷ []) [] ++ left
+    by_test true rest left same = by_keep (keep a) (filter (λ (b : NumberedBook). keep b.number) rest) left same
+    by_test false rest left same = same
+
+-- ---- a part more
+
+module _ (s : Sequence) (n : ℕ) (part : Part) where
+  abbrev pub fresh : NumberedBook
+  fresh = with_number n (book_takes (book_of s []) part)
+
+  -- before the first book
+  module _ (k : ℕ) (book : Book) (books : List NumberedBook) where
+    part_later : k < n → with_part s (with_number k book ∷ books) n part ≡ with_number k book ∷ with_part s books n part
+    part_later later = cond-true (nat_lt k n) (with_number k book ∷ with_part s books n part) (cond (k == n) (with_number n (book_takes book part) ∷ books) (fresh ∷ with_number k book ∷ books)) (lt-ltb k n later)
+
+    part_here : k ≡ n → with_part s (with_number k book ∷ books) n part ≡ with_number n (book_takes book part) ∷ books
+    part_here here =
+        cond-false (nat_lt k n) (with_number k book ∷ with_part s books n part) (cond (k == n) (with_number n (book_takes book part) ∷ books) (fresh ∷ with_number k book ∷ books)) (le-ltb k n (omega (arith, here)))
+        ∙ cond-true (k == n) (with_number n (book_takes book part) ∷ books) (fresh ∷ with_number k book ∷ books) (eq-eqb k n here)
+
+    part_earlier : n < k → with_part s (with_number k book ∷ books) n part ≡ fresh ∷ with_number k book ∷ books
+    part_earlier earlier =
+        cond-false (nat_lt k n) (with_number k book ∷ with_part s books n part) (cond (k == n) (with_number n (book_takes book part) ∷ books) (fresh ∷ with_number k book ∷ books)) (le-ltb k n (omega (arith, earlier)))
+        ∙ cond-false (k == n) (with_number n (book_takes book part) ∷ books) (fresh ∷ with_number k book ∷ books) (ne_eqb k n (λ same. omega (arith, same, earlier)))
+
+  module _ (test : ℕ → Bool) (book : ℕ → Book) where
+    opens_first : (a m : ℕ) → n < a → with_part s (books_over test book a m) n part ≡ fresh ∷ books_over test book a m
+    opens_first a zero below = refl
+    opens_first a (suc m) below = by_test (test a) (opens_first (a + 1) m (omega arith))
+      where
+        by_test : (b : Bool) → with_part s (books_over test book (a + 1) m) n part ≡ fresh ∷ books_over test book (a + 1) m
+            → with_part s (cond b (with_number a (book a) ∷ []) [] ++ books_over test book (a + 1) m) n part ≡ fresh ∷ (cond b (with_number a (book a) ∷ []) [] ++ books_over test book (a + 1) m)
+        by_test true rest = part_earlier a (book a) (books_over test book (a + 1) m) below
+        by_test false rest = rest
+
+    -- the book of n takes the part, and nothing else changes
+    module _ (other : ℕ → Bool) (later : ℕ → Book) (is_open : other n ≡ true)
+        (takes : later n ≡ book_takes (cond (test n) (book n) (book_of s [])) part)
+        (elsewhere : (k : ℕ) → (k ≡ n → ⊥) → picked other later k ≡ picked test book k) where
+      taken_here : (a m : ℕ) → a ≡ n → (b : Bool) → test n ≡ b
+          → with_part s (cond b (with_number a (book a) ∷ []) [] ++ books_over test book (a + 1) m) n part ≡ with_number n (later n) ∷ books_over test book (a + 1) m
+      taken_here a m same true is =
+          part_here a (book a) (books_over test book (a + 1) m) same
+          ∙ ap (λ (b : Book). with_number n b ∷ books_over test book (a + 1) m)
+          (ap (λ k. book_takes (book k) part) same ∙ sym (takes ∙ ap (λ (b : Bool). book_takes (cond b (book n) (book_of s [])) part) is))
+      taken_here a m same false is =
+          opens_first (a + 1) m (omega (arith, same))
+          ∙ ap (λ (b : Book). with_number n b ∷ books_over test book (a + 1) m)
+          (sym (takes ∙ ap (λ (b : Bool). book_takes (cond b (book n) (book_of s [])) part) is))
+
+      pub part_inside : (a m : ℕ) → a ≤ n → n < a + m → with_part s (books_over test book a m) n part ≡ books_over other later a m
+      part_inside a zero from to = absurd (omega arith)
+      part_inside a (suc m) from to = elim (cases_lt a n) [
+        | inl less ↦ past less (test a) (part_inside (a + 1) m (omega arith) (omega arith))
+            ∙ ap (λ (l : List NumberedBook). l ++ books_over other later (a + 1) m) (sym (elsewhere a (λ same. omega (arith, same, less))))
+        | inr more ↦ (let same : a ≡ n = omega arith in
+            ap (λ (b : Bool). with_part s (cond b (with_number a (book a) ∷ []) [] ++ books_over test book (a + 1) m) n part) (ap test same)
+            ∙ taken_here a m same (test n) refl
+            ∙ ap (λ (l : List NumberedBook). with_number n (later n) ∷ l) (same_books test other book later (a + 1) m (λ k above below. sym (elsewhere k (λ here. omega (arith, here, same, above)))))
+            ∙ ap (λ (l : List NumberedBook). l ++ books_over other later (a + 1) m) (sym (cond-true (other n) (with_number n (later n) ∷ []) [] is_open) ∙ ap (picked other later) (sym same)))
+      ]
+        where
+          past : a < n → (b : Bool) → with_part s (books_over test book (a + 1) m) n part ≡ books_over other later (a + 1) m
+              → with_part s (cond b (with_number a (book a) ∷ []) [] ++ books_over test book (a + 1) m) n part ≡ cond b (with_number a (book a) ∷ []) [] ++ books_over other later (a + 1) m
+          past less true rest = part_later a (book a) (books_over test book (a + 1) m) less ∙ ap (λ (l : List NumberedBook). with_number a (book a) ∷ l) rest
+          past less false rest = rest

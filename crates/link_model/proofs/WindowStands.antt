@@ -1,0 +1,165 @@
+-- A window stands for its past: what carries over each step, and what it answers.
+use Rattle.std.proofs.Common.{◌≡◌, ℕ, zero, suc, ◌+◌, ◌-◌, ◌^◌, ◌<◌, ◌≤◌, max, Bool, true, false, List, [], ◌∷◌, ◌++◌, length, drop, Option, Some, None, refl, ap, sym, subst, ◌∙◌, inl, inr, arith, cond}
+use Rattle.std.specs.Prelude.{nat_le, not, ◌&&◌, ◌||◌, filter}
+use Rattle.std.specs.List.{flat_map, last_or, range_with_len}
+use Rattle.std.specs.Option.{option_map}
+use Rattle.std.proofs.lemmas.Bool.{cases_Bool, cases_lt, and_parts, and_from, and_left, cond-true, cond-false, false≢true, not-true, not_from_false, leb-false, leb-true, or_parts, both_ways}
+use Rattle.std.proofs.lemmas.List.{append_assoc}
+use Rattle.std.proofs.lemmas.Option.{none-some}
+use Rattle.link_model.specs.Books.{Book, book_of}
+use Rattle.link_model.specs.Judgement.{fragment_outcome}
+use Rattle.link_model.specs.Numbers.{Numbered, greatest, least, base_above, enters, is_closed, is_late, is_opened, has_parts, parts_of, picture_number, opened_numbers}
+use Rattle.link_model.specs.Output.{let_go_numbers}
+use Rattle.link_model.specs.Session.{Fragment}
+use Rattle.link_model.specs.Windows.{NumberedBook, with_number, book_at, Window, new_window, number_by, late_in, opens_picture, rises_to, closed_in, released_up_to, window_enters, window_outcome, Releasable, next_release, releases, finishes, WindowPast, new_past, past_enters, past_releases, past_finishes, past_let_go, releasable_numbers, as_releasable, first_of, greatest_behind, window_of, StandsForPast}
+use Rattle.link_model.specs.declared.outcome.Outcome.{Outcome}
+use Rattle.link_model.proofs.BooksInOrder.{picked, books_over, fewer_books}
+use Rattle.link_model.proofs.Leaving.{past, let_go_numbers_grow, last_releases}
+use Rattle.link_model.proofs.LettingGo.{is_let_go_by, releasable_over, next_some}
+use Rattle.link_model.proofs.Numbering.{enters_follows, parts_of-outside}
+use Rattle.link_model.proofs.RisingNumbers.{numbers_over, begins_with, rest_of}
+use Rattle.link_model.proofs.Windowing.{gone_in, needed_by, books_by, books_range, book_of_window, enters_is, outcome_is, finishes_is, releases_is}
+use Rattle.vc_types.specs.SequenceHeader.{Sequence}
+
+-- ---- lists
+
+abbrev no_number : List ℕ
+no_number = []
+
+drop_none : (n : ℕ) → drop n no_number ≡ []
+drop_none zero = refl
+drop_none (suc n) = refl
+
+first_and_rest : (ns : List ℕ) (n : ℕ) → first_of ns ≡ Some n → (rest : List ℕ) × (ns ≡ n ∷ rest)
+first_and_rest [] n is = absurd (none-some n is)
+first_and_rest (m ∷ ns) n is = (ns, (let same : m ≡ n = cc in ap (λ k. k ∷ ns) same))
+
+first_passes : (test : ℕ → Bool) (a m n : ℕ) → first_of (numbers_over test a m) ≡ Some n → test n ≡ true
+first_passes test a zero n is = absurd (none-some n is)
+first_passes test a (suc m) n is = by_test (test a) refl is (first_passes test (a + 1) m n)
+  where
+    by_test : (b : Bool) → test a ≡ b → first_of (cond b (a ∷ []) [] ++ numbers_over test (a + 1) m) ≡ Some n → (first_of (numbers_over test (a + 1) m) ≡ Some n → test n ≡ true) → test n ≡ true
+    by_test true passes is later = (let same : a ≡ n = cc in subst (λ k. test k ≡ true) same passes)
+    by_test false fails is later = later is
+
+-- ---- what is let go, by whether the input has ended
+
+module _ (p : WindowPast) where
+  let_go_running : p.is_ended ≡ false → past_let_go p ≡ let_go_numbers p.size p.sequence p.entries
+  let_go_running runs = cond-false p.is_ended (opened_numbers p.entries) (let_go_numbers p.size p.sequence p.entries) runs
+
+-- ---- a new window
+
+pub new_stands : (s : Sequence) (size before : ℕ) → StandsForPast (new_window s size before) (new_past s size before)
+unfolding window_of let_go_numbers opened_numbers least greatest parts_of
+new_stands s size before = record { value = refl; in_order = refl }
+
+module _ (w : Window) (p : WindowPast) (stands : StandsForPast w p) where
+  -- ---- a fragment more
+
+  module _ (runs : p.is_ended ≡ false) (f : Fragment) where
+    more_in_order : past_let_go (past_enters p f) ≡ p.released ++ releasable_numbers (past_enters p f)
+    more_in_order =
+        let grown = let_go_numbers_grow p.size p.sequence p.entries (past_enters p f).entries (enters_follows (base_above p.before) p.size p.entries f) in
+        begins_with (past_let_go (past_enters p f)) p.released (releasable_numbers p ++ grown.0)
+        (let_go_running (past_enters p f) runs
+        ∙ grown.1
+        ∙ ap (λ (l : List ℕ). l ++ grown.0) (sym (let_go_running p runs) ∙ stands.in_order)
+        ∙ append_assoc p.released (releasable_numbers p) grown.0)
+
+    pub enters_stands : StandsForPast (window_enters w f) (past_enters p f)
+    enters_stands = record { value = ap (λ (v : Window). window_enters v f) stands.value ∙ enters_is p runs f; in_order = more_in_order }
+
+    pub window_outcome_is : window_outcome w f ≡ fragment_outcome (base_above p.before) p.size p.sequence p.entries f
+    window_outcome_is = ap (λ (v : Window). window_outcome v f) stands.value ∙ outcome_is p runs f
+
+  -- ---- the picture that may be released next
+
+  pub next_is : next_release w ≡ option_map (as_releasable p) (first_of (releasable_numbers p))
+  unfolding next_release window_of let_go_numbers opened_numbers least greatest parts_of
+  next_is = ap next_release stands.value ∙ by_entries p.entries stands.in_order
+    where
+      none_yet : (over : Bool) → cond over no_number no_number ≡ no_number
+      none_yet true = refl
+      none_yet false = refl
+
+      by_entries : (es : List Numbered) → past_let_go (record p { entries = es }) ≡ p.released ++ releasable_numbers (record p { entries = es })
+          → next_release (window_of (record p { entries = es })) ≡ option_map (as_releasable (record p { entries = es })) (first_of (releasable_numbers (record p { entries = es })))
+      by_entries [] in_order = ap (λ (l : List ℕ). option_map (as_releasable (record p { entries = [] })) (first_of l)) (sym (ap (drop (length p.released)) (none_yet p.is_ended) ∙ drop_none (length p.released)))
+      by_entries (e ∷ es) in_order = next_some (record p { entries = e ∷ es }) in_order refl
+
+  -- ---- a release
+
+  module _ (n : ℕ) (next : first_of (releasable_numbers p) ≡ Some n) where
+    next_passes : (is_opened p.entries n ≡ true) × (released_up_to (last_or None p.released) n ≡ false)
+    next_passes =
+        let passes = first_passes (λ k. (is_opened p.entries k && not (released_up_to (last_or None p.released) k)) && is_let_go_by p k) 0 (past p.entries + 0) n
+        (sym (ap first_of (releasable_over p stands.in_order)) ∙ next) in
+        let both = and_parts (is_opened p.entries n) (not (released_up_to (last_or None p.released) n)) (and_parts (is_opened p.entries n && not (released_up_to (last_or None p.released) n)) (is_let_go_by p n) passes).0 in
+        (both.0, not-true (released_up_to (last_or None p.released) n) both.1)
+
+    pub releasable_opened : is_opened p.entries n ≡ true
+    releasable_opened = next_passes.0
+
+    -- it is behind all that were released
+    pub next_is_greater : (m : ℕ) → released_up_to (last_or None p.released) m ≡ true → m < n
+    next_is_greater m = by_last (last_or None p.released) next_passes.1
+      where
+        by_last : (o : Option ℕ) → released_up_to o n ≡ false → released_up_to o m ≡ true → m < n
+        by_last None behind gone = absurd (false≢true gone)
+        by_last (Some last) behind gone = omega (arith, leb-true m last gone, leb-false n last behind)
+
+    split : past_let_go p ≡ (p.released ++ n ∷ []) ++ (first_and_rest (releasable_numbers p) n next).0
+    split =
+        let rest = first_and_rest (releasable_numbers p) n next in
+        stands.in_order
+        ∙ ap (λ (l : List ℕ). p.released ++ l) rest.1
+        ∙ sym (append_assoc p.released (n ∷ []) rest.0)
+
+    pub releases_stands : StandsForPast (releases w n) (past_releases p n)
+    releases_stands = record {
+      value = ap (λ (v : Window). releases v n) stands.value ∙ releases_is n p next_passes.1;
+      in_order = begins_with (past_let_go p) (p.released ++ n ∷ []) (first_and_rest (releasable_numbers p) n next).0 split;
+    }
+
+    -- the others are still to be released
+    pub releasable_next : releasable_numbers p ≡ n ∷ releasable_numbers (past_releases p n)
+    releasable_next =
+        let rest = first_and_rest (releasable_numbers p) n next in
+        rest.1 ∙ ap (λ (l : List ℕ). n ∷ l) (sym (rest_of (past_let_go p) (p.released ++ n ∷ []) rest.0 split))
+
+    -- its book is there
+    pub book_of_next : book_at w.books n ≡ Some (book_of p.sequence (parts_of n p.entries))
+    book_of_next =
+        ap (λ (v : Window). book_at v.books n) stands.value
+        ∙ book_of_window p n
+        ∙ cond-true (needed_by p.entries (gone_in p) n) (Some (books_by p.sequence p.entries n)) None
+        (and_from (is_opened p.entries n) (not (gone_in p n)) next_passes.0 (not_from_false (gone_in p n) (and_low (p.is_ended || is_closed p.size p.entries n) (released_up_to (last_or None p.released) n) next_passes.1)))
+      where
+        and_low : (a b : Bool) → b ≡ false → (a && b) ≡ false
+        and_low true b low = low
+        and_low false b low = refl
+
+  -- ---- the end
+
+  pub finishes_stands : StandsForPast (finishes w) (past_finishes p)
+  finishes_stands = record {
+    value = ap finishes stands.value ∙ finishes_is p;
+    in_order = by_end p.is_ended refl;
+  }
+    where
+      by_end : (over : Bool) → p.is_ended ≡ over → past_let_go (past_finishes p) ≡ p.released ++ releasable_numbers (past_finishes p)
+      by_end true is = begins_with (opened_numbers p.entries) p.released (releasable_numbers p) (sym (cond-true p.is_ended (opened_numbers p.entries) (let_go_numbers p.size p.sequence p.entries) is) ∙ stands.in_order)
+      by_end false is =
+          let left = last_releases p.size p.sequence p.entries in
+          begins_with (opened_numbers p.entries) p.released (releasable_numbers p ++ left.0)
+          (left.1 ∙ ap (λ (l : List ℕ). l ++ left.0) (sym (let_go_running p is) ∙ stands.in_order) ∙ append_assoc p.released (releasable_numbers p) left.0)
+
+  -- ---- its books
+
+  pub book_is : (n : ℕ) → book_at w.books n ≡ cond (needed_by p.entries (gone_in p) n) (Some (book_of p.sequence (parts_of n p.entries))) None
+  book_is n = ap (λ (v : Window). book_at v.books n) stands.value ∙ book_of_window p n
+
+pub late_leaves : (w : Window) (f : Fragment) → late_in w (number_by w f.number) ≡ true → window_enters w f ≡ w
+unfolding window_enters
+late_leaves w f late = cond-true (late_in w (number_by w f.number)) w (rises_to (opens_picture w (number_by w f.number) f.part) (number_by w f.number)) late
