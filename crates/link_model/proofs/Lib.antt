@@ -26,3 +26,4 @@ pub mod Following
 pub mod SessionOutcomes
 pub mod SessionOutput
 pub mod Rounds
+pub mod MachineRows

@@ -1,6 +1,8 @@
 -- The rounds of a place of the claim board, over lists of steps.
 use Rattle.std.specs.Prelude.{◌≡◌, ℕ, ◌+◌, ◌<◌, List, [], ◌∷◌, length, map, slice_index, slice_set, ◌==◌}
 use Rattle.std.specs.List.{filter}
+use Rattle.link_model.specs.declared.place_state.PlaceState.{PlaceState}
+use Rattle.link_model.specs.declared.place_state.PlaceState.TheVariants.{Empty, Waiting, Held, Done}
 use Rattle.link_model.specs.Board.{empty_word, waiting_word, held_word, done_word}
 
 -- the steps that change a word
@@ -34,19 +36,13 @@ AreSteps words (e ∷ es) = (new : ℕ) × (e.place < length words)
 abbrev pub steps_at : ℕ → List StepAt → List BoardStep
 steps_at place steps = map (λ e. e.step) (filter (λ e. e.place == place) steps)
 
-pub data Phase : Type 0 where
-  Idle : Phase
-  Offered : Phase
-  Claimed : Phase
-  Answered : Phase
-
--- Rounds are put, claim, complete, take, or put, withdraw; the last one may be unfinished. So one seat at most claims in
--- a round.
-abbrev pub AreRounds : Phase → List BoardStep → Type 0
-AreRounds phase [] = Unit {0}
-AreRounds Idle (PutStep ∷ steps) = AreRounds Offered steps
-AreRounds Offered (ClaimStep seat ∷ steps) = AreRounds Claimed steps
-AreRounds Offered (WithdrawStep ∷ steps) = AreRounds Idle steps
-AreRounds Claimed (CompleteStep ∷ steps) = AreRounds Answered steps
-AreRounds Answered (TakeStep ∷ steps) = AreRounds Idle steps
+-- Rounds are put, claim, complete, take, or put, withdraw; the last one may be unfinished. So one
+-- seat at most claims in a round.
+abbrev pub AreRounds : PlaceState → List BoardStep → Type 0
+AreRounds state [] = Unit {0}
+AreRounds Empty (PutStep ∷ steps) = AreRounds Waiting steps
+AreRounds Waiting (ClaimStep seat ∷ steps) = AreRounds Held steps
+AreRounds Waiting (WithdrawStep ∷ steps) = AreRounds Empty steps
+AreRounds Held (CompleteStep ∷ steps) = AreRounds Done steps
+AreRounds Done (TakeStep ∷ steps) = AreRounds Empty steps
 AreRounds _ (step ∷ steps) = ⊥
