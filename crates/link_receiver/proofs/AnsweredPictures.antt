@@ -150,6 +150,12 @@ module _ (decoded : List SliceAnswer) (n : ℕ) where
 
 -- ---- a picture that keeps something
 
+pub no_own_planes : (s : Sequence) (parts : List Part) → own s parts ≡ None
+    → picture_planes s parts ≡ None
+unfolding whole_picture
+no_own_planes s parts none =
+    ap (λ (o : Option Own). option_and_then (decoded_planes s) (option_and_then whole_of o)) none
+
 module _ (s : Sequence) (parts : List Part) (kept : Own) (is : own s parts ≡ Some kept) where
   abbrev count : ℕ
   count = slice_count kept.plan.parameters
@@ -165,7 +171,7 @@ module _ (s : Sequence) (parts : List Part) (kept : Own) (is : own s parts ≡ S
   alone bytes len e =
       whole_slice kept.plan.parameters.prefix kept.plan.parameters.scaler bytes len e
 
-  incomplete_planes : has_all_slices kept ≡ false → picture_planes s parts ≡ None
+  pub incomplete_planes : has_all_slices kept ≡ false → picture_planes s parts ≡ None
   unfolding whole_picture
   incomplete_planes misses =
       ap (λ (o : Option Own). option_and_then (decoded_planes s) (option_and_then whole_of o)) is

@@ -3,3 +3,9 @@ pub mod SessionPictures
 pub mod JudgedOutcomes
 pub mod AnsweredPictures
 pub mod ReleasedNumbers
+pub mod KeptAnswers
+pub mod WaitingFields
+pub mod Working
+pub mod Redone
+pub mod Releases
+pub mod ReleaseRuns

@@ -82,27 +82,46 @@ last_of k bound (m ∷ ns) more less rises =
 -- some aren't greater than the last of them
 lower : (n k bound : ℕ) (ns more : List ℕ) → k < bound → AreRising bound (ns ++ more)
     → is_among (k ∷ ns) n ≡ true → released_up_to (last_or (Some k) ns) n ≡ true
-lower n k bound ns more less rises there = elim (cases_eq k n) [
-  | inl same ↦ (let last = last_of k bound ns more less rises in
-      ap (λ (o : Option ℕ). released_up_to o n) last.1
-      ∙ le-leb n last.0 (omega (arith, same, last.2)))
-  | inr other ↦ by_rest ns rises
-      (sym (ap (λ (b : Bool). b || is_among ns n) (ne_eqb k n other)) ∙ there)
-      (λ m ns rises there. lower n m (m + 1) ns more (omega arith) rises there)
+lower n k bound [] more less rises there = elim (cases_eq k n) [
+  | inl same ↦ le-leb n k (omega (arith, same))
+  | inr other ↦ absurd (false≢true
+      (sym (ap (λ (b : Bool). b || false) (ne_eqb k n other)) ∙ there))
 ]
-  where
-    by_rest : (ns : List ℕ) → AreRising bound (ns ++ more) → is_among ns n ≡ true
-        → ((m : ℕ) (ns : List ℕ) → AreRising (m + 1) (ns ++ more) → is_among (m ∷ ns) n ≡ true
-        → released_up_to (last_or (Some m) ns) n ≡ true)
-        → released_up_to (last_or (Some k) ns) n ≡ true
-    by_rest [] rises there later = absurd (false≢true there)
-    by_rest (m ∷ ns) rises there later = later m ns rises.1 there
+lower n k bound (m ∷ ns) more less rises there = elim (cases_eq k n) [
+  | inl same ↦ (let last = last_of m (m + 1) ns more (omega arith) rises.1 in
+      ap (λ (o : Option ℕ). released_up_to o n) last.1
+      ∙ le-leb n last.0 (omega (arith, same, last.2, less, rises.0)))
+  | inr other ↦ lower n m (m + 1) ns more (omega arith) rises.1
+      (sym (ap (λ (b : Bool). b || is_among (m ∷ ns) n) (ne_eqb k n other)) ∙ there)
+]
 
 front_is_lower : (n bound : ℕ) (front more : List ℕ) → AreRising bound (front ++ more)
     → is_among front n ≡ true → released_up_to (last_or None front) n ≡ true
 front_is_lower n bound [] more rises there = absurd (false≢true there)
 front_is_lower n bound (k ∷ ns) more rises there =
     lower n k (k + 1) ns more (omega arith) rises.1 there
+
+-- the number just before the next one is the last of some, if it is one of them
+pub just_before : (m bound : ℕ) (l more : List ℕ) → AreRising bound (l ++ (m + 1) ∷ more)
+    → is_among l m ≡ true → (front : List ℕ) × (l ≡ front ++ m ∷ [])
+just_before m bound [] more rises there = absurd (false≢true there)
+just_before m bound (k ∷ []) more rises there = elim (cases_eq k m) [
+  | inl same ↦ ([], ap (λ j. j ∷ []) same)
+  | inr other ↦ absurd (false≢true (sym (ap (λ (b : Bool). b || false) (ne_eqb k m other)) ∙ there))
+]
+just_before m bound (k ∷ j ∷ l) more rises there = elim (cases_eq k m) [
+  | inl same ↦ absurd (too_low rises.1 same)
+  | inr other ↦ (let rest = just_before m (k + 1) (j ∷ l) more rises.1
+      (sym (ap (λ (b : Bool). b || is_among (j ∷ l) m) (ne_eqb k m other)) ∙ there) in
+      (k ∷ rest.0, ap (λ (l : List ℕ). k ∷ l) rest.1))
+]
+  where
+    above : (b : ℕ) (l : List ℕ) → AreRising b (l ++ (m + 1) ∷ more) → b ≤ m + 1
+    above b [] rises = rises.0
+    above b (i ∷ l) rises = omega (arith, rises.0, above (i + 1) l rises.1)
+
+    too_low : AreRising (k + 1) ((j ∷ l) ++ (m + 1) ∷ more) → k ≡ m → ⊥
+    too_low rises same = omega (arith, rises.0, above (j + 1) l rises.1, same)
 
 -- ---- of a window's past
 
@@ -147,6 +166,11 @@ module _ (p : WindowPast) (in_order : past_let_go p ≡ p.released ++ releasable
   or_right : (a b : Bool) → b ≡ true → (a || b) ≡ true
   or_right true b e = refl
   or_right false b e = e
+
+  pub released_gone : (n : ℕ) → is_among p.released n ≡ true → is_let_go_by p n ≡ true
+  released_gone n there = (and_parts (is_opened p.entries n) (is_let_go_by p n)
+      (sym (gone_among n) ∙ or_left (is_among p.released n) (is_among (releasable_numbers p) n)
+      there)).1
 
   pub released_opened : (n : ℕ) → is_among p.released n ≡ true → is_opened p.entries n ≡ true
   released_opened n there = (and_parts (is_opened p.entries n) (is_let_go_by p n)
@@ -206,6 +230,14 @@ module _ (p : WindowPast) (in_order : past_let_go p ≡ p.released ++ releasable
           ∙ gone_among n
           ∙ and_from (is_opened p.entries n) (is_let_go_by p n) opened (last_gone n low)))
           low)
+
+  -- a picture that is opened before one that may be released was released, or may be
+  pub gone_before : (n m : ℕ) → is_among (releasable_numbers p) n ≡ true → m ≤ n
+      → is_opened p.entries m ≡ true
+      → (is_among p.released m || is_among (releasable_numbers p) m) ≡ true
+  gone_before n m there low opened =
+      gone_among m ∙ and_from (is_opened p.entries m) (is_let_go_by p m) opened
+      (down m n low (releasable_gone n there).1)
 
   pub releasable_unreleased : (n : ℕ) → is_among (releasable_numbers p) n ≡ true
       → is_among p.released n ≡ false

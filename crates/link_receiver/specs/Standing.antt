@@ -11,7 +11,7 @@ use Rattle.link_model.specs.Judgement.{outcomes_in, outcome_counts}
 use Rattle.link_model.specs.Kept.{Own}
 use Rattle.link_model.specs.Numbers.{Numbered}
 use Rattle.link_model.specs.Output.{planes_at, output_so_far, full_output}
-use Rattle.link_model.specs.Places.{Job, decoding}
+use Rattle.link_model.specs.Places.{Job, Answered, decoding}
 use Rattle.link_model.specs.Session.{HeardSession, sessions_of}
 use Rattle.link_model.specs.Windows.{WindowPast, session_past, past_let_go, window_of}
 use Rattle.link_model.specs.declared.tally.Tally.{Tally}
@@ -103,6 +103,13 @@ pub record StandsForHeard (r : Reception) (size : ℕ) (datagrams : List (List �
   pub counted : r.counts
       ≡ counts_of_sessions size over (sessions_of datagrams)
       (outcome_counts (outcomes_in size datagrams))
+
+-- ---- what places give back
+
+-- each is the decoding of its own job
+abbrev pub AreDecodings : List Answered → Type 0
+AreDecodings [] = Unit {0}
+AreDecodings (done ∷ rest) = (done.answer ≡ decoding done.job) × AreDecodings rest
 
 -- ---- a feeder
 
