@@ -9,3 +9,10 @@ pub mod Working
 pub mod Redone
 pub mod Releases
 pub mod ReleaseRuns
+pub mod Tallies
+pub mod LoneFields
+pub mod Starting
+pub mod Resting
+pub mod Entered
+pub mod Idle
+pub mod Following

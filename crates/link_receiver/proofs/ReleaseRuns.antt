@@ -94,6 +94,8 @@ module _ (size : ℕ) (hs : List HeardSession) (t : Tally) where
     pub session : standing.session ≡ st.session
     pub has_ended : standing.has_ended ≡ st.has_ended
     pub written : g.written ≡ f.written ++ bytes_up_to k r
+    pub heard : g.heard ≡ f.heard
+    pub over : g.has_ended ≡ f.has_ended
 
   nothing_next : (r : Reception) (f : Feeder) (p : WindowPast) (st : StandingSession)
       → IsWorking r size f hs p st t → releasable_numbers p ≡ [] → next_picture r ≡ None
@@ -122,6 +124,8 @@ module _ (size : ℕ) (hs : List HeardSession) (t : Tally) where
     written = sym (append-nil f.written)
         ∙ ap (λ (l : List ℕ). f.written ++ l)
         (sym (stops_writing k r (nothing_next r f p st works are)));
+    heard = refl;
+    over = refl;
   }
   run (n ∷ ns) zero r f p st works are enough first same = absurd (omega (arith, enough))
   run (n ∷ ns) (suc k) r f p st works are enough first same =
@@ -175,6 +179,8 @@ module _ (size : ℕ) (hs : List HeardSession) (t : Tally) where
             (sym (receiver_then_is r size f hs p st t works n next))
             ∙ ap (λ (l : List ℕ). f.written ++ l) (sym (step_bytes k r (as_releasable p n)
             (next_picture_is r size f hs p st t works n next)));
+        heard = ap (λ (g : Feeder). g.heard) feeder ∙ later.heard;
+        over = ap (λ (g : Feeder). g.has_ended) feeder ∙ later.over;
       }
     where
       or_later : (b : Bool) {c : Bool} → c ≡ true → (b || c) ≡ true

@@ -47,8 +47,8 @@ use Rattle.link_receiver.specs.Releasing.{field_before, field_behind, fields_alo
 use Rattle.link_receiver.specs.Releasing.{counts_released, forgets_picture, releases_from}
 use Rattle.link_receiver.specs.Releasing.{releases_picture_of, bytes_from, released_bytes}
 use Rattle.link_receiver.specs.Releasing.{next_picture}
-use Rattle.link_receiver.specs.Standing.{AreOwnAnswers, HasRoom, answered_planes, with_released}
-use Rattle.link_receiver.specs.Standing.{Fields, no_fields, next_field, fields_of, past_fields}
+use Rattle.link_receiver.specs.Standing.{AreOwnAnswers, HasSlots, answered_planes, with_released}
+use Rattle.link_receiver.specs.Standing.{Fields, no_fields, next_field, fields_behind, past_fields}
 use Rattle.link_receiver.specs.Standing.{past_counts}
 use Rattle.link_receiver.proofs.AnsweredPictures.{AreOfKept, incomplete_planes, no_own_planes}
 use Rattle.link_receiver.proofs.AnsweredPictures.{answered_planes_hold, answered_planes_ready}
@@ -260,7 +260,7 @@ module _ (r : Reception) (size : ℕ) (f : Feeder) (hs : List HeardSession) (p :
       (released_rise p works.window.in_order)) in
       let last = just_before m 0 p.released rest.0 rises (was_released was rest.0 rest.1) in
       works.waiting
-      ∙ ap (λ (l : List ℕ). (fields_of s es l).waiting) last.1
+      ∙ ap (λ (l : List ℕ). (fields_behind s es l).waiting) last.1
       ∙ ap (λ (x : Fields). x.waiting) (fold_push (next_field s es) no_fields last.0 m)
       ∙ ap (λ (o : Option Planes). field_behind s m o) is
       ∙ ap (λ (b : Bool). cond (b && m % 2 == 0) (Some (as_first m planes)) None) fields
@@ -465,7 +465,7 @@ module _ (r : Reception) (size : ℕ) (f : Feeder) (hs : List HeardSession) (p :
       omega (arith, count_push (is_unsound s es) p.released n) in
       let unpaired : t.unpaired + (past_fields p).alone
       + fields_alone s (past_fields p).waiting n (planes_at s es n)
-      ≡ t.unpaired + (fields_of s es (p.released ++ n ∷ [])).alone = omega (arith, fields) in
+      ≡ t.unpaired + (fields_behind s es (p.released ++ n ∷ [])).alone = omega (arith, fields) in
       let frames : t.frames + count_by (has_frame s es) p.released
       + one_if (is_some (released_frame s (past_fields p).waiting n (planes_at s es n)))
       ≡ t.frames + count_by (has_frame s es) (p.released ++ n ∷ []) =
@@ -510,11 +510,11 @@ module _ (r : Reception) (size : ℕ) (f : Feeder) (hs : List HeardSession) (p :
       ∙ works.answers m i parts.0
       ∙ sym (redone_others size heard n missing f.decoded m other i)
 
-  room_then : (m : ℕ) → HasRoom size heard m (answers_at (answers_without r.answers n) m)
+  room_then : (m : ℕ) → HasSlots size heard m (answers_at (answers_without r.answers n) m)
   room_then m = elim (cases_eq n m) [
-    | inl same ↦ subst (HasRoom size heard m) (sym (ap (answers_at (answers_without r.answers n))
+    | inl same ↦ subst (HasSlots size heard m) (sym (ap (answers_at (answers_without r.answers n))
         (sym same) ∙ without_own n r.answers)) tt
-    | inr other ↦ subst (HasRoom size heard m) (sym (without_others n m other r.answers))
+    | inr other ↦ subst (HasSlots size heard m) (sym (without_others n m other r.answers))
         (works.room m)
   ]
 

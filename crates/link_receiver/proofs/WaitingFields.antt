@@ -12,7 +12,7 @@ use Rattle.vc_types.specs.Planes.{Planes}
 use Rattle.vc_types.specs.SequenceHeader.{Sequence}
 use Rattle.link_receiver.specs.Receptions.{FirstField}
 use Rattle.link_receiver.specs.Releasing.{as_first, field_behind}
-use Rattle.link_receiver.specs.Standing.{Fields, no_fields, next_field, fields_of}
+use Rattle.link_receiver.specs.Standing.{Fields, no_fields, next_field, fields_behind}
 
 pub record IsFirst (s : Sequence) (n : ℕ) (planes : Option Planes) (w : FirstField) : Type 0 where
   pub fields : s.fields ≡ true
@@ -60,7 +60,7 @@ module _ (s : Sequence) (es : List Numbered) (w : FirstField) where
       or_later true e = refl
       or_later false e = e
 
-  pub waiting_is : (released : List ℕ) → (fields_of s es released).waiting ≡ Some w
+  pub waiting_is : (released : List ℕ) → (fields_behind s es released).waiting ≡ Some w
       → IsOneOf released
   waiting_is released is =
       waits_from released released no_fields (λ none. absurd (none-some w none))

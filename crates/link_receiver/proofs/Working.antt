@@ -43,7 +43,7 @@ use Rattle.link_receiver.specs.Receptions.{StandingSession, Reception, FirstFiel
 use Rattle.link_receiver.specs.Receptions.{SliceOut}
 use Rattle.link_receiver.specs.Receptions.{answers_at, kept_answer, keeps_answer, no_answers}
 use Rattle.link_receiver.specs.Standing.{Fields, past_fields, past_counts, AreOwnAnswers}
-use Rattle.link_receiver.specs.Standing.{IsOwnAnswer, HasRoom, answered_planes, AreDecodings}
+use Rattle.link_receiver.specs.Standing.{IsOwnAnswer, HasSlots, answered_planes, AreDecodings}
 use Rattle.link_receiver.proofs.KeptAnswers.{slots_before, slots_behind, keeps_own, keeps_others}
 use Rattle.link_receiver.proofs.KeptAnswers.{keeps_found, room_of_none, room_stays}
 use Rattle.link_receiver.proofs.ReleasedNumbers.{released_is}
@@ -76,7 +76,7 @@ pub record IsWorking (r : Reception) (size : ℕ) (f : Feeder) (hs : List HeardS
   pub own : AreOwnAnswers size (sessions_of f.heard) f.decoded
   pub answers : (n i : ℕ) → has_released f n ≡ false
       → kept_answer r.answers n i ≡ answer_in f.decoded n i
-  pub room : (n : ℕ) → HasRoom size (sessions_of f.heard) n (answers_at r.answers n)
+  pub room : (n : ℕ) → HasSlots size (sessions_of f.heard) n (answers_at r.answers n)
   pub first_field : (w : FirstField) → r.field ≡ Some w
       → answered_planes size (sessions_of f.heard) f.decoded w.number ≡ Some w.planes
   pub waiting : r.field ≡ (past_fields p).waiting
@@ -356,7 +356,7 @@ module _ (r : Reception) (size : ℕ) (f : Feeder) (hs : List HeardSession) (p :
         ≡ slice_count kept_there.0.plan.parameters
     slots_count = by_slots (answers_at r.answers n) (works.room n)
       where
-        by_slots : (o : Option (List (Option Decoding))) → HasRoom size (sessions_of f.heard) n o
+        by_slots : (o : Option (List (Option Decoding))) → HasSlots size (sessions_of f.heard) n o
             → length (unwrap_or o (no_answers (slice_count done.job.plan)))
             ≡ slice_count kept_there.0.plan.parameters
         by_slots None room = room_of_none (slice_count done.job.plan)
@@ -369,15 +369,15 @@ module _ (r : Reception) (size : ℕ) (f : Feeder) (hs : List HeardSession) (p :
     room_for_it : i < length (slots_before done r.answers)
     room_for_it = omega (arith, slots_count, kept_there.3)
 
-    room_behind : (m : ℕ) → HasRoom size (sessions_of f.heard) m
+    room_behind : (m : ℕ) → HasSlots size (sessions_of f.heard) m
         (answers_at (keeps_answer r.answers done) m)
     room_behind m = elim (cases_eq n m) [
-      | inl same ↦ subst (λ k. HasRoom size (sessions_of f.heard) k
+      | inl same ↦ subst (λ k. HasSlots size (sessions_of f.heard) k
           (answers_at (keeps_answer r.answers done) k)) same
-          (subst (HasRoom size (sessions_of f.heard) n) (sym (keeps_own done r.answers))
+          (subst (HasSlots size (sessions_of f.heard) n) (sym (keeps_own done r.answers))
           (kept_there.0, kept_there.1,
           room_stays (slots_before done r.answers) i done.answer ∙ slots_count))
-      | inr other ↦ subst (HasRoom size (sessions_of f.heard) m)
+      | inr other ↦ subst (HasSlots size (sessions_of f.heard) m)
           (sym (keeps_others done m other r.answers)) (works.room m)
     ]
 

@@ -61,20 +61,20 @@ next_field s es fields n = record {
 }
 
 -- behind pictures that were released, in this order
-abbrev pub fields_of : Sequence → List Numbered → List ℕ → Fields
-fields_of s es released = fold (next_field s es) no_fields released
+abbrev pub fields_behind : Sequence → List Numbered → List ℕ → Fields
+fields_behind s es released = fold (next_field s es) no_fields released
 
 -- with what became of the pictures of a session that were released
 unfoldable pub with_released : Sequence → List Numbered → List ℕ → Tally → Tally
 with_released s es released t = record t {
   incomplete = t.incomplete + count_by (is_incomplete s es) released;
   unsound = t.unsound + count_by (is_unsound s es) released;
-  unpaired = t.unpaired + (fields_of s es released).alone;
+  unpaired = t.unpaired + (fields_behind s es released).alone;
   frames = t.frames + count_by (has_frame s es) released;
 }
 
 abbrev pub past_fields : WindowPast → Fields
-past_fields p = fields_of p.sequence p.entries p.released
+past_fields p = fields_behind p.sequence p.entries p.released
 
 abbrev pub past_counts : WindowPast → Tally → Tally
 past_counts p t = with_released p.sequence p.entries p.released t
@@ -123,9 +123,9 @@ AreOwnAnswers size hs [] = Unit {0}
 AreOwnAnswers size hs (a ∷ rest) = IsOwnAnswer size hs a × AreOwnAnswers size hs rest
 
 -- there is room for each slice of the picture
-abbrev pub HasRoom : ℕ → List HeardSession → ℕ → Option (List (Option Decoding)) → Type 0
-HasRoom size hs n None = Unit {0}
-HasRoom size hs n (Some slices) =
+abbrev pub HasSlots : ℕ → List HeardSession → ℕ → Option (List (Option Decoding)) → Type 0
+HasSlots size hs n None = Unit {0}
+HasSlots size hs n (Some slices) =
     (kept : Own) × (picture_keeps size hs n ≡ Some kept)
     × (length slices ≡ slice_count kept.plan.parameters)
 
@@ -148,6 +148,6 @@ pub record StandsFor (r : Reception) (size : ℕ) (f : Feeder) : Type 0 where
   pub own : AreOwnAnswers size (sessions_of f.heard) f.decoded
   pub answers : (n i : ℕ) → has_released f n ≡ false
       → kept_answer r.answers n i ≡ answer_in f.decoded n i
-  pub room : (n : ℕ) → HasRoom size (sessions_of f.heard) n (answers_at r.answers n)
+  pub room : (n : ℕ) → HasSlots size (sessions_of f.heard) n (answers_at r.answers n)
   pub first_field : (w : FirstField) → r.field ≡ Some w
       → answered_planes size (sessions_of f.heard) f.decoded w.number ≡ Some w.planes

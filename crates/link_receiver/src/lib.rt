@@ -1,9 +1,11 @@
-//! The link's receiver: datagrams in whatever order they come, and the frames of what they carry.
+//! The link's receiver: what it has, what it stands for, and that it goes on standing for it.
 #![tactic(auto)]
 
 mod laws;
 
-pub use laws::a_new_receiver_stands_for_nothing;
+pub use laws::{
+    a_new_receiver_stands_for_nothing, receivers_follow_datagrams, receivers_follow_the_end,
+};
 
 #[cfg(test)]
 mod tests;
