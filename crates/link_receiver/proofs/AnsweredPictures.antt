@@ -125,7 +125,8 @@ module _ (decoded : List SliceAnswer) (n : ℕ) where
       → (k : ℕ) → a ≤ k → k < a + m → is_some (answer_in decoded n k) ≡ true
   all_there zero a l is k from to = absurd (omega arith)
   all_there (suc m) a l is k from to =
-      by_first (answer_in decoded n a) refl (sound_answers decoded n (range_with_len (a + 1) m)) refl
+      by_first (answer_in decoded n a) refl
+      (sound_answers decoded n (range_with_len (a + 1) m)) refl
       is (λ rest at less. all_there m (a + 1) rest at k (omega arith) (omega arith))
     where
       zipped : (s : Coefficients) (o : Option (List Coefficients)) → with_first (Some s) o ≡ Some l
@@ -290,32 +291,32 @@ module _ (s : Sequence) (parts : List Part) (kept : Own) (is : own s parts ≡ S
 
   module _ (n : ℕ) (answers : List PictureAnswers)
       (own_answers : (k : ℕ) (d : Decoding) → kept_answer answers n k ≡ Some d → d ≡ own_decoding k)
-      where
-    one_decoding : (k : ℕ) → k < count
-        → slice_decoding answers n (gathered_of kept) k ≡ own_decoding k
-    one_decoding k below = by_answer (kept_answer answers n k) refl
-      where
-        by_answer : (o : Option Decoding) → kept_answer answers n k ≡ o
-            → unwrap_or o (slice_coefficients kept.plan.parameters k
-            (unwrap_or (slot_at (gathered_of kept).slots k) [])) ≡ own_decoding k
-        by_answer None at =
-            let here : 0 + k ≡ k = omega arith in
-            ap (λ (b : Option (List ℕ)). slice_coefficients kept.plan.parameters k (unwrap_or b []))
-            (slot_inside (own_slice kept) 0 count k below ∙ ap (own_slice kept) here)
-        by_answer (Some d) at = own_answers k d at
+    where
+      one_decoding : (k : ℕ) → k < count
+          → slice_decoding answers n (gathered_of kept) k ≡ own_decoding k
+      one_decoding k below = by_answer (kept_answer answers n k) refl
+        where
+          by_answer : (o : Option Decoding) → kept_answer answers n k ≡ o
+              → unwrap_or o (slice_coefficients kept.plan.parameters k
+              (unwrap_or (slot_at (gathered_of kept).slots k) [])) ≡ own_decoding k
+          by_answer None at =
+              let here : 0 + k ≡ k = omega arith in
+              ap (λ (b : Option (List ℕ)). slice_coefficients kept.plan.parameters k (unwrap_or b []))
+              (slot_inside (own_slice kept) 0 count k below ∙ ap (own_slice kept) here)
+          by_answer (Some d) at = own_answers k d at
 
-    gathered_planes_are : gathered_planes answers n (gathered_of kept) ≡ own_planes
-    gathered_planes_are =
-        ap (λ c. option_map (planes_of kept.plan.parameters)
-        (sound_slices (slice_decoding answers n (gathered_of kept)) (range_with_len 0 c)))
-        (length-map-range_with_len (own_slice kept) 0 count)
-        ∙ ap (option_map (planes_of kept.plan.parameters))
-        (sound_same (slice_decoding answers n (gathered_of kept)) own_decoding count 0
-        (λ k from to. one_decoding k (omega arith)))
+      gathered_planes_are : gathered_planes answers n (gathered_of kept) ≡ own_planes
+      gathered_planes_are =
+          ap (λ c. option_map (planes_of kept.plan.parameters)
+          (sound_slices (slice_decoding answers n (gathered_of kept)) (range_with_len 0 c)))
+          (length-map-range_with_len (own_slice kept) 0 count)
+          ∙ ap (option_map (planes_of kept.plan.parameters))
+          (sound_same (slice_decoding answers n (gathered_of kept)) own_decoding count 0
+          (λ k from to. one_decoding k (omega arith)))
 
-    pub gathered_planes_hold : has_all_slices kept ≡ true
-        → gathered_planes answers n (gathered_of kept) ≡ picture_planes s parts
-    gathered_planes_hold complete = gathered_planes_are ∙ sym (complete_planes complete)
+      pub gathered_planes_hold : has_all_slices kept ≡ true
+          → gathered_planes answers n (gathered_of kept) ≡ picture_planes s parts
+      gathered_planes_hold complete = gathered_planes_are ∙ sym (complete_planes complete)
 
 -- the planes that a receiver makes of a picture are the picture's
 module _ (s : Sequence) (parts : List Part) (n : ℕ) (answers : List PictureAnswers) where

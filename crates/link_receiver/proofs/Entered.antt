@@ -24,8 +24,9 @@ use Rattle.link_receiver.specs.Receptions.{StandingSession, Reception}
 use Rattle.link_receiver.specs.Releasing.{releases_all, all_released_bytes, releases_up_to}
 use Rattle.link_receiver.specs.Releasing.{book_count}
 use Rattle.link_receiver.specs.Standing.{StandsFor, AreDecodings, all_released, last_past}
+use Rattle.link_receiver.specs.Standing.{out_without}
 use Rattle.link_receiver.proofs.Redone.{redone, redo_run}
-use Rattle.link_receiver.proofs.ReleaseRuns.{Ran, all_run, released_too}
+use Rattle.link_receiver.proofs.ReleaseRuns.{Ran, all_run, released_too, releasable_are}
 use Rattle.link_receiver.proofs.Resting.{rest_stands, next_stands, end_stands}
 use Rattle.link_receiver.proofs.Starting.{datagram_works, next_works, end_works, past_at_rest}
 use Rattle.link_receiver.proofs.Starting.{st_at_rest, past_now, past_over, h_now, sessions_now}
@@ -125,6 +126,7 @@ record Done (size : ℕ) (hs : List HeardSession) (t : Tally) (r : Reception) (f
       ≡ f.written ++ all_released_bytes r
   pub heard : (feeder_run size f (all_releasing size f)).heard ≡ f.heard
   pub over : (feeder_run size f (all_releasing size f)).has_ended ≡ f.has_ended
+  pub out : (releases_all r).out ≡ out_without (releasable size f) r.out
 
 all_done : (size : ℕ) (hs : List HeardSession) (t : Tally) (r : Reception) (f : Feeder)
     (st : StandingSession) (p : WindowPast) → IsWorking r size f hs p st t
@@ -141,6 +143,8 @@ all_done size hs t r f st p works =
       written = ran.written;
       heard = ran.heard;
       over = ran.over;
+      out = ran.out ∙ ap (λ (ns : List ℕ). out_without ns r.out)
+          (sym (releasable_are size hs t r f p st works));
     }
 
 -- ---- with a session that stands
@@ -148,130 +152,151 @@ all_done size hs t r f st p works =
 module _ (r : Reception) (size : ℕ) (small : size ≤ 8) (f : Feeder) (stands : StandsFor r size f)
     (runs : f.has_ended ≡ false) (h : HeardSession) (hs : List HeardSession)
     (at : sessions_of f.heard ≡ h ∷ hs) (xs : List Exchange) (right : AreDecodings (dones_in xs))
-    where
-  abbrev dones : List Answered
-  dones = dones_in xs
+  where
+    abbrev dones : List Answered
+    dones = dones_in xs
 
-  module _ (d : List ℕ) where
-    abbrev taken : Feeder
-    taken = taken_back size (hears_datagram f d) dones
+    module _ (d : List ℕ) where
+      abbrev taken : Feeder
+      taken = taken_back size (hears_datagram f d) dones
 
-    abbrev tally : Tally
-    tally = tally_behind size hs (f.heard ++ d ∷ [])
+      abbrev tally : Tally
+      tally = tally_behind size hs (f.heard ++ d ∷ [])
 
-    taken_more : HasMoreAnswers (hears_datagram f d) taken
-    taken_more = more_answers size dones (hears_datagram f d)
+      taken_more : HasMoreAnswers (hears_datagram f d) taken
+      taken_more = more_answers size dones (hears_datagram f d)
 
-    -- it goes on
-    module _ (none : opens_behind h (begins d) ≡ None) where
-      done_now : Done size hs tally (before_releases r d xs) taken
-          (goes_on (st_at_rest r size small f stands runs h hs at) d)
-          (past_now r size small f stands runs h hs at d none)
-      done_now = all_done size hs tally (before_releases r d xs) taken
-          (goes_on (st_at_rest r size small f stands runs h hs at) d)
-          (past_now r size small f stands runs h hs at d none)
-          (all_working size hs (past_now r size small f stands runs h hs at d none)
-          (goes_on (st_at_rest r size small f stands runs h hs at) d) tally xs
-          (keeps_datagram r d) (hears_datagram f d)
-          (datagram_works r size small f stands runs h hs at d none) right)
+      -- it goes on
+      module _ (none : opens_behind h (begins d) ≡ None) where
+        done_now : Done size hs tally (before_releases r d xs) taken
+            (goes_on (st_at_rest r size small f stands runs h hs at) d)
+            (past_now r size small f stands runs h hs at d none)
+        done_now = all_done size hs tally (before_releases r d xs) taken
+            (goes_on (st_at_rest r size small f stands runs h hs at) d)
+            (past_now r size small f stands runs h hs at d none)
+            (all_working size hs (past_now r size small f stands runs h hs at d none)
+            (goes_on (st_at_rest r size small f stands runs h hs at) d) tally xs
+            (keeps_datagram r d) (hears_datagram f d)
+            (datagram_works r size small f stands runs h hs at d none) right)
 
-      heard_now : (next_feeder size f (Enter d) dones).heard ≡ f.heard ++ d ∷ []
-      unfolding next_feeder
-      heard_now = done_now.heard ∙ taken_more.heard
+        heard_now : (next_feeder size f (Enter d) dones).heard ≡ f.heard ++ d ∷ []
+        unfolding next_feeder
+        heard_now = done_now.heard ∙ taken_more.heard
 
-      pub on_stands : StandsFor (takes_datagram r d xs) size (next_feeder size f (Enter d) dones)
-      unfolding next_feeder takes_datagram
-      on_stands = subst (λ (o : Option Session). StandsFor
-          (opens_session o (releases_all (before_releases r d xs))) size
-          (feeder_run size taken (all_releasing size taken)))
-          (sym (opened_is r size small f stands runs h hs at d ∙ none))
-          (rest_stands (releases_all (before_releases r d xs)) size
-          (feeder_run size taken (all_releasing size taken))
-          (h_now r size small f stands runs h hs at d none) hs false done_now.standing tally
-          done_now.works done_now.session done_now.has_ended
-          (ap (tally_behind size hs) (sym heard_now))
-          (ap sessions_of heard_now ∙ sessions_now r size small f stands runs h hs at d none)
-          refl (done_now.over ∙ taken_more.ended ∙ runs))
+        pub on_stands : StandsFor (takes_datagram r d xs) size (next_feeder size f (Enter d) dones)
+        unfolding next_feeder takes_datagram
+        on_stands = subst (λ (o : Option Session). StandsFor
+            (opens_session o (releases_all (before_releases r d xs))) size
+            (feeder_run size taken (all_releasing size taken)))
+            (sym (opened_is r size small f stands runs h hs at d ∙ none))
+            (rest_stands (releases_all (before_releases r d xs)) size
+            (feeder_run size taken (all_releasing size taken))
+            (h_now r size small f stands runs h hs at d none) hs false done_now.standing tally
+            done_now.works done_now.session done_now.has_ended
+            (ap (tally_behind size hs) (sym heard_now))
+            (ap sessions_of heard_now ∙ sessions_now r size small f stands runs h hs at d none)
+            refl (done_now.over ∙ taken_more.ended ∙ runs))
 
-      pub on_writes : (next_feeder size f (Enter d) dones).written
-          ≡ f.written ++ datagram_bytes r d xs
-      unfolding next_feeder datagram_bytes
-      on_writes = done_now.written
-          ∙ ap (λ (l : List ℕ). l ++ all_released_bytes (before_releases r d xs))
-          taken_more.written
+        pub on_writes : (next_feeder size f (Enter d) dones).written
+            ≡ f.written ++ datagram_bytes r d xs
+        unfolding next_feeder datagram_bytes
+        on_writes = done_now.written
+            ∙ ap (λ (l : List ℕ). l ++ all_released_bytes (before_releases r d xs))
+            taken_more.written
 
-    -- or the next session opens
-    module _ (s : Session) (opens : opens_behind h (begins d) ≡ Some s) where
-      done_next : Done size hs tally (before_releases r d xs) taken
-          (is_over (st_at_rest r size small f stands runs h hs at))
-          (past_over r size small f stands runs h hs at d s opens)
-      done_next = all_done size hs tally (before_releases r d xs) taken
-          (is_over (st_at_rest r size small f stands runs h hs at))
-          (past_over r size small f stands runs h hs at d s opens)
-          (all_working size hs (past_over r size small f stands runs h hs at d s opens)
-          (is_over (st_at_rest r size small f stands runs h hs at)) tally xs
-          (keeps_datagram r d) (hears_datagram f d)
-          (next_works r size small f stands runs h hs at d s opens) right)
+        pub on_out : (takes_datagram r d xs).out
+            ≡ out_without (releasable size taken) (before_releases r d xs).out
+        unfolding takes_datagram
+        on_out = ap (λ (o : Option Session).
+            (opens_session o (releases_all (before_releases r d xs))).out)
+            (opened_is r size small f stands runs h hs at d ∙ none)
+            ∙ done_now.out
 
-      heard_next : (next_feeder size f (Enter d) dones).heard ≡ f.heard ++ d ∷ []
-      unfolding next_feeder
-      heard_next = done_next.heard ∙ taken_more.heard
+      -- or the next session opens
+      module _ (s : Session) (opens : opens_behind h (begins d) ≡ Some s) where
+        done_next : Done size hs tally (before_releases r d xs) taken
+            (is_over (st_at_rest r size small f stands runs h hs at))
+            (past_over r size small f stands runs h hs at d s opens)
+        done_next = all_done size hs tally (before_releases r d xs) taken
+            (is_over (st_at_rest r size small f stands runs h hs at))
+            (past_over r size small f stands runs h hs at d s opens)
+            (all_working size hs (past_over r size small f stands runs h hs at d s opens)
+            (is_over (st_at_rest r size small f stands runs h hs at)) tally xs
+            (keeps_datagram r d) (hears_datagram f d)
+            (next_works r size small f stands runs h hs at d s opens) right)
 
-      pub opens_stands : StandsFor (takes_datagram r d xs) size
-          (next_feeder size f (Enter d) dones)
-      unfolding next_feeder takes_datagram
-      opens_stands = subst (λ (o : Option Session). StandsFor
-          (opens_session o (releases_all (before_releases r d xs))) size
-          (feeder_run size taken (all_releasing size taken)))
-          (sym (opened_is r size small f stands runs h hs at d ∙ opens))
-          (next_stands (releases_all (before_releases r d xs)) size
-          (feeder_run size taken (all_releasing size taken)) h hs true done_next.standing tally
-          done_next.works done_next.session done_next.has_ended
-          (ap (tally_behind size hs) (sym heard_next)) refl s
-          (ap sessions_of heard_next
-          ∙ sessions_next r size small f stands runs h hs at d s opens)
-          (done_next.over ∙ taken_more.ended ∙ runs))
+        heard_next : (next_feeder size f (Enter d) dones).heard ≡ f.heard ++ d ∷ []
+        unfolding next_feeder
+        heard_next = done_next.heard ∙ taken_more.heard
 
-      pub opens_writes : (next_feeder size f (Enter d) dones).written
-          ≡ f.written ++ datagram_bytes r d xs
-      unfolding next_feeder datagram_bytes
-      opens_writes = done_next.written
-          ∙ ap (λ (l : List ℕ). l ++ all_released_bytes (before_releases r d xs))
-          taken_more.written
+        pub opens_stands : StandsFor (takes_datagram r d xs) size
+            (next_feeder size f (Enter d) dones)
+        unfolding next_feeder takes_datagram
+        opens_stands = subst (λ (o : Option Session). StandsFor
+            (opens_session o (releases_all (before_releases r d xs))) size
+            (feeder_run size taken (all_releasing size taken)))
+            (sym (opened_is r size small f stands runs h hs at d ∙ opens))
+            (next_stands (releases_all (before_releases r d xs)) size
+            (feeder_run size taken (all_releasing size taken)) h hs true done_next.standing tally
+            done_next.works done_next.session done_next.has_ended
+            (ap (tally_behind size hs) (sym heard_next)) refl s
+            (ap sessions_of heard_next
+            ∙ sessions_next r size small f stands runs h hs at d s opens)
+            (done_next.over ∙ taken_more.ended ∙ runs))
 
-  -- ---- the end of the input
+        pub opens_writes : (next_feeder size f (Enter d) dones).written
+            ≡ f.written ++ datagram_bytes r d xs
+        unfolding next_feeder datagram_bytes
+        opens_writes = done_next.written
+            ∙ ap (λ (l : List ℕ). l ++ all_released_bytes (before_releases r d xs))
+            taken_more.written
 
-  abbrev taken_end : Feeder
-  taken_end = taken_back size (hears_end f) dones
+        pub opens_out : (takes_datagram r d xs).out
+            ≡ out_without (releasable size taken) (before_releases r d xs).out
+        unfolding takes_datagram
+        opens_out = ap (λ (o : Option Session).
+            (opens_session o (releases_all (before_releases r d xs))).out)
+            (opened_is r size small f stands runs h hs at d ∙ opens)
+            ∙ done_next.out
 
-  end_more : HasMoreAnswers (hears_end f) taken_end
-  end_more = more_answers size dones (hears_end f)
+    -- ---- the end of the input
 
-  done_end : Done size hs (tally_behind size hs f.heard) (all_exchanged (ends_input r) xs)
-      taken_end (is_over (st_at_rest r size small f stands runs h hs at))
-      (record (past_at_rest r size small f stands runs h hs at) { is_ended = true })
-  done_end = all_done size hs (tally_behind size hs f.heard) (all_exchanged (ends_input r) xs)
-      taken_end (is_over (st_at_rest r size small f stands runs h hs at))
-      (record (past_at_rest r size small f stands runs h hs at) { is_ended = true })
-      (all_working size hs
-      (record (past_at_rest r size small f stands runs h hs at) { is_ended = true })
-      (is_over (st_at_rest r size small f stands runs h hs at)) (tally_behind size hs f.heard) xs
-      (ends_input r) (hears_end f) (end_works r size small f stands runs h hs at) right)
+    abbrev taken_end : Feeder
+    taken_end = taken_back size (hears_end f) dones
 
-  heard_end : (next_feeder size f Finish dones).heard ≡ f.heard
-  unfolding next_feeder
-  heard_end = done_end.heard ∙ end_more.heard
+    end_more : HasMoreAnswers (hears_end f) taken_end
+    end_more = more_answers size dones (hears_end f)
 
-  pub finish_stands : StandsFor (takes_end r xs) size (next_feeder size f Finish dones)
-  unfolding next_feeder takes_end
-  finish_stands = end_stands (releases_all (all_exchanged (ends_input r) xs)) size
-      (feeder_run size taken_end (all_releasing size taken_end)) h hs true done_end.standing
-      (tally_behind size hs f.heard) done_end.works done_end.session done_end.has_ended
-      (ap (tally_behind size hs) (sym heard_end)) refl (ap sessions_of heard_end ∙ at)
-      (done_end.over ∙ end_more.ended)
+    done_end : Done size hs (tally_behind size hs f.heard) (all_exchanged (ends_input r) xs)
+        taken_end (is_over (st_at_rest r size small f stands runs h hs at))
+        (record (past_at_rest r size small f stands runs h hs at) { is_ended = true })
+    done_end = all_done size hs (tally_behind size hs f.heard) (all_exchanged (ends_input r) xs)
+        taken_end (is_over (st_at_rest r size small f stands runs h hs at))
+        (record (past_at_rest r size small f stands runs h hs at) { is_ended = true })
+        (all_working size hs
+        (record (past_at_rest r size small f stands runs h hs at) { is_ended = true })
+        (is_over (st_at_rest r size small f stands runs h hs at)) (tally_behind size hs f.heard) xs
+        (ends_input r) (hears_end f) (end_works r size small f stands runs h hs at) right)
 
-  pub finish_writes : (next_feeder size f Finish dones).written ≡ f.written ++ end_bytes r xs
-  unfolding next_feeder end_bytes
-  finish_writes = done_end.written
-      ∙ ap (λ (l : List ℕ). l ++ all_released_bytes (all_exchanged (ends_input r) xs))
-      end_more.written
+    heard_end : (next_feeder size f Finish dones).heard ≡ f.heard
+    unfolding next_feeder
+    heard_end = done_end.heard ∙ end_more.heard
+
+    pub finish_stands : StandsFor (takes_end r xs) size (next_feeder size f Finish dones)
+    unfolding next_feeder takes_end
+    finish_stands = end_stands (releases_all (all_exchanged (ends_input r) xs)) size
+        (feeder_run size taken_end (all_releasing size taken_end)) h hs true done_end.standing
+        (tally_behind size hs f.heard) done_end.works done_end.session done_end.has_ended
+        (ap (tally_behind size hs) (sym heard_end)) refl (ap sessions_of heard_end ∙ at)
+        (done_end.over ∙ end_more.ended)
+
+    pub finish_writes : (next_feeder size f Finish dones).written ≡ f.written ++ end_bytes r xs
+    unfolding next_feeder end_bytes
+    finish_writes = done_end.written
+        ∙ ap (λ (l : List ℕ). l ++ all_released_bytes (all_exchanged (ends_input r) xs))
+        end_more.written
+
+    pub finish_out : (takes_end r xs).out
+        ≡ out_without (releasable size taken_end) (all_exchanged (ends_input r) xs).out
+    unfolding takes_end
+    finish_out = done_end.out

@@ -43,8 +43,9 @@ use Rattle.link_receiver.specs.Releasing.{all_released_bytes, one_if}
 use Rattle.link_receiver.specs.Standing.{StandsFor, StandsForHeard, standing_of, all_released}
 use Rattle.link_receiver.specs.Standing.{last_past, field_of_sessions, counts_of_sessions}
 use Rattle.link_receiver.specs.Standing.{past_fields, past_counts, written_of, HasSlots}
-use Rattle.link_receiver.specs.Standing.{AreOwnAnswers}
+use Rattle.link_receiver.specs.Standing.{AreOwnAnswers, out_without}
 use Rattle.link_receiver.proofs.JudgedOutcomes.{judged_is}
+use Rattle.link_receiver.proofs.ReleaseRuns.{none_go}
 use Rattle.link_receiver.proofs.SessionPictures.{session_opens}
 use Rattle.link_receiver.proofs.Starting.{own_stays, room_stays}
 use Rattle.link_receiver.proofs.Tallies.{none_released}
@@ -52,7 +53,7 @@ use Rattle.link_receiver.proofs.Tallies.{none_released}
 -- ---- the receiver
 
 -- all but the slices that are out
-record IsSame (r v : Reception) : Type 0 where
+pub record IsSame (r v : Reception) : Type 0 where
   pub size : v.size ≡ r.size
   pub standing : v.standing ≡ r.standing
   pub counts : v.counts ≡ r.counts
@@ -117,7 +118,7 @@ nothing_written r none = ap (λ (o : Option StandingSession). bytes_up_to
 -- ---- the feeder
 
 -- no picture keeps anything, and none is let go
-record IsIdle (size : ℕ) (f : Feeder) : Type 0 where
+pub record IsIdle (size : ℕ) (f : Feeder) : Type 0 where
   pub none_kept : (n i : ℕ) → slice_job size f n i ≡ None
   pub none_gone : let_go_pictures size f.has_ended (sessions_of f.heard) ≡ []
 
@@ -141,6 +142,13 @@ module _ (size : ℕ) (f : Feeder) (idle : IsIdle size f) where
   all_unused (done ∷ dones) =
       ap (λ (g : Feeder). taken_back size g dones) (unused done) ∙ all_unused dones
 
+  none_releasable : releasable size f ≡ []
+  none_releasable = ap (not_released f.released) idle.none_gone
+
+  pub idle_releasable : (dones : List Answered) → releasable size (taken_back size f dones) ≡ []
+  idle_releasable dones = ap (λ (g : Feeder). releasable size g) (all_unused dones)
+      ∙ none_releasable
+
   stays_idle : feeder_run size f (all_releasing size f) ≡ f
   stays_idle = ap (λ (l : List ℕ). feeder_run size f
       (flat_map (releasing size f) (not_released f.released l))) idle.none_gone
@@ -158,7 +166,8 @@ no_session : (size n : ℕ) → session_of size [] n ≡ None
 unfolding session_of
 no_session size n = refl
 
-nothing_kept_yet : (size : ℕ) (s : Session) (n i : ℕ) → kept_job size (just_opened s ∷ []) n i ≡ None
+nothing_kept_yet : (size : ℕ) (s : Session) (n i : ℕ)
+    → kept_job size (just_opened s ∷ []) n i ≡ None
 unfolding kept_job
 nothing_kept_yet size s n i =
     ap (λ (o : Option EnteredSession). option_and_then (λ kept. job_by kept n i)
@@ -332,6 +341,17 @@ module _ (r : Reception) (size : ℕ) (small : size ≤ 8) (f : Feeder) (stands 
           ∙ sym (append-nil f.written)
           ∙ sym (ap (λ (l : List ℕ). f.written ++ l) (nothing_written r_now standing_now))
 
+      pub early_out : (takes_datagram r d xs).out
+          ≡ out_without (releasable size (taken_back size f_now dones)) r_now.out
+      unfolding takes_datagram
+      early_out =
+          ap (λ (o : Option Session). (opens_session o (releases_all r_now)).out)
+          (opened_now ∙ none)
+          ∙ ap (λ (v : Reception). v.out) (nothing_released r_now standing_now)
+          ∙ none_go r_now.out
+          ∙ sym (ap (λ (ns : List ℕ). out_without ns r_now.out)
+          (idle_releasable size f_now still_idle dones))
+
     -- the first one opens
     module _ (s : Session) (opens : begins d ≡ Some s) where
       sessions_first : sessions_of (f.heard ++ d ∷ []) ≡ just_opened s ∷ []
@@ -437,6 +457,17 @@ module _ (r : Reception) (size : ℕ) (small : size ≤ 8) (f : Feeder) (stands 
           ∙ sym (append-nil f.written)
           ∙ sym (ap (λ (l : List ℕ). f.written ++ l) (nothing_written r_now standing_now))
 
+      pub first_out : (takes_datagram r d xs).out
+          ≡ out_without (releasable size (taken_back size f_now dones)) r_now.out
+      unfolding takes_datagram
+      first_out =
+          ap (λ (o : Option Session). (opens_session o (releases_all r_now)).out)
+          (opened_now ∙ opens)
+          ∙ ap (λ (v : Reception). v.out) (nothing_released r_now standing_now)
+          ∙ none_go r_now.out
+          ∙ sym (ap (λ (ns : List ℕ). out_without ns r_now.out)
+          (idle_releasable size f_now idle_first dones))
+
   -- ---- the end of the input
 
   abbrev r_end : Reception
@@ -514,3 +545,12 @@ module _ (r : Reception) (size : ℕ) (small : size ≤ 8) (f : Feeder) (stands 
   end_writes = ap (λ (g : Feeder). g.written) (idle_feeder size f_end over_idle dones)
       ∙ sym (append-nil f.written)
       ∙ sym (ap (λ (l : List ℕ). f.written ++ l) (nothing_written r_end standing_end))
+
+  pub end_out : (takes_end r xs).out
+      ≡ out_without (releasable size (taken_back size f_end dones)) r_end.out
+  unfolding takes_end
+  end_out =
+      ap (λ (v : Reception). v.out) (nothing_released r_end standing_end)
+      ∙ none_go r_end.out
+      ∙ sym (ap (λ (ns : List ℕ). out_without ns r_end.out)
+      (idle_releasable size f_end over_idle dones))

@@ -35,7 +35,8 @@ slot_with [] i j d below = absurd (omega (arith, below))
 slot_with (x ∷ xs) zero zero d below =
     sym (cond-true (0 == 0) (Some d) x (eq-eqb 0 0 refl))
 slot_with (x ∷ xs) zero (suc j) d below =
-    sym (cond-false (0 == suc j) (Some d) (answer_at xs j) (ne_eqb 0 (suc j) (λ e. omega (arith, e))))
+    sym (cond-false (0 == suc j) (Some d) (answer_at xs j)
+    (ne_eqb 0 (suc j) (λ e. omega (arith, e))))
 slot_with (x ∷ xs) (suc i) zero d below =
     sym (cond-false (suc i == 0) (Some d) x (ne_eqb (suc i) 0 (λ e. omega (arith, e))))
 slot_with (x ∷ xs) (suc i) (suc j) d below =
@@ -109,7 +110,8 @@ module _ (done : Answered) where
         (kept_answer answers m j)) (ne_eqb its_number m other))
   ]
     where
-      before : (o : Option Slots) → answer_at (unwrap_or o (no_answers (slice_count done.job.plan))) j
+      before : (o : Option Slots)
+          → answer_at (unwrap_or o (no_answers (slice_count done.job.plan))) j
           ≡ option_and_then (λ slices. answer_at slices j) o
       before None = none_at (slice_count done.job.plan) j
       before (Some slices) = refl
@@ -135,7 +137,8 @@ room_stays slices i d = length-set slices i (Some d)
 -- ---- without those of a picture
 
 module _ (n : ℕ) where
-  pub without_own : (answers : List PictureAnswers) → answers_at (answers_without answers n) n ≡ None
+  pub without_own : (answers : List PictureAnswers)
+      → answers_at (answers_without answers n) n ≡ None
   without_own [] = refl
   without_own (a ∷ rest) = by_test (a.number == n) refl (without_own rest)
     where

@@ -25,8 +25,12 @@ use Rattle.link_receiver.proofs.WaitingFields.{first_is}
 count_first : (test : ℕ → Bool) (n : ℕ) (ns : List ℕ)
     → count_by test (n ∷ ns) ≡ one_if (test n) + count_by test ns
 count_first test n ns =
-    omega (arith, length-filter test (n ∷ ns), length-filter test ns,
-    one (test n) (filter test ns))
+    omega (
+      arith,
+      length-filter test (n ∷ ns),
+      length-filter test ns,
+      one (test n) (filter test ns),
+    )
   where
     one : (b : Bool) (l : List ℕ) → length (cond b (n ∷ l) l) ≡ one_if b + length l
     one true l = omega arith
@@ -72,9 +76,13 @@ module _ (s : Sequence) (es : List Numbered) where
 
     none_unpaired : (ns : List ℕ) → count_by (is_unpaired s es) ns ≡ 0
     none_unpaired [] = omega (arith, length-filter (is_unpaired s es) [])
-    none_unpaired (n ∷ ns) = omega (arith, count_first (is_unpaired s es) n ns, none_unpaired ns,
-        ap (λ (b : Bool). one_if (b && has_planes s es n && not (has_planes s es (partner n))))
-        frames)
+    none_unpaired (n ∷ ns) = omega (
+      arith,
+      count_first (is_unpaired s es) n ns,
+      none_unpaired ns,
+      ap (λ (b : Bool). one_if (b && has_planes s es n && not (has_planes s es (partner n))))
+          frames,
+    )
 
   -- ---- with field coding
 
@@ -329,10 +337,12 @@ module _ (s : Sequence) (es : List Numbered) where
             (false_from_ne_true (found (v.number + 1)) (λ there.
             false≢true (ready.left (v.number + 1) (omega (arith, (ready.waits v is).0)) there))))
     fields_after (n ∷ ns) bound x ready =
-        omega (arith,
-        fields_after ns (n + 1) (next_field s es x n) (ready_behind bound n ns x.waiting ready),
-        step bound n ns x.waiting ready,
-        count_first (is_unpaired s es) n ns)
+        omega (
+          arith,
+          fields_after ns (n + 1) (next_field s es x n) (ready_behind bound n ns x.waiting ready),
+          step bound n ns x.waiting ready,
+          count_first (is_unpaired s es) n ns,
+        )
 
   -- once all pictures were released
   pub all_fields : (ns : List ℕ) → AreRising 0 ns
@@ -347,6 +357,10 @@ module _ (s : Sequence) (es : List Numbered) where
       waited = λ k at even is. absurd (omega (arith, at));
     }) ∙ omega arith
     | inr frames ↦ (let plain = frames_after frames ns no_fields refl in
-        omega (arith, plain.0, ap (λ (o : Option FirstField). one_if (is_some o)) plain.1,
-        none_unpaired frames ns))
+        omega (
+          arith,
+          plain.0,
+          ap (λ (o : Option FirstField). one_if (is_some o)) plain.1,
+          none_unpaired frames ns,
+        ))
   ]

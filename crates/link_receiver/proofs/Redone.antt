@@ -6,7 +6,8 @@ use Rattle.std.specs.Option.{option_and_then, option_map, option_map_or}
 use Rattle.std.proofs.lemmas.Bool.{cases_eq, and_parts, eqb-true, eq-eqb, ne_eqb, cond-true}
 use Rattle.std.proofs.lemmas.Bool.{false≢true}
 use Rattle.std.proofs.lemmas.Option.{none-some, same_Some}
-use Rattle.link_model.specs.Feeders.{Feeder, SliceAnswer, answer_in, kept_job, picture_keeps, job_by}
+use Rattle.link_model.specs.Feeders.{Feeder, SliceAnswer, answer_in, kept_job, picture_keeps}
+use Rattle.link_model.specs.Feeders.{job_by}
 use Rattle.link_model.specs.Feeders.{job_with, session_of, keeps_of, EnteredSession, is_among}
 use Rattle.link_model.specs.Feeding.{with_answer}
 use Rattle.link_model.specs.Kept.{Own, own_slice}
@@ -83,8 +84,8 @@ module _ (size : ℕ) (hs : List HeardSession) where
           let same = and_parts (a.number == n) (a.index == k) at in (
             own.0.0,
             ap (λ m. kept_job size hs m k) (sym (eqb-true a.number n same.0))
-            ∙ ap (kept_job size hs a.number) (sym (eqb-true a.index k same.1))
-            ∙ own.0.1,
+                ∙ ap (kept_job size hs a.number) (sym (eqb-true a.index k same.1))
+                ∙ own.0.1,
             sym (same_Some a.answer d e) ∙ own.0.2,
           )
 
@@ -99,9 +100,9 @@ module _ (size : ℕ) (hs : List HeardSession) where
       let slice = kept_job_by size hs n k kept keeps answer.0 answer.1 in (
         ap is_some slice.1,
         answer.2
-        ∙ ap decoding (sym slice.2)
-        ∙ ap (λ (o : Option (List ℕ)). slice_coefficients kept.plan.parameters k (unwrap_or o []))
-        (sym slice.1),
+            ∙ ap decoding (sym slice.2)
+            ∙ ap (λ (o : Option (List ℕ)). slice_coefficients kept.plan.parameters k (unwrap_or o []))
+            (sym slice.1),
       )
 
   -- ---- slices that are decoded again
@@ -124,11 +125,15 @@ module _ (size : ℕ) (hs : List HeardSession) where
         by_job : (o : Option Job) → kept_job size hs n i ≡ o
             → AreOwnAnswers size hs (with_own decoded o)
         by_job None at = own
-        by_job (Some job) at = let numbers = kept_job_numbers size hs n i job at in
-            ((job,
+        by_job (Some job) at = let numbers = kept_job_numbers size hs n i job at in (
+          (
+            job,
             ap (λ m. kept_job size hs m job.index) numbers.0
-            ∙ ap (kept_job size hs n) numbers.1 ∙ at,
-            refl), own)
+                ∙ ap (kept_job size hs n) numbers.1 ∙ at,
+            refl,
+          ),
+          own,
+        )
 
     pub redone_own : (is : List ℕ) (decoded : List SliceAnswer) → AreOwnAnswers size hs decoded
         → AreOwnAnswers size hs (redone is decoded)

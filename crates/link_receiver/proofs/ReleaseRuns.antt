@@ -1,11 +1,11 @@
 -- All pictures that may be released, one after another: the receiver and the feeder go together.
 use Rattle.std.proofs.Common.{◌≡◌, ℕ, zero, suc, ◌+◌, ◌<◌, ◌≤◌, Bool, true, false, refl, ap, sym}
 use Rattle.std.proofs.Common.{List, [], ◌∷◌, ◌++◌, length, map, Option, Some, None, subst, ◌∙◌}
-use Rattle.std.proofs.Common.{arith, cond}
-use Rattle.std.specs.Prelude.{◌&&◌, ◌||◌, ◌==◌, is_some, not, fold, filter}
+use Rattle.std.proofs.Common.{arith, cond, inl, inr}
+use Rattle.std.specs.Prelude.{◌&&◌, ◌||◌, ◌==◌, ◌⊎◌, is_some, not, fold, filter}
 use Rattle.std.specs.List.{flat_map}
 use Rattle.std.specs.Option.{option_and_then, option_map, option_map_or}
-use Rattle.std.proofs.lemmas.Bool.{eq-eqb}
+use Rattle.std.proofs.lemmas.Bool.{cases_eq, eq-eqb, ne_eqb}
 use Rattle.std.proofs.lemmas.List.{append_assoc, append-nil}
 use Rattle.std.proofs.lemmas.List.Sums.{fold-append}
 use Rattle.link_model.specs.Complete.{slice_numbers, has_all_slices}
@@ -21,9 +21,10 @@ use Rattle.link_model.specs.Windows.{releasable_numbers, first_of, as_releasable
 use Rattle.link_model.specs.Windows.{next_release}
 use Rattle.link_model.specs.declared.tally.Tally.{Tally}
 use Rattle.link_model.proofs.WindowStands.{next_is, releasable_next}
-use Rattle.link_receiver.specs.Receptions.{StandingSession, Reception}
+use Rattle.link_receiver.specs.Receptions.{StandingSession, Reception, SliceOut}
 use Rattle.link_receiver.specs.Releasing.{next_picture, releases_picture_of, released_bytes}
-use Rattle.link_receiver.specs.Releasing.{releases_up_to, bytes_up_to, book_count}
+use Rattle.link_receiver.specs.Releasing.{releases_up_to, bytes_up_to, book_count, is_of_other}
+use Rattle.link_receiver.specs.Standing.{out_without}
 use Rattle.link_receiver.proofs.Redone.{redone_others}
 use Rattle.link_receiver.proofs.ReleasedNumbers.{AreRising, among_rising, released_rise}
 use Rattle.link_receiver.proofs.ReleasedNumbers.{books_enough, unreleased_are}
@@ -62,7 +63,8 @@ module _ (k : ℕ) (r : Reception) where
       ≡ released_bytes r picture ++ bytes_up_to k (releases_picture_of r picture)
   unfolding bytes_up_to
   step_bytes picture is = ap (λ (o : Option Releasable). option_map_or
-      (λ picture. released_bytes r picture ++ bytes_up_to k (releases_picture_of r picture)) o []) is
+      (λ picture. released_bytes r picture
+      ++ bytes_up_to k (releases_picture_of r picture)) o []) is
 
 stops : (k : ℕ) (r : Reception) → next_picture r ≡ None → releases_up_to k r ≡ r
 unfolding releases_up_to
@@ -74,7 +76,48 @@ stops_writing : (k : ℕ) (r : Reception) → next_picture r ≡ None → bytes_
 unfolding bytes_up_to
 stops_writing zero r none = refl
 stops_writing (suc k) r none = ap (λ (o : Option Releasable). option_map_or
-    (λ picture. released_bytes r picture ++ bytes_up_to k (releases_picture_of r picture)) o []) none
+    (λ picture. released_bytes r picture
+    ++ bytes_up_to k (releases_picture_of r picture)) o []) none
+
+-- ---- slices that are out
+
+pub none_go : (out : List SliceOut) → out ≡ out_without [] out
+none_go [] = refl
+none_go (slice ∷ out) = ap (λ (l : List SliceOut). slice ∷ l) (none_go out)
+
+both_go : (n : ℕ) (ns : List ℕ) (out : List SliceOut)
+    → out_without ns (filter (is_of_other n) out) ≡ out_without (n ∷ ns) out
+both_go n ns [] = refl
+both_go n ns (slice ∷ out) = by_number (cases_eq slice.number n) (both_go n ns out)
+  where
+    by_test : (b : Bool)
+        → out_without ns (filter (is_of_other n) out) ≡ out_without (n ∷ ns) out
+        → cond (not b) (slice ∷ out_without ns (filter (is_of_other n) out))
+        (out_without ns (filter (is_of_other n) out))
+        ≡ cond (not b) (slice ∷ out_without (n ∷ ns) out) (out_without (n ∷ ns) out)
+    by_test true rest = rest
+    by_test false rest = ap (λ (l : List SliceOut). slice ∷ l) rest
+
+    by_number : (slice.number ≡ n) ⊎ (slice.number ≡ n → ⊥)
+        → out_without ns (filter (is_of_other n) out) ≡ out_without (n ∷ ns) out
+        → out_without ns (cond (not (slice.number == n)) (slice ∷ filter (is_of_other n) out)
+        (filter (is_of_other n) out))
+        ≡ cond (not ((n == slice.number) || is_among ns slice.number))
+        (slice ∷ out_without (n ∷ ns) out) (out_without (n ∷ ns) out)
+    by_number (inl same) rest =
+        ap (λ (b : Bool). out_without ns (cond (not b) (slice ∷ filter (is_of_other n) out)
+        (filter (is_of_other n) out))) (eq-eqb slice.number n same)
+        ∙ rest
+        ∙ sym (ap (λ (b : Bool). cond (not (b || is_among ns slice.number))
+        (slice ∷ out_without (n ∷ ns) out) (out_without (n ∷ ns) out))
+        (eq-eqb n slice.number (sym same)))
+    by_number (inr other) rest =
+        ap (λ (b : Bool). out_without ns (cond (not b) (slice ∷ filter (is_of_other n) out)
+        (filter (is_of_other n) out))) (ne_eqb slice.number n other)
+        ∙ by_test (is_among ns slice.number) rest
+        ∙ sym (ap (λ (b : Bool). cond (not (b || is_among ns slice.number))
+        (slice ∷ out_without (n ∷ ns) out) (out_without (n ∷ ns) out))
+        (ne_eqb n slice.number (λ same. other (sym same))))
 
 -- ---- the run
 
@@ -96,6 +139,7 @@ module _ (size : ℕ) (hs : List HeardSession) (t : Tally) where
     pub written : g.written ≡ f.written ++ bytes_up_to k r
     pub heard : g.heard ≡ f.heard
     pub over : g.has_ended ≡ f.has_ended
+    pub out : (releases_up_to k r).out ≡ out_without ns r.out
 
   nothing_next : (r : Reception) (f : Feeder) (p : WindowPast) (st : StandingSession)
       → IsWorking r size f hs p st t → releasable_numbers p ≡ [] → next_picture r ≡ None
@@ -126,6 +170,8 @@ module _ (size : ℕ) (hs : List HeardSession) (t : Tally) where
         (sym (stops_writing k r (nothing_next r f p st works are)));
     heard = refl;
     over = refl;
+    out = ap (λ (v : Reception). v.out) (stops k r (nothing_next r f p st works are))
+        ∙ none_go r.out;
   }
   run (n ∷ ns) zero r f p st works are enough first same = absurd (omega (arith, enough))
   run (n ∷ ns) (suc k) r f p st works are enough first same =
@@ -181,6 +227,7 @@ module _ (size : ℕ) (hs : List HeardSession) (t : Tally) where
             (next_picture_is r size f hs p st t works n next)));
         heard = ap (λ (g : Feeder). g.heard) feeder ∙ later.heard;
         over = ap (λ (g : Feeder). g.has_ended) feeder ∙ later.over;
+        out = ap (λ (v : Reception). v.out) receiver ∙ later.out ∙ both_go n ns r.out;
       }
     where
       or_later : (b : Bool) {c : Bool} → c ≡ true → (b || c) ≡ true
@@ -208,7 +255,7 @@ module _ (size : ℕ) (hs : List HeardSession) (t : Tally) where
 
   module _ (r : Reception) (f : Feeder) (p : WindowPast) (st : StandingSession)
       (works : IsWorking r size f hs p st t) where
-    releasable_are : releasable size f ≡ releasable_numbers p
+    pub releasable_are : releasable size f ≡ releasable_numbers p
     releasable_are =
         ap (λ (l : List ℕ). not_released l
         (let_go_pictures size f.has_ended (sessions_of f.heard))) works.released

@@ -108,8 +108,14 @@ pub count_push : (test : ℕ → Bool) (l : List ℕ) (n : ℕ)
     → count_by test (l ++ n ∷ []) ≡ count_by test l + one_if (test n)
 count_push test l n =
     let both = ap length (filter-append test l (n ∷ [])) in
-    omega (arith, both, length-append (filter test l) (filter test (n ∷ [])),
-    length-filter test (l ++ n ∷ []), length-filter test l, one (test n))
+    omega (
+      arith,
+      both,
+      length-append (filter test l) (filter test (n ∷ [])),
+      length-filter test (l ++ n ∷ []),
+      length-filter test l,
+      one (test n),
+    )
   where
     one : (b : Bool) → length (cond b (n ∷ []) []) ≡ one_if b
     one true = refl
@@ -269,9 +275,11 @@ module _ (r : Reception) (size : ℕ) (f : Feeder) (hs : List HeardSession) (p :
       not_later : (rest : List ℕ) → releasable_numbers p ≡ n ∷ rest
           → is_among (releasable_numbers p) m ≡ false
       not_later rest is = false_from_ne_true (is_among (releasable_numbers p) m)
-          (λ among. let low = among_rising m n (n ∷ rest)
-          (omega arith, (rest_rises p.released 0 (subst (λ (l : List ℕ).
-          AreRising 0 (p.released ++ l)) is (released_rise p works.window.in_order))).1)
+          (λ among. let low = among_rising m n (n ∷ rest) (
+            omega arith,
+            (rest_rises p.released 0 (subst (λ (l : List ℕ).
+                AreRising 0 (p.released ++ l)) is (released_rise p works.window.in_order))).1,
+          )
           (sym (ap (λ (l : List ℕ). is_among l m) is) ∙ among) in omega (arith, low, before))
         where
           rest_rises : (l : List ℕ) (b : ℕ) → AreRising b (l ++ n ∷ rest)
@@ -290,7 +298,8 @@ module _ (r : Reception) (size : ℕ) (f : Feeder) (hs : List HeardSession) (p :
           or_first true b none e = refl
           or_first false b none e = absurd (both_ways b none e)
 
-  module _ (fields : s.fields ≡ true) (m : ℕ) (before : m + 1 ≡ n) (even : (m % 2 == 0) ≡ true) where
+  module _ (fields : s.fields ≡ true) (m : ℕ) (before : m + 1 ≡ n)
+      (even : (m % 2 == 0) ≡ true) where
     -- the planes that the receiver has of it are its planes
     before_is : field_before r.field n ≡ planes_at s es m
     before_is = by_planes (planes_at s es m) refl
@@ -318,7 +327,8 @@ module _ (r : Reception) (size : ℕ) (f : Feeder) (hs : List HeardSession) (p :
 
     -- and so are those that the feeder makes of its answers
     others_same : (k : ℕ) → answer_in now_decoded m k ≡ answer_in f.decoded m k
-    others_same = redone_others size heard n missing f.decoded m (λ same. omega (arith, same, before))
+    others_same = redone_others size heard n missing f.decoded m
+        (λ same. omega (arith, same, before))
 
     built_before : built_planes now_decoded (entered_of p) m ≡ planes_at s es m
     built_before = by_planes (planes_at s es m) refl
@@ -411,8 +421,8 @@ module _ (r : Reception) (size : ℕ) (f : Feeder) (hs : List HeardSession) (p :
       ∙ ap (option_map (as_releasable p)) next
 
   pub receiver_then_is : releases_picture_of r picture ≡ receiver_then
-  receiver_then_is = ap (λ (o : Option StandingSession). option_map_or (releases_from r picture) o r)
-      works.stands
+  receiver_then_is = ap (λ (o : Option StandingSession).
+      option_map_or (releases_from r picture) o r) works.stands
 
   pub bytes_are : released_bytes r picture ≡ frame_bytes_at s es n
   unfolding frame_bytes_at
@@ -469,8 +479,11 @@ module _ (r : Reception) (size : ℕ) (f : Feeder) (hs : List HeardSession) (p :
       let frames : t.frames + count_by (has_frame s es) p.released
       + one_if (is_some (released_frame s (past_fields p).waiting n (planes_at s es n)))
       ≡ t.frames + count_by (has_frame s es) (p.released ++ n ∷ []) =
-      omega (arith, count_push (has_frame s es) p.released n,
-      ap (λ (o : Option Planes). one_if (is_some o)) frame_by_past) in
+      omega (
+        arith,
+        count_push (has_frame s es) p.released n,
+        ap (λ (o : Option Planes). one_if (is_some o)) frame_by_past,
+      ) in
       λ i. record t {
         incomplete = incomplete i;
         unsound = unsound i;

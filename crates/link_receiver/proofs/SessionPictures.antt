@@ -182,10 +182,11 @@ module _ (window : ℕ) (small : window ≤ 8) (n : ℕ) (kept : Own) where
         → IsKeptOn kept (keeps_in (session_of window (with_datagram h d ∷ hs) n))
     last_keeps is = elim (cases_Bool (is_opened old n)) [
       | inl was ↦ (let later = own_later
-          (sym (ap keeps_in (session_last window h hs n was)) ∙ is) in
-          (later.0,
-          ap keeps_in (session_last window (with_datagram h d) hs n (still_opened was)) ∙ later.1,
-          later.2))
+          (sym (ap keeps_in (session_last window h hs n was)) ∙ is) in (
+            later.0,
+            ap keeps_in (session_last window (with_datagram h d) hs n (still_opened was)) ∙ later.1,
+            later.2,
+          ))
       | inr shut ↦ kept_same kept (keeps_in (session_of window (with_datagram h d ∷ hs) n))
           (of_earlier shut (sym (ap keeps_in (session_before window h hs n shut)) ∙ is))
     ]

@@ -8,7 +8,8 @@ use Rattle.std.specs.Option.{option_and_then, option_map, option_map_or}
 use Rattle.std.proofs.lemmas.Bool.{cases_Bool, eq-eqb, false_from_ne_true, both_ways}
 use Rattle.std.proofs.lemmas.List.{append_assoc, append-nil}
 use Rattle.std.proofs.lemmas.Option.{none-some}
-use Rattle.link_model.specs.Feeders.{Feeder, SliceAnswer, session_of, entered_session, picture_keeps}
+use Rattle.link_model.specs.Feeders.{Feeder, SliceAnswer, session_of, entered_session}
+use Rattle.link_model.specs.Feeders.{picture_keeps}
 use Rattle.link_model.specs.Feeders.{pictures_of, let_go_pictures, is_among, EnteredSession}
 use Rattle.link_model.specs.Feeding.{hears_datagram, hears_end, planes_by, sound_answers}
 use Rattle.link_model.specs.Judgement.{outcome_behind, outcomes_in, outcome_counts, with_outcome}
@@ -60,17 +61,21 @@ module _ (size : ℕ) (small : size ≤ 8) (hs : List HeardSession) (d : List �
   pub own_stays : (decoded : List SliceAnswer) → AreOwnAnswers size hs decoded
       → AreOwnAnswers size (hears hs d) decoded
   own_stays [] own = tt
-  own_stays (a ∷ rest) own =
-      ((own.0.0, job_stays a.number a.index size small hs d own.0.0 own.0.1, own.0.2),
-      own_stays rest own.1)
+  own_stays (a ∷ rest) own = (
+    (own.0.0, job_stays a.number a.index size small hs d own.0.0 own.0.1, own.0.2),
+    own_stays rest own.1,
+  )
 
   pub room_stays : (n : ℕ) (o : Option (List (Option Decoding))) → HasSlots size hs n o
       → HasSlots size (hears hs d) n o
   room_stays n None room = tt
   room_stays n (Some slots) room =
-      let later = picture_keeps_on size small n room.0 hs d room.1 in
-      (later.0, later.1, room.2
-      ∙ ap (λ (plan : KeptParameters). slice_count plan.parameters) (sym later.2.plan))
+      let later = picture_keeps_on size small n room.0 hs d room.1 in (
+        later.0,
+        later.1,
+        room.2
+            ∙ ap (λ (plan : KeptParameters). slice_count plan.parameters) (sym later.2.plan),
+      )
 
   planes_stay : (decoded : List SliceAnswer) (n : ℕ) (planes : Planes)
       → answered_planes size hs decoded n ≡ Some planes

@@ -16,7 +16,8 @@ use Rattle.link_model.specs.declared.tally.Tally.{Tally}
 use Rattle.vc_types.specs.Planes.{Planes}
 use Rattle.vc_types.specs.SequenceHeader.{Sequence}
 use Rattle.link_receiver.specs.Releasing.{field_behind, fields_alone}
-use Rattle.link_receiver.specs.Standing.{Fields, no_fields, next_field, fields_behind, with_released}
+use Rattle.link_receiver.specs.Standing.{Fields, no_fields, next_field, fields_behind}
+use Rattle.link_receiver.specs.Standing.{with_released}
 
 -- counts of pictures more
 abbrev pub added : ℕ → ℕ → ℕ → ℕ → Tally → Tally

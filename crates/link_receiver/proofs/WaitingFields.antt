@@ -52,8 +52,11 @@ module _ (s : Sequence) (es : List Numbered) (w : FirstField) where
   waits_from all [] fields before inside is = before is
   waits_from all (n ∷ l) fields before inside is =
       waits_from all l (next_field s es fields n)
-      (λ waits. (n, inside n (ap (λ (b : Bool). b || is_among l n) (eq-eqb n n refl)),
-      first_is s n (planes_at s es n) w waits))
+      (λ waits. (
+        n,
+        inside n (ap (λ (b : Bool). b || is_among l n) (eq-eqb n n refl)),
+        first_is s n (planes_at s es n) w waits,
+      ))
       (λ m there. inside m (or_later (n == m) there)) is
     where
       or_later : (b : Bool) {c : Bool} → c ≡ true → (b || c) ≡ true

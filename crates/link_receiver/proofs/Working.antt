@@ -197,8 +197,8 @@ module _ (r : Reception) (size : ℕ) (f : Feeder) (hs : List HeardSession) (p :
   unopened_job : (n i : ℕ) → is_opened p.entries n ≡ false → window_job st.window n i ≡ None
   unopened_job n i shut =
       ap (option_and_then (λ (book : Book). book_job book n i)) (book_is st.window p works.window n
-      ∙ ap (λ (b : Bool). cond (b && is_needed p n) (Some (book_of p.sequence (parts_of n p.entries)))
-      None) shut)
+      ∙ ap (λ (b : Bool). cond (b && is_needed p n)
+      (Some (book_of p.sequence (parts_of n p.entries))) None) shut)
 
   -- a picture that is opened and isn't released has its book
   pub book_of_unreleased : (n : ℕ) → is_opened p.entries n ≡ true
@@ -210,7 +210,8 @@ module _ (r : Reception) (size : ℕ) (f : Feeder) (hs : List HeardSession) (p :
       (released_up_to (last_or None p.released) n) above
     where
       by_tests : (was : Bool) → was ≡ true → (closed low : Bool) → low ≡ false
-          → cond (was && not (closed && low)) (Some (book_of p.sequence (parts_of n p.entries))) None
+          → cond (was && not (closed && low))
+          (Some (book_of p.sequence (parts_of n p.entries))) None
           ≡ Some (book_of p.sequence (parts_of n p.entries))
       by_tests true is true false away = refl
       by_tests true is false low away = refl
@@ -374,9 +375,11 @@ module _ (r : Reception) (size : ℕ) (f : Feeder) (hs : List HeardSession) (p :
     room_behind m = elim (cases_eq n m) [
       | inl same ↦ subst (λ k. HasSlots size (sessions_of f.heard) k
           (answers_at (keeps_answer r.answers done) k)) same
-          (subst (HasSlots size (sessions_of f.heard) n) (sym (keeps_own done r.answers))
-          (kept_there.0, kept_there.1,
-          room_stays (slots_before done r.answers) i done.answer ∙ slots_count))
+          (subst (HasSlots size (sessions_of f.heard) n) (sym (keeps_own done r.answers)) (
+            kept_there.0,
+            kept_there.1,
+            room_stays (slots_before done r.answers) i done.answer ∙ slots_count,
+          ))
       | inr other ↦ subst (HasSlots size (sessions_of f.heard) m)
           (sym (keeps_others done m other r.answers)) (works.room m)
     ]

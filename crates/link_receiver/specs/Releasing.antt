@@ -1,5 +1,5 @@
--- How a receiver releases a picture (this project's own): it decodes the slices that have no answer,
--- writes the frame of which the picture is the last, and forgets what it had of it.
+-- How a receiver releases a picture (this project's own): it decodes the slices that have no
+-- answer, writes the frame of which the picture is the last, and forgets what it had of it.
 use Rattle.std.specs.Prelude.{ℕ, zero, suc, ◌+◌, ◌%◌, ◌==◌, Bool, ◌&&◌, not, is_some, is_none}
 use Rattle.std.specs.Prelude.{if◌then◌else◌, List, [], ◌∷◌, ◌++◌, length, filter, unwrap_or}
 use Rattle.std.specs.Prelude.{Option, Some, None, Result, Ok, Err}

@@ -1,10 +1,10 @@
 -- What a receiver stands for: a list of datagrams that it heard, and the feeder of workers that
 -- heard them.
-use Rattle.std.specs.Prelude.{◌≡◌, ℕ, ◌+◌, Bool, true, false, is_some, count_by, fold}
+use Rattle.std.specs.Prelude.{◌≡◌, ℕ, ◌+◌, Bool, true, false, is_some, count_by, fold, filter, not}
 use Rattle.std.specs.Prelude.{if◌then◌else◌, List, [], ◌∷◌, length, Option, Some, None}
 use Rattle.std.specs.Option.{option_and_then}
 use Rattle.link_model.specs.Feeders.{Feeder, let_go_pictures, answer_in, has_released}
-use Rattle.link_model.specs.Feeders.{SliceAnswer, kept_job, picture_keeps}
+use Rattle.link_model.specs.Feeders.{SliceAnswer, kept_job, picture_keeps, is_among}
 use Rattle.link_model.specs.Feeding.{planes_by}
 use Rattle.link_model.specs.Judgement.{is_incomplete, is_unsound, has_frame, with_sessions}
 use Rattle.link_model.specs.Judgement.{outcomes_in, outcome_counts}
@@ -19,7 +19,7 @@ use Rattle.vc_types.specs.Planes.{Planes}
 use Rattle.vc_types.specs.SequenceHeader.{Sequence}
 use Rattle.vc_types.specs.Subbands.{slice_count}
 use Rattle.link_receiver.specs.Receptions.{StandingSession, Reception, FirstField, Decoding}
-use Rattle.link_receiver.specs.Receptions.{answers_at, kept_answer}
+use Rattle.link_receiver.specs.Receptions.{answers_at, kept_answer, SliceOut}
 use Rattle.link_receiver.specs.Releasing.{one_if, fields_alone, field_behind}
 
 -- ---- the session that stands
@@ -83,7 +83,8 @@ past_counts p t = with_released p.sequence p.entries p.released t
 abbrev pub field_of_sessions : ℕ → Bool → List HeardSession → Option FirstField
 field_of_sessions size true hs = None
 field_of_sessions size false [] = None
-field_of_sessions size false (h ∷ hs) = (past_fields (all_released (last_past size false hs h))).waiting
+field_of_sessions size false (h ∷ hs) =
+    (past_fields (all_released (last_past size false hs h))).waiting
 
 -- the counts of outcomes, and of the pictures that were released
 abbrev pub counts_of_sessions : ℕ → Bool → List HeardSession → Tally → Tally
@@ -110,6 +111,10 @@ pub record StandsForHeard (r : Reception) (size : ℕ) (datagrams : List (List �
 abbrev pub AreDecodings : List Answered → Type 0
 AreDecodings [] = Unit {0}
 AreDecodings (done ∷ rest) = (done.answer ≡ decoding done.job) × AreDecodings rest
+
+-- the slices that are out but those of these pictures
+abbrev pub out_without : List ℕ → List SliceOut → List SliceOut
+out_without released out = filter (λ slice. not (is_among released slice.number)) out
 
 -- ---- a feeder
 
