@@ -1,0 +1,13 @@
+use Rattle.link_receiver.proofs.Following.{outcome_is, datagram_stands, datagram_writes}
+use Rattle.link_receiver.proofs.laws.receivers_follow_datagrams.Goals as goal
+
+pub returns-clause-outcome : goal.returns-clause-outcome
+returns-clause-outcome c = outcome_is
+
+pub returns-clause-stands : goal.returns-clause-stands
+returns-clause-stands c = λ r size f small stands runs exchanges right d.
+    datagram_stands r size f small stands runs exchanges right d
+
+pub returns-clause-written : goal.returns-clause-written
+returns-clause-written c = λ r size f small stands runs exchanges right d.
+    datagram_writes r size f small stands runs exchanges right d

@@ -1,0 +1,6 @@
+pub mod Receptions
+pub mod Judging
+pub mod Exchanging
+pub mod Releasing
+pub mod Entering
+pub mod Standing

@@ -1,0 +1,68 @@
+ghost use Rattle.std.specs.Prelude.{◌≡◌, ℕ, ◌≤◌, false, List, [], ◌∷◌, ◌++◌};
+ghost use Rattle.link_model.specs.Feeders.{Feeder, new_feeder, releasable};
+ghost use Rattle.link_model.specs.Feeding.{hears_datagram, hears_end};
+ghost use Rattle.link_model.specs.Judgement.{outcome_behind, tally_of};
+ghost use Rattle.link_model.specs.Machine.{Enter, Finish};
+ghost use Rattle.link_model.specs.Next.{next_feeder, taken_back};
+ghost use Rattle.link_model.specs.Output.{output_so_far, full_output};
+ghost use Rattle.link_receiver.specs.Entering.{before_releases, takes_datagram, datagram_bytes};
+ghost use Rattle.link_receiver.specs.Entering.{takes_end, end_bytes};
+ghost use Rattle.link_receiver.specs.Exchanging.{Exchange, all_exchanged, dones_in};
+ghost use Rattle.link_receiver.specs.Judging.{judged, ends_input};
+ghost use Rattle.link_receiver.specs.Receptions.{Reception, new_reception};
+ghost use Rattle.link_receiver.specs.Standing.{StandsFor, StandsForHeard, AreDecodings};
+ghost use Rattle.link_receiver.specs.Standing.{out_without};
+
+/// A new receiver stands for a feeder that heard nothing.
+pub fn a_new_receiver_stands_for_nothing()
+    ensures { (size : ℕ) → StandsFor (new_reception size) size new_feeder }
+{}
+
+/// A receiver judges a datagram as the list of those before it says. Behind it the receiver stands
+/// for the longer list, and for the feeder that heard the datagram, took back the same decoded
+/// slices and released what it may. It writes what is due: the output so far of the longer list
+/// without that of the shorter one.
+pub fn receivers_follow_datagrams()
+    ensures outcome { (r : Reception) (size : ℕ) (datagrams : List (List ℕ)) (d : List ℕ)
+        → StandsForHeard r size datagrams false
+        → judged r d ≡ outcome_behind size datagrams d }
+    ensures stands { (r : Reception) (size : ℕ) (f : Feeder) → size ≤ 8 → StandsFor r size f
+        → f.has_ended ≡ false → (exchanges : List Exchange) → AreDecodings (dones_in exchanges)
+        → (d : List ℕ) → StandsFor (takes_datagram r d exchanges) size
+        (next_feeder size f (Enter d) (dones_in exchanges)) }
+    ensures written { (r : Reception) (size : ℕ) (f : Feeder) → size ≤ 8 → StandsFor r size f
+        → f.has_ended ≡ false → (exchanges : List Exchange) → AreDecodings (dones_in exchanges)
+        → (d : List ℕ) → output_so_far size (f.heard ++ d ∷ [])
+        ≡ output_so_far size f.heard ++ datagram_bytes r d exchanges }
+{}
+
+/// The slices of the pictures that a call releases aren't out any more behind it, and all others
+/// are that were out before its releases.
+pub fn released_slices_are_not_out()
+    ensures datagram { (r : Reception) (size : ℕ) (f : Feeder) → size ≤ 8 → StandsFor r size f
+        → f.has_ended ≡ false → (exchanges : List Exchange) → AreDecodings (dones_in exchanges)
+        → (d : List ℕ) → (takes_datagram r d exchanges).out ≡ out_without
+        (releasable size (taken_back size (hears_datagram f d) (dones_in exchanges)))
+        (before_releases r d exchanges).out }
+    ensures at_end { (r : Reception) (size : ℕ) (f : Feeder) → size ≤ 8 → StandsFor r size f
+        → f.has_ended ≡ false → (exchanges : List Exchange) → AreDecodings (dones_in exchanges)
+        → (takes_end r exchanges).out ≡ out_without
+        (releasable size (taken_back size (hears_end f) (dones_in exchanges)))
+        (all_exchanged (ends_input r) exchanges).out }
+{}
+
+/// At the end of the input a receiver stands for the feeder to which the end came. It writes the
+/// rest of the full output, and its counts are the tally.
+pub fn receivers_follow_the_end()
+    ensures stands { (r : Reception) (size : ℕ) (f : Feeder) → size ≤ 8 → StandsFor r size f
+        → f.has_ended ≡ false → (exchanges : List Exchange) → AreDecodings (dones_in exchanges)
+        → StandsFor (takes_end r exchanges) size
+        (next_feeder size f Finish (dones_in exchanges)) }
+    ensures written { (r : Reception) (size : ℕ) (f : Feeder) → size ≤ 8 → StandsFor r size f
+        → f.has_ended ≡ false → (exchanges : List Exchange) → AreDecodings (dones_in exchanges)
+        → full_output size f.heard
+        ≡ output_so_far size f.heard ++ end_bytes r exchanges }
+    ensures counts { (r : Reception) (size : ℕ) (f : Feeder) → size ≤ 8 → StandsFor r size f
+        → f.has_ended ≡ false → (exchanges : List Exchange) → AreDecodings (dones_in exchanges)
+        → (takes_end r exchanges).counts ≡ tally_of size f.heard }
+{}

@@ -1,0 +1,12 @@
+//! The link's receiver: what it has, what it stands for, and that it goes on standing for it.
+#![tactic(auto)]
+
+mod laws;
+
+pub use laws::{
+    a_new_receiver_stands_for_nothing, receivers_follow_datagrams, receivers_follow_the_end,
+    released_slices_are_not_out,
+};
+
+#[cfg(test)]
+mod tests;

@@ -1,0 +1,9 @@
+use super::*;
+
+#[test]
+fn laws_hold() {
+    a_new_receiver_stands_for_nothing();
+    receivers_follow_datagrams();
+    receivers_follow_the_end();
+    released_slices_are_not_out();
+}
