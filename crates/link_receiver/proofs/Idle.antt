@@ -7,7 +7,7 @@ use Rattle.std.specs.Option.{option_and_then, option_map, option_map_or}
 use Rattle.std.proofs.lemmas.Bool.{cond-false}
 use Rattle.std.proofs.lemmas.List.{append-nil}
 use Rattle.std.proofs.lemmas.Option.{none-some}
-use Rattle.link_model.specs.Feeders.{Feeder, session_of, kept_job, pictures_of, let_go_pictures}
+use Rattle.link_model.specs.Feeders.{Feeder, session_opening, kept_job, heard_pictures, let_go_pictures}
 use Rattle.link_model.specs.Feeders.{slice_job, has_released, is_decoded, not_released, releasable}
 use Rattle.link_model.specs.Feeders.{keeps_of, job_by, EnteredSession}
 use Rattle.link_model.specs.Feeding.{hears_datagram, hears_end, takes_answer, with_answer, has_job}
@@ -159,11 +159,11 @@ module _ (size : ℕ) (f : Feeder) (idle : IsIdle size f) where
       (all_unused dones) ∙ stays_idle
 
 nothing_kept : (size n i : ℕ) → kept_job size [] n i ≡ None
-unfolding kept_job session_of
+unfolding kept_job session_opening
 nothing_kept size n i = refl
 
-no_session : (size n : ℕ) → session_of size [] n ≡ None
-unfolding session_of
+no_session : (size n : ℕ) → session_opening size [] n ≡ None
+unfolding session_opening
 no_session size n = refl
 
 nothing_kept_yet : (size : ℕ) (s : Session) (n i : ℕ)
@@ -358,7 +358,7 @@ module _ (r : Reception) (size : ℕ) (small : size ≤ 8) (f : Feeder) (stands 
       sessions_first = heard_now ∙ hears_new [] d s opens
 
       idle_first : IsIdle size f_now
-      unfolding let_go_pictures pictures_of let_go_numbers opened_numbers greatest least parts_of
+      unfolding let_go_pictures heard_pictures let_go_numbers opened_numbers greatest least parts_of
       idle_first = record {
         none_kept = λ n i. ap (λ (l : List HeardSession). kept_job size l n i) sessions_first
             ∙ nothing_kept_yet size s n i;
@@ -486,7 +486,7 @@ module _ (r : Reception) (size : ℕ) (small : size ≤ 8) (f : Feeder) (stands 
   standing_end = same_end.standing ∙ idle_end
 
   over_idle : IsIdle size f_end
-  unfolding let_go_pictures pictures_of
+  unfolding let_go_pictures heard_pictures
   over_idle = record {
     none_kept = λ n i. ap (λ (l : List HeardSession). kept_job size l n i) at
         ∙ nothing_kept size n i;

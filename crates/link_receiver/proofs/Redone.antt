@@ -8,7 +8,7 @@ use Rattle.std.proofs.lemmas.Bool.{false≢true}
 use Rattle.std.proofs.lemmas.Option.{none-some, same_Some}
 use Rattle.link_model.specs.Feeders.{Feeder, SliceAnswer, answer_in, kept_job, picture_keeps}
 use Rattle.link_model.specs.Feeders.{job_by}
-use Rattle.link_model.specs.Feeders.{job_with, session_of, keeps_of, EnteredSession, is_among}
+use Rattle.link_model.specs.Feeders.{job_with, session_opening, keeps_of, EnteredSession, is_among}
 use Rattle.link_model.specs.Feeding.{with_answer}
 use Rattle.link_model.specs.Kept.{Own, own_slice}
 use Rattle.link_model.specs.Machine.{Event, Redo, feeder_after}

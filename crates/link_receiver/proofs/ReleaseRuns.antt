@@ -10,7 +10,7 @@ use Rattle.std.proofs.lemmas.List.{append_assoc, append-nil}
 use Rattle.std.proofs.lemmas.List.Sums.{fold-append}
 use Rattle.link_model.specs.Complete.{slice_numbers, has_all_slices}
 use Rattle.link_model.specs.Feeders.{Feeder, SliceAnswer, is_among, is_decoded, keeps_now}
-use Rattle.link_model.specs.Feeders.{pictures_of, let_go_pictures, not_released, releasable}
+use Rattle.link_model.specs.Feeders.{heard_pictures, let_go_pictures, not_released, releasable}
 use Rattle.link_model.specs.Kept.{Own}
 use Rattle.link_model.specs.Machine.{Event, Redo, Release, feeder_after}
 use Rattle.link_model.specs.Next.{feeder_run, unanswered, releasing, all_releasing}
@@ -259,8 +259,8 @@ module _ (size : ℕ) (hs : List HeardSession) (t : Tally) where
     releasable_are =
         ap (λ (l : List ℕ). not_released l
         (let_go_pictures size f.has_ended (sessions_of f.heard))) works.released
-        ∙ ap (not_released (pictures_of size hs ++ p.released)) works.let_go
-        ∙ unreleased_are p works.window.in_order (pictures_of size hs) works.apart
+        ∙ ap (not_released (heard_pictures size hs ++ p.released)) works.let_go
+        ∙ unreleased_are p works.window.in_order (heard_pictures size hs) works.apart
 
     books_are : book_count r ≡ length (window_of p).books
     books_are =

@@ -16,13 +16,13 @@ use Rattle.std.proofs.lemmas.List.Sums.{fold_push, fold-append, length-filter}
 use Rattle.std.proofs.lemmas.Option.{none-some, same_Some}
 use Rattle.link_model.specs.Books.{Book, book_of}
 use Rattle.link_model.specs.Complete.{slice_numbers, has_all_slices, picture_planes, whole_picture}
-use Rattle.link_model.specs.Feeders.{Feeder, EnteredSession, SliceAnswer, session_of, keeps_of}
-use Rattle.link_model.specs.Feeders.{kept_job, picture_keeps, pictures_of, is_among, answer_in}
+use Rattle.link_model.specs.Feeders.{Feeder, EnteredSession, SliceAnswer, session_opening, keeps_of}
+use Rattle.link_model.specs.Feeders.{kept_job, picture_keeps, heard_pictures, is_among, answer_in}
 use Rattle.link_model.specs.Feeders.{has_released, is_decoded, keeps_now}
 use Rattle.link_model.specs.Feeding.{planes_by, built_planes, frame_of, built_bytes}
 use Rattle.link_model.specs.Feeding.{releases_picture}
 use Rattle.link_model.specs.Judgement.{is_incomplete, is_unsound, has_frame}
-use Rattle.link_model.specs.Kept.{Own, own, own_slice, parted}
+use Rattle.link_model.specs.Kept.{Own, own, own_slice, split_parts}
 use Rattle.link_model.specs.Machine.{Event, Redo, Release, feeder_after}
 use Rattle.link_model.specs.Next.{feeder_run, unanswered, releasing}
 use Rattle.link_model.specs.Numbers.{Numbered, is_opened, has_parts, parts_of}
@@ -139,7 +139,7 @@ module _ (s : Sequence) (es : List Numbered) (m : ℕ) where
 
   -- and so is one that keeps something
   keeps_opened : (kept : Own) → own s (parts_of m es) ≡ Some kept → is_opened es m ≡ true
-  unfolding own parted
+  unfolding own split_parts
   keeps_opened kept is = by_parts (parts_of m es) is
     where
       by_parts : (parts : List Part) → own s parts ≡ Some kept → has_parts parts ≡ true
@@ -572,7 +572,7 @@ module _ (r : Reception) (size : ℕ) (f : Feeder) (hs : List HeardSession) (p :
     window = releases_stands st.window p works.window n next;
     let_go = works.let_go;
     released = ap (λ (l : List ℕ). l ++ n ∷ []) works.released
-        ∙ append_assoc (pictures_of size hs) p.released (n ∷ []);
+        ∙ append_assoc (heard_pictures size hs) p.released (n ∷ []);
     opened = works.opened;
     others = works.others;
     apart = works.apart;

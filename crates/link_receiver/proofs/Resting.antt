@@ -8,7 +8,7 @@ use Rattle.std.proofs.lemmas.List.{append-nil}
 use Rattle.std.proofs.lemmas.List.Sums.{fold-append}
 use Rattle.std.proofs.lemmas.Bool.{cases_Bool, cond-true, cond-false}
 use Rattle.std.proofs.lemmas.Option.{none-some}
-use Rattle.link_model.specs.Feeders.{Feeder, pictures_of, let_go_pictures, is_among, is_decoded}
+use Rattle.link_model.specs.Feeders.{Feeder, heard_pictures, let_go_pictures, is_among, is_decoded}
 use Rattle.link_model.specs.Feeding.{hears_datagram, hears_end, takes_answer, with_answer, has_job}
 use Rattle.link_model.specs.Judgement.{outcomes_in, outcome_counts, with_pictures, with_sessions}
 use Rattle.link_model.specs.Judgement.{is_incomplete, is_unsound, is_unpaired, has_frame}

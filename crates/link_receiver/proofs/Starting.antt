@@ -8,9 +8,9 @@ use Rattle.std.specs.Option.{option_and_then, option_map, option_map_or}
 use Rattle.std.proofs.lemmas.Bool.{cases_Bool, eq-eqb, false_from_ne_true, both_ways}
 use Rattle.std.proofs.lemmas.List.{append_assoc, append-nil}
 use Rattle.std.proofs.lemmas.Option.{none-some}
-use Rattle.link_model.specs.Feeders.{Feeder, SliceAnswer, session_of, entered_session}
+use Rattle.link_model.specs.Feeders.{Feeder, SliceAnswer, session_opening, entered_session}
 use Rattle.link_model.specs.Feeders.{picture_keeps}
-use Rattle.link_model.specs.Feeders.{pictures_of, let_go_pictures, is_among, EnteredSession}
+use Rattle.link_model.specs.Feeders.{heard_pictures, let_go_pictures, is_among, EnteredSession}
 use Rattle.link_model.specs.Feeding.{hears_datagram, hears_end, planes_by, sound_answers}
 use Rattle.link_model.specs.Judgement.{outcome_behind, outcomes_in, outcome_counts, with_outcome}
 use Rattle.link_model.specs.Judgement.{with_sessions}
@@ -100,18 +100,18 @@ module _ (size : ℕ) (h : HeardSession) (hs : List HeardSession) where
   es_of = entered_behind size hs h
 
   pub of_last : (n : ℕ) → is_opened es_of n ≡ true
-      → session_of size (h ∷ hs) n ≡ Some (entered_session size hs h)
+      → session_opening size (h ∷ hs) n ≡ Some (entered_session size hs h)
   of_last n opened = session_last size h hs n opened
 
   pub of_others : (n : ℕ) → is_opened es_of n ≡ false
-      → (is_among (pictures_of size hs) n ≡ true) ⊎ (session_of size (h ∷ hs) n ≡ None)
+      → (is_among (heard_pictures size hs) n ≡ true) ⊎ (session_opening size (h ∷ hs) n ≡ None)
   of_others n shut = elim (cases_Bool (is_opened_in size hs n)) [
     | inl was ↦ inl (pictures_among size hs n ∙ was)
     | inr none ↦ inr (session_before size h hs n shut ∙ session_none size hs n none)
   ]
 
   pub not_before : size ≤ 8 → (n : ℕ) → is_opened es_of n ≡ true
-      → is_among (pictures_of size hs) n ≡ false
+      → is_among (heard_pictures size hs) n ≡ false
   not_before small n opened = pictures_among size hs n
       ∙ false_from_ne_true (is_opened_in size hs n)
       (λ was. both_ways (is_opened es_of n) (sessions_apart size hs h n small was) opened)
@@ -148,7 +148,7 @@ module _ (r : Reception) (size : ℕ) (small : size ≤ 8) (f : Feeder) (stands 
       (outcome_counts (outcomes_in size f.heard))) at
 
   let_go_at_rest : let_go_pictures size f.has_ended (sessions_of f.heard)
-      ≡ pictures_of size hs ++ past_let_go past_at_rest
+      ≡ heard_pictures size hs ++ past_let_go past_at_rest
   unfolding let_go_pictures
   let_go_at_rest =
       ap (λ (over : Bool). let_go_pictures size over (sessions_of f.heard)) runs
@@ -170,10 +170,10 @@ module _ (r : Reception) (size : ℕ) (small : size ≤ 8) (f : Feeder) (stands 
     window = resting_stands (last_past size false hs h);
     let_go = let_go_at_rest;
     released = stands.released ∙ let_go_at_rest;
-    opened = λ n opened. ap (λ (l : List HeardSession). session_of size l n) at
+    opened = λ n opened. ap (λ (l : List HeardSession). session_opening size l n) at
         ∙ of_last size h hs n opened;
     others = λ n shut. subst (λ (l : List HeardSession).
-        (is_among (pictures_of size hs) n ≡ true) ⊎ (session_of size l n ≡ None)) (sym at)
+        (is_among (heard_pictures size hs) n ≡ true) ⊎ (session_opening size l n ≡ None)) (sym at)
         (of_others size h hs n shut);
     apart = not_before size h hs small;
     written = written_at_rest;
@@ -316,7 +316,7 @@ module _ (r : Reception) (size : ℕ) (small : size ≤ 8) (f : Feeder) (stands 
           or_later false e = e
 
       let_go_now : let_go_pictures size f.has_ended (sessions_of now_heard)
-          ≡ pictures_of size hs ++ past_let_go past_now
+          ≡ heard_pictures size hs ++ past_let_go past_now
       unfolding let_go_pictures
       let_go_now =
           ap (λ (over : Bool). let_go_pictures size over (sessions_of now_heard)) runs
@@ -333,10 +333,10 @@ module _ (r : Reception) (size : ℕ) (small : size ≤ 8) (f : Feeder) (stands 
         window = window_now;
         let_go = let_go_now;
         released = stands.released ∙ let_go_at_rest;
-        opened = λ n opened. ap (λ (l : List HeardSession). session_of size l n) sessions_now
+        opened = λ n opened. ap (λ (l : List HeardSession). session_opening size l n) sessions_now
             ∙ of_last size h_now hs n opened;
         others = λ n shut. subst (λ (l : List HeardSession).
-            (is_among (pictures_of size hs) n ≡ true) ⊎ (session_of size l n ≡ None))
+            (is_among (heard_pictures size hs) n ≡ true) ⊎ (session_opening size l n ≡ None))
             (sym sessions_now) (of_others size h_now hs n shut);
         apart = not_before size h_now hs small;
         written = written_at_rest ∙ ap (λ (l : List ℕ). all_output size hs ++ l)
@@ -366,16 +366,16 @@ module _ (r : Reception) (size : ℕ) (small : size ≤ 8) (f : Feeder) (stands 
           ∙ hears_new (h ∷ hs) d s opens
 
       let_go_next : let_go_pictures size f.has_ended (sessions_of now_heard)
-          ≡ pictures_of size hs ++ past_let_go past_over
-      unfolding let_go_pictures pictures_of let_go_numbers opened_numbers greatest least parts_of
+          ≡ heard_pictures size hs ++ past_let_go past_over
+      unfolding let_go_pictures heard_pictures let_go_numbers opened_numbers greatest least parts_of
       let_go_next =
           ap (λ (over : Bool). let_go_pictures size over (sessions_of now_heard)) runs
           ∙ ap (let_go_pictures size false) sessions_next
-          ∙ append-nil (pictures_of size (h ∷ hs))
+          ∙ append-nil (heard_pictures size (h ∷ hs))
 
-      session_next : (n : ℕ) → session_of size (sessions_of now_heard) n
-          ≡ session_of size (h ∷ hs) n
-      session_next n = ap (λ (l : List HeardSession). session_of size l n) sessions_next
+      session_next : (n : ℕ) → session_opening size (sessions_of now_heard) n
+          ≡ session_opening size (h ∷ hs) n
+      session_next n = ap (λ (l : List HeardSession). session_opening size l n) sessions_next
           ∙ session_opens size s (h ∷ hs) n
 
       pub next_works : IsWorking (keeps_datagram r d) size (hears_datagram f d) hs past_over
@@ -392,7 +392,7 @@ module _ (r : Reception) (size : ℕ) (small : size ≤ 8) (f : Feeder) (stands 
         released = stands.released ∙ let_go_at_rest;
         opened = λ n opened. session_next n ∙ of_last size h hs n opened;
         others = λ n shut. subst (λ (o : Option EnteredSession).
-            (is_among (pictures_of size hs) n ≡ true) ⊎ (o ≡ None))
+            (is_among (heard_pictures size hs) n ≡ true) ⊎ (o ≡ None))
             (sym (session_next n)) (of_others size h hs n shut);
         apart = not_before size h hs small;
         written = written_at_rest;
@@ -407,8 +407,8 @@ module _ (r : Reception) (size : ℕ) (small : size ≤ 8) (f : Feeder) (stands 
   -- ---- the end of the input
 
   end_let_go : let_go_pictures size true (sessions_of f.heard)
-      ≡ pictures_of size hs ++ past_let_go (past_finishes past_at_rest)
-  unfolding let_go_pictures pictures_of
+      ≡ heard_pictures size hs ++ past_let_go (past_finishes past_at_rest)
+  unfolding let_go_pictures heard_pictures
   end_let_go = ap (let_go_pictures size true) at
 
   pub end_works : IsWorking (ends_input r) size (hears_end f) hs (past_finishes past_at_rest)

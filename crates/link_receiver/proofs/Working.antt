@@ -13,8 +13,8 @@ use Rattle.std.proofs.lemmas.Option.{none-some, same_Some}
 use Rattle.std.proofs.lemmas.Slice.Eq.{bytes_eq-Decides}
 use Rattle.link_model.specs.Books.{Book, book_of, Gathered, gathered_of, slot_at}
 use Rattle.link_model.specs.Complete.{slice_numbers}
-use Rattle.link_model.specs.Feeders.{Feeder, EnteredSession, session_of, keeps_of, job_by, job_with}
-use Rattle.link_model.specs.Feeders.{kept_job, picture_keeps, pictures_of, let_go_pictures}
+use Rattle.link_model.specs.Feeders.{Feeder, EnteredSession, session_opening, keeps_of, job_by, job_with}
+use Rattle.link_model.specs.Feeders.{kept_job, picture_keeps, heard_pictures, let_go_pictures}
 use Rattle.link_model.specs.Feeders.{is_among, answer_in, has_released, slice_job, SliceAnswer}
 use Rattle.link_model.specs.Feeders.{is_decoded}
 use Rattle.link_model.specs.Feeding.{is_same_job, has_job, takes_answer, with_answer, planes_by}
@@ -63,14 +63,14 @@ pub record IsWorking (r : Reception) (size : ℕ) (f : Feeder) (hs : List HeardS
   pub sequence : st.session.sequence ≡ p.sequence
   pub window : StandsForPast st.window p
   pub let_go : let_go_pictures size f.has_ended (sessions_of f.heard)
-      ≡ pictures_of size hs ++ past_let_go p
-  pub released : f.released ≡ pictures_of size hs ++ p.released
+      ≡ heard_pictures size hs ++ past_let_go p
+  pub released : f.released ≡ heard_pictures size hs ++ p.released
   pub opened : (n : ℕ) → is_opened p.entries n ≡ true
-      → session_of size (sessions_of f.heard) n ≡ Some (entered_of p)
+      → session_opening size (sessions_of f.heard) n ≡ Some (entered_of p)
   pub others : (n : ℕ) → is_opened p.entries n ≡ false
-      → (is_among (pictures_of size hs) n ≡ true)
-      ⊎ (session_of size (sessions_of f.heard) n ≡ None)
-  pub apart : (n : ℕ) → is_opened p.entries n ≡ true → is_among (pictures_of size hs) n ≡ false
+      → (is_among (heard_pictures size hs) n ≡ true)
+      ⊎ (session_opening size (sessions_of f.heard) n ≡ None)
+  pub apart : (n : ℕ) → is_opened p.entries n ≡ true → is_among (heard_pictures size hs) n ≡ false
   pub written : f.written
       ≡ all_output size hs ++ flat_map (frame_bytes_at p.sequence p.entries) p.released
   pub own : AreOwnAnswers size (sessions_of f.heard) f.decoded
@@ -151,7 +151,7 @@ pub kept_job_is : (size : ℕ) (hs : List HeardSession) (n i : ℕ) (job : Job)
     → (kept : Own) × (picture_keeps size hs n ≡ Some kept) × (job.plan ≡ kept.plan.parameters)
     × (i < slice_count kept.plan.parameters)
 unfolding kept_job
-kept_job_is size hs n i job is = by_session (session_of size hs n) refl is
+kept_job_is size hs n i job is = by_session (session_opening size hs n) refl is
   where
     by_slice : (e : EnteredSession) (kept : Own) → own e.sequence (parts_of n e.entries) ≡ Some kept
         → (o : Option (List ℕ)) → own_slice kept i ≡ o → option_map (job_with kept n i) o ≡ Some job
@@ -166,7 +166,7 @@ kept_job_is size hs n i job is = by_session (session_of size hs n) refl is
       ],
     )
 
-    by_kept : (e : EnteredSession) → session_of size hs n ≡ Some e → (o : Option Own)
+    by_kept : (e : EnteredSession) → session_opening size hs n ≡ Some e → (o : Option Own)
         → keeps_of e n ≡ o → option_and_then (λ kept. job_by kept n i) o ≡ Some job
         → (kept : Own) × (picture_keeps size hs n ≡ Some kept) × (job.plan ≡ kept.plan.parameters)
         × (i < slice_count kept.plan.parameters)
@@ -175,7 +175,7 @@ kept_job_is size hs n i job is = by_session (session_of size hs n) refl is
         let found = by_slice e kept keeps (own_slice kept i) refl is in
         (kept, ap (option_and_then (λ e. keeps_of e n)) at ∙ keeps, found.0, found.1)
 
-    by_session : (o : Option EnteredSession) → session_of size hs n ≡ o
+    by_session : (o : Option EnteredSession) → session_opening size hs n ≡ o
         → option_and_then (λ kept. job_by kept n i) (option_and_then (λ e. keeps_of e n) o)
         ≡ Some job
         → (kept : Own) × (picture_keeps size hs n ≡ Some kept) × (job.plan ≡ kept.plan.parameters)
@@ -186,9 +186,9 @@ kept_job_is size hs n i job is = by_session (session_of size hs n) refl is
 module _ (r : Reception) (size : ℕ) (f : Feeder) (hs : List HeardSession) (p : WindowPast)
     (st : StandingSession) (t : Tally) (works : IsWorking r size f hs p st t) where
   pub released_parts : (n : ℕ)
-      → has_released f n ≡ (is_among (pictures_of size hs) n || is_among p.released n)
+      → has_released f n ≡ (is_among (heard_pictures size hs) n || is_among p.released n)
   released_parts n = ap (λ (l : List ℕ). is_among l n) works.released
-      ∙ among_append (pictures_of size hs) p.released n
+      ∙ among_append (heard_pictures size hs) p.released n
 
   pub last_released_is : st.window.last_released ≡ last_or None p.released
   unfolding window_of
@@ -253,7 +253,7 @@ module _ (r : Reception) (size : ℕ) (f : Feeder) (hs : List HeardSession) (p :
       own_job_by n i
       ∙ elim (cases_Bool (is_opened p.entries n)) [
         | inl opened ↦ (let above = sym (released_is p works.window.in_order n opened)
-            ∙ (or_parts (is_among (pictures_of size hs) n) (is_among p.released n)
+            ∙ (or_parts (is_among (heard_pictures size hs) n) (is_among p.released n)
             (sym (released_parts n) ∙ stays)).1 in
             cond-false (released_up_to (last_or None p.released) n) None
             (window_job st.window n i) above
@@ -275,10 +275,10 @@ module _ (r : Reception) (size : ℕ) (f : Feeder) (hs : List HeardSession) (p :
       both_none true = refl
       both_none false = refl
 
-      feeder_none : (is_among (pictures_of size hs) n ≡ true)
-          ⊎ (session_of size (sessions_of f.heard) n ≡ None) → slice_job size f n i ≡ None
-      feeder_none (inl before) = absurd (both_ways (is_among (pictures_of size hs) n)
-          (or_parts (is_among (pictures_of size hs) n) (is_among p.released n)
+      feeder_none : (is_among (heard_pictures size hs) n ≡ true)
+          ⊎ (session_opening size (sessions_of f.heard) n ≡ None) → slice_job size f n i ≡ None
+      feeder_none (inl before) = absurd (both_ways (is_among (heard_pictures size hs) n)
+          (or_parts (is_among (heard_pictures size hs) n) (is_among p.released n)
           (sym (released_parts n) ∙ stays)).0 before)
       feeder_none (inr none) = ap (λ (o : Option EnteredSession).
           option_and_then (λ kept. job_by kept n i) (option_and_then (λ e. keeps_of e n) o)) none
@@ -313,7 +313,7 @@ module _ (r : Reception) (size : ℕ) (f : Feeder) (hs : List HeardSession) (p :
   waiting_released w is =
       let found = waiting_is p.sequence p.entries w p.released (sym works.waiting ∙ is) in
       released_parts w.number
-      ∙ or_right (is_among (pictures_of size hs) w.number) (is_among p.released w.number)
+      ∙ or_right (is_among (heard_pictures size hs) w.number) (is_among p.released w.number)
       (ap (is_among p.released) found.2.number ∙ found.1)
     where
       or_right : (a b : Bool) → b ≡ true → (a || b) ≡ true
