@@ -23,8 +23,8 @@ pub mod Hearing
 pub mod SessionRows
 pub mod Apart
 pub mod Following
-pub mod SessionOutcomes
 pub mod OpeningOutcomes
+pub mod SessionOutcomes
 pub mod Closing
 pub mod SessionOutput
 pub mod Rounds
