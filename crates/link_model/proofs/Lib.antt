@@ -19,6 +19,7 @@ pub mod RisingNumbers
 pub mod LettingGo
 pub mod WindowStands
 pub mod WindowBounds
+pub mod WindowNumbers
 pub mod Hearing
 pub mod SessionRows
 pub mod Apart

@@ -62,9 +62,9 @@ pub fn windows_stay_small()
     ensures running { (w : Window) (f : Fragment) → (window_enters w f).is_ended ≡ w.is_ended }
 {}
 
-/// The window of a list's last session: its past goes on with each datagram, its greatest number
-/// is that of all sessions so far, and the picture of a fragment that isn't late is the nearest
-/// one to it.
+/// The window of a list's last session: its past goes on with each datagram, and its greatest number
+/// is that of all sessions so far. The picture of a fragment that isn't late is the nearest one to
+/// the greatest number behind it, and has its book.
 pub fn windows_follow_sessions()
     ensures greatest { (size : ℕ) (hs : List HeardSession) (h : HeardSession)
         → (released : List ℕ) (w : Window)
@@ -77,9 +77,14 @@ pub fn windows_follow_sessions()
         → (released : List ℕ) (d : List ℕ)
         → fragment_in h.session d ≡ None → session_past size hs (with_datagram h d) released
         ≡ session_past size hs h released }
-    ensures number { (before window : ℕ) (f : Fragment) → f.number < 2 ^ 32
-        → (fragments : List Fragment)
-        → let es = entered (base_above before) window fragments in
-        let n = picture_number (base_above before) es f.number in is_late window es n ≡ false
-        → nearest (greatest (enters (base_above before) window es f)) f.number ≡ n }
+    ensures number { (w : Window) (p : WindowPast) → StandsForPast w p → p.is_ended ≡ false
+        → (f : Fragment) → let n = picture_number (base_above p.before) p.entries f.number in
+        is_late p.size p.entries n ≡ false → (fragments : List Fragment)
+        → p.entries ≡ entered (base_above p.before) p.size fragments → f.number < 2 ^ 32
+        → nearest (window_enters w f).top f.number ≡ n }
+    ensures book { (w : Window) (p : WindowPast) → StandsForPast w p → p.is_ended ≡ false
+        → (f : Fragment) → let n = picture_number (base_above p.before) p.entries f.number in
+        is_late p.size p.entries n ≡ false → 0 < p.size
+        → book_at (window_enters w f).books n
+        ≡ Some (book_of p.sequence (parts_of n (past_enters p f).entries)) }
 {}
