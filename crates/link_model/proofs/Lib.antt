@@ -19,12 +19,13 @@ pub mod RisingNumbers
 pub mod LettingGo
 pub mod WindowStands
 pub mod WindowBounds
+pub mod WindowNumbers
 pub mod Hearing
 pub mod SessionRows
 pub mod Apart
 pub mod Following
-pub mod SessionOutcomes
 pub mod OpeningOutcomes
+pub mod SessionOutcomes
 pub mod Closing
 pub mod SessionOutput
 pub mod Rounds
