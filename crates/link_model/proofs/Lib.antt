@@ -30,3 +30,4 @@ pub mod BuiltFrames
 pub mod MachineHalves
 pub mod MachineKept
 pub mod MachineRuns
+pub mod FeederWay
