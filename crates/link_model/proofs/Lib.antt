@@ -23,6 +23,8 @@ pub mod SessionOutput
 pub mod Rounds
 pub mod MachineRows
 pub mod PlacesKept
+pub mod Positions
+pub mod SameJobs
 pub mod RisingNumbers
 pub mod PicturesHeard
 pub mod PicturesStay
