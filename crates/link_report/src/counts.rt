@@ -11,7 +11,8 @@ pub(crate) struct Count(pub(crate) &'static str, pub(crate) u64);
 
 #[tactic(auto, unfolding(crate::specs::Report::line))]
 fn push_count(text: &mut String, count: &Count) -> Result<(), NoMemory>
-    ensures { OnOk result (string_bytes text.new ≡ string_bytes text.old ++ line count.now.0.now count.now.1) }
+    ensures { OnOk result
+        (string_bytes text.new ≡ string_bytes text.old ++ line count.now.0.now count.now.1) }
 {
     let Count(name, number) = count;
     write!(text, "{name} {number}\n")?;
@@ -20,7 +21,8 @@ fn push_count(text: &mut String, count: &Count) -> Result<(), NoMemory>
 
 // Adds a line for each count.
 pub(crate) fn push_counts(text: &mut String, counts: &[Count]) -> Result<(), NoMemory>
-    ensures { OnOk result (string_bytes text.new ≡ string_bytes text.old ++ lines (map named counts.now)) }
+    ensures { OnOk result
+        (string_bytes text.new ≡ string_bytes text.old ++ lines (map named counts.now)) }
 {
     'counts: for count in counts {
         push_count(text, count)?;

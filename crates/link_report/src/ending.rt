@@ -52,7 +52,8 @@ impl Ending {
     // Adds the line of the status to a text.
     #[tactic(auto, unfolding(crate::specs::Report::status_line, crate::specs::Report::line))]
     pub(crate) fn push_to(&self, text: &mut String) -> Result<(), NoMemory>
-        ensures { OnOk result (string_bytes text.new ≡ string_bytes text.old ++ status_line self.now) }
+        ensures { OnOk result
+            (string_bytes text.new ≡ string_bytes text.old ++ status_line self.now) }
     {
         match *self {
             Ending::Usage { place } => write!(text, "usage at {place}\n")?,

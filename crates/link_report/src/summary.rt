@@ -57,7 +57,8 @@ impl Summary {
     // Adds the lines to a text.
     #[tactic(auto, using(crate::proofs::Lines::lines_append), unfolding(crate::specs::Report::summary_lines))]
     pub(crate) fn push_to(&self, text: &mut String) -> Result<(), NoMemory>
-        ensures { OnOk result (string_bytes text.new ≡ string_bytes text.old ++ summary_text self.now) }
+        ensures { OnOk result
+            (string_bytes text.new ≡ string_bytes text.old ++ summary_text self.now) }
     {
         match *self {
             Summary::Judged { tally } => push_counts(text, &tally_counts(&tally)),

@@ -23,8 +23,10 @@ fn tally_string(alloc: Global, tally: &Tally) -> Result<String, NoMemory>
 /// report a prefix of them went out.
 pub fn write_tally<O: Sink>(alloc: Global, sink: &mut O, tally: &Tally) -> Result<(), ReportFault>
     ensures ok { OnOk result (Grew (O.held sink.old) (O.held sink.new) (tally_text tally.now)) }
-    ensures err { OnErr result (GrewBySome (O.held sink.old) (O.held sink.new) (tally_text tally.now)) }
-    ensures cause { HasCause (O.faults sink.old) (O.faults sink.new) (result ≡ Err ReportFault.ReportFault) }
+    ensures err { OnErr result
+        (GrewBySome (O.held sink.old) (O.held sink.new) (tally_text tally.now)) }
+    ensures cause { HasCause (O.faults sink.old) (O.faults sink.new)
+        (result ≡ Err ReportFault.ReportFault) }
     ensures no_memory { result ≡ Err ReportFault.NoMemory → sink.new ≡ sink.old }
 {
     let Ok(text) = tally_string(alloc, tally) else {

@@ -86,7 +86,8 @@ fn lacks_name(command: Command, words: &Words) -> bool
 /// that is not given has its default.
 #[tactic(auto, unfolding(crate::specs::Settings::settings_of))]
 pub fn read_words<'a>(words: &'a Words) -> Result<Settings<'a>, Usage>
-    ensures exact { settings_of words.now ≡ result_map_both meaning_view (λ usage. usage.place) result }
+    ensures exact { settings_of words.now
+        ≡ result_map_both meaning_view (λ usage. usage.place) result }
 {
     if words.len() == 0 {
         return Err(Usage { place: 0 });

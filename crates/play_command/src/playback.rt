@@ -89,8 +89,8 @@ impl Playback {
         requires shape { HasShape (playback_state self.old) }
         requires picture { HaveShape (picture_shape (sequence_of self.old.header))
             (planes_in picture.planes) }
-        ensures value { IfOk result
-            (CompletesFrame (playback_state self.old) (picture_of picture) (playback_state self.new)) }
+        ensures value { IfOk result (CompletesFrame
+            (playback_state self.old) (picture_of picture) (playback_state self.new)) }
         ensures shape { OnOk result (HasShape (playback_state self.new)) }
     {
         if !self.header.fields {

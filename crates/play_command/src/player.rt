@@ -49,7 +49,8 @@ impl Player {
         ensures cause { HasCause (O.faults output.old) (O.faults output.new)
             (result ≡ Err TakeFault.WriteFault) }
         ensures few { OnOk result ((n : ℕ)
-            → CountsAtMost n (player_state self.old) → CountsAtMost (n + 1) (player_state self.new)) }
+            → CountsAtMost n (player_state self.old)
+            → CountsAtMost (n + 1) (player_state self.new)) }
     {
         match unit.code {
             SEQUENCE_HEADER => self.agree(&unit.body),

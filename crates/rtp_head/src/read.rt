@@ -99,8 +99,10 @@ pub fn read_rtp(bytes: &[u8]) -> Result<RtpView, RtpRefusal>
     ensures places { IfOk result (λ v. (v.from ≤ v.to) × (v.to ≤ length bytes.now)) }
 
     ensures short_exactly { (result ≡ Err RtpRefusal.Short) ↔ (length bytes.now < 12) }
-    ensures version_exactly { (result ≡ Err RtpRefusal.Version) ↔ ((12 ≤ length bytes.now) × (version bytes.now ≢ 2)) }
-    ensures shape_exactly { (result ≡ Err RtpRefusal.Shape) ↔ ((12 ≤ length bytes.now) × (version bytes.now ≡ 2) × IsFalse (is_shaped bytes.now)) }
+    ensures version_exactly { (result ≡ Err RtpRefusal.Version)
+        ↔ ((12 ≤ length bytes.now) × (version bytes.now ≢ 2)) }
+    ensures shape_exactly { (result ≡ Err RtpRefusal.Shape)
+        ↔ ((12 ≤ length bytes.now) × (version bytes.now ≡ 2) × IsFalse (is_shaped bytes.now)) }
 {
     if bytes.len() < FIXED_BYTES {
         return Err(RtpRefusal::Short);

@@ -7,7 +7,13 @@ use Rattle.vc2_payload.specs.declared.payload.Payload.{Payload}
 use Rattle.vc2_payload.specs.declared.payload.Payload.TheVariants.{Header, End, Skip, Params, Slices}
 
 abbrev pub head_of : FragmentHead → packets.FragmentHead
-head_of h = record { high = h.high; flags = h.flags; number = h.number; prefix = h.prefix; scaler = h.scaler }
+head_of h = record {
+  high = h.high;
+  flags = h.flags;
+  number = h.number;
+  prefix = h.prefix;
+  scaler = h.scaler;
+}
 
 abbrev pub payload_value : Payload → PayloadValue
 payload_value (Header high from body) = packets.Header high from body.now

@@ -83,8 +83,11 @@ pub fn read_payload(bytes: &[u8]) -> Result<Payload<'_>, PayloadRefusal>
     ensures writable { IfOk result CanBeWritten }
 
     ensures short_exactly { (result ≡ Err PayloadRefusal.Short) ↔ (length bytes.now < 4) }
-    ensures code_exactly { (result ≡ Err PayloadRefusal.Code) ↔ ((4 ≤ length bytes.now) × IsFalse (is_known_code (payload_code bytes.now))) }
-    ensures fragment_exactly { (result ≡ Err PayloadRefusal.Fragment) ↔ ((4 ≤ length bytes.now) × (payload_code bytes.now ≡ fragment_code) × IsFalse (fragment_fits bytes.now)) }
+    ensures code_exactly { (result ≡ Err PayloadRefusal.Code)
+        ↔ ((4 ≤ length bytes.now) × IsFalse (is_known_code (payload_code bytes.now))) }
+    ensures fragment_exactly { (result ≡ Err PayloadRefusal.Fragment)
+        ↔ ((4 ≤ length bytes.now) × (payload_code bytes.now ≡ fragment_code)
+        × IsFalse (fragment_fits bytes.now)) }
 {
     if bytes.len() < HEAD_BYTES {
         return Err(PayloadRefusal::Short);

@@ -51,7 +51,8 @@ fn offset_bytes(x: u16, y: u16) -> [u8; 4]
 
 // Appends all pieces, or none.
 fn append(out: &mut Vec<u8>, head: &[u8], offsets: &[u8], body: &[u8]) -> Result<(), NoMemory>
-    ensures ok { OnOk result (out.new.items ≡ out.old.items ++ (head.now ++ (offsets.now ++ body.now))) }
+    ensures ok { OnOk result
+        (out.new.items ≡ out.old.items ++ (head.now ++ (offsets.now ++ body.now))) }
     ensures unchanged { OnErr result (out.new.items ≡ out.old.items) }
 {
     let before = out.len();
@@ -68,7 +69,8 @@ fn append(out: &mut Vec<u8>, head: &[u8], offsets: &[u8], body: &[u8]) -> Result
 #[tactic(auto, unfolding(link_model::specs::Packets::payload_bytes))]
 pub fn write_payload(out: &mut Vec<u8>, p: &Payload<'_>) -> Result<(), NoMemory>
     requires { CanBeWritten p.now }
-    ensures value { OnOk result (out.new.items ≡ out.old.items ++ payload_bytes (payload_value p.now)) }
+    ensures value { OnOk result
+        (out.new.items ≡ out.old.items ++ payload_bytes (payload_value p.now)) }
     ensures unchanged { OnErr result (out.new.items ≡ out.old.items) }
 {
     match p {

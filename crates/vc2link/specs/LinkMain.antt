@@ -128,6 +128,6 @@ pub record Does (meaning : Meaning) (status : ℕ) (c : Changes) : Type 0 where
   pub completes : IsTrue (is_built meaning) → Completes meaning status c
 
 -- By what the words mean. Words outside the grammar are refused by the place of the first bad one.
-abbrev pub Answers : Result Meaning ℕ → ℕ → Changes → Type 0
-Answers (Ok meaning) status c = Does meaning status c
-Answers (Err place) status c = Reports (Stopped (Usage place)) status c.report
+abbrev pub Obeys : Result Meaning ℕ → ℕ → Changes → Type 0
+Obeys (Ok meaning) status c = Does meaning status c
+Obeys (Err place) status c = Reports (Stopped (Usage place)) status c.report

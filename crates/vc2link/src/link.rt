@@ -2,7 +2,7 @@ ghost use Rattle.std.specs.Prelude.{◌≡◌, IsFalse};
 ghost use Rattle.link_words.specs.Settings.{settings_of};
 ghost use Rattle.link_words.specs.Views.{meaning_view};
 ghost use Rattle.vc_ports.specs.Changes.{changed, input_of, output_of, wire_of};
-ghost use Rattle.vc2link.specs.LinkMain.{changes, is_built, decoded_status, may_call, Answers};
+ghost use Rattle.vc2link.specs.LinkMain.{changes, is_built, decoded_status, may_call, Obeys};
 
 use decode_command::{Ended, decode};
 use link_report::{Answer, Ending, write_answer};
@@ -29,7 +29,7 @@ pub fn link_main<H: Threads + Copy + Send + Sync, S: Source, O: Sink, E: Sink, N
     hands: &mut P,
 ) -> u8
     requires free { P.is_free hands.old }
-    ensures answers { Answers (settings_of words.now) result (changes
+    ensures answers { Obeys (settings_of words.now) result (changes
         (input_of S.left S.faults input.old input.new)
         (output_of O.held O.faults output.old output.new)
         (output_of E.held E.faults report.old report.new)

@@ -6,5 +6,6 @@ use vc_types::{Component, Plan};
 
 /// Over all slices of a picture, one coefficient of a component, and no other, stands in each cell of its padded grid.
 pub fn each_cell_is_met_once(plan: &Plan, c: Component)
-    ensures { (x y : ℕ) → x < padded_width (parameters_of plan.now) c → y < padded_height (parameters_of plan.now) c → IsMetOnce (parameters_of plan.now) c x y }
+    ensures { (x y : ℕ) → x < padded_width (parameters_of plan.now) c
+        → y < padded_height (parameters_of plan.now) c → IsMetOnce (parameters_of plan.now) c x y }
 {}

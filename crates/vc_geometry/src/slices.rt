@@ -11,7 +11,8 @@ use vc_types::{Component, Plan, Rect};
 pub fn slice_rect(plan: &Plan, c: Component, b: u32, slice: u32) -> Rect
     requires number { b < subband_count plan.now.depth_ho plan.now.depth }
     requires slice { slice < slice_count (parameters_of plan.now) }
-    ensures value { result ≡ slice_rectangle (parameters_of plan.now) c (subband_at plan.now.depth_ho plan.now.depth b) slice }
+    ensures value { result ≡ slice_rectangle (parameters_of plan.now) c
+        (subband_at plan.now.depth_ho plan.now.depth b) slice }
     ensures right { result.x + result.width ≤ padded_width (parameters_of plan.now) c }
     ensures bottom { result.y + result.height ≤ padded_height (parameters_of plan.now) c }
     ensures range { (result.x + result.width ≤ 8192) × (result.y + result.height ≤ 8192) }

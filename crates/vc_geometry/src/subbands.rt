@@ -18,7 +18,8 @@ pub fn bands(plan: &Plan) -> u32
 /// Where subband number `b` stands in a component's padded grid (ST 2042-1, subband data dimensions).
 pub fn band(plan: &Plan, c: Component, b: u32) -> Rect
     requires number { b < subband_count plan.now.depth_ho plan.now.depth }
-    ensures value { result ≡ subband_rectangle (parameters_of plan.now) c (subband_at plan.now.depth_ho plan.now.depth b) }
+    ensures value { result ≡ subband_rectangle (parameters_of plan.now) c
+        (subband_at plan.now.depth_ho plan.now.depth b) }
     ensures right { result.x + result.width ≤ padded_width (parameters_of plan.now) c }
     ensures bottom { result.y + result.height ≤ padded_height (parameters_of plan.now) c }
     ensures range { (result.x + result.width ≤ 8192) × (result.y + result.height ≤ 8192) }
@@ -40,8 +41,12 @@ pub fn band(plan: &Plan, c: Component, b: u32) -> Rect
 fn halvings(across: u32, depth: u32, b: u32) -> (u32, u32)
     requires levels { depth + across ≤ 5 }
     requires number { b < subband_count across depth }
-    ensures width { (side : ℕ) → level_side side (depth + across) (depth + across) (subband_at across depth b).level ≡ side / 2 ^ result.0 }
-    ensures height { (side : ℕ) → level_side side depth (depth + across) (subband_at across depth b).level ≡ side / 2 ^ result.1 }
+    ensures width { (side : ℕ)
+        → level_side side (depth + across) (depth + across) (subband_at across depth b).level
+        ≡ side / 2 ^ result.0 }
+    ensures height { (side : ℕ)
+        → level_side side depth (depth + across) (subband_at across depth b).level
+        ≡ side / 2 ^ result.1 }
     ensures range { (result.0 ≤ 5) × (result.1 ≤ 5) }
     ensures inner { (0 < b → 1 ≤ result.0) × (across < b → 1 ≤ result.1) }
 {
@@ -53,7 +58,9 @@ fn halvings(across: u32, depth: u32, b: u32) -> (u32, u32)
 
 // The upper left corner of subband number b, where it has this size.
 fn corner(across: u32, b: u32, width: u32, height: u32) -> (u32, u32)
-    ensures value { (depth : ℕ) → b < subband_count across depth → rect result.0 result.1 width height ≡ nested (subband_at across depth b).orientation width height }
+    ensures value { (depth : ℕ) → b < subband_count across depth
+        → rect result.0 result.1 width height
+        ≡ nested (subband_at across depth b).orientation width height }
     ensures left { (result.0 ≤ width) × (b ≡ 0 → result.0 ≡ 0) }
     ensures top { (result.1 ≤ height) × (b ≤ across → result.1 ≡ 0) }
 {

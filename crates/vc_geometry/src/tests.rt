@@ -80,7 +80,8 @@ fn one_sample() -> Plan
 
 // 5 by 3 luma and one sample of each colour, two levels across alone and one both ways, two slices side by side.
 fn levels_across() -> Plan
-    ensures { (result.depth ≡ 1) × (result.depth_ho ≡ 2) × (result.slices_x ≡ 2) × (result.slices_y ≡ 1) }
+    ensures { (result.depth ≡ 1) × (result.depth_ho ≡ 2) × (result.slices_x ≡ 2)
+        × (result.slices_y ≡ 1) }
 {
     Plan {
         shape: Shape {

@@ -46,7 +46,8 @@ pub fn quantisation_matrix(
     requires wavelet { wavelet ≤ 6 }
     requires some_levels { 1 ≤ depth }
     requires few_levels { depth + across.1 ≤ 5 }
-    ensures gives { Gives (λ m. m) result r.new.left (quantisation_matrix wavelet depth (across.0, across.1) r.old.left) }
+    ensures gives { Gives (λ m. m) result r.new.left
+        (quantisation_matrix wavelet depth (across.0, across.1) r.old.left) }
     ensures fits { IfOk result (λ m. IsTrue (matrix_fits m)) }
     ensures ends { IfOk result (λ m. filled_matrix (used_entries across.1 depth m) ≡ m) }
 {
@@ -63,7 +64,8 @@ pub fn quantisation_matrix(
 pub fn default_of(wavelet: u8, depth: u8, across: (u8, u8)) -> Result<[u8; 16], NoDefault>
     requires wavelet { wavelet ≤ 6 }
     requires levels { (1 ≤ depth) × (depth ≤ 5) }
-    ensures value { MatchResult result (λ m. default_of wavelet depth (across.0, across.1) ≡ Some m) (λ e. default_of wavelet depth (across.0, across.1) ≡ None) }
+    ensures value { MatchResult result (λ m. default_of wavelet depth (across.0, across.1) ≡ Some m)
+        (λ e. default_of wavelet depth (across.0, across.1) ≡ None) }
     ensures fits { IfOk result (λ m. IsTrue (matrix_fits m)) }
 {
     if across.0 != wavelet || across.1 != 0 {

@@ -17,20 +17,26 @@ use vc_types::{Header, ParamsRefusal, Plan};
 /// decides the refusal; the size of the padded luma is tested last.
 pub fn read_params(h: &Header, bytes: &[u8]) -> Result<(Plan, usize), ParamsRefusal>
     // What is read is spelled so.
-    ensures found { IfOk result (λ x. BeginsWithParameters (sequence_of h.now) bytes.now (parameters_of x.0) x.1) }
+    ensures found { IfOk result
+        (λ x. BeginsWithParameters (sequence_of h.now) bytes.now (parameters_of x.0) x.1) }
     // What is spelled so is read, whatever follows.
     ensures only { (s : ParameterSpelling) (rest : List Bool) → AreParameters (sequence_of h.now) s
         → bits_of bytes.now ≡ parameter_bits h.now.major s ++ rest
         → Answers {Y = Parameters × ℕ} (λ x. (parameters_of x.0, x.1)) result
-        (Ok (spelled_parameters (sequence_of h.now) s, bytes_for (length (parameter_bits h.now.major s)))) }
+        (Ok (
+          spelled_parameters (sequence_of h.now) s,
+          bytes_for (length (parameter_bits h.now.major s)),
+        )) }
     // Which plan it is, or which refusal.
-    ensures exact { Answers (λ x. (parameters_of x.0, x.1)) result (coded_parameters (sequence_of h.now) bytes.now) }
+    ensures exact { Answers (λ x. (parameters_of x.0, x.1)) result
+        (coded_parameters (sequence_of h.now) bytes.now) }
 {
     front(h, bytes)
 }
 
 fn front(h: &Header, bytes: &[u8]) -> Result<(Plan, usize), ParamsRefusal>
-    ensures { Answers (λ x. (parameters_of x.0, x.1)) result (coded_parameters (sequence_of h.now) bytes.now) }
+    ensures { Answers (λ x. (parameters_of x.0, x.1)) result
+        (coded_parameters (sequence_of h.now) bytes.now) }
 {
     let mut r = BitReader::new(bytes);
     let plan = parameters(h, &mut r)?;
@@ -40,7 +46,8 @@ fn front(h: &Header, bytes: &[u8]) -> Result<(Plan, usize), ParamsRefusal>
 
 #[tactic(auto, unfolding(vc_types::specs::TransformParameters::transform_parameters))]
 fn parameters(h: &Header, r: &mut BitReader) -> Result<Plan, ParamsRefusal>
-    ensures { Gives (λ p. parameters_of p) result r.new.left (transform_parameters (sequence_of h.now) r.old.left) }
+    ensures { Gives (λ p. parameters_of p) result r.new.left
+        (transform_parameters (sequence_of h.now) r.old.left) }
 {
     let wavelet = wavelet_index(r)?;
     let depth = wavelet_depth(r)?;

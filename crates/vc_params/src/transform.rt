@@ -34,7 +34,8 @@ pub fn wavelet_depth(r: &mut BitReader) -> Result<u8, ParamsRefusal>
 // The wavelet across, which is the other one where it isn't coded.
 fn wavelet_across(wavelet: u8, r: &mut BitReader) -> Result<u8, ParamsRefusal>
     requires { wavelet ≤ 6 }
-    ensures gives { Gives (λ n. n) result r.new.left (behind_flag ParamsRefusal.Short wavelet wavelet_index r.old.left) }
+    ensures gives { Gives (λ n. n) result r.new.left
+        (behind_flag ParamsRefusal.Short wavelet wavelet_index r.old.left) }
     ensures known { IfOk result (λ n. n ≤ 6) }
 {
     if flag(r)? {
@@ -46,7 +47,9 @@ fn wavelet_across(wavelet: u8, r: &mut BitReader) -> Result<u8, ParamsRefusal>
 // How many levels are across alone.
 fn levels_across(depth: u8, r: &mut BitReader) -> Result<u8, ParamsRefusal>
     requires { depth ≤ 5 }
-    ensures gives { Gives (λ n. n) result r.new.left (behind_flag ParamsRefusal.Short 0 (tested (λ n. nat_le (depth + n) 5) ParamsRefusal.Depth number) r.old.left) }
+    ensures gives { Gives (λ n. n) result r.new.left
+        (behind_flag ParamsRefusal.Short 0
+        (tested (λ n. nat_le (depth + n) 5) ParamsRefusal.Depth number) r.old.left) }
     ensures few { IfOk result (λ n. depth + n ≤ 5) }
 {
     if !flag(r)? {
@@ -69,7 +72,8 @@ pub fn extended_parameters(
 ) -> Result<(u8, u8), ParamsRefusal>
     requires wavelet { wavelet ≤ 6 }
     requires depth { depth ≤ 5 }
-    ensures gives { Gives (λ x. (x.0, x.1)) result r.new.left (extended_parameters major wavelet depth r.old.left) }
+    ensures gives { Gives (λ x. (x.0, x.1)) result r.new.left
+        (extended_parameters major wavelet depth r.old.left) }
     ensures known { IfOk result (λ x. x.0 ≤ 6) }
     ensures few_levels { IfOk result (λ x. depth + x.1 ≤ 5) }
 {

@@ -17,17 +17,22 @@ use vc_types::{NoMemory, Plan};
 /// differ, and the matrix where it isn't the default one.
 pub fn write_params(alloc: Global, major: u32, plan: &Plan) -> Result<Vec<u8>, NoMemory>
     requires version { is_symmetric (parameters_of plan.now) ≡ false → major ≡ 3 }
-    ensures value { IfOk result (λ v. bits_of v.items ≡ filled_up (parameter_bits major (encoder_parameters (parameters_of plan.now)))) }
+    ensures value { IfOk result
+        (λ v. bits_of v.items
+        ≡ filled_up (parameter_bits major (encoder_parameters (parameters_of plan.now)))) }
     // They are read again as the same plan, for a picture of that shape, whatever follows.
     ensures read_again { IfOk result (λ v. (sequence : Sequence) (behind : List ℕ)
         → sequence.major ≡ major → picture_shape sequence ≡ plan.now.shape
-        → coded_parameters sequence (v.items ++ behind) ≡ Ok (parameters_of plan.now, length v.items)) }
+        → coded_parameters sequence (v.items ++ behind)
+        ≡ Ok (parameters_of plan.now, length v.items)) }
 {
     spell(alloc, major, plan)
 }
 
 fn spell(alloc: Global, major: u32, plan: &Plan) -> Result<Vec<u8>, NoMemory>
-    ensures { IfOk result (λ v. bits_of v.items ≡ filled_up (parameter_bits major (encoder_parameters (parameters_of plan.now)))) }
+    ensures { IfOk result
+        (λ v. bits_of v.items
+        ≡ filled_up (parameter_bits major (encoder_parameters (parameters_of plan.now)))) }
 {
     let mut w = BitWriter::new(alloc);
     write_uint(&mut w, plan.wavelet as u64)?;
@@ -40,7 +45,8 @@ fn spell(alloc: Global, major: u32, plan: &Plan) -> Result<Vec<u8>, NoMemory>
 
 // The parts across, which major version 3 has.
 fn write_extension(w: &mut BitWriter, major: u32, plan: &Plan) -> Result<(), NoMemory>
-    ensures { OnOk result (w.new ≡ w.old ++ extension_bits major (coded_unless plan.now.wavelet_ho plan.now.wavelet, coded_unless plan.now.depth_ho 0)) }
+    ensures { OnOk result (w.new ≡ w.old ++ extension_bits major
+        (coded_unless plan.now.wavelet_ho plan.now.wavelet, coded_unless plan.now.depth_ho 0)) }
 {
     if major == 3 {
         write_unless(w, plan.wavelet_ho, plan.wavelet)?;
@@ -61,7 +67,9 @@ fn write_unless(w: &mut BitWriter, number: u8, default: u8) -> Result<(), NoMemo
 }
 
 fn write_slices(w: &mut BitWriter, plan: &Plan) -> Result<(), NoMemory>
-    ensures { OnOk result (w.new ≡ w.old ++ joined (pair_bits (plan.now.slices_x, plan.now.slices_y) ∷ uint_bits plan.now.prefix ∷ uint_bits plan.now.scaler ∷ [])) }
+    ensures { OnOk result (w.new ≡ w.old ++ joined
+        (pair_bits (plan.now.slices_x, plan.now.slices_y)
+        ∷ uint_bits plan.now.prefix ∷ uint_bits plan.now.scaler ∷ [])) }
 {
     write_uint(w, plan.slices_x as u64)?;
     write_uint(w, plan.slices_y as u64)?;
@@ -71,7 +79,8 @@ fn write_slices(w: &mut BitWriter, plan: &Plan) -> Result<(), NoMemory>
 
 // The matrix behind its flag, which is 0 where it is the default one.
 fn write_matrix(w: &mut BitWriter, plan: &Plan) -> Result<(), NoMemory>
-    ensures { OnOk result (w.new ≡ w.old ++ flagged_bits numbers_bits (encoder_parameters (parameters_of plan.now)).matrix) }
+    ensures { OnOk result (w.new ≡ w.old
+        ++ flagged_bits numbers_bits (encoder_parameters (parameters_of plan.now)).matrix) }
 {
     if has_default_matrix(plan) {
         return w.bit(false);

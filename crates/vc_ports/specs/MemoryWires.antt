@@ -118,7 +118,11 @@ recv_answer w = if meter_refuses w.meter 0 then came.Failed else came_of w.comin
 abbrev pub recv_after : WireState → WireState
 recv_after w = if meter_refuses w.meter 0
     then record w { meter = meter_after w.meter 0 }
-    else record w { coming = drop 1 w.coming; given = w.given ++ take 1 w.coming; meter = meter_after w.meter 0 }
+    else record w {
+      coming = drop 1 w.coming;
+      given = w.given ++ take 1 w.coming;
+      meter = meter_after w.meter 0;
+    }
 
 -- ---- how they are kept
 

@@ -5,5 +5,5 @@ use Rattle.vc_ports.specs.declared.store.Piece.{Piece}
 abbrev pub piece_of : List ℕ → Piece → List ℕ
 piece_of bytes piece = slice_range bytes piece.from piece.to
 
-abbrev pub IsInside : List ℕ → Piece → Type 0
-IsInside bytes piece = (piece.from ≤ piece.to) × (piece.to ≤ length bytes)
+abbrev pub LiesWithin : List ℕ → Piece → Type 0
+LiesWithin bytes piece = (piece.from ≤ piece.to) × (piece.to ≤ length bytes)

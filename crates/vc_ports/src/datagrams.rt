@@ -4,7 +4,8 @@ ghost use Rattle.vc_ports.specs.MemoryWires.{datagrams_in};
 // The datagram at a place.
 pub(crate) fn datagram_at(datagrams: &[Vec<u8>], i: usize) -> Option<&[u8]>
     ensures few { OnSome result (i < 2 ^ 63) }
-    ensures one { MatchOption result (slice_get (datagrams_in datagrams.now) i ≡ None) (λ one. slice_get (datagrams_in datagrams.now) i ≡ Some one.now) }
+    ensures one { MatchOption result (slice_get (datagrams_in datagrams.now) i ≡ None)
+        (λ one. slice_get (datagrams_in datagrams.now) i ≡ Some one.now) }
 {
     let datagram = datagrams.get(i)?;
     Some(datagram)

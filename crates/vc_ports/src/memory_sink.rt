@@ -39,7 +39,14 @@ impl Model for MemSink {
 impl MemSink {
     /// A sink for `room` bytes, whose memory is taken here, and whose calls of the numbers in `fails` fail.
     pub fn new(alloc: Global, room: usize, fails: Vec<u64>) -> Result<MemSink, NoMemory>
-        ensures { IfOk result (λ s. s ≡ record { held = []; room = room; fails = fails.items; calls = 0; faults = 0 }) }
+        ensures { IfOk result
+            (λ s. s ≡ record {
+              held = [];
+              room = room;
+              fails = fails.items;
+              calls = 0;
+              faults = 0;
+            }) }
     {
         let bytes = Vec::with_capacity(alloc, room)?;
         Ok(MemSink {

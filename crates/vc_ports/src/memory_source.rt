@@ -32,7 +32,12 @@ impl Model for MemSource {
 impl MemSource {
     /// A source of these bytes, whose calls of the numbers in `fails` fail.
     pub fn new(bytes: Vec<u8>, fails: Vec<u64>) -> MemSource
-        ensures { result ≡ record { left = bytes.items; fails = fails.items; calls = 0; faults = 0 } }
+        ensures { result ≡ record {
+          left = bytes.items;
+          fails = fails.items;
+          calls = 0;
+          faults = 0;
+        } }
     {
         MemSource {
             inner: PlainSource::new(bytes),

@@ -41,7 +41,8 @@ impl Model for MemWire {
       meter = w.meter;
     } };
 
-    ghost invariant = { λ w. (w.given ≤ length (queue (datagrams_in w.datagrams.items) w.looped w.sent.pieces))
+    ghost invariant = { λ w.
+        (w.given ≤ length (queue (datagrams_in w.datagrams.items) w.looped w.sent.pieces))
         × AreDatagrams (datagrams_in w.datagrams.items) × AreDatagrams w.sent.pieces
         × (w.meter.room ≤ w.sent.room) × (w.meter.room ≤ w.at.room) × (w.meter.room ≤ w.to.room) };
 }
@@ -87,21 +88,24 @@ impl MemWire {
 
     /// The datagram that was sent at this place.
     pub fn sent(&self, i: usize) -> Option<&[u8]>
-        ensures { MatchOption result (slice_get self.now.sent i ≡ None) (λ sent. slice_get self.now.sent i ≡ Some sent.now) }
+        ensures { MatchOption result (slice_get self.now.sent i ≡ None)
+            (λ sent. slice_get self.now.sent i ≡ Some sent.now) }
     {
         self.sent.get(i)
     }
 
     /// The address at this place of those to listen at.
     pub fn at(&self, i: usize) -> Option<&[u8]>
-        ensures { MatchOption result (slice_get self.now.at i ≡ None) (λ at. slice_get self.now.at i ≡ Some at.now) }
+        ensures { MatchOption result (slice_get self.now.at i ≡ None)
+            (λ at. slice_get self.now.at i ≡ Some at.now) }
     {
         self.at.get(i)
     }
 
     /// The address at this place of those to send to.
     pub fn to(&self, i: usize) -> Option<&[u8]>
-        ensures { MatchOption result (slice_get self.now.to i ≡ None) (λ to. slice_get self.now.to i ≡ Some to.now) }
+        ensures { MatchOption result (slice_get self.now.to i ≡ None)
+            (λ to. slice_get self.now.to i ≡ Some to.now) }
     {
         self.to.get(i)
     }
@@ -109,7 +113,8 @@ impl MemWire {
     // The datagram that comes next.
     fn next(&self) -> Option<&[u8]>
         ensures few { OnSome result (length self.now.given + 1 < 2 ^ 64) }
-        ensures next { MatchOption result (self.now.coming ≡ []) (λ one. (take 1 self.now.coming ≡ one.now ∷ []) × (length one.now ≤ 65535)) }
+        ensures next { MatchOption result (self.now.coming ≡ [])
+            (λ one. (take 1 self.now.coming ≡ one.now ∷ []) × (length one.now ≤ 65535)) }
     {
         match datagram_at(&self.datagrams, self.given) {
             Some(datagram) => Some(datagram),
@@ -125,8 +130,10 @@ impl Wire for MemWire {
     ghost faults = { λ w. w.meter.faults };
 
     fn listen(&mut self, at: &str) -> Reached
-        ensures told { Reaches (memory_told self.old) (listening (memory_told self.old) at.now) (memory_told self.new) result }
-        ensures cause { HasCause self.old.meter.faults self.new.meter.faults (result ≡ Reached.Failed) }
+        ensures told { Reaches (memory_told self.old) (listening (memory_told self.old) at.now)
+            (memory_told self.new) result }
+        ensures cause { HasCause self.old.meter.faults self.new.meter.faults
+            (result ≡ Reached.Failed) }
         ensures answer { result ≡ reach_answer self.old at.now }
         ensures state { self.new ≡ listen_after self.old at.now }
     {
@@ -138,8 +145,10 @@ impl Wire for MemWire {
     }
 
     fn aim(&mut self, to: &str) -> Reached
-        ensures told { Reaches (memory_told self.old) (aiming (memory_told self.old) to.now) (memory_told self.new) result }
-        ensures cause { HasCause self.old.meter.faults self.new.meter.faults (result ≡ Reached.Failed) }
+        ensures told { Reaches (memory_told self.old) (aiming (memory_told self.old) to.now)
+            (memory_told self.new) result }
+        ensures cause { HasCause self.old.meter.faults self.new.meter.faults
+            (result ≡ Reached.Failed) }
         ensures answer { result ≡ reach_answer self.old to.now }
         ensures state { self.new ≡ aim_after self.old to.now }
     {
@@ -152,8 +161,10 @@ impl Wire for MemWire {
 
     fn send(&mut self, datagram: &[u8]) -> Reached
         requires size { length datagram.now ≤ 65507 }
-        ensures told { Reaches (memory_told self.old) (sending (memory_told self.old) datagram.now) (memory_told self.new) result }
-        ensures cause { HasCause self.old.meter.faults self.new.meter.faults (result ≡ Reached.Failed) }
+        ensures told { Reaches (memory_told self.old) (sending (memory_told self.old) datagram.now)
+            (memory_told self.new) result }
+        ensures cause { HasCause self.old.meter.faults self.new.meter.faults
+            (result ≡ Reached.Failed) }
         ensures answer { result ≡ reach_answer self.old datagram.now }
         ensures state { self.new ≡ send_after self.old datagram.now }
     {
@@ -167,7 +178,8 @@ impl Wire for MemWire {
     fn recv(&mut self, buf: &mut [u8]) -> Came
         requires room { length buf.old ≡ 65535 }
         ensures told { Comes (memory_told self.old) (memory_told self.new) buf.new result }
-        ensures cause { HasCause self.old.meter.faults self.new.meter.faults (result ≡ Came.Failed) }
+        ensures cause { HasCause self.old.meter.faults self.new.meter.faults
+            (result ≡ Came.Failed) }
         ensures answer { result ≡ recv_answer self.old }
         ensures state { self.new ≡ recv_after self.old }
     {

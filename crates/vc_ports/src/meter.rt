@@ -18,7 +18,12 @@ impl Model for Meter {
 
     ghost Value = { Metered };
 
-    ghost view = { λ m. record { room = m.room; fails = m.fails.items; calls = m.calls; faults = m.faults } };
+    ghost view = { λ m. record {
+      room = m.room;
+      fails = m.fails.items;
+      calls = m.calls;
+      faults = m.faults;
+    } };
 }
 
 impl Meter {

@@ -26,7 +26,8 @@ impl Model for PlainWire {
       given = take w.given (datagrams_in w.datagrams.items);
     } };
 
-    ghost invariant = { λ w. (w.given ≤ length (datagrams_in w.datagrams.items)) × AreDatagrams (datagrams_in w.datagrams.items) };
+    ghost invariant = { λ w. (w.given ≤ length (datagrams_in w.datagrams.items))
+        × AreDatagrams (datagrams_in w.datagrams.items) };
 }
 
 impl PlainWire {
@@ -45,7 +46,8 @@ impl PlainWire {
 
     // The datagram that comes next.
     fn next(&self) -> Option<&[u8]>
-        ensures { MatchOption result (self.now.coming ≡ []) (λ one. (take 1 self.now.coming ≡ one.now ∷ []) × (length one.now ≤ 65535)) }
+        ensures { MatchOption result (self.now.coming ≡ [])
+            (λ one. (take 1 self.now.coming ≡ one.now ∷ []) × (length one.now ≤ 65535)) }
     {
         datagram_at(&self.datagrams, self.given)
     }

@@ -31,7 +31,8 @@ impl<W: Write> Sink for StdSink<W> {
         requires { 0 < length piece.now }
         ensures bytes { Writes None None piece.now result }
         ensures cause { HasCause self.old.faults self.new.faults (result ≡ Took.Failed) }
-        ensures passed { PassesWrite (W.contents self.old.writer) (W.contents self.new.writer) piece.now result }
+        ensures passed { PassesWrite (W.contents self.old.writer)
+            (W.contents self.new.writer) piece.now result }
     {
         match self.writer.write(piece) {
             Ok(count) if count > 0 => Took::Bytes(count),

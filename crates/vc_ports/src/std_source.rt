@@ -40,7 +40,8 @@ impl<R: Read> Source for StdSource<R> {
         requires { 0 < length buf.old }
         ensures bytes { Reads None None buf.old buf.new result }
         ensures cause { HasCause self.old.faults self.new.faults (result ≡ Got.Failed) }
-        ensures passed { PassesRead (R.remaining self.old.reader) (R.remaining self.new.reader) buf.new result }
+        ensures passed { PassesRead (R.remaining self.old.reader)
+            (R.remaining self.new.reader) buf.new result }
     {
         let room = buf.len().min(PIECE);
         let piece = &mut self.piece[..];

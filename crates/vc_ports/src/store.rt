@@ -23,13 +23,16 @@ pub(crate) struct Store {
 impl Model for Store {
     ghost use Rattle.std.specs.Prelude.{◌≡◌, ◌≤◌, ◌+◌, ◌*◌, All, map, length, vec_len, vec_capacity};
     ghost use Rattle.vc_ports.specs.MemoryWires.{Stored};
-    ghost use Rattle.vc_ports.specs.Store.{piece_of, IsInside};
+    ghost use Rattle.vc_ports.specs.Store.{piece_of, LiesWithin};
 
     ghost Value = { Stored };
 
-    ghost view = { λ s. record { pieces = map (piece_of s.bytes.items) s.pieces.items; room = s.room } };
+    ghost view = { λ s. record {
+      pieces = map (piece_of s.bytes.items) s.pieces.items;
+      room = s.room;
+    } };
 
-    ghost invariant = { λ s. All (IsInside s.bytes.items) s.pieces.items
+    ghost invariant = { λ s. All (LiesWithin s.bytes.items) s.pieces.items
         × (vec_len s.bytes + s.room ≤ vec_capacity s.bytes)
         × (2 * vec_len s.pieces + s.room ≤ 2 * vec_capacity s.pieces + 1)
         × (vec_len s.bytes ≡ length s.bytes.items) };
@@ -49,7 +52,10 @@ impl Store {
 
     pub(crate) fn push(&mut self, bytes: &[u8])
         requires room { room_of bytes.now ≤ self.old.room }
-        ensures { self.new ≡ record { pieces = self.old.pieces ++ bytes.now ∷ []; room = self.old.room - room_of bytes.now } }
+        ensures { self.new ≡ record {
+          pieces = self.old.pieces ++ bytes.now ∷ [];
+          room = self.old.room - room_of bytes.now;
+        } }
     {
         let from = self.bytes.len();
         let to = from + bytes.len();
@@ -63,7 +69,8 @@ impl Store {
     }
 
     pub(crate) fn get(&self, i: usize) -> Option<&[u8]>
-        ensures piece { MatchOption result (slice_get self.now.pieces i ≡ None) (λ piece. slice_get self.now.pieces i ≡ Some piece.now) }
+        ensures piece { MatchOption result (slice_get self.now.pieces i ≡ None)
+            (λ piece. slice_get self.now.pieces i ≡ Some piece.now) }
         ensures few { OnSome result (i < 2 ^ 63) }
     {
         let piece = self.pieces.get(i)?;

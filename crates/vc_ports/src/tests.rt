@@ -101,7 +101,8 @@ fn aim<N: Wire>(wire: &mut N) -> Result<(), Fail>
 }
 
 fn send<N: Wire>(wire: &mut N, datagram: &[u8]) -> Reached
-    requires { IsTrue (N.told wire.old).listens × IsTrue (N.told wire.old).aimed × (length datagram.now ≤ 65507) }
+    requires { IsTrue (N.told wire.old).listens × IsTrue (N.told wire.old).aimed
+        × (length datagram.now ≤ 65507) }
     ensures { IsTrue (N.told wire.new).listens × IsTrue (N.told wire.new).aimed }
 {
     wire.send(datagram)

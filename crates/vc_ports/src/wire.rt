@@ -31,19 +31,22 @@ pub trait Wire {
 
     /// Receives at this address from now on.
     fn listen(&mut self, at: &str) -> Reached
-        ensures told { Reaches (told self.old) (listening (told self.old) at.now) (told self.new) result }
+        ensures told { Reaches (told self.old) (listening (told self.old) at.now)
+            (told self.new) result }
         ensures cause { HasCause (faults self.old) (faults self.new) (result ≡ Reached.Failed) };
 
     /// Sends to this address from now on.
     fn aim(&mut self, to: &str) -> Reached
-        ensures told { Reaches (told self.old) (aiming (told self.old) to.now) (told self.new) result }
+        ensures told { Reaches (told self.old) (aiming (told self.old) to.now)
+            (told self.new) result }
         ensures cause { HasCause (faults self.old) (faults self.new) (result ≡ Reached.Failed) };
 
     /// Sends a datagram.
     fn send(&mut self, datagram: &[u8]) -> Reached
         requires aimed { IsTrue (told self.old).aimed }
         requires size { length datagram.now ≤ 65507 }
-        ensures told { Reaches (told self.old) (sending (told self.old) datagram.now) (told self.new) result }
+        ensures told { Reaches (told self.old) (sending (told self.old) datagram.now)
+            (told self.new) result }
         ensures cause { HasCause (faults self.old) (faults self.new) (result ≡ Reached.Failed) };
 
     /// Receives a datagram into the front of a buffer that has room for any.

@@ -22,7 +22,14 @@ const fn make_format(
     top_first: bool,
     range: u32,
 ) -> Format
-    ensures { result ≡ record { width = width; height = height; sampling = sampling; interlaced = interlaced; top_first = top_first; range = range } }
+    ensures { result ≡ record {
+      width = width;
+      height = height;
+      sampling = sampling;
+      interlaced = interlaced;
+      top_first = top_first;
+      range = range;
+    } }
 {
     Format {
         width,

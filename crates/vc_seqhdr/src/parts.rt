@@ -34,7 +34,8 @@ pub fn profile(r: &mut BitReader) -> Result<u32, HeaderRefusal>
 /// Width and height of a frame.
 #[tactic(auto, unfolding(vc_types::specs::SequenceHeader::frame_size))]
 pub fn frame_size(format: &Format, r: &mut BitReader) -> Result<(u32, u32), HeaderRefusal>
-    ensures { Gives (λ x. (x.0, x.1)) result r.new.left (frame_size (format_view format.now) r.old.left) }
+    ensures { Gives (λ x. (x.0, x.1)) result r.new.left
+        (frame_size (format_view format.now) r.old.left) }
 {
     if flag(r)? {
         let width = number(r)?;
@@ -46,7 +47,8 @@ pub fn frame_size(format: &Format, r: &mut BitReader) -> Result<(u32, u32), Head
 
 #[tactic(auto, unfolding(vc_types::specs::SequenceHeader::colour_difference_sampling))]
 pub fn sampling(format: &Format, r: &mut BitReader) -> Result<Sampling, HeaderRefusal>
-    ensures { Gives (λ x. x) result r.new.left (colour_difference_sampling (format_view format.now) r.old.left) }
+    ensures { Gives (λ x. x) result r.new.left
+        (colour_difference_sampling (format_view format.now) r.old.left) }
 {
     if !flag(r)? {
         return Ok(format.sampling);
@@ -131,7 +133,8 @@ fn custom_range(r: &mut BitReader) -> Result<SignalRange, HeaderRefusal>
 pub fn signal_range(format: &Format, r: &mut BitReader) -> Result<SignalRange, HeaderRefusal>
     requires low { 1 ≤ format.now.range }
     requires high { format.now.range ≤ 4 }
-    ensures gives { Gives (λ x. x) result r.new.left (signal_range_of (format_view format.now) r.old.left) }
+    ensures gives { Gives (λ x. x) result r.new.left
+        (signal_range_of (format_view format.now) r.old.left) }
     ensures luma { IfOk result (λ x. IsTrue (excursion_fits x.luma_excursion)) }
     ensures colour { IfOk result (λ x. IsTrue (excursion_fits x.colour_excursion)) }
 {

@@ -20,7 +20,10 @@ pub fn read_header(bytes: &[u8]) -> Result<(Header, usize), HeaderRefusal>
     // What is read is spelled so.
     ensures found { IfOk result (λ x. BeginsWithHeader bytes.now (sequence_of x.0) x.1) }
     // What is spelled so is read, whatever follows.
-    ensures only { (s : HeaderSpelling) (rest : List Bool) → IsHeader s → bits_of bytes.now ≡ header_bits s ++ rest → Answers {Y = Sequence × ℕ} (λ x. (sequence_of x.0, x.1)) result (Ok (spelled_header s, bytes_for (length (header_bits s)))) }
+    ensures only { (s : HeaderSpelling) (rest : List Bool) → IsHeader s
+        → bits_of bytes.now ≡ header_bits s ++ rest
+        → Answers {Y = Sequence × ℕ} (λ x. (sequence_of x.0, x.1)) result
+        (Ok (spelled_header s, bytes_for (length (header_bits s)))) }
     // Which header it is, or which refusal.
     ensures exact { Answers (λ x. (sequence_of x.0, x.1)) result (coded_header bytes.now) }
 {

@@ -15,16 +15,20 @@ use vc_types::{Header, NoMemory, Sampling, SignalRange};
 /// nothing else.
 pub fn write_header(alloc: Global, h: &Header) -> Result<Vec<u8>, NoMemory>
     requires { IsEncoderHeader (sequence_of h.now) }
-    ensures value { IfOk result (λ v. bits_of v.items ≡ filled_up (header_bits (encoder_header (sequence_of h.now)))) }
+    ensures value { IfOk result
+        (λ v. bits_of v.items ≡ filled_up (header_bits (encoder_header (sequence_of h.now)))) }
     // It is read again as the same header, whatever follows.
-    ensures read_again { IfOk result (λ v. (behind : List ℕ) → coded_header (v.items ++ behind) ≡ Ok (sequence_of h.now, length v.items)) }
+    ensures read_again { IfOk result
+        (λ v. (behind : List ℕ)
+        → coded_header (v.items ++ behind) ≡ Ok (sequence_of h.now, length v.items)) }
 {
     spell(alloc, h)
 }
 
 fn spell(alloc: Global, h: &Header) -> Result<Vec<u8>, NoMemory>
     requires { h.now.base ≡ encoder_base h.now.top_first }
-    ensures { IfOk result (λ v. bits_of v.items ≡ filled_up (header_bits (encoder_header (sequence_of h.now)))) }
+    ensures { IfOk result
+        (λ v. bits_of v.items ≡ filled_up (header_bits (encoder_header (sequence_of h.now)))) }
 {
     let mut w = BitWriter::new(alloc);
     write_version(&mut w, h.base)?;
@@ -35,7 +39,8 @@ fn spell(alloc: Global, h: &Header) -> Result<Vec<u8>, NoMemory>
 
 // Version 3.0, profile 3, level 0 and the base video format.
 fn write_version(w: &mut BitWriter, base: u8) -> Result<(), NoMemory>
-    ensures { OnOk result (w.new ≡ w.old ++ joined (uint_bits 3 ∷ uint_bits 0 ∷ uint_bits 3 ∷ uint_bits 0 ∷ uint_bits base ∷ [])) }
+    ensures { OnOk result (w.new ≡ w.old ++ joined (uint_bits 3 ∷ uint_bits 0 ∷ uint_bits 3
+        ∷ uint_bits 0 ∷ uint_bits base ∷ [])) }
 {
     write_uint(w, 3)?;
     write_uint(w, 0)?;
@@ -46,7 +51,10 @@ fn write_version(w: &mut BitWriter, base: u8) -> Result<(), NoMemory>
 
 // Size, sampling and scan, each behind its flag.
 fn write_picture(w: &mut BitWriter, h: &Header) -> Result<(), NoMemory>
-    ensures { OnOk result (w.new ≡ w.old ++ joined ((true ∷ pair_bits (h.now.width, h.now.height)) ∷ (true ∷ uint_bits (sampling_index h.now.sampling)) ∷ (true ∷ uint_bits (digit_of h.now.fields)) ∷ [])) }
+    ensures { OnOk result (w.new ≡ w.old ++ joined
+        ((true ∷ pair_bits (h.now.width, h.now.height))
+        ∷ (true ∷ uint_bits (sampling_index h.now.sampling))
+        ∷ (true ∷ uint_bits (digit_of h.now.fields)) ∷ [])) }
 {
     w.bit(true)?;
     write_uint(w, h.width as u64)?;
@@ -59,7 +67,10 @@ fn write_picture(w: &mut BitWriter, h: &Header) -> Result<(), NoMemory>
 
 // No frame rate, pixel aspect ratio or clean area; the signal range; no colour specification; the coding mode.
 fn write_colour(w: &mut BitWriter, h: &Header) -> Result<(), NoMemory>
-    ensures { OnOk result (w.new ≡ w.old ++ joined ((false ∷ []) ∷ (false ∷ []) ∷ (false ∷ []) ∷ (true ∷ uint_bits (preset_of h.now.range)) ∷ (false ∷ []) ∷ uint_bits (digit_of h.now.fields) ∷ [])) }
+    ensures { OnOk result (w.new ≡ w.old ++ joined
+        ((false ∷ []) ∷ (false ∷ []) ∷ (false ∷ [])
+        ∷ (true ∷ uint_bits (preset_of h.now.range)) ∷ (false ∷ [])
+        ∷ uint_bits (digit_of h.now.fields) ∷ [])) }
 {
     w.bit(false)?;
     w.bit(false)?;

@@ -92,7 +92,8 @@ pub record AreParameters (sequence : Sequence) (s : ParameterSpelling) : Type 0 
 -- bytes begin with the parameters, of this value, of a picture of this sequence, and they take so many bytes
 abbrev pub BeginsWithParameters : Sequence → List ℕ → Parameters → ℕ → Type 0
 BeginsWithParameters sequence bytes parameters used =
-    Begins (parameter_bits sequence.major) (spelled_parameters sequence) (AreParameters sequence) bytes parameters used
+    Begins (parameter_bits sequence.major) (spelled_parameters sequence) (AreParameters sequence)
+    bytes parameters used
 
 -- ---- the parameters that this project writes
 
@@ -120,5 +121,7 @@ encoder_parameters p = record {
   slices_y = p.slices_y;
   prefix = p.prefix;
   scaler = p.scaler;
-  matrix = if is_default (default_for p) p.matrix then None else Some (used_entries p.depth_ho p.depth p.matrix);
+  matrix =
+      if is_default (default_for p) p.matrix then None
+      else Some (used_entries p.depth_ho p.depth p.matrix);
 }

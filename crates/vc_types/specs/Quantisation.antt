@@ -30,7 +30,8 @@ dequantised_magnitude m factor offset = if m == 0 then 0 else (m * factor + offs
 
 -- the coefficient that a quantised number stands for
 unfoldable pub dequantised : ℤ → ℕ → ℤ
-dequantised z index = with_sign_of z (dequantised_magnitude (unsigned_abs z) (quant_factor index) (quant_offset index))
+dequantised z index = with_sign_of z
+    (dequantised_magnitude (unsigned_abs z) (quant_factor index) (quant_offset index))
 
 -- the number that a coefficient is quantised to: this project's encoder
 unfoldable pub quantised : ℤ → ℕ → ℤ
@@ -50,9 +51,9 @@ subband_count e d = 1 + e + 3 * d
 abbrev pub used_entries : ℕ → ℕ → List ℕ → List ℕ
 used_entries e d matrix = take (subband_count e d) matrix
 
--- a level's three entries
-abbrev pub level_entries : ℕ → ℕ → ℕ → List ℕ
-level_entries hl lh hh = hl ∷ lh ∷ hh ∷ []
+-- a level's three entries, HL, LH and HH
+abbrev pub at_level : ℕ → ℕ → ℕ → List ℕ
+at_level hl lh hh = hl ∷ lh ∷ hh ∷ []
 
 -- a row of the table: LL and the four levels
 abbrev pub matrix_row : ℕ → List ℕ → List ℕ → List ℕ → List ℕ → List ℕ
@@ -60,20 +61,25 @@ matrix_row ll level_1 level_2 level_3 level_4 = ll ∷ (level_1 ++ level_2 ++ le
 
 -- Haar without a shift: LL is 8 + 4 * (depth - 1), and level k has 4 + 4 * (depth - k) twice and 4 * (depth - k)
 abbrev pub haar_entries : ℕ → List ℕ
-haar_entries depth = (8 + 4 * (depth - 1)) ∷ flat_map (λ k. level_entries (4 + 4 * (depth - k)) (4 + 4 * (depth - k)) (4 * (depth - k))) (range_with_len 1 depth)
+haar_entries depth = (8 + 4 * (depth - 1)) ∷ flat_map
+    (λ k. at_level (4 + 4 * (depth - k)) (4 + 4 * (depth - k)) (4 * (depth - k)))
+    (range_with_len 1 depth)
 
 -- the rows of the wavelets 0 to 6, at a depth
 abbrev pub default_rows : ℕ → List (List ℕ)
 default_rows depth =
-    matrix_row 5 (level_entries 3 3 0) (level_entries 4 4 1) (level_entries 5 5 2) (level_entries 6 6 3) ∷
-    matrix_row 4 (level_entries 2 2 0) (level_entries 4 4 2) (level_entries 5 5 3) (level_entries 7 7 5) ∷
-    matrix_row 5 (level_entries 3 3 0) (level_entries 4 4 1) (level_entries 5 5 2) (level_entries 6 6 3) ∷
+    matrix_row 5 (at_level 3 3 0) (at_level 4 4 1) (at_level 5 5 2) (at_level 6 6 3) ∷
+    matrix_row 4 (at_level 2 2 0) (at_level 4 4 2) (at_level 5 5 3) (at_level 7 7 5) ∷
+    matrix_row 5 (at_level 3 3 0) (at_level 4 4 1) (at_level 5 5 2) (at_level 6 6 3) ∷
     haar_entries depth ∷
-    matrix_row 8 (level_entries 4 4 0) (level_entries 4 4 0) (level_entries 4 4 0) (level_entries 4 4 0) ∷
-    matrix_row 0 (level_entries 4 4 8) (level_entries 8 8 12) (level_entries 13 13 17) (level_entries 17 17 21) ∷
-    matrix_row 3 (level_entries 1 1 0) (level_entries 4 4 2) (level_entries 6 6 5) (level_entries 9 9 7) ∷
+    matrix_row 8 (at_level 4 4 0) (at_level 4 4 0) (at_level 4 4 0) (at_level 4 4 0) ∷
+    matrix_row 0 (at_level 4 4 8) (at_level 8 8 12) (at_level 13 13 17) (at_level 17 17 21) ∷
+    matrix_row 3 (at_level 1 1 0) (at_level 4 4 2) (at_level 6 6 5) (at_level 9 9 7) ∷
     []
 
 -- the default matrix of a wavelet at a depth, cut at the depth; there is none at depth 5
 unfoldable pub default_matrix : ℕ → ℕ → Option (List ℕ)
-default_matrix wavelet depth = if depth == 5 then None else Some (filled_matrix (take (1 + 3 * depth) (slice_index_or (default_rows depth) wavelet [])))
+default_matrix wavelet depth =
+    if depth == 5 then None
+    else Some (filled_matrix
+    (take (1 + 3 * depth) (slice_index_or (default_rows depth) wavelet [])))

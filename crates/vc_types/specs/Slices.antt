@@ -71,7 +71,9 @@ quantisers p c slice index = flat_map
 -- the coefficients that a component's block stands for
 unfoldable pub block_coefficients : Parameters → Component → ℕ → ℕ → List ℕ → List ℤ
 block_coefficients p c slice index block = map (λ z. dequantised z.0 z.1)
-    (zip (bounded_sints (slice_coefficient_count p c slice) (bits_of block)) (quantisers p c slice index))
+    (zip
+    (bounded_sints (slice_coefficient_count p c slice) (bits_of block))
+    (quantisers p c slice index))
 
 abbrev pub all_coefficients : Parameters → ℕ → CodedSlice → Coefficients
 all_coefficients p slice coded = record {

@@ -38,9 +38,11 @@ fn count_with<S: Source>(
     requires sound { reader.old.fault ≡ None }
     ensures borrows { reader.new.source.ghost_name ≡ reader.old.source.ghost_name }
     ensures heard { IfSome result (λ count. (entries : List (List ℕ)) × (length entries ≡ count.0)
-        × ((place : ℕ) × Ends (S.left reader.old.source.now) (S.left reader.new.source.now) place entries count.1)) }
+        × ((place : ℕ) × Ends (S.left reader.old.source.now) (S.left reader.new.source.now) place
+        entries count.1)) }
     ensures whole { IfNone result ((entries : List (List ℕ)) × (length entries ≡ most)
-        × ((place : ℕ) × GaveEntries (S.left reader.old.source.now) (S.left reader.new.source.now) place entries [])) }
+        × ((place : ℕ) × GaveEntries (S.left reader.old.source.now) (S.left reader.new.source.now)
+        place entries [])) }
     ensures cause { HasCause (S.faults reader.old.source.now) (S.faults reader.new.source.now)
         (IsSomeAnd result (λ count. count.1 ≡ Some EntryFault.ReadFault)) }
 {
