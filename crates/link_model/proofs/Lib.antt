@@ -33,9 +33,13 @@ pub mod BoardEvents
 pub mod MachineRows
 pub mod PlacesKept
 pub mod RisingLists
+pub mod Positions
+pub mod SameJobs
+pub mod RisingNumbers
 pub mod PicturesHeard
 pub mod PicturesStay
 pub mod BuiltFrames
 pub mod MachineHalves
 pub mod MachineKept
 pub mod MachineRuns
+pub mod FeederWay

@@ -23,7 +23,8 @@ use Rattle.link_model.specs.Places.{may_put, stands_in, puts_job, AreApart, HasO
 use Rattle.link_model.specs.Session.{HeardSession, sessions_of, hears}
 use Rattle.link_model.proofs.Growing.{sessions_of-append}
 use Rattle.link_model.proofs.MachineHalves.{legal_halves, halves_legal}
-use Rattle.link_model.proofs.MachineKept.{Holds, new_holds, hears_holds, finish_holds, answer_holds, release_holds, left, same_job}
+use Rattle.link_model.proofs.MachineKept.{Holds, new_holds, hears_holds, finish_holds, answer_holds, release_holds, left}
+use Rattle.link_model.proofs.SameJobs.{same_job}
 use Rattle.link_model.proofs.PicturesHeard.{picture_bytes, written_of, let_go_written}
 use Rattle.link_model.proofs.PicturesStay.{kept_slice, job_of_kept}
 use Rattle.link_model.proofs.PlacesKept.{puts_apart, puts_own, claims_apart, claims_own, completes_apart, completes_own, frees_apart, frees_own, unused_apart, unused_own}

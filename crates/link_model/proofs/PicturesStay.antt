@@ -174,7 +174,7 @@ module _ (window : ℕ) where
 
 -- ---- what is kept
 
-some_after : {A B : Type 0} (f : A → Option B) (o : Option A) (b : B) → option_and_then f o ≡ Some b → (a : A) × (o ≡ Some a) × (f a ≡ Some b)
+pub some_after : {A B : Type 0} (f : A → Option B) (o : Option A) (b : B) → option_and_then f o ≡ Some b → (a : A) × (o ≡ Some a) × (f a ≡ Some b)
 some_after f None b e = absurd (none-some b e)
 some_after f (Some a) b e = (a, refl, e)
 

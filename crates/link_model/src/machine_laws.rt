@@ -1,10 +1,11 @@
 ghost use Rattle.std.specs.Prelude.{◌≡◌, ◌≤◌, ◌⊎◌, ◌↔◌, ℕ, List, Some, None, true};
-ghost use Rattle.link_model.specs.Feeders.{next_to_release};
+ghost use Rattle.link_model.specs.Feeders.{Feeder, next_to_release};
 ghost use Rattle.link_model.specs.Interleavings.{machine_after, IsRun, due, inputs, AreOwnAnswers};
 ghost use Rattle.link_model.specs.Machine.{Machine, Event, Redo, Release, IsLegal};
 ghost use Rattle.link_model.specs.Machine.{is_legal_on_places, is_legal_for_feeder};
+ghost use Rattle.link_model.specs.Next.{AreLegalForFeeder, after_taking, all_releasing, next_feeder};
 ghost use Rattle.link_model.specs.Output.{IsPrefixOf};
-ghost use Rattle.link_model.specs.Places.{AreApart, HaveOwnAnswers};
+ghost use Rattle.link_model.specs.Places.{Answered, AreApart, HaveOwnAnswers};
 ghost use Rattle.link_model.specs.Session.{sessions_of};
 
 /// Whatever claims, completions, withdrawals and releases come between the datagrams, what is written begins what is due of
@@ -58,4 +59,15 @@ pub fn events_are_legal_in_two_halves()
     ensures { (window : ℕ) (m : Machine) (e : Event) → IsLegal window m e
         ↔ ((is_legal_on_places m.places e ≡ true)
         × (is_legal_for_feeder window m.feeder e ≡ true)) }
+{}
+
+/// On the feeder's own way, a datagram or the end, then what it takes back, and then what it decodes and releases, each of
+/// the latter events is legal for it where it stands, and in the end no picture may be released.
+#[tactic(auto, using(crate::proofs::FeederWay::laws))]
+pub fn the_feeder_goes_a_legal_way()
+    ensures legal { (window : ℕ) (f : Feeder) (e : Event) (dones : List Answered) → window ≤ 8
+        → AreLegalForFeeder window (after_taking window f e dones)
+        (all_releasing window (after_taking window f e dones)) }
+    ensures ends { (window : ℕ) (f : Feeder) (e : Event) (dones : List Answered) → window ≤ 8
+        → next_to_release window (next_feeder window f e dones) ≡ None }
 {}
