@@ -1,6 +1,6 @@
 -- What a receiver stands for: a list of datagrams that it heard, and the feeder of workers that
 -- heard them.
-use Rattle.std.specs.Prelude.{◌≡◌, ℕ, ◌+◌, Bool, true, false, is_some, count_by, fold, filter, not}
+use Rattle.std.specs.Prelude.{◌≡◌, ℕ, ◌+◌, Bool, true, false, count_by, fold, filter, not}
 use Rattle.std.specs.Prelude.{if◌then◌else◌, List, [], ◌∷◌, length, Option, Some, None}
 use Rattle.std.specs.Option.{option_and_then}
 use Rattle.link_model.specs.Feeders.{Feeder, let_go_pictures, answer_in, has_released}
@@ -20,7 +20,7 @@ use Rattle.vc_types.specs.SequenceHeader.{Sequence}
 use Rattle.vc_types.specs.Subbands.{slice_count}
 use Rattle.link_receiver.specs.Receptions.{StandingSession, Reception, FirstField, Decoding}
 use Rattle.link_receiver.specs.Receptions.{answers_at, kept_answer, SliceOut}
-use Rattle.link_receiver.specs.Releasing.{one_if, fields_alone, field_behind}
+use Rattle.link_receiver.specs.Releasing.{fields_alone, field_behind}
 
 -- ---- the session that stands
 
