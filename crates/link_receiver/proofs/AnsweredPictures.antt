@@ -300,7 +300,8 @@ module _ (s : Sequence) (parts : List Part) (kept : Own) (is : own s parts ≡ S
               (unwrap_or (slot_at (gathered_of kept).slots k) [])) ≡ own_decoding k
           by_answer None at =
               let here : 0 + k ≡ k = omega arith in
-              ap (λ (b : Option (List ℕ)). slice_coefficients kept.plan.parameters k (unwrap_or b []))
+              ap (λ (b : Option (List ℕ)).
+              slice_coefficients kept.plan.parameters k (unwrap_or b []))
               (slot_inside (own_slice kept) 0 count k below ∙ ap (own_slice kept) here)
           by_answer (Some d) at = own_answers k d at
 

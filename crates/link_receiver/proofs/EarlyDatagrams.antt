@@ -76,7 +76,8 @@ module _ (r : Reception) (size : ℕ) (small : size ≤ 8) (f : Feeder)
     counts_now = same_now.counts
         ∙ ap (λ (c : Tally). with_outcome c (judged r d)) (counts_are r size f stands runs at)
         ∙ ap (with_outcome (outcome_counts (outcomes_in size f.heard)))
-        (judged_is r size f.heard d ((none_stands r size f stands runs at) ∙ sym (ap (standing_of size false) at)))
+        (judged_is r size f.heard d (none_stands r size f stands runs at
+        ∙ sym (ap (standing_of size false) at)))
         ∙ sym (counts_more size f.heard d)
 
     rest_now : (keeps_datagram r d).field ≡ None
@@ -96,7 +97,8 @@ module _ (r : Reception) (size : ℕ) (small : size ≤ 8) (f : Feeder)
     answers_now = same_now.answers
 
     opened_now : session_opened r d ≡ begins d
-    opened_now = ap (λ (o : Option StandingSession). opens_after o (begins d)) (none_stands r size f stands runs at)
+    opened_now = ap (λ (o : Option StandingSession). opens_after o (begins d))
+        (none_stands r size f stands runs at)
 
     heard_now : sessions_of (f.heard ++ d ∷ []) ≡ hears [] d
     heard_now = sessions_of_more f.heard d ∙ ap (λ (l : List HeardSession). hears l d) at

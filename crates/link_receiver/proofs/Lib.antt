@@ -13,6 +13,7 @@ pub mod BuiltPictures
 pub mod Releases
 pub mod ReleaseRuns
 pub mod Tallies
+pub mod CountedOutcomes
 pub mod LoneFields
 pub mod HeardMore
 pub mod Starting

@@ -101,7 +101,8 @@ module _ (size : ℕ) (hs : List HeardSession) where
         ap is_some slice.1,
         answer.2
             ∙ ap decoding (sym slice.2)
-            ∙ ap (λ (o : Option (List ℕ)). slice_coefficients kept.plan.parameters k (unwrap_or o []))
+            ∙ ap (λ (o : Option (List ℕ)).
+            slice_coefficients kept.plan.parameters k (unwrap_or o []))
             (sym slice.1),
       )
 

@@ -106,7 +106,9 @@ module _ (r : Reception) (size : ℕ) (f : Feeder) (hs : List HeardSession) (p :
       by_mode true coding true is =
           let found = even_before is in
           let here : found.0 ≡ n - 1 = omega (arith, found.1) in
-          ap frame_with (before_is r size f hs p st t works n next coding found.0 found.1 found.2 ∙ ap (planes_at s es) here)
+          ap frame_with
+          (before_is r size f hs p st t works n next coding found.0 found.1 found.2
+          ∙ ap (planes_at s es) here)
 
   -- and of the feeder's answers
   built_frame_is : frame_of (built_planes now_decoded (entered_of p)) s n ≡ frame_at s es n
@@ -127,7 +129,8 @@ module _ (r : Reception) (size : ℕ) (f : Feeder) (hs : List HeardSession) (p :
           let found = even_before is in
           let here : found.0 ≡ n - 1 = omega (arith, found.1) in
           ap frame_with (ap (built_planes now_decoded (entered_of p)) (sym here)
-          ∙ built_before r size f hs p st t works n next coding found.0 found.1 found.2 ∙ ap (planes_at s es) here)
+          ∙ built_before r size f hs p st t works n next coding found.0 found.1 found.2
+          ∙ ap (planes_at s es) here)
 
   -- ---- what the receiver makes of the picture
 

@@ -93,6 +93,15 @@ counts_of_sessions size false [] t = t
 counts_of_sessions size false (h ∷ hs) t =
     past_counts (all_released (last_past size false hs h)) (with_sessions size hs t)
 
+-- the counts of outcomes of the one, and those of pictures of the other
+abbrev pub with_picture_counts : Tally → Tally → Tally
+with_picture_counts t pictures = record t {
+  incomplete = pictures.incomplete;
+  unsound = pictures.unsound;
+  unpaired = pictures.unpaired;
+  frames = pictures.frames;
+}
+
 -- ---- a list of datagrams
 
 pub record StandsForHeard (r : Reception) (size : ℕ) (datagrams : List (List ℕ)) (over : Bool)
