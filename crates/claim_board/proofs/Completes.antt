@@ -14,7 +14,7 @@ use Rattle.vc_slice.specs.declared.job.SliceJob.{SliceJob}
 use Rattle.claim_board.proofs.Sums.{holds_of-cons, term-le-sum_by}
 use Rattle.vc_slice.specs.declared.done.SliceDone.{SliceDone}
 use Rattle.claim_board.proofs.Keeps.{past_more, goes, first_in, still_feeds, looks, unclaimed, waiting_phase, held_phase, finished_phase}
-use Rattle.link_model.specs.declared.board.View.{View}
+use Rattle.claim_board.specs.Views.{SeatView}
 use Rattle.link_model.specs.declared.board.Lane.{Lane}
 use Rattle.link_model.specs.declared.board.Seen.{Seen}
 use Rattle.link_model.specs.declared.board.Hold.{Hold}
@@ -40,10 +40,10 @@ without_counts p t (h ∷ hs) some_there q u =
     rw (counted, ne_eqb h.place p ne, holds_of-cons q u h (without p t hs)) (omega (arith, without_counts p t hs later q u)))
 
 -- a seat that holds a place with a serial finds the word so
-holds_word : (s : BoardState) (o : BoardRule s) (id i t : ℕ) (v : View) → get_elem? s.views id ≡ some v → 0 < holds_of i t v.held → get_or s.words i 0 ≡ 4 * t + 2
+holds_word : (s : BoardState) (o : BoardRule s) (id i t : ℕ) (v : SeatView) → get_elem? s.views id ≡ some v → 0 < holds_of i t v.held → get_or s.words i 0 ≡ 4 * t + 2
 holds_word s o id i t v me h = dite (ℕ_discrete (get_or s.words i 0) (4 * t + 2)) (λ e. e)
     (λ ne. absurd (let c : holders (get_or s.words i 0) t ≡ 0 = (rw (ne_eqb (get_or s.words i 0) (4 * t + 2) ne) refl) in
-    let l = term-le-sum_by (λ (x : View). holds_of i t x.held) s.views id v me in let k = o.claims i t in omega arith))
+    let l = term-le-sum_by (λ (x : SeatView). holds_of i t x.held) s.views id v me in let k = o.claims i t in omega arith))
 
 complete_counts : (words : List ℕ) (i t : ℕ) → i < length words → get_or words i 0 ≡ 4 * t + 2 → (hs : List Hold) → 0 < holds_of i t hs → (q u : ℕ)
     → holds_of q u (without i t hs) + holders (get_or words q 0) u ≡ holds_of q u hs + holders (get_or (set words i (4 * t + 3)) q 0) u
@@ -55,14 +55,14 @@ complete_counts words i t h now hs there q u = let c = without_counts i t hs the
     (λ nf. let c' = rw (eq-eqb i q (sym e), ne_eqb t u nf) at c in rw (here, was, ne_eqb (4 * t + 2) (4 * u + 2) (λ x. nf (omega arith)), ne_eqb (4 * t + 3) (4 * u + 2) (λ x. omega arith)) (omega arith)))
     (λ ne. let c' = rw (ne_eqb i q (λ x. ne (sym x))) at c in rw (get_or-set_other words i q (4 * t + 3) 0 ne) (omega arith))
 
-pub completes : (n id : ℕ) (v : View) (r : List (ℕ × Slot)) (i t : ℕ) (done : SliceDone) → i < n → v.feeds ≡ false → 0 < holds_of i t v.held
+pub completes : (n id : ℕ) (v : SeatView) (r : List (ℕ × Slot)) (i t : ℕ) (done : SliceDone) → i < n → v.feeds ≡ false → 0 < holds_of i t v.held
     → Allows BoardRule n id (v, (i, Some (Finished t done)) ∷ r) i (λ _. 4 * t + 3) (λ _. tells_complete (step n i (4 * t + 3) 0 none) (v, (i, Some (Finished t done)) ∷ r) (4 * t + 3))
 completes n id v r i t done h feeds there s o wide me fits =
     let in_words : i < length s.words = (let e = o.wide in omega arith) in
     let old = o.each i in_words in
     let now = holds_word s o id i t v me there in
     let ph = held_phase (get_or s.words i 0) t old.0 old.1 old.2.shows now in
-    let w : View = after_complete v i t in
+    let w : SeatView = after_complete v i t in
     let f = still_feeds s o id v w me refl refl in (
       w,
       gives,

@@ -4,7 +4,7 @@ use mathlib.Core.Logic.{dite}
 use native.Mathlib.Decide.{ℕ_discrete}
 use Rattle.link_model.specs.Board.{lane, lane_at}
 use Rattle.claim_board.specs.Counts.{idle_count}
-use Rattle.link_model.specs.declared.board.View.{View}
+use Rattle.claim_board.specs.Views.{SeatView}
 use Rattle.link_model.specs.declared.board.Lane.{Lane}
 use Rattle.claim_board.specs.Counts.{occurrences}
 use Rattle.claim_board.proofs.Sums.{occurrences-cons}
@@ -44,7 +44,7 @@ few (suc n) xs above once =
     let o = once n in let l = length-but n xs in omega arith
 
 -- there is room for a place that is out
-pub room_left : (v : View) (xs : List ℕ) (n most p : ℕ) → length v.lanes ≡ n → ((q : ℕ) → occurrences q xs ≡ idle_count (lane_at v q)) → n ≤ most → (lane_at v p).is_out ≡ true → p < n → length xs < most
+pub room_left : (v : SeatView) (xs : List ℕ) (n most p : ℕ) → length v.lanes ≡ n → ((q : ℕ) → occurrences q xs ≡ idle_count (lane_at v q)) → n ≤ most → (lane_at v p).is_out ≡ true → p < n → length xs < most
 room_left v xs n most p wide idle room out h =
     let l = few n (p ∷ xs)
     (λ q above. let none : idle_count (lane_at v q) ≡ 0 = past q above in let e = idle q in rw (occurrences-cons q p xs, ne_eqb p q (λ x. omega arith)) (omega arith))

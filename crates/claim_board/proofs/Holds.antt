@@ -68,3 +68,12 @@ less_held p t q old new hs e there same = let w = held_without p t q hs there in
 
 pub one_held : (p t : ℕ) (hs : List Hold) → 0 < holds_of p t (hold p t ∷ hs)
 one_held p t hs = rw (holds_of-cons p t (hold p t) hs, eq-eqb p p refl, eq-eqb t t refl) (omega arith)
+
+-- a place that was held once is held no more
+pub held_no_more : (p t : ℕ) (hs : List Hold) → 0 < holds_of p t hs → holds_at p hs ≤ 1
+    → holds_of p t (without p t hs) ≡ 0
+held_no_more p t hs there once =
+    let less = held_without p t p hs there in
+    let most = held_with_serial p t (without p t hs) in
+    let none : holds_at p hs ≡ 1 + holds_at p (without p t hs) = (rw (less, eq-eqb p p refl) refl) in
+    omega arith

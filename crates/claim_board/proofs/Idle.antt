@@ -4,7 +4,7 @@ use mathlib.Core.Logic.{dite}
 use native.Mathlib.Decide.{ℕ_discrete}
 use Rattle.link_model.specs.Board.{lane, lane_at, after_put, after_return}
 use Rattle.link_model.specs.declared.board.Lane.{Lane}
-use Rattle.link_model.specs.declared.board.View.{View}
+use Rattle.claim_board.specs.Views.{SeatView}
 use Rattle.claim_board.specs.Counts.{idle_count, occurrences}
 use Rattle.claim_board.proofs.Sums.{occurrences-cons}
 
@@ -23,7 +23,7 @@ out_is_not_idle l e = subst (λ (b : Bool). cond {A = ℕ} l.is_fetched (cond {A
 in_is_idle : (l : Lane) → l.is_fetched ≡ true → l.is_out ≡ false → idle_count l ≡ 1
 in_is_idle l f e = rw (f, e) refl
 
-pub idle_put : (v : View) (p q : ℕ) (xs ys : List ℕ) → p < length v.lanes → (lane_at v p).is_fetched ≡ true → (lane_at v p).is_out ≡ false
+pub idle_put : (v : SeatView) (p q : ℕ) (xs ys : List ℕ) → p < length v.lanes → (lane_at v p).is_fetched ≡ true → (lane_at v p).is_out ≡ false
     → ((k : ℕ) → occurrences k xs ≡ idle_count (lane_at v k)) → occurrences q xs ≡ cond (eqb p q) 1 0 + occurrences q ys
     → occurrences q ys ≡ idle_count (lane_at (after_put v p) q)
 idle_put v p q xs ys h fetched empty idle less =
@@ -35,7 +35,7 @@ idle_put v p q xs ys h fetched empty idle less =
     (λ ne. let now : idle_count (lane_at (after_put v p) q) ≡ idle_count (lane_at v q) = ap idle_count (get_or-set_other v.lanes p q new (lane 0 false false) (λ x. ne (sym x))) in
     let was = idle q in let none : cond {A = ℕ} (eqb p q) 1 0 ≡ 0 = (rw (ne_eqb p q ne) refl) in omega arith)
 
-pub idle_returned : (v : View) (p q : ℕ) (xs : List ℕ) → p < length v.lanes → (lane_at v p).is_out ≡ true
+pub idle_returned : (v : SeatView) (p q : ℕ) (xs : List ℕ) → p < length v.lanes → (lane_at v p).is_out ≡ true
     → ((k : ℕ) → occurrences k xs ≡ idle_count (lane_at v k)) → occurrences q (p ∷ xs) ≡ idle_count (lane_at (after_return v p) q)
 idle_returned v p q xs h out idle =
     let new : Lane = lane (lane_at v p).serial true false in
@@ -46,20 +46,20 @@ idle_returned v p q xs h out idle =
     (λ ne. let now : idle_count (lane_at (after_return v p) q) ≡ idle_count (lane_at v q) = ap idle_count (get_or-set_other v.lanes p q new (lane 0 false false) (λ x. ne (sym x))) in
     let was = idle q in let none : cond {A = ℕ} (eqb p q) 1 0 ≡ 0 = (rw (ne_eqb p q ne) refl) in omega arith))
 
-pub idle_after_put : (v w : View) (p : ℕ) (xs ys : List ℕ) → w ≡ after_put v p → ((q : ℕ) → occurrences q xs ≡ cond (eqb p q) 1 0 + occurrences q ys)
+pub idle_after_put : (v w : SeatView) (p : ℕ) (xs ys : List ℕ) → w ≡ after_put v p → ((q : ℕ) → occurrences q xs ≡ cond (eqb p q) 1 0 + occurrences q ys)
     → p < length v.lanes → (lane_at v p).is_fetched ≡ true → (lane_at v p).is_out ≡ false → ((k : ℕ) → occurrences k xs ≡ idle_count (lane_at v k))
     → (q : ℕ) → occurrences q ys ≡ idle_count (lane_at w q)
-idle_after_put v w p xs ys e less h fetched empty idle q = idle_put v p q xs ys h fetched empty idle (less q) ∙ ap (λ (x : View). idle_count (lane_at x q)) (sym e)
+idle_after_put v w p xs ys e less h fetched empty idle q = idle_put v p q xs ys h fetched empty idle (less q) ∙ ap (λ (x : SeatView). idle_count (lane_at x q)) (sym e)
 
-pub idle_after_return : (v w : View) (p : ℕ) (xs ys : List ℕ) → w ≡ after_return v p → ys ≡ p ∷ xs → p < length v.lanes → (lane_at v p).is_out ≡ true
+pub idle_after_return : (v w : SeatView) (p : ℕ) (xs ys : List ℕ) → w.lanes ≡ (after_return v p).lanes → ys ≡ p ∷ xs → p < length v.lanes → (lane_at v p).is_out ≡ true
     → ((k : ℕ) → occurrences k xs ≡ idle_count (lane_at v k)) → (q : ℕ) → occurrences q ys ≡ idle_count (lane_at w q)
-idle_after_return v w p xs ys e more h out idle q = ap (occurrences q) more ∙ (idle_returned v p q xs h out idle ∙ ap (λ (x : View). idle_count (lane_at x q)) (sym e))
+idle_after_return v w p xs ys e more h out idle q = ap (occurrences q) more ∙ (idle_returned v p q xs h out idle ∙ ap (λ (ls : List Lane). idle_count (get_or ls q (lane 0 false false))) (sym e))
 
 -- a fact about each lane, where one lane was replaced
-pub lane_after : (v w : View) (p q : ℕ) (new : Lane) (P : Lane → Type 0) → w.lanes ≡ set v.lanes p new → p < length v.lanes → P new → P (lane_at v q) → P (lane_at w q)
+pub lane_after : (v w : SeatView) (p q : ℕ) (new : Lane) (P : Lane → Type 0) → w.lanes ≡ set v.lanes p new → p < length v.lanes → P new → P (lane_at v q) → P (lane_at w q)
 lane_after v w p q new P e h here there = subst (λ (ls : List Lane). P (get_or ls q (lane 0 false false))) (sym e) (dite (ℕ_discrete p q)
     (λ same. subst (λ (k : ℕ). P (get_or (set v.lanes p new) k (lane 0 false false))) same (subst P (sym (get_or-set_same v.lanes p new (lane 0 false false) h)) here))
     (λ ne. subst P (sym (get_or-set_other v.lanes p q new (lane 0 false false) (λ x. ne (sym x)))) there))
 
-pub lane_here : (v : View) (p : ℕ) (new : Lane) (w : View) → w.lanes ≡ set v.lanes p new → p < length v.lanes → lane_at w p ≡ new
+pub lane_here : (v : SeatView) (p : ℕ) (new : Lane) (w : SeatView) → w.lanes ≡ set v.lanes p new → p < length v.lanes → lane_at w p ≡ new
 lane_here v p new w e h = ap (λ (ls : List Lane). get_or ls p (lane 0 false false)) e ∙ get_or-set_same v.lanes p new (lane 0 false false) h

@@ -13,7 +13,7 @@ use Rattle.atomic_table.proofs.Lists.{at_set, set_here, set_else, exchanged}
 use Rattle.vc_slice.specs.declared.job.SliceJob.{SliceJob}
 use Rattle.claim_board.proofs.Sums.{sum_by-set_at, holds_of-cons, term-le-sum_by}
 use Rattle.vc_slice.specs.declared.done.SliceDone.{SliceDone}
-use Rattle.link_model.specs.declared.board.View.{View}
+use Rattle.claim_board.specs.Views.{SeatView, after_job}
 use Rattle.link_model.specs.declared.board.Lane.{Lane}
 use Rattle.link_model.specs.declared.board.Seen.{Seen}
 use Rattle.link_model.specs.declared.board.Hold.{Hold}
@@ -35,7 +35,7 @@ past_more words p n h up (Some l) k = dite (ℕ_discrete l.place p)
     (λ ne. rw (get_or-set_other words p l.place n 0 ne) k)
 
 -- the rule after a step of the seat id on the word p
-pub goes : (s : BoardState) (o : BoardRule s) (id : ℕ) (v w f : View) (p n : ℕ) (hs : List (maybe.Option Slot))
+pub goes : (s : BoardState) (o : BoardRule s) (id : ℕ) (v w f : SeatView) (p n : ℕ) (hs : List (maybe.Option Slot))
     → get_elem? s.views id ≡ some v
     → p < length s.words
     → w.feeds ≡ v.feeds
@@ -53,7 +53,7 @@ goes s o id v w f p n hs me in_range feeds first still lanes long others here cl
   feeder = f;
   first = first;
   feeds = still;
-  alone = λ j u e t. ⊎_elim (λ c. c.0 ∙ o.alone id v me (sym feeds ∙ (ap (λ (x : View). x.feeds) c.1 ∙ t))) (λ c. o.alone j u c.1 t) (at_set s.views id j w u e);
+  alone = λ j u e t. ⊎_elim (λ c. c.0 ∙ o.alone id v me (sym feeds ∙ (ap (λ (x : SeatView). x.feeds) c.1 ∙ t))) (λ c. o.alone j u c.1 t) (at_set s.views id j w u e);
   lanes = lanes ∙ sym (length-set s.words p n);
   wide = long ∙ (o.wide ∙ sym (length-set s.words p n));
   each = λ q h. dite (ℕ_discrete q p)
@@ -61,23 +61,23 @@ goes s o id v w f p n hs me in_range feeds first still lanes long others here cl
       subst P (sym e) (here.0, here.1, rw (get_or-set_same s.words p n 0 in_range) here.2))
       (λ ne. let old = o.each q (subst (λ (k : ℕ). q < k) (length-set s.words p n) h) in let same = others q ne in
       (old.0, old.1, rw (get_or-set_other s.words p q n 0 ne, same.0, same.1) old.2));
-  claims = λ q t. omega (arith, sum_by-set_at (λ (u : View). holds_of q t u.held) s.views id v w me, o.claims q t, claims q t);
-  looked = λ j u e. ⊎_elim (λ c. subst (λ (x : View). IsNotAhead (set s.words p n) x.last) c.1 last) (λ c. past_more s.words p n in_range up u.last (o.looked j u c.1)) (at_set s.views id j w u e);
+  claims = λ q t. omega (arith, sum_by-set_at (λ (u : SeatView). holds_of q t u.held) s.views id v w me, o.claims q t, claims q t);
+  looked = λ j u e. ⊎_elim (λ c. subst (λ (x : SeatView). IsNotAhead (set s.words p n) x.last) c.1 last) (λ c. past_more s.words p n in_range up u.last (o.looked j u c.1)) (at_set s.views id j w u e);
 }
 
-pub first_in : (l : List View) (f : View) → get_elem? l 0 ≡ some f → 0 < length l
+pub first_in : (l : List SeatView) (f : SeatView) → get_elem? l 0 ≡ some f → 0 < length l
 first_in [] f e = absurd (some-ne-none f (sym e))
 first_in (x ∷ xs) f e = omega arith
 
 -- the feeder after a seat's step that changes no lane
-pub still_feeds : (s : BoardState) (o : BoardRule s) (id : ℕ) (v w : View) → get_elem? s.views id ≡ some v → w.feeds ≡ v.feeds → w.lanes ≡ v.lanes
-    → (f : View) × (get_elem? (set s.views id w) 0 ≡ some f) × (f.feeds ≡ true) × (f.lanes ≡ o.feeder.lanes)
+pub still_feeds : (s : BoardState) (o : BoardRule s) (id : ℕ) (v w : SeatView) → get_elem? s.views id ≡ some v → w.feeds ≡ v.feeds → w.lanes ≡ v.lanes
+    → (f : SeatView) × (get_elem? (set s.views id w) 0 ≡ some f) × (f.feeds ≡ true) × (f.lanes ≡ o.feeder.lanes)
 still_feeds s o id v w me feeds lanes = dite (ℕ_discrete id 0)
     (λ e. let same : v ≡ o.feeder = some-injective v o.feeder (sym me ∙ (ap (get_elem? s.views) e ∙ o.first)) in (
       w,
       subst (λ (k : ℕ). get_elem? (set s.views k w) 0 ≡ some w) (sym e) (set_here s.views 0 w (first_in s.views o.feeder o.first)),
-      feeds ∙ (ap (λ (x : View). x.feeds) same ∙ o.feeds),
-      lanes ∙ ap (λ (x : View). x.lanes) same,
+      feeds ∙ (ap (λ (x : SeatView). x.feeds) same ∙ o.feeds),
+      lanes ∙ ap (λ (x : SeatView). x.lanes) same,
     ))
     (λ ne. (o.feeder, set_else s.views id 0 w (λ e. ne (sym e)) ∙ o.first, o.feeds, refl))
 
@@ -86,7 +86,7 @@ pub looks : (s : BoardState) (o : BoardRule s) (id i : ℕ) (m : SeatState) → 
     → BoardRule (stepped s i (get_or s.words i 0) id m.1 (after_load m.0 i (get_or s.words i 0)) keeps)
 looks s o id i m me h =
     let r : ℕ = get_or s.words i 0 in
-    let w : View = after_load m.0 i r in
+    let w : SeatView = after_load m.0 i r in
     let f = still_feeds s o id m.0 w me refl refl in
     let same : set s.words i r ≡ s.words = set-get_or s.words i 0 in
     goes s o id m.0 w f.0 i r s.homes me h refl f.1 f.2 (ap length f.3 ∙ o.lanes) refl
@@ -115,27 +115,27 @@ unclaimed words i n h a b q u = dite (ℕ_discrete q i)
     subst P (sym e) (rw (get_or-set_same words i n 0 h, ne_eqb (get_or words i 0) (4 * u + 2) (a u), ne_eqb n (4 * u + 2) (b u)) refl))
     (λ ne. rw (get_or-set_other words i q n 0 ne) refl)
 
-pub puts : (n id : ℕ) (v : View) (r : List (ℕ × Slot)) (i t : ℕ) (job : SliceJob) → i < n → v.feeds ≡ true → lane_at v i ≡ lane t true false → t < 2 ^ 61
+pub puts : (n id : ℕ) (v : SeatView) (r : List (ℕ × Slot)) (i t : ℕ) (job : SliceJob) → i < n → v.feeds ≡ true → lane_at v i ≡ lane t true false → t < 2 ^ 61
     → Allows BoardRule n id (v, (i, Some (Waiting (t + 1) job)) ∷ r) i (λ _. 4 * (t + 1) + 1) (λ _. tells_put (step n i (4 * (t + 1) + 1) 0 none) (v, (i, Some (Waiting (t + 1) job)) ∷ r) (4 * (t + 1) + 1))
 puts n id v r i t job h feeds idle small s o wide me fits =
     let zero-id : id ≡ 0 = o.alone id v me feeds in
     let same : v ≡ o.feeder = some-injective v o.feeder (sym me ∙ (ap (get_elem? s.views) zero-id ∙ o.first)) in
     let in_words : i < length s.words = (let e = o.wide in omega arith) in
     let old = o.each i in_words in
-    let ph = idle_phase t old.0 old.1 (sym idle ∙ (ap (λ (x : View). lane_at x i) same ∙ old.2.is_known)) in
+    let ph = idle_phase t old.0 old.1 (sym idle ∙ (ap (λ (x : SeatView). lane_at x i) same ∙ old.2.is_known)) in
     let now : get_or s.words i 0 ≡ 4 * t = (let c : phase_number old.1 ≡ 0 = ap phase_number ph.0 in let k = old.2.shows in let e = ph.1 in omega arith) in
-    let w : View = after_put v i in
-    let in_lanes : i < length v.lanes = (let e : length v.lanes ≡ length s.words = ap (λ (x : View). length x.lanes) same ∙ o.lanes in omega arith) in
+    let w : SeatView = after_put v i in
+    let in_lanes : i < length v.lanes = (let e : length v.lanes ≡ length s.words = ap (λ (x : SeatView). length x.lanes) same ∙ o.lanes in omega arith) in
     let first : get_elem? (set s.views id w) 0 ≡ some w = subst (λ (k : ℕ). get_elem? (set s.views k w) 0 ≡ some w) (sym zero-id) (set_here s.views 0 w (first_in s.views o.feeder o.first)) in (
       w,
       gives,
       tt,
       goes s o id v w w i (4 * (t + 1) + 1) (set s.homes i (some (Some (Waiting (t + 1) job)))) me in_words refl first feeds
-          (length-set v.lanes i (lane ((lane_at v i).serial + 1) true true) ∙ (ap (λ (x : View). length x.lanes) same ∙ o.lanes))
+          (length-set v.lanes i (lane ((lane_at v i).serial + 1) true true) ∙ (ap (λ (x : SeatView). length x.lanes) same ∙ o.lanes))
           (length-set s.homes i (some (Some (Waiting (t + 1) job))))
           (λ q ne. (
             set_else s.homes i q (some (Some (Waiting (t + 1) job))) ne,
-            get_or-set_other v.lanes i q (lane ((lane_at v i).serial + 1) true true) (lane 0 false false) ne ∙ ap (λ (x : View). lane_at x q) same,
+            get_or-set_other v.lanes i q (lane ((lane_at v i).serial + 1) true true) (lane 0 false false) ne ∙ ap (λ (x : SeatView). lane_at x q) same,
           )) (
             t + 1,
             waiting job,
@@ -187,11 +187,11 @@ claim_counts words i t h now hs q u = rw (holds_of-cons q u (hold i t) hs) (dite
     (λ ne. rw (get_or-set_other words i q (4 * t + 2) 0 ne, ne_eqb i q (λ x. ne (sym x))) (omega arith)))
 
 -- a waiting place is held by nobody
-held_by_none : (s : BoardState) (o : BoardRule s) (id i t other : ℕ) (v : View) → get_elem? s.views id ≡ some v → get_or s.words i 0 ≡ 4 * t + 1 → holds_of i other v.held ≡ 0
+held_by_none : (s : BoardState) (o : BoardRule s) (id i t other : ℕ) (v : SeatView) → get_elem? s.views id ≡ some v → get_or s.words i 0 ≡ 4 * t + 1 → holds_of i other v.held ≡ 0
 held_by_none s o id i t other v me waits =
     let none : holders (get_or s.words i 0) other ≡ 0 = (rw (ne_eqb (get_or s.words i 0) (4 * other + 2) (λ e. omega arith)) refl) in
     let all = o.claims i other in
-    let own = term-le-sum_by (λ (x : View). holds_of i other x.held) s.views id v me in
+    let own = term-le-sum_by (λ (x : SeatView). holds_of i other x.held) s.views id v me in
     omega arith
 
 pub claims : (n id : ℕ) (m : SeatState) (i t : ℕ) (said : maybe.Option Slot) → i < n → m.0.feeds ≡ false
@@ -199,11 +199,11 @@ pub claims : (n id : ℕ) (m : SeatState) (i t : ℕ) (said : maybe.Option Slot)
 claims n id m i t said h feeds s o wide me fits =
     let in_words : i < length s.words = (let e = o.wide in omega arith) in
     let old = o.each i in_words in
-    let G : ℕ → Type 0 = λ k. (w : View) × (a : Act Slot) × Valid s.homes m.1 a × BoardRule (stepped s i k id m.1 w a) × tells_claim (step n i (4 * t + 1) (4 * t + 2) said) m (get_or s.words i 0) (w, carried_after m.1 a) in
+    let G : ℕ → Type 0 = λ k. (w : SeatView) × (a : Act Slot) × Valid s.homes m.1 a × BoardRule (stepped s i k id m.1 w a) × tells_claim (step n i (4 * t + 1) (4 * t + 2) said) m (get_or s.words i 0) (w, carried_after m.1 a) in
     exchanged (get_or s.words i 0) (4 * t + 1) (4 * t + 2) G
     (λ hit.
     let ph = waiting_phase (get_or s.words i 0) t old.0 old.1 old.2.shows hit in
-    let w : View = after_claim m.0 i t in
+    let w : SeatView = after_job m.0 i t ph.1.0 in
     let f = still_feeds s o id m.0 w me refl refl in
     let home : get_elem? s.homes i ≡ some (some (Some (Waiting t ph.1.0))) = old.2.lies ∙ (ap (λ (x : Phase). some (home_of old.0 x)) ph.1.1 ∙ ap (λ (k : ℕ). some (some (Some (Waiting k ph.1.0)))) (sym ph.0)) in (
       w,
@@ -227,7 +227,7 @@ claims n id m i t said h feeds s o wide me fits =
       (
         (λ r u e. let same : t ≡ u = omega arith in record {
           job = ph.1.0;
-          seat = ap (λ (k : ℕ). (after_claim m.0 i k, (i, Some (Waiting k ph.1.0)) ∷ m.1)) same;
+          seat = ap (λ (k : ℕ). (after_job m.0 i k ph.1.0, (i, Some (Waiting k ph.1.0)) ∷ m.1)) same;
           small = rw (sym same, ph.0) old.2.small;
           free = λ other. held_by_none s o id i t other m.0 me hit;
         }),

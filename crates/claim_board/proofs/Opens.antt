@@ -16,7 +16,7 @@ use Rattle.vc_slice.specs.declared.job.SliceJob.{SliceJob}
 use Rattle.claim_board.proofs.Sums.{sum_by-set_at}
 use Rattle.vc_slice.specs.declared.done.SliceDone.{SliceDone}
 use Rattle.claim_board.proofs.Keeps.{past_more, goes, first_in, still_feeds, looks, unclaimed, waiting_phase, held_phase, finished_phase}
-use Rattle.link_model.specs.declared.board.View.{View}
+use Rattle.claim_board.specs.Views.{SeatView}
 use Rattle.link_model.specs.declared.board.Lane.{Lane}
 use Rattle.link_model.specs.declared.board.Seen.{Seen}
 use Rattle.link_model.specs.declared.board.Hold.{Hold}
@@ -42,7 +42,7 @@ length-homes : (n : ℕ) → let x : Slot = None in length (map some (replicate 
 length-homes zero = refl
 length-homes (suc n) = ap suc (length-homes n)
 
-only_first : (v u : View) (j : ℕ) → get_elem? (v ∷ []) j ≡ some u → (j ≡ 0) × (v ≡ u)
+only_first : (v u : SeatView) (j : ℕ) → get_elem? (v ∷ []) j ≡ some u → (j ≡ 0) × (v ≡ u)
 only_first v u zero e = (refl, some-injective v u e)
 only_first v u (suc j) e = absurd (some-ne-none u (sym e))
 
@@ -66,7 +66,7 @@ opens n = record {
     },
   );
   claims = λ p t. rw (get_replicate {A = ℕ} n p 0, ne_eqb 0 (4 * t + 2) (λ e. omega arith)) refl;
-  looked = λ j u e. let same = (only_first (first_view n) u j e).1 in subst (λ (x : View). IsNotAhead (replicate n 0) x.last) same tt;
+  looked = λ j u e. let same = (only_first (first_view n) u j e).1 in subst (λ (x : SeatView). IsNotAhead (replicate n 0) x.last) same tt;
 }
 
 pub fetches : (n id : ℕ) (m : SeatState) (i t : ℕ) → i < n → m.0.feeds ≡ true → lane_at m.0 i ≡ lane t false false
@@ -76,20 +76,20 @@ fetches n id m i t h feeds idle s o wide me fits =
     let old = o.each i in_words in
     let zero-id : id ≡ 0 = o.alone id m.0 me feeds in
     let same : m.0 ≡ o.feeder = some-injective m.0 o.feeder (sym me ∙ (ap (get_elem? s.views) zero-id ∙ o.first)) in
-    let ph = fresh_phase t old.0 old.1 (sym idle ∙ (ap (λ (x : View). lane_at x i) same ∙ old.2.is_known)) in
+    let ph = fresh_phase t old.0 old.1 (sym idle ∙ (ap (λ (x : SeatView). lane_at x i) same ∙ old.2.is_known)) in
     let r : ℕ = get_or s.words i 0 in
-    let w : View = after_return m.0 i in
+    let w : SeatView = after_return m.0 i in
     let new : Lane = lane (lane_at m.0 i).serial true false in
-    let in_lanes : i < length m.0.lanes = (let e : length m.0.lanes ≡ length s.words = ap (λ (x : View). length x.lanes) same ∙ o.lanes in omega arith) in
+    let in_lanes : i < length m.0.lanes = (let e : length m.0.lanes ≡ length s.words = ap (λ (x : SeatView). length x.lanes) same ∙ o.lanes in omega arith) in
     let first : get_elem? (set s.views id w) 0 ≡ some w = subst (λ (k : ℕ). get_elem? (set s.views k w) 0 ≡ some w) (sym zero-id) (set_here s.views 0 w (first_in s.views o.feeder o.first)) in
     let here : set s.words i r ≡ s.words = set-get_or s.words i 0 in (
       w,
       takes i None,
       old.2.lies ∙ ap (λ (x : Phase). some (home_of old.0 x)) ph.0,
       goes s o id m.0 w w i r (set s.homes i none) me in_words refl first feeds
-          (length-set m.0.lanes i new ∙ (ap (λ (x : View). length x.lanes) same ∙ o.lanes))
+          (length-set m.0.lanes i new ∙ (ap (λ (x : SeatView). length x.lanes) same ∙ o.lanes))
           (length-set s.homes i none)
-          (λ q ne. (set_else s.homes i q none ne, get_or-set_other m.0.lanes i q new (lane 0 false false) ne ∙ ap (λ (x : View). lane_at x q) same)) (
+          (λ q ne. (set_else s.homes i q none ne, get_or-set_other m.0.lanes i q new (lane 0 false false) ne ∙ ap (λ (x : SeatView). lane_at x q) same)) (
             t,
             empty,
             record {
@@ -113,12 +113,12 @@ fetches n id m i t h feeds idle s o wide me fits =
     fresh_phase t u held e = let h : false ≡ true = ap (λ (l : Lane). l.is_out) e in cc
     fresh_phase t u (finished done) e = let h : false ≡ true = ap (λ (l : Lane). l.is_out) e in cc
 
-pub splits : (id : ℕ) (v : View) → v.feeds ≡ true → Splits BoardRule id v (after_step v) worker_view
+pub splits : (id : ℕ) (v : SeatView) → v.feeds ≡ true → Splits BoardRule id v (after_step v) worker_view
 splits id v feeds s o me =
     let zero-id : id ≡ 0 = o.alone id v me feeds in
     let same : v ≡ o.feeder = some-injective v o.feeder (sym me ∙ (ap (get_elem? s.views) zero-id ∙ o.first)) in
-    let w : View = after_step v in
-    let vs : List View = set s.views id w in
+    let w : SeatView = after_step v in
+    let vs : List SeatView = set s.views id w in
     let first : get_elem? vs 0 ≡ some w = subst (λ (k : ℕ). get_elem? (set s.views k w) 0 ≡ some w) (sym zero-id) (set_here s.views 0 w (first_in s.views o.feeder o.first)) in
     record {
       feeder = w;
@@ -126,14 +126,14 @@ splits id v feeds s o me =
       feeds = feeds;
       alone = λ j u e t. ⊎_elim
           (λ h. ⊎_elim (λ c. c.0 ∙ zero-id) (λ c. o.alone j u c.1 t) (at_set s.views id j w u h))
-          (λ (h : worker_view ≡ u). absurd (let no : false ≡ true = ap (λ (x : View). x.feeds) h ∙ t in cc))
+          (λ (h : worker_view ≡ u). absurd (let no : false ≡ true = ap (λ (x : SeatView). x.feeds) h ∙ t in cc))
           (at_snoc vs worker_view u j e);
-      lanes = ap (λ (x : View). length x.lanes) same ∙ o.lanes;
+      lanes = ap (λ (x : SeatView). length x.lanes) same ∙ o.lanes;
       wide = o.wide;
-      each = λ p h. let old = o.each p h in (old.0, old.1, rw (ap (λ (x : View). lane_at x p) same) old.2);
-      claims = λ p t. omega (arith, sum_by-append (λ (u : View). holds_of p t u.held) vs (worker_view ∷ []), sum_by-set_at (λ (u : View). holds_of p t u.held) s.views id v w me, o.claims p t);
+      each = λ p h. let old = o.each p h in (old.0, old.1, rw (ap (λ (x : SeatView). lane_at x p) same) old.2);
+      claims = λ p t. omega (arith, sum_by-append (λ (u : SeatView). holds_of p t u.held) vs (worker_view ∷ []), sum_by-set_at (λ (u : SeatView). holds_of p t u.held) s.views id v w me, o.claims p t);
       looked = λ j u e. ⊎_elim
-          (λ h. ⊎_elim (λ c. subst (λ (x : View). IsNotAhead s.words x.last) c.1 (o.looked id v me)) (λ c. o.looked j u c.1) (at_set s.views id j w u h))
-          (λ (h : worker_view ≡ u). subst (λ (x : View). IsNotAhead s.words x.last) h tt)
+          (λ h. ⊎_elim (λ c. subst (λ (x : SeatView). IsNotAhead s.words x.last) c.1 (o.looked id v me)) (λ c. o.looked j u c.1) (at_set s.views id j w u h))
+          (λ (h : worker_view ≡ u). subst (λ (x : SeatView). IsNotAhead s.words x.last) h tt)
           (at_snoc vs worker_view u j e);
     }

@@ -1,5 +1,6 @@
 -- The rule of the board, which holds between any two steps.
-use Rattle.std.specs.Prelude.{◌≡◌, ℕ, ◌+◌, ◌*◌, ◌/◌, ◌^◌, ◌<◌, ◌≤◌, Bool, true, false, List, [], ◌∷◌, length, cond, ◌==◌, slice_index, IfSome, Option, None, Some}
+use Rattle.std.specs.Prelude.{◌≡◌, ℕ, ◌+◌, ◌*◌, ◌/◌, ◌^◌, ◌<◌, ◌≤◌, Bool, true, false, List, []}
+use Rattle.std.specs.Prelude.{◌∷◌, length, cond, ◌==◌, slice_index, IfSome, Option, None, Some}
 use Rattle.std.specs.List.{sum_by}
 use mathlib.Core.Option.{some, none}
 use mathlib.Core.Option as maybe
@@ -10,7 +11,7 @@ use Rattle.vc_slice.specs.declared.done.SliceDone.{SliceDone}
 use Rattle.link_model.specs.Board.{held_word, lane, lane_at}
 use Rattle.link_model.specs.declared.board.Lane.{Lane}
 use Rattle.link_model.specs.declared.board.Seen.{Seen}
-use Rattle.link_model.specs.declared.board.View.{View}
+use Rattle.claim_board.specs.Views.{SeatView}
 use Rattle.claim_board.specs.declared.cargo.Cargo.{Cargo}
 use Rattle.claim_board.specs.declared.cargo.Cargo.TheVariants.{Waiting, Finished}
 use Rattle.claim_board.specs.Counts.{holds_of}
@@ -21,7 +22,7 @@ Slot = Option Cargo
 
 -- the words, the slots that are at home, and the views, of which the first is the feeder's
 abbrev pub BoardState : Type 0
-BoardState = State Slot View
+BoardState = State Slot SeatView
 
 -- a place as it may be: its slot was not fetched yet, or one of the four states
 pub data Phase : Type 0 where
@@ -46,7 +47,8 @@ lane_of serial (waiting job) = lane serial true true
 lane_of serial held = lane serial true true
 lane_of serial (finished done) = lane serial true true
 
--- what lies at home: nothing while the feeder or the holder has the slot; a job or an answer is stamped with the serial
+-- what lies at home: nothing while the feeder or the holder has the slot; a job or an answer is
+-- stamped with the serial
 abbrev pub home_of : ℕ → Phase → maybe.Option Slot
 home_of serial fresh = some None
 home_of serial empty = none
@@ -68,7 +70,7 @@ pub record IsAt (word : ℕ) (home : maybe.Option (maybe.Option Slot)) (known : 
   pub is_known : known ≡ lane_of serial phase
   pub unused : IsUnused serial phase
 
-abbrev pub HasPhase : BoardState → View → ℕ → Type 0
+abbrev pub HasPhase : BoardState → SeatView → ℕ → Type 0
 HasPhase s feeder place = (serial : ℕ) × (phase : Phase)
     × IsAt (slice_index s.words place) (get_elem? s.homes place) (lane_at feeder place) serial phase
 
@@ -81,14 +83,14 @@ abbrev pub holders : ℕ → ℕ → ℕ
 holders word serial = cond (word == held_word serial) 1 0
 
 pub record BoardRule (s : BoardState) : Type 0 where
-  pub feeder : View
+  pub feeder : SeatView
   pub first : get_elem? s.views 0 ≡ some feeder
   pub feeds : feeder.feeds ≡ true
-  pub alone : (seat : ℕ) (v : View) → get_elem? s.views seat ≡ some v → v.feeds ≡ true → seat ≡ 0
+  pub alone : (seat : ℕ) (v : SeatView) → get_elem? s.views seat ≡ some v → v.feeds ≡ true → seat ≡ 0
   pub lanes : length feeder.lanes ≡ length s.words
   pub wide : length s.homes ≡ length s.words
   pub each : (place : ℕ) → place < length s.words → HasPhase s feeder place
   pub claims : (place serial : ℕ)
       → sum_by (λ v. holds_of place serial v.held) s.views
       ≡ holders (slice_index s.words place) serial
-  pub looked : (seat : ℕ) (v : View) → get_elem? s.views seat ≡ some v → IsNotAhead s.words v.last
+  pub looked : (seat : ℕ) (v : SeatView) → get_elem? s.views seat ≡ some v → IsNotAhead s.words v.last

@@ -1,6 +1,7 @@
-ghost use Rattle.std.specs.Prelude.{◌≡◌, ◌<◌, ◌≤◌, ◌^◌, ℕ, IfOk, IfSome, IfNone, OnSome, false, true, vec_len};
+ghost use Rattle.std.specs.Prelude.{◌≡◌, ◌<◌, ◌≤◌, ◌^◌, ℕ, IfOk, IfSome, IfNone, OnSome, false};
+ghost use Rattle.std.specs.Prelude.{true, vec_len};
 ghost use Rattle.std.specs.Arc.{arc_value};
-ghost use Rattle.claim_board.specs.Seats.{IsFeederOf, places_of};
+ghost use Rattle.claim_board.specs.Seats.{IsFeederOf, place_count};
 
 use crate::board::Board;
 use crate::seats::FeederSeat;
@@ -14,5 +15,5 @@ pub struct BoardFeeder {
     // The places that were left: their answers are taken and dropped once they are there.
     pub(crate) left: Vec<bool>,
     ghost same: { IsFeederOf (arc_value board) seat },
-    ghost marks: { vec_len left ≡ places_of (arc_value board) },
+    ghost marks: { vec_len left ≡ place_count (arc_value board) },
 }

@@ -1,9 +1,11 @@
-ghost use Rattle.std.specs.Prelude.{◌≡◌, ◌≢◌, ℕ, ◌+◌, ◌-◌, ◌%◌, ◌<◌, ◌≤◌, ◌^◌, ◌∷◌, true, false, OnOk, OnErr, IfErr, cond, ◌==◌, slice_set, vec_len};
+ghost use Rattle.std.specs.Prelude.{◌≡◌, ◌≢◌, ℕ, ◌+◌, ◌-◌, ◌%◌, ◌<◌, ◌≤◌, ◌^◌, ◌∷◌, true, false};
+ghost use Rattle.std.specs.Prelude.{OnOk, OnErr, IfOk, IfErr, cond, ◌==◌, slice_set, vec_len};
 ghost use Rattle.std.specs.VecDeque.{deque_len, deque_capacity};
-ghost use Rattle.link_model.specs.Board.{lane, lane_at, after_load, after_put, after_return};
+ghost use Rattle.link_model.specs.Board.{lane, lane_at, after_load, after_put};
 ghost use Rattle.claim_board.specs.Counts.{occurrences};
 ghost use Rattle.claim_board.specs.Plays.{empty_slots};
-ghost use Rattle.claim_board.specs.Seats.{IsFeederOf, feeder_sees, places_of};
+ghost use Rattle.claim_board.specs.Seats.{IsFeederOf, feeder_sees, place_count};
+ghost use Rattle.claim_board.specs.Views.{after_take, after_withdraw};
 ghost use Rattle.claim_board.specs.Steps.{MayStep, IsSameSeat};
 
 use crate::board::Board;
@@ -24,7 +26,7 @@ impl Board {
     /// Hands a job to an empty place, raises its serial by 1 and rings the bell.
     pub fn put(&self, f: &mut FeederSeat, place: u32, job: SliceJob)
         requires seat { IsFeederOf self.now f.old }
-        requires place { place < places_of self.now }
+        requires place { place < place_count self.now }
         requires empty { (lane_at (feeder_sees f.old) place).is_out ≡ false }
         requires serial { (lane_at (feeder_sees f.old) place).serial < 2 ^ 61 }
         ensures seat { IsFeederOf self.now f.new }
@@ -76,12 +78,14 @@ impl Board {
         let _place = order.pop_front();
     }
 
-    /// Takes the answer of a place that is done, which is empty then.
+    /// Takes the answer of a place that is done, which is empty then. The answer was stamped with
+    /// the serial that the seat knows of the place.
     pub fn take(&self, f: &mut FeederSeat, place: u32) -> Result<SliceDone, NotYet>
         requires seat { IsFeederOf self.now f.old }
-        requires place { place < places_of self.now }
+        requires place { place < place_count self.now }
         ensures seat { IsFeederOf self.now f.new }
-        ensures took { OnOk result (feeder_sees f.new ≡ after_return (feeder_sees f.old) place) }
+        ensures took { IfOk result (λ done. feeder_sees f.new
+            ≡ after_take (feeder_sees f.old) place done) }
         ensures empty { OnOk result (lane_at (feeder_sees f.new) place
             ≡ lane (lane_at (feeder_sees f.old) place).serial true false) }
         ensures was_out { OnOk result ((lane_at (feeder_sees f.old) place).is_out ≡ true) }
@@ -105,12 +109,14 @@ impl Board {
         Ok(done)
     }
 
-    /// Takes the job back of a place that waits, which is empty then.
+    /// Takes the job back of a place that waits, which is empty then. The job was stamped with the
+    /// serial that the seat knows of the place.
     pub fn withdraw(&self, f: &mut FeederSeat, place: u32) -> Result<SliceJob, NotWaiting>
         requires seat { IsFeederOf self.now f.old }
-        requires place { place < places_of self.now }
+        requires place { place < place_count self.now }
         ensures seat { IsFeederOf self.now f.new }
-        ensures took { OnOk result (feeder_sees f.new ≡ after_return (feeder_sees f.old) place) }
+        ensures took { IfOk result (λ job. feeder_sees f.new
+            ≡ after_withdraw (feeder_sees f.old) place job) }
         ensures empty { OnOk result (lane_at (feeder_sees f.new) place
             ≡ lane (lane_at (feeder_sees f.old) place).serial true false) }
         ensures was_out { OnOk result ((lane_at (feeder_sees f.old) place).is_out ≡ true) }

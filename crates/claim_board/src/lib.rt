@@ -1,5 +1,5 @@
-//! The claim board: places where a feeder puts slices and workers claim them. A step is one atomic operation on the word
-//! of one place; nothing waits, and nothing but `Board::new` takes memory.
+//! The claim board: places where a feeder puts slices and workers claim them. A step is one atomic
+//! operation on the word of one place; nothing waits, and nothing but `Board::new` takes memory.
 #![tactic(auto)]
 
 mod board;

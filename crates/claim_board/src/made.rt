@@ -4,7 +4,7 @@ ghost use Rattle.link_model.specs.Board.{first_view, lane, lane_at, worker_view}
 ghost use Rattle.claim_board.specs.Calls.{AreEmpty, IsNewWorker};
 ghost use Rattle.claim_board.specs.Counts.{idle_count, occurrences};
 ghost use Rattle.claim_board.specs.Plays.{empty_slots};
-ghost use Rattle.claim_board.specs.Seats.{IsBellSeatOf, IsFeederOf, feeder_sees, places_of};
+ghost use Rattle.claim_board.specs.Seats.{IsBellSeatOf, IsFeederOf, feeder_sees, place_count};
 
 use crate::board::Board;
 use crate::ring::Bell;
@@ -16,14 +16,15 @@ use std::collections::VecDeque;
 use vc_types::NoMemory;
 
 impl Board {
-    /// A board whose places are all empty, the feeder's seat, one seat for each worker, and a seat at the bell.
+    /// A board whose places are all empty, the feeder's seat, one seat for each worker, and a seat
+    /// at the bell.
     pub fn new(
         alloc: Global,
         places: u32,
         workers: u32,
     ) -> Result<(Board, FeederSeat, Vec<WorkerSeat>, BellSeat), NoMemory>
         requires some_place { 0 < places }
-        ensures places { IfOk result (λ made. places_of made.0 ≡ places) }
+        ensures places { IfOk result (λ made. place_count made.0 ≡ places) }
         ensures feeder { IfOk result (λ made. IsFeederOf made.0 made.1) }
         ensures empty { IfOk result (λ made. AreEmpty places (feeder_sees made.1)) }
         ensures workers { IfOk result (λ made. (vec_len made.2 ≡ workers)
@@ -39,7 +40,7 @@ impl Board {
 
     /// How many places there are.
     pub fn places(&self) -> u32
-        ensures { result ≡ places_of self.now }
+        ensures { result ≡ place_count self.now }
     {
         self.table.word_count() as u32
     }
@@ -53,9 +54,9 @@ impl Board {
     ) -> Result<FeederSeat, AllocError>
         requires table { seat.table_id ≡ self.now.table.shared.table_id }
         requires bell { bell.table_id ≡ self.now.bell.table.shared.table_id }
-        requires fresh { seat.me ≡ (first_view (places_of self.now), []) }
+        requires fresh { seat.me ≡ (first_view (place_count self.now), []) }
         ensures seat { IfOk result (IsFeederOf self.now) }
-        ensures empty { IfOk result (λ f. AreEmpty (places_of self.now) (feeder_sees f)) }
+        ensures empty { IfOk result (λ f. AreEmpty (place_count self.now) (feeder_sees f)) }
     {
         let places = self.table.word_count();
         let fetched = Lane {
@@ -83,11 +84,11 @@ impl Board {
         feeder: &mut FeederSeat,
         workers: u32,
     ) -> Result<Vec<WorkerSeat>, AllocError>
-        requires some_place { 0 < places_of self.now }
+        requires some_place { 0 < place_count self.now }
         requires seat { IsFeederOf self.now feeder.old }
-        requires empty { AreEmpty (places_of self.now) (feeder_sees feeder.old) }
+        requires empty { AreEmpty (place_count self.now) (feeder_sees feeder.old) }
         ensures seat { IsFeederOf self.now feeder.new }
-        ensures empty { AreEmpty (places_of self.now) (feeder_sees feeder.new) }
+        ensures empty { AreEmpty (place_count self.now) (feeder_sees feeder.new) }
         ensures workers { IfOk result (λ team. (vec_len team ≡ workers)
             × All (IsNewWorker self.now) team.items) }
     {
@@ -101,10 +102,10 @@ impl Board {
     }
 
     fn hire_one(&self, feeder: &mut FeederSeat, order: VecDeque<usize>) -> WorkerSeat
-        requires some_place { 0 < places_of self.now }
+        requires some_place { 0 < place_count self.now }
         requires seat { IsFeederOf self.now feeder.old }
         requires none { order.items ≡ [] }
-        requires room { places_of self.now ≤ deque_capacity order }
+        requires room { place_count self.now ≤ deque_capacity order }
         ensures seat { IsFeederOf self.now feeder.new }
         ensures lanes { (feeder_sees feeder.new).lanes ≡ (feeder_sees feeder.old).lanes }
         ensures worker { IsNewWorker self.now result }
@@ -118,7 +119,7 @@ impl Board {
 // A board, and the feeder's two seats; no slot was fetched yet.
 fn board_of(alloc: Global, places: usize) -> Result<(Board, Seat, BellPass), AllocError>
     requires few { places < 2 ^ 32 }
-    ensures places { IfOk result (λ made. places_of made.0 ≡ places) }
+    ensures places { IfOk result (λ made. place_count made.0 ≡ places) }
     ensures seat { IfOk result (λ made. (made.1.table_id ≡ made.0.table.shared.table_id)
         × (made.1.me ≡ (first_view places, []))) }
     ensures bell { IfOk result (λ made. made.2.table_id ≡ made.0.bell.table.shared.table_id) }

@@ -1,9 +1,11 @@
-ghost use Rattle.std.specs.Prelude.{◌≡◌, ◌≢◌, ◌+◌, ◌≤◌, ◌<◌, ◌^◌, ℕ, IfOk, IfErr, IfSome, IfNone, OnSome, None, false, true, replicate, slice_set, if◌then◌else◌};
-ghost use Rattle.link_model.specs.Board.{lane_at, after_return};
+ghost use Rattle.std.specs.Prelude.{◌≡◌, ◌≢◌, ◌+◌, ◌≤◌, ◌<◌, ◌^◌, ℕ, IfOk, IfErr, IfSome, IfNone};
+ghost use Rattle.std.specs.Prelude.{None, false, replicate, if◌then◌else◌};
 ghost use Rattle.std.specs.List.{count_by};
 ghost use Rattle.std.specs.Arc.{arc_value};
-ghost use Rattle.claim_board.specs.Feeders.{feeder_bound, form_sees, left_in, IsLowestFree, HasNoFree, HasPut, FoundNot, is_left};
-ghost use Rattle.claim_board.specs.Seats.{IsFeederOf, feeder_sees, places_of};
+ghost use Rattle.claim_board.specs.Feeders.{feeder_bound, form_sees, left_in, is_left};
+ghost use Rattle.claim_board.specs.Feeders.{IsLowestFree, HasNoFree, HasOffered, HasAsked};
+ghost use Rattle.claim_board.specs.Feeders.{HasAskedBack, HasLeft};
+ghost use Rattle.claim_board.specs.Seats.{IsFeederOf, feeder_sees, place_count};
 
 use crate::board::Board;
 use crate::feeder::BoardFeeder;
@@ -20,10 +22,10 @@ impl BoardFeeder {
     /// The form of a board and its feeder's seat.
     pub fn new(alloc: Global, board: Arc<Board>, seat: FeederSeat) -> Result<BoardFeeder, NoMemory>
         requires seat { IsFeederOf (arc_value board) seat }
-        ensures bound { IfOk result (λ f. feeder_bound f ≡ places_of (arc_value board)) }
+        ensures bound { IfOk result (λ f. feeder_bound f ≡ place_count (arc_value board)) }
         ensures sees { IfOk result (λ f. form_sees f ≡ feeder_sees seat) }
         ensures left { IfOk result (λ f. left_in f
-            ≡ replicate (places_of (arc_value board)) false) }
+            ≡ replicate (place_count (arc_value board)) false) }
     {
         let places = board.places() as usize;
         let left = vec![in alloc; false; places]?;
@@ -78,10 +80,7 @@ impl Places for BoardFeeder {
         ensures bound { feeder_bound self.new ≡ feeder_bound self.old }
         ensures place { IfOk result (λ place. place < feeder_bound self.old) }
         ensures back { IfErr result (λ same. same ≡ job) }
-        ensures asked { (form_sees self.old).steps + count_by (λ left. left) (left_in self.old) ≤
-            (form_sees self.new).steps }
-        ensures lowest { IfOk result (HasPut self.new) }
-        ensures full { IfErr result (λ _. HasNoFree (feeder_bound self.new) (form_sees self.new)) }
+        ensures board { HasOffered self.old self.new result }
     {
         self.sweep();
         match self.free_place() {
@@ -96,12 +95,7 @@ impl Places for BoardFeeder {
     fn take(&mut self, place: u32) -> Option<SliceDone>
         requires place { place < feeder_bound self.old }
         ensures bound { feeder_bound self.new ≡ feeder_bound self.old }
-        ensures took { OnSome result (form_sees self.new
-            ≡ after_return (form_sees self.old) place) }
-        ensures mark { OnSome result (left_in self.new ≡ slice_set (left_in self.old) place false) }
-        ensures not_yet { IfNone result (FoundNot 3 place (form_sees self.old)
-            (form_sees self.new)) }
-        ensures stays { IfNone result (left_in self.new ≡ left_in self.old) }
+        ensures board { HasAsked self.old self.new place result }
     {
         let Ok(done) = self.board.take(&mut self.seat, place) else {
             return None;
@@ -113,12 +107,7 @@ impl Places for BoardFeeder {
     fn withdraw(&mut self, place: u32) -> Option<SliceJob>
         requires place { place < feeder_bound self.old }
         ensures bound { feeder_bound self.new ≡ feeder_bound self.old }
-        ensures took { OnSome result (form_sees self.new
-            ≡ after_return (form_sees self.old) place) }
-        ensures mark { OnSome result (left_in self.new ≡ slice_set (left_in self.old) place false) }
-        ensures not_waiting { IfNone result (FoundNot 1 place (form_sees self.old)
-            (form_sees self.new)) }
-        ensures stays { IfNone result (left_in self.new ≡ left_in self.old) }
+        ensures board { HasAskedBack self.old self.new place result }
     {
         let Ok(job) = self.board.withdraw(&mut self.seat, place) else {
             return None;
@@ -130,10 +119,7 @@ impl Places for BoardFeeder {
     fn leave(&mut self, place: u32)
         requires place { place < feeder_bound self.old }
         ensures bound { feeder_bound self.new ≡ feeder_bound self.old }
-        ensures view { form_sees self.new ≡ form_sees self.old }
-        ensures mark { left_in self.new
-            ≡ (if (lane_at (form_sees self.old) place).is_out then slice_set
-            (left_in self.old) place true else left_in self.old) }
+        ensures board { HasLeft self.old self.new place }
     {
         if self.seat.lanes[place as usize].is_out {
             self.left[place as usize] = true;

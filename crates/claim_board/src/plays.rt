@@ -1,6 +1,7 @@
 ghost use Rattle.link_model.specs.Board.{first_view, worker_view, after_step};
 ghost use Rattle.claim_board.specs.Rule.{BoardRule};
-ghost use Rattle.claim_board.specs.Plays.{tells_load, tells_put, tells_claim, tells_complete, tells_take, tells_withdraw, tells_fetch};
+ghost use Rattle.claim_board.specs.Plays.{tells_load, tells_put, tells_claim, tells_complete};
+ghost use Rattle.claim_board.specs.Plays.{tells_take, tells_withdraw, tells_fetch};
 
 use crate::cargo::Cargo;
 use atomic_table::{Play, Split, TableRule};
@@ -9,7 +10,7 @@ use link_model::View;
 /// The rule of the board's table.
 pub(crate) struct Rounds;
 
-impl TableRule<Option<Cargo>, View, usize> for Rounds {
+impl TableRule<Option<Cargo>, View<Cargo>, usize> for Rounds {
     ghost holds = { λ _. BoardRule };
 
     ghost first = { first_view };
@@ -17,50 +18,50 @@ impl TableRule<Option<Cargo>, View, usize> for Rounds {
 
 pub(crate) struct Load;
 
-impl Play<Option<Cargo>, View> for Load {
+impl Play<Option<Cargo>, View<Cargo>> for Load {
     ghost then = { tells_load };
 }
 
 pub(crate) struct Put;
 
-impl Play<Option<Cargo>, View> for Put {
+impl Play<Option<Cargo>, View<Cargo>> for Put {
     ghost then = { tells_put };
 }
 
 pub(crate) struct Claim;
 
-impl Play<Option<Cargo>, View> for Claim {
+impl Play<Option<Cargo>, View<Cargo>> for Claim {
     ghost then = { tells_claim };
 }
 
 pub(crate) struct Complete;
 
-impl Play<Option<Cargo>, View> for Complete {
+impl Play<Option<Cargo>, View<Cargo>> for Complete {
     ghost then = { tells_complete };
 }
 
 pub(crate) struct Take;
 
-impl Play<Option<Cargo>, View> for Take {
+impl Play<Option<Cargo>, View<Cargo>> for Take {
     ghost then = { tells_take };
 }
 
 pub(crate) struct Withdraw;
 
-impl Play<Option<Cargo>, View> for Withdraw {
+impl Play<Option<Cargo>, View<Cargo>> for Withdraw {
     ghost then = { tells_withdraw };
 }
 
 pub(crate) struct Fetch;
 
-impl Play<Option<Cargo>, View> for Fetch {
+impl Play<Option<Cargo>, View<Cargo>> for Fetch {
     ghost then = { tells_fetch };
 }
 
 /// Makes a worker's seat.
 pub(crate) struct Hire;
 
-impl Split<View> for Hire {
+impl Split<View<Cargo>> for Hire {
     ghost left = { after_step };
 
     ghost right = { λ _. worker_view };

@@ -8,12 +8,12 @@ use crate::cargo::Cargo;
 use link_model::{Lane, View};
 use std::collections::VecDeque;
 
-pub(crate) type Seat = atomic_table::Seat<Option<Cargo>, View>;
+pub(crate) type Seat = atomic_table::Seat<Option<Cargo>, View<Cargo>>;
 
 pub(crate) type BellPass = atomic_table::Seat<u8, ()>;
 
-/// What the feeder steps with. It knows each place's serial, and whether the place is out; the slot of each place that
-/// is not out is with it.
+/// What the feeder steps with. It knows each place's serial, and whether the place is out; the slot
+/// of each place that is not out is with it.
 #[derive(Drop)]
 pub struct FeederSeat {
     pub(crate) seat: Seat,

@@ -1,6 +1,8 @@
-ghost use Rattle.std.specs.Prelude.{◌≡◌, ◌≢◌, ℕ, ◌+◌, ◌-◌, ◌*◌, ◌%◌, ◌/◌, ◌<◌, ◌≤◌, ◌^◌, true, false, [], ◌∷◌, Some, None};
+ghost use Rattle.std.specs.Prelude.{◌≡◌, ◌≢◌, ℕ, ◌+◌, ◌-◌, ◌*◌, ◌%◌, ◌/◌, ◌<◌, ◌≤◌, ◌^◌, true};
+ghost use Rattle.std.specs.Prelude.{false, [], ◌∷◌, Some, None};
 ghost use Rattle.atomic_table.specs.Table.{rest};
-ghost use Rattle.link_model.specs.Board.{lane, lane_at, after_load, after_put, after_complete, after_return, after_step, worker_view};
+ghost use Rattle.link_model.specs.Board.{lane, lane_at, after_load, after_put, after_complete};
+ghost use Rattle.link_model.specs.Board.{after_return, after_step, worker_view};
 ghost use Rattle.vc_slice.specs.declared.done.SliceDone.{SliceDone};
 ghost use Rattle.vc_slice.specs.declared.job.SliceJob.{SliceJob};
 ghost use Rattle.claim_board.specs.Counts.{holds_of};

@@ -2,13 +2,15 @@ ghost use Rattle.std.specs.Prelude.{◌≡◌, ◌<◌, All, IfOk, OnOk, false, 
 ghost use Rattle.link_model.specs.Board.{lane, lane_at};
 ghost use Rattle.vc_types.specs.Slices.{slice_length};
 ghost use Rattle.claim_board.specs.Calls.{AreEmpty, IsNewWorker};
-ghost use Rattle.claim_board.specs.Seats.{IsBellSeatOf, IsFeederOf, IsWorkerOf, feeder_sees, places_of};
+ghost use Rattle.claim_board.specs.Seats.{IsBellSeatOf, IsFeederOf, IsWorkerOf, feeder_sees};
+ghost use Rattle.claim_board.specs.Seats.{place_count};
 
+use crate::cargo::Cargo;
 use crate::{
     BellSeat, Board, BoardFeeder, FeederSeat, NotWaiting, NotYet, WorkerSeat, bell, rest, wake,
 };
 use bytes::Bytes;
-use link_model::each_place_goes_in_rounds;
+use link_model::{board_steps_are_events, each_place_goes_in_rounds};
 use std::alloc::Global;
 use std::sync::Arc;
 use std::test::Fail;
@@ -77,7 +79,7 @@ fn last_of(board: &Board, workers: &mut Vec<WorkerSeat>) -> Result<WorkerSeat, N
 
 fn new_board(alloc: Global, places: u32) -> Result<Fresh, Fail>
     requires some_place { 0 < places }
-    ensures places { IfOk result (λ made. places_of made.board ≡ places) }
+    ensures places { IfOk result (λ made. place_count made.board ≡ places) }
     ensures empty { IfOk result (λ made. AreEmpty places (feeder_sees made.feeder)) }
 {
     let (board, feeder, workers, bells) = Board::new(alloc, places, 2)?;
@@ -96,7 +98,7 @@ fn new_board(alloc: Global, places: u32) -> Result<Fresh, Fail>
 // Claims the place, decodes its job and completes it.
 fn work(alloc: Global, board: &Board, worker: &mut WorkerSeat, place: u32) -> Result<(), NoMemory>
     requires seat { IsWorkerOf board.now worker.old }
-    requires place { place < places_of board.now }
+    requires place { place < place_count board.now }
     ensures seat { IsWorkerOf board.now worker.new }
 {
     if let Ok(held) = board.claim(worker, place) {
@@ -110,6 +112,7 @@ fn work(alloc: Global, board: &Board, worker: &mut WorkerSeat, place: u32) -> Re
 #[test]
 fn a_held_place_is_neither_claimed_nor_taken(rt: HostRuntime) -> Result<(), Fail> {
     each_place_goes_in_rounds();
+    board_steps_are_events::<Cargo>();
     let Fresh {
         board,
         mut feeder,

@@ -1,10 +1,11 @@
-ghost use Rattle.std.specs.Prelude.{◌≡◌, ◌≢◌, ℕ, ◌+◌, ◌%◌, ◌<◌, ◌≤◌, ◌^◌, false, ◌∷◌, None, IfOk, IfErr, cond, ◌==◌};
+ghost use Rattle.std.specs.Prelude.{◌≡◌, ◌≢◌, ℕ, ◌+◌, ◌%◌, ◌<◌, ◌≤◌, ◌^◌, false, ◌∷◌, None, IfOk};
+ghost use Rattle.std.specs.Prelude.{IfErr, cond, ◌==◌};
 ghost use Rattle.std.specs.VecDeque.{deque_capacity};
 ghost use Rattle.link_model.specs.Board.{after_complete};
 ghost use Rattle.claim_board.specs.Calls.{HoldsOneMore, FoundOther};
 ghost use Rattle.claim_board.specs.Counts.{holds_of, occurrences};
 ghost use Rattle.claim_board.specs.Plays.{empty_slots};
-ghost use Rattle.claim_board.specs.Seats.{IsWorkerOf, places_of, worker_sees};
+ghost use Rattle.claim_board.specs.Seats.{IsWorkerOf, place_count, worker_sees};
 ghost use Rattle.claim_board.specs.Steps.{MayStep, IsSameSeat};
 
 use crate::board::Board;
@@ -35,13 +36,13 @@ struct Claimed {
 }
 
 impl Board {
-    /// Claims the job of a place that waits. The job is the one that was put with the serial.
+    /// Claims the job of a place that waits: the one that was put with the serial.
     pub fn claim(&self, s: &mut WorkerSeat, place: u32) -> Result<HeldPlace, NotWaiting>
         requires seat { IsWorkerOf self.now s.old }
-        requires place { place < places_of self.now }
+        requires place { place < place_count self.now }
         ensures seat { IsWorkerOf self.now s.new }
         ensures held { IfOk result (λ h. (h.place ≡ place)
-            × HoldsOneMore place h.serial (worker_sees s.old) (worker_sees s.new)) }
+            × HoldsOneMore place h.serial h.job (worker_sees s.old) (worker_sees s.new)) }
         ensures mine { IfOk result (λ h. 0 < holds_of place h.serial (worker_sees s.new).held) }
         ensures refused { IfErr result (λ e. FoundOther place e.word (worker_sees s.old)
             (worker_sees s.new)) }
@@ -64,7 +65,8 @@ impl Board {
         requires table { MayStep self.now seat.old place }
         requires worker { seat.old.me.0.feeds ≡ false }
         ensures id { IsSameSeat seat.old seat.new }
-        ensures held { IfOk result (λ c. HoldsOneMore place c.serial seat.old.me.0 seat.new.me.0) }
+        ensures held { IfOk result (λ c. HoldsOneMore place c.serial c.job
+            seat.old.me.0 seat.new.me.0) }
         ensures slot { IfOk result (λ c. seat.new.me.1 ≡ (place, None) ∷ seat.old.me.1) }
         ensures small { IfOk result (λ c. c.serial ≤ 2 ^ 61) }
         ensures free { IfOk result (λ c. (other : ℕ)
@@ -91,11 +93,12 @@ impl Board {
     /// Gives a claimed place back, done.
     pub fn complete(&self, s: &mut WorkerSeat, h: HeldPlace, done: SliceDone)
         requires seat { IsWorkerOf self.now s.old }
-        requires place { h.place < places_of self.now }
+        requires place { h.place < place_count self.now }
         requires held { 0 < holds_of h.place h.serial (worker_sees s.old).held }
         requires job { done.job ≡ h.job }
         ensures seat { IsWorkerOf self.now s.new }
         ensures view { worker_sees s.new ≡ after_complete (worker_sees s.old) h.place h.serial }
+        ensures gone { holds_of h.place h.serial (worker_sees s.new).held ≡ 0 }
     {
         let HeldPlace {
             place,

@@ -42,7 +42,7 @@ impl Model for PictureBook {
 
 impl PictureBook {
     /// The book of a picture of this header's sequence, without parts.
-    #[tactic(auto, unfolding(link_model::specs::Books::book_of, link_model::specs::Kept::own, link_model::specs::Kept::parted))]
+    #[tactic(auto, unfolding(link_model::specs::Books::book_of, link_model::specs::Kept::own, link_model::specs::Kept::split_parts))]
     pub fn new(alloc: Global, h: Header) -> PictureBook
         ensures { result ≡ book_of (sequence_of h) [] }
     {

@@ -1,23 +1,22 @@
 -- The book of a list of parts: with a part more it is the book of the longer list, and it answers the part's outcome, the
 -- slices that are kept and the whole bytes.
-use Rattle.std.proofs.Common.{◌≡◌, ℕ, ◌+◌, ◌<◌, ◌≤◌, min, Bool, false, List, [], ◌∷◌, ◌++◌, length, map, take, Option, Some, None, Result, Ok, Err, refl, ap, sym, ◌∙◌, inl, inr, arith, cond}
-use Rattle.std.specs.Prelude.{filter_map, fold, nat_lt, nat_le, is_some, is_none, unwrap_or, not, ◌||◌}
-use Rattle.std.specs.List.{flat_map, list_any, list_all, enumerate_from, range_with_len}
+use Rattle.std.proofs.Common.{◌≡◌, ℕ, ◌+◌, ◌<◌, ◌≤◌, min, Bool, List, [], ◌∷◌, ◌++◌, length, map, take, Option, Some, None, Result, Ok, Err, refl, ap, sym, ◌∙◌, inl, inr, arith, cond}
+use Rattle.std.specs.Prelude.{filter_map, fold, nat_lt, is_some, unwrap_or}
+use Rattle.std.specs.List.{flat_map, list_all, range_with_len}
 use Rattle.std.specs.Option.{option_map, option_map_or, option_or, option_and_then}
-use Rattle.std.specs.Str.{bytes_eq}
 use Rattle.std.proofs.lemmas.Bool.{cases_lt, cond-true, cond-false, lt-ltb, le-ltb}
 use Rattle.std.proofs.lemmas.List.{append-nil, append_assoc, length-take, length-append, take_all, take-append-le}
 use Rattle.std.proofs.lemmas.List.Elements.{filter_map-append}
 use Rattle.std.proofs.lemmas.List.Folds.{list_all-map}
 use Rattle.std.proofs.lemmas.Option.{none-some}
 use Rattle.link_model.specs.Complete.{slice_numbers, has_all_slices, all_bytes, whole_of, whole_picture}
-use Rattle.link_model.specs.Books.{Slots, slot_at, Gathered, Book, nothing_gathered, with_run, gathers_run, gathers, takes_plan, takes_slices, waits_too, book_takes, book_outcome, gathered_of, book_by, book_of, book_slice, gathered_whole, book_whole}
-use Rattle.link_model.specs.Judgement.{part_outcome, parameters_outcome, slices_outcome, run_outcome, waiting_outcome, is_conflict, is_new}
-use Rattle.link_model.specs.Kept.{KeptParameters, parameters_in, kept_parameters, Parted, parted_by, also_before, parted, Own, own_of, own, own_slice, runs_of, run_taken, part_slices, slice_in, SliceRun, first_copy, slice_run, waiting_limit}
+use Rattle.link_model.specs.Books.{Slots, slot_at, Gathered, Book, nothing_gathered, gathers_run, gathers, takes_plan, waits_too, book_takes, book_outcome, gathered_of, book_by, book_of, book_slice, book_whole}
+use Rattle.link_model.specs.Judgement.{part_outcome, parameters_outcome, slices_outcome, run_outcome, waiting_outcome}
+use Rattle.link_model.specs.Kept.{KeptParameters, parameters_in, kept_parameters, SplitParts, split_by, also_before, split_parts, Own, own_of, own, own_slice, runs_of, run_taken, part_slices, slice_in, SliceRun, first_copy, slice_run, waiting_limit}
 use Rattle.link_model.specs.Session.{Part, ParamsPart, SlicesPart, SlicePart}
 use Rattle.link_model.specs.declared.outcome.Outcome.{Outcome}
-use Rattle.link_model.specs.declared.outcome.Outcome.TheVariants.{SlicesConflict, SlicesKept, SlicesRepeat, SlicesPending, SlicesFull}
-use Rattle.link_model.proofs.Keeping.{grown, own-append, first_copy-append}
+use Rattle.link_model.specs.declared.outcome.Outcome.TheVariants.{SlicesPending, SlicesFull}
+use Rattle.link_model.proofs.Keeping.{own-append, first_copy-append}
 use Rattle.link_model.proofs.Slots.{or_none, no_slots, slot_inside, slot_outside, with_run_is, own_slice_inside}
 use Rattle.vc_types.specs.SequenceHeader.{Sequence}
 use Rattle.vc_types.specs.Subbands.{slice_count}
@@ -25,21 +24,21 @@ use Rattle.vc_types.specs.TransformParameters.{coded_parameters}
 
 -- ---- the first parameters
 
-abbrev first_plan : List Part → KeptParameters → Parted
+abbrev first_plan : List Part → KeptParameters → SplitParts
 first_plan parts plan = record { plan = plan; before = filter_map part_slices parts; behind = [] }
 
 abbrev first_kept : List Part → KeptParameters → Own
 first_kept parts plan = record { plan = plan; runs = runs_of plan.parameters (take waiting_limit (filter_map part_slices parts)) }
 
 module _ (s : Sequence) (part : Part) where
-  parted-first : (parts : List Part) → parted s parts ≡ None → parted s (parts ++ part ∷ []) ≡ option_map (first_plan parts) (parameters_in s part)
-  unfolding parted
-  parted-first [] e = by_plan (parameters_in s part)
+  split_parts-first : (parts : List Part) → split_parts s parts ≡ None → split_parts s (parts ++ part ∷ []) ≡ option_map (first_plan parts) (parameters_in s part)
+  unfolding split_parts
+  split_parts-first [] e = by_plan (parameters_in s part)
     where
-      by_plan : (o : Option KeptParameters) → option_map_or (λ plan. Some (parted_by [] plan)) o None ≡ option_map (first_plan []) o
+      by_plan : (o : Option KeptParameters) → option_map_or (λ plan. Some (split_by [] plan)) o None ≡ option_map (first_plan []) o
       by_plan None = refl
       by_plan (Some plan) = refl
-  parted-first (p ∷ parts) e = by_plans (parameters_in s p) (parted s parts) e (parted-first parts)
+  split_parts-first (p ∷ parts) e = by_plans (parameters_in s p) (split_parts s parts) e (split_parts-first parts)
     where
       also : (p : Part) (o : Option KeptParameters) → option_map (also_before p) (option_map (first_plan parts) o) ≡ option_map (first_plan (p ∷ parts)) o
       also (ParamsPart body) None = refl
@@ -47,24 +46,24 @@ module _ (s : Sequence) (part : Part) where
       also (SlicesPart slices) None = refl
       also (SlicesPart slices) (Some plan) = refl
 
-      by_plans : (o : Option KeptParameters) (old : Option Parted) → option_map_or (λ plan. Some (parted_by parts plan)) o (option_map (also_before p) old) ≡ None
-          → (old ≡ None → parted s (parts ++ part ∷ []) ≡ option_map (first_plan parts) (parameters_in s part))
-          → option_map_or (λ plan. Some (parted_by (parts ++ part ∷ []) plan)) o (option_map (also_before p) (parted s (parts ++ part ∷ []))) ≡ option_map (first_plan (p ∷ parts)) (parameters_in s part)
-      by_plans (Some plan) old e again = absurd (none-some (parted_by parts plan) (sym e))
+      by_plans : (o : Option KeptParameters) (old : Option SplitParts) → option_map_or (λ plan. Some (split_by parts plan)) o (option_map (also_before p) old) ≡ None
+          → (old ≡ None → split_parts s (parts ++ part ∷ []) ≡ option_map (first_plan parts) (parameters_in s part))
+          → option_map_or (λ plan. Some (split_by (parts ++ part ∷ []) plan)) o (option_map (also_before p) (split_parts s (parts ++ part ∷ []))) ≡ option_map (first_plan (p ∷ parts)) (parameters_in s part)
+      by_plans (Some plan) old e again = absurd (none-some (split_by parts plan) (sym e))
       by_plans None (Some q) e again = absurd (none-some (also_before p q) (sym e))
       by_plans None None e again = ap (option_map (also_before p)) (again refl) ∙ also p (parameters_in s part)
 
   own-first : (parts : List Part) → own s parts ≡ None → own s (parts ++ part ∷ []) ≡ option_map (first_kept parts) (parameters_in s part)
   unfolding own
-  own-first parts e = by_parted (parted s parts) refl e
+  own-first parts e = by_parted (split_parts s parts) refl e
     where
       kept : (o : Option KeptParameters) → option_map own_of (option_map (first_plan parts) o) ≡ option_map (first_kept parts) o
       kept None = refl
       kept (Some plan) = ap (λ (l : List SlicePart). Some (let k : Own = record { plan = plan; runs = runs_of plan.parameters l } in k)) (append-nil (take waiting_limit (filter_map part_slices parts)))
 
-      by_parted : (old : Option Parted) → parted s parts ≡ old → option_map own_of old ≡ None → option_map own_of (parted s (parts ++ part ∷ [])) ≡ option_map (first_kept parts) (parameters_in s part)
+      by_parted : (old : Option SplitParts) → split_parts s parts ≡ old → option_map own_of old ≡ None → option_map own_of (split_parts s (parts ++ part ∷ [])) ≡ option_map (first_kept parts) (parameters_in s part)
       by_parted (Some p) is e = absurd (none-some (own_of p) (sym e))
-      by_parted None is e = ap (option_map own_of) (parted-first parts is) ∙ kept (parameters_in s part)
+      by_parted None is e = ap (option_map own_of) (split_parts-first parts is) ∙ kept (parameters_in s part)
 
 -- ---- one part more
 

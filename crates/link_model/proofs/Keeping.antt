@@ -8,31 +8,31 @@ use Rattle.std.proofs.lemmas.List.{append_assoc}
 use Rattle.std.proofs.lemmas.List.Elements.{filter_map-append}
 use Rattle.std.proofs.lemmas.Option.{same_Some, none-some}
 use Rattle.link_model.specs.Complete.{slice_numbers, has_all_slices, all_bytes, whole_of, whole_picture}
-use Rattle.link_model.specs.Kept.{KeptParameters, parameters_in, Parted, parted_by, also_before, parted, SliceRun, Own, runs_of, own_of, own, part_slices, first_copy, slice_in, own_slice, waiting_limit, run_taken, slice_run}
+use Rattle.link_model.specs.Kept.{KeptParameters, parameters_in, SplitParts, split_by, also_before, split_parts, SliceRun, Own, runs_of, own_of, own, part_slices, first_copy, slice_in, own_slice, waiting_limit, run_taken, slice_run}
 use Rattle.link_model.specs.Session.{Part, ParamsPart, SlicesPart, SlicePart}
 use Rattle.vc_types.specs.SequenceHeader.{Sequence}
 
 -- ---- more parts
 
-abbrev pub longer : List Part → Parted → Parted
+abbrev pub longer : List Part → SplitParts → SplitParts
 longer more p = record { plan = p.plan; before = p.before; behind = p.behind ++ filter_map part_slices more }
 
 module _ (s : Sequence) (more : List Part) where
-  parted-append : (parts : List Part) (p : Parted) → parted s parts ≡ Some p → parted s (parts ++ more) ≡ Some (longer more p)
-  unfolding parted
-  parted-append [] p e = absurd (none-some p e)
-  parted-append (part ∷ parts) p e = by_plan (parameters_in s part) (parted s parts) p e (parted-append parts)
+  split_parts-append : (parts : List Part) (p : SplitParts) → split_parts s parts ≡ Some p → split_parts s (parts ++ more) ≡ Some (longer more p)
+  unfolding split_parts
+  split_parts-append [] p e = absurd (none-some p e)
+  split_parts-append (part ∷ parts) p e = by_plan (parameters_in s part) (split_parts s parts) p e (split_parts-append parts)
     where
-      behind : (part : Part) (q p : Parted) → also_before part q ≡ p → also_before part (longer more q) ≡ longer more p
+      behind : (part : Part) (q p : SplitParts) → also_before part q ≡ p → also_before part (longer more q) ≡ longer more p
       behind (ParamsPart body) q p e = ap (longer more) e
       behind (SlicesPart slices) q p e = ap (longer more) e
 
-      by_plan : (plan : Option KeptParameters) (old : Option Parted) (p : Parted) → option_map_or (λ plan. Some (parted_by parts plan)) plan (option_map (also_before part) old) ≡ Some p
-          → ((q : Parted) → old ≡ Some q → parted s (parts ++ more) ≡ Some (longer more q))
-          → option_map_or (λ plan. Some (parted_by (parts ++ more) plan)) plan (option_map (also_before part) (parted s (parts ++ more))) ≡ Some (longer more p)
+      by_plan : (plan : Option KeptParameters) (old : Option SplitParts) (p : SplitParts) → option_map_or (λ plan. Some (split_by parts plan)) plan (option_map (also_before part) old) ≡ Some p
+          → ((q : SplitParts) → old ≡ Some q → split_parts s (parts ++ more) ≡ Some (longer more q))
+          → option_map_or (λ plan. Some (split_by (parts ++ more) plan)) plan (option_map (also_before part) (split_parts s (parts ++ more))) ≡ Some (longer more p)
       by_plan (Some plan) old p e again =
           ap (λ (l : List SlicePart). Some (record { plan = plan; before = []; behind = l })) (filter_map-append part_slices parts more)
-          ∙ ap (λ q. Some (longer more q)) (same_Some (parted_by parts plan) p e)
+          ∙ ap (λ q. Some (longer more q)) (same_Some (split_by parts plan) p e)
       by_plan None None p e again = absurd (none-some p e)
       by_plan None (Some q) p e again = ap (option_map (also_before part)) (again q refl) ∙ ap Some (behind part q p (same_Some (also_before part q) p e))
 
@@ -40,7 +40,7 @@ module _ (s : Sequence) (more : List Part) where
 abbrev pub grown : List Part → Own → Own
 grown more kept = record { plan = kept.plan; runs = kept.runs ++ runs_of kept.plan.parameters (filter_map part_slices more) }
 
-own_of-longer : (more : List Part) (p : Parted) → own_of (longer more p) ≡ grown more (own_of p)
+own_of-longer : (more : List Part) (p : SplitParts) → own_of (longer more p) ≡ grown more (own_of p)
 own_of-longer more p =
     ap (λ (runs : List SliceRun). (let k : Own = record { plan = p.plan; runs = runs } in k))
     (ap (runs_of p.plan.parameters) (sym (append_assoc (take waiting_limit p.before) p.behind (filter_map part_slices more)))
@@ -48,11 +48,11 @@ own_of-longer more p =
 
 pub own-append : (s : Sequence) (parts more : List Part) (kept : Own) → own s parts ≡ Some kept → own s (parts ++ more) ≡ Some (grown more kept)
 unfolding own
-own-append s parts more kept e = by_parted (parted s parts) refl e
+own-append s parts more kept e = by_parted (split_parts s parts) refl e
   where
-    by_parted : (old : Option Parted) → parted s parts ≡ old → option_map own_of old ≡ Some kept → option_map own_of (parted s (parts ++ more)) ≡ Some (grown more kept)
+    by_parted : (old : Option SplitParts) → split_parts s parts ≡ old → option_map own_of old ≡ Some kept → option_map own_of (split_parts s (parts ++ more)) ≡ Some (grown more kept)
     by_parted None is e = absurd (none-some kept e)
-    by_parted (Some p) is e = ap (option_map own_of) (parted-append s more parts p is) ∙ ap Some (own_of-longer more p) ∙ ap (λ k. Some (grown more k)) (same_Some (own_of p) kept e)
+    by_parted (Some p) is e = ap (option_map own_of) (split_parts-append s more parts p is) ∙ ap Some (own_of-longer more p) ∙ ap (λ k. Some (grown more k)) (same_Some (own_of p) kept e)
 
 -- ---- slices
 

@@ -6,7 +6,7 @@ use Rattle.std.specs.List.{flat_map, range_with_len}
 use Rattle.std.proofs.lemmas.Bool.{cases_lt, false≢true}
 use Rattle.std.proofs.lemmas.List.Concat.{flat_map-append}
 use Rattle.link_model.specs.Complete.{whole_picture}
-use Rattle.link_model.specs.Kept.{own, parted}
+use Rattle.link_model.specs.Kept.{own, split_parts}
 use Rattle.link_model.specs.Numbers.{Numbered, greatest, least, parts_of, entered, has_parts, is_opened, opened_numbers, span}
 use Rattle.link_model.specs.Output.{complete_at, frame_bytes_at, is_let_go, all_frames, frames_so_far, let_go_numbers, IsPrefixOf}
 use Rattle.link_model.specs.Session.{Part, Fragment}
@@ -22,7 +22,7 @@ opened_inside es n outside = ap has_parts (parts_of-outside n es outside)
 
 module _ (s : Sequence) (es : List Numbered) where
   pub complete_opened : (n : ℕ) → complete_at s es n ≡ true → is_opened es n ≡ true
-  unfolding complete_at whole_picture own parted
+  unfolding complete_at whole_picture own split_parts
   complete_opened n e = by_parts (parts_of n es) e
     where
       by_parts : (parts : List Part) → is_some (whole_picture s parts) ≡ true → has_parts parts ≡ true

@@ -1,22 +1,20 @@
 -- The picture that a window names next is the least that may be released, and pictures are released in the order in
 -- which they are let go.
-use Rattle.std.proofs.Common.{◌≡◌, ℕ, zero, suc, ◌+◌, ◌-◌, ◌<◌, ◌≤◌, Bool, true, false, List, [], ◌∷◌, ◌++◌, map, length, drop, Option, Some, None, refl, ap, sym, subst, ◌∙◌, inl, inr, arith, cond}
+use Rattle.std.proofs.Common.{◌≡◌, ℕ, zero, suc, ◌+◌, ◌-◌, ◌<◌, ◌≤◌, Bool, true, false, List, [], ◌∷◌, ◌++◌, Option, Some, None, refl, ap, sym, ◌∙◌, arith, cond}
 use Rattle.std.specs.Prelude.{nat_le, not, ◌&&◌, ◌||◌, is_some, filter}
 use Rattle.std.specs.List.{list_all, range_with_len, last_or}
 use Rattle.std.specs.Option.{option_map, option_map_or, option_and_then}
-use Rattle.std.proofs.lemmas.Bool.{cases_Bool, lt-leb, le-leb, and_left, false_from_ne_true, both_ways, false≢true, or_left}
-use Rattle.std.proofs.lemmas.List.{append_assoc}
-use Rattle.link_model.specs.Books.{Book, book_of, book_whole}
-use Rattle.link_model.specs.Numbers.{Numbered, greatest, least, is_closed, is_opened, parts_of, opened_numbers, span}
+use Rattle.std.proofs.lemmas.Bool.{lt-leb, and_left, false_from_ne_true, both_ways}
+use Rattle.link_model.specs.Books.{Book, book_whole}
+use Rattle.link_model.specs.Numbers.{greatest, is_closed, is_opened, parts_of, opened_numbers, span}
 use Rattle.link_model.specs.Output.{complete_at, is_let_go, let_go_numbers}
-use Rattle.link_model.specs.Windows.{NumberedBook, with_number, book_at, Window, complete_in, let_go_in, released_up_to, first_unreleased, Releasable, if_let_go, next_release, WindowPast, past_let_go, past_releases, releasable_numbers, as_releasable, first_of, past_book, needed_numbers, greatest_behind, window_of}
+use Rattle.link_model.specs.Windows.{NumberedBook, with_number, complete_in, let_go_in, released_up_to, first_unreleased, Releasable, if_let_go, next_release, WindowPast, past_let_go, releasable_numbers, as_releasable, first_of, greatest_behind, window_of}
 use Rattle.link_model.proofs.Bookkeeping.{book_whole_is}
 use Rattle.link_model.proofs.BooksInOrder.{books_over}
 use Rattle.link_model.proofs.Leaving.{past, complete_opened}
-use Rattle.link_model.proofs.Releasing.{let_go_before, closed_is_let_go}
-use Rattle.link_model.proofs.RisingNumbers.{numbers_over, same_numbers, fewer_numbers, opened_over, first_that, is_behind, behind_front, rest_of, begins_with}
+use Rattle.link_model.proofs.Releasing.{let_go_before}
+use Rattle.link_model.proofs.RisingNumbers.{numbers_over, same_numbers, fewer_numbers, opened_over, first_that, is_behind, behind_front}
 use Rattle.link_model.proofs.Windowing.{gone_in, needed_by, books_by, books_range, book_of_window}
-use Rattle.vc_types.specs.SequenceHeader.{Sequence}
 
 -- ---- what is let go, by the window
 

@@ -24,6 +24,17 @@ pub mod SessionRows
 pub mod Apart
 pub mod Following
 pub mod SessionOutcomes
+pub mod OpeningOutcomes
+pub mod Closing
 pub mod SessionOutput
 pub mod Rounds
+pub mod BoardEvents
 pub mod MachineRows
+pub mod PlacesKept
+pub mod RisingLists
+pub mod PicturesHeard
+pub mod PicturesStay
+pub mod BuiltFrames
+pub mod MachineHalves
+pub mod MachineKept
+pub mod MachineRuns

@@ -6,7 +6,7 @@ use Rattle.vc_types.specs.FieldPairs.{interleaved_rows}
 use Rattle.vc_types.specs.RawFrames.{sample_bytes, frame_bytes}
 use Rattle.vc_types.specs.SameValues.{same_sequence, same_parameters}
 use Rattle.link_model.specs.Judgement.{waiting_outcome, part_outcome, fragment_outcome, outcome_behind, outcomes_behind, outcomes_in, with_pictures, with_sessions, tally_of, no_counts}
-use Rattle.link_model.specs.Kept.{parameters_in, parted, next_slice, next_slices, slice_run, own, first_copy}
+use Rattle.link_model.specs.Kept.{parameters_in, split_parts, next_slice, next_slices, slice_run, own, first_copy}
 use Rattle.link_model.specs.Numbers.{base_above, greatest, least, nearest, picture_number, is_closed, is_late, enters, parts_of, opened_numbers}
 use Rattle.link_model.specs.Output.{complete_at, planes_at, frame_at, frame_bytes_at, let_go_numbers, is_let_go, all_frames, frames_so_far, full_output, output_so_far, closing_place, greatest_of, all_output, last_so_far}
 use Rattle.link_model.specs.Packets.{header_end, is_shaped, payload_end, packet_fields, rtp_packet, fragment_fits, fragment_value, payload}
@@ -231,7 +231,7 @@ pub outputs :
     × (full_output 4 (header_datagram ∷ (n_slice ++ (zero_slices ++ (parameters_datagram 0 ∷ [])))) ≡ dark)
     × (full_output 4 two_rows ≡ grey)
     × (full_output 4 (header_datagram ∷ parameters_datagram 0 ∷ other_source ∷ []) ≡ [])
-unfolding opened_numbers base_above greatest_of all_output last_so_far with_sessions has_all_slices all_bytes whole_picture sample_bytes frame_bytes interleaved_rows same_sequence same_parameters part_outcome fragment_outcome outcome_behind outcomes_behind with_pictures tally_of parameters_in parted next_slice next_slices slice_run own first_copy greatest least nearest picture_number is_closed is_late enters parts_of complete_at planes_at frame_at frame_bytes_at let_go_numbers is_let_go all_frames frames_so_far full_output output_so_far closing_place header_end is_shaped payload_end packet_fields rtp_packet fragment_fits fragment_value payload received begins ends fragment_in hears bits_of byte_bits uint_at uint_after bounded_uint_after bounded_uint bounded_sint bounded_sints number_up_to weighted change lifted slices_from decoded_picture all_placed standing_at component_cells output_sample component_plane decoded_planes sample_at quant_factor quant_offset dequantised default_matrix raster sequence_header block coded_slice slice_length quantisers block_coefficients decoded_slice slice_rectangle place_among slice_coefficient_count coefficient_place transform_parameters interleaved on_columns on_rows on_cells inverse_level levels_across inverse_levels inverse_transform format_of range_of video_depth synthesis_steps lifted_by synthesised header.header_number header.major_version header.profile header.base_video_format header.frame_size header.colour_difference_sampling header.scan_format header.ratio header.clean_area header.excursion header.custom_signal_range header.signal_range_of header.colour_part header.colour_specification header.picture_coding_mode header.picture_shape parameters.number parameters.wavelet_index parameters.wavelet_depth parameters.extended_parameters parameters.slice_counts parameters.prefix_bytes parameters.size_scaler parameters.matrix_value parameters.matrix_values parameters.quantisation_matrix
+unfolding opened_numbers base_above greatest_of all_output last_so_far with_sessions has_all_slices all_bytes whole_picture sample_bytes frame_bytes interleaved_rows same_sequence same_parameters part_outcome fragment_outcome outcome_behind outcomes_behind with_pictures tally_of parameters_in split_parts next_slice next_slices slice_run own first_copy greatest least nearest picture_number is_closed is_late enters parts_of complete_at planes_at frame_at frame_bytes_at let_go_numbers is_let_go all_frames frames_so_far full_output output_so_far closing_place header_end is_shaped payload_end packet_fields rtp_packet fragment_fits fragment_value payload received begins ends fragment_in hears bits_of byte_bits uint_at uint_after bounded_uint_after bounded_uint bounded_sint bounded_sints number_up_to weighted change lifted slices_from decoded_picture all_placed standing_at component_cells output_sample component_plane decoded_planes sample_at quant_factor quant_offset dequantised default_matrix raster sequence_header block coded_slice slice_length quantisers block_coefficients decoded_slice slice_rectangle place_among slice_coefficient_count coefficient_place transform_parameters interleaved on_columns on_rows on_cells inverse_level levels_across inverse_levels inverse_transform format_of range_of video_depth synthesis_steps lifted_by synthesised header.header_number header.major_version header.profile header.base_video_format header.frame_size header.colour_difference_sampling header.scan_format header.ratio header.clean_area header.excursion header.custom_signal_range header.signal_range_of header.colour_part header.colour_specification header.picture_coding_mode header.picture_shape parameters.number parameters.wavelet_index parameters.wavelet_depth parameters.extended_parameters parameters.slice_counts parameters.prefix_bytes parameters.size_scaler parameters.matrix_value parameters.matrix_values parameters.quantisation_matrix
 outputs = (refl, refl, refl, refl, refl, refl, refl, refl, refl, refl, refl, refl, refl, refl, refl, refl, refl, refl, refl, refl, refl)
 
 -- what is counted of them
@@ -245,7 +245,7 @@ pub tallies :
     × (tally_of 4 [] ≡ no_counts)
     × (tally_of 4 fields ≡ record no_counts { datagrams = 7; header_new = 1; params_kept = 3; slices_kept = 3; unpaired = 1; frames = 1 })
     × (tally_of 4 (header_datagram ∷ parameters_datagram 0 ∷ other_source ∷ []) ≡ record no_counts { datagrams = 3; header_new = 1; params_kept = 1; foreign = 1; incomplete = 1 })
-unfolding opened_numbers base_above greatest_of all_output last_so_far with_sessions has_all_slices all_bytes whole_picture sample_bytes frame_bytes interleaved_rows same_sequence same_parameters part_outcome fragment_outcome outcome_behind outcomes_behind with_pictures tally_of parameters_in parted next_slice next_slices slice_run own first_copy greatest least nearest picture_number is_closed is_late enters parts_of complete_at planes_at frame_at frame_bytes_at let_go_numbers is_let_go all_frames frames_so_far full_output output_so_far closing_place header_end is_shaped payload_end packet_fields rtp_packet fragment_fits fragment_value payload received begins ends fragment_in hears bits_of byte_bits uint_at uint_after bounded_uint_after bounded_uint bounded_sint bounded_sints number_up_to weighted change lifted slices_from decoded_picture all_placed standing_at component_cells output_sample component_plane decoded_planes sample_at quant_factor quant_offset dequantised default_matrix raster sequence_header block coded_slice slice_length quantisers block_coefficients decoded_slice slice_rectangle place_among slice_coefficient_count coefficient_place transform_parameters interleaved on_columns on_rows on_cells inverse_level levels_across inverse_levels inverse_transform format_of range_of video_depth synthesis_steps lifted_by synthesised header.header_number header.major_version header.profile header.base_video_format header.frame_size header.colour_difference_sampling header.scan_format header.ratio header.clean_area header.excursion header.custom_signal_range header.signal_range_of header.colour_part header.colour_specification header.picture_coding_mode header.picture_shape parameters.number parameters.wavelet_index parameters.wavelet_depth parameters.extended_parameters parameters.slice_counts parameters.prefix_bytes parameters.size_scaler parameters.matrix_value parameters.matrix_values parameters.quantisation_matrix
+unfolding opened_numbers base_above greatest_of all_output last_so_far with_sessions has_all_slices all_bytes whole_picture sample_bytes frame_bytes interleaved_rows same_sequence same_parameters part_outcome fragment_outcome outcome_behind outcomes_behind with_pictures tally_of parameters_in split_parts next_slice next_slices slice_run own first_copy greatest least nearest picture_number is_closed is_late enters parts_of complete_at planes_at frame_at frame_bytes_at let_go_numbers is_let_go all_frames frames_so_far full_output output_so_far closing_place header_end is_shaped payload_end packet_fields rtp_packet fragment_fits fragment_value payload received begins ends fragment_in hears bits_of byte_bits uint_at uint_after bounded_uint_after bounded_uint bounded_sint bounded_sints number_up_to weighted change lifted slices_from decoded_picture all_placed standing_at component_cells output_sample component_plane decoded_planes sample_at quant_factor quant_offset dequantised default_matrix raster sequence_header block coded_slice slice_length quantisers block_coefficients decoded_slice slice_rectangle place_among slice_coefficient_count coefficient_place transform_parameters interleaved on_columns on_rows on_cells inverse_level levels_across inverse_levels inverse_transform format_of range_of video_depth synthesis_steps lifted_by synthesised header.header_number header.major_version header.profile header.base_video_format header.frame_size header.colour_difference_sampling header.scan_format header.ratio header.clean_area header.excursion header.custom_signal_range header.signal_range_of header.colour_part header.colour_specification header.picture_coding_mode header.picture_shape parameters.number parameters.wavelet_index parameters.wavelet_depth parameters.extended_parameters parameters.slice_counts parameters.prefix_bytes parameters.size_scaler parameters.matrix_value parameters.matrix_values parameters.quantisation_matrix
 tallies = (refl, refl, refl, refl, refl, refl, refl, refl, refl)
 
 -- what becomes of each datagram
@@ -255,7 +255,7 @@ pub all_outcomes :
     × (outcomes_in 4 of_picture ≡ outcomes.HeaderNew ∷ outcomes.ParamsBad ∷ outcomes.SlicesPending ∷ outcomes.ParamsKept ∷ outcomes.ParamsRepeat ∷ outcomes.ParamsConflict ∷ outcomes.SlicesRepeat ∷ outcomes.SlicesForm ∷ outcomes.SlicesForm ∷ outcomes.SlicesPlace ∷ outcomes.SlicesPlace ∷ outcomes.SlicesCut ∷ outcomes.SlicesConflict ∷ outcomes.SlicesRepeat ∷ [])
     × (outcomes_in 4 two_rows ≡ outcomes.HeaderNew ∷ outcomes.ParamsKept ∷ outcomes.SlicesPlace ∷ outcomes.SlicesPlace ∷ outcomes.SlicesKept ∷ outcomes.SlicesKept ∷ [])
     × (outcomes_in 4 (header_datagram ∷ parameters_datagram 0 ∷ other_matrix ∷ []) ≡ outcomes.HeaderNew ∷ outcomes.ParamsKept ∷ outcomes.ParamsConflict ∷ [])
-unfolding opened_numbers base_above greatest_of all_output last_so_far with_sessions has_all_slices all_bytes whole_picture sample_bytes frame_bytes interleaved_rows same_sequence same_parameters part_outcome fragment_outcome outcome_behind outcomes_behind with_pictures tally_of parameters_in parted next_slice next_slices slice_run own first_copy greatest least nearest picture_number is_closed is_late enters parts_of complete_at planes_at frame_at frame_bytes_at let_go_numbers is_let_go all_frames frames_so_far full_output output_so_far closing_place header_end is_shaped payload_end packet_fields rtp_packet fragment_fits fragment_value payload received begins ends fragment_in hears bits_of byte_bits uint_at uint_after bounded_uint_after bounded_uint bounded_sint bounded_sints number_up_to weighted change lifted slices_from decoded_picture all_placed standing_at component_cells output_sample component_plane decoded_planes sample_at quant_factor quant_offset dequantised default_matrix raster sequence_header block coded_slice slice_length quantisers block_coefficients decoded_slice slice_rectangle place_among slice_coefficient_count coefficient_place transform_parameters interleaved on_columns on_rows on_cells inverse_level levels_across inverse_levels inverse_transform format_of range_of video_depth synthesis_steps lifted_by synthesised header.header_number header.major_version header.profile header.base_video_format header.frame_size header.colour_difference_sampling header.scan_format header.ratio header.clean_area header.excursion header.custom_signal_range header.signal_range_of header.colour_part header.colour_specification header.picture_coding_mode header.picture_shape parameters.number parameters.wavelet_index parameters.wavelet_depth parameters.extended_parameters parameters.slice_counts parameters.prefix_bytes parameters.size_scaler parameters.matrix_value parameters.matrix_values parameters.quantisation_matrix
+unfolding opened_numbers base_above greatest_of all_output last_so_far with_sessions has_all_slices all_bytes whole_picture sample_bytes frame_bytes interleaved_rows same_sequence same_parameters part_outcome fragment_outcome outcome_behind outcomes_behind with_pictures tally_of parameters_in split_parts next_slice next_slices slice_run own first_copy greatest least nearest picture_number is_closed is_late enters parts_of complete_at planes_at frame_at frame_bytes_at let_go_numbers is_let_go all_frames frames_so_far full_output output_so_far closing_place header_end is_shaped payload_end packet_fields rtp_packet fragment_fits fragment_value payload received begins ends fragment_in hears bits_of byte_bits uint_at uint_after bounded_uint_after bounded_uint bounded_sint bounded_sints number_up_to weighted change lifted slices_from decoded_picture all_placed standing_at component_cells output_sample component_plane decoded_planes sample_at quant_factor quant_offset dequantised default_matrix raster sequence_header block coded_slice slice_length quantisers block_coefficients decoded_slice slice_rectangle place_among slice_coefficient_count coefficient_place transform_parameters interleaved on_columns on_rows on_cells inverse_level levels_across inverse_levels inverse_transform format_of range_of video_depth synthesis_steps lifted_by synthesised header.header_number header.major_version header.profile header.base_video_format header.frame_size header.colour_difference_sampling header.scan_format header.ratio header.clean_area header.excursion header.custom_signal_range header.signal_range_of header.colour_part header.colour_specification header.picture_coding_mode header.picture_shape parameters.number parameters.wavelet_index parameters.wavelet_depth parameters.extended_parameters parameters.slice_counts parameters.prefix_bytes parameters.size_scaler parameters.matrix_value parameters.matrix_values parameters.quantisation_matrix
 all_outcomes = (refl, refl, refl, refl, refl)
 
 -- ---- numbers, and how many slice parts wait

@@ -5,7 +5,7 @@ use Rattle.link_model.specs.Complete.{has_all_slices, all_bytes, whole_picture}
 use Rattle.vc_types.specs.FieldPairs.{interleaved_rows}
 use Rattle.vc_types.specs.RawFrames.{sample_bytes, frame_bytes}
 use Rattle.vc_types.specs.SameValues.{same_sequence, same_parameters}
-use Rattle.link_model.specs.Kept.{parameters_in, parted, next_slice, next_slices, slice_run, own, first_copy}
+use Rattle.link_model.specs.Kept.{parameters_in, split_parts, next_slice, next_slices, slice_run, own, first_copy}
 use Rattle.link_model.specs.Numbers.{base_above, greatest, least, nearest, picture_number, is_closed, is_late, enters, parts_of, opened_numbers}
 use Rattle.link_model.specs.Output.{complete_at, planes_at, frame_at, frame_bytes_at, let_go_numbers, is_let_go, all_frames, frames_so_far, full_output, output_so_far, closing_place, greatest_of, all_output, last_so_far}
 use Rattle.link_model.specs.Packets.{header_end, is_shaped, payload_end, packet_fields, rtp_packet, fragment_fits, fragment_value, payload}
@@ -29,7 +29,7 @@ use Rattle.vc_types.specs.Transforms.{interleaved, on_columns, on_rows, on_cells
 use Rattle.vc_types.specs.Video.{format_of, range_of, video_depth}
 use Rattle.vc_types.specs.Wavelets.{synthesis_steps, lifted_by, synthesised}
 use Rattle.std.specs.Prelude.{true, Option, Some, None}
-use Rattle.link_model.specs.Feeders.{is_decoded, session_of, kept_job, pictures_of, let_go_pictures}
+use Rattle.link_model.specs.Feeders.{is_decoded, session_opening, kept_job, heard_pictures, let_go_pictures}
 use Rattle.link_model.specs.Machine.{Machine, new_machine, Event, Enter, Put, Claim, Complete, Take, Withdraw, Leave, Redo, Release, Finish, first_broken, happens, run}
 use Rattle.vc_types.specs.Slices.{slice_coefficients}
 
@@ -83,7 +83,7 @@ pub events :
     × ((run 4 start all_events).feeder.written ≡ grey)
     × (first_broken 4 before_finish (Release picture) ≡ Some 1)
     × (first_broken 4 half_decoded (Release picture) ≡ Some 2)
-unfolding opened_numbers base_above greatest_of all_output last_so_far has_all_slices all_bytes whole_picture sample_bytes frame_bytes interleaved_rows same_sequence same_parameters parameters_in parted next_slice next_slices slice_run own first_copy greatest least nearest picture_number is_closed is_late enters parts_of complete_at planes_at frame_at frame_bytes_at let_go_numbers is_let_go all_frames frames_so_far full_output output_so_far closing_place header_end is_shaped payload_end packet_fields rtp_packet fragment_fits fragment_value payload received begins ends fragment_in hears bits_of byte_bits uint_at uint_after bounded_uint_after bounded_uint bounded_sint bounded_sints number_up_to weighted change lifted slices_from decoded_picture all_placed standing_at component_cells output_sample component_plane decoded_planes sample_at quant_factor quant_offset dequantised default_matrix raster sequence_header block coded_slice slice_length quantisers block_coefficients decoded_slice slice_rectangle place_among slice_coefficient_count coefficient_place transform_parameters interleaved on_columns on_rows on_cells inverse_level levels_across inverse_levels inverse_transform format_of range_of video_depth synthesis_steps lifted_by synthesised header.header_number header.major_version header.profile header.base_video_format header.frame_size header.colour_difference_sampling header.scan_format header.ratio header.clean_area header.excursion header.custom_signal_range header.signal_range_of header.colour_part header.colour_specification header.picture_coding_mode header.picture_shape parameters.number parameters.wavelet_index parameters.wavelet_depth parameters.extended_parameters parameters.slice_counts parameters.prefix_bytes parameters.size_scaler parameters.matrix_value parameters.matrix_values parameters.quantisation_matrix kept_job session_of pictures_of let_go_pictures slice_coefficients
+unfolding opened_numbers base_above greatest_of all_output last_so_far has_all_slices all_bytes whole_picture sample_bytes frame_bytes interleaved_rows same_sequence same_parameters parameters_in split_parts next_slice next_slices slice_run own first_copy greatest least nearest picture_number is_closed is_late enters parts_of complete_at planes_at frame_at frame_bytes_at let_go_numbers is_let_go all_frames frames_so_far full_output output_so_far closing_place header_end is_shaped payload_end packet_fields rtp_packet fragment_fits fragment_value payload received begins ends fragment_in hears bits_of byte_bits uint_at uint_after bounded_uint_after bounded_uint bounded_sint bounded_sints number_up_to weighted change lifted slices_from decoded_picture all_placed standing_at component_cells output_sample component_plane decoded_planes sample_at quant_factor quant_offset dequantised default_matrix raster sequence_header block coded_slice slice_length quantisers block_coefficients decoded_slice slice_rectangle place_among slice_coefficient_count coefficient_place transform_parameters interleaved on_columns on_rows on_cells inverse_level levels_across inverse_levels inverse_transform format_of range_of video_depth synthesis_steps lifted_by synthesised header.header_number header.major_version header.profile header.base_video_format header.frame_size header.colour_difference_sampling header.scan_format header.ratio header.clean_area header.excursion header.custom_signal_range header.signal_range_of header.colour_part header.colour_specification header.picture_coding_mode header.picture_shape parameters.number parameters.wavelet_index parameters.wavelet_depth parameters.extended_parameters parameters.slice_counts parameters.prefix_bytes parameters.size_scaler parameters.matrix_value parameters.matrix_values parameters.quantisation_matrix kept_job session_opening heard_pictures let_go_pictures slice_coefficients
 events = (refl, refl, refl, refl)
 
 -- ---- each condition, broken by itself
@@ -113,7 +113,7 @@ pub conditions_of_put :
     × Breaks busy (Put 1 picture 0) 4
     × Breaks (happens 4 busy (Redo picture 1)) (Put 1 picture 1) 5
     × IsFine busy (Put 1 picture 1)
-unfolding opened_numbers base_above greatest_of all_output last_so_far has_all_slices all_bytes whole_picture sample_bytes frame_bytes interleaved_rows same_sequence same_parameters parameters_in parted next_slice next_slices slice_run own first_copy greatest least nearest picture_number is_closed is_late enters parts_of complete_at planes_at frame_at frame_bytes_at let_go_numbers is_let_go all_frames frames_so_far full_output output_so_far closing_place header_end is_shaped payload_end packet_fields rtp_packet fragment_fits fragment_value payload received begins ends fragment_in hears bits_of byte_bits uint_at uint_after bounded_uint_after bounded_uint bounded_sint bounded_sints number_up_to weighted change lifted slices_from decoded_picture all_placed standing_at component_cells output_sample component_plane decoded_planes sample_at quant_factor quant_offset dequantised default_matrix raster sequence_header block coded_slice slice_length quantisers block_coefficients decoded_slice slice_rectangle place_among slice_coefficient_count coefficient_place transform_parameters interleaved on_columns on_rows on_cells inverse_level levels_across inverse_levels inverse_transform format_of range_of video_depth synthesis_steps lifted_by synthesised header.header_number header.major_version header.profile header.base_video_format header.frame_size header.colour_difference_sampling header.scan_format header.ratio header.clean_area header.excursion header.custom_signal_range header.signal_range_of header.colour_part header.colour_specification header.picture_coding_mode header.picture_shape parameters.number parameters.wavelet_index parameters.wavelet_depth parameters.extended_parameters parameters.slice_counts parameters.prefix_bytes parameters.size_scaler parameters.matrix_value parameters.matrix_values parameters.quantisation_matrix kept_job session_of pictures_of let_go_pictures slice_coefficients
+unfolding opened_numbers base_above greatest_of all_output last_so_far has_all_slices all_bytes whole_picture sample_bytes frame_bytes interleaved_rows same_sequence same_parameters parameters_in split_parts next_slice next_slices slice_run own first_copy greatest least nearest picture_number is_closed is_late enters parts_of complete_at planes_at frame_at frame_bytes_at let_go_numbers is_let_go all_frames frames_so_far full_output output_so_far closing_place header_end is_shaped payload_end packet_fields rtp_packet fragment_fits fragment_value payload received begins ends fragment_in hears bits_of byte_bits uint_at uint_after bounded_uint_after bounded_uint bounded_sint bounded_sints number_up_to weighted change lifted slices_from decoded_picture all_placed standing_at component_cells output_sample component_plane decoded_planes sample_at quant_factor quant_offset dequantised default_matrix raster sequence_header block coded_slice slice_length quantisers block_coefficients decoded_slice slice_rectangle place_among slice_coefficient_count coefficient_place transform_parameters interleaved on_columns on_rows on_cells inverse_level levels_across inverse_levels inverse_transform format_of range_of video_depth synthesis_steps lifted_by synthesised header.header_number header.major_version header.profile header.base_video_format header.frame_size header.colour_difference_sampling header.scan_format header.ratio header.clean_area header.excursion header.custom_signal_range header.signal_range_of header.colour_part header.colour_specification header.picture_coding_mode header.picture_shape parameters.number parameters.wavelet_index parameters.wavelet_depth parameters.extended_parameters parameters.slice_counts parameters.prefix_bytes parameters.size_scaler parameters.matrix_value parameters.matrix_values parameters.quantisation_matrix kept_job session_opening heard_pictures let_go_pictures slice_coefficients
 conditions_of_put = (refl, refl, refl, refl, refl, refl, refl, refl)
 
 pub conditions_of_others :
@@ -130,7 +130,7 @@ pub conditions_of_others :
     × IsFine done (Take 0)
     × IsFine claimed (Complete 0 7)
     × IsFine busy Finish
-unfolding opened_numbers base_above greatest_of all_output last_so_far has_all_slices all_bytes whole_picture sample_bytes frame_bytes interleaved_rows same_sequence same_parameters parameters_in parted next_slice next_slices slice_run own first_copy greatest least nearest picture_number is_closed is_late enters parts_of complete_at planes_at frame_at frame_bytes_at let_go_numbers is_let_go all_frames frames_so_far full_output output_so_far closing_place header_end is_shaped payload_end packet_fields rtp_packet fragment_fits fragment_value payload received begins ends fragment_in hears bits_of byte_bits uint_at uint_after bounded_uint_after bounded_uint bounded_sint bounded_sints number_up_to weighted change lifted slices_from decoded_picture all_placed standing_at component_cells output_sample component_plane decoded_planes sample_at quant_factor quant_offset dequantised default_matrix raster sequence_header block coded_slice slice_length quantisers block_coefficients decoded_slice slice_rectangle place_among slice_coefficient_count coefficient_place transform_parameters interleaved on_columns on_rows on_cells inverse_level levels_across inverse_levels inverse_transform format_of range_of video_depth synthesis_steps lifted_by synthesised header.header_number header.major_version header.profile header.base_video_format header.frame_size header.colour_difference_sampling header.scan_format header.ratio header.clean_area header.excursion header.custom_signal_range header.signal_range_of header.colour_part header.colour_specification header.picture_coding_mode header.picture_shape parameters.number parameters.wavelet_index parameters.wavelet_depth parameters.extended_parameters parameters.slice_counts parameters.prefix_bytes parameters.size_scaler parameters.matrix_value parameters.matrix_values parameters.quantisation_matrix kept_job session_of pictures_of let_go_pictures slice_coefficients
+unfolding opened_numbers base_above greatest_of all_output last_so_far has_all_slices all_bytes whole_picture sample_bytes frame_bytes interleaved_rows same_sequence same_parameters parameters_in split_parts next_slice next_slices slice_run own first_copy greatest least nearest picture_number is_closed is_late enters parts_of complete_at planes_at frame_at frame_bytes_at let_go_numbers is_let_go all_frames frames_so_far full_output output_so_far closing_place header_end is_shaped payload_end packet_fields rtp_packet fragment_fits fragment_value payload received begins ends fragment_in hears bits_of byte_bits uint_at uint_after bounded_uint_after bounded_uint bounded_sint bounded_sints number_up_to weighted change lifted slices_from decoded_picture all_placed standing_at component_cells output_sample component_plane decoded_planes sample_at quant_factor quant_offset dequantised default_matrix raster sequence_header block coded_slice slice_length quantisers block_coefficients decoded_slice slice_rectangle place_among slice_coefficient_count coefficient_place transform_parameters interleaved on_columns on_rows on_cells inverse_level levels_across inverse_levels inverse_transform format_of range_of video_depth synthesis_steps lifted_by synthesised header.header_number header.major_version header.profile header.base_video_format header.frame_size header.colour_difference_sampling header.scan_format header.ratio header.clean_area header.excursion header.custom_signal_range header.signal_range_of header.colour_part header.colour_specification header.picture_coding_mode header.picture_shape parameters.number parameters.wavelet_index parameters.wavelet_depth parameters.extended_parameters parameters.slice_counts parameters.prefix_bytes parameters.size_scaler parameters.matrix_value parameters.matrix_values parameters.quantisation_matrix kept_job session_opening heard_pictures let_go_pictures slice_coefficients
 conditions_of_others = (refl, refl, refl, refl, refl, refl, refl, refl, refl, refl, refl, refl, refl)
 
 -- a completion of the claim before changes nothing, and what is taken back is the answer
@@ -142,5 +142,5 @@ pub stale_completion :
     × (is_decoded (happens 4 done (Take 0)).feeder picture 0 ≡ true)
     × ((happens 4 done (Take 0)).feeder ≡ (happens 4 busy (Redo picture 0)).feeder)
     × ((happens 4 done (Take 0)).places ≡ (happens 4 busy (Withdraw 0)).places)
-unfolding opened_numbers base_above greatest_of all_output last_so_far has_all_slices all_bytes whole_picture sample_bytes frame_bytes interleaved_rows same_sequence same_parameters parameters_in parted next_slice next_slices slice_run own first_copy greatest least nearest picture_number is_closed is_late enters parts_of complete_at planes_at frame_at frame_bytes_at let_go_numbers is_let_go all_frames frames_so_far full_output output_so_far closing_place header_end is_shaped payload_end packet_fields rtp_packet fragment_fits fragment_value payload received begins ends fragment_in hears bits_of byte_bits uint_at uint_after bounded_uint_after bounded_uint bounded_sint bounded_sints number_up_to weighted change lifted slices_from decoded_picture all_placed standing_at component_cells output_sample component_plane decoded_planes sample_at quant_factor quant_offset dequantised default_matrix raster sequence_header block coded_slice slice_length quantisers block_coefficients decoded_slice slice_rectangle place_among slice_coefficient_count coefficient_place transform_parameters interleaved on_columns on_rows on_cells inverse_level levels_across inverse_levels inverse_transform format_of range_of video_depth synthesis_steps lifted_by synthesised header.header_number header.major_version header.profile header.base_video_format header.frame_size header.colour_difference_sampling header.scan_format header.ratio header.clean_area header.excursion header.custom_signal_range header.signal_range_of header.colour_part header.colour_specification header.picture_coding_mode header.picture_shape parameters.number parameters.wavelet_index parameters.wavelet_depth parameters.extended_parameters parameters.slice_counts parameters.prefix_bytes parameters.size_scaler parameters.matrix_value parameters.matrix_values parameters.quantisation_matrix kept_job session_of pictures_of let_go_pictures slice_coefficients
+unfolding opened_numbers base_above greatest_of all_output last_so_far has_all_slices all_bytes whole_picture sample_bytes frame_bytes interleaved_rows same_sequence same_parameters parameters_in split_parts next_slice next_slices slice_run own first_copy greatest least nearest picture_number is_closed is_late enters parts_of complete_at planes_at frame_at frame_bytes_at let_go_numbers is_let_go all_frames frames_so_far full_output output_so_far closing_place header_end is_shaped payload_end packet_fields rtp_packet fragment_fits fragment_value payload received begins ends fragment_in hears bits_of byte_bits uint_at uint_after bounded_uint_after bounded_uint bounded_sint bounded_sints number_up_to weighted change lifted slices_from decoded_picture all_placed standing_at component_cells output_sample component_plane decoded_planes sample_at quant_factor quant_offset dequantised default_matrix raster sequence_header block coded_slice slice_length quantisers block_coefficients decoded_slice slice_rectangle place_among slice_coefficient_count coefficient_place transform_parameters interleaved on_columns on_rows on_cells inverse_level levels_across inverse_levels inverse_transform format_of range_of video_depth synthesis_steps lifted_by synthesised header.header_number header.major_version header.profile header.base_video_format header.frame_size header.colour_difference_sampling header.scan_format header.ratio header.clean_area header.excursion header.custom_signal_range header.signal_range_of header.colour_part header.colour_specification header.picture_coding_mode header.picture_shape parameters.number parameters.wavelet_index parameters.wavelet_depth parameters.extended_parameters parameters.slice_counts parameters.prefix_bytes parameters.size_scaler parameters.matrix_value parameters.matrix_values parameters.quantisation_matrix kept_job session_opening heard_pictures let_go_pictures slice_coefficients
 stale_completion = (refl, refl, refl, refl)

@@ -1,18 +1,17 @@
 -- A picture that is let go stays so, and nothing of it changes then.
-use Rattle.std.proofs.Common.{◌≡◌, ℕ, zero, suc, ◌+◌, ◌-◌, ◌%◌, ◌<◌, ◌≤◌, Bool, true, false, List, [], ◌++◌, Option, Some, None, refl, ap, sym, subst, ◌∙◌, inl, inr, arith, cond}
+use Rattle.std.proofs.Common.{◌≡◌, ℕ, zero, suc, ◌+◌, ◌-◌, ◌%◌, ◌<◌, ◌≤◌, Bool, true, false, List, ◌++◌, Option, Some, None, refl, ap, subst, ◌∙◌, inl, inr, arith, cond}
 use Rattle.std.specs.Prelude.{is_some, ◌==◌}
 use Rattle.std.specs.List.{list_all, range_with_len}
-use Rattle.std.specs.Option.{option_map_or, option_and_then}
+use Rattle.std.specs.Option.{option_and_then}
 use Rattle.std.proofs.lemmas.Bool.{and_parts, and_from, cases_lt, both_ways, false≢true}
 use Rattle.link_model.specs.Complete.{whole_picture}
-use Rattle.vc_types.specs.RawFrames.{frame_bytes, is_wide}
 use Rattle.link_model.specs.Numbers.{Numbered, greatest, parts_of, entered}
 use Rattle.link_model.specs.Output.{complete_at, planes_at, frame_at, frame_bytes_at, raw_bytes, is_let_go, woven_fields}
 use Rattle.link_model.specs.Session.{Fragment}
 use Rattle.link_model.proofs.Keeping.{whole_picture-append}
 use Rattle.link_model.proofs.Numbering.{Follows, entered_follows}
 use Rattle.vc_types.specs.Planes.{Planes, decoded_planes}
-use Rattle.vc_types.specs.SequenceHeader.{Sequence, picture_shape}
+use Rattle.vc_types.specs.SequenceHeader.{Sequence}
 
 -- ---- ranges
 

@@ -4,8 +4,7 @@ use Rattle.std.specs.Prelude.{nat_le, not, ◌&&◌, filter}
 use Rattle.std.specs.List.{flat_map, range_with_len, last_or}
 use Rattle.std.specs.Option.{option_and_then}
 use Rattle.std.proofs.Math.Seq.{drop-append_seam}
-use Rattle.std.proofs.lemmas.Bool.{cases_lt, cond-true, cond-false, le-leb, lt-leb, and_right, both_ways, false_from_ne_true}
-use Rattle.std.proofs.lemmas.List.{append_assoc}
+use Rattle.std.proofs.lemmas.Bool.{cond-true, cond-false, le-leb, lt-leb, and_right, both_ways, false_from_ne_true}
 use Rattle.link_model.specs.Numbers.{Numbered, is_opened, opened_numbers}
 use Rattle.link_model.specs.Windows.{first_of, released_up_to}
 use Rattle.link_model.proofs.Leaving.{past, passing, passing-over}

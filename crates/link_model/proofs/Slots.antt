@@ -2,11 +2,11 @@
 use Rattle.std.proofs.Common.{◌≡◌, ℕ, zero, suc, ◌+◌, ◌-◌, ◌<◌, ◌≤◌, Bool, true, false, List, [], ◌∷◌, ◌++◌, length, map, take, drop, replicate, Option, Some, None, Result, Ok, Err, refl, ap, sym, subst, ◌∙◌, arith, cond}
 use Rattle.std.specs.Prelude.{nat_le, nat_lt, not, ◌&&◌, slice_get}
 use Rattle.std.specs.List.{range_with_len, cons_option}
-use Rattle.std.specs.Option.{option_map, option_or, option_and_then}
+use Rattle.std.specs.Option.{option_map, option_or}
 use Rattle.std.proofs.lemmas.Bool.{le-leb, lt-leb, leb-true, and_parts}
 use Rattle.std.proofs.lemmas.Option.{none-some, same_Some}
 use Rattle.link_model.specs.Books.{Slots, slot_at, filled_with, with_run}
-use Rattle.link_model.specs.Kept.{Parted, parted, Own, own_of, own, own_slice, SliceRun, runs_of, run_taken, run_from, slice_run, slice_in, first_copy, next_slice, next_slices, has_form, has_place, first_slice, waiting_limit}
+use Rattle.link_model.specs.Kept.{SplitParts, split_parts, Own, own_of, own, own_slice, SliceRun, runs_of, run_taken, run_from, slice_run, slice_in, first_copy, next_slice, next_slices, has_form, has_place, first_slice, waiting_limit}
 use Rattle.link_model.specs.Session.{Part, SlicePart}
 use Rattle.link_model.specs.declared.outcome.Outcome.{Outcome}
 use Rattle.link_model.specs.declared.outcome.Outcome.TheVariants.{SlicesForm, SlicesPlace}
@@ -169,9 +169,9 @@ module _ (s : Sequence) where
   -- no slice is kept past the picture's last
   pub own_slice_inside : (parts : List Part) (kept : Own) → own s parts ≡ Some kept → (i : ℕ) → slice_count kept.plan.parameters ≤ i → own_slice kept i ≡ None
   unfolding own
-  own_slice_inside parts kept is = by_parted (parted s parts) is
+  own_slice_inside parts kept is = by_parted (split_parts s parts) is
     where
-      by_parted : (o : Option Parted) → option_map own_of o ≡ Some kept → (i : ℕ) → slice_count kept.plan.parameters ≤ i → own_slice kept i ≡ None
+      by_parted : (o : Option SplitParts) → option_map own_of o ≡ Some kept → (i : ℕ) → slice_count kept.plan.parameters ≤ i → own_slice kept i ≡ None
       by_parted None e = absurd (none-some kept e)
       by_parted (Some p) e = subst (λ (k : Own). (i : ℕ) → slice_count k.plan.parameters ≤ i → own_slice k i ≡ None) (same_Some (own_of p) kept e)
           (no_copy p.plan.parameters (take waiting_limit p.before ++ p.behind))

@@ -1,12 +1,12 @@
 -- A part that isn't kept leaves its picture's book as it was.
 use Rattle.std.proofs.Common.{◌≡◌, ℕ, zero, suc, ◌+◌, Bool, true, false, List, [], ◌∷◌, ◌++◌, length, take, drop, Option, Some, None, Result, Ok, Err, refl, ap, sym, ◌∙◌, arith, cond}
-use Rattle.std.specs.Prelude.{nat_lt, is_none, slice_get}
+use Rattle.std.specs.Prelude.{nat_lt, is_none}
 use Rattle.std.specs.List.{list_any, enumerate_from}
 use Rattle.std.specs.Option.{option_or}
 use Rattle.std.proofs.lemmas.Bool.{false≢true, or_parts}
-use Rattle.link_model.specs.Books.{Slots, slot_at, Gathered, Book, filled_with, with_run, gathers_run, gathers, takes_plan, takes_params, takes_slices, book_plan, book_takes, book_slices_outcome, book_outcome}
+use Rattle.link_model.specs.Books.{Slots, slot_at, Gathered, Book, filled_with, with_run, gathers_run, takes_plan, takes_params, takes_slices, book_plan, book_takes, book_slices_outcome, book_outcome}
 use Rattle.link_model.specs.Judgement.{parameters_outcome, run_outcome, numbered_slices, is_conflict, is_new, keeps}
-use Rattle.link_model.specs.Kept.{KeptParameters, kept_parameters, SliceRun, slice_run, waiting_limit}
+use Rattle.link_model.specs.Kept.{kept_parameters, SliceRun, slice_run, waiting_limit}
 use Rattle.link_model.specs.Session.{Part, ParamsPart, SlicesPart, SlicePart}
 use Rattle.link_model.specs.declared.outcome.Outcome.{Outcome}
 use Rattle.link_model.specs.declared.outcome.Outcome.TheVariants.{SlicesConflict, SlicesKept, SlicesRepeat, SlicesPending, SlicesFull}

@@ -1,18 +1,19 @@
 -- The whole bytes of a picture are decoded as its parameters and, behind them, its own slices, each of which is one whole
 -- slice.
-use Rattle.std.proofs.Common.{◌≡◌, ℕ, zero, suc, ◌-◌, Bool, true, false, List, [], ◌∷◌, ◌++◌, length, map, take, drop, Option, Some, None, Result, Ok, Err, refl, ap, sym, subst, ◌∙◌, cond}
+use Rattle.std.proofs.Common.{◌≡◌, ℕ, zero, suc, ◌-◌, Bool, true, false, List, [], ◌∷◌, ◌++◌, map, take, drop, Option, Some, None, Result, Ok, Err, refl, ap, sym, subst, ◌∙◌, cond}
 use Rattle.std.specs.Prelude.{slice_get, unwrap_or, nat_le, not}
 use Rattle.std.specs.List.{flat_map, cons_option}
 use Rattle.std.specs.Option.{option_map, option_map_or, option_or}
 use Rattle.std.proofs.Math.Seq.{drop-append_seam}
 use Rattle.std.proofs.lemmas.Option.{same_Some, none-some}
 use Rattle.link_model.specs.Complete.{slice_numbers, all_bytes}
-use Rattle.link_model.specs.Kept.{KeptParameters, kept_parameters, parameters_in, Parted, parted_by, also_before, parted, Own, own_of, own, own_slice, SliceRun, runs_of, run_taken, run_from, slice_run, slice_in, first_copy, cut_off, next_slice, next_slices, has_form, has_place, first_slice, waiting_limit}
+use Rattle.link_model.specs.Kept.{KeptParameters, kept_parameters, parameters_in, SplitParts, split_by, also_before, split_parts, Own, own_of, own, own_slice, SliceRun, runs_of, run_taken, run_from, slice_run, slice_in, first_copy, cut_off, next_slice, next_slices, has_form, has_place, first_slice, waiting_limit}
 use Rattle.link_model.specs.Session.{Part, ParamsPart, SlicesPart, SlicePart}
 use Rattle.link_model.specs.declared.outcome.Outcome.{Outcome}
 use Rattle.link_model.specs.declared.outcome.Outcome.TheVariants.{SlicesForm, SlicesPlace}
 use Rattle.vc_types.specs.Bits.{bits_of}
 use Rattle.vc_types.specs.Fields.{joined, and_then}
+use Rattle.vc_types.specs.PictureBytes.{IsWholeSlice}
 use Rattle.vc_types.specs.Pictures.{decoded_picture, with_parameters, with_slices, slices_from}
 use Rattle.vc_types.specs.SequenceHeader.{Sequence, bytes_used, with_bytes_used}
 use Rattle.vc_types.specs.Slices.{slice_length}
@@ -44,26 +45,22 @@ module _ (s : Sequence) where
           ∙ ap (λ n. with_slices read.0 (slices_from read.0 0 (slice_count read.0) (drop n (bytes ++ more)))) again.used
           ∙ ap (λ (l : List ℕ). with_slices read.0 (slices_from read.0 0 (slice_count read.0) l)) (drop-append_seam bytes more)))
 
-  parted_again : (parts : List Part) (p : Parted) → parted s parts ≡ Some p → IsReadAgain s p.plan
-  unfolding parted
+  parted_again : (parts : List Part) (p : SplitParts) → split_parts s parts ≡ Some p → IsReadAgain s p.plan
+  unfolding split_parts
   parted_again [] p e = absurd (none-some p e)
-  parted_again (part ∷ parts) p e = by_plan (parameters_in s part) refl (parted s parts) e (parted_again parts)
+  parted_again (part ∷ parts) p e = by_plan (parameters_in s part) refl (split_parts s parts) e (parted_again parts)
     where
-      also : (part : Part) (q : Parted) → IsReadAgain s q.plan → IsReadAgain s (also_before part q).plan
+      also : (part : Part) (q : SplitParts) → IsReadAgain s q.plan → IsReadAgain s (also_before part q).plan
       also (ParamsPart body) q again = again
       also (SlicesPart slices) q again = again
 
-      by_plan : (o : Option KeptParameters) → parameters_in s part ≡ o → (old : Option Parted) → option_map_or (λ plan. Some (parted_by parts plan)) o (option_map (also_before part) old) ≡ Some p
-          → ((q : Parted) → old ≡ Some q → IsReadAgain s q.plan) → IsReadAgain s p.plan
-      by_plan (Some plan) is old e rest = subst (λ (p : Parted). IsReadAgain s p.plan) (same_Some (parted_by parts plan) p e) (planned_again part plan is)
+      by_plan : (o : Option KeptParameters) → parameters_in s part ≡ o → (old : Option SplitParts) → option_map_or (λ plan. Some (split_by parts plan)) o (option_map (also_before part) old) ≡ Some p
+          → ((q : SplitParts) → old ≡ Some q → IsReadAgain s q.plan) → IsReadAgain s p.plan
+      by_plan (Some plan) is old e rest = subst (λ (p : SplitParts). IsReadAgain s p.plan) (same_Some (split_by parts plan) p e) (planned_again part plan is)
       by_plan None is None e rest = absurd (none-some p e)
-      by_plan None is (Some q) e rest = subst (λ (p : Parted). IsReadAgain s p.plan) (same_Some (also_before part q) p e) (also part q (rest q refl))
+      by_plan None is (Some q) e rest = subst (λ (p : SplitParts). IsReadAgain s p.plan) (same_Some (also_before part q) p e) (also part q (rest q refl))
 
 -- ---- slices
-
--- bytes that are one whole slice
-abbrev pub IsWholeSlice : Parameters → List ℕ → Type 0
-IsWholeSlice p bytes = slice_length p.prefix p.scaler bytes ≡ Some (length bytes)
 
 -- a slice that begins bytes is a whole slice by itself
 abbrev pub SlicesStandAlone : Parameters → Type 0
@@ -143,11 +140,11 @@ abbrev pub own_slices : Own → List (List ℕ)
 own_slices kept = map (λ i. unwrap_or (own_slice kept i) []) (slice_numbers kept)
 
 module _ (s : Sequence) (parts : List Part) (kept : Own) (is : own s parts ≡ Some kept) where
-  from_parted : (Q : Own → Type 0) → ((p : Parted) → parted s parts ≡ Some p → Q (own_of p)) → Q kept
+  from_parted : (Q : Own → Type 0) → ((p : SplitParts) → split_parts s parts ≡ Some p → Q (own_of p)) → Q kept
   unfolding own
-  from_parted Q each = by_parted (parted s parts) refl is
+  from_parted Q each = by_parted (split_parts s parts) refl is
     where
-      by_parted : (o : Option Parted) → parted s parts ≡ o → option_map own_of o ≡ Some kept → Q kept
+      by_parted : (o : Option SplitParts) → split_parts s parts ≡ o → option_map own_of o ≡ Some kept → Q kept
       by_parted None at e = absurd (none-some kept e)
       by_parted (Some p) at e = subst Q (same_Some (own_of p) kept e) (each p at)
 

@@ -1,22 +1,24 @@
 -- How many books a window has, its greatest number, and the number of a picture that a fragment opened.
-use Rattle.std.proofs.Common.{◌≡◌, ℕ, zero, suc, ◌+◌, ◌-◌, ◌%◌, ◌^◌, ◌<◌, ◌≤◌, max, Bool, true, false, List, [], ◌∷◌, ◌++◌, length, Option, Some, None, refl, ap, sym, subst, ◌∙◌, inl, inr, arith, cond}
-use Rattle.std.specs.Prelude.{nat_le, nat_lt, not, ◌&&◌, ◌||◌, filter, filter_map, fold}
-use Rattle.std.specs.List.{flat_map, last_or, range_with_len}
-use Rattle.std.proofs.lemmas.Bool.{cases_Bool, cases_lt, and_parts, cond-true, cond-false, false≢true, not-true, leb-false, lt-ltb, le-ltb, or_parts, both_ways}
+use Rattle.std.proofs.Common.{◌≡◌, ℕ, zero, suc, ◌+◌, ◌-◌, ◌%◌, ◌^◌, ◌<◌, ◌≤◌, max, Bool, true, false, List, [], ◌∷◌, ◌++◌, length, Some, None, refl, ap, sym, subst, ◌∙◌, inl, inr, arith, cond}
+use Rattle.std.specs.Prelude.{nat_le, nat_lt, not, ◌&&◌, ◌||◌, filter, fold}
+use Rattle.std.specs.List.{last_or}
+use Rattle.std.proofs.lemmas.Bool.{cases_Bool, cases_lt, and_parts, cond-true, false≢true, not-true, leb-true, leb-false, lt-ltb, or_parts}
 use Rattle.std.proofs.lemmas.List.Sums.{fold-append}
 use Rattle.link_model.specs.Books.{Book}
-use Rattle.link_model.specs.Numbers.{Numbered, greatest, least, nearest, distance, base_above, enters, entered, is_closed, is_late, is_opened, has_parts, parts_of, picture_number, opened_numbers}
-use Rattle.link_model.specs.Output.{greatest_of, entered_behind}
+use Rattle.link_model.specs.Numbers.{Numbered, greatest, nearest, distance, base_above, enters, entered, is_closed, is_late, is_opened, has_parts, picture_number}
+use Rattle.link_model.specs.Output.{greatest_of, is_let_go}
 use Rattle.link_model.specs.Session.{Fragment, HeardSession, with_datagram, fragment_in}
-use Rattle.link_model.specs.Windows.{NumberedBook, with_number, Window, closed_in, released_up_to, WindowPast, past_enters, past_let_go, releasable_numbers, past_book, needed_numbers, greatest_behind, is_nothing, window_of, StandsForPast, session_past}
+use Rattle.link_model.specs.Windows.{NumberedBook, with_number, Window, closed_in, released_up_to, WindowPast, past_enters, past_let_go, releasable_numbers, greatest_behind, is_nothing, window_of, StandsForPast, session_past}
 use Rattle.link_model.proofs.Apart.{base_is_above, base_is_multiple}
-use Rattle.link_model.proofs.BooksInOrder.{picked, books_over, fewer_books}
+use Rattle.link_model.proofs.BooksInOrder.{books_over, fewer_books}
 use Rattle.link_model.proofs.Hearing.{with_fragment, without_fragment}
 use Rattle.link_model.proofs.Leaving.{past}
+use Rattle.link_model.proofs.LettingGo.{is_let_go_by, releasable_over}
 use Rattle.link_model.proofs.Numbering.{early_enters, late_changes_nothing, greatest-append, parts_of-outside}
+use Rattle.link_model.proofs.Releasing.{closed_is_let_go}
+use Rattle.link_model.proofs.RisingNumbers.{numbers_over}
 use Rattle.link_model.proofs.Windowing.{gone_in, needed_by, books_by, books_range}
-use Rattle.link_model.proofs.Wrapping.{nearest-bits, nearest-not_above, nearest-not_below}
-use Rattle.vc_types.specs.SequenceHeader.{Sequence}
+use Rattle.link_model.proofs.Wrapping.{nearest-bits}
 
 -- ---- few books
 
@@ -70,6 +72,63 @@ module _ (p : WindowPast) where
 pub few_books : (w : Window) (p : WindowPast) → StandsForPast w p → length (filter (λ (b : NumberedBook). not (closed_in w b.number)) w.books) ≤ w.size
 unfolding window_of
 few_books w p stands = subst (λ (v : Window). length (filter (λ (b : NumberedBook). not (closed_in v b.number)) v.books) ≤ v.size) (sym stands.value) (few_of_window p)
+
+-- ---- and once all that are let go are released, no others are left
+
+none_of : (test : ℕ → Bool) (a m : ℕ) → numbers_over test a m ≡ [] → (k : ℕ) → a ≤ k → k < a + m → test k ≡ false
+none_of test a zero none k from to = absurd (omega arith)
+none_of test a (suc m) none k from to = by_test (test a) refl none (λ rest above. none_of test (a + 1) m rest k above (omega arith))
+  where
+    by_test : (b : Bool) → test a ≡ b → (cond b (a ∷ []) [] ++ numbers_over test (a + 1) m) ≡ []
+        → (numbers_over test (a + 1) m ≡ [] → a + 1 ≤ k → test k ≡ false) → test k ≡ false
+    by_test true is none later = cc
+    by_test false is none later = elim (cases_lt a k) [
+      | inl less ↦ later none (omega arith)
+      | inr more ↦ (let same : a ≡ k = omega arith in ap test (sym same) ∙ is)
+    ]
+
+module _ (p : WindowPast) (in_order : past_let_go p ≡ p.released ++ releasable_numbers p) (none : releasable_numbers p ≡ []) where
+  abbrev is_shut : ℕ → Bool
+  is_shut k = p.is_ended || is_closed p.size p.entries k
+
+  abbrev is_low : ℕ → Bool
+  is_low k = released_up_to (last_or None p.released) k
+
+  shut_goes : (k : ℕ) → is_shut k ≡ true → is_let_go_by p k ≡ true
+  unfolding is_closed
+  shut_goes k shut = by_end p.is_ended shut
+    where
+      by_end : (over : Bool) → (over || nat_le (k + p.size) (greatest p.entries)) ≡ true → (over || is_let_go p.size p.sequence p.entries k) ≡ true
+      by_end true shut = refl
+      by_end false shut = closed_is_let_go p.size p.sequence p.entries k (leb-true (k + p.size) (greatest p.entries) shut)
+
+  -- what is opened and isn't gone isn't closed
+  needed_open : (k : ℕ) → needed_by p.entries (gone_in p) k ≡ true → is_shut k ≡ false
+  needed_open k needed = by_tests (is_opened p.entries k) (is_shut k) (is_low k) (is_let_go_by p k) needed (shut_goes k)
+      (none_of (λ n. (is_opened p.entries n && not (is_low n)) && is_let_go_by p n) 0 (past p.entries + 0) (sym (releasable_over p in_order) ∙ none) k (omega arith) (omega (arith, opened_at_most p.entries k (and_parts (is_opened p.entries k) (not (gone_in p k)) needed).0)))
+    where
+      by_tests : (was shut low go : Bool) → (was && not (shut && low)) ≡ true → (shut ≡ true → go ≡ true) → ((was && not low) && go) ≡ false → shut ≡ false
+      by_tests false shut low go needed goes fails = absurd (false≢true needed)
+      by_tests true false low go needed goes fails = refl
+      by_tests true true true go needed goes fails = absurd (false≢true needed)
+      by_tests true true false go needed goes fails = absurd (false≢true (sym fails ∙ goes refl))
+
+  all_few : length (window_of p).books ≤ p.size
+  unfolding window_of is_closed
+  all_few =
+      let low = greatest p.entries + 1 - p.size in
+      let few = few_between (needed_by p.entries (gone_in p)) (books_by p.sequence p.entries) low p.size within 0 (past p.entries + 0) in
+      omega (arith, few, ap length (books_range p (past p.entries + 0) 0 refl))
+    where
+      within : (k : ℕ) → needed_by p.entries (gone_in p) k ≡ true → (greatest p.entries + 1 - p.size ≤ k) × (k < greatest p.entries + 1 - p.size + p.size)
+      within k needed =
+          let opened = opened_at_most p.entries k (and_parts (is_opened p.entries k) (not (gone_in p k)) needed).0 in
+          let above = leb-false (k + p.size) (greatest p.entries) (or_parts p.is_ended (nat_le (k + p.size) (greatest p.entries)) (needed_open k needed)).1 in
+          (omega (arith, above), omega (arith, opened))
+
+pub all_books_few : (w : Window) (p : WindowPast) → StandsForPast w p → releasable_numbers p ≡ [] → length w.books ≤ w.size
+unfolding window_of
+all_books_few w p stands none = subst (λ (v : Window). length v.books ≤ v.size) (sym stands.value) (all_few p stands.in_order none)
 
 -- ---- the greatest number
 

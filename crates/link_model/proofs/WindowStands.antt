@@ -1,24 +1,22 @@
 -- A window stands for its past: what carries over each step, and what it answers.
-use Rattle.std.proofs.Common.{◌≡◌, ℕ, zero, suc, ◌+◌, ◌-◌, ◌^◌, ◌<◌, ◌≤◌, max, Bool, true, false, List, [], ◌∷◌, ◌++◌, length, drop, Option, Some, None, refl, ap, sym, subst, ◌∙◌, inl, inr, arith, cond}
-use Rattle.std.specs.Prelude.{nat_le, not, ◌&&◌, ◌||◌, filter}
-use Rattle.std.specs.List.{flat_map, last_or, range_with_len}
+use Rattle.std.proofs.Common.{◌≡◌, ℕ, zero, suc, ◌+◌, ◌<◌, Bool, true, false, List, [], ◌∷◌, ◌++◌, length, drop, Option, Some, None, refl, ap, sym, subst, ◌∙◌, arith, cond}
+use Rattle.std.specs.Prelude.{nat_lt, not, ◌&&◌, ◌||◌}
+use Rattle.std.specs.List.{last_or}
 use Rattle.std.specs.Option.{option_map}
-use Rattle.std.proofs.lemmas.Bool.{cases_Bool, cases_lt, and_parts, and_from, and_left, cond-true, cond-false, false≢true, not-true, not_from_false, leb-false, leb-true, or_parts, both_ways}
+use Rattle.std.proofs.lemmas.Bool.{and_parts, and_from, cond-true, cond-false, false≢true, not-true, not_from_false, leb-false, leb-true}
 use Rattle.std.proofs.lemmas.List.{append_assoc}
 use Rattle.std.proofs.lemmas.Option.{none-some}
-use Rattle.link_model.specs.Books.{Book, book_of}
+use Rattle.link_model.specs.Books.{book_of}
 use Rattle.link_model.specs.Judgement.{fragment_outcome}
-use Rattle.link_model.specs.Numbers.{Numbered, greatest, least, base_above, enters, is_closed, is_late, is_opened, has_parts, parts_of, picture_number, opened_numbers}
+use Rattle.link_model.specs.Numbers.{Numbered, greatest, least, base_above, is_closed, is_opened, parts_of, opened_numbers}
 use Rattle.link_model.specs.Output.{let_go_numbers}
 use Rattle.link_model.specs.Session.{Fragment}
-use Rattle.link_model.specs.Windows.{NumberedBook, with_number, book_at, Window, new_window, number_by, late_in, opens_picture, rises_to, closed_in, released_up_to, window_enters, window_outcome, Releasable, next_release, releases, finishes, WindowPast, new_past, past_enters, past_releases, past_finishes, past_let_go, releasable_numbers, as_releasable, first_of, greatest_behind, window_of, StandsForPast}
-use Rattle.link_model.specs.declared.outcome.Outcome.{Outcome}
-use Rattle.link_model.proofs.BooksInOrder.{picked, books_over, fewer_books}
+use Rattle.link_model.specs.Windows.{book_at, Window, new_window, number_by, late_in, forgets, opens_picture, rises_to, released_up_to, window_enters, window_outcome, Releasable, next_release, releases, finishes, WindowPast, new_past, past_enters, past_releases, past_finishes, past_let_go, releasable_numbers, as_releasable, first_of, window_of, StandsForPast}
 use Rattle.link_model.proofs.Leaving.{past, let_go_numbers_grow, last_releases}
 use Rattle.link_model.proofs.LettingGo.{is_let_go_by, releasable_over, next_some}
-use Rattle.link_model.proofs.Numbering.{enters_follows, parts_of-outside}
+use Rattle.link_model.proofs.Numbering.{enters_follows}
 use Rattle.link_model.proofs.RisingNumbers.{numbers_over, begins_with, rest_of}
-use Rattle.link_model.proofs.Windowing.{gone_in, needed_by, books_by, books_range, book_of_window, enters_is, outcome_is, finishes_is, releases_is}
+use Rattle.link_model.proofs.Windowing.{gone_in, needed_by, books_by, book_of_window, enters_is, outcome_is, finishes_is, releases_is}
 use Rattle.vc_types.specs.SequenceHeader.{Sequence}
 
 -- ---- lists
@@ -57,6 +55,10 @@ new_stands s size before = record { value = refl; in_order = refl }
 module _ (w : Window) (p : WindowPast) (stands : StandsForPast w p) where
   -- ---- a fragment more
 
+  pub running_is : w.is_ended ≡ false → p.is_ended ≡ false
+  unfolding window_of
+  running_is runs = sym (ap (λ (v : Window). v.is_ended) stands.value) ∙ runs
+
   module _ (runs : p.is_ended ≡ false) (f : Fragment) where
     more_in_order : past_let_go (past_enters p f) ≡ p.released ++ releasable_numbers (past_enters p f)
     more_in_order =
@@ -87,6 +89,14 @@ module _ (w : Window) (p : WindowPast) (stands : StandsForPast w p) where
           → next_release (window_of (record p { entries = es })) ≡ option_map (as_releasable (record p { entries = es })) (first_of (releasable_numbers (record p { entries = es })))
       by_entries [] in_order = ap (λ (l : List ℕ). option_map (as_releasable (record p { entries = [] })) (first_of l)) (sym (ap (drop (length p.released)) (none_yet p.is_ended) ∙ drop_none (length p.released)))
       by_entries (e ∷ es) in_order = next_some (record p { entries = e ∷ es }) in_order refl
+
+  -- its number
+  pub next_number : (n : ℕ) → option_map (λ (r : Releasable). r.number) (next_release w) ≡ Some n → first_of (releasable_numbers p) ≡ Some n
+  next_number n is = sym (ap (option_map (λ (r : Releasable). r.number)) next_is ∙ by_first (first_of (releasable_numbers p))) ∙ is
+    where
+      by_first : (o : Option ℕ) → option_map (λ (r : Releasable). r.number) (option_map (as_releasable p) o) ≡ o
+      by_first None = refl
+      by_first (Some k) = refl
 
   -- ---- a release
 
@@ -163,3 +173,14 @@ module _ (w : Window) (p : WindowPast) (stands : StandsForPast w p) where
 pub late_leaves : (w : Window) (f : Fragment) → late_in w (number_by w f.number) ≡ true → window_enters w f ≡ w
 unfolding window_enters
 late_leaves w f late = cond-true (late_in w (number_by w f.number)) w (rises_to (opens_picture w (number_by w f.number) f.part) (number_by w f.number)) late
+
+-- a fragment doesn't end the input
+pub enters_runs : (w : Window) (f : Fragment) → (window_enters w f).is_ended ≡ w.is_ended
+unfolding window_enters
+enters_runs w f = by_tests (late_in w (number_by w f.number)) (nat_lt w.top (number_by w f.number))
+  where
+    by_tests : (late rises : Bool)
+        → (cond late w (cond rises (forgets (record (opens_picture w (number_by w f.number) f.part) { top = number_by w f.number })) (opens_picture w (number_by w f.number) f.part))).is_ended ≡ w.is_ended
+    by_tests true rises = refl
+    by_tests false true = refl
+    by_tests false false = refl

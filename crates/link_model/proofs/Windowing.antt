@@ -1,21 +1,20 @@
 -- What a window's value is by its past, and that it stays so with a fragment more, a release, and the end of the input.
-use Rattle.std.proofs.Common.{◌≡◌, ℕ, ◌+◌, ◌-◌, ◌^◌, ◌<◌, ◌≤◌, max, Bool, true, false, List, [], ◌∷◌, ◌++◌, map, Option, Some, None, refl, ap, sym, subst, ◌∙◌, inl, inr, arith, cond}
-use Rattle.std.specs.Prelude.{nat_lt, nat_le, not, ◌&&◌, ◌||◌, ◌==◌, unwrap_or, filter}
+use Rattle.std.proofs.Common.{◌≡◌, ℕ, ◌+◌, ◌-◌, ◌^◌, ◌<◌, ◌≤◌, max, Bool, true, false, List, [], ◌∷◌, ◌++◌, map, Option, Some, None, refl, ap, sym, ◌∙◌, inl, inr, arith, cond}
+use Rattle.std.specs.Prelude.{nat_lt, nat_le, not, ◌&&◌, ◌||◌, unwrap_or, filter}
 use Rattle.std.specs.List.{flat_map, range_with_len, last_or}
-use Rattle.std.proofs.lemmas.Bool.{cases_Bool, cases_lt, cases_eq, and_from, and_left, cond-true, cond-false, eq-eqb, ne_eqb, leb-true, le-leb, lt-leb, le-ltb, lt-ltb, ltb-true, ltb-false, leb-false, false≢true, not_from_false, or_parts, or_from}
+use Rattle.std.proofs.lemmas.Bool.{cases_Bool, cases_lt, and_from, and_left, cond-true, cond-false, eq-eqb, leb-true, le-leb, lt-leb, le-ltb, lt-ltb, leb-false, false≢true, not_from_false, or_parts, or_from}
 use Rattle.std.proofs.lemmas.List.{append-nil, map-append}
 use Rattle.link_model.specs.Books.{Book, book_of, book_takes, book_outcome}
 use Rattle.link_model.specs.Judgement.{fragment_outcome, part_outcome}
-use Rattle.link_model.specs.Numbers.{Numbered, greatest, nearest, base_above, picture_number, is_closed, is_late, is_opened, has_parts, enters, parts_of, least, opened_numbers}
+use Rattle.link_model.specs.Numbers.{Numbered, greatest, nearest, base_above, picture_number, is_closed, is_late, is_opened, has_parts, parts_of, least, opened_numbers}
 use Rattle.link_model.specs.Session.{Part, Fragment}
-use Rattle.link_model.specs.Windows.{NumberedBook, with_number, book_at, with_part, Window, number_by, late_in, closed_in, released_up_to, stays_in, forgets, opens_picture, rises_to, window_enters, book_in, window_outcome, releases, finishes, WindowPast, past_enters, past_releases, past_finishes, is_needed, needed_numbers, past_book, greatest_behind, is_nothing, window_of}
-use Rattle.link_model.specs.declared.outcome.Outcome.{Outcome}
+use Rattle.link_model.specs.Windows.{NumberedBook, with_number, book_at, with_part, Window, number_by, late_in, released_up_to, stays_in, forgets, opens_picture, rises_to, window_enters, book_in, window_outcome, releases, finishes, WindowPast, past_enters, past_releases, past_finishes, is_needed, needed_numbers, past_book, greatest_behind, is_nothing, window_of}
 use Rattle.link_model.specs.declared.outcome.Outcome.TheVariants.{Late}
 use Rattle.link_model.proofs.Apart.{base_is_above}
 use Rattle.link_model.proofs.Bookkeeping.{takes-more, book_outcome_is}
 use Rattle.link_model.proofs.BooksInOrder.{picked, books_over, book_inside, same_books, fewer_books, part_inside}
-use Rattle.link_model.proofs.Leaving.{one, past, passing, passing-over}
-use Rattle.link_model.proofs.Numbering.{greatest-append, parts_of-append, parts_of-other, late_changes_nothing, early_enters, early_is}
+use Rattle.link_model.proofs.Leaving.{past, passing, passing-over}
+use Rattle.link_model.proofs.Numbering.{greatest-append, parts_of-append, parts_of-other, late_changes_nothing, early_enters}
 use Rattle.vc_types.specs.SequenceHeader.{Sequence}
 
 -- ---- its books

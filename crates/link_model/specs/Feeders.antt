@@ -46,18 +46,18 @@ entered_session window hs h = record {
 }
 
 -- the session in which a picture is opened
-unfoldable pub session_of : ℕ → List HeardSession → ℕ → Option EnteredSession
-session_of window [] n = None
-session_of window (h ∷ hs) n =
+unfoldable pub session_opening : ℕ → List HeardSession → ℕ → Option EnteredSession
+session_opening window [] n = None
+session_opening window (h ∷ hs) n =
     if is_opened (entered_behind window hs h) n then Some (entered_session window hs h)
-    else session_of window hs n
+    else session_opening window hs n
 
 abbrev pub keeps_of : EnteredSession → ℕ → Option Own
 keeps_of e n = own e.sequence (parts_of n e.entries)
 
 -- what a picture keeps
 abbrev pub picture_keeps : ℕ → List HeardSession → ℕ → Option Own
-picture_keeps window hs n = option_and_then (λ e. keeps_of e n) (session_of window hs n)
+picture_keeps window hs n = option_and_then (λ e. keeps_of e n) (session_opening window hs n)
 
 abbrev pub job_with : Own → ℕ → ℕ → List ℕ → Job
 job_with kept n i bytes = record {
@@ -77,18 +77,18 @@ kept_job window hs n i = option_and_then (λ kept. job_by kept n i) (picture_kee
 -- ---- pictures that are let go
 
 -- the pictures of all sessions, in rising order
-unfoldable pub pictures_of : ℕ → List HeardSession → List ℕ
-pictures_of window [] = []
-pictures_of window (h ∷ hs) = pictures_of window hs ++ opened_numbers (entered_behind window hs h)
+unfoldable pub heard_pictures : ℕ → List HeardSession → List ℕ
+heard_pictures window [] = []
+heard_pictures window (h ∷ hs) = heard_pictures window hs ++ opened_numbers (entered_behind window hs h)
 
 -- Those that are let go, in rising order: all pictures of the sessions before the last, and of the
 -- last one those that are closed, or before which every picture that isn't is complete. All, once
 -- the input has ended.
 unfoldable pub let_go_pictures : ℕ → Bool → List HeardSession → List ℕ
-let_go_pictures window true hs = pictures_of window hs
+let_go_pictures window true hs = heard_pictures window hs
 let_go_pictures window false [] = []
 let_go_pictures window false (h ∷ hs) =
-    pictures_of window hs ++ let_go_numbers window h.session.sequence (entered_behind window hs h)
+    heard_pictures window hs ++ let_go_numbers window h.session.sequence (entered_behind window hs h)
 
 abbrev pub is_among : List ℕ → ℕ → Bool
 is_among numbers n = list_any (λ m. m == n) numbers
@@ -102,8 +102,8 @@ releasable window f =
     not_released f.released (let_go_pictures window f.has_ended (sessions_of f.heard))
 
 -- the least of them
-abbrev pub next_release : ℕ → Feeder → Option ℕ
-next_release window f = slice_get (releasable window f) 0
+abbrev pub next_to_release : ℕ → Feeder → Option ℕ
+next_to_release window f = slice_get (releasable window f) 0
 
 -- ---- answers
 

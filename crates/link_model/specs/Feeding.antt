@@ -4,7 +4,7 @@ use Rattle.std.specs.Prelude.{ℕ, ◌-◌, ◌%◌, ◌==◌, Bool, true, false
 use Rattle.std.specs.Prelude.{[], ◌∷◌, ◌++◌, bytes_eq, Option, Some, None, Result, Ok, Err}
 use Rattle.std.specs.Option.{option_and_then, option_map, option_map_or, option_zip}
 use Rattle.link_model.specs.Complete.{slice_numbers}
-use Rattle.link_model.specs.Feeders.{SliceAnswer, Feeder, EnteredSession, session_of, keeps_of}
+use Rattle.link_model.specs.Feeders.{SliceAnswer, Feeder, EnteredSession, session_opening, keeps_of}
 use Rattle.link_model.specs.Feeders.{slice_job, answer_in, is_decoded, has_released}
 use Rattle.link_model.specs.Kept.{Own}
 use Rattle.link_model.specs.Output.{raw_bytes, woven_fields}
@@ -97,5 +97,5 @@ abbrev pub releases_picture : ℕ → Feeder → ℕ → Feeder
 releases_picture window f n = record f {
   released = f.released ++ n ∷ [];
   written = f.written
-      ++ option_map_or (built_bytes f.decoded n) (session_of window (sessions_of f.heard) n) [];
+      ++ option_map_or (built_bytes f.decoded n) (session_opening window (sessions_of f.heard) n) [];
 }

@@ -17,9 +17,8 @@ use Rattle.link_model.specs.declared.refusal.RtpRefusal.{RtpRefusal}
 use Rattle.link_model.specs.declared.refusal.RtpRefusal.TheVariants as rtp_refusals
 use Rattle.link_model.specs.declared.tally.Tally.{Tally}
 use Rattle.vc_types.specs.SequenceHeader.{Sequence, coded_header}
-use Rattle.vc_types.specs.TransformParameters.{Parameters, coded_parameters}
+use Rattle.vc_types.specs.TransformParameters.{coded_parameters}
 use Rattle.vc_types.specs.declared.refusal.HeaderRefusal.{HeaderRefusal}
-use Rattle.vc_types.specs.declared.refusal.ParamsRefusal.{ParamsRefusal}
 
 -- ---- a part of a picture, by the parts before it
 

@@ -37,23 +37,23 @@ part_slices (ParamsPart body) = None
 part_slices (SlicesPart slices) = Some slices
 
 -- the first parameters that are accepted, and the slices that came before and behind them
-pub record Parted : Type 0 where
+pub record SplitParts : Type 0 where
   pub plan : KeptParameters
   pub before : List SlicePart
   pub behind : List SlicePart
 
-abbrev pub parted_by : List Part → KeptParameters → Parted
-parted_by behind plan = record { plan = plan; before = []; behind = filter_map part_slices behind }
+abbrev pub split_by : List Part → KeptParameters → SplitParts
+split_by behind plan = record { plan = plan; before = []; behind = filter_map part_slices behind }
 
-abbrev pub also_before : Part → Parted → Parted
+abbrev pub also_before : Part → SplitParts → SplitParts
 also_before (ParamsPart body) p = p
 also_before (SlicesPart slices) p = record p { before = slices ∷ p.before }
 
-unfoldable pub parted : Sequence → List Part → Option Parted
-parted sequence [] = None
-parted sequence (part ∷ parts) =
-    option_map_or (λ plan. Some (parted_by parts plan)) (parameters_in sequence part)
-    (option_map (also_before part) (parted sequence parts))
+unfoldable pub split_parts : Sequence → List Part → Option SplitParts
+split_parts sequence [] = None
+split_parts sequence (part ∷ parts) =
+    option_map_or (λ plan. Some (split_by parts plan)) (parameters_in sequence part)
+    (option_map (also_before part) (split_parts sequence parts))
 
 -- ---- slices
 
@@ -118,7 +118,7 @@ abbrev pub runs_of : Parameters → List SlicePart → List SliceRun
 runs_of p parts = filter_map (λ s. run_taken (slice_run p s)) parts
 
 -- of the slices before the parameters only so many wait
-abbrev pub own_of : Parted → Own
+abbrev pub own_of : SplitParts → Own
 own_of p = record {
   plan = p.plan;
   runs = runs_of p.plan.parameters (take waiting_limit p.before ++ p.behind);
@@ -126,7 +126,7 @@ own_of p = record {
 
 -- what a picture keeps of its parts, once it has parameters
 unfoldable pub own : Sequence → List Part → Option Own
-own sequence parts = option_map own_of (parted sequence parts)
+own sequence parts = option_map own_of (split_parts sequence parts)
 
 abbrev pub slice_in : SliceRun → ℕ → Option (List ℕ)
 slice_in run i = if nat_le run.first i then slice_get run.slices (i - run.first) else None

@@ -5,7 +5,7 @@ use Rattle.std.specs.Prelude.{◌≡◌, ℕ, ◌+◌, Bool, true, false, ◌&&�
 use Rattle.std.specs.Prelude.{position, Option, None}
 use Rattle.std.specs.Option.{option_map, option_map_or}
 use Rattle.link_model.specs.Feeders.{Feeder, new_feeder, is_closed_now, is_decoded, is_kept}
-use Rattle.link_model.specs.Feeders.{is_ready, slice_job, next_release, keeps_now}
+use Rattle.link_model.specs.Feeders.{is_ready, slice_job, next_to_release, keeps_now}
 use Rattle.link_model.specs.Feeding.{hears_datagram, hears_end, redoes_slice, releases_picture}
 use Rattle.link_model.specs.Feeding.{takes_answer}
 use Rattle.link_model.specs.Places.{Content, Decoded, JobPlace, unused_places, place_at, is_in}
@@ -37,7 +37,7 @@ pub data Event : Type 0 where
 
 -- it is the least picture that may be released
 abbrev pub is_next : ℕ → Feeder → ℕ → Bool
-is_next window f n = option_map_or (λ m. m == n) (next_release window f) false
+is_next window f n = option_map_or (λ m. m == n) (next_to_release window f) false
 
 -- where it is complete, all its slices are decoded
 abbrev pub has_answers : ℕ → Feeder → ℕ → Bool

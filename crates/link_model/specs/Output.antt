@@ -119,13 +119,13 @@ is_closed_in window (h ∷ hs) n =
 abbrev pub is_closed_behind : ℕ → List (List ℕ) → ℕ → ℕ → Bool
 is_closed_behind window datagrams n k = is_closed_in window (sessions_of (take (k + 1) datagrams)) n
 
-abbrev pub places_of : List (List ℕ) → List ℕ
-places_of datagrams = range_with_len 0 (length datagrams)
+abbrev pub datagram_places : List (List ℕ) → List ℕ
+datagram_places datagrams = range_with_len 0 (length datagrams)
 
 -- the first place behind which a picture is closed, or the length of the list
 unfoldable pub closing_place : ℕ → List (List ℕ) → ℕ → ℕ
 closing_place window datagrams n =
-    length (take_while (λ k. not (is_closed_behind window datagrams n k)) (places_of datagrams))
+    length (take_while (λ k. not (is_closed_behind window datagrams n k)) (datagram_places datagrams))
 
 -- ---- how it grows
 

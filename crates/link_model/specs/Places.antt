@@ -1,7 +1,8 @@
 -- Places between a feeder and its workers (this project's own). A place has the job of a slice or
 -- nothing, and a serial that rises with each job, so that a worker that was slow doesn't meet the
 -- next job of the place that it held.
-use Rattle.std.specs.Prelude.{ℕ, ◌+◌, ◌^◌, Bool, true, false, ◌&&◌, nat_lt, ◌==◌, if◌then◌else◌}
+use Rattle.std.specs.Prelude.{◌≡◌, ℕ, ◌+◌, ◌^◌, Bool, true, false, ◌&&◌, nat_lt, ◌==◌}
+use Rattle.std.specs.Prelude.{if◌then◌else◌}
 use Rattle.std.specs.Prelude.{List, length, slice_index_or, slice_set, replicate, Option, Some}
 use Rattle.std.specs.Prelude.{None, Result}
 use Rattle.std.specs.List.{list_any}
@@ -138,3 +139,19 @@ completes_job places place serial =
 -- what stood there is taken back, withdrawn or left
 abbrev pub frees_place : List JobPlace → ℕ → List JobPlace
 frees_place places place = with_content places place Nothing
+
+-- ---- what holds of them
+
+-- no slice stands in two places
+abbrev pub AreApart : List JobPlace → Type 0
+AreApart places = (number index p q : ℕ)
+    → has_slice number index (place_at places p) ≡ true
+    → has_slice number index (place_at places q) ≡ true → p ≡ q
+
+abbrev pub HasOwnAnswer : Content → Type 0
+HasOwnAnswer (Decoded done) = done.answer ≡ decoding done.job
+HasOwnAnswer other = Unit {0}
+
+-- what was decoded is each time the job's own decoding
+abbrev pub HaveOwnAnswers : List JobPlace → Type 0
+HaveOwnAnswers places = (place : ℕ) → HasOwnAnswer (place_at places place).content

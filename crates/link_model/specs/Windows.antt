@@ -3,7 +3,7 @@ use Rattle.std.specs.Prelude.{◌≡◌, ℕ, ◌+◌, ◌-◌, ◌^◌, Bool, t
 use Rattle.std.specs.List.{list_all, last_or}
 use Rattle.std.specs.Option.{option_map_or, option_and_then}
 use Rattle.link_model.specs.Books.{book_whole, Book, book_of, book_takes, book_outcome}
-use Rattle.link_model.specs.Numbers.{Numbered, greatest, nearest, base_above, enters, is_closed, is_opened, opened_numbers, parts_of, span}
+use Rattle.link_model.specs.Numbers.{Numbered, greatest, nearest, base_above, enters, is_closed, opened_numbers, parts_of, span}
 use Rattle.link_model.specs.Output.{complete_at, let_go_numbers, greatest_of, entered_behind}
 use Rattle.link_model.specs.Session.{Fragment, Part, HeardSession}
 use Rattle.link_model.specs.declared.outcome.Outcome.{Outcome}

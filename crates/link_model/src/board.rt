@@ -1,7 +1,7 @@
 use std::collections::LinkedList;
 
-/// What the feeder knows of a place: its serial, whether its slot was fetched once, and whether it is out, that is not
-/// empty.
+/// What the feeder knows of a place: its serial, whether its slot was fetched once, and whether it
+/// is out, that is not empty.
 #[derive(Clone, Copy)]
 pub struct Lane {
     pub serial: u64,
@@ -23,8 +23,9 @@ pub struct Seen {
     pub word: u64,
 }
 
-/// What a seat at the claim board knows. It is there for definitions: no value of it is made.
-pub struct View {
+/// What a seat at a claim board knows, whose slots have this cargo. It is there for definitions: no
+/// value of it is made.
+pub struct View<C> {
     /// Whether it is the feeder's.
     pub feeds: bool,
     /// By place, for the feeder.
@@ -32,5 +33,7 @@ pub struct View {
     pub held: LinkedList<Hold>,
     /// What was read last, if anything was.
     pub last: Option<Seen>,
+    /// What was in the slot that it opened last, if it opened one.
+    pub opened: Option<C>,
     pub steps: u64,
 }

@@ -6,7 +6,7 @@ ghost use Rattle.link_model.specs.Complete.{whole_picture};
 ghost use Rattle.link_model.specs.Judgement.{part_outcome, keeps, fragment_outcome, outcome_behind, outcomes_in, with_outcome, outcome_counts};
 ghost use Rattle.link_model.specs.Kept.{Own, own, own_slice};
 ghost use Rattle.link_model.specs.Numbers.{Numbered, base_above, is_opened, greatest, nearest, picture_number, is_closed, is_late, enters, entered, parts_of, opened_numbers};
-ghost use Rattle.link_model.specs.Output.{is_let_go, let_go_numbers, frame_bytes_at, frames_so_far, all_frames, output_so_far, full_output, greatest_of, entered_behind, is_opened_in, all_output, last_so_far, IsPrefixOf};
+ghost use Rattle.link_model.specs.Output.{is_let_go, let_go_numbers, frame_bytes_at, frames_so_far, all_frames, output_so_far, full_output, greatest_of, entered_behind, is_opened_in, is_closed_behind, closing_place, all_output, last_so_far, IsPrefixOf};
 ghost use Rattle.link_model.specs.Packets.{RtpPacket, RtpFits, rtp_packet, rtp_header, PayloadValue, IsWritable, payload, payload_bytes, read_back};
 ghost use Rattle.link_model.specs.Session.{Part, Fragment, Session, HeardSession, just_opened, is_other, opens_other, opens_behind, opens_next, with_datagram, hears, sessions_of, begins, ends, fragment_in};
 ghost use Rattle.link_model.specs.declared.outcome.Outcome.TheVariants.{HeaderNew, End};
@@ -96,6 +96,16 @@ pub fn what_is_not_kept_changes_nothing()
         → book_takes book part ≡ book }
 {}
 
+/// A picture isn't closed behind any place before its closing place, and behind that one it is.
+#[tactic(auto, using(crate::proofs::Closing::laws))]
+pub fn pictures_close_at_their_place()
+    ensures before { (window : ℕ) (datagrams : List (List ℕ)) (n k : ℕ)
+        → k < closing_place window datagrams n → is_closed_behind window datagrams n k ≡ false }
+    ensures at { (window : ℕ) (datagrams : List (List ℕ)) (n : ℕ)
+        → closing_place window datagrams n < length datagrams
+        → is_closed_behind window datagrams n (closing_place window datagrams n) ≡ true }
+{}
+
 /// A picture's number has the 32 bits that were sent, is at most half of their range away from the greatest one, and fits
 /// 64 bits.
 #[tactic(auto, using(crate::proofs::Wrapping::laws))]
@@ -165,13 +175,16 @@ pub fn sessions_follow_each_other()
         } ∷ hs }
 {}
 
-/// A datagram that opens a session is HeaderNew, an end of the last session is End, and a fragment of it has the fragment's
+/// A datagram that opens a session is HeaderNew, and no other is; an end of the last session is End, and a fragment of it has the fragment's
 /// outcome by what was entered of that session; any other leaves the sessions as they were.
-#[tactic(auto, using(crate::proofs::SessionOutcomes::laws))]
+#[tactic(auto, using(crate::proofs::SessionOutcomes::laws, crate::proofs::OpeningOutcomes::new_is_opening))]
 pub fn outcomes_say_what_datagrams_do()
     ensures new { (window : ℕ) (before : List (List ℕ)) (d : List ℕ) (s : Session)
         → opens_next (sessions_of before) (begins d) ≡ Some s → outcome_behind window before d
         ≡ HeaderNew }
+    ensures new_only { (window : ℕ) (before : List (List ℕ)) (d : List ℕ)
+        → outcome_behind window before d ≡ HeaderNew
+        → (s : Session) × (opens_next (sessions_of before) (begins d) ≡ Some s) }
     ensures fragment { (window : ℕ) (h : HeardSession) (hs : List HeardSession) (before : List (List ℕ))
         → sessions_of before ≡ h ∷ hs → (d : List ℕ) (f : Fragment) → fragment_in h.session d
         ≡ Some f → outcome_behind window before d

@@ -10,6 +10,7 @@ fn laws_hold() {
     what_is_kept_stays();
     let_go_pictures_stay();
     pictures_leave_in_order();
+    pictures_close_at_their_place();
     sessions_are_written_in_order();
     output_only_grows();
     outcomes_are_counted();
@@ -20,4 +21,8 @@ fn laws_hold() {
     windows_release_in_order();
     windows_stay_small();
     windows_follow_sessions();
+    every_interleaving_writes_what_is_due();
+    every_answer_is_its_own_slice();
+    the_feeder_is_never_stuck();
+    events_are_legal_in_two_halves();
 }

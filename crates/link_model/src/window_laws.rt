@@ -1,4 +1,4 @@
-ghost use Rattle.std.specs.Prelude.{◌≡◌, ℕ, ◌<◌, ◌≤◌, ◌^◌, true, false, ◌&&◌, ◌||◌, not, if◌then◌else◌, List, ◌∷◌, filter, length, Some, None};
+ghost use Rattle.std.specs.Prelude.{◌≡◌, ℕ, ◌<◌, ◌≤◌, ◌^◌, true, false, ◌&&◌, ◌||◌, not, if◌then◌else◌, List, [], ◌∷◌, filter, length, Some, None};
 ghost use Rattle.std.specs.List.{last_or};
 ghost use Rattle.std.specs.Option.{option_map};
 ghost use Rattle.link_model.specs.Books.{book_of};
@@ -48,13 +48,16 @@ pub fn windows_release_in_order()
         → released_up_to (last_or None p.released) m ≡ true → m < n }
 {}
 
-/// At most as many pictures as may be open have books without being closed, so once all that are let go are released these
-/// are all books. A late fragment changes nothing.
+/// At most as many pictures as may be open have books without being closed, and once all that are let go are released these
+/// are all books. A late fragment changes nothing, and no fragment ends the input.
 pub fn windows_stay_small()
     ensures few { (w : Window) (p : WindowPast) → StandsForPast w p
         → length (filter (λ (b : NumberedBook). not (closed_in w b.number)) w.books) ≤ w.size }
+    ensures all { (w : Window) (p : WindowPast) → StandsForPast w p → releasable_numbers p ≡ []
+        → length w.books ≤ w.size }
     ensures late { (w : Window) (f : Fragment) → late_in w (number_by w f.number) ≡ true
         → window_enters w f ≡ w }
+    ensures running { (w : Window) (f : Fragment) → (window_enters w f).is_ended ≡ w.is_ended }
 {}
 
 /// The window of a list's last session: its past goes on with each datagram, its greatest number is that of all sessions

@@ -140,8 +140,8 @@ pub nothing_kept : (size n i : ℕ) → kept_job size [] n i ≡ None
 unfolding kept_job session_of
 nothing_kept size n i = refl
 
-no_session : (size n : ℕ) → session_of size [] n ≡ None
-unfolding session_of
+no_session : (size n : ℕ) → session_opening size [] n ≡ None
+unfolding session_opening
 no_session size n = refl
 
 pub nothing_kept_yet : (size : ℕ) (s : Session) (n i : ℕ)

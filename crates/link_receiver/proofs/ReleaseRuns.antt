@@ -259,8 +259,8 @@ module _ (size : ℕ) (hs : List HeardSession) (t : Tally) where
     releasable_are =
         ap (λ (l : List ℕ). not_released l
         (let_go_pictures size f.has_ended (sessions_of f.heard))) works.released
-        ∙ ap (not_released (pictures_of size hs ++ p.released)) works.let_go
-        ∙ unreleased_are p works.window.in_order (pictures_of size hs) works.apart
+        ∙ ap (not_released (heard_pictures size hs ++ p.released)) works.let_go
+        ∙ unreleased_are p works.window.in_order (heard_pictures size hs) works.apart
 
     books_are : book_count r ≡ length (window_of p).books
     books_are =

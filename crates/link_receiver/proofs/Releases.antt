@@ -309,7 +309,7 @@ module _ (r : Reception) (size : ℕ) (f : Feeder) (hs : List HeardSession) (p :
     window = releases_stands st.window p works.window n next;
     let_go = works.let_go;
     released = ap (λ (l : List ℕ). l ++ n ∷ []) works.released
-        ∙ append_assoc (pictures_of size hs) p.released (n ∷ []);
+        ∙ append_assoc (heard_pictures size hs) p.released (n ∷ []);
     opened = works.opened;
     others = works.others;
     apart = works.apart;

@@ -85,11 +85,11 @@ has_more (part ∷ parts) more e = refl
 
 module _ (window : ℕ) where
   pub pictures_among : (hs : List HeardSession) (n : ℕ)
-      → is_among (pictures_of window hs) n ≡ is_opened_in window hs n
-  unfolding pictures_of
+      → is_among (heard_pictures window hs) n ≡ is_opened_in window hs n
+  unfolding heard_pictures
   pictures_among [] n = refl
   pictures_among (h ∷ hs) n =
-      among_append (pictures_of window hs) (opened_numbers (entered_behind window hs h)) n
+      among_append (heard_pictures window hs) (opened_numbers (entered_behind window hs h)) n
       ∙ ap (λ (b : Bool). b || is_among (opened_numbers (entered_behind window hs h)) n)
       (pictures_among hs n)
       ∙ ap (λ (b : Bool). is_opened_in window hs n || b)
@@ -97,33 +97,33 @@ module _ (window : ℕ) where
       ∙ or_turned (is_opened_in window hs n) (is_opened (entered_behind window hs h) n)
 
   pub session_none : (hs : List HeardSession) (n : ℕ) → is_opened_in window hs n ≡ false
-      → session_of window hs n ≡ None
-  unfolding session_of
+      → session_opening window hs n ≡ None
+  unfolding session_opening
   session_none [] n none = refl
   session_none (h ∷ hs) n none =
       let parts = or_parts (is_opened (entered_behind window hs h) n) (is_opened_in window hs n)
       none in
       cond-false (is_opened (entered_behind window hs h) n) (Some (entered_session window hs h))
-      (session_of window hs n) parts.0
+      (session_opening window hs n) parts.0
       ∙ session_none hs n parts.1
 
   module _ (h : HeardSession) (hs : List HeardSession) (n : ℕ) where
     pub session_last : is_opened (entered_behind window hs h) n ≡ true
-        → session_of window (h ∷ hs) n ≡ Some (entered_session window hs h)
-    unfolding session_of
+        → session_opening window (h ∷ hs) n ≡ Some (entered_session window hs h)
+    unfolding session_opening
     session_last opened =
         cond-true (is_opened (entered_behind window hs h) n) (Some (entered_session window hs h))
-        (session_of window hs n) opened
+        (session_opening window hs n) opened
 
     pub session_before : is_opened (entered_behind window hs h) n ≡ false
-        → session_of window (h ∷ hs) n ≡ session_of window hs n
-    unfolding session_of
+        → session_opening window (h ∷ hs) n ≡ session_opening window hs n
+    unfolding session_opening
     session_before shut =
         cond-false (is_opened (entered_behind window hs h) n) (Some (entered_session window hs h))
-        (session_of window hs n) shut
+        (session_opening window hs n) shut
 
   pub session_opens : (s : Session) (hs : List HeardSession) (n : ℕ)
-      → session_of window (just_opened s ∷ hs) n ≡ session_of window hs n
+      → session_opening window (just_opened s ∷ hs) n ≡ session_opening window hs n
   session_opens s hs n = session_before (just_opened s) hs n (nothing_opened n)
 
 -- ---- what a picture keeps, later
@@ -168,16 +168,16 @@ module _ (window : ℕ) (small : window ≤ 8) (n : ℕ) (kept : Own) where
           record { plan = later.2; slices = later.3 },
         )
 
-    of_earlier : is_opened old n ≡ false → keeps_in (session_of window hs n) ≡ Some kept
-        → keeps_in (session_of window (with_datagram h d ∷ hs) n) ≡ Some kept
+    of_earlier : is_opened old n ≡ false → keeps_in (session_opening window hs n) ≡ Some kept
+        → keeps_in (session_opening window (with_datagram h d ∷ hs) n) ≡ Some kept
     of_earlier shut is = elim (cases_Bool (is_opened_in window hs n)) [
       | inl was ↦ ap keeps_in (session_before window (with_datagram h d) hs n
           (sessions_apart window hs (with_datagram h d) n small was)) ∙ is
       | inr none ↦ absurd (none-some kept (sym (ap keeps_in (session_none window hs n none)) ∙ is))
     ]
 
-    last_keeps : keeps_in (session_of window (h ∷ hs) n) ≡ Some kept
-        → IsKeptOn kept (keeps_in (session_of window (with_datagram h d ∷ hs) n))
+    last_keeps : keeps_in (session_opening window (h ∷ hs) n) ≡ Some kept
+        → IsKeptOn kept (keeps_in (session_opening window (with_datagram h d ∷ hs) n))
     last_keeps is = elim (cases_Bool (is_opened old n)) [
       | inl was ↦ (let later = own_later
           (sym (ap keeps_in (session_last window h hs n was)) ∙ is) in (
@@ -185,14 +185,14 @@ module _ (window : ℕ) (small : window ≤ 8) (n : ℕ) (kept : Own) where
             ap keeps_in (session_last window (with_datagram h d) hs n (still_opened was)) ∙ later.1,
             later.2,
           ))
-      | inr shut ↦ kept_same kept (keeps_in (session_of window (with_datagram h d ∷ hs) n))
+      | inr shut ↦ kept_same kept (keeps_in (session_opening window (with_datagram h d ∷ hs) n))
           (of_earlier shut (sym (ap keeps_in (session_before window h hs n shut)) ∙ is))
     ]
 
   module _ (hs : List HeardSession) (d : List ℕ) where
-    last_with_keeps : (hs : List HeardSession) → keeps_in (session_of window hs n) ≡ Some kept
-        → IsKeptOn kept (keeps_in (session_of window (last_with hs d) n))
-    unfolding session_of
+    last_with_keeps : (hs : List HeardSession) → keeps_in (session_opening window hs n) ≡ Some kept
+        → IsKeptOn kept (keeps_in (session_opening window (last_with hs d) n))
+    unfolding session_opening
     last_with_keeps [] is = absurd (none-some kept is)
     last_with_keeps (h ∷ hs) is = last_keeps h hs d is
 

@@ -79,7 +79,7 @@ module _ (r : Reception) (size : ℕ) (small : size ≤ 8) (f : Feeder) (stands 
       (outcome_counts (outcomes_in size f.heard))) at
 
   let_go_at_rest : let_go_pictures size f.has_ended (sessions_of f.heard)
-      ≡ pictures_of size hs ++ past_let_go past_at_rest
+      ≡ heard_pictures size hs ++ past_let_go past_at_rest
   unfolding let_go_pictures
   let_go_at_rest =
       ap (λ (over : Bool). let_go_pictures size over (sessions_of f.heard)) runs
@@ -101,10 +101,10 @@ module _ (r : Reception) (size : ℕ) (small : size ≤ 8) (f : Feeder) (stands 
     window = resting_stands (last_past size false hs h);
     let_go = let_go_at_rest;
     released = stands.released ∙ let_go_at_rest;
-    opened = λ n opened. ap (λ (l : List HeardSession). session_of size l n) at
+    opened = λ n opened. ap (λ (l : List HeardSession). session_opening size l n) at
         ∙ of_last size h hs n opened;
     others = λ n shut. subst (λ (l : List HeardSession).
-        (is_among (pictures_of size hs) n ≡ true) ⊎ (session_of size l n ≡ None)) (sym at)
+        (is_among (heard_pictures size hs) n ≡ true) ⊎ (session_opening size l n ≡ None)) (sym at)
         (of_others size h hs n shut);
     apart = not_before size h hs small;
     written = written_at_rest;
@@ -247,7 +247,7 @@ module _ (r : Reception) (size : ℕ) (small : size ≤ 8) (f : Feeder) (stands 
           or_later false e = e
 
       let_go_now : let_go_pictures size f.has_ended (sessions_of now_heard)
-          ≡ pictures_of size hs ++ past_let_go past_now
+          ≡ heard_pictures size hs ++ past_let_go past_now
       unfolding let_go_pictures
       let_go_now =
           ap (λ (over : Bool). let_go_pictures size over (sessions_of now_heard)) runs
@@ -264,10 +264,10 @@ module _ (r : Reception) (size : ℕ) (small : size ≤ 8) (f : Feeder) (stands 
         window = window_now;
         let_go = let_go_now;
         released = stands.released ∙ let_go_at_rest;
-        opened = λ n opened. ap (λ (l : List HeardSession). session_of size l n) sessions_now
+        opened = λ n opened. ap (λ (l : List HeardSession). session_opening size l n) sessions_now
             ∙ of_last size h_now hs n opened;
         others = λ n shut. subst (λ (l : List HeardSession).
-            (is_among (pictures_of size hs) n ≡ true) ⊎ (session_of size l n ≡ None))
+            (is_among (heard_pictures size hs) n ≡ true) ⊎ (session_opening size l n ≡ None))
             (sym sessions_now) (of_others size h_now hs n shut);
         apart = not_before size h_now hs small;
         written = written_at_rest ∙ ap (λ (l : List ℕ). all_output size hs ++ l)
@@ -297,16 +297,16 @@ module _ (r : Reception) (size : ℕ) (small : size ≤ 8) (f : Feeder) (stands 
           ∙ hears_new (h ∷ hs) d s opens
 
       let_go_next : let_go_pictures size f.has_ended (sessions_of now_heard)
-          ≡ pictures_of size hs ++ past_let_go past_over
-      unfolding let_go_pictures pictures_of let_go_numbers opened_numbers greatest least parts_of
+          ≡ heard_pictures size hs ++ past_let_go past_over
+      unfolding let_go_pictures heard_pictures let_go_numbers opened_numbers greatest least parts_of
       let_go_next =
           ap (λ (over : Bool). let_go_pictures size over (sessions_of now_heard)) runs
           ∙ ap (let_go_pictures size false) sessions_next
-          ∙ append-nil (pictures_of size (h ∷ hs))
+          ∙ append-nil (heard_pictures size (h ∷ hs))
 
-      session_next : (n : ℕ) → session_of size (sessions_of now_heard) n
-          ≡ session_of size (h ∷ hs) n
-      session_next n = ap (λ (l : List HeardSession). session_of size l n) sessions_next
+      session_next : (n : ℕ) → session_opening size (sessions_of now_heard) n
+          ≡ session_opening size (h ∷ hs) n
+      session_next n = ap (λ (l : List HeardSession). session_opening size l n) sessions_next
           ∙ session_opens size s (h ∷ hs) n
 
       pub next_works : IsWorking (keeps_datagram r d) size (hears_datagram f d) hs past_over
@@ -323,7 +323,7 @@ module _ (r : Reception) (size : ℕ) (small : size ≤ 8) (f : Feeder) (stands 
         released = stands.released ∙ let_go_at_rest;
         opened = λ n opened. session_next n ∙ of_last size h hs n opened;
         others = λ n shut. subst (λ (o : Option EnteredSession).
-            (is_among (pictures_of size hs) n ≡ true) ⊎ (o ≡ None))
+            (is_among (heard_pictures size hs) n ≡ true) ⊎ (o ≡ None))
             (sym (session_next n)) (of_others size h hs n shut);
         apart = not_before size h hs small;
         written = written_at_rest;
@@ -338,8 +338,8 @@ module _ (r : Reception) (size : ℕ) (small : size ≤ 8) (f : Feeder) (stands 
   -- ---- the end of the input
 
   end_let_go : let_go_pictures size true (sessions_of f.heard)
-      ≡ pictures_of size hs ++ past_let_go (past_finishes past_at_rest)
-  unfolding let_go_pictures pictures_of
+      ≡ heard_pictures size hs ++ past_let_go (past_finishes past_at_rest)
+  unfolding let_go_pictures heard_pictures
   end_let_go = ap (let_go_pictures size true) at
 
   pub end_works : IsWorking (ends_input r) size (hears_end f) hs (past_finishes past_at_rest)

@@ -57,14 +57,14 @@ pub record IsWorking (r : Reception) (size : ℕ) (f : Feeder) (hs : List HeardS
   pub sequence : st.session.sequence ≡ p.sequence
   pub window : StandsForPast st.window p
   pub let_go : let_go_pictures size f.has_ended (sessions_of f.heard)
-      ≡ pictures_of size hs ++ past_let_go p
-  pub released : f.released ≡ pictures_of size hs ++ p.released
+      ≡ heard_pictures size hs ++ past_let_go p
+  pub released : f.released ≡ heard_pictures size hs ++ p.released
   pub opened : (n : ℕ) → is_opened p.entries n ≡ true
-      → session_of size (sessions_of f.heard) n ≡ Some (entered_of p)
+      → session_opening size (sessions_of f.heard) n ≡ Some (entered_of p)
   pub others : (n : ℕ) → is_opened p.entries n ≡ false
-      → (is_among (pictures_of size hs) n ≡ true)
-      ⊎ (session_of size (sessions_of f.heard) n ≡ None)
-  pub apart : (n : ℕ) → is_opened p.entries n ≡ true → is_among (pictures_of size hs) n ≡ false
+      → (is_among (heard_pictures size hs) n ≡ true)
+      ⊎ (session_opening size (sessions_of f.heard) n ≡ None)
+  pub apart : (n : ℕ) → is_opened p.entries n ≡ true → is_among (heard_pictures size hs) n ≡ false
   pub written : f.written
       ≡ all_output size hs ++ flat_map (frame_bytes_at p.sequence p.entries) p.released
   pub own : AreOwnAnswers size (sessions_of f.heard) f.decoded
@@ -79,9 +79,9 @@ pub record IsWorking (r : Reception) (size : ℕ) (f : Feeder) (hs : List HeardS
 module _ (r : Reception) (size : ℕ) (f : Feeder) (hs : List HeardSession) (p : WindowPast)
     (st : StandingSession) (t : Tally) (works : IsWorking r size f hs p st t) where
   pub released_parts : (n : ℕ)
-      → has_released f n ≡ (is_among (pictures_of size hs) n || is_among p.released n)
+      → has_released f n ≡ (is_among (heard_pictures size hs) n || is_among p.released n)
   released_parts n = ap (λ (l : List ℕ). is_among l n) works.released
-      ∙ among_append (pictures_of size hs) p.released n
+      ∙ among_append (heard_pictures size hs) p.released n
 
   pub last_released_is : st.window.last_released ≡ last_or None p.released
   unfolding window_of
@@ -146,7 +146,7 @@ module _ (r : Reception) (size : ℕ) (f : Feeder) (hs : List HeardSession) (p :
       own_job_by n i
       ∙ elim (cases_Bool (is_opened p.entries n)) [
         | inl opened ↦ (let above = sym (released_is p works.window.in_order n opened)
-            ∙ (or_parts (is_among (pictures_of size hs) n) (is_among p.released n)
+            ∙ (or_parts (is_among (heard_pictures size hs) n) (is_among p.released n)
             (sym (released_parts n) ∙ stays)).1 in
             cond-false (released_up_to (last_or None p.released) n) None
             (window_job st.window n i) above
@@ -168,10 +168,10 @@ module _ (r : Reception) (size : ℕ) (f : Feeder) (hs : List HeardSession) (p :
       both_none true = refl
       both_none false = refl
 
-      feeder_none : (is_among (pictures_of size hs) n ≡ true)
-          ⊎ (session_of size (sessions_of f.heard) n ≡ None) → slice_job size f n i ≡ None
-      feeder_none (inl before) = absurd (both_ways (is_among (pictures_of size hs) n)
-          (or_parts (is_among (pictures_of size hs) n) (is_among p.released n)
+      feeder_none : (is_among (heard_pictures size hs) n ≡ true)
+          ⊎ (session_opening size (sessions_of f.heard) n ≡ None) → slice_job size f n i ≡ None
+      feeder_none (inl before) = absurd (both_ways (is_among (heard_pictures size hs) n)
+          (or_parts (is_among (heard_pictures size hs) n) (is_among p.released n)
           (sym (released_parts n) ∙ stays)).0 before)
       feeder_none (inr none) = ap (λ (o : Option EnteredSession).
           option_and_then (λ kept. job_by kept n i) (option_and_then (λ e. keeps_of e n) o)) none
@@ -206,7 +206,7 @@ module _ (r : Reception) (size : ℕ) (f : Feeder) (hs : List HeardSession) (p :
   waiting_released w is =
       let found = waiting_is p.sequence p.entries w p.released (sym works.waiting ∙ is) in
       released_parts w.number
-      ∙ or_right (is_among (pictures_of size hs) w.number) (is_among p.released w.number)
+      ∙ or_right (is_among (heard_pictures size hs) w.number) (is_among p.released w.number)
       (ap (is_among p.released) found.2.number ∙ found.1)
     where
       or_right : (a b : Bool) → b ≡ true → (a || b) ≡ true

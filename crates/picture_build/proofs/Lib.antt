@@ -12,3 +12,5 @@ pub mod Placements
 pub mod Standing
 pub mod RectangleWalk
 pub mod BoundedLists
+pub mod TwoParts
+pub mod PlacedNumbers

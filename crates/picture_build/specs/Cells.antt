@@ -1,7 +1,17 @@
--- Where the cells of a plane that is kept row by row stand.
-use Rattle.std.specs.Prelude.{ℕ, ◌+◌, ◌*◌}
+-- The cells of a plane that is kept row by row: where they stand, and what they hold.
+use Rattle.std.specs.Prelude.{ℕ, ◌+◌, ◌*◌, ◌^◌, ℤ, pos, ◌+ℤ◌, ◌*ℤ◌, Bool, if◌then◌else◌, List, map}
+use Rattle.std.specs.List.{zip}
 use Rattle.vc_types.specs.Subbands.{Place}
 
 -- the number of a place, so many cells a row
 abbrev pub cell_number : ℕ → Place → ℕ
 cell_number stride place = place.1 * stride + place.0
+
+-- a number in two parts: a high one that counts 2 ^ 30, and a low one
+abbrev pub whole_number : ℤ → ℤ → ℤ
+whole_number high low = high *ℤ pos (2 ^ 30) +ℤ low
+
+-- cells in two parts each, or in their low parts alone
+abbrev pub cells_in : Bool → List ℤ → List ℤ → List ℤ
+cells_in wide high low =
+    if wide then map (λ parts. whole_number parts.0 parts.1) (zip high low) else low

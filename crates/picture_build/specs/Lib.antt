@@ -1,3 +1,5 @@
 pub mod PictureCoefficients
 pub mod Cells
+pub mod Kept
+pub mod Puts
 pub mod Output

@@ -2,6 +2,8 @@
 #![tactic(auto)]
 
 mod building;
+mod cells;
+mod filling;
 mod output;
 mod placing;
 

@@ -8,10 +8,14 @@ mod tests;
 use link::link_main;
 use link_net::UdpWire;
 use link_report::Ending;
+use slice_pool::{Crew, Worker};
+use std::alloc::Global;
+use std::net::Net;
 use std::process::ExitCode;
+use std::sync::{Arc, Wait};
+use std::thread::Threads;
 use std::{env, io};
-use vc_ports::{StdSink, StdSource};
-use vc_slice::NoPlaces;
+use vc_ports::{NoGate, Sink, Source, StdSink, StdSource};
 use vc_types::{NoMemory, Words};
 
 // The words behind the program's name.
@@ -25,17 +29,36 @@ fn words_of(rt: &HostRuntime) -> io::Result<Result<Words, NoMemory>> {
     Ok(Ok(words))
 }
 
+// Does what the words say with a crew at hand, which is stopped whatever that came to.
+fn run<H: Threads + Wait + Net + Copy + Send + Sync + 'static, S: Source, O: Sink, E: Sink>(
+    rt: H,
+    alloc: Global,
+    words: &Words,
+    input: &mut S,
+    output: &mut O,
+    report: &mut E,
+) -> u8 {
+    let Ok(gate) = Arc::new(alloc, NoGate) else {
+        return Ending::NoMemory.status();
+    };
+    let mut wire = UdpWire::new(rt);
+    let mut crew = Crew::new(rt, alloc, |worker: Worker| worker.start(rt, &gate));
+    let status = link_main(
+        rt, alloc, words, input, output, report, &mut wire, &mut crew,
+    );
+    crew.stop();
+    status
+}
+
 fn main(rt: HostRuntime) -> ExitCode {
     let status = match words_of(&rt) {
-        Ok(Ok(words)) => link_main(
-            &rt,
+        Ok(Ok(words)) => run(
+            rt,
             rt.alloc(),
             &words,
             &mut StdSource::new(rt.stdin()),
             &mut StdSink::new(rt.stdout()),
             &mut StdSink::new(rt.stderr()),
-            &mut UdpWire::new(&rt),
-            &mut NoPlaces,
         ),
         Ok(Err(NoMemory)) => Ending::NoMemory.status(),
         // Words that aren't text are outside the grammar.

@@ -1,8 +1,15 @@
 -- Magnitudes under a sign, as the code computes them.
-use Rattle.std.proofs.Common.{◌≡◌, ℕ, ◌^◌, ◌<◌, ℤ, pos, negsuc, neg_ℤ, ◌-ℤ◌, ◌≤ℤ◌, ◌<ℤ◌, arith, refl, to_z, of_z}
+use Rattle.std.proofs.Common.{◌≡◌, Bool, true, false, ℕ, ◌+◌, ◌*◌, ◌/◌, ◌^◌, ◌<◌, ◌≤◌, ℤ, pos, negsuc, neg_ℤ, unsigned_abs, ◌-ℤ◌, ◌≤ℤ◌, ◌<ℤ◌, arith, refl, to_z, of_z}
+use Rattle.std.specs.Prelude.{◌==◌, if◌then◌else◌}
 use Rattle.std.specs.Int.{w64, w128}
 use Rattle.std.proofs.lemmas.Int.{ints}
-use Rattle.vc_types.specs.Quantisation.{with_sign_of}
+use Rattle.std.proofs.Math.Nat.{mul-le-mul_right}
+use Rattle.vc_quant.specs.Narrow.{IsNarrow}
+use Rattle.vc_types.specs.Quantisation.{quant_factor, quant_offset, dequantised, dequantised_magnitude, with_sign_of}
+
+pub signed : (m : ℤ) (q : ℕ) → with_sign_of m (dequantised_magnitude (unsigned_abs m) (quant_factor q) (quant_offset q)) ≡ dequantised m q
+unfolding dequantised
+signed m q = refl
 
 pub with_sign_of-negative : (z : ℤ) (n : ℕ) → z <ℤ pos 0 → with_sign_of z n ≡ neg_ℤ (pos n)
 with_sign_of-negative (pos k) n h = absurd (omega (arith, ints))
@@ -23,3 +30,28 @@ negated_64 z n m h small e = rw (← e, with_sign_of-negative z n h) (omega (ari
 
 pub kept_64 : (z : ℤ) (n m : ℕ) → pos 0 ≤ℤ z → n < 2 ^ 63 → n ≡ m → to_z w64 n ≡ with_sign_of z m
 kept_64 z n m h small e = rw (← e, with_sign_of-positive z n h) (omega (arith, ints))
+
+-- ---- narrow numbers
+
+under_sign : (z : ℤ) (n : ℕ) → unsigned_abs (with_sign_of z n) ≡ n
+under_sign (pos k) n = refl
+under_sign (negsuc k) n = omega (arith, ints)
+
+narrow_magnitude : (m greatest factor offset : ℕ) → m ≤ greatest → greatest * factor + offset + 2 < 2 ^ 31 → dequantised_magnitude m factor offset < 2 ^ 29
+narrow_magnitude m greatest factor offset h room =
+    let more = mul-le-mul_right factor h in
+    let sum : m * factor + offset + 2 < 4 * 2 ^ 29 = omega (arith, more) in
+    either (m == 0) ((m * factor + offset + 2) / 4) (quarter (m * factor + offset + 2) (2 ^ 29) sum)
+  where
+    quarter : (n k : ℕ) → n < 4 * k → n / 4 < k
+    quarter n k h = omega arith
+
+    either : (none : Bool) (n : ℕ) → n < 2 ^ 29 → (if none then 0 else n) < 2 ^ 29
+    either true n h = omega arith
+    either false n h = h
+
+pub narrow_coefficient : (z : ℤ) (greatest q : ℕ) → unsigned_abs z ≤ greatest → IsNarrow greatest q → unsigned_abs (dequantised z q) < 2 ^ 29
+unfolding dequantised
+narrow_coefficient z greatest q h narrow =
+    let size = under_sign z (dequantised_magnitude (unsigned_abs z) (quant_factor q) (quant_offset q)) in
+    omega (arith, size, narrow_magnitude (unsigned_abs z) greatest (quant_factor q) (quant_offset q) h narrow.1)

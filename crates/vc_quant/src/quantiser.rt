@@ -1,5 +1,7 @@
-ghost use Rattle.std.specs.Prelude.{◌≡◌, ◌+◌, ◌*◌, ◌/◌, ◌^◌, ◌<◌, ◌≤◌, unsigned_abs, ℤ};
-ghost use Rattle.vc_types.specs.Quantisation.{quant_factor, quant_offset, dequantised, dequantised_magnitude, quantised};
+ghost use Rattle.std.specs.Prelude.{◌≡◌, ◌+◌, ◌*◌, ◌/◌, ◌^◌, ◌<◌, ◌≤◌, ◌↔◌, All, length, unsigned_abs, true, false, ℕ, ℤ};
+ghost use Rattle.vc_types.specs.Lifting.{line_of};
+ghost use Rattle.vc_types.specs.Quantisation.{quant_factor, quant_offset, dequantised, dequantised_magnitude, quantised, with_sign_of};
+ghost use Rattle.vc_quant.specs.Narrow.{IsNarrow};
 
 /// The quantisation factor of an index from 0 to 127, in quarters (ST 2042-1, quantisation factor).
 #[tactic(auto, unfolding(vc_types::specs::Quantisation::quant_factor))]
@@ -80,6 +82,39 @@ impl Quantiser {
         if c < 0 { -value } else { value }
     }
 
+    /// Puts in the place of numbers the coefficients that they stand for, where those surely fit 32 bits: `greatest` is at
+    /// least each number's magnitude. Else they stay, and it is false.
+    #[inline]
+    pub fn dequant_all(&self, numbers: &mut [i32], greatest: u32) -> bool
+        requires greatest { All (λ z. unsigned_abs z ≤ greatest) numbers.old }
+        ensures value { result ≡ true → (k : ℕ) → k < length numbers.old
+            → line_of numbers.new k ≡ dequantised (line_of numbers.old k) self.now.index }
+        ensures narrow { result ≡ true → (k : ℕ) → k < length numbers.old
+            → unsigned_abs (line_of numbers.new k) < 2 ^ 29 }
+        ensures unchanged { result ≡ false → numbers.new ≡ numbers.old }
+        ensures exactly { (result ≡ true) ↔ IsNarrow greatest self.now.index }
+    {
+        if !self.is_narrow(greatest) {
+            return false;
+        }
+        dequantise(numbers, self.factor as u32, self.offset as u32, greatest);
+        true
+    }
+
+    #[inline]
+    fn is_narrow(&self, greatest: u32) -> bool
+        ensures exactly { (result ≡ true) ↔ IsNarrow greatest self.now.index }
+        ensures factor { result ≡ true → self.now.factor < 2 ^ 31 }
+        ensures offset { result ≡ true → self.now.offset < 2 ^ 31 }
+        ensures room { result ≡ true
+            → greatest * self.now.factor + self.now.offset + 2 < 2 ^ 31 }
+    {
+        if self.factor >= 1 << 31 {
+            return false;
+        }
+        u64::from(greatest) * self.factor + self.offset + 2 < 1 << 31
+    }
+
     #[inline]
     fn magnitude(&self, size: u64) -> u128
         requires { size ≤ 2 ^ 62 }
@@ -93,6 +128,34 @@ impl Quantiser {
         }
         (u128::from(size) * u128::from(self.factor) + u128::from(self.offset) + 2) / 4
     }
+}
+
+fn dequantise(numbers: &mut [i32], factor: u32, offset: u32, greatest: u32)
+    requires numbers { All (λ z. unsigned_abs z ≤ greatest) numbers.old }
+    requires room { greatest * factor + offset + 2 < 2 ^ 31 }
+    ensures { (k : ℕ) → k < length numbers.old → line_of numbers.new k
+        ≡ with_sign_of (line_of numbers.old k)
+        (dequantised_magnitude (unsigned_abs (line_of numbers.old k)) factor offset) }
+{
+    for number in numbers.iter_mut() {
+        *number = coefficient(*number, factor, offset);
+    }
+}
+
+#[inline(always)]
+fn coefficient(number: i32, factor: u32, offset: u32) -> i32
+    requires room { unsigned_abs number * factor + offset + 2 < 2 ^ 31 }
+    ensures { result ≡ with_sign_of number
+        (dequantised_magnitude (unsigned_abs number) factor offset) }
+{
+    let size = number.unsigned_abs();
+    let size = if size == 0 {
+        0
+    } else {
+        (size * factor + offset + 2) / 4
+    };
+    let size = size as i32;
+    if number < 0 { -size } else { size }
 }
 
 /// The coefficient that the number `m` stands for at index `q`.

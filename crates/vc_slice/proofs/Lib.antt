@@ -5,3 +5,4 @@ pub mod CodeLengths
 pub mod Dequantising
 pub mod EncodedSlices
 pub mod SameJobs
+pub mod NarrowRuns

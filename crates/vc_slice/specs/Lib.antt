@@ -2,4 +2,3 @@ pub mod Asked
 pub mod Coded
 pub mod Refusals
 pub mod Inside
-pub mod Jobs

@@ -6,11 +6,11 @@ use vc_types::Short;
 
 /// The bytes of a slice: its quantisation index and the blocks of its three components.
 #[derive(Clone, Copy)]
-pub(crate) struct CodedSlice<'a> {
-    pub(crate) index: u8,
-    pub(crate) y: &'a [u8],
-    pub(crate) c1: &'a [u8],
-    pub(crate) c2: &'a [u8],
+pub struct CodedSlice<'a> {
+    pub index: u8,
+    pub y: &'a [u8],
+    pub c1: &'a [u8],
+    pub c2: &'a [u8],
 }
 
 /// The length of the slice that begins the bytes, prefix bytes included (ST 2042-1, high-quality slice).
@@ -25,9 +25,9 @@ pub fn cut(prefix: u32, scaler: u32, bytes: &[u8]) -> Result<usize, Short>
     }
 }
 
-// The parts of a slice, and what is behind it.
+/// The parts of the slice that begins the bytes, and what is behind it; none where the bytes end before.
 #[tactic(auto, unfolding(vc_types::specs::Slices::coded_slice))]
-pub(crate) fn coded_slice(prefix: u32, scaler: u32, bytes: &[u8]) -> Option<(CodedSlice<'_>, &[u8])>
+pub fn coded_slice(prefix: u32, scaler: u32, bytes: &[u8]) -> Option<(CodedSlice<'_>, &[u8])>
     ensures value { MatchOption result (IsErr (coded_slice prefix scaler bytes.now))
         (λ x. coded_slice prefix scaler bytes.now ≡ Ok (coded_of x.0, x.1.now)) }
     ensures rest { IfSome result (λ x. length x.1.now ≤ length bytes.now) }

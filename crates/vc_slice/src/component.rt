@@ -54,7 +54,7 @@ fn with_room(alloc: Global, len: u32) -> Result<Vec<i64>, Stopped>
 }
 
 #[tactic(auto, using(crate::proofs::BlockBits::blocks))]
-fn bits_of(block: &[u8]) -> Block<'_>
+pub(crate) fn bits_of(block: &[u8]) -> Block<'_>
     ensures { result ≡ bits_of block.now }
 {
     match BitReader::new(block).block(block.len()) {

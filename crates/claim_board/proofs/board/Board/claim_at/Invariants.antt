@@ -11,6 +11,7 @@ invariant-loop-word l = record {
   held : l.seat.me.0.held ≡ l.fn.seat.me.0.held;
   feeds : l.seat.me.0.feeds ≡ l.fn.seat.me.0.feeds;
   lanes : l.seat.me.0.lanes ≡ l.fn.seat.me.0.lanes;
+  opened : l.seat.me.0.opened ≡ l.fn.seat.me.0.opened;
   last : l.seat.me.0.last ≡ Some (seen l.place l.word);
   steps : l.fn.seat.me.0.steps < l.seat.me.0.steps;
 }

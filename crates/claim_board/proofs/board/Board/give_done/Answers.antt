@@ -1,7 +1,7 @@
 use Rattle.std.proofs.Common.{rules, arith, ap, ◌∙◌, ◌<◌, refl}
 use Rattle.atomic_table.specs.Table.{rest}
 use Rattle.link_model.specs.Board.{after_complete}
-use Rattle.link_model.specs.declared.board.View.{View}
+use Rattle.claim_board.specs.Views.{SeatView}
 use Rattle.claim_board.specs.Counts.{holds_of}
 use Rattle.claim_board.specs.Plays.{SeatState}
 use Rattle.claim_board.proofs.Completes.{completes_at}
@@ -16,7 +16,7 @@ store-requires c =
       search rules,
       completes_at _ c.exchange-none.new.seat.id c.exchange-none.new.seat.me c.args.place c.args.serial c.args.done (rest c.args.seat.now.me.1)
           (let e = c.args.self.now.sized in omega arith)
-          (ap (λ (v : View). v.feeds) view ∙ c.requires.worker.0) there
+          (ap (λ (v : SeatView). v.feeds) view ∙ c.requires.worker.0) there
           (ap (λ (m : SeatState). m.1) x.3),
     )
 

@@ -1,13 +1,13 @@
 use Rattle.std.proofs.Common.{◌≡◌, ℕ, vec_len}
 use Rattle.std.specs.Prelude.{All}
 use Rattle.claim_board.specs.Calls.{AreEmpty, IsNewWorker}
-use Rattle.claim_board.specs.Seats.{IsFeederOf, feeder_sees, places_of}
+use Rattle.claim_board.specs.Seats.{IsFeederOf, feeder_sees, place_count}
 use Rattle.claim_board.proofs.board.Board.hire_all.Given as goal
 
 abbrev pub invariant-loop-worker : goal.invariant-loop-worker
 invariant-loop-worker l = record {
   seat : IsFeederOf l.self l.feeder;
-  empty : AreEmpty (places_of l.self) (feeder_sees l.feeder);
+  empty : AreEmpty (place_count l.self) (feeder_sees l.feeder);
   count : vec_len l.team ≡ l._worker;
   team : All (IsNewWorker l.self) l.team.items;
 }

@@ -4,7 +4,7 @@ use Rattle.std.specs.VecDeque.{deque_capacity}
 use Rattle.atomic_table.specs.Seated.{TableId}
 use Rattle.atomic_table.specs.Table.{rest}
 use Rattle.link_model.specs.declared.board.Lane.{Lane}
-use Rattle.link_model.specs.declared.board.View.{View}
+use Rattle.claim_board.specs.Views.{SeatView}
 use Rattle.claim_board.specs.Plays.{SeatState}
 use Rattle.claim_board.specs.Rule.{Slot}
 use Rattle.claim_board.specs.declared.cargo.Cargo.TheVariants.{Finished}
@@ -36,7 +36,7 @@ invariant_of-f-2-clause-idle c =
     let within : c.args.place < vec_len f.lanes = (let p = c.requires.place in omega arith) in
     let long : length f.seat.me.0.lanes ≡ length f.lanes.items = ap length f.mirrors in
     let view = ap (λ (m : SeatState). m.0) c.open_done-done.ensures.slot ∙ ap (λ (m : SeatState). m.0) won.seat in
-    idle_after_return f.seat.me.0 c.open_done-done.new.seat.me.0 c.args.place f.order.items c.returned.new.order.items view c.returned.ensures.order (omega arith) won.out f.idle
+    idle_after_return f.seat.me.0 c.open_done-done.new.seat.me.0 c.args.place f.order.items c.returned.new.order.items (ap (λ (v : SeatView). v.lanes) view) c.returned.ensures.order (omega arith) won.out f.idle
 
 pub invariant_of-f-2-clause-fetched : goal.invariant_of-f-2-clause-fetched
 invariant_of-f-2-clause-fetched c = λ q below.
@@ -47,7 +47,7 @@ invariant_of-f-2-clause-fetched c = λ q below.
     let long : length f.seat.me.0.lanes ≡ length f.lanes.items = ap length f.mirrors in
     let same = c.returned.ensures.wide in
     let view = ap (λ (m : SeatState). m.0) c.open_done-done.ensures.slot ∙ ap (λ (m : SeatState). m.0) won.seat in
-    lane_after f.seat.me.0 c.open_done-done.new.seat.me.0 c.args.place q _ (λ (l : Lane). l.is_fetched ≡ true) (ap (λ (v : View). v.lanes) view) (omega arith) refl (f.fetched q (omega arith))
+    lane_after f.seat.me.0 c.open_done-done.new.seat.me.0 c.args.place q _ (λ (l : Lane). l.is_fetched ≡ true) (ap (λ (v : SeatView). v.lanes) view) (omega arith) refl (f.fetched q (omega arith))
 
 pub invariant_of-f-2-clause-small : goal.invariant_of-f-2-clause-small
 invariant_of-f-2-clause-small c = λ q.
@@ -58,4 +58,4 @@ invariant_of-f-2-clause-small c = λ q.
     let long : length f.seat.me.0.lanes ≡ length f.lanes.items = ap length f.mirrors in
     let same = c.returned.ensures.wide in
     let view = ap (λ (m : SeatState). m.0) c.open_done-done.ensures.slot ∙ ap (λ (m : SeatState). m.0) won.seat in
-    lane_after f.seat.me.0 c.open_done-done.new.seat.me.0 c.args.place q _ (λ (l : Lane). l.serial ≤ 2 ^ 61) (ap (λ (v : View). v.lanes) view) (omega arith) (f.small c.args.place) (f.small q)
+    lane_after f.seat.me.0 c.open_done-done.new.seat.me.0 c.args.place q _ (λ (l : Lane). l.serial ≤ 2 ^ 61) (ap (λ (v : SeatView). v.lanes) view) (omega arith) (f.small c.args.place) (f.small q)

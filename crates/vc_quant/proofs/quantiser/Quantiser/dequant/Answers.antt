@@ -2,12 +2,8 @@ use Rattle.std.proofs.Common.{◌≡◌, ℕ, ℤ, pos, ◌≤ℤ◌, ◌<ℤ◌
 use Rattle.std.specs.Int.{w64}
 use Rattle.std.proofs.lemmas.Int.{ints, to_z-of_z}
 use Rattle.vc_types.specs.Quantisation.{quant_factor, quant_offset, dequantised, dequantised_magnitude, with_sign_of}
-use Rattle.vc_quant.proofs.Magnitudes.{negated_128, kept_128}
+use Rattle.vc_quant.proofs.Magnitudes.{signed, negated_128, kept_128}
 use Rattle.vc_quant.proofs.quantiser.Quantiser.dequant.Goals as goal
-
-signed : (m : ℤ) (q : ℕ) → with_sign_of m (dequantised_magnitude (unsigned_abs m) (quant_factor q) (quant_offset q)) ≡ dequantised m q
-unfolding dequantised
-signed m q = refl
 
 pub returns-then-m-lt0-clause-value : goal.returns-then-m-lt0-clause-value
 returns-then-m-lt0-clause-value c =

@@ -1,0 +1,272 @@
+-- The claim board's steps are the machine's events.
+use Rattle.std.proofs.Common.{◌≡◌, ◌≢◌, refl, ℕ, ◌+◌, ◌/◌, ◌^◌, ◌<◌, Bool, true, false}
+use Rattle.std.proofs.Common.{◌&&◌, ◌||◌, List, [], ◌∷◌, length, get_or, set, sym, ap, ◌∙◌, subst}
+use Rattle.std.proofs.Common.{arith, length-set, get_or-set_other, get_or-set_same, eq-eqb}
+use Rattle.std.proofs.Common.{ne_eqb}
+use Rattle.std.proofs.lemmas.Bool.{lt-ltb}
+use Rattle.std.specs.List.{list_any}
+use Rattle.std.specs.Option.{option_map_or}
+use Rattle.std.proofs.lemmas.List.{get_or-replicate, length-replicate}
+use Rattle.std.specs.Prelude.{Option, replicate}
+use mathlib.Core.Logic.{dite}
+use native.Mathlib.Decide.{ℕ_discrete}
+use Rattle.link_model.specs.Board.{after_claim, after_complete, after_put, after_return, hold}
+use Rattle.link_model.specs.Board.{is_hold, without, worker_view}
+use Rattle.link_model.specs.BoardEvents.{BoardData, IsEvent, IsHeldAt, MayDo, ShowsPlace}
+use Rattle.link_model.specs.BoardEvents.{ShowsPlaces, StepsFrom, board_after, event_of, view_at}
+use Rattle.link_model.specs.Machine.{Machine}
+use Rattle.link_model.specs.Places.{Content, Nothing, Offered, Claimed, Decoded, Job, JobPlace}
+use Rattle.link_model.specs.Places.{claimed_by, decoded_there, own_answer, place_at, puts_job}
+use Rattle.link_model.specs.Places.{state_number, state_of, unused_place, unused_places}
+use Rattle.link_model.specs.Rounds.{BoardStep, PutStep, ClaimStep, CompleteStep, TakeStep}
+use Rattle.link_model.specs.Rounds.{WithdrawStep, StepAt, Turns}
+use Rattle.link_model.specs.declared.board.Hold.{Hold}
+use Rattle.link_model.specs.declared.board.View.{View}
+
+-- ---- truth
+
+both : (a b : Bool) → a ≡ true → b ≡ true → (a && b) ≡ true
+both true b e f = f
+both false b e f = e
+
+or_right : (a b : Bool) → b ≡ true → (a || b) ≡ true
+or_right true b e = refl
+or_right false b e = e
+
+or_grows : (a b c : Bool) → (b ≡ true → c ≡ true) → (a || b) ≡ true → (a || c) ≡ true
+or_grows true b c f e = refl
+or_grows false b c f e = f e
+
+-- ---- states
+
+state_below : (c : Content) → state_number (state_of c) < 4
+state_below Nothing = omega arith
+state_below (Offered job) = omega arith
+state_below (Claimed worker job) = omega arith
+state_below (Decoded done) = omega arith
+
+offered_of : (c : Content) → state_number (state_of c) ≡ 1 → (job : Job) × (c ≡ Offered job)
+offered_of Nothing e = absurd (omega arith)
+offered_of (Offered job) e = (job, refl)
+offered_of (Claimed worker job) e = absurd (omega arith)
+offered_of (Decoded done) e = absurd (omega arith)
+
+claimed_of : (c : Content) → state_number (state_of c) ≡ 2
+    → (worker : ℕ) × (job : Job) × (c ≡ Claimed worker job)
+claimed_of Nothing e = absurd (omega arith)
+claimed_of (Offered job) e = absurd (omega arith)
+claimed_of (Claimed worker job) e = (worker, job, refl)
+claimed_of (Decoded done) e = absurd (omega arith)
+
+-- ---- pairs
+
+-- a pair of another place stays
+stays_without : (p t q s : ℕ) (hs : List Hold) → q ≢ p → list_any (is_hold q s) hs ≡ true
+    → list_any (is_hold q s) (without p t hs) ≡ true
+stays_without p t q s [] ne e = e
+stays_without p t q s (h ∷ hs) ne e =
+    dite (ℕ_discrete h.place p)
+    (λ same. dite (ℕ_discrete h.serial t)
+    (λ f. rw (eq-eqb h.place p same, eq-eqb h.serial t f)
+    (let miss : is_hold q s h ≡ false = rw (ne_eqb h.place q (λ x. ne (sym x ∙ same))) refl in
+    sym (ap (λ (b : Bool). b || list_any (is_hold q s) hs) miss) ∙ e))
+    (λ nf. rw (eq-eqb h.place p same, ne_eqb h.serial t nf)
+    (or_grows (is_hold q s h) (list_any (is_hold q s) hs)
+    (list_any (is_hold q s) (without p t hs)) (stays_without p t q s hs ne) e)))
+    (λ other. rw (ne_eqb h.place p other)
+    (or_grows (is_hold q s h) (list_any (is_hold q s) hs)
+    (list_any (is_hold q s) (without p t hs)) (stays_without p t q s hs ne) e))
+
+pair_here : (p t : ℕ) (hs : List Hold) → list_any (is_hold p t) (hold p t ∷ hs) ≡ true
+pair_here p t hs = rw (eq-eqb p p refl, eq-eqb t t refl) refl
+
+-- one view changed; the pairs of this place that its seat held are there still
+held_else : {C : Type 0} (views : List (View C)) (seat q s : ℕ) (w : View C) (c : Content)
+    → seat < length views
+    → (list_any (is_hold q s) (view_at views seat).held ≡ true
+    → list_any (is_hold q s) w.held ≡ true)
+    → IsHeldAt views q s c → IsHeldAt (set views seat w) q s c
+held_else views seat q s w Nothing h stays e = tt
+held_else views seat q s w (Offered job) h stays e = tt
+held_else views seat q s w (Decoded done) h stays e = tt
+held_else {C = C} views seat q s w (Claimed worker job) h stays e =
+    let Holds : View C → Type 0 = λ v. list_any (is_hold q s) v.held ≡ true in
+    dite (ℕ_discrete worker seat)
+    (λ same.
+    let at : view_at (set views seat w) worker ≡ w =
+    ap (view_at (set views seat w)) same ∙ get_or-set_same views seat w worker_view h in
+    let was : Holds (view_at views seat) = subst (λ (k : ℕ). Holds (view_at views k)) same e in
+    subst Holds (sym at) (stays was))
+    (λ ne. subst Holds (sym (get_or-set_other views seat worker w worker_view ne)) e)
+
+-- ---- a step
+
+-- one word, one view and one place changed
+keeps_shown : {C : Type 0} (b : BoardData C) (places : List JobPlace) (seat p word : ℕ)
+    (w : View C) (x : JobPlace)
+    → ShowsPlaces b places → p < length b.words → seat < length b.views
+    → ((q s : ℕ) → q ≢ p → list_any (is_hold q s) (view_at b.views seat).held ≡ true
+    → list_any (is_hold q s) w.held ≡ true)
+    → ShowsPlace word (set b.views seat w) p x
+    → ShowsPlaces (record { words = set b.words p word; views = set b.views seat w })
+    (set places p x)
+keeps_shown b places seat p word w x shown within seated stays here =
+    let views = set b.views seat w in
+    let words = set b.words p word in
+    record {
+      many = length-set places p x ∙ (shown.many ∙ sym (length-set b.words p word));
+      each = λ q h. dite (ℕ_discrete q p)
+          (λ same.
+          let word_at : get_or words q 0 ≡ word =
+          ap (λ (k : ℕ). get_or words k 0) same ∙ get_or-set_same b.words p word 0 within in
+          let at : place_at (set places p x) q ≡ x =
+          ap (place_at (set places p x)) same
+          ∙ get_or-set_same places p x unused_place (let m = shown.many in omega arith) in
+          let moved : ShowsPlace word views q x =
+          subst (λ (k : ℕ). ShowsPlace word views k x) (sym same) here in
+          subst (λ (k : ℕ). ShowsPlace k views q (place_at (set places p x) q)) (sym word_at)
+          (subst (λ (y : JobPlace). ShowsPlace word views q y) (sym at) moved))
+          (λ ne.
+          let old = shown.each q (let l = length-set b.words p word in omega arith) in
+          let y = place_at places q in
+          let moved : ShowsPlace (get_or b.words q 0) views q y = record {
+            state = old.state;
+            holder = held_else b.views seat q y.serial w y.content seated (stays q y.serial ne)
+                old.holder;
+          } in
+          subst (λ (k : ℕ). ShowsPlace k views q (place_at (set places p x) q))
+          (sym (get_or-set_other b.words p q word 0 ne))
+          (subst (λ (z : JobPlace). ShowsPlace (get_or b.words q 0) views q z)
+          (sym (get_or-set_other places p q x unused_place ne)) moved));
+    }
+
+steps : {C : Type 0} (window : ℕ) (m : Machine) (b : BoardData C) (seat p : ℕ)
+    (step : BoardStep) (word n i : ℕ)
+    → ShowsPlaces b m.places → p < length b.words → seat < length b.views
+    → Turns (get_or b.words p 0) step word → MayDo window m b.views seat step p word n i
+    → IsEvent window m (board_after b seat (record { place = p; step = step }) word)
+    (event_of step p word n i)
+steps window m b seat p PutStep word n i shown within seated turns may =
+    let x = place_at m.places p in
+    let at = (shown.each p within).state in
+    let below = state_below x.content in
+    let old = turns.1 in
+    let new = turns.2 in
+    let most = may.0 in
+    let many = shown.many in
+    let none : state_number (state_of x.content) ≡ 0 = omega arith in
+    let serial : x.serial < 2 ^ 61 = omega arith in
+    let w = after_put (view_at b.views seat) p in
+    record {
+      legal = both _ _ (lt-ltb p (length m.places) (omega arith))
+          (both _ _ (eq-eqb (state_number (state_of x.content)) 0 none)
+          (lt-ltb x.serial (2 ^ 61) serial));
+      shown = subst
+          (λ (o : Option Job). ShowsPlaces
+          (record { words = set b.words p word; views = set b.views seat w })
+          (option_map_or (puts_job m.places p) o m.places)) (sym may.2)
+          (keeps_shown b m.places seat p word w
+          (record { serial = x.serial + 1; content = Offered may.1 })
+          shown within seated (λ q s ne e. e) (record { state = omega arith; holder = tt }));
+    }
+steps {C = C} window m b seat p (ClaimStep worker) word n i shown within seated turns may =
+    let x = place_at m.places p in
+    let at = (shown.each p within).state in
+    let below = state_below x.content in
+    let old = turns.1 in
+    let new = turns.2 in
+    let one : state_number (state_of x.content) ≡ 1 = omega arith in
+    let offered = offered_of x.content one in
+    let serial : word / 4 ≡ x.serial = omega arith in
+    let v = view_at b.views seat in
+    let w = after_claim v p (word / 4) in
+    let views = set b.views seat w in
+    let mine : view_at views worker ≡ w =
+    ap (view_at views) may ∙ get_or-set_same b.views seat w worker_view seated in
+    let pair : list_any (is_hold p x.serial) (view_at views worker).held ≡ true =
+    subst (λ (u : View C). list_any (is_hold p x.serial) u.held ≡ true) (sym mine)
+    (subst (λ (k : ℕ). list_any (is_hold p x.serial) (hold p k ∷ v.held) ≡ true)
+    (sym serial) (pair_here p x.serial v.held)) in
+    let here : ShowsPlace word views p (record x { content = Claimed worker offered.0 }) =
+    record { state = omega arith; holder = pair } in
+    record {
+      legal = eq-eqb (state_number (state_of x.content)) 1 one;
+      shown = keeps_shown b m.places seat p word w
+          (record x { content = claimed_by worker x.content }) shown within seated
+          (λ q s ne e. or_right (is_hold q s (hold p (word / 4))) _ e)
+          (subst (λ (c : Content).
+          ShowsPlace word views p (record x { content = claimed_by worker c }))
+          (sym offered.1) here);
+    }
+steps {C = C} window m b seat p CompleteStep word n i shown within seated turns may =
+    let x = place_at m.places p in
+    let at = (shown.each p within).state in
+    let below = state_below x.content in
+    let old = turns.1 in
+    let new = turns.2 in
+    let two : state_number (state_of x.content) ≡ 2 = omega arith in
+    let claimed = claimed_of x.content two in
+    let serial : x.serial ≡ word / 4 = omega arith in
+    let w = after_complete (view_at b.views seat) p (word / 4) in
+    let views = set b.views seat w in
+    let here : ShowsPlace word views p
+    (record x { content = Decoded (own_answer claimed.1) }) =
+    record { state = omega arith; holder = tt } in
+    record {
+      legal = refl;
+      shown = rw (eq-eqb x.serial (word / 4) serial)
+          (keeps_shown b m.places seat p word w
+          (record x { content = decoded_there x.content }) shown within seated
+          (λ q s ne e. stays_without p (word / 4) q s (view_at b.views seat).held ne e)
+          (subst (λ (c : Content).
+          ShowsPlace word views p (record x { content = decoded_there c }))
+          (sym claimed.2) here));
+    }
+steps window m b seat p TakeStep word n i shown within seated turns may =
+    let x = place_at m.places p in
+    let at = (shown.each p within).state in
+    let below = state_below x.content in
+    let old = turns.1 in
+    let new = turns.2 in
+    let three : state_number (state_of x.content) ≡ 3 = omega arith in
+    record {
+      legal = eq-eqb (state_number (state_of x.content)) 3 three;
+      shown = keeps_shown b m.places seat p word (after_return (view_at b.views seat) p)
+          (record x { content = Nothing }) shown within seated (λ q s ne e. e)
+          (record { state = omega arith; holder = tt });
+    }
+steps window m b seat p WithdrawStep word n i shown within seated turns may =
+    let x = place_at m.places p in
+    let at = (shown.each p within).state in
+    let below = state_below x.content in
+    let old = turns.1 in
+    let new = turns.2 in
+    let one : state_number (state_of x.content) ≡ 1 = omega arith in
+    record {
+      legal = eq-eqb (state_number (state_of x.content)) 1 one;
+      shown = keeps_shown b m.places seat p word (after_return (view_at b.views seat) p)
+          (record x { content = Nothing }) shown within seated (λ q s ne e. e)
+          (record { state = omega arith; holder = tt });
+    }
+
+pub step_is_event : {C : Type 0} (window : ℕ) (m : Machine) (b : BoardData C) (seat : ℕ)
+    (e : StepAt) (word n i : ℕ) → StepsFrom window m b seat e word n i
+    → IsEvent window m (board_after b seat e word) (event_of e.step e.place word n i)
+step_is_event window m b seat e word n i s =
+    steps window m b seat e.place e.step word n i s.shown s.within s.seated s.turns s.may
+
+-- ---- a new board
+
+pub new_board_shows : {C : Type 0} (n : ℕ) (views : List (View C))
+    → ShowsPlaces (record { words = replicate n 0; views = views }) (unused_places n)
+new_board_shows n views = record {
+  many = length-replicate {A = JobPlace} n unused_place
+      ∙ sym (length-replicate {A = ℕ} n 0);
+  each = λ p h.
+      let within : p < n = (let l = length-replicate {A = ℕ} n 0 in omega arith) in
+      let at : place_at (unused_places n) p ≡ unused_place =
+      get_or-replicate {A = JobPlace} n p unused_place unused_place within in
+      let word : get_or (replicate n 0) p 0 ≡ 0 = get_or-replicate {A = ℕ} n p 0 0 within in
+      subst (λ (y : JobPlace). ShowsPlace (get_or (replicate n 0) p 0) views p y) (sym at)
+      (record { state = word; holder = tt });
+}

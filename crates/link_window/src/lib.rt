@@ -1,0 +1,17 @@
+//! The window of open pictures: which fragments come too late, what each picture keeps, and which may be released next.
+#![tactic(auto)]
+
+mod books;
+mod fragment;
+mod numbering;
+mod picture;
+mod progress;
+mod window;
+
+pub use fragment::{Fragment, Part};
+pub use link_gather::{PictureBook, SlicePart};
+pub use link_model::Outcome;
+pub use window::{Released, Window};
+
+#[cfg(test)]
+mod tests;

@@ -1,0 +1,76 @@
+-- A picture whose slices come one after another, in any order: a finite map from a slice's number to its coefficients.
+use Rattle.std.specs.Prelude.{◌≡◌, ◌<◌, ◌≤◌, ◌+◌, ◌*◌, ℕ, ◌==◌, length, Bool, true, false, if◌then◌else◌, List, [], map, slice_index_or, ℤ, Option, Some, None}
+use Rattle.std.specs.List.{range_with_len}
+use Rattle.std.specs.Option.{is_some, unwrap_or}
+use Rattle.vc_types.specs.declared.video.Component.{Component}
+use Rattle.vc_types.specs.declared.video.Component.TheVariants.{Y, C1, C2}
+use Rattle.vc_types.specs.Lifting.{line_of}
+use Rattle.vc_types.specs.SliceCoefficients.{AreSliceCoefficients}
+use Rattle.vc_types.specs.Slices.{Coefficients}
+use Rattle.vc_types.specs.Subbands.{slice_count, slice_coefficient_count, coefficient_place, padded_width, padded_height}
+use Rattle.vc_types.specs.TransformParameters.{Parameters}
+use Rattle.picture_build.specs.Cells.{cell_number}
+
+-- the transform parameters, and the coefficients of each slice that came
+pub record PartPicture : Type 0 where
+  pub parameters : Parameters
+  pub slices : ℕ → Option Coefficients
+
+-- no slice came
+abbrev pub no_slices : Parameters → PartPicture
+no_slices p = record { parameters = p; slices = λ n. None }
+
+-- one slice more
+abbrev pub with_slice : PartPicture → ℕ → Coefficients → PartPicture
+with_slice picture n s = record {
+  parameters = picture.parameters;
+  slices = λ m. if m == n then Some s else picture.slices m;
+}
+
+-- every slice came
+abbrev pub IsWhole : PartPicture → Type 0
+IsWhole picture = (n : ℕ) → n < slice_count picture.parameters → is_some (picture.slices n) ≡ true
+
+abbrev pub no_coefficients : Coefficients
+no_coefficients = record { y = []; c1 = []; c2 = [] }
+
+-- the coefficients of the slices in raster order
+abbrev pub slices_of : PartPicture → List Coefficients
+slices_of picture =
+    map (λ n. unwrap_or (picture.slices n) no_coefficients)
+    (range_with_len 0 (slice_count picture.parameters))
+
+-- ---- in cells
+
+-- where coefficient i of a slice is kept, in a list of cells
+abbrev pub kept_at : Parameters → Component → ℕ → ℕ → ℕ
+kept_at p c n i = cell_number (padded_width p c) (coefficient_place p c n i)
+
+-- a slice's coefficients of a component
+abbrev pub kept_of : Parameters → Component → ℕ → List ℤ → List ℤ
+kept_of p c n cells =
+    map (λ i. line_of cells (kept_at p c n i)) (range_with_len 0 (slice_coefficient_count p c n))
+
+abbrev pub kept_slice : Parameters → List ℤ → List ℤ → List ℤ → ℕ → Coefficients
+kept_slice p y c1 c2 n = record {
+  y = kept_of p Y n y;
+  c1 = kept_of p C1 n c1;
+  c2 = kept_of p C2 n c2;
+}
+
+-- the slices that came, by what each component's cells hold
+unfoldable pub kept_slices : Parameters → List Bool → List ℤ → List ℤ → List ℤ → ℕ
+    → Option Coefficients
+kept_slices p came y c1 c2 n =
+    if slice_index_or came n false then Some (kept_slice p y c1 c2 n) else None
+
+-- what is true of the cells: each slice has its entry, each component its cells, each slice that came its coefficients, and
+-- the largest slice has room with eight more
+pub record IsKept (p : Parameters) (came : List Bool) (y c1 c2 : List ℤ) (room : ℕ) : Type 0 where
+  pub entries : length came ≡ slice_count p
+  pub y_cells : length y ≡ padded_height p Y * padded_width p Y
+  pub c1_cells : length c1 ≡ padded_height p C1 * padded_width p C1
+  pub c2_cells : length c2 ≡ padded_height p C2 * padded_width p C2
+  pub sound : (n : ℕ) → slice_index_or came n false ≡ true
+      → AreSliceCoefficients p n (kept_slice p y c1 c2 n)
+  pub largest : (c : Component) (n : ℕ) → n < slice_count p → slice_coefficient_count p c n + 8 ≤ room

@@ -1,0 +1,177 @@
+ghost use Rattle.std.specs.Prelude.{◌≡◌, ◌<◌, IfOk, None, Some, length};
+ghost use Rattle.std.specs.Option.{is_some};
+ghost use Rattle.vc_types.specs.Planes.{planes_in, planes_of};
+ghost use Rattle.vc_types.specs.SliceCoefficients.{AreSliceCoefficients};
+ghost use Rattle.vc_types.specs.Slices.{slice_coefficients, slice_length};
+ghost use Rattle.vc_types.specs.Subbands.{slice_count};
+ghost use Rattle.vc_types.specs.TransformParameters.{parameters_of};
+ghost use Rattle.picture_build.specs.Kept.{no_slices, with_slice, slices_of, IsWhole};
+ghost use Rattle.picture_build.specs.Puts.{Puts};
+
+use crate::cells::CoefficientCells;
+use crate::filling::{fill_slice, put_blocks};
+use crate::finishing::finished;
+use crate::sizes::{cell_count, most_coefficients};
+use std::alloc::Global;
+use std::marker::Model;
+use vc_slice::{SliceCoeffs, TooWide, coded_slice};
+use vc_types::{Component, NoMemory, Plan, Plane, Unsound};
+
+/// Why a slice wasn't put into a picture.
+#[derive(Clone, Copy, Debug, PartialEq, Eq)]
+pub enum NotPut {
+    /// It decodes to no coefficients.
+    Unsound(Unsound),
+    /// It may have a coefficient that doesn't fit 32 bits. It is to be decoded by itself, and then filled in.
+    Wide,
+}
+
+impl From<TooWide> for NotPut {
+    ghost use Rattle.picture_build.specs.declared.builder.NotPut.TheVariants.{Wide};
+
+    ghost from_gives = { λ _ e. e ≡ Wide };
+
+    fn from(_: TooWide) -> Self {
+        NotPut::Wide
+    }
+}
+
+/// A picture whose slices come one after another, in any order. It is seen as the transform parameters and a finite map
+/// from a slice's number to its coefficients. It keeps 8 bytes a coefficient, and 4 more for each coefficient of its
+/// largest slice; no slice that comes takes more.
+#[derive(Drop)]
+pub struct PictureBuilder {
+    alloc: Global,
+    plan: Plan,
+    // Of each slice whether it came.
+    came: Vec<bool>,
+    y: CoefficientCells,
+    c1: CoefficientCells,
+    c2: CoefficientCells,
+    // The coefficients of a component of the slice that is coming.
+    numbers: Vec<i32>,
+}
+
+impl Model for PictureBuilder {
+    ghost use Rattle.std.specs.Prelude.{◌≡◌, ◌+◌, ◌*◌, ◌<◌, ◌≤◌, ℕ, length, true, false, slice_index_or};
+    ghost use Rattle.vc_types.specs.declared.video.Component.{Component};
+    ghost use Rattle.vc_types.specs.declared.video.Component.TheVariants.{Y, C1, C2};
+    ghost use Rattle.vc_types.specs.TransformParameters.{parameters_of};
+    ghost use Rattle.picture_build.specs.Kept.{PartPicture, kept_slices, IsKept};
+
+    ghost Value = { PartPicture };
+
+    ghost view = { λ s. record {
+        parameters = parameters_of s.plan;
+        slices = kept_slices (parameters_of s.plan) s.came.items s.y s.c1 s.c2;
+    } };
+
+    ghost invariant = { λ s. IsKept (parameters_of s.plan) s.came.items s.y s.c1 s.c2
+        (length s.numbers.items) };
+}
+
+impl PictureBuilder {
+    /// A picture of which no slice came.
+    pub fn new(alloc: Global, plan: Plan) -> Result<PictureBuilder, NoMemory>
+        ensures value { IfOk result (λ builder. builder ≡ no_slices (parameters_of plan)) }
+    {
+        let most = most_coefficients(&plan) as usize + 8;
+        Ok(PictureBuilder {
+            alloc,
+            plan,
+            came: vec![in alloc; false; (plan.slices_x * plan.slices_y) as usize]?,
+            y: CoefficientCells::new(alloc, cell_count(&plan, Component::Y))?,
+            c1: CoefficientCells::new(alloc, cell_count(&plan, Component::C1))?,
+            c2: CoefficientCells::new(alloc, cell_count(&plan, Component::C2))?,
+            numbers: vec![in alloc; 0; most]?,
+        })
+    }
+
+    /// Begins another picture of the same plan, in the same memory.
+    pub fn restart(&mut self)
+        ensures value { self.new ≡ no_slices self.old.parameters }
+    {
+        self.came.fill(false);
+        self.y.restart();
+        self.c1.restart();
+        self.c2.restart();
+    }
+
+    /// Whether the slice came.
+    pub fn has(&self, index: u32) -> bool
+        ensures { result ≡ is_some (self.now.slices index) }
+    {
+        let index = index as usize;
+        index < self.came.len() && self.came[index]
+    }
+
+    /// Fills in a slice that didn't come yet. It takes no memory.
+    pub fn fill(&mut self, index: u32, c: &SliceCoeffs)
+        requires in_plan { index < slice_count self.old.parameters }
+        requires once { self.old.slices index ≡ None }
+        requires whole { AreSliceCoefficients self.old.parameters index c.now }
+        ensures value { self.new ≡ with_slice self.old index c.now }
+    {
+        fill_slice(
+            &self.plan,
+            index,
+            c,
+            &mut self.numbers,
+            &mut self.y,
+            &mut self.c1,
+            &mut self.c2,
+        );
+        self.came[index as usize] = true;
+    }
+
+    /// Decodes a slice that didn't come yet (ST 2042-1, high-quality slice) straight to the places of its coefficients.
+    /// After a refusal the picture is as before.
+    pub fn put(&mut self, index: u32, bytes: &[u8]) -> Result<(), NotPut>
+        requires in_plan { index < slice_count self.old.parameters }
+        requires once { self.old.slices index ≡ None }
+        requires whole { slice_length self.old.parameters.prefix self.old.parameters.scaler bytes.now
+            ≡ Some (length bytes.now) }
+        ensures value { Puts (slice_coefficients self.old.parameters index bytes.now) index
+            self.old self.new result }
+    {
+        let Some((coded, _)) = coded_slice(self.plan.prefix, self.plan.scaler, bytes) else {
+            unreachable!();
+        };
+        if coded.index > 127 {
+            return Err(NotPut::Unsound(Unsound::IndexRange));
+        }
+        put_blocks(
+            &self.plan,
+            index,
+            &coded,
+            &mut self.numbers,
+            &mut self.y,
+            &mut self.c1,
+            &mut self.c2,
+        )?;
+        self.came[index as usize] = true;
+        Ok(())
+    }
+
+    /// The planes of a picture all of whose slices came. Another picture begins then, in the same memory.
+    pub fn planes(&mut self) -> Result<[Plane; 3], NoMemory>
+        requires whole { IsWhole self.old }
+        ensures value { IfOk result (λ planes. planes_in planes
+            ≡ planes_of self.old.parameters (slices_of self.old)) }
+        ensures restarted { self.new ≡ no_slices self.old.parameters }
+    {
+        let planes = finished(self.alloc, &self.plan, &self.y, &self.c1, &self.c2);
+        self.restart();
+        planes
+    }
+
+    /// The planes of a picture all of whose slices came.
+    pub fn finish(self) -> Result<[Plane; 3], NoMemory>
+        requires whole { IsWhole self }
+        ensures value { IfOk result (λ planes. planes_in planes
+            ≡ planes_of self.parameters (slices_of self)) }
+    {
+        let mut builder = self;
+        builder.planes()
+    }
+}

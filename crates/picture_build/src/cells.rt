@@ -1,0 +1,134 @@
+ghost use Rattle.std.specs.Prelude.{◌≡◌, ◌≢◌, ◌+◌, ◌*◌, ◌^◌, ◌<◌, ◌≤◌, ◌⊎◌, ℕ, ℤ, pos, IfOk, length, unsigned_abs};
+ghost use Rattle.vc_types.specs.Lifting.{line_of};
+ghost use Rattle.picture_build.specs.Cells.{whole_number};
+
+use std::alloc::Global;
+use std::marker::Model;
+use vc_types::NoMemory;
+
+// What one in the high part of a cell counts.
+const HIGH: i64 = 1 << 30;
+
+/// The coefficients of a component, at their places. Contracts see the list of them.
+#[derive(Drop)]
+pub(crate) struct CoefficientCells {
+    low: Vec<i32>,
+    // Untouched, until some coefficient is too wide for the low part alone.
+    high: Vec<i32>,
+    is_wide: bool,
+}
+
+impl Model for CoefficientCells {
+    ghost use Rattle.std.specs.Prelude.{◌≡◌, List, ℤ, length};
+    ghost use Rattle.picture_build.specs.Cells.{cells_in};
+
+    ghost Value = { List ℤ };
+
+    ghost view = { λ s. cells_in s.is_wide s.high.items s.low.items };
+
+    ghost invariant = { λ s. length s.high.items ≡ length s.low.items };
+}
+
+impl CoefficientCells {
+    /// So many cells, which hold anything.
+    pub(crate) fn new(alloc: Global, len: usize) -> Result<CoefficientCells, NoMemory>
+        ensures length { IfOk result (λ cells. length cells ≡ len) }
+    {
+        Ok(CoefficientCells {
+            low: vec![in alloc; 0; len]?,
+            high: vec![in alloc; 0; len]?,
+            is_wide: false,
+        })
+    }
+
+    /// The same cells for other coefficients. They hold anything then.
+    pub(crate) fn restart(&mut self)
+        ensures length { length self.new ≡ length self.old }
+    {
+        self.is_wide = false;
+    }
+
+    /// Copies so many numbers, from one of them on, to cells from one of them on.
+    pub(crate) fn put_row(&mut self, at: usize, numbers: &[i32], from: usize, width: usize)
+        requires at { at + width ≤ length self.old }
+        requires from { from + width ≤ length numbers.now }
+        ensures on { (x : ℕ) → x < width → line_of self.new (at + x) ≡ line_of numbers.now (from + x) }
+        ensures off { (k : ℕ) → (k < at) ⊎ (at + width ≤ k) → line_of self.new k ≡ line_of self.old k }
+        ensures length { length self.new ≡ length self.old }
+    {
+        copy_row(&mut self.low, at, numbers, from, width);
+        if self.is_wide {
+            clear_row(&mut self.high, at, width);
+        }
+    }
+
+    /// The number in a cell.
+    pub(crate) fn get(&self, at: usize) -> i64
+        requires at { at < length self.now }
+        ensures value { result ≡ line_of self.now at }
+    {
+        if self.is_wide {
+            whole(self.high[at], self.low[at])
+        } else {
+            i64::from(self.low[at])
+        }
+    }
+
+    /// Puts a coefficient into a cell, however wide it is.
+    pub(crate) fn put(&mut self, at: usize, coefficient: i64)
+        requires at { at < length self.old }
+        requires coefficient { unsigned_abs coefficient < 2 ^ 60 }
+        ensures on { line_of self.new at ≡ coefficient }
+        ensures off { (k : ℕ) → k ≢ at → line_of self.new k ≡ line_of self.old k }
+        ensures length { length self.new ≡ length self.old }
+    {
+        let (high, low) = parts(coefficient);
+        if self.is_wide {
+            self.high[at] = high;
+            self.low[at] = low;
+        } else {
+            self.high.fill(0);
+            self.high[at] = high;
+            self.low[at] = low;
+            self.is_wide = true;
+        }
+    }
+}
+
+// The number of two parts.
+fn whole(high: i32, low: i32) -> i64
+    ensures { result ≡ whole_number high low }
+{
+    i64::from(high) * HIGH + i64::from(low)
+}
+
+fn parts(number: i64) -> (i32, i32)
+    requires { unsigned_abs number < 2 ^ 60 }
+    ensures { whole_number result.0 result.1 ≡ number }
+{
+    ((number / HIGH) as i32, (number % HIGH) as i32)
+}
+
+#[inline(always)]
+fn copy_row(cells: &mut [i32], at: usize, numbers: &[i32], from: usize, width: usize)
+    requires at { at + width ≤ length cells.old }
+    requires from { from + width ≤ length numbers.now }
+    ensures on { (x : ℕ) → x < width → line_of cells.new (at + x) ≡ line_of numbers.now (from + x) }
+    ensures off { (k : ℕ) → (k < at) ⊎ (at + width ≤ k) → line_of cells.new k ≡ line_of cells.old k }
+    ensures length { length cells.new ≡ length cells.old }
+{
+    for x in 0..width {
+        cells[at + x] = numbers[from + x];
+    }
+}
+
+fn clear_row(cells: &mut [i32], at: usize, width: usize)
+    requires at { at + width ≤ length cells.old }
+    ensures on { (x : ℕ) → x < width → line_of cells.new (at + x) ≡ pos 0 }
+    ensures off { (k : ℕ) → (k < at) ⊎ (at + width ≤ k) → line_of cells.new k ≡ line_of cells.old k }
+    ensures length { length cells.new ≡ length cells.old }
+{
+    for x in 0..width {
+        cells[at + x] = 0;
+    }
+}

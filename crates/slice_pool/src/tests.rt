@@ -1,0 +1,346 @@
+ghost use Rattle.std.specs.Prelude.{◌≡◌, ◌<◌, IfOk};
+
+use crate::crew::dismiss;
+use crate::hands::team_of;
+use crate::{Crew, Worker};
+use bytes::Bytes;
+use std::alloc::Global;
+use std::sync::atomic::{AtomicBool, AtomicU64, Ordering};
+use std::sync::{Arc, Wait};
+use std::test::Fail;
+use std::thread;
+use std::thread::Threads;
+use vc_ports::{Gate, NoGate};
+use vc_slice::{Hands, Places, SliceDone, SliceJob, cut};
+use vc_types::{Component, NoMemory, Plan, Shape};
+
+// A picture of 6 by 2 samples with three slices side by side, each with one coefficient of each
+// subband.
+const PLAN: Plan = Plan {
+    shape: Shape {
+        luma_width: 6,
+        luma_height: 2,
+        colour_width: 6,
+        colour_height: 2,
+        luma_depth: 8,
+        colour_depth: 8,
+    },
+    wavelet: 3,
+    wavelet_ho: 3,
+    depth: 1,
+    depth_ho: 0,
+    slices_x: 3,
+    slices_y: 1,
+    prefix: 0,
+    scaler: 1,
+    matrix: [8, 4, 4, 0, 0, 0, 0, 0, 0, 0, 0, 0, 0, 0, 0, 0],
+};
+
+// A slice whose luma coefficients are LL 0, HL 1, LH 0, HH 1.
+const SLICE: [u8; 6] = [0x00, 0x02, 0x94, 0x80, 0x00, 0x00];
+
+const LUMA: [i64; 4] = [0, 1, 0, 1];
+
+// How often a test asks before it fails. Each turn yields the processor.
+const TURNS: u64 = 10_000_000;
+
+fn job(number: u64, index: u32) -> Result<SliceJob, NoMemory>
+    requires { index < 3 }
+{
+    let bytes = Bytes::from_static(&SLICE);
+    match cut(PLAN.prefix, PLAN.scaler, bytes.as_slice()) {
+        Ok(len) if len == bytes.len() => Ok(SliceJob {
+            plan: PLAN,
+            number,
+            index,
+            bytes,
+        }),
+        _ => Err(NoMemory),
+    }
+}
+
+fn offer<P: Places>(places: &mut P, index: u32) -> Result<u32, Fail>
+    requires { index < 3 }
+    ensures bound { P.bound places.new ≡ P.bound places.old }
+    ensures place { IfOk result (λ place. place < P.bound places.new) }
+{
+    match places.put(job(7, index)?) {
+        Ok(place) => Ok(place),
+        Err(_) => Err(Fail::from("the slice has no place")),
+    }
+}
+
+fn wait_for<P: Places>(places: &mut P, place: u32) -> Option<SliceDone>
+    requires { place < P.bound places.old }
+    ensures bound { P.bound places.new ≡ P.bound places.old }
+{
+    for _turn in 0..TURNS {
+        if let Some(done) = places.take(place) {
+            return Some(done);
+        }
+        thread::yield_now();
+    }
+    None
+}
+
+// Whether the slice comes back decoded.
+fn is_decoded<P: Places>(places: &mut P, place: u32, index: u32) -> bool
+    requires { place < P.bound places.old }
+    ensures bound { P.bound places.new ≡ P.bound places.old }
+{
+    match wait_for(places, place) {
+        Some(done) => done.job.index == index && has_luma(&done),
+        None => false,
+    }
+}
+
+fn has_luma(done: &SliceDone) -> bool {
+    match &done.answer {
+        Ok(coeffs) => coeffs.component(Component::Y) == LUMA.as_slice(),
+        Err(_) => false,
+    }
+}
+
+fn three_slices<P: Hands>(hands: &mut P, workers: u32) -> Result<bool, Fail>
+    requires { P.is_free hands.old }
+{
+    hands.start_workers(workers)?;
+    let first = offer(hands, 0)?;
+    let second = offer(hands, 1)?;
+    let third = offer(hands, 2)?;
+    Ok(is_decoded(hands, second, 1) && is_decoded(hands, first, 0) && is_decoded(hands, third, 2))
+}
+
+// Whether a crew of so many workers decodes the picture.
+fn is_picture_decoded<H: Threads + Wait + Copy + Send + Sync + 'static>(
+    rt: H,
+    alloc: Global,
+    workers: u32,
+) -> Result<bool, Fail> {
+    let gate = Arc::new(alloc, NoGate)?;
+    let mut crew = Crew::new(rt, alloc, |worker: Worker| worker.start(rt, &gate));
+    let decoded = three_slices(&mut crew, workers);
+    crew.stop();
+    decoded
+}
+
+#[test]
+fn workers_decode_a_picture(rt: HostRuntime) -> Result<(), Fail> {
+    assert!(rt; is_picture_decoded(rt, rt.alloc(), 1)?);
+    assert!(rt; is_picture_decoded(rt, rt.alloc(), 4)?);
+    Ok(())
+}
+
+#[test]
+fn more_workers_than_slices(rt: HostRuntime) -> Result<(), Fail> {
+    assert!(rt; is_picture_decoded(rt, rt.alloc(), 64)?);
+    Ok(())
+}
+
+// Holds the first worker that comes, until it is opened, and lets all others pass.
+#[derive(Drop)]
+struct Doorkeeper {
+    // The slice of the worker that is held, and the one that passed last, each plus 1.
+    held: AtomicU64,
+    passed: AtomicU64,
+    is_open: AtomicBool,
+}
+
+impl Gate for Doorkeeper {
+    fn pass(&self, _worker: u32, slice: u32) {
+        let slice = slice as u64 + 1;
+        let first = self
+            .held
+            .compare_exchange(0, slice, Ordering::SeqCst, Ordering::SeqCst);
+        if first.is_err() {
+            self.passed.store(slice, Ordering::SeqCst);
+            return;
+        }
+        for _turn in 0..TURNS {
+            if self.is_open.load(Ordering::SeqCst) {
+                return;
+            }
+            thread::yield_now();
+        }
+    }
+}
+
+// Whether the word comes to have this slice, plus 1.
+fn comes(word: &AtomicU64, slice: u64) -> bool
+    requires { slice < 3 }
+{
+    for _turn in 0..TURNS {
+        if word.load(Ordering::SeqCst) == slice + 1 {
+            return true;
+        }
+        thread::yield_now();
+    }
+    false
+}
+
+// The second slice is put once a worker is held with the first, and the third once the other worker
+// passed with the second; then the held worker goes on.
+fn slices_past<P: Hands>(hands: &mut P, door: &Doorkeeper) -> Result<bool, Fail>
+    requires { P.is_free hands.old }
+{
+    hands.start_workers(2)?;
+    let first = offer(hands, 0)?;
+    let is_held = comes(&door.held, 0);
+    let second = offer(hands, 1)?;
+    let is_past = comes(&door.passed, 1);
+    let early = is_decoded(hands, second, 1);
+    door.is_open.store(true, Ordering::SeqCst);
+    let third = offer(hands, 2)?;
+    let late = is_decoded(hands, first, 0) && is_decoded(hands, third, 2);
+    Ok(is_held && is_past && early && late)
+}
+
+#[test]
+fn a_held_worker_holds_up_no_other(rt: HostRuntime) -> Result<(), Fail> {
+    let alloc = rt.alloc();
+    let door = Arc::new(
+        alloc,
+        Doorkeeper {
+            held: AtomicU64::new(0),
+            passed: AtomicU64::new(0),
+            is_open: AtomicBool::new(false),
+        },
+    )?;
+    let mut crew = Crew::new(rt, alloc, |worker: Worker| worker.start(rt, &door));
+    let passed = slices_past(&mut crew, &door);
+    crew.stop();
+    assert!(rt; passed?);
+    Ok(())
+}
+
+// Whether a crew that has no workers hands a slice back.
+fn hands_back<P: Hands>(hands: &mut P) -> Result<bool, Fail>
+    requires { P.is_free hands.old }
+{
+    hands.start_workers(0)?;
+    Ok(hands.put(job(7, 1)?).is_err_and(|job| job.index == 1))
+}
+
+#[test]
+fn a_crew_without_workers(rt: HostRuntime) -> Result<(), Fail> {
+    let alloc = rt.alloc();
+    let gate = Arc::new(alloc, NoGate)?;
+    let idle = Crew::new(rt, alloc, |worker: Worker| worker.start(rt, &gate));
+    idle.stop();
+    let mut crew = Crew::new(rt, alloc, |worker: Worker| worker.start(rt, &gate));
+    let back = hands_back(&mut crew);
+    crew.stop();
+    assert!(rt; back?);
+    Ok(())
+}
+
+// Which job was put into each of four places, 0 where none is there, and which places were left.
+#[derive(Drop)]
+struct Book {
+    numbers: [u64; 4],
+    left: [bool; 4],
+}
+
+impl Book {
+    // Whether the place was free or left.
+    fn put<P: Places>(&mut self, places: &mut P, number: u64) -> Result<bool, NoMemory>
+        requires { P.bound places.old ≡ 4 }
+        ensures { P.bound places.new ≡ 4 }
+    {
+        let Ok(place) = places.put(job(number, 0)?) else {
+            return Ok(true);
+        };
+        let place = place as usize;
+        let was_free = self.numbers[place] == 0 || self.left[place];
+        self.numbers[place] = number;
+        self.left[place] = false;
+        Ok(was_free)
+    }
+
+    // Whether what comes back, if anything does, is of the job that was put there.
+    fn take<P: Places>(&mut self, places: &mut P, place: u32) -> bool
+        requires { (P.bound places.old ≡ 4) × (place < 4) }
+        ensures { P.bound places.new ≡ 4 }
+    {
+        match places.take(place) {
+            Some(done) => self.is_back(place, done.job.number) && has_luma(&done),
+            None => true,
+        }
+    }
+
+    fn withdraw<P: Places>(&mut self, places: &mut P, place: u32) -> bool
+        requires { (P.bound places.old ≡ 4) × (place < 4) }
+        ensures { P.bound places.new ≡ 4 }
+    {
+        match places.withdraw(place) {
+            Some(job) => self.is_back(place, job.number),
+            None => true,
+        }
+    }
+
+    fn leave<P: Places>(&mut self, places: &mut P, place: u32)
+        requires { (P.bound places.old ≡ 4) × (place < 4) }
+        ensures { P.bound places.new ≡ 4 }
+    {
+        places.leave(place);
+        self.left[place as usize] = true;
+    }
+
+    fn is_back(&mut self, place: u32, number: u64) -> bool
+        requires { place < 4 }
+    {
+        let place = place as usize;
+        let is_own = self.numbers[place] == number;
+        self.numbers[place] = 0;
+        self.left[place] = false;
+        is_own
+    }
+
+    // One call, which the dice choose.
+    fn turn<P: Places>(&mut self, places: &mut P, number: u64, dice: u64) -> Result<bool, NoMemory>
+        requires { P.bound places.old ≡ 4 }
+        ensures { IfOk result (λ _. P.bound places.new ≡ 4) }
+    {
+        let place = (dice / 8 % 4) as u32;
+        match dice % 8 {
+            0..=3 => self.put(places, number),
+            4 | 5 => Ok(self.take(places, place)),
+            6 => Ok(self.withdraw(places, place)),
+            _ => {
+                self.leave(places, place);
+                Ok(true)
+            }
+        }
+    }
+}
+
+// Whether each answer in ten thousand calls is of its own job.
+fn many_turns<P: Places>(places: &mut P) -> Result<bool, NoMemory>
+    requires { P.bound places.old ≡ 4 }
+{
+    let mut book = Book {
+        numbers: [0; 4],
+        left: [false; 4],
+    };
+    let mut dice: u64 = 1;
+    for number in 1..10_001 {
+        dice = dice
+            .wrapping_mul(6_364_136_223_846_793_005)
+            .wrapping_add(1_442_695_040_888_963_407);
+        if !book.turn(places, number, dice >> 33)? {
+            return Ok(false);
+        }
+    }
+    Ok(true)
+}
+
+#[test]
+fn answers_belong_to_their_jobs(rt: HostRuntime) -> Result<(), Fail> {
+    let alloc = rt.alloc();
+    let gate = Arc::new(alloc, NoGate)?;
+    let mut team = team_of(alloc, 4, 4, &|worker: Worker| worker.start(rt, &gate))?;
+    let are_own = many_turns(&mut team.form);
+    dismiss(&rt, team);
+    assert!(rt; are_own?);
+    Ok(())
+}

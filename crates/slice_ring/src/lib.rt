@@ -1,0 +1,15 @@
+//! A ring of places where one feeder puts slices and workers claim them, as plain data: each call
+//! is one step.
+#![tactic(auto)]
+
+mod answers;
+mod place;
+mod ring;
+mod same_job;
+
+pub use answers::{Claim, CompleteRefusal, NotHeld, NotWaiting, NotYet, PutRefusal};
+pub use link_model::PlaceState;
+pub use ring::Ring;
+
+#[cfg(test)]
+mod tests;

@@ -1,0 +1,130 @@
+-- The table says of each byte what numbers' codes it begins with.
+use Rattle.std.proofs.lemmas.Int.{to_z-of_z, fits_signed_from_abs}
+use Rattle.std.specs.Int.{w32, w64}
+use Rattle.std.proofs.Common.{◌≡◌, ◌^◌, unsigned_abs, to_z, of_z, ℕ, zero, suc, ◌+◌, ◌-◌, ◌<◌, ◌≤◌, ℤ, pos, Bool, true, false, eqb, leb, List, [], ◌∷◌, ◌++◌, length, get_or, take, drop, refl, sym, ap, subst, ◌∙◌, arith, inl, inr, length-append, zero-add, suc-add}
+use Rattle.std.specs.Prelude.{◌&&◌}
+use Rattle.std.proofs.lemmas.Bool.{and_parts, cases_lt, eqb-true, leb-true}
+use Rattle.std.proofs.lemmas.List.{take-append-drop, drop-drop, get_or-take}
+use Rattle.std.proofs.Math.Seq.{get_or-append_right}
+use Rattle.vc_types.specs.Bits.{byte_bits}
+use Rattle.vc_types.specs.Codes.{uint_bits, spread_digits, sint_bits}
+use Rattle.vc_types.specs.Bounded.{bounded, BeginsWith, bounded_sint}
+use Rattle.vc_types.proofs.BoundedCodes.{bounded-drop, front_begins, bounded_sint-begins}
+use Rattle.vc_golomb.specs.Numbers.{number_at}
+use Rattle.vc_golomb.specs.declared.rows.TheConstants.{VALUES, COUNT, BITS}
+
+-- ---- codes, one after another
+
+abbrev pub codes : List ℤ → List Bool
+codes [] = []
+codes (v ∷ vs) = sint_bits v ++ codes vs
+
+behind : (bits xs ys : List Bool) → BeginsWith bits (xs ++ ys) → BeginsWith (drop (length xs) bits) ys
+behind bits xs ys begin place lt =
+    let same : length xs + place - length xs ≡ place = omega arith in
+    bounded-drop (length xs) place bits ∙ begin (length xs + place) (omega (arith, length-append xs ys)) ∙ get_or-append_right xs ys (length xs + place) true (omega arith) ∙ ap (bounded ys) same
+
+first_of : (v : ℤ) (vs : List ℤ) (bits : List Bool) → BeginsWith bits (codes (v ∷ vs)) → bounded_sint bits ≡ (v, drop (length (sint_bits v)) bits)
+first_of v vs bits begin = bounded_sint-begins bits v (front_begins bits (sint_bits v) (codes vs) begin)
+
+pub numbers_front : (vs : List ℤ) (bits : List Bool) → BeginsWith bits (codes vs) → (j : ℕ) → j < length vs → get_or vs j (pos 0) ≡ number_at bits j
+unfolding number_at
+numbers_front [] bits begin j lt = absurd (omega arith)
+numbers_front (v ∷ vs) bits begin zero lt = sym (ap (λ (x : ℤ × List Bool). x.0) (first_of v vs bits begin))
+numbers_front (v ∷ vs) bits begin (suc j) lt =
+    numbers_front vs (drop (length (sint_bits v)) bits) (behind bits (sint_bits v) (codes vs) begin) j (omega arith)
+    ∙ sym (ap (λ (x : ℤ × List Bool). number_at x.1 j) (first_of v vs bits begin))
+
+pub numbers_rest : (vs : List ℤ) (bits : List Bool) → BeginsWith bits (codes vs) → (k : ℕ) → number_at bits (length vs + k) ≡ number_at (drop (length (codes vs)) bits) k
+unfolding number_at
+numbers_rest [] bits begin k = ap (number_at bits) (zero-add k)
+numbers_rest (v ∷ vs) bits begin k =
+    let n = length (sint_bits v) in
+    let long : n + length (codes vs) ≡ length (codes (v ∷ vs)) = sym (length-append (sint_bits v) (codes vs)) in
+    ap (number_at bits) (suc-add (length vs) k) ∙ ap (λ (x : ℤ × List Bool). number_at x.1 (length vs + k)) (first_of v vs bits begin)
+    ∙ numbers_rest vs (drop n bits) (behind bits (sint_bits v) (codes vs) begin) k
+    ∙ ap (λ (xs : List Bool). number_at xs k) (drop-drop (length (codes vs)) n bits ∙ ap (λ (m : ℕ). drop m bits) long)
+
+-- ---- a test of the whole table
+
+abbrev holds_below : (ℕ → Bool) → ℕ → Bool
+holds_below test zero = true
+holds_below test (suc n) = test n && holds_below test n
+
+at : (test : ℕ → Bool) (n k : ℕ) → holds_below test n ≡ true → k < n → test k ≡ true
+at test zero k all lt = absurd (omega arith)
+at test (suc n) k all lt =
+    let both = and_parts (test n) (holds_below test n) all in
+    elim (cases_lt k n) [
+      | inl less ↦ at test n k both.1 less
+      | inr le ↦ let same : n ≡ k = omega arith in subst (λ (m : ℕ). test m ≡ true) same both.0
+    ]
+
+abbrev same_bits : List Bool → List Bool → Bool
+same_bits [] [] = true
+same_bits (true ∷ xs) (true ∷ ys) = same_bits xs ys
+same_bits (false ∷ xs) (false ∷ ys) = same_bits xs ys
+same_bits xs ys = false
+
+same : (xs ys : List Bool) → same_bits xs ys ≡ true → xs ≡ ys
+same [] [] h = refl
+same (true ∷ xs) (true ∷ ys) h = ap (λ (bits : List Bool). true ∷ bits) (same xs ys h)
+same (false ∷ xs) (false ∷ ys) h = ap (λ (bits : List Bool). false ∷ bits) (same xs ys h)
+same [] (y ∷ ys) h = absurd cc
+same (true ∷ xs) [] h = absurd cc
+same (false ∷ xs) [] h = absurd cc
+same (true ∷ xs) (false ∷ ys) h = absurd cc
+same (false ∷ xs) (true ∷ ys) h = absurd cc
+
+abbrev is_row : ℕ → List ℤ → ℕ → ℕ → Bool
+is_row byte values count taken =
+    same_bits (codes (take count values)) (take taken (byte_bits byte)) && (eqb (length (take count values)) count && (eqb (length (codes (take count values))) taken && leb count 8))
+
+all_rows : holds_below (λ byte. is_row byte (get_or VALUES byte []) (get_or COUNT byte 0) (get_or BITS byte 0)) 256 ≡ true
+unfolding byte_bits sint_bits uint_bits spread_digits
+all_rows = refl
+
+pub record IsRow (byte : ℕ) (values : List ℤ) (count taken : ℕ) : Type 0 where
+  pub front : byte_bits byte ≡ codes (take count values) ++ drop taken (byte_bits byte)
+  pub long : length (take count values) ≡ count
+  pub bits : length (codes (take count values)) ≡ taken
+  pub few : count ≤ 8
+
+from_test : (byte : ℕ) (values : List ℤ) (count taken : ℕ) → is_row byte values count taken ≡ true → IsRow byte values count taken
+from_test byte values count taken test =
+    let parts = and_parts _ _ test in
+    let more = and_parts _ _ parts.1 in
+    let last = and_parts _ _ more.1 in
+    record {
+      front = sym (take-append-drop taken (byte_bits byte)) ∙ ap (λ (bits : List Bool). bits ++ drop taken (byte_bits byte)) (sym (same _ _ parts.0));
+      long = eqb-true _ _ more.0;
+      bits = eqb-true _ _ last.0;
+      few = leb-true count 8 last.1;
+    }
+
+pub row : (byte : ℕ) → byte < 256 → IsRow byte (get_or VALUES byte []) (get_or COUNT byte 0) (get_or BITS byte 0)
+row byte small = from_test byte _ _ _ (at (λ byte. is_row byte (get_or VALUES byte []) (get_or COUNT byte 0) (get_or BITS byte 0)) 256 byte all_rows small)
+
+row_begins : (byte : ℕ) (values : List ℤ) (count taken : ℕ) (bits : List Bool) → IsRow byte values count taken → BeginsWith bits (byte_bits byte) → BeginsWith bits (codes (take count values))
+row_begins byte values count taken bits r begin = front_begins bits (codes (take count values)) (drop taken (byte_bits byte)) (subst (BeginsWith bits) r.front begin)
+
+pub row_rest : (byte : ℕ) (values : List ℤ) (count taken : ℕ) (bits : List Bool) → IsRow byte values count taken → BeginsWith bits (byte_bits byte) → (k : ℕ) → number_at bits (count + k) ≡ number_at (drop taken bits) k
+row_rest byte values count taken bits r begin k =
+    ap (λ (n : ℕ). number_at bits (n + k)) (sym r.long) ∙ numbers_rest (take count values) bits (row_begins byte values count taken bits r begin) k ∙ ap (λ (n : ℕ). number_at (drop n bits) k) r.bits
+
+pub row_values : (byte : ℕ) (values : List ℤ) (count taken : ℕ) (bits : List Bool) → IsRow byte values count taken → BeginsWith bits (byte_bits byte) → (j : ℕ) → j < count → get_or values j (pos 0) ≡ number_at bits j
+row_values byte values count taken bits r begin j lt =
+    sym (get_or-take count values j (pos 0) lt) ∙ numbers_front (take count values) bits (row_begins byte values count taken bits r begin) j (omega (arith, r.long))
+
+-- ---- one number
+
+pub number_first : (bits : List Bool) → (bounded_sint bits).0 ≡ number_at bits 0
+unfolding number_at
+number_first bits = refl
+
+pub number_next : (bits rest : List Bool) (k : ℕ) → rest ≡ (bounded_sint bits).1 → number_at bits (1 + k) ≡ number_at rest k
+unfolding number_at
+number_next bits rest k is = (let next : 1 + k ≡ suc k = omega arith in ap (number_at bits) next) ∙ ap (λ (xs : List Bool). number_at xs k) (sym is)
+
+pub narrow_read : (z : ℤ) → unsigned_abs z < 2 ^ 30 → to_z w32 (of_z w32 (to_z w64 (of_z w64 z))) ≡ z
+narrow_read z h = rw (to_z-of_z w64 z (fits_signed_from_abs w64 z (omega arith))) (to_z-of_z w32 z (fits_signed_from_abs w32 z (omega arith)))

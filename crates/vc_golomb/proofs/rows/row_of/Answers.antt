@@ -1,0 +1,18 @@
+use Rattle.std.proofs.Common.{◌+◌, ◌<◌, ◌≤◌, ℕ, get_or, drop, [], sym, ap, subst, ◌∙◌, arith}
+use Rattle.vc_golomb.specs.Numbers.{number_at}
+use Rattle.vc_golomb.specs.declared.rows.TheConstants.{VALUES, COUNT, BITS}
+use Rattle.vc_golomb.proofs.ByteRows.{row, row_values, row_rest}
+use Rattle.vc_golomb.proofs.rows.row_of.Goals as goal
+
+pub returns-clause-few : goal.returns-clause-few
+returns-clause-few c = subst (λ (n : ℕ). n ≤ 8) (sym c.from.ensures) (row c.args.byte (omega arith)).few
+
+pub returns-clause-values : goal.returns-clause-values
+returns-clause-values c = λ bits begin j lt.
+    row_values c.args.byte (get_or VALUES c.args.byte []) (get_or COUNT c.args.byte 0) (get_or BITS c.args.byte 0) bits (row c.args.byte (omega arith)) begin j (subst (λ (n : ℕ). j < n) c.from.ensures lt)
+
+pub returns-clause-rest : goal.returns-clause-rest
+returns-clause-rest c = λ bits begin k.
+    ap (λ (n : ℕ). number_at bits (n + k)) c.from.ensures
+    ∙ row_rest c.args.byte (get_or VALUES c.args.byte []) (get_or COUNT c.args.byte 0) (get_or BITS c.args.byte 0) bits (row c.args.byte (omega arith)) begin k
+    ∙ ap (λ (n : ℕ). number_at (drop n bits) k) (sym c.from-2.ensures)

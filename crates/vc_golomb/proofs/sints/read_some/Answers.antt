@@ -1,0 +1,20 @@
+use Rattle.std.proofs.Common.{rules, ◌≡◌, pos, to_z, of_z, ap, ◌∙◌, arith, add-zero, slice_set}
+use Rattle.std.specs.Int.{w32, w64}
+use Rattle.std.proofs.lemmas.List.{get_or-set_same}
+use Rattle.vc_types.specs.Lifting.{line_of}
+use Rattle.vc_golomb.proofs.ByteRows.{number_first, number_next, narrow_read}
+use Rattle.vc_golomb.proofs.NumberLists.{large_first}
+use Rattle.vc_golomb.proofs.sints.read_some.Goals as goal
+
+pub returns-clause-on : goal.returns-clause-on
+returns-clause-on c = λ j lt.
+    let none : j ≡ 0 = omega arith in
+    let v = to_z w32 (of_z w32 (to_z w64 (of_z w64 c.in_ok-number.number))) in
+    rw none (ap (line_of (slice_set c.args.out.now c.args.at v)) (add-zero c.args.at) ∙ get_or-set_same c.args.out.now c.args.at v (pos 0) (omega arith)
+    ∙ narrow_read c.in_ok-number.number (omega (arith, c.in_ok-number.ensures.small)) ∙ c.in_ok-number.ensures.value ∙ number_first c.args.block.now)
+
+pub returns-clause-rest : goal.returns-clause-rest
+returns-clause-rest c = λ k. number_next c.args.block.now c.read_sint_bounded.new.b k c.in_ok-number.ensures.rest
+
+pub returns-in_err-number-clause-too_large : goal.returns-in_err-number-clause-too_large
+returns-in_err-number-clause-too_large c = large_first c.args.block.now c.from_residual.result (c.read_sint_bounded.ensures.refused.0 (search rules))

@@ -1,0 +1,115 @@
+ghost use Rattle.std.specs.Prelude.{◌≡◌, ◌+◌, ◌^◌, ◌<◌, ◌≤◌, ◌⊎◌, ℕ, All, OnOk, length, slice_index_or, unsigned_abs, true, false};
+ghost use Rattle.std.specs.List.{list_any};
+ghost use Rattle.vc_types.specs.Lifting.{line_of};
+ghost use Rattle.vc_types.specs.Quantisation.{dequantised};
+ghost use Rattle.vc_types.specs.Slices.{block_coefficients, is_large, quantisers};
+ghost use Rattle.vc_types.specs.Subbands.{slice_count, slice_coefficient_count};
+ghost use Rattle.vc_types.specs.TransformParameters.{parameters_of};
+
+use crate::component::{bits_of, count, quantiser};
+use vc_geometry::{bands, slice_len};
+use vc_golomb::read_sints;
+use vc_quant::Quantiser;
+use vc_types::{Component, Plan};
+
+/// A coefficient may be too wide for 32 bits.
+#[derive(Clone, Copy, Debug, PartialEq, Eq)]
+pub struct TooWide;
+
+/// Reads the coefficients of a component's block (ST 2042-1, high-quality slice) to the front of `out`, which has room
+/// for eight more. What is behind them isn't said. TooWide says nothing of the block but that it is to be read in 64 bits.
+pub fn read_narrow(
+    plan: &Plan,
+    c: Component,
+    slice: u32,
+    index: u8,
+    block: &[u8],
+    out: &mut [i32],
+) -> Result<(), TooWide>
+    requires slice { slice < slice_count (parameters_of plan.now) }
+    requires index { index ≤ 127 }
+    requires room { slice_coefficient_count (parameters_of plan.now) c slice + 8 ≤ length out.old }
+    ensures value { OnOk result ((i : ℕ) → i < slice_coefficient_count (parameters_of plan.now) c slice
+        → line_of out.new i
+        ≡ line_of (block_coefficients (parameters_of plan.now) c slice index block.now) i) }
+    ensures sound { OnOk result (list_any is_large
+        (block_coefficients (parameters_of plan.now) c slice index block.now) ≡ false) }
+{
+    let count = slice_len(plan, c, slice) as usize;
+    let mut bits = bits_of(block);
+    let Ok(()) = read_sints(&mut bits, count, out) else {
+        return Err(TooWide);
+    };
+    let greatest = greatest(&out[..count]);
+    if dequantise(plan, c, slice, index, greatest, out) {
+        Ok(())
+    } else {
+        Err(TooWide)
+    }
+}
+
+fn greatest(numbers: &[i32]) -> u32
+    ensures { All (λ z. unsigned_abs z ≤ result) numbers.now }
+{
+    let mut seen = 0u32;
+    for number in numbers {
+        seen = seen.max(number.unsigned_abs());
+    }
+    seen
+}
+
+// Puts in the place of a block's numbers, whose magnitudes are at most the greatest, the coefficients that they stand
+// for; false where one may not fit 32 bits.
+fn dequantise(
+    plan: &Plan,
+    c: Component,
+    slice: u32,
+    index: u8,
+    greatest: u32,
+    numbers: &mut [i32],
+) -> bool
+    requires slice { slice < slice_count (parameters_of plan.now) }
+    requires index { index ≤ 127 }
+    requires count { slice_coefficient_count (parameters_of plan.now) c slice ≤ length numbers.old }
+    requires greatest { (i : ℕ) → i < slice_coefficient_count (parameters_of plan.now) c slice
+        → unsigned_abs (line_of numbers.old i) ≤ greatest }
+    ensures value { result ≡ true → (i : ℕ)
+        → i < slice_coefficient_count (parameters_of plan.now) c slice
+        → line_of numbers.new i ≡ dequantised (line_of numbers.old i)
+        (slice_index_or (quantisers (parameters_of plan.now) c slice index) i 0) }
+    ensures narrow { result ≡ true → (i : ℕ)
+        → i < slice_coefficient_count (parameters_of plan.now) c slice
+        → unsigned_abs (line_of numbers.new i) < 2 ^ 29 }
+{
+    let mut from = 0usize;
+    for b in 0..bands(plan) {
+        let to = from + count(plan, c, b, slice) as usize;
+        let quantiser = quantiser(plan, b, index);
+        if !dequantise_run(&quantiser, numbers, from, to, greatest) {
+            return false;
+        }
+        from = to;
+    }
+    true
+}
+
+// The same for the numbers of one subband, which stand from one place to another.
+#[inline(always)]
+fn dequantise_run(
+    quantiser: &Quantiser,
+    numbers: &mut [i32],
+    from: usize,
+    to: usize,
+    greatest: u32,
+) -> bool
+    requires run { (from ≤ to) × (to ≤ length numbers.old) }
+    requires greatest { (i : ℕ) → from ≤ i → i < to → unsigned_abs (line_of numbers.old i) ≤ greatest }
+    ensures on { result ≡ true → (i : ℕ) → from ≤ i → i < to
+        → line_of numbers.new i ≡ dequantised (line_of numbers.old i) quantiser.now.index }
+    ensures narrow { result ≡ true → (i : ℕ) → from ≤ i → i < to
+        → unsigned_abs (line_of numbers.new i) < 2 ^ 29 }
+    ensures off { result ≡ true → (i : ℕ) → (i < from) ⊎ (to ≤ i)
+        → line_of numbers.new i ≡ line_of numbers.old i }
+{
+    quantiser.dequant_all(&mut numbers[from..to], greatest)
+}
