@@ -20,7 +20,7 @@ use Rattle.link_model.specs.Session.{HeardSession, sessions_of}
 use Rattle.vc_types.specs.Subbands.{slice_count}
 use Rattle.link_model.proofs.PicturesHeard.{let_go_rising}
 use Rattle.link_model.proofs.PicturesStay.{kept_slice, job_of_kept, each_and, some_after}
-use Rattle.link_model.proofs.RisingNumbers.{Each, IsRising, each_map, each_passes, each_filter, filter_rising, range_rising}
+use Rattle.link_model.proofs.RisingLists.{Each, IsRising, each_map, each_passes, each_filter, filter_rising, range_rising}
 
 -- ---- lists
 

@@ -35,7 +35,6 @@ pub mod PlacesKept
 pub mod RisingLists
 pub mod Positions
 pub mod SameJobs
-pub mod RisingNumbers
 pub mod PicturesHeard
 pub mod PicturesStay
 pub mod BuiltFrames

@@ -1,15 +1,15 @@
 -- The planes of a picture by the answers to its slices are those of its own whole bytes.
 use Rattle.std.proofs.Common.{◌≡◌, ℕ, zero, suc, ◌+◌, ◌<◌, ◌≤◌, Bool, true, false, refl, ap, sym}
-use Rattle.std.proofs.Common.{List, [], ◌∷◌, ◌++◌, length, map, take, drop, Option, Some, None}
-use Rattle.std.proofs.Common.{Result, Ok, Err, subst, ◌∙◌, arith, cond, inl, inr}
-use Rattle.std.specs.Prelude.{is_some, unwrap_or, slice_get, ◌⊎◌}
-use Rattle.std.specs.List.{list_all, range_with_len}
+use Rattle.std.proofs.Common.{List, [], ◌∷◌, ◌++◌, length, map, Option, Some, None}
+use Rattle.std.proofs.Common.{Result, Ok, Err, ◌∙◌, arith, cond, inl, inr}
+use Rattle.std.specs.Prelude.{is_some, unwrap_or}
+use Rattle.std.specs.List.{range_with_len}
 use Rattle.std.specs.Option.{option_and_then, option_map}
 use Rattle.std.proofs.Math.Seq.{drop-append_seam, take-append_seam}
 use Rattle.std.proofs.lemmas.Bool.{false≢true, cases_lt, cond-true, cond-false}
 use Rattle.std.proofs.lemmas.List.FromFn.{length-map-range_with_len}
-use Rattle.std.proofs.lemmas.Option.{none-some, same_Some}
-use Rattle.link_model.specs.Books.{Book, book_of, book_whole, Gathered, gathered_of, slot_at}
+use Rattle.std.proofs.lemmas.Option.{none-some}
+use Rattle.link_model.specs.Books.{book_of, gathered_of, slot_at}
 use Rattle.link_model.specs.Complete.{slice_numbers, has_all_slices, all_bytes, whole_of}
 use Rattle.link_model.specs.Complete.{whole_picture, picture_planes}
 use Rattle.link_model.specs.Feeders.{SliceAnswer, answer_in}
@@ -20,10 +20,9 @@ use Rattle.link_model.proofs.Bookkeeping.{book_whole_is}
 use Rattle.link_model.proofs.Releasing.{all_at, all_from}
 use Rattle.link_model.proofs.Slots.{slot_inside}
 use Rattle.link_model.proofs.WholeBytes.{SlicesStandAlone, decoded_whole, own_slice_whole}
-use Rattle.vc_types.specs.declared.refusal.Unsound.{Unsound}
 use Rattle.vc_types.specs.Fields.{and_then, joined}
 use Rattle.vc_types.specs.PictureBytes.{IsWholeSlice}
-use Rattle.vc_types.specs.Pictures.{Picture, with_slices, slices_from, decoded_picture}
+use Rattle.vc_types.specs.Pictures.{Picture, with_slices, slices_from}
 use Rattle.vc_types.specs.Planes.{Planes, planes_of, decoded_planes}
 use Rattle.vc_types.specs.SequenceHeader.{Sequence}
 use Rattle.vc_types.specs.Slices.{Coefficients, slice_coefficients}
@@ -301,7 +300,8 @@ module _ (s : Sequence) (parts : List Part) (kept : Own) (is : own s parts ≡ S
               (unwrap_or (slot_at (gathered_of kept).slots k) [])) ≡ own_decoding k
           by_answer None at =
               let here : 0 + k ≡ k = omega arith in
-              ap (λ (b : Option (List ℕ)). slice_coefficients kept.plan.parameters k (unwrap_or b []))
+              ap (λ (b : Option (List ℕ)).
+              slice_coefficients kept.plan.parameters k (unwrap_or b []))
               (slot_inside (own_slice kept) 0 count k below ∙ ap (own_slice kept) here)
           by_answer (Some d) at = own_answers k d at
 

@@ -1,8 +1,8 @@
 -- A datagram and the end of the input: the receiver stands for what was heard, and it wrote what is
 -- due.
-use Rattle.std.proofs.Common.{◌≡◌, ℕ, ◌+◌, ◌<◌, ◌≤◌, Bool, true, false, refl, ap, sym, ◌∙◌, arith}
+use Rattle.std.proofs.Common.{◌≡◌, ℕ, ◌≤◌, Bool, true, false, refl, ap, sym, ◌∙◌}
 use Rattle.std.proofs.Common.{List, [], ◌∷◌, ◌++◌, Option, Some, None, subst, cond, map}
-use Rattle.std.specs.Prelude.{◌&&◌, not, fold}
+use Rattle.std.specs.Prelude.{◌&&◌, not}
 use Rattle.std.specs.List.{flat_map}
 use Rattle.std.proofs.lemmas.List.Sums.{fold-append}
 use Rattle.link_model.specs.Feeders.{Feeder, is_decoded, keeps_now, releasable}
@@ -11,22 +11,20 @@ use Rattle.link_model.specs.Feeding.{releases_picture}
 use Rattle.link_model.specs.Machine.{Enter, Finish, Redo, Release, feeder_after}
 use Rattle.link_model.specs.Next.{feeder_run, all_releasing, taken_back, next_feeder}
 use Rattle.link_model.specs.Next.{unanswered, releasing}
-use Rattle.link_model.specs.Output.{output_so_far, full_output}
 use Rattle.link_model.specs.Places.{Answered}
 use Rattle.link_model.specs.Session.{Session, HeardSession, sessions_of, opens_behind, begins}
-use Rattle.link_model.specs.Windows.{WindowPast, past_let_go, releasable_numbers}
+use Rattle.link_model.specs.Windows.{WindowPast}
 use Rattle.link_model.specs.declared.tally.Tally.{Tally}
 use Rattle.link_receiver.specs.Entering.{opens_session, before_releases, takes_datagram}
 use Rattle.link_receiver.specs.Entering.{datagram_bytes, takes_end, end_bytes}
 use Rattle.link_receiver.specs.Exchanging.{Exchange, all_exchanged, dones_in}
 use Rattle.link_receiver.specs.Judging.{goes_on, is_over, keeps_datagram, ends_input}
 use Rattle.link_receiver.specs.Receptions.{StandingSession, Reception}
-use Rattle.link_receiver.specs.Releasing.{releases_all, all_released_bytes, releases_up_to}
-use Rattle.link_receiver.specs.Releasing.{book_count}
-use Rattle.link_receiver.specs.Standing.{StandsFor, AreDecodings, all_released, last_past}
+use Rattle.link_receiver.specs.Releasing.{releases_all, all_released_bytes}
+use Rattle.link_receiver.specs.Standing.{StandsFor, AreDecodings, all_released}
 use Rattle.link_receiver.specs.Standing.{out_without}
 use Rattle.link_receiver.proofs.Redone.{redone, redo_run}
-use Rattle.link_receiver.proofs.ReleaseRuns.{Ran, all_run, released_too, releasable_are}
+use Rattle.link_receiver.proofs.ReleaseRuns.{all_run, releasable_are}
 use Rattle.link_receiver.proofs.Resting.{rest_stands, next_stands, end_stands}
 use Rattle.link_receiver.proofs.Starting.{datagram_works, next_works, end_works, past_at_rest}
 use Rattle.link_receiver.proofs.Starting.{st_at_rest, past_now, past_over, h_now, sessions_now}

@@ -18,8 +18,9 @@ use Rattle.link_receiver.specs.Standing.{counts_of_sessions, out_without}
 use Rattle.link_receiver.proofs.Entered.{on_stands, on_writes, opens_stands, opens_writes}
 use Rattle.link_receiver.proofs.Entered.{finish_stands, finish_writes, heard_again, heard_still}
 use Rattle.link_receiver.proofs.Entered.{on_out, opens_out, finish_out}
-use Rattle.link_receiver.proofs.Idle.{early_stands, early_writes, first_stands, first_writes}
-use Rattle.link_receiver.proofs.Idle.{end_stands, end_writes, early_out, first_out, end_out}
+use Rattle.link_receiver.proofs.EarlyDatagrams.{early_stands, early_writes, early_out}
+use Rattle.link_receiver.proofs.EarlyDatagrams.{first_stands, first_writes, first_out}
+use Rattle.link_receiver.proofs.EarlyEnd.{end_stands, end_writes, end_out}
 use Rattle.link_receiver.proofs.JudgedOutcomes.{judged_is}
 
 pub outcome_is : (r : Reception) (size : ℕ) (datagrams : List (List ℕ)) (d : List ℕ)
@@ -113,9 +114,9 @@ module _ (r : Reception) (size : ℕ) (f : Feeder) (small : size ≤ 8) (stands 
           (releasable size (taken_back size (hears_end f) (dones_in xs)))
           (all_exchanged (ends_input r) xs).out)
       by_sessions [] at = (
-        end_stands r size small f stands runs at xs,
-        end_writes r size small f stands runs at xs,
-        end_out r size small f stands runs at xs,
+        end_stands r size f stands runs at xs,
+        end_writes r size f stands runs at xs,
+        end_out r size f stands runs at xs,
       )
       by_sessions (h ∷ hs) at = (
         finish_stands r size small f stands runs h hs at xs right,

@@ -1,5 +1,5 @@
 -- A receiver judges a datagram as the list of those that it heard says.
-use Rattle.std.proofs.Common.{◌≡◌, ℕ, List, [], ◌∷◌, ◌++◌, Option, Some, None, Result, Ok, Err}
+use Rattle.std.proofs.Common.{◌≡◌, ℕ, List, [], ◌∷◌, Option, Some, None, Result, Ok, Err}
 use Rattle.std.proofs.Common.{refl, ap, sym, ◌∙◌, cond, false}
 use Rattle.std.specs.Prelude.{◌==◌, is_some}
 use Rattle.std.proofs.lemmas.List.{append-nil}
@@ -9,7 +9,7 @@ use Rattle.link_model.specs.Packets.{PayloadValue, Header, End, Skip, Params, Sl
 use Rattle.link_model.specs.Session.{Received, received, DatagramRefusal, Session, HeardSession}
 use Rattle.link_model.specs.Session.{opens_behind, session_by, sessions_of}
 use Rattle.link_model.specs.Session.{params_fragment, slices_fragment}
-use Rattle.link_model.specs.Windows.{WindowPast, past_let_go, releasable_numbers, window_of}
+use Rattle.link_model.specs.Windows.{WindowPast, past_let_go, window_of}
 use Rattle.link_model.specs.Windows.{StandsForPast}
 use Rattle.link_model.specs.declared.outcome.Outcome.{Outcome}
 use Rattle.link_model.specs.declared.outcome.Outcome.TheVariants as outcomes

@@ -1,11 +1,10 @@
 -- The answers that a receiver keeps: one more, and those of a picture that goes.
-use Rattle.std.proofs.Common.{◌≡◌, ℕ, zero, suc, ◌+◌, ◌<◌, Bool, true, false, refl, ap, sym}
-use Rattle.std.proofs.Common.{List, [], ◌∷◌, length, replicate, Option, Some, None, subst, ◌∙◌}
+use Rattle.std.proofs.Common.{◌≡◌, ℕ, zero, suc, ◌<◌, Bool, true, false, refl, ap, sym}
+use Rattle.std.proofs.Common.{List, [], ◌∷◌, length, Option, Some, None, subst, ◌∙◌}
 use Rattle.std.proofs.Common.{arith, cond, inl, inr}
-use Rattle.std.specs.Prelude.{◌==◌, ◌&&◌, not, slice_get, slice_set, unwrap_or}
+use Rattle.std.specs.Prelude.{◌==◌, ◌&&◌, not, slice_set, unwrap_or}
 use Rattle.std.specs.Option.{option_and_then}
 use Rattle.std.proofs.lemmas.Bool.{cases_eq, cond-true, cond-false, ne_eqb, eq-eqb, eqb-true}
-use Rattle.std.proofs.lemmas.Bool.{both_ways}
 use Rattle.std.proofs.lemmas.List.{length-replicate, length-set}
 use Rattle.link_model.specs.Places.{Answered}
 use Rattle.vc_types.specs.Subbands.{slice_count}

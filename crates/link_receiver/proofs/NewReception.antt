@@ -1,5 +1,5 @@
 -- A new receiver stands for a feeder that heard nothing.
-use Rattle.std.proofs.Common.{◌≡◌, ℕ, refl}
+use Rattle.std.proofs.Common.{ℕ, refl}
 use Rattle.std.proofs.lemmas.Option.{none-some}
 use Rattle.link_model.specs.Feeders.{new_feeder, let_go_pictures}
 use Rattle.link_model.specs.Judgement.{outcomes_behind}

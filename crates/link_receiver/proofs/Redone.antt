@@ -1,24 +1,24 @@
 -- The feeder decodes slices of a picture by itself.
-use Rattle.std.proofs.Common.{◌≡◌, ℕ, ◌+◌, ◌<◌, Bool, true, false, refl, ap, sym, ◌∙◌, cond, map}
-use Rattle.std.proofs.Common.{List, [], ◌∷◌, ◌++◌, Option, Some, None, inl, inr, arith}
-use Rattle.std.specs.Prelude.{◌==◌, ◌&&◌, ◌||◌, is_some, fold, unwrap_or}
+use Rattle.std.proofs.Common.{◌≡◌, ℕ, Bool, true, false, refl, ap, sym, ◌∙◌, cond, map}
+use Rattle.std.proofs.Common.{List, [], ◌∷◌, Option, Some, None, inl, inr}
+use Rattle.std.specs.Prelude.{◌==◌, ◌&&◌, ◌||◌, is_some, unwrap_or}
 use Rattle.std.specs.Option.{option_and_then, option_map, option_map_or}
-use Rattle.std.proofs.lemmas.Bool.{cases_eq, and_parts, eqb-true, eq-eqb, ne_eqb, cond-true}
+use Rattle.std.proofs.lemmas.Bool.{cases_eq, and_parts, eqb-true, eq-eqb, ne_eqb}
 use Rattle.std.proofs.lemmas.Bool.{false≢true}
 use Rattle.std.proofs.lemmas.Option.{none-some, same_Some}
 use Rattle.link_model.specs.Feeders.{Feeder, SliceAnswer, answer_in, kept_job, picture_keeps}
 use Rattle.link_model.specs.Feeders.{job_by}
-use Rattle.link_model.specs.Feeders.{job_with, session_opening, keeps_of, EnteredSession, is_among}
+use Rattle.link_model.specs.Feeders.{job_with, is_among}
 use Rattle.link_model.specs.Feeding.{with_answer}
 use Rattle.link_model.specs.Kept.{Own, own_slice}
-use Rattle.link_model.specs.Machine.{Event, Redo, feeder_after}
+use Rattle.link_model.specs.Machine.{Redo}
 use Rattle.link_model.specs.Next.{feeder_run}
 use Rattle.link_model.specs.Places.{Job, own_answer, decoding}
 use Rattle.link_model.specs.Session.{HeardSession, sessions_of}
 use Rattle.vc_types.specs.Slices.{slice_coefficients}
 use Rattle.link_receiver.specs.Receptions.{Decoding}
-use Rattle.link_receiver.specs.Standing.{AreOwnAnswers, IsOwnAnswer}
-use Rattle.link_receiver.proofs.Working.{other_answer}
+use Rattle.link_model.specs.Interleavings.{AreOwnAnswers}
+use Rattle.link_receiver.proofs.SliceJobs.{other_answer}
 
 -- ---- jobs
 
@@ -101,7 +101,8 @@ module _ (size : ℕ) (hs : List HeardSession) where
         ap is_some slice.1,
         answer.2
             ∙ ap decoding (sym slice.2)
-            ∙ ap (λ (o : Option (List ℕ)). slice_coefficients kept.plan.parameters k (unwrap_or o []))
+            ∙ ap (λ (o : Option (List ℕ)).
+            slice_coefficients kept.plan.parameters k (unwrap_or o []))
             (sym slice.1),
       )
 

@@ -1,22 +1,22 @@
 -- All pictures that may be released, one after another: the receiver and the feeder go together.
-use Rattle.std.proofs.Common.{◌≡◌, ℕ, zero, suc, ◌+◌, ◌<◌, ◌≤◌, Bool, true, false, refl, ap, sym}
+use Rattle.std.proofs.Common.{◌≡◌, ℕ, zero, suc, ◌+◌, ◌≤◌, Bool, true, false, refl, ap, sym}
 use Rattle.std.proofs.Common.{List, [], ◌∷◌, ◌++◌, length, map, Option, Some, None, subst, ◌∙◌}
 use Rattle.std.proofs.Common.{arith, cond, inl, inr}
-use Rattle.std.specs.Prelude.{◌&&◌, ◌||◌, ◌==◌, ◌⊎◌, is_some, not, fold, filter}
+use Rattle.std.specs.Prelude.{◌&&◌, ◌||◌, ◌==◌, ◌⊎◌, is_some, not, filter}
 use Rattle.std.specs.List.{flat_map}
 use Rattle.std.specs.Option.{option_and_then, option_map, option_map_or}
 use Rattle.std.proofs.lemmas.Bool.{cases_eq, eq-eqb, ne_eqb}
 use Rattle.std.proofs.lemmas.List.{append_assoc, append-nil}
 use Rattle.std.proofs.lemmas.List.Sums.{fold-append}
 use Rattle.link_model.specs.Complete.{slice_numbers, has_all_slices}
-use Rattle.link_model.specs.Feeders.{Feeder, SliceAnswer, is_among, is_decoded, keeps_now}
+use Rattle.link_model.specs.Feeders.{Feeder, is_among, is_decoded, keeps_now}
 use Rattle.link_model.specs.Feeders.{heard_pictures, let_go_pictures, not_released, releasable}
 use Rattle.link_model.specs.Kept.{Own}
 use Rattle.link_model.specs.Machine.{Event, Redo, Release, feeder_after}
 use Rattle.link_model.specs.Next.{feeder_run, unanswered, releasing, all_releasing}
 use Rattle.link_model.specs.Output.{frame_bytes_at}
 use Rattle.link_model.specs.Session.{HeardSession, sessions_of}
-use Rattle.link_model.specs.Windows.{Window, WindowPast, past_let_go, past_releases, window_of}
+use Rattle.link_model.specs.Windows.{Window, WindowPast, past_releases, window_of}
 use Rattle.link_model.specs.Windows.{releasable_numbers, first_of, as_releasable, Releasable}
 use Rattle.link_model.specs.Windows.{next_release}
 use Rattle.link_model.specs.declared.tally.Tally.{Tally}

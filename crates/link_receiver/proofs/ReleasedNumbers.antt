@@ -2,24 +2,23 @@
 use Rattle.std.proofs.Common.{◌≡◌, ℕ, zero, suc, ◌+◌, ◌<◌, ◌≤◌, Bool, true, false, refl, ap, sym}
 use Rattle.std.proofs.Common.{List, [], ◌∷◌, ◌++◌, length, map, Option, Some, None, subst, ◌∙◌}
 use Rattle.std.proofs.Common.{arith, cond, inl, inr}
-use Rattle.std.specs.Prelude.{◌==◌, ◌&&◌, ◌||◌, nat_le, not, filter}
-use Rattle.std.specs.List.{last_or, range_with_len}
-use Rattle.std.proofs.lemmas.Bool.{cases_Bool, cases_eq, cond-true, cond-false, ne_eqb, eq-eqb}
+use Rattle.std.specs.Prelude.{◌==◌, ◌&&◌, ◌||◌, not, filter}
+use Rattle.std.specs.List.{last_or}
+use Rattle.std.proofs.lemmas.Bool.{cases_eq, cond-true, cond-false, ne_eqb, eq-eqb}
 use Rattle.std.proofs.lemmas.Bool.{false≢true, le-leb, lt-leb, leb-true, both_ways, and_parts}
-use Rattle.std.proofs.lemmas.Bool.{and_from, not-true, false_from_ne_true}
+use Rattle.std.proofs.lemmas.Bool.{and_from}
 use Rattle.std.proofs.lemmas.List.{append_assoc}
 use Rattle.std.proofs.lemmas.List.Elements.{filter-append}
-use Rattle.std.proofs.lemmas.Option.{none-some}
 use Rattle.link_model.specs.Feeders.{is_among, not_released}
-use Rattle.link_model.specs.Numbers.{Numbered, is_closed, is_opened, opened_numbers}
+use Rattle.link_model.specs.Numbers.{is_closed, is_opened, opened_numbers}
 use Rattle.link_model.specs.Output.{is_let_go, let_go_numbers}
-use Rattle.link_model.specs.Windows.{Window, WindowPast, StandsForPast, past_let_go, past_book}
+use Rattle.link_model.specs.Windows.{WindowPast, past_let_go, past_book}
 use Rattle.link_model.specs.Windows.{releasable_numbers, released_up_to, is_needed, window_of}
-use Rattle.link_model.specs.Windows.{needed_numbers, NumberedBook}
+use Rattle.link_model.specs.Windows.{needed_numbers}
 use Rattle.link_model.proofs.Leaving.{past}
 use Rattle.link_model.proofs.LettingGo.{is_let_go_by, releasable_over}
 use Rattle.link_model.proofs.Releasing.{let_go_before}
-use Rattle.link_model.proofs.RisingNumbers.{number_if, numbers_over, opened_over, is_behind}
+use Rattle.link_model.proofs.RisingNumbers.{numbers_over, opened_over, is_behind}
 use Rattle.link_receiver.proofs.SessionPictures.{among_append, among_over}
 
 -- ---- numbers that rise

@@ -1,26 +1,18 @@
 -- A receiver that released all that it may stands for what was heard again.
-use Rattle.std.proofs.Common.{◌≡◌, ℕ, ◌+◌, ◌<◌, ◌≤◌, Bool, true, false, refl, ap, sym, ◌∙◌, arith}
-use Rattle.std.proofs.Common.{List, [], ◌∷◌, ◌++◌, Option, Some, None, subst, cond}
-use Rattle.std.specs.Prelude.{is_some, fold, count_by}
+use Rattle.std.proofs.Common.{◌≡◌, ℕ, ◌+◌, Bool, true, false, refl, ap, sym, ◌∙◌, arith}
+use Rattle.std.proofs.Common.{List, [], ◌∷◌, ◌++◌, Option, Some, None, subst}
+use Rattle.std.specs.Prelude.{is_some, count_by}
 use Rattle.std.specs.List.{flat_map}
-use Rattle.std.specs.Option.{option_map_or}
 use Rattle.std.proofs.lemmas.List.{append-nil}
-use Rattle.std.proofs.lemmas.List.Sums.{fold-append}
-use Rattle.std.proofs.lemmas.Bool.{cases_Bool, cond-true, cond-false}
 use Rattle.std.proofs.lemmas.Option.{none-some}
-use Rattle.link_model.specs.Feeders.{Feeder, heard_pictures, let_go_pictures, is_among, is_decoded}
-use Rattle.link_model.specs.Feeding.{hears_datagram, hears_end, takes_answer, with_answer, has_job}
+use Rattle.link_model.specs.Feeders.{Feeder, let_go_pictures, is_among}
 use Rattle.link_model.specs.Judgement.{outcomes_in, outcome_counts, with_pictures, with_sessions}
 use Rattle.link_model.specs.Judgement.{is_incomplete, is_unsound, is_unpaired, has_frame}
-use Rattle.link_model.specs.Machine.{Enter, Finish, Event, feeder_after}
-use Rattle.link_model.specs.Next.{feeder_run, all_releasing, taken_back, next_feeder}
 use Rattle.link_model.specs.Numbers.{Numbered, greatest, least, parts_of, opened_numbers}
 use Rattle.link_model.specs.Output.{frame_bytes_at, planes_at, let_go_numbers, frames_so_far}
 use Rattle.link_model.specs.Output.{all_frames, all_output, last_so_far, output_so_far, full_output}
 use Rattle.link_model.specs.Output.{greatest_of, entered_behind}
-use Rattle.link_model.specs.Places.{Answered}
-use Rattle.link_model.specs.Session.{Session, HeardSession, just_opened, sessions_of, opens_behind}
-use Rattle.link_model.specs.Session.{begins}
+use Rattle.link_model.specs.Session.{Session, HeardSession, just_opened, sessions_of}
 use Rattle.link_model.specs.Windows.{Window, WindowPast, past_let_go, releasable_numbers, window_of}
 use Rattle.link_model.specs.Windows.{new_past, new_window}
 use Rattle.link_model.specs.declared.tally.Tally.{Tally}
@@ -29,16 +21,16 @@ use Rattle.link_model.proofs.WindowBounds.{session_greatest}
 use Rattle.link_model.proofs.WindowStands.{new_stands}
 use Rattle.vc_types.specs.Planes.{Planes}
 use Rattle.vc_types.specs.SequenceHeader.{Sequence}
-use Rattle.link_receiver.specs.Entering.{gives_up_field, greatest_in, newly_standing, opens_session}
+use Rattle.link_receiver.specs.Entering.{gives_up_field, greatest_in, opens_session}
 use Rattle.link_receiver.specs.Receptions.{StandingSession, Reception, FirstField}
 use Rattle.link_receiver.specs.Releasing.{one_if}
-use Rattle.link_receiver.specs.Standing.{StandsFor, StandsForHeard, standing_of, standing_with}
+use Rattle.link_receiver.specs.Standing.{StandsFor, standing_of, standing_with}
 use Rattle.link_receiver.specs.Standing.{all_released, last_past, field_of_sessions, fields_behind}
 use Rattle.link_receiver.specs.Standing.{counts_of_sessions, past_fields, past_counts, written_of}
-use Rattle.link_receiver.specs.Standing.{with_released, Fields}
+use Rattle.link_receiver.specs.Standing.{with_released}
 use Rattle.link_receiver.proofs.LoneFields.{all_fields}
 use Rattle.link_receiver.proofs.ReleasedNumbers.{released_rise, AreRising}
-use Rattle.link_receiver.proofs.Releases.{planes_opened}
+use Rattle.link_receiver.proofs.ReleaseLists.{planes_opened}
 use Rattle.link_receiver.proofs.SessionPictures.{opened_among}
 use Rattle.link_receiver.proofs.Starting.{tally_behind}
 use Rattle.link_receiver.proofs.Tallies.{none_released}

@@ -1,19 +1,18 @@
 -- The pictures of sessions: which are opened, and that what they keep stays as datagrams come.
 use Rattle.std.proofs.Common.{◌≡◌, ℕ, zero, suc, ◌+◌, ◌<◌, ◌≤◌, Bool, true, false, refl, ap, sym}
-use Rattle.std.proofs.Common.{List, [], ◌∷◌, ◌++◌, Option, Some, None, subst, ◌∙◌, arith, cond}
+use Rattle.std.proofs.Common.{List, [], ◌∷◌, ◌++◌, Option, Some, None, ◌∙◌, arith, cond}
 use Rattle.std.proofs.Common.{inl, inr}
-use Rattle.std.specs.Prelude.{◌==◌, ◌||◌, ◌⊎◌, filter_map}
-use Rattle.std.specs.List.{list_any, range_with_len}
+use Rattle.std.specs.Prelude.{◌==◌, ◌||◌, filter_map}
 use Rattle.std.specs.Option.{option_and_then, option_map, option_map_or}
 use Rattle.std.proofs.lemmas.Bool.{cases_Bool, cond-true, cond-false, ne_eqb, eq-eqb, or_parts}
-use Rattle.std.proofs.lemmas.Bool.{false≢true, cases_lt, both_ways}
+use Rattle.std.proofs.lemmas.Bool.{false≢true, cases_lt}
 use Rattle.std.proofs.lemmas.List.Folds.{list_any-append}
-use Rattle.std.proofs.lemmas.Option.{none-some, same_Some}
+use Rattle.std.proofs.lemmas.Option.{none-some}
 use Rattle.link_model.specs.Feeders.{EnteredSession, entered_session, session_opening, keeps_of, job_by}
 use Rattle.link_model.specs.Feeders.{picture_keeps, kept_job, heard_pictures, is_among, job_with}
 use Rattle.link_model.specs.Kept.{Own, own, own_slice, KeptParameters}
 use Rattle.link_model.specs.Numbers.{Numbered, base_above, parts_of, is_opened, has_parts}
-use Rattle.link_model.specs.Numbers.{opened_numbers, entered}
+use Rattle.link_model.specs.Numbers.{opened_numbers}
 use Rattle.link_model.specs.Output.{entered_behind, is_opened_in, greatest_of}
 use Rattle.link_model.specs.Places.{Job}
 use Rattle.link_model.specs.Session.{Part, Session, HeardSession, just_opened, with_datagram}
@@ -22,8 +21,7 @@ use Rattle.link_model.proofs.Apart.{sessions_apart}
 use Rattle.link_model.proofs.Keeping.{keeps}
 use Rattle.link_model.proofs.Leaving.{past, opened-over}
 use Rattle.link_model.proofs.Numbering.{entered_follows}
-use Rattle.link_model.proofs.RisingNumbers.{number_if, numbers_over}
-use Rattle.vc_types.specs.SequenceHeader.{Sequence}
+use Rattle.link_model.proofs.RisingNumbers.{numbers_over}
 
 -- ---- numbers among others
 

@@ -1,120 +1,52 @@
 -- A receiver that stands for what was heard goes to work as a datagram or the end comes.
-use Rattle.std.proofs.Common.{◌≡◌, ℕ, ◌+◌, ◌-◌, ◌%◌, ◌<◌, ◌≤◌, Bool, true, false, refl, ap, sym}
-use Rattle.std.proofs.Common.{List, [], ◌∷◌, ◌++◌, length, Option, Some, None, subst, ◌∙◌}
-use Rattle.std.proofs.Common.{arith, cond, inl, inr}
-use Rattle.std.specs.Prelude.{◌==◌, ◌&&◌, ◌||◌, ◌⊎◌, is_some, not, fold, filter_map}
-use Rattle.std.specs.List.{flat_map, range_with_len}
-use Rattle.std.specs.Option.{option_and_then, option_map, option_map_or}
-use Rattle.std.proofs.lemmas.Bool.{cases_Bool, eq-eqb, false_from_ne_true, both_ways}
-use Rattle.std.proofs.lemmas.List.{append_assoc, append-nil}
-use Rattle.std.proofs.lemmas.Option.{none-some}
-use Rattle.link_model.specs.Feeders.{Feeder, SliceAnswer, session_opening, entered_session}
-use Rattle.link_model.specs.Feeders.{picture_keeps}
+use Rattle.std.proofs.Common.{◌≡◌, ℕ, ◌-◌, ◌%◌, ◌≤◌, Bool, true, false, refl, ap, sym}
+use Rattle.std.proofs.Common.{List, [], ◌∷◌, ◌++◌, Option, Some, None, subst, ◌∙◌}
+use Rattle.std.proofs.Common.{arith, cond}
+use Rattle.std.specs.Prelude.{◌==◌, ◌||◌, ◌⊎◌, is_some, filter_map}
+use Rattle.std.specs.List.{flat_map}
+use Rattle.std.specs.Option.{option_map}
+use Rattle.std.proofs.lemmas.Bool.{eq-eqb}
+use Rattle.std.proofs.lemmas.List.{append-nil}
+use Rattle.link_model.specs.Feeders.{Feeder, session_opening}
 use Rattle.link_model.specs.Feeders.{heard_pictures, let_go_pictures, is_among, EnteredSession}
-use Rattle.link_model.specs.Feeding.{hears_datagram, hears_end, planes_by, sound_answers}
+use Rattle.link_model.specs.Feeding.{hears_datagram, hears_end}
 use Rattle.link_model.specs.Judgement.{outcome_behind, outcomes_in, outcome_counts, with_outcome}
 use Rattle.link_model.specs.Judgement.{with_sessions}
-use Rattle.link_model.specs.Kept.{Own, KeptParameters}
-use Rattle.link_model.specs.Numbers.{Numbered, base_above, is_opened, greatest, least, parts_of}
+use Rattle.link_model.specs.Numbers.{Numbered, base_above, greatest, least, parts_of}
 use Rattle.link_model.specs.Numbers.{opened_numbers}
 use Rattle.link_model.specs.Output.{complete_at, planes_at, frame_at, frame_bytes_at, is_let_go}
 use Rattle.link_model.specs.Output.{let_go_numbers, frames_so_far, all_output, last_so_far}
-use Rattle.link_model.specs.Output.{output_so_far, is_opened_in, entered_behind, greatest_of}
+use Rattle.link_model.specs.Output.{output_so_far, entered_behind, greatest_of}
 use Rattle.link_model.specs.Output.{woven_fields}
 use Rattle.link_model.specs.Session.{Session, Fragment, HeardSession, just_opened, with_datagram}
 use Rattle.link_model.specs.Session.{hears, sessions_of, opens_behind, begins, fragment_in}
-use Rattle.link_model.specs.Windows.{Window, WindowPast, StandsForPast, past_let_go, session_past}
-use Rattle.link_model.specs.Windows.{past_enters, past_finishes, window_of, window_enters}
-use Rattle.link_model.specs.Windows.{releasable_numbers}
-use Rattle.link_model.specs.declared.outcome.Outcome.{Outcome}
+use Rattle.link_model.specs.Windows.{WindowPast, StandsForPast, past_let_go, session_past}
+use Rattle.link_model.specs.Windows.{past_finishes, window_enters}
 use Rattle.link_model.specs.declared.tally.Tally.{Tally}
-use Rattle.link_model.proofs.Apart.{sessions_apart}
 use Rattle.link_model.proofs.Counting.{counts_more}
 use Rattle.link_model.proofs.Hearing.{sessions_of_more, hears_new, hears_on}
 use Rattle.link_model.proofs.Numbering.{Follows, entered_follows}
 use Rattle.link_model.proofs.Releasing.{whole_same, planes_same, frame_same, let_go_before}
 use Rattle.link_model.proofs.WindowBounds.{session_enters, session_stays}
 use Rattle.link_model.proofs.WindowStands.{enters_stands, finishes_stands}
-use Rattle.vc_types.specs.Planes.{Planes, planes_of}
-use Rattle.vc_types.specs.SequenceHeader.{Sequence}
-use Rattle.vc_types.specs.Subbands.{slice_count}
-use Rattle.link_receiver.specs.Judging.{session_opened, opens_after, opens_from, stands_on, goes_on}
+use Rattle.vc_types.specs.Planes.{Planes}
+use Rattle.link_receiver.specs.Judging.{session_opened, opens_after, stands_on, goes_on}
 use Rattle.link_receiver.specs.Judging.{enters_window, is_over, keeps_datagram, ends_input, judged}
-use Rattle.link_receiver.specs.Receptions.{StandingSession, Reception, FirstField, Decoding}
+use Rattle.link_receiver.specs.Receptions.{StandingSession, Reception, FirstField}
 use Rattle.link_receiver.specs.Receptions.{answers_at}
-use Rattle.link_receiver.specs.Standing.{StandsFor, StandsForHeard, standing_of, standing_with}
-use Rattle.link_receiver.specs.Standing.{all_released, last_past, AreOwnAnswers, HasSlots}
+use Rattle.link_receiver.specs.Standing.{StandsFor, standing_of, standing_with}
+use Rattle.link_model.specs.Interleavings.{AreOwnAnswers}
+use Rattle.link_receiver.specs.Standing.{all_released, last_past, HasSlots}
 use Rattle.link_receiver.specs.Standing.{answered_planes, field_of_sessions, counts_of_sessions}
 use Rattle.link_receiver.specs.Standing.{past_fields, past_counts, written_of, Fields}
+use Rattle.link_receiver.proofs.HeardMore.{own_stays, room_stays, planes_stay, of_last}
+use Rattle.link_receiver.proofs.HeardMore.{of_others, not_before}
 use Rattle.link_receiver.proofs.JudgedOutcomes.{resting_stands, opens_same, judged_is}
 use Rattle.link_receiver.proofs.ReleasedNumbers.{released_gone}
-use Rattle.link_receiver.proofs.SessionPictures.{pictures_among, session_last, session_before}
-use Rattle.link_receiver.proofs.SessionPictures.{session_none, session_opens, job_stays}
-use Rattle.link_receiver.proofs.SessionPictures.{picture_keeps_on}
+use Rattle.link_receiver.proofs.SessionPictures.{session_opens}
 use Rattle.link_receiver.proofs.Tallies.{released_outcome, sessions_outcome, fields_same}
 use Rattle.link_receiver.proofs.Tallies.{released_same}
-use Rattle.link_receiver.proofs.Working.{IsWorking, entered_of}
-
--- ---- what stays as a datagram more is heard
-
-module _ (size : ℕ) (small : size ≤ 8) (hs : List HeardSession) (d : List ℕ) where
-  pub own_stays : (decoded : List SliceAnswer) → AreOwnAnswers size hs decoded
-      → AreOwnAnswers size (hears hs d) decoded
-  own_stays [] own = tt
-  own_stays (a ∷ rest) own = (
-    (own.0.0, job_stays a.number a.index size small hs d own.0.0 own.0.1, own.0.2),
-    own_stays rest own.1,
-  )
-
-  pub room_stays : (n : ℕ) (o : Option (List (Option Decoding))) → HasSlots size hs n o
-      → HasSlots size (hears hs d) n o
-  room_stays n None room = tt
-  room_stays n (Some slots) room =
-      let later = picture_keeps_on size small n room.0 hs d room.1 in (
-        later.0,
-        later.1,
-        room.2
-            ∙ ap (λ (plan : KeptParameters). slice_count plan.parameters) (sym later.2.plan),
-      )
-
-  planes_stay : (decoded : List SliceAnswer) (n : ℕ) (planes : Planes)
-      → answered_planes size hs decoded n ≡ Some planes
-      → answered_planes size (hears hs d) decoded n ≡ Some planes
-  planes_stay decoded n planes is = by_kept (picture_keeps size hs n) refl is
-    where
-      by_kept : (o : Option Own) → picture_keeps size hs n ≡ o
-          → option_and_then (planes_by decoded n) o ≡ Some planes
-          → answered_planes size (hears hs d) decoded n ≡ Some planes
-      by_kept None at e = absurd (none-some planes e)
-      by_kept (Some kept) at e =
-          let later = picture_keeps_on size small n kept hs d at in
-          ap (option_and_then (planes_by decoded n)) later.1
-          ∙ ap (λ (plan : KeptParameters). option_map (planes_of plan.parameters)
-          (sound_answers decoded n (range_with_len 0 (slice_count plan.parameters)))) later.2.plan
-          ∙ e
-
--- ---- the pictures of the last session
-
-module _ (size : ℕ) (h : HeardSession) (hs : List HeardSession) where
-  abbrev es_of : List Numbered
-  es_of = entered_behind size hs h
-
-  pub of_last : (n : ℕ) → is_opened es_of n ≡ true
-      → session_opening size (h ∷ hs) n ≡ Some (entered_session size hs h)
-  of_last n opened = session_last size h hs n opened
-
-  pub of_others : (n : ℕ) → is_opened es_of n ≡ false
-      → (is_among (heard_pictures size hs) n ≡ true) ⊎ (session_opening size (h ∷ hs) n ≡ None)
-  of_others n shut = elim (cases_Bool (is_opened_in size hs n)) [
-    | inl was ↦ inl (pictures_among size hs n ∙ was)
-    | inr none ↦ inr (session_before size h hs n shut ∙ session_none size hs n none)
-  ]
-
-  pub not_before : size ≤ 8 → (n : ℕ) → is_opened es_of n ≡ true
-      → is_among (heard_pictures size hs) n ≡ false
-  not_before small n opened = pictures_among size hs n
-      ∙ false_from_ne_true (is_opened_in size hs n)
-      (λ was. both_ways (is_opened es_of n) (sessions_apart size hs h n small was) opened)
+use Rattle.link_receiver.proofs.Working.{IsWorking}
 
 -- ---- a receiver at rest
 

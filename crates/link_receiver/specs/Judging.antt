@@ -1,5 +1,5 @@
 -- How a receiver judges a datagram, and what it keeps of it (this project's profile of RFC 8450).
-use Rattle.std.specs.Prelude.{ℕ, ◌==◌, Bool, ◌&&◌, ◌||◌, if◌then◌else◌, is_some, List}
+use Rattle.std.specs.Prelude.{ℕ, ◌==◌, ◌&&◌, ◌||◌, if◌then◌else◌, is_some, List}
 use Rattle.std.specs.Prelude.{true, Option, Some, None, Result, Ok, Err}
 use Rattle.std.specs.Option.{option_map}
 use Rattle.link_model.specs.Judgement.{refusal_outcome, early_outcome, header_outcome}

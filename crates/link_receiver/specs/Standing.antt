@@ -1,11 +1,12 @@
 -- What a receiver stands for: a list of datagrams that it heard, and the feeder of workers that
 -- heard them.
-use Rattle.std.specs.Prelude.{◌≡◌, ℕ, ◌+◌, Bool, true, false, is_some, count_by, fold, filter, not}
+use Rattle.std.specs.Prelude.{◌≡◌, ℕ, ◌+◌, Bool, true, false, count_by, fold, filter, not}
 use Rattle.std.specs.Prelude.{if◌then◌else◌, List, [], ◌∷◌, length, Option, Some, None}
 use Rattle.std.specs.Option.{option_and_then}
 use Rattle.link_model.specs.Feeders.{Feeder, let_go_pictures, answer_in, has_released}
 use Rattle.link_model.specs.Feeders.{SliceAnswer, kept_job, picture_keeps, is_among}
 use Rattle.link_model.specs.Feeding.{planes_by}
+use Rattle.link_model.specs.Interleavings.{AreOwnAnswers}
 use Rattle.link_model.specs.Judgement.{is_incomplete, is_unsound, has_frame, with_sessions}
 use Rattle.link_model.specs.Judgement.{outcomes_in, outcome_counts}
 use Rattle.link_model.specs.Kept.{Own}
@@ -20,7 +21,7 @@ use Rattle.vc_types.specs.SequenceHeader.{Sequence}
 use Rattle.vc_types.specs.Subbands.{slice_count}
 use Rattle.link_receiver.specs.Receptions.{StandingSession, Reception, FirstField, Decoding}
 use Rattle.link_receiver.specs.Receptions.{answers_at, kept_answer, SliceOut}
-use Rattle.link_receiver.specs.Releasing.{one_if, fields_alone, field_behind}
+use Rattle.link_receiver.specs.Releasing.{fields_alone, field_behind}
 
 -- ---- the session that stands
 
@@ -93,6 +94,15 @@ counts_of_sessions size false [] t = t
 counts_of_sessions size false (h ∷ hs) t =
     past_counts (all_released (last_past size false hs h)) (with_sessions size hs t)
 
+-- the counts of outcomes of the one, and those of pictures of the other
+abbrev pub with_picture_counts : Tally → Tally → Tally
+with_picture_counts t pictures = record t {
+  incomplete = pictures.incomplete;
+  unsound = pictures.unsound;
+  unpaired = pictures.unpaired;
+  frames = pictures.frames;
+}
+
 -- ---- a list of datagrams
 
 pub record StandsForHeard (r : Reception) (size : ℕ) (datagrams : List (List ℕ)) (over : Bool)
@@ -117,15 +127,6 @@ abbrev pub out_without : List ℕ → List SliceOut → List SliceOut
 out_without released out = filter (λ slice. not (is_among released slice.number)) out
 
 -- ---- a feeder
-
--- an answer is the decoding of the slice that its picture keeps
-abbrev pub IsOwnAnswer : ℕ → List HeardSession → SliceAnswer → Type 0
-IsOwnAnswer size hs a =
-    (job : Job) × (kept_job size hs a.number a.index ≡ Some job) × (a.answer ≡ decoding job)
-
-abbrev pub AreOwnAnswers : ℕ → List HeardSession → List SliceAnswer → Type 0
-AreOwnAnswers size hs [] = Unit {0}
-AreOwnAnswers size hs (a ∷ rest) = IsOwnAnswer size hs a × AreOwnAnswers size hs rest
 
 -- there is room for each slice of the picture
 abbrev pub HasSlots : ℕ → List HeardSession → ℕ → Option (List (Option Decoding)) → Type 0

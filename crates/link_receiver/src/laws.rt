@@ -11,21 +11,24 @@ ghost use Rattle.link_receiver.specs.Exchanging.{Exchange, all_exchanged, dones_
 ghost use Rattle.link_receiver.specs.Judging.{judged, ends_input};
 ghost use Rattle.link_receiver.specs.Receptions.{Reception, new_reception};
 ghost use Rattle.link_receiver.specs.Standing.{StandsFor, StandsForHeard, AreDecodings};
-ghost use Rattle.link_receiver.specs.Standing.{out_without};
+ghost use Rattle.link_receiver.specs.Standing.{out_without, with_picture_counts};
 
 /// A new receiver stands for a feeder that heard nothing.
 pub fn a_new_receiver_stands_for_nothing()
     ensures { (size : ℕ) → StandsFor (new_reception size) size new_feeder }
 {}
 
-/// A receiver judges a datagram as the list of those before it says. Behind it the receiver stands
-/// for the longer list, and for the feeder that heard the datagram, took back the same decoded
-/// slices and released what it may. It writes what is due: the output so far of the longer list
-/// without that of the shorter one.
+/// A receiver judges a datagram as the list of those before it says, and its counts of outcomes are
+/// the tally's. Behind it the receiver stands for the longer list, and for the feeder that heard the
+/// datagram, took back the same decoded slices and released what it may. It writes what is due: the
+/// output so far of the longer list without that of the shorter one.
 pub fn receivers_follow_datagrams()
     ensures outcome { (r : Reception) (size : ℕ) (datagrams : List (List ℕ)) (d : List ℕ)
         → StandsForHeard r size datagrams false
         → judged r d ≡ outcome_behind size datagrams d }
+    ensures counts { (r : Reception) (size : ℕ) (datagrams : List (List ℕ))
+        → StandsForHeard r size datagrams false
+        → r.counts ≡ with_picture_counts (tally_of size datagrams) r.counts }
     ensures stands { (r : Reception) (size : ℕ) (f : Feeder) → size ≤ 8 → StandsFor r size f
         → f.has_ended ≡ false → (exchanges : List Exchange) → AreDecodings (dones_in exchanges)
         → (d : List ℕ) → StandsFor (takes_datagram r d exchanges) size

@@ -1,8 +1,12 @@
+use Rattle.link_receiver.proofs.CountedOutcomes.{outcomes_counted}
 use Rattle.link_receiver.proofs.Following.{outcome_is, datagram_stands, datagram_writes}
 use Rattle.link_receiver.proofs.laws.receivers_follow_datagrams.Goals as goal
 
 pub returns-clause-outcome : goal.returns-clause-outcome
 returns-clause-outcome c = outcome_is
+
+pub returns-clause-counts : goal.returns-clause-counts
+returns-clause-counts c = outcomes_counted
 
 pub returns-clause-stands : goal.returns-clause-stands
 returns-clause-stands c = λ r size f small stands runs exchanges right d.
