@@ -31,7 +31,7 @@ use Rattle.vc_types.specs.Subbands.{slice_count}
 use Rattle.link_receiver.specs.Receptions.{StandingSession, Reception, FirstField}
 use Rattle.link_receiver.specs.Releasing.{as_first}
 use Rattle.link_receiver.specs.Releasing.{field_before, field_behind}
-use Rattle.link_receiver.specs.Standing.{AreOwnAnswers}
+use Rattle.link_model.specs.Interleavings.{AreOwnAnswers}
 use Rattle.link_receiver.specs.Standing.{Fields, no_fields, next_field, fields_behind}
 use Rattle.link_receiver.proofs.AnsweredPictures.{AreOfKept, incomplete_planes, no_own_planes}
 use Rattle.link_receiver.proofs.AnsweredPictures.{answered_planes_hold, answered_planes_ready}

@@ -5,7 +5,7 @@ use Rattle.std.specs.Prelude.{is_some}
 use Rattle.std.specs.Option.{option_map}
 use Rattle.std.proofs.lemmas.List.{append-nil}
 use Rattle.std.proofs.lemmas.Option.{none-some}
-use Rattle.link_model.specs.Feeders.{Feeder, kept_job, pictures_of, let_go_pictures}
+use Rattle.link_model.specs.Feeders.{Feeder, kept_job, heard_pictures, let_go_pictures}
 use Rattle.link_model.specs.Feeders.{releasable}
 use Rattle.link_model.specs.Feeding.{hears_datagram}
 use Rattle.link_model.specs.Judgement.{outcomes_in, outcome_counts, with_outcome}
@@ -34,8 +34,10 @@ use Rattle.link_receiver.specs.Releasing.{releases_all}
 use Rattle.link_receiver.specs.Releasing.{one_if}
 use Rattle.link_receiver.specs.Standing.{StandsFor, standing_of, all_released}
 use Rattle.link_receiver.specs.Standing.{last_past, field_of_sessions, counts_of_sessions}
-use Rattle.link_receiver.specs.Standing.{past_fields, past_counts, written_of, HasSlots}
-use Rattle.link_receiver.specs.Standing.{AreOwnAnswers, out_without}
+use Rattle.link_receiver.specs.Standing.{past_fields, past_counts, HasSlots}
+use Rattle.link_receiver.proofs.HeardMore.{written_of}
+use Rattle.link_receiver.specs.Standing.{out_without}
+use Rattle.link_model.specs.Interleavings.{AreOwnAnswers}
 use Rattle.link_receiver.proofs.JudgedOutcomes.{judged_is}
 use Rattle.link_receiver.proofs.ReleaseRuns.{none_go}
 use Rattle.link_receiver.proofs.HeardMore.{own_stays, room_stays}
@@ -201,7 +203,7 @@ module _ (r : Reception) (size : ℕ) (small : size ≤ 8) (f : Feeder)
       sessions_first = heard_now ∙ hears_new [] d s opens
 
       idle_first : IsIdle size f_now
-      unfolding let_go_pictures pictures_of let_go_numbers opened_numbers greatest least parts_of
+      unfolding let_go_pictures heard_pictures let_go_numbers opened_numbers greatest least parts_of
       idle_first = record {
         none_kept = λ n i. ap (λ (l : List HeardSession). kept_job size l n i) sessions_first
             ∙ nothing_kept_yet size s n i;

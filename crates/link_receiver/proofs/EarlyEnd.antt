@@ -5,7 +5,7 @@ use Rattle.std.specs.Prelude.{is_some}
 use Rattle.std.specs.Option.{option_map}
 use Rattle.std.proofs.lemmas.List.{append-nil}
 use Rattle.std.proofs.lemmas.Option.{none-some}
-use Rattle.link_model.specs.Feeders.{Feeder, kept_job, pictures_of, let_go_pictures}
+use Rattle.link_model.specs.Feeders.{Feeder, kept_job, heard_pictures, let_go_pictures}
 use Rattle.link_model.specs.Feeders.{releasable}
 use Rattle.link_model.specs.Feeding.{hears_end}
 use Rattle.link_model.specs.Judgement.{outcomes_in, outcome_counts}
@@ -27,7 +27,8 @@ use Rattle.link_receiver.specs.Receptions.{PictureAnswers, answers_at, kept_answ
 use Rattle.link_receiver.specs.Releasing.{one_if}
 use Rattle.link_receiver.specs.Standing.{StandsFor, standing_of}
 use Rattle.link_receiver.specs.Standing.{counts_of_sessions}
-use Rattle.link_receiver.specs.Standing.{written_of, HasSlots}
+use Rattle.link_receiver.specs.Standing.{HasSlots}
+use Rattle.link_receiver.proofs.HeardMore.{written_of}
 use Rattle.link_receiver.specs.Standing.{out_without}
 use Rattle.link_receiver.proofs.ReleaseRuns.{none_go}
 use Rattle.link_receiver.proofs.Idle.{IsSame, IsIdle, idle_exchanged, nothing_released}
@@ -56,7 +57,7 @@ module _ (r : Reception) (size : ℕ) (f : Feeder) (stands : StandsFor r size f)
   standing_end = same_end.standing ∙ idle_end
 
   over_idle : IsIdle size f_end
-  unfolding let_go_pictures pictures_of
+  unfolding let_go_pictures heard_pictures
   over_idle = record {
     none_kept = λ n i. ap (λ (l : List HeardSession). kept_job size l n i) at
         ∙ nothing_kept size n i;

@@ -1,4 +1,5 @@
 -- What stays as a datagram more is heard, and which pictures are the last session's.
+use Rattle.std.proofs.Common.{cond, Bool}
 use Rattle.std.proofs.Common.{◌≡◌, ℕ, ◌≤◌, true, false, refl, ap, sym}
 use Rattle.std.proofs.Common.{List, [], ◌∷◌, Option, Some, None, ◌∙◌}
 use Rattle.std.proofs.Common.{inl, inr}
@@ -7,12 +8,13 @@ use Rattle.std.specs.List.{range_with_len}
 use Rattle.std.specs.Option.{option_and_then, option_map}
 use Rattle.std.proofs.lemmas.Bool.{cases_Bool, false_from_ne_true, both_ways}
 use Rattle.std.proofs.lemmas.Option.{none-some}
-use Rattle.link_model.specs.Feeders.{SliceAnswer, session_of, entered_session}
+use Rattle.link_model.specs.Feeders.{SliceAnswer, session_opening, entered_session}
 use Rattle.link_model.specs.Feeders.{picture_keeps}
-use Rattle.link_model.specs.Feeders.{pictures_of, is_among}
+use Rattle.link_model.specs.Feeders.{heard_pictures, is_among}
 use Rattle.link_model.specs.Feeding.{planes_by, sound_answers}
 use Rattle.link_model.specs.Kept.{Own, KeptParameters}
 use Rattle.link_model.specs.Numbers.{Numbered, is_opened}
+use Rattle.link_model.specs.Output.{full_output, output_so_far}
 use Rattle.link_model.specs.Output.{is_opened_in, entered_behind}
 use Rattle.link_model.specs.Session.{HeardSession}
 use Rattle.link_model.specs.Session.{hears}
@@ -20,11 +22,17 @@ use Rattle.link_model.proofs.Apart.{sessions_apart}
 use Rattle.vc_types.specs.Planes.{Planes, planes_of}
 use Rattle.vc_types.specs.Subbands.{slice_count}
 use Rattle.link_receiver.specs.Receptions.{Decoding}
-use Rattle.link_receiver.specs.Standing.{AreOwnAnswers, HasSlots}
+use Rattle.link_receiver.specs.Standing.{HasSlots}
+use Rattle.link_model.specs.Interleavings.{AreOwnAnswers}
 use Rattle.link_receiver.specs.Standing.{answered_planes}
 use Rattle.link_receiver.proofs.SessionPictures.{pictures_among, session_last, session_before}
 use Rattle.link_receiver.proofs.SessionPictures.{session_none, job_stays}
 use Rattle.link_receiver.proofs.SessionPictures.{picture_keeps_on}
+
+-- what is written of what was heard
+abbrev pub written_of : ℕ → Bool → List (List ℕ) → List ℕ
+written_of size over datagrams =
+    cond over (full_output size datagrams) (output_so_far size datagrams)
 
 -- ---- what stays as a datagram more is heard
 
@@ -71,18 +79,18 @@ module _ (size : ℕ) (h : HeardSession) (hs : List HeardSession) where
   es_of = entered_behind size hs h
 
   pub of_last : (n : ℕ) → is_opened es_of n ≡ true
-      → session_of size (h ∷ hs) n ≡ Some (entered_session size hs h)
+      → session_opening size (h ∷ hs) n ≡ Some (entered_session size hs h)
   of_last n opened = session_last size h hs n opened
 
   pub of_others : (n : ℕ) → is_opened es_of n ≡ false
-      → (is_among (pictures_of size hs) n ≡ true) ⊎ (session_of size (h ∷ hs) n ≡ None)
+      → (is_among (heard_pictures size hs) n ≡ true) ⊎ (session_opening size (h ∷ hs) n ≡ None)
   of_others n shut = elim (cases_Bool (is_opened_in size hs n)) [
     | inl was ↦ inl (pictures_among size hs n ∙ was)
     | inr none ↦ inr (session_before size h hs n shut ∙ session_none size hs n none)
   ]
 
   pub not_before : size ≤ 8 → (n : ℕ) → is_opened es_of n ≡ true
-      → is_among (pictures_of size hs) n ≡ false
+      → is_among (heard_pictures size hs) n ≡ false
   not_before small n opened = pictures_among size hs n
       ∙ false_from_ne_true (is_opened_in size hs n)
       (λ was. both_ways (is_opened es_of n) (sessions_apart size hs h n small was) opened)

@@ -5,7 +5,7 @@ use Rattle.std.specs.Prelude.{◌&&◌, is_none, not}
 use Rattle.std.specs.List.{flat_map}
 use Rattle.std.specs.Option.{option_and_then, option_map_or}
 use Rattle.std.proofs.lemmas.Bool.{cond-false}
-use Rattle.link_model.specs.Feeders.{Feeder, session_of, kept_job, let_go_pictures}
+use Rattle.link_model.specs.Feeders.{Feeder, session_opening, kept_job, let_go_pictures}
 use Rattle.link_model.specs.Feeders.{slice_job, has_released, is_decoded, not_released, releasable}
 use Rattle.link_model.specs.Feeders.{keeps_of, job_by, EnteredSession}
 use Rattle.link_model.specs.Feeding.{takes_answer, with_answer, has_job}
@@ -25,7 +25,7 @@ use Rattle.link_receiver.specs.Releasing.{releases_up_to, bytes_up_to, releases_
 use Rattle.link_receiver.specs.Releasing.{all_released_bytes}
 use Rattle.link_receiver.specs.Standing.{StandsFor, standing_of}
 use Rattle.link_receiver.specs.Standing.{field_of_sessions, counts_of_sessions}
-use Rattle.link_receiver.specs.Standing.{written_of}
+use Rattle.link_receiver.proofs.HeardMore.{written_of}
 use Rattle.link_receiver.proofs.SessionPictures.{session_opens}
 
 -- ---- the receiver
@@ -137,7 +137,7 @@ module _ (size : ℕ) (f : Feeder) (idle : IsIdle size f) where
       (all_unused dones) ∙ stays_idle
 
 pub nothing_kept : (size n i : ℕ) → kept_job size [] n i ≡ None
-unfolding kept_job session_of
+unfolding kept_job session_opening
 nothing_kept size n i = refl
 
 no_session : (size n : ℕ) → session_opening size [] n ≡ None

@@ -17,7 +17,7 @@ use Rattle.link_model.specs.Places.{Job, own_answer, decoding}
 use Rattle.link_model.specs.Session.{HeardSession, sessions_of}
 use Rattle.vc_types.specs.Slices.{slice_coefficients}
 use Rattle.link_receiver.specs.Receptions.{Decoding}
-use Rattle.link_receiver.specs.Standing.{AreOwnAnswers}
+use Rattle.link_model.specs.Interleavings.{AreOwnAnswers}
 use Rattle.link_receiver.proofs.SliceJobs.{other_answer}
 
 -- ---- jobs

@@ -14,7 +14,7 @@ use Rattle.std.proofs.lemmas.List.Sums.{length-filter}
 use Rattle.std.proofs.lemmas.Option.{none-some, same_Some}
 use Rattle.link_model.specs.Complete.{whole_picture}
 use Rattle.link_model.specs.Feeders.{is_among}
-use Rattle.link_model.specs.Kept.{Own, own, parted}
+use Rattle.link_model.specs.Kept.{Own, own, split_parts}
 use Rattle.link_model.specs.Numbers.{Numbered, is_opened, has_parts, parts_of}
 use Rattle.link_model.specs.Output.{complete_at, planes_at}
 use Rattle.link_model.specs.Session.{Part}
@@ -99,7 +99,7 @@ module _ (s : Sequence) (es : List Numbered) (m : ℕ) where
 
   -- and so is one that keeps something
   pub keeps_opened : (kept : Own) → own s (parts_of m es) ≡ Some kept → is_opened es m ≡ true
-  unfolding own parted
+  unfolding own split_parts
   keeps_opened kept is = by_parts (parts_of m es) is
     where
       by_parts : (parts : List Part) → own s parts ≡ Some kept → has_parts parts ≡ true

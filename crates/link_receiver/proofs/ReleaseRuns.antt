@@ -10,7 +10,7 @@ use Rattle.std.proofs.lemmas.List.{append_assoc, append-nil}
 use Rattle.std.proofs.lemmas.List.Sums.{fold-append}
 use Rattle.link_model.specs.Complete.{slice_numbers, has_all_slices}
 use Rattle.link_model.specs.Feeders.{Feeder, is_among, is_decoded, keeps_now}
-use Rattle.link_model.specs.Feeders.{pictures_of, let_go_pictures, not_released, releasable}
+use Rattle.link_model.specs.Feeders.{heard_pictures, let_go_pictures, not_released, releasable}
 use Rattle.link_model.specs.Kept.{Own}
 use Rattle.link_model.specs.Machine.{Event, Redo, Release, feeder_after}
 use Rattle.link_model.specs.Next.{feeder_run, unanswered, releasing, all_releasing}

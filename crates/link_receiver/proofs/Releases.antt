@@ -12,7 +12,7 @@ use Rattle.std.proofs.lemmas.List.{append_assoc, append-nil}
 use Rattle.std.proofs.lemmas.List.Concat.{flat_map-append}
 use Rattle.std.proofs.lemmas.List.Sums.{fold_push, fold-append}
 use Rattle.link_model.specs.Feeders.{Feeder, EnteredSession, SliceAnswer}
-use Rattle.link_model.specs.Feeders.{picture_keeps, pictures_of, is_among, answer_in}
+use Rattle.link_model.specs.Feeders.{picture_keeps, heard_pictures, is_among, answer_in}
 use Rattle.link_model.specs.Feeders.{has_released, keeps_now}
 use Rattle.link_model.specs.Feeding.{planes_by, built_planes, frame_of, built_bytes}
 use Rattle.link_model.specs.Feeding.{releases_picture}

@@ -11,7 +11,7 @@ use Rattle.std.proofs.lemmas.Option.{none-some, same_Some}
 use Rattle.std.proofs.lemmas.Slice.Eq.{bytes_eq-Decides}
 use Rattle.link_model.specs.Books.{book_of, gathered_of, slot_at}
 use Rattle.link_model.specs.Complete.{slice_numbers}
-use Rattle.link_model.specs.Feeders.{EnteredSession, session_of, keeps_of, job_by, job_with}
+use Rattle.link_model.specs.Feeders.{EnteredSession, session_opening, keeps_of, job_by, job_with}
 use Rattle.link_model.specs.Feeders.{kept_job, picture_keeps}
 use Rattle.link_model.specs.Feeders.{answer_in, SliceAnswer}
 use Rattle.link_model.specs.Feeding.{is_same_job, planes_by}
@@ -98,7 +98,7 @@ pub kept_job_is : (size : ℕ) (hs : List HeardSession) (n i : ℕ) (job : Job)
     → (kept : Own) × (picture_keeps size hs n ≡ Some kept) × (job.plan ≡ kept.plan.parameters)
     × (i < slice_count kept.plan.parameters)
 unfolding kept_job
-kept_job_is size hs n i job is = by_session (session_of size hs n) refl is
+kept_job_is size hs n i job is = by_session (session_opening size hs n) refl is
   where
     by_slice : (e : EnteredSession) (kept : Own) → own e.sequence (parts_of n e.entries) ≡ Some kept
         → (o : Option (List ℕ)) → own_slice kept i ≡ o → option_map (job_with kept n i) o ≡ Some job
@@ -113,7 +113,7 @@ kept_job_is size hs n i job is = by_session (session_of size hs n) refl is
       ],
     )
 
-    by_kept : (e : EnteredSession) → session_of size hs n ≡ Some e → (o : Option Own)
+    by_kept : (e : EnteredSession) → session_opening size hs n ≡ Some e → (o : Option Own)
         → keeps_of e n ≡ o → option_and_then (λ kept. job_by kept n i) o ≡ Some job
         → (kept : Own) × (picture_keeps size hs n ≡ Some kept) × (job.plan ≡ kept.plan.parameters)
         × (i < slice_count kept.plan.parameters)
@@ -122,7 +122,7 @@ kept_job_is size hs n i job is = by_session (session_of size hs n) refl is
         let found = by_slice e kept keeps (own_slice kept i) refl is in
         (kept, ap (option_and_then (λ e. keeps_of e n)) at ∙ keeps, found.0, found.1)
 
-    by_session : (o : Option EnteredSession) → session_of size hs n ≡ o
+    by_session : (o : Option EnteredSession) → session_opening size hs n ≡ o
         → option_and_then (λ kept. job_by kept n i) (option_and_then (λ e. keeps_of e n) o)
         ≡ Some job
         → (kept : Own) × (picture_keeps size hs n ≡ Some kept) × (job.plan ≡ kept.plan.parameters)

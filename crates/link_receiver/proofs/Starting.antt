@@ -7,8 +7,8 @@ use Rattle.std.specs.List.{flat_map}
 use Rattle.std.specs.Option.{option_map}
 use Rattle.std.proofs.lemmas.Bool.{eq-eqb}
 use Rattle.std.proofs.lemmas.List.{append-nil}
-use Rattle.link_model.specs.Feeders.{Feeder, session_of}
-use Rattle.link_model.specs.Feeders.{pictures_of, let_go_pictures, is_among, EnteredSession}
+use Rattle.link_model.specs.Feeders.{Feeder, session_opening}
+use Rattle.link_model.specs.Feeders.{heard_pictures, let_go_pictures, is_among, EnteredSession}
 use Rattle.link_model.specs.Feeding.{hears_datagram, hears_end}
 use Rattle.link_model.specs.Judgement.{outcome_behind, outcomes_in, outcome_counts, with_outcome}
 use Rattle.link_model.specs.Judgement.{with_sessions}
@@ -35,9 +35,11 @@ use Rattle.link_receiver.specs.Judging.{enters_window, is_over, keeps_datagram, 
 use Rattle.link_receiver.specs.Receptions.{StandingSession, Reception, FirstField}
 use Rattle.link_receiver.specs.Receptions.{answers_at}
 use Rattle.link_receiver.specs.Standing.{StandsFor, standing_of, standing_with}
-use Rattle.link_receiver.specs.Standing.{all_released, last_past, AreOwnAnswers, HasSlots}
+use Rattle.link_receiver.specs.Standing.{all_released, last_past, HasSlots}
+use Rattle.link_model.specs.Interleavings.{AreOwnAnswers}
 use Rattle.link_receiver.specs.Standing.{answered_planes, field_of_sessions, counts_of_sessions}
-use Rattle.link_receiver.specs.Standing.{past_fields, past_counts, written_of, Fields}
+use Rattle.link_receiver.specs.Standing.{past_fields, past_counts, Fields}
+use Rattle.link_receiver.proofs.HeardMore.{written_of}
 use Rattle.link_receiver.proofs.HeardMore.{own_stays, room_stays, planes_stay, of_last}
 use Rattle.link_receiver.proofs.HeardMore.{of_others, not_before}
 use Rattle.link_receiver.proofs.JudgedOutcomes.{resting_stands, opens_same, judged_is}

@@ -11,8 +11,8 @@ use Rattle.std.proofs.lemmas.Bool.{and_parts, or_parts}
 use Rattle.std.proofs.lemmas.Bool.{false≢true, both_ways, not-true}
 use Rattle.std.proofs.lemmas.Option.{same_Some}
 use Rattle.link_model.specs.Books.{Book, book_of}
-use Rattle.link_model.specs.Feeders.{Feeder, EnteredSession, session_of, keeps_of, job_by}
-use Rattle.link_model.specs.Feeders.{kept_job, picture_keeps, pictures_of, let_go_pictures}
+use Rattle.link_model.specs.Feeders.{Feeder, EnteredSession, session_opening, keeps_of, job_by}
+use Rattle.link_model.specs.Feeders.{kept_job, picture_keeps, heard_pictures, let_go_pictures}
 use Rattle.link_model.specs.Feeders.{is_among, answer_in, has_released, slice_job}
 use Rattle.link_model.specs.Feeders.{is_decoded}
 use Rattle.link_model.specs.Feeding.{is_same_job, has_job, takes_answer, with_answer}
@@ -34,7 +34,8 @@ use Rattle.link_receiver.specs.Exchanging.{all_exchanged, dones_in}
 use Rattle.link_receiver.specs.Receptions.{StandingSession, Reception, FirstField, Decoding}
 use Rattle.link_receiver.specs.Receptions.{SliceOut}
 use Rattle.link_receiver.specs.Receptions.{answers_at, kept_answer, keeps_answer, no_answers}
-use Rattle.link_receiver.specs.Standing.{past_fields, past_counts, AreOwnAnswers}
+use Rattle.link_receiver.specs.Standing.{past_fields, past_counts}
+use Rattle.link_model.specs.Interleavings.{AreOwnAnswers}
 use Rattle.link_receiver.specs.Standing.{HasSlots, answered_planes, AreDecodings}
 use Rattle.link_receiver.proofs.KeptAnswers.{slots_before, keeps_own, keeps_others}
 use Rattle.link_receiver.proofs.KeptAnswers.{keeps_found, room_of_none, room_stays}

@@ -4,14 +4,15 @@ use Rattle.std.specs.Prelude.{◌≡◌, ℕ, ◌+◌, Bool, true, false, count_
 use Rattle.std.specs.Prelude.{if◌then◌else◌, List, [], ◌∷◌, length, Option, Some, None}
 use Rattle.std.specs.Option.{option_and_then}
 use Rattle.link_model.specs.Feeders.{Feeder, let_go_pictures, answer_in, has_released}
-use Rattle.link_model.specs.Feeders.{SliceAnswer, kept_job, picture_keeps, is_among}
+use Rattle.link_model.specs.Feeders.{SliceAnswer, picture_keeps, is_among}
 use Rattle.link_model.specs.Feeding.{planes_by}
+use Rattle.link_model.specs.Interleavings.{due, AreOwnAnswers}
 use Rattle.link_model.specs.Judgement.{is_incomplete, is_unsound, has_frame, with_sessions}
 use Rattle.link_model.specs.Judgement.{outcomes_in, outcome_counts}
 use Rattle.link_model.specs.Kept.{Own}
 use Rattle.link_model.specs.Numbers.{Numbered}
-use Rattle.link_model.specs.Output.{planes_at, output_so_far, full_output}
-use Rattle.link_model.specs.Places.{Job, Answered, decoding}
+use Rattle.link_model.specs.Output.{planes_at}
+use Rattle.link_model.specs.Places.{Answered, decoding}
 use Rattle.link_model.specs.Session.{HeardSession, sessions_of}
 use Rattle.link_model.specs.Windows.{WindowPast, session_past, past_let_go, window_of}
 use Rattle.link_model.specs.declared.tally.Tally.{Tally}
@@ -127,26 +128,12 @@ out_without released out = filter (λ slice. not (is_among released slice.number
 
 -- ---- a feeder
 
--- an answer is the decoding of the slice that its picture keeps
-abbrev pub IsOwnAnswer : ℕ → List HeardSession → SliceAnswer → Type 0
-IsOwnAnswer size hs a =
-    (job : Job) × (kept_job size hs a.number a.index ≡ Some job) × (a.answer ≡ decoding job)
-
-abbrev pub AreOwnAnswers : ℕ → List HeardSession → List SliceAnswer → Type 0
-AreOwnAnswers size hs [] = Unit {0}
-AreOwnAnswers size hs (a ∷ rest) = IsOwnAnswer size hs a × AreOwnAnswers size hs rest
-
 -- there is room for each slice of the picture
 abbrev pub HasSlots : ℕ → List HeardSession → ℕ → Option (List (Option Decoding)) → Type 0
 HasSlots size hs n None = Unit {0}
 HasSlots size hs n (Some slices) =
     (kept : Own) × (picture_keeps size hs n ≡ Some kept)
     × (length slices ≡ slice_count kept.plan.parameters)
-
--- what is written of what was heard
-abbrev pub written_of : ℕ → Bool → List (List ℕ) → List ℕ
-written_of size over datagrams =
-    if over then full_output size datagrams else output_so_far size datagrams
 
 -- the planes of a picture, if each of its slices has an answer that is sound
 abbrev pub answered_planes : ℕ → List HeardSession → List SliceAnswer → ℕ → Option Planes
@@ -158,7 +145,7 @@ answered_planes size hs decoded n =
 pub record StandsFor (r : Reception) (size : ℕ) (f : Feeder) : Type 0 where
   pub heard : StandsForHeard r size f.heard f.has_ended
   pub released : f.released ≡ let_go_pictures size f.has_ended (sessions_of f.heard)
-  pub written : f.written ≡ written_of size f.has_ended f.heard
+  pub written : f.written ≡ due size f
   pub own : AreOwnAnswers size (sessions_of f.heard) f.decoded
   pub answers : (n i : ℕ) → has_released f n ≡ false
       → kept_answer r.answers n i ≡ answer_in f.decoded n i
