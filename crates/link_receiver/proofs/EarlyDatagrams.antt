@@ -34,9 +34,10 @@ use Rattle.link_receiver.specs.Releasing.{releases_all}
 use Rattle.link_receiver.specs.Releasing.{one_if}
 use Rattle.link_receiver.specs.Standing.{StandsFor, standing_of, all_released}
 use Rattle.link_receiver.specs.Standing.{last_past, field_of_sessions, counts_of_sessions}
-use Rattle.link_receiver.specs.Standing.{past_fields, past_counts, written_of, HasSlots}
-use Rattle.link_model.specs.Interleavings.{AreOwnAnswers}
+use Rattle.link_receiver.specs.Standing.{past_fields, past_counts, HasSlots}
+use Rattle.link_receiver.proofs.HeardMore.{written_of}
 use Rattle.link_receiver.specs.Standing.{out_without}
+use Rattle.link_model.specs.Interleavings.{AreOwnAnswers}
 use Rattle.link_receiver.proofs.JudgedOutcomes.{judged_is}
 use Rattle.link_receiver.proofs.ReleaseRuns.{none_go}
 use Rattle.link_receiver.proofs.HeardMore.{own_stays, room_stays}

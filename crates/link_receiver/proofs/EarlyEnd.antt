@@ -27,7 +27,8 @@ use Rattle.link_receiver.specs.Receptions.{PictureAnswers, answers_at, kept_answ
 use Rattle.link_receiver.specs.Releasing.{one_if}
 use Rattle.link_receiver.specs.Standing.{StandsFor, standing_of}
 use Rattle.link_receiver.specs.Standing.{counts_of_sessions}
-use Rattle.link_receiver.specs.Standing.{written_of, HasSlots}
+use Rattle.link_receiver.specs.Standing.{HasSlots}
+use Rattle.link_receiver.proofs.HeardMore.{written_of}
 use Rattle.link_receiver.specs.Standing.{out_without}
 use Rattle.link_receiver.proofs.ReleaseRuns.{none_go}
 use Rattle.link_receiver.proofs.Idle.{IsSame, IsIdle, idle_exchanged, nothing_released}

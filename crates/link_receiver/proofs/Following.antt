@@ -13,7 +13,8 @@ use Rattle.link_receiver.specs.Entering.{before_releases}
 use Rattle.link_receiver.specs.Exchanging.{Exchange, dones_in, all_exchanged}
 use Rattle.link_receiver.specs.Judging.{judged, ends_input}
 use Rattle.link_receiver.specs.Receptions.{Reception}
-use Rattle.link_receiver.specs.Standing.{StandsFor, StandsForHeard, AreDecodings, written_of}
+use Rattle.link_receiver.specs.Standing.{StandsFor, StandsForHeard, AreDecodings}
+use Rattle.link_receiver.proofs.HeardMore.{written_of}
 use Rattle.link_receiver.specs.Standing.{counts_of_sessions, out_without}
 use Rattle.link_receiver.proofs.Entered.{on_stands, on_writes, opens_stands, opens_writes}
 use Rattle.link_receiver.proofs.Entered.{finish_stands, finish_writes, heard_again, heard_still}

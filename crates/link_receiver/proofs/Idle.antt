@@ -25,7 +25,7 @@ use Rattle.link_receiver.specs.Releasing.{releases_up_to, bytes_up_to, releases_
 use Rattle.link_receiver.specs.Releasing.{all_released_bytes}
 use Rattle.link_receiver.specs.Standing.{StandsFor, standing_of}
 use Rattle.link_receiver.specs.Standing.{field_of_sessions, counts_of_sessions}
-use Rattle.link_receiver.specs.Standing.{written_of}
+use Rattle.link_receiver.proofs.HeardMore.{written_of}
 use Rattle.link_receiver.proofs.SessionPictures.{session_opens}
 
 -- ---- the receiver

@@ -9,6 +9,7 @@ pub mod SliceJobs
 pub mod Working
 pub mod Redone
 pub mod ReleaseLists
+pub mod OfferedJobs
 pub mod BuiltPictures
 pub mod Releases
 pub mod ReleaseRuns

@@ -26,7 +26,8 @@ use Rattle.link_receiver.specs.Receptions.{StandingSession, Reception, FirstFiel
 use Rattle.link_receiver.specs.Releasing.{one_if}
 use Rattle.link_receiver.specs.Standing.{StandsFor, standing_of, standing_with}
 use Rattle.link_receiver.specs.Standing.{all_released, last_past, field_of_sessions, fields_behind}
-use Rattle.link_receiver.specs.Standing.{counts_of_sessions, past_fields, past_counts, written_of}
+use Rattle.link_receiver.specs.Standing.{counts_of_sessions, past_fields, past_counts}
+use Rattle.link_receiver.proofs.HeardMore.{written_of}
 use Rattle.link_receiver.specs.Standing.{with_released}
 use Rattle.link_receiver.proofs.LoneFields.{all_fields}
 use Rattle.link_receiver.proofs.ReleasedNumbers.{released_rise, AreRising}

@@ -8,7 +8,8 @@ use Rattle.std.proofs.lemmas.Bool.{cases_Bool, cond-true, cond-false, ne_eqb, eq
 use Rattle.std.proofs.lemmas.Bool.{false≢true, cases_lt}
 use Rattle.std.proofs.lemmas.List.Folds.{list_any-append}
 use Rattle.std.proofs.lemmas.Option.{none-some}
-use Rattle.link_model.specs.Feeders.{EnteredSession, entered_session, session_opening, keeps_of, job_by}
+use Rattle.link_model.specs.Feeders.{EnteredSession, entered_session, session_opening, keeps_of}
+use Rattle.link_model.specs.Feeders.{job_by}
 use Rattle.link_model.specs.Feeders.{picture_keeps, kept_job, heard_pictures, is_among, job_with}
 use Rattle.link_model.specs.Kept.{Own, own, own_slice, KeptParameters}
 use Rattle.link_model.specs.Numbers.{Numbered, base_above, parts_of, is_opened, has_parts}

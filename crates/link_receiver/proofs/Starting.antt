@@ -35,10 +35,11 @@ use Rattle.link_receiver.specs.Judging.{enters_window, is_over, keeps_datagram, 
 use Rattle.link_receiver.specs.Receptions.{StandingSession, Reception, FirstField}
 use Rattle.link_receiver.specs.Receptions.{answers_at}
 use Rattle.link_receiver.specs.Standing.{StandsFor, standing_of, standing_with}
-use Rattle.link_model.specs.Interleavings.{AreOwnAnswers}
 use Rattle.link_receiver.specs.Standing.{all_released, last_past, HasSlots}
+use Rattle.link_model.specs.Interleavings.{AreOwnAnswers}
 use Rattle.link_receiver.specs.Standing.{answered_planes, field_of_sessions, counts_of_sessions}
-use Rattle.link_receiver.specs.Standing.{past_fields, past_counts, written_of, Fields}
+use Rattle.link_receiver.specs.Standing.{past_fields, past_counts, Fields}
+use Rattle.link_receiver.proofs.HeardMore.{written_of}
 use Rattle.link_receiver.proofs.HeardMore.{own_stays, room_stays, planes_stay, of_last}
 use Rattle.link_receiver.proofs.HeardMore.{of_others, not_before}
 use Rattle.link_receiver.proofs.JudgedOutcomes.{resting_stands, opens_same, judged_is}

@@ -34,8 +34,8 @@ use Rattle.link_receiver.specs.Exchanging.{all_exchanged, dones_in}
 use Rattle.link_receiver.specs.Receptions.{StandingSession, Reception, FirstField, Decoding}
 use Rattle.link_receiver.specs.Receptions.{SliceOut}
 use Rattle.link_receiver.specs.Receptions.{answers_at, kept_answer, keeps_answer, no_answers}
-use Rattle.link_model.specs.Interleavings.{AreOwnAnswers}
 use Rattle.link_receiver.specs.Standing.{past_fields, past_counts}
+use Rattle.link_model.specs.Interleavings.{AreOwnAnswers}
 use Rattle.link_receiver.specs.Standing.{HasSlots, answered_planes, AreDecodings}
 use Rattle.link_receiver.proofs.KeptAnswers.{slots_before, keeps_own, keeps_others}
 use Rattle.link_receiver.proofs.KeptAnswers.{keeps_found, room_of_none, room_stays}

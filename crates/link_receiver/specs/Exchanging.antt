@@ -3,7 +3,7 @@
 use Rattle.std.specs.Prelude.{ℕ, ◌==◌, Bool, false, ◌&&◌, not, is_some, is_none, List}
 use Rattle.std.specs.Prelude.{if◌then◌else◌, [], ◌∷◌, ◌++◌, length, filter, filter_map, fold}
 use Rattle.std.specs.Prelude.{Option, Some, None}
-use Rattle.std.specs.List.{flat_map, range_with_len}
+use Rattle.std.specs.List.{flat_map, list_any, range_with_len}
 use Rattle.std.specs.Option.{option_and_then, option_map, option_map_or}
 use Rattle.link_model.specs.Books.{Gathered, Book, slot_at, book_slice}
 use Rattle.link_model.specs.Feeding.{is_same_job}
@@ -52,6 +52,9 @@ new_jobs_of old new n = option_map_or
 -- by the window before and behind the fragment
 unfoldable pub offered_jobs : Window → Window → Fragment → List Job
 offered_jobs old new f = new_jobs_of old new (number_by old f.number)
+
+abbrev pub is_job_among : List Job → Job → Bool
+is_job_among jobs job = list_any (is_same_job job) jobs
 
 -- ---- what is taken back
 

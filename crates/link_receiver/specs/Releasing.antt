@@ -1,7 +1,7 @@
 -- How a receiver releases a picture (this project's own): it decodes the slices that have no
 -- answer, writes the frame of which the picture is the last, and forgets what it had of it.
 use Rattle.std.specs.Prelude.{ℕ, zero, suc, ◌+◌, ◌%◌, ◌==◌, Bool, ◌&&◌, not, is_some, is_none}
-use Rattle.std.specs.Prelude.{if◌then◌else◌, List, [], ◌∷◌, ◌++◌, length, filter, unwrap_or}
+use Rattle.std.specs.Prelude.{if◌then◌else◌, List, [], ◌∷◌, ◌++◌, length, map, filter, unwrap_or}
 use Rattle.std.specs.Prelude.{Option, Some, None, Ok, Err}
 use Rattle.std.specs.List.{range_with_len}
 use Rattle.std.specs.Option.{option_and_then, option_map, option_map_or}
@@ -25,6 +25,11 @@ slot_bytes g i = unwrap_or (slot_at g.slots i) []
 abbrev pub slice_decoding : List PictureAnswers → ℕ → Gathered → ℕ → Decoding
 slice_decoding answers n g i =
     unwrap_or (kept_answer answers n i) (slice_coefficients g.plan.parameters i (slot_bytes g i))
+
+-- the slices that it decodes itself, in rising order
+abbrev pub undecoded_slices : List PictureAnswers → ℕ → Gathered → List ℕ
+undecoded_slices answers n g =
+    filter (λ i. is_none (kept_answer answers n i)) (range_with_len 0 (length g.slots))
 
 abbrev pub if_sound : Decoding → Option Coefficients
 if_sound (Ok coefficients) = Some coefficients
@@ -95,6 +100,11 @@ counts_released t s field picture planes = record t {
 
 abbrev pub is_of_other : ℕ → SliceOut → Bool
 is_of_other n slice = not (slice.number == n)
+
+-- the places where its slices are: each is freed
+abbrev pub freed_places : Reception → ℕ → List ℕ
+freed_places r n =
+    map (λ slice. slice.place) (filter (λ slice. not (is_of_other n slice)) r.out)
 
 abbrev pub forgets_picture : Reception → StandingSession → Releasable → Option Planes → Reception
 forgets_picture r st picture planes = record r {

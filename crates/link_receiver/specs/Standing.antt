@@ -4,15 +4,15 @@ use Rattle.std.specs.Prelude.{◌≡◌, ℕ, ◌+◌, Bool, true, false, count_
 use Rattle.std.specs.Prelude.{if◌then◌else◌, List, [], ◌∷◌, length, Option, Some, None}
 use Rattle.std.specs.Option.{option_and_then}
 use Rattle.link_model.specs.Feeders.{Feeder, let_go_pictures, answer_in, has_released}
-use Rattle.link_model.specs.Feeders.{SliceAnswer, kept_job, picture_keeps, is_among}
+use Rattle.link_model.specs.Feeders.{SliceAnswer, picture_keeps, is_among}
 use Rattle.link_model.specs.Feeding.{planes_by}
-use Rattle.link_model.specs.Interleavings.{AreOwnAnswers}
+use Rattle.link_model.specs.Interleavings.{due, AreOwnAnswers}
 use Rattle.link_model.specs.Judgement.{is_incomplete, is_unsound, has_frame, with_sessions}
 use Rattle.link_model.specs.Judgement.{outcomes_in, outcome_counts}
 use Rattle.link_model.specs.Kept.{Own}
 use Rattle.link_model.specs.Numbers.{Numbered}
-use Rattle.link_model.specs.Output.{planes_at, output_so_far, full_output}
-use Rattle.link_model.specs.Places.{Job, Answered, decoding}
+use Rattle.link_model.specs.Output.{planes_at}
+use Rattle.link_model.specs.Places.{Answered, decoding}
 use Rattle.link_model.specs.Session.{HeardSession, sessions_of}
 use Rattle.link_model.specs.Windows.{WindowPast, session_past, past_let_go, window_of}
 use Rattle.link_model.specs.declared.tally.Tally.{Tally}
@@ -135,11 +135,6 @@ HasSlots size hs n (Some slices) =
     (kept : Own) × (picture_keeps size hs n ≡ Some kept)
     × (length slices ≡ slice_count kept.plan.parameters)
 
--- what is written of what was heard
-abbrev pub written_of : ℕ → Bool → List (List ℕ) → List ℕ
-written_of size over datagrams =
-    if over then full_output size datagrams else output_so_far size datagrams
-
 -- the planes of a picture, if each of its slices has an answer that is sound
 abbrev pub answered_planes : ℕ → List HeardSession → List SliceAnswer → ℕ → Option Planes
 answered_planes size hs decoded n =
@@ -150,7 +145,7 @@ answered_planes size hs decoded n =
 pub record StandsFor (r : Reception) (size : ℕ) (f : Feeder) : Type 0 where
   pub heard : StandsForHeard r size f.heard f.has_ended
   pub released : f.released ≡ let_go_pictures size f.has_ended (sessions_of f.heard)
-  pub written : f.written ≡ written_of size f.has_ended f.heard
+  pub written : f.written ≡ due size f
   pub own : AreOwnAnswers size (sessions_of f.heard) f.decoded
   pub answers : (n i : ℕ) → has_released f n ≡ false
       → kept_answer r.answers n i ≡ answer_in f.decoded n i

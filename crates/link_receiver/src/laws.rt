@@ -1,13 +1,17 @@
-ghost use Rattle.std.specs.Prelude.{◌≡◌, ℕ, ◌≤◌, false, List, [], ◌∷◌, ◌++◌};
+ghost use Rattle.std.specs.Prelude.{◌≡◌, ℕ, ◌≤◌, true, false, List, [], ◌∷◌, ◌++◌, Some, None};
 ghost use Rattle.link_model.specs.Feeders.{Feeder, new_feeder, releasable};
 ghost use Rattle.link_model.specs.Feeding.{hears_datagram, hears_end};
 ghost use Rattle.link_model.specs.Judgement.{outcome_behind, tally_of};
 ghost use Rattle.link_model.specs.Machine.{Enter, Finish};
 ghost use Rattle.link_model.specs.Next.{next_feeder, taken_back};
 ghost use Rattle.link_model.specs.Output.{output_so_far, full_output};
+ghost use Rattle.link_model.specs.Places.{Job};
+ghost use Rattle.link_model.specs.Session.{Fragment};
+ghost use Rattle.link_model.specs.Windows.{Window, WindowPast, StandsForPast, window_enters};
 ghost use Rattle.link_receiver.specs.Entering.{before_releases, takes_datagram, datagram_bytes};
 ghost use Rattle.link_receiver.specs.Entering.{takes_end, end_bytes};
 ghost use Rattle.link_receiver.specs.Exchanging.{Exchange, all_exchanged, dones_in};
+ghost use Rattle.link_receiver.specs.Exchanging.{window_job, offered_jobs, is_job_among};
 ghost use Rattle.link_receiver.specs.Judging.{judged, ends_input};
 ghost use Rattle.link_receiver.specs.Receptions.{Reception, new_reception};
 ghost use Rattle.link_receiver.specs.Standing.{StandsFor, StandsForHeard, AreDecodings};
@@ -19,9 +23,9 @@ pub fn a_new_receiver_stands_for_nothing()
 {}
 
 /// A receiver judges a datagram as the list of those before it says, and its counts of outcomes are
-/// the tally's. Behind it the receiver stands for the longer list, and for the feeder that heard the
-/// datagram, took back the same decoded slices and released what it may. It writes what is due: the
-/// output so far of the longer list without that of the shorter one.
+/// the tally's. Behind it the receiver stands for the longer list, and for the feeder that heard
+/// the datagram, took back the same decoded slices and released what it may. It writes what is due:
+/// the output so far of the longer list without that of the shorter one.
 pub fn receivers_follow_datagrams()
     ensures outcome { (r : Reception) (size : ℕ) (datagrams : List (List ℕ)) (d : List ℕ)
         → StandsForHeard r size datagrams false
@@ -37,6 +41,19 @@ pub fn receivers_follow_datagrams()
         → f.has_ended ≡ false → (exchanges : List Exchange) → AreDecodings (dones_in exchanges)
         → (d : List ℕ) → output_so_far size (f.heard ++ d ∷ [])
         ≡ output_so_far size f.heard ++ datagram_bytes r d exchanges }
+{}
+
+/// The jobs that a fragment offers are those of the slices that it brings: their pictures keep them
+/// behind it, and didn't before.
+pub fn new_slices_are_offered()
+    ensures every { (w : Window) (p : WindowPast) → StandsForPast w p → p.is_ended ≡ false
+        → (f : Fragment) (n i : ℕ) (job : Job) → window_job w n i ≡ None
+        → window_job (window_enters w f) n i ≡ Some job
+        → is_job_among (offered_jobs w (window_enters w f) f) job ≡ true }
+    ensures only { (old new : Window) (f : Fragment) (job : Job)
+        → is_job_among (offered_jobs old new f) job ≡ true
+        → (window_job new job.number job.index ≡ Some job)
+        × (window_job old job.number job.index ≡ None) }
 {}
 
 /// The slices of the pictures that a call releases aren't out any more behind it, and all others

@@ -4,8 +4,8 @@
 mod laws;
 
 pub use laws::{
-    a_new_receiver_stands_for_nothing, receivers_follow_datagrams, receivers_follow_the_end,
-    released_slices_are_not_out,
+    a_new_receiver_stands_for_nothing, new_slices_are_offered, receivers_follow_datagrams,
+    receivers_follow_the_end, released_slices_are_not_out,
 };
 
 #[cfg(test)]

@@ -6,4 +6,5 @@ fn laws_hold() {
     receivers_follow_datagrams();
     receivers_follow_the_end();
     released_slices_are_not_out();
+    new_slices_are_offered();
 }
