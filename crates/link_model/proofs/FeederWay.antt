@@ -1,6 +1,9 @@
--- The feeder's own way: each of its events is legal where it stands, and in the end nothing may be released.
-use Rattle.std.proofs.Common.{◌≡◌, ◌≢◌, ℕ, ◌+◌, ◌<◌, ◌≤◌, Bool, true, false, cond, List, [], ◌∷◌, ◌++◌, map}
-use Rattle.std.proofs.Common.{Option, Some, None, Result, refl, ap, sym, subst, ◌∙◌, arith, eqb, eqb-true, eq-eqb, ne_eqb}
+-- The feeder's own way: each of its events is legal where it stands, and in the end nothing may be
+-- released.
+use Rattle.std.proofs.Common.{◌≡◌, ◌≢◌, ℕ, ◌+◌, ◌<◌, ◌≤◌, Bool, true, false, cond, List, [], ◌∷◌}
+use Rattle.std.proofs.Common.{◌++◌, map}
+use Rattle.std.proofs.Common.{Option, Some, None, Result, refl, ap, sym, subst, ◌∙◌, arith, eqb}
+use Rattle.std.proofs.Common.{eqb-true, eq-eqb, ne_eqb}
 use Rattle.std.specs.Prelude.{◌==◌, ◌&&◌, ◌||◌, not, is_some, slice_get, fold, filter}
 use Rattle.std.specs.List.{flat_map, list_all}
 use Rattle.std.specs.Option.{option_map_or, option_and_then}
@@ -8,19 +11,24 @@ use Rattle.std.proofs.lemmas.Bool.{and_parts, and_from, false≢true, both_ways}
 use Rattle.std.proofs.lemmas.List.Sums.{fold-append}
 use Rattle.std.proofs.lemmas.Option.{same_Some, none-some}
 use Rattle.link_model.specs.Complete.{has_all_slices, slice_numbers}
-use Rattle.link_model.specs.Feeders.{SliceAnswer, Feeder, EnteredSession, session_opening, keeps_of, picture_keeps, kept_job, job_with}
-use Rattle.link_model.specs.Feeders.{let_go_pictures, is_among, not_released, releasable, next_to_release, answer_in, is_ready}
+use Rattle.link_model.specs.Feeders.{SliceAnswer, Feeder, EnteredSession, session_opening, keeps_of}
+use Rattle.link_model.specs.Feeders.{picture_keeps, kept_job, job_with}
+use Rattle.link_model.specs.Feeders.{let_go_pictures, is_among, not_released, releasable}
+use Rattle.link_model.specs.Feeders.{next_to_release, answer_in, is_ready}
 use Rattle.link_model.specs.Feeders.{has_every_answer}
 use Rattle.link_model.specs.Feeding.{built_bytes, redoes_slice, with_answer}
 use Rattle.link_model.specs.Kept.{Own, own_slice}
-use Rattle.link_model.specs.Machine.{Event, Redo, Release, feeder_after, is_next, has_answers, is_legal_for_feeder}
-use Rattle.link_model.specs.Next.{unanswered, releasing, all_releasing, feeder_run, after_taking, next_feeder, AreLegalForFeeder}
+use Rattle.link_model.specs.Machine.{Event, Redo, Release, feeder_after, is_next, has_answers}
+use Rattle.link_model.specs.Machine.{is_legal_for_feeder}
+use Rattle.link_model.specs.Next.{unanswered, releasing, all_releasing, feeder_run, after_taking}
+use Rattle.link_model.specs.Next.{next_feeder, AreLegalForFeeder}
 use Rattle.link_model.specs.Places.{Job, Answered, own_answer, decoding}
 use Rattle.link_model.specs.Session.{HeardSession, sessions_of}
 use Rattle.vc_types.specs.Subbands.{slice_count}
 use Rattle.link_model.proofs.PicturesHeard.{let_go_rising}
 use Rattle.link_model.proofs.PicturesStay.{kept_slice, job_of_kept, each_and, some_after}
-use Rattle.link_model.proofs.RisingLists.{Each, IsRising, each_map, each_passes, each_filter, filter_rising, range_rising}
+use Rattle.link_model.proofs.RisingLists.{Each, IsRising, each_map, each_passes, each_filter}
+use Rattle.link_model.proofs.RisingLists.{filter_rising, range_rising}
 
 -- ---- lists
 

@@ -8,8 +8,10 @@ use Rattle.std.proofs.lemmas.Bool.{and_parts, and_from, false≢true, le-ltb}
 use Rattle.std.proofs.lemmas.Option.{none-some}
 use Rattle.link_model.proofs.Positions.{position_none}
 use Rattle.link_model.specs.Feeders.{is_closed_now, is_decoded, is_kept}
-use Rattle.link_model.specs.Machine.{Machine, Event, Enter, Put, Claim, Complete, Take, Withdraw, Leave, Redo, Release, Finish}
-use Rattle.link_model.specs.Machine.{conditions, first_broken, IsLegal, is_legal_on_places, is_legal_for_feeder}
+use Rattle.link_model.specs.Machine.{Machine, Event, Enter, Put, Claim, Complete, Take, Withdraw}
+use Rattle.link_model.specs.Machine.{Leave, Redo, Release, Finish}
+use Rattle.link_model.specs.Machine.{conditions, first_broken, IsLegal, is_legal_on_places}
+use Rattle.link_model.specs.Machine.{is_legal_for_feeder}
 use Rattle.link_model.specs.Machine.{is_next, has_answers}
 use Rattle.link_model.specs.Places.{place_at, is_in, may_put, stands_in}
 use Rattle.link_model.specs.declared.place_state.PlaceState.TheVariants.{Waiting, Held, Done}

@@ -5,32 +5,44 @@ use Rattle.link_model.specs.Complete.{has_all_slices, all_bytes, whole_picture}
 use Rattle.vc_types.specs.FieldPairs.{interleaved_rows}
 use Rattle.vc_types.specs.RawFrames.{sample_bytes, frame_bytes}
 use Rattle.vc_types.specs.SameValues.{same_sequence, same_parameters}
-use Rattle.link_model.specs.Kept.{parameters_in, split_parts, next_slice, next_slices, slice_run, own, first_copy}
-use Rattle.link_model.specs.Numbers.{base_above, greatest, least, nearest, picture_number, is_closed, is_late, enters, parts_of, opened_numbers}
-use Rattle.link_model.specs.Output.{complete_at, planes_at, frame_at, frame_bytes_at, let_go_numbers, is_let_go, all_frames, frames_so_far, full_output, output_so_far, closing_place, greatest_of, all_output, last_so_far}
-use Rattle.link_model.specs.Packets.{header_end, is_shaped, payload_end, packet_fields, rtp_packet, fragment_fits, fragment_value, payload}
+use Rattle.link_model.specs.Kept.{parameters_in, split_parts, next_slice, next_slices, slice_run, own}
+use Rattle.link_model.specs.Kept.{first_copy}
+use Rattle.link_model.specs.Numbers.{base_above, greatest, least, nearest, picture_number}
+use Rattle.link_model.specs.Numbers.{is_closed, is_late, enters, parts_of, opened_numbers}
+use Rattle.link_model.specs.Output.{complete_at, planes_at, frame_at, frame_bytes_at}
+use Rattle.link_model.specs.Output.{let_go_numbers, is_let_go, all_frames, frames_so_far}
+use Rattle.link_model.specs.Output.{full_output, output_so_far, closing_place, greatest_of}
+use Rattle.link_model.specs.Output.{all_output, last_so_far}
+use Rattle.link_model.specs.Packets.{header_end, is_shaped, payload_end, packet_fields, rtp_packet}
+use Rattle.link_model.specs.Packets.{fragment_fits, fragment_value, payload}
 use Rattle.link_model.specs.Session.{received, begins, ends, fragment_in, hears}
 use Rattle.vc_types.specs.Bits.{bits_of, byte_bits}
 use Rattle.vc_types.specs.Codes.{uint_at, uint_after}
 use Rattle.vc_types.specs.Bounded.{bounded_uint_after, bounded_uint, bounded_sint, bounded_sints}
 use Rattle.vc_types.specs.Fields.{number_up_to}
 use Rattle.vc_types.specs.Lifting.{weighted, change, lifted}
-use Rattle.vc_types.specs.Pictures.{slices_from, decoded_picture, all_placed, standing_at, component_cells}
+use Rattle.vc_types.specs.Pictures.{slices_from, decoded_picture, all_placed, standing_at}
+use Rattle.vc_types.specs.Pictures.{component_cells}
 use Rattle.vc_types.specs.Planes.{output_sample, component_plane, decoded_planes}
 use Rattle.vc_types.specs.Quantisation.{quant_factor, quant_offset, dequantised, default_matrix}
 use Rattle.vc_types.specs.Rasters.{raster, sample_at}
 use Rattle.vc_types.specs.SequenceHeader as header
 use Rattle.vc_types.specs.SequenceHeader.{sequence_header}
-use Rattle.vc_types.specs.Slices.{block, coded_slice, slice_length, quantisers, block_coefficients, decoded_slice}
-use Rattle.vc_types.specs.Subbands.{slice_rectangle, place_among, slice_coefficient_count, coefficient_place}
+use Rattle.vc_types.specs.Slices.{block, coded_slice, slice_length, quantisers, block_coefficients}
+use Rattle.vc_types.specs.Slices.{decoded_slice}
+use Rattle.vc_types.specs.Subbands.{slice_rectangle, place_among, slice_coefficient_count}
+use Rattle.vc_types.specs.Subbands.{coefficient_place}
 use Rattle.vc_types.specs.TransformParameters as parameters
 use Rattle.vc_types.specs.TransformParameters.{transform_parameters}
-use Rattle.vc_types.specs.Transforms.{interleaved, on_columns, on_rows, on_cells, inverse_level, levels_across, inverse_levels, inverse_transform}
+use Rattle.vc_types.specs.Transforms.{interleaved, on_columns, on_rows, on_cells, inverse_level}
+use Rattle.vc_types.specs.Transforms.{levels_across, inverse_levels, inverse_transform}
 use Rattle.vc_types.specs.Video.{format_of, range_of, video_depth}
 use Rattle.vc_types.specs.Wavelets.{synthesis_steps, lifted_by, synthesised}
 use Rattle.std.specs.Prelude.{true, Option, Some, None}
 use Rattle.link_model.specs.Feeders.{is_decoded, session_opening, kept_job, heard_pictures, let_go_pictures}
-use Rattle.link_model.specs.Machine.{Machine, new_machine, Event, Enter, Put, Claim, Complete, Take, Withdraw, Leave, Redo, Release, Finish, first_broken, happens, run}
+use Rattle.link_model.specs.Machine.{Machine, new_machine, Event, Enter, Put, Claim, Complete, Take}
+use Rattle.link_model.specs.Machine.{Withdraw, Leave, Redo, Release, Finish, first_broken, happens}
+use Rattle.link_model.specs.Machine.{run}
 use Rattle.vc_types.specs.Slices.{slice_coefficients}
 use Rattle.std.specs.Prelude.{map}
 use Rattle.std.specs.List.{flat_map}
