@@ -1,6 +1,7 @@
-ghost use Rattle.std.specs.Prelude.{◌≡◌, ◌<◌, ◌↔◌, IfOk, None, Some, length, true};
+ghost use Rattle.std.specs.Prelude.{◌≡◌, ◌<◌, IfOk, None, Some, length};
 ghost use Rattle.std.specs.Option.{is_some};
 ghost use Rattle.vc_types.specs.Planes.{planes_in, planes_of};
+ghost use Rattle.vc_types.specs.SameValues.{same_parameters};
 ghost use Rattle.vc_types.specs.SliceCoefficients.{AreSliceCoefficients};
 ghost use Rattle.vc_types.specs.Slices.{slice_coefficients, slice_length};
 ghost use Rattle.vc_types.specs.Subbands.{slice_count};
@@ -11,8 +12,8 @@ ghost use Rattle.picture_build.specs.Puts.{Puts};
 use crate::cells::CoefficientCells;
 use crate::filling::{fill_slice, parts_of, put_blocks};
 use crate::finishing::finished;
-use crate::sizes::{cell_count, most_coefficients};
 use crate::same::same_plan;
+use crate::sizes::{cell_count, most_coefficients};
 use std::alloc::Global;
 use std::marker::Model;
 use vc_slice::{SliceCoeffs, TooWide};
@@ -95,7 +96,7 @@ impl PictureBuilder {
 
     /// Whether the picture is of this plan.
     pub fn has_plan(&self, plan: &Plan) -> bool
-        ensures { (result ≡ true) ↔ (self.now.parameters ≡ parameters_of plan.now) }
+        ensures { result ≡ same_parameters self.now.parameters (parameters_of plan.now) }
     {
         same_plan(&self.plan, plan)
     }

@@ -1,29 +1,49 @@
-ghost use Rattle.std.specs.Prelude.{◌≡◌, ◌↔◌, true};
+ghost use Rattle.std.specs.Prelude.{◌≡◌};
+ghost use Rattle.vc_types.specs.SameValues.{same_colour, same_luma, same_parameters, same_slicing, same_transform};
 ghost use Rattle.vc_types.specs.TransformParameters.{parameters_of};
 
-use vc_types::Plan;
+use vc_types::{Plan, Shape};
 
-/// Whether two plans have the same transform parameters and the same shape.
+/// Whether two plans have the same shape and the same transform parameters.
+#[tactic(auto, unfolding(vc_types::specs::SameValues::same_parameters))]
 pub(crate) fn same_plan(a: &Plan, b: &Plan) -> bool
-    ensures { (result ≡ true) ↔ (parameters_of a.now ≡ parameters_of b.now) }
+    ensures { result ≡ same_parameters (parameters_of a.now) (parameters_of b.now) }
 {
-    a.shape == b.shape && same_transform(a, b) && same_slices(a, b) && a.matrix == b.matrix
+    same_luma(&a.shape, &b.shape)
+        && same_colour(&a.shape, &b.shape)
+        && same_transform(a, b)
+        && same_slicing(a, b)
+        && a.matrix == b.matrix
+}
+
+fn same_luma(a: &Shape, b: &Shape) -> bool
+    ensures { result ≡ same_luma a.now b.now }
+{
+    a.luma_width == b.luma_width && a.luma_height == b.luma_height && a.luma_depth == b.luma_depth
+}
+
+fn same_colour(a: &Shape, b: &Shape) -> bool
+    ensures { result ≡ same_colour a.now b.now }
+{
+    a.colour_width == b.colour_width
+        && a.colour_height == b.colour_height
+        && a.colour_depth == b.colour_depth
 }
 
 fn same_transform(a: &Plan, b: &Plan) -> bool
-    ensures { (result ≡ true) ↔ ((a.now.wavelet ≡ b.now.wavelet)
-        × (a.now.wavelet_ho ≡ b.now.wavelet_ho)
-        × (a.now.depth ≡ b.now.depth) × (a.now.depth_ho ≡ b.now.depth_ho)) }
+    ensures { result ≡ same_transform (parameters_of a.now) (parameters_of b.now) }
 {
-    let wavelets = a.wavelet == b.wavelet && a.wavelet_ho == b.wavelet_ho;
-    wavelets && a.depth == b.depth && a.depth_ho == b.depth_ho
+    a.wavelet == b.wavelet
+        && a.wavelet_ho == b.wavelet_ho
+        && a.depth == b.depth
+        && a.depth_ho == b.depth_ho
 }
 
-fn same_slices(a: &Plan, b: &Plan) -> bool
-    ensures { (result ≡ true) ↔ ((a.now.slices_x ≡ b.now.slices_x)
-        × (a.now.slices_y ≡ b.now.slices_y)
-        × (a.now.prefix ≡ b.now.prefix) × (a.now.scaler ≡ b.now.scaler)) }
+fn same_slicing(a: &Plan, b: &Plan) -> bool
+    ensures { result ≡ same_slicing (parameters_of a.now) (parameters_of b.now) }
 {
-    let counts = a.slices_x == b.slices_x && a.slices_y == b.slices_y;
-    counts && a.prefix == b.prefix && a.scaler == b.scaler
+    a.slices_x == b.slices_x
+        && a.slices_y == b.slices_y
+        && a.prefix == b.prefix
+        && a.scaler == b.scaler
 }

@@ -52,9 +52,9 @@ module _ (p : Parameters) where
           let count = length-map before.slices (λ (s : Option Coefficients). unwrap_or s no_coefficients) ∙ has.entries in
           ext_get_or no_coefficients (slices_of before) first (count ∙ sym all)
           (λ n h. (
-            let below : n < length first = omega (arith, count, all) in
-            get_or-map (λ (s : Option Coefficients). unwrap_or s no_coefficients) before.slices n None no_coefficients (omega (arith, count, has.entries))
-            ∙ ap (λ (s : Option Coefficients). unwrap_or s no_coefficients) (has.came n no_coefficients below)))
+          let below : n < length first = omega (arith, count, all) in
+          get_or-map (λ (s : Option Coefficients). unwrap_or s no_coefficients) before.slices n None no_coefficients (omega (arith, count, has.entries))
+          ∙ ap (λ (s : Option Coefficients). unwrap_or s no_coefficients) (has.came n no_coefficients below)))
 
       pub first_whole : IsWhole before
       first_whole n h =

@@ -1,4 +1,5 @@
-ghost use Rattle.std.specs.Prelude.{◌≡◌, ◌<◌, None, IfOk};
+ghost use Rattle.std.specs.Prelude.{◌≡◌, ◌<◌, None, Some, IfOk, length};
+ghost use Rattle.vc_types.specs.Slices.{slice_length};
 ghost use Rattle.vc_types.specs.Subbands.{slice_count};
 ghost use Rattle.vc_types.specs.TransformParameters.{parameters_of};
 ghost use Rattle.picture_build.specs.Kept.{no_slices, slice_in};
@@ -50,6 +51,25 @@ fn take_slice(
         return Ok(false);
     };
     let bytes = rest.split_to(len)?;
+    put_slice(alloc, plan, number, index, bytes, builder)
+}
+
+// Decodes a slice to its place, or by itself where it may be too wide for that.
+fn put_slice(
+    alloc: Global,
+    plan: &Plan,
+    number: u32,
+    index: u32,
+    bytes: Bytes,
+    builder: &mut PictureBuilder,
+) -> Result<bool, NoMemory>
+    requires plan { builder.old.parameters ≡ parameters_of plan.now }
+    requires index { index < slice_count (parameters_of plan.now) }
+    requires once { slice_in builder.old index ≡ None }
+    requires whole { slice_length plan.now.prefix plan.now.scaler bytes ≡ Some (length bytes) }
+    ensures value { IfOk result (TookWhole (parameters_of plan.now) index bytes
+        builder.old builder.new) }
+{
     match builder.put(index, bytes.as_slice()) {
         Ok(()) => Ok(true),
         Err(NotPut::Unsound(_)) => Ok(false),
@@ -66,20 +86,17 @@ fn take_slice(
 }
 
 // Decodes a slice by itself, and fills it in.
-fn fill_slice(
-    alloc: Global,
-    job: SliceJob,
-    builder: &mut PictureBuilder,
-) -> Result<bool, NoMemory>
+fn fill_slice(alloc: Global, job: SliceJob, builder: &mut PictureBuilder) -> Result<bool, NoMemory>
     requires plan { builder.old.parameters ≡ parameters_of job.plan }
     requires once { slice_in builder.old job.index ≡ None }
     ensures value { IfOk result (TookWhole (parameters_of job.plan) job.index job.bytes
         builder.old builder.new) }
 {
-    let SliceDone { job, answer } = decode(alloc, job)?;
+    let index = job.index;
+    let SliceDone { job: _, answer } = decode(alloc, job)?;
     match answer {
         Ok(coeffs) => {
-            builder.fill(job.index, &coeffs);
+            builder.fill(index, &coeffs);
             Ok(true)
         }
         Err(_) => Ok(false),
