@@ -19,10 +19,10 @@ module _ (p : Parameters) where
     awaited = λ n h. nothing n;
   })
     where
-      nothing : (n : ℕ) → slice_index_or (replicate (slice_count p) None) n None ≡ None
+      nothing : (n : ℕ) → slice_in (no_slices p) n ≡ None
       nothing n = elim (cases_lt n (slice_count p)) [
         | inl lt ↦ get_or-replicate (slice_count p) n None None lt
-        | inr ge ↦ (let long = length-replicate (slice_count p) None in get_or_past (replicate (slice_count p) None) n None (omega (arith, long)))
+        | inr ge ↦ (let long = length-replicate {A = Option Coefficients} (slice_count p) None in get_or_past (replicate (slice_count p) None) n None (omega (arith, long)))
       ]
 
   module _ (first : List Coefficients) (before : PartPicture) (has : HasFirst p first before) where

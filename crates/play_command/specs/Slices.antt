@@ -4,6 +4,8 @@ use Rattle.vc_types.specs.SliceCoefficients.{AreSliceCoefficients}
 use Rattle.picture_build.specs.Kept.{PartPicture, slice_in, with_slice, slices_of, IsWhole}
 use Rattle.vc_types.specs.Fields.{and_then}
 use Rattle.vc_types.specs.Pictures.{slices_from}
+use Rattle.vc_types.specs.Planes.{planes_in, planes_of}
+use Rattle.vc_types.specs.Rasters.{Raster}
 use Rattle.vc_types.specs.declared.refusal.Unsound.{Unsound}
 use Rattle.vc_types.specs.Slices.{Coefficients, slice_coefficients}
 use Rattle.vc_types.specs.Subbands.{slice_count}
@@ -56,3 +58,10 @@ pub record TookAllSlices (p : Parameters) (bytes : List ℕ) (picture : PartPict
 abbrev pub TookSlices : Parameters → List ℕ → PartPicture → Bool → Type 0
 TookSlices p bytes picture true = TookAllSlices p bytes picture
 TookSlices p bytes picture false = slices_from p 0 (slice_count p) bytes ≡ Err tt
+
+-- all slices were read, and the planes are those of their coefficients; or a slice is refused
+abbrev pub IsBuilt : Parameters → List ℕ → Option (List Raster) → Type 0
+IsBuilt p bytes None = slices_from p 0 (slice_count p) bytes ≡ Err tt
+IsBuilt p bytes (Some planes) =
+    (read : List Coefficients × List ℕ) × (slices_from p 0 (slice_count p) bytes ≡ Ok read)
+    × (planes_in planes ≡ planes_of p read.0)

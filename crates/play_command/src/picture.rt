@@ -5,6 +5,7 @@ ghost use Rattle.vc_types.specs.SequenceHeader.{sequence_of, picture_shape};
 ghost use Rattle.vc_types.specs.TransformParameters.{parameters_of};
 ghost use Rattle.picture_build.specs.Kept.{no_slices};
 ghost use Rattle.play_command.specs.Shapes.{HaveShape};
+ghost use Rattle.play_command.specs.Slices.{IsBuilt};
 ghost use Rattle.play_command.specs.Stream.{picture_in};
 ghost use Rattle.play_command.specs.Views.{picture_of};
 
@@ -71,8 +72,22 @@ fn read_planes(
     };
     let mut slices = bytes;
     slices.advance(used);
-    let mut builder = begun(alloc, plan, kept.take())?;
-    if !take_slices(alloc, &plan, number, slices, &mut builder)? {
+    built(alloc, &plan, kept, number, slices)
+}
+
+// The planes of a picture's slices.
+fn built(
+    alloc: Global,
+    plan: &Plan,
+    kept: &mut Option<PictureBuilder>,
+    number: u32,
+    slices: Bytes,
+) -> Result<Option<[Plane; 3]>, NoMemory>
+    ensures value { IfOk result (IsBuilt (parameters_of plan.now) slices) }
+{
+    let mut builder = begun(alloc, *plan, kept.take())?;
+    let all = take_slices(alloc, plan, number, slices, &mut builder)?;
+    if !all {
         return Ok(None);
     }
     let planes = builder.planes()?;

@@ -20,7 +20,7 @@ fill-requires-clause-whole c =
 pub returns-in-Ok : goal.returns-in-Ok
 returns-in-Ok c =
     let same = ap (λ (j : SliceJob). slice_coefficients (parameters_of j.plan) j.index j.bytes) c.in_ok-answer.ensures.job in
-    record { value = (c.in-Ok.coeffs, sym (c.in_ok-answer.field-0.decoded ∙ same) ∙ c.in-Ok.is, c.fill.ensures) }
+    record { value = (c.in-Ok.coeffs, sym (c.in_ok-answer.field-0.decoded ∙ same) ∙ c.in-Ok.is, c.fill.ensures.value) }
 
 pub returns-in-Err : goal.returns-in-Err
 returns-in-Err c =
