@@ -1,3 +1,5 @@
+mod NarrowSums
+mod HalfPlaces
 pub mod WeightedSums
 pub mod CountedSteps
 pub mod LineGrowth

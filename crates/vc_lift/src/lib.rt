@@ -2,12 +2,15 @@
 #![tactic(auto)]
 
 mod columns;
+mod halves;
 mod laws;
 mod line;
+mod narrow;
 mod step;
 #[cfg(test)]
 mod tests;
 
+pub use halves::Halves;
 pub use columns::{analyse_columns, synth_columns};
 pub use laws::{lines_grow_little, lines_stand_alone, synthesis_undoes_analysis};
 pub use line::{analyse, synth};

@@ -1,0 +1,79 @@
+ghost use Rattle.std.specs.Prelude.{◌≡◌, ◌+◌, ◌-◌, ◌*◌, ◌/◌, ◌^◌, ◌<◌, ◌≤◌, ◌⊎◌, ℕ, length, unsigned_abs, map, IsTrue};
+ghost use Rattle.vc_types.specs.Lifting.{line_of, half_of, changed_by};
+ghost use Rattle.vc_types.specs.Wavelets.{synthesised};
+ghost use Rattle.vc_lift.specs.CountedSteps.{sum_met, change_at, lift, lift_all, in_order, place_met};
+ghost use Rattle.vc_lift.specs.Growth.{IsPlain, grows_little};
+ghost use Rattle.vc_lift.specs.Ranges.{HasRange, HasRoom, IsNarrow};
+ghost use Rattle.vc_lift.specs.Steps.{counted_of, counted_row};
+ghost use Rattle.vc_lift.specs.Halves.{place_in, line_in, AreLines, IsRun, IsBeside};
+
+use crate::halves::{Halves, place};
+use crate::step::{Row, Step, step_at, steps};
+
+// The sum of the taps, each times the sample that it meets beside sample number n of line x. What is the same for all
+// lines is reckoned once by the compiler.
+#[inline(always)]
+fn weigh(cells: &[i32], halves: &Halves, step: &Step, n: usize, x: usize) -> i32
+    requires plain { IsPlain (counted_of step.now) }
+    requires some { 0 < halves.now.half }
+    requires small { halves.now.half < 2 ^ 60 }
+    requires at { n < halves.now.half }
+    requires inside { (j : ℕ) → j < length step.now.taps.now → place_in halves.now (place_met (counted_of step.now) halves.now.half n j) + x < length cells.now }
+    requires room { HasRoom (2 ^ 31) (counted_of step.now) halves.now.half (line_in halves.now cells.now x) n }
+    ensures value { result ≡ sum_met (counted_of step.now) halves.now.half (line_in halves.now cells.now x) n }
+    ensures bound { unsigned_abs result + half_of step.now.shift < 2 ^ 31 }
+{
+    let other = 1 - step.parity;
+    let mut sum: i32 = 0;
+    for j in 0..step.taps.len() {
+        let met = (n + j).saturating_sub(step.back).min(halves.half - 1);
+        sum += step.taps[j] * cells[place(halves, other, met) + x];
+    }
+    sum
+}
+
+// By how much the step changes sample number n of line x.
+#[inline(always)]
+fn change_at(cells: &[i32], halves: &Halves, step: &Step, n: usize, x: usize) -> i32
+    requires plain { IsPlain (counted_of step.now) }
+    requires some { 0 < halves.now.half }
+    requires small { halves.now.half < 2 ^ 60 }
+    requires at { n < halves.now.half }
+    requires inside { (j : ℕ) → j < length step.now.taps.now → place_in halves.now (place_met (counted_of step.now) halves.now.half n j) + x < length cells.now }
+    requires room { HasRoom (2 ^ 31) (counted_of step.now) halves.now.half (line_in halves.now cells.now x) n }
+    ensures value { result ≡ change_at (counted_of step.now) halves.now.half (line_in halves.now cells.now x) n }
+    ensures bound { unsigned_abs (line_in halves.now cells.now x (2 * n + step.now.parity)) + unsigned_abs result < 2 ^ 31 }
+{
+    let rounding = (1u32 << step.shift) / 2;
+    (weigh(cells, halves, step, n, x) + rounding as i32) >> step.shift
+}
+
+#[inline(always)]
+fn changed_by(adds: bool, sample: i32, change: i32) -> i32
+    requires { unsigned_abs sample + unsigned_abs change < 2 ^ 31 }
+    ensures { result ≡ changed_by adds sample change }
+{
+    if adds {
+        sample + change
+    } else {
+        sample - change
+    }
+}
+
+// Makes the step on so many cells that stand side by side, from sample number n of the first line on.
+#[inline(always)]
+fn change_run(cells: &mut [i32], halves: &Halves, step: &Step, n: usize, width: usize)
+    requires plain { IsPlain (counted_of step.now) }
+    requires small { halves.now.half < 2 ^ 60 }
+    requires at { n < halves.now.half }
+    requires run { IsRun (counted_of step.now) halves.now n width (length cells.old) }
+    requires room { (x : ℕ) → x < width → HasRoom (2 ^ 31) (counted_of step.now) halves.now.half (line_in halves.now cells.old x) n }
+    ensures on { (x : ℕ) → x < width → line_of cells.new (place_in halves.now (2 * n + step.now.parity) + x) ≡ changed_by step.now.adds (line_of cells.old (place_in halves.now (2 * n + step.now.parity) + x)) (change_at (counted_of step.now) halves.now.half (line_in halves.now cells.old x) n) }
+    ensures off { (i : ℕ) → (i < place_in halves.now (2 * n + step.now.parity)) ⊎ (place_in halves.now (2 * n + step.now.parity) + width ≤ i) → line_of cells.new i ≡ line_of cells.old i }
+{
+    let at = place(halves, step.parity, n);
+    for x in 0..width {
+        let change = change_at(cells, halves, step, n, x);
+        cells[at + x] = changed_by(step.adds, cells[at + x], change);
+    }
+}
