@@ -1,3 +1,5 @@
+mod InsideRuns
+mod Betweens
 mod NarrowSums
 mod HalfPlaces
 pub mod WeightedSums

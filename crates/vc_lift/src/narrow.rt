@@ -1,7 +1,7 @@
 ghost use Rattle.std.specs.Prelude.{◌≡◌, ◌+◌, ◌-◌, ◌*◌, ◌/◌, ◌^◌, ◌<◌, ◌≤◌, ◌⊎◌, ℕ, length, unsigned_abs, map, IsTrue};
 ghost use Rattle.vc_types.specs.Lifting.{line_of, half_of, changed_by};
 ghost use Rattle.vc_types.specs.Wavelets.{synthesised};
-ghost use Rattle.vc_lift.specs.CountedSteps.{sum_met, change_at, lift, lift_all, in_order, place_met};
+ghost use Rattle.vc_lift.specs.CountedSteps.{sum_met, change_at, lift, lift_all, lift_between, in_order, place_met};
 ghost use Rattle.vc_lift.specs.Growth.{IsPlain, grows_little};
 ghost use Rattle.vc_lift.specs.Ranges.{HasRange, HasRoom, IsNarrow};
 ghost use Rattle.vc_lift.specs.Steps.{counted_of, counted_row};
@@ -76,4 +76,44 @@ fn change_run(cells: &mut [i32], halves: &Halves, step: &Step, n: usize, width: 
         let change = change_at(cells, halves, step, n, x);
         cells[at + x] = changed_by(step.adds, cells[at + x], change);
     }
+}
+
+// Makes the step on samples number lo to hi - 1 of each line, one number after another.
+#[inline(always)]
+fn change_each(
+    cells: &mut [i32],
+    halves: &Halves,
+    step: &Step,
+    lo: usize,
+    hi: usize,
+    width: usize,
+)
+    requires plain { IsPlain (counted_of step.now) }
+    requires lines { AreLines halves.now width (length cells.old) }
+    requires ordered { lo ≤ hi }
+    requires within { hi ≤ halves.now.half }
+    requires room { (x n : ℕ) → x < width → lo ≤ n → n < hi → HasRoom (2 ^ 31) (counted_of step.now) halves.now.half (line_in halves.now cells.old x) n }
+    ensures on { (x k : ℕ) → x < width → k < 2 * halves.now.half → line_in halves.now cells.new x k ≡ lift_between (counted_of step.now) halves.now.half lo hi (line_in halves.now cells.old x) k }
+    ensures off { (i : ℕ) → IsBeside halves.now width i → line_of cells.new i ≡ line_of cells.old i }
+{
+    for n in lo..hi {
+        change_run(cells, halves, step, n, width);
+    }
+}
+
+// Makes the step on samples number lo to hi - 1 of a line whose halves are whole, all of which have all their taps inside it.
+#[inline(always)]
+fn change_inside(cells: &mut [i32], halves: &Halves, step: &Step, lo: usize, hi: usize)
+    requires plain { IsPlain (counted_of step.now) }
+    requires lines { AreLines halves.now 1 (length cells.old) }
+    requires whole { halves.now.pitch ≡ 1 }
+    requires some { lo < hi }
+    requires within { hi ≤ halves.now.half }
+    requires left { step.now.back ≤ lo }
+    requires right { hi + length step.now.taps.now ≤ halves.now.half + step.now.back + 1 }
+    requires room { (n : ℕ) → lo ≤ n → n < hi → HasRoom (2 ^ 31) (counted_of step.now) halves.now.half (line_in halves.now cells.old 0) n }
+    ensures on { (k : ℕ) → k < 2 * halves.now.half → line_in halves.now cells.new 0 k ≡ lift_between (counted_of step.now) halves.now.half lo hi (line_in halves.now cells.old 0) k }
+    ensures off { (i : ℕ) → IsBeside halves.now 1 i → line_of cells.new i ≡ line_of cells.old i }
+{
+    change_run(cells, halves, step, lo, hi - lo);
 }
