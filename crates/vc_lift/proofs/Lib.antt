@@ -1,3 +1,4 @@
+mod NarrowGrowth
 mod InsideRuns
 mod Betweens
 mod NarrowSums

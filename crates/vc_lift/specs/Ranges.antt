@@ -29,10 +29,13 @@ bound_after limit (s ∷ steps) even odd =
     then option_and_then (λ more. bound_after limit steps more odd) (stretched_below limit s even odd)
     else option_and_then (λ more. bound_after limit steps even more) (stretched_below limit s odd even)
 
--- the same after synthesis in 32 bits
-unfoldable pub narrow_bound : ℕ → ℕ → Option ℕ
-narrow_bound wavelet most =
-    bound_after (2 ^ 31) (map counted_step (synthesis_steps wavelet)) most most
+-- the steps of synthesis
+abbrev pub counted_synthesis : ℕ → List CountedStep
+counted_synthesis wavelet = map counted_step (synthesis_steps wavelet)
+
+-- a bound on all samples after synthesis in 32 bits, from one before it
+abbrev pub narrow_bound : ℕ → ℕ → Option ℕ
+narrow_bound wavelet most = bound_after (2 ^ 31) (counted_synthesis wavelet) most most
 
 -- bounds with which a step stays below the limit, on a line
 pub record HasRange (limit : ℕ) (s : CountedStep) (half : ℕ) (x : Line) : Type 0 where
@@ -50,9 +53,9 @@ pub record HasRoom (limit : ℕ) (s : CountedStep) (half : ℕ) (x : Line) (n : 
   pub sum : rounded_sum s other < limit
   pub result : stretched s (unsigned_abs (x (2 * n + s.parity))) other < limit
 
--- a bound on the samples of a line, and one that they keep in 32 bits while it is synthesised
-pub record IsNarrow (wavelet half : ℕ) (x : Line) : Type 0 where
+-- a bound on the samples of a line, and one that they keep in 32 bits while steps are made
+pub record IsNarrow (steps : List CountedStep) (half : ℕ) (x : Line) : Type 0 where
   pub most : ℕ
   pub after : ℕ
   pub small : (k : ℕ) → k < 2 * half → unsigned_abs (x k) ≤ most
-  pub fits : narrow_bound wavelet most ≡ Some after
+  pub fits : bound_after (2 ^ 31) steps most most ≡ Some after

@@ -117,3 +117,57 @@ fn change_inside(cells: &mut [i32], halves: &Halves, step: &Step, lo: usize, hi:
 {
     change_run(cells, halves, step, lo, hi - lo);
 }
+
+// The same, where there may be no such samples.
+#[inline(always)]
+fn change_middle(cells: &mut [i32], halves: &Halves, step: &Step, lo: usize, hi: usize)
+    requires plain { IsPlain (counted_of step.now) }
+    requires lines { AreLines halves.now 1 (length cells.old) }
+    requires whole { halves.now.pitch ≡ 1 }
+    requires ordered { lo ≤ hi }
+    requires within { hi ≤ halves.now.half }
+    requires left { lo < hi → step.now.back ≤ lo }
+    requires right { lo < hi → hi + length step.now.taps.now ≤ halves.now.half + step.now.back + 1 }
+    requires room { (n : ℕ) → lo ≤ n → n < hi → HasRoom (2 ^ 31) (counted_of step.now) halves.now.half (line_in halves.now cells.old 0) n }
+    ensures on { (k : ℕ) → k < 2 * halves.now.half → line_in halves.now cells.new 0 k ≡ lift_between (counted_of step.now) halves.now.half lo hi (line_in halves.now cells.old 0) k }
+    ensures off { (i : ℕ) → IsBeside halves.now 1 i → line_of cells.new i ≡ line_of cells.old i }
+{
+    if lo < hi {
+        change_inside(cells, halves, step, lo, hi);
+    }
+}
+
+// Makes the step on a line whose halves are whole: on the samples at its ends one by one, and on those between them at once.
+#[inline(always)]
+fn change_line(cells: &mut [i32], halves: &Halves, step: &Step)
+    requires plain { IsPlain (counted_of step.now) }
+    requires lines { AreLines halves.now 1 (length cells.old) }
+    requires whole { halves.now.pitch ≡ 1 }
+    requires range { HasRange (2 ^ 31) (counted_of step.now) halves.now.half (line_in halves.now cells.old 0) }
+    ensures on { (k : ℕ) → k < 2 * halves.now.half → line_in halves.now cells.new 0 k ≡ lift (counted_of step.now) halves.now.half (line_in halves.now cells.old 0) k }
+    ensures off { (i : ℕ) → IsBeside halves.now 1 i → line_of cells.new i ≡ line_of cells.old i }
+{
+    let half = halves.half;
+    let first = step.back.min(half);
+    let ahead = step.taps.len().saturating_sub(step.back).saturating_sub(1);
+    let last = half.saturating_sub(ahead).max(first);
+    change_each(cells, halves, step, 0, first, 1);
+    change_middle(cells, halves, step, first, last);
+    change_each(cells, halves, step, last, half, 1);
+}
+
+// Makes the step on each line: along it where its halves are whole, and else on the same sample of all lines at once.
+#[inline(always)]
+fn sweep(cells: &mut [i32], halves: &Halves, step: &Step, width: usize)
+    requires plain { IsPlain (counted_of step.now) }
+    requires lines { AreLines halves.now width (length cells.old) }
+    requires range { (x : ℕ) → x < width → HasRange (2 ^ 31) (counted_of step.now) halves.now.half (line_in halves.now cells.old x) }
+    ensures on { (x k : ℕ) → x < width → k < 2 * halves.now.half → line_in halves.now cells.new x k ≡ lift (counted_of step.now) halves.now.half (line_in halves.now cells.old x) k }
+    ensures off { (i : ℕ) → IsBeside halves.now width i → line_of cells.new i ≡ line_of cells.old i }
+{
+    if halves.pitch == 1 && width == 1 {
+        change_line(cells, halves, step);
+    } else {
+        change_each(cells, halves, step, 0, halves.half, width);
+    }
+}
