@@ -6,6 +6,7 @@ mod halves;
 mod laws;
 mod line;
 mod narrow;
+mod ranges;
 mod step;
 #[cfg(test)]
 mod tests;
@@ -13,4 +14,6 @@ mod tests;
 pub use halves::Halves;
 pub use columns::{analyse_columns, synth_columns};
 pub use laws::{lines_grow_little, lines_stand_alone, synthesis_undoes_analysis};
+pub use narrow::synth_narrow;
+pub use ranges::narrow_bound;
 pub use line::{analyse, synth};

@@ -3,7 +3,7 @@ ghost use Rattle.vc_types.specs.Lifting.{line_of, half_of, changed_by};
 ghost use Rattle.vc_types.specs.Wavelets.{synthesised};
 ghost use Rattle.vc_lift.specs.CountedSteps.{sum_met, change_at, lift, lift_all, lift_between, in_order, place_met};
 ghost use Rattle.vc_lift.specs.Growth.{IsPlain, grows_little};
-ghost use Rattle.vc_lift.specs.Ranges.{HasRange, HasRoom, IsNarrow};
+ghost use Rattle.vc_lift.specs.Ranges.{HasRange, HasRoom, IsNarrow, counted_synthesis};
 ghost use Rattle.vc_lift.specs.Steps.{counted_of, counted_row};
 ghost use Rattle.vc_lift.specs.Halves.{place_in, line_in, AreLines, IsRun, IsBeside};
 
@@ -170,4 +170,68 @@ fn sweep(cells: &mut [i32], halves: &Halves, step: &Step, width: usize)
     } else {
         change_each(cells, halves, step, 0, halves.half, width);
     }
+}
+
+// The step with taps whose numbers the compiler sees, if they are these.
+#[inline(always)]
+fn with_taps<'a>(step: &Step, taps: &'a [i32]) -> Step<'a>
+    requires { step.now.taps.now ≡ taps.now }
+    ensures { counted_of result ≡ counted_of step.now }
+{
+    Step {
+        parity: step.parity,
+        adds: step.adds,
+        taps,
+        back: step.back,
+        shift: step.shift,
+    }
+}
+
+// Makes the step on each line, with a loop of its own for taps that are small enough for 32 bits to serve.
+#[inline(never)]
+fn lift(cells: &mut [i32], halves: &Halves, step: &Step, width: usize)
+    requires plain { IsPlain (counted_of step.now) }
+    requires lines { AreLines halves.now width (length cells.old) }
+    requires range { (x : ℕ) → x < width → HasRange (2 ^ 31) (counted_of step.now) halves.now.half (line_in halves.now cells.old x) }
+    ensures on { (x k : ℕ) → x < width → k < 2 * halves.now.half → line_in halves.now cells.new x k ≡ lift (counted_of step.now) halves.now.half (line_in halves.now cells.old x) k }
+    ensures off { (i : ℕ) → IsBeside halves.now width i → line_of cells.new i ≡ line_of cells.old i }
+{
+    let one: &[i32] = &[1];
+    let two: &[i32] = &[1, 1];
+    let four: &[i32] = &[-1, 9, 9, -1];
+    if step.taps == two {
+        sweep(cells, halves, &with_taps(step, two), width);
+    } else if step.taps == four {
+        sweep(cells, halves, &with_taps(step, four), width);
+    } else if step.taps == one {
+        sweep(cells, halves, &with_taps(step, one), width);
+    } else {
+        sweep(cells, halves, step, width);
+    }
+}
+
+// Makes the steps in turn or, where they are to be undone, the opposite steps from the last to the first.
+fn run(cells: &mut [i32], halves: &Halves, width: usize, rows: &[Row], undo: bool)
+    requires lines { AreLines halves.now width (length cells.old) }
+    requires steps { IsTrue (grows_little 16 (in_order undo (map counted_row rows.now))) }
+    requires narrow { (x : ℕ) → x < width → IsNarrow (in_order undo (map counted_row rows.now)) halves.now.half (line_in halves.now cells.old x) }
+    ensures on { (x k : ℕ) → x < width → k < 2 * halves.now.half → line_in halves.now cells.new x k ≡ lift_all (in_order undo (map counted_row rows.now)) halves.now.half (line_in halves.now cells.old x) k }
+    ensures off { (i : ℕ) → IsBeside halves.now width i → line_of cells.new i ≡ line_of cells.old i }
+{
+    for i in 0..rows.len() {
+        let step = step_at(rows, undo, i);
+        lift(cells, halves, &step, width);
+    }
+}
+
+/// Synthesises lines that stand side by side, in 32 bits (ST 2042-1, one-dimensional synthesis). Magnitudes are such that
+/// no step leaves 32 bits, as `narrow_bound` tells.
+pub fn synth_narrow(wavelet: u8, cells: &mut [i32], halves: &Halves, width: usize)
+    requires wavelet { wavelet ≤ 6 }
+    requires lines { AreLines halves.now width (length cells.old) }
+    requires narrow { (x : ℕ) → x < width → IsNarrow (counted_synthesis wavelet) halves.now.half (line_in halves.now cells.old x) }
+    ensures on { (x k : ℕ) → x < width → k < 2 * halves.now.half → line_in halves.now cells.new x k ≡ synthesised wavelet (2 * halves.now.half) (line_in halves.now cells.old x) k }
+    ensures off { (i : ℕ) → IsBeside halves.now width i → line_of cells.new i ≡ line_of cells.old i }
+{
+    run(cells, halves, width, steps(wavelet), false)
 }
