@@ -1,8 +1,8 @@
-mod NarrowGrowth
-mod InsideRuns
-mod Betweens
-mod NarrowSums
-mod HalfPlaces
+pub mod NarrowGrowth
+pub mod InsideRuns
+pub mod Betweens
+pub mod NarrowSums
+pub mod HalfPlaces
 pub mod WeightedSums
 pub mod CountedSteps
 pub mod LineGrowth

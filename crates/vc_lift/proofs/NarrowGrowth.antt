@@ -11,8 +11,10 @@ use Rattle.std.proofs.Math.Seq.{take-nil, drop-cons}
 use Rattle.vc_types.specs.Lifting.{half_of, changed_by}
 use Rattle.vc_lift.specs.CountedSteps.{CountedStep, place_met, sum_met, change_at, lift, lift_all}
 use Rattle.vc_lift.specs.Growth.{IsWithin}
-use Rattle.vc_lift.specs.Ranges.{HasRange, IsNarrow, rounded_sum, stretched, stretched_below, bound_after}
-use Rattle.vc_lift.proofs.LineGrowth.{kept_at, lifted_at}
+use Rattle.vc_lift.specs.Ranges.{HasRange, IsNarrow, rounded_sum, stretched, stretched_below, bound_after, counted_synthesis, narrow_bound}
+use Rattle.vc_types.specs.Wavelets.{synthesised}
+use Rattle.vc_lift.proofs.CountedSteps.{counted_steps, synthesised_counted}
+use Rattle.vc_lift.proofs.LineGrowth.{kept_at, lifted_at, plain_parity, plain_at, synthesis_little}
 use Rattle.vc_lift.proofs.NarrowSums.{shr_at_most, sum_met_within}
 use Rattle.vc_lift.proofs.WeightedSums.{abs-add}
 
@@ -80,16 +82,16 @@ module _ (limit : ℕ) (s : CountedStep) (steps : List CountedStep) (e o half af
   on_even zeroth =
       option_and_then_some (λ more. bound_after limit steps more o) (stretched_below limit s e o) after (sym (first_chosen s.parity _ _ zeroth) ∙ fits)
       (λ more is rest.
-        (let mine : IsWithin x half s.parity e = subst (λ q. IsWithin x half q e) (sym zeroth) even in
-        let met : IsWithin x half (1 - s.parity) o = subst (λ q. IsWithin x half (1 - q) o) (sym zeroth) odd in
-        record {
-          even = more;
-          odd = o;
-          fits = rest;
-          even_within = subst (λ q. IsWithin (lift s half x) half q more) zeroth (changed_within limit s half e o more x p some is mine met);
-          odd_within = subst (λ q. IsWithin (lift s half x) half (1 - q) o) zeroth (kept_within limit s half e o more x p some is mine met);
-          here = range limit s half e o more x p some is mine met;
-        }))
+      (let mine : IsWithin x half s.parity e = subst (λ q. IsWithin x half q e) (sym zeroth) even in
+      let met : IsWithin x half (1 - s.parity) o = subst (λ q. IsWithin x half (1 - q) o) (sym zeroth) odd in
+      record {
+        even = more;
+        odd = o;
+        fits = rest;
+        even_within = subst (λ q. IsWithin (lift s half x) half q more) zeroth (changed_within limit s half e o more x p some is mine met);
+        odd_within = subst (λ q. IsWithin (lift s half x) half (1 - q) o) zeroth (kept_within limit s half e o more x p some is mine met);
+        here = range limit s half e o more x p some is mine met;
+      }))
 
   on_odd : s.parity ≡ 1 → Stepped limit s steps half after x
   unfolding bound_after
@@ -97,16 +99,16 @@ module _ (limit : ℕ) (s : CountedStep) (steps : List CountedStep) (e o half af
       let ne : s.parity ≢ 0 = omega arith in
       option_and_then_some (λ more. bound_after limit steps e more) (stretched_below limit s o e) after (sym (second_chosen s.parity _ _ ne) ∙ fits)
       (λ more is rest.
-        (let mine : IsWithin x half s.parity o = subst (λ q. IsWithin x half q o) (sym first) odd in
-        let met : IsWithin x half (1 - s.parity) e = subst (λ q. IsWithin x half (1 - q) e) (sym first) even in
-        record {
-          even = e;
-          odd = more;
-          fits = rest;
-          even_within = subst (λ q. IsWithin (lift s half x) half (1 - q) e) first (kept_within limit s half o e more x p some is mine met);
-          odd_within = subst (λ q. IsWithin (lift s half x) half q more) first (changed_within limit s half o e more x p some is mine met);
-          here = range limit s half o e more x p some is mine met;
-        }))
+      (let mine : IsWithin x half s.parity o = subst (λ q. IsWithin x half q o) (sym first) odd in
+      let met : IsWithin x half (1 - s.parity) e = subst (λ q. IsWithin x half (1 - q) e) (sym first) even in
+      record {
+        even = e;
+        odd = more;
+        fits = rest;
+        even_within = subst (λ q. IsWithin (lift s half x) half (1 - q) e) first (kept_within limit s half o e more x p some is mine met);
+        odd_within = subst (λ q. IsWithin (lift s half x) half q more) first (changed_within limit s half o e more x p some is mine met);
+        here = range limit s half o e more x p some is mine met;
+      }))
 
   pub stepped : Stepped limit s steps half after x
   stepped = elim (cases_eq s.parity 0) [ inl e0 ↦ on_even e0 | inr ne ↦ (let e1 : s.parity ≡ 1 = omega arith in on_odd e1) ]
@@ -184,3 +186,30 @@ bound_none limit e o = refl
 -- the rest of the steps from one of them on
 pub rest_of : (steps : List CountedStep) (i : ℕ) (s : CountedStep) → s ≡ get_or steps i s → i < length steps → drop i steps ≡ s ∷ drop (i + 1) steps
 rest_of steps i s e lt = drop-cons steps i s lt ∙ ap (λ t. t ∷ drop (suc i) steps) (sym e) ∙ ap (λ n. s ∷ drop n steps) (sym (add-one i))
+
+-- ---- a bound that is carried on is no less than it was
+
+abbrev Covers : ℕ → ℕ → ℕ → Type 0
+Covers e o m = (e ≤ m) × (o ≤ m)
+
+more_covers : (limit : ℕ) (s : CountedStep) (own other more : ℕ) → stretched_below limit s own other ≡ Some more → own ≤ more
+more_covers limit s own other more fits = (let is : stretched s own other ≡ more = (both_below (nat_lt (rounded_sum s other) limit) (nat_lt (stretched s own other) limit) (stretched s own other) more fits).2 in omega (arith, is))
+
+pub bound_covers : (limit : ℕ) (steps : List CountedStep) (e o m : ℕ) → bound_after limit steps e o ≡ Some m → (e ≤ m) × (o ≤ m)
+bound_covers limit [] e o m fits = (let is : max e o ≡ m = unwrapped (max e o) m (sym (bound_none limit e o) ∙ fits) in (omega (arith, is), omega (arith, is)))
+bound_covers limit (s ∷ steps) e o m fits = elim (cases_eq s.parity 0) [
+  | inl zeroth ↦ option_and_then_some (λ (more : ℕ). bound_after limit steps more o) (stretched_below limit s e o) m (sym (bound_even limit s steps e o zeroth) ∙ fits)
+      (λ more is rest. (let first = more_covers limit s e o more is in let c = bound_covers limit steps more o m rest in (omega (arith, first, c.0), c.1)))
+  | inr ne ↦ option_and_then_some (λ (more : ℕ). bound_after limit steps e more) (stretched_below limit s o e) m (sym (bound_odd limit s steps e o ne) ∙ fits)
+      (λ more is rest. (let first = more_covers limit s o e more is in let c = bound_covers limit steps e more m rest in (c.0, omega (arith, first, c.1))))
+]
+
+pub narrow_covers : (wavelet most after : ℕ) → narrow_bound wavelet most ≡ Some after → most ≤ after
+narrow_covers wavelet most after fits = (bound_covers (2 ^ 31) (counted_synthesis wavelet) most most after fits).0
+
+-- what synthesis makes of a line
+pub synthesis_after : (wavelet half most after : ℕ) (x : ℕ → ℤ) → 0 < half → narrow_bound wavelet most ≡ Some after → ((k : ℕ) → k < 2 * half → unsigned_abs (x k) ≤ most) → (k : ℕ) → k < 2 * half → unsigned_abs (synthesised wavelet (2 * half) x k) ≤ after
+unfolding counted_steps
+synthesis_after wavelet half most after x some fits small k h =
+    subst (λ (z : ℤ). unsigned_abs z ≤ after) (sym (ap (λ f. f k) (synthesised_counted wavelet half x)))
+    (narrow_after (counted_synthesis wavelet) half most after x some (λ j d lt. plain_parity (get_or (counted_synthesis wavelet) j d) (plain_at 16 (counted_synthesis wavelet) 4096 4096 j d (synthesis_little wavelet) lt)) fits small k h)

@@ -83,6 +83,7 @@ narrow_shift w r k e h =
     shr_down : (z : ℤ) → unsigned_abs (int_shr z k) ≤ unsigned_abs z
     shr_down (pos n) = omega (arith, div-le_self n (2 ^ k))
     shr_down (negsuc n) = omega (arith, div-le_self n (2 ^ k))
+
     shifted : (z : ℤ) → unsigned_abs z < 2 ^ 31 → to_z w32 (of_z w32 (int_shr z k)) ≡ int_shr z k
     shifted z lt = read (int_shr z k) (omega (arith, shr_down z))
 

@@ -17,10 +17,6 @@ pub(crate) fn place(halves: &Halves, parity: usize, n: usize) -> usize
     requires { half_start halves.now parity + n * halves.now.pitch < 2 ^ 64 }
     ensures { result ≡ half_start halves.now parity + n * halves.now.pitch }
 {
-    let start = if parity == 0 {
-        halves.even
-    } else {
-        halves.odd
-    };
+    let start = if parity == 0 { halves.even } else { halves.odd };
     start + n * halves.pitch
 }

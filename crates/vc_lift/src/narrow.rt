@@ -80,14 +80,7 @@ fn change_run(cells: &mut [i32], halves: &Halves, step: &Step, n: usize, width: 
 
 // Makes the step on samples number lo to hi - 1 of each line, one number after another.
 #[inline(always)]
-fn change_each(
-    cells: &mut [i32],
-    halves: &Halves,
-    step: &Step,
-    lo: usize,
-    hi: usize,
-    width: usize,
-)
+fn change_each(cells: &mut [i32], halves: &Halves, step: &Step, lo: usize, hi: usize, width: usize)
     requires plain { IsPlain (counted_of step.now) }
     requires lines { AreLines halves.now width (length cells.old) }
     requires ordered { lo ≤ hi }

@@ -56,7 +56,8 @@ fn next(step: &Step, even: u64, odd: u64) -> Option<(u64, u64)>
 pub fn narrow_bound(wavelet: u8, most: u64) -> Option<u64>
     requires wavelet { wavelet ≤ 6 }
     requires most { most < 2 ^ 31 }
-    ensures { result ≡ narrow_bound wavelet most }
+    ensures value { result ≡ narrow_bound wavelet most }
+    ensures small { IfSome result (λ bound. bound < 2 ^ 31) }
 {
     let rows = steps(wavelet);
     let mut bounds = (most, most);

@@ -8,3 +8,5 @@ pub mod PlaneSteps
 pub mod Copies
 pub mod Grids
 pub mod Fills
+mod NarrowRows
+mod NarrowColumns

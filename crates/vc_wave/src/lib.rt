@@ -6,6 +6,7 @@ mod analysis;
 mod laws;
 mod level;
 mod lines;
+mod narrow;
 mod pass;
 mod shift;
 mod sides;

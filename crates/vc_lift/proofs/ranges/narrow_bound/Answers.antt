@@ -18,9 +18,9 @@ next-requires-clause-plain c =
     let little : IsTrue (grows_little 16 (map counted_row c.steps-rows.result.now)) = rw (same_rows c.args.wavelet c.steps-rows.result.now c.steps-rows.ensures) (synthesis_little c.args.wavelet) in
     plain (counted_of c.step_at-step.result) (plain_now 16 (map counted_row c.steps-rows.result.now) little c.loop-i.i (counted_of c.step_at-step.result) c.step_at-step.ensures (in_list c))
 
-pub returns-in_err-bounds : goal.returns-in_err-bounds
+pub returns-in_err-bounds-clause-value : goal.returns-in_err-bounds-clause-value
 unfolding counted_steps
-returns-in_err-bounds c =
+returns-in_err-bounds-clause-value c =
     let ss = map counted_row c.steps-rows.result.now in
     let s = counted_of c.step_at-step.result in
     let within : c.loop-i.i < length ss = simp length-map c.loop-i-test.true in
@@ -31,9 +31,9 @@ returns-in_err-bounds c =
     ∙ c.next.ensures.value (drop (c.loop-i.i + 1) ss)
     ∙ ap (option_and_then (λ (b : ℕ × ℕ). bound_after (2 ^ 31) (drop (c.loop-i.i + 1) ss) b.0 b.1)) c.in_err-bounds.was)
 
-pub returns : goal.returns
+pub returns-clause-value : goal.returns-clause-value
 unfolding counted_steps
-returns c =
+returns-clause-value c =
     let ss = map counted_row c.steps-rows.result.now in
     let past : length ss ≤ c.loop-i.i = simp length-map (omega arith) in
     sym (ap (λ (ts : List CountedStep). bound_after (2 ^ 31) ts c.args.most c.args.most) (sym (same_rows c.args.wavelet c.steps-rows.result.now c.steps-rows.ensures))
