@@ -10,3 +10,5 @@ pub mod Grids
 pub mod Fills
 mod NarrowRows
 mod NarrowColumns
+pub mod LayoutLaws
+pub mod NarrowLevels

@@ -75,13 +75,13 @@ module _ (wavelet pitch columns half : ℕ) (old new : List ℤ) (wide : columns
   column_at cells x h = fun_ext (λ k. (let place = column_place pitch half k in ap (line_of cells) (omega (arith, place))) ∙ sym (plane_in pitch cells x k h))
 
   kept : (x y : ℕ) → x < pitch → (columns ≤ x) ⊎ (2 * half ≤ y) → plane_of pitch new x y ≡ plane_of pitch old x y
-  kept x y h apart = plane_in pitch new x y h ∙ off (y * pitch + x) (λ u k lt below e. not_there u k lt below apart (same u k lt e)) ∙ sym (plane_in pitch old x y h)
+  kept x y h apart = plane_in pitch new x y h ∙ off (y * pitch + x) (λ u k lt below. not_there u k lt below apart) ∙ sym (plane_in pitch old x y h)
     where
       same : (u k : ℕ) → u < columns → y * pitch + x ≡ place_in (column_halves pitch half) k + u → (y ≡ k) × (x ≡ u)
       same u k lt e = (let place = column_place pitch half k in same_from_place y x k u pitch h (omega arith) (omega (arith, e, place)))
-      not_there : (u k : ℕ) → u < columns → k < 2 * half → (columns ≤ x) ⊎ (2 * half ≤ y) → (y ≡ k) × (x ≡ u) → Void
-      not_there u k lt below (inl right) s = absurd (omega (arith, s))
-      not_there u k lt below (inr under) s = absurd (omega (arith, s))
+      not_there : (u k : ℕ) → u < columns → k < 2 * half → (columns ≤ x) ⊎ (2 * half ≤ y) → y * pitch + x ≢ place_in (column_halves pitch half) k + u
+      not_there u k lt below (inl right) e = (let s = same u k lt e in omega (arith, s))
+      not_there u k lt below (inr under) e = (let s = same u k lt e in omega (arith, s))
 
   at : (x y : ℕ) → (x < pitch) ⊎ (pitch ≤ x) → (x < columns) ⊎ (columns ≤ x) → (y < 2 * half) ⊎ (2 * half ≤ y) → plane_of pitch new x y ≡ on_columns (synthesised wavelet (2 * half)) columns (plane_of pitch old) x y
   at x y (inr past) (inl inside) any = absurd (omega arith)
