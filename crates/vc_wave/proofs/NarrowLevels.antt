@@ -7,14 +7,14 @@ use Rattle.std.proofs.lemmas.Bool.{cases_lt, false≢true}
 use Rattle.std.proofs.lemmas.Bool.Decides.{nat_tests}
 use Rattle.std.proofs.lemmas.Int.{ints}
 use Rattle.std.proofs.lemmas.Option.{option_and_then_some}
-use Rattle.std.proofs.Math.Nat.{mul-le-mul_left, mul-le-mul_right, pow-suc}
+use Rattle.std.proofs.Math.Nat.{mul-le-mul_left, mul-le-mul_right, div-mul-le_self, pow-suc}
 use Rattle.std.proofs.Math.Numerals.{add-one}
 use Rattle.std.proofs.Math.Pow.{pow_mono, pow_pos}
 use Rattle.std.proofs.lemmas.List.{get_or_past}
 use Rattle.std.proofs.lemmas.List.Elements.{All-get_or}
 use Rattle.std.proofs.lemmas.Nat.{pow-add}
 use Rattle.vc_types.specs.Lifting.{Line, line_of}
-use Rattle.vc_types.specs.Transforms.{Cells, half_place, halved, on_columns, on_rows, level_across, levels_across, inverse_level, inverse_levels}
+use Rattle.vc_types.specs.Transforms.{Cells, half_place, halved, on_columns, on_rows, level_across, levels_across, inverse_level, inverse_levels, lowest_width, lowest_height}
 use Rattle.vc_types.specs.Wavelets.{is_shifted, synthesised}
 use Rattle.vc_lift.specs.Ranges.{narrow_bound}
 use Rattle.vc_lift.proofs.LineLaws.{synthesis_past}
@@ -27,7 +27,9 @@ use Rattle.vc_wave.specs.Remade.{remade, merged, halves_together, level_in_turn,
 use Rattle.vc_wave.proofs.Copies.{on_samples_in}
 use Rattle.vc_wave.proofs.LayoutLaws.{laid_together, laid_after}
 use Rattle.vc_types.specs.TransformParameters.{Parameters}
-use Rattle.vc_wave.proofs.Levels.{level_fits, no_levels, next_level}
+use Rattle.vc_types.specs.declared.video.Component.{Component}
+use Rattle.vc_types.specs.Subbands.{padded_width, padded_height}
+use Rattle.vc_wave.proofs.Levels.{level_fits, no_levels, next_level, whole_room}
 use Rattle.vc_wave.proofs.NarrowColumns.{plane_small, cells_small}
 use Rattle.vc_wave.proofs.NarrowRows.{RowsMade, rows_made}
 use Rattle.vc_wave.proofs.PlaneLines.{column_in, column_out, row_in, row_out, on_columns-on_columns, rearranged_in}
@@ -323,3 +325,19 @@ transform_made p most fits =
     some_of (option_and_then (λ (made : ℕ). bound_over (level_bound p.wavelet p.wavelet_ho) p.depth made) (bound_over (rows_bound p.wavelet_ho) p.depth_ho most)) fits
     (λ after e. option_and_then_some (λ (made : ℕ). bound_over (level_bound p.wavelet p.wavelet_ho) p.depth made) (bound_over (rows_bound p.wavelet_ho) p.depth_ho most) after e
       (λ made is last. record { made = made; after = after; across = is; both = last }))
+
+-- ---- a component
+
+pub all_rooms : (p : Parameters) (c : Component) (w h stride cells line : ℕ) → w ≡ lowest_width p c → h ≡ lowest_height p c → padded_width p c ≤ stride → padded_height p c * stride ≤ cells → padded_width p c ≤ line
+    → HasRoom (w * 2 ^ p.depth_ho * 2 ^ p.depth) (h * 2 ^ p.depth) stride cells 0 line
+all_rooms p c w h stride cells line narrow low across down row =
+    whole_room p c w (w * 2 ^ p.depth_ho) h stride cells cells 0 line line narrow refl low refl refl
+    (record { across = across; down = down; row = row; side_by_side = omega arith })
+
+pub sides_small : (p : Parameters) (c : Component) (w h : ℕ) → w ≡ lowest_width p c → h ≡ lowest_height p c → padded_width p c < 2 ^ 32 → padded_height p c < 2 ^ 32
+    → (w * 2 ^ p.depth_ho < 2 ^ 32) × (w * 2 ^ p.depth_ho * 2 ^ p.depth < 2 ^ 60) × (h * 2 ^ p.depth < 2 ^ 60) × (w * 2 ^ p.depth_ho ≤ padded_width p c)
+sides_small p c w h narrow low across down =
+    let room = all_rooms p c w h (padded_width p c) (padded_height p c * padded_width p c) (padded_width p c) narrow low (omega arith) (omega arith) (omega arith) in
+    let side = less (w * 2 ^ p.depth_ho) p.depth (w * 2 ^ p.depth_ho * 2 ^ p.depth) (omega arith) in
+    let high : h * 2 ^ p.depth ≤ padded_height p c = rw low (div-mul-le_self (padded_height p c) (2 ^ p.depth)) in
+    (omega (arith, side, room.across), omega (arith, room.across), omega (arith, high), omega (arith, side, room.across))
