@@ -21,3 +21,4 @@ pub mod Following
 pub mod SessionOutcomes
 pub mod SessionOutput
 pub mod Rounds
+pub mod SentRows
