@@ -3,7 +3,7 @@ use Rattle.std.proofs.Common.{◌≡◌, ℕ, false, true, List, [], ◌∷◌, 
 use Rattle.link_model.specs.Packets.{rtp_header, payload_head, fragment_bytes, payload_bytes}
 use Rattle.link_model.specs.Sending.{runs_from, runs_of_slices, picture_outgoing, timestamp_of, sent_value, sent_packet, sent_datagram, pictures_of, pictures_outgoing, datagrams_from, sent_datagrams, end_datagram, last_datagram, sent_stream, frames_indices}
 use Rattle.link_model.specs.SendingFaults.{first_outside, first_sample_fault, is_too_large, first_of_slices, first_slice_fault, send_fault, SampleRange, SliceTooLarge}
-use Rattle.link_model.specs.SendingPictures.{packed_bits, sent_sequence, sent_header, sent_parameters, sent_parameter_bytes, sent_cells, numbers_in_slice, sent_coefficients, sent_length, sent_slice, sent_slices, need_of, least_fitting, chosen_indices}
+use Rattle.link_model.specs.SendingPictures.{packed_bits, sent_sequence, sent_header, sent_parameters, sent_parameter_bytes, sent_cells, numbers_in_slice, sent_coefficients, sent_length, sent_slice, sent_slices, need_of, picture_needs, least_fitting, chosen_indices}
 use Rattle.vc_types.specs.Bits.{bits_of, byte_bits}
 use Rattle.vc_types.specs.Codes.{uint_bits, spread_digits, sint_bits}
 use Rattle.vc_types.specs.Encoding.{without_last_zeros, quantised_numbers, block_bits, encoded_block, encoded_length, is_too_long, encoded_slice}
@@ -102,11 +102,11 @@ abbrev fitting : Sending
 fitting = record settings { choice = Fit 4 }
 
 pub indices_are : frames_indices settings (frame ∷ []) ≡ 0 ∷ []
-unfolding frames_indices pictures_of chosen_indices need_of sent_parameters
+unfolding frames_indices pictures_of chosen_indices picture_needs need_of sent_parameters
 indices_are = refl
 
 pub fitting_indices_are : frames_indices fitting (frame ∷ []) ≡ 5 ∷ []
-unfolding frames_indices pictures_of chosen_indices need_of least_fitting sent_length
+unfolding frames_indices pictures_of chosen_indices picture_needs need_of least_fitting sent_length
     encoded_length sent_sequence sent_parameters sent_cells numbers_in_slice sent_coefficients
     picture_shape range_of video_depth default_matrix sample_at forward_transform padded_plane
     forward_levels forward_level deinterleaved on_columns on_rows on_cells analysed lifted_by

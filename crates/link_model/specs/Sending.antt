@@ -6,7 +6,7 @@ use Rattle.std.specs.Prelude.{ℕ, ◌+◌, ◌-◌, ◌*◌, ◌/◌, ◌%◌, 
 use Rattle.std.specs.List.{flat_map, enumerate_from}
 use Rattle.link_model.specs.Kept.{SliceRun}
 use Rattle.link_model.specs.Packets.{RtpPacket, rtp_header, FragmentHead, PayloadValue, Header, End, Params, Slices, payload_bytes}
-use Rattle.link_model.specs.SendingPictures.{sent_header, sent_parameters, sent_parameter_bytes, sent_slices, slice_room, chosen_indices}
+use Rattle.link_model.specs.SendingPictures.{sent_header, sent_parameters, sent_parameter_bytes, sent_slices, slice_room, Need, picture_needs, chosen_indices}
 use Rattle.vc_types.specs.FieldPairs.{fields_of}
 use Rattle.vc_types.specs.Fields.{joined}
 use Rattle.vc_types.specs.Planes.{Planes}
@@ -147,6 +147,10 @@ pictures_of s frame =
 
 abbrev pub pictures_per_frame : Sending → ℕ
 pictures_per_frame s = if s.frames.fields then 2 else 1
+
+-- what is told of a frame's slices, in order of sending
+unfoldable pub frame_needs : Sending → Bool → Planes → List Need
+frame_needs s wanted frame = flat_map (picture_needs s wanted) (pictures_of s frame)
 
 -- pictures one after another, from one on; the indices of their slices are in one list
 unfoldable pub pictures_outgoing : Sending → ℕ → List ℕ → List Planes → List Outgoing

@@ -1,10 +1,9 @@
 -- Why a frame isn't sent: the first sample that is too large, else the first slice that is (this
 -- project's own).
 use Rattle.std.specs.Prelude.{ℕ, ◌+◌, ◌^◌, Bool, ◌||◌, nat_lt, if◌then◌else◌, List, [], ◌∷◌, drop, Option, Some, None}
-use Rattle.std.specs.List.{range_with_len}
 use Rattle.std.specs.Option.{option_map, option_or}
 use Rattle.link_model.specs.Sending.{pictures_of}
-use Rattle.link_model.specs.SendingPictures.{sent_parameters, sent_coefficients, sent_length, index_at, slice_room}
+use Rattle.link_model.specs.SendingPictures.{sent_parameters, sent_coefficients, sent_length, slices_with_indices, slice_room}
 use Rattle.vc_types.specs.declared.video.Component.TheVariants.{Y, C1}
 use Rattle.vc_types.specs.Encoding.{is_too_long}
 use Rattle.vc_types.specs.Planes.{Planes}
@@ -54,21 +53,20 @@ abbrev pub slice_fault : Sending → Planes → ℕ → ℕ → SendFault
 slice_fault s planes slice index =
     SliceTooLarge slice (sent_length (sent_parameters s) planes slice index)
 
--- the first of these slices that is too large at its index
-unfoldable pub first_of_slices : Sending → Planes → List ℕ → List ℕ → Option SendFault
-first_of_slices s planes indices [] = None
-first_of_slices s planes indices (slice ∷ slices) =
-    let index = index_at indices slice in
-    if is_too_large s planes slice index then Some (slice_fault s planes slice index)
-    else first_of_slices s planes indices slices
+-- the first of slices, each with its index, that is too large
+unfoldable pub first_of_slices : Sending → Planes → List (ℕ × ℕ) → Option SendFault
+first_of_slices s planes [] = None
+first_of_slices s planes (z ∷ slices) =
+    if is_too_large s planes z.0 z.1 then Some (slice_fault s planes z.0 z.1)
+    else first_of_slices s planes slices
 
 -- the first in pictures, one after another
 unfoldable pub first_slice_fault : Sending → List ℕ → List Planes → Option SendFault
 first_slice_fault s indices [] = None
 first_slice_fault s indices (planes ∷ pictures) =
-    let count = slice_count (sent_parameters s) in
-    option_or (first_of_slices s planes indices (range_with_len 0 count))
-    (first_slice_fault s (drop count indices) pictures)
+    let p = sent_parameters s in
+    option_or (first_of_slices s planes (slices_with_indices p indices))
+    (first_slice_fault s (drop (slice_count p) indices) pictures)
 
 -- ---- frames
 

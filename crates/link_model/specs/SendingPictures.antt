@@ -1,8 +1,8 @@
 -- What this project's sender makes of a picture: the bytes of its sequence header and of its
 -- transform parameters, its coefficients, and each slice at its quantisation index; and how the
 -- index of a slice is chosen.
-use Rattle.std.specs.Prelude.{◌≡◌, ℕ, ◌-◌, Bool, true, false, nat_le, min, List, [], ◌∷◌, map, slice_index_or, unwrap_or, ℤ}
-use Rattle.std.specs.List.{range_with_len, position_or_len}
+use Rattle.std.specs.Prelude.{◌≡◌, ℕ, ◌-◌, Bool, true, false, nat_le, min, List, [], ◌∷◌, map, take, unwrap_or, ℤ}
+use Rattle.std.specs.List.{range_with_len, enumerate_from, position_or_len}
 use Rattle.vc_types.specs.declared.choice.IndexChoice.{IndexChoice}
 use Rattle.vc_types.specs.declared.choice.IndexChoice.TheVariants.{Index, Fit}
 use Rattle.vc_types.specs.declared.video.Component.{Component}
@@ -112,14 +112,14 @@ unfoldable pub sent_slice : Parameters → Planes → ℕ → ℕ → List ℕ
 sent_slice p planes slice index =
     packed_bits (encoded_slice p slice index (sent_coefficients p planes slice))
 
--- the index of slice i, where a list has one for each
-abbrev pub index_at : List ℕ → ℕ → ℕ
-index_at indices i = slice_index_or indices i 0
+-- the numbers of a picture's slices, each with the first indices of a list in turn
+abbrev pub slices_with_indices : Parameters → List ℕ → List (ℕ × ℕ)
+slices_with_indices p indices = enumerate_from 0 (take (slice_count p) indices)
 
 -- the slices of a picture in raster order, each at its index
 unfoldable pub sent_slices : Parameters → Planes → List ℕ → List (List ℕ)
 sent_slices p planes indices =
-    map (λ i. sent_slice p planes i (index_at indices i)) (range_with_len 0 (slice_count p))
+    map (λ z. sent_slice p planes z.0 z.1) (slices_with_indices p indices)
 
 -- ---- how the index of a slice is chosen
 
@@ -145,6 +145,11 @@ need_of s wanted planes slice = record {
   lengths = told_lengths wanted (sent_parameters s) planes slice;
 }
 
+-- what is told of a picture's slices, one after another
+unfoldable pub picture_needs : Sending → Bool → Planes → List Need
+picture_needs s wanted planes =
+    map (need_of s wanted planes) (range_with_len 0 (slice_count (sent_parameters s)))
+
 -- the least index at which a slice has at most so many bytes, 127 where there is none
 unfoldable pub least_fitting : ℕ → List ℕ → ℕ
 least_fitting bytes lengths = min (position_or_len (λ len. nat_le len bytes) lengths) 127
@@ -158,15 +163,10 @@ abbrev pub wants_lengths : IndexChoice → Bool
 wants_lengths (Index index) = false
 wants_lengths (Fit bytes) = true
 
--- the index of a slice, as the settings choose it
-abbrev pub settings_index : Sending → Planes → ℕ → ℕ
-settings_index s planes slice =
-    chosen_index s.choice (need_of s (wants_lengths s.choice) planes slice)
-
--- those of a picture's slices
+-- the indices of a picture's slices, as the settings choose them
 unfoldable pub chosen_indices : Sending → Planes → List ℕ
 chosen_indices s planes =
-    map (settings_index s planes) (range_with_len 0 (slice_count (sent_parameters s)))
+    map (chosen_index s.choice) (picture_needs s (wants_lengths s.choice) planes)
 
 -- ---- the planes of a frame
 
