@@ -6,3 +6,4 @@ mod SmallNumbers
 mod Judged
 mod FirstSlices
 mod PlanFacts
+mod SmallPicture

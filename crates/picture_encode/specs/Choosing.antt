@@ -20,7 +20,8 @@ Answers calls f need index =
     (told : SliceNeed) × (need_view told ≡ need) × FnReturnsAt calls f told index
 
 -- it answers as the settings of a sender choose
-abbrev pub ChoosesAs : {F : Type 0} → Shared F (Bor SliceNeed × Unit {0}) ℕ → F → IndexChoice → Type 0
+abbrev pub ChoosesAs : {F : Type 0} → Shared F (Bor SliceNeed × Unit {0}) ℕ → F → IndexChoice
+    → Type 0
 ChoosesAs calls f choice =
     (told : SliceNeed) (index : ℕ)
     → FnReturnsAt calls f told index → index ≡ chosen_index choice (need_view told)

@@ -12,8 +12,8 @@ pub struct Chooser<F> {
 }
 
 impl<F: Fn(&SliceNeed) -> u8> Chooser<F> {
-    /// A chooser by a function that may be called on every need and answers at most 127. If it wants lengths, it is told
-    /// a slice's length at each index, else no lengths.
+    /// A chooser by a function that may be called on every need and answers at most 127. If it
+    /// wants lengths, it is told a slice's length at each index, else no lengths.
     pub fn new(wants_lens: bool, choose: F) -> Chooser<F>
         requires callable { F.IsAlwaysCallable choose }
         requires range { AnswersAtMost127 F.Fn choose }

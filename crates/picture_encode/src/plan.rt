@@ -11,8 +11,8 @@ ghost use Rattle.vc_types.specs.Video.{range_of};
 use vc_quant::default_matrix;
 use vc_types::{Header, Plan, SendSettings, Shape, SignalRange};
 
-/// The sequence header of a sender: version 3.0, level 0, base video format 14 with the top field first and else 0,
-/// interlaced exactly with field coding.
+/// The sequence header of a sender: version 3.0, level 0, base video format 14 with the top field
+/// first and else 0, interlaced exactly with field coding.
 #[tactic(auto, unfolding(link_model::specs::SendingPictures::sent_sequence))]
 pub fn header_of(s: &SendSettings) -> Header
     ensures value { sequence_of result ≡ sent_sequence (sending_view s.now) }

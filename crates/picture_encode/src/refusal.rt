@@ -7,8 +7,8 @@ use vc_types::NoMemory;
 /// Why a picture's slices aren't encoded.
 #[derive(Clone, Copy, Debug, PartialEq, Eq)]
 pub enum SliceRefusal {
-    /// The first slice that is too large for its lengths or for a datagram, by its number in raster order, and its length
-    /// in bytes.
+    /// The first slice that is too large for its lengths or for a datagram, by its number in raster
+    /// order, and its length in bytes.
     SliceTooLarge { slice: u32, bytes: u64 },
     NoMemory,
 }

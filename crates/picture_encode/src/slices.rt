@@ -49,10 +49,11 @@ fn push(slices: &mut Vec<EncodedSlice>, slice: EncodedSlice) -> Result<(), NoMem
     Ok(())
 }
 
-/// Encodes the slices of a picture (ST 2042-1, high-quality slices): the forward transform of its planes, and each slice
-/// at the index that the chooser answers on what it is told of it, from 0 to 127. The plan is the one that the settings
-/// make, and the planes have its sizes and samples of its depths. The first slice that is too large, for its lengths or
-/// for a datagram, refuses the picture.
+/// Encodes the slices of a picture (ST 2042-1, high-quality slices): the forward transform of its
+/// planes, and each slice at the index that the chooser answers on what it is told of it, from 0 to
+/// 127. The plan is the one that the settings make, and the planes have its sizes and samples of
+/// its depths. The first slice that is too large, for its lengths or for a datagram, refuses the
+/// picture.
 pub fn encode_picture<F: Fn(&SliceNeed) -> u8>(
     alloc: Global,
     s: &SendSettings,
@@ -222,7 +223,8 @@ fn all_lens(
     Ok(lens)
 }
 
-// A slice's bytes at an index. It is refused where it is too large for its lengths or for a datagram.
+// A slice's bytes at an index. It is refused where it is too large for its lengths or for a
+// datagram.
 fn encode_at(
     alloc: Global,
     s: &SendSettings,
