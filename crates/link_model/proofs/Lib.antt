@@ -42,3 +42,4 @@ pub mod MachineHalves
 pub mod MachineKept
 pub mod MachineRuns
 pub mod FeederWay
+pub mod SentRows
