@@ -46,18 +46,18 @@ runs_of_slices room (slice ∷ slices) = runs_from room (run_of_one 0 slice) sli
 
 -- ---- what is sent of a picture
 
-pub data Content : Type 0 where
-  HeaderContent : Content
-  ParametersContent : Content
-  SlicesContent : (run : SliceRun) → Content
-  EndContent : Content
+pub data DatagramContent : Type 0 where
+  HeaderContent : DatagramContent
+  ParametersContent : DatagramContent
+  SlicesContent : (run : SliceRun) → DatagramContent
+  EndContent : DatagramContent
 
 -- what a datagram carries, and of which picture, counted from the first
 pub record Outgoing : Type 0 where
   pub picture : ℕ
-  pub content : Content
+  pub content : DatagramContent
 
-abbrev pub outgoing : ℕ → Content → Outgoing
+abbrev pub outgoing : ℕ → DatagramContent → Outgoing
 outgoing picture content = record { picture = picture; content = content }
 
 abbrev pub picture_runs : Sending → List ℕ → Planes → List SliceRun
@@ -76,7 +76,7 @@ abbrev pub high_half : ℕ → ℕ
 high_half number = number % 2 ^ 32 / 2 ^ 16
 
 -- set on the datagram with the picture's last slice alone
-abbrev pub has_marker : Sending → Content → Bool
+abbrev pub has_marker : Sending → DatagramContent → Bool
 has_marker s (SlicesContent run) = run_end run == s.across * s.down
 has_marker s content = false
 
@@ -108,7 +108,7 @@ abbrev pub run_value : Sending → FragmentHead → SliceRun → PayloadValue
 run_value s head run =
     Slices head (length run.slices) (run.first % s.across) (run.first / s.across) 20 (run_bytes run)
 
-abbrev pub content_value : Sending → ℕ → ℕ → Content → PayloadValue
+abbrev pub content_value : Sending → ℕ → ℕ → DatagramContent → PayloadValue
 content_value s number picture HeaderContent = Header (high_half number) 4 (sent_header s)
 content_value s number picture ParametersContent =
     Params (sent_head s number picture) 16 (sent_parameter_bytes s)

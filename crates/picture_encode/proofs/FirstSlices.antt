@@ -8,7 +8,7 @@ use Rattle.std.proofs.lemmas.List.FromFn.{map-range_with_len_more, length-map-ra
 use Rattle.link_model.specs.SendingFaults as faults
 use Rattle.link_model.specs.SendingFaults.{SendFault, first_of_slices, is_too_large, slice_fault}
 use Rattle.link_model.specs.SendingPictures.{Need, need_of, sent_parameters, sent_slice}
-use Rattle.picture_encode.specs.Encoded.{Choice, IsSized, IsEncoded, IsRefusedSlice, AreFirstAnswers, AreFirstSlices, IsRefusedPicture, indices_of, slice_bytes}
+use Rattle.picture_encode.specs.Encoded.{Chooses, IsSized, IsEncoded, IsRefusedSlice, AreFirstAnswers, AreFirstSlices, IsRefusedPicture, indices_of, slice_bytes}
 use Rattle.picture_encode.specs.declared.refusal.SliceRefusal.{SliceRefusal}
 use Rattle.picture_encode.specs.declared.refusal.SliceRefusal.TheVariants.{SliceTooLarge, NoMemory}
 use Rattle.picture_encode.specs.declared.slices.EncodedSlice.{EncodedSlice}
@@ -67,7 +67,7 @@ module _ (s : Sending) (planes : Planes) where
   pub more_is_large : (n index : ℕ) (zs : List (ℕ × ℕ)) → first_of_slices s planes zs ≡ None → is_too_large s planes n index ≡ true → first_of_slices s planes (zs ++ (n, index) ∷ []) ≡ Some (slice_fault s planes n index)
   more_is_large n index zs h large = behind zs ((n, index) ∷ []) h ∙ one_is_large (n, index) [] large
 
-module _ (choice : Choice) (wanted : Bool) (s : Sending) (planes : Planes) where
+module _ (choice : Chooses) (wanted : Bool) (s : Sending) (planes : Planes) where
   none_answers : AreFirstAnswers choice wanted s planes 0 []
   none_answers = tt
 

@@ -6,7 +6,7 @@ use Rattle.std.specs.List.{range_with_len}
 use Rattle.std.proofs.lemmas.Bool.Decides.{nat_tests}
 use Rattle.link_model.specs.SendingFaults.{is_too_large}
 use Rattle.link_model.specs.SendingPictures.{packed_bits, sent_parameters, sent_coefficients, sent_length, sent_slice, slice_room, told_lengths, need_of}
-use Rattle.picture_encode.specs.Encoded.{IsEncodedAt, IsTooLargeAt, RefusesAt, Choice, IsRefusedSlice}
+use Rattle.picture_encode.specs.Encoded.{IsEncodedAt, IsTooLargeAt, RefusesAt, Chooses, IsRefusedSlice}
 use Rattle.picture_encode.specs.declared.refusal.SliceRefusal.{SliceRefusal}
 use Rattle.picture_encode.specs.declared.refusal.SliceRefusal.TheVariants.{SliceTooLarge, NoMemory}
 use Rattle.vc_types.specs.Bits.{bits_of}
@@ -106,6 +106,6 @@ told_need s wanted planes slice p lens own told =
     let all = told ∙ ap (λ (q : Parameters). told_lengths wanted q planes slice) own in
     λ i. record { slice = slice; room = s.size - 32; lengths = all i }
 
-pub refused_at : (choice : Choice) (wanted : Bool) (s : Sending) (planes : Planes) (slice index : ℕ) (e : SliceRefusal) → choice (need_of s wanted planes slice) index → RefusesAt s planes slice index e → IsRefusedSlice choice wanted s planes slice e
+pub refused_at : (choice : Chooses) (wanted : Bool) (s : Sending) (planes : Planes) (slice index : ℕ) (e : SliceRefusal) → choice (need_of s wanted planes slice) index → RefusesAt s planes slice index e → IsRefusedSlice choice wanted s planes slice e
 refused_at choice wanted s planes slice index (SliceTooLarge n bytes) answer h = (index, answer, h)
 refused_at choice wanted s planes slice index NoMemory answer h = tt

@@ -43,17 +43,17 @@ RefusesAt s planes slice index (SliceTooLarge n bytes) =
 RefusesAt s planes slice index NoMemory = ⊤
 
 -- what a chooser answers on a need
-abbrev pub Choice : Type 1
-Choice = Need → ℕ → Type 0
+abbrev pub Chooses : Type 1
+Chooses = Need → ℕ → Type 0
 
 -- a slice was encoded at an answer on its need
-pub record IsEncoded (choice : Choice) (wanted : Bool) (s : Sending) (planes : Planes) (slice : ℕ)
+pub record IsEncoded (choice : Chooses) (wanted : Bool) (s : Sending) (planes : Planes) (slice : ℕ)
     (e : EncodedSlice) : Type 0 where
   pub answer : choice (need_of s wanted planes slice) e.index
   pub encoded : IsEncodedAt s planes slice e.index e.bytes.items
 
 -- a slice was refused: where it is too large, at an answer on its need
-abbrev pub IsRefusedSlice : Choice → Bool → Sending → Planes → ℕ → SliceRefusal → Type 0
+abbrev pub IsRefusedSlice : Chooses → Bool → Sending → Planes → ℕ → SliceRefusal → Type 0
 IsRefusedSlice choice wanted s planes slice NoMemory = ⊤
 IsRefusedSlice choice wanted s planes slice e =
     (index : ℕ) × choice (need_of s wanted planes slice) index
@@ -62,12 +62,12 @@ IsRefusedSlice choice wanted s planes slice e =
 -- ---- the first slices of a picture
 
 -- indices are answers on the needs of so many first slices
-abbrev pub AreFirstAnswers : Choice → Bool → Sending → Planes → ℕ → List ℕ → Type 0
+abbrev pub AreFirstAnswers : Chooses → Bool → Sending → Planes → ℕ → List ℕ → Type 0
 AreFirstAnswers choice wanted s planes count indices =
     AllZip choice (map (need_of s wanted planes) (range_with_len 0 count)) indices
 
 -- so many first slices were encoded
-pub record AreFirstSlices (choice : Choice) (wanted : Bool) (s : Sending) (planes : Planes)
+pub record AreFirstSlices (choice : Chooses) (wanted : Bool) (s : Sending) (planes : Planes)
     (count : ℕ) (slices : List EncodedSlice) : Type 0 where
   pub answers : AreFirstAnswers choice wanted s planes count (indices_of slices)
   pub fit : first_of_slices s planes (enumerate_from 0 (indices_of slices)) ≡ None
@@ -77,7 +77,7 @@ pub record AreFirstSlices (choice : Choice) (wanted : Bool) (s : Sending) (plane
       (enumerate_from 0 (indices_of slices))
 
 -- a picture was refused: where a slice is too large, at answers up to it
-pub record IsRefusedPicture (choice : Choice) (wanted : Bool) (s : Sending) (planes : Planes)
+pub record IsRefusedPicture (choice : Chooses) (wanted : Bool) (s : Sending) (planes : Planes)
     (e : SliceRefusal) : Type 0 where
   pub count : ℕ
   pub indices : List ℕ

@@ -1,7 +1,7 @@
 ghost use Rattle.std.specs.Prelude.{◌≡◌, ◌<◌, ◌≤◌, [], ◌∷◌, ◌++◌, IfOk, IfErr, OnOk, map};
 ghost use Rattle.std.specs.List.{range_with_len};
 ghost use Rattle.link_model.specs.SendingPictures.{packed_bits, need_of, sent_coefficients, sent_parameters, told_lengths};
-ghost use Rattle.picture_encode.specs.Choosing.{AnswersAtMost127, Answers};
+ghost use Rattle.picture_encode.specs.Choosing.{AnswersAtMost127, AnswersNeed};
 ghost use Rattle.picture_encode.specs.Encoded.{IsEncodedAt, RefusesAt, IsEncoded, IsRefusedSlice, AreFirstSlices, IsRefusedPicture};
 ghost use Rattle.picture_encode.specs.Grids.{AreGrids, HaveCoefficients};
 ghost use Rattle.picture_encode.specs.Refusals.{refusal_of};
@@ -66,10 +66,10 @@ pub fn encode_picture<F: Fn(&SliceNeed) -> u8>(
     requires plan { parameters_of plan.now ≡ sent_parameters (sending_view s.now) }
     requires planes { CanBeTransformed (parameters_of plan.now) (planes_in planes.now) }
     ensures encoded { IfOk result (λ slices. AreFirstSlices
-        (Answers F.Fn chooser.now.choose) chooser.now.wants_lens (sending_view s.now)
+        (AnswersNeed F.Fn chooser.now.choose) chooser.now.wants_lens (sending_view s.now)
         (planes_in planes.now) (slice_count (parameters_of plan.now)) slices.items) }
     ensures refused { IfErr result (λ e. IsRefusedPicture
-        (Answers F.Fn chooser.now.choose) chooser.now.wants_lens (sending_view s.now)
+        (AnswersNeed F.Fn chooser.now.choose) chooser.now.wants_lens (sending_view s.now)
         (planes_in planes.now) e) }
 {
     encode_with(alloc, s, plan, chooser, planes, &InTurn)
@@ -89,10 +89,10 @@ pub fn encode_picture_joined<H: Threads + Copy + Send + Sync, F: Fn(&SliceNeed) 
     requires plan { parameters_of plan.now ≡ sent_parameters (sending_view s.now) }
     requires planes { CanBeTransformed (parameters_of plan.now) (planes_in planes.now) }
     ensures encoded { IfOk result (λ slices. AreFirstSlices
-        (Answers F.Fn chooser.now.choose) chooser.now.wants_lens (sending_view s.now)
+        (AnswersNeed F.Fn chooser.now.choose) chooser.now.wants_lens (sending_view s.now)
         (planes_in planes.now) (slice_count (parameters_of plan.now)) slices.items) }
     ensures refused { IfErr result (λ e. IsRefusedPicture
-        (Answers F.Fn chooser.now.choose) chooser.now.wants_lens (sending_view s.now)
+        (AnswersNeed F.Fn chooser.now.choose) chooser.now.wants_lens (sending_view s.now)
         (planes_in planes.now) e) }
 {
     encode_with(alloc, s, plan, chooser, planes, &AtOnce { rt })
@@ -111,10 +111,10 @@ fn encode_with<F: Fn(&SliceNeed) -> u8, T: Transform>(
     requires plan { parameters_of plan.now ≡ sent_parameters (sending_view s.now) }
     requires planes { CanBeTransformed (parameters_of plan.now) (planes_in planes.now) }
     ensures encoded { IfOk result (λ slices. AreFirstSlices
-        (Answers F.Fn chooser.now.choose) chooser.now.wants_lens (sending_view s.now)
+        (AnswersNeed F.Fn chooser.now.choose) chooser.now.wants_lens (sending_view s.now)
         (planes_in planes.now) (slice_count (parameters_of plan.now)) slices.items) }
     ensures refused { IfErr result (λ e. IsRefusedPicture
-        (Answers F.Fn chooser.now.choose) chooser.now.wants_lens (sending_view s.now)
+        (AnswersNeed F.Fn chooser.now.choose) chooser.now.wants_lens (sending_view s.now)
         (planes_in planes.now) e) }
 {
     let grids = transform.transform(alloc, plan, planes)?;
@@ -142,11 +142,11 @@ fn encode_slice<F: Fn(&SliceNeed) -> u8>(
     requires grids { AreGrids (parameters_of plan.now) grids.now }
     ensures encoded { IfOk result (λ e. (planes : Planes)
         → HaveCoefficients (parameters_of plan.now) planes grids.now
-        → IsEncoded (Answers F.Fn chooser.now.choose) chooser.now.wants_lens
+        → IsEncoded (AnswersNeed F.Fn chooser.now.choose) chooser.now.wants_lens
         (sending_view s.now) planes slice e) }
     ensures refused { IfErr result (λ e. (planes : Planes)
         → HaveCoefficients (parameters_of plan.now) planes grids.now
-        → IsRefusedSlice (Answers F.Fn chooser.now.choose) chooser.now.wants_lens
+        → IsRefusedSlice (AnswersNeed F.Fn chooser.now.choose) chooser.now.wants_lens
         (sending_view s.now) planes slice e) }
 {
     let coeffs = gather(alloc, plan, grids, slice)?;
@@ -171,7 +171,7 @@ fn choose<F: Fn(&SliceNeed) -> u8>(
     requires coefficients { AreSliceCoefficients (parameters_of plan.now) slice coeffs.now }
     ensures answer { IfOk result (λ index. (planes : Planes)
         → coeffs.now ≡ sent_coefficients (parameters_of plan.now) planes slice
-        → Answers F.Fn chooser.now.choose
+        → AnswersNeed F.Fn chooser.now.choose
         (need_of (sending_view s.now) chooser.now.wants_lens planes slice) index) }
     ensures range { IfOk result (λ index. index ≤ 127) }
 {
