@@ -15,6 +15,6 @@ mod synthesis;
 mod tests;
 
 pub use analysis::forward;
-pub use narrow::inverse_narrow;
 pub use laws::inverse_undoes_forward;
+pub use narrow::inverse_narrow;
 pub use synthesis::inverse;
