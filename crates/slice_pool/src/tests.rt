@@ -1,9 +1,13 @@
-ghost use Rattle.std.specs.Prelude.{◌≡◌, ◌<◌, IfOk};
+ghost use Rattle.std.specs.Prelude.{◌≡◌, ◌<◌, IfOk, All};
+ghost use Rattle.claim_board.specs.Calls.{IsNewWorker};
+ghost use Rattle.claim_board.specs.Seats.{place_count};
 
 use crate::crew::dismiss;
 use crate::hands::team_of;
+use crate::work::claim_next;
 use crate::{Crew, Worker};
 use bytes::Bytes;
+use claim_board::{Board, BoardFeeder, WorkerSeat};
 use std::alloc::Global;
 use std::sync::atomic::{AtomicBool, AtomicU64, Ordering};
 use std::sync::{Arc, Wait};
@@ -342,5 +346,32 @@ fn answers_belong_to_their_jobs(rt: HostRuntime) -> Result<(), Fail> {
     let are_own = many_turns(&mut team.form);
     dismiss(&rt, team);
     assert!(rt; are_own?);
+    Ok(())
+}
+
+// Whether a worker claims a place. It ends there, so that the place stays held.
+fn claims_and_ends(board: &Board, seats: &mut Vec<WorkerSeat>) -> bool
+    requires some_place { 0 < place_count board.now }
+    requires seats { All (IsNewWorker board.now) seats.old.items }
+{
+    match seats.pop() {
+        Some(mut seat) => claim_next(board, &mut seat, 0).is_some(),
+        None => false,
+    }
+}
+
+#[test]
+fn a_worker_that_ended_keeps_its_place(rt: HostRuntime) -> Result<(), Fail> {
+    let alloc = rt.alloc();
+    let (board, feeder, mut seats, _bells) = Board::new(alloc, 2, 1)?;
+    let board = Arc::new(alloc, board)?;
+    let mut form = BoardFeeder::new(alloc, Arc::try_clone(&board)?, feeder)?;
+    assert_eq!(rt; form.put(job(7, 0)?).ok(), Some(0));
+    assert!(rt; claims_and_ends(&board, &mut seats));
+    assert!(rt; form.take(0).is_none());
+    assert!(rt; form.withdraw(0).is_none());
+    form.leave(0);
+    assert_eq!(rt; form.put(job(8, 1)?).ok(), Some(1));
+    assert_eq!(rt; form.put(job(9, 2)?).err().map(|job| job.number), Some(9));
     Ok(())
 }

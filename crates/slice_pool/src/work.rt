@@ -39,8 +39,8 @@ pub(crate) fn work<H: Wait + Copy, G: Gate>(rt: H, gate: &G, worker: Worker) {
     }
 }
 
-// Claims the first place that waits, from the worker's own number on.
-fn claim_next(board: &Board, seat: &mut WorkerSeat, number: u32) -> Option<HeldPlace>
+/// Claims the first place that waits, from the worker's own number on.
+pub(crate) fn claim_next(board: &Board, seat: &mut WorkerSeat, number: u32) -> Option<HeldPlace>
     requires some_place { 0 < place_count board.now }
     requires seat { IsWorkerOf board.now seat.old }
     ensures seat { IsWorkerOf board.now seat.new }
