@@ -22,3 +22,6 @@ pub mod SessionOutcomes
 pub mod SessionOutput
 pub mod Rounds
 pub mod SentRows
+pub mod PackedBits
+pub mod SentHeads
+pub mod SentDatagrams

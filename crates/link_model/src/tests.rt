@@ -17,4 +17,6 @@ fn laws_hold() {
     books_stand_for_parts();
     what_is_not_kept_changes_nothing();
     windows_stand_for_fragments();
+    sent_heads_are_read_back();
+    sent_datagrams_are_received();
 }
