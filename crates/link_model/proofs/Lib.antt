@@ -43,3 +43,6 @@ pub mod MachineKept
 pub mod MachineRuns
 pub mod FeederWay
 pub mod SentRows
+pub mod PackedBits
+pub mod SentHeads
+pub mod SentDatagrams

@@ -2,7 +2,7 @@
 -- parameters and slices, and an end of sequence behind the last (RFC 3550, 5.1; RFC 8450, 4). Each
 -- field of a datagram is a function of the datagram's number, of its picture's number, and of what
 -- it carries.
-use Rattle.std.specs.Prelude.{ℕ, ◌+◌, ◌-◌, ◌*◌, ◌/◌, ◌%◌, ◌^◌, Bool, false, ◌==◌, nat_le, if◌then◌else◌, List, [], ◌∷◌, ◌++◌, length, drop, map}
+use Rattle.std.specs.Prelude.{◌<◌, ◌≤◌, ℕ, ◌+◌, ◌-◌, ◌*◌, ◌/◌, ◌%◌, ◌^◌, Bool, false, ◌==◌, nat_le, if◌then◌else◌, List, [], ◌∷◌, ◌++◌, length, drop, map}
 use Rattle.std.specs.List.{flat_map, enumerate_from}
 use Rattle.link_model.specs.Kept.{SliceRun}
 use Rattle.link_model.specs.Packets.{RtpPacket, rtp_header, FragmentHead, PayloadValue, Header, End, Params, Slices, payload_bytes}
@@ -134,6 +134,30 @@ unfoldable pub sent_datagram : Sending → ℕ → Outgoing → List ℕ
 sent_datagram s number o =
     let bytes = payload_bytes (sent_value s number o) in
     rtp_header (sent_packet s number o (length bytes)) ++ bytes
+
+-- settings whose fields have their bits
+pub record AreSettings (s : Sending) : Type 0 where
+  pub payload_type : s.pt < 2 ^ 7
+  pub ssrc : s.ssrc < 2 ^ 32
+  pub prefix : s.prefix < 2 ^ 16
+  pub scaler : s.scaler < 2 ^ 16
+  pub across : s.across < 2 ^ 16
+  pub some_across : 1 ≤ s.across
+  pub down : s.down < 2 ^ 16
+
+-- slices of a picture, which fit the fields of a fragment
+pub record IsRunOf (s : Sending) (run : SliceRun) : Type 0 where
+  pub some : 1 ≤ length run.slices
+  pub few : length run.slices < 2 ^ 16
+  pub inside : run.first < s.across * s.down
+  pub short : length (run_bytes run) < 2 ^ 16
+
+-- what is carried fits the fields of its head
+abbrev pub FitsDatagram : Sending → DatagramContent → Type 0
+FitsDatagram s HeaderContent = Unit {0}
+FitsDatagram s ParametersContent = length (sent_parameter_bytes s) < 2 ^ 16
+FitsDatagram s (SlicesContent run) = IsRunOf s run
+FitsDatagram s EndContent = Unit {0}
 
 -- ---- whole frames
 

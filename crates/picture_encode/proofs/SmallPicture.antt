@@ -1,9 +1,9 @@
 -- The picture of the tests has the sizes and the samples that its settings ask for.
-use Rattle.std.proofs.Common.{◌≡◌, ℕ, ◌<◌, false, true, List, [], ◌∷◌, refl, sym, subst, ◌∙◌, ap, arith}
+use Rattle.std.proofs.Common.{◌≡◌, ℕ, ◌<◌, false, true, [], ◌∷◌, refl, sym, subst, ◌∙◌, ap, arith}
 use Rattle.std.specs.Prelude.{All}
 use Rattle.std.proofs.lemmas.List.Elements.{All-nil, All-cons}
 use Rattle.link_model.specs.SendingPictures.{sent_sequence, sent_parameters}
-use Rattle.picture_encode.specs.Shapes.{CanBeTransformed, IsPlane}
+use Rattle.picture_encode.specs.Shapes.{CanBeTransformed}
 use Rattle.vc_types.specs.declared.choice.IndexChoice.TheVariants.{Index}
 use Rattle.vc_types.specs.declared.video.Component.TheVariants.{Y, C1, C2}
 use Rattle.vc_types.specs.declared.video.Sampling.TheVariants.{S444}

@@ -1,0 +1,109 @@
+-- A datagram that was sent is read back as what it carries.
+use Rattle.std.proofs.Common.{◌≡◌, ◌<◌, ◌≤◌, ℕ, ◌+◌, ◌*◌, ◌/◌, ◌%◌, ◌^◌, Bool, true, false, List, [], ◌++◌, length, take, Ok, refl, sym, ap, ◌∙◌, arith, cond}
+use Rattle.std.specs.Prelude.{slice_range}
+use Rattle.std.proofs.Math.Nat.{div-lt_iff_lt-mul, mul_comm}
+use Rattle.std.proofs.lemmas.List.{append-nil, take_all}
+use Rattle.link_model.specs.Packets.{RtpPacket, RtpFits, rtp_packet, rtp_header, PayloadValue, Header, payload, payload_bytes, IsWritable, HeadFits, read_back}
+use Rattle.link_model.specs.Sending.{Outgoing, DatagramContent, HeaderContent, ParametersContent, SlicesContent, EndContent, sent_value, sent_packet, sent_datagram, sent_head, timestamp_of, high_half, run_bytes, AreSettings, FitsDatagram}
+use Rattle.link_model.specs.SendingPictures.{sent_header, sent_parameter_bytes}
+use Rattle.link_model.specs.Session.{received, of_packet, of_payload}
+use Rattle.link_model.proofs.WrittenPackets.{rtp_packet-rtp_header}
+use Rattle.link_model.proofs.WrittenPayloads.{payload-payload_bytes}
+use Rattle.std.proofs.lemmas.Bool.Decides.{nat_tests}
+use Rattle.vc_types.specs.declared.settings.SendSettings.{SendSettings}
+use Rattle.vc_types.specs.Limits.{slices_fit}
+use Rattle.vc_types.specs.SenderSettings.{Sending, sending_view}
+use Rattle.vc_types.specs.Settings.{within}
+
+timestamp_small : (s : Sending) (picture : ℕ) → timestamp_of s picture < 2 ^ 32
+unfolding timestamp_of
+timestamp_small s picture = by_fields s.frames.fields
+  where
+    by_fields : (b : Bool) → (cond b ((picture / 2 * s.tick + picture % 2 * (s.tick / 2)) % 2 ^ 32) (picture * s.tick % 2 ^ 32)) < 2 ^ 32
+    by_fields true = omega arith
+    by_fields false = omega arith
+
+packet_fits : (s : Sending) (number : ℕ) (o : Outgoing) (bytes : ℕ) → AreSettings s → RtpFits (sent_packet s number o bytes)
+unfolding sent_packet
+packet_fits s number o bytes are = record { payload_type = are.payload_type; sequence = omega arith; timestamp = timestamp_small s o.picture; ssrc = are.ssrc }
+
+head_fits : (s : Sending) (number picture : ℕ) → AreSettings s → HeadFits (sent_head s number picture)
+head_fits s number picture are = record { high = omega arith; number = omega arith; prefix = are.prefix; scaler = are.scaler }
+
+row_below : (first across down : ℕ) → 1 ≤ across → first < across * down → down < 2 ^ 16 → first / across < 2 ^ 16
+row_below first across down some below small =
+    let row : first / across < down = (div-lt_iff_lt-mul {k = across} {x = first} {y = down} (omega arith)).1 (omega (arith, below, times across down)) in
+    omega (arith, row)
+  where
+    times : (a b : ℕ) → a * b ≡ b * a
+    times a b = mul_comm a b
+
+is_writable : (s : Sending) (number picture : ℕ) (c : DatagramContent) → AreSettings s → FitsDatagram s c → IsWritable (sent_value s number (record { picture = picture; content = c }))
+unfolding sent_value
+is_writable s number picture HeaderContent are fits = omega arith
+is_writable s number picture ParametersContent are fits = (head_fits s number picture are, fits)
+is_writable s number picture (SlicesContent run) are fits = (head_fits s number picture are, record { some = fits.some; counted = fits.few; column = omega (arith, are.across, are.some_across); row = row_below run.first s.across s.down are.some_across fits.inside are.down }, fits.short)
+is_writable s number picture EndContent are fits = omega arith
+
+same_back : (s : Sending) (number picture : ℕ) (c : DatagramContent) → read_back (sent_value s number (record { picture = picture; content = c })) [] ≡ sent_value s number (record { picture = picture; content = c })
+unfolding sent_value
+same_back s number picture HeaderContent = ap (λ (b : List ℕ). Header (high_half number) 4 b) (append-nil (sent_header s))
+same_back s number picture ParametersContent = refl
+same_back s number picture (SlicesContent run) = refl
+same_back s number picture EndContent = refl
+
+payload_back : (s : Sending) (number picture : ℕ) (c : DatagramContent) → AreSettings s → FitsDatagram s c → payload (payload_bytes (sent_value s number (record { picture = picture; content = c }))) ≡ Ok (sent_value s number (record { picture = picture; content = c }))
+payload_back s number picture c are fits =
+    let o : Outgoing = record { picture = picture; content = c } in
+    ap payload (sym (append-nil (payload_bytes (sent_value s number o))))
+    ∙ payload-payload_bytes (sent_value s number o) [] (is_writable s number picture c are fits)
+    ∙ ap (λ (v : PayloadValue). Ok v) (same_back s number picture c)
+
+behind_header : (p : RtpPacket) (body : List ℕ) → slice_range (rtp_header p ++ body) 12 (12 + length body) ≡ body
+unfolding rtp_header
+behind_header p body = ap (λ (n : ℕ). take n body) (omega arith) ∙ take_all (length body) body (omega arith)
+
+abbrev packet_of : Sending → ℕ → Outgoing → RtpPacket
+packet_of s number o = sent_packet s number o (length (payload_bytes (sent_value s number o)))
+
+packet_back : (s : Sending) (number : ℕ) (o : Outgoing) → AreSettings s → rtp_packet (sent_datagram s number o) ≡ Ok (packet_of s number o)
+unfolding sent_datagram sent_packet
+packet_back s number o are = rtp_packet-rtp_header (packet_of s number o) (payload_bytes (sent_value s number o)) (packet_fits s number o (length (payload_bytes (sent_value s number o))) are)
+
+-- the source and the payload of a datagram that was sent
+pub received-sent_datagram : (s : Sending) (number picture : ℕ) (c : DatagramContent) → AreSettings s → FitsDatagram s c
+    → received (sent_datagram s number (record { picture = picture; content = c })) ≡ Ok (record { ssrc = s.ssrc; value = sent_value s number (record { picture = picture; content = c }) })
+unfolding received sent_datagram sent_packet
+received-sent_datagram s number picture c are fits =
+    let o : Outgoing = record { picture = picture; content = c } in
+    ap (of_packet (sent_datagram s number o)) (packet_back s number o are)
+    ∙ ap (λ (b : List ℕ). of_payload s.ssrc (payload b)) (behind_header (packet_of s number o) (payload_bytes (sent_value s number o)))
+    ∙ ap (of_payload s.ssrc) (payload_back s number picture c are fits)
+
+scaler_small : (scaler : ℕ) → within 1 255 scaler ≡ true → scaler < 2 ^ 16
+scaler_small scaler h = grind (arith, nat_tests)
+
+across_small : (across down : ℕ) → slices_fit across down ≡ true → across < 2 ^ 16
+across_small across down h = grind (arith, nat_tests)
+
+some_across : (across down : ℕ) → slices_fit across down ≡ true → 1 ≤ across
+some_across across down h = grind (arith, nat_tests)
+
+down_small : (across down : ℕ) → slices_fit across down ≡ true → down < 2 ^ 16
+down_small across down h = grind (arith, nat_tests)
+
+-- settings that exist have fields of these bits
+pub are_settings : (settings : SendSettings) → settings.ssrc < 2 ^ 32 → AreSettings (sending_view settings)
+are_settings settings small = record {
+  payload_type = omega (arith, settings.payload_type);
+  ssrc = small;
+  prefix = omega (arith, settings.prefix_fits);
+  scaler = scaler_small settings.scaler settings.scaler_fits;
+  across = across_small settings.slices_x settings.slices_y settings.slices;
+  some_across = some_across settings.slices_x settings.slices_y settings.slices;
+  down = down_small settings.slices_x settings.slices_y settings.slices;
+}
+
+pub datagram_back : (settings : SendSettings) (number : ℕ) (o : Outgoing) → settings.ssrc < 2 ^ 32 → FitsDatagram (sending_view settings) o.content
+    → received (sent_datagram (sending_view settings) number o) ≡ Ok (record { ssrc = settings.ssrc; value = sent_value (sending_view settings) number o })
+datagram_back settings number o small fits = received-sent_datagram (sending_view settings) number o.picture o.content (are_settings settings small) fits

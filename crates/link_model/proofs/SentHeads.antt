@@ -1,0 +1,135 @@
+-- The sequence header and the transform parameters that are sent are read again.
+use Rattle.std.proofs.Common.{◌≡◌, ◌≤◌, ◌+◌, ◌*◌, ◌∙◌, ap, ℕ, zero, suc, Bool, true, cond, List, [], ◌++◌, length, Some, None, Ok, refl, arith}
+use Rattle.std.specs.Prelude.{IsTrue, unwrap_or, nat_le, ◌&&◌}
+use Rattle.std.proofs.lemmas.Bool.{le-leb, leb-true, and_parts, and_from}
+use Rattle.link_model.specs.SendingPictures.{sent_sequence, sent_header, sent_parameters, sent_parameter_bytes}
+use Rattle.vc_types.specs.declared.settings.SendSettings.{SendSettings}
+use Rattle.vc_types.specs.Limits.{matrix_fits, slice_bytes_fit, padded, padded_luma_fits}
+use Rattle.vc_types.specs.Video.{picture_height}
+use Rattle.vc_types.specs.HeaderSpelling.{IsEncoderHeader, header_bits, encoder_header}
+use Rattle.vc_types.specs.ParameterSpelling.{parameter_bits, encoder_parameters}
+use Rattle.vc_types.specs.Quantisation.{default_matrix}
+use Rattle.vc_types.specs.SenderSettings.{Sending, sending_view}
+use Rattle.vc_types.specs.SequenceHeader.{coded_header, picture_shape}
+use Rattle.vc_types.specs.TransformParameters.{coded_parameters, same_across, default_of}
+use Rattle.vc_types.proofs.MatrixEnds.{default_filled}
+use Rattle.link_model.proofs.PackedBits.{bits_of-filled}
+use Rattle.vc_types.proofs.WrittenHeaders.{header_again}
+use Rattle.vc_types.proofs.WrittenParameters.{IsPlan, parameters_again}
+
+-- the default matrix of each wavelet at each depth
+record HasDefault (wavelet depth : ℕ) : Type 0 where
+  some : default_matrix wavelet depth ≡ Some (unwrap_or (default_matrix wavelet depth) [])
+  small : matrix_fits (unwrap_or (default_matrix wavelet depth) []) ≡ true
+
+has_default : (wavelet depth : ℕ) → wavelet ≤ 6 → 1 ≤ depth → depth ≤ 4 → HasDefault wavelet depth
+unfolding default_matrix
+has_default zero zero known some few = absurd (omega arith)
+has_default zero (suc zero) known some few = record { some = refl; small = refl }
+has_default zero (suc (suc zero)) known some few = record { some = refl; small = refl }
+has_default zero (suc (suc (suc zero))) known some few = record { some = refl; small = refl }
+has_default zero (suc (suc (suc (suc zero)))) known some few = record { some = refl; small = refl }
+has_default zero (suc (suc (suc (suc (suc depth))))) known some few = absurd (omega arith)
+has_default (suc zero) zero known some few = absurd (omega arith)
+has_default (suc zero) (suc zero) known some few = record { some = refl; small = refl }
+has_default (suc zero) (suc (suc zero)) known some few = record { some = refl; small = refl }
+has_default (suc zero) (suc (suc (suc zero))) known some few = record { some = refl; small = refl }
+has_default (suc zero) (suc (suc (suc (suc zero)))) known some few = record { some = refl; small = refl }
+has_default (suc zero) (suc (suc (suc (suc (suc depth))))) known some few = absurd (omega arith)
+has_default (suc (suc zero)) zero known some few = absurd (omega arith)
+has_default (suc (suc zero)) (suc zero) known some few = record { some = refl; small = refl }
+has_default (suc (suc zero)) (suc (suc zero)) known some few = record { some = refl; small = refl }
+has_default (suc (suc zero)) (suc (suc (suc zero))) known some few = record { some = refl; small = refl }
+has_default (suc (suc zero)) (suc (suc (suc (suc zero)))) known some few = record { some = refl; small = refl }
+has_default (suc (suc zero)) (suc (suc (suc (suc (suc depth))))) known some few = absurd (omega arith)
+has_default (suc (suc (suc zero))) zero known some few = absurd (omega arith)
+has_default (suc (suc (suc zero))) (suc zero) known some few = record { some = refl; small = refl }
+has_default (suc (suc (suc zero))) (suc (suc zero)) known some few = record { some = refl; small = refl }
+has_default (suc (suc (suc zero))) (suc (suc (suc zero))) known some few = record { some = refl; small = refl }
+has_default (suc (suc (suc zero))) (suc (suc (suc (suc zero)))) known some few = record { some = refl; small = refl }
+has_default (suc (suc (suc zero))) (suc (suc (suc (suc (suc depth))))) known some few = absurd (omega arith)
+has_default (suc (suc (suc (suc zero)))) zero known some few = absurd (omega arith)
+has_default (suc (suc (suc (suc zero)))) (suc zero) known some few = record { some = refl; small = refl }
+has_default (suc (suc (suc (suc zero)))) (suc (suc zero)) known some few = record { some = refl; small = refl }
+has_default (suc (suc (suc (suc zero)))) (suc (suc (suc zero))) known some few = record { some = refl; small = refl }
+has_default (suc (suc (suc (suc zero)))) (suc (suc (suc (suc zero)))) known some few = record { some = refl; small = refl }
+has_default (suc (suc (suc (suc zero)))) (suc (suc (suc (suc (suc depth))))) known some few = absurd (omega arith)
+has_default (suc (suc (suc (suc (suc zero))))) zero known some few = absurd (omega arith)
+has_default (suc (suc (suc (suc (suc zero))))) (suc zero) known some few = record { some = refl; small = refl }
+has_default (suc (suc (suc (suc (suc zero))))) (suc (suc zero)) known some few = record { some = refl; small = refl }
+has_default (suc (suc (suc (suc (suc zero))))) (suc (suc (suc zero))) known some few = record { some = refl; small = refl }
+has_default (suc (suc (suc (suc (suc zero))))) (suc (suc (suc (suc zero)))) known some few = record { some = refl; small = refl }
+has_default (suc (suc (suc (suc (suc zero))))) (suc (suc (suc (suc (suc depth))))) known some few = absurd (omega arith)
+has_default (suc (suc (suc (suc (suc (suc zero)))))) zero known some few = absurd (omega arith)
+has_default (suc (suc (suc (suc (suc (suc zero)))))) (suc zero) known some few = record { some = refl; small = refl }
+has_default (suc (suc (suc (suc (suc (suc zero)))))) (suc (suc zero)) known some few = record { some = refl; small = refl }
+has_default (suc (suc (suc (suc (suc (suc zero)))))) (suc (suc (suc zero))) known some few = record { some = refl; small = refl }
+has_default (suc (suc (suc (suc (suc (suc zero)))))) (suc (suc (suc (suc zero)))) known some few = record { some = refl; small = refl }
+has_default (suc (suc (suc (suc (suc (suc zero)))))) (suc (suc (suc (suc (suc depth))))) known some few = absurd (omega arith)
+has_default (suc (suc (suc (suc (suc (suc (suc wavelet))))))) depth known some few = absurd (omega arith)
+
+symmetric : (wavelet : ℕ) → same_across wavelet (wavelet, 0) ≡ true
+symmetric wavelet = grind arith
+
+by_symmetry : (wavelet depth : ℕ) → default_of wavelet depth (wavelet, 0) ≡ default_matrix wavelet depth
+by_symmetry wavelet depth = ap (λ (b : Bool). cond b (default_matrix wavelet depth) None) (symmetric wavelet)
+
+module _ (settings : SendSettings) where
+  abbrev s : Sending
+  s = sending_view settings
+
+  record IsBetween (low high number : ℕ) : Type 0 where
+    least : low ≤ number
+    most : number ≤ high
+
+  between : (low high number : ℕ) → IsTrue (nat_le low number && nat_le number high) → IsBetween low high number
+  between low high number fits =
+      let both = and_parts (nat_le low number) (nat_le number high) fits in
+      record { least = leb-true low number both.0; most = leb-true number high both.1 }
+
+  form : IsEncoderHeader (sent_sequence s)
+  unfolding sent_sequence
+  form =
+      let range = between 1 4 settings.range settings.range_is_known in
+      record { major = refl; minor = refl; level = refl; base = refl; scan = refl; range = (settings.range, range.least, range.most, refl) }
+
+  -- whatever follows it
+  pub coded_header-sent : (behind : List ℕ) → coded_header (sent_header s ++ behind) ≡ Ok (sent_sequence s, length (sent_header s))
+  unfolding sent_header sent_sequence
+  coded_header-sent behind = header_again (sent_sequence s) (sent_header s) behind form settings.dimensions (bits_of-filled (header_bits (encoder_header (sent_sequence s))))
+
+  slice_bytes : slice_bytes_fit settings.prefix settings.scaler ≡ true
+  slice_bytes =
+      let scaler = between 1 255 settings.scaler settings.scaler_fits in
+      let prefix : settings.prefix ≤ 65535 = omega (arith, settings.prefix_fits) in
+      let most : settings.scaler ≤ 65535 = omega (arith, scaler.most) in
+      and_from _ _ (and_from _ _ (le-leb settings.prefix 65535 prefix) (le-leb 1 settings.scaler scaler.least)) (le-leb settings.scaler 65535 most)
+
+  padded_luma : padded_luma_fits (picture_shape (sent_sequence s)) 0 settings.depth ≡ true
+  unfolding picture_shape sent_sequence
+  padded_luma =
+      let none : settings.depth + 0 ≡ settings.depth = omega arith in
+      ap (λ (d : ℕ). nat_le (padded settings.width d * padded (picture_height settings.fields settings.height) settings.depth) 8912896) none ∙ settings.padded_luma
+
+  pub plan : IsPlan (sent_parameters s)
+  unfolding sent_parameters sent_sequence picture_shape
+  plan =
+      let levels = between 1 4 settings.depth settings.levels in
+      let default = has_default settings.wavelet settings.depth settings.wavelet_is_known levels.least levels.most in
+      record {
+        wavelet = settings.wavelet_is_known;
+        wavelet_ho = settings.wavelet_is_known;
+        some_levels = levels.least;
+        few_levels = omega (arith, levels.most);
+        slices = settings.slices;
+        slice_bytes = slice_bytes;
+        padded_luma = padded_luma;
+        values = default.small;
+        ends = default_filled settings.wavelet settings.depth (settings.wavelet, 0) (unwrap_or (default_matrix settings.wavelet settings.depth) []) (omega (arith, levels.most)) (by_symmetry settings.wavelet settings.depth ∙ default.some);
+      }
+
+  pub coded_parameters-sent : (behind : List ℕ) → coded_parameters (sent_sequence s) (sent_parameter_bytes s ++ behind) ≡ Ok (sent_parameters s, length (sent_parameter_bytes s))
+  unfolding sent_parameter_bytes sent_parameters sent_sequence
+  coded_parameters-sent behind = parameters_again (sent_sequence s) (sent_parameters s) (sent_parameter_bytes s) behind plan (λ other. refl) refl (bits_of-filled (parameter_bits 3 (encoder_parameters (sent_parameters s))))
+
+pub ruleset laws = (coded_header-sent, coded_parameters-sent)
