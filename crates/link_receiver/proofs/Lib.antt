@@ -10,6 +10,7 @@ pub mod Working
 pub mod Redone
 pub mod ReleaseLists
 pub mod OfferedJobs
+pub mod UnkeptDatagrams
 pub mod BuiltPictures
 pub mod Releases
 pub mod ReleaseRuns

@@ -12,10 +12,11 @@ ghost use Rattle.link_receiver.specs.Entering.{before_releases, takes_datagram, 
 ghost use Rattle.link_receiver.specs.Entering.{takes_end, end_bytes};
 ghost use Rattle.link_receiver.specs.Exchanging.{Exchange, all_exchanged, dones_in};
 ghost use Rattle.link_receiver.specs.Exchanging.{window_job, offered_jobs, is_job_among};
-ghost use Rattle.link_receiver.specs.Judging.{judged, ends_input};
+ghost use Rattle.link_receiver.specs.Judging.{judged, keeps_datagram, ends_input};
 ghost use Rattle.link_receiver.specs.Receptions.{Reception, new_reception};
 ghost use Rattle.link_receiver.specs.Standing.{StandsFor, StandsForHeard, AreDecodings};
 ghost use Rattle.link_receiver.specs.Standing.{out_without, with_picture_counts};
+ghost use Rattle.link_receiver.specs.Standing.{leaves_pictures, LeavesSession};
 
 /// A new receiver stands for a feeder that heard nothing.
 pub fn a_new_receiver_stands_for_nothing()
@@ -41,6 +42,15 @@ pub fn receivers_follow_datagrams()
         → f.has_ended ≡ false → (exchanges : List Exchange) → AreDecodings (dones_in exchanges)
         → (d : List ℕ) → output_so_far size (f.heard ++ d ∷ [])
         ≡ output_so_far size f.heard ++ datagram_bytes r d exchanges }
+{}
+
+/// A datagram with an outcome other than HeaderNew, End and those by which a picture keeps something
+/// leaves the session that stands, and what its pictures keep. It may open a picture, and close
+/// others, so that they are forgotten.
+pub fn unkept_datagrams_change_nothing()
+    ensures { (r : Reception) (size : ℕ) (datagrams : List (List ℕ)) (d : List ℕ)
+        → StandsForHeard r size datagrams false → leaves_pictures (judged r d) ≡ true
+        → LeavesSession r.standing (keeps_datagram r d).standing }
 {}
 
 /// The jobs that a fragment offers are those of the slices that it brings: their pictures keep them
