@@ -2,8 +2,7 @@
 use Rattle.std.proofs.Common.{◌≡◌, ℕ, ◌+◌, Bool, true, false, refl, ap, sym, ◌∙◌, arith}
 use Rattle.std.proofs.Common.{List, [], ◌∷◌, ◌++◌, length, Option, Some, None, cond, inl, inr}
 use Rattle.std.proofs.Common.{subst}
-use Rattle.std.specs.Prelude.{◌==◌, ◌&&◌, ◌||◌, is_some, not, filter_map, bytes_eq}
-use Rattle.std.specs.Prelude.{slice_get}
+use Rattle.std.specs.Prelude.{◌==◌, ◌&&◌, ◌||◌, is_some, not, filter_map, bytes_eq, slice_get}
 use Rattle.std.specs.List.{cons_option, last_or, range_with_len}
 use Rattle.std.specs.Option.{option_and_then, option_map, option_map_or}
 use Rattle.std.proofs.lemmas.Bool.{cases_Bool, cases_eq, cond-false, and_from, eq-eqb}

@@ -1,7 +1,6 @@
 -- What a receiver stands for: a list of datagrams that it heard, and the feeder of workers that
 -- heard them.
-use Rattle.std.specs.Prelude.{◌⊎◌}
-use Rattle.std.specs.Prelude.{◌≡◌, ℕ, ◌+◌, Bool, true, false, count_by, fold, filter, not}
+use Rattle.std.specs.Prelude.{◌≡◌, ◌⊎◌, ℕ, ◌+◌, Bool, true, false, count_by, fold, filter, not}
 use Rattle.std.specs.Prelude.{List, [], ◌∷◌, length, Option, Some, None}
 use Rattle.std.specs.Option.{option_and_then}
 use Rattle.link_model.specs.Books.{Book, book_of}
@@ -12,8 +11,8 @@ use Rattle.link_model.specs.Interleavings.{due, AreOwnAnswers}
 use Rattle.link_model.specs.Judgement.{is_incomplete, is_unsound, has_frame, with_sessions}
 use Rattle.link_model.specs.Judgement.{outcomes_in, outcome_counts, keeps}
 use Rattle.link_model.specs.Kept.{Own}
-use Rattle.link_model.specs.Numbers.{Numbered}
-use Rattle.link_model.specs.Output.{planes_at}
+use Rattle.link_model.specs.Numbers.{Numbered, opened_numbers}
+use Rattle.link_model.specs.Output.{planes_at, entered_behind, let_go_numbers}
 use Rattle.link_model.specs.Places.{Answered, decoding}
 use Rattle.link_model.specs.Session.{HeardSession, sessions_of}
 use Rattle.link_model.specs.Windows.{WindowPast, session_past, past_let_go, window_of}
@@ -98,6 +97,21 @@ counts_of_sessions size true hs t = with_sessions size hs t
 counts_of_sessions size false [] t = t
 counts_of_sessions size false (h ∷ hs) t =
     past_counts (all_released (last_past size false hs h)) (with_sessions size hs t)
+
+-- how many frames sessions have
+unfoldable pub frames_in : ℕ → List HeardSession → ℕ
+frames_in size [] = 0
+frames_in size (h ∷ hs) =
+    let es = entered_behind size hs h in
+    frames_in size hs + count_by (has_frame h.session.sequence es) (opened_numbers es)
+
+-- and how many of them are in the output so far
+abbrev pub frames_written : ℕ → List HeardSession → ℕ
+frames_written size [] = 0
+frames_written size (h ∷ hs) =
+    let es = entered_behind size hs h in
+    let s = h.session.sequence in
+    frames_in size hs + count_by (has_frame s es) (let_go_numbers size s es)
 
 -- the counts of outcomes of the one, and those of pictures of the other
 abbrev pub with_picture_counts : Tally → Tally → Tally
