@@ -1,6 +1,8 @@
 -- A frame that is built of the answers to its slices is the frame of the pictures' own bytes.
-use Rattle.std.proofs.Common.{◌≡◌, ℕ, zero, suc, ◌+◌, ◌-◌, ◌%◌, ◌<◌, ◌≤◌, Bool, true, false, cond, List, [], ◌∷◌, ◌++◌}
-use Rattle.std.proofs.Common.{length, map, take, drop, Option, Some, None, Result, Ok, Err, refl, ap, sym, subst, ◌∙◌, arith}
+use Rattle.std.proofs.Common.{◌≡◌, ℕ, zero, suc, ◌+◌, ◌-◌, ◌%◌, ◌<◌, ◌≤◌, Bool, true, false, cond}
+use Rattle.std.proofs.Common.{List, [], ◌∷◌, ◌++◌}
+use Rattle.std.proofs.Common.{length, map, take, drop, Option, Some, None, Result, Ok, Err, refl}
+use Rattle.std.proofs.Common.{ap, sym, subst, ◌∙◌, arith}
 use Rattle.std.proofs.Common.{eqb, eqb-true}
 use Rattle.std.specs.Prelude.{◌==◌, ◌&&◌, ◌||◌, not, is_some, unwrap_or}
 use Rattle.std.specs.List.{flat_map, list_all, range_with_len}
@@ -8,10 +10,13 @@ use Rattle.std.specs.Option.{option_map, option_and_then, option_zip}
 use Rattle.std.proofs.Math.Seq.{drop-append_seam, take-append_seam}
 use Rattle.std.proofs.lemmas.Bool.{and_parts, false≢true}
 use Rattle.std.proofs.lemmas.Option.{same_Some, none-some}
-use Rattle.link_model.specs.Complete.{slice_numbers, has_all_slices, all_bytes, whole_of, whole_picture}
-use Rattle.link_model.specs.Feeders.{SliceAnswer, EnteredSession, session_opening, keeps_of, picture_keeps}
+use Rattle.link_model.specs.Complete.{slice_numbers, has_all_slices, all_bytes, whole_of}
+use Rattle.link_model.specs.Complete.{whole_picture}
+use Rattle.link_model.specs.Feeders.{SliceAnswer, EnteredSession, session_opening, keeps_of}
+use Rattle.link_model.specs.Feeders.{picture_keeps}
 use Rattle.link_model.specs.Feeders.{kept_job, job_with, answer_in, has_every_answer, is_ready}
-use Rattle.link_model.specs.Feeding.{sound_answer, with_first, sound_answers, planes_by, built_planes}
+use Rattle.link_model.specs.Feeding.{sound_answer, with_first, sound_answers, planes_by}
+use Rattle.link_model.specs.Feeding.{built_planes}
 use Rattle.link_model.specs.Feeding.{frame_of, built_bytes}
 use Rattle.link_model.specs.Interleavings.{IsOwnAnswer, AreOwnAnswers}
 use Rattle.link_model.specs.Kept.{Own, own, own_slice, split_parts}
@@ -21,7 +26,8 @@ use Rattle.link_model.specs.Places.{Job, decoding}
 use Rattle.link_model.specs.Session.{HeardSession, Part}
 use Rattle.link_model.proofs.PicturesStay.{KeptSlice, kept_slice, job_of_kept}
 use Rattle.vc_types.specs.PictureBytes.{IsWholeSlice}
-use Rattle.link_model.proofs.WholeBytes.{SlicesStandAlone, own_slices, decoded_whole, own_slice_whole}
+use Rattle.link_model.proofs.WholeBytes.{SlicesStandAlone, own_slices, decoded_whole}
+use Rattle.link_model.proofs.WholeBytes.{own_slice_whole}
 use Rattle.vc_types.specs.Fields.{and_then, joined}
 use Rattle.vc_types.specs.Pictures.{Picture, decoded_picture, with_slices, slices_from, sound}
 use Rattle.vc_types.specs.Planes.{Planes, planes_of, decoded_planes}
@@ -30,7 +36,8 @@ use Rattle.vc_types.specs.Slices.{Coefficients, slice_coefficients}
 use Rattle.vc_types.specs.Subbands.{slice_count}
 use Rattle.vc_types.specs.TransformParameters.{Parameters}
 use Rattle.vc_types.specs.declared.refusal.Unsound.{Unsound}
-use Rattle.vc_types.proofs.WholeSlices.{whole_slice, slice_before, slices_from-sound, slices_from-unsound}
+use Rattle.vc_types.proofs.WholeSlices.{whole_slice, slice_before, slices_from-sound}
+use Rattle.vc_types.proofs.WholeSlices.{slices_from-unsound}
 
 -- ---- answers of slices in a row
 

@@ -4,32 +4,17 @@ use Rattle.std.proofs.Common.{Option, Some, None, refl, ap, sym, ◌∙◌, arit
 use Rattle.std.specs.Prelude.{◌&&◌, ◌||◌, not, position, ◌↔◌}
 use Rattle.std.specs.List.{list_all, list_any, position_or_len}
 use Rattle.std.specs.Option.{option_map}
-use Rattle.std.proofs.lemmas.Bool.{and_parts, and_from, false≢true, lt-ltb, le-ltb}
+use Rattle.std.proofs.lemmas.Bool.{and_parts, and_from, false≢true, le-ltb}
 use Rattle.std.proofs.lemmas.Option.{none-some}
+use Rattle.link_model.proofs.Positions.{position_none}
 use Rattle.link_model.specs.Feeders.{is_closed_now, is_decoded, is_kept}
-use Rattle.link_model.specs.Machine.{Machine, Event, Enter, Put, Claim, Complete, Take, Withdraw, Leave, Redo, Release, Finish}
-use Rattle.link_model.specs.Machine.{conditions, first_broken, IsLegal, is_legal_on_places, is_legal_for_feeder}
+use Rattle.link_model.specs.Machine.{Machine, Event, Enter, Put, Claim, Complete, Take, Withdraw}
+use Rattle.link_model.specs.Machine.{Leave, Redo, Release, Finish}
+use Rattle.link_model.specs.Machine.{conditions, first_broken, IsLegal, is_legal_on_places}
+use Rattle.link_model.specs.Machine.{is_legal_for_feeder}
 use Rattle.link_model.specs.Machine.{is_next, has_answers}
 use Rattle.link_model.specs.Places.{place_at, is_in, may_put, stands_in}
 use Rattle.link_model.specs.declared.place_state.PlaceState.TheVariants.{Waiting, Held, Done}
-
--- ---- positions
-
-any_short : {X : Type 0} (p : X → Bool) (xs : List X) → list_any p xs ≡ true → position_or_len p xs < length xs
-any_short p [] e = absurd (false≢true e)
-any_short {X} p (x ∷ xs) e = by_here (p x) e (any_short p xs)
-  where
-    by_here : (b : Bool) → b || list_any p xs ≡ true → (list_any p xs ≡ true → position_or_len p xs < length xs) → cond (not b) (1 + position_or_len p xs) 0 < suc (length xs)
-    by_here true e rest = omega arith
-    by_here false e rest = let short = rest e in omega arith
-
-pub position_none : {X : Type 0} (p : X → Bool) (xs : List X) → position p xs ≡ None → list_any p xs ≡ false
-position_none p xs e = by_any (list_any p xs) refl
-  where
-    by_any : (b : Bool) → list_any p xs ≡ b → b ≡ false
-    by_any false is = refl
-    by_any true is = absurd (none-some (position_or_len p xs)
-        (sym e ∙ ap (λ (b : Bool). cond b (Some (position_or_len p xs)) None) (lt-ltb (position_or_len p xs) (length xs) (any_short p xs is))))
 
 -- ---- all conditions
 

@@ -1,6 +1,8 @@
 -- What every legal event of the machine keeps.
-use Rattle.std.proofs.Common.{◌≡◌, ℕ, zero, suc, ◌+◌, ◌-◌, ◌%◌, ◌<◌, ◌≤◌, Bool, true, false, cond, List, [], ◌∷◌, ◌++◌}
-use Rattle.std.proofs.Common.{Option, Some, None, Result, refl, ap, sym, subst, ◌∙◌, arith, inl, inr, eqb, eqb-true, eq-eqb}
+use Rattle.std.proofs.Common.{◌≡◌, ℕ, zero, suc, ◌+◌, ◌-◌, ◌%◌, ◌<◌, ◌≤◌, Bool, true, false, cond}
+use Rattle.std.proofs.Common.{List, [], ◌∷◌, ◌++◌}
+use Rattle.std.proofs.Common.{Option, Some, None, Result, refl, ap, sym, subst, ◌∙◌, arith, inl}
+use Rattle.std.proofs.Common.{inr, eqb, eqb-true, eq-eqb}
 use Rattle.std.specs.Prelude.{◌⊎◌, ◌==◌, ◌&&◌, ◌||◌, not, is_some, bytes_eq, slice_get}
 use Rattle.std.specs.List.{flat_map, list_all}
 use Rattle.std.specs.Option.{option_map_or, option_and_then}
@@ -10,40 +12,34 @@ use Rattle.std.proofs.lemmas.List.Concat.{flat_map-append}
 use Rattle.std.proofs.lemmas.Option.{same_Some, none-some}
 use Rattle.std.proofs.lemmas.Slice.Eq.{bytes_eq-Decides}
 use Rattle.link_model.specs.Complete.{has_all_slices, slice_numbers}
-use Rattle.link_model.specs.Feeders.{SliceAnswer, EnteredSession, entered_session, session_opening, picture_keeps, kept_job}
-use Rattle.link_model.specs.Feeders.{heard_pictures, let_go_pictures, is_among, not_released, answer_in, is_ready, has_every_answer}
+use Rattle.link_model.specs.Feeders.{SliceAnswer, EnteredSession, entered_session, session_opening}
+use Rattle.link_model.specs.Feeders.{picture_keeps, kept_job}
+use Rattle.link_model.specs.Feeders.{heard_pictures, let_go_pictures, is_among, not_released}
+use Rattle.link_model.specs.Feeders.{answer_in, is_ready, has_every_answer}
 use Rattle.link_model.specs.Feeding.{built_bytes, built_planes, is_same_job}
 use Rattle.link_model.specs.Interleavings.{AreOwnAnswers, IsOwnAnswer}
 use Rattle.link_model.specs.Kept.{Own}
 use Rattle.link_model.specs.Numbers.{is_opened, opened_numbers}
-use Rattle.link_model.specs.Output.{entered_behind, is_opened_in, is_let_go, let_go_numbers, planes_at, frame_bytes_at, IsPrefixOf}
+use Rattle.link_model.specs.Output.{entered_behind, is_opened_in, is_let_go, let_go_numbers}
+use Rattle.link_model.specs.Output.{planes_at, frame_bytes_at, IsPrefixOf}
 use Rattle.link_model.specs.Places.{Job, decoding}
 use Rattle.link_model.specs.Session.{HeardSession, hears}
 use Rattle.link_model.proofs.Apart.{sessions_apart}
 use Rattle.link_model.proofs.BuiltFrames.{built_is, unopened_planes, built_frame}
-use Rattle.link_model.proofs.PicturesHeard.{picture_bytes, pictures_opened, session_here, session_before, session_earlier, session_opened}
-use Rattle.link_model.proofs.PicturesHeard.{let_go_begins, let_go_in_sessions, let_go_rising, among_opened, among_let_go, each_let_go}
-use Rattle.link_model.proofs.PicturesStay.{Stays, Gone, goes_on, stays, let_go_grows, job_goes_on, ready_stays, each_and, with_entries}
+use Rattle.link_model.proofs.PicturesHeard.{picture_bytes, pictures_opened, session_here}
+use Rattle.link_model.proofs.PicturesHeard.{session_before, session_earlier, session_opened}
+use Rattle.link_model.proofs.PicturesHeard.{let_go_begins, let_go_in_sessions, let_go_rising}
+use Rattle.link_model.proofs.PicturesHeard.{among_opened, among_let_go, each_let_go}
+use Rattle.link_model.proofs.PicturesStay.{Stays, Gone, goes_on, stays, let_go_grows, job_goes_on}
+use Rattle.link_model.proofs.PicturesStay.{ready_stays, each_and, with_entries}
 use Rattle.link_model.proofs.Releasing.{let_go_before}
-use Rattle.link_model.proofs.RisingLists.{Each, IsRising, each_map, each_append, each_front, among_each, among_front, among_back, among_before}
+use Rattle.link_model.proofs.RisingLists.{Each, IsRising, each_map, each_append, each_front}
+use Rattle.link_model.proofs.RisingLists.{among_each, among_front, among_back, among_before}
 use Rattle.link_model.proofs.RisingLists.{not_released_is, same_on}
 use Rattle.vc_types.specs.SameValues.{same_parameters}
 use Rattle.vc_types.specs.Slices.{Coefficients}
 use Rattle.vc_types.specs.declared.refusal.Unsound.{Unsound}
 use Rattle.vc_types.proofs.SameValues.{parameters_exactly}
-
--- ---- jobs
-
-pub same_job : (a b : Job) → is_same_job a b ≡ true → a ≡ b
-same_job a b e =
-    let first = and_parts (same_parameters a.plan b.plan && a.number == b.number && a.index == b.index) (bytes_eq a.bytes b.bytes) e in
-    let second = and_parts (same_parameters a.plan b.plan && a.number == b.number) (a.index == b.index) first.0 in
-    let third = and_parts (same_parameters a.plan b.plan) (a.number == b.number) second.0 in
-    let plan = (parameters_exactly a.plan b.plan).0 third.0 in
-    let number = eqb-true a.number b.number third.1 in
-    let index = eqb-true a.index b.index second.1 in
-    let bytes = (bytes_eq-Decides a.bytes b.bytes).0 first.1 in
-    λ i. record { plan = plan i; number = number i; index = index i; bytes = bytes i }
 
 -- ---- the session of a picture, and of its neighbour
 

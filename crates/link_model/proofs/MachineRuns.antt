@@ -1,6 +1,7 @@
 -- The laws of the machine over every list of legal events.
 use Rattle.std.proofs.Common.{◌≡◌, ℕ, ◌+◌, ◌≤◌, Bool, true, false, cond, List, [], ◌∷◌, ◌++◌}
-use Rattle.std.proofs.Common.{Option, Some, None, refl, ap, sym, subst, ◌∙◌, inl, inr, eqb, eqb-true, eq-eqb}
+use Rattle.std.proofs.Common.{Option, Some, None, refl, ap, sym, subst, ◌∙◌, inl, inr, eqb}
+use Rattle.std.proofs.Common.{eqb-true, eq-eqb}
 use Rattle.std.specs.Prelude.{◌⊎◌, ◌↔◌, ◌==◌, ◌&&◌, ◌||◌, not, is_some, slice_get, fold, filter}
 use Rattle.std.specs.List.{flat_map, list_all}
 use Rattle.std.specs.Option.{option_map_or, option_and_then}
@@ -9,24 +10,36 @@ use Rattle.std.proofs.lemmas.List.{append-nil}
 use Rattle.std.proofs.lemmas.List.Concat.{flat_map-append}
 use Rattle.std.proofs.lemmas.Option.{same_Some, none-some}
 use Rattle.link_model.specs.Complete.{has_all_slices, slice_numbers}
-use Rattle.link_model.specs.Feeders.{SliceAnswer, Feeder, EnteredSession, session_opening, keeps_of, kept_job, slice_job, is_kept}
-use Rattle.link_model.specs.Feeders.{let_go_pictures, not_released, releasable, next_to_release, picture_keeps, keeps_now, has_released}
+use Rattle.link_model.specs.Feeders.{SliceAnswer, Feeder, EnteredSession, session_opening, keeps_of}
+use Rattle.link_model.specs.Feeders.{kept_job, slice_job, is_kept}
+use Rattle.link_model.specs.Feeders.{let_go_pictures, not_released, releasable, next_to_release}
+use Rattle.link_model.specs.Feeders.{picture_keeps, keeps_now, has_released}
 use Rattle.link_model.specs.Feeders.{is_decoded, answer_in, is_ready, has_every_answer}
-use Rattle.link_model.specs.Feeding.{built_bytes, takes_answer, with_answer, has_job, is_same_job, redoes_slice}
-use Rattle.link_model.specs.Interleavings.{machine_after, IsRun, due, is_input, inputs, AreOwnAnswers}
+use Rattle.link_model.specs.Feeding.{built_bytes, takes_answer, with_answer, has_job, is_same_job}
+use Rattle.link_model.specs.Feeding.{redoes_slice}
+use Rattle.link_model.specs.Interleavings.{machine_after, IsRun, due, is_input, inputs}
+use Rattle.link_model.specs.Interleavings.{AreOwnAnswers}
 use Rattle.link_model.specs.Kept.{Own, own_slice}
-use Rattle.link_model.specs.Machine.{Machine, new_machine, Event, Enter, Put, Claim, Complete, Take, Withdraw, Leave, Redo, Release, Finish}
-use Rattle.link_model.specs.Machine.{IsLegal, is_next, has_answers, happens, takes_from, puts_slice, run, AreLegal, is_legal_on_places, is_legal_for_feeder}
+use Rattle.link_model.specs.Machine.{Machine, new_machine, Event, Enter, Put, Claim, Complete, Take}
+use Rattle.link_model.specs.Machine.{Withdraw, Leave, Redo, Release, Finish}
+use Rattle.link_model.specs.Machine.{IsLegal, is_next, has_answers, happens, takes_from, puts_slice}
+use Rattle.link_model.specs.Machine.{run, AreLegal, is_legal_on_places, is_legal_for_feeder}
 use Rattle.link_model.specs.Output.{all_output, last_so_far, full_output, output_so_far, IsPrefixOf}
-use Rattle.link_model.specs.Places.{Job, Answered, own_answer, decoding, Content, Nothing, Offered, Claimed, Decoded, JobPlace, place_at}
-use Rattle.link_model.specs.Places.{may_put, stands_in, puts_job, AreApart, HasOwnAnswer, HaveOwnAnswers}
+use Rattle.link_model.specs.Places.{Job, Answered, own_answer, decoding, Content, Nothing, Offered}
+use Rattle.link_model.specs.Places.{Claimed, Decoded, JobPlace, place_at}
+use Rattle.link_model.specs.Places.{may_put, stands_in, puts_job, AreApart, HasOwnAnswer}
+use Rattle.link_model.specs.Places.{HaveOwnAnswers}
 use Rattle.link_model.specs.Session.{HeardSession, sessions_of, hears}
 use Rattle.link_model.proofs.Growing.{sessions_of-append}
 use Rattle.link_model.proofs.MachineHalves.{legal_halves, halves_legal}
-use Rattle.link_model.proofs.MachineKept.{Holds, new_holds, hears_holds, finish_holds, answer_holds, release_holds, left, same_job}
+use Rattle.link_model.proofs.MachineKept.{Holds, new_holds, hears_holds, finish_holds, answer_holds}
+use Rattle.link_model.proofs.MachineKept.{release_holds, left}
+use Rattle.link_model.proofs.SameJobs.{same_job}
 use Rattle.link_model.proofs.PicturesHeard.{picture_bytes, written_of, let_go_written}
 use Rattle.link_model.proofs.PicturesStay.{kept_slice, job_of_kept}
-use Rattle.link_model.proofs.PlacesKept.{puts_apart, puts_own, claims_apart, claims_own, completes_apart, completes_own, frees_apart, frees_own, unused_apart, unused_own}
+use Rattle.link_model.proofs.PlacesKept.{puts_apart, puts_own, claims_apart, claims_own}
+use Rattle.link_model.proofs.PlacesKept.{completes_apart, completes_own, frees_apart, frees_own}
+use Rattle.link_model.proofs.PlacesKept.{unused_apart, unused_own}
 
 abbrev HoldsFor : ℕ → Feeder → Type 0
 HoldsFor window f = Holds window (sessions_of f.heard) f.has_ended f.decoded f.released f.written

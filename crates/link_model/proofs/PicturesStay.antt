@@ -1,5 +1,6 @@
 -- As datagrams come, what a picture keeps stays kept, and a picture that is let go stays as it is.
-use Rattle.std.proofs.Common.{◌≡◌, ℕ, ◌+◌, ◌-◌, ◌<◌, ◌≤◌, Bool, true, false, cond, List, [], ◌∷◌, ◌++◌}
+use Rattle.std.proofs.Common.{◌≡◌, ℕ, ◌+◌, ◌-◌, ◌<◌, ◌≤◌, Bool, true, false, cond, List, [], ◌∷◌}
+use Rattle.std.proofs.Common.{◌++◌}
 use Rattle.std.proofs.Common.{Option, Some, None, refl, ap, sym, subst, ◌∙◌, arith, inl, inr}
 use Rattle.std.specs.Prelude.{◌⊎◌, ◌||◌, not, is_some, filter_map}
 use Rattle.std.specs.List.{list_all}
@@ -7,13 +8,17 @@ use Rattle.std.specs.Option.{option_map_or, option_and_then, option_map}
 use Rattle.std.proofs.lemmas.Bool.{cases_lt, both_ways, false≢true}
 use Rattle.std.proofs.lemmas.List.{append_assoc, append-nil}
 use Rattle.std.proofs.lemmas.Option.{same_Some, none-some}
-use Rattle.link_model.specs.Complete.{has_all_slices, all_bytes, slice_numbers, whole_of, whole_picture}
-use Rattle.link_model.specs.Feeders.{EnteredSession, entered_session, session_opening, keeps_of, picture_keeps}
-use Rattle.link_model.specs.Feeders.{SliceAnswer, has_every_answer, is_ready, kept_job, job_by, job_with}
+use Rattle.link_model.specs.Complete.{has_all_slices, all_bytes, slice_numbers, whole_of}
+use Rattle.link_model.specs.Complete.{whole_picture}
+use Rattle.link_model.specs.Feeders.{EnteredSession, entered_session, session_opening, keeps_of}
+use Rattle.link_model.specs.Feeders.{picture_keeps}
+use Rattle.link_model.specs.Feeders.{SliceAnswer, has_every_answer, is_ready, kept_job, job_by}
+use Rattle.link_model.specs.Feeders.{job_with}
 use Rattle.link_model.specs.Feeders.{heard_pictures, let_go_pictures}
 use Rattle.link_model.specs.Kept.{Own, own, own_slice}
 use Rattle.link_model.specs.Numbers.{Numbered, base_above, greatest, has_parts, is_opened, parts_of}
-use Rattle.link_model.specs.Output.{greatest_of, entered_behind, is_opened_in, is_let_go, let_go_numbers}
+use Rattle.link_model.specs.Output.{greatest_of, entered_behind, is_opened_in, is_let_go}
+use Rattle.link_model.specs.Output.{let_go_numbers}
 use Rattle.link_model.specs.Output.{complete_at, frame_bytes_at, IsPrefixOf}
 use Rattle.link_model.specs.Places.{Job}
 use Rattle.link_model.specs.Session.{Session, HeardSession, just_opened, opens_next, with_datagram}
@@ -22,8 +27,10 @@ use Rattle.link_model.proofs.Keeping.{grown, own-append, slice_stays}
 use Rattle.link_model.proofs.Leaving.{let_go_numbers_grow, opened_same}
 use Rattle.link_model.proofs.Numbering.{Follows, follows_itself, entered_follows}
 use Rattle.link_model.proofs.Releasing.{frame_same, let_go_at}
-use Rattle.link_model.proofs.PicturesHeard.{picture_bytes, pictures_opened, session_here, session_before}
-use Rattle.link_model.proofs.PicturesHeard.{session_earlier, session_opened, let_go_begins, let_go_in_sessions}
+use Rattle.link_model.proofs.PicturesHeard.{picture_bytes, pictures_opened, session_here}
+use Rattle.link_model.proofs.PicturesHeard.{session_before}
+use Rattle.link_model.proofs.PicturesHeard.{session_earlier, session_opened, let_go_begins}
+use Rattle.link_model.proofs.PicturesHeard.{let_go_in_sessions}
 use Rattle.link_model.proofs.PicturesHeard.{each_let_go, let_go_opened}
 use Rattle.link_model.proofs.RisingLists.{Each, each_map, each_append}
 use Rattle.vc_types.specs.SequenceHeader.{Sequence}
@@ -174,7 +181,7 @@ module _ (window : ℕ) where
 
 -- ---- what is kept
 
-some_after : {A B : Type 0} (f : A → Option B) (o : Option A) (b : B) → option_and_then f o ≡ Some b → (a : A) × (o ≡ Some a) × (f a ≡ Some b)
+pub some_after : {A B : Type 0} (f : A → Option B) (o : Option A) (b : B) → option_and_then f o ≡ Some b → (a : A) × (o ≡ Some a) × (f a ≡ Some b)
 some_after f None b e = absurd (none-some b e)
 some_after f (Some a) b e = (a, refl, e)
 

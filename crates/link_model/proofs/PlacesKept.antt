@@ -1,4 +1,5 @@
--- What holds of places and stays so: no slice stands in two of them, and each answer is its job's own.
+-- What holds of places and stays so: no slice stands in two of them, and each answer is its job's
+-- own.
 use Rattle.std.proofs.Common.{◌≡◌, ℕ, zero, suc, ◌+◌, Bool, true, false, List, [], ◌∷◌, ◌⊎◌, length}
 use Rattle.std.proofs.Common.{refl, ap, sym, subst, ◌∙◌, inl, inr, arith, cond, eqb, eqb-true}
 use Rattle.std.specs.Prelude.{◌==◌, ◌||◌, slice_set, Option, Some, None}

@@ -1,6 +1,8 @@
--- Numbers in rising order: what holds of each, which of them are in a list, and what a list begins with.
+-- Numbers in rising order: what holds of each, which of them are in a list, and what a list begins
+-- with.
 use Rattle.std.proofs.Common.{◌≡◌, ◌≢◌, ℕ, zero, suc, ◌+◌, ◌<◌, ◌≤◌, Bool, true, false, cond}
-use Rattle.std.proofs.Common.{List, [], ◌∷◌, ◌++◌, Option, Some, None, refl, ap, sym, subst, ◌∙◌, arith}
+use Rattle.std.proofs.Common.{List, [], ◌∷◌, ◌++◌, Option, Some, None, refl, ap, sym, subst, ◌∙◌}
+use Rattle.std.proofs.Common.{arith}
 use Rattle.std.proofs.Common.{eqb, eqb-true, eq-eqb, ne_eqb}
 use Rattle.std.specs.Prelude.{◌==◌, ◌||◌, not, filter}
 use Rattle.std.specs.List.{flat_map, list_any, range_with_len}

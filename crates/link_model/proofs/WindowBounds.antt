@@ -1,24 +1,19 @@
--- How many books a window has, its greatest number, and the number of a picture that a fragment opened.
-use Rattle.std.proofs.Common.{◌≡◌, ℕ, zero, suc, ◌+◌, ◌-◌, ◌%◌, ◌^◌, ◌<◌, ◌≤◌, max, Bool, true, false, List, [], ◌∷◌, ◌++◌, length, Some, None, refl, ap, sym, subst, ◌∙◌, inl, inr, arith, cond}
-use Rattle.std.specs.Prelude.{nat_le, nat_lt, not, ◌&&◌, ◌||◌, filter, fold}
+-- How many books a window has.
+use Rattle.std.proofs.Common.{◌≡◌, ℕ, zero, suc, ◌+◌, ◌-◌, ◌<◌, ◌≤◌, max, Bool, true, false, List, [], ◌∷◌, ◌++◌, length, None, refl, ap, sym, subst, ◌∙◌, inl, inr, arith, cond}
+use Rattle.std.specs.Prelude.{nat_le, not, ◌&&◌, ◌||◌, filter}
 use Rattle.std.specs.List.{last_or}
-use Rattle.std.proofs.lemmas.Bool.{cases_Bool, cases_lt, and_parts, cond-true, false≢true, not-true, leb-true, leb-false, lt-ltb, or_parts}
-use Rattle.std.proofs.lemmas.List.Sums.{fold-append}
+use Rattle.std.proofs.lemmas.Bool.{cases_lt, and_parts, false≢true, not-true, leb-true, leb-false, or_parts}
 use Rattle.link_model.specs.Books.{Book}
-use Rattle.link_model.specs.Numbers.{Numbered, greatest, nearest, distance, base_above, enters, entered, is_closed, is_late, is_opened, has_parts, picture_number}
-use Rattle.link_model.specs.Output.{greatest_of, is_let_go}
-use Rattle.link_model.specs.Session.{Fragment, HeardSession, with_datagram, fragment_in}
-use Rattle.link_model.specs.Windows.{NumberedBook, with_number, Window, closed_in, released_up_to, WindowPast, past_enters, past_let_go, releasable_numbers, greatest_behind, is_nothing, window_of, StandsForPast, session_past}
-use Rattle.link_model.proofs.Apart.{base_is_above, base_is_multiple}
+use Rattle.link_model.specs.Numbers.{Numbered, greatest, is_closed, is_opened, has_parts}
+use Rattle.link_model.specs.Output.{is_let_go}
+use Rattle.link_model.specs.Windows.{NumberedBook, with_number, Window, closed_in, released_up_to, WindowPast, past_let_go, releasable_numbers, greatest_behind, window_of, StandsForPast}
 use Rattle.link_model.proofs.BooksInOrder.{books_over, fewer_books}
-use Rattle.link_model.proofs.Hearing.{with_fragment, without_fragment}
 use Rattle.link_model.proofs.Leaving.{past}
 use Rattle.link_model.proofs.LettingGo.{is_let_go_by, releasable_over}
-use Rattle.link_model.proofs.Numbering.{early_enters, late_changes_nothing, greatest-append, parts_of-outside}
+use Rattle.link_model.proofs.Numbering.{parts_of-outside}
 use Rattle.link_model.proofs.Releasing.{closed_is_let_go}
 use Rattle.link_model.proofs.RisingNumbers.{numbers_over}
 use Rattle.link_model.proofs.Windowing.{gone_in, needed_by, books_by, books_range}
-use Rattle.link_model.proofs.Wrapping.{nearest-bits}
 
 -- ---- few books
 
@@ -129,108 +124,3 @@ module _ (p : WindowPast) (in_order : past_let_go p ≡ p.released ++ releasable
 pub all_books_few : (w : Window) (p : WindowPast) → StandsForPast w p → releasable_numbers p ≡ [] → length w.books ≤ w.size
 unfolding window_of
 all_books_few w p stands none = subst (λ (v : Window). length v.books ≤ v.size) (sym stands.value) (all_few p stands.in_order none)
-
--- ---- the greatest number
-
-module _ (before window : ℕ) where
-  abbrev IsHigh : List Numbered → Type 0
-  IsHigh es = is_nothing es ≡ false → base_above before ≤ greatest es
-
-  first_is_high : (bits : ℕ) → base_above before ≤ picture_number (base_above before) [] bits
-  unfolding picture_number
-  first_is_high bits = omega arith
-
-  one_number : (e : Numbered) → e.number ≤ greatest (e ∷ [])
-  unfolding greatest
-  one_number e = omega arith
-
-  enters_high : (es : List Numbered) (f : Fragment) → IsHigh es → IsHigh (enters (base_above before) window es f)
-  enters_high es f high = elim (cases_Bool (is_late window es (picture_number (base_above before) es f.number))) [
-    | inl late ↦ subst IsHigh (sym (late_changes_nothing (base_above before) window es f late)) high
-    | inr early ↦ subst IsHigh (sym (early_enters (base_above before) window es f early)) (λ some. by_entries es high)
-  ]
-    where
-      by_entries : (es : List Numbered) → IsHigh es → base_above before ≤ greatest (es ++ record { number = picture_number (base_above before) es f.number; part = f.part } ∷ [])
-      by_entries [] high = omega (arith, first_is_high f.number, one_number (record { number = picture_number (base_above before) [] f.number; part = f.part }))
-      by_entries (e ∷ es) high = omega (arith, high refl, greatest-append (e ∷ es) (record { number = picture_number (base_above before) (e ∷ es) f.number; part = f.part } ∷ []))
-
-  all_high : (es : List Numbered) (fragments : List Fragment) → IsHigh es → IsHigh (fold (enters (base_above before) window) es fragments)
-  all_high es [] high = high
-  all_high es (f ∷ fragments) high = all_high (enters (base_above before) window es f) fragments (enters_high es f high)
-
-  pub entered_high : (fragments : List Fragment) → IsHigh (entered (base_above before) window fragments)
-  entered_high fragments = all_high [] fragments (λ none. absurd (false≢true (sym none)))
-
-  pub greatest_of_all : (fragments : List Fragment) → greatest_behind before (entered (base_above before) window fragments) ≡ max (greatest (entered (base_above before) window fragments)) before
-  unfolding greatest
-  greatest_of_all fragments = by_entries (entered (base_above before) window fragments) (entered_high fragments)
-    where
-      by_entries : (es : List Numbered) → IsHigh es → greatest_behind before es ≡ max (greatest es) before
-      by_entries [] high = omega arith
-      by_entries (e ∷ es) high = omega (arith, high refl, base_is_above before)
-
--- ---- the number of a picture that a fragment opened, by the greatest number behind it
-
-nearest_itself : (n bits : ℕ) → n % 2 ^ 32 ≡ bits → nearest n bits ≡ n
-unfolding nearest
-nearest_itself n bits is =
-    let none : distance n bits ≡ 0 = omega (arith, is) in
-    cond-true (nat_lt (distance n bits) (2 ^ 31)) (n + distance n bits) (n + distance n bits - 2 ^ 32) (lt-ltb (distance n bits) (2 ^ 31) (omega (arith, none)))
-    ∙ omega (arith, none)
-
-base_is_large : (before : ℕ) → 2 ^ 32 ≤ base_above before
-unfolding base_above
-base_is_large before = omega arith
-
-module _ (before window : ℕ) (f : Fragment) (small : f.number < 2 ^ 32) where
-  nearest_top : (g : ℕ) → base_above before ≤ g → nearest (max g (nearest g f.number)) f.number ≡ nearest g f.number
-  nearest_top g high = elim (cases_lt g (nearest g f.number)) [
-    | inl rises ↦ (let top : max g (nearest g f.number) ≡ nearest g f.number = omega (arith, rises) in
-        ap (λ k. nearest k f.number) top ∙ nearest_itself (nearest g f.number) f.number (nearest-bits g f.number (omega (arith, base_is_large before, high)) small))
-    | inr stays ↦ (let top : max g (nearest g f.number) ≡ g = omega (arith, stays) in ap (λ k. nearest k f.number) top)
-  ]
-
-  one_greatest : (e : Numbered) → greatest (e ∷ []) ≡ e.number
-  unfolding greatest
-  one_greatest e = omega arith
-
-  nearest_of : (es : List Numbered) → IsHigh before window es
-      → nearest (greatest (es ++ record { number = picture_number (base_above before) es f.number; part = f.part } ∷ [])) f.number ≡ picture_number (base_above before) es f.number
-  unfolding picture_number
-  nearest_of [] high =
-      ap (λ k. nearest k f.number) (one_greatest (record { number = base_above before + f.number; part = f.part }))
-      ∙ nearest_itself (base_above before + f.number) f.number (omega (arith, base_is_multiple before, small))
-  nearest_of (e ∷ es) high =
-      let n = nearest (greatest (e ∷ es)) f.number in
-      let top : greatest (e ∷ (es ++ record { number = n; part = f.part } ∷ [])) ≡ max (greatest (e ∷ es)) n = omega (arith, greatest-append (e ∷ es) (record { number = n; part = f.part } ∷ []), one_greatest (record { number = n; part = f.part })) in
-      ap (λ k. nearest k f.number) top ∙ nearest_top (greatest (e ∷ es)) (high refl)
-
-  pub number_after : (fragments : List Fragment) → is_late window (entered (base_above before) window fragments) (picture_number (base_above before) (entered (base_above before) window fragments) f.number) ≡ false
-      → nearest (greatest (enters (base_above before) window (entered (base_above before) window fragments) f)) f.number ≡ picture_number (base_above before) (entered (base_above before) window fragments) f.number
-  number_after fragments early =
-      ap (λ (es : List Numbered). nearest (greatest es) f.number) (early_enters (base_above before) window (entered (base_above before) window fragments) f early)
-      ∙ nearest_of (entered (base_above before) window fragments) (entered_high before window fragments)
-
--- ---- the last session
-
-module _ (size : ℕ) (hs : List HeardSession) (h : HeardSession) (released : List ℕ) where
-  pub session_greatest : (window_of (session_past size hs h released)).top ≡ greatest_of size (h ∷ hs)
-  unfolding window_of greatest_of
-  session_greatest = greatest_of_all (greatest_of size hs) size h.fragments
-
-  pub top_of_session : (w : Window) → StandsForPast w (session_past size hs h released) → w.top ≡ greatest_of size (h ∷ hs)
-  top_of_session w stands = ap (λ (v : Window). v.top) stands.value ∙ session_greatest
-
-  module _ (d : List ℕ) where
-    -- a datagram with a fragment
-    pub session_enters : (f : Fragment) → fragment_in h.session d ≡ Some f → past_enters (session_past size hs h released) f ≡ session_past size hs (with_datagram h d) released
-    session_enters f is =
-        ap (λ (es : List Numbered). record (session_past size hs h released) { entries = es })
-        (sym (ap (λ (fs : List Fragment). entered (base_above (greatest_of size hs)) size fs) (with_fragment h d f is)
-        ∙ fold-append (enters (base_above (greatest_of size hs)) size) [] h.fragments (f ∷ [])))
-
-    -- and one without
-    pub session_stays : fragment_in h.session d ≡ None → session_past size hs (with_datagram h d) released ≡ session_past size hs h released
-    session_stays is =
-        ap (λ (fs : List Fragment). record (session_past size hs h released) { entries = entered (base_above (greatest_of size hs)) size fs })
-        (without_fragment h d is)

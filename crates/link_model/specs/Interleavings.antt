@@ -1,4 +1,5 @@
--- What is said of every list of events: what is due, the inputs among the events, and the answers of a feeder.
+-- What is said of every list of events: what is due, the inputs among the events, and the answers
+-- of a feeder.
 use Rattle.std.specs.Prelude.{◌≡◌, ℕ, Bool, true, false, List, [], ◌∷◌, filter, if◌then◌else◌, Some}
 use Rattle.link_model.specs.Feeders.{SliceAnswer, Feeder, kept_job}
 use Rattle.link_model.specs.Machine.{Event, Enter, Finish, Machine, new_machine, run, AreLegal}

@@ -36,8 +36,9 @@ with_part s (b ∷ books) n part =
 
 -- ---- the window
 
--- How many pictures are open at a time; the greatest number, before the first fragment that of the earlier sessions;
--- the last picture that was released; whether the input has ended; and the books of pictures, in rising order.
+-- How many pictures are open at a time; the greatest number, before the first fragment that of the
+-- earlier sessions; the last picture that was released; whether the input has ended; and the books
+-- of pictures, in rising order.
 pub record Window : Type 0 where
   pub sequence : Sequence
   pub size : ℕ
@@ -124,10 +125,11 @@ pub record Releasable : Type 0 where
   pub number : ℕ
   pub complete : Bool
 
+abbrev pub releasable_by : NumberedBook → Releasable
+releasable_by b = record { number = b.number; complete = is_some (book_whole b.book) }
+
 abbrev pub if_let_go : Window → NumberedBook → Option Releasable
-if_let_go w b =
-    if let_go_in w b.number then Some (record { number = b.number; complete = is_some (book_whole b.book) })
-    else None
+if_let_go w b = if let_go_in w b.number then Some (releasable_by b) else None
 
 -- the first picture that isn't released, if it is let go
 unfoldable pub next_release : Window → Option Releasable
@@ -142,8 +144,8 @@ finishes w = forgets (record w { is_ended = true })
 
 -- ---- what a window stands for
 
--- the greatest number of the earlier sessions, what was entered of this one, the pictures that were released, in their
--- order, and whether the input has ended
+-- the greatest number of the earlier sessions, what was entered of this one, the pictures that were
+-- released, in their order, and whether the input has ended
 pub record WindowPast : Type 0 where
   pub sequence : Sequence
   pub size : ℕ
@@ -217,7 +219,8 @@ window_of p = record {
   books = map (past_book p) (needed_numbers p);
 }
 
--- its value follows from its past, in which pictures were released in the order in which they are let go
+-- its value follows from its past, in which pictures were released in the order in which they are
+-- let go
 pub record StandsForPast (w : Window) (p : WindowPast) : Type 0 where
   pub value : w ≡ window_of p
   pub in_order : past_let_go p ≡ p.released ++ releasable_numbers p

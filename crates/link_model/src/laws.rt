@@ -175,9 +175,10 @@ pub fn sessions_follow_each_other()
         } ∷ hs }
 {}
 
-/// A datagram that opens a session is HeaderNew, and no other is; an end of the last session is End, and a fragment of it has the fragment's
-/// outcome by what was entered of that session; any other leaves the sessions as they were.
-#[tactic(auto, using(crate::proofs::SessionOutcomes::laws, crate::proofs::OpeningOutcomes::new_is_opening))]
+/// A datagram that opens a session is HeaderNew, and no other is; an end of the last session is End,
+/// and a fragment of it has the fragment's outcome by what was entered of that session; any other
+/// leaves the sessions as they were.
+#[tactic(auto, using(crate::proofs::SessionOutcomes::laws))]
 pub fn outcomes_say_what_datagrams_do()
     ensures new { (window : ℕ) (before : List (List ℕ)) (d : List ℕ) (s : Session)
         → opens_next (sessions_of before) (begins d) ≡ Some s → outcome_behind window before d

@@ -24,5 +24,6 @@ fn laws_hold() {
     every_interleaving_writes_what_is_due();
     every_answer_is_its_own_slice();
     the_feeder_is_never_stuck();
+    the_feeder_goes_a_legal_way();
     events_are_legal_in_two_halves();
 }

@@ -17,7 +17,7 @@ use Rattle.link_model.specs.Windows.{Window, WindowPast, past_let_go, releasable
 use Rattle.link_model.specs.Windows.{new_past, new_window}
 use Rattle.link_model.specs.declared.tally.Tally.{Tally}
 use Rattle.link_model.proofs.SessionOutput.{opening_writes_nothing}
-use Rattle.link_model.proofs.WindowBounds.{session_greatest}
+use Rattle.link_model.proofs.WindowNumbers.{session_greatest}
 use Rattle.link_model.proofs.WindowStands.{new_stands}
 use Rattle.vc_types.specs.Planes.{Planes}
 use Rattle.vc_types.specs.SequenceHeader.{Sequence}

@@ -25,7 +25,7 @@ use Rattle.link_model.proofs.Counting.{counts_more}
 use Rattle.link_model.proofs.Hearing.{sessions_of_more, hears_new, hears_on}
 use Rattle.link_model.proofs.Numbering.{Follows, entered_follows}
 use Rattle.link_model.proofs.Releasing.{whole_same, planes_same, frame_same, let_go_before}
-use Rattle.link_model.proofs.WindowBounds.{session_enters, session_stays}
+use Rattle.link_model.proofs.WindowNumbers.{session_enters, session_stays}
 use Rattle.link_model.proofs.WindowStands.{enters_stands, finishes_stands}
 use Rattle.vc_types.specs.Planes.{Planes}
 use Rattle.link_receiver.specs.Judging.{session_opened, opens_after, stands_on, goes_on}

@@ -46,7 +46,8 @@ fn opened(
     number: u64,
 ) -> Result<usize, NoMemory>
     ensures place { IfOk result (λ place. place ≡ number_place pictures.old.items number) }
-    ensures value { OnOk result (pictures.new.items ≡ with_book (sequence_of h) pictures.old.items number) }
+    ensures value { OnOk result (pictures.new.items
+        ≡ with_book (sequence_of h) pictures.old.items number) }
 {
     let place = place_of(pictures, number);
     if book_of_number(pictures, number).is_none() {
@@ -63,8 +64,11 @@ pub(crate) fn take_part(
     number: u64,
     part: Part,
 ) -> Result<Outcome, NoMemory>
-    ensures outcome { IfOk result (λ outcome. outcome ≡ book_outcome (unwrap_or (book_at pictures.old.items number) (book_of (sequence_of h) [])) (sent_part part)) }
-    ensures value { OnOk result (pictures.new.items ≡ with_part (sequence_of h) pictures.old.items number (sent_part part)) }
+    ensures outcome { let old = book_at pictures.old.items number in
+        let book = unwrap_or old (book_of (sequence_of h) []) in
+        IfOk result (λ outcome. outcome ≡ book_outcome book (sent_part part)) }
+    ensures value { OnOk result (pictures.new.items
+        ≡ with_part (sequence_of h) pictures.old.items number (sent_part part)) }
 {
     let place = opened(alloc, h, pictures, number)?;
     pictures[place].take(part)

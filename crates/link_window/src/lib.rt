@@ -1,4 +1,4 @@
-//! The window of open pictures: which fragments come too late, what each picture keeps, and which may be released next.
+//! The window of open pictures: which fragments are late, and which picture may be released next.
 #![tactic(auto)]
 
 mod books;

@@ -49,8 +49,10 @@ impl OpenPicture {
     }
 
     pub(crate) fn take(&mut self, part: Part) -> Result<Outcome, NoMemory>
-        ensures outcome { IfOk result (λ outcome. outcome ≡ book_outcome self.old.book (sent_part part)) }
-        ensures value { OnOk result (self.new ≡ with_number self.old.number (book_takes self.old.book (sent_part part))) }
+        ensures outcome { IfOk result (λ outcome. outcome
+            ≡ book_outcome self.old.book (sent_part part)) }
+        ensures value { OnOk result (self.new
+            ≡ with_number self.old.number (book_takes self.old.book (sent_part part))) }
     {
         match part {
             Part::Params(body) => self.book.take_params(body),

@@ -1,7 +1,8 @@
 ghost use Rattle.std.specs.Prelude.{◌≡◌, ◌+◌, ◌<◌, ◌^◌, ◌&&◌, ◌||◌, not, nat_le};
 ghost use Rattle.link_model.specs.Windows.{released_up_to};
 
-/// How far a window has come, which decides of each number whether its picture is closed, and whether it is released.
+/// How far a window has come, which decides of each number whether its picture is closed, and
+/// whether it is released.
 #[derive(Clone, Copy)]
 pub(crate) struct Progress {
     /// How many pictures may be open at a time.
@@ -32,7 +33,8 @@ impl Progress {
 
     /// Whether a picture is both closed and released.
     pub(crate) fn is_gone(&self, number: u64) -> bool
-        ensures { result ≡ ((self.now.is_ended || nat_le (number + self.now.size) self.now.top) && released_up_to self.now.last_released number) }
+        ensures { result ≡ ((self.now.is_ended || nat_le (number + self.now.size) self.now.top)
+            && released_up_to self.now.last_released number) }
     {
         (self.is_ended || self.has_passed(u128::from(number))) && self.is_released(number)
     }

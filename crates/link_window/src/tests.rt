@@ -55,8 +55,8 @@ fn slice(alloc: Global, number: u32, x: u16) -> Result<Fragment, NoMemory> {
     })
 }
 
-// A picture's number and what is sent of it, its outcome, and which picture may be released then, and whether it is
-// complete.
+// A picture's number and what is sent of it, its outcome, and which picture may be released then,
+// and whether it is complete.
 #[derive(Clone, Copy)]
 struct Step(u32, Sent, Outcome, Option<(u32, bool)>);
 

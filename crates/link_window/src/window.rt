@@ -1,4 +1,4 @@
-ghost use Rattle.std.specs.Prelude.{◌≡◌, ◌+◌, ◌-◌, ◌^◌, ◌<◌, ◌≤◌, ◌&&◌, if◌then◌else◌, IfOk, OnOk, Some, None, false};
+ghost use Rattle.std.specs.Prelude.{◌≡◌, ◌+◌, ◌-◌, ◌^◌, ◌<◌, ◌≤◌, ◌&&◌, if◌then◌else◌, IfOk, OnOk, Ok, Some, None, true, false};
 ghost use Rattle.std.specs.Option.{option_copied, option_map};
 ghost use Rattle.link_model.specs.Books.{book_of};
 ghost use Rattle.link_model.specs.Judgement.{fragment_outcome};
@@ -30,8 +30,8 @@ pub struct Released {
     pub complete: bool,
 }
 
-/// The pictures of a session that fragments open, of which so many may be open at a time. After `NoMemory` nothing is
-/// promised of it.
+/// The pictures of a session that fragments open, of which so many may be open at a time. After
+/// `NoMemory` nothing is promised of it.
 #[derive(Drop)]
 pub struct Window {
     alloc: Global,
@@ -50,7 +50,15 @@ impl Model for Window {
 
     ghost Value = { windows.Window };
 
-    ghost view = { λ w. record { sequence = sequence_of w.header; size = w.progress.size; top = w.progress.top; is_new = w.is_new; last_released = w.progress.last_released; is_ended = w.progress.is_ended; books = w.pictures.items } };
+    ghost view = { λ w. record {
+      sequence = sequence_of w.header;
+      size = w.progress.size;
+      top = w.progress.top;
+      is_new = w.is_new;
+      last_released = w.progress.last_released;
+      is_ended = w.progress.is_ended;
+      books = w.pictures.items;
+    } };
 
     ghost invariant = { λ w. w.progress.top < 2 ^ 64 - 16 };
 }
@@ -88,26 +96,33 @@ impl Window {
         }
     }
 
-    /// Takes a fragment into its picture's book, unless it comes too late. A late fragment changes nothing and takes no
-    /// memory.
+    /// Takes a fragment into its picture's book, unless it comes too late. A late fragment changes
+    /// nothing and takes no memory.
     pub fn enter(&mut self, f: Fragment) -> Result<Outcome, NoMemory>
         requires { self.old.is_ended ≡ false }
-        ensures outcome { IfOk result (λ outcome. outcome ≡ windows.window_outcome self.old (sent_fragment f)) }
+        ensures outcome { IfOk result (λ outcome. outcome
+            ≡ windows.window_outcome self.old (sent_fragment f)) }
         ensures value { OnOk result (self.new ≡ windows.window_enters self.old (sent_fragment f)) }
+        ensures late { windows.late_in self.old (windows.number_by self.old f.number) ≡ true
+            → result ≡ Ok Outcome.Late }
         ensures running { OnOk result (self.new.is_ended ≡ false) }
         // By what came before.
         ensures judged { (p : WindowPast) → StandsForPast self.old p
-            → IfOk result (λ outcome. outcome ≡ fragment_outcome (numbers.base_above p.before) p.size p.sequence p.entries (sent_fragment f)) }
+            → let base = numbers.base_above p.before in IfOk result (λ outcome. outcome
+            ≡ fragment_outcome base p.size p.sequence p.entries (sent_fragment f)) }
         ensures stands { (p : WindowPast) → StandsForPast self.old p
             → OnOk result (StandsForPast self.new (windows.past_enters p (sent_fragment f))) }
     {
         self.entered(f)
     }
 
-    #[tactic(auto, unfolding(link_model::specs::Windows::window_enters, link_model::specs::Windows::window_outcome))]
+    #[tactic(auto, unfolding(link_model::specs::Windows::window_enters, link_model::specs::Windows::window_outcome,))]
     fn entered(&mut self, f: Fragment) -> Result<Outcome, NoMemory>
-        ensures outcome { IfOk result (λ outcome. outcome ≡ windows.window_outcome self.old (sent_fragment f)) }
+        ensures outcome { IfOk result (λ outcome. outcome
+            ≡ windows.window_outcome self.old (sent_fragment f)) }
         ensures value { OnOk result (self.new ≡ windows.window_enters self.old (sent_fragment f)) }
+        ensures late { windows.late_in self.old (windows.number_by self.old f.number) ≡ true
+            → result ≡ Ok Outcome.Late }
     {
         let Some(number) = self.number_of(f.number) else {
             return Ok(Outcome::Late);
@@ -120,7 +135,8 @@ impl Window {
 
     // The number of the picture with these 32 bits, unless it is late.
     fn number_of(&self, bits: u32) -> Option<u64>
-        ensures { result ≡ (let n = windows.number_by self.now bits in if windows.late_in self.now n then None else Some n) }
+        ensures { let n = windows.number_by self.now bits in
+            result ≡ (if windows.late_in self.now n then None else Some n) }
     {
         let number = if self.is_new {
             base_above(self.progress.top) + u128::from(bits)
@@ -164,12 +180,13 @@ impl Window {
         book_of_number(&self.pictures, number)
     }
 
-    /// The least picture that is opened and not released, if it is closed or every picture that isn't closed is complete
-    /// up to it.
+    /// The least picture that is opened and not released, if it is closed or every picture that
+    /// isn't closed is complete up to it.
     pub fn next_release(&self) -> Option<Released>
         ensures value { option_map releasable_of result ≡ windows.next_release self.now }
-        ensures least { (p : WindowPast) → StandsForPast self.now p → option_map releasable_of result
-            ≡ option_map (windows.as_releasable p) (windows.first_of (windows.releasable_numbers p)) }
+        ensures least { (p : WindowPast) → StandsForPast self.now p
+            → let first = windows.first_of (windows.releasable_numbers p) in
+            option_map releasable_of result ≡ option_map (windows.as_releasable p) first }
     {
         self.next()
     }
@@ -189,7 +206,8 @@ impl Window {
     }
 
     fn first_unreleased(&self) -> Option<&OpenPicture>
-        ensures { option_copied result ≡ windows.first_unreleased self.now.last_released self.now.books }
+        ensures { option_copied result
+            ≡ windows.first_unreleased self.now.last_released self.now.books }
     {
         for picture in &self.pictures {
             if !self.progress.is_released(picture.number()) {
@@ -244,7 +262,8 @@ impl Window {
         self.forget();
     }
 
-    /// The greatest number of a fragment that wasn't late, or of the earlier sessions where there is none.
+    /// The greatest number of a fragment that wasn't late, or of the earlier sessions where there
+    /// is none.
     pub fn greatest(&self) -> u64
         ensures { result ≡ self.now.top }
     {

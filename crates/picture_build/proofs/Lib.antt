@@ -14,3 +14,6 @@ pub mod RectangleWalk
 pub mod BoundedLists
 pub mod TwoParts
 pub mod PlacedNumbers
+pub mod KeptSlices
+pub mod InCells
+pub mod SeenSlices

@@ -1,44 +1,46 @@
 -- A picture whose slices come one after another, in any order: a finite map from a slice's number to its coefficients.
-use Rattle.std.specs.Prelude.{◌≡◌, ◌<◌, ◌≤◌, ◌+◌, ◌*◌, ℕ, ◌==◌, length, Bool, true, false, if◌then◌else◌, List, [], map, slice_index_or, ℤ, Option, Some, None}
+use Rattle.std.specs.Prelude.{◌≡◌, ◌≢◌, ◌<◌, ◌≤◌, ◌+◌, ◌*◌, ℕ, length, Bool, true, false, if◌then◌else◌, List, [], map, replicate, slice_index_or, slice_set, ℤ, Option, Some, None}
 use Rattle.std.specs.List.{range_with_len}
 use Rattle.std.specs.Option.{is_some, unwrap_or}
 use Rattle.vc_types.specs.declared.video.Component.{Component}
 use Rattle.vc_types.specs.declared.video.Component.TheVariants.{Y, C1, C2}
 use Rattle.vc_types.specs.Lifting.{line_of}
 use Rattle.vc_types.specs.SliceCoefficients.{AreSliceCoefficients}
-use Rattle.vc_types.specs.Slices.{Coefficients}
+use Rattle.vc_types.specs.Slices.{Coefficients, coefficients_of}
 use Rattle.vc_types.specs.Subbands.{slice_count, slice_coefficient_count, coefficient_place, padded_width, padded_height}
 use Rattle.vc_types.specs.TransformParameters.{Parameters}
 use Rattle.picture_build.specs.Cells.{cell_number}
+use Rattle.picture_build.specs.PictureCoefficients.{ArePictureCoefficients}
 
--- the transform parameters, and the coefficients of each slice that came
+-- the transform parameters, and by its number the coefficients of each slice that came
 pub record PartPicture : Type 0 where
   pub parameters : Parameters
-  pub slices : ℕ → Option Coefficients
+  pub slices : List (Option Coefficients)
 
 -- no slice came
 abbrev pub no_slices : Parameters → PartPicture
-no_slices p = record { parameters = p; slices = λ n. None }
+no_slices p = record { parameters = p; slices = replicate (slice_count p) None }
+
+-- the slice of this number, if it came
+abbrev pub slice_in : PartPicture → ℕ → Option Coefficients
+slice_in picture n = slice_index_or picture.slices n None
 
 -- one slice more
 abbrev pub with_slice : PartPicture → ℕ → Coefficients → PartPicture
-with_slice picture n s = record {
-  parameters = picture.parameters;
-  slices = λ m. if m == n then Some s else picture.slices m;
-}
+with_slice picture n s =
+    record { parameters = picture.parameters; slices = slice_set picture.slices n (Some s) }
 
 -- every slice came
 abbrev pub IsWhole : PartPicture → Type 0
-IsWhole picture = (n : ℕ) → n < slice_count picture.parameters → is_some (picture.slices n) ≡ true
+IsWhole picture =
+    (n : ℕ) → n < slice_count picture.parameters → is_some (slice_in picture n) ≡ true
 
 abbrev pub no_coefficients : Coefficients
 no_coefficients = record { y = []; c1 = []; c2 = [] }
 
 -- the coefficients of the slices in raster order
 abbrev pub slices_of : PartPicture → List Coefficients
-slices_of picture =
-    map (λ n. unwrap_or (picture.slices n) no_coefficients)
-    (range_with_len 0 (slice_count picture.parameters))
+slices_of picture = map (λ s. unwrap_or s no_coefficients) picture.slices
 
 -- ---- in cells
 
@@ -59,10 +61,14 @@ kept_slice p y c1 c2 n = record {
 }
 
 -- the slices that came, by what each component's cells hold
-unfoldable pub kept_slices : Parameters → List Bool → List ℤ → List ℤ → List ℤ → ℕ
+unfoldable pub kept_entry : Parameters → List Bool → List ℤ → List ℤ → List ℤ → ℕ
     → Option Coefficients
-kept_slices p came y c1 c2 n =
+kept_entry p came y c1 c2 n =
     if slice_index_or came n false then Some (kept_slice p y c1 c2 n) else None
+
+abbrev pub kept_slices : Parameters → List Bool → List ℤ → List ℤ → List ℤ
+    → List (Option Coefficients)
+kept_slices p came y c1 c2 = map (kept_entry p came y c1 c2) (range_with_len 0 (slice_count p))
 
 -- what is true of the cells: each slice has its entry, each component its cells, each slice that came its coefficients, and
 -- the largest slice has room with eight more
@@ -74,3 +80,26 @@ pub record IsKept (p : Parameters) (came : List Bool) (y c1 c2 : List ℤ) (room
   pub sound : (n : ℕ) → slice_index_or came n false ≡ true
       → AreSliceCoefficients p n (kept_slice p y c1 c2 n)
   pub largest : (c : Component) (n : ℕ) → n < slice_count p → slice_coefficient_count p c n + 8 ≤ room
+
+-- the cells of no other slice were changed
+pub record ChangesOnly (p : Parameters) (c : Component) (n : ℕ) (old new : List ℤ) : Type 0 where
+  pub length : length new ≡ length old
+  pub others : (k : ℕ) → ((i : ℕ) → i < slice_coefficient_count p c n → k ≢ kept_at p c n i)
+      → line_of new k ≡ line_of old k
+
+-- and these coefficients stand in those of this slice
+pub record Fills (p : Parameters) (c : Component) (n : ℕ) (coefficients old new : List ℤ)
+    : Type 0 where
+  pub only : ChangesOnly p c n old new
+  pub own : (i : ℕ) → i < slice_coefficient_count p c n
+      → line_of new (kept_at p c n i) ≡ line_of coefficients i
+
+-- the cells hold a component of all the slices of a picture
+pub record AreIn (p : Parameters) (c : Component) (slices : List Coefficients) (cells : List ℤ)
+    : Type 0 where
+  pub count : length slices ≡ slice_count p
+  pub whole : ArePictureCoefficients p slices
+  pub length : length cells ≡ padded_height p c * padded_width p c
+  pub stand : (n i : ℕ) (none : Coefficients) → n < slice_count p
+      → i < slice_coefficient_count p c n
+      → line_of cells (kept_at p c n i) ≡ line_of (coefficients_of (slice_index_or slices n none) c) i

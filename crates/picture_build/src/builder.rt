@@ -1,20 +1,22 @@
 ghost use Rattle.std.specs.Prelude.{◌≡◌, ◌<◌, IfOk, None, Some, length};
 ghost use Rattle.std.specs.Option.{is_some};
 ghost use Rattle.vc_types.specs.Planes.{planes_in, planes_of};
+ghost use Rattle.vc_types.specs.SameValues.{same_parameters};
 ghost use Rattle.vc_types.specs.SliceCoefficients.{AreSliceCoefficients};
 ghost use Rattle.vc_types.specs.Slices.{slice_coefficients, slice_length};
 ghost use Rattle.vc_types.specs.Subbands.{slice_count};
 ghost use Rattle.vc_types.specs.TransformParameters.{parameters_of};
-ghost use Rattle.picture_build.specs.Kept.{no_slices, with_slice, slices_of, IsWhole};
+ghost use Rattle.picture_build.specs.Kept.{no_slices, slice_in, with_slice, slices_of, IsWhole};
 ghost use Rattle.picture_build.specs.Puts.{Puts};
 
 use crate::cells::CoefficientCells;
-use crate::filling::{fill_slice, put_blocks};
+use crate::filling::{fill_slice, parts_of, put_blocks};
 use crate::finishing::finished;
+use crate::same::same_plan;
 use crate::sizes::{cell_count, most_coefficients};
 use std::alloc::Global;
 use std::marker::Model;
-use vc_slice::{SliceCoeffs, TooWide, coded_slice};
+use vc_slice::{SliceCoeffs, TooWide};
 use vc_types::{Component, NoMemory, Plan, Plane, Unsound};
 
 /// Why a slice wasn't put into a picture.
@@ -24,16 +26,6 @@ pub enum NotPut {
     Unsound(Unsound),
     /// It may have a coefficient that doesn't fit 32 bits. It is to be decoded by itself, and then filled in.
     Wide,
-}
-
-impl From<TooWide> for NotPut {
-    ghost use Rattle.picture_build.specs.declared.builder.NotPut.TheVariants.{Wide};
-
-    ghost from_gives = { λ _ e. e ≡ Wide };
-
-    fn from(_: TooWide) -> Self {
-        NotPut::Wide
-    }
 }
 
 /// A picture whose slices come one after another, in any order. It is seen as the transform parameters and a finite map
@@ -62,8 +54,8 @@ impl Model for PictureBuilder {
     ghost Value = { PartPicture };
 
     ghost view = { λ s. record {
-        parameters = parameters_of s.plan;
-        slices = kept_slices (parameters_of s.plan) s.came.items s.y s.c1 s.c2;
+      parameters = parameters_of s.plan;
+      slices = kept_slices (parameters_of s.plan) s.came.items s.y s.c1 s.c2;
     } };
 
     ghost invariant = { λ s. IsKept (parameters_of s.plan) s.came.items s.y s.c1 s.c2
@@ -76,14 +68,19 @@ impl PictureBuilder {
         ensures value { IfOk result (λ builder. builder ≡ no_slices (parameters_of plan)) }
     {
         let most = most_coefficients(&plan) as usize + 8;
+        let came = vec![in alloc; false; (plan.slices_x * plan.slices_y) as usize]?;
+        let y = CoefficientCells::new(alloc, cell_count(&plan, Component::Y))?;
+        let c1 = CoefficientCells::new(alloc, cell_count(&plan, Component::C1))?;
+        let c2 = CoefficientCells::new(alloc, cell_count(&plan, Component::C2))?;
+        let numbers = vec![in alloc; 0i32; most]?;
         Ok(PictureBuilder {
             alloc,
             plan,
-            came: vec![in alloc; false; (plan.slices_x * plan.slices_y) as usize]?,
-            y: CoefficientCells::new(alloc, cell_count(&plan, Component::Y))?,
-            c1: CoefficientCells::new(alloc, cell_count(&plan, Component::C1))?,
-            c2: CoefficientCells::new(alloc, cell_count(&plan, Component::C2))?,
-            numbers: vec![in alloc; 0; most]?,
+            came,
+            y,
+            c1,
+            c2,
+            numbers,
         })
     }
 
@@ -97,9 +94,16 @@ impl PictureBuilder {
         self.c2.restart();
     }
 
+    /// Whether the picture is of this plan.
+    pub fn has_plan(&self, plan: &Plan) -> bool
+        ensures { result ≡ same_parameters self.now.parameters (parameters_of plan.now) }
+    {
+        same_plan(&self.plan, plan)
+    }
+
     /// Whether the slice came.
     pub fn has(&self, index: u32) -> bool
-        ensures { result ≡ is_some (self.now.slices index) }
+        ensures { result ≡ is_some (slice_in self.now index) }
     {
         let index = index as usize;
         index < self.came.len() && self.came[index]
@@ -108,7 +112,7 @@ impl PictureBuilder {
     /// Fills in a slice that didn't come yet. It takes no memory.
     pub fn fill(&mut self, index: u32, c: &SliceCoeffs)
         requires in_plan { index < slice_count self.old.parameters }
-        requires once { self.old.slices index ≡ None }
+        requires once { slice_in self.old index ≡ None }
         requires whole { AreSliceCoefficients self.old.parameters index c.now }
         ensures value { self.new ≡ with_slice self.old index c.now }
     {
@@ -128,19 +132,17 @@ impl PictureBuilder {
     /// After a refusal the picture is as before.
     pub fn put(&mut self, index: u32, bytes: &[u8]) -> Result<(), NotPut>
         requires in_plan { index < slice_count self.old.parameters }
-        requires once { self.old.slices index ≡ None }
+        requires once { slice_in self.old index ≡ None }
         requires whole { slice_length self.old.parameters.prefix self.old.parameters.scaler bytes.now
             ≡ Some (length bytes.now) }
         ensures value { Puts (slice_coefficients self.old.parameters index bytes.now) index
             self.old self.new result }
     {
-        let Some((coded, _)) = coded_slice(self.plan.prefix, self.plan.scaler, bytes) else {
-            unreachable!();
-        };
+        let coded = parts_of(&self.plan, bytes);
         if coded.index > 127 {
             return Err(NotPut::Unsound(Unsound::IndexRange));
         }
-        put_blocks(
+        match put_blocks(
             &self.plan,
             index,
             &coded,
@@ -148,9 +150,13 @@ impl PictureBuilder {
             &mut self.y,
             &mut self.c1,
             &mut self.c2,
-        )?;
-        self.came[index as usize] = true;
-        Ok(())
+        ) {
+            Ok(()) => {
+                self.came[index as usize] = true;
+                Ok(())
+            }
+            Err(TooWide) => Err(NotPut::Wide),
+        }
     }
 
     /// The planes of a picture all of whose slices came. Another picture begins then, in the same memory.
@@ -160,8 +166,17 @@ impl PictureBuilder {
             ≡ planes_of self.old.parameters (slices_of self.old)) }
         ensures restarted { self.new ≡ no_slices self.old.parameters }
     {
-        let planes = finished(self.alloc, &self.plan, &self.y, &self.c1, &self.c2);
-        self.restart();
+        let planes = finished(
+            self.alloc,
+            &self.plan,
+            &mut self.y,
+            &mut self.c1,
+            &mut self.c2,
+        );
+        self.came.fill(false);
+        self.y.restart();
+        self.c1.restart();
+        self.c2.restart();
         planes
     }
 

@@ -1,42 +1,166 @@
-ghost use Rattle.std.specs.Prelude.{◌≡◌, ◌≢◌, ◌+◌, ◌*◌, ◌^◌, ◌<◌, ◌≤◌, ℕ, length, true, unsigned_abs};
+ghost use Rattle.std.specs.Prelude.{◌≡◌, ◌≢◌, ◌+◌, ◌*◌, ◌^◌, ◌<◌, ◌≤◌, ℕ, length, true, false, unsigned_abs, Some, Ok, OnOk};
+ghost use Rattle.std.specs.List.{list_any};
+ghost use Rattle.vc_types.specs.declared.video.Component.{Component};
+ghost use Rattle.vc_types.specs.declared.video.Component.TheVariants.{Y, C1, C2};
 ghost use Rattle.vc_types.specs.Lifting.{line_of};
+ghost use Rattle.vc_types.specs.SliceCoefficients.{AreSliceCoefficients};
+ghost use Rattle.vc_types.specs.Slices.{all_coefficients, block_coefficients, coefficients_of, decoded_slice, in_range, is_large, slice_coefficients, slice_length};
 ghost use Rattle.vc_types.specs.Subbands.{area, place_in, padded_width, padded_height, slice_count, slice_coefficient_count};
 ghost use Rattle.vc_types.specs.TransformParameters.{parameters_of};
+ghost use Rattle.vc_slice.specs.Coded.{coded_of};
 ghost use Rattle.picture_build.specs.Cells.{cell_number};
-ghost use Rattle.picture_build.specs.Kept.{kept_at};
+ghost use Rattle.picture_build.specs.Kept.{kept_at, ChangesOnly, Fills};
 
 use crate::cells::CoefficientCells;
 use vc_geometry::{bands, padded, place_of, slice_len, slice_rect};
+use vc_slice::{CodedSlice, SliceCoeffs, TooWide, coded_slice, read_narrow};
 use vc_types::{Component, Plan, Rect};
 
-/// Puts a slice's coefficients of a component, in the slice's order, at their places in its cells.
-pub(crate) fn fill_component(
+/// Puts a slice's coefficients at their places in the cells of the three components.
+pub(crate) fn fill_slice(
+    plan: &Plan,
+    slice: u32,
+    coeffs: &SliceCoeffs,
+    numbers: &mut [i32],
+    y: &mut CoefficientCells,
+    c1: &mut CoefficientCells,
+    c2: &mut CoefficientCells,
+)
+    requires slice { slice < slice_count (parameters_of plan.now) }
+    requires whole { AreSliceCoefficients (parameters_of plan.now) slice coeffs.now }
+    requires room { (c : Component)
+        → slice_coefficient_count (parameters_of plan.now) c slice ≤ length numbers.old }
+    requires y { length y.old
+        ≡ padded_height (parameters_of plan.now) Y * padded_width (parameters_of plan.now) Y }
+    requires c1 { length c1.old
+        ≡ padded_height (parameters_of plan.now) C1 * padded_width (parameters_of plan.now) C1 }
+    requires c2 { length c2.old
+        ≡ padded_height (parameters_of plan.now) C2 * padded_width (parameters_of plan.now) C2 }
+    ensures y { Fills (parameters_of plan.now) Y slice coeffs.now.y y.old y.new }
+    ensures c1 { Fills (parameters_of plan.now) C1 slice coeffs.now.c1 c1.old c1.new }
+    ensures c2 { Fills (parameters_of plan.now) C2 slice coeffs.now.c2 c2.old c2.new }
+{
+    fill_component(plan, Component::Y, slice, coeffs, numbers, y);
+    fill_component(plan, Component::C1, slice, coeffs, numbers, c1);
+    fill_component(plan, Component::C2, slice, coeffs, numbers, c2);
+}
+
+fn fill_component(
     plan: &Plan,
     c: Component,
     slice: u32,
-    coeffs: &[i64],
+    coeffs: &SliceCoeffs,
     numbers: &mut [i32],
     cells: &mut CoefficientCells,
 )
     requires slice { slice < slice_count (parameters_of plan.now) }
-    requires count { length coeffs.now ≡ slice_coefficient_count (parameters_of plan.now) c slice }
-    requires small { (i : ℕ) → i < length coeffs.now → unsigned_abs (line_of coeffs.now i) < 2 ^ 60 }
-    requires room { length coeffs.now ≤ length numbers.old }
+    requires whole { AreSliceCoefficients (parameters_of plan.now) slice coeffs.now }
+    requires room { slice_coefficient_count (parameters_of plan.now) c slice ≤ length numbers.old }
     requires cells { length cells.old
         ≡ padded_height (parameters_of plan.now) c * padded_width (parameters_of plan.now) c }
-    ensures on { (i : ℕ) → i < length coeffs.now
-        → line_of cells.new (kept_at (parameters_of plan.now) c slice i) ≡ line_of coeffs.now i }
-    ensures off { (k : ℕ)
-        → ((i : ℕ) → i < length coeffs.now → k ≢ kept_at (parameters_of plan.now) c slice i)
-        → line_of cells.new k ≡ line_of cells.old k }
-    ensures length { length cells.new ≡ length cells.old }
-    ensures numbers { length numbers.new ≡ length numbers.old }
+    ensures cells { Fills (parameters_of plan.now) c slice (coefficients_of coeffs.now c)
+        cells.old cells.new }
 {
+    let coeffs = coeffs.component(c);
     if narrowed(coeffs, numbers) {
         place_numbers(plan, c, slice, numbers, cells);
     } else {
         place_wide(plan, c, slice, coeffs, cells);
     }
+}
+
+/// The parts of one whole slice.
+#[tactic(auto, unfolding(vc_types::specs::Slices::slice_coefficients, vc_types::specs::Slices::slice_length))]
+pub(crate) fn parts_of<'a>(plan: &Plan, bytes: &'a [u8]) -> CodedSlice<'a>
+    requires whole { slice_length plan.now.prefix plan.now.scaler bytes.now
+        ≡ Some (length bytes.now) }
+    ensures decoded { (n : ℕ) → slice_coefficients (parameters_of plan.now) n bytes.now
+        ≡ decoded_slice (parameters_of plan.now) n (coded_of result) }
+{
+    let Some((coded, _)) = coded_slice(plan.prefix, plan.scaler, bytes) else {
+        unreachable!();
+    };
+    coded
+}
+
+/// Reads the blocks of a slice to their coefficients' places in the cells of the three components. Where a coefficient
+/// may be too wide, only cells of this slice were changed.
+pub(crate) fn put_blocks(
+    plan: &Plan,
+    slice: u32,
+    coded: &CodedSlice<'_>,
+    numbers: &mut [i32],
+    y: &mut CoefficientCells,
+    c1: &mut CoefficientCells,
+    c2: &mut CoefficientCells,
+) -> Result<(), TooWide>
+    requires slice { slice < slice_count (parameters_of plan.now) }
+    requires index { coded.now.index ≤ 127 }
+    requires room { (c : Component)
+        → slice_coefficient_count (parameters_of plan.now) c slice + 8 ≤ length numbers.old }
+    requires y { length y.old
+        ≡ padded_height (parameters_of plan.now) Y * padded_width (parameters_of plan.now) Y }
+    requires c1 { length c1.old
+        ≡ padded_height (parameters_of plan.now) C1 * padded_width (parameters_of plan.now) C1 }
+    requires c2 { length c2.old
+        ≡ padded_height (parameters_of plan.now) C2 * padded_width (parameters_of plan.now) C2 }
+    ensures y { ChangesOnly (parameters_of plan.now) Y slice y.old y.new }
+    ensures c1 { ChangesOnly (parameters_of plan.now) C1 slice c1.old c1.new }
+    ensures c2 { ChangesOnly (parameters_of plan.now) C2 slice c2.old c2.new }
+    ensures filled { OnOk result (
+        Fills (parameters_of plan.now) Y slice
+        (all_coefficients (parameters_of plan.now) slice (coded_of coded.now)).y y.old y.new
+        × Fills (parameters_of plan.now) C1 slice
+        (all_coefficients (parameters_of plan.now) slice (coded_of coded.now)).c1 c1.old c1.new
+        × Fills (parameters_of plan.now) C2 slice
+        (all_coefficients (parameters_of plan.now) slice (coded_of coded.now)).c2 c2.old c2.new) }
+    ensures sound { OnOk result (in_range (all_coefficients (parameters_of plan.now) slice (coded_of coded.now))
+        ≡ Ok (all_coefficients (parameters_of plan.now) slice (coded_of coded.now))) }
+{
+    put_block(plan, Component::Y, slice, coded.index, coded.y, numbers, y)?;
+    put_block(
+        plan,
+        Component::C1,
+        slice,
+        coded.index,
+        coded.c1,
+        numbers,
+        c1,
+    )?;
+    put_block(
+        plan,
+        Component::C2,
+        slice,
+        coded.index,
+        coded.c2,
+        numbers,
+        c2,
+    )
+}
+
+fn put_block(
+    plan: &Plan,
+    c: Component,
+    slice: u32,
+    index: u8,
+    block: &[u8],
+    numbers: &mut [i32],
+    cells: &mut CoefficientCells,
+) -> Result<(), TooWide>
+    requires slice { slice < slice_count (parameters_of plan.now) }
+    requires index { index ≤ 127 }
+    requires room { slice_coefficient_count (parameters_of plan.now) c slice + 8 ≤ length numbers.old }
+    requires cells { length cells.old
+        ≡ padded_height (parameters_of plan.now) c * padded_width (parameters_of plan.now) c }
+    ensures only { ChangesOnly (parameters_of plan.now) c slice cells.old cells.new }
+    ensures filled { OnOk result (Fills (parameters_of plan.now) c slice
+        (block_coefficients (parameters_of plan.now) c slice index block.now) cells.old cells.new) }
+    ensures sound { OnOk result (list_any is_large
+        (block_coefficients (parameters_of plan.now) c slice index block.now) ≡ false) }
+{
+    read_narrow(plan, c, slice, index, block, numbers)?;
+    place_numbers(plan, c, slice, numbers, cells);
+    Ok(())
 }
 
 // Copies coefficients to 32 bits each, as long as they fit.

@@ -11,3 +11,4 @@ pub mod Loops
 pub mod Stopping
 pub mod Players
 pub mod Playable
+pub mod FirstSlices

@@ -1,6 +1,7 @@
 -- Slices that are read one after another.
 use Rattle.std.proofs.Common.{◌≡◌, ℕ, suc, ◌+◌, ◌-◌, ◌<◌, ◌≤◌, List, [], ◌∷◌, ◌++◌, take, drop, Some, None, Ok, Err, refl, sym, ap, ◌∙◌, arith, append_assoc, append-nil}
-use Rattle.std.specs.Prelude.{Result}
+use Rattle.std.specs.Prelude.{Result, Bool, true, false, IfOk}
+use Rattle.picture_build.specs.Kept.{PartPicture}
 use Rattle.std.specs.Result.{result_ok}
 use Rattle.picture_build.proofs.WholeSlices.{whole_slice}
 use Rattle.vc_types.specs.Fields.{and_then}
@@ -9,7 +10,7 @@ use Rattle.vc_types.specs.declared.refusal.Unsound.{Unsound}
 use Rattle.vc_types.specs.Slices.{Coefficients, slice_length, slice_coefficients}
 use Rattle.vc_types.proofs.WholeSlices.{slices_from-sound, slices_from-unsound, slices_from-short}
 use Rattle.vc_types.specs.TransformParameters.{Parameters}
-use Rattle.play_command.specs.Slices.{GaveSlice, slices_behind}
+use Rattle.play_command.specs.Slices.{GaveSlice, slices_behind, TookWhole, TookSlice}
 
 abbrev Read : Type 0
 Read = Result (List Coefficients × List ℕ) (Unit {0})
@@ -35,6 +36,17 @@ module _ (p : Parameters) where
       let own : slice_coefficients p i piece ≡ Ok s = sym decoded in
       (whole_slice p i s piece own, λ n. rw rest (slices_from-sound p i n len old s is (rw front at own)))
   gave-answer i len old piece new (Err why) is front rest decoded = λ n. slices_from-unsound p i n len old why is (rw front at (sym decoded))
+
+  -- a slice of which it is known what its bytes are
+  took : (i len : ℕ) (old piece new : List ℕ) (before after : PartPicture) (came : Bool) → slice_length p.prefix p.scaler old ≡ Some len → piece ≡ take len old → new ≡ drop len old
+      → TookWhole p i piece before after came → TookSlice p i old new before after came
+  took i len old piece new before after true is front rest whole = (whole.0, gave-answer i len old piece new (Ok whole.0) is front rest (sym whole.1), whole.2)
+  took i len old piece new before after false is front rest whole = gave-answer i len old piece new (Err whole.0) is front rest (sym whole.1)
+
+  pub took-if : {E : Type 0} (i len : ℕ) (old piece new : List ℕ) (before after : PartPicture) (result : Result Bool E) → slice_length p.prefix p.scaler old ≡ Some len → piece ≡ take len old → new ≡ drop len old
+      → IfOk result (TookWhole p i piece before after) → IfOk result (TookSlice p i old new before after)
+  took-if i len old piece new before after (Ok came) is front rest whole = took i len old piece new before after came is front rest whole
+  took-if i len old piece new before after (Err e) is front rest whole = whole
 
   -- a slice more, of n
   pub behind-slice : (i n : ℕ) (old new : List ℕ) (done : List Coefficients) (s : Coefficients) → i < n → GaveSlice p i old new (Some s)

@@ -2,17 +2,20 @@ ghost use Rattle.std.specs.Prelude.{◌≡◌, IfOk, IfSome};
 ghost use Rattle.std.specs.Option.{option_map};
 ghost use Rattle.vc_types.specs.Planes.{planes_in, decoded_planes};
 ghost use Rattle.vc_types.specs.SequenceHeader.{sequence_of, picture_shape};
+ghost use Rattle.vc_types.specs.TransformParameters.{parameters_of};
+ghost use Rattle.picture_build.specs.Kept.{no_slices};
 ghost use Rattle.play_command.specs.Shapes.{HaveShape};
+ghost use Rattle.play_command.specs.Slices.{IsBuilt};
 ghost use Rattle.play_command.specs.Stream.{picture_in};
 ghost use Rattle.play_command.specs.Views.{picture_of};
 
-use crate::slices::read_slices;
+use crate::slices::take_slices;
 use byteorder::{BigEndian, ByteOrder};
 use bytes::Bytes;
-use picture_build::build;
+use picture_build::PictureBuilder;
 use std::alloc::Global;
 use vc_params::read_params;
-use vc_types::{Header, NoMemory, Plane};
+use vc_types::{Header, NoMemory, Plan, Plane};
 
 // A picture's number has so many bytes.
 const NUMBER_BYTES: usize = 4;
@@ -24,11 +27,12 @@ pub(crate) struct Picture {
     pub(crate) planes: [Plane; 3],
 }
 
-/// The picture of a data unit's body; none where it is refused.
+/// The picture of a data unit's body; none where it is refused. A builder is kept from picture to picture.
 #[tactic(auto, unfolding(crate::specs::Stream::picture_in))]
 pub(crate) fn read_picture(
     alloc: Global,
     header: &Header,
+    kept: &mut Option<PictureBuilder>,
     body: Vec<u8>,
 ) -> Result<Option<Picture>, NoMemory>
     ensures value { IfOk result (λ picture.
@@ -44,7 +48,7 @@ pub(crate) fn read_picture(
         return Err(NoMemory);
     };
     bytes.advance(NUMBER_BYTES);
-    match read_planes(alloc, header, number, bytes)? {
+    match read_planes(alloc, header, kept, number, bytes)? {
         Some(planes) => Ok(Some(Picture { number, planes })),
         None => Ok(None),
     }
@@ -54,6 +58,7 @@ pub(crate) fn read_picture(
 fn read_planes(
     alloc: Global,
     header: &Header,
+    kept: &mut Option<PictureBuilder>,
     number: u32,
     bytes: Bytes,
 ) -> Result<Option<[Plane; 3]>, NoMemory>
@@ -67,8 +72,42 @@ fn read_planes(
     };
     let mut slices = bytes;
     slices.advance(used);
-    match read_slices(alloc, &plan, number, slices)? {
-        Some(slices) => Ok(Some(build(alloc, &plan, slices)?)),
-        None => Ok(None),
+    built(alloc, &plan, kept, number, slices)
+}
+
+// The planes of a picture's slices.
+fn built(
+    alloc: Global,
+    plan: &Plan,
+    kept: &mut Option<PictureBuilder>,
+    number: u32,
+    slices: Bytes,
+) -> Result<Option<[Plane; 3]>, NoMemory>
+    ensures value { IfOk result (IsBuilt (parameters_of plan.now) slices) }
+{
+    let mut builder = begun(alloc, *plan, kept.take())?;
+    let all = take_slices(alloc, plan, number, slices, &mut builder)?;
+    if !all {
+        return Ok(None);
     }
+    let planes = builder.planes()?;
+    *kept = Some(builder);
+    Ok(Some(planes))
+}
+
+// A builder that no slice of the plan came to: the one that was kept, if it is of the same plan.
+fn begun(
+    alloc: Global,
+    plan: Plan,
+    kept: Option<PictureBuilder>,
+) -> Result<PictureBuilder, NoMemory>
+    ensures value { IfOk result (λ builder. builder ≡ no_slices (parameters_of plan)) }
+{
+    if let Some(mut builder) = kept {
+        if builder.has_plan(&plan) {
+            builder.restart();
+            return Ok(builder);
+        }
+    }
+    PictureBuilder::new(alloc, plan)
 }

@@ -14,6 +14,7 @@ use crate::pairs::{is_pair, waits};
 use crate::picture::{Picture, read_picture};
 use field_pairs::weave;
 use frame_writer::{is_wide, write_frame};
+use picture_build::PictureBuilder;
 use std::alloc::Global;
 use vc_ports::Sink;
 use vc_types::{Header, NoMemory, Plane};
@@ -26,6 +27,8 @@ pub(crate) struct Playback {
     pub(crate) waiting: Option<Picture>,
     pub(crate) pictures: u64,
     pub(crate) frames: u64,
+    // The memory that the last picture was built in.
+    builder: Option<PictureBuilder>,
 }
 
 impl Playback {
@@ -39,6 +42,7 @@ impl Playback {
             waiting: None,
             pictures: 0,
             frames: 0,
+            builder: None,
         }
     }
 
@@ -59,7 +63,7 @@ impl Playback {
             × (self.new.frames ≤ self.new.pictures)) }
         ensures shape { OnOk result (HasShape (playback_state self.new)) }
     {
-        let Some(picture) = read_picture(alloc, &self.header, body)? else {
+        let Some(picture) = read_picture(alloc, &self.header, &mut self.builder, body)? else {
             return Err(TakeFault::Refused);
         };
         let frame = self.completed(alloc, picture)?;

@@ -12,6 +12,8 @@ use Rattle.std.proofs.lemmas.Slice.Eq.{bytes_eq-Decides}
 use Rattle.link_model.proofs.PlacesKept.{puts_apart, puts_own, claims_apart}
 use Rattle.link_model.proofs.PlacesKept.{claims_own, completes_apart, completes_own, frees_apart}
 use Rattle.link_model.proofs.PlacesKept.{frees_own, unused_apart, unused_own}
+use Rattle.link_model.proofs.Positions.{position_none}
+use Rattle.link_model.proofs.SameJobs.{same_job}
 use Rattle.link_model.specs.Feeding.{is_same_job}
 use Rattle.link_model.specs.Places.{Job, Content, Nothing, Offered, Claimed, Decoded, JobPlace}
 use Rattle.link_model.specs.Places.{place_at, is_free, is_in, has_slice, may_put, stands_in}
@@ -30,24 +32,6 @@ use Rattle.vc_types.specs.SameValues.{same_parameters}
 use Rattle.vc_types.specs.Slices.{Coefficients}
 use Rattle.vc_types.specs.declared.refusal.Unsound.{Unsound}
 use Rattle.vc_types.proofs.SameValues.{parameters_exactly}
-
--- ---- positions
-
-any_short : {X : Type 0} (p : X → Bool) (xs : List X) → list_any p xs ≡ true → position_or_len p xs < length xs
-any_short p [] e = absurd (false≢true e)
-any_short {X} p (x ∷ xs) e = by_here (p x) e (any_short p xs)
-  where
-    by_here : (b : Bool) → b || list_any p xs ≡ true → (list_any p xs ≡ true → position_or_len p xs < length xs) → cond (not b) (1 + position_or_len p xs) 0 < suc (length xs)
-    by_here true e rest = omega arith
-    by_here false e rest = let short = rest e in omega arith
-
-position_none : {X : Type 0} (p : X → Bool) (xs : List X) → position p xs ≡ None → list_any p xs ≡ false
-position_none p xs e = by_any (list_any p xs) refl
-  where
-    by_any : (b : Bool) → list_any p xs ≡ b → b ≡ false
-    by_any false is = refl
-    by_any true is = absurd (none-some (position_or_len p xs)
-        (sym e ∙ ap (λ (b : Bool). cond b (Some (position_or_len p xs)) None) (lt-ltb (position_or_len p xs) (length xs) (any_short p xs is))))
 
 -- ---- put
 
@@ -135,17 +119,6 @@ err_ok h = cc
 
 -- the job of what was decoded is the one that stands there
 module _ (p : JobPlace) (given : ℕ) (done : SliceDone) where
-  same_job : (a b : Job) → is_same_job a b ≡ true → a ≡ b
-  same_job a b e =
-      let first = and_parts (same_parameters a.plan b.plan && a.number == b.number && a.index == b.index) (bytes_eq a.bytes b.bytes) e in
-      let second = and_parts (same_parameters a.plan b.plan && a.number == b.number) (a.index == b.index) first.0 in
-      let third = and_parts (same_parameters a.plan b.plan) (a.number == b.number) second.0 in
-      let plan = (parameters_exactly a.plan b.plan).0 third.0 in
-      let number = eqb-true a.number b.number third.1 in
-      let index = eqb-true a.index b.index second.1 in
-      let bytes = (bytes_eq-Decides a.bytes b.bytes).0 first.1 in
-      λ i. record { plan = plan i; number = number i; index = index i; bytes = bytes i }
-
   own_decoding : (job : Job) → job_of done.job ≡ job → Decoded (done_of done) ≡ Decoded (own_answer job)
   own_decoding job same = ap (λ (answer : Result Coefficients Unsound). Decoded (record { job = job_of done.job; answer = answer })) done.decoded ∙ ap (λ (j : Job). Decoded (own_answer j)) same
 

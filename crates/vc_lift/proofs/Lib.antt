@@ -1,3 +1,8 @@
+pub mod NarrowGrowth
+pub mod InsideRuns
+pub mod Betweens
+pub mod NarrowSums
+pub mod HalfPlaces
 pub mod WeightedSums
 pub mod CountedSteps
 pub mod LineGrowth

@@ -65,7 +65,7 @@ change_rises g d a v m some large shifted sum =
     le_of_mul-le-mul_right scaled some
 
 -- a sample of the changed parity after the step
-lifted_at : (s : CountedStep) (half : ℕ) (x : ℕ → ℤ) (n : ℕ) → s.parity < 2 → n < half → lift s half x (2 * n + s.parity) ≡ changed_by s.adds (x (2 * n + s.parity)) (change_at s half x n)
+pub lifted_at : (s : CountedStep) (half : ℕ) (x : ℕ → ℤ) (n : ℕ) → s.parity < 2 → n < half → lift s half x (2 * n + s.parity) ≡ changed_by s.adds (x (2 * n + s.parity)) (change_at s half x n)
 unfolding lift
 lifted_at s half x n h k =
     let below : (2 * n + s.parity) / 2 ≡ n = omega arith in

@@ -13,7 +13,7 @@ module _ (half : ℕ) (some : 0 < half) where
   same_change s x y e n =
       ap (λ z. int_shr (z +ℤ pos (half_of s.shift)) s.shift) (ap (sum_below (length s.taps)) (fun_ext (λ j. ap (λ z. slice_index_or s.taps j (pos 0) *ℤ z) (e (place_met s half n j) (omega arith)))))
 
-  same_lift : (s : CountedStep) (x y : ℕ → ℤ) → ((k : ℕ) → k < 2 * half → x k ≡ y k) → (k : ℕ) → k < 2 * half → lift s half x k ≡ lift s half y k
+  pub same_lift : (s : CountedStep) (x y : ℕ → ℤ) → ((k : ℕ) → k < 2 * half → x k ≡ y k) → (k : ℕ) → k < 2 * half → lift s half x k ≡ lift s half y k
   unfolding lift
   same_lift s x y e k h =
       ap (λ z. if nat_lt (k / 2) half && (k % 2 == s.parity) then changed_by s.adds z (change_at s half x (k / 2)) else z) (e k h)

@@ -1,46 +1,87 @@
--- Weighted sums of 128-bit numbers fit, and are what is read back.
+-- Weighted sums of numbers of a width fit, and are what is read back.
 use Rattle.std.proofs.Common.{◌≡◌, ℕ, ◌+◌, ◌*◌, ◌^◌, ◌<◌, ◌≤◌, ◌/◌, ◌%◌, List, length, take, get_or, ℤ, pos, negsuc, ◌+ℤ◌, ◌*ℤ◌, arith, ap, ◌∙◌, unsigned_abs, FitsSigned, to_z, of_z, Bool}
-use Rattle.std.specs.Int.{w128, int_shr}
+use Rattle.std.specs.Int.{w32, w128, int_shr}
 use Rattle.std.specs.List.{sum_by}
+use mir.Syntax.{Width}
+use mir.Val.{hbits}
 use Rattle.std.proofs.lemmas.Int.{to_z-of_z, fits_signed_from_abs}
 use Rattle.std.proofs.lemmas.Nat.{one_shl}
 use Rattle.std.proofs.lemmas.List.Sums.{sum_by_more, sum_by-take-le, get_or-le-sum_by}
-use Rattle.std.proofs.Math.Nat.{div-le_self}
+use Rattle.std.proofs.Math.Nat.{div-le_self, mul-le-mul_right}
 use Rattle.std.proofs.Math.Pow.{pow_mono}
 use Rattle.vc_types.specs.Lifting.{changed_by}
 use Rattle.vc_lift.proofs.WeightedSums.{abs-add, abs-mul}
 
 -- a number that went to its bits and is read again
+read : (w : Width) (x : ℤ) → unsigned_abs x < 2 ^ hbits w → to_z w (of_z w x) ≡ x
+read w x h = to_z-of_z w x (fits_signed_from_abs w x h)
+
 pub read_back : (x : ℤ) → unsigned_abs x < 2 ^ 127 → to_z w128 (of_z w128 x) ≡ x
-read_back x h = to_z-of_z w128 x (fits_signed_from_abs w128 x h)
+read_back x h = read w128 x h
 
--- a tap at place j of the list meets a sample x, with the sum so far
-module _ (taps : List ℤ) (j : ℕ) (x sum : ℤ) (within : j < length taps) (light : sum_by unsigned_abs taps < 2 ^ 14) (small : unsigned_abs x ≤ 2 ^ 112) (bound : unsigned_abs sum ≤ sum_by unsigned_abs (take j taps) * 2 ^ 112) where
-  tap_light : unsigned_abs (get_or taps j (pos 0)) < 2 ^ 14
-  tap_light = omega (arith, get_or-le-sum_by unsigned_abs taps j (pos 0) within)
+-- a tap that is read from 32 bits
+pub tap_read : (taps : List ℤ) (j : ℕ) (tap : ℤ) → tap ≡ to_z w32 (of_z w32 (get_or taps j (pos 0))) → j < length taps → sum_by unsigned_abs taps < 2 ^ 14 → tap ≡ get_or taps j (pos 0)
+tap_read taps j tap is within light = is ∙ read w32 (get_or taps j (pos 0)) (omega (arith, get_or-le-sum_by unsigned_abs taps j (pos 0) within))
 
-  term_bound : unsigned_abs (get_or taps j (pos 0) *ℤ x) ≤ unsigned_abs (get_or taps j (pos 0)) * 2 ^ 112
-  term_bound = abs-mul (get_or taps j (pos 0)) x (2 ^ 112) (omega arith)
+pub narrow_taps : {n : ℕ} → n < 2 ^ 14 → n < 2 ^ 31
+narrow_taps h = omega arith
 
-  pub sum_bound : unsigned_abs (sum +ℤ get_or taps j (pos 0) *ℤ x) ≤ sum_by unsigned_abs (take (j + 1) taps) * 2 ^ 112
-  sum_bound = omega (arith, sum_by_more unsigned_abs taps j (pos 0) within, term_bound, abs-add sum (get_or taps j (pos 0) *ℤ x))
+pub narrow_room : (n m r : ℕ) → n * m + r < 2 ^ 31 → n * m < 2 ^ 31
+narrow_room n m r h = omega arith
 
-  part_bound : sum_by unsigned_abs (take (j + 1) taps) < 2 ^ 14
-  part_bound = omega (arith, sum_by-take-le unsigned_abs taps (j + 1))
+-- a sample that is read
+pub sample_fits : {x : ℤ} → unsigned_abs x ≤ 2 ^ 112 → FitsSigned w128 x
+sample_fits {x = x} h = fits_signed_from_abs w128 x (omega arith)
 
-  pub term_fits : FitsSigned w128 (to_z w128 (of_z w128 (get_or taps j (pos 0))) *ℤ to_z w128 (of_z w128 x))
-  term_fits = rw (read_back (get_or taps j (pos 0)) (omega (arith, tap_light)), read_back x (omega arith))
-      (fits_signed_from_abs w128 _ (omega (arith, term_bound, tap_light)))
+-- taps that the code can take fit 128 bits, with samples below 2 ^ 112
+pub light_fits : {n : ℕ} → n < 2 ^ 14 → n < 2 ^ 127
+light_fits h = omega arith
 
-  term_read : to_z w128 (of_z w128 (to_z w128 (of_z w128 (get_or taps j (pos 0))) *ℤ to_z w128 (of_z w128 x))) ≡ get_or taps j (pos 0) *ℤ x
-  term_read = rw (read_back (get_or taps j (pos 0)) (omega (arith, tap_light)), read_back x (omega arith))
-      (read_back _ (omega (arith, term_bound, tap_light)))
+pub light_room : {n : ℕ} → n < 2 ^ 14 → n * 2 ^ 112 < 2 ^ 127
+light_room h = omega arith
 
-  pub sum_fits : FitsSigned w128 (sum +ℤ to_z w128 (of_z w128 (to_z w128 (of_z w128 (get_or taps j (pos 0))) *ℤ to_z w128 (of_z w128 x))))
-  sum_fits = rw term_read (fits_signed_from_abs w128 _ (omega (arith, sum_bound, part_bound)))
+tap_more : (taps : List ℤ) (m j : ℕ) (tap : ℤ) → tap ≡ get_or taps j (pos 0) → j < length taps → sum_by unsigned_abs (take (j + 1) taps) * m ≡ sum_by unsigned_abs (take j taps) * m + unsigned_abs tap * m
+tap_more taps m j tap is within = ap (λ n. n * m) (sum_by_more unsigned_abs taps j (pos 0) within) ∙ rw (← is) (omega arith)
 
-  pub sum_read : to_z w128 (of_z w128 (sum +ℤ to_z w128 (of_z w128 (to_z w128 (of_z w128 (get_or taps j (pos 0))) *ℤ to_z w128 (of_z w128 x))))) ≡ sum +ℤ get_or taps j (pos 0) *ℤ x
-  sum_read = rw term_read (read_back _ (omega (arith, sum_bound, part_bound)))
+-- a product more
+pub sum_more : (taps : List ℤ) (m j : ℕ) (tap x sum : ℤ) → tap ≡ get_or taps j (pos 0) → j < length taps → unsigned_abs x ≤ m → unsigned_abs sum ≤ sum_by unsigned_abs (take j taps) * m → unsigned_abs (sum +ℤ tap *ℤ x) ≤ sum_by unsigned_abs (take (j + 1) taps) * m
+sum_more taps m j tap x sum is within small bound = omega (arith, tap_more taps m j tap is within, abs-mul tap x m small, abs-add sum (tap *ℤ x), bound)
+
+-- the whole sum
+pub whole_sum : (taps : List ℤ) (j m r limit : ℕ) (sum : ℤ) → sum_by unsigned_abs taps * m + r < limit → unsigned_abs sum ≤ sum_by unsigned_abs (take j taps) * m → unsigned_abs sum + r < limit
+whole_sum taps j m r limit sum room bound = omega (arith, mul-le-mul_right m (sum_by-take-le unsigned_abs taps j), room, bound)
+
+-- a tap at place j of the list meets a sample x of magnitude at most m, with the sum so far
+module _ (w : Width) (taps : List ℤ) (m j : ℕ) (tap x sum : ℤ) (is : tap ≡ get_or taps j (pos 0)) (within : j < length taps) (light : sum_by unsigned_abs taps < 2 ^ hbits w) (own : FitsSigned w x) (room : sum_by unsigned_abs taps * m < 2 ^ hbits w) (small : unsigned_abs x ≤ m) (bound : unsigned_abs sum ≤ sum_by unsigned_abs (take j taps) * m) where
+  tap_light : unsigned_abs tap < 2 ^ hbits w
+  tap_light = rw is (omega (arith, get_or-le-sum_by unsigned_abs taps j (pos 0) within))
+
+  term_bound : unsigned_abs (tap *ℤ x) ≤ unsigned_abs tap * m
+  term_bound = abs-mul tap x m small
+
+  grown : sum_by unsigned_abs (take (j + 1) taps) * m ≡ sum_by unsigned_abs (take j taps) * m + unsigned_abs tap * m
+  grown = tap_more taps m j tap is within
+
+  all : sum_by unsigned_abs (take (j + 1) taps) * m ≤ sum_by unsigned_abs taps * m
+  all = mul-le-mul_right m (sum_by-take-le unsigned_abs taps (j + 1))
+
+  term_small : unsigned_abs (tap *ℤ x) < 2 ^ hbits w
+  term_small = omega (arith, grown, term_bound, all, room)
+
+  sum_small : unsigned_abs (sum +ℤ tap *ℤ x) < 2 ^ hbits w
+  sum_small = omega (arith, sum_more taps m j tap x sum is within small bound, all, room)
+
+  pub term_fits : FitsSigned w (to_z w (of_z w tap) *ℤ to_z w (of_z w x))
+  term_fits = rw (read w tap tap_light, to_z-of_z w x own) (fits_signed_from_abs w _ term_small)
+
+  term_read : to_z w (of_z w (to_z w (of_z w tap) *ℤ to_z w (of_z w x))) ≡ tap *ℤ x
+  term_read = rw (read w tap tap_light, to_z-of_z w x own) (read w _ term_small)
+
+  pub sum_fits : FitsSigned w (sum +ℤ to_z w (of_z w (to_z w (of_z w tap) *ℤ to_z w (of_z w x))))
+  sum_fits = rw term_read (fits_signed_from_abs w _ sum_small)
+
+  pub sum_read : to_z w (of_z w (sum +ℤ to_z w (of_z w (to_z w (of_z w tap) *ℤ to_z w (of_z w x))))) ≡ sum +ℤ tap *ℤ x
+  sum_read = rw term_read (read w _ sum_small)
 
 shr_bound : (z : ℤ) (k : ℕ) (m : ℕ) → unsigned_abs z < m → unsigned_abs (int_shr z k) ≤ m
 shr_bound (pos n) k m h = omega (arith, div-le_self n (2 ^ k))

@@ -1,5 +1,5 @@
 -- Lifting steps over samples that are counted in each parity: the form in which the code makes the standard's steps.
-use Rattle.std.specs.Prelude.{ℕ, zero, suc, ◌+◌, ◌-◌, ◌*◌, ◌/◌, ◌%◌, Bool, true, false, ◌&&◌, not, nat_lt, ◌==◌, if◌then◌else◌, List, length, map, reverse, fold, slice_index_or, ℤ, pos, negsuc, ◌+ℤ◌, ◌-ℤ◌, ◌*ℤ◌, unsigned_abs, min}
+use Rattle.std.specs.Prelude.{ℕ, zero, suc, ◌+◌, ◌-◌, ◌*◌, ◌/◌, ◌%◌, Bool, true, false, ◌&&◌, not, nat_lt, nat_le, ◌==◌, if◌then◌else◌, List, length, map, reverse, fold, slice_index_or, ℤ, pos, negsuc, ◌+ℤ◌, ◌-ℤ◌, ◌*ℤ◌, unsigned_abs, min}
 use Rattle.std.specs.Int.{int_shr}
 use Rattle.vc_types.specs.Lifting.{Line, Parity, even, odd, offset_of, LiftingStep, half_of, changed_by}
 
@@ -59,6 +59,13 @@ change_at s half x n = int_shr (sum_met s half x n +ℤ pos (half_of s.shift)) s
 unfoldable pub lift : CountedStep → ℕ → Line → Line
 lift s half x k =
     if nat_lt (k / 2) half && (k % 2 == s.parity)
+    then changed_by s.adds (x k) (change_at s half x (k / 2))
+    else x k
+
+-- the same on its samples number lo to hi - 1 alone
+unfoldable pub lift_between : CountedStep → ℕ → ℕ → ℕ → Line → Line
+lift_between s half lo hi x k =
+    if (nat_le lo (k / 2) && nat_lt (k / 2) hi) && (k % 2 == s.parity)
     then changed_by s.adds (x k) (change_at s half x (k / 2))
     else x k
 

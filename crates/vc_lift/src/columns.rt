@@ -25,7 +25,7 @@ fn weigh_inside(cells: &[i128], width: usize, step: &Step, half: usize, n: usize
     let first = (2 * (n - step.back) + (1 - step.parity)) * width + x;
     let mut sum: i128 = 0;
     for j in 0..step.taps.len() {
-        sum += step.taps[j] * cells[first + 2 * j * width];
+        sum += i128::from(step.taps[j]) * cells[first + 2 * j * width];
     }
     sum
 }
@@ -44,7 +44,7 @@ fn weigh_edge(cells: &[i128], width: usize, step: &Step, half: usize, n: usize, 
     let mut sum: i128 = 0;
     for j in 0..step.taps.len() {
         let met = (n + j).saturating_sub(step.back).min(half - 1);
-        sum += step.taps[j] * cells[(2 * met + (1 - step.parity)) * width + x];
+        sum += i128::from(step.taps[j]) * cells[(2 * met + (1 - step.parity)) * width + x];
     }
     sum
 }

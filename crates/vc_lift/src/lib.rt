@@ -2,12 +2,18 @@
 #![tactic(auto)]
 
 mod columns;
+mod halves;
 mod laws;
 mod line;
+mod narrow;
+mod ranges;
 mod step;
 #[cfg(test)]
 mod tests;
 
 pub use columns::{analyse_columns, synth_columns};
+pub use halves::Halves;
 pub use laws::{lines_grow_little, lines_stand_alone, synthesis_undoes_analysis};
 pub use line::{analyse, synth};
+pub use narrow::synth_narrow;
+pub use ranges::narrow_bound;

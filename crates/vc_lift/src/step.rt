@@ -19,7 +19,7 @@ const MINUS: bool = false;
 /// A row of the standard's table of steps (ST 2042-1, wavelet filters): which samples it changes, whether the change is
 /// added, the taps, S and D.
 #[derive(Clone, Copy)]
-pub(crate) struct Row(pub Parity, pub bool, pub &'static [i128], pub u32, pub i8);
+pub(crate) struct Row(pub Parity, pub bool, pub &'static [i32], pub u32, pub i8);
 
 static DESLAURIERS_DUBUC_9_7: [Row; 2] = [
     Row(Even, MINUS, &[1, 1], 2, 0),
@@ -72,7 +72,7 @@ pub(crate) fn steps(wavelet: u8) -> &'static [Row]
 pub(crate) struct Step<'a> {
     pub parity: usize,
     pub adds: bool,
-    pub taps: &'a [i128],
+    pub taps: &'a [i32],
     pub back: usize,
     pub shift: u32,
 }

@@ -1,9 +1,11 @@
-ghost use Rattle.std.specs.Prelude.{◌≡◌, ◌%◌, ◌^◌, ◌<◌, ◌≤◌, All, IsTrue, length, unsigned_abs};
+ghost use Rattle.std.specs.Prelude.{◌≡◌, ◌+◌, ◌*◌, ◌%◌, ◌^◌, ◌<◌, ◌≤◌, ℕ, All, IsTrue, length, unsigned_abs};
+ghost use Rattle.vc_types.specs.Lifting.{line_of};
 
 use crate::{
-    analyse, analyse_columns, lines_grow_little, lines_stand_alone, synth, synth_columns,
-    synthesis_undoes_analysis,
+    Halves, analyse, analyse_columns, lines_grow_little, lines_stand_alone, narrow_bound, synth,
+    synth_columns, synth_narrow, synthesis_undoes_analysis,
 };
+use std::alloc::Global;
 use std::test::Fail;
 
 // Short lines, and what each wavelet synthesises of them, as `bench/reference line` prints it. It was written from the
@@ -120,4 +122,134 @@ fn laws_can_be_cited() {
     synthesis_undoes_analysis(6);
     lines_grow_little(6);
     lines_stand_alone(6);
+}
+
+// The greatest bounds from which a line stays in 32 bits, and the bounds that it has then, by the standard's steps.
+static GREATEST: [(u64, u64); 7] = [
+    (71_582_786, 205_800_512),
+    (715_827_881, 1_789_569_705),
+    (66_076_418, 200_294_144),
+    (858_993_458, 2_147_483_647),
+    (858_993_458, 2_147_483_647),
+    (2_367_350, 10_755_956),
+    (70_438, 829_429),
+];
+
+#[test]
+fn bounds_end_where_32_bits_do(rt: HostRuntime) {
+    for wavelet in 0..7 {
+        let (most, after) = GREATEST[wavelet as usize];
+        assert_eq!(rt;
+            narrow_bound(wavelet, most),
+            Some(after),
+            "wavelet {wavelet}"
+        );
+        assert_eq!(rt; narrow_bound(wavelet, most + 1), None, "wavelet {wavelet}");
+    }
+}
+
+fn are_within(cells: &[i32], most: u64) -> bool
+    ensures { IsTrue result → (i : ℕ) → unsigned_abs (line_of cells.now i) ≤ most }
+{
+    for z in cells {
+        if u64::from(z.unsigned_abs()) > most {
+            return false;
+        }
+    }
+    true
+}
+
+// Synthesises a line in 32 bits, if it is one and its samples are within a bound that allows it.
+fn narrow_line(wavelet: u8, line: &mut [i32], most: u64) -> bool
+    requires wavelet { wavelet ≤ 6 }
+    requires most { most < 2 ^ 31 }
+{
+    let half = line.len() / 2;
+    if half == 0 || half >= 1000 || line.len() % 2 != 0 || !are_within(line, most) {
+        return false;
+    }
+    let Some(_) = narrow_bound(wavelet, most) else {
+        return false;
+    };
+    let halves = Halves {
+        even: 0,
+        odd: 1,
+        pitch: 2,
+        half,
+    };
+    synth_narrow(wavelet, line, &halves, 1);
+    true
+}
+
+fn are_same(narrow: &[i32], wide: &[i128]) -> bool {
+    if narrow.len() != wide.len() {
+        return false;
+    }
+    for i in 0..narrow.len() {
+        if i128::from(narrow[i]) != wide[i] {
+            return false;
+        }
+    }
+    true
+}
+
+fn narrowed(alloc: Global, line: &[i128]) -> Result<Vec<i32>, Fail> {
+    let mut narrow = Vec::new(alloc);
+    for z in line {
+        let Ok(sample) = i32::try_from(*z) else {
+            return Err(Fail::from("too large"));
+        };
+        narrow.push(sample)?;
+    }
+    Ok(narrow)
+}
+
+#[test]
+fn lines_in_32_bits_have_the_standards_samples(rt: HostRuntime) -> Result<(), Fail> {
+    for wavelet in 0..7 {
+        for n in 0..4 {
+            let mut line = narrowed(rt.alloc(), LINES[n])?;
+            assert!(rt; narrow_line(wavelet, line.as_mut_slice(), 4096));
+            let wanted = SYNTHESISED[wavelet as usize][n];
+            assert!(rt; are_same(line.as_slice(), wanted), "wavelet {wavelet}");
+        }
+    }
+    Ok(())
+}
+
+// Sixteen samples as large as they may be, whose signs are the digits of a number.
+fn extremes(alloc: Global, most: i128, signs: u32) -> Result<Vec<i128>, Fail>
+    requires { unsigned_abs most < 2 ^ 31 }
+{
+    let mut line = Vec::new(alloc);
+    let mut left = signs;
+    for _ in 0..16 {
+        let sample = if left % 2 == 0 { most } else { -most };
+        line.push(sample)?;
+        left /= 2;
+    }
+    Ok(line)
+}
+
+// Both widths make the same of the largest samples that 32 bits may have.
+#[test]
+fn widths_agree_at_the_limit(rt: HostRuntime) -> Result<(), Fail> {
+    for wavelet in 0..7 {
+        let (most, _) = GREATEST[wavelet as usize];
+        if most >= 1 << 31 {
+            return Err(Fail::from("no such bound"));
+        }
+        for signs in [0u32, 0x5555, 0x6666, 0x9696, 0x00FF, 0xA5C3] {
+            let mut wide = extremes(rt.alloc(), i128::from(most), signs)?;
+            let mut narrow = narrowed(rt.alloc(), wide.as_slice())?;
+            assert!(rt; narrow_line(wavelet, narrow.as_mut_slice(), most));
+            assert!(rt; is_line(wide.as_slice()));
+            synth(wavelet, wide.as_mut_slice());
+            assert!(rt;
+                are_same(narrow.as_slice(), wide.as_slice()),
+                "wavelet {wavelet}"
+            );
+        }
+    }
+    Ok(())
 }

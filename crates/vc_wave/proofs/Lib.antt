@@ -8,3 +8,7 @@ pub mod PlaneSteps
 pub mod Copies
 pub mod Grids
 pub mod Fills
+mod NarrowRows
+mod NarrowColumns
+pub mod LayoutLaws
+pub mod NarrowLevels

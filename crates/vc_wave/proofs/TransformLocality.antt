@@ -21,7 +21,7 @@ abbrev pub Agree : ℕ → ℕ → Cells → Cells → Type 0
 Agree width height c d = (x y : ℕ) → x < width → y < height → c x y ≡ d x y
 
 module _ (f : Line → Line) (n m width height : ℕ) (past : LeavesPast m f) (reads : ReadsBelow m f) (c d : Cells) (same : Agree width height c d) where
-  columns_agree : n ≤ width → m ≤ height → Agree width height (on_columns f n c) (on_columns f n d)
+  pub columns_agree : n ≤ width → m ≤ height → Agree width height (on_columns f n c) (on_columns f n d)
   columns_agree wide high x y h lt = elim (cases_lt x n) [
     | inl inside ↦ column_in f n c x y inside ∙ column x y h lt ∙ sym (column_in f n d x y inside)
     | inr outside ↦ column_out f n c x y outside ∙ same x y h lt ∙ sym (column_out f n d x y outside)
@@ -33,7 +33,7 @@ module _ (f : Line → Line) (n m width height : ℕ) (past : LeavesPast m f) (r
         | inr outside ↦ past (λ k. c x k) y outside ∙ same x y h lt ∙ sym (past (λ k. d x k) y outside)
       ]
 
-  rows_agree : m ≤ width → n ≤ height → Agree width height (on_rows f n c) (on_rows f n d)
+  pub rows_agree : m ≤ width → n ≤ height → Agree width height (on_rows f n c) (on_rows f n d)
   rows_agree wide high x y h lt = elim (cases_lt y n) [
     | inl inside ↦ row_in f n c x y inside ∙ row x y h lt ∙ sym (row_in f n d x y inside)
     | inr outside ↦ row_out f n c x y outside ∙ same x y h lt ∙ sym (row_out f n d x y outside)
@@ -79,7 +79,7 @@ side_twice w d n h = omega (arith, ap (λ p. w * p) (pow-suc 2 d))
 side_once : (w d n : ℕ) → w * 2 ^ suc d ≤ n → w * 2 ^ d ≤ n
 side_once w d n h = omega (arith, side_twice w d n h)
 
-levels_across_agree : (wavelet e w h width height : ℕ) (a b : Cells) → w * 2 ^ e ≤ width → h ≤ height → Agree width height a b → Agree width height (levels_across wavelet e w h a) (levels_across wavelet e w h b)
+pub levels_across_agree : (wavelet e w h width height : ℕ) (a b : Cells) → w * 2 ^ e ≤ width → h ≤ height → Agree width height a b → Agree width height (levels_across wavelet e w h a) (levels_across wavelet e w h b)
 unfolding levels_across
 levels_across_agree wavelet zero w h width height a b wide high same = same
 levels_across_agree wavelet (suc e) w h width height a b wide high same =

@@ -86,16 +86,16 @@ unfolding on_samples
 not_changed f n l = refl
 
 -- on columns nothing is shifted
-remade_merged : (wavelet half : ℕ) → merged wavelet half ≡ remade Synthesis wavelet false half
+pub remade_merged : (wavelet half : ℕ) → merged wavelet half ≡ remade Synthesis wavelet false half
 remade_merged wavelet half = fun_ext (λ l. sym (not_changed halved (2 * half) (merged wavelet half l)))
 
 remade_parted : (wavelet half : ℕ) → parted wavelet half ≡ remade Analysis wavelet false half
 remade_parted wavelet half = fun_ext (λ l. ap (parted wavelet half) (sym (not_changed doubled (2 * half) l)))
 
-synthesis_leaves : (wavelet half : ℕ) → LeavesPast (2 * half) (synthesised wavelet (2 * half))
+pub synthesis_leaves : (wavelet half : ℕ) → LeavesPast (2 * half) (synthesised wavelet (2 * half))
 synthesis_leaves wavelet half l k h = synthesis_past wavelet half l k h
 
-synthesis_reads : (wavelet half : ℕ) → ReadsBelow (2 * half) (synthesised wavelet (2 * half))
+pub synthesis_reads : (wavelet half : ℕ) → ReadsBelow (2 * half) (synthesised wavelet (2 * half))
 synthesis_reads wavelet half l m e = synthesis_is_local wavelet (2 * half) l m (twice_even half) e
 
 -- ---- four quarters, by direction

@@ -2,3 +2,5 @@ pub mod Planes
 pub mod Lines
 pub mod Remade
 pub mod Samples
+pub mod Layout
+pub mod NarrowBounds

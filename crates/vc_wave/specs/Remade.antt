@@ -1,8 +1,8 @@
 -- What either direction makes of a line.
 use Rattle.std.specs.Prelude.{ℕ, ◌*◌, Bool, true, false, ◌&&◌, nat_lt, if◌then◌else◌, ℤ}
 use Rattle.vc_types.specs.Lifting.{Line}
-use Rattle.vc_types.specs.Transforms.{half_place, source_of, halved, doubled}
-use Rattle.vc_types.specs.Wavelets.{synthesised, analysed}
+use Rattle.vc_types.specs.Transforms.{Cells, half_place, source_of, halved, doubled, on_columns, on_rows}
+use Rattle.vc_types.specs.Wavelets.{is_shifted, synthesised, analysed}
 use Rattle.vc_wave.specs.declared.pass.Direction.{Direction}
 use Rattle.vc_wave.specs.declared.pass.Direction.TheVariants.{Synthesis, Analysis}
 
@@ -40,3 +40,9 @@ remade Synthesis wavelet shifted half l =
     on_samples halved shifted (2 * half) (merged wavelet half l)
 remade Analysis wavelet shifted half l =
     parted wavelet half (on_samples doubled shifted (2 * half) l)
+
+-- a level both ways whose rows, the low and the high ones, stand in turn already
+unfoldable pub level_in_turn : ℕ → ℕ → ℕ → ℕ → Cells → Cells
+level_in_turn vertical horizontal w h cells =
+    on_rows (remade Synthesis horizontal (is_shifted horizontal) w) (2 * h)
+    (on_columns (synthesised vertical (2 * h)) (2 * w) cells)

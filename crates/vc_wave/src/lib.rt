@@ -6,6 +6,7 @@ mod analysis;
 mod laws;
 mod level;
 mod lines;
+mod narrow;
 mod pass;
 mod shift;
 mod sides;
@@ -14,5 +15,6 @@ mod synthesis;
 mod tests;
 
 pub use analysis::forward;
+pub use narrow::inverse_narrow;
 pub use laws::inverse_undoes_forward;
 pub use synthesis::inverse;

@@ -7,6 +7,12 @@ use Rattle.play_command.proofs.Players.{summary_is}
 use Rattle.play_command.proofs.Stopping.{none_of, input_failed, past_limit, plays_whole, plays_part}
 use Rattle.play_command.proofs.command.play.Goals as goal
 
+-- the units ended
+pub returns-in-Ended : goal.returns-in-Ended
+returns-in-Ended g c =
+    let played = rw c.in-Ended.is at c.in_ok-play_units.ensures.ended in
+    plays_whole c.args.packets _ _ played.so_far c.summary.result played.units (c.summary.ensures ∙ ap summary_of played.keeps ∙ summary_is played.so_far.stream)
+
 -- one byte more
 pub returns-in-Whole : goal.returns-in-Whole
 returns-in-Whole g c =

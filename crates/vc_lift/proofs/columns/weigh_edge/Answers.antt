@@ -5,7 +5,7 @@ use Rattle.vc_lift.specs.CountedSteps.{sum_met, place_met, sum_below}
 use Rattle.vc_lift.proofs.WeightedSums.{sum_below_none, sum_below_more}
 use Rattle.vc_lift.specs.Columns.{column_of}
 use Rattle.vc_lift.specs.Steps.{counted_of}
-use Rattle.vc_lift.proofs.Sums.{term_fits, sum_fits, sum_read, sum_bound}
+use Rattle.vc_lift.proofs.Sums.{tap_read, sample_fits, light_fits, light_room, term_fits, sum_fits, sum_read, sum_more}
 use Rattle.vc_lift.proofs.columns.weigh_edge.Goals as goal
 
 pub loop-j-init : goal.loop-j-init
@@ -15,13 +15,13 @@ pub overflow_mul-sum-in-loop-j-2 : goal.overflow_mul-sum-in-loop-j-2
 overflow_mul-sum-in-loop-j-2 c =
     let k = (2 * c.min-met.result + (1 - c.args.step.now.parity)) * c.args.width + c.args.x in
     let small : unsigned_abs (line_of c.args.cells.now k) ≤ 2 ^ 112 = c.requires.met.within c.min-met.result (omega arith) in
-    term_fits c.args.step.now.taps.now c.loop-j.j (slice_index_or c.args.cells.now k (pos 0)) (to_z w128 c.loop-j.sum-bits) c.loop-j-test.true c.requires.plain.light small c.loop-j.invariant.bound
+    term_fits w128 c.args.step.now.taps.now (2 ^ 112) c.loop-j.j c.from.result (slice_index_or c.args.cells.now k (pos 0)) (to_z w128 c.loop-j.sum-bits) (tap_read c.args.step.now.taps.now c.loop-j.j c.from.result c.from.ensures c.loop-j-test.true c.requires.plain.light) c.loop-j-test.true (light_fits c.requires.plain.light) (sample_fits small) (light_room c.requires.plain.light) small c.loop-j.invariant.bound
 
 pub overflow_add-sum-in-loop-j-2 : goal.overflow_add-sum-in-loop-j-2
 overflow_add-sum-in-loop-j-2 c =
     let k = (2 * c.min-met.result + (1 - c.args.step.now.parity)) * c.args.width + c.args.x in
     let small : unsigned_abs (line_of c.args.cells.now k) ≤ 2 ^ 112 = c.requires.met.within c.min-met.result (omega arith) in
-    sum_fits c.args.step.now.taps.now c.loop-j.j (slice_index_or c.args.cells.now k (pos 0)) (to_z w128 c.loop-j.sum-bits) c.loop-j-test.true c.requires.plain.light small c.loop-j.invariant.bound
+    sum_fits w128 c.args.step.now.taps.now (2 ^ 112) c.loop-j.j c.from.result (slice_index_or c.args.cells.now k (pos 0)) (to_z w128 c.loop-j.sum-bits) (tap_read c.args.step.now.taps.now c.loop-j.j c.from.result c.from.ensures c.loop-j-test.true c.requires.plain.light) c.loop-j-test.true (light_fits c.requires.plain.light) (sample_fits small) (light_room c.requires.plain.light) small c.loop-j.invariant.bound
 
 pub loop-j-preserved : goal.loop-j-preserved
 loop-j-preserved c =
@@ -29,11 +29,12 @@ loop-j-preserved c =
     let x = slice_index_or c.args.cells.now k (pos 0) in
     let small : unsigned_abs x ≤ 2 ^ 112 = c.requires.met.within c.min-met.result (omega arith) in
     let sum = to_z w128 c.loop-j.sum-bits in
-    let read = sum_read c.args.step.now.taps.now c.loop-j.j x sum c.loop-j-test.true c.requires.plain.light small c.loop-j.invariant.bound in
+    let tap = tap_read c.args.step.now.taps.now c.loop-j.j c.from.result c.from.ensures c.loop-j-test.true c.requires.plain.light in
+    let read = sum_read w128 c.args.step.now.taps.now (2 ^ 112) c.loop-j.j c.from.result x sum tap c.loop-j-test.true (light_fits c.requires.plain.light) (sample_fits small) (light_room c.requires.plain.light) small c.loop-j.invariant.bound in
     let met : c.min-met.result ≡ min (c.args.n + c.loop-j.j - c.args.step.now.back) (c.args.half - 1) = omega arith in
     record {
-      value = rw (read, sum_below_more, ← met, c.loop-j.invariant.value);
-      bound = rw read (sum_bound c.args.step.now.taps.now c.loop-j.j x sum c.loop-j-test.true c.requires.plain.light small c.loop-j.invariant.bound);
+      value = rw (read, tap, sum_below_more, ← met, c.loop-j.invariant.value);
+      bound = rw read (sum_more c.args.step.now.taps.now (2 ^ 112) c.loop-j.j c.from.result x sum tap c.loop-j-test.true small c.loop-j.invariant.bound);
     }
 
 pub returns-clause-value : goal.returns-clause-value

@@ -6,7 +6,7 @@ use Rattle.vc_lift.proofs.WeightedSums.{sum_below_none, sum_below_more}
 use Rattle.vc_lift.specs.Columns.{column_of}
 use Rattle.vc_lift.specs.Steps.{counted_of}
 use Rattle.vc_lift.proofs.Places.{inside_place, inside_below, inside_small}
-use Rattle.vc_lift.proofs.Sums.{term_fits, sum_fits, sum_read, sum_bound}
+use Rattle.vc_lift.proofs.Sums.{tap_read, sample_fits, light_fits, light_room, term_fits, sum_fits, sum_read, sum_more}
 use Rattle.vc_lift.proofs.columns.weigh_inside.Goals as goal
 
 pub loop-j-init : goal.loop-j-init
@@ -22,13 +22,13 @@ pub overflow_mul-sum-in-loop-j-2 : goal.overflow_mul-sum-in-loop-j-2
 overflow_mul-sum-in-loop-j-2 c =
     let k = (2 * (c.args.n - c.args.step.now.back) + (1 - c.args.step.now.parity)) * c.args.width + c.args.x + 2 * c.loop-j.j * c.args.width in
     let small = inside_small c.args.half c.args.width c.args.n c.args.step.now.back c.loop-j.j c.args.x c.args.step.now.parity c.requires.at c.requires.left (omega arith) c.args.cells.now (2 ^ 112) c.requires.met in
-    term_fits c.args.step.now.taps.now c.loop-j.j (slice_index_or c.args.cells.now k (pos 0)) (to_z w128 c.loop-j.sum-bits) c.loop-j-test.true c.requires.plain.light small c.loop-j.invariant.bound
+    term_fits w128 c.args.step.now.taps.now (2 ^ 112) c.loop-j.j c.from.result (slice_index_or c.args.cells.now k (pos 0)) (to_z w128 c.loop-j.sum-bits) (tap_read c.args.step.now.taps.now c.loop-j.j c.from.result c.from.ensures c.loop-j-test.true c.requires.plain.light) c.loop-j-test.true (light_fits c.requires.plain.light) (sample_fits small) (light_room c.requires.plain.light) small c.loop-j.invariant.bound
 
 pub overflow_add-sum-in-loop-j : goal.overflow_add-sum-in-loop-j
 overflow_add-sum-in-loop-j c =
     let k = (2 * (c.args.n - c.args.step.now.back) + (1 - c.args.step.now.parity)) * c.args.width + c.args.x + 2 * c.loop-j.j * c.args.width in
     let small = inside_small c.args.half c.args.width c.args.n c.args.step.now.back c.loop-j.j c.args.x c.args.step.now.parity c.requires.at c.requires.left (omega arith) c.args.cells.now (2 ^ 112) c.requires.met in
-    sum_fits c.args.step.now.taps.now c.loop-j.j (slice_index_or c.args.cells.now k (pos 0)) (to_z w128 c.loop-j.sum-bits) c.loop-j-test.true c.requires.plain.light small c.loop-j.invariant.bound
+    sum_fits w128 c.args.step.now.taps.now (2 ^ 112) c.loop-j.j c.from.result (slice_index_or c.args.cells.now k (pos 0)) (to_z w128 c.loop-j.sum-bits) (tap_read c.args.step.now.taps.now c.loop-j.j c.from.result c.from.ensures c.loop-j-test.true c.requires.plain.light) c.loop-j-test.true (light_fits c.requires.plain.light) (sample_fits small) (light_room c.requires.plain.light) small c.loop-j.invariant.bound
 
 pub loop-j-preserved : goal.loop-j-preserved
 loop-j-preserved c =
@@ -36,11 +36,12 @@ loop-j-preserved c =
     let small = inside_small c.args.half c.args.width c.args.n c.args.step.now.back c.loop-j.j c.args.x c.args.step.now.parity c.requires.at c.requires.left (omega arith) c.args.cells.now (2 ^ 112) c.requires.met in
     let x = slice_index_or c.args.cells.now k (pos 0) in
     let sum = to_z w128 c.loop-j.sum-bits in
-    let read = sum_read c.args.step.now.taps.now c.loop-j.j x sum c.loop-j-test.true c.requires.plain.light small c.loop-j.invariant.bound in
+    let tap = tap_read c.args.step.now.taps.now c.loop-j.j c.from.result c.from.ensures c.loop-j-test.true c.requires.plain.light in
+    let read = sum_read w128 c.args.step.now.taps.now (2 ^ 112) c.loop-j.j c.from.result x sum tap c.loop-j-test.true (light_fits c.requires.plain.light) (sample_fits small) (light_room c.requires.plain.light) small c.loop-j.invariant.bound in
     let met = inside_place c.args.half c.args.width c.args.n c.args.step.now.back c.loop-j.j c.args.x c.args.step.now.parity c.requires.left (omega arith) in
     record {
-      value = rw (read, sum_below_more, ← met, c.loop-j.invariant.value);
-      bound = rw read (sum_bound c.args.step.now.taps.now c.loop-j.j x sum c.loop-j-test.true c.requires.plain.light small c.loop-j.invariant.bound);
+      value = rw (read, tap, sum_below_more, ← met, c.loop-j.invariant.value);
+      bound = rw read (sum_more c.args.step.now.taps.now (2 ^ 112) c.loop-j.j c.from.result x sum tap c.loop-j-test.true small c.loop-j.invariant.bound);
     }
 
 pub returns-clause-value : goal.returns-clause-value

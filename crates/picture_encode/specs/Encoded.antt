@@ -1,0 +1,86 @@
+-- What the encoded slices of a picture are.
+use Rattle.std.specs.Prelude.{◌≡◌, ◌+◌, ◌≤◌, All, length, ⊤, ℕ, Bool, true, false, List, map, None}
+use Rattle.std.specs.List.{AllZip, enumerate_from, range_with_len}
+use Rattle.link_model.specs.SendingFaults.{first_of_slices, is_too_large}
+use Rattle.link_model.specs.SendingPictures.{Need, need_of, sent_length, sent_parameters, sent_slice}
+use Rattle.picture_encode.specs.declared.refusal.SliceRefusal.{SliceRefusal}
+use Rattle.picture_encode.specs.declared.refusal.SliceRefusal.TheVariants.{SliceTooLarge, NoMemory}
+use Rattle.picture_encode.specs.declared.slices.EncodedSlice.{EncodedSlice}
+use Rattle.picture_encode.specs.Refusals.{Tells}
+use Rattle.vc_types.specs.Planes.{Planes}
+use Rattle.vc_types.specs.SenderSettings.{Sending}
+use Rattle.vc_types.specs.Subbands.{slice_count}
+
+abbrev pub indices_of : List EncodedSlice → List ℕ
+indices_of slices = map (λ e. e.index) slices
+
+abbrev pub slice_bytes : List EncodedSlice → List (List ℕ)
+slice_bytes slices = map (λ e. e.bytes.items) slices
+
+-- ---- one slice
+
+-- bytes fit a datagram, and have at least an index and three lengths
+pub record IsSized (s : Sending) (bytes : List ℕ) : Type 0 where
+  pub some : 4 ≤ length bytes
+  pub room : length bytes + 32 ≤ s.size
+
+-- a slice isn't too large at an index, and has these bytes
+pub record IsEncodedAt (s : Sending) (planes : Planes) (slice index : ℕ) (bytes : List ℕ)
+    : Type 0 where
+  pub sized : IsSized s bytes
+  pub fits : is_too_large s planes slice index ≡ false
+  pub bytes_are : bytes ≡ sent_slice (sent_parameters s) planes slice index
+
+-- it is too large at an index, and would have so many bytes
+pub record IsTooLargeAt (s : Sending) (planes : Planes) (slice index bytes : ℕ) : Type 0 where
+  pub too_large : is_too_large s planes slice index ≡ true
+  pub needs : bytes ≡ sent_length (sent_parameters s) planes slice index
+
+-- a refusal at an index
+abbrev pub RefusesAt : Sending → Planes → ℕ → ℕ → SliceRefusal → Type 0
+RefusesAt s planes slice index (SliceTooLarge n bytes) =
+    (n ≡ slice) × IsTooLargeAt s planes slice index bytes
+RefusesAt s planes slice index NoMemory = ⊤
+
+-- what a chooser answers on a need
+abbrev pub Chooses : Type 1
+Chooses = Need → ℕ → Type 0
+
+-- a slice was encoded at an answer on its need
+pub record IsEncoded (choice : Chooses) (wanted : Bool) (s : Sending) (planes : Planes) (slice : ℕ)
+    (e : EncodedSlice) : Type 0 where
+  pub answer : choice (need_of s wanted planes slice) e.index
+  pub encoded : IsEncodedAt s planes slice e.index e.bytes.items
+
+-- a slice was refused: where it is too large, at an answer on its need
+abbrev pub IsRefusedSlice : Chooses → Bool → Sending → Planes → ℕ → SliceRefusal → Type 0
+IsRefusedSlice choice wanted s planes slice NoMemory = ⊤
+IsRefusedSlice choice wanted s planes slice e =
+    (index : ℕ) × choice (need_of s wanted planes slice) index
+    × RefusesAt s planes slice index e
+
+-- ---- the first slices of a picture
+
+-- indices are answers on the needs of so many first slices
+abbrev pub AreFirstAnswers : Chooses → Bool → Sending → Planes → ℕ → List ℕ → Type 0
+AreFirstAnswers choice wanted s planes count indices =
+    AllZip choice (map (need_of s wanted planes) (range_with_len 0 count)) indices
+
+-- so many first slices were encoded
+pub record AreFirstSlices (choice : Chooses) (wanted : Bool) (s : Sending) (planes : Planes)
+    (count : ℕ) (slices : List EncodedSlice) : Type 0 where
+  pub answers : AreFirstAnswers choice wanted s planes count (indices_of slices)
+  pub fit : first_of_slices s planes (enumerate_from 0 (indices_of slices)) ≡ None
+  pub sized : All (IsSized s) (slice_bytes slices)
+  pub bytes_are : slice_bytes slices
+      ≡ map (λ z. sent_slice (sent_parameters s) planes z.0 z.1)
+      (enumerate_from 0 (indices_of slices))
+
+-- a picture was refused: where a slice is too large, at answers up to it
+pub record IsRefusedPicture (choice : Chooses) (wanted : Bool) (s : Sending) (planes : Planes)
+    (e : SliceRefusal) : Type 0 where
+  pub count : ℕ
+  pub indices : List ℕ
+  pub some : count ≤ slice_count (sent_parameters s)
+  pub answers : AreFirstAnswers choice wanted s planes count indices
+  pub fault : Tells (first_of_slices s planes (enumerate_from 0 indices)) e

@@ -1,0 +1,5 @@
+pub mod Choosing
+pub mod Refusals
+pub mod Grids
+pub mod Shapes
+pub mod Encoded

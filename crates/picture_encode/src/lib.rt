@@ -1,0 +1,18 @@
+//! The slices of a picture that is sent, encoded at the indices that a chooser answers.
+#![tactic(auto)]
+
+mod chooser;
+mod gathering;
+mod grids;
+mod plan;
+mod refusal;
+mod slices;
+mod transform;
+
+pub use chooser::Chooser;
+pub use plan::{header_of, plan_of};
+pub use refusal::SliceRefusal;
+pub use slices::{EncodedSlice, encode_picture, encode_picture_joined};
+
+#[cfg(test)]
+mod tests;

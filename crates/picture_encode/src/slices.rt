@@ -1,0 +1,268 @@
+ghost use Rattle.std.specs.Prelude.{◌≡◌, ◌<◌, ◌≤◌, [], ◌∷◌, ◌++◌, IfOk, IfErr, OnOk, map};
+ghost use Rattle.std.specs.List.{range_with_len};
+ghost use Rattle.link_model.specs.SendingPictures.{packed_bits, need_of, sent_coefficients, sent_parameters, told_lengths};
+ghost use Rattle.picture_encode.specs.Choosing.{AnswersAtMost127, AnswersNeed};
+ghost use Rattle.picture_encode.specs.Encoded.{IsEncodedAt, RefusesAt, IsEncoded, IsRefusedSlice, AreFirstSlices, IsRefusedPicture};
+ghost use Rattle.picture_encode.specs.Grids.{AreGrids, HaveCoefficients};
+ghost use Rattle.picture_encode.specs.Refusals.{refusal_of};
+ghost use Rattle.picture_encode.specs.Shapes.{CanBeTransformed};
+ghost use Rattle.vc_types.specs.Bits.{bits_of};
+ghost use Rattle.vc_types.specs.Encoding.{encoded_length};
+ghost use Rattle.vc_types.specs.Planes.{Planes, planes_in};
+ghost use Rattle.vc_types.specs.SenderSettings.{sending_view};
+ghost use Rattle.vc_types.specs.SliceCoefficients.{AreSliceCoefficients};
+ghost use Rattle.vc_types.specs.Subbands.{slice_count};
+ghost use Rattle.vc_types.specs.TransformParameters.{parameters_of};
+
+use crate::chooser::Chooser;
+use crate::gathering::gather;
+use crate::grids::PictureGrids;
+use crate::refusal::SliceRefusal;
+use crate::transform::{AtOnce, InTurn, Transform};
+use std::alloc::Global;
+use std::thread::Threads;
+use vc_slice::{EncodeRefusal, SliceCoeffs, encode, encoded_len};
+use vc_types::{NoMemory, Plan, Plane, SendSettings, SliceNeed};
+
+// The heads of the packet and of the payload in front of slices have so many bytes.
+const HEADS: u32 = 32;
+
+// Lengths are told at the indices below this one.
+const INDICES: u8 = 128;
+
+/// An encoded slice, and the quantisation index that it has.
+#[derive(Drop)]
+pub struct EncodedSlice {
+    pub index: u8,
+    pub bytes: Vec<u8>,
+}
+
+// Bytes are their own bits, packed.
+fn bits_are_packed(bytes: &[u8])
+    ensures { packed_bits (bits_of bytes.now) ≡ bytes.now }
+{}
+
+fn push(slices: &mut Vec<EncodedSlice>, slice: EncodedSlice) -> Result<(), NoMemory>
+    ensures { OnOk result (slices.new.items ≡ slices.old.items ++ slice ∷ []) }
+{
+    slices.push(slice)?;
+    Ok(())
+}
+
+/// Encodes the slices of a picture (ST 2042-1, high-quality slices): the forward transform of its
+/// planes, and each slice at the index that the chooser answers on what it is told of it, from 0 to
+/// 127. The plan is the one that the settings make, and the planes have its sizes and samples of
+/// its depths. The first slice that is too large, for its lengths or for a datagram, refuses the
+/// picture.
+pub fn encode_picture<F: Fn(&SliceNeed) -> u8>(
+    alloc: Global,
+    s: &SendSettings,
+    plan: &Plan,
+    chooser: &Chooser<F>,
+    planes: &[Plane; 3],
+) -> Result<Vec<EncodedSlice>, SliceRefusal>
+    requires callable { F.IsAlwaysCallable chooser.now.choose }
+    requires range { AnswersAtMost127 F.Fn chooser.now.choose }
+    requires plan { parameters_of plan.now ≡ sent_parameters (sending_view s.now) }
+    requires planes { CanBeTransformed (parameters_of plan.now) (planes_in planes.now) }
+    ensures encoded { IfOk result (λ slices. AreFirstSlices
+        (AnswersNeed F.Fn chooser.now.choose) chooser.now.wants_lens (sending_view s.now)
+        (planes_in planes.now) (slice_count (parameters_of plan.now)) slices.items) }
+    ensures refused { IfErr result (λ e. IsRefusedPicture
+        (AnswersNeed F.Fn chooser.now.choose) chooser.now.wants_lens (sending_view s.now)
+        (planes_in planes.now) e) }
+{
+    encode_with(alloc, s, plan, chooser, planes, &InTurn)
+}
+
+/// The same, where luma is transformed beside the colours, by join.
+pub fn encode_picture_joined<H: Threads + Copy + Send + Sync, F: Fn(&SliceNeed) -> u8>(
+    rt: H,
+    alloc: Global,
+    s: &SendSettings,
+    plan: &Plan,
+    chooser: &Chooser<F>,
+    planes: &[Plane; 3],
+) -> Result<Vec<EncodedSlice>, SliceRefusal>
+    requires callable { F.IsAlwaysCallable chooser.now.choose }
+    requires range { AnswersAtMost127 F.Fn chooser.now.choose }
+    requires plan { parameters_of plan.now ≡ sent_parameters (sending_view s.now) }
+    requires planes { CanBeTransformed (parameters_of plan.now) (planes_in planes.now) }
+    ensures encoded { IfOk result (λ slices. AreFirstSlices
+        (AnswersNeed F.Fn chooser.now.choose) chooser.now.wants_lens (sending_view s.now)
+        (planes_in planes.now) (slice_count (parameters_of plan.now)) slices.items) }
+    ensures refused { IfErr result (λ e. IsRefusedPicture
+        (AnswersNeed F.Fn chooser.now.choose) chooser.now.wants_lens (sending_view s.now)
+        (planes_in planes.now) e) }
+{
+    encode_with(alloc, s, plan, chooser, planes, &AtOnce { rt })
+}
+
+fn encode_with<F: Fn(&SliceNeed) -> u8, T: Transform>(
+    alloc: Global,
+    s: &SendSettings,
+    plan: &Plan,
+    chooser: &Chooser<F>,
+    planes: &[Plane; 3],
+    transform: &T,
+) -> Result<Vec<EncodedSlice>, SliceRefusal>
+    requires callable { F.IsAlwaysCallable chooser.now.choose }
+    requires range { AnswersAtMost127 F.Fn chooser.now.choose }
+    requires plan { parameters_of plan.now ≡ sent_parameters (sending_view s.now) }
+    requires planes { CanBeTransformed (parameters_of plan.now) (planes_in planes.now) }
+    ensures encoded { IfOk result (λ slices. AreFirstSlices
+        (AnswersNeed F.Fn chooser.now.choose) chooser.now.wants_lens (sending_view s.now)
+        (planes_in planes.now) (slice_count (parameters_of plan.now)) slices.items) }
+    ensures refused { IfErr result (λ e. IsRefusedPicture
+        (AnswersNeed F.Fn chooser.now.choose) chooser.now.wants_lens (sending_view s.now)
+        (planes_in planes.now) e) }
+{
+    let grids = transform.transform(alloc, plan, planes)?;
+    let count = plan.slices_x * plan.slices_y;
+    let mut slices = Vec::with_capacity(alloc, count as usize)?;
+    for slice in 0..count {
+        let encoded = encode_slice(alloc, s, plan, chooser, &grids, slice)?;
+        push(&mut slices, encoded)?;
+    }
+    Ok(slices)
+}
+
+fn encode_slice<F: Fn(&SliceNeed) -> u8>(
+    alloc: Global,
+    s: &SendSettings,
+    plan: &Plan,
+    chooser: &Chooser<F>,
+    grids: &PictureGrids,
+    slice: u32,
+) -> Result<EncodedSlice, SliceRefusal>
+    requires callable { F.IsAlwaysCallable chooser.now.choose }
+    requires range { AnswersAtMost127 F.Fn chooser.now.choose }
+    requires plan { parameters_of plan.now ≡ sent_parameters (sending_view s.now) }
+    requires slice { slice < slice_count (parameters_of plan.now) }
+    requires grids { AreGrids (parameters_of plan.now) grids.now }
+    ensures encoded { IfOk result (λ e. (planes : Planes)
+        → HaveCoefficients (parameters_of plan.now) planes grids.now
+        → IsEncoded (AnswersNeed F.Fn chooser.now.choose) chooser.now.wants_lens
+        (sending_view s.now) planes slice e) }
+    ensures refused { IfErr result (λ e. (planes : Planes)
+        → HaveCoefficients (parameters_of plan.now) planes grids.now
+        → IsRefusedSlice (AnswersNeed F.Fn chooser.now.choose) chooser.now.wants_lens
+        (sending_view s.now) planes slice e) }
+{
+    let coeffs = gather(alloc, plan, grids, slice)?;
+    let index = choose(alloc, s, plan, chooser, slice, &coeffs)?;
+    let bytes = encode_at(alloc, s, plan, slice, &coeffs, index)?;
+    Ok(EncodedSlice { index, bytes })
+}
+
+// The index of a slice.
+fn choose<F: Fn(&SliceNeed) -> u8>(
+    alloc: Global,
+    s: &SendSettings,
+    plan: &Plan,
+    chooser: &Chooser<F>,
+    slice: u32,
+    coeffs: &SliceCoeffs,
+) -> Result<u8, NoMemory>
+    requires callable { F.IsAlwaysCallable chooser.now.choose }
+    requires range { AnswersAtMost127 F.Fn chooser.now.choose }
+    requires plan { parameters_of plan.now ≡ sent_parameters (sending_view s.now) }
+    requires slice { slice < slice_count (parameters_of plan.now) }
+    requires coefficients { AreSliceCoefficients (parameters_of plan.now) slice coeffs.now }
+    ensures answer { IfOk result (λ index. (planes : Planes)
+        → coeffs.now ≡ sent_coefficients (parameters_of plan.now) planes slice
+        → AnswersNeed F.Fn chooser.now.choose
+        (need_of (sending_view s.now) chooser.now.wants_lens planes slice) index) }
+    ensures range { IfOk result (λ index. index ≤ 127) }
+{
+    let need = SliceNeed {
+        index: slice,
+        room: s.size - HEADS,
+        lens: told_lens(alloc, chooser.wants_lens, plan, slice, coeffs)?,
+    };
+    Ok(chooser.index(&need))
+}
+
+// A slice's length at each index, if lengths are wanted.
+fn told_lens(
+    alloc: Global,
+    wanted: bool,
+    plan: &Plan,
+    slice: u32,
+    coeffs: &SliceCoeffs,
+) -> Result<Vec<u64>, NoMemory>
+    requires slice { slice < slice_count (parameters_of plan.now) }
+    requires coefficients { AreSliceCoefficients (parameters_of plan.now) slice coeffs.now }
+    ensures { IfOk result (λ lens. (planes : Planes)
+        → coeffs.now ≡ sent_coefficients (parameters_of plan.now) planes slice
+        → lens.items ≡ told_lengths wanted (parameters_of plan.now) planes slice) }
+{
+    if wanted {
+        all_lens(alloc, plan, slice, coeffs)
+    } else {
+        Ok(Vec::new(alloc))
+    }
+}
+
+fn all_lens(
+    alloc: Global,
+    plan: &Plan,
+    slice: u32,
+    coeffs: &SliceCoeffs,
+) -> Result<Vec<u64>, NoMemory>
+    requires slice { slice < slice_count (parameters_of plan.now) }
+    requires coefficients { AreSliceCoefficients (parameters_of plan.now) slice coeffs.now }
+    ensures { IfOk result (λ lens. lens.items
+        ≡ map (λ index. encoded_length (parameters_of plan.now) slice index coeffs.now)
+        (range_with_len 0 128)) }
+{
+    let mut lens = Vec::with_capacity(alloc, usize::from(INDICES))?;
+    for index in 0..INDICES {
+        lens.push(encoded_len(plan, slice, coeffs, index))?;
+    }
+    Ok(lens)
+}
+
+// A slice's bytes at an index. It is refused where it is too large for its lengths or for a
+// datagram.
+fn encode_at(
+    alloc: Global,
+    s: &SendSettings,
+    plan: &Plan,
+    slice: u32,
+    coeffs: &SliceCoeffs,
+    index: u8,
+) -> Result<Vec<u8>, SliceRefusal>
+    requires plan { parameters_of plan.now ≡ sent_parameters (sending_view s.now) }
+    requires slice { slice < slice_count (parameters_of plan.now) }
+    requires coefficients { AreSliceCoefficients (parameters_of plan.now) slice coeffs.now }
+    requires index { index ≤ 127 }
+    ensures encoded { IfOk result (λ bytes. (planes : Planes)
+        → coeffs.now ≡ sent_coefficients (parameters_of plan.now) planes slice
+        → IsEncodedAt (sending_view s.now) planes slice index bytes.items) }
+    ensures refused { IfErr result (λ e. (planes : Planes)
+        → coeffs.now ≡ sent_coefficients (parameters_of plan.now) planes slice
+        → RefusesAt (sending_view s.now) planes slice index e) }
+{
+    match encode(alloc, plan, slice, coeffs, index) {
+        Ok(bytes) if bytes.len() <= (s.size - HEADS) as usize => {
+            bits_are_packed(&bytes);
+            Ok(bytes)
+        }
+        Ok(bytes) => Err(SliceRefusal::SliceTooLarge {
+            slice,
+            bytes: bytes.len() as u64,
+        }),
+        Err(e) => Err(refusal_of(slice, e)),
+    }
+}
+
+// The refusal of a slice that the encoder refuses.
+fn refusal_of(slice: u32, e: EncodeRefusal) -> SliceRefusal
+    ensures { result ≡ refusal_of slice e }
+{
+    match e {
+        EncodeRefusal::TooLong { bytes } => SliceRefusal::SliceTooLarge { slice, bytes },
+        EncodeRefusal::NoMemory => SliceRefusal::NoMemory,
+    }
+}

@@ -1,0 +1,126 @@
+-- Steps on some samples of a line, and where they are made in cells.
+use Rattle.std.proofs.Common.{◌≡◌, ◌≢◌, ℕ, zero, suc, ◌+◌, ◌-◌, ◌*◌, ◌/◌, ◌%◌, ◌^◌, ◌<◌, ◌≤◌, ◌⊎◌, inl, inr, List, length, ℤ, pos, arith, ap, sym, ◌∙◌, refl, subst, min, max, unsigned_abs}
+use Rattle.std.specs.Prelude.{if◌then◌else◌, nat_lt, nat_le, ◌==◌, ◌&&◌}
+use Rattle.std.proofs.lemmas.Bool.{cases_eq, cases_lt}
+use Rattle.std.proofs.lemmas.Bool.Decides.{nat_tests}
+use Rattle.vc_types.specs.Lifting.{line_of, changed_by}
+use Rattle.vc_lift.specs.declared.halves.Halves.{Halves}
+use Rattle.vc_lift.specs.CountedSteps.{CountedStep, place_met, change_at, lift, lift_between}
+use Rattle.vc_lift.specs.Halves.{half_start, place_in, line_in, AreLines, AreApart, IsBeside, IsRun}
+use Rattle.vc_lift.specs.Ranges.{HasRoom, HasRange, stretched}
+use Rattle.vc_lift.proofs.HalfPlaces.{place_at}
+use Rattle.vc_lift.proofs.NarrowSums.{same_change, same_room}
+
+-- ---- at a sample
+
+pub between_in : (s : CountedStep) (half lo hi : ℕ) (x : ℕ → ℤ) (k : ℕ) → lo ≤ k / 2 → k / 2 < hi → k % 2 ≡ s.parity → lift_between s half lo hi x k ≡ changed_by s.adds (x k) (change_at s half x (k / 2))
+unfolding lift_between
+between_in s half lo hi x k a b c = grind (arith, nat_tests)
+
+pub between_below : (s : CountedStep) (half lo hi : ℕ) (x : ℕ → ℤ) (k : ℕ) → k / 2 < lo → lift_between s half lo hi x k ≡ x k
+unfolding lift_between
+between_below s half lo hi x k a = grind (arith, nat_tests)
+
+pub between_past : (s : CountedStep) (half lo hi : ℕ) (x : ℕ → ℤ) (k : ℕ) → hi ≤ k / 2 → lift_between s half lo hi x k ≡ x k
+unfolding lift_between
+between_past s half lo hi x k a = grind (arith, nat_tests)
+
+pub between_other : (s : CountedStep) (half lo hi : ℕ) (x : ℕ → ℤ) (k : ℕ) → k % 2 ≢ s.parity → lift_between s half lo hi x k ≡ x k
+unfolding lift_between
+between_other s half lo hi x k a = grind (arith, nat_tests)
+
+pub between_none : (s : CountedStep) (half lo : ℕ) (x : ℕ → ℤ) (k : ℕ) → x k ≡ lift_between s half lo lo x k
+between_none s half lo x k = elim (cases_lt (k / 2) lo) [ inl h ↦ sym (between_below s half lo lo x k h) | inr h ↦ sym (between_past s half lo lo x k h) ]
+
+pub between_all : (s : CountedStep) (half : ℕ) (x : ℕ → ℤ) (k : ℕ) → k < 2 * half → lift_between s half 0 half x k ≡ lift s half x k
+unfolding lift_between lift
+between_all s half x k h = grind (arith, nat_tests)
+
+met_below : (s : CountedStep) (half n j : ℕ) → 0 < half → s.parity < 2 → place_met s half n j < 2 * half
+met_below s half n j some p = omega arith
+
+met_parity : (s : CountedStep) (half n j : ℕ) → s.parity < 2 → place_met s half n j % 2 ≢ s.parity
+met_parity s half n j p e = omega arith
+
+-- ---- some samples more
+
+module _ (s : CountedStep) (half lo mid hi : ℕ) (x y : ℕ → ℤ) (some : 0 < half) (p : s.parity < 2) (low : lo ≤ mid) (high : mid ≤ hi) (same : (k : ℕ) → k < 2 * half → y k ≡ lift_between s half lo mid x k) where
+  met_same : (n j : ℕ) → y (place_met s half n j) ≡ x (place_met s half n j)
+  met_same n j = same (place_met s half n j) (met_below s half n j some p) ∙ between_other s half lo mid x (place_met s half n j) (met_parity s half n j p)
+
+  at_parity : (k : ℕ) → k < 2 * half → k % 2 ≡ s.parity → (k / 2 < mid) ⊎ (mid ≤ k / 2) → (k / 2 < lo) ⊎ (lo ≤ k / 2) → (k / 2 < hi) ⊎ (hi ≤ k / 2) → lift_between s half mid hi y k ≡ lift_between s half lo hi x k
+  at_parity k h e (inl before) (inl below) any = between_below s half mid hi y k before ∙ same k h ∙ between_below s half lo mid x k below ∙ sym (between_below s half lo hi x k below)
+  at_parity k h e (inl before) (inr from) any = between_below s half mid hi y k before ∙ same k h ∙ between_in s half lo mid x k from before e ∙ sym (between_in s half lo hi x k from (omega arith) e)
+  at_parity k h e (inr after) any (inl within) =
+      between_in s half mid hi y k after within e
+      ∙ ap (λ z. changed_by s.adds z (change_at s half y (k / 2))) (same k h ∙ between_past s half lo mid x k after)
+      ∙ ap (changed_by s.adds (x k)) (same_change s half y x (k / 2) (k / 2) (λ j lt. met_same (k / 2) j))
+      ∙ sym (between_in s half lo hi x k (omega arith) within e)
+  at_parity k h e (inr after) any (inr past) = between_past s half mid hi y k past ∙ same k h ∙ between_past s half lo mid x k after ∙ sym (between_past s half lo hi x k past)
+
+  pub between_more : (k : ℕ) → k < 2 * half → lift_between s half mid hi y k ≡ lift_between s half lo hi x k
+  between_more k h = elim (cases_eq (k % 2) s.parity) [
+    | inl e ↦ at_parity k h e (cases_lt (k / 2) mid) (cases_lt (k / 2) lo) (cases_lt (k / 2) hi)
+    | inr ne ↦ between_other s half mid hi y k ne ∙ same k h ∙ between_other s half lo mid x k ne ∙ sym (between_other s half lo hi x k ne)
+  ]
+
+  -- the samples that are left have the same room
+  pub room_left : (limit n : ℕ) → mid ≤ n → n < half → HasRoom limit s half x n → HasRoom limit s half y n
+  room_left limit n from lt room =
+      let number : (2 * n + s.parity) / 2 ≡ n = omega arith in
+      same_room s half y x n n limit (λ j h. met_same n j)
+      (same (2 * n + s.parity) (omega arith) ∙ between_past s half lo mid x (2 * n + s.parity) (omega (arith, number))) room
+
+-- bounds on a line give room beside each sample
+pub room_at : (limit : ℕ) (s : CountedStep) (half : ℕ) (x : ℕ → ℤ) (n : ℕ) → n < half → HasRange limit s half x → HasRoom limit s half x n
+room_at limit s half x n h r = record {
+  other = r.other;
+  met = λ j lt. r.met.within (min (n + j - s.back) (half - 1)) (omega arith);
+  sum = r.sum;
+  result = (let own = r.changed.within n h in omega (arith, own, r.result));
+}
+
+-- ---- one number of each line
+
+module _ (s : CountedStep) (h : Halves) (n width len : ℕ) (p : s.parity < 2) (at : n < h.half) (lines : AreLines h width len) where
+  pub number_run : IsRun s h n width len
+  number_run = record {
+    at = lines.inside (2 * n + s.parity) (omega arith);
+    met = λ j lt. lines.inside (place_met s h.half n j) (met_below s h.half n j lines.some p);
+    apart = λ j lt. lines.apart (place_met s h.half n j) (2 * n + s.parity) (met_below s h.half n j lines.some p) (omega arith) (λ e. met_parity s h.half n j p (ap (λ k. k % 2) e ∙ omega arith));
+  }
+
+  module _ (old new : List ℤ)
+      (on : (x : ℕ) → x < width → line_of new (place_in h (2 * n + s.parity) + x) ≡ changed_by s.adds (line_of old (place_in h (2 * n + s.parity) + x)) (change_at s h.half (line_in h old x) n))
+      (off : (i : ℕ) → (i < place_in h (2 * n + s.parity)) ⊎ (place_in h (2 * n + s.parity) + width ≤ i) → line_of new i ≡ line_of old i) where
+    number_kept : (x k : ℕ) → x < width → k < 2 * h.half → k ≢ 2 * n + s.parity → line_in h new x k ≡ line_in h old x k
+    number_kept x k lt below ne = off (place_in h k + x) (outside (lines.apart k (2 * n + s.parity) below (omega arith) ne))
+      where
+        outside : AreApart width (place_in h k) (place_in h (2 * n + s.parity)) → (place_in h k + x < place_in h (2 * n + s.parity)) ⊎ (place_in h (2 * n + s.parity) + width ≤ place_in h k + x)
+        outside (inl before) = inl (omega arith)
+        outside (inr past) = inr (omega arith)
+
+    number_at : (x k : ℕ) → x < width → k < 2 * h.half → (k ≡ 2 * n + s.parity) ⊎ (k ≢ 2 * n + s.parity) → line_in h new x k ≡ lift_between s h.half n (n + 1) (line_in h old x) k
+    number_at x k lt below (inl e) =
+        let parity : (2 * n + s.parity) % 2 ≡ s.parity = omega arith in
+        let number : (2 * n + s.parity) / 2 ≡ n = omega arith in
+        rw e
+        (on x lt ∙ ap (λ m. changed_by s.adds (line_in h old x (2 * n + s.parity)) (change_at s h.half (line_in h old x) m)) (sym number)
+        ∙ sym (between_in s h.half n (n + 1) (line_in h old x) (2 * n + s.parity) (omega (arith, number)) (omega (arith, number)) parity))
+    number_at x k lt below (inr ne) = number_kept x k lt below ne ∙ sym (elsewhere (cases_eq (k % 2) s.parity) (cases_lt (k / 2) n))
+      where
+        elsewhere : (k % 2 ≡ s.parity) ⊎ (k % 2 ≢ s.parity) → (k / 2 < n) ⊎ (n ≤ k / 2) → lift_between s h.half n (n + 1) (line_in h old x) k ≡ line_in h old x k
+        elsewhere (inr other) any = between_other s h.half n (n + 1) (line_in h old x) k other
+        elsewhere (inl e) (inl before) = between_below s h.half n (n + 1) (line_in h old x) k before
+        elsewhere (inl e) (inr from) = between_past s h.half n (n + 1) (line_in h old x) k (omega arith)
+
+    pub number_changed : (x k : ℕ) → x < width → k < 2 * h.half → line_in h new x k ≡ lift_between s h.half n (n + 1) (line_in h old x) k
+    number_changed x k lt below = number_at x k lt below (cases_eq k (2 * n + s.parity))
+
+    pub number_beside : (i : ℕ) → IsBeside h width i → line_of new i ≡ line_of old i
+    number_beside i none = off i (outside (cases_lt i (place_in h (2 * n + s.parity))) (cases_lt i (place_in h (2 * n + s.parity) + width)))
+      where
+        outside : (i < place_in h (2 * n + s.parity)) ⊎ (place_in h (2 * n + s.parity) ≤ i) → (i < place_in h (2 * n + s.parity) + width) ⊎ (place_in h (2 * n + s.parity) + width ≤ i) → (i < place_in h (2 * n + s.parity)) ⊎ (place_in h (2 * n + s.parity) + width ≤ i)
+        outside (inl before) any = inl before
+        outside (inr from) (inr past) = inr past
+        outside (inr from) (inl within) = absurd (none (i - place_in h (2 * n + s.parity)) (2 * n + s.parity) (omega arith) (omega arith) (omega arith))

@@ -1,0 +1,91 @@
+-- Changes in 32 bits: what a step with room reckons fits, and depends on the samples met alone.
+use Rattle.std.proofs.Common.{◌≡◌, ℕ, zero, suc, ◌+◌, ◌-◌, ◌*◌, ◌/◌, ◌%◌, ◌^◌, ◌<◌, ◌≤◌, List, length, take, get_or, ℤ, pos, negsuc, ◌+ℤ◌, ◌*ℤ◌, arith, ap, sym, ◌∙◌, refl, subst, unsigned_abs, slice_index_or, FitsSigned, to_z, of_z, Bool}
+use Rattle.std.specs.Int.{w32, int_shr}
+use Rattle.std.specs.List.{sum_by}
+use Rattle.std.proofs.lemmas.Int.{to_z-of_z, to_z_pos, fits_signed_from_abs}
+use Rattle.std.proofs.lemmas.Nat.{one_shl, le-div}
+use Rattle.std.proofs.lemmas.List.Sums.{sum_by-take-le}
+use Rattle.std.proofs.Math.Nat.{div-le_self, div-mul-le_self, mul-le-mul_right}
+use Rattle.std.proofs.Math.Numerals.{add-one}
+use Rattle.std.proofs.Math.Pow.{pow_mono, pow_pos}
+use Rattle.vc_types.specs.Lifting.{half_of, changed_by}
+use Rattle.vc_lift.specs.CountedSteps.{CountedStep, sum_below, place_met, sum_met, change_at}
+use Rattle.vc_lift.specs.Growth.{weight}
+use Rattle.vc_lift.specs.Ranges.{HasRoom, rounded_sum, stretched}
+use Rattle.vc_lift.proofs.WeightedSums.{abs-add, sum_below_more}
+use Rattle.vc_lift.proofs.Sums.{sum_more}
+
+div_mono : (m n k : ℕ) → 0 < k → m ≤ n → m / k ≤ n / k
+div_mono m n k some h = le-div (m / k) n k some (let below = div-mul-le_self m k in omega (arith, below, h))
+
+-- a shift down divides, up to one
+pub shr_at_most : (z : ℤ) (k m : ℕ) → unsigned_abs z ≤ m → unsigned_abs (int_shr z k) ≤ m / 2 ^ k + 1
+shr_at_most (pos n) k m h = (let below = div_mono n m (2 ^ k) (pow_pos k) h in omega (arith, below))
+shr_at_most (negsuc n) k m h = (let below = div_mono n m (2 ^ k) (pow_pos k) (omega arith) in omega (arith, below))
+
+-- ---- sums over the samples met
+
+sum_within : (taps : List ℤ) (f : ℕ → ℤ) (m j : ℕ) → j ≤ length taps → ((i : ℕ) → i < length taps → unsigned_abs (f i) ≤ m) → unsigned_abs (sum_below j (λ i. get_or taps i (pos 0) *ℤ f i)) ≤ sum_by unsigned_abs (take j taps) * m
+unfolding sum_below
+sum_within taps f m zero h small = omega arith
+sum_within taps f m (suc j) h small =
+    subst (λ n. unsigned_abs (sum_below j (λ i. get_or taps i (pos 0) *ℤ f i) +ℤ get_or taps j (pos 0) *ℤ f j) ≤ sum_by unsigned_abs (take n taps) * m) (add-one j)
+    (sum_more taps m j (get_or taps j (pos 0)) (f j) (sum_below j (λ i. get_or taps i (pos 0) *ℤ f i)) refl (omega arith) (small j (omega arith)) (sum_within taps f m j (omega arith) small))
+
+pub sum_met_within : (s : CountedStep) (half : ℕ) (x : ℕ → ℤ) (n m : ℕ) → ((j : ℕ) → j < length s.taps → unsigned_abs (x (place_met s half n j)) ≤ m) → unsigned_abs (sum_met s half x n) ≤ weight s * m
+unfolding sum_met
+sum_met_within s half x n m small =
+    let sum = sum_within s.taps (λ j. x (place_met s half n j)) m (length s.taps) (omega arith) small in
+    let part = mul-le-mul_right m (sum_by-take-le unsigned_abs s.taps (length s.taps)) in
+    omega (arith, sum, part)
+
+-- the change of a sample that has room
+pub change_within : (s : CountedStep) (half : ℕ) (x : ℕ → ℤ) (n limit : ℕ) → HasRoom limit s half x n → unsigned_abs (x (2 * n + s.parity)) + unsigned_abs (change_at s half x n) < limit
+unfolding change_at
+change_within s half x n limit room =
+    let sum = sum_met_within s half x n room.other room.met in
+    let change = shr_at_most (sum_met s half x n +ℤ pos (half_of s.shift)) s.shift (rounded_sum s room.other) (omega (arith, abs-add (sum_met s half x n) (pos (half_of s.shift)), sum)) in
+    omega (arith, change, room.result)
+
+same_below : (n : ℕ) (f g : ℕ → ℤ) → ((j : ℕ) → j < n → f j ≡ g j) → sum_below n f ≡ sum_below n g
+unfolding sum_below
+same_below zero f g same = refl
+same_below (suc n) f g same = ap (λ z. z +ℤ f n) (same_below n f g (λ j h. same j (omega arith))) ∙ ap (λ z. sum_below n g +ℤ z) (same n (omega arith))
+
+-- lines whose samples met are the same
+pub same_change : (s : CountedStep) (half : ℕ) (x y : ℕ → ℤ) (n m : ℕ) → ((j : ℕ) → j < length s.taps → x (place_met s half n j) ≡ y (place_met s half m j)) → change_at s half x n ≡ change_at s half y m
+unfolding change_at sum_met
+same_change s half x y n m same = ap (λ z. int_shr (z +ℤ pos (half_of s.shift)) s.shift) (same_below (length s.taps) _ _ (λ j h. ap (λ z. slice_index_or s.taps j (pos 0) *ℤ z) (same j h)))
+
+pub same_room : (s : CountedStep) (half : ℕ) (x y : ℕ → ℤ) (n m limit : ℕ) → ((j : ℕ) → j < length s.taps → x (place_met s half n j) ≡ y (place_met s half m j)) → x (2 * n + s.parity) ≡ y (2 * m + s.parity) → HasRoom limit s half y m → HasRoom limit s half x n
+same_room s half x y n m limit same own room = record {
+  other = room.other;
+  met = λ j h. subst (λ z. unsigned_abs z ≤ room.other) (sym (same j h)) (room.met j h);
+  sum = room.sum;
+  result = subst (λ z. stretched s (unsigned_abs z) room.other < limit) (sym own) room.result;
+}
+
+-- ---- 32 bits
+
+read : (x : ℤ) → unsigned_abs x < 2 ^ 31 → to_z w32 (of_z w32 x) ≡ x
+read x h = to_z-of_z w32 x (fits_signed_from_abs w32 x h)
+
+pub narrow_rounding : (k : ℕ) → k ≤ 12 → to_z w32 (1 * 2 ^ k % 2 ^ 32 / 2) ≡ pos (half_of k)
+narrow_rounding k h =
+    let is : 1 * 2 ^ k % 2 ^ 32 / 2 ≡ 2 ^ k / 2 = ap (λ n. n / 2) (one_shl k 32 (omega arith)) in
+    ap (to_z w32) is ∙ to_z_pos w32 (2 ^ k / 2) (omega (arith, pow_mono h))
+
+pub narrow_shift : (w r : ℤ) (k : ℕ) → r ≡ pos (half_of k) → unsigned_abs w + half_of k < 2 ^ 31 → to_z w32 (of_z w32 (int_shr (to_z w32 (of_z w32 (to_z w32 (of_z w32 w) +ℤ r))) k)) ≡ int_shr (w +ℤ pos (half_of k)) k
+narrow_shift w r k e h =
+    rw (e, read w (omega arith), read (w +ℤ pos (half_of k)) (omega (arith, abs-add w (pos (half_of k)))))
+    (shifted (w +ℤ pos (half_of k)) (omega (arith, abs-add w (pos (half_of k)))))
+  where
+    shr_down : (z : ℤ) → unsigned_abs (int_shr z k) ≤ unsigned_abs z
+    shr_down (pos n) = omega (arith, div-le_self n (2 ^ k))
+    shr_down (negsuc n) = omega (arith, div-le_self n (2 ^ k))
+
+    shifted : (z : ℤ) → unsigned_abs z < 2 ^ 31 → to_z w32 (of_z w32 (int_shr z k)) ≡ int_shr z k
+    shifted z lt = read (int_shr z k) (omega (arith, shr_down z))
+
+pub narrow_changed : (adds : Bool) (a b : ℤ) → FitsSigned w32 a → FitsSigned w32 b → changed_by adds (to_z w32 (of_z w32 a)) (to_z w32 (of_z w32 b)) ≡ changed_by adds a b
+narrow_changed adds a b h k = rw (to_z-of_z w32 a h, to_z-of_z w32 b k) refl

@@ -1,0 +1,230 @@
+ghost use Rattle.std.specs.Prelude.{◌≡◌, ◌+◌, ◌-◌, ◌*◌, ◌/◌, ◌^◌, ◌<◌, ◌≤◌, ◌⊎◌, ℕ, length, unsigned_abs, map, IsTrue};
+ghost use Rattle.vc_types.specs.Lifting.{line_of, half_of, changed_by};
+ghost use Rattle.vc_types.specs.Wavelets.{synthesised};
+ghost use Rattle.vc_lift.specs.CountedSteps.{sum_met, change_at, lift, lift_all, lift_between, in_order, place_met};
+ghost use Rattle.vc_lift.specs.Growth.{IsPlain, grows_little};
+ghost use Rattle.vc_lift.specs.Ranges.{HasRange, HasRoom, IsNarrow, counted_synthesis};
+ghost use Rattle.vc_lift.specs.Steps.{counted_of, counted_row};
+ghost use Rattle.vc_lift.specs.Halves.{place_in, line_in, AreLines, IsRun, IsBeside};
+
+use crate::halves::{Halves, place};
+use crate::step::{Row, Step, step_at, steps};
+
+// The sum of the taps, each times the sample that it meets beside sample number n of line x. What is the same for all
+// lines is reckoned once by the compiler.
+#[inline(always)]
+fn weigh(cells: &[i32], halves: &Halves, step: &Step, n: usize, x: usize) -> i32
+    requires plain { IsPlain (counted_of step.now) }
+    requires some { 0 < halves.now.half }
+    requires small { halves.now.half < 2 ^ 60 }
+    requires at { n < halves.now.half }
+    requires inside { (j : ℕ) → j < length step.now.taps.now → place_in halves.now (place_met (counted_of step.now) halves.now.half n j) + x < length cells.now }
+    requires room { HasRoom (2 ^ 31) (counted_of step.now) halves.now.half (line_in halves.now cells.now x) n }
+    ensures value { result ≡ sum_met (counted_of step.now) halves.now.half (line_in halves.now cells.now x) n }
+    ensures bound { unsigned_abs result + half_of step.now.shift < 2 ^ 31 }
+{
+    let other = 1 - step.parity;
+    let mut sum: i32 = 0;
+    for j in 0..step.taps.len() {
+        let met = (n + j).saturating_sub(step.back).min(halves.half - 1);
+        sum += step.taps[j] * cells[place(halves, other, met) + x];
+    }
+    sum
+}
+
+// By how much the step changes sample number n of line x.
+#[inline(always)]
+fn change_at(cells: &[i32], halves: &Halves, step: &Step, n: usize, x: usize) -> i32
+    requires plain { IsPlain (counted_of step.now) }
+    requires some { 0 < halves.now.half }
+    requires small { halves.now.half < 2 ^ 60 }
+    requires at { n < halves.now.half }
+    requires inside { (j : ℕ) → j < length step.now.taps.now → place_in halves.now (place_met (counted_of step.now) halves.now.half n j) + x < length cells.now }
+    requires room { HasRoom (2 ^ 31) (counted_of step.now) halves.now.half (line_in halves.now cells.now x) n }
+    ensures value { result ≡ change_at (counted_of step.now) halves.now.half (line_in halves.now cells.now x) n }
+    ensures bound { unsigned_abs (line_in halves.now cells.now x (2 * n + step.now.parity)) + unsigned_abs result < 2 ^ 31 }
+{
+    let rounding = (1u32 << step.shift) / 2;
+    (weigh(cells, halves, step, n, x) + rounding as i32) >> step.shift
+}
+
+#[inline(always)]
+fn changed_by(adds: bool, sample: i32, change: i32) -> i32
+    requires { unsigned_abs sample + unsigned_abs change < 2 ^ 31 }
+    ensures { result ≡ changed_by adds sample change }
+{
+    if adds {
+        sample + change
+    } else {
+        sample - change
+    }
+}
+
+// Makes the step on so many cells that stand side by side, from sample number n of the first line on.
+#[inline(always)]
+fn change_run(cells: &mut [i32], halves: &Halves, step: &Step, n: usize, width: usize)
+    requires plain { IsPlain (counted_of step.now) }
+    requires small { halves.now.half < 2 ^ 60 }
+    requires at { n < halves.now.half }
+    requires run { IsRun (counted_of step.now) halves.now n width (length cells.old) }
+    requires room { (x : ℕ) → x < width → HasRoom (2 ^ 31) (counted_of step.now) halves.now.half (line_in halves.now cells.old x) n }
+    ensures on { (x : ℕ) → x < width → line_of cells.new (place_in halves.now (2 * n + step.now.parity) + x) ≡ changed_by step.now.adds (line_of cells.old (place_in halves.now (2 * n + step.now.parity) + x)) (change_at (counted_of step.now) halves.now.half (line_in halves.now cells.old x) n) }
+    ensures off { (i : ℕ) → (i < place_in halves.now (2 * n + step.now.parity)) ⊎ (place_in halves.now (2 * n + step.now.parity) + width ≤ i) → line_of cells.new i ≡ line_of cells.old i }
+{
+    let at = place(halves, step.parity, n);
+    for x in 0..width {
+        let change = change_at(cells, halves, step, n, x);
+        cells[at + x] = changed_by(step.adds, cells[at + x], change);
+    }
+}
+
+// Makes the step on samples number lo to hi - 1 of each line, one number after another.
+#[inline(always)]
+fn change_each(cells: &mut [i32], halves: &Halves, step: &Step, lo: usize, hi: usize, width: usize)
+    requires plain { IsPlain (counted_of step.now) }
+    requires lines { AreLines halves.now width (length cells.old) }
+    requires ordered { lo ≤ hi }
+    requires within { hi ≤ halves.now.half }
+    requires room { (x n : ℕ) → x < width → lo ≤ n → n < hi → HasRoom (2 ^ 31) (counted_of step.now) halves.now.half (line_in halves.now cells.old x) n }
+    ensures on { (x k : ℕ) → x < width → k < 2 * halves.now.half → line_in halves.now cells.new x k ≡ lift_between (counted_of step.now) halves.now.half lo hi (line_in halves.now cells.old x) k }
+    ensures off { (i : ℕ) → IsBeside halves.now width i → line_of cells.new i ≡ line_of cells.old i }
+{
+    for n in lo..hi {
+        change_run(cells, halves, step, n, width);
+    }
+}
+
+// Makes the step on samples number lo to hi - 1 of a line whose halves are whole, all of which have all their taps inside it.
+#[inline(always)]
+fn change_inside(cells: &mut [i32], halves: &Halves, step: &Step, lo: usize, hi: usize)
+    requires plain { IsPlain (counted_of step.now) }
+    requires lines { AreLines halves.now 1 (length cells.old) }
+    requires whole { halves.now.pitch ≡ 1 }
+    requires some { lo < hi }
+    requires within { hi ≤ halves.now.half }
+    requires left { step.now.back ≤ lo }
+    requires right { hi + length step.now.taps.now ≤ halves.now.half + step.now.back + 1 }
+    requires room { (n : ℕ) → lo ≤ n → n < hi → HasRoom (2 ^ 31) (counted_of step.now) halves.now.half (line_in halves.now cells.old 0) n }
+    ensures on { (k : ℕ) → k < 2 * halves.now.half → line_in halves.now cells.new 0 k ≡ lift_between (counted_of step.now) halves.now.half lo hi (line_in halves.now cells.old 0) k }
+    ensures off { (i : ℕ) → IsBeside halves.now 1 i → line_of cells.new i ≡ line_of cells.old i }
+{
+    change_run(cells, halves, step, lo, hi - lo);
+}
+
+// The same, where there may be no such samples.
+#[inline(always)]
+fn change_middle(cells: &mut [i32], halves: &Halves, step: &Step, lo: usize, hi: usize)
+    requires plain { IsPlain (counted_of step.now) }
+    requires lines { AreLines halves.now 1 (length cells.old) }
+    requires whole { halves.now.pitch ≡ 1 }
+    requires ordered { lo ≤ hi }
+    requires within { hi ≤ halves.now.half }
+    requires left { lo < hi → step.now.back ≤ lo }
+    requires right { lo < hi → hi + length step.now.taps.now ≤ halves.now.half + step.now.back + 1 }
+    requires room { (n : ℕ) → lo ≤ n → n < hi → HasRoom (2 ^ 31) (counted_of step.now) halves.now.half (line_in halves.now cells.old 0) n }
+    ensures on { (k : ℕ) → k < 2 * halves.now.half → line_in halves.now cells.new 0 k ≡ lift_between (counted_of step.now) halves.now.half lo hi (line_in halves.now cells.old 0) k }
+    ensures off { (i : ℕ) → IsBeside halves.now 1 i → line_of cells.new i ≡ line_of cells.old i }
+{
+    if lo < hi {
+        change_inside(cells, halves, step, lo, hi);
+    }
+}
+
+// Makes the step on a line whose halves are whole: on the samples at its ends one by one, and on those between them at once.
+#[inline(always)]
+fn change_line(cells: &mut [i32], halves: &Halves, step: &Step)
+    requires plain { IsPlain (counted_of step.now) }
+    requires lines { AreLines halves.now 1 (length cells.old) }
+    requires whole { halves.now.pitch ≡ 1 }
+    requires range { HasRange (2 ^ 31) (counted_of step.now) halves.now.half (line_in halves.now cells.old 0) }
+    ensures on { (k : ℕ) → k < 2 * halves.now.half → line_in halves.now cells.new 0 k ≡ lift (counted_of step.now) halves.now.half (line_in halves.now cells.old 0) k }
+    ensures off { (i : ℕ) → IsBeside halves.now 1 i → line_of cells.new i ≡ line_of cells.old i }
+{
+    let half = halves.half;
+    let first = step.back.min(half);
+    let ahead = step.taps.len().saturating_sub(step.back).saturating_sub(1);
+    let last = half.saturating_sub(ahead).max(first);
+    change_each(cells, halves, step, 0, first, 1);
+    change_middle(cells, halves, step, first, last);
+    change_each(cells, halves, step, last, half, 1);
+}
+
+// Makes the step on each line: along it where its halves are whole, and else on the same sample of all lines at once.
+#[inline(always)]
+fn sweep(cells: &mut [i32], halves: &Halves, step: &Step, width: usize)
+    requires plain { IsPlain (counted_of step.now) }
+    requires lines { AreLines halves.now width (length cells.old) }
+    requires range { (x : ℕ) → x < width → HasRange (2 ^ 31) (counted_of step.now) halves.now.half (line_in halves.now cells.old x) }
+    ensures on { (x k : ℕ) → x < width → k < 2 * halves.now.half → line_in halves.now cells.new x k ≡ lift (counted_of step.now) halves.now.half (line_in halves.now cells.old x) k }
+    ensures off { (i : ℕ) → IsBeside halves.now width i → line_of cells.new i ≡ line_of cells.old i }
+{
+    if halves.pitch == 1 && width == 1 {
+        change_line(cells, halves, step);
+    } else {
+        change_each(cells, halves, step, 0, halves.half, width);
+    }
+}
+
+// The step with taps whose numbers the compiler sees, if they are these.
+#[inline(always)]
+fn with_taps<'a>(step: &Step, taps: &'a [i32]) -> Step<'a>
+    requires { step.now.taps.now ≡ taps.now }
+    ensures { counted_of result ≡ counted_of step.now }
+{
+    Step {
+        parity: step.parity,
+        adds: step.adds,
+        taps,
+        back: step.back,
+        shift: step.shift,
+    }
+}
+
+// Makes the step on each line, with a loop of its own for taps that are small enough for 32 bits to serve.
+#[inline(never)]
+fn lift(cells: &mut [i32], halves: &Halves, step: &Step, width: usize)
+    requires plain { IsPlain (counted_of step.now) }
+    requires lines { AreLines halves.now width (length cells.old) }
+    requires range { (x : ℕ) → x < width → HasRange (2 ^ 31) (counted_of step.now) halves.now.half (line_in halves.now cells.old x) }
+    ensures on { (x k : ℕ) → x < width → k < 2 * halves.now.half → line_in halves.now cells.new x k ≡ lift (counted_of step.now) halves.now.half (line_in halves.now cells.old x) k }
+    ensures off { (i : ℕ) → IsBeside halves.now width i → line_of cells.new i ≡ line_of cells.old i }
+{
+    let one: &[i32] = &[1];
+    let two: &[i32] = &[1, 1];
+    let four: &[i32] = &[-1, 9, 9, -1];
+    if step.taps == two {
+        sweep(cells, halves, &with_taps(step, two), width);
+    } else if step.taps == four {
+        sweep(cells, halves, &with_taps(step, four), width);
+    } else if step.taps == one {
+        sweep(cells, halves, &with_taps(step, one), width);
+    } else {
+        sweep(cells, halves, step, width);
+    }
+}
+
+// Makes the steps in turn or, where they are to be undone, the opposite steps from the last to the first.
+fn run(cells: &mut [i32], halves: &Halves, width: usize, rows: &[Row], undo: bool)
+    requires lines { AreLines halves.now width (length cells.old) }
+    requires steps { IsTrue (grows_little 16 (in_order undo (map counted_row rows.now))) }
+    requires narrow { (x : ℕ) → x < width → IsNarrow (in_order undo (map counted_row rows.now)) halves.now.half (line_in halves.now cells.old x) }
+    ensures on { (x k : ℕ) → x < width → k < 2 * halves.now.half → line_in halves.now cells.new x k ≡ lift_all (in_order undo (map counted_row rows.now)) halves.now.half (line_in halves.now cells.old x) k }
+    ensures off { (i : ℕ) → IsBeside halves.now width i → line_of cells.new i ≡ line_of cells.old i }
+{
+    for i in 0..rows.len() {
+        let step = step_at(rows, undo, i);
+        lift(cells, halves, &step, width);
+    }
+}
+
+/// Synthesises lines that stand side by side, in 32 bits (ST 2042-1, one-dimensional synthesis). Magnitudes are such that
+/// no step leaves 32 bits, as `narrow_bound` tells.
+pub fn synth_narrow(wavelet: u8, cells: &mut [i32], halves: &Halves, width: usize)
+    requires wavelet { wavelet ≤ 6 }
+    requires lines { AreLines halves.now width (length cells.old) }
+    requires narrow { (x : ℕ) → x < width → IsNarrow (counted_synthesis wavelet) halves.now.half (line_in halves.now cells.old x) }
+    ensures on { (x k : ℕ) → x < width → k < 2 * halves.now.half → line_in halves.now cells.new x k ≡ synthesised wavelet (2 * halves.now.half) (line_in halves.now cells.old x) k }
+    ensures off { (i : ℕ) → IsBeside halves.now width i → line_of cells.new i ≡ line_of cells.old i }
+{
+    run(cells, halves, width, steps(wavelet), false)
+}

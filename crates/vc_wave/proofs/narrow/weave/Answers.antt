@@ -1,0 +1,27 @@
+use Rattle.std.proofs.Common.{rules, ◌≡◌, ◌+◌, ◌*◌, ◌<◌, ℕ, length, ℤ, pos, FitsSigned, slice_index_or, to_z, of_z, arith, ap, ◌∙◌}
+use Rattle.std.specs.Prelude.{if◌then◌else◌}
+use Rattle.std.specs.Int.{w32}
+use Rattle.std.proofs.lemmas.Int.{to_z-of_z}
+use Rattle.vc_types.specs.Lifting.{line_of}
+use Rattle.vc_types.specs.Transforms.{halved}
+use Rattle.vc_wave.proofs.NarrowRows.{even_more, odd_more, off_more}
+use Rattle.vc_wave.proofs.narrow.weave.Goals as goal
+
+pub loop-k-preserved : goal.loop-k-preserved
+loop-k-preserved c =
+    let k = c.loop-k.k in
+    let line = c.copy_row.new.line in
+    let first = slice_index_or line k (pos 0) in
+    let second = slice_index_or line (c.args.half + k) (pos 0) in
+    let first_fits : FitsSigned w32 first = search rules in
+    let second_fits : FitsSigned w32 second = search rules in
+    let within : c.args.start + 2 * k + 1 < length c.loop-k.cells = omega arith in
+    let even : to_z w32 (of_z w32 c.settled.result) ≡ (if c.args.shifted then halved first else first) =
+    to_z-of_z w32 c.settled.result (record { sfits = c.settled.type_inv }) ∙ c.settled.ensures ∙ ap (λ z. if c.args.shifted then halved z else z) (to_z-of_z w32 first first_fits) in
+    let odd : to_z w32 (of_z w32 c.settled-in-loop-k.result) ≡ (if c.args.shifted then halved second else second) =
+    to_z-of_z w32 c.settled-in-loop-k.result (record { sfits = c.settled-in-loop-k.type_inv }) ∙ c.settled-in-loop-k.ensures ∙ ap (λ z. if c.args.shifted then halved z else z) (to_z-of_z w32 second second_fits) in
+    record {
+      even = even_more c.loop-k.cells c.args.start k _ _ within (λ i. if c.args.shifted then halved (line_of line i) else line_of line i) even c.loop-k.invariant.even;
+      odd = odd_more c.loop-k.cells c.args.start k _ _ within (λ i. if c.args.shifted then halved (line_of line (c.args.half + i)) else line_of line (c.args.half + i)) odd c.loop-k.invariant.odd;
+      off = off_more c.loop-k.cells c.args.start k _ _ within c.args.cells.now c.loop-k.invariant.off;
+    }
