@@ -25,3 +25,4 @@ pub mod Idle
 pub mod EarlyDatagrams
 pub mod EarlyEnd
 pub mod Following
+pub mod ReceiverRows
