@@ -6,8 +6,7 @@ use Rattle.std.specs.Prelude.{◌==◌, ◌&&◌, ◌||◌, is_some, not}
 use Rattle.std.specs.List.{last_or}
 use Rattle.std.specs.Option.{option_and_then}
 use Rattle.std.proofs.lemmas.Bool.{cases_Bool, cases_eq, cond-true, cond-false}
-use Rattle.std.proofs.lemmas.Bool.{eq-eqb, ne_eqb, both_ways}
-use Rattle.std.proofs.lemmas.Bool.{false_from_ne_true}
+use Rattle.std.proofs.lemmas.Bool.{eq-eqb, ne_eqb, both_ways, false_from_ne_true}
 use Rattle.std.proofs.lemmas.List.Sums.{fold_push}
 use Rattle.std.proofs.lemmas.Option.{none-some}
 use Rattle.link_model.specs.Complete.{slice_numbers, has_all_slices, picture_planes}
@@ -20,17 +19,14 @@ use Rattle.link_model.specs.Next.{unanswered}
 use Rattle.link_model.specs.Numbers.{Numbered, is_opened, parts_of}
 use Rattle.link_model.specs.Output.{planes_at}
 use Rattle.link_model.specs.Session.{HeardSession, sessions_of}
-use Rattle.link_model.specs.Windows.{WindowPast}
-use Rattle.link_model.specs.Windows.{releasable_numbers, first_of}
-use Rattle.link_model.specs.Windows.{released_up_to}
+use Rattle.link_model.specs.Windows.{WindowPast, releasable_numbers, first_of, released_up_to}
 use Rattle.link_model.specs.declared.tally.Tally.{Tally}
 use Rattle.link_model.proofs.Releasing.{all_at}
 use Rattle.vc_types.specs.Planes.{Planes}
 use Rattle.vc_types.specs.SequenceHeader.{Sequence}
 use Rattle.vc_types.specs.Subbands.{slice_count}
 use Rattle.link_receiver.specs.Receptions.{StandingSession, Reception, FirstField}
-use Rattle.link_receiver.specs.Releasing.{as_first}
-use Rattle.link_receiver.specs.Releasing.{field_before, field_behind}
+use Rattle.link_receiver.specs.Releasing.{as_first, field_before, field_behind}
 use Rattle.link_model.specs.Interleavings.{AreOwnAnswers}
 use Rattle.link_receiver.specs.Standing.{Fields, no_fields, next_field, fields_behind}
 use Rattle.link_receiver.proofs.AnsweredPictures.{AreOfKept, incomplete_planes, no_own_planes}

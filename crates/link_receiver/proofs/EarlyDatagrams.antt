@@ -5,11 +5,9 @@ use Rattle.std.specs.Prelude.{is_some}
 use Rattle.std.specs.Option.{option_map}
 use Rattle.std.proofs.lemmas.List.{append-nil}
 use Rattle.std.proofs.lemmas.Option.{none-some}
-use Rattle.link_model.specs.Feeders.{Feeder, kept_job, heard_pictures, let_go_pictures}
-use Rattle.link_model.specs.Feeders.{releasable}
+use Rattle.link_model.specs.Feeders.{Feeder, kept_job, heard_pictures, let_go_pictures, releasable}
 use Rattle.link_model.specs.Feeding.{hears_datagram}
-use Rattle.link_model.specs.Judgement.{outcomes_in, outcome_counts, with_outcome}
-use Rattle.link_model.specs.Judgement.{with_sessions}
+use Rattle.link_model.specs.Judgement.{outcomes_in, outcome_counts, with_outcome, with_sessions}
 use Rattle.link_model.specs.Machine.{Enter}
 use Rattle.link_model.specs.Next.{feeder_run, all_releasing, taken_back, next_feeder}
 use Rattle.link_model.specs.Numbers.{greatest, least, parts_of, opened_numbers}
@@ -23,15 +21,13 @@ use Rattle.link_model.proofs.Counting.{counts_more}
 use Rattle.link_model.proofs.Hearing.{sessions_of_more, hears_new, hears_on}
 use Rattle.link_model.proofs.SessionOutput.{opening_writes_nothing}
 use Rattle.link_model.proofs.WindowStands.{new_stands}
-use Rattle.link_receiver.specs.Entering.{greatest_in, opens_session}
-use Rattle.link_receiver.specs.Entering.{takes_datagram, datagram_bytes}
+use Rattle.link_receiver.specs.Entering.{greatest_in, opens_session, takes_datagram, datagram_bytes}
 use Rattle.link_receiver.specs.Exchanging.{Exchange, all_exchanged, dones_in}
 use Rattle.link_receiver.specs.Judging.{session_opened, opens_after, keeps_datagram}
 use Rattle.link_receiver.specs.Judging.{stands_on, judged}
 use Rattle.link_receiver.specs.Receptions.{StandingSession, Reception, FirstField}
 use Rattle.link_receiver.specs.Receptions.{PictureAnswers, answers_at, kept_answer}
-use Rattle.link_receiver.specs.Releasing.{releases_all}
-use Rattle.link_receiver.specs.Releasing.{one_if}
+use Rattle.link_receiver.specs.Releasing.{releases_all, one_if}
 use Rattle.link_receiver.specs.Standing.{StandsFor, standing_of, all_released}
 use Rattle.link_receiver.specs.Standing.{last_past, field_of_sessions, counts_of_sessions}
 use Rattle.link_receiver.specs.Standing.{past_fields, past_counts, HasSlots}

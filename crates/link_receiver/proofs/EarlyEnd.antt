@@ -5,36 +5,28 @@ use Rattle.std.specs.Prelude.{is_some}
 use Rattle.std.specs.Option.{option_map}
 use Rattle.std.proofs.lemmas.List.{append-nil}
 use Rattle.std.proofs.lemmas.Option.{none-some}
-use Rattle.link_model.specs.Feeders.{Feeder, kept_job, heard_pictures, let_go_pictures}
-use Rattle.link_model.specs.Feeders.{releasable}
+use Rattle.link_model.specs.Feeders.{Feeder, kept_job, heard_pictures, let_go_pictures, releasable}
 use Rattle.link_model.specs.Feeding.{hears_end}
-use Rattle.link_model.specs.Judgement.{outcomes_in, outcome_counts}
-use Rattle.link_model.specs.Judgement.{with_sessions}
+use Rattle.link_model.specs.Judgement.{outcomes_in, outcome_counts, with_sessions}
 use Rattle.link_model.specs.Machine.{Finish}
 use Rattle.link_model.specs.Next.{feeder_run, all_releasing, taken_back, next_feeder}
-use Rattle.link_model.specs.Output.{all_output}
-use Rattle.link_model.specs.Output.{full_output}
+use Rattle.link_model.specs.Output.{all_output, full_output}
 use Rattle.link_model.specs.Places.{Answered}
 use Rattle.link_model.specs.Session.{HeardSession, sessions_of}
 use Rattle.link_model.specs.declared.tally.Tally.{Tally}
-use Rattle.link_receiver.specs.Entering.{gives_up_field}
-use Rattle.link_receiver.specs.Entering.{takes_end, end_bytes}
+use Rattle.link_receiver.specs.Entering.{gives_up_field, takes_end, end_bytes}
 use Rattle.link_receiver.specs.Exchanging.{Exchange, all_exchanged, dones_in}
-use Rattle.link_receiver.specs.Judging.{ends_input}
-use Rattle.link_receiver.specs.Judging.{is_over}
+use Rattle.link_receiver.specs.Judging.{ends_input, is_over}
 use Rattle.link_receiver.specs.Receptions.{Reception, FirstField}
 use Rattle.link_receiver.specs.Receptions.{PictureAnswers, answers_at, kept_answer}
 use Rattle.link_receiver.specs.Releasing.{one_if}
-use Rattle.link_receiver.specs.Standing.{StandsFor, standing_of}
-use Rattle.link_receiver.specs.Standing.{counts_of_sessions}
-use Rattle.link_receiver.specs.Standing.{HasSlots}
+use Rattle.link_receiver.specs.Standing.{StandsFor, standing_of, counts_of_sessions, HasSlots}
 use Rattle.link_receiver.proofs.HeardMore.{written_of}
 use Rattle.link_receiver.specs.Standing.{out_without}
 use Rattle.link_receiver.proofs.ReleaseRuns.{none_go}
 use Rattle.link_receiver.proofs.Idle.{IsSame, IsIdle, idle_exchanged, nothing_released}
 use Rattle.link_receiver.proofs.Idle.{nothing_written, idle_feeder, idle_releasable, nothing_kept}
-use Rattle.link_receiver.proofs.Idle.{none_stands, no_field, counts_are}
-use Rattle.link_receiver.proofs.Idle.{none_gone, none_written}
+use Rattle.link_receiver.proofs.Idle.{none_stands, no_field, counts_are, none_gone, none_written}
 
 module _ (r : Reception) (size : ℕ) (f : Feeder) (stands : StandsFor r size f)
     (runs : f.has_ended ≡ false) (at : sessions_of f.heard ≡ []) (xs : List Exchange) where

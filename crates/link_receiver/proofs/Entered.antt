@@ -21,8 +21,7 @@ use Rattle.link_receiver.specs.Exchanging.{Exchange, all_exchanged, dones_in}
 use Rattle.link_receiver.specs.Judging.{goes_on, is_over, keeps_datagram, ends_input}
 use Rattle.link_receiver.specs.Receptions.{StandingSession, Reception}
 use Rattle.link_receiver.specs.Releasing.{releases_all, all_released_bytes}
-use Rattle.link_receiver.specs.Standing.{StandsFor, AreDecodings, all_released}
-use Rattle.link_receiver.specs.Standing.{out_without}
+use Rattle.link_receiver.specs.Standing.{StandsFor, AreDecodings, all_released, out_without}
 use Rattle.link_receiver.proofs.Redone.{redone, redo_run}
 use Rattle.link_receiver.proofs.ReleaseRuns.{all_run, releasable_are}
 use Rattle.link_receiver.proofs.Resting.{rest_stands, next_stands, end_stands}

@@ -1,23 +1,18 @@
 -- What stays as a datagram more is heard, and which pictures are the last session's.
-use Rattle.std.proofs.Common.{cond, Bool}
-use Rattle.std.proofs.Common.{◌≡◌, ℕ, ◌≤◌, true, false, refl, ap, sym}
-use Rattle.std.proofs.Common.{List, [], ◌∷◌, Option, Some, None, ◌∙◌}
-use Rattle.std.proofs.Common.{inl, inr}
+use Rattle.std.proofs.Common.{cond, Bool, ◌≡◌, ℕ, ◌≤◌, true, false, refl, ap, sym}
+use Rattle.std.proofs.Common.{List, [], ◌∷◌, Option, Some, None, ◌∙◌, inl, inr}
 use Rattle.std.specs.Prelude.{◌⊎◌}
 use Rattle.std.specs.List.{range_with_len}
 use Rattle.std.specs.Option.{option_and_then, option_map}
 use Rattle.std.proofs.lemmas.Bool.{cases_Bool, false_from_ne_true, both_ways}
 use Rattle.std.proofs.lemmas.Option.{none-some}
-use Rattle.link_model.specs.Feeders.{SliceAnswer, session_opening, entered_session}
-use Rattle.link_model.specs.Feeders.{picture_keeps}
+use Rattle.link_model.specs.Feeders.{SliceAnswer, session_opening, entered_session, picture_keeps}
 use Rattle.link_model.specs.Feeders.{heard_pictures, is_among}
 use Rattle.link_model.specs.Feeding.{planes_by, sound_answers}
 use Rattle.link_model.specs.Kept.{Own, KeptParameters}
 use Rattle.link_model.specs.Numbers.{Numbered, is_opened}
-use Rattle.link_model.specs.Output.{full_output, output_so_far}
-use Rattle.link_model.specs.Output.{is_opened_in, entered_behind}
-use Rattle.link_model.specs.Session.{HeardSession}
-use Rattle.link_model.specs.Session.{hears}
+use Rattle.link_model.specs.Output.{full_output, output_so_far, is_opened_in, entered_behind}
+use Rattle.link_model.specs.Session.{HeardSession, hears}
 use Rattle.link_model.proofs.Apart.{sessions_apart}
 use Rattle.vc_types.specs.Planes.{Planes, planes_of}
 use Rattle.vc_types.specs.Subbands.{slice_count}
@@ -26,8 +21,7 @@ use Rattle.link_receiver.specs.Standing.{HasSlots}
 use Rattle.link_model.specs.Interleavings.{AreOwnAnswers}
 use Rattle.link_receiver.specs.Standing.{answered_planes}
 use Rattle.link_receiver.proofs.SessionPictures.{pictures_among, session_last, session_before}
-use Rattle.link_receiver.proofs.SessionPictures.{session_none, job_stays}
-use Rattle.link_receiver.proofs.SessionPictures.{picture_keeps_on}
+use Rattle.link_receiver.proofs.SessionPictures.{session_none, job_stays, picture_keeps_on}
 
 -- what is written of what was heard
 abbrev pub written_of : ℕ → Bool → List (List ℕ) → List ℕ

@@ -8,19 +8,15 @@ use Rattle.std.proofs.lemmas.Bool.{cond-false}
 use Rattle.link_model.specs.Feeders.{Feeder, session_opening, kept_job, let_go_pictures}
 use Rattle.link_model.specs.Feeders.{slice_job, has_released, is_decoded, not_released, releasable}
 use Rattle.link_model.specs.Feeders.{keeps_of, job_by, EnteredSession}
-use Rattle.link_model.specs.Feeding.{takes_answer, with_answer, has_job}
-use Rattle.link_model.specs.Feeding.{is_same_job}
+use Rattle.link_model.specs.Feeding.{takes_answer, with_answer, has_job, is_same_job}
 use Rattle.link_model.specs.Judgement.{outcomes_in, outcome_counts}
 use Rattle.link_model.specs.Next.{feeder_run, all_releasing, releasing, taken_back}
-use Rattle.link_model.specs.Output.{last_so_far}
-use Rattle.link_model.specs.Output.{output_so_far}
+use Rattle.link_model.specs.Output.{last_so_far, output_so_far}
 use Rattle.link_model.specs.Places.{Job, Answered}
 use Rattle.link_model.specs.Session.{Session, HeardSession, just_opened, sessions_of}
 use Rattle.link_receiver.specs.Exchanging.{Exchange, Proposed, Fetched, all_exchanged}
-use Rattle.link_receiver.specs.Exchanging.{out_at, back_from, unreleased_job, is_wanted}
-use Rattle.link_receiver.specs.Exchanging.{takes_done}
-use Rattle.link_receiver.specs.Receptions.{StandingSession, Reception}
-use Rattle.link_receiver.specs.Receptions.{kept_answer, keeps_answer}
+use Rattle.link_receiver.specs.Exchanging.{out_at, back_from, unreleased_job, is_wanted, takes_done}
+use Rattle.link_receiver.specs.Receptions.{StandingSession, Reception, kept_answer, keeps_answer}
 use Rattle.link_receiver.specs.Releasing.{releases_up_to, bytes_up_to, releases_all}
 use Rattle.link_receiver.specs.Releasing.{all_released_bytes}
 use Rattle.link_receiver.specs.Standing.{StandsFor, standing_of}

@@ -9,8 +9,7 @@ use Rattle.link_model.specs.Packets.{PayloadValue, Header, End, Skip, Params, Sl
 use Rattle.link_model.specs.Session.{Received, received, DatagramRefusal, Session, HeardSession}
 use Rattle.link_model.specs.Session.{opens_behind, session_by, sessions_of}
 use Rattle.link_model.specs.Session.{params_fragment, slices_fragment}
-use Rattle.link_model.specs.Windows.{WindowPast, past_let_go, window_of}
-use Rattle.link_model.specs.Windows.{StandsForPast}
+use Rattle.link_model.specs.Windows.{WindowPast, past_let_go, window_of, StandsForPast}
 use Rattle.link_model.specs.declared.outcome.Outcome.{Outcome}
 use Rattle.link_model.specs.declared.outcome.Outcome.TheVariants as outcomes
 use Rattle.link_model.proofs.RisingNumbers.{begins_with}

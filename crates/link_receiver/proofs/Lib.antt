@@ -10,6 +10,7 @@ pub mod Working
 pub mod Redone
 pub mod ReleaseLists
 pub mod OfferedJobs
+pub mod UnkeptDatagrams
 pub mod BuiltPictures
 pub mod Releases
 pub mod ReleaseRuns
@@ -24,3 +25,4 @@ pub mod Idle
 pub mod EarlyDatagrams
 pub mod EarlyEnd
 pub mod Following
+pub mod ReceiverRows

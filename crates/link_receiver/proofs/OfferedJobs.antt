@@ -1,25 +1,24 @@
 -- The jobs that a fragment offers are those of the slices that it brings.
-use Rattle.std.proofs.Common.{◌≡◌, ℕ, ◌+◌, ◌<◌, ◌≤◌, Bool, true, false, refl, ap, sym, ◌∙◌, arith}
+use Rattle.std.proofs.Common.{◌≡◌, ℕ, ◌+◌, Bool, true, false, refl, ap, sym, ◌∙◌, arith}
 use Rattle.std.proofs.Common.{List, [], ◌∷◌, ◌++◌, length, Option, Some, None, cond, inl, inr}
 use Rattle.std.proofs.Common.{subst}
-use Rattle.std.specs.Prelude.{◌==◌, ◌&&◌, ◌||◌, is_some, not, nat_le, filter_map, bytes_eq}
-use Rattle.std.specs.Prelude.{slice_get}
-use Rattle.std.specs.List.{list_any, cons_option, last_or, range_with_len}
+use Rattle.std.specs.Prelude.{◌==◌, ◌&&◌, ◌||◌, is_some, not, filter_map, bytes_eq, slice_get}
+use Rattle.std.specs.List.{cons_option, last_or, range_with_len}
 use Rattle.std.specs.Option.{option_and_then, option_map, option_map_or}
-use Rattle.std.proofs.lemmas.Bool.{cases_Bool, cases_eq, cond-true, cond-false, and_from, eq-eqb}
-use Rattle.std.proofs.lemmas.Bool.{ne_eqb, false≢true, both_ways, le-leb, leb-true}
+use Rattle.std.proofs.lemmas.Bool.{cases_Bool, cases_eq, cond-false, and_from, eq-eqb}
+use Rattle.std.proofs.lemmas.Bool.{ne_eqb, false≢true, le-leb, leb-true}
 use Rattle.std.proofs.lemmas.List.{append-nil}
 use Rattle.std.proofs.lemmas.Option.{none-some, same_Some, slice_get_within}
 use Rattle.std.proofs.lemmas.Slice.Eq.{bytes_eq-Decides}
 use Rattle.link_model.specs.Books.{Book, book_of, book_slice, Gathered, slot_at}
 use Rattle.link_model.specs.Feeders.{is_among}
 use Rattle.link_model.specs.Feeding.{is_same_job}
-use Rattle.link_model.specs.Numbers.{Numbered, base_above, enters, greatest, has_parts, is_closed}
+use Rattle.link_model.specs.Numbers.{Numbered, base_above, greatest, has_parts, is_closed}
 use Rattle.link_model.specs.Numbers.{is_late, is_opened, parts_of, picture_number}
 use Rattle.link_model.specs.Places.{Job}
 use Rattle.link_model.specs.Session.{Part, Fragment}
 use Rattle.link_model.specs.Windows.{Window, WindowPast, StandsForPast, book_at, number_by}
-use Rattle.link_model.specs.Windows.{window_enters, past_enters, is_needed, released_up_to}
+use Rattle.link_model.specs.Windows.{window_enters, past_enters, released_up_to}
 use Rattle.link_model.proofs.Numbering.{early_enters, enters_follows, late_changes_nothing}
 use Rattle.link_model.proofs.Numbering.{parts_of-append, parts_of-other}
 use Rattle.link_model.proofs.Windowing.{number_of_window}
@@ -215,10 +214,10 @@ module _ (w : Window) (p : WindowPast) (stands : StandsForPast w p) (runs : p.is
   number_is = ap (λ (v : Window). number_by v f.number) stands.value
       ∙ number_of_window p f.number
 
-  abbrev later : WindowPast
+  abbrev pub later : WindowPast
   later = past_enters p f
 
-  other_parts : (n : ℕ) → (n ≡ m → ⊥) → parts_of n later.entries ≡ parts_of n p.entries
+  pub other_parts : (n : ℕ) → (n ≡ m → ⊥) → parts_of n later.entries ≡ parts_of n p.entries
   other_parts n other = elim (cases_Bool (is_late p.size p.entries m)) [
     | inl late ↦ ap (parts_of n)
         (late_changes_nothing (base_above p.before) p.size p.entries f late)
@@ -230,7 +229,7 @@ module _ (w : Window) (p : WindowPast) (stands : StandsForPast w p) (runs : p.is
         ∙ append-nil (parts_of n p.entries))
   ]
 
-  closed_later : (n : ℕ) → is_closed p.size p.entries n ≡ true
+  pub closed_later : (n : ℕ) → is_closed p.size p.entries n ≡ true
       → is_closed p.size later.entries n ≡ true
   unfolding is_closed
   closed_later n closed =

@@ -2,12 +2,10 @@
 use Rattle.std.proofs.Common.{◌≡◌, ℕ, ◌+◌, ◌-◌, ◌%◌, Bool, true, false, refl}
 use Rattle.std.proofs.Common.{ap, sym, List, [], ◌∷◌, ◌++◌, map, Option, Some, None, subst}
 use Rattle.std.proofs.Common.{◌∙◌, arith, cond, inl, inr}
-use Rattle.std.specs.Prelude.{◌==◌, ◌||◌, is_some}
-use Rattle.std.specs.Prelude.{count_by}
+use Rattle.std.specs.Prelude.{◌==◌, ◌||◌, is_some, count_by}
 use Rattle.std.specs.List.{flat_map}
 use Rattle.std.specs.Option.{option_and_then, option_map, option_map_or}
-use Rattle.std.proofs.lemmas.Bool.{cases_eq}
-use Rattle.std.proofs.lemmas.Bool.{eqb-true, eq-eqb, both_ways, or_parts}
+use Rattle.std.proofs.lemmas.Bool.{cases_eq, eqb-true, eq-eqb, both_ways, or_parts}
 use Rattle.std.proofs.lemmas.List.{append_assoc, append-nil}
 use Rattle.std.proofs.lemmas.List.Concat.{flat_map-append}
 use Rattle.std.proofs.lemmas.List.Sums.{fold_push, fold-append}
@@ -43,8 +41,7 @@ use Rattle.link_receiver.specs.Standing.{Fields, no_fields, next_field, fields_b
 use Rattle.link_receiver.specs.Standing.{past_counts}
 use Rattle.link_receiver.proofs.AnsweredPictures.{book_planes_are}
 use Rattle.link_receiver.proofs.KeptAnswers.{without_own, without_others}
-use Rattle.link_receiver.proofs.Redone.{answers_of_kept, redone}
-use Rattle.link_receiver.proofs.Redone.{redone_others, redo_run}
+use Rattle.link_receiver.proofs.Redone.{answers_of_kept, redone, redone_others, redo_run}
 use Rattle.link_receiver.proofs.SessionPictures.{among_append}
 use Rattle.link_receiver.proofs.WaitingFields.{first_is}
 use Rattle.link_receiver.proofs.Working.{IsWorking, entered_of, book_of_unreleased}

@@ -1,19 +1,16 @@
 -- The jobs of slices, by the book of a picture and by what the feeder heard, and answers of other
 -- pictures.
 use Rattle.std.proofs.Common.{◌≡◌, ℕ, ◌+◌, ◌<◌, Bool, true, refl, ap, sym}
-use Rattle.std.proofs.Common.{List, [], ◌∷◌, Option, Some, None, ◌∙◌}
-use Rattle.std.proofs.Common.{arith, cond, inl, inr}
+use Rattle.std.proofs.Common.{List, [], ◌∷◌, Option, Some, None, ◌∙◌, arith, cond, inl, inr}
 use Rattle.std.specs.Prelude.{◌==◌, ◌&&◌, bytes_eq}
 use Rattle.std.specs.Option.{option_and_then, option_map}
-use Rattle.std.proofs.lemmas.Bool.{cases_lt}
-use Rattle.std.proofs.lemmas.Bool.{and_parts, eqb-true, ne_eqb}
+use Rattle.std.proofs.lemmas.Bool.{cases_lt, and_parts, eqb-true, ne_eqb}
 use Rattle.std.proofs.lemmas.Option.{none-some, same_Some}
 use Rattle.std.proofs.lemmas.Slice.Eq.{bytes_eq-Decides}
 use Rattle.link_model.specs.Books.{book_of, gathered_of, slot_at}
 use Rattle.link_model.specs.Complete.{slice_numbers}
 use Rattle.link_model.specs.Feeders.{EnteredSession, session_opening, keeps_of, job_by, job_with}
-use Rattle.link_model.specs.Feeders.{kept_job, picture_keeps}
-use Rattle.link_model.specs.Feeders.{answer_in, SliceAnswer}
+use Rattle.link_model.specs.Feeders.{kept_job, picture_keeps, answer_in, SliceAnswer}
 use Rattle.link_model.specs.Feeding.{is_same_job, planes_by}
 use Rattle.link_model.specs.Feeding.{sound_answer, sound_answers, with_first}
 use Rattle.link_model.specs.Kept.{Own, own, own_slice}

@@ -1,7 +1,6 @@
 -- A receiver that stands for what was heard goes to work as a datagram or the end comes.
 use Rattle.std.proofs.Common.{◌≡◌, ℕ, ◌-◌, ◌%◌, ◌≤◌, Bool, true, false, refl, ap, sym}
-use Rattle.std.proofs.Common.{List, [], ◌∷◌, ◌++◌, Option, Some, None, subst, ◌∙◌}
-use Rattle.std.proofs.Common.{arith, cond}
+use Rattle.std.proofs.Common.{List, [], ◌∷◌, ◌++◌, Option, Some, None, subst, ◌∙◌, arith, cond}
 use Rattle.std.specs.Prelude.{◌==◌, ◌||◌, ◌⊎◌, is_some, filter_map}
 use Rattle.std.specs.List.{flat_map}
 use Rattle.std.specs.Option.{option_map}
@@ -16,8 +15,7 @@ use Rattle.link_model.specs.Numbers.{Numbered, base_above, greatest, least, part
 use Rattle.link_model.specs.Numbers.{opened_numbers}
 use Rattle.link_model.specs.Output.{complete_at, planes_at, frame_at, frame_bytes_at, is_let_go}
 use Rattle.link_model.specs.Output.{let_go_numbers, frames_so_far, all_output, last_so_far}
-use Rattle.link_model.specs.Output.{output_so_far, entered_behind, greatest_of}
-use Rattle.link_model.specs.Output.{woven_fields}
+use Rattle.link_model.specs.Output.{output_so_far, entered_behind, greatest_of, woven_fields}
 use Rattle.link_model.specs.Session.{Session, Fragment, HeardSession, just_opened, with_datagram}
 use Rattle.link_model.specs.Session.{hears, sessions_of, opens_behind, begins, fragment_in}
 use Rattle.link_model.specs.Windows.{WindowPast, StandsForPast, past_let_go, session_past}
@@ -32,15 +30,13 @@ use Rattle.link_model.proofs.WindowStands.{enters_stands, finishes_stands}
 use Rattle.vc_types.specs.Planes.{Planes}
 use Rattle.link_receiver.specs.Judging.{session_opened, opens_after, stands_on, goes_on}
 use Rattle.link_receiver.specs.Judging.{enters_window, is_over, keeps_datagram, ends_input, judged}
-use Rattle.link_receiver.specs.Receptions.{StandingSession, Reception, FirstField}
-use Rattle.link_receiver.specs.Receptions.{answers_at}
+use Rattle.link_receiver.specs.Receptions.{StandingSession, Reception, FirstField, answers_at}
 use Rattle.link_receiver.specs.Standing.{StandsFor, standing_of, standing_with}
 use Rattle.link_receiver.specs.Standing.{all_released, last_past, HasSlots}
 use Rattle.link_model.specs.Interleavings.{AreOwnAnswers}
 use Rattle.link_receiver.specs.Standing.{answered_planes, field_of_sessions, counts_of_sessions}
 use Rattle.link_receiver.specs.Standing.{past_fields, past_counts, Fields}
-use Rattle.link_receiver.proofs.HeardMore.{written_of}
-use Rattle.link_receiver.proofs.HeardMore.{own_stays, room_stays, planes_stay, of_last}
+use Rattle.link_receiver.proofs.HeardMore.{written_of, own_stays, room_stays, planes_stay, of_last}
 use Rattle.link_receiver.proofs.HeardMore.{of_others, not_before}
 use Rattle.link_receiver.proofs.JudgedOutcomes.{resting_stands, opens_same, judged_is}
 use Rattle.link_receiver.proofs.ReleasedNumbers.{released_gone}

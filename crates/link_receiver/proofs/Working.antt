@@ -6,15 +6,13 @@ use Rattle.std.proofs.Common.{arith, cond, inl, inr}
 use Rattle.std.specs.Prelude.{◌==◌, ◌&&◌, ◌||◌, ◌⊎◌, is_none, not, unwrap_or}
 use Rattle.std.specs.List.{flat_map, last_or}
 use Rattle.std.specs.Option.{option_and_then, option_map_or}
-use Rattle.std.proofs.lemmas.Bool.{cases_Bool, cases_eq, cond-true, cond-false}
-use Rattle.std.proofs.lemmas.Bool.{and_parts, or_parts}
+use Rattle.std.proofs.lemmas.Bool.{cases_Bool, cases_eq, cond-true, cond-false, and_parts, or_parts}
 use Rattle.std.proofs.lemmas.Bool.{false≢true, both_ways, not-true}
 use Rattle.std.proofs.lemmas.Option.{same_Some}
 use Rattle.link_model.specs.Books.{Book, book_of}
 use Rattle.link_model.specs.Feeders.{Feeder, EnteredSession, session_opening, keeps_of, job_by}
 use Rattle.link_model.specs.Feeders.{kept_job, picture_keeps, heard_pictures, let_go_pictures}
-use Rattle.link_model.specs.Feeders.{is_among, answer_in, has_released, slice_job}
-use Rattle.link_model.specs.Feeders.{is_decoded}
+use Rattle.link_model.specs.Feeders.{is_among, answer_in, has_released, slice_job, is_decoded}
 use Rattle.link_model.specs.Feeding.{is_same_job, has_job, takes_answer, with_answer}
 use Rattle.link_model.specs.Kept.{Own}
 use Rattle.link_model.specs.Numbers.{is_closed, is_opened, parts_of}

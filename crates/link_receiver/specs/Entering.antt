@@ -1,10 +1,11 @@
 -- What a datagram and the end of the input do to a receiver (this project's own): it judges, keeps,
 -- offers and takes back, and then it releases what it may.
-use Rattle.std.specs.Prelude.{ℕ, ◌+◌, false, is_some, List, Option, Some, None}
+use Rattle.std.specs.Prelude.{ℕ, ◌+◌, false, is_some, List, [], Option, Some, None}
 use Rattle.std.specs.Option.{option_map_or}
-use Rattle.link_model.specs.Session.{Session}
-use Rattle.link_model.specs.Windows.{new_window}
-use Rattle.link_receiver.specs.Exchanging.{Exchange, all_exchanged}
+use Rattle.link_model.specs.Places.{Job}
+use Rattle.link_model.specs.Session.{Session, Fragment, fragment_in}
+use Rattle.link_model.specs.Windows.{new_window, window_enters}
+use Rattle.link_receiver.specs.Exchanging.{Exchange, all_exchanged, offered_jobs}
 use Rattle.link_receiver.specs.Judging.{session_opened, keeps_datagram, ends_input}
 use Rattle.link_receiver.specs.Receptions.{StandingSession, Reception}
 use Rattle.link_receiver.specs.Releasing.{one_if, releases_all, all_released_bytes}
@@ -31,6 +32,20 @@ opens_session None r = r
 opens_session (Some s) r = record (gives_up_field r) { standing = Some (newly_standing r s) }
 
 -- ---- a datagram
+
+abbrev pub jobs_of_fragment : StandingSession → Option Fragment → List Job
+jobs_of_fragment st None = []
+jobs_of_fragment st (Some f) = offered_jobs st.window (window_enters st.window f) f
+
+-- one that opens a session brings no slices
+abbrev pub jobs_before : Option Session → StandingSession → List ℕ → List Job
+jobs_before None st datagram = jobs_of_fragment st (fragment_in st.session datagram)
+jobs_before (Some next) st datagram = []
+
+-- the jobs that it offers
+unfoldable pub datagram_jobs : Reception → List ℕ → List Job
+datagram_jobs r datagram =
+    option_map_or (λ st. jobs_before (session_opened r datagram) st datagram) r.standing []
 
 abbrev pub before_releases : Reception → List ℕ → List Exchange → Reception
 before_releases r datagram exchanges = all_exchanged (keeps_datagram r datagram) exchanges

@@ -2,8 +2,7 @@
 use Rattle.std.specs.Prelude.{ℕ, ◌==◌, ◌&&◌, ◌||◌, if◌then◌else◌, is_some, List}
 use Rattle.std.specs.Prelude.{true, Option, Some, None, Result, Ok, Err}
 use Rattle.std.specs.Option.{option_map}
-use Rattle.link_model.specs.Judgement.{refusal_outcome, early_outcome, header_outcome}
-use Rattle.link_model.specs.Judgement.{with_outcome}
+use Rattle.link_model.specs.Judgement.{refusal_outcome, early_outcome, header_outcome, with_outcome}
 use Rattle.link_model.specs.Packets.{PayloadValue, Header, End, Skip, Params, Slices}
 use Rattle.link_model.specs.Session.{Received, received, DatagramRefusal, Session, is_other}
 use Rattle.link_model.specs.Session.{session_by, begins, ends, Fragment, fragment_in}

@@ -1,20 +1,24 @@
 -- What a receiver stands for: a list of datagrams that it heard, and the feeder of workers that
 -- heard them.
-use Rattle.std.specs.Prelude.{◌≡◌, ℕ, ◌+◌, Bool, true, false, count_by, fold, filter, not}
-use Rattle.std.specs.Prelude.{if◌then◌else◌, List, [], ◌∷◌, length, Option, Some, None}
+use Rattle.std.specs.Prelude.{◌≡◌, ◌⊎◌, ℕ, ◌+◌, Bool, true, false, count_by, fold, filter, not}
+use Rattle.std.specs.Prelude.{List, [], ◌∷◌, length, Option, Some, None}
 use Rattle.std.specs.Option.{option_and_then}
+use Rattle.link_model.specs.Books.{Book, book_of}
 use Rattle.link_model.specs.Feeders.{Feeder, let_go_pictures, answer_in, has_released}
 use Rattle.link_model.specs.Feeders.{SliceAnswer, picture_keeps, is_among}
 use Rattle.link_model.specs.Feeding.{planes_by}
 use Rattle.link_model.specs.Interleavings.{due, AreOwnAnswers}
 use Rattle.link_model.specs.Judgement.{is_incomplete, is_unsound, has_frame, with_sessions}
-use Rattle.link_model.specs.Judgement.{outcomes_in, outcome_counts}
+use Rattle.link_model.specs.Judgement.{outcomes_in, outcome_counts, keeps}
 use Rattle.link_model.specs.Kept.{Own}
-use Rattle.link_model.specs.Numbers.{Numbered}
-use Rattle.link_model.specs.Output.{planes_at}
+use Rattle.link_model.specs.Numbers.{Numbered, opened_numbers}
+use Rattle.link_model.specs.Output.{planes_at, entered_behind, let_go_numbers}
 use Rattle.link_model.specs.Places.{Answered, decoding}
 use Rattle.link_model.specs.Session.{HeardSession, sessions_of}
 use Rattle.link_model.specs.Windows.{WindowPast, session_past, past_let_go, window_of}
+use Rattle.link_model.specs.Windows.{Window, book_at}
+use Rattle.link_model.specs.declared.outcome.Outcome.{Outcome}
+use Rattle.link_model.specs.declared.outcome.Outcome.TheVariants.{HeaderNew, End}
 use Rattle.link_model.specs.declared.tally.Tally.{Tally}
 use Rattle.vc_types.specs.Planes.{Planes}
 use Rattle.vc_types.specs.SequenceHeader.{Sequence}
@@ -94,6 +98,21 @@ counts_of_sessions size false [] t = t
 counts_of_sessions size false (h ∷ hs) t =
     past_counts (all_released (last_past size false hs h)) (with_sessions size hs t)
 
+-- how many frames sessions have
+unfoldable pub frames_in : ℕ → List HeardSession → ℕ
+frames_in size [] = 0
+frames_in size (h ∷ hs) =
+    let es = entered_behind size hs h in
+    frames_in size hs + count_by (has_frame h.session.sequence es) (opened_numbers es)
+
+-- and how many of them are in the output so far
+abbrev pub frames_written : ℕ → List HeardSession → ℕ
+frames_written size [] = 0
+frames_written size (h ∷ hs) =
+    let es = entered_behind size hs h in
+    let s = h.session.sequence in
+    frames_in size hs + count_by (has_frame s es) (let_go_numbers size s es)
+
 -- the counts of outcomes of the one, and those of pictures of the other
 abbrev pub with_picture_counts : Tally → Tally → Tally
 with_picture_counts t pictures = record t {
@@ -114,6 +133,28 @@ pub record StandsForHeard (r : Reception) (size : ℕ) (datagrams : List (List �
   pub counted : r.counts
       ≡ counts_of_sessions size over (sessions_of datagrams)
       (outcome_counts (outcomes_in size datagrams))
+
+-- ---- what isn't kept
+
+-- whether a datagram with this outcome leaves the session, and what its pictures keep
+abbrev pub leaves_pictures : Outcome → Bool
+leaves_pictures HeaderNew = false
+leaves_pictures End = false
+leaves_pictures other = not (keeps other)
+
+-- each book was there before, or is that of a picture that keeps nothing yet
+abbrev pub LeavesBooks : Sequence → Window → Window → Type 0
+LeavesBooks s old new = (n : ℕ) (book : Book) → book_at new.books n ≡ Some book
+    → (book_at old.books n ≡ Some book)
+    ⊎ ((book_at old.books n ≡ None) × (book ≡ book_of s []))
+
+abbrev pub LeavesSession : Option StandingSession → Option StandingSession → Type 0
+LeavesSession None None = Unit {0}
+LeavesSession None (Some now) = ⊥
+LeavesSession (Some st) None = ⊥
+LeavesSession (Some st) (Some now) =
+    (now.session ≡ st.session) × (now.has_ended ≡ st.has_ended)
+    × LeavesBooks st.session.sequence st.window now.window
 
 -- ---- what places give back
 

@@ -6,26 +6,28 @@ ghost use Rattle.link_model.specs.Machine.{Enter, Finish};
 ghost use Rattle.link_model.specs.Next.{next_feeder, taken_back};
 ghost use Rattle.link_model.specs.Output.{output_so_far, full_output};
 ghost use Rattle.link_model.specs.Places.{Job};
-ghost use Rattle.link_model.specs.Session.{Fragment};
+ghost use Rattle.link_model.specs.Session.{Fragment, sessions_of};
 ghost use Rattle.link_model.specs.Windows.{Window, WindowPast, StandsForPast, window_enters};
 ghost use Rattle.link_receiver.specs.Entering.{before_releases, takes_datagram, datagram_bytes};
 ghost use Rattle.link_receiver.specs.Entering.{takes_end, end_bytes};
 ghost use Rattle.link_receiver.specs.Exchanging.{Exchange, all_exchanged, dones_in};
 ghost use Rattle.link_receiver.specs.Exchanging.{window_job, offered_jobs, is_job_among};
-ghost use Rattle.link_receiver.specs.Judging.{judged, ends_input};
+ghost use Rattle.link_receiver.specs.Judging.{judged, keeps_datagram, ends_input};
 ghost use Rattle.link_receiver.specs.Receptions.{Reception, new_reception};
 ghost use Rattle.link_receiver.specs.Standing.{StandsFor, StandsForHeard, AreDecodings};
 ghost use Rattle.link_receiver.specs.Standing.{out_without, with_picture_counts};
+ghost use Rattle.link_receiver.specs.Standing.{leaves_pictures, LeavesSession, frames_written};
 
 /// A new receiver stands for a feeder that heard nothing.
 pub fn a_new_receiver_stands_for_nothing()
     ensures { (size : ℕ) → StandsFor (new_reception size) size new_feeder }
 {}
 
-/// A receiver judges a datagram as the list of those before it says, and its counts of outcomes are
-/// the tally's. Behind it the receiver stands for the longer list, and for the feeder that heard
-/// the datagram, took back the same decoded slices and released what it may. It writes what is due:
-/// the output so far of the longer list without that of the shorter one.
+/// A receiver judges a datagram as the list of those before it says, its counts of outcomes are the
+/// tally's, and its frames those of the output so far. Behind it the receiver stands for the longer
+/// list, and for the feeder that heard the datagram, took back the same decoded slices and released
+/// what it may. It writes what is due: the output so far of the longer list without that of the
+/// shorter one.
 pub fn receivers_follow_datagrams()
     ensures outcome { (r : Reception) (size : ℕ) (datagrams : List (List ℕ)) (d : List ℕ)
         → StandsForHeard r size datagrams false
@@ -33,6 +35,9 @@ pub fn receivers_follow_datagrams()
     ensures counts { (r : Reception) (size : ℕ) (datagrams : List (List ℕ))
         → StandsForHeard r size datagrams false
         → r.counts ≡ with_picture_counts (tally_of size datagrams) r.counts }
+    ensures frames { (r : Reception) (size : ℕ) (datagrams : List (List ℕ))
+        → StandsForHeard r size datagrams false
+        → r.counts.frames ≡ frames_written size (sessions_of datagrams) }
     ensures stands { (r : Reception) (size : ℕ) (f : Feeder) → size ≤ 8 → StandsFor r size f
         → f.has_ended ≡ false → (exchanges : List Exchange) → AreDecodings (dones_in exchanges)
         → (d : List ℕ) → StandsFor (takes_datagram r d exchanges) size
@@ -41,6 +46,15 @@ pub fn receivers_follow_datagrams()
         → f.has_ended ≡ false → (exchanges : List Exchange) → AreDecodings (dones_in exchanges)
         → (d : List ℕ) → output_so_far size (f.heard ++ d ∷ [])
         ≡ output_so_far size f.heard ++ datagram_bytes r d exchanges }
+{}
+
+/// A datagram with an outcome other than HeaderNew, End and those by which a picture keeps
+/// something leaves the session that stands, and what its pictures keep. It may open a picture, and
+/// close others, so that they are forgotten.
+pub fn unkept_datagrams_change_nothing()
+    ensures { (r : Reception) (size : ℕ) (datagrams : List (List ℕ)) (d : List ℕ)
+        → StandsForHeard r size datagrams false → leaves_pictures (judged r d) ≡ true
+        → LeavesSession r.standing (keeps_datagram r d).standing }
 {}
 
 /// The jobs that a fragment offers are those of the slices that it brings: their pictures keep them

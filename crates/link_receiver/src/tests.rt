@@ -7,4 +7,5 @@ fn laws_hold() {
     receivers_follow_the_end();
     released_slices_are_not_out();
     new_slices_are_offered();
+    unkept_datagrams_change_nothing();
 }

@@ -1,4 +1,4 @@
-use Rattle.link_receiver.proofs.CountedOutcomes.{outcomes_counted}
+use Rattle.link_receiver.proofs.CountedOutcomes.{outcomes_counted, frames_counted}
 use Rattle.link_receiver.proofs.Following.{outcome_is, datagram_stands, datagram_writes}
 use Rattle.link_receiver.proofs.laws.receivers_follow_datagrams.Goals as goal
 
@@ -7,6 +7,9 @@ returns-clause-outcome c = outcome_is
 
 pub returns-clause-counts : goal.returns-clause-counts
 returns-clause-counts c = outcomes_counted
+
+pub returns-clause-frames : goal.returns-clause-frames
+returns-clause-frames c = frames_counted
 
 pub returns-clause-stands : goal.returns-clause-stands
 returns-clause-stands c = λ r size f small stands runs exchanges right d.
