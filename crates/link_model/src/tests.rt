@@ -26,7 +26,6 @@ fn laws_hold() {
     the_feeder_is_never_stuck();
     the_feeder_goes_a_legal_way();
     events_are_legal_in_two_halves();
-    windows_stand_for_fragments();
     sent_heads_are_read_back();
     sent_datagrams_are_received();
 }
