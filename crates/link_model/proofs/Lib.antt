@@ -42,4 +42,6 @@ pub mod MachineHalves
 pub mod MachineKept
 pub mod MachineRuns
 pub mod FeederWay
+pub mod FeederRows
+pub mod PlaceSteps
 pub mod SentRows

@@ -26,4 +26,6 @@ fn laws_hold() {
     the_feeder_is_never_stuck();
     the_feeder_goes_a_legal_way();
     events_are_legal_in_two_halves();
+    events_change_places_step_by_step();
+    pictures_are_released_least_first();
 }
