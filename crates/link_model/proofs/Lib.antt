@@ -42,6 +42,8 @@ pub mod MachineHalves
 pub mod MachineKept
 pub mod MachineRuns
 pub mod FeederWay
+pub mod FeederRows
+pub mod PlaceSteps
 pub mod SentRows
 pub mod PackedBits
 pub mod SentHeads

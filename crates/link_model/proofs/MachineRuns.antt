@@ -1,6 +1,6 @@
 -- The laws of the machine over every list of legal events.
 use Rattle.std.proofs.Common.{◌≡◌, ℕ, ◌+◌, ◌≤◌, Bool, true, false, cond, List, [], ◌∷◌, ◌++◌}
-use Rattle.std.proofs.Common.{Option, Some, None, refl, ap, sym, subst, ◌∙◌, inl, inr, eqb}
+use Rattle.std.proofs.Common.{Option, Some, None, refl, ap, sym, subst, ◌∙◌, arith, inl, inr, eqb}
 use Rattle.std.proofs.Common.{eqb-true, eq-eqb}
 use Rattle.std.specs.Prelude.{◌⊎◌, ◌↔◌, ◌==◌, ◌&&◌, ◌||◌, not, is_some, slice_get, fold, filter}
 use Rattle.std.specs.List.{flat_map, list_all}
@@ -17,6 +17,9 @@ use Rattle.link_model.specs.Feeders.{picture_keeps, keeps_now, has_released}
 use Rattle.link_model.specs.Feeders.{is_decoded, answer_in, is_ready, has_every_answer}
 use Rattle.link_model.specs.Feeding.{built_bytes, takes_answer, with_answer, has_job, is_same_job}
 use Rattle.link_model.specs.Feeding.{redoes_slice}
+use Rattle.link_model.specs.Feeders.{is_among}
+use Rattle.link_model.proofs.PicturesHeard.{let_go_rising}
+use Rattle.link_model.proofs.RisingLists.{IsRising, each_map, filter_rising, among_each}
 use Rattle.link_model.specs.Interleavings.{machine_after, IsRun, due, is_input, inputs}
 use Rattle.link_model.specs.Interleavings.{AreOwnAnswers}
 use Rattle.link_model.specs.Kept.{Own, own_slice}
@@ -325,7 +328,21 @@ module _ (window : ℕ) (m : Machine) (n : ℕ) where
       ))
       by_answers false is = inr (redo_one is)
 
+-- ---- the least
+
+least_first : (xs : List ℕ) (n m : ℕ) → IsRising xs → slice_get xs 0 ≡ Some n → is_among xs m ≡ true → n ≤ m
+least_first [] n m rising first among = absurd (none-some n first)
+least_first (x ∷ xs) n m rising first among =
+    let same : x ≡ n = same_Some x n first in
+    let least : x ≤ m = among_each (λ k. x ≤ k) (x ∷ xs) m (omega arith, each_map (λ k above. omega (arith, above)) xs rising.0) among in
+    omega (arith, same, least)
+
+pub next_is_least : (window : ℕ) (f : Feeder) (n m : ℕ) → window ≤ 8 → next_to_release window f ≡ Some n → is_among (releasable window f) m ≡ true → n ≤ m
+next_is_least window f n m small first among = least_first (releasable window f) n m
+    (filter_rising (λ k. not (is_among f.released k)) (let_go_pictures window f.has_ended (sessions_of f.heard)) (let_go_rising window small f.has_ended (sessions_of f.heard)))
+    first among
+
 pub two_halves : (window : ℕ) (m : Machine) (e : Event) → IsLegal window m e ↔ ((is_legal_on_places m.places e ≡ true) × (is_legal_for_feeder window m.feeder e ≡ true))
 two_halves window m e = (legal_halves window m e, halves_legal window m e)
 
-pub ruleset laws = (written_begins, written_is, same_written, own_decoded, own_places, apart_places, never_stuck, two_halves)
+pub ruleset laws = (written_begins, written_is, same_written, own_decoded, own_places, apart_places, never_stuck, next_is_least, two_halves)

@@ -79,7 +79,8 @@ kept_job window hs n i = option_and_then (λ kept. job_by kept n i) (picture_kee
 -- the pictures of all sessions, in rising order
 unfoldable pub heard_pictures : ℕ → List HeardSession → List ℕ
 heard_pictures window [] = []
-heard_pictures window (h ∷ hs) = heard_pictures window hs ++ opened_numbers (entered_behind window hs h)
+heard_pictures window (h ∷ hs) =
+    heard_pictures window hs ++ opened_numbers (entered_behind window hs h)
 
 -- Those that are let go, in rising order: all pictures of the sessions before the last, and of the
 -- last one those that are closed, or before which every picture that isn't is complete. All, once
@@ -88,7 +89,8 @@ unfoldable pub let_go_pictures : ℕ → Bool → List HeardSession → List ℕ
 let_go_pictures window true hs = heard_pictures window hs
 let_go_pictures window false [] = []
 let_go_pictures window false (h ∷ hs) =
-    heard_pictures window hs ++ let_go_numbers window h.session.sequence (entered_behind window hs h)
+    heard_pictures window hs
+    ++ let_go_numbers window h.session.sequence (entered_behind window hs h)
 
 abbrev pub is_among : List ℕ → ℕ → Bool
 is_among numbers n = list_any (λ m. m == n) numbers

@@ -92,10 +92,13 @@ frame_of planes sequence n =
 abbrev pub built_bytes : List SliceAnswer → ℕ → EnteredSession → List ℕ
 built_bytes decoded n e = raw_bytes e.sequence (frame_of (built_planes decoded e) e.sequence n)
 
+-- the session of a picture, of what was heard
+abbrev pub session_now : ℕ → Feeder → ℕ → Option EnteredSession
+session_now window f n = session_opening window (sessions_of f.heard) n
+
 -- a picture is released: where it is the last one of a frame, the frame is written
 abbrev pub releases_picture : ℕ → Feeder → ℕ → Feeder
 releases_picture window f n = record f {
   released = f.released ++ n ∷ [];
-  written = f.written
-      ++ option_map_or (built_bytes f.decoded n) (session_opening window (sessions_of f.heard) n) [];
+  written = f.written ++ option_map_or (built_bytes f.decoded n) (session_now window f n) [];
 }

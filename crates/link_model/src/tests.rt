@@ -28,4 +28,6 @@ fn laws_hold() {
     events_are_legal_in_two_halves();
     sent_heads_are_read_back();
     sent_datagrams_are_received();
+    events_change_places_step_by_step();
+    pictures_are_released_least_first();
 }
