@@ -3,7 +3,7 @@ ghost use Rattle.vc_types.specs.Lifting.{line_of};
 ghost use Rattle.vc_types.specs.Limits.{shape_fits, padded_luma_fits};
 ghost use Rattle.vc_types.specs.Quantisation.{filled_matrix, used_entries};
 
-use crate::{forward, inverse, inverse_undoes_forward};
+use crate::{fits_narrow, forward, inverse, inverse_narrow, inverse_undoes_forward};
 use std::alloc::Global;
 use std::test::Fail;
 use vc_geometry::padded;
@@ -249,4 +249,50 @@ fn small_and_odd_sizes(rt: HostRuntime) -> Result<(), Fail> {
         -37751
     );
     Ok(())
+}
+
+// The greatest coefficients of each wavelet and depth that are transformed in 32 bits, by bounds that a program carried
+// through the standard's steps. None fits where -1 stands.
+static GREATEST: [[i64; 5]; 7] = [
+    [24_898_359, 6_024_554, 1_457_736, 352_721, 85_345],
+    [286_331_151, 91_625_967, 29_320_308, 9_382_497, 3_002_397],
+    [21_798_405, 4_744_725, 1_032_754, 224_792, 48_928],
+    [343_597_382, 54_975_580, 8_796_091, 1_407_373, 225_178],
+    [343_597_382, 109_951_160, 35_184_370, 11_258_997, 3_602_877],
+    [521_045, 25_240, 1_221, 58, 2],
+    [5_981, 85, 0, -1, -1],
+];
+
+#[test]
+fn bounds_end_where_32_bits_do(rt: HostRuntime) {
+    for wavelet in 0..7 {
+        for depth in 1..6 {
+            let plan = plan(size(5, 3), (wavelet, wavelet), (depth, 0));
+            let most = GREATEST[wavelet as usize][depth as usize - 1];
+            assert!(rt; !fits_narrow(&plan, (most + 1) as u32), "{wavelet} {depth}");
+            if most >= 0 {
+                assert!(rt; fits_narrow(&plan, most as u32), "{wavelet} {depth}");
+            }
+        }
+    }
+}
+
+fn are_within(cells: &[i32], most: u32) -> bool
+    ensures { IsTrue result → All (λ z. unsigned_abs z ≤ most) cells.now }
+{
+    cells.iter().all(|z| z.unsigned_abs() <= most)
+}
+
+// Transforms luma in 32 bits, if there are as many cells as it has and they are small enough.
+fn narrow(plan: &Plan, cells: &mut [i32], line: &mut [i32], most: u32) -> bool {
+    let (width, height) = padded(plan, Component::Y);
+    let (columns, rows) = (width as usize, height as usize);
+    if cells.len() != rows * columns || line.len() < columns || most >= 1 << 31 {
+        return false;
+    }
+    if !are_within(cells, most) || !fits_narrow(plan, most) {
+        return false;
+    }
+    inverse_narrow(plan, Component::Y, cells, columns, line);
+    true
 }
