@@ -88,8 +88,10 @@ laid_together levels w h plane = fun_ext (λ x. fun_ext (λ y. at x y (cases_lt 
   where
     nested : Cells
     nested = laid_out (suc levels) w h plane
+
     whole : (x y : ℕ) → turned w h x y ≡ y → laid_out levels (2 * w) (2 * h) plane x y ≡ laid_out (suc levels) w h plane x y
     whole x y e = ap (plane x) (sym (row_step levels w h x y ∙ ap (row_in_turn levels (2 * w) (2 * h) x) e))
+
     at : (x y : ℕ) → (x < 2 * w) ⊎ (2 * w ≤ x) → (y < 2 * h) ⊎ (2 * h ≤ y) → laid_out levels (2 * w) (2 * h) plane x y ≡ on_columns (halves_together h) (2 * w) (laid_out (suc levels) w h plane) x y
     at x y (inr right) any = whole x y (turned_right w h x y right) ∙ sym (column_out (halves_together h) (2 * w) (laid_out (suc levels) w h plane) x y right)
     at x y (inl a) (inr below) =

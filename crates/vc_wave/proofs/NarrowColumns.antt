@@ -79,6 +79,7 @@ module _ (wavelet pitch columns half : ℕ) (old new : List ℤ) (wide : columns
     where
       same : (u k : ℕ) → u < columns → y * pitch + x ≡ place_in (column_halves pitch half) k + u → (y ≡ k) × (x ≡ u)
       same u k lt e = (let place = column_place pitch half k in same_from_place y x k u pitch h (omega arith) (omega (arith, e, place)))
+
       not_there : (u k : ℕ) → u < columns → k < 2 * half → (columns ≤ x) ⊎ (2 * half ≤ y) → y * pitch + x ≢ place_in (column_halves pitch half) k + u
       not_there u k lt below (inl right) e = (let s = same u k lt e in omega (arith, s))
       not_there u k lt below (inr under) e = (let s = same u k lt e in omega (arith, s))

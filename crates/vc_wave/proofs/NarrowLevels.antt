@@ -45,10 +45,12 @@ module _ (vertical horizontal w h : ℕ) where
     where
       down : Cells
       down = on_columns (synthesised vertical (2 * h)) (2 * w) c
+
       columns : (x y : ℕ) → (2 * w ≤ x) ⊎ (2 * h ≤ y) → (x < 2 * w) ⊎ (2 * w ≤ x) → on_columns (synthesised vertical (2 * h)) (2 * w) c x y ≡ c x y
       columns x y out (inr right) = column_out (synthesised vertical (2 * h)) (2 * w) c x y right
       columns x y (inl right) (inl left) = absurd (omega arith)
       columns x y (inr low) (inl left) = column_in (synthesised vertical (2 * h)) (2 * w) c x y left ∙ synthesis_past vertical h (λ k. c x k) y low
+
       rows : (y < 2 * h) ⊎ (2 * h ≤ y) → (2 * w ≤ x) ⊎ (2 * h ≤ y) → on_rows (remade Synthesis horizontal (is_shifted horizontal) w) (2 * h) (on_columns (synthesised vertical (2 * h)) (2 * w) c) x y ≡ c x y
       rows (inr low) any = row_out (remade Synthesis horizontal (is_shifted horizontal) w) (2 * h) (on_columns (synthesised vertical (2 * h)) (2 * w) c) x y low ∙ columns x y (inr low) (cases_lt x (2 * w))
       rows (inl high) (inr low) = absurd (omega arith)
@@ -145,12 +147,16 @@ rows_at_most wavelet half rows most after c some fits small x y = row (cases_lt 
   where
     m : RowsMade wavelet most after
     m = rows_made wavelet most after fits
+
     left : unsigned_abs (c x y) ≤ after
     left = (let more = covers_most (is_shifted wavelet) (nat_lt (m.made + 1) (2 ^ 31)) most m.made after m.last in omega (arith, small x y, more))
+
     line : ℕ → ℤ
     line k = c k y
+
     woven : (k : ℕ) → k < 2 * half → unsigned_abs (halves_together half (λ k. c k y) k) ≤ most
     woven k h = rw (rearranged_in (2 * half) (half_place half) (λ k. c k y) k h) (small (half_place half k) y)
+
     row : (y < rows) ⊎ (rows ≤ y) → (x < 2 * half) ⊎ (2 * half ≤ x) → unsigned_abs (on_rows (remade Synthesis wavelet (is_shifted wavelet) half) rows c x y) ≤ after
     row (inr low) any = rw (row_out (remade Synthesis wavelet (is_shifted wavelet) half) rows c x y low) left
     row (inl high) (inr right) = rw (row_in (remade Synthesis wavelet (is_shifted wavelet) half) rows c x y high ∙ remade_past Synthesis wavelet (is_shifted wavelet) half (λ k. c k y) x right) left
@@ -324,7 +330,7 @@ unfolding transform_bound
 transform_made p most fits =
     some_of (option_and_then (λ (made : ℕ). bound_over (level_bound p.wavelet p.wavelet_ho) p.depth made) (bound_over (rows_bound p.wavelet_ho) p.depth_ho most)) fits
     (λ after e. option_and_then_some (λ (made : ℕ). bound_over (level_bound p.wavelet p.wavelet_ho) p.depth made) (bound_over (rows_bound p.wavelet_ho) p.depth_ho most) after e
-      (λ made is last. record { made = made; after = after; across = is; both = last }))
+    (λ made is last. record { made = made; after = after; across = is; both = last }))
 
 -- ---- a component
 

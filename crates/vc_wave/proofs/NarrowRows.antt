@@ -121,7 +121,7 @@ module _ (start half : ℕ) (some : 0 < half) where
 
     pub row_narrow : (x : ℕ) → x < 1 → IsNarrow (counted_synthesis wavelet) half (line_in (row_halves start half) old x)
     row_narrow x one = (let first : 0 ≡ x = omega arith in subst (λ u. IsNarrow (counted_synthesis wavelet) half (line_in (row_halves start half) old u)) first
-      (record { most = bound.most; after = made_of.made; small = old_small; fits = made_of.synthesised }))
+        (record { most = bound.most; after = made_of.made; small = old_small; fits = made_of.synthesised }))
 
   module _ (wavelet : ℕ) (old mid : List ℤ) (bound : RowHasBound (rows_bound wavelet) old start (2 * half))
       (synth : (x k : ℕ) → x < 1 → k < 2 * half → line_in (row_halves start half) mid x k ≡ synthesised wavelet (2 * half) (line_in (row_halves start half) old x) k) where
@@ -180,4 +180,3 @@ module _ (start half : ℕ) (some : 0 < half) where
           outside i none (inl before) any = inl before
           outside i none (inr from) (inr past) = inr past
           outside i none (inr from) (inl within) = absurd (none 0 (i - start) (omega arith) (omega arith) (omega arith))
-

@@ -17,6 +17,6 @@ mod tests;
 
 pub use analysis::forward;
 pub use bounds::fits_narrow;
-pub use narrow::inverse_narrow;
 pub use laws::inverse_undoes_forward;
+pub use narrow::inverse_narrow;
 pub use synthesis::inverse;

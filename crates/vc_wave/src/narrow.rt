@@ -194,13 +194,7 @@ fn merge_levels(
 /// The samples of a component from its coefficients, in place and in 32 bits (ST 2042-1, inverse wavelet transform). The
 /// coefficients stand in rows of `stride` cells, whose rows are taken in turn as `nested_in` says; the samples then stand
 /// row by row in their order, not yet clipped. The line is room to work in, as long as a row. It takes no memory.
-pub fn inverse_narrow(
-    plan: &Plan,
-    c: Component,
-    cells: &mut [i32],
-    stride: usize,
-    line: &mut [i32],
-)
+pub fn inverse_narrow(plan: &Plan, c: Component, cells: &mut [i32], stride: usize, line: &mut [i32])
     requires stride { padded_width (parameters_of plan.now) c ≤ stride }
     requires cells { padded_height (parameters_of plan.now) c * stride ≤ length cells.old }
     requires line { padded_width (parameters_of plan.now) c ≤ length line.old }

@@ -263,17 +263,27 @@ static GREATEST: [[i64; 5]; 7] = [
     [5_981, 85, 0, -1, -1],
 ];
 
+fn ends_at(plan: &Plan, most: i64) -> bool {
+    let Ok(over) = u32::try_from(most.wrapping_add(1)) else {
+        return false;
+    };
+    if over >= 1 << 31 || fits_narrow(plan, over) {
+        return false;
+    }
+    over == 0 || fits_narrow(plan, over - 1)
+}
+
 #[test]
 fn bounds_end_where_32_bits_do(rt: HostRuntime) {
+    let shape = size(5, 3);
     for wavelet in 0..7 {
-        for depth in 1..6 {
-            let plan = plan(size(5, 3), (wavelet, wavelet), (depth, 0));
-            let most = GREATEST[wavelet as usize][depth as usize - 1];
-            assert!(rt; !fits_narrow(&plan, (most + 1) as u32), "{wavelet} {depth}");
-            if most >= 0 {
-                assert!(rt; fits_narrow(&plan, most as u32), "{wavelet} {depth}");
-            }
-        }
+        let most = GREATEST[wavelet as usize];
+        let pair = (wavelet, wavelet);
+        assert!(rt; ends_at(&plan(shape, pair, (1, 0)), most[0]), "{wavelet}");
+        assert!(rt; ends_at(&plan(shape, pair, (2, 0)), most[1]), "{wavelet}");
+        assert!(rt; ends_at(&plan(shape, pair, (3, 0)), most[2]), "{wavelet}");
+        assert!(rt; ends_at(&plan(shape, pair, (4, 0)), most[3]), "{wavelet}");
+        assert!(rt; ends_at(&plan(shape, pair, (5, 0)), most[4]), "{wavelet}");
     }
 }
 
@@ -295,4 +305,140 @@ fn narrow(plan: &Plan, cells: &mut [i32], line: &mut [i32], most: u32) -> bool {
     }
     inverse_narrow(plan, Component::Y, cells, columns, line);
     true
+}
+
+// The row that has the cell in column x and row y of the nested subbands.
+fn row_of(plan: &Plan, width: usize, height: usize, x: usize, y: usize) -> usize {
+    let (mut w, mut h) = (width >> plan.depth, height >> plan.depth);
+    let mut row = y;
+    for _level in 0..plan.depth {
+        let (columns, rows) = (w.wrapping_mul(2), h.wrapping_mul(2));
+        if x < columns && row < rows {
+            row = if row < h {
+                row.wrapping_mul(2)
+            } else {
+                row.wrapping_sub(h).wrapping_mul(2).wrapping_add(1)
+            };
+        }
+        w = columns;
+        h = rows;
+    }
+    row
+}
+
+// Takes the nested subbands out of rows that are taken in turn.
+fn nest(plan: &Plan, cells: &[i32], grid: &mut [i128], width: usize, height: usize) {
+    let mut i = 0usize;
+    for y in 0..height {
+        for x in 0..width {
+            let row = row_of(plan, width, height, x, y);
+            let from = row.wrapping_mul(width).wrapping_add(x);
+            if i < grid.len() && from < cells.len() {
+                grid[i] = i128::from(cells[from]);
+            }
+            i = i.wrapping_add(1);
+        }
+    }
+}
+
+fn are_small(cells: &[i128]) -> bool
+    ensures { IsTrue result → All (λ z. unsigned_abs z < 2 ^ 60) cells.now }
+{
+    cells.iter().all(|z| z.unsigned_abs() < 1 << 60)
+}
+
+// What the plain transform makes of them.
+fn wide(alloc: Global, plan: &Plan, cells: &[i32]) -> Result<Grid, Fail> {
+    let (width, height) = padded(plan, Component::Y);
+    let mut grid = vec![in alloc; 0i128; width as usize * height as usize]?;
+    nest(plan, cells, &mut grid, width as usize, height as usize);
+    if !are_small(&grid) {
+        return Err(Fail::from("too large"));
+    }
+    Ok(inverse(alloc, plan, Component::Y, Grid::new(width, height, grid))?)
+}
+
+fn are_same(narrow: &[i32], wide: &[i128]) -> bool {
+    if narrow.len() != wide.len() {
+        return false;
+    }
+    for i in 0..narrow.len() {
+        if i128::from(narrow[i]) != wide[i] {
+            return false;
+        }
+    }
+    true
+}
+
+// Fills cells with a number and its opposite, as they come.
+fn scatter(cells: &mut [i32], most: i32) {
+    let mut next = 1u32;
+    for cell in cells.iter_mut() {
+        next = next.wrapping_mul(1_664_525).wrapping_add(1_013_904_223);
+        *cell = if next >> 31 == 0 {
+            most
+        } else {
+            most.wrapping_neg()
+        };
+    }
+}
+
+// Whether both widths make the same of luma whose coefficients are as large as they may be.
+fn agree(alloc: Global, plan: &Plan, most: i64) -> Result<bool, Fail> {
+    let Ok(most) = i32::try_from(most) else {
+        return Ok(false);
+    };
+    if most < 0 {
+        return Ok(true);
+    }
+    let (width, height) = padded(plan, Component::Y);
+    let mut cells = vec![in alloc; 0i32; width as usize * height as usize]?;
+    scatter(&mut cells, most);
+    let wanted = wide(alloc, plan, &cells)?;
+    let mut line = vec![in alloc; 0i32; width as usize]?;
+    let done = narrow(plan, &mut cells, &mut line, most.unsigned_abs());
+    Ok(done && are_same(&cells, wanted.cells()))
+}
+
+#[test]
+fn widths_agree_at_the_limit(rt: HostRuntime) -> Result<(), Fail> {
+    let shape = size(13, 6);
+    for wavelet in 0..7 {
+        let most = GREATEST[wavelet as usize];
+        let pair = (wavelet, wavelet);
+        assert!(rt;
+            agree(rt.alloc(), &plan(shape, pair, (1, 0)), most[0])?,
+            "{wavelet}"
+        );
+        assert!(rt;
+            agree(rt.alloc(), &plan(shape, pair, (2, 0)), most[1])?,
+            "{wavelet}"
+        );
+        assert!(rt;
+            agree(rt.alloc(), &plan(shape, pair, (3, 0)), most[2])?,
+            "{wavelet}"
+        );
+        assert!(rt;
+            agree(rt.alloc(), &plan(shape, pair, (4, 0)), most[3])?,
+            "{wavelet}"
+        );
+        assert!(rt;
+            agree(rt.alloc(), &plan(shape, pair, (5, 0)), most[4])?,
+            "{wavelet}"
+        );
+    }
+    Ok(())
+}
+
+#[test]
+fn widths_agree_on_each_size(rt: HostRuntime) -> Result<(), Fail> {
+    for wavelet in 0..5 {
+        let pair = (wavelet, 4 - wavelet);
+        assert!(rt; agree(rt.alloc(), &plan(size(1, 1), pair, (1, 0)), 1000)?);
+        assert!(rt; agree(rt.alloc(), &plan(size(8, 1), pair, (2, 1)), 1000)?);
+        assert!(rt; agree(rt.alloc(), &plan(size(1, 9), pair, (3, 1)), 1000)?);
+        assert!(rt; agree(rt.alloc(), &plan(size(23, 7), pair, (1, 3)), 1000)?);
+        assert!(rt; agree(rt.alloc(), &plan(size(40, 17), pair, (3, 0)), 1000)?);
+    }
+    Ok(())
 }
