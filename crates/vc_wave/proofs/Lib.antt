@@ -12,3 +12,4 @@ mod NarrowRows
 mod NarrowColumns
 pub mod LayoutLaws
 pub mod NarrowLevels
+mod NarrowCarry

@@ -3,6 +3,7 @@
 #![tactic(auto)]
 
 mod analysis;
+mod bounds;
 mod laws;
 mod level;
 mod lines;
@@ -15,6 +16,7 @@ mod synthesis;
 mod tests;
 
 pub use analysis::forward;
+pub use bounds::fits_narrow;
 pub use laws::inverse_undoes_forward;
 pub use narrow::inverse_narrow;
 pub use synthesis::inverse;

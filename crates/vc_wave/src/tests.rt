@@ -3,7 +3,7 @@ ghost use Rattle.vc_types.specs.Lifting.{line_of};
 ghost use Rattle.vc_types.specs.Limits.{shape_fits, padded_luma_fits};
 ghost use Rattle.vc_types.specs.Quantisation.{filled_matrix, used_entries};
 
-use crate::{forward, inverse, inverse_undoes_forward};
+use crate::{fits_narrow, forward, inverse, inverse_narrow, inverse_undoes_forward};
 use std::alloc::Global;
 use std::test::Fail;
 use vc_geometry::padded;
@@ -248,5 +248,197 @@ fn small_and_odd_sizes(rt: HostRuntime) -> Result<(), Fail> {
         sum(rt.alloc(), &plan(size(40, 9), (2, 6), (2, 1)))?,
         -37751
     );
+    Ok(())
+}
+
+// The greatest coefficients of each wavelet and depth that are transformed in 32 bits, by bounds that a program carried
+// through the standard's steps. None fits where -1 stands.
+static GREATEST: [[i64; 5]; 7] = [
+    [24_898_359, 6_024_554, 1_457_736, 352_721, 85_345],
+    [286_331_151, 91_625_967, 29_320_308, 9_382_497, 3_002_397],
+    [21_798_405, 4_744_725, 1_032_754, 224_792, 48_928],
+    [343_597_382, 54_975_580, 8_796_091, 1_407_373, 225_178],
+    [343_597_382, 109_951_160, 35_184_370, 11_258_997, 3_602_877],
+    [521_045, 25_240, 1_221, 58, 2],
+    [5_981, 85, 0, -1, -1],
+];
+
+fn ends_at(plan: &Plan, most: i64) -> bool {
+    let Ok(over) = u32::try_from(most.wrapping_add(1)) else {
+        return false;
+    };
+    if over >= 1 << 31 || fits_narrow(plan, over) {
+        return false;
+    }
+    over == 0 || fits_narrow(plan, over - 1)
+}
+
+#[test]
+fn bounds_end_where_32_bits_do(rt: HostRuntime) {
+    let shape = size(5, 3);
+    for wavelet in 0..7 {
+        let most = GREATEST[wavelet as usize];
+        let pair = (wavelet, wavelet);
+        assert!(rt; ends_at(&plan(shape, pair, (1, 0)), most[0]), "{wavelet}");
+        assert!(rt; ends_at(&plan(shape, pair, (2, 0)), most[1]), "{wavelet}");
+        assert!(rt; ends_at(&plan(shape, pair, (3, 0)), most[2]), "{wavelet}");
+        assert!(rt; ends_at(&plan(shape, pair, (4, 0)), most[3]), "{wavelet}");
+        assert!(rt; ends_at(&plan(shape, pair, (5, 0)), most[4]), "{wavelet}");
+    }
+}
+
+fn are_within(cells: &[i32], most: u32) -> bool
+    ensures { IsTrue result → All (λ z. unsigned_abs z ≤ most) cells.now }
+{
+    cells.iter().all(|z| z.unsigned_abs() <= most)
+}
+
+// Transforms luma in 32 bits, if there are as many cells as it has and they are small enough.
+fn narrow(plan: &Plan, cells: &mut [i32], line: &mut [i32], most: u32) -> bool {
+    let (width, height) = padded(plan, Component::Y);
+    let (columns, rows) = (width as usize, height as usize);
+    if cells.len() != rows * columns || line.len() < columns || most >= 1 << 31 {
+        return false;
+    }
+    if !are_within(cells, most) || !fits_narrow(plan, most) {
+        return false;
+    }
+    inverse_narrow(plan, Component::Y, cells, columns, line);
+    true
+}
+
+// The row that has the cell in column x and row y of the nested subbands.
+fn row_of(plan: &Plan, width: usize, height: usize, x: usize, y: usize) -> usize {
+    let (mut w, mut h) = (width >> plan.depth, height >> plan.depth);
+    let mut row = y;
+    for _level in 0..plan.depth {
+        let (columns, rows) = (w.wrapping_mul(2), h.wrapping_mul(2));
+        if x < columns && row < rows {
+            row = if row < h {
+                row.wrapping_mul(2)
+            } else {
+                row.wrapping_sub(h).wrapping_mul(2).wrapping_add(1)
+            };
+        }
+        w = columns;
+        h = rows;
+    }
+    row
+}
+
+// Takes the nested subbands out of rows that are taken in turn.
+fn nest(plan: &Plan, cells: &[i32], grid: &mut [i128], width: usize, height: usize) {
+    let mut i = 0usize;
+    for y in 0..height {
+        for x in 0..width {
+            let row = row_of(plan, width, height, x, y);
+            let from = row.wrapping_mul(width).wrapping_add(x);
+            if i < grid.len() && from < cells.len() {
+                grid[i] = i128::from(cells[from]);
+            }
+            i = i.wrapping_add(1);
+        }
+    }
+}
+
+fn are_small(cells: &[i128]) -> bool
+    ensures { IsTrue result → All (λ z. unsigned_abs z < 2 ^ 60) cells.now }
+{
+    cells.iter().all(|z| z.unsigned_abs() < 1 << 60)
+}
+
+// What the plain transform makes of them.
+fn wide(alloc: Global, plan: &Plan, cells: &[i32]) -> Result<Grid, Fail> {
+    let (width, height) = padded(plan, Component::Y);
+    let mut grid = vec![in alloc; 0i128; width as usize * height as usize]?;
+    nest(plan, cells, &mut grid, width as usize, height as usize);
+    if !are_small(&grid) {
+        return Err(Fail::from("too large"));
+    }
+    Ok(inverse(alloc, plan, Component::Y, Grid::new(width, height, grid))?)
+}
+
+fn are_same(narrow: &[i32], wide: &[i128]) -> bool {
+    if narrow.len() != wide.len() {
+        return false;
+    }
+    for i in 0..narrow.len() {
+        if i128::from(narrow[i]) != wide[i] {
+            return false;
+        }
+    }
+    true
+}
+
+// Fills cells with a number and its opposite, as they come.
+fn scatter(cells: &mut [i32], most: i32) {
+    let mut next = 1u32;
+    for cell in cells.iter_mut() {
+        next = next.wrapping_mul(1_664_525).wrapping_add(1_013_904_223);
+        *cell = if next >> 31 == 0 {
+            most
+        } else {
+            most.wrapping_neg()
+        };
+    }
+}
+
+// Whether both widths make the same of luma whose coefficients are as large as they may be.
+fn agree(alloc: Global, plan: &Plan, most: i64) -> Result<bool, Fail> {
+    let Ok(most) = i32::try_from(most) else {
+        return Ok(false);
+    };
+    if most < 0 {
+        return Ok(true);
+    }
+    let (width, height) = padded(plan, Component::Y);
+    let mut cells = vec![in alloc; 0i32; width as usize * height as usize]?;
+    scatter(&mut cells, most);
+    let wanted = wide(alloc, plan, &cells)?;
+    let mut line = vec![in alloc; 0i32; width as usize]?;
+    let done = narrow(plan, &mut cells, &mut line, most.unsigned_abs());
+    Ok(done && are_same(&cells, wanted.cells()))
+}
+
+#[test]
+fn widths_agree_at_the_limit(rt: HostRuntime) -> Result<(), Fail> {
+    let shape = size(13, 6);
+    for wavelet in 0..7 {
+        let most = GREATEST[wavelet as usize];
+        let pair = (wavelet, wavelet);
+        assert!(rt;
+            agree(rt.alloc(), &plan(shape, pair, (1, 0)), most[0])?,
+            "{wavelet}"
+        );
+        assert!(rt;
+            agree(rt.alloc(), &plan(shape, pair, (2, 0)), most[1])?,
+            "{wavelet}"
+        );
+        assert!(rt;
+            agree(rt.alloc(), &plan(shape, pair, (3, 0)), most[2])?,
+            "{wavelet}"
+        );
+        assert!(rt;
+            agree(rt.alloc(), &plan(shape, pair, (4, 0)), most[3])?,
+            "{wavelet}"
+        );
+        assert!(rt;
+            agree(rt.alloc(), &plan(shape, pair, (5, 0)), most[4])?,
+            "{wavelet}"
+        );
+    }
+    Ok(())
+}
+
+#[test]
+fn widths_agree_on_each_size(rt: HostRuntime) -> Result<(), Fail> {
+    for wavelet in 0..5 {
+        let pair = (wavelet, 4 - wavelet);
+        assert!(rt; agree(rt.alloc(), &plan(size(1, 1), pair, (1, 0)), 1000)?);
+        assert!(rt; agree(rt.alloc(), &plan(size(8, 1), pair, (2, 1)), 1000)?);
+        assert!(rt; agree(rt.alloc(), &plan(size(1, 9), pair, (3, 1)), 1000)?);
+        assert!(rt; agree(rt.alloc(), &plan(size(23, 7), pair, (1, 3)), 1000)?);
+        assert!(rt; agree(rt.alloc(), &plan(size(40, 17), pair, (3, 0)), 1000)?);
+    }
     Ok(())
 }
