@@ -96,6 +96,28 @@ unfolding send_fault first_sample_fault first_outside first_slice_fault first_of
     uint_bits spread_digits
 nothing_is_wrong = refl
 
+-- ---- one sample, which is repeated to the edge of the padded plane
+
+abbrev one_sample : ℕ → Raster
+one_sample sample = record { width = 1; height = 1; samples = sample ∷ [] }
+
+abbrev one_by_one : Sending
+one_by_one = record settings { frames = record small_frames { width = 1; height = 1 } }
+
+abbrev pixel : Planes
+pixel = record { y = one_sample 0x7f; c1 = one_sample 0x80; c2 = one_sample 0x80 }
+
+pub slices_are : sent_slices (sent_parameters one_by_one) pixel (0 ∷ []) ≡
+    (0x00 ∷ 0x01 ∷ 0x3f ∷ 0x00 ∷ 0x00 ∷ []) ∷ []
+unfolding sent_slice sent_slices sent_sequence sent_parameters sent_cells numbers_in_slice
+    sent_coefficients picture_shape range_of video_depth default_matrix sample_at
+    forward_transform padded_plane forward_levels forward_level deinterleaved on_columns on_rows
+    on_cells analysed lifted_by synthesis_steps lifted change weighted coefficient_place
+    place_among slice_coefficient_count slice_rectangle quantisers quantised quant_factor
+    quantised_numbers block_bits without_last_zeros sint_bits uint_bits spread_digits
+    encoded_block encoded_slice bits_of byte_bits packed_bits
+slices_are = refl
+
 -- ---- indices that fit: 6 bytes at index 0, 5 from index 1 on and 4 from index 5 on
 
 abbrev fitting : Sending
