@@ -17,3 +17,4 @@ pub mod PlacedNumbers
 pub mod KeptSlices
 pub mod InCells
 pub mod SeenSlices
+pub mod Entries

@@ -11,6 +11,8 @@ use std::test::Fail;
 use vc_slice::{SliceCoeffs, SliceDone, SliceJob, cut, decode};
 use vc_types::{Plan, Plane, Shape};
 
+mod builders;
+
 // The default quantisation matrix of wavelet 3 at depth 1.
 const MATRIX: [u8; 16] = [8, 4, 4, 0, 0, 0, 0, 0, 0, 0, 0, 0, 0, 0, 0, 0];
 
