@@ -13,7 +13,7 @@ use Rattle.link_model.specs.declared.tally.Tally.{Tally}
 use Rattle.vc_types.specs.SequenceHeader.{Sequence}
 use Rattle.link_receiver.specs.Receptions.{Reception}
 use Rattle.link_receiver.specs.Standing.{StandsForHeard, with_released, counts_of_sessions}
-use Rattle.link_receiver.specs.Standing.{with_picture_counts, frames_in, frames_written}
+use Rattle.link_receiver.specs.Standing.{with_picture_counts, frames_of_sessions, frames_written}
 
 -- counts that differ in those of pictures alone
 abbrev IsSameBut : Tally → Tally → Type 0
@@ -61,8 +61,8 @@ all_outcomes_frames (o ∷ os) t =
     all_outcomes_frames os (with_outcome t o) ∙ outcome_frames t o
 
 sessions_frames : (size : ℕ) (hs : List HeardSession) (t : Tally)
-    → (with_sessions size hs t).frames ≡ t.frames + frames_in size hs
-unfolding with_sessions with_pictures frames_in
+    → (with_sessions size hs t).frames ≡ t.frames + frames_of_sessions size hs
+unfolding with_sessions with_pictures frames_of_sessions
 sessions_frames size [] t = omega arith
 sessions_frames size (h ∷ hs) t = omega (arith, sessions_frames size hs t)
 

@@ -99,11 +99,11 @@ counts_of_sessions size false (h ∷ hs) t =
     past_counts (all_released (last_past size false hs h)) (with_sessions size hs t)
 
 -- how many frames sessions have
-unfoldable pub frames_in : ℕ → List HeardSession → ℕ
-frames_in size [] = 0
-frames_in size (h ∷ hs) =
+unfoldable pub frames_of_sessions : ℕ → List HeardSession → ℕ
+frames_of_sessions size [] = 0
+frames_of_sessions size (h ∷ hs) =
     let es = entered_behind size hs h in
-    frames_in size hs + count_by (has_frame h.session.sequence es) (opened_numbers es)
+    frames_of_sessions size hs + count_by (has_frame h.session.sequence es) (opened_numbers es)
 
 -- and how many of them are in the output so far
 abbrev pub frames_written : ℕ → List HeardSession → ℕ
@@ -111,7 +111,7 @@ frames_written size [] = 0
 frames_written size (h ∷ hs) =
     let es = entered_behind size hs h in
     let s = h.session.sequence in
-    frames_in size hs + count_by (has_frame s es) (let_go_numbers size s es)
+    frames_of_sessions size hs + count_by (has_frame s es) (let_go_numbers size s es)
 
 -- the counts of outcomes of the one, and those of pictures of the other
 abbrev pub with_picture_counts : Tally → Tally → Tally

@@ -13,7 +13,7 @@ use Rattle.vc_types.specs.SliceCoefficients.{AreSliceCoefficients}
 use Rattle.vc_types.specs.Slices.{Coefficients, coefficients_of}
 use Rattle.vc_types.specs.Subbands.{slice_count, slice_coefficient_count, padded_width, padded_height}
 use Rattle.vc_types.specs.TransformParameters.{Parameters}
-use Rattle.picture_build.specs.Kept.{PartPicture, no_slices, with_slice, IsWhole, slices_of, no_coefficients, kept_at, kept_of, kept_slice, kept_entry, kept_slices, IsKept, ChangesOnly, Fills, AreIn}
+use Rattle.picture_build.specs.Kept.{PartPicture, no_slices, with_slice, HasAllSlices, slices_of, no_coefficients, kept_at, kept_of, kept_slice, kept_entry, kept_slices, IsKept, ChangesOnly, FillsSlice, AreIn}
 use Rattle.picture_build.proofs.PlacedNumbers.{kept_apart}
 
 -- ---- what cells hold of a slice
@@ -186,11 +186,11 @@ module _ (p : Parameters) (some_across : 0 < p.slices_x) (some_down : 0 < p.slic
 -- ---- all slices
 
 module _ (p : Parameters) (came : List Bool) (y c1 c2 : List ℤ) (room : ℕ) (kept : IsKept p came y c1 c2 room)
-    (picture : PartPicture) (is : picture ≡ record { parameters = p; slices = kept_slices p came y c1 c2 }) (whole : IsWhole picture) where
+    (picture : PartPicture) (is : picture ≡ record { parameters = p; slices = kept_slices p came y c1 c2 }) (whole : HasAllSlices picture) where
   entry : (n : ℕ) → n < slice_count p → slice_index_or came n false ≡ true
   entry n h =
       sym (has_slice p y c1 c2 came n kept.entries)
-      ∙ (let all = subst IsWhole is whole in all n h)
+      ∙ (let all = subst HasAllSlices is whole in all n h)
 
   listed : (n : ℕ) (none : Coefficients) → n < slice_count p → slice_index_or (slices_of picture) n none ≡ kept_slice p y c1 c2 n
   listed n none h =

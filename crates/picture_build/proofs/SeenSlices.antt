@@ -11,19 +11,19 @@ use Rattle.vc_types.specs.SliceCoefficients.{AreSliceCoefficients}
 use Rattle.vc_types.specs.Slices.{CodedSlice, Coefficients, all_coefficients, in_range, decoded_slice}
 use Rattle.vc_types.specs.Subbands.{slice_count, slice_coefficient_count}
 use Rattle.vc_types.specs.TransformParameters.{Parameters}
-use Rattle.picture_build.specs.Kept.{PartPicture, with_slice, slice_in, slices_of, IsWhole, kept_at, kept_slices, IsKept, ChangesOnly, Fills, AreIn}
+use Rattle.picture_build.specs.Kept.{PartPicture, with_slice, slice_that_came, slices_of, HasAllSlices, kept_at, kept_slices, IsKept, ChangesOnly, FillsSlice, AreIn}
 use Rattle.picture_build.proofs.KeptSlices.{unseen, still_kept, one_more, kept_more, y_in, c1_in, c2_in}
 
 abbrev pub seen : Parameters → List Bool → List ℤ → List ℤ → List ℤ → PartPicture
 seen p came y c1 c2 = record { parameters = p; slices = kept_slices p came y c1 c2 }
 
 module _ (p : Parameters) (some_across : 0 < p.slices_x) (some_down : 0 < p.slices_y) (came : List Bool) (y c1 c2 : List ℤ) (room : ℕ) (kept : IsKept p came y c1 c2 room)
-    (now : PartPicture) (view : seen p came y c1 c2 ≡ now) (n : ℕ) (in_plan : n < slice_count now.parameters) (once : slice_in now n ≡ None) where
+    (now : PartPicture) (view : seen p came y c1 c2 ≡ now) (n : ℕ) (in_plan : n < slice_count now.parameters) (once : slice_that_came now n ≡ None) where
   pub numbered : n < slice_count p
   numbered = subst (λ (q : PartPicture). n < slice_count q.parameters) (sym view) in_plan
 
   here : slice_index_or (kept_slices p came y c1 c2) n None ≡ None
-  here = subst (λ (q : PartPicture). slice_in q n ≡ None) (sym view) once
+  here = subst (λ (q : PartPicture). slice_that_came q n ≡ None) (sym view) once
 
   module _ (y2 c12 c22 : List ℤ) (ty : ChangesOnly p Y n y y2) (t1 : ChangesOnly p C1 n c1 c12) (t2 : ChangesOnly p C2 n c2 c22) (room2 : ℕ) (same_room : room2 ≡ room) where
     pub seen_still : seen p came y2 c12 c22 ≡ now
@@ -32,7 +32,7 @@ module _ (p : Parameters) (some_across : 0 < p.slices_x) (some_down : 0 < p.slic
     pub kept_still : IsKept p came y2 c12 c22 room2
     kept_still = subst (IsKept p came y2 c12 c22) (sym same_room) (still_kept p some_across some_down came y c1 c2 room kept n numbered here y2 c12 c22 ty t1 t2)
 
-  module _ (y2 c12 c22 : List ℤ) (s : Coefficients) (sound : AreSliceCoefficients p n s) (fy : Fills p Y n s.y y y2) (f1 : Fills p C1 n s.c1 c1 c12) (f2 : Fills p C2 n s.c2 c2 c22) (room2 : ℕ) (same_room : room2 ≡ room) where
+  module _ (y2 c12 c22 : List ℤ) (s : Coefficients) (sound : AreSliceCoefficients p n s) (fy : FillsSlice p Y n s.y y y2) (f1 : FillsSlice p C1 n s.c1 c1 c12) (f2 : FillsSlice p C2 n s.c2 c2 c22) (room2 : ℕ) (same_room : room2 ≡ room) where
     pub seen_more : seen p (slice_set came n true) y2 c12 c22 ≡ with_slice now n s
     seen_more =
         ap (λ slices. record { parameters = p; slices = slices }) (one_more p some_across some_down came y c1 c2 room kept n numbered here y2 c12 c22 fy.only f1.only f2.only s sound fy.own f1.own f2.own)
@@ -56,7 +56,7 @@ index_low p n coded low sound = ap (λ (b : Bool). if b then Err IndexRange else
 
 -- ---- the whole picture
 
-module _ (p : Parameters) (came : List Bool) (y c1 c2 : List ℤ) (room : ℕ) (kept : IsKept p came y c1 c2 room) (now : PartPicture) (view : seen p came y c1 c2 ≡ now) (whole : IsWhole now) where
+module _ (p : Parameters) (came : List Bool) (y c1 c2 : List ℤ) (room : ℕ) (kept : IsKept p came y c1 c2 room) (now : PartPicture) (view : seen p came y c1 c2 ≡ now) (whole : HasAllSlices now) where
   pub all_in : (slices : List Coefficients) × AreIn p Y slices y × AreIn p C1 slices c1 × AreIn p C2 slices c2
   all_in = (slices_of now, y_in p came y c1 c2 room kept now (sym view) whole, c1_in p came y c1 c2 room kept now (sym view) whole, c2_in p came y c1 c2 room kept now (sym view) whole)
 

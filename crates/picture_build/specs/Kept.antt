@@ -22,8 +22,8 @@ abbrev pub no_slices : Parameters → PartPicture
 no_slices p = record { parameters = p; slices = replicate (slice_count p) None }
 
 -- the slice of this number, if it came
-abbrev pub slice_in : PartPicture → ℕ → Option Coefficients
-slice_in picture n = slice_index_or picture.slices n None
+abbrev pub slice_that_came : PartPicture → ℕ → Option Coefficients
+slice_that_came picture n = slice_index_or picture.slices n None
 
 -- one slice more
 abbrev pub with_slice : PartPicture → ℕ → Coefficients → PartPicture
@@ -31,9 +31,9 @@ with_slice picture n s =
     record { parameters = picture.parameters; slices = slice_set picture.slices n (Some s) }
 
 -- every slice came
-abbrev pub IsWhole : PartPicture → Type 0
-IsWhole picture =
-    (n : ℕ) → n < slice_count picture.parameters → is_some (slice_in picture n) ≡ true
+abbrev pub HasAllSlices : PartPicture → Type 0
+HasAllSlices picture =
+    (n : ℕ) → n < slice_count picture.parameters → is_some (slice_that_came picture n) ≡ true
 
 abbrev pub no_coefficients : Coefficients
 no_coefficients = record { y = []; c1 = []; c2 = [] }
@@ -88,7 +88,7 @@ pub record ChangesOnly (p : Parameters) (c : Component) (n : ℕ) (old new : Lis
       → line_of new k ≡ line_of old k
 
 -- and these coefficients stand in those of this slice
-pub record Fills (p : Parameters) (c : Component) (n : ℕ) (coefficients old new : List ℤ)
+pub record FillsSlice (p : Parameters) (c : Component) (n : ℕ) (coefficients old new : List ℤ)
     : Type 0 where
   pub only : ChangesOnly p c n old new
   pub own : (i : ℕ) → i < slice_coefficient_count p c n

@@ -6,7 +6,7 @@ ghost use Rattle.vc_types.specs.SliceCoefficients.{AreSliceCoefficients};
 ghost use Rattle.vc_types.specs.Slices.{slice_coefficients, slice_length};
 ghost use Rattle.vc_types.specs.Subbands.{slice_count};
 ghost use Rattle.vc_types.specs.TransformParameters.{parameters_of};
-ghost use Rattle.picture_build.specs.Kept.{no_slices, slice_in, with_slice, slices_of, IsWhole};
+ghost use Rattle.picture_build.specs.Kept.{no_slices, slice_that_came, with_slice, slices_of, HasAllSlices};
 ghost use Rattle.picture_build.specs.Puts.{Puts};
 
 use crate::cells::CoefficientCells;
@@ -103,16 +103,16 @@ impl PictureBuilder {
 
     /// Whether the slice came.
     pub fn has(&self, index: u32) -> bool
-        ensures { result ≡ is_some (slice_in self.now index) }
+        ensures { result ≡ is_some (slice_that_came self.now index) }
     {
         let index = index as usize;
         index < self.came.len() && self.came[index]
     }
 
-    /// Fills in a slice that didn't come yet. It takes no memory.
+    /// FillsSlice in a slice that didn't come yet. It takes no memory.
     pub fn fill(&mut self, index: u32, c: &SliceCoeffs)
         requires in_plan { index < slice_count self.old.parameters }
-        requires once { slice_in self.old index ≡ None }
+        requires once { slice_that_came self.old index ≡ None }
         requires whole { AreSliceCoefficients self.old.parameters index c.now }
         ensures value { self.new ≡ with_slice self.old index c.now }
     {
@@ -132,7 +132,7 @@ impl PictureBuilder {
     /// After a refusal the picture is as before.
     pub fn put(&mut self, index: u32, bytes: &[u8]) -> Result<(), NotPut>
         requires in_plan { index < slice_count self.old.parameters }
-        requires once { slice_in self.old index ≡ None }
+        requires once { slice_that_came self.old index ≡ None }
         requires whole { slice_length self.old.parameters.prefix self.old.parameters.scaler bytes.now
             ≡ Some (length bytes.now) }
         ensures value { Puts (slice_coefficients self.old.parameters index bytes.now) index
@@ -161,7 +161,7 @@ impl PictureBuilder {
 
     /// The planes of a picture all of whose slices came. Another picture begins then, in the same memory.
     pub fn planes(&mut self) -> Result<[Plane; 3], NoMemory>
-        requires whole { IsWhole self.old }
+        requires whole { HasAllSlices self.old }
         ensures value { IfOk result (λ planes. planes_in planes
             ≡ planes_of self.old.parameters (slices_of self.old)) }
         ensures restarted { self.new ≡ no_slices self.old.parameters }
@@ -182,7 +182,7 @@ impl PictureBuilder {
 
     /// The planes of a picture all of whose slices came.
     pub fn finish(self) -> Result<[Plane; 3], NoMemory>
-        requires whole { IsWhole self }
+        requires whole { HasAllSlices self }
         ensures value { IfOk result (λ planes. planes_in planes
             ≡ planes_of self.parameters (slices_of self)) }
     {

@@ -9,7 +9,7 @@ ghost use Rattle.vc_types.specs.Subbands.{area, place_in, padded_width, padded_h
 ghost use Rattle.vc_types.specs.TransformParameters.{parameters_of};
 ghost use Rattle.vc_slice.specs.Coded.{coded_of};
 ghost use Rattle.picture_build.specs.Cells.{cell_number};
-ghost use Rattle.picture_build.specs.Kept.{kept_at, ChangesOnly, Fills};
+ghost use Rattle.picture_build.specs.Kept.{kept_at, ChangesOnly, FillsSlice};
 
 use crate::cells::CoefficientCells;
 use vc_geometry::{bands, padded, place_of, slice_len, slice_rect};
@@ -36,9 +36,9 @@ pub(crate) fn fill_slice(
         ≡ padded_height (parameters_of plan.now) C1 * padded_width (parameters_of plan.now) C1 }
     requires c2 { length c2.old
         ≡ padded_height (parameters_of plan.now) C2 * padded_width (parameters_of plan.now) C2 }
-    ensures y { Fills (parameters_of plan.now) Y slice coeffs.now.y y.old y.new }
-    ensures c1 { Fills (parameters_of plan.now) C1 slice coeffs.now.c1 c1.old c1.new }
-    ensures c2 { Fills (parameters_of plan.now) C2 slice coeffs.now.c2 c2.old c2.new }
+    ensures y { FillsSlice (parameters_of plan.now) Y slice coeffs.now.y y.old y.new }
+    ensures c1 { FillsSlice (parameters_of plan.now) C1 slice coeffs.now.c1 c1.old c1.new }
+    ensures c2 { FillsSlice (parameters_of plan.now) C2 slice coeffs.now.c2 c2.old c2.new }
 {
     fill_component(plan, Component::Y, slice, coeffs, numbers, y);
     fill_component(plan, Component::C1, slice, coeffs, numbers, c1);
@@ -58,7 +58,7 @@ fn fill_component(
     requires room { slice_coefficient_count (parameters_of plan.now) c slice ≤ length numbers.old }
     requires cells { length cells.old
         ≡ padded_height (parameters_of plan.now) c * padded_width (parameters_of plan.now) c }
-    ensures cells { Fills (parameters_of plan.now) c slice (coefficients_of coeffs.now c)
+    ensures cells { FillsSlice (parameters_of plan.now) c slice (coefficients_of coeffs.now c)
         cells.old cells.new }
 {
     let coeffs = coeffs.component(c);
@@ -108,11 +108,11 @@ pub(crate) fn put_blocks(
     ensures c1 { ChangesOnly (parameters_of plan.now) C1 slice c1.old c1.new }
     ensures c2 { ChangesOnly (parameters_of plan.now) C2 slice c2.old c2.new }
     ensures filled { OnOk result (
-        Fills (parameters_of plan.now) Y slice
+        FillsSlice (parameters_of plan.now) Y slice
         (all_coefficients (parameters_of plan.now) slice (coded_of coded.now)).y y.old y.new
-        × Fills (parameters_of plan.now) C1 slice
+        × FillsSlice (parameters_of plan.now) C1 slice
         (all_coefficients (parameters_of plan.now) slice (coded_of coded.now)).c1 c1.old c1.new
-        × Fills (parameters_of plan.now) C2 slice
+        × FillsSlice (parameters_of plan.now) C2 slice
         (all_coefficients (parameters_of plan.now) slice (coded_of coded.now)).c2 c2.old c2.new) }
     ensures sound { OnOk result (in_range (all_coefficients (parameters_of plan.now) slice (coded_of coded.now))
         ≡ Ok (all_coefficients (parameters_of plan.now) slice (coded_of coded.now))) }
@@ -153,7 +153,7 @@ fn put_block(
     requires cells { length cells.old
         ≡ padded_height (parameters_of plan.now) c * padded_width (parameters_of plan.now) c }
     ensures only { ChangesOnly (parameters_of plan.now) c slice cells.old cells.new }
-    ensures filled { OnOk result (Fills (parameters_of plan.now) c slice
+    ensures filled { OnOk result (FillsSlice (parameters_of plan.now) c slice
         (block_coefficients (parameters_of plan.now) c slice index block.now) cells.old cells.new) }
     ensures sound { OnOk result (list_any is_large
         (block_coefficients (parameters_of plan.now) c slice index block.now) ≡ false) }

@@ -7,7 +7,7 @@ use Rattle.std.proofs.lemmas.List.{ext_get_or, get_or-map, length-map, get_or_pa
 use Rattle.vc_types.specs.Slices.{Coefficients}
 use Rattle.vc_types.specs.Subbands.{slice_count}
 use Rattle.vc_types.specs.TransformParameters.{Parameters}
-use Rattle.picture_build.specs.Kept.{PartPicture, no_slices, no_coefficients, slice_in, with_slice, slices_of, IsWhole}
+use Rattle.picture_build.specs.Kept.{PartPicture, no_slices, no_coefficients, slice_that_came, with_slice, slices_of, HasAllSlices}
 use Rattle.play_command.specs.Slices.{HasFirst}
 
 module _ (p : Parameters) where
@@ -19,14 +19,14 @@ module _ (p : Parameters) where
     awaited = λ n h. nothing n;
   })
     where
-      nothing : (n : ℕ) → slice_in (no_slices p) n ≡ None
+      nothing : (n : ℕ) → slice_that_came (no_slices p) n ≡ None
       nothing n = elim (cases_lt n (slice_count p)) [
         | inl lt ↦ get_or-replicate (slice_count p) n None None lt
         | inr ge ↦ (let long = length-replicate {A = Option Coefficients} (slice_count p) None in get_or_past (replicate (slice_count p) None) n None (omega (arith, long)))
       ]
 
   module _ (first : List Coefficients) (before : PartPicture) (has : HasFirst p first before) where
-    pub next_awaited : (n : ℕ) → length first ≡ n → slice_in before n ≡ None
+    pub next_awaited : (n : ℕ) → length first ≡ n → slice_that_came before n ≡ None
     next_awaited n e = has.awaited n (omega (arith, e))
 
     -- one more
@@ -56,7 +56,7 @@ module _ (p : Parameters) where
           get_or-map (λ (s : Option Coefficients). unwrap_or s no_coefficients) before.slices n None no_coefficients (omega (arith, count, has.entries))
           ∙ ap (λ (s : Option Coefficients). unwrap_or s no_coefficients) (has.came n no_coefficients below)))
 
-      pub first_whole : IsWhole before
+      pub first_whole : HasAllSlices before
       first_whole n h =
           let below : n < slice_count p = subst (λ (q : Parameters). n < slice_count q) has.parameters h in
           ap is_some (has.came n no_coefficients (omega (arith, all)))

@@ -1,7 +1,7 @@
 -- What reading the slices of a picture gives.
 use Rattle.std.specs.Prelude.{◌≡◌, ◌<◌, ◌≤◌, ℕ, suc, ◌+◌, Bool, true, false, List, ◌∷◌, ◌++◌, length, slice_index_or, Option, Some, None, Result, Ok, Err}
 use Rattle.vc_types.specs.SliceCoefficients.{AreSliceCoefficients}
-use Rattle.picture_build.specs.Kept.{PartPicture, slice_in, with_slice, slices_of, IsWhole}
+use Rattle.picture_build.specs.Kept.{PartPicture, slice_that_came, with_slice, slices_of, HasAllSlices}
 use Rattle.vc_types.specs.Fields.{and_then}
 use Rattle.vc_types.specs.Pictures.{slices_from}
 use Rattle.vc_types.specs.Planes.{planes_in, planes_of}
@@ -45,14 +45,14 @@ pub record HasFirst (p : Parameters) (first : List Coefficients) (picture : Part
   pub parameters : picture.parameters ≡ p
   pub entries : length picture.slices ≡ slice_count p
   pub came : (n : ℕ) (none : Coefficients) → n < length first
-      → slice_in picture n ≡ Some (slice_index_or first n none)
-  pub awaited : (n : ℕ) → length first ≤ n → slice_in picture n ≡ None
+      → slice_that_came picture n ≡ Some (slice_index_or first n none)
+  pub awaited : (n : ℕ) → length first ≤ n → slice_that_came picture n ≡ None
 
 -- all slices of a picture are there
 pub record TookAllSlices (p : Parameters) (bytes : List ℕ) (picture : PartPicture) : Type 0 where
   pub rest : List ℕ
   pub read : slices_from p 0 (slice_count p) bytes ≡ Ok (slices_of picture, rest)
-  pub whole : IsWhole picture
+  pub whole : HasAllSlices picture
   pub parameters : picture.parameters ≡ p
 
 abbrev pub TookSlices : Parameters → List ℕ → PartPicture → Bool → Type 0

@@ -2,7 +2,7 @@ ghost use Rattle.std.specs.Prelude.{◌≡◌, ◌<◌, None, Some, IfOk, length
 ghost use Rattle.vc_types.specs.Slices.{slice_length};
 ghost use Rattle.vc_types.specs.Subbands.{slice_count};
 ghost use Rattle.vc_types.specs.TransformParameters.{parameters_of};
-ghost use Rattle.picture_build.specs.Kept.{no_slices, slice_in};
+ghost use Rattle.picture_build.specs.Kept.{no_slices, slice_that_came};
 ghost use Rattle.play_command.specs.Slices.{TookSlice, TookSlices, TookWhole};
 
 use bytes::Bytes;
@@ -43,7 +43,7 @@ fn take_slice(
 ) -> Result<bool, NoMemory>
     requires plan { builder.old.parameters ≡ parameters_of plan.now }
     requires index { index < slice_count (parameters_of plan.now) }
-    requires once { slice_in builder.old index ≡ None }
+    requires once { slice_that_came builder.old index ≡ None }
     ensures value { IfOk result (TookSlice (parameters_of plan.now) index rest.old rest.new
         builder.old builder.new) }
 {
@@ -65,7 +65,7 @@ fn put_slice(
 ) -> Result<bool, NoMemory>
     requires plan { builder.old.parameters ≡ parameters_of plan.now }
     requires index { index < slice_count (parameters_of plan.now) }
-    requires once { slice_in builder.old index ≡ None }
+    requires once { slice_that_came builder.old index ≡ None }
     requires whole { slice_length plan.now.prefix plan.now.scaler bytes ≡ Some (length bytes) }
     ensures value { IfOk result (TookWhole (parameters_of plan.now) index bytes
         builder.old builder.new) }
@@ -88,7 +88,7 @@ fn put_slice(
 // Decodes a slice by itself, and fills it in.
 fn fill_slice(alloc: Global, job: SliceJob, builder: &mut PictureBuilder) -> Result<bool, NoMemory>
     requires plan { builder.old.parameters ≡ parameters_of job.plan }
-    requires once { slice_in builder.old job.index ≡ None }
+    requires once { slice_that_came builder.old job.index ≡ None }
     ensures value { IfOk result (TookWhole (parameters_of job.plan) job.index job.bytes
         builder.old builder.new) }
 {

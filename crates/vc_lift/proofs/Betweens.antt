@@ -6,8 +6,8 @@ use Rattle.std.proofs.lemmas.Bool.Decides.{nat_tests}
 use Rattle.vc_types.specs.Lifting.{line_of, changed_by}
 use Rattle.vc_lift.specs.declared.halves.Halves.{Halves}
 use Rattle.vc_lift.specs.CountedSteps.{CountedStep, place_met, change_at, lift, lift_between}
-use Rattle.vc_lift.specs.Halves.{half_start, place_in, line_in, AreLines, AreApart, IsBeside, IsRun}
-use Rattle.vc_lift.specs.Ranges.{HasRoom, HasRange, stretched}
+use Rattle.vc_lift.specs.Halves.{half_start, halves_place, line_in, AreLines, StandApart, IsBeside, CanRun}
+use Rattle.vc_lift.specs.Ranges.{HasRangeAt, HasRange, stretched}
 use Rattle.vc_lift.proofs.HalfPlaces.{place_at}
 use Rattle.vc_lift.proofs.NarrowSums.{same_change, same_room}
 
@@ -65,14 +65,14 @@ module _ (s : CountedStep) (half lo mid hi : ℕ) (x y : ℕ → ℤ) (some : 0 
   ]
 
   -- the samples that are left have the same room
-  pub room_left : (limit n : ℕ) → mid ≤ n → n < half → HasRoom limit s half x n → HasRoom limit s half y n
+  pub room_left : (limit n : ℕ) → mid ≤ n → n < half → HasRangeAt limit s half x n → HasRangeAt limit s half y n
   room_left limit n from lt room =
       let number : (2 * n + s.parity) / 2 ≡ n = omega arith in
       same_room s half y x n n limit (λ j h. met_same n j)
       (same (2 * n + s.parity) (omega arith) ∙ between_past s half lo mid x (2 * n + s.parity) (omega (arith, number))) room
 
 -- bounds on a line give room beside each sample
-pub room_at : (limit : ℕ) (s : CountedStep) (half : ℕ) (x : ℕ → ℤ) (n : ℕ) → n < half → HasRange limit s half x → HasRoom limit s half x n
+pub room_at : (limit : ℕ) (s : CountedStep) (half : ℕ) (x : ℕ → ℤ) (n : ℕ) → n < half → HasRange limit s half x → HasRangeAt limit s half x n
 room_at limit s half x n h r = record {
   other = r.other;
   met = λ j lt. r.met.within (min (n + j - s.back) (half - 1)) (omega arith);
@@ -83,7 +83,7 @@ room_at limit s half x n h r = record {
 -- ---- one number of each line
 
 module _ (s : CountedStep) (h : Halves) (n width len : ℕ) (p : s.parity < 2) (at : n < h.half) (lines : AreLines h width len) where
-  pub number_run : IsRun s h n width len
+  pub number_run : CanRun s h n width len
   number_run = record {
     at = lines.inside (2 * n + s.parity) (omega arith);
     met = λ j lt. lines.inside (place_met s h.half n j) (met_below s h.half n j lines.some p);
@@ -91,12 +91,12 @@ module _ (s : CountedStep) (h : Halves) (n width len : ℕ) (p : s.parity < 2) (
   }
 
   module _ (old new : List ℤ)
-      (on : (x : ℕ) → x < width → line_of new (place_in h (2 * n + s.parity) + x) ≡ changed_by s.adds (line_of old (place_in h (2 * n + s.parity) + x)) (change_at s h.half (line_in h old x) n))
-      (off : (i : ℕ) → (i < place_in h (2 * n + s.parity)) ⊎ (place_in h (2 * n + s.parity) + width ≤ i) → line_of new i ≡ line_of old i) where
+      (on : (x : ℕ) → x < width → line_of new (halves_place h (2 * n + s.parity) + x) ≡ changed_by s.adds (line_of old (halves_place h (2 * n + s.parity) + x)) (change_at s h.half (line_in h old x) n))
+      (off : (i : ℕ) → (i < halves_place h (2 * n + s.parity)) ⊎ (halves_place h (2 * n + s.parity) + width ≤ i) → line_of new i ≡ line_of old i) where
     number_kept : (x k : ℕ) → x < width → k < 2 * h.half → k ≢ 2 * n + s.parity → line_in h new x k ≡ line_in h old x k
-    number_kept x k lt below ne = off (place_in h k + x) (outside (lines.apart k (2 * n + s.parity) below (omega arith) ne))
+    number_kept x k lt below ne = off (halves_place h k + x) (outside (lines.apart k (2 * n + s.parity) below (omega arith) ne))
       where
-        outside : AreApart width (place_in h k) (place_in h (2 * n + s.parity)) → (place_in h k + x < place_in h (2 * n + s.parity)) ⊎ (place_in h (2 * n + s.parity) + width ≤ place_in h k + x)
+        outside : StandApart width (halves_place h k) (halves_place h (2 * n + s.parity)) → (halves_place h k + x < halves_place h (2 * n + s.parity)) ⊎ (halves_place h (2 * n + s.parity) + width ≤ halves_place h k + x)
         outside (inl before) = inl (omega arith)
         outside (inr past) = inr (omega arith)
 
@@ -118,9 +118,9 @@ module _ (s : CountedStep) (h : Halves) (n width len : ℕ) (p : s.parity < 2) (
     number_changed x k lt below = number_at x k lt below (cases_eq k (2 * n + s.parity))
 
     pub number_beside : (i : ℕ) → IsBeside h width i → line_of new i ≡ line_of old i
-    number_beside i none = off i (outside (cases_lt i (place_in h (2 * n + s.parity))) (cases_lt i (place_in h (2 * n + s.parity) + width)))
+    number_beside i none = off i (outside (cases_lt i (halves_place h (2 * n + s.parity))) (cases_lt i (halves_place h (2 * n + s.parity) + width)))
       where
-        outside : (i < place_in h (2 * n + s.parity)) ⊎ (place_in h (2 * n + s.parity) ≤ i) → (i < place_in h (2 * n + s.parity) + width) ⊎ (place_in h (2 * n + s.parity) + width ≤ i) → (i < place_in h (2 * n + s.parity)) ⊎ (place_in h (2 * n + s.parity) + width ≤ i)
+        outside : (i < halves_place h (2 * n + s.parity)) ⊎ (halves_place h (2 * n + s.parity) ≤ i) → (i < halves_place h (2 * n + s.parity) + width) ⊎ (halves_place h (2 * n + s.parity) + width ≤ i) → (i < halves_place h (2 * n + s.parity)) ⊎ (halves_place h (2 * n + s.parity) + width ≤ i)
         outside (inl before) any = inl before
         outside (inr from) (inr past) = inr past
-        outside (inr from) (inl within) = absurd (none (i - place_in h (2 * n + s.parity)) (2 * n + s.parity) (omega arith) (omega arith) (omega arith))
+        outside (inr from) (inl within) = absurd (none (i - halves_place h (2 * n + s.parity)) (2 * n + s.parity) (omega arith) (omega arith) (omega arith))

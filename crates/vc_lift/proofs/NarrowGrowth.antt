@@ -11,7 +11,7 @@ use Rattle.std.proofs.Math.Seq.{take-nil, drop-cons}
 use Rattle.vc_types.specs.Lifting.{half_of, changed_by}
 use Rattle.vc_lift.specs.CountedSteps.{CountedStep, place_met, sum_met, change_at, lift, lift_all}
 use Rattle.vc_lift.specs.Growth.{IsWithin}
-use Rattle.vc_lift.specs.Ranges.{HasRange, IsNarrow, rounded_sum, stretched, stretched_below, bound_after, counted_synthesis, narrow_bound}
+use Rattle.vc_lift.specs.Ranges.{HasRange, StaysNarrow, rounded_sum, stretched, stretched_below, bound_after, counted_synthesis, narrow_bound}
 use Rattle.vc_types.specs.Wavelets.{synthesised}
 use Rattle.vc_lift.proofs.CountedSteps.{counted_steps, synthesised_counted}
 use Rattle.vc_lift.proofs.LineGrowth.{kept_at, lifted_at, plain_parity, plain_at, synthesis_little}
@@ -151,7 +151,7 @@ of_parity x half m q lt small = record { within = λ n h. small (2 * n + q) (ome
 same_within : (x y : ℕ → ℤ) (half q m : ℕ) → q < 2 → ((k : ℕ) → k < 2 * half → y k ≡ x k) → IsWithin x half q m → IsWithin y half q m
 same_within x y half q m lt same w = record { within = λ n h. subst (λ z. unsigned_abs z ≤ m) (sym (same (2 * n + q) (omega arith))) (w.within n h) }
 
-pub range_now : (steps : List CountedStep) (half : ℕ) (x y : ℕ → ℤ) (i : ℕ) (s : CountedStep) → 0 < half → HaveParities steps → IsNarrow steps half x → s ≡ get_or steps i s → i < length steps → ((k : ℕ) → k < 2 * half → y k ≡ lift_all (take i steps) half x k) → HasRange (2 ^ 31) s half y
+pub range_now : (steps : List CountedStep) (half : ℕ) (x y : ℕ → ℤ) (i : ℕ) (s : CountedStep) → 0 < half → HaveParities steps → StaysNarrow steps half x → s ≡ get_or steps i s → i < length steps → ((k : ℕ) → k < 2 * half → y k ≡ lift_all (take i steps) half x k) → HasRange (2 ^ 31) s half y
 range_now steps half x y i s some p narrow e lt same =
     let r = subst (λ t. HasRange (2 ^ 31) t half (lift_all (take i steps) half x)) (sym e)
     (range_at (2 ^ 31) steps narrow.most narrow.most half narrow.after x i s some p narrow.fits (of_parity x half narrow.most 0 (omega arith) narrow.small) (of_parity x half narrow.most 1 (omega arith) narrow.small) lt) in

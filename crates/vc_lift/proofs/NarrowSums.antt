@@ -11,7 +11,7 @@ use Rattle.std.proofs.Math.Pow.{pow_mono, pow_pos}
 use Rattle.vc_types.specs.Lifting.{half_of, changed_by}
 use Rattle.vc_lift.specs.CountedSteps.{CountedStep, sum_below, place_met, sum_met, change_at}
 use Rattle.vc_lift.specs.Growth.{weight}
-use Rattle.vc_lift.specs.Ranges.{HasRoom, rounded_sum, stretched}
+use Rattle.vc_lift.specs.Ranges.{HasRangeAt, rounded_sum, stretched}
 use Rattle.vc_lift.proofs.WeightedSums.{abs-add, sum_below_more}
 use Rattle.vc_lift.proofs.Sums.{sum_more}
 
@@ -40,7 +40,7 @@ sum_met_within s half x n m small =
     omega (arith, sum, part)
 
 -- the change of a sample that has room
-pub change_within : (s : CountedStep) (half : ℕ) (x : ℕ → ℤ) (n limit : ℕ) → HasRoom limit s half x n → unsigned_abs (x (2 * n + s.parity)) + unsigned_abs (change_at s half x n) < limit
+pub change_within : (s : CountedStep) (half : ℕ) (x : ℕ → ℤ) (n limit : ℕ) → HasRangeAt limit s half x n → unsigned_abs (x (2 * n + s.parity)) + unsigned_abs (change_at s half x n) < limit
 unfolding change_at
 change_within s half x n limit room =
     let sum = sum_met_within s half x n room.other room.met in
@@ -57,7 +57,7 @@ pub same_change : (s : CountedStep) (half : ℕ) (x y : ℕ → ℤ) (n m : ℕ)
 unfolding change_at sum_met
 same_change s half x y n m same = ap (λ z. int_shr (z +ℤ pos (half_of s.shift)) s.shift) (same_below (length s.taps) _ _ (λ j h. ap (λ z. slice_index_or s.taps j (pos 0) *ℤ z) (same j h)))
 
-pub same_room : (s : CountedStep) (half : ℕ) (x y : ℕ → ℤ) (n m limit : ℕ) → ((j : ℕ) → j < length s.taps → x (place_met s half n j) ≡ y (place_met s half m j)) → x (2 * n + s.parity) ≡ y (2 * m + s.parity) → HasRoom limit s half y m → HasRoom limit s half x n
+pub same_room : (s : CountedStep) (half : ℕ) (x y : ℕ → ℤ) (n m limit : ℕ) → ((j : ℕ) → j < length s.taps → x (place_met s half n j) ≡ y (place_met s half m j)) → x (2 * n + s.parity) ≡ y (2 * m + s.parity) → HasRangeAt limit s half y m → HasRangeAt limit s half x n
 same_room s half x y n m limit same own room = record {
   other = room.other;
   met = λ j h. subst (λ z. unsigned_abs z ≤ room.other) (sym (same j h)) (room.met j h);

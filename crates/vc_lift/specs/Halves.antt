@@ -8,32 +8,32 @@ abbrev pub half_start : Halves → ℕ → ℕ
 half_start h parity = if parity == 0 then h.even else h.odd
 
 -- where the first line has its sample k
-abbrev pub place_in : Halves → ℕ → ℕ
-place_in h k = half_start h (k % 2) + k / 2 * h.pitch
+abbrev pub halves_place : Halves → ℕ → ℕ
+halves_place h k = half_start h (k % 2) + k / 2 * h.pitch
 
 -- line x of those that stand side by side
 abbrev pub line_in : Halves → List ℤ → ℕ → Line
-line_in h cells x k = line_of cells (place_in h k + x)
+line_in h cells x k = line_of cells (halves_place h k + x)
 
 -- two stretches of so many cells have none in common
-abbrev pub AreApart : ℕ → ℕ → ℕ → Type 0
-AreApart width i j = (i + width ≤ j) ⊎ (j + width ≤ i)
+abbrev pub StandApart : ℕ → ℕ → ℕ → Type 0
+StandApart width i j = (i + width ≤ j) ⊎ (j + width ≤ i)
 
 -- So many lines stand side by side among so many cells, and no cell is in two of them.
 pub record AreLines (h : Halves) (width cells : ℕ) : Type 0 where
   pub some : 0 < h.half
   pub small : h.half < 2 ^ 60
-  pub inside : (k : ℕ) → k < 2 * h.half → place_in h k + width ≤ cells
-  pub apart : (j k : ℕ) → j < 2 * h.half → k < 2 * h.half → j ≢ k → AreApart width (place_in h j) (place_in h k)
+  pub inside : (k : ℕ) → k < 2 * h.half → halves_place h k + width ≤ cells
+  pub apart : (j k : ℕ) → j < 2 * h.half → k < 2 * h.half → j ≢ k → StandApart width (halves_place h j) (halves_place h k)
 
 -- a cell that is in none of them
 abbrev pub IsBeside : Halves → ℕ → ℕ → Type 0
-IsBeside h width i = (x k : ℕ) → x < width → k < 2 * h.half → i ≢ place_in h k + x
+IsBeside h width i = (x k : ℕ) → x < width → k < 2 * h.half → i ≢ halves_place h k + x
 
 -- A step can change as many cells as a run has, from its sample number n on, and reads none of these.
-pub record IsRun (s : CountedStep) (h : Halves) (n width cells : ℕ) : Type 0 where
-  pub at : place_in h (2 * n + s.parity) + width ≤ cells
-  pub met : (j : ℕ) → j < length s.taps → place_in h (place_met s h.half n j) + width ≤ cells
+pub record CanRun (s : CountedStep) (h : Halves) (n width cells : ℕ) : Type 0 where
+  pub at : halves_place h (2 * n + s.parity) + width ≤ cells
+  pub met : (j : ℕ) → j < length s.taps → halves_place h (place_met s h.half n j) + width ≤ cells
   pub apart :
       (j : ℕ) → j < length s.taps →
-      AreApart width (place_in h (place_met s h.half n j)) (place_in h (2 * n + s.parity))
+      StandApart width (halves_place h (place_met s h.half n j)) (halves_place h (2 * n + s.parity))

@@ -47,14 +47,14 @@ pub record HasRange (limit : ℕ) (s : CountedStep) (half : ℕ) (x : Line) : Ty
   pub result : stretched s own other < limit
 
 -- the same beside its sample number n alone
-pub record HasRoom (limit : ℕ) (s : CountedStep) (half : ℕ) (x : Line) (n : ℕ) : Type 0 where
+pub record HasRangeAt (limit : ℕ) (s : CountedStep) (half : ℕ) (x : Line) (n : ℕ) : Type 0 where
   pub other : ℕ
   pub met : (j : ℕ) → j < length s.taps → unsigned_abs (x (place_met s half n j)) ≤ other
   pub sum : rounded_sum s other < limit
   pub result : stretched s (unsigned_abs (x (2 * n + s.parity))) other < limit
 
 -- a bound on the samples of a line, and one that they keep in 32 bits while steps are made
-pub record IsNarrow (steps : List CountedStep) (half : ℕ) (x : Line) : Type 0 where
+pub record StaysNarrow (steps : List CountedStep) (half : ℕ) (x : Line) : Type 0 where
   pub most : ℕ
   pub after : ℕ
   pub small : (k : ℕ) → k < 2 * half → unsigned_abs (x k) ≤ most

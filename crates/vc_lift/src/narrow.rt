@@ -3,9 +3,9 @@ ghost use Rattle.vc_types.specs.Lifting.{line_of, half_of, changed_by};
 ghost use Rattle.vc_types.specs.Wavelets.{synthesised};
 ghost use Rattle.vc_lift.specs.CountedSteps.{sum_met, change_at, lift, lift_all, lift_between, in_order, place_met};
 ghost use Rattle.vc_lift.specs.Growth.{IsPlain, grows_little};
-ghost use Rattle.vc_lift.specs.Ranges.{HasRange, HasRoom, IsNarrow, counted_synthesis};
+ghost use Rattle.vc_lift.specs.Ranges.{HasRange, HasRangeAt, StaysNarrow, counted_synthesis};
 ghost use Rattle.vc_lift.specs.Steps.{counted_of, counted_row};
-ghost use Rattle.vc_lift.specs.Halves.{place_in, line_in, AreLines, IsRun, IsBeside};
+ghost use Rattle.vc_lift.specs.Halves.{halves_place, line_in, AreLines, CanRun, IsBeside};
 
 use crate::halves::{Halves, place};
 use crate::step::{Row, Step, step_at, steps};
@@ -18,8 +18,8 @@ fn weigh(cells: &[i32], halves: &Halves, step: &Step, n: usize, x: usize) -> i32
     requires some { 0 < halves.now.half }
     requires small { halves.now.half < 2 ^ 60 }
     requires at { n < halves.now.half }
-    requires inside { (j : ℕ) → j < length step.now.taps.now → place_in halves.now (place_met (counted_of step.now) halves.now.half n j) + x < length cells.now }
-    requires room { HasRoom (2 ^ 31) (counted_of step.now) halves.now.half (line_in halves.now cells.now x) n }
+    requires inside { (j : ℕ) → j < length step.now.taps.now → halves_place halves.now (place_met (counted_of step.now) halves.now.half n j) + x < length cells.now }
+    requires room { HasRangeAt (2 ^ 31) (counted_of step.now) halves.now.half (line_in halves.now cells.now x) n }
     ensures value { result ≡ sum_met (counted_of step.now) halves.now.half (line_in halves.now cells.now x) n }
     ensures bound { unsigned_abs result + half_of step.now.shift < 2 ^ 31 }
 {
@@ -39,8 +39,8 @@ fn change_at(cells: &[i32], halves: &Halves, step: &Step, n: usize, x: usize) ->
     requires some { 0 < halves.now.half }
     requires small { halves.now.half < 2 ^ 60 }
     requires at { n < halves.now.half }
-    requires inside { (j : ℕ) → j < length step.now.taps.now → place_in halves.now (place_met (counted_of step.now) halves.now.half n j) + x < length cells.now }
-    requires room { HasRoom (2 ^ 31) (counted_of step.now) halves.now.half (line_in halves.now cells.now x) n }
+    requires inside { (j : ℕ) → j < length step.now.taps.now → halves_place halves.now (place_met (counted_of step.now) halves.now.half n j) + x < length cells.now }
+    requires room { HasRangeAt (2 ^ 31) (counted_of step.now) halves.now.half (line_in halves.now cells.now x) n }
     ensures value { result ≡ change_at (counted_of step.now) halves.now.half (line_in halves.now cells.now x) n }
     ensures bound { unsigned_abs (line_in halves.now cells.now x (2 * n + step.now.parity)) + unsigned_abs result < 2 ^ 31 }
 {
@@ -66,10 +66,10 @@ fn change_run(cells: &mut [i32], halves: &Halves, step: &Step, n: usize, width: 
     requires plain { IsPlain (counted_of step.now) }
     requires small { halves.now.half < 2 ^ 60 }
     requires at { n < halves.now.half }
-    requires run { IsRun (counted_of step.now) halves.now n width (length cells.old) }
-    requires room { (x : ℕ) → x < width → HasRoom (2 ^ 31) (counted_of step.now) halves.now.half (line_in halves.now cells.old x) n }
-    ensures on { (x : ℕ) → x < width → line_of cells.new (place_in halves.now (2 * n + step.now.parity) + x) ≡ changed_by step.now.adds (line_of cells.old (place_in halves.now (2 * n + step.now.parity) + x)) (change_at (counted_of step.now) halves.now.half (line_in halves.now cells.old x) n) }
-    ensures off { (i : ℕ) → (i < place_in halves.now (2 * n + step.now.parity)) ⊎ (place_in halves.now (2 * n + step.now.parity) + width ≤ i) → line_of cells.new i ≡ line_of cells.old i }
+    requires run { CanRun (counted_of step.now) halves.now n width (length cells.old) }
+    requires room { (x : ℕ) → x < width → HasRangeAt (2 ^ 31) (counted_of step.now) halves.now.half (line_in halves.now cells.old x) n }
+    ensures on { (x : ℕ) → x < width → line_of cells.new (halves_place halves.now (2 * n + step.now.parity) + x) ≡ changed_by step.now.adds (line_of cells.old (halves_place halves.now (2 * n + step.now.parity) + x)) (change_at (counted_of step.now) halves.now.half (line_in halves.now cells.old x) n) }
+    ensures off { (i : ℕ) → (i < halves_place halves.now (2 * n + step.now.parity)) ⊎ (halves_place halves.now (2 * n + step.now.parity) + width ≤ i) → line_of cells.new i ≡ line_of cells.old i }
 {
     let at = place(halves, step.parity, n);
     for x in 0..width {
@@ -85,7 +85,7 @@ fn change_each(cells: &mut [i32], halves: &Halves, step: &Step, lo: usize, hi: u
     requires lines { AreLines halves.now width (length cells.old) }
     requires ordered { lo ≤ hi }
     requires within { hi ≤ halves.now.half }
-    requires room { (x n : ℕ) → x < width → lo ≤ n → n < hi → HasRoom (2 ^ 31) (counted_of step.now) halves.now.half (line_in halves.now cells.old x) n }
+    requires room { (x n : ℕ) → x < width → lo ≤ n → n < hi → HasRangeAt (2 ^ 31) (counted_of step.now) halves.now.half (line_in halves.now cells.old x) n }
     ensures on { (x k : ℕ) → x < width → k < 2 * halves.now.half → line_in halves.now cells.new x k ≡ lift_between (counted_of step.now) halves.now.half lo hi (line_in halves.now cells.old x) k }
     ensures off { (i : ℕ) → IsBeside halves.now width i → line_of cells.new i ≡ line_of cells.old i }
 {
@@ -104,7 +104,7 @@ fn change_inside(cells: &mut [i32], halves: &Halves, step: &Step, lo: usize, hi:
     requires within { hi ≤ halves.now.half }
     requires left { step.now.back ≤ lo }
     requires right { hi + length step.now.taps.now ≤ halves.now.half + step.now.back + 1 }
-    requires room { (n : ℕ) → lo ≤ n → n < hi → HasRoom (2 ^ 31) (counted_of step.now) halves.now.half (line_in halves.now cells.old 0) n }
+    requires room { (n : ℕ) → lo ≤ n → n < hi → HasRangeAt (2 ^ 31) (counted_of step.now) halves.now.half (line_in halves.now cells.old 0) n }
     ensures on { (k : ℕ) → k < 2 * halves.now.half → line_in halves.now cells.new 0 k ≡ lift_between (counted_of step.now) halves.now.half lo hi (line_in halves.now cells.old 0) k }
     ensures off { (i : ℕ) → IsBeside halves.now 1 i → line_of cells.new i ≡ line_of cells.old i }
 {
@@ -121,7 +121,7 @@ fn change_middle(cells: &mut [i32], halves: &Halves, step: &Step, lo: usize, hi:
     requires within { hi ≤ halves.now.half }
     requires left { lo < hi → step.now.back ≤ lo }
     requires right { lo < hi → hi + length step.now.taps.now ≤ halves.now.half + step.now.back + 1 }
-    requires room { (n : ℕ) → lo ≤ n → n < hi → HasRoom (2 ^ 31) (counted_of step.now) halves.now.half (line_in halves.now cells.old 0) n }
+    requires room { (n : ℕ) → lo ≤ n → n < hi → HasRangeAt (2 ^ 31) (counted_of step.now) halves.now.half (line_in halves.now cells.old 0) n }
     ensures on { (k : ℕ) → k < 2 * halves.now.half → line_in halves.now cells.new 0 k ≡ lift_between (counted_of step.now) halves.now.half lo hi (line_in halves.now cells.old 0) k }
     ensures off { (i : ℕ) → IsBeside halves.now 1 i → line_of cells.new i ≡ line_of cells.old i }
 {
@@ -207,7 +207,7 @@ fn lift(cells: &mut [i32], halves: &Halves, step: &Step, width: usize)
 fn run(cells: &mut [i32], halves: &Halves, width: usize, rows: &[Row], undo: bool)
     requires lines { AreLines halves.now width (length cells.old) }
     requires steps { IsTrue (grows_little 16 (in_order undo (map counted_row rows.now))) }
-    requires narrow { (x : ℕ) → x < width → IsNarrow (in_order undo (map counted_row rows.now)) halves.now.half (line_in halves.now cells.old x) }
+    requires narrow { (x : ℕ) → x < width → StaysNarrow (in_order undo (map counted_row rows.now)) halves.now.half (line_in halves.now cells.old x) }
     ensures on { (x k : ℕ) → x < width → k < 2 * halves.now.half → line_in halves.now cells.new x k ≡ lift_all (in_order undo (map counted_row rows.now)) halves.now.half (line_in halves.now cells.old x) k }
     ensures off { (i : ℕ) → IsBeside halves.now width i → line_of cells.new i ≡ line_of cells.old i }
 {
@@ -222,7 +222,7 @@ fn run(cells: &mut [i32], halves: &Halves, width: usize, rows: &[Row], undo: boo
 pub fn synth_narrow(wavelet: u8, cells: &mut [i32], halves: &Halves, width: usize)
     requires wavelet { wavelet ≤ 6 }
     requires lines { AreLines halves.now width (length cells.old) }
-    requires narrow { (x : ℕ) → x < width → IsNarrow (counted_synthesis wavelet) halves.now.half (line_in halves.now cells.old x) }
+    requires narrow { (x : ℕ) → x < width → StaysNarrow (counted_synthesis wavelet) halves.now.half (line_in halves.now cells.old x) }
     ensures on { (x k : ℕ) → x < width → k < 2 * halves.now.half → line_in halves.now cells.new x k ≡ synthesised wavelet (2 * halves.now.half) (line_in halves.now cells.old x) k }
     ensures off { (i : ℕ) → IsBeside halves.now width i → line_of cells.new i ≡ line_of cells.old i }
 {

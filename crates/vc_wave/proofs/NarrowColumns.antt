@@ -9,8 +9,8 @@ use Rattle.vc_types.specs.Lifting.{Line, line_of}
 use Rattle.vc_types.specs.Transforms.{Cells, on_columns}
 use Rattle.vc_types.specs.Wavelets.{synthesised}
 use Rattle.vc_lift.specs.declared.halves.Halves.{Halves}
-use Rattle.vc_lift.specs.Halves.{half_start, place_in, line_in, AreLines, AreApart, IsBeside}
-use Rattle.vc_lift.specs.Ranges.{IsNarrow, narrow_bound, counted_synthesis}
+use Rattle.vc_lift.specs.Halves.{half_start, halves_place, line_in, AreLines, StandApart, IsBeside}
+use Rattle.vc_lift.specs.Ranges.{StaysNarrow, narrow_bound, counted_synthesis}
 use Rattle.vc_lift.proofs.LineLaws.{synthesis_past}
 use Rattle.vc_wave.specs.NarrowBounds.{HasBound}
 use Rattle.vc_wave.specs.Planes.{plane_of}
@@ -25,13 +25,13 @@ start_of pitch zero h = omega arith
 start_of pitch (suc zero) h = omega arith
 start_of pitch (suc (suc q)) h = absurd (omega arith)
 
-column_place : (pitch half k : ℕ) → place_in (column_halves pitch half) k ≡ k * pitch
+column_place : (pitch half k : ℕ) → halves_place (column_halves pitch half) k ≡ k * pitch
 column_place pitch half k =
     let first = start_of pitch (k % 2) (omega arith) in
     let parts : (k % 2 + 2 * (k / 2)) * pitch ≡ k * pitch = ap (λ n. n * pitch) (omega arith) in
     omega (arith, first, parts)
 
-rows_apart : (pitch width j k : ℕ) → width ≤ pitch → j ≢ k → AreApart width (j * pitch) (k * pitch)
+rows_apart : (pitch width j k : ℕ) → width ≤ pitch → j ≢ k → StandApart width (j * pitch) (k * pitch)
 rows_apart pitch width j k wide ne = elim (cases_lt j k) [
   | inl lt ↦ (let above : suc j * pitch ≤ k * pitch = mul-le-mul_right pitch lt in inl (omega (arith, above)))
   | inr ge ↦ (let more : suc k ≤ j = omega arith in let above : suc k * pitch ≤ j * pitch = mul-le-mul_right pitch more in inr (omega (arith, above)))
@@ -43,8 +43,8 @@ column_lines pitch width half len some small wide inside = record {
   small = small;
   inside = λ k h. (let place = column_place pitch half k in let above : suc k * pitch ≤ 2 * half * pitch = mul-le-mul_right pitch h in omega (arith, place, above));
   apart = λ j k h lt ne.
-      subst (λ i. AreApart width i (place_in (column_halves pitch half) k)) (sym (column_place pitch half j))
-      (subst (λ i. AreApart width (j * pitch) i) (sym (column_place pitch half k)) (rows_apart pitch width j k wide ne));
+      subst (λ i. StandApart width i (halves_place (column_halves pitch half) k)) (sym (column_place pitch half j))
+      (subst (λ i. StandApart width (j * pitch) i) (sym (column_place pitch half k)) (rows_apart pitch width j k wide ne));
 }
 
 -- a plane's cells, by their places
@@ -60,11 +60,11 @@ cells_small pitch m cells some small i =
     let place : i / pitch * pitch + i % pitch ≡ i = omega arith in
     subst (λ j. unsigned_abs (line_of cells j) ≤ m) place (subst (λ z. unsigned_abs z ≤ m) (plane_in pitch cells (i % pitch) (i / pitch) column) (small (i % pitch) (i / pitch)))
 
-pub column_narrow : (wavelet pitch half : ℕ) (cells : List ℤ) (x : ℕ) → HasBound (narrow_bound wavelet) cells → IsNarrow (counted_synthesis wavelet) half (line_in (column_halves pitch half) cells x)
+pub column_narrow : (wavelet pitch half : ℕ) (cells : List ℤ) (x : ℕ) → HasBound (narrow_bound wavelet) cells → StaysNarrow (counted_synthesis wavelet) half (line_in (column_halves pitch half) cells x)
 column_narrow wavelet pitch half cells x bound = record {
   most = bound.most;
   after = bound.after;
-  small = λ k h. bound.small (place_in (column_halves pitch half) k + x);
+  small = λ k h. bound.small (halves_place (column_halves pitch half) k + x);
   fits = bound.fits;
 }
 
@@ -77,10 +77,10 @@ module _ (wavelet pitch columns half : ℕ) (old new : List ℤ) (wide : columns
   kept : (x y : ℕ) → x < pitch → (columns ≤ x) ⊎ (2 * half ≤ y) → plane_of pitch new x y ≡ plane_of pitch old x y
   kept x y h apart = plane_in pitch new x y h ∙ off (y * pitch + x) (λ u k lt below. not_there u k lt below apart) ∙ sym (plane_in pitch old x y h)
     where
-      same : (u k : ℕ) → u < columns → y * pitch + x ≡ place_in (column_halves pitch half) k + u → (y ≡ k) × (x ≡ u)
+      same : (u k : ℕ) → u < columns → y * pitch + x ≡ halves_place (column_halves pitch half) k + u → (y ≡ k) × (x ≡ u)
       same u k lt e = (let place = column_place pitch half k in same_from_place y x k u pitch h (omega arith) (omega (arith, e, place)))
 
-      not_there : (u k : ℕ) → u < columns → k < 2 * half → (columns ≤ x) ⊎ (2 * half ≤ y) → y * pitch + x ≢ place_in (column_halves pitch half) k + u
+      not_there : (u k : ℕ) → u < columns → k < 2 * half → (columns ≤ x) ⊎ (2 * half ≤ y) → y * pitch + x ≢ halves_place (column_halves pitch half) k + u
       not_there u k lt below (inl right) e = (let s = same u k lt e in omega (arith, s))
       not_there u k lt below (inr under) e = (let s = same u k lt e in omega (arith, s))
 

@@ -12,8 +12,8 @@ use Rattle.vc_types.specs.Lifting.{Line, line_of}
 use Rattle.vc_types.specs.Transforms.{halved, half_place, source_of}
 use Rattle.vc_types.specs.Wavelets.{is_shifted, synthesised}
 use Rattle.vc_lift.specs.declared.halves.Halves.{Halves}
-use Rattle.vc_lift.specs.Halves.{half_start, place_in, line_in, AreLines, AreApart, IsBeside}
-use Rattle.vc_lift.specs.Ranges.{IsNarrow, narrow_bound, counted_synthesis}
+use Rattle.vc_lift.specs.Halves.{half_start, halves_place, line_in, AreLines, StandApart, IsBeside}
+use Rattle.vc_lift.specs.Ranges.{StaysNarrow, narrow_bound, counted_synthesis}
 use Rattle.vc_lift.proofs.LineLaws.{synthesis_is_local}
 use Rattle.vc_lift.proofs.NarrowGrowth.{synthesis_after, narrow_covers}
 use Rattle.vc_wave.specs.declared.lines.Lines.{Lines}
@@ -91,10 +91,10 @@ start_of start half zero h = omega arith
 start_of start half (suc zero) h = omega arith
 start_of start half (suc (suc q)) h = absurd (omega arith)
 
-pub row_place : (start half k : ℕ) → place_in (row_halves start half) k ≡ start + half_place half k
+pub row_place : (start half k : ℕ) → halves_place (row_halves start half) k ≡ start + half_place half k
 row_place start half k = (let parity : k % 2 < 2 = omega arith in let first = start_of start half (k % 2) parity in omega (arith, first))
 
-apart_one : (i j : ℕ) → i ≢ j → AreApart 1 i j
+apart_one : (i j : ℕ) → i ≢ j → StandApart 1 i j
 apart_one i j ne = elim (cases_lt i j) [ inl lt ↦ inl (omega arith) | inr ge ↦ (let more : j + 1 ≤ i = omega arith in inr more) ]
 
 module _ (start half : ℕ) (some : 0 < half) where
@@ -104,8 +104,8 @@ module _ (start half : ℕ) (some : 0 < half) where
     small = small;
     inside = λ k h. (let below = half_place_below half k h in let place = row_place start half k in omega (arith, below, place));
     apart = λ j k h lt ne.
-        subst (λ i. AreApart 1 i (place_in (row_halves start half) k)) (sym (row_place start half j))
-        (subst (λ i. AreApart 1 (start + half_place half j) i) (sym (row_place start half k))
+        subst (λ i. StandApart 1 i (halves_place (row_halves start half) k)) (sym (row_place start half j))
+        (subst (λ i. StandApart 1 (start + half_place half j) i) (sym (row_place start half k))
         (apart_one (start + half_place half j) (start + half_place half k) (λ e. places_differ true half j k h lt ne (omega arith))));
   }
 
@@ -119,8 +119,8 @@ module _ (start half : ℕ) (some : 0 < half) where
     old_small : (k : ℕ) → k < 2 * half → unsigned_abs (line_in (row_halves start half) old 0 k) ≤ bound.most
     old_small k h = subst (λ z. unsigned_abs z ≤ bound.most) (sym (row_at old k)) (bound.small (half_place half k) (half_place_below half k h))
 
-    pub row_narrow : (x : ℕ) → x < 1 → IsNarrow (counted_synthesis wavelet) half (line_in (row_halves start half) old x)
-    row_narrow x one = (let first : 0 ≡ x = omega arith in subst (λ u. IsNarrow (counted_synthesis wavelet) half (line_in (row_halves start half) old u)) first
+    pub row_narrow : (x : ℕ) → x < 1 → StaysNarrow (counted_synthesis wavelet) half (line_in (row_halves start half) old x)
+    row_narrow x one = (let first : 0 ≡ x = omega arith in subst (λ u. StaysNarrow (counted_synthesis wavelet) half (line_in (row_halves start half) old u)) first
         (record { most = bound.most; after = made_of.made; small = old_small; fits = made_of.synthesised }))
 
   module _ (wavelet : ℕ) (old mid : List ℤ) (bound : RowHasBound (rows_bound wavelet) old start (2 * half))

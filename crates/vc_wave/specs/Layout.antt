@@ -17,10 +17,10 @@ abbrev pub laid_out : ℕ → ℕ → ℕ → Cells → Cells
 laid_out levels w h plane x y = plane x (row_in_turn levels w h x y)
 
 -- the same of a component: levels across alone have no rows of their own
-abbrev pub row_of : Parameters → Component → ℕ → ℕ → ℕ
-row_of p c x y =
+abbrev pub turned_row : Parameters → Component → ℕ → ℕ → ℕ
+turned_row p c x y =
     row_in_turn p.depth (lowest_width p c * 2 ^ p.depth_ho) (lowest_height p c) x y
 
 -- a component's nested subbands in cells that are kept row by row
 abbrev pub nested_in : Parameters → Component → ℕ → List ℤ → Cells
-nested_in p c stride cells x y = plane_of stride cells x (row_of p c x y)
+nested_in p c stride cells x y = plane_of stride cells x (turned_row p c x y)

@@ -308,7 +308,7 @@ fn narrow(plan: &Plan, cells: &mut [i32], line: &mut [i32], most: u32) -> bool {
 }
 
 // The row that has the cell in column x and row y of the nested subbands.
-fn row_of(plan: &Plan, width: usize, height: usize, x: usize, y: usize) -> usize {
+fn turned_row(plan: &Plan, width: usize, height: usize, x: usize, y: usize) -> usize {
     let (mut w, mut h) = (width >> plan.depth, height >> plan.depth);
     let mut row = y;
     for _level in 0..plan.depth {
@@ -331,7 +331,7 @@ fn nest(plan: &Plan, cells: &[i32], grid: &mut [i128], width: usize, height: usi
     let mut i = 0usize;
     for y in 0..height {
         for x in 0..width {
-            let row = row_of(plan, width, height, x, y);
+            let row = turned_row(plan, width, height, x, y);
             let from = row.wrapping_mul(width).wrapping_add(x);
             if i < grid.len() && from < cells.len() {
                 grid[i] = i128::from(cells[from]);

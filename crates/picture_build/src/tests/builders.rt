@@ -2,7 +2,7 @@ ghost use Rattle.std.specs.Prelude.{◌≡◌, ◌<◌, true};
 ghost use Rattle.vc_types.specs.SliceCoefficients.{AreSliceCoefficients};
 ghost use Rattle.vc_types.specs.Subbands.{slice_count};
 ghost use Rattle.vc_types.specs.TransformParameters.{parameters_of};
-ghost use Rattle.picture_build.specs.Kept.{IsWhole};
+ghost use Rattle.picture_build.specs.Kept.{HasAllSlices};
 
 use super::{decoded, one_slice, two_slices};
 use crate::{NotPut, PictureBuilder};
@@ -67,7 +67,7 @@ fn put(
 
 fn all_came(builder: &PictureBuilder, plan: &Plan) -> bool
     requires { builder.now.parameters ≡ parameters_of plan.now }
-    ensures { result ≡ true → IsWhole builder.now }
+    ensures { result ≡ true → HasAllSlices builder.now }
 {
     for index in 0..plan.slices_x * plan.slices_y {
         if !builder.has(index) {

@@ -1,7 +1,7 @@
 use Rattle.std.proofs.Common.{◌≡◌, ◌+◌, ◌-◌, ◌*◌, ◌/◌, ◌^◌, ◌<◌, ◌≤◌, ℕ, length, subst, arith, ap, sym, ◌∙◌}
 use Rattle.vc_types.specs.Lifting.{line_of}
 use Rattle.vc_lift.specs.CountedSteps.{lift_between}
-use Rattle.vc_lift.specs.Halves.{line_in, IsRun}
+use Rattle.vc_lift.specs.Halves.{line_in, CanRun}
 use Rattle.vc_lift.specs.Steps.{counted_of}
 use Rattle.vc_lift.proofs.Betweens.{between_none, between_more, room_left, number_run, number_changed, number_beside}
 use Rattle.vc_lift.proofs.narrow.change_each.Goals as goal
@@ -14,7 +14,7 @@ loop-n-init c = record {
 
 pub change_run-requires-clause-run : goal.change_run-requires-clause-run
 change_run-requires-clause-run c =
-    subst (λ n. IsRun (counted_of c.args.step.now) c.args.halves.now c.loop-n.n c.args.width n) (sym c.loop-n.auto.cells)
+    subst (λ n. CanRun (counted_of c.args.step.now) c.args.halves.now c.loop-n.n c.args.width n) (sym c.loop-n.auto.cells)
     (number_run (counted_of c.args.step.now) c.args.halves.now c.loop-n.n c.args.width (length c.args.cells.now) c.requires.plain.parity (omega arith) c.requires.lines)
 
 pub change_run-requires-clause-room : goal.change_run-requires-clause-room

@@ -1,5 +1,5 @@
 use Rattle.std.proofs.Common.{◌≡◌, ◌+◌, ◌-◌, ◌*◌, ◌^◌, ◌<◌, ◌≤◌, ℕ, length, arith, sym, subst, ◌∙◌}
-use Rattle.vc_lift.specs.Ranges.{HasRoom}
+use Rattle.vc_lift.specs.Ranges.{HasRangeAt}
 use Rattle.vc_lift.specs.Halves.{line_in}
 use Rattle.vc_lift.specs.CountedSteps.{lift_between}
 use Rattle.vc_lift.specs.Steps.{counted_of}
@@ -26,7 +26,7 @@ change_each-requires-2-clause-room c = λ x n one from lt.
     c.change_middle.ensures.on k below
     ∙ between_more s h.half 0 c.min-first.result c.max-last.result line first c.requires.lines.some c.requires.plain.parity (omega arith) (omega arith) (λ j under. c.change_each.ensures.on 0 j (omega arith) under) k below in
     let only : 0 ≡ x = omega arith in
-    subst (λ u. HasRoom (2 ^ 31) s h.half (line_in h c.change_middle.new.cells u) n) only
+    subst (λ u. HasRangeAt (2 ^ 31) s h.half (line_in h c.change_middle.new.cells u) n) only
     (room_left s h.half 0 c.max-last.result h.half line second c.requires.lines.some c.requires.plain.parity (omega arith) (omega arith) so_far (2 ^ 31) n from lt
     (room_at (2 ^ 31) s h.half line n lt c.requires.range))
 

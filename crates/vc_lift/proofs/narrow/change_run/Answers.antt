@@ -5,7 +5,7 @@ use Rattle.std.proofs.lemmas.Int.{to_z-of_z}
 use Rattle.std.proofs.lemmas.List.{get_or-set_same, get_or-set_other}
 use Rattle.vc_types.specs.Lifting.{line_of, changed_by}
 use Rattle.vc_lift.specs.CountedSteps.{change_at, place_met}
-use Rattle.vc_lift.specs.Halves.{place_in, line_in}
+use Rattle.vc_lift.specs.Halves.{halves_place, line_in}
 use Rattle.vc_lift.specs.Steps.{counted_of}
 use Rattle.vc_lift.proofs.HalfPlaces.{place_at, beside_run, past_run, less_reached}
 use Rattle.vc_lift.proofs.NarrowSums.{same_room, same_change, narrow_changed}
@@ -13,9 +13,9 @@ use Rattle.vc_lift.proofs.narrow.change_run.Goals as goal
 
 -- the samples that are met are still as they were
 met_left : (c : goal.In-loop-x) (j : ℕ) → j < length c.args.step.now.taps.now → line_in c.args.halves.now c.loop-x.cells c.loop-x.x (place_met (counted_of c.args.step.now) c.args.halves.now.half c.args.n j) ≡ line_in c.args.halves.now c.args.cells.now c.loop-x.x (place_met (counted_of c.args.step.now) c.args.halves.now.half c.args.n j)
-met_left c j h = c.loop-x.invariant.off _ (beside_run _ (place_in c.args.halves.now (2 * c.args.n + c.args.step.now.parity)) c.args.width c.loop-x.x c.loop-x-test.true (c.requires.run.apart j h))
+met_left c j h = c.loop-x.invariant.off _ (beside_run _ (halves_place c.args.halves.now (2 * c.args.n + c.args.step.now.parity)) c.args.width c.loop-x.x c.loop-x-test.true (c.requires.run.apart j h))
 
-own_left : (c : goal.In-loop-x) → line_of c.loop-x.cells (place_in c.args.halves.now (2 * c.args.n + c.args.step.now.parity) + c.loop-x.x) ≡ line_of c.args.cells.now (place_in c.args.halves.now (2 * c.args.n + c.args.step.now.parity) + c.loop-x.x)
+own_left : (c : goal.In-loop-x) → line_of c.loop-x.cells (halves_place c.args.halves.now (2 * c.args.n + c.args.step.now.parity) + c.loop-x.x) ≡ line_of c.args.cells.now (halves_place c.args.halves.now (2 * c.args.n + c.args.step.now.parity) + c.loop-x.x)
 own_left c = c.loop-x.invariant.off _ (inr (omega arith))
 
 pub change_at-change-requires-clause-room : goal.change_at-change-requires-clause-room
@@ -30,7 +30,7 @@ loop-x-preserved c =
     let x = c.loop-x.x in
     let cells = c.loop-x.cells in
     let first = c.args.cells.now in
-    let at = place_in h (2 * c.args.n + s.parity) in
+    let at = halves_place h (2 * c.args.n + s.parity) in
     let v = to_z w32 (of_z w32 c.changed_by.result) in
     let is : c.place-at.result ≡ at = c.place-at.ensures ∙ sym (place_at h c.args.n s.parity c.requires.plain.parity) in
     let within : at + x < length cells = omega (arith, c.requires.run.at) in

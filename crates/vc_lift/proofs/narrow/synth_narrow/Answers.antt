@@ -2,7 +2,7 @@ use Rattle.std.proofs.Common.{◌≡◌, ◌*◌, ◌<◌, ℕ, List, ap, sym, s
 use Rattle.vc_types.specs.Wavelets.{synthesised}
 use Rattle.vc_lift.specs.CountedSteps.{CountedStep, lift_all}
 use Rattle.vc_lift.specs.Halves.{line_in}
-use Rattle.vc_lift.specs.Ranges.{IsNarrow}
+use Rattle.vc_lift.specs.Ranges.{StaysNarrow}
 use Rattle.vc_lift.proofs.CountedSteps.{counted_steps, same_rows, synthesised_counted}
 use Rattle.vc_lift.proofs.LineGrowth.{synthesis_little}
 use Rattle.vc_lift.proofs.narrow.synth_narrow.Goals as goal
@@ -13,7 +13,7 @@ run-requires-clause-steps c = rw (same_rows c.args.wavelet c.steps.result.now c.
 pub run-requires-clause-narrow : goal.run-requires-clause-narrow
 unfolding counted_steps
 run-requires-clause-narrow c = λ x h.
-    subst (λ (ss : List CountedStep). IsNarrow ss c.args.halves.now.half (line_in c.args.halves.now c.args.cells.now x)) (sym (same_rows c.args.wavelet c.steps.result.now c.steps.ensures)) (c.requires.narrow x h)
+    subst (λ (ss : List CountedStep). StaysNarrow ss c.args.halves.now.half (line_in c.args.halves.now c.args.cells.now x)) (sym (same_rows c.args.wavelet c.steps.result.now c.steps.ensures)) (c.requires.narrow x h)
 
 pub returns-clause-on : goal.returns-clause-on
 returns-clause-on c = λ x k h lt.

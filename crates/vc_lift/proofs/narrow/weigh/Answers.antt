@@ -4,7 +4,7 @@ use Rattle.std.specs.List.{sum_by}
 use Rattle.vc_types.specs.Lifting.{line_of, half_of}
 use Rattle.vc_lift.specs.CountedSteps.{sum_met, place_met, sum_below}
 use Rattle.vc_lift.specs.Steps.{counted_of}
-use Rattle.vc_lift.specs.Halves.{half_start, place_in, line_in}
+use Rattle.vc_lift.specs.Halves.{half_start, halves_place, line_in}
 use Rattle.vc_lift.proofs.HalfPlaces.{met_at}
 use Rattle.vc_lift.proofs.Sums.{tap_read, term_fits, sum_fits, sum_read, sum_more, narrow_taps, narrow_room, whole_sum}
 use Rattle.vc_lift.proofs.WeightedSums.{sum_below_none, sum_below_more}
@@ -14,7 +14,7 @@ pub loop-j-init : goal.loop-j-init
 loop-j-init c = record { value = sym (sum_below_none _); bound = λ m small. search rules }
 
 -- the cell that tap j meets
-met_place : (c : goal.After-sum-in-loop-j-1) → c.place.result ≡ place_in c.args.halves.now (place_met (counted_of c.args.step.now) c.args.halves.now.half c.args.n c.loop-j.j)
+met_place : (c : goal.After-sum-in-loop-j-1) → c.place.result ≡ halves_place c.args.halves.now (place_met (counted_of c.args.step.now) c.args.halves.now.half c.args.n c.loop-j.j)
 met_place c = met_at (counted_of c.args.step.now) c.args.halves.now c.args.n c.loop-j.j c.min-met.result c.place.result c.requires.plain.parity (omega arith) c.place.ensures
 
 met_small : (c : goal.After-sum-in-loop-j-1) → unsigned_abs (slice_index_or c.args.cells.now (c.place.result + c.args.x) (pos 0)) ≤ c.requires.room.other
@@ -42,7 +42,7 @@ loop-j-preserved c =
     let j = c.loop-j.j in
     let tap = slice_index_or taps j (pos 0) in
     let sum = to_z w32 c.loop-j.sum-bits in
-    let met : c.place.result ≡ place_in c.args.halves.now (place_met (counted_of c.args.step.now) c.args.halves.now.half c.args.n j) = met_at (counted_of c.args.step.now) c.args.halves.now c.args.n j c.min-met.result c.place.result c.requires.plain.parity (omega arith) c.place.ensures in
+    let met : c.place.result ≡ halves_place c.args.halves.now (place_met (counted_of c.args.step.now) c.args.halves.now.half c.args.n j) = met_at (counted_of c.args.step.now) c.args.halves.now c.args.n j c.min-met.result c.place.result c.requires.plain.parity (omega arith) c.place.ensures in
     let small_here : unsigned_abs x ≤ c.requires.room.other = subst (λ i. unsigned_abs (line_of c.args.cells.now (i + c.args.x)) ≤ c.requires.room.other) (sym met) (c.requires.room.met j c.loop-j-test.true) in
     let read = sum_read w32 taps c.requires.room.other j tap x sum (λ i. tap) c.loop-j-test.true (narrow_taps c.requires.plain.light) own (narrow_room _ c.requires.room.other _ c.requires.room.sum) small_here (c.loop-j.invariant.bound c.requires.room.other c.requires.room.met) in
     let f = λ (j : ℕ). slice_index_or taps j (pos 0) *ℤ line_in c.args.halves.now c.args.cells.now c.args.x (place_met (counted_of c.args.step.now) c.args.halves.now.half c.args.n j) in

@@ -11,7 +11,7 @@ use Rattle.vc_types.specs.Subbands.{slice_count}
 use Rattle.vc_types.specs.TransformParameters.{parameters_of}
 use Rattle.vc_types.proofs.SliceCounts.{some_across, some_down}
 use Rattle.vc_slice.specs.Coded.{coded_of}
-use Rattle.picture_build.specs.Kept.{PartPicture, slice_in, no_slices, kept_slices, IsKept}
+use Rattle.picture_build.specs.Kept.{PartPicture, slice_that_came, no_slices, kept_slices, IsKept}
 use Rattle.picture_build.proofs.KeptSlices.{has_slice, nothing_kept, kept_none}
 use Rattle.picture_build.proofs.SeenSlices.{seen, numbered, seen_still, kept_still, seen_more, kept_one_more, index_high, index_low, all_in, planes_seen}
 use Rattle.picture_build.proofs.WholeSlices.{whole_decoded}
