@@ -68,7 +68,8 @@ pub record HasAsked (old new : BoardFeeder) (place : ℕ) (answer : Option Slice
   pub stays : IfNone answer (left_in new ≡ left_in old)
 
 -- the same for a withdrawal
-pub record HasAskedBack (old new : BoardFeeder) (place : ℕ) (answer : Option SliceJob) : Type 0 where
+pub record HasAskedBack (old new : BoardFeeder) (place : ℕ) (answer : Option SliceJob)
+    : Type 0 where
   pub took : IfSome answer (λ job. form_sees new ≡ after_withdraw (form_sees old) place job)
   pub mark : OnSome answer (left_in new ≡ slice_set (left_in old) place false)
   pub not_waiting : IfNone answer (FoundNot 1 place (form_sees old) (form_sees new))

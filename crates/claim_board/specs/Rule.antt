@@ -86,11 +86,13 @@ pub record BoardRule (s : BoardState) : Type 0 where
   pub feeder : SeatView
   pub first : get_elem? s.views 0 ≡ some feeder
   pub feeds : feeder.feeds ≡ true
-  pub alone : (seat : ℕ) (v : SeatView) → get_elem? s.views seat ≡ some v → v.feeds ≡ true → seat ≡ 0
+  pub alone : (seat : ℕ) (v : SeatView) → get_elem? s.views seat ≡ some v
+      → v.feeds ≡ true → seat ≡ 0
   pub lanes : length feeder.lanes ≡ length s.words
   pub wide : length s.homes ≡ length s.words
   pub each : (place : ℕ) → place < length s.words → HasPhase s feeder place
   pub claims : (place serial : ℕ)
       → sum_by (λ v. holds_of place serial v.held) s.views
       ≡ holders (slice_index s.words place) serial
-  pub looked : (seat : ℕ) (v : SeatView) → get_elem? s.views seat ≡ some v → IsNotAhead s.words v.last
+  pub looked : (seat : ℕ) (v : SeatView) → get_elem? s.views seat ≡ some v
+      → IsNotAhead s.words v.last

@@ -51,4 +51,5 @@ is_put_new put = false
 
 -- what becomes of a run
 abbrev pub seen_outcome : Bool → Bool → Outcome
-seen_outcome conflict new = if conflict then SlicesConflict else (if new then SlicesKept else SlicesRepeat)
+seen_outcome conflict new =
+    if conflict then SlicesConflict else (if new then SlicesKept else SlicesRepeat)

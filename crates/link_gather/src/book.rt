@@ -37,7 +37,11 @@ impl Model for PictureBook {
 
     ghost Value = { Book };
 
-    ghost view = { λ b. record { sequence = sequence_of b.header; waiting = map slice_part_of b.waiting.items; gathered = b.gathering } };
+    ghost view = { λ b. record {
+      sequence = sequence_of b.header;
+      waiting = map slice_part_of b.waiting.items;
+      gathered = b.gathering;
+    } };
 }
 
 impl PictureBook {
@@ -56,7 +60,8 @@ impl PictureBook {
 
     /// Takes transform parameters: keeps them where there are none yet, and then takes the slices that waited.
     pub fn take_params(&mut self, body: Bytes) -> Result<Outcome, NoMemory>
-        ensures outcome { IfOk result (λ outcome. outcome ≡ book_outcome self.old (ParamsPart body)) }
+        ensures outcome { IfOk result
+            (λ outcome. outcome ≡ book_outcome self.old (ParamsPart body)) }
         ensures value { OnOk result (self.new ≡ book_takes self.old (ParamsPart body)) }
         // Of a list of parts.
         ensures judged { (s : Sequence) (parts : List Part) → self.old ≡ book_of s parts
@@ -69,7 +74,8 @@ impl PictureBook {
 
     #[tactic(auto, unfolding(link_model::specs::Books::book_takes, link_model::specs::Books::book_outcome))]
     fn params(&mut self, mut body: Bytes) -> Result<Outcome, NoMemory>
-        ensures outcome { IfOk result (λ outcome. outcome ≡ book_outcome self.old (ParamsPart body)) }
+        ensures outcome { IfOk result
+            (λ outcome. outcome ≡ book_outcome self.old (ParamsPart body)) }
         ensures value { OnOk result (self.new ≡ book_takes self.old (ParamsPart body)) }
     {
         let Ok((plan, used)) = read_params(&self.header, body.as_slice()) else {
@@ -91,11 +97,14 @@ impl PictureBook {
 
     /// Takes slices: keeps those that aren't kept yet, or lets the part wait for parameters.
     pub fn take_slices(&mut self, part: SlicePart) -> Result<Outcome, NoMemory>
-        ensures outcome { IfOk result (λ outcome. outcome ≡ book_outcome self.old (SlicesPart (slice_part_of part))) }
-        ensures value { OnOk result (self.new ≡ book_takes self.old (SlicesPart (slice_part_of part))) }
+        ensures outcome { IfOk result
+            (λ outcome. outcome ≡ book_outcome self.old (SlicesPart (slice_part_of part))) }
+        ensures value { OnOk result
+            (self.new ≡ book_takes self.old (SlicesPart (slice_part_of part))) }
         // Of a list of parts.
         ensures judged { (s : Sequence) (parts : List Part) → self.old ≡ book_of s parts
-            → IfOk result (λ outcome. outcome ≡ part_outcome s parts (SlicesPart (slice_part_of part))) }
+            → IfOk result
+            (λ outcome. outcome ≡ part_outcome s parts (SlicesPart (slice_part_of part))) }
         ensures stands { (s : Sequence) (parts : List Part) → self.old ≡ book_of s parts
             → OnOk result (self.new ≡ book_of s (parts ++ SlicesPart (slice_part_of part) ∷ [])) }
     {
@@ -104,8 +113,10 @@ impl PictureBook {
 
     #[tactic(auto, unfolding(link_model::specs::Books::book_takes, link_model::specs::Books::book_outcome))]
     fn slices(&mut self, part: SlicePart) -> Result<Outcome, NoMemory>
-        ensures outcome { IfOk result (λ outcome. outcome ≡ book_outcome self.old (SlicesPart (slice_part_of part))) }
-        ensures value { OnOk result (self.new ≡ book_takes self.old (SlicesPart (slice_part_of part))) }
+        ensures outcome { IfOk result
+            (λ outcome. outcome ≡ book_outcome self.old (SlicesPart (slice_part_of part))) }
+        ensures value { OnOk result
+            (self.new ≡ book_takes self.old (SlicesPart (slice_part_of part))) }
     {
         match &mut self.gathering {
             Some(gathering) => gathering.take(&part),
@@ -121,7 +132,8 @@ impl PictureBook {
 
     /// The parameters that are kept.
     pub fn plan(&self) -> Option<Plan>
-        ensures { option_map parameters_of result ≡ option_map (λ plan. plan.parameters) (book_plan self.now) }
+        ensures { option_map parameters_of result
+            ≡ option_map (λ plan. plan.parameters) (book_plan self.now) }
     {
         match &self.gathering {
             Some(gathering) => Some(gathering.plan()),
@@ -168,7 +180,10 @@ fn gathered(
     bytes: Bytes,
     waiting: &[SlicePart],
 ) -> Result<Gathering, NoMemory>
-    ensures { IfOk result (λ g. g ≡ fold gathers (nothing_gathered (record { parameters = parameters_of plan; bytes = bytes })) (map slice_part_of waiting.now)) }
+    ensures { IfOk result
+        (λ g. g ≡ fold gathers
+        (nothing_gathered (record { parameters = parameters_of plan; bytes = bytes }))
+        (map slice_part_of waiting.now)) }
 {
     let mut gathering = Gathering::new(alloc, plan, bytes)?;
     for part in waiting {

@@ -70,9 +70,14 @@ pub(crate) fn keep_slices(
 ) -> Result<Seen, NoMemory>
     requires inside { first + count ≤ length slots.old }
     requires small { first + count < 2 ^ 32 }
-    ensures value { OnOk result (slots.new ≡ with_run slots.old (run_cut (parameters_of plan.now) first count body.now)) }
-    ensures conflict { IfOk result (λ seen. seen.conflict ≡ has_conflict slots.old (run_cut (parameters_of plan.now) first count body.now)) }
-    ensures new { IfOk result (λ seen. seen.new ≡ has_new slots.old (run_cut (parameters_of plan.now) first count body.now)) }
+    ensures value { OnOk result
+        (slots.new ≡ with_run slots.old (run_cut (parameters_of plan.now) first count body.now)) }
+    ensures conflict { IfOk result
+        (λ seen. seen.conflict
+        ≡ has_conflict slots.old (run_cut (parameters_of plan.now) first count body.now)) }
+    ensures new { IfOk result
+        (λ seen. seen.new
+        ≡ has_new slots.old (run_cut (parameters_of plan.now) first count body.now)) }
     ensures length { length slots.new ≡ length slots.old }
 {
     let mut rest = body.clone()?;

@@ -34,7 +34,13 @@ impl Model for Gathering {
 
     ghost Value = { Gathered };
 
-    ghost view = { λ g. record { plan = record { parameters = parameters_of g.plan; bytes = g.bytes }; slots = g.slots } };
+    ghost view = { λ g. record {
+      plan = record {
+        parameters = parameters_of g.plan;
+        bytes = g.bytes;
+      };
+      slots = g.slots;
+    } };
 
     ghost invariant = { λ g. length g.slots ≡ slice_count (parameters_of g.plan) };
 }
@@ -42,7 +48,9 @@ impl Model for Gathering {
 impl Gathering {
     /// Nothing yet but the parameters.
     pub(crate) fn new(alloc: Global, plan: Plan, bytes: Bytes) -> Result<Gathering, NoMemory>
-        ensures { IfOk result (λ g. g ≡ nothing_gathered (record { parameters = parameters_of plan; bytes = bytes })) }
+        ensures { IfOk result
+            (λ g. g ≡ nothing_gathered
+            (record { parameters = parameters_of plan; bytes = bytes })) }
     {
         let slots = Slots::new(alloc, plan.slices_x * plan.slices_y)?;
         Ok(Gathering { plan, bytes, slots })
@@ -56,7 +64,8 @@ impl Gathering {
 
     /// Takes the slices of a part, except those that are kept already.
     pub(crate) fn take(&mut self, part: &SlicePart) -> Result<Outcome, NoMemory>
-        ensures outcome { IfOk result (λ outcome. outcome ≡ gathered_outcome self.old (slice_part_of part.now)) }
+        ensures outcome { IfOk result
+            (λ outcome. outcome ≡ gathered_outcome self.old (slice_part_of part.now)) }
         ensures value { OnOk result (self.new ≡ gathers self.old (slice_part_of part.now)) }
     {
         match first_taken(&self.plan, part) {
@@ -95,7 +104,8 @@ impl Gathering {
 
 // Appends a slice, if there is one.
 fn append(bytes: &mut Vec<u8>, slice: Option<&Bytes>) -> Result<(), NoMemory>
-    ensures { OnOk result (bytes.new.items ≡ bytes.old.items ++ unwrap_or (option_copied slice.entry) []) }
+    ensures { OnOk result
+        (bytes.new.items ≡ bytes.old.items ++ unwrap_or (option_copied slice.entry) []) }
 {
     match slice {
         Some(slice) => Ok(bytes.extend_from_slice(slice.as_slice())?),
@@ -106,9 +116,13 @@ fn append(bytes: &mut Vec<u8>, slice: Option<&Bytes>) -> Result<(), NoMemory>
 // The number of a part's first slice, or why the part isn't taken.
 #[tactic(auto, using(crate::proofs::FillingLaws::runs))]
 fn first_taken(plan: &Plan, part: &SlicePart) -> Result<usize, Outcome>
-    ensures refused { IfErr result (λ outcome. slice_run (parameters_of plan.now) (slice_part_of part.now) ≡ Err outcome) }
-    ensures taken { IfOk result (λ first. slice_run (parameters_of plan.now) (slice_part_of part.now) ≡ Ok (run_cut (parameters_of plan.now) first part.now.count part.now.body)) }
-    ensures inside { IfOk result (λ first. first + part.now.count ≤ slice_count (parameters_of plan.now)) }
+    ensures refused { IfErr result
+        (λ outcome. slice_run (parameters_of plan.now) (slice_part_of part.now) ≡ Err outcome) }
+    ensures taken { IfOk result
+        (λ first. slice_run (parameters_of plan.now) (slice_part_of part.now)
+        ≡ Ok (run_cut (parameters_of plan.now) first part.now.count part.now.body)) }
+    ensures inside { IfOk result
+        (λ first. first + part.now.count ≤ slice_count (parameters_of plan.now)) }
     ensures small { IfOk result (λ first. first + part.now.count < 2 ^ 32) }
 {
     if !has_form(plan, part) {
@@ -131,10 +145,14 @@ fn has_form(plan: &Plan, part: &SlicePart) -> bool
 
 // The number of the part's first slice, if all lie within the picture.
 fn first_slice(plan: &Plan, part: &SlicePart) -> Option<usize>
-    ensures outside { IsNone result → has_place (parameters_of plan.now) (slice_part_of part.now) ≡ false }
-    ensures inside { IsSome result → has_place (parameters_of plan.now) (slice_part_of part.now) ≡ true }
-    ensures first { IfSome result (λ first. first ≡ first_slice (parameters_of plan.now) (slice_part_of part.now)) }
-    ensures fits { IfSome result (λ first. first + part.now.count ≤ slice_count (parameters_of plan.now)) }
+    ensures outside { IsNone result
+        → has_place (parameters_of plan.now) (slice_part_of part.now) ≡ false }
+    ensures inside { IsSome result
+        → has_place (parameters_of plan.now) (slice_part_of part.now) ≡ true }
+    ensures first { IfSome result
+        (λ first. first ≡ first_slice (parameters_of plan.now) (slice_part_of part.now)) }
+    ensures fits { IfSome result
+        (λ first. first + part.now.count ≤ slice_count (parameters_of plan.now)) }
     ensures small { IfSome result (λ first. first + part.now.count < 2 ^ 32) }
 {
     let (x, y) = (u32::from(part.x), u32::from(part.y));

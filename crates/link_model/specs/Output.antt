@@ -125,7 +125,8 @@ datagram_places datagrams = range_with_len 0 (length datagrams)
 -- the first place behind which a picture is closed, or the length of the list
 unfoldable pub closing_place : ℕ → List (List ℕ) → ℕ → ℕ
 closing_place window datagrams n =
-    length (take_while (λ k. not (is_closed_behind window datagrams n k)) (datagram_places datagrams))
+    length (take_while
+    (λ k. not (is_closed_behind window datagrams n k)) (datagram_places datagrams))
 
 -- ---- how it grows
 

@@ -84,7 +84,8 @@ pub fn books_stand_for_parts()
     ensures outcome { (s : Sequence) (parts : List Part) (part : Part)
         → book_outcome (book_of s parts) part ≡ part_outcome s parts part }
     ensures slice { (s : Sequence) (parts : List Part) (i : ℕ)
-        → book_slice (book_of s parts) i ≡ option_and_then (λ kept. own_slice kept i) (own s parts) }
+        → book_slice (book_of s parts) i
+        ≡ option_and_then (λ kept. own_slice kept i) (own s parts) }
     ensures whole { (s : Sequence) (parts : List Part)
         → book_whole (book_of s parts) ≡ whole_picture s parts }
 {}
@@ -128,7 +129,8 @@ pub fn outcomes_are_counted()
         ++ outcome_behind window datagrams datagram ∷ [] }
     ensures counts { (window : ℕ) (datagrams : List (List ℕ)) (datagram : List ℕ)
         → outcome_counts (outcomes_in window (datagrams ++ datagram ∷ []))
-        ≡ with_outcome (outcome_counts (outcomes_in window datagrams)) (outcome_behind window datagrams datagram) }
+        ≡ with_outcome (outcome_counts (outcomes_in window datagrams))
+        (outcome_behind window datagrams datagram) }
 {}
 
 /// The numbers of a session begin at the least multiple of 2^32 that is more than 8 above all earlier ones, so in a
@@ -153,8 +155,13 @@ pub fn sessions_follow_each_other()
         → sessions_of (before ++ d ∷ []) ≡ just_opened s ∷ [] }
     ensures open { (hs : List HeardSession) (s : Session) (datagrams : List (List ℕ))
         → list_any (ends s) datagrams ≡ false → fold hears (just_opened s ∷ hs) datagrams
-        ≡ record { session = s; has_ended = false; fragments = filter_map (fragment_in s) datagrams } ∷ hs }
-    ensures ended { (hs : List HeardSession) (s : Session) (before : List (List ℕ)) (last : List ℕ) (behind : List (List ℕ))
+        ≡ record {
+          session = s;
+          has_ended = false;
+          fragments = filter_map (fragment_in s) datagrams;
+        } ∷ hs }
+    ensures ended { (hs : List HeardSession) (s : Session) (before : List (List ℕ)) (last : List ℕ)
+        (behind : List (List ℕ))
         → list_any (ends s) before ≡ false → ends s last ≡ true → list_any (opens_other s) behind
         ≡ false → fold hears (just_opened s ∷ hs) (before ++ last ∷ behind)
         ≡ record {
@@ -163,7 +170,8 @@ pub fn sessions_follow_each_other()
           fragments = filter_map (fragment_in s) (before
               ++ last ∷ behind);
         } ∷ hs }
-    ensures next { (hs : List HeardSession) (s : Session) (before : List (List ℕ)) (last : List ℕ) (behind : List (List ℕ))
+    ensures next { (hs : List HeardSession) (s : Session) (before : List (List ℕ)) (last : List ℕ)
+        (behind : List (List ℕ))
         → list_any (ends s) before ≡ false → ends s last ≡ true → list_any (opens_other s) behind
         ≡ false → (d : List ℕ) (t : Session) → begins d ≡ Some t → is_other s t ≡ true
         → fold hears (just_opened s ∷ hs) ((before ++ last ∷ behind) ++ d ∷ [])
@@ -186,11 +194,14 @@ pub fn outcomes_say_what_datagrams_do()
     ensures new_only { (window : ℕ) (before : List (List ℕ)) (d : List ℕ)
         → outcome_behind window before d ≡ HeaderNew
         → (s : Session) × (opens_next (sessions_of before) (begins d) ≡ Some s) }
-    ensures fragment { (window : ℕ) (h : HeardSession) (hs : List HeardSession) (before : List (List ℕ))
+    ensures fragment { (window : ℕ) (h : HeardSession) (hs : List HeardSession)
+        (before : List (List ℕ))
         → sessions_of before ≡ h ∷ hs → (d : List ℕ) (f : Fragment) → fragment_in h.session d
         ≡ Some f → outcome_behind window before d
-        ≡ fragment_outcome (base_above (greatest_of window hs)) window h.session.sequence (entered_behind window hs h) f }
-    ensures at_end { (window : ℕ) (h : HeardSession) (hs : List HeardSession) (before : List (List ℕ))
+        ≡ fragment_outcome (base_above (greatest_of window hs)) window h.session.sequence
+        (entered_behind window hs h) f }
+    ensures at_end { (window : ℕ) (h : HeardSession) (hs : List HeardSession)
+        (before : List (List ℕ))
         → sessions_of before ≡ h ∷ hs → (d : List ℕ) → ends h.session d ≡ true
         → outcome_behind window before d ≡ End }
     ensures other { (h : HeardSession) (hs : List HeardSession) (d : List ℕ)
@@ -209,7 +220,8 @@ pub fn sessions_are_written_in_order()
         × (let_go_numbers window h.session.sequence (entered_behind window hs (with_datagram h d))
         ≡ let_go_numbers window h.session.sequence (entered_behind window hs h) ++ rest)
         × (last_so_far window (with_datagram h d ∷ hs) ≡ last_so_far window (h ∷ hs)
-        ++ flat_map (frame_bytes_at h.session.sequence (entered_behind window hs (with_datagram h d))) rest) }
+        ++ flat_map
+        (frame_bytes_at h.session.sequence (entered_behind window hs (with_datagram h d))) rest) }
     ensures over { (window : ℕ) (hs : List HeardSession) (h : HeardSession) → (rest : List ℕ)
         × (opened_numbers (entered_behind window hs h)
         ≡ let_go_numbers window h.session.sequence (entered_behind window hs h) ++ rest)

@@ -29,5 +29,8 @@ pub fn sent_datagrams_are_received()
     ensures { (settings : SendSettings) (number : ℕ) (o : Outgoing) → settings.ssrc < 2 ^ 32
         → FitsDatagram (sending_view settings) o.content
         → received (sent_datagram (sending_view settings) number o)
-        ≡ Ok (record { ssrc = settings.ssrc; value = sent_value (sending_view settings) number o }) }
+        ≡ Ok (record {
+          ssrc = settings.ssrc;
+          value = sent_value (sending_view settings) number o;
+        }) }
 {}

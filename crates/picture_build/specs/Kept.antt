@@ -79,7 +79,8 @@ pub record IsKept (p : Parameters) (came : List Bool) (y c1 c2 : List ℤ) (room
   pub c2_cells : length c2 ≡ padded_height p C2 * padded_width p C2
   pub sound : (n : ℕ) → slice_index_or came n false ≡ true
       → AreSliceCoefficients p n (kept_slice p y c1 c2 n)
-  pub largest : (c : Component) (n : ℕ) → n < slice_count p → slice_coefficient_count p c n + 8 ≤ room
+  pub largest : (c : Component) (n : ℕ) → n < slice_count p
+      → slice_coefficient_count p c n + 8 ≤ room
 
 -- the cells of no other slice were changed
 pub record ChangesOnly (p : Parameters) (c : Component) (n : ℕ) (old new : List ℤ) : Type 0 where
@@ -102,4 +103,5 @@ pub record AreIn (p : Parameters) (c : Component) (slices : List Coefficients) (
   pub length : length cells ≡ padded_height p c * padded_width p c
   pub stand : (n i : ℕ) (none : Coefficients) → n < slice_count p
       → i < slice_coefficient_count p c n
-      → line_of cells (kept_at p c n i) ≡ line_of (coefficients_of (slice_index_or slices n none) c) i
+      → line_of cells (kept_at p c n i)
+      ≡ line_of (coefficients_of (slice_index_or slices n none) c) i

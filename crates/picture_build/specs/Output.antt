@@ -11,5 +11,6 @@ abbrev pub output_plane : Parameters → Component → Cells → Raster
 output_plane p c cells = record {
   width = plane_width p.shape c;
   height = plane_height p.shape c;
-  samples = raster (plane_width p.shape c) (plane_height p.shape c) (λ x y. output_sample (plane_depth p.shape c) (cells x y));
+  samples = raster (plane_width p.shape c) (plane_height p.shape c)
+      (λ x y. output_sample (plane_depth p.shape c) (cells x y));
 }

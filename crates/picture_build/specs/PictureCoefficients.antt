@@ -7,4 +7,5 @@ use Rattle.vc_types.specs.TransformParameters.{Parameters}
 -- slices in raster order, from number 0 on
 abbrev pub ArePictureCoefficients : Parameters → List Coefficients → Type 0
 ArePictureCoefficients p slices =
-    (n : ℕ) (none : Coefficients) → n < length slices → AreSliceCoefficients p n (slice_index_or slices n none)
+    (n : ℕ) (none : Coefficients) → n < length slices
+    → AreSliceCoefficients p n (slice_index_or slices n none)

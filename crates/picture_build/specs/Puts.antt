@@ -10,6 +10,7 @@ use Rattle.picture_build.specs.declared.builder.NotPut.TheVariants as not_put
 -- slice that may be wide no more is said.
 abbrev pub Puts : Result Coefficients Unsound → ℕ → PartPicture → PartPicture
     → Result (Unit {0}) NotPut → Type 0
-Puts decoded n old new (Ok done) = (s : Coefficients) × (decoded ≡ Ok s) × (new ≡ with_slice old n s)
+Puts decoded n old new (Ok done) =
+    (s : Coefficients) × (decoded ≡ Ok s) × (new ≡ with_slice old n s)
 Puts decoded n old new (Err (not_put.Unsound why)) = (decoded ≡ Err why) × (new ≡ old)
 Puts decoded n old new (Err not_put.Wide) = new ≡ old

@@ -18,7 +18,8 @@ use vc_wave::inverse;
 pub fn build(alloc: Global, plan: &Plan, slices: Vec<SliceCoeffs>) -> Result<[Plane; 3], NoMemory>
     requires count { length slices.items ≡ slice_count (parameters_of plan.now) }
     requires whole { ArePictureCoefficients (parameters_of plan.now) slices.items }
-    ensures value { IfOk result (λ planes. planes_in planes ≡ planes_of (parameters_of plan.now) slices.items) }
+    ensures value { IfOk result
+        (λ planes. planes_in planes ≡ planes_of (parameters_of plan.now) slices.items) }
 {
     let y = component(alloc, plan, Component::Y, &slices)?;
     let c1 = component(alloc, plan, Component::C1, &slices)?;
@@ -35,7 +36,8 @@ fn component(
 ) -> Result<Plane, NoMemory>
     requires count { length slices.now ≡ slice_count (parameters_of plan.now) }
     requires whole { ArePictureCoefficients (parameters_of plan.now) slices.now }
-    ensures value { IfOk result (λ plane. plane ≡ component_plane (parameters_of plan.now) c slices.now) }
+    ensures value { IfOk result
+        (λ plane. plane ≡ component_plane (parameters_of plan.now) c slices.now) }
 {
     let coefficients = placed(alloc, plan, c, slices)?;
     let samples = inverse(alloc, plan, c, coefficients)?;

@@ -52,8 +52,10 @@ impl CoefficientCells {
     pub(crate) fn put_row(&mut self, at: usize, numbers: &[i32], from: usize, width: usize)
         requires at { at + width ≤ length self.old }
         requires from { from + width ≤ length numbers.now }
-        ensures on { (x : ℕ) → x < width → line_of self.new (at + x) ≡ line_of numbers.now (from + x) }
-        ensures off { (k : ℕ) → (k < at) ⊎ (at + width ≤ k) → line_of self.new k ≡ line_of self.old k }
+        ensures on { (x : ℕ) → x < width
+            → line_of self.new (at + x) ≡ line_of numbers.now (from + x) }
+        ensures off { (k : ℕ) → (k < at) ⊎ (at + width ≤ k)
+            → line_of self.new k ≡ line_of self.old k }
         ensures length { length self.new ≡ length self.old }
     {
         copy_row(&mut self.low, at, numbers, from, width);
@@ -114,7 +116,8 @@ fn copy_row(cells: &mut [i32], at: usize, numbers: &[i32], from: usize, width: u
     requires at { at + width ≤ length cells.old }
     requires from { from + width ≤ length numbers.now }
     ensures on { (x : ℕ) → x < width → line_of cells.new (at + x) ≡ line_of numbers.now (from + x) }
-    ensures off { (k : ℕ) → (k < at) ⊎ (at + width ≤ k) → line_of cells.new k ≡ line_of cells.old k }
+    ensures off { (k : ℕ) → (k < at) ⊎ (at + width ≤ k)
+        → line_of cells.new k ≡ line_of cells.old k }
     ensures length { length cells.new ≡ length cells.old }
 {
     for x in 0..width {
@@ -125,7 +128,8 @@ fn copy_row(cells: &mut [i32], at: usize, numbers: &[i32], from: usize, width: u
 fn clear_row(cells: &mut [i32], at: usize, width: usize)
     requires at { at + width ≤ length cells.old }
     ensures on { (x : ℕ) → x < width → line_of cells.new (at + x) ≡ pos 0 }
-    ensures off { (k : ℕ) → (k < at) ⊎ (at + width ≤ k) → line_of cells.new k ≡ line_of cells.old k }
+    ensures off { (k : ℕ) → (k < at) ⊎ (at + width ≤ k)
+        → line_of cells.new k ≡ line_of cells.old k }
     ensures length { length cells.new ≡ length cells.old }
 {
     for x in 0..width {

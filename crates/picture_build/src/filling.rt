@@ -114,7 +114,8 @@ pub(crate) fn put_blocks(
         (all_coefficients (parameters_of plan.now) slice (coded_of coded.now)).c1 c1.old c1.new
         × FillsSlice (parameters_of plan.now) C2 slice
         (all_coefficients (parameters_of plan.now) slice (coded_of coded.now)).c2 c2.old c2.new) }
-    ensures sound { OnOk result (in_range (all_coefficients (parameters_of plan.now) slice (coded_of coded.now))
+    ensures sound { OnOk result
+        (in_range (all_coefficients (parameters_of plan.now) slice (coded_of coded.now))
         ≡ Ok (all_coefficients (parameters_of plan.now) slice (coded_of coded.now))) }
 {
     put_block(plan, Component::Y, slice, coded.index, coded.y, numbers, y)?;
@@ -149,7 +150,8 @@ fn put_block(
 ) -> Result<(), TooWide>
     requires slice { slice < slice_count (parameters_of plan.now) }
     requires index { index ≤ 127 }
-    requires room { slice_coefficient_count (parameters_of plan.now) c slice + 8 ≤ length numbers.old }
+    requires room { slice_coefficient_count (parameters_of plan.now) c slice + 8
+        ≤ length numbers.old }
     requires cells { length cells.old
         ≡ padded_height (parameters_of plan.now) c * padded_width (parameters_of plan.now) c }
     ensures only { ChangesOnly (parameters_of plan.now) c slice cells.old cells.new }
@@ -182,7 +184,8 @@ fn narrowed(coeffs: &[i64], numbers: &mut [i32]) -> bool
 fn place_wide(plan: &Plan, c: Component, slice: u32, coeffs: &[i64], cells: &mut CoefficientCells)
     requires slice { slice < slice_count (parameters_of plan.now) }
     requires count { length coeffs.now ≡ slice_coefficient_count (parameters_of plan.now) c slice }
-    requires small { (i : ℕ) → i < length coeffs.now → unsigned_abs (line_of coeffs.now i) < 2 ^ 60 }
+    requires small { (i : ℕ) → i < length coeffs.now
+        → unsigned_abs (line_of coeffs.now i) < 2 ^ 60 }
     requires cells { length cells.old
         ≡ padded_height (parameters_of plan.now) c * padded_width (parameters_of plan.now) c }
     ensures on { (i : ℕ) → i < length coeffs.now
@@ -215,7 +218,8 @@ pub(crate) fn place_numbers(
     ensures on { (i : ℕ) → i < slice_coefficient_count (parameters_of plan.now) c slice
         → line_of cells.new (kept_at (parameters_of plan.now) c slice i) ≡ line_of numbers.now i }
     ensures off { (k : ℕ) → ((i : ℕ) → i < slice_coefficient_count (parameters_of plan.now) c slice
-        → k ≢ kept_at (parameters_of plan.now) c slice i) → line_of cells.new k ≡ line_of cells.old k }
+        → k ≢ kept_at (parameters_of plan.now) c slice i)
+        → line_of cells.new k ≡ line_of cells.old k }
     ensures length { length cells.new ≡ length cells.old }
 {
     let (width, _) = padded(plan, c);

@@ -46,7 +46,8 @@ fn component(
     c: Component,
     cells: &mut CoefficientCells,
 ) -> Result<Plane, NoMemory>
-    requires whole { (slices : List Coefficients) × AreIn (parameters_of plan.now) c slices cells.old }
+    requires whole { (slices : List Coefficients)
+        × AreIn (parameters_of plan.now) c slices cells.old }
     ensures value { IfOk result (λ plane. (slices : List Coefficients)
         → AreIn (parameters_of plan.now) c slices cells.old
         → plane ≡ component_plane (parameters_of plan.now) c slices) }
@@ -64,7 +65,8 @@ fn grid(
     c: Component,
     cells: &CoefficientCells,
 ) -> Result<Grid, NoMemory>
-    requires whole { (slices : List Coefficients) × AreIn (parameters_of plan.now) c slices cells.now }
+    requires whole { (slices : List Coefficients)
+        × AreIn (parameters_of plan.now) c slices cells.now }
     ensures width { IfOk result (λ g. g.width ≡ padded_width (parameters_of plan.now) c) }
     ensures height { IfOk result (λ g. g.height ≡ padded_height (parameters_of plan.now) c) }
     ensures cells { IfOk result (λ g. g.cells ≡ cells.now) }

@@ -19,7 +19,8 @@ pub(crate) fn output(
 ) -> Result<Plane, NoMemory>
     requires width { grid.now.width ≡ padded_width (parameters_of plan.now) c }
     requires height { grid.now.height ≡ padded_height (parameters_of plan.now) c }
-    ensures { IfOk result (λ plane. plane ≡ output_plane (parameters_of plan.now) c (cell_at grid.now)) }
+    ensures { IfOk result
+        (λ plane. plane ≡ output_plane (parameters_of plan.now) c (cell_at grid.now)) }
 {
     let (width, height, depth) = format(plan, c);
     let (columns, rows) = (width as usize, height as usize);
@@ -34,7 +35,9 @@ fn output_rows(samples: &mut [u16], columns: usize, rows: usize, grid: &Grid, de
     requires columns { columns ≤ grid.now.width }
     requires rows { rows ≤ grid.now.height }
     requires samples { length samples.old ≡ rows * columns }
-    ensures { (x y : ℕ) → x < columns → y < rows → slice_index_or samples.new (y * columns + x) 0 ≡ output_sample depth (cell_at grid.now x y) }
+    ensures { (x y : ℕ) → x < columns → y < rows
+        → slice_index_or samples.new (y * columns + x) 0
+        ≡ output_sample depth (cell_at grid.now x y) }
 {
     let stride = grid.width() as usize;
     let cells = grid.cells();
@@ -49,8 +52,11 @@ fn output_row(samples: &mut [u16], at: usize, cells: &[i128], from: usize, width
     requires depth { (1 ≤ depth) × (depth ≤ 16) }
     requires at { at + width ≤ length samples.old }
     requires from { from + width ≤ length cells.now }
-    ensures on { (x : ℕ) → x < width → slice_index_or samples.new (at + x) 0 ≡ output_sample depth (line_of cells.now (from + x)) }
-    ensures off { (i : ℕ) → (i < at) ⊎ (at + width ≤ i) → slice_index_or samples.new i 0 ≡ slice_index_or samples.old i 0 }
+    ensures on { (x : ℕ) → x < width
+        → slice_index_or samples.new (at + x) 0
+        ≡ output_sample depth (line_of cells.now (from + x)) }
+    ensures off { (i : ℕ) → (i < at) ⊎ (at + width ≤ i)
+        → slice_index_or samples.new i 0 ≡ slice_index_or samples.old i 0 }
 {
     for x in 0..width {
         samples[at + x] = sample(cells[from + x], depth);
@@ -72,7 +78,8 @@ fn format(plan: &Plan, c: Component) -> (u32, u32, u8)
     ensures width { result.0 ≡ plane_width plan.now.shape c }
     ensures height { result.1 ≡ plane_height plan.now.shape c }
     ensures depth { result.2 ≡ plane_depth plan.now.shape c }
-    ensures range { (1 ≤ result.0) × (result.0 ≤ 8192) × (1 ≤ result.1) × (result.1 ≤ 8192) × (1 ≤ result.2) × (result.2 ≤ 16) }
+    ensures range { (1 ≤ result.0) × (result.0 ≤ 8192) × (1 ≤ result.1) × (result.1 ≤ 8192)
+        × (1 ≤ result.2) × (result.2 ≤ 16) }
 {
     let shape = &plan.shape;
     match c {

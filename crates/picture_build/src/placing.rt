@@ -24,7 +24,8 @@ pub(crate) fn placed(
     requires whole { ArePictureCoefficients (parameters_of plan.now) slices.now }
     ensures width { IfOk result (λ g. g.width ≡ padded_width (parameters_of plan.now) c) }
     ensures height { IfOk result (λ g. g.height ≡ padded_height (parameters_of plan.now) c) }
-    ensures value { IfOk result (λ g. cell_at g ≡ component_cells (parameters_of plan.now) c slices.now) }
+    ensures value { IfOk result
+        (λ g. cell_at g ≡ component_cells (parameters_of plan.now) c slices.now) }
     ensures small { IfOk result (λ g. All (λ z. unsigned_abs z < 2 ^ 60) g.cells) }
 {
     let (width, height) = padded(plan, c);
@@ -45,7 +46,10 @@ fn place_slices(
     requires whole { ArePictureCoefficients (parameters_of plan.now) slices.now }
     requires stride { stride ≡ padded_width (parameters_of plan.now) c }
     requires cells { length cells.old ≡ padded_height (parameters_of plan.now) c * stride }
-    ensures { (n i : ℕ) (none : Coefficients) → n < length slices.now → i < slice_coefficient_count (parameters_of plan.now) c n → line_of cells.new (cell_number stride (coefficient_place (parameters_of plan.now) c n i)) ≡ line_of (coefficients_of (slice_index_or slices.now n none) c) i }
+    ensures { (n i : ℕ) (none : Coefficients) → n < length slices.now
+        → i < slice_coefficient_count (parameters_of plan.now) c n
+        → line_of cells.new (cell_number stride (coefficient_place (parameters_of plan.now) c n i))
+        ≡ line_of (coefficients_of (slice_index_or slices.now n none) c) i }
 {
     for slice in 0..slices.len() {
         place_slice(
@@ -72,8 +76,14 @@ fn place_slice(
     requires coeffs { length coeffs.now ≡ slice_coefficient_count (parameters_of plan.now) c slice }
     requires stride { stride ≡ padded_width (parameters_of plan.now) c }
     requires cells { length cells.old ≡ padded_height (parameters_of plan.now) c * stride }
-    ensures on { (i : ℕ) → i < length coeffs.now → line_of cells.new (cell_number stride (coefficient_place (parameters_of plan.now) c slice i)) ≡ line_of coeffs.now i }
-    ensures off { (k : ℕ) → ((i : ℕ) → i < length coeffs.now → k ≢ cell_number stride (coefficient_place (parameters_of plan.now) c slice i)) → line_of cells.new k ≡ line_of cells.old k }
+    ensures on { (i : ℕ) → i < length coeffs.now
+        → line_of cells.new
+        (cell_number stride (coefficient_place (parameters_of plan.now) c slice i))
+        ≡ line_of coeffs.now i }
+    ensures off { (k : ℕ) →
+        ((i : ℕ) → i < length coeffs.now
+        → k ≢ cell_number stride (coefficient_place (parameters_of plan.now) c slice i))
+        → line_of cells.new k ≡ line_of cells.old k }
 {
     let mut from = 0;
     for b in 0..bands(plan) {
@@ -88,8 +98,12 @@ fn place_rect(rect: &Rect, coeffs: &[i64], from: usize, cells: &mut [i128], stri
     requires across { rect.now.x + rect.now.width ≤ stride }
     requires down { (rect.now.y + rect.now.height) * stride ≤ length cells.old }
     requires from { from + area rect.now ≤ length coeffs.now }
-    ensures on { (j : ℕ) → j < area rect.now → line_of cells.new (cell_number stride (place_in rect.now j)) ≡ line_of coeffs.now (from + j) }
-    ensures off { (k : ℕ) → ((j : ℕ) → j < area rect.now → k ≢ cell_number stride (place_in rect.now j)) → line_of cells.new k ≡ line_of cells.old k }
+    ensures on { (j : ℕ) → j < area rect.now
+        → line_of cells.new (cell_number stride (place_in rect.now j))
+        ≡ line_of coeffs.now (from + j) }
+    ensures off { (k : ℕ) →
+        ((j : ℕ) → j < area rect.now → k ≢ cell_number stride (place_in rect.now j))
+        → line_of cells.new k ≡ line_of cells.old k }
 {
     let width = rect.width as usize;
     for row in 0..rect.height as usize {
@@ -104,7 +118,8 @@ fn put_row(cells: &mut [i128], at: usize, coeffs: &[i64], from: usize, width: us
     requires at { at + width ≤ length cells.old }
     requires from { from + width ≤ length coeffs.now }
     ensures on { (x : ℕ) → x < width → line_of cells.new (at + x) ≡ line_of coeffs.now (from + x) }
-    ensures off { (i : ℕ) → (i < at) ⊎ (at + width ≤ i) → line_of cells.new i ≡ line_of cells.old i }
+    ensures off { (i : ℕ) → (i < at) ⊎ (at + width ≤ i)
+        → line_of cells.new i ≡ line_of cells.old i }
 {
     for x in 0..width {
         cells[at + x] = i128::from(coeffs[from + x]);

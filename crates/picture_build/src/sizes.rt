@@ -8,7 +8,8 @@ use vc_types::{Component, Plan};
 
 /// The cells of a component.
 pub(crate) fn cell_count(plan: &Plan, c: Component) -> usize
-    ensures value { result ≡ padded_height (parameters_of plan.now) c * padded_width (parameters_of plan.now) c }
+    ensures value { result ≡ padded_height (parameters_of plan.now) c * padded_width
+        (parameters_of plan.now) c }
 {
     let (width, height) = padded(plan, c);
     height as usize * width as usize

@@ -219,7 +219,8 @@ fn job(plan: Plan, index: u32, bytes: Bytes) -> Result<SliceJob, Fail>
 }
 
 fn coefficients(done: SliceDone) -> Result<SliceCoeffs, Fail>
-    ensures { IfOk result (λ coeffs. AreSliceCoefficients (parameters_of done.job.plan) done.job.index coeffs) }
+    ensures { IfOk result
+        (λ coeffs. AreSliceCoefficients (parameters_of done.job.plan) done.job.index coeffs) }
 {
     let SliceDone { job: _, answer } = done;
     match answer {
@@ -232,7 +233,8 @@ fn coefficients(done: SliceDone) -> Result<SliceCoeffs, Fail>
 fn slices(alloc: Global, plan: Plan, coded: &[&'static [u8]]) -> Result<Vec<SliceCoeffs>, Fail>
     requires { length coded.now ≡ slice_count (parameters_of plan) }
     ensures count { IfOk result (λ slices. length slices.items ≡ slice_count (parameters_of plan)) }
-    ensures whole { IfOk result (λ slices. ArePictureCoefficients (parameters_of plan) slices.items) }
+    ensures whole { IfOk result
+        (λ slices. ArePictureCoefficients (parameters_of plan) slices.items) }
 {
     let mut slices = Vec::new(alloc);
     for i in 0..coded.len() {

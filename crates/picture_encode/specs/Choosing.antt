@@ -15,7 +15,8 @@ AnswersAtMost127 calls f =
     (told : SliceNeed) (index : ℕ) → FnReturnsAt calls f told index → index ≤ 127
 
 -- it answers this index where it is told this of a slice
-abbrev pub AnswersNeed : {F : Type 0} → Shared F (Bor SliceNeed × Unit {0}) ℕ → F → Need → ℕ → Type 0
+abbrev pub AnswersNeed :
+    {F : Type 0} → Shared F (Bor SliceNeed × Unit {0}) ℕ → F → Need → ℕ → Type 0
 AnswersNeed calls f need index =
     (told : SliceNeed) × (need_view told ≡ need) × FnReturnsAt calls f told index
 

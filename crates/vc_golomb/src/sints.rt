@@ -44,7 +44,8 @@ fn read_some(block: &mut Block, out: &mut [i32], at: usize) -> Result<usize, Too
     ensures on { IfOk result (λ n. (j : ℕ) → j < n
         → line_of out.new (at + j) ≡ number_at block.old j) }
     ensures off { (i : ℕ) → i < at → line_of out.new i ≡ line_of out.old i }
-    ensures rest { IfOk result (λ n. (k : ℕ) → number_at block.old (n + k) ≡ number_at block.new k) }
+    ensures rest { IfOk result
+        (λ n. (k : ℕ) → number_at block.old (n + k) ≡ number_at block.new k) }
     ensures too_large { OnErr result (2 ^ 30 ≤ unsigned_abs (number_at block.old 0)) }
 {
     let row = row_of(block.peek());

@@ -13,4 +13,5 @@ with_sample line place sample k = if k == place then sample else line k
 
 -- a line in which a step has changed its sample number n alone
 abbrev pub one_changed : CountedStep → ℕ → ℕ → (ℕ → ℤ) → ℕ → ℤ
-one_changed s half n line = with_sample line (2 * n + s.parity) (changed_by s.adds (line (2 * n + s.parity)) (change_at s half line n))
+one_changed s half n line = with_sample line (2 * n + s.parity)
+    (changed_by s.adds (line (2 * n + s.parity)) (change_at s half line n))

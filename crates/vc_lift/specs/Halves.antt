@@ -24,7 +24,8 @@ pub record AreLines (h : Halves) (width cells : ℕ) : Type 0 where
   pub some : 0 < h.half
   pub small : h.half < 2 ^ 60
   pub inside : (k : ℕ) → k < 2 * h.half → halves_place h k + width ≤ cells
-  pub apart : (j k : ℕ) → j < 2 * h.half → k < 2 * h.half → j ≢ k → StandApart width (halves_place h j) (halves_place h k)
+  pub apart : (j k : ℕ) → j < 2 * h.half → k < 2 * h.half → j ≢ k
+      → StandApart width (halves_place h j) (halves_place h k)
 
 -- a cell that is in none of them
 abbrev pub IsBeside : Halves → ℕ → ℕ → Type 0

@@ -26,8 +26,10 @@ unfoldable pub bound_after : ℕ → List CountedStep → ℕ → ℕ → Option
 bound_after limit [] even odd = Some (max even odd)
 bound_after limit (s ∷ steps) even odd =
     if s.parity == 0
-    then option_and_then (λ more. bound_after limit steps more odd) (stretched_below limit s even odd)
-    else option_and_then (λ more. bound_after limit steps even more) (stretched_below limit s odd even)
+    then option_and_then
+    (λ more. bound_after limit steps more odd) (stretched_below limit s even odd)
+    else option_and_then
+    (λ more. bound_after limit steps even more) (stretched_below limit s odd even)
 
 -- the steps of synthesis
 abbrev pub counted_synthesis : ℕ → List CountedStep

@@ -100,9 +100,13 @@ fn change_row(cells: &mut [i128], width: usize, step: &Step, half: usize, n: usi
     requires plain { IsPlain (counted_of step.now) }
     requires whole { length cells.old ≡ 2 * half * width }
     requires at { n < half }
-    requires met { (x : ℕ) → x < width → IsWithin (column_of width cells.old x) half (1 - step.now.parity) (2 ^ 112) }
-    requires changed { (x : ℕ) → x < width → unsigned_abs (column_of width cells.old x (2 * n + step.now.parity)) ≤ 2 ^ 112 }
-    ensures { (x : ℕ) → x < width → column_of width cells.new x ≡ one_changed (counted_of step.now) half n (column_of width cells.old x) }
+    requires met { (x : ℕ) → x < width
+        → IsWithin (column_of width cells.old x) half (1 - step.now.parity) (2 ^ 112) }
+    requires changed { (x : ℕ) → x < width
+        → unsigned_abs (column_of width cells.old x (2 * n + step.now.parity)) ≤ 2 ^ 112 }
+    ensures { (x : ℕ) → x < width
+        → column_of width cells.new x
+        ≡ one_changed (counted_of step.now) half n (column_of width cells.old x) }
 {
     for x in 0..width {
         let change = change_at(cells, width, step, half, n, x);
@@ -117,7 +121,9 @@ fn sweep(cells: &mut [i128], width: usize, step: &Step, half: usize)
     requires plain { IsPlain (counted_of step.now) }
     requires whole { length cells.old ≡ 2 * half * width }
     requires little { (x : ℕ) → x < width → IsLittle (column_of width cells.old x) half (2 ^ 112) }
-    ensures { (x : ℕ) → x < width → column_of width cells.new x ≡ lift (counted_of step.now) half (column_of width cells.old x) }
+    ensures { (x : ℕ) → x < width
+        → column_of width cells.new x
+        ≡ lift (counted_of step.now) half (column_of width cells.old x) }
 {
     for n in 0..half {
         change_row(cells, width, step, half, n);
@@ -143,7 +149,9 @@ fn lift(cells: &mut [i128], width: usize, step: &Step, half: usize)
     requires plain { IsPlain (counted_of step.now) }
     requires whole { length cells.old ≡ 2 * half * width }
     requires little { (x : ℕ) → x < width → IsLittle (column_of width cells.old x) half (2 ^ 112) }
-    ensures { (x : ℕ) → x < width → column_of width cells.new x ≡ lift (counted_of step.now) half (column_of width cells.old x) }
+    ensures { (x : ℕ) → x < width
+        → column_of width cells.new x
+        ≡ lift (counted_of step.now) half (column_of width cells.old x) }
 {
     match step.taps.len() {
         1 => sweep(cells, width, &with_taps(step, 1), half),
@@ -161,7 +169,9 @@ pub(crate) fn run(cells: &mut [i128], width: usize, half: usize, rows: &[Row], u
     requires some { 0 < half }
     requires small { All (λ z. unsigned_abs z < 2 ^ 108) cells.old }
     requires steps { IsTrue (grows_little 16 (in_order undo (map counted_row rows.now))) }
-    ensures { (x : ℕ) → x < width → column_of width cells.new x ≡ lift_all (in_order undo (map counted_row rows.now)) half (column_of width cells.old x) }
+    ensures { (x : ℕ) → x < width
+        → column_of width cells.new x
+        ≡ lift_all (in_order undo (map counted_row rows.now)) half (column_of width cells.old x) }
 {
     for i in 0..rows.len() {
         let step = step_at(rows, undo, i);
@@ -176,7 +186,9 @@ pub fn synth_columns(wavelet: u8, cells: &mut [i128], width: usize, half: usize)
     requires some { 0 < half }
     requires whole { length cells.old ≡ 2 * half * width }
     requires small { All (λ z. unsigned_abs z < 2 ^ 108) cells.old }
-    ensures value { (x : ℕ) → x < width → column_of width cells.new x ≡ synthesised wavelet (2 * half) (column_of width cells.old x) }
+    ensures value { (x : ℕ) → x < width
+        → column_of width cells.new x
+        ≡ synthesised wavelet (2 * half) (column_of width cells.old x) }
 {
     run(cells, width, half, steps(wavelet), false)
 }
@@ -188,7 +200,8 @@ pub fn analyse_columns(wavelet: u8, cells: &mut [i128], width: usize, half: usiz
     requires some { 0 < half }
     requires whole { length cells.old ≡ 2 * half * width }
     requires small { All (λ z. unsigned_abs z < 2 ^ 108) cells.old }
-    ensures value { (x : ℕ) → x < width → column_of width cells.new x ≡ analysed wavelet (2 * half) (column_of width cells.old x) }
+    ensures value { (x : ℕ) → x < width
+        → column_of width cells.new x ≡ analysed wavelet (2 * half) (column_of width cells.old x) }
 {
     run(cells, width, half, steps(wavelet), true)
 }

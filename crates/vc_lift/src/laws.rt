@@ -3,7 +3,8 @@ ghost use Rattle.vc_types.specs.Wavelets.{synthesised, analysed, GrowsAtMost, Is
 
 /// Synthesis undoes analysis on every line.
 pub fn synthesis_undoes_analysis(wavelet: u8)
-    ensures { (size : ℕ) (x : ℕ → ℤ) → size % 2 ≡ 0 → synthesised wavelet size (analysed wavelet size x) ≡ x }
+    ensures { (size : ℕ) (x : ℕ → ℤ) → size % 2 ≡ 0
+        → synthesised wavelet size (analysed wavelet size x) ≡ x }
 {}
 
 /// Neither raises a magnitude past 16 times a bound of at least 2 ^ 16.

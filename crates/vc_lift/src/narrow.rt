@@ -18,9 +18,13 @@ fn weigh(cells: &[i32], halves: &Halves, step: &Step, n: usize, x: usize) -> i32
     requires some { 0 < halves.now.half }
     requires small { halves.now.half < 2 ^ 60 }
     requires at { n < halves.now.half }
-    requires inside { (j : ℕ) → j < length step.now.taps.now → halves_place halves.now (place_met (counted_of step.now) halves.now.half n j) + x < length cells.now }
-    requires room { HasRangeAt (2 ^ 31) (counted_of step.now) halves.now.half (line_in halves.now cells.now x) n }
-    ensures value { result ≡ sum_met (counted_of step.now) halves.now.half (line_in halves.now cells.now x) n }
+    requires inside { (j : ℕ) → j < length step.now.taps.now
+        → halves_place halves.now (place_met (counted_of step.now) halves.now.half n j) + x
+        < length cells.now }
+    requires room { HasRangeAt (2 ^ 31) (counted_of step.now) halves.now.half
+        (line_in halves.now cells.now x) n }
+    ensures value { result ≡ sum_met (counted_of step.now) halves.now.half
+        (line_in halves.now cells.now x) n }
     ensures bound { unsigned_abs result + half_of step.now.shift < 2 ^ 31 }
 {
     let other = 1 - step.parity;
@@ -39,10 +43,15 @@ fn change_at(cells: &[i32], halves: &Halves, step: &Step, n: usize, x: usize) ->
     requires some { 0 < halves.now.half }
     requires small { halves.now.half < 2 ^ 60 }
     requires at { n < halves.now.half }
-    requires inside { (j : ℕ) → j < length step.now.taps.now → halves_place halves.now (place_met (counted_of step.now) halves.now.half n j) + x < length cells.now }
-    requires room { HasRangeAt (2 ^ 31) (counted_of step.now) halves.now.half (line_in halves.now cells.now x) n }
-    ensures value { result ≡ change_at (counted_of step.now) halves.now.half (line_in halves.now cells.now x) n }
-    ensures bound { unsigned_abs (line_in halves.now cells.now x (2 * n + step.now.parity)) + unsigned_abs result < 2 ^ 31 }
+    requires inside { (j : ℕ) → j < length step.now.taps.now
+        → halves_place halves.now (place_met (counted_of step.now) halves.now.half n j) + x
+        < length cells.now }
+    requires room { HasRangeAt (2 ^ 31) (counted_of step.now) halves.now.half
+        (line_in halves.now cells.now x) n }
+    ensures value { result ≡ change_at (counted_of step.now) halves.now.half
+        (line_in halves.now cells.now x) n }
+    ensures bound { unsigned_abs
+        (line_in halves.now cells.now x (2 * n + step.now.parity)) + unsigned_abs result < 2 ^ 31 }
 {
     let rounding = (1u32 << step.shift) / 2;
     (weigh(cells, halves, step, n, x) + rounding as i32) >> step.shift
@@ -67,9 +76,17 @@ fn change_run(cells: &mut [i32], halves: &Halves, step: &Step, n: usize, width: 
     requires small { halves.now.half < 2 ^ 60 }
     requires at { n < halves.now.half }
     requires run { CanRun (counted_of step.now) halves.now n width (length cells.old) }
-    requires room { (x : ℕ) → x < width → HasRangeAt (2 ^ 31) (counted_of step.now) halves.now.half (line_in halves.now cells.old x) n }
-    ensures on { (x : ℕ) → x < width → line_of cells.new (halves_place halves.now (2 * n + step.now.parity) + x) ≡ changed_by step.now.adds (line_of cells.old (halves_place halves.now (2 * n + step.now.parity) + x)) (change_at (counted_of step.now) halves.now.half (line_in halves.now cells.old x) n) }
-    ensures off { (i : ℕ) → (i < halves_place halves.now (2 * n + step.now.parity)) ⊎ (halves_place halves.now (2 * n + step.now.parity) + width ≤ i) → line_of cells.new i ≡ line_of cells.old i }
+    requires room { (x : ℕ) → x < width
+        → HasRangeAt (2 ^ 31) (counted_of step.now) halves.now.half
+        (line_in halves.now cells.old x) n }
+    ensures on { (x : ℕ) → x < width
+        → line_of cells.new (halves_place halves.now (2 * n + step.now.parity) + x)
+        ≡ changed_by step.now.adds
+        (line_of cells.old (halves_place halves.now (2 * n + step.now.parity) + x))
+        (change_at (counted_of step.now) halves.now.half (line_in halves.now cells.old x) n) }
+    ensures off { (i : ℕ) → (i < halves_place halves.now (2 * n + step.now.parity))
+        ⊎ (halves_place halves.now (2 * n + step.now.parity) + width ≤ i)
+        → line_of cells.new i ≡ line_of cells.old i }
 {
     let at = place(halves, step.parity, n);
     for x in 0..width {
@@ -85,9 +102,15 @@ fn change_each(cells: &mut [i32], halves: &Halves, step: &Step, lo: usize, hi: u
     requires lines { AreLines halves.now width (length cells.old) }
     requires ordered { lo ≤ hi }
     requires within { hi ≤ halves.now.half }
-    requires room { (x n : ℕ) → x < width → lo ≤ n → n < hi → HasRangeAt (2 ^ 31) (counted_of step.now) halves.now.half (line_in halves.now cells.old x) n }
-    ensures on { (x k : ℕ) → x < width → k < 2 * halves.now.half → line_in halves.now cells.new x k ≡ lift_between (counted_of step.now) halves.now.half lo hi (line_in halves.now cells.old x) k }
-    ensures off { (i : ℕ) → IsBeside halves.now width i → line_of cells.new i ≡ line_of cells.old i }
+    requires room { (x n : ℕ) → x < width → lo ≤ n → n < hi
+        → HasRangeAt (2 ^ 31) (counted_of step.now) halves.now.half
+        (line_in halves.now cells.old x) n }
+    ensures on { (x k : ℕ) → x < width → k < 2 * halves.now.half
+        → line_in halves.now cells.new x k
+        ≡ lift_between (counted_of step.now) halves.now.half lo hi
+        (line_in halves.now cells.old x) k }
+    ensures off { (i : ℕ) → IsBeside halves.now width i
+        → line_of cells.new i ≡ line_of cells.old i }
 {
     for n in lo..hi {
         change_run(cells, halves, step, n, width);
@@ -104,8 +127,13 @@ fn change_inside(cells: &mut [i32], halves: &Halves, step: &Step, lo: usize, hi:
     requires within { hi ≤ halves.now.half }
     requires left { step.now.back ≤ lo }
     requires right { hi + length step.now.taps.now ≤ halves.now.half + step.now.back + 1 }
-    requires room { (n : ℕ) → lo ≤ n → n < hi → HasRangeAt (2 ^ 31) (counted_of step.now) halves.now.half (line_in halves.now cells.old 0) n }
-    ensures on { (k : ℕ) → k < 2 * halves.now.half → line_in halves.now cells.new 0 k ≡ lift_between (counted_of step.now) halves.now.half lo hi (line_in halves.now cells.old 0) k }
+    requires room { (n : ℕ) → lo ≤ n → n < hi
+        → HasRangeAt (2 ^ 31) (counted_of step.now) halves.now.half
+        (line_in halves.now cells.old 0) n }
+    ensures on { (k : ℕ) → k < 2 * halves.now.half
+        → line_in halves.now cells.new 0 k
+        ≡ lift_between (counted_of step.now) halves.now.half lo hi
+        (line_in halves.now cells.old 0) k }
     ensures off { (i : ℕ) → IsBeside halves.now 1 i → line_of cells.new i ≡ line_of cells.old i }
 {
     change_run(cells, halves, step, lo, hi - lo);
@@ -121,8 +149,13 @@ fn change_middle(cells: &mut [i32], halves: &Halves, step: &Step, lo: usize, hi:
     requires within { hi ≤ halves.now.half }
     requires left { lo < hi → step.now.back ≤ lo }
     requires right { lo < hi → hi + length step.now.taps.now ≤ halves.now.half + step.now.back + 1 }
-    requires room { (n : ℕ) → lo ≤ n → n < hi → HasRangeAt (2 ^ 31) (counted_of step.now) halves.now.half (line_in halves.now cells.old 0) n }
-    ensures on { (k : ℕ) → k < 2 * halves.now.half → line_in halves.now cells.new 0 k ≡ lift_between (counted_of step.now) halves.now.half lo hi (line_in halves.now cells.old 0) k }
+    requires room { (n : ℕ) → lo ≤ n → n < hi
+        → HasRangeAt (2 ^ 31) (counted_of step.now) halves.now.half
+        (line_in halves.now cells.old 0) n }
+    ensures on { (k : ℕ) → k < 2 * halves.now.half
+        → line_in halves.now cells.new 0 k
+        ≡ lift_between (counted_of step.now) halves.now.half lo hi
+        (line_in halves.now cells.old 0) k }
     ensures off { (i : ℕ) → IsBeside halves.now 1 i → line_of cells.new i ≡ line_of cells.old i }
 {
     if lo < hi {
@@ -136,8 +169,11 @@ fn change_line(cells: &mut [i32], halves: &Halves, step: &Step)
     requires plain { IsPlain (counted_of step.now) }
     requires lines { AreLines halves.now 1 (length cells.old) }
     requires whole { halves.now.pitch ≡ 1 }
-    requires range { HasRange (2 ^ 31) (counted_of step.now) halves.now.half (line_in halves.now cells.old 0) }
-    ensures on { (k : ℕ) → k < 2 * halves.now.half → line_in halves.now cells.new 0 k ≡ lift (counted_of step.now) halves.now.half (line_in halves.now cells.old 0) k }
+    requires range { HasRange (2 ^ 31) (counted_of step.now) halves.now.half
+        (line_in halves.now cells.old 0) }
+    ensures on { (k : ℕ) → k < 2 * halves.now.half
+        → line_in halves.now cells.new 0 k
+        ≡ lift (counted_of step.now) halves.now.half (line_in halves.now cells.old 0) k }
     ensures off { (i : ℕ) → IsBeside halves.now 1 i → line_of cells.new i ≡ line_of cells.old i }
 {
     let half = halves.half;
@@ -154,9 +190,13 @@ fn change_line(cells: &mut [i32], halves: &Halves, step: &Step)
 fn sweep(cells: &mut [i32], halves: &Halves, step: &Step, width: usize)
     requires plain { IsPlain (counted_of step.now) }
     requires lines { AreLines halves.now width (length cells.old) }
-    requires range { (x : ℕ) → x < width → HasRange (2 ^ 31) (counted_of step.now) halves.now.half (line_in halves.now cells.old x) }
-    ensures on { (x k : ℕ) → x < width → k < 2 * halves.now.half → line_in halves.now cells.new x k ≡ lift (counted_of step.now) halves.now.half (line_in halves.now cells.old x) k }
-    ensures off { (i : ℕ) → IsBeside halves.now width i → line_of cells.new i ≡ line_of cells.old i }
+    requires range { (x : ℕ) → x < width
+        → HasRange (2 ^ 31) (counted_of step.now) halves.now.half (line_in halves.now cells.old x) }
+    ensures on { (x k : ℕ) → x < width → k < 2 * halves.now.half
+        → line_in halves.now cells.new x k
+        ≡ lift (counted_of step.now) halves.now.half (line_in halves.now cells.old x) k }
+    ensures off { (i : ℕ) → IsBeside halves.now width i
+        → line_of cells.new i ≡ line_of cells.old i }
 {
     if halves.pitch == 1 && width == 1 {
         change_line(cells, halves, step);
@@ -185,9 +225,13 @@ fn with_taps<'a>(step: &Step, taps: &'a [i32]) -> Step<'a>
 fn lift(cells: &mut [i32], halves: &Halves, step: &Step, width: usize)
     requires plain { IsPlain (counted_of step.now) }
     requires lines { AreLines halves.now width (length cells.old) }
-    requires range { (x : ℕ) → x < width → HasRange (2 ^ 31) (counted_of step.now) halves.now.half (line_in halves.now cells.old x) }
-    ensures on { (x k : ℕ) → x < width → k < 2 * halves.now.half → line_in halves.now cells.new x k ≡ lift (counted_of step.now) halves.now.half (line_in halves.now cells.old x) k }
-    ensures off { (i : ℕ) → IsBeside halves.now width i → line_of cells.new i ≡ line_of cells.old i }
+    requires range { (x : ℕ) → x < width
+        → HasRange (2 ^ 31) (counted_of step.now) halves.now.half (line_in halves.now cells.old x) }
+    ensures on { (x k : ℕ) → x < width → k < 2 * halves.now.half
+        → line_in halves.now cells.new x k
+        ≡ lift (counted_of step.now) halves.now.half (line_in halves.now cells.old x) k }
+    ensures off { (i : ℕ) → IsBeside halves.now width i
+        → line_of cells.new i ≡ line_of cells.old i }
 {
     let one: &[i32] = &[1];
     let two: &[i32] = &[1, 1];
@@ -207,9 +251,15 @@ fn lift(cells: &mut [i32], halves: &Halves, step: &Step, width: usize)
 fn run(cells: &mut [i32], halves: &Halves, width: usize, rows: &[Row], undo: bool)
     requires lines { AreLines halves.now width (length cells.old) }
     requires steps { IsTrue (grows_little 16 (in_order undo (map counted_row rows.now))) }
-    requires narrow { (x : ℕ) → x < width → StaysNarrow (in_order undo (map counted_row rows.now)) halves.now.half (line_in halves.now cells.old x) }
-    ensures on { (x k : ℕ) → x < width → k < 2 * halves.now.half → line_in halves.now cells.new x k ≡ lift_all (in_order undo (map counted_row rows.now)) halves.now.half (line_in halves.now cells.old x) k }
-    ensures off { (i : ℕ) → IsBeside halves.now width i → line_of cells.new i ≡ line_of cells.old i }
+    requires narrow { (x : ℕ) → x < width
+        → StaysNarrow (in_order undo (map counted_row rows.now)) halves.now.half
+        (line_in halves.now cells.old x) }
+    ensures on { (x k : ℕ) → x < width → k < 2 * halves.now.half
+        → line_in halves.now cells.new x k
+        ≡ lift_all (in_order undo (map counted_row rows.now)) halves.now.half
+        (line_in halves.now cells.old x) k }
+    ensures off { (i : ℕ) → IsBeside halves.now width i
+        → line_of cells.new i ≡ line_of cells.old i }
 {
     for i in 0..rows.len() {
         let step = step_at(rows, undo, i);
@@ -222,9 +272,13 @@ fn run(cells: &mut [i32], halves: &Halves, width: usize, rows: &[Row], undo: boo
 pub fn synth_narrow(wavelet: u8, cells: &mut [i32], halves: &Halves, width: usize)
     requires wavelet { wavelet ≤ 6 }
     requires lines { AreLines halves.now width (length cells.old) }
-    requires narrow { (x : ℕ) → x < width → StaysNarrow (counted_synthesis wavelet) halves.now.half (line_in halves.now cells.old x) }
-    ensures on { (x k : ℕ) → x < width → k < 2 * halves.now.half → line_in halves.now cells.new x k ≡ synthesised wavelet (2 * halves.now.half) (line_in halves.now cells.old x) k }
-    ensures off { (i : ℕ) → IsBeside halves.now width i → line_of cells.new i ≡ line_of cells.old i }
+    requires narrow { (x : ℕ) → x < width
+        → StaysNarrow (counted_synthesis wavelet) halves.now.half (line_in halves.now cells.old x) }
+    ensures on { (x k : ℕ) → x < width → k < 2 * halves.now.half
+        → line_in halves.now cells.new x k
+        ≡ synthesised wavelet (2 * halves.now.half) (line_in halves.now cells.old x) k }
+    ensures off { (i : ℕ) → IsBeside halves.now width i
+        → line_of cells.new i ≡ line_of cells.old i }
 {
     run(cells, halves, width, steps(wavelet), false)
 }

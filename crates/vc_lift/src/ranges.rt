@@ -41,7 +41,9 @@ fn next(step: &Step, even: u64, odd: u64) -> Option<(u64, u64)>
     requires plain { IsPlain (counted_of step.now) }
     requires even { even < 2 ^ 31 }
     requires odd { odd < 2 ^ 31 }
-    ensures value { (steps : List CountedStep) → bound_after (2 ^ 31) (counted_of step.now ∷ steps) even odd ≡ option_and_then (λ b. bound_after (2 ^ 31) steps b.0 b.1) result }
+    ensures value { (steps : List CountedStep)
+        → bound_after (2 ^ 31) (counted_of step.now ∷ steps) even odd
+        ≡ option_and_then (λ b. bound_after (2 ^ 31) steps b.0 b.1) result }
     ensures small { IfSome result (λ b. (b.0 < 2 ^ 31) × (b.1 < 2 ^ 31)) }
 {
     if step.parity == 0 {

@@ -80,7 +80,8 @@ pub(crate) struct Step<'a> {
 /// The step at place i or, where the steps are to be undone, the opposite of the step at that place from the end.
 pub(crate) fn step_at(rows: &[Row], undo: bool, i: usize) -> Step<'static>
     requires { i < length rows.now }
-    ensures { counted_of result ≡ slice_index_or (in_order undo (map counted_row rows.now)) i (counted_of result) }
+    ensures { counted_of result
+        ≡ slice_index_or (in_order undo (map counted_row rows.now)) i (counted_of result) }
 {
     if undo {
         opposite(step_of(rows[rows.len() - 1 - i]))

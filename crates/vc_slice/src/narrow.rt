@@ -29,7 +29,8 @@ pub fn read_narrow(
     requires slice { slice < slice_count (parameters_of plan.now) }
     requires index { index ≤ 127 }
     requires room { slice_coefficient_count (parameters_of plan.now) c slice + 8 ≤ length out.old }
-    ensures value { OnOk result ((i : ℕ) → i < slice_coefficient_count (parameters_of plan.now) c slice
+    ensures value { OnOk result
+        ((i : ℕ) → i < slice_coefficient_count (parameters_of plan.now) c slice
         → line_of out.new i
         ≡ line_of (block_coefficients (parameters_of plan.now) c slice index block.now) i) }
     ensures sound { OnOk result (list_any is_large
@@ -103,7 +104,8 @@ fn dequantise_run(
     greatest: u32,
 ) -> bool
     requires run { (from ≤ to) × (to ≤ length numbers.old) }
-    requires greatest { (i : ℕ) → from ≤ i → i < to → unsigned_abs (line_of numbers.old i) ≤ greatest }
+    requires greatest { (i : ℕ) → from ≤ i → i < to
+        → unsigned_abs (line_of numbers.old i) ≤ greatest }
     ensures on { result ≡ true → (i : ℕ) → from ≤ i → i < to
         → line_of numbers.new i ≡ dequantised (line_of numbers.old i) quantiser.now.index }
     ensures narrow { result ≡ true → (i : ℕ) → from ≤ i → i < to

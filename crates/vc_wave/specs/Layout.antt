@@ -10,7 +10,8 @@ use Rattle.vc_wave.specs.Planes.{plane_of}
 unfoldable pub row_in_turn : ℕ → ℕ → ℕ → ℕ → ℕ → ℕ
 row_in_turn zero w h x y = y
 row_in_turn (suc levels) w h x y =
-    row_in_turn levels (2 * w) (2 * h) x (if is_within (2 * w) (2 * h) x y then source_of h y else y)
+    row_in_turn levels (2 * w) (2 * h) x
+    (if is_within (2 * w) (2 * h) x y then source_of h y else y)
 
 -- the nested subbands that a plane holds so
 abbrev pub laid_out : ℕ → ℕ → ℕ → Cells → Cells

@@ -22,7 +22,8 @@ IsApart lines i =
 -- their samples can be lifted
 abbrev pub AreSmall : Lines → List ℤ → Type 0
 AreSmall lines cells =
-    (x k : ℕ) → x < lines.width → k < 2 * lines.half → unsigned_abs (line_at cells lines x k) < 2 ^ 107
+    (x k : ℕ) → x < lines.width → k < 2 * lines.half
+    → unsigned_abs (line_at cells lines x k) < 2 ^ 107
 
 -- each line is what a function makes of it, and all other cells are as they were
 pub record IsMade (f : Line → Line) (lines : Lines) (before after : List ℤ) : Type 0 where

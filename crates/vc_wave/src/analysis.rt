@@ -22,7 +22,9 @@ pub fn forward(alloc: Global, plan: &Plan, c: Component, plane: &Plane) -> Resul
     requires samples { All (λ s. s < 2 ^ plane_depth plan.now.shape c) plane.now.samples }
     ensures width { IfOk result (λ g. g.width ≡ padded_width (parameters_of plan.now) c) }
     ensures height { IfOk result (λ g. g.height ≡ padded_height (parameters_of plan.now) c) }
-    ensures value { IfOk result (λ g. (x y : ℕ) → x < g.width → y < g.height → cell_at g x y ≡ forward_transform (parameters_of plan.now) c (sample_at plane.now) x y) }
+    ensures value { IfOk result
+        (λ g. (x y : ℕ) → x < g.width → y < g.height
+        → cell_at g x y ≡ forward_transform (parameters_of plan.now) c (sample_at plane.now) x y) }
     ensures small { IfOk result (λ g. All (λ z. unsigned_abs z < 2 ^ 60) g.cells) }
 {
     let (width, height) = padded(plan, c);
@@ -52,7 +54,8 @@ fn fill(cells: &mut [i128], columns: usize, rows: usize, plane: &Plane, depth: u
     requires depth { (1 ≤ depth) × (depth ≤ 16) }
     requires some { (1 ≤ plane.now.width) × (1 ≤ plane.now.height) }
     requires cells { length cells.old ≡ rows * columns }
-    ensures { (x y : ℕ) → x < columns → y < rows → line_of cells.new (y * columns + x) ≡ padded_sample plane.now depth x y }
+    ensures { (x y : ℕ) → x < columns → y < rows
+        → line_of cells.new (y * columns + x) ≡ padded_sample plane.now depth x y }
 {
     let (width, height) = (plane.width() as usize, plane.height() as usize);
     let samples = plane.samples();

@@ -22,9 +22,12 @@ fn remake_columns(
 )
     requires wavelet { pass.wavelet ≤ 6 }
     requires some { 0 < half }
-    requires room { HasRoom columns (2 * half) stride (length cells.old) BLOCK (length scratch.old) }
+    requires room { HasRoom columns (2 * half) stride (length cells.old) BLOCK
+        (length scratch.old) }
     requires small { AreBelow (2 ^ 107) (plane_of stride cells.old) }
-    ensures { plane_of stride cells.new ≡ on_columns (remade pass.direction pass.wavelet pass.shifted half) columns (plane_of stride cells.old) }
+    ensures { plane_of stride cells.new
+        ≡ on_columns (remade pass.direction pass.wavelet pass.shifted half) columns
+        (plane_of stride cells.old) }
 {
     let mut start = 0;
     while start < columns {
@@ -54,7 +57,9 @@ fn remake_rows(
     requires some { 0 < half }
     requires room { HasRoom (2 * half) rows stride (length cells.old) BLOCK (length scratch.old) }
     requires small { AreBelow (2 ^ 107) (plane_of stride cells.old) }
-    ensures { plane_of stride cells.new ≡ on_rows (remade pass.direction pass.wavelet pass.shifted half) rows (plane_of stride cells.old) }
+    ensures { plane_of stride cells.new
+        ≡ on_rows (remade pass.direction pass.wavelet pass.shifted half) rows
+        (plane_of stride cells.old) }
 {
     for y in 0..rows {
         let lines = Lines {
@@ -88,7 +93,8 @@ fn merge_level(
     requires some { (0 < w) × (0 < h) }
     requires room { HasRoom (2 * w) (2 * h) stride (length cells.old) BLOCK (length scratch.old) }
     requires small { AreBelow (2 ^ 100) (plane_of stride cells.old) }
-    ensures { plane_of stride cells.new ≡ inverse_level wavelets.down wavelets.across w h (plane_of stride cells.old) }
+    ensures { plane_of stride cells.new
+        ≡ inverse_level wavelets.down wavelets.across w h (plane_of stride cells.old) }
 {
     let down = over_columns(Direction::Synthesis, wavelets.down);
     remake_columns(down, cells, stride, 2 * w, h, scratch);
@@ -130,9 +136,11 @@ pub(crate) fn merge_across(
     requires wavelet { wavelet ≤ 6 }
     requires levels { levels ≤ 5 }
     requires some { 0 < w }
-    requires room { HasRoom (w * 2 ^ levels) h stride (length cells.old) BLOCK (length scratch.old) }
+    requires room { HasRoom (w * 2 ^ levels) h stride (length cells.old) BLOCK
+        (length scratch.old) }
     requires small { AreBelow (2 ^ 60) (plane_of stride cells.old) }
-    ensures { plane_of stride cells.new ≡ levels_across wavelet levels w h (plane_of stride cells.old) }
+    ensures { plane_of stride cells.new
+        ≡ levels_across wavelet levels w h (plane_of stride cells.old) }
 {
     let across = over_rows(Direction::Synthesis, wavelet);
     for level in 0..levels {
@@ -155,9 +163,11 @@ pub(crate) fn merge_levels(
     requires across { wavelets.across ≤ 6 }
     requires levels { levels ≤ 5 }
     requires some { (0 < w) × (0 < h) }
-    requires room { HasRoom (w * 2 ^ levels) (h * 2 ^ levels) stride (length cells.old) BLOCK (length scratch.old) }
+    requires room { HasRoom (w * 2 ^ levels) (h * 2 ^ levels) stride (length cells.old) BLOCK
+        (length scratch.old) }
     requires small { AreBelow (2 ^ (100 - 8 * levels)) (plane_of stride cells.old) }
-    ensures { plane_of stride cells.new ≡ inverse_levels wavelets.down wavelets.across levels w h (plane_of stride cells.old) }
+    ensures { plane_of stride cells.new
+        ≡ inverse_levels wavelets.down wavelets.across levels w h (plane_of stride cells.old) }
 {
     for level in 0..levels {
         let (columns, rows) = (side_at(w, level), side_at(h, level));
@@ -178,9 +188,11 @@ pub(crate) fn part_levels(
     requires wavelet { wavelet ≤ 6 }
     requires levels { levels ≤ 5 }
     requires some { (0 < w) × (0 < h) }
-    requires room { HasRoom (w * 2 ^ levels) (h * 2 ^ levels) stride (length cells.old) BLOCK (length scratch.old) }
+    requires room { HasRoom (w * 2 ^ levels) (h * 2 ^ levels) stride (length cells.old) BLOCK
+        (length scratch.old) }
     requires small { AreBelow (2 ^ 16) (plane_of stride cells.old) }
-    ensures { plane_of stride cells.new ≡ forward_levels wavelet levels w h (plane_of stride cells.old) }
+    ensures { plane_of stride cells.new
+        ≡ forward_levels wavelet levels w h (plane_of stride cells.old) }
 {
     for level in 0..levels {
         let left = levels - 1 - level;

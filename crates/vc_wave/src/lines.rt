@@ -46,7 +46,9 @@ fn copy(to: &mut [i128], at: usize, from: &[i128], start: usize, width: usize)
 fn gather(cells: &[i128], lines: &Lines, apart: bool, block: &mut [i128])
     requires inside { IsInside lines.now (length cells.now) }
     requires block { length block.old ≡ 2 * lines.now.half * lines.now.width }
-    ensures { (x k : ℕ) → x < lines.now.width → k < 2 * lines.now.half → column_of lines.now.width block.new x k ≡ line_at cells.now lines.now x (sample_place apart lines.now.half k) }
+    ensures { (x k : ℕ) → x < lines.now.width → k < 2 * lines.now.half
+        → column_of lines.now.width block.new x k
+        ≡ line_at cells.now lines.now x (sample_place apart lines.now.half k) }
 {
     for k in 0..2 * lines.half {
         let start = lines.start + sample_place(apart, lines.half, k) * lines.step;
@@ -59,7 +61,9 @@ fn gather(cells: &[i128], lines: &Lines, apart: bool, block: &mut [i128])
 fn scatter(cells: &mut [i128], lines: &Lines, apart: bool, block: &[i128])
     requires inside { IsInside lines.now (length cells.old) }
     requires block { length block.now ≡ 2 * lines.now.half * lines.now.width }
-    ensures on { (x k : ℕ) → x < lines.now.width → k < 2 * lines.now.half → line_at cells.new lines.now x (sample_place apart lines.now.half k) ≡ column_of lines.now.width block.now x k }
+    ensures on { (x k : ℕ) → x < lines.now.width → k < 2 * lines.now.half
+        → line_at cells.new lines.now x (sample_place apart lines.now.half k)
+        ≡ column_of lines.now.width block.now x k }
     ensures off { (i : ℕ) → IsApart lines.now i → line_of cells.new i ≡ line_of cells.old i }
 {
     for k in 0..2 * lines.half {
@@ -75,7 +79,8 @@ fn merge(pass: Pass, cells: &mut [i128], lines: &Lines, block: &mut [i128])
     requires inside { IsInside lines.now (length cells.old) }
     requires block { length block.old ≡ 2 * lines.now.half * lines.now.width }
     requires small { AreSmall lines.now cells.old }
-    ensures { IsMade (remade Synthesis pass.wavelet pass.shifted lines.now.half) lines.now cells.old cells.new }
+    ensures { IsMade (remade Synthesis pass.wavelet pass.shifted lines.now.half)
+        lines.now cells.old cells.new }
 {
     gather(cells, lines, true, block);
     vc_lift::synth_columns(pass.wavelet, block, lines.width, lines.half);
@@ -90,7 +95,8 @@ fn part(pass: Pass, cells: &mut [i128], lines: &Lines, block: &mut [i128])
     requires inside { IsInside lines.now (length cells.old) }
     requires block { length block.old ≡ 2 * lines.now.half * lines.now.width }
     requires small { AreSmall lines.now cells.old }
-    ensures { IsMade (remade Analysis pass.wavelet pass.shifted lines.now.half) lines.now cells.old cells.new }
+    ensures { IsMade (remade Analysis pass.wavelet pass.shifted lines.now.half)
+        lines.now cells.old cells.new }
 {
     gather(cells, lines, false, block);
     double(block, pass.shifted);
@@ -105,7 +111,8 @@ pub(crate) fn remake(pass: Pass, cells: &mut [i128], lines: &Lines, block: &mut 
     requires inside { IsInside lines.now (length cells.old) }
     requires block { length block.old ≡ 2 * lines.now.half * lines.now.width }
     requires small { AreSmall lines.now cells.old }
-    ensures { IsMade (remade pass.direction pass.wavelet pass.shifted lines.now.half) lines.now cells.old cells.new }
+    ensures { IsMade (remade pass.direction pass.wavelet pass.shifted lines.now.half)
+        lines.now cells.old cells.new }
 {
     match pass.direction {
         Direction::Synthesis => merge(pass, cells, lines, block),

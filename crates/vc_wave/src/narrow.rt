@@ -45,10 +45,18 @@ fn weave(cells: &mut [i32], start: usize, half: usize, shifted: bool, line: &mut
     requires half { half < 2 ^ 60 }
     requires inside { start + 2 * half ≤ length cells.old }
     requires line { 2 * half ≤ length line.old }
-    requires small { shifted ≡ true → (k : ℕ) → k < 2 * half → unsigned_abs (line_of cells.old (start + k)) + 1 < 2 ^ 31 }
-    ensures even { (k : ℕ) → k < half → line_of cells.new (start + 2 * k) ≡ (if shifted then halved (line_of cells.old (start + k)) else line_of cells.old (start + k)) }
-    ensures odd { (k : ℕ) → k < half → line_of cells.new (start + (2 * k + 1)) ≡ (if shifted then halved (line_of cells.old (start + (half + k))) else line_of cells.old (start + (half + k))) }
-    ensures off { (i : ℕ) → (i < start) ⊎ (start + 2 * half ≤ i) → line_of cells.new i ≡ line_of cells.old i }
+    requires small { shifted ≡ true → (k : ℕ) → k < 2 * half
+        → unsigned_abs (line_of cells.old (start + k)) + 1 < 2 ^ 31 }
+    ensures even { (k : ℕ) → k < half
+        → line_of cells.new (start + 2 * k)
+        ≡ (if shifted then halved (line_of cells.old (start + k)) else line_of cells.old
+        (start + k)) }
+    ensures odd { (k : ℕ) → k < half
+        → line_of cells.new (start + (2 * k + 1))
+        ≡ (if shifted then halved (line_of cells.old (start + (half + k))) else line_of cells.old
+        (start + (half + k))) }
+    ensures off { (i : ℕ) → (i < start) ⊎ (start + 2 * half ≤ i)
+        → line_of cells.new i ≡ line_of cells.old i }
 {
     copy_row(line, cells, start, 2 * half);
     for k in 0..half {
@@ -66,7 +74,8 @@ fn merge_row(wavelet: u8, cells: &mut [i32], start: usize, half: usize, line: &m
     requires inside { start + 2 * half ≤ length cells.old }
     requires line { 2 * half ≤ length line.old }
     requires bound { RowHasBound (rows_bound wavelet) cells.old start (2 * half) }
-    ensures { IsMade (remade Synthesis wavelet (is_shifted wavelet) half) (record { start = start; step = 1; width = 1; half = half }) cells.old cells.new }
+    ensures { IsMade (remade Synthesis wavelet (is_shifted wavelet) half)
+        (record { start = start; step = 1; width = 1; half = half }) cells.old cells.new }
 {
     let halves = Halves {
         even: start,
@@ -93,7 +102,9 @@ fn merge_rows(
     requires down { rows * pitch ≤ length cells.old }
     requires line { 2 * half ≤ length line.old }
     requires bound { HasBound (rows_bound wavelet) cells.old }
-    ensures { plane_of pitch cells.new ≡ on_rows (remade Synthesis wavelet (is_shifted wavelet) half) rows (plane_of pitch cells.old) }
+    ensures { plane_of pitch cells.new
+        ≡ on_rows (remade Synthesis wavelet (is_shifted wavelet) half) rows
+        (plane_of pitch cells.old) }
 {
     for y in 0..rows {
         merge_row(wavelet, cells, y * pitch, half, line);
@@ -107,7 +118,8 @@ fn merge_columns(wavelet: u8, cells: &mut [i32], pitch: usize, columns: usize, h
     requires across { columns ≤ pitch }
     requires down { 2 * half * pitch ≤ length cells.old }
     requires bound { HasBound (narrow_bound wavelet) cells.old }
-    ensures { plane_of pitch cells.new ≡ on_columns (synthesised wavelet (2 * half)) columns (plane_of pitch cells.old) }
+    ensures { plane_of pitch cells.new
+        ≡ on_columns (synthesised wavelet (2 * half)) columns (plane_of pitch cells.old) }
 {
     let halves = Halves {
         even: 0,
@@ -134,7 +146,8 @@ fn merge_level(
     requires small { (w < 2 ^ 60) × (h < 2 ^ 60) }
     requires room { HasRoom (2 * w) (2 * h) pitch (length cells.old) 0 (length line.old) }
     requires bound { HasBound (level_bound wavelets.down wavelets.across) cells.old }
-    ensures { plane_of pitch cells.new ≡ level_in_turn wavelets.down wavelets.across w h (plane_of pitch cells.old) }
+    ensures { plane_of pitch cells.new
+        ≡ level_in_turn wavelets.down wavelets.across w h (plane_of pitch cells.old) }
 {
     merge_columns(wavelets.down, cells, pitch, 2 * w, h);
     merge_rows(wavelets.across, cells, pitch, 2 * h, w, line);
@@ -156,8 +169,11 @@ fn merge_across(
     requires small { w * 2 ^ levels < 2 ^ 60 }
     requires room { HasRoom (w * 2 ^ levels) h pitch (length cells.old) 0 (length line.old) }
     requires bound { HasBound (bound_over (rows_bound wavelet) levels) cells.old }
-    ensures made { plane_of pitch cells.new ≡ levels_across wavelet levels w h (plane_of pitch cells.old) }
-    ensures small { (m b : ℕ) → ((i : ℕ) → unsigned_abs (line_of cells.old i) ≤ m) → bound_over (rows_bound wavelet) levels m ≡ Some b → (i : ℕ) → unsigned_abs (line_of cells.new i) ≤ b }
+    ensures made { plane_of pitch cells.new
+        ≡ levels_across wavelet levels w h (plane_of pitch cells.old) }
+    ensures small { (m b : ℕ) → ((i : ℕ) → unsigned_abs (line_of cells.old i) ≤ m)
+        → bound_over (rows_bound wavelet) levels m ≡ Some b → (i : ℕ)
+        → unsigned_abs (line_of cells.new i) ≤ b }
 {
     for level in 0..levels {
         let half = side_at(w, level);
@@ -180,9 +196,13 @@ fn merge_levels(
     requires levels { levels ≤ 5 }
     requires some { (0 < w) × (0 < h) }
     requires small { (w * 2 ^ levels < 2 ^ 60) × (h * 2 ^ levels < 2 ^ 60) }
-    requires room { HasRoom (w * 2 ^ levels) (h * 2 ^ levels) stride (length cells.old) 0 (length line.old) }
-    requires bound { HasBound (bound_over (level_bound wavelets.down wavelets.across) levels) cells.old }
-    ensures { plane_of stride cells.new ≡ inverse_levels wavelets.down wavelets.across levels w h (laid_out levels w h (plane_of stride cells.old)) }
+    requires room { HasRoom (w * 2 ^ levels) (h * 2 ^ levels) stride (length cells.old) 0
+        (length line.old) }
+    requires bound { HasBound
+        (bound_over (level_bound wavelets.down wavelets.across) levels) cells.old }
+    ensures { plane_of stride cells.new
+        ≡ inverse_levels wavelets.down wavelets.across levels w h
+        (laid_out levels w h (plane_of stride cells.old)) }
 {
     for level in 0..levels {
         let pitch = side_at(stride, levels - 1 - level);
@@ -199,7 +219,9 @@ pub fn inverse_narrow(plan: &Plan, c: Component, cells: &mut [i32], stride: usiz
     requires cells { padded_height (parameters_of plan.now) c * stride ≤ length cells.old }
     requires line { padded_width (parameters_of plan.now) c ≤ length line.old }
     requires narrow { AreNarrow (parameters_of plan.now) cells.old }
-    ensures { plane_of stride cells.new ≡ inverse_transform (parameters_of plan.now) c (nested_in (parameters_of plan.now) c stride cells.old) }
+    ensures { plane_of stride cells.new
+        ≡ inverse_transform (parameters_of plan.now) c
+        (nested_in (parameters_of plan.now) c stride cells.old) }
 {
     let (w, h) = lowest(plan, c);
     let wavelets = Wavelets {

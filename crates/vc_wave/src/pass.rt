@@ -33,7 +33,11 @@ pub(crate) fn over_columns(direction: Direction, wavelet: u8) -> Pass
 /// A pass over rows shifts their samples if the wavelet wants that.
 pub(crate) fn over_rows(direction: Direction, wavelet: u8) -> Pass
     requires { wavelet ≤ 6 }
-    ensures { result ≡ record { direction = direction; wavelet = wavelet; shifted = is_shifted wavelet } }
+    ensures { result ≡ record {
+      direction = direction;
+      wavelet = wavelet;
+      shifted = is_shifted wavelet;
+    } }
 {
     let shifted = is_shifted(wavelet);
     Pass {

@@ -19,7 +19,9 @@ pub(crate) fn is_shifted(wavelet: u8) -> bool
 #[inline(always)]
 pub(crate) fn halve(samples: &mut [i128], wanted: bool)
     requires { All (λ z. unsigned_abs z < 2 ^ 126) samples.old }
-    ensures { (k : ℕ) → k < length samples.old → line_of samples.new k ≡ (if wanted then halved (line_of samples.old k) else line_of samples.old k) }
+    ensures { (k : ℕ) → k < length samples.old
+        → line_of samples.new k
+        ≡ (if wanted then halved (line_of samples.old k) else line_of samples.old k) }
 {
     if wanted {
         halve_all(samples);
@@ -30,7 +32,9 @@ pub(crate) fn halve(samples: &mut [i128], wanted: bool)
 #[inline(always)]
 pub(crate) fn double(samples: &mut [i128], wanted: bool)
     requires { All (λ z. unsigned_abs z < 2 ^ 126) samples.old }
-    ensures { (k : ℕ) → k < length samples.old → line_of samples.new k ≡ (if wanted then doubled (line_of samples.old k) else line_of samples.old k) }
+    ensures { (k : ℕ) → k < length samples.old
+        → line_of samples.new k
+        ≡ (if wanted then doubled (line_of samples.old k) else line_of samples.old k) }
 {
     if wanted {
         double_all(samples);
@@ -40,7 +44,8 @@ pub(crate) fn double(samples: &mut [i128], wanted: bool)
 #[inline(always)]
 fn halve_all(samples: &mut [i128])
     requires { All (λ z. unsigned_abs z < 2 ^ 126) samples.old }
-    ensures { (k : ℕ) → k < length samples.old → line_of samples.new k ≡ halved (line_of samples.old k) }
+    ensures { (k : ℕ) → k < length samples.old
+        → line_of samples.new k ≡ halved (line_of samples.old k) }
 {
     for sample in samples.iter_mut() {
         *sample = halved(*sample);
@@ -58,7 +63,8 @@ fn halved(sample: i128) -> i128
 #[inline(always)]
 fn double_all(samples: &mut [i128])
     requires { All (λ z. unsigned_abs z < 2 ^ 126) samples.old }
-    ensures { (k : ℕ) → k < length samples.old → line_of samples.new k ≡ doubled (line_of samples.old k) }
+    ensures { (k : ℕ) → k < length samples.old
+        → line_of samples.new k ≡ doubled (line_of samples.old k) }
 {
     for sample in samples.iter_mut() {
         *sample = doubled(*sample);

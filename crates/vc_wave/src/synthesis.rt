@@ -19,7 +19,8 @@ pub fn inverse(alloc: Global, plan: &Plan, c: Component, coeffs: Grid) -> Result
     requires small { All (λ z. unsigned_abs z < 2 ^ 60) coeffs.cells }
     ensures width { IfOk result (λ g. g.width ≡ coeffs.width) }
     ensures height { IfOk result (λ g. g.height ≡ coeffs.height) }
-    ensures value { IfOk result (λ g. cell_at g ≡ inverse_transform (parameters_of plan.now) c (cell_at coeffs)) }
+    ensures value { IfOk result
+        (λ g. cell_at g ≡ inverse_transform (parameters_of plan.now) c (cell_at coeffs)) }
     ensures small { IfOk result (λ g. All (λ z. unsigned_abs z < 2 ^ 100) g.cells) }
 {
     let (width, height) = padded(plan, c);
@@ -32,9 +33,12 @@ pub fn inverse(alloc: Global, plan: &Plan, c: Component, coeffs: Grid) -> Result
 
 // The inverse transform of a component's cells, which are kept row by row.
 fn merge(plan: &Plan, c: Component, cells: &mut [i128], stride: usize, scratch: &mut [i128])
-    requires room { HasRoom (padded_width (parameters_of plan.now) c) (padded_height (parameters_of plan.now) c) stride (length cells.old) BLOCK (length scratch.old) }
+    requires room { HasRoom (padded_width (parameters_of plan.now) c)
+        (padded_height (parameters_of plan.now) c) stride (length cells.old) BLOCK
+        (length scratch.old) }
     requires small { AreBelow (2 ^ 60) (plane_of stride cells.old) }
-    ensures value { plane_of stride cells.new ≡ inverse_transform (parameters_of plan.now) c (plane_of stride cells.old) }
+    ensures value { plane_of stride cells.new
+        ≡ inverse_transform (parameters_of plan.now) c (plane_of stride cells.old) }
     ensures small { AreBelow (2 ^ 100) (plane_of stride cells.new) }
 {
     let (w, h) = lowest(plan, c);

@@ -14,7 +14,8 @@ fn plan(shape: Shape, wavelets: (u8, u8), levels: (u8, u8)) -> Plan
     requires padded { IsTrue (padded_luma_fits shape levels.1 levels.0) }
     requires wavelets { (wavelets.0 ≤ 6) × (wavelets.1 ≤ 6) }
     requires levels { (1 ≤ levels.0) × (levels.0 + levels.1 ≤ 5) }
-    requires matrix { filled_matrix (used_entries levels.1 levels.0 (replicate 16 0)) ≡ replicate 16 0 }
+    requires matrix { filled_matrix (used_entries levels.1 levels.0 (replicate 16 0))
+        ≡ replicate 16 0 }
     ensures shape { result.shape ≡ shape }
     ensures wavelets { (result.wavelet ≡ wavelets.0) × (result.wavelet_ho ≡ wavelets.1) }
     ensures levels { (result.depth ≡ levels.0) × (result.depth_ho ≡ levels.1) }
@@ -34,7 +35,14 @@ fn plan(shape: Shape, wavelets: (u8, u8), levels: (u8, u8)) -> Plan
 }
 
 fn size(width: u32, height: u32) -> Shape
-    ensures { result ≡ record { luma_width = width; luma_height = height; colour_width = width; colour_height = height; luma_depth = 8; colour_depth = 8 } }
+    ensures { result ≡ record {
+      luma_width = width;
+      luma_height = height;
+      colour_width = width;
+      colour_height = height;
+      luma_depth = 8;
+      colour_depth = 8;
+    } }
 {
     Shape {
         luma_width: width,
