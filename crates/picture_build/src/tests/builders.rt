@@ -10,23 +10,8 @@ use std::test::Fail;
 use vc_slice::{SliceCoeffs, cut};
 use vc_types::{Plan, Plane, Unsound};
 
-// Luma -15 at the upper left corner, and nothing.
-const CORNER: &'static [u8] = &[0, 1, 0x00, 0, 0];
-
-const NOTHING: &'static [u8] = &[0, 0, 0, 0];
-
 // Luma 14 at index 127, which takes 34 bits.
 const WIDE: &'static [u8] = &[127, 1, 0x56, 0, 0];
-
-// Two rows of these samples, and two of grey.
-fn luma(top: [u16; 8]) -> [u16; 32] {
-    let mut samples = [0x80; 32];
-    for x in 0..8usize {
-        samples[x] = top[x];
-        samples[8 + x] = top[x];
-    }
-    samples
-}
 
 fn fill(
     builder: &mut PictureBuilder,
@@ -111,57 +96,35 @@ fn a_slice_is_filled_in(rt: HostRuntime) -> Result<(), Fail> {
     Ok(())
 }
 
-// The slices come in any order, and an unsound one between them.
 #[test]
 fn an_unsound_slice_leaves_the_picture(rt: HostRuntime) -> Result<(), Fail> {
     let plan = two_slices();
     let mut builder = PictureBuilder::new(rt.alloc(), plan)?;
-    assert_eq!(rt; put(&mut builder, &plan, 1, NOTHING)?, Ok(()));
-    let unsound = Err(NotPut::Unsound(Unsound::IndexRange));
-    assert_eq!(rt;
-        put(&mut builder, &plan, 0, &[128, 1, 0x56, 0, 0])?,
-        unsound
-    );
-    assert!(rt; !builder.has(0) && builder.has(1));
-    assert_eq!(rt; put(&mut builder, &plan, 0, CORNER)?, Ok(()));
-    let planes = shown(&mut builder, &plan)?;
-    assert_eq!(rt;
-        planes[0].samples(),
-        luma([0x71, 0x71, 0x80, 0x80, 0x80, 0x80, 0x80, 0x80]).as_slice()
-    );
+    let answer = put(&mut builder, &plan, 0, &[128, 1, 0x56, 0, 0])?;
+    assert_eq!(rt; answer, Err(NotPut::Unsound(Unsound::IndexRange)));
+    assert!(rt; !builder.has(0));
     Ok(())
 }
 
-// A wide slice before and behind a narrow one, and then a picture of narrow ones in the same memory.
 #[test]
-fn wide_slices_are_filled_in(rt: HostRuntime) -> Result<(), Fail> {
+fn a_wide_slice_is_not_put(rt: HostRuntime) -> Result<(), Fail> {
     let plan = two_slices();
     let mut builder = PictureBuilder::new(rt.alloc(), plan)?;
-    assert_eq!(rt; put(&mut builder, &plan, 0, WIDE)?, Err(NotPut::Wide));
-    let coeffs = decoded(rt.alloc(), plan, 0, WIDE)?;
-    fill(&mut builder, &plan, 0, &coeffs)?;
-    assert_eq!(rt; put(&mut builder, &plan, 1, CORNER)?, Ok(()));
-    let planes = shown(&mut builder, &plan)?;
-    assert_eq!(rt;
-        planes[0].samples(),
-        luma([0xff, 0xff, 0x80, 0x80, 0x71, 0x71, 0x80, 0x80]).as_slice()
-    );
-    let coeffs = decoded(rt.alloc(), plan, 1, WIDE)?;
-    assert_eq!(rt; put(&mut builder, &plan, 0, CORNER)?, Ok(()));
-    fill(&mut builder, &plan, 1, &coeffs)?;
-    let planes = shown(&mut builder, &plan)?;
-    assert_eq!(rt;
-        planes[0].samples(),
-        luma([0x71, 0x71, 0x80, 0x80, 0xff, 0xff, 0x80, 0x80]).as_slice()
-    );
-    assert_eq!(rt; put(&mut builder, &plan, 0, NOTHING)?, Ok(()));
+    let answer = put(&mut builder, &plan, 1, WIDE)?;
+    assert_eq!(rt; answer, Err(NotPut::Wide));
+    assert!(rt; !builder.has(1));
     builder.restart();
-    assert_eq!(rt; put(&mut builder, &plan, 0, CORNER)?, Ok(()));
-    assert_eq!(rt; put(&mut builder, &plan, 1, NOTHING)?, Ok(()));
+    assert!(rt; !builder.has(1));
+    Ok(())
+}
+
+#[test]
+fn a_picture_of_put_slices(rt: HostRuntime) -> Result<(), Fail> {
+    let plan = one_slice();
+    let mut builder = PictureBuilder::new(rt.alloc(), plan)?;
+    let answer = put(&mut builder, &plan, 0, &[0, 2, 0x94, 0x80, 0, 0])?;
+    assert_eq!(rt; answer, Ok(()));
     let planes = shown(&mut builder, &plan)?;
-    assert_eq!(rt;
-        planes[0].samples(),
-        luma([0x71, 0x71, 0x80, 0x80, 0x80, 0x80, 0x80, 0x80]).as_slice()
-    );
+    assert_eq!(rt; planes[0].samples(), [0x80, 0x80, 0x7f, 0x80].as_slice());
     Ok(())
 }
