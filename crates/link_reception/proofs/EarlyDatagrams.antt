@@ -1,0 +1,310 @@
+-- A datagram before a session stands: it is judged, and it may open the first one.
+use Rattle.std.proofs.Common.{◌≡◌, ℕ, ◌+◌, ◌≤◌, Bool, false, refl, ap, sym, ◌∙◌, arith}
+use Rattle.std.proofs.Common.{List, [], ◌∷◌, ◌++◌, Option, Some, None, subst}
+use Rattle.std.specs.Prelude.{is_some}
+use Rattle.std.specs.Option.{option_map}
+use Rattle.std.proofs.lemmas.List.{append-nil}
+use Rattle.std.proofs.lemmas.Option.{none-some}
+use Rattle.link_model.specs.Feeders.{Feeder, kept_job, heard_pictures, let_go_pictures, releasable}
+use Rattle.link_model.specs.Feeding.{hears_datagram}
+use Rattle.link_model.specs.Judgement.{outcomes_in, outcome_counts, with_outcome, with_sessions}
+use Rattle.link_model.specs.Machine.{Enter}
+use Rattle.link_model.specs.Next.{feeder_run, all_releasing, taken_back, next_feeder}
+use Rattle.link_model.specs.Numbers.{greatest, least, parts_of, opened_numbers}
+use Rattle.link_model.specs.Output.{let_go_numbers, all_output, last_so_far}
+use Rattle.link_model.specs.Output.{output_so_far, greatest_of}
+use Rattle.link_model.specs.Places.{Answered}
+use Rattle.link_model.specs.Session.{Session, HeardSession, just_opened, hears, sessions_of, begins}
+use Rattle.link_model.specs.Windows.{Window, WindowPast, new_past, new_window, window_of}
+use Rattle.link_model.specs.declared.tally.Tally.{Tally}
+use Rattle.link_model.proofs.Counting.{counts_more}
+use Rattle.link_model.proofs.Hearing.{sessions_of_more, hears_new, hears_on}
+use Rattle.link_model.proofs.SessionOutput.{opening_writes_nothing}
+use Rattle.link_model.proofs.WindowStands.{new_stands}
+use Rattle.link_reception.specs.Entering.{greatest_in, opens_session, takes_datagram, datagram_bytes}
+use Rattle.link_reception.specs.Exchanging.{Exchange, all_exchanged, dones_in}
+use Rattle.link_reception.specs.Judging.{session_opened, opens_after, keeps_datagram}
+use Rattle.link_reception.specs.Judging.{stands_on, judged}
+use Rattle.link_reception.specs.Receptions.{StandingSession, Reception, FirstField}
+use Rattle.link_reception.specs.Receptions.{PictureAnswers, answers_at, kept_answer}
+use Rattle.link_reception.specs.Releasing.{releases_all, one_if}
+use Rattle.link_reception.specs.Standing.{StandsFor, standing_of, all_released}
+use Rattle.link_reception.specs.Standing.{last_past, field_of_sessions, counts_of_sessions}
+use Rattle.link_reception.specs.Standing.{past_fields, past_counts, HasSlots}
+use Rattle.link_reception.proofs.HeardMore.{written_of}
+use Rattle.link_reception.specs.Standing.{out_without}
+use Rattle.link_model.specs.Interleavings.{AreOwnAnswers}
+use Rattle.link_reception.proofs.JudgedOutcomes.{judged_is}
+use Rattle.link_reception.proofs.ReleaseRuns.{none_go}
+use Rattle.link_reception.proofs.HeardMore.{own_stays, room_stays}
+use Rattle.link_reception.proofs.Tallies.{none_released}
+use Rattle.link_reception.proofs.Idle.{IsSame, IsIdle, idle_exchanged, nothing_released}
+use Rattle.link_reception.proofs.Idle.{nothing_written, idle_feeder, idle_releasable, nothing_kept}
+use Rattle.link_reception.proofs.Idle.{nothing_kept_yet, none_stands, no_field, counts_are}
+use Rattle.link_reception.proofs.Idle.{none_gone, none_written}
+
+module _ (r : Reception) (size : ℕ) (small : size ≤ 8) (f : Feeder)
+    (stands : StandsFor r size f) (runs : f.has_ended ≡ false) (at : sessions_of f.heard ≡ [])
+    (xs : List Exchange) where
+  abbrev dones : List Answered
+  dones = dones_in xs
+
+  -- ---- a datagram
+
+  module _ (d : List ℕ) where
+    abbrev r_now : Reception
+    r_now = all_exchanged (keeps_datagram r d) xs
+
+    abbrev f_now : Feeder
+    f_now = hears_datagram f d
+
+    idle_now : (keeps_datagram r d).standing ≡ None
+    unfolding keeps_datagram
+    idle_now = ap (option_map (λ (st : StandingSession). stands_on (session_opened r d) st d))
+        (none_stands r size f stands runs at)
+
+    same_now : IsSame (keeps_datagram r d) r_now
+    same_now = idle_exchanged xs (keeps_datagram r d) idle_now
+
+    standing_now : r_now.standing ≡ None
+    standing_now = same_now.standing ∙ idle_now
+
+    counts_now : r_now.counts ≡ outcome_counts (outcomes_in size (f.heard ++ d ∷ []))
+    unfolding keeps_datagram
+    counts_now = same_now.counts
+        ∙ ap (λ (c : Tally). with_outcome c (judged r d)) (counts_are r size f stands runs at)
+        ∙ ap (with_outcome (outcome_counts (outcomes_in size f.heard)))
+        (judged_is r size f.heard d (none_stands r size f stands runs at
+        ∙ sym (ap (standing_of size false) at)))
+        ∙ sym (counts_more size f.heard d)
+
+    rest_now : (keeps_datagram r d).field ≡ None
+    unfolding keeps_datagram
+    rest_now = (no_field r size f stands runs at)
+
+    size_now : r_now.size ≡ size
+    unfolding keeps_datagram
+    size_now = same_now.size ∙ stands.heard.open_pictures
+
+    ended_now : r_now.has_ended ≡ f.has_ended
+    unfolding keeps_datagram
+    ended_now = same_now.ended ∙ stands.heard.ended
+
+    answers_now : r_now.answers ≡ r.answers
+    unfolding keeps_datagram
+    answers_now = same_now.answers
+
+    opened_now : session_opened r d ≡ begins d
+    opened_now = ap (λ (o : Option StandingSession). opens_after o (begins d))
+        (none_stands r size f stands runs at)
+
+    heard_now : sessions_of (f.heard ++ d ∷ []) ≡ hears [] d
+    heard_now = sessions_of_more f.heard d ∙ ap (λ (l : List HeardSession). hears l d) at
+
+    own_now : AreOwnAnswers size (sessions_of (f.heard ++ d ∷ [])) f.decoded
+    own_now = subst (λ (l : List HeardSession). AreOwnAnswers size l f.decoded)
+        (sym (sessions_of_more f.heard d))
+        (own_stays size small (sessions_of f.heard) d f.decoded stands.own)
+
+    room_now : (n : ℕ) → HasSlots size (sessions_of (f.heard ++ d ∷ [])) n
+        (answers_at r_now.answers n)
+    room_now n = subst (λ (l : List PictureAnswers).
+        HasSlots size (sessions_of (f.heard ++ d ∷ [])) n (answers_at l n)) (sym answers_now)
+        (subst (λ (l : List HeardSession). HasSlots size l n (answers_at r.answers n))
+        (sym (sessions_of_more f.heard d))
+        (room_stays size small (sessions_of f.heard) d n (answers_at r.answers n)
+        (stands.room n)))
+
+    -- no session opens
+    module _ (none : begins d ≡ None) where
+      sessions_now : sessions_of (f.heard ++ d ∷ []) ≡ []
+      sessions_now = heard_now ∙ hears_on [] d none
+
+      still_idle : IsIdle size f_now
+      unfolding let_go_pictures
+      still_idle = record {
+        none_kept = λ n i. ap (λ (l : List HeardSession). kept_job size l n i) sessions_now
+            ∙ nothing_kept size n i;
+        none_gone = ap (λ (over : Bool). let_go_pictures size over
+            (sessions_of (f.heard ++ d ∷ []))) runs
+            ∙ ap (let_go_pictures size false) sessions_now;
+      }
+
+      none_written_now : f.written ≡ written_of size f.has_ended (f.heard ++ d ∷ [])
+      unfolding output_so_far last_so_far
+      none_written_now = (none_written r size f stands runs at)
+          ∙ sym (ap (last_so_far size) sessions_now)
+          ∙ sym (ap (λ (over : Bool). written_of size over (f.heard ++ d ∷ [])) runs)
+
+      idle_stands : StandsFor r_now size f_now
+      idle_stands = record {
+        heard = record {
+          open_pictures = size_now;
+          ended = ended_now;
+          session = standing_now
+              ∙ sym (ap (standing_of size false) sessions_now)
+              ∙ sym (ap (λ (over : Bool). standing_of size over
+              (sessions_of (f.heard ++ d ∷ []))) runs);
+          waiting_field = same_now.field ∙ rest_now
+              ∙ sym (ap (field_of_sessions size false) sessions_now)
+              ∙ sym (ap (λ (over : Bool). field_of_sessions size over
+              (sessions_of (f.heard ++ d ∷ []))) runs);
+          counted = counts_now
+              ∙ sym (ap (λ (l : List HeardSession). counts_of_sessions size false l
+              (outcome_counts (outcomes_in size (f.heard ++ d ∷ [])))) sessions_now)
+              ∙ sym (ap (λ (over : Bool). counts_of_sessions size over
+              (sessions_of (f.heard ++ d ∷ []))
+              (outcome_counts (outcomes_in size (f.heard ++ d ∷ [])))) runs);
+        };
+        released = (none_gone r size f stands runs at) ∙ sym still_idle.none_gone;
+        written = none_written_now;
+        own = own_now;
+        answers = λ n i stays. ap (λ (l : List PictureAnswers). kept_answer l n i) answers_now
+            ∙ stands.answers n i stays;
+        room = room_now;
+        first_field = λ w is. absurd (none-some w (sym (same_now.field ∙ rest_now) ∙ is));
+      }
+
+      pub early_stands : StandsFor (takes_datagram r d xs) size (next_feeder size f (Enter d) dones)
+      unfolding next_feeder takes_datagram
+      early_stands = subst (λ (v : Reception). StandsFor v size
+          (feeder_run size (taken_back size f_now dones)
+          (all_releasing size (taken_back size f_now dones))))
+          (sym (nothing_released r_now standing_now)
+          ∙ sym (ap (λ (o : Option Session). opens_session o (releases_all r_now))
+          (opened_now ∙ none)))
+          (subst (StandsFor r_now size) (sym (idle_feeder size f_now still_idle dones)) idle_stands)
+
+      pub early_writes : (next_feeder size f (Enter d) dones).written
+          ≡ f.written ++ datagram_bytes r d xs
+      unfolding next_feeder datagram_bytes
+      early_writes = ap (λ (g : Feeder). g.written) (idle_feeder size f_now still_idle dones)
+          ∙ sym (append-nil f.written)
+          ∙ sym (ap (λ (l : List ℕ). f.written ++ l) (nothing_written r_now standing_now))
+
+      pub early_out : (takes_datagram r d xs).out
+          ≡ out_without (releasable size (taken_back size f_now dones)) r_now.out
+      unfolding takes_datagram
+      early_out =
+          ap (λ (o : Option Session). (opens_session o (releases_all r_now)).out)
+          (opened_now ∙ none)
+          ∙ ap (λ (v : Reception). v.out) (nothing_released r_now standing_now)
+          ∙ none_go r_now.out
+          ∙ sym (ap (λ (ns : List ℕ). out_without ns r_now.out)
+          (idle_releasable size f_now still_idle dones))
+
+    -- the first one opens
+    module _ (s : Session) (opens : begins d ≡ Some s) where
+      sessions_first : sessions_of (f.heard ++ d ∷ []) ≡ just_opened s ∷ []
+      sessions_first = heard_now ∙ hears_new [] d s opens
+
+      idle_first : IsIdle size f_now
+      unfolding let_go_pictures heard_pictures let_go_numbers opened_numbers greatest least parts_of
+      idle_first = record {
+        none_kept = λ n i. ap (λ (l : List HeardSession). kept_job size l n i) sessions_first
+            ∙ nothing_kept_yet size s n i;
+        none_gone = ap (λ (over : Bool). let_go_pictures size over
+            (sessions_of (f.heard ++ d ∷ []))) runs
+            ∙ ap (let_go_pictures size false) sessions_first;
+      }
+
+      abbrev fresh : WindowPast
+      fresh = all_released (last_past size false [] (just_opened s))
+
+      fresh_is : new_past s.sequence size 0 ≡ fresh
+      unfolding let_go_numbers opened_numbers greatest least parts_of greatest_of
+      fresh_is = refl
+
+      window_first : new_window s.sequence r_now.size (greatest_in r_now.standing)
+          ≡ window_of fresh
+      window_first =
+          ap (λ k. new_window s.sequence k (greatest_in r_now.standing)) size_now
+          ∙ ap (λ (o : Option StandingSession). new_window s.sequence size (greatest_in o))
+          standing_now
+          ∙ (new_stands s.sequence size 0).value
+          ∙ ap window_of fresh_is
+
+      counts_first : (opens_session (Some s) r_now).counts
+          ≡ counts_of_sessions size f.has_ended (sessions_of (f.heard ++ d ∷ []))
+          (outcome_counts (outcomes_in size (f.heard ++ d ∷ [])))
+      unfolding with_sessions
+      counts_first =
+          let all = outcome_counts (outcomes_in size (f.heard ++ d ∷ [])) in
+          let none : all.unpaired + 0 ≡ all.unpaired = omega arith in
+          ap (λ (o : Option FirstField). record r_now.counts {
+            unpaired = r_now.counts.unpaired + one_if (is_some o);
+          }) (same_now.field ∙ rest_now)
+          ∙ ap (λ (c : Tally). record c { unpaired = c.unpaired + 0 }) counts_now
+          ∙ ap (λ k. record all { unpaired = k }) none
+          ∙ sym (none_released s.sequence [] all)
+          ∙ ap (λ (q : WindowPast). past_counts q all) fresh_is
+          ∙ sym (ap (λ (l : List HeardSession). counts_of_sessions size false l all)
+          sessions_first)
+          ∙ sym (ap (λ (over : Bool). counts_of_sessions size over
+          (sessions_of (f.heard ++ d ∷ [])) all) runs)
+
+      written_first : f.written ≡ written_of size f.has_ended (f.heard ++ d ∷ [])
+      unfolding output_so_far all_output
+      written_first = (none_written r size f stands runs at)
+          ∙ sym (opening_writes_nothing size [] s)
+          ∙ sym (ap (last_so_far size) sessions_first)
+          ∙ sym (ap (λ (over : Bool). written_of size over (f.heard ++ d ∷ [])) runs)
+
+      opens_first : StandsFor (opens_session (Some s) r_now) size f_now
+      opens_first = record {
+        heard = record {
+          open_pictures = size_now;
+          ended = ended_now;
+          session =
+              ap (λ (w : Window). (let o : Option StandingSession = Some (record {
+                session = s;
+                has_ended = false;
+                window = w;
+              }) in o)) window_first
+              ∙ sym (ap (standing_of size false) sessions_first)
+              ∙ sym (ap (λ (over : Bool). standing_of size over
+              (sessions_of (f.heard ++ d ∷ []))) runs);
+          waiting_field =
+              ap (λ (q : WindowPast). (past_fields q).waiting) fresh_is
+              ∙ sym (ap (field_of_sessions size false) sessions_first)
+              ∙ sym (ap (λ (over : Bool). field_of_sessions size over
+              (sessions_of (f.heard ++ d ∷ []))) runs);
+          counted = counts_first;
+        };
+        released = (none_gone r size f stands runs at) ∙ sym idle_first.none_gone;
+        written = written_first;
+        own = own_now;
+        answers = λ n i stays. ap (λ (l : List PictureAnswers). kept_answer l n i) answers_now
+            ∙ stands.answers n i stays;
+        room = room_now;
+        first_field = λ w none. absurd (none-some w none);
+      }
+
+      pub first_stands : StandsFor (takes_datagram r d xs) size (next_feeder size f (Enter d) dones)
+      unfolding next_feeder takes_datagram
+      first_stands = subst (λ (v : Reception). StandsFor v size
+          (feeder_run size (taken_back size f_now dones)
+          (all_releasing size (taken_back size f_now dones))))
+          (sym (ap (opens_session (Some s)) (nothing_released r_now standing_now))
+          ∙ sym (ap (λ (o : Option Session). opens_session o (releases_all r_now))
+          (opened_now ∙ opens)))
+          (subst (StandsFor (opens_session (Some s) r_now) size)
+          (sym (idle_feeder size f_now idle_first dones)) opens_first)
+
+      pub first_writes : (next_feeder size f (Enter d) dones).written
+          ≡ f.written ++ datagram_bytes r d xs
+      unfolding next_feeder datagram_bytes
+      first_writes = ap (λ (g : Feeder). g.written) (idle_feeder size f_now idle_first dones)
+          ∙ sym (append-nil f.written)
+          ∙ sym (ap (λ (l : List ℕ). f.written ++ l) (nothing_written r_now standing_now))
+
+      pub first_out : (takes_datagram r d xs).out
+          ≡ out_without (releasable size (taken_back size f_now dones)) r_now.out
+      unfolding takes_datagram
+      first_out =
+          ap (λ (o : Option Session). (opens_session o (releases_all r_now)).out)
+          (opened_now ∙ opens)
+          ∙ ap (λ (v : Reception). v.out) (nothing_released r_now standing_now)
+          ∙ none_go r_now.out
+          ∙ sym (ap (λ (ns : List ℕ). out_without ns r_now.out)
+          (idle_releasable size f_now idle_first dones))

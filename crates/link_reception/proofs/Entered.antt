@@ -1,0 +1,299 @@
+-- A datagram and the end of the input: the receiver stands for what was heard, and it wrote what is
+-- due.
+use Rattle.std.proofs.Common.{◌≡◌, ℕ, ◌≤◌, Bool, true, false, refl, ap, sym, ◌∙◌}
+use Rattle.std.proofs.Common.{List, [], ◌∷◌, ◌++◌, Option, Some, None, subst, cond, map}
+use Rattle.std.specs.Prelude.{◌&&◌, not}
+use Rattle.std.specs.List.{flat_map}
+use Rattle.std.proofs.lemmas.List.Sums.{fold-append}
+use Rattle.link_model.specs.Feeders.{Feeder, is_decoded, keeps_now, releasable}
+use Rattle.link_model.specs.Feeding.{hears_datagram, hears_end, takes_answer, with_answer, has_job}
+use Rattle.link_model.specs.Feeding.{releases_picture}
+use Rattle.link_model.specs.Machine.{Enter, Finish, Redo, Release, feeder_after}
+use Rattle.link_model.specs.Next.{feeder_run, all_releasing, taken_back, next_feeder}
+use Rattle.link_model.specs.Next.{unanswered, releasing}
+use Rattle.link_model.specs.Places.{Answered}
+use Rattle.link_model.specs.Session.{Session, HeardSession, sessions_of, opens_behind, begins}
+use Rattle.link_model.specs.Windows.{WindowPast}
+use Rattle.link_model.specs.declared.tally.Tally.{Tally}
+use Rattle.link_reception.specs.Entering.{opens_session, before_releases, takes_datagram}
+use Rattle.link_reception.specs.Entering.{datagram_bytes, takes_end, end_bytes}
+use Rattle.link_reception.specs.Exchanging.{Exchange, all_exchanged, dones_in}
+use Rattle.link_reception.specs.Judging.{goes_on, is_over, keeps_datagram, ends_input}
+use Rattle.link_reception.specs.Receptions.{StandingSession, Reception}
+use Rattle.link_reception.specs.Releasing.{releases_all, all_released_bytes}
+use Rattle.link_reception.specs.Standing.{StandsFor, AreDecodings, all_released, out_without}
+use Rattle.link_reception.proofs.Redone.{redone, redo_run}
+use Rattle.link_reception.proofs.ReleaseRuns.{all_run, releasable_are}
+use Rattle.link_reception.proofs.Resting.{rest_stands, next_stands, end_stands}
+use Rattle.link_reception.proofs.Starting.{datagram_works, next_works, end_works, past_at_rest}
+use Rattle.link_reception.proofs.Starting.{st_at_rest, past_now, past_over, h_now, sessions_now}
+use Rattle.link_reception.proofs.Starting.{sessions_next, tally_behind, opened_is}
+use Rattle.link_reception.proofs.Working.{IsWorking, all_working}
+
+-- ---- answers change nothing else
+
+pub record HasMoreAnswers (f g : Feeder) : Type 0 where
+  pub heard : g.heard ≡ f.heard
+  pub ended : g.has_ended ≡ f.has_ended
+  pub written : g.written ≡ f.written
+
+one_answer : (size : ℕ) (f : Feeder) (done : Answered)
+    → HasMoreAnswers f (takes_answer size f done)
+one_answer size f done = by_test (has_job size f done.job
+    && not (is_decoded f done.job.number done.job.index))
+  where
+    by_test : (b : Bool) → HasMoreAnswers f (cond b (with_answer f done) f)
+    by_test true = record { heard = refl; ended = refl; written = refl }
+    by_test false = record { heard = refl; ended = refl; written = refl }
+
+more_answers : (size : ℕ) (dones : List Answered) (f : Feeder)
+    → HasMoreAnswers f (taken_back size f dones)
+more_answers size [] f = record { heard = refl; ended = refl; written = refl }
+more_answers size (done ∷ dones) f =
+    let one = one_answer size f done in
+    let rest = more_answers size dones (takes_answer size f done) in
+    record {
+      heard = rest.heard ∙ one.heard;
+      ended = rest.ended ∙ one.ended;
+      written = rest.written ∙ one.written;
+    }
+
+-- ---- what was heard
+
+module _ (size : ℕ) (f : Feeder) where
+  one_release : (g : Feeder) (n : ℕ)
+      → ((feeder_run size g (releasing size f n)).heard ≡ g.heard)
+      × ((feeder_run size g (releasing size f n)).has_ended ≡ g.has_ended)
+  one_release g n =
+      let is = unanswered f n (keeps_now size f n) in
+      let run : feeder_run size g (releasing size f n)
+      ≡ releases_picture size
+      (record g { decoded = redone size (sessions_of g.heard) n is g.decoded }) n =
+      fold-append (feeder_after size) g (map (Redo n) is) (Release n ∷ [])
+      ∙ ap (λ (v : Feeder). releases_picture size v n) (redo_run size n is g) in
+      (ap (λ (v : Feeder). v.heard) run, ap (λ (v : Feeder). v.has_ended) run)
+
+  releases_heard : (ns : List ℕ) (g : Feeder)
+      → ((feeder_run size g (flat_map (releasing size f) ns)).heard ≡ g.heard)
+      × ((feeder_run size g (flat_map (releasing size f) ns)).has_ended ≡ g.has_ended)
+  releases_heard [] g = (refl, refl)
+  releases_heard (n ∷ ns) g =
+      let later = flat_map (releasing size f) ns in
+      let run : feeder_run size g (releasing size f n ++ later)
+      ≡ feeder_run size (feeder_run size g (releasing size f n)) later =
+      fold-append (feeder_after size) g (releasing size f n) later in
+      let rest = releases_heard ns (feeder_run size g (releasing size f n)) in
+      let one = one_release g n in (
+        ap (λ (v : Feeder). v.heard) run ∙ rest.0 ∙ one.0,
+        ap (λ (v : Feeder). v.has_ended) run ∙ rest.1 ∙ one.1,
+      )
+
+module _ (size : ℕ) (f : Feeder) where
+  pub heard_again : (d : List ℕ) (xs : List Exchange)
+      → ((next_feeder size f (Enter d) (dones_in xs)).heard ≡ f.heard ++ d ∷ [])
+      × ((next_feeder size f (Enter d) (dones_in xs)).has_ended ≡ f.has_ended)
+  unfolding next_feeder
+  heard_again d xs =
+      let more = more_answers size (dones_in xs) (hears_datagram f d) in
+      let taken = taken_back size (hears_datagram f d) (dones_in xs) in
+      let all = releases_heard size taken (releasable size taken) taken in
+      (all.0 ∙ more.heard, all.1 ∙ more.ended)
+
+  pub heard_still : (xs : List Exchange)
+      → ((next_feeder size f Finish (dones_in xs)).heard ≡ f.heard)
+      × ((next_feeder size f Finish (dones_in xs)).has_ended ≡ true)
+  unfolding next_feeder
+  heard_still xs =
+      let more = more_answers size (dones_in xs) (hears_end f) in
+      let taken = taken_back size (hears_end f) (dones_in xs) in
+      let all = releases_heard size taken (releasable size taken) taken in
+      (all.0 ∙ more.heard, all.1 ∙ more.ended)
+
+-- ---- all that may be released is
+
+-- the receiver and the feeder behind the releases
+record Done (size : ℕ) (hs : List HeardSession) (t : Tally) (r : Reception) (f : Feeder)
+    (st : StandingSession) (p : WindowPast) : Type 0 where
+  pub standing : StandingSession
+  pub works : IsWorking (releases_all r) size (feeder_run size f (all_releasing size f)) hs
+      (all_released p) standing t
+  pub session : standing.session ≡ st.session
+  pub has_ended : standing.has_ended ≡ st.has_ended
+  pub written : (feeder_run size f (all_releasing size f)).written
+      ≡ f.written ++ all_released_bytes r
+  pub heard : (feeder_run size f (all_releasing size f)).heard ≡ f.heard
+  pub over : (feeder_run size f (all_releasing size f)).has_ended ≡ f.has_ended
+  pub out : (releases_all r).out ≡ out_without (releasable size f) r.out
+
+all_done : (size : ℕ) (hs : List HeardSession) (t : Tally) (r : Reception) (f : Feeder)
+    (st : StandingSession) (p : WindowPast) → IsWorking r size f hs p st t
+    → Done size hs t r f st p
+all_done size hs t r f st p works =
+    let ran = all_run size hs t r f p st works in
+    record {
+      standing = ran.standing;
+      works = subst (λ (l : List ℕ). IsWorking (releases_all r) size
+          (feeder_run size f (all_releasing size f)) hs (record p { released = l })
+          ran.standing t) (sym works.window.in_order) ran.works;
+      session = ran.session;
+      has_ended = ran.has_ended;
+      written = ran.written;
+      heard = ran.heard;
+      over = ran.over;
+      out = ran.out ∙ ap (λ (ns : List ℕ). out_without ns r.out)
+          (sym (releasable_are size hs t r f p st works));
+    }
+
+-- ---- with a session that stands
+
+module _ (r : Reception) (size : ℕ) (small : size ≤ 8) (f : Feeder) (stands : StandsFor r size f)
+    (runs : f.has_ended ≡ false) (h : HeardSession) (hs : List HeardSession)
+    (at : sessions_of f.heard ≡ h ∷ hs) (xs : List Exchange) (right : AreDecodings (dones_in xs))
+  where
+    abbrev dones : List Answered
+    dones = dones_in xs
+
+    module _ (d : List ℕ) where
+      abbrev taken : Feeder
+      taken = taken_back size (hears_datagram f d) dones
+
+      abbrev tally : Tally
+      tally = tally_behind size hs (f.heard ++ d ∷ [])
+
+      taken_more : HasMoreAnswers (hears_datagram f d) taken
+      taken_more = more_answers size dones (hears_datagram f d)
+
+      -- it goes on
+      module _ (none : opens_behind h (begins d) ≡ None) where
+        done_now : Done size hs tally (before_releases r d xs) taken
+            (goes_on (st_at_rest r size small f stands runs h hs at) d)
+            (past_now r size small f stands runs h hs at d none)
+        done_now = all_done size hs tally (before_releases r d xs) taken
+            (goes_on (st_at_rest r size small f stands runs h hs at) d)
+            (past_now r size small f stands runs h hs at d none)
+            (all_working size hs (past_now r size small f stands runs h hs at d none)
+            (goes_on (st_at_rest r size small f stands runs h hs at) d) tally xs
+            (keeps_datagram r d) (hears_datagram f d)
+            (datagram_works r size small f stands runs h hs at d none) right)
+
+        heard_now : (next_feeder size f (Enter d) dones).heard ≡ f.heard ++ d ∷ []
+        unfolding next_feeder
+        heard_now = done_now.heard ∙ taken_more.heard
+
+        pub on_stands : StandsFor (takes_datagram r d xs) size (next_feeder size f (Enter d) dones)
+        unfolding next_feeder takes_datagram
+        on_stands = subst (λ (o : Option Session). StandsFor
+            (opens_session o (releases_all (before_releases r d xs))) size
+            (feeder_run size taken (all_releasing size taken)))
+            (sym (opened_is r size small f stands runs h hs at d ∙ none))
+            (rest_stands (releases_all (before_releases r d xs)) size
+            (feeder_run size taken (all_releasing size taken))
+            (h_now r size small f stands runs h hs at d none) hs false done_now.standing tally
+            done_now.works done_now.session done_now.has_ended
+            (ap (tally_behind size hs) (sym heard_now))
+            (ap sessions_of heard_now ∙ sessions_now r size small f stands runs h hs at d none)
+            refl (done_now.over ∙ taken_more.ended ∙ runs))
+
+        pub on_writes : (next_feeder size f (Enter d) dones).written
+            ≡ f.written ++ datagram_bytes r d xs
+        unfolding next_feeder datagram_bytes
+        on_writes = done_now.written
+            ∙ ap (λ (l : List ℕ). l ++ all_released_bytes (before_releases r d xs))
+            taken_more.written
+
+        pub on_out : (takes_datagram r d xs).out
+            ≡ out_without (releasable size taken) (before_releases r d xs).out
+        unfolding takes_datagram
+        on_out = ap (λ (o : Option Session).
+            (opens_session o (releases_all (before_releases r d xs))).out)
+            (opened_is r size small f stands runs h hs at d ∙ none)
+            ∙ done_now.out
+
+      -- or the next session opens
+      module _ (s : Session) (opens : opens_behind h (begins d) ≡ Some s) where
+        done_next : Done size hs tally (before_releases r d xs) taken
+            (is_over (st_at_rest r size small f stands runs h hs at))
+            (past_over r size small f stands runs h hs at d s opens)
+        done_next = all_done size hs tally (before_releases r d xs) taken
+            (is_over (st_at_rest r size small f stands runs h hs at))
+            (past_over r size small f stands runs h hs at d s opens)
+            (all_working size hs (past_over r size small f stands runs h hs at d s opens)
+            (is_over (st_at_rest r size small f stands runs h hs at)) tally xs
+            (keeps_datagram r d) (hears_datagram f d)
+            (next_works r size small f stands runs h hs at d s opens) right)
+
+        heard_next : (next_feeder size f (Enter d) dones).heard ≡ f.heard ++ d ∷ []
+        unfolding next_feeder
+        heard_next = done_next.heard ∙ taken_more.heard
+
+        pub opens_stands : StandsFor (takes_datagram r d xs) size
+            (next_feeder size f (Enter d) dones)
+        unfolding next_feeder takes_datagram
+        opens_stands = subst (λ (o : Option Session). StandsFor
+            (opens_session o (releases_all (before_releases r d xs))) size
+            (feeder_run size taken (all_releasing size taken)))
+            (sym (opened_is r size small f stands runs h hs at d ∙ opens))
+            (next_stands (releases_all (before_releases r d xs)) size
+            (feeder_run size taken (all_releasing size taken)) h hs true done_next.standing tally
+            done_next.works done_next.session done_next.has_ended
+            (ap (tally_behind size hs) (sym heard_next)) refl s
+            (ap sessions_of heard_next
+            ∙ sessions_next r size small f stands runs h hs at d s opens)
+            (done_next.over ∙ taken_more.ended ∙ runs))
+
+        pub opens_writes : (next_feeder size f (Enter d) dones).written
+            ≡ f.written ++ datagram_bytes r d xs
+        unfolding next_feeder datagram_bytes
+        opens_writes = done_next.written
+            ∙ ap (λ (l : List ℕ). l ++ all_released_bytes (before_releases r d xs))
+            taken_more.written
+
+        pub opens_out : (takes_datagram r d xs).out
+            ≡ out_without (releasable size taken) (before_releases r d xs).out
+        unfolding takes_datagram
+        opens_out = ap (λ (o : Option Session).
+            (opens_session o (releases_all (before_releases r d xs))).out)
+            (opened_is r size small f stands runs h hs at d ∙ opens)
+            ∙ done_next.out
+
+    -- ---- the end of the input
+
+    abbrev taken_end : Feeder
+    taken_end = taken_back size (hears_end f) dones
+
+    end_more : HasMoreAnswers (hears_end f) taken_end
+    end_more = more_answers size dones (hears_end f)
+
+    done_end : Done size hs (tally_behind size hs f.heard) (all_exchanged (ends_input r) xs)
+        taken_end (is_over (st_at_rest r size small f stands runs h hs at))
+        (record (past_at_rest r size small f stands runs h hs at) { is_ended = true })
+    done_end = all_done size hs (tally_behind size hs f.heard) (all_exchanged (ends_input r) xs)
+        taken_end (is_over (st_at_rest r size small f stands runs h hs at))
+        (record (past_at_rest r size small f stands runs h hs at) { is_ended = true })
+        (all_working size hs
+        (record (past_at_rest r size small f stands runs h hs at) { is_ended = true })
+        (is_over (st_at_rest r size small f stands runs h hs at)) (tally_behind size hs f.heard) xs
+        (ends_input r) (hears_end f) (end_works r size small f stands runs h hs at) right)
+
+    heard_end : (next_feeder size f Finish dones).heard ≡ f.heard
+    unfolding next_feeder
+    heard_end = done_end.heard ∙ end_more.heard
+
+    pub finish_stands : StandsFor (takes_end r xs) size (next_feeder size f Finish dones)
+    unfolding next_feeder takes_end
+    finish_stands = end_stands (releases_all (all_exchanged (ends_input r) xs)) size
+        (feeder_run size taken_end (all_releasing size taken_end)) h hs true done_end.standing
+        (tally_behind size hs f.heard) done_end.works done_end.session done_end.has_ended
+        (ap (tally_behind size hs) (sym heard_end)) refl (ap sessions_of heard_end ∙ at)
+        (done_end.over ∙ end_more.ended)
+
+    pub finish_writes : (next_feeder size f Finish dones).written ≡ f.written ++ end_bytes r xs
+    unfolding next_feeder end_bytes
+    finish_writes = done_end.written
+        ∙ ap (λ (l : List ℕ). l ++ all_released_bytes (all_exchanged (ends_input r) xs))
+        end_more.written
+
+    pub finish_out : (takes_end r xs).out
+        ≡ out_without (releasable size taken_end) (all_exchanged (ends_input r) xs).out
+    unfolding takes_end
+    finish_out = done_end.out

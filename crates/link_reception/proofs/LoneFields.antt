@@ -1,0 +1,365 @@
+-- The fields that were found to be alone one after another are the unpaired ones.
+use Rattle.std.proofs.Common.{◌≡◌, ℕ, ◌+◌, ◌-◌, ◌%◌, ◌<◌, ◌≤◌, Bool, true, false, refl, ap, sym}
+use Rattle.std.proofs.Common.{List, [], ◌∷◌, Option, Some, None, ◌∙◌, arith, cond, inl, inr}
+use Rattle.std.specs.Prelude.{◌==◌, ◌&&◌, ◌||◌, is_some, not, fold, count_by, filter, length}
+use Rattle.std.specs.Option.{option_map}
+use Rattle.std.proofs.lemmas.Bool.{cases_Bool, cases_eq, cases_lt, cond-true, cond-false, eqb-true}
+use Rattle.std.proofs.lemmas.Bool.{eq-eqb, ne_eqb, false≢true, both_ways, false_from_ne_true}
+use Rattle.std.proofs.lemmas.List.Sums.{length-filter}
+use Rattle.std.proofs.lemmas.Option.{none-some}
+use Rattle.link_model.specs.Feeders.{is_among}
+use Rattle.link_model.specs.Judgement.{has_planes, partner, is_unpaired}
+use Rattle.link_model.specs.Numbers.{Numbered}
+use Rattle.link_model.specs.Output.{planes_at, woven_fields}
+use Rattle.vc_types.specs.Planes.{Planes}
+use Rattle.vc_types.specs.SequenceHeader.{Sequence}
+use Rattle.link_reception.specs.Receptions.{FirstField}
+use Rattle.link_reception.specs.Releasing.{as_first, field_before, field_behind, released_frame}
+use Rattle.link_reception.specs.Releasing.{fields_alone, one_if}
+use Rattle.link_reception.specs.Standing.{Fields, no_fields, next_field, fields_behind}
+use Rattle.link_reception.proofs.ReleasedNumbers.{AreRising, among_rising}
+use Rattle.link_reception.proofs.WaitingFields.{first_is}
+
+-- how many pass
+count_first : (test : ℕ → Bool) (n : ℕ) (ns : List ℕ)
+    → count_by test (n ∷ ns) ≡ one_if (test n) + count_by test ns
+count_first test n ns =
+    omega (
+      arith,
+      length-filter test (n ∷ ns),
+      length-filter test ns,
+      one (test n) (filter test ns),
+    )
+  where
+    one : (b : Bool) (l : List ℕ) → length (cond b (n ∷ l) l) ≡ one_if b + length l
+    one true l = omega arith
+    one false l = omega arith
+
+module _ (s : Sequence) (es : List Numbered) where
+  abbrev found : ℕ → Bool
+  found n = is_some (planes_at s es n)
+
+  abbrev after : Fields → List ℕ → Fields
+  after x ns = fold (next_field s es) x ns
+
+  -- ---- with frame coding there are none
+
+  module _ (frames : s.fields ≡ false) where
+    none_waits : (n : ℕ) (planes : Option Planes) → field_behind s n planes ≡ None
+    none_waits n planes =
+        ap (λ (b : Bool). cond (b && n % 2 == 0) (option_map (as_first n) planes) None) frames
+
+    none_alone : (n : ℕ) (planes : Option Planes) → fields_alone s None n planes ≡ 0
+    none_alone n planes =
+        ap (λ (b : Bool). cond (is_some (released_frame s None n planes)) 0
+        (0 + one_if (b && n % 2 == 1 && is_some planes))) frames
+        ∙ by_frame (is_some (released_frame s None n planes))
+      where
+        by_frame : (b : Bool) → cond b 0 (0 + 0) ≡ 0
+        by_frame true = refl
+        by_frame false = refl
+
+    frames_after : (ns : List ℕ) (x : Fields) → x.waiting ≡ None
+        → ((after x ns).alone ≡ x.alone) × ((after x ns).waiting ≡ None)
+    frames_after [] x none = (refl, none)
+    frames_after (n ∷ ns) x none =
+        let rest = frames_after ns (next_field s es x n) (none_waits n (planes_at s es n)) in (
+          rest.0 ∙ alone_same,
+          rest.1,
+        )
+      where
+        alone_same : x.alone + fields_alone s x.waiting n (planes_at s es n) ≡ x.alone
+        alone_same =
+            ap (λ (w : Option FirstField). x.alone + fields_alone s w n (planes_at s es n)) none
+            ∙ omega (arith, none_alone n (planes_at s es n))
+
+    none_unpaired : (ns : List ℕ) → count_by (is_unpaired s es) ns ≡ 0
+    none_unpaired [] = omega (arith, length-filter (is_unpaired s es) [])
+    none_unpaired (n ∷ ns) = omega (
+      arith,
+      count_first (is_unpaired s es) n ns,
+      none_unpaired ns,
+      ap (λ (b : Bool). one_if (b && has_planes s es n && not (has_planes s es (partner n))))
+          frames,
+    )
+
+  -- ---- with field coding
+
+  module _ (coding : s.fields ≡ true) where
+    -- whether a field that waits stays alone
+    abbrev debt : Option FirstField → ℕ
+    debt None = 0
+    debt (Some w) = one_if (not (found (w.number + 1)))
+
+    unpaired_is : (n : ℕ) → is_unpaired s es n ≡ (found n && not (found (partner n)))
+    unpaired_is n =
+        ap (λ (b : Bool). b && has_planes s es n && not (has_planes s es (partner n))) coding
+
+    alone_is : (w : Option FirstField) (n : ℕ) → fields_alone s w n (planes_at s es n)
+        ≡ cond (is_some (cond (n % 2 == 1)
+        (woven_fields s.top_first (field_before w n) (planes_at s es n)) None)) 0
+        (one_if (is_some w) + one_if (n % 2 == 1 && found n))
+    alone_is w n = ap (λ (b : Bool). cond (is_some (cond b (cond (n % 2 == 1)
+        (woven_fields s.top_first (field_before w n) (planes_at s es n)) None) (planes_at s es n)))
+        0 (one_if (is_some w) + one_if (b && n % 2 == 1 && found n))) coding
+
+    behind_is : (n : ℕ) → field_behind s n (planes_at s es n)
+        ≡ cond (n % 2 == 0) (option_map (as_first n) (planes_at s es n)) None
+    behind_is n = ap (λ (b : Bool). cond (b && n % 2 == 0)
+        (option_map (as_first n) (planes_at s es n)) None) coding
+
+    no_frame : (b : Bool) (o : Option Planes) → is_some (woven_fields b None o) ≡ false
+    no_frame b None = refl
+    no_frame b (Some planes) = refl
+
+    a_frame : (b : Bool) (first : Planes) (o : Option Planes)
+        → is_some (woven_fields b (Some first) o) ≡ is_some o
+    a_frame b first None = refl
+    a_frame b first (Some planes) = refl
+
+    -- behind the pictures before a number, of which these are left
+    record IsReady (bound : ℕ) (ns : List ℕ) (w : Option FirstField) : Type 0 where
+      pub rises : AreRising bound ns
+      pub left : (k : ℕ) → bound ≤ k → found k ≡ true → is_among ns k ≡ true
+      pub waits : (v : FirstField) → w ≡ Some v
+          → (v.number + 1 ≡ bound) × (planes_at s es v.number ≡ Some v.planes)
+          × ((v.number % 2 == 0) ≡ true)
+      pub waited : (k : ℕ) → k + 1 ≡ bound → (k % 2 == 0) ≡ true → found k ≡ true
+          → is_some w ≡ true
+
+    -- what isn't left has no planes
+    missing : (bound n : ℕ) (ns : List ℕ) (w : Option FirstField) → IsReady bound (n ∷ ns) w
+        → (k : ℕ) → bound ≤ k → k < n → found k ≡ false
+    missing bound n ns w ready k from less = false_from_ne_true (found k)
+        (λ is. let low = among_rising k n (n ∷ ns) (omega arith, ready.rises.1)
+        (ready.left k from is) in omega (arith, low, less))
+
+    -- what n is, by its parity
+    abbrev alone_by : Bool → Option FirstField → ℕ → Option Planes → ℕ
+    alone_by odd w n planes = cond (is_some (cond odd
+        (woven_fields s.top_first (field_before w n) planes) None)) 0
+        (one_if (is_some w) + one_if (odd && is_some planes))
+
+    -- a first field that waits is alone, where a later one comes that isn't its second
+    module _ (bound n : ℕ) (ns : List ℕ) (w : Option FirstField)
+        (ready : IsReady bound (n ∷ ns) w) where
+      owes : (m : ℕ) → m + 1 ≡ bound → bound < n → one_if (not (found (m + 1))) ≡ 1
+      owes m at less = ap (λ (b : Bool). one_if (not b))
+          (missing bound n ns w ready (m + 1) (omega (arith, at)) (omega (arith, at, less)))
+
+      from : bound ≤ n
+      from = ready.rises.0
+
+      -- an even one
+      module _ (even : (n % 2 == 0) ≡ true) where
+        is_even : n % 2 ≡ 0
+        is_even = eqb-true (n % 2) 0 even
+
+        odd_not : (n % 2 == 1) ≡ false
+        odd_not = ne_eqb (n % 2) 1 (λ e. omega (arith, e, is_even))
+
+        debt_now : debt (option_map (as_first n) (planes_at s es n))
+            ≡ one_if (found n && not (found (n + 1)))
+        debt_now = by_planes (planes_at s es n)
+          where
+            by_planes : (o : Option Planes) → debt (option_map (as_first n) o)
+                ≡ one_if (is_some o && not (found (n + 1)))
+            by_planes None = refl
+            by_planes (Some planes) = refl
+
+        debt_before : one_if (is_some w) ≡ debt w
+        debt_before = by_field w refl
+          where
+            by_field : (o : Option FirstField) → w ≡ o → one_if (is_some o) ≡ debt o
+            by_field None is = refl
+            by_field (Some v) is =
+                let waits = ready.waits v is in
+                let low : v.number % 2 ≡ 0 = eqb-true (v.number % 2) 0 waits.2 in
+                sym (owes v.number waits.0 (omega (arith, from, waits.0, low, is_even)))
+
+        even_step : fields_alone s w n (planes_at s es n)
+            + debt (field_behind s n (planes_at s es n)) ≡ one_if (is_unpaired s es n) + debt w
+        even_step =
+            let a : fields_alone s w n (planes_at s es n) ≡ one_if (is_some w) + 0 =
+            alone_is w n ∙ ap (λ (b : Bool). alone_by b w n (planes_at s es n)) odd_not in
+            let b : debt (field_behind s n (planes_at s es n))
+            ≡ one_if (found n && not (found (n + 1))) =
+            ap debt (behind_is n ∙ ap (λ (b : Bool).
+            cond b (option_map (as_first n) (planes_at s es n)) None) even) ∙ debt_now in
+            let c : one_if (is_unpaired s es n) ≡ one_if (found n && not (found (n + 1))) =
+            ap one_if (unpaired_is n) ∙ ap (λ (b : Bool).
+            one_if (found n && not (found (cond b (n + 1) (n - 1))))) even in
+            omega (arith, a, b, c, debt_before)
+
+      -- an odd one
+      module _ (odd : (n % 2 == 1) ≡ true) where
+        is_odd : n % 2 ≡ 1
+        is_odd = eqb-true (n % 2) 1 odd
+
+        even_not : (n % 2 == 0) ≡ false
+        even_not = ne_eqb (n % 2) 0 (λ e. omega (arith, e, is_odd))
+
+        -- the field before has no planes, unless it waits
+        none_before : (bound ≡ n → is_some w ≡ false) → found (n - 1) ≡ false
+        none_before alone = elim (cases_lt bound n) [
+          | inl less ↦ missing bound n ns w ready (n - 1) (omega (arith, less))
+              (omega (arith, is_odd))
+          | inr more ↦ (let same : bound ≡ n = omega (arith, more, from) in
+              false_from_ne_true (found (n - 1)) (λ is. both_ways (is_some w) (alone same)
+              (ready.waited (n - 1) (omega (arith, same, is_odd))
+              (eq-eqb ((n - 1) % 2) 0 (omega (arith, is_odd))) is)))
+        ]
+
+        abbrev frame_of_it : Option Planes
+        frame_of_it = woven_fields s.top_first (field_before w n) (planes_at s es n)
+
+        -- nothing is woven: what waited is alone, and so is this one
+        unwoven : field_before w n ≡ None → one_if (is_some w) ≡ debt w
+            → found (n - 1) ≡ false
+            → alone_by true w n (planes_at s es n)
+            ≡ one_if (found n && not (found (n - 1))) + debt w
+        unwoven none owed missing =
+            let a : alone_by true w n (planes_at s es n) ≡ one_if (is_some w) + one_if (found n) =
+            ap (λ (o : Option Planes). cond (is_some (woven_fields s.top_first o
+            (planes_at s es n))) 0 (one_if (is_some w) + one_if (true && found n))) none
+            ∙ ap (λ (b : Bool). cond b 0 (one_if (is_some w) + one_if (found n)))
+            (no_frame s.top_first (planes_at s es n)) in
+            let b : one_if (found n && not (found (n - 1))) ≡ one_if (found n) =
+            ap (λ (b : Bool). one_if (found n && not b)) missing ∙ and_true (found n) in
+            omega (arith, a, b, owed)
+          where
+            and_true : (b : Bool) → one_if (b && true) ≡ one_if b
+            and_true true = refl
+            and_true false = refl
+
+        by_field : (o : Option FirstField) → w ≡ o → alone_by true w n (planes_at s es n)
+            ≡ one_if (found n && not (found (n - 1))) + debt w
+        by_field None is = unwoven (ap (λ (v : Option FirstField). field_before v n) is)
+            (ap (λ (v : Option FirstField). one_if (is_some v)) is ∙ sym (ap debt is))
+            (none_before (λ same. ap (λ (v : Option FirstField). is_some v) is))
+        by_field (Some v) is = elim (cases_eq (v.number + 1) n) [
+          | inl second ↦ woven second
+          | inr other ↦ (let waits = ready.waits v is in
+              let less : bound < n = omega (arith, from, waits.0, other) in
+              unwoven (ap (λ (v : Option FirstField). field_before v n) is
+              ∙ cond-false (v.number + 1 == n) (Some v.planes) None
+              (ne_eqb (v.number + 1) n other))
+              (ap (λ (v : Option FirstField). one_if (is_some v)) is
+              ∙ sym (owes v.number waits.0 less) ∙ sym (ap debt is))
+              (none_before (λ same. absurd (omega (arith, same, less)))))
+        ]
+          where
+            woven : v.number + 1 ≡ n → alone_by true w n (planes_at s es n)
+                ≡ one_if (found n && not (found (n - 1))) + debt w
+            woven second =
+                let waits = ready.waits v is in
+                let low : v.number ≡ n - 1 = omega (arith, second) in
+                let first : found (n - 1) ≡ true =
+                ap found (sym low) ∙ ap (λ (o : Option Planes). is_some o) waits.1 in
+                ap (λ (u : Option FirstField). alone_by true u n (planes_at s es n)) is
+                ∙ ap (λ (o : Option Planes). cond (is_some (woven_fields s.top_first o
+                (planes_at s es n))) 0 (1 + one_if (true && found n)))
+                (cond-true (v.number + 1 == n) (Some v.planes) None
+                (eq-eqb (v.number + 1) n second))
+                ∙ ap (λ (b : Bool). cond b 0 (1 + one_if (found n)))
+                (a_frame s.top_first v.planes (planes_at s es n))
+                ∙ by_second (found n)
+                ∙ sym (ap (λ (b : Bool). one_if (found n && not b) + one_if (not (found n))) first)
+                ∙ ap (λ k. one_if (found n && not (found (n - 1))) + one_if (not (found k)))
+                (sym second)
+                ∙ sym (ap (λ (u : Option FirstField).
+                one_if (found n && not (found (n - 1))) + debt u) is)
+              where
+                by_second : (b : Bool) → cond b 0 (1 + one_if b)
+                    ≡ one_if (b && not true) + one_if (not b)
+                by_second true = refl
+                by_second false = refl
+
+        odd_step : fields_alone s w n (planes_at s es n)
+            + debt (field_behind s n (planes_at s es n)) ≡ one_if (is_unpaired s es n) + debt w
+        odd_step =
+            let a : fields_alone s w n (planes_at s es n)
+            ≡ one_if (found n && not (found (n - 1))) + debt w =
+            alone_is w n
+            ∙ ap (λ (b : Bool). alone_by b w n (planes_at s es n)) odd
+            ∙ by_field w refl in
+            let b : debt (field_behind s n (planes_at s es n)) ≡ 0 =
+            ap debt (behind_is n ∙ ap (λ (b : Bool).
+            cond b (option_map (as_first n) (planes_at s es n)) None) even_not) in
+            let c : one_if (is_unpaired s es n) ≡ one_if (found n && not (found (n - 1))) =
+            ap one_if (unpaired_is n) ∙ ap (λ (b : Bool).
+            one_if (found n && not (found (cond b (n + 1) (n - 1))))) even_not in
+            omega (arith, a, b, c)
+
+      step : fields_alone s w n (planes_at s es n) + debt (field_behind s n (planes_at s es n))
+          ≡ one_if (is_unpaired s es n) + debt w
+      step = elim (cases_eq (n % 2) 0) [
+        | inl even ↦ even_step (eq-eqb (n % 2) 0 even)
+        | inr other ↦ odd_step (eq-eqb (n % 2) 1 (omega (arith, other)))
+      ]
+
+      ready_behind : IsReady (n + 1) ns (field_behind s n (planes_at s es n))
+      ready_behind = record {
+        rises = ready.rises.1;
+        left = λ k above is. later k above (ready.left k (omega (arith, above, from)) is);
+        waits = λ v is. (let first = first_is s n (planes_at s es n) v is in (
+          ap (λ k. k + 1) first.number,
+          ap (planes_at s es) first.number ∙ first.planes_are,
+          ap (λ k. k % 2 == 0) first.number ∙ first.even,
+        ));
+        waited = λ k at even is. (let here : k ≡ n = omega (arith, at) in
+            ap (λ (o : Option FirstField). is_some o) (behind_is n)
+            ∙ ap (λ (b : Bool).
+            is_some (cond b (option_map (as_first n) (planes_at s es n)) None))
+            (sym (ap (λ k. k % 2 == 0) here) ∙ even)
+            ∙ by_planes (planes_at s es n) (sym (ap found here) ∙ is));
+      }
+        where
+          later : (k : ℕ) → n + 1 ≤ k → is_among (n ∷ ns) k ≡ true → is_among ns k ≡ true
+          later k above there = sym (ap (λ (b : Bool). b || is_among ns k)
+              (ne_eqb n k (λ same. omega (arith, same, above)))) ∙ there
+
+          by_planes : (o : Option Planes) → is_some o ≡ true
+              → is_some (option_map (as_first n) o) ≡ true
+          by_planes None e = absurd (false≢true e)
+          by_planes (Some planes) e = refl
+
+    fields_after : (ns : List ℕ) (bound : ℕ) (x : Fields) → IsReady bound ns x.waiting
+        → (after x ns).alone + one_if (is_some (after x ns).waiting)
+        ≡ x.alone + count_by (is_unpaired s es) ns + debt x.waiting
+    fields_after [] bound x ready =
+        omega (arith, length-filter (is_unpaired s es) [], owed x.waiting refl)
+      where
+        owed : (o : Option FirstField) → x.waiting ≡ o → one_if (is_some o) ≡ debt o
+        owed None is = refl
+        owed (Some v) is = sym (ap (λ (b : Bool). one_if (not b))
+            (false_from_ne_true (found (v.number + 1)) (λ there.
+            false≢true (ready.left (v.number + 1) (omega (arith, (ready.waits v is).0)) there))))
+    fields_after (n ∷ ns) bound x ready =
+        omega (
+          arith,
+          fields_after ns (n + 1) (next_field s es x n) (ready_behind bound n ns x.waiting ready),
+          step bound n ns x.waiting ready,
+          count_first (is_unpaired s es) n ns,
+        )
+
+  -- once all pictures were released
+  pub all_fields : (ns : List ℕ) → AreRising 0 ns
+      → ((k : ℕ) → found k ≡ true → is_among ns k ≡ true)
+      → (fields_behind s es ns).alone + one_if (is_some (fields_behind s es ns).waiting)
+      ≡ count_by (is_unpaired s es) ns
+  all_fields ns rises all = elim (cases_Bool s.fields) [
+    | inl coding ↦ fields_after coding ns 0 no_fields (record {
+      rises = rises;
+      left = λ k above is. all k is;
+      waits = λ v none. absurd (none-some v none);
+      waited = λ k at even is. absurd (omega (arith, at));
+    }) ∙ omega arith
+    | inr frames ↦ (let plain = frames_after frames ns no_fields refl in
+        omega (
+          arith,
+          plain.0,
+          ap (λ (o : Option FirstField). one_if (is_some o)) plain.1,
+          none_unpaired frames ns,
+        ))
+  ]

@@ -1,0 +1,295 @@
+-- The jobs that a fragment offers are those of the slices that it brings.
+use Rattle.std.proofs.Common.{◌≡◌, ℕ, ◌+◌, Bool, true, false, refl, ap, sym, ◌∙◌, arith}
+use Rattle.std.proofs.Common.{List, [], ◌∷◌, ◌++◌, length, Option, Some, None, cond, inl, inr}
+use Rattle.std.proofs.Common.{subst}
+use Rattle.std.specs.Prelude.{◌==◌, ◌&&◌, ◌||◌, is_some, not, filter_map, bytes_eq, slice_get}
+use Rattle.std.specs.List.{cons_option, last_or, range_with_len}
+use Rattle.std.specs.Option.{option_and_then, option_map, option_map_or}
+use Rattle.std.proofs.lemmas.Bool.{cases_Bool, cases_eq, cond-false, and_from, eq-eqb}
+use Rattle.std.proofs.lemmas.Bool.{ne_eqb, false≢true, le-leb, leb-true}
+use Rattle.std.proofs.lemmas.List.{append-nil}
+use Rattle.std.proofs.lemmas.Option.{none-some, same_Some, slice_get_within}
+use Rattle.std.proofs.lemmas.Slice.Eq.{bytes_eq-Decides}
+use Rattle.link_model.specs.Books.{Book, book_of, book_slice, Gathered, slot_at}
+use Rattle.link_model.specs.Feeders.{is_among}
+use Rattle.link_model.specs.Feeding.{is_same_job}
+use Rattle.link_model.specs.Numbers.{Numbered, base_above, greatest, has_parts, is_closed}
+use Rattle.link_model.specs.Numbers.{is_late, is_opened, parts_of, picture_number}
+use Rattle.link_model.specs.Places.{Job}
+use Rattle.link_model.specs.Session.{Part, Fragment}
+use Rattle.link_model.specs.Windows.{Window, WindowPast, StandsForPast, book_at, number_by}
+use Rattle.link_model.specs.Windows.{window_enters, past_enters, released_up_to}
+use Rattle.link_model.proofs.Numbering.{early_enters, enters_follows, late_changes_nothing}
+use Rattle.link_model.proofs.Numbering.{parts_of-append, parts_of-other}
+use Rattle.link_model.proofs.Windowing.{number_of_window}
+use Rattle.link_model.proofs.WindowStands.{book_is, enters_stands}
+use Rattle.vc_types.specs.SameValues.{same_parameters}
+use Rattle.vc_types.proofs.SameValues.{parameters_exactly}
+use Rattle.link_reception.specs.Exchanging.{gathered_job, slot_job, book_job, window_job, new_job}
+use Rattle.link_reception.specs.Exchanging.{has_slice_in, numbers_in, new_jobs_of, offered_jobs}
+use Rattle.link_reception.specs.Exchanging.{is_job_among}
+use Rattle.link_reception.proofs.ReleaseLists.{among_range}
+use Rattle.link_reception.proofs.SliceJobs.{same_job_is}
+
+-- ---- jobs among others
+
+same_itself : (job : Job) → is_same_job job job ≡ true
+same_itself job =
+    and_from (same_parameters job.plan job.plan && job.number == job.number
+    && job.index == job.index) (bytes_eq job.bytes job.bytes)
+    (and_from (same_parameters job.plan job.plan && job.number == job.number)
+    (job.index == job.index)
+    (and_from (same_parameters job.plan job.plan) (job.number == job.number)
+    ((parameters_exactly job.plan job.plan).1 refl) (eq-eqb job.number job.number refl))
+    (eq-eqb job.index job.index refl))
+    ((bytes_eq-Decides job.bytes job.bytes).1 refl)
+
+or_later : (b : Bool) {c : Bool} → c ≡ true → (b || c) ≡ true
+or_later true e = refl
+or_later false e = e
+
+module _ (job_by : ℕ → Option Job) (job : Job) where
+  job_among : (is : List ℕ) (i : ℕ) → is_among is i ≡ true → job_by i ≡ Some job
+      → is_job_among (filter_map job_by is) job ≡ true
+  job_among [] i there at = absurd (false≢true there)
+  job_among (k ∷ is) i there at = elim (cases_eq k i) [
+    | inl same ↦
+        ap (λ (o : Option Job). is_job_among (cons_option o (filter_map job_by is)) job)
+        (ap job_by same ∙ at)
+        ∙ ap (λ (b : Bool). b || is_job_among (filter_map job_by is) job) (same_itself job)
+    | inr other ↦ by_job (job_by k) (job_among is i
+        (sym (ap (λ (b : Bool). b || is_among is i) (ne_eqb k i other)) ∙ there) at)
+  ]
+    where
+      by_job : (o : Option Job) → is_job_among (filter_map job_by is) job ≡ true
+          → is_job_among (cons_option o (filter_map job_by is)) job ≡ true
+      by_job None rest = rest
+      by_job (Some other) rest = or_later (is_same_job job other) rest
+
+  from_among : (is : List ℕ) → is_job_among (filter_map job_by is) job ≡ true
+      → (i : ℕ) × (job_by i ≡ Some job)
+  from_among [] there = absurd (false≢true there)
+  from_among (k ∷ is) there = by_job (job_by k) refl there (λ e. from_among is e)
+    where
+      by_test : (other : Job) → job_by k ≡ Some other → (b : Bool) → is_same_job job other ≡ b
+          → (b || is_job_among (filter_map job_by is) job) ≡ true
+          → (is_job_among (filter_map job_by is) job ≡ true → (i : ℕ) × (job_by i ≡ Some job))
+          → (i : ℕ) × (job_by i ≡ Some job)
+      by_test other at true same there later =
+          (k, at ∙ ap Some (sym (same_job_is job other same)))
+      by_test other at false differs there later = later there
+
+      by_job : (o : Option Job) → job_by k ≡ o
+          → is_job_among (cons_option o (filter_map job_by is)) job ≡ true
+          → (is_job_among (filter_map job_by is) job ≡ true → (i : ℕ) × (job_by i ≡ Some job))
+          → (i : ℕ) × (job_by i ≡ Some job)
+      by_job None at there later = later there
+      by_job (Some other) at there later =
+          by_test other at (is_same_job job other) refl there later
+
+-- ---- jobs of a window
+
+module _ (w : Window) (n i : ℕ) where
+  -- a slice has a job where it is kept
+  slice_there : is_some (window_job w n i) ≡ has_slice_in w n i
+  slice_there = by_book (book_at w.books n)
+    where
+      by_slot : (g : Gathered) (o : Option (List ℕ))
+          → is_some (option_map (gathered_job g n i) o) ≡ is_some o
+      by_slot g None = refl
+      by_slot g (Some bytes) = refl
+
+      by_gathered : (o : Option Gathered)
+          → is_some (option_and_then (λ g. slot_job g n i) o)
+          ≡ is_some (option_and_then (λ (g : Gathered). slot_at g.slots i) o)
+      by_gathered None = refl
+      by_gathered (Some g) = by_slot g (slot_at g.slots i)
+
+      by_book : (o : Option Book) → is_some (option_and_then (λ book. book_job book n i) o)
+          ≡ is_some (option_and_then (λ book. book_slice book i) o)
+      by_book None = refl
+      by_book (Some book) = by_gathered book.gathered
+
+  none_there : window_job w n i ≡ None → has_slice_in w n i ≡ false
+  none_there none = sym slice_there ∙ ap (λ (o : Option Job). is_some o) none
+
+  no_job_there : has_slice_in w n i ≡ false → window_job w n i ≡ None
+  no_job_there none = by_job (window_job w n i) (slice_there ∙ none)
+    where
+      by_job : (o : Option Job) → is_some o ≡ false → o ≡ None
+      by_job None e = refl
+      by_job (Some job) e = absurd (false≢true (sym e))
+
+  job_numbers : (job : Job) → window_job w n i ≡ Some job → (job.number ≡ n) × (job.index ≡ i)
+  job_numbers job is = by_book (book_at w.books n) is
+    where
+      by_slot : (g : Gathered) (o : Option (List ℕ))
+          → option_map (gathered_job g n i) o ≡ Some job → (job.number ≡ n) × (job.index ≡ i)
+      by_slot g None e = absurd (none-some job e)
+      by_slot g (Some bytes) e = let same = same_Some (gathered_job g n i bytes) job e in
+          (sym (ap (λ (j : Job). j.number) same), sym (ap (λ (j : Job). j.index) same))
+
+      by_gathered : (o : Option Gathered) → option_and_then (λ g. slot_job g n i) o ≡ Some job
+          → (job.number ≡ n) × (job.index ≡ i)
+      by_gathered None e = absurd (none-some job e)
+      by_gathered (Some g) e = by_slot g (slot_at g.slots i) e
+
+      by_book : (o : Option Book) → option_and_then (λ book. book_job book n i) o ≡ Some job
+          → (job.number ≡ n) × (job.index ≡ i)
+      by_book None e = absurd (none-some job e)
+      by_book (Some book) e = by_gathered book.gathered e
+
+-- a slice that a book keeps is one of its numbers
+numbered : (book : Book) (n i : ℕ) (job : Job) → book_job book n i ≡ Some job
+    → is_among (numbers_in book) i ≡ true
+numbered book n i job is = by_gathered book.gathered is
+  where
+    by_slot : (g : Gathered) (o : Option (Option (List ℕ))) → slice_get g.slots i ≡ o
+        → option_map (gathered_job g n i) (option_and_then (λ slot. slot) o) ≡ Some job
+        → is_among (range_with_len 0 (length g.slots)) i ≡ true
+    by_slot g None at e = absurd (none-some job e)
+    by_slot g (Some slot) at e = let below = slice_get_within g.slots i slot at in
+        among_range i (length g.slots) 0 (omega arith) (omega (arith, below))
+
+    by_gathered : (o : Option Gathered) → option_and_then (λ g. slot_job g n i) o ≡ Some job
+        → is_among (option_map_or (λ g. range_with_len 0 (length g.slots)) o []) i ≡ true
+    by_gathered None e = absurd (none-some job e)
+    by_gathered (Some g) e = by_slot g (slice_get g.slots i) refl e
+
+-- ---- of a picture
+
+module _ (old new : Window) (n : ℕ) where
+  -- each slice that it has now and hadn't before is offered
+  of_picture : (i : ℕ) (job : Job) → window_job old n i ≡ None → window_job new n i ≡ Some job
+      → is_job_among (new_jobs_of old new n) job ≡ true
+  of_picture i job none is = by_book (book_at new.books n) refl is
+    where
+      now : new_job old new n i ≡ Some job
+      now = cond-false (has_slice_in old n i) None (window_job new n i) (none_there old n i none)
+          ∙ is
+
+      by_book : (o : Option Book) → book_at new.books n ≡ o
+          → option_and_then (λ book. book_job book n i) o ≡ Some job
+          → is_job_among (option_map_or
+          (λ book. filter_map (new_job old new n) (numbers_in book)) o []) job ≡ true
+      by_book None at e = absurd (none-some job e)
+      by_book (Some book) at e = job_among (new_job old new n) job (numbers_in book) i
+          (numbered book n i job e) now
+
+  -- and nothing else is
+  only_new : (job : Job) → is_job_among (new_jobs_of old new n) job ≡ true
+      → (window_job new job.number job.index ≡ Some job)
+      × (window_job old job.number job.index ≡ None)
+  only_new job there = by_book (book_at new.books n) there
+    where
+      by_test : (i : ℕ) (b : Bool) → has_slice_in old n i ≡ b
+          → cond b None (window_job new n i) ≡ Some job
+          → (window_job new job.number job.index ≡ Some job)
+          × (window_job old job.number job.index ≡ None)
+      by_test i true at e = absurd (none-some job e)
+      by_test i false at e =
+          let numbers = job_numbers new n i job e in (
+            ap (λ m. window_job new m job.index) numbers.0 ∙ ap (window_job new n) numbers.1 ∙ e,
+            ap (λ m. window_job old m job.index) numbers.0 ∙ ap (window_job old n) numbers.1
+                ∙ no_job_there old n i at,
+          )
+
+      by_book : (o : Option Book) → is_job_among (option_map_or
+          (λ book. filter_map (new_job old new n) (numbers_in book)) o []) job ≡ true
+          → (window_job new job.number job.index ≡ Some job)
+          × (window_job old job.number job.index ≡ None)
+      by_book None e = absurd (false≢true e)
+      by_book (Some book) e =
+          let found = from_among (new_job old new n) job (numbers_in book) e in
+          by_test found.0 (has_slice_in old n found.0) refl found.1
+
+-- ---- of a fragment
+
+module _ (w : Window) (p : WindowPast) (stands : StandsForPast w p) (runs : p.is_ended ≡ false)
+    (f : Fragment) where
+  abbrev m : ℕ
+  m = picture_number (base_above p.before) p.entries f.number
+
+  number_is : number_by w f.number ≡ m
+  number_is = ap (λ (v : Window). number_by v f.number) stands.value
+      ∙ number_of_window p f.number
+
+  abbrev pub later : WindowPast
+  later = past_enters p f
+
+  pub other_parts : (n : ℕ) → (n ≡ m → ⊥) → parts_of n later.entries ≡ parts_of n p.entries
+  other_parts n other = elim (cases_Bool (is_late p.size p.entries m)) [
+    | inl late ↦ ap (parts_of n)
+        (late_changes_nothing (base_above p.before) p.size p.entries f late)
+    | inr early ↦ (let e : Numbered = record { number = m; part = f.part } in
+        ap (parts_of n) (early_enters (base_above p.before) p.size p.entries f early)
+        ∙ parts_of-append n p.entries (e ∷ [])
+        ∙ ap (λ (l : List Part). parts_of n p.entries ++ l)
+        (parts_of-other n e (λ same. other (sym same)))
+        ∙ append-nil (parts_of n p.entries))
+  ]
+
+  pub closed_later : (n : ℕ) → is_closed p.size p.entries n ≡ true
+      → is_closed p.size later.entries n ≡ true
+  unfolding is_closed
+  closed_later n closed =
+      let grows = (enters_follows (base_above p.before) p.size p.entries f).grows in
+      let low = leb-true (n + p.size) (greatest p.entries) closed in
+      le-leb (n + p.size) (greatest later.entries) (omega (arith, grows, low))
+
+  -- the jobs of other pictures were there before
+  module _ (n i : ℕ) (job : Job) (other : n ≡ m → ⊥) where
+    abbrev from_book : Option Book → Option Job
+    from_book o = option_and_then (λ (book : Book). book_job book n i) o
+
+    abbrev is_low : Bool
+    is_low = released_up_to (last_or None p.released) n
+
+    by_tests : (was over low closed closed_then : Bool) → (closed ≡ true → closed_then ≡ true)
+        → (book : Book)
+        → from_book (cond (was && not ((over || closed_then) && low)) (Some book) None) ≡ Some job
+        → from_book (cond (was && not ((over || closed) && low)) (Some book) None) ≡ Some job
+    by_tests false over low closed closed_then grows book e = absurd (none-some job e)
+    by_tests true true true closed closed_then grows book e = absurd (none-some job e)
+    by_tests true true false closed closed_then grows book e = e
+    by_tests true false true closed true grows book e = absurd (none-some job e)
+    by_tests true false false true true grows book e = e
+    by_tests true false false false true grows book e = e
+    by_tests true false low true false grows book e = absurd (false≢true (grows refl))
+    by_tests true false low false false grows book e = e
+
+    other_jobs : window_job (window_enters w f) n i ≡ Some job → window_job w n i ≡ Some job
+    other_jobs is =
+        let now : from_book (cond (is_opened later.entries n
+        && not ((p.is_ended || is_closed p.size later.entries n) && is_low))
+        (Some (book_of p.sequence (parts_of n later.entries))) None) ≡ Some job =
+        sym (ap from_book (book_is (window_enters w f) later (enters_stands w p stands runs f) n))
+        ∙ is in
+        let same : from_book (cond (has_parts (parts_of n p.entries)
+        && not ((p.is_ended || is_closed p.size later.entries n) && is_low))
+        (Some (book_of p.sequence (parts_of n p.entries))) None) ≡ Some job =
+        subst (λ (l : List Part). from_book (cond (has_parts l
+        && not ((p.is_ended || is_closed p.size later.entries n) && is_low))
+        (Some (book_of p.sequence l)) None) ≡ Some job) (other_parts n other) now in
+        ap from_book (book_is w p stands n)
+        ∙ by_tests (is_opened p.entries n) p.is_ended is_low (is_closed p.size p.entries n)
+        (is_closed p.size later.entries n) (closed_later n)
+        (book_of p.sequence (parts_of n p.entries)) same
+
+  pub all_offered : (n i : ℕ) (job : Job) → window_job w n i ≡ None
+      → window_job (window_enters w f) n i ≡ Some job
+      → is_job_among (offered_jobs w (window_enters w f) f) job ≡ true
+  unfolding offered_jobs
+  all_offered n i job none is = elim (cases_eq n m) [
+    | inl same ↦
+        ap (λ k. is_job_among (new_jobs_of w (window_enters w f) k) job) (number_is ∙ sym same)
+        ∙ of_picture w (window_enters w f) n i job none is
+    | inr other ↦ absurd (none-some job (sym none ∙ other_jobs n i job other is))
+  ]
+
+pub only_offered : (old new : Window) (f : Fragment) (job : Job)
+    → is_job_among (offered_jobs old new f) job ≡ true
+    → (window_job new job.number job.index ≡ Some job)
+    × (window_job old job.number job.index ≡ None)
+unfolding offered_jobs
+only_offered old new f job there = only_new old new (number_by old f.number) job there

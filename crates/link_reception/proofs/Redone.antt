@@ -1,0 +1,224 @@
+-- The feeder decodes slices of a picture by itself.
+use Rattle.std.proofs.Common.{◌≡◌, ℕ, Bool, true, false, refl, ap, sym, ◌∙◌, cond, map}
+use Rattle.std.proofs.Common.{List, [], ◌∷◌, Option, Some, None, inl, inr}
+use Rattle.std.specs.Prelude.{◌==◌, ◌&&◌, ◌||◌, is_some, unwrap_or}
+use Rattle.std.specs.Option.{option_and_then, option_map, option_map_or}
+use Rattle.std.proofs.lemmas.Bool.{cases_eq, and_parts, eqb-true, eq-eqb, ne_eqb, false≢true}
+use Rattle.std.proofs.lemmas.Option.{none-some, same_Some}
+use Rattle.link_model.specs.Feeders.{Feeder, SliceAnswer, answer_in, kept_job, picture_keeps}
+use Rattle.link_model.specs.Feeders.{job_by, job_with, is_among}
+use Rattle.link_model.specs.Feeding.{with_answer}
+use Rattle.link_model.specs.Kept.{Own, own_slice}
+use Rattle.link_model.specs.Machine.{Redo}
+use Rattle.link_model.specs.Next.{feeder_run}
+use Rattle.link_model.specs.Places.{Job, own_answer, decoding}
+use Rattle.link_model.specs.Session.{HeardSession, sessions_of}
+use Rattle.vc_types.specs.Slices.{slice_coefficients}
+use Rattle.link_reception.specs.Receptions.{Decoding}
+use Rattle.link_model.specs.Interleavings.{AreOwnAnswers}
+use Rattle.link_reception.proofs.SliceJobs.{other_answer}
+
+-- ---- jobs
+
+module _ (size : ℕ) (hs : List HeardSession) (n i : ℕ) where
+  -- the job of a slice of what the picture keeps
+  pub kept_job_by : (kept : Own) → picture_keeps size hs n ≡ Some kept → (job : Job)
+      → kept_job size hs n i ≡ Some job
+      → (bytes : List ℕ) × (own_slice kept i ≡ Some bytes) × (job_with kept n i bytes ≡ job)
+  unfolding kept_job
+  kept_job_by kept keeps job is = by_slice (own_slice kept i) refl
+      (sym (ap (option_and_then (λ (kept : Own). job_by kept n i)) keeps) ∙ is)
+    where
+      by_slice : (o : Option (List ℕ)) → own_slice kept i ≡ o
+          → option_map (job_with kept n i) o ≡ Some job
+          → (bytes : List ℕ) × (own_slice kept i ≡ Some bytes) × (job_with kept n i bytes ≡ job)
+      by_slice None at e = absurd (none-some job e)
+      by_slice (Some bytes) at e = (bytes, at, same_Some (job_with kept n i bytes) job e)
+
+  pub kept_job_there : (kept : Own) → picture_keeps size hs n ≡ Some kept
+      → is_some (own_slice kept i) ≡ true → is_some (kept_job size hs n i) ≡ true
+  unfolding kept_job
+  kept_job_there kept keeps there =
+      ap (λ (o : Option Own). is_some (option_and_then (λ (kept : Own). job_by kept n i) o)) keeps
+      ∙ by_slice (own_slice kept i) there
+    where
+      by_slice : (o : Option (List ℕ)) → is_some o ≡ true
+          → is_some (option_map (job_with kept n i) o) ≡ true
+      by_slice None e = absurd (false≢true e)
+      by_slice (Some bytes) e = refl
+
+  no_job : picture_keeps size hs n ≡ None → kept_job size hs n i ≡ None
+  unfolding kept_job
+  no_job none = ap (option_and_then (λ (kept : Own). job_by kept n i)) none
+
+  pub kept_job_numbers : (job : Job) → kept_job size hs n i ≡ Some job
+      → (job.number ≡ n) × (job.index ≡ i)
+  kept_job_numbers job is = by_kept (picture_keeps size hs n) refl
+    where
+      by_kept : (o : Option Own) → picture_keeps size hs n ≡ o → (job.number ≡ n) × (job.index ≡ i)
+      by_kept None at = absurd (none-some job (sym (no_job at) ∙ is))
+      by_kept (Some kept) at = let found = kept_job_by kept at job is in (
+        sym (ap (λ (j : Job). j.number) found.2),
+        sym (ap (λ (j : Job). j.index) found.2),
+      )
+
+-- ---- answers
+
+module _ (size : ℕ) (hs : List HeardSession) where
+  pub own_answer_of : (decoded : List SliceAnswer) → AreOwnAnswers size hs decoded → (n k : ℕ)
+      (d : Decoding) → answer_in decoded n k ≡ Some d
+      → (job : Job) × (kept_job size hs n k ≡ Some job) × (d ≡ decoding job)
+  own_answer_of [] own n k d is = absurd (none-some d is)
+  own_answer_of (a ∷ rest) own n k d is =
+      by_test (a.number == n && a.index == k) refl is (λ e. own_answer_of rest own.1 n k d e)
+    where
+      by_test : (b : Bool) → (a.number == n && a.index == k) ≡ b
+          → cond b (Some a.answer) (answer_in rest n k) ≡ Some d
+          → (answer_in rest n k ≡ Some d
+          → (job : Job) × (kept_job size hs n k ≡ Some job) × (d ≡ decoding job))
+          → (job : Job) × (kept_job size hs n k ≡ Some job) × (d ≡ decoding job)
+      by_test false at e later = later e
+      by_test true at e later =
+          let same = and_parts (a.number == n) (a.index == k) at in (
+            own.0.0,
+            ap (λ m. kept_job size hs m k) (sym (eqb-true a.number n same.0))
+                ∙ ap (kept_job size hs a.number) (sym (eqb-true a.index k same.1))
+                ∙ own.0.1,
+            sym (same_Some a.answer d e) ∙ own.0.2,
+          )
+
+  -- each is the decoding of a slice that its picture keeps
+  pub answers_of_kept : (decoded : List SliceAnswer) → AreOwnAnswers size hs decoded → (n : ℕ)
+      (kept : Own) → picture_keeps size hs n ≡ Some kept → (k : ℕ) (d : Decoding)
+      → answer_in decoded n k ≡ Some d
+      → (is_some (own_slice kept k) ≡ true)
+      × (d ≡ slice_coefficients kept.plan.parameters k (unwrap_or (own_slice kept k) []))
+  answers_of_kept decoded own n kept keeps k d is =
+      let answer = own_answer_of decoded own n k d is in
+      let slice = kept_job_by size hs n k kept keeps answer.0 answer.1 in (
+        ap is_some slice.1,
+        answer.2
+            ∙ ap decoding (sym slice.2)
+            ∙ ap (λ (o : Option (List ℕ)).
+            slice_coefficients kept.plan.parameters k (unwrap_or o []))
+            (sym slice.1),
+      )
+
+  -- ---- slices that are decoded again
+
+  module _ (n : ℕ) where
+    abbrev pub answer_by : Job → SliceAnswer
+    answer_by job = record { number = job.number; index = job.index; answer = decoding job }
+
+    abbrev pub with_own : List SliceAnswer → Option Job → List SliceAnswer
+    with_own decoded o = option_map_or (λ job. answer_by job ∷ decoded) o decoded
+
+    abbrev pub redone : List ℕ → List SliceAnswer → List SliceAnswer
+    redone [] decoded = decoded
+    redone (i ∷ is) decoded = redone is (with_own decoded (kept_job size hs n i))
+
+    one_own : (i : ℕ) (decoded : List SliceAnswer) → AreOwnAnswers size hs decoded
+        → AreOwnAnswers size hs (with_own decoded (kept_job size hs n i))
+    one_own i decoded own = by_job (kept_job size hs n i) refl
+      where
+        by_job : (o : Option Job) → kept_job size hs n i ≡ o
+            → AreOwnAnswers size hs (with_own decoded o)
+        by_job None at = own
+        by_job (Some job) at = let numbers = kept_job_numbers size hs n i job at in (
+          (
+            job,
+            ap (λ m. kept_job size hs m job.index) numbers.0
+                ∙ ap (kept_job size hs n) numbers.1 ∙ at,
+            refl,
+          ),
+          own,
+        )
+
+    pub redone_own : (is : List ℕ) (decoded : List SliceAnswer) → AreOwnAnswers size hs decoded
+        → AreOwnAnswers size hs (redone is decoded)
+    redone_own [] decoded own = own
+    redone_own (i ∷ is) decoded own =
+        redone_own is (with_own decoded (kept_job size hs n i)) (one_own i decoded own)
+
+    one_other : (i m k : ℕ) (decoded : List SliceAnswer) → (n ≡ m → ⊥)
+        → answer_in (with_own decoded (kept_job size hs n i)) m k ≡ answer_in decoded m k
+    one_other i m k decoded other = by_job (kept_job size hs n i) refl
+      where
+        by_job : (o : Option Job) → kept_job size hs n i ≡ o
+            → answer_in (with_own decoded o) m k ≡ answer_in decoded m k
+        by_job None at = refl
+        by_job (Some job) at = other_answer (answer_by job) decoded m
+            (λ same. other (sym (kept_job_numbers size hs n i job at).0 ∙ same)) k
+
+    pub redone_others : (is : List ℕ) (decoded : List SliceAnswer) (m : ℕ) → (n ≡ m → ⊥)
+        → (k : ℕ) → answer_in (redone is decoded) m k ≡ answer_in decoded m k
+    redone_others [] decoded m other k = refl
+    redone_others (i ∷ is) decoded m other k =
+        redone_others is (with_own decoded (kept_job size hs n i)) m other k
+        ∙ one_other i m k decoded other
+
+    one_stays : (k : ℕ) (decoded : List SliceAnswer) (o : Option Job)
+        → is_some (answer_in decoded n k) ≡ true
+        → is_some (answer_in (with_own decoded o) n k) ≡ true
+    one_stays k decoded None there = there
+    one_stays k decoded (Some job) there =
+        by_test (job.number == n && job.index == k)
+      where
+        by_test : (b : Bool)
+            → is_some (cond b (Some (decoding job)) (answer_in decoded n k)) ≡ true
+        by_test true = refl
+        by_test false = there
+
+    pub redone_stays : (is : List ℕ) (decoded : List SliceAnswer) (k : ℕ)
+        → is_some (answer_in decoded n k) ≡ true
+        → is_some (answer_in (redone is decoded) n k) ≡ true
+    redone_stays [] decoded k there = there
+    redone_stays (i ∷ is) decoded k there =
+        redone_stays is (with_own decoded (kept_job size hs n i)) k
+        (one_stays k decoded (kept_job size hs n i) there)
+
+    one_there : (k : ℕ) (decoded : List SliceAnswer) → is_some (kept_job size hs n k) ≡ true
+        → is_some (answer_in (with_own decoded (kept_job size hs n k)) n k) ≡ true
+    one_there k decoded there = by_job (kept_job size hs n k) refl there
+      where
+        by_job : (o : Option Job) → kept_job size hs n k ≡ o → is_some o ≡ true
+            → is_some (answer_in (with_own decoded o) n k) ≡ true
+        by_job None at e = absurd (false≢true e)
+        by_job (Some job) at e =
+            let numbers = kept_job_numbers size hs n k job at in
+            ap (λ (b : Bool). is_some (cond (b && job.index == k) (Some (decoding job))
+            (answer_in decoded n k))) (eq-eqb job.number n numbers.0)
+            ∙ ap (λ (b : Bool). is_some (cond b (Some (decoding job)) (answer_in decoded n k)))
+            (eq-eqb job.index k numbers.1)
+
+    pub redone_there : (is : List ℕ) (decoded : List SliceAnswer) (k : ℕ)
+        → is_some (kept_job size hs n k) ≡ true → is_among is k ≡ true
+        → is_some (answer_in (redone is decoded) n k) ≡ true
+    redone_there [] decoded k there among = absurd (false≢true among)
+    redone_there (i ∷ is) decoded k there among = elim (cases_eq i k) [
+      | inl same ↦ redone_stays is (with_own decoded (kept_job size hs n i)) k
+          (ap (λ j. is_some (answer_in (with_own decoded (kept_job size hs n j)) n k)) same
+          ∙ one_there k decoded there)
+      | inr other ↦ redone_there is (with_own decoded (kept_job size hs n i)) k there
+          (sym (ap (λ (b : Bool). b || is_among is k) (ne_eqb i k other)) ∙ among)
+    ]
+
+-- the feeder's events
+pub redo_run : (size n : ℕ) (is : List ℕ) (f : Feeder)
+    → feeder_run size f (map (Redo n) is)
+    ≡ record f { decoded = redone size (sessions_of f.heard) n is f.decoded }
+redo_run size n [] f = refl
+redo_run size n (i ∷ is) f =
+    by_job (kept_job size (sessions_of f.heard) n i) (λ g. redo_run size n is g)
+  where
+    by_job : (o : Option Job)
+        → ((g : Feeder) → feeder_run size g (map (Redo n) is)
+        ≡ record g { decoded = redone size (sessions_of g.heard) n is g.decoded })
+        → feeder_run size (option_map_or (λ job. with_answer f (own_answer job)) o f)
+        (map (Redo n) is)
+        ≡ record f {
+          decoded = redone size (sessions_of f.heard) n is
+              (with_own size (sessions_of f.heard) n f.decoded o);
+        }
+    by_job None later = later f
+    by_job (Some job) later = later (with_answer f (own_answer job))

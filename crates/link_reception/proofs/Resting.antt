@@ -1,0 +1,286 @@
+-- A receiver that released all that it may stands for what was heard again.
+use Rattle.std.proofs.Common.{◌≡◌, ℕ, ◌+◌, Bool, true, false, refl, ap, sym, ◌∙◌, arith}
+use Rattle.std.proofs.Common.{List, [], ◌∷◌, ◌++◌, Option, Some, None, subst}
+use Rattle.std.specs.Prelude.{is_some, count_by}
+use Rattle.std.specs.List.{flat_map}
+use Rattle.std.proofs.lemmas.List.{append-nil}
+use Rattle.std.proofs.lemmas.Option.{none-some}
+use Rattle.link_model.specs.Feeders.{Feeder, let_go_pictures, is_among}
+use Rattle.link_model.specs.Judgement.{outcomes_in, outcome_counts, with_pictures, with_sessions}
+use Rattle.link_model.specs.Judgement.{is_incomplete, is_unsound, is_unpaired, has_frame}
+use Rattle.link_model.specs.Numbers.{Numbered, greatest, least, parts_of, opened_numbers}
+use Rattle.link_model.specs.Output.{frame_bytes_at, planes_at, let_go_numbers, frames_so_far}
+use Rattle.link_model.specs.Output.{all_frames, all_output, last_so_far, output_so_far, full_output}
+use Rattle.link_model.specs.Output.{greatest_of, entered_behind}
+use Rattle.link_model.specs.Session.{Session, HeardSession, just_opened, sessions_of}
+use Rattle.link_model.specs.Windows.{Window, WindowPast, past_let_go, releasable_numbers, window_of}
+use Rattle.link_model.specs.Windows.{new_past, new_window}
+use Rattle.link_model.specs.declared.tally.Tally.{Tally}
+use Rattle.link_model.proofs.SessionOutput.{opening_writes_nothing}
+use Rattle.link_model.proofs.WindowNumbers.{session_greatest}
+use Rattle.link_model.proofs.WindowStands.{new_stands}
+use Rattle.vc_types.specs.Planes.{Planes}
+use Rattle.vc_types.specs.SequenceHeader.{Sequence}
+use Rattle.link_reception.specs.Entering.{gives_up_field, greatest_in, opens_session}
+use Rattle.link_reception.specs.Receptions.{StandingSession, Reception, FirstField}
+use Rattle.link_reception.specs.Releasing.{one_if}
+use Rattle.link_reception.specs.Standing.{StandsFor, standing_of, standing_with}
+use Rattle.link_reception.specs.Standing.{all_released, last_past, field_of_sessions, fields_behind}
+use Rattle.link_reception.specs.Standing.{counts_of_sessions, past_fields, past_counts}
+use Rattle.link_reception.proofs.HeardMore.{written_of}
+use Rattle.link_reception.specs.Standing.{with_released}
+use Rattle.link_reception.proofs.LoneFields.{all_fields}
+use Rattle.link_reception.proofs.ReleasedNumbers.{released_rise, AreRising}
+use Rattle.link_reception.proofs.ReleaseLists.{planes_opened}
+use Rattle.link_reception.proofs.SessionPictures.{opened_among}
+use Rattle.link_reception.proofs.Starting.{tally_behind}
+use Rattle.link_reception.proofs.Tallies.{none_released}
+use Rattle.link_reception.proofs.Working.{IsWorking}
+
+-- ---- the receiver that has released all, in the session that stands
+
+module _ (r : Reception) (size : ℕ) (f : Feeder) (h : HeardSession) (hs : List HeardSession)
+    (over : Bool) (st : StandingSession) (t : Tally)
+    (works : IsWorking r size f hs (all_released (last_past size over hs h)) st t)
+    (session : st.session ≡ h.session) (has_ended : st.has_ended ≡ h.has_ended)
+    (tally : t ≡ tally_behind size hs f.heard) where
+  abbrev p : WindowPast
+  p = all_released (last_past size over hs h)
+
+  standing_is : r.standing ≡ Some (standing_with h p)
+  standing_is = works.stands ∙ ap Some same
+    where
+      same : st ≡ standing_with h p
+      same = λ i. record {
+        session = session i;
+        has_ended = has_ended i;
+        window = works.window.value i;
+      }
+
+  pub all_released_is : f.released ≡ let_go_pictures size f.has_ended (sessions_of f.heard)
+  all_released_is = works.released ∙ sym works.let_go
+
+  -- before the end
+  module _ (at : sessions_of f.heard ≡ h ∷ hs) (runs : over ≡ false)
+      (is_over : f.has_ended ≡ over) where
+    ended_not : f.has_ended ≡ false
+    ended_not = is_over ∙ runs
+
+    written_now : f.written ≡ written_of size f.has_ended f.heard
+    unfolding output_so_far last_so_far frames_so_far
+    written_now =
+        works.written
+        ∙ ap (λ (b : Bool). all_output size hs
+        ++ flat_map (frame_bytes_at h.session.sequence (entered_behind size hs h))
+        (past_let_go (last_past size b hs h))) runs
+        ∙ sym (ap (last_so_far size) at)
+        ∙ sym (ap (λ (b : Bool). written_of size b f.heard) ended_not)
+
+    pub rest_stands : StandsFor r size f
+    rest_stands = record {
+      heard = record {
+        open_pictures = works.open_pictures;
+        ended = works.ended;
+        session = standing_is
+            ∙ sym (ap (standing_of size over) at)
+            ∙ sym (ap (λ (b : Bool). standing_of size b (sessions_of f.heard)) is_over);
+        waiting_field = works.waiting
+            ∙ ap (λ (b : Bool). (past_fields (all_released (last_past size b hs h))).waiting) runs
+            ∙ sym (ap (field_of_sessions size false) at)
+            ∙ sym (ap (λ (b : Bool). field_of_sessions size b (sessions_of f.heard)) ended_not);
+        counted = works.counted
+            ∙ ap (past_counts p) tally
+            ∙ ap (λ (b : Bool). past_counts (all_released (last_past size b hs h))
+            (tally_behind size hs f.heard)) runs
+            ∙ sym (ap (λ (l : List HeardSession). counts_of_sessions size false l
+            (outcome_counts (outcomes_in size f.heard))) at)
+            ∙ sym (ap (λ (b : Bool). counts_of_sessions size b (sessions_of f.heard)
+            (outcome_counts (outcomes_in size f.heard))) ended_not);
+      };
+      released = all_released_is;
+      written = written_now;
+      own = works.own;
+      answers = works.answers;
+      room = works.room;
+      first_field = works.first_field;
+    }
+
+  -- ---- the pictures of a session that is over
+
+  module _ (ends : over ≡ true) where
+    abbrev s : Sequence
+    s = h.session.sequence
+
+    abbrev es : List Numbered
+    es = entered_behind size hs h
+
+    all_opened : p.released ≡ opened_numbers es
+    all_opened = ap (λ (b : Bool). past_let_go (last_past size b hs h)) ends
+
+    rise : AreRising 0 (opened_numbers es)
+    rise = subst (AreRising 0) (append-nil (opened_numbers es))
+        (rise_with (releasable_numbers p) (subst (λ (l : List ℕ).
+        AreRising 0 (l ++ releasable_numbers p)) all_opened
+        (released_rise p works.window.in_order)))
+      where
+        front : (b : ℕ) (l more : List ℕ) → AreRising b (l ++ more) → AreRising b (l ++ [])
+        front b [] more rises = tt
+        front b (n ∷ l) more rises = (rises.0, front (n + 1) l more rises.1)
+
+        rise_with : (more : List ℕ) → AreRising 0 (opened_numbers es ++ more)
+            → AreRising 0 (opened_numbers es ++ [])
+        rise_with more rises = front 0 (opened_numbers es) more rises
+
+    planes_there : (k : ℕ) → is_some (planes_at s es k) ≡ true
+        → is_among (opened_numbers es) k ≡ true
+    planes_there k is = by_planes (planes_at s es k) refl is
+      where
+        by_planes : (o : Option Planes) → planes_at s es k ≡ o → is_some o ≡ true
+            → is_among (opened_numbers es) k ≡ true
+        by_planes None at e = absurd cc
+        by_planes (Some planes) at e =
+            opened_among es k ∙ planes_opened s es k planes at
+
+    -- the field that still waits is alone, and the counts are those of all its pictures
+    counts_over : record r.counts { unpaired = r.counts.unpaired + one_if (is_some r.field) }
+        ≡ with_sessions size (h ∷ hs) (outcome_counts (outcomes_in size f.heard))
+    unfolding with_sessions with_pictures with_released
+    counts_over =
+        ap (λ (c : Tally). record c { unpaired = c.unpaired + one_if (is_some r.field) })
+        works.counted
+        ∙ ap (λ (w : Option FirstField). record (past_counts p t) {
+          unpaired = (past_counts p t).unpaired + one_if (is_some w);
+        }) works.waiting
+        ∙ ap (λ (l : List ℕ). record (with_released s es l t) {
+          unpaired = (with_released s es l t).unpaired
+              + one_if (is_some (fields_behind s es l).waiting);
+        }) all_opened
+        ∙ ap (λ c. record t {
+          incomplete = t.incomplete + count_by (is_incomplete s es) (opened_numbers es);
+          unsound = t.unsound + count_by (is_unsound s es) (opened_numbers es);
+          unpaired = c;
+          frames = t.frames + count_by (has_frame s es) (opened_numbers es);
+        }) unpaired
+        ∙ ap (with_pictures s es) tally
+      where
+        unpaired : t.unpaired + (fields_behind s es (opened_numbers es)).alone
+            + one_if (is_some (fields_behind s es (opened_numbers es)).waiting)
+            ≡ t.unpaired + count_by (is_unpaired s es) (opened_numbers es)
+        unpaired = omega (arith, all_fields s es (opened_numbers es) rise planes_there)
+
+    written_over : f.written ≡ all_output size (h ∷ hs)
+    unfolding all_output all_frames
+    written_over = works.written ∙ ap (λ (l : List ℕ). all_output size hs
+        ++ flat_map (frame_bytes_at s es) l) all_opened
+
+    -- the next session begins
+    module _ (next : Session) (at : sessions_of f.heard ≡ just_opened next ∷ h ∷ hs)
+        (runs : f.has_ended ≡ false) where
+      abbrev fresh : WindowPast
+      fresh = all_released (last_past size false (h ∷ hs) (just_opened next))
+
+      fresh_is : new_past next.sequence size (greatest_of size (h ∷ hs)) ≡ fresh
+      unfolding let_go_numbers opened_numbers greatest least parts_of
+      fresh_is = refl
+
+      top_is : greatest_in r.standing ≡ greatest_of size (h ∷ hs)
+      unfolding window_of
+      top_is =
+          ap greatest_in works.stands
+          ∙ ap (λ (w : Window). w.top) works.window.value
+          ∙ session_greatest size hs h p.released
+
+      window_is : new_window next.sequence r.size (greatest_in r.standing) ≡ window_of fresh
+      window_is =
+          ap (λ k. new_window next.sequence k (greatest_in r.standing)) works.open_pictures
+          ∙ ap (new_window next.sequence size) top_is
+          ∙ (new_stands next.sequence size (greatest_of size (h ∷ hs))).value
+          ∙ ap window_of fresh_is
+
+      written_next : f.written ≡ written_of size f.has_ended f.heard
+      unfolding output_so_far
+      written_next =
+          written_over
+          ∙ sym (opening_writes_nothing size (h ∷ hs) next)
+          ∙ sym (ap (last_so_far size) at)
+          ∙ sym (ap (λ (b : Bool). written_of size b f.heard) runs)
+
+      counts_next : (opens_session (Some next) r).counts
+          ≡ counts_of_sessions size f.has_ended (sessions_of f.heard)
+          (outcome_counts (outcomes_in size f.heard))
+      counts_next =
+          let all = with_sessions size (h ∷ hs) (outcome_counts (outcomes_in size f.heard)) in
+          counts_over
+          ∙ sym (none_released next.sequence [] all)
+          ∙ ap (λ (q : WindowPast). past_counts q all) fresh_is
+          ∙ sym (ap (λ (l : List HeardSession). counts_of_sessions size false l
+          (outcome_counts (outcomes_in size f.heard))) at)
+          ∙ sym (ap (λ (b : Bool). counts_of_sessions size b (sessions_of f.heard)
+          (outcome_counts (outcomes_in size f.heard))) runs)
+
+      standing_next : (opens_session (Some next) r).standing
+          ≡ standing_of size f.has_ended (sessions_of f.heard)
+      standing_next =
+          ap (λ (w : Window). (let o : Option StandingSession = Some (record {
+            session = next;
+            has_ended = false;
+            window = w;
+          }) in o)) window_is
+          ∙ sym (ap (standing_of size false) at)
+          ∙ sym (ap (λ (b : Bool). standing_of size b (sessions_of f.heard)) runs)
+
+      pub next_stands : StandsFor (opens_session (Some next) r) size f
+      next_stands = record {
+        heard = record {
+          open_pictures = works.open_pictures;
+          ended = works.ended;
+          session = standing_next;
+          waiting_field =
+              ap (λ (q : WindowPast). (past_fields q).waiting) fresh_is
+              ∙ sym (ap (field_of_sessions size false) at)
+              ∙ sym (ap (λ (b : Bool). field_of_sessions size b (sessions_of f.heard)) runs);
+          counted = counts_next;
+        };
+        released = all_released_is;
+        written = written_next;
+        own = works.own;
+        answers = works.answers;
+        room = works.room;
+        first_field = λ w none. absurd (none-some w none);
+      }
+
+    -- or the input has ended
+    module _ (at : sessions_of f.heard ≡ h ∷ hs) (is_done : f.has_ended ≡ true) where
+      is_over : f.has_ended ≡ over
+      is_over = is_done ∙ sym ends
+
+      written_end : f.written ≡ written_of size f.has_ended f.heard
+      unfolding full_output
+      written_end =
+          written_over
+          ∙ sym (ap (all_output size) at)
+          ∙ sym (ap (λ (b : Bool). written_of size b f.heard) is_done)
+
+      pub end_stands : StandsFor (gives_up_field r) size f
+      end_stands = record {
+        heard = record {
+          open_pictures = works.open_pictures;
+          ended = works.ended;
+          session = standing_is
+              ∙ sym (ap (standing_of size over) at)
+              ∙ sym (ap (λ (b : Bool). standing_of size b (sessions_of f.heard)) is_over);
+          waiting_field =
+              sym (ap (λ (b : Bool). field_of_sessions size b (sessions_of f.heard)) is_done);
+          counted = counts_over
+              ∙ sym (ap (λ (l : List HeardSession). with_sessions size l
+              (outcome_counts (outcomes_in size f.heard))) at)
+              ∙ sym (ap (λ (b : Bool). counts_of_sessions size b (sessions_of f.heard)
+              (outcome_counts (outcomes_in size f.heard))) is_done);
+        };
+        released = all_released_is;
+        written = written_end;
+        own = works.own;
+        answers = works.answers;
+        room = works.room;
+        first_field = λ w none. absurd (none-some w none);
+      }

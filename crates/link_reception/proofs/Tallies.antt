@@ -1,0 +1,142 @@
+-- Counts: those of outcomes and those of pictures don't touch each other.
+use Rattle.std.proofs.Common.{◌≡◌, ℕ, ◌+◌, Bool, true, false, refl, ap, sym, ◌∙◌, cond, arith}
+use Rattle.std.proofs.Common.{List, [], ◌∷◌, Option}
+use Rattle.std.specs.Prelude.{◌==◌, ◌||◌, ◌&&◌, not, is_some, count_by, filter, fold, length}
+use Rattle.std.proofs.lemmas.Bool.{eq-eqb}
+use Rattle.std.proofs.lemmas.List.Sums.{length-filter}
+use Rattle.link_model.specs.Feeders.{is_among}
+use Rattle.link_model.specs.Judgement.{with_outcome, with_pictures, with_sessions, is_incomplete}
+use Rattle.link_model.specs.Judgement.{is_unsound, has_frame}
+use Rattle.link_model.specs.Numbers.{Numbered}
+use Rattle.link_model.specs.Output.{complete_at, planes_at, frame_at, entered_behind}
+use Rattle.link_model.specs.Session.{HeardSession}
+use Rattle.link_model.specs.declared.outcome.Outcome.{Outcome}
+use Rattle.link_model.specs.declared.outcome.Outcome.TheVariants as outcomes
+use Rattle.link_model.specs.declared.tally.Tally.{Tally}
+use Rattle.vc_types.specs.Planes.{Planes}
+use Rattle.vc_types.specs.SequenceHeader.{Sequence}
+use Rattle.link_reception.specs.Releasing.{field_behind, fields_alone}
+use Rattle.link_reception.specs.Standing.{Fields, no_fields, next_field, fields_behind}
+use Rattle.link_reception.specs.Standing.{with_released}
+
+-- counts of pictures more
+abbrev pub added : ℕ → ℕ → ℕ → ℕ → Tally → Tally
+added a b c d t = record t {
+  incomplete = t.incomplete + a;
+  unsound = t.unsound + b;
+  unpaired = t.unpaired + c;
+  frames = t.frames + d;
+}
+
+outcome_added : (a b c d : ℕ) (t : Tally) (o : Outcome)
+    → with_outcome (added a b c d t) o ≡ added a b c d (with_outcome t o)
+outcome_added a b c d t outcomes.RtpShort = refl
+outcome_added a b c d t outcomes.RtpVersion = refl
+outcome_added a b c d t outcomes.RtpShape = refl
+outcome_added a b c d t outcomes.PayloadShort = refl
+outcome_added a b c d t outcomes.PayloadCode = refl
+outcome_added a b c d t outcomes.PayloadFragment = refl
+outcome_added a b c d t outcomes.Foreign = refl
+outcome_added a b c d t outcomes.HeaderNew = refl
+outcome_added a b c d t outcomes.HeaderSame = refl
+outcome_added a b c d t outcomes.HeaderOther = refl
+outcome_added a b c d t outcomes.HeaderBad = refl
+outcome_added a b c d t outcomes.End = refl
+outcome_added a b c d t outcomes.Skipped = refl
+outcome_added a b c d t outcomes.Late = refl
+outcome_added a b c d t outcomes.ParamsKept = refl
+outcome_added a b c d t outcomes.ParamsRepeat = refl
+outcome_added a b c d t outcomes.ParamsConflict = refl
+outcome_added a b c d t outcomes.ParamsBad = refl
+outcome_added a b c d t outcomes.SlicesKept = refl
+outcome_added a b c d t outcomes.SlicesRepeat = refl
+outcome_added a b c d t outcomes.SlicesConflict = refl
+outcome_added a b c d t outcomes.SlicesPending = refl
+outcome_added a b c d t outcomes.SlicesFull = refl
+outcome_added a b c d t outcomes.SlicesForm = refl
+outcome_added a b c d t outcomes.SlicesPlace = refl
+outcome_added a b c d t outcomes.SlicesCut = refl
+
+pub released_outcome : (s : Sequence) (es : List Numbered) (ns : List ℕ) (t : Tally) (o : Outcome)
+    → with_outcome (with_released s es ns t) o ≡ with_released s es ns (with_outcome t o)
+unfolding with_released
+released_outcome s es ns t o = outcome_added (count_by (is_incomplete s es) ns)
+    (count_by (is_unsound s es) ns) (fields_behind s es ns).alone (count_by (has_frame s es) ns) t o
+
+pictures_outcome : (s : Sequence) (es : List Numbered) (t : Tally) (o : Outcome)
+    → with_outcome (with_pictures s es t) o ≡ with_pictures s es (with_outcome t o)
+unfolding with_pictures
+pictures_outcome s es t o = outcome_added _ _ _ _ t o
+
+pub sessions_outcome : (size : ℕ) (hs : List HeardSession) (t : Tally) (o : Outcome)
+    → with_outcome (with_sessions size hs t) o ≡ with_sessions size hs (with_outcome t o)
+unfolding with_sessions
+sessions_outcome size [] t o = refl
+sessions_outcome size (h ∷ hs) t o =
+    pictures_outcome h.session.sequence (entered_behind size hs h) (with_sessions size hs t) o
+    ∙ ap (with_pictures h.session.sequence (entered_behind size hs h))
+    (sessions_outcome size hs t o)
+
+-- nothing was released yet
+pub none_released : (s : Sequence) (es : List Numbered) (t : Tally) → with_released s es [] t ≡ t
+unfolding with_released
+none_released s es t =
+    let none : (test : ℕ → Bool) → count_by test [] ≡ 0 = λ test. sym (length-filter test []) in
+    let a : t.incomplete + count_by (is_incomplete s es) [] ≡ t.incomplete =
+    omega (arith, none (is_incomplete s es)) in
+    let b : t.unsound + count_by (is_unsound s es) [] ≡ t.unsound =
+    omega (arith, none (is_unsound s es)) in
+    let c : t.unpaired + 0 ≡ t.unpaired = omega arith in
+    let d : t.frames + count_by (has_frame s es) [] ≡ t.frames =
+    omega (arith, none (has_frame s es)) in
+    λ i. record t { incomplete = a i; unsound = b i; unpaired = c i; frames = d i }
+
+-- ---- of other entries, by which these pictures are the same
+
+or_later : (b : Bool) {c : Bool} → c ≡ true → (b || c) ≡ true
+or_later true e = refl
+or_later false e = e
+
+count_same : (f g : ℕ → Bool) (ns : List ℕ) → ((n : ℕ) → is_among ns n ≡ true → f n ≡ g n)
+    → count_by f ns ≡ count_by g ns
+count_same f g ns same =
+    sym (length-filter f ns) ∙ ap length (filter_same ns same) ∙ length-filter g ns
+  where
+    filter_same : (ns : List ℕ) → ((n : ℕ) → is_among ns n ≡ true → f n ≡ g n)
+        → filter f ns ≡ filter g ns
+    filter_same [] same = refl
+    filter_same (n ∷ ns) same =
+        ap (λ (b : Bool). cond b (n ∷ filter f ns) (filter f ns))
+        (same n (ap (λ (b : Bool). b || is_among ns n) (eq-eqb n n refl)))
+        ∙ ap (λ (l : List ℕ). cond (g n) (n ∷ l) l)
+        (filter_same ns (λ m there. same m (or_later (n == m) there)))
+
+module _ (s : Sequence) (old new : List Numbered) (ns : List ℕ)
+    (complete : (n : ℕ) → is_among ns n ≡ true → complete_at s old n ≡ complete_at s new n)
+    (planes : (n : ℕ) → is_among ns n ≡ true → planes_at s old n ≡ planes_at s new n)
+    (frame : (n : ℕ) → is_among ns n ≡ true → frame_at s old n ≡ frame_at s new n) where
+  fields_from : (ns : List ℕ) (x : Fields)
+      → ((n : ℕ) → is_among ns n ≡ true → planes_at s old n ≡ planes_at s new n)
+      → fold (next_field s old) x ns ≡ fold (next_field s new) x ns
+  fields_from [] x same = refl
+  fields_from (n ∷ ns) x same =
+      ap (λ (o : Option Planes). fold (next_field s old) (let next : Fields = record {
+        waiting = field_behind s n o;
+        alone = x.alone + fields_alone s x.waiting n o;
+      } in next) ns) (same n (ap (λ (b : Bool). b || is_among ns n) (eq-eqb n n refl)))
+      ∙ fields_from ns (next_field s new x n) (λ m there. same m (or_later (n == m) there))
+
+  pub fields_same : fields_behind s old ns ≡ fields_behind s new ns
+  fields_same = fields_from ns no_fields planes
+
+  pub released_same : (t : Tally) → with_released s old ns t ≡ with_released s new ns t
+  unfolding with_released
+  released_same t =
+      let a = count_same (is_incomplete s old) (is_incomplete s new) ns
+      (λ n there. ap not (complete n there)) in
+      let b = count_same (is_unsound s old) (is_unsound s new) ns
+      (λ n there. ap (λ (c : Bool). c && not (is_some (planes_at s old n))) (complete n there)
+      ∙ ap (λ (o : Option Planes). complete_at s new n && not (is_some o)) (planes n there)) in
+      let d = count_same (has_frame s old) (has_frame s new) ns
+      (λ n there. ap (λ (o : Option Planes). is_some o) (frame n there)) in
+      λ i. added (a i) (b i) (fields_same i).alone (d i) t

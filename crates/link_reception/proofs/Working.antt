@@ -1,0 +1,374 @@
+-- A receiver at work: its window isn't done with all pictures that are let go. It uses an answer
+-- where the feeder does.
+use Rattle.std.proofs.Common.{◌≡◌, ℕ, ◌<◌, Bool, true, false, refl, ap, sym}
+use Rattle.std.proofs.Common.{List, [], ◌∷◌, ◌++◌, length, Option, Some, None, subst, ◌∙◌}
+use Rattle.std.proofs.Common.{arith, cond, inl, inr}
+use Rattle.std.specs.Prelude.{◌==◌, ◌&&◌, ◌||◌, ◌⊎◌, is_none, not, unwrap_or}
+use Rattle.std.specs.List.{flat_map, last_or}
+use Rattle.std.specs.Option.{option_and_then, option_map_or}
+use Rattle.std.proofs.lemmas.Bool.{cases_Bool, cases_eq, cond-true, cond-false, and_parts, or_parts}
+use Rattle.std.proofs.lemmas.Bool.{false≢true, both_ways, not-true}
+use Rattle.std.proofs.lemmas.Option.{same_Some}
+use Rattle.link_model.specs.Books.{Book, book_of}
+use Rattle.link_model.specs.Feeders.{Feeder, EnteredSession, session_opening, keeps_of, job_by}
+use Rattle.link_model.specs.Feeders.{kept_job, picture_keeps, heard_pictures, let_go_pictures}
+use Rattle.link_model.specs.Feeders.{is_among, answer_in, has_released, slice_job, is_decoded}
+use Rattle.link_model.specs.Feeding.{is_same_job, has_job, takes_answer, with_answer}
+use Rattle.link_model.specs.Kept.{Own}
+use Rattle.link_model.specs.Numbers.{is_closed, is_opened, parts_of}
+use Rattle.link_model.specs.Output.{frame_bytes_at, all_output}
+use Rattle.link_model.specs.Next.{taken_back}
+use Rattle.link_model.specs.Places.{Job, Answered, decoding}
+use Rattle.link_model.specs.Session.{HeardSession, sessions_of}
+use Rattle.link_model.specs.Windows.{Window, WindowPast, StandsForPast, past_let_go, window_of}
+use Rattle.link_model.specs.Windows.{book_at, is_needed, released_up_to}
+use Rattle.link_model.specs.declared.tally.Tally.{Tally}
+use Rattle.link_model.proofs.WindowStands.{book_is}
+use Rattle.vc_types.specs.Subbands.{slice_count}
+use Rattle.link_reception.specs.Exchanging.{book_job, window_job}
+use Rattle.link_reception.specs.Exchanging.{unreleased_job, own_job, is_wanted, takes_done}
+use Rattle.link_reception.specs.Exchanging.{Exchange, Proposed, Fetched, out_at, back_from}
+use Rattle.link_reception.specs.Exchanging.{all_exchanged, dones_in}
+use Rattle.link_reception.specs.Receptions.{StandingSession, Reception, FirstField, Decoding}
+use Rattle.link_reception.specs.Receptions.{SliceOut}
+use Rattle.link_reception.specs.Receptions.{answers_at, kept_answer, keeps_answer, no_answers}
+use Rattle.link_reception.specs.Standing.{past_fields, past_counts}
+use Rattle.link_model.specs.Interleavings.{AreOwnAnswers}
+use Rattle.link_reception.specs.Standing.{HasSlots, answered_planes, AreDecodings}
+use Rattle.link_reception.proofs.KeptAnswers.{slots_before, keeps_own, keeps_others}
+use Rattle.link_reception.proofs.KeptAnswers.{keeps_found, room_of_none, room_stays}
+use Rattle.link_reception.proofs.ReleasedNumbers.{released_is}
+use Rattle.link_reception.proofs.SessionPictures.{among_append}
+use Rattle.link_reception.proofs.SliceJobs.{other_answer, same_planes_by, book_job_is}
+use Rattle.link_reception.proofs.SliceJobs.{same_job_is, kept_job_is}
+use Rattle.link_reception.proofs.WaitingFields.{waiting_is}
+
+abbrev pub entered_of : WindowPast → EnteredSession
+entered_of p = record { sequence = p.sequence; entries = p.entries }
+
+-- The window's past is that of the session on which the receiver works, behind these sessions, all
+-- of whose pictures were released. The tally is that of what came before the session's pictures.
+pub record IsWorking (r : Reception) (size : ℕ) (f : Feeder) (hs : List HeardSession)
+    (p : WindowPast) (st : StandingSession) (t : Tally) : Type 0 where
+  pub open_pictures : r.size ≡ size
+  pub ended : r.has_ended ≡ f.has_ended
+  pub stands : r.standing ≡ Some st
+  pub sequence : st.session.sequence ≡ p.sequence
+  pub window : StandsForPast st.window p
+  pub let_go : let_go_pictures size f.has_ended (sessions_of f.heard)
+      ≡ heard_pictures size hs ++ past_let_go p
+  pub released : f.released ≡ heard_pictures size hs ++ p.released
+  pub opened : (n : ℕ) → is_opened p.entries n ≡ true
+      → session_opening size (sessions_of f.heard) n ≡ Some (entered_of p)
+  pub others : (n : ℕ) → is_opened p.entries n ≡ false
+      → (is_among (heard_pictures size hs) n ≡ true)
+      ⊎ (session_opening size (sessions_of f.heard) n ≡ None)
+  pub apart : (n : ℕ) → is_opened p.entries n ≡ true → is_among (heard_pictures size hs) n ≡ false
+  pub written : f.written
+      ≡ all_output size hs ++ flat_map (frame_bytes_at p.sequence p.entries) p.released
+  pub own : AreOwnAnswers size (sessions_of f.heard) f.decoded
+  pub answers : (n i : ℕ) → has_released f n ≡ false
+      → kept_answer r.answers n i ≡ answer_in f.decoded n i
+  pub room : (n : ℕ) → HasSlots size (sessions_of f.heard) n (answers_at r.answers n)
+  pub first_field : (w : FirstField) → r.field ≡ Some w
+      → answered_planes size (sessions_of f.heard) f.decoded w.number ≡ Some w.planes
+  pub waiting : r.field ≡ (past_fields p).waiting
+  pub counted : r.counts ≡ past_counts p t
+
+module _ (r : Reception) (size : ℕ) (f : Feeder) (hs : List HeardSession) (p : WindowPast)
+    (st : StandingSession) (t : Tally) (works : IsWorking r size f hs p st t) where
+  pub released_parts : (n : ℕ)
+      → has_released f n ≡ (is_among (heard_pictures size hs) n || is_among p.released n)
+  released_parts n = ap (λ (l : List ℕ). is_among l n) works.released
+      ∙ among_append (heard_pictures size hs) p.released n
+
+  pub last_released_is : st.window.last_released ≡ last_or None p.released
+  unfolding window_of
+  last_released_is = ap (λ (w : Window). w.last_released) works.window.value
+
+  unopened_job : (n i : ℕ) → is_opened p.entries n ≡ false → window_job st.window n i ≡ None
+  unopened_job n i shut =
+      ap (option_and_then (λ (book : Book). book_job book n i)) (book_is st.window p works.window n
+      ∙ ap (λ (b : Bool). cond (b && is_needed p n)
+      (Some (book_of p.sequence (parts_of n p.entries))) None) shut)
+
+  -- a picture that is opened and isn't released has its book
+  pub book_of_unreleased : (n : ℕ) → is_opened p.entries n ≡ true
+      → released_up_to (last_or None p.released) n ≡ false
+      → book_at st.window.books n ≡ Some (book_of p.sequence (parts_of n p.entries))
+  book_of_unreleased n opened above =
+      book_is st.window p works.window n
+      ∙ by_tests (is_opened p.entries n) opened (p.is_ended || is_closed p.size p.entries n)
+      (released_up_to (last_or None p.released) n) above
+    where
+      by_tests : (was : Bool) → was ≡ true → (closed low : Bool) → low ≡ false
+          → cond (was && not (closed && low))
+          (Some (book_of p.sequence (parts_of n p.entries))) None
+          ≡ Some (book_of p.sequence (parts_of n p.entries))
+      by_tests true is true false away = refl
+      by_tests true is false low away = refl
+      by_tests true is true true away = absurd (false≢true (sym away))
+      by_tests false is closed low away = absurd (false≢true is)
+
+  own_job_by : (n i : ℕ) → own_job r n i
+      ≡ cond (released_up_to (last_or None p.released) n) None (window_job st.window n i)
+  own_job_by n i =
+      ap (option_and_then (λ (s : StandingSession). unreleased_job s n i)) works.stands
+      ∙ ap (λ (o : Option ℕ). cond (released_up_to o n) None (window_job st.window n i))
+      last_released_is
+
+  -- a released picture has no job
+  pub own_job_gone : (n i : ℕ) → has_released f n ≡ true → own_job r n i ≡ None
+  own_job_gone n i gone = own_job_by n i ∙ elim (cases_Bool (is_opened p.entries n)) [
+    | inl opened ↦ cond-true (released_up_to (last_or None p.released) n) None
+        (window_job st.window n i)
+        (sym (released_is p works.window.in_order n opened)
+        ∙ sym (ap (λ (b : Bool). b || is_among p.released n) (works.apart n opened))
+        ∙ sym (released_parts n)
+        ∙ gone)
+    | inr shut ↦ ap (λ (o : Option Job). cond (released_up_to (last_or None p.released) n) None o)
+        (unopened_job n i shut)
+        ∙ both_none (released_up_to (last_or None p.released) n)
+  ]
+    where
+      no_job : Option Job
+      no_job = None
+
+      both_none : (b : Bool) → cond b no_job no_job ≡ None
+      both_none true = refl
+      both_none false = refl
+
+  -- and one that isn't released has the feeder's
+  pub own_job_is : (n i : ℕ) → has_released f n ≡ false → own_job r n i ≡ slice_job size f n i
+  unfolding kept_job
+  own_job_is n i stays =
+      own_job_by n i
+      ∙ elim (cases_Bool (is_opened p.entries n)) [
+        | inl opened ↦ (let above = sym (released_is p works.window.in_order n opened)
+            ∙ (or_parts (is_among (heard_pictures size hs) n) (is_among p.released n)
+            (sym (released_parts n) ∙ stays)).1 in
+            cond-false (released_up_to (last_or None p.released) n) None
+            (window_job st.window n i) above
+            ∙ ap (option_and_then (λ (book : Book). book_job book n i))
+            (book_of_unreleased n opened above)
+            ∙ book_job_is p.sequence (parts_of n p.entries) n i
+            ∙ sym (ap (λ (o : Option EnteredSession). option_and_then (λ kept. job_by kept n i)
+            (option_and_then (λ e. keeps_of e n) o)) (works.opened n opened)))
+        | inr shut ↦ ap (λ (o : Option Job). cond (released_up_to (last_or None p.released) n)
+            no_job o) (unopened_job n i shut)
+            ∙ both_none (released_up_to (last_or None p.released) n)
+            ∙ sym (feeder_none (works.others n shut))
+      ]
+    where
+      no_job : Option Job
+      no_job = None
+
+      both_none : (b : Bool) → cond b no_job no_job ≡ None
+      both_none true = refl
+      both_none false = refl
+
+      feeder_none : (is_among (heard_pictures size hs) n ≡ true)
+          ⊎ (session_opening size (sessions_of f.heard) n ≡ None) → slice_job size f n i ≡ None
+      feeder_none (inl before) = absurd (both_ways (is_among (heard_pictures size hs) n)
+          (or_parts (is_among (heard_pictures size hs) n) (is_among p.released n)
+          (sym (released_parts n) ∙ stays)).0 before)
+      feeder_none (inr none) = ap (λ (o : Option EnteredSession).
+          option_and_then (λ kept. job_by kept n i) (option_and_then (λ e. keeps_of e n) o)) none
+
+  -- ---- a decoded slice that is given back
+
+  -- it is used where the feeder uses it
+  pub wanted_is : (done : Answered) → is_wanted r done
+      ≡ (has_job size f done.job && not (is_decoded f done.job.number done.job.index))
+  wanted_is done = elim (cases_Bool (has_released f done.job.number)) [
+    | inl gone ↦
+        ap (λ (o : Option Job). option_map_or (is_same_job done.job) o false
+        && is_none (kept_answer r.answers done.job.number done.job.index))
+        (own_job_gone done.job.number done.job.index gone)
+        ∙ sym (ap (λ (b : Bool). (not b && option_map_or (is_same_job done.job)
+        (slice_job size f done.job.number done.job.index) false)
+        && not (is_decoded f done.job.number done.job.index)) gone)
+    | inr stays ↦
+        ap (λ (o : Option Job). option_map_or (is_same_job done.job) o false
+        && is_none (kept_answer r.answers done.job.number done.job.index))
+        (own_job_is done.job.number done.job.index stays)
+        ∙ ap (λ (o : Option Decoding). option_map_or (is_same_job done.job)
+        (slice_job size f done.job.number done.job.index) false && is_none o)
+        (works.answers done.job.number done.job.index stays)
+        ∙ sym (ap (λ (b : Bool). (not b && option_map_or (is_same_job done.job)
+        (slice_job size f done.job.number done.job.index) false)
+        && not (is_decoded f done.job.number done.job.index)) stays)
+  ]
+
+  -- a first field that waits was released
+  pub waiting_released : (w : FirstField) → r.field ≡ Some w → has_released f w.number ≡ true
+  waiting_released w is =
+      let found = waiting_is p.sequence p.entries w p.released (sym works.waiting ∙ is) in
+      released_parts w.number
+      ∙ or_right (is_among (heard_pictures size hs) w.number) (is_among p.released w.number)
+      (ap (is_among p.released) found.2.number ∙ found.1)
+    where
+      or_right : (a b : Bool) → b ≡ true → (a || b) ≡ true
+      or_right true b e = refl
+      or_right false b e = e
+
+  module _ (done : Answered) (right : done.answer ≡ decoding done.job)
+      (wanted : is_wanted r done ≡ true) where
+    abbrev n : ℕ
+    n = done.job.number
+
+    abbrev i : ℕ
+    i = done.job.index
+
+    tests : (has_job size f done.job ≡ true) × (not (is_decoded f n i) ≡ true)
+    tests = and_parts (has_job size f done.job) (not (is_decoded f n i))
+        (sym (wanted_is done) ∙ wanted)
+
+    halves : (not (has_released f n) ≡ true)
+        × (option_map_or (is_same_job done.job) (slice_job size f n i) false ≡ true)
+    halves = and_parts (not (has_released f n))
+        (option_map_or (is_same_job done.job) (slice_job size f n i) false) tests.0
+
+    unreleased : has_released f n ≡ false
+    unreleased = not-true (has_released f n) halves.0
+
+    its_job : slice_job size f n i ≡ Some done.job
+    its_job = by_job (slice_job size f n i) refl halves.1
+      where
+        by_job : (o : Option Job) → slice_job size f n i ≡ o
+            → option_map_or (is_same_job done.job) o false ≡ true
+            → slice_job size f n i ≡ Some done.job
+        by_job None at e = absurd (false≢true e)
+        by_job (Some job) at e = at ∙ sym (ap Some (same_job_is done.job job e))
+
+    kept_there : (kept : Own) × (picture_keeps size (sessions_of f.heard) n ≡ Some kept)
+        × (done.job.plan ≡ kept.plan.parameters) × (i < slice_count kept.plan.parameters)
+    kept_there = kept_job_is size (sessions_of f.heard) n i done.job its_job
+
+    slots_count : length (slots_before done r.answers)
+        ≡ slice_count kept_there.0.plan.parameters
+    slots_count = by_slots (answers_at r.answers n) (works.room n)
+      where
+        by_slots : (o : Option (List (Option Decoding))) → HasSlots size (sessions_of f.heard) n o
+            → length (unwrap_or o (no_answers (slice_count done.job.plan)))
+            ≡ slice_count kept_there.0.plan.parameters
+        by_slots None room = room_of_none (slice_count done.job.plan)
+            ∙ ap slice_count kept_there.2
+        by_slots (Some slots) room =
+            let same : room.0 ≡ kept_there.0 =
+            same_Some room.0 kept_there.0 (sym room.1 ∙ kept_there.1) in
+            room.2 ∙ ap (λ (kept : Own). slice_count kept.plan.parameters) same
+
+    room_for_it : i < length (slots_before done r.answers)
+    room_for_it = omega (arith, slots_count, kept_there.3)
+
+    room_behind : (m : ℕ) → HasSlots size (sessions_of f.heard) m
+        (answers_at (keeps_answer r.answers done) m)
+    room_behind m = elim (cases_eq n m) [
+      | inl same ↦ subst (λ k. HasSlots size (sessions_of f.heard) k
+          (answers_at (keeps_answer r.answers done) k)) same
+          (subst (HasSlots size (sessions_of f.heard) n) (sym (keeps_own done r.answers)) (
+            kept_there.0,
+            kept_there.1,
+            room_stays (slots_before done r.answers) i done.answer ∙ slots_count,
+          ))
+      | inr other ↦ subst (HasSlots size (sessions_of f.heard) m)
+          (sym (keeps_others done m other r.answers)) (works.room m)
+    ]
+
+    pub with_one_answer : IsWorking (record r { answers = keeps_answer r.answers done }) size
+        (with_answer f done) hs p st t
+    with_one_answer = record {
+      open_pictures = works.open_pictures;
+      ended = works.ended;
+      stands = works.stands;
+      sequence = works.sequence;
+      window = works.window;
+      let_go = works.let_go;
+      released = works.released;
+      opened = works.opened;
+      others = works.others;
+      apart = works.apart;
+      written = works.written;
+      own = ((done.job, its_job, right), works.own);
+      answers = λ m j stays. keeps_found done r.answers room_for_it m j
+          ∙ ap (λ (o : Option Decoding). cond (n == m && i == j) (Some done.answer) o)
+          (works.answers m j stays);
+      room = room_behind;
+      first_field = λ w is. same_planes_by f.decoded (with_answer f done).decoded w.number
+          (other_answer (record { number = n; index = i; answer = done.answer }) f.decoded w.number
+          (λ same. both_ways (has_released f n) unreleased
+          (ap (has_released f) same ∙ waiting_released w is)))
+          (picture_keeps size (sessions_of f.heard) w.number)
+          ∙ works.first_field w is;
+      waiting = works.waiting;
+      counted = works.counted;
+    }
+
+  pub takes_working : (done : Answered) → done.answer ≡ decoding done.job
+      → IsWorking (takes_done r done) size (takes_answer size f done) hs p st t
+  unfolding takes_done
+  takes_working done right = elim (cases_Bool (is_wanted r done)) [
+    | inl wanted ↦ (let used : takes_answer size f done ≡ with_answer f done =
+        cond-true (has_job size f done.job
+        && not (is_decoded f done.job.number done.job.index)) (with_answer f done) f
+        (sym (wanted_is done) ∙ wanted) in
+        let kept : takes_done r done ≡ record r { answers = keeps_answer r.answers done } =
+        cond-true (is_wanted r done) (record r { answers = keeps_answer r.answers done }) r
+        wanted in
+        subst (λ (v : Reception). IsWorking v size (takes_answer size f done) hs p st t) (sym kept)
+        (subst (λ (g : Feeder).
+        IsWorking (record r { answers = keeps_answer r.answers done }) size g hs p st t)
+        (sym used) (with_one_answer done right wanted)))
+    | inr other ↦ (let unused : takes_answer size f done ≡ f =
+        cond-false (has_job size f done.job
+        && not (is_decoded f done.job.number done.job.index)) (with_answer f done) f
+        (sym (wanted_is done) ∙ other) in
+        let same : takes_done r done ≡ r =
+        cond-false (is_wanted r done) (record r { answers = keeps_answer r.answers done }) r
+        other in
+        subst (λ (v : Reception). IsWorking v size (takes_answer size f done) hs p st t) (sym same)
+        (subst (λ (g : Feeder). IsWorking r size g hs p st t) (sym unused) works))
+  ]
+
+  -- ---- slices that are out
+
+  pub with_out : (out : List SliceOut) → IsWorking (record r { out = out }) size f hs p st t
+  with_out out = record {
+    open_pictures = works.open_pictures;
+    ended = works.ended;
+    stands = works.stands;
+    sequence = works.sequence;
+    window = works.window;
+    let_go = works.let_go;
+    released = works.released;
+    opened = works.opened;
+    others = works.others;
+    apart = works.apart;
+    written = works.written;
+    own = works.own;
+    answers = works.answers;
+    room = works.room;
+    first_field = works.first_field;
+    waiting = works.waiting;
+    counted = works.counted;
+  }
+
+-- ---- one call to the places after another
+
+pub all_working : (size : ℕ) (hs : List HeardSession) (p : WindowPast) (st : StandingSession)
+    (t : Tally) (xs : List Exchange) (r : Reception) (f : Feeder)
+    → IsWorking r size f hs p st t → AreDecodings (dones_in xs)
+    → IsWorking (all_exchanged r xs) size (taken_back size f (dones_in xs)) hs p st t
+all_working size hs p st t [] r f works right = works
+all_working size hs p st t (Proposed job None ∷ xs) r f works right =
+    all_working size hs p st t xs r f works right
+all_working size hs p st t (Proposed job (Some place) ∷ xs) r f works right =
+    all_working size hs p st t xs (record r { out = r.out ++ out_at job place ∷ [] }) f
+    (with_out r size f hs p st t works (r.out ++ out_at job place ∷ [])) right
+all_working size hs p st t (Fetched place None ∷ xs) r f works right =
+    all_working size hs p st t xs r f works right
+all_working size hs p st t (Fetched place (Some done) ∷ xs) r f works right =
+    all_working size hs p st t xs (takes_done (back_from r place) done) (takes_answer size f done)
+    (takes_working (back_from r place) size f hs p st t
+    (with_out r size f hs p st t works (back_from r place).out) done right.0) right.1

@@ -1,0 +1,102 @@
+ghost use Rattle.std.specs.Prelude.{◌≡◌, ℕ, ◌≤◌, true, false, List, [], ◌∷◌, ◌++◌, Some, None};
+ghost use Rattle.link_model.specs.Feeders.{Feeder, new_feeder, releasable};
+ghost use Rattle.link_model.specs.Feeding.{hears_datagram, hears_end};
+ghost use Rattle.link_model.specs.Judgement.{outcome_behind, tally_of};
+ghost use Rattle.link_model.specs.Machine.{Enter, Finish};
+ghost use Rattle.link_model.specs.Next.{next_feeder, taken_back};
+ghost use Rattle.link_model.specs.Output.{output_so_far, full_output};
+ghost use Rattle.link_model.specs.Places.{Job};
+ghost use Rattle.link_model.specs.Session.{Fragment, sessions_of};
+ghost use Rattle.link_model.specs.Windows.{Window, WindowPast, StandsForPast, window_enters};
+ghost use Rattle.link_reception.specs.Entering.{before_releases, takes_datagram, datagram_bytes};
+ghost use Rattle.link_reception.specs.Entering.{takes_end, end_bytes};
+ghost use Rattle.link_reception.specs.Exchanging.{Exchange, all_exchanged, dones_in};
+ghost use Rattle.link_reception.specs.Exchanging.{window_job, offered_jobs, is_job_among};
+ghost use Rattle.link_reception.specs.Judging.{judged, keeps_datagram, ends_input};
+ghost use Rattle.link_reception.specs.Receptions.{Reception, new_reception};
+ghost use Rattle.link_reception.specs.Standing.{StandsFor, StandsForHeard, AreDecodings};
+ghost use Rattle.link_reception.specs.Standing.{out_without, with_picture_counts};
+ghost use Rattle.link_reception.specs.Standing.{leaves_pictures, LeavesSession, frames_written};
+
+/// A new receiver stands for a feeder that heard nothing.
+pub fn a_new_receiver_stands_for_nothing()
+    ensures { (size : ℕ) → StandsFor (new_reception size) size new_feeder }
+{}
+
+/// A receiver judges a datagram as the list of those before it says, its counts of outcomes are the
+/// tally's, and its frames those of the output so far. Behind it the receiver stands for the longer
+/// list, and for the feeder that heard the datagram, took back the same decoded slices and released
+/// what it may. It writes what is due: the output so far of the longer list without that of the
+/// shorter one.
+pub fn receivers_follow_datagrams()
+    ensures outcome { (r : Reception) (size : ℕ) (datagrams : List (List ℕ)) (d : List ℕ)
+        → StandsForHeard r size datagrams false
+        → judged r d ≡ outcome_behind size datagrams d }
+    ensures counts { (r : Reception) (size : ℕ) (datagrams : List (List ℕ))
+        → StandsForHeard r size datagrams false
+        → r.counts ≡ with_picture_counts (tally_of size datagrams) r.counts }
+    ensures frames { (r : Reception) (size : ℕ) (datagrams : List (List ℕ))
+        → StandsForHeard r size datagrams false
+        → r.counts.frames ≡ frames_written size (sessions_of datagrams) }
+    ensures stands { (r : Reception) (size : ℕ) (f : Feeder) → size ≤ 8 → StandsFor r size f
+        → f.has_ended ≡ false → (exchanges : List Exchange) → AreDecodings (dones_in exchanges)
+        → (d : List ℕ) → StandsFor (takes_datagram r d exchanges) size
+        (next_feeder size f (Enter d) (dones_in exchanges)) }
+    ensures written { (r : Reception) (size : ℕ) (f : Feeder) → size ≤ 8 → StandsFor r size f
+        → f.has_ended ≡ false → (exchanges : List Exchange) → AreDecodings (dones_in exchanges)
+        → (d : List ℕ) → output_so_far size (f.heard ++ d ∷ [])
+        ≡ output_so_far size f.heard ++ datagram_bytes r d exchanges }
+{}
+
+/// A datagram with an outcome other than HeaderNew, End and those by which a picture keeps
+/// something leaves the session that stands, and what its pictures keep. It may open a picture, and
+/// close others, so that they are forgotten.
+pub fn unkept_datagrams_change_nothing()
+    ensures { (r : Reception) (size : ℕ) (datagrams : List (List ℕ)) (d : List ℕ)
+        → StandsForHeard r size datagrams false → leaves_pictures (judged r d) ≡ true
+        → LeavesSession r.standing (keeps_datagram r d).standing }
+{}
+
+/// The jobs that a fragment offers are those of the slices that it brings: their pictures keep them
+/// behind it, and didn't before.
+pub fn new_slices_are_offered()
+    ensures every { (w : Window) (p : WindowPast) → StandsForPast w p → p.is_ended ≡ false
+        → (f : Fragment) (n i : ℕ) (job : Job) → window_job w n i ≡ None
+        → window_job (window_enters w f) n i ≡ Some job
+        → is_job_among (offered_jobs w (window_enters w f) f) job ≡ true }
+    ensures only { (old new : Window) (f : Fragment) (job : Job)
+        → is_job_among (offered_jobs old new f) job ≡ true
+        → (window_job new job.number job.index ≡ Some job)
+        × (window_job old job.number job.index ≡ None) }
+{}
+
+/// The slices of the pictures that a call releases aren't out any more behind it, and all others
+/// are that were out before its releases.
+pub fn released_slices_are_not_out()
+    ensures datagram { (r : Reception) (size : ℕ) (f : Feeder) → size ≤ 8 → StandsFor r size f
+        → f.has_ended ≡ false → (exchanges : List Exchange) → AreDecodings (dones_in exchanges)
+        → (d : List ℕ) → (takes_datagram r d exchanges).out ≡ out_without
+        (releasable size (taken_back size (hears_datagram f d) (dones_in exchanges)))
+        (before_releases r d exchanges).out }
+    ensures at_end { (r : Reception) (size : ℕ) (f : Feeder) → size ≤ 8 → StandsFor r size f
+        → f.has_ended ≡ false → (exchanges : List Exchange) → AreDecodings (dones_in exchanges)
+        → (takes_end r exchanges).out ≡ out_without
+        (releasable size (taken_back size (hears_end f) (dones_in exchanges)))
+        (all_exchanged (ends_input r) exchanges).out }
+{}
+
+/// At the end of the input a receiver stands for the feeder to which the end came. It writes the
+/// rest of the full output, and its counts are the tally.
+pub fn receivers_follow_the_end()
+    ensures stands { (r : Reception) (size : ℕ) (f : Feeder) → size ≤ 8 → StandsFor r size f
+        → f.has_ended ≡ false → (exchanges : List Exchange) → AreDecodings (dones_in exchanges)
+        → StandsFor (takes_end r exchanges) size
+        (next_feeder size f Finish (dones_in exchanges)) }
+    ensures written { (r : Reception) (size : ℕ) (f : Feeder) → size ≤ 8 → StandsFor r size f
+        → f.has_ended ≡ false → (exchanges : List Exchange) → AreDecodings (dones_in exchanges)
+        → full_output size f.heard
+        ≡ output_so_far size f.heard ++ end_bytes r exchanges }
+    ensures counts { (r : Reception) (size : ℕ) (f : Feeder) → size ≤ 8 → StandsFor r size f
+        → f.has_ended ≡ false → (exchanges : List Exchange) → AreDecodings (dones_in exchanges)
+        → (takes_end r exchanges).counts ≡ tally_of size f.heard }
+{}
