@@ -4,3 +4,4 @@ pub mod Exchanging
 pub mod Releasing
 pub mod Entering
 pub mod Standing
+pub mod WholeBooks

@@ -9,8 +9,10 @@ use Rattle.link_model.specs.Session.{Session}
 use Rattle.link_model.specs.Windows.{Window}
 use Rattle.link_model.specs.declared.tally.Tally.{Tally}
 use Rattle.vc_types.specs.Planes.{Planes}
+use Rattle.vc_types.specs.SameValues.{same_parameters}
 use Rattle.vc_types.specs.Slices.{Coefficients}
 use Rattle.vc_types.specs.Subbands.{slice_count}
+use Rattle.vc_types.specs.TransformParameters.{Parameters}
 use Rattle.vc_types.specs.declared.refusal.Unsound.{Unsound}
 
 -- a session, whether it has had its end, and its window
@@ -23,9 +25,10 @@ pub record StandingSession : Type 0 where
 abbrev pub Decoding : Type 0
 Decoding = Result Coefficients Unsound
 
--- the answers to a picture's slices in raster order, those that came
+-- a picture's number and parameters, and the answers to its slices in raster order, those that came
 pub record PictureAnswers : Type 0 where
   pub number : ℕ
+  pub parameters : Parameters
   pub slices : List (Option Decoding)
 
 -- a slice of a picture, and the place that it was put into
@@ -63,31 +66,35 @@ new_reception size = record {
 
 -- ---- answers
 
-abbrev pub answers_at : List PictureAnswers → ℕ → Option (List (Option Decoding))
+abbrev pub answers_at : List PictureAnswers → ℕ → Option PictureAnswers
 answers_at [] n = None
-answers_at (a ∷ rest) n = if a.number == n then Some a.slices else answers_at rest n
+answers_at (a ∷ rest) n = if a.number == n then Some a else answers_at rest n
 
 abbrev pub answer_at : List (Option Decoding) → ℕ → Option Decoding
 answer_at slices i = option_and_then (λ answer. answer) (slice_get slices i)
 
 -- the answer to a slice of a picture
 abbrev pub kept_answer : List PictureAnswers → ℕ → ℕ → Option Decoding
-kept_answer answers n i = option_and_then (λ slices. answer_at slices i) (answers_at answers n)
+kept_answer answers n i = option_and_then (λ a. answer_at a.slices i) (answers_at answers n)
 
-abbrev pub no_answers : ℕ → List (Option Decoding)
-no_answers count = replicate count None
-
-abbrev pub answers_with : List (Option Decoding) → Answered → PictureAnswers
-answers_with slices done = record {
-  number = done.job.number;
-  slices = slice_set slices done.job.index (Some done.answer);
+abbrev pub no_answers : ℕ → Parameters → PictureAnswers
+no_answers n p = record {
+  number = n;
+  parameters = p;
+  slices = replicate (slice_count p) None;
 }
+
+-- none by other parameters is kept
+abbrev pub answers_with : PictureAnswers → Answered → PictureAnswers
+answers_with a done =
+    if same_parameters a.parameters done.job.plan
+    then record a { slices = slice_set a.slices done.job.index (Some done.answer) } else a
 
 -- one answer more
 abbrev pub keeps_answer : List PictureAnswers → Answered → List PictureAnswers
-keeps_answer [] done = answers_with (no_answers (slice_count done.job.plan)) done ∷ []
+keeps_answer [] done = answers_with (no_answers done.job.number done.job.plan) done ∷ []
 keeps_answer (a ∷ rest) done =
-    if a.number == done.job.number then answers_with a.slices done ∷ rest
+    if a.number == done.job.number then answers_with a done ∷ rest
     else a ∷ keeps_answer rest done
 
 -- the answers of all pictures but one

@@ -11,25 +11,38 @@ use Rattle.link_model.specs.Output.{raw_bytes, woven_fields}
 use Rattle.link_model.specs.Windows.{Window, book_at, Releasable, next_release, releases}
 use Rattle.link_model.specs.declared.tally.Tally.{Tally}
 use Rattle.vc_types.specs.Planes.{Planes, planes_of}
+use Rattle.vc_types.specs.SameValues.{same_parameters}
 use Rattle.vc_types.specs.SequenceHeader.{Sequence}
 use Rattle.vc_types.specs.Slices.{Coefficients, slice_coefficients}
+use Rattle.vc_types.specs.TransformParameters.{Parameters}
 use Rattle.link_reception.specs.Receptions.{StandingSession, Decoding, PictureAnswers, SliceOut}
-use Rattle.link_reception.specs.Receptions.{FirstField, Reception, kept_answer, answers_without}
+use Rattle.link_reception.specs.Receptions.{FirstField, Reception, answers_at, answer_at}
+use Rattle.link_reception.specs.Receptions.{answers_without}
 
 -- ---- its planes
 
 abbrev pub slot_bytes : Gathered → ℕ → List ℕ
 slot_bytes g i = unwrap_or (slot_at g.slots i) []
 
--- the answer to a slice, or what the receiver itself decodes it to
+-- the answers by these parameters
+abbrev pub answers_by : Parameters → PictureAnswers → List (Option Decoding)
+answers_by p a = if same_parameters a.parameters p then a.slices else []
+
+-- the answer to a picture's slice
+abbrev pub own_answer_at : List PictureAnswers → ℕ → Gathered → ℕ → Option Decoding
+own_answer_at answers n g i =
+    answer_at (option_map_or (answers_by g.plan.parameters) (answers_at answers n) []) i
+
+-- it, or what the receiver itself decodes the slice to
 abbrev pub slice_decoding : List PictureAnswers → ℕ → Gathered → ℕ → Decoding
 slice_decoding answers n g i =
-    unwrap_or (kept_answer answers n i) (slice_coefficients g.plan.parameters i (slot_bytes g i))
+    unwrap_or (own_answer_at answers n g i)
+    (slice_coefficients g.plan.parameters i (slot_bytes g i))
 
 -- the slices that it decodes itself, in rising order
 abbrev pub undecoded_slices : List PictureAnswers → ℕ → Gathered → List ℕ
 undecoded_slices answers n g =
-    filter (λ i. is_none (kept_answer answers n i)) (range_with_len 0 (length g.slots))
+    filter (λ i. is_none (own_answer_at answers n g i)) (range_with_len 0 (length g.slots))
 
 abbrev pub if_sound : Decoding → Option Coefficients
 if_sound (Ok coefficients) = Some coefficients

@@ -23,7 +23,7 @@ use Rattle.link_model.specs.declared.tally.Tally.{Tally}
 use Rattle.vc_types.specs.Planes.{Planes}
 use Rattle.vc_types.specs.SequenceHeader.{Sequence}
 use Rattle.vc_types.specs.Subbands.{slice_count}
-use Rattle.link_reception.specs.Receptions.{StandingSession, Reception, FirstField, Decoding}
+use Rattle.link_reception.specs.Receptions.{StandingSession, Reception, FirstField, PictureAnswers}
 use Rattle.link_reception.specs.Receptions.{answers_at, kept_answer, SliceOut}
 use Rattle.link_reception.specs.Releasing.{fields_alone, field_behind}
 
@@ -169,12 +169,13 @@ out_without released out = filter (λ slice. not (is_among released slice.number
 
 -- ---- a feeder
 
--- there is room for each slice of the picture
-abbrev pub HasSlots : ℕ → List HeardSession → ℕ → Option (List (Option Decoding)) → Type 0
+-- they have the picture's parameters, and room for each of its slices
+abbrev pub HasSlots : ℕ → List HeardSession → ℕ → Option PictureAnswers → Type 0
 HasSlots size hs n None = Unit {0}
-HasSlots size hs n (Some slices) =
+HasSlots size hs n (Some a) =
     (kept : Own) × (picture_keeps size hs n ≡ Some kept)
-    × (length slices ≡ slice_count kept.plan.parameters)
+    × (a.parameters ≡ kept.plan.parameters)
+    × (length a.slices ≡ slice_count kept.plan.parameters)
 
 -- the planes of a picture, if each of its slices has an answer that is sound
 abbrev pub answered_planes : ℕ → List HeardSession → List SliceAnswer → ℕ → Option Planes
