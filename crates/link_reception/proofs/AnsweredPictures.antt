@@ -32,7 +32,8 @@ use Rattle.vc_types.proofs.WholeSlices.{whole_slice, slice_before}
 use Rattle.vc_types.proofs.WholeSlices.{slices_from-sound, slices_from-unsound}
 use Rattle.link_reception.specs.Receptions.{Decoding, PictureAnswers, kept_answer}
 use Rattle.link_reception.specs.Releasing.{if_sound, sound_slices, slice_decoding}
-use Rattle.link_reception.specs.Releasing.{gathered_planes, book_planes}
+use Rattle.link_reception.specs.Releasing.{own_answer_at, gathered_planes, book_planes}
+use Rattle.link_reception.proofs.KeptAnswers.{kept_where_own}
 
 -- ---- slices that are read one after another
 
@@ -293,9 +294,9 @@ module _ (s : Sequence) (parts : List Part) (kept : Own) (is : own s parts ≡ S
     where
       one_decoding : (k : ℕ) → k < count
           → slice_decoding answers n (gathered_of kept) k ≡ own_decoding k
-      one_decoding k below = by_answer (kept_answer answers n k) refl
+      one_decoding k below = by_answer (own_answer_at answers n (gathered_of kept) k) refl
         where
-          by_answer : (o : Option Decoding) → kept_answer answers n k ≡ o
+          by_answer : (o : Option Decoding) → own_answer_at answers n (gathered_of kept) k ≡ o
               → unwrap_or o (slice_coefficients kept.plan.parameters k
               (unwrap_or (slot_at (gathered_of kept).slots k) [])) ≡ own_decoding k
           by_answer None at =
@@ -303,7 +304,8 @@ module _ (s : Sequence) (parts : List Part) (kept : Own) (is : own s parts ≡ S
               ap (λ (b : Option (List ℕ)).
               slice_coefficients kept.plan.parameters k (unwrap_or b []))
               (slot_inside (own_slice kept) 0 count k below ∙ ap (own_slice kept) here)
-          by_answer (Some d) at = own_answers k d at
+          by_answer (Some d) at =
+              own_answers k d (kept_where_own answers n (gathered_of kept) k d at)
 
       gathered_planes_are : gathered_planes answers n (gathered_of kept) ≡ own_planes
       gathered_planes_are =

@@ -16,7 +16,7 @@ use Rattle.link_model.specs.Session.{HeardSession, hears}
 use Rattle.link_model.proofs.Apart.{sessions_apart}
 use Rattle.vc_types.specs.Planes.{Planes, planes_of}
 use Rattle.vc_types.specs.Subbands.{slice_count}
-use Rattle.link_reception.specs.Receptions.{Decoding}
+use Rattle.link_reception.specs.Receptions.{PictureAnswers}
 use Rattle.link_reception.specs.Standing.{HasSlots}
 use Rattle.link_model.specs.Interleavings.{AreOwnAnswers}
 use Rattle.link_reception.specs.Standing.{answered_planes}
@@ -39,14 +39,15 @@ module _ (size : ℕ) (small : size ≤ 8) (hs : List HeardSession) (d : List �
     own_stays rest own.1,
   )
 
-  pub room_stays : (n : ℕ) (o : Option (List (Option Decoding))) → HasSlots size hs n o
+  pub room_stays : (n : ℕ) (o : Option PictureAnswers) → HasSlots size hs n o
       → HasSlots size (hears hs d) n o
   room_stays n None room = tt
-  room_stays n (Some slots) room =
+  room_stays n (Some a) room =
       let later = picture_keeps_on size small n room.0 hs d room.1 in (
         later.0,
         later.1,
-        room.2
+        room.2 ∙ ap (λ (plan : KeptParameters). plan.parameters) (sym later.2.plan),
+        room.3
             ∙ ap (λ (plan : KeptParameters). slice_count plan.parameters) (sym later.2.plan),
       )
 

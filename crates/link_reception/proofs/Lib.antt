@@ -13,6 +13,7 @@ pub mod OfferedJobs
 pub mod UnkeptDatagrams
 pub mod BuiltPictures
 pub mod Releases
+pub mod ReleaseSteps
 pub mod ReleaseRuns
 pub mod Tallies
 pub mod CountedOutcomes

@@ -17,15 +17,16 @@ use Rattle.link_model.specs.Next.{feeder_run, unanswered, releasing, all_releasi
 use Rattle.link_model.specs.Output.{frame_bytes_at}
 use Rattle.link_model.specs.Session.{HeardSession, sessions_of}
 use Rattle.link_model.specs.Windows.{Window, WindowPast, past_releases, window_of}
-use Rattle.link_model.specs.Windows.{releasable_numbers, first_of, as_releasable, Releasable}
+use Rattle.link_model.specs.Windows.{releasable_numbers, first_of, as_releasable}
 use Rattle.link_model.specs.Windows.{next_release}
 use Rattle.link_model.specs.declared.tally.Tally.{Tally}
 use Rattle.link_model.proofs.WindowStands.{next_is, releasable_next}
 use Rattle.link_reception.specs.Receptions.{StandingSession, Reception, SliceOut}
-use Rattle.link_reception.specs.Releasing.{next_picture, releases_picture_of, released_bytes}
+use Rattle.link_reception.specs.Releasing.{next_picture, released_bytes}
 use Rattle.link_reception.specs.Releasing.{releases_up_to, bytes_up_to, book_count, is_of_other}
 use Rattle.link_reception.specs.Standing.{out_without}
 use Rattle.link_reception.proofs.Redone.{redone_others}
+use Rattle.link_reception.proofs.ReleaseSteps.{step_on, step_bytes, stops, stops_writing}
 use Rattle.link_reception.proofs.ReleasedNumbers.{AreRising, among_rising, released_rise}
 use Rattle.link_reception.proofs.ReleasedNumbers.{books_enough, unreleased_are}
 use Rattle.link_reception.proofs.Releases.{receiver_then, receiver_then_is, feeder_then}
@@ -48,36 +49,6 @@ unanswered_same f g m same (Some kept) = filter_same
     (λ i. has_all_slices kept && not (is_decoded g m i))
     (λ i. has_all_slices kept && not (is_decoded f m i))
     (λ i. ap (λ (b : Bool). has_all_slices kept && not b) (same i)) (slice_numbers kept)
-
--- ---- one step of the receiver
-
-module _ (k : ℕ) (r : Reception) where
-  step_on : (picture : Releasable) → next_picture r ≡ Some picture
-      → releases_up_to (suc k) r ≡ releases_up_to k (releases_picture_of r picture)
-  unfolding releases_up_to
-  step_on picture is = ap (λ (o : Option Releasable). option_map_or
-      (λ picture. releases_up_to k (releases_picture_of r picture)) o r) is
-
-  step_bytes : (picture : Releasable) → next_picture r ≡ Some picture
-      → bytes_up_to (suc k) r
-      ≡ released_bytes r picture ++ bytes_up_to k (releases_picture_of r picture)
-  unfolding bytes_up_to
-  step_bytes picture is = ap (λ (o : Option Releasable). option_map_or
-      (λ picture. released_bytes r picture
-      ++ bytes_up_to k (releases_picture_of r picture)) o []) is
-
-stops : (k : ℕ) (r : Reception) → next_picture r ≡ None → releases_up_to k r ≡ r
-unfolding releases_up_to
-stops zero r none = refl
-stops (suc k) r none = ap (λ (o : Option Releasable). option_map_or
-    (λ picture. releases_up_to k (releases_picture_of r picture)) o r) none
-
-stops_writing : (k : ℕ) (r : Reception) → next_picture r ≡ None → bytes_up_to k r ≡ []
-unfolding bytes_up_to
-stops_writing zero r none = refl
-stops_writing (suc k) r none = ap (λ (o : Option Releasable). option_map_or
-    (λ picture. released_bytes r picture
-    ++ bytes_up_to k (releases_picture_of r picture)) o []) none
 
 -- ---- slices that are out
 

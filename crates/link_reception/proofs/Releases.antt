@@ -29,7 +29,7 @@ use Rattle.link_model.specs.declared.tally.Tally.{Tally}
 use Rattle.link_model.proofs.WindowStands.{next_is, releases_stands}
 use Rattle.vc_types.specs.Planes.{Planes}
 use Rattle.vc_types.specs.SequenceHeader.{Sequence}
-use Rattle.link_reception.specs.Receptions.{StandingSession, Reception, FirstField}
+use Rattle.link_reception.specs.Receptions.{StandingSession, PictureAnswers, Reception, FirstField}
 use Rattle.link_reception.specs.Receptions.{answers_at, answer_at, kept_answer, answers_without}
 use Rattle.link_reception.specs.Releasing.{released_planes, book_planes, released_frame}
 use Rattle.link_reception.specs.Releasing.{field_before, field_behind, fields_alone, one_if}
@@ -253,7 +253,8 @@ module _ (r : Reception) (size : ℕ) (f : Feeder) (hs : List HeardSession) (p :
       (sym (among_append f.released (n ∷ []) m) ∙ stays) in
       let other : n ≡ m → ⊥ = λ same. both_ways (is_among (n ∷ []) m) parts.1
       (ap (λ (b : Bool). b || false) (eq-eqb n m same)) in
-      ap (option_and_then (λ slices. answer_at slices i)) (without_others n m other r.answers)
+      ap (option_and_then (λ (a : PictureAnswers). answer_at a.slices i))
+      (without_others n m other r.answers)
       ∙ works.answers m i parts.0
       ∙ sym (redone_others size heard n missing f.decoded m other i)
 

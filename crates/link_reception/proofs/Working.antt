@@ -30,12 +30,13 @@ use Rattle.link_reception.specs.Exchanging.{unreleased_job, own_job, is_wanted, 
 use Rattle.link_reception.specs.Exchanging.{Exchange, Proposed, Fetched, out_at, back_from}
 use Rattle.link_reception.specs.Exchanging.{all_exchanged, dones_in}
 use Rattle.link_reception.specs.Receptions.{StandingSession, Reception, FirstField, Decoding}
-use Rattle.link_reception.specs.Receptions.{SliceOut}
+use Rattle.link_reception.specs.Receptions.{PictureAnswers, SliceOut}
 use Rattle.link_reception.specs.Receptions.{answers_at, kept_answer, keeps_answer, no_answers}
 use Rattle.link_reception.specs.Standing.{past_fields, past_counts}
 use Rattle.link_model.specs.Interleavings.{AreOwnAnswers}
 use Rattle.link_reception.specs.Standing.{HasSlots, answered_planes, AreDecodings}
-use Rattle.link_reception.proofs.KeptAnswers.{slots_before, keeps_own, keeps_others}
+use Rattle.link_reception.proofs.KeptAnswers.{answers_before, answers_by_same}
+use Rattle.link_reception.proofs.KeptAnswers.{keeps_own, keeps_others}
 use Rattle.link_reception.proofs.KeptAnswers.{keeps_found, room_of_none, room_stays}
 use Rattle.link_reception.proofs.ReleasedNumbers.{released_is}
 use Rattle.link_reception.proofs.SessionPictures.{among_append}
@@ -245,32 +246,38 @@ module _ (r : Reception) (size : ℕ) (f : Feeder) (hs : List HeardSession) (p :
         × (done.job.plan ≡ kept.plan.parameters) × (i < slice_count kept.plan.parameters)
     kept_there = kept_job_is size (sessions_of f.heard) n i done.job its_job
 
-    slots_count : length (slots_before done r.answers)
-        ≡ slice_count kept_there.0.plan.parameters
-    slots_count = by_slots (answers_at r.answers n) (works.room n)
+    slots : ((answers_before done r.answers).parameters ≡ done.job.plan)
+        × (length (answers_before done r.answers).slices
+        ≡ slice_count kept_there.0.plan.parameters)
+    slots = by_answers (answers_at r.answers n) (works.room n)
       where
-        by_slots : (o : Option (List (Option Decoding))) → HasSlots size (sessions_of f.heard) n o
-            → length (unwrap_or o (no_answers (slice_count done.job.plan)))
-            ≡ slice_count kept_there.0.plan.parameters
-        by_slots None room = room_of_none (slice_count done.job.plan)
-            ∙ ap slice_count kept_there.2
-        by_slots (Some slots) room =
+        by_answers : (o : Option PictureAnswers) → HasSlots size (sessions_of f.heard) n o
+            → ((unwrap_or o (no_answers n done.job.plan)).parameters ≡ done.job.plan)
+            × (length (unwrap_or o (no_answers n done.job.plan)).slices
+            ≡ slice_count kept_there.0.plan.parameters)
+        by_answers None room =
+            (refl, room_of_none n done.job.plan ∙ ap slice_count kept_there.2)
+        by_answers (Some a) room =
             let same : room.0 ≡ kept_there.0 =
-            same_Some room.0 kept_there.0 (sym room.1 ∙ kept_there.1) in
-            room.2 ∙ ap (λ (kept : Own). slice_count kept.plan.parameters) same
+            same_Some room.0 kept_there.0 (sym room.1 ∙ kept_there.1) in (
+              room.2 ∙ ap (λ (kept : Own). kept.plan.parameters) same ∙ sym kept_there.2,
+              room.3 ∙ ap (λ (kept : Own). slice_count kept.plan.parameters) same,
+            )
 
-    room_for_it : i < length (slots_before done r.answers)
-    room_for_it = omega (arith, slots_count, kept_there.3)
+    room_for_it : i < length (answers_before done r.answers).slices
+    room_for_it = omega (arith, slots.1, kept_there.3)
 
     room_behind : (m : ℕ) → HasSlots size (sessions_of f.heard) m
         (answers_at (keeps_answer r.answers done) m)
     room_behind m = elim (cases_eq n m) [
       | inl same ↦ subst (λ k. HasSlots size (sessions_of f.heard) k
           (answers_at (keeps_answer r.answers done) k)) same
-          (subst (HasSlots size (sessions_of f.heard) n) (sym (keeps_own done r.answers)) (
+          (subst (HasSlots size (sessions_of f.heard) n) (sym (keeps_own done r.answers
+          ∙ ap Some (answers_by_same done (answers_before done r.answers) slots.0))) (
             kept_there.0,
             kept_there.1,
-            room_stays (slots_before done r.answers) i done.answer ∙ slots_count,
+            slots.0 ∙ kept_there.2,
+            room_stays (answers_before done r.answers).slices i done.answer ∙ slots.1,
           ))
       | inr other ↦ subst (HasSlots size (sessions_of f.heard) m)
           (sym (keeps_others done m other r.answers)) (works.room m)
@@ -291,7 +298,7 @@ module _ (r : Reception) (size : ℕ) (f : Feeder) (hs : List HeardSession) (p :
       apart = works.apart;
       written = works.written;
       own = ((done.job, its_job, right), works.own);
-      answers = λ m j stays. keeps_found done r.answers room_for_it m j
+      answers = λ m j stays. keeps_found done r.answers slots.0 room_for_it m j
           ∙ ap (λ (o : Option Decoding). cond (n == m && i == j) (Some done.answer) o)
           (works.answers m j stays);
       room = room_behind;
