@@ -1,0 +1,2 @@
+pub mod PicturePlanes
+pub mod Frames
