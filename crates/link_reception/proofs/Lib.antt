@@ -26,4 +26,5 @@ pub mod Idle
 pub mod EarlyDatagrams
 pub mod EarlyEnd
 pub mod Following
+pub mod Exchanges
 pub mod ReceiverRows
