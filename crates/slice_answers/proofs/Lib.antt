@@ -1,0 +1,4 @@
+mod SeenSlots
+mod PictureLists
+mod CompletedSlices
+mod ReleasedPictures
