@@ -2,3 +2,4 @@ mod SeenSlots
 mod PictureLists
 mod CompletedSlices
 mod ReleasedPictures
+mod WholeBooks

@@ -1,36 +1,33 @@
 -- A picture that is released: its book's slices, the answers to them, and its planes.
 use Rattle.std.proofs.Common.{◌≡◌, ℕ, zero, suc, ◌<◌, Bool, true, false, List, [], ◌∷◌, length, Option, Some, None}
 use Rattle.std.proofs.Common.{Result, Ok, Err, refl, sym, ap, subst, ◌∙◌, arith, cond}
-use Rattle.std.specs.Prelude.{is_some, unwrap_or, IfOk, IfSome}
+use Rattle.std.specs.Prelude.{is_some, unwrap_or, IfOk}
 use Rattle.std.specs.List.{list_all, range_with_len}
 use Rattle.std.specs.Option.{option_map, option_map_or, option_and_then}
 use Rattle.std.proofs.lemmas.Bool.{false≢true, and_parts}
 use Rattle.std.proofs.lemmas.Option.{none-some, same_Some}
-use Rattle.link_model.specs.Books.{Gathered, Book, Slots, slot_at, book_slice, book_plan}
+use Rattle.link_model.specs.Books.{Gathered, Book, Slots, slot_at, book_slice}
 use Rattle.link_model.specs.Books.{gathered_bytes, gathered_whole, book_whole}
-use Rattle.link_model.specs.Kept.{KeptParameters}
 use Rattle.link_reception.specs.Receptions.{Decoding, PictureAnswers, answer_at, answers_at}
 use Rattle.link_reception.specs.Receptions.{no_answers}
 use Rattle.link_reception.specs.Releasing.{answers_by, own_answer_at, slice_decoding}
 use Rattle.link_reception.specs.Releasing.{sound_slices, gathered_planes, book_planes}
-use Rattle.link_reception.specs.WholeBooks.{IsWholeBook, ArePicturePlanes}
+use Rattle.link_reception.specs.WholeBooks.{IsWholeBook}
 use Rattle.picture_build.specs.Kept.{PartPicture}
-use Rattle.slice_answers.specs.Completing.{comes_to, book_bytes, IsWholePlan, HasWholeSlices}
-use Rattle.slice_answers.specs.Completing.{IsWholeIfAny}
+use Rattle.slice_answers.specs.Completing.{comes_to, book_bytes, HasWholeSlices}
 use Rattle.slice_answers.specs.SeenAnswers.{part_answer, answers_of_plan}
 use Rattle.slice_answers.proofs.CompletedSlices.{same_sound}
 use Rattle.slice_answers.proofs.SeenSlots.{none_at}
-use Rattle.vc_types.specs.Planes.{Planes, planes_in, planes_of}
-use Rattle.vc_types.specs.Rasters.{Raster}
+use Rattle.vc_types.specs.Planes.{planes_of}
 use Rattle.vc_types.specs.SameValues.{same_parameters}
 use Rattle.vc_types.specs.SequenceHeader.{Sequence}
-use Rattle.vc_types.specs.Slices.{Coefficients, slice_coefficients}
+use Rattle.vc_types.specs.Slices.{slice_coefficients}
 use Rattle.vc_types.specs.Subbands.{slice_count}
 use Rattle.vc_types.specs.TransformParameters.{Parameters}
 use Rattle.vc_types.specs.declared.refusal.Unsound.{Unsound}
 use Rattle.vc_types.proofs.SameValues.{parameters_exactly}
 
--- ---- a book's plan
+-- ---- a book's slices
 
 gathered_whole_is : (g : Gathered) → is_some (gathered_whole g) ≡ true
     → list_all is_some g.slots ≡ true
@@ -48,24 +45,6 @@ slot_there (slot ∷ slots) all (suc i) h =
     slot_there slots (and_parts (is_some slot) (list_all is_some slots) all).1 i (omega (arith, h))
 
 module _ (book : Book) where
-  pub whole_plan : (plan : Option Parameters)
-      → plan ≡ option_map (λ (k : KeptParameters). k.parameters) (book_plan book)
-      → is_some (book_whole book) ≡ true → IsWholePlan book plan
-  whole_plan plan is whole = by_gathered book.gathered refl plan is whole
-    where
-      by_gathered : (o : Option Gathered) → book.gathered ≡ o → (plan : Option Parameters)
-          → plan ≡ option_map (λ (k : KeptParameters). k.parameters)
-          (option_map (λ (g : Gathered). g.plan) o)
-          → is_some (option_and_then gathered_whole o) ≡ true → IsWholePlan book plan
-      by_gathered None at plan is whole = absurd (false≢true whole)
-      by_gathered (Some g) at None is whole = absurd (none-some g.plan.parameters is)
-      by_gathered (Some g) at (Some p) is whole = (
-        g,
-        at,
-        sym (same_Some p g.plan.parameters is),
-        ap (λ (o : Option Gathered). is_some (option_and_then gathered_whole o)) at ∙ whole,
-      )
-
   module _ (g : Gathered) (at : book.gathered ≡ Some g) where
     slice_is : (i : ℕ) → book_slice book i ≡ slot_at g.slots i
     slice_is i = ap (λ (o : Option Gathered).
@@ -120,50 +99,6 @@ module _ (book : Book) where
           (same_sound decoding (slice_decoding answers n g) same (range_with_len 0 (length g.slots)))
           ∙ sym (ap (option_and_then (gathered_planes answers n)) at)
           ∙ sym (ap (λ b. cond b (option_and_then (gathered_planes answers n) book.gathered) None) whole)
-
-  pub planes_none : (answers : List PictureAnswers) (n : ℕ) → is_some (book_whole book) ≡ false
-      → book_planes answers n book ≡ None
-  planes_none answers n open_yet =
-      ap (λ b. cond b (option_and_then (gathered_planes answers n) book.gathered) None) open_yet
-
--- ---- planes of a picture of the sequence
-
-book_shaped : (s : Sequence) (answers : List PictureAnswers) (n : ℕ) (book : Book) (planes : Planes)
-    → IsWholeBook s book → book_planes answers n book ≡ Some planes → ArePicturePlanes s planes
-book_shaped s answers n book planes is e = by_whole (is_some (book_whole book)) e
-  where
-    by_slices : (g : Gathered) → book.gathered ≡ Some g → (o : Option (List Coefficients))
-        → option_map (planes_of g.plan.parameters) o ≡ Some planes → ArePicturePlanes s planes
-    by_slices g at None e = absurd (none-some planes e)
-    by_slices g at (Some slices) e = record {
-      parameters = g.plan.parameters;
-      slices = slices;
-      shape = (is g at).shape;
-      are = sym (same_Some (planes_of g.plan.parameters slices) planes e);
-    }
-
-    by_gathered : (o : Option Gathered) → book.gathered ≡ o
-        → option_and_then (gathered_planes answers n) o ≡ Some planes → ArePicturePlanes s planes
-    by_gathered None at e = absurd (none-some planes e)
-    by_gathered (Some g) at e = by_slices g at
-        (sound_slices (slice_decoding answers n g) (range_with_len 0 (length g.slots))) e
-
-    by_whole : (b : Bool)
-        → cond b (option_and_then (gathered_planes answers n) book.gathered) None ≡ Some planes
-        → ArePicturePlanes s planes
-    by_whole true e = by_gathered book.gathered refl e
-    by_whole false e = absurd (none-some planes e)
-
-pub planes_shaped : {E : Type 0} (s : Sequence) (answers : List PictureAnswers) (n : ℕ)
-    (book : Option Book) (result : Result (Option (List Raster)) E) → IsWholeIfAny s book
-    → IfOk result (λ planes. option_map planes_in planes
-    ≡ option_and_then (book_planes answers n) book)
-    → IfOk result (λ planes. IfSome planes (λ p. ArePicturePlanes s (planes_in p)))
-planes_shaped s answers n book (Ok None) is e = tt
-planes_shaped s answers n None (Ok (Some planes)) is e = absurd (none-some (planes_in planes) (sym e))
-planes_shaped s answers n (Some book) (Ok (Some planes)) is e =
-    book_shaped s answers n book (planes_in planes) is (sym e)
-planes_shaped s answers n book (Err why) is e = e
 
 -- ---- answers that are kept by these parameters
 

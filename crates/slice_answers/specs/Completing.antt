@@ -20,6 +20,11 @@ abbrev pub IsWholeIfAny : Sequence → Option Book → Type 0
 IsWholeIfAny s None = Unit {0}
 IsWholeIfAny s (Some book) = IsWholeBook s book
 
+-- of some sequence
+abbrev pub IsWholeBySome : Option Book → Type 0
+IsWholeBySome None = Unit {0}
+IsWholeBySome (Some book) = (s : Sequence) × IsWholeBook s book
+
 -- the parameters of a book that is complete
 abbrev pub IsWholePlan : Book → Option Parameters → Type 0
 IsWholePlan book None = is_some (book_whole book) ≡ false

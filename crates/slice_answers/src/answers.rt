@@ -3,7 +3,7 @@ ghost use Rattle.std.specs.Option.{option_and_then, option_copied, option_map, o
 ghost use Rattle.link_reception.specs.Receptions.{PictureAnswers, answer_at, answers_at, answers_without, keeps_answer, kept_answer};
 ghost use Rattle.link_reception.specs.Releasing.{answers_by, book_planes};
 ghost use Rattle.link_reception.specs.WholeBooks.{ArePicturePlanes, IsWholeBook};
-ghost use Rattle.slice_answers.specs.Completing.{IsWholeIfAny, IsWholePlan};
+ghost use Rattle.slice_answers.specs.Completing.{IsWholeBySome, IsWholeIfAny, IsWholePlan};
 ghost use Rattle.slice_answers.specs.Jobs.{answered};
 ghost use Rattle.slice_answers.specs.SeenAnswers.{answers_of_plan, is_of_number};
 ghost use Rattle.vc_types.specs.Planes.{planes_in};
@@ -93,7 +93,7 @@ impl Answers {
         number: u64,
         book: Option<&PictureBook>,
     ) -> Result<Option<[Plane; 3]>, NoMemory>
-        requires whole { (s : Sequence) × IsWholeIfAny s (option_copied book) }
+        requires whole { IsWholeBySome (option_copied book) }
         ensures planes { IfOk result (λ planes. option_map planes_in planes
             ≡ option_and_then (book_planes self.old number) (option_copied book.entry)) }
         ensures value { OnOk result (self.new ≡ answers_without self.old number) }

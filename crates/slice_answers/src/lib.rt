@@ -7,3 +7,6 @@ mod completing;
 mod picture;
 
 pub use answers::Answers;
+
+#[cfg(test)]
+mod tests;
