@@ -1,4 +1,4 @@
-use Rattle.std.proofs.Common.{◌≡◌, [], ◌∷◌, ◌++◌}
+use Rattle.std.proofs.Common.{[], ◌∷◌, ◌++◌}
 use Rattle.link_model.specs.Session.{ParamsPart}
 use Rattle.vc_types.specs.SequenceHeader.{sequence_of}
 use Rattle.slice_answers.proofs.WholeBooks.{book_is_whole}
