@@ -1,4 +1,4 @@
-ghost use Rattle.std.specs.Prelude.{◌≡◌, ◌+◌, ◌-◌, ◌^◌, ◌<◌, ◌≤◌, ◌&&◌, if◌then◌else◌, IfOk, OnOk, Ok, Some, None, true, false};
+ghost use Rattle.std.specs.Prelude.{◌≡◌, ◌+◌, ◌-◌, ◌^◌, ◌<◌, ◌≤◌, ◌&&◌, if◌then◌else◌, IfOk, OnOk, Ok, Some, None, true, false, length};
 ghost use Rattle.std.specs.Option.{option_copied, option_map};
 ghost use Rattle.link_model.specs.Books.{book_of};
 ghost use Rattle.link_model.specs.Judgement.{fragment_outcome};
@@ -260,6 +260,13 @@ impl Window {
     {
         self.progress.is_ended = true;
         self.forget();
+    }
+
+    /// How many books are kept.
+    pub fn open_pictures(&self) -> usize
+        ensures { result ≡ length self.now.books }
+    {
+        self.pictures.len()
     }
 
     /// The greatest number of a fragment that wasn't late, or of the earlier sessions where there

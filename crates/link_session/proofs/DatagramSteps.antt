@@ -1,0 +1,200 @@
+-- What a datagram is to a session, by what was read of it.
+use Rattle.std.proofs.Common.{◌≡◌, ℕ, ◌+◌, ◌-◌, ◌≤◌, Bool, true, false, List, length, drop, Option, Some, None, length-take-le, length-drop}
+use Rattle.std.proofs.Common.{Result, Ok, Err, refl, ap, sym, subst, ◌∙◌, arith, cond}
+use Rattle.std.specs.Prelude.{◌==◌, ◌&&◌, is_some, slice_range}
+use Rattle.std.specs.Option.{option_map}
+use Rattle.std.proofs.lemmas.Bool.{cond-true, cond-false, eq-eqb, ne_eqb}
+use Rattle.std.proofs.lemmas.Option.{same_Some, none-some}
+use Rattle.link_model.specs.Judgement.{early_outcome, opening_outcome, header_outcome, refusal_outcome}
+use Rattle.link_model.specs.Packets.{PayloadValue, Header, End, Skip, Params, Slices, RtpPacket}
+use Rattle.link_model.specs.Packets.{rtp_packet, payload}
+use Rattle.link_model.specs.Session.{Received, received, DatagramRefusal, OfRtp, OfPayload, of_packet}
+use Rattle.link_model.specs.Session.{of_payload, Session, session_by, session_with, session_from, begins}
+use Rattle.link_model.specs.Session.{fragment_by, fragment_from, fragment_in, is_end, end_from, ends}
+use Rattle.link_model.specs.Windows.{window_outcome}
+use Rattle.link_model.specs.declared.outcome.Outcome.{Outcome}
+use Rattle.link_model.specs.declared.outcome.Outcome.TheVariants as outcomes
+use Rattle.link_model.specs.declared.refusal.PayloadRefusal.{PayloadRefusal}
+use Rattle.link_model.specs.declared.refusal.RtpRefusal.{RtpRefusal}
+use Rattle.link_reception.specs.Judging.{opens_from, opens_after, standing_outcome, outcome_from, outcome_by}
+use Rattle.link_reception.specs.Receptions.{StandingSession}
+use Rattle.link_session.specs.Hearing.{OpensSession, BringsFragment, EndsSession, ChangesNothing}
+use Rattle.link_session.specs.Openings.{session_of}
+use Rattle.link_session.specs.declared.heard.Opening.{Opening}
+use Rattle.link_window.specs.Views.{sent_fragment}
+use Rattle.link_window.specs.declared.fragment.Fragment.{Fragment}
+use Rattle.vc_types.specs.SequenceHeader.{Sequence, coded_header}
+use Rattle.vc_types.specs.declared.refusal.HeaderRefusal.{HeaderRefusal}
+use Rattle.vc2_payload.specs.Views.{StandsAt}
+use Rattle.bytes.proofs.Ranges.{slice_range-slice_range}
+
+-- ---- reading
+
+module _ (d : List ℕ) where
+  pub no_packet : (refusal : RtpRefusal) → rtp_packet d ≡ Err refusal → received d ≡ Err (OfRtp refusal)
+  unfolding received
+  no_packet refusal is = ap (of_packet d) is
+
+  pub no_payload : (packet : RtpPacket) (refusal : PayloadRefusal) → rtp_packet d ≡ Ok packet → payload (slice_range d packet.from packet.to) ≡ Err refusal → received d ≡ Err (OfPayload refusal)
+  unfolding received
+  no_payload packet refusal is none = ap (of_packet d) is ∙ ap (of_payload packet.ssrc) none
+
+body_within : (d : List ℕ) (from to place : ℕ) (body : List ℕ) → from ≤ to → to ≤ length d → StandsAt (slice_range d from to) place body → from + (place + length body) ≤ to
+body_within d from to place body ordered within stands =
+    let inside : place + length body ≤ length (slice_range d from to) = stands.0 in
+    let long : length (slice_range d from to) ≡ to - from = length-take-le (to - from) (drop from d) (let rest = length-drop from d in omega (arith, rest)) in
+    omega (arith, inside, long)
+
+-- a body of the payload that stands from one place up to another
+pub body_is : (d : List ℕ) (from to place : ℕ) (body : List ℕ) → from ≤ to → to ≤ length d → StandsAt (slice_range d from to) place body
+    → slice_range d (from + place) (from + place + length body) ≡ body
+body_is d from to place body ordered within stands =
+    let last : from + place + length body ≡ from + (place + length body) = omega arith in
+    ap (slice_range d (from + place)) last
+    ∙ sym (slice_range-slice_range d from to place (place + length body) (omega arith) (body_within d from to place body ordered within stands))
+    ∙ sym stands.1
+
+-- ---- what was read
+
+module _ (d : List ℕ) (r : Received) (is : received d ≡ Ok r) where
+  begins_is : begins d ≡ session_by r.ssrc r.value
+  unfolding begins
+  begins_is = ap session_from is
+
+  fragment_is : (s : Session) → fragment_in s d ≡ cond (r.ssrc == s.ssrc) (fragment_by r.value) None
+  unfolding fragment_in
+  fragment_is s = ap (fragment_from s) is
+
+  end_is : (s : Session) → ends s d ≡ (r.ssrc == s.ssrc && is_end r.value)
+  unfolding ends
+  end_is s = ap (end_from s) is
+
+  outcome_is : (standing : Option StandingSession) → outcome_by standing (received d) ≡ outcome_from standing r
+  outcome_is standing = ap (outcome_by standing) is
+
+  -- ---- before a session stands
+
+  opens_early : (value : PayloadValue) (ssrc : ℕ) (s : Session) → session_by ssrc value ≡ Some s → early_outcome value ≡ outcomes.HeaderNew
+  opens_early (Header high from body) ssrc s e = by_read (coded_header body) e
+    where
+      by_read : (o : Result (Sequence × ℕ) HeaderRefusal) → session_with ssrc o ≡ Some s → opening_outcome o ≡ outcomes.HeaderNew
+      by_read (Ok read) e = refl
+      by_read (Err refusal) e = absurd (none-some s e)
+  opens_early (End high) ssrc s e = absurd (none-some s e)
+  opens_early (Skip high code) ssrc s e = absurd (none-some s e)
+  opens_early (Params head from body) ssrc s e = absurd (none-some s e)
+  opens_early (Slices head count x y from body) ssrc s e = absurd (none-some s e)
+
+  pub opens_first : (o : Opening) → session_by r.ssrc r.value ≡ Some (session_of o) → OpensSession None d o
+  opens_first o opens = record {
+    opens = begins_is ∙ opens;
+    outcome = outcome_is None ∙ opens_early r.value r.ssrc (session_of o) opens;
+  }
+
+  pub nothing_first : (o : Outcome) → session_by r.ssrc r.value ≡ None → o ≡ early_outcome r.value → ChangesNothing None d o
+  nothing_first o none outcome = record {
+    goes_on = begins_is ∙ none;
+    no_fragment = λ st e. absurd (none-some st e);
+    no_end = λ st e. absurd (none-some st e);
+    outcome = outcome_is None ∙ sym outcome;
+  }
+
+  -- ---- behind a session that stands
+
+  module _ (st : StandingSession) where
+    abbrev some : Option StandingSession
+    some = Some st
+
+    next_outcome : outcome_by some (received d) ≡ cond (is_some (opens_from st (session_by r.ssrc r.value))) outcomes.HeaderNew (cond (r.ssrc == st.session.ssrc) (standing_outcome st r.value) outcomes.Foreign)
+    next_outcome = outcome_is some
+
+    pub opens_behind : (o : Opening) → opens_from st (session_by r.ssrc r.value) ≡ Some (session_of o) → OpensSession some d o
+    opens_behind o opens = record {
+      opens = ap (opens_from st) begins_is ∙ opens;
+      outcome = next_outcome ∙ ap (λ (n : Option Session). cond (is_some n) outcomes.HeaderNew (cond (r.ssrc == st.session.ssrc) (standing_outcome st r.value) outcomes.Foreign)) opens;
+    }
+
+    module _ (none : opens_from st (session_by r.ssrc r.value) ≡ None) where
+      still : opens_after some (begins d) ≡ None
+      still = ap (opens_from st) begins_is ∙ none
+
+      no_opening : outcome_by some (received d) ≡ cond (r.ssrc == st.session.ssrc) (standing_outcome st r.value) outcomes.Foreign
+      no_opening = next_outcome ∙ ap (λ (n : Option Session). cond (is_some n) outcomes.HeaderNew (cond (r.ssrc == st.session.ssrc) (standing_outcome st r.value) outcomes.Foreign)) none
+
+      -- of another source
+      pub foreign : (r.ssrc ≡ st.session.ssrc → ⊥) → ChangesNothing some d outcomes.Foreign
+      foreign other =
+          let differs = ne_eqb r.ssrc st.session.ssrc other in
+          record {
+            goes_on = still;
+            no_fragment = λ t e. subst (λ (t : StandingSession). fragment_in t.session d ≡ None) (same_Some st t e) (fragment_is st.session ∙ cond-false (r.ssrc == st.session.ssrc) (fragment_by r.value) None differs);
+            no_end = λ t e. subst (λ (t : StandingSession). ends t.session d ≡ false) (same_Some st t e) (end_is st.session ∙ ap (λ (b : Bool). b && is_end r.value) differs);
+            outcome = no_opening ∙ cond-false (r.ssrc == st.session.ssrc) (standing_outcome st r.value) outcomes.Foreign differs;
+          }
+
+      module _ (source : r.ssrc ≡ st.session.ssrc) where
+        same : (r.ssrc == st.session.ssrc) ≡ true
+        same = eq-eqb r.ssrc st.session.ssrc source
+
+        own_fragment : fragment_in st.session d ≡ fragment_by r.value
+        own_fragment = fragment_is st.session ∙ cond-true (r.ssrc == st.session.ssrc) (fragment_by r.value) None same
+
+        own_end : ends st.session d ≡ is_end r.value
+        own_end = end_is st.session ∙ ap (λ (b : Bool). b && is_end r.value) same
+
+        own_outcome : outcome_by some (received d) ≡ standing_outcome st r.value
+        own_outcome = no_opening ∙ cond-true (r.ssrc == st.session.ssrc) (standing_outcome st r.value) outcomes.Foreign same
+
+        pub nothing_more : (o : Outcome) → fragment_by r.value ≡ None → is_end r.value ≡ false → standing_outcome st r.value ≡ o → ChangesNothing some d o
+        nothing_more o no_fragment no_end outcome = record {
+          goes_on = still;
+          no_fragment = λ t e. subst (λ (t : StandingSession). fragment_in t.session d ≡ None) (same_Some st t e) (own_fragment ∙ no_fragment);
+          no_end = λ t e. subst (λ (t : StandingSession). ends t.session d ≡ false) (same_Some st t e) (own_end ∙ no_end);
+          outcome = own_outcome ∙ outcome;
+        }
+
+        pub has_end : fragment_by r.value ≡ None → is_end r.value ≡ true → standing_outcome st r.value ≡ outcomes.End → EndsSession some d
+        has_end no_fragment end outcome = record {
+          session = st;
+          stands = refl;
+          goes_on = still;
+          no_fragment = own_fragment ∙ no_fragment;
+          end = own_end ∙ end;
+          outcome = own_outcome ∙ outcome;
+        }
+
+        pub brings : (f : Fragment) → fragment_by r.value ≡ Some (sent_fragment f) → is_end r.value ≡ false → standing_outcome st r.value ≡ window_outcome st.window (sent_fragment f) → BringsFragment some d f
+        brings f fragment no_end outcome = record {
+          session = st;
+          stands = refl;
+          goes_on = still;
+          fragment = own_fragment ∙ fragment;
+          no_end = own_end ∙ no_end;
+          outcome = own_outcome ∙ outcome;
+        }
+
+-- one that can't be read
+module _ (d : List ℕ) (refusal : DatagramRefusal) (is : received d ≡ Err refusal) where
+  unread_begins : begins d ≡ None
+  unfolding begins
+  unread_begins = ap session_from is
+
+  unread_fragment : (s : Session) → fragment_in s d ≡ None
+  unfolding fragment_in
+  unread_fragment s = ap (fragment_from s) is
+
+  unread_end : (s : Session) → ends s d ≡ false
+  unfolding ends
+  unread_end s = ap (end_from s) is
+
+  unread_opens : (standing : Option StandingSession) → opens_after standing (begins d) ≡ None
+  unread_opens None = unread_begins
+  unread_opens (Some st) = ap (opens_from st) unread_begins
+
+  pub unread : (standing : Option StandingSession) (o : Outcome) → o ≡ refusal_outcome refusal → ChangesNothing standing d o
+  unread standing o outcome = record {
+    goes_on = unread_opens standing;
+    no_fragment = λ st e. unread_fragment st.session;
+    no_end = λ st e. unread_end st.session;
+    outcome = ap (outcome_by standing) is ∙ sym outcome;
+  }

@@ -1,0 +1,18 @@
+use Rattle.std.proofs.Common.{◌≡◌, ap, sym, ◌∙◌, map}
+use Rattle.std.proofs.lemmas.Result.{on_ok_weaker}
+use Rattle.link_model.proofs.WindowStands.{enters_runs}
+use Rattle.link_reception.specs.Receptions.{StandingSession}
+use Rattle.link_session.specs.Jobs.{job_of}
+use Rattle.link_session.proofs.WindowJobs.{late_offers}
+use Rattle.link_window.specs.Views.{sent_fragment}
+use Rattle.link_session.proofs.standing.Standing.enter.Goals as goal
+
+pub returns-in-Some-clause-running : goal.returns-in-Some-clause-running
+returns-in-Some-clause-running c =
+    let w = c.args.self.now.window in
+    let f = sent_fragment c.args.f in
+    on_ok_weaker c.enter_picture.result (λ after. ap (λ (st : StandingSession). st.window.is_ended) after ∙ enters_runs w f ∙ c.requires) c.enter_picture.ensures.value
+
+pub returns-in_ok-enter_window-in-None-clause-jobs : goal.returns-in_ok-enter_window-in-None-clause-jobs
+returns-in_ok-enter_window-in-None-clause-jobs c =
+    ap (map job_of) c.new.ensures.items ∙ sym (late_offers c.args.self.now.window (sent_fragment c.args.f) c.in-None.ensures)

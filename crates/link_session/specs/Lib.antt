@@ -1,0 +1,5 @@
+pub mod Jobs
+pub mod Openings
+pub mod Hearing
+pub mod Pasts
+pub mod Missing

@@ -1,0 +1,154 @@
+ghost use Rattle.std.specs.Prelude.{◌≡◌, ◌++◌, [], List, ℕ, IfOk, OnOk, false, filter, filter_map, map};
+ghost use Rattle.std.specs.List.{cons_option, range_with_len};
+ghost use Rattle.std.specs.Option.{option_copied, option_map, option_map_or};
+ghost use Rattle.link_model.specs.Feeding.{is_same_job};
+ghost use Rattle.link_reception.specs.Exchanging.{book_job, numbers_in};
+ghost use Rattle.link_reception.specs.WholeBooks.{IsWholeBook};
+ghost use Rattle.link_session.specs.Jobs.{job_of};
+ghost use Rattle.link_session.specs.Missing.{is_missing, missing_in};
+ghost use Rattle.vc_types.specs.SequenceHeader.{Sequence};
+ghost use Rattle.vc_types.specs.Subbands.{slice_count};
+ghost use Rattle.vc_types.specs.TransformParameters.{parameters_of};
+
+use crate::same_plan::same_plan;
+use link_gather::PictureBook;
+use std::alloc::Global;
+use vc_slice::SliceJob;
+use vc_types::{NoMemory, Plan};
+
+fn slice_count(plan: &Plan) -> u32
+    ensures { result ≡ slice_count (parameters_of plan.now) }
+{
+    plan.slices_x * plan.slices_y
+}
+
+/// The numbers of the slices that a picture doesn't have yet, if it has its parameters.
+pub(crate) fn missing_slices(
+    alloc: Global,
+    book: Option<&PictureBook>,
+) -> Result<Option<Vec<u32>>, NoMemory>
+    ensures { IfOk result (λ missing.
+        option_map (λ numbers. numbers.items) missing ≡ missing_in (option_copied book.entry)) }
+{
+    let Some(book) = book else {
+        return Ok(None);
+    };
+    let Some(plan) = book.plan() else {
+        return Ok(None);
+    };
+    Ok(Some(missing_up_to(alloc, book, slice_count(&plan))?))
+}
+
+fn missing_up_to(alloc: Global, book: &PictureBook, count: u32) -> Result<Vec<u32>, NoMemory>
+    ensures { IfOk result (λ missing.
+        missing.items ≡ filter (is_missing book.now) (range_with_len 0 count)) }
+{
+    let mut missing = Vec::new(alloc);
+    for index in 0..count {
+        if book.slice(index).is_none() {
+            missing.push(index)?;
+        }
+    }
+    Ok(missing)
+}
+
+/// The jobs of those of the slices that a picture has.
+pub(crate) fn jobs_of(
+    alloc: Global,
+    book: &PictureBook,
+    number: u64,
+    slices: &[u32],
+) -> Result<Vec<SliceJob>, NoMemory>
+    requires { (s : Sequence) × IsWholeBook s book.now }
+    ensures { IfOk result (λ jobs.
+        map job_of jobs.items ≡ filter_map (book_job book.now number) slices.now) }
+{
+    let mut jobs = Vec::new(alloc);
+    for index in slices {
+        push_job(&mut jobs, book, number, *index)?;
+    }
+    Ok(jobs)
+}
+
+/// The jobs of all the slices that a picture has.
+pub(crate) fn all_jobs(
+    alloc: Global,
+    book: &PictureBook,
+    number: u64,
+) -> Result<Vec<SliceJob>, NoMemory>
+    requires { (s : Sequence) × IsWholeBook s book.now }
+    ensures { IfOk result (λ jobs.
+        map job_of jobs.items ≡ filter_map (book_job book.now number) (numbers_in book.now)) }
+{
+    match book.plan() {
+        Some(plan) => jobs_up_to(alloc, book, number, slice_count(&plan)),
+        None => Ok(Vec::new(alloc)),
+    }
+}
+
+fn jobs_up_to(
+    alloc: Global,
+    book: &PictureBook,
+    number: u64,
+    count: u32,
+) -> Result<Vec<SliceJob>, NoMemory>
+    requires { (s : Sequence) × IsWholeBook s book.now }
+    ensures { IfOk result (λ jobs.
+        map job_of jobs.items ≡ filter_map (book_job book.now number) (range_with_len 0 count)) }
+{
+    let mut jobs = Vec::new(alloc);
+    for index in 0..count {
+        push_job(&mut jobs, book, number, index)?;
+    }
+    Ok(jobs)
+}
+
+fn push_job(
+    jobs: &mut Vec<SliceJob>,
+    book: &PictureBook,
+    number: u64,
+    index: u32,
+) -> Result<(), NoMemory>
+    requires { (s : Sequence) × IsWholeBook s book.now }
+    ensures { OnOk result (map job_of jobs.new.items
+        ≡ map job_of jobs.old.items ++ cons_option (book_job book.now number index) []) }
+{
+    if let Some(job) = slice_job(book, number, index)? {
+        jobs.push(job)?;
+    }
+    Ok(())
+}
+
+// The job of a slice, if the picture has it.
+fn slice_job(book: &PictureBook, number: u64, index: u32) -> Result<Option<SliceJob>, NoMemory>
+    requires { (s : Sequence) × IsWholeBook s book.now }
+    ensures { IfOk result (λ job. option_map job_of job ≡ book_job book.now number index) }
+{
+    let Some(plan) = book.plan() else {
+        return Ok(None);
+    };
+    let Some(slice) = book.slice(index) else {
+        return Ok(None);
+    };
+    let bytes = slice.clone()?;
+    Ok(Some(SliceJob {
+        plan,
+        number,
+        index,
+        bytes,
+    }))
+}
+
+/// Whether a job is of a slice that the picture has: by its plan and its bytes.
+pub(crate) fn has_job(book: &PictureBook, job: &SliceJob) -> bool
+    ensures { result ≡ option_map_or (is_same_job (job_of job.now))
+        (book_job book.now job.now.number job.now.index) false }
+{
+    let Some(plan) = book.plan() else {
+        return false;
+    };
+    let Some(slice) = book.slice(job.index) else {
+        return false;
+    };
+    same_plan(&job.plan, &plan) && job.bytes.as_slice() == slice.as_slice()
+}
