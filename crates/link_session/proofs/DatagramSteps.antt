@@ -2,10 +2,9 @@
 use Rattle.std.proofs.Common.{◌≡◌, ℕ, ◌+◌, ◌-◌, ◌≤◌, Bool, true, false, List, length, drop, Option, Some, None, length-take-le, length-drop}
 use Rattle.std.proofs.Common.{Result, Ok, Err, refl, ap, sym, subst, ◌∙◌, arith, cond}
 use Rattle.std.specs.Prelude.{◌==◌, ◌&&◌, is_some, slice_range}
-use Rattle.std.specs.Option.{option_map}
 use Rattle.std.proofs.lemmas.Bool.{cond-true, cond-false, eq-eqb, ne_eqb}
 use Rattle.std.proofs.lemmas.Option.{same_Some, none-some}
-use Rattle.link_model.specs.Judgement.{early_outcome, opening_outcome, header_outcome, refusal_outcome}
+use Rattle.link_model.specs.Judgement.{early_outcome, opening_outcome, refusal_outcome}
 use Rattle.link_model.specs.Packets.{PayloadValue, Header, End, Skip, Params, Slices, RtpPacket}
 use Rattle.link_model.specs.Packets.{rtp_packet, payload}
 use Rattle.link_model.specs.Session.{Received, received, DatagramRefusal, OfRtp, OfPayload, of_packet}

@@ -1,20 +1,23 @@
 -- The jobs of slices one after another, and those of the slices that a fragment brings.
-use Rattle.std.proofs.Common.{◌≡◌, ℕ, zero, suc, ◌+◌, ◌-◌, ◌<◌, Bool, true, false, List, [], ◌∷◌, ◌++◌}
-use Rattle.std.proofs.Common.{length, map, drop, get_or, Option, Some, None, Bor, refl, ap, sym, ◌∙◌}
-use Rattle.std.proofs.Common.{arith, cond, drop-cons}
-use Rattle.std.specs.Prelude.{filter, filter_map, is_none, is_some, not}
+use Rattle.std.proofs.Common.{◌≡◌, ℕ, zero, suc, ◌+◌, ◌-◌, ◌<◌, ◌≤◌, min, Bool, true, false, List, []}
+use Rattle.std.proofs.Common.{◌∷◌, ◌++◌, length, Option, Some, None, Bor, refl, ap, sym}
+use Rattle.std.proofs.Common.{◌∙◌, inl, inr, arith, cond}
+use Rattle.std.specs.Prelude.{◌⊎◌, ◌&&◌, nat_lt, filter, filter_map, is_none, is_some, not}
 use Rattle.std.specs.List.{cons_option, range_with_len}
 use Rattle.std.specs.Option.{option_and_then, option_copied, option_map, option_map_or}
-use Rattle.std.proofs.lemmas.Bool.{false≢true}
+use Rattle.std.proofs.lemmas.Bool.{and_parts, false≢true, ltb-true}
 use Rattle.std.proofs.lemmas.List.{append_assoc}
+use Rattle.std.proofs.lemmas.Nat.{mul-add-lt}
 use Rattle.std.proofs.lemmas.Option.{same_Some, none-some}
 use Rattle.link_model.specs.Books.{Gathered, Book, book_plan, book_slice, slot_at}
-use Rattle.link_model.specs.Kept.{KeptParameters}
+use Rattle.link_model.specs.Kept.{KeptParameters, first_slice}
 use Rattle.link_model.specs.Places.{Job}
+use Rattle.link_model.specs.Session.{Part, ParamsPart, SlicesPart, SlicePart}
 use Rattle.link_model.specs.Windows.{Window, book_at}
 use Rattle.link_reception.specs.Exchanging.{book_job, gathered_job, slot_job, numbers_in, new_jobs_of}
-use Rattle.link_reception.specs.WholeBooks.{IsWholeGathered, IsWholeBook}
-use Rattle.link_session.specs.Missing.{is_missing, missing_of, missing_in, jobs_by}
+use Rattle.link_reception.specs.WholeBooks.{IsWholeBook}
+use Rattle.link_session.specs.Missing.{missing_of, missing_in, jobs_by, numbers_between}
+use Rattle.link_session.specs.Missing.{part_range}
 use Rattle.vc_types.specs.SequenceHeader.{Sequence}
 use Rattle.vc_types.specs.Slices.{slice_length}
 use Rattle.vc_types.specs.Subbands.{slice_count}
@@ -67,17 +70,6 @@ module _ (h : ℕ → Option Job) where
       more_of jobs i (range_with_len (i + 1) (n - (i + 1)))
       ∙ ap (λ (l : List ℕ). jobs ++ filter_map h l) (sym (range_more i n below))
 
-  -- of the numbers of a list, from a place on
-  pub jobs_behind : (jobs : List Job) (numbers : List ℕ) (k x : ℕ) → k < length numbers → x ≡ get_or numbers k x
-      → (jobs ++ cons_option (h x) []) ++ filter_map h (drop (k + 1) numbers) ≡ jobs ++ filter_map h (drop k numbers)
-  jobs_behind jobs numbers k x below is =
-      let next : suc k ≡ k + 1 = omega arith in
-      more_of jobs x (drop (k + 1) numbers)
-      ∙ ap (λ (l : List ℕ). jobs ++ filter_map h l)
-      (ap (λ y. y ∷ drop (k + 1) numbers) is
-      ∙ ap (λ m. get_or numbers k x ∷ drop m numbers) (sym next)
-      ∙ sym (drop-cons numbers k x below))
-
   -- of those that don't have something yet
   passed : (had : ℕ → Option (List ℕ)) (is : List ℕ) → filter_map h (filter (λ i. is_none (had i)) is) ≡ filter_map (λ i. cond (is_some (had i)) None (h i)) is
   passed had [] = refl
@@ -116,68 +108,116 @@ slice_is_whole s book whole plan i bytes planned kept =
       omega (arith, inside, all.slots, count),
     )
 
--- the numbers of a whole book's slices
-pub numbers_of_whole : (s : Sequence) (book : Book) → IsWholeBook s book → (plan : Plan) → Some (parameters_of plan) ≡ option_map (λ (k : KeptParameters). k.parameters) (book_plan book)
-    → numbers_in book ≡ range_with_len 0 (slice_count (parameters_of plan))
-numbers_of_whole s book whole plan planned =
-    let from = plan_gathered book.gathered plan planned in
-    ap (λ (o : Option Gathered). option_map_or (λ (g : Gathered). range_with_len 0 (length g.slots)) o []) from.1
-    ∙ ap (range_with_len 0) ((whole from.0 from.1).slots ∙ ap slice_count from.2)
-
-pub no_numbers : (book : Book) → None ≡ option_map (λ (k : KeptParameters). k.parameters) (book_plan book) → numbers_in book ≡ []
-no_numbers book none = by_gathered book.gathered refl none
-  where
-    by_gathered : (o : Option Gathered) → book.gathered ≡ o → None ≡ option_map (λ (k : KeptParameters). k.parameters) (option_map (λ (g : Gathered). g.plan) o) → numbers_in book ≡ []
-    by_gathered None is e = ap (λ (o : Option Gathered). option_map_or (λ (g : Gathered). range_with_len 0 (length g.slots)) o []) is
-    by_gathered (Some g) is e = absurd (none-some g.plan.parameters e)
-
--- ---- what is missing
-
-pub missing_by_plan : (book : Book) (plan : Plan) → Some (parameters_of plan) ≡ option_map (λ (k : KeptParameters). k.parameters) (book_plan book)
-    → missing_in (Some book) ≡ Some (filter (is_missing book) (range_with_len 0 (slice_count (parameters_of plan))))
-missing_by_plan book plan planned =
-    let from = plan_gathered book.gathered plan planned in
-    ap (option_map (missing_of book)) from.1
-    ∙ ap (λ (p : Parameters). Some (filter (is_missing book) (range_with_len 0 (slice_count p)))) from.2
-
-pub missing_without_plan : (book : Book) → None ≡ option_map (λ (k : KeptParameters). k.parameters) (book_plan book) → missing_in (Some book) ≡ None
-missing_without_plan book none = by_gathered book.gathered none
-  where
-    by_gathered : (o : Option Gathered) → None ≡ option_map (λ (k : KeptParameters). k.parameters) (option_map (λ (g : Gathered). g.plan) o) → option_map (missing_of book) o ≡ None
-    by_gathered None e = refl
-    by_gathered (Some g) e = absurd (none-some g.plan.parameters e)
-
 -- ---- what is offered
+
+-- outside of these numbers
+abbrev pub IsOutside : ℕ × ℕ → ℕ → Type 0
+IsOutside range i = (i < range.0) ⊎ (range.1 ≤ i)
+
+module _ (h : ℕ → Option Job) where
+  -- numbers that give no job
+  none_there : (a n : ℕ) → ((k : ℕ) → a ≤ k → k < a + n → h k ≡ None) → filter_map h (range_with_len a n) ≡ []
+  none_there a zero none = refl
+  none_there a (suc n) none =
+      ap (λ (o : Option Job). cons_option o (filter_map h (range_with_len (a + 1) n))) (none a (omega arith) (omega arith))
+      ∙ none_there (a + 1) n (λ k above below. none k (omega arith) (omega arith))
+
+  none_before : (a m n : ℕ) → ((k : ℕ) → a ≤ k → k < a + m → h k ≡ None) → filter_map h (range_with_len a (m + n)) ≡ filter_map h (range_with_len (a + m) n)
+  none_before a zero n none =
+      let all : 0 + n ≡ n = omega arith in
+      let first : a ≡ a + 0 = omega arith in
+      ap (λ k. filter_map h (range_with_len a k)) all ∙ ap (λ k. filter_map h (range_with_len k n)) first
+  none_before a (suc m) n none =
+      let one : suc m + n ≡ suc (m + n) = omega arith in
+      let next : a + 1 + m ≡ a + suc m = omega arith in
+      ap (λ k. filter_map h (range_with_len a k)) one
+      ∙ ap (λ (o : Option Job). cons_option o (filter_map h (range_with_len (a + 1) (m + n)))) (none a (omega arith) (omega arith))
+      ∙ none_before (a + 1) m n (λ k above below. none k (omega arith) (omega arith))
+      ∙ ap (λ k. filter_map h (range_with_len k n)) next
+
+  none_behind : (a m n : ℕ) → ((k : ℕ) → a + m ≤ k → h k ≡ None) → filter_map h (range_with_len a (m + n)) ≡ filter_map h (range_with_len a m)
+  none_behind a zero n none =
+      let all : 0 + n ≡ n = omega arith in
+      ap (λ k. filter_map h (range_with_len a k)) all ∙ none_there a n (λ k above below. none k (omega arith))
+  none_behind a (suc m) n none =
+      let one : suc m + n ≡ suc (m + n) = omega arith in
+      ap (λ k. filter_map h (range_with_len a k)) one
+      ∙ ap (cons_option (h a)) (none_behind (a + 1) m n (λ k above. none k (omega arith)))
+
+  -- jobs of these numbers only
+  in_range : (range : ℕ × ℕ) (n : ℕ) → range.0 ≤ range.1 → range.1 ≤ n → ((i : ℕ) → IsOutside range i → h i ≡ None)
+      → filter_map h (numbers_between range) ≡ filter_map h (range_with_len 0 n)
+  in_range range n ordered within none =
+      let long = range.1 - range.0 in
+      let rest = n - range.1 in
+      let all : range.0 + (long + rest) ≡ n = omega arith in
+      let first : 0 + range.0 ≡ range.0 = omega arith in
+      sym (ap (λ k. filter_map h (range_with_len 0 k)) (sym all)
+      ∙ none_before 0 range.0 (long + rest) (λ k above below. none k (inl (omega (arith, below))))
+      ∙ ap (λ k. filter_map h (range_with_len k (long + rest))) first
+      ∙ none_behind range.0 long rest (λ k above. none k (inr (omega (arith, above, ordered)))))
+
+-- the slices of a part are within the picture
+module _ (p : Parameters) (s : SlicePart) where
+  abbrev range_by : Bool → ℕ × ℕ
+  range_by inside = cond inside (first_slice p s, min (first_slice p s + s.count) (slice_count p)) (0, 0)
+
+  run_fits : (inside : Bool) → (nat_lt s.x p.slices_x && nat_lt s.y p.slices_y) ≡ inside → ((range_by inside).0 ≤ (range_by inside).1) × ((range_by inside).1 ≤ slice_count p)
+  run_fits false is = (omega arith, omega arith)
+  run_fits true is =
+      let both = and_parts (nat_lt s.x p.slices_x) (nat_lt s.y p.slices_y) is in
+      let inside = mul-add-lt s.y p.slices_x s.x p.slices_y (ltb-true s.y p.slices_y both.1) (ltb-true s.x p.slices_x both.0) in
+      (omega (arith, inside), omega arith)
+
+range_fits : (p : Parameters) (part : Part) → ((part_range p part).0 ≤ (part_range p part).1) × ((part_range p part).1 ≤ slice_count p)
+range_fits p (ParamsPart body) = (omega arith, omega arith)
+range_fits p (SlicesPart s) = run_fits p s (nat_lt s.x p.slices_x && nat_lt s.y p.slices_y) refl
 
 -- a slice that is there now and wasn't there before
 abbrev new_by : Option Book → Option Book → ℕ → ℕ → Option Job
 new_by old new n i = cond (is_some (option_and_then (λ (b : Book). book_slice b i) old)) None (option_and_then (λ (b : Book). book_job b n i) new)
 
--- what had its parameters has them still
-abbrev pub PlanStays : Option Book → Option Book → Type 0
-PlanStays old new = (b later : Book) (g : Gathered) → old ≡ Some b → b.gathered ≡ Some g → new ≡ Some later → (more : Gathered) × (later.gathered ≡ Some more) × (more.plan ≡ g.plan)
+none_new : (o : Option (List ℕ)) (job : List ℕ → Job) → cond (is_some o) None (option_map job o) ≡ None
+none_new None job = refl
+none_new (Some bytes) job = refl
 
-module _ (s : Sequence) (n : ℕ) where
-  offers : (old new : Option Book) → PlanStays old new → ((b : Book) → new ≡ Some b → IsWholeBook s b)
-      → jobs_by new n (missing_in old) ≡ option_map_or (λ (b : Book). filter_map (new_by old new n) (numbers_in b)) new []
+-- what is gathered later has the same parameters, and the same slices but for those of the part
+pub record StaysBut (part : Part) (g more : Gathered) : Type 0 where
+  pub plan : more.plan ≡ g.plan
+  pub slices : (i : ℕ) → IsOutside (part_range g.plan.parameters part) i → slot_at more.slots i ≡ slot_at g.slots i
+
+abbrev pub Stays : Part → Option Book → Option Book → Type 0
+Stays part old new = (b later : Book) (g : Gathered) → old ≡ Some b → b.gathered ≡ Some g → new ≡ Some later → (more : Gathered) × (later.gathered ≡ Some more) × StaysBut part g more
+
+module _ (s : Sequence) (part : Part) (n : ℕ) where
+  offers : (old new : Option Book) → Stays part old new → ((b : Book) → new ≡ Some b → IsWholeBook s b)
+      → jobs_by new n (missing_in part old) ≡ option_map_or (λ (b : Book). filter_map (new_by old new n) (numbers_in b)) new []
   offers old None stays whole = refl
   offers None (Some later) stays whole = refl
   offers (Some b) (Some later) stays whole = by_gathered b.gathered refl
     where
-      by_gathered : (o : Option Gathered) → b.gathered ≡ o → jobs_by (Some later) n (option_map (missing_of b) o) ≡ filter_map (λ i. cond (is_some (book_slice b i)) None (book_job later n i)) (numbers_in later)
+      by_gathered : (o : Option Gathered) → b.gathered ≡ o → jobs_by (Some later) n (option_map (missing_of part b) o) ≡ filter_map (λ i. cond (is_some (book_slice b i)) None (book_job later n i)) (numbers_in later)
       by_gathered None is = λ j. filter_map (λ i. cond (is_some (option_and_then (λ (g : Gathered). slot_at g.slots i) (sym is j))) None (book_job later n i)) (numbers_in later)
       by_gathered (Some g) is =
-          let more = stays b later g refl is refl in
-          let numbers : numbers_in later ≡ range_with_len 0 (slice_count g.plan.parameters) =
-          ap (λ (o : Option Gathered). option_map_or (λ (g : Gathered). range_with_len 0 (length g.slots)) o []) more.1
-          ∙ ap (range_with_len 0) ((whole later refl more.0 more.1).slots ∙ ap (λ (k : KeptParameters). slice_count k.parameters) more.2) in
-          passed (book_job later n) (book_slice b) (range_with_len 0 (slice_count g.plan.parameters))
+          let found = stays b later g refl is refl in
+          let more = found.0 in
+          let p = g.plan.parameters in
+          let numbers : numbers_in later ≡ range_with_len 0 (slice_count p) =
+          ap (λ (o : Option Gathered). option_map_or (λ (g : Gathered). range_with_len 0 (length g.slots)) o []) found.1
+          ∙ ap (range_with_len 0) ((whole later refl more found.1).slots ∙ ap (λ (k : KeptParameters). slice_count k.parameters) found.2.plan) in
+          let fits = range_fits p part in
+          passed (book_job later n) (book_slice b) (numbers_between (part_range p part))
+          ∙ in_range (λ i. cond (is_some (book_slice b i)) None (book_job later n i)) (part_range p part) (slice_count p) fits.0 fits.1
+          (λ i out. ap (λ (o : Option Gathered). cond (is_some (option_and_then (λ (g : Gathered). slot_at g.slots i) o)) None (book_job later n i)) is
+          ∙ ap (λ (o : Option Gathered). cond (is_some (slot_at g.slots i)) None (option_and_then (λ (g : Gathered). slot_job g n i) o)) found.1
+          ∙ ap (λ (o : Option (List ℕ)). cond (is_some (slot_at g.slots i)) None (option_map (gathered_job more n i) o)) (found.2.slices i out)
+          ∙ none_new (slot_at g.slots i) (gathered_job more n i))
           ∙ ap (filter_map (λ i. cond (is_some (book_slice b i)) None (book_job later n i))) (sym numbers)
 
--- the jobs of the slices that weren't there, or of all, are those that are offered
-pub offered_are : (s : Sequence) (old new : Window) (n : ℕ) → PlanStays (book_at old.books n) (book_at new.books n) → ((b : Book) → book_at new.books n ≡ Some b → IsWholeBook s b)
-    → jobs_by (book_at new.books n) n (missing_in (book_at old.books n)) ≡ new_jobs_of old new n
-offered_are s old new n = offers s n (book_at old.books n) (book_at new.books n)
+-- the jobs of the slices that were missing, or of all, are those that are offered
+pub offered_are : (s : Sequence) (part : Part) (old new : Window) (n : ℕ) → Stays part (book_at old.books n) (book_at new.books n) → ((b : Book) → book_at new.books n ≡ Some b → IsWholeBook s b)
+    → jobs_by (book_at new.books n) n (missing_in part (book_at old.books n)) ≡ new_jobs_of old new n
+offered_are s part old new n = offers s part n (book_at old.books n) (book_at new.books n)
 
 -- where nothing changes, nothing is new
 unchanged : (o : Option Book) (n : ℕ) → option_map_or (λ (b : Book). filter_map (new_by o o n) (numbers_in b)) o [] ≡ []
@@ -186,11 +226,7 @@ unchanged (Some b) n = none_of (numbers_in b)
   where
     same : (o : Option Gathered) (i : ℕ) → cond (is_some (option_and_then (λ (g : Gathered). slot_at g.slots i) o)) None (option_and_then (λ (g : Gathered). slot_job g n i) o) ≡ None
     same None i = refl
-    same (Some g) i = by_slot (slot_at g.slots i)
-      where
-        by_slot : (o : Option (List ℕ)) → cond (is_some o) None (option_map (gathered_job g n i) o) ≡ None
-        by_slot None = refl
-        by_slot (Some bytes) = refl
+    same (Some g) i = none_new (slot_at g.slots i) (gathered_job g n i)
 
     none_of : (is : List ℕ) → filter_map (new_by (Some b) (Some b) n) is ≡ []
     none_of [] = refl

@@ -1,8 +1,8 @@
 -- What a fragment leaves of a session's window.
-use Rattle.std.proofs.Common.{◌≡◌, ℕ, ◌+◌, ◌-◌, ◌^◌, ◌<◌, ◌≤◌, Bool, true, false, refl, ap, sym, subst}
-use Rattle.std.proofs.Common.{◌∙◌, arith, cond}
-use Rattle.std.specs.Prelude.{◌&&◌, ◌||◌, nat_le, nat_lt}
-use Rattle.std.proofs.lemmas.Bool.{cases_Bool, or_parts, leb-false}
+use Rattle.std.proofs.Common.{◌≡◌, ℕ, ◌-◌, ◌^◌, ◌<◌, Bool, true, false, refl}
+use Rattle.std.proofs.Common.{arith, cond}
+use Rattle.std.specs.Prelude.{◌&&◌, nat_le, nat_lt}
+use Rattle.std.proofs.lemmas.Bool.{or_parts, leb-false}
 use Rattle.link_model.specs.Session.{Fragment}
 use Rattle.link_model.specs.Windows.{Window, number_by, late_in, passed_by, opens_picture, forgets, window_enters}
 use Rattle.link_model.specs.Windows.{past_enters}

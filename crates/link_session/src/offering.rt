@@ -1,18 +1,24 @@
-ghost use Rattle.std.specs.Prelude.{◌≡◌, ◌++◌, [], List, ℕ, IfOk, OnOk, false, filter, filter_map, map};
+ghost use Rattle.std.specs.Prelude.{◌≡◌, ◌≤◌, ◌++◌, [], List, ℕ, IfOk, OnOk, false};
+ghost use Rattle.std.specs.Prelude.{filter, filter_map, map};
 ghost use Rattle.std.specs.List.{cons_option, range_with_len};
 ghost use Rattle.std.specs.Option.{option_copied, option_map, option_map_or};
 ghost use Rattle.link_model.specs.Feeding.{is_same_job};
 ghost use Rattle.link_reception.specs.Exchanging.{book_job, numbers_in};
 ghost use Rattle.link_reception.specs.WholeBooks.{IsWholeBook};
 ghost use Rattle.link_session.specs.Jobs.{job_of};
-ghost use Rattle.link_session.specs.Missing.{is_missing, missing_in};
+ghost use Rattle.link_session.specs.Missing.{is_missing, missing_in, numbers_between};
+ghost use Rattle.link_session.specs.Missing.{part_range, run_range};
+ghost use Rattle.link_gather.specs.Views.{slice_part_of};
+ghost use Rattle.link_window.specs.Views.{sent_part};
 ghost use Rattle.vc_types.specs.SequenceHeader.{Sequence};
 ghost use Rattle.vc_types.specs.Subbands.{slice_count};
 ghost use Rattle.vc_types.specs.TransformParameters.{parameters_of};
 
 use crate::same_plan::same_plan;
 use link_gather::PictureBook;
+use link_window::{Part, SlicePart};
 use std::alloc::Global;
+use std::ops::Range;
 use vc_slice::SliceJob;
 use vc_types::{NoMemory, Plan};
 
@@ -22,13 +28,15 @@ fn slice_count(plan: &Plan) -> u32
     plan.slices_x * plan.slices_y
 }
 
-/// The numbers of the slices that a picture doesn't have yet, if it has its parameters.
+/// The numbers of the slices that a part can bring, if the picture has its parameters: those of
+/// the part that it doesn't have yet.
 pub(crate) fn missing_slices(
     alloc: Global,
     book: Option<&PictureBook>,
+    part: &Part,
 ) -> Result<Option<Vec<u32>>, NoMemory>
-    ensures { IfOk result (λ missing.
-        option_map (λ numbers. numbers.items) missing ≡ missing_in (option_copied book.entry)) }
+    ensures { IfOk result (λ missing. option_map (λ numbers. numbers.items) missing
+        ≡ missing_in (sent_part part.now) (option_copied book.entry)) }
 {
     let Some(book) = book else {
         return Ok(None);
@@ -36,15 +44,47 @@ pub(crate) fn missing_slices(
     let Some(plan) = book.plan() else {
         return Ok(None);
     };
-    Ok(Some(missing_up_to(alloc, book, slice_count(&plan))?))
+    Ok(Some(missing_between(alloc, book, part_range(&plan, part))?))
 }
 
-fn missing_up_to(alloc: Global, book: &PictureBook, count: u32) -> Result<Vec<u32>, NoMemory>
-    ensures { IfOk result (λ missing.
-        missing.items ≡ filter (is_missing book.now) (range_with_len 0 count)) }
+// The slices of a part, which begin within the picture.
+fn part_range(plan: &Plan, part: &Part) -> Range<u32>
+    ensures ordered { result.start ≤ result.end }
+    ensures value { (result.start, result.end)
+        ≡ part_range (parameters_of plan.now) (sent_part part.now) }
+{
+    match part {
+        Part::Params(_) => 0..0,
+        Part::Slices(slices) => run_range(plan, slices),
+    }
+}
+
+fn run_range(plan: &Plan, part: &SlicePart) -> Range<u32>
+    ensures ordered { result.start ≤ result.end }
+    ensures value { (result.start, result.end)
+        ≡ run_range (parameters_of plan.now) (slice_part_of part.now) }
+{
+    let (x, y) = (u32::from(part.x), u32::from(part.y));
+    if x >= plan.slices_x || y >= plan.slices_y {
+        return 0..0;
+    }
+    let first = y * plan.slices_x + x;
+    let end = first.saturating_add(u32::from(part.count));
+    first..end.min(slice_count(plan))
+}
+
+fn missing_between(
+    alloc: Global,
+    book: &PictureBook,
+    slices: Range<u32>,
+) -> Result<Vec<u32>, NoMemory>
+    requires { slices.start ≤ slices.end }
+    ensures { IfOk result (λ missing. missing.items
+        ≡ filter (is_missing book.now) (numbers_between (slices.start, slices.end))) }
 {
     let mut missing = Vec::new(alloc);
-    for index in 0..count {
+    let end = slices.end;
+    for index in slices.start..end {
         if book.slice(index).is_none() {
             missing.push(index)?;
         }

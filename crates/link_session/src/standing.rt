@@ -205,7 +205,7 @@ impl Standing {
             map job_of entered.jobs.items
             ≡ offered_jobs w (window_enters w (sent_fragment f)) (sent_fragment f)) }
     {
-        let missing = missing_slices(self.alloc, self.window.book(number))?;
+        let missing = missing_slices(self.alloc, self.window.book(number), &f.part)?;
         let outcome = self.enter_window(f, false)?;
         let jobs = self.jobs(number, missing)?;
         Ok(Entered { outcome, jobs })

@@ -1,8 +1,6 @@
 use Rattle.std.proofs.Common.{◌≡◌, List, ℕ, Some, None, ap, sym, ◌∙◌}
-use Rattle.std.specs.Option.{option_map}
-use Rattle.link_model.specs.Session as model
 use Rattle.link_model.specs.Session.{Received, session_by, fragment_by, is_end, params_fragment}
-use Rattle.link_model.specs.Session.{slices_fragment, ParamsPart}
+use Rattle.link_model.specs.Session.{slices_fragment}
 use Rattle.link_model.specs.Windows.{window_outcome}
 use Rattle.link_reception.specs.Judging.{opens_from, standing_outcome}
 use Rattle.link_window.specs.Views.{sent_fragment}

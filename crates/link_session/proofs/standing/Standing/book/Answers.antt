@@ -1,7 +1,6 @@
 use Rattle.std.proofs.Common.{◌≡◌, Option, Some, None, Bor, IfSome, refl, ap, sym, subst, ◌∙◌}
 use Rattle.std.specs.Option.{option_copied}
 use Rattle.link_model.specs.Books.{Book}
-use Rattle.link_model.specs.Windows.{book_at}
 use Rattle.link_reception.specs.Receptions.{StandingSession}
 use Rattle.link_reception.specs.WholeBooks.{IsWholeBook}
 use Rattle.link_session.proofs.SessionBooks.{window_book_whole}

@@ -1,4 +1,4 @@
-use Rattle.std.proofs.Common.{◌≡◌, Option, ap, sym, subst, ◌∙◌}
+use Rattle.std.proofs.Common.{◌≡◌, ap, subst, ◌∙◌}
 use Rattle.std.specs.Option.{option_map}
 use Rattle.link_model.specs.Windows.{Window, book_at, window_enters}
 use Rattle.link_reception.specs.Receptions.{StandingSession}
@@ -20,5 +20,5 @@ returns-clause-jobs c =
     c.in_ok-jobs.ensures
     ∙ ap (λ (v : Window). jobs_by (book_at v.books n) n (option_map (λ numbers. numbers.items) c.in_ok-missing.missing)) after
     ∙ ap (jobs_by (book_at (window_enters w f).books n) n)
-    (c.in_ok-missing.ensures ∙ ap missing_in (c.book.ensures.value ∙ ap (λ (st : StandingSession). book_at st.window.books n) c.self.view_is))
+    (c.in_ok-missing.ensures ∙ ap (missing_in f.part) (c.book.ensures.value ∙ ap (λ (st : StandingSession). book_at st.window.books n) c.self.view_is))
     ∙ picture_offers w f s sound c.requires.running n c.requires.number

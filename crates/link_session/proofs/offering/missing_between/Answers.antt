@@ -4,8 +4,8 @@ use Rattle.std.specs.List.{range_with_len}
 use Rattle.link_model.specs.Books.{book_slice}
 use Rattle.link_session.specs.Missing.{is_missing}
 use Rattle.link_session.proofs.OfferedJobs.{passes_more, missing_is}
-use Rattle.link_session.proofs.offering.missing_up_to.Goals as goal
-use Rattle.link_session.proofs.offering.missing_up_to.Goals.{then-is_none+in_ok-push, else-is_none}
+use Rattle.link_session.proofs.offering.missing_between.Goals as goal
+use Rattle.link_session.proofs.offering.missing_between.Goals.{then-is_none+in_ok-push, else-is_none}
 
 pub loop-index-preserved : goal.loop-index-preserved
 loop-index-preserved c =
@@ -19,6 +19,6 @@ loop-index-preserved c =
       | else-is_none w ↦ ap (λ v. v.items) w.missing-is ∙ sym (append-nil items)
           ∙ sym (ap (λ (b : Bool). items ++ cond b (i ∷ []) []) (is ∙ w.if-is_none.false))
     ] in
-    ap (λ (l : List ℕ). l ++ filter (is_missing book) (range_with_len (i + 1) (c.args.count - (i + 1)))) pushed
-    ∙ passes_more (is_missing book) items i c.args.count c.loop-index-test.true
+    ap (λ (l : List ℕ). l ++ filter (is_missing book) (range_with_len (i + 1) (c.args.slices.end - (i + 1)))) pushed
+    ∙ passes_more (is_missing book) items i c.args.slices.end c.loop-index-test.true
     ∙ c.loop-index.invariant
