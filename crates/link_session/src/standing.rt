@@ -84,10 +84,11 @@ impl Standing {
         requires least { 2 ≤ size }
         requires most { size ≤ 8 }
         requires fits { greatest < 2 ^ 64 - 16 }
-        ensures session { result.session ≡ session_of opening }
-        ensures has_ended { result.has_ended ≡ false }
-        ensures window { result.window
-            ≡ windows.new_window (sequence_of opening.header) size greatest }
+        ensures { result ≡ record {
+          session = session_of opening;
+          has_ended = false;
+          window = windows.new_window (sequence_of opening.header) size greatest;
+        } }
     {
         Standing {
             alloc,
