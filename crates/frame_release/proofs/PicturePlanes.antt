@@ -96,7 +96,8 @@ unfolding picture_shape
 field_heights s planes fits fields are =
     let tests = and_parts (side_fits s.width && side_fits s.height)
     (sampling_fits s.width s.height s.sampling s.fields) fits in
-    let height = (side_is s.height (and_parts (side_fits s.width) (side_fits s.height) tests.0).1).most in
+    let sides = and_parts (side_fits s.width) (side_fits s.height) tests.0 in
+    let height = (side_is s.height sides.1).most in
     let luma = field_low s.fields s.height fields height in
     let colour = field_low s.fields (colour_height s.sampling s.height) fields
     (colour_low s.sampling s.height height) in
@@ -128,7 +129,8 @@ module _ (s : Sequence) (planes : Planes) (are : ArePicturePlanes s planes)
             (narrow_depth are.parameters.shape c
             (ap (λ (shape : Shape). is_wide shape) are.shape ∙ narrow))
             (component_plane-samples are.parameters c are.slices
-            (subst (λ (shape : Shape). IsTrue (shape_fits shape)) (sym are.shape) fits) i none below)
+            (subst (λ (shape : Shape). IsTrue (shape_fits shape)) (sym are.shape) fits)
+            i none below)
 
     pub planes_fit : HaveByteSamples planes
     planes_fit = record { y = samples_fit Y; c1 = samples_fit C1; c2 = samples_fit C2 }

@@ -77,10 +77,12 @@ impl FrameOutput {
         ensures ok { let s = sequence_of header.now in
             OnOk result (Grew (O.held sink.old) (O.held sink.new)
             (raw_bytes s (released_frame s self.old number (option_map planes_in planes)))) }
-        ensures has_frame { IfOk result (λ shown. shown.has_frame ≡ is_some
-            (released_frame (sequence_of header.now) self.old number (option_map planes_in planes))) }
-        ensures alone { IfOk result (λ shown. shown.alone
-            ≡ fields_alone (sequence_of header.now) self.old number (option_map planes_in planes)) }
+        ensures has_frame { let s = sequence_of header.now in
+            IfOk result (λ shown. shown.has_frame
+            ≡ is_some (released_frame s self.old number (option_map planes_in planes))) }
+        ensures alone { let s = sequence_of header.now in
+            IfOk result (λ shown. shown.alone
+            ≡ fields_alone s self.old number (option_map planes_in planes)) }
         ensures err { let s = sequence_of header.now in
             OnErr result (GrewBySome (O.held sink.old) (O.held sink.new)
             (raw_bytes s (released_frame s self.old number (option_map planes_in planes)))) }

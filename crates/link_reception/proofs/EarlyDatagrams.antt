@@ -21,7 +21,8 @@ use Rattle.link_model.proofs.Counting.{counts_more}
 use Rattle.link_model.proofs.Hearing.{sessions_of_more, hears_new, hears_on}
 use Rattle.link_model.proofs.SessionOutput.{opening_writes_nothing}
 use Rattle.link_model.proofs.WindowStands.{new_stands}
-use Rattle.link_reception.specs.Entering.{greatest_in, opens_session, takes_datagram, datagram_bytes}
+use Rattle.link_reception.specs.Entering.{greatest_in, opens_session, takes_datagram}
+use Rattle.link_reception.specs.Entering.{datagram_bytes}
 use Rattle.link_reception.specs.Exchanging.{Exchange, all_exchanged, dones_in}
 use Rattle.link_reception.specs.Judging.{session_opened, opens_after, keeps_datagram}
 use Rattle.link_reception.specs.Judging.{stands_on, judged}

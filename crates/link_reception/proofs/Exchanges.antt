@@ -28,7 +28,8 @@ both_decodings (d ∷ ds) es all more = (all.0, both_decodings ds es all.1 more)
 pub decodings_then : (xs ys : List Exchange) → AreDecodings (dones_in xs)
     → AreDecodings (dones_in ys) → AreDecodings (dones_in (xs ++ ys))
 decodings_then xs ys all more =
-    subst AreDecodings (sym (dones_then xs ys)) (both_decodings (dones_in xs) (dones_in ys) all more)
+    subst AreDecodings (sym (dones_then xs ys))
+    (both_decodings (dones_in xs) (dones_in ys) all more)
 
 -- ---- what they leave
 

@@ -15,7 +15,8 @@ use Rattle.link_model.specs.Output.{last_so_far, output_so_far}
 use Rattle.link_model.specs.Places.{Job, Answered}
 use Rattle.link_model.specs.Session.{Session, HeardSession, just_opened, sessions_of}
 use Rattle.link_reception.specs.Exchanging.{Exchange, Proposed, Fetched, all_exchanged}
-use Rattle.link_reception.specs.Exchanging.{out_at, back_from, unreleased_job, is_wanted, takes_done}
+use Rattle.link_reception.specs.Exchanging.{out_at, back_from, unreleased_job, is_wanted}
+use Rattle.link_reception.specs.Exchanging.{takes_done}
 use Rattle.link_reception.specs.Receptions.{StandingSession, Reception, kept_answer, keeps_answer}
 use Rattle.link_reception.specs.Releasing.{releases_up_to, bytes_up_to, releases_all}
 use Rattle.link_reception.specs.Releasing.{all_released_bytes}

@@ -11,7 +11,8 @@ use Rattle.frame_release.proofs.output.FrameOutput.release.Goals as goal
 pub write_frame-requires : goal.write_frame-requires
 write_frame-requires g c = λ narrow.
     let h = c.args.header.now in
-    let fits = picture_shape_fits (sequence_of h) h.dimensions h.luma_excursion h.colour_excursion in
+    let fits = picture_shape_fits (sequence_of h) h.dimensions h.luma_excursion
+    h.colour_excursion in
     let bytes = sym (ap (λ (shape : Shape). is_wide shape) c.shape.ensures) ∙ sym c.is_wide.ensures
     ∙ narrow in
     released_fits (sequence_of h) fits bytes c.args.self.now c.args.number c.args.planes
