@@ -1,7 +1,7 @@
 mod Gathered
 mod WalkedSlices
 mod Transformed
-mod PackedBits
+pub mod PackedBits
 mod SmallNumbers
 mod Judged
 mod FirstSlices

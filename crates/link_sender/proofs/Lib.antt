@@ -1,0 +1,10 @@
+mod Places
+mod Outside
+mod SampleFaults
+mod Numbered
+mod Packed
+mod Frames
+mod FramePictures
+mod EncodedFrames
+mod Heads
+mod PutPictures

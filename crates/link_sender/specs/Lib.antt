@@ -1,0 +1,4 @@
+pub mod Refusals
+pub mod Packing
+pub mod Sent
+pub mod State

@@ -1,0 +1,69 @@
+ghost use Rattle.std.specs.Prelude.{◌≡◌, ◌^◌, ◌≤◌, None, Some, MatchOption, OnOk, IfErr};
+ghost use Rattle.std.specs.Option.{option_or};
+ghost use Rattle.link_model.specs.SendingFaults.{first_outside, first_sample_fault, plane_fault};
+ghost use Rattle.link_model.specs.SendingPictures.{sent_parameters};
+ghost use Rattle.link_sender.specs.Refusals.{SaysFault};
+ghost use Rattle.vc_types.specs.Planes.{planes_in};
+ghost use Rattle.vc_types.specs.SenderSettings.{Sending};
+ghost use Rattle.vc_types.specs.TransformParameters.{parameters_of};
+
+use crate::refusal::SendRefusal;
+use vc_types::{Plan, Plane};
+
+/// Refuses the first sample of a frame, in raw order, that has more bits than the plan's samples of its plane.
+pub(crate) fn check_samples(plan: &Plan, frame: &[Plane; 3]) -> Result<(), SendRefusal>
+    ensures sound { OnOk result ((s : Sending) → sent_parameters s ≡ parameters_of plan.now
+        → first_sample_fault s (planes_in frame.now) ≡ None) }
+    ensures refused { IfErr result (λ e. (s : Sending)
+        → sent_parameters s ≡ parameters_of plan.now
+        → SaysFault (first_sample_fault s (planes_in frame.now)) e) }
+{
+    let shape = &plan.shape;
+    check_planes(
+        (shape.luma_depth, shape.colour_depth),
+        &frame[0],
+        &frame[1],
+        &frame[2],
+    )
+}
+
+// The same of three planes, by the bits of luma and of colour samples.
+#[tactic(auto, using(crate::proofs::SampleFaults::says_first, crate::proofs::SampleFaults::says_rest, crate::proofs::SampleFaults::none_rest))]
+fn check_planes(depths: (u8, u8), y: &Plane, c1: &Plane, c2: &Plane) -> Result<(), SendRefusal>
+    requires { (depths.0 ≤ 16) × (depths.1 ≤ 16) }
+    ensures sound { OnOk result (option_or (plane_fault depths.0 0 y.now)
+        (option_or (plane_fault depths.1 1 c1.now) (plane_fault depths.1 2 c2.now)) ≡ None) }
+    ensures refused { IfErr result (λ e. SaysFault (option_or (plane_fault depths.0 0 y.now)
+        (option_or (plane_fault depths.1 1 c1.now) (plane_fault depths.1 2 c2.now))) e) }
+{
+    check_plane(0, y, depths.0)?;
+    check_plane(1, c1, depths.1)?;
+    check_plane(2, c2, depths.1)
+}
+
+fn check_plane(number: u8, plane: &Plane, depth: u8) -> Result<(), SendRefusal>
+    requires { depth ≤ 16 }
+    ensures sound { OnOk result (plane_fault depth number plane.now ≡ None) }
+    ensures refused { IfErr result (λ e. SaysFault (plane_fault depth number plane.now) e) }
+{
+    match first_outside(1 << depth, plane.samples()) {
+        Some((place, value)) => Err(SendRefusal::SampleRange {
+            plane: number,
+            place,
+            value,
+        }),
+        None => Ok(()),
+    }
+}
+
+// The first sample that isn't below a limit, and its place.
+fn first_outside(limit: u32, samples: &[u16]) -> Option<(u64, u16)>
+    ensures { result ≡ first_outside limit 0 samples.now }
+{
+    for (place, sample) in samples.iter().enumerate() {
+        if u32::from(*sample) >= limit {
+            return Some((place as u64, *sample));
+        }
+    }
+    None
+}

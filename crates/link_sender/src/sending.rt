@@ -1,0 +1,196 @@
+ghost use Rattle.std.specs.Prelude.{◌≡◌, [], ◌∷◌, IfOk, OnErr, OnOk, length};
+ghost use Rattle.link_model.specs.Sending.{HeaderContent, ParametersContent, datagrams_from, outgoing};
+ghost use Rattle.link_model.specs.SendingPictures.{IsFrame};
+ghost use Rattle.link_sender.specs.Packing.{IsPlace, Sends, bytes_of_all, picture_at};
+ghost use Rattle.link_sender.specs.Sent.{ArePictures, IsPicture, SendsFrame, coded_frame_outgoing, coded_outgoing, numbers_behind};
+ghost use Rattle.link_sender.specs.State.{numbers_of, EndsSequence};
+ghost use Rattle.picture_encode.specs.Choosing.{AnswersAtMost127, AnswersNeed};
+ghost use Rattle.picture_encode.specs.Encoded.{slice_bytes};
+ghost use Rattle.vc_types.specs.Planes.{planes_in};
+ghost use Rattle.vc_types.specs.SenderSettings.{sending_view};
+
+use crate::datagram::{Datagram, high_half, write_datagram};
+use crate::encoding::FrameSlices;
+use crate::outbox::Outbox;
+use crate::place::{PicturePlace, timestamp};
+use crate::refusal::SendRefusal;
+use crate::samples::check_samples;
+use crate::sender::Sender;
+use picture_encode::{Chooser, EncodedSlice, header_of, plan_of};
+use std::alloc::Global;
+use std::thread::Threads;
+use vc_params::write_params;
+use vc_seqhdr::write_header;
+use vc_types::{NoMemory, Plane, SendSettings, SliceNeed};
+use vc2_payload::Payload;
+
+impl<F: Fn(&SliceNeed) -> u8> Sender<F> {
+    /// A sender that has sent nothing.
+    pub fn new(alloc: Global, s: SendSettings, chooser: Chooser<F>) -> Sender<F>
+        ensures settings { result.settings ≡ s }
+        ensures chooser { result.chooser ≡ chooser }
+        ensures numbers { numbers_of result
+            ≡ record { frame = 0; number = s.seq; timestamp = 0 } }
+    {
+        let header = header_of(&s);
+        let plan = plan_of(&s);
+        Sender {
+            alloc,
+            settings: s,
+            chooser,
+            header,
+            plan,
+            frame: 0,
+            number: s.seq,
+            timestamp: 0,
+        }
+    }
+
+    /// The datagrams of a frame, whose planes have the settings' sizes: of each of its pictures a
+    /// sequence header, transform parameters and slices. The chooser may be called on every need
+    /// and answers at most 127. A frame is refused whole, at its first sample that is out of range,
+    /// else at its first slice that is too large. A refusal or want of memory leaves the sender as
+    /// it was.
+    pub fn send_frame(&mut self, frame: &[Plane; 3]) -> Result<Vec<Datagram>, SendRefusal>
+        requires callable { F.IsAlwaysCallable self.old.chooser.choose }
+        requires range { AnswersAtMost127 F.Fn self.old.chooser.choose }
+        requires sizes { IsFrame (sending_view self.old.settings) (planes_in frame.now) }
+        ensures settings { self.new.settings ≡ self.old.settings }
+        ensures chooser { self.new.chooser ≡ self.old.chooser }
+        ensures value { SendsFrame (AnswersNeed F.Fn self.old.chooser.choose)
+            self.old.chooser.wants_lens (sending_view self.old.settings) (planes_in frame.now)
+            (numbers_of self.old) (numbers_of self.new) result }
+    {
+        check_samples(&self.plan, frame)?;
+        let slices = self.encode_frame(frame)?;
+        Ok(self.put_frame(&slices)?)
+    }
+
+    /// The same, where luma is transformed beside the colours, by join.
+    pub fn send_frame_joined<H: Threads + Copy + Send + Sync>(
+        &mut self,
+        rt: H,
+        frame: &[Plane; 3],
+    ) -> Result<Vec<Datagram>, SendRefusal>
+        requires callable { F.IsAlwaysCallable self.old.chooser.choose }
+        requires range { AnswersAtMost127 F.Fn self.old.chooser.choose }
+        requires sizes { IsFrame (sending_view self.old.settings) (planes_in frame.now) }
+        ensures settings { self.new.settings ≡ self.old.settings }
+        ensures chooser { self.new.chooser ≡ self.old.chooser }
+        ensures value { SendsFrame (AnswersNeed F.Fn self.old.chooser.choose)
+            self.old.chooser.wants_lens (sending_view self.old.settings) (planes_in frame.now)
+            (numbers_of self.old) (numbers_of self.new) result }
+    {
+        check_samples(&self.plan, frame)?;
+        let slices = self.encode_frame_joined(rt, frame)?;
+        Ok(self.put_frame(&slices)?)
+    }
+
+    /// The end of the sequence, with the timestamp of the last datagram, 0 if there was none.
+    pub fn finish(&mut self) -> Result<Datagram, NoMemory>
+        ensures settings { self.new.settings ≡ self.old.settings }
+        ensures chooser { self.new.chooser ≡ self.old.chooser }
+        ensures value { IfOk result (λ d. EndsSequence (sending_view self.old.settings)
+            (numbers_of self.old) (numbers_of self.new) d) }
+        ensures unchanged { OnErr result (numbers_of self.new ≡ numbers_of self.old) }
+    {
+        let end = Payload::End {
+            high: high_half(self.number),
+        };
+        let last = write_datagram(
+            self.alloc,
+            &self.settings,
+            self.number,
+            self.timestamp,
+            false,
+            &end,
+        )?;
+        self.number = self.number.wrapping_add(1);
+        Ok(last)
+    }
+
+    // The datagrams of a frame's encoded pictures. The sender goes on with the next numbers.
+    fn put_frame(&mut self, slices: &FrameSlices) -> Result<Vec<Datagram>, NoMemory>
+        requires whole { ArePictures (sending_view self.old.settings) slices.now }
+        ensures settings { self.new.settings ≡ self.old.settings }
+        ensures chooser { self.new.chooser ≡ self.old.chooser }
+        ensures datagrams { IfOk result (λ datagrams. bytes_of_all datagrams.items
+            ≡ datagrams_from (sending_view self.old.settings) self.old.number
+            (coded_frame_outgoing (sending_view self.old.settings) self.old.frame slices.now)) }
+        ensures numbers { IfOk result (λ datagrams. numbers_of self.new
+            ≡ numbers_behind (sending_view self.old.settings) (numbers_of self.old)
+            (length datagrams.items)) }
+        ensures unchanged { OnErr result (numbers_of self.new ≡ numbers_of self.old) }
+    {
+        let mut outbox = Outbox {
+            datagrams: Vec::new(self.alloc),
+            number: self.number,
+        };
+        self.put_pictures(&mut outbox, slices)?;
+        let last = PicturePlace {
+            frame: self.frame,
+            second: self.settings.fields,
+        };
+        self.timestamp = timestamp(&self.settings, &last);
+        self.frame = self.frame.wrapping_add(1);
+        self.number = outbox.number;
+        Ok(outbox.datagrams)
+    }
+
+    // Puts the datagrams of a frame's pictures.
+    fn put_pictures(&self, outbox: &mut Outbox, slices: &FrameSlices) -> Result<(), NoMemory>
+        requires whole { ArePictures (sending_view self.now.settings) slices.now }
+        ensures { OnOk result (Sends (sending_view self.now.settings)
+            (coded_frame_outgoing (sending_view self.now.settings) self.now.frame slices.now)
+            outbox.old outbox.new) }
+    {
+        let first = PicturePlace {
+            frame: self.frame,
+            second: false,
+        };
+        self.put_picture(outbox, &first, &slices.first)?;
+        match &slices.second {
+            Some(slices) => {
+                let second = PicturePlace {
+                    frame: self.frame,
+                    second: true,
+                };
+                self.put_picture(outbox, &second, slices)
+            }
+            None => Ok(()),
+        }
+    }
+
+    // Puts the datagrams of a picture.
+    fn put_picture(
+        &self,
+        outbox: &mut Outbox,
+        place: &PicturePlace,
+        slices: &[EncodedSlice],
+    ) -> Result<(), NoMemory>
+        requires place { IsPlace (sending_view self.now.settings) place.now }
+        requires whole { IsPicture (sending_view self.now.settings) slices.now }
+        ensures { OnOk result (Sends (sending_view self.now.settings)
+            (coded_outgoing (sending_view self.now.settings)
+            (picture_at (sending_view self.now.settings) place.now) (slice_bytes slices.now))
+            outbox.old outbox.new) }
+    {
+        self.put_heads(outbox, place)?;
+        outbox.put_slices(self.alloc, &self.settings, place, slices)
+    }
+
+    // Puts a picture's sequence header and transform parameters.
+    fn put_heads(&self, outbox: &mut Outbox, place: &PicturePlace) -> Result<(), NoMemory>
+        requires place { IsPlace (sending_view self.now.settings) place.now }
+        ensures { OnOk result (Sends (sending_view self.now.settings)
+            (outgoing (picture_at (sending_view self.now.settings) place.now) HeaderContent
+            ∷ outgoing (picture_at (sending_view self.now.settings) place.now) ParametersContent
+            ∷ []) outbox.old outbox.new) }
+    {
+        let (alloc, s) = (self.alloc, &self.settings);
+        let header = write_header(alloc, &self.header)?;
+        outbox.put_header(alloc, s, place, &header)?;
+        let parameters = write_params(alloc, 3, &self.plan)?;
+        outbox.put_parameters(alloc, s, place, &parameters)
+    }
+}
