@@ -10,12 +10,16 @@ use Rattle.std.proofs.lemmas.List.{length-append, length-drop, length-replicate,
 use Rattle.std.proofs.lemmas.List.Concat.{flat_map-cons}
 use Rattle.link_model.specs.SendingPictures.{packed_bits, sent_header, sent_parameter_bytes, sent_parameters, sent_sequence}
 use Rattle.link_model.proofs.PackedBits.{length-packed_bits}
-use Rattle.vc_types.specs.Bits.{bits_of}
+use Rattle.vc_types.specs.Bits.{bits_of, digit_of}
 use Rattle.vc_types.specs.Codes.{uint_bits, spread_digits}
 use Rattle.vc_types.specs.declared.plan.Plan.{Plan}
 use Rattle.vc_types.specs.declared.settings.SendSettings.{SendSettings}
+use Rattle.vc_types.specs.declared.video.Sampling.{Sampling}
+use Rattle.vc_types.specs.declared.video.Sampling.TheVariants.{S444, S422, S420}
+use Rattle.vc_types.specs.declared.video.SignalRange.{SignalRange}
+use Rattle.vc_types.specs.Video.{sampling_fits, side_fits}
 use Rattle.vc_types.specs.Fields.{filled_up, flagged_bits, joined, pair_bits}
-use Rattle.vc_types.specs.HeaderSpelling.{IsEncoderHeader, encoder_header, header_bits}
+use Rattle.vc_types.specs.HeaderSpelling.{IsEncoderHeader, encoder_base, encoder_header, header_bits, preset_of, sampling_index}
 use Rattle.vc_types.specs.Limits.{matrix_fits, slice_bytes_fit, slices_fit}
 use Rattle.vc_types.specs.ParameterSpelling.{coded_unless, default_for, encoder_parameters, extension_bits, is_default, numbers_bits, parameter_bits}
 use Rattle.vc_types.specs.Quantisation.{used_entries}
@@ -146,7 +150,7 @@ few_parameter_bits p small =
 filled_length : (bits : List Bool) → length (filled_up bits) ≡ length bits + (8 - length bits % 8) % 8
 filled_length bits = length-append bits (replicate ((8 - length bits % 8) % 8) false) ∙ ap (λ n. length bits + n) (length-replicate ((8 - length bits % 8) % 8) false)
 
-few_packed : (bits : List Bool) → length bits ≤ 1000 → length (packed_bits (filled_up bits)) < 2 ^ 16
+few_packed : (bits : List Bool) → length bits ≤ 1000 → length (packed_bits (filled_up bits)) ≤ 1000
 few_packed bits few =
     let filled = filled_length bits in
     let whole : length (filled_up bits) % 8 ≡ 0 = omega (arith, filled) in
@@ -177,9 +181,56 @@ plan_small plan =
       matrix = plan.matrix_values;
     }
 
--- those of a plan are shorter than a fragment's length can say
-pub short_parameters : (s : Sending) (plan : Plan) → parameters_of plan ≡ sent_parameters s → length (sent_parameter_bytes s) < 2 ^ 16
+pub short_parameters : (s : Sending) (plan : Plan) → parameters_of plan ≡ sent_parameters s → length (sent_parameter_bytes s) ≤ 1000
 unfolding sent_parameter_bytes
 short_parameters s plan is =
-    subst (λ (p : Parameters). length (packed_bits (filled_up (parameter_bits 3 (encoder_parameters p)))) < 2 ^ 16) is
+    subst (λ (p : Parameters). length (packed_bits (filled_up (parameter_bits 3 (encoder_parameters p)))) ≤ 1000) is
     (few_packed (parameter_bits 3 (encoder_parameters (parameters_of plan))) (few_parameter_bits (parameters_of plan) (plan_small plan)))
+
+-- ---- and so are those of the sequence header
+
+base_small : (b : Bool) → encoder_base b < 2 ^ 16
+base_small true = omega arith
+base_small false = omega arith
+
+sampling_small : (sampling : Sampling) → sampling_index sampling < 2 ^ 16
+sampling_small S444 = omega arith
+sampling_small S422 = omega arith
+sampling_small S420 = omega arith
+
+digit_small : (b : Bool) → digit_of b < 2 ^ 16
+digit_small true = omega arith
+digit_small false = omega arith
+
+one_of_four : (a b c : Bool) → cond a 1 (cond b 2 (cond c 3 4)) < 2 ^ 16
+one_of_four true b c = omega arith
+one_of_four false true c = omega arith
+one_of_four false false true = omega arith
+one_of_four false false false = omega arith
+
+preset_small : (range : SignalRange) → preset_of range < 2 ^ 16
+preset_small range = one_of_four (range.luma_excursion == 255) (range.luma_excursion == 219) (range.luma_excursion == 876)
+
+few_header_bits : (h : Sequence) → h.width < 2 ^ 16 → h.height < 2 ^ 16 → length (header_bits (encoder_header h)) ≤ 1000
+few_header_bits h across down =
+    let a = uint_bits 3 in
+    let b = uint_bits 0 in
+    let c = uint_bits (encoder_base h.top_first) in
+    let d = uint_bits h.width in
+    let e = uint_bits h.height in
+    let f = uint_bits (sampling_index h.sampling) in
+    let g = uint_bits (digit_of h.fields) in
+    let r = uint_bits (preset_of h.range) in
+    let size = joined_length (d ∷ e ∷ []) in
+    let all = joined_length (a ∷ b ∷ a ∷ b ∷ c ∷ (true ∷ joined (d ∷ e ∷ [])) ∷ (true ∷ f) ∷ (true ∷ g) ∷ (false ∷ []) ∷ (false ∷ []) ∷ (false ∷ []) ∷ (true ∷ r) ∷ (false ∷ []) ∷ g ∷ []) in
+    omega (arith, size, all, few_bits 3 (omega arith), few_bits 0 (omega arith), few_bits (encoder_base h.top_first) (base_small h.top_first), few_bits h.width across, few_bits h.height down, few_bits (sampling_index h.sampling) (sampling_small h.sampling), few_bits (digit_of h.fields) (digit_small h.fields), few_bits (preset_of h.range) (preset_small h.range))
+
+side_small : (side : ℕ) → side_fits side ≡ true → side < 2 ^ 16
+side_small side fits = grind (arith, nat_tests)
+
+pub short_header : (settings : SendSettings) → length (sent_header (sending_view settings)) ≤ 1000
+unfolding sent_header sent_sequence
+short_header settings =
+    let sides = (and_parts (side_fits settings.width && side_fits settings.height) (sampling_fits settings.width settings.height settings.sampling settings.fields) settings.dimensions).0 in
+    let both = and_parts (side_fits settings.width) (side_fits settings.height) sides in
+    few_packed (header_bits (encoder_header (sent_sequence (sending_view settings)))) (few_header_bits (sent_sequence (sending_view settings)) (side_small settings.width both.0) (side_small settings.height both.1))

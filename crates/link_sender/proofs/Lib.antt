@@ -8,3 +8,4 @@ mod FramePictures
 mod EncodedFrames
 mod Heads
 mod PutPictures
+mod PayloadLengths

@@ -11,6 +11,7 @@ mod runs;
 mod samples;
 mod sender;
 mod sending;
+mod writing;
 
 pub use datagram::Datagram;
 pub use picture_encode::Chooser;

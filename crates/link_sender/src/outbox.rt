@@ -1,4 +1,5 @@
-ghost use Rattle.std.specs.Prelude.{◌≡◌, ◌+◌, ◌%◌, ◌^◌, ◌<◌, [], ◌∷◌, ◌++◌, OnOk, length};
+ghost use Rattle.std.specs.Prelude.{◌≡◌, ◌+◌, ◌%◌, ◌^◌, ◌≤◌, [], ◌∷◌, ◌++◌, OnOk, length};
+ghost use Rattle.link_model.specs.Packets.{payload_bytes};
 ghost use Rattle.link_model.specs.Sending.{HeaderContent, ParametersContent, outgoing, sent_head, timestamp_of};
 ghost use Rattle.link_model.specs.SendingPictures.{packed_bits, sent_header, sent_parameter_bytes};
 ghost use Rattle.link_sender.specs.Packing.{IsPlace, Sends, bytes_of_all, datagram_with, picture_at};
@@ -6,8 +7,9 @@ ghost use Rattle.vc2_payload.specs.Views.{CanBeWritten, head_of, payload_value};
 ghost use Rattle.vc_types.specs.Bits.{bits_of};
 ghost use Rattle.vc_types.specs.SenderSettings.{sending_view};
 
-use crate::datagram::{Datagram, high_half, write_datagram};
+use crate::datagram::Datagram;
 use crate::place::{PicturePlace, flags, picture_number, timestamp};
+use crate::writing::{high_half, write_datagram};
 use std::alloc::Global;
 use vc_types::{NoMemory, SendSettings};
 use vc2_payload::{FragmentHead, Payload};
@@ -30,6 +32,7 @@ impl Outbox {
     ) -> Result<(), NoMemory>
         requires place { IsPlace (sending_view s.now) place.now }
         requires body { packed_bits (bits_of body.now) ≡ sent_header (sending_view s.now) }
+        requires short { length (sent_header (sending_view s.now)) ≤ 1000 }
         ensures { OnOk result (Sends (sending_view s.now)
             (outgoing (picture_at (sending_view s.now) place.now) HeaderContent ∷ [])
             self.old self.new) }
@@ -53,7 +56,7 @@ impl Outbox {
         requires place { IsPlace (sending_view s.now) place.now }
         requires body { packed_bits (bits_of body.now)
             ≡ sent_parameter_bytes (sending_view s.now) }
-        requires short { length (sent_parameter_bytes (sending_view s.now)) < 2 ^ 16 }
+        requires short { length (sent_parameter_bytes (sending_view s.now)) ≤ 1000 }
         ensures { OnOk result (Sends (sending_view s.now)
             (outgoing (picture_at (sending_view s.now) place.now) ParametersContent ∷ [])
             self.old self.new) }
@@ -92,6 +95,7 @@ impl Outbox {
     ) -> Result<(), NoMemory>
         requires place { IsPlace (sending_view s.now) place.now }
         requires payload { CanBeWritten payload.now }
+        requires fits { length (payload_bytes (payload_value payload.now)) + 12 ≤ 65507 }
         ensures datagrams { OnOk result (bytes_of_all self.new.datagrams.items
             ≡ bytes_of_all self.old.datagrams.items
             ++ datagram_with (sending_view s.now) self.old.number

@@ -24,8 +24,8 @@ pub(crate) struct OpenRun {
 }
 
 impl Outbox {
-    /// Puts a picture's slices, of which each fits a datagram: into each datagram as many whole ones
-    /// as it has room for.
+    /// Puts a picture's slices, of which each fits a datagram: into each datagram as many whole
+    /// ones as it has room for.
     pub(crate) fn put_slices(
         &mut self,
         alloc: Global,

@@ -10,7 +10,8 @@ ghost use Rattle.vc_types.specs.TransformParameters.{parameters_of};
 use crate::refusal::SendRefusal;
 use vc_types::{Plan, Plane};
 
-/// Refuses the first sample of a frame, in raw order, that has more bits than the plan's samples of its plane.
+/// Refuses the first sample of a frame, in raw order, that has more bits than the plan's samples of
+/// its plane.
 pub(crate) fn check_samples(plan: &Plan, frame: &[Plane; 3]) -> Result<(), SendRefusal>
     ensures sound { OnOk result ((s : Sending) → sent_parameters s ≡ parameters_of plan.now
         → first_sample_fault s (planes_in frame.now) ≡ None) }

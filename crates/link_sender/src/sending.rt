@@ -9,13 +9,14 @@ ghost use Rattle.picture_encode.specs.Encoded.{slice_bytes};
 ghost use Rattle.vc_types.specs.Planes.{planes_in};
 ghost use Rattle.vc_types.specs.SenderSettings.{sending_view};
 
-use crate::datagram::{Datagram, high_half, write_datagram};
+use crate::datagram::Datagram;
 use crate::encoding::FrameSlices;
 use crate::outbox::Outbox;
 use crate::place::{PicturePlace, timestamp};
 use crate::refusal::SendRefusal;
 use crate::samples::check_samples;
 use crate::sender::Sender;
+use crate::writing::{high_half, write_datagram};
 use picture_encode::{Chooser, EncodedSlice, header_of, plan_of};
 use std::alloc::Global;
 use std::thread::Threads;

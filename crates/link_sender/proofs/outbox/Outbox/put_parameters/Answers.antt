@@ -1,4 +1,4 @@
-use Rattle.std.proofs.Common.{◌≡◌, ◌<◌, ◌^◌, length, false, refl, sym, ap, subst, ◌∙◌, arith}
+use Rattle.std.proofs.Common.{◌≡◌, length, false, refl, sym, ap, ◌∙◌, arith}
 use Rattle.link_model.specs.Packets.{Params}
 use Rattle.link_model.specs.Sending.{ParametersContent}
 use Rattle.link_model.specs.SendingPictures.{sent_parameter_bytes}
@@ -7,13 +7,21 @@ use Rattle.vc2_payload.specs.Views.{head_of}
 use Rattle.vc_types.specs.SenderSettings.{sending_view}
 use Rattle.link_sender.specs.Packing.{picture_at}
 use Rattle.link_sender.proofs.Numbered.{both_ok, sends_one}
+use Rattle.link_sender.proofs.PayloadLengths.{parameters_length}
 use Rattle.link_sender.proofs.outbox.Outbox.put_parameters.Goals as goal
 
 pub put-requires-clause-payload : goal.put-requires-clause-payload
 put-requires-clause-payload c =
-    let s = sending_view c.args.s.now in
-    let own : c.args.body.now ≡ sent_parameter_bytes s = sym (packed_back c.args.body.now (λ i h. omega (arith, c.type_inv.body i))) ∙ c.requires.body in
-    subst (λ n. n < 2 ^ 16) (ap length (sym own)) c.requires.short
+    let own : c.args.body.now ≡ sent_parameter_bytes (sending_view c.args.s.now) = sym (packed_back c.args.body.now (λ i h. omega (arith, c.type_inv.body i))) ∙ c.requires.body in
+    let same = ap length own in
+    omega (arith, same, c.requires.short)
+
+pub put-requires-clause-fits : goal.put-requires-clause-fits
+put-requires-clause-fits c =
+    let own : c.args.body.now ≡ sent_parameter_bytes (sending_view c.args.s.now) = sym (packed_back c.args.body.now (λ i h. omega (arith, c.type_inv.body i))) ∙ c.requires.body in
+    let same = ap length own in
+    let long = parameters_length (head_of c.fragment_head.result) 16 c.args.body.now in
+    omega (arith, same, long, c.requires.short)
 
 pub returns : goal.returns
 returns c =

@@ -5,7 +5,7 @@ use Rattle.vc_types.specs.SenderSettings.{sending_view}
 use Rattle.vc_types.specs.SequenceHeader.{sequence_of}
 use Rattle.vc_types.specs.TransformParameters.{parameters_of}
 use Rattle.link_sender.specs.Packing.{picture_at}
-use Rattle.link_sender.proofs.Heads.{header_bytes, is_encoder_header, parameter_bytes, short_parameters}
+use Rattle.link_sender.proofs.Heads.{header_bytes, is_encoder_header, parameter_bytes, short_header, short_parameters}
 use Rattle.link_sender.proofs.Numbered.{sends_more, then_ok}
 use Rattle.link_sender.proofs.sender.Sender.put_heads.Goals as goal
 
@@ -16,6 +16,9 @@ pub put_header-requires-clause-body : goal.put_header-requires-clause-body
 put_header-requires-clause-body g c =
     header_bytes (sending_view c.args.self.now.settings) (sequence_of c.args.self.now.header) c.deref.result.now c.args.self.now.header_is
     (ap bits_of c.deref.ensures.value ∙ c.in_ok-header.ensures.value)
+
+pub put_header-requires-clause-short : goal.put_header-requires-clause-short
+put_header-requires-clause-short g c = short_header c.args.self.now.settings
 
 pub put_parameters-requires-clause-body : goal.put_parameters-requires-clause-body
 put_parameters-requires-clause-body g c =
