@@ -17,3 +17,6 @@ pub use datagram::Datagram;
 pub use picture_encode::Chooser;
 pub use refusal::SendRefusal;
 pub use sender::Sender;
+
+#[cfg(test)]
+mod tests;

@@ -1,0 +1,12 @@
+use Rattle.std.proofs.Common.{subst, sym}
+use Rattle.link_model.specs.SendingPictures.{IsFrame}
+use Rattle.vc_types.specs.declared.settings.SendSettings.{SendSettings}
+use Rattle.vc_types.specs.Planes.{planes_in}
+use Rattle.vc_types.specs.SenderSettings.{sending_view}
+use Rattle.link_sender.proofs.tests.a_joined_frame_is_the_same.Goals as goal
+
+pub send_frame_joined-requires-clause-sizes : goal.send_frame_joined-requires-clause-sizes
+send_frame_joined-requires-clause-sizes g c κs =
+    let size = c.small.ensures.size in
+    subst (λ (s : SendSettings). IsFrame (sending_view s) (planes_in c.in_ok-edged.edged)) (sym c.new-sender.ensures.settings)
+    (c.in_ok-edged.ensures.frame c.small.result size.0 size.1 size.2)
