@@ -1,13 +1,13 @@
 -- Rows that are taken in turn: where they stand, and what a level makes of the nested subbands that they hold.
-use Rattle.std.proofs.Common.{◌≡◌, ◌≢◌, ℕ, zero, suc, ◌+◌, ◌-◌, ◌*◌, ◌/◌, ◌%◌, ◌^◌, ◌<◌, ◌≤◌, ◌⊎◌, inl, inr, List, ℤ, pos, arith, ap, sym, subst, refl, ◌∙◌, Bool, true, false}
+use Rattle.std.proofs.Common.{◌≡◌, ℕ, zero, suc, ◌+◌, ◌*◌, ◌/◌, ◌%◌, ◌^◌, ◌<◌, ◌≤◌, ◌⊎◌, inl, inr, List, ℤ, arith, ap, sym, refl, ◌∙◌, Bool, true, false}
 use Rattle.std.specs.Prelude.{if◌then◌else◌, nat_lt, ◌&&◌}
 use mathlib.Core.Path.{fun_ext}
-use Rattle.std.proofs.lemmas.Bool.{cases_lt, cases_eq}
+use Rattle.std.proofs.lemmas.Bool.{cases_lt}
 use Rattle.std.proofs.lemmas.Bool.Decides.{nat_tests}
 use Rattle.std.proofs.Math.Nat.{mul-le-mul_right, pow-suc, mod-eq-sub-div-mul, div-mul-le_self, mod-lt}
 use Rattle.std.proofs.Math.Pow.{pow_pos}
-use Rattle.vc_types.specs.Lifting.{Line, line_of}
-use Rattle.vc_types.specs.Transforms.{Cells, is_within, half_place, source_of, on_columns, on_rows}
+use Rattle.vc_types.specs.Lifting.{line_of}
+use Rattle.vc_types.specs.Transforms.{Cells, is_within, half_place, source_of, on_columns}
 use Rattle.vc_wave.specs.Layout.{row_in_turn, laid_out}
 use Rattle.vc_wave.specs.Planes.{plane_of}
 use Rattle.vc_wave.specs.Remade.{halves_together}
@@ -17,24 +17,24 @@ use Rattle.vc_wave.proofs.TransformLocality.{Agree}
 use Rattle.vc_wave.proofs.Weaving.{half_place_below, source_below, source_of-half_place, half_place-source_of}
 
 -- the row of a level that a cell is taken to
-turned : ℕ → ℕ → ℕ → ℕ → ℕ
+unfoldable pub turned : ℕ → ℕ → ℕ → ℕ → ℕ
 turned w h x y = if is_within (2 * w) (2 * h) x y then source_of h y else y
 
-turned_in : (w h x y : ℕ) → x < 2 * w → y < 2 * h → turned w h x y ≡ source_of h y
+pub turned_in : (w h x y : ℕ) → x < 2 * w → y < 2 * h → turned w h x y ≡ source_of h y
 unfolding turned
 turned_in w h x y a b = inside (nat_lt x (2 * w)) (nat_lt y (2 * h)) (source_of h y) y (grind (arith, nat_tests)) (grind (arith, nat_tests))
   where
     inside : (p q : Bool) (m n : ℕ) → p ≡ true → q ≡ true → (if p && q then m else n) ≡ m
     inside p q m n a b = rw (a, b) refl
 
-turned_right : (w h x y : ℕ) → 2 * w ≤ x → turned w h x y ≡ y
+pub turned_right : (w h x y : ℕ) → 2 * w ≤ x → turned w h x y ≡ y
 unfolding turned
 turned_right w h x y a = outside (nat_lt x (2 * w)) (nat_lt y (2 * h)) (source_of h y) y (grind (arith, nat_tests))
   where
     outside : (p q : Bool) (m n : ℕ) → p ≡ false → (if p && q then m else n) ≡ n
     outside p q m n a = rw a refl
 
-turned_below : (w h x y : ℕ) → 2 * h ≤ y → turned w h x y ≡ y
+pub turned_below : (w h x y : ℕ) → 2 * h ≤ y → turned w h x y ≡ y
 unfolding turned
 turned_below w h x y a = outside (nat_lt x (2 * w)) (nat_lt y (2 * h)) (source_of h y) y (grind (arith, nat_tests))
   where
@@ -42,11 +42,11 @@ turned_below w h x y a = outside (nat_lt x (2 * w)) (nat_lt y (2 * h)) (source_o
     outside true q m n a = rw a refl
     outside false q m n a = refl
 
-row_step : (levels w h x y : ℕ) → row_in_turn (suc levels) w h x y ≡ row_in_turn levels (2 * w) (2 * h) x (turned w h x y)
+pub row_step : (levels w h x y : ℕ) → row_in_turn (suc levels) w h x y ≡ row_in_turn levels (2 * w) (2 * h) x (turned w h x y)
 unfolding row_in_turn turned
 row_step levels w h x y = refl
 
-row_end : (w h x y : ℕ) → row_in_turn 0 w h x y ≡ y
+pub row_end : (w h x y : ℕ) → row_in_turn 0 w h x y ≡ y
 unfolding row_in_turn
 row_end w h x y = refl
 

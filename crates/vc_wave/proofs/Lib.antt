@@ -11,5 +11,6 @@ pub mod Fills
 mod NarrowRows
 mod NarrowColumns
 pub mod LayoutLaws
+pub mod Turns
 pub mod NarrowLevels
 mod NarrowCarry

@@ -1,5 +1,5 @@
 -- A bound that is carried over levels, as the code carries it.
-use Rattle.std.proofs.Common.{◌≡◌, ℕ, zero, suc, ◌+◌, ◌-◌, ◌≤◌, arith, ap, sym, refl, ◌∙◌, Option, Some, None}
+use Rattle.std.proofs.Common.{◌≡◌, ℕ, zero, suc, ◌+◌, ◌-◌, ◌≤◌, arith, ap, refl, ◌∙◌, Option, Some, None}
 use Rattle.std.specs.Option.{option_and_then}
 use Rattle.std.proofs.Math.Numerals.{add-one}
 use Rattle.vc_wave.specs.NarrowBounds.{bound_over}

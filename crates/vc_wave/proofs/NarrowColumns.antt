@@ -1,15 +1,15 @@
 -- Columns that are synthesised in place, and how large a plane's cells are after each pass.
-use Rattle.std.proofs.Common.{◌≡◌, ◌≢◌, ℕ, zero, suc, ◌+◌, ◌-◌, ◌*◌, ◌/◌, ◌%◌, ◌^◌, ◌<◌, ◌≤◌, ◌⊎◌, inl, inr, List, length, ℤ, pos, unsigned_abs, arith, ap, sym, subst, refl, ◌∙◌, Some}
-use Rattle.std.specs.Prelude.{if◌then◌else◌, nat_lt, ◌==◌}
+use Rattle.std.proofs.Common.{◌≡◌, ◌≢◌, ℕ, zero, suc, ◌+◌, ◌*◌, ◌/◌, ◌%◌, ◌^◌, ◌<◌, ◌≤◌, ◌⊎◌, inl, inr, List, ℤ, unsigned_abs, arith, ap, sym, subst, ◌∙◌}
+use Rattle.std.specs.Prelude.{if◌then◌else◌, ◌==◌}
 use mathlib.Core.Path.{fun_ext}
-use Rattle.std.proofs.lemmas.Bool.{cases_lt, cases_eq}
+use Rattle.std.proofs.lemmas.Bool.{cases_lt}
 use Rattle.std.proofs.lemmas.Nat.{same_from_place}
 use Rattle.std.proofs.Math.Nat.{mul-le-mul_right}
-use Rattle.vc_types.specs.Lifting.{Line, line_of}
-use Rattle.vc_types.specs.Transforms.{Cells, on_columns}
+use Rattle.vc_types.specs.Lifting.{line_of}
+use Rattle.vc_types.specs.Transforms.{on_columns}
 use Rattle.vc_types.specs.Wavelets.{synthesised}
 use Rattle.vc_lift.specs.declared.halves.Halves.{Halves}
-use Rattle.vc_lift.specs.Halves.{half_start, halves_place, line_in, AreLines, StandApart, IsBeside}
+use Rattle.vc_lift.specs.Halves.{halves_place, line_in, AreLines, StandApart, IsBeside}
 use Rattle.vc_lift.specs.Ranges.{StaysNarrow, narrow_bound, counted_synthesis}
 use Rattle.vc_lift.proofs.LineLaws.{synthesis_past}
 use Rattle.vc_wave.specs.NarrowBounds.{HasBound}

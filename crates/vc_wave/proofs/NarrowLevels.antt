@@ -1,6 +1,6 @@
 -- Levels in 32 bits: what each makes, how far it reaches, and the bounds that it carries on.
-use Rattle.std.proofs.Common.{◌≡◌, ◌≢◌, ℕ, zero, suc, ◌+◌, ◌-◌, ◌*◌, ◌/◌, ◌%◌, ◌^◌, ◌<◌, ◌≤◌, ◌⊎◌, inl, inr, List, length, ℤ, pos, negsuc, ◌+ℤ◌, unsigned_abs, arith, ap, sym, subst, refl, ◌∙◌, Bool, true, false, max, Option, Some, None, All}
-use Rattle.std.specs.Prelude.{if◌then◌else◌, nat_lt, ◌&&◌}
+use Rattle.std.proofs.Common.{◌≡◌, ℕ, zero, suc, ◌+◌, ◌-◌, ◌*◌, ◌/◌, ◌^◌, ◌<◌, ◌≤◌, ◌⊎◌, inl, inr, List, length, ℤ, pos, negsuc, ◌+ℤ◌, unsigned_abs, arith, ap, sym, refl, ◌∙◌, Bool, true, false, max, Option, Some, None, All}
+use Rattle.std.specs.Prelude.{if◌then◌else◌, nat_lt}
 use Rattle.std.specs.Int.{int_shr}
 use Rattle.std.specs.Option.{option_and_then, is_some}
 use Rattle.std.proofs.lemmas.Bool.{cases_lt, false≢true}
@@ -21,20 +21,19 @@ use Rattle.vc_lift.proofs.LineLaws.{synthesis_past}
 use Rattle.vc_lift.proofs.NarrowGrowth.{synthesis_after, narrow_covers}
 use Rattle.vc_wave.specs.declared.pass.Direction.TheVariants.{Synthesis}
 use Rattle.vc_wave.specs.Layout.{laid_out, row_in_turn}
-use Rattle.vc_wave.specs.NarrowBounds.{HasBound, rows_bound, level_bound, shifted_bound, bound_over, transform_bound}
+use Rattle.vc_wave.specs.NarrowBounds.{rows_bound, level_bound, bound_over, transform_bound}
 use Rattle.vc_wave.specs.Planes.{HasRoom, plane_of}
-use Rattle.vc_wave.specs.Remade.{remade, merged, halves_together, level_in_turn, on_samples}
+use Rattle.vc_wave.specs.Remade.{remade, merged, halves_together, level_in_turn}
 use Rattle.vc_wave.proofs.Copies.{on_samples_in}
 use Rattle.vc_wave.proofs.LayoutLaws.{laid_together, laid_after}
 use Rattle.vc_types.specs.TransformParameters.{Parameters}
 use Rattle.vc_types.specs.declared.video.Component.{Component}
 use Rattle.vc_types.specs.Subbands.{padded_width, padded_height}
 use Rattle.vc_wave.proofs.Levels.{level_fits, no_levels, next_level, whole_room}
-use Rattle.vc_wave.proofs.NarrowColumns.{plane_small, cells_small}
 use Rattle.vc_wave.proofs.NarrowRows.{RowsMade, rows_made}
 use Rattle.vc_wave.proofs.PlaneLines.{column_in, column_out, row_in, row_out, on_columns-on_columns, rearranged_in}
 use Rattle.vc_wave.proofs.TransformLocality.{less, Agree, columns_agree, rows_agree, levels_across_agree}
-use Rattle.vc_wave.proofs.Weaving.{half_place_below, remade_past, remade_reads, remade_merged, synthesis_leaves, synthesis_reads, inverse_level_remade, level_across_remade}
+use Rattle.vc_wave.proofs.Weaving.{remade_past, remade_reads, remade_merged, synthesis_leaves, synthesis_reads, inverse_level_remade, level_across_remade}
 
 -- ---- a level whose rows stand in turn
 

@@ -1,26 +1,23 @@
 -- Rows that are put together in place.
-use Rattle.std.proofs.Common.{◌≡◌, ◌≢◌, ℕ, zero, suc, ◌+◌, ◌-◌, ◌*◌, ◌/◌, ◌%◌, ◌^◌, ◌<◌, ◌≤◌, ◌⊎◌, inl, inr, List, length, set, ℤ, pos, negsuc, ◌+ℤ◌, unsigned_abs, arith, ap, sym, subst, refl, ◌∙◌, Bool, true, false, max, Option, Some, None}
+use Rattle.std.proofs.Common.{◌≡◌, ◌≢◌, ℕ, zero, suc, ◌+◌, ◌-◌, ◌*◌, ◌/◌, ◌%◌, ◌^◌, ◌<◌, ◌≤◌, ◌⊎◌, inl, inr, List, length, set, ℤ, pos, unsigned_abs, arith, ap, sym, subst, refl, ◌∙◌, Bool, true, false, Some, None}
 use Rattle.std.specs.Prelude.{if◌then◌else◌, nat_lt, ◌==◌}
-use Rattle.std.specs.Int.{int_shr}
-use Rattle.std.specs.Option.{option_and_then}
 use Rattle.std.proofs.lemmas.Bool.{cases_lt, cases_eq}
 use Rattle.std.proofs.lemmas.Bool.Decides.{nat_tests}
-use Rattle.std.proofs.lemmas.Int.{ints}
 use Rattle.std.proofs.lemmas.List.{get_or-set_same, get_or-set_other, length-set}
 use Rattle.std.proofs.lemmas.Option.{option_and_then_some}
 use Rattle.vc_types.specs.Lifting.{Line, line_of}
 use Rattle.vc_types.specs.Transforms.{halved, half_place, source_of}
 use Rattle.vc_types.specs.Wavelets.{is_shifted, synthesised}
 use Rattle.vc_lift.specs.declared.halves.Halves.{Halves}
-use Rattle.vc_lift.specs.Halves.{half_start, halves_place, line_in, AreLines, StandApart, IsBeside}
+use Rattle.vc_lift.specs.Halves.{halves_place, line_in, AreLines, StandApart, IsBeside}
 use Rattle.vc_lift.specs.Ranges.{StaysNarrow, narrow_bound, counted_synthesis}
 use Rattle.vc_lift.proofs.LineLaws.{synthesis_is_local}
-use Rattle.vc_lift.proofs.NarrowGrowth.{synthesis_after, narrow_covers}
+use Rattle.vc_lift.proofs.NarrowGrowth.{synthesis_after}
 use Rattle.vc_wave.specs.declared.lines.Lines.{Lines}
 use Rattle.vc_wave.specs.declared.pass.Direction.TheVariants.{Synthesis}
 use Rattle.vc_wave.specs.Lines.{IsMade, IsApart, line_at}
 use Rattle.vc_wave.specs.NarrowBounds.{RowHasBound, rows_bound, shifted_bound}
-use Rattle.vc_wave.specs.Remade.{remade, halves_together, merged, on_samples}
+use Rattle.vc_wave.specs.Remade.{remade, halves_together, merged}
 use Rattle.vc_wave.proofs.Copies.{places_differ, on_samples_in}
 use Rattle.vc_wave.proofs.PlaneLines.{rearranged_in}
 use Rattle.vc_wave.proofs.Weaving.{half_place_below, source_below, half_place-source_of}

@@ -1,21 +1,18 @@
 -- The inverse of a symmetric transform undoes the forward transform.
-use Rattle.std.proofs.Common.{◌≡◌, ℕ, zero, suc, ◌+◌, ◌-◌, ◌*◌, ◌/◌, ◌^◌, ◌<◌, ◌≤◌, ℤ, pos, negsuc, ◌+ℤ◌, ◌-ℤ◌, unsigned_abs, arith, ap, refl, ◌∙◌, ◌⊎◌, inl, inr, Bool, IsTrue, true, false, min}
+use Rattle.std.proofs.Common.{◌≡◌, ℕ, zero, suc, ◌+◌, ◌-◌, ◌*◌, ◌/◌, ◌^◌, ◌<◌, ◌≤◌, ℤ, pos, negsuc, ◌+ℤ◌, ◌-ℤ◌, arith, ap, refl, ◌∙◌, ◌⊎◌, inl, inr, Bool, IsTrue, true, false, min}
 use Rattle.std.specs.Prelude.{if◌then◌else◌, ◌&&◌}
 use Rattle.std.specs.Int.{int_shr}
 use mathlib.Core.Path.{fun_ext}
 use Rattle.std.proofs.lemmas.Bool.{cases_lt}
 use Rattle.std.proofs.lemmas.Bool.Decides.{nat_tests}
 use Rattle.std.proofs.lemmas.Int.{ints}
-use Rattle.std.proofs.Math.Nat.{mul-le-mul, mul-le-mul_left, mul-le-mul_right, pow-suc, pow-zero}
 use Rattle.vc_types.specs.declared.video.Component.{Component}
-use Rattle.vc_types.specs.Lifting.{Line}
 use Rattle.vc_types.specs.Subbands.{plane_width, plane_height, plane_depth}
 use Rattle.vc_types.specs.TransformParameters.{Parameters, is_symmetric}
 use Rattle.vc_types.specs.Transforms.{Cells, is_within, interleaved, deinterleaved, source_of, on_columns, on_rows, on_cells, halved, doubled, inverse_level, forward_level, inverse_levels, forward_levels, levels_across, lowest_width, lowest_height, inverse_transform, padded_plane, forward_transform, half_place}
-use Rattle.vc_types.specs.Wavelets.{is_shifted, synthesised, analysed, GrowsAtMost}
-use Rattle.vc_lift.proofs.LineLaws.{synthesis_undoes_analysis, synthesis_grows_little, analysis_grows_less, synthesis_past, analysis_past}
-use Rattle.vc_wave.proofs.PlaneLines.{LeavesPast, column_in, column_out, row_in, row_out, on_columns-on_columns, on_rows-on_rows, on_columns-same, on_rows-same, rearranged_in, rearranged_past}
-use Rattle.vc_wave.specs.Remade.{rearranged, halves_together, merged, parted}
+use Rattle.vc_types.specs.Wavelets.{is_shifted, synthesised, analysed}
+use Rattle.vc_lift.proofs.LineLaws.{synthesis_undoes_analysis}
+use Rattle.vc_wave.proofs.PlaneLines.{on_columns-on_columns, on_rows-on_rows, on_columns-same, on_rows-same}
 use Rattle.vc_wave.proofs.Weaving.{half_place_below, source_of-half_place}
 
 -- ---- the inverse undoes the forward transform

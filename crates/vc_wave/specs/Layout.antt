@@ -1,5 +1,5 @@
 -- Subbands whose rows are taken in turn, so that a level finds the rows that it synthesises in their order.
-use Rattle.std.specs.Prelude.{ℕ, zero, suc, ◌*◌, ◌^◌, if◌then◌else◌, nat_lt, ◌&&◌, List, ℤ}
+use Rattle.std.specs.Prelude.{ℕ, zero, suc, ◌*◌, ◌^◌, if◌then◌else◌, List, ℤ}
 use Rattle.vc_types.specs.declared.video.Component.{Component}
 use Rattle.vc_types.specs.TransformParameters.{Parameters}
 use Rattle.vc_types.specs.Transforms.{Cells, is_within, source_of, lowest_width, lowest_height}

@@ -1,5 +1,5 @@
 -- Whether the inverse transform stays in 32 bits: bounds on magnitudes, carried through one level after another.
-use Rattle.std.specs.Prelude.{ℕ, zero, suc, ◌+◌, ◌/◌, ◌^◌, ◌<◌, ◌≤◌, ◌≡◌, Bool, true, false, IsTrue, nat_lt, if◌then◌else◌, max, List, ℤ, All, unsigned_abs, Option, Some, None}
+use Rattle.std.specs.Prelude.{ℕ, zero, suc, ◌+◌, ◌/◌, ◌^◌, ◌<◌, ◌≤◌, ◌≡◌, Bool, IsTrue, nat_lt, if◌then◌else◌, max, List, ℤ, All, unsigned_abs, Option, Some, None}
 use Rattle.std.specs.Option.{option_and_then, is_some}
 use Rattle.vc_types.specs.Lifting.{line_of}
 use Rattle.vc_types.specs.TransformParameters.{Parameters}

@@ -1,6 +1,6 @@
-ghost use Rattle.std.specs.Prelude.{◌≡◌, ◌^◌, ◌<◌, ◌≤◌, IfSome};
+ghost use Rattle.std.specs.Prelude.{◌≡◌, ◌^◌, ◌<◌, ◌≤◌, All, IfSome, true, unsigned_abs};
 ghost use Rattle.vc_types.specs.TransformParameters.{parameters_of};
-ghost use Rattle.vc_wave.specs.NarrowBounds.{shifted_bound, rows_bound, level_bound, bound_over, transform_bound, fits_narrow};
+ghost use Rattle.vc_wave.specs.NarrowBounds.{shifted_bound, rows_bound, level_bound, bound_over, transform_bound, fits_narrow, AreNarrow};
 
 use crate::level::Wavelets;
 use crate::shift::is_shifted;
@@ -94,4 +94,22 @@ pub fn fits_narrow(plan: &Plan, most: u32) -> bool
     ensures { result ≡ fits_narrow (parameters_of plan.now) most }
 {
     transform_bound(plan, u64::from(most)).is_some()
+}
+
+/// Whether these coefficients can be transformed in 32 bits, by the greatest of their magnitudes.
+pub fn are_narrow(plan: &Plan, coefficients: &[i32]) -> bool
+    ensures { result ≡ true → AreNarrow (parameters_of plan.now) coefficients.now }
+{
+    let most = greatest(coefficients);
+    most < 1 << 31 && fits_narrow(plan, most)
+}
+
+fn greatest(coefficients: &[i32]) -> u32
+    ensures { All (λ z. unsigned_abs z ≤ result) coefficients.now }
+{
+    let mut most = 0u32;
+    for coefficient in coefficients {
+        most = most.max(coefficient.unsigned_abs());
+    }
+    most
 }

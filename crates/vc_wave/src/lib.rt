@@ -14,9 +14,11 @@ mod sides;
 mod synthesis;
 #[cfg(test)]
 mod tests;
+mod turn;
 
 pub use analysis::forward;
-pub use bounds::fits_narrow;
+pub use bounds::{are_narrow, fits_narrow};
 pub use laws::inverse_undoes_forward;
 pub use narrow::inverse_narrow;
 pub use synthesis::inverse;
+pub use turn::turn_rows;

@@ -1,5 +1,5 @@
-use Rattle.std.proofs.Common.{◌≡◌, ◌+◌, ◌^◌, ◌<◌, IfSome, arith, sym, subst, ◌∙◌}
-use Rattle.vc_wave.specs.NarrowBounds.{rows_bound, bound_over}
+use Rattle.std.proofs.Common.{◌+◌, ◌^◌, ◌<◌, IfSome, arith, sym, subst, ◌∙◌}
+use Rattle.vc_wave.specs.NarrowBounds.{rows_bound}
 use Rattle.vc_wave.proofs.NarrowCarry.{bound_start, bound_next, none_after}
 use Rattle.vc_wave.proofs.bounds.across_bound.Goals as goal
 

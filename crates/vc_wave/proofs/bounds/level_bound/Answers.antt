@@ -1,4 +1,4 @@
-use Rattle.std.proofs.Common.{◌≡◌, ℕ, ap, sym, ◌∙◌}
+use Rattle.std.proofs.Common.{ℕ, ap, sym, ◌∙◌}
 use Rattle.std.specs.Option.{option_and_then}
 use Rattle.vc_wave.specs.NarrowBounds.{rows_bound, level_bound}
 use Rattle.vc_wave.proofs.bounds.level_bound.Goals as goal

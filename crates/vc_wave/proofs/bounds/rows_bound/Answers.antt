@@ -1,4 +1,4 @@
-use Rattle.std.proofs.Common.{◌≡◌, ℕ, ap, sym, ◌∙◌}
+use Rattle.std.proofs.Common.{ℕ, ap, sym, ◌∙◌}
 use Rattle.std.specs.Option.{option_and_then}
 use Rattle.vc_wave.specs.NarrowBounds.{shifted_bound, rows_bound}
 use Rattle.vc_wave.proofs.bounds.rows_bound.Goals as goal

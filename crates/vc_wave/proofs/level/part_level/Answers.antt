@@ -1,4 +1,4 @@
-use Rattle.std.proofs.Common.{◌≡◌, ◌*◌, ◌^◌, ap, sym, subst, arith, ◌∙◌, false}
+use Rattle.std.proofs.Common.{◌*◌, ◌^◌, ap, sym, subst, arith, ◌∙◌, false}
 use Rattle.vc_types.specs.Transforms.{Cells, on_columns, on_rows}
 use Rattle.vc_types.specs.Wavelets.{is_shifted}
 use Rattle.vc_wave.specs.declared.pass.Direction.TheVariants.{Analysis}

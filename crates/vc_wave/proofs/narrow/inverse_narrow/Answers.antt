@@ -1,9 +1,8 @@
-use Rattle.std.proofs.Common.{◌≡◌, ◌+◌, ◌-◌, ◌*◌, ◌^◌, ◌<◌, ◌≤◌, ℕ, length, arith, refl, ap, sym, subst, ◌∙◌}
-use Rattle.vc_types.specs.Subbands.{padded_width, padded_height}
+use Rattle.std.proofs.Common.{◌≡◌, ◌*◌, ◌^◌, ◌≤◌, length, arith, ap, sym, ◌∙◌}
 use Rattle.vc_types.specs.TransformParameters.{parameters_of}
-use Rattle.vc_types.specs.Transforms.{Cells, levels_across, lowest_width, lowest_height}
+use Rattle.vc_types.specs.Transforms.{levels_across, lowest_width}
 use Rattle.vc_wave.specs.Layout.{laid_out, nested_in}
-use Rattle.vc_wave.specs.Planes.{HasRoom, plane_of}
+use Rattle.vc_wave.specs.Planes.{plane_of}
 use Rattle.vc_wave.proofs.Grids.{all_levels}
 use Rattle.vc_wave.proofs.NarrowLevels.{transform_made, line_at_most, pitch_fits, apart_room, across_laid, all_rooms, sides_small}
 use Rattle.vc_wave.proofs.narrow.inverse_narrow.Goals as goal

@@ -1,4 +1,4 @@
-use Rattle.std.proofs.Common.{◌≡◌, ◌*◌, length}
+use Rattle.std.proofs.Common.{length}
 use Rattle.vc_wave.proofs.NarrowColumns.{column_lines, column_narrow, columns_made}
 use Rattle.vc_wave.proofs.narrow.merge_columns.Goals as goal
 

@@ -1,4 +1,4 @@
-use Rattle.std.proofs.Common.{◌≡◌, ◌*◌, ◌<◌, ◌≤◌, ℕ, arith, ap, sym, subst, ◌∙◌}
+use Rattle.std.proofs.Common.{◌*◌, arith, ap, sym, subst, ◌∙◌}
 use Rattle.vc_types.specs.Transforms.{Cells, on_rows}
 use Rattle.vc_types.specs.Wavelets.{is_shifted}
 use Rattle.vc_wave.specs.declared.pass.Direction.TheVariants.{Synthesis}

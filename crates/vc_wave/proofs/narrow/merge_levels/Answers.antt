@@ -1,8 +1,8 @@
-use Rattle.std.proofs.Common.{◌≡◌, ◌+◌, ◌-◌, ◌*◌, ◌^◌, ◌<◌, ◌≤◌, ℕ, length, unsigned_abs, arith, ap, sym, subst, ◌∙◌}
+use Rattle.std.proofs.Common.{◌≡◌, ◌+◌, ◌-◌, ◌*◌, ◌^◌, ◌≤◌, length, unsigned_abs, arith, ap, sym, subst, ◌∙◌}
 use Rattle.vc_types.specs.Lifting.{line_of}
 use Rattle.vc_types.specs.Transforms.{Cells, inverse_levels}
 use Rattle.vc_wave.specs.Layout.{laid_out}
-use Rattle.vc_wave.specs.NarrowBounds.{level_bound, bound_over}
+use Rattle.vc_wave.specs.NarrowBounds.{level_bound}
 use Rattle.vc_wave.specs.Planes.{plane_of}
 use Rattle.vc_wave.proofs.Levels.{level_fits, level_some}
 use Rattle.vc_wave.proofs.NarrowColumns.{plane_small, cells_small}

@@ -1,4 +1,4 @@
-use Rattle.std.proofs.Common.{◌≡◌, ◌+◌, ◌*◌, ◌^◌, ◌<◌, ◌≤◌, unsigned_abs, arith, ap, sym, subst, ◌∙◌}
+use Rattle.std.proofs.Common.{◌≡◌, ◌+◌, ◌*◌, ◌≤◌, unsigned_abs, arith, ap, sym, subst, ◌∙◌}
 use Rattle.vc_types.specs.Lifting.{line_of}
 use Rattle.vc_types.specs.Wavelets.{is_shifted}
 use Rattle.vc_wave.specs.declared.pass.Direction.TheVariants.{Synthesis}

@@ -1,5 +1,4 @@
-use Rattle.std.proofs.Common.{◌≡◌, ◌*◌, ◌^◌, ◌<◌, ◌≤◌, length, drop, All, unsigned_abs, arith, ap, sym, subst, ◌∙◌}
-use Rattle.vc_types.specs.Subbands.{padded_width, padded_height}
+use Rattle.std.proofs.Common.{◌≡◌, ◌*◌, ◌^◌, ◌<◌, length, drop, All, unsigned_abs, arith, ap, sym, subst, ◌∙◌}
 use Rattle.vc_types.specs.TransformParameters.{parameters_of}
 use Rattle.vc_wave.specs.declared.level.TheConstants.{BLOCK}
 use Rattle.vc_wave.proofs.Grids.{lattice, written_over, plane_below, lattice_below, inverse_made}
