@@ -1,5 +1,5 @@
 -- What is known of a picture that one slice more was put into.
-use Rattle.std.proofs.Common.{◌≡◌, ℕ, Bool, true, false, Some, None, refl, ap}
+use Rattle.std.proofs.Common.{◌≡◌, ℕ, false, Some, None, refl, ap}
 use Rattle.std.specs.Prelude.{Option, Result, Ok, Err}
 use Rattle.std.specs.Option.{is_some}
 use Rattle.vc_types.specs.declared.refusal.Unsound.{Unsound}

@@ -1,5 +1,5 @@
 -- A component's plane from the cells that all slices are in.
-use Rattle.std.proofs.Common.{◌≡◌, ℕ, ◌*◌, ◌^◌, ◌<◌, List, length, ℤ, unsigned_abs, All, arith, refl, sym, ap, subst, ◌∙◌}
+use Rattle.std.proofs.Common.{◌≡◌, ℕ, ◌*◌, ◌^◌, ◌<◌, List, length, ℤ, unsigned_abs, All, arith, refl, sym, ap, ◌∙◌}
 use Rattle.std.specs.Prelude.{IfOk, Result, Ok, Err, slice_index_or}
 use Rattle.vc_types.specs.declared.video.Component.{Component}
 use Rattle.vc_types.specs.Lifting.{line_of}
@@ -7,7 +7,7 @@ use Rattle.vc_types.specs.Pictures.{component_cells}
 use Rattle.vc_types.specs.Planes.{component_plane}
 use Rattle.vc_types.specs.Rasters.{Lattice, Raster, cell_at}
 use Rattle.vc_types.specs.Slices.{Coefficients, coefficients_of}
-use Rattle.vc_types.specs.Subbands.{slice_count, slice_coefficient_count, padded_width, padded_height}
+use Rattle.vc_types.specs.Subbands.{slice_coefficient_count, padded_width, padded_height}
 use Rattle.vc_types.specs.TransformParameters.{Parameters}
 use Rattle.vc_types.specs.Transforms.{Cells, inverse_transform}
 use Rattle.picture_build.specs.Kept.{kept_at, AreIn}

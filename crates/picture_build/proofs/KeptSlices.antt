@@ -1,7 +1,6 @@
 -- A picture's slices in cells: what one slice more changes, and what it leaves.
-use Rattle.std.proofs.Common.{◌≡◌, ◌≢◌, ℕ, ◌+◌, ◌*◌, ◌<◌, ◌≤◌, Bool, true, false, List, length, get_or, replicate, ℤ, pos, Some, None, arith, refl, sym, ap, subst, ◌∙◌, inl, inr, slice_set, length-set}
-use Rattle.std.specs.Prelude.{map, if◌then◌else◌, slice_index_or, Option}
-use Rattle.std.specs.List.{range_with_len}
+use Rattle.std.proofs.Common.{◌≡◌, ◌≢◌, ℕ, ◌+◌, ◌*◌, ◌<◌, ◌≤◌, Bool, true, false, List, length, replicate, ℤ, pos, Some, None, arith, refl, sym, ap, subst, ◌∙◌, inl, inr, slice_set, length-set}
+use Rattle.std.specs.Prelude.{if◌then◌else◌, slice_index_or, Option}
 use Rattle.std.specs.Option.{is_some, unwrap_or}
 use Rattle.std.proofs.lemmas.Bool.{cases_lt, cases_eq}
 use Rattle.std.proofs.lemmas.List.{ext_get_or, get_or-map, length-map, get_or_past, get_or-replicate, length-replicate, get_or-set_same, get_or-set_other}
@@ -10,10 +9,10 @@ use Rattle.vc_types.specs.declared.video.Component.{Component}
 use Rattle.vc_types.specs.declared.video.Component.TheVariants.{Y, C1, C2}
 use Rattle.vc_types.specs.Lifting.{line_of}
 use Rattle.vc_types.specs.SliceCoefficients.{AreSliceCoefficients}
-use Rattle.vc_types.specs.Slices.{Coefficients, coefficients_of}
+use Rattle.vc_types.specs.Slices.{Coefficients}
 use Rattle.vc_types.specs.Subbands.{slice_count, slice_coefficient_count, padded_width, padded_height}
 use Rattle.vc_types.specs.TransformParameters.{Parameters}
-use Rattle.picture_build.specs.Kept.{PartPicture, no_slices, with_slice, HasAllSlices, slices_of, no_coefficients, kept_at, kept_of, kept_slice, kept_entry, kept_slices, IsKept, ChangesOnly, FillsSlice, AreIn}
+use Rattle.picture_build.specs.Kept.{PartPicture, HasAllSlices, slices_of, no_coefficients, kept_at, kept_of, kept_slice, kept_entry, kept_slices, IsKept, ChangesOnly, AreIn}
 use Rattle.picture_build.proofs.PlacedNumbers.{kept_apart}
 
 -- ---- what cells hold of a slice

@@ -18,3 +18,4 @@ pub mod KeptSlices
 pub mod InCells
 pub mod SeenSlices
 pub mod Entries
+pub mod NarrowPlanes

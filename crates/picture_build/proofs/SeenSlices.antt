@@ -1,17 +1,15 @@
 -- A picture's slices as a caller sees them: what one slice more changes, and what it leaves.
-use Rattle.std.proofs.Common.{◌≡◌, ℕ, ◌<◌, Bool, true, false, List, ℤ, Some, None, sym, ap, subst, ◌∙◌, slice_set, arith, refl}
+use Rattle.std.proofs.Common.{◌≡◌, ℕ, ◌<◌, Bool, true, false, List, ℤ, None, sym, ap, subst, ◌∙◌, slice_set, refl}
 use Rattle.std.specs.Prelude.{slice_index_or, Result, Ok, Err, IfOk, nat_lt, if◌then◌else◌}
-use Rattle.vc_types.specs.declared.refusal.Unsound.{Unsound}
 use Rattle.vc_types.specs.declared.refusal.Unsound.TheVariants.{IndexRange}
 use Rattle.vc_types.specs.declared.video.Component.TheVariants.{Y, C1, C2}
-use Rattle.vc_types.specs.Lifting.{line_of}
 use Rattle.vc_types.specs.Planes.{planes_in, planes_of}
 use Rattle.vc_types.specs.Rasters.{Raster}
 use Rattle.vc_types.specs.SliceCoefficients.{AreSliceCoefficients}
 use Rattle.vc_types.specs.Slices.{CodedSlice, Coefficients, all_coefficients, in_range, decoded_slice}
-use Rattle.vc_types.specs.Subbands.{slice_count, slice_coefficient_count}
+use Rattle.vc_types.specs.Subbands.{slice_count}
 use Rattle.vc_types.specs.TransformParameters.{Parameters}
-use Rattle.picture_build.specs.Kept.{PartPicture, with_slice, slice_that_came, slices_of, HasAllSlices, kept_at, kept_slices, IsKept, ChangesOnly, FillsSlice, AreIn}
+use Rattle.picture_build.specs.Kept.{PartPicture, with_slice, slice_that_came, slices_of, HasAllSlices, kept_slices, IsKept, ChangesOnly, FillsSlice, AreIn}
 use Rattle.picture_build.proofs.KeptSlices.{unseen, still_kept, one_more, kept_more, y_in, c1_in, c2_in}
 
 abbrev pub seen : Parameters → List Bool → List ℤ → List ℤ → List ℤ → PartPicture

@@ -1,4 +1,4 @@
-ghost use Rattle.std.specs.Prelude.{◌≡◌, ◌≢◌, ◌+◌, ◌*◌, ◌^◌, ◌<◌, ◌≤◌, ◌⊎◌, ℕ, ℤ, pos, IfOk, length, unsigned_abs};
+ghost use Rattle.std.specs.Prelude.{◌≡◌, ◌≢◌, ◌+◌, ◌*◌, ◌^◌, ◌<◌, ◌≤◌, ◌⊎◌, ℕ, ℤ, pos, IfOk, IfSome, length, unsigned_abs};
 ghost use Rattle.vc_types.specs.Lifting.{line_of};
 ghost use Rattle.picture_build.specs.Cells.{whole_number};
 
@@ -46,6 +46,17 @@ impl CoefficientCells {
         ensures length { length self.new ≡ length self.old }
     {
         self.is_wide = false;
+    }
+
+    /// The numbers in the cells, where the low parts alone have them.
+    pub(crate) fn narrow(&self) -> Option<&[i32]>
+        ensures { IfSome result (λ numbers. numbers.now ≡ self.now) }
+    {
+        if self.is_wide {
+            None
+        } else {
+            Some(self.low.as_slice())
+        }
     }
 
     /// Copies so many numbers, from one of them on, to cells from one of them on.

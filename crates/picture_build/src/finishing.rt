@@ -7,6 +7,7 @@ ghost use Rattle.vc_types.specs.TransformParameters.{parameters_of};
 ghost use Rattle.picture_build.specs.Kept.{AreIn};
 
 use crate::cells::CoefficientCells;
+use crate::narrow::{narrow_output, narrow_samples};
 use crate::output::output;
 use std::alloc::Global;
 use vc_geometry::padded;
@@ -44,14 +45,32 @@ fn component(
     alloc: Global,
     plan: &Plan,
     c: Component,
-    cells: &mut CoefficientCells,
+    cells: &CoefficientCells,
 ) -> Result<Plane, NoMemory>
     requires whole { (slices : List Coefficients)
-        × AreIn (parameters_of plan.now) c slices cells.old }
+        × AreIn (parameters_of plan.now) c slices cells.now }
     ensures value { IfOk result (λ plane. (slices : List Coefficients)
-        → AreIn (parameters_of plan.now) c slices cells.old
+        → AreIn (parameters_of plan.now) c slices cells.now
         → plane ≡ component_plane (parameters_of plan.now) c slices) }
-    ensures length { length cells.new ≡ length cells.old }
+{
+    match narrow_samples(alloc, plan, c, cells)? {
+        Some(samples) => narrow_output(alloc, plan, c, &samples),
+        None => wide_component(alloc, plan, c, cells),
+    }
+}
+
+// The same, whatever its coefficients.
+fn wide_component(
+    alloc: Global,
+    plan: &Plan,
+    c: Component,
+    cells: &CoefficientCells,
+) -> Result<Plane, NoMemory>
+    requires whole { (slices : List Coefficients)
+        × AreIn (parameters_of plan.now) c slices cells.now }
+    ensures value { IfOk result (λ plane. (slices : List Coefficients)
+        → AreIn (parameters_of plan.now) c slices cells.now
+        → plane ≡ component_plane (parameters_of plan.now) c slices) }
 {
     let coefficients = grid(alloc, plan, c, cells)?;
     let samples = inverse(alloc, plan, c, coefficients)?;

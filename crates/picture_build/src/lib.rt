@@ -6,6 +6,7 @@ mod building;
 mod cells;
 mod filling;
 mod finishing;
+mod narrow;
 mod output;
 mod placing;
 mod same;

@@ -74,7 +74,7 @@ fn sample(cell: i128, depth: u8) -> u16
 }
 
 // The width and height of a component's plane, and the bits of its samples.
-fn format(plan: &Plan, c: Component) -> (u32, u32, u8)
+pub(crate) fn format(plan: &Plan, c: Component) -> (u32, u32, u8)
     ensures width { result.0 ≡ plane_width plan.now.shape c }
     ensures height { result.1 ≡ plane_height plan.now.shape c }
     ensures depth { result.2 ≡ plane_depth plan.now.shape c }

@@ -1,4 +1,4 @@
-use Rattle.std.proofs.Common.{arith, rules, ◌≡◌, ◌≢◌, ◌<◌, ℕ, refl, sym, ap, subst, ◌∙◌, ◌+◌, ◌≤◌, ◌*◌, ◌^◌}
+use Rattle.std.proofs.Common.{arith, ◌≡◌, ◌≢◌, ◌<◌, ℕ, refl, sym, subst, ◌∙◌, ◌+◌}
 use Rattle.vc_types.specs.Lifting.{line_of}
 use Rattle.vc_types.specs.Subbands.{area, padded_width, place_in}
 use Rattle.vc_types.specs.TransformParameters.{parameters_of}

@@ -1,4 +1,4 @@
-use Rattle.std.proofs.Common.{arith, rules, ◌∙◌}
+use Rattle.std.proofs.Common.{arith, ◌∙◌}
 use Rattle.picture_build.proofs.FilledRows.{rows_more, others_more, rows_all}
 use Rattle.picture_build.proofs.filling.place_rect.Goals as goal
 

@@ -1,8 +1,8 @@
-use Rattle.std.proofs.Common.{arith, rules, refl, sym, ap, ◌∙◌, ◌≡◌, ◌+◌, ◌*◌, ◌<◌, length, subst}
+use Rattle.std.proofs.Common.{arith, sym, ap, ◌∙◌, ◌≡◌, ◌+◌, ◌*◌, ◌<◌, length, subst}
 use Rattle.std.specs.Int.{w64}
 use Rattle.std.proofs.lemmas.Int.{to_z-of_z, fits_signed_from_abs}
 use Rattle.vc_types.specs.Lifting.{line_of}
-use Rattle.vc_types.specs.Subbands.{slice_coefficient_count, coefficient_place, padded_width}
+use Rattle.vc_types.specs.Subbands.{slice_coefficient_count, coefficient_place}
 use Rattle.vc_types.specs.TransformParameters.{parameters_of}
 use Rattle.vc_types.proofs.SliceCounts.{some_across, some_down}
 use Rattle.picture_build.specs.Cells.{cell_number}

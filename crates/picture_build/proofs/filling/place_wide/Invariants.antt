@@ -1,4 +1,4 @@
-use Rattle.std.proofs.Common.{◌≡◌, ◌<◌, ℕ, length}
+use Rattle.std.proofs.Common.{◌≡◌, length}
 use Rattle.vc_types.specs.TransformParameters.{parameters_of}
 use Rattle.picture_build.proofs.PlacedNumbers.{FirstStand, OthersStay}
 use Rattle.picture_build.proofs.filling.place_wide.Given as goal

@@ -1,16 +1,16 @@
-use Rattle.std.proofs.Common.{arith, rules}
-use Rattle.vc_types.specs.Rasters.{cell_at}
+use Rattle.std.proofs.Common.{sym, subst, List, ℤ}
+use Rattle.std.specs.Prelude.{IfSome}
 use Rattle.vc_types.specs.TransformParameters.{parameters_of}
 use Rattle.vc_types.proofs.SliceCounts.{some_across, some_down}
-use Rattle.picture_build.proofs.InCells.{cells_are, plane_in}
+use Rattle.picture_build.specs.Narrow.{AreSamples}
+use Rattle.picture_build.proofs.NarrowPlanes.{narrow_plane}
 use Rattle.picture_build.proofs.finishing.component.Goals as goal
 
-pub returns-clause-value : goal.returns-clause-value
-returns-clause-value c =
+pub returns-in-Some : goal.returns-in-Some
+returns-in-Some c =
     let plan = c.args.plan.now in
     let p = parameters_of plan in
-    let g = c.in_ok-coefficients.coefficients in
-    let e = c.in_ok-coefficients.ensures in
-    plane_in p c.args.c c.args.cells.now (cell_at g) (cell_at c.in_ok-samples.samples) c.output.result
-    (λ slices at. cells_are p c.args.c (some_across plan.slices_x plan.slices_y plan.slices) (some_down plan.slices_x plan.slices_y plan.slices) slices c.args.cells.now at g e.width e.height e.cells)
-    c.in_ok-samples.ensures.value c.output.ensures
+    let made = subst (λ o. IfSome o (λ samples. AreSamples p c.args.c c.args.cells.now samples.items)) c.in-Some.is c.in_ok-samples.ensures in
+    record {
+      value = narrow_plane p c.args.c (some_across plan.slices_x plan.slices_y plan.slices) (some_down plan.slices_x plan.slices_y plan.slices) c.args.cells.now c.deref.result.now c.narrow_output.result (subst (λ (xs : List ℤ). AreSamples p c.args.c c.args.cells.now xs) (sym c.deref.ensures.value) made) c.narrow_output.ensures;
+    }

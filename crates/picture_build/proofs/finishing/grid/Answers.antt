@@ -1,4 +1,4 @@
-use Rattle.std.proofs.Common.{arith, rules, sym, ap, subst, ◌∙◌, ◌<◌, ◌^◌, List, ℤ, unsigned_abs, All}
+use Rattle.std.proofs.Common.{arith, sym, ap, subst, ◌∙◌, ◌<◌, ◌^◌, List, ℤ, unsigned_abs, All}
 use Rattle.vc_types.specs.Rasters.{Lattice}
 use Rattle.vc_types.specs.TransformParameters.{parameters_of}
 use Rattle.vc_types.proofs.SliceCounts.{some_across, some_down}

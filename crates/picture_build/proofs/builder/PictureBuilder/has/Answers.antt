@@ -1,19 +1,10 @@
-use Rattle.std.proofs.Common.{arith, rules, refl, sym, ap, subst, ◌∙◌, ◌≡◌, ◌<◌, ◌+◌, ℕ, length, true, false, Some, None}
-use Rattle.std.specs.Prelude.{slice_index_or, Result, Ok}
+use Rattle.std.proofs.Common.{arith, sym, ap, ◌∙◌, false}
 use Rattle.std.specs.Option.{is_some}
-use Rattle.std.specs.Vec.{with_items}
-use Rattle.std.proofs.lemmas.Bool.{le-ltb, lt-ltb}
-use Rattle.std.proofs.lemmas.List.{get_or_default, get_or_past, length-replicate}
-use Rattle.vc_types.specs.SliceCoefficients.{AreSliceCoefficients}
-use Rattle.vc_types.specs.Slices.{all_coefficients, slice_coefficients}
-use Rattle.vc_types.specs.Subbands.{slice_count}
+use Rattle.std.proofs.lemmas.Bool.{le-ltb}
+use Rattle.std.proofs.lemmas.List.{get_or_default, get_or_past}
 use Rattle.vc_types.specs.TransformParameters.{parameters_of}
-use Rattle.vc_types.proofs.SliceCounts.{some_across, some_down}
-use Rattle.vc_slice.specs.Coded.{coded_of}
-use Rattle.picture_build.specs.Kept.{PartPicture, slice_that_came, no_slices, kept_slices, IsKept}
-use Rattle.picture_build.proofs.KeptSlices.{has_slice, nothing_kept, kept_none}
-use Rattle.picture_build.proofs.SeenSlices.{seen, numbered, seen_still, kept_still, seen_more, kept_one_more, index_high, index_low, all_in, planes_seen}
-use Rattle.picture_build.proofs.WholeSlices.{whole_decoded}
+use Rattle.picture_build.specs.Kept.{PartPicture, slice_that_came}
+use Rattle.picture_build.proofs.KeptSlices.{has_slice}
 use Rattle.picture_build.proofs.builder.PictureBuilder.has.Goals as goal
 
 pub returns-then-index-len : goal.returns-then-index-len

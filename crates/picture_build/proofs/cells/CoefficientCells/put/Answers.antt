@@ -1,10 +1,9 @@
-use Rattle.std.proofs.Common.{rules, ◌≡◌, arith, sym, ap, subst, ◌∙◌, ◌<◌, ◌+◌, ◌≤◌, length, drop, take, ◌++◌, true, pos, to_z, of_z, FitsSigned, slice_set, inl, inr}
+use Rattle.std.proofs.Common.{rules, ◌≡◌, arith, sym, ap, ◌∙◌, length, pos, to_z, of_z, FitsSigned, slice_set}
 use Rattle.std.specs.Int.{w32, w64}
 use Rattle.std.proofs.lemmas.Int.{to_z-of_z}
 use Rattle.vc_types.specs.Lifting.{line_of}
-use Rattle.picture_build.specs.Cells.{whole_number, cells_in}
-use Rattle.picture_build.proofs.GridCells.{written_over}
-use Rattle.picture_build.proofs.TwoParts.{length_seen, seen_narrow, seen_wide, written_length, written_off, written_on, written_low, widened_length, widened_off, widened_on, zeros_at}
+use Rattle.picture_build.specs.Cells.{whole_number}
+use Rattle.picture_build.proofs.TwoParts.{length_seen, written_length, written_off, written_on, widened_length, widened_off, widened_on, zeros_at}
 use Rattle.std.proofs.lemmas.List.{get_or-set_same, get_or-set_other, length-replicate}
 use Rattle.std.proofs.Common.{length-set}
 use Rattle.picture_build.proofs.cells.CoefficientCells.put.Goals as goal

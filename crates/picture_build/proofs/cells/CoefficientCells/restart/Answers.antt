@@ -1,9 +1,5 @@
-use Rattle.std.proofs.Common.{rules, ◌≡◌, arith, sym, ap, subst, ◌∙◌, ◌<◌, ◌+◌, ◌≤◌, length, pos, to_z, of_z, FitsSigned, slice_set, inl, inr}
-use Rattle.std.specs.Int.{w32, w64}
-use Rattle.std.proofs.lemmas.Int.{to_z-of_z}
-use Rattle.vc_types.specs.Lifting.{line_of}
-use Rattle.picture_build.specs.Cells.{whole_number}
-use Rattle.picture_build.proofs.TwoParts.{length_seen, seen_narrow, seen_wide, written_length, written_off, written_on, written_low, widened_length, widened_off, widened_on}
+use Rattle.std.proofs.Common.{sym}
+use Rattle.picture_build.proofs.TwoParts.{length_seen}
 use Rattle.picture_build.proofs.cells.CoefficientCells.restart.Goals as goal
 
 pub returns : goal.returns
