@@ -1,14 +1,12 @@
 -- Steps on some samples of a line, and where they are made in cells.
-use Rattle.std.proofs.Common.{◌≡◌, ◌≢◌, ℕ, zero, suc, ◌+◌, ◌-◌, ◌*◌, ◌/◌, ◌%◌, ◌^◌, ◌<◌, ◌≤◌, ◌⊎◌, inl, inr, List, length, ℤ, pos, arith, ap, sym, ◌∙◌, refl, subst, min, max, unsigned_abs}
-use Rattle.std.specs.Prelude.{if◌then◌else◌, nat_lt, nat_le, ◌==◌, ◌&&◌}
+use Rattle.std.proofs.Common.{◌≡◌, ◌≢◌, ℕ, ◌+◌, ◌-◌, ◌*◌, ◌/◌, ◌%◌, ◌<◌, ◌≤◌, ◌⊎◌, inl, inr, List, ℤ, arith, ap, sym, ◌∙◌, min}
 use Rattle.std.proofs.lemmas.Bool.{cases_eq, cases_lt}
 use Rattle.std.proofs.lemmas.Bool.Decides.{nat_tests}
 use Rattle.vc_types.specs.Lifting.{line_of, changed_by}
 use Rattle.vc_lift.specs.declared.halves.Halves.{Halves}
 use Rattle.vc_lift.specs.CountedSteps.{CountedStep, place_met, change_at, lift, lift_between}
-use Rattle.vc_lift.specs.Halves.{half_start, halves_place, line_in, AreLines, StandApart, IsBeside, CanRun}
-use Rattle.vc_lift.specs.Ranges.{HasRangeAt, HasRange, stretched}
-use Rattle.vc_lift.proofs.HalfPlaces.{place_at}
+use Rattle.vc_lift.specs.Halves.{halves_place, line_in, AreLines, StandApart, IsBeside, CanRun}
+use Rattle.vc_lift.specs.Ranges.{HasRangeAt, HasRange}
 use Rattle.vc_lift.proofs.NarrowSums.{same_change, same_room}
 
 -- ---- at a sample

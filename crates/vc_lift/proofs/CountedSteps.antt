@@ -1,5 +1,5 @@
 -- Steps over samples that are counted in each parity are the standard's steps.
-use Rattle.std.proofs.Common.{◌≡◌, ℕ, zero, suc, ◌+◌, ◌-◌, ◌*◌, ◌/◌, ◌%◌, ◌<◌, ◌≤◌, List, [], ◌∷◌, length, ℤ, pos, negsuc, ◌+ℤ◌, ◌-ℤ◌, ◌*ℤ◌, arith, sym, ap, refl, ◌∙◌, ◌⊎◌, inl, inr, unsigned_abs, Bool, true, false, not, min, max, map, reverse, fold, slice_index_or}
+use Rattle.std.proofs.Common.{◌≡◌, ℕ, zero, suc, ◌+◌, ◌-◌, ◌*◌, ◌/◌, ◌%◌, ◌<◌, ◌≤◌, List, [], ◌∷◌, length, ℤ, pos, negsuc, ◌+ℤ◌, ◌-ℤ◌, ◌*ℤ◌, arith, sym, ap, refl, ◌∙◌, ◌⊎◌, inl, inr, true, min, max, map, fold, slice_index_or}
 use Rattle.std.specs.Prelude.{if◌then◌else◌, nat_lt, ◌==◌, ◌&&◌}
 use Rattle.std.specs.List.{list_all}
 use Rattle.std.specs.Int.{int_shr}
@@ -11,7 +11,7 @@ use Rattle.vc_types.specs.Lifting.{Parity, even, odd, offset_of, LiftingStep, he
 use Rattle.vc_types.specs.Wavelets.{synthesis_steps, analysis_steps, lifted_by, synthesised, analysed}
 use Rattle.vc_lift.specs.CountedSteps.{sum_below}
 use Rattle.vc_lift.proofs.WeightedSums.{sum_below_none, sum_below_first}
-use Rattle.vc_lift.specs.CountedSteps.{CountedStep, back_of, is_behind, can_be_counted, counted_step, sum_below, place_met, sum_met, change_at, lift, lift_all, undone}
+use Rattle.vc_lift.specs.CountedSteps.{CountedStep, back_of, is_behind, can_be_counted, counted_step, sum_below, sum_met, change_at, lift, lift_all, undone}
 use Rattle.vc_lift.specs.declared.step.Row.{Row}
 use Rattle.vc_lift.specs.Steps.{lifting_step, counted_row}
 

@@ -1,5 +1,5 @@
 -- Where lines in two halves have their samples.
-use Rattle.std.proofs.Common.{◌≡◌, ◌≢◌, ℕ, ◌+◌, ◌-◌, ◌*◌, ◌/◌, ◌%◌, ◌<◌, ◌≤◌, arith, ap, ◌∙◌, refl, min, sym, ◌⊎◌, inl, inr}
+use Rattle.std.proofs.Common.{◌≡◌, ◌≢◌, ℕ, ◌+◌, ◌-◌, ◌*◌, ◌/◌, ◌%◌, ◌<◌, ◌≤◌, arith, ap, ◌∙◌, min, sym, ◌⊎◌, inl, inr}
 use Rattle.vc_lift.specs.declared.halves.Halves.{Halves}
 use Rattle.vc_lift.specs.CountedSteps.{CountedStep, place_met}
 use Rattle.vc_lift.specs.Halves.{half_start, halves_place}

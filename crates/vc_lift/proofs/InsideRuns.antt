@@ -1,5 +1,5 @@
 -- A run along a line whose halves are whole, all of whose samples have their taps inside it.
-use Rattle.std.proofs.Common.{◌≡◌, ◌≢◌, ℕ, zero, suc, ◌+◌, ◌-◌, ◌*◌, ◌/◌, ◌%◌, ◌^◌, ◌<◌, ◌≤◌, ◌⊎◌, inl, inr, List, length, ℤ, pos, arith, ap, sym, ◌∙◌, refl, subst, min}
+use Rattle.std.proofs.Common.{◌≡◌, ◌≢◌, ℕ, ◌+◌, ◌-◌, ◌*◌, ◌/◌, ◌%◌, ◌<◌, ◌≤◌, ◌⊎◌, inl, inr, List, length, ℤ, arith, ap, sym, ◌∙◌, subst, min}
 use Rattle.std.proofs.lemmas.Bool.{cases_eq, cases_lt}
 use Rattle.vc_types.specs.Lifting.{line_of, changed_by}
 use Rattle.vc_lift.specs.declared.halves.Halves.{Halves}

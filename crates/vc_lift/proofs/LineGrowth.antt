@@ -1,6 +1,6 @@
 -- How much steps may raise the magnitudes of a line's samples.
 use Rattle.std.proofs.Common.{◌≡◌, ℕ, zero, suc, ◌+◌, ◌-◌, ◌*◌, ◌/◌, ◌%◌, ◌^◌, ◌<◌, ◌≤◌, ◌≢◌, List, [], ◌∷◌, length, take, get_or, take_all, ℤ, pos, negsuc, ◌+ℤ◌, ◌*ℤ◌, arith, subst, sym, ap, refl, ◌∙◌, unsigned_abs, Bool, true, false, inl, inr, min, IsTrue}
-use Rattle.std.specs.Prelude.{if◌then◌else◌, nat_lt, nat_le, ◌==◌, ◌&&◌}
+use Rattle.std.specs.Prelude.{if◌then◌else◌, nat_le, ◌==◌, ◌&&◌}
 use Rattle.std.specs.List.{sum_by}
 use Rattle.std.specs.Int.{int_shr}
 use Rattle.std.proofs.lemmas.Bool.{cases_eq, false≢true}

@@ -1,15 +1,15 @@
 -- Bounds on a line's samples are carried through steps, as `bound_after` reckons them.
-use Rattle.std.proofs.Common.{◌≡◌, ◌≢◌, ℕ, zero, suc, ◌+◌, ◌-◌, ◌*◌, ◌/◌, ◌%◌, ◌^◌, ◌<◌, ◌≤◌, ◌⊎◌, inl, inr, List, [], ◌∷◌, length, take, get_or, take_all, drop, ℤ, pos, ◌+ℤ◌, arith, ap, sym, ◌∙◌, refl, subst, min, max, unsigned_abs, Bool, true, false, Option, Some, None, IsTrue}
+use Rattle.std.proofs.Common.{◌≡◌, ◌≢◌, ℕ, zero, suc, ◌+◌, ◌-◌, ◌*◌, ◌/◌, ◌%◌, ◌^◌, ◌<◌, ◌≤◌, inl, inr, List, [], ◌∷◌, length, take, get_or, drop, ℤ, pos, ◌+ℤ◌, arith, ap, sym, ◌∙◌, refl, subst, min, max, unsigned_abs, Bool, true, false, Option, Some, None}
 use Rattle.std.specs.Prelude.{if◌then◌else◌, nat_lt, ◌==◌, ◌&&◌}
 use Rattle.std.specs.Option.{option_and_then}
-use Rattle.std.proofs.lemmas.Bool.{cases_eq, cases_lt}
+use Rattle.std.proofs.lemmas.Bool.{cases_eq}
 use Rattle.std.proofs.lemmas.Bool.Decides.{nat_tests}
 use Rattle.std.proofs.lemmas.Int.{ints}
 use Rattle.std.proofs.lemmas.Option.{option_and_then_some}
 use Rattle.std.proofs.Math.Numerals.{add-one}
-use Rattle.std.proofs.Math.Seq.{take-nil, drop-cons}
+use Rattle.std.proofs.Math.Seq.{drop-cons}
 use Rattle.vc_types.specs.Lifting.{half_of, changed_by}
-use Rattle.vc_lift.specs.CountedSteps.{CountedStep, place_met, sum_met, change_at, lift, lift_all}
+use Rattle.vc_lift.specs.CountedSteps.{CountedStep, sum_met, change_at, lift, lift_all}
 use Rattle.vc_lift.specs.Growth.{IsWithin}
 use Rattle.vc_lift.specs.Ranges.{HasRange, StaysNarrow, rounded_sum, stretched, stretched_below, bound_after, counted_synthesis, narrow_bound}
 use Rattle.vc_types.specs.Wavelets.{synthesised}

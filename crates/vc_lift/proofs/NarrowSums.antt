@@ -1,5 +1,5 @@
 -- Changes in 32 bits: what a step with room reckons fits, and depends on the samples met alone.
-use Rattle.std.proofs.Common.{◌≡◌, ℕ, zero, suc, ◌+◌, ◌-◌, ◌*◌, ◌/◌, ◌%◌, ◌^◌, ◌<◌, ◌≤◌, List, length, take, get_or, ℤ, pos, negsuc, ◌+ℤ◌, ◌*ℤ◌, arith, ap, sym, ◌∙◌, refl, subst, unsigned_abs, slice_index_or, FitsSigned, to_z, of_z, Bool}
+use Rattle.std.proofs.Common.{◌≡◌, ℕ, zero, suc, ◌+◌, ◌*◌, ◌/◌, ◌%◌, ◌^◌, ◌<◌, ◌≤◌, List, length, take, get_or, ℤ, pos, negsuc, ◌+ℤ◌, ◌*ℤ◌, arith, ap, sym, ◌∙◌, refl, subst, unsigned_abs, slice_index_or, FitsSigned, to_z, of_z, Bool}
 use Rattle.std.specs.Int.{w32, int_shr}
 use Rattle.std.specs.List.{sum_by}
 use Rattle.std.proofs.lemmas.Int.{to_z-of_z, to_z_pos, fits_signed_from_abs}
@@ -12,7 +12,7 @@ use Rattle.vc_types.specs.Lifting.{half_of, changed_by}
 use Rattle.vc_lift.specs.CountedSteps.{CountedStep, sum_below, place_met, sum_met, change_at}
 use Rattle.vc_lift.specs.Growth.{weight}
 use Rattle.vc_lift.specs.Ranges.{HasRangeAt, rounded_sum, stretched}
-use Rattle.vc_lift.proofs.WeightedSums.{abs-add, sum_below_more}
+use Rattle.vc_lift.proofs.WeightedSums.{abs-add}
 use Rattle.vc_lift.proofs.Sums.{sum_more}
 
 div_mono : (m n k : ℕ) → 0 < k → m ≤ n → m / k ≤ n / k

@@ -1,8 +1,8 @@
 -- A run of steps: its order, and one step more.
-use Rattle.std.proofs.Common.{◌≡◌, ℕ, ◌+◌, ◌-◌, ◌*◌, ◌<◌, length, take, get_or, ℤ, sym, ap, refl, ◌∙◌, Bool, true, false, map, reverse, fold, List}
+use Rattle.std.proofs.Common.{◌≡◌, ℕ, ◌+◌, ◌<◌, length, take, get_or, ℤ, sym, ap, refl, ◌∙◌, Bool, true, false, fold, List}
 use Rattle.std.proofs.lemmas.List.{length-map, length-reverse}
 use Rattle.std.proofs.lemmas.List.Sums.{fold_more}
-use Rattle.vc_lift.specs.CountedSteps.{CountedStep, lift, lift_all, in_order, undone}
+use Rattle.vc_lift.specs.CountedSteps.{CountedStep, lift, lift_all, in_order}
 
 pub length-in_order : (undo : Bool) (steps : List CountedStep) → length (in_order undo steps) ≡ length steps
 length-in_order true steps = simp (length-map, length-reverse)

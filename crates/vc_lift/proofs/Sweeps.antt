@@ -6,7 +6,7 @@ use mathlib.Core.Path.{fun_ext}
 use Rattle.std.proofs.lemmas.Bool.Decides.{nat_tests}
 use Rattle.std.proofs.lemmas.Bool.{cases_eq}
 use Rattle.vc_types.specs.Lifting.{half_of, changed_by}
-use Rattle.vc_lift.specs.CountedSteps.{CountedStep, place_met, sum_met, change_at, lift, sum_below}
+use Rattle.vc_lift.specs.CountedSteps.{CountedStep, sum_met, change_at, lift, sum_below}
 use Rattle.vc_lift.specs.Growth.{IsWithin}
 use Rattle.vc_lift.specs.Columns.{with_sample, one_changed}
 

@@ -233,6 +233,13 @@ fn lift(cells: &mut [i32], halves: &Halves, step: &Step, width: usize)
     ensures off { (i : ℕ) → IsBeside halves.now width i
         → line_of cells.new i ≡ line_of cells.old i }
 {
+    // No cell lies over these numbers, so they stay in registers.
+    let halves = &Halves {
+        even: halves.even,
+        odd: halves.odd,
+        pitch: halves.pitch,
+        half: halves.half,
+    };
     let one: &[i32] = &[1];
     let two: &[i32] = &[1, 1];
     let four: &[i32] = &[-1, 9, 9, -1];

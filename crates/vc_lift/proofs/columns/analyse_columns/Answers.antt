@@ -1,4 +1,4 @@
-use Rattle.std.proofs.Common.{◌≡◌, ap, sym, ◌∙◌, List}
+use Rattle.std.proofs.Common.{ap, sym, ◌∙◌, List}
 use Rattle.vc_lift.specs.CountedSteps.{CountedStep, lift_all, undone}
 use Rattle.vc_lift.proofs.CountedSteps.{same_rows, analysed_counted}
 use Rattle.vc_lift.proofs.LineGrowth.{analysis_little}

@@ -1,4 +1,4 @@
-use Rattle.std.proofs.Common.{◌≡◌, ◌/◌, ◌^◌, ◌≤◌, pos, unsigned_abs, ◌∙◌}
+use Rattle.std.proofs.Common.{◌∙◌}
 use Rattle.vc_lift.specs.CountedSteps.{change_at}
 use Rattle.vc_lift.proofs.Sums.{shift_read, shift_small, rounding_read, rounding_small}
 use Rattle.vc_lift.proofs.columns.change_at.Goals as goal

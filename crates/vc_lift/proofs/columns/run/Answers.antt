@@ -1,8 +1,7 @@
-use Rattle.std.proofs.Common.{rules, ◌≡◌, ◌+◌, ◌-◌, ◌*◌, ◌/◌, ◌%◌, ◌^◌, ◌<◌, ◌≤◌, ◌≢◌, ℕ, length, take, map, unsigned_abs, pos, ℤ, ◌+ℤ◌, ◌*ℤ◌, slice_index_or, min, to_z, of_z, arith, refl, sym, ap, subst, ◌∙◌, inl, inr, true}
+use Rattle.std.proofs.Common.{◌+◌, ◌*◌, ◌^◌, ◌<◌, length, map, unsigned_abs, pos, slice_index_or, arith, refl, sym, ap, ◌∙◌}
 use Rattle.std.proofs.lemmas.List.{length-map}
 use Rattle.std.proofs.lemmas.List.Elements.{All-get_or}
 use Rattle.vc_lift.specs.CountedSteps.{lift, lift_all, in_order}
-use Rattle.vc_lift.specs.Growth.{is_plain}
 use Rattle.vc_lift.proofs.LineGrowth.{plain, plain_now, little_now}
 use Rattle.vc_lift.specs.Columns.{column_of}
 use Rattle.vc_lift.specs.Steps.{counted_of, counted_row}

@@ -1,5 +1,4 @@
-use Rattle.std.proofs.Common.{rules, ◌≡◌, ◌+◌, ◌-◌, ◌*◌, ◌/◌, ◌%◌, ◌^◌, ◌<◌, ◌≤◌, ◌≢◌, ℕ, length, take, map, unsigned_abs, pos, ℤ, ◌+ℤ◌, ◌*ℤ◌, slice_index_or, min, to_z, of_z, arith, refl, sym, ap, subst, ◌∙◌, inl, inr, true}
-use Rattle.vc_lift.specs.CountedSteps.{lift}
+use Rattle.std.proofs.Common.{◌≡◌, ◌^◌, arith, ap, ◌∙◌}
 use Rattle.vc_lift.proofs.LineGrowth.{by_parity, by_other}
 use Rattle.vc_lift.specs.Columns.{column_of, one_changed}
 use Rattle.vc_lift.specs.Steps.{counted_of}

@@ -1,5 +1,5 @@
-use Rattle.std.proofs.Common.{◌≡◌, ap, sym, ◌∙◌, List}
-use Rattle.vc_lift.specs.CountedSteps.{CountedStep, lift_all, undone}
+use Rattle.std.proofs.Common.{ap, sym, ◌∙◌, List}
+use Rattle.vc_lift.specs.CountedSteps.{CountedStep, lift_all}
 use Rattle.vc_lift.proofs.CountedSteps.{same_rows, synthesised_counted}
 use Rattle.vc_lift.proofs.LineGrowth.{synthesis_little}
 use Rattle.vc_lift.specs.Columns.{column_of}

@@ -1,10 +1,8 @@
-use Rattle.std.proofs.Common.{rules, ◌≡◌, ◌+◌, ◌-◌, ◌*◌, ◌/◌, ◌%◌, ◌^◌, ◌<◌, ◌≤◌, ◌≢◌, ℕ, length, take, map, unsigned_abs, pos, ℤ, ◌+ℤ◌, ◌*ℤ◌, slice_index_or, min, to_z, of_z, arith, refl, sym, ap, subst, ◌∙◌, inl, inr, true}
+use Rattle.std.proofs.Common.{rules, ◌≡◌, ◌+◌, ◌-◌, ◌*◌, ◌^◌, ◌≤◌, length, unsigned_abs, pos, slice_index_or, min, to_z, arith, sym}
 use Rattle.std.specs.Int.{w128}
 use Rattle.vc_types.specs.Lifting.{line_of}
-use Rattle.vc_lift.specs.CountedSteps.{sum_met, place_met, sum_below}
+use Rattle.vc_lift.specs.CountedSteps.{sum_met}
 use Rattle.vc_lift.proofs.WeightedSums.{sum_below_none, sum_below_more}
-use Rattle.vc_lift.specs.Columns.{column_of}
-use Rattle.vc_lift.specs.Steps.{counted_of}
 use Rattle.vc_lift.proofs.Sums.{tap_read, sample_fits, light_fits, light_room, term_fits, sum_fits, sum_read, sum_more}
 use Rattle.vc_lift.proofs.columns.weigh_edge.Goals as goal
 

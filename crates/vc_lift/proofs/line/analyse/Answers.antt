@@ -1,4 +1,4 @@
-use Rattle.std.proofs.Common.{◌≡◌, ◌<◌, ◌*◌, ◌/◌, ap, sym, ◌∙◌, List, length, arith}
+use Rattle.std.proofs.Common.{◌≡◌, ◌*◌, ◌/◌, ap, sym, ◌∙◌, List, length, arith}
 use Rattle.vc_types.specs.Lifting.{line_of}
 use Rattle.vc_types.specs.Wavelets.{analysed}
 use Rattle.vc_lift.specs.CountedSteps.{CountedStep, lift_all, undone}

@@ -1,7 +1,7 @@
-use Rattle.std.proofs.Common.{◌≡◌, ◌<◌, ◌*◌, ◌/◌, ap, sym, ◌∙◌, List, length, arith}
+use Rattle.std.proofs.Common.{◌≡◌, ◌*◌, ◌/◌, ap, sym, ◌∙◌, List, length, arith}
 use Rattle.vc_types.specs.Lifting.{line_of}
 use Rattle.vc_types.specs.Wavelets.{synthesised}
-use Rattle.vc_lift.specs.CountedSteps.{CountedStep, lift_all, undone}
+use Rattle.vc_lift.specs.CountedSteps.{CountedStep, lift_all}
 use Rattle.vc_lift.proofs.CountedSteps.{same_rows, counted_steps, synthesised_counted}
 use Rattle.vc_lift.proofs.LineGrowth.{synthesis_little}
 use Rattle.vc_lift.specs.Columns.{column_of}

@@ -1,4 +1,4 @@
-use Rattle.std.proofs.Common.{◌≡◌, ◌+◌, ◌-◌, ◌*◌, ◌/◌, ◌^◌, ◌<◌, ◌≤◌, ℕ, length, subst, arith, ap, sym, ◌∙◌}
+use Rattle.std.proofs.Common.{◌≡◌, ◌+◌, ◌^◌, length, subst, arith, ap, sym, ◌∙◌}
 use Rattle.vc_types.specs.Lifting.{line_of}
 use Rattle.vc_lift.specs.CountedSteps.{lift_between}
 use Rattle.vc_lift.specs.Halves.{line_in, CanRun}

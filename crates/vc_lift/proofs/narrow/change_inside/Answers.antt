@@ -1,4 +1,4 @@
-use Rattle.std.proofs.Common.{◌≡◌, ◌+◌, ◌-◌, ◌*◌, ◌^◌, ◌<◌, ◌≤◌, ℕ, length, arith}
+use Rattle.std.proofs.Common.{◌+◌, ◌^◌, length, arith}
 use Rattle.vc_lift.specs.Steps.{counted_of}
 use Rattle.vc_lift.proofs.InsideRuns.{inside_run, inside_room, inside_changed, inside_beside}
 use Rattle.vc_lift.proofs.narrow.change_inside.Goals as goal

@@ -1,4 +1,4 @@
-use Rattle.std.proofs.Common.{◌≡◌, ◌+◌, ◌-◌, ◌*◌, ◌^◌, ◌<◌, ◌≤◌, ℕ, length, arith, sym, subst, ◌∙◌}
+use Rattle.std.proofs.Common.{◌≡◌, ◌*◌, ◌^◌, ◌<◌, ℕ, arith, subst, ◌∙◌}
 use Rattle.vc_lift.specs.Ranges.{HasRangeAt}
 use Rattle.vc_lift.specs.Halves.{line_in}
 use Rattle.vc_lift.specs.CountedSteps.{lift_between}

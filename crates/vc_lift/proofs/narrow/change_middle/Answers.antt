@@ -1,4 +1,4 @@
-use Rattle.std.proofs.Common.{◌≡◌, ◌<◌, ◌*◌, arith, ap, ◌∙◌}
+use Rattle.std.proofs.Common.{◌≡◌, arith, ap, ◌∙◌}
 use Rattle.vc_lift.specs.CountedSteps.{lift_between}
 use Rattle.vc_lift.specs.Halves.{line_in}
 use Rattle.vc_lift.specs.Steps.{counted_of}

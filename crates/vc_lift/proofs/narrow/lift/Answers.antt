@@ -1,6 +1,8 @@
-use Rattle.std.proofs.Common.{◌≡◌}
+use Rattle.std.proofs.Common.{◌^◌, sym, subst}
 use Rattle.std.proofs.lemmas.Bool.Decides.{Decides-int_eq}
 use Rattle.std.proofs.lemmas.Slice.Eq.{slice_eq-Decides}
+use Rattle.vc_lift.specs.Halves.{line_in}
+use Rattle.vc_lift.specs.Ranges.{HasRange}
 use Rattle.vc_lift.proofs.narrow.lift.Goals as goal
 
 pub with_taps-requires : goal.with_taps-requires
@@ -11,3 +13,12 @@ with_taps-requires-then-eq-2 c = (slice_eq-Decides Decides-int_eq c.args.step.no
 
 pub with_taps-requires-then-eq-3 : goal.with_taps-requires-then-eq-3
 with_taps-requires-then-eq-3 c = (slice_eq-Decides Decides-int_eq c.args.step.now.taps.now _ c.eq-else-eq-2.result c.eq-else-eq-2.ensures).0 c.if-eq-3.true
+
+pub sweep-requires-clause-range : goal.sweep-requires-clause-range
+sweep-requires-clause-range c = λ x h. subst (λ s. HasRange (2 ^ 31) s c.args.halves.now.half (line_in c.args.halves.now c.args.cells.now x)) (sym c.with_taps.ensures) (c.requires.range x h)
+
+pub sweep-requires-then-eq-2-clause-range : goal.sweep-requires-then-eq-2-clause-range
+sweep-requires-then-eq-2-clause-range c = λ x h. subst (λ s. HasRange (2 ^ 31) s c.args.halves.now.half (line_in c.args.halves.now c.args.cells.now x)) (sym c.with_taps-then-eq-2.ensures) (c.requires.range x h)
+
+pub sweep-requires-then-eq-3-clause-range : goal.sweep-requires-then-eq-3-clause-range
+sweep-requires-then-eq-3-clause-range c = λ x h. subst (λ s. HasRange (2 ^ 31) s c.args.halves.now.half (line_in c.args.halves.now c.args.cells.now x)) (sym c.with_taps-then-eq-3.ensures) (c.requires.range x h)

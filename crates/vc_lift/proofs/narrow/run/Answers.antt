@@ -1,7 +1,6 @@
-use Rattle.std.proofs.Common.{◌≡◌, ◌+◌, ◌*◌, ◌^◌, ◌<◌, ℕ, length, take, take_all, get_or, map, ◌≤◌, arith, refl, sym, ap, ◌∙◌}
+use Rattle.std.proofs.Common.{◌<◌, length, take, take_all, get_or, map, ◌≤◌, arith, refl, sym, ap, ◌∙◌}
 use Rattle.std.proofs.lemmas.List.{length-map}
-use Rattle.vc_types.specs.Lifting.{line_of}
-use Rattle.vc_lift.specs.CountedSteps.{lift, lift_all, in_order}
+use Rattle.vc_lift.specs.CountedSteps.{lift_all, in_order}
 use Rattle.vc_lift.specs.Halves.{line_in}
 use Rattle.vc_lift.specs.Steps.{counted_of, counted_row}
 use Rattle.vc_lift.proofs.LineGrowth.{plain, plain_now, plain_parity, plain_at}

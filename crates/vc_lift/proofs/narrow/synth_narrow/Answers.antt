@@ -1,5 +1,4 @@
-use Rattle.std.proofs.Common.{◌≡◌, ◌*◌, ◌<◌, ℕ, List, ap, sym, subst, ◌∙◌}
-use Rattle.vc_types.specs.Wavelets.{synthesised}
+use Rattle.std.proofs.Common.{List, ap, sym, subst, ◌∙◌}
 use Rattle.vc_lift.specs.CountedSteps.{CountedStep, lift_all}
 use Rattle.vc_lift.specs.Halves.{line_in}
 use Rattle.vc_lift.specs.Ranges.{StaysNarrow}

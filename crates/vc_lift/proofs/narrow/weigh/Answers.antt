@@ -1,12 +1,11 @@
-use Rattle.std.proofs.Common.{rules, ◌≡◌, ◌+◌, ◌-◌, ◌*◌, ◌/◌, ◌^◌, ◌<◌, ◌≤◌, ℕ, length, take, unsigned_abs, ℤ, pos, ◌+ℤ◌, ◌*ℤ◌, slice_index_or, min, FitsSigned, to_z, of_z, arith, sym, ap, subst, ◌∙◌}
+use Rattle.std.proofs.Common.{rules, ◌≡◌, ◌+◌, ◌^◌, ◌≤◌, ℕ, length, unsigned_abs, pos, ◌+ℤ◌, ◌*ℤ◌, slice_index_or, FitsSigned, to_z, arith, sym, ap, subst, ◌∙◌}
 use Rattle.std.specs.Int.{w32}
-use Rattle.std.specs.List.{sum_by}
 use Rattle.vc_types.specs.Lifting.{line_of, half_of}
 use Rattle.vc_lift.specs.CountedSteps.{sum_met, place_met, sum_below}
 use Rattle.vc_lift.specs.Steps.{counted_of}
-use Rattle.vc_lift.specs.Halves.{half_start, halves_place, line_in}
+use Rattle.vc_lift.specs.Halves.{halves_place, line_in}
 use Rattle.vc_lift.proofs.HalfPlaces.{met_at}
-use Rattle.vc_lift.proofs.Sums.{tap_read, term_fits, sum_fits, sum_read, sum_more, narrow_taps, narrow_room, whole_sum}
+use Rattle.vc_lift.proofs.Sums.{term_fits, sum_fits, sum_read, sum_more, narrow_taps, narrow_room, whole_sum}
 use Rattle.vc_lift.proofs.WeightedSums.{sum_below_none, sum_below_more}
 use Rattle.vc_lift.proofs.narrow.weigh.Goals as goal
 

@@ -1,7 +1,7 @@
-use Rattle.std.proofs.Common.{◌≡◌, IsTrue, Some, ◌^◌, ◌<◌, ◌+◌, ◌≤◌, ℕ, List, length, map, drop, arith, ap, sym, ◌∙◌}
+use Rattle.std.proofs.Common.{IsTrue, Some, ◌^◌, ◌<◌, ◌+◌, ◌≤◌, ℕ, List, length, map, drop, arith, ap, sym, ◌∙◌}
 use Rattle.std.proofs.lemmas.List.{length-map, drop_all}
 use Rattle.std.specs.Option.{option_and_then}
-use Rattle.vc_lift.specs.CountedSteps.{CountedStep, counted_step}
+use Rattle.vc_lift.specs.CountedSteps.{CountedStep}
 use Rattle.vc_lift.specs.Ranges.{bound_after}
 use Rattle.vc_lift.specs.Steps.{counted_of, counted_row}
 use Rattle.vc_lift.proofs.CountedSteps.{counted_steps, same_rows}

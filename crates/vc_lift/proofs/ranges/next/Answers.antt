@@ -1,6 +1,5 @@
-use Rattle.std.proofs.Common.{◌≡◌, ◌≢◌, ◌^◌, ℕ, List, ◌∷◌, ap, sym, ◌∙◌}
+use Rattle.std.proofs.Common.{◌^◌, ℕ, ap, sym, ◌∙◌}
 use Rattle.std.specs.Option.{option_and_then}
-use Rattle.vc_lift.specs.CountedSteps.{CountedStep}
 use Rattle.vc_lift.specs.Ranges.{bound_after}
 use Rattle.vc_lift.specs.Steps.{counted_of}
 use Rattle.vc_lift.proofs.NarrowGrowth.{bound_even, bound_odd}

@@ -1,5 +1,5 @@
-use Rattle.std.proofs.Common.{◌≡◌, sym, ap, ◌∙◌, true}
-use Rattle.vc_lift.specs.CountedSteps.{in_order, opposite_counted}
+use Rattle.std.proofs.Common.{sym, ap, ◌∙◌}
+use Rattle.vc_lift.specs.CountedSteps.{opposite_counted}
 use Rattle.vc_lift.specs.Steps.{counted_row}
 use Rattle.vc_lift.proofs.LineUndoing.{order_at}
 use Rattle.vc_lift.proofs.step.step_at.Goals as goal
