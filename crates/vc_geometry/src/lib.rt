@@ -10,7 +10,7 @@ mod subbands;
 pub use laws::each_cell_is_met_once;
 pub use padding::padded;
 pub use places::place_of;
-pub use slices::{slice_len, slice_rect};
+pub use slices::{slice_len, slice_rect, slice_rects};
 pub use subbands::{band, bands};
 pub use vc_types::Rect;
 

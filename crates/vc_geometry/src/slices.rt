@@ -1,9 +1,11 @@
-ghost use Rattle.std.specs.Prelude.{◌≡◌, ◌+◌, ◌-◌, ◌*◌, ◌/◌, ◌^◌, ◌<◌, ◌≤◌};
+ghost use Rattle.std.specs.Prelude.{◌≡◌, ◌+◌, ◌-◌, ◌*◌, ◌/◌, ◌^◌, ◌<◌, ◌≤◌, length};
 ghost use Rattle.vc_types.specs.Quantisation.{subband_count};
-ghost use Rattle.vc_types.specs.Subbands.{subband_at, slice_rectangle, slice_count, slice_coefficient_count, share, share_start, padded_width, padded_height};
+ghost use Rattle.vc_types.specs.Subbands.{subband_at, slice_rectangle, slice_count, slice_coefficient_count, share, share_start, slice_column, slice_row, padded_width, padded_height};
 ghost use Rattle.vc_types.specs.TransformParameters.{parameters_of};
+ghost use Rattle.vc_geometry.specs.Rectangles.{AreSliceRectangles};
 
-use crate::subbands::{band, bands};
+use crate::padding::padded;
+use crate::subbands::{band, band_in, bands};
 use vc_types::{Component, Plan, Rect};
 
 /// The part of subband number `b` that belongs to a slice, as a rectangle of the component's padded grid (ST 2042-1, slice
@@ -18,7 +20,44 @@ pub fn slice_rect(plan: &Plan, c: Component, b: u32, slice: u32) -> Rect
     ensures range { (result.x + result.width ≤ 8192) × (result.y + result.height ≤ 8192) }
 {
     let band = band(plan, c, b);
-    let (column, row) = (slice % plan.slices_x, slice / plan.slices_x);
+    let (column, row) = place_of_slice(plan, slice);
+    part(plan, &band, column, row)
+}
+
+/// The parts of all subbands, in their order, that belong to a slice: each as `slice_rect` gives it.
+pub fn slice_rects(plan: &Plan, c: Component, slice: u32, rects: &mut [Rect])
+    requires slice { slice < slice_count (parameters_of plan.now) }
+    requires room { subband_count plan.now.depth_ho plan.now.depth ≤ length rects.old }
+    ensures { AreSliceRectangles (parameters_of plan.now) c slice rects.new }
+{
+    let (width, height) = padded(plan, c);
+    let (column, row) = place_of_slice(plan, slice);
+    for b in 0..bands(plan) {
+        let band = band_in(plan, c, width, height, b);
+        rects[b as usize] = part(plan, &band, column, row);
+    }
+}
+
+// The column and row of slices that a slice stands in.
+fn place_of_slice(plan: &Plan, slice: u32) -> (u32, u32)
+    requires { slice < slice_count (parameters_of plan.now) }
+    ensures column { result.0 ≡ slice_column (parameters_of plan.now) slice }
+    ensures row { result.1 ≡ slice_row (parameters_of plan.now) slice }
+    ensures range { (result.0 < plan.now.slices_x) × (result.1 < plan.now.slices_y) }
+{
+    (slice % plan.slices_x, slice / plan.slices_x)
+}
+
+// The part of a subband that belongs to a column and a row of slices.
+#[inline(always)]
+fn part(plan: &Plan, band: &Rect, column: u32, row: u32) -> Rect
+    requires column { column < plan.now.slices_x }
+    requires row { row < plan.now.slices_y }
+    requires range { (band.now.x + band.now.width ≤ 8192) × (band.now.y + band.now.height ≤ 8192) }
+    ensures value { result ≡ share band.now plan.now.slices_x plan.now.slices_y column row }
+    ensures right { result.x + result.width ≤ band.now.x + band.now.width }
+    ensures bottom { result.y + result.height ≤ band.now.y + band.now.height }
+{
     let (x, width) = share_of(band.width, plan.slices_x, column);
     let (y, height) = share_of(band.height, plan.slices_y, row);
     Rect {

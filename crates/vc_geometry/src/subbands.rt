@@ -25,6 +25,21 @@ pub fn band(plan: &Plan, c: Component, b: u32) -> Rect
     ensures range { (result.x + result.width ≤ 8192) × (result.y + result.height ≤ 8192) }
 {
     let (width, height) = padded(plan, c);
+    band_in(plan, c, width, height, b)
+}
+
+// The same, where the size of the padded grid is at hand.
+pub(crate) fn band_in(plan: &Plan, c: Component, width: u32, height: u32, b: u32) -> Rect
+    requires number { b < subband_count plan.now.depth_ho plan.now.depth }
+    requires width { width ≡ padded_width (parameters_of plan.now) c }
+    requires height { height ≡ padded_height (parameters_of plan.now) c }
+    requires range { (width ≤ 8192) × (height ≤ 8192) }
+    ensures value { result ≡ subband_rectangle (parameters_of plan.now) c
+        (subband_at plan.now.depth_ho plan.now.depth b) }
+    ensures right { result.x + result.width ≤ padded_width (parameters_of plan.now) c }
+    ensures bottom { result.y + result.height ≤ padded_height (parameters_of plan.now) c }
+    ensures range { (result.x + result.width ≤ 8192) × (result.y + result.height ≤ 8192) }
+{
     let (across, depth) = (u32::from(plan.depth_ho), u32::from(plan.depth));
     let halvings = halvings(across, depth, b);
     let (width, height) = (width >> halvings.0, height >> halvings.1);

@@ -1,7 +1,7 @@
 -- The coefficients of a block from its numbers, subband by subband.
-use Rattle.std.proofs.Common.{◌≡◌, ℕ, zero, suc, ◌+◌, ◌-◌, ◌*◌, ◌<◌, ◌≤◌, Bool, List, [], ◌∷◌, ◌++◌, length, get_or, replicate, false, ◌^◌, ℤ, pos, unsigned_abs, arith, refl, sym, ap, subst, ◌∙◌, ◌⊎◌, inl, inr}
-use Rattle.std.specs.Prelude.{slice_index_or, map}
-use Rattle.std.specs.List.{sum_by, zip, list_any}
+use Rattle.std.proofs.Common.{◌≡◌, ℕ, zero, suc, ◌+◌, ◌-◌, ◌<◌, ◌≤◌, Bool, List, [], ◌∷◌, length, get_or, replicate, false, ◌^◌, ℤ, pos, unsigned_abs, arith, refl, sym, ap, subst, ◌∙◌, ◌⊎◌, inl, inr}
+use Rattle.std.specs.Prelude.{slice_index_or}
+use Rattle.std.specs.List.{zip, list_any}
 use Rattle.std.proofs.Math.Seq.{get_or-append_right}
 use Rattle.std.proofs.lemmas.Bool.{cases_lt}
 use Rattle.std.proofs.lemmas.List.{get_or-map, get_or-replicate, get_or_append_left, length-map, length-replicate}
@@ -17,7 +17,7 @@ use Rattle.vc_types.specs.Quantisation.{dequantised, subband_count}
 use Rattle.vc_types.specs.Slices.{quantisers, block_coefficients, is_large}
 use Rattle.vc_types.specs.Subbands.{area, slice_rectangle, subband_at, slice_coefficient_count}
 use Rattle.vc_types.specs.TransformParameters.{Parameters}
-use Rattle.vc_types.proofs.SliceRectangles.{coefficients_before, coefficients_before-none, coefficients_before-more, coefficients_before-rest, coefficients_before-all}
+use Rattle.vc_types.proofs.SliceRectangles.{coefficients_before, coefficients_before-none, coefficients_before-more, coefficients_before-rest}
 use Rattle.vc_slice.proofs.BlockCoefficients.{quantisers_from, quantisers_from-all, quantisers_from-more, length-quantisers}
 
 pub length-numbers : (n : ℕ) (bits : List Bool) → length (bounded_sints n bits) ≡ n

@@ -1,16 +1,24 @@
 ghost use Rattle.std.specs.Prelude.{◌≡◌, ◌+◌, ◌^◌, ◌<◌, ◌≤◌, ◌⊎◌, ℕ, All, OnOk, length, slice_index_or, unsigned_abs, true, false};
 ghost use Rattle.std.specs.List.{list_any};
 ghost use Rattle.vc_types.specs.Lifting.{line_of};
-ghost use Rattle.vc_types.specs.Quantisation.{dequantised};
+ghost use Rattle.vc_types.specs.Quantisation.{dequantised, subband_count};
 ghost use Rattle.vc_types.specs.Slices.{block_coefficients, is_large, quantisers};
-ghost use Rattle.vc_types.specs.Subbands.{slice_count, slice_coefficient_count};
+ghost use Rattle.vc_geometry.specs.Rectangles.{AreSliceRectangles};
+ghost use Rattle.vc_types.specs.Subbands.{area, slice_count, slice_coefficient_count, slice_rectangle, subband_at};
 ghost use Rattle.vc_types.specs.TransformParameters.{parameters_of};
 
-use crate::component::{bits_of, count, quantiser};
-use vc_geometry::{bands, slice_len};
+use crate::component::{bits_of, quantiser};
+use vc_geometry::{bands, slice_rects};
 use vc_golomb::read_sints;
 use vc_quant::Quantiser;
-use vc_types::{Component, Plan};
+use vc_types::{Component, Plan, Rect};
+
+const NOWHERE: Rect = Rect {
+    x: 0,
+    y: 0,
+    width: 0,
+    height: 0,
+};
 
 /// A coefficient may be too wide for 32 bits.
 #[derive(Clone, Copy, Debug, PartialEq, Eq)]
@@ -36,17 +44,72 @@ pub fn read_narrow(
     ensures sound { OnOk result (list_any is_large
         (block_coefficients (parameters_of plan.now) c slice index block.now) ≡ false) }
 {
-    let count = slice_len(plan, c, slice) as usize;
+    let mut rects = [NOWHERE; 16];
+    slice_rects(plan, c, slice, &mut rects);
+    read_narrow_in(plan, c, slice, index, block, &rects, out)
+}
+
+/// The same, where the parts of the subbands that belong to the slice are at hand, as `slice_rects` gives them.
+pub fn read_narrow_in(
+    plan: &Plan,
+    c: Component,
+    slice: u32,
+    index: u8,
+    block: &[u8],
+    rects: &[Rect],
+    out: &mut [i32],
+) -> Result<(), TooWide>
+    requires slice { slice < slice_count (parameters_of plan.now) }
+    requires index { index ≤ 127 }
+    requires rects { AreSliceRectangles (parameters_of plan.now) c slice rects.now }
+    requires all { subband_count plan.now.depth_ho plan.now.depth ≤ length rects.now }
+    requires room { slice_coefficient_count (parameters_of plan.now) c slice + 8 ≤ length out.old }
+    ensures value { OnOk result
+        ((i : ℕ) → i < slice_coefficient_count (parameters_of plan.now) c slice
+        → line_of out.new i
+        ≡ line_of (block_coefficients (parameters_of plan.now) c slice index block.now) i) }
+    ensures sound { OnOk result (list_any is_large
+        (block_coefficients (parameters_of plan.now) c slice index block.now) ≡ false) }
+{
+    let count = count_in(plan, c, slice, rects) as usize;
     let mut bits = bits_of(block);
     let Ok(()) = read_sints(&mut bits, count, out) else {
         return Err(TooWide);
     };
     let greatest = greatest(&out[..count]);
-    if dequantise(plan, c, slice, index, greatest, out) {
+    if dequantise(plan, c, slice, index, rects, greatest, out) {
         Ok(())
     } else {
         Err(TooWide)
     }
+}
+
+// How many coefficients a slice has, by its rectangles.
+fn count_in(plan: &Plan, c: Component, slice: u32, rects: &[Rect]) -> u32
+    requires slice { slice < slice_count (parameters_of plan.now) }
+    requires rects { AreSliceRectangles (parameters_of plan.now) c slice rects.now }
+    requires all { subband_count plan.now.depth_ho plan.now.depth ≤ length rects.now }
+    ensures value { result ≡ slice_coefficient_count (parameters_of plan.now) c slice }
+{
+    let mut count = 0;
+    for b in 0..bands(plan) {
+        count += area(plan, c, slice, rects, b);
+    }
+    count
+}
+
+// How many coefficients of a slice a subband has.
+#[inline(always)]
+fn area(plan: &Plan, c: Component, slice: u32, rects: &[Rect], b: u32) -> u32
+    requires number { b < subband_count plan.now.depth_ho plan.now.depth }
+    requires rects { AreSliceRectangles (parameters_of plan.now) c slice rects.now }
+    requires all { subband_count plan.now.depth_ho plan.now.depth ≤ length rects.now }
+    ensures value { result ≡ area (slice_rectangle (parameters_of plan.now) c
+        (subband_at plan.now.depth_ho plan.now.depth b) slice) }
+    ensures range { result ≤ 2 ^ 26 }
+{
+    let rect = &rects[b as usize];
+    rect.width * rect.height
 }
 
 fn greatest(numbers: &[i32]) -> u32
@@ -66,11 +129,14 @@ fn dequantise(
     c: Component,
     slice: u32,
     index: u8,
+    rects: &[Rect],
     greatest: u32,
     numbers: &mut [i32],
 ) -> bool
     requires slice { slice < slice_count (parameters_of plan.now) }
     requires index { index ≤ 127 }
+    requires rects { AreSliceRectangles (parameters_of plan.now) c slice rects.now }
+    requires all { subband_count plan.now.depth_ho plan.now.depth ≤ length rects.now }
     requires count { slice_coefficient_count (parameters_of plan.now) c slice ≤ length numbers.old }
     requires greatest { (i : ℕ) → i < slice_coefficient_count (parameters_of plan.now) c slice
         → unsigned_abs (line_of numbers.old i) ≤ greatest }
@@ -84,7 +150,7 @@ fn dequantise(
 {
     let mut from = 0usize;
     for b in 0..bands(plan) {
-        let to = from + count(plan, c, b, slice) as usize;
+        let to = from + area(plan, c, slice, rects, b) as usize;
         let quantiser = quantiser(plan, b, index);
         if !dequantise_run(&quantiser, numbers, from, to, greatest) {
             return false;

@@ -1,10 +1,15 @@
-use Rattle.std.proofs.Common.{◌%◌, ◌/◌}
-use Rattle.vc_types.specs.Subbands.{subband_at, subband_rectangle, slice_rectangle}
-use Rattle.vc_types.specs.TransformParameters.{parameters_of}
-use Rattle.vc_types.proofs.SliceRectangles.{share-computed}
+use Rattle.std.proofs.Common.{ap, ◌∙◌}
+use Rattle.vc_types.specs.declared.rect.Rect.{Rect}
+use Rattle.vc_types.specs.Subbands.{share, slice_rectangle}
+use Rattle.vc_geometry.proofs.Parts.{part_at}
 use Rattle.vc_geometry.proofs.slices.slice_rect.Goals as goal
 
 pub returns-clause-value : goal.returns-clause-value
 unfolding slice_rectangle
 returns-clause-value c =
-    share-computed c.band-band.result (subband_rectangle (parameters_of c.args.plan.now) c.args.c (subband_at c.args.plan.now.depth_ho c.args.plan.now.depth c.args.b)) c.args.plan.now.slices_x c.args.plan.now.slices_y (c.args.slice % c.args.plan.now.slices_x) (c.args.slice / c.args.plan.now.slices_x) c.share_of-x.result.0 c.share_of-y.result.0 c.share_of-x.result.1 c.share_of-y.result.1 c.band-band.ensures.value c.share_of-x.ensures.from c.share_of-y.ensures.from c.share_of-x.ensures.len c.share_of-y.ensures.len
+    let plan = c.args.plan.now in
+    let across = plan.slices_x in
+    let down = plan.slices_y in
+    c.part.ensures.value
+    ∙ ap (λ (r : Rect). share r across down c.place_of_slice-column.result.0 c.place_of_slice-column.result.1) c.band-band.ensures.value
+    ∙ part_at _ across down c.place_of_slice-column.result.0 c.place_of_slice-column.result.1 _ _ c.place_of_slice-column.ensures.column c.place_of_slice-column.ensures.row

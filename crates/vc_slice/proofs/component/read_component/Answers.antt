@@ -1,4 +1,4 @@
-use Rattle.std.proofs.Common.{rules, ◌+◌, ◌*◌, ◌<◌, refl, arith}
+use Rattle.std.proofs.Common.{rules, ◌<◌, refl, arith}
 use Rattle.vc_types.specs.Quantisation.{subband_count}
 use Rattle.vc_types.specs.TransformParameters.{parameters_of}
 use Rattle.vc_slice.proofs.BlockCoefficients.{none_read, subband_read, subband_large, all_read}

@@ -1,4 +1,4 @@
-use Rattle.std.proofs.Common.{◌+◌, ◌*◌, ◌<◌, ℤ, List, length, sym, ap, ◌∙◌, arith}
+use Rattle.std.proofs.Common.{◌+◌, ◌<◌, ℤ, List, length, sym, ap, ◌∙◌, arith}
 use Rattle.vc_types.specs.Quantisation.{subband_count}
 use Rattle.vc_types.specs.TransformParameters.{parameters_of}
 use Rattle.vc_slice.specs.Inside.{codes_behind}

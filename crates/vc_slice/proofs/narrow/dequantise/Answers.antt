@@ -1,5 +1,4 @@
 use Rattle.std.proofs.Common.{rules, arith, refl, sym, subst, ◌∙◌, ap, ◌+◌, ◌≤◌, inr, unsigned_abs}
-use Rattle.vc_types.specs.Lifting.{line_of}
 use Rattle.vc_types.specs.TransformParameters.{parameters_of}
 use Rattle.vc_types.proofs.SliceRectangles.{coefficients_before-none, coefficients_before-all}
 use Rattle.vc_slice.proofs.NarrowRuns.{run_more, run_within, done_more, narrow_more}
@@ -16,24 +15,24 @@ loop-b-init c = record {
 
 pub overflow_add-to : goal.overflow_add-to
 overflow_add-to c =
-    let within = run_within (parameters_of c.args.plan.now) c.args.c c.args.slice c.args.index c.loop-b.b c.loop-b.from (c.loop-b.from + c.count.result) c.args.numbers.now c.loop-b.numbers c.loop-b.numbers (omega arith) c.loop-b.invariant.from (ap (λ n. c.loop-b.from + n) c.count.ensures.value) in
+    let within = run_within (parameters_of c.args.plan.now) c.args.c c.args.slice c.args.index c.loop-b.b c.loop-b.from (c.loop-b.from + c.area.result) c.args.numbers.now c.loop-b.numbers c.loop-b.numbers (omega arith) c.loop-b.invariant.from (ap (λ n. c.loop-b.from + n) c.area.ensures.value) in
     omega (arith, within)
 
 pub dequantise_run-requires-clause-run : goal.dequantise_run-requires-clause-run
 dequantise_run-requires-clause-run c =
-    let within = run_within (parameters_of c.args.plan.now) c.args.c c.args.slice c.args.index c.loop-b.b c.loop-b.from (c.loop-b.from + c.count.result) c.args.numbers.now c.loop-b.numbers c.loop-b.numbers (omega arith) c.loop-b.invariant.from (ap (λ n. c.loop-b.from + n) c.count.ensures.value) in
+    let within = run_within (parameters_of c.args.plan.now) c.args.c c.args.slice c.args.index c.loop-b.b c.loop-b.from (c.loop-b.from + c.area.result) c.args.numbers.now c.loop-b.numbers c.loop-b.numbers (omega arith) c.loop-b.invariant.from (ap (λ n. c.loop-b.from + n) c.area.ensures.value) in
     (omega arith, omega (arith, within, c.loop-b.invariant.length))
 
 pub dequantise_run-requires-clause-greatest : goal.dequantise_run-requires-clause-greatest
 dequantise_run-requires-clause-greatest c = λ i low high.
-    let within = run_within (parameters_of c.args.plan.now) c.args.c c.args.slice c.args.index c.loop-b.b c.loop-b.from (c.loop-b.from + c.count.result) c.args.numbers.now c.loop-b.numbers c.loop-b.numbers (omega arith) c.loop-b.invariant.from (ap (λ n. c.loop-b.from + n) c.count.ensures.value) in
+    let within = run_within (parameters_of c.args.plan.now) c.args.c c.args.slice c.args.index c.loop-b.b c.loop-b.from (c.loop-b.from + c.area.result) c.args.numbers.now c.loop-b.numbers c.loop-b.numbers (omega arith) c.loop-b.invariant.from (ap (λ n. c.loop-b.from + n) c.area.ensures.value) in
     subst (λ z. unsigned_abs z ≤ c.args.greatest) (sym (c.loop-b.invariant.left i low)) (c.requires.greatest i (omega (arith, within)))
 
 pub loop-b-preserved : goal.loop-b-preserved
 loop-b-preserved c =
     let p = parameters_of c.args.plan.now in
-    let to = c.loop-b.from + c.count.result in
-    let end = ap (λ n. c.loop-b.from + n) c.count.ensures.value in
+    let to = c.loop-b.from + c.area.result in
+    let end = ap (λ n. c.loop-b.from + n) c.area.ensures.value in
     record {
       from = run_more p c.args.c c.args.slice c.args.index c.loop-b.b c.loop-b.from to c.args.numbers.now c.loop-b.numbers c.dequantise_run.new.numbers (omega arith) c.loop-b.invariant.from end;
       length = search rules;

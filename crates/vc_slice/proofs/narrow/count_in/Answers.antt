@@ -1,0 +1,15 @@
+use Rattle.std.proofs.Common.{arith, ◌∙◌, sym}
+use Rattle.vc_types.specs.TransformParameters.{parameters_of}
+use Rattle.vc_types.proofs.SliceRectangles.{coefficients_before-none, coefficients_before-more, coefficients_before-all}
+use Rattle.vc_slice.proofs.narrow.count_in.Goals as goal
+
+pub loop-b-init : goal.loop-b-init
+loop-b-init c = record { sum = sym (coefficients_before-none (parameters_of c.args.plan.now) c.args.c c.args.slice); bound = omega arith }
+
+pub loop-b-preserved : goal.loop-b-preserved
+loop-b-preserved c =
+    let more = coefficients_before-more (parameters_of c.args.plan.now) c.args.c c.args.slice c.loop-b.b (omega arith) in
+    record { sum = omega (arith, more, c.area-count.ensures.value); bound = omega (arith, c.area-count.ensures.range) }
+
+pub returns : goal.returns
+returns c = record { value = c.loop-b.invariant.sum ∙ coefficients_before-all (parameters_of c.args.plan.now) c.args.c c.args.slice c.loop-b.b (omega arith) }
