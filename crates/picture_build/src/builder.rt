@@ -109,7 +109,7 @@ impl PictureBuilder {
         index < self.came.len() && self.came[index]
     }
 
-    /// FillsSlice in a slice that didn't come yet. It takes no memory.
+    /// Fills in a slice that didn't come yet. It takes no memory.
     pub fn fill(&mut self, index: u32, c: &SliceCoeffs)
         requires in_plan { index < slice_count self.old.parameters }
         requires once { slice_that_came self.old index ≡ None }

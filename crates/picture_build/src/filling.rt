@@ -5,16 +5,25 @@ ghost use Rattle.vc_types.specs.declared.video.Component.TheVariants.{Y, C1, C2}
 ghost use Rattle.vc_types.specs.Lifting.{line_of};
 ghost use Rattle.vc_types.specs.SliceCoefficients.{AreSliceCoefficients};
 ghost use Rattle.vc_types.specs.Slices.{all_coefficients, block_coefficients, coefficients_of, decoded_slice, in_range, is_large, slice_coefficients, slice_length};
-ghost use Rattle.vc_types.specs.Subbands.{area, place_in, padded_width, padded_height, slice_count, slice_coefficient_count};
+ghost use Rattle.vc_geometry.specs.Rectangles.{AreSliceRectangles};
+ghost use Rattle.vc_types.specs.Quantisation.{subband_count};
+ghost use Rattle.vc_types.specs.Subbands.{area, place_in, padded_width, padded_height, slice_count, slice_coefficient_count, slice_rectangle, subband_at};
 ghost use Rattle.vc_types.specs.TransformParameters.{parameters_of};
 ghost use Rattle.vc_slice.specs.Coded.{coded_of};
 ghost use Rattle.picture_build.specs.Cells.{cell_number};
 ghost use Rattle.picture_build.specs.Kept.{kept_at, ChangesOnly, FillsSlice};
 
 use crate::cells::CoefficientCells;
-use vc_geometry::{bands, padded, place_of, slice_len, slice_rect};
-use vc_slice::{CodedSlice, SliceCoeffs, TooWide, coded_slice, read_narrow};
+use vc_geometry::{bands, padded, place_of, slice_len, slice_rects};
+use vc_slice::{CodedSlice, SliceCoeffs, TooWide, coded_slice, read_narrow_in};
 use vc_types::{Component, Plan, Rect};
+
+const NOWHERE: Rect = Rect {
+    x: 0,
+    y: 0,
+    width: 0,
+    height: 0,
+};
 
 /// Puts a slice's coefficients at their places in the cells of the three components.
 pub(crate) fn fill_slice(
@@ -63,7 +72,9 @@ fn fill_component(
 {
     let coeffs = coeffs.component(c);
     if narrowed(coeffs, numbers) {
-        place_numbers(plan, c, slice, numbers, cells);
+        let mut rects = [NOWHERE; 16];
+        slice_rects(plan, c, slice, &mut rects);
+        place_numbers(plan, c, slice, &rects, numbers, cells);
     } else {
         place_wide(plan, c, slice, coeffs, cells);
     }
@@ -160,8 +171,10 @@ fn put_block(
     ensures sound { OnOk result (list_any is_large
         (block_coefficients (parameters_of plan.now) c slice index block.now) ≡ false) }
 {
-    read_narrow(plan, c, slice, index, block, numbers)?;
-    place_numbers(plan, c, slice, numbers, cells);
+    let mut rects = [NOWHERE; 16];
+    slice_rects(plan, c, slice, &mut rects);
+    read_narrow_in(plan, c, slice, index, block, &rects, numbers)?;
+    place_numbers(plan, c, slice, &rects, numbers, cells);
     Ok(())
 }
 
@@ -208,10 +221,13 @@ pub(crate) fn place_numbers(
     plan: &Plan,
     c: Component,
     slice: u32,
+    rects: &[Rect],
     numbers: &[i32],
     cells: &mut CoefficientCells,
 )
     requires slice { slice < slice_count (parameters_of plan.now) }
+    requires rects { AreSliceRectangles (parameters_of plan.now) c slice rects.now }
+    requires all { subband_count plan.now.depth_ho plan.now.depth ≤ length rects.now }
     requires count { slice_coefficient_count (parameters_of plan.now) c slice ≤ length numbers.now }
     requires cells { length cells.old
         ≡ padded_height (parameters_of plan.now) c * padded_width (parameters_of plan.now) c }
@@ -225,10 +241,25 @@ pub(crate) fn place_numbers(
     let (width, _) = padded(plan, c);
     let mut from = 0;
     for b in 0..bands(plan) {
-        let rect = slice_rect(plan, c, b, slice);
+        let rect = rect_at(plan, c, slice, rects, b);
         place_rect(&rect, numbers, from, cells, width as usize);
         from += rect.width as usize * rect.height as usize;
     }
+}
+
+// The part of subband number `b` that belongs to a slice.
+#[inline(always)]
+fn rect_at(plan: &Plan, c: Component, slice: u32, rects: &[Rect], b: u32) -> Rect
+    requires number { b < subband_count plan.now.depth_ho plan.now.depth }
+    requires rects { AreSliceRectangles (parameters_of plan.now) c slice rects.now }
+    requires all { subband_count plan.now.depth_ho plan.now.depth ≤ length rects.now }
+    ensures value { result ≡ slice_rectangle (parameters_of plan.now) c
+        (subband_at plan.now.depth_ho plan.now.depth b) slice }
+    ensures right { result.x + result.width ≤ padded_width (parameters_of plan.now) c }
+    ensures bottom { result.y + result.height ≤ padded_height (parameters_of plan.now) c }
+    ensures range { (result.x + result.width ≤ 8192) × (result.y + result.height ≤ 8192) }
+{
+    rects[b as usize]
 }
 
 // Puts numbers, from one of them on, into a rectangle of cells, row by row.

@@ -29,7 +29,7 @@ pub(crate) fn output(
     Ok(Plane::new(width, height, samples))
 }
 
-// FillsSlice the rows of samples from a grid that has at least as many columns and rows.
+// Fills the rows of samples from a grid that has at least as many columns and rows.
 fn output_rows(samples: &mut [u16], columns: usize, rows: usize, grid: &Grid, depth: u8)
     requires depth { (1 ≤ depth) × (depth ≤ 16) }
     requires columns { columns ≤ grid.now.width }

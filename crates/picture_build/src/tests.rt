@@ -191,6 +191,31 @@ fn level_across() -> Plan
     }
 }
 
+// 8 by 8 with two levels both ways, one slice.
+fn two_levels() -> Plan
+    ensures { (result.slices_x ≡ 1) × (result.slices_y ≡ 1) }
+{
+    Plan {
+        shape: Shape {
+            luma_width: 8,
+            luma_height: 8,
+            colour_width: 1,
+            colour_height: 1,
+            luma_depth: 8,
+            colour_depth: 8,
+        },
+        wavelet: 1,
+        wavelet_ho: 1,
+        depth: 2,
+        depth_ho: 0,
+        slices_x: 1,
+        slices_y: 1,
+        prefix: 0,
+        scaler: 1,
+        matrix: [0; 16],
+    }
+}
+
 // The coefficients of a slice, by its number and its bytes.
 fn decoded(alloc: Global, plan: Plan, index: u32, bytes: &'static [u8]) -> Result<SliceCoeffs, Fail>
     requires { index < slice_count (parameters_of plan) }
