@@ -130,16 +130,15 @@ fn a_picture_of_put_slices(rt: HostRuntime) -> Result<(), Fail> {
     Ok(())
 }
 
-// The luma of a picture of one slice that is put.
-fn put_luma(alloc: Global, plan: Plan, bytes: &[u8]) -> Result<Plane, Fail>
+// The planes of a picture of one slice that is put.
+fn put_alone(alloc: Global, plan: Plan, bytes: &[u8]) -> Result<[Plane; 3], Fail>
     requires { (plan.slices_x ≡ 1) × (plan.slices_y ≡ 1) }
 {
     let mut builder = PictureBuilder::new(alloc, plan)?;
     let Ok(()) = put(&mut builder, &plan, 0, bytes)? else {
         return Err(Fail::from("not put"));
     };
-    let [luma, _, _] = shown(&mut builder, &plan)?;
-    Ok(luma)
+    shown(&mut builder, &plan)
 }
 
 // Each row of a subband at its own place among those of two levels. `bench/reference` gives these samples.
@@ -149,27 +148,27 @@ fn small_coefficients_are_transformed_in_32_bits(rt: HostRuntime) -> Result<(), 
         12, 17, 0x21, 0x4c, 0x58, 0x05, 0xd3, 0x64, 0xcc, 0x25, 0xd8, 0x35, 0xd3, 0xcc, 0xcc, 0xa6,
         0x46, 0x64, 0x45, 0, 0,
     ];
-    let luma = put_luma(rt.alloc(), two_levels(), &slice)?;
+    let planes = put_alone(rt.alloc(), two_levels(), &slice)?;
     let rows = [
         133, 115, 109, 95, 93, 91, 101, 107, 144, 120, 102, 86, 82, 83, 83, 83, 154, 125, 95, 77,
         71, 75, 66, 60, 154, 123, 98, 83, 67, 72, 65, 65, 153, 121, 101, 88, 63, 69, 63, 69, 154,
         124, 100, 84, 61, 64, 61, 64, 155, 128, 100, 80, 59, 59, 59, 59, 155, 128, 100, 80, 59, 59,
         59, 59,
     ];
-    assert_eq!(rt; luma.samples(), rows.as_slice());
+    assert_eq!(rt; planes[0].samples(), rows.as_slice());
     Ok(())
 }
 
 // The two coefficients at the corner are 402,653,184 and its negative: they have 32 bits, but their transform may not.
 #[test]
 fn large_coefficients_are_transformed_in_more(rt: HostRuntime) -> Result<(), Fail> {
-    let luma = put_luma(rt.alloc(), two_levels(), &[112, 1, 0x23, 0, 0])?;
+    let planes = put_alone(rt.alloc(), two_levels(), &[112, 1, 0x23, 0, 0])?;
     let rows = [
         255, 255, 128, 0, 0, 0, 0, 0, 255, 255, 128, 0, 0, 0, 0, 0, 255, 255, 128, 0, 0, 0, 0, 0,
         255, 255, 128, 0, 0, 0, 0, 0, 128, 128, 128, 128, 128, 128, 128, 128, 128, 128, 128, 128,
         128, 128, 128, 128, 128, 128, 128, 128, 128, 128, 128, 128, 128, 128, 128, 128, 128, 128,
         128, 128,
     ];
-    assert_eq!(rt; luma.samples(), rows.as_slice());
+    assert_eq!(rt; planes[0].samples(), rows.as_slice());
     Ok(())
 }
