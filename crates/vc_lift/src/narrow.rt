@@ -71,7 +71,7 @@ fn changed_by(adds: bool, sample: i32, change: i32) -> i32
 
 // Makes the step on so many cells that stand side by side, from sample number n of the first line on.
 #[inline(always)]
-fn change_run(cells: &mut [i32], halves: &Halves, step: &Step, n: usize, width: usize)
+fn change_cells(cells: &mut [i32], halves: &Halves, step: &Step, n: usize, width: usize)
     requires plain { IsPlain (counted_of step.now) }
     requires small { halves.now.half < 2 ^ 60 }
     requires at { n < halves.now.half }
@@ -92,6 +92,62 @@ fn change_run(cells: &mut [i32], halves: &Halves, step: &Step, n: usize, width: 
     for x in 0..width {
         let change = change_at(cells, halves, step, n, x);
         cells[at + x] = changed_by(step.adds, cells[at + x], change);
+    }
+}
+
+// The step with taps whose numbers the compiler sees, if they are these.
+#[inline(always)]
+fn with_taps<'a>(step: &Step, taps: &'a [i32]) -> Step<'a>
+    requires { step.now.taps.now ≡ taps.now }
+    ensures { counted_of result ≡ counted_of step.now }
+{
+    Step {
+        parity: step.parity,
+        adds: step.adds,
+        taps,
+        back: step.back,
+        shift: step.shift,
+    }
+}
+
+// The same, with a loop of its own for taps that are small enough for 32 bits to serve. It is no part of a loop over rows:
+// in one, the compiler would ask whether any row lies over another.
+#[inline(never)]
+fn change_run(cells: &mut [i32], halves: &Halves, step: &Step, n: usize, width: usize)
+    requires plain { IsPlain (counted_of step.now) }
+    requires small { halves.now.half < 2 ^ 60 }
+    requires at { n < halves.now.half }
+    requires run { CanRun (counted_of step.now) halves.now n width (length cells.old) }
+    requires room { (x : ℕ) → x < width
+        → HasRangeAt (2 ^ 31) (counted_of step.now) halves.now.half
+        (line_in halves.now cells.old x) n }
+    ensures on { (x : ℕ) → x < width
+        → line_of cells.new (halves_place halves.now (2 * n + step.now.parity) + x)
+        ≡ changed_by step.now.adds
+        (line_of cells.old (halves_place halves.now (2 * n + step.now.parity) + x))
+        (change_at (counted_of step.now) halves.now.half (line_in halves.now cells.old x) n) }
+    ensures off { (i : ℕ) → (i < halves_place halves.now (2 * n + step.now.parity))
+        ⊎ (halves_place halves.now (2 * n + step.now.parity) + width ≤ i)
+        → line_of cells.new i ≡ line_of cells.old i }
+{
+    // No cell lies over these numbers, so they stay in registers.
+    let halves = &Halves {
+        even: halves.even,
+        odd: halves.odd,
+        pitch: halves.pitch,
+        half: halves.half,
+    };
+    let one: &[i32] = &[1];
+    let two: &[i32] = &[1, 1];
+    let four: &[i32] = &[-1, 9, 9, -1];
+    if step.taps == two {
+        change_cells(cells, halves, &with_taps(step, two), n, width);
+    } else if step.taps == four {
+        change_cells(cells, halves, &with_taps(step, four), n, width);
+    } else if step.taps == one {
+        change_cells(cells, halves, &with_taps(step, one), n, width);
+    } else {
+        change_cells(cells, halves, step, n, width);
     }
 }
 
@@ -186,8 +242,7 @@ fn change_line(cells: &mut [i32], halves: &Halves, step: &Step)
 }
 
 // Makes the step on each line: along it where its halves are whole, and else on the same sample of all lines at once.
-#[inline(always)]
-fn sweep(cells: &mut [i32], halves: &Halves, step: &Step, width: usize)
+fn lift(cells: &mut [i32], halves: &Halves, step: &Step, width: usize)
     requires plain { IsPlain (counted_of step.now) }
     requires lines { AreLines halves.now width (length cells.old) }
     requires range { (x : ℕ) → x < width
@@ -202,55 +257,6 @@ fn sweep(cells: &mut [i32], halves: &Halves, step: &Step, width: usize)
         change_line(cells, halves, step);
     } else {
         change_each(cells, halves, step, 0, halves.half, width);
-    }
-}
-
-// The step with taps whose numbers the compiler sees, if they are these.
-#[inline(always)]
-fn with_taps<'a>(step: &Step, taps: &'a [i32]) -> Step<'a>
-    requires { step.now.taps.now ≡ taps.now }
-    ensures { counted_of result ≡ counted_of step.now }
-{
-    Step {
-        parity: step.parity,
-        adds: step.adds,
-        taps,
-        back: step.back,
-        shift: step.shift,
-    }
-}
-
-// Makes the step on each line, with a loop of its own for taps that are small enough for 32 bits to serve.
-#[inline(never)]
-fn lift(cells: &mut [i32], halves: &Halves, step: &Step, width: usize)
-    requires plain { IsPlain (counted_of step.now) }
-    requires lines { AreLines halves.now width (length cells.old) }
-    requires range { (x : ℕ) → x < width
-        → HasRange (2 ^ 31) (counted_of step.now) halves.now.half (line_in halves.now cells.old x) }
-    ensures on { (x k : ℕ) → x < width → k < 2 * halves.now.half
-        → line_in halves.now cells.new x k
-        ≡ lift (counted_of step.now) halves.now.half (line_in halves.now cells.old x) k }
-    ensures off { (i : ℕ) → IsBeside halves.now width i
-        → line_of cells.new i ≡ line_of cells.old i }
-{
-    // No cell lies over these numbers, so they stay in registers.
-    let halves = &Halves {
-        even: halves.even,
-        odd: halves.odd,
-        pitch: halves.pitch,
-        half: halves.half,
-    };
-    let one: &[i32] = &[1];
-    let two: &[i32] = &[1, 1];
-    let four: &[i32] = &[-1, 9, 9, -1];
-    if step.taps == two {
-        sweep(cells, halves, &with_taps(step, two), width);
-    } else if step.taps == four {
-        sweep(cells, halves, &with_taps(step, four), width);
-    } else if step.taps == one {
-        sweep(cells, halves, &with_taps(step, one), width);
-    } else {
-        sweep(cells, halves, step, width);
     }
 }
 

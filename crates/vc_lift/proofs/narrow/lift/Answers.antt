@@ -1,24 +1,17 @@
-use Rattle.std.proofs.Common.{◌^◌, sym, subst}
-use Rattle.std.proofs.lemmas.Bool.Decides.{Decides-int_eq}
-use Rattle.std.proofs.lemmas.Slice.Eq.{slice_eq-Decides}
-use Rattle.vc_lift.specs.Halves.{line_in}
-use Rattle.vc_lift.specs.Ranges.{HasRange}
+use Rattle.std.proofs.Common.{◌≡◌, ◌^◌, subst, ◌∙◌}
+use Rattle.vc_lift.specs.Halves.{line_in, IsBeside}
+use Rattle.vc_lift.specs.Steps.{counted_of}
+use Rattle.vc_lift.proofs.Betweens.{between_all, room_at}
 use Rattle.vc_lift.proofs.narrow.lift.Goals as goal
 
-pub with_taps-requires : goal.with_taps-requires
-with_taps-requires c = (slice_eq-Decides Decides-int_eq c.args.step.now.taps.now _ c.eq.result c.eq.ensures).0 c.if-eq.true
+pub change_each-requires-clause-room : goal.change_each-requires-clause-room
+change_each-requires-clause-room c = λ x n h from lt. room_at (2 ^ 31) (counted_of c.args.step.now) c.args.halves.now.half (line_in c.args.halves.now c.args.cells.now x) n lt (c.requires.range x h)
 
-pub with_taps-requires-then-eq-2 : goal.with_taps-requires-then-eq-2
-with_taps-requires-then-eq-2 c = (slice_eq-Decides Decides-int_eq c.args.step.now.taps.now _ c.eq-else-eq.result c.eq-else-eq.ensures).0 c.if-eq-2.true
+pub returns-then-width-eq1-clause-off : goal.returns-then-width-eq1-clause-off
+returns-then-width-eq1-clause-off c = λ i none.
+    let one : c.args.width ≡ 1 = c.if-width-eq1.true in
+    c.change_line.ensures.off i (subst (λ w. IsBeside c.args.halves.now w i) one none)
 
-pub with_taps-requires-then-eq-3 : goal.with_taps-requires-then-eq-3
-with_taps-requires-then-eq-3 c = (slice_eq-Decides Decides-int_eq c.args.step.now.taps.now _ c.eq-else-eq-2.result c.eq-else-eq-2.ensures).0 c.if-eq-3.true
-
-pub sweep-requires-clause-range : goal.sweep-requires-clause-range
-sweep-requires-clause-range c = λ x h. subst (λ s. HasRange (2 ^ 31) s c.args.halves.now.half (line_in c.args.halves.now c.args.cells.now x)) (sym c.with_taps.ensures) (c.requires.range x h)
-
-pub sweep-requires-then-eq-2-clause-range : goal.sweep-requires-then-eq-2-clause-range
-sweep-requires-then-eq-2-clause-range c = λ x h. subst (λ s. HasRange (2 ^ 31) s c.args.halves.now.half (line_in c.args.halves.now c.args.cells.now x)) (sym c.with_taps-then-eq-2.ensures) (c.requires.range x h)
-
-pub sweep-requires-then-eq-3-clause-range : goal.sweep-requires-then-eq-3-clause-range
-sweep-requires-then-eq-3-clause-range c = λ x h. subst (λ s. HasRange (2 ^ 31) s c.args.halves.now.half (line_in c.args.halves.now c.args.cells.now x)) (sym c.with_taps-then-eq-3.ensures) (c.requires.range x h)
+pub returns-else-halves-eq1-clause-on : goal.returns-else-halves-eq1-clause-on
+returns-else-halves-eq1-clause-on c = λ x k h lt.
+    c.change_each.ensures.on x k h lt ∙ between_all (counted_of c.args.step.now) c.args.halves.now.half (line_in c.args.halves.now c.args.cells.now x) k lt

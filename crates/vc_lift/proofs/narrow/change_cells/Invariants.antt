@@ -3,7 +3,7 @@ use Rattle.vc_types.specs.Lifting.{line_of, changed_by}
 use Rattle.vc_lift.specs.CountedSteps.{change_at}
 use Rattle.vc_lift.specs.Halves.{halves_place, line_in}
 use Rattle.vc_lift.specs.Steps.{counted_of}
-use Rattle.vc_lift.proofs.narrow.change_run.Given as goal
+use Rattle.vc_lift.proofs.narrow.change_cells.Given as goal
 
 abbrev pub invariant-loop-x : goal.invariant-loop-x
 invariant-loop-x l = record {
