@@ -10,6 +10,9 @@ pub mod Working
 pub mod Redone
 pub mod ReleaseLists
 pub mod OfferedJobs
+pub mod KeptJobs
+pub mod NewlyKept
+pub mod DatagramJobs
 pub mod UnkeptDatagrams
 pub mod BuiltPictures
 pub mod Releases

@@ -1,5 +1,5 @@
 ghost use Rattle.std.specs.Prelude.{◌≡◌, ℕ, ◌≤◌, true, false, List, [], ◌∷◌, ◌++◌, Some, None};
-ghost use Rattle.link_model.specs.Feeders.{Feeder, new_feeder, releasable};
+ghost use Rattle.link_model.specs.Feeders.{Feeder, new_feeder, releasable, kept_job};
 ghost use Rattle.link_model.specs.Feeding.{hears_datagram, hears_end};
 ghost use Rattle.link_model.specs.Judgement.{outcome_behind, tally_of};
 ghost use Rattle.link_model.specs.Machine.{Enter, Finish};
@@ -8,7 +8,8 @@ ghost use Rattle.link_model.specs.Output.{output_so_far, full_output};
 ghost use Rattle.link_model.specs.Places.{Job};
 ghost use Rattle.link_model.specs.Session.{Fragment, sessions_of};
 ghost use Rattle.link_model.specs.Windows.{Window, WindowPast, StandsForPast, window_enters};
-ghost use Rattle.link_reception.specs.Entering.{before_releases, takes_datagram, datagram_bytes};
+ghost use Rattle.link_reception.specs.Entering.{before_releases, datagram_jobs, takes_datagram};
+ghost use Rattle.link_reception.specs.Entering.{datagram_bytes};
 ghost use Rattle.link_reception.specs.Entering.{takes_end, end_bytes};
 ghost use Rattle.link_reception.specs.Exchanging.{Exchange, all_exchanged, dones_in};
 ghost use Rattle.link_reception.specs.Exchanging.{window_job, offered_jobs, is_job_among};
@@ -68,6 +69,16 @@ pub fn new_slices_are_offered()
         → is_job_among (offered_jobs old new f) job ≡ true
         → (window_job new job.number job.index ≡ Some job)
         × (window_job old job.number job.index ≡ None) }
+{}
+
+/// A datagram offers the job of each slice that it newly brings: one that a picture of the datagrams
+/// keeps with it, and didn't keep before. One that opens a session brings none.
+pub fn each_new_slice_is_offered()
+    ensures { (r : Reception) (size : ℕ) (datagrams : List (List ℕ)) (d : List ℕ)
+        → StandsForHeard r size datagrams false → (n i : ℕ) (job : Job)
+        → kept_job size (sessions_of datagrams) n i ≡ None
+        → kept_job size (sessions_of (datagrams ++ d ∷ [])) n i ≡ Some job
+        → is_job_among (datagram_jobs r d) job ≡ true }
 {}
 
 /// The slices of the pictures that a call releases aren't out any more behind it, and all others

@@ -7,5 +7,6 @@ fn laws_hold() {
     receivers_follow_the_end();
     released_slices_are_not_out();
     new_slices_are_offered();
+    each_new_slice_is_offered();
     unkept_datagrams_change_nothing();
 }

@@ -1,0 +1,153 @@
+-- A fragment more in a window: the jobs that it offers are those of the slices that its session's
+-- pictures newly keep.
+use Rattle.std.proofs.Common.{◌≡◌, ℕ, ◌+◌, ◌≤◌, Bool, true, false, refl, ap, sym, ◌∙◌, arith}
+use Rattle.std.proofs.Common.{List, [], ◌∷◌, ◌++◌, Option, Some, None, inl, inr}
+use Rattle.std.specs.Prelude.{◌==◌, ◌&&◌, ◌||◌}
+use Rattle.std.specs.List.{last_or}
+use Rattle.std.specs.Option.{option_and_then}
+use Rattle.std.proofs.lemmas.Bool.{cases_Bool, cases_eq, cases_lt, false≢true, leb-true, lt-leb}
+use Rattle.std.proofs.lemmas.Bool.{eq-eqb}
+use Rattle.std.proofs.lemmas.Option.{none-some}
+use Rattle.link_model.specs.Feeders.{is_among, job_by}
+use Rattle.link_model.specs.Kept.{own}
+use Rattle.link_model.specs.Numbers.{Numbered, base_above, greatest, has_parts, is_closed, is_late}
+use Rattle.link_model.specs.Numbers.{is_opened, picture_number}
+use Rattle.link_model.specs.Places.{Job}
+use Rattle.link_model.specs.Session.{Part, Fragment}
+use Rattle.link_model.specs.Windows.{Window, WindowPast, StandsForPast, window_enters, past_enters}
+use Rattle.link_model.specs.Windows.{released_up_to}
+use Rattle.link_model.proofs.Numbering.{early_enters, early_is, greatest-append}
+use Rattle.link_model.proofs.Numbering.{late_changes_nothing, parts_of-outside}
+use Rattle.link_model.proofs.WindowStands.{enters_stands}
+use Rattle.link_reception.specs.Exchanging.{window_job, offered_jobs, is_job_among}
+use Rattle.link_reception.proofs.KeptJobs.{no_job, entered_job, is_forgotten}
+use Rattle.link_reception.proofs.KeptJobs.{window_keeps, unforgotten, forgotten}
+use Rattle.link_reception.proofs.OfferedJobs.{other_parts, closed_later, all_offered, only_offered}
+use Rattle.link_reception.proofs.ReleasedNumbers.{released_opened}
+
+-- ---- numbers up to the last of some
+
+or_later : (b : Bool) {c : Bool} → c ≡ true → (b || c) ≡ true
+or_later true e = refl
+or_later false e = e
+
+module _ (n bound : ℕ) where
+  below_last : (k : ℕ) (ns : List ℕ) → k ≤ bound
+      → ((j : ℕ) → is_among ns j ≡ true → j ≤ bound)
+      → released_up_to (last_or (Some k) ns) n ≡ true → n ≤ bound
+  below_last k [] first rest low = omega (arith, leb-true n k low, first)
+  below_last k (j ∷ ns) first rest low = below_last j ns
+      (rest j (ap (λ (b : Bool). b || is_among ns j) (eq-eqb j j refl)))
+      (λ i there. rest i (or_later (j == i) there)) low
+
+  below_all : (ns : List ℕ) → ((j : ℕ) → is_among ns j ≡ true → j ≤ bound)
+      → released_up_to (last_or None ns) n ≡ true → n ≤ bound
+  below_all [] each low = absurd (false≢true low)
+  below_all (k ∷ ns) each low = below_last k ns
+      (each k (ap (λ (b : Bool). b || is_among ns k) (eq-eqb k k refl)))
+      (λ i there. each i (or_later (k == i) there)) low
+
+opened_below : (es : List Numbered) (n : ℕ) → is_opened es n ≡ true → n ≤ greatest es
+opened_below es n opened = elim (cases_lt (greatest es) n) [
+  | inl above ↦ absurd (false≢true
+      (sym (ap has_parts (parts_of-outside n es (inr above))) ∙ opened))
+  | inr low ↦ low
+]
+
+-- ---- a fragment more
+
+module _ (w : Window) (p : WindowPast) (stands : StandsForPast w p) (runs : p.is_ended ≡ false)
+    (f : Fragment) where
+  abbrev m : ℕ
+  m = picture_number (base_above p.before) p.entries f.number
+
+  abbrev later : WindowPast
+  later = past_enters p f
+
+  later_stands : StandsForPast (window_enters w f) later
+  later_stands = enters_stands w p stands runs f
+
+  low_is_small : (n : ℕ) → released_up_to (last_or None p.released) n ≡ true
+      → n ≤ greatest p.entries
+  low_is_small n low = below_all n (greatest p.entries) p.released
+      (λ j there. opened_below p.entries j (released_opened p stands.in_order j there)) low
+
+  -- the window has the picture of a fragment that isn't late
+  stays_here : is_late p.size p.entries m ≡ false → is_forgotten (window_enters w f) later
+      later_stands m 0 ≡ false
+  unfolding is_closed greatest
+  stays_here early = by_tests p.is_ended (is_closed p.size later.entries m)
+      (released_up_to (last_or None p.released) m) runs unclosed
+    where
+      by_tests : (over closed low : Bool) → over ≡ false → (low ≡ true → closed ≡ false)
+          → ((over || closed) && low) ≡ false
+      by_tests true closed low is stays = absurd (false≢true (sym is))
+      by_tests false true true is stays = stays refl
+      by_tests false true false is stays = refl
+      by_tests false false low is stays = refl
+
+      unclosed : released_up_to (last_or None p.released) m ≡ true
+          → is_closed p.size later.entries m ≡ false
+      unclosed low =
+          let e : Numbered = record { number = m; part = f.part } in
+          let grown : greatest later.entries ≡ greatest (p.entries ++ e ∷ []) =
+          ap greatest (early_enters (base_above p.before) p.size p.entries f early) in
+          lt-leb (m + p.size) (greatest later.entries) (omega (
+            arith,
+            grown,
+            greatest-append p.entries (e ∷ []),
+            low_is_small m low,
+            early_is p.size p.entries m early,
+          ))
+
+  abbrev job_before : ℕ → ℕ → Option Job
+  job_before n i = entered_job p.sequence p.entries n i
+
+  abbrev job_behind : ℕ → ℕ → Option Job
+  job_behind n i = entered_job p.sequence later.entries n i
+
+  -- each slice that is newly kept is offered
+  pub newly_offered : (n i : ℕ) (job : Job) → job_before n i ≡ None → job_behind n i ≡ Some job
+      → is_job_among (offered_jobs w (window_enters w f) f) job ≡ true
+  newly_offered n i job none is = elim (cases_eq n m) [
+    | inr other ↦ absurd (none-some job (sym none
+        ∙ ap (λ (l : List Part). option_and_then (λ kept. job_by kept n i) (own p.sequence l))
+        (sym (other_parts w p stands runs f n other))
+        ∙ is))
+    | inl same ↦ elim (cases_Bool (is_late p.size p.entries m)) [
+      | inl late ↦ absurd (none-some job (sym none
+          ∙ ap (λ (es : List Numbered). entered_job p.sequence es n i)
+          (sym (late_changes_nothing (base_above p.before) p.size p.entries f late))
+          ∙ is))
+      | inr early ↦ all_offered w p stands runs f n i job
+          (no_job (window_job w n i)
+          (λ was at. none-some was (sym none ∙ window_keeps w p stands n i was at)))
+          (unforgotten (window_enters w f) later later_stands n i job
+          (ap (λ k. is_forgotten (window_enters w f) later later_stands k i) same
+          ∙ stays_here early) is)
+    ]
+  ]
+
+  -- and nothing else is
+  pub only_newly : (job : Job) → is_job_among (offered_jobs w (window_enters w f) f) job ≡ true
+      → (job_behind job.number job.index ≡ Some job) × (job_before job.number job.index ≡ None)
+  only_newly job there =
+      let n = job.number in
+      let i = job.index in
+      let both = only_offered w (window_enters w f) f job there in (
+        window_keeps (window_enters w f) later later_stands n i job both.0,
+        no_job (job_before n i) (λ was at. elim (cases_Bool (is_forgotten w p stands n i)) [
+          | inr stays ↦ none-some was (sym both.1 ∙ unforgotten w p stands n i was stays at)
+          | inl gone ↦ none-some job (sym (forgotten (window_enters w f) later later_stands n i
+              (by_tests p.is_ended (is_closed p.size p.entries n)
+              (is_closed p.size later.entries n) (released_up_to (last_or None p.released) n)
+              (closed_later w p stands runs f n) gone)) ∙ both.0)
+        ]),
+      )
+    where
+      by_tests : (over closed then low : Bool) → (closed ≡ true → then ≡ true)
+          → ((over || closed) && low) ≡ true → ((over || then) && low) ≡ true
+      by_tests true closed then low grows e = e
+      by_tests false true true low grows e = e
+      by_tests false true false low grows e = absurd (false≢true (grows refl))
+      by_tests false false then low grows e = absurd (false≢true e)
