@@ -38,6 +38,17 @@ impl<'a> Block<'a> {
         Block { word, count, rest }
     }
 
+    /// The same block, to be read apart.
+    pub fn copy(&self) -> Block<'a>
+        ensures { result ≡ self.now }
+    {
+        Block {
+            word: self.word,
+            count: self.count,
+            rest: self.rest,
+        }
+    }
+
     /// The next bit, past the end a one.
     #[tactic(auto, using(crate::proofs::Peeking::first_bit))]
     pub fn bit(&mut self) -> bool

@@ -1,7 +1,7 @@
 -- No code begins another, and what is written is read back.
-use Rattle.std.proofs.Common.{◌≡◌, ℕ, ◌≤◌, ◌++◌, ℤ, Bool, List, [], length, drop, Ok, sym, ap, ◌∙◌, append-nil}
+use Rattle.std.proofs.Common.{◌≡◌, ℕ, ◌≤◌, ◌++◌, ℤ, Bool, List, [], Ok, sym, ap, ◌∙◌, append-nil}
 use Rattle.vc_types.specs.Codes.{uint_bits, sint_bits, uint_at}
-use Rattle.vc_types.specs.Bounded.{BeginsWith, bounded_sint}
+use Rattle.vc_types.specs.Bounded.{bounded_sint}
 use Rattle.vc_types.specs.Fields.{number_from, number_up_to}
 use Rattle.vc_types.proofs.Codes.{uint_at-uint_bits, some_is}
 use Rattle.vc_types.proofs.BoundedCodes.{bounded_sint-sint_bits, bounded_sint-begins}

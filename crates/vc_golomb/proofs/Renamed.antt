@@ -1,9 +1,8 @@
 -- A read of an unsigned number by a caller that has refusals of its own, which names the ruleset `renamed` in its tactic.
-use Rattle.std.proofs.Common.{◌≡◌, ℕ, ◌<◌, ◌≤◌, Bool, true, false, ltb, List, Option, Some, None, Result, Ok, Err, ap, ◌∙◌, refl}
+use Rattle.std.proofs.Common.{◌≡◌, ℕ, ◌<◌, ◌≤◌, Bool, true, false, ltb, List, Some, Ok, Err, ap, ◌∙◌, refl}
 use borrow.Author.Tests.{lt-ltb, le-ltb}
 use Rattle.vc_types.specs.Codes.{uint_at}
 use Rattle.vc_types.specs.Fields.{number_from, number_up_to}
-use Rattle.vc_golomb.specs.declared.uint.UintRefusal.{UintRefusal}
 use Rattle.vc_golomb.specs.declared.uint.UintRefusal.TheVariants.{End, TooLarge}
 use Rattle.vc_golomb.proofs.Reading.{accepted, refused, ended}
 

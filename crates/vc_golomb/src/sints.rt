@@ -54,7 +54,10 @@ fn read_some(block: &mut Block, out: &mut [i32], at: usize) -> Result<usize, Too
         block.skip(row.bits);
         return Ok(row.count);
     }
-    let number = read_sint_bounded(block, MOST)?;
+    // A long code is read apart, so that what the block has stays in registers.
+    let mut apart = block.copy();
+    let number = read_sint_bounded(&mut apart, MOST)?;
+    *block = apart;
     out[at] = number as i32;
     Ok(1)
 }

@@ -1,6 +1,5 @@
 use Rattle.std.proofs.Common.{◌≡◌, ◌∙◌, ◌++◌, Bool, [], ◌∷◌, ap, rules, w64}
 use mir.Val.{SFits}
-use Rattle.std.specs.Prelude.{unsigned_abs}
 use Rattle.std.specs.Int.{is_negative}
 use Rattle.std.proofs.lemmas.Int.{to_z-of_z}
 use Rattle.vc_golomb.proofs.WrittenCodes.{no_sign, signed, front_unsigned, front_whole, on_err, on_err_too, on_ok}

@@ -1,6 +1,5 @@
-use Rattle.std.proofs.Common.{◌≡◌, ◌+◌, ◌-◌, ◌*◌, ◌/◌, ◌^◌, ◌<◌, ◌++◌, refl, sym, ap, ◌∙◌, ℕ, arith, Bool, false, List, [], ◌∷◌}
-use Rattle.vc_types.specs.Codes.{uint_bits, spread_digits}
-use Rattle.vc_golomb.specs.Writing.{WroteFront}
+use Rattle.std.proofs.Common.{◌≡◌, ◌+◌, ◌-◌, ◌/◌, ◌^◌, ◌<◌, ◌++◌, refl, ap, ◌∙◌, arith, Bool, false, List, [], ◌∷◌}
+use Rattle.vc_types.specs.Codes.{spread_digits}
 use Rattle.vc_golomb.proofs.WrittenCodes.{first, some_above, none_yet, front_at, front_within, pair_more, whole_code, on_err, on_err_too, on_ok}
 use Rattle.vc_golomb.proofs.write.write_uint.Goals as goal
 

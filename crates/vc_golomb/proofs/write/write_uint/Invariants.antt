@@ -1,4 +1,4 @@
-use Rattle.std.proofs.Common.{◌≡◌, ℕ, ◌+◌, ◌/◌, ◌^◌, ◌<◌, ◌++◌}
+use Rattle.std.proofs.Common.{◌≡◌, ◌+◌, ◌/◌, ◌^◌, ◌<◌, ◌++◌}
 use Rattle.vc_types.specs.Codes.{spread_digits}
 use Rattle.vc_golomb.proofs.write.write_uint.Given as goal
 
