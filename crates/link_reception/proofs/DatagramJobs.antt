@@ -1,13 +1,14 @@
 -- The jobs that a datagram offers are those of the slices that it newly brings: the pictures of the
 -- longer list keep them, and those of the shorter one don't.
-use Rattle.std.proofs.Common.{◌≡◌, ℕ, ◌≤◌, true, false, refl, ap, sym, ◌∙◌}
+use Rattle.std.proofs.Common.{◌≡◌, ℕ, ◌≤◌, Bool, true, false, refl, ap, sym, ◌∙◌}
 use Rattle.std.proofs.Common.{List, [], ◌∷◌, ◌++◌, Option, Some, None, inl, inr}
-use Rattle.std.specs.Option.{option_and_then, option_map_or}
+use Rattle.std.specs.Prelude.{◌||◌}
+use Rattle.std.specs.Option.{option_map_or}
 use Rattle.std.proofs.lemmas.Bool.{cases_Bool, both_ways, false≢true, false_from_ne_true}
 use Rattle.std.proofs.lemmas.Option.{none-some}
-use Rattle.link_model.specs.Feeders.{kept_job, EnteredSession, keeps_of, job_by, session_opening}
-use Rattle.link_model.specs.Numbers.{Numbered, is_opened}
-use Rattle.link_model.specs.Output.{entered_behind, is_opened_in}
+use Rattle.link_model.specs.Feeders.{kept_job}
+use Rattle.link_model.specs.Numbers.{Numbered, is_closed, is_opened}
+use Rattle.link_model.specs.Output.{entered_behind, is_opened_in, is_closed_in}
 use Rattle.link_model.specs.Places.{Job}
 use Rattle.link_model.specs.Session.{Session, Fragment, HeardSession, just_opened, with_datagram}
 use Rattle.link_model.specs.Session.{hears, sessions_of, begins, fragment_in, opens_behind}
@@ -24,8 +25,8 @@ use Rattle.link_reception.specs.Standing.{StandsForHeard, standing_of, standing_
 use Rattle.link_reception.specs.Standing.{last_past}
 use Rattle.link_reception.proofs.JudgedOutcomes.{resting_stands, opens_same}
 use Rattle.link_reception.proofs.KeptJobs.{entered_job, job_opened, last_job, earlier_job}
-use Rattle.link_reception.proofs.KeptJobs.{no_job, shut_before}
-use Rattle.link_reception.proofs.NewlyKept.{newly_offered, only_newly}
+use Rattle.link_reception.proofs.KeptJobs.{no_job, shut_before, same_session_job, unopened_job}
+use Rattle.link_reception.proofs.NewlyKept.{newly_offered, newly_open, only_newly}
 use Rattle.link_reception.proofs.SessionPictures.{session_none, session_opens}
 
 -- ---- within a session
@@ -105,11 +106,9 @@ module _ (size : ℕ) (h : HeardSession) (hs : List HeardSession) (d : List ℕ)
         ∙ is))
   ]
 
-  unopened_job : (n i : ℕ) → is_opened_in size hs n ≡ false → kept_job size hs n i ≡ None
-  unfolding kept_job
-  unopened_job n i none = ap (λ (o : Option EnteredSession).
-      option_and_then (λ kept. job_by kept n i) (option_and_then (λ e. keeps_of e n) o))
-      (session_none size hs n none)
+  not_earlier : size ≤ 8 → (n : ℕ) → is_opened new n ≡ true → is_opened_in size hs n ≡ false
+  not_earlier small n opened = false_from_ne_true (is_opened_in size hs n) (λ earlier.
+      both_ways (is_opened new n) (sessions_apart size hs h_now n small earlier) opened)
 
   only_offer : size ≤ 8 → (job : Job) → is_job_among offered job ≡ true
       → (kept_job size (h_now ∷ hs) job.number job.index ≡ Some job)
@@ -122,11 +121,37 @@ module _ (size : ℕ) (h : HeardSession) (hs : List HeardSession) (d : List ℕ)
         last_job size h_now hs n i opened ∙ both.0,
         elim (cases_Bool (is_opened old n)) [
           | inl was ↦ last_job size h hs n i was ∙ both.1
-          | inr shut ↦ earlier_job size h hs n i shut ∙ unopened_job n i
-              (false_from_ne_true (is_opened_in size hs n) (λ earlier. both_ways (is_opened new n)
-              (sessions_apart size hs h_now n small earlier) opened))
+          | inr shut ↦ earlier_job size h hs n i shut ∙ unopened_job size n i hs
+              (session_none size hs n (not_earlier small n opened))
         ],
       )
+
+  session_open : 1 ≤ size → (n i : ℕ) (job : Job) → job_before n i ≡ None
+      → job_behind n i ≡ Some job → is_closed size new n ≡ false
+  session_open some n i job none is = by_fragment (fragment_in h.session d) refl
+    where
+      by_fragment : (o : Option Fragment) → fragment_in h.session d ≡ o
+          → is_closed size new n ≡ false
+      by_fragment None at = absurd (none-some job (sym none
+          ∙ ap (λ (p : WindowPast). entered_job h.session.sequence p.entries n i)
+          (sym (session_stays size hs h past.released d at))
+          ∙ is))
+      by_fragment (Some f) at =
+          let enters = session_enters size hs h past.released d f at in
+          ap (λ (p : WindowPast). is_closed size p.entries n) (sym enters)
+          ∙ newly_open st.window past (resting_stands (last_past size false hs h)) refl f some n i
+          job none
+          (ap (λ (p : WindowPast). entered_job h.session.sequence p.entries n i) enters ∙ is)
+
+  open_offer : 1 ≤ size → size ≤ 8 → (job : Job) → is_job_among offered job ≡ true
+      → is_closed_in size (h_now ∷ hs) job.number ≡ false
+  open_offer some small job there =
+      let n = job.number in
+      let i = job.index in
+      let both = session_only job there in
+      ap (λ (b : Bool). b || is_closed size new n)
+      (not_earlier small n (job_opened h.session.sequence new n i job both.0))
+      ∙ session_open some n i job both.1 both.0
 
 -- ---- of a receiver
 
@@ -166,9 +191,7 @@ module _ (r : Reception) (size : ℕ) (datagrams : List (List ℕ)) (d : List �
     -- one that opens a session leaves what is kept
     same_next : (s : Session) (n i : ℕ)
         → kept_job size (just_opened s ∷ h ∷ hs) n i ≡ kept_job size (h ∷ hs) n i
-    unfolding kept_job
-    same_next s n i = ap (λ (o : Option EnteredSession).
-        option_and_then (λ kept. job_by kept n i) (option_and_then (λ e. keeps_of e n) o))
+    same_next s n i = same_session_job size n i (just_opened s ∷ h ∷ hs) (h ∷ hs)
         (session_opens size s (h ∷ hs) n)
 
     all_there : (n i : ℕ) (job : Job) → kept_job size (sessions_of datagrams) n i ≡ None
@@ -207,6 +230,21 @@ module _ (r : Reception) (size : ℕ) (datagrams : List (List ℕ)) (d : List �
             )
         by_next (Some s) opens = absurd (false≢true (among (Some s) opens))
 
+    open_there : 1 ≤ size → size ≤ 8 → (job : Job) → is_job_among (datagram_jobs r d) job ≡ true
+        → is_closed_in size longer job.number ≡ false
+    open_there some small job there = by_next (opens_behind h (begins d)) refl
+      where
+        among : (o : Option Session) → opens_behind h (begins d) ≡ o
+            → is_job_among (jobs_before o st_there d) job ≡ true
+        among o is = sym (ap (λ (l : List Job). is_job_among l job) (jobs_are o is)) ∙ there
+
+        by_next : (o : Option Session) → opens_behind h (begins d) ≡ o
+            → is_closed_in size longer job.number ≡ false
+        by_next None on =
+            ap (λ (l : List HeardSession). is_closed_in size l job.number) (longer_on on)
+            ∙ open_offer size h hs d some small job (among None on)
+        by_next (Some s) opens = absurd (false≢true (among (Some s) opens))
+
   -- ---- before a session stands nothing is kept, and nothing is offered
 
   module _ (at : sessions_of datagrams ≡ []) where
@@ -217,7 +255,6 @@ module _ (r : Reception) (size : ℕ) (datagrams : List (List ℕ)) (d : List �
         (stands.session ∙ ap (standing_of size false) at)
 
     first_keeps_none : (n i : ℕ) → kept_job size longer n i ≡ None
-    unfolding kept_job session_opening
     first_keeps_none n i =
         ap (λ (l : List HeardSession). kept_job size l n i)
         (sessions_of_more datagrams d ∙ ap (λ (l : List HeardSession). hears l d) at)
@@ -227,10 +264,11 @@ module _ (r : Reception) (size : ℕ) (datagrams : List (List ℕ)) (d : List �
             → kept_job size (hears [] d) n i ≡ None
         by_next None none = ap (λ (l : List HeardSession). kept_job size l n i)
             (hears_on [] d none)
+            ∙ unopened_job size n i [] (session_none size [] n refl)
         by_next (Some s) opens = ap (λ (l : List HeardSession). kept_job size l n i)
             (hears_new [] d s opens)
-            ∙ ap (λ (o : Option EnteredSession). option_and_then (λ kept. job_by kept n i)
-            (option_and_then (λ e. keeps_of e n) o)) (session_opens size s [] n)
+            ∙ unopened_job size n i (just_opened s ∷ [])
+            (session_opens size s [] n ∙ session_none size [] n refl)
 
   pub all_jobs : (n i : ℕ) (job : Job) → kept_job size (sessions_of datagrams) n i ≡ None
       → kept_job size longer n i ≡ Some job → is_job_among (datagram_jobs r d) job ≡ true
@@ -252,3 +290,13 @@ module _ (r : Reception) (size : ℕ) (datagrams : List (List ℕ)) (d : List �
       by_sessions [] at = absurd (false≢true
           (sym (ap (λ (l : List Job). is_job_among l job) (no_jobs at)) ∙ there))
       by_sessions (h ∷ hs) at = only_there h hs at small job there
+
+  pub open_jobs : 1 ≤ size → size ≤ 8 → (job : Job) → is_job_among (datagram_jobs r d) job ≡ true
+      → is_closed_in size longer job.number ≡ false
+  open_jobs some small job there = by_sessions (sessions_of datagrams) refl
+    where
+      by_sessions : (l : List HeardSession) → sessions_of datagrams ≡ l
+          → is_closed_in size longer job.number ≡ false
+      by_sessions [] at = absurd (false≢true
+          (sym (ap (λ (l : List Job). is_job_among l job) (no_jobs at)) ∙ there))
+      by_sessions (h ∷ hs) at = open_there h hs at some small job there

@@ -8,7 +8,8 @@ use Rattle.std.specs.Option.{option_and_then}
 use Rattle.std.proofs.lemmas.Bool.{false≢true}
 use Rattle.std.proofs.lemmas.Option.{none-some}
 use Rattle.link_model.specs.Books.{Book, book_of}
-use Rattle.link_model.specs.Feeders.{EnteredSession, keeps_of, job_by, kept_job}
+use Rattle.link_model.specs.Feeders.{EnteredSession, entered_session, session_opening}
+use Rattle.link_model.specs.Feeders.{keeps_of, job_by, kept_job}
 use Rattle.link_model.specs.Kept.{Own, own}
 use Rattle.link_model.specs.Numbers.{Numbered, base_above, has_parts, is_closed, is_opened, parts_of}
 use Rattle.link_model.specs.Output.{entered_behind, greatest_of}
@@ -44,20 +45,40 @@ job_opened s es n i job is = by_own (own s (parts_of n es)) refl is
 
 -- ---- of sessions
 
+module _ (size : ℕ) (n i : ℕ) where
+  -- by the session of the picture
+  pub session_job : (hs : List HeardSession) (e : EnteredSession)
+      → session_opening size hs n ≡ Some e
+      → kept_job size hs n i ≡ entered_job e.sequence e.entries n i
+  unfolding kept_job
+  session_job hs e found = ap (λ (o : Option EnteredSession).
+      option_and_then (λ kept. job_by kept n i) (option_and_then (λ e. keeps_of e n) o)) found
+
+  pub same_session_job : (hs gs : List HeardSession)
+      → session_opening size hs n ≡ session_opening size gs n
+      → kept_job size hs n i ≡ kept_job size gs n i
+  unfolding kept_job
+  same_session_job hs gs same = ap (λ (o : Option EnteredSession).
+      option_and_then (λ kept. job_by kept n i) (option_and_then (λ e. keeps_of e n) o)) same
+
+  -- one that isn't opened keeps none
+  pub unopened_job : (hs : List HeardSession) → session_opening size hs n ≡ None
+      → kept_job size hs n i ≡ None
+  unfolding kept_job
+  unopened_job hs none = ap (λ (o : Option EnteredSession).
+      option_and_then (λ kept. job_by kept n i) (option_and_then (λ e. keeps_of e n) o)) none
+
 module _ (size : ℕ) (h : HeardSession) (hs : List HeardSession) (n i : ℕ) where
   -- a picture of the last session
   pub last_job : is_opened (entered_behind size hs h) n ≡ true → kept_job size (h ∷ hs) n i
       ≡ entered_job h.session.sequence (entered_behind size hs h) n i
-  unfolding kept_job
-  last_job opened = ap (λ (o : Option EnteredSession). option_and_then (λ kept. job_by kept n i)
-      (option_and_then (λ e. keeps_of e n) o)) (session_last size h hs n opened)
+  last_job opened = session_job size n i (h ∷ hs) (entered_session size hs h)
+      (session_last size h hs n opened)
 
   -- and one that isn't its
   pub earlier_job : is_opened (entered_behind size hs h) n ≡ false
       → kept_job size (h ∷ hs) n i ≡ kept_job size hs n i
-  unfolding kept_job
-  earlier_job shut = ap (λ (o : Option EnteredSession). option_and_then (λ kept. job_by kept n i)
-      (option_and_then (λ e. keeps_of e n) o)) (session_before size h hs n shut)
+  earlier_job shut = same_session_job size n i (h ∷ hs) hs (session_before size h hs n shut)
 
   -- one that isn't opened behind a datagram wasn't before
   pub shut_before : (d : List ℕ) → is_opened (entered_behind size hs (with_datagram h d)) n ≡ false

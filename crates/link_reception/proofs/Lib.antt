@@ -13,6 +13,8 @@ pub mod OfferedJobs
 pub mod KeptJobs
 pub mod NewlyKept
 pub mod DatagramJobs
+pub mod UnansweredJobs
+pub mod OutKept
 pub mod UnkeptDatagrams
 pub mod BuiltPictures
 pub mod Releases

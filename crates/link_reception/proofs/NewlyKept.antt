@@ -106,10 +106,10 @@ module _ (w : Window) (p : WindowPast) (stands : StandsForPast w p) (runs : p.is
   abbrev job_behind : ℕ → ℕ → Option Job
   job_behind n i = entered_job p.sequence later.entries n i
 
-  -- each slice that is newly kept is offered
-  pub newly_offered : (n i : ℕ) (job : Job) → job_before n i ≡ None → job_behind n i ≡ Some job
-      → is_job_among (offered_jobs w (window_enters w f) f) job ≡ true
-  newly_offered n i job none is = elim (cases_eq n m) [
+  -- a slice that is newly kept is of the fragment's picture, which isn't late
+  newly_here : (n i : ℕ) (job : Job) → job_before n i ≡ None → job_behind n i ≡ Some job
+      → (n ≡ m) × (is_late p.size p.entries m ≡ false)
+  newly_here n i job none is = elim (cases_eq n m) [
     | inr other ↦ absurd (none-some job (sym none
         ∙ ap (λ (l : List Part). option_and_then (λ kept. job_by kept n i) (own p.sequence l))
         (sym (other_parts w p stands runs f n other))
@@ -119,16 +119,41 @@ module _ (w : Window) (p : WindowPast) (stands : StandsForPast w p) (runs : p.is
           ∙ ap (λ (es : List Numbered). entered_job p.sequence es n i)
           (sym (late_changes_nothing (base_above p.before) p.size p.entries f late))
           ∙ is))
-      | inr early ↦ all_offered w p stands runs f n i job
-          (no_job (window_job w n i)
-          (λ was at. none-some was (sym none ∙ window_keeps w p stands n i was at)))
-          (unforgotten (window_enters w f) later later_stands n i job
-          (ap (λ k. is_forgotten (window_enters w f) later later_stands k i) same
-          ∙ stays_here early) is)
+      | inr early ↦ (same, early)
     ]
   ]
 
-  -- and nothing else is
+  -- it is offered
+  pub newly_offered : (n i : ℕ) (job : Job) → job_before n i ≡ None → job_behind n i ≡ Some job
+      → is_job_among (offered_jobs w (window_enters w f) f) job ≡ true
+  newly_offered n i job none is =
+      let here = newly_here n i job none is in
+      all_offered w p stands runs f n i job
+      (no_job (window_job w n i)
+      (λ was at. none-some was (sym none ∙ window_keeps w p stands n i was at)))
+      (unforgotten (window_enters w f) later later_stands n i job
+      (ap (λ k. is_forgotten (window_enters w f) later later_stands k i) here.0
+      ∙ stays_here here.1) is)
+
+  -- and its picture isn't closed
+  pub newly_open : 1 ≤ p.size → (n i : ℕ) (job : Job) → job_before n i ≡ None
+      → job_behind n i ≡ Some job → is_closed p.size later.entries n ≡ false
+  unfolding is_closed greatest
+  newly_open some n i job none is =
+      let here = newly_here n i job none is in
+      let e : Numbered = record { number = m; part = f.part } in
+      let grown : greatest later.entries ≡ greatest (p.entries ++ e ∷ []) =
+      ap greatest (early_enters (base_above p.before) p.size p.entries f here.1) in
+      ap (is_closed p.size later.entries) here.0
+      ∙ lt-leb (m + p.size) (greatest later.entries) (omega (
+        arith,
+        grown,
+        greatest-append p.entries (e ∷ []),
+        early_is p.size p.entries m here.1,
+        some,
+      ))
+
+  -- nothing else is offered
   pub only_newly : (job : Job) → is_job_among (offered_jobs w (window_enters w f) f) job ≡ true
       → (job_behind job.number job.index ≡ Some job) × (job_before job.number job.index ≡ None)
   only_newly job there =

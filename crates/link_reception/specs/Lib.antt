@@ -5,3 +5,4 @@ pub mod Releasing
 pub mod Entering
 pub mod Standing
 pub mod WholeBooks
+pub mod SlicesOut

@@ -1,10 +1,10 @@
 ghost use Rattle.std.specs.Prelude.{◌≡◌, ℕ, ◌≤◌, true, false, List, [], ◌∷◌, ◌++◌, Some, None};
-ghost use Rattle.link_model.specs.Feeders.{Feeder, new_feeder, releasable, kept_job};
+ghost use Rattle.link_model.specs.Feeders.{Feeder, new_feeder, has_released, releasable, kept_job};
 ghost use Rattle.link_model.specs.Feeding.{hears_datagram, hears_end};
 ghost use Rattle.link_model.specs.Judgement.{outcome_behind, tally_of};
 ghost use Rattle.link_model.specs.Machine.{Enter, Finish};
 ghost use Rattle.link_model.specs.Next.{next_feeder, taken_back};
-ghost use Rattle.link_model.specs.Output.{output_so_far, full_output};
+ghost use Rattle.link_model.specs.Output.{output_so_far, full_output, is_closed_in};
 ghost use Rattle.link_model.specs.Places.{Job};
 ghost use Rattle.link_model.specs.Session.{Fragment, sessions_of};
 ghost use Rattle.link_model.specs.Windows.{Window, WindowPast, StandsForPast, window_enters};
@@ -14,7 +14,8 @@ ghost use Rattle.link_reception.specs.Entering.{takes_end, end_bytes};
 ghost use Rattle.link_reception.specs.Exchanging.{Exchange, all_exchanged, dones_in};
 ghost use Rattle.link_reception.specs.Exchanging.{window_job, offered_jobs, is_job_among};
 ghost use Rattle.link_reception.specs.Judging.{judged, keeps_datagram, ends_input};
-ghost use Rattle.link_reception.specs.Receptions.{Reception, new_reception};
+ghost use Rattle.link_reception.specs.Receptions.{Reception, new_reception, kept_answer};
+ghost use Rattle.link_reception.specs.SlicesOut.{AreOutKept, ArePutsOf, is_job_out};
 ghost use Rattle.link_reception.specs.Standing.{StandsFor, StandsForHeard, AreDecodings};
 ghost use Rattle.link_reception.specs.Standing.{out_without, with_picture_counts};
 ghost use Rattle.link_reception.specs.Standing.{leaves_pictures, LeavesSession, frames_written};
@@ -79,6 +80,50 @@ pub fn each_new_slice_is_offered()
         → kept_job size (sessions_of datagrams) n i ≡ None
         → kept_job size (sessions_of (datagrams ++ d ∷ [])) n i ≡ Some job
         → is_job_among (datagram_jobs r d) job ≡ true }
+{}
+
+/// A datagram offers nothing else: each of its jobs is that of a slice which a picture of the
+/// datagrams keeps with it, and didn't keep before. The picture is still open behind the datagram,
+/// it wasn't released, and the slice has no answer.
+pub fn only_new_slices_are_offered()
+    ensures kept { (r : Reception) (size : ℕ) (datagrams : List (List ℕ)) (d : List ℕ)
+        → StandsForHeard r size datagrams false → size ≤ 8
+        → (job : Job) → is_job_among (datagram_jobs r d) job ≡ true
+        → (kept_job size (sessions_of (datagrams ++ d ∷ [])) job.number job.index ≡ Some job)
+        × (kept_job size (sessions_of datagrams) job.number job.index ≡ None) }
+    ensures unclosed { (r : Reception) (size : ℕ) (datagrams : List (List ℕ)) (d : List ℕ)
+        → StandsForHeard r size datagrams false → 1 ≤ size → size ≤ 8
+        → (job : Job) → is_job_among (datagram_jobs r d) job ≡ true
+        → is_closed_in size (sessions_of (datagrams ++ d ∷ [])) job.number ≡ false }
+    ensures unreleased { (r : Reception) (size : ℕ) (f : Feeder) → size ≤ 8 → StandsFor r size f
+        → f.has_ended ≡ false → (d : List ℕ)
+        → (job : Job) → is_job_among (datagram_jobs r d) job ≡ true
+        → has_released f job.number ≡ false }
+    ensures unanswered { (r : Reception) (size : ℕ) (f : Feeder) → size ≤ 8 → StandsFor r size f
+        → f.has_ended ≡ false → (d : List ℕ)
+        → (job : Job) → is_job_among (datagram_jobs r d) job ≡ true
+        → kept_answer r.answers job.number job.index ≡ None }
+{}
+
+/// The slice of a job that a datagram offers isn't out, where each that is out is one which a
+/// picture keeps. So it is for a new receiver, and so it stays as offered jobs are put into places
+/// and come back, as pictures are released, and at the end, where nothing is offered.
+pub fn offered_slices_are_not_out()
+    ensures not_out { (r : Reception) (size : ℕ) (datagrams : List (List ℕ)) (d : List ℕ)
+        → size ≤ 8 → StandsForHeard r size datagrams false
+        → AreOutKept size (sessions_of datagrams) r.out
+        → (job : Job) → is_job_among (datagram_jobs r d) job ≡ true
+        → is_job_out r.out job ≡ false }
+    ensures none { (size : ℕ) → AreOutKept size (sessions_of []) (new_reception size).out }
+    ensures datagram { (r : Reception) (size : ℕ) (datagrams : List (List ℕ)) (d : List ℕ)
+        → size ≤ 8 → StandsForHeard r size datagrams false
+        → AreOutKept size (sessions_of datagrams) r.out
+        → (exchanges : List Exchange) → ArePutsOf (datagram_jobs r d) exchanges
+        → AreOutKept size (sessions_of (datagrams ++ d ∷ [])) (takes_datagram r d exchanges).out }
+    ensures at_end { (r : Reception) (size : ℕ) (datagrams : List (List ℕ))
+        → AreOutKept size (sessions_of datagrams) r.out
+        → (exchanges : List Exchange) → ArePutsOf [] exchanges
+        → AreOutKept size (sessions_of datagrams) (takes_end r exchanges).out }
 {}
 
 /// The slices of the pictures that a call releases aren't out any more behind it, and all others

@@ -1,0 +1,183 @@
+-- The slices that are out are such as a picture keeps, whatever becomes of them, so that the slice
+-- of a job that a datagram offers isn't out.
+use Rattle.std.proofs.Common.{◌≡◌, ℕ, zero, suc, ◌≤◌, Bool, true, false, refl, ap, sym, subst, ◌∙◌}
+use Rattle.std.proofs.Common.{List, [], ◌∷◌, ◌++◌, Option, Some, None, cond}
+use Rattle.std.specs.Prelude.{◌==◌, ◌||◌, is_some, filter}
+use Rattle.std.specs.Option.{option_map_or}
+use Rattle.std.proofs.lemmas.Bool.{and_parts, both_ways, eqb-true, false≢true}
+use Rattle.link_model.specs.Feeders.{kept_job}
+use Rattle.link_model.specs.Places.{Job, Answered}
+use Rattle.link_model.specs.Session.{HeardSession, Session, hears, sessions_of}
+use Rattle.link_model.specs.Windows.{Releasable}
+use Rattle.link_model.proofs.Hearing.{sessions_of_more}
+use Rattle.link_reception.specs.Entering.{before_releases, datagram_jobs, opens_session}
+use Rattle.link_reception.specs.Entering.{takes_datagram, takes_end}
+use Rattle.link_reception.specs.Exchanging.{Exchange, Proposed, Fetched, all_exchanged, out_at}
+use Rattle.link_reception.specs.Exchanging.{back_from, is_job_among, is_wanted, not_at, takes_done}
+use Rattle.link_reception.specs.Judging.{ends_input, keeps_datagram, session_opened}
+use Rattle.link_reception.specs.Receptions.{Reception, SliceOut, StandingSession, keeps_answer}
+use Rattle.link_reception.specs.Releasing.{book_count, is_of_other, next_picture, releases_all}
+use Rattle.link_reception.specs.Releasing.{releases_from, releases_picture_of, releases_up_to}
+use Rattle.link_reception.specs.SlicesOut.{AreOutKept, ArePutsOf, is_its_slice, is_job_out}
+use Rattle.link_reception.specs.Standing.{StandsForHeard}
+use Rattle.link_reception.proofs.DatagramJobs.{only_jobs}
+use Rattle.link_reception.proofs.SessionPictures.{job_stays}
+
+module _ (size : ℕ) (hs : List HeardSession) where
+  abbrev IsKeptSlice : ℕ → ℕ → Type 0
+  IsKeptSlice n i = is_some (kept_job size hs n i) ≡ true
+
+  -- ---- fewer, and one more
+
+  kept_filter : (test : SliceOut → Bool) (out : List SliceOut) → AreOutKept size hs out
+      → AreOutKept size hs (filter test out)
+  kept_filter test [] kept = tt
+  kept_filter test (slice ∷ rest) kept = by_test (test slice) (kept_filter test rest kept.1)
+    where
+      by_test : (b : Bool) → AreOutKept size hs (filter test rest)
+          → AreOutKept size hs (cond b (slice ∷ filter test rest) (filter test rest))
+      by_test true more = (kept.0, more)
+      by_test false more = more
+
+  kept_more : (out : List SliceOut) (slice : SliceOut) → AreOutKept size hs out
+      → IsKeptSlice slice.number slice.index → AreOutKept size hs (out ++ slice ∷ [])
+  kept_more [] slice kept its = (its, tt)
+  kept_more (first ∷ rest) slice kept its = (kept.0, kept_more rest slice kept.1 its)
+
+  -- ---- calls to the places
+
+  done_out : (r : Reception) (done : Answered) → (takes_done r done).out ≡ r.out
+  unfolding takes_done
+  done_out r done = by_test (is_wanted r done)
+    where
+      by_test : (b : Bool) → (cond b (record r { answers = keeps_answer r.answers done }) r).out
+          ≡ r.out
+      by_test true = refl
+      by_test false = refl
+
+  pub exchanges_kept : (jobs : List Job)
+      → ((job : Job) → is_job_among jobs job ≡ true → IsKeptSlice job.number job.index)
+      → (xs : List Exchange) (r : Reception) → AreOutKept size hs r.out → ArePutsOf jobs xs
+      → AreOutKept size hs (all_exchanged r xs).out
+  exchanges_kept jobs each [] r kept offers = kept
+  exchanges_kept jobs each (Proposed job None ∷ xs) r kept offers =
+      exchanges_kept jobs each xs r kept offers.1
+  exchanges_kept jobs each (Proposed job (Some place) ∷ xs) r kept offers =
+      exchanges_kept jobs each xs (record r { out = r.out ++ out_at job place ∷ [] })
+      (kept_more r.out (out_at job place) kept (each job offers.0)) offers.1
+  exchanges_kept jobs each (Fetched place None ∷ xs) r kept offers =
+      exchanges_kept jobs each xs r kept offers
+  exchanges_kept jobs each (Fetched place (Some done) ∷ xs) r kept offers =
+      exchanges_kept jobs each xs (takes_done (back_from r place) done)
+      (subst (AreOutKept size hs) (sym (done_out (back_from r place) done))
+      (kept_filter (not_at place) r.out kept)) offers
+
+  -- ---- releases
+
+  release_kept : (r : Reception) (picture : Releasable) → AreOutKept size hs r.out
+      → AreOutKept size hs (releases_picture_of r picture).out
+  release_kept r picture kept = by_standing r.standing
+    where
+      by_standing : (o : Option StandingSession)
+          → AreOutKept size hs (option_map_or (releases_from r picture) o r).out
+      by_standing None = kept
+      by_standing (Some st) = kept_filter (is_of_other picture.number) r.out kept
+
+  pub releases_kept : (k : ℕ) (r : Reception) → AreOutKept size hs r.out
+      → AreOutKept size hs (releases_up_to k r).out
+  unfolding releases_up_to
+  releases_kept zero r kept = kept
+  releases_kept (suc k) r kept = by_next (next_picture r)
+      (λ picture. releases_kept k (releases_picture_of r picture) (release_kept r picture kept))
+    where
+      by_next : (o : Option Releasable)
+          → ((picture : Releasable)
+          → AreOutKept size hs (releases_up_to k (releases_picture_of r picture)).out)
+          → AreOutKept size hs (option_map_or
+          (λ picture. releases_up_to k (releases_picture_of r picture)) o r).out
+      by_next None each = kept
+      by_next (Some picture) each = each picture
+
+  -- ---- the end of the input, where nothing is offered
+
+  pub end_out_kept : (r : Reception) → AreOutKept size hs r.out → (exchanges : List Exchange)
+      → ArePutsOf [] exchanges → AreOutKept size hs (takes_end r exchanges).out
+  unfolding takes_end
+  end_out_kept r kept exchanges offers =
+      releases_kept (book_count (all_exchanged (ends_input r) exchanges))
+      (all_exchanged (ends_input r) exchanges)
+      (exchanges_kept [] (λ job there. absurd (false≢true there)) exchanges (ends_input r) kept
+      offers)
+
+  -- ---- one that no picture keeps isn't out
+
+  unkept_not_out : (job : Job) → kept_job size hs job.number job.index ≡ None
+      → (out : List SliceOut) → AreOutKept size hs out → is_job_out out job ≡ false
+  unkept_not_out job none [] kept = refl
+  unkept_not_out job none (slice ∷ rest) kept =
+      by_test (is_its_slice job slice) refl (unkept_not_out job none rest kept.1)
+    where
+      by_test : (b : Bool) → is_its_slice job slice ≡ b → is_job_out rest job ≡ false
+          → (b || is_job_out rest job) ≡ false
+      by_test false at later = later
+      by_test true at later =
+          let same = and_parts (slice.number == job.number) (slice.index == job.index) at in
+          absurd (both_ways (is_some (kept_job size hs slice.number slice.index))
+          (ap (λ n. is_some (kept_job size hs n slice.index))
+          (eqb-true slice.number job.number same.0)
+          ∙ ap (λ i. is_some (kept_job size hs job.number i))
+          (eqb-true slice.index job.index same.1)
+          ∙ ap (λ (o : Option Job). is_some o) none)
+          kept.0)
+
+  -- ---- what is kept stays so
+
+  more_heard : size ≤ 8 → (d : List ℕ) (out : List SliceOut) → AreOutKept size hs out
+      → AreOutKept size (hears hs d) out
+  more_heard small d [] kept = tt
+  more_heard small d (slice ∷ rest) kept = (
+    by_job (kept_job size hs slice.number slice.index) refl kept.0,
+    more_heard small d rest kept.1,
+  )
+    where
+      by_job : (o : Option Job) → kept_job size hs slice.number slice.index ≡ o
+          → is_some o ≡ true
+          → is_some (kept_job size (hears hs d) slice.number slice.index) ≡ true
+      by_job None at e = absurd (false≢true e)
+      by_job (Some job) at e = ap (λ (o : Option Job). is_some o)
+          (job_stays slice.number slice.index size small hs d job at)
+
+-- ---- a datagram
+
+module _ (r : Reception) (size : ℕ) (datagrams : List (List ℕ)) (d : List ℕ) (small : size ≤ 8)
+    (stands : StandsForHeard r size datagrams false)
+    (kept : AreOutKept size (sessions_of datagrams) r.out) where
+  abbrev longer : List HeardSession
+  longer = sessions_of (datagrams ++ d ∷ [])
+
+  pub offered_not_out : (job : Job) → is_job_among (datagram_jobs r d) job ≡ true
+      → is_job_out r.out job ≡ false
+  offered_not_out job there = unkept_not_out size (sessions_of datagrams) job
+      (only_jobs r size datagrams d stands small job there).1 r.out kept
+
+  kept_longer : AreOutKept size longer r.out
+  kept_longer = subst (λ (l : List HeardSession). AreOutKept size l r.out)
+      (sym (sessions_of_more datagrams d))
+      (more_heard size (sessions_of datagrams) small d r.out kept)
+
+  opened_same : (o : Option Session) (now : Reception) → (opens_session o now).out ≡ now.out
+  opened_same None now = refl
+  opened_same (Some s) now = refl
+
+  pub datagram_out_kept : (exchanges : List Exchange) → ArePutsOf (datagram_jobs r d) exchanges
+      → AreOutKept size longer (takes_datagram r d exchanges).out
+  unfolding takes_datagram keeps_datagram
+  datagram_out_kept exchanges offers =
+      let behind = before_releases r d exchanges in
+      subst (AreOutKept size longer)
+      (sym (opened_same (session_opened r d) (releases_all behind)))
+      (releases_kept size longer (book_count behind) behind
+      (exchanges_kept size longer (datagram_jobs r d)
+      (λ job there. ap (λ (o : Option Job). is_some o)
+      (only_jobs r size datagrams d stands small job there).0)
+      exchanges (keeps_datagram r d) kept_longer offers))
