@@ -1,12 +1,12 @@
 -- A ring stays one by each of its steps.
 use Rattle.std.proofs.Common.{◌≡◌, ℕ, suc, ◌+◌, ◌<◌, ◌^◌, Bool, true, false, cond, List, [], ◌∷◌, length}
-use Rattle.std.proofs.Common.{Some, None, Result, Ok, Err, refl, ap, sym, subst, ◌∙◌, arith}
+use Rattle.std.proofs.Common.{Some, None, Result, Ok, Err, refl, ap, sym, subst, ◌∙◌, arith, inl, inr}
 use Rattle.std.proofs.Common.{length-set, eqb-true}
 use Rattle.std.specs.Prelude.{◌&&◌, ◌||◌, ◌==◌, not, nat_lt, OnOk, OnErr, position, slice_set, bytes_eq}
 use Rattle.std.specs.List.{list_any, position_or_len}
-use Rattle.std.proofs.lemmas.Bool.{and_parts, and_from, false≢true, lt-ltb}
+use Rattle.std.proofs.lemmas.Bool.{and_parts, and_from, cases_lt, false≢true, lt-ltb}
 use Rattle.std.proofs.lemmas.Option.{none-some}
-use Rattle.std.proofs.lemmas.List.{set-get_or, length-replicate}
+use Rattle.std.proofs.lemmas.List.{get_or_past, set-get_or, length-replicate}
 use Rattle.std.proofs.lemmas.List.Quantifiers.{position-Some}
 use Rattle.std.proofs.lemmas.Slice.Eq.{bytes_eq-Decides}
 use Rattle.link_model.proofs.PlacesKept.{puts_apart, puts_own, claims_apart}
@@ -62,6 +62,13 @@ module _ (places : List JobPlace) (place : ℕ) where
   pub same_places : (new : JobPlace) → new ≡ place_at places place → slice_set places place new ≡ places
   same_places new same = ap (slice_set places place) same ∙ set-get_or places place unused_place
 
+  -- a place that waits is there
+  pub waiting_within : is_in Waiting (place_at places place) ≡ true → place < length places
+  waiting_within waits = elim (cases_lt place (length places)) [
+    | inl within ↦ within
+    | inr past ↦ absurd (false≢true (sym (ap (is_in Waiting) (get_or_past places place unused_place past)) ∙ waits))
+  ]
+
 pub place_is : (p : JobPlace) (serial : ℕ) (content : Content) → serial ≡ p.serial → p.content ≡ content → p ≡ record { serial = serial; content = content }
 place_is p serial content number there = λ i. record { serial = (sym number) i; content = there i }
 
@@ -77,11 +84,21 @@ module _ (places : List JobPlace) (ring : IsRing places) where
   put_ring job place nowhere = ring_with place (record { serial = (place_at places place).serial + 1; content = Offered job })
       (puts_apart places place job (nothing_stands places job nowhere) ring.apart) (puts_own places place job ring.own)
 
+  pub put_ring_at : (job : Job) (place : ℕ) → stands_in places job.number job.index ≡ false → IsRing (puts_job places place job)
+  put_ring_at job place nowhere = ring_with place (record { serial = (place_at places place).serial + 1; content = Offered job })
+      (puts_apart places place job nowhere ring.apart) (puts_own places place job ring.own)
+
   -- ---- claim
 
   pub claim_ring : (worker place : ℕ) → IsRing (claims_job places worker place)
   claim_ring worker place = ring_with place (record (place_at places place) { content = claimed_by worker (place_at places place).content })
       (claims_apart places worker place ring.apart) (claims_own places worker place ring.own)
+
+  pub claimed_ring : {X E : Type 0} (r : Result X E) (worker place : ℕ) (old new : JobPlace) → old ≡ place_at places place
+      → OnOk r (new ≡ record old { content = claimed_by worker old.content }) → OnErr r (new ≡ old) → IsRing (slice_set places place new)
+  claimed_ring (Ok x) worker place old new read done kept =
+      subst (λ (p : JobPlace). IsRing (slice_set places place p)) (sym (done ∙ ap (λ (p : JobPlace). (let q : JobPlace = record p { content = claimed_by worker p.content } in q)) read)) (claim_ring worker place)
+  claimed_ring (Err e) worker place old new read done kept = subst IsRing (sym (same_places places place new (kept ∙ read))) ring
 
   -- ---- take, withdraw, leave
 

@@ -50,12 +50,26 @@ completing p given done = completing_by p given done p.content
 abbrev pub complete_answer : List JobPlace → ℕ → ℕ → SliceDone → Completed
 complete_answer places place given done = completing (place_at places place) given done
 
+-- the job that is held there
+abbrev pub held_in : Content → Option Job
+held_in (Claimed worker job) = Some job
+held_in other = None
+
+-- and that with this serial
+abbrev pub held_with : JobPlace → ℕ → Option Job
+held_with p serial = if p.serial == serial then held_in p.content else None
+
 -- P holds where the completion was stale
 abbrev pub IfStale : Completed → Type 0 → Type 0
 IfStale (Err (Stale kept state given done)) P = P
 IfStale other P = Unit {0}
 
 -- ---- take, withdraw, leave
+
+-- what is done there
+abbrev pub done_in : Content → Option Answered
+done_in (Decoded done) = Some done
+done_in other = None
 
 abbrev pub taking_from : Content → Result Answered NotYet
 taking_from (Decoded done) = Ok done

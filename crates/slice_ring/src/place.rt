@@ -1,10 +1,11 @@
 ghost use Rattle.std.specs.Prelude.{◌≡◌, ◌+◌, IfOk, OnOk, OnErr, Err, true};
+ghost use Rattle.std.specs.Option.{option_copied, option_map};
 ghost use Rattle.std.specs.Result.{result_map_both};
 ghost use Rattle.link_model.specs.Places.{Nothing, Offered, Decoded, unused_place, state_of, is_in};
 ghost use Rattle.link_model.specs.Places.{is_free, has_slice, is_of_slice, claimed_by};
 ghost use Rattle.link_model.specs.declared.place_state.PlaceState.TheVariants.{Waiting};
 ghost use Rattle.slice_ring.specs.Calls.{completing, stale, taking_from, withdrawing_from};
-ghost use Rattle.slice_ring.specs.Calls.{leaving_from};
+ghost use Rattle.slice_ring.specs.Calls.{leaving_from, held_with, done_in};
 ghost use Rattle.slice_ring.specs.Jobs.{job_of, done_of, content_of};
 
 use crate::answers::{CompleteRefusal, NotHeld, NotWaiting, NotYet};
@@ -90,6 +91,25 @@ impl RingPlace {
             Stage::Empty => false,
             Stage::Waiting(job) | Stage::Held(_, job) => is_of_slice(job, number, index),
             Stage::Done(done) => is_of_slice(&done.job, number, index),
+        }
+    }
+
+    /// The job that a worker holds with this serial.
+    pub(crate) fn held_job(&self, serial: u64) -> Option<&SliceJob>
+        ensures { option_map job_of (option_copied result) ≡ held_with self.now serial }
+    {
+        match &self.stage {
+            Stage::Held(_, job) if self.serial == serial => Some(job),
+            _ => None,
+        }
+    }
+
+    pub(crate) fn done(&self) -> Option<&SliceDone>
+        ensures { option_map done_of (option_copied result) ≡ done_in self.now.content }
+    {
+        match &self.stage {
+            Stage::Done(done) => Some(done),
+            _ => None,
         }
     }
 

@@ -1,15 +1,15 @@
-ghost use Rattle.std.specs.Prelude.{◌≡◌, IfOk, IfSome, IsNone, OnOk, OnErr, Ok, true, position};
-ghost use Rattle.std.specs.Option.{option_map, option_map_or};
+ghost use Rattle.std.specs.Prelude.{◌≡◌, IfOk, IfSome, IsNone, OnOk, OnErr, Ok, true, false, position};
+ghost use Rattle.std.specs.Option.{option_copied, option_map, option_map_or};
 ghost use Rattle.std.specs.Result.{result_map_both};
 ghost use Rattle.link_model.specs.Machine as machine;
 ghost use Rattle.link_model.specs.Machine.{is_legal_on_places};
 ghost use Rattle.link_model.specs.Places.{Offered, unused_places, place_at, is_in, is_free};
-ghost use Rattle.link_model.specs.Places.{has_slice, puts_job, claims_job, completes_job};
-ghost use Rattle.link_model.specs.Places.{frees_place};
+ghost use Rattle.link_model.specs.Places.{has_slice, may_put, stands_in, state_of, puts_job};
+ghost use Rattle.link_model.specs.Places.{claims_job, completes_job, frees_place};
 ghost use Rattle.link_model.specs.Places.{AreApart, HaveOwnAnswers};
 ghost use Rattle.link_model.specs.declared.place_state.PlaceState.TheVariants.{Waiting};
 ghost use Rattle.slice_ring.specs.Calls.{put_answer, complete_answer, IfStale, taking_from};
-ghost use Rattle.slice_ring.specs.Calls.{withdrawing_from, leaving_from};
+ghost use Rattle.slice_ring.specs.Calls.{withdrawing_from, leaving_from, held_with, done_in};
 ghost use Rattle.slice_ring.specs.Jobs.{job_of, done_of};
 
 use crate::answers::{Claim, CompleteRefusal, NotHeld, NotWaiting, NotYet, PutRefusal};
@@ -176,6 +176,69 @@ impl Ring {
             });
         }
         self.places[place as usize].leave()
+    }
+
+    /// The state of a place. A place past the last is empty.
+    pub fn state(&self, place: u32) -> PlaceState
+        ensures { result ≡ state_of (place_at self.now place).content }
+    {
+        match self.places.get(place as usize) {
+            Some(p) => p.state(),
+            None => PlaceState::Empty,
+        }
+    }
+
+    /// Whether the place is there, and empty with a serial below 2^61.
+    pub fn may_put(&self, place: u32) -> bool
+        ensures { result ≡ may_put self.now place }
+    {
+        match self.places.get(place as usize) {
+            Some(p) => p.is_free(),
+            None => false,
+        }
+    }
+
+    /// Whether a place has a job of this slice.
+    pub fn stands_in(&self, number: u64, index: u32) -> bool
+        ensures { result ≡ stands_in self.now number index }
+    {
+        self.places.iter().any(|p| p.has_slice(number, index))
+    }
+
+    /// The job that a worker holds in a place with this serial.
+    pub fn held_job(&self, place: u32, serial: u64) -> Option<&SliceJob>
+        ensures { option_map job_of (option_copied result)
+            ≡ held_with (place_at self.now place) serial }
+    {
+        self.places.get(place as usize)?.held_job(serial)
+    }
+
+    /// What is done in a place.
+    pub fn done(&self, place: u32) -> Option<&SliceDone>
+        ensures { option_map done_of (option_copied result)
+            ≡ done_in (place_at self.now place).content }
+    {
+        self.places.get(place as usize)?.done()
+    }
+
+    /// A job comes to this place. No place may have a job of its slice.
+    pub fn put_at(&mut self, place: u32, job: SliceJob)
+        requires free { may_put self.old place ≡ true }
+        requires apart { stands_in self.old job.number job.index ≡ false }
+        ensures put { self.new ≡ puts_job self.old place (job_of job) }
+    {
+        self.places[place as usize].put(job);
+    }
+
+    /// The job that waits in this place is held by the worker, who gets a copy of it.
+    pub fn claim_at(&mut self, worker: u32, place: u32) -> Result<SliceJob, NoMemory>
+        requires waiting { is_in Waiting (place_at self.old place) ≡ true }
+        ensures job { IfOk result (λ job.
+            (place_at self.old place).content ≡ Offered (job_of job)) }
+        ensures claimed { OnOk result (self.new ≡ claims_job self.old worker place) }
+        ensures unchanged { OnErr result (self.new ≡ self.old) }
+    {
+        self.places[place as usize].claim(worker)
     }
 }
 
