@@ -3,11 +3,12 @@
 #![tactic(auto)]
 
 mod answers;
+mod comparing;
 mod place;
 mod ring;
-mod same_job;
 
 pub use answers::{Claim, CompleteRefusal, NotHeld, NotWaiting, NotYet, PutRefusal};
+pub use comparing::same_job;
 pub use link_model::PlaceState;
 pub use ring::Ring;
 

@@ -9,7 +9,7 @@ ghost use Rattle.slice_ring.specs.Calls.{leaving_from, held_with, done_in};
 ghost use Rattle.slice_ring.specs.Jobs.{job_of, done_of, content_of};
 
 use crate::answers::{CompleteRefusal, NotHeld, NotWaiting, NotYet};
-use crate::same_job::same_job;
+use crate::comparing::same_job;
 use link_model::PlaceState;
 use std::marker::Model;
 use std::mem;

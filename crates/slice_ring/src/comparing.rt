@@ -9,7 +9,7 @@ use vc_slice::SliceJob;
 use vc_types::{Plan, Shape};
 
 /// Whether two jobs have the same plan, number, index and bytes.
-pub(crate) fn same_job(a: &SliceJob, b: &SliceJob) -> bool
+pub fn same_job(a: &SliceJob, b: &SliceJob) -> bool
     ensures { result ≡ is_same_job (job_of a.now) (job_of b.now) }
 {
     same_plan(&a.plan, &b.plan)

@@ -1,0 +1,158 @@
+-- The books of pictures have what the pictures keep.
+use Rattle.std.proofs.Common.{◌≡◌, ℕ, ◌<◌, ◌≤◌, Bool, true, false, cond, List, [], ◌∷◌, length, Option, Some}
+use Rattle.std.proofs.Common.{None, Result, Ok, Err, refl, ap, sym, subst, ◌∙◌, arith, inl, inr}
+use Rattle.std.specs.Prelude.{◌&&◌, ◌||◌, not, is_some, IfOk}
+use Rattle.std.specs.Option.{option_and_then, option_map}
+use Rattle.std.proofs.lemmas.Bool.{cases_lt, false≢true}
+use Rattle.std.proofs.lemmas.Option.{same_Some, none-some}
+use Rattle.link_model.specs.Books.{Book, book_of, book_by, book_plan, book_slice}
+use Rattle.link_model.specs.Feeders.{EnteredSession, entered_session, session_opening, keeps_of}
+use Rattle.link_model.specs.Feeders.{picture_keeps, job_by, kept_job}
+use Rattle.link_model.specs.Kept.{KeptParameters, Own, own, own_slice}
+use Rattle.link_model.specs.Numbers.{is_opened, parts_of}
+use Rattle.link_model.specs.Output.{entered_behind}
+use Rattle.link_model.specs.Places.{Job}
+use Rattle.link_model.specs.Session.{HeardSession, Part}
+use Rattle.link_model.specs.Windows.{book_at}
+use Rattle.link_model.proofs.Bookkeeping.{book_slice_is}
+use Rattle.link_model.proofs.Slots.{own_slice_inside}
+use Rattle.link_model.proofs.WholeBytes.{own_slice_whole}
+use Rattle.link_core.proofs.HeardSessions.{IsSessionOf, IsFound, session_found}
+use Rattle.link_core.specs.Hearing.{SessionWindow, session_windows, AreHeard, session_among, book_among}
+use Rattle.link_core.specs.Pictures.{IsPictureBook, job_of_slice, book_job}
+use Rattle.vc_types.specs.PictureBytes.{IsWholeSlice}
+use Rattle.vc_types.specs.SequenceHeader.{Sequence}
+use Rattle.vc_types.specs.Slices.{slice_length}
+use Rattle.vc_types.specs.Subbands.{slice_count}
+use Rattle.vc_types.specs.TransformParameters.{Parameters}
+use Rattle.vc_types.proofs.WholeSlices.{whole_slice}
+
+-- ---- the book of a picture
+
+abbrev pub entered_book : ℕ → EnteredSession → Book
+entered_book n e = book_of e.sequence (parts_of n e.entries)
+
+module _ (size : ℕ) where
+  pub opening_opens : (hs : List HeardSession) (n : ℕ) (e : EnteredSession) → session_opening size hs n ≡ Some e → is_opened e.entries n ≡ true
+  unfolding session_opening
+  opening_opens [] n e found = absurd (none-some e found)
+  opening_opens (h ∷ hs) n e found = by_opened (is_opened (entered_behind size hs h) n) refl found (opening_opens hs n e)
+    where
+      by_opened : (b : Bool) → is_opened (entered_behind size hs h) n ≡ b → cond b (Some (entered_session size hs h)) (session_opening size hs n) ≡ Some e
+          → (session_opening size hs n ≡ Some e → is_opened e.entries n ≡ true) → is_opened e.entries n ≡ true
+      by_opened true is found rest = ap (λ (e : EnteredSession). is_opened e.entries n) (sym (same_Some (entered_session size hs h) e found)) ∙ is
+      by_opened false is found rest = rest found
+
+  pub book_among_is : (hs : List HeardSession) (n : ℕ) → book_among (session_windows size hs) n ≡ option_map (entered_book n) (session_opening size hs n)
+  book_among_is hs n = by_found (session_among (session_windows size hs) n) (session_opening size hs n) (session_found size hs n) (opening_opens hs n)
+    where
+      by_found : (o : Option SessionWindow) (p : Option EnteredSession) → IsFound o p → ((e : EnteredSession) → p ≡ Some e → is_opened e.entries n ≡ true)
+          → option_and_then (λ (s : SessionWindow). book_at s.window.books n) o ≡ option_map (entered_book n) p
+      by_found None None found opens = refl
+      by_found (Some s) (Some e) found opens = found.book n ∙ ap (λ (b : Bool). cond b (Some (entered_book n e)) None) (opens e refl)
+      by_found None (Some e) found opens = absurd found
+      by_found (Some s) None found opens = absurd found
+
+  pub among_is_book : (hs : List HeardSession) (n : ℕ) (book : Book) → book_among (session_windows size hs) n ≡ Some book → IsPictureBook book
+  among_is_book hs n book is = by_opening (session_opening size hs n) (sym (book_among_is hs n) ∙ is)
+    where
+      by_opening : (o : Option EnteredSession) → option_map (entered_book n) o ≡ Some book → IsPictureBook book
+      by_opening None e = absurd (none-some book e)
+      by_opening (Some e) same = record { sequence = e.sequence; parts = parts_of n e.entries; is = sym (same_Some (entered_book n e) book same) }
+
+-- what is found among sessions that were heard
+pub found_is_book : (ss : List SessionWindow) (n : ℕ) (book : Book) → (size : ℕ) × AreHeard size ss → book_among ss n ≡ Some book → IsPictureBook book
+found_is_book ss n book heard is = among_is_book heard.0 heard.1.0 n book (sym (ap (λ (l : List SessionWindow). book_among l n) heard.1.1) ∙ is)
+
+-- ---- jobs
+
+module _ (s : Sequence) (parts : List Part) where
+  slice_of_kept : (kept : Own) → own s parts ≡ Some kept → (i : ℕ) → book_slice (book_of s parts) i ≡ own_slice kept i
+  slice_of_kept kept is i = book_slice_is s parts i ∙ ap (option_and_then (λ (kept : Own). own_slice kept i)) is
+
+  pub plan_of_kept : (kept : Own) → own s parts ≡ Some kept → book_plan (book_of s parts) ≡ Some kept.plan
+  unfolding book_of
+  plan_of_kept kept is = ap (λ (o : Option Own). book_plan (book_by s parts o)) is
+
+  pub plan_of_none : own s parts ≡ None → book_plan (book_of s parts) ≡ None
+  unfolding book_of
+  plan_of_none is = ap (λ (o : Option Own). book_plan (book_by s parts o)) is
+
+  pub book_job_is : (n i : ℕ) → book_job (book_of s parts) n i ≡ option_and_then (λ (kept : Own). job_by kept n i) (own s parts)
+  book_job_is n i = by_own (own s parts) refl
+    where
+      by_own : (o : Option Own) → own s parts ≡ o → book_job (book_of s parts) n i ≡ option_and_then (λ (kept : Own). job_by kept n i) o
+      by_own None is = ap (option_and_then (λ plan. option_map (job_of_slice plan n i) (book_slice (book_of s parts) i))) (plan_of_none is)
+      by_own (Some kept) is =
+          ap (option_and_then (λ plan. option_map (job_of_slice plan n i) (book_slice (book_of s parts) i))) (plan_of_kept kept is)
+          ∙ ap (option_map (job_of_slice kept.plan n i)) (slice_of_kept kept is i)
+
+  -- a slice that is kept is whole, and one of the picture's
+  abbrev IsOfPlan : KeptParameters → ℕ → List ℕ → Type 0
+  IsOfPlan plan i bytes = IsWholeSlice plan.parameters bytes × (i < slice_count plan.parameters)
+
+  kept_of_plan : (kept : Own) → own s parts ≡ Some kept → (i : ℕ) (bytes : List ℕ) → own_slice kept i ≡ Some bytes → IsOfPlan kept.plan i bytes
+  kept_of_plan kept is i bytes slice = (
+    own_slice_whole s parts kept is (λ b len e. whole_slice kept.plan.parameters.prefix kept.plan.parameters.scaler b len e) i bytes slice,
+    elim (cases_lt i (slice_count kept.plan.parameters)) [
+      | inl within ↦ within
+      | inr past ↦ absurd (none-some bytes (sym (own_slice_inside s parts kept is i past) ∙ slice))
+    ],
+  )
+
+  slice_of_plan : (plan : KeptParameters) (i : ℕ) (bytes : List ℕ) → book_plan (book_of s parts) ≡ Some plan → book_slice (book_of s parts) i ≡ Some bytes → IsOfPlan plan i bytes
+  slice_of_plan plan i bytes planned slice = by_own (own s parts) refl
+    where
+      by_own : (o : Option Own) → own s parts ≡ o → IsOfPlan plan i bytes
+      by_own None is = absurd (none-some plan (sym (plan_of_none is) ∙ planned))
+      by_own (Some kept) is = subst (λ (p : KeptParameters). IsOfPlan p i bytes) (same_Some kept.plan plan (sym (plan_of_kept kept is) ∙ planned))
+          (kept_of_plan kept is i bytes (sym (slice_of_kept kept is i) ∙ slice))
+
+-- parameters and the bytes of a slice, as a book gives them
+module _ (book : Book) (p : Parameters) (n i : ℕ) (bytes : List ℕ)
+    (planned : Some p ≡ option_map (λ (plan : KeptParameters). plan.parameters) (book_plan book)) (slice : Some bytes ≡ book_slice book i) where
+  pub given_slice : IsPictureBook book → (slice_length p.prefix p.scaler bytes ≡ Some (length bytes)) × (i < slice_count p)
+  given_slice is = by_plan (book_plan book) refl planned
+    where
+      by_plan : (o : Option KeptParameters) → book_plan book ≡ o → Some p ≡ option_map (λ (plan : KeptParameters). plan.parameters) o
+          → (slice_length p.prefix p.scaler bytes ≡ Some (length bytes)) × (i < slice_count p)
+      by_plan None at e = absurd (none-some p (sym e))
+      by_plan (Some plan) at e =
+          let same : plan.parameters ≡ p = same_Some plan.parameters p (sym e) in
+          subst (λ (p : Parameters). (slice_length p.prefix p.scaler bytes ≡ Some (length bytes)) × (i < slice_count p)) same
+          (slice_of_plan is.sequence is.parts plan i bytes (sym (ap book_plan is.is) ∙ at) (sym (ap (λ (b : Book). book_slice b i) is.is) ∙ sym slice))
+
+  pub given_job : Some (record { plan = p; number = n; index = i; bytes = bytes }) ≡ book_job book n i
+  given_job = by_plan (book_plan book) planned ∙ ap (λ (o : Option (List ℕ)). option_and_then (λ plan. option_map (job_of_slice plan n i) o) (book_plan book)) slice
+    where
+      by_plan : (o : Option KeptParameters) → Some p ≡ option_map (λ (plan : KeptParameters). plan.parameters) o
+          → Some (record { plan = p; number = n; index = i; bytes = bytes }) ≡ option_and_then (λ plan. option_map (job_of_slice plan n i) (Some bytes)) o
+      by_plan None e = absurd (none-some p (sym e))
+      by_plan (Some plan) e = ap (λ (q : Parameters). Some (record { plan = q; number = n; index = i; bytes = bytes })) (same_Some p plan.parameters e)
+
+pub kept_job_is : (size : ℕ) (hs : List HeardSession) (n i : ℕ)
+    → option_and_then (λ (b : Book). book_job b n i) (book_among (session_windows size hs) n) ≡ kept_job size hs n i
+unfolding kept_job
+kept_job_is size hs n i =
+    ap (option_and_then (λ (b : Book). book_job b n i)) (book_among_is size hs n)
+    ∙ by_opening (session_opening size hs n)
+  where
+    by_opening : (o : Option EnteredSession) → option_and_then (λ (b : Book). book_job b n i) (option_map (entered_book n) o)
+        ≡ option_and_then (λ (kept : Own). job_by kept n i) (option_and_then (λ (e : EnteredSession). keeps_of e n) o)
+    by_opening None = refl
+    by_opening (Some e) = book_job_is e.sequence (parts_of n e.entries) n i
+
+-- what was found in the sessions
+pub job_found : (size : ℕ) (hs : List HeardSession) (n i : ℕ) (ss : List SessionWindow) (o : Option Book)
+    → o ≡ book_among ss n → ss ≡ session_windows size hs → option_and_then (λ (b : Book). book_job b n i) o ≡ kept_job size hs n i
+job_found size hs n i ss o is same =
+    ap (option_and_then (λ (b : Book). book_job b n i)) (is ∙ ap (λ (l : List SessionWindow). book_among l n) same)
+    ∙ kept_job_is size hs n i
+
+-- a result that is told in other words
+pub if_ok_is : {X E Y : Type 0} (f : X → Y) (r : Result X E) (a b : Y) → IfOk r (λ x. f x ≡ a) → a ≡ b → IfOk r (λ x. f x ≡ b)
+if_ok_is f (Ok x) a b is same = is ∙ same
+if_ok_is f (Err e) a b is same = tt
+
+pub if_ok_by : {X E Y : Type 0} (r : Result X E) (f : X → Y) (a b : Y) → IfOk r (λ x. f x ≡ a) → a ≡ b → IfOk r (λ x. f x ≡ b)
+if_ok_by r f a b is same = if_ok_is f r a b is same

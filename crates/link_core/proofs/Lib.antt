@@ -1,0 +1,11 @@
+pub mod HeardSessions
+pub mod KeptBooks
+pub mod PictureStates
+pub mod NextReleases
+pub mod Stepping
+pub mod Completions
+pub mod Ranges
+pub mod Shaped
+pub mod Weavable
+pub mod BuiltFrames
+pub mod SoundAnswers

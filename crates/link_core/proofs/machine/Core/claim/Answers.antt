@@ -1,0 +1,9 @@
+use Rattle.std.proofs.Common.{ap, Bool, [], ◌∷◌}
+use Rattle.link_model.specs.Machine as machine
+use Rattle.link_core.proofs.Stepping.{machine_of, reached_by, legal_if}
+use Rattle.link_core.proofs.machine.Core.claim.Goals as goal
+
+pub invariant_of-self-2 : goal.invariant_of-self-2
+invariant_of-self-2 c = reached_by c.self.inside.window c.self.inside.feeder c.self.inside.feeder c.self.inside.ring c.claim_at.new.self c.self.invariant (machine.Claim c.args.worker c.args.place)
+    (legal_if c.self.inside.window c.self.inside.feeder c.self.inside.ring (machine.Claim c.args.worker c.args.place) (c.is_waiting.result ∷ []) c.in_ok-all_of_1.ensures (ap (λ (b : Bool). b ∷ []) c.is_waiting.ensures))
+    (ap (machine_of c.self.inside.feeder) c.in_ok-claim_at.ensures.claimed)

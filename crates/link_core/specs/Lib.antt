@@ -1,0 +1,6 @@
+pub mod Events
+pub mod Cores
+pub mod Hearing
+pub mod Pictures
+pub mod Frames
+pub mod Shapes
