@@ -1,5 +1,5 @@
 -- Windows of sessions go on as sessions do, and have the book of each picture that is opened.
-use Rattle.std.proofs.Common.{◌≡◌, ℕ, ◌+◌, ◌-◌, ◌^◌, ◌<◌, max, Bool, true, false, cond, List, [], ◌∷◌, ◌++◌}
+use Rattle.std.proofs.Common.{◌≡◌, ℕ, ◌+◌, ◌-◌, ◌^◌, ◌<◌, Bool, true, false, cond, List, [], ◌∷◌, ◌++◌}
 use Rattle.std.proofs.Common.{length, Option, Some, None, refl, ap, sym, subst, ◌∙◌, arith, inl, inr}
 use Rattle.std.specs.Prelude.{◌&&◌, ◌||◌, not, nat_le, fold, is_some, slice_index_or, take}
 use Rattle.std.specs.Option.{option_map_or}
@@ -7,7 +7,7 @@ use Rattle.std.proofs.lemmas.Bool.{cases_Bool, false≢true, leb-false}
 use Rattle.std.proofs.lemmas.List.{take_more}
 use Rattle.link_model.specs.Books.{Book, book_of}
 use Rattle.link_model.specs.Feeders.{EnteredSession, entered_session, session_opening}
-use Rattle.link_model.specs.Numbers.{Numbered, greatest, base_above, enters, entered, is_closed}
+use Rattle.link_model.specs.Numbers.{Numbered, greatest, base_above, enters, is_closed}
 use Rattle.link_model.specs.Numbers.{is_late, is_opened, parts_of, picture_number}
 use Rattle.link_model.specs.Output.{greatest_of, entered_behind}
 use Rattle.link_model.specs.Session.{Session, Fragment, HeardSession, just_opened, opens_next}
@@ -19,9 +19,9 @@ use Rattle.link_model.proofs.Hearing.{sessions_of_more}
 use Rattle.link_model.proofs.Numbering.{late_changes_nothing, early_enters, greatest-append}
 use Rattle.link_model.proofs.WindowNumbers.{session_greatest, session_enters, session_stays}
 use Rattle.link_model.proofs.WindowStands.{new_stands, enters_stands, book_is}
-use Rattle.link_core.specs.Hearing.{SessionWindow, session_windows, window_with, session_hears}
+use Rattle.link_core.specs.Hearing.{SessionWindow, session_windows, window_with}
 use Rattle.link_core.specs.Hearing.{last_hears, opens_beside, greatest_in, begun_behind}
-use Rattle.link_core.specs.Hearing.{sessions_hear, AreHeard, has_book, session_among}
+use Rattle.link_core.specs.Hearing.{sessions_hear, AreHeard, session_among}
 
 -- ---- the greatest number
 

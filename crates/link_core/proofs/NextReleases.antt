@@ -1,14 +1,12 @@
 -- The next picture to be released, of the windows of all sessions.
-use Rattle.std.proofs.Common.{◌≡◌, ℕ, suc, ◌+◌, ◌-◌, ◌^◌, ◌<◌, ◌≤◌, Bool, true, false, cond, List, [], ◌∷◌, ◌++◌}
+use Rattle.std.proofs.Common.{◌≡◌, ℕ, ◌-◌, ◌^◌, ◌<◌, Bool, true, false, cond, List, [], ◌∷◌, ◌++◌}
 use Rattle.std.proofs.Common.{Option, Some, None, refl, ap, sym, subst, ◌∙◌, arith}
-use Rattle.std.specs.Prelude.{not, nat_le, filter, slice_get, slice_index_or, length}
+use Rattle.std.specs.Prelude.{not, slice_get, slice_index_or, length}
 use Rattle.std.specs.List.{remove}
 use Rattle.std.specs.Option.{option_and_then, option_map, option_or}
 use Rattle.std.proofs.lemmas.Bool.{leb-false}
 use Rattle.std.proofs.lemmas.Option.{same_Some, none-some}
 use Rattle.link_model.specs.Feeders.{is_among, not_released, heard_pictures, let_go_pictures}
-use Rattle.link_model.specs.Numbers.{opened_numbers}
-use Rattle.link_model.specs.Output.{entered_behind, let_go_numbers}
 use Rattle.link_model.specs.Session.{HeardSession}
 use Rattle.link_model.specs.Windows.{NumberedBook, Window, Releasable, WindowPast, StandsForPast}
 use Rattle.link_model.specs.Windows.{released_up_to, first_unreleased, if_let_go, next_release}

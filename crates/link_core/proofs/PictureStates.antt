@@ -1,9 +1,9 @@
 -- Whether a picture is closed, and whether it is ready, by the windows of the sessions.
 use Rattle.std.proofs.Common.{◌≡◌, ℕ, ◌+◌, Bool, true, false, cond, List, [], ◌∷◌, Option, Some, None}
-use Rattle.std.proofs.Common.{refl, ap, sym, subst, ◌∙◌}
+use Rattle.std.proofs.Common.{refl, ap, sym, ◌∙◌}
 use Rattle.std.specs.Prelude.{◌||◌, not, nat_le, is_some}
 use Rattle.std.specs.Option.{option_and_then, option_map, option_map_or}
-use Rattle.link_model.specs.Books.{Book, book_of, book_by, book_plan, book_whole}
+use Rattle.link_model.specs.Books.{Book, book_of, book_plan}
 use Rattle.link_model.specs.Complete.{has_all_slices, all_bytes, whole_of, whole_picture}
 use Rattle.link_model.specs.Feeders.{SliceAnswer, EnteredSession, entered_session, session_opening}
 use Rattle.link_model.specs.Feeders.{keeps_of, picture_keeps, kept_job, is_ready}
@@ -16,7 +16,7 @@ use Rattle.link_model.specs.Windows.{greatest_behind, session_past, window_of}
 use Rattle.link_model.proofs.Bookkeeping.{book_whole_is}
 use Rattle.link_model.proofs.PicturesHeard.{session_before, session_opened}
 use Rattle.link_model.proofs.PicturesStay.{kept_slice}
-use Rattle.link_core.proofs.KeptBooks.{entered_book, book_among_is, plan_of_kept, plan_of_none}
+use Rattle.link_core.proofs.KeptBooks.{entered_book, book_among_is, plan_of_kept}
 use Rattle.link_core.specs.Hearing.{SessionWindow, session_windows, book_among, closed_among}
 use Rattle.link_core.specs.Pictures.{book_ready, answers_plan}
 use Rattle.vc_types.specs.SequenceHeader.{Sequence}

@@ -7,8 +7,8 @@ use Rattle.std.proofs.lemmas.Option.{same_Some, none-some}
 use Rattle.std.specs.Option.{option_map, option_map_or}
 use Rattle.link_model.specs.Feeders.{Feeder, is_closed_now, is_decoded, is_kept, slice_job}
 use Rattle.link_model.specs.Feeding.{takes_answer, with_answer}
-use Rattle.link_model.specs.Interleavings.{machine_after, IsRun, AreOwnAnswers}
-use Rattle.link_model.specs.Machine.{Machine, Event, IsLegal, AreLegal, conditions, first_broken}
+use Rattle.link_model.specs.Interleavings.{AreOwnAnswers}
+use Rattle.link_model.specs.Machine.{Machine, Event, IsLegal, AreLegal, conditions}
 use Rattle.link_model.specs.Machine.{happens, run, new_machine}
 use Rattle.link_model.specs.Machine.{Put, Take, Redo, takes_from}
 use Rattle.link_model.specs.Places.{Job, Answered, own_answer, Content, Nothing, Offered, Claimed}
@@ -22,7 +22,7 @@ use Rattle.link_model.proofs.PicturesStay.{kept_slice}
 use Rattle.link_core.specs.Cores.{CoreState, IsReached, core_after, Steps}
 use Rattle.link_core.specs.Events.{refused_by, verdict}
 use Rattle.link_core.specs.declared.event.StepRefusal.{StepRefusal}
-use Rattle.link_core.specs.declared.event.StepRefusal.TheVariants.{NotLegal, NoMemory}
+use Rattle.link_core.specs.declared.event.StepRefusal.TheVariants.{NotLegal}
 
 -- ---- refusals
 

@@ -1,5 +1,4 @@
 use Rattle.std.proofs.Common.{ap, ◌∙◌, arith}
-use Rattle.std.proofs.lemmas.Bool.{ltb-true}
 use Rattle.link_core.specs.Hearing.{greatest_in}
 use Rattle.link_core.proofs.HeardSessions.{heard_small, first_running}
 use Rattle.link_core.proofs.session.hear.Goals as goal

@@ -1,4 +1,4 @@
-use Rattle.std.proofs.Common.{ap, refl, Bool, [], ◌∷◌}
+use Rattle.std.proofs.Common.{ap, Bool, [], ◌∷◌}
 use Rattle.std.specs.Prelude.{not}
 use Rattle.link_model.specs.Feeders.{Feeder}
 use Rattle.link_model.specs.Machine as machine

@@ -1,7 +1,7 @@
 use Rattle.std.proofs.Common.{ap, Bool, [], ◌∷◌}
 use Rattle.link_model.specs.Machine as machine
 use Rattle.slice_ring.specs.Jobs.{done_of}
-use Rattle.link_core.proofs.Stepping.{machine_of, reached_by, legal_if, taken_is}
+use Rattle.link_core.proofs.Stepping.{reached_by, legal_if, taken_is}
 use Rattle.link_core.proofs.machine.Core.take.Goals as goal
 
 pub invariant_of-self-2 : goal.invariant_of-self-2
