@@ -6,7 +6,7 @@ use Rattle.std.specs.Option.{option_and_then, option_map, option_map_or}
 use Rattle.std.proofs.lemmas.Bool.{false≢true, and_parts}
 use Rattle.std.proofs.Common.{eqb-true}
 use Rattle.std.proofs.lemmas.Option.{same_Some, none-some}
-use Rattle.link_core.specs.Frames.{plan_planes, answered_planes, window_planes, window_bytes}
+use Rattle.link_core.specs.Frames.{plan_planes, answered_book_planes, window_planes, window_bytes}
 use Rattle.link_core.specs.Frames.{sessions_bytes, IsAnswered, HasAnsweredBooks}
 use Rattle.link_core.specs.Hearing.{SessionWindow, session_windows, session_among}
 use Rattle.link_core.proofs.HeardSessions.{IsSessionOf, IsFound, session_found}
@@ -97,10 +97,10 @@ answer_own size hs (a ∷ later) n i answer each e = by_test (a.number == n && a
 -- ---- the session of the window
 
 module _ (decoded : List SliceAnswer) (s : SessionWindow) (e : EnteredSession) (of : IsSessionOf s e) where
-  planes_of_book : (n : ℕ) → answered_planes decoded n (book_of e.sequence (parts_of n e.entries)) ≡ built_planes decoded e n
+  planes_of_book : (n : ℕ) → answered_book_planes decoded n (book_of e.sequence (parts_of n e.entries)) ≡ built_planes decoded e n
   planes_of_book n = by_own (own e.sequence (parts_of n e.entries)) refl
     where
-      by_own : (o : Option Own) → own e.sequence (parts_of n e.entries) ≡ o → answered_planes decoded n (book_of e.sequence (parts_of n e.entries)) ≡ option_and_then (planes_by decoded n) o
+      by_own : (o : Option Own) → own e.sequence (parts_of n e.entries) ≡ o → answered_book_planes decoded n (book_of e.sequence (parts_of n e.entries)) ≡ option_and_then (planes_by decoded n) o
       by_own None is = ap (option_and_then (plan_planes decoded n)) (plan_of_none e.sequence (parts_of n e.entries) is)
       by_own (Some kept) is = ap (option_and_then (plan_planes decoded n)) (plan_of_kept e.sequence (parts_of n e.entries) kept is)
 
@@ -112,9 +112,9 @@ module _ (decoded : List SliceAnswer) (s : SessionWindow) (e : EnteredSession) (
   unopened n none = sym (ap (option_and_then (planes_by decoded n)) (ap (own e.sequence) (no_parts (parts_of n e.entries) none) ∙ own_nothing e.sequence))
 
   window_planes_are : (n : ℕ) → window_planes decoded s.window n ≡ built_planes decoded e n
-  window_planes_are n = ap (option_and_then (answered_planes decoded n)) (of.book n) ∙ by_opened (is_opened e.entries n) refl
+  window_planes_are n = ap (option_and_then (answered_book_planes decoded n)) (of.book n) ∙ by_opened (is_opened e.entries n) refl
     where
-      by_opened : (b : Bool) → is_opened e.entries n ≡ b → option_and_then (answered_planes decoded n) (cond b (Some (book_of e.sequence (parts_of n e.entries))) None) ≡ built_planes decoded e n
+      by_opened : (b : Bool) → is_opened e.entries n ≡ b → option_and_then (answered_book_planes decoded n) (cond b (Some (book_of e.sequence (parts_of n e.entries))) None) ≡ built_planes decoded e n
       by_opened true is = planes_of_book n
       by_opened false is = unopened n is
 

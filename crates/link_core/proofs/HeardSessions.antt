@@ -20,7 +20,7 @@ use Rattle.link_model.proofs.Numbering.{late_changes_nothing, early_enters, grea
 use Rattle.link_model.proofs.WindowNumbers.{session_greatest, session_enters, session_stays}
 use Rattle.link_model.proofs.WindowStands.{new_stands, enters_stands, book_is}
 use Rattle.link_core.specs.Hearing.{SessionWindow, session_windows, window_with}
-use Rattle.link_core.specs.Hearing.{last_hears, opens_beside, greatest_in, begun_behind}
+use Rattle.link_core.specs.Hearing.{last_hears, opens_beside, greatest_among, begun_behind}
 use Rattle.link_core.specs.Hearing.{sessions_hear, AreHeard, session_among}
 
 -- ---- the greatest number
@@ -66,13 +66,13 @@ greatest_small size (h ∷ hs) = omega (
   all_small (base_above (greatest_of size hs)) size [] h.fragments nothing_small,
 )
 
-pub greatest_is : (size : ℕ) (hs : List HeardSession) → greatest_in (session_windows size hs) ≡ greatest_of size hs
+pub greatest_is : (size : ℕ) (hs : List HeardSession) → greatest_among (session_windows size hs) ≡ greatest_of size hs
 unfolding greatest_of
 greatest_is size [] = refl
 greatest_is size (h ∷ hs) = session_greatest size hs h []
 
-pub heard_small : (size : ℕ) (ss : List SessionWindow) → AreHeard size ss → greatest_in ss < bound
-heard_small size ss heard = subst (λ n. n < bound) (sym (ap greatest_in heard.1 ∙ greatest_is size heard.0)) (greatest_small size heard.0)
+pub heard_small : (size : ℕ) (ss : List SessionWindow) → AreHeard size ss → greatest_among ss < bound
+heard_small size ss heard = subst (λ n. n < bound) (sym (ap greatest_among heard.1 ∙ greatest_is size heard.0)) (greatest_small size heard.0)
 
 -- ---- windows of sessions
 

@@ -18,7 +18,7 @@ use Rattle.link_model.proofs.Slots.{own_slice_inside}
 use Rattle.link_model.proofs.WholeBytes.{own_slice_whole}
 use Rattle.link_core.proofs.HeardSessions.{IsFound, session_found}
 use Rattle.link_core.specs.Hearing.{SessionWindow, session_windows, AreHeard, session_among, book_among}
-use Rattle.link_core.specs.Pictures.{IsPictureBook, job_of_slice, book_job}
+use Rattle.link_core.specs.Pictures.{IsPictureBook, job_of_slice, job_in_book}
 use Rattle.vc_types.specs.PictureBytes.{IsWholeSlice}
 use Rattle.vc_types.specs.SequenceHeader.{Sequence}
 use Rattle.vc_types.specs.Slices.{slice_length}
@@ -77,10 +77,10 @@ module _ (s : Sequence) (parts : List Part) where
   unfolding book_of
   plan_of_none is = ap (λ (o : Option Own). book_plan (book_by s parts o)) is
 
-  pub book_job_is : (n i : ℕ) → book_job (book_of s parts) n i ≡ option_and_then (λ (kept : Own). job_by kept n i) (own s parts)
+  pub book_job_is : (n i : ℕ) → job_in_book (book_of s parts) n i ≡ option_and_then (λ (kept : Own). job_by kept n i) (own s parts)
   book_job_is n i = by_own (own s parts) refl
     where
-      by_own : (o : Option Own) → own s parts ≡ o → book_job (book_of s parts) n i ≡ option_and_then (λ (kept : Own). job_by kept n i) o
+      by_own : (o : Option Own) → own s parts ≡ o → job_in_book (book_of s parts) n i ≡ option_and_then (λ (kept : Own). job_by kept n i) o
       by_own None is = ap (option_and_then (λ plan. option_map (job_of_slice plan n i) (book_slice (book_of s parts) i))) (plan_of_none is)
       by_own (Some kept) is =
           ap (option_and_then (λ plan. option_map (job_of_slice plan n i) (book_slice (book_of s parts) i))) (plan_of_kept kept is)
@@ -121,7 +121,7 @@ module _ (book : Book) (p : Parameters) (n i : ℕ) (bytes : List ℕ)
           subst (λ (p : Parameters). (slice_length p.prefix p.scaler bytes ≡ Some (length bytes)) × (i < slice_count p)) same
           (slice_of_plan is.sequence is.parts plan i bytes (sym (ap book_plan is.is) ∙ at) (sym (ap (λ (b : Book). book_slice b i) is.is) ∙ sym slice))
 
-  pub given_job : Some (record { plan = p; number = n; index = i; bytes = bytes }) ≡ book_job book n i
+  pub given_job : Some (record { plan = p; number = n; index = i; bytes = bytes }) ≡ job_in_book book n i
   given_job = by_plan (book_plan book) planned ∙ ap (λ (o : Option (List ℕ)). option_and_then (λ plan. option_map (job_of_slice plan n i) o) (book_plan book)) slice
     where
       by_plan : (o : Option KeptParameters) → Some p ≡ option_map (λ (plan : KeptParameters). plan.parameters) o
@@ -130,22 +130,22 @@ module _ (book : Book) (p : Parameters) (n i : ℕ) (bytes : List ℕ)
       by_plan (Some plan) e = ap (λ (q : Parameters). Some (record { plan = q; number = n; index = i; bytes = bytes })) (same_Some p plan.parameters e)
 
 pub kept_job_is : (size : ℕ) (hs : List HeardSession) (n i : ℕ)
-    → option_and_then (λ (b : Book). book_job b n i) (book_among (session_windows size hs) n) ≡ kept_job size hs n i
+    → option_and_then (λ (b : Book). job_in_book b n i) (book_among (session_windows size hs) n) ≡ kept_job size hs n i
 unfolding kept_job
 kept_job_is size hs n i =
-    ap (option_and_then (λ (b : Book). book_job b n i)) (book_among_is size hs n)
+    ap (option_and_then (λ (b : Book). job_in_book b n i)) (book_among_is size hs n)
     ∙ by_opening (session_opening size hs n)
   where
-    by_opening : (o : Option EnteredSession) → option_and_then (λ (b : Book). book_job b n i) (option_map (entered_book n) o)
+    by_opening : (o : Option EnteredSession) → option_and_then (λ (b : Book). job_in_book b n i) (option_map (entered_book n) o)
         ≡ option_and_then (λ (kept : Own). job_by kept n i) (option_and_then (λ (e : EnteredSession). keeps_of e n) o)
     by_opening None = refl
     by_opening (Some e) = book_job_is e.sequence (parts_of n e.entries) n i
 
 -- what was found in the sessions
 pub job_found : (size : ℕ) (hs : List HeardSession) (n i : ℕ) (ss : List SessionWindow) (o : Option Book)
-    → o ≡ book_among ss n → ss ≡ session_windows size hs → option_and_then (λ (b : Book). book_job b n i) o ≡ kept_job size hs n i
+    → o ≡ book_among ss n → ss ≡ session_windows size hs → option_and_then (λ (b : Book). job_in_book b n i) o ≡ kept_job size hs n i
 job_found size hs n i ss o is same =
-    ap (option_and_then (λ (b : Book). book_job b n i)) (is ∙ ap (λ (l : List SessionWindow). book_among l n) same)
+    ap (option_and_then (λ (b : Book). job_in_book b n i)) (is ∙ ap (λ (l : List SessionWindow). book_among l n) same)
     ∙ kept_job_is size hs n i
 
 -- a result that is told in other words

@@ -7,7 +7,7 @@ use Rattle.std.specs.Option.{option_and_then, option_map}
 use Rattle.std.proofs.lemmas.List.{append_assoc, append-nil}
 use Rattle.std.proofs.lemmas.Option.{same_Some, none-some}
 use Rattle.link_core.proofs.Ranges.{range_step}
-use Rattle.link_core.specs.Frames.{plan_planes, answered_planes, IsAnswered, IsAnsweredBook}
+use Rattle.link_core.specs.Frames.{plan_planes, answered_book_planes, IsAnswered, IsAnsweredBook}
 use Rattle.link_model.specs.Books.{Book, book_plan}
 use Rattle.link_model.specs.Feeders.{SliceAnswer, answer_in}
 use Rattle.link_model.specs.Feeding.{sound_answer, sound_answers, with_first}
@@ -92,16 +92,16 @@ module _ (decoded : List SliceAnswer) (n : ℕ) where
         by_plan None at e = absurd (none-some p (sym e))
         by_plan (Some plan) at e = (plan, at, sym (same_Some p plan.parameters e))
 
-    planes_are : answered_planes decoded n book ≡ option_map (planes_of p) (sound_answers decoded n (range_with_len 0 (slice_count p)))
+    planes_are : answered_book_planes decoded n book ≡ option_map (planes_of p) (sound_answers decoded n (range_with_len 0 (slice_count p)))
     planes_are =
         ap (option_and_then (plan_planes decoded n)) plan_there.1
         ∙ ap (λ (q : Parameters). option_map (planes_of q) (sound_answers decoded n (range_with_len 0 (slice_count q)))) plan_there.2
 
-    pub no_planes : None ≡ sound_answers decoded n (range_with_len 0 (slice_count p)) → None ≡ answered_planes decoded n book
+    pub no_planes : None ≡ sound_answers decoded n (range_with_len 0 (slice_count p)) → None ≡ answered_book_planes decoded n book
     no_planes none = ap (option_map (planes_of p)) none ∙ sym planes_are
 
     module _ (items : List Coefficients) (sound : Some items ≡ sound_answers decoded n (range_with_len 0 (slice_count p))) where
-      pub these_planes : (planes : Planes) → planes ≡ planes_of p items → Some planes ≡ answered_planes decoded n book
+      pub these_planes : (planes : Planes) → planes ≡ planes_of p items → Some planes ≡ answered_book_planes decoded n book
       these_planes planes is = ap Some is ∙ ap (option_map (planes_of p)) sound ∙ sym planes_are
 
       pub slices_count : length items ≡ slice_count p
@@ -119,5 +119,5 @@ module _ (decoded : List SliceAnswer) (n : ℕ) where
             (is_answered.sound k (slice_index_or items k none)
             ((let same : 0 + k ≡ k = omega arith in ap (answer_in decoded n) (sym same)) ∙ (answers_at 0 (slice_count p) items (sym sound)).1 k none (omega (arith, below, slices_count))))
 
-    pub planned_none : book_plan book ≡ None → None ≡ answered_planes decoded n book
+    pub planned_none : book_plan book ≡ None → None ≡ answered_book_planes decoded n book
     planned_none none = sym (ap (option_and_then (plan_planes decoded n)) none)

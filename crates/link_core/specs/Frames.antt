@@ -21,11 +21,11 @@ plan_planes decoded n plan =
     option_map (planes_of plan.parameters)
     (sound_answers decoded n (range_with_len 0 (slice_count plan.parameters)))
 
-abbrev pub answered_planes : List SliceAnswer → ℕ → Book → Option Planes
-answered_planes decoded n book = option_and_then (plan_planes decoded n) (book_plan book)
+abbrev pub answered_book_planes : List SliceAnswer → ℕ → Book → Option Planes
+answered_book_planes decoded n book = option_and_then (plan_planes decoded n) (book_plan book)
 
 abbrev pub window_planes : List SliceAnswer → Window → ℕ → Option Planes
-window_planes decoded w n = option_and_then (answered_planes decoded n) (book_at w.books n)
+window_planes decoded w n = option_and_then (answered_book_planes decoded n) (book_at w.books n)
 
 abbrev pub window_frame : List SliceAnswer → SessionWindow → ℕ → Option Planes
 window_frame decoded s n = frame_of (window_planes decoded s.window) s.session.sequence n

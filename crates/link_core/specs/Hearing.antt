@@ -53,15 +53,15 @@ opens_beside (s ∷ ss) None = None
 opens_beside (s ∷ ss) (Some t) = if s.has_ended && is_other s.session t then Some t else None
 
 -- the greatest number of their pictures
-abbrev pub greatest_in : List SessionWindow → ℕ
-greatest_in [] = 0
-greatest_in (s ∷ ss) = s.window.top
+abbrev pub greatest_among : List SessionWindow → ℕ
+greatest_among [] = 0
+greatest_among (s ∷ ss) = s.window.top
 
 abbrev pub begun_behind : ℕ → List SessionWindow → Session → SessionWindow
 begun_behind size ss t = record {
   session = t;
   has_ended = false;
-  window = new_window t.sequence size (greatest_in ss);
+  window = new_window t.sequence size (greatest_among ss);
 }
 
 abbrev pub sessions_hear : ℕ → List SessionWindow → List ℕ → List SessionWindow

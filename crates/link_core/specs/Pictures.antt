@@ -27,14 +27,15 @@ job_of_slice plan n i bytes = record {
 }
 
 -- the job of a slice that is kept
-abbrev pub book_job : Book → ℕ → ℕ → Option Job
-book_job book n i =
-    option_and_then (λ plan. option_map (job_of_slice plan n i) (book_slice book i)) (book_plan book)
+abbrev pub job_in_book : Book → ℕ → ℕ → Option Job
+job_in_book book n i =
+    option_and_then (λ plan. option_map (job_of_slice plan n i) (book_slice book i))
+    (book_plan book)
 
 -- ---- answers
 
-abbrev pub answer_of : Answered → SliceAnswer
-answer_of done = record {
+abbrev pub slice_answer : Answered → SliceAnswer
+slice_answer done = record {
   number = done.job.number;
   index = done.job.index;
   answer = done.answer;

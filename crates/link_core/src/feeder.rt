@@ -193,8 +193,8 @@ impl FeederPart {
         }
     }
 
-    /// Takes what was decoded as the answer to its slice, if its picture isn't released and has this
-    /// very job, and the slice has no answer.
+    /// Takes what was decoded as the answer to its slice, if the slice has none, and if its picture
+    /// isn't released and has this very job.
     pub(crate) fn accept(
         &mut self,
         alloc: Global,

@@ -2,7 +2,7 @@ ghost use Rattle.std.specs.Prelude.{◌≡◌, ℕ, false, IfOk, IfSome};
 ghost use Rattle.std.specs.List.{range_with_len};
 ghost use Rattle.std.specs.Option.{option_map};
 ghost use Rattle.frame_writer.specs.Samples.{HaveByteSamples};
-ghost use Rattle.link_core.specs.Frames.{answered_planes, window_planes, window_frame};
+ghost use Rattle.link_core.specs.Frames.{answered_book_planes, window_planes, window_frame};
 ghost use Rattle.link_core.specs.Frames.{window_bytes, IsAnsweredBook, HasAnsweredBooks};
 ghost use Rattle.link_core.specs.Shapes.{HaveShape};
 ghost use Rattle.link_model.specs.Feeding as feeding;
@@ -53,7 +53,7 @@ fn book_planes(
 ) -> Result<Option<[Plane; 3]>, NoMemory>
     requires answered { (s : Sequence) × IsAnsweredBook answers.now s number book.now }
     ensures value { IfOk result (λ planes. option_map planes_in planes
-        ≡ answered_planes answers.now number book.now) }
+        ≡ answered_book_planes answers.now number book.now) }
     ensures shape { (s : Sequence) → IsAnsweredBook answers.now s number book.now
         → IfOk result (λ planes. IfSome planes (λ p. HaveShape (picture_shape s) (planes_in p))) }
 {

@@ -1,4 +1,5 @@
-ghost use Rattle.std.specs.Prelude.{◌≡◌, ◌≤◌, ◌==◌, true, false, not, is_some, IfOk, OnOk, OnErr, Ok};
+ghost use Rattle.std.specs.Prelude.{◌≡◌, ◌≤◌, ◌==◌, true, false, not, is_some, IfOk, OnOk, OnErr};
+ghost use Rattle.std.specs.Prelude.{Ok};
 ghost use Rattle.std.specs.Option.{option_map, option_map_or};
 ghost use Rattle.link_core.specs.Cores.{IsReached, Steps};
 ghost use Rattle.link_core.specs.Events.{verdict};

@@ -1,7 +1,7 @@
 ghost use Rattle.std.specs.Prelude.{◌≡◌, ◌≤◌, ℕ, Bool, List, IfOk, Some, slice_get};
 ghost use Rattle.std.specs.Option.{option_copied, option_map};
 ghost use Rattle.link_core.specs.Hearing.{session_windows, book_among, closed_among, AreHeard};
-ghost use Rattle.link_core.specs.Pictures.{IsPictureBook, book_job};
+ghost use Rattle.link_core.specs.Pictures.{IsPictureBook, job_in_book};
 ghost use Rattle.link_model.specs.Feeders as feeders;
 ghost use Rattle.link_model.specs.Feeders.{let_go_pictures, not_released};
 ghost use Rattle.link_model.specs.Output as output;
@@ -22,9 +22,9 @@ pub(crate) fn book_of_picture(sessions: &[OpenSession], number: u64) -> Option<&
 }
 
 // The job of a slice that a picture keeps.
-fn book_job(book: &PictureBook, number: u64, index: u32) -> Result<Option<SliceJob>, NoMemory>
+fn job_in_book(book: &PictureBook, number: u64, index: u32) -> Result<Option<SliceJob>, NoMemory>
     requires book { IsPictureBook book.now }
-    ensures { IfOk result (λ job. option_map job_of job ≡ book_job book.now number index) }
+    ensures { IfOk result (λ job. option_map job_of job ≡ job_in_book book.now number index) }
 {
     let (Some(plan), Some(bytes)) = (book.plan(), book.slice(index)) else {
         return Ok(None);
@@ -52,7 +52,7 @@ pub(crate) fn kept_job(
         ≡ feeders.kept_job size hs number index) }
 {
     match book_of_picture(sessions, number) {
-        Some(book) => book_job(book, number, index),
+        Some(book) => job_in_book(book, number, index),
         None => Ok(None),
     }
 }

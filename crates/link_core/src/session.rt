@@ -1,7 +1,8 @@
 ghost use Rattle.std.specs.Prelude.{◌≡◌, ◌≤◌, ◌<◌, ◌+◌, ◌-◌, ◌^◌, nat_le, OnOk, IfOk, false};
 ghost use Rattle.std.specs.Option.{option_copied, option_map};
 ghost use Rattle.link_core.specs.Hearing.{opened_session, session_windows, session_hears};
-ghost use Rattle.link_core.specs.Hearing.{opens_beside, greatest_in, sessions_hear, AreHeard, session_among};
+ghost use Rattle.link_core.specs.Hearing.{opens_beside, greatest_among, sessions_hear};
+ghost use Rattle.link_core.specs.Hearing.{AreHeard, session_among};
 ghost use Rattle.link_model.specs.Session.{begins, is_other, sessions_of};
 ghost use Rattle.link_model.specs.Feeders.{not_released};
 ghost use Rattle.link_model.specs.Windows.{WindowPast, StandsForPast, book_at, new_window};
@@ -139,7 +140,7 @@ fn opened(sessions: &[OpenSession], datagram: &[u8]) -> Option<Opening>
 
 // The greatest number of their pictures.
 fn greatest(sessions: &[OpenSession]) -> u64
-    ensures { result ≡ greatest_in sessions.now }
+    ensures { result ≡ greatest_among sessions.now }
 {
     match sessions.first() {
         None => 0,
@@ -157,7 +158,8 @@ fn hear(
     requires least { 2 ≤ size }
     requires most { size ≤ 8 }
     requires heard { AreHeard size sessions.old.items }
-    ensures { OnOk result (sessions.new.items ≡ sessions_hear size sessions.old.items datagram.now) }
+    ensures { OnOk result (sessions.new.items
+        ≡ sessions_hear size sessions.old.items datagram.now) }
 {
     if let Some(opening) = opened(sessions, datagram) {
         let greatest = greatest(sessions);

@@ -1,4 +1,5 @@
-ghost use Rattle.std.specs.Prelude.{◌≡◌, IfOk, IfSome, IsNone, OnOk, OnErr, Ok, true, false, position};
+ghost use Rattle.std.specs.Prelude.{◌≡◌, IfOk, IfSome, IsNone, OnOk, OnErr, Ok, true, false};
+ghost use Rattle.std.specs.Prelude.{position};
 ghost use Rattle.std.specs.Option.{option_copied, option_map, option_map_or};
 ghost use Rattle.std.specs.Result.{result_map_both};
 ghost use Rattle.link_model.specs.Machine as machine;

@@ -4,7 +4,7 @@ use Rattle.link_model.specs.Books.{book_plan, book_slice}
 use Rattle.link_model.specs.Kept.{KeptParameters}
 use Rattle.vc_types.specs.TransformParameters.{parameters_of}
 use Rattle.link_core.proofs.KeptBooks.{given_slice}
-use Rattle.link_core.proofs.pictures.book_job.Goals as goal
+use Rattle.link_core.proofs.pictures.job_in_book.Goals as goal
 
 pub invariant_of-result : goal.invariant_of-result
 invariant_of-result c =
