@@ -286,7 +286,9 @@ impl Core {
     }
 }
 
-/// The event happens where it is legal. A refusal changes nothing.
+/// The event happens where each of its conditions holds; else the number of the first one that is
+/// broken is told. A refusal changes nothing. A place that isn't there is neither empty nor
+/// waiting, held or done.
 pub fn step(state: &mut Core, e: Event) -> Result<(), StepRefusal>
     ensures { Steps state.old (machine_event e) result state.new }
 {
