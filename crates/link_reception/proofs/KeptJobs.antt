@@ -11,7 +11,8 @@ use Rattle.link_model.specs.Books.{Book, book_of}
 use Rattle.link_model.specs.Feeders.{EnteredSession, entered_session, session_opening}
 use Rattle.link_model.specs.Feeders.{keeps_of, job_by, kept_job}
 use Rattle.link_model.specs.Kept.{Own, own}
-use Rattle.link_model.specs.Numbers.{Numbered, base_above, has_parts, is_closed, is_opened, parts_of}
+use Rattle.link_model.specs.Numbers.{Numbered, base_above, has_parts, is_closed, is_opened}
+use Rattle.link_model.specs.Numbers.{parts_of}
 use Rattle.link_model.specs.Output.{entered_behind, greatest_of}
 use Rattle.link_model.specs.Places.{Job}
 use Rattle.link_model.specs.Session.{Part, HeardSession, with_datagram, fragment_in}

@@ -15,6 +15,7 @@ pub mod NewlyKept
 pub mod DatagramJobs
 pub mod UnansweredJobs
 pub mod OutKept
+pub mod AllOffered
 pub mod UnkeptDatagrams
 pub mod BuiltPictures
 pub mod Releases

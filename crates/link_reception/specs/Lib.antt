@@ -5,4 +5,5 @@ pub mod Releasing
 pub mod Entering
 pub mod Standing
 pub mod WholeBooks
+pub mod Offered
 pub mod SlicesOut

@@ -9,11 +9,11 @@ ghost use Rattle.link_model.specs.Places.{Job};
 ghost use Rattle.link_model.specs.Session.{Fragment, sessions_of};
 ghost use Rattle.link_model.specs.Windows.{Window, WindowPast, StandsForPast, window_enters};
 ghost use Rattle.link_reception.specs.Entering.{before_releases, datagram_jobs, takes_datagram};
-ghost use Rattle.link_reception.specs.Entering.{datagram_bytes};
-ghost use Rattle.link_reception.specs.Entering.{takes_end, end_bytes};
+ghost use Rattle.link_reception.specs.Entering.{datagram_bytes, takes_end, end_bytes};
 ghost use Rattle.link_reception.specs.Exchanging.{Exchange, all_exchanged, dones_in};
 ghost use Rattle.link_reception.specs.Exchanging.{window_job, offered_jobs, is_job_among};
 ghost use Rattle.link_reception.specs.Judging.{judged, keeps_datagram, ends_input};
+ghost use Rattle.link_reception.specs.Offered.{AreAllOffered, HasJobs};
 ghost use Rattle.link_reception.specs.Receptions.{Reception, new_reception, kept_answer};
 ghost use Rattle.link_reception.specs.SlicesOut.{AreOutKept, ArePutsOf, is_job_out};
 ghost use Rattle.link_reception.specs.Standing.{StandsFor, StandsForHeard, AreDecodings};
@@ -72,14 +72,24 @@ pub fn new_slices_are_offered()
         × (window_job old job.number job.index ≡ None) }
 {}
 
-/// A datagram offers the job of each slice that it newly brings: one that a picture of the datagrams
-/// keeps with it, and didn't keep before. One that opens a session brings none.
+/// A datagram offers the job of each slice that it newly brings: one that a picture keeps with the
+/// datagram, and didn't keep before. One that opens a session brings none.
 pub fn each_new_slice_is_offered()
     ensures { (r : Reception) (size : ℕ) (datagrams : List (List ℕ)) (d : List ℕ)
         → StandsForHeard r size datagrams false → (n i : ℕ) (job : Job)
         → kept_job size (sessions_of datagrams) n i ≡ None
         → kept_job size (sessions_of (datagrams ++ d ∷ [])) n i ≡ Some job
         → is_job_among (datagram_jobs r d) job ≡ true }
+{}
+
+/// Each slice that a picture keeps was offered: no picture keeps one where nothing was heard, and a
+/// datagram whose jobs are offered leaves none that wasn't, if there was none before.
+pub fn every_kept_slice_was_offered()
+    ensures none { (size : ℕ) (offered : List Job) → AreAllOffered size (sessions_of []) offered }
+    ensures datagram { (r : Reception) (size : ℕ) (datagrams : List (List ℕ)) (d : List ℕ)
+        → size ≤ 8 → StandsForHeard r size datagrams false → (offered more : List Job)
+        → AreAllOffered size (sessions_of datagrams) offered → HasJobs more (datagram_jobs r d)
+        → AreAllOffered size (sessions_of (datagrams ++ d ∷ [])) (offered ++ more) }
 {}
 
 /// A datagram offers nothing else: each of its jobs is that of a slice which a picture of the

@@ -8,6 +8,7 @@ fn laws_hold() {
     released_slices_are_not_out();
     new_slices_are_offered();
     each_new_slice_is_offered();
+    every_kept_slice_was_offered();
     only_new_slices_are_offered();
     offered_slices_are_not_out();
     unkept_datagrams_change_nothing();
