@@ -33,7 +33,7 @@ use Rattle.link_reception.proofs.SliceJobs.{same_job_is}
 
 -- ---- jobs among others
 
-same_itself : (job : Job) → is_same_job job job ≡ true
+pub same_itself : (job : Job) → is_same_job job job ≡ true
 same_itself job =
     and_from (same_parameters job.plan job.plan && job.number == job.number
     && job.index == job.index) (bytes_eq job.bytes job.bytes)
