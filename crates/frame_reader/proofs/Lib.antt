@@ -1,0 +1,3 @@
+pub mod SampleRuns
+pub mod ReadBack
+pub mod FrameEnds

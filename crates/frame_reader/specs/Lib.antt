@@ -1,0 +1,3 @@
+pub mod FrameBytes
+pub mod Memory
+pub mod Reading
