@@ -1,3 +1,4 @@
 pub mod SampleRuns
 pub mod ReadBack
 pub mod FrameEnds
+pub mod Holding

@@ -1,3 +1,4 @@
 pub mod FrameBytes
 pub mod Memory
 pub mod Reading
+pub mod WholeFrames
