@@ -1,7 +1,7 @@
 mod Places
 mod Outside
 mod SampleFaults
-mod Numbered
+pub mod Numbered
 mod Packed
 mod Frames
 mod FramePictures

@@ -1,0 +1,9 @@
+pub mod SentMore
+pub mod Stopping
+pub mod ChosenIndices
+pub mod Numbering
+pub mod PuttingEntries
+pub mod TakingFrames
+pub mod FrameSizes
+pub mod FirstFitting
+pub mod LoopSteps

@@ -1,0 +1,110 @@
+use Rattle.std.proofs.Common.{ℕ, ◌+◌, ◌∙◌, ◌++◌, ◌∷◌, ◌^◌, [], List, length, Err, subst, sym, refl, arith, inr, length-append, ◌<◌}
+use Rattle.encode_command.specs.Steps.{FailsAt, IsBehindFrames, IsTaken}
+use Rattle.encode_command.proofs.FrameSizes.{sized}
+use Rattle.encode_command.proofs.LoopSteps.{failed_at, unread_at, more_than_one_byte, none_of, not_read}
+use Rattle.encode_command.proofs.Stopping.{begun, with_frame, could_not_read, past_limit}
+use Rattle.frame_reader.specs.FrameBytes.{frame_length}
+use Rattle.frame_reader.specs.Reading.{GaveFrame, ReadsFrame}
+use Rattle.vc_ports.specs.Reading.{Gave, GaveAll}
+use Rattle.vc_types.specs.declared.shape.Shape.{Shape}
+use Rattle.vc_types.specs.Planes.{Planes, planes_in}
+use Rattle.vc_types.specs.declared.settings.SendSettings.{SendSettings}
+use Rattle.vc_types.specs.SenderSettings.{sending_view}
+use Rattle.encode_command.proofs.command.encode_frames.Goals as goal
+
+pub loop-frame-init : goal.loop-frame-init
+loop-frame-init g c = record {
+  settings = refl;
+  chooser = refl;
+  sent = ([], refl, c.requires.behind, begun (sending_view c.args.encoder.now.sender.settings) _ _ (let some = subst (λ (shape : Shape). 1 < frame_length shape) c.requires.shape (more_than_one_byte c.args.shape.now c.requires.fits) in omega (arith, some)));
+  input_later = omega arith;
+  output_later = omega arith;
+}
+
+pub take-requires-clause-range : goal.take-requires-clause-range
+take-requires-clause-range g c = rw c.loop-frame.invariant.chooser c.requires.range
+
+pub take-requires-clause-chooses : goal.take-requires-clause-chooses
+take-requires-clause-chooses g c = rw (c.loop-frame.invariant.chooser, c.loop-frame.invariant.settings) c.requires.chooses
+
+pub take-requires-clause-sizes : goal.take-requires-clause-sizes
+take-requires-clause-sizes g c =
+    let read = rw c.in-Ok-Some.field-0-is at c.in-Ok-Some.ensures.frame in
+    rw c.loop-frame.invariant.settings (sized (sending_view c.args.encoder.now.sender.settings) c.args.shape.now (planes_in c.in-Ok-Some.planes) _ _ c.requires.shape read)
+
+pub returns-in-Err-take-clause-value : goal.returns-in-Err-take-clause-value
+returns-in-Err-take-clause-value g c =
+    let s = sending_view c.args.encoder.now.sender.settings in
+    let at = c.loop-frame.invariant.sent in
+    let room : length at.0 < c.args.frames = omega (arith, at.1, c.loop-frame-test.true) in
+    let frame = planes_in c.in-Ok-Some.planes in
+    let read = rw c.in-Ok-Some.field-0-is at c.in-Ok-Some.ensures.frame in
+    let gave = subst (λ (shape : Shape). GaveFrame shape (g.S.Source.left c.loop-frame.input) (g.S.Source.left c.read_frame.new.source) frame) c.requires.shape read in
+    let value = subst (λ (st : SendSettings). (sent : List Planes) → length sent + 1 < 2 ^ 32 → IsBehindFrames (sending_view st) sent c.loop-frame.encoder → FailsAt (sending_view st) sent (planes_in c.in-Ok-Some.planes) (g.O.Sink.held c.loop-frame.output) (g.O.Sink.held c.take.new.output) c.in-Err-take.ending) c.loop-frame.invariant.settings c.in-Err-take.ensures.value in
+    failed_at s c.args.frames at.0 _ _ _ _ at.3 room frame gave c.in-Err-take.ending (value at.0 (omega (arith, at.1, c.loop-frame-test.true, c.ranges.frames.fits)) at.2)
+
+pub returns-in-Err-take-clause-input_cause : goal.returns-in-Err-take-clause-input_cause
+returns-in-Err-take-clause-input_cause g c =
+    let s = sending_view c.args.encoder.now.sender.settings in
+    let at = c.loop-frame.invariant.sent in
+    let value = subst (λ (st : SendSettings). (sent : List Planes) → length sent + 1 < 2 ^ 32 → IsBehindFrames (sending_view st) sent c.loop-frame.encoder → FailsAt (sending_view st) sent (planes_in c.in-Ok-Some.planes) (g.O.Sink.held c.loop-frame.output) (g.O.Sink.held c.take.new.output) c.in-Err-take.ending) c.loop-frame.invariant.settings c.in-Err-take.ensures.value in
+    record {
+      later = omega (arith, c.loop-frame.invariant.input_later, c.in-Ok-Some.ensures.cause.later);
+      rose = λ e. absurd (not_read s at.0 (planes_in c.in-Ok-Some.planes) _ _ c.in-Err-take.ending (value at.0 (omega (arith, at.1, c.loop-frame-test.true, c.ranges.frames.fits)) at.2) e);
+    }
+
+pub returns-in-Err-clause-value : goal.returns-in-Err-clause-value
+returns-in-Err-clause-value g c =
+    let s = sending_view c.args.encoder.now.sender.settings in
+    let at = c.loop-frame.invariant.sent in
+    let room : length at.0 < c.args.frames = omega (arith, at.1, c.loop-frame-test.true) in
+    let read = subst (λ (shape : Shape). ReadsFrame shape (g.S.Source.left c.loop-frame.input) (g.S.Source.left c.read_frame.new.source) (Err c.in-Err.fault)) c.requires.shape c.in-Err.ensures.frame in
+    rw (c.unread.ensures, sym at.1) (unread_at s c.args.frames at.0 _ _ _ _ at.3 room c.in-Err.fault read refl)
+
+pub loop-frame-preserved : goal.loop-frame-preserved
+loop-frame-preserved g c =
+    let s = sending_view c.args.encoder.now.sender.settings in
+    let at = c.loop-frame.invariant.sent in
+    let frame = planes_in c.in-Ok-Some.planes in
+    let read = rw c.in-Ok-Some.field-0-is at c.in-Ok-Some.ensures.frame in
+    let gave = subst (λ (shape : Shape). GaveFrame shape (g.S.Source.left c.loop-frame.input) (g.S.Source.left c.read_frame.new.source) frame) c.requires.shape read in
+    let value = subst (λ (st : SendSettings). (sent : List Planes) → length sent + 1 < 2 ^ 32 → IsBehindFrames (sending_view st) sent c.loop-frame.encoder → IsTaken (sending_view st) sent (planes_in c.in-Ok-Some.planes) c.take.new.self (g.O.Sink.held c.loop-frame.output) (g.O.Sink.held c.take.new.output)) c.loop-frame.invariant.settings c.in-Ok.ensures.value in
+    let taken = value at.0 (omega (arith, at.1, c.loop-frame-test.true, c.ranges.frames.fits)) at.2 in
+    let long = length-append at.0 (frame ∷ []) in
+    record {
+      settings = c.in-Ok.ensures.settings ∙ c.loop-frame.invariant.settings;
+      chooser = c.in-Ok.ensures.chooser ∙ c.loop-frame.invariant.chooser;
+      sent = (at.0 ++ frame ∷ [], omega (arith, long, at.1), taken.behind, with_frame s at.0 _ _ _ _ at.3 _ frame gave _ taken.sound taken.grew);
+      input_later = omega (arith, c.loop-frame.invariant.input_later, c.in-Ok-Some.ensures.cause.later);
+      output_later = omega (arith, c.loop-frame.invariant.output_later, c.in-Ok.ensures.cause.later);
+    }
+
+pub returns-in-Whole-clause-value : goal.returns-in-Whole-clause-value
+returns-in-Whole-clause-value g c =
+    let s = sending_view c.args.encoder.now.sender.settings in
+    let at = c.loop-frame.invariant.sent in
+    let long = subst (λ (shape : Shape). 1 < frame_length shape) c.requires.shape (more_than_one_byte c.args.shape.now c.requires.fits) in
+    past_limit s c.args.frames at.0 _ _ _ _ at.3 refl (omega (arith, at.1, c.loop-frame-test.false, c.loop-frame.auto.frame-end)) c.fill.new.buf c.fill.auto.buf long c.in-Whole.ensures.bytes
+
+pub returns-in-End-clause-value : goal.returns-in-End-clause-value
+returns-in-End-clause-value g c =
+    let at = c.loop-frame.invariant.sent in
+    let fills = c.in-End.ensures.bytes in
+    record {
+      frames = at.0;
+      middle = g.S.Source.left c.loop-frame.input;
+      count_is = omega (arith, at.1, c.loop-frame-test.false, c.loop-frame.auto.frame-end);
+      few = omega (arith, at.1, c.loop-frame-test.false, c.loop-frame.auto.frame-end);
+      behind = at.2;
+      sent = at.3;
+      end = subst (λ (bytes : List ℕ). GaveAll (g.S.Source.left c.loop-frame.input) (g.S.Source.left c.fill.new.source) bytes) (none_of c.fill.new.buf c.in-End.field-0 c.fill.auto.buf fills.0) fills.1;
+    }
+
+pub returns-in-Failed-clause-value : goal.returns-in-Failed-clause-value
+returns-in-Failed-clause-value g c =
+    let s = sending_view c.args.encoder.now.sender.settings in
+    let at = c.loop-frame.invariant.sent in
+    let fills = c.in-Failed.ensures.bytes in
+    let long = subst (λ (shape : Shape). 1 < frame_length shape) c.requires.shape (more_than_one_byte c.args.shape.now c.requires.fits) in
+    let gave = subst (λ (bytes : List ℕ). Gave (g.S.Source.left c.loop-frame.input) (g.S.Source.left c.fill.new.source) bytes) (none_of c.fill.new.buf c.in-Failed.field-0 c.fill.auto.buf fills.0) fills.1 in
+    could_not_read s c.args.frames at.0 _ _ _ _ at.3 refl [] (omega (arith, long)) gave (omega (arith, at.1, c.loop-frame.auto.frame-end)) (inr refl)

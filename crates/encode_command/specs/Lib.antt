@@ -1,0 +1,4 @@
+pub mod FramesSent
+pub mod Encodes
+pub mod Looping
+pub mod Steps

@@ -1,0 +1,13 @@
+//! `encode`: raw frames to a capture of the datagrams that carry them, frame by frame.
+#![tactic(auto)]
+
+mod command;
+mod encoder;
+mod fitting;
+mod shape;
+mod totals;
+
+pub use command::encode;
+
+#[cfg(test)]
+mod tests;
