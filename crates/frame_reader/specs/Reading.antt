@@ -9,7 +9,8 @@ use Rattle.vc_types.specs.Planes.{Planes, planes_in}
 use Rattle.vc_types.specs.Rasters.{Raster}
 
 -- a frame's bytes were given
-pub record GaveFrame (shape : Shape) (before after : Option (List ℕ)) (frame : Planes) : Type 0 where
+pub record GaveFrame (shape : Shape) (before after : Option (List ℕ)) (frame : Planes)
+    : Type 0 where
   pub bytes : List ℕ
   pub whole : length bytes ≡ frame_length shape
   pub gave : Gave before after bytes
