@@ -1,7 +1,6 @@
-pub mod EmptySlices
-pub mod EmptySteps
-pub mod StageSteps
-pub mod GreyRows
-pub mod Listening
-pub mod Decoded
+pub mod Asking
+pub mod Due
+pub mod Within
+pub mod Behind
+pub mod Whole
 pub mod Completing

@@ -1,48 +1,68 @@
 -- What decoding a capture did, by how it ended.
-use Rattle.std.specs.Prelude.{◌≡◌, ◌≢◌, ℕ, List, [], Option, Some, None, IsSome}
-use Rattle.link_capture.specs.Capture.{entries_of}
-use Rattle.link_capture.specs.Endings.{GaveEntries}
-use Rattle.link_capture.specs.declared.fault.EntryFault.{EntryFault}
-use Rattle.link_capture.specs.declared.fault.EntryFault.TheVariants as faults
-use Rattle.vc_ports.specs.Changes.{InputChange, OutputChange, HasRisen, Stays, Wrote, WrotePart}
-use Rattle.vc_ports.specs.Reading.{IsAtEnd}
-use Rattle.decode_command.specs.declared.ended.Ended.{Ended}
-use Rattle.decode_command.specs.declared.ended.Ended.TheVariants.{Done, Unbuilt, NoMemory, InputFault, OutputFault, CaptureCut}
-use Rattle.decode_command.specs.OnePicture.{frames_of}
+use Rattle.std.specs.Prelude.{◌≡◌, ℕ, List, [], ◌∷◌, Option, None, Some}
+use Rattle.link_model.specs.Judgement.{tally_of}
+use Rattle.link_model.specs.Output.{full_output}
+use Rattle.link_model.specs.declared.tally.Tally.{Tally}
+use Rattle.link_report.specs.declared.answer.Answer.{Answer}
+use Rattle.link_report.specs.declared.answer.Answer.TheVariants.{Done, Stopped, Drained}
+use Rattle.link_report.specs.declared.ending.Ending.{Ending}
+use Rattle.link_report.specs.declared.ending.Ending.TheVariants.{NoMemory, InputFailed, OutputFailed}
+use Rattle.link_report.specs.declared.summary.Summary.TheVariants.{Judged}
+use Rattle.vc_ports.specs.Changes.{Change, InputChange, OutputChange, HasRisen, Took, Wrote}
+use Rattle.vc_ports.specs.Changes.{WrotePart}
+use Rattle.vc_slice.specs.Asked.{Told, Grows}
+use Rattle.decode_command.specs.Capture.{CaptureSplit, capture_split, ReadingEnded}
 
--- By how it ended: what was read, where the input gave these datagrams and then a rest that is no whole entry, and what
--- the output grew by, where the datagrams have the form of these frames.
-abbrev pub Outcome : Ended → InputChange → OutputChange → Option (List ℕ) → List ℕ → Type 0
--- the input was read to its end, which lies at an entry's edge
-Outcome Done input output (Some frames) rest =
-    IsAtEnd input.left.after × (rest ≡ []) × Wrote output frames
--- what was heard doesn't have the form
-Outcome Unbuilt input output None rest = (rest ≡ []) × Stays output.held
-Outcome NoMemory input output (Some frames) rest = WrotePart output frames
-Outcome InputFault input output (Some frames) rest = HasRisen input.faults × Wrote output frames
-Outcome OutputFault input output (Some frames) rest =
-    HasRisen output.faults × WrotePart output frames
--- the input was read to its end, which lies within an entry
-Outcome CaptureCut input output (Some frames) rest =
-    IsAtEnd input.left.after × (rest ≢ []) × Wrote output frames
-Outcome ended input output frames rest = ⊥
+-- ---- input and output
 
--- decoding the bytes that the input gave
-pub record Decodes (ended : Ended) (input : InputChange) (output : OutputChange) : Type 0 where
-  pub heard : List (List ℕ)
-  pub rest : List ℕ
-  pub place : ℕ
-  pub gave : GaveEntries input.left.before input.left.after place heard rest
-  pub outcome : Outcome ended input output (frames_of heard) rest
+-- all frames of the datagrams that were read were written, and these are their counts
+pub record IsDecoded
+    (window packets : ℕ) (end : Option Ending) (tally : Tally)
+    (input : InputChange) (output : OutputChange) (s : CaptureSplit) : Type 0 where
+  pub reading : ReadingEnded packets end input s
+  pub wrote : Wrote output (full_output window s.datagrams)
+  pub tally_is : tally ≡ tally_of window s.datagrams
 
--- how decoding ends where reading did so, at an edge or by a fault
-abbrev pub ended_by : Option EntryFault → Ended
-ended_by None = Done
-ended_by (Some (faults.Cut place)) = CaptureCut
-ended_by (Some faults.ReadFault) = InputFault
-ended_by (Some faults.NoMemory) = NoMemory
+abbrev pub DecodeEnded : ℕ → ℕ → Answer → InputChange → OutputChange → CaptureSplit → Type 0
+DecodeEnded window packets (Done (Judged tally)) input output s =
+    IsDecoded window packets None tally input output s
+DecodeEnded window packets (Drained tally end) input output s =
+    IsDecoded window packets (Some end) tally input output s
+DecodeEnded window packets (Stopped NoMemory) input output s =
+    WrotePart output (full_output window s.datagrams)
+DecodeEnded window packets (Stopped OutputFailed) input output s =
+    WrotePart output (full_output window s.datagrams)
+DecodeEnded window packets answer input output s = ⊥
 
--- the bytes of a capture end at an entry's edge, and its datagrams have the form
-pub record IsDecodable (bytes : List ℕ) : Type 0 where
-  pub at_edge : (entries_of bytes).1 ≡ []
-  pub form : IsSome (frames_of (entries_of bytes).0)
+-- a read failed
+abbrev pub has_failed_input : Answer → Type 0
+has_failed_input answer = (tally : Tally) × (answer ≡ Drained tally InputFailed)
+
+-- ---- workers
+
+-- so many were started, once
+pub record HasStarted (workers : ℕ) (hands : Change (Option Told)) : Type 0 where
+  pub more : Told
+  pub grows : Grows hands.before hands.after more
+  pub started : more.started ≡ workers ∷ []
+
+-- nothing is said of them where memory ran out or the output failed
+abbrev pub StartsWorkers : ℕ → Answer → Change (Option Told) → Type 0
+StartsWorkers workers (Stopped end) hands = Unit {0}
+StartsWorkers workers answer hands = HasStarted workers hands
+
+-- ---- decoding the bytes that the input gave
+
+pub record Decodes
+    (window workers packets : ℕ) (answer : Answer)
+    (input : InputChange) (output : OutputChange) (hands : Change (Option Told)) : Type 0 where
+  pub given : List ℕ
+  pub took : Took input given
+  pub ended : DecodeEnded window packets answer input output (capture_split packets given)
+  pub input_failed : has_failed_input answer → HasRisen input.faults
+  pub output_failed : answer ≡ Stopped OutputFailed → HasRisen output.faults
+  pub workers_started : StartsWorkers workers answer hands
+
+-- at most `packets` entries are the whole of the bytes
+abbrev pub IsDecodable : ℕ → List ℕ → Type 0
+IsDecodable packets bytes = (capture_split packets bytes).rest ≡ []

@@ -1,4 +1,3 @@
-pub mod OnePicture
-pub mod Grey
-pub mod Stages
+pub mod Capture
 pub mod Decoding
+pub mod Hearing

@@ -1,90 +1,218 @@
-ghost use Rattle.std.specs.Prelude.{◌≡◌, ℕ, List, [], None, Some, OnOk, OnErr, Err, IfNone, IfSome, IsSomeAnd};
-ghost use Rattle.link_capture.specs.Endings.{GaveEntries, Ends};
-ghost use Rattle.vc_ports.specs.Changes.{input_of, output_of};
+ghost use Rattle.std.specs.Prelude.{◌≡◌, ◌≤◌, ℕ, List, [], None, Some, Ok, Err, OnOk, IfErr};
+ghost use Rattle.slice_exchange.specs.Calls.{AreBelow};
+ghost use Rattle.link_receiver.specs.HeardLists.{HasHeard, AskedPlaces, newly_due, still_due};
+ghost use Rattle.vc_ports.specs.Changes.{changed, input_of, output_of};
 ghost use Rattle.vc_ports.specs.Faults.{HasCause};
 ghost use Rattle.vc_ports.specs.Writing.{Grew, GrewBySome};
-ghost use Rattle.decode_command.specs.Decoding.{Decodes, ended_by};
-ghost use Rattle.decode_command.specs.Stages.{Stands, HasNoForm, frames_at};
+ghost use Rattle.decode_command.specs.Decoding.{Decodes};
+ghost use Rattle.decode_command.specs.Hearing.{HeardAll, LoopEnded, Receives, Enters, IsBroken, ending_of};
 
-use crate::ended::Ended;
-use crate::grey::{GreyFault, write_grey};
-use crate::stage::Stage;
+use bytes::Bytes;
 use link_capture::{CaptureReader, EntryFault, next_entry};
+use link_receiver::{EnterFault, Receiver};
+use link_report::{Answer, Ending, Summary};
 use std::alloc::Global;
-use vc_ports::{Sink, Source};
+use vc_ports::{Filled, Sink, Source, fill};
+use vc_slice::{Hands, Places};
 
-/// Decodes a capture: reads its datagrams to the end of the input, and writes the frames that they make.
-pub fn decode<S: Source, O: Sink>(alloc: Global, input: &mut S, output: &mut O) -> Ended
-    ensures { Decodes result (input_of S.left S.faults input.old input.new)
-        (output_of O.held O.faults output.old output.new) }
+/// Why no entry more is read.
+#[derive(Clone, Copy)]
+pub(crate) enum Stop {
+    /// The source ended at an entry's edge.
+    Ended,
+    /// It ended within the entry that begins at this byte.
+    Cut { place: u64 },
+    /// A read failed.
+    Failed,
+    /// So many entries were read as were asked for.
+    AtLimit,
+}
+
+/// Decodes a capture: reads at most so many entries, takes each as a datagram, with so many pictures open at a time (2 to
+/// 8), and writes the raw frames that the datagrams make. A frame goes out as soon as its pictures are let go. Slices are
+/// offered to so many workers; what they don't decode in time is decoded here. Where the input fails, or ends within an
+/// entry, or has one byte more than so many entries, the frames of what was heard are written all the same.
+pub fn decode<S: Source, O: Sink, P: Hands>(
+    alloc: Global,
+    window: u8,
+    workers: u32,
+    packets: u32,
+    input: &mut S,
+    output: &mut O,
+    hands: &mut P,
+) -> Answer
+    requires least { 2 ≤ window }
+    requires most { window ≤ 8 }
+    requires free { P.is_free hands.old }
+    ensures { Decodes window workers packets result
+        (input_of S.left S.faults input.old input.new)
+        (output_of O.held O.faults output.old output.new)
+        (changed P.Places.told hands.old hands.new) }
 {
-    let Some((stage, end)) = hear(alloc, input) else {
-        return Ended::Unbuilt;
+    let Ok(()) = hands.start_workers(workers) else {
+        return Answer::Stopped(Ending::NoMemory);
     };
-    match write_frames(alloc, output, &stage) {
-        Ok(()) => ended_by(end),
-        Err(GreyFault::NoMemory) => Ended::NoMemory,
-        Err(GreyFault::WriteFault) => Ended::OutputFault,
+    let mut receiver = Receiver::new(alloc, window);
+    match receive(alloc, packets, &mut receiver, input, output, hands) {
+        Ok(None) => Answer::Done(Summary::Judged {
+            tally: *receiver.tally(),
+        }),
+        Ok(Some(end)) => Answer::Drained(*receiver.tally(), end),
+        Err(end) => Answer::Stopped(end),
     }
 }
 
-fn ended_by(end: Option<EntryFault>) -> Ended
-    ensures { result ≡ ended_by end }
+// Hears the entries, and then ends the receiver's input. Answers how reading ended.
+fn receive<S: Source, O: Sink, P: Places>(
+    alloc: Global,
+    packets: u32,
+    receiver: &mut Receiver,
+    input: &mut S,
+    output: &mut O,
+    places: &mut P,
+) -> Result<Option<Ending>, Ending>
+    requires below { AreBelow (P.bound places.old) receiver.old.reception.out }
+    ensures received { (window : ℕ) → HasHeard receiver.old window []
+        → Receives window packets result receiver.new
+        (input_of S.left S.faults input.old input.new)
+        (output_of O.held O.faults output.old output.new) }
+    ensures input_cause { HasCause (S.faults input.old) (S.faults input.new)
+        (result ≡ Ok (Some Ending.InputFailed)) }
+    ensures output_cause { HasCause (O.faults output.old) (O.faults output.new)
+        (result ≡ Err Ending.OutputFailed) }
+    ensures told { OnOk result (AskedPlaces (P.told places.old) (P.told places.new)) }
 {
-    match end {
-        None => Ended::Done,
-        Some(EntryFault::Cut { .. }) => Ended::CaptureCut,
-        Some(EntryFault::ReadFault) => Ended::InputFault,
-        Some(EntryFault::NoMemory) => Ended::NoMemory,
+    let end = hear(alloc, packets, receiver, input, output, places)?;
+    match receiver.drain(places, output) {
+        Ok(()) => Ok(end),
+        Err(fault) => Err(ending_of(fault)),
     }
 }
 
-// Hears datagrams to the end of the source. Answers how far they came and the fault that ended them, if one did, and
-// None as soon as they don't have the form.
-fn hear<S: Source>(alloc: Global, source: &mut S) -> Option<(Stage, Option<EntryFault>)>
-    ensures heard { IfSome result (λ end. (heard : List (List ℕ)) × Stands end.0 heard
-        × ((place : ℕ) × Ends (S.left source.old) (S.left source.new) place heard end.1)) }
-    ensures no_form { IfNone result ((heard : List (List ℕ)) × HasNoForm heard
-        × ((place : ℕ) × GaveEntries (S.left source.old) (S.left source.new) place heard [])) }
-    ensures cause { HasCause (S.faults source.old) (S.faults source.new)
-        (IsSomeAnd result (λ end. end.1 ≡ Some EntryFault.ReadFault)) }
+// Hears at most so many entries.
+fn hear<S: Source, O: Sink, P: Places>(
+    alloc: Global,
+    packets: u32,
+    receiver: &mut Receiver,
+    input: &mut S,
+    output: &mut O,
+    places: &mut P,
+) -> Result<Option<Ending>, Ending>
+    requires below { AreBelow (P.bound places.old) receiver.old.reception.out }
+    ensures heard { (window : ℕ) → HasHeard receiver.old window []
+        → HeardAll window packets result receiver.new
+        (input_of S.left S.faults input.old input.new)
+        (output_of O.held O.faults output.old output.new) }
+    ensures input_cause { HasCause (S.faults input.old) (S.faults input.new)
+        (result ≡ Ok (Some Ending.InputFailed)) }
+    ensures output_cause { HasCause (O.faults output.old) (O.faults output.new)
+        (result ≡ Err Ending.OutputFailed) }
+    ensures told { OnOk result (AskedPlaces (P.told places.old) (P.told places.new)) }
+    ensures below { AreBelow (P.bound places.new) receiver.new.reception.out }
 {
-    let mut reader = CaptureReader::new(alloc, source);
-    hear_with(&mut reader)
+    match hear_entries(alloc, packets, receiver, input, output, places)? {
+        Stop::Ended => Ok(None),
+        Stop::Cut { place } => Ok(Some(Ending::CaptureCut { place })),
+        Stop::Failed => Ok(Some(Ending::InputFailed)),
+        Stop::AtLimit => match fill(input, &mut [0; 1]) {
+            Filled::Whole => Ok(Some(Ending::PacketLimit { limit: packets })),
+            Filled::End(_) => Ok(None),
+            Filled::Failed(_) => Ok(Some(Ending::InputFailed)),
+        },
+    }
 }
 
-fn hear_with<S: Source>(reader: &mut CaptureReader<S>) -> Option<(Stage, Option<EntryFault>)>
+fn hear_entries<S: Source, O: Sink, P: Places>(
+    alloc: Global,
+    packets: u32,
+    receiver: &mut Receiver,
+    input: &mut S,
+    output: &mut O,
+    places: &mut P,
+) -> Result<Stop, Ending>
+    requires below { AreBelow (P.bound places.old) receiver.old.reception.out }
+    ensures heard { (window : ℕ) → HasHeard receiver.old window []
+        → LoopEnded window packets result receiver.new
+        (input_of S.left S.faults input.old input.new)
+        (output_of O.held O.faults output.old output.new) }
+    ensures input_cause { HasCause (S.faults input.old) (S.faults input.new)
+        (result ≡ Ok Stop.Failed) }
+    ensures output_cause { HasCause (O.faults output.old) (O.faults output.new)
+        (result ≡ Err Ending.OutputFailed) }
+    ensures told { OnOk result (AskedPlaces (P.told places.old) (P.told places.new)) }
+    ensures below { AreBelow (P.bound places.new) receiver.new.reception.out }
+{
+    let mut reader = CaptureReader::new(alloc, input);
+    hear_with(packets, receiver, &mut reader, output, places)
+}
+
+fn hear_with<S: Source, O: Sink, P: Places>(
+    packets: u32,
+    receiver: &mut Receiver,
+    reader: &mut CaptureReader<S>,
+    output: &mut O,
+    places: &mut P,
+) -> Result<Stop, Ending>
+    requires below { AreBelow (P.bound places.old) receiver.old.reception.out }
     requires place { reader.old.place ≡ 0 }
     requires sound { reader.old.fault ≡ None }
     ensures borrows { reader.new.source.ghost_name ≡ reader.old.source.ghost_name }
-    ensures heard { IfSome result (λ end. (heard : List (List ℕ)) × Stands end.0 heard
-        × ((place : ℕ) × Ends (S.left reader.old.source.now) (S.left reader.new.source.now) place heard end.1)) }
-    ensures no_form { IfNone result ((heard : List (List ℕ)) × HasNoForm heard
-        × ((place : ℕ) × GaveEntries (S.left reader.old.source.now) (S.left reader.new.source.now) place heard [])) }
-    ensures cause { HasCause (S.faults reader.old.source.now) (S.faults reader.new.source.now)
-        (IsSomeAnd result (λ end. end.1 ≡ Some EntryFault.ReadFault)) }
+    ensures heard { (window : ℕ) → HasHeard receiver.old window []
+        → LoopEnded window packets result receiver.new
+        (input_of S.left S.faults reader.old.source.now reader.new.source.now)
+        (output_of O.held O.faults output.old output.new) }
+    ensures input_cause { HasCause (S.faults reader.old.source.now) (S.faults reader.new.source.now)
+        (result ≡ Ok Stop.Failed) }
+    ensures output_cause { HasCause (O.faults output.old) (O.faults output.new)
+        (result ≡ Err Ending.OutputFailed) }
+    ensures told { OnOk result (AskedPlaces (P.told places.old) (P.told places.new)) }
+    ensures below { AreBelow (P.bound places.new) receiver.new.reception.out }
 {
-    let mut stage = Stage::Empty;
-    'datagrams: loop {
+    for _entry in 0..packets {
         match next_entry(reader) {
-            Ok(Some(datagram)) => match stage.next(&datagram) {
-                Some(next) => stage = next,
-                None => return None,
-            },
-            Ok(None) => return Some((stage, None)),
-            Err(fault) => return Some((stage, Some(fault))),
+            Ok(Some(datagram)) => enter(receiver, datagram, output, places)?,
+            Ok(None) => return Ok(Stop::Ended),
+            Err(EntryFault::Cut { place }) => return Ok(Stop::Cut { place }),
+            Err(EntryFault::ReadFault) => return Ok(Stop::Failed),
+            Err(EntryFault::NoMemory) => return Err(Ending::NoMemory),
         }
+    }
+    Ok(Stop::AtLimit)
+}
+
+// Takes a datagram.
+#[tactic(auto, using(crate::proofs::Asking::nothing_is_asked))]
+fn enter<O: Sink, P: Places>(
+    receiver: &mut Receiver,
+    datagram: Vec<u8>,
+    output: &mut O,
+    places: &mut P,
+) -> Result<(), Ending>
+    requires below { AreBelow (P.bound places.old) receiver.old.reception.out }
+    ensures entered { (window : ℕ) (heard : List (List ℕ)) → HasHeard receiver.old window heard
+        → Enters window heard datagram.items receiver.new result
+        (O.held output.old) (O.held output.new) }
+    ensures ending { IfErr result IsBroken }
+    ensures cause { HasCause (O.faults output.old) (O.faults output.new)
+        (result ≡ Err Ending.OutputFailed) }
+    ensures told { OnOk result (AskedPlaces (P.told places.old) (P.told places.new)) }
+    ensures below { AreBelow (P.bound places.new) receiver.new.reception.out }
+{
+    let Ok(datagram) = Bytes::from_vec(datagram) else {
+        return Err(Ending::NoMemory);
+    };
+    match receiver.enter(datagram, places, output) {
+        Ok(_) => Ok(()),
+        Err(fault) => Err(ending_of(fault)),
     }
 }
 
-// Writes the frames of a list that came so far.
-fn write_frames<O: Sink>(alloc: Global, output: &mut O, stage: &Stage) -> Result<(), GreyFault>
-    ensures ok { OnOk result (Grew (O.held output.old) (O.held output.new) (frames_at stage.now)) }
-    ensures err { OnErr result (GrewBySome (O.held output.old) (O.held output.new) (frames_at stage.now)) }
-    ensures cause { HasCause (O.faults output.old) (O.faults output.new) (result ≡ Err GreyFault.WriteFault) }
+// How a command ends where its receiver failed.
+fn ending_of(fault: EnterFault) -> Ending
+    ensures { result ≡ ending_of fault }
 {
-    match stage {
-        Stage::Whole(plan) => write_grey(alloc, output, plan),
-        _ => Ok(()),
+    match fault {
+        EnterFault::NoMemory | EnterFault::Ended => Ending::NoMemory,
+        EnterFault::WriteFault => Ending::OutputFailed,
     }
 }

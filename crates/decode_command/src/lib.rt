@@ -1,12 +1,6 @@
-//! Decoding a capture: its datagrams one after another, and the frame that they make.
+//! `decode`: a capture to raw frames, datagram by datagram.
 #![tactic(auto)]
 
 mod command;
-mod datagram;
-mod ended;
-mod grey;
-mod slices;
-mod stage;
 
 pub use command::decode;
-pub use ended::Ended;

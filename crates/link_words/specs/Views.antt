@@ -1,4 +1,5 @@
 -- Settings without their facts.
+use Rattle.std.specs.Prelude.{ℕ, ◌≤◌}
 use Rattle.vc_types.specs.SenderSettings.{sending_view}
 use Rattle.vc_types.specs.declared.settings.GenSettings.{GenSettings}
 use Rattle.link_words.specs.declared.settings.Settings.{Settings}
@@ -31,3 +32,15 @@ meaning_view (Pack packets size ssrc pt seq tick) = ToPack packets size ssrc pt 
 meaning_view (Play packets) = ToPlay packets
 meaning_view (Gen generator check window workers) =
     ToGen (generating_view generator) check window workers
+
+-- of the pictures that are open at a time there are 2 to 8
+abbrev pub IsWindow : ℕ → Type 0
+IsWindow window = (2 ≤ window) × (window ≤ 8)
+
+abbrev pub HasWindow : Settings → Type 0
+HasWindow (Decode window workers packets) = IsWindow window
+HasWindow (Recv window workers packets at) = IsWindow window
+HasWindow (Loop sender frames window workers at) = IsWindow window
+HasWindow (Unpack window workers packets) = IsWindow window
+HasWindow (Gen generator check window workers) = IsWindow window
+HasWindow other = Unit {0}

@@ -1,8 +1,8 @@
-ghost use Rattle.std.specs.Prelude.{◌≡◌, ◌<◌, length};
+ghost use Rattle.std.specs.Prelude.{◌≡◌, ◌<◌, length, IfOk, IfSome};
 ghost use Rattle.std.specs.Option.{option_map};
 ghost use Rattle.std.specs.Result.{result_map_both};
 ghost use Rattle.link_words.specs.Settings.{meaning, lacks_name, settings_of};
-ghost use Rattle.link_words.specs.Views.{meaning_view};
+ghost use Rattle.link_words.specs.Views.{meaning_view, HasWindow};
 
 use crate::grammar::first_bad;
 use crate::lookup::{given, is_set, lacks, value_of};
@@ -16,7 +16,8 @@ use vc_types::Words;
 #[tactic(auto, unfolding(crate::specs::Settings::meaning))]
 fn settings<'a>(command: Command, words: &'a Words) -> Option<Settings<'a>>
     requires { 0 < length words.now }
-    ensures { option_map meaning_view result ≡ meaning command words.now }
+    ensures value { option_map meaning_view result ≡ meaning command words.now }
+    ensures window { IfSome result HasWindow }
 {
     let window = given(words, Name::Window) as u8;
     let workers = given(words, Name::Workers);
@@ -88,6 +89,7 @@ fn lacks_name(command: Command, words: &Words) -> bool
 pub fn read_words<'a>(words: &'a Words) -> Result<Settings<'a>, Usage>
     ensures exact { settings_of words.now
         ≡ result_map_both meaning_view (λ usage. usage.place) result }
+    ensures window { IfOk result HasWindow }
 {
     if words.len() == 0 {
         return Err(Usage { place: 0 });

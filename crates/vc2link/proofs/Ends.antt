@@ -1,32 +1,21 @@
 -- Commands that come to their end.
 use Rattle.std.proofs.Common.{◌≡◌, ◌⊎◌, ℕ, List, Result, Ok, Err, true, false, inl, inr, refl, sym, ap, ◌∙◌}
 use Rattle.std.specs.Result.{IsOk}
-use Rattle.decode_command.specs.declared.ended.Ended.{Ended}
-use Rattle.decode_command.specs.declared.ended.Ended.TheVariants.{Done, NoMemory}
-use Rattle.decode_command.proofs.Completing.{decode_completes}
+use Rattle.decode_command.proofs.Completing.{IsComplete, decode_completes}
 use Rattle.link_report.specs.Answers.{Reports, Says, answer_of, answer_status, answer_text}
 use Rattle.link_report.specs.Report.{status_line}
 use Rattle.link_report.specs.declared.answer.Answer.{Answer}
+use Rattle.link_report.specs.declared.answer.Answer.TheVariants.{Done, Stopped, Drained}
 use Rattle.link_report.specs.declared.ending.Ending.{Ending}
 use Rattle.link_report.specs.declared.ending.Ending.TheVariants as endings
 use Rattle.link_report.specs.declared.summary.Summary.{Summary}
 use Rattle.link_words.specs.Settings.{Meaning, ToDecode, ToPlay}
 use Rattle.play_command.proofs.Playable.{play_completes}
 use Rattle.vc_ports.specs.Changes.{OutputChange, HasRisen}
-use Rattle.vc2link.specs.LinkMain.{Changes, DecodesTo, PlaysTo, Does, Completes, decoded_status, is_built}
+use Rattle.vc2link.specs.LinkMain.{Changes, DecodesTo, PlaysTo, Does, Completes, is_built}
 
 false_is_true : false ≡ true → ⊥
 false_is_true p = cc
-
--- ---- decoding
-
-ended_well : (status : ℕ) (ended : Ended) → status ≡ decoded_status ended → (ended ≡ Done) ⊎ (ended ≡ NoMemory) → (status ≡ 0) ⊎ (status ≡ 3)
-ended_well status ended is (inl done) = inl (is ∙ ap decoded_status done)
-ended_well status ended is (inr none) = inr (is ∙ ap decoded_status none)
-
-pub decode_ends : (window workers packets status : ℕ) (c : Changes) → DecodesTo status c → Completes (ToDecode window workers packets) status c
-decode_ends window workers packets status c d sound whole =
-    ended_well status d.ended d.status_is (decode_completes c.input c.output sound.input sound.output whole d.ended d.decodes)
 
 -- ---- playing
 
@@ -49,6 +38,19 @@ play_ends packets status c d sound whole =
     let came = play_completes packets c.input c.output sound.input sound.output whole d.answer d.plays in
     answered_well (answer_of d.answer) status c.report sound.report (played_status d.answer came) d.reports
 
+-- ---- decoding
+
+decoded_status : (answer : Answer) → IsComplete answer → (answer_status answer ≡ 0) ⊎ (answer_status answer ≡ 3)
+decoded_status (Done summary) came = inl refl
+decoded_status (Stopped endings.NoMemory) came = inr refl
+decoded_status (Stopped end) came = absurd came
+decoded_status (Drained tally end) came = absurd came
+
+pub decode_ends : (window workers packets status : ℕ) (c : Changes) → DecodesTo window workers packets status c → Completes (ToDecode window workers packets) status c
+decode_ends window workers packets status c d sound whole =
+    let came = decode_completes window workers packets c.input c.output c.hands sound.input sound.output whole d.answer d.decodes in
+    answered_well d.answer status c.report sound.report (decoded_status d.answer came) d.reports
+
 true_is_false : true ≡ false → ⊥
 true_is_false p = cc
 
@@ -61,10 +63,10 @@ unbuilt_does meaning c not_built = record {
   completes = λ is. absurd (true_is_false (sym is ∙ not_built));
 }
 
-pub decode_does : (window workers packets status : ℕ) (c : Changes) → is_built (ToDecode window workers packets) ≡ true → DecodesTo status c → Does (ToDecode window workers packets) status c
-decode_does window workers packets status c is_so did = record {
+pub decode_does : (window workers packets status : ℕ) (c : Changes) → DecodesTo window workers packets status c → Does (ToDecode window workers packets) status c
+decode_does window workers packets status c did = record {
   built = λ _. did;
-  unbuilt = λ is. absurd (true_is_false (sym is_so ∙ is));
+  unbuilt = λ is. absurd (true_is_false is);
   completes = λ _. decode_ends window workers packets status c did;
 }
 

@@ -1,9 +1,8 @@
 -- What vc2link did, by what its words mean and by the status that it answered.
-use Rattle.std.specs.Prelude.{◌≡◌, ◌⊎◌, ℕ, Bool, true, false, ◌&&◌, ◌==◌, Option, IsTrue, IsFalse, IsSomeAnd, if◌then◌else◌, Result, Ok, Err}
+use Rattle.std.specs.Prelude.{◌≡◌, ◌⊎◌, ℕ, Bool, true, false, Option, IsTrue, IsFalse, IsSomeAnd, if◌then◌else◌, Result, Ok, Err}
 use Rattle.decode_command.specs.Decoding.{Decodes, IsDecodable}
-use Rattle.decode_command.specs.declared.ended.Ended.{Ended}
-use Rattle.decode_command.specs.declared.ended.Ended.TheVariants.{Done, Unbuilt, NoMemory, InputFault, OutputFault, CaptureCut}
 use Rattle.link_report.specs.Answers.{Reports, answer_of}
+use Rattle.link_report.specs.declared.answer.Answer.{Answer}
 use Rattle.link_report.specs.declared.answer.Answer.TheVariants.{Stopped}
 use Rattle.link_report.specs.declared.ending.Ending.{Ending}
 use Rattle.link_report.specs.declared.ending.Ending.TheVariants.{Usage}
@@ -53,7 +52,7 @@ calls input output wire hands report = record {
 
 abbrev pub calls_of : Meaning → Calls
 --                                                input output wire hands report
-calls_of (ToDecode window workers packets) = calls true true false true false
+calls_of (ToDecode window workers packets) = calls true true false true true
 calls_of (ToEncode sender frames) = calls true true false false true
 calls_of (ToSend sender frames to) = calls true false true false true
 calls_of (ToRecv window workers packets at) = calls false true true true true
@@ -63,9 +62,9 @@ calls_of (ToPack packets size ssrc pt seq tick) = calls true true false false tr
 calls_of (ToPlay packets) = calls true true false false true
 calls_of (ToGen generator check window workers) = calls false true false check true
 
--- the forms that are built: of decode the one with a window of 4, 4 workers and any number of packets, the defaults
+-- the commands that are built
 abbrev pub is_built : Meaning → Bool
-is_built (ToDecode window workers packets) = window == 4 && workers == 4 && packets == 4294967295
+is_built (ToDecode window workers packets) = true
 is_built (ToPlay packets) = true
 is_built meaning = false
 
@@ -77,19 +76,11 @@ may_call (Err place) = calls false false false false true
 
 -- ---- the commands
 
-abbrev pub decoded_status : Ended → ℕ
-decoded_status Done = 0
-decoded_status Unbuilt = 1
-decoded_status NoMemory = 3
-decoded_status InputFault = 4
-decoded_status OutputFault = 5
-decoded_status CaptureCut = 8
-
--- the capture was decoded to this status
-pub record DecodesTo (status : ℕ) (c : Changes) : Type 0 where
-  pub ended : Ended
-  pub status_is : status ≡ decoded_status ended
-  pub decodes : Decodes ended c.input c.output
+-- the capture was decoded, and the report says how that ended
+pub record DecodesTo (window workers packets status : ℕ) (c : Changes) : Type 0 where
+  pub answer : Answer
+  pub decodes : Decodes window workers packets answer c.input c.output c.hands
+  pub reports : Reports answer status c.report
 
 -- the stream was played, and the report says how it ended
 pub record PlaysTo (packets status : ℕ) (c : Changes) : Type 0 where
@@ -98,7 +89,7 @@ pub record PlaysTo (packets status : ℕ) (c : Changes) : Type 0 where
   pub reports : Reports (answer_of answer) status c.report
 
 abbrev pub Did : Meaning → ℕ → Changes → Type 0
-Did (ToDecode window workers packets) status c = DecodesTo status c
+Did (ToDecode window workers packets) status c = DecodesTo window workers packets status c
 Did (ToPlay packets) status c = PlaysTo packets status c
 Did meaning status c = ⊥
 
@@ -113,7 +104,8 @@ pub record HasNoFault (c : Changes) : Type 0 where
 
 -- The input tells its bytes, which end where the command may end, and are accepted: a row for each command that is built.
 abbrev pub EndsWell : Meaning → Changes → Type 0
-EndsWell (ToDecode window workers packets) c = IsSomeAnd c.input.left.before IsDecodable
+EndsWell (ToDecode window workers packets) c =
+    IsSomeAnd c.input.left.before (IsDecodable packets)
 EndsWell (ToPlay packets) c = IsSomeAnd c.input.left.before (IsPlayable packets)
 EndsWell meaning c = ⊥
 

@@ -2,9 +2,9 @@ ghost use Rattle.std.specs.Prelude.{◌≡◌, IsFalse};
 ghost use Rattle.link_words.specs.Settings.{settings_of};
 ghost use Rattle.link_words.specs.Views.{meaning_view};
 ghost use Rattle.vc_ports.specs.Changes.{changed, input_of, output_of, wire_of};
-ghost use Rattle.vc2link.specs.LinkMain.{changes, is_built, decoded_status, may_call, Obeys};
+ghost use Rattle.vc2link.specs.LinkMain.{changes, is_built, may_call, Obeys};
 
-use decode_command::{Ended, decode};
+use decode_command::decode;
 use link_report::{Answer, Ending, write_answer};
 use link_words::{Settings, read_words};
 use play_command::play;
@@ -44,7 +44,16 @@ pub fn link_main<H: Threads + Copy + Send + Sync, S: Source, O: Sink, E: Sink, N
 {
     match read_words(words) {
         Ok(settings) if !is_built(&settings) => UNBUILT,
-        Ok(Settings::Decode { .. }) => decoded_status(decode(alloc, input, output)),
+        Ok(
+            Settings::Decode {
+                window,
+                workers,
+                packets,
+            },
+        ) => {
+            let answer = decode(alloc, window, workers, packets, input, output, hands);
+            write_answer(alloc, report, &answer)
+        }
         Ok(Settings::Play { packets }) => {
             let answer = Answer::from(play(alloc, packets, input, output));
             write_answer(alloc, report, &answer)
@@ -61,26 +70,5 @@ pub fn link_main<H: Threads + Copy + Send + Sync, S: Source, O: Sink, E: Sink, N
 fn is_built(settings: &Settings<'_>) -> bool
     ensures { result ≡ is_built (meaning_view settings.now) }
 {
-    match settings {
-        Settings::Decode {
-            window,
-            workers,
-            packets,
-        } => *window == 4 && *workers == 4 && *packets == u32::MAX,
-        Settings::Play { .. } => true,
-        _ => false,
-    }
-}
-
-fn decoded_status(ended: Ended) -> u8
-    ensures { result ≡ decoded_status ended }
-{
-    match ended {
-        Ended::Done => 0,
-        Ended::Unbuilt => UNBUILT,
-        Ended::NoMemory => 3,
-        Ended::InputFault => 4,
-        Ended::OutputFault => 5,
-        Ended::CaptureCut => 8,
-    }
+    matches!(settings, Settings::Decode { .. } | Settings::Play { .. })
 }

@@ -1,21 +1,25 @@
-use Rattle.std.proofs.Common.{refl}
-use Rattle.decode_command.proofs.Decoded.{unbuilt, written, no_memory, output_failed}
+use Rattle.std.proofs.Common.{refl, ap, ◌∙◌}
+use Rattle.std.specs.Prelude.{Ok, Err, Some}
+use Rattle.decode_command.proofs.Whole.{not_started, done, drained, stopped}
 use Rattle.decode_command.proofs.command.decode.Goals as goal
 
+pub returns-in-Ok-None : goal.returns-in-Ok-None
+returns-in-Ok-None g c =
+    let st = c.in-Ok-None.ensures.received c.args.window c.new-receiver.ensures.heard in
+    done c.args.window c.args.workers c.args.packets c.receive.new.receiver _ _ _ _ _ c.in-Ok.ensures.told c.in-Ok-None.ensures.told c.tally.result.now c.tally.ensures (rw c.in-Ok-None.field-0-is at st)
+
+pub returns-in-Ok-Some : goal.returns-in-Ok-Some
+returns-in-Ok-Some g c =
+    let st = c.in-Ok-Some.ensures.received c.args.window c.new-receiver.ensures.heard in
+    drained c.args.window c.args.workers c.args.packets c.receive.new.receiver _ _ _ _ _ c.in-Ok.ensures.told c.in-Ok-Some.ensures.told c.tally-in-Ok-Some.result.now c.in-Ok-Some.end c.tally-in-Ok-Some.ensures (rw c.in-Ok-Some.field-0-is at st)
+    (λ is. c.in-Ok-Some.ensures.input_cause.rose (ap Ok (c.in-Ok-Some.field-0-is ∙ ap Some is)))
+
+pub returns : goal.returns
+returns g c =
+    let st = c.in-Err.ensures.received c.args.window c.new-receiver.ensures.heard in
+    stopped c.args.window c.args.workers c.args.packets c.receive.new.receiver _ _ _ c.in-Err.end st
+    (λ is. c.in-Err.ensures.output_cause.rose (ap Err is))
+
 pub returns-in_default : goal.returns-in_default
-returns-in_default g c = let none = c.in_default.ensures.no_form in unbuilt _ _ none.0 none.2.0 none.1 none.2.1 refl
-
-pub returns-in-Ok : goal.returns-in-Ok
-returns-in-Ok g c =
-    let heard = c.in-Some.ensures.heard in
-    written _ _ c.in-Some.stage heard.0 heard.1 heard.2.0 c.in-Some.end c.ended_by.result c.ended_by.ensures heard.2.1 c.in-Ok.ensures.ok c.in-Some.ensures.cause.rose
-
-pub returns-in-Err-NoMemory : goal.returns-in-Err-NoMemory
-returns-in-Err-NoMemory g c =
-    let heard = c.in-Some.ensures.heard in
-    no_memory _ _ c.in-Some.stage heard.0 heard.1 heard.2.0 c.in-Some.end heard.2.1 c.in-Err-NoMemory.ensures.err
-
-pub returns-in-Err-WriteFault : goal.returns-in-Err-WriteFault
-returns-in-Err-WriteFault g c =
-    let heard = c.in-Some.ensures.heard in
-    output_failed _ _ c.in-Some.stage heard.0 heard.1 heard.2.0 c.in-Some.end heard.2.1 c.in-Err-WriteFault.ensures.err (c.in-Err-WriteFault.ensures.cause.rose (cc))
+returns-in_default g c =
+    not_started c.args.window c.args.workers c.args.packets _ _ _ refl refl

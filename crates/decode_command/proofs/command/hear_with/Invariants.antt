@@ -1,16 +1,20 @@
-use Rattle.std.proofs.Common.{◌≡◌, ◌+◌, ◌*◌, ◌≤◌, ℕ, List, [], None}
-use Rattle.link_capture.specs.Endings.{GaveEntries}
-use Rattle.decode_command.specs.Stages.{Stands, datagrams_left}
+use Rattle.std.proofs.Common.{◌≡◌, ◌*◌, ◌≤◌, ℕ, List, [], None}
+use Rattle.slice_exchange.specs.Calls.{AreBelow}
+use Rattle.link_receiver.specs.HeardLists.{HasHeard, AskedPlaces}
+use Rattle.decode_command.specs.Hearing.{IsBehind}
 use Rattle.decode_command.proofs.command.hear_with.Given as goal
 
-abbrev pub invariant-datagrams : goal.invariant-datagrams
-invariant-datagrams g l = record {
+abbrev pub invariant-loop-entry : goal.invariant-loop-entry
+invariant-loop-entry g l = record {
   borrows : l.reader.source.ghost_name ≡ l.fn.reader.source.ghost_name;
   sound : l.reader.fault ≡ None;
-  room : l.reader.place + 65537 * datagrams_left l.stage ≤ 65537 * 3;
-  heard : (heard : List (List ℕ)) × Stands l.stage heard × GaveEntries (g.S.Source.left l.fn.reader.source.now) (g.S.Source.left l.reader.source.now) l.reader.place heard [];
-  later : g.S.Source.faults l.fn.reader.source.now ≤ g.S.Source.faults l.reader.source.now;
+  near : l.reader.place ≤ 65537 * l._entry;
+  behind : (window : ℕ) → HasHeard l.fn.receiver window []
+      → (datagrams : List (List ℕ)) × IsBehind window l.fn.packets l._entry l.reader.place
+      (g.S.Source.left l.fn.reader.source.now) (g.S.Source.left l.reader.source.now)
+      (g.O.Sink.held l.fn.output) (g.O.Sink.held l.output) l.receiver datagrams;
+  input_later : g.S.Source.faults l.fn.reader.source.now ≤ g.S.Source.faults l.reader.source.now;
+  output_later : g.O.Sink.faults l.fn.output ≤ g.O.Sink.faults l.output;
+  told : AskedPlaces (g.P.Places.told l.fn.places) (g.P.Places.told l.places);
+  below : AreBelow (g.P.Places.bound l.places) l.receiver.reception.out;
 }
-
-abbrev pub decreases-datagrams : goal.decreases-datagrams
-decreases-datagrams g l = datagrams_left l.stage

@@ -1,0 +1,115 @@
+-- The whole command: workers are started, a capture is received, and the answer made.
+use Rattle.std.proofs.Common.{◌≡◌, ℕ, List, [], ◌∷◌, Option, Some, None, Ok, Err, refl, ap, ◌∙◌, inl, inr}
+use Rattle.link_receiver.specs.States.{ReceiverState}
+use Rattle.link_receiver.specs.HeardLists.{AskedPlaces}
+use Rattle.link_model.specs.declared.tally.Tally.{Tally}
+use Rattle.link_report.specs.declared.answer.Answer.{Answer}
+use Rattle.link_report.specs.declared.answer.Answer.TheVariants.{Done, Stopped, Drained}
+use Rattle.link_report.specs.declared.ending.Ending.{Ending}
+use Rattle.link_report.specs.declared.ending.Ending.TheVariants.{NoMemory, InputFailed, OutputFailed}
+use Rattle.link_report.specs.declared.summary.Summary.TheVariants.{Judged}
+use Rattle.vc_ports.specs.Changes.{Change, InputChange, OutputChange, HasRisen}
+use Rattle.vc_ports.proofs.Given.{Gave-none}
+use Rattle.vc_ports.proofs.Growing.{GrewBySome-none}
+use Rattle.vc_slice.specs.Asked.{Told, Grows, told_more, starting}
+use Rattle.vc_types.specs.declared.memory.NoMemory as memory
+use Rattle.decode_command.specs.Decoding.{Decodes, HasStarted, has_failed_input}
+use Rattle.decode_command.specs.Hearing.{HasReceived, Receives}
+use Rattle.decode_command.proofs.Asking.{grows_twice}
+
+-- workers were started, and then places were asked
+started : (workers : ℕ) (before mid after : Option Told) → Grows before mid (starting workers (Ok tt))
+    → AskedPlaces mid after → HasStarted workers (record { before = before; after = after })
+started workers before mid after grew asked = record {
+  more = told_more (starting workers (Ok tt)) asked.more;
+  grows = grows_twice before mid after (starting workers (Ok tt)) asked.more grew asked.grows;
+  started = ap (λ (l : List ℕ). workers ∷ l) asked.started;
+}
+
+drained_at : (tally other : Tally) (end : Ending) → Drained tally end ≡ Drained other InputFailed → end ≡ InputFailed
+drained_at tally other end same = cc
+
+drained_is_stopped : (tally : Tally) (end other : Ending) → Drained tally end ≡ Stopped other → ⊥
+drained_is_stopped tally end other same = cc
+
+done_is_drained : (tally other : Tally) → Done (Judged tally) ≡ Drained other InputFailed → ⊥
+done_is_drained tally other same = cc
+
+done_is_stopped : (tally : Tally) (other : Ending) → Done (Judged tally) ≡ Stopped other → ⊥
+done_is_stopped tally other same = cc
+
+stopped_is_drained : (end : Ending) (other : Tally) → Stopped end ≡ Drained other InputFailed → ⊥
+stopped_is_drained end other same = cc
+
+no_memory_is_fault : Stopped NoMemory ≡ Stopped OutputFailed → ⊥
+no_memory_is_fault same = cc
+
+-- no workers were started
+pub not_started : (window workers packets : ℕ) (input : InputChange) (output : OutputChange)
+    (hands : Change (Option Told)) → input.left.after ≡ input.left.before → output.held.after ≡ output.held.before
+    → Decodes window workers packets (Stopped NoMemory) input output hands
+not_started window workers packets input output hands input_stays output_stays = record {
+  given = [];
+  took = rw input_stays (Gave-none input.left.before);
+  ended = rw output_stays (GrewBySome-none output.held.before _);
+  input_failed = λ failed. absurd (stopped_is_drained NoMemory failed.0 failed.1);
+  output_failed = λ failed. absurd (no_memory_is_fault failed);
+  workers_started = tt;
+}
+
+module _ (window workers packets : ℕ) (receiver : ReceiverState) (input : InputChange) (output : OutputChange)
+    (before mid after : Option Told) (grew : Grows before mid (starting workers (Ok tt)))
+    (asked : AskedPlaces mid after) where
+  -- reading came to the end of the capture
+  pub done : (tally : Tally) → tally ≡ receiver.reception.counts
+      → HasReceived window packets None receiver input output
+      → Decodes window workers packets (Done (Judged tally)) input output
+      (record { before = before; after = after })
+  done tally is st = record {
+    given = st.given;
+    took = st.took;
+    ended = record { reading = st.reading; wrote = st.wrote; tally_is = is ∙ st.counted };
+    input_failed = λ failed. absurd (done_is_drained tally failed.0 failed.1);
+    output_failed = λ failed. absurd (done_is_stopped tally OutputFailed failed);
+    workers_started = started workers before mid after grew asked;
+  }
+
+  -- it ended before that
+  pub drained : (tally : Tally) (end : Ending) → tally ≡ receiver.reception.counts
+      → HasReceived window packets (Some end) receiver input output
+      → (end ≡ InputFailed → HasRisen input.faults)
+      → Decodes window workers packets (Drained tally end) input output
+      (record { before = before; after = after })
+  drained tally end is st cause = record {
+    given = st.given;
+    took = st.took;
+    ended = record { reading = st.reading; wrote = st.wrote; tally_is = is ∙ st.counted };
+    input_failed = λ failed. cause (drained_at tally failed.0 end failed.1);
+    output_failed = λ failed. absurd (drained_is_stopped tally end OutputFailed failed);
+    workers_started = started workers before mid after grew asked;
+  }
+
+-- memory ran out, or the output failed
+pub stopped : (window workers packets : ℕ) (receiver : ReceiverState) (input : InputChange)
+    (output : OutputChange) (hands : Change (Option Told)) (end : Ending)
+    → Receives window packets (Err end) receiver input output
+    → (end ≡ OutputFailed → HasRisen output.faults)
+    → Decodes window workers packets (Stopped end) input output
+    hands
+stopped window workers packets receiver input output hands NoMemory broke cause = record {
+  given = broke.given;
+  took = broke.took;
+  ended = broke.wrote;
+  input_failed = λ failed. absurd (stopped_is_drained NoMemory failed.0 failed.1);
+  output_failed = λ failed. absurd (no_memory_is_fault failed);
+  workers_started = tt;
+}
+stopped window workers packets receiver input output hands OutputFailed broke cause = record {
+  given = broke.given;
+  took = broke.took;
+  ended = broke.wrote;
+  input_failed = λ failed. absurd (stopped_is_drained OutputFailed failed.0 failed.1);
+  output_failed = λ failed. cause refl;
+  workers_started = tt;
+}
+stopped window workers packets receiver input output hands end broke cause = absurd broke

@@ -1,0 +1,126 @@
+-- What a loop over the entries of a source knows.
+use Rattle.std.specs.Prelude.{◌≡◌, ℕ, ◌-◌, List, [], ◌∷◌, ◌++◌, length, Option, Some, None, Result, Ok, Err, ⊤}
+use Rattle.link_capture.specs.Capture.{entries_within}
+use Rattle.link_model.specs.Judgement.{tally_of}
+use Rattle.link_model.specs.Output.{output_so_far, full_output}
+use Rattle.link_receiver.specs.States.{ReceiverState}
+use Rattle.link_receiver.specs.HeardLists.{HasHeard, newly_due}
+use Rattle.link_receiver.specs.declared.fault.EnterFault.{EnterFault}
+use Rattle.link_receiver.specs.declared.fault.EnterFault.TheVariants as faults
+use Rattle.link_report.specs.declared.ending.Ending.{Ending}
+use Rattle.link_report.specs.declared.ending.Ending.TheVariants.{InputFailed, OutputFailed, NoMemory, CaptureCut}
+use Rattle.vc_ports.specs.Changes.{InputChange, OutputChange, Took, Wrote, WrotePart}
+use Rattle.vc_ports.specs.Reading.{Gave}
+use Rattle.vc_ports.specs.Writing.{Grew, GrewBySome}
+use Rattle.decode_command.specs.Capture.{capture_split, ReadingEnded}
+use Rattle.decode_command.specs.declared.command.Stop.{Stop}
+use Rattle.decode_command.specs.declared.command.Stop.TheVariants.{Ended, Cut, Failed, AtLimit}
+
+-- entries, and those of other bytes behind them
+abbrev pub then_entries : List (List ℕ) → List (List ℕ) × List ℕ → List (List ℕ) × List ℕ
+then_entries datagrams behind = (datagrams ++ behind.0, behind.1)
+
+-- the source gave the bytes of so many entries, up to a place, and the receiver heard their datagrams and wrote what
+-- these let go
+pub record IsBehind
+    (window packets number place : ℕ) (before after held_before held_after : Option (List ℕ))
+    (receiver : ReceiverState) (datagrams : List (List ℕ)) : Type 0 where
+  pub given : List ℕ
+  pub gave : Gave before after given
+  pub edge : length given ≡ place
+  pub split : (more : List ℕ) → entries_within packets (given ++ more)
+      ≡ then_entries datagrams (entries_within (packets - number) more)
+  pub count : length datagrams ≡ number
+  pub heard : HasHeard receiver window datagrams
+  pub wrote : Grew held_before held_after (output_so_far window datagrams)
+
+-- reading ended so, behind the datagrams that the receiver heard
+pub record HasStopped
+    (window packets : ℕ) (end : Option Ending) (receiver : ReceiverState)
+    (input : InputChange) (output : OutputChange) : Type 0 where
+  pub given : List ℕ
+  pub took : Took input given
+  pub reading : ReadingEnded packets end input (capture_split packets given)
+  pub heard : HasHeard receiver window (capture_split packets given).datagrams
+  pub wrote : Wrote output (output_so_far window (capture_split packets given).datagrams)
+
+-- there was no memory, or the output failed
+pub record HasBroken (window packets : ℕ) (input : InputChange) (output : OutputChange) : Type 0
+  where
+    pub given : List ℕ
+    pub took : Took input given
+    pub wrote : WrotePart output (full_output window (capture_split packets given).datagrams)
+
+-- how the loop ended
+abbrev pub Stops : ℕ → ℕ → Stop → ReceiverState → InputChange → OutputChange → Type 0
+Stops window packets Ended receiver input output =
+    HasStopped window packets None receiver input output
+Stops window packets (Cut place) receiver input output =
+    HasStopped window packets (Some (CaptureCut place)) receiver input output
+Stops window packets Failed receiver input output =
+    HasStopped window packets (Some InputFailed) receiver input output
+Stops window packets AtLimit receiver input output = (place : ℕ) × (datagrams : List (List ℕ))
+    × IsBehind window packets packets place input.left.before input.left.after
+    output.held.before output.held.after receiver datagrams
+
+abbrev pub LoopEnded : ℕ → ℕ → Result Stop Ending → ReceiverState → InputChange → OutputChange → Type 0
+LoopEnded window packets (Ok stop) receiver input output =
+    Stops window packets stop receiver input output
+LoopEnded window packets (Err NoMemory) receiver input output =
+    HasBroken window packets input output
+LoopEnded window packets (Err OutputFailed) receiver input output =
+    HasBroken window packets input output
+LoopEnded window packets (Err end) receiver input output = ⊥
+
+-- how reading ended, with a byte more behind as many entries as were asked for
+abbrev pub HeardAll : ℕ → ℕ → Result (Option Ending) Ending → ReceiverState → InputChange → OutputChange
+    → Type 0
+HeardAll window packets (Ok end) receiver input output =
+    HasStopped window packets end receiver input output
+HeardAll window packets (Err NoMemory) receiver input output = HasBroken window packets input output
+HeardAll window packets (Err OutputFailed) receiver input output =
+    HasBroken window packets input output
+HeardAll window packets (Err end) receiver input output = ⊥
+
+-- reading ended so, all frames were written, and the receiver has the counts
+pub record HasReceived
+    (window packets : ℕ) (end : Option Ending) (receiver : ReceiverState)
+    (input : InputChange) (output : OutputChange) : Type 0 where
+  pub given : List ℕ
+  pub took : Took input given
+  pub reading : ReadingEnded packets end input (capture_split packets given)
+  pub wrote : Wrote output (full_output window (capture_split packets given).datagrams)
+  pub counted : receiver.reception.counts
+      ≡ tally_of window (capture_split packets given).datagrams
+
+abbrev pub Receives : ℕ → ℕ → Result (Option Ending) Ending → ReceiverState → InputChange → OutputChange
+    → Type 0
+Receives window packets (Ok end) receiver input output =
+    HasReceived window packets end receiver input output
+Receives window packets (Err NoMemory) receiver input output = HasBroken window packets input output
+Receives window packets (Err OutputFailed) receiver input output =
+    HasBroken window packets input output
+Receives window packets (Err end) receiver input output = ⊥
+
+-- how a command ends where its receiver failed
+abbrev pub ending_of : EnterFault → Ending
+ending_of faults.NoMemory = NoMemory
+ending_of faults.WriteFault = OutputFailed
+ending_of faults.Ended = NoMemory
+
+-- ---- one datagram more
+
+-- it was heard, and what it lets go was written, or a part of that
+abbrev pub Enters : ℕ → List (List ℕ) → List ℕ → ReceiverState → Result (Unit {0}) Ending
+    → Option (List ℕ) → Option (List ℕ) → Type 0
+Enters window heard datagram receiver (Ok done) before after =
+    HasHeard receiver window (heard ++ datagram ∷ [])
+    × Grew before after (newly_due window heard datagram)
+Enters window heard datagram receiver (Err end) before after =
+    GrewBySome before after (newly_due window heard datagram)
+
+-- the ways in which a receiver fails
+abbrev pub IsBroken : Ending → Type 0
+IsBroken NoMemory = ⊤
+IsBroken OutputFailed = ⊤
+IsBroken end = ⊥

@@ -1,0 +1,306 @@
+-- A datagram and the end of the input, by their steps.
+use Rattle.std.proofs.Common.{◌≡◌, ℕ, zero, suc, ◌≤◌, Bool, true, false, List, [], ◌∷◌, ◌++◌, Option, Some, None, refl, ap, sym, ◌∙◌, subst}
+use Rattle.std.specs.Prelude.{map, is_some}
+use Rattle.std.specs.Option.{option_map, option_map_or}
+use Rattle.link_model.specs.Places.{Job}
+use Rattle.link_model.specs.Session.{Session, begins}
+use Rattle.link_model.specs.Windows.{Releasable}
+use Rattle.link_model.specs.declared.outcome.Outcome.{Outcome}
+use Rattle.link_reception.specs.Entering.{datagram_jobs, opens_session, takes_datagram, datagram_bytes, before_releases, takes_end, end_bytes, gives_up_field}
+use Rattle.link_reception.specs.Exchanging.{Exchange, all_exchanged, dones_in}
+use Rattle.link_reception.specs.Judging.{judged, keeps_datagram, session_opened, stands_on, ends_input, is_over}
+use Rattle.link_reception.specs.Receptions.{Reception, StandingSession, FirstField, SliceOut}
+use Rattle.link_reception.specs.Releasing.{next_picture, releases_all, releases_up_to, releases_picture_of, releases_from, all_released_bytes, book_count}
+use Rattle.link_reception.specs.Standing.{AreDecodings}
+use Rattle.link_reception.specs.WholeBooks.{ArePicturePlanes}
+use Rattle.link_session.specs.Openings.{session_of}
+use Rattle.link_session.specs.declared.heard.Opening.{Opening}
+use Rattle.link_receiver.proofs.CallSteps.{Exchanges, TakesBack, HaveSameSession, calls_session}
+use Rattle.link_receiver.specs.Entered.{IsEntered, IsDrained}
+use Rattle.link_receiver.specs.Exchanged.{IsExchanged}
+use Rattle.link_receiver.specs.Freeing.{all_freed_places}
+use Rattle.link_receiver.specs.Offers.{AreOffersOf, proposed_in, are_asked}
+use Rattle.link_receiver.specs.States.{IsRunning, WaitsForSecond, GoesOn}
+use Rattle.slice_exchange.proofs.Growing.{grows_twice}
+use Rattle.slice_exchange.specs.Calls.{PlaceCall, told_of, exchanges_of, freeing}
+use Rattle.slice_exchange.specs.Jobs.{job_of}
+use Rattle.vc_ports.specs.Writing.{Grew, GrewBySome}
+use Rattle.vc_slice.specs.Asked.{Told, told_more, Grows}
+use Rattle.vc_slice.specs.declared.job.SliceJob.{SliceJob}
+
+-- ---- what a datagram leaves
+
+module _ (r : Reception) (d : List ℕ) where
+  kept-size : (keeps_datagram r d).size ≡ r.size
+  unfolding keeps_datagram
+  kept-size = refl
+
+  kept-out : (keeps_datagram r d).out ≡ r.out
+  unfolding keeps_datagram
+  kept-out = refl
+
+  kept-has_ended : (keeps_datagram r d).has_ended ≡ r.has_ended
+  unfolding keeps_datagram
+  kept-has_ended = refl
+
+waits_on : (f : StandingSession → StandingSession)
+    → ((st : StandingSession) → (f st).session ≡ st.session)
+    → (standing : Option StandingSession) (field : Option FirstField)
+    → WaitsForSecond standing field → WaitsForSecond (option_map f standing) field
+waits_on f same None None h = tt
+waits_on f same (Some st) None h = tt
+waits_on f same None (Some w) h = absurd h
+waits_on f same (Some st) (Some w) h =
+    subst (λ (s : Session). ArePicturePlanes s.sequence w.planes) (sym (same st)) h
+
+same_session : (o : Option Session) (d : List ℕ) (st : StandingSession)
+    → (stands_on o st d).session ≡ st.session
+same_session None d st = refl
+same_session (Some s) d st = refl
+
+pub waits_kept : (r : Reception) (d : List ℕ) → WaitsForSecond r.standing r.field
+    → WaitsForSecond (keeps_datagram r d).standing (keeps_datagram r d).field
+unfolding keeps_datagram
+waits_kept r d h = waits_on (λ (st : StandingSession). stands_on (session_opened r d) st d)
+    (same_session (session_opened r d) d) r.standing r.field h
+
+pub waits_same : (r s : Reception) → HaveSameSession r s → WaitsForSecond r.standing r.field
+    → WaitsForSecond s.standing s.field
+waits_same r s same h = subst (λ (o : Option StandingSession). WaitsForSecond o s.field)
+    (sym same.standing) (subst (WaitsForSecond r.standing) (sym same.field) h)
+
+-- ---- what releases leave
+
+record StaysOpen (r s : Reception) : Type 0 where
+  size : s.size ≡ r.size
+  has_ended : s.has_ended ≡ r.has_ended
+  running : IsRunning r.standing → IsRunning s.standing
+
+opens_same : (r : Reception) → StaysOpen r r
+opens_same r = record { size = refl; has_ended = refl; running = λ h. h }
+
+opens_then : (r s t : Reception) → StaysOpen r s → StaysOpen s t → StaysOpen r t
+opens_then r s t p q = record {
+  size = q.size ∙ p.size;
+  has_ended = q.has_ended ∙ p.has_ended;
+  running = λ h. q.running (p.running h);
+}
+
+one_release : (r : Reception) (picture : Releasable) → StaysOpen r (releases_picture_of r picture)
+one_release r picture = by_standing r.standing refl
+  where
+    by_standing : (o : Option StandingSession) → r.standing ≡ o
+        → StaysOpen r (option_map_or (releases_from r picture) o r)
+    by_standing None e = opens_same r
+    by_standing (Some st) e = record {
+      size = refl;
+      has_ended = refl;
+      running = λ h. subst IsRunning e h;
+    }
+
+releases_open : (k : ℕ) (r : Reception) → StaysOpen r (releases_up_to k r)
+unfolding releases_up_to
+releases_open zero r = opens_same r
+releases_open (suc k) r = by_next (next_picture r) (λ s. releases_open k s)
+  where
+    by_next : (o : Option Releasable) → ((s : Reception) → StaysOpen s (releases_up_to k s))
+        → StaysOpen r (option_map_or
+        (λ (picture : Releasable). releases_up_to k (releases_picture_of r picture)) o r)
+    by_next None later = opens_same r
+    by_next (Some picture) later = opens_then r (releases_picture_of r picture)
+        (releases_up_to k (releases_picture_of r picture)) (one_release r picture)
+        (later (releases_picture_of r picture))
+
+-- ---- up to the releases, and behind them
+
+module _ (a b : Option Told) (old kept exchanged : Reception) (d : List ℕ)
+    (jobs : List SliceJob) (k : kept ≡ keeps_datagram old d)
+    (x : Exchanges a b kept exchanged jobs) where
+  same : HaveSameSession kept exchanged
+  same = calls_session a b kept exchanged x.0 x.1
+
+  pub waits_exchanged : WaitsForSecond old.standing old.field
+      → WaitsForSecond exchanged.standing exchanged.field
+  waits_exchanged h = waits_same kept exchanged same
+      (subst (λ (r : Reception). WaitsForSecond r.standing r.field) (sym k) (waits_kept old d h))
+
+  value : exchanged ≡ before_releases old d (exchanges_of x.0)
+  value = x.1.value ∙ ap (λ (r : Reception). all_exchanged r (exchanges_of x.0)) k
+
+  pub size_exchanged : exchanged.size ≡ old.size
+  size_exchanged = same.size ∙ ap (λ (r : Reception). r.size) k ∙ kept-size old d
+
+  has_ended_exchanged : exchanged.has_ended ≡ old.has_ended
+  has_ended_exchanged = same.has_ended ∙ ap (λ (r : Reception). r.has_ended) k
+      ∙ kept-has_ended old d
+
+  pub fails_in : (before behind : Option (List ℕ))
+      → GrewBySome before behind (all_released_bytes exchanged)
+      → (es : List Exchange) × AreDecodings (dones_in es)
+      × GrewBySome before behind (datagram_bytes old d es)
+  unfolding datagram_bytes
+  fails_in before behind some = (
+    exchanges_of x.0,
+    x.1.decodings,
+    subst (λ (r : Reception). GrewBySome before behind (all_released_bytes r)) value some,
+  )
+
+  module _ (released : Reception) (e : released ≡ releases_all exchanged) where
+    pub size_released : released.size ≡ old.size
+    size_released = ap (λ (r : Reception). r.size) e
+        ∙ (releases_open (book_count exchanged) exchanged).size ∙ size_exchanged
+
+    has_ended_released : released.has_ended ≡ old.has_ended
+    has_ended_released = ap (λ (r : Reception). r.has_ended) e
+        ∙ (releases_open (book_count exchanged) exchanged).has_ended ∙ has_ended_exchanged
+
+    running_released : IsRunning kept.standing → IsRunning released.standing
+    running_released h = subst (λ (r : Reception). IsRunning r.standing) (sym e)
+        ((releases_open (book_count exchanged) exchanged).running
+        (subst IsRunning (sym same.standing) h))
+
+    opened-has_ended : (o : Option Session)
+        → (opens_session o released).has_ended ≡ released.has_ended
+    opened-has_ended None = refl
+    opened-has_ended (Some s) = refl
+
+    pub has_ended_behind : (o : Option Session) (new : Reception)
+        → new ≡ opens_session o released → new.has_ended ≡ old.has_ended
+    has_ended_behind o new n = ap (λ (r : Reception). r.has_ended) n ∙ opened-has_ended o
+        ∙ has_ended_released
+
+    opens : GoesOn old → WaitsForSecond released.standing released.field
+        → (o : Option Opening) → (o ≡ None → IsRunning kept.standing)
+        → GoesOn (opens_session (option_map session_of o) released)
+    opens old_goes waits None running = record {
+      least = subst (λ (n : ℕ). 2 ≤ n) (sym size_released) old_goes.least;
+      most = subst (λ (n : ℕ). n ≤ 8) (sym size_released) old_goes.most;
+      running = running_released (running refl);
+      waiting = waits;
+    }
+    opens old_goes waits (Some opening) running = record {
+      least = subst (λ (n : ℕ). 2 ≤ n) (sym size_released) old_goes.least;
+      most = subst (λ (n : ℕ). n ≤ 8) (sym size_released) old_goes.most;
+      running = refl;
+      waiting = tt;
+    }
+
+    pub goes_on_behind : GoesOn old → WaitsForSecond released.standing released.field
+        → (o : Option Opening) → (o ≡ None → IsRunning kept.standing) → (new : Reception)
+        → new ≡ opens_session (option_map session_of o) released → GoesOn new
+    goes_on_behind old_goes waits o running new n =
+        subst GoesOn (sym n) (opens old_goes waits o running)
+
+    module _ (c : Option Told) (before behind : Option (List ℕ)) (outcome : Outcome)
+        (o : Option Session) (new : Reception)
+        (j : map job_of jobs ≡ datagram_jobs old d) (out : outcome ≡ judged old d)
+        (opening : o ≡ session_opened old d)
+        (frees : Grows b c (freeing (all_freed_places exchanged)))
+        (grew : Grew before behind (all_released_bytes exchanged))
+        (n : new ≡ opens_session o released) where
+      new_value : new ≡ takes_datagram old d (exchanges_of x.0)
+      unfolding takes_datagram
+      new_value = n ∙ ap (λ (s : Option Session). opens_session s released) opening
+          ∙ ap (opens_session (session_opened old d)) (e ∙ ap releases_all value)
+
+      new_written : Grew before behind (datagram_bytes old d (exchanges_of x.0))
+      unfolding datagram_bytes
+      new_written = subst (λ (r : Reception). Grew before behind (all_released_bytes r)) value grew
+
+      asked_for : is_some (next_picture (keeps_datagram old d)) ≡ true
+          → are_asked old.out (exchanges_of x.0) ≡ true
+      asked_for some = subst (λ (r : List SliceOut). are_asked r (exchanges_of x.0) ≡ true)
+          (ap (λ (r : Reception). r.out) k ∙ kept-out old d)
+          (x.3 (ap (λ (r : Reception). is_some (next_picture r)) k ∙ some))
+
+      pub enters : (calls : List PlaceCall) × IsEntered (record {
+        told_before = a;
+        told_behind = c;
+        held_before = before;
+        held_behind = behind;
+      }) old new d outcome calls
+      enters = (
+        x.0,
+        record {
+          told = subst (λ (r : Reception). Grows a c
+              (told_more (told_of x.0) (freeing (all_freed_places r)))) value
+              (grows_twice a b c (told_of x.0) (freeing (all_freed_places exchanged)) x.1.told frees);
+          value = new_value;
+          written = new_written;
+          judgement = out;
+          decodings = x.1.decodings;
+          offered = subst (λ (l : List Job). AreOffersOf l (proposed_in (exchanges_of x.0))) j x.2;
+          asked = asked_for;
+        },
+      )
+
+-- ---- the end of the input
+
+waits_over : (r : Reception) → WaitsForSecond r.standing r.field
+    → WaitsForSecond (ends_input r).standing (ends_input r).field
+waits_over r h = waits_on is_over (λ st. refl) r.standing r.field h
+
+module _ (a b : Option Told) (old ended exchanged : Reception) (k : ended ≡ ends_input old)
+    (x : TakesBack a b ended exchanged) where
+  same_at_end : HaveSameSession ended exchanged
+  same_at_end = calls_session a b ended exchanged x.0 x.1
+
+  pub waits_at_end : WaitsForSecond old.standing old.field
+      → WaitsForSecond exchanged.standing exchanged.field
+  waits_at_end h = waits_same ended exchanged same_at_end
+      (subst (λ (r : Reception). WaitsForSecond r.standing r.field) (sym k) (waits_over old h))
+
+  value_at_end : exchanged ≡ all_exchanged (ends_input old) (exchanges_of x.0)
+  value_at_end = x.1.value ∙ ap (λ (r : Reception). all_exchanged r (exchanges_of x.0)) k
+
+  pub fails_at_end : (before behind : Option (List ℕ))
+      → GrewBySome before behind (all_released_bytes exchanged)
+      → (es : List Exchange) × AreDecodings (dones_in es)
+      × GrewBySome before behind (end_bytes old es)
+  unfolding end_bytes
+  fails_at_end before behind some = (
+    exchanges_of x.0,
+    x.1.decodings,
+    subst (λ (r : Reception). GrewBySome before behind (all_released_bytes r)) value_at_end some,
+  )
+
+  module _ (released new : Reception) (e : released ≡ releases_all exchanged)
+      (n : new ≡ gives_up_field released) where
+    pub ended_behind : new.has_ended ≡ true
+    ended_behind = ap (λ (r : Reception). r.has_ended) n ∙ ap (λ (r : Reception). r.has_ended) e
+        ∙ (releases_open (book_count exchanged) exchanged).has_ended
+        ∙ same_at_end.has_ended ∙ ap (λ (r : Reception). r.has_ended) k
+
+    module _ (c : Option Told) (before behind : Option (List ℕ))
+        (frees : Grows b c (freeing (all_freed_places exchanged)))
+        (grew : Grew before behind (all_released_bytes exchanged)) where
+      new_end : new ≡ takes_end old (exchanges_of x.0)
+      unfolding takes_end
+      new_end = n ∙ ap gives_up_field (e ∙ ap releases_all value_at_end)
+
+      written_at_end : Grew before behind (end_bytes old (exchanges_of x.0))
+      unfolding end_bytes
+      written_at_end = subst (λ (r : Reception). Grew before behind (all_released_bytes r))
+          value_at_end grew
+
+      pub drains : (calls : List PlaceCall) × IsDrained (record {
+        told_before = a;
+        told_behind = c;
+        held_before = before;
+        held_behind = behind;
+      }) old new calls
+      drains = (
+        x.0,
+        record {
+          told = subst (λ (r : Reception). Grows a c
+              (told_more (told_of x.0) (freeing (all_freed_places r)))) value_at_end
+              (grows_twice a b c (told_of x.0) (freeing (all_freed_places exchanged)) x.1.told frees);
+          value = new_end;
+          written = written_at_end;
+          decodings = x.1.decodings;
+          offered = x.2;
+          asked = λ some. subst (λ (r : List SliceOut). are_asked r (exchanges_of x.0) ≡ true)
+              (ap (λ (r : Reception). r.out) k)
+              (x.3 (ap (λ (r : Reception). is_some (next_picture r)) k ∙ some));
+        },
+      )

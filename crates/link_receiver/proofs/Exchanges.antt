@@ -1,0 +1,94 @@
+-- Calls of places, one after another.
+use Rattle.std.proofs.Common.{◌≡◌, List, [], ◌∷◌, ◌++◌, Option, Some, None, refl, ap, sym, ◌∙◌, subst, append_assoc}
+use Rattle.std.proofs.lemmas.Grind.{flat_map-append}
+use Rattle.std.proofs.lemmas.List.{map-append}
+use Rattle.std.specs.Prelude.{fold, ℕ}
+use Rattle.std.specs.List.{flat_map}
+use Rattle.std.specs.Option.{option_map}
+use Rattle.link_model.specs.Places.{Job, Answered, decoding}
+use Rattle.link_reception.specs.Exchanging.{Exchange, Proposed, Fetched, exchanged, all_exchanged, dones_in, given_back, takes_done, back_from, is_wanted}
+use Rattle.link_reception.specs.Receptions.{Reception, keeps_answer}
+use Rattle.link_reception.specs.Standing.{AreDecodings}
+use Rattle.slice_exchange.proofs.Growing.{grows_twice, grows_none}
+use Rattle.slice_exchange.specs.Calls.{PlaceCall, Puts, Takes, told_by, told_of, exchange_by, exchanges_of}
+use Rattle.slice_exchange.specs.Jobs.{job_of, answered}
+use Rattle.vc_slice.specs.Asked.{Told, told_more, Grows, one_offer, taking}
+use Rattle.vc_slice.specs.declared.done.SliceDone.{SliceDone}
+use Rattle.vc_slice.specs.declared.job.SliceJob.{SliceJob}
+use Rattle.link_receiver.specs.Exchanged.{IsExchanged}
+
+told_assoc : (a b c : Told) → told_more (told_more a b) c ≡ told_more a (told_more b c)
+told_assoc a b c = simp append_assoc
+
+pub told_of-append : (a b : List PlaceCall) → told_of (a ++ b) ≡ told_more (told_of a) (told_of b)
+told_of-append [] b = refl
+told_of-append (call ∷ a) b = ap (told_more (told_by call)) (told_of-append a b)
+    ∙ sym (told_assoc (told_by call) (told_of a) (told_of b))
+
+pub exchanges_of-append : (a b : List PlaceCall)
+    → exchanges_of (a ++ b) ≡ exchanges_of a ++ exchanges_of b
+exchanges_of-append a b = map-append exchange_by a b
+
+pub all_exchanged-append : (r : Reception) (a b : List Exchange)
+    → all_exchanged r (a ++ b) ≡ all_exchanged (all_exchanged r a) b
+all_exchanged-append r [] b = refl
+all_exchanged-append r (e ∷ a) b = all_exchanged-append (exchanged r e) a b
+
+decodings-append : (a b : List Answered) → AreDecodings a → AreDecodings b → AreDecodings (a ++ b)
+decodings-append [] b p q = q
+decodings-append (done ∷ a) b p q = (p.0, decodings-append a b p.1 q)
+
+dones_in-append : (a b : List Exchange) → dones_in (a ++ b) ≡ dones_in a ++ dones_in b
+dones_in-append a b = flat_map-append given_back a b
+
+-- ---- none, one and two
+
+pub no_call : (told : Option Told) (r : Reception) → IsExchanged told told r r []
+no_call told r = record { told = grows_none told; value = refl; decodings = tt }
+
+pub one_put : (before behind : Option Told) (old new : Reception) (job : SliceJob)
+    (answer : Option ℕ) → Grows before behind (one_offer job answer)
+    → new ≡ exchanged old (Proposed (job_of job) answer)
+    → IsExchanged before behind old new (Puts job answer ∷ [])
+one_put before behind old new job answer told value = record {
+  told = rw told_none told;
+  value = value;
+  decodings = tt;
+}
+  where
+    told_none : told_more (one_offer job answer) (told_of []) ≡ one_offer job answer
+    told_none = refl
+
+own_done : (done : SliceDone) → (answered done).answer ≡ decoding (answered done).job
+own_done done = done.decoded
+
+pub one_take : (before behind : Option Told) (old new : Reception) (place : ℕ)
+    (done : Option SliceDone) → Grows before behind (taking place done)
+    → new ≡ exchanged old (Fetched place (option_map answered done))
+    → IsExchanged before behind old new (Takes place done ∷ [])
+one_take before behind old new place None told value = record {
+  told = told;
+  value = value;
+  decodings = tt;
+}
+one_take before behind old new place (Some done) told value = record {
+  told = told;
+  value = value;
+  decodings = (own_done done, tt);
+}
+
+pub calls_then : (a b c : Option Told) (r s t : Reception) (first second : List PlaceCall)
+    → IsExchanged a b r s first → IsExchanged b c s t second
+    → IsExchanged a c r t (first ++ second)
+calls_then a b c r s t first second p q = record {
+  told = subst (Grows a c) (sym (told_of-append first second))
+      (grows_twice a b c (told_of first) (told_of second) p.told q.told);
+  value = q.value ∙ ap (λ (x : Reception). all_exchanged x (exchanges_of second)) p.value
+      ∙ sym (all_exchanged-append r (exchanges_of first) (exchanges_of second))
+      ∙ ap (all_exchanged r) (sym (exchanges_of-append first second));
+  decodings = subst AreDecodings
+      (sym (ap dones_in (exchanges_of-append first second)
+      ∙ dones_in-append (exchanges_of first) (exchanges_of second)))
+      (decodings-append (dones_in (exchanges_of first)) (dones_in (exchanges_of second))
+      p.decodings q.decodings);
+}

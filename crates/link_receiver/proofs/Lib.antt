@@ -1,0 +1,9 @@
+pub mod Exchanges
+pub mod Offered
+pub mod Stays
+pub mod Steps
+pub mod CallSteps
+pub mod Entering
+pub mod ReleaseLoop
+pub mod HeardMore
+pub mod ListClauses

@@ -1,0 +1,111 @@
+-- What calls of a receiver are for a list of datagrams that it has heard.
+use Rattle.std.proofs.Common.{◌≡◌, ℕ, Bool, true, false, List, [], ◌∷◌, ◌++◌, Option, refl, sym, ap, ◌∙◌, subst}
+use Rattle.std.specs.Prelude.{◌||◌, Result, Ok, Err, IfOk, OnOk, OnErr}
+use Rattle.link_model.specs.Judgement.{tally_of, outcome_behind}
+use Rattle.link_model.specs.declared.outcome.Outcome.{Outcome}
+use Rattle.link_reception.specs.Entering.{datagram_bytes, end_bytes}
+use Rattle.link_reception.specs.Exchanging.{Exchange, dones_in}
+use Rattle.link_reception.specs.Receptions.{Reception}
+use Rattle.link_reception.specs.Standing.{AreDecodings}
+use Rattle.link_receiver.proofs.HeardMore.{heard_outcome, heard_with, heard_writes, end_writes, end_counts}
+use Rattle.link_receiver.specs.Entered.{Outside, IsEntered, IsDrained}
+use Rattle.link_receiver.specs.HeardLists.{HasHeard, AskedPlaces, newly_due, still_due}
+use Rattle.link_receiver.specs.States.{ReceiverState, has_stopped}
+use Rattle.link_receiver.specs.declared.fault.EnterFault.{EnterFault}
+use Rattle.slice_exchange.specs.Calls.{PlaceCall, Puts, Takes, told_by, told_of, exchanges_of, freeing}
+use Rattle.vc_ports.specs.Writing.{Grew, GrewBySome}
+use Rattle.vc_slice.specs.Asked.{Told, told_more}
+
+not_failed : (a b : Bool) → (a || b) ≡ false → a ≡ false
+not_failed true b e = e
+not_failed false b e = refl
+
+-- calls of places start no workers
+none_started : (calls : List PlaceCall) → (told_of calls).started ≡ []
+none_started [] = refl
+none_started (Puts job answer ∷ rest) = none_started rest
+none_started (Takes place answer ∷ rest) = none_started rest
+
+module _ (old new : ReceiverState) (d : List ℕ) (outside : Outside) where
+  abbrev Entered : Result Outcome EnterFault → Type 0
+  Entered result = IfOk result (λ outcome. (calls : List PlaceCall)
+      × IsEntered outside old.reception new.reception d outcome calls)
+
+  pub enter_asked : (result : Result Outcome EnterFault) → Entered result
+      → OnOk result (AskedPlaces outside.told_before outside.told_behind)
+  enter_asked (Ok outcome) e = record {
+    more = _;
+    grows = e.1.told;
+    started = rw (none_started e.0) refl;
+  }
+  enter_asked (Err fault) e = tt
+
+  module _ (size : ℕ) (datagrams : List (List ℕ)) (h : HasHeard old size datagrams) where
+    pub enter_judged : (result : Result Outcome EnterFault) → Entered result
+        → IfOk result (λ outcome. outcome ≡ outcome_behind size datagrams d)
+    enter_judged (Ok outcome) e = e.1.judgement ∙ heard_outcome old size datagrams h d
+    enter_judged (Err fault) e = tt
+
+    pub enter_heard : (result : Result Outcome EnterFault) → Entered result
+        → OnOk result (has_stopped new ≡ false)
+        → OnOk result (HasHeard new size (datagrams ++ d ∷ []))
+    enter_heard (Ok outcome) e goes_on =
+        let then = heard_with old size datagrams h (exchanges_of e.0) e.1.decodings d in
+        record {
+          sound = not_failed new.has_failed new.reception.has_ended goes_on;
+          fits = h.fits;
+          feeder = then.feeder;
+          stands = rw e.1.value then.stands;
+          heard = then.heard;
+          goes_on = then.goes_on;
+        }
+    enter_heard (Err fault) e goes_on = tt
+
+    pub enter_wrote : (result : Result Outcome EnterFault) → Entered result
+        → OnOk result (Grew outside.held_before outside.held_behind (newly_due size datagrams d))
+    enter_wrote (Ok outcome) e =
+        rw (heard_writes old size datagrams h (exchanges_of e.0) e.1.decodings d) at e.1.written
+    enter_wrote (Err fault) e = tt
+
+    pub enter_part : (result : Result Outcome EnterFault) (before behind : Option (List ℕ))
+        → OnErr result ((exchanges : List Exchange) × AreDecodings (dones_in exchanges)
+        × GrewBySome before behind (datagram_bytes old.reception d exchanges))
+        → OnErr result (GrewBySome before behind (newly_due size datagrams d))
+    enter_part (Ok outcome) before behind e = tt
+    enter_part (Err fault) before behind e =
+        rw (heard_writes old size datagrams h e.0 e.1 d) at e.2
+
+module _ (old new : ReceiverState) (outside : Outside) where
+  abbrev Drained : Result (Unit {0}) EnterFault → Type 0
+  Drained result = OnOk result ((calls : List PlaceCall)
+      × IsDrained outside old.reception new.reception calls)
+
+  pub drain_asked : (result : Result (Unit {0}) EnterFault) → Drained result
+      → OnOk result (AskedPlaces outside.told_before outside.told_behind)
+  drain_asked (Ok done) e = record {
+    more = _;
+    grows = e.1.told;
+    started = rw (none_started e.0) refl;
+  }
+  drain_asked (Err fault) e = tt
+
+  module _ (size : ℕ) (datagrams : List (List ℕ)) (h : HasHeard old size datagrams) where
+    pub drain_wrote : (result : Result (Unit {0}) EnterFault) → Drained result
+        → OnOk result (Grew outside.held_before outside.held_behind (still_due size datagrams))
+    drain_wrote (Ok done) e =
+        rw (end_writes old size datagrams h (exchanges_of e.0) e.1.decodings) at e.1.written
+    drain_wrote (Err fault) e = tt
+
+    pub drain_part : (result : Result (Unit {0}) EnterFault) (before behind : Option (List ℕ))
+        → OnErr result ((exchanges : List Exchange) × AreDecodings (dones_in exchanges)
+        × GrewBySome before behind (end_bytes old.reception exchanges))
+        → OnErr result (GrewBySome before behind (still_due size datagrams))
+    drain_part (Ok done) before behind e = tt
+    drain_part (Err fault) before behind e = rw (end_writes old size datagrams h e.0 e.1) at e.2
+
+    pub drain_counts : (result : Result (Unit {0}) EnterFault) → Drained result
+        → OnOk result (new.reception.counts ≡ tally_of size datagrams)
+    drain_counts (Ok done) e =
+        ap (λ (r : Reception). r.counts) e.1.value
+        ∙ end_counts old size datagrams h (exchanges_of e.0) e.1.decodings
+    drain_counts (Err fault) e = tt

@@ -1,0 +1,41 @@
+-- Offers and places that were asked, over more calls than one.
+use Rattle.std.proofs.Common.{◌≡◌, ◌⊎◌, ℕ, zero, suc, ◌+◌, ◌<◌, ◌≤◌, Bool, true, false, cond, List, [], ◌∷◌, ◌++◌, length, take, get_or, refl, ap, sym, ◌∙◌, subst, inl, inr, append_assoc, append-nil, arith, eqb, eq-eqb}
+use Rattle.std.proofs.lemmas.Grind.{flat_map-append}
+use Rattle.std.proofs.lemmas.List.{take_more}
+use Rattle.std.specs.Prelude.{filter, ◌&&◌, ◌||◌, ◌==◌, not, Option, Some, None}
+use Rattle.std.specs.List.{list_any, list_all, flat_map}
+use Rattle.link_model.specs.Places.{Job, Answered}
+use Rattle.link_reception.specs.Exchanging.{Exchange, Proposed, Fetched, not_at}
+use Rattle.link_reception.specs.Receptions.{SliceOut}
+use Rattle.slice_exchange.specs.Calls.{out_exchanged}
+use Rattle.link_receiver.specs.Offers.{AreOffersOf, IsOfferOf, MayOffer, proposed_by, proposed_in, asked_by, asked_in, is_asked, are_asked}
+
+-- ---- offers
+
+pub proposed_in-append : (a b : List Exchange)
+    → proposed_in (a ++ b) ≡ proposed_in a ++ proposed_in b
+proposed_in-append a b = flat_map-append proposed_by a b
+
+pub offers_more : (jobs offers : List Job) (job : Job) (last : List Job)
+    → AreOffersOf jobs offers → IsOfferOf job last
+    → AreOffersOf (jobs ++ job ∷ []) (offers ++ last)
+offers_more [] offers job last p l =
+    (last, [], l, refl, ap (λ (o : List Job). o ++ last) p ∙ sym (append-nil last))
+offers_more (first ∷ jobs) offers job last p l = (
+  p.0,
+  p.1 ++ last,
+  p.2,
+  offers_more jobs p.1 job last p.3 l,
+  ap (λ (o : List Job). o ++ last) p.4 ∙ append_assoc p.0 p.1 last,
+)
+
+-- an offer, and maybe one more of the same job
+pub offers_again : (job : Job) (offers more : List Job) → offers ≡ job ∷ [] → MayOffer job more
+    → IsOfferOf job (offers ++ more)
+offers_again job offers more e (inl none) = inl (ap (λ (o : List Job). o ++ more) e
+    ∙ ap (λ (m : List Job). job ∷ m) none)
+offers_again job offers more e (inr one) = inr (ap (λ (o : List Job). o ++ more) e
+    ∙ ap (λ (m : List Job). job ∷ m) one)
+
+pub asked_in-append : (a b : List Exchange) → asked_in (a ++ b) ≡ asked_in a ++ asked_in b
+asked_in-append a b = flat_map-append asked_by a b

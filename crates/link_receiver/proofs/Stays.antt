@@ -1,0 +1,306 @@
+-- A slice that is out stays out, unless its place is asked.
+use Rattle.std.proofs.Common.{◌≡◌, ◌≢◌, ◌⊎◌, ℕ, zero, suc, ◌+◌, ◌<◌, ◌≤◌, Bool, true, false, cond, List, [], ◌∷◌, ◌++◌, length, take, get_or, refl, ap, sym, ◌∙◌, subst, inl, inr, arith, eqb, eq-eqb, eqb-true}
+use Rattle.std.proofs.lemmas.Grind.{flat_map-append}
+use Rattle.std.proofs.Math.Seq.{take-length}
+use Rattle.std.proofs.lemmas.Bool.{and_parts}
+use Rattle.std.proofs.lemmas.List.Folds.{list_any-append}
+use Rattle.std.specs.Prelude.{filter, ◌&&◌, ◌||◌, ◌==◌, not, Option, Some, None}
+use Rattle.std.specs.List.{list_any, list_all, flat_map}
+use Rattle.link_model.specs.Places.{Job, Answered}
+use Rattle.link_reception.specs.Exchanging.{Exchange, Proposed, Fetched, exchanged, all_exchanged, not_at, out_at, takes_done, back_from, is_wanted}
+use Rattle.link_reception.specs.Receptions.{SliceOut, Reception, keeps_answer}
+use Rattle.slice_exchange.specs.Calls.{out_exchanged}
+use Rattle.std.proofs.lemmas.Option.{slice_get_past}
+use Rattle.std.specs.Option.{option_map, option_map_or}
+use Rattle.slice_exchange.specs.Calls.{AreBelow}
+use Rattle.std.specs.Prelude.{slice_get}
+use Rattle.link_receiver.specs.Offers.{asked_by, asked_in, asked_at, is_asked, are_asked, proposed_in}
+
+-- ---- one of a list
+
+abbrev pub IsIn : SliceOut → List SliceOut → Type 0
+IsIn x [] = ⊥
+IsIn x (y ∷ ys) = (x ≡ y) ⊎ IsIn x ys
+
+in_front : (x : SliceOut) (xs ys : List SliceOut) → IsIn x xs → IsIn x (xs ++ ys)
+in_front x [] ys h = absurd h
+in_front x (y ∷ xs) ys (inl e) = inl e
+in_front x (y ∷ xs) ys (inr h) = inr (in_front x xs ys h)
+
+in_either : (x : SliceOut) (xs ys : List SliceOut) → IsIn x (xs ++ ys) → IsIn x xs ⊎ IsIn x ys
+in_either x [] ys h = inr h
+in_either x (y ∷ xs) ys (inl e) = inl (inl e)
+in_either x (y ∷ xs) ys (inr h) = onward (in_either x xs ys h)
+  where
+    onward : IsIn x xs ⊎ IsIn x ys → ((x ≡ y) ⊎ IsIn x xs) ⊎ IsIn x ys
+    onward (inl h) = inl (inr h)
+    onward (inr h) = inr h
+
+in_filter : (p : SliceOut → Bool) (x : SliceOut) (xs : List SliceOut) → p x ≡ true → IsIn x xs
+    → IsIn x (filter p xs)
+in_filter p x [] e h = absurd h
+in_filter p x (y ∷ xs) e (inl same) = rw (ap p (sym same) ∙ e) (inl same)
+in_filter p x (y ∷ xs) e (inr h) = deeper (p y) (in_filter p x xs e h)
+  where
+    deeper : (b : Bool) → IsIn x (filter p xs) → IsIn x (cond b (y ∷ filter p xs) (filter p xs))
+    deeper true h = inr h
+    deeper false h = h
+
+in_take_more : (x : SliceOut) (k : ℕ) (xs : List SliceOut) → IsIn x (take k xs)
+    → IsIn x (take (suc k) xs)
+in_take_more x zero xs h = absurd h
+in_take_more x (suc k) [] h = h
+in_take_more x (suc k) (y ∷ xs) (inl e) = inl e
+in_take_more x (suc k) (y ∷ xs) (inr h) = inr (in_take_more x k xs h)
+
+-- what a filter leaves of the first ones is among the first ones that it leaves
+in_take_filter : (p : SliceOut → Bool) (x : SliceOut) (k : ℕ) (xs : List SliceOut)
+    → IsIn x (filter p (take k xs)) → IsIn x (take k (filter p xs))
+in_take_filter p x zero xs h = absurd h
+in_take_filter p x (suc k) [] h = h
+in_take_filter p x (suc k) (y ∷ xs) h =
+    by_test (p y) h (in_take_filter p x k xs) (in_take_more x k (filter p xs))
+  where
+    by_test : (b : Bool) → IsIn x (cond b (y ∷ filter p (take k xs)) (filter p (take k xs)))
+        → (IsIn x (filter p (take k xs)) → IsIn x (take k (filter p xs)))
+        → (IsIn x (take k (filter p xs)) → IsIn x (take (suc k) (filter p xs)))
+        → IsIn x (take (suc k) (cond b (y ∷ filter p xs) (filter p xs)))
+    by_test true (inl e) same less = inl e
+    by_test true (inr h) same less = inr (same h)
+    by_test false h same less = less (same h)
+
+pub at_test : (place : ℕ) (x : SliceOut) (b : Bool) → eqb x.place place ≡ b
+    → (eqb place x.place ≡ true) ⊎ (not_at place x ≡ true)
+at_test place x true e = inl (eq-eqb place x.place (sym (eqb-true x.place place e)))
+at_test place x false e = inr (ap not e)
+
+-- ---- asked, or still out
+
+asked_first : (place : ℕ) (rest : List ℕ) (x : SliceOut) → eqb place x.place ≡ true
+    → is_asked (place ∷ rest) x ≡ true
+asked_first place rest x e = rw e refl
+
+asked_later : (place : ℕ) (rest : List ℕ) (x : SliceOut) → is_asked rest x ≡ true
+    → is_asked (place ∷ rest) x ≡ true
+asked_later place rest x e = by_test (eqb place x.place)
+  where
+    by_test : (b : Bool) → b || is_asked rest x ≡ true
+    by_test true = refl
+    by_test false = e
+
+pub takes_done-out : (r : Reception) (done : Answered) → (takes_done r done).out ≡ r.out
+unfolding takes_done
+takes_done-out r done = by_test (is_wanted r done)
+  where
+    by_test : (b : Bool) → (let s : Reception = cond b
+        (record r { answers = keeps_answer r.answers done }) r in s.out) ≡ r.out
+    by_test true = refl
+    by_test false = refl
+
+pub exchanged-out : (r : Reception) (e : Exchange) → (exchanged r e).out ≡ out_exchanged r.out e
+exchanged-out r (Proposed job None) = refl
+exchanged-out r (Proposed job (Some place)) = refl
+exchanged-out r (Fetched place None) = refl
+exchanged-out r (Fetched place (Some done)) = takes_done-out (back_from r place) done
+
+-- by the exchange and those behind it
+abbrev pub AskedOrIn : SliceOut → List ℕ → List SliceOut → Type 0
+AskedOrIn x asked out = (is_asked asked x ≡ true) ⊎ IsIn x out
+
+out_stays : (out : List SliceOut) (e : Exchange) (x : SliceOut) → IsIn x out
+    → AskedOrIn x (asked_by e) (out_exchanged out e)
+out_stays out (Proposed job None) x h = inr h
+out_stays out (Proposed job (Some place)) x h = inr (in_front x out (out_at job place ∷ []) h)
+out_stays out (Fetched place None) x h = inr h
+out_stays out (Fetched place (Some done)) x h =
+    by_place (at_test place x (eqb x.place place) refl)
+  where
+    by_place : (eqb place x.place ≡ true) ⊎ (not_at place x ≡ true)
+        → AskedOrIn x (place ∷ []) (filter (not_at place) out)
+    by_place (inl here) = inl (asked_first place [] x here)
+    by_place (inr there) = inr (in_filter (not_at place) x out there h)
+
+is_asked-append : (a b : List ℕ) (x : SliceOut) → is_asked (a ++ b) x
+    ≡ (is_asked a x || is_asked b x)
+is_asked-append a b x = list_any-append (λ place. place == x.place) a b
+
+asked_front : (a b : List ℕ) (x : SliceOut) → is_asked a x ≡ true → is_asked (a ++ b) x ≡ true
+asked_front a b x e = is_asked-append a b x ∙ ap (λ (t : Bool). t || is_asked b x) e
+
+asked_back : (a b : List ℕ) (x : SliceOut) → is_asked b x ≡ true → is_asked (a ++ b) x ≡ true
+asked_back a b x e = is_asked-append a b x ∙ by_test (is_asked a x) ∙ e
+  where
+    by_test : (t : Bool) → (t || is_asked b x) ≡ is_asked b x
+    by_test true = sym e
+    by_test false = refl
+
+pub stays : (r : Reception) (es : List Exchange) (x : SliceOut) → IsIn x r.out
+    → AskedOrIn x (asked_in es) (all_exchanged r es).out
+stays r [] x h = inr h
+stays r (e ∷ es) x h = onward (out_stays r.out e x h) (stays (exchanged r e) es x)
+  where
+    behind : AskedOrIn x (asked_in es) (all_exchanged (exchanged r e) es).out
+        → AskedOrIn x (asked_by e ++ asked_in es) (all_exchanged (exchanged r e) es).out
+    behind (inl asked) = inl (asked_back (asked_by e) (asked_in es) x asked)
+    behind (inr out) = inr out
+
+    onward : AskedOrIn x (asked_by e) (out_exchanged r.out e)
+        → (IsIn x (exchanged r e).out
+        → AskedOrIn x (asked_in es) (all_exchanged (exchanged r e) es).out)
+        → AskedOrIn x (asked_by e ++ asked_in es) (all_exchanged (exchanged r e) es).out
+    onward (inl asked) later = inl (asked_front (asked_by e) (asked_in es) x asked)
+    onward (inr out) later =
+        behind (later (subst (IsIn x) (sym (exchanged-out r e)) out))
+
+-- ---- one place after another, from the last to the first
+
+front_stays : (out : List SliceOut) (e : Exchange) (k : ℕ) (x : SliceOut)
+    → proposed_in (e ∷ []) ≡ [] → IsIn x (take k out)
+    → AskedOrIn x (asked_by e) (take k (out_exchanged out e))
+front_stays out (Proposed job place) k x none h = absurd (cc)
+front_stays out (Fetched place None) k x none h = inr h
+front_stays out (Fetched place (Some done)) k x none h =
+    by_place (at_test place x (eqb x.place place) refl)
+  where
+    by_place : (eqb place x.place ≡ true) ⊎ (not_at place x ≡ true)
+        → AskedOrIn x (place ∷ []) (take k (filter (not_at place) out))
+    by_place (inl here) = inl (asked_first place [] x here)
+    by_place (inr there) = inr (in_take_filter (not_at place) x k out
+        (in_filter (not_at place) x (take k out) there h))
+
+no_proposal : (e : Exchange) (es : List Exchange) → proposed_in (e ∷ es) ≡ []
+    → (proposed_in (e ∷ []) ≡ []) × (proposed_in es ≡ [])
+no_proposal (Proposed job place) es none = absurd (cc)
+no_proposal (Fetched place answer) es none = (refl, none)
+
+pub fronts_stay : (r : Reception) (es : List Exchange) (k : ℕ) (x : SliceOut)
+    → proposed_in es ≡ [] → IsIn x (take k r.out)
+    → AskedOrIn x (asked_in es) (take k (all_exchanged r es).out)
+fronts_stay r [] k x none h = inr h
+fronts_stay r (e ∷ es) k x none h = onward
+    (front_stays r.out e k x (no_proposal e es none).0 h)
+    (fronts_stay (exchanged r e) es k x (no_proposal e es none).1)
+  where
+    behind : AskedOrIn x (asked_in es) (take k (all_exchanged (exchanged r e) es).out)
+        → AskedOrIn x (asked_by e ++ asked_in es) (take k (all_exchanged (exchanged r e) es).out)
+    behind (inl asked) = inl (asked_back (asked_by e) (asked_in es) x asked)
+    behind (inr out) = inr out
+
+    onward : AskedOrIn x (asked_by e) (take k (out_exchanged r.out e))
+        → (IsIn x (take k (exchanged r e).out)
+        → AskedOrIn x (asked_in es) (take k (all_exchanged (exchanged r e) es).out))
+        → AskedOrIn x (asked_by e ++ asked_in es) (take k (all_exchanged (exchanged r e) es).out)
+    onward (inl asked) later = inl (asked_front (asked_by e) (asked_in es) x asked)
+    onward (inr out) later = behind (later
+        (subst (λ (o : List SliceOut). IsIn x (take k o)) (sym (exchanged-out r e)) out))
+
+before_or_at : (out : List SliceOut) (i : ℕ) (x : SliceOut) → IsIn x (take (suc i) out)
+    → IsIn x (take i out) ⊎ (asked_at out i ≡ x.place ∷ [])
+before_or_at [] i x h = absurd h
+before_or_at (y ∷ out) zero x (inl e) = inr (ap (λ (s : SliceOut). s.place ∷ []) (sym e))
+before_or_at (y ∷ out) zero x (inr h) = absurd h
+before_or_at (y ∷ out) (suc i) x (inl e) = inl (inl e)
+before_or_at (y ∷ out) (suc i) x (inr h) = onward (before_or_at out i x h)
+  where
+    onward : IsIn x (take i out) ⊎ (asked_at out i ≡ x.place ∷ [])
+        → IsIn x (take (suc i) (y ∷ out)) ⊎ (asked_at (y ∷ out) (suc i) ≡ x.place ∷ [])
+    onward (inl h) = inl (inr h)
+    onward (inr e) = inr e
+
+own_asked : (x : SliceOut) (asked : List ℕ) → asked ≡ x.place ∷ [] → is_asked asked x ≡ true
+own_asked x asked e = rw e (asked_first x.place [] x (eq-eqb x.place x.place refl))
+
+-- each was asked, or is among these
+abbrev pub AreAskedOrIn : List SliceOut → List ℕ → List SliceOut → Type 0
+AreAskedOrIn old asked left = (x : SliceOut) → IsIn x old → AskedOrIn x asked left
+
+-- the place of one more is asked
+pub one_asked : (old : List SliceOut) (r : Reception) (es more : List Exchange) (k i : ℕ)
+    → k ≡ suc i → AreAskedOrIn old (asked_in es) (take k r.out) → proposed_in more ≡ []
+    → asked_in more ≡ asked_at r.out i
+    → AreAskedOrIn old (asked_in (es ++ more)) (take i (all_exchanged r more).out)
+one_asked old r es more k i e h none asked x inside =
+    by_case (subst (λ (n : ℕ). AskedOrIn x (asked_in es) (take n r.out)) e (h x inside))
+  where
+    joined : asked_in (es ++ more) ≡ asked_in es ++ asked_in more
+    joined = flat_map-append asked_by es more
+
+    kept : AskedOrIn x (asked_in more) (take i (all_exchanged r more).out)
+        → AskedOrIn x (asked_in (es ++ more)) (take i (all_exchanged r more).out)
+    kept (inl a) = inl (ap (λ (l : List ℕ). is_asked l x) joined
+        ∙ asked_back (asked_in es) (asked_in more) x a)
+    kept (inr o) = inr o
+
+    at_place : IsIn x (take i r.out) ⊎ (asked_at r.out i ≡ x.place ∷ [])
+        → AskedOrIn x (asked_in (es ++ more)) (take i (all_exchanged r more).out)
+    at_place (inl front) = kept (fronts_stay r more i x none front)
+    at_place (inr here) = kept (inl (own_asked x (asked_in more) (asked ∙ here)))
+
+    by_case : AskedOrIn x (asked_in es) (take (suc i) r.out)
+        → AskedOrIn x (asked_in (es ++ more)) (take i (all_exchanged r more).out)
+    by_case (inl a) = inl (ap (λ (l : List ℕ). is_asked l x) joined
+        ∙ asked_front (asked_in es) (asked_in more) x a)
+    by_case (inr o) = at_place (before_or_at r.out i x o)
+
+pub none_asked : (out : List SliceOut) → AreAskedOrIn out [] (take (length out) out)
+none_asked out x inside = inr (subst (IsIn x) (sym (take-length out)) inside)
+
+pub all_asked : (old : List SliceOut) (asked : List ℕ) → AreAskedOrIn old asked []
+    → list_all (is_asked asked) old ≡ true
+all_asked [] asked h = refl
+all_asked (y ∷ old) asked h = rw (here (h y (inl refl))) (all_asked old asked (λ x i. h x (inr i)))
+  where
+    here : AskedOrIn y asked [] → is_asked asked y ≡ true
+    here (inl e) = e
+    here (inr h) = absurd h
+
+each_passes : (p : SliceOut → Bool) (out : List SliceOut) → list_all p out ≡ true
+    → (x : SliceOut) → IsIn x out → p x ≡ true
+each_passes p [] e x h = absurd h
+each_passes p (y ∷ out) e x (inl same) = ap p same ∙ (and_parts (p y) (list_all p out) e).0
+each_passes p (y ∷ out) e x (inr h) =
+    each_passes p out (and_parts (p y) (list_all p out) e).1 x h
+
+-- what was out is asked at last, where all that is out then is
+pub asked_then : (r : Reception) (first second : List Exchange)
+    → are_asked (all_exchanged r first).out second ≡ true
+    → are_asked r.out (first ++ second) ≡ true
+asked_then r first second h = all_asked r.out (asked_in (first ++ second))
+    (λ x inside. by_case x (stays r first x inside))
+  where
+    joined : asked_in (first ++ second) ≡ asked_in first ++ asked_in second
+    joined = flat_map-append asked_by first second
+
+    later : (out : List SliceOut) → list_all (is_asked (asked_in second)) out ≡ true
+        → (x : SliceOut) → IsIn x out → is_asked (asked_in second) x ≡ true
+    later out e x i = each_passes (is_asked (asked_in second)) out e x i
+
+    by_case : (x : SliceOut) → AskedOrIn x (asked_in first) (all_exchanged r first).out
+        → AskedOrIn x (asked_in (first ++ second)) []
+    by_case x (inl a) = inl (ap (λ (l : List ℕ). is_asked l x) joined
+        ∙ asked_front (asked_in first) (asked_in second) x a)
+    by_case x (inr o) = inl (ap (λ (l : List ℕ). is_asked l x) joined
+        ∙ asked_back (asked_in first) (asked_in second) x (later (all_exchanged r first).out h x o))
+
+-- ---- the slice at a position
+
+pub asked_past : (out : List SliceOut) (i : ℕ) → length out ≤ i → [] ≡ asked_at out i
+asked_past out i past = rw (slice_get_past out i past) refl
+
+pub asked_got : (out : List SliceOut) (i place : ℕ)
+    → option_map (λ (slice : SliceOut). slice.place) (slice_get out i) ≡ Some place
+    → place ∷ [] ≡ asked_at out i
+asked_got out i place e = by_item (slice_get out i) e
+  where
+    by_item : (o : Option SliceOut) → option_map (λ (slice : SliceOut). slice.place) o ≡ Some place
+        → place ∷ [] ≡ option_map_or (λ (slice : SliceOut). slice.place ∷ []) o []
+    by_item None e = absurd (cc)
+    by_item (Some x) e = ap (λ (p : ℕ). p ∷ []) (cc)
+
+pub below_got : (bound : ℕ) (out : List SliceOut) (i place : ℕ) → AreBelow bound out
+    → option_map (λ (slice : SliceOut). slice.place) (slice_get out i) ≡ Some place
+    → place < bound
+below_got bound [] i place h e = absurd (cc)
+below_got bound (x ∷ out) zero place h e =
+    let same : x.place ≡ place = cc in subst (λ (p : ℕ). p < bound) same h.0
+below_got bound (x ∷ out) (suc i) place h e = below_got bound out i place h.1 e

@@ -1,0 +1,92 @@
+-- What one step on a receiver's parts is on its value.
+use Rattle.std.proofs.Common.{◌≡◌, ℕ, ◌+◌, Bool, true, false, cond, List, [], ◌∷◌, ◌++◌, Option, Some, None, Result, Ok, Err, refl, ap, sym, ◌∙◌, subst}
+use Rattle.std.specs.Prelude.{filter, IfSome, IfOk, OnOk, OnErr}
+use Rattle.std.specs.Option.{option_copied, option_map, option_map_or}
+use denote.Ref.{Bor}
+use Rattle.link_model.specs.Books.{Book}
+use Rattle.link_model.specs.Output.{raw_bytes}
+use Rattle.link_model.specs.Windows.{Releasable}
+use Rattle.link_reception.specs.Exchanging.{Proposed, Fetched, exchanged, takes_done, not_at}
+use Rattle.link_reception.specs.Receptions.{Reception, SliceOut, StandingSession}
+use Rattle.link_reception.specs.Releasing.{released_frame, released_planes, released_bytes}
+use Rattle.link_reception.specs.WholeBooks.{IsWholeBook}
+use Rattle.link_receiver.proofs.Exchanges.{one_put, one_take}
+use Rattle.link_receiver.specs.Exchanged.{IsExchanged}
+use Rattle.link_receiver.specs.Offers.{proposed_in}
+use Rattle.slice_answers.specs.Completing.{IsWholeIfAny, IsWholeBySome}
+use Rattle.slice_exchange.specs.Calls.{PlaceCall, Puts, Takes, exchanges_of, out_exchanged, handed_back}
+use Rattle.slice_exchange.specs.Jobs.{job_of, answered}
+use Rattle.vc_ports.specs.Writing.{Grew}
+use Rattle.vc_slice.specs.Asked.{Told, Grows, one_offer, taking}
+use Rattle.vc_slice.specs.declared.done.SliceDone.{SliceDone}
+use Rattle.vc_slice.specs.declared.job.SliceJob.{SliceJob}
+use Rattle.vc_types.specs.Planes.{Planes}
+use Rattle.vc_types.specs.SequenceHeader.{Sequence}
+use Rattle.vc_types.specs.declared.memory.NoMemory.{NoMemory}
+
+pub on_err : {T E : Type 0} (r : Result T E) (P : Type 0) → P → OnErr r P
+on_err (Ok x) P p = tt
+on_err (Err e) P p = p
+
+pub on_ok : {T E : Type 0} (r : Result T E) (P : Type 0) → P → OnOk r P
+on_ok (Ok x) P p = p
+on_ok (Err e) P p = tt
+
+pub whole_if_any : (s : Sequence) (o : Option (Bor Book))
+    → IfSome o (λ book. IsWholeBook s book.now) → IsWholeIfAny s (option_copied o)
+whole_if_any s None h = tt
+whole_if_any s (Some book) h = h
+
+pub whole_by_some : (s : Sequence) (o : Option (Bor Book))
+    → IfSome o (λ book. IsWholeBook s book.now) → IsWholeBySome (option_copied o)
+whole_by_some s None h = tt
+whole_by_some s (Some book) h = (s, h)
+
+pub released_grew : (r : Reception) (st : StandingSession) (picture : Releasable) (s : Sequence)
+    (planes : Option Planes) (before behind : Option (List ℕ)) → r.standing ≡ Some st
+    → s ≡ st.session.sequence → planes ≡ released_planes r.answers st.window picture.number
+    → Grew before behind (raw_bytes s (released_frame s r.field picture.number planes))
+    → Grew before behind (released_bytes r picture)
+released_grew r st picture s planes before behind e f p grew = rw (e, ← f, ← p) grew
+
+-- ---- a job is put
+
+put_value : (old : Reception) (out : List SliceOut) (job : SliceJob) (answer : Option ℕ)
+    → out ≡ out_exchanged old.out (Proposed (job_of job) answer)
+    → (let new : Reception = record old { out = out } in new)
+    ≡ exchanged old (Proposed (job_of job) answer)
+put_value old out job None e = ap (λ (o : List SliceOut). (let r : Reception = record old { out = o } in r)) e
+put_value old out job (Some place) e = ap (λ (o : List SliceOut). (let r : Reception = record old { out = o } in r)) e
+
+pub put_calls : (r : Result (Option SliceJob) NoMemory) (before behind : Option Told)
+    (old : Reception) (out : List SliceOut) (job : SliceJob)
+    → IfOk r (λ back. (answer : Option ℕ) × Grows before behind (one_offer job answer)
+    × (out ≡ out_exchanged old.out (Proposed (job_of job) answer))
+    × (back ≡ handed_back job answer))
+    → OnOk r ((calls : List PlaceCall)
+    × IsExchanged before behind old (record old { out = out }) calls
+    × (proposed_in (exchanges_of calls) ≡ job_of job ∷ []))
+put_calls (Err e) before behind old out job h = tt
+put_calls (Ok back) before behind old out job h = (
+  Puts job h.0 ∷ [],
+  one_put before behind old (record old { out = out }) job h.0 h.1 (put_value old out job h.0 h.2),
+  refl,
+)
+
+-- ---- a place is asked
+
+pub take_some : (before behind : Option Told) (old : Reception) (out : List SliceOut)
+    (new : Reception) (place : ℕ) (done : SliceDone) → Grows before behind (taking place (Some done))
+    → out ≡ filter (not_at place) old.out
+    → new ≡ takes_done (record old { out = out }) (answered done)
+    → IsExchanged before behind old new (Takes place (Some done) ∷ [])
+take_some before behind old out new place done told e value =
+    one_take before behind old new place (Some done) told
+    (value ∙ ap (λ (o : List SliceOut). takes_done (record old { out = o }) (answered done)) e)
+
+pub take_none : (before behind : Option Told) (old : Reception) (out : List SliceOut) (place : ℕ)
+    → Grows before behind (taking place None) → out ≡ old.out
+    → IsExchanged before behind old (record old { out = out }) (Takes place None ∷ [])
+take_none before behind old out place told e =
+    one_take before behind old (record old { out = out }) place None told
+    (ap (λ (o : List SliceOut). (let r : Reception = record old { out = o } in r)) e)

@@ -1,0 +1,28 @@
+use Rattle.link_receiver.proofs.ListClauses.{drain_asked, drain_wrote, drain_part, drain_counts}
+use Rattle.link_receiver.specs.Entered.{Outside}
+use Rattle.link_receiver.proofs.receiver.Receiver.drain.Given.{Over}
+use Rattle.link_receiver.proofs.receiver.Receiver.drain.Goals as goal
+
+abbrev outside : (g : Over) → goal.After-take_end g → Outside
+outside g c = record {
+  told_before = g.P.Places.told c.args.places.now;
+  told_behind = g.P.Places.told c.take_end.new.places;
+  held_before = g.O.Sink.held c.args.sink.now;
+  held_behind = g.O.Sink.held c.take_end.new.sink;
+}
+
+pub returns-clause-wrote : goal.returns-clause-wrote
+returns-clause-wrote g c = λ size datagrams h. drain_wrote c.args.self.now c.take_end.new.self
+    (outside g c) size datagrams h _ c.take_end.ensures.drained
+
+pub returns-clause-part : goal.returns-clause-part
+returns-clause-part g c = λ size datagrams h. drain_part c.args.self.now c.take_end.new.self
+    (outside g c) size datagrams h _ _ _ c.take_end.ensures.failed
+
+pub returns-clause-counts : goal.returns-clause-counts
+returns-clause-counts g c = λ size datagrams h. drain_counts c.args.self.now c.take_end.new.self
+    (outside g c) size datagrams h _ c.take_end.ensures.drained
+
+pub returns-clause-asked : goal.returns-clause-asked
+returns-clause-asked g c = drain_asked c.args.self.now c.take_end.new.self (outside g c) _
+    c.take_end.ensures.drained

@@ -1,0 +1,15 @@
+use Rattle.std.proofs.Common.{◌≡◌, refl}
+use Rattle.link_model.specs.Feeders.{new_feeder}
+use Rattle.link_reception.proofs.NewReception.{new_stands}
+use Rattle.link_receiver.specs.HeardLists.{HasHeard}
+use Rattle.link_receiver.proofs.receiver.Receiver.new.Goals as goal
+
+pub returns-clause-heard : goal.returns-clause-heard
+returns-clause-heard c = record {
+  sound = refl;
+  fits = c.requires.most;
+  feeder = new_feeder;
+  stands = rw c.new.ensures (new_stands c.args.size);
+  heard = refl;
+  goes_on = refl;
+}

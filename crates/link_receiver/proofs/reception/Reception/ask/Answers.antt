@@ -1,0 +1,68 @@
+use Rattle.std.proofs.Common.{◌≡◌, ◌<◌, ◌≤◌, subst, sym, ap, ◌∙◌, [], ◌∷◌, refl, length, Some, None, arith}
+use Rattle.link_reception.specs.Receptions.{Reception, SliceOut}
+use Rattle.link_receiver.proofs.Exchanges.{no_call}
+use Rattle.link_receiver.proofs.Stays.{asked_past, asked_got, below_got}
+use Rattle.link_receiver.proofs.Steps.{take_some, take_none}
+use Rattle.slice_exchange.specs.Calls.{Takes, AreBelow}
+use Rattle.link_receiver.proofs.reception.Reception.ask.Goals as goal
+
+pub returns-then-i-count-clause-exchanged : goal.returns-then-i-count-clause-exchanged
+returns-then-i-count-clause-exchanged g c =
+    let same : length c.self.inside.out ≡ length c.args.self.now.out =
+    ap (λ (r : Reception). length r.out) c.self.view_is in
+    let past : length c.args.self.now.out ≤ c.args.i =
+    omega (arith, same, c.count.ensures, c.if-i-count.true) in
+    ([], no_call _ _, refl, asked_past c.args.self.now.out c.args.i past)
+
+pub ask-requires-clause-place : goal.ask-requires-clause-place
+ask-requires-clause-place g c =
+    let below : AreBelow (g.P.Places.bound c.args.places.now) c.self.inside.out =
+    subst (λ (r : Reception). AreBelow (g.P.Places.bound c.args.places.now) r.out)
+    (sym c.self.view_is) c.requires.below in
+    below_got _ c.self.inside.out c.args.i c.place-place.result below c.place-place.ensures
+
+pub returns-in_err-accept-in-Some-clause-below : goal.returns-in_err-accept-in-Some-clause-below
+returns-in_err-accept-in-Some-clause-below g c = rw c.accept.ensures.out c.ask.ensures.below
+
+pub returns-in_ok-accept-in-Some-clause-below : goal.returns-in_ok-accept-in-Some-clause-below
+returns-in_ok-accept-in-Some-clause-below g c = rw c.accept.ensures.out c.ask.ensures.below
+
+pub returns-in_ok-accept-in-Some-clause-exchanged :
+    goal.returns-in_ok-accept-in-Some-clause-exchanged
+returns-in_ok-accept-in-Some-clause-exchanged g c =
+    let r : Reception = record {
+      size = c.self.inside.size;
+      standing = c.self.inside.standing;
+      counts = c.self.inside.counts;
+      answers = c.self.inside.answers;
+      out = c.self.inside.out;
+      field = c.self.inside.field;
+      has_ended = c.self.inside.has_ended;
+    } in
+    rw (← c.self.view_is) (
+      Takes c.place-place.result (Some c.in-Some.done) ∷ [],
+      take_some (g.P.Places.told c.args.places.now) (g.P.Places.told c.ask.new.places) r
+          c.ask.new.self c.accept.new.self c.place-place.result c.in-Some.done
+          c.in-Some.ensures.told c.in-Some.ensures.out c.in_ok-accept-in-Some.ensures.value,
+      refl,
+      asked_got c.self.inside.out c.args.i c.place-place.result c.place-place.ensures,
+    )
+
+pub returns-in-None-clause-exchanged : goal.returns-in-None-clause-exchanged
+returns-in-None-clause-exchanged g c =
+    let r : Reception = record {
+      size = c.self.inside.size;
+      standing = c.self.inside.standing;
+      counts = c.self.inside.counts;
+      answers = c.self.inside.answers;
+      out = c.self.inside.out;
+      field = c.self.inside.field;
+      has_ended = c.self.inside.has_ended;
+    } in
+    rw (← c.self.view_is) (
+      Takes c.place-place.result None ∷ [],
+      take_none (g.P.Places.told c.args.places.now) (g.P.Places.told c.ask.new.places) r
+          c.ask.new.self c.place-place.result c.in-None.ensures.told c.in-None.ensures.out,
+      refl,
+      asked_got c.self.inside.out c.args.i c.place-place.result c.place-place.ensures,
+    )

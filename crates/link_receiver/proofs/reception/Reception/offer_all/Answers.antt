@@ -1,0 +1,20 @@
+use Rattle.std.proofs.Common.{◌≡◌, ◌∙◌, [], take, subst, refl}
+use Rattle.link_receiver.proofs.CallSteps.{offers_step, Offers}
+use Rattle.link_receiver.proofs.Exchanges.{no_call}
+use Rattle.link_receiver.proofs.reception.Reception.offer_all.Goals as goal
+
+pub loop-job-init : goal.loop-job-init
+loop-job-init g c = record {
+  exchanged = ([], no_call _ _, refl);
+  bound = refl;
+  below = c.requires.below;
+}
+
+pub loop-job-preserved : goal.loop-job-preserved
+loop-job-preserved g c = record {
+  exchanged = offers_step _ _ _ _ _ _ c.args.jobs.now c.loop-job.job-index c.job-item.result
+      c.in_ok-copy.copy c.loop-job-test.true c.job-item.is c.in_ok-copy.ensures.value
+      c.loop-job.invariant.exchanged c.in_ok-may_come.ensures.exchanged;
+  bound = c.offer.ensures.bound ∙ c.loop-job.invariant.bound;
+  below = c.offer.ensures.below;
+}

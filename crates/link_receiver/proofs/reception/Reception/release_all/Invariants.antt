@@ -1,0 +1,18 @@
+use Rattle.std.proofs.Common.{◌≡◌, ◌-◌, ◌≤◌}
+use Rattle.link_reception.specs.Releasing.{book_count}
+use Rattle.link_receiver.proofs.ReleaseLoop.{IsReleasing}
+use Rattle.link_receiver.specs.States.{WaitsForSecond}
+use Rattle.slice_exchange.specs.Calls.{AreBelow}
+use Rattle.link_receiver.proofs.reception.Reception.release_all.Given as goal
+
+abbrev pub invariant-loop : goal.invariant-loop
+invariant-loop g l = record {
+  releasing : IsReleasing (book_count l.fn.self) (book_count l.fn.self - l.counter) l.fn.self
+      l.self (g.O.Sink.held l.fn.sink) (g.O.Sink.held l.sink) (g.P.Places.told l.fn.places)
+      (g.P.Places.told l.places);
+  within : l.end ≡ book_count l.fn.self;
+  later : g.O.Sink.faults l.fn.sink ≤ g.O.Sink.faults l.sink;
+  waiting : WaitsForSecond l.self.standing l.self.field;
+  bound : g.P.Places.bound l.places ≡ g.P.Places.bound l.fn.places;
+  below : AreBelow (g.P.Places.bound l.places) l.self.out;
+}

@@ -1,0 +1,16 @@
+use Rattle.std.proofs.Common.{◌≡◌, ◌∙◌, None, ap, sym}
+use Rattle.std.specs.Option.{option_map}
+use Rattle.link_reception.specs.Releasing.{next_picture}
+use Rattle.link_receiver.proofs.CallSteps.{takes_nothing}
+use Rattle.link_window.specs.Views.{releasable_of}
+use Rattle.link_receiver.proofs.reception.Reception.take_back.Goals as goal
+
+pub returns-in_default-clause-exchanged : goal.returns-in_default-clause-exchanged
+returns-in_default-clause-exchanged g c =
+    let none : None ≡ next_picture c.args.self.now =
+    sym (ap (option_map releasable_of) c.in_default.is) ∙ c.next_release.ensures in
+    takes_nothing _ _ none
+
+pub returns-clause-exchanged : goal.returns-clause-exchanged
+returns-clause-exchanged g c =
+    let all = c.in_ok-_came.ensures.exchanged in (all.0, all.1, all.2, λ some. all.3)

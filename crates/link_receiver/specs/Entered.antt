@@ -1,0 +1,50 @@
+-- What a datagram and the end of the input do to a receiver, to places and to a sink.
+use Rattle.std.specs.Prelude.{◌≡◌, ℕ, true, is_some, List, [], Option}
+use Rattle.link_model.specs.declared.outcome.Outcome.{Outcome}
+use Rattle.link_reception.specs.Entering.{before_releases, datagram_jobs, takes_datagram}
+use Rattle.link_reception.specs.Entering.{datagram_bytes, takes_end, end_bytes}
+use Rattle.link_reception.specs.Exchanging.{all_exchanged, dones_in}
+use Rattle.link_reception.specs.Judging.{judged, keeps_datagram, ends_input}
+use Rattle.link_reception.specs.Receptions.{Reception}
+use Rattle.link_reception.specs.Releasing.{next_picture}
+use Rattle.link_reception.specs.Standing.{AreDecodings}
+use Rattle.slice_exchange.specs.Calls.{PlaceCall, told_of, exchanges_of, freeing}
+use Rattle.vc_ports.specs.Writing.{Grew}
+use Rattle.vc_slice.specs.Asked.{Told, told_more, Grows}
+use Rattle.link_receiver.specs.Freeing.{all_freed_places}
+use Rattle.link_receiver.specs.Offers.{AreOffersOf, proposed_in, are_asked}
+
+-- what places told before and behind a call, and what a sink held
+pub record Outside : Type 0 where
+  pub told_before : Option Told
+  pub told_behind : Option Told
+  pub held_before : Option (List ℕ)
+  pub held_behind : Option (List ℕ)
+
+-- A datagram was taken, with these calls of places. Each slice that it brings was offered; where it
+-- lets a picture be released, the places of all slices that were out were asked; then the places of
+-- the released pictures were freed.
+pub record IsEntered (outside : Outside) (old new : Reception) (datagram : List ℕ)
+    (outcome : Outcome) (calls : List PlaceCall) : Type 0 where
+  pub told : Grows outside.told_before outside.told_behind (told_more (told_of calls)
+      (freeing (all_freed_places (before_releases old datagram (exchanges_of calls)))))
+  pub value : new ≡ takes_datagram old datagram (exchanges_of calls)
+  pub written : Grew outside.held_before outside.held_behind
+      (datagram_bytes old datagram (exchanges_of calls))
+  pub judgement : outcome ≡ judged old datagram
+  pub decodings : AreDecodings (dones_in (exchanges_of calls))
+  pub offered : AreOffersOf (datagram_jobs old datagram) (proposed_in (exchanges_of calls))
+  pub asked : is_some (next_picture (keeps_datagram old datagram)) ≡ true
+      → are_asked old.out (exchanges_of calls) ≡ true
+
+-- The end of the input was taken. Nothing is offered then.
+pub record IsDrained (outside : Outside) (old new : Reception) (calls : List PlaceCall)
+    : Type 0 where
+  pub told : Grows outside.told_before outside.told_behind (told_more (told_of calls)
+      (freeing (all_freed_places (all_exchanged (ends_input old) (exchanges_of calls)))))
+  pub value : new ≡ takes_end old (exchanges_of calls)
+  pub written : Grew outside.held_before outside.held_behind (end_bytes old (exchanges_of calls))
+  pub decodings : AreDecodings (dones_in (exchanges_of calls))
+  pub offered : proposed_in (exchanges_of calls) ≡ []
+  pub asked : is_some (next_picture (ends_input old)) ≡ true
+      → are_asked old.out (exchanges_of calls) ≡ true

@@ -1,0 +1,9 @@
+pub mod Counts
+pub mod States
+pub mod Offers
+pub mod Exchanged
+pub mod Faults
+pub mod Keeping
+pub mod Freeing
+pub mod Entered
+pub mod HeardLists

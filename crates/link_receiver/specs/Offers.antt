@@ -1,0 +1,48 @@
+-- What a receiver offers to places, and which places it asks.
+use Rattle.std.specs.Prelude.{◌≡◌, ◌⊎◌, ℕ, ◌==◌, Bool, List, [], ◌∷◌, ◌++◌, slice_get}
+use Rattle.std.specs.List.{flat_map, list_any, list_all}
+use Rattle.std.specs.Option.{option_map_or}
+use Rattle.link_model.specs.Places.{Job}
+use Rattle.link_reception.specs.Exchanging.{Exchange, Proposed, Fetched}
+use Rattle.link_reception.specs.Receptions.{SliceOut}
+
+abbrev pub proposed_by : Exchange → List Job
+proposed_by (Proposed job place) = job ∷ []
+proposed_by (Fetched place answer) = []
+
+-- the jobs that were offered, in the order of the offers
+abbrev pub proposed_in : List Exchange → List Job
+proposed_in exchanges = flat_map proposed_by exchanges
+
+-- the job is offered, once or a second time
+abbrev pub IsOfferOf : Job → List Job → Type 0
+IsOfferOf job offers = (offers ≡ job ∷ []) ⊎ (offers ≡ job ∷ job ∷ [])
+
+-- nothing, or the job once
+abbrev pub MayOffer : Job → List Job → Type 0
+MayOffer job offers = (offers ≡ []) ⊎ (offers ≡ job ∷ [])
+
+-- each job once, or twice one after the other, in this order
+abbrev pub AreOffersOf : List Job → List Job → Type 0
+AreOffersOf [] offers = offers ≡ []
+AreOffersOf (job ∷ jobs) offers = (first : List Job) × (rest : List Job)
+    × IsOfferOf job first × AreOffersOf jobs rest × (offers ≡ first ++ rest)
+
+abbrev pub asked_by : Exchange → List ℕ
+asked_by (Proposed job place) = []
+asked_by (Fetched place answer) = place ∷ []
+
+-- the places that were asked
+abbrev pub asked_in : List Exchange → List ℕ
+asked_in exchanges = flat_map asked_by exchanges
+
+abbrev pub is_asked : List ℕ → SliceOut → Bool
+is_asked asked slice = list_any (λ place. place == slice.place) asked
+
+-- the place of each of these slices was asked
+abbrev pub are_asked : List SliceOut → List Exchange → Bool
+are_asked out exchanges = list_all (is_asked (asked_in exchanges)) out
+
+-- the place of the slice at this position was asked, if there is one, and no other
+abbrev pub asked_at : List SliceOut → ℕ → List ℕ
+asked_at out i = option_map_or (λ slice. slice.place ∷ []) (slice_get out i) []

@@ -1,0 +1,16 @@
+//! The receiver of the link: it takes datagrams, offers their slices to places and takes them back
+//! decoded, and writes each frame once its pictures are complete.
+#![tactic(auto)]
+
+mod counting;
+mod exchanging;
+mod fault;
+mod keeping;
+mod kept;
+mod receiver;
+mod reception;
+mod releasing;
+
+pub use fault::EnterFault;
+pub use link_model::{Outcome, Tally};
+pub use receiver::Receiver;

@@ -1,0 +1,144 @@
+ghost use Rattle.std.specs.Prelude.{◌≡◌, ◌≤◌, IfOk, OnOk, map, None};
+ghost use Rattle.std.specs.Option.{option_map};
+ghost use Rattle.link_reception.specs.Entering.{datagram_jobs, gives_up_field, opens_session};
+ghost use Rattle.link_reception.specs.Judging.{judged, keeps_datagram, session_opened, ends_input};
+ghost use Rattle.link_reception.specs.Receptions.{new_reception};
+ghost use Rattle.link_receiver.specs.States.{IsRunning};
+ghost use Rattle.link_session.specs.Openings.{session_of};
+ghost use Rattle.slice_exchange.specs.Jobs.{job_of};
+
+use crate::counting::{with_outcome, with_unpaired};
+use crate::keeping::{close, greatest, keep_heard};
+use crate::kept::Kept;
+use bytes::Bytes;
+use frame_release::FrameOutput;
+use link_model::Tally;
+use link_session::{Opening, Standing, hear};
+use slice_answers::Answers;
+use slice_exchange::SlicesOut;
+use std::alloc::Global;
+use std::marker::Model;
+use vc_types::NoMemory;
+
+/// What a receiver has of the datagrams that it took. After a fault nothing is promised of it.
+#[derive(Drop)]
+pub(crate) struct Reception {
+    pub(crate) alloc: Global,
+    pub(crate) size: u8,
+    pub(crate) standing: Option<Standing>,
+    pub(crate) counts: Tally,
+    pub(crate) answers: Answers,
+    pub(crate) out: SlicesOut,
+    pub(crate) field: FrameOutput,
+    pub(crate) has_ended: bool,
+}
+
+impl Model for Reception {
+    ghost use Rattle.link_reception.specs.Receptions as receptions;
+
+    ghost Value = { receptions.Reception };
+
+    ghost view = { λ r. record {
+      size = r.size;
+      standing = r.standing;
+      counts = r.counts;
+      answers = r.answers;
+      out = r.out;
+      field = r.field;
+      has_ended = r.has_ended;
+    } };
+}
+
+impl Reception {
+    pub(crate) fn new(alloc: Global, size: u8) -> Reception
+        ensures { result ≡ new_reception size }
+    {
+        Reception {
+            alloc,
+            size,
+            standing: None,
+            counts: Tally::default(),
+            answers: Answers::new(alloc),
+            out: SlicesOut::new(alloc),
+            field: FrameOutput::new(alloc),
+            has_ended: false,
+        }
+    }
+
+    pub(crate) fn has_ended(&self) -> bool
+        ensures { result ≡ self.now.has_ended }
+    {
+        self.has_ended
+    }
+
+    pub(crate) fn counts(&self) -> &Tally
+        ensures { result.now ≡ self.now.counts }
+    {
+        &self.counts
+    }
+
+    /// Keeps what a datagram brings, and counts it.
+    #[tactic(auto, unfolding(link_reception::specs::Judging::keeps_datagram, link_reception::specs::Judging::judged, link_reception::specs::Entering::datagram_jobs))]
+    pub(crate) fn keep(&mut self, datagram: &Bytes) -> Result<Kept, NoMemory>
+        requires { IsRunning self.old.standing }
+        ensures value { OnOk result (self.new ≡ keeps_datagram self.old datagram.now) }
+        ensures outcome { IfOk result (λ kept. kept.outcome ≡ judged self.old datagram.now) }
+        ensures jobs { IfOk result (λ kept. map job_of kept.jobs.items
+            ≡ datagram_jobs self.old datagram.now) }
+        ensures opening { IfOk result (λ kept. option_map session_of kept.opening
+            ≡ session_opened self.old datagram.now) }
+        ensures running { IfOk result (λ kept. kept.opening ≡ None
+            → IsRunning self.new.standing) }
+        ensures out { self.new.out ≡ self.old.out }
+    {
+        let heard = hear(self.standing.as_ref(), datagram)?;
+        let kept = keep_heard(self.alloc, &mut self.standing, heard)?;
+        self.counts = with_outcome(&self.counts, kept.outcome)?;
+        Ok(kept)
+    }
+
+    /// The input ends, which closes all pictures.
+    pub(crate) fn end_input(&mut self)
+        ensures { self.new ≡ ends_input self.old }
+    {
+        close(&mut self.standing);
+        self.has_ended = true;
+    }
+
+    /// A first field that waits is alone.
+    pub(crate) fn give_up_field(&mut self) -> Result<(), NoMemory>
+        ensures value { OnOk result (self.new ≡ gives_up_field self.old) }
+        ensures out { self.new.out ≡ self.old.out }
+    {
+        let has_waited = self.field.give_up();
+        self.counts = with_unpaired(&self.counts, has_waited)?;
+        Ok(())
+    }
+
+    /// Opens a session, if one is given.
+    pub(crate) fn open(&mut self, opening: Option<Opening>) -> Result<(), NoMemory>
+        requires least { 2 ≤ self.old.size }
+        requires most { self.old.size ≤ 8 }
+        ensures value { OnOk result (self.new
+            ≡ opens_session (option_map session_of opening) self.old) }
+        ensures out { self.new.out ≡ self.old.out }
+    {
+        match opening {
+            Some(opening) => self.open_session(opening),
+            None => Ok(()),
+        }
+    }
+
+    fn open_session(&mut self, opening: Opening) -> Result<(), NoMemory>
+        requires least { 2 ≤ self.old.size }
+        requires most { self.old.size ≤ 8 }
+        ensures value { OnOk result (self.new
+            ≡ opens_session (Some (session_of opening)) self.old) }
+        ensures out { self.new.out ≡ self.old.out }
+    {
+        self.give_up_field()?;
+        let greatest = greatest(&self.standing);
+        self.standing = Some(Standing::new(self.alloc, opening, self.size, greatest));
+        Ok(())
+    }
+}

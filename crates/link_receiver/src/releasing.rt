@@ -1,0 +1,124 @@
+ghost use Rattle.std.specs.Prelude.{◌≡◌, ℕ, IfOk, IfSome, OnOk, OnErr, Some, Err, length};
+ghost use Rattle.std.specs.Option.{option_map};
+ghost use Rattle.link_reception.specs.Receptions.{answers_without};
+ghost use Rattle.link_reception.specs.Releasing.{releases_picture_of, released_bytes};
+ghost use Rattle.link_reception.specs.Releasing.{released_planes, freed_places, next_picture};
+ghost use Rattle.link_reception.specs.Releasing.{releases_all, all_released_bytes, book_count};
+ghost use Rattle.link_reception.specs.WholeBooks.{ArePicturePlanes};
+ghost use Rattle.link_receiver.specs.Freeing.{all_freed_places};
+ghost use Rattle.link_receiver.specs.States.{WaitsForSecond};
+ghost use Rattle.link_receiver.specs.declared.fault.StepFault.{StepFault};
+ghost use Rattle.link_window.specs.Views.{releasable_of};
+ghost use Rattle.slice_exchange.specs.Calls.{AreBelow, freeing};
+ghost use Rattle.vc_ports.specs.Faults.{HasCause};
+ghost use Rattle.vc_ports.specs.Writing.{Grew, GrewBySome};
+ghost use Rattle.vc_slice.specs.Asked.{Grows};
+ghost use Rattle.vc_types.specs.Planes.{planes_in};
+
+use crate::counting::with_picture;
+use crate::fault::StepFault;
+use crate::reception::Reception;
+use link_session::{Released, Standing};
+use slice_answers::Answers;
+use vc_ports::Sink;
+use vc_slice::Places;
+use vc_types::{NoMemory, Plane};
+
+impl Reception {
+    /// Releases each picture that may be released.
+    pub(crate) fn release_all<P: Places, O: Sink>(
+        &mut self,
+        places: &mut P,
+        sink: &mut O,
+    ) -> Result<(), StepFault>
+        requires waiting { WaitsForSecond self.old.standing self.old.field }
+        requires below { AreBelow (P.bound places.old) self.old.out }
+        ensures value { OnOk result (self.new ≡ releases_all self.old) }
+        ensures told { OnOk result (Grows (P.told places.old) (P.told places.new)
+            (freeing (all_freed_places self.old))) }
+        ensures written { OnOk result
+            (Grew (O.held sink.old) (O.held sink.new) (all_released_bytes self.old)) }
+        ensures waiting { OnOk result (WaitsForSecond self.new.standing self.new.field) }
+        ensures err { OnErr result
+            (GrewBySome (O.held sink.old) (O.held sink.new) (all_released_bytes self.old)) }
+        ensures cause { HasCause (O.faults sink.old) (O.faults sink.new)
+            (result ≡ Err StepFault.WriteFault) }
+        ensures bound { P.bound places.new ≡ P.bound places.old }
+        ensures below { AreBelow (P.bound places.new) self.new.out }
+    {
+        for _ in 0..self.open_pictures() {
+            let Some(picture) = self.next_release() else {
+                return Ok(());
+            };
+            self.release(picture, places, sink)?;
+        }
+        Ok(())
+    }
+
+    fn open_pictures(&self) -> usize
+        ensures { result ≡ book_count self.now }
+    {
+        match &self.standing {
+            Some(standing) => standing.open_pictures(),
+            None => 0,
+        }
+    }
+
+    // Releases the picture that `next_release` names.
+    fn release<P: Places, O: Sink>(
+        &mut self,
+        picture: Released,
+        places: &mut P,
+        sink: &mut O,
+    ) -> Result<(), StepFault>
+        requires next { next_picture self.old ≡ Some (releasable_of picture) }
+        requires waiting { WaitsForSecond self.old.standing self.old.field }
+        requires below { AreBelow (P.bound places.old) self.old.out }
+        ensures value { OnOk result (self.new
+            ≡ releases_picture_of self.old (releasable_of picture)) }
+        ensures told { OnOk result (Grows (P.told places.old) (P.told places.new)
+            (freeing (freed_places self.old picture.number))) }
+        ensures written { OnOk result (Grew (O.held sink.old) (O.held sink.new)
+            (released_bytes self.old (releasable_of picture))) }
+        ensures waiting { OnOk result (WaitsForSecond self.new.standing self.new.field) }
+        ensures err { OnErr result (GrewBySome (O.held sink.old) (O.held sink.new)
+            (released_bytes self.old (releasable_of picture))) }
+        ensures cause { HasCause (O.faults sink.old) (O.faults sink.new)
+            (result ≡ Err StepFault.WriteFault) }
+        ensures bound { P.bound places.new ≡ P.bound places.old }
+        ensures below { AreBelow (P.bound places.new) self.new.out }
+    {
+        let Some(standing) = &mut self.standing else {
+            unreachable!()
+        };
+        let number = picture.number;
+        let planes = take_planes(&mut self.answers, standing, number)?;
+        let is_sound = planes.is_some();
+        self.out.free_picture(number, places);
+        let shown = self.field.release(standing.header(), number, planes, sink)?;
+        standing.release(number);
+        self.counts = with_picture(
+            &self.counts,
+            picture.complete,
+            is_sound,
+            shown.alone,
+            shown.has_frame,
+        )?;
+        Ok(())
+    }
+}
+
+// The planes of a picture, whose answers are forgotten.
+fn take_planes(
+    answers: &mut Answers,
+    standing: &Standing,
+    number: u64,
+) -> Result<Option<[Plane; 3]>, NoMemory>
+    ensures planes { IfOk result (λ planes. option_map planes_in planes
+        ≡ released_planes answers.old standing.now.window number) }
+    ensures value { OnOk result (answers.new ≡ answers_without answers.old number) }
+    ensures shape { IfOk result (λ planes. IfSome planes
+        (λ planes. ArePicturePlanes standing.now.session.sequence (planes_in planes))) }
+{
+    answers.take_planes(number, standing.book(number))
+}
