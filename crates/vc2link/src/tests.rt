@@ -142,7 +142,16 @@ const REPORT: Fails = Fails {
 #[test]
 fn a_capture_that_fails(rt: HostRuntime) -> Result<(), Fail> {
     let alloc = rt.alloc();
-    assert!(rt; comes_to(&rt, alloc, &["decode"], &CAPTURE, WRITE, (5, 0, "output failed\n"))?);
+    assert!(rt;
+        comes_to(
+            &rt,
+            alloc,
+            &["decode"],
+            &CAPTURE,
+            WRITE,
+            (5, 0, "output failed\n")
+        )?
+    );
     assert!(rt; comes_to(&rt, alloc, &["decode"], &CAPTURE, REPORT, (7, 96, ""))?);
     Ok(())
 }

@@ -1,5 +1,7 @@
-use super::captures::{END, FIELDS, HEADER, MINUS_15, Run, SMALL_HEADER, TWO_ZEROS, ZEROS};
-use super::captures::{capture, grey, params, run_over, slices, tally};
+use super::captures::{
+    END, FIELDS, HEADER, MINUS_15, Run, SMALL_HEADER, TWO_ZEROS, ZEROS, capture, grey, params,
+    run_over, slices, tally,
+};
 use slice_pool::{Crew, Worker};
 use std::alloc::Global;
 use std::sync::{Arc, Wait};
@@ -156,7 +158,10 @@ fn a_window_of_two(rt: HostRuntime) -> Result<(), Fail> {
     let ran = run(&rt, alloc, "decode --window 2", loss_and_disorder(alloc)?)?;
     assert_eq!(rt; ran.status, 0);
     assert_eq!(rt; ran.output.bytes(), grey(alloc, 192, &[])?.as_slice());
-    assert_eq!(rt; ran.report.bytes(), tally(alloc, &LOSS_AND_DISORDER)?.as_slice());
+    assert_eq!(rt;
+        ran.report.bytes(),
+        tally(alloc, &LOSS_AND_DISORDER)?.as_slice()
+    );
     Ok(())
 }
 
@@ -220,7 +225,10 @@ fn two_fields_and_one_alone(rt: HostRuntime) -> Result<(), Fail> {
     let alloc = rt.alloc();
     let ran = run(&rt, alloc, "decode", fields(alloc)?)?;
     assert_eq!(rt; ran.status, 0);
-    assert_eq!(rt; ran.output.bytes(), grey(alloc, 96, &BOTTOM_ROWS)?.as_slice());
+    assert_eq!(rt;
+        ran.output.bytes(),
+        grey(alloc, 96, &BOTTOM_ROWS)?.as_slice()
+    );
     assert_eq!(rt; ran.report.bytes(), tally(alloc, &FIELD_COUNTS)?.as_slice());
     Ok(())
 }
@@ -272,7 +280,10 @@ fn a_session_after_another(rt: HostRuntime) -> Result<(), Fail> {
         ("frames", "2"),
     ];
     let ran = run(&rt, alloc, "decode", two_sessions(alloc, &END)?)?;
-    assert_eq!(rt; ran.output.bytes(), grey(alloc, 108, &[(98, 0x7F)])?.as_slice());
+    assert_eq!(rt;
+        ran.output.bytes(),
+        grey(alloc, 108, &[(98, 0x7F)])?.as_slice()
+    );
     assert_eq!(rt; ran.report.bytes(), tally(alloc, &counts)?.as_slice());
     Ok(())
 }
@@ -294,7 +305,10 @@ fn nor_do_they_with_a_window_of_two(rt: HostRuntime) -> Result<(), Fail> {
     let line = "decode --window 2 --workers 4";
     let ran = run_with_crew(rt, alloc, line, loss_and_disorder(alloc)?)?;
     assert_eq!(rt; ran.output.bytes(), grey(alloc, 192, &[])?.as_slice());
-    assert_eq!(rt; ran.report.bytes(), tally(alloc, &LOSS_AND_DISORDER)?.as_slice());
+    assert_eq!(rt;
+        ran.report.bytes(),
+        tally(alloc, &LOSS_AND_DISORDER)?.as_slice()
+    );
     Ok(())
 }
 
@@ -302,7 +316,10 @@ fn nor_do_they_with_a_window_of_two(rt: HostRuntime) -> Result<(), Fail> {
 fn nor_with_fields(rt: HostRuntime) -> Result<(), Fail> {
     let alloc = rt.alloc();
     let ran = run_with_crew(rt, alloc, "decode --workers 4", fields(alloc)?)?;
-    assert_eq!(rt; ran.output.bytes(), grey(alloc, 96, &BOTTOM_ROWS)?.as_slice());
+    assert_eq!(rt;
+        ran.output.bytes(),
+        grey(alloc, 96, &BOTTOM_ROWS)?.as_slice()
+    );
     assert_eq!(rt; ran.report.bytes(), tally(alloc, &FIELD_COUNTS)?.as_slice());
     Ok(())
 }
