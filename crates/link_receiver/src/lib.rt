@@ -14,3 +14,6 @@ mod releasing;
 pub use fault::EnterFault;
 pub use link_model::{Outcome, Tally};
 pub use receiver::Receiver;
+
+#[cfg(test)]
+mod tests;

@@ -1,0 +1,154 @@
+ghost use Rattle.std.specs.Prelude.{◌≡◌};
+ghost use Rattle.slice_exchange.specs.Calls.{AreBelow};
+
+use crate::{EnterFault, Outcome, Receiver};
+use bytes::Bytes;
+use std::alloc::Global;
+use std::test::Fail;
+use vc_ports::MemSink;
+use vc_slice::{NoPlaces, Places, SliceDone, SliceJob, decode};
+use vc_types::NoMemory;
+
+// 8 by 4, 4:4:4, frames of 8 bits.
+const HEADER: [u8; 9] = [0, 0, 0, 0, 0x70, 0xf0, 0x63, 0xc0, 0x80];
+
+// Wavelet 3, depth 1, two slices across and one down, of picture 0.
+const PARAMS: [u8; 19] = [
+    0, 0, 0, 0xec, 0, 0, 0, 0, 0, 0, 0, 1, 0, 3, 0, 0, 0x09, 0x66, 0x40,
+];
+
+const FIRST_SLICE: [u8; 24] = [
+    0, 0, 0, 0xec, 0, 0, 0, 0, 0, 0, 0, 1, 0, 4, 0, 1, 0, 0, 0, 0, 0, 0, 0, 0,
+];
+
+const SECOND_SLICE: [u8; 24] = [
+    0, 0, 0, 0xec, 0, 0, 0, 0, 0, 0, 0, 1, 0, 4, 0, 1, 0, 1, 0, 0, 0, 0, 0, 0,
+];
+
+// One place, where a slice is decoded at once. It tells nothing.
+#[derive(Drop)]
+struct AtOnce {
+    alloc: Global,
+    done: Option<SliceDone>,
+    taken: u32,
+}
+
+impl Places for AtOnce {
+    ghost use Rattle.std.specs.Prelude.{None};
+
+    ghost bound = { λ _. 1 };
+
+    ghost told = { λ _. None };
+
+    fn put(&mut self, job: SliceJob) -> Result<u32, SliceJob> {
+        if self.done.is_some() {
+            return Err(job);
+        }
+        let Some(done) = decoded(self.alloc, &job) else {
+            return Err(job);
+        };
+        self.done = Some(done);
+        Ok(0)
+    }
+
+    fn take(&mut self, _place: u32) -> Option<SliceDone> {
+        self.taken = self.taken.saturating_add(1);
+        self.done.take()
+    }
+
+    fn withdraw(&mut self, _place: u32) -> Option<SliceJob> {
+        None
+    }
+
+    fn leave(&mut self, _place: u32) {
+        self.done = None;
+    }
+}
+
+fn decoded(alloc: Global, job: &SliceJob) -> Option<SliceDone> {
+    let Ok(copy) = job.copy() else {
+        return None;
+    };
+    decode(alloc, copy).ok()
+}
+
+// A datagram of one source.
+fn datagram(alloc: Global, payload: &[u8]) -> Result<Bytes, NoMemory> {
+    let mut bytes = Vec::new(alloc);
+    bytes.extend_from_slice(&[0x80, 0x60, 0, 0, 0, 0, 0, 0, 0, 0, 0, 1])?;
+    bytes.extend_from_slice(payload)?;
+    Ok(Bytes::copy_from_slice(alloc, &bytes)?)
+}
+
+fn has_outcome<P: Places>(
+    datagram: Bytes,
+    receiver: &mut Receiver,
+    places: &mut P,
+    sink: &mut MemSink,
+    outcome: Outcome,
+) -> bool
+    requires { AreBelow (P.bound places.old) receiver.old.reception.out }
+    ensures bound { P.bound places.new ≡ P.bound places.old }
+    ensures below { AreBelow (P.bound places.new) receiver.new.reception.out }
+{
+    receiver.enter(datagram, places, sink) == Ok(outcome)
+}
+
+// Whether a session with one picture of zeros gives one frame, all of it grey.
+fn is_one_picture<P: Places>(alloc: Global, places: &mut P) -> Result<bool, Fail> {
+    let header = datagram(alloc, &HEADER)?;
+    let params = datagram(alloc, &PARAMS)?;
+    let first = datagram(alloc, &FIRST_SLICE)?;
+    let second = datagram(alloc, &SECOND_SLICE)?;
+    let mut sink = MemSink::new(alloc, 96, Vec::new(alloc))?;
+    let mut receiver = Receiver::new(alloc, 2);
+    let begins = has_outcome(header, &mut receiver, places, &mut sink, Outcome::HeaderNew);
+    let keeps = has_outcome(
+        params,
+        &mut receiver,
+        places,
+        &mut sink,
+        Outcome::ParamsKept,
+    );
+    let half = has_outcome(first, &mut receiver, places, &mut sink, Outcome::SlicesKept);
+    let waits = sink.bytes().is_empty();
+    let whole = has_outcome(
+        second,
+        &mut receiver,
+        places,
+        &mut sink,
+        Outcome::SlicesKept,
+    );
+    let drained = receiver.drain(places, &mut sink).is_ok();
+    let ended = receiver.drain(places, &mut sink) == Err(EnterFault::Ended);
+    Ok(
+        begins
+            && keeps
+            && half
+            && waits
+            && whole
+            && drained
+            && ended
+            && receiver.tally().frames == 1
+            && sink.bytes() == [128; 96].as_slice(),
+    )
+}
+
+#[test]
+fn a_picture_is_written_without_places(rt: HostRuntime) -> Result<(), Fail> {
+    let mut places = NoPlaces;
+    assert!(rt; is_one_picture(rt.alloc(), &mut places)?);
+    Ok(())
+}
+
+#[test]
+fn a_picture_is_written_by_answers(rt: HostRuntime) -> Result<(), Fail> {
+    let mut places = AtOnce {
+        alloc: rt.alloc(),
+        done: None,
+        taken: 0,
+    };
+    assert!(rt; is_one_picture(rt.alloc(), &mut places)?);
+    assert_eq!(rt; places.taken, 2);
+    Ok(())
+}
