@@ -7,11 +7,13 @@ mod exchanging;
 mod fault;
 mod keeping;
 mod kept;
+mod laws;
 mod receiver;
 mod reception;
 mod releasing;
 
 pub use fault::EnterFault;
+pub use laws::{draining_follows_the_list, entering_follows_the_list};
 pub use link_model::{Outcome, Tally};
 pub use receiver::Receiver;
 
