@@ -1,9 +1,11 @@
-ghost use Rattle.std.specs.Prelude.{◌≡◌, ◌<◌, ℕ, List, [], ◌∷◌, true, IfOk, OnOk, is_some, length, map, IfSome};
+ghost use Rattle.std.specs.Prelude.{◌≡◌, ◌<◌, ℕ, List, [], ◌∷◌, true, IfOk, OnOk, is_some};
+ghost use Rattle.std.specs.Prelude.{length, map, IfSome};
 ghost use Rattle.std.specs.Option.{option_map};
 ghost use Rattle.link_reception.specs.Exchanging.{is_wanted, takes_done};
 ghost use Rattle.link_reception.specs.Releasing.{next_picture};
 ghost use Rattle.link_receiver.specs.Exchanged.{IsExchanged};
-ghost use Rattle.link_receiver.specs.Offers.{AreOffersOf, IsOfferOf, MayOffer, proposed_in, are_asked};
+ghost use Rattle.link_receiver.specs.Offers.{AreOffersOf, IsOfferOf, MayOffer, proposed_in};
+ghost use Rattle.link_receiver.specs.Offers.{are_asked};
 ghost use Rattle.link_receiver.specs.Offers.{asked_in, asked_at};
 ghost use Rattle.slice_exchange.specs.Calls.{PlaceCall, AreBelow, exchanges_of};
 ghost use Rattle.slice_exchange.specs.Jobs.{job_of, answered};
