@@ -1,7 +1,22 @@
--- Calls of places one after another, none of which starts workers.
-use Rattle.std.proofs.Common.{◌≡◌, refl, Option, None, Some, ap, ◌∙◌, append_assoc, append-nil}
-use Rattle.vc_slice.specs.Asked.{Told, Grows, nothing_told, told_more}
-use Rattle.link_receiver.specs.HeardLists.{AskedPlaces}
+-- Calls of places one after another, none of which starts workers, and what is offered by them.
+use Rattle.std.proofs.Common.{◌≡◌, ℕ, Bool, true, false, List, [], ◌∷◌, ◌++◌, refl, Option, None, Some, ap, ◌∙◌, append_assoc, append-nil}
+use Rattle.std.specs.Prelude.{◌||◌}
+use Rattle.std.proofs.lemmas.Bool.{false≢true}
+use Rattle.std.proofs.lemmas.List.{map-append}
+use Rattle.std.proofs.lemmas.List.Folds.{list_any-append}
+use Rattle.link_model.specs.Feeding.{is_same_job}
+use Rattle.link_model.specs.Places.{Job}
+use Rattle.link_model.specs.Session.{HeardSession, sessions_of}
+use Rattle.link_reception.specs.Entering.{datagram_jobs}
+use Rattle.link_reception.specs.Exchanging.{is_job_among}
+use Rattle.link_reception.specs.Offered.{AreAllOffered}
+use Rattle.link_reception.specs.Standing.{StandsForHeard}
+use Rattle.link_reception.proofs.AllOffered.{none_offered, more_offered}
+use Rattle.link_receiver.specs.States.{ReceiverState}
+use Rattle.slice_exchange.specs.Jobs.{job_of}
+use Rattle.decode_command.specs.Hearing.{HasOffered}
+use Rattle.vc_slice.specs.Asked.{Told, Offer, Grows, nothing_told, told_more}
+use Rattle.link_receiver.specs.HeardLists.{HasHeard, AskedPlaces, OfferedToPlaces, told_jobs}
 
 grows_none : (told : Option Told) → Grows told told nothing_told
 grows_none None = tt
@@ -21,12 +36,56 @@ grows_twice (Some x) (Some y) None d e p q = tt
 grows_twice (Some x) (Some y) (Some z) d e p q =
     q ∙ (ap (λ (t : Told). told_more t e) p ∙ told_assoc x d e)
 
-pub nothing_is_asked : (told : Option Told) → AskedPlaces told told
-nothing_is_asked told = record { more = nothing_told; grows = grows_none told; started = refl }
+or_left : (a b : Bool) → a ≡ true → (a || b) ≡ true
+or_left true b e = refl
+or_left false b e = absurd (false≢true e)
 
-pub asked_twice : (a b c : Option Told) → AskedPlaces a b → AskedPlaces b c → AskedPlaces a c
-asked_twice a b c first second = record {
-  more = told_more first.more second.more;
-  grows = grows_twice a b c first.more second.more first.grows second.grows;
-  started = rw (first.started, second.started) refl;
+heard_by : (r : ReceiverState) (window : ℕ) (datagrams : List (List ℕ)) → HasHeard r window datagrams
+    → StandsForHeard r.reception window datagrams false
+heard_by r window datagrams h = rw h.heard at (rw h.goes_on at h.stands.heard)
+
+-- nothing was heard
+pub nothing_offered : (window : ℕ) (told : Option Told)
+    → HasOffered window [] (record { before = told; after = told })
+nothing_offered window told = record {
+  more = nothing_told;
+  grows = grows_none told;
+  started = refl;
+  offered = none_offered window [];
 }
+
+all_with_more : (window : ℕ) (hs : List HeardSession) (offered more : List Job)
+    → AreAllOffered window hs offered → AreAllOffered window hs (offered ++ more)
+all_with_more window hs offered more was n i job is =
+    list_any-append (is_same_job job) offered more
+    ∙ or_left (is_job_among offered job) (is_job_among more job) (was n i job is)
+
+told_jobs_more : (a b : Told) → told_jobs (told_more a b) ≡ told_jobs a ++ told_jobs b
+told_jobs_more a b = map-append (λ (offer : Offer). job_of offer.job) a.offered b.offered
+
+module _ (window : ℕ) (datagrams : List (List ℕ)) (before mid after : Option Told)
+    (first : HasOffered window datagrams (record { before = before; after = mid })) where
+  -- a datagram more was heard
+  pub offered_with : (r : ReceiverState) (d : List ℕ) → HasHeard r window datagrams
+      → OfferedToPlaces mid after (datagram_jobs r.reception d)
+      → HasOffered window (datagrams ++ d ∷ []) (record { before = before; after = after })
+  offered_with r d h second = record {
+    more = told_more first.more second.more;
+    grows = grows_twice before mid after first.more second.more first.grows second.grows;
+    started = rw (first.started, second.started) refl;
+    offered = rw (told_jobs_more first.more second.more)
+        (more_offered r.reception window datagrams d h.fits (heard_by r window datagrams h)
+        (told_jobs first.more) (told_jobs second.more) first.offered second.offered);
+  }
+
+  -- places were asked
+  pub offered_then : AskedPlaces mid after
+      → HasOffered window datagrams (record { before = before; after = after })
+  offered_then second = record {
+    more = told_more first.more second.more;
+    grows = grows_twice before mid after first.more second.more first.grows second.grows;
+    started = rw (first.started, second.started) refl;
+    offered = rw (told_jobs_more first.more second.more)
+        (all_with_more window (sessions_of datagrams) (told_jobs first.more)
+        (told_jobs second.more) first.offered);
+  }

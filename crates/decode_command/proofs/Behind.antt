@@ -9,16 +9,18 @@ use Rattle.link_model.specs.Output.{output_so_far, full_output}
 use Rattle.link_receiver.specs.declared.fault.EnterFault.{EnterFault}
 use Rattle.link_receiver.specs.declared.fault.EnterFault.TheVariants as faults
 use Rattle.link_receiver.specs.States.{ReceiverState}
-use Rattle.link_receiver.specs.HeardLists.{HasHeard, newly_due, still_due}
+use Rattle.link_receiver.specs.HeardLists.{HasHeard, AskedPlaces, newly_due, still_due}
 use Rattle.link_report.specs.declared.ending.Ending.{Ending}
 use Rattle.link_report.specs.declared.ending.Ending.TheVariants.{InputFailed, OutputFailed, NoMemory, CaptureCut, PacketLimit}
 use Rattle.vc_ports.specs.Changes.{Change, InputChange, OutputChange, WrotePart}
 use Rattle.vc_ports.specs.Reading.{Gave, GaveAll}
 use Rattle.vc_ports.specs.Writing.{Grew, GrewBySome}
+use Rattle.vc_slice.specs.Asked.{Told}
 use Rattle.vc_ports.proofs.Given.{Gave-none, Gave-then}
 use Rattle.vc_ports.proofs.Growing.{Grew-none, Grew-then, GrewBySome-all, GrewBySome-then, GrewBySome-front}
 use Rattle.decode_command.specs.Capture.{CaptureSplit, capture_split, ReadingEnded}
-use Rattle.decode_command.specs.Hearing.{then_entries, IsBehind, HasStopped, HasBroken, HasReceived, LoopEnded, HeardAll, Receives, IsBroken, ending_of}
+use Rattle.decode_command.specs.Hearing.{then_entries, IsBehind, HasOffered, HasStopped, HasBroken, HasReceived, LoopEnded, HeardAll, Receives, IsBroken, ending_of}
+use Rattle.decode_command.proofs.Asking.{offered_then}
 use Rattle.decode_command.proofs.Due.{due_with, due_at_end, nothing_due}
 use Rattle.decode_command.proofs.Within.{within_entry, within_part, within_nothing}
 
@@ -121,11 +123,12 @@ module _ (window packets number place : ℕ) (input : InputChange) (output : Out
       (no_entries window packets number place input.left.before mid output.held.before held_mid
       receiver datagrams at more part)
 
-  module _ (same : output.held.after ≡ held_mid) where
+  module _ (hands : Change (Option Told)) (told : HasOffered window datagrams hands)
+      (same : output.held.after ≡ held_mid) where
     stopped : (end : Option Ending) (more : List ℕ) → Gave mid input.left.after more
         → first_entry more ≡ None
         → ReadingEnded packets end input (split_into (at.given ++ more) (datagrams, more))
-        → HasStopped window packets end receiver input output
+        → HasStopped window packets end receiver input output hands
     stopped end more gave part reading =
         let is = sym (before_rest more part) in
         record {
@@ -135,28 +138,29 @@ module _ (window packets number place : ℕ) (input : InputChange) (output : Out
           heard = subst (λ (s : CaptureSplit). HasHeard receiver window s.datagrams) is at.heard;
           wrote = subst (λ (s : CaptureSplit). Grew output.held.before output.held.after
               (output_so_far window s.datagrams)) is (rw same at.wrote);
+          told = subst (λ (s : CaptureSplit). HasOffered window s.datagrams hands) is told;
         }
 
-    pub at_edge : GaveAll mid input.left.after [] → HasStopped window packets None receiver input output
+    pub at_edge : GaveAll mid input.left.after [] → HasStopped window packets None receiver input output hands
     at_edge gave = stopped None [] gave.gave (first_entry-stub [] (omega arith))
         (record { no_rest = refl; ended = gave.at_end })
 
     pub could_not_read : (more : List ℕ) → Gave mid input.left.after more → first_entry more ≡ None
         → (length datagrams < packets) ⊎ (more ≡ [])
-        → HasStopped window packets (Some InputFailed) receiver input output
+        → HasStopped window packets (Some InputFailed) receiver input output hands
     could_not_read more gave part wanted = stopped (Some InputFailed) more gave part
         (record { short = part; wanted = wanted })
 
     pub past_limit : number ≡ packets → (more : List ℕ) → length more ≡ 1
         → Gave mid input.left.after more
-        → HasStopped window packets (Some (PacketLimit packets)) receiver input output
+        → HasStopped window packets (Some (PacketLimit packets)) receiver input output hands
     past_limit enough more one gave = stopped (Some (PacketLimit packets)) more gave
         (first_entry-stub more (omega arith))
         (record { limit_is = refl; count = at.count ∙ enough; one_more = one })
 
     pub cut_at : number < packets
         → (more : List ℕ) → GaveAll mid input.left.after more → more ≢ [] → first_entry more ≡ None
-        → HasStopped window packets (Some (CaptureCut place)) receiver input output
+        → HasStopped window packets (Some (CaptureCut place)) receiver input output hands
     cut_at room more gave some part = stopped (Some (CaptureCut place)) more gave.gave part
         (record {
           wanted = omega (arith, at.count);
@@ -212,20 +216,25 @@ held_by before after faults =
 
 module _ (window packets : ℕ) (end : Option Ending) (receiver : ReceiverState) (input : InputChange)
     (before mid after : Option (List ℕ)) (first second : Change ℕ)
-    (st : HasStopped window packets end receiver input (held_by before mid first)) where
+    (told_before told_mid : Option Told)
+    (st : HasStopped window packets end receiver input (held_by before mid first)
+    (record { before = told_before; after = told_mid })) where
   abbrev heard : List (List ℕ)
   heard = (capture_split packets st.given).datagrams
 
   pub all_written : (next : ReceiverState) → Grew mid after (still_due window heard)
       → next.reception.counts ≡ tally_of window heard
+      → (told_after : Option Told) → AskedPlaces told_mid told_after
       → HasReceived window packets end next input (held_by before after second)
-  all_written next grew counted = record {
+      (record { before = told_before; after = told_after })
+  all_written next grew counted told_after asked = record {
     given = st.given;
     took = st.took;
     reading = st.reading;
     wrote = rw (due_at_end window heard) at
         (Grew-then before mid after (output_so_far window heard) (still_due window heard) st.wrote grew);
     counted = counted;
+    told = offered_then window heard told_before told_mid told_after st.told asked;
   }
 
   pub part_written : GrewBySome mid after (still_due window heard)
@@ -240,27 +249,28 @@ module _ (window packets : ℕ) (end : Option Ending) (receiver : ReceiverState)
 
 -- ---- the ways to break
 
-module _ (window packets : ℕ) (receiver : ReceiverState) (input : InputChange) (output : OutputChange) where
+module _ (window packets : ℕ) (receiver : ReceiverState) (input : InputChange) (output : OutputChange)
+    (hands : Change (Option Told)) where
   pub loop_broke : (end : Ending) → IsBroken end → HasBroken window packets input output
-      → LoopEnded window packets (Err end) receiver input output
+      → LoopEnded window packets (Err end) receiver input output hands
   loop_broke NoMemory is broke = broke
   loop_broke OutputFailed is broke = broke
   loop_broke end is broke = absurd is
 
-  pub hearing_broke : (end : Ending) → LoopEnded window packets (Err end) receiver input output
-      → HeardAll window packets (Err end) receiver input output
+  pub hearing_broke : (end : Ending) → LoopEnded window packets (Err end) receiver input output hands
+      → HeardAll window packets (Err end) receiver input output hands
   hearing_broke NoMemory broke = broke
   hearing_broke OutputFailed broke = broke
   hearing_broke end broke = absurd broke
 
-  pub receiving_broke : (end : Ending) → HeardAll window packets (Err end) receiver input output
-      → Receives window packets (Err end) receiver input output
+  pub receiving_broke : (end : Ending) → HeardAll window packets (Err end) receiver input output hands
+      → Receives window packets (Err end) receiver input output hands
   receiving_broke NoMemory broke = broke
   receiving_broke OutputFailed broke = broke
   receiving_broke end broke = absurd broke
 
   pub drain_broke : (fault : EnterFault) → HasBroken window packets input output
-      → Receives window packets (Err (ending_of fault)) receiver input output
+      → Receives window packets (Err (ending_of fault)) receiver input output hands
   drain_broke faults.NoMemory broke = broke
   drain_broke faults.WriteFault broke = broke
   drain_broke faults.Ended broke = broke

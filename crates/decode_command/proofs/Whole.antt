@@ -1,9 +1,7 @@
 -- The whole command: workers are started, a capture is received, and the answer made.
-use Rattle.std.proofs.Common.{◌≡◌, ℕ, List, [], ◌∷◌, Option, Some, None, Ok, Err, refl, ap, ◌∙◌, inl, inr}
+use Rattle.std.proofs.Common.{◌≡◌, ℕ, List, [], ◌∷◌, Option, Some, None, Ok, Err, refl, ap, ◌∙◌}
 use Rattle.link_receiver.specs.States.{ReceiverState}
-use Rattle.link_receiver.specs.HeardLists.{AskedPlaces}
 use Rattle.link_model.specs.declared.tally.Tally.{Tally}
-use Rattle.link_report.specs.declared.answer.Answer.{Answer}
 use Rattle.link_report.specs.declared.answer.Answer.TheVariants.{Done, Stopped, Drained}
 use Rattle.link_report.specs.declared.ending.Ending.{Ending}
 use Rattle.link_report.specs.declared.ending.Ending.TheVariants.{NoMemory, InputFailed, OutputFailed}
@@ -12,18 +10,21 @@ use Rattle.vc_ports.specs.Changes.{Change, InputChange, OutputChange, HasRisen}
 use Rattle.vc_ports.proofs.Given.{Gave-none}
 use Rattle.vc_ports.proofs.Growing.{GrewBySome-none}
 use Rattle.vc_slice.specs.Asked.{Told, Grows, told_more, starting}
-use Rattle.vc_types.specs.declared.memory.NoMemory as memory
-use Rattle.decode_command.specs.Decoding.{Decodes, HasStarted, has_failed_input}
-use Rattle.decode_command.specs.Hearing.{HasReceived, Receives}
+use Rattle.decode_command.specs.Capture.{CaptureSplit, capture_split}
+use Rattle.decode_command.specs.Decoding.{Decodes, HasStarted}
+use Rattle.decode_command.specs.Hearing.{HasOffered, HasReceived, Receives}
 use Rattle.decode_command.proofs.Asking.{grows_twice}
 
--- workers were started, and then places were asked
-started : (workers : ℕ) (before mid after : Option Told) → Grows before mid (starting workers (Ok tt))
-    → AskedPlaces mid after → HasStarted workers (record { before = before; after = after })
-started workers before mid after grew asked = record {
-  more = told_more (starting workers (Ok tt)) asked.more;
-  grows = grows_twice before mid after (starting workers (Ok tt)) asked.more grew asked.grows;
-  started = ap (λ (l : List ℕ). workers ∷ l) asked.started;
+-- workers were started, and then slices were offered
+started : (window workers : ℕ) (split : CaptureSplit) (before mid after : Option Told)
+    → Grows before mid (starting workers (Ok tt))
+    → HasOffered window split.datagrams (record { before = mid; after = after })
+    → HasStarted window workers (record { before = before; after = after }) split
+started window workers split before mid after grew told = record {
+  more = told_more (starting workers (Ok tt)) told.more;
+  grows = grows_twice before mid after (starting workers (Ok tt)) told.more grew told.grows;
+  started = ap (λ (l : List ℕ). workers ∷ l) told.started;
+  offered = told.offered;
 }
 
 drained_at : (tally other : Tally) (end : Ending) → Drained tally end ≡ Drained other InputFailed → end ≡ InputFailed
@@ -58,11 +59,11 @@ not_started window workers packets input output hands input_stays output_stays =
 }
 
 module _ (window workers packets : ℕ) (receiver : ReceiverState) (input : InputChange) (output : OutputChange)
-    (before mid after : Option Told) (grew : Grows before mid (starting workers (Ok tt)))
-    (asked : AskedPlaces mid after) where
+    (before mid after : Option Told) (grew : Grows before mid (starting workers (Ok tt))) where
   -- reading came to the end of the capture
   pub done : (tally : Tally) → tally ≡ receiver.reception.counts
       → HasReceived window packets None receiver input output
+      (record { before = mid; after = after })
       → Decodes window workers packets (Done (Judged tally)) input output
       (record { before = before; after = after })
   done tally is st = record {
@@ -71,12 +72,13 @@ module _ (window workers packets : ℕ) (receiver : ReceiverState) (input : Inpu
     ended = record { reading = st.reading; wrote = st.wrote; tally_is = is ∙ st.counted };
     input_failed = λ failed. absurd (done_is_drained tally failed.0 failed.1);
     output_failed = λ failed. absurd (done_is_stopped tally OutputFailed failed);
-    workers_started = started workers before mid after grew asked;
+    workers_started = started window workers (capture_split packets st.given) before mid after grew st.told;
   }
 
   -- it ended before that
   pub drained : (tally : Tally) (end : Ending) → tally ≡ receiver.reception.counts
       → HasReceived window packets (Some end) receiver input output
+      (record { before = mid; after = after })
       → (end ≡ InputFailed → HasRisen input.faults)
       → Decodes window workers packets (Drained tally end) input output
       (record { before = before; after = after })
@@ -86,17 +88,17 @@ module _ (window workers packets : ℕ) (receiver : ReceiverState) (input : Inpu
     ended = record { reading = st.reading; wrote = st.wrote; tally_is = is ∙ st.counted };
     input_failed = λ failed. cause (drained_at tally failed.0 end failed.1);
     output_failed = λ failed. absurd (drained_is_stopped tally end OutputFailed failed);
-    workers_started = started workers before mid after grew asked;
+    workers_started = started window workers (capture_split packets st.given) before mid after grew st.told;
   }
 
 -- memory ran out, or the output failed
 pub stopped : (window workers packets : ℕ) (receiver : ReceiverState) (input : InputChange)
-    (output : OutputChange) (hands : Change (Option Told)) (end : Ending)
-    → Receives window packets (Err end) receiver input output
+    (output : OutputChange) (hands later : Change (Option Told)) (end : Ending)
+    → Receives window packets (Err end) receiver input output later
     → (end ≡ OutputFailed → HasRisen output.faults)
     → Decodes window workers packets (Stopped end) input output
     hands
-stopped window workers packets receiver input output hands NoMemory broke cause = record {
+stopped window workers packets receiver input output hands later NoMemory broke cause = record {
   given = broke.given;
   took = broke.took;
   ended = broke.wrote;
@@ -104,7 +106,7 @@ stopped window workers packets receiver input output hands NoMemory broke cause 
   output_failed = λ failed. absurd (no_memory_is_fault failed);
   workers_started = tt;
 }
-stopped window workers packets receiver input output hands OutputFailed broke cause = record {
+stopped window workers packets receiver input output hands later OutputFailed broke cause = record {
   given = broke.given;
   took = broke.took;
   ended = broke.wrote;
@@ -112,4 +114,4 @@ stopped window workers packets receiver input output hands OutputFailed broke ca
   output_failed = λ failed. cause refl;
   workers_started = tt;
 }
-stopped window workers packets receiver input output hands end broke cause = absurd broke
+stopped window workers packets receiver input output hands later end broke cause = absurd broke

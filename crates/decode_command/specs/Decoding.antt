@@ -2,7 +2,10 @@
 use Rattle.std.specs.Prelude.{◌≡◌, ℕ, List, [], ◌∷◌, Option, None, Some}
 use Rattle.link_model.specs.Judgement.{tally_of}
 use Rattle.link_model.specs.Output.{full_output}
+use Rattle.link_model.specs.Session.{sessions_of}
 use Rattle.link_model.specs.declared.tally.Tally.{Tally}
+use Rattle.link_receiver.specs.HeardLists.{told_jobs}
+use Rattle.link_reception.specs.Offered.{AreAllOffered}
 use Rattle.link_report.specs.declared.answer.Answer.{Answer}
 use Rattle.link_report.specs.declared.answer.Answer.TheVariants.{Done, Stopped, Drained}
 use Rattle.link_report.specs.declared.ending.Ending.{Ending}
@@ -40,16 +43,18 @@ has_failed_input answer = (tally : Tally) × (answer ≡ Drained tally InputFail
 
 -- ---- workers
 
--- so many were started, once
-pub record HasStarted (workers : ℕ) (hands : Change (Option Told)) : Type 0 where
+-- so many were started, once, and each slice that a picture of the datagrams keeps was offered
+pub record HasStarted (window workers : ℕ) (hands : Change (Option Told)) (s : CaptureSplit)
+    : Type 0 where
   pub more : Told
   pub grows : Grows hands.before hands.after more
   pub started : more.started ≡ workers ∷ []
+  pub offered : AreAllOffered window (sessions_of s.datagrams) (told_jobs more)
 
 -- nothing is said of them where memory ran out or the output failed
-abbrev pub StartsWorkers : ℕ → Answer → Change (Option Told) → Type 0
-StartsWorkers workers (Stopped end) hands = Unit {0}
-StartsWorkers workers answer hands = HasStarted workers hands
+abbrev pub StartsWorkers : ℕ → ℕ → Answer → Change (Option Told) → CaptureSplit → Type 0
+StartsWorkers window workers (Stopped end) hands s = Unit {0}
+StartsWorkers window workers answer hands s = HasStarted window workers hands s
 
 -- ---- decoding the bytes that the input gave
 
@@ -61,7 +66,7 @@ pub record Decodes
   pub ended : DecodeEnded window packets answer input output (capture_split packets given)
   pub input_failed : has_failed_input answer → HasRisen input.faults
   pub output_failed : answer ≡ Stopped OutputFailed → HasRisen output.faults
-  pub workers_started : StartsWorkers workers answer hands
+  pub workers_started : StartsWorkers window workers answer hands (capture_split packets given)
 
 -- at most `packets` entries are the whole of the bytes
 abbrev pub IsDecodable : ℕ → List ℕ → Type 0

@@ -3,15 +3,18 @@ use Rattle.std.specs.Prelude.{◌≡◌, ℕ, ◌-◌, List, [], ◌∷◌, ◌+
 use Rattle.link_capture.specs.Capture.{entries_within}
 use Rattle.link_model.specs.Judgement.{tally_of}
 use Rattle.link_model.specs.Output.{output_so_far, full_output}
+use Rattle.link_model.specs.Session.{sessions_of}
+use Rattle.link_reception.specs.Offered.{AreAllOffered}
 use Rattle.link_receiver.specs.States.{ReceiverState}
-use Rattle.link_receiver.specs.HeardLists.{HasHeard, newly_due}
+use Rattle.link_receiver.specs.HeardLists.{HasHeard, told_jobs, newly_due}
 use Rattle.link_receiver.specs.declared.fault.EnterFault.{EnterFault}
 use Rattle.link_receiver.specs.declared.fault.EnterFault.TheVariants as faults
 use Rattle.link_report.specs.declared.ending.Ending.{Ending}
 use Rattle.link_report.specs.declared.ending.Ending.TheVariants.{InputFailed, OutputFailed, NoMemory, CaptureCut}
-use Rattle.vc_ports.specs.Changes.{InputChange, OutputChange, Took, Wrote, WrotePart}
+use Rattle.vc_ports.specs.Changes.{Change, InputChange, OutputChange, Took, Wrote, WrotePart}
 use Rattle.vc_ports.specs.Reading.{Gave}
 use Rattle.vc_ports.specs.Writing.{Grew, GrewBySome}
+use Rattle.vc_slice.specs.Asked.{Told, Grows}
 use Rattle.decode_command.specs.Capture.{capture_split, ReadingEnded}
 use Rattle.decode_command.specs.declared.command.Stop.{Stop}
 use Rattle.decode_command.specs.declared.command.Stop.TheVariants.{Ended, Cut, Failed, AtLimit}
@@ -19,6 +22,15 @@ use Rattle.decode_command.specs.declared.command.Stop.TheVariants.{Ended, Cut, F
 -- entries, and those of other bytes behind them
 abbrev pub then_entries : List (List ℕ) → List (List ℕ) × List ℕ → List (List ℕ) × List ℕ
 then_entries datagrams behind = (datagrams ++ behind.0, behind.1)
+
+-- what was told of places: no workers were started, and each slice that a picture of the datagrams
+-- keeps was offered
+pub record HasOffered (window : ℕ) (datagrams : List (List ℕ)) (hands : Change (Option Told))
+    : Type 0 where
+  pub more : Told
+  pub grows : Grows hands.before hands.after more
+  pub started : more.started ≡ []
+  pub offered : AreAllOffered window (sessions_of datagrams) (told_jobs more)
 
 -- the source gave the bytes of so many entries, up to a place, and the receiver heard their datagrams and wrote what
 -- these let go
@@ -37,12 +49,13 @@ pub record IsBehind
 -- reading ended so, behind the datagrams that the receiver heard
 pub record HasStopped
     (window packets : ℕ) (end : Option Ending) (receiver : ReceiverState)
-    (input : InputChange) (output : OutputChange) : Type 0 where
+    (input : InputChange) (output : OutputChange) (hands : Change (Option Told)) : Type 0 where
   pub given : List ℕ
   pub took : Took input given
   pub reading : ReadingEnded packets end input (capture_split packets given)
   pub heard : HasHeard receiver window (capture_split packets given).datagrams
   pub wrote : Wrote output (output_so_far window (capture_split packets given).datagrams)
+  pub told : HasOffered window (capture_split packets given).datagrams hands
 
 -- there was no memory, or the output failed
 pub record HasBroken (window packets : ℕ) (input : InputChange) (output : OutputChange) : Type 0
@@ -52,55 +65,59 @@ pub record HasBroken (window packets : ℕ) (input : InputChange) (output : Outp
     pub wrote : WrotePart output (full_output window (capture_split packets given).datagrams)
 
 -- how the loop ended
-abbrev pub Stops : ℕ → ℕ → Stop → ReceiverState → InputChange → OutputChange → Type 0
-Stops window packets Ended receiver input output =
-    HasStopped window packets None receiver input output
-Stops window packets (Cut place) receiver input output =
-    HasStopped window packets (Some (CaptureCut place)) receiver input output
-Stops window packets Failed receiver input output =
-    HasStopped window packets (Some InputFailed) receiver input output
-Stops window packets AtLimit receiver input output = (place : ℕ) × (datagrams : List (List ℕ))
+abbrev pub Stops : ℕ → ℕ → Stop → ReceiverState → InputChange → OutputChange
+    → Change (Option Told) → Type 0
+Stops window packets Ended receiver input output hands =
+    HasStopped window packets None receiver input output hands
+Stops window packets (Cut place) receiver input output hands =
+    HasStopped window packets (Some (CaptureCut place)) receiver input output hands
+Stops window packets Failed receiver input output hands =
+    HasStopped window packets (Some InputFailed) receiver input output hands
+Stops window packets AtLimit receiver input output hands = (place : ℕ) × (datagrams : List (List ℕ))
     × IsBehind window packets packets place input.left.before input.left.after
     output.held.before output.held.after receiver datagrams
+    × HasOffered window datagrams hands
 
-abbrev pub LoopEnded : ℕ → ℕ → Result Stop Ending → ReceiverState → InputChange → OutputChange → Type 0
-LoopEnded window packets (Ok stop) receiver input output =
-    Stops window packets stop receiver input output
-LoopEnded window packets (Err NoMemory) receiver input output =
+abbrev pub LoopEnded : ℕ → ℕ → Result Stop Ending → ReceiverState → InputChange → OutputChange
+    → Change (Option Told) → Type 0
+LoopEnded window packets (Ok stop) receiver input output hands =
+    Stops window packets stop receiver input output hands
+LoopEnded window packets (Err NoMemory) receiver input output hands =
     HasBroken window packets input output
-LoopEnded window packets (Err OutputFailed) receiver input output =
+LoopEnded window packets (Err OutputFailed) receiver input output hands =
     HasBroken window packets input output
-LoopEnded window packets (Err end) receiver input output = ⊥
+LoopEnded window packets (Err end) receiver input output hands = ⊥
 
 -- how reading ended, with a byte more behind as many entries as were asked for
 abbrev pub HeardAll : ℕ → ℕ → Result (Option Ending) Ending → ReceiverState → InputChange → OutputChange
-    → Type 0
-HeardAll window packets (Ok end) receiver input output =
-    HasStopped window packets end receiver input output
-HeardAll window packets (Err NoMemory) receiver input output = HasBroken window packets input output
-HeardAll window packets (Err OutputFailed) receiver input output =
+    → Change (Option Told) → Type 0
+HeardAll window packets (Ok end) receiver input output hands =
+    HasStopped window packets end receiver input output hands
+HeardAll window packets (Err NoMemory) receiver input output hands = HasBroken window packets input output
+HeardAll window packets (Err OutputFailed) receiver input output hands =
     HasBroken window packets input output
-HeardAll window packets (Err end) receiver input output = ⊥
+HeardAll window packets (Err end) receiver input output hands = ⊥
 
 -- reading ended so, all frames were written, and the receiver has the counts
 pub record HasReceived
     (window packets : ℕ) (end : Option Ending) (receiver : ReceiverState)
-    (input : InputChange) (output : OutputChange) : Type 0 where
+    (input : InputChange) (output : OutputChange) (hands : Change (Option Told)) : Type 0 where
   pub given : List ℕ
   pub took : Took input given
   pub reading : ReadingEnded packets end input (capture_split packets given)
   pub wrote : Wrote output (full_output window (capture_split packets given).datagrams)
   pub counted : receiver.reception.counts
       ≡ tally_of window (capture_split packets given).datagrams
+  pub told : HasOffered window (capture_split packets given).datagrams hands
 
 abbrev pub Receives : ℕ → ℕ → Result (Option Ending) Ending → ReceiverState → InputChange → OutputChange
-    → Type 0
-Receives window packets (Ok end) receiver input output =
-    HasReceived window packets end receiver input output
-Receives window packets (Err NoMemory) receiver input output = HasBroken window packets input output
-Receives window packets (Err OutputFailed) receiver input output =
+    → Change (Option Told) → Type 0
+Receives window packets (Ok end) receiver input output hands =
+    HasReceived window packets end receiver input output hands
+Receives window packets (Err NoMemory) receiver input output hands = HasBroken window packets input output
+Receives window packets (Err OutputFailed) receiver input output hands =
     HasBroken window packets input output
-Receives window packets (Err end) receiver input output = ⊥
+Receives window packets (Err end) receiver input output hands = ⊥
 
 -- how a command ends where its receiver failed
 abbrev pub ending_of : EnterFault → Ending

@@ -1,6 +1,7 @@
 ghost use Rattle.std.specs.Prelude.{◌≡◌, ◌≤◌, ℕ, List, [], None, Some, Ok, Err, OnOk, IfErr};
+ghost use Rattle.link_reception.specs.Entering.{datagram_jobs};
 ghost use Rattle.slice_exchange.specs.Calls.{AreBelow};
-ghost use Rattle.link_receiver.specs.HeardLists.{HasHeard, AskedPlaces, newly_due, still_due};
+ghost use Rattle.link_receiver.specs.HeardLists.{HasHeard, OfferedToPlaces};
 ghost use Rattle.vc_ports.specs.Changes.{changed, input_of, output_of};
 ghost use Rattle.vc_ports.specs.Faults.{HasCause};
 ghost use Rattle.vc_ports.specs.Writing.{Grew, GrewBySome};
@@ -75,12 +76,12 @@ fn receive<S: Source, O: Sink, P: Places>(
     ensures received { (window : ℕ) → HasHeard receiver.old window []
         → Receives window packets result receiver.new
         (input_of S.left S.faults input.old input.new)
-        (output_of O.held O.faults output.old output.new) }
+        (output_of O.held O.faults output.old output.new)
+        (changed P.told places.old places.new) }
     ensures input_cause { HasCause (S.faults input.old) (S.faults input.new)
         (result ≡ Ok (Some Ending.InputFailed)) }
     ensures output_cause { HasCause (O.faults output.old) (O.faults output.new)
         (result ≡ Err Ending.OutputFailed) }
-    ensures told { OnOk result (AskedPlaces (P.told places.old) (P.told places.new)) }
 {
     let end = hear(alloc, packets, receiver, input, output, places)?;
     match receiver.drain(places, output) {
@@ -102,12 +103,12 @@ fn hear<S: Source, O: Sink, P: Places>(
     ensures heard { (window : ℕ) → HasHeard receiver.old window []
         → HeardAll window packets result receiver.new
         (input_of S.left S.faults input.old input.new)
-        (output_of O.held O.faults output.old output.new) }
+        (output_of O.held O.faults output.old output.new)
+        (changed P.told places.old places.new) }
     ensures input_cause { HasCause (S.faults input.old) (S.faults input.new)
         (result ≡ Ok (Some Ending.InputFailed)) }
     ensures output_cause { HasCause (O.faults output.old) (O.faults output.new)
         (result ≡ Err Ending.OutputFailed) }
-    ensures told { OnOk result (AskedPlaces (P.told places.old) (P.told places.new)) }
     ensures below { AreBelow (P.bound places.new) receiver.new.reception.out }
 {
     match hear_entries(alloc, packets, receiver, input, output, places)? {
@@ -134,12 +135,12 @@ fn hear_entries<S: Source, O: Sink, P: Places>(
     ensures heard { (window : ℕ) → HasHeard receiver.old window []
         → LoopEnded window packets result receiver.new
         (input_of S.left S.faults input.old input.new)
-        (output_of O.held O.faults output.old output.new) }
+        (output_of O.held O.faults output.old output.new)
+        (changed P.told places.old places.new) }
     ensures input_cause { HasCause (S.faults input.old) (S.faults input.new)
         (result ≡ Ok Stop.Failed) }
     ensures output_cause { HasCause (O.faults output.old) (O.faults output.new)
         (result ≡ Err Ending.OutputFailed) }
-    ensures told { OnOk result (AskedPlaces (P.told places.old) (P.told places.new)) }
     ensures below { AreBelow (P.bound places.new) receiver.new.reception.out }
 {
     let mut reader = CaptureReader::new(alloc, input);
@@ -160,12 +161,12 @@ fn hear_with<S: Source, O: Sink, P: Places>(
     ensures heard { (window : ℕ) → HasHeard receiver.old window []
         → LoopEnded window packets result receiver.new
         (input_of S.left S.faults reader.old.source.now reader.new.source.now)
-        (output_of O.held O.faults output.old output.new) }
+        (output_of O.held O.faults output.old output.new)
+        (changed P.told places.old places.new) }
     ensures input_cause { HasCause (S.faults reader.old.source.now) (S.faults reader.new.source.now)
         (result ≡ Ok Stop.Failed) }
     ensures output_cause { HasCause (O.faults output.old) (O.faults output.new)
         (result ≡ Err Ending.OutputFailed) }
-    ensures told { OnOk result (AskedPlaces (P.told places.old) (P.told places.new)) }
     ensures below { AreBelow (P.bound places.new) receiver.new.reception.out }
 {
     for _entry in 0..packets {
@@ -181,7 +182,6 @@ fn hear_with<S: Source, O: Sink, P: Places>(
 }
 
 // Takes a datagram.
-#[tactic(auto, using(crate::proofs::Asking::nothing_is_asked))]
 fn enter<O: Sink, P: Places>(
     receiver: &mut Receiver,
     datagram: Vec<u8>,
@@ -195,7 +195,8 @@ fn enter<O: Sink, P: Places>(
     ensures ending { IfErr result IsBroken }
     ensures cause { HasCause (O.faults output.old) (O.faults output.new)
         (result ≡ Err Ending.OutputFailed) }
-    ensures told { OnOk result (AskedPlaces (P.told places.old) (P.told places.new)) }
+    ensures offered { OnOk result (OfferedToPlaces (P.told places.old) (P.told places.new)
+        (datagram_jobs receiver.old.reception datagram.items)) }
     ensures below { AreBelow (P.bound places.new) receiver.new.reception.out }
 {
     let Ok(datagram) = Bytes::from_vec(datagram) else {

@@ -6,4 +6,5 @@ pub mod CallSteps
 pub mod Entering
 pub mod ReleaseLoop
 pub mod HeardMore
+pub mod OfferedEach
 pub mod ListClauses

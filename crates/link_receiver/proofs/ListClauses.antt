@@ -1,20 +1,21 @@
 -- What calls of a receiver are for a list of datagrams that it has heard.
-use Rattle.std.proofs.Common.{◌≡◌, ℕ, Bool, true, false, List, [], ◌∷◌, ◌++◌, Option, refl, sym, ap, ◌∙◌, subst}
+use Rattle.std.proofs.Common.{◌≡◌, ℕ, Bool, true, false, List, [], ◌∷◌, ◌++◌, Option, refl, ap, ◌∙◌}
 use Rattle.std.specs.Prelude.{◌||◌, Result, Ok, Err, IfOk, OnOk, OnErr}
 use Rattle.link_model.specs.Judgement.{tally_of, outcome_behind}
 use Rattle.link_model.specs.declared.outcome.Outcome.{Outcome}
-use Rattle.link_reception.specs.Entering.{datagram_bytes, end_bytes}
+use Rattle.link_reception.specs.Entering.{before_releases, datagram_bytes, datagram_jobs, end_bytes}
 use Rattle.link_reception.specs.Exchanging.{Exchange, dones_in}
 use Rattle.link_reception.specs.Receptions.{Reception}
 use Rattle.link_reception.specs.Standing.{AreDecodings}
 use Rattle.link_receiver.proofs.HeardMore.{heard_outcome, heard_with, heard_writes, end_writes, end_counts}
+use Rattle.link_receiver.proofs.OfferedEach.{told_have}
 use Rattle.link_receiver.specs.Entered.{Outside, IsEntered, IsDrained}
-use Rattle.link_receiver.specs.HeardLists.{HasHeard, AskedPlaces, newly_due, still_due}
+use Rattle.link_receiver.specs.Freeing.{all_freed_places}
+use Rattle.link_receiver.specs.HeardLists.{HasHeard, AskedPlaces, OfferedToPlaces, newly_due, still_due}
 use Rattle.link_receiver.specs.States.{ReceiverState, has_stopped}
 use Rattle.link_receiver.specs.declared.fault.EnterFault.{EnterFault}
-use Rattle.slice_exchange.specs.Calls.{PlaceCall, Puts, Takes, told_by, told_of, exchanges_of, freeing}
+use Rattle.slice_exchange.specs.Calls.{PlaceCall, Puts, Takes, told_of, exchanges_of}
 use Rattle.vc_ports.specs.Writing.{Grew, GrewBySome}
-use Rattle.vc_slice.specs.Asked.{Told, told_more}
 
 not_failed : (a b : Bool) → (a || b) ≡ false → a ≡ false
 not_failed true b e = e
@@ -39,6 +40,18 @@ module _ (old new : ReceiverState) (d : List ℕ) (outside : Outside) where
     started = rw (none_started e.0) refl;
   }
   enter_asked (Err fault) e = tt
+
+  pub enter_offered : (result : Result Outcome EnterFault) → Entered result
+      → OnOk result (OfferedToPlaces outside.told_before outside.told_behind
+      (datagram_jobs old.reception d))
+  enter_offered (Ok outcome) e = record {
+    more = _;
+    grows = e.1.told;
+    started = rw (none_started e.0) refl;
+    offered = told_have e.0 (all_freed_places (before_releases old.reception d (exchanges_of e.0)))
+        (datagram_jobs old.reception d) e.1.offered;
+  }
+  enter_offered (Err fault) e = tt
 
   module _ (size : ℕ) (datagrams : List (List ℕ)) (h : HasHeard old size datagrams) where
     pub enter_judged : (result : Result Outcome EnterFault) → Entered result

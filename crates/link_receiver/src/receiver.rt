@@ -1,11 +1,12 @@
 ghost use Rattle.std.specs.Prelude.{◌≡◌, ◌≤◌, ◌↔◌, List, true, false, IfOk, OnOk, OnErr, Err, ℕ, [], ◌∷◌, ◌++◌};
 ghost use Rattle.link_model.specs.Judgement.{outcome_behind, tally_of};
-ghost use Rattle.link_reception.specs.Entering.{datagram_bytes, end_bytes};
+ghost use Rattle.link_reception.specs.Entering.{datagram_bytes, datagram_jobs, end_bytes};
 ghost use Rattle.link_reception.specs.Exchanging.{Exchange, dones_in};
 ghost use Rattle.link_reception.specs.Receptions.{new_reception};
 ghost use Rattle.link_reception.specs.Standing.{AreDecodings};
 ghost use Rattle.link_receiver.specs.Entered.{IsEntered, IsDrained};
-ghost use Rattle.link_receiver.specs.HeardLists.{HasHeard, AskedPlaces, newly_due, still_due};
+ghost use Rattle.link_receiver.specs.HeardLists.{HasHeard, AskedPlaces, OfferedToPlaces};
+ghost use Rattle.link_receiver.specs.HeardLists.{newly_due, still_due};
 ghost use Rattle.link_receiver.specs.States.{has_stopped, GoesOn, WaitsForSecond};
 ghost use Rattle.link_receiver.specs.declared.fault.EnterFault.{EnterFault};
 ghost use Rattle.link_receiver.specs.declared.fault.StepFault.{StepFault};
@@ -111,6 +112,8 @@ impl Receiver {
             → OnErr result (GrewBySome (O.held sink.old) (O.held sink.new)
             (newly_due size datagrams datagram)) }
         ensures asked { OnOk result (AskedPlaces (P.told places.old) (P.told places.new)) }
+        ensures offered { OnOk result (OfferedToPlaces (P.told places.old) (P.told places.new)
+            (datagram_jobs self.old.reception datagram)) }
     {
         self.take(datagram, places, sink)
     }

@@ -6,18 +6,18 @@ use Rattle.decode_command.proofs.command.decode.Goals as goal
 pub returns-in-Ok-None : goal.returns-in-Ok-None
 returns-in-Ok-None g c =
     let st = c.in-Ok-None.ensures.received c.args.window c.new-receiver.ensures.heard in
-    done c.args.window c.args.workers c.args.packets c.receive.new.receiver _ _ _ _ _ c.in-Ok.ensures.told c.in-Ok-None.ensures.told c.tally.result.now c.tally.ensures (rw c.in-Ok-None.field-0-is at st)
+    done c.args.window c.args.workers c.args.packets c.receive.new.receiver _ _ _ _ _ c.in-Ok.ensures.told c.tally.result.now c.tally.ensures (rw c.in-Ok-None.field-0-is at st)
 
 pub returns-in-Ok-Some : goal.returns-in-Ok-Some
 returns-in-Ok-Some g c =
     let st = c.in-Ok-Some.ensures.received c.args.window c.new-receiver.ensures.heard in
-    drained c.args.window c.args.workers c.args.packets c.receive.new.receiver _ _ _ _ _ c.in-Ok.ensures.told c.in-Ok-Some.ensures.told c.tally-in-Ok-Some.result.now c.in-Ok-Some.end c.tally-in-Ok-Some.ensures (rw c.in-Ok-Some.field-0-is at st)
+    drained c.args.window c.args.workers c.args.packets c.receive.new.receiver _ _ _ _ _ c.in-Ok.ensures.told c.tally-in-Ok-Some.result.now c.in-Ok-Some.end c.tally-in-Ok-Some.ensures (rw c.in-Ok-Some.field-0-is at st)
     (λ is. c.in-Ok-Some.ensures.input_cause.rose (ap Ok (c.in-Ok-Some.field-0-is ∙ ap Some is)))
 
 pub returns : goal.returns
 returns g c =
     let st = c.in-Err.ensures.received c.args.window c.new-receiver.ensures.heard in
-    stopped c.args.window c.args.workers c.args.packets c.receive.new.receiver _ _ _ c.in-Err.end st
+    stopped c.args.window c.args.workers c.args.packets c.receive.new.receiver _ _ _ _ c.in-Err.end st
     (λ is. c.in-Err.ensures.output_cause.rose (ap Err is))
 
 pub returns-in_default : goal.returns-in_default
