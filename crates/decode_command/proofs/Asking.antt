@@ -1,5 +1,5 @@
--- Calls of places one after another, none of which starts workers, and what is offered by them.
-use Rattle.std.proofs.Common.{◌≡◌, ℕ, Bool, true, false, List, [], ◌∷◌, ◌++◌, refl, Option, None, Some, ap, ◌∙◌, append_assoc, append-nil}
+-- What is offered by calls of places one after another.
+use Rattle.std.proofs.Common.{◌≡◌, ℕ, Bool, true, false, List, [], ◌∷◌, ◌++◌, refl, Option, ◌∙◌}
 use Rattle.std.specs.Prelude.{◌||◌}
 use Rattle.std.proofs.lemmas.Bool.{false≢true}
 use Rattle.std.proofs.lemmas.List.{map-append}
@@ -12,29 +12,12 @@ use Rattle.link_reception.specs.Exchanging.{is_job_among}
 use Rattle.link_reception.specs.Offered.{AreAllOffered}
 use Rattle.link_reception.specs.Standing.{StandsForHeard}
 use Rattle.link_reception.proofs.AllOffered.{none_offered, more_offered}
+use Rattle.link_receiver.proofs.Asked.{grows_none, grows_twice}
 use Rattle.link_receiver.specs.States.{ReceiverState}
 use Rattle.slice_exchange.specs.Jobs.{job_of}
 use Rattle.decode_command.specs.Hearing.{HasOffered}
-use Rattle.vc_slice.specs.Asked.{Told, Offer, Grows, nothing_told, told_more}
+use Rattle.vc_slice.specs.Asked.{Told, Offer, nothing_told, told_more}
 use Rattle.link_receiver.specs.HeardLists.{HasHeard, AskedPlaces, OfferedToPlaces, told_jobs}
-
-grows_none : (told : Option Told) → Grows told told nothing_told
-grows_none None = tt
-grows_none (Some told) = simp append-nil
-
-told_assoc : (a b c : Told) → told_more (told_more a b) c ≡ told_more a (told_more b c)
-told_assoc a b c = simp append_assoc
-
-pub grows_twice : (a b c : Option Told) (d e : Told) → Grows a b d → Grows b c e
-    → Grows a c (told_more d e)
-grows_twice None None None d e p q = tt
-grows_twice None None (Some z) d e p q = absurd q
-grows_twice None (Some y) c d e p q = absurd p
-grows_twice (Some x) None None d e p q = tt
-grows_twice (Some x) None (Some z) d e p q = absurd q
-grows_twice (Some x) (Some y) None d e p q = tt
-grows_twice (Some x) (Some y) (Some z) d e p q =
-    q ∙ (ap (λ (t : Told). told_more t e) p ∙ told_assoc x d e)
 
 or_left : (a b : Bool) → a ≡ true → (a || b) ≡ true
 or_left true b e = refl

@@ -1,5 +1,6 @@
 -- The whole command: workers are started, a capture is received, and the answer made.
 use Rattle.std.proofs.Common.{◌≡◌, ℕ, List, [], ◌∷◌, Option, Some, None, Ok, Err, refl, ap, ◌∙◌}
+use Rattle.link_receiver.specs.HeardLists.{AskedPlaces}
 use Rattle.link_receiver.specs.States.{ReceiverState}
 use Rattle.link_model.specs.declared.tally.Tally.{Tally}
 use Rattle.link_report.specs.declared.answer.Answer.TheVariants.{Done, Stopped, Drained}
@@ -11,20 +12,29 @@ use Rattle.vc_ports.proofs.Given.{Gave-none}
 use Rattle.vc_ports.proofs.Growing.{GrewBySome-none}
 use Rattle.vc_slice.specs.Asked.{Told, Grows, told_more, starting}
 use Rattle.decode_command.specs.Capture.{CaptureSplit, capture_split}
-use Rattle.decode_command.specs.Decoding.{Decodes, HasStarted}
+use Rattle.decode_command.specs.Decoding.{Decodes, HasStarted, HasGivenWork}
 use Rattle.decode_command.specs.Hearing.{HasOffered, HasReceived, Receives}
-use Rattle.decode_command.proofs.Asking.{grows_twice}
+use Rattle.link_receiver.proofs.Asked.{grows_twice}
 
 -- workers were started, and then slices were offered
-started : (window workers : ℕ) (split : CaptureSplit) (before mid after : Option Told)
+gave_work : (window workers : ℕ) (split : CaptureSplit) (before mid after : Option Told)
     → Grows before mid (starting workers (Ok tt))
     → HasOffered window split.datagrams (record { before = mid; after = after })
-    → HasStarted window workers (record { before = before; after = after }) split
-started window workers split before mid after grew told = record {
+    → HasGivenWork window workers (record { before = before; after = after }) split
+gave_work window workers split before mid after grew told = record {
   more = told_more (starting workers (Ok tt)) told.more;
   grows = grows_twice before mid after (starting workers (Ok tt)) told.more grew told.grows;
   started = ap (λ (l : List ℕ). workers ∷ l) told.started;
   offered = told.offered;
+}
+
+-- workers were started, and then places were asked
+started : (workers : ℕ) (before mid after : Option Told) → Grows before mid (starting workers (Ok tt))
+    → AskedPlaces mid after → HasStarted workers (record { before = before; after = after })
+started workers before mid after grew asked = record {
+  more = told_more (starting workers (Ok tt)) asked.more;
+  grows = grows_twice before mid after (starting workers (Ok tt)) asked.more grew asked.grows;
+  started = ap (λ (l : List ℕ). workers ∷ l) asked.started;
 }
 
 drained_at : (tally other : Tally) (end : Ending) → Drained tally end ≡ Drained other InputFailed → end ≡ InputFailed
@@ -72,7 +82,7 @@ module _ (window workers packets : ℕ) (receiver : ReceiverState) (input : Inpu
     ended = record { reading = st.reading; wrote = st.wrote; tally_is = is ∙ st.counted };
     input_failed = λ failed. absurd (done_is_drained tally failed.0 failed.1);
     output_failed = λ failed. absurd (done_is_stopped tally OutputFailed failed);
-    workers_started = started window workers (capture_split packets st.given) before mid after grew st.told;
+    workers_started = gave_work window workers (capture_split packets st.given) before mid after grew st.told;
   }
 
   -- it ended before that
@@ -88,17 +98,18 @@ module _ (window workers packets : ℕ) (receiver : ReceiverState) (input : Inpu
     ended = record { reading = st.reading; wrote = st.wrote; tally_is = is ∙ st.counted };
     input_failed = λ failed. cause (drained_at tally failed.0 end failed.1);
     output_failed = λ failed. absurd (drained_is_stopped tally end OutputFailed failed);
-    workers_started = started window workers (capture_split packets st.given) before mid after grew st.told;
+    workers_started = gave_work window workers (capture_split packets st.given) before mid after grew st.told;
   }
 
 -- memory ran out, or the output failed
 pub stopped : (window workers packets : ℕ) (receiver : ReceiverState) (input : InputChange)
-    (output : OutputChange) (hands later : Change (Option Told)) (end : Ending)
-    → Receives window packets (Err end) receiver input output later
+    (output : OutputChange) (before mid after : Option Told) (end : Ending)
+    → Grows before mid (starting workers (Ok tt)) → AskedPlaces mid after
+    → Receives window packets (Err end) receiver input output (record { before = mid; after = after })
     → (end ≡ OutputFailed → HasRisen output.faults)
     → Decodes window workers packets (Stopped end) input output
-    hands
-stopped window workers packets receiver input output hands later NoMemory broke cause = record {
+    (record { before = before; after = after })
+stopped window workers packets receiver input output before mid after NoMemory grew asked broke cause = record {
   given = broke.given;
   took = broke.took;
   ended = broke.wrote;
@@ -106,12 +117,12 @@ stopped window workers packets receiver input output hands later NoMemory broke 
   output_failed = λ failed. absurd (no_memory_is_fault failed);
   workers_started = tt;
 }
-stopped window workers packets receiver input output hands later OutputFailed broke cause = record {
+stopped window workers packets receiver input output before mid after OutputFailed grew asked broke cause = record {
   given = broke.given;
   took = broke.took;
   ended = broke.wrote;
   input_failed = λ failed. absurd (stopped_is_drained OutputFailed failed.0 failed.1);
   output_failed = λ failed. cause refl;
-  workers_started = tt;
+  workers_started = started workers before mid after grew asked;
 }
-stopped window workers packets receiver input output hands later end broke cause = absurd broke
+stopped window workers packets receiver input output before mid after end grew asked broke cause = absurd broke

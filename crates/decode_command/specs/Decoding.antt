@@ -43,18 +43,25 @@ has_failed_input answer = (tally : Tally) × (answer ≡ Drained tally InputFail
 
 -- ---- workers
 
--- so many were started, once, and each slice that a picture of the datagrams keeps was offered
-pub record HasStarted (window workers : ℕ) (hands : Change (Option Told)) (s : CaptureSplit)
+-- so many were started, once
+pub record HasStarted (workers : ℕ) (hands : Change (Option Told)) : Type 0 where
+  pub more : Told
+  pub grows : Grows hands.before hands.after more
+  pub started : more.started ≡ workers ∷ []
+
+-- and each slice that a picture of the datagrams keeps was offered
+pub record HasGivenWork (window workers : ℕ) (hands : Change (Option Told)) (s : CaptureSplit)
     : Type 0 where
   pub more : Told
   pub grows : Grows hands.before hands.after more
   pub started : more.started ≡ workers ∷ []
   pub offered : AreAllOffered window (sessions_of s.datagrams) (told_jobs more)
 
--- nothing is said of them where memory ran out or the output failed
+-- nothing is said of them where memory ran out
 abbrev pub StartsWorkers : ℕ → ℕ → Answer → Change (Option Told) → CaptureSplit → Type 0
+StartsWorkers window workers (Stopped OutputFailed) hands s = HasStarted workers hands
 StartsWorkers window workers (Stopped end) hands s = Unit {0}
-StartsWorkers window workers answer hands s = HasStarted window workers hands s
+StartsWorkers window workers answer hands s = HasGivenWork window workers hands s
 
 -- ---- decoding the bytes that the input gave
 

@@ -32,8 +32,8 @@ pub record HasOffered (window : ℕ) (datagrams : List (List ℕ)) (hands : Chan
   pub started : more.started ≡ []
   pub offered : AreAllOffered window (sessions_of datagrams) (told_jobs more)
 
--- the source gave the bytes of so many entries, up to a place, and the receiver heard their datagrams and wrote what
--- these let go
+-- the source gave the bytes of so many entries, up to a place, and the receiver heard their
+-- datagrams and wrote what these let go
 pub record IsBehind
     (window packets number place : ℕ) (before after held_before held_after : Option (List ℕ))
     (receiver : ReceiverState) (datagrams : List (List ℕ)) : Type 0 where
@@ -89,11 +89,12 @@ LoopEnded window packets (Err OutputFailed) receiver input output hands =
 LoopEnded window packets (Err end) receiver input output hands = ⊥
 
 -- how reading ended, with a byte more behind as many entries as were asked for
-abbrev pub HeardAll : ℕ → ℕ → Result (Option Ending) Ending → ReceiverState → InputChange → OutputChange
-    → Change (Option Told) → Type 0
+abbrev pub HeardAll : ℕ → ℕ → Result (Option Ending) Ending → ReceiverState → InputChange
+    → OutputChange → Change (Option Told) → Type 0
 HeardAll window packets (Ok end) receiver input output hands =
     HasStopped window packets end receiver input output hands
-HeardAll window packets (Err NoMemory) receiver input output hands = HasBroken window packets input output
+HeardAll window packets (Err NoMemory) receiver input output hands =
+    HasBroken window packets input output
 HeardAll window packets (Err OutputFailed) receiver input output hands =
     HasBroken window packets input output
 HeardAll window packets (Err end) receiver input output hands = ⊥
@@ -110,11 +111,12 @@ pub record HasReceived
       ≡ tally_of window (capture_split packets given).datagrams
   pub told : HasOffered window (capture_split packets given).datagrams hands
 
-abbrev pub Receives : ℕ → ℕ → Result (Option Ending) Ending → ReceiverState → InputChange → OutputChange
-    → Change (Option Told) → Type 0
+abbrev pub Receives : ℕ → ℕ → Result (Option Ending) Ending → ReceiverState → InputChange
+    → OutputChange → Change (Option Told) → Type 0
 Receives window packets (Ok end) receiver input output hands =
     HasReceived window packets end receiver input output hands
-Receives window packets (Err NoMemory) receiver input output hands = HasBroken window packets input output
+Receives window packets (Err NoMemory) receiver input output hands =
+    HasBroken window packets input output
 Receives window packets (Err OutputFailed) receiver input output hands =
     HasBroken window packets input output
 Receives window packets (Err end) receiver input output hands = ⊥

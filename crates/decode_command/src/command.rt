@@ -1,7 +1,7 @@
 ghost use Rattle.std.specs.Prelude.{◌≡◌, ◌≤◌, ℕ, List, [], None, Some, Ok, Err, OnOk, IfErr};
 ghost use Rattle.link_reception.specs.Entering.{datagram_jobs};
 ghost use Rattle.slice_exchange.specs.Calls.{AreBelow};
-ghost use Rattle.link_receiver.specs.HeardLists.{HasHeard, OfferedToPlaces};
+ghost use Rattle.link_receiver.specs.HeardLists.{HasHeard, AskedPlaces, OfferedToPlaces};
 ghost use Rattle.vc_ports.specs.Changes.{changed, input_of, output_of};
 ghost use Rattle.vc_ports.specs.Faults.{HasCause};
 ghost use Rattle.vc_ports.specs.Writing.{Grew, GrewBySome};
@@ -29,10 +29,12 @@ pub(crate) enum Stop {
     AtLimit,
 }
 
-/// Decodes a capture: reads at most so many entries, takes each as a datagram, with so many pictures open at a time (2 to
-/// 8), and writes the raw frames that the datagrams make. A frame goes out as soon as its pictures are let go. Slices are
-/// offered to so many workers; what they don't decode in time is decoded here. Where the input fails, or ends within an
-/// entry, or has one byte more than so many entries, the frames of what was heard are written all the same.
+/// Decodes a capture: reads at most so many entries, takes each as a datagram, with so many
+/// pictures open at a time (2 to 8), and writes the raw frames that the datagrams make. A frame
+/// goes out as soon as its pictures are let go. Each slice that a picture keeps is offered to so
+/// many workers; what they don't decode in time is decoded here. Where the input fails, or ends
+/// within an entry, or has one byte more than so many entries, the frames of what was heard are
+/// written all the same.
 pub fn decode<S: Source, O: Sink, P: Hands>(
     alloc: Global,
     window: u8,
@@ -82,6 +84,7 @@ fn receive<S: Source, O: Sink, P: Places>(
         (result ≡ Ok (Some Ending.InputFailed)) }
     ensures output_cause { HasCause (O.faults output.old) (O.faults output.new)
         (result ≡ Err Ending.OutputFailed) }
+    ensures told { AskedPlaces (P.told places.old) (P.told places.new) }
 {
     let end = hear(alloc, packets, receiver, input, output, places)?;
     match receiver.drain(places, output) {
@@ -109,6 +112,7 @@ fn hear<S: Source, O: Sink, P: Places>(
         (result ≡ Ok (Some Ending.InputFailed)) }
     ensures output_cause { HasCause (O.faults output.old) (O.faults output.new)
         (result ≡ Err Ending.OutputFailed) }
+    ensures told { AskedPlaces (P.told places.old) (P.told places.new) }
     ensures below { AreBelow (P.bound places.new) receiver.new.reception.out }
 {
     match hear_entries(alloc, packets, receiver, input, output, places)? {
@@ -141,6 +145,7 @@ fn hear_entries<S: Source, O: Sink, P: Places>(
         (result ≡ Ok Stop.Failed) }
     ensures output_cause { HasCause (O.faults output.old) (O.faults output.new)
         (result ≡ Err Ending.OutputFailed) }
+    ensures told { AskedPlaces (P.told places.old) (P.told places.new) }
     ensures below { AreBelow (P.bound places.new) receiver.new.reception.out }
 {
     let mut reader = CaptureReader::new(alloc, input);
@@ -167,6 +172,7 @@ fn hear_with<S: Source, O: Sink, P: Places>(
         (result ≡ Ok Stop.Failed) }
     ensures output_cause { HasCause (O.faults output.old) (O.faults output.new)
         (result ≡ Err Ending.OutputFailed) }
+    ensures told { AskedPlaces (P.told places.old) (P.told places.new) }
     ensures below { AreBelow (P.bound places.new) receiver.new.reception.out }
 {
     for _entry in 0..packets {
@@ -182,6 +188,7 @@ fn hear_with<S: Source, O: Sink, P: Places>(
 }
 
 // Takes a datagram.
+#[tactic(auto, using(link_receiver::proofs::Asked::asked_none))]
 fn enter<O: Sink, P: Places>(
     receiver: &mut Receiver,
     datagram: Vec<u8>,
@@ -195,6 +202,7 @@ fn enter<O: Sink, P: Places>(
     ensures ending { IfErr result IsBroken }
     ensures cause { HasCause (O.faults output.old) (O.faults output.new)
         (result ≡ Err Ending.OutputFailed) }
+    ensures told { AskedPlaces (P.told places.old) (P.told places.new) }
     ensures offered { OnOk result (OfferedToPlaces (P.told places.old) (P.told places.new)
         (datagram_jobs receiver.old.reception datagram.items)) }
     ensures below { AreBelow (P.bound places.new) receiver.new.reception.out }

@@ -1,4 +1,5 @@
 pub mod Exchanges
+pub mod Asked
 pub mod Offered
 pub mod Stays
 pub mod Steps

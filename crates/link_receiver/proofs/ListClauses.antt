@@ -8,10 +8,11 @@ use Rattle.link_reception.specs.Exchanging.{Exchange, dones_in}
 use Rattle.link_reception.specs.Receptions.{Reception}
 use Rattle.link_reception.specs.Standing.{AreDecodings}
 use Rattle.link_receiver.proofs.HeardMore.{heard_outcome, heard_with, heard_writes, end_writes, end_counts}
+use Rattle.link_receiver.proofs.Asked.{none_started}
 use Rattle.link_receiver.proofs.OfferedEach.{told_have}
 use Rattle.link_receiver.specs.Entered.{Outside, IsEntered, IsDrained}
 use Rattle.link_receiver.specs.Freeing.{all_freed_places}
-use Rattle.link_receiver.specs.HeardLists.{HasHeard, AskedPlaces, OfferedToPlaces, newly_due, still_due}
+use Rattle.link_receiver.specs.HeardLists.{HasHeard, OfferedToPlaces, newly_due, still_due}
 use Rattle.link_receiver.specs.States.{ReceiverState, has_stopped}
 use Rattle.link_receiver.specs.declared.fault.EnterFault.{EnterFault}
 use Rattle.slice_exchange.specs.Calls.{PlaceCall, Puts, Takes, told_of, exchanges_of}
@@ -21,25 +22,10 @@ not_failed : (a b : Bool) → (a || b) ≡ false → a ≡ false
 not_failed true b e = e
 not_failed false b e = refl
 
--- calls of places start no workers
-none_started : (calls : List PlaceCall) → (told_of calls).started ≡ []
-none_started [] = refl
-none_started (Puts job answer ∷ rest) = none_started rest
-none_started (Takes place answer ∷ rest) = none_started rest
-
 module _ (old new : ReceiverState) (d : List ℕ) (outside : Outside) where
   abbrev Entered : Result Outcome EnterFault → Type 0
   Entered result = IfOk result (λ outcome. (calls : List PlaceCall)
       × IsEntered outside old.reception new.reception d outcome calls)
-
-  pub enter_asked : (result : Result Outcome EnterFault) → Entered result
-      → OnOk result (AskedPlaces outside.told_before outside.told_behind)
-  enter_asked (Ok outcome) e = record {
-    more = _;
-    grows = e.1.told;
-    started = rw (none_started e.0) refl;
-  }
-  enter_asked (Err fault) e = tt
 
   pub enter_offered : (result : Result Outcome EnterFault) → Entered result
       → OnOk result (OfferedToPlaces outside.told_before outside.told_behind
@@ -92,15 +78,6 @@ module _ (old new : ReceiverState) (outside : Outside) where
   abbrev Drained : Result (Unit {0}) EnterFault → Type 0
   Drained result = OnOk result ((calls : List PlaceCall)
       × IsDrained outside old.reception new.reception calls)
-
-  pub drain_asked : (result : Result (Unit {0}) EnterFault) → Drained result
-      → OnOk result (AskedPlaces outside.told_before outside.told_behind)
-  drain_asked (Ok done) e = record {
-    more = _;
-    grows = e.1.told;
-    started = rw (none_started e.0) refl;
-  }
-  drain_asked (Err fault) e = tt
 
   module _ (size : ℕ) (datagrams : List (List ℕ)) (h : HasHeard old size datagrams) where
     pub drain_wrote : (result : Result (Unit {0}) EnterFault) → Drained result

@@ -4,6 +4,7 @@ ghost use Rattle.std.specs.Option.{option_map};
 ghost use Rattle.link_reception.specs.Exchanging.{is_wanted, takes_done};
 ghost use Rattle.link_reception.specs.Releasing.{next_picture};
 ghost use Rattle.link_receiver.specs.Exchanged.{IsExchanged};
+ghost use Rattle.link_receiver.specs.HeardLists.{AskedPlaces};
 ghost use Rattle.link_receiver.specs.Offers.{AreOffersOf, IsOfferOf, MayOffer, proposed_in};
 ghost use Rattle.link_receiver.specs.Offers.{are_asked};
 ghost use Rattle.link_receiver.specs.Offers.{asked_in, asked_at};
@@ -30,6 +31,7 @@ impl Reception {
             × AreOffersOf (map job_of jobs.now) (proposed_in (exchanges_of calls))
             × (is_some (next_picture self.old) ≡ true
             → are_asked self.old.out (exchanges_of calls) ≡ true)) }
+        ensures asked { AskedPlaces (P.told places.old) (P.told places.new) }
         ensures bound { P.bound places.new ≡ P.bound places.old }
         ensures below { AreBelow (P.bound places.new) self.new.out }
     {
@@ -38,6 +40,7 @@ impl Reception {
     }
 
     /// Takes back what is decoded, if a picture may be released.
+    #[tactic(auto, using(crate::proofs::Asked::asked_none))]
     pub(crate) fn take_back<P: Places>(&mut self, places: &mut P) -> Result<(), NoMemory>
         requires below { AreBelow (P.bound places.old) self.old.out }
         ensures exchanged { OnOk result ((calls : List PlaceCall)
@@ -45,6 +48,7 @@ impl Reception {
             × (proposed_in (exchanges_of calls) ≡ [])
             × (is_some (next_picture self.old) ≡ true
             → are_asked self.old.out (exchanges_of calls) ≡ true)) }
+        ensures asked { AskedPlaces (P.told places.old) (P.told places.new) }
         ensures bound { P.bound places.new ≡ P.bound places.old }
         ensures below { AreBelow (P.bound places.new) self.new.out }
     {
@@ -60,6 +64,7 @@ impl Reception {
         ensures exchanged { OnOk result ((calls : List PlaceCall)
             × IsExchanged (P.told places.old) (P.told places.new) self.old self.new calls
             × AreOffersOf (map job_of jobs.now) (proposed_in (exchanges_of calls))) }
+        ensures asked { AskedPlaces (P.told places.old) (P.told places.new) }
         ensures bound { P.bound places.new ≡ P.bound places.old }
         ensures below { AreBelow (P.bound places.new) self.new.out }
     {
@@ -83,6 +88,7 @@ impl Reception {
         ensures exchanged { OnOk result ((calls : List PlaceCall)
             × IsExchanged (P.told places.old) (P.told places.new) self.old self.new calls
             × IsOfferOf (job_of job) (proposed_in (exchanges_of calls))) }
+        ensures asked { AskedPlaces (P.told places.old) (P.told places.new) }
         ensures bound { P.bound places.new ≡ P.bound places.old }
         ensures below { AreBelow (P.bound places.new) self.new.out }
     {
@@ -101,6 +107,7 @@ impl Reception {
         ensures exchanged { OnOk result ((calls : List PlaceCall)
             × IsExchanged (P.told places.old) (P.told places.new) self.old self.new calls
             × MayOffer (job_of job) (proposed_in (exchanges_of calls))) }
+        ensures asked { AskedPlaces (P.told places.old) (P.told places.new) }
         ensures bound { P.bound places.new ≡ P.bound places.old }
         ensures below { AreBelow (P.bound places.new) self.new.out }
     {
@@ -122,6 +129,7 @@ impl Reception {
             × IsExchanged (P.told places.old) (P.told places.new) self.old self.new calls
             × (proposed_in (exchanges_of calls) ≡ job_of job ∷ [])) }
         ensures back { IfOk result (λ back. IfSome back (λ same. same ≡ job)) }
+        ensures asked { AskedPlaces (P.told places.old) (P.told places.new) }
         ensures bound { P.bound places.new ≡ P.bound places.old }
         ensures below { AreBelow (P.bound places.new) self.new.out }
     {
@@ -135,6 +143,7 @@ impl Reception {
             × IsExchanged (P.told places.old) (P.told places.new) self.old self.new calls
             × (proposed_in (exchanges_of calls) ≡ [])
             × (are_asked self.old.out (exchanges_of calls) ≡ true)) }
+        ensures asked { AskedPlaces (P.told places.old) (P.told places.new) }
         ensures bound { P.bound places.new ≡ P.bound places.old }
         ensures below { AreBelow (P.bound places.new) self.new.out }
     {
@@ -158,6 +167,7 @@ impl Reception {
             × IsExchanged (P.told places.old) (P.told places.new) self.old self.new calls
             × (proposed_in (exchanges_of calls) ≡ [])
             × (asked_in (exchanges_of calls) ≡ asked_at self.old.out i)) }
+        ensures asked { AskedPlaces (P.told places.old) (P.told places.new) }
         ensures bound { P.bound places.new ≡ P.bound places.old }
         ensures below { AreBelow (P.bound places.new) self.new.out }
     {

@@ -94,6 +94,7 @@ impl Receiver {
             (datagram_bytes self.old.reception datagram exchanges)) }
         ensures cause { HasCause (O.faults sink.old) (O.faults sink.new)
             (result ≡ Err EnterFault.WriteFault) }
+        ensures asked { AskedPlaces (P.told places.old) (P.told places.new) }
         ensures bound { P.bound places.new ≡ P.bound places.old }
         ensures below { AreBelow (P.bound places.new) self.new.reception.out }
         // By a list of datagrams that it has heard.
@@ -111,13 +112,13 @@ impl Receiver {
             → HasHeard self.old size datagrams
             → OnErr result (GrewBySome (O.held sink.old) (O.held sink.new)
             (newly_due size datagrams datagram)) }
-        ensures asked { OnOk result (AskedPlaces (P.told places.old) (P.told places.new)) }
         ensures offered { OnOk result (OfferedToPlaces (P.told places.old) (P.told places.new)
             (datagram_jobs self.old.reception datagram)) }
     {
         self.take(datagram, places, sink)
     }
 
+    #[tactic(auto, using(crate::proofs::Asked::asked_none))]
     fn take<P: Places, O: Sink>(
         &mut self,
         datagram: Bytes,
@@ -143,6 +144,7 @@ impl Receiver {
             (datagram_bytes self.old.reception datagram exchanges)) }
         ensures cause { HasCause (O.faults sink.old) (O.faults sink.new)
             (result ≡ Err EnterFault.WriteFault) }
+        ensures asked { AskedPlaces (P.told places.old) (P.told places.new) }
         ensures bound { P.bound places.new ≡ P.bound places.old }
         ensures below { AreBelow (P.bound places.new) self.new.reception.out }
     {
@@ -185,6 +187,7 @@ impl Receiver {
             (end_bytes self.old.reception exchanges)) }
         ensures cause { HasCause (O.faults sink.old) (O.faults sink.new)
             (result ≡ Err EnterFault.WriteFault) }
+        ensures asked { AskedPlaces (P.told places.old) (P.told places.new) }
         ensures bound { P.bound places.new ≡ P.bound places.old }
         ensures below { AreBelow (P.bound places.new) self.new.reception.out }
         // By a list of datagrams that it has heard.
@@ -198,11 +201,11 @@ impl Receiver {
         ensures counts { (size : ℕ) (datagrams : List (List ℕ))
             → HasHeard self.old size datagrams
             → OnOk result (self.new.reception.counts ≡ tally_of size datagrams) }
-        ensures asked { OnOk result (AskedPlaces (P.told places.old) (P.told places.new)) }
     {
         self.take_end(places, sink)
     }
 
+    #[tactic(auto, using(crate::proofs::Asked::asked_none))]
     fn take_end<P: Places, O: Sink>(
         &mut self,
         places: &mut P,
@@ -226,6 +229,7 @@ impl Receiver {
             (end_bytes self.old.reception exchanges)) }
         ensures cause { HasCause (O.faults sink.old) (O.faults sink.new)
             (result ≡ Err EnterFault.WriteFault) }
+        ensures asked { AskedPlaces (P.told places.old) (P.told places.new) }
         ensures bound { P.bound places.new ≡ P.bound places.old }
         ensures below { AreBelow (P.bound places.new) self.new.reception.out }
     {
@@ -243,6 +247,7 @@ impl Receiver {
 }
 
 impl Reception {
+    #[tactic(auto, using(crate::proofs::Asked::asked_none))]
     fn enter<P: Places, O: Sink>(
         &mut self,
         datagram: &Bytes,
@@ -266,6 +271,7 @@ impl Reception {
             (datagram_bytes self.old datagram.now exchanges)) }
         ensures cause { HasCause (O.faults sink.old) (O.faults sink.new)
             (result ≡ Err StepFault.WriteFault) }
+        ensures asked { AskedPlaces (P.told places.old) (P.told places.new) }
         ensures bound { P.bound places.new ≡ P.bound places.old }
         ensures below { AreBelow (P.bound places.new) self.new.out }
     {
@@ -292,6 +298,7 @@ impl Reception {
             × GrewBySome (O.held sink.old) (O.held sink.new) (end_bytes self.old exchanges)) }
         ensures cause { HasCause (O.faults sink.old) (O.faults sink.new)
             (result ≡ Err StepFault.WriteFault) }
+        ensures asked { AskedPlaces (P.told places.old) (P.told places.new) }
         ensures bound { P.bound places.new ≡ P.bound places.old }
         ensures below { AreBelow (P.bound places.new) self.new.out }
     {

@@ -5,6 +5,7 @@ ghost use Rattle.link_reception.specs.Releasing.{releases_picture_of, released_b
 ghost use Rattle.link_reception.specs.Releasing.{released_planes, freed_places, next_picture};
 ghost use Rattle.link_reception.specs.Releasing.{releases_all, all_released_bytes, book_count};
 ghost use Rattle.link_reception.specs.WholeBooks.{ArePicturePlanes};
+ghost use Rattle.link_receiver.specs.HeardLists.{AskedPlaces};
 ghost use Rattle.link_receiver.specs.Freeing.{all_freed_places};
 ghost use Rattle.link_receiver.specs.States.{WaitsForSecond};
 ghost use Rattle.link_receiver.specs.declared.fault.StepFault.{StepFault};
@@ -43,6 +44,7 @@ impl Reception {
             (GrewBySome (O.held sink.old) (O.held sink.new) (all_released_bytes self.old)) }
         ensures cause { HasCause (O.faults sink.old) (O.faults sink.new)
             (result ≡ Err StepFault.WriteFault) }
+        ensures asked { AskedPlaces (P.told places.old) (P.told places.new) }
         ensures bound { P.bound places.new ≡ P.bound places.old }
         ensures below { AreBelow (P.bound places.new) self.new.out }
     {
@@ -85,6 +87,7 @@ impl Reception {
             (released_bytes self.old (releasable_of picture))) }
         ensures cause { HasCause (O.faults sink.old) (O.faults sink.new)
             (result ≡ Err StepFault.WriteFault) }
+        ensures asked { AskedPlaces (P.told places.old) (P.told places.new) }
         ensures bound { P.bound places.new ≡ P.bound places.old }
         ensures below { AreBelow (P.bound places.new) self.new.out }
     {

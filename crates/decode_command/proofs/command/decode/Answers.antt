@@ -17,7 +17,7 @@ returns-in-Ok-Some g c =
 pub returns : goal.returns
 returns g c =
     let st = c.in-Err.ensures.received c.args.window c.new-receiver.ensures.heard in
-    stopped c.args.window c.args.workers c.args.packets c.receive.new.receiver _ _ _ _ c.in-Err.end st
+    stopped c.args.window c.args.workers c.args.packets c.receive.new.receiver _ _ _ _ _ c.in-Err.end c.in-Ok.ensures.told c.in-Err.ensures.told st
     (λ is. c.in-Err.ensures.output_cause.rose (ap Err is))
 
 pub returns-in_default : goal.returns-in_default

@@ -1,5 +1,6 @@
 use Rattle.std.proofs.Common.{rules, ◌≡◌, ◌∷◌, ◌++◌, [], ◌∙◌, refl, sym, subst, arith, inl, ℕ}
 use Rattle.std.specs.Prelude.{Result, Err, Some}
+use Rattle.link_receiver.proofs.Asked.{asked_none, asked_twice}
 use Rattle.link_report.specs.declared.ending.Ending.{Ending}
 use Rattle.link_report.specs.declared.ending.Ending.TheVariants.{CaptureCut}
 use Rattle.vc_ports.specs.Changes.{changed, input_of, output_of}
@@ -17,6 +18,7 @@ loop-entry-init g c = record {
   behind = λ window heard. ([], subst (λ (place : ℕ). IsBehind window c.args.packets 0 place (g.S.Source.left c.args.reader.now.source.now) (g.S.Source.left c.args.reader.now.source.now) (g.O.Sink.held c.args.output.now) (g.O.Sink.held c.args.output.now) c.args.receiver.now []) (sym c.requires.place) (begun window c.args.packets _ _ _ heard), nothing_offered window _);
   input_later = omega arith;
   output_later = omega arith;
+  told = asked_none _;
   below = c.requires.below;
 }
 
@@ -30,6 +32,10 @@ returns-in_err-enter-in-Ok-Some-clause-heard g c = λ window heard.
     let end = c.in_err-enter-in-Ok-Some.field-0.0 in
     let same : c.from_residual.result ≡ Err end = search rules in
     subst (λ (r : Result Stop Ending). LoopEnded window c.args.packets r c.enter.new.receiver (input_of g.S.Source.left g.S.Source.faults c.args.reader.now.source.now c.next_entry.new.r.source.now) (output_of g.O.Sink.held g.O.Sink.faults c.args.output.now c.enter.new.output) (changed g.P.Places.told c.args.places.now c.enter.new.places)) (sym same) (loop_broke window c.args.packets _ _ _ _ end c.in_err-enter-in-Ok-Some.ensures.ending broke)
+
+pub returns-in_err-enter-in-Ok-Some-clause-told : goal.returns-in_err-enter-in-Ok-Some-clause-told
+returns-in_err-enter-in-Ok-Some-clause-told g c =
+    asked_twice _ _ _ c.loop-entry.invariant.told c.in_err-enter-in-Ok-Some.ensures.told
 
 -- the end at an entry's edge
 pub returns-in-Ok-None-clause-heard : goal.returns-in-Ok-None-clause-heard
@@ -77,6 +83,7 @@ loop-entry-preserved g c =
           );
       input_later = omega (arith, c.loop-entry.invariant.input_later, (rw c.loop-entry.invariant.sound at c.in-Ok-Some.ensures.cause).later);
       output_later = omega (arith, c.loop-entry.invariant.output_later, c.enter.ensures.cause.later);
+      told = asked_twice _ _ _ c.loop-entry.invariant.told c.enter.ensures.told;
       below = c.enter.ensures.below;
     }
 

@@ -1,6 +1,6 @@
 use Rattle.std.proofs.Common.{◌≡◌, ◌*◌, ◌≤◌, ℕ, List, [], None}
 use Rattle.slice_exchange.specs.Calls.{AreBelow}
-use Rattle.link_receiver.specs.HeardLists.{HasHeard}
+use Rattle.link_receiver.specs.HeardLists.{HasHeard, AskedPlaces}
 use Rattle.vc_ports.specs.Changes.{changed}
 use Rattle.decode_command.specs.Hearing.{IsBehind, HasOffered}
 use Rattle.decode_command.proofs.command.hear_with.Given as goal
@@ -17,5 +17,6 @@ invariant-loop-entry g l = record {
       × HasOffered window datagrams (changed g.P.Places.told l.fn.places l.places);
   input_later : g.S.Source.faults l.fn.reader.source.now ≤ g.S.Source.faults l.reader.source.now;
   output_later : g.O.Sink.faults l.fn.output ≤ g.O.Sink.faults l.output;
+  told : AskedPlaces (g.P.Places.told l.fn.places) (g.P.Places.told l.places);
   below : AreBelow (g.P.Places.bound l.places) l.receiver.reception.out;
 }

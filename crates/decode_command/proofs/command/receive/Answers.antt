@@ -1,3 +1,4 @@
+use Rattle.link_receiver.proofs.Asked.{asked_twice}
 use Rattle.decode_command.proofs.Behind.{all_written, part_written, drain_broke}
 use Rattle.decode_command.proofs.command.receive.Goals as goal
 
@@ -10,3 +11,9 @@ pub returns-in-Err-clause-received : goal.returns-in-Err-clause-received
 returns-in-Err-clause-received g c = λ window heard.
     let st = c.in_ok-end.ensures.heard window heard in
     rw c.ending_of.ensures (drain_broke window c.args.packets _ _ _ _ c.in-Err.fault (part_written window c.args.packets _ _ _ _ _ _ _ _ _ _ st (c.in-Err.ensures.part window _ st.heard)))
+
+pub returns-in-Ok-clause-told : goal.returns-in-Ok-clause-told
+returns-in-Ok-clause-told g c = asked_twice _ _ _ c.in_ok-end.ensures.told c.in-Ok.ensures.asked
+
+pub returns-in-Err-clause-told : goal.returns-in-Err-clause-told
+returns-in-Err-clause-told g c = asked_twice _ _ _ c.in_ok-end.ensures.told c.in-Err.ensures.asked

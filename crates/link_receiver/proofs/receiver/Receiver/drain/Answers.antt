@@ -1,4 +1,4 @@
-use Rattle.link_receiver.proofs.ListClauses.{drain_asked, drain_wrote, drain_part, drain_counts}
+use Rattle.link_receiver.proofs.ListClauses.{drain_wrote, drain_part, drain_counts}
 use Rattle.link_receiver.specs.Entered.{Outside}
 use Rattle.link_receiver.proofs.receiver.Receiver.drain.Given.{Over}
 use Rattle.link_receiver.proofs.receiver.Receiver.drain.Goals as goal
@@ -22,7 +22,3 @@ returns-clause-part g c = λ size datagrams h. drain_part c.args.self.now c.take
 pub returns-clause-counts : goal.returns-clause-counts
 returns-clause-counts g c = λ size datagrams h. drain_counts c.args.self.now c.take_end.new.self
     (outside g c) size datagrams h _ c.take_end.ensures.drained
-
-pub returns-clause-asked : goal.returns-clause-asked
-returns-clause-asked g c = drain_asked c.args.self.now c.take_end.new.self (outside g c) _
-    c.take_end.ensures.drained

@@ -1,4 +1,4 @@
-use Rattle.link_receiver.proofs.ListClauses.{enter_asked, enter_offered, enter_judged, enter_heard, enter_wrote, enter_part}
+use Rattle.link_receiver.proofs.ListClauses.{enter_offered, enter_judged, enter_heard, enter_wrote, enter_part}
 use Rattle.link_receiver.specs.Entered.{Outside}
 use Rattle.link_receiver.proofs.receiver.Receiver.enter.Given.{Over}
 use Rattle.link_receiver.proofs.receiver.Receiver.enter.Goals as goal
@@ -27,10 +27,6 @@ returns-clause-wrote g c = λ size datagrams h. enter_wrote c.args.self.now c.ta
 pub returns-clause-part : goal.returns-clause-part
 returns-clause-part g c = λ size datagrams h. enter_part c.args.self.now c.take.new.self
     c.args.datagram (outside g c) size datagrams h _ _ _ c.take.ensures.failed
-
-pub returns-clause-asked : goal.returns-clause-asked
-returns-clause-asked g c = enter_asked c.args.self.now c.take.new.self c.args.datagram
-    (outside g c) _ c.take.ensures.entered
 
 pub returns-clause-offered : goal.returns-clause-offered
 returns-clause-offered g c = enter_offered c.args.self.now c.take.new.self c.args.datagram

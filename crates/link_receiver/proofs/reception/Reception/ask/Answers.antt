@@ -1,5 +1,6 @@
 use Rattle.std.proofs.Common.{◌≡◌, ◌<◌, ◌≤◌, subst, sym, ap, ◌∙◌, [], ◌∷◌, refl, length, Some, None, arith}
 use Rattle.link_reception.specs.Receptions.{Reception, SliceOut}
+use Rattle.link_receiver.proofs.Asked.{asked_none, asked_take}
 use Rattle.link_receiver.proofs.Exchanges.{no_call}
 use Rattle.link_receiver.proofs.Stays.{asked_past, asked_got, below_got}
 use Rattle.link_receiver.proofs.Steps.{take_some, take_none}
@@ -66,3 +67,18 @@ returns-in-None-clause-exchanged g c =
       refl,
       asked_got c.self.inside.out c.args.i c.place-place.result c.place-place.ensures,
     )
+
+pub returns-then-i-count-clause-asked : goal.returns-then-i-count-clause-asked
+returns-then-i-count-clause-asked g c = asked_none _
+
+pub returns-in_err-accept-in-Some-clause-asked : goal.returns-in_err-accept-in-Some-clause-asked
+returns-in_err-accept-in-Some-clause-asked g c =
+    asked_take _ _ c.place-place.result (Some c.in-Some.done) c.in-Some.ensures.told
+
+pub returns-in_ok-accept-in-Some-clause-asked : goal.returns-in_ok-accept-in-Some-clause-asked
+returns-in_ok-accept-in-Some-clause-asked g c =
+    asked_take _ _ c.place-place.result (Some c.in-Some.done) c.in-Some.ensures.told
+
+pub returns-in-None-clause-asked : goal.returns-in-None-clause-asked
+returns-in-None-clause-asked g c =
+    asked_take _ _ c.place-place.result None c.in-None.ensures.told

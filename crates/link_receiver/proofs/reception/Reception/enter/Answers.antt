@@ -1,4 +1,5 @@
 use Rattle.std.proofs.Common.{◌≡◌, ◌∙◌, ◌≤◌, ℕ, sym, subst}
+use Rattle.link_receiver.proofs.Asked.{asked_twice}
 use Rattle.link_receiver.proofs.Entering.{waits_exchanged, fails_in, size_released, goes_on_behind, has_ended_behind, enters}
 use Rattle.link_receiver.proofs.Steps.{on_err}
 use Rattle.std.specs.Option.{option_map}
@@ -66,3 +67,15 @@ returns-clause-has_ended g c = has_ended_behind _ _ c.args.self.now c.keep.new.s
     c.exchange.new.self c.args.datagram.now _ c.in_ok-kept.ensures.value
     c.in_ok-exchange.ensures.exchanged c.release_all.new.self c.in_ok-release_all.ensures.value
     (option_map session_of c.in_ok-kept.kept.opening) c.open.new.self c.in_ok-open.ensures.value
+
+pub returns-in_err-release_all-clause-asked : goal.returns-in_err-release_all-clause-asked
+returns-in_err-release_all-clause-asked g c = asked_twice _ _ _ c.in_ok-exchange.ensures.asked
+    c.in_err-release_all.ensures.asked
+
+pub returns-in_err-open-clause-asked : goal.returns-in_err-open-clause-asked
+returns-in_err-open-clause-asked g c = asked_twice _ _ _ c.in_ok-exchange.ensures.asked
+    c.in_ok-release_all.ensures.asked
+
+pub returns-clause-asked : goal.returns-clause-asked
+returns-clause-asked g c = asked_twice _ _ _ c.in_ok-exchange.ensures.asked
+    c.in_ok-release_all.ensures.asked

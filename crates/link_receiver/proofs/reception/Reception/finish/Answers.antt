@@ -1,4 +1,5 @@
 use Rattle.std.proofs.Common.{◌≡◌, ◌∙◌, sym, subst}
+use Rattle.link_receiver.proofs.Asked.{asked_twice}
 use Rattle.link_receiver.proofs.Entering.{waits_at_end, fails_at_end, ended_behind, drains}
 use Rattle.link_receiver.proofs.Steps.{on_err}
 use Rattle.vc_ports.proofs.Growing.{GrewBySome-all}
@@ -40,3 +41,15 @@ returns-clause-drained g c = drains _ _ c.args.self.now c.end_input.new.self
     c.in_ok-give_up_field.ensures.value (g.P.Places.told c.release_all.new.places)
     (g.O.Sink.held c.args.sink.now) (g.O.Sink.held c.release_all.new.sink)
     c.in_ok-release_all.ensures.told c.in_ok-release_all.ensures.written
+
+pub returns-in_err-release_all-clause-asked : goal.returns-in_err-release_all-clause-asked
+returns-in_err-release_all-clause-asked g c = asked_twice _ _ _ c.in_ok-take_back.ensures.asked
+    c.in_err-release_all.ensures.asked
+
+pub returns-in_err-give_up_field-clause-asked : goal.returns-in_err-give_up_field-clause-asked
+returns-in_err-give_up_field-clause-asked g c = asked_twice _ _ _ c.in_ok-take_back.ensures.asked
+    c.in_ok-release_all.ensures.asked
+
+pub returns-clause-asked : goal.returns-clause-asked
+returns-clause-asked g c = asked_twice _ _ _ c.in_ok-take_back.ensures.asked
+    c.in_ok-release_all.ensures.asked

@@ -1,5 +1,6 @@
 use Rattle.std.proofs.Common.{◌≡◌, subst, Option}
 use Rattle.std.specs.Prelude.{IfSome}
+use Rattle.link_receiver.proofs.Asked.{asked_twice}
 use Rattle.link_receiver.proofs.CallSteps.{offer_calls}
 use Rattle.vc_slice.specs.declared.job.SliceJob.{SliceJob}
 use Rattle.link_receiver.proofs.reception.Reception.offer.Goals as goal
@@ -11,3 +12,7 @@ returns-clause-exchanged g c =
     c.in_ok-job.ensures.back in
     offer_calls c.offer_again.result _ _ _ _ _ _ c.args.job c.in-Some.job same
     c.in_ok-job.ensures.exchanged c.offer_again.ensures.exchanged
+
+pub returns-clause-asked : goal.returns-clause-asked
+returns-clause-asked g c = asked_twice _ _ _ c.in_ok-job.ensures.asked
+    c.offer_again.ensures.asked

@@ -2,6 +2,7 @@ use Rattle.std.proofs.Common.{◌≡◌, subst, sym, ◌∙◌, Some}
 use Rattle.std.specs.Option.{option_map}
 use Rattle.link_reception.specs.Receptions.{Reception}
 use Rattle.link_reception.specs.Releasing.{released_bytes}
+use Rattle.link_receiver.proofs.Asked.{asked_none}
 use Rattle.link_receiver.proofs.Steps.{on_err, released_grew}
 use Rattle.link_window.specs.Views.{releasable_of}
 use Rattle.vc_ports.proofs.Growing.{GrewBySome-all}
@@ -28,3 +29,6 @@ returns-in_err-self-inside-clause-err g c =
     (sequence_of c.header.result.now) (option_map planes_in c.in_ok-planes.planes)
     (g.O.Sink.held c.args.sink.now) (g.O.Sink.held c.release.new.sink)
     c.in-Some.is c.header.ensures c.in_ok-planes.ensures.planes c.in_ok-shown.ensures.ok)))
+
+pub returns-in_err-planes-clause-asked : goal.returns-in_err-planes-clause-asked
+returns-in_err-planes-clause-asked g c = asked_none _

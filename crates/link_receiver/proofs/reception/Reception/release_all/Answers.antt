@@ -1,6 +1,7 @@
 use Rattle.std.proofs.Common.{◌≡◌, ◌≤◌, ◌-◌, ◌+◌, ◌∙◌, suc, Some, None, Option, ap, sym, subst, refl, arith, ℕ}
 use Rattle.std.specs.Option.{option_map}
 use Rattle.link_reception.specs.Releasing.{book_count, next_picture}
+use Rattle.link_receiver.proofs.Asked.{asked_none, asked_twice}
 use Rattle.link_receiver.proofs.ReleaseLoop.{IsReleasing, AreReleased, releasing_begins, releasing_goes_on, releasing_fails, releasing_stops, releasing_ends}
 use Rattle.link_receiver.proofs.Steps.{on_err}
 use Rattle.link_window.specs.Views.{releasable_of}
@@ -20,6 +21,7 @@ loop-init g c =
       within = c.open_pictures-end.ensures;
       later = omega arith;
       waiting = c.requires.waiting;
+      asked = asked_none _;
       bound = refl;
       below = c.requires.below;
     }
@@ -92,6 +94,11 @@ loop-preserved g c =
       within = c.loop.invariant.within;
       later = omega (arith, c.loop.invariant.later, c.release.ensures.cause.later);
       waiting = c.in_ok-release.ensures.waiting;
+      asked = asked_twice _ _ _ c.loop.invariant.asked c.release.ensures.asked;
       bound = c.release.ensures.bound ∙ c.loop.invariant.bound;
       below = c.release.ensures.below;
     }
+
+pub returns-in_err-release-clause-asked : goal.returns-in_err-release-clause-asked
+returns-in_err-release-clause-asked g c = asked_twice _ _ _ c.loop.invariant.asked
+    c.in_err-release.ensures.asked

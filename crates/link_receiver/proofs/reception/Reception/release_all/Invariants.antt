@@ -1,6 +1,7 @@
 use Rattle.std.proofs.Common.{◌≡◌, ◌-◌, ◌≤◌}
 use Rattle.link_reception.specs.Releasing.{book_count}
 use Rattle.link_receiver.proofs.ReleaseLoop.{IsReleasing}
+use Rattle.link_receiver.specs.HeardLists.{AskedPlaces}
 use Rattle.link_receiver.specs.States.{WaitsForSecond}
 use Rattle.slice_exchange.specs.Calls.{AreBelow}
 use Rattle.link_receiver.proofs.reception.Reception.release_all.Given as goal
@@ -13,6 +14,7 @@ invariant-loop g l = record {
   within : l.end ≡ book_count l.fn.self;
   later : g.O.Sink.faults l.fn.sink ≤ g.O.Sink.faults l.sink;
   waiting : WaitsForSecond l.self.standing l.self.field;
+  asked : AskedPlaces (g.P.Places.told l.fn.places) (g.P.Places.told l.places);
   bound : g.P.Places.bound l.places ≡ g.P.Places.bound l.fn.places;
   below : AreBelow (g.P.Places.bound l.places) l.self.out;
 }

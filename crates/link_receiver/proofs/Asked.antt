@@ -1,0 +1,71 @@
+-- Calls of places one after another, none of which starts workers.
+use Rattle.std.proofs.Common.{◌≡◌, ℕ, List, [], ◌∷◌, refl, Option, None, Some, Ok, Err, ap, ◌∙◌, sym, subst, append_assoc, append-nil}
+use Rattle.std.specs.Prelude.{Result, OnOk, OnErr}
+use Rattle.link_model.specs.Places.{Job}
+use Rattle.link_reception.specs.Receptions.{Reception}
+use Rattle.link_receiver.specs.Exchanged.{IsExchanged}
+use Rattle.link_receiver.specs.HeardLists.{AskedPlaces}
+use Rattle.link_receiver.specs.Offers.{proposed_in}
+use Rattle.slice_exchange.specs.Calls.{PlaceCall, Puts, Takes, told_of, exchanges_of, freeing}
+use Rattle.vc_slice.specs.Asked.{Told, Grows, nothing_told, told_more, taking}
+use Rattle.vc_slice.specs.declared.done.SliceDone.{SliceDone}
+use Rattle.vc_slice.specs.declared.job.SliceJob.{SliceJob}
+use Rattle.vc_types.specs.declared.memory.NoMemory.{NoMemory}
+
+pub grows_none : (told : Option Told) → Grows told told nothing_told
+grows_none None = tt
+grows_none (Some told) = simp append-nil
+
+told_assoc : (a b c : Told) → told_more (told_more a b) c ≡ told_more a (told_more b c)
+told_assoc a b c = simp append_assoc
+
+pub grows_twice : (a b c : Option Told) (d e : Told) → Grows a b d → Grows b c e
+    → Grows a c (told_more d e)
+grows_twice None None None d e p q = tt
+grows_twice None None (Some z) d e p q = absurd q
+grows_twice None (Some y) c d e p q = absurd p
+grows_twice (Some x) None None d e p q = tt
+grows_twice (Some x) None (Some z) d e p q = absurd q
+grows_twice (Some x) (Some y) None d e p q = tt
+grows_twice (Some x) (Some y) (Some z) d e p q =
+    q ∙ (ap (λ (t : Told). told_more t e) p ∙ told_assoc x d e)
+
+pub asked_none : (told : Option Told) → AskedPlaces told told
+asked_none told = record { more = nothing_told; grows = grows_none told; started = refl }
+
+pub asked_twice : (a b c : Option Told) → AskedPlaces a b → AskedPlaces b c → AskedPlaces a c
+asked_twice a b c first second = record {
+  more = told_more first.more second.more;
+  grows = grows_twice a b c first.more second.more first.grows second.grows;
+  started = rw (first.started, second.started) refl;
+}
+
+-- calls of places start no workers
+pub none_started : (calls : List PlaceCall) → (told_of calls).started ≡ []
+none_started [] = refl
+none_started (Puts job answer ∷ rest) = none_started rest
+none_started (Takes place answer ∷ rest) = none_started rest
+
+pub asked_calls : (a b : Option Told) (r s : Reception) (calls : List PlaceCall)
+    → IsExchanged a b r s calls → AskedPlaces a b
+asked_calls a b r s calls h =
+    record { more = told_of calls; grows = h.told; started = none_started calls }
+
+pub asked_take : (a b : Option Told) (place : ℕ) (answer : Option SliceDone)
+    → Grows a b (taking place answer) → AskedPlaces a b
+asked_take a b place answer grew =
+    record { more = taking place answer; grows = grew; started = refl }
+
+pub asked_freed : (a b : Option Told) (places : List ℕ) → Grows a b (freeing places)
+    → AskedPlaces a b
+asked_freed a b places grew = record { more = freeing places; grows = grew; started = refl }
+
+-- a job is put, or there was no memory for that
+pub asked_put : {X : Type 0} (told : X → Option Told) (x y : X) {S : Type 0} (s t : S)
+    (result : Result (Option SliceJob) NoMemory) (old new : Reception) (job : Job)
+    → OnOk result ((calls : List PlaceCall) × IsExchanged (told x) (told y) old new calls
+    × (proposed_in (exchanges_of calls) ≡ job ∷ []))
+    → OnErr result ((t ≡ s) × (y ≡ x)) → AskedPlaces (told x) (told y)
+asked_put told x y s t (Ok back) old new job h e = asked_calls (told x) (told y) old new h.0 h.1
+asked_put told x y s t (Err fault) old new job h e =
+    subst (λ z. AskedPlaces (told x) (told z)) (sym e.1) (asked_none (told x))
