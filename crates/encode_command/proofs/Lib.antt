@@ -7,3 +7,4 @@ pub mod TakingFrames
 pub mod FrameSizes
 pub mod FirstFitting
 pub mod LoopSteps
+pub mod Completing

@@ -133,3 +133,10 @@ pub record Encodes
   pub ended : EncodeEnded s most answer input output frames rest
   pub input_failed : answer ≡ Err InputFailed → HasRisen input.faults
   pub output_failed : answer ≡ Err OutputFailed → HasRisen output.faults
+
+-- the bytes are whole frames, at most so many, and none of them is refused
+pub record IsEncodable (s : Sending) (most : ℕ) (bytes : List ℕ) : Type 0 where
+  pub frames : List Planes
+  pub holds : HoldFrames (frame_shape s) bytes frames []
+  pub few : length frames ≤ most
+  pub sendable : AreSendable s frames
