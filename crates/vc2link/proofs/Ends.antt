@@ -2,6 +2,7 @@
 use Rattle.std.proofs.Common.{◌≡◌, ◌⊎◌, ℕ, List, Result, Ok, Err, true, false, inl, inr, refl, sym, ap, ◌∙◌}
 use Rattle.std.specs.Result.{IsOk}
 use Rattle.decode_command.proofs.Completing.{IsComplete, decode_completes}
+use Rattle.encode_command.proofs.Completing.{encode_completes}
 use Rattle.link_report.specs.Answers.{Reports, Says, answer_of, answer_status, answer_text}
 use Rattle.link_report.specs.Report.{status_line}
 use Rattle.link_report.specs.declared.answer.Answer.{Answer}
@@ -9,20 +10,21 @@ use Rattle.link_report.specs.declared.answer.Answer.TheVariants.{Done, Stopped, 
 use Rattle.link_report.specs.declared.ending.Ending.{Ending}
 use Rattle.link_report.specs.declared.ending.Ending.TheVariants as endings
 use Rattle.link_report.specs.declared.summary.Summary.{Summary}
-use Rattle.link_words.specs.Settings.{Meaning, ToDecode, ToPlay}
+use Rattle.link_words.specs.Settings.{Meaning, ToDecode, ToEncode, ToPlay}
 use Rattle.play_command.proofs.Playable.{play_completes}
 use Rattle.vc_ports.specs.Changes.{OutputChange, HasRisen}
-use Rattle.vc2link.specs.LinkMain.{Changes, DecodesTo, PlaysTo, Does, Completes, is_built}
+use Rattle.vc_types.specs.SenderSettings.{Sending}
+use Rattle.vc2link.specs.LinkMain.{Changes, DecodesTo, EncodesTo, PlaysTo, Does, Completes, is_built}
 
 false_is_true : false ≡ true → ⊥
 false_is_true p = cc
 
--- ---- playing
+-- ---- the status of an answer
 
-played_status : (answer : Result Summary Ending) → IsOk answer ⊎ (answer ≡ Err endings.NoMemory) → (answer_status (answer_of answer) ≡ 0) ⊎ (answer_status (answer_of answer) ≡ 3)
-played_status (Ok summary) came = inl refl
-played_status (Err ending) (inl ok) = absurd (false_is_true ok)
-played_status (Err ending) (inr none) = inr (ap (λ (a : Result Summary Ending). answer_status (answer_of a)) none)
+summed_status : (answer : Result Summary Ending) → IsOk answer ⊎ (answer ≡ Err endings.NoMemory) → (answer_status (answer_of answer) ≡ 0) ⊎ (answer_status (answer_of answer) ≡ 3)
+summed_status (Ok summary) came = inl refl
+summed_status (Err ending) (inl ok) = absurd (false_is_true ok)
+summed_status (Err ending) (inr none) = inr (ap (λ (a : Result Summary Ending). answer_status (answer_of a)) none)
 
 due_status : (status due : ℕ) (report : OutputChange) (text : List ℕ) → (HasRisen report.faults → ⊥) → Says text due status report → status ≡ due
 due_status status due report text sound (inl said) = said.0
@@ -33,10 +35,17 @@ answered_well answer status report sound (inl done) (inl said) = inl (due_status
 answered_well answer status report sound (inr none) (inl said) = inr (due_status status (answer_status answer) report (answer_text answer) sound said ∙ none)
 answered_well answer status report sound due (inr said) = inr (due_status status 3 report (status_line endings.NoMemory) sound said)
 
+-- ---- encoding and playing
+
+pub encode_ends : (sender : Sending) (frames status : ℕ) (c : Changes) → EncodesTo sender frames status c → Completes (ToEncode sender frames) status c
+encode_ends sender frames status c d sound whole =
+    let came = encode_completes sender frames c.input c.output sound.input sound.output whole d.answer d.encodes in
+    answered_well (answer_of d.answer) status c.report sound.report (summed_status d.answer came) d.reports
+
 pub play_ends : (packets status : ℕ) (c : Changes) → PlaysTo packets status c → Completes (ToPlay packets) status c
 play_ends packets status c d sound whole =
     let came = play_completes packets c.input c.output sound.input sound.output whole d.answer d.plays in
-    answered_well (answer_of d.answer) status c.report sound.report (played_status d.answer came) d.reports
+    answered_well (answer_of d.answer) status c.report sound.report (summed_status d.answer came) d.reports
 
 -- ---- decoding
 
@@ -68,6 +77,13 @@ decode_does window workers packets status c did = record {
   built = λ _. did;
   unbuilt = λ is. absurd (true_is_false is);
   completes = λ _. decode_ends window workers packets status c did;
+}
+
+pub encode_does : (sender : Sending) (frames status : ℕ) (c : Changes) → EncodesTo sender frames status c → Does (ToEncode sender frames) status c
+encode_does sender frames status c did = record {
+  built = λ _. did;
+  unbuilt = λ is. absurd (true_is_false is);
+  completes = λ _. encode_ends sender frames status c did;
 }
 
 pub play_does : (packets status : ℕ) (c : Changes) → PlaysTo packets status c → Does (ToPlay packets) status c

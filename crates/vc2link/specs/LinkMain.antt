@@ -1,6 +1,7 @@
 -- What vc2link did, by what its words mean and by the status that it answered.
 use Rattle.std.specs.Prelude.{◌≡◌, ◌⊎◌, ℕ, Bool, true, false, Option, IsTrue, IsFalse, IsSomeAnd, if◌then◌else◌, Result, Ok, Err}
 use Rattle.decode_command.specs.Decoding.{Decodes, IsDecodable}
+use Rattle.encode_command.specs.Encodes.{Encodes, IsEncodable}
 use Rattle.link_report.specs.Answers.{Reports, answer_of}
 use Rattle.link_report.specs.declared.answer.Answer.{Answer}
 use Rattle.link_report.specs.declared.answer.Answer.TheVariants.{Stopped}
@@ -11,6 +12,7 @@ use Rattle.link_words.specs.Settings.{Meaning, ToDecode, ToEncode, ToSend, ToRec
 use Rattle.play_command.specs.Playing.{Plays, IsPlayable}
 use Rattle.vc_ports.specs.Changes.{Change, InputChange, OutputChange, WireChange, HasRisen}
 use Rattle.vc_slice.specs.Asked.{Told}
+use Rattle.vc_types.specs.SenderSettings.{Sending}
 
 -- ---- what was done
 
@@ -65,6 +67,7 @@ calls_of (ToGen generator check window workers) = calls false true false check t
 -- the commands that are built
 abbrev pub is_built : Meaning → Bool
 is_built (ToDecode window workers packets) = true
+is_built (ToEncode sender frames) = true
 is_built (ToPlay packets) = true
 is_built meaning = false
 
@@ -82,6 +85,12 @@ pub record DecodesTo (window workers packets status : ℕ) (c : Changes) : Type 
   pub decodes : Decodes window workers packets answer c.input c.output c.hands
   pub reports : Reports answer status c.report
 
+-- at most so many raw frames were encoded, and the report says how that ended
+pub record EncodesTo (sender : Sending) (frames status : ℕ) (c : Changes) : Type 0 where
+  pub answer : Result Summary Ending
+  pub encodes : Encodes sender frames answer c.input c.output
+  pub reports : Reports (answer_of answer) status c.report
+
 -- the stream was played, and the report says how it ended
 pub record PlaysTo (packets status : ℕ) (c : Changes) : Type 0 where
   pub answer : Result Summary Ending
@@ -90,6 +99,7 @@ pub record PlaysTo (packets status : ℕ) (c : Changes) : Type 0 where
 
 abbrev pub Did : Meaning → ℕ → Changes → Type 0
 Did (ToDecode window workers packets) status c = DecodesTo window workers packets status c
+Did (ToEncode sender frames) status c = EncodesTo sender frames status c
 Did (ToPlay packets) status c = PlaysTo packets status c
 Did meaning status c = ⊥
 
@@ -106,6 +116,8 @@ pub record HasNoFault (c : Changes) : Type 0 where
 abbrev pub EndsWell : Meaning → Changes → Type 0
 EndsWell (ToDecode window workers packets) c =
     IsSomeAnd c.input.left.before (IsDecodable packets)
+EndsWell (ToEncode sender frames) c =
+    IsSomeAnd c.input.left.before (IsEncodable sender frames)
 EndsWell (ToPlay packets) c = IsSomeAnd c.input.left.before (IsPlayable packets)
 EndsWell meaning c = ⊥
 

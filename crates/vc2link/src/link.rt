@@ -5,6 +5,7 @@ ghost use Rattle.vc_ports.specs.Changes.{changed, input_of, output_of, wire_of};
 ghost use Rattle.vc2link.specs.LinkMain.{changes, is_built, may_call, Obeys};
 
 use decode_command::decode;
+use encode_command::encode;
 use link_report::{Answer, Ending, write_answer};
 use link_words::{Settings, read_words};
 use play_command::play;
@@ -17,7 +18,7 @@ use vc_types::Words;
 const UNBUILT: u8 = 1;
 
 /// Does what the words say, and answers the status. The words are those behind the program's name.
-#[tactic(auto, using(crate::proofs::Ends::unbuilt_does, crate::proofs::Ends::decode_does, crate::proofs::Ends::play_does))]
+#[tactic(auto, using(crate::proofs::Ends::unbuilt_does, crate::proofs::Ends::decode_does, crate::proofs::Ends::encode_does, crate::proofs::Ends::play_does))]
 pub fn link_main<H: Threads + Copy + Send + Sync, S: Source, O: Sink, E: Sink, N: Wire, P: Hands>(
     _rt: H,
     alloc: Global,
@@ -54,6 +55,10 @@ pub fn link_main<H: Threads + Copy + Send + Sync, S: Source, O: Sink, E: Sink, N
             let answer = decode(alloc, window, workers, packets, input, output, hands);
             write_answer(alloc, report, &answer)
         }
+        Ok(Settings::Encode { sender, frames }) => {
+            let answer = Answer::from(encode(alloc, &sender, frames, input, output));
+            write_answer(alloc, report, &answer)
+        }
         Ok(Settings::Play { packets }) => {
             let answer = Answer::from(play(alloc, packets, input, output));
             write_answer(alloc, report, &answer)
@@ -70,5 +75,8 @@ pub fn link_main<H: Threads + Copy + Send + Sync, S: Source, O: Sink, E: Sink, N
 fn is_built(settings: &Settings<'_>) -> bool
     ensures { result ≡ is_built (meaning_view settings.now) }
 {
-    matches!(settings, Settings::Decode { .. } | Settings::Play { .. })
+    matches!(
+        settings,
+        Settings::Decode { .. } | Settings::Encode { .. } | Settings::Play { .. }
+    )
 }
