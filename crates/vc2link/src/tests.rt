@@ -1,5 +1,6 @@
 mod captures;
 mod decoding;
+mod encoding;
 
 use crate::link::link_main;
 use std::alloc::Global;
