@@ -79,7 +79,9 @@ pub(super) fn slices(
     count: u8,
     bytes: &[u8],
 ) -> Result<Vec<u8>, Fail> {
-    let length = bytes.len() as u8;
+    let Ok(length) = u8::try_from(bytes.len()) else {
+        return Err(Fail::from("too many bytes of slices"));
+    };
     let head = [
         0, 0, 0, 0xEC, 0, 0, 0, number, 0, 0, 0, 1, 0, length, 0, count, 0, x, 0, 0,
     ];
@@ -92,8 +94,14 @@ pub(super) fn slices(
 pub(super) fn capture(alloc: Global, payloads: &[&[u8]]) -> Result<Vec<u8>, Fail> {
     let mut bytes = Vec::new(alloc);
     for (sequence, payload) in payloads.iter().enumerate() {
-        let length = (12 + payload.len()) as u8;
-        bytes.extend_from_slice(&[0, length, 0x80, 0x60, 0, sequence as u8])?;
+        let (Ok(length), Ok(sequence)) = (u8::try_from(payload.len()), u8::try_from(sequence))
+        else {
+            return Err(Fail::from("too long a payload, or too many"));
+        };
+        if length > 243 {
+            return Err(Fail::from("too long a payload"));
+        }
+        bytes.extend_from_slice(&[0, 12 + length, 0x80, 0x60, 0, sequence])?;
         bytes.extend_from_slice(&[0, 0, 0, 0, 0, 0, 0, 1])?;
         bytes.extend_from_slice(payload)?;
     }
