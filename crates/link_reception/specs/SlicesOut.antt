@@ -26,4 +26,4 @@ abbrev pub ArePutsOf : List Job → List Exchange → Type 0
 ArePutsOf jobs [] = Unit {0}
 ArePutsOf jobs (Proposed job place ∷ rest) =
     (is_job_among jobs job ≡ true) × ArePutsOf jobs rest
-ArePutsOf jobs (Fetched place done ∷ rest) = ArePutsOf jobs rest
+ArePutsOf jobs (Fetched place given ∷ rest) = ArePutsOf jobs rest
