@@ -103,6 +103,13 @@ fn more_packets_than_asked_for(rt: HostRuntime) -> Result<(), Fail> {
     Ok(())
 }
 
+fn slices_first(alloc: Global) -> Result<Vec<u8>, Fail> {
+    capture(
+        alloc,
+        &[&HEADER, &slices(alloc, 0, 0, 2, &TWO_ZEROS)?, &params(0)],
+    )
+}
+
 #[test]
 fn slices_before_their_parameters(rt: HostRuntime) -> Result<(), Fail> {
     let alloc = rt.alloc();
@@ -113,11 +120,7 @@ fn slices_before_their_parameters(rt: HostRuntime) -> Result<(), Fail> {
         ("slices-pending", "1"),
         ("frames", "1"),
     ];
-    let input = capture(
-        alloc,
-        &[&HEADER, &slices(alloc, 0, 0, 2, &TWO_ZEROS)?, &params(0)],
-    )?;
-    let ran = run(&rt, alloc, "decode", input)?;
+    let ran = run(&rt, alloc, "decode", slices_first(alloc)?)?;
     assert_eq!(rt; ran.output.bytes(), grey(alloc, 96, &[])?.as_slice());
     assert_eq!(rt; ran.report.bytes(), tally(alloc, &counts)?.as_slice());
     Ok(())
