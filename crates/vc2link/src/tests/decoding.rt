@@ -104,10 +104,8 @@ fn more_packets_than_asked_for(rt: HostRuntime) -> Result<(), Fail> {
 }
 
 fn slices_first(alloc: Global) -> Result<Vec<u8>, Fail> {
-    capture(
-        alloc,
-        &[&HEADER, &slices(alloc, 0, 0, 2, &TWO_ZEROS)?, &params(0)],
-    )
+    let all = slices(alloc, 0, 0, 2, &TWO_ZEROS)?;
+    capture(alloc, &[&HEADER, &all, &params(0)])
 }
 
 #[test]
