@@ -103,27 +103,6 @@ fn more_packets_than_asked_for(rt: HostRuntime) -> Result<(), Fail> {
     Ok(())
 }
 
-fn slices_first(alloc: Global) -> Result<Vec<u8>, Fail> {
-    let all = slices(alloc, 0, 0, 2, &TWO_ZEROS)?;
-    capture(alloc, &[&HEADER, &all, &params(0)])
-}
-
-#[test]
-fn slices_before_their_parameters(rt: HostRuntime) -> Result<(), Fail> {
-    let alloc = rt.alloc();
-    let counts = [
-        ("datagrams", "3"),
-        ("header-new", "1"),
-        ("params-kept", "1"),
-        ("slices-pending", "1"),
-        ("frames", "1"),
-    ];
-    let ran = run(&rt, alloc, "decode", slices_first(alloc)?)?;
-    assert_eq!(rt; ran.output.bytes(), grey(alloc, 96, &[])?.as_slice());
-    assert_eq!(rt; ran.report.bytes(), tally(alloc, &counts)?.as_slice());
-    Ok(())
-}
-
 fn loss_and_disorder(alloc: Global) -> Result<Vec<u8>, Fail> {
     capture(
         alloc,
