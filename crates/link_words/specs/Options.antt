@@ -4,7 +4,7 @@ use Rattle.std.specs.Str.{bytes_eq}
 use Rattle.link_words.specs.declared.options.Values.{Values}
 use Rattle.link_words.specs.declared.options.Values.TheVariants.{Number, Optional, Required, Pair, Subsampling, Address}
 use Rattle.link_words.specs.declared.options.Name.{Name}
-use Rattle.link_words.specs.declared.options.Name.TheVariants.{Width, Height, Sampling, Range, Fields, Top, Wavelet, Depth, Slices, Prefix, Scaler, Size, Index, Fit, Ssrc, Seq, Picture, Tick, Pt, Frames, Seed, Count, Check, Window, Workers, Packets, To, At}
+use Rattle.link_words.specs.declared.options.Name.TheVariants.{Width, Height, Sampling, Range, Fields, Top, Wavelet, Depth, Slices, Prefix, Scaler, Size, Index, Fit, Ssrc, Seq, Picture, Tick, Pt, Frames, Seed, Count, Check, Window, Workers, Packets, Sessions, To, At}
 use Rattle.link_words.specs.declared.options.Command.{Command}
 use Rattle.link_words.specs.declared.options.Command.TheVariants.{Decode, Encode, Send, Recv, Loop, Unpack, Pack, Play, Gen}
 
@@ -49,6 +49,7 @@ option_row Check = (codes "--check", Number 0 1 0)
 option_row Window = (codes "--window", Number 2 8 4)
 option_row Workers = (codes "--workers", Number 0 64 4)
 option_row Packets = (codes "--packets", Number 1 4294967295 4294967295)
+option_row Sessions = (codes "--sessions", Number 1 4294967295 1)
 option_row To = (codes "--to", Address)
 option_row At = (codes "--at", Address)
 
@@ -64,7 +65,7 @@ abbrev pub names_of : Command → List Name
 names_of Decode = Window ∷ Workers ∷ Packets ∷ []
 names_of Encode = sender_names
 names_of Send = sender_names ++ To ∷ []
-names_of Recv = Window ∷ Workers ∷ Packets ∷ At ∷ []
+names_of Recv = Window ∷ Workers ∷ Packets ∷ Sessions ∷ At ∷ []
 names_of Loop = sender_names ++ Window ∷ Workers ∷ At ∷ []
 names_of Unpack = Window ∷ Workers ∷ Packets ∷ []
 names_of Pack = Packets ∷ Size ∷ Ssrc ∷ Pt ∷ Seq ∷ Tick ∷ []

@@ -9,14 +9,14 @@ use Rattle.vc_types.specs.declared.video.Sampling.TheVariants.{S422}
 use Rattle.vc_types.specs.Video.{dimensions_fit}
 use Rattle.vc_types.specs.Limits.{slices_fit}
 use Rattle.vc_types.specs.Settings.{luma_fits, first_picture_fits, default_across, default_down, can_be_sent}
-use Rattle.vc_types.specs.SenderSettings.{Frames as FramesSent, Sending}
+use Rattle.vc_types.specs.SenderSettings.{Frames as FramesSent, Generating, Sending}
 use Rattle.link_words.specs.Numbers.{number_within}
 use Rattle.link_words.specs.Grammar.{word_at, first_place, sampling_written, slices_written, first_bad}
 use Rattle.link_words.specs.Options.{command_of, option_row, names_of, is_required}
 use Rattle.link_words.specs.declared.options.Values.{Values}
 use Rattle.link_words.specs.declared.options.Values.TheVariants as values
 use Rattle.link_words.specs.declared.options.Name.{Name}
-use Rattle.link_words.specs.declared.options.Name.TheVariants.{Width, Height, Sampling, Range, Fields, Top, Wavelet, Depth, Slices, Prefix, Scaler, Size, Index, Fit, Ssrc, Seq, Picture, Tick, Pt, Frames, Seed, Count, Check, Window, Workers, Packets, To, At}
+use Rattle.link_words.specs.declared.options.Name.TheVariants.{Width, Height, Sampling, Range, Fields, Top, Wavelet, Depth, Slices, Prefix, Scaler, Size, Index, Fit, Ssrc, Seq, Picture, Tick, Pt, Frames, Seed, Count, Check, Window, Workers, Packets, Sessions, To, At}
 use Rattle.link_words.specs.declared.options.Command.{Command}
 use Rattle.link_words.specs.declared.options.Command.TheVariants.{Decode, Encode, Send, Recv, Loop, Unpack, Pack, Play, Gen}
 
@@ -108,12 +108,6 @@ sending_fits s =
 unfoldable pub sender : List (List ℕ) → Option Sending
 sender words = if sending_fits (sending_of words) then Some (sending_of words) else None
 
--- which frames are generated
-pub record Generating : Type 0 where
-  pub frames : FramesSent
-  pub seed : ℕ
-  pub count : ℕ
-
 abbrev pub generating_of : List (List ℕ) → Generating
 generating_of words = record {
   frames = given_frames words;
@@ -135,7 +129,7 @@ pub data Meaning : Type 0 where
   ToDecode : (window workers packets : ℕ) → Meaning
   ToEncode : (sender : Sending) (frames : ℕ) → Meaning
   ToSend : (sender : Sending) (frames : ℕ) (to : List ℕ) → Meaning
-  ToRecv : (window workers packets : ℕ) (at : List ℕ) → Meaning
+  ToRecv : (window workers packets sessions : ℕ) (at : List ℕ) → Meaning
   ToLoop : (sender : Sending) (frames window workers : ℕ) (at : List ℕ) → Meaning
   ToUnpack : (window workers packets : ℕ) → Meaning
   ToPack : (packets size ssrc pt seq tick : ℕ) → Meaning
@@ -151,7 +145,7 @@ meaning Send words =
     option_map (λ s. ToSend s (given words Frames) (value_of words To)) (sender words)
 meaning Recv words =
     Some (ToRecv (given words Window) (given words Workers) (given words Packets)
-    (value_of words At))
+    (given words Sessions) (value_of words At))
 meaning Loop words = option_map (λ s.
     ToLoop s (given words Frames) (given words Window) (given words Workers) (value_of words At))
     (sender words)

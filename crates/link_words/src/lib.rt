@@ -2,8 +2,10 @@
 #![tactic(auto)]
 
 mod grammar;
+mod help;
 mod joint;
 mod lookup;
+mod meanings;
 mod numbers;
 mod options;
 mod read;
@@ -11,6 +13,7 @@ mod sender;
 mod settings;
 mod usage;
 
+pub use help::help_page;
 pub use read::read_words;
 pub use settings::Settings;
 pub use usage::Usage;

@@ -3,8 +3,8 @@ ghost use Rattle.link_words.specs.Options.{command_of, names_of, option_row, nam
 
 use Name::{
     At, Check, Count, Depth, Fields, Fit, Frames, Height, Index, Packets, Picture, Prefix, Pt,
-    Range, Sampling, Scaler, Seed, Seq, Size, Slices, Ssrc, Tick, To, Top, Wavelet, Width, Window,
-    Workers,
+    Range, Sampling, Scaler, Seed, Seq, Sessions, Size, Slices, Ssrc, Tick, To, Top, Wavelet,
+    Width, Window, Workers,
 };
 use Values::{Address, Number, Optional, Pair, Required, Subsampling};
 
@@ -51,6 +51,7 @@ pub(crate) enum Name {
     Window,
     Workers,
     Packets,
+    Sessions,
     To,
     At,
 }
@@ -119,6 +120,7 @@ pub(crate) fn option_row(name: Name) -> (&'static str, Values)
         Window => ("--window", Number(2, 8, 4)),
         Workers => ("--workers", Number(0, 64, 4)),
         Packets => ("--packets", Number(1, 4294967295, 4294967295)),
+        Sessions => ("--sessions", Number(1, 4294967295, 1)),
         To => ("--to", Address),
         At => ("--at", Address),
     }
@@ -138,7 +140,7 @@ pub(crate) fn names_of(command: Command) -> &'static [Name]
             Width, Height, Sampling, Range, Fields, Top, Wavelet, Depth, Slices, Prefix, Scaler,
             Size, Index, Fit, Ssrc, Seq, Picture, Tick, Pt, Frames, To,
         ],
-        Command::Recv => &[Window, Workers, Packets, At],
+        Command::Recv => &[Window, Workers, Packets, Sessions, At],
         Command::Loop => &[
             Width, Height, Sampling, Range, Fields, Top, Wavelet, Depth, Slices, Prefix, Scaler,
             Size, Index, Fit, Ssrc, Seq, Picture, Tick, Pt, Frames, Window, Workers, At,

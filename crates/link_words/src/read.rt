@@ -2,7 +2,7 @@ ghost use Rattle.std.specs.Prelude.{◌≡◌, ◌<◌, length, IfOk, IfSome};
 ghost use Rattle.std.specs.Option.{option_map};
 ghost use Rattle.std.specs.Result.{result_map_both};
 ghost use Rattle.link_words.specs.Settings.{meaning, lacks_name, settings_of};
-ghost use Rattle.link_words.specs.Views.{meaning_view, HasWindow};
+ghost use Rattle.link_words.specs.Views.{meaning_view, CanPack, HasWindow};
 
 use crate::grammar::first_bad;
 use crate::lookup::{given, is_set, lacks, value_of};
@@ -18,6 +18,7 @@ fn settings<'a>(command: Command, words: &'a Words) -> Option<Settings<'a>>
     requires { 0 < length words.now }
     ensures value { option_map meaning_view result ≡ meaning command words.now }
     ensures window { IfSome result HasWindow }
+    ensures packing { IfSome result CanPack }
 {
     let window = given(words, Name::Window) as u8;
     let workers = given(words, Name::Workers);
@@ -42,6 +43,7 @@ fn settings<'a>(command: Command, words: &'a Words) -> Option<Settings<'a>>
             window,
             workers,
             packets,
+            sessions: given(words, Name::Sessions),
             at: value_of(words, Name::At),
         },
         Command::Loop => Settings::Loop {
@@ -90,6 +92,7 @@ pub fn read_words<'a>(words: &'a Words) -> Result<Settings<'a>, Usage>
     ensures exact { settings_of words.now
         ≡ result_map_both meaning_view (λ usage. usage.place) result }
     ensures window { IfOk result HasWindow }
+    ensures packing { IfOk result CanPack }
 {
     if words.len() == 0 {
         return Err(Usage { place: 0 });

@@ -1,8 +1,7 @@
 ghost use Rattle.std.specs.Prelude.{◌≡◌, ◌<◌, ◌≤◌, length};
 ghost use Rattle.std.specs.Option.{option_map};
-ghost use Rattle.vc_types.specs.SenderSettings.{sending_view};
+ghost use Rattle.vc_types.specs.SenderSettings.{generating_view, sending_view};
 ghost use Rattle.link_words.specs.Settings.{given_sampling, given_slices, generator, sender};
-ghost use Rattle.link_words.specs.Views.{generating_view};
 
 use crate::grammar::{sampling_written, slices_written};
 use crate::joint::{can_be_sent, default_across, default_down, first_picture_fits, luma_fits};

@@ -21,6 +21,7 @@ pub enum Settings<'a> {
         window: u8,
         workers: u32,
         packets: u32,
+        sessions: u32,
         at: &'a str,
     },
     Loop {

@@ -1,3 +1,5 @@
+mod page;
+
 use super::*;
 use std::alloc::Global;
 use std::test::Fail;
@@ -21,6 +23,8 @@ fn bad_place(words: &Words) -> Option<usize> {
 }
 
 const DECODE: &str = "decode";
+
+const RECV: &str = "recv --at anything";
 
 const ENCODE: &str = "encode --width 16 --height 16";
 
@@ -74,7 +78,7 @@ fn the_first_bad_word_is_named(rt: HostRuntime) -> Result<(), Fail> {
 #[test]
 fn each_option_has_two_ends(rt: HostRuntime) -> Result<(), Fail> {
     // Words before the option, its name, words that fit behind it, and words just beyond.
-    let rows: [(&str, &str, &str, &str); 31] = [
+    let rows: [(&str, &str, &str, &str); 32] = [
         (HIGH, "--width", "1 8192", "0 8193"),
         (WIDE, "--height", "1 8192", "0 8193"),
         (ENCODE, "--sampling", "444 422 420", "411 4444 44 "),
@@ -103,6 +107,7 @@ fn each_option_has_two_ends(rt: HostRuntime) -> Result<(), Fail> {
         (DECODE, "--window", "2 8", "1 9"),
         (DECODE, "--workers", "0 64", "-1 65"),
         (DECODE, "--packets", "1 4294967295", "0 4294967296"),
+        (RECV, "--sessions", "1 4294967295", "0 4294967296"),
         (PACK, "--size", "64 65507", "63 65508"),
         (PACK, "--ssrc", "0 4294967295", "-1 4294967296"),
         (PACK, "--pt", "0 127", "-1 128"),

@@ -1,6 +1,8 @@
--- The settings of a sender without their facts.
+-- The settings of a sender, of a packer and of a generator without their facts.
 use Rattle.std.specs.Prelude.{ℕ, Bool}
 use Rattle.vc_types.specs.declared.choice.IndexChoice.{IndexChoice}
+use Rattle.vc_types.specs.declared.settings.GenSettings.{GenSettings}
+use Rattle.vc_types.specs.declared.settings.PackSettings.{PackSettings}
 use Rattle.vc_types.specs.declared.settings.SendSettings.{SendSettings}
 use Rattle.vc_types.specs.declared.video.Sampling.{Sampling}
 
@@ -53,4 +55,43 @@ sending_view s = record {
   picture = s.picture;
   tick = s.tick;
   pt = s.pt;
+}
+
+-- how the pictures of an elementary stream are sent
+pub record Packing : Type 0 where
+  pub size : ℕ
+  pub ssrc : ℕ
+  pub pt : ℕ
+  pub seq : ℕ
+  pub tick : ℕ
+  pub fields : Bool
+
+abbrev pub packing_view : PackSettings → Packing
+packing_view p = record {
+  size = p.size;
+  ssrc = p.ssrc;
+  pt = p.pt;
+  seq = p.seq;
+  tick = p.tick;
+  fields = p.fields;
+}
+
+-- which frames are generated
+pub record Generating : Type 0 where
+  pub frames : Frames
+  pub seed : ℕ
+  pub count : ℕ
+
+abbrev pub generating_view : GenSettings → Generating
+generating_view g = record {
+  frames = record {
+    width = g.width;
+    height = g.height;
+    sampling = g.sampling;
+    range = g.range;
+    fields = g.fields;
+    top = g.top;
+  };
+  seed = g.seed;
+  count = g.frames;
 }

@@ -35,7 +35,7 @@ pub use plan::Plan;
 pub use plane::Plane;
 pub use rect::Rect;
 pub use refusal::{HeaderRefusal, ParamsRefusal, Short, Unsound};
-pub use settings::{GenSettings, SendSettings};
+pub use settings::{GenSettings, PackSettings, SendSettings};
 pub use shape::Shape;
 pub use video::{Component, Sampling, SignalRange};
 pub use words::Words;

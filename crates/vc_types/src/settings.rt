@@ -66,3 +66,20 @@ pub struct GenSettings {
     pub ghost frames_fit: { IsTrue (within 1 1000 frames) },
     pub ghost sendable: { IsTrue (can_be_sent width height fields) },
 }
+
+/// How the pictures of an elementary stream are sent. `size` is the length of a whole datagram of RTP, without the
+/// headers of IP and UDP; `fields` says whether the stream's pictures are fields.
+#[derive(Clone, Copy, Debug)]
+pub struct PackSettings {
+    pub size: u32,
+    pub ssrc: u32,
+    /// The RTP payload type.
+    pub pt: u8,
+    /// The first extended sequence number.
+    pub seq: u32,
+    /// How far the timestamps of two frames are apart.
+    pub tick: u32,
+    pub fields: bool,
+    pub ghost size_fits: { IsTrue (within 64 65507 size) },
+    pub ghost payload_type: { pt ≤ 127 },
+}

@@ -1,0 +1,140 @@
+ghost use Rattle.std.specs.Prelude.{◌≡◌, Some};
+ghost use Rattle.link_words.specs.Options.{command_of};
+
+use crate::meanings::{COMMANDS, NAMES, job_of, meaning_of};
+use crate::options::{Command, Name, Values, names_of, option_row};
+use std::alloc::Global;
+use vc_types::NoMemory;
+
+const HEAD: [&str; 7] = [
+    "vc2link: VC-2 pictures over RTP (SMPTE ST 2042-1, RFC 8450)",
+    "",
+    "usage: vc2link COMMAND [--NAME VALUE]..",
+    "       vc2link --help",
+    "       vc2link --version",
+    "",
+    "Commands, each with what it reads and writes and its options",
+];
+
+const FILES: [&str; 8] = [
+    "",
+    "Files",
+    "  raw frames: the planes Y, C1 and C2 of each frame, row by row; a sample has one byte where it has",
+    "    8 bits, and else two, the lowest first (ffmpeg: yuv422p10le with --sampling 422 --range 3)",
+    "  capture: the datagrams one after another, each behind its length in two bytes, the highest first",
+    "  elementary stream: the data units of ST 2042-1, section 10",
+    "Input is standard input, output standard output; the report goes to standard error: its lines are",
+    "a name and a number each.",
+];
+
+const STATUSES: [&str; 16] = [
+    "",
+    "Statuses",
+    "  0   it came to its end",
+    "  2   the words can't be understood from the word on that the report names, counted from 0",
+    "  3   memory ran out",
+    "  4   a read of the input failed",
+    "  5   a write to the output failed",
+    "  6   the network failed",
+    "  7   a write to the report failed",
+    "  8   the capture ends within an entry",
+    "  9   there is more than --packets allows",
+    "  10  the raw frames end within a frame",
+    "  11  a sample has more bits than its --range",
+    "  12  a slice is too large for its lengths or for a datagram: try --fit, --scaler or --size",
+    "  13  the elementary stream is damaged, or isn't of this profile",
+    "  14  there are more frames than --frames allows",
+];
+
+const EXAMPLES: [&str; 7] = [
+    "",
+    "Examples",
+    "  vc2link encode --width 1920 --height 1080 <in.yuv >out.cap",
+    "  vc2link decode <out.cap >out.yuv",
+    "  vc2link recv --at 0.0.0.0:5004 >out.yuv",
+    "  vc2link send --width 1920 --height 1080 --fit 96 --to 192.0.2.1:5004 <in.yuv",
+    "  vc2link gen --width 1920 --height 1080 --frames 2 --check 1",
+];
+
+/// The page that a reader asks for by `--help`: each command with its options, each option with the values that it takes,
+/// its default and what it means, and the statuses. Names and values are those of the grammar, by a test; no clause says
+/// so.
+pub fn help_page(alloc: Global) -> Result<String, NoMemory> {
+    let mut page = String::new(alloc);
+    push_lines(&mut page, &HEAD)?;
+    for command in &COMMANDS {
+        push_command(&mut page, *command)?;
+    }
+    page.push_str("\nOptions\n")?;
+    for name in &NAMES {
+        push_option(&mut page, *name)?;
+    }
+    push_lines(&mut page, &FILES)?;
+    push_lines(&mut page, &STATUSES)?;
+    push_lines(&mut page, &EXAMPLES)?;
+    Ok(page)
+}
+
+fn push_lines(page: &mut String, lines: &[&str]) -> Result<(), NoMemory> {
+    for line in lines {
+        page.push_str(line)?;
+        page.push_str("\n")?;
+    }
+    Ok(())
+}
+
+/// The word of a command.
+fn word_of(command: Command) -> &'static str
+    ensures { command_of result.now ≡ Some command }
+{
+    match command {
+        Command::Decode => "decode",
+        Command::Encode => "encode",
+        Command::Send => "send",
+        Command::Recv => "recv",
+        Command::Loop => "loop",
+        Command::Unpack => "unpack",
+        Command::Pack => "pack",
+        Command::Play => "play",
+        Command::Gen => "gen",
+    }
+}
+
+// A command, what it reads and writes, and its options.
+fn push_command(page: &mut String, command: Command) -> Result<(), NoMemory> {
+    let (word, job) = (word_of(command), job_of(command));
+    write!(page, "  {word}: {job}")?;
+    for (i, name) in names_of(command).iter().enumerate() {
+        let (word, _) = option_row(*name);
+        let before = if i % 7 == 0 { "\n    " } else { " " };
+        write!(page, "{before}{word}")?;
+    }
+    page.push_str("\n")?;
+    Ok(())
+}
+
+// An option with its values, and what it means.
+fn push_option(page: &mut String, name: Name) -> Result<(), NoMemory> {
+    let (word, values) = option_row(name);
+    write!(page, "  {word}: ")?;
+    push_values(page, values)?;
+    let meaning = meaning_of(name);
+    write!(page, "\n    {meaning}\n")?;
+    Ok(())
+}
+
+fn push_values(page: &mut String, values: Values) -> Result<(), NoMemory> {
+    match values {
+        Values::Number(low, high, default) => {
+            write!(page, "{low} to {high}, {default} by default")?;
+        }
+        Values::Optional(low, high) => write!(page, "{low} to {high}, none by default")?,
+        Values::Required(low, high) => write!(page, "{low} to {high}, required")?,
+        Values::Subsampling => page.push_str("444, 422 or 420; 422 by default")?,
+        Values::Pair => {
+            page.push_str("two of 1 to 65535 with x between; 16 by 8 samples each by default")?;
+        }
+        Values::Address => page.push_str("an address, required")?,
+    }
+    Ok(())
+}
