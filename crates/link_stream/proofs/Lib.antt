@@ -1,0 +1,6 @@
+pub mod Units
+pub mod FirstPictures
+pub mod Growing
+pub mod Rows
+pub mod Contents
+pub mod PackedMore

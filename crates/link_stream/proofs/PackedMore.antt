@@ -1,0 +1,61 @@
+-- A picture more at the end of the pictures that are packed.
+use Rattle.std.proofs.Common.{◌≡◌, ℕ, suc, ◌+◌, List, [], ◌∷◌, ◌++◌, length, refl, sym, ap, ◌∙◌, arith, append_assoc, append-nil, length-append}
+use Rattle.link_stream.specs.Packing.{PackedPicture, packed_contents, packed_datagrams, packed_from, packed_picture, packed_timestamp, timestamp_behind}
+use Rattle.link_stream.proofs.Contents.{how_many}
+use Rattle.vc_types.specs.SenderSettings.{Packing}
+
+module _ (s : Packing) where
+  one_more : (before sequence : ℕ) (p : PackedPicture) → packed_from s before sequence (p ∷ []) ≡ packed_picture s before sequence p
+  unfolding packed_from
+  one_more before sequence p = append-nil (packed_picture s before sequence p)
+
+  from_more : (before sequence : ℕ) (pictures : List PackedPicture) (p : PackedPicture)
+      → packed_from s before sequence (pictures ++ p ∷ []) ≡ packed_from s before sequence pictures ++ packed_picture s (before + length pictures) (sequence + length (packed_from s before sequence pictures)) p
+  unfolding packed_from
+  from_more before sequence [] p =
+      let here : before ≡ before + 0 = omega arith in
+      let same : sequence ≡ sequence + 0 = omega arith in
+      one_more before sequence p ∙ (λ i. packed_picture s (here i) (same i) p)
+  from_more before sequence (q ∷ pictures) p =
+      let first = packed_picture s before sequence q in
+      let n = length (packed_contents s q) in
+      let rest = packed_from s (before + 1) (sequence + n) pictures in
+      let many : length first ≡ n = how_many s (packed_timestamp s before q.number) q sequence (packed_contents s q) in
+      let all = length-append first rest in
+      let at : before + 1 + length pictures ≡ before + suc (length pictures) = omega arith in
+      let number : sequence + n + length rest ≡ sequence + length (first ++ rest) = omega (arith, many, all) in
+      ap (λ l. first ++ l) (from_more (before + 1) (sequence + n) pictures p)
+      ∙ sym (append_assoc first rest (packed_picture s (before + 1 + length pictures) (sequence + n + length rest) p))
+      ∙ (λ i. (first ++ rest) ++ packed_picture s (at i) (number i) p)
+
+  behind_more : (before t : ℕ) (pictures : List PackedPicture) (p : PackedPicture) → timestamp_behind s before t (pictures ++ p ∷ []) ≡ packed_timestamp s (before + length pictures) p.number
+  unfolding timestamp_behind
+  behind_more before t [] p = let here : before ≡ before + 0 = omega arith in ap (λ n. packed_timestamp s n p.number) here
+  behind_more before t (q ∷ pictures) p =
+      let at : before + 1 + length pictures ≡ before + suc (length pictures) = omega arith in
+      behind_more (before + 1) (packed_timestamp s before q.number) pictures p ∙ ap (λ n. packed_timestamp s n p.number) at
+
+-- the datagrams of a picture more come behind the others
+pub packed_more : (s : Packing) (pictures : List PackedPicture) (p : PackedPicture) → packed_datagrams s (pictures ++ p ∷ []) ≡ packed_datagrams s pictures ++ packed_picture s (length pictures) (s.seq + length (packed_datagrams s pictures)) p
+unfolding packed_datagrams
+packed_more s pictures p =
+    let here : 0 + length pictures ≡ length pictures = omega arith in
+    from_more s 0 s.seq pictures p
+    ∙ ap (λ n. packed_from s 0 s.seq pictures ++ packed_picture s n (s.seq + length (packed_from s 0 s.seq pictures)) p) here
+
+-- and its timestamp is the last
+pub timestamp_more : (s : Packing) (pictures : List PackedPicture) (p : PackedPicture) → timestamp_behind s 0 0 (pictures ++ p ∷ []) ≡ packed_timestamp s (length pictures) p.number
+timestamp_more s pictures p =
+    let here : 0 + length pictures ≡ length pictures = omega arith in
+    behind_more s 0 0 pictures p ∙ ap (λ n. packed_timestamp s n p.number) here
+
+pub none_packed : (s : Packing) → packed_datagrams s [] ≡ []
+unfolding packed_datagrams packed_from
+none_packed s = refl
+
+pub none_behind : (s : Packing) → timestamp_behind s 0 0 [] ≡ 0
+unfolding timestamp_behind
+none_behind s = refl
+
+pub length_picture : (s : Packing) (before sequence : ℕ) (p : PackedPicture) → length (packed_picture s before sequence p) ≡ length (packed_contents s p)
+length_picture s before sequence p = how_many s (packed_timestamp s before p.number) p sequence (packed_contents s p)

@@ -1,0 +1,7 @@
+mod Cutting
+mod Putting
+mod Rooms
+mod RunsPut
+mod Lengths
+mod Stamps
+mod Packers

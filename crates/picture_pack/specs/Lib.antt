@@ -1,0 +1,5 @@
+pub mod Views
+pub mod Refusals
+pub mod Puts
+pub mod Runs
+pub mod State

@@ -1,0 +1,93 @@
+-- Datagrams of which one begins a session, and the header of the first that does.
+use Rattle.std.proofs.Common.{◌≡◌, ℕ, Bool, true, false, refl, ap, sym, subst, ◌∙◌, inl, inr}
+use Rattle.std.proofs.Common.{List, [], ◌∷◌, ◌++◌, Option, Some, None, cond}
+use Rattle.std.specs.Prelude.{◌||◌, is_some, fold}
+use Rattle.std.specs.List.{list_any}
+use Rattle.std.specs.Option.{option_map_or}
+use Rattle.std.proofs.lemmas.Bool.{cases_Bool, false≢true, or_parts}
+use Rattle.std.proofs.lemmas.List.{append-nil}
+use Rattle.link_model.specs.Session.{Session, HeardSession, just_opened, opens_behind}
+use Rattle.link_model.specs.Session.{with_datagram, hears, sessions_of, begins}
+use Rattle.link_model.proofs.Following.{no_session}
+use Rattle.link_model.proofs.Hearing.{hears_nothing, hears_new}
+use Rattle.link_stream.specs.Streams.{header_in, first_header}
+
+abbrev pub has_begun : List (List ℕ) → Bool
+has_begun datagrams = list_any (λ d. is_some (begins d)) datagrams
+
+some_stand : (h : HeardSession) (hs : List HeardSession) → [] ≡ h ∷ hs → ⊥
+some_stand h hs e = subst (λ (l : List HeardSession). by_list l) e tt
+  where
+    by_list : List HeardSession → Type 0
+    by_list [] = Unit {0}
+    by_list (h ∷ hs) = ⊥
+
+-- sessions that were opened stay
+stand_on : (datagrams : List (List ℕ)) (h : HeardSession) (hs : List HeardSession)
+    → fold hears (h ∷ hs) datagrams ≡ [] → ⊥
+unfolding hears
+stand_on [] h hs e = some_stand h hs (sym e)
+stand_on (d ∷ datagrams) h hs e =
+    by_next (opens_behind h (begins d)) refl (λ g gs. stand_on datagrams g gs)
+  where
+    by_next : (o : Option Session) → opens_behind h (begins d) ≡ o
+        → ((g : HeardSession) (gs : List HeardSession) → fold hears (g ∷ gs) datagrams ≡ [] → ⊥)
+        → ⊥
+    by_next None is rest = rest (with_datagram h d) hs
+        (sym (ap (λ (o : Option Session). fold hears (option_map_or
+        (λ s. just_opened s ∷ h ∷ hs) o (with_datagram h d ∷ hs)) datagrams) is) ∙ e)
+    by_next (Some s) is rest = rest (just_opened s) (h ∷ hs)
+        (sym (ap (λ (o : Option Session). fold hears (option_map_or
+        (λ s. just_opened s ∷ h ∷ hs) o (with_datagram h d ∷ hs)) datagrams) is) ∙ e)
+
+-- without sessions no datagram begins one
+begun_stand : (datagrams : List (List ℕ)) → has_begun datagrams ≡ true
+    → sessions_of datagrams ≡ [] → ⊥
+begun_stand [] begun e = false≢true begun
+begun_stand (d ∷ datagrams) begun e =
+    by_first (begins d) refl (λ later none. begun_stand datagrams later none)
+  where
+    by_first : (o : Option Session) → begins d ≡ o
+        → (has_begun datagrams ≡ true → sessions_of datagrams ≡ [] → ⊥) → ⊥
+    by_first None is rest = rest
+        (sym (ap (λ (o : Option Session). is_some o || has_begun datagrams) is) ∙ begun)
+        (sym (ap (λ (l : List HeardSession). fold hears l datagrams) (hears_nothing d is)) ∙ e)
+    by_first (Some s) is rest = stand_on datagrams (just_opened s) []
+        (sym (ap (λ (l : List HeardSession). fold hears l datagrams) (hears_new [] d s is)) ∙ e)
+
+pub none_begun : (datagrams : List (List ℕ)) → sessions_of datagrams ≡ []
+    → has_begun datagrams ≡ false
+none_begun datagrams none = elim (cases_Bool (has_begun datagrams)) [
+  | inl begun ↦ absurd (begun_stand datagrams begun none)
+  | inr not ↦ not
+]
+
+-- and with them one did
+pub one_begun : (datagrams : List (List ℕ)) (h : HeardSession) (hs : List HeardSession)
+    → sessions_of datagrams ≡ h ∷ hs → has_begun datagrams ≡ true
+one_begun datagrams h hs at = elim (cases_Bool (has_begun datagrams)) [
+  | inl begun ↦ begun
+  | inr not ↦ absurd (some_stand h hs (sym (no_session datagrams not) ∙ at))
+]
+
+-- ---- the first header
+
+pub first_behind : (datagrams more : List (List ℕ)) → has_begun datagrams ≡ false
+    → first_header (datagrams ++ more) ≡ first_header more
+unfolding first_header
+first_behind [] more none = refl
+first_behind (d ∷ datagrams) more none =
+    let parts = or_parts (is_some (begins d)) (has_begun datagrams) none in
+    ap (λ (b : Bool). cond b (header_in d) (first_header (datagrams ++ more))) parts.0
+    ∙ first_behind datagrams more parts.1
+
+pub no_header : (datagrams : List (List ℕ)) → has_begun datagrams ≡ false
+    → first_header datagrams ≡ []
+unfolding first_header
+no_header datagrams none =
+    sym (ap first_header (append-nil datagrams)) ∙ first_behind datagrams [] none
+
+pub header_of_first : (d : List ℕ) (o : Option Session) → begins d ≡ o
+    → first_header (d ∷ []) ≡ cond (is_some o) (header_in d) []
+unfolding first_header
+header_of_first d o is = ap (λ (o : Option Session). cond (is_some o) (header_in d) []) is

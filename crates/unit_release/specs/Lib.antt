@@ -1,0 +1,5 @@
+pub mod Writing
+pub mod Receiving
+pub mod Standing
+pub mod Views
+pub mod Outputs
