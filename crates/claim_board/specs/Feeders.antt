@@ -1,11 +1,11 @@
 -- The feeder's form of a board.
-use Rattle.std.specs.Prelude.{◌≡◌, ◌≢◌, ℕ, ◌+◌, ◌%◌, ◌≤◌, ◌<◌, ◌^◌, Bool, true, false, ◌&&◌, not}
-use Rattle.std.specs.Prelude.{nat_lt, if◌then◌else◌, List, slice_index_or, slice_set, Option}
+use Rattle.std.specs.Prelude.{◌≡◌, ◌≢◌, ℕ, ◌+◌, ◌%◌, ◌≤◌, ◌<◌, Bool, true, false}
+use Rattle.std.specs.Prelude.{if◌then◌else◌, List, slice_index_or, slice_set, Option}
 use Rattle.std.specs.Prelude.{Result, IfOk, IfErr, OnSome, IfSome, IfNone}
 use Rattle.std.specs.List.{count_by}
 use Rattle.std.specs.Arc.{arc_value}
 use Rattle.link_model.specs.Board.{lane_at, after_load, after_put}
-use Rattle.claim_board.specs.Views.{SeatView, after_take, after_withdraw}
+use Rattle.claim_board.specs.Views.{SeatView, after_take, after_withdraw, may_take_a_job}
 use Rattle.claim_board.specs.Seats.{feeder_sees, place_count}
 use Rattle.claim_board.specs.declared.feeder.BoardFeeder.{BoardFeeder}
 use Rattle.vc_slice.specs.declared.done.SliceDone.{SliceDone}
@@ -21,16 +21,12 @@ form_sees f = feeder_sees f.seat
 
 -- which places were left, and not asked for with success since
 abbrev pub left_in : BoardFeeder → List Bool
-left_in f = f.left.items
+left_in f = f.left.marks.items
 
 abbrev pub is_left : BoardFeeder → ℕ → Bool
 is_left f place = slice_index_or (left_in f) place false
 
--- the place is empty, and its serial may rise
-abbrev pub may_take_a_job : SeatView → ℕ → Bool
-may_take_a_job v place = not (lane_at v place).is_out && nat_lt (lane_at v place).serial (2 ^ 61)
-
--- the lowest such place
+-- the lowest place that may take a job
 pub record IsLowestFree (places : ℕ) (v : SeatView) (place : ℕ) : Type 0 where
   pub within : place < places
   pub free : may_take_a_job v place ≡ true

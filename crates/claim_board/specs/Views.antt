@@ -1,5 +1,5 @@
 -- What a seat at this board knows.
-use Rattle.std.specs.Prelude.{ℕ}
+use Rattle.std.specs.Prelude.{ℕ, ◌^◌, ◌&&◌, Bool, nat_lt, not}
 use Rattle.vc_slice.specs.declared.done.SliceDone.{SliceDone}
 use Rattle.vc_slice.specs.declared.job.SliceJob.{SliceJob}
 use Rattle.link_model.specs.Board.{after_claim, after_open, after_return, lane_at}
@@ -23,3 +23,7 @@ after_take v place done =
 abbrev pub after_withdraw : SeatView → ℕ → SliceJob → SeatView
 after_withdraw v place job =
     after_open (after_return v place) (Waiting (lane_at v place).serial job)
+
+-- the place is empty, and its serial may rise
+abbrev pub may_take_a_job : SeatView → ℕ → Bool
+may_take_a_job v place = not (lane_at v place).is_out && nat_lt (lane_at v place).serial (2 ^ 61)

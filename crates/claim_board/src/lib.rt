@@ -7,6 +7,7 @@ mod cargo;
 mod feeder;
 mod feeding;
 mod made;
+mod marks;
 mod places;
 mod plays;
 mod resting;

@@ -9,6 +9,7 @@ ghost use Rattle.claim_board.specs.Seats.{IsFeederOf, feeder_sees, place_count};
 
 use crate::board::Board;
 use crate::feeder::BoardFeeder;
+use crate::marks::Marks;
 use crate::seats::FeederSeat;
 use std::alloc::Global;
 use std::sync::Arc;
@@ -28,8 +29,13 @@ impl BoardFeeder {
             ≡ replicate (place_count (arc_value board)) false) }
     {
         let places = board.places() as usize;
-        let left = vec![in alloc; false; places]?;
-        Ok(BoardFeeder { board, seat, left })
+        let left = Marks::new(alloc, places)?;
+        Ok(BoardFeeder {
+            board,
+            seat,
+            left,
+            free_from: 0,
+        })
     }
 
     // Asks each place that was left, and drops what is there.
@@ -38,6 +44,9 @@ impl BoardFeeder {
         ensures asked { (form_sees self.old).steps + count_by (λ left. left) (left_in self.old) ≤
             (form_sees self.new).steps }
     {
+        if self.left.are_none() {
+            return;
+        }
         for place in 0..self.board.places() {
             self.ask_if_left(place);
         }
@@ -51,7 +60,7 @@ impl BoardFeeder {
         ensures others { (other : ℕ) → other ≢ place
             → is_left self.new other ≡ is_left self.old other }
     {
-        if self.left[place as usize] {
+        if self.left.get(place as usize) {
             let _answer = self.take(place);
         }
     }
@@ -61,7 +70,7 @@ impl BoardFeeder {
         ensures lowest { IfSome result (IsLowestFree (feeder_bound self.now) (form_sees self.now)) }
         ensures none { IfNone result (HasNoFree (feeder_bound self.now) (form_sees self.now)) }
     {
-        for place in 0..self.board.places() {
+        for place in self.free_from..self.board.places() {
             let lane = self.seat.lanes[place as usize];
             if !lane.is_out && lane.serial < LAST_SERIAL {
                 return Some(place);
@@ -86,6 +95,7 @@ impl Places for BoardFeeder {
         match self.free_place() {
             Some(place) => {
                 self.board.put(&mut self.seat, place, job);
+                self.free_from = place + 1;
                 Ok(place)
             }
             None => Err(job),
@@ -100,7 +110,8 @@ impl Places for BoardFeeder {
         let Ok(done) = self.board.take(&mut self.seat, place) else {
             return None;
         };
-        self.left[place as usize] = false;
+        self.left.set(place as usize, false);
+        self.free_from = self.free_from.min(place);
         Some(done)
     }
 
@@ -112,7 +123,8 @@ impl Places for BoardFeeder {
         let Ok(job) = self.board.withdraw(&mut self.seat, place) else {
             return None;
         };
-        self.left[place as usize] = false;
+        self.left.set(place as usize, false);
+        self.free_from = self.free_from.min(place);
         Some(job)
     }
 
@@ -122,7 +134,7 @@ impl Places for BoardFeeder {
         ensures board { HasLeft self.old self.new place }
     {
         if self.seat.lanes[place as usize].is_out {
-            self.left[place as usize] = true;
+            self.left.set(place as usize, true);
         }
     }
 }

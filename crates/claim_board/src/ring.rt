@@ -4,6 +4,7 @@ use crate::seats::BellPass;
 use atomic_table::{Play, Split, Table, TableRule};
 use std::alloc::{AllocError, Global};
 use std::sync::Wait;
+use std::sync::atomic::{AtomicU64, Ordering};
 
 /// The rule of the bell's table, which holds of every word: no claim rests on it.
 pub(crate) struct Anything;
@@ -24,10 +25,11 @@ impl Split<()> for Anything {
     ghost right = { λ _. tt };
 }
 
-/// A word on which idle workers rest.
+/// A word on which idle workers rest, and how many are about to rest or do.
 #[derive(Drop)]
 pub(crate) struct Bell {
     pub(crate) table: Table<u8, (), (), Anything, Global>,
+    resting: AtomicU64,
     ghost one: { table.shared.table_id.words ≡ 1 },
 }
 
@@ -36,7 +38,8 @@ impl Bell {
         ensures { IfOk result (λ made. made.1.table_id ≡ made.0.table.shared.table_id) }
     {
         let (table, pass) = Table::of_words(alloc, &[0], &())?;
-        Ok((Bell { table }, pass))
+        let resting = AtomicU64::new(0);
+        Ok((Bell { table, resting }, pass))
     }
 
     /// One more seat at the bell.
@@ -52,17 +55,22 @@ impl Bell {
         self.table.shared.peek(0)
     }
 
-    /// Rests while the low half of the bell's number is that of `seen`.
+    /// Rests while the low half of the bell's number is that of `seen`. Who counts itself before it
+    /// compares the numbers is seen by each later ring, or sees the ring's number.
     pub(crate) fn rest<H: Wait>(&self, rt: &H, seen: u64) {
+        self.resting.fetch_add(1, Ordering::SeqCst);
         self.table.shared.park(rt, 0, (seen % (1 << 32)) as u32);
+        self.resting.fetch_sub(1, Ordering::SeqCst);
     }
 
-    /// Raises the number by 1, wrapping, and wakes one who rests.
+    /// Raises the number by 1, wrapping, and wakes one who rests, if there is one.
     pub(crate) fn ring(&self, pass: &mut BellPass)
         requires { pass.old.table_id ≡ self.now.table.shared.table_id }
         ensures { pass.new.table_id ≡ pass.old.table_id }
     {
         self.table.shared.fetch_add::<Anything>(pass, 0, 1);
-        self.table.shared.wake_one(0);
+        if self.resting.load(Ordering::SeqCst) != 0 {
+            self.table.shared.wake_one(0);
+        }
     }
 }

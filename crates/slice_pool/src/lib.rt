@@ -3,6 +3,7 @@
 #![tactic(auto)]
 
 mod crew;
+mod decoding;
 mod hands;
 mod places;
 mod team;
