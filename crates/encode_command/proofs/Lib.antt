@@ -1,3 +1,4 @@
+pub mod FewSent
 pub mod SentMore
 pub mod Stopping
 pub mod ChosenIndices

@@ -7,6 +7,7 @@ use Rattle.encode_command.specs.FramesSent.{frame_shape}
 use Rattle.encode_command.specs.Encodes.{Encodes}
 use Rattle.encode_command.specs.Looping.{HasSent, StopsEncoding}
 use Rattle.encode_command.specs.Steps.{FailsAt, Finishes, unread_ending}
+use Rattle.encode_command.proofs.FewSent.{FitCounts}
 use Rattle.encode_command.proofs.Stopping.{could_not_read, without_memory, cut, refused, unsent, unwritten, all_sent, end_unwritten}
 use Rattle.frame_reader.specs.FrameBytes.{frame_length, sample_count}
 use Rattle.frame_reader.specs.Reading.{GaveFrame, ReadsFrame}
@@ -86,26 +87,26 @@ pub not_read_at_end : (s : Sending) (frames : List Planes) (before after : Optio
 not_read_at_end s frames before after result ends e = subst (Finishes s frames before after) e ends
 
 module _ (s : Sending) (most : ℕ) (frames : List Planes) (input : InputChange) (output : OutputChange) (mid held_mid : Option (List ℕ)) (sent : HasSent s frames input.left.before mid output.held.before held_mid) (gave : GaveAll mid input.left.after []) (few : length frames ≤ most) where
-  pub ends_with : (result : Result Summary Ending) → Finishes s frames held_mid output.held.after result → StopsEncoding s most result input output
-  ends_with (Ok (summaries.Judged tally)) ends = absurd ends
-  ends_with (Ok (summaries.Sent count datagrams bytes)) ends = all_sent s most frames input output mid held_mid sent gave few count datagrams bytes ends.grew ends.frames_are ends.datagrams_are ends.bytes_are
-  ends_with (Ok (summaries.Looped count datagrams bytes tally)) ends = absurd ends
-  ends_with (Ok (summaries.Packed pictures datagrams bytes)) ends = absurd ends
-  ends_with (Ok (summaries.Played pictures unpaired count)) ends = absurd ends
-  ends_with (Ok (summaries.Generated count samples)) ends = absurd ends
-  ends_with (Ok (summaries.Compared count samples different)) ends = absurd ends
-  ends_with (Err (endings.Usage place)) ends = absurd ends
-  ends_with (Err endings.NoMemory) ends = without_memory s most frames input output mid held_mid sent ends gave.gave few
-  ends_with (Err endings.InputFailed) ends = absurd ends
-  ends_with (Err endings.OutputFailed) ends = end_unwritten s most frames input output mid held_mid sent gave few ends
-  ends_with (Err endings.WireFailed) ends = absurd ends
-  ends_with (Err (endings.CaptureCut place)) ends = absurd ends
-  ends_with (Err (endings.PacketLimit limit)) ends = absurd ends
-  ends_with (Err (endings.RawCut number)) ends = absurd ends
-  ends_with (Err (endings.SampleTooLarge place plane value)) ends = absurd ends
-  ends_with (Err (endings.SliceTooLarge slice bytes)) ends = absurd ends
-  ends_with (Err (endings.StreamBad place)) ends = absurd ends
-  ends_with (Err (endings.FrameLimit limit)) ends = absurd ends
+  pub ends_with : FitCounts s frames → (result : Result Summary Ending) → Finishes s frames held_mid output.held.after result → StopsEncoding s most result input output
+  ends_with fit (Ok (summaries.Judged tally)) ends = absurd ends
+  ends_with fit (Ok (summaries.Sent count datagrams bytes)) ends = all_sent s most frames input output mid held_mid sent gave few fit count datagrams bytes ends.grew ends.frames_are ends.datagrams_are ends.bytes_are
+  ends_with fit (Ok (summaries.Looped count datagrams bytes tally)) ends = absurd ends
+  ends_with fit (Ok (summaries.Packed pictures datagrams bytes)) ends = absurd ends
+  ends_with fit (Ok (summaries.Played pictures unpaired count)) ends = absurd ends
+  ends_with fit (Ok (summaries.Generated count samples)) ends = absurd ends
+  ends_with fit (Ok (summaries.Compared count samples different)) ends = absurd ends
+  ends_with fit (Err (endings.Usage place)) ends = absurd ends
+  ends_with fit (Err endings.NoMemory) ends = without_memory s most frames input output mid held_mid sent ends gave.gave few
+  ends_with fit (Err endings.InputFailed) ends = absurd ends
+  ends_with fit (Err endings.OutputFailed) ends = end_unwritten s most frames input output mid held_mid sent gave few ends
+  ends_with fit (Err endings.WireFailed) ends = absurd ends
+  ends_with fit (Err (endings.CaptureCut place)) ends = absurd ends
+  ends_with fit (Err (endings.PacketLimit limit)) ends = absurd ends
+  ends_with fit (Err (endings.RawCut number)) ends = absurd ends
+  ends_with fit (Err (endings.SampleTooLarge place plane value)) ends = absurd ends
+  ends_with fit (Err (endings.SliceTooLarge slice bytes)) ends = absurd ends
+  ends_with fit (Err (endings.StreamBad place)) ends = absurd ends
+  ends_with fit (Err (endings.FrameLimit limit)) ends = absurd ends
 
 pub encodes_so : (s : Sending) (most : ℕ) (result : Result Summary Ending) (input : InputChange) (output : OutputChange) → StopsEncoding s most result input output → (result ≡ Err endings.InputFailed → HasRisen input.faults) → (result ≡ Err endings.OutputFailed → HasRisen output.faults) → Encodes s most result input output
 encodes_so s most result input output stops input_rose output_rose = record {

@@ -2,10 +2,9 @@
 use Rattle.std.proofs.Common.{◌≡◌, ℕ, ◌+◌, ◌-◌, ◌*◌, ◌/◌, ◌%◌, ◌^◌, ◌<◌, ◌≤◌, Bool, true, false, List, [], ◌∷◌, ◌++◌, length, refl, ap, sym, ◌∙◌, arith, length-append}
 use Rattle.std.proofs.lemmas.List.Sums.{sum_by-append}
 use Rattle.encode_command.specs.declared.totals.Totals.{Totals}
-use Rattle.encode_command.specs.Encodes.{counted_in_64}
 use Rattle.encode_command.specs.FramesSent.{bytes_in, frames_sent}
 use Rattle.encode_command.specs.Looping.{next_sent}
-use Rattle.encode_command.specs.Steps.{numbers_after, totals_of, totals_with}
+use Rattle.encode_command.specs.Steps.{counted_in_64, numbers_after, totals_of, totals_with}
 use Rattle.encode_command.proofs.SentMore.{frames_sent-more}
 use Rattle.encode_command.proofs.Stopping.{none_sent}
 use Rattle.link_model.specs.Sending.{pictures_per_frame, timestamp_of}

@@ -3,9 +3,11 @@ use Rattle.std.proofs.Common.{◌≡◌, ℕ, ◌<◌, ◌≤◌, List, [], ◌�
 use Rattle.std.specs.Prelude.{Result, ◌⊎◌}
 use Rattle.std.proofs.lemmas.List.Concat.{flat_map-cons, flat_map-append}
 use Rattle.std.proofs.lemmas.List.Elements.{All-nil, All-cons, All-append}
-use Rattle.encode_command.specs.Encodes.{EncodeEnded, counted_in_64}
+use Rattle.encode_command.specs.Encodes.{EncodeEnded}
 use Rattle.encode_command.specs.FramesSent.{AreSendable, bytes_in, capture_of, frame_fault, frame_shape, frames_sent, stream_sent}
 use Rattle.encode_command.specs.Looping.{HasSent, end_sent, StopsEncoding, next_sent, refused_ending}
+use Rattle.encode_command.specs.Steps.{counted_in_64}
+use Rattle.encode_command.proofs.FewSent.{FitCounts}
 use Rattle.encode_command.proofs.SentMore.{frames_sent-more}
 use Rattle.frame_reader.specs.FrameBytes.{frame_length}
 use Rattle.frame_reader.specs.Reading.{GaveFrame, GaveCutFrame}
@@ -150,17 +152,17 @@ module _ (s : Sending) (most : ℕ) (frames : List Planes) (input : InputChange)
 
   module _ (gave : GaveAll mid input.left.after []) (few : length frames ≤ most) where
     -- all was written
-    pub all_sent : (count datagrams bytes : ℕ) → Grew held_mid output.held.after (entry (end_sent s frames)) → count ≡ length frames → datagrams ≡ counted_in_64 (length (stream_sent s frames)) → bytes ≡ counted_in_64 (bytes_in (stream_sent s frames))
+    pub all_sent : FitCounts s frames → (count datagrams bytes : ℕ) → Grew held_mid output.held.after (entry (end_sent s frames)) → count ≡ length frames → datagrams ≡ counted_in_64 (length (stream_sent s frames)) → bytes ≡ counted_in_64 (bytes_in (stream_sent s frames))
         → StopsEncoding s most (Ok (Sent count datagrams bytes)) input output
-    all_sent count datagrams bytes grew counted datagrams_are bytes_are = stopped (Ok (Sent count datagrams bytes)) [] some_length gave.gave (record {
+    all_sent fit count datagrams bytes grew counted datagrams_are bytes_are = stopped (Ok (Sent count datagrams bytes)) [] some_length gave.gave (record {
       sendable = sent.sendable;
       few = few;
       no_rest = refl;
       ended = gave.at_end;
       wrote = subst (Grew output.held.before output.held.after) (sym (capture_of_stream s frames)) (Grew-then output.held.before held_mid output.held.after (capture_of (frames_sent s frames)) (entry (end_sent s frames)) sent.wrote grew);
       frames_are = counted;
-      datagrams_are = datagrams_are;
-      bytes_are = bytes_are;
+      datagrams_are = omega (arith, datagrams_are, fit.count);
+      bytes_are = omega (arith, bytes_are, fit.bytes);
     })
 
     -- a write of the end failed

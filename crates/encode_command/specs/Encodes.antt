@@ -1,5 +1,5 @@
 -- What encoding raw frames to a capture did, by how it ended.
-use Rattle.std.specs.Prelude.{◌≡◌, ◌≢◌, ◌⊎◌, ◌≤◌, ◌<◌, ◌-◌, ◌^◌, ℕ, min, List, [], ◌∷◌, ◌++◌, length, Some, Result, Ok, Err}
+use Rattle.std.specs.Prelude.{◌≡◌, ◌≢◌, ◌⊎◌, ◌≤◌, ◌<◌, ℕ, List, [], ◌∷◌, ◌++◌, length, Some, Result, Ok, Err}
 use Rattle.encode_command.specs.FramesSent.{AreSendable, bytes_in, capture_of, frame_fault, frame_shape, frames_sent, stream_sent}
 use Rattle.frame_reader.specs.WholeFrames.{HoldFrames}
 use Rattle.link_model.specs.SendingFaults.{SendFault}
@@ -13,10 +13,6 @@ use Rattle.vc_ports.specs.Reading.{IsAtEnd}
 use Rattle.vc_types.specs.Planes.{Planes}
 use Rattle.vc_types.specs.SenderSettings.{Sending}
 
--- a count of 64 bits, which stays at its last value
-abbrev pub counted_in_64 : ℕ → ℕ
-counted_in_64 count = min count (2 ^ 64 - 1)
-
 -- the input was read to its end, at a frame's edge, and all frames were sent, and then the end
 pub record HasEncoded
     (s : Sending) (most : ℕ) (input : InputChange) (output : OutputChange)
@@ -28,8 +24,8 @@ pub record HasEncoded
   pub ended : IsAtEnd input.left.after
   pub wrote : Wrote output (capture_of (stream_sent s frames))
   pub frames_are : count ≡ length frames
-  pub datagrams_are : datagrams ≡ counted_in_64 (length (stream_sent s frames))
-  pub bytes_are : bytes ≡ counted_in_64 (bytes_in (stream_sent s frames))
+  pub datagrams_are : datagrams ≡ length (stream_sent s frames)
+  pub bytes_are : bytes ≡ bytes_in (stream_sent s frames)
 
 -- a read failed, within a frame that was asked for, or of the byte behind as many as were asked for
 pub record CouldNotReadFrame

@@ -1,8 +1,7 @@
 -- What an encoder keeps from one frame to the next, and what each of its steps does.
-use Rattle.std.specs.Prelude.{◌≡◌, ◌+◌, ◌-◌, ◌*◌, ◌%◌, ◌^◌, ◌≤◌, ℕ, List, [], ◌∷◌, ◌++◌, length, Option, Some, None, Result, Ok, Err}
+use Rattle.std.specs.Prelude.{◌≡◌, ◌+◌, ◌-◌, ◌*◌, ◌%◌, ◌^◌, ◌≤◌, ℕ, min, List, [], ◌∷◌, ◌++◌, length, Option, Some, None, Result, Ok, Err}
 use Rattle.encode_command.specs.declared.encoder.Encoder.{Encoder}
 use Rattle.encode_command.specs.declared.totals.Totals.{Totals}
-use Rattle.encode_command.specs.Encodes.{counted_in_64}
 use Rattle.encode_command.specs.FramesSent.{bytes_in, capture_of, frame_fault, frames_sent, stream_sent}
 use Rattle.encode_command.specs.Looping.{HasSent, StopsEncoding, end_sent, next_sent}
 use Rattle.frame_reader.specs.declared.fault.FrameReadFault.{FrameReadFault}
@@ -25,6 +24,10 @@ use Rattle.vc_types.specs.Planes.{Planes}
 use Rattle.vc_types.specs.SenderSettings.{Sending, sending_view}
 
 -- ---- what is kept
+
+-- a count of 64 bits, which would stay at its last value
+abbrev pub counted_in_64 : ℕ → ℕ
+counted_in_64 count = min count (2 ^ 64 - 1)
 
 -- the totals with more datagrams
 abbrev pub totals_with : Totals → List (List ℕ) → Totals

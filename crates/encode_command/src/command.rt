@@ -16,14 +16,16 @@ use frame_reader::{FrameReadFault, read_frame};
 use link_report::{Ending, Summary};
 use link_sender::Chooser;
 use std::alloc::Global;
+use std::thread::Threads;
 use vc_ports::{Filled, Sink, Source, fill};
 use vc_types::{IndexChoice, SendSettings, Shape, SliceNeed};
 
 /// Encodes at most so many raw frames: reads them one after another, up to one that is refused or the end of the input, and
 /// writes the entries of the datagrams that carry each, and at the end of the input that of the end of the sequence. Raw
 /// frames and captures are this project's own. The entries of a frame go out before the next is read, and one frame and
-/// its datagrams are kept, which no clause says.
-pub fn encode<S: Source, O: Sink>(
+/// its datagrams are kept, and luma is transformed beside the colours, which no clause says.
+pub fn encode<H: Threads + Copy + Send + Sync, S: Source, O: Sink>(
+    rt: H,
     alloc: Global,
     s: &SendSettings,
     frames: u32,
@@ -37,17 +39,18 @@ pub fn encode<S: Source, O: Sink>(
     match s.choice {
         IndexChoice::Index(index) => {
             let chooser = Chooser::new(false, |_need: &SliceNeed| index);
-            encode_by(alloc, s, frames, chooser, input, output)
+            encode_by(rt, alloc, s, frames, chooser, input, output)
         }
         IndexChoice::Fit(bytes) => {
             let chooser = Chooser::new(true, |need: &SliceNeed| least_fitting(&need.lens, bytes));
-            encode_by(alloc, s, frames, chooser, input, output)
+            encode_by(rt, alloc, s, frames, chooser, input, output)
         }
     }
 }
 
 // The same by a chooser that chooses as the settings do.
-fn encode_by<F: Fn(&SliceNeed) -> u8, S: Source, O: Sink>(
+fn encode_by<H: Threads + Copy + Send + Sync, F: Fn(&SliceNeed) -> u8, S: Source, O: Sink>(
+    rt: H,
     alloc: Global,
     s: &SendSettings,
     frames: u32,
@@ -64,12 +67,21 @@ fn encode_by<F: Fn(&SliceNeed) -> u8, S: Source, O: Sink>(
         (output_of O.held O.faults output.old output.new) }
 {
     let mut encoder = Encoder::new(alloc, *s, chooser);
-    let count = encode_frames(alloc, frames, &frame_shape(s), &mut encoder, input, output)?;
+    let count = encode_frames(
+        rt,
+        alloc,
+        frames,
+        &frame_shape(s),
+        &mut encoder,
+        input,
+        output,
+    )?;
     encoder.finish(count, output)
 }
 
 // Sends the frames of an input, at most so many. The answer is how many there were where the input ended behind them.
-fn encode_frames<F: Fn(&SliceNeed) -> u8, S: Source, O: Sink>(
+fn encode_frames<H: Threads + Copy + Send + Sync, F: Fn(&SliceNeed) -> u8, S: Source, O: Sink>(
+    rt: H,
     alloc: Global,
     frames: u32,
     shape: &Shape,
@@ -97,7 +109,7 @@ fn encode_frames<F: Fn(&SliceNeed) -> u8, S: Source, O: Sink>(
 {
     for frame in 0..frames {
         match read_frame(alloc, input, shape) {
-            Ok(Some(planes)) => match encoder.take(&planes, output) {
+            Ok(Some(planes)) => match encoder.take(rt, &planes, output) {
                 Ok(()) => {}
                 Err(ending) => return Err(ending),
             },

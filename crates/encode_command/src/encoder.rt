@@ -11,6 +11,7 @@ use link_capture::put_entry;
 use link_report::{Ending, Summary};
 use link_sender::{Chooser, SendRefusal, Sender};
 use std::alloc::Global;
+use std::thread::Threads;
 use vc_ports::{Sink, WriteFault};
 use vc_types::{NoMemory, Plane, SendSettings, SliceNeed};
 
@@ -38,7 +39,12 @@ impl<F: Fn(&SliceNeed) -> u8> Encoder<F> {
     }
 
     /// Sends a frame, and writes the entries of its datagrams.
-    pub(crate) fn take<O: Sink>(&mut self, frame: &[Plane; 3], output: &mut O) -> Result<(), Ending>
+    pub(crate) fn take<H: Threads + Copy + Send + Sync, O: Sink>(
+        &mut self,
+        rt: H,
+        frame: &[Plane; 3],
+        output: &mut O,
+    ) -> Result<(), Ending>
         requires callable { F.IsAlwaysCallable self.old.sender.chooser.choose }
         requires range { AnswersAtMost127 F.Fn self.old.sender.chooser.choose }
         requires chooses { ChoosesAs F.Fn self.old.sender.chooser.choose
@@ -55,7 +61,7 @@ impl<F: Fn(&SliceNeed) -> u8> Encoder<F> {
         ensures cause { HasCause (O.faults output.old) (O.faults output.new)
             (result ≡ Err Ending.OutputFailed) }
     {
-        match self.sender.send_frame(frame) {
+        match self.sender.send_frame_joined(rt, frame) {
             Ok(datagrams) => match self.totals.put_all(&datagrams, output) {
                 Ok(()) => Ok(()),
                 Err(WriteFault) => Err(Ending::OutputFailed),

@@ -6,6 +6,5 @@ mod Packed
 mod Frames
 mod FramePictures
 mod EncodedFrames
-mod Heads
 mod PutPictures
 mod PayloadLengths

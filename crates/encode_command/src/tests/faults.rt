@@ -20,7 +20,7 @@ fn each_read_may_fail(rt: HostRuntime) -> Result<(), Fail> {
         let bytes = Vec::from_slice(alloc, &FRAME)?;
         let mut source = MemSource::new(bytes, vec![in alloc; call]?);
         let mut sink = MemSink::new(alloc, ROOM, Vec::new(alloc))?;
-        let found = encode(alloc, &row(), 9, &mut source, &mut sink);
+        let found = encode(&rt, alloc, &row(), 9, &mut source, &mut sink);
         assert_eq!(rt; found, answer, "read {call}");
         assert_eq!(rt; Some(sink.bytes()), whole.get(..count), "read {call}");
     }
@@ -44,7 +44,7 @@ fn each_write_may_fail(rt: HostRuntime) -> Result<(), Fail> {
     ] {
         let mut source = PlainSource::new(Vec::from_slice(alloc, &FRAME)?);
         let mut sink = MemSink::new(alloc, ROOM, vec![in alloc; call]?)?;
-        let found = encode(alloc, &row(), 9, &mut source, &mut sink);
+        let found = encode(&rt, alloc, &row(), 9, &mut source, &mut sink);
         assert_eq!(rt; found, Err(Ending::OutputFailed), "write {call}");
         assert_eq!(rt; Some(sink.bytes()), whole.get(..count), "write {call}");
     }
@@ -57,7 +57,7 @@ fn a_sample_has_too_many_bits(rt: HostRuntime) -> Result<(), Fail> {
     let ten_bits = settings(3, IndexChoice::Index(0));
     let mut bytes = [0; 24];
     bytes[1] = 4;
-    let (answer, written) = encoded(rt.alloc(), &ten_bits, 9, &bytes)?;
+    let (answer, written) = encoded(&rt, rt.alloc(), &ten_bits, 9, &bytes)?;
     let ending = Ending::SampleTooLarge {
         place: 0,
         plane: 0,
@@ -99,14 +99,14 @@ fn tight(prefix: u32) -> SendSettings
 fn a_slice_just_fits(rt: HostRuntime) -> Result<(), Fail> {
     let alloc = rt.alloc();
     let grey = [0x80; 96];
-    let (answer, written) = encoded(alloc, &tight(29), 9, &grey)?;
+    let (answer, written) = encoded(&rt, alloc, &tight(29), 9, &grey)?;
     let ending = Ending::SliceTooLarge {
         slice: 0,
         bytes: 33,
     };
     assert_eq!(rt; answer, Err(ending));
     assert_eq!(rt; written.len(), 0);
-    let (answer, _) = encoded(alloc, &tight(28), 9, &grey)?;
+    let (answer, _) = encoded(&rt, alloc, &tight(28), 9, &grey)?;
     assert!(rt; answer.is_ok());
     Ok(())
 }

@@ -5,6 +5,7 @@ use crate::encode;
 use link_report::{Ending, Summary};
 use std::alloc::Global;
 use std::test::Fail;
+use std::thread::Threads;
 use vc_ports::{MemSink, PlainSource};
 use vc_types::{IndexChoice, Sampling, SendSettings};
 
@@ -76,7 +77,8 @@ pub fn counts(frames: u64, datagrams: u64, bytes: u64) -> Summary {
 }
 
 /// What encoding bytes came to, and what was written.
-pub fn encoded(
+pub fn encoded<H: Threads + Copy + Send + Sync>(
+    rt: H,
     alloc: Global,
     s: &SendSettings,
     frames: u32,
@@ -84,6 +86,6 @@ pub fn encoded(
 ) -> Result<(Result<Summary, Ending>, Vec<u8>), Fail> {
     let mut source = PlainSource::new(Vec::from_slice(alloc, bytes)?);
     let mut sink = MemSink::new(alloc, ROOM, Vec::new(alloc))?;
-    let answer = encode(alloc, s, frames, &mut source, &mut sink);
+    let answer = encode(rt, alloc, s, frames, &mut source, &mut sink);
     Ok((answer, Vec::from_slice(alloc, sink.bytes())?))
 }

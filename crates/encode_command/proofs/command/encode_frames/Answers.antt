@@ -22,13 +22,13 @@ loop-frame-init g c = record {
 }
 
 pub take-requires-clause-range : goal.take-requires-clause-range
-take-requires-clause-range g c = rw c.loop-frame.invariant.chooser c.requires.range
+take-requires-clause-range g c = λ κs lives. rw c.loop-frame.invariant.chooser c.requires.range
 
 pub take-requires-clause-chooses : goal.take-requires-clause-chooses
-take-requires-clause-chooses g c = rw (c.loop-frame.invariant.chooser, c.loop-frame.invariant.settings) c.requires.chooses
+take-requires-clause-chooses g c = λ κs lives. rw (c.loop-frame.invariant.chooser, c.loop-frame.invariant.settings) c.requires.chooses
 
 pub take-requires-clause-sizes : goal.take-requires-clause-sizes
-take-requires-clause-sizes g c =
+take-requires-clause-sizes g c = λ κs lives.
     let read = rw c.in-Ok-Some.field-0-is at c.in-Ok-Some.ensures.frame in
     rw c.loop-frame.invariant.settings (sized (sending_view c.args.encoder.now.sender.settings) c.args.shape.now (planes_in c.in-Ok-Some.planes) _ _ c.requires.shape read)
 

@@ -1,39 +1,39 @@
 -- The bytes of a picture's sequence header and of its transform parameters.
-use Rattle.std.proofs.Common.{◌≡◌, ℕ, zero, suc, ◌+◌, ◌-◌, ◌*◌, ◌%◌, ◌^◌, ◌<◌, ◌≤◌, Bool, true, false, cond, List, [], ◌∷◌, ◌++◌, length, drop, take, Option, Some, None, refl, sym, ap, subst, ◌∙◌, arith}
-use Rattle.std.specs.Prelude.{IsTrue, nat_le, ◌&&◌, ◌==◌, min, replicate}
-use Rattle.std.specs.Int.Digits.{digits_of}
-use Rattle.std.specs.List.{flat_map, list_all}
+use Rattle.std.proofs.Common.{◌≡◌, ℕ, zero, suc, ◌+◌, ◌-◌, ◌*◌, ◌%◌, ◌^◌, ◌<◌, ◌≤◌, Bool, true, false, cond, List, [], ◌∷◌, length, take, Some, None, refl, sym, ap, subst, ◌∙◌, arith}
+use Rattle.std.specs.Prelude.{IsTrue, nat_le, ◌&&◌, ◌==◌, replicate}
+use Rattle.std.specs.List.{list_all}
 use Rattle.std.proofs.lemmas.Bool.{and_parts, leb-true}
 use Rattle.std.proofs.lemmas.Bool.Decides.{nat_tests}
-use Rattle.std.proofs.lemmas.Int.Digits.{length-digits_of-le}
-use Rattle.std.proofs.lemmas.List.{length-append, length-drop, length-replicate, length-take}
-use Rattle.std.proofs.lemmas.List.Concat.{flat_map-cons}
+use Rattle.std.proofs.lemmas.List.{length-append, length-replicate, length-take}
 use Rattle.link_model.specs.SendingPictures.{packed_bits, sent_header, sent_parameter_bytes, sent_parameters, sent_sequence}
 use Rattle.link_model.proofs.PackedBits.{length-packed_bits}
+use Rattle.link_model.proofs.SentHeads.{plan}
+use Rattle.sent_counts.proofs.CodedLengths.{uint_short}
 use Rattle.vc_types.specs.Bits.{bits_of, digit_of}
-use Rattle.vc_types.specs.Codes.{uint_bits, spread_digits}
+use Rattle.vc_types.specs.Codes.{uint_bits}
 use Rattle.vc_types.specs.declared.plan.Plan.{Plan}
 use Rattle.vc_types.specs.declared.settings.SendSettings.{SendSettings}
 use Rattle.vc_types.specs.declared.video.Sampling.{Sampling}
 use Rattle.vc_types.specs.declared.video.Sampling.TheVariants.{S444, S422, S420}
 use Rattle.vc_types.specs.declared.video.SignalRange.{SignalRange}
 use Rattle.vc_types.specs.Video.{sampling_fits, side_fits}
-use Rattle.vc_types.specs.Fields.{filled_up, flagged_bits, joined, pair_bits}
+use Rattle.vc_types.specs.Fields.{filled_up, flagged_bits, joined}
 use Rattle.vc_types.specs.HeaderSpelling.{IsEncoderHeader, encoder_base, encoder_header, header_bits, preset_of, sampling_index}
 use Rattle.vc_types.specs.Limits.{matrix_fits, slice_bytes_fit, slices_fit}
-use Rattle.vc_types.specs.ParameterSpelling.{coded_unless, default_for, encoder_parameters, extension_bits, is_default, numbers_bits, parameter_bits}
+use Rattle.vc_types.specs.ParameterSpelling.{coded_unless, default_for, encoder_parameters, is_default, numbers_bits, parameter_bits}
 use Rattle.vc_types.specs.Quantisation.{used_entries}
 use Rattle.vc_types.specs.SenderSettings.{Sending, sending_view}
 use Rattle.vc_types.specs.SequenceHeader.{Sequence}
 use Rattle.vc_types.specs.TransformParameters.{Parameters, parameters_of}
+use Rattle.vc_types.proofs.WrittenParameters.{IsPlan}
 
 -- ---- the sequence header
 
-record IsBetween (low high number : ℕ) : Type 0 where
-  least : low ≤ number
-  most : number ≤ high
+pub record IsBetween (low high number : ℕ) : Type 0 where
+  pub least : low ≤ number
+  pub most : number ≤ high
 
-between : (low high number : ℕ) → IsTrue (nat_le low number && nat_le number high) → IsBetween low high number
+pub between : (low high number : ℕ) → IsTrue (nat_le low number && nat_le number high) → IsBetween low high number
 between low high number fits =
     let both = and_parts (nat_le low number) (nat_le number high) fits in
     record { least = leb-true low number both.0; most = leb-true number high both.1 }
@@ -63,21 +63,8 @@ parameter_bytes s p bytes is bits =
 
 -- ---- which are few
 
-two_each : (digits : List ℕ) → length (flat_map (λ digit. false ∷ (digit == 1) ∷ []) digits) ≡ 2 * length digits
-two_each [] = refl
-two_each (digit ∷ digits) =
-    ap length (flat_map-cons (λ (d : ℕ). false ∷ (d == 1) ∷ []) digit digits)
-    ∙ (let rest = two_each digits in omega (arith, rest))
-
 few_bits : (v : ℕ) → v < 2 ^ 16 → length (uint_bits v) ≤ 35
-unfolding uint_bits spread_digits
-few_bits v small =
-    let digits = digits_of 2 (v + 1) in
-    let some = length-digits_of-le 2 17 (v + 1) (omega arith) (omega (arith, small)) in
-    let rest = length-drop 1 digits in
-    let pairs = two_each (drop 1 digits) in
-    let all = length-append (flat_map (λ digit. false ∷ (digit == 1) ∷ []) (drop 1 digits)) (true ∷ []) in
-    omega (arith, some, rest, pairs, all)
+few_bits v small = omega (arith, uint_short 16 v small)
 
 abbrev total : List (List Bool) → ℕ
 total [] = 0
@@ -186,6 +173,31 @@ unfolding sent_parameter_bytes
 short_parameters s plan is =
     subst (λ (p : Parameters). length (packed_bits (filled_up (parameter_bits 3 (encoder_parameters p)))) ≤ 1000) is
     (few_packed (parameter_bits 3 (encoder_parameters (parameters_of plan))) (few_parameter_bits (parameters_of plan) (plan_small plan)))
+
+planned_small : (p : Parameters) → IsPlan p → AreSmall p
+planned_small p plan =
+    let slices = slices_small p.slices_x p.slices_y plan.slices in
+    let bytes = slice_bytes_small p.prefix p.scaler plan.slice_bytes in
+    let levels = plan.few_levels in
+    record {
+      wavelet = omega (arith, plan.wavelet);
+      wavelet_ho = omega (arith, plan.wavelet_ho);
+      depth = omega (arith, levels);
+      depth_ho = omega (arith, levels);
+      levels = omega (arith, levels);
+      across = slices.0;
+      down = slices.1;
+      prefix = bytes.0;
+      scaler = bytes.1;
+      matrix = plan.values;
+    }
+
+-- the same of settings
+pub short_parameters_of : (settings : SendSettings) → length (sent_parameter_bytes (sending_view settings)) ≤ 1000
+unfolding sent_parameter_bytes
+short_parameters_of settings =
+    let p = sent_parameters (sending_view settings) in
+    few_packed (parameter_bits 3 (encoder_parameters p)) (few_parameter_bits p (planned_small p (plan settings)))
 
 -- ---- and so are those of the sequence header
 
