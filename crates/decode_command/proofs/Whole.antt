@@ -1,5 +1,5 @@
 -- The whole command: workers are started, a capture is received, and the answer made.
-use Rattle.std.proofs.Common.{◌≡◌, ℕ, List, [], ◌∷◌, Option, Some, None, Ok, Err, refl, ap, ◌∙◌}
+use Rattle.std.proofs.Common.{◌≡◌, ℕ, List, [], ◌∷◌, Option, Some, None, Ok, Err, refl, ap, ◌∙◌, inl, inr}
 use Rattle.link_receiver.specs.HeardLists.{AskedPlaces}
 use Rattle.link_receiver.specs.States.{ReceiverState}
 use Rattle.link_model.specs.declared.tally.Tally.{Tally}
@@ -58,14 +58,15 @@ no_memory_is_fault same = cc
 -- no workers were started
 pub not_started : (window workers packets : ℕ) (input : InputChange) (output : OutputChange)
     (hands : Change (Option Told)) → input.left.after ≡ input.left.before → output.held.after ≡ output.held.before
+    → hands.after ≡ hands.before
     → Decodes window workers packets (Stopped NoMemory) input output hands
-not_started window workers packets input output hands input_stays output_stays = record {
+not_started window workers packets input output hands input_stays output_stays hands_stay = record {
   given = [];
   took = rw input_stays (Gave-none input.left.before);
   ended = rw output_stays (GrewBySome-none output.held.before _);
   input_failed = λ failed. absurd (stopped_is_drained NoMemory failed.0 failed.1);
   output_failed = λ failed. absurd (no_memory_is_fault failed);
-  workers_started = tt;
+  workers_started = inr hands_stay;
 }
 
 module _ (window workers packets : ℕ) (receiver : ReceiverState) (input : InputChange) (output : OutputChange)
@@ -115,7 +116,7 @@ stopped window workers packets receiver input output before mid after NoMemory g
   ended = broke.wrote;
   input_failed = λ failed. absurd (stopped_is_drained NoMemory failed.0 failed.1);
   output_failed = λ failed. absurd (no_memory_is_fault failed);
-  workers_started = tt;
+  workers_started = inl (started workers before mid after grew asked);
 }
 stopped window workers packets receiver input output before mid after OutputFailed grew asked broke cause = record {
   given = broke.given;

@@ -1,5 +1,5 @@
 -- What decoding a capture did, by how it ended.
-use Rattle.std.specs.Prelude.{◌≡◌, ℕ, List, [], ◌∷◌, Option, None, Some}
+use Rattle.std.specs.Prelude.{◌≡◌, ◌⊎◌, ℕ, List, [], ◌∷◌, Option, None, Some}
 use Rattle.link_model.specs.Judgement.{tally_of}
 use Rattle.link_model.specs.Output.{full_output}
 use Rattle.link_model.specs.Session.{sessions_of}
@@ -12,7 +12,7 @@ use Rattle.link_report.specs.declared.ending.Ending.{Ending}
 use Rattle.link_report.specs.declared.ending.Ending.TheVariants.{NoMemory, InputFailed, OutputFailed}
 use Rattle.link_report.specs.declared.summary.Summary.TheVariants.{Judged}
 use Rattle.vc_ports.specs.Changes.{Change, InputChange, OutputChange, HasRisen, Took, Wrote}
-use Rattle.vc_ports.specs.Changes.{WrotePart}
+use Rattle.vc_ports.specs.Changes.{WrotePart, Stays}
 use Rattle.vc_slice.specs.Asked.{Told, Grows}
 use Rattle.decode_command.specs.Capture.{CaptureSplit, capture_split, ReadingEnded}
 
@@ -57,9 +57,10 @@ pub record HasGivenWork (window workers : ℕ) (hands : Change (Option Told)) (s
   pub started : more.started ≡ workers ∷ []
   pub offered : AreAllOffered window (sessions_of s.datagrams) (told_jobs more)
 
--- nothing is said of them where memory ran out
+-- where memory ran out they were started, or nothing was asked of them
 abbrev pub StartsWorkers : ℕ → ℕ → Answer → Change (Option Told) → CaptureSplit → Type 0
 StartsWorkers window workers (Stopped OutputFailed) hands s = HasStarted workers hands
+StartsWorkers window workers (Stopped NoMemory) hands s = HasStarted workers hands ⊎ Stays hands
 StartsWorkers window workers (Stopped end) hands s = Unit {0}
 StartsWorkers window workers answer hands s = HasGivenWork window workers hands s
 

@@ -23,3 +23,4 @@ returns g c =
 pub returns-in_default : goal.returns-in_default
 returns-in_default g c =
     not_started c.args.window c.args.workers c.args.packets _ _ _ refl refl
+    c.in_default.ensures.unchanged.2

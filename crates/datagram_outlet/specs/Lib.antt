@@ -1,0 +1,3 @@
+pub mod Outlets
+pub mod CaptureLaws
+pub mod WireLaws

@@ -1,0 +1,52 @@
+-- Datagrams that are sent to a wire one after another. The laws of an outlet cite these.
+use Rattle.std.proofs.Common.{◌≡◌, ℕ, ◌+◌, ◌≤◌, List, [], ◌∷◌, ◌++◌, length, take, ap, sym, subst, arith, refl, length-append}
+use Rattle.std.proofs.Math.Seq.{take-append-add}
+use Rattle.std.proofs.lemmas.List.{take-append-le}
+use Rattle.vc_ports.specs.Faults.{Rose}
+use Rattle.vc_ports.specs.Wires.{WireTold, sending}
+use Rattle.wire_calls.specs.Passing.{Passes}
+use Rattle.wire_calls.proofs.Calls.{passes_none, passes_sent, passes_then}
+use Rattle.datagram_outlet.specs.declared.outlet.OutletFault.{OutletFault}
+use Rattle.datagram_outlet.specs.declared.outlet.OutletFault.TheVariants as faults
+use Rattle.datagram_outlet.specs.Outlets.{SentAll, SentPart}
+
+pub none_sent : (told : WireTold) (faults : ℕ) → SentAll told told faults faults []
+none_sent told faults = record { passes = passes_none told; later = omega arith }
+
+module _ (a b c : WireTold) (i j k : ℕ) (first second : List (List ℕ)) where
+  pub more_sent : SentAll a b i j first → SentAll b c j k second → SentAll a c i k (first ++ second)
+  more_sent p q = record {
+    passes = passes_then a b c first [] second [] p.passes q.passes;
+    later = omega (arith, p.later, q.later);
+  }
+
+  pub part_behind : (fault : OutletFault) → SentAll a b i j first → SentPart b c j k second fault → SentPart a c i k (first ++ second) fault
+  part_behind fault p q = record {
+    fault_is = q.fault_is;
+    count = length first + q.count;
+    within = omega (arith, q.within, length-append first second);
+    passes = rw take-append-add (passes_then a b c first [] (take q.count second) [] p.passes q.passes);
+    rose = omega (arith, p.later, q.rose);
+  }
+
+pub part_before : (a b : WireTold) (i j : ℕ) (first second : List (List ℕ)) (fault : OutletFault) → SentPart a b i j first fault → SentPart a b i j (first ++ second) fault
+part_before a b i j first second fault p = record {
+  fault_is = p.fault_is;
+  count = p.count;
+  within = omega (arith, p.within, length-append first second);
+  passes = rw (take-append-le p.count first second p.within) p.passes;
+  rose = p.rose;
+}
+
+-- one datagram
+pub datagram_sent : (a b : WireTold) (i j : ℕ) (datagram : List ℕ) → b ≡ sending a datagram → i ≤ j → SentAll a b i j (datagram ∷ [])
+datagram_sent a b i j datagram is later = record { passes = passes_sent a b datagram is; later = later }
+
+pub datagram_unsent : (a b : WireTold) (i j : ℕ) (datagram : List ℕ) → b ≡ a → Rose i j → SentPart a b i j (datagram ∷ []) faults.Wire
+datagram_unsent a b i j datagram is rose = record {
+  fault_is = refl;
+  count = 0;
+  within = omega arith;
+  passes = subst (λ (told : WireTold). Passes a told [] []) (sym is) (passes_none a);
+  rose = rose;
+}

@@ -1,0 +1,192 @@
+-- The whole command: workers are started, the wire listens, datagrams are received, and the answer
+-- made.
+use Rattle.std.proofs.Common.{◌≡◌, ℕ, List, [], ◌∷◌, Option, refl, ap, ◌∙◌, arith, inl, inr}
+use Rattle.std.specs.Prelude.{Ok, Err, ◌⊎◌}
+use Rattle.decode_command.specs.Decoding.{HasStarted, HasGivenWork}
+use Rattle.decode_command.specs.Hearing.{HasOffered}
+use Rattle.decode_command.proofs.Asking.{nothing_offered}
+use Rattle.link_model.specs.Judgement.{tally_of, no_counts, with_sessions, outcomes_behind}
+use Rattle.link_model.specs.Output.{full_output, all_output}
+use Rattle.link_model.specs.declared.tally.Tally.{Tally}
+use Rattle.link_receiver.specs.HeardLists.{AskedPlaces}
+use Rattle.link_receiver.specs.States.{ReceiverState}
+use Rattle.link_receiver.proofs.Asked.{grows_twice}
+use Rattle.link_report.specs.declared.answer.Answer.TheVariants.{Done, Stopped, Drained}
+use Rattle.link_report.specs.declared.ending.Ending.{Ending}
+use Rattle.link_report.specs.declared.ending.Ending.TheVariants.{NoMemory, OutputFailed, PacketLimit, WireFailed}
+use Rattle.link_report.specs.declared.summary.Summary.TheVariants.{Judged}
+use Rattle.recv_command.specs.Listening.{ReceivesAll}
+use Rattle.recv_command.specs.Receiving.{ReceivesFrom, as_entries}
+use Rattle.recv_command.specs.declared.command.Stop.TheVariants.{Ended, Failed, AtLimit}
+use Rattle.vc_ports.specs.Changes.{Change, OutputChange, WireChange, HasRisen, Stays}
+use Rattle.vc_ports.specs.Wires.{WireTold, listening}
+use Rattle.vc_ports.proofs.Growing.{Grew-none, GrewBySome-none}
+use Rattle.vc_slice.specs.Asked.{Told, Grows, told_more, starting}
+
+-- ---- workers
+
+-- workers were started, and then slices were offered
+gave_work : (window workers : ℕ) (heard : List (List ℕ)) (before mid after : Option Told) → Grows before mid (starting workers (Ok tt))
+    → HasOffered window heard (record { before = mid; after = after })
+    → HasGivenWork window workers (record { before = before; after = after }) (as_entries heard)
+gave_work window workers heard before mid after grew told = record {
+  more = told_more (starting workers (Ok tt)) told.more;
+  grows = grows_twice before mid after (starting workers (Ok tt)) told.more grew told.grows;
+  started = ap (λ (l : List ℕ). workers ∷ l) told.started;
+  offered = told.offered;
+}
+
+-- workers were started, and then places were asked
+started : (workers : ℕ) (before mid after : Option Told) → Grows before mid (starting workers (Ok tt)) → AskedPlaces mid after
+    → HasStarted workers (record { before = before; after = after })
+started workers before mid after grew asked = record {
+  more = told_more (starting workers (Ok tt)) asked.more;
+  grows = grows_twice before mid after (starting workers (Ok tt)) asked.more grew asked.grows;
+  started = ap (λ (l : List ℕ). workers ∷ l) asked.started;
+}
+
+-- ---- answers that differ
+
+failed_at : (tally other : Tally) (end : Ending) → Drained tally end ≡ Drained other WireFailed → end ≡ WireFailed
+failed_at tally other end same = cc
+
+limit_is_failed : (limit : ℕ) → PacketLimit limit ≡ WireFailed → ⊥
+limit_is_failed limit same = cc
+
+drained_is_stopped : (tally : Tally) (end other : Ending) → Drained tally end ≡ Stopped other → ⊥
+drained_is_stopped tally end other same = cc
+
+done_is_drained : (tally other : Tally) → Done (Judged tally) ≡ Drained other WireFailed → ⊥
+done_is_drained tally other same = cc
+
+done_is_stopped : (tally : Tally) (other : Ending) → Done (Judged tally) ≡ Stopped other → ⊥
+done_is_stopped tally other same = cc
+
+stopped_is_drained : (end : Ending) (other : Tally) → Stopped end ≡ Drained other WireFailed → ⊥
+stopped_is_drained end other same = cc
+
+no_memory_is_fault : Stopped NoMemory ≡ Stopped OutputFailed → ⊥
+no_memory_is_fault same = cc
+
+-- ---- nothing was heard
+
+nothing_written : (window : ℕ) → full_output window [] ≡ []
+unfolding full_output all_output
+nothing_written window = refl
+
+nothing_counted : (window : ℕ) → no_counts ≡ tally_of window []
+unfolding tally_of with_sessions outcomes_behind
+nothing_counted window = refl
+
+-- workers were started, and nothing was offered
+pub just_started : (workers : ℕ) (before after : Option Told) → Grows before after (starting workers (Ok tt))
+    → HasStarted workers (record { before = before; after = after })
+just_started workers before after grew = record { more = starting workers (Ok tt); grows = grew; started = refl }
+
+-- there was no memory
+pub not_begun : (window workers packets sessions : ℕ) (at : List ℕ) (wire : WireChange) (output : OutputChange) (hands : Change (Option Told))
+    → wire.told.after ≡ wire.told.before → output.held.after ≡ output.held.before → HasStarted workers hands ⊎ Stays hands
+    → ReceivesFrom window workers packets sessions at (Stopped NoMemory) wire output hands
+not_begun window workers packets sessions at wire output hands wire_stays output_stays at_most = record {
+  heard = [];
+  few = omega arith;
+  ended = (inr (refl, wire_stays), rw output_stays (GrewBySome-none output.held.before _));
+  wire_failed = λ failed. absurd (stopped_is_drained NoMemory failed.0 failed.1);
+  output_failed = λ failed. absurd (no_memory_is_fault failed);
+  workers_started = at_most;
+}
+
+-- the wire didn't come to listen
+pub not_listening : (window workers packets sessions : ℕ) (at : List ℕ) (wire : WireChange) (output : OutputChange) (before after : Option Told) (tally : Tally)
+    → wire.told.after ≡ wire.told.before → output.held.after ≡ output.held.before → tally ≡ no_counts
+    → HasRisen wire.faults → Grows before after (starting workers (Ok tt))
+    → ReceivesFrom window workers packets sessions at (Drained tally WireFailed) wire output (record { before = before; after = after })
+not_listening window workers packets sessions at wire output before after tally wire_stays output_stays none rose grew = record {
+  heard = [];
+  few = omega arith;
+  ended = (
+    inr (refl, wire_stays),
+    record {
+      wrote = rw (nothing_written window, output_stays) (Grew-none output.held.before);
+      tally_is = none ∙ nothing_counted window;
+    },
+  );
+  wire_failed = λ failed. rose;
+  output_failed = λ failed. absurd (drained_is_stopped tally WireFailed OutputFailed failed);
+  workers_started = gave_work window workers [] before after after grew (nothing_offered window after);
+}
+
+-- ---- datagrams were heard
+
+module _ (window workers packets sessions : ℕ) (at : List ℕ) (receiver : ReceiverState) (before mid after : WireTold) (is : mid ≡ listening before at) (first second : Change ℕ) (output : OutputChange)
+    (told_before told_mid told_after : Option Told) (grew : Grows told_before told_mid (starting workers (Ok tt))) where
+  abbrev behind : WireChange
+  behind = record { told = record { before = mid; after = after }; faults = first }
+
+  abbrev wire : WireChange
+  wire = record { told = record { before = before; after = after }; faults = second }
+
+  abbrev hands : Change (Option Told)
+  hands = record { before = told_before; after = told_after }
+
+  abbrev offered : Change (Option Told)
+  offered = record { before = told_mid; after = told_after }
+
+  module _ (tally : Tally) (counted : tally ≡ receiver.reception.counts) where
+    -- up to the end
+    pub done : ReceivesAll window packets sessions (Ok Ended) receiver behind output offered
+        → ReceivesFrom window workers packets sessions at (Done (Judged tally)) wire output hands
+    done st = record {
+      heard = st.0;
+      few = st.1.few;
+      ended = (rw is at st.1.gave, st.2, record { wrote = st.1.wrote; tally_is = counted ∙ st.1.counted });
+      wire_failed = λ failed. absurd (done_is_drained tally failed.0 failed.1);
+      output_failed = λ failed. absurd (done_is_stopped tally OutputFailed failed);
+      workers_started = gave_work window workers st.0 told_before told_mid told_after grew st.1.offered;
+    }
+
+    -- until a receive failed
+    pub failed : ReceivesAll window packets sessions (Ok Failed) receiver behind output offered → HasRisen second
+        → ReceivesFrom window workers packets sessions at (Drained tally WireFailed) wire output hands
+    failed st rose = record {
+      heard = st.0;
+      few = st.1.few;
+      ended = (inl (rw is at st.1.gave), record { wrote = st.1.wrote; tally_is = counted ∙ st.1.counted });
+      wire_failed = λ failed. rose;
+      output_failed = λ failed. absurd (drained_is_stopped tally WireFailed OutputFailed failed);
+      workers_started = gave_work window workers st.0 told_before told_mid told_after grew st.1.offered;
+    }
+
+    -- so many
+    pub limited : ReceivesAll window packets sessions (Ok AtLimit) receiver behind output offered
+        → ReceivesFrom window workers packets sessions at (Drained tally (PacketLimit packets)) wire output hands
+    limited st = record {
+      heard = st.0;
+      few = st.1.few;
+      ended = (rw is at st.1.gave, st.2, record { wrote = st.1.wrote; tally_is = counted ∙ st.1.counted });
+      wire_failed = λ failed. absurd (limit_is_failed packets (failed_at tally failed.0 (PacketLimit packets) failed.1));
+      output_failed = λ failed. absurd (drained_is_stopped tally (PacketLimit packets) OutputFailed failed);
+      workers_started = gave_work window workers st.0 told_before told_mid told_after grew st.1.offered;
+    }
+
+  -- until memory ran out, or the output failed
+  pub stopped : (end : Ending) → AskedPlaces told_mid told_after → ReceivesAll window packets sessions (Err end) receiver behind output offered
+      → (end ≡ OutputFailed → HasRisen output.faults)
+      → ReceivesFrom window workers packets sessions at (Stopped end) wire output hands
+  stopped NoMemory asked st cause = record {
+    heard = st.0;
+    few = st.1.few;
+    ended = (inl (rw is at st.1.gave), st.1.wrote);
+    wire_failed = λ failed. absurd (stopped_is_drained NoMemory failed.0 failed.1);
+    output_failed = λ failed. absurd (no_memory_is_fault failed);
+    workers_started = inl (started workers told_before told_mid told_after grew asked);
+  }
+  stopped OutputFailed asked st cause = record {
+    heard = st.0;
+    few = st.1.few;
+    ended = (rw is at st.1.gave, st.1.wrote);
+    wire_failed = λ failed. absurd (stopped_is_drained OutputFailed failed.0 failed.1);
+    output_failed = λ failed. cause refl;
+    workers_started = started workers told_before told_mid told_after grew asked;
+  }
+  stopped end asked st cause = absurd st.2

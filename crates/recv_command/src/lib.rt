@@ -1,0 +1,9 @@
+//! `recv`: datagrams from a wire to raw frames, up to the end of a session.
+#![tactic(auto)]
+
+mod command;
+
+pub use command::recv;
+
+#[cfg(test)]
+mod tests;

@@ -1,0 +1,3 @@
+pub mod EndOutcomes
+pub mod Counting
+pub mod Rising
