@@ -1,0 +1,3 @@
+pub mod ByteSamples
+pub mod Completing
+pub mod Writing

@@ -1,0 +1,158 @@
+-- A picture that was sent at index 0 decodes to its planes.
+use Rattle.std.proofs.Common.{◌≡◌, ◌<◌, ◌≤◌, ℕ, zero, suc, ◌+◌, ◌-◌, ◌^◌, ℤ, pos, ◌-ℤ◌, unsigned_abs, Bool, false, List, [], ◌∷◌, ◌++◌, length, map, drop, Some, Result, Ok, Err, refl, ap, ◌∙◌, arith, append_assoc}
+use Rattle.std.specs.Prelude.{IsTrue, min, slice_get, take}
+use Rattle.std.specs.List.{enumerate_from, range_with_len, list_any}
+use Rattle.std.proofs.lemmas.Option.{none-some, same_Some}
+use Rattle.std.specs.Option.{option_map}
+use Rattle.std.proofs.lemmas.Bool.{lt-leb}
+use Rattle.std.proofs.lemmas.Int.{ints}
+use Rattle.std.proofs.Math.Pow.{pow_mono}
+use Rattle.std.proofs.Math.Seq.{drop-append_seam}
+use Rattle.field_pairs.specs.Sizes.{IsWhole}
+use Rattle.link_model.specs.SendingPictures.{plane_in, sent_cells, number_in, numbers_in_slice, HasSides, packed_bits, sent_coefficients, sent_slice, sent_slices}
+use Rattle.index_zero.proofs.SentPlanes.{length-own, plane_back}
+use Rattle.vc_types.specs.Bits.{bits_of}
+use Rattle.vc_types.specs.declared.refusal.ParamsRefusal.{ParamsRefusal}
+use Rattle.vc_types.specs.declared.video.Component.{Component}
+use Rattle.vc_types.specs.declared.video.Component.TheVariants.{Y, C1, C2}
+use Rattle.vc_types.specs.Encoding.{encoded_slice, is_too_long}
+use Rattle.vc_types.specs.Fields.{joined}
+use Rattle.vc_types.specs.Pictures.{slices_from, decoded_picture, with_parameters, with_slices, Picture}
+use Rattle.vc_types.specs.Planes.{Planes, planes_of, decoded_planes}
+use Rattle.vc_types.specs.Rasters.{sample_at}
+use Rattle.vc_types.specs.SequenceHeader.{Sequence, bytes_used, with_bytes_used}
+use Rattle.vc_types.specs.Slices.{Coefficients, coefficients_of, coded_slice, is_large}
+use Rattle.vc_types.specs.Subbands.{slice_count, slice_coefficient_count, coefficient_place, plane_width, plane_height, plane_depth}
+use Rattle.vc_types.specs.TransformParameters.{Parameters, is_symmetric, transform_parameters, coded_parameters}
+use Rattle.vc_types.specs.Transforms.{forward_transform, padded_plane, lowest_width, lowest_height}
+use Rattle.index_zero.proofs.CodedSlices.{coded, coded_slice-encoded}
+use Rattle.vc_types.proofs.FieldCodecs.{ok_is}
+use Rattle.index_zero.proofs.LosslessSlices.{AreCoefficients, decoded_slice-coded}
+use Rattle.vc_wave.specs.Planes.{AreBelow}
+use Rattle.vc_wave.proofs.PlaneGrowth.{forward_below}
+
+-- ---- slices one after another
+
+-- a slice at index 0
+abbrev pub at_zero : Parameters → Planes → ℕ → List ℕ
+at_zero p planes n = sent_slice p planes n 0
+
+zero_small : 0 < 256
+zero_small = omega arith
+
+module _ (p : Parameters) (planes : Planes) (some : 0 < p.scaler) (fits : (n : ℕ) → n < slice_count p → is_too_long p n 0 (sent_coefficients p planes n) ≡ false) (are : (n : ℕ) → AreCoefficients p n (sent_coefficients p planes n)) where
+  slices_back : (i n : ℕ) (behind : List ℕ) → i + n ≤ slice_count p → slices_from p i n (joined (map (at_zero p planes) (range_with_len i n)) ++ behind) ≡ Ok (map (sent_coefficients p planes) (range_with_len i n), behind)
+  unfolding slices_from sent_slice
+  slices_back i zero behind within = refl
+  slices_back i (suc n) behind within =
+      let fit = fits i (omega (arith, within)) in
+      let s : Coefficients = sent_coefficients p planes i in
+      let own : List ℕ = packed_bits (encoded_slice p i 0 s) in
+      let rest : List ℕ = joined (map (at_zero p planes) (range_with_len (i + 1) n)) in
+      let first : coded_slice p.prefix p.scaler ((own ++ rest) ++ behind) ≡ Ok (coded p i 0 s some zero_small fit, rest ++ behind) = ap (coded_slice p.prefix p.scaler) (append_assoc own rest behind) ∙ coded_slice-encoded p i 0 s some zero_small fit (rest ++ behind) in
+      let is = decoded_slice-coded p i s some zero_small fit (are i) in
+      let others = slices_back (i + 1) n behind (omega (arith, within)) in
+      rw first (rw is (rw others refl))
+
+-- ---- a whole picture
+
+with_params : (bytes : List ℕ) (n : ℕ) (p : Parameters) (read : Result (Parameters × List Bool) ParamsRefusal) → with_bytes_used bytes read ≡ Ok (p, n) → with_parameters bytes read ≡ with_slices p (slices_from p 0 (slice_count p) (drop n bytes))
+with_params bytes n p (Ok read) is =
+    let same : (read.0, bytes_used bytes read.1) ≡ (p, n) = ok_is {E = ParamsRefusal} (read.0, bytes_used bytes read.1) (p, n) is in
+    ap (λ (w : Parameters × ℕ). with_slices w.0 (slices_from w.0 0 (slice_count w.0) (drop w.1 bytes))) same
+with_params bytes n p (Err refusal) is = absurd cc
+
+-- what a plane of a picture has to be
+pub record IsSound (p : Parameters) (planes : Planes) (c : Component) : Type 0 where
+  pub size : HasSides (plane_width p.shape c) (plane_height p.shape c) (plane_in planes c)
+  pub all_there : IsWhole (plane_in planes c)
+  pub some_bits : 1 ≤ plane_depth p.shape c
+  pub few_bits : plane_depth p.shape c ≤ 16
+  pub samples : (x y : ℕ) → sample_at (plane_in planes c) x y < 2 ^ plane_depth p.shape c
+
+-- ---- coefficients are small
+
+less_half : (s half : ℕ) → s < 2 ^ 16 → half ≤ 2 ^ 15 → unsigned_abs (pos s -ℤ pos half) < 2 ^ 16
+less_half s half a b = omega (arith, ints, a, b)
+
+module _ (p : Parameters) (planes : Planes) (c : Component) (sound_plane : IsSound p planes c) (levels : p.depth ≤ 5) where
+  plane_below : AreBelow (2 ^ 16) (padded_plane p c (sample_at (plane_in planes c)))
+  unfolding padded_plane
+  plane_below x y =
+      let column : ℕ = min x (plane_width p.shape c - 1) in
+      let row : ℕ = min y (plane_height p.shape c - 1) in
+      less_half (sample_at (plane_in planes c) column row) (2 ^ (plane_depth p.shape c - 1))
+      (omega (arith, sound_plane.samples column row, pow_mono {i = plane_depth p.shape c} {j = 16} sound_plane.few_bits))
+      (pow_mono {i = plane_depth p.shape c - 1} {j = 15} (omega (arith, sound_plane.few_bits)))
+
+  pub cells_below : (x y : ℕ) → unsigned_abs (sent_cells p planes c x y) < 2 ^ 60
+  unfolding sent_cells forward_transform
+  cells_below = forward_below p.wavelet p.depth (lowest_width p c) (lowest_height p c) (padded_plane p c (sample_at (plane_in planes c))) (sent_cells p planes c) levels refl plane_below
+
+none_large : (f : ℕ → ℤ) → ((i : ℕ) → unsigned_abs (f i) < 2 ^ 60) → (l : List ℕ) → list_any is_large (map f l) ≡ false
+none_large f small [] = refl
+none_large f small (i ∷ l) =
+    let own : is_large (f i) ≡ false = lt-leb (2 ^ 60) (unsigned_abs (f i)) (small i) in
+    rw (own, none_large f small l) refl
+
+-- ---- the picture
+
+pub record IsSendable (p : Parameters) (planes : Planes) : Type 0 where
+  pub scaler : 0 < p.scaler
+  pub symmetric : IsTrue (is_symmetric p)
+  pub across : 0 < p.slices_x
+  pub down : 0 < p.slices_y
+  pub levels : p.depth ≤ 5
+  pub each : (c : Component) → IsSound p planes c
+  pub slices : (n : ℕ) → n < slice_count p → is_too_long p n 0 (sent_coefficients p planes n) ≡ false
+
+module _ (p : Parameters) (planes : Planes) (is : IsSendable p planes) where
+  small_in : (c : Component) (n : ℕ) → list_any is_large (numbers_in_slice p c (sent_cells p planes c) n) ≡ false
+  unfolding numbers_in_slice
+  small_in c n = none_large (λ i. number_in (sent_cells p planes c) (coefficient_place p c n i)) (λ i. cells_below p planes c (is.each c) is.levels (coefficient_place p c n i).0 (coefficient_place p c n i).1) (range_with_len 0 (slice_coefficient_count p c n))
+
+  small_of : (n : ℕ) (c : Component) → list_any is_large (coefficients_of (sent_coefficients p planes n) c) ≡ false
+  unfolding sent_coefficients
+  small_of n Y = small_in Y n
+  small_of n C1 = small_in C1 n
+  small_of n C2 = small_in C2 n
+
+  pub are_coefficients : (n : ℕ) → AreCoefficients p n (sent_coefficients p planes n)
+  are_coefficients n = record { lengths = λ c. length-own p planes is.across is.down c n; small = small_of n }
+
+  -- the slices of a picture at index 0
+  abbrev pub slices_at_zero : List (List ℕ)
+  slices_at_zero = map (at_zero p planes) (range_with_len 0 (slice_count p))
+
+  planes_back : planes_of p (map (sent_coefficients p planes) (range_with_len 0 (slice_count p))) ≡ planes
+  planes_back = λ i. record {
+    y = plane_back p planes is.across is.down Y (is.each Y).size (is.each Y).all_there is.symmetric (is.each Y).some_bits (is.each Y).samples i;
+    c1 = plane_back p planes is.across is.down C1 (is.each C1).size (is.each C1).all_there is.symmetric (is.each C1).some_bits (is.each C1).samples i;
+    c2 = plane_back p planes is.across is.down C2 (is.each C2).size (is.each C2).all_there is.symmetric (is.each C2).some_bits (is.each C2).samples i;
+  }
+
+  -- parameters that are read as these, and behind them the slices, decode to the planes
+  pub decoded_planes-sent : (sequence : Sequence) (bytes behind : List ℕ) → ((more : List ℕ) → coded_parameters sequence (bytes ++ more) ≡ Ok (p, length bytes)) → decoded_planes sequence (bytes ++ (joined slices_at_zero ++ behind)) ≡ Some planes
+  unfolding decoded_planes decoded_picture
+  decoded_planes-sent sequence bytes behind read =
+      let whole : List ℕ = bytes ++ (joined slices_at_zero ++ behind) in
+      let coefficients : List Coefficients = map (sent_coefficients p planes) (range_with_len 0 (slice_count p)) in
+      let picture : with_parameters whole (transform_parameters sequence (bits_of whole)) ≡ Some (record { parameters = p; slices = coefficients }) =
+      with_params whole (length bytes) p (transform_parameters sequence (bits_of whole)) (read (joined slices_at_zero ++ behind))
+      ∙ ap (λ (l : List ℕ). with_slices p (slices_from p 0 (slice_count p) l)) (drop-append_seam bytes (joined slices_at_zero ++ behind))
+      ∙ ap (with_slices p) (slices_back p planes is.scaler is.slices are_coefficients 0 (slice_count p) behind (omega arith)) in
+      ap (option_map (λ (q : Picture). planes_of q.parameters q.slices)) picture
+      ∙ ap (λ (q : Planes). Some q) planes_back
+
+-- at indices that are all 0 the slices are these
+zeros_at : (p : Parameters) (planes : Planes) (i n : ℕ) (indices : List ℕ) → ((k : ℕ) → k < n → slice_get indices k ≡ Some 0)
+    → map (λ z. sent_slice p planes z.0 z.1) (enumerate_from i (take n indices)) ≡ map (at_zero p planes) (range_with_len i n)
+zeros_at p planes i zero indices zeros = refl
+zeros_at p planes i (suc n) [] zeros = absurd (none-some 0 (zeros 0 (omega arith)))
+zeros_at p planes i (suc n) (index ∷ indices) zeros =
+    let own : index ≡ 0 = same_Some index 0 (zeros 0 (omega arith)) in
+    (λ j. sent_slice p planes i (own j) ∷ zeros_at p planes (i + 1) n indices (λ k h. zeros (suc k) (omega (arith, h))) j)
+
+pub sent_slices-zero : (p : Parameters) (planes : Planes) (is : IsSendable p planes) (indices : List ℕ) → ((k : ℕ) → k < slice_count p → slice_get indices k ≡ Some 0) → sent_slices p planes indices ≡ slices_at_zero p planes is
+unfolding sent_slices
+sent_slices-zero p planes is indices zeros = zeros_at p planes 0 (slice_count p) indices zeros

@@ -1,0 +1,69 @@
+-- What a receiver hears of a sender's stream, and what is there in time.
+use Rattle.std.specs.Prelude.{◌≡◌, ◌<◌, ◌≤◌, ℕ, ◌+◌, ◌%◌, ◌^◌, ◌==◌, Bool, true, false, ◌&&◌, List, [], ◌∷◌, length, take, slice_get, Option, Some, None, Ok}
+use Rattle.std.specs.List.{Contains, count_by}
+use Rattle.link_model.specs.Kept.{SliceRun, waiting_limit}
+use Rattle.link_model.specs.Numbers.{Numbered, is_opened}
+use Rattle.link_model.specs.Output.{closing_place, entered_behind}
+use Rattle.link_model.specs.Sending.{ParametersContent, SlicesContent, frames_outgoing, number_bits, outgoing, sent_datagram}
+use Rattle.link_model.specs.SendingPictures.{sent_sequence}
+use Rattle.link_model.specs.Session.{Fragment, HeardSession, ParamsPart, Part, Received, Session, SlicesPart, fragment_in, received, sessions_of}
+use Rattle.vc_types.specs.Planes.{Planes}
+use Rattle.vc_types.specs.SenderSettings.{Sending}
+
+-- ---- whose datagrams they are
+
+-- One session is heard of datagrams. It is the sender's, and each datagram that is read and is of
+-- its source is one of the stream that was sent. So much is known where each datagram that is read
+-- and isn't foreign is one of the stream.
+pub record IsHeardOf (s : Sending) (stream datagrams : List (List ℕ)) (h : HeardSession)
+    : Type 0 where
+  pub one : sessions_of datagrams ≡ h ∷ []
+  pub ssrc : h.session.ssrc ≡ s.ssrc
+  pub sequence : h.session.sequence ≡ sent_sequence s
+  pub sent : (datagram : List ℕ) (r : Received) → Contains datagrams datagram
+      → received datagram ≡ Ok r → r.ssrc ≡ s.ssrc → Contains stream datagram
+
+-- what was entered of the only session
+abbrev pub entered_of : ℕ → HeardSession → List Numbered
+entered_of window h = entered_behind window [] h
+
+-- the number that a receiver gives a picture: it is opened, and has the picture's 32 bits
+pub record IsNumberOf (s : Sending) (es : List Numbered) (picture number : ℕ) : Type 0 where
+  pub opened : is_opened es number ≡ true
+  pub bits : number % 2 ^ 32 ≡ number_bits s picture
+
+-- ---- what is there in time
+
+-- a datagram stands behind the one that opens the session, and before the close of a picture
+pub record IsInTime (window : ℕ) (datagrams : List (List ℕ)) (number : ℕ) (datagram : List ℕ)
+    (place : ℕ) : Type 0 where
+  pub at : slice_get datagrams place ≡ Some datagram
+  pub behind : 1 ≤ length (sessions_of (take place datagrams))
+  pub before : place < closing_place window datagrams number
+
+abbrev pub has_slices : Part → Bool
+has_slices (ParamsPart body) = false
+has_slices (SlicesPart slices) = true
+
+abbrev pub has_slices_of : ℕ → Option Fragment → Bool
+has_slices_of bits None = false
+has_slices_of bits (Some f) = f.number == bits && has_slices f.part
+
+-- how many datagrams have slices of the pictures whose number has these 32 bits
+abbrev pub slice_datagrams : Session → ℕ → List (List ℕ) → ℕ
+slice_datagrams session bits datagrams =
+    count_by (λ d. has_slices_of bits (fragment_in session d)) datagrams
+
+-- All datagrams with a picture's parameters or slices are there in time, the parameters behind at
+-- most as many datagrams of its slices as wait for them.
+pub record IsHeardInTime (window : ℕ) (s : Sending) (indices : List ℕ) (frames : List Planes)
+    (datagrams : List (List ℕ)) (session : Session) (picture number : ℕ) : Type 0 where
+  pub slices : (k : ℕ) (run : SliceRun)
+      → slice_get (frames_outgoing s indices frames) k ≡ Some (outgoing picture (SlicesContent run))
+      → (place : ℕ) × IsInTime window datagrams number
+      (sent_datagram s (s.seq + k) (outgoing picture (SlicesContent run))) place
+  pub parameters : (k : ℕ)
+      → slice_get (frames_outgoing s indices frames) k ≡ Some (outgoing picture ParametersContent)
+      → (place : ℕ) × IsInTime window datagrams number
+      (sent_datagram s (s.seq + k) (outgoing picture ParametersContent)) place
+      × (slice_datagrams session (number_bits s picture) (take place datagrams) ≤ waiting_limit)

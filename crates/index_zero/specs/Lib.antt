@@ -1,0 +1,3 @@
+pub mod HeardStreams
+pub mod FramesToSend
+pub mod IndexZero
