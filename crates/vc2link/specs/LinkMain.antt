@@ -1,7 +1,8 @@
 -- What vc2link did, by what its words mean and by the status that it answered.
-use Rattle.std.specs.Prelude.{◌≡◌, ◌⊎◌, ℕ, Bool, true, false, Option, IsTrue, IsFalse, IsSomeAnd, if◌then◌else◌, Result, Ok, Err}
+use Rattle.std.specs.Prelude.{◌≡◌, ◌⊎◌, ℕ, Bool, true, false, not, List, Option, IsTrue, IsFalse, IsSomeAnd, if◌then◌else◌, Result, Ok, Err}
 use Rattle.decode_command.specs.Decoding.{Decodes, IsDecodable}
 use Rattle.encode_command.specs.Encodes.{Encodes, IsEncodable}
+use Rattle.gen_command.specs.Generating.{Generates}
 use Rattle.link_report.specs.Answers.{Reports, answer_of}
 use Rattle.link_report.specs.declared.answer.Answer.{Answer}
 use Rattle.link_report.specs.declared.answer.Answer.TheVariants.{Stopped}
@@ -9,10 +10,12 @@ use Rattle.link_report.specs.declared.ending.Ending.{Ending}
 use Rattle.link_report.specs.declared.ending.Ending.TheVariants.{Usage}
 use Rattle.link_report.specs.declared.summary.Summary.{Summary}
 use Rattle.link_words.specs.Settings.{Meaning, ToDecode, ToEncode, ToSend, ToRecv, ToLoop, ToUnpack, ToPack, ToPlay, ToGen}
+use Rattle.pack_command.specs.Packs.{Packs, IsPackable, pack_settings}
 use Rattle.play_command.specs.Playing.{Plays, IsPlayable}
+use Rattle.recv_command.specs.Receiving.{ReceivesFrom, IsReceivable}
 use Rattle.vc_ports.specs.Changes.{Change, InputChange, OutputChange, WireChange, HasRisen}
 use Rattle.vc_slice.specs.Asked.{Told}
-use Rattle.vc_types.specs.SenderSettings.{Sending}
+use Rattle.vc_types.specs.SenderSettings.{Generating, Packing, Sending}
 
 -- ---- what was done
 
@@ -57,18 +60,21 @@ abbrev pub calls_of : Meaning → Calls
 calls_of (ToDecode window workers packets) = calls true true false true true
 calls_of (ToEncode sender frames) = calls true true false false true
 calls_of (ToSend sender frames to) = calls true false true false true
-calls_of (ToRecv window workers packets at) = calls false true true true true
+calls_of (ToRecv window workers packets sessions at) = calls false true true true true
 calls_of (ToLoop sender frames window workers at) = calls true true true true true
 calls_of (ToUnpack window workers packets) = calls true true false true true
 calls_of (ToPack packets size ssrc pt seq tick) = calls true true false false true
 calls_of (ToPlay packets) = calls true true false false true
-calls_of (ToGen generator check window workers) = calls false true false check true
+calls_of (ToGen generator check window workers) = calls false (not check) false check true
 
 -- the commands that are built
 abbrev pub is_built : Meaning → Bool
 is_built (ToDecode window workers packets) = true
 is_built (ToEncode sender frames) = true
+is_built (ToRecv window workers packets sessions at) = true
+is_built (ToPack packets size ssrc pt seq tick) = true
 is_built (ToPlay packets) = true
+is_built (ToGen generator check window workers) = not check
 is_built meaning = false
 
 -- Words outside the grammar are refused in the report, and a form that is not built calls nothing.
@@ -91,16 +97,40 @@ pub record EncodesTo (sender : Sending) (frames status : ℕ) (c : Changes) : Ty
   pub encodes : Encodes sender frames answer c.input c.output
   pub reports : Reports (answer_of answer) status c.report
 
+-- datagrams were received at the address, and the report says how that ended
+pub record ReceivesTo (window workers packets sessions : ℕ) (at : List ℕ) (status : ℕ) (c : Changes)
+    : Type 0 where
+  pub answer : Answer
+  pub receives : ReceivesFrom window workers packets sessions at answer c.wire c.output c.hands
+  pub reports : Reports answer status c.report
+
+-- the pictures of the stream were packed, and the report says how that ended
+pub record PacksTo (packets : ℕ) (packing : Packing) (status : ℕ) (c : Changes) : Type 0 where
+  pub answer : Result Summary Ending
+  pub packs : Packs packets packing answer c.input c.output
+  pub reports : Reports (answer_of answer) status c.report
+
 -- the stream was played, and the report says how it ended
 pub record PlaysTo (packets status : ℕ) (c : Changes) : Type 0 where
   pub answer : Result Summary Ending
   pub plays : Plays packets answer c.input c.output
   pub reports : Reports (answer_of answer) status c.report
 
+-- frames were generated, and the report says how that ended
+pub record GeneratesTo (generator : Generating) (status : ℕ) (c : Changes) : Type 0 where
+  pub answer : Result Summary Ending
+  pub generates : Generates generator answer c.output
+  pub reports : Reports (answer_of answer) status c.report
+
 abbrev pub Did : Meaning → ℕ → Changes → Type 0
 Did (ToDecode window workers packets) status c = DecodesTo window workers packets status c
 Did (ToEncode sender frames) status c = EncodesTo sender frames status c
+Did (ToRecv window workers packets sessions at) status c =
+    ReceivesTo window workers packets sessions at status c
+Did (ToPack packets size ssrc pt seq tick) status c =
+    PacksTo packets (pack_settings size ssrc pt seq tick) status c
 Did (ToPlay packets) status c = PlaysTo packets status c
+Did (ToGen generator check window workers) status c = GeneratesTo generator status c
 Did meaning status c = ⊥
 
 -- ---- the status
@@ -112,13 +142,19 @@ pub record HasNoFault (c : Changes) : Type 0 where
   pub report : HasRisen c.report.faults → ⊥
   pub wire : HasRisen c.wire.faults → ⊥
 
--- The input tells its bytes, which end where the command may end, and are accepted: a row for each command that is built.
+-- The input, or the wire, tells what comes, which ends where the command may end, and is accepted: a row for each command that
+-- is built. What reads nothing ends well.
 abbrev pub EndsWell : Meaning → Changes → Type 0
 EndsWell (ToDecode window workers packets) c =
     IsSomeAnd c.input.left.before (IsDecodable packets)
 EndsWell (ToEncode sender frames) c =
     IsSomeAnd c.input.left.before (IsEncodable sender frames)
+EndsWell (ToRecv window workers packets sessions at) c =
+    IsSomeAnd c.wire.told.before.coming (IsReceivable packets sessions)
+EndsWell (ToPack packets size ssrc pt seq tick) c =
+    IsSomeAnd c.input.left.before (IsPackable (pack_settings size ssrc pt seq tick) packets)
 EndsWell (ToPlay packets) c = IsSomeAnd c.input.left.before (IsPlayable packets)
+EndsWell (ToGen generator check window workers) c = Unit {0}
 EndsWell meaning c = ⊥
 
 -- The command came to its end, where no count of faults rose and the input ends well, unless memory ran out.

@@ -6,9 +6,12 @@ ghost use Rattle.vc2link.specs.LinkMain.{changes, is_built, may_call, Obeys};
 
 use decode_command::decode;
 use encode_command::encode;
+use gen_command::generate;
 use link_report::{Answer, Ending, write_answer};
 use link_words::{Settings, read_words};
+use pack_command::pack;
 use play_command::play;
+use recv_command::recv;
 use std::alloc::Global;
 use std::thread::Threads;
 use vc_ports::{Sink, Source, Wire};
@@ -18,9 +21,9 @@ use vc_types::Words;
 const UNBUILT: u8 = 1;
 
 /// Does what the words say, and answers the status. The words are those behind the program's name.
-#[tactic(auto, using(crate::proofs::Ends::unbuilt_does, crate::proofs::Ends::decode_does, crate::proofs::Ends::encode_does, crate::proofs::Ends::play_does))]
+#[tactic(auto, using(crate::proofs::Ends::unbuilt_does, crate::proofs::Ends::decode_does, crate::proofs::Ends::encode_does, crate::proofs::Ends::recv_does, crate::proofs::Ends::pack_does, crate::proofs::Ends::play_does, crate::proofs::Ends::gen_does))]
 pub fn link_main<H: Threads + Copy + Send + Sync, S: Source, O: Sink, E: Sink, N: Wire, P: Hands>(
-    _rt: H,
+    rt: H,
     alloc: Global,
     words: &Words,
     input: &mut S,
@@ -56,11 +59,48 @@ pub fn link_main<H: Threads + Copy + Send + Sync, S: Source, O: Sink, E: Sink, N
             write_answer(alloc, report, &answer)
         }
         Ok(Settings::Encode { sender, frames }) => {
-            let answer = Answer::from(encode(alloc, &sender, frames, input, output));
+            let answer = Answer::from(encode(rt, alloc, &sender, frames, input, output));
             write_answer(alloc, report, &answer)
+        }
+        Ok(
+            Settings::Recv {
+                window,
+                workers,
+                packets,
+                sessions,
+                at,
+            },
+        ) => {
+            let answer = recv(
+                alloc, window, workers, packets, sessions, at, wire, output, hands,
+            );
+            write_answer(alloc, report, &answer)
+        }
+        Ok(
+            Settings::Pack {
+                packets,
+                size,
+                ssrc,
+                pt,
+                seq,
+                tick,
+            },
+        ) => {
+            let packed = pack(alloc, packets, size, ssrc, pt, seq, tick, input, output);
+            write_answer(alloc, report, &Answer::from(packed))
         }
         Ok(Settings::Play { packets }) => {
             let answer = Answer::from(play(alloc, packets, input, output));
+            write_answer(alloc, report, &answer)
+        }
+        Ok(
+            Settings::Gen {
+                frames_of,
+                check: false,
+                ..
+            },
+        ) => {
+            let answer = Answer::from(generate(alloc, &frames_of, output));
             write_answer(alloc, report, &answer)
         }
         Ok(_) => unreachable!(),
@@ -77,6 +117,11 @@ fn is_built(settings: &Settings<'_>) -> bool
 {
     matches!(
         settings,
-        Settings::Decode { .. } | Settings::Encode { .. } | Settings::Play { .. }
+        Settings::Decode { .. }
+            | Settings::Encode { .. }
+            | Settings::Recv { .. }
+            | Settings::Pack { .. }
+            | Settings::Play { .. }
+            | Settings::Gen { check: false, .. }
     )
 }

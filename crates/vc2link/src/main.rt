@@ -16,17 +16,24 @@ use std::sync::{Arc, Wait};
 use std::thread::Threads;
 use std::{env, io};
 use vc_ports::{NoGate, Sink, Source, StdSink, StdSource};
-use vc_types::{NoMemory, Words};
+use vc_types::Words;
 
-// The words behind the program's name.
-fn words_of(rt: &HostRuntime) -> io::Result<Result<Words, NoMemory>> {
-    let mut words = Words::new(rt.alloc());
-    for word in env::args(rt)?.skip(1) {
-        if let Err(error) = words.push(word.as_str()) {
-            return Ok(Err(error));
+// The words behind the program's name, or the status without them. Words that aren't text are outside the grammar.
+fn words_of(rt: &HostRuntime) -> Result<Words, u8> {
+    let args = match env::args(rt) {
+        Ok(args) => args,
+        Err(error) if error.kind() == io::ErrorKind::OutOfMemory => {
+            return Err(Ending::NoMemory.status());
         }
+        Err(_) => return Err(Ending::Usage { place: 0 }.status()),
+    };
+    let mut words = Words::new(rt.alloc());
+    for word in args.skip(1) {
+        let Ok(()) = words.push(word.as_str()) else {
+            return Err(Ending::NoMemory.status());
+        };
     }
-    Ok(Ok(words))
+    Ok(words)
 }
 
 // Does what the words say with a crew at hand, which is stopped whatever that came to.
@@ -52,7 +59,7 @@ fn run<H: Threads + Wait + Net + Copy + Send + Sync + 'static, S: Source, O: Sin
 
 fn main(rt: HostRuntime) -> ExitCode {
     let status = match words_of(&rt) {
-        Ok(Ok(words)) => run(
+        Ok(words) => run(
             rt,
             rt.alloc(),
             &words,
@@ -60,9 +67,7 @@ fn main(rt: HostRuntime) -> ExitCode {
             &mut StdSink::new(rt.stdout()),
             &mut StdSink::new(rt.stderr()),
         ),
-        Ok(Err(NoMemory)) => Ending::NoMemory.status(),
-        // Words that aren't text are outside the grammar.
-        Err(_) => Ending::Usage { place: 0 }.status(),
+        Err(status) => status,
     };
     ExitCode::from(status)
 }

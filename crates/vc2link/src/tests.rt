@@ -1,6 +1,7 @@
 mod captures;
 mod decoding;
 mod encoding;
+mod generating;
 
 use crate::link::link_main;
 use std::alloc::Global;

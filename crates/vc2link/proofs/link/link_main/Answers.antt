@@ -1,8 +1,8 @@
-use Rattle.std.proofs.Common.{◌≡◌, sym, ap}
-use Rattle.link_words.specs.Settings.{ToEncode, ToPlay}
+use Rattle.std.proofs.Common.{◌≡◌, Bool, false, sym, ap, ◌∙◌}
+use Rattle.link_words.specs.Settings.{ToEncode, ToPack, ToPlay, ToGen}
 use Rattle.link_words.specs.Views.{meaning_view}
-use Rattle.vc_types.specs.SenderSettings.{sending_view}
-use Rattle.vc2link.proofs.Ends.{encode_does, play_does}
+use Rattle.vc_types.specs.SenderSettings.{generating_view, sending_view}
+use Rattle.vc2link.proofs.Ends.{encode_does, pack_does, play_does, gen_does}
 use Rattle.vc2link.proofs.link.link_main.Goals as goal
 
 -- src/link.rt:21:1
@@ -25,4 +25,30 @@ returns-in-Ok-Play-clause-answers g c =
       answer = c.play.result;
       plays = rw (sym c.in-Ok-Play.packets-is) c.play.ensures;
       reports = rw (sym c.from-answer-in-Ok-Play.ensures) c.write_answer-in-Ok-Play.ensures;
+    }))
+
+-- src/link.rt:22:1
+pub returns-in-Ok-Gen-default-false-default-default-clause-answers : goal.returns-in-Ok-Gen-default-false-default-default-clause-answers
+returns-in-Ok-Gen-default-false-default-default-clause-answers g c =
+    let came = c.in-Ok-Gen-default-false-default-default in
+    let unchecked : came.field-0-1 ≡ false = rw came.field-0-is at came.field-0-1-test in
+    let meant : meaning_view c.in-Ok.settings ≡ ToGen (generating_view came.frames_of) false came.field-0-2 came.field-0-3 =
+          ap meaning_view came.field-0-is ∙ ap (λ (check : Bool). ToGen (generating_view came.frames_of) check came.field-0-2 came.field-0-3) unchecked in
+    rw (c.read_words.ensures.exact, c.in-Ok.is, meant)
+    (gen_does (generating_view came.frames_of) came.field-0-2 came.field-0-3 c.write_answer-in-Ok-Gen-default-false-default-default.result _ (record {
+      answer = c.generate.result;
+      generates = rw came.field-0-is at c.generate.ensures;
+      reports = rw (sym c.from-answer-in-Ok-Gen-default-false-default-default.ensures) c.write_answer-in-Ok-Gen-default-false-default-default.ensures;
+    }))
+
+-- src/link.rt:22:1
+pub returns-in-Ok-Pack-clause-answers : goal.returns-in-Ok-Pack-clause-answers
+returns-in-Ok-Pack-clause-answers g c =
+    let came = c.in-Ok-Pack in
+    let meant : meaning_view c.in-Ok.settings ≡ ToPack came.packets came.size came.ssrc came.pt came.seq came.tick = ap meaning_view came.field-0-is in
+    rw (c.read_words.ensures.exact, c.in-Ok.is, meant)
+    (pack_does came.packets came.size came.ssrc came.pt came.seq came.tick c.write_answer-in-Ok-Pack.result _ (record {
+      answer = c.pack-packed.result;
+      packs = rw came.field-0-is at c.pack-packed.ensures;
+      reports = rw (sym c.from.ensures) c.write_answer-in-Ok-Pack.ensures;
     }))

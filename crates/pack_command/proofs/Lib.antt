@@ -1,0 +1,12 @@
+mod SoFarPacked
+mod Loops
+mod Stopping
+mod Slicing
+mod Bringing
+pub mod Completing
+mod Counting
+mod Starting
+mod Finishing
+mod Taking
+mod Few
+mod Heading

@@ -1,0 +1,15 @@
+//! `pack`: an elementary stream to a capture of the datagrams that carry its pictures, picture by picture.
+#![tactic(auto)]
+
+mod command;
+mod fault;
+mod header;
+mod opened;
+mod slices;
+mod stream;
+mod totals;
+
+pub use command::pack;
+
+#[cfg(test)]
+mod tests;
