@@ -2,12 +2,14 @@
 #![tactic(auto)]
 
 mod link;
+mod page;
 #[cfg(test)]
 mod tests;
 
 use link::link_main;
 use link_net::UdpWire;
 use link_report::Ending;
+use page::print_page;
 use slice_pool::{Crew, Worker};
 use std::alloc::Global;
 use std::net::Net;
@@ -58,15 +60,19 @@ fn run<H: Threads + Wait + Net + Copy + Send + Sync + 'static, S: Source, O: Sin
 }
 
 fn main(rt: HostRuntime) -> ExitCode {
+    let mut output = StdSink::new(rt.stdout());
     let status = match words_of(&rt) {
-        Ok(words) => run(
-            rt,
-            rt.alloc(),
-            &words,
-            &mut StdSource::new(rt.stdin()),
-            &mut StdSink::new(rt.stdout()),
-            &mut StdSink::new(rt.stderr()),
-        ),
+        Ok(words) => match print_page(rt.alloc(), &words, &mut output) {
+            Some(status) => status,
+            None => run(
+                rt,
+                rt.alloc(),
+                &words,
+                &mut StdSource::new(rt.stdin()),
+                &mut output,
+                &mut StdSink::new(rt.stderr()),
+            ),
+        },
         Err(status) => status,
     };
     ExitCode::from(status)

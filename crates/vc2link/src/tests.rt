@@ -2,6 +2,7 @@ mod captures;
 mod decoding;
 mod encoding;
 mod generating;
+mod page;
 
 use crate::link::link_main;
 use std::alloc::Global;
