@@ -62,8 +62,8 @@ fn small(seq: u32) -> SendSettings
     }
 }
 
-// 2 by 4, two fields, the bottom one first. Numbers of datagrams and of pictures soon wrap.
-fn small_fields(prefix: u32, size: u32) -> SendSettings
+// 2 by 4, two fields. Numbers of datagrams and of pictures soon wrap.
+fn small_fields(top: bool, prefix: u32, size: u32) -> SendSettings
     requires prefix { prefix ≤ 255 }
     requires size { (64 ≤ size) × (size ≤ 1400) }
     ensures size { (result.width ≡ 2) × (result.height ≡ 4) × (result.sampling ≡ S444) }
@@ -74,7 +74,7 @@ fn small_fields(prefix: u32, size: u32) -> SendSettings
         sampling: Sampling::S444,
         range: 1,
         fields: true,
-        top: false,
+        top,
         wavelet: 3,
         depth: 1,
         slices_x: 1,
@@ -275,7 +275,7 @@ fn a_frame_of_two_fields_is_two_pictures(rt: HostRuntime) -> Result<(), Fail> {
     let alloc = rt.alloc();
     let fields = frame(alloc, 2, 4, &LATER_EDGED)?;
     let chooser = Chooser::new(false, |_need: &SliceNeed| 0);
-    let mut sender = Sender::new(alloc, small_fields(0, 1400), chooser);
+    let mut sender = Sender::new(alloc, small_fields(false, 0, 1400), chooser);
     let datagrams = sent(&mut sender, &fields)?;
     assert!(rt;
         are(
@@ -291,6 +291,26 @@ fn a_frame_of_two_fields_is_two_pictures(rt: HostRuntime) -> Result<(), Fail> {
         )
     );
     assert_eq!(rt; sender.finish()?.bytes.as_slice(), SECOND_END.as_slice());
+    Ok(())
+}
+
+// The top field is the earlier one, of rows 0 and 2.
+#[test]
+fn the_top_field_may_be_the_earlier_one(rt: HostRuntime) -> Result<(), Fail> {
+    let alloc = rt.alloc();
+    let edged_top = [0x80, 0x80, 0x80, 0x80, 0x7f, 0x80, 0x80, 0x80];
+    let fields = frame(alloc, 2, 4, &edged_top)?;
+    let chooser = Chooser::new(false, |_need: &SliceNeed| 0);
+    let mut sender = Sender::new(alloc, small_fields(true, 0, 1400), chooser);
+    let datagrams = sent(&mut sender, &fields)?;
+    let header = [
+        0x80, 0x60, 0xff, 0xfd, 0, 0, 0, 0, 0, 0, 0, 1, 0xff, 0xff, 0, 0, 0x0c, 0x35, 0x76, 0x3e,
+        0x44, 0x88,
+    ];
+    assert_eq!(rt; datagrams.len(), 6);
+    assert_eq!(rt; datagrams[0].bytes.as_slice(), header.as_slice());
+    assert_eq!(rt; datagrams[2].bytes.as_slice(), FIELD_SLICE.as_slice());
+    assert_eq!(rt; datagrams[5].bytes.as_slice(), SECOND_SLICE.as_slice());
     Ok(())
 }
 
@@ -350,7 +370,7 @@ fn a_slice_without_room_is_refused(rt: HostRuntime) -> Result<(), Fail> {
 fn a_field_is_refused_for_the_whole_frame(rt: HostRuntime) -> Result<(), Fail> {
     let alloc = rt.alloc();
     let chooser = Chooser::new(false, |_need: &SliceNeed| 0);
-    let mut sender = Sender::new(alloc, small_fields(27, 64), chooser);
+    let mut sender = Sender::new(alloc, small_fields(false, 27, 64), chooser);
     let later = [0x80, 0x80, 0x80, 0x80, 0x7f, 0x80, 0x80, 0x80];
     let fields = frame(alloc, 2, 4, &later)?;
     let first = SendRefusal::SliceTooLarge {
@@ -365,15 +385,12 @@ fn a_field_is_refused_for_the_whole_frame(rt: HostRuntime) -> Result<(), Fail> {
     Ok(())
 }
 
-// Two slices of 16 bytes fill the room of one datagram.
+// Two slices of 16 bytes fill the room of one datagram. The index is the parity of the slice's.
 #[test]
 fn a_datagram_has_as_many_slices_as_fit(rt: HostRuntime) -> Result<(), Fail> {
     let alloc = rt.alloc();
     let grey = frame(alloc, 8, 4, &[BRIGHT; 32])?;
-    let chooser = Chooser::new(
-        false,
-        |need: &SliceNeed| if need.index == 1 { 1 } else { 0 },
-    );
+    let chooser = Chooser::new(false, |need: &SliceNeed| (need.index % 2) as u8);
     let mut sender = Sender::new(alloc, two_slices(12), chooser);
     let datagrams = sent(&mut sender, &grey)?;
     assert_eq!(rt; datagrams.len(), 3);
