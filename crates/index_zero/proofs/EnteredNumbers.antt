@@ -37,7 +37,7 @@ entered_begins base window fragments more =
     let behind = all_added base window (entered base window fragments) more in
     (behind.0, fold-append (enters base window) [] fragments more ∙ behind.1)
 
-first_number : (base bits : ℕ) → picture_number base [] bits ≡ base + bits
+pub first_number : (base bits : ℕ) → picture_number base [] bits ≡ base + bits
 unfolding picture_number
 first_number base bits = refl
 
@@ -61,11 +61,11 @@ pub own_part : (number : ℕ) (e : Numbered) (es : List Numbered) → e.number �
 unfolding parts_of
 own_part number e es same = ap (λ (b : Bool). map (λ (e : Numbered). e.part) (cond b (e ∷ filter (λ (e : Numbered). e.number == number) es) (filter (λ (e : Numbered). e.number == number) es))) (eq-eqb e.number number same)
 
-other_part : (number : ℕ) (e : Numbered) (es : List Numbered) → (e.number ≡ number → ⊥) → parts_of number (e ∷ es) ≡ parts_of number es
+pub other_part : (number : ℕ) (e : Numbered) (es : List Numbered) → (e.number ≡ number → ⊥) → parts_of number (e ∷ es) ≡ parts_of number es
 unfolding parts_of
 other_part number e es apart = ap (λ (b : Bool). map (λ (e : Numbered). e.part) (cond b (e ∷ filter (λ (e : Numbered). e.number == number) es) (filter (λ (e : Numbered). e.number == number) es))) (ne_eqb e.number number apart)
 
-not_late : (window : ℕ) (es : List Numbered) (n : ℕ) → is_closed window es n ≡ false → n < 2 ^ 64 - 16 → is_late window es n ≡ false
+pub not_late : (window : ℕ) (es : List Numbered) (n : ℕ) → is_closed window es n ≡ false → n < 2 ^ 64 - 16 → is_late window es n ≡ false
 unfolding is_late
 not_late window es n unclosed small = or_from (is_closed window es n) (nat_le (2 ^ 64 - 16) n) unclosed (lt-leb (2 ^ 64 - 16) n small)
 

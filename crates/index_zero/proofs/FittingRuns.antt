@@ -85,7 +85,7 @@ module _ (settings : SendSettings) where
     few_slices : length slices ≤ slice_count p
     few_slices = omega (arith, length-sent_slices s planes indices, length-take (slice_count p) indices)
 
-    run_is : (run : SliceRun) → IsAmong (picture_runs s indices planes) run → IsRun (slice_room s) (length slices) run
+    pub run_is : (run : SliceRun) → IsAmong (picture_runs s indices planes) run → IsRun (slice_room s) (length slices) run
     run_is run is = among_all (IsRun (slice_room s) (length slices)) run (runs_of_slices (slice_room s) slices)
         (runs_of_slices-are_runs (slice_room s) slices (All-weaker (HasBytes s planes scaler_is_some) (λ x. length x ≤ slice_room s) (λ x has. has.few) slices have_bytes)) is
 

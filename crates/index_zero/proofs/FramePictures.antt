@@ -51,8 +51,31 @@ module _ (s : Sending) where
       by_coding true = refl
       by_coding false = refl
 
+  pub some_pictures : 0 < pictures_per_frame s
+  some_pictures = by_coding s.frames.fields
+    where
+      by_coding : (b : Bool) → 0 < cond b 2 1
+      by_coding true = omega arith
+      by_coding false = omega arith
+
+  pub first_picture_at : (frame : Planes) → (planes : Planes) × (slice_get (pictures_of s frame) 0 ≡ Some planes)
+  unfolding pictures_of
+  first_picture_at frame = by_coding s.frames.fields
+    where
+      by_coding : (b : Bool) → (planes : Planes) × (slice_get (cond b (both_fields (fields_of s.frames.top frame)) (frame ∷ [])) 0 ≡ Some planes)
+      by_coding true = ((fields_of s.frames.top frame).0, refl)
+      by_coding false = (frame, refl)
+
   abbrev pub all_pictures : List Planes → List Planes
   all_pictures frames = flat_map (pictures_of s) frames
+
+  pub pictures_begin : (frame : Planes) (frames : List Planes) → (planes : Planes) × (more : List Planes) × (all_pictures (frame ∷ frames) ≡ planes ∷ more)
+  unfolding pictures_of
+  pictures_begin frame frames = by_coding s.frames.fields
+    where
+      by_coding : (b : Bool) → (planes : Planes) × (more : List Planes) × (cond b (both_fields (fields_of s.frames.top frame)) (frame ∷ []) ++ all_pictures frames ≡ planes ∷ more)
+      by_coding true = ((fields_of s.frames.top frame).0, (fields_of s.frames.top frame).1 ∷ all_pictures frames, refl)
+      by_coding false = (frame, all_pictures frames, refl)
 
   next_place : (f i : ℕ) → suc f * pictures_per_frame s + i ≡ pictures_per_frame s + (f * pictures_per_frame s + i)
   next_place f i = omega (arith, suc-mul f (pictures_per_frame s))

@@ -7,9 +7,11 @@ pub mod SentFragments
 pub mod OwnParts
 pub mod OneSession
 pub mod EnteredNumbers
+pub mod InOrder
 pub mod EnteredCounts
 pub mod SentStream
 pub mod HeardFragments
+pub mod OwnSession
 pub mod InTime
 pub mod LosslessSlices
 pub mod SentPlanes
@@ -21,5 +23,7 @@ pub mod ShortParameters
 pub mod FittingRuns
 pub mod ReceivedPictures
 pub mod FieldPlanes
+pub mod WholeFrames
 pub mod ReceivedFrames
+pub mod StreamsBack
 pub mod ReceivedLaws

@@ -1,40 +1,26 @@
 -- A frame of which all is there in time is written as it was sent.
-use Rattle.std.proofs.Common.{◌≡◌, ◌<◌, ◌≤◌, ℕ, ◌+◌, ◌-◌, ◌*◌, ◌%◌, ◌^◌, Bool, true, false, cond, List, [], ◌∷◌, ◌++◌, drop, Option, Some, None, refl, sym, ap, subst, ◌∙◌, arith, inl, inr}
-use Rattle.std.specs.Prelude.{slice_get, ◌==◌, ◌||◌, is_some}
+use Rattle.std.proofs.Common.{◌≡◌, ◌<◌, ◌≤◌, ℕ, ◌+◌, ◌*◌, ◌^◌, Bool, true, List, [], ◌∷◌, ◌++◌, Some, sym, ap, subst, ◌∙◌, arith, inl, inr}
+use Rattle.std.specs.Prelude.{slice_get, ◌==◌, ◌||◌}
 use Rattle.std.specs.List.{flat_map}
-use Rattle.std.specs.Option.{option_and_then}
-use Rattle.std.proofs.lemmas.Bool.{cases_Bool, cond-true, cond-false, eq-eqb, eqb-true}
+use Rattle.std.proofs.lemmas.Bool.{cases_Bool, eqb-true}
 use Rattle.std.proofs.lemmas.List.Concat.{flat_map-append, flat_map-cons}
-use Rattle.field_pairs.proofs.Fields.{woven-fields_of}
-use Rattle.field_pairs.specs.Sizes.{AreWhole}
-use Rattle.index_zero.specs.FramesToSend.{AreFramesToSend, IsPictureToSend}
+use Rattle.index_zero.specs.FramesToSend.{AreFramesToSend}
 use Rattle.index_zero.specs.HeardStreams.{IsHeardOf, IsNumberOf, entered_of}
 use Rattle.index_zero.specs.IndexZero.{IsFrameHeard, IsWritten, last_picture, raw_frame}
-use Rattle.index_zero.proofs.Among.{IsAmong, among_first, among_later, among_all, among_from}
-use Rattle.index_zero.proofs.FieldPlanes.{field_samples, field_whole, field_sides, frame_sides, even_rows}
-use Rattle.index_zero.proofs.FramePictures.{all_pictures, no_slice_fault, one_picture, two_pictures, picture_at}
-use Rattle.index_zero.proofs.PicturesBack.{picture_back}
+use Rattle.index_zero.proofs.Among.{IsAmong, among_first, among_later}
+use Rattle.index_zero.proofs.FramePictures.{all_pictures, first_picture_at, picture_at, some_pictures}
 use Rattle.index_zero.proofs.ReceivedPictures.{entries_are, number_is, whole_received}
-use Rattle.index_zero.proofs.SentFaults.{are_sound, faultless}
-use Rattle.index_zero.proofs.SentStream.{count}
-use Rattle.link_model.specs.Complete.{whole_picture}
+use Rattle.index_zero.proofs.WholeFrames.{AreWholePictures, IsFrameBack, bytes_back, frame_back}
 use Rattle.link_model.specs.Feeders.{is_among}
-use Rattle.link_model.specs.Numbers.{Numbered, is_opened, opened_numbers, parts_of}
-use Rattle.link_model.specs.Output.{all_frames, all_output, complete_at, field_frame_at, frame_at, frame_bytes_at, full_output, planes_at, raw_bytes, woven_fields}
+use Rattle.link_model.specs.Numbers.{Numbered, is_opened, opened_numbers}
+use Rattle.link_model.specs.Output.{all_frames, all_output, frame_bytes_at, full_output}
 use Rattle.link_model.specs.Sending.{pictures_of, pictures_per_frame, sent_stream}
-use Rattle.link_model.specs.SendingFaults.{first_sample_fault, first_of_slices}
-use Rattle.link_model.specs.SendingPictures.{IsFrame, sent_sequence, sent_parameters, sent_parameter_bytes, sent_slices, slices_with_indices}
 use Rattle.link_model.specs.Session.{HeardSession, sessions_of}
-use Rattle.link_model.proofs.Leaving.{complete_opened}
 use Rattle.link_model.proofs.PicturesHeard.{among_opened}
 use Rattle.vc_types.specs.declared.settings.SendSettings.{SendSettings}
-use Rattle.vc_types.specs.FieldPairs.{every_other_row, on_each, fields_of, woven}
-use Rattle.vc_types.specs.Fields.{joined}
-use Rattle.vc_types.specs.Planes.{Planes, decoded_planes}
-use Rattle.vc_types.specs.RawFrames.{frame_bytes, is_wide}
+use Rattle.vc_types.specs.Planes.{Planes}
 use Rattle.vc_types.specs.SenderSettings.{Sending, sending_view}
-use Rattle.vc_types.specs.SequenceHeader.{Sequence, picture_shape}
-use Rattle.vc_types.specs.Settings.{first_picture_fits}
+use Rattle.vc_types.specs.SequenceHeader.{Sequence}
 
 -- ---- of lists of numbers
 
@@ -61,60 +47,6 @@ written_among window datagrams h n one opened =
           ∙ ap (λ (l : List ℕ). flat_map bytes among.0 ++ l) (flat_map-cons bytes n among.1),
     )
 
--- a whole picture is opened
-complete_from : (sequence : Sequence) (es : List Numbered) (n : ℕ) (bytes : List ℕ) → whole_picture sequence (parts_of n es) ≡ Some bytes → complete_at sequence es n ≡ true
-unfolding complete_at
-complete_from sequence es n bytes is = ap (λ (o : Option (List ℕ)). is_some o) is
-
-whole_is_opened : (sequence : Sequence) (es : List Numbered) (n : ℕ) (bytes : List ℕ) → whole_picture sequence (parts_of n es) ≡ Some bytes → is_opened es n ≡ true
-whole_is_opened sequence es n bytes is = complete_opened sequence es n (complete_from sequence es n bytes is)
-
--- the planes of a picture
-planes_from : (sequence : Sequence) (es : List Numbered) (n : ℕ) (bytes : List ℕ) (planes : Planes) → whole_picture sequence (parts_of n es) ≡ Some bytes → decoded_planes sequence bytes ≡ Some planes → planes_at sequence es n ≡ Some planes
-unfolding planes_at
-planes_from sequence es n bytes planes whole decodes = ap (option_and_then (decoded_planes sequence)) whole ∙ decodes
-
--- ---- frames of pictures
-
-frame_alone : (sequence : Sequence) (es : List Numbered) (n : ℕ) → sequence.fields ≡ false → frame_at sequence es n ≡ planes_at sequence es n
-unfolding frame_at
-frame_alone sequence es n fields = cond-false sequence.fields (field_frame_at sequence es n) (planes_at sequence es n) fields
-
-frame_of_two : (sequence : Sequence) (es : List Numbered) (n : ℕ) (earlier later : Planes) → sequence.fields ≡ true → (n + 1) % 2 ≡ 1 → planes_at sequence es n ≡ Some earlier → planes_at sequence es (n + 1) ≡ Some later
-    → frame_at sequence es (n + 1) ≡ Some (woven sequence.top_first earlier later)
-unfolding frame_at
-frame_of_two sequence es n earlier later fields odd first second =
-    let before : n + 1 - 1 ≡ n = omega arith in
-    cond-true sequence.fields (field_frame_at sequence es (n + 1)) (planes_at sequence es (n + 1)) fields
-    ∙ cond-true ((n + 1) % 2 == 1) (woven_fields sequence.top_first (planes_at sequence es (n + 1 - 1)) (planes_at sequence es (n + 1))) None (eq-eqb ((n + 1) % 2) 1 odd)
-    ∙ ap (λ (k : ℕ). woven_fields sequence.top_first (planes_at sequence es k) (planes_at sequence es (n + 1))) before
-    ∙ (λ i. woven_fields sequence.top_first (first i) (second i))
-
-even_start : (fields : Bool) (picture : ℕ) → first_picture_fits fields picture ≡ true → fields ≡ true → picture % 2 ≡ 0
-even_start true picture fits is = eqb-true (picture % 2) 0 fits
-even_start false picture fits is = absurd (false_not is)
-  where
-    false_not : false ≡ true → ⊥
-    false_not e = cc
-
-raw_of : (sequence : Sequence) (es : List Numbered) (n : ℕ) (frame : Planes) → frame_at sequence es n ≡ Some frame → frame_bytes_at sequence es n ≡ frame_bytes frame (is_wide (picture_shape sequence))
-unfolding frame_bytes_at
-raw_of sequence es n frame is = ap (raw_bytes sequence) is
-
-coded_fields : (s : Sending) → (sent_sequence s).fields ≡ s.frames.fields
-unfolding sent_sequence
-coded_fields s = refl
-
-coded_top : (s : Sending) → (sent_sequence s).top_first ≡ s.frames.top
-unfolding sent_sequence
-coded_top s = refl
-
-one_each : (s : Sending) → s.frames.fields ≡ false → pictures_per_frame s ≡ 1
-one_each s is = ap (λ (b : Bool). (let n : ℕ = cond b 2 1 in n)) is
-
-two_each : (s : Sending) → s.frames.fields ≡ true → pictures_per_frame s ≡ 2
-two_each s is = ap (λ (b : Bool). (let n : ℕ = cond b 2 1 in n)) is
-
 module _ (settings : SendSettings) (small : settings.ssrc < 2 ^ 32) (window : ℕ) (some : 1 ≤ window) (indices : List ℕ) (frames : List Planes) (can : AreFramesToSend (sending_view settings) indices frames) (datagrams : List (List ℕ)) (h : HeardSession) (heard : IsHeardOf (sending_view settings) (sent_stream (sending_view settings) indices frames) datagrams h) (f number : ℕ) (frame : Planes) (at : slice_get frames f ≡ Some frame) (time : IsFrameHeard window (sending_view settings) indices frames datagrams h f number) where
   abbrev s : Sending
   s = sending_view settings
@@ -122,23 +54,8 @@ module _ (settings : SendSettings) (small : settings.ssrc < 2 ^ 32) (window : �
   abbrev es : List Numbered
   es = entered_of window h
 
-  abbrev sequence : Sequence
-  sequence = sent_sequence s
-
   abbrev place : ℕ → ℕ
   place i = f * pictures_per_frame s + i
-
-  is_frame : IsFrame s frame
-  is_frame = among_all (IsFrame s) frame frames can.sizes (among_from frame frames f at)
-
-  is_whole : AreWhole frame
-  is_whole = among_all AreWhole frame frames can.whole (among_from frame frames f at)
-
-  no_sample : first_sample_fault s frame ≡ None
-  no_sample = (faultless s (drop (f * (pictures_per_frame s * count s)) indices) frame (can.sound f frame at)).0
-
-  slices_sound : (i : ℕ) (planes : Planes) → slice_get (all_pictures s frames) (place i) ≡ Some planes → first_of_slices s planes (slices_with_indices (sent_parameters s) (drop (place i * count s) indices)) ≡ None
-  slices_sound i planes there = are_sound s indices (all_pictures s frames) (no_slice_fault s indices frames can.sound) (place i) planes there
 
   there : (i : ℕ) (planes : Planes) → i < pictures_per_frame s → slice_get (pictures_of s frame) i ≡ Some planes → slice_get (all_pictures s frames) (place i) ≡ Some planes
   there i planes below is = picture_at s frames f i frame at below ∙ is
@@ -146,144 +63,35 @@ module _ (settings : SendSettings) (small : settings.ssrc < 2 ^ 32) (window : �
   abbrev first : ℕ
   first = (entries_are settings small indices frames can.sound can.few window some datagrams h heard).first
 
-  abbrev indices_of : ℕ → List ℕ
-  indices_of i = drop (place i * count s) indices
+  first_below : 0 < pictures_per_frame s
+  first_below = some_pictures s
 
-  -- the numbers of its pictures, once the first is known
-  first_number : (planes : Planes) → 0 < pictures_per_frame s → slice_get (pictures_of s frame) 0 ≡ Some planes → number ≡ first + place 0
-  first_number planes below is =
+  -- the number of its first picture
+  first_number : number ≡ first + place 0
+  first_number =
       let same : f * pictures_per_frame s ≡ place 0 = omega arith in
-      number_is settings small indices frames can.sound can.few (place 0) planes (there 0 planes below is) (time.zero 0 below) window some datagrams h heard number
+      let picture = first_picture_at s frame in
+      number_is settings small indices frames can.sound can.few (place 0) picture.0 (there 0 picture.0 first_below picture.1) (time.zero 0 first_below) window some datagrams h heard number
       (subst (λ (k : ℕ). IsNumberOf s es k number) same time.first)
 
-  module _ (i : ℕ) (planes : Planes) (below : i < pictures_per_frame s) (is : slice_get (pictures_of s frame) i ≡ Some planes) (known : number ≡ first + place 0) where
-    abbrev bytes : List ℕ
-    bytes = sent_parameter_bytes s ++ joined (sent_slices (sent_parameters s) planes (indices_of i))
+  wholes : AreWholePictures s indices f number frame es
+  wholes = record {
+    bits = time.first.bits;
+    zero = time.zero;
+    each = λ i planes below is.
+        whole_received settings small indices frames can.sound can.few (place i) planes (there i planes below is) (time.zero i below) window some datagrams h heard (number + i) (omega (arith, first_number)) (time.each i below);
+  }
 
-    own_number : number + i ≡ first + place i
-    own_number = omega (arith, known)
-
-    whole_there : whole_picture sequence (parts_of (number + i) es) ≡ Some bytes
-    whole_there = whole_received settings small indices frames can.sound can.few (place i) planes (there i planes below is) (time.zero i below) window some datagrams h heard (number + i) own_number (time.each i below)
-
-    opened_there : is_opened es (number + i) ≡ true
-    opened_there = whole_is_opened sequence es (number + i) bytes whole_there
-
-    planes_there : IsPictureToSend s (indices_of i) planes → planes_at sequence es (number + i) ≡ Some planes
-    planes_there picture = planes_from sequence es (number + i) bytes planes whole_there (picture_back settings planes (indices_of i) picture (time.zero i below))
-
-  -- ---- with frame coding
-
-  module _ (fields : s.frames.fields ≡ false) where
-    alone : slice_get (pictures_of s frame) 0 ≡ Some frame
-    alone = ap (λ (l : List Planes). slice_get l 0) (one_picture s frame fields)
-
-    one_below : 0 < pictures_per_frame s
-    one_below = omega (arith, one_each s fields)
-
-    picture_of_frame : IsPictureToSend s (indices_of 0) frame
-    picture_of_frame = record {
-      sizes = frame_sides s frame fields is_frame;
-      whole = is_whole;
-      samples = no_sample;
-      slices = slices_sound 0 frame (there 0 frame one_below alone);
-    }
-
-    frame_known : number ≡ first + place 0
-    frame_known = first_number frame one_below alone
-
-    frame_there : frame_at sequence es (number + 0) ≡ Some frame
-    frame_there = frame_alone sequence es (number + 0) (coded_fields s ∙ fields) ∙ planes_there 0 frame one_below alone frame_known picture_of_frame
-
-    frame_opened : is_opened es (number + 0) ≡ true
-    frame_opened = opened_there 0 frame one_below alone frame_known
-
-    frame_last : number + 0 ≡ last_picture s number
-    frame_last = omega (arith, one_each s fields)
-
-  -- ---- with field coding
-
-  module _ (fields : s.frames.fields ≡ true) where
-    abbrev earlier : Planes
-    earlier = (fields_of s.frames.top frame).0
-
-    abbrev later : Planes
-    later = (fields_of s.frames.top frame).1
-
-    earlier_at : slice_get (pictures_of s frame) 0 ≡ Some (fields_of s.frames.top frame).0
-    earlier_at = ap (λ (l : List Planes). slice_get l 0) (two_pictures s frame fields)
-
-    later_at : slice_get (pictures_of s frame) 1 ≡ Some (fields_of s.frames.top frame).1
-    later_at = ap (λ (l : List Planes). slice_get l 1) (two_pictures s frame fields)
-
-    earlier_below : 0 < pictures_per_frame s
-    earlier_below = omega (arith, two_each s fields)
-
-    later_below : 1 < pictures_per_frame s
-    later_below = omega (arith, two_each s fields)
-
-    as_field : (parity : ℕ) (own : List ℕ) → first_of_slices s (on_each (every_other_row parity) frame) (slices_with_indices (sent_parameters s) own) ≡ None → IsPictureToSend s own (on_each (every_other_row parity) frame)
-    as_field parity own none = record {
-      sizes = field_sides s frame parity fields is_frame;
-      whole = field_whole s frame parity;
-      samples = field_samples s frame parity no_sample;
-      slices = none;
-    }
-
-    earlier_is : (top : Bool) (own : List ℕ) → first_of_slices s (fields_of top frame).0 (slices_with_indices (sent_parameters s) own) ≡ None → IsPictureToSend s own (fields_of top frame).0
-    earlier_is true own none = as_field 0 own none
-    earlier_is false own none = as_field 1 own none
-
-    later_is : (top : Bool) (own : List ℕ) → first_of_slices s (fields_of top frame).1 (slices_with_indices (sent_parameters s) own) ≡ None → IsPictureToSend s own (fields_of top frame).1
-    later_is true own none = as_field 1 own none
-    later_is false own none = as_field 0 own none
-
-    fields_known : number ≡ first + place 0
-    fields_known = first_number earlier earlier_below earlier_at
-
-    earlier_there : planes_at sequence es (number + 0) ≡ Some earlier
-    earlier_there = planes_there 0 earlier earlier_below earlier_at fields_known (earlier_is s.frames.top (indices_of 0) (slices_sound 0 earlier (there 0 earlier earlier_below earlier_at)))
-
-    later_there : planes_at sequence es (number + 1) ≡ Some later
-    later_there = planes_there 1 later later_below later_at fields_known (later_is s.frames.top (indices_of 1) (slices_sound 1 later (there 1 later later_below later_at)))
-
-    no_more : number + 0 ≡ number
-    no_more = omega arith
-
-    odd : (number + 1) % 2 ≡ 1
-    odd =
-        let even = even_start settings.fields settings.picture settings.first_picture fields in
-        let bits = (entries_are settings small indices frames can.sound can.few window some datagrams h heard).bits in
-        let twice : f * pictures_per_frame s ≡ f * 2 = ap (λ (n : ℕ). f * n) (two_each s fields) in
-        omega (arith, even, bits, twice, fields_known)
-
-    pair_there : frame_at sequence es (number + 1) ≡ Some frame
-    pair_there =
-        frame_of_two sequence es number earlier later (coded_fields s ∙ fields) odd (sym (ap (planes_at sequence es) no_more) ∙ earlier_there) later_there
-        ∙ ap Some (ap (λ (top : Bool). woven top earlier later) (coded_top s) ∙ woven-fields_of s.frames.top frame (even_rows settings frame fields is_frame) is_whole)
-
-    pair_opened : is_opened es (number + 1) ≡ true
-    pair_opened = opened_there 1 later later_below later_at fields_known
-
-    pair_last : number + 1 ≡ last_picture s number
-    pair_last = omega (arith, two_each s fields)
-
-  -- ---- what is written
-
-  written : (n : ℕ) → n ≡ last_picture s number → frame_at sequence es n ≡ Some frame → is_opened es n ≡ true → IsWritten window s datagrams h number frame
-  written n last is opened =
-      let all = written_among window datagrams h n heard.one opened in
-      let raw : frame_bytes_at h.session.sequence es n ≡ raw_frame s frame = ap (λ (q : Sequence). frame_bytes_at q es n) heard.sequence ∙ raw_of sequence es n frame is in
+  pub frame_is_written : IsWritten window (sending_view settings) datagrams h number frame
+  frame_is_written =
+      let back : IsFrameBack s number frame es = frame_back settings indices frames can f number frame at es wholes in
+      let all = written_among window datagrams h (last_picture s number) heard.one back.opened in
+      let raw : frame_bytes_at h.session.sequence es (last_picture s number) ≡ raw_frame s frame =
+      ap (λ (q : Sequence). frame_bytes_at q es (last_picture s number)) heard.sequence ∙ bytes_back settings indices frames can f number frame at es wholes in
       record {
-        is = ap (frame_at sequence es) (sym last) ∙ is;
-        opened = ap (is_opened es) (sym last) ∙ opened;
+        is = back.is;
+        opened = back.opened;
         before = all.0;
         behind = all.1;
         bytes = all.2 ∙ ap (λ (l : List ℕ). all.0 ++ (l ++ all.1)) raw;
       }
-
-  pub frame_is_written : IsWritten window (sending_view settings) datagrams h number frame
-  frame_is_written = elim (cases_Bool s.frames.fields) [
-    | inl fields ↦ written (number + 1) (pair_last fields) (pair_there fields) (pair_opened fields)
-    | inr fields ↦ written (number + 0) (frame_last fields) (frame_there fields) (frame_opened fields)
-  ]

@@ -1,10 +1,11 @@
 -- The laws as they are told.
 use Rattle.std.proofs.Common.{◌≡◌, ℕ, ◌*◌, List, ◌++◌, drop, sym, ap, ◌∙◌, arith}
 use Rattle.std.specs.Prelude.{slice_get}
-use Rattle.index_zero.specs.IndexZero.{IndexZeroIsLossless, PicturesAreReceived, PicturesComeBack}
+use Rattle.index_zero.specs.IndexZero.{IndexZeroIsLossless, PicturesAreReceived, PicturesComeBack, SentStreamsComeBack}
 use Rattle.index_zero.proofs.PicturesBack.{picture_back}
 use Rattle.index_zero.proofs.ReceivedFrames.{frame_is_written}
 use Rattle.index_zero.proofs.ReceivedPictures.{number_is, whole_received}
+use Rattle.index_zero.proofs.StreamsBack.{stream_back}
 use Rattle.link_model.specs.SendingPictures.{sent_parameter_bytes, sent_parameters, sent_sequence, sent_slices}
 use Rattle.vc_types.specs.Fields.{joined}
 use Rattle.vc_types.specs.Planes.{decoded_planes}
@@ -31,3 +32,6 @@ pictures_are_received settings window indices frames datagrams h picture number 
 
 pub index_zero_is_lossless : IndexZeroIsLossless
 index_zero_is_lossless settings window indices frames datagrams h f number frame small some can heard at time = frame_is_written settings small window some indices frames can datagrams h heard f number frame at time
+
+pub sent_streams_come_back : SentStreamsComeBack
+sent_streams_come_back settings window indices frames small some can zeros = stream_back settings small window some indices frames can zeros

@@ -13,7 +13,7 @@ use Rattle.vc_types.specs.declared.settings.SendSettings.{SendSettings}
 use Rattle.vc_types.specs.SenderSettings.{Sending, sending_view}
 use Rattle.vc_types.specs.SequenceHeader.{coded_header}
 
-itself : (n : ℕ) → (n == n) ≡ true
+pub itself : (n : ℕ) → (n == n) ≡ true
 itself n = grind arith
 
 module _ (settings : SendSettings) (are : AreSettings (sending_view settings)) (number picture : ℕ) where
@@ -40,6 +40,19 @@ module _ (settings : SendSettings) (are : AreSettings (sending_view settings)) (
   pub slices_heard : (run : SliceRun) → FitsDatagram s (SlicesContent run) → fragment_in own (sent (SlicesContent run)) ≡ Some (record { number = number_bits s picture; part = SlicesPart (sent_part (sent_parameters s) run) })
   unfolding fragment_in sent_value sent_parameters
   slices_heard run fits = ap (fragment_from own) (received-sent_datagram s number picture (SlicesContent run) are fits) ∙ rw (itself settings.ssrc) refl
+
+  -- nothing but a header begins a session
+  pub parameters_begin_none : FitsDatagram s ParametersContent → begins (sent ParametersContent) ≡ None
+  unfolding begins sent_value
+  parameters_begin_none fits = ap session_from (received-sent_datagram s number picture ParametersContent are fits)
+
+  pub slices_begin_none : (run : SliceRun) → FitsDatagram s (SlicesContent run) → begins (sent (SlicesContent run)) ≡ None
+  unfolding begins sent_value
+  slices_begin_none run fits = ap session_from (received-sent_datagram s number picture (SlicesContent run) are fits)
+
+  pub end_begins_none : begins (sent EndContent) ≡ None
+  unfolding begins sent_value
+  end_begins_none = ap session_from (received-sent_datagram s number picture EndContent are tt)
 
   -- a header and an end are no fragments
   pub header_unheard : fragment_in own (sent HeaderContent) ≡ None

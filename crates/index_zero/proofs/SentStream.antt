@@ -36,7 +36,7 @@ module _ (s : Sending) where
   abbrev pub runs_at : List ℕ → ℕ → Planes → List SliceRun
   runs_at indices number planes = picture_runs s (drop (number * count) indices) planes
 
-  runs_later : (indices : List ℕ) (number : ℕ) (planes : Planes) → runs_at (drop count indices) number planes ≡ runs_at indices (suc number) planes
+  pub runs_later : (indices : List ℕ) (number : ℕ) (planes : Planes) → runs_at (drop count indices) number planes ≡ runs_at indices (suc number) planes
   runs_later indices number planes = ap (λ (l : List ℕ). picture_runs s l planes) (drop-drop (number * count) count indices ∙ ap (λ (n : ℕ). drop n indices) (one_more number count))
 
   abbrev pub IsContent : List SliceRun → DatagramContent → Type 0
@@ -53,20 +53,20 @@ module _ (s : Sending) where
     pub picture : o.picture ≡ first + number
     pub content : IsContent (runs_at indices number planes) o.content
 
-  more : (first : ℕ) (indices : List ℕ) (planes : Planes) (pictures : List Planes) → pictures_outgoing s first indices (planes ∷ pictures) ≡ picture_outgoing s first indices planes ++ pictures_outgoing s (first + 1) (drop count indices) pictures
+  pub more_outgoing : (first : ℕ) (indices : List ℕ) (planes : Planes) (pictures : List Planes) → pictures_outgoing s first indices (planes ∷ pictures) ≡ picture_outgoing s first indices planes ++ pictures_outgoing s (first + 1) (drop count indices) pictures
   unfolding pictures_outgoing
-  more first indices planes pictures = refl
+  more_outgoing first indices planes pictures = refl
 
-  none : (first : ℕ) (indices : List ℕ) → pictures_outgoing s first indices [] ≡ []
+  pub none_outgoing : (first : ℕ) (indices : List ℕ) → pictures_outgoing s first indices [] ≡ []
   unfolding pictures_outgoing
-  none first indices = refl
+  none_outgoing first indices = refl
 
-  abbrev contents : List SliceRun → List DatagramContent
+  abbrev pub contents : List SliceRun → List DatagramContent
   contents runs = HeaderContent ∷ ParametersContent ∷ map SlicesContent runs
 
-  of_picture : (first : ℕ) (indices : List ℕ) (planes : Planes) → picture_outgoing s first indices planes ≡ map (outgoing first) (contents (picture_runs s indices planes))
+  pub picture_contents : (first : ℕ) (indices : List ℕ) (planes : Planes) → picture_outgoing s first indices planes ≡ map (outgoing first) (contents (picture_runs s indices planes))
   unfolding picture_outgoing
-  of_picture first indices planes = refl
+  picture_contents first indices planes = refl
 
   all_contents : (runs : List SliceRun) → All (IsContent runs) (contents runs)
   all_contents runs = All-cons (IsContent runs) HeaderContent (ParametersContent ∷ map SlicesContent runs) tt
@@ -91,14 +91,14 @@ module _ (s : Sending) where
   }
 
   pub all_of_pictures : (first : ℕ) (indices : List ℕ) (pictures : List Planes) → All (IsOfPicture first indices pictures) (pictures_outgoing s first indices pictures)
-  all_of_pictures first indices [] = subst (λ (l : List Outgoing). All (IsOfPicture first indices []) l) (sym (none first indices)) (All-nil (IsOfPicture first indices []))
+  all_of_pictures first indices [] = subst (λ (l : List Outgoing). All (IsOfPicture first indices []) l) (sym (none_outgoing first indices)) (All-nil (IsOfPicture first indices []))
   all_of_pictures first indices (planes ∷ pictures) =
       let Is = IsOfPicture first indices (planes ∷ pictures) in
       let front : All Is (map (outgoing first) (contents (picture_runs s indices planes))) =
       All-map Is (outgoing first) (contents (picture_runs s indices planes)) (All-weaker (IsContent (picture_runs s indices planes)) (λ c. Is (outgoing first c)) (first_of first indices planes pictures) (contents (picture_runs s indices planes)) (all_contents (picture_runs s indices planes))) in
       let rest : All Is (pictures_outgoing s (first + 1) (drop count indices) pictures) = All-weaker (IsOfPicture (first + 1) (drop count indices) pictures) Is (later_of first indices planes pictures) (pictures_outgoing s (first + 1) (drop count indices) pictures) (all_of_pictures (first + 1) (drop count indices) pictures) in
-      subst (λ (l : List Outgoing). All Is l) (sym (more first indices planes pictures))
-      (All-append Is (picture_outgoing s first indices planes) (pictures_outgoing s (first + 1) (drop count indices) pictures) (subst (λ (l : List Outgoing). All Is l) (sym (of_picture first indices planes)) front) rest)
+      subst (λ (l : List Outgoing). All Is l) (sym (more_outgoing first indices planes pictures))
+      (All-append Is (picture_outgoing s first indices planes) (pictures_outgoing s (first + 1) (drop count indices) pictures) (subst (λ (l : List Outgoing). All Is l) (sym (picture_contents first indices planes)) front) rest)
 
   -- and all that is to be sent of a picture is among it
   pub among_pictures : (first : ℕ) (indices : List ℕ) (pictures : List Planes) (number : ℕ) (planes : Planes) → slice_get pictures number ≡ Some planes
@@ -107,16 +107,16 @@ module _ (s : Sending) where
   among_pictures first indices (own ∷ pictures) zero planes at c is =
       let same : own ≡ planes = same_Some own planes at in
       let here : IsAmong (contents (picture_runs s indices own)) c = subst (λ (q : Planes). IsAmong (contents (picture_runs s indices q)) c) (sym same) (subst (λ (l : List ℕ). IsAmong (contents (picture_runs s l planes)) c) (ap (λ (n : ℕ). drop n indices) (no_product count)) is) in
-      subst (λ (l : List Outgoing). IsAmong l (outgoing (first + 0) c)) (sym (more first indices own pictures))
+      subst (λ (l : List Outgoing). IsAmong l (outgoing (first + 0) c)) (sym (more_outgoing first indices own pictures))
       (among_before (outgoing (first + 0) c) (picture_outgoing s first indices own) (pictures_outgoing s (first + 1) (drop count indices) pictures)
-      (subst (λ (l : List Outgoing). IsAmong l (outgoing (first + 0) c)) (sym (of_picture first indices own))
+      (subst (λ (l : List Outgoing). IsAmong l (outgoing (first + 0) c)) (sym (picture_contents first indices own))
       (subst (λ (n : ℕ). IsAmong (map (outgoing first) (contents (picture_runs s indices own))) (outgoing n c)) (no_sum first) (among_map (outgoing first) c (contents (picture_runs s indices own)) here))))
     where
       no_product : (n : ℕ) → 0 * n ≡ 0
       no_product n = omega arith
   among_pictures first indices (own ∷ pictures) (suc number) planes at c is =
       let there = among_pictures (first + 1) (drop count indices) pictures number planes at c (subst (λ (l : List SliceRun). IsAmong (contents l) c) (sym (runs_later indices number planes)) is) in
-      subst (λ (l : List Outgoing). IsAmong l (outgoing (first + suc number) c)) (sym (more first indices own pictures))
+      subst (λ (l : List Outgoing). IsAmong l (outgoing (first + suc number) c)) (sym (more_outgoing first indices own pictures))
       (among_behind (outgoing (first + suc number) c) (picture_outgoing s first indices own) (pictures_outgoing s (first + 1) (drop count indices) pictures)
       (subst (λ (n : ℕ). IsAmong (pictures_outgoing s (first + 1) (drop count indices) pictures) (outgoing n c)) (next_number first number) there))
 

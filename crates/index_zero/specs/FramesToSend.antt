@@ -46,3 +46,8 @@ indices_from s picture indices = drop (picture * slices_per_picture s) indices
 abbrev pub IsAtIndexZero : Sending → List ℕ → ℕ → Type 0
 IsAtIndexZero s indices picture = (i : ℕ) → i < slices_per_picture s
     → slice_get (indices_from s picture indices) i ≡ Some 0
+
+-- all slices of all pictures of frames have index 0
+abbrev pub AreAtIndexZero : Sending → List ℕ → List Planes → Type 0
+AreAtIndexZero s indices frames = (picture : ℕ)
+    → picture < length frames * pictures_per_frame s → IsAtIndexZero s indices picture

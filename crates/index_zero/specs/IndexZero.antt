@@ -1,7 +1,8 @@
 -- What was sent at quantisation index 0 and came in time is received as it was sent, whatever else
 -- of the stream is lost, repeated, or out of order.
 use Rattle.std.specs.Prelude.{◌≡◌, ◌<◌, ◌≤◌, ℕ, ◌+◌, ◌-◌, ◌*◌, ◌^◌, true, List, ◌++◌, slice_get, Some}
-use Rattle.index_zero.specs.FramesToSend.{AreFramesToSend, IsAtIndexZero, IsPictureToSend, indices_from, pictures_of_all}
+use Rattle.std.specs.List.{flat_map}
+use Rattle.index_zero.specs.FramesToSend.{AreAtIndexZero, AreFramesToSend, IsAtIndexZero, IsPictureToSend, indices_from, pictures_of_all}
 use Rattle.index_zero.specs.HeardStreams.{IsHeardInTime, IsHeardOf, IsNumberOf, entered_of}
 use Rattle.link_model.specs.Complete.{whole_picture}
 use Rattle.link_model.specs.Numbers.{is_opened, parts_of}
@@ -90,3 +91,19 @@ IndexZeroIsLossless = (settings : SendSettings) (window : ℕ) (indices : List �
     → slice_get frames f ≡ Some frame
     → IsFrameHeard window (sending_view settings) indices frames datagrams h f number
     → IsWritten window (sending_view settings) datagrams h number frame
+
+-- ---- the sender's own list
+
+-- the raw bytes of frames, one after another
+abbrev pub raw_video : Sending → List Planes → List ℕ
+raw_video s frames = flat_map (raw_frame s) frames
+
+-- A list that is the sender's own, at index 0 throughout, is written as all its frames.
+abbrev pub SentStreamsComeBack : Type 0
+SentStreamsComeBack = (settings : SendSettings) (window : ℕ) (indices : List ℕ)
+    (frames : List Planes)
+    → settings.ssrc < 2 ^ 32 → 1 ≤ window
+    → AreFramesToSend (sending_view settings) indices frames
+    → AreAtIndexZero (sending_view settings) indices frames
+    → full_output window (sent_stream (sending_view settings) indices frames)
+    ≡ raw_video (sending_view settings) frames

@@ -1,4 +1,4 @@
-ghost use Rattle.index_zero.specs.IndexZero.{IndexZeroIsLossless, PicturesAreReceived, PicturesComeBack};
+ghost use Rattle.index_zero.specs.IndexZero.{IndexZeroIsLossless, PicturesAreReceived, PicturesComeBack, SentStreamsComeBack};
 
 /// Whatever else of a stream is lost, repeated or out of order: a picture that was sent at
 /// quantisation index 0, and of which all datagrams came before it closed, has the bytes that
@@ -20,4 +20,11 @@ pub fn pictures_come_back()
 #[tactic(auto, using(crate::proofs::ReceivedLaws::index_zero_is_lossless))]
 pub fn index_zero_is_lossless()
     ensures { IndexZeroIsLossless }
+{}
+
+/// The sender's own list of frames at quantisation index 0 is written as all of them, one after
+/// another: fields and frames, whatever the window.
+#[tactic(auto, using(crate::proofs::ReceivedLaws::sent_streams_come_back))]
+pub fn sent_streams_come_back()
+    ensures { SentStreamsComeBack }
 {}

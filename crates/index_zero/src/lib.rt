@@ -4,7 +4,9 @@
 
 mod laws;
 
-pub use laws::{index_zero_is_lossless, pictures_are_received, pictures_come_back};
+pub use laws::{
+    index_zero_is_lossless, pictures_are_received, pictures_come_back, sent_streams_come_back,
+};
 
 #[cfg(test)]
 mod tests;
