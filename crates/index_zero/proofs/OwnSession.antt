@@ -1,10 +1,10 @@
 -- Of the sender's own list one session is heard, the sender's, with the fragments of all pictures in their order.
-use Rattle.std.proofs.Common.{◌≡◌, ◌<◌, ◌≤◌, ℕ, zero, suc, ◌+◌, ◌-◌, ◌*◌, ◌^◌, Bool, true, false, cond, List, [], ◌∷◌, ◌++◌, length, drop, map, Option, Some, None, refl, sym, ap, ◌∙◌, subst, arith, All, inl, inr}
-use Rattle.std.specs.Prelude.{◌⊎◌, ◌==◌, ◌&&◌, not, filter_map, fold, slice_get}
+use Rattle.std.proofs.Common.{◌≡◌, ◌<◌, ℕ, zero, suc, ◌+◌, ◌-◌, ◌*◌, ◌^◌, Bool, true, false, cond, List, [], ◌∷◌, ◌++◌, length, drop, map, Option, Some, None, refl, sym, ap, ◌∙◌, subst, arith, All, inl, inr}
+use Rattle.std.specs.Prelude.{◌⊎◌, filter_map, fold, slice_get}
 use Rattle.std.specs.List.{cons_option, enumerate_from, flat_map}
 use Rattle.std.proofs.lemmas.Bool.{and_right}
 use Rattle.std.proofs.lemmas.List.{append-nil}
-use Rattle.std.proofs.lemmas.List.Elements.{All-append, All-cons, All-head, All-nil, All-tail, All-weaker, filter_map-append}
+use Rattle.std.proofs.lemmas.List.Elements.{All-cons, All-head, All-nil, All-tail, All-weaker, filter_map-append}
 use Rattle.std.proofs.lemmas.Option.{none-some, same_Some}
 use Rattle.index_zero.proofs.HeardFragments.{own_session}
 use Rattle.index_zero.proofs.InOrder.{HasParts, fragment_of, fragments_of, fragments_from}
@@ -13,8 +13,8 @@ use Rattle.index_zero.proofs.SentFragments.{end_begins_none, end_unheard, header
 use Rattle.index_zero.proofs.SentSlices.{sent_part}
 use Rattle.index_zero.proofs.SentStream.{IsOfPicture, IsSent, all_of_pictures, all_sent, contents, count, more_outgoing, none_outgoing, picture_contents, runs_at, runs_later}
 use Rattle.link_model.specs.Kept.{SliceRun}
-use Rattle.link_model.specs.Sending.{DatagramContent, EndContent, FitsDatagram, HeaderContent, Outgoing, ParametersContent, SlicesContent, datagrams_from, end_datagram, frames_outgoing, last_datagram, number_bits, outgoing, picture_runs, pictures_of, pictures_outgoing, pictures_per_frame, sent_datagram, sent_datagrams, sent_stream}
-use Rattle.link_model.specs.SendingPictures.{sent_parameter_bytes, sent_parameters, sent_sequence}
+use Rattle.link_model.specs.Sending.{DatagramContent, EndContent, FitsDatagram, HeaderContent, Outgoing, ParametersContent, SlicesContent, datagrams_from, end_datagram, frames_outgoing, last_datagram, outgoing, picture_runs, pictures_of, pictures_outgoing, pictures_per_frame, sent_datagram, sent_datagrams, sent_stream}
+use Rattle.link_model.specs.SendingPictures.{sent_parameter_bytes, sent_parameters}
 use Rattle.link_model.specs.Session.{Fragment, HeardSession, ParamsPart, Part, Session, SlicesPart, begins, fragment_in, hears, is_other, just_opened, opens_behind, sessions_of, with_datagram}
 use Rattle.link_model.proofs.Hearing.{hears_new, hears_on}
 use Rattle.link_model.proofs.SentDatagrams.{are_settings}

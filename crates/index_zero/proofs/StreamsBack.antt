@@ -1,5 +1,5 @@
 -- The sender's own list at index 0 is written as all its frames.
-use Rattle.std.proofs.Common.{◌≡◌, ◌<◌, ◌≤◌, ℕ, zero, suc, ◌+◌, ◌-◌, ◌*◌, ◌%◌, ◌^◌, Bool, true, false, cond, List, [], ◌∷◌, ◌++◌, length, drop, map, Some, refl, sym, ap, ◌∙◌, subst, arith, All, inl, inr}
+use Rattle.std.proofs.Common.{◌≡◌, ◌<◌, ◌≤◌, ℕ, suc, ◌+◌, ◌*◌, ◌^◌, true, false, List, [], ◌∷◌, ◌++◌, length, map, Some, refl, sym, ap, ◌∙◌, arith, All, inl, inr}
 use Rattle.std.specs.Prelude.{slice_get}
 use Rattle.std.specs.List.{flat_map, range_with_len}
 use Rattle.std.proofs.lemmas.Bool.{cases_Bool}
@@ -22,9 +22,9 @@ use Rattle.link_model.specs.Complete.{whole_picture}
 use Rattle.link_model.specs.Kept.{SliceRun}
 use Rattle.link_model.specs.Numbers.{Numbered, entered, opened_numbers, parts_of}
 use Rattle.link_model.specs.Output.{all_frames, all_output, frame_bytes_at, full_output}
-use Rattle.link_model.specs.Sending.{number_bits, pictures_of, pictures_per_frame, sent_stream}
+use Rattle.link_model.specs.Sending.{pictures_of, pictures_per_frame, sent_stream}
 use Rattle.link_model.specs.SendingPictures.{sent_parameter_bytes, sent_parameters, sent_sequence}
-use Rattle.link_model.specs.Session.{HeardSession, ParamsPart, Part, Session}
+use Rattle.link_model.specs.Session.{HeardSession, ParamsPart, Part}
 use Rattle.vc_types.specs.declared.settings.SendSettings.{SendSettings}
 use Rattle.vc_types.specs.Planes.{Planes}
 use Rattle.vc_types.specs.SenderSettings.{Sending, sending_view}
