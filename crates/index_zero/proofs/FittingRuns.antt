@@ -72,7 +72,7 @@ module _ (settings : SendSettings) where
   unfolding sent_parameters
   count_is = refl
 
-  room_few : slice_room s ≤ 65475
+  pub room_few : slice_room (sending_view settings) ≤ 65475
   room_few = (let most = most_size settings.size settings.size_fits in omega (arith, most))
 
   module _ (planes : Planes) (indices : List ℕ) (none : first_of_slices s planes (slices_with_indices p indices) ≡ None) where
