@@ -1,0 +1,4 @@
+pub mod ZeroIndices
+pub mod RawBytes
+pub mod ShortDatagrams
+pub mod ComingBack

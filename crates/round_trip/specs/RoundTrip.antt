@@ -1,0 +1,33 @@
+-- What `encode` writes of raw frames at quantisation index 0, `decode` writes as these frames.
+use Rattle.std.specs.Prelude.{◌≡◌, ◌<◌, ◌≤◌, ℕ, ◌*◌, ◌^◌, All, List, [], length}
+use Rattle.decode_command.specs.Capture.{capture_split}
+use Rattle.decode_command.specs.Decoding.{IsDecodable}
+use Rattle.encode_command.specs.FramesSent.{AreSendable, capture_of, frame_shape, stream_sent}
+use Rattle.frame_reader.specs.WholeFrames.{HoldFrames}
+use Rattle.link_model.specs.Output.{full_output}
+use Rattle.link_model.specs.Sending.{pictures_per_frame}
+use Rattle.vc_types.specs.declared.choice.IndexChoice.TheVariants.{Index}
+use Rattle.vc_types.specs.declared.settings.SendSettings.{SendSettings}
+use Rattle.vc_types.specs.Planes.{Planes}
+use Rattle.vc_types.specs.SenderSettings.{Sending, sending_view}
+
+-- bytes are those of these frames, of fewer than 2 ^ 31 pictures, and none of them is refused
+pub record IsRawVideo (s : Sending) (bytes : List ℕ) (frames : List Planes) : Type 0 where
+  pub are_bytes : All (λ byte. byte < 256) bytes
+  pub holds : HoldFrames (frame_shape s) bytes frames []
+  pub sendable : AreSendable s frames
+  pub few : length frames * pictures_per_frame s < 2 ^ 31
+
+-- a capture is read whole, and these bytes are written of it
+pub record IsDecodedTo (window packets : ℕ) (capture bytes : List ℕ) : Type 0 where
+  pub decodable : IsDecodable packets capture
+  pub written : full_output window (capture_split packets capture).datagrams ≡ bytes
+
+-- Raw frames that are sent at index 0 come back, up to `packets` datagrams.
+abbrev pub EncodedFramesComeBack : Type 0
+EncodedFramesComeBack = (settings : SendSettings) (window packets : ℕ) (bytes : List ℕ)
+    (frames : List Planes)
+    → settings.ssrc < 2 ^ 32 → 1 ≤ window → settings.choice ≡ Index 0
+    → IsRawVideo (sending_view settings) bytes frames
+    → length (stream_sent (sending_view settings) frames) ≤ packets
+    → IsDecodedTo window packets (capture_of (stream_sent (sending_view settings) frames)) bytes
