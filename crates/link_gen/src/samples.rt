@@ -9,15 +9,16 @@ const MULTIPLIER: u64 = 6364136223846793005;
 
 const INCREMENT: u64 = 1442695040888963407;
 
+/// The state of the next sample.
 #[tactic(auto, using(crate::proofs::States::step_wraps))]
-fn next_state(state: u64) -> u64
+pub fn next_state(state: u64) -> u64
     ensures { result ≡ next_state state }
 {
     state.wrapping_mul(MULTIPLIER).wrapping_add(INCREMENT)
 }
 
-// The upper bits of a state.
-fn sample_of(depth: u8, state: u64) -> u16
+/// The sample of a state: so many of its upper bits, 1 to 16.
+pub fn sample_of(depth: u8, state: u64) -> u16
     requires some { 1 ≤ depth }
     requires few { depth ≤ 16 }
     ensures { result ≡ sample_of depth state }

@@ -1,0 +1,4 @@
+pub mod Counting
+pub mod RawSamples
+pub mod SampleBits
+pub mod WholeFrames

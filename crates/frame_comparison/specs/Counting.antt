@@ -1,0 +1,20 @@
+-- What a comparison counts in all.
+use Rattle.std.specs.Prelude.{ℕ, ◌+◌, Bool, true, List, [], ◌∷◌, ◌++◌, Option, Some}
+use Rattle.frame_comparison.specs.declared.comparison.Comparison.{Comparison}
+use Rattle.frame_comparison.specs.Differences.{different_samples}
+use Rattle.frame_reader.specs.FrameBytes.{samples_of_bytes}
+use Rattle.link_gen.specs.Generator.{generated_samples}
+
+-- the bytes of a sample that is not whole yet
+abbrev pub held_back : Bool → Option ℕ → List ℕ
+held_back true (Some low) = low ∷ []
+held_back wide low = []
+
+-- where these samples come and no more
+abbrev pub counted_of : Comparison → List ℕ → ℕ
+counted_of c samples =
+    c.different + different_samples (generated_samples c.depth c.state c.left) samples
+
+-- where these bytes come and no more
+abbrev pub counted_with : Comparison → List ℕ → ℕ
+counted_with c bytes = counted_of c (samples_of_bytes c.wide (held_back c.wide c.low ++ bytes))
