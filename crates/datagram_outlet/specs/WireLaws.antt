@@ -1,7 +1,8 @@
 -- Datagrams that are sent to a wire one after another. The laws of an outlet cite these.
-use Rattle.std.proofs.Common.{◌≡◌, ℕ, ◌+◌, ◌≤◌, List, [], ◌∷◌, ◌++◌, length, take, ap, sym, subst, arith, refl, length-append}
+use Rattle.std.proofs.Common.{◌≡◌, ℕ, ◌+◌, ◌≤◌, List, [], ◌∷◌, ◌++◌, length, take, sym, subst, arith, refl, length-append}
 use Rattle.std.proofs.Math.Seq.{take-append-add}
 use Rattle.std.proofs.lemmas.List.{take-append-le}
+use Rattle.vc_ports.specs.Changes.{WireChange}
 use Rattle.vc_ports.specs.Faults.{Rose}
 use Rattle.vc_ports.specs.Wires.{WireTold, sending}
 use Rattle.wire_calls.specs.Passing.{Passes}
@@ -10,17 +11,22 @@ use Rattle.datagram_outlet.specs.declared.outlet.OutletFault.{OutletFault}
 use Rattle.datagram_outlet.specs.declared.outlet.OutletFault.TheVariants as faults
 use Rattle.datagram_outlet.specs.Outlets.{SentAll, SentPart}
 
-pub none_sent : (told : WireTold) (faults : ℕ) → SentAll told told faults faults []
+-- a wire that told so much, and had counted so many faults, before and after
+abbrev told_between : (before after : WireTold) → (first last : ℕ) → WireChange
+told_between before after first last =
+    record { told = record { before = before; after = after }; faults = record { before = first; after = last } }
+
+pub none_sent : (told : WireTold) (faults : ℕ) → SentAll (told_between told told faults faults) []
 none_sent told faults = record { passes = passes_none told; later = omega arith }
 
 module _ (a b c : WireTold) (i j k : ℕ) (first second : List (List ℕ)) where
-  pub more_sent : SentAll a b i j first → SentAll b c j k second → SentAll a c i k (first ++ second)
+  pub more_sent : SentAll (told_between a b i j) first → SentAll (told_between b c j k) second → SentAll (told_between a c i k) (first ++ second)
   more_sent p q = record {
     passes = passes_then a b c first [] second [] p.passes q.passes;
     later = omega (arith, p.later, q.later);
   }
 
-  pub part_behind : (fault : OutletFault) → SentAll a b i j first → SentPart b c j k second fault → SentPart a c i k (first ++ second) fault
+  pub part_behind : (fault : OutletFault) → SentAll (told_between a b i j) first → SentPart (told_between b c j k) second fault → SentPart (told_between a c i k) (first ++ second) fault
   part_behind fault p q = record {
     fault_is = q.fault_is;
     count = length first + q.count;
@@ -29,7 +35,7 @@ module _ (a b c : WireTold) (i j k : ℕ) (first second : List (List ℕ)) where
     rose = omega (arith, p.later, q.rose);
   }
 
-pub part_before : (a b : WireTold) (i j : ℕ) (first second : List (List ℕ)) (fault : OutletFault) → SentPart a b i j first fault → SentPart a b i j (first ++ second) fault
+pub part_before : (a b : WireTold) (i j : ℕ) (first second : List (List ℕ)) (fault : OutletFault) → SentPart (told_between a b i j) first fault → SentPart (told_between a b i j) (first ++ second) fault
 part_before a b i j first second fault p = record {
   fault_is = p.fault_is;
   count = p.count;
@@ -39,10 +45,10 @@ part_before a b i j first second fault p = record {
 }
 
 -- one datagram
-pub datagram_sent : (a b : WireTold) (i j : ℕ) (datagram : List ℕ) → b ≡ sending a datagram → i ≤ j → SentAll a b i j (datagram ∷ [])
+pub datagram_sent : (a b : WireTold) (i j : ℕ) (datagram : List ℕ) → b ≡ sending a datagram → i ≤ j → SentAll (told_between a b i j) (datagram ∷ [])
 datagram_sent a b i j datagram is later = record { passes = passes_sent a b datagram is; later = later }
 
-pub datagram_unsent : (a b : WireTold) (i j : ℕ) (datagram : List ℕ) → b ≡ a → Rose i j → SentPart a b i j (datagram ∷ []) faults.Wire
+pub datagram_unsent : (a b : WireTold) (i j : ℕ) (datagram : List ℕ) → b ≡ a → Rose i j → SentPart (told_between a b i j) (datagram ∷ []) faults.Wire
 datagram_unsent a b i j datagram is rose = record {
   fault_is = refl;
   count = 0;

@@ -2,6 +2,7 @@ ghost use Rattle.std.proofs.Common.{◌∙◌};
 ghost use Rattle.std.specs.Prelude.{◌≡◌, ⊤, refl};
 ghost use Rattle.datagram_outlet.specs.CaptureLaws.{none_written, more_written, part_behind, part_before};
 ghost use Rattle.datagram_outlet.specs.Outlets.{WroteEntries, WrotePartOfEntries};
+ghost use Rattle.vc_ports.specs.Changes.{output_of};
 
 use crate::outlet::{Outlet, OutletFault};
 use link_capture::put_entry;
@@ -26,12 +27,11 @@ impl<'a, O: Sink> Outlet for CaptureOutlet<'a, O> {
     ghost is_ready = { λ _. ⊤ };
 
     ghost carried = { λ x y datagrams. (y.output.ghost_name ≡ x.output.ghost_name)
-        × WroteEntries (O.held x.output.now) (O.held y.output.now)
-        (O.faults x.output.now) (O.faults y.output.now) datagrams };
+        × WroteEntries (output_of O.held O.faults x.output.now y.output.now) datagrams };
 
     ghost broke = { λ x y datagrams fault. (y.output.ghost_name ≡ x.output.ghost_name)
-        × WrotePartOfEntries (O.held x.output.now) (O.held y.output.now)
-        (O.faults x.output.now) (O.faults y.output.now) datagrams fault };
+        × WrotePartOfEntries (output_of O.held O.faults x.output.now y.output.now) datagrams
+        fault };
 
     fn put(&mut self, datagram: &[u8]) -> Result<(), OutletFault> {
         match put_entry(self.output, datagram) {

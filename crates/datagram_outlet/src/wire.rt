@@ -2,6 +2,7 @@ ghost use Rattle.std.proofs.Common.{◌∙◌};
 ghost use Rattle.std.specs.Prelude.{◌≡◌, IsTrue, refl};
 ghost use Rattle.datagram_outlet.specs.WireLaws.{none_sent, more_sent, part_behind, part_before};
 ghost use Rattle.datagram_outlet.specs.Outlets.{SentAll, SentPart};
+ghost use Rattle.vc_ports.specs.Changes.{wire_of};
 
 use crate::outlet::{Outlet, OutletFault};
 use vc_ports::{Reached, Wire};
@@ -25,12 +26,10 @@ impl<'a, N: Wire> Outlet for WireOutlet<'a, N> {
     ghost is_ready = { λ x. IsTrue (N.told x.wire.now).aimed };
 
     ghost carried = { λ x y datagrams. (y.wire.ghost_name ≡ x.wire.ghost_name)
-        × SentAll (N.told x.wire.now) (N.told y.wire.now)
-        (N.faults x.wire.now) (N.faults y.wire.now) datagrams };
+        × SentAll (wire_of N.told N.faults x.wire.now y.wire.now) datagrams };
 
     ghost broke = { λ x y datagrams fault. (y.wire.ghost_name ≡ x.wire.ghost_name)
-        × SentPart (N.told x.wire.now) (N.told y.wire.now)
-        (N.faults x.wire.now) (N.faults y.wire.now) datagrams fault };
+        × SentPart (wire_of N.told N.faults x.wire.now y.wire.now) datagrams fault };
 
     fn put(&mut self, datagram: &[u8]) -> Result<(), OutletFault> {
         match self.wire.send(datagram) {

@@ -1,166 +1,23 @@
 -- Where no fault came, whole frames that aren't refused, at most as many as were asked for, are encoded
 -- to their end, unless memory runs out.
-use Rattle.std.proofs.Common.{◌≡◌, ◌⊎◌, ℕ, ◌<◌, ◌+◌, List, [], ◌∷◌, ◌++◌, length, take, drop, map, All, Option, Some, None, IsSomeAnd, Result, Ok, Err, inl, inr, refl, sym, ap, ◌∙◌, arith, append_assoc, append-nil, length-append}
-use Rattle.std.specs.List.{concat}
+use Rattle.std.proofs.Common.{◌≡◌, ◌⊎◌, ℕ, IsSomeAnd, Result, Err}
 use Rattle.std.specs.Result.{IsOk}
-use Rattle.std.proofs.Math.Seq.{take-append_seam, drop-append_seam}
-use Rattle.std.proofs.lemmas.List.{length-map, map-append}
-use Rattle.std.proofs.lemmas.List.Elements.{All-head, All-tail}
-use Rattle.encode_command.specs.Encodes.{EncodeEnded, Encodes, EndsWithRefusedFrame, IsCutWithin, IsEncodable, IsPastFrames}
-use Rattle.encode_command.specs.FramesSent.{AreSendable, frame_fault, frame_shape}
-use Rattle.frame_reader.specs.FrameBytes.{frame_of_bytes, frame_length}
-use Rattle.frame_reader.specs.WholeFrames.{HoldFrames}
-use Rattle.link_model.specs.SendingFaults.{SendFault}
-use Rattle.link_model.specs.SendingFaults as faults
+use Rattle.datagram_outlet.specs.Outlets.{WroteEntries, WrotePartOfEntries}
+use Rattle.datagram_outlet.specs.declared.outlet.OutletFault.{OutletFault}
+use Rattle.datagram_outlet.specs.declared.outlet.OutletFault.TheVariants as outlets
+use Rattle.encode_command.specs.Encodes.{Encodes, IsEncodable}
+use Rattle.frame_sending.proofs.Completing.{sending_completes}
 use Rattle.link_report.specs.declared.ending.Ending.{Ending}
 use Rattle.link_report.specs.declared.ending.Ending.TheVariants as endings
 use Rattle.link_report.specs.declared.summary.Summary.{Summary}
-use Rattle.vc_ports.specs.Changes.{InputChange, OutputChange, HasRisen, Took}
-use Rattle.vc_types.specs.Planes.{Planes}
+use Rattle.vc_ports.specs.Changes.{InputChange, OutputChange, HasRisen}
 use Rattle.vc_types.specs.SenderSettings.{Sending}
 
-some_is : (x y : List ℕ) → Some x ≡ Some y → x ≡ y
-some_is x y p = cc
-
-some_is_none : (x : List ℕ) → Some x ≡ None → ⊥
-some_is_none x p = cc
-
-none_is_some : (fault : SendFault) (found : Option SendFault) → found ≡ None → found ≡ Some fault → ⊥
-none_is_some fault found none some = cc
-
--- ---- pieces of one length
-
-same_front : (x y xs ys : List ℕ) → length x ≡ length y → x ++ xs ≡ y ++ ys → x ≡ y
-same_front x y xs ys long same =
-    sym (take-append_seam x xs)
-    ∙ ap (λ (l : List ℕ). take (length x) l) same
-    ∙ ap (λ (k : ℕ). take k (y ++ ys)) long
-    ∙ take-append_seam y ys
-
-same_back : (x y xs ys : List ℕ) → length x ≡ length y → x ++ xs ≡ y ++ ys → xs ≡ ys
-same_back x y xs ys long same =
-    sym (drop-append_seam x xs)
-    ∙ ap (λ (l : List ℕ). drop (length x) l) same
-    ∙ ap (λ (k : ℕ). drop k (y ++ ys)) long
-    ∙ drop-append_seam y ys
-
-abbrev AreLong : ℕ → List (List ℕ) → Type 0
-AreLong n pieces = All (λ piece. length piece ≡ n) pieces
-
--- the pieces behind some, which have these bytes
-abbrev Behind : ℕ → (all pieces : List (List ℕ)) → List ℕ → Type 0
-Behind n all pieces bytes = (behind : List (List ℕ)) × (all ≡ pieces ++ behind) × (concat behind ≡ bytes) × AreLong n behind
-
--- pieces whose bytes begin with those of others begin with these
-pieces_behind : (n : ℕ) → 0 < n → (pieces all : List (List ℕ)) (bytes : List ℕ) → AreLong n pieces → AreLong n all → concat all ≡ concat pieces ++ bytes → Behind n all pieces bytes
-pieces_behind n some [] all bytes long_pieces long_all same = (all, refl, same, long_all)
-pieces_behind n some (piece ∷ pieces) [] bytes long_pieces long_all same =
-    let long : length piece ≡ n = All-head (λ p. length p ≡ n) piece pieces long_pieces in
-    let none : 0 ≡ length ((piece ++ concat pieces) ++ bytes) = ap length same in
-    absurd (omega (arith, some, long, none, length-append (piece ++ concat pieces) bytes, length-append piece (concat pieces)))
-pieces_behind n some (piece ∷ pieces) (first ∷ all) bytes long_pieces long_all same =
-    let long : length first ≡ length piece = All-head (λ p. length p ≡ n) first all long_all ∙ sym (All-head (λ p. length p ≡ n) piece pieces long_pieces) in
-    let joined : first ++ concat all ≡ piece ++ (concat pieces ++ bytes) = same ∙ append_assoc piece (concat pieces) bytes in
-    let b : Behind n all pieces bytes = pieces_behind n some pieces all bytes (All-tail (λ p. length p ≡ n) piece pieces long_pieces) (All-tail (λ p. length p ≡ n) first all long_all) (same_back first piece (concat all) (concat pieces ++ bytes) long joined) in
-    let fronts : first ≡ piece = same_front first piece (concat all) (concat pieces ++ bytes) long joined in
-    (b.0, ap (λ (l : List (List ℕ)). first ∷ l) b.1 ∙ ap (λ (p : List ℕ). p ∷ (pieces ++ b.0)) fronts, b.2, b.3)
-
--- fewer bytes than a piece has are none
-none_shorter : (n : ℕ) (pieces : List (List ℕ)) (bytes : List ℕ) → AreLong n pieces → concat pieces ≡ bytes → length bytes < n → bytes ≡ []
-none_shorter n [] bytes long same short = sym same
-none_shorter n (piece ∷ pieces) bytes long same short =
-    let one : length piece ≡ n = All-head (λ p. length p ≡ n) piece pieces long in
-    absurd (omega (arith, one, length-append piece (concat pieces), ap length same, short))
-
-none_more : (pieces : List (List ℕ)) → length pieces ≡ 0 → concat pieces ≡ []
-none_more [] none = refl
-none_more (piece ∷ pieces) none = absurd (omega (arith, none))
-
--- what holds of a list holds of the last of its front
-at_seam : (P : Planes → Type 0) (front : List Planes) (last : Planes) (behind : List Planes) → All P ((front ++ last ∷ []) ++ behind) → P last
-at_seam P [] last behind all = All-head P last behind all
-at_seam P (first ∷ front) last behind all = at_seam P front last behind (All-tail P first ((front ++ last ∷ []) ++ behind) all)
-
--- ---- what encodable bytes exclude, where the first of them were given
-
-module _ (s : Sending) (most : ℕ) (given more : List ℕ) (frames : List Planes) (rest : List ℕ) (holds : HoldFrames (frame_shape s) given frames rest) (whole : IsEncodable s most (given ++ more)) where
-  abbrev n : ℕ
-  n = frame_length (frame_shape s)
-
-  abbrev frame_of : List ℕ → Planes
-  frame_of bytes = frame_of_bytes (frame_shape s) bytes
-
-  joined : concat whole.holds.pieces ≡ concat holds.pieces ++ (rest ++ more)
-  joined =
-      sym (append-nil (concat whole.holds.pieces))
-      ∙ sym whole.holds.bytes_are
-      ∙ ap (λ (l : List ℕ). l ++ more) holds.bytes_are
-      ∙ append_assoc (concat holds.pieces) rest more
-
-  behind : Behind n whole.holds.pieces holds.pieces (rest ++ more)
-  behind = pieces_behind n whole.holds.short holds.pieces whole.holds.pieces (rest ++ more) holds.whole whole.holds.whole joined
-
-  all_frames : whole.frames ≡ frames ++ map frame_of behind.0
-  all_frames =
-      whole.holds.frames_are
-      ∙ ap (λ (l : List (List ℕ)). map frame_of l) behind.1
-      ∙ map-append frame_of holds.pieces behind.0
-      ∙ ap (λ (l : List Planes). l ++ map frame_of behind.0) (sym holds.frames_are)
-
-  no_cut : (input : InputChange) (output : OutputChange) (number : ℕ) → input.left.after ≡ Some more → IsCutWithin s most input output frames rest number → ⊥
-  no_cut input output number tells cut =
-      let none : more ≡ [] = rw tells at cut.ended in
-      cut.some_rest (none_shorter n behind.0 rest behind.3 (behind.2 ∙ ap (λ (l : List ℕ). rest ++ l) none ∙ append-nil rest) holds.short)
-
-  no_refused : (output : OutputChange) (fault : SendFault) → EndsWithRefusedFrame s most output frames rest fault → ⊥
-  no_refused output fault r =
-      let all : AreSendable s ((r.others ++ r.last ∷ []) ++ map frame_of behind.0) = rw (sym r.frames_are, sym all_frames) whole.sendable in
-      none_is_some fault (frame_fault s r.last) (at_seam (λ frame. frame_fault s frame ≡ None) r.others r.last (map frame_of behind.0) all) r.refused
-
-  no_limit : (output : OutputChange) (limit : ℕ) → IsPastFrames s most output frames rest limit → ⊥
-  no_limit output limit p =
-      let counted : length whole.frames ≡ length frames + length behind.0 = ap length all_frames ∙ length-append frames (map frame_of behind.0) ∙ ap (λ (k : ℕ). length frames + k) (length-map behind.0 frame_of) in
-      let none : length behind.0 ≡ 0 = omega (arith, counted, whole.few, p.count) in
-      let empty : length (rest ++ more) ≡ 0 = ap length (sym behind.2 ∙ none_more behind.0 none) in
-      omega (arith, empty, length-append rest more, p.one_more)
-
--- ---- by how it ended
-
--- the bytes behind those that were given
-behind_given : (s : Sending) (most : ℕ) (given : List ℕ) (before after : Option (List ℕ)) → Took (record { left = record { before = before; after = after }; faults = record { before = 0; after = 0 } }) given
-    → IsSomeAnd before (IsEncodable s most) → (more : List ℕ) × (after ≡ Some more) × IsEncodable s most (given ++ more)
-behind_given s most given None after took whole = absurd whole
-behind_given s most given (Some bytes) None took whole = absurd (some_is_none bytes took)
-behind_given s most given (Some bytes) (Some more) took whole = (more, refl, rw (some_is bytes (given ++ more) took) at whole)
+not_the_wire : ◌≡◌ {A = OutletFault} outlets.Wire outlets.Output → ⊥
+not_the_wire is = cc
 
 module _ (s : Sending) (most : ℕ) (input : InputChange) (output : OutputChange) (sound_input : HasRisen input.faults → ⊥) (sound_output : HasRisen output.faults → ⊥) (whole : IsSomeAnd input.left.before (IsEncodable s most)) where
-  abbrev failed : Ending → Result Summary Ending
-  failed ending = Err ending
-
-  abbrev Came : Result Summary Ending → Type 0
-  Came answer = IsOk answer ⊎ (answer ≡ Err endings.NoMemory)
-
-  abbrev Left : List ℕ → Type 0
-  Left given = (more : List ℕ) × (input.left.after ≡ Some more) × IsEncodable s most (given ++ more)
-
-  left : (given : List ℕ) → Took input given → Left given
-  left given took = behind_given s most given input.left.before input.left.after took whole
-
-  stopped : (ending : Ending) (given : List ℕ) (frames : List Planes) (rest : List ℕ) → Left given → HoldFrames (frame_shape s) given frames rest → EncodeEnded s most (Err ending) input output frames rest
-      → (ending ≡ endings.InputFailed → ⊥) → (ending ≡ endings.OutputFailed → ⊥) → Came (Err ending)
-  stopped endings.NoMemory given frames rest l holds ended read wrote = inr refl
-  stopped endings.InputFailed given frames rest l holds ended read wrote = absurd (read refl)
-  stopped endings.OutputFailed given frames rest l holds ended read wrote = absurd (wrote refl)
-  stopped (endings.RawCut number) given frames rest l holds ended read wrote = absurd (no_cut s most given l.0 frames rest holds l.2 input output number l.1 ended)
-  stopped (endings.SampleTooLarge place plane value) given frames rest l holds ended read wrote = absurd (no_refused s most given l.0 frames rest holds l.2 output (faults.SampleRange plane place value) ended)
-  stopped (endings.SliceTooLarge slice bytes) given frames rest l holds ended read wrote = absurd (no_refused s most given l.0 frames rest holds l.2 output (faults.SliceTooLarge slice bytes) ended)
-  stopped (endings.FrameLimit limit) given frames rest l holds ended read wrote = absurd (no_limit s most given l.0 frames rest holds l.2 output limit ended)
-  stopped (endings.Usage place) given frames rest l holds ended read wrote = absurd ended
-  stopped endings.WireFailed given frames rest l holds ended read wrote = absurd ended
-  stopped (endings.CaptureCut place) given frames rest l holds ended read wrote = absurd ended
-  stopped (endings.PacketLimit limit) given frames rest l holds ended read wrote = absurd ended
-  stopped (endings.StreamBad place) given frames rest l holds ended read wrote = absurd ended
-
   pub encode_completes : (answer : Result Summary Ending) → Encodes s most answer input output → IsOk answer ⊎ (answer ≡ Err endings.NoMemory)
-  encode_completes (Ok summary) e = inl refl
-  encode_completes (Err ending) e = stopped ending e.given e.frames e.rest (left e.given e.took) e.holds e.ended (λ f. sound_input (e.input_failed (ap failed f))) (λ f. sound_output (e.output_failed (ap failed f)))
+  encode_completes answer e =
+      sending_completes s most input (WroteEntries output) (WrotePartOfEntries output) sound_input
+      (λ datagrams part. sound_output part.rose) (λ datagrams part. not_the_wire part.fault_is) whole answer e.sends

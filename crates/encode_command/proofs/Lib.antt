@@ -1,11 +1,2 @@
-pub mod FewSent
-pub mod SentMore
-pub mod Stopping
-pub mod ChosenIndices
-pub mod Numbering
-pub mod PuttingEntries
-pub mod TakingFrames
-pub mod FrameSizes
-pub mod FirstFitting
-pub mod LoopSteps
+pub mod Encoding
 pub mod Completing

@@ -1,4 +1,1 @@
-pub mod FramesSent
 pub mod Encodes
-pub mod Looping
-pub mod Steps

@@ -2,10 +2,6 @@
 #![tactic(auto)]
 
 mod command;
-mod encoder;
-mod fitting;
-mod shape;
-mod totals;
 
 pub use command::encode;
 

@@ -2,8 +2,8 @@
 use Rattle.std.proofs.Common.{◌≡◌, ℕ, ◌+◌, List, ◌∷◌, [], ◌++◌, length, take, ap, sym, ◌∙◌, arith, length-append}
 use Rattle.std.proofs.lemmas.List.{map-append}
 use Rattle.std.proofs.lemmas.List.Sums.{sum_by-append}
-use Rattle.encode_command.specs.FramesSent.{bytes_in}
-use Rattle.encode_command.specs.Steps.{counted_in_64}
+use Rattle.frame_sending.specs.FramesSent.{bytes_in}
+use Rattle.pack_command.specs.Counted.{counted_in_64}
 use Rattle.link_sender.specs.declared.datagram.Datagram.{Datagram}
 use Rattle.link_sender.specs.Packing.{bytes_of_all}
 use Rattle.pack_command.specs.declared.totals.Totals.{Totals}

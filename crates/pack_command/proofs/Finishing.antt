@@ -1,6 +1,6 @@
 -- The end of a sequence, written behind a stream.
 use Rattle.std.proofs.Common.{◌≡◌, ℕ, ◌+◌, ◌%◌, ◌^◌, List, [], ◌∷◌, ◌++◌, length, Option, Some, None, refl, ap, sym, ◌∙◌, subst, arith}
-use Rattle.encode_command.specs.FramesSent.{capture_of}
+use Rattle.datagram_outlet.specs.Outlets.{capture_of}
 use Rattle.link_stream.specs.Packed.{PackStream, pictures_packed, settings_for, stream_packed, whole_packed}
 use Rattle.link_stream.specs.Packing.{end_around, packed_datagrams, packed_end, timestamp_behind}
 use Rattle.link_stream.proofs.Contents.{end_wrapped}

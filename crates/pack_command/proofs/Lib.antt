@@ -5,6 +5,7 @@ mod Slicing
 mod Bringing
 pub mod Completing
 mod Counting
+mod PuttingEntries
 mod Starting
 mod Finishing
 mod Taking

@@ -9,8 +9,8 @@ use Rattle.vc_units.specs.Reading.{GaveUnit}
 use Rattle.vc_types.specs.DataUnits.{DataUnit, is_end_of_sequence}
 use Rattle.vc_units.specs.Units.{units_within}
 use Rattle.vc_units.proofs.Streams.{units_within-unit, units_within-end, units_within-nothing}
-use Rattle.encode_command.proofs.Stopping.{capture-append}
-use Rattle.encode_command.specs.FramesSent.{capture_of}
+use Rattle.datagram_outlet.specs.CaptureLaws.{capture-append}
+use Rattle.datagram_outlet.specs.Outlets.{capture_of}
 use Rattle.play_command.specs.Looping.{then_units}
 use Rattle.link_stream.specs.Packed.{PackedSoFar, nothing_packed, packed_behind, packed_of, settings_for, stream_packed}
 use Rattle.link_stream.proofs.PackedMore.{none_packed}

@@ -17,9 +17,10 @@ use Rattle.vc_units.specs.declared.fault.UnitFault.{UnitFault}
 use Rattle.vc_units.specs.declared.fault.UnitFault.TheVariants as faults
 use Rattle.vc_units.proofs.Infos.{data_unit-stub}
 use Rattle.vc_units.proofs.Streams.{units_within-refused}
-use Rattle.encode_command.proofs.Stopping.{capture-append}
-use Rattle.encode_command.specs.FramesSent.{bytes_in, capture_of}
-use Rattle.encode_command.specs.Steps.{counted_in_64}
+use Rattle.datagram_outlet.specs.CaptureLaws.{capture-append}
+use Rattle.frame_sending.specs.FramesSent.{bytes_in}
+use Rattle.datagram_outlet.specs.Outlets.{capture_of}
+use Rattle.pack_command.specs.Counted.{counted_in_64}
 use Rattle.play_command.specs.Endings.{reading_ended}
 use Rattle.play_command.specs.Playing.{IsLast, UnitSplit}
 use Rattle.link_stream.specs.Packed.{BadUnit, PackFault, PackStream, PackedSoFar, PartTooLarge, packed_behind, packs_unit, pictures_packed, stream_packed, units_packed, whole_packed}

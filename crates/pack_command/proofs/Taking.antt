@@ -1,7 +1,7 @@
 -- What a unit behind a stream comes to, by its code.
 use Rattle.std.proofs.Common.{◌≡◌, ◌≢◌, ℕ, List, [], Option, Some, None, Result, Ok, Err, refl, ap, sym, ◌∙◌, subst, append-nil}
 use Rattle.std.specs.Global.{Vec}
-use Rattle.encode_command.specs.FramesSent.{capture_of}
+use Rattle.datagram_outlet.specs.Outlets.{capture_of}
 use Rattle.link_sender.specs.declared.datagram.Datagram.{Datagram}
 use Rattle.link_sender.specs.Packing.{bytes_of_all}
 use Rattle.link_stream.specs.Packed.{PackStream, if_it_fits, if_it_is_whole, packs_unit, picture_to_pack, stream_packed, with_packed}

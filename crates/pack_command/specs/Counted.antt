@@ -1,8 +1,11 @@
 -- How many datagrams of a stream went out, and how many bytes they have.
-use Rattle.std.specs.Prelude.{ℕ, ◌+◌, List, length}
-use Rattle.encode_command.specs.FramesSent.{bytes_in}
-use Rattle.encode_command.specs.Steps.{counted_in_64}
+use Rattle.std.specs.Prelude.{ℕ, ◌+◌, ◌-◌, ◌^◌, min, List, length}
+use Rattle.frame_sending.specs.FramesSent.{bytes_in}
 use Rattle.pack_command.specs.declared.totals.Totals.{Totals}
+
+-- a count of 64 bits, which would stay at its last value
+abbrev pub counted_in_64 : ℕ → ℕ
+counted_in_64 count = min count (2 ^ 64 - 1)
 
 -- the totals with more datagrams
 abbrev pub totals_with : Totals → List (List ℕ) → Totals

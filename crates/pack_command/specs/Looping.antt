@@ -1,7 +1,7 @@
 -- What a loop over the units of a source knows.
 use Rattle.std.specs.Prelude.{◌≡◌, ◌⊎◌, ℕ, ◌-◌, true, false, List, [], ◌++◌, length, Option, None, Result, Ok, Err}
 use Rattle.std.specs.List.{list_any}
-use Rattle.encode_command.specs.FramesSent.{capture_of}
+use Rattle.datagram_outlet.specs.Outlets.{capture_of}
 use Rattle.play_command.specs.Looping.{then_units}
 use Rattle.play_command.specs.Playing.{unit_split}
 use Rattle.link_report.specs.declared.ending.Ending.{Ending}

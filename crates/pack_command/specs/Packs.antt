@@ -1,7 +1,8 @@
 -- What packing an elementary stream to a capture did, by how it ended.
 use Rattle.std.specs.Prelude.{◌≡◌, ◌⊎◌, ℕ, ◌<◌, false, List, [], ◌∷◌, ◌++◌, length, None, IsTrue, IsFalse, Result, Ok, Err}
-use Rattle.encode_command.specs.FramesSent.{bytes_in, capture_of}
-use Rattle.encode_command.specs.Steps.{counted_in_64}
+use Rattle.frame_sending.specs.FramesSent.{bytes_in}
+use Rattle.datagram_outlet.specs.Outlets.{capture_of}
+use Rattle.pack_command.specs.Counted.{counted_in_64}
 use Rattle.play_command.specs.Playing.{IsLast, UnitSplit, has_ended, unit_split}
 use Rattle.link_report.specs.declared.ending.Ending.{Ending}
 use Rattle.link_report.specs.declared.ending.Ending.TheVariants.{InputFailed, OutputFailed, NoMemory, PacketLimit, SliceTooLarge, StreamBad}

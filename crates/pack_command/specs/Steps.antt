@@ -1,8 +1,9 @@
 -- What is done with a unit.
 use Rattle.std.specs.Prelude.{◌≡◌, ◌≤◌, ◌+◌, ℕ, ⊤, List, [], ◌∷◌, ◌++◌, length, take, drop, Option, Some, None, Result, Ok, Err}
 use Rattle.std.specs.Global.{Vec}
-use Rattle.encode_command.specs.FramesSent.{bytes_in, capture_of}
-use Rattle.encode_command.specs.Steps.{counted_in_64}
+use Rattle.frame_sending.specs.FramesSent.{bytes_in}
+use Rattle.datagram_outlet.specs.Outlets.{capture_of}
+use Rattle.pack_command.specs.Counted.{counted_in_64}
 use Rattle.link_model.specs.Kept.{next_slices}
 use Rattle.link_report.specs.declared.ending.Ending.{Ending}
 use Rattle.link_report.specs.declared.ending.Ending.TheVariants as endings

@@ -1,5 +1,5 @@
 ghost use Rattle.std.specs.Prelude.{◌≡◌, OnOk, OnErr, IsErr};
-ghost use Rattle.encode_command.specs.FramesSent.{capture_of};
+ghost use Rattle.datagram_outlet.specs.Outlets.{capture_of};
 ghost use Rattle.pack_command.specs.Counted.{totals_with};
 ghost use Rattle.link_sender.specs.Packing.{bytes_of_all};
 ghost use Rattle.vc_ports.specs.Faults.{HasCause};

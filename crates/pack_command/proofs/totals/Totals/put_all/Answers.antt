@@ -1,7 +1,7 @@
 use Rattle.std.proofs.Common.{◌∷◌, [], ◌++◌, take, ap, sym, ◌∙◌, arith}
 use Rattle.std.proofs.lemmas.List.{take_more}
 use Rattle.link_sender.specs.declared.datagram.Datagram.{Datagram}
-use Rattle.encode_command.proofs.PuttingEntries.{entry_some}
+use Rattle.pack_command.proofs.PuttingEntries.{entry_some}
 use Rattle.pack_command.proofs.totals.Totals.put_all.Goals as goal
 
 pub put_entry-requires : goal.put_entry-requires

@@ -1,5 +1,5 @@
 use Rattle.std.proofs.Common.{◌≡◌, ◌≤◌, take}
-use Rattle.encode_command.specs.FramesSent.{capture_of}
+use Rattle.datagram_outlet.specs.Outlets.{capture_of}
 use Rattle.pack_command.specs.Counted.{totals_with}
 use Rattle.link_sender.specs.Packing.{bytes_of_all}
 use Rattle.vc_ports.specs.Writing.{Grew}

@@ -1,0 +1,135 @@
+-- How a loop over frames ends where a frame isn't read or isn't sent.
+use Rattle.std.proofs.Common.{◌≡◌, ℕ, ◌+◌, ◌*◌, ◌<◌, ◌≤◌, Bool, true, false, List, [], length, take, Option, Ok, Err, refl, sym, subst, arith, inl, inr}
+use Rattle.std.specs.Prelude.{IsTrue, ◌&&◌, nat_le, Result, if◌then◌else◌}
+use Rattle.std.proofs.lemmas.Bool.{and_parts, leb-true}
+use Rattle.std.proofs.Math.Nat.{le-mul_of_pos_right}
+use Rattle.datagram_outlet.specs.declared.outlet.OutletFault.{OutletFault}
+use Rattle.datagram_outlet.specs.declared.outlet.OutletFault.TheVariants as outlets
+use Rattle.frame_sending.specs.Counted.{sent_answer}
+use Rattle.frame_sending.specs.FramesSent.{frame_shape}
+use Rattle.frame_sending.specs.Sends.{SendsFrames}
+use Rattle.frame_sending.specs.Looping.{HasSent, StopsSending}
+use Rattle.frame_sending.specs.Steps.{FailsAt, Finishes, unread_ending}
+use Rattle.frame_sending.specs.declared.totals.Totals.{Totals}
+use Rattle.frame_sending.proofs.Laws.{OutletLaws}
+use Rattle.frame_sending.proofs.Stopping.{could_not_read, without_memory, cut, refused, unsent, part_sent, all_sent, end_unsent}
+use Rattle.frame_reader.specs.FrameBytes.{frame_length, sample_count}
+use Rattle.frame_reader.specs.Reading.{GaveFrame, ReadsFrame}
+use Rattle.frame_reader.specs.declared.fault.FrameReadFault.{FrameReadFault}
+use Rattle.frame_reader.specs.declared.fault.FrameReadFault.TheVariants as reading
+use Rattle.link_model.specs.SendingFaults as faults
+use Rattle.link_report.specs.declared.ending.Ending.{Ending}
+use Rattle.link_report.specs.declared.ending.Ending.TheVariants as endings
+use Rattle.link_report.specs.declared.summary.Summary.{Summary}
+use Rattle.vc_ports.specs.Changes.{InputChange, HasRisen}
+use Rattle.vc_ports.specs.Reading.{Gave, GaveAll}
+use Rattle.vc_ports.proofs.Given.{Gave-none}
+use Rattle.vc_types.specs.declared.shape.Shape.{Shape}
+use Rattle.vc_types.specs.declared.video.Component.TheVariants.{Y, C1}
+use Rattle.vc_types.specs.Limits.{depth_fits, shape_fits}
+use Rattle.vc_types.specs.Planes.{Planes}
+use Rattle.vc_types.specs.RawFrames.{is_wide}
+use Rattle.vc_types.specs.SenderSettings.{Sending}
+use Rattle.vc_types.specs.Video.{side_fits}
+
+module _ {X : Type 0} {carried : X → X → List (List ℕ) → Type 0} {broke : X → X → List (List ℕ) → OutletFault → Type 0} (laws : OutletLaws carried broke) (s : Sending) (most : ℕ) (frames : List Planes) (input : InputChange) (mid : Option (List ℕ)) (x y z : X) (sent : HasSent s frames input.left.before mid (carried x y)) where
+  abbrev StopsSo : Result Summary Ending → Type 0
+  StopsSo answer = StopsSending s most answer input (carried x z) (broke x z)
+
+  module _ (room : length frames < most) where
+    -- a frame isn't sent
+    pub failed_at : (frame : Planes) → GaveFrame (frame_shape s) mid input.left.after frame → (ending : Ending) → FailsAt s frames frame (carried y z) (broke y z) ending → StopsSo (Err ending)
+    failed_at frame gave (endings.Usage place) fails = absurd fails
+    failed_at frame gave endings.NoMemory (inl nothing) = unsent laws s most frames input mid x y z sent frame gave room nothing
+    failed_at frame gave endings.NoMemory (inr fails) = part_sent laws s most frames input mid x y z sent frame gave room outlets.NoMemory fails.0 fails.1
+    failed_at frame gave endings.InputFailed fails = absurd fails
+    failed_at frame gave endings.OutputFailed fails = part_sent laws s most frames input mid x y z sent frame gave room outlets.Output fails.0 fails.1
+    failed_at frame gave endings.WireFailed fails = part_sent laws s most frames input mid x y z sent frame gave room outlets.Wire fails.0 fails.1
+    failed_at frame gave (endings.CaptureCut place) fails = absurd fails
+    failed_at frame gave (endings.PacketLimit limit) fails = absurd fails
+    failed_at frame gave (endings.RawCut number) fails = absurd fails
+    failed_at frame gave (endings.SampleTooLarge place plane value) fails = refused laws s most frames input mid x y z sent frame gave room (faults.SampleRange plane place value) fails.0 fails.1
+    failed_at frame gave (endings.SliceTooLarge slice bytes) fails = refused laws s most frames input mid x y z sent frame gave room (faults.SliceTooLarge slice bytes) fails.0 fails.1
+    failed_at frame gave (endings.StreamBad place) fails = absurd fails
+    failed_at frame gave (endings.FrameLimit limit) fails = absurd fails
+
+    -- a frame isn't read
+    pub unread_at : (fault : FrameReadFault) → ReadsFrame (frame_shape s) mid input.left.after (Err fault) → carried y z [] → StopsSo (Err (unread_ending fault (length frames)))
+    unread_at reading.Cut read nothing = cut laws s most frames input mid x y z sent nothing read room
+    unread_at reading.ReadFault read nothing = could_not_read laws s most frames input mid x y z sent nothing read.part read.short read.gave (omega (arith, room)) (inl room)
+    unread_at reading.NoMemory read nothing = without_memory laws s most frames input mid x y z sent nothing (subst (λ (left : Option (List ℕ)). Gave mid left []) (sym read) (Gave-none mid)) (omega (arith, room))
+
+  module _ (gave : GaveAll mid input.left.after []) (few : length frames ≤ most) where
+    -- the end is sent, or it isn't
+    pub ends_with : (result : Result Totals Ending) → Finishes s frames (carried y z) (broke y z) result → StopsSo (sent_answer result)
+    ends_with (Ok totals) ends = all_sent laws s most frames input mid x y z sent gave few totals ends
+    ends_with (Err (endings.Usage place)) ends = absurd ends
+    ends_with (Err endings.NoMemory) (inl nothing) = without_memory laws s most frames input mid x y z sent nothing gave.gave few
+    ends_with (Err endings.NoMemory) (inr part) = end_unsent laws s most frames input mid x y z sent gave few outlets.NoMemory part
+    ends_with (Err endings.InputFailed) ends = absurd ends
+    ends_with (Err endings.OutputFailed) ends = end_unsent laws s most frames input mid x y z sent gave few outlets.Output ends
+    ends_with (Err endings.WireFailed) ends = end_unsent laws s most frames input mid x y z sent gave few outlets.Wire ends
+    ends_with (Err (endings.CaptureCut place)) ends = absurd ends
+    ends_with (Err (endings.PacketLimit limit)) ends = absurd ends
+    ends_with (Err (endings.RawCut number)) ends = absurd ends
+    ends_with (Err (endings.SampleTooLarge place plane value)) ends = absurd ends
+    ends_with (Err (endings.SliceTooLarge slice bytes)) ends = absurd ends
+    ends_with (Err (endings.StreamBad place)) ends = absurd ends
+    ends_with (Err (endings.FrameLimit limit)) ends = absurd ends
+
+-- ---- a frame has more than one byte
+
+some_side : (side : ℕ) → IsTrue (side_fits side) → 1 ≤ side
+some_side side fits = leb-true 1 side (and_parts (nat_le 1 side) (nat_le side 8192) fits).0
+
+product : (a b : ℕ) → 1 ≤ a → 1 ≤ b → 1 ≤ a * b
+product a b h k = let grows : a ≤ a * b = le-mul_of_pos_right a k in omega (arith, grows, h)
+
+longer : (two : Bool) (n : ℕ) → 2 ≤ n → 1 < (if two then 2 * n else n)
+longer true n h = omega (arith, h)
+longer false n h = omega (arith, h)
+
+pub more_than_one_byte : (shape : Shape) → IsTrue (shape_fits shape) → 1 < frame_length shape
+more_than_one_byte shape fits =
+    let five = and_parts (side_fits shape.luma_width && side_fits shape.luma_height && side_fits shape.colour_width && side_fits shape.colour_height && depth_fits shape.luma_depth) (depth_fits shape.colour_depth) fits in
+    let four = and_parts (side_fits shape.luma_width && side_fits shape.luma_height && side_fits shape.colour_width && side_fits shape.colour_height) (depth_fits shape.luma_depth) five.0 in
+    let three = and_parts (side_fits shape.luma_width && side_fits shape.luma_height && side_fits shape.colour_width) (side_fits shape.colour_height) four.0 in
+    let two = and_parts (side_fits shape.luma_width && side_fits shape.luma_height) (side_fits shape.colour_width) three.0 in
+    let one = and_parts (side_fits shape.luma_width) (side_fits shape.luma_height) two.0 in
+    let luma = product shape.luma_width shape.luma_height (some_side shape.luma_width one.0) (some_side shape.luma_height one.1) in
+    let colour = product shape.colour_width shape.colour_height (some_side shape.colour_width two.1) (some_side shape.colour_height three.1) in
+    longer (is_wide shape) (sample_count shape Y + (sample_count shape C1 + sample_count shape C1)) (omega (arith, luma, colour))
+
+-- ---- causes
+
+-- a frame that isn't sent isn't a failed read
+pub not_read : (s : Sending) (frames : List Planes) (frame : Planes) (went : List (List ℕ) → Type 0) (broke : List (List ℕ) → OutletFault → Type 0) (ending : Ending) → FailsAt s frames frame went broke ending → ◌≡◌ {A = Result (Unit {0}) Ending} (Err ending) (Err endings.InputFailed) → ⊥
+not_read s frames frame went broke ending fails e = subst (FailsAt s frames frame went broke) (ending_is ending endings.InputFailed e) fails
+  where
+    ending_is : (a b : Ending) → ◌≡◌ {A = Result (Unit {0}) Ending} (Err a) (Err b) → a ≡ b
+    ending_is a b same = cc
+
+pub not_read_at_end : (s : Sending) (frames : List Planes) (went : List (List ℕ) → Type 0) (broke : List (List ℕ) → OutletFault → Type 0) (result : Result Totals Ending) → Finishes s frames went broke result → sent_answer result ≡ Err endings.InputFailed → ⊥
+not_read_at_end s frames went broke (Ok totals) ends e = cc
+not_read_at_end s frames went broke (Err ending) ends e = subst (λ (end : Ending). Finishes s frames went broke (Err end)) (ending_is ending endings.InputFailed e) ends
+  where
+    ending_is : (a b : Ending) → ◌≡◌ {A = Result Summary Ending} (Err a) (Err b) → a ≡ b
+    ending_is a b same = cc
+
+pub sends_so : (s : Sending) (most : ℕ) (answer : Result Summary Ending) (input : InputChange) (went : List (List ℕ) → Type 0) (broke : List (List ℕ) → OutletFault → Type 0) → StopsSending s most answer input went broke → (answer ≡ Err endings.InputFailed → HasRisen input.faults) → SendsFrames s most answer input went broke
+sends_so s most answer input went broke stops rose = record {
+  given = stops.given;
+  frames = stops.frames;
+  rest = stops.rest;
+  took = stops.took;
+  holds = stops.holds;
+  ended = stops.ended;
+  input_failed = rose;
+}
+
+-- a byte was asked for, and none came
+pub none_of : (bytes : List ℕ) (n : ℕ) → length bytes ≡ 1 → n < length bytes → take n bytes ≡ []
+none_of bytes n one less = subst (λ (k : ℕ). take k bytes ≡ []) none refl
+  where
+    none : 0 ≡ n
+    none = omega (arith, one, less)
