@@ -1,6 +1,6 @@
 -- The law as it is told.
 use Rattle.std.proofs.Common.{◌≡◌, ℕ, List, ap, ◌∙◌}
-use Rattle.encode_command.specs.FramesSent.{stream_sent}
+use Rattle.frame_sending.specs.FramesSent.{stream_sent}
 use Rattle.index_zero.specs.FramesToSend.{AreFramesToSend}
 use Rattle.index_zero.proofs.StreamsBack.{stream_back}
 use Rattle.link_model.specs.Output.{full_output}

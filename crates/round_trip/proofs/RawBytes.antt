@@ -4,8 +4,8 @@ use Rattle.std.specs.List.{concat}
 use Rattle.std.proofs.lemmas.List.{length-drop, length-take-le}
 use Rattle.std.proofs.lemmas.List.Concat.{flat_map-cons}
 use Rattle.std.proofs.lemmas.List.Elements.{All-head, All-map, All-tail, All-weaker}
-use Rattle.encode_command.specs.FramesSent.{frame_shape}
-use Rattle.encode_command.proofs.FrameSizes.{sized}
+use Rattle.frame_sending.specs.FramesSent.{frame_shape}
+use Rattle.frame_sending.proofs.FrameSizes.{sized}
 use Rattle.field_pairs.specs.Sizes.{AreWhole}
 use Rattle.frame_reader.specs.FrameBytes.{frame_length, frame_of_bytes, plane_length, sample_count, samples_of_bytes}
 use Rattle.frame_reader.specs.WholeFrames.{HoldFrames}

@@ -4,7 +4,7 @@ use Rattle.std.specs.Prelude.{◌⊎◌}
 use Rattle.std.proofs.lemmas.List.Concat.{flat_map-cons}
 use Rattle.std.proofs.lemmas.List.Elements.{All-head, All-tail, All-weaker}
 use Rattle.decode_command.proofs.Within.{within_entry, within_nothing}
-use Rattle.encode_command.specs.FramesSent.{capture_of}
+use Rattle.datagram_outlet.specs.Outlets.{capture_of}
 use Rattle.index_zero.proofs.FittingRuns.{room_few, run_is}
 use Rattle.index_zero.proofs.FramePictures.{AreFaultless, all_pictures, no_slice_fault}
 use Rattle.index_zero.proofs.SentFaults.{are_sound}

@@ -8,7 +8,7 @@ use Rattle.std.proofs.lemmas.List.{drop-replicate, get_or-replicate, length-map,
 use Rattle.std.proofs.lemmas.List.Concat.{flat_map-cons}
 use Rattle.std.proofs.lemmas.List.FromFn.{length-range_with_len}
 use Rattle.std.proofs.lemmas.Option.{slice_get-get_or, slice_get_within}
-use Rattle.encode_command.specs.FramesSent.{AreSendable, frame_fault, frame_indices}
+use Rattle.frame_sending.specs.FramesSent.{AreSendable, frame_fault, frame_indices}
 use Rattle.index_zero.specs.FramesToSend.{AreAtIndexZero, slices_per_frame}
 use Rattle.index_zero.proofs.Among.{among_all, among_from}
 use Rattle.index_zero.proofs.FramePictures.{all_pictures, length-all_pictures, pictures_many}

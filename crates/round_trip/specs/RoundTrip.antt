@@ -1,9 +1,10 @@
 -- What `encode` writes of raw frames at quantisation index 0, `decode` writes as these frames.
 use Rattle.std.specs.Prelude.{◌≡◌, ◌<◌, ◌≤◌, ℕ, ◌*◌, ◌^◌, All, List, [], length}
+use Rattle.datagram_outlet.specs.Outlets.{capture_of}
 use Rattle.decode_command.specs.Capture.{capture_split}
 use Rattle.decode_command.specs.Decoding.{IsDecodable}
-use Rattle.encode_command.specs.FramesSent.{AreSendable, capture_of, frame_shape, stream_sent}
 use Rattle.frame_reader.specs.WholeFrames.{HoldFrames}
+use Rattle.frame_sending.specs.FramesSent.{AreSendable, frame_shape, stream_sent}
 use Rattle.link_model.specs.Output.{full_output}
 use Rattle.link_model.specs.Sending.{pictures_per_frame}
 use Rattle.vc_types.specs.declared.choice.IndexChoice.TheVariants.{Index}
