@@ -1,0 +1,9 @@
+//! `send`: raw frames to the datagrams that carry them, over a wire.
+#![tactic(auto)]
+
+mod command;
+
+pub use command::send;
+
+#[cfg(test)]
+mod tests;

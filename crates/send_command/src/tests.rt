@@ -1,0 +1,104 @@
+use super::*;
+use link_report::{Ending, Summary};
+use std::alloc::Global;
+use std::test::Fail;
+use std::thread::Threads;
+use vc_ports::{MemSource, MemWire, PlainSource};
+use vc_types::{IndexChoice, Sampling, SendSettings};
+
+const TO: &str = "127.0.0.1:5004";
+
+// 2 by 2, 4:4:4, 8 bits, one luma sample darker than the others.
+const FRAME: [u8; 12] = [
+    0x80, 0x80, 0x7f, 0x80, 0x80, 0x80, 0x80, 0x80, 0x80, 0x80, 0x80, 0x80,
+];
+
+// That frame's third datagram, with its one slice.
+const SLICE: [u8; 38] = [
+    0x80, 0xe0, 0x00, 0x02, 0x00, 0x00, 0x00, 0x00, 0x00, 0x00, 0x00, 0x01, 0x00, 0x00, 0x00, 0xec,
+    0x00, 0x00, 0x00, 0x00, 0x00, 0x00, 0x00, 0x01, 0x00, 0x06, 0x00, 0x01, 0x00, 0x00, 0x00, 0x00,
+    0x00, 0x02, 0x94, 0xbf, 0x00, 0x00,
+];
+
+// The end of the sequence behind it.
+const LAST: [u8; 16] = [0x80, 0x60, 0, 3, 0, 0, 0, 0, 0, 0, 0, 1, 0, 0, 0, 0x10];
+
+const SETTINGS: SendSettings = SendSettings {
+    width: 2,
+    height: 2,
+    sampling: Sampling::S444,
+    range: 1,
+    fields: false,
+    top: true,
+    wavelet: 3,
+    depth: 1,
+    slices_x: 1,
+    slices_y: 1,
+    prefix: 0,
+    scaler: 1,
+    size: 1400,
+    choice: IndexChoice::Index(0),
+    ssrc: 1,
+    seq: 0,
+    picture: 0,
+    tick: 3600,
+    pt: 96,
+};
+
+// What sending bytes came to over a wire of which one call fails, and the wire.
+fn sent<H: Threads + Copy + Send + Sync>(
+    rt: H,
+    alloc: Global,
+    fails: u64,
+    bytes: &[u8],
+) -> Result<(Result<Summary, Ending>, MemWire), Fail> {
+    let mut source = PlainSource::new(Vec::from_slice(alloc, bytes)?);
+    let mut wire = MemWire::new(alloc, Vec::new(alloc), false, 1000, vec![in alloc; fails]?)?;
+    let answer = send(rt, alloc, &SETTINGS, 9, TO, &mut source, &mut wire);
+    Ok((answer, wire))
+}
+
+#[test]
+fn a_frame_is_sent(rt: HostRuntime) -> Result<(), Fail> {
+    let (answer, wire) = sent(&rt, rt.alloc(), 99, &FRAME)?;
+    let counts = Summary::Sent {
+        frames: 1,
+        datagrams: 4,
+        bytes: 106,
+    };
+    assert_eq!(rt; answer, Ok(counts));
+    assert_eq!(rt; wire.to(0), Some(TO.as_bytes()));
+    assert_eq!(rt; wire.sent(2), Some(SLICE.as_slice()));
+    assert_eq!(rt; wire.sent(3), Some(LAST.as_slice()));
+    assert!(rt; wire.sent(4).is_none());
+    assert!(rt; wire.at(0).is_none());
+    Ok(())
+}
+
+// The first call aims, and each of the next four sends a datagram.
+#[test]
+fn a_call_of_the_wire_fails(rt: HostRuntime) -> Result<(), Fail> {
+    let (answer, wire) = sent(&rt, rt.alloc(), 4, &FRAME)?;
+    assert_eq!(rt; answer, Err(Ending::WireFailed));
+    assert!(rt; wire.sent(1).is_some());
+    assert!(rt; wire.sent(2).is_none());
+    Ok(())
+}
+
+#[test]
+fn nothing_is_read_where_the_wire_is_not_aimed(rt: HostRuntime) -> Result<(), Fail> {
+    let alloc = rt.alloc();
+    let mut source = MemSource::new(Vec::new(alloc), vec![in alloc; 1]?);
+    let mut wire = MemWire::new(alloc, Vec::new(alloc), false, 1000, vec![in alloc; 1]?)?;
+    let answer = send(&rt, alloc, &SETTINGS, 9, TO, &mut source, &mut wire);
+    assert_eq!(rt; answer, Err(Ending::WireFailed));
+    Ok(())
+}
+
+#[test]
+fn a_frame_that_is_cut_is_not_sent(rt: HostRuntime) -> Result<(), Fail> {
+    let (answer, wire) = sent(&rt, rt.alloc(), 99, &FRAME[..11])?;
+    assert_eq!(rt; answer, Err(Ending::RawCut { frame: 0 }));
+    assert!(rt; wire.sent(0).is_none());
+    Ok(())
+}
