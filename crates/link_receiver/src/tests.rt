@@ -1,3 +1,7 @@
+mod entering;
+mod offers;
+mod wrong_answers;
+
 ghost use Rattle.std.specs.Prelude.{◌≡◌};
 ghost use Rattle.slice_exchange.specs.Calls.{AreBelow};
 

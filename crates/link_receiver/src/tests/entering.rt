@@ -1,0 +1,59 @@
+ghost use Rattle.std.specs.Prelude.{◌≡◌};
+ghost use Rattle.slice_exchange.specs.Calls.{AreBelow};
+
+use super::datagram;
+use crate::Receiver;
+use bytes::Bytes;
+use std::alloc::Global;
+use std::test::Fail;
+use vc_ports::MemSink;
+use vc_slice::Places;
+
+/// The payload of the transform parameters of a picture: wavelet 3, depth 1, 2 by 1 slices.
+pub(super) fn params(number: u8) -> [u8; 19] {
+    [
+        0, 0, 0, 0xec, 0, 0, 0, number, 0, 0, 0, 1, 0, 3, 0, 0, 0x09, 0x66, 0x40,
+    ]
+}
+
+/// The payload of one slice of a picture, all zeros, in column `x`.
+pub(super) fn slice(number: u8, x: u8) -> [u8; 24] {
+    [
+        0, 0, 0, 0xec, 0, 0, 0, number, 0, 0, 0, 1, 0, 4, 0, 1, 0, x, 0, 0, 0, 0, 0, 0,
+    ]
+}
+
+/// Takes datagrams of one source with these payloads, and then the end of the input.
+pub(super) fn enter_all<P: Places>(
+    alloc: Global,
+    payloads: &[&[u8]],
+    receiver: &mut Receiver,
+    places: &mut P,
+    sink: &mut MemSink,
+) -> Result<(), Fail>
+    requires { AreBelow (P.bound places.old) receiver.old.reception.out }
+{
+    for payload in payloads {
+        enter(datagram(alloc, payload)?, receiver, places, sink)?;
+    }
+    match receiver.drain(places, sink) {
+        Ok(()) => Ok(()),
+        Err(_) => Err(Fail::from("the receiver failed at the end")),
+    }
+}
+
+fn enter<P: Places>(
+    datagram: Bytes,
+    receiver: &mut Receiver,
+    places: &mut P,
+    sink: &mut MemSink,
+) -> Result<(), Fail>
+    requires { AreBelow (P.bound places.old) receiver.old.reception.out }
+    ensures bound { P.bound places.new ≡ P.bound places.old }
+    ensures below { AreBelow (P.bound places.new) receiver.new.reception.out }
+{
+    match receiver.enter(datagram, places, sink) {
+        Ok(_) => Ok(()),
+        Err(_) => Err(Fail::from("the receiver failed")),
+    }
+}
