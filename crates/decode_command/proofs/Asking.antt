@@ -17,14 +17,14 @@ use Rattle.link_receiver.specs.States.{ReceiverState}
 use Rattle.slice_exchange.specs.Jobs.{job_of}
 use Rattle.decode_command.specs.Hearing.{HasOffered}
 use Rattle.vc_slice.specs.Asked.{Told, Offer, nothing_told, told_more}
-use Rattle.link_receiver.specs.HeardLists.{HasHeard, AskedPlaces, OfferedToPlaces, told_jobs}
+use Rattle.link_receiver.specs.HeardLists.{OutputForm, HasHeard, AskedPlaces, OfferedToPlaces, told_jobs}
 
 or_left : (a b : Bool) → a ≡ true → (a || b) ≡ true
 or_left true b e = refl
 or_left false b e = absurd (false≢true e)
 
-heard_by : (r : ReceiverState) (window : ℕ) (datagrams : List (List ℕ)) → HasHeard r window datagrams
-    → StandsForHeard r.reception window datagrams false
+heard_by : {form : OutputForm} (r : ReceiverState) (window : ℕ) (datagrams : List (List ℕ))
+    → HasHeard form r window datagrams → StandsForHeard r.reception window datagrams false
 heard_by r window datagrams h = rw h.heard at (rw h.goes_on at h.stands.heard)
 
 -- nothing was heard
@@ -49,7 +49,8 @@ told_jobs_more a b = map-append (λ (offer : Offer). job_of offer.job) a.offered
 module _ (window : ℕ) (datagrams : List (List ℕ)) (before mid after : Option Told)
     (first : HasOffered window datagrams (record { before = before; after = mid })) where
   -- a datagram more was heard
-  pub offered_with : (r : ReceiverState) (d : List ℕ) → HasHeard r window datagrams
+  pub offered_with : {form : OutputForm} (r : ReceiverState) (d : List ℕ)
+      → HasHeard form r window datagrams
       → OfferedToPlaces mid after (datagram_jobs r.reception d)
       → HasOffered window (datagrams ++ d ∷ []) (record { before = before; after = after })
   offered_with r d h second = record {

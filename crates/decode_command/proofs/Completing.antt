@@ -1,9 +1,10 @@
 -- Where no fault came, a capture of at most so many entries that ends at an edge is decoded to its
--- end, unless memory runs out.
+-- end, or unpacked, unless memory runs out.
 use Rattle.std.proofs.Common.{◌≡◌, ◌≢◌, ℕ, zero, suc, List, [], ◌++◌, length, Option, Some, None, IsSomeAnd, refl, sym, ap, ◌∙◌, subst, arith, append-nil, length-append}
 use Rattle.std.specs.Option.{option_map}
 use Rattle.link_capture.specs.Capture.{entries_within, first_entry}
 use Rattle.link_capture.proofs.Heads.{first_entry-append}
+use Rattle.link_receiver.specs.HeardLists.{OutputForm, AsFrames, AsUnits}
 use Rattle.link_report.specs.declared.answer.Answer.{Answer}
 use Rattle.link_report.specs.declared.answer.Answer.TheVariants.{Done, Stopped, Drained}
 use Rattle.link_report.specs.declared.ending.Ending.TheVariants.{NoMemory, InputFailed, OutputFailed, CaptureCut, PacketLimit}
@@ -11,7 +12,7 @@ use Rattle.vc_ports.specs.Changes.{Change, InputChange, OutputChange, HasRisen, 
 use Rattle.vc_ports.specs.Reading.{IsAtEnd}
 use Rattle.vc_slice.specs.Asked.{Told}
 use Rattle.decode_command.specs.Capture.{capture_split, IsPastLimit}
-use Rattle.decode_command.specs.Decoding.{Decodes, IsDecodable}
+use Rattle.decode_command.specs.Decoding.{TakesCapture, Decodes, Unpacks, IsDecodable}
 
 some_is : (x y : List ℕ) → Some x ≡ Some y → x ≡ y
 some_is x y same = cc
@@ -88,15 +89,23 @@ module _ (window workers packets : ℕ) (input : InputChange) (output : OutputCh
     (hands : Change (Option Told)) (sound_input : HasRisen input.faults → ⊥)
     (sound_output : HasRisen output.faults → ⊥)
     (whole : IsSomeAnd input.left.before (IsDecodable packets)) where
-  pub decode_completes : (answer : Answer) → Decodes window workers packets answer input output hands
-      → IsComplete answer
-  decode_completes (Done summary) d = tt
-  decode_completes (Stopped NoMemory) d = tt
-  decode_completes (Stopped OutputFailed) d = sound_output (d.output_failed refl)
-  decode_completes (Stopped end) d = d.ended
-  decode_completes (Drained tally InputFailed) d = sound_input (d.input_failed (tally, refl))
-  decode_completes (Drained tally (CaptureCut place)) d =
+  completes : {form : OutputForm} (answer : Answer)
+      → TakesCapture form window workers packets answer input output hands → IsComplete answer
+  completes (Done summary) d = tt
+  completes (Stopped NoMemory) d = tt
+  completes (Stopped OutputFailed) d = sound_output (d.output_failed refl)
+  completes (Stopped end) d = d.ended
+  completes (Drained tally InputFailed) d = sound_input (d.input_failed (tally, refl))
+  completes (Drained tally (CaptureCut place)) d =
       cut_by packets d.given input d.took whole d.ended.reading.ended d.ended.reading.part
-  decode_completes (Drained tally (PacketLimit limit)) d =
+  completes (Drained tally (PacketLimit limit)) d =
       past_by packets d.given input d.took whole limit d.ended.reading
-  decode_completes (Drained tally end) d = d.ended.reading
+  completes (Drained tally end) d = d.ended.reading
+
+  pub decode_completes : (answer : Answer)
+      → Decodes window workers packets answer input output hands → IsComplete answer
+  decode_completes answer d = completes answer d
+
+  pub unpack_completes : (answer : Answer)
+      → Unpacks window workers packets answer input output hands → IsComplete answer
+  unpack_completes answer d = completes answer d

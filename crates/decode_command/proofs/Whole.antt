@@ -1,6 +1,6 @@
 -- The whole command: workers are started, a capture is received, and the answer made.
 use Rattle.std.proofs.Common.{◌≡◌, ℕ, List, [], ◌∷◌, Option, Some, None, Ok, Err, refl, ap, ◌∙◌, inl, inr}
-use Rattle.link_receiver.specs.HeardLists.{AskedPlaces}
+use Rattle.link_receiver.specs.HeardLists.{OutputForm, AskedPlaces}
 use Rattle.link_receiver.specs.States.{ReceiverState}
 use Rattle.link_model.specs.declared.tally.Tally.{Tally}
 use Rattle.link_report.specs.declared.answer.Answer.TheVariants.{Done, Stopped, Drained}
@@ -12,7 +12,7 @@ use Rattle.vc_ports.proofs.Given.{Gave-none}
 use Rattle.vc_ports.proofs.Growing.{GrewBySome-none}
 use Rattle.vc_slice.specs.Asked.{Told, Grows, told_more, starting}
 use Rattle.decode_command.specs.Capture.{CaptureSplit, capture_split}
-use Rattle.decode_command.specs.Decoding.{Decodes, HasStarted, HasGivenWork}
+use Rattle.decode_command.specs.Decoding.{TakesCapture, HasStarted, HasGivenWork}
 use Rattle.decode_command.specs.Hearing.{HasOffered, HasReceived, Receives}
 use Rattle.link_receiver.proofs.Asked.{grows_twice}
 
@@ -56,11 +56,11 @@ no_memory_is_fault : Stopped NoMemory ≡ Stopped OutputFailed → ⊥
 no_memory_is_fault same = cc
 
 -- no workers were started
-pub not_started : (window workers packets : ℕ) (input : InputChange) (output : OutputChange)
+pub not_started : (form : OutputForm) (window workers packets : ℕ) (input : InputChange) (output : OutputChange)
     (hands : Change (Option Told)) → input.left.after ≡ input.left.before → output.held.after ≡ output.held.before
     → hands.after ≡ hands.before
-    → Decodes window workers packets (Stopped NoMemory) input output hands
-not_started window workers packets input output hands input_stays output_stays hands_stay = record {
+    → TakesCapture form window workers packets (Stopped NoMemory) input output hands
+not_started form window workers packets input output hands input_stays output_stays hands_stay = record {
   given = [];
   took = rw input_stays (Gave-none input.left.before);
   ended = rw output_stays (GrewBySome-none output.held.before _);
@@ -69,13 +69,13 @@ not_started window workers packets input output hands input_stays output_stays h
   workers_started = inr hands_stay;
 }
 
-module _ (window workers packets : ℕ) (receiver : ReceiverState) (input : InputChange) (output : OutputChange)
+module _ (form : OutputForm) (window workers packets : ℕ) (receiver : ReceiverState) (input : InputChange) (output : OutputChange)
     (before mid after : Option Told) (grew : Grows before mid (starting workers (Ok tt))) where
   -- reading came to the end of the capture
   pub done : (tally : Tally) → tally ≡ receiver.reception.counts
-      → HasReceived window packets None receiver input output
+      → HasReceived form window packets None receiver input output
       (record { before = mid; after = after })
-      → Decodes window workers packets (Done (Judged tally)) input output
+      → TakesCapture form window workers packets (Done (Judged tally)) input output
       (record { before = before; after = after })
   done tally is st = record {
     given = st.given;
@@ -88,10 +88,10 @@ module _ (window workers packets : ℕ) (receiver : ReceiverState) (input : Inpu
 
   -- it ended before that
   pub drained : (tally : Tally) (end : Ending) → tally ≡ receiver.reception.counts
-      → HasReceived window packets (Some end) receiver input output
+      → HasReceived form window packets (Some end) receiver input output
       (record { before = mid; after = after })
       → (end ≡ InputFailed → HasRisen input.faults)
-      → Decodes window workers packets (Drained tally end) input output
+      → TakesCapture form window workers packets (Drained tally end) input output
       (record { before = before; after = after })
   drained tally end is st cause = record {
     given = st.given;
@@ -103,14 +103,14 @@ module _ (window workers packets : ℕ) (receiver : ReceiverState) (input : Inpu
   }
 
 -- memory ran out, or the output failed
-pub stopped : (window workers packets : ℕ) (receiver : ReceiverState) (input : InputChange)
+pub stopped : (form : OutputForm) (window workers packets : ℕ) (receiver : ReceiverState) (input : InputChange)
     (output : OutputChange) (before mid after : Option Told) (end : Ending)
     → Grows before mid (starting workers (Ok tt)) → AskedPlaces mid after
-    → Receives window packets (Err end) receiver input output (record { before = mid; after = after })
+    → Receives form window packets (Err end) receiver input output (record { before = mid; after = after })
     → (end ≡ OutputFailed → HasRisen output.faults)
-    → Decodes window workers packets (Stopped end) input output
+    → TakesCapture form window workers packets (Stopped end) input output
     (record { before = before; after = after })
-stopped window workers packets receiver input output before mid after NoMemory grew asked broke cause = record {
+stopped form window workers packets receiver input output before mid after NoMemory grew asked broke cause = record {
   given = broke.given;
   took = broke.took;
   ended = broke.wrote;
@@ -118,7 +118,7 @@ stopped window workers packets receiver input output before mid after NoMemory g
   output_failed = λ failed. absurd (no_memory_is_fault failed);
   workers_started = inl (started workers before mid after grew asked);
 }
-stopped window workers packets receiver input output before mid after OutputFailed grew asked broke cause = record {
+stopped form window workers packets receiver input output before mid after OutputFailed grew asked broke cause = record {
   given = broke.given;
   took = broke.took;
   ended = broke.wrote;
@@ -126,4 +126,4 @@ stopped window workers packets receiver input output before mid after OutputFail
   output_failed = λ failed. cause refl;
   workers_started = started workers before mid after grew asked;
 }
-stopped window workers packets receiver input output before mid after end grew asked broke cause = absurd broke
+stopped form window workers packets receiver input output before mid after end grew asked broke cause = absurd broke

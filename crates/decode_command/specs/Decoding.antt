@@ -1,10 +1,9 @@
--- What decoding a capture did, by how it ended.
+-- What decoding a capture, or unpacking it, did, by how it ended.
 use Rattle.std.specs.Prelude.{◌≡◌, ◌⊎◌, ℕ, List, [], ◌∷◌, Option, None, Some}
 use Rattle.link_model.specs.Judgement.{tally_of}
-use Rattle.link_model.specs.Output.{full_output}
 use Rattle.link_model.specs.Session.{sessions_of}
 use Rattle.link_model.specs.declared.tally.Tally.{Tally}
-use Rattle.link_receiver.specs.HeardLists.{told_jobs}
+use Rattle.link_receiver.specs.HeardLists.{OutputForm, AsFrames, AsUnits, due_in_all, told_jobs}
 use Rattle.link_reception.specs.Offered.{AreAllOffered}
 use Rattle.link_report.specs.declared.answer.Answer.{Answer}
 use Rattle.link_report.specs.declared.answer.Answer.TheVariants.{Done, Stopped, Drained}
@@ -18,24 +17,25 @@ use Rattle.decode_command.specs.Capture.{CaptureSplit, capture_split, ReadingEnd
 
 -- ---- input and output
 
--- all frames of the datagrams that were read were written, and these are their counts
-pub record IsDecoded
-    (window packets : ℕ) (end : Option Ending) (tally : Tally)
+-- all that is due of the datagrams that were read was written, and these are their counts
+pub record IsTaken
+    (form : OutputForm) (window packets : ℕ) (end : Option Ending) (tally : Tally)
     (input : InputChange) (output : OutputChange) (s : CaptureSplit) : Type 0 where
   pub reading : ReadingEnded packets end input s
-  pub wrote : Wrote output (full_output window s.datagrams)
+  pub wrote : Wrote output (due_in_all form window s.datagrams)
   pub tally_is : tally ≡ tally_of window s.datagrams
 
-abbrev pub DecodeEnded : ℕ → ℕ → Answer → InputChange → OutputChange → CaptureSplit → Type 0
-DecodeEnded window packets (Done (Judged tally)) input output s =
-    IsDecoded window packets None tally input output s
-DecodeEnded window packets (Drained tally end) input output s =
-    IsDecoded window packets (Some end) tally input output s
-DecodeEnded window packets (Stopped NoMemory) input output s =
-    WrotePart output (full_output window s.datagrams)
-DecodeEnded window packets (Stopped OutputFailed) input output s =
-    WrotePart output (full_output window s.datagrams)
-DecodeEnded window packets answer input output s = ⊥
+abbrev pub CaptureEnded : OutputForm → ℕ → ℕ → Answer → InputChange → OutputChange → CaptureSplit
+    → Type 0
+CaptureEnded form window packets (Done (Judged tally)) input output s =
+    IsTaken form window packets None tally input output s
+CaptureEnded form window packets (Drained tally end) input output s =
+    IsTaken form window packets (Some end) tally input output s
+CaptureEnded form window packets (Stopped NoMemory) input output s =
+    WrotePart output (due_in_all form window s.datagrams)
+CaptureEnded form window packets (Stopped OutputFailed) input output s =
+    WrotePart output (due_in_all form window s.datagrams)
+CaptureEnded form window packets answer input output s = ⊥
 
 -- a read failed
 abbrev pub has_failed_input : Answer → Type 0
@@ -64,17 +64,30 @@ StartsWorkers window workers (Stopped NoMemory) hands s = HasStarted workers han
 StartsWorkers window workers (Stopped end) hands s = Unit {0}
 StartsWorkers window workers answer hands s = HasGivenWork window workers hands s
 
--- ---- decoding the bytes that the input gave
+-- ---- the bytes that the input gave
 
-pub record Decodes
-    (window workers packets : ℕ) (answer : Answer)
+-- their datagrams were heard, and what is due of them was written
+pub record TakesCapture
+    (form : OutputForm) (window workers packets : ℕ) (answer : Answer)
     (input : InputChange) (output : OutputChange) (hands : Change (Option Told)) : Type 0 where
   pub given : List ℕ
   pub took : Took input given
-  pub ended : DecodeEnded window packets answer input output (capture_split packets given)
+  pub ended : CaptureEnded form window packets answer input output (capture_split packets given)
   pub input_failed : has_failed_input answer → HasRisen input.faults
   pub output_failed : answer ≡ Stopped OutputFailed → HasRisen output.faults
   pub workers_started : StartsWorkers window workers answer hands (capture_split packets given)
+
+-- as raw frames
+abbrev pub Decodes : (window workers packets : ℕ) → Answer → InputChange → OutputChange
+    → Change (Option Told) → Type 0
+Decodes window workers packets answer input output hands =
+    TakesCapture AsFrames window workers packets answer input output hands
+
+-- as the elementary stream of the first session
+abbrev pub Unpacks : (window workers packets : ℕ) → Answer → InputChange → OutputChange
+    → Change (Option Told) → Type 0
+Unpacks window workers packets answer input output hands =
+    TakesCapture AsUnits window workers packets answer input output hands
 
 -- at most `packets` entries are the whole of the bytes
 abbrev pub IsDecodable : ℕ → List ℕ → Type 0

@@ -2,11 +2,11 @@
 use Rattle.std.specs.Prelude.{◌≡◌, ℕ, ◌-◌, List, [], ◌∷◌, ◌++◌, length, Option, Some, None, Result, Ok, Err, ⊤}
 use Rattle.link_capture.specs.Capture.{entries_within}
 use Rattle.link_model.specs.Judgement.{tally_of}
-use Rattle.link_model.specs.Output.{output_so_far, full_output}
 use Rattle.link_model.specs.Session.{sessions_of}
 use Rattle.link_reception.specs.Offered.{AreAllOffered}
 use Rattle.link_receiver.specs.States.{ReceiverState}
-use Rattle.link_receiver.specs.HeardLists.{HasHeard, told_jobs, newly_due}
+use Rattle.link_receiver.specs.HeardLists.{OutputForm, HasHeard, told_jobs, newly_due}
+use Rattle.link_receiver.specs.HeardLists.{due_so_far, due_in_all}
 use Rattle.link_receiver.specs.declared.fault.EnterFault.{EnterFault}
 use Rattle.link_receiver.specs.declared.fault.EnterFault.TheVariants as faults
 use Rattle.link_report.specs.declared.ending.Ending.{Ending}
@@ -35,7 +35,7 @@ pub record HasOffered (window : ℕ) (datagrams : List (List ℕ)) (hands : Chan
 -- the source gave the bytes of so many entries, up to a place, and the receiver heard their
 -- datagrams and wrote what these let go
 pub record IsBehind
-    (window packets number place : ℕ) (before after held_before held_after : Option (List ℕ))
+    (form : OutputForm) (window packets number place : ℕ) (before after held_before held_after : Option (List ℕ))
     (receiver : ReceiverState) (datagrams : List (List ℕ)) : Type 0 where
   pub given : List ℕ
   pub gave : Gave before after given
@@ -43,83 +43,83 @@ pub record IsBehind
   pub split : (more : List ℕ) → entries_within packets (given ++ more)
       ≡ then_entries datagrams (entries_within (packets - number) more)
   pub count : length datagrams ≡ number
-  pub heard : HasHeard receiver window datagrams
-  pub wrote : Grew held_before held_after (output_so_far window datagrams)
+  pub heard : HasHeard form receiver window datagrams
+  pub wrote : Grew held_before held_after (due_so_far form window datagrams)
 
 -- reading ended so, behind the datagrams that the receiver heard
 pub record HasStopped
-    (window packets : ℕ) (end : Option Ending) (receiver : ReceiverState)
+    (form : OutputForm) (window packets : ℕ) (end : Option Ending) (receiver : ReceiverState)
     (input : InputChange) (output : OutputChange) (hands : Change (Option Told)) : Type 0 where
   pub given : List ℕ
   pub took : Took input given
   pub reading : ReadingEnded packets end input (capture_split packets given)
-  pub heard : HasHeard receiver window (capture_split packets given).datagrams
-  pub wrote : Wrote output (output_so_far window (capture_split packets given).datagrams)
+  pub heard : HasHeard form receiver window (capture_split packets given).datagrams
+  pub wrote : Wrote output (due_so_far form window (capture_split packets given).datagrams)
   pub told : HasOffered window (capture_split packets given).datagrams hands
 
 -- there was no memory, or the output failed
-pub record HasBroken (window packets : ℕ) (input : InputChange) (output : OutputChange) : Type 0
+pub record HasBroken (form : OutputForm) (window packets : ℕ) (input : InputChange) (output : OutputChange) : Type 0
   where
     pub given : List ℕ
     pub took : Took input given
-    pub wrote : WrotePart output (full_output window (capture_split packets given).datagrams)
+    pub wrote : WrotePart output (due_in_all form window (capture_split packets given).datagrams)
 
 -- how the loop ended
-abbrev pub Stops : ℕ → ℕ → Stop → ReceiverState → InputChange → OutputChange
+abbrev pub Stops : OutputForm → ℕ → ℕ → Stop → ReceiverState → InputChange → OutputChange
     → Change (Option Told) → Type 0
-Stops window packets Ended receiver input output hands =
-    HasStopped window packets None receiver input output hands
-Stops window packets (Cut place) receiver input output hands =
-    HasStopped window packets (Some (CaptureCut place)) receiver input output hands
-Stops window packets Failed receiver input output hands =
-    HasStopped window packets (Some InputFailed) receiver input output hands
-Stops window packets AtLimit receiver input output hands = (place : ℕ) × (datagrams : List (List ℕ))
-    × IsBehind window packets packets place input.left.before input.left.after
+Stops form window packets Ended receiver input output hands =
+    HasStopped form window packets None receiver input output hands
+Stops form window packets (Cut place) receiver input output hands =
+    HasStopped form window packets (Some (CaptureCut place)) receiver input output hands
+Stops form window packets Failed receiver input output hands =
+    HasStopped form window packets (Some InputFailed) receiver input output hands
+Stops form window packets AtLimit receiver input output hands = (place : ℕ) × (datagrams : List (List ℕ))
+    × IsBehind form window packets packets place input.left.before input.left.after
     output.held.before output.held.after receiver datagrams
     × HasOffered window datagrams hands
 
-abbrev pub LoopEnded : ℕ → ℕ → Result Stop Ending → ReceiverState → InputChange → OutputChange
+abbrev pub LoopEnded : OutputForm → ℕ → ℕ → Result Stop Ending → ReceiverState → InputChange → OutputChange
     → Change (Option Told) → Type 0
-LoopEnded window packets (Ok stop) receiver input output hands =
-    Stops window packets stop receiver input output hands
-LoopEnded window packets (Err NoMemory) receiver input output hands =
-    HasBroken window packets input output
-LoopEnded window packets (Err OutputFailed) receiver input output hands =
-    HasBroken window packets input output
-LoopEnded window packets (Err end) receiver input output hands = ⊥
+LoopEnded form window packets (Ok stop) receiver input output hands =
+    Stops form window packets stop receiver input output hands
+LoopEnded form window packets (Err NoMemory) receiver input output hands =
+    HasBroken form window packets input output
+LoopEnded form window packets (Err OutputFailed) receiver input output hands =
+    HasBroken form window packets input output
+LoopEnded form window packets (Err end) receiver input output hands = ⊥
 
 -- how reading ended, with a byte more behind as many entries as were asked for
-abbrev pub HeardAll : ℕ → ℕ → Result (Option Ending) Ending → ReceiverState → InputChange
+abbrev pub HeardAll : OutputForm → ℕ → ℕ → Result (Option Ending) Ending → ReceiverState → InputChange
     → OutputChange → Change (Option Told) → Type 0
-HeardAll window packets (Ok end) receiver input output hands =
-    HasStopped window packets end receiver input output hands
-HeardAll window packets (Err NoMemory) receiver input output hands =
-    HasBroken window packets input output
-HeardAll window packets (Err OutputFailed) receiver input output hands =
-    HasBroken window packets input output
-HeardAll window packets (Err end) receiver input output hands = ⊥
+HeardAll form window packets (Ok end) receiver input output hands =
+    HasStopped form window packets end receiver input output hands
+HeardAll form window packets (Err NoMemory) receiver input output hands =
+    HasBroken form window packets input output
+HeardAll form window packets (Err OutputFailed) receiver input output hands =
+    HasBroken form window packets input output
+HeardAll form window packets (Err end) receiver input output hands = ⊥
 
--- reading ended so, all frames were written, and the receiver has the counts
+-- reading ended so, all that is due was written, and the receiver has the counts
 pub record HasReceived
-    (window packets : ℕ) (end : Option Ending) (receiver : ReceiverState)
+    (form : OutputForm) (window packets : ℕ) (end : Option Ending) (receiver : ReceiverState)
     (input : InputChange) (output : OutputChange) (hands : Change (Option Told)) : Type 0 where
   pub given : List ℕ
   pub took : Took input given
   pub reading : ReadingEnded packets end input (capture_split packets given)
-  pub wrote : Wrote output (full_output window (capture_split packets given).datagrams)
+  pub wrote : Wrote output (due_in_all form window (capture_split packets given).datagrams)
   pub counted : receiver.reception.counts
       ≡ tally_of window (capture_split packets given).datagrams
   pub told : HasOffered window (capture_split packets given).datagrams hands
 
-abbrev pub Receives : ℕ → ℕ → Result (Option Ending) Ending → ReceiverState → InputChange
+abbrev pub Receives : OutputForm → ℕ → ℕ → Result (Option Ending) Ending → ReceiverState → InputChange
     → OutputChange → Change (Option Told) → Type 0
-Receives window packets (Ok end) receiver input output hands =
-    HasReceived window packets end receiver input output hands
-Receives window packets (Err NoMemory) receiver input output hands =
-    HasBroken window packets input output
-Receives window packets (Err OutputFailed) receiver input output hands =
-    HasBroken window packets input output
-Receives window packets (Err end) receiver input output hands = ⊥
+Receives form window packets (Ok end) receiver input output hands =
+    HasReceived form window packets end receiver input output hands
+Receives form window packets (Err NoMemory) receiver input output hands =
+    HasBroken form window packets input output
+Receives form window packets (Err OutputFailed) receiver input output hands =
+    HasBroken form window packets input output
+Receives form window packets (Err end) receiver input output hands = ⊥
 
 -- how a command ends where its receiver failed
 abbrev pub ending_of : EnterFault → Ending
@@ -130,13 +130,13 @@ ending_of faults.Ended = NoMemory
 -- ---- one datagram more
 
 -- it was heard, and what it lets go was written, or a part of that
-abbrev pub Enters : ℕ → List (List ℕ) → List ℕ → ReceiverState → Result (Unit {0}) Ending
+abbrev pub Enters : OutputForm → ℕ → List (List ℕ) → List ℕ → ReceiverState → Result (Unit {0}) Ending
     → Option (List ℕ) → Option (List ℕ) → Type 0
-Enters window heard datagram receiver (Ok done) before after =
-    HasHeard receiver window (heard ++ datagram ∷ [])
-    × Grew before after (newly_due window heard datagram)
-Enters window heard datagram receiver (Err end) before after =
-    GrewBySome before after (newly_due window heard datagram)
+Enters form window heard datagram receiver (Ok done) before after =
+    HasHeard form receiver window (heard ++ datagram ∷ [])
+    × Grew before after (newly_due form window heard datagram)
+Enters form window heard datagram receiver (Err end) before after =
+    GrewBySome before after (newly_due form window heard datagram)
 
 -- the ways in which a receiver fails
 abbrev pub IsBroken : Ending → Type 0

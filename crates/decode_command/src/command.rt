@@ -1,11 +1,11 @@
 ghost use Rattle.std.specs.Prelude.{◌≡◌, ◌≤◌, ℕ, List, [], None, Some, Ok, Err, OnOk, IfErr};
 ghost use Rattle.link_reception.specs.Entering.{datagram_jobs};
 ghost use Rattle.slice_exchange.specs.Calls.{AreBelow};
-ghost use Rattle.link_receiver.specs.HeardLists.{HasHeard, AskedPlaces, OfferedToPlaces};
+ghost use Rattle.link_receiver.specs.HeardLists.{OutputForm, HasHeard, AskedPlaces, OfferedToPlaces};
 ghost use Rattle.vc_ports.specs.Changes.{changed, input_of, output_of};
 ghost use Rattle.vc_ports.specs.Faults.{HasCause};
 ghost use Rattle.vc_ports.specs.Writing.{Grew, GrewBySome};
-ghost use Rattle.decode_command.specs.Decoding.{Decodes};
+ghost use Rattle.decode_command.specs.Decoding.{TakesCapture, Decodes, Unpacks};
 ghost use Rattle.decode_command.specs.Hearing.{HeardAll, LoopEnded, Receives, Enters, IsBroken, ending_of};
 
 use bytes::Bytes;
@@ -52,10 +52,70 @@ pub fn decode<S: Source, O: Sink, P: Hands>(
         (output_of O.held O.faults output.old output.new)
         (changed P.Places.told hands.old hands.new) }
 {
+    take_capture(
+        alloc,
+        workers,
+        packets,
+        Receiver::new(alloc, window),
+        input,
+        output,
+        hands,
+    )
+}
+
+/// Unpacks a capture: reads it as `decode` does, and writes the elementary stream of its first
+/// session. That is the session's sequence header, the pictures of the frames that `decode` would
+/// write of it, each in its own bytes, and an end of sequence; without pictures it is nothing.
+pub fn unpack<S: Source, O: Sink, P: Hands>(
+    alloc: Global,
+    window: u8,
+    workers: u32,
+    packets: u32,
+    input: &mut S,
+    output: &mut O,
+    hands: &mut P,
+) -> Answer
+    requires least { 2 ≤ window }
+    requires most { window ≤ 8 }
+    requires free { P.is_free hands.old }
+    ensures { Unpacks window workers packets result
+        (input_of S.left S.faults input.old input.new)
+        (output_of O.held O.faults output.old output.new)
+        (changed P.Places.told hands.old hands.new) }
+{
+    take_capture(
+        alloc,
+        workers,
+        packets,
+        Receiver::units(alloc, window),
+        input,
+        output,
+        hands,
+    )
+}
+
+// Starts the workers, and has a new receiver take the entries of a capture.
+fn take_capture<S: Source, O: Sink, P: Hands>(
+    alloc: Global,
+    workers: u32,
+    packets: u32,
+    receiver: Receiver,
+    input: &mut S,
+    output: &mut O,
+    hands: &mut P,
+) -> Answer
+    requires out { receiver.reception.out ≡ [] }
+    requires free { P.is_free hands.old }
+    ensures { (form : OutputForm) (window : ℕ) → HasHeard form receiver window []
+        → TakesCapture form window workers packets result
+        (input_of S.left S.faults input.old input.new)
+        (output_of O.held O.faults output.old output.new)
+        (changed P.Places.told hands.old hands.new) }
+{
     let Ok(()) = hands.start_workers(workers) else {
         return Answer::Stopped(Ending::NoMemory);
     };
-    let mut receiver = Receiver::new(alloc, window);
+    let mut receiver = receiver;
     match receive(alloc, packets, &mut receiver, input, output, hands) {
         Ok(None) => Answer::Done(Summary::Judged {
             tally: *receiver.tally(),
@@ -75,8 +135,9 @@ fn receive<S: Source, O: Sink, P: Places>(
     places: &mut P,
 ) -> Result<Option<Ending>, Ending>
     requires below { AreBelow (P.bound places.old) receiver.old.reception.out }
-    ensures received { (window : ℕ) → HasHeard receiver.old window []
-        → Receives window packets result receiver.new
+    ensures received { (form : OutputForm) (window : ℕ)
+        → HasHeard form receiver.old window []
+        → Receives form window packets result receiver.new
         (input_of S.left S.faults input.old input.new)
         (output_of O.held O.faults output.old output.new)
         (changed P.told places.old places.new) }
@@ -103,8 +164,9 @@ fn hear<S: Source, O: Sink, P: Places>(
     places: &mut P,
 ) -> Result<Option<Ending>, Ending>
     requires below { AreBelow (P.bound places.old) receiver.old.reception.out }
-    ensures heard { (window : ℕ) → HasHeard receiver.old window []
-        → HeardAll window packets result receiver.new
+    ensures heard { (form : OutputForm) (window : ℕ)
+        → HasHeard form receiver.old window []
+        → HeardAll form window packets result receiver.new
         (input_of S.left S.faults input.old input.new)
         (output_of O.held O.faults output.old output.new)
         (changed P.told places.old places.new) }
@@ -136,8 +198,9 @@ fn hear_entries<S: Source, O: Sink, P: Places>(
     places: &mut P,
 ) -> Result<Stop, Ending>
     requires below { AreBelow (P.bound places.old) receiver.old.reception.out }
-    ensures heard { (window : ℕ) → HasHeard receiver.old window []
-        → LoopEnded window packets result receiver.new
+    ensures heard { (form : OutputForm) (window : ℕ)
+        → HasHeard form receiver.old window []
+        → LoopEnded form window packets result receiver.new
         (input_of S.left S.faults input.old input.new)
         (output_of O.held O.faults output.old output.new)
         (changed P.told places.old places.new) }
@@ -163,8 +226,9 @@ fn hear_with<S: Source, O: Sink, P: Places>(
     requires place { reader.old.place ≡ 0 }
     requires sound { reader.old.fault ≡ None }
     ensures borrows { reader.new.source.ghost_name ≡ reader.old.source.ghost_name }
-    ensures heard { (window : ℕ) → HasHeard receiver.old window []
-        → LoopEnded window packets result receiver.new
+    ensures heard { (form : OutputForm) (window : ℕ)
+        → HasHeard form receiver.old window []
+        → LoopEnded form window packets result receiver.new
         (input_of S.left S.faults reader.old.source.now reader.new.source.now)
         (output_of O.held O.faults output.old output.new)
         (changed P.told places.old places.new) }
@@ -196,8 +260,9 @@ fn enter<O: Sink, P: Places>(
     places: &mut P,
 ) -> Result<(), Ending>
     requires below { AreBelow (P.bound places.old) receiver.old.reception.out }
-    ensures entered { (window : ℕ) (heard : List (List ℕ)) → HasHeard receiver.old window heard
-        → Enters window heard datagram.items receiver.new result
+    ensures entered { (form : OutputForm) (window : ℕ) (heard : List (List ℕ))
+        → HasHeard form receiver.old window heard
+        → Enters form window heard datagram.items receiver.new result
         (O.held output.old) (O.held output.new) }
     ensures ending { IfErr result IsBroken }
     ensures cause { HasCause (O.faults output.old) (O.faults output.new)

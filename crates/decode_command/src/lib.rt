@@ -1,6 +1,9 @@
-//! `decode`: a capture to raw frames, datagram by datagram.
+//! `decode` and `unpack`: a capture to raw frames, or to an elementary stream, datagram by datagram.
 #![tactic(auto)]
 
 mod command;
 
-pub use command::decode;
+pub use command::{decode, unpack};
+
+#[cfg(test)]
+mod tests;

@@ -1,6 +1,6 @@
 -- A datagram and the end of the input, by their steps.
-use Rattle.std.proofs.Common.{◌≡◌, ℕ, zero, suc, ◌≤◌, Bool, true, false, List, [], ◌∷◌, ◌++◌, Option, Some, None, refl, ap, sym, ◌∙◌, subst}
-use Rattle.std.specs.Prelude.{map, is_some}
+use Rattle.std.proofs.Common.{◌≡◌, ℕ, zero, suc, ◌≤◌, Bool, true, false, List, [], ◌∷◌, ◌++◌, Option, Some, None, refl, ap, sym, ◌∙◌, subst, append-nil}
+use Rattle.std.specs.Prelude.{map, is_some, is_none}
 use Rattle.std.specs.Option.{option_map, option_map_or}
 use Rattle.link_model.specs.Places.{Job}
 use Rattle.link_model.specs.Session.{Session, begins}
@@ -10,7 +10,7 @@ use Rattle.link_reception.specs.Entering.{datagram_jobs, opens_session, takes_da
 use Rattle.link_reception.specs.Exchanging.{Exchange, all_exchanged, dones_in}
 use Rattle.link_reception.specs.Judging.{judged, keeps_datagram, session_opened, stands_on, ends_input, is_over}
 use Rattle.link_reception.specs.Receptions.{Reception, StandingSession, FirstField, SliceOut}
-use Rattle.link_reception.specs.Releasing.{next_picture, releases_all, releases_up_to, releases_picture_of, releases_from, all_released_bytes, book_count}
+use Rattle.link_reception.specs.Releasing.{next_picture, releases_all, releases_up_to, releases_picture_of, releases_from, book_count}
 use Rattle.link_reception.specs.Standing.{AreDecodings}
 use Rattle.link_reception.specs.WholeBooks.{ArePicturePlanes}
 use Rattle.link_session.specs.Openings.{session_of}
@@ -24,6 +24,10 @@ use Rattle.link_receiver.specs.States.{IsRunning, WaitsForSecond, GoesOn}
 use Rattle.slice_exchange.proofs.Growing.{grows_twice}
 use Rattle.slice_exchange.specs.Calls.{PlaceCall, told_of, exchanges_of, freeing}
 use Rattle.slice_exchange.specs.Jobs.{job_of}
+use Rattle.unit_release.specs.Outputs.{all_released_output, stream_behind_all, datagram_output, stream_behind_datagram, end_output, stream_end}
+use Rattle.unit_release.specs.Receiving.{stream_takes, datagram_units, opens_stream_for, stream_takes_end, end_units}
+use Rattle.unit_release.specs.Writing.{WrittenStream}
+use Rattle.vc_ports.proofs.Growing.{Grew-then, GrewBySome-none, GrewBySome-then, GrewBySome-front}
 use Rattle.vc_ports.specs.Writing.{Grew, GrewBySome}
 use Rattle.vc_slice.specs.Asked.{Told, told_more, Grows}
 use Rattle.vc_slice.specs.declared.job.SliceJob.{SliceJob}
@@ -111,6 +115,37 @@ releases_open (suc k) r = by_next (next_picture r) (λ s. releases_open k s)
         (releases_up_to k (releases_picture_of r picture)) (one_release r picture)
         (later (releases_picture_of r picture))
 
+-- ---- what goes out, and the stream
+
+datagram_output_is : (stream : Option WrittenStream) (r : Reception) (d : List ℕ)
+    (es : List Exchange) → all_released_output stream (before_releases r d es)
+    ≡ datagram_output stream r d es
+unfolding datagram_bytes datagram_units
+datagram_output_is None r d es = refl
+datagram_output_is (Some w) r d es = refl
+
+stream_behind_is : (stream : Option WrittenStream) (r : Reception) (d : List ℕ)
+    (es : List Exchange)
+    → option_map (opens_stream_for (session_opened r d) (is_none r.standing) d)
+    (stream_behind_all stream (before_releases r d es)) ≡ stream_behind_datagram stream r d es
+unfolding stream_takes
+stream_behind_is None r d es = refl
+stream_behind_is (Some w) r d es = refl
+
+end_output_is : (stream : Option WrittenStream) (r : Reception) (es : List Exchange)
+    → (let last = all_exchanged (ends_input r) es in
+    all_released_output stream last ++ stream_end (stream_behind_all stream last))
+    ≡ end_output stream r es
+unfolding end_bytes end_units stream_takes_end
+end_output_is None r es = append-nil (all_released_output None (all_exchanged (ends_input r) es))
+end_output_is (Some w) r es = refl
+
+-- before anything went out
+pub fails_early : (stream : Option WrittenStream) (r : Reception) (d : List ℕ)
+    (held : Option (List ℕ)) → (es : List Exchange) × AreDecodings (dones_in es)
+    × GrewBySome held held (datagram_output stream r d es)
+fails_early stream r d held = ([], tt, GrewBySome-none held (datagram_output stream r d []))
+
 -- ---- up to the releases, and behind them
 
 module _ (a b : Option Told) (old kept exchanged : Reception) (d : List ℕ)
@@ -134,15 +169,19 @@ module _ (a b : Option Told) (old kept exchanged : Reception) (d : List ℕ)
   has_ended_exchanged = same.has_ended ∙ ap (λ (r : Reception). r.has_ended) k
       ∙ kept-has_ended old d
 
-  pub fails_in : (before behind : Option (List ℕ))
-      → GrewBySome before behind (all_released_bytes exchanged)
+  output_exchanged : (stream : Option WrittenStream) → all_released_output stream exchanged
+      ≡ datagram_output stream old d (exchanges_of x.0)
+  output_exchanged stream = ap (all_released_output stream) value
+      ∙ datagram_output_is stream old d (exchanges_of x.0)
+
+  pub fails_in : (stream : Option WrittenStream) (before behind : Option (List ℕ))
+      → GrewBySome before behind (all_released_output stream exchanged)
       → (es : List Exchange) × AreDecodings (dones_in es)
-      × GrewBySome before behind (datagram_bytes old d es)
-  unfolding datagram_bytes
-  fails_in before behind some = (
+      × GrewBySome before behind (datagram_output stream old d es)
+  fails_in stream before behind some = (
     exchanges_of x.0,
     x.1.decodings,
-    subst (λ (r : Reception). GrewBySome before behind (all_released_bytes r)) value some,
+    subst (GrewBySome before behind) (output_exchanged stream) some,
   )
 
   module _ (released : Reception) (e : released ≡ releases_all exchanged) where
@@ -192,20 +231,32 @@ module _ (a b : Option Told) (old kept exchanged : Reception) (d : List ℕ)
         subst GoesOn (sym n) (opens old_goes waits o running)
 
     module _ (c : Option Told) (before behind : Option (List ℕ)) (outcome : Outcome)
-        (o : Option Session) (new : Reception)
-        (j : map job_of jobs ≡ datagram_jobs old d) (out : outcome ≡ judged old d)
+        (o : Option Session) (new : Reception) (first mid last : Option WrittenStream)
+        (is_first : Bool) (datagram : List ℕ) (same_first : is_first ≡ is_none old.standing)
+        (same_datagram : datagram ≡ d) (j : map job_of jobs ≡ datagram_jobs old d) (out : outcome ≡ judged old d)
         (opening : o ≡ session_opened old d)
         (frees : Grows b c (freeing (all_freed_places exchanged)))
-        (grew : Grew before behind (all_released_bytes exchanged))
-        (n : new ≡ opens_session o released) where
+        (grew : Grew before behind (all_released_output first exchanged))
+        (n : new ≡ opens_session o released) (s : mid ≡ stream_behind_all first exchanged)
+        (t : last ≡ option_map (opens_stream_for o is_first datagram) mid) where
       new_value : new ≡ takes_datagram old d (exchanges_of x.0)
       unfolding takes_datagram
       new_value = n ∙ ap (λ (s : Option Session). opens_session s released) opening
           ∙ ap (opens_session (session_opened old d)) (e ∙ ap releases_all value)
 
-      new_written : Grew before behind (datagram_bytes old d (exchanges_of x.0))
-      unfolding datagram_bytes
-      new_written = subst (λ (r : Reception). Grew before behind (all_released_bytes r)) value grew
+      new_written : Grew before behind (datagram_output first old d (exchanges_of x.0))
+      new_written = subst (Grew before behind) (output_exchanged first) grew
+
+      new_stream : last ≡ stream_behind_datagram first old d (exchanges_of x.0)
+      new_stream = t
+          ∙ ap (λ (q : Bool). option_map (opens_stream_for o q datagram) mid) same_first
+          ∙ ap (λ (l : List ℕ). option_map (opens_stream_for o (is_none old.standing) l) mid)
+          same_datagram
+          ∙ ap (λ (a : Option Session). option_map (opens_stream_for a (is_none old.standing) d) mid)
+          opening
+          ∙ ap (option_map (opens_stream_for (session_opened old d) (is_none old.standing) d))
+          (s ∙ ap (stream_behind_all first) value)
+          ∙ stream_behind_is first old d (exchanges_of x.0)
 
       asked_for : is_some (next_picture (keeps_datagram old d)) ≡ true
           → are_asked old.out (exchanges_of x.0) ≡ true
@@ -218,6 +269,8 @@ module _ (a b : Option Told) (old kept exchanged : Reception) (d : List ℕ)
         told_behind = c;
         held_before = before;
         held_behind = behind;
+        stream_before = first;
+        stream_behind = last;
       }) old new d outcome calls
       enters = (
         x.0,
@@ -226,6 +279,7 @@ module _ (a b : Option Told) (old kept exchanged : Reception) (d : List ℕ)
               (told_more (told_of x.0) (freeing (all_freed_places r)))) value
               (grows_twice a b c (told_of x.0) (freeing (all_freed_places exchanged)) x.1.told frees);
           value = new_value;
+          stream = new_stream;
           written = new_written;
           judgement = out;
           decodings = x.1.decodings;
@@ -253,16 +307,44 @@ module _ (a b : Option Told) (old ended exchanged : Reception) (k : ended ≡ en
   value_at_end : exchanged ≡ all_exchanged (ends_input old) (exchanges_of x.0)
   value_at_end = x.1.value ∙ ap (λ (r : Reception). all_exchanged r (exchanges_of x.0)) k
 
-  pub fails_at_end : (before behind : Option (List ℕ))
-      → GrewBySome before behind (all_released_bytes exchanged)
-      → (es : List Exchange) × AreDecodings (dones_in es)
-      × GrewBySome before behind (end_bytes old es)
-  unfolding end_bytes
-  fails_at_end before behind some = (
+  output_at_end : (stream : Option WrittenStream)
+      → all_released_output stream exchanged ++ stream_end (stream_behind_all stream exchanged)
+      ≡ end_output stream old (exchanges_of x.0)
+  output_at_end stream = ap (λ (r : Reception). all_released_output stream r
+      ++ stream_end (stream_behind_all stream r)) value_at_end
+      ∙ end_output_is stream old (exchanges_of x.0)
+
+  abbrev FailsAtEnd : (stream : Option WrittenStream) (before behind : Option (List ℕ)) → Type 0
+  FailsAtEnd stream before behind = (es : List Exchange) × AreDecodings (dones_in es)
+      × GrewBySome before behind (end_output stream old es)
+
+  some_at_end : (stream : Option WrittenStream) (before behind : Option (List ℕ))
+      → GrewBySome before behind
+      (all_released_output stream exchanged ++ stream_end (stream_behind_all stream exchanged))
+      → FailsAtEnd stream before behind
+  some_at_end stream before behind some = (
     exchanges_of x.0,
     x.1.decodings,
-    subst (λ (r : Reception). GrewBySome before behind (all_released_bytes r)) value_at_end some,
+    subst (GrewBySome before behind) (output_at_end stream) some,
   )
+
+  -- in the releases, or behind them
+  pub fails_at_end : (stream : Option WrittenStream) (before behind : Option (List ℕ))
+      → GrewBySome before behind (all_released_output stream exchanged)
+      → FailsAtEnd stream before behind
+  fails_at_end stream before behind some = some_at_end stream before behind
+      (GrewBySome-front before behind (all_released_output stream exchanged)
+      (stream_end (stream_behind_all stream exchanged)) some)
+
+  -- at the end of the stream
+  pub fails_last : (stream mid : Option WrittenStream) (before middle behind : Option (List ℕ))
+      → mid ≡ stream_behind_all stream exchanged
+      → Grew before middle (all_released_output stream exchanged)
+      → GrewBySome middle behind (stream_end mid) → FailsAtEnd stream before behind
+  fails_last stream mid before middle behind s grew some = some_at_end stream before behind
+      (GrewBySome-then before middle behind (all_released_output stream exchanged)
+      (stream_end (stream_behind_all stream exchanged)) grew
+      (subst (λ (o : Option WrittenStream). GrewBySome middle behind (stream_end o)) s some))
 
   module _ (released new : Reception) (e : released ≡ releases_all exchanged)
       (n : new ≡ gives_up_field released) where
@@ -271,23 +353,29 @@ module _ (a b : Option Told) (old ended exchanged : Reception) (k : ended ≡ en
         ∙ (releases_open (book_count exchanged) exchanged).has_ended
         ∙ same_at_end.has_ended ∙ ap (λ (r : Reception). r.has_ended) k
 
-    module _ (c : Option Told) (before behind : Option (List ℕ))
+    module _ (c : Option Told) (before middle behind : Option (List ℕ))
+        (first last : Option WrittenStream)
         (frees : Grows b c (freeing (all_freed_places exchanged)))
-        (grew : Grew before behind (all_released_bytes exchanged)) where
+        (grew : Grew before middle (all_released_output first exchanged))
+        (s : last ≡ stream_behind_all first exchanged)
+        (ends : Grew middle behind (stream_end last)) where
       new_end : new ≡ takes_end old (exchanges_of x.0)
       unfolding takes_end
       new_end = n ∙ ap gives_up_field (e ∙ ap releases_all value_at_end)
 
-      written_at_end : Grew before behind (end_bytes old (exchanges_of x.0))
-      unfolding end_bytes
-      written_at_end = subst (λ (r : Reception). Grew before behind (all_released_bytes r))
-          value_at_end grew
+      written_at_end : Grew before behind (end_output first old (exchanges_of x.0))
+      written_at_end = subst (Grew before behind) (output_at_end first)
+          (Grew-then before middle behind (all_released_output first exchanged)
+          (stream_end (stream_behind_all first exchanged)) grew
+          (subst (λ (o : Option WrittenStream). Grew middle behind (stream_end o)) s ends))
 
       pub drains : (calls : List PlaceCall) × IsDrained (record {
         told_before = a;
         told_behind = c;
         held_before = before;
         held_behind = behind;
+        stream_before = first;
+        stream_behind = last;
       }) old new calls
       drains = (
         x.0,

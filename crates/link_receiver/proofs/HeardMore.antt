@@ -1,12 +1,13 @@
 -- What a receiver has heard behind a datagram, and what it wrote then and at the end.
-use Rattle.std.proofs.Common.{◌≡◌, ℕ, ◌≤◌, false, List, [], ◌∷◌, ◌++◌, length, drop, Option, sym, ap, ◌∙◌, refl}
+use Rattle.std.proofs.Common.{◌≡◌, ℕ, ◌≤◌, false, List, [], ◌∷◌, ◌++◌, length, drop, Option, Some, None, sym, ap, ◌∙◌, refl}
+use Rattle.std.specs.Option.{option_map}
 use Rattle.std.proofs.Math.Seq.{drop-append_seam}
 use Rattle.link_model.specs.Feeders.{Feeder}
 use Rattle.link_model.specs.Judgement.{tally_of, outcome_behind}
 use Rattle.link_model.specs.Machine.{Enter}
 use Rattle.link_model.specs.Next.{next_feeder}
 use Rattle.link_model.specs.Output.{output_so_far, full_output}
-use Rattle.link_reception.specs.Entering.{takes_datagram, datagram_bytes, takes_end, end_bytes}
+use Rattle.link_reception.specs.Entering.{takes_datagram, takes_end}
 use Rattle.link_reception.specs.Exchanging.{Exchange, dones_in}
 use Rattle.link_reception.specs.Judging.{judged}
 use Rattle.link_reception.specs.Receptions.{Reception}
@@ -14,22 +15,51 @@ use Rattle.link_reception.specs.Standing.{StandsFor, AreDecodings}
 use Rattle.link_reception.proofs.Entered.{heard_again}
 use Rattle.link_reception.proofs.Following.{outcome_is, datagram_stands, datagram_writes, finished_writes, finished_counts}
 use Rattle.link_receiver.specs.States.{ReceiverState}
-use Rattle.link_receiver.specs.HeardLists.{HasHeard, newly_due, still_due}
+use Rattle.link_receiver.specs.HeardLists.{OutputForm, AsFrames, AsUnits, HasHeard, WritesAs}
+use Rattle.link_receiver.specs.HeardLists.{due_so_far, due_in_all, newly_due, still_due}
+use Rattle.link_stream.specs.Streams.{stream_so_far, stream_of}
+use Rattle.unit_release.proofs.Following.{stream_follows, stream_grows, stream_ends}
+use Rattle.unit_release.specs.Outputs.{datagram_output, stream_behind_datagram, end_output}
+use Rattle.unit_release.specs.Receiving.{stream_takes, datagram_units, end_units}
+use Rattle.unit_release.specs.Standing.{StreamsFor}
+use Rattle.unit_release.specs.Writing.{WrittenStream}
 
 -- what stands behind a list
 rest_of : (front rest all : List ℕ) → all ≡ front ++ rest → drop (length front) all ≡ rest
 rest_of front rest all is = ap (drop (length front)) is ∙ drop-append_seam front rest
 
-abbrev sound_with : Reception → ReceiverState
-sound_with r = record { reception = r; has_failed = false }
+-- what is written speaks of what a receiver has and its stream alone
+pub writes_same : (form : OutputForm) (r s : ReceiverState) (size : ℕ)
+    (datagrams : List (List ℕ)) → s.reception ≡ r.reception → s.stream ≡ r.stream
+    → WritesAs form r size datagrams → WritesAs form s size datagrams
+writes_same AsFrames r s size datagrams e f none = f ∙ none
+writes_same AsUnits r s size datagrams e f w = (w.0, f ∙ w.1, rw e w.2)
 
-module _ (r : ReceiverState) (size : ℕ) (datagrams : List (List ℕ)) (h : HasHeard r size datagrams) where
+abbrev sound_with : Reception → Option WrittenStream → ReceiverState
+sound_with r stream = record { reception = r; stream = stream; has_failed = false }
+
+module _ (form : OutputForm) (r : ReceiverState) (size : ℕ) (datagrams : List (List ℕ))
+    (h : HasHeard form r size datagrams) where
   pub heard_outcome : (d : List ℕ) → judged r.reception d ≡ outcome_behind size datagrams d
   heard_outcome d = rw h.heard at (outcome_is r.reception size h.feeder.heard d (rw h.goes_on at h.stands.heard))
 
   module _ (exchanges : List Exchange) (right : AreDecodings (dones_in exchanges)) where
-    pub heard_with : (d : List ℕ)
-        → HasHeard (sound_with (takes_datagram r.reception d exchanges)) size (datagrams ++ d ∷ [])
+    abbrev then : List ℕ → ReceiverState
+    then d = sound_with (takes_datagram r.reception d exchanges)
+        (stream_behind_datagram r.stream r.reception d exchanges)
+
+    writes_with : (d : List ℕ) → (kind : OutputForm) → WritesAs kind r size datagrams
+        → WritesAs kind (then d) size (datagrams ++ d ∷ [])
+    writes_with d AsFrames none = ap (λ (o : Option WrittenStream).
+        stream_behind_datagram o r.reception d exchanges) none
+    writes_with d AsUnits w = (
+      stream_takes r.reception d exchanges w.0,
+      ap (λ (o : Option WrittenStream). stream_behind_datagram o r.reception d exchanges) w.1,
+      rw h.heard at (stream_follows r.reception size h.feeder w.0 h.fits h.stands h.goes_on
+          (rw (← h.heard) at w.2) exchanges right d),
+    )
+
+    pub heard_with : (d : List ℕ) → HasHeard form (then d) size (datagrams ++ d ∷ [])
     heard_with d =
         let again = heard_again size h.feeder d exchanges in
         record {
@@ -39,17 +69,35 @@ module _ (r : ReceiverState) (size : ℕ) (datagrams : List (List ℕ)) (h : Has
           stands = datagram_stands r.reception size h.feeder h.fits h.stands h.goes_on exchanges right d;
           heard = again.0 ∙ ap (λ (l : List (List ℕ)). l ++ d ∷ []) h.heard;
           goes_on = again.1 ∙ h.goes_on;
+          writes = writes_with d form h.writes;
         }
 
-    pub heard_writes : (d : List ℕ) → datagram_bytes r.reception d exchanges ≡ newly_due size datagrams d
-    heard_writes d = sym (rest_of (output_so_far size datagrams) (datagram_bytes r.reception d exchanges)
-        (output_so_far size (datagrams ++ d ∷ []))
-        (rw h.heard at (datagram_writes r.reception size h.feeder h.fits h.stands h.goes_on exchanges right d)))
+    due_with : (d : List ℕ) → (kind : OutputForm) → WritesAs kind r size datagrams
+        → due_so_far kind size (datagrams ++ d ∷ [])
+        ≡ due_so_far kind size datagrams ++ datagram_output r.stream r.reception d exchanges
+    due_with d AsFrames none = rw none (rw h.heard at (datagram_writes r.reception size h.feeder
+        h.fits h.stands h.goes_on exchanges right d))
+    due_with d AsUnits w = rw w.1 (rw h.heard at (stream_grows r.reception size h.feeder w.0
+        h.fits h.stands h.goes_on (rw (← h.heard) at w.2) exchanges right d))
 
-    pub end_writes : end_bytes r.reception exchanges ≡ still_due size datagrams
-    end_writes = sym (rest_of (output_so_far size datagrams) (end_bytes r.reception exchanges)
-        (full_output size datagrams)
-        (rw h.heard at (finished_writes r.reception size h.feeder h.fits h.stands h.goes_on exchanges right)))
+    due_at_end : (kind : OutputForm) → WritesAs kind r size datagrams
+        → due_in_all kind size datagrams
+        ≡ due_so_far kind size datagrams ++ end_output r.stream r.reception exchanges
+    due_at_end AsFrames none = rw none (rw h.heard at (finished_writes r.reception size h.feeder
+        h.fits h.stands h.goes_on exchanges right))
+    due_at_end AsUnits w = rw w.1 (rw h.heard at (stream_ends r.reception size h.feeder w.0
+        h.fits h.stands h.goes_on (rw (← h.heard) at w.2) exchanges right))
+
+    pub heard_writes : (d : List ℕ) → datagram_output r.stream r.reception d exchanges
+        ≡ newly_due form size datagrams d
+    heard_writes d = sym (rest_of (due_so_far form size datagrams)
+        (datagram_output r.stream r.reception d exchanges)
+        (due_so_far form size (datagrams ++ d ∷ [])) (due_with d form h.writes))
+
+    pub end_writes : end_output r.stream r.reception exchanges ≡ still_due form size datagrams
+    end_writes = sym (rest_of (due_so_far form size datagrams)
+        (end_output r.stream r.reception exchanges) (due_in_all form size datagrams)
+        (due_at_end form h.writes))
 
     pub end_counts : (takes_end r.reception exchanges).counts ≡ tally_of size datagrams
     end_counts = rw h.heard at (finished_counts r.reception size h.feeder h.fits h.stands h.goes_on exchanges right)

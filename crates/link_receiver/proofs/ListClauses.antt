@@ -1,28 +1,31 @@
 -- What calls of a receiver are for a list of datagrams that it has heard.
-use Rattle.std.proofs.Common.{◌≡◌, ℕ, Bool, true, false, List, [], ◌∷◌, ◌++◌, Option, refl, ap, ◌∙◌}
+use Rattle.std.proofs.Common.{◌≡◌, ℕ, Bool, true, false, List, [], ◌∷◌, ◌++◌, Option, refl, ap, sym, ◌∙◌}
 use Rattle.std.specs.Prelude.{◌||◌, Result, Ok, Err, IfOk, OnOk, OnErr}
 use Rattle.link_model.specs.Judgement.{tally_of, outcome_behind}
 use Rattle.link_model.specs.declared.outcome.Outcome.{Outcome}
-use Rattle.link_reception.specs.Entering.{before_releases, datagram_bytes, datagram_jobs, end_bytes}
+use Rattle.link_reception.specs.Entering.{before_releases, datagram_jobs}
 use Rattle.link_reception.specs.Exchanging.{Exchange, dones_in}
 use Rattle.link_reception.specs.Receptions.{Reception}
 use Rattle.link_reception.specs.Standing.{AreDecodings}
-use Rattle.link_receiver.proofs.HeardMore.{heard_outcome, heard_with, heard_writes, end_writes, end_counts}
+use Rattle.link_receiver.proofs.HeardMore.{heard_outcome, heard_with, heard_writes, end_writes, end_counts, writes_same}
 use Rattle.link_receiver.proofs.Asked.{none_started}
 use Rattle.link_receiver.proofs.OfferedEach.{told_have}
 use Rattle.link_receiver.specs.Entered.{Outside, IsEntered, IsDrained}
 use Rattle.link_receiver.specs.Freeing.{all_freed_places}
-use Rattle.link_receiver.specs.HeardLists.{HasHeard, OfferedToPlaces, newly_due, still_due}
+use Rattle.link_receiver.specs.HeardLists.{OutputForm, HasHeard, OfferedToPlaces, newly_due, still_due}
 use Rattle.link_receiver.specs.States.{ReceiverState, has_stopped}
 use Rattle.link_receiver.specs.declared.fault.EnterFault.{EnterFault}
 use Rattle.slice_exchange.specs.Calls.{PlaceCall, Puts, Takes, told_of, exchanges_of}
+use Rattle.unit_release.specs.Outputs.{datagram_output, stream_behind_datagram, end_output}
+use Rattle.unit_release.specs.Writing.{WrittenStream}
 use Rattle.vc_ports.specs.Writing.{Grew, GrewBySome}
 
 not_failed : (a b : Bool) → (a || b) ≡ false → a ≡ false
 not_failed true b e = e
 not_failed false b e = refl
 
-module _ (old new : ReceiverState) (d : List ℕ) (outside : Outside) where
+module _ (old new : ReceiverState) (d : List ℕ) (outside : Outside)
+    (first : outside.stream_before ≡ old.stream) (last : outside.stream_behind ≡ new.stream) where
   abbrev Entered : Result Outcome EnterFault → Type 0
   Entered result = IfOk result (λ outcome. (calls : List PlaceCall)
       × IsEntered outside old.reception new.reception d outcome calls)
@@ -39,17 +42,18 @@ module _ (old new : ReceiverState) (d : List ℕ) (outside : Outside) where
   }
   enter_offered (Err fault) e = tt
 
-  module _ (size : ℕ) (datagrams : List (List ℕ)) (h : HasHeard old size datagrams) where
+  module _ (form : OutputForm) (size : ℕ) (datagrams : List (List ℕ))
+      (h : HasHeard form old size datagrams) where
     pub enter_judged : (result : Result Outcome EnterFault) → Entered result
         → IfOk result (λ outcome. outcome ≡ outcome_behind size datagrams d)
-    enter_judged (Ok outcome) e = e.1.judgement ∙ heard_outcome old size datagrams h d
+    enter_judged (Ok outcome) e = e.1.judgement ∙ heard_outcome form old size datagrams h d
     enter_judged (Err fault) e = tt
 
     pub enter_heard : (result : Result Outcome EnterFault) → Entered result
         → OnOk result (has_stopped new ≡ false)
-        → OnOk result (HasHeard new size (datagrams ++ d ∷ []))
+        → OnOk result (HasHeard form new size (datagrams ++ d ∷ []))
     enter_heard (Ok outcome) e goes_on =
-        let then = heard_with old size datagrams h (exchanges_of e.0) e.1.decodings d in
+        let then = heard_with form old size datagrams h (exchanges_of e.0) e.1.decodings d in
         record {
           sound = not_failed new.has_failed new.reception.has_ended goes_on;
           fits = h.fits;
@@ -57,45 +61,52 @@ module _ (old new : ReceiverState) (d : List ℕ) (outside : Outside) where
           stands = rw e.1.value then.stands;
           heard = then.heard;
           goes_on = then.goes_on;
+          writes = writes_same form _ new size (datagrams ++ d ∷ []) e.1.value
+              (sym last ∙ e.1.stream ∙ ap (λ (o : Option WrittenStream).
+              stream_behind_datagram o old.reception d (exchanges_of e.0)) first) then.writes;
         }
     enter_heard (Err fault) e goes_on = tt
 
     pub enter_wrote : (result : Result Outcome EnterFault) → Entered result
-        → OnOk result (Grew outside.held_before outside.held_behind (newly_due size datagrams d))
+        → OnOk result (Grew outside.held_before outside.held_behind (newly_due form size datagrams d))
     enter_wrote (Ok outcome) e =
-        rw (heard_writes old size datagrams h (exchanges_of e.0) e.1.decodings d) at e.1.written
+        rw (heard_writes form old size datagrams h (exchanges_of e.0) e.1.decodings d) at
+        (rw first at e.1.written)
     enter_wrote (Err fault) e = tt
 
     pub enter_part : (result : Result Outcome EnterFault) (before behind : Option (List ℕ))
         → OnErr result ((exchanges : List Exchange) × AreDecodings (dones_in exchanges)
-        × GrewBySome before behind (datagram_bytes old.reception d exchanges))
-        → OnErr result (GrewBySome before behind (newly_due size datagrams d))
+        × GrewBySome before behind (datagram_output old.stream old.reception d exchanges))
+        → OnErr result (GrewBySome before behind (newly_due form size datagrams d))
     enter_part (Ok outcome) before behind e = tt
     enter_part (Err fault) before behind e =
-        rw (heard_writes old size datagrams h e.0 e.1 d) at e.2
+        rw (heard_writes form old size datagrams h e.0 e.1 d) at e.2
 
-module _ (old new : ReceiverState) (outside : Outside) where
+module _ (old new : ReceiverState) (outside : Outside)
+    (first : outside.stream_before ≡ old.stream) where
   abbrev Drained : Result (Unit {0}) EnterFault → Type 0
   Drained result = OnOk result ((calls : List PlaceCall)
       × IsDrained outside old.reception new.reception calls)
 
-  module _ (size : ℕ) (datagrams : List (List ℕ)) (h : HasHeard old size datagrams) where
+  module _ (form : OutputForm) (size : ℕ) (datagrams : List (List ℕ))
+      (h : HasHeard form old size datagrams) where
     pub drain_wrote : (result : Result (Unit {0}) EnterFault) → Drained result
-        → OnOk result (Grew outside.held_before outside.held_behind (still_due size datagrams))
+        → OnOk result (Grew outside.held_before outside.held_behind (still_due form size datagrams))
     drain_wrote (Ok done) e =
-        rw (end_writes old size datagrams h (exchanges_of e.0) e.1.decodings) at e.1.written
+        rw (end_writes form old size datagrams h (exchanges_of e.0) e.1.decodings) at
+        (rw first at e.1.written)
     drain_wrote (Err fault) e = tt
 
     pub drain_part : (result : Result (Unit {0}) EnterFault) (before behind : Option (List ℕ))
         → OnErr result ((exchanges : List Exchange) × AreDecodings (dones_in exchanges)
-        × GrewBySome before behind (end_bytes old.reception exchanges))
-        → OnErr result (GrewBySome before behind (still_due size datagrams))
+        × GrewBySome before behind (end_output old.stream old.reception exchanges))
+        → OnErr result (GrewBySome before behind (still_due form size datagrams))
     drain_part (Ok done) before behind e = tt
-    drain_part (Err fault) before behind e = rw (end_writes old size datagrams h e.0 e.1) at e.2
+    drain_part (Err fault) before behind e = rw (end_writes form old size datagrams h e.0 e.1) at e.2
 
     pub drain_counts : (result : Result (Unit {0}) EnterFault) → Drained result
         → OnOk result (new.reception.counts ≡ tally_of size datagrams)
     drain_counts (Ok done) e =
         ap (λ (r : Reception). r.counts) e.1.value
-        ∙ end_counts old size datagrams h (exchanges_of e.0) e.1.decodings
+        ∙ end_counts form old size datagrams h (exchanges_of e.0) e.1.decodings
     drain_counts (Err fault) e = tt

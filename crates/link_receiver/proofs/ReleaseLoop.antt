@@ -3,21 +3,26 @@ use Rattle.std.proofs.Common.{◌≡◌, ℕ, zero, suc, List, [], ◌∷◌, �
 use Rattle.std.specs.Option.{option_map_or}
 use Rattle.link_model.specs.Windows.{Releasable}
 use Rattle.link_reception.specs.Receptions.{Reception}
-use Rattle.link_reception.specs.Releasing.{next_picture, releases_picture_of, released_bytes, freed_places, releases_up_to, bytes_up_to}
+use Rattle.link_reception.specs.Releasing.{next_picture, releases_picture_of, freed_places, releases_up_to, bytes_up_to}
 use Rattle.slice_exchange.proofs.Growing.{grows_twice, grows_none}
 use Rattle.slice_exchange.specs.Calls.{freeing}
 use Rattle.vc_ports.proofs.Growing.{Grew-none, Grew-then, GrewBySome-then, GrewBySome-front}
 use Rattle.vc_ports.specs.Writing.{Grew, GrewBySome}
 use Rattle.vc_slice.specs.Asked.{Told, Grows}
 use Rattle.link_receiver.specs.Freeing.{freed_up_to}
+use Rattle.unit_release.specs.Outputs.{released_output, stream_behind_picture, output_up_to, stream_behind_up_to}
+use Rattle.unit_release.specs.Receiving.{streams_up_to, streamed_up_to}
+use Rattle.unit_release.specs.Writing.{WrittenStream}
 
 -- so many releases are left of a call, of which some were made
-pub record IsReleasing (n left : ℕ) (first now : Reception) (held_first held : Option (List ℕ))
+pub record IsReleasing (n left : ℕ) (first now : Reception)
+    (stream_first stream : Option WrittenStream) (held_first held : Option (List ℕ))
     (told_first told : Option Told) : Type 0 where
   pub value : releases_up_to left now ≡ releases_up_to n first
+  pub streams : stream_behind_up_to stream left now ≡ stream_behind_up_to stream_first n first
   pub bytes : List ℕ
   pub grew : Grew held_first held bytes
-  pub others : bytes ++ bytes_up_to left now ≡ bytes_up_to n first
+  pub others : bytes ++ output_up_to stream left now ≡ output_up_to stream_first n first
   pub freed : List ℕ
   pub grows : Grows told_first told (freeing freed)
   pub places : freed ++ freed_up_to left now ≡ freed_up_to n first
@@ -28,10 +33,19 @@ module _ (now : Reception) (picture : Releasable) (next : next_picture now ≡ S
   unfolding releases_up_to
   next_value = rw next refl
 
-  next_bytes : bytes_up_to (suc k) now
-      ≡ released_bytes now picture ++ bytes_up_to k (releases_picture_of now picture)
-  unfolding bytes_up_to
-  next_bytes = rw next refl
+  next_bytes : (stream : Option WrittenStream) → output_up_to stream (suc k) now
+      ≡ released_output stream now picture
+      ++ output_up_to (stream_behind_picture stream now picture) k (releases_picture_of now picture)
+  unfolding bytes_up_to streamed_up_to
+  next_bytes None = rw next refl
+  next_bytes (Some w) = rw next refl
+
+  next_stream : (stream : Option WrittenStream) → stream_behind_up_to stream (suc k) now
+      ≡ stream_behind_up_to (stream_behind_picture stream now picture) k
+      (releases_picture_of now picture)
+  unfolding streams_up_to
+  next_stream None = refl
+  next_stream (Some w) = rw next refl
 
   next_freed : freed_up_to (suc k) now
       ≡ freed_places now picture.number ++ freed_up_to k (releases_picture_of now picture)
@@ -44,10 +58,18 @@ module _ (now : Reception) (none : next_picture now ≡ None) where
   none_value zero = refl
   none_value (suc k) = rw none refl
 
-  none_bytes : (k : ℕ) → bytes_up_to k now ≡ []
-  unfolding bytes_up_to
-  none_bytes zero = refl
-  none_bytes (suc k) = rw none refl
+  none_bytes : (stream : Option WrittenStream) (k : ℕ) → output_up_to stream k now ≡ []
+  unfolding bytes_up_to streamed_up_to
+  none_bytes None zero = refl
+  none_bytes None (suc k) = rw none refl
+  none_bytes (Some w) zero = refl
+  none_bytes (Some w) (suc k) = rw none refl
+
+  none_stream : (stream : Option WrittenStream) (k : ℕ) → stream_behind_up_to stream k now ≡ stream
+  unfolding streams_up_to
+  none_stream None k = refl
+  none_stream (Some w) zero = refl
+  none_stream (Some w) (suc k) = rw none refl
 
   none_freed : (k : ℕ) → freed_up_to k now ≡ []
   unfolding freed_up_to
@@ -58,18 +80,27 @@ last_value : (now : Reception) → releases_up_to 0 now ≡ now
 unfolding releases_up_to
 last_value now = refl
 
-last_bytes : (now : Reception) → bytes_up_to 0 now ≡ []
-unfolding bytes_up_to
-last_bytes now = refl
+last_bytes : (stream : Option WrittenStream) (now : Reception) → output_up_to stream 0 now ≡ []
+unfolding bytes_up_to streamed_up_to
+last_bytes None now = refl
+last_bytes (Some w) now = refl
+
+last_stream : (stream : Option WrittenStream) (now : Reception)
+    → stream_behind_up_to stream 0 now ≡ stream
+unfolding streams_up_to
+last_stream None now = refl
+last_stream (Some w) now = refl
 
 last_freed : (now : Reception) → freed_up_to 0 now ≡ []
 unfolding freed_up_to
 last_freed now = refl
 
-pub releasing_begins : (n : ℕ) (r : Reception) (held : Option (List ℕ)) (told : Option Told)
-    → IsReleasing n n r r held held told told
-releasing_begins n r held told = record {
+pub releasing_begins : (n : ℕ) (r : Reception) (stream : Option WrittenStream)
+    (held : Option (List ℕ)) (told : Option Told)
+    → IsReleasing n n r r stream stream held held told told
+releasing_begins n r stream held told = record {
   value = refl;
+  streams = refl;
   bytes = [];
   grew = Grew-none held;
   others = refl;
@@ -78,22 +109,37 @@ releasing_begins n r held told = record {
   places = refl;
 }
 
-module _ (n k : ℕ) (first now : Reception) (held_first held : Option (List ℕ))
-    (told_first told : Option Told)
-    (p : IsReleasing n (suc k) first now held_first held told_first told)
+module _ (n k : ℕ) (first now : Reception) (stream_first stream : Option WrittenStream)
+    (held_first held : Option (List ℕ)) (told_first told : Option Told)
+    (p : IsReleasing n (suc k) first now stream_first stream held_first held told_first told)
     (picture : Releasable) (next : next_picture now ≡ Some picture) where
-  pub releasing_goes_on : (behind : Reception) (held_behind : Option (List ℕ))
-      (told_behind : Option Told) → behind ≡ releases_picture_of now picture
-      → Grew held held_behind (released_bytes now picture)
+  abbrev bytes : List ℕ
+  bytes = released_output stream now picture
+
+  abbrev then : Reception
+  then = releases_picture_of now picture
+
+  abbrev behind_it : Option WrittenStream
+  behind_it = stream_behind_picture stream now picture
+
+  pub releasing_goes_on : (behind : Reception) (stream_behind : Option WrittenStream)
+      (held_behind : Option (List ℕ)) (told_behind : Option Told)
+      → behind ≡ then → stream_behind ≡ behind_it
+      → Grew held held_behind bytes
       → Grows told told_behind (freeing (freed_places now picture.number))
-      → IsReleasing n k first behind held_first held_behind told_first told_behind
-  releasing_goes_on behind held_behind told_behind e grew grows = record {
+      → IsReleasing n k first behind stream_first stream_behind held_first held_behind told_first
+      told_behind
+  releasing_goes_on behind stream_behind held_behind told_behind e s grew grows = record {
     value = ap (releases_up_to k) e ∙ sym (next_value now picture next k) ∙ p.value;
-    bytes = p.bytes ++ released_bytes now picture;
-    grew = Grew-then held_first held held_behind p.bytes (released_bytes now picture) p.grew grew;
-    others = append_assoc p.bytes (released_bytes now picture) (bytes_up_to k behind)
-        ∙ ap (λ (r : Reception). p.bytes ++ (released_bytes now picture ++ bytes_up_to k r)) e
-        ∙ ap (λ (l : List ℕ). p.bytes ++ l) (sym (next_bytes now picture next k)) ∙ p.others;
+    streams = ap (λ (o : Option WrittenStream). stream_behind_up_to o k behind) s
+        ∙ ap (stream_behind_up_to behind_it k) e
+        ∙ sym (next_stream now picture next k stream) ∙ p.streams;
+    bytes = p.bytes ++ bytes;
+    grew = Grew-then held_first held held_behind p.bytes bytes p.grew grew;
+    others = append_assoc p.bytes bytes (output_up_to stream_behind k behind)
+        ∙ ap (λ (o : Option WrittenStream). p.bytes ++ (bytes ++ output_up_to o k behind)) s
+        ∙ ap (λ (r : Reception). p.bytes ++ (bytes ++ output_up_to behind_it k r)) e
+        ∙ ap (λ (l : List ℕ). p.bytes ++ l) (sym (next_bytes now picture next k stream)) ∙ p.others;
     freed = p.freed ++ freed_places now picture.number;
     grows = grows_twice told_first told told_behind (freeing p.freed)
         (freeing (freed_places now picture.number)) p.grows grows;
@@ -103,41 +149,46 @@ module _ (n k : ℕ) (first now : Reception) (held_first held : Option (List ℕ
   }
 
   pub releasing_fails : (held_behind : Option (List ℕ))
-      → GrewBySome held held_behind (released_bytes now picture)
-      → GrewBySome held_first held_behind (bytes_up_to n first)
+      → GrewBySome held held_behind bytes
+      → GrewBySome held_first held_behind (output_up_to stream_first n first)
   releasing_fails held_behind some = subst (GrewBySome held_first held_behind)
-      (ap (λ (l : List ℕ). p.bytes ++ l) (sym (next_bytes now picture next k)) ∙ p.others)
+      (ap (λ (l : List ℕ). p.bytes ++ l) (sym (next_bytes now picture next k stream)) ∙ p.others)
       (GrewBySome-then held_first held held_behind p.bytes
-      (released_bytes now picture ++ bytes_up_to k (releases_picture_of now picture)) p.grew
-      (GrewBySome-front held held_behind (released_bytes now picture)
-      (bytes_up_to k (releases_picture_of now picture)) some))
+      (bytes ++ output_up_to behind_it k then) p.grew
+      (GrewBySome-front held held_behind bytes (output_up_to behind_it k then) some))
 
 -- the releases are done
-pub record AreReleased (n : ℕ) (first now : Reception) (held_first held : Option (List ℕ))
+pub record AreReleased (n : ℕ) (first now : Reception)
+    (stream_first stream : Option WrittenStream) (held_first held : Option (List ℕ))
     (told_first told : Option Told) : Type 0 where
   pub value : now ≡ releases_up_to n first
-  pub grew : Grew held_first held (bytes_up_to n first)
+  pub streams : stream ≡ stream_behind_up_to stream_first n first
+  pub grew : Grew held_first held (output_up_to stream_first n first)
   pub grows : Grows told_first told (freeing (freed_up_to n first))
 
-module _ (n left : ℕ) (first now : Reception) (held_first held : Option (List ℕ))
-    (told_first told : Option Told)
-    (p : IsReleasing n left first now held_first held told_first told) where
-  done : releases_up_to left now ≡ now → bytes_up_to left now ≡ [] → freed_up_to left now ≡ []
-      → AreReleased n first now held_first held told_first told
-  done e b f = record {
+module _ (n left : ℕ) (first now : Reception) (stream_first stream : Option WrittenStream)
+    (held_first held : Option (List ℕ)) (told_first told : Option Told)
+    (p : IsReleasing n left first now stream_first stream held_first held told_first told) where
+  abbrev Released : Type 0
+  Released = AreReleased n first now stream_first stream held_first held told_first told
+
+  done : releases_up_to left now ≡ now → stream_behind_up_to stream left now ≡ stream
+      → output_up_to stream left now ≡ [] → freed_up_to left now ≡ [] → Released
+  done e s b f = record {
     value = sym e ∙ p.value;
+    streams = sym s ∙ p.streams;
     grew = subst (Grew held_first held)
         (sym (append-nil p.bytes) ∙ ap (λ (l : List ℕ). p.bytes ++ l) (sym b) ∙ p.others) p.grew;
     grows = subst (λ (l : List ℕ). Grows told_first told (freeing l))
         (sym (append-nil p.freed) ∙ ap (λ (l : List ℕ). p.freed ++ l) (sym f) ∙ p.places) p.grows;
   }
 
-  pub releasing_stops : next_picture now ≡ None
-      → AreReleased n first now held_first held told_first told
-  releasing_stops none =
-      done (none_value now none left) (none_bytes now none left) (none_freed now none left)
+  pub releasing_stops : next_picture now ≡ None → Released
+  releasing_stops none = done (none_value now none left) (none_stream now none stream left)
+      (none_bytes now none stream left) (none_freed now none left)
 
-  pub releasing_ends : left ≡ 0 → AreReleased n first now held_first held told_first told
+  pub releasing_ends : left ≡ 0 → Released
   releasing_ends e = done (ap (λ (k : ℕ). releases_up_to k now) e ∙ last_value now)
-      (ap (λ (k : ℕ). bytes_up_to k now) e ∙ last_bytes now)
+      (ap (λ (k : ℕ). stream_behind_up_to stream k now) e ∙ last_stream stream now)
+      (ap (λ (k : ℕ). output_up_to stream k now) e ∙ last_bytes stream now)
       (ap (λ (k : ℕ). freed_up_to k now) e ∙ last_freed now)

@@ -4,11 +4,10 @@ use Rattle.std.specs.Prelude.{filter, IfSome, IfOk, OnOk, OnErr}
 use Rattle.std.specs.Option.{option_copied, option_map, option_map_or}
 use denote.Ref.{Bor}
 use Rattle.link_model.specs.Books.{Book}
-use Rattle.link_model.specs.Output.{raw_bytes}
 use Rattle.link_model.specs.Windows.{Releasable}
 use Rattle.link_reception.specs.Exchanging.{Proposed, Fetched, exchanged, takes_done, not_at}
 use Rattle.link_reception.specs.Receptions.{Reception, SliceOut, StandingSession}
-use Rattle.link_reception.specs.Releasing.{released_frame, released_planes, released_bytes}
+use Rattle.link_reception.specs.Releasing.{released_planes}
 use Rattle.link_reception.specs.WholeBooks.{IsWholeBook}
 use Rattle.link_receiver.proofs.Exchanges.{one_put, one_take}
 use Rattle.link_receiver.specs.Exchanged.{IsExchanged}
@@ -16,7 +15,9 @@ use Rattle.link_receiver.specs.Offers.{proposed_in}
 use Rattle.slice_answers.specs.Completing.{IsWholeIfAny, IsWholeBySome}
 use Rattle.slice_exchange.specs.Calls.{PlaceCall, Puts, Takes, exchanges_of, out_exchanged, handed_back}
 use Rattle.slice_exchange.specs.Jobs.{job_of, answered}
-use Rattle.vc_ports.specs.Writing.{Grew}
+use Rattle.link_receiver.specs.Shown.{shown_bytes, stream_behind_shown}
+use Rattle.unit_release.specs.Outputs.{released_output, stream_behind_picture}
+use Rattle.unit_release.specs.Writing.{WrittenStream}
 use Rattle.vc_slice.specs.Asked.{Told, Grows, one_offer, taking}
 use Rattle.vc_slice.specs.declared.done.SliceDone.{SliceDone}
 use Rattle.vc_slice.specs.declared.job.SliceJob.{SliceJob}
@@ -42,12 +43,19 @@ pub whole_by_some : (s : Sequence) (o : Option (Bor Book))
 whole_by_some s None h = tt
 whole_by_some s (Some book) h = (s, h)
 
-pub released_grew : (r : Reception) (st : StandingSession) (picture : Releasable) (s : Sequence)
-    (planes : Option Planes) (before behind : Option (List ℕ)) → r.standing ≡ Some st
-    → s ≡ st.session.sequence → planes ≡ released_planes r.answers st.window picture.number
-    → Grew before behind (raw_bytes s (released_frame s r.field picture.number planes))
-    → Grew before behind (released_bytes r picture)
-released_grew r st picture s planes before behind e f p grew = rw (e, ← f, ← p) grew
+module _ (r : Reception) (st : StandingSession) (picture : Releasable) (planes : Option Planes)
+    (e : r.standing ≡ Some st)
+    (p : planes ≡ released_planes r.answers st.window picture.number) where
+  pub shown_output : (stream : Option WrittenStream)
+      → shown_bytes stream st r.field picture.number planes ≡ released_output stream r picture
+  shown_output None = rw (e, p) refl
+  shown_output (Some w) = rw (e, p) refl
+
+  pub shown_stream : (stream : Option WrittenStream)
+      → stream_behind_shown stream st r.field picture.number planes
+      ≡ stream_behind_picture stream r picture
+  shown_stream None = refl
+  shown_stream (Some w) = rw (e, p) refl
 
 -- ---- a job is put
 

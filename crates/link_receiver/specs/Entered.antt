@@ -2,24 +2,28 @@
 use Rattle.std.specs.Prelude.{◌≡◌, ℕ, true, is_some, List, [], Option}
 use Rattle.link_model.specs.declared.outcome.Outcome.{Outcome}
 use Rattle.link_reception.specs.Entering.{before_releases, datagram_jobs, takes_datagram}
-use Rattle.link_reception.specs.Entering.{datagram_bytes, takes_end, end_bytes}
+use Rattle.link_reception.specs.Entering.{takes_end}
 use Rattle.link_reception.specs.Exchanging.{all_exchanged, dones_in}
 use Rattle.link_reception.specs.Judging.{judged, keeps_datagram, ends_input}
 use Rattle.link_reception.specs.Receptions.{Reception}
 use Rattle.link_reception.specs.Releasing.{next_picture}
 use Rattle.link_reception.specs.Standing.{AreDecodings}
 use Rattle.slice_exchange.specs.Calls.{PlaceCall, told_of, exchanges_of, freeing}
+use Rattle.unit_release.specs.Outputs.{datagram_output, stream_behind_datagram, end_output}
+use Rattle.unit_release.specs.Writing.{WrittenStream}
 use Rattle.vc_ports.specs.Writing.{Grew}
 use Rattle.vc_slice.specs.Asked.{Told, told_more, Grows}
 use Rattle.link_receiver.specs.Freeing.{all_freed_places}
 use Rattle.link_receiver.specs.Offers.{AreOffersOf, proposed_in, are_asked}
 
--- what places told before and behind a call, and what a sink held
+-- what places told before and behind a call, what a sink held, and the stream that is written
 pub record Outside : Type 0 where
   pub told_before : Option Told
   pub told_behind : Option Told
   pub held_before : Option (List ℕ)
   pub held_behind : Option (List ℕ)
+  pub stream_before : Option WrittenStream
+  pub stream_behind : Option WrittenStream
 
 -- A datagram was taken, with these calls of places. Each slice that it brings was offered; where it
 -- lets a picture be released, the places of all slices that were out were asked; then the places of
@@ -29,8 +33,10 @@ pub record IsEntered (outside : Outside) (old new : Reception) (datagram : List 
   pub told : Grows outside.told_before outside.told_behind (told_more (told_of calls)
       (freeing (all_freed_places (before_releases old datagram (exchanges_of calls)))))
   pub value : new ≡ takes_datagram old datagram (exchanges_of calls)
+  pub stream : outside.stream_behind
+      ≡ stream_behind_datagram outside.stream_before old datagram (exchanges_of calls)
   pub written : Grew outside.held_before outside.held_behind
-      (datagram_bytes old datagram (exchanges_of calls))
+      (datagram_output outside.stream_before old datagram (exchanges_of calls))
   pub judgement : outcome ≡ judged old datagram
   pub decodings : AreDecodings (dones_in (exchanges_of calls))
   pub offered : AreOffersOf (datagram_jobs old datagram) (proposed_in (exchanges_of calls))
@@ -43,7 +49,8 @@ pub record IsDrained (outside : Outside) (old new : Reception) (calls : List Pla
   pub told : Grows outside.told_before outside.told_behind (told_more (told_of calls)
       (freeing (all_freed_places (all_exchanged (ends_input old) (exchanges_of calls)))))
   pub value : new ≡ takes_end old (exchanges_of calls)
-  pub written : Grew outside.held_before outside.held_behind (end_bytes old (exchanges_of calls))
+  pub written : Grew outside.held_before outside.held_behind
+      (end_output outside.stream_before old (exchanges_of calls))
   pub decodings : AreDecodings (dones_in (exchanges_of calls))
   pub offered : proposed_in (exchanges_of calls) ≡ []
   pub asked : is_some (next_picture (ends_input old)) ≡ true

@@ -5,10 +5,16 @@ use Rattle.link_receiver.specs.declared.fault.EnterFault.{EnterFault}
 use Rattle.link_receiver.specs.declared.fault.EnterFault.TheVariants as enter
 use Rattle.link_receiver.specs.declared.fault.StepFault.{StepFault}
 use Rattle.link_receiver.specs.declared.fault.StepFault.TheVariants as step
+use Rattle.unit_release.specs.declared.fault.StreamFault.{StreamFault}
+use Rattle.unit_release.specs.declared.fault.StreamFault.TheVariants as stream
 
 abbrev pub step_fault : FrameFault → StepFault
 step_fault frame.WriteFault = step.WriteFault
 step_fault frame.NoMemory = step.NoMemory
+
+abbrev pub units_fault : StreamFault → StepFault
+units_fault stream.WriteFault = step.WriteFault
+units_fault stream.NoMemory = step.NoMemory
 
 abbrev pub enter_fault : StepFault → EnterFault
 enter_fault step.WriteFault = enter.WriteFault

@@ -5,5 +5,6 @@ pub mod Exchanged
 pub mod Faults
 pub mod Keeping
 pub mod Freeing
+pub mod Shown
 pub mod Entered
 pub mod HeardLists

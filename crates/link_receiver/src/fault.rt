@@ -1,10 +1,11 @@
 ghost use Rattle.std.specs.Prelude.{◌≡◌};
 ghost use Rattle.frame_writer.specs.declared.fault.FrameFault.{FrameFault};
 ghost use Rattle.frame_writer.specs.declared.fault.FrameFault.TheVariants as frame_fault;
-ghost use Rattle.link_receiver.specs.Faults.{step_fault, enter_fault};
+ghost use Rattle.link_receiver.specs.Faults.{step_fault, units_fault, enter_fault};
 ghost use Rattle.link_receiver.specs.declared.fault.StepFault.TheVariants as step;
 
 use frame_writer::FrameFault;
+use unit_release::StreamFault;
 use vc_types::NoMemory;
 
 /// Why a call isn't done whole.
@@ -39,6 +40,17 @@ impl From<FrameFault> for StepFault {
         match fault {
             FrameFault::NoMemory => StepFault::NoMemory,
             FrameFault::WriteFault => StepFault::WriteFault,
+        }
+    }
+}
+
+impl From<StreamFault> for StepFault {
+    ghost from_gives = { λ fault e. e ≡ units_fault fault };
+
+    fn from(fault: StreamFault) -> Self {
+        match fault {
+            StreamFault::NoMemory => StepFault::NoMemory,
+            StreamFault::WriteFault => StepFault::WriteFault,
         }
     }
 }

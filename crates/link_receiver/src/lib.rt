@@ -1,5 +1,5 @@
 //! The receiver of the link: it takes datagrams, offers their slices to places and takes them back
-//! decoded, and writes each frame once its pictures are complete.
+//! decoded, and writes each frame, or its units, once its pictures are complete.
 #![tactic(auto)]
 
 mod counting;
@@ -11,6 +11,8 @@ mod laws;
 mod receiver;
 mod reception;
 mod releasing;
+mod showing;
+mod taking;
 
 pub use fault::EnterFault;
 pub use laws::{draining_follows_the_list, entering_follows_the_list};

@@ -1,4 +1,4 @@
-ghost use Rattle.std.specs.Prelude.{◌≡◌, ◌≤◌, IfOk, OnOk, map, None};
+ghost use Rattle.std.specs.Prelude.{◌≡◌, ◌≤◌, IfOk, OnOk, map, None, is_none};
 ghost use Rattle.std.specs.Option.{option_map};
 ghost use Rattle.link_reception.specs.Entering.{datagram_jobs, gives_up_field, opens_session};
 ghost use Rattle.link_reception.specs.Judging.{judged, keeps_datagram, session_opened, ends_input};
@@ -69,6 +69,13 @@ impl Reception {
         ensures { result ≡ self.now.has_ended }
     {
         self.has_ended
+    }
+
+    /// Whether no session has opened.
+    pub(crate) fn is_idle(&self) -> bool
+        ensures { result ≡ is_none self.now.standing }
+    {
+        self.standing.is_none()
     }
 
     pub(crate) fn counts(&self) -> &Tally

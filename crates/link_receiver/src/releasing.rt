@@ -1,9 +1,9 @@
 ghost use Rattle.std.specs.Prelude.{◌≡◌, ℕ, IfOk, IfSome, OnOk, OnErr, Some, Err, length};
 ghost use Rattle.std.specs.Option.{option_map};
 ghost use Rattle.link_reception.specs.Receptions.{answers_without};
-ghost use Rattle.link_reception.specs.Releasing.{releases_picture_of, released_bytes};
+ghost use Rattle.link_reception.specs.Releasing.{releases_picture_of};
 ghost use Rattle.link_reception.specs.Releasing.{released_planes, freed_places, next_picture};
-ghost use Rattle.link_reception.specs.Releasing.{releases_all, all_released_bytes, book_count};
+ghost use Rattle.link_reception.specs.Releasing.{releases_all, book_count};
 ghost use Rattle.link_reception.specs.WholeBooks.{ArePicturePlanes};
 ghost use Rattle.link_receiver.specs.HeardLists.{AskedPlaces};
 ghost use Rattle.link_receiver.specs.Freeing.{all_freed_places};
@@ -11,6 +11,8 @@ ghost use Rattle.link_receiver.specs.States.{WaitsForSecond};
 ghost use Rattle.link_receiver.specs.declared.fault.StepFault.{StepFault};
 ghost use Rattle.link_window.specs.Views.{releasable_of};
 ghost use Rattle.slice_exchange.specs.Calls.{AreBelow, freeing};
+ghost use Rattle.unit_release.specs.Outputs.{released_output, stream_behind_picture};
+ghost use Rattle.unit_release.specs.Outputs.{all_released_output, stream_behind_all};
 ghost use Rattle.vc_ports.specs.Faults.{HasCause};
 ghost use Rattle.vc_ports.specs.Writing.{Grew, GrewBySome};
 ghost use Rattle.vc_slice.specs.Asked.{Grows};
@@ -19,8 +21,10 @@ ghost use Rattle.vc_types.specs.Planes.{planes_in};
 use crate::counting::with_picture;
 use crate::fault::StepFault;
 use crate::reception::Reception;
+use crate::showing::show;
 use link_session::{Released, Standing};
 use slice_answers::Answers;
+use unit_release::StreamOutput;
 use vc_ports::Sink;
 use vc_slice::Places;
 use vc_types::{NoMemory, Plane};
@@ -29,19 +33,21 @@ impl Reception {
     /// Releases each picture that may be released.
     pub(crate) fn release_all<P: Places, O: Sink>(
         &mut self,
+        stream: &mut Option<StreamOutput>,
         places: &mut P,
         sink: &mut O,
     ) -> Result<(), StepFault>
         requires waiting { WaitsForSecond self.old.standing self.old.field }
         requires below { AreBelow (P.bound places.old) self.old.out }
         ensures value { OnOk result (self.new ≡ releases_all self.old) }
+        ensures stream { OnOk result (stream.new ≡ stream_behind_all stream.old self.old) }
         ensures told { OnOk result (Grows (P.told places.old) (P.told places.new)
             (freeing (all_freed_places self.old))) }
-        ensures written { OnOk result
-            (Grew (O.held sink.old) (O.held sink.new) (all_released_bytes self.old)) }
+        ensures written { OnOk result (Grew (O.held sink.old) (O.held sink.new)
+            (all_released_output stream.old self.old)) }
         ensures waiting { OnOk result (WaitsForSecond self.new.standing self.new.field) }
-        ensures err { OnErr result
-            (GrewBySome (O.held sink.old) (O.held sink.new) (all_released_bytes self.old)) }
+        ensures err { OnErr result (GrewBySome (O.held sink.old) (O.held sink.new)
+            (all_released_output stream.old self.old)) }
         ensures cause { HasCause (O.faults sink.old) (O.faults sink.new)
             (result ≡ Err StepFault.WriteFault) }
         ensures asked { AskedPlaces (P.told places.old) (P.told places.new) }
@@ -52,7 +58,7 @@ impl Reception {
             let Some(picture) = self.next_release() else {
                 return Ok(());
             };
-            self.release(picture, places, sink)?;
+            self.release(picture, stream, places, sink)?;
         }
         Ok(())
     }
@@ -70,6 +76,7 @@ impl Reception {
     fn release<P: Places, O: Sink>(
         &mut self,
         picture: Released,
+        stream: &mut Option<StreamOutput>,
         places: &mut P,
         sink: &mut O,
     ) -> Result<(), StepFault>
@@ -78,13 +85,15 @@ impl Reception {
         requires below { AreBelow (P.bound places.old) self.old.out }
         ensures value { OnOk result (self.new
             ≡ releases_picture_of self.old (releasable_of picture)) }
+        ensures stream { OnOk result (stream.new
+            ≡ stream_behind_picture stream.old self.old (releasable_of picture)) }
         ensures told { OnOk result (Grows (P.told places.old) (P.told places.new)
             (freeing (freed_places self.old picture.number))) }
         ensures written { OnOk result (Grew (O.held sink.old) (O.held sink.new)
-            (released_bytes self.old (releasable_of picture))) }
+            (released_output stream.old self.old (releasable_of picture))) }
         ensures waiting { OnOk result (WaitsForSecond self.new.standing self.new.field) }
         ensures err { OnErr result (GrewBySome (O.held sink.old) (O.held sink.new)
-            (released_bytes self.old (releasable_of picture))) }
+            (released_output stream.old self.old (releasable_of picture))) }
         ensures cause { HasCause (O.faults sink.old) (O.faults sink.new)
             (result ≡ Err StepFault.WriteFault) }
         ensures asked { AskedPlaces (P.told places.old) (P.told places.new) }
@@ -98,7 +107,7 @@ impl Reception {
         let planes = take_planes(&mut self.answers, standing, number)?;
         let is_sound = planes.is_some();
         self.out.free_picture(number, places);
-        let shown = self.field.release(standing.header(), number, planes, sink)?;
+        let shown = show(&mut self.field, stream, standing, number, planes, sink)?;
         standing.release(number);
         self.counts = with_picture(
             &self.counts,

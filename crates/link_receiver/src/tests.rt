@@ -156,3 +156,30 @@ fn a_picture_is_written_by_answers(rt: HostRuntime) -> Result<(), Fail> {
     assert_eq!(rt; places.taken, 2);
     Ok(())
 }
+
+// Its header, its picture and an end of sequence.
+const STREAM: [u8; 59] = [
+    0x42, 0x42, 0x43, 0x44, 0x00, 0, 0, 0, 0x12, 0, 0, 0, 0, 0x70, 0xf0, 0x63, 0xc0, 0x80, 0x42,
+    0x42, 0x43, 0x44, 0xe8, 0, 0, 0, 0x1c, 0, 0, 0, 0x12, 0, 0, 0, 0, 0x09, 0x66, 0x40, 0, 0, 0, 0,
+    0, 0, 0, 0, 0x42, 0x42, 0x43, 0x44, 0x10, 0, 0, 0, 0, 0, 0, 0, 0x1c,
+];
+
+#[test]
+fn a_picture_is_unpacked(rt: HostRuntime) -> Result<(), Fail> {
+    let alloc = rt.alloc();
+    let header = datagram(alloc, &HEADER)?;
+    let params = datagram(alloc, &PARAMS)?;
+    let first = datagram(alloc, &FIRST_SLICE)?;
+    let second = datagram(alloc, &SECOND_SLICE)?;
+    let mut places = NoPlaces;
+    let mut sink = MemSink::new(alloc, 59, Vec::new(alloc))?;
+    let mut receiver = Receiver::units(alloc, 2);
+    let began = receiver.enter(header, &mut places, &mut sink).is_ok();
+    let kept = receiver.enter(params, &mut places, &mut sink).is_ok();
+    let half = receiver.enter(first, &mut places, &mut sink).is_ok();
+    let whole = receiver.enter(second, &mut places, &mut sink).is_ok();
+    let drained = receiver.drain(&mut places, &mut sink).is_ok();
+    assert!(rt; began && kept && half && whole && drained);
+    assert_eq!(rt; sink.bytes(), STREAM.as_slice());
+    Ok(())
+}

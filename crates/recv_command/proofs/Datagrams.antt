@@ -8,7 +8,7 @@ use Rattle.decode_command.proofs.Asking.{nothing_offered, offered_with}
 use Rattle.decode_command.proofs.Due.{due_with, due_at_end, nothing_due}
 use Rattle.link_model.specs.Output.{output_so_far, full_output}
 use Rattle.link_reception.specs.Entering.{datagram_jobs}
-use Rattle.link_receiver.specs.HeardLists.{HasHeard, OfferedToPlaces, newly_due, still_due}
+use Rattle.link_receiver.specs.HeardLists.{AsFrames, HasHeard, OfferedToPlaces, newly_due, still_due}
 use Rattle.link_receiver.specs.States.{ReceiverState}
 use Rattle.recv_command.specs.Listening.{IsBehindDatagrams, StopsBehind, BreaksBehind, LoopEnds}
 use Rattle.recv_command.specs.declared.command.Stop.TheVariants.{Ended, Failed, AtLimit}
@@ -24,7 +24,7 @@ use Rattle.wire_calls.proofs.Calls.{passes_none, passes_then}
 
 -- before the first datagram
 pub begun : (window sessions : ℕ) (count : SessionCount) (receiver : ReceiverState) (wire : WireTold) (held : Option (List ℕ)) (told : Option Told)
-    → HasHeard receiver window [] → Counts count sessions []
+    → HasHeard AsFrames receiver window [] → Counts count sessions []
     → IsBehindDatagrams window sessions 0 count receiver wire wire held held (record { before = told; after = told }) []
 begun window sessions count receiver wire held told heard counts = record {
   number_is = refl;
@@ -33,14 +33,14 @@ begun window sessions count receiver wire held told heard counts = record {
   gave = passes_none wire;
   is_heard = record {
     has_heard = heard;
-    wrote = rw (nothing_due window) (Grew-none held);
+    wrote = rw (nothing_due AsFrames window) (Grew-none held);
     offered = nothing_offered window told;
   };
 }
 
 -- what goes out of datagrams is a part of all that is due of them
 part_of_all : (window : ℕ) (before after : Option (List ℕ)) (ds : List (List ℕ)) → GrewBySome before after (output_so_far window ds) → GrewBySome before after (full_output window ds)
-part_of_all window before after ds grew = rw (due_at_end window ds) at (GrewBySome-front before after (output_so_far window ds) (still_due window ds) grew)
+part_of_all window before after ds grew = rw (due_at_end AsFrames window ds) at (GrewBySome-front before after (output_so_far window ds) (still_due AsFrames window ds) grew)
 
 left_more : (left ended sessions : ℕ) → left + ended ≡ sessions → 0 < left → ended < sessions
 left_more left ended sessions sum some = omega (arith, sum, some)
@@ -67,8 +67,8 @@ module _ (window sessions number : ℕ) (count : SessionCount) (receiver : Recei
         by_place (inr before) = rw (take-append-le k heard (datagram ∷ []) (omega (arith, before))) (at.no_sooner k before)
 
     pub with_datagram : 0 < count.left → (next_count : SessionCount) (next : ReceiverState) (held_after : Option (List ℕ)) (asked_after : Option Told)
-        → Counts next_count sessions longer → HasHeard next window longer
-        → Grew held_mid held_after (newly_due window heard datagram)
+        → Counts next_count sessions longer → HasHeard AsFrames next window longer
+        → Grew held_mid held_after (newly_due AsFrames window heard datagram)
         → OfferedToPlaces asked_mid asked_after (datagram_jobs receiver.reception datagram)
         → IsBehindDatagrams window sessions (number + 1) next_count next told_before told_after held_before held_after (record { before = asked_before; after = asked_after }) longer
     with_datagram some next_count next held_after asked_after counts has_heard grew offered = record {
@@ -78,29 +78,29 @@ module _ (window sessions number : ℕ) (count : SessionCount) (receiver : Recei
       gave = gave_more;
       is_heard = record {
         has_heard = has_heard;
-        wrote = rw (due_with window heard datagram) at
-            (Grew-then held_before held_mid held_after (output_so_far window heard) (newly_due window heard datagram) at.is_heard.wrote grew);
+        wrote = rw (due_with AsFrames window heard datagram) at
+            (Grew-then held_before held_mid held_after (output_so_far window heard) (newly_due AsFrames window heard datagram) at.is_heard.wrote grew);
         offered = offered_with window heard asked_before asked_mid asked_after at.is_heard.offered receiver datagram at.is_heard.has_heard offered;
       };
     }
 
     -- it was given, and not heard whole
     pub broke_at : (packets : ℕ) → number < packets → (held_after : Option (List ℕ)) (faults wire_faults : Change ℕ)
-        → GrewBySome held_mid held_after (newly_due window heard datagram)
+        → GrewBySome held_mid held_after (newly_due AsFrames window heard datagram)
         → BreaksBehind window packets (record { told = record { before = told_before; after = told_after }; faults = wire_faults })
         (record { held = record { before = held_before; after = held_after }; faults = faults }) longer
     broke_at packets room held_after faults wire_faults grew = record {
       few = omega (arith, length-append heard (datagram ∷ []), at.number_is, room);
       gave = gave_more;
       wrote = part_of_all window held_before held_after longer
-          (rw (due_with window heard datagram) at
-          (GrewBySome-then held_before held_mid held_after (output_so_far window heard) (newly_due window heard datagram) at.is_heard.wrote grew));
+          (rw (due_with AsFrames window heard datagram) at
+          (GrewBySome-then held_before held_mid held_after (output_so_far window heard) (newly_due AsFrames window heard datagram) at.is_heard.wrote grew));
     }
 
     pub lost_at : (packets : ℕ) → number < packets → (faults wire_faults : Change ℕ)
         → BreaksBehind window packets (record { told = record { before = told_before; after = told_after }; faults = wire_faults })
         (record { held = record { before = held_before; after = held_mid }; faults = faults }) longer
-    lost_at packets room faults wire_faults = broke_at packets room held_mid faults wire_faults (GrewBySome-none held_mid (newly_due window heard datagram))
+    lost_at packets room faults wire_faults = broke_at packets room held_mid faults wire_faults (GrewBySome-none held_mid (newly_due AsFrames window heard datagram))
 
   -- ---- the ends
 

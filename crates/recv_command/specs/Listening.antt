@@ -3,7 +3,7 @@ use Rattle.std.specs.Prelude.{◌≡◌, ◌≤◌, ◌<◌, ℕ, List, [], leng
 use Rattle.decode_command.specs.Hearing.{HasOffered, IsBroken}
 use Rattle.link_model.specs.Judgement.{tally_of}
 use Rattle.link_model.specs.Output.{output_so_far, full_output}
-use Rattle.link_receiver.specs.HeardLists.{HasHeard}
+use Rattle.link_receiver.specs.HeardLists.{AsFrames, HasHeard}
 use Rattle.link_receiver.specs.States.{ReceiverState}
 use Rattle.link_report.specs.declared.ending.Ending.{Ending}
 use Rattle.recv_command.specs.Receiving.{HeardToEnd, IsPastPackets}
@@ -25,7 +25,7 @@ GaveDatagrams wire heard = Passes wire.told.before wire.told.after [] heard
 pub record IsHeard
     (window : ℕ) (receiver : ReceiverState) (held_before held_after : Option (List ℕ))
     (hands : Change (Option Told)) (heard : List (List ℕ)) : Type 0 where
-  pub has_heard : HasHeard receiver window heard
+  pub has_heard : HasHeard AsFrames receiver window heard
   pub wrote : Grew held_before held_after (output_so_far window heard)
   pub offered : HasOffered window heard hands
 

@@ -2,7 +2,8 @@ ghost use Rattle.std.specs.Prelude.{◌≡◌, ◌≤◌, ℕ, IsTrue, List, [],
 ghost use Rattle.decode_command.specs.Hearing.{IsBroken, ending_of};
 ghost use Rattle.link_model.specs.Judgement.{outcome_behind};
 ghost use Rattle.link_reception.specs.Entering.{datagram_jobs};
-ghost use Rattle.link_receiver.specs.HeardLists.{HasHeard, AskedPlaces, OfferedToPlaces, newly_due};
+ghost use Rattle.link_receiver.specs.HeardLists.{AsFrames, HasHeard, AskedPlaces, OfferedToPlaces};
+ghost use Rattle.link_receiver.specs.HeardLists.{newly_due};
 ghost use Rattle.recv_command.specs.Listening.{LoopEnds, ReceivesAll};
 ghost use Rattle.recv_command.specs.Receiving.{ReceivesFrom};
 ghost use Rattle.slice_exchange.specs.Calls.{AreBelow};
@@ -97,7 +98,7 @@ fn receive<N: Wire, O: Sink, P: Places>(
 ) -> Result<Stop, Ending>
     requires below { AreBelow (P.bound places.old) receiver.old.reception.out }
     requires listens { IsTrue (N.told wire.old).listens }
-    ensures received { (window : ℕ) → HasHeard receiver.old window []
+    ensures received { (window : ℕ) → HasHeard AsFrames receiver.old window []
         → ReceivesAll window packets sessions result receiver.new
         (wire_of N.told N.faults wire.old wire.new)
         (output_of O.held O.faults output.old output.new)
@@ -126,7 +127,7 @@ fn hear_sessions<N: Wire, O: Sink, P: Places>(
 ) -> Result<Stop, Ending>
     requires below { AreBelow (P.bound places.old) receiver.old.reception.out }
     requires listens { IsTrue (N.told wire.old).listens }
-    ensures heard { (window : ℕ) → HasHeard receiver.old window []
+    ensures heard { (window : ℕ) → HasHeard AsFrames receiver.old window []
         → LoopEnds window packets sessions result receiver.new
         (wire_of N.told N.faults wire.old wire.new)
         (output_of O.held O.faults output.old output.new)
@@ -169,16 +170,16 @@ fn enter<O: Sink, P: Places>(
     places: &mut P,
 ) -> Result<Outcome, Ending>
     requires below { AreBelow (P.bound places.old) receiver.old.reception.out }
-    ensures judged { (window : ℕ) (heard : List (List ℕ)) → HasHeard receiver.old window heard
+    ensures judged { (window : ℕ) (heard : List (List ℕ)) → HasHeard AsFrames receiver.old window heard
         → IfOk result (λ outcome. outcome ≡ outcome_behind window heard datagram) }
-    ensures heard { (window : ℕ) (heard : List (List ℕ)) → HasHeard receiver.old window heard
-        → OnOk result (HasHeard receiver.new window (heard ++ datagram ∷ [])) }
-    ensures wrote { (window : ℕ) (heard : List (List ℕ)) → HasHeard receiver.old window heard
+    ensures heard { (window : ℕ) (heard : List (List ℕ)) → HasHeard AsFrames receiver.old window heard
+        → OnOk result (HasHeard AsFrames receiver.new window (heard ++ datagram ∷ [])) }
+    ensures wrote { (window : ℕ) (heard : List (List ℕ)) → HasHeard AsFrames receiver.old window heard
         → OnOk result (Grew (O.held output.old) (O.held output.new)
-        (newly_due window heard datagram)) }
-    ensures part { (window : ℕ) (heard : List (List ℕ)) → HasHeard receiver.old window heard
+        (newly_due AsFrames window heard datagram)) }
+    ensures part { (window : ℕ) (heard : List (List ℕ)) → HasHeard AsFrames receiver.old window heard
         → OnErr result (GrewBySome (O.held output.old) (O.held output.new)
-        (newly_due window heard datagram)) }
+        (newly_due AsFrames window heard datagram)) }
     ensures ending { IfErr result IsBroken }
     ensures cause { HasCause (O.faults output.old) (O.faults output.new)
         (result ≡ Err Ending.OutputFailed) }

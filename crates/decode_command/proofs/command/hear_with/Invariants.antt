@@ -1,6 +1,6 @@
 use Rattle.std.proofs.Common.{◌≡◌, ◌*◌, ◌≤◌, ℕ, List, [], None}
 use Rattle.slice_exchange.specs.Calls.{AreBelow}
-use Rattle.link_receiver.specs.HeardLists.{HasHeard, AskedPlaces}
+use Rattle.link_receiver.specs.HeardLists.{OutputForm, HasHeard, AskedPlaces}
 use Rattle.vc_ports.specs.Changes.{changed}
 use Rattle.decode_command.specs.Hearing.{IsBehind, HasOffered}
 use Rattle.decode_command.proofs.command.hear_with.Given as goal
@@ -10,8 +10,8 @@ invariant-loop-entry g l = record {
   borrows : l.reader.source.ghost_name ≡ l.fn.reader.source.ghost_name;
   sound : l.reader.fault ≡ None;
   near : l.reader.place ≤ 65537 * l._entry;
-  behind : (window : ℕ) → HasHeard l.fn.receiver window []
-      → (datagrams : List (List ℕ)) × IsBehind window l.fn.packets l._entry l.reader.place
+  behind : (form : OutputForm) (window : ℕ) → HasHeard form l.fn.receiver window []
+      → (datagrams : List (List ℕ)) × IsBehind form window l.fn.packets l._entry l.reader.place
       (g.S.Source.left l.fn.reader.source.now) (g.S.Source.left l.reader.source.now)
       (g.O.Sink.held l.fn.output) (g.O.Sink.held l.output) l.receiver datagrams
       × HasOffered window datagrams (changed g.P.Places.told l.fn.places l.places);

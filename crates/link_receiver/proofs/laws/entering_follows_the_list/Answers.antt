@@ -1,4 +1,4 @@
-use Rattle.std.proofs.Common.{◌≡◌, ◌∙◌, sym, subst}
+use Rattle.std.proofs.Common.{◌∙◌, sym, subst}
 use Rattle.link_model.specs.Machine.{Enter}
 use Rattle.link_model.specs.Next.{next_feeder}
 use Rattle.link_reception.specs.Exchanging.{dones_in}

@@ -1,6 +1,6 @@
 use Rattle.std.proofs.Common.{◌≤◌, ℕ, List, []}
 use Rattle.std.specs.Prelude.{IsTrue}
-use Rattle.link_receiver.specs.HeardLists.{HasHeard, AskedPlaces}
+use Rattle.link_receiver.specs.HeardLists.{AsFrames, HasHeard, AskedPlaces}
 use Rattle.recv_command.specs.Listening.{IsBehindDatagrams}
 use Rattle.slice_exchange.specs.Calls.{AreBelow}
 use Rattle.vc_ports.specs.Changes.{changed}
@@ -8,7 +8,7 @@ use Rattle.recv_command.proofs.command.hear_sessions.Given as goal
 
 abbrev pub invariant-loop-place : goal.invariant-loop-place
 invariant-loop-place g l = record {
-  behind : (window : ℕ) → HasHeard l.fn.receiver window []
+  behind : (window : ℕ) → HasHeard AsFrames l.fn.receiver window []
       → (heard : List (List ℕ)) × IsBehindDatagrams window l.fn.sessions l._place l.count l.receiver
       (g.N.Wire.told l.fn.wire) (g.N.Wire.told l.wire)
       (g.O.Sink.held l.fn.output) (g.O.Sink.held l.output)

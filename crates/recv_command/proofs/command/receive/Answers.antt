@@ -1,6 +1,7 @@
 use Rattle.std.proofs.Common.{rules, ◌≡◌, sym, subst}
 use Rattle.std.specs.Prelude.{Result, Err}
 use Rattle.link_receiver.proofs.Asked.{asked_twice}
+use Rattle.link_receiver.specs.HeardLists.{AsFrames}
 use Rattle.link_report.specs.declared.ending.Ending.{Ending}
 use Rattle.vc_ports.specs.Changes.{changed, output_of, wire_of}
 use Rattle.recv_command.specs.declared.command.Stop.{Stop}
@@ -19,12 +20,12 @@ returns-in_err-stop-clause-received g c = λ window heard.
 pub returns-in-Ok-clause-received : goal.returns-in-Ok-clause-received
 returns-in-Ok-clause-received g c = λ window heard.
     let st = c.in_ok-stop.ensures.heard window heard in
-    all_written window c.args.packets c.args.sessions _ _ _ _ _ _ _ _ _ _ st _ (c.in-Ok.ensures.wrote window st.0 st.1.is_heard.has_heard) (c.in-Ok.ensures.counts window st.0 st.1.is_heard.has_heard) _ c.in-Ok.ensures.asked
+    all_written window c.args.packets c.args.sessions _ _ _ _ _ _ _ _ _ _ st _ (c.in-Ok.ensures.wrote AsFrames window st.0 st.1.is_heard.has_heard) (c.in-Ok.ensures.counts AsFrames window st.0 st.1.is_heard.has_heard) _ c.in-Ok.ensures.asked
 
 pub returns-in-Err-clause-received : goal.returns-in-Err-clause-received
 returns-in-Err-clause-received g c = λ window heard.
     let st = c.in_ok-stop.ensures.heard window heard in
-    rw c.ending_of.ensures (part_written window c.args.packets c.args.sessions _ _ _ _ _ _ _ _ _ _ st c.in-Err.fault c.drain.new.self (changed g.P.Places.told c.args.places.now c.drain.new.places) (c.in-Err.ensures.part window st.0 st.1.is_heard.has_heard))
+    rw c.ending_of.ensures (part_written window c.args.packets c.args.sessions _ _ _ _ _ _ _ _ _ _ st c.in-Err.fault c.drain.new.self (changed g.P.Places.told c.args.places.now c.drain.new.places) (c.in-Err.ensures.part AsFrames window st.0 st.1.is_heard.has_heard))
 
 pub returns-in-Ok-clause-told : goal.returns-in-Ok-clause-told
 returns-in-Ok-clause-told g c = asked_twice _ _ _ c.in_ok-stop.ensures.told c.in-Ok.ensures.asked

@@ -1,7 +1,6 @@
-use Rattle.std.proofs.Common.{◌≡◌, refl}
+use Rattle.std.proofs.Common.{refl}
 use Rattle.link_model.specs.Feeders.{new_feeder}
 use Rattle.link_reception.proofs.NewReception.{new_stands}
-use Rattle.link_receiver.specs.HeardLists.{HasHeard}
 use Rattle.link_receiver.proofs.receiver.Receiver.new.Goals as goal
 
 pub returns-clause-heard : goal.returns-clause-heard
@@ -12,4 +11,5 @@ returns-clause-heard c = record {
   stands = rw c.new.ensures (new_stands c.args.size);
   heard = refl;
   goes_on = refl;
+  writes = refl;
 }

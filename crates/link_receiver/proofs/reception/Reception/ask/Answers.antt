@@ -1,5 +1,5 @@
-use Rattle.std.proofs.Common.{◌≡◌, ◌<◌, ◌≤◌, subst, sym, ap, ◌∙◌, [], ◌∷◌, refl, length, Some, None, arith}
-use Rattle.link_reception.specs.Receptions.{Reception, SliceOut}
+use Rattle.std.proofs.Common.{◌≡◌, ◌≤◌, subst, sym, ap, [], ◌∷◌, refl, length, Some, None, arith}
+use Rattle.link_reception.specs.Receptions.{Reception}
 use Rattle.link_receiver.proofs.Asked.{asked_none, asked_take}
 use Rattle.link_receiver.proofs.Exchanges.{no_call}
 use Rattle.link_receiver.proofs.Stays.{asked_past, asked_got, below_got}

@@ -1,6 +1,6 @@
 use Rattle.std.proofs.Common.{◌≡◌, ◌∙◌, ◌≤◌, ℕ, sym, subst}
 use Rattle.link_receiver.proofs.Asked.{asked_twice}
-use Rattle.link_receiver.proofs.Entering.{waits_exchanged, fails_in, size_released, goes_on_behind, has_ended_behind, enters}
+use Rattle.link_receiver.proofs.Entering.{waits_exchanged, fails_early, fails_in, size_released, goes_on_behind, has_ended_behind, enters}
 use Rattle.link_receiver.proofs.Steps.{on_err}
 use Rattle.std.specs.Option.{option_map}
 use Rattle.link_session.specs.Openings.{session_of}
@@ -9,6 +9,10 @@ use Rattle.link_receiver.proofs.reception.Reception.enter.Goals as goal
 
 pub returns-in_err-kept-clause-below : goal.returns-in_err-kept-clause-below
 returns-in_err-kept-clause-below g c = rw c.keep.ensures.out c.requires.below
+
+pub returns-in_err-kept-clause-failed : goal.returns-in_err-kept-clause-failed
+returns-in_err-kept-clause-failed g c = on_err _ _
+    (fails_early c.args.stream.now c.args.self.now c.args.datagram.now _)
 
 pub exchange-requires : goal.exchange-requires
 exchange-requires g c = record { below = rw c.keep.ensures.out c.requires.below }
@@ -21,7 +25,7 @@ release_all-requires-clause-waiting g c = waits_exchanged _ _ c.args.self.now c.
 pub returns-in_err-release_all-clause-failed : goal.returns-in_err-release_all-clause-failed
 returns-in_err-release_all-clause-failed g c = on_err _ _ (fails_in _ _ c.args.self.now
     c.keep.new.self c.exchange.new.self c.args.datagram.now _ c.in_ok-kept.ensures.value
-    c.in_ok-exchange.ensures.exchanged _ _ c.in_err-release_all.ensures.err)
+    c.in_ok-exchange.ensures.exchanged c.args.stream.now _ _ c.in_err-release_all.ensures.err)
 
 pub open-requires-clause-least : goal.open-requires-clause-least
 open-requires-clause-least g c = subst (λ (n : ℕ). 2 ≤ n)
@@ -38,11 +42,21 @@ open-requires-clause-most g c = subst (λ (n : ℕ). n ≤ 8)
 pub returns-in_err-open-clause-failed : goal.returns-in_err-open-clause-failed
 returns-in_err-open-clause-failed g c = on_err _ _ (fails_in _ _ c.args.self.now
     c.keep.new.self c.exchange.new.self c.args.datagram.now _ c.in_ok-kept.ensures.value
-    c.in_ok-exchange.ensures.exchanged _ _
+    c.in_ok-exchange.ensures.exchanged c.args.stream.now _ _
     (GrewBySome-all _ _ _ c.in_ok-release_all.ensures.written))
 
 pub returns-in_err-open-clause-below : goal.returns-in_err-open-clause-below
 returns-in_err-open-clause-below g c = rw c.open.ensures.out c.release_all.ensures.below
+
+pub returns-in_err-open_stream-clause-failed : goal.returns-in_err-open_stream-clause-failed
+returns-in_err-open_stream-clause-failed g c = on_err _ _ (fails_in _ _ c.args.self.now
+    c.keep.new.self c.exchange.new.self c.args.datagram.now _ c.in_ok-kept.ensures.value
+    c.in_ok-exchange.ensures.exchanged c.args.stream.now _ _
+    (GrewBySome-all _ _ _ c.in_ok-release_all.ensures.written))
+
+pub returns-in_err-open_stream-clause-asked : goal.returns-in_err-open_stream-clause-asked
+returns-in_err-open_stream-clause-asked g c = asked_twice _ _ _ c.in_ok-exchange.ensures.asked
+    c.in_ok-release_all.ensures.asked
 
 pub returns-clause-entered : goal.returns-clause-entered
 returns-clause-entered g c = enters _ _ c.args.self.now c.keep.new.self c.exchange.new.self
@@ -51,9 +65,13 @@ returns-clause-entered g c = enters _ _ c.args.self.now c.keep.new.self c.exchan
     (g.P.Places.told c.release_all.new.places) (g.O.Sink.held c.args.sink.now)
     (g.O.Sink.held c.release_all.new.sink) c.in_ok-kept.kept.outcome
     (option_map session_of c.in_ok-kept.kept.opening) c.open.new.self
+    c.args.stream.now c.release_all.new.stream c.open_stream.new.stream _ _ c.is_idle-is_first.ensures
+    c.deref-2.ensures
     (rw c.deref.ensures.value c.in_ok-kept.ensures.jobs) c.in_ok-kept.ensures.outcome
     c.in_ok-kept.ensures.opening c.in_ok-release_all.ensures.told
     c.in_ok-release_all.ensures.written c.in_ok-open.ensures.value
+    c.in_ok-release_all.ensures.stream
+    c.in_ok-open_stream.ensures
 
 pub returns-clause-goes_on : goal.returns-clause-goes_on
 returns-clause-goes_on g c = goes_on_behind _ _ c.args.self.now c.keep.new.self

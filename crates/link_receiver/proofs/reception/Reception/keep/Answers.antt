@@ -1,4 +1,4 @@
-use Rattle.std.proofs.Common.{◌≡◌, subst, sym, List, ℕ, Option}
+use Rattle.std.proofs.Common.{subst, Option}
 use Rattle.link_reception.specs.Entering.{datagram_jobs}
 use Rattle.link_reception.specs.Receptions.{StandingSession}
 use Rattle.link_session.specs.Hearing.{IsHeard}

@@ -1,6 +1,6 @@
-use Rattle.std.proofs.Common.{◌≡◌, ◌∙◌, [], take, subst, refl}
+use Rattle.std.proofs.Common.{◌∙◌, [], refl}
 use Rattle.link_receiver.proofs.Asked.{asked_none, asked_twice}
-use Rattle.link_receiver.proofs.CallSteps.{offers_step, Offers}
+use Rattle.link_receiver.proofs.CallSteps.{offers_step}
 use Rattle.link_receiver.proofs.Exchanges.{no_call}
 use Rattle.link_receiver.proofs.reception.Reception.offer_all.Goals as goal
 

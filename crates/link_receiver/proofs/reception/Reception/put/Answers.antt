@@ -1,4 +1,3 @@
-use Rattle.std.proofs.Common.{◌≡◌, subst, sym}
 use Rattle.link_reception.specs.Receptions.{Reception}
 use Rattle.link_receiver.proofs.Asked.{asked_put}
 use Rattle.link_receiver.proofs.Steps.{put_calls}

@@ -1,11 +1,10 @@
-use Rattle.std.proofs.Common.{◌≡◌, ◌≤◌, ◌-◌, ◌+◌, ◌∙◌, suc, Some, None, Option, ap, sym, subst, refl, arith, ℕ}
+use Rattle.std.proofs.Common.{◌≡◌, ◌-◌, ◌+◌, ◌∙◌, suc, Some, None, ap, sym, subst, refl, arith, ℕ}
 use Rattle.std.specs.Option.{option_map}
 use Rattle.link_reception.specs.Releasing.{book_count, next_picture}
 use Rattle.link_receiver.proofs.Asked.{asked_none, asked_twice}
-use Rattle.link_receiver.proofs.ReleaseLoop.{IsReleasing, AreReleased, releasing_begins, releasing_goes_on, releasing_fails, releasing_stops, releasing_ends}
+use Rattle.link_receiver.proofs.ReleaseLoop.{IsReleasing, releasing_begins, releasing_goes_on, releasing_fails, releasing_stops, releasing_ends}
 use Rattle.link_receiver.proofs.Steps.{on_err}
 use Rattle.link_window.specs.Views.{releasable_of}
-use Rattle.link_window.specs.declared.window.Released.{Released}
 use Rattle.link_receiver.proofs.reception.Reception.release_all.Goals as goal
 
 pub loop-init : goal.loop-init
@@ -14,9 +13,9 @@ loop-init g c =
     let e : n ≡ n - 0 = omega arith in
     record {
       releasing = subst (λ (left : ℕ). IsReleasing n left c.args.self.now c.args.self.now
-          (g.O.Sink.held c.args.sink.now) (g.O.Sink.held c.args.sink.now)
+          c.args.stream.now c.args.stream.now (g.O.Sink.held c.args.sink.now) (g.O.Sink.held c.args.sink.now)
           (g.P.Places.told c.args.places.now) (g.P.Places.told c.args.places.now)) e
-          (releasing_begins n c.args.self.now (g.O.Sink.held c.args.sink.now)
+          (releasing_begins n c.args.self.now c.args.stream.now (g.O.Sink.held c.args.sink.now)
           (g.P.Places.told c.args.places.now));
       within = c.open_pictures-end.ensures;
       later = omega arith;
@@ -30,37 +29,49 @@ pub returns-in_default-clause-value : goal.returns-in_default-clause-value
 returns-in_default-clause-value g c =
     let none : next_picture c.loop.self ≡ None = sym c.next_release.ensures
     ∙ ap (option_map releasable_of) c.in_default.is in
-    (releasing_stops _ _ _ _ _ _ _ _ c.loop.invariant.releasing none).value
+    (releasing_stops _ _ _ _ _ _ _ _ _ _ c.loop.invariant.releasing none).value
+
+pub returns-in_default-clause-stream : goal.returns-in_default-clause-stream
+returns-in_default-clause-stream g c =
+    let none : next_picture c.loop.self ≡ None = sym c.next_release.ensures
+    ∙ ap (option_map releasable_of) c.in_default.is in
+    (releasing_stops _ _ _ _ _ _ _ _ _ _ c.loop.invariant.releasing none).streams
 
 pub returns-in_default-clause-told : goal.returns-in_default-clause-told
 returns-in_default-clause-told g c =
     let none : next_picture c.loop.self ≡ None = sym c.next_release.ensures
     ∙ ap (option_map releasable_of) c.in_default.is in
-    (releasing_stops _ _ _ _ _ _ _ _ c.loop.invariant.releasing none).grows
+    (releasing_stops _ _ _ _ _ _ _ _ _ _ c.loop.invariant.releasing none).grows
 
 pub returns-in_default-clause-written : goal.returns-in_default-clause-written
 returns-in_default-clause-written g c =
     let none : next_picture c.loop.self ≡ None = sym c.next_release.ensures
     ∙ ap (option_map releasable_of) c.in_default.is in
-    (releasing_stops _ _ _ _ _ _ _ _ c.loop.invariant.releasing none).grew
+    (releasing_stops _ _ _ _ _ _ _ _ _ _ c.loop.invariant.releasing none).grew
 
 pub returns-clause-value : goal.returns-clause-value
 returns-clause-value g c =
     let left : book_count c.args.self.now - c.loop.counter ≡ 0 =
     omega (arith, c.loop.invariant.within, c.loop-test.false) in
-    (releasing_ends _ _ _ _ _ _ _ _ c.loop.invariant.releasing left).value
+    (releasing_ends _ _ _ _ _ _ _ _ _ _ c.loop.invariant.releasing left).value
+
+pub returns-clause-stream : goal.returns-clause-stream
+returns-clause-stream g c =
+    let left : book_count c.args.self.now - c.loop.counter ≡ 0 =
+    omega (arith, c.loop.invariant.within, c.loop-test.false) in
+    (releasing_ends _ _ _ _ _ _ _ _ _ _ c.loop.invariant.releasing left).streams
 
 pub returns-clause-told : goal.returns-clause-told
 returns-clause-told g c =
     let left : book_count c.args.self.now - c.loop.counter ≡ 0 =
     omega (arith, c.loop.invariant.within, c.loop-test.false) in
-    (releasing_ends _ _ _ _ _ _ _ _ c.loop.invariant.releasing left).grows
+    (releasing_ends _ _ _ _ _ _ _ _ _ _ c.loop.invariant.releasing left).grows
 
 pub returns-clause-written : goal.returns-clause-written
 returns-clause-written g c =
     let left : book_count c.args.self.now - c.loop.counter ≡ 0 =
     omega (arith, c.loop.invariant.within, c.loop-test.false) in
-    (releasing_ends _ _ _ _ _ _ _ _ c.loop.invariant.releasing left).grew
+    (releasing_ends _ _ _ _ _ _ _ _ _ _ c.loop.invariant.releasing left).grew
 
 pub returns-in_err-release-clause-err : goal.returns-in_err-release-clause-err
 returns-in_err-release-clause-err g c =
@@ -70,10 +81,10 @@ returns-in_err-release-clause-err g c =
     let next : next_picture c.loop.self ≡ Some (releasable_of c.in-Some.picture) =
     sym c.next_release.ensures ∙ ap (option_map releasable_of) c.in-Some.is in
     let now = subst (λ (left : ℕ). IsReleasing n left c.args.self.now c.loop.self
-    (g.O.Sink.held c.args.sink.now) (g.O.Sink.held c.loop.sink)
+    c.args.stream.now c.loop.stream (g.O.Sink.held c.args.sink.now) (g.O.Sink.held c.loop.sink)
     (g.P.Places.told c.args.places.now) (g.P.Places.told c.loop.places)) e
     c.loop.invariant.releasing in
-    on_err _ _ (releasing_fails n (n - (c.loop.counter + 1)) _ _ _ _ _ _ now
+    on_err _ _ (releasing_fails n (n - (c.loop.counter + 1)) _ _ _ _ _ _ _ _ now
     (releasable_of c.in-Some.picture) next _ c.in_err-release.ensures.err)
 
 pub loop-preserved : goal.loop-preserved
@@ -84,12 +95,13 @@ loop-preserved g c =
     let next : next_picture c.loop.self ≡ Some (releasable_of c.in-Some.picture) =
     sym c.next_release.ensures ∙ ap (option_map releasable_of) c.in-Some.is in
     let now = subst (λ (left : ℕ). IsReleasing n left c.args.self.now c.loop.self
-    (g.O.Sink.held c.args.sink.now) (g.O.Sink.held c.loop.sink)
+    c.args.stream.now c.loop.stream (g.O.Sink.held c.args.sink.now) (g.O.Sink.held c.loop.sink)
     (g.P.Places.told c.args.places.now) (g.P.Places.told c.loop.places)) e
     c.loop.invariant.releasing in
     record {
-      releasing = releasing_goes_on n (n - (c.loop.counter + 1)) _ _ _ _ _ _ now
-          (releasable_of c.in-Some.picture) next _ _ _ c.in_ok-release.ensures.value
+      releasing = releasing_goes_on n (n - (c.loop.counter + 1)) _ _ _ _ _ _ _ _ now
+          (releasable_of c.in-Some.picture) next _ _ _ _ c.in_ok-release.ensures.value
+          c.in_ok-release.ensures.stream
           c.in_ok-release.ensures.written c.in_ok-release.ensures.told;
       within = c.loop.invariant.within;
       later = omega (arith, c.loop.invariant.later, c.release.ensures.cause.later);

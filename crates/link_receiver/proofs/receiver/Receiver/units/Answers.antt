@@ -1,0 +1,17 @@
+use Rattle.std.proofs.Common.{Some, refl, ap}
+use Rattle.link_model.specs.Feeders.{new_feeder}
+use Rattle.link_reception.proofs.NewReception.{new_stands}
+use Rattle.unit_release.proofs.Following.{new_streams}
+use Rattle.unit_release.specs.Writing.{nothing_written}
+use Rattle.link_receiver.proofs.receiver.Receiver.units.Goals as goal
+
+pub returns-clause-heard : goal.returns-clause-heard
+returns-clause-heard c = record {
+  sound = refl;
+  fits = c.requires.most;
+  feeder = new_feeder;
+  stands = rw c.new.ensures (new_stands c.args.size);
+  heard = refl;
+  goes_on = refl;
+  writes = (nothing_written, ap Some c.new-2.ensures, rw c.new.ensures (new_streams c.args.size));
+}

@@ -1,0 +1,138 @@
+ghost use Rattle.std.specs.Prelude.{◌≡◌, List, true, IfOk, OnOk, OnErr, Err};
+ghost use Rattle.std.specs.Option.{option_map};
+ghost use Rattle.link_reception.specs.Exchanging.{Exchange, dones_in};
+ghost use Rattle.link_reception.specs.Standing.{AreDecodings};
+ghost use Rattle.link_receiver.specs.Entered.{IsEntered, IsDrained};
+ghost use Rattle.link_receiver.specs.HeardLists.{AskedPlaces};
+ghost use Rattle.link_receiver.specs.States.{GoesOn, WaitsForSecond};
+ghost use Rattle.link_receiver.specs.declared.fault.StepFault.{StepFault};
+ghost use Rattle.link_session.specs.Openings.{session_of};
+ghost use Rattle.slice_exchange.specs.Calls.{PlaceCall, AreBelow};
+ghost use Rattle.unit_release.specs.Outputs.{datagram_output, end_output, stream_end};
+ghost use Rattle.unit_release.specs.Receiving.{opens_stream_for};
+ghost use Rattle.vc_ports.specs.Faults.{HasCause};
+ghost use Rattle.vc_ports.specs.Writing.{Grew, GrewBySome};
+
+use crate::fault::StepFault;
+use crate::reception::Reception;
+use bytes::Bytes;
+use link_model::Outcome;
+use link_session::Opening;
+use unit_release::StreamOutput;
+use vc_ports::Sink;
+use vc_slice::Places;
+use vc_types::NoMemory;
+
+impl Reception {
+    /// Takes a datagram: keeps it, exchanges slices, releases pictures, and opens a session.
+    #[tactic(auto, using(crate::proofs::Asked::asked_none))]
+    pub(crate) fn enter<P: Places, O: Sink>(
+        &mut self,
+        stream: &mut Option<StreamOutput>,
+        datagram: &Bytes,
+        places: &mut P,
+        sink: &mut O,
+    ) -> Result<Outcome, StepFault>
+        requires goes_on { GoesOn self.old }
+        requires below { AreBelow (P.bound places.old) self.old.out }
+        ensures entered { IfOk result (λ outcome. (calls : List PlaceCall) × IsEntered
+            (record {
+              told_before = P.told places.old;
+              told_behind = P.told places.new;
+              held_before = O.held sink.old;
+              held_behind = O.held sink.new;
+              stream_before = stream.old;
+              stream_behind = stream.new;
+            }) self.old self.new datagram.now outcome calls) }
+        ensures goes_on { OnOk result (GoesOn self.new) }
+        ensures has_ended { OnOk result (self.new.has_ended ≡ self.old.has_ended) }
+        ensures failed { OnErr result ((exchanges : List Exchange)
+            × AreDecodings (dones_in exchanges)
+            × GrewBySome (O.held sink.old) (O.held sink.new)
+            (datagram_output stream.old self.old datagram.now exchanges)) }
+        ensures cause { HasCause (O.faults sink.old) (O.faults sink.new)
+            (result ≡ Err StepFault.WriteFault) }
+        ensures asked { AskedPlaces (P.told places.old) (P.told places.new) }
+        ensures bound { P.bound places.new ≡ P.bound places.old }
+        ensures below { AreBelow (P.bound places.new) self.new.out }
+    {
+        let is_first = self.is_idle();
+        let kept = self.keep(datagram)?;
+        self.exchange(&kept.jobs, places)?;
+        self.release_all(stream, places, sink)?;
+        open_stream(stream, &kept.opening, is_first, datagram)?;
+        self.open(kept.opening)?;
+        Ok(kept.outcome)
+    }
+
+    /// Takes the end of the input: takes slices back, releases pictures, and ends the stream.
+    pub(crate) fn finish<P: Places, O: Sink>(
+        &mut self,
+        stream: &mut Option<StreamOutput>,
+        places: &mut P,
+        sink: &mut O,
+    ) -> Result<(), StepFault>
+        requires waiting { WaitsForSecond self.old.standing self.old.field }
+        requires below { AreBelow (P.bound places.old) self.old.out }
+        ensures drained { OnOk result ((calls : List PlaceCall) × IsDrained
+            (record {
+              told_before = P.told places.old;
+              told_behind = P.told places.new;
+              held_before = O.held sink.old;
+              held_behind = O.held sink.new;
+              stream_before = stream.old;
+              stream_behind = stream.new;
+            }) self.old self.new calls) }
+        ensures has_ended { OnOk result (self.new.has_ended ≡ true) }
+        ensures failed { OnErr result ((exchanges : List Exchange)
+            × AreDecodings (dones_in exchanges)
+            × GrewBySome (O.held sink.old) (O.held sink.new)
+            (end_output stream.old self.old exchanges)) }
+        ensures cause { HasCause (O.faults sink.old) (O.faults sink.new)
+            (result ≡ Err StepFault.WriteFault) }
+        ensures asked { AskedPlaces (P.told places.old) (P.told places.new) }
+        ensures bound { P.bound places.new ≡ P.bound places.old }
+        ensures below { AreBelow (P.bound places.new) self.new.out }
+    {
+        self.end_input();
+        self.take_back(places)?;
+        self.release_all(stream, places, sink)?;
+        self.give_up_field()?;
+        end_stream(stream, sink)?;
+        Ok(())
+    }
+}
+
+// The stream goes on behind a datagram that opens a session.
+fn open_stream(
+    stream: &mut Option<StreamOutput>,
+    opening: &Option<Opening>,
+    is_first: bool,
+    datagram: &[u8],
+) -> Result<(), NoMemory>
+    ensures { OnOk result (stream.new ≡ option_map
+        (opens_stream_for (option_map session_of opening.now) is_first datagram.now)
+        stream.old) }
+{
+    if let Some(stream) = stream {
+        if opening.is_some() {
+            stream.open(is_first, datagram)?;
+        }
+    }
+    Ok(())
+}
+
+// Writes the end of the stream, if there is one.
+fn end_stream<O: Sink>(stream: &Option<StreamOutput>, sink: &mut O) -> Result<(), StepFault>
+    ensures written { OnOk result (Grew (O.held sink.old) (O.held sink.new)
+        (stream_end stream.now)) }
+    ensures err { OnErr result (GrewBySome (O.held sink.old) (O.held sink.new)
+        (stream_end stream.now)) }
+    ensures cause { HasCause (O.faults sink.old) (O.faults sink.new)
+        (result ≡ Err StepFault.WriteFault) }
+{
+    match stream {
+        Some(stream) => Ok(stream.finish(sink)?),
+        None => Ok(()),
+    }
+}
