@@ -35,7 +35,8 @@ pub record HasOffered (window : ℕ) (datagrams : List (List ℕ)) (hands : Chan
 -- the source gave the bytes of so many entries, up to a place, and the receiver heard their
 -- datagrams and wrote what these let go
 pub record IsBehind
-    (form : OutputForm) (window packets number place : ℕ) (before after held_before held_after : Option (List ℕ))
+    (form : OutputForm) (window packets number place : ℕ)
+    (before after held_before held_after : Option (List ℕ))
     (receiver : ReceiverState) (datagrams : List (List ℕ)) : Type 0 where
   pub given : List ℕ
   pub gave : Gave before after given
@@ -58,7 +59,8 @@ pub record HasStopped
   pub told : HasOffered window (capture_split packets given).datagrams hands
 
 -- there was no memory, or the output failed
-pub record HasBroken (form : OutputForm) (window packets : ℕ) (input : InputChange) (output : OutputChange) : Type 0
+pub record HasBroken
+    (form : OutputForm) (window packets : ℕ) (input : InputChange) (output : OutputChange) : Type 0
   where
     pub given : List ℕ
     pub took : Took input given
@@ -73,13 +75,14 @@ Stops form window packets (Cut place) receiver input output hands =
     HasStopped form window packets (Some (CaptureCut place)) receiver input output hands
 Stops form window packets Failed receiver input output hands =
     HasStopped form window packets (Some InputFailed) receiver input output hands
-Stops form window packets AtLimit receiver input output hands = (place : ℕ) × (datagrams : List (List ℕ))
+Stops form window packets AtLimit receiver input output hands =
+    (place : ℕ) × (datagrams : List (List ℕ))
     × IsBehind form window packets packets place input.left.before input.left.after
     output.held.before output.held.after receiver datagrams
     × HasOffered window datagrams hands
 
-abbrev pub LoopEnded : OutputForm → ℕ → ℕ → Result Stop Ending → ReceiverState → InputChange → OutputChange
-    → Change (Option Told) → Type 0
+abbrev pub LoopEnded : OutputForm → ℕ → ℕ → Result Stop Ending → ReceiverState → InputChange
+    → OutputChange → Change (Option Told) → Type 0
 LoopEnded form window packets (Ok stop) receiver input output hands =
     Stops form window packets stop receiver input output hands
 LoopEnded form window packets (Err NoMemory) receiver input output hands =
@@ -89,8 +92,8 @@ LoopEnded form window packets (Err OutputFailed) receiver input output hands =
 LoopEnded form window packets (Err end) receiver input output hands = ⊥
 
 -- how reading ended, with a byte more behind as many entries as were asked for
-abbrev pub HeardAll : OutputForm → ℕ → ℕ → Result (Option Ending) Ending → ReceiverState → InputChange
-    → OutputChange → Change (Option Told) → Type 0
+abbrev pub HeardAll : OutputForm → ℕ → ℕ → Result (Option Ending) Ending → ReceiverState
+    → InputChange → OutputChange → Change (Option Told) → Type 0
 HeardAll form window packets (Ok end) receiver input output hands =
     HasStopped form window packets end receiver input output hands
 HeardAll form window packets (Err NoMemory) receiver input output hands =
@@ -111,8 +114,8 @@ pub record HasReceived
       ≡ tally_of window (capture_split packets given).datagrams
   pub told : HasOffered window (capture_split packets given).datagrams hands
 
-abbrev pub Receives : OutputForm → ℕ → ℕ → Result (Option Ending) Ending → ReceiverState → InputChange
-    → OutputChange → Change (Option Told) → Type 0
+abbrev pub Receives : OutputForm → ℕ → ℕ → Result (Option Ending) Ending → ReceiverState
+    → InputChange → OutputChange → Change (Option Told) → Type 0
 Receives form window packets (Ok end) receiver input output hands =
     HasReceived form window packets end receiver input output hands
 Receives form window packets (Err NoMemory) receiver input output hands =
@@ -130,8 +133,8 @@ ending_of faults.Ended = NoMemory
 -- ---- one datagram more
 
 -- it was heard, and what it lets go was written, or a part of that
-abbrev pub Enters : OutputForm → ℕ → List (List ℕ) → List ℕ → ReceiverState → Result (Unit {0}) Ending
-    → Option (List ℕ) → Option (List ℕ) → Type 0
+abbrev pub Enters : OutputForm → ℕ → List (List ℕ) → List ℕ → ReceiverState
+    → Result (Unit {0}) Ending → Option (List ℕ) → Option (List ℕ) → Type 0
 Enters form window heard datagram receiver (Ok done) before after =
     HasHeard form receiver window (heard ++ datagram ∷ [])
     × Grew before after (newly_due form window heard datagram)

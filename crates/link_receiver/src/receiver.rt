@@ -238,7 +238,8 @@ impl Receiver {
         // By a list of datagrams that it has heard.
         ensures wrote { (form : OutputForm) (size : ℕ) (datagrams : List (List ℕ))
             → HasHeard form self.old size datagrams
-            → OnOk result (Grew (O.held sink.old) (O.held sink.new) (still_due form size datagrams)) }
+            → OnOk result (Grew (O.held sink.old) (O.held sink.new)
+            (still_due form size datagrams)) }
         ensures part { (form : OutputForm) (size : ℕ) (datagrams : List (List ℕ))
             → HasHeard form self.old size datagrams
             → OnErr result (GrewBySome (O.held sink.old) (O.held sink.new)

@@ -170,14 +170,18 @@ fn enter<O: Sink, P: Places>(
     places: &mut P,
 ) -> Result<Outcome, Ending>
     requires below { AreBelow (P.bound places.old) receiver.old.reception.out }
-    ensures judged { (window : ℕ) (heard : List (List ℕ)) → HasHeard AsFrames receiver.old window heard
+    ensures judged { (window : ℕ) (heard : List (List ℕ))
+        → HasHeard AsFrames receiver.old window heard
         → IfOk result (λ outcome. outcome ≡ outcome_behind window heard datagram) }
-    ensures heard { (window : ℕ) (heard : List (List ℕ)) → HasHeard AsFrames receiver.old window heard
+    ensures heard { (window : ℕ) (heard : List (List ℕ))
+        → HasHeard AsFrames receiver.old window heard
         → OnOk result (HasHeard AsFrames receiver.new window (heard ++ datagram ∷ [])) }
-    ensures wrote { (window : ℕ) (heard : List (List ℕ)) → HasHeard AsFrames receiver.old window heard
+    ensures wrote { (window : ℕ) (heard : List (List ℕ))
+        → HasHeard AsFrames receiver.old window heard
         → OnOk result (Grew (O.held output.old) (O.held output.new)
         (newly_due AsFrames window heard datagram)) }
-    ensures part { (window : ℕ) (heard : List (List ℕ)) → HasHeard AsFrames receiver.old window heard
+    ensures part { (window : ℕ) (heard : List (List ℕ))
+        → HasHeard AsFrames receiver.old window heard
         → OnErr result (GrewBySome (O.held output.old) (O.held output.new)
         (newly_due AsFrames window heard datagram)) }
     ensures ending { IfErr result IsBroken }

@@ -10,7 +10,7 @@ use Rattle.frame_sending.specs.Sends.{IsSendable}
 use Rattle.link_report.specs.declared.ending.Ending.{Ending}
 use Rattle.link_report.specs.declared.ending.Ending.TheVariants as endings
 use Rattle.link_report.specs.declared.summary.Summary.{Summary}
-use Rattle.send_command.specs.OverWire.{CouldNotAim, SendsOver, SendsTo, behind_aim}
+use Rattle.send_command.specs.OverWire.{CouldNotAim, SendsOver, SentBehindAim, behind_aim}
 use Rattle.vc_ports.specs.Changes.{InputChange, WireChange, HasRisen}
 use Rattle.vc_types.specs.SenderSettings.{Sending}
 
@@ -18,7 +18,7 @@ not_the_output : ◌≡◌ {A = OutletFault} outlets.Wire outlets.Output → ⊥
 not_the_output is = cc
 
 module _ (s : Sending) (most : ℕ) (to : List ℕ) (input : InputChange) (wire : WireChange) (sound_input : HasRisen input.faults → ⊥) (sound_wire : HasRisen wire.faults → ⊥) (whole : IsSomeAnd input.left.before (IsSendable s most)) where
-  by_way : (answer : Result Summary Ending) → (answer ≡ Err endings.WireFailed → HasRisen wire.faults) → SendsTo s most to answer input wire ⊎ CouldNotAim answer input wire → IsOk answer ⊎ (answer ≡ Err endings.NoMemory)
+  by_way : (answer : Result Summary Ending) → (answer ≡ Err endings.WireFailed → HasRisen wire.faults) → SentBehindAim s most to answer input wire ⊎ CouldNotAim answer input wire → IsOk answer ⊎ (answer ≡ Err endings.NoMemory)
   by_way answer failed (inl sends) =
       sending_completes s most input (SentAll (behind_aim to wire)) (SentPart (behind_aim to wire)) sound_input
       (λ datagrams part. not_the_output (sym part.fault_is)) (λ datagrams part. sound_wire part.rose) whole answer sends

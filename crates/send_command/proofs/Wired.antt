@@ -12,7 +12,7 @@ use Rattle.vc_ports.specs.Changes.{InputChange, WireChange}
 use Rattle.vc_ports.specs.Faults.{Rose}
 use Rattle.vc_ports.specs.Wires.{WireTold, aiming}
 use Rattle.vc_types.specs.SenderSettings.{Sending}
-use Rattle.send_command.specs.OverWire.{SendsOver, SendsTo, behind_aim}
+use Rattle.send_command.specs.OverWire.{SendsOver, SentBehindAim, behind_aim}
 
 module _ (s : Sending) (most : ℕ) (to : List ℕ) (input : InputChange) (told_before told_mid told_after : WireTold) (before mid after : ℕ) where
   abbrev wire : WireChange
@@ -37,7 +37,7 @@ module _ (s : Sending) (most : ℕ) (to : List ℕ) (input : InputChange) (told_
 
     pub sends_by : (answer : Result Summary Ending) → SendsFrames s most answer input went broke → SendsOver s most to answer input wire
     sends_by answer did =
-        let sends : SendsTo s most to answer input wire = sends_weaker s most input went (SentAll (behind_aim to wire)) broke (SentPart (behind_aim to wire)) sent_all sent_part answer did in
+        let sends : SentBehindAim s most to answer input wire = sends_weaker s most input went (SentAll (behind_aim to wire)) broke (SentPart (behind_aim to wire)) sent_all sent_part answer did in
         record {
           did = inl sends;
           wire_failed = λ is. let ended : SendEnded s most (Err endings.WireFailed) input (SentAll (behind_aim to wire)) (SentPart (behind_aim to wire)) sends.frames sends.rest =

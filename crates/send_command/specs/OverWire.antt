@@ -18,8 +18,9 @@ behind_aim to wire = record {
 
 -- the wire was aimed at the address, and then the datagrams of frames were sent to it; nothing else
 -- was done to it
-abbrev pub SendsTo : Sending → ℕ → List ℕ → Result Summary Ending → InputChange → WireChange → Type 0
-SendsTo s most to answer input wire = SendsFrames s most answer input
+abbrev pub SentBehindAim : Sending → ℕ → List ℕ → Result Summary Ending → InputChange
+    → WireChange → Type 0
+SentBehindAim s most to answer input wire = SendsFrames s most answer input
     (SentAll (behind_aim to wire)) (SentPart (behind_aim to wire))
 
 -- it couldn't be aimed; nothing was read, and nothing is otherwise with the wire
@@ -35,5 +36,5 @@ pub record SendsOver
     (s : Sending) (most : ℕ) (to : List ℕ) (answer : Result Summary Ending)
     (input : InputChange) (wire : WireChange)
     : Type 0 where
-  pub did : SendsTo s most to answer input wire ⊎ CouldNotAim answer input wire
+  pub did : SentBehindAim s most to answer input wire ⊎ CouldNotAim answer input wire
   pub wire_failed : answer ≡ Err WireFailed → HasRisen wire.faults
