@@ -1,7 +1,8 @@
 -- Commands that come to their end.
 use Rattle.std.proofs.Common.{◌≡◌, ◌⊎◌, ℕ, List, Result, Ok, Err, true, false, inl, inr, refl, sym, ap, ◌∙◌}
 use Rattle.std.specs.Result.{IsOk}
-use Rattle.decode_command.proofs.Completing.{IsComplete, decode_completes}
+use Rattle.check_command.proofs.Completing.{check_completes}
+use Rattle.decode_command.proofs.Completing.{IsComplete, decode_completes, unpack_completes}
 use Rattle.encode_command.proofs.Completing.{encode_completes}
 use Rattle.gen_command.proofs.Completing.{generate_completes}
 use Rattle.link_report.specs.Answers.{Reports, Says, answer_of, answer_status, answer_text}
@@ -11,14 +12,15 @@ use Rattle.link_report.specs.declared.answer.Answer.TheVariants.{Done, Stopped, 
 use Rattle.link_report.specs.declared.ending.Ending.{Ending}
 use Rattle.link_report.specs.declared.ending.Ending.TheVariants as endings
 use Rattle.link_report.specs.declared.summary.Summary.{Summary}
-use Rattle.link_words.specs.Settings.{Meaning, ToDecode, ToEncode, ToRecv, ToPack, ToPlay, ToGen}
+use Rattle.link_words.specs.Settings.{Meaning, ToDecode, ToEncode, ToSend, ToRecv, ToUnpack, ToPack, ToPlay, ToGen}
 use Rattle.pack_command.proofs.Completing.{pack_completes}
 use Rattle.pack_command.specs.Packs.{pack_settings}
 use Rattle.play_command.proofs.Playable.{play_completes}
 use Rattle.recv_command.proofs.Completing.{recv_completes}
+use Rattle.send_command.proofs.Completing.{send_completes}
 use Rattle.vc_ports.specs.Changes.{OutputChange, HasRisen}
 use Rattle.vc_types.specs.SenderSettings.{Generating, Sending}
-use Rattle.vc2link.specs.LinkMain.{Changes, DecodesTo, EncodesTo, ReceivesTo, PacksTo, PlaysTo, GeneratesTo, Does, Completes, is_built}
+use Rattle.vc2link.specs.LinkMain.{Changes, DecodesTo, EncodesTo, SendsTo, ReceivesTo, UnpacksTo, PacksTo, PlaysTo, GeneratesTo, ChecksTo, Does, Completes, is_built}
 
 false_is_true : false ≡ true → ⊥
 false_is_true p = cc
@@ -39,11 +41,16 @@ answered_well answer status report sound (inl done) (inl said) = inl (due_status
 answered_well answer status report sound (inr none) (inl said) = inr (due_status status (answer_status answer) report (answer_text answer) sound said ∙ none)
 answered_well answer status report sound due (inr said) = inr (due_status status 3 report (status_line endings.NoMemory) sound said)
 
--- ---- encoding, packing, playing and generating
+-- ---- encoding, sending, looping, packing, playing, generating and checking
 
 pub encode_ends : (sender : Sending) (frames status : ℕ) (c : Changes) → EncodesTo sender frames status c → Completes (ToEncode sender frames) status c
 encode_ends sender frames status c d sound whole =
     let came = encode_completes sender frames c.input c.output sound.input sound.output whole d.answer d.encodes in
+    answered_well (answer_of d.answer) status c.report sound.report (summed_status d.answer came) d.reports
+
+pub send_ends : (sender : Sending) (frames : ℕ) (to : List ℕ) (status : ℕ) (c : Changes) → SendsTo sender frames to status c → Completes (ToSend sender frames to) status c
+send_ends sender frames to status c d sound whole =
+    let came = send_completes sender frames to c.input c.wire sound.input sound.wire whole d.answer d.sends in
     answered_well (answer_of d.answer) status c.report sound.report (summed_status d.answer came) d.reports
 
 pub pack_ends : (packets size ssrc pt seq tick status : ℕ) (c : Changes) → PacksTo packets (pack_settings size ssrc pt seq tick) status c → Completes (ToPack packets size ssrc pt seq tick) status c
@@ -61,7 +68,12 @@ gen_ends generator window workers status c d sound whole =
     let came = generate_completes generator c.output sound.output d.answer d.generates in
     answered_well (answer_of d.answer) status c.report sound.report (summed_status d.answer came) d.reports
 
--- ---- decoding and receiving
+pub check_ends : (generator : Generating) (window workers status : ℕ) (c : Changes) → ChecksTo generator window workers status c → Completes (ToGen generator true window workers) status c
+check_ends generator window workers status c d sound whole =
+    let came = check_completes generator window workers c.hands whole d.answer d.checks in
+    answered_well (answer_of d.answer) status c.report sound.report (summed_status d.answer came) d.reports
+
+-- ---- decoding, unpacking and receiving
 
 decoded_status : (answer : Answer) → IsComplete answer → (answer_status answer ≡ 0) ⊎ (answer_status answer ≡ 3)
 decoded_status (Done summary) came = inl refl
@@ -72,6 +84,11 @@ decoded_status (Drained tally end) came = absurd came
 pub decode_ends : (window workers packets status : ℕ) (c : Changes) → DecodesTo window workers packets status c → Completes (ToDecode window workers packets) status c
 decode_ends window workers packets status c d sound whole =
     let came = decode_completes window workers packets c.input c.output c.hands sound.input sound.output whole d.answer d.decodes in
+    answered_well d.answer status c.report sound.report (decoded_status d.answer came) d.reports
+
+pub unpack_ends : (window workers packets status : ℕ) (c : Changes) → UnpacksTo window workers packets status c → Completes (ToUnpack window workers packets) status c
+unpack_ends window workers packets status c d sound whole =
+    let came = unpack_completes window workers packets c.input c.output c.hands sound.input sound.output whole d.answer d.unpacks in
     answered_well d.answer status c.report sound.report (decoded_status d.answer came) d.reports
 
 pub recv_ends : (window workers packets sessions : ℕ) (at : List ℕ) (status : ℕ) (c : Changes) → ReceivesTo window workers packets sessions at status c → Completes (ToRecv window workers packets sessions at) status c
@@ -105,6 +122,27 @@ encode_does sender frames status c did = record {
   completes = λ _. encode_ends sender frames status c did;
 }
 
+pub send_does : (sender : Sending) (frames : ℕ) (to : List ℕ) (status : ℕ) (c : Changes) → SendsTo sender frames to status c → Does (ToSend sender frames to) status c
+send_does sender frames to status c did = record {
+  built = λ _. did;
+  unbuilt = λ is. absurd (true_is_false is);
+  completes = λ _. send_ends sender frames to status c did;
+}
+
+pub recv_does : (window workers packets sessions : ℕ) (at : List ℕ) (status : ℕ) (c : Changes) → ReceivesTo window workers packets sessions at status c → Does (ToRecv window workers packets sessions at) status c
+recv_does window workers packets sessions at status c did = record {
+  built = λ _. did;
+  unbuilt = λ is. absurd (true_is_false is);
+  completes = λ _. recv_ends window workers packets sessions at status c did;
+}
+
+pub unpack_does : (window workers packets status : ℕ) (c : Changes) → UnpacksTo window workers packets status c → Does (ToUnpack window workers packets) status c
+unpack_does window workers packets status c did = record {
+  built = λ _. did;
+  unbuilt = λ is. absurd (true_is_false is);
+  completes = λ _. unpack_ends window workers packets status c did;
+}
+
 pub pack_does : (packets size ssrc pt seq tick status : ℕ) (c : Changes) → PacksTo packets (pack_settings size ssrc pt seq tick) status c → Does (ToPack packets size ssrc pt seq tick) status c
 pack_does packets size ssrc pt seq tick status c did = record {
   built = λ _. did;
@@ -119,16 +157,16 @@ play_does packets status c did = record {
   completes = λ _. play_ends packets status c did;
 }
 
-pub recv_does : (window workers packets sessions : ℕ) (at : List ℕ) (status : ℕ) (c : Changes) → ReceivesTo window workers packets sessions at status c → Does (ToRecv window workers packets sessions at) status c
-recv_does window workers packets sessions at status c did = record {
-  built = λ _. did;
-  unbuilt = λ is. absurd (true_is_false is);
-  completes = λ _. recv_ends window workers packets sessions at status c did;
-}
-
 pub gen_does : (generator : Generating) (window workers status : ℕ) (c : Changes) → GeneratesTo generator status c → Does (ToGen generator false window workers) status c
 gen_does generator window workers status c did = record {
   built = λ _. did;
   unbuilt = λ is. absurd (true_is_false is);
   completes = λ _. gen_ends generator window workers status c did;
+}
+
+pub check_does : (generator : Generating) (window workers status : ℕ) (c : Changes) → ChecksTo generator window workers status c → Does (ToGen generator true window workers) status c
+check_does generator window workers status c did = record {
+  built = λ _. did;
+  unbuilt = λ is. absurd (true_is_false is);
+  completes = λ _. check_ends generator window workers status c did;
 }

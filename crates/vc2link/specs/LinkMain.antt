@@ -1,7 +1,9 @@
 -- What vc2link did, by what its words mean and by the status that it answered.
 use Rattle.std.specs.Prelude.{◌≡◌, ◌⊎◌, ℕ, Bool, true, false, not, List, Option, IsTrue, IsFalse, IsSomeAnd, if◌then◌else◌, Result, Ok, Err}
-use Rattle.decode_command.specs.Decoding.{Decodes, IsDecodable}
+use Rattle.check_command.specs.Checking.{Checks, IsCheckable}
+use Rattle.decode_command.specs.Decoding.{Decodes, Unpacks, IsDecodable}
 use Rattle.encode_command.specs.Encodes.{Encodes, IsEncodable}
+use Rattle.frame_sending.specs.Sends.{IsSendable}
 use Rattle.gen_command.specs.Generating.{Generates}
 use Rattle.link_report.specs.Answers.{Reports, answer_of}
 use Rattle.link_report.specs.declared.answer.Answer.{Answer}
@@ -13,6 +15,7 @@ use Rattle.link_words.specs.Settings.{Meaning, ToDecode, ToEncode, ToSend, ToRec
 use Rattle.pack_command.specs.Packs.{Packs, IsPackable, pack_settings}
 use Rattle.play_command.specs.Playing.{Plays, IsPlayable}
 use Rattle.recv_command.specs.Receiving.{ReceivesFrom, IsReceivable}
+use Rattle.send_command.specs.OverWire.{SendsOver}
 use Rattle.vc_ports.specs.Changes.{Change, InputChange, OutputChange, WireChange, HasRisen}
 use Rattle.vc_slice.specs.Asked.{Told}
 use Rattle.vc_types.specs.SenderSettings.{Generating, Packing, Sending}
@@ -69,13 +72,8 @@ calls_of (ToGen generator check window workers) = calls false (not check) false 
 
 -- the commands that are built
 abbrev pub is_built : Meaning → Bool
-is_built (ToDecode window workers packets) = true
-is_built (ToEncode sender frames) = true
-is_built (ToRecv window workers packets sessions at) = true
-is_built (ToPack packets size ssrc pt seq tick) = true
-is_built (ToPlay packets) = true
-is_built (ToGen generator check window workers) = not check
-is_built meaning = false
+is_built (ToLoop sender frames window workers at) = false
+is_built meaning = true
 
 -- Words outside the grammar are refused in the report, and a form that is not built calls nothing.
 abbrev pub may_call : Result Meaning ℕ → Calls
@@ -97,11 +95,24 @@ pub record EncodesTo (sender : Sending) (frames status : ℕ) (c : Changes) : Ty
   pub encodes : Encodes sender frames answer c.input c.output
   pub reports : Reports (answer_of answer) status c.report
 
+-- at most so many raw frames were sent to the address, and the report says how that ended
+pub record SendsTo (sender : Sending) (frames : ℕ) (to : List ℕ) (status : ℕ) (c : Changes) : Type 0
+  where
+    pub answer : Result Summary Ending
+    pub sends : SendsOver sender frames to answer c.input c.wire
+    pub reports : Reports (answer_of answer) status c.report
+
 -- datagrams were received at the address, and the report says how that ended
 pub record ReceivesTo (window workers packets sessions : ℕ) (at : List ℕ) (status : ℕ) (c : Changes)
     : Type 0 where
   pub answer : Answer
   pub receives : ReceivesFrom window workers packets sessions at answer c.wire c.output c.hands
+  pub reports : Reports answer status c.report
+
+-- the capture was unpacked, and the report says how that ended
+pub record UnpacksTo (window workers packets status : ℕ) (c : Changes) : Type 0 where
+  pub answer : Answer
+  pub unpacks : Unpacks window workers packets answer c.input c.output c.hands
   pub reports : Reports answer status c.report
 
 -- the pictures of the stream were packed, and the report says how that ended
@@ -122,15 +133,25 @@ pub record GeneratesTo (generator : Generating) (status : ℕ) (c : Changes) : T
   pub generates : Generates generator answer c.output
   pub reports : Reports (answer_of answer) status c.report
 
+-- generated frames were sent, received and compared, and the report says how that ended
+pub record ChecksTo (generator : Generating) (window workers status : ℕ) (c : Changes) : Type 0
+  where
+    pub answer : Result Summary Ending
+    pub checks : Checks generator window workers answer c.hands
+    pub reports : Reports (answer_of answer) status c.report
+
 abbrev pub Did : Meaning → ℕ → Changes → Type 0
 Did (ToDecode window workers packets) status c = DecodesTo window workers packets status c
 Did (ToEncode sender frames) status c = EncodesTo sender frames status c
+Did (ToSend sender frames to) status c = SendsTo sender frames to status c
 Did (ToRecv window workers packets sessions at) status c =
     ReceivesTo window workers packets sessions at status c
+Did (ToUnpack window workers packets) status c = UnpacksTo window workers packets status c
 Did (ToPack packets size ssrc pt seq tick) status c =
     PacksTo packets (pack_settings size ssrc pt seq tick) status c
 Did (ToPlay packets) status c = PlaysTo packets status c
-Did (ToGen generator check window workers) status c = GeneratesTo generator status c
+Did (ToGen generator false window workers) status c = GeneratesTo generator status c
+Did (ToGen generator true window workers) status c = ChecksTo generator window workers status c
 Did meaning status c = ⊥
 
 -- ---- the status
@@ -143,18 +164,23 @@ pub record HasNoFault (c : Changes) : Type 0 where
   pub wire : HasRisen c.wire.faults → ⊥
 
 -- The input, or the wire, tells what comes, which ends where the command may end, and is accepted: a row for each command that
--- is built. What reads nothing ends well.
+-- is built. What reads nothing ends well, but that generated frames may be too large to be sent.
 abbrev pub EndsWell : Meaning → Changes → Type 0
 EndsWell (ToDecode window workers packets) c =
     IsSomeAnd c.input.left.before (IsDecodable packets)
 EndsWell (ToEncode sender frames) c =
     IsSomeAnd c.input.left.before (IsEncodable sender frames)
+EndsWell (ToSend sender frames to) c =
+    IsSomeAnd c.input.left.before (IsSendable sender frames)
 EndsWell (ToRecv window workers packets sessions at) c =
     IsSomeAnd c.wire.told.before.coming (IsReceivable packets sessions)
+EndsWell (ToUnpack window workers packets) c =
+    IsSomeAnd c.input.left.before (IsDecodable packets)
 EndsWell (ToPack packets size ssrc pt seq tick) c =
     IsSomeAnd c.input.left.before (IsPackable (pack_settings size ssrc pt seq tick) packets)
 EndsWell (ToPlay packets) c = IsSomeAnd c.input.left.before (IsPlayable packets)
-EndsWell (ToGen generator check window workers) c = Unit {0}
+EndsWell (ToGen generator false window workers) c = Unit {0}
+EndsWell (ToGen generator true window workers) c = IsCheckable generator
 EndsWell meaning c = ⊥
 
 -- The command came to its end, where no count of faults rose and the input ends well, unless memory ran out.

@@ -4,7 +4,8 @@ ghost use Rattle.link_words.specs.Views.{meaning_view};
 ghost use Rattle.vc_ports.specs.Changes.{changed, input_of, output_of, wire_of};
 ghost use Rattle.vc2link.specs.LinkMain.{changes, is_built, may_call, Obeys};
 
-use decode_command::decode;
+use check_command::check;
+use decode_command::{decode, unpack};
 use encode_command::encode;
 use gen_command::generate;
 use link_report::{Answer, Ending, write_answer};
@@ -12,6 +13,7 @@ use link_words::{Settings, read_words};
 use pack_command::pack;
 use play_command::play;
 use recv_command::recv;
+use send_command::send;
 use std::alloc::Global;
 use std::thread::Threads;
 use vc_ports::{Sink, Source, Wire};
@@ -21,7 +23,7 @@ use vc_types::Words;
 const UNBUILT: u8 = 1;
 
 /// Does what the words say, and answers the status. The words are those behind the program's name.
-#[tactic(auto, using(crate::proofs::Ends::unbuilt_does, crate::proofs::Ends::decode_does, crate::proofs::Ends::encode_does, crate::proofs::Ends::recv_does, crate::proofs::Ends::pack_does, crate::proofs::Ends::play_does, crate::proofs::Ends::gen_does))]
+#[tactic(auto, using(crate::proofs::Ends::unbuilt_does, crate::proofs::Ends::decode_does, crate::proofs::Ends::encode_does, crate::proofs::Ends::send_does, crate::proofs::Ends::recv_does, crate::proofs::Ends::unpack_does, crate::proofs::Ends::pack_does, crate::proofs::Ends::play_does, crate::proofs::Ends::gen_does, crate::proofs::Ends::check_does))]
 pub fn link_main<H: Threads + Copy + Send + Sync, S: Source, O: Sink, E: Sink, N: Wire, P: Hands>(
     rt: H,
     alloc: Global,
@@ -62,6 +64,10 @@ pub fn link_main<H: Threads + Copy + Send + Sync, S: Source, O: Sink, E: Sink, N
             let answer = Answer::from(encode(rt, alloc, &sender, frames, input, output));
             write_answer(alloc, report, &answer)
         }
+        Ok(Settings::Send { sender, frames, to }) => {
+            let answer = Answer::from(send(rt, alloc, &sender, frames, to, input, wire));
+            write_answer(alloc, report, &answer)
+        }
         Ok(
             Settings::Recv {
                 window,
@@ -74,6 +80,16 @@ pub fn link_main<H: Threads + Copy + Send + Sync, S: Source, O: Sink, E: Sink, N
             let answer = recv(
                 alloc, window, workers, packets, sessions, at, wire, output, hands,
             );
+            write_answer(alloc, report, &answer)
+        }
+        Ok(
+            Settings::Unpack {
+                window,
+                workers,
+                packets,
+            },
+        ) => {
+            let answer = unpack(alloc, window, workers, packets, input, output, hands);
             write_answer(alloc, report, &answer)
         }
         Ok(
@@ -103,6 +119,17 @@ pub fn link_main<H: Threads + Copy + Send + Sync, S: Source, O: Sink, E: Sink, N
             let answer = Answer::from(generate(alloc, &frames_of, output));
             write_answer(alloc, report, &answer)
         }
+        Ok(
+            Settings::Gen {
+                frames_of,
+                check: true,
+                window,
+                workers,
+            },
+        ) => {
+            let checked = check(rt, alloc, &frames_of, window, workers, hands);
+            write_answer(alloc, report, &Answer::from(checked))
+        }
         Ok(_) => unreachable!(),
         Err(usage) => {
             let place = usage.place as u64;
@@ -115,13 +142,5 @@ pub fn link_main<H: Threads + Copy + Send + Sync, S: Source, O: Sink, E: Sink, N
 fn is_built(settings: &Settings<'_>) -> bool
     ensures { result ≡ is_built (meaning_view settings.now) }
 {
-    matches!(
-        settings,
-        Settings::Decode { .. }
-            | Settings::Encode { .. }
-            | Settings::Recv { .. }
-            | Settings::Pack { .. }
-            | Settings::Play { .. }
-            | Settings::Gen { check: false, .. }
-    )
+    !matches!(settings, Settings::Loop { .. })
 }

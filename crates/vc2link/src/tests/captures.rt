@@ -4,7 +4,7 @@ use crate::link::link_main;
 use std::alloc::Global;
 use std::test::Fail;
 use std::thread::Threads;
-use vc_ports::{MemSink, MemSource, MemWire};
+use vc_ports::{MemSink, MemSource, MemWire, Wire};
 use vc_slice::Hands;
 use vc_types::Words;
 
@@ -145,7 +145,7 @@ pub(super) struct Run {
     pub(super) report: MemSink,
 }
 
-/// Runs the program on words that a space parts, over hands.
+/// Runs the program on words that a space parts, over hands, and a wire from which nothing comes.
 pub(super) fn run_over<H: Threads + Copy + Send + Sync, P: Hands>(
     rt: H,
     alloc: Global,
@@ -155,14 +155,28 @@ pub(super) fn run_over<H: Threads + Copy + Send + Sync, P: Hands>(
 ) -> Result<Run, Fail>
     requires { P.is_free hands.old }
 {
+    let mut wire = MemWire::new(alloc, Vec::new(alloc), false, 0, Vec::new(alloc))?;
+    run_on(rt, alloc, line, input, &mut wire, hands)
+}
+
+/// The same on a wire.
+pub(super) fn run_on<H: Threads + Copy + Send + Sync, N: Wire, P: Hands>(
+    rt: H,
+    alloc: Global,
+    line: &str,
+    input: Vec<u8>,
+    wire: &mut N,
+    hands: &mut P,
+) -> Result<Run, Fail>
+    requires { P.is_free hands.old }
+{
     let mut words = Words::new(alloc);
     for word in line.split(' ') {
         words.push(word)?;
     }
     let mut input = MemSource::new(input, Vec::new(alloc));
-    let mut output = MemSink::new(alloc, 1000, Vec::new(alloc))?;
+    let mut output = MemSink::new(alloc, 20000, Vec::new(alloc))?;
     let mut report = MemSink::new(alloc, 1000, Vec::new(alloc))?;
-    let mut wire = MemWire::new(alloc, Vec::new(alloc), false, 0, Vec::new(alloc))?;
     let status = link_main(
         rt,
         alloc,
@@ -170,7 +184,7 @@ pub(super) fn run_over<H: Threads + Copy + Send + Sync, P: Hands>(
         &mut input,
         &mut output,
         &mut report,
-        &mut wire,
+        wire,
         hands,
     );
     Ok(Run {

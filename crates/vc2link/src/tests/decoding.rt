@@ -36,7 +36,7 @@ fn run_with_crew<H: Threads + Wait + Copy + Send + Sync + 'static>(
     run
 }
 
-fn one_picture(alloc: Global) -> Result<Vec<u8>, Fail> {
+pub(super) fn one_picture(alloc: Global) -> Result<Vec<u8>, Fail> {
     capture(
         alloc,
         &[&HEADER, &params(0), &slices(alloc, 0, 0, 2, &TWO_ZEROS)?],
@@ -103,7 +103,7 @@ fn more_packets_than_asked_for(rt: HostRuntime) -> Result<(), Fail> {
     Ok(())
 }
 
-fn loss_and_disorder(alloc: Global) -> Result<Vec<u8>, Fail> {
+pub(super) fn loss_and_disorder(alloc: Global) -> Result<Vec<u8>, Fail> {
     capture(
         alloc,
         &[

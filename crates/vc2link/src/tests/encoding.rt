@@ -5,7 +5,7 @@ use std::thread::Threads;
 use vc_slice::NoPlaces;
 
 // 2 by 2 samples, 4:4:4, 8 bits, one luma sample darker than the others.
-const FRAME: [u8; 12] = [
+pub(super) const FRAME: [u8; 12] = [
     0x80, 0x80, 0x7F, 0x80, 0x80, 0x80, 0x80, 0x80, 0x80, 0x80, 0x80, 0x80,
 ];
 
@@ -13,21 +13,21 @@ const SMALL: &str =
     "encode --width 2 --height 2 --sampling 444 --range 1 --wavelet 3 --depth 1 --slices 1x1 --scaler 1";
 
 // The entries of that frame's datagrams: a sequence header, transform parameters, a slice, and the end.
-const HEADER: [u8; 23] = [
+pub(super) const HEADER: [u8; 23] = [
     0, 21, 0x80, 0x60, 0, 0, 0, 0, 0, 0, 0, 0, 0, 1, 0, 0, 0, 0x00, 0x0C, 0x35, 0x76, 0xFC, 0x4A,
 ];
 
-const PARAMETERS: [u8; 33] = [
+pub(super) const PARAMETERS: [u8; 33] = [
     0, 31, 0x80, 0x60, 0, 1, 0, 0, 0, 0, 0, 0, 0, 1, 0, 0, 0, 0xEC, 0, 0, 0, 0, 0, 0, 0, 1, 0, 3,
     0, 0, 0x09, 0x09, 0x90,
 ];
 
-const SLICE: [u8; 40] = [
+pub(super) const SLICE: [u8; 40] = [
     0, 38, 0x80, 0xE0, 0, 2, 0, 0, 0, 0, 0, 0, 0, 1, 0, 0, 0, 0xEC, 0, 0, 0, 0, 0, 0, 0, 1, 0, 6,
     0, 1, 0, 0, 0, 0, 0, 2, 0x94, 0xBF, 0, 0,
 ];
 
-const END: [u8; 18] = [
+pub(super) const END: [u8; 18] = [
     0, 16, 0x80, 0x60, 0, 3, 0, 0, 0, 0, 0, 0, 0, 1, 0, 0, 0, 0x10,
 ];
 
@@ -40,7 +40,7 @@ fn joined(alloc: Global, parts: &[&[u8]]) -> Result<Vec<u8>, Fail> {
 }
 
 // Runs the program on the words of some options behind others.
-fn run<H: Threads + Copy + Send + Sync>(
+pub(super) fn run<H: Threads + Copy + Send + Sync>(
     rt: H,
     alloc: Global,
     line: &str,

@@ -1,8 +1,8 @@
-use Rattle.std.proofs.Common.{◌≡◌, Bool, false, sym, ap, ◌∙◌}
-use Rattle.link_words.specs.Settings.{ToEncode, ToPack, ToPlay, ToGen}
+use Rattle.std.proofs.Common.{◌≡◌, Bool, true, false, sym, ap, ◌∙◌}
+use Rattle.link_words.specs.Settings.{ToEncode, ToSend, ToPack, ToPlay, ToGen}
 use Rattle.link_words.specs.Views.{meaning_view}
 use Rattle.vc_types.specs.SenderSettings.{generating_view, sending_view}
-use Rattle.vc2link.proofs.Ends.{encode_does, pack_does, play_does, gen_does}
+use Rattle.vc2link.proofs.Ends.{encode_does, send_does, pack_does, play_does, gen_does, check_does}
 use Rattle.vc2link.proofs.link.link_main.Goals as goal
 
 -- src/link.rt:21:1
@@ -51,4 +51,30 @@ returns-in-Ok-Pack-clause-answers g c =
       answer = c.pack-packed.result;
       packs = rw came.field-0-is at c.pack-packed.ensures;
       reports = rw (sym c.from.ensures) c.write_answer-in-Ok-Pack.ensures;
+    }))
+
+-- src/link.rt:22:1
+pub returns-in-Ok-Send-clause-answers : goal.returns-in-Ok-Send-clause-answers
+returns-in-Ok-Send-clause-answers g c =
+    let came = c.in-Ok-Send in
+    let meant : meaning_view c.in-Ok.settings ≡ ToSend (sending_view came.sender) came.frames came.to.now = ap meaning_view came.field-0-is in
+    rw (c.read_words.ensures.exact, c.in-Ok.is, meant)
+    (send_does (sending_view came.sender) came.frames came.to.now c.write_answer-in-Ok-Send.result _ (record {
+      answer = c.send.result;
+      sends = rw came.field-0-is at c.send.ensures;
+      reports = rw (sym c.from-answer-in-Ok-Send.ensures) c.write_answer-in-Ok-Send.ensures;
+    }))
+
+-- src/link.rt:22:1
+pub returns-in-Ok-Gen-default-true-default-default-clause-answers : goal.returns-in-Ok-Gen-default-true-default-default-clause-answers
+returns-in-Ok-Gen-default-true-default-default-clause-answers g c =
+    let came = c.in-Ok-Gen-default-true-default-default in
+    let checked : came.field-0-1 ≡ true = rw came.field-0-is at came.field-0-1-test in
+    let meant : meaning_view c.in-Ok.settings ≡ ToGen (generating_view came.frames_of) true came.window came.workers =
+          ap meaning_view came.field-0-is ∙ ap (λ (check : Bool). ToGen (generating_view came.frames_of) check came.window came.workers) checked in
+    rw (c.read_words.ensures.exact, c.in-Ok.is, meant)
+    (check_does (generating_view came.frames_of) came.window came.workers c.write_answer-in-Ok-Gen-default-true-default-default.result _ (record {
+      answer = c.check-checked.result;
+      checks = rw came.field-0-is at c.check-checked.ensures;
+      reports = rw (sym c.from-in-Ok-Gen-default-true-default-default.ensures) c.write_answer-in-Ok-Gen-default-true-default-default.ensures;
     }))

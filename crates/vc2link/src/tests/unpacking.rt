@@ -1,0 +1,38 @@
+use super::captures::run_over;
+use super::{CAPTURE, STREAM};
+use std::alloc::Global;
+use std::test::Fail;
+use vc_slice::NoPlaces;
+
+fn joined(alloc: Global, parts: &[&[u8]]) -> Result<Vec<u8>, Fail> {
+    let mut bytes = Vec::new(alloc);
+    for part in parts {
+        bytes.extend_from_slice(part)?;
+    }
+    Ok(bytes)
+}
+
+// The picture's own header, parameters and slices, as data units.
+#[test]
+fn a_capture_is_unpacked(rt: HostRuntime) -> Result<(), Fail> {
+    let alloc = rt.alloc();
+    let input = joined(alloc, &CAPTURE)?;
+    let due = joined(alloc, &STREAM)?;
+    let ran = run_over(&rt, alloc, "unpack", input, &mut NoPlaces)?;
+    assert_eq!(rt; ran.status, 0);
+    assert_eq!(rt; ran.output.bytes(), due.as_slice());
+    Ok(())
+}
+
+// What is unpacked plays to what is decoded.
+#[test]
+fn what_is_unpacked_is_played(rt: HostRuntime) -> Result<(), Fail> {
+    let alloc = rt.alloc();
+    let input = joined(alloc, &CAPTURE)?;
+    let ran = run_over(&rt, alloc, "unpack", input, &mut NoPlaces)?;
+    let stream = Vec::from_slice(alloc, ran.output.bytes())?;
+    let played = run_over(&rt, alloc, "play", stream, &mut NoPlaces)?;
+    assert_eq!(rt; played.status, 0);
+    assert_eq!(rt; played.output.bytes(), [0x80; 96].as_slice());
+    Ok(())
+}
