@@ -48,6 +48,9 @@ fn the_last_header_goes_out_as_it_came(rt: HostRuntime) -> Result<(), Fail> {
         0x42, 0x42, 0x43, 0x44, 0x00, 0, 0, 0, 18, 0, 0, 0, 18, 0x70, 0xF0, 0x63, 0xD2, 0x10,
     ];
     let (_, written) = packed(rt.alloc(), 1400, &[&HEADER_UNIT, &later, &PICTURE_UNIT])?;
-    assert_eq!(rt; written.get(18..23), Some([0x70, 0xF0, 0x63, 0xD2, 0x10].as_slice()));
+    assert_eq!(rt;
+        written.get(18..23),
+        Some([0x70, 0xF0, 0x63, 0xD2, 0x10].as_slice())
+    );
     Ok(())
 }

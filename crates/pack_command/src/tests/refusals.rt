@@ -21,14 +21,20 @@ fn units_are_refused(rt: HostRuntime) -> Result<(), Fail> {
     assert!(rt; is_refused(alloc, 0xC8, 28, &WHOLE)?, "a low-delay picture");
     assert!(rt; is_refused(alloc, 0xEC, 28, &WHOLE)?, "a fragment");
     assert!(rt; is_refused(alloc, 0x20, 12, &[])?, "a next offset of 12");
-    assert!(rt; is_refused(alloc, 0xE8, 29, &WHOLE)?, "a body without its last byte");
+    assert!(rt;
+        is_refused(alloc, 0xE8, 29, &WHOLE)?,
+        "a body without its last byte"
+    );
     Ok(())
 }
 
 #[test]
 fn headers_are_refused(rt: HostRuntime) -> Result<(), Fail> {
     let alloc = rt.alloc();
-    assert!(rt; is_refused(alloc, 0x00, 13, &[])?, "no header in a header unit");
+    assert!(rt;
+        is_refused(alloc, 0x00, 13, &[])?,
+        "no header in a header unit"
+    );
     let low_delay = [0x7F, 0x06, 0x3C, 0x08];
     assert!(rt; is_refused(alloc, 0x00, 17, &low_delay)?, "another profile");
     let other = [0x70, 0xF0, 0x63, 0x90, 0x20];
@@ -40,9 +46,15 @@ fn headers_are_refused(rt: HostRuntime) -> Result<(), Fail> {
 fn pictures_are_refused(rt: HostRuntime) -> Result<(), Fail> {
     let alloc = rt.alloc();
     assert!(rt; is_refused(alloc, 0xE8, 16, &[0, 0, 0])?, "no number");
-    assert!(rt; is_refused(alloc, 0xE8, 17, &[0, 0, 0, 2])?, "no parameters");
+    assert!(rt;
+        is_refused(alloc, 0xE8, 17, &[0, 0, 0, 2])?,
+        "no parameters"
+    );
     let no_depth = [0, 0, 0, 2, 0x0D, 0x99, 0x00, 0, 0, 0, 0, 0, 0, 0, 0];
-    assert!(rt; is_refused(alloc, 0xE8, 28, &no_depth)?, "parameters of depth 0");
+    assert!(rt;
+        is_refused(alloc, 0xE8, 28, &no_depth)?,
+        "parameters of depth 0"
+    );
     Ok(())
 }
 
@@ -52,7 +64,10 @@ fn pictures_without_their_slices_are_refused(rt: HostRuntime) -> Result<(), Fail
     let one = [0, 0, 0, 2, 0x09, 0x66, 0x40, 0, 0, 0, 0];
     assert!(rt; is_refused(alloc, 0xE8, 24, &one)?, "one slice of two");
     let cut = [0, 0, 0, 2, 0x09, 0x66, 0x40, 0, 0, 0, 0, 0, 0, 0, 1];
-    assert!(rt; is_refused(alloc, 0xE8, 28, &cut)?, "a last block that is cut");
+    assert!(rt;
+        is_refused(alloc, 0xE8, 28, &cut)?,
+        "a last block that is cut"
+    );
     Ok(())
 }
 

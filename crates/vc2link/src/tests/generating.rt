@@ -24,6 +24,9 @@ fn a_frame_is_checked(rt: HostRuntime) -> Result<(), Fail> {
     let ran = run_over(&rt, alloc, line, nothing, &mut NoPlaces)?;
     assert_eq!(rt; ran.status, 0);
     assert!(rt; ran.output.bytes().is_empty());
-    assert_eq!(rt; ran.report.bytes(), b"frames 1\nsamples 3\ndifferent 0\n".as_slice());
+    assert_eq!(rt;
+        ran.report.bytes(),
+        b"frames 1\nsamples 3\ndifferent 0\n".as_slice()
+    );
     Ok(())
 }

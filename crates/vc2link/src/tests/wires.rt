@@ -15,7 +15,8 @@ fn is_sent(wire: &MemWire, place: usize, entry: &[u8]) -> bool {
 #[test]
 fn a_frame_is_sent(rt: HostRuntime) -> Result<(), Fail> {
     let alloc = rt.alloc();
-    let line = "send --to there --width 2 --height 2 --sampling 444 --range 1 --wavelet 3 --depth 1 --slices 1x1 --scaler 1";
+    let line =
+        "send --to there --width 2 --height 2 --sampling 444 --range 1 --wavelet 3 --depth 1 --slices 1x1 --scaler 1";
     let input = Vec::from_slice(alloc, &FRAME)?;
     let mut wire = MemWire::new(alloc, Vec::new(alloc), false, 1000, Vec::new(alloc))?;
     let ran = run_on(&rt, alloc, line, input, &mut wire, &mut NoPlaces)?;

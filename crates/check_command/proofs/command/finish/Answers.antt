@@ -17,9 +17,9 @@ returns-clause-different g c = λ generating window checked.
     let s = sent_by_default generating.frames in
     let old = numbers_of c.args.sender.now in
     let end =
-        c.in_ok-end.ensures.value.datagram_is
-        ∙ ap (λ (t : Sending). datagram_with t old.number old.timestamp false (End (high_half old.number))) checked.sent.settings_are
-        ∙ end_is s (all_generated generating) old checked.sent.numbers_are in
+    c.in_ok-end.ensures.value.datagram_is
+    ∙ ap (λ (t : Sending). datagram_with t old.number old.timestamp false (End (high_half old.number))) checked.sent.settings_are
+    ∙ end_is s (all_generated generating) old checked.sent.numbers_are in
     let taken = rw c.deref.ensures.value at (c.in_ok-take.ensures.checked generating window (frames_sent s (all_generated generating)) checked.checked) in
     c.finish-2.ensures.different generating window (checked_stream generating) (stream_checked generating window _ _ end taken)
 

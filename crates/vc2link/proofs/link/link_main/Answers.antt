@@ -33,7 +33,7 @@ returns-in-Ok-Gen-default-false-default-default-clause-answers g c =
     let came = c.in-Ok-Gen-default-false-default-default in
     let unchecked : came.field-0-1 ≡ false = rw came.field-0-is at came.field-0-1-test in
     let meant : meaning_view c.in-Ok.settings ≡ ToGen (generating_view came.frames_of) false came.field-0-2 came.field-0-3 =
-          ap meaning_view came.field-0-is ∙ ap (λ (check : Bool). ToGen (generating_view came.frames_of) check came.field-0-2 came.field-0-3) unchecked in
+    ap meaning_view came.field-0-is ∙ ap (λ (check : Bool). ToGen (generating_view came.frames_of) check came.field-0-2 came.field-0-3) unchecked in
     rw (c.read_words.ensures.exact, c.in-Ok.is, meant)
     (gen_does (generating_view came.frames_of) came.field-0-2 came.field-0-3 c.write_answer-in-Ok-Gen-default-false-default-default.result _ (record {
       answer = c.generate.result;
@@ -71,7 +71,7 @@ returns-in-Ok-Gen-default-true-default-default-clause-answers g c =
     let came = c.in-Ok-Gen-default-true-default-default in
     let checked : came.field-0-1 ≡ true = rw came.field-0-is at came.field-0-1-test in
     let meant : meaning_view c.in-Ok.settings ≡ ToGen (generating_view came.frames_of) true came.window came.workers =
-          ap meaning_view came.field-0-is ∙ ap (λ (check : Bool). ToGen (generating_view came.frames_of) check came.window came.workers) checked in
+    ap meaning_view came.field-0-is ∙ ap (λ (check : Bool). ToGen (generating_view came.frames_of) check came.window came.workers) checked in
     rw (c.read_words.ensures.exact, c.in-Ok.is, meant)
     (check_does (generating_view came.frames_of) came.window came.workers c.write_answer-in-Ok-Gen-default-true-default-default.result _ (record {
       answer = c.check-checked.result;
