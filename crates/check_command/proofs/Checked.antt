@@ -1,5 +1,5 @@
 -- What a checker has compared, behind the datagrams that its receiver heard.
-use Rattle.std.proofs.Common.{◌≡◌, ℕ, ◌+◌, List, take, [], ◌∷◌, ◌++◌, Option, Some, refl, sym, ap, ◌∙◌, append_assoc, append-nil}
+use Rattle.std.proofs.Common.{◌≡◌, ℕ, ◌+◌, List, take, [], ◌∷◌, ◌++◌, Some, sym, ap, ◌∙◌, append_assoc, append-nil}
 use Rattle.std.proofs.lemmas.List.{map-append}
 use Rattle.check_command.specs.Comparing.{IsCheckedUpTo}
 use Rattle.frame_comparison.specs.Counting.{counted_with}

@@ -1,11 +1,11 @@
 -- Where no generated frame is refused, checking comes to its end, unless memory runs out.
-use Rattle.std.proofs.Common.{◌≡◌, ◌⊎◌, ℕ, List, [], ◌∷◌, ◌++◌, All, Option, Some, None, Ok, Err, inl, inr, refl, sym, subst}
+use Rattle.std.proofs.Common.{◌≡◌, ◌⊎◌, ℕ, List, [], ◌∷◌, ◌++◌, All, Option, Some, None, Ok, Err, inl, inr, refl, subst}
 use Rattle.std.specs.Prelude.{Result}
 use Rattle.std.specs.Result.{IsOk}
 use Rattle.std.proofs.lemmas.List.Elements.{All-head, All-tail}
 use Rattle.check_command.specs.Checking.{CheckEnded, Checks, HasLargeSlice, IsCheckable}
 use Rattle.frame_sending.specs.FramesSent.{frame_fault}
-use Rattle.link_gen.specs.Defaults.{all_generated, sent_by_default}
+use Rattle.link_gen.specs.Defaults.{sent_by_default}
 use Rattle.link_model.specs.SendingFaults.{SendFault}
 use Rattle.link_report.specs.declared.ending.Ending.{Ending}
 use Rattle.link_report.specs.declared.ending.Ending.TheVariants as endings

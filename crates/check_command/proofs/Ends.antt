@@ -1,6 +1,6 @@
 -- How checking ends, and what it asked of the workers.
 use Rattle.std.proofs.Common.{◌≡◌, ℕ, List, ◌∷◌, Option, Ok, Err, ap, inl}
-use Rattle.check_command.specs.Checking.{Checks, IsCheckable, IsCompared, StartsHands, checked_stream}
+use Rattle.check_command.specs.Checking.{Checks, IsCheckable, checked_stream}
 use Rattle.check_command.specs.Looping.{IsOneRefused}
 use Rattle.decode_command.specs.Decoding.{HasStarted}
 use Rattle.frame_comparison.specs.Differences.{differences}

@@ -1,20 +1,20 @@
 -- A frame that is sent and received behind others, or refused, and the end behind all.
-use Rattle.std.proofs.Common.{◌≡◌, ℕ, suc, ◌+◌, ◌*◌, ◌-◌, ◌<◌, ◌^◌, List, [], ◌∷◌, ◌++◌, length, Option, Some, None, Ok, Err, refl, sym, ap, ◌∙◌, subst, arith, append_assoc}
+use Rattle.std.proofs.Common.{◌≡◌, ℕ, suc, ◌+◌, ◌*◌, ◌-◌, ◌<◌, ◌^◌, List, [], ◌∷◌, ◌++◌, length, None, sym, ap, ◌∙◌, subst, arith}
 use Rattle.std.specs.Prelude.{IsTrue}
 use Rattle.std.proofs.lemmas.List.Elements.{All-nil, All-push}
-use Rattle.check_command.specs.Checking.{HasLargeSlice, checked_stream}
+use Rattle.check_command.specs.Checking.{checked_stream}
 use Rattle.check_command.specs.Comparing.{IsCheckedUpTo}
 use Rattle.check_command.specs.declared.checker.Checker.{Checker}
-use Rattle.check_command.specs.Looping.{ChecksFrame, HasChecked, HasSentFrames, IsFrameRefused, IsOneRefused}
+use Rattle.check_command.specs.Looping.{HasChecked, HasSentFrames, IsFrameRefused, IsOneRefused}
 use Rattle.check_command.proofs.GeneratedFrames.{no_sample_fault}
 use Rattle.frame_sending.specs.FramesSent.{AreSendable, frame_fault, frames_sent}
 use Rattle.frame_sending.specs.Looping.{end_sent, next_sent}
-use Rattle.frame_sending.specs.Steps.{numbers_after, refusal_ending}
+use Rattle.frame_sending.specs.Steps.{refusal_ending}
 use Rattle.frame_sending.proofs.ChosenIndices.{refused_as_chosen}
 use Rattle.frame_sending.proofs.Numbering.{numbers_none}
 use Rattle.frame_sending.proofs.SentMore.{frames_sent-more}
 use Rattle.frame_sending.proofs.Stopping.{none_sent, stream_is}
-use Rattle.frame_sending.proofs.TakingFrames.{datagrams_are, end_is, numbers_are, sound}
+use Rattle.frame_sending.proofs.TakingFrames.{datagrams_are, numbers_are, sound}
 use Rattle.link_gen.proofs.Frames.{frames_then, one_frame_more}
 use Rattle.link_gen.specs.Defaults.{all_generated, sent_by_default, shape_of_frames}
 use Rattle.link_gen.specs.Generator.{frame_samples, generated_frame, generated_frames, state_behind}

@@ -1,12 +1,12 @@
 -- Generated frames have the sizes of the settings, and no sample that is too large.
-use Rattle.std.proofs.Common.{◌≡◌, ◌≤◌, ◌<◌, ℕ, zero, suc, ◌+◌, ◌^◌, Bool, true, false, List, [], ◌∷◌, All, Option, Some, None, refl, sym, ap, ◌∙◌, arith}
+use Rattle.std.proofs.Common.{◌≡◌, ◌≤◌, ◌<◌, ℕ, ◌+◌, ◌^◌, Bool, true, false, List, [], ◌∷◌, All, Option, Some, None, refl, sym, ap, ◌∙◌, arith}
 use Rattle.std.specs.Prelude.{IsTrue, drop, if◌then◌else◌, nat_lt}
 use Rattle.std.specs.Option.{option_or}
 use Rattle.std.proofs.lemmas.List.Elements.{All-head, All-tail}
 use Rattle.frame_sending.specs.FramesSent.{frame_fault, frame_indices}
 use Rattle.link_gen.proofs.States.{samples_below}
 use Rattle.link_gen.specs.Defaults.{sent_by_default, shape_of_frames}
-use Rattle.link_gen.specs.Generator.{generated_frame, generated_samples, plane_samples, samples_before, state_behind}
+use Rattle.link_gen.specs.Generator.{generated_frame, plane_samples, samples_before, state_behind}
 use Rattle.link_model.specs.Sending.{pictures_of}
 use Rattle.link_model.specs.SendingFaults.{SendFault, SampleRange, first_of_slices, first_outside, first_sample_fault, first_slice_fault, is_too_large, send_fault, slice_fault}
 use Rattle.link_model.specs.SendingPictures.{IsFrame, sent_parameters, sent_sequence, slices_with_indices}

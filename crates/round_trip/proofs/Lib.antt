@@ -2,3 +2,4 @@ pub mod ZeroIndices
 pub mod RawBytes
 pub mod ShortDatagrams
 pub mod ComingBack
+pub mod GeneratedBack

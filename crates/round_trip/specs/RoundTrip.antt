@@ -3,14 +3,17 @@ use Rattle.std.specs.Prelude.{◌≡◌, ◌<◌, ◌≤◌, ℕ, ◌*◌, ◌^�
 use Rattle.datagram_outlet.specs.Outlets.{capture_of}
 use Rattle.decode_command.specs.Capture.{capture_split}
 use Rattle.decode_command.specs.Decoding.{IsDecodable}
+use Rattle.frame_comparison.specs.Differences.{differences}
 use Rattle.frame_reader.specs.WholeFrames.{HoldFrames}
 use Rattle.frame_sending.specs.FramesSent.{AreSendable, frame_shape, stream_sent}
+use Rattle.link_gen.specs.Defaults.{all_generated, sent_by_default}
 use Rattle.link_model.specs.Output.{full_output}
 use Rattle.link_model.specs.Sending.{pictures_per_frame}
 use Rattle.vc_types.specs.declared.choice.IndexChoice.TheVariants.{Index}
+use Rattle.vc_types.specs.declared.settings.GenSettings.{GenSettings}
 use Rattle.vc_types.specs.declared.settings.SendSettings.{SendSettings}
 use Rattle.vc_types.specs.Planes.{Planes}
-use Rattle.vc_types.specs.SenderSettings.{Sending, sending_view}
+use Rattle.vc_types.specs.SenderSettings.{Sending, generating_view, sending_view}
 
 -- bytes are those of these frames, of fewer than 2 ^ 31 pictures, and none of them is refused
 pub record IsRawVideo (s : Sending) (bytes : List ℕ) (frames : List Planes) : Type 0 where
@@ -32,3 +35,15 @@ EncodedFramesComeBack = (settings : SendSettings) (window packets : ℕ) (bytes 
     → IsRawVideo (sending_view settings) bytes frames
     → length (stream_sent (sending_view settings) frames) ≤ packets
     → IsDecodedTo window packets (capture_of (stream_sent (sending_view settings) frames)) bytes
+
+-- Generated frames of fewer than 2 ^ 31 pictures, none of which is refused at index 0 and the other
+-- defaults, come back without a difference.
+abbrev pub GeneratedFramesComeBack : Type 0
+GeneratedFramesComeBack = (g : GenSettings) (settings : SendSettings) (window : ℕ)
+    → sending_view settings ≡ sent_by_default (generating_view g).frames
+    → 1 ≤ window
+    → AreSendable (sending_view settings) (all_generated (generating_view g))
+    → g.frames * pictures_per_frame (sending_view settings) < 2 ^ 31
+    → differences (generating_view g)
+    (full_output window (stream_sent (sending_view settings) (all_generated (generating_view g))))
+    ≡ 0

@@ -4,3 +4,8 @@ use super::*;
 fn law_holds(_: HostRuntime) {
     encoded_frames_come_back();
 }
+
+#[test]
+fn generated_law_holds(_: HostRuntime) {
+    generated_frames_come_back();
+}

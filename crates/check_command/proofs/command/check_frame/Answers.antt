@@ -4,7 +4,6 @@ use Rattle.check_command.specs.Looping.{IsFrameRefused}
 use Rattle.link_gen.specs.Defaults.{sent_by_default}
 use Rattle.link_model.specs.SendingPictures.{Need, chosen_index, wants_lengths}
 use Rattle.link_receiver.proofs.Asked.{asked_none}
-use Rattle.link_report.specs.declared.ending.Ending.{Ending}
 use Rattle.link_sender.specs.Sent.{IsRefused, IsSent}
 use Rattle.link_sender.specs.State.{numbers_of}
 use Rattle.picture_encode.specs.Choosing.{AnswersNeed}

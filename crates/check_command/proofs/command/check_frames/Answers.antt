@@ -1,17 +1,15 @@
 use Rattle.check_command.specs.Looping.{ChecksFrames, HasChecked}
 use Rattle.std.specs.Prelude.{Result, length}
 use Rattle.link_report.specs.declared.ending.Ending.{Ending}
-use Rattle.std.proofs.Common.{◌++◌, ◌∷◌, ◌≡◌, ◌+◌, ◌*◌, ◌^◌, ◌<◌, ◌∙◌, ℕ, [], List, Err, ap, subst, sym, refl, rules, arith}
+use Rattle.std.proofs.Common.{◌≡◌, ◌+◌, ◌*◌, ◌^◌, ◌<◌, ◌∙◌, ℕ, Err, ap, subst, sym, refl, rules, arith}
 use Rattle.check_command.proofs.FrameSteps.{none_checked, one_more_checked, one_refused}
 use Rattle.check_command.proofs.GeneratedFrames.{is_frame}
 use Rattle.link_gen.proofs.Frames.{behind_one_frame_more, generated_count}
 use Rattle.link_gen.specs.Defaults.{shape_of_frames}
-use Rattle.link_gen.specs.Generator.{frame_samples, generated_frame, generated_frames, state_behind}
+use Rattle.link_gen.specs.Generator.{frame_samples, generated_frames, state_behind}
 use Rattle.link_model.specs.SendingPictures.{IsFrame}
 use Rattle.link_receiver.proofs.Asked.{asked_none, asked_twice}
-use Rattle.vc_types.specs.Planes.{Planes, planes_in}
-use Rattle.vc_types.specs.SenderSettings.{Sending, generating_view, sending_view}
-use Rattle.vc_types.specs.declared.settings.SendSettings.{SendSettings}
+use Rattle.vc_types.specs.SenderSettings.{generating_view}
 use Rattle.check_command.proofs.command.check_frames.Goals as goal
 
 pub loop-frame-init : goal.loop-frame-init

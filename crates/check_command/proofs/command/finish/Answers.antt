@@ -1,4 +1,4 @@
-use Rattle.std.proofs.Common.{List, ℕ, false, ap, subst, ◌∙◌}
+use Rattle.std.proofs.Common.{false, ap, ◌∙◌}
 use Rattle.check_command.specs.Checking.{checked_stream}
 use Rattle.check_command.proofs.FrameSteps.{stream_checked}
 use Rattle.frame_sending.proofs.TakingFrames.{end_is}

@@ -1,4 +1,3 @@
-use Rattle.std.proofs.Common.{ap, subst}
 use Rattle.check_command.proofs.Checked.{one_checked}
 use Rattle.link_receiver.specs.HeardLists.{AsFrames}
 use Rattle.check_command.proofs.checker.Checker.take.Goals as goal
