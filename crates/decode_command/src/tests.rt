@@ -1,3 +1,5 @@
+ghost use Rattle.std.specs.Prelude.{◌≤◌};
+
 use crate::unpack;
 use link_report::Answer;
 use std::alloc::Global;
