@@ -6,7 +6,6 @@ mod datagram;
 mod event;
 mod feeder;
 mod frames;
-mod header;
 mod machine;
 mod pictures;
 mod session;

@@ -10,7 +10,6 @@ ghost use Rattle.link_model.specs.Windows.{first_of, releasable_numbers};
 ghost use Rattle.vc_types.specs.SequenceHeader.{sequence_of};
 
 use crate::datagram::Opening;
-use crate::header::same_header;
 use bytes::Bytes;
 use link_window::{PictureBook, Window};
 use std::alloc::Global;
@@ -107,7 +106,7 @@ impl OpenSession {
     fn is_other(&self, opening: &Opening) -> bool
         ensures { result ≡ is_other self.now.session (opened_session opening.now) }
     {
-        !(self.opening.ssrc == opening.ssrc && same_header(&self.opening.header, &opening.header))
+        !(self.opening.ssrc == opening.ssrc && self.opening.header.is_same(&opening.header))
     }
 }
 

@@ -7,7 +7,7 @@ ghost use Rattle.link_gather.specs.Views.{slice_part_of};
 ghost use Rattle.vc_types.specs.SequenceHeader.{Sequence, sequence_of};
 ghost use Rattle.vc_types.specs.TransformParameters.{parameters_of};
 
-use crate::gathering::{Gathering, same_plan};
+use crate::gathering::Gathering;
 use crate::part::SlicePart;
 use bytes::Bytes;
 use link_model::Outcome;
@@ -82,7 +82,7 @@ impl PictureBook {
             return Ok(Outcome::ParamsBad);
         };
         if let Some(gathering) = &self.gathering {
-            return Ok(if same_plan(&gathering.plan(), &plan) {
+            return Ok(if gathering.plan().is_same(&plan) {
                 Outcome::ParamsRepeat
             } else {
                 Outcome::ParamsConflict

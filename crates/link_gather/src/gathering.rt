@@ -2,7 +2,6 @@ ghost use Rattle.std.specs.Prelude.{◌≡◌, ◌+◌, ◌++◌, ◌^◌, ◌<�
 ghost use Rattle.std.specs.Option.{option_copied};
 ghost use Rattle.link_model.specs.Books.{nothing_gathered, gathers, gathered_bytes, gathered_outcome, gathered_whole, slot_at};
 ghost use Rattle.link_model.specs.Kept.{has_form, has_place, first_slice, slice_run};
-ghost use Rattle.vc_types.specs.SameValues.{same_luma, same_colour, same_transform, same_slicing, same_parameters};
 ghost use Rattle.link_gather.specs.Filling.{run_cut};
 ghost use Rattle.link_gather.specs.Views.{slice_part_of};
 ghost use Rattle.vc_types.specs.Subbands.{slice_count};
@@ -15,7 +14,7 @@ use bytes::Bytes;
 use link_model::Outcome;
 use std::alloc::Global;
 use std::marker::Model;
-use vc_types::{NoMemory, Plan, Shape};
+use vc_types::{NoMemory, Plan};
 
 /// What is gathered of a picture whose parameters are there.
 #[derive(Drop)]
@@ -165,48 +164,4 @@ fn first_slice(plan: &Plan, part: &SlicePart) -> Option<usize>
         return None;
     }
     Some(first as usize)
-}
-
-/// Whether two plans have the same value.
-#[tactic(auto, unfolding(vc_types::specs::SameValues::same_parameters))]
-pub(crate) fn same_plan(a: &Plan, b: &Plan) -> bool
-    ensures { result ≡ same_parameters (parameters_of a.now) (parameters_of b.now) }
-{
-    same_luma(&a.shape, &b.shape)
-        && same_colour(&a.shape, &b.shape)
-        && same_transform(a, b)
-        && same_slicing(a, b)
-        && a.matrix == b.matrix
-}
-
-fn same_luma(a: &Shape, b: &Shape) -> bool
-    ensures { result ≡ same_luma a.now b.now }
-{
-    a.luma_width == b.luma_width && a.luma_height == b.luma_height && a.luma_depth == b.luma_depth
-}
-
-fn same_colour(a: &Shape, b: &Shape) -> bool
-    ensures { result ≡ same_colour a.now b.now }
-{
-    a.colour_width == b.colour_width
-        && a.colour_height == b.colour_height
-        && a.colour_depth == b.colour_depth
-}
-
-fn same_transform(a: &Plan, b: &Plan) -> bool
-    ensures { result ≡ same_transform (parameters_of a.now) (parameters_of b.now) }
-{
-    a.wavelet == b.wavelet
-        && a.wavelet_ho == b.wavelet_ho
-        && a.depth == b.depth
-        && a.depth_ho == b.depth_ho
-}
-
-fn same_slicing(a: &Plan, b: &Plan) -> bool
-    ensures { result ≡ same_slicing (parameters_of a.now) (parameters_of b.now) }
-{
-    a.slices_x == b.slices_x
-        && a.slices_y == b.slices_y
-        && a.prefix == b.prefix
-        && a.scaler == b.scaler
 }

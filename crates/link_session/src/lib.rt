@@ -6,8 +6,6 @@ mod heard;
 mod hearing;
 mod numbering;
 mod offering;
-mod same_header;
-mod same_plan;
 mod standing;
 
 pub use heard::{Heard, Opening};

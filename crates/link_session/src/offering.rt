@@ -14,7 +14,6 @@ ghost use Rattle.vc_types.specs.SequenceHeader.{Sequence};
 ghost use Rattle.vc_types.specs.Subbands.{slice_count};
 ghost use Rattle.vc_types.specs.TransformParameters.{parameters_of};
 
-use crate::same_plan::same_plan;
 use link_gather::PictureBook;
 use link_window::{Part, SlicePart};
 use std::alloc::Global;
@@ -190,5 +189,5 @@ pub(crate) fn has_job(book: &PictureBook, job: &SliceJob) -> bool
     let Some(slice) = book.slice(job.index) else {
         return false;
     };
-    same_plan(&job.plan, &plan) && job.bytes.as_slice() == slice.as_slice()
+    job.plan.is_same(&plan) && job.bytes.as_slice() == slice.as_slice()
 }

@@ -18,7 +18,6 @@ ghost use Rattle.vc_types.specs.SequenceHeader.{coded_header, sequence_of};
 use crate::heard::Opening;
 use crate::numbering::{base_above, nearest};
 use crate::offering::{all_jobs, has_job, jobs_of, missing_slices};
-use crate::same_header::same_header;
 use link_gather::PictureBook;
 use link_model::Outcome;
 use link_window::{Fragment, Released, Window};
@@ -135,7 +134,7 @@ impl Standing {
         ensures { result ≡ (self.now.has_ended
             && is_other self.now.session (session_of opening.now)) }
     {
-        self.has_ended && !(self.ssrc == opening.ssrc && same_header(&self.header, &opening.header))
+        self.has_ended && !(self.ssrc == opening.ssrc && self.header.is_same(&opening.header))
     }
 
     /// The outcome of a sequence header of the session's source that opens no session.
@@ -145,7 +144,7 @@ impl Standing {
             → result ≡ header_outcome self.now.session.sequence (coded_header body) }
     {
         match opening {
-            Some(opening) if same_header(&self.header, &opening.header) => Outcome::HeaderSame,
+            Some(opening) if self.header.is_same(&opening.header) => Outcome::HeaderSame,
             Some(_) => Outcome::HeaderOther,
             None => Outcome::HeaderBad,
         }

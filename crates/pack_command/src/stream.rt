@@ -8,7 +8,6 @@ ghost use Rattle.vc_types.specs.SenderSettings.{Packing, packing_view};
 ghost use Rattle.vc_units.specs.Reading.{unit_of};
 
 use crate::fault::UnitRefusal;
-use crate::header::same_header;
 use crate::opened::Opened;
 use crate::totals::Totals;
 use link_report::{Ending, Summary};
@@ -117,7 +116,7 @@ impl StreamPacker {
                     pictures: 0,
                 });
             }
-            Some(stream) if same_header(&stream.header, &header) => stream.coded = coded,
+            Some(stream) if stream.header.is_same(&header) => stream.coded = coded,
             Some(_) => return Err(UnitRefusal::Bad),
         }
         Ok(())

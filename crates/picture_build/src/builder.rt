@@ -12,7 +12,6 @@ ghost use Rattle.picture_build.specs.Puts.{Puts};
 use crate::cells::CoefficientCells;
 use crate::filling::{fill_slice, parts_of, put_blocks};
 use crate::finishing::finished;
-use crate::same::same_plan;
 use crate::sizes::{cell_count, most_coefficients};
 use std::alloc::Global;
 use std::marker::Model;
@@ -98,7 +97,7 @@ impl PictureBuilder {
     pub fn has_plan(&self, plan: &Plan) -> bool
         ensures { result ≡ same_parameters self.now.parameters (parameters_of plan.now) }
     {
-        same_plan(&self.plan, plan)
+        self.plan.is_same(plan)
     }
 
     /// Whether the slice came.

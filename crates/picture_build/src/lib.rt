@@ -9,7 +9,6 @@ mod finishing;
 mod narrow;
 mod output;
 mod placing;
-mod same;
 mod sizes;
 
 pub use builder::{NotPut, PictureBuilder};

@@ -3,7 +3,6 @@
 
 mod command;
 mod fault;
-mod header;
 mod pairs;
 mod picture;
 mod playback;

@@ -11,7 +11,6 @@ ghost use Rattle.play_command.specs.Taking.{Agrees, Brought, CountsAtMost};
 ghost use Rattle.play_command.specs.Views.{player_state};
 
 use crate::fault::TakeFault;
-use crate::header::same_header;
 use crate::playback::Playback;
 use link_report::Summary;
 use std::alloc::Global;
@@ -91,7 +90,7 @@ impl Player {
         };
         match &self.stream {
             None => self.stream = Some(Playback::new(header)),
-            Some(stream) if same_header(&stream.header, &header) => {}
+            Some(stream) if stream.header.is_same(&header) => {}
             Some(_) => return Err(TakeFault::Refused),
         }
         Ok(())

@@ -53,6 +53,7 @@ fn video_depth(excursion: u32) -> u8
 }
 
 impl Header {
+    ghost use Rattle.vc_types.specs.SameValues.{same_scan, same_sequence, same_size};
     ghost use Rattle.vc_types.specs.SequenceHeader.{sequence_of, picture_shape};
 
     /// The shape of one picture of the sequence: of a frame or, with field coding, of a field.
@@ -68,5 +69,34 @@ impl Header {
             luma_depth: video_depth(self.range.luma_excursion),
             colour_depth: video_depth(self.range.colour_excursion),
         }
+    }
+
+    /// Whether both headers have the same value.
+    #[tactic(auto, unfolding(crate::specs::SameValues::same_sequence))]
+    pub fn is_same(&self, other: &Header) -> bool
+        ensures { result ≡ same_sequence (sequence_of self.now) (sequence_of other.now) }
+    {
+        let version = self.major == other.major
+            && self.minor == other.minor
+            && self.level == other.level;
+        version
+            && self.base == other.base
+            && self.is_as_large(other)
+            && self.is_scanned_alike(other)
+            && self.range.is_same(&other.range)
+    }
+
+    fn is_as_large(&self, other: &Header) -> bool
+        ensures { result ≡ same_size (sequence_of self.now) (sequence_of other.now) }
+    {
+        self.width == other.width && self.height == other.height && self.sampling == other.sampling
+    }
+
+    fn is_scanned_alike(&self, other: &Header) -> bool
+        ensures { result ≡ same_scan (sequence_of self.now) (sequence_of other.now) }
+    {
+        self.interlaced == other.interlaced
+            && self.top_first == other.top_first
+            && self.fields == other.fields
     }
 }

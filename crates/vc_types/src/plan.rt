@@ -30,3 +30,40 @@ pub struct Plan {
     pub ghost matrix_values: { IsTrue (matrix_fits matrix) },
     pub ghost unused_entries: { filled_matrix (used_entries depth_ho depth matrix) ≡ matrix },
 }
+
+impl Plan {
+    ghost use Rattle.std.specs.Prelude.{◌≡◌};
+    ghost use Rattle.vc_types.specs.SameValues.{same_luma, same_colour, same_transform};
+    ghost use Rattle.vc_types.specs.SameValues.{same_slicing, same_parameters};
+    ghost use Rattle.vc_types.specs.TransformParameters.{parameters_of};
+
+    /// Whether both plans have the same shape and the same transform parameters.
+    #[tactic(auto, unfolding(crate::specs::SameValues::same_parameters))]
+    pub fn is_same(&self, other: &Plan) -> bool
+        ensures { result ≡ same_parameters (parameters_of self.now) (parameters_of other.now) }
+    {
+        self.shape.has_same_luma(&other.shape)
+            && self.shape.has_same_colour(&other.shape)
+            && self.is_transformed_alike(other)
+            && self.is_sliced_alike(other)
+            && self.matrix == other.matrix
+    }
+
+    fn is_transformed_alike(&self, other: &Plan) -> bool
+        ensures { result ≡ same_transform (parameters_of self.now) (parameters_of other.now) }
+    {
+        self.wavelet == other.wavelet
+            && self.wavelet_ho == other.wavelet_ho
+            && self.depth == other.depth
+            && self.depth_ho == other.depth_ho
+    }
+
+    fn is_sliced_alike(&self, other: &Plan) -> bool
+        ensures { result ≡ same_slicing (parameters_of self.now) (parameters_of other.now) }
+    {
+        self.slices_x == other.slices_x
+            && self.slices_y == other.slices_y
+            && self.prefix == other.prefix
+            && self.scaler == other.scaler
+    }
+}

@@ -22,3 +22,17 @@ pub struct SignalRange {
     pub colour_offset: u32,
     pub colour_excursion: u32,
 }
+
+impl SignalRange {
+    ghost use Rattle.std.specs.Prelude.{◌≡◌};
+    ghost use Rattle.vc_types.specs.SameValues.{same_range};
+
+    pub(crate) fn is_same(&self, other: &SignalRange) -> bool
+        ensures { result ≡ same_range self.now other.now }
+    {
+        self.luma_offset == other.luma_offset
+            && self.luma_excursion == other.luma_excursion
+            && self.colour_offset == other.colour_offset
+            && self.colour_excursion == other.colour_excursion
+    }
+}
