@@ -4,7 +4,7 @@ ghost use Rattle.frame_comparison.specs.Differences.{differences};
 ghost use Rattle.link_model.specs.Output.{full_output};
 ghost use Rattle.link_receiver.specs.HeardLists.{AskedPlaces};
 ghost use Rattle.link_sender.specs.Packing.{bytes_of_all};
-ghost use Rattle.slice_exchange.specs.Calls.{AreBelow};
+ghost use Rattle.slice_exchange.specs.Calls.{PlacesAreBelow};
 ghost use Rattle.vc_types.specs.SenderSettings.{Generating, generating_view};
 
 use crate::written::Written;
@@ -46,12 +46,12 @@ impl Checker {
         datagrams: &[Datagram],
         places: &mut P,
     ) -> Result<(), NoMemory>
-        requires below { AreBelow (P.bound places.old) self.old.receiver.reception.out }
+        requires below { PlacesAreBelow (P.bound places.old) self.old.receiver.reception.out }
         ensures checked { (g : Generating) (window : ℕ) (heard : List (List ℕ))
             → IsCheckedUpTo g window heard self.old
             → OnOk result (IsCheckedUpTo g window (heard ++ bytes_of_all datagrams.now) self.new) }
         ensures told { AskedPlaces (P.told places.old) (P.told places.new) }
-        ensures below { AreBelow (P.bound places.new) self.new.receiver.reception.out }
+        ensures below { PlacesAreBelow (P.bound places.new) self.new.receiver.reception.out }
     {
         for datagram in datagrams {
             self.take(&datagram.bytes, places)?;
@@ -66,12 +66,12 @@ impl Checker {
         datagram: &[u8],
         places: &mut P,
     ) -> Result<(), NoMemory>
-        requires below { AreBelow (P.bound places.old) self.old.receiver.reception.out }
+        requires below { PlacesAreBelow (P.bound places.old) self.old.receiver.reception.out }
         ensures checked { (g : Generating) (window : ℕ) (heard : List (List ℕ))
             → IsCheckedUpTo g window heard self.old
             → OnOk result (IsCheckedUpTo g window (heard ++ datagram.now ∷ []) self.new) }
         ensures told { AskedPlaces (P.told places.old) (P.told places.new) }
-        ensures below { AreBelow (P.bound places.new) self.new.receiver.reception.out }
+        ensures below { PlacesAreBelow (P.bound places.new) self.new.receiver.reception.out }
     {
         let Ok(datagram) = Bytes::copy_from_slice(self.alloc, datagram) else {
             return Err(NoMemory);
@@ -88,7 +88,7 @@ impl Checker {
 
     /// Takes the end, and answers how many samples differ.
     pub(crate) fn finish<P: Places>(&mut self, places: &mut P) -> Result<u64, NoMemory>
-        requires below { AreBelow (P.bound places.old) self.old.receiver.reception.out }
+        requires below { PlacesAreBelow (P.bound places.old) self.old.receiver.reception.out }
         ensures different { (g : Generating) (window : ℕ) (heard : List (List ℕ))
             → IsCheckedUpTo g window heard self.old
             → IfOk result (λ different. different ≡ differences g (full_output window heard)) }

@@ -9,7 +9,7 @@ ghost use Rattle.link_model.specs.Output.{full_output};
 ghost use Rattle.link_model.specs.SendingPictures.{IsFrame, wants_lengths};
 ghost use Rattle.link_receiver.specs.HeardLists.{AskedPlaces};
 ghost use Rattle.picture_encode.specs.Choosing.{AnswersAtMost127, ChoosesAs};
-ghost use Rattle.slice_exchange.specs.Calls.{AreBelow};
+ghost use Rattle.slice_exchange.specs.Calls.{PlacesAreBelow};
 ghost use Rattle.vc_ports.specs.Changes.{changed};
 ghost use Rattle.vc_types.specs.Planes.{Planes, planes_in};
 ghost use Rattle.vc_types.specs.SenderSettings.{Generating, generating_view, sending_view};
@@ -100,11 +100,11 @@ fn check_frames<H: Threads + Copy + Send + Sync, F: Fn(&SliceNeed) -> u8, P: Pla
     requires chooses { ChoosesAs F.Fn sender.old.chooser.choose sender.old.settings.choice }
     requires wants { sender.old.chooser.wants_lens ≡ wants_lengths sender.old.settings.choice }
     requires sent { HasSentFrames (generating_view g.now) [] sender.old }
-    requires below { AreBelow (P.bound places.old) checker.old.receiver.reception.out }
+    requires below { PlacesAreBelow (P.bound places.old) checker.old.receiver.reception.out }
     ensures value { (window : ℕ) → IsCheckedUpTo (generating_view g.now) window [] checker.old
         → ChecksFrames (generating_view g.now) window sender.new checker.new result }
     ensures told { AskedPlaces (P.told places.old) (P.told places.new) }
-    ensures below { AreBelow (P.bound places.new) checker.new.receiver.reception.out }
+    ensures below { PlacesAreBelow (P.bound places.new) checker.new.receiver.reception.out }
 {
     let mut state = u64::from(g.seed);
     for _frame in 0..g.frames {
@@ -131,14 +131,14 @@ fn check_frame<H: Threads + Copy + Send + Sync, F: Fn(&SliceNeed) -> u8, P: Plac
     requires chooses { ChoosesAs F.Fn sender.old.chooser.choose sender.old.settings.choice }
     requires wants { sender.old.chooser.wants_lens ≡ wants_lengths sender.old.settings.choice }
     requires sizes { IsFrame (sending_view sender.old.settings) (planes_in frame.now) }
-    requires below { AreBelow (P.bound places.old) checker.old.receiver.reception.out }
+    requires below { PlacesAreBelow (P.bound places.old) checker.old.receiver.reception.out }
     ensures chooser { sender.new.chooser ≡ sender.old.chooser }
     ensures settings { sender.new.settings ≡ sender.old.settings }
     ensures value { (g : Generating) (window : ℕ) (sent : List Planes) → length sent + 1 < 2 ^ 32
         → HasChecked g window sent sender.old checker.old
         → ChecksFrame g window sent (planes_in frame.now) sender.new checker.new result }
     ensures told { AskedPlaces (P.told places.old) (P.told places.new) }
-    ensures below { AreBelow (P.bound places.new) checker.new.receiver.reception.out }
+    ensures below { PlacesAreBelow (P.bound places.new) checker.new.receiver.reception.out }
 {
     match sender.send_frame_joined(rt, frame) {
         Ok(datagrams) => match checker.take_all(&datagrams, places) {
@@ -155,7 +155,7 @@ fn finish<F: Fn(&SliceNeed) -> u8, P: Places>(
     checker: &mut Checker,
     places: &mut P,
 ) -> Result<u64, NoMemory>
-    requires below { AreBelow (P.bound places.old) checker.old.receiver.reception.out }
+    requires below { PlacesAreBelow (P.bound places.old) checker.old.receiver.reception.out }
     ensures different { (g : Generating) (window : ℕ)
         → HasChecked g window (all_generated g) sender.old checker.old
         → IfOk result (λ different. different

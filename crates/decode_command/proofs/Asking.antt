@@ -14,8 +14,8 @@ use Rattle.link_reception.specs.Standing.{StandsForHeard}
 use Rattle.link_reception.proofs.AllOffered.{none_offered, more_offered}
 use Rattle.link_receiver.proofs.Asked.{grows_none, grows_twice}
 use Rattle.link_receiver.specs.States.{ReceiverState}
-use Rattle.slice_exchange.specs.Jobs.{job_of}
-use Rattle.decode_command.specs.Hearing.{HasOffered}
+use Rattle.slice_jobs.specs.Jobs.{job_of}
+use Rattle.decode_command.specs.Hearing.{HandsWereOffered}
 use Rattle.vc_slice.specs.Asked.{Told, Offer, nothing_told, told_more}
 use Rattle.link_receiver.specs.HeardLists.{OutputForm, HasHeard, AskedPlaces, OfferedToPlaces, told_jobs}
 
@@ -29,7 +29,7 @@ heard_by r window datagrams h = rw h.heard at (rw h.goes_on at h.stands.heard)
 
 -- nothing was heard
 pub nothing_offered : (window : ℕ) (told : Option Told)
-    → HasOffered window [] (record { before = told; after = told })
+    → HandsWereOffered window [] (record { before = told; after = told })
 nothing_offered window told = record {
   more = nothing_told;
   grows = grows_none told;
@@ -47,12 +47,12 @@ told_jobs_more : (a b : Told) → told_jobs (told_more a b) ≡ told_jobs a ++ t
 told_jobs_more a b = map-append (λ (offer : Offer). job_of offer.job) a.offered b.offered
 
 module _ (window : ℕ) (datagrams : List (List ℕ)) (before mid after : Option Told)
-    (first : HasOffered window datagrams (record { before = before; after = mid })) where
+    (first : HandsWereOffered window datagrams (record { before = before; after = mid })) where
   -- a datagram more was heard
   pub offered_with : {form : OutputForm} (r : ReceiverState) (d : List ℕ)
       → HasHeard form r window datagrams
       → OfferedToPlaces mid after (datagram_jobs r.reception d)
-      → HasOffered window (datagrams ++ d ∷ []) (record { before = before; after = after })
+      → HandsWereOffered window (datagrams ++ d ∷ []) (record { before = before; after = after })
   offered_with r d h second = record {
     more = told_more first.more second.more;
     grows = grows_twice before mid after first.more second.more first.grows second.grows;
@@ -64,7 +64,7 @@ module _ (window : ℕ) (datagrams : List (List ℕ)) (before mid after : Option
 
   -- places were asked
   pub offered_then : AskedPlaces mid after
-      → HasOffered window datagrams (record { before = before; after = after })
+      → HandsWereOffered window datagrams (record { before = before; after = after })
   offered_then second = record {
     more = told_more first.more second.more;
     grows = grows_twice before mid after first.more second.more first.grows second.grows;

@@ -19,7 +19,7 @@ use Rattle.vc_slice.specs.Asked.{Told}
 use Rattle.vc_ports.proofs.Given.{Gave-none, Gave-then}
 use Rattle.vc_ports.proofs.Growing.{Grew-none, Grew-then, GrewBySome-all, GrewBySome-then, GrewBySome-front}
 use Rattle.decode_command.specs.Capture.{CaptureSplit, capture_split, ReadingEnded}
-use Rattle.decode_command.specs.Hearing.{then_entries, IsBehind, HasOffered, HasStopped, HasBroken, HasReceived, LoopEnded, HeardAll, Receives, IsBroken, ending_of}
+use Rattle.decode_command.specs.Hearing.{then_entries, IsBehind, HandsWereOffered, HasStopped, HasBroken, HasReceived, LoopEnded, HeardAll, ReceivesCapture, IsBroken, ending_of}
 use Rattle.decode_command.proofs.Asking.{offered_then}
 use Rattle.decode_command.proofs.Due.{due_with, due_at_end, nothing_due}
 use Rattle.decode_command.proofs.Within.{within_entry, within_part, within_nothing}
@@ -123,7 +123,7 @@ module _ (form : OutputForm) (window packets number place : ℕ) (input : InputC
       (no_entries form window packets number place input.left.before mid output.held.before held_mid
       receiver datagrams at more part)
 
-  module _ (hands : Change (Option Told)) (told : HasOffered window datagrams hands)
+  module _ (hands : Change (Option Told)) (told : HandsWereOffered window datagrams hands)
       (same : output.held.after ≡ held_mid) where
     stopped : (end : Option Ending) (more : List ℕ) → Gave mid input.left.after more
         → first_entry more ≡ None
@@ -138,7 +138,7 @@ module _ (form : OutputForm) (window packets number place : ℕ) (input : InputC
           heard = subst (λ (s : CaptureSplit). HasHeard form receiver window s.datagrams) is at.heard;
           wrote = subst (λ (s : CaptureSplit). Grew output.held.before output.held.after
               (due_so_far form window s.datagrams)) is (rw same at.wrote);
-          told = subst (λ (s : CaptureSplit). HasOffered window s.datagrams hands) is told;
+          told = subst (λ (s : CaptureSplit). HandsWereOffered window s.datagrams hands) is told;
         }
 
     pub at_edge : GaveAll mid input.left.after [] → HasStopped form window packets None receiver input output hands
@@ -264,13 +264,13 @@ module _ (form : OutputForm) (window packets : ℕ) (receiver : ReceiverState) (
   hearing_broke end broke = absurd broke
 
   pub receiving_broke : (end : Ending) → HeardAll form window packets (Err end) receiver input output hands
-      → Receives form window packets (Err end) receiver input output hands
+      → ReceivesCapture form window packets (Err end) receiver input output hands
   receiving_broke NoMemory broke = broke
   receiving_broke OutputFailed broke = broke
   receiving_broke end broke = absurd broke
 
   pub drain_broke : (fault : EnterFault) → HasBroken form window packets input output
-      → Receives form window packets (Err (ending_of fault)) receiver input output hands
+      → ReceivesCapture form window packets (Err (ending_of fault)) receiver input output hands
   drain_broke faults.NoMemory broke = broke
   drain_broke faults.WriteFault broke = broke
   drain_broke faults.Ended broke = broke

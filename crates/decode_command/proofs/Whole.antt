@@ -13,13 +13,13 @@ use Rattle.vc_ports.proofs.Growing.{GrewBySome-none}
 use Rattle.vc_slice.specs.Asked.{Told, Grows, told_more, starting}
 use Rattle.decode_command.specs.Capture.{CaptureSplit, capture_split}
 use Rattle.decode_command.specs.Decoding.{TakesCapture, HasStarted, HasGivenWork}
-use Rattle.decode_command.specs.Hearing.{HasOffered, HasReceived, Receives}
+use Rattle.decode_command.specs.Hearing.{HandsWereOffered, HasReceived, ReceivesCapture}
 use Rattle.link_receiver.proofs.Asked.{grows_twice}
 
 -- workers were started, and then slices were offered
 gave_work : (window workers : ℕ) (split : CaptureSplit) (before mid after : Option Told)
     → Grows before mid (starting workers (Ok tt))
-    → HasOffered window split.datagrams (record { before = mid; after = after })
+    → HandsWereOffered window split.datagrams (record { before = mid; after = after })
     → HasGivenWork window workers (record { before = before; after = after }) split
 gave_work window workers split before mid after grew told = record {
   more = told_more (starting workers (Ok tt)) told.more;
@@ -106,7 +106,7 @@ module _ (form : OutputForm) (window workers packets : ℕ) (receiver : Receiver
 pub stopped : (form : OutputForm) (window workers packets : ℕ) (receiver : ReceiverState) (input : InputChange)
     (output : OutputChange) (before mid after : Option Told) (end : Ending)
     → Grows before mid (starting workers (Ok tt)) → AskedPlaces mid after
-    → Receives form window packets (Err end) receiver input output (record { before = mid; after = after })
+    → ReceivesCapture form window packets (Err end) receiver input output (record { before = mid; after = after })
     → (end ≡ OutputFailed → HasRisen output.faults)
     → TakesCapture form window workers packets (Stopped end) input output
     (record { before = before; after = after })

@@ -25,7 +25,7 @@ then_entries datagrams behind = (datagrams ++ behind.0, behind.1)
 
 -- what was told of places: no workers were started, and each slice that a picture of the datagrams
 -- keeps was offered
-pub record HasOffered (window : ℕ) (datagrams : List (List ℕ)) (hands : Change (Option Told))
+pub record HandsWereOffered (window : ℕ) (datagrams : List (List ℕ)) (hands : Change (Option Told))
     : Type 0 where
   pub more : Told
   pub grows : Grows hands.before hands.after more
@@ -56,7 +56,7 @@ pub record HasStopped
   pub reading : ReadingEnded packets end input (capture_split packets given)
   pub heard : HasHeard form receiver window (capture_split packets given).datagrams
   pub wrote : Wrote output (due_so_far form window (capture_split packets given).datagrams)
-  pub told : HasOffered window (capture_split packets given).datagrams hands
+  pub told : HandsWereOffered window (capture_split packets given).datagrams hands
 
 -- there was no memory, or the output failed
 pub record HasBroken
@@ -79,7 +79,7 @@ Stops form window packets AtLimit receiver input output hands =
     (place : ℕ) × (datagrams : List (List ℕ))
     × IsBehind form window packets packets place input.left.before input.left.after
     output.held.before output.held.after receiver datagrams
-    × HasOffered window datagrams hands
+    × HandsWereOffered window datagrams hands
 
 abbrev pub LoopEnded : OutputForm → ℕ → ℕ → Result Stop Ending → ReceiverState → InputChange
     → OutputChange → Change (Option Told) → Type 0
@@ -112,17 +112,17 @@ pub record HasReceived
   pub wrote : Wrote output (due_in_all form window (capture_split packets given).datagrams)
   pub counted : receiver.reception.counts
       ≡ tally_of window (capture_split packets given).datagrams
-  pub told : HasOffered window (capture_split packets given).datagrams hands
+  pub told : HandsWereOffered window (capture_split packets given).datagrams hands
 
-abbrev pub Receives : OutputForm → ℕ → ℕ → Result (Option Ending) Ending → ReceiverState
+abbrev pub ReceivesCapture : OutputForm → ℕ → ℕ → Result (Option Ending) Ending → ReceiverState
     → InputChange → OutputChange → Change (Option Told) → Type 0
-Receives form window packets (Ok end) receiver input output hands =
+ReceivesCapture form window packets (Ok end) receiver input output hands =
     HasReceived form window packets end receiver input output hands
-Receives form window packets (Err NoMemory) receiver input output hands =
+ReceivesCapture form window packets (Err NoMemory) receiver input output hands =
     HasBroken form window packets input output
-Receives form window packets (Err OutputFailed) receiver input output hands =
+ReceivesCapture form window packets (Err OutputFailed) receiver input output hands =
     HasBroken form window packets input output
-Receives form window packets (Err end) receiver input output hands = ⊥
+ReceivesCapture form window packets (Err end) receiver input output hands = ⊥
 
 -- how a command ends where its receiver failed
 abbrev pub ending_of : EnterFault → Ending

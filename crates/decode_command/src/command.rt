@@ -1,12 +1,12 @@
 ghost use Rattle.std.specs.Prelude.{◌≡◌, ◌≤◌, ℕ, List, [], None, Some, Ok, Err, OnOk, IfErr};
 ghost use Rattle.link_reception.specs.Entering.{datagram_jobs};
-ghost use Rattle.slice_exchange.specs.Calls.{AreBelow};
+ghost use Rattle.slice_exchange.specs.Calls.{PlacesAreBelow};
 ghost use Rattle.link_receiver.specs.HeardLists.{OutputForm, HasHeard, AskedPlaces, OfferedToPlaces};
 ghost use Rattle.vc_ports.specs.Changes.{changed, input_of, output_of};
 ghost use Rattle.vc_ports.specs.Faults.{HasCause};
 ghost use Rattle.vc_ports.specs.Writing.{Grew, GrewBySome};
 ghost use Rattle.decode_command.specs.Decoding.{TakesCapture, Decodes, Unpacks};
-ghost use Rattle.decode_command.specs.Hearing.{HeardAll, LoopEnded, Receives, Enters, IsBroken, ending_of};
+ghost use Rattle.decode_command.specs.Hearing.{HeardAll, LoopEnded, ReceivesCapture, Enters, IsBroken, ending_of};
 
 use bytes::Bytes;
 use link_capture::{CaptureReader, EntryFault, next_entry};
@@ -134,10 +134,10 @@ fn receive<S: Source, O: Sink, P: Places>(
     output: &mut O,
     places: &mut P,
 ) -> Result<Option<Ending>, Ending>
-    requires below { AreBelow (P.bound places.old) receiver.old.reception.out }
+    requires below { PlacesAreBelow (P.bound places.old) receiver.old.reception.out }
     ensures received { (form : OutputForm) (window : ℕ)
         → HasHeard form receiver.old window []
-        → Receives form window packets result receiver.new
+        → ReceivesCapture form window packets result receiver.new
         (input_of S.left S.faults input.old input.new)
         (output_of O.held O.faults output.old output.new)
         (changed P.told places.old places.new) }
@@ -163,7 +163,7 @@ fn hear<S: Source, O: Sink, P: Places>(
     output: &mut O,
     places: &mut P,
 ) -> Result<Option<Ending>, Ending>
-    requires below { AreBelow (P.bound places.old) receiver.old.reception.out }
+    requires below { PlacesAreBelow (P.bound places.old) receiver.old.reception.out }
     ensures heard { (form : OutputForm) (window : ℕ)
         → HasHeard form receiver.old window []
         → HeardAll form window packets result receiver.new
@@ -175,7 +175,7 @@ fn hear<S: Source, O: Sink, P: Places>(
     ensures output_cause { HasCause (O.faults output.old) (O.faults output.new)
         (result ≡ Err Ending.OutputFailed) }
     ensures told { AskedPlaces (P.told places.old) (P.told places.new) }
-    ensures below { AreBelow (P.bound places.new) receiver.new.reception.out }
+    ensures below { PlacesAreBelow (P.bound places.new) receiver.new.reception.out }
 {
     match hear_entries(alloc, packets, receiver, input, output, places)? {
         Stop::Ended => Ok(None),
@@ -197,7 +197,7 @@ fn hear_entries<S: Source, O: Sink, P: Places>(
     output: &mut O,
     places: &mut P,
 ) -> Result<Stop, Ending>
-    requires below { AreBelow (P.bound places.old) receiver.old.reception.out }
+    requires below { PlacesAreBelow (P.bound places.old) receiver.old.reception.out }
     ensures heard { (form : OutputForm) (window : ℕ)
         → HasHeard form receiver.old window []
         → LoopEnded form window packets result receiver.new
@@ -209,7 +209,7 @@ fn hear_entries<S: Source, O: Sink, P: Places>(
     ensures output_cause { HasCause (O.faults output.old) (O.faults output.new)
         (result ≡ Err Ending.OutputFailed) }
     ensures told { AskedPlaces (P.told places.old) (P.told places.new) }
-    ensures below { AreBelow (P.bound places.new) receiver.new.reception.out }
+    ensures below { PlacesAreBelow (P.bound places.new) receiver.new.reception.out }
 {
     let mut reader = CaptureReader::new(alloc, input);
     hear_with(packets, receiver, &mut reader, output, places)
@@ -222,7 +222,7 @@ fn hear_with<S: Source, O: Sink, P: Places>(
     output: &mut O,
     places: &mut P,
 ) -> Result<Stop, Ending>
-    requires below { AreBelow (P.bound places.old) receiver.old.reception.out }
+    requires below { PlacesAreBelow (P.bound places.old) receiver.old.reception.out }
     requires place { reader.old.place ≡ 0 }
     requires sound { reader.old.fault ≡ None }
     ensures borrows { reader.new.source.ghost_name ≡ reader.old.source.ghost_name }
@@ -237,7 +237,7 @@ fn hear_with<S: Source, O: Sink, P: Places>(
     ensures output_cause { HasCause (O.faults output.old) (O.faults output.new)
         (result ≡ Err Ending.OutputFailed) }
     ensures told { AskedPlaces (P.told places.old) (P.told places.new) }
-    ensures below { AreBelow (P.bound places.new) receiver.new.reception.out }
+    ensures below { PlacesAreBelow (P.bound places.new) receiver.new.reception.out }
 {
     for _entry in 0..packets {
         match next_entry(reader) {
@@ -259,7 +259,7 @@ fn enter<O: Sink, P: Places>(
     output: &mut O,
     places: &mut P,
 ) -> Result<(), Ending>
-    requires below { AreBelow (P.bound places.old) receiver.old.reception.out }
+    requires below { PlacesAreBelow (P.bound places.old) receiver.old.reception.out }
     ensures entered { (form : OutputForm) (window : ℕ) (heard : List (List ℕ))
         → HasHeard form receiver.old window heard
         → Enters form window heard datagram.items receiver.new result
@@ -270,7 +270,7 @@ fn enter<O: Sink, P: Places>(
     ensures told { AskedPlaces (P.told places.old) (P.told places.new) }
     ensures offered { OnOk result (OfferedToPlaces (P.told places.old) (P.told places.new)
         (datagram_jobs receiver.old.reception datagram.items)) }
-    ensures below { AreBelow (P.bound places.new) receiver.new.reception.out }
+    ensures below { PlacesAreBelow (P.bound places.new) receiver.new.reception.out }
 {
     let Ok(datagram) = Bytes::from_vec(datagram) else {
         return Err(Ending::NoMemory);

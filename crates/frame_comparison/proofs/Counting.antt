@@ -2,7 +2,7 @@
 use mir.Val.{bool_byte}
 use Rattle.std.proofs.Common.{◌≡◌, ℕ, zero, suc, ◌+◌, ◌*◌, ◌-◌, ◌≤◌, Bool, true, false, List, [], ◌∷◌, ◌++◌, Option, Some, None, length, refl, sym, ap, ◌∙◌, arith}
 use Rattle.std.specs.Prelude.{◌==◌, not}
-use Rattle.frame_comparison.specs.Counting.{counted_of, counted_with, held_back}
+use Rattle.frame_comparison.specs.Counting.{counted_with_samples, counted_with, held_back}
 use Rattle.frame_comparison.specs.declared.comparison.Comparison.{Comparison}
 use Rattle.frame_comparison.specs.Differences.{different_samples}
 use Rattle.frame_reader.specs.FrameBytes.{samples_of_bytes}
@@ -86,22 +86,22 @@ rest_missing depth z left wide low =
 
 -- ---- a byte is taken
 
-module _ (old new : Comparison) (byte sample : ℕ) (same_width : new.wide ≡ old.wide) (counts : (samples : List ℕ) → counted_of new samples ≡ counted_of old (sample ∷ samples)) (more : List ℕ) where
+module _ (old new : Comparison) (byte sample : ℕ) (same_width : new.wide ≡ old.wide) (counts : (samples : List ℕ) → counted_with_samples new samples ≡ counted_with_samples old (sample ∷ samples)) (more : List ℕ) where
   pub narrow_taken : old.wide ≡ false → new.low ≡ old.low → sample ≡ byte → counted_with new more ≡ counted_with old (byte ∷ more)
   narrow_taken narrow same_low is =
-      ap (λ (w : Bool). counted_of new (samples_of_bytes w (held_back w new.low ++ more))) (same_width ∙ narrow)
+      ap (λ (w : Bool). counted_with_samples new (samples_of_bytes w (held_back w new.low ++ more))) (same_width ∙ narrow)
       ∙ counts (samples_of_bytes false (held_back false new.low ++ more))
-      ∙ ap (λ (s : ℕ). counted_of old (s ∷ samples_of_bytes false (held_back false new.low ++ more))) is
-      ∙ ap (λ (l : Option ℕ). counted_of old (byte ∷ samples_of_bytes false (held_back false l ++ more))) same_low
-      ∙ ap (counted_of old) (sym (narrow_byte old.low byte more))
-      ∙ ap (λ (w : Bool). counted_of old (samples_of_bytes w (held_back w old.low ++ (byte ∷ more)))) (sym narrow)
+      ∙ ap (λ (s : ℕ). counted_with_samples old (s ∷ samples_of_bytes false (held_back false new.low ++ more))) is
+      ∙ ap (λ (l : Option ℕ). counted_with_samples old (byte ∷ samples_of_bytes false (held_back false l ++ more))) same_low
+      ∙ ap (counted_with_samples old) (sym (narrow_byte old.low byte more))
+      ∙ ap (λ (w : Bool). counted_with_samples old (samples_of_bytes w (held_back w old.low ++ (byte ∷ more)))) (sym narrow)
 
   pub wide_taken : (low : ℕ) → old.wide ≡ true → old.low ≡ Some low → new.low ≡ None → sample ≡ low + 256 * byte → counted_with new more ≡ counted_with old (byte ∷ more)
   wide_taken low wide had has is =
-      ap (λ (w : Bool). counted_of new (samples_of_bytes w (held_back w new.low ++ more))) (same_width ∙ wide)
-      ∙ ap (λ (l : Option ℕ). counted_of new (samples_of_bytes true (held_back true l ++ more))) has
+      ap (λ (w : Bool). counted_with_samples new (samples_of_bytes w (held_back w new.low ++ more))) (same_width ∙ wide)
+      ∙ ap (λ (l : Option ℕ). counted_with_samples new (samples_of_bytes true (held_back true l ++ more))) has
       ∙ counts (samples_of_bytes true (held_back true None ++ more))
-      ∙ ap (λ (s : ℕ). counted_of old (s ∷ samples_of_bytes true (held_back true None ++ more))) is
-      ∙ ap (counted_of old) (sym (wide_byte low byte more))
-      ∙ ap (λ (l : Option ℕ). counted_of old (samples_of_bytes true (held_back true l ++ (byte ∷ more)))) (sym had)
-      ∙ ap (λ (w : Bool). counted_of old (samples_of_bytes w (held_back w old.low ++ (byte ∷ more)))) (sym wide)
+      ∙ ap (λ (s : ℕ). counted_with_samples old (s ∷ samples_of_bytes true (held_back true None ++ more))) is
+      ∙ ap (counted_with_samples old) (sym (wide_byte low byte more))
+      ∙ ap (λ (l : Option ℕ). counted_with_samples old (samples_of_bytes true (held_back true l ++ (byte ∷ more)))) (sym had)
+      ∙ ap (λ (w : Bool). counted_with_samples old (samples_of_bytes w (held_back w old.low ++ (byte ∷ more)))) (sym wide)

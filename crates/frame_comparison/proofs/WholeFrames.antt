@@ -8,7 +8,7 @@ use Rattle.frame_comparison.proofs.Counting.{same_samples}
 use Rattle.frame_comparison.proofs.RawSamples.{frames_raw}
 use Rattle.frame_comparison.proofs.SampleBits.{few_luma_bits, same_depth}
 use Rattle.frame_reader.specs.FrameBytes.{samples_of_bytes}
-use Rattle.gen_command.specs.Generating.{generated_bytes, raw_bytes}
+use Rattle.gen_command.specs.Generating.{generated_bytes, raw_bytes_of_frames}
 use Rattle.link_gen.proofs.States.{samples_below}
 use Rattle.link_gen.specs.Defaults.{all_generated, shape_of_frames}
 use Rattle.link_gen.specs.Generator.{frame_samples, generated_samples}
@@ -45,7 +45,7 @@ back false samples all = narrow_back samples
 
 -- ---- the bytes of frames are those of their samples
 
-bytes_of_frames : (shape : Shape) (frames : List Planes) → raw_bytes shape frames ≡ samples_bytes (is_wide shape) (raw_samples frames)
+bytes_of_frames : (shape : Shape) (frames : List Planes) → raw_bytes_of_frames shape frames ≡ samples_bytes (is_wide shape) (raw_samples frames)
 unfolding frame_bytes
 bytes_of_frames shape [] = refl
 bytes_of_frames shape (frame ∷ frames) =

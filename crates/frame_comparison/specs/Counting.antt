@@ -11,10 +11,10 @@ held_back true (Some low) = low ∷ []
 held_back wide low = []
 
 -- where these samples come and no more
-abbrev pub counted_of : Comparison → List ℕ → ℕ
-counted_of c samples =
+abbrev pub counted_with_samples : Comparison → List ℕ → ℕ
+counted_with_samples c samples =
     c.different + different_samples (generated_samples c.depth c.state c.left) samples
 
 -- where these bytes come and no more
 abbrev pub counted_with : Comparison → List ℕ → ℕ
-counted_with c bytes = counted_of c (samples_of_bytes c.wide (held_back c.wide c.low ++ bytes))
+counted_with c bytes = counted_with_samples c (samples_of_bytes c.wide (held_back c.wide c.low ++ bytes))

@@ -1,5 +1,5 @@
 ghost use Rattle.std.specs.Prelude.{◌≡◌, ◌∷◌, ◌++◌, ℕ, List, []};
-ghost use Rattle.frame_comparison.specs.Counting.{counted_of, counted_with};
+ghost use Rattle.frame_comparison.specs.Counting.{counted_with_samples, counted_with};
 ghost use Rattle.frame_comparison.specs.Differences.{differences};
 ghost use Rattle.vc_types.specs.SenderSettings.{generating_view};
 
@@ -61,8 +61,8 @@ impl Comparison {
     fn compare(&mut self, sample: u16)
         ensures wide { self.new.wide ≡ self.old.wide }
         ensures low { self.new.low ≡ self.old.low }
-        ensures counted { (samples : List ℕ) → counted_of self.new samples
-            ≡ counted_of self.old (sample ∷ samples) }
+        ensures counted { (samples : List ℕ) → counted_with_samples self.new samples
+            ≡ counted_with_samples self.old (sample ∷ samples) }
     {
         if self.left == 0 {
             return;

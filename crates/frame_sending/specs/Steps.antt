@@ -58,7 +58,7 @@ FailsAt s sent frame went broke NoMemory = went []
 FailsAt s sent frame went broke ending = ⊥
 
 -- a frame behind these is sent
-pub record IsTaken {F : Type 0}
+pub record FrameIsTaken {F : Type 0}
     (s : Sending) (others : List Planes) (frame : Planes) (new : FrameSender F)
     (went : List (List ℕ) → Type 0)
     : Type 0 where
@@ -69,7 +69,7 @@ pub record IsTaken {F : Type 0}
 abbrev pub TakesFrame : {F : Type 0} → Sending → List Planes → Planes → FrameSender F
     → (List (List ℕ) → Type 0) → (List (List ℕ) → OutletFault → Type 0)
     → Result (Unit {0}) Ending → Type 0
-TakesFrame s sent frame new went broke (Ok done) = IsTaken s sent frame new went
+TakesFrame s sent frame new went broke (Ok done) = FrameIsTaken s sent frame new went
 TakesFrame s sent frame new went broke (Err ending) = FailsAt s sent frame went broke ending
 
 -- ---- the end

@@ -14,12 +14,12 @@ use Rattle.vc_types.specs.RawFrames.{frame_bytes, is_wide}
 use Rattle.vc_types.specs.SenderSettings.{Generating}
 
 -- the raw bytes of frames, one behind the other
-abbrev pub raw_bytes : Shape → List Planes → List ℕ
-raw_bytes shape frames = flat_map (λ frame. frame_bytes frame (is_wide shape)) frames
+abbrev pub raw_bytes_of_frames : Shape → List Planes → List ℕ
+raw_bytes_of_frames shape frames = flat_map (λ frame. frame_bytes frame (is_wide shape)) frames
 
 -- those of all frames that are generated
 abbrev pub generated_bytes : Generating → List ℕ
-generated_bytes g = raw_bytes (shape_of_frames g.frames) (all_generated g)
+generated_bytes g = raw_bytes_of_frames (shape_of_frames g.frames) (all_generated g)
 
 -- how many samples all frames have
 abbrev pub sample_total : Generating → ℕ

@@ -18,8 +18,8 @@ use Rattle.vc_types.specs.SenderSettings.{Sending, sending_view}
 use Rattle.vc_types.specs.SequenceHeader.{picture_shape}
 
 -- the whole bytes of a picture as it is sent: its parameters, and behind them its slices
-abbrev pub picture_bytes : Sending → List ℕ → ℕ → Planes → List ℕ
-picture_bytes s indices picture planes = sent_parameter_bytes s
+abbrev pub sent_picture_bytes : Sending → List ℕ → ℕ → Planes → List ℕ
+sent_picture_bytes s indices picture planes = sent_parameter_bytes s
     ++ joined (sent_slices (sent_parameters s) planes (indices_from s picture indices))
 
 -- A picture at index 0 decodes from its whole bytes to its planes.
@@ -28,7 +28,7 @@ PicturesComeBack = (settings : SendSettings) (indices : List ℕ) (planes : Plan
     → IsPictureToSend (sending_view settings) indices planes
     → IsAtIndexZero (sending_view settings) indices 0
     → decoded_planes (sent_sequence (sending_view settings))
-    (picture_bytes (sending_view settings) indices 0 planes)
+    (sent_picture_bytes (sending_view settings) indices 0 planes)
     ≡ Some planes
 
 -- A picture at index 0, of which all is there in time, is complete, and has the bytes that were
@@ -47,7 +47,7 @@ PicturesAreReceived = (settings : SendSettings) (window : ℕ) (indices : List �
     → IsHeardInTime window (sending_view settings) indices frames datagrams h.session picture
     number
     → whole_picture (sent_sequence (sending_view settings)) (parts_of number (entered_of window h))
-    ≡ Some (picture_bytes (sending_view settings) indices picture planes)
+    ≡ Some (sent_picture_bytes (sending_view settings) indices picture planes)
 
 -- ---- frames
 

@@ -11,7 +11,7 @@ use Rattle.slice_ring.specs.Calls.{Completed, completing_by, completing_job, com
 use Rattle.slice_ring.specs.Calls.{held_in, held_with}
 use Rattle.slice_ring.specs.declared.answers.CompleteRefusal.{CompleteRefusal}
 use Rattle.slice_ring.specs.declared.answers.CompleteRefusal.TheVariants.{Other}
-use Rattle.slice_ring.specs.Jobs.{job_of}
+use Rattle.slice_jobs.specs.Jobs.{job_of}
 use Rattle.vc_slice.specs.declared.done.SliceDone.{SliceDone}
 use Rattle.vc_types.specs.SameValues.{same_parameters}
 use Rattle.vc_types.proofs.SameValues.{parameters_exactly}

@@ -14,7 +14,7 @@ use Rattle.vc_types.specs.TransformParameters.{Parameters}
 use Rattle.vc_types.specs.declared.shape.Shape.{Shape}
 use Rattle.vc_types.specs.declared.video.Component.{Component}
 use Rattle.vc_types.specs.declared.video.Component.TheVariants.{Y, C1, C2}
-use Rattle.link_core.specs.Shapes.{HaveShape}
+use Rattle.frame_writer.specs.Shapes.{HaveShape}
 
 below_byte : (depth sample : ℕ) → depth ≤ 8 → sample < 2 ^ depth → sample < 256
 below_byte depth sample narrow h = omega (arith, pow_mono narrow)

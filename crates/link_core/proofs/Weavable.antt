@@ -14,7 +14,7 @@ use Rattle.vc_types.specs.Video.{side_fits, sampling_fits, dimensions_fit, pictu
 use Rattle.vc_types.specs.declared.video.Sampling.{Sampling}
 use Rattle.vc_types.specs.declared.video.Sampling.TheVariants.{S444, S422, S420}
 use Rattle.vc_types.proofs.PictureShapes.{side_is}
-use Rattle.link_core.specs.Shapes.{HaveShape}
+use Rattle.frame_writer.specs.Shapes.{HaveShape}
 
 -- ---- heights of fields
 

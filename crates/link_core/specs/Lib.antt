@@ -3,4 +3,3 @@ pub mod Cores
 pub mod Hearing
 pub mod Pictures
 pub mod Frames
-pub mod Shapes

@@ -4,7 +4,7 @@ ghost use Rattle.std.specs.Option.{option_copied, option_map};
 ghost use Rattle.link_core.specs.Pictures.{slice_answer, book_ready};
 ghost use Rattle.link_model.specs.Feeders.{answer_in};
 ghost use Rattle.link_model.specs.Feeding.{sound_answer};
-ghost use Rattle.slice_ring.specs.Jobs.{done_of};
+ghost use Rattle.slice_jobs.specs.Jobs.{answered};
 
 use link_window::PictureBook;
 use std::alloc::Global;
@@ -52,7 +52,7 @@ fn copied_answer(
 
 impl KeptAnswer {
     pub(crate) fn of(done: SliceDone) -> KeptAnswer
-        ensures { result ≡ slice_answer (done_of done) }
+        ensures { result ≡ slice_answer (answered done) }
     {
         KeptAnswer {
             number: done.job.number,
@@ -62,7 +62,7 @@ impl KeptAnswer {
     }
 
     pub(crate) fn copy_of(alloc: Global, done: &SliceDone) -> Result<KeptAnswer, NoMemory>
-        ensures { IfOk result (λ kept. kept ≡ slice_answer (done_of done.now)) }
+        ensures { IfOk result (λ kept. kept ≡ slice_answer (answered done.now)) }
     {
         Ok(KeptAnswer {
             number: done.job.number,

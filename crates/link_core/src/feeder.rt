@@ -9,14 +9,14 @@ ghost use Rattle.link_model.specs.Interleavings.{AreOwnAnswers};
 ghost use Rattle.link_model.specs.Machine.{has_answers};
 ghost use Rattle.link_model.specs.Places.{Job, own_answer};
 ghost use Rattle.link_model.specs.Session.{sessions_of};
-ghost use Rattle.slice_ring.specs.Jobs.{job_of, done_of};
+ghost use Rattle.slice_jobs.specs.Jobs.{job_of, answered};
 
 use crate::answers::{KeptAnswer, answer_in, is_ready};
 use crate::frames::frame_bytes;
 use crate::pictures::{book_of_picture, is_closed_in, kept_job, next_in};
 use crate::session::{OpenSession, heard_sessions, session_of_picture};
 use bytes::Bytes;
-use slice_ring::same_job;
+use slice_jobs::same_job;
 use std::alloc::Global;
 use std::marker::Model;
 use vc_slice::{SliceDone, SliceJob, decode};
@@ -203,7 +203,7 @@ impl FeederPart {
     ) -> Result<(), NoMemory>
         requires least { 2 ≤ window }
         requires most { window ≤ 8 }
-        ensures taken { OnOk result (self.new ≡ takes_answer window self.old (done_of done.now)) }
+        ensures taken { OnOk result (self.new ≡ takes_answer window self.old (answered done.now)) }
         ensures unchanged { OnErr result (self.new ≡ self.old) }
     {
         if !self.has_job(alloc, window, &done.job)? {

@@ -9,7 +9,7 @@ ghost use Rattle.link_model.specs.Machine as machine;
 ghost use Rattle.link_model.specs.Machine.{new_machine};
 ghost use Rattle.link_model.specs.Places.{completes_job, frees_place, is_in, place_at};
 ghost use Rattle.link_model.specs.declared.place_state.PlaceState.TheVariants as states;
-ghost use Rattle.slice_ring.specs.Jobs.{job_of};
+ghost use Rattle.slice_jobs.specs.Jobs.{job_of};
 
 use crate::event::{Event, StepRefusal};
 use crate::feeder::FeederPart;

@@ -7,7 +7,7 @@ ghost use Rattle.link_model.specs.Feeders.{let_go_pictures, not_released};
 ghost use Rattle.link_model.specs.Output as output;
 ghost use Rattle.link_model.specs.Places.{Job};
 ghost use Rattle.link_model.specs.Session.{HeardSession};
-ghost use Rattle.slice_ring.specs.Jobs.{job_of};
+ghost use Rattle.slice_jobs.specs.Jobs.{job_of};
 
 use crate::session::{OpenSession, session_of_picture};
 use link_window::PictureBook;

@@ -16,7 +16,7 @@ use Rattle.link_receiver.proofs.Stays.{AreAskedOrIn, one_asked, all_asked, asked
 use Rattle.link_receiver.specs.Exchanged.{IsExchanged}
 use Rattle.link_receiver.specs.Offers.{AreOffersOf, IsOfferOf, MayOffer, proposed_in, asked_in, asked_at, are_asked, is_asked}
 use Rattle.slice_exchange.specs.Calls.{PlaceCall, exchanges_of}
-use Rattle.slice_exchange.specs.Jobs.{job_of}
+use Rattle.slice_jobs.specs.Jobs.{job_of}
 use Rattle.vc_slice.specs.Asked.{Told}
 use Rattle.vc_slice.specs.declared.job.SliceJob.{SliceJob}
 use Rattle.vc_types.specs.declared.memory.NoMemory.{NoMemory}

@@ -23,7 +23,7 @@ use Rattle.link_receiver.specs.Offers.{AreOffersOf, proposed_in, are_asked}
 use Rattle.link_receiver.specs.States.{IsRunning, WaitsForSecond, GoesOn}
 use Rattle.slice_exchange.proofs.Growing.{grows_twice}
 use Rattle.slice_exchange.specs.Calls.{PlaceCall, told_of, exchanges_of, freeing}
-use Rattle.slice_exchange.specs.Jobs.{job_of}
+use Rattle.slice_jobs.specs.Jobs.{job_of}
 use Rattle.unit_release.specs.Outputs.{all_released_output, stream_behind_all, datagram_output, stream_behind_datagram, end_output, stream_end}
 use Rattle.unit_release.specs.Receiving.{stream_takes, datagram_units, opens_stream_for, stream_takes_end, end_units}
 use Rattle.unit_release.specs.Writing.{WrittenStream}

@@ -11,7 +11,7 @@ use Rattle.link_reception.specs.Receptions.{Reception, keeps_answer}
 use Rattle.link_reception.specs.Standing.{AreDecodings}
 use Rattle.slice_exchange.proofs.Growing.{grows_twice, grows_none}
 use Rattle.slice_exchange.specs.Calls.{PlaceCall, Puts, Takes, told_by, told_of, exchange_by, exchanges_of}
-use Rattle.slice_exchange.specs.Jobs.{job_of, answered}
+use Rattle.slice_jobs.specs.Jobs.{job_of, answered}
 use Rattle.vc_slice.specs.Asked.{Told, told_more, Grows, one_offer, taking}
 use Rattle.vc_slice.specs.declared.done.SliceDone.{SliceDone}
 use Rattle.vc_slice.specs.declared.job.SliceJob.{SliceJob}

@@ -10,7 +10,7 @@ use Rattle.link_reception.specs.Offered.{HasJobs}
 use Rattle.link_receiver.specs.HeardLists.{told_jobs}
 use Rattle.link_receiver.specs.Offers.{AreOffersOf, IsOfferOf, proposed_in}
 use Rattle.slice_exchange.specs.Calls.{PlaceCall, Puts, Takes, told_of, exchanges_of, freeing}
-use Rattle.slice_exchange.specs.Jobs.{job_of}
+use Rattle.slice_jobs.specs.Jobs.{job_of}
 use Rattle.vc_slice.specs.Asked.{told_more}
 
 or_left : (a b : Bool) → a ≡ true → (a || b) ≡ true

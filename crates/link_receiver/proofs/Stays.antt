@@ -12,7 +12,7 @@ use Rattle.link_reception.specs.Receptions.{SliceOut, Reception, keeps_answer}
 use Rattle.slice_exchange.specs.Calls.{out_exchanged}
 use Rattle.std.proofs.lemmas.Option.{slice_get_past}
 use Rattle.std.specs.Option.{option_map, option_map_or}
-use Rattle.slice_exchange.specs.Calls.{AreBelow}
+use Rattle.slice_exchange.specs.Calls.{PlacesAreBelow}
 use Rattle.std.specs.Prelude.{slice_get}
 use Rattle.link_receiver.specs.Offers.{asked_by, asked_in, asked_at, is_asked, are_asked, proposed_in}
 
@@ -297,7 +297,7 @@ asked_got out i place e = by_item (slice_get out i) e
     by_item None e = absurd (cc)
     by_item (Some x) e = ap (λ (p : ℕ). p ∷ []) (cc)
 
-pub below_got : (bound : ℕ) (out : List SliceOut) (i place : ℕ) → AreBelow bound out
+pub below_got : (bound : ℕ) (out : List SliceOut) (i place : ℕ) → PlacesAreBelow bound out
     → option_map (λ (slice : SliceOut). slice.place) (slice_get out i) ≡ Some place
     → place < bound
 below_got bound [] i place h e = absurd (cc)

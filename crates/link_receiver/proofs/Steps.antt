@@ -14,7 +14,7 @@ use Rattle.link_receiver.specs.Exchanged.{IsExchanged}
 use Rattle.link_receiver.specs.Offers.{proposed_in}
 use Rattle.slice_answers.specs.Completing.{IsWholeIfAny, IsWholeBySome}
 use Rattle.slice_exchange.specs.Calls.{PlaceCall, Puts, Takes, exchanges_of, out_exchanged, handed_back}
-use Rattle.slice_exchange.specs.Jobs.{job_of, answered}
+use Rattle.slice_jobs.specs.Jobs.{job_of, answered}
 use Rattle.link_receiver.specs.Shown.{shown_bytes, stream_behind_shown}
 use Rattle.unit_release.specs.Outputs.{released_output, stream_behind_picture}
 use Rattle.unit_release.specs.Writing.{WrittenStream}

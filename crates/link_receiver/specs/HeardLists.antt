@@ -9,7 +9,7 @@ use Rattle.link_reception.specs.Offered.{HasJobs}
 use Rattle.link_reception.specs.Standing.{StandsFor}
 use Rattle.link_receiver.specs.States.{ReceiverState}
 use Rattle.link_stream.specs.Streams.{stream_so_far, stream_of}
-use Rattle.slice_exchange.specs.Jobs.{job_of}
+use Rattle.slice_jobs.specs.Jobs.{job_of}
 use Rattle.unit_release.specs.Standing.{StreamsFor}
 use Rattle.unit_release.specs.Writing.{WrittenStream}
 use Rattle.vc_slice.specs.Asked.{Told, Grows}

@@ -6,13 +6,13 @@ use Rattle.link_reception.specs.Entering.{jobs_before}
 use Rattle.link_reception.specs.Judging.{opens_after, outcome_by, stands_on}
 use Rattle.link_reception.specs.Receptions.{StandingSession}
 use Rattle.link_session.specs.Openings.{session_of}
-use Rattle.slice_exchange.specs.Jobs.{job_of}
+use Rattle.slice_jobs.specs.Jobs.{job_of}
 use Rattle.link_receiver.specs.States.{IsRunning}
 use Rattle.link_receiver.specs.declared.kept.Kept.{Kept}
 
 -- the session behind the datagram, its outcome, the jobs that it brings and the session that it
 -- opens
-pub record IsKept (old new : Option StandingSession) (datagram : List ℕ) (kept : Kept)
+pub record DatagramIsKept (old new : Option StandingSession) (datagram : List ℕ) (kept : Kept)
     : Type 0 where
   pub standing : new
       ≡ option_map (λ st. stands_on (opens_after old (begins datagram)) st datagram) old

@@ -8,8 +8,8 @@ ghost use Rattle.link_receiver.specs.HeardLists.{AskedPlaces};
 ghost use Rattle.link_receiver.specs.Offers.{AreOffersOf, IsOfferOf, MayOffer, proposed_in};
 ghost use Rattle.link_receiver.specs.Offers.{are_asked};
 ghost use Rattle.link_receiver.specs.Offers.{asked_in, asked_at};
-ghost use Rattle.slice_exchange.specs.Calls.{PlaceCall, AreBelow, exchanges_of};
-ghost use Rattle.slice_exchange.specs.Jobs.{job_of, answered};
+ghost use Rattle.slice_exchange.specs.Calls.{PlaceCall, PlacesAreBelow, exchanges_of};
+ghost use Rattle.slice_jobs.specs.Jobs.{job_of, answered};
 ghost use Rattle.link_window.specs.Views.{releasable_of};
 
 use crate::reception::Reception;
@@ -25,7 +25,7 @@ impl Reception {
         jobs: &[SliceJob],
         places: &mut P,
     ) -> Result<(), NoMemory>
-        requires below { AreBelow (P.bound places.old) self.old.out }
+        requires below { PlacesAreBelow (P.bound places.old) self.old.out }
         ensures exchanged { OnOk result ((calls : List PlaceCall)
             × IsExchanged (P.told places.old) (P.told places.new) self.old self.new calls
             × AreOffersOf (map job_of jobs.now) (proposed_in (exchanges_of calls))
@@ -33,7 +33,7 @@ impl Reception {
             → are_asked self.old.out (exchanges_of calls) ≡ true)) }
         ensures asked { AskedPlaces (P.told places.old) (P.told places.new) }
         ensures bound { P.bound places.new ≡ P.bound places.old }
-        ensures below { AreBelow (P.bound places.new) self.new.out }
+        ensures below { PlacesAreBelow (P.bound places.new) self.new.out }
     {
         self.offer_all(jobs, places)?;
         self.take_back(places)
@@ -42,7 +42,7 @@ impl Reception {
     /// Takes back what is decoded, if a picture may be released.
     #[tactic(auto, using(crate::proofs::Asked::asked_none))]
     pub(crate) fn take_back<P: Places>(&mut self, places: &mut P) -> Result<(), NoMemory>
-        requires below { AreBelow (P.bound places.old) self.old.out }
+        requires below { PlacesAreBelow (P.bound places.old) self.old.out }
         ensures exchanged { OnOk result ((calls : List PlaceCall)
             × IsExchanged (P.told places.old) (P.told places.new) self.old self.new calls
             × (proposed_in (exchanges_of calls) ≡ [])
@@ -50,7 +50,7 @@ impl Reception {
             → are_asked self.old.out (exchanges_of calls) ≡ true)) }
         ensures asked { AskedPlaces (P.told places.old) (P.told places.new) }
         ensures bound { P.bound places.new ≡ P.bound places.old }
-        ensures below { AreBelow (P.bound places.new) self.new.out }
+        ensures below { PlacesAreBelow (P.bound places.new) self.new.out }
     {
         let Some(_next) = self.next_release() else {
             return Ok(());
@@ -60,13 +60,13 @@ impl Reception {
     }
 
     fn offer_all<P: Places>(&mut self, jobs: &[SliceJob], places: &mut P) -> Result<(), NoMemory>
-        requires below { AreBelow (P.bound places.old) self.old.out }
+        requires below { PlacesAreBelow (P.bound places.old) self.old.out }
         ensures exchanged { OnOk result ((calls : List PlaceCall)
             × IsExchanged (P.told places.old) (P.told places.new) self.old self.new calls
             × AreOffersOf (map job_of jobs.now) (proposed_in (exchanges_of calls))) }
         ensures asked { AskedPlaces (P.told places.old) (P.told places.new) }
         ensures bound { P.bound places.new ≡ P.bound places.old }
-        ensures below { AreBelow (P.bound places.new) self.new.out }
+        ensures below { PlacesAreBelow (P.bound places.new) self.new.out }
     {
         let mut may_come = true;
         for job in jobs {
@@ -84,13 +84,13 @@ impl Reception {
         may_come: bool,
         places: &mut P,
     ) -> Result<bool, NoMemory>
-        requires below { AreBelow (P.bound places.old) self.old.out }
+        requires below { PlacesAreBelow (P.bound places.old) self.old.out }
         ensures exchanged { OnOk result ((calls : List PlaceCall)
             × IsExchanged (P.told places.old) (P.told places.new) self.old self.new calls
             × IsOfferOf (job_of job) (proposed_in (exchanges_of calls))) }
         ensures asked { AskedPlaces (P.told places.old) (P.told places.new) }
         ensures bound { P.bound places.new ≡ P.bound places.old }
-        ensures below { AreBelow (P.bound places.new) self.new.out }
+        ensures below { PlacesAreBelow (P.bound places.new) self.new.out }
     {
         let Some(job) = self.put(job, places)? else {
             return Ok(may_come);
@@ -103,13 +103,13 @@ impl Reception {
 
     // Asks each place, and offers a job if something came back. Answers whether something came.
     fn offer_again<P: Places>(&mut self, job: SliceJob, places: &mut P) -> Result<bool, NoMemory>
-        requires below { AreBelow (P.bound places.old) self.old.out }
+        requires below { PlacesAreBelow (P.bound places.old) self.old.out }
         ensures exchanged { OnOk result ((calls : List PlaceCall)
             × IsExchanged (P.told places.old) (P.told places.new) self.old self.new calls
             × MayOffer (job_of job) (proposed_in (exchanges_of calls))) }
         ensures asked { AskedPlaces (P.told places.old) (P.told places.new) }
         ensures bound { P.bound places.new ≡ P.bound places.old }
-        ensures below { AreBelow (P.bound places.new) self.new.out }
+        ensures below { PlacesAreBelow (P.bound places.new) self.new.out }
     {
         if !self.ask_all(places)? {
             return Ok(false);
@@ -124,28 +124,28 @@ impl Reception {
         job: SliceJob,
         places: &mut P,
     ) -> Result<Option<SliceJob>, NoMemory>
-        requires below { AreBelow (P.bound places.old) self.old.out }
+        requires below { PlacesAreBelow (P.bound places.old) self.old.out }
         ensures exchanged { OnOk result ((calls : List PlaceCall)
             × IsExchanged (P.told places.old) (P.told places.new) self.old self.new calls
             × (proposed_in (exchanges_of calls) ≡ job_of job ∷ [])) }
         ensures back { IfOk result (λ back. IfSome back (λ same. same ≡ job)) }
         ensures asked { AskedPlaces (P.told places.old) (P.told places.new) }
         ensures bound { P.bound places.new ≡ P.bound places.old }
-        ensures below { AreBelow (P.bound places.new) self.new.out }
+        ensures below { PlacesAreBelow (P.bound places.new) self.new.out }
     {
         self.out.offer(job, places)
     }
 
     // Asks the place of each slice that is out. Answers whether something came back.
     fn ask_all<P: Places>(&mut self, places: &mut P) -> Result<bool, NoMemory>
-        requires below { AreBelow (P.bound places.old) self.old.out }
+        requires below { PlacesAreBelow (P.bound places.old) self.old.out }
         ensures exchanged { OnOk result ((calls : List PlaceCall)
             × IsExchanged (P.told places.old) (P.told places.new) self.old self.new calls
             × (proposed_in (exchanges_of calls) ≡ [])
             × (are_asked self.old.out (exchanges_of calls) ≡ true)) }
         ensures asked { AskedPlaces (P.told places.old) (P.told places.new) }
         ensures bound { P.bound places.new ≡ P.bound places.old }
-        ensures below { AreBelow (P.bound places.new) self.new.out }
+        ensures below { PlacesAreBelow (P.bound places.new) self.new.out }
     {
         let mut came = false;
         for i in (0..self.out_count()).rev() {
@@ -162,14 +162,14 @@ impl Reception {
 
     // Asks the place of the `i`th slice that is out, if there are so many.
     fn ask<P: Places>(&mut self, i: usize, places: &mut P) -> Result<bool, NoMemory>
-        requires below { AreBelow (P.bound places.old) self.old.out }
+        requires below { PlacesAreBelow (P.bound places.old) self.old.out }
         ensures exchanged { OnOk result ((calls : List PlaceCall)
             × IsExchanged (P.told places.old) (P.told places.new) self.old self.new calls
             × (proposed_in (exchanges_of calls) ≡ [])
             × (asked_in (exchanges_of calls) ≡ asked_at self.old.out i)) }
         ensures asked { AskedPlaces (P.told places.old) (P.told places.new) }
         ensures bound { P.bound places.new ≡ P.bound places.old }
-        ensures below { AreBelow (P.bound places.new) self.new.out }
+        ensures below { PlacesAreBelow (P.bound places.new) self.new.out }
     {
         if i >= self.out.count() {
             return Ok(false);

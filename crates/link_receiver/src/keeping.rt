@@ -2,7 +2,7 @@ ghost use Rattle.std.specs.Prelude.{◌≡◌, ◌<◌, ◌-◌, ◌^◌, ℕ, L
 ghost use Rattle.std.specs.Option.{option_map};
 ghost use Rattle.link_reception.specs.Entering.{greatest_in};
 ghost use Rattle.link_reception.specs.Judging.{is_over};
-ghost use Rattle.link_receiver.specs.Keeping.{IsKept};
+ghost use Rattle.link_receiver.specs.Keeping.{DatagramIsKept};
 ghost use Rattle.link_receiver.specs.States.{IsRunning};
 ghost use Rattle.link_session.specs.Hearing.{IsHeard, OpensSession, BringsFragment, EndsSession};
 ghost use Rattle.link_session.specs.Hearing.{ChangesNothing};
@@ -21,7 +21,7 @@ pub(crate) fn keep_heard(
     requires heard { (datagram : List ℕ) × IsHeard standing.old datagram heard }
     requires running { IsRunning standing.old }
     ensures { (datagram : List ℕ) → IsHeard standing.old datagram heard
-        → IfOk result (IsKept standing.old standing.new datagram) }
+        → IfOk result (DatagramIsKept standing.old standing.new datagram) }
 {
     match heard {
         Heard::Opens(opening) => Ok(close_for(alloc, standing, opening)),
@@ -38,7 +38,7 @@ pub(crate) fn keep_heard(
 // The pictures of the session that stands are closed, since another is opened.
 fn close_for(alloc: Global, standing: &mut Option<Standing>, opening: Opening) -> Kept
     ensures { (datagram : List ℕ) → OpensSession standing.old datagram opening
-        → IsKept standing.old standing.new datagram result }
+        → DatagramIsKept standing.old standing.new datagram result }
 {
     close(standing);
     Kept {
@@ -61,7 +61,7 @@ fn bring(standing: &mut Option<Standing>, fragment: Fragment) -> Result<Kept, No
     requires heard { (datagram : List ℕ) × BringsFragment standing.old datagram fragment }
     requires running { IsRunning standing.old }
     ensures { (datagram : List ℕ) → BringsFragment standing.old datagram fragment
-        → IfOk result (IsKept standing.old standing.new datagram) }
+        → IfOk result (DatagramIsKept standing.old standing.new datagram) }
 {
     let Some(standing) = standing else {
         unreachable!()
@@ -77,7 +77,7 @@ fn bring(standing: &mut Option<Standing>, fragment: Fragment) -> Result<Kept, No
 fn end(alloc: Global, standing: &mut Option<Standing>) -> Kept
     requires { IsRunning standing.old }
     ensures { (datagram : List ℕ) → EndsSession standing.old datagram
-        → IsKept standing.old standing.new datagram result }
+        → DatagramIsKept standing.old standing.new datagram result }
 {
     if let Some(standing) = standing {
         standing.end();

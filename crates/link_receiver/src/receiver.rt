@@ -10,7 +10,7 @@ ghost use Rattle.link_receiver.specs.HeardLists.{OutputForm, AsFrames, AsUnits};
 ghost use Rattle.link_receiver.specs.HeardLists.{newly_due, still_due};
 ghost use Rattle.link_receiver.specs.States.{has_stopped};
 ghost use Rattle.link_receiver.specs.declared.fault.EnterFault.{EnterFault};
-ghost use Rattle.slice_exchange.specs.Calls.{PlaceCall, AreBelow};
+ghost use Rattle.slice_exchange.specs.Calls.{PlaceCall, PlacesAreBelow};
 ghost use Rattle.unit_release.specs.Outputs.{datagram_output, end_output};
 ghost use Rattle.unit_release.specs.Writing.{nothing_written};
 ghost use Rattle.vc_ports.specs.Faults.{HasCause};
@@ -111,7 +111,7 @@ impl Receiver {
         places: &mut P,
         sink: &mut O,
     ) -> Result<Outcome, EnterFault>
-        requires below { AreBelow (P.bound places.old) self.old.reception.out }
+        requires below { PlacesAreBelow (P.bound places.old) self.old.reception.out }
         ensures entered { IfOk result (λ outcome. (calls : List PlaceCall) × IsEntered
             (record {
               told_before = P.told places.old;
@@ -134,7 +134,7 @@ impl Receiver {
             (result ≡ Err EnterFault.WriteFault) }
         ensures asked { AskedPlaces (P.told places.old) (P.told places.new) }
         ensures bound { P.bound places.new ≡ P.bound places.old }
-        ensures below { AreBelow (P.bound places.new) self.new.reception.out }
+        ensures below { PlacesAreBelow (P.bound places.new) self.new.reception.out }
         // By a list of datagrams that it has heard.
         ensures judged { (form : OutputForm) (size : ℕ) (datagrams : List (List ℕ))
             → HasHeard form self.old size datagrams
@@ -163,7 +163,7 @@ impl Receiver {
         places: &mut P,
         sink: &mut O,
     ) -> Result<Outcome, EnterFault>
-        requires below { AreBelow (P.bound places.old) self.old.reception.out }
+        requires below { PlacesAreBelow (P.bound places.old) self.old.reception.out }
         ensures entered { IfOk result (λ outcome. (calls : List PlaceCall) × IsEntered
             (record {
               told_before = P.told places.old;
@@ -186,7 +186,7 @@ impl Receiver {
             (result ≡ Err EnterFault.WriteFault) }
         ensures asked { AskedPlaces (P.told places.old) (P.told places.new) }
         ensures bound { P.bound places.new ≡ P.bound places.old }
-        ensures below { AreBelow (P.bound places.new) self.new.reception.out }
+        ensures below { PlacesAreBelow (P.bound places.new) self.new.reception.out }
     {
         if self.has_failed || self.reception.has_ended() {
             return Err(EnterFault::Ended);
@@ -212,7 +212,7 @@ impl Receiver {
         places: &mut P,
         sink: &mut O,
     ) -> Result<(), EnterFault>
-        requires below { AreBelow (P.bound places.old) self.old.reception.out }
+        requires below { PlacesAreBelow (P.bound places.old) self.old.reception.out }
         ensures drained { OnOk result ((calls : List PlaceCall) × IsDrained
             (record {
               told_before = P.told places.old;
@@ -234,7 +234,7 @@ impl Receiver {
             (result ≡ Err EnterFault.WriteFault) }
         ensures asked { AskedPlaces (P.told places.old) (P.told places.new) }
         ensures bound { P.bound places.new ≡ P.bound places.old }
-        ensures below { AreBelow (P.bound places.new) self.new.reception.out }
+        ensures below { PlacesAreBelow (P.bound places.new) self.new.reception.out }
         // By a list of datagrams that it has heard.
         ensures wrote { (form : OutputForm) (size : ℕ) (datagrams : List (List ℕ))
             → HasHeard form self.old size datagrams
@@ -257,7 +257,7 @@ impl Receiver {
         places: &mut P,
         sink: &mut O,
     ) -> Result<(), EnterFault>
-        requires below { AreBelow (P.bound places.old) self.old.reception.out }
+        requires below { PlacesAreBelow (P.bound places.old) self.old.reception.out }
         ensures drained { OnOk result ((calls : List PlaceCall) × IsDrained
             (record {
               told_before = P.told places.old;
@@ -279,7 +279,7 @@ impl Receiver {
             (result ≡ Err EnterFault.WriteFault) }
         ensures asked { AskedPlaces (P.told places.old) (P.told places.new) }
         ensures bound { P.bound places.new ≡ P.bound places.old }
-        ensures below { AreBelow (P.bound places.new) self.new.reception.out }
+        ensures below { PlacesAreBelow (P.bound places.new) self.new.reception.out }
     {
         if self.has_failed || self.reception.has_ended() {
             return Err(EnterFault::Ended);

@@ -5,7 +5,7 @@ ghost use Rattle.link_reception.specs.Judging.{judged, keeps_datagram, session_o
 ghost use Rattle.link_reception.specs.Receptions.{new_reception};
 ghost use Rattle.link_receiver.specs.States.{IsRunning};
 ghost use Rattle.link_session.specs.Openings.{session_of};
-ghost use Rattle.slice_exchange.specs.Jobs.{job_of};
+ghost use Rattle.slice_jobs.specs.Jobs.{job_of};
 
 use crate::counting::{with_outcome, with_unpaired};
 use crate::keeping::{close, greatest, keep_heard};

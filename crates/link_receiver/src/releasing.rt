@@ -10,7 +10,7 @@ ghost use Rattle.link_receiver.specs.Freeing.{all_freed_places};
 ghost use Rattle.link_receiver.specs.States.{WaitsForSecond};
 ghost use Rattle.link_receiver.specs.declared.fault.StepFault.{StepFault};
 ghost use Rattle.link_window.specs.Views.{releasable_of};
-ghost use Rattle.slice_exchange.specs.Calls.{AreBelow, freeing};
+ghost use Rattle.slice_exchange.specs.Calls.{PlacesAreBelow, freeing};
 ghost use Rattle.unit_release.specs.Outputs.{released_output, stream_behind_picture};
 ghost use Rattle.unit_release.specs.Outputs.{all_released_output, stream_behind_all};
 ghost use Rattle.vc_ports.specs.Faults.{HasCause};
@@ -38,7 +38,7 @@ impl Reception {
         sink: &mut O,
     ) -> Result<(), StepFault>
         requires waiting { WaitsForSecond self.old.standing self.old.field }
-        requires below { AreBelow (P.bound places.old) self.old.out }
+        requires below { PlacesAreBelow (P.bound places.old) self.old.out }
         ensures value { OnOk result (self.new ≡ releases_all self.old) }
         ensures stream { OnOk result (stream.new ≡ stream_behind_all stream.old self.old) }
         ensures told { OnOk result (Grows (P.told places.old) (P.told places.new)
@@ -52,7 +52,7 @@ impl Reception {
             (result ≡ Err StepFault.WriteFault) }
         ensures asked { AskedPlaces (P.told places.old) (P.told places.new) }
         ensures bound { P.bound places.new ≡ P.bound places.old }
-        ensures below { AreBelow (P.bound places.new) self.new.out }
+        ensures below { PlacesAreBelow (P.bound places.new) self.new.out }
     {
         for _ in 0..self.open_pictures() {
             let Some(picture) = self.next_release() else {
@@ -82,7 +82,7 @@ impl Reception {
     ) -> Result<(), StepFault>
         requires next { next_picture self.old ≡ Some (releasable_of picture) }
         requires waiting { WaitsForSecond self.old.standing self.old.field }
-        requires below { AreBelow (P.bound places.old) self.old.out }
+        requires below { PlacesAreBelow (P.bound places.old) self.old.out }
         ensures value { OnOk result (self.new
             ≡ releases_picture_of self.old (releasable_of picture)) }
         ensures stream { OnOk result (stream.new
@@ -98,7 +98,7 @@ impl Reception {
             (result ≡ Err StepFault.WriteFault) }
         ensures asked { AskedPlaces (P.told places.old) (P.told places.new) }
         ensures bound { P.bound places.new ≡ P.bound places.old }
-        ensures below { AreBelow (P.bound places.new) self.new.out }
+        ensures below { PlacesAreBelow (P.bound places.new) self.new.out }
     {
         let Some(standing) = &mut self.standing else {
             unreachable!()

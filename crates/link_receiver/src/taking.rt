@@ -7,7 +7,7 @@ ghost use Rattle.link_receiver.specs.HeardLists.{AskedPlaces};
 ghost use Rattle.link_receiver.specs.States.{GoesOn, WaitsForSecond};
 ghost use Rattle.link_receiver.specs.declared.fault.StepFault.{StepFault};
 ghost use Rattle.link_session.specs.Openings.{session_of};
-ghost use Rattle.slice_exchange.specs.Calls.{PlaceCall, AreBelow};
+ghost use Rattle.slice_exchange.specs.Calls.{PlaceCall, PlacesAreBelow};
 ghost use Rattle.unit_release.specs.Outputs.{datagram_output, end_output, stream_end};
 ghost use Rattle.unit_release.specs.Receiving.{opens_stream_for};
 ghost use Rattle.vc_ports.specs.Faults.{HasCause};
@@ -34,7 +34,7 @@ impl Reception {
         sink: &mut O,
     ) -> Result<Outcome, StepFault>
         requires goes_on { GoesOn self.old }
-        requires below { AreBelow (P.bound places.old) self.old.out }
+        requires below { PlacesAreBelow (P.bound places.old) self.old.out }
         ensures entered { IfOk result (λ outcome. (calls : List PlaceCall) × IsEntered
             (record {
               told_before = P.told places.old;
@@ -54,7 +54,7 @@ impl Reception {
             (result ≡ Err StepFault.WriteFault) }
         ensures asked { AskedPlaces (P.told places.old) (P.told places.new) }
         ensures bound { P.bound places.new ≡ P.bound places.old }
-        ensures below { AreBelow (P.bound places.new) self.new.out }
+        ensures below { PlacesAreBelow (P.bound places.new) self.new.out }
     {
         let is_first = self.is_idle();
         let kept = self.keep(datagram)?;
@@ -73,7 +73,7 @@ impl Reception {
         sink: &mut O,
     ) -> Result<(), StepFault>
         requires waiting { WaitsForSecond self.old.standing self.old.field }
-        requires below { AreBelow (P.bound places.old) self.old.out }
+        requires below { PlacesAreBelow (P.bound places.old) self.old.out }
         ensures drained { OnOk result ((calls : List PlaceCall) × IsDrained
             (record {
               told_before = P.told places.old;
@@ -92,7 +92,7 @@ impl Reception {
             (result ≡ Err StepFault.WriteFault) }
         ensures asked { AskedPlaces (P.told places.old) (P.told places.new) }
         ensures bound { P.bound places.new ≡ P.bound places.old }
-        ensures below { AreBelow (P.bound places.new) self.new.out }
+        ensures below { PlacesAreBelow (P.bound places.new) self.new.out }
     {
         self.end_input();
         self.take_back(places)?;

@@ -3,7 +3,7 @@ mod offers;
 mod wrong_answers;
 
 ghost use Rattle.std.specs.Prelude.{◌≡◌};
-ghost use Rattle.slice_exchange.specs.Calls.{AreBelow};
+ghost use Rattle.slice_exchange.specs.Calls.{PlacesAreBelow};
 
 use crate::{EnterFault, Outcome, Receiver};
 use bytes::Bytes;
@@ -91,9 +91,9 @@ fn has_outcome<P: Places>(
     sink: &mut MemSink,
     outcome: Outcome,
 ) -> bool
-    requires { AreBelow (P.bound places.old) receiver.old.reception.out }
+    requires { PlacesAreBelow (P.bound places.old) receiver.old.reception.out }
     ensures bound { P.bound places.new ≡ P.bound places.old }
-    ensures below { AreBelow (P.bound places.new) receiver.new.reception.out }
+    ensures below { PlacesAreBelow (P.bound places.new) receiver.new.reception.out }
 {
     receiver.enter(datagram, places, sink) == Ok(outcome)
 }

@@ -19,7 +19,7 @@ use Rattle.link_sender.specs.declared.refusal.SendRefusal.{SendRefusal}
 use Rattle.link_sender.specs.declared.refusal.SendRefusal.TheVariants as sender
 use Rattle.link_sender.specs.Packing.{bytes_of_all}
 use Rattle.link_sender.specs.Refusals.{SaysFault, of_slices}
-use Rattle.link_sender.specs.Sent.{AreEncoded, ArePictures, IsPicture, IsRefused, IsSent, Numbers, OneIsTooLarge, coded_frame_outgoing, coded_outgoing, coded_pictures_outgoing, numbers_behind, pictures_in}
+use Rattle.link_sender.specs.Sent.{AreEncoded, ArePictures, IsPicture, IsRefused, IsSent, Numbers, OneIsTooLarge, coded_frame_outgoing, coded_outgoing, coded_pictures_outgoing, numbers_behind, slices_by_picture}
 use Rattle.link_sender.proofs.SampleFaults.{none_rest, says_first, says_rest}
 use Rattle.picture_encode.specs.declared.refusal.SliceRefusal.{SliceRefusal}
 use Rattle.picture_encode.specs.declared.refusal.SliceRefusal.TheVariants.{SliceTooLarge, NoMemory}
@@ -181,11 +181,11 @@ module _ (choice : Chooses) (wanted : Bool) (s : Sending) where
       by_fields true is = rw is refl
       by_fields false is = rw is refl
 
-  module _ (frame : Planes) (coded : FrameSlices) (are : AreEncoded choice wanted s (pictures_of s frame) (pictures_in coded)) where
+  module _ (frame : Planes) (coded : FrameSlices) (are : AreEncoded choice wanted s (pictures_of s frame) (slices_by_picture coded)) where
     pub are_pictures : ArePictures s coded
     are_pictures = record {
-      many = AllZip-long (λ planes slices. AreFirstSlices choice wanted s planes count slices) (pictures_of s frame) (pictures_in coded) are ∙ how_many_pictures frame;
-      each = each_picture (pictures_of s frame) (pictures_in coded) are;
+      many = AllZip-long (λ planes slices. AreFirstSlices choice wanted s planes count slices) (pictures_of s frame) (slices_by_picture coded) are ∙ how_many_pictures frame;
+      each = each_picture (pictures_of s frame) (slices_by_picture coded) are;
     }
 
     pub is_sent : (old new : Numbers) (datagrams : List Datagram) → first_sample_fault s frame ≡ None
@@ -193,7 +193,7 @@ module _ (choice : Chooses) (wanted : Bool) (s : Sending) where
         → new ≡ numbers_behind s old (length datagrams) → IsSent choice wanted s frame old new datagrams
     unfolding frame_needs frame_datagrams send_fault
     is_sent old new datagrams samples sent behind =
-        let all = all_answered (pictures_of s frame) (pictures_in coded) are in
+        let all = all_answered (pictures_of s frame) (slices_by_picture coded) are in
         record {
           indices = all.indices;
           answers = all.answers;

@@ -17,7 +17,7 @@ use Rattle.link_sender.specs.declared.encoding.FrameSlices.{FrameSlices}
 use Rattle.link_sender.specs.declared.outbox.Outbox.{Outbox}
 use Rattle.link_sender.specs.declared.runs.OpenRun.{OpenRun}
 use Rattle.link_sender.specs.Packing.{ArePacked, HasSlices, Sends, bytes_of_all, picture_at, run_of, runs_outgoing}
-use Rattle.link_sender.specs.Sent.{IsPicture, coded_frame_outgoing, coded_outgoing, coded_pictures_outgoing, pictures_in, second_pictures}
+use Rattle.link_sender.specs.Sent.{IsPicture, coded_frame_outgoing, coded_outgoing, coded_pictures_outgoing, slices_by_picture, second_pictures}
 use Rattle.link_sender.proofs.Numbered.{sends_more}
 use Rattle.link_sender.proofs.Packed.{all_packed}
 use Rattle.picture_encode.specs.declared.slices.EncodedSlice.{EncodedSlice}
@@ -63,10 +63,10 @@ whole_packed s picture (slice ∷ behind) first x y run some room sized packed s
 -- ---- pictures
 
 module _ (s : Sending) (coded : FrameSlices) where
-  pub first_is : (slices : List EncodedSlice) → slices ≡ coded.first.items → All (IsPicture s) (pictures_in coded) → IsPicture s slices
+  pub first_is : (slices : List EncodedSlice) → slices ≡ coded.first.items → All (IsPicture s) (slices_by_picture coded) → IsPicture s slices
   first_is slices is each = subst (λ (l : List EncodedSlice). IsPicture s l) (sym is) (All-head (IsPicture s) coded.first.items (second_pictures coded.second) each)
 
-  pub second_is : (second : Vec EncodedSlice) (slices : List EncodedSlice) → coded.second ≡ Some second → slices ≡ second.items → All (IsPicture s) (pictures_in coded) → IsPicture s slices
+  pub second_is : (second : Vec EncodedSlice) (slices : List EncodedSlice) → coded.second ≡ Some second → slices ≡ second.items → All (IsPicture s) (slices_by_picture coded) → IsPicture s slices
   second_is second slices some is each =
       let rest = All-tail (IsPicture s) coded.first.items (second_pictures coded.second) each in
       let own : All (IsPicture s) (second.items ∷ []) = subst (λ (o : Option (Vec EncodedSlice)). All (IsPicture s) (second_pictures o)) some rest in

@@ -25,8 +25,8 @@ abbrev pub second_pictures : Option (Vec EncodedSlice) → List (List EncodedSli
 second_pictures None = []
 second_pictures (Some slices) = slices.items ∷ []
 
-abbrev pub pictures_in : FrameSlices → List (List EncodedSlice)
-pictures_in e = e.first.items ∷ second_pictures e.second
+abbrev pub slices_by_picture : FrameSlices → List (List EncodedSlice)
+slices_by_picture e = e.first.items ∷ second_pictures e.second
 
 -- pictures were encoded, each at answers on the needs of all its slices
 abbrev pub AreEncoded : Chooses → Bool → Sending → List Planes → List (List EncodedSlice) → Type 0
@@ -49,7 +49,7 @@ pub record OneIsTooLarge (choice : Chooses) (wanted : Bool) (s : Sending) (pictu
 abbrev pub EncodesFrame : Chooses → Bool → Sending → Planes → Result FrameSlices SliceRefusal
     → Type 0
 EncodesFrame choice wanted s frame (Ok coded) =
-    AreEncoded choice wanted s (pictures_of s frame) (pictures_in coded)
+    AreEncoded choice wanted s (pictures_of s frame) (slices_by_picture coded)
 EncodesFrame choice wanted s frame (Err e) =
     OneIsTooLarge choice wanted s (pictures_of s frame) e
 
@@ -61,8 +61,8 @@ pub record IsPicture (s : Sending) (slices : List EncodedSlice) : Type 0 where
   pub sized : All (IsSized s) (slice_bytes slices)
 
 pub record ArePictures (s : Sending) (coded : FrameSlices) : Type 0 where
-  pub many : length (pictures_in coded) ≡ pictures_per_frame s
-  pub each : All (IsPicture s) (pictures_in coded)
+  pub many : length (slices_by_picture coded) ≡ pictures_per_frame s
+  pub each : All (IsPicture s) (slices_by_picture coded)
 
 -- what is sent of a picture that has these slices
 abbrev pub coded_outgoing : Sending → ℕ → List (List ℕ) → List Outgoing
@@ -80,7 +80,7 @@ coded_pictures_outgoing s picture (slices ∷ pictures) =
 -- of frame f
 abbrev pub coded_frame_outgoing : Sending → ℕ → FrameSlices → List Outgoing
 coded_frame_outgoing s f coded =
-    coded_pictures_outgoing s (f * pictures_per_frame s) (pictures_in coded)
+    coded_pictures_outgoing s (f * pictures_per_frame s) (slices_by_picture coded)
 
 -- ---- a frame
 

@@ -1,4 +1,3 @@
-pub mod Jobs
 pub mod Openings
 pub mod Hearing
 pub mod Pasts

@@ -5,7 +5,7 @@ ghost use Rattle.std.specs.Option.{option_copied, option_map, option_map_or};
 ghost use Rattle.link_model.specs.Feeding.{is_same_job};
 ghost use Rattle.link_reception.specs.Exchanging.{book_job, numbers_in};
 ghost use Rattle.link_reception.specs.WholeBooks.{IsWholeBook};
-ghost use Rattle.link_session.specs.Jobs.{job_of};
+ghost use Rattle.slice_jobs.specs.Jobs.{job_of};
 ghost use Rattle.link_session.specs.Missing.{is_missing, missing_in, numbers_between};
 ghost use Rattle.link_session.specs.Missing.{part_range, run_range};
 ghost use Rattle.link_gather.specs.Views.{slice_part_of};

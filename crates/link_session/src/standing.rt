@@ -9,7 +9,7 @@ ghost use Rattle.link_model.specs.Windows.{window_enters};
 ghost use Rattle.link_reception.specs.Exchanging.{offered_jobs, unreleased_job};
 ghost use Rattle.link_reception.specs.Judging.{is_over};
 ghost use Rattle.link_reception.specs.WholeBooks.{IsWholeBook};
-ghost use Rattle.link_session.specs.Jobs.{job_of};
+ghost use Rattle.slice_jobs.specs.Jobs.{job_of};
 ghost use Rattle.link_session.specs.Missing.{jobs_by};
 ghost use Rattle.link_session.specs.Openings.{session_of};
 ghost use Rattle.link_window.specs.Views.{sent_fragment, releasable_of};

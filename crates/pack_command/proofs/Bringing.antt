@@ -18,7 +18,7 @@ use Rattle.pack_command.specs.Steps.{EndsSlices, IsPackedBehind, PacksBody, of_r
 use Rattle.pack_command.specs.Views.{IsBehindPictures, counts_after}
 use Rattle.link_sender.specs.declared.datagram.Datagram.{Datagram}
 use Rattle.picture_pack.specs.State.{IsPacked, PackCounts, counts_behind, counts_of}
-use Rattle.picture_pack.specs.Views.{picture_of}
+use Rattle.picture_pack.specs.Views.{packed_picture_of}
 use Rattle.vc_types.specs.SenderSettings.{Packing, packing_view}
 use Rattle.vc_types.specs.SequenceHeader.{sequence_of}
 use Rattle.vc_types.specs.Subbands.{slice_count}
@@ -150,14 +150,14 @@ module _ (s : Packing) (t : PackStream) (body : List ℕ) (o : Opened) (was : Is
 
     module _ (n : ℕ) (ends : EndsSlices p behind (Some n)) (number : ℕ) (number_is : number ≡ big_number 4 body) (header slices : List ℕ) (header_is : header ≡ o.coded.items) (slices_are : slices ≡ take n behind) where
       abbrev picture : PackedPicture
-      picture = picture_of number p header params slices
+      picture = packed_picture_of number p header params slices
 
       read_picture : picture_to_pack t body ≡ Some picture
       read_picture =
           let whole = subst (λ (l : List ℕ). next_slices p (slice_count p) l ≡ Ok (slices_in p (take n behind), drop n behind)) behind_is ends.1 in
           let coded = header_is ∙ was.header_is in
           whole_picture t body long p used (told (Ok (p, used)) exact) (slices_in p (take n behind)) (drop n behind) whole
-          ∙ sym (λ i. Some (picture_of (number_is i) p (coded i) (params_are i) (slices_are i)))
+          ∙ sym (λ i. Some (packed_picture_of (number_is i) p (coded i) (params_are i) (slices_are i)))
 
       pub packs_picture_of : (new : Opened) (datagrams : Vec Datagram) → IsPacked (packing_view o.packer.settings) picture (counts_of o.packer) (counts_of new.packer) datagrams
           → o.pictures < 2 ^ 32 → new.header ≡ o.header → new.coded.items ≡ o.coded.items → new.packer.settings ≡ o.packer.settings → new.pictures ≡ o.pictures + 1

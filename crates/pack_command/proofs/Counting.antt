@@ -7,12 +7,12 @@ use Rattle.pack_command.specs.Counted.{counted_in_64}
 use Rattle.link_sender.specs.declared.datagram.Datagram.{Datagram}
 use Rattle.link_sender.specs.Packing.{bytes_of_all}
 use Rattle.pack_command.specs.declared.totals.Totals.{Totals}
-use Rattle.pack_command.specs.Counted.{totals_of, totals_with}
+use Rattle.pack_command.specs.Counted.{packed_totals, packed_totals_with}
 
 sum-append : (xs ys : List (List ℕ)) → bytes_in (xs ++ ys) ≡ bytes_in xs + bytes_in ys
 sum-append xs ys = sum_by-append length xs ys
 
-pub totals-append : (t : Totals) (xs ys : List (List ℕ)) → totals_with (totals_with t xs) ys ≡ totals_with t (xs ++ ys)
+pub totals-append : (t : Totals) (xs ys : List (List ℕ)) → packed_totals_with (packed_totals_with t xs) ys ≡ packed_totals_with t (xs ++ ys)
 totals-append t xs ys = λ i. record { datagrams = datagrams i; bytes = bytes i }
   where
     datagrams : counted_in_64 (counted_in_64 (t.datagrams + length xs) + length ys) ≡ counted_in_64 (t.datagrams + length (xs ++ ys))
@@ -21,7 +21,7 @@ totals-append t xs ys = λ i. record { datagrams = datagrams i; bytes = bytes i 
     bytes : counted_in_64 (counted_in_64 (t.bytes + bytes_in xs) + bytes_in ys) ≡ counted_in_64 (t.bytes + bytes_in (xs ++ ys))
     bytes = let sum = sum-append xs ys in omega (arith, sum)
 
-pub totals_are : (xs ys : List (List ℕ)) → totals_with (totals_of xs) ys ≡ totals_of (xs ++ ys)
+pub totals_are : (xs ys : List (List ℕ)) → packed_totals_with (packed_totals xs) ys ≡ packed_totals (xs ++ ys)
 totals_are xs ys = λ i. record { datagrams = datagrams i; bytes = bytes i }
   where
     datagrams : counted_in_64 (counted_in_64 (length xs) + length ys) ≡ counted_in_64 (length (xs ++ ys))
@@ -30,10 +30,10 @@ totals_are xs ys = λ i. record { datagrams = datagrams i; bytes = bytes i }
     bytes : counted_in_64 (counted_in_64 (bytes_in xs) + bytes_in ys) ≡ counted_in_64 (bytes_in (xs ++ ys))
     bytes = let sum = sum-append xs ys in omega (arith, sum)
 
-pub total_more : (datagrams : List Datagram) (i : ℕ) (one : Datagram) → take (i + 1) datagrams ≡ take i datagrams ++ one ∷ [] → (old now new : Totals) → now ≡ totals_with old (bytes_of_all (take i datagrams)) → new ≡ totals_with now (one.bytes.items ∷ []) → new ≡ totals_with old (bytes_of_all (take (i + 1) datagrams))
+pub total_more : (datagrams : List Datagram) (i : ℕ) (one : Datagram) → take (i + 1) datagrams ≡ take i datagrams ++ one ∷ [] → (old now new : Totals) → now ≡ packed_totals_with old (bytes_of_all (take i datagrams)) → new ≡ packed_totals_with now (one.bytes.items ∷ []) → new ≡ packed_totals_with old (bytes_of_all (take (i + 1) datagrams))
 total_more datagrams i one more old now new is step =
     let bytes_more : bytes_of_all (take (i + 1) datagrams) ≡ bytes_of_all (take i datagrams) ++ one.bytes.items ∷ [] = ap bytes_of_all more ∙ map-append (λ (d : Datagram). d.bytes.items) (take i datagrams) (one ∷ []) in
     step
-    ∙ ap (λ (t : Totals). totals_with t (one.bytes.items ∷ [])) is
+    ∙ ap (λ (t : Totals). packed_totals_with t (one.bytes.items ∷ [])) is
     ∙ totals-append old (bytes_of_all (take i datagrams)) (one.bytes.items ∷ [])
-    ∙ ap (totals_with old) (sym bytes_more)
+    ∙ ap (packed_totals_with old) (sym bytes_more)

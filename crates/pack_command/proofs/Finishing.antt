@@ -9,7 +9,7 @@ use Rattle.link_stream.specs.Packing.{datagram_around}
 use Rattle.pack_command.specs.declared.opened.Opened.{Opened}
 use Rattle.pack_command.specs.declared.stream.StreamPacker.{StreamPacker}
 use Rattle.pack_command.specs.declared.totals.Totals.{Totals}
-use Rattle.pack_command.specs.Counted.{totals_of, totals_with}
+use Rattle.pack_command.specs.Counted.{packed_totals, packed_totals_with}
 use Rattle.pack_command.specs.Steps.{CouldNotFinish, HasFinished}
 use Rattle.pack_command.specs.Views.{IsBehindPictures, IsBehindUnits, IsOpened, counts_after}
 use Rattle.pack_command.proofs.Starting.{counts_none}
@@ -35,15 +35,15 @@ module _ (s : Packing) (stream : Option PackStream) where
       ∙ end_wrapped own (timestamp_behind own 0 0 (pictures_packed stream)) (at % 2 ^ 32) at wraps
 
   module _ (before after : Option (List ℕ)) (end : List ℕ) (due : end ≡ end_packed s stream) where
-    totals_whole : (old new : Totals) → old ≡ totals_of (stream_packed s stream) → new ≡ totals_with old (end ∷ []) → new ≡ totals_of (whole_packed s stream)
+    totals_whole : (old new : Totals) → old ≡ packed_totals (stream_packed s stream) → new ≡ packed_totals_with old (end ∷ []) → new ≡ packed_totals (whole_packed s stream)
     totals_whole old new is step =
         step
-        ∙ ap (λ (t : Totals). totals_with t (end ∷ [])) is
+        ∙ ap (λ (t : Totals). packed_totals_with t (end ∷ [])) is
         ∙ totals_are (stream_packed s stream) (end ∷ [])
-        ∙ ap (λ (l : List ℕ). totals_of (stream_packed s stream ++ l ∷ [])) due
-        ∙ ap totals_of (sym (whole_is s stream))
+        ∙ ap (λ (l : List ℕ). packed_totals (stream_packed s stream ++ l ∷ [])) due
+        ∙ ap packed_totals (sym (whole_is s stream))
 
-    pub has_finished : (old new : Totals) (pictures : ℕ) → old ≡ totals_of (stream_packed s stream) → new ≡ totals_with old (end ∷ []) → pictures ≡ length (pictures_packed stream)
+    pub has_finished : (old new : Totals) (pictures : ℕ) → old ≡ packed_totals (stream_packed s stream) → new ≡ packed_totals_with old (end ∷ []) → pictures ≡ length (pictures_packed stream)
         → Grew before after (capture_of (end ∷ [])) → HasFinished s stream before after pictures new.datagrams new.bytes
     has_finished old new pictures is step counted grew =
         let totals = totals_whole old new is step in
@@ -68,7 +68,7 @@ module _ (s : Packing) (stream : Option PackStream) where
 pub record Ends (s : Packing) (stream : Option PackStream) (pictures : ℕ) (end : List ℕ) (totals : Totals) : Type 0 where
   pub counted : pictures ≡ length (pictures_packed stream)
   pub due : end ≡ end_packed s stream
-  pub totals_are : totals ≡ totals_of (stream_packed s stream)
+  pub totals_are : totals ≡ packed_totals (stream_packed s stream)
 
 pub ends_some : (s : Packing) (stream : Option PackStream) (old : StreamPacker) (o : Opened) → IsBehindUnits s stream old → old.stream ≡ Some o
     → (new : PackCounts) (end : Datagram) → EndsPacking (packing_view o.packer.settings) (counts_of o.packer) new end

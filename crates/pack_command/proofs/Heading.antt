@@ -3,7 +3,7 @@ use Rattle.std.proofs.Common.{◌≡◌, ℕ, Bool, true, cond, List, take, [], 
 use Rattle.link_stream.specs.Packed.{BadUnit, PackStream, packs_header, settings_for}
 use Rattle.pack_command.specs.declared.opened.Opened.{Opened}
 use Rattle.pack_command.specs.declared.stream.StreamPacker.{StreamPacker}
-use Rattle.pack_command.specs.Counted.{totals_of}
+use Rattle.pack_command.specs.Counted.{packed_totals}
 use Rattle.pack_command.specs.Views.{IsBehindPictures, IsBehindUnits, IsOpened}
 use Rattle.pack_command.proofs.SoFarPacked.{header_same}
 use Rattle.pack_command.proofs.Starting.{counts_none}
@@ -40,7 +40,7 @@ first_header s None old was is body read used found new o settings opened totals
           counts_are = counts ∙ ap (λ (n : ℕ). record { pictures = 0; sequence = n; timestamp = 0 }) seq ∙ counts_none (settings_for s (Some t)) was.seq_fits;
           pictures_are = pictures;
         });
-        totals_are = totals ∙ was.totals_are ∙ ap totals_of (sym (header_same s None body (coded_header body) (Some t) next));
+        totals_are = totals ∙ was.totals_are ∙ ap packed_totals (sym (header_same s None body (coded_header body) (Some t) next));
       },
     )
 first_header s (Some t) old was is body read used found new o settings opened totals header coded packer counts pictures = absurd (subst (IsOpened s (Some t)) is was.opened)
@@ -68,6 +68,6 @@ next_header s (Some t) old kept was is body read used found same new o settings 
           counts_are = ap counts_of packer ∙ behind.counts_are;
           pictures_are = pictures ∙ behind.pictures_are;
         });
-        totals_are = totals ∙ was.totals_are ∙ ap totals_of (sym (header_same s (Some t) body (coded_header body) (Some u) next));
+        totals_are = totals ∙ was.totals_are ∙ ap packed_totals (sym (header_same s (Some t) body (coded_header body) (Some u) next));
       },
     )

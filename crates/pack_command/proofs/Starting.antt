@@ -4,13 +4,13 @@ use Rattle.link_stream.specs.Packed.{settings_for, stream_packed}
 use Rattle.link_stream.specs.Packing.{packed_datagrams}
 use Rattle.link_stream.proofs.PackedMore.{none_behind, none_packed}
 use Rattle.pack_command.specs.declared.totals.Totals.{Totals}
-use Rattle.pack_command.specs.Counted.{totals_of}
+use Rattle.pack_command.specs.Counted.{packed_totals}
 use Rattle.pack_command.specs.Views.{counts_after}
 use Rattle.picture_pack.specs.State.{PackCounts}
 use Rattle.vc_types.specs.SenderSettings.{Packing}
 
-pub totals_none : (s : Packing) → ◌≡◌ {A = Totals} (record { datagrams = 0; bytes = 0 }) (totals_of (stream_packed s None))
-totals_none s = ap totals_of (sym (none_packed (settings_for s None)))
+pub totals_none : (s : Packing) → ◌≡◌ {A = Totals} (record { datagrams = 0; bytes = 0 }) (packed_totals (stream_packed s None))
+totals_none s = ap packed_totals (sym (none_packed (settings_for s None)))
 
 pub counts_none : (s : Packing) → s.seq < 2 ^ 32 → ◌≡◌ {A = PackCounts} (record { pictures = 0; sequence = s.seq; timestamp = 0 }) (counts_after s [])
 counts_none s small = λ i. record { pictures = 0; sequence = number i; timestamp = sym (none_behind s) i }

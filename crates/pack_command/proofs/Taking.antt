@@ -9,7 +9,7 @@ use Rattle.pack_command.specs.declared.fault.UnitRefusal.{UnitRefusal}
 use Rattle.pack_command.specs.declared.fault.UnitRefusal.TheVariants as refusals
 use Rattle.pack_command.specs.declared.opened.Opened.{Opened}
 use Rattle.pack_command.specs.declared.stream.StreamPacker.{StreamPacker}
-use Rattle.pack_command.specs.Counted.{totals_of, totals_with}
+use Rattle.pack_command.specs.Counted.{packed_totals, packed_totals_with}
 use Rattle.pack_command.specs.Steps.{BringsUnit, IsPackedBehind, PacksBody, TakesHeader, TakesUnit, next_packed}
 use Rattle.pack_command.specs.Views.{IsBehindPictures, IsBehindUnits, IsOpened}
 use Rattle.pack_command.proofs.Counting.{totals_are}
@@ -76,7 +76,7 @@ module _ (s : Packing) (t : PackStream) (u : DataUnit) (code : u.code ≡ 0xE8) 
 
   module _ (before after : Option (List ℕ)) where
     pub takes_written : (o : Opened) (datagrams : Vec Datagram) (old new : StreamPacker) → (p : IsPackedBehind s t u.body o datagrams) → IsBehindUnits s (Some t) old
-        → new.settings ≡ old.settings → new.stream ≡ Some o → new.totals ≡ totals_with old.totals (bytes_of_all datagrams.items)
+        → new.settings ≡ old.settings → new.stream ≡ Some o → new.totals ≡ packed_totals_with old.totals (bytes_of_all datagrams.items)
         → Grew before after (capture_of (bytes_of_all datagrams.items)) → TakesUnit s (Some t) u new before after (Ok tt)
     unfolding brings_picture
     takes_written o datagrams old new p was settings opened totals grew = (
@@ -87,9 +87,9 @@ module _ (s : Packing) (t : PackStream) (u : DataUnit) (code : u.code ≡ 0xE8) 
         opened = subst (IsOpened s (Some (with_packed t p.picture))) (sym opened) p.behind;
         totals_are =
             totals
-            ∙ (λ i. totals_with (was.totals_are i) (p.datagrams_are i))
+            ∙ (λ i. packed_totals_with (was.totals_are i) (p.datagrams_are i))
             ∙ totals_are (stream_packed s (Some t)) (next_packed s t p.picture)
-            ∙ ap totals_of (sym (picture_more s t p.picture));
+            ∙ ap packed_totals (sym (picture_more s t p.picture));
       },
       subst (λ (l : List (List ℕ)). Grew before after (capture_of l)) p.datagrams_are grew,
     )
@@ -123,7 +123,7 @@ module _ (s : Packing) (stream : Option PackStream) (u : DataUnit) (old new : St
     takes_unput grew =
         subst (λ (t : Option PackStream). TakesUnit s t u new before after (Err refusals.WriteFault)) (sym behind.1) (takes_unwritten s behind.0 u code before after o′ datagrams new (packs behind.0 behind.2) grew)
 
-    pub takes_packed : new.settings ≡ old.settings → new.stream ≡ Some o′ → new.totals ≡ totals_with old.totals (bytes_of_all datagrams.items)
+    pub takes_packed : new.settings ≡ old.settings → new.stream ≡ Some o′ → new.totals ≡ packed_totals_with old.totals (bytes_of_all datagrams.items)
         → Grew before after (capture_of (bytes_of_all datagrams.items)) → TakesUnit s stream u new before after (Ok tt)
     takes_packed settings opened totals grew =
         subst (λ (t : Option PackStream). TakesUnit s t u new before after (Ok tt)) (sym behind.1)

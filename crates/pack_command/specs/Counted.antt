@@ -8,15 +8,15 @@ abbrev pub counted_in_64 : ℕ → ℕ
 counted_in_64 count = min count (2 ^ 64 - 1)
 
 -- the totals with more datagrams
-abbrev pub totals_with : Totals → List (List ℕ) → Totals
-totals_with t datagrams = record {
+abbrev pub packed_totals_with : Totals → List (List ℕ) → Totals
+packed_totals_with t datagrams = record {
   datagrams = counted_in_64 (t.datagrams + length datagrams);
   bytes = counted_in_64 (t.bytes + bytes_in datagrams);
 }
 
 -- the totals of these
-abbrev pub totals_of : List (List ℕ) → Totals
-totals_of datagrams = record {
+abbrev pub packed_totals : List (List ℕ) → Totals
+packed_totals datagrams = record {
   datagrams = counted_in_64 (length datagrams);
   bytes = counted_in_64 (bytes_in datagrams);
 }

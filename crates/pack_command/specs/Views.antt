@@ -1,6 +1,6 @@
 -- What code keeps of a stream, as plain data.
 use Rattle.std.specs.Prelude.{◌≡◌, ◌<◌, ◌≤◌, ◌+◌, ◌%◌, ◌^◌, ℕ, List, length, Option, Some, None, IfSome}
-use Rattle.pack_command.specs.Counted.{totals_of}
+use Rattle.pack_command.specs.Counted.{packed_totals}
 use Rattle.link_stream.specs.Packed.{PackStream, settings_for, stream_packed}
 use Rattle.link_stream.specs.Packing.{PackedPicture, packed_datagrams, timestamp_behind}
 use Rattle.pack_command.specs.declared.opened.Opened.{Opened}
@@ -36,7 +36,7 @@ pub record IsBehindUnits (s : Packing) (stream : Option PackStream) (p : StreamP
   pub settings_are : packing_view p.settings ≡ s
   pub seq_fits : s.seq < 2 ^ 32
   pub opened : IsOpened s stream p.stream
-  pub totals_are : p.totals ≡ totals_of (stream_packed s stream)
+  pub totals_are : p.totals ≡ packed_totals (stream_packed s stream)
 
 -- so many pictures at most were packed
 abbrev pub CountsFew : ℕ → StreamPacker → Type 0

@@ -1,6 +1,6 @@
 ghost use Rattle.std.specs.Prelude.{◌≡◌, OnOk, OnErr, IsErr};
 ghost use Rattle.datagram_outlet.specs.Outlets.{capture_of};
-ghost use Rattle.pack_command.specs.Counted.{totals_with};
+ghost use Rattle.pack_command.specs.Counted.{packed_totals_with};
 ghost use Rattle.link_sender.specs.Packing.{bytes_of_all};
 ghost use Rattle.vc_ports.specs.Faults.{HasCause};
 ghost use Rattle.vc_ports.specs.Writing.{Grew, GrewBySome};
@@ -29,7 +29,7 @@ impl Totals {
             (capture_of (bytes_of_all datagrams.now))) }
         ensures cause { HasCause (O.faults output.old) (O.faults output.new) (IsErr result) }
         ensures totals { OnOk result
-            (self.new ≡ totals_with self.old (bytes_of_all datagrams.now)) }
+            (self.new ≡ packed_totals_with self.old (bytes_of_all datagrams.now)) }
     {
         for datagram in datagrams {
             match put_entry(output, &datagram.bytes) {

@@ -7,7 +7,7 @@ use Rattle.link_stream.specs.Packing.{contents_from, first_large_part, packed_co
 use Rattle.link_stream.proofs.Contents.{how_many}
 use Rattle.picture_pack.specs.declared.outbox.Outbox.{Outbox}
 use Rattle.picture_pack.specs.declared.picture.Picture.{Picture}
-use Rattle.picture_pack.specs.Puts.{Puts}
+use Rattle.picture_pack.specs.Puts.{PutsDatagrams}
 use Rattle.picture_pack.specs.State.{IsPacked, PackCounts}
 use Rattle.picture_pack.specs.Views.{packed_view}
 use Rattle.vc_types.specs.SenderSettings.{Packing, packing_view}
@@ -25,7 +25,7 @@ module _ (p : Picture) (x y : Outbox) (pictures time : ℕ) where
   abbrev new : PackCounts
   new = record { pictures = (pictures + 1) % 2 ^ 64; sequence = y.sequence; timestamp = p.timestamp }
 
-  pub is_packed : first_large_part s (packed_view p) ≡ None → Puts p (packed_contents s (packed_view p)) x y → x.datagrams.items ≡ [] → p.timestamp ≡ packed_timestamp s pictures p.number → IsPacked s (packed_view p) old new y.datagrams
+  pub is_packed : first_large_part s (packed_view p) ≡ None → PutsDatagrams p (packed_contents s (packed_view p)) x y → x.datagrams.items ≡ [] → p.timestamp ≡ packed_timestamp s pictures p.number → IsPacked s (packed_view p) old new y.datagrams
   is_packed fits puts none stamped =
       let are : bytes_of_all y.datagrams.items ≡ contents p.timestamp = puts.datagrams_are ∙ ap (λ (l : List Datagram). bytes_of_all l ++ contents p.timestamp) none in
       let many : length y.datagrams.items ≡ length (packed_contents s (packed_view p)) =

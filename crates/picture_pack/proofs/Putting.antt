@@ -8,7 +8,7 @@ use Rattle.link_stream.proofs.Contents.{appended, no_datagram, one_datagram, wra
 use Rattle.picture_pack.specs.declared.outbox.Outbox.{Outbox}
 use Rattle.picture_pack.specs.declared.picture.Picture.{Picture}
 use Rattle.link_sender.specs.Packing.{bytes_of_all}
-use Rattle.picture_pack.specs.Puts.{Puts}
+use Rattle.picture_pack.specs.Puts.{PutsDatagrams}
 use Rattle.picture_pack.specs.Views.{packed_view}
 use Rattle.vc_types.specs.SenderSettings.{packing_view}
 
@@ -16,13 +16,13 @@ module _ (p : Picture) where
   abbrev from : ℕ → List DatagramContent → List (List ℕ)
   from n cs = contents_from (packing_view p.settings) p.timestamp (packed_view p) n cs
 
-  pub puts_none : (x : Outbox) → x.sequence < 2 ^ 32 → Puts p [] x x
+  pub puts_none : (x : Outbox) → x.sequence < 2 ^ 32 → PutsDatagrams p [] x x
   puts_none x small = record {
     datagrams_are = sym (append-nil (bytes_of_all x.datagrams.items)) ∙ ap (λ l. bytes_of_all x.datagrams.items ++ l) (sym (no_datagram (packing_view p.settings) p.timestamp (packed_view p) x.sequence));
     sequence_is = omega (arith, small);
   }
 
-  pub puts_more : (a b : List DatagramContent) (x y z : Outbox) → Puts p a x y → Puts p b y z → Puts p (a ++ b) x z
+  pub puts_more : (a b : List DatagramContent) (x y z : Outbox) → PutsDatagrams p a x y → PutsDatagrams p b y z → PutsDatagrams p (a ++ b) x z
   puts_more a b x y z first second =
       let long = length-append a b in
       let sequence : y.sequence % 2 ^ 32 ≡ (x.sequence + length a) % 2 ^ 32 = omega (arith, first.sequence_is) in
@@ -38,7 +38,7 @@ module _ (p : Picture) where
 
   pub puts_one : (c : DatagramContent) (x y : Outbox) (marker : Bool) (value : PayloadValue) → marker ≡ ends_picture (packed_view p).parameters c → value ≡ packed_value (packing_view p.settings) (packed_view p) x.sequence c
       → bytes_of_all y.datagrams.items ≡ bytes_of_all x.datagrams.items ++ datagram_around (packing_view p.settings) x.sequence p.timestamp marker value ∷ []
-      → y.sequence ≡ (x.sequence + 1) % 2 ^ 32 → Puts p (c ∷ []) x y
+      → y.sequence ≡ (x.sequence + 1) % 2 ^ 32 → PutsDatagrams p (c ∷ []) x y
   puts_one c x y marker value marked carried put sequence = record {
     datagrams_are =
         put

@@ -9,7 +9,7 @@ use Rattle.link_stream.specs.Packing.{first_large_slice, slices_room}
 use Rattle.picture_pack.specs.declared.outbox.Outbox.{Outbox}
 use Rattle.picture_pack.specs.declared.picture.Picture.{Picture}
 use Rattle.picture_pack.specs.declared.runs.OpenRun.{OpenRun}
-use Rattle.picture_pack.specs.Puts.{Puts}
+use Rattle.picture_pack.specs.Puts.{PutsDatagrams}
 use Rattle.picture_pack.specs.Runs.{EndsRun, HoldsSlices, PacksSlices, first_run, run_with_slices}
 use Rattle.picture_pack.proofs.Putting.{puts_none, puts_more}
 use Rattle.picture_pack.proofs.Rooms.{first_fits}
@@ -93,7 +93,7 @@ module _ (p : Picture) where
           }
 
       -- there was none, and the run was put
-      pub another_run : (y : Outbox) → room < length run.body.items + length slice → ((left : List (List ℕ)) → HoldsSlices run left → Puts p (SlicesContent (run_with_slices run left) ∷ []) x y)
+      pub another_run : (y : Outbox) → room < length run.body.items + length slice → ((left : List (List ℕ)) → HoldsSlices run left → PutsDatagrams p (SlicesContent (run_with_slices run left) ∷ []) x y)
           → next.first ≡ run.first + run.count → next.count ≡ 1 → next.body.items ≡ slice → PacksSlices p (slices ++ slice ∷ []) first y next
       another_run y large puts behind count body =
           let r : SliceRun = run_with_slices run packed.left in
@@ -102,7 +102,7 @@ module _ (p : Picture) where
             put = packed.put ++ r ∷ [];
             left = slice ∷ [];
             holds = record { count = count; body = body ∙ sym (append-nil slice) };
-            puts = subst (λ (l : List DatagramContent). Puts p l first y) (sym (map-append SlicesContent packed.put (r ∷ []))) (puts_more p (map SlicesContent packed.put) (SlicesContent r ∷ []) first x y packed.puts (puts packed.left packed.holds));
+            puts = subst (λ (l : List DatagramContent). PutsDatagrams p l first y) (sym (map-append SlicesContent packed.put (r ∷ []))) (puts_more p (map SlicesContent packed.put) (SlicesContent r ∷ []) first x y packed.puts (puts packed.left packed.holds));
             goes_on = λ more.
                 on more
                 ∙ ap (λ l. packed.put ++ l) (begun room r slice more (omega (arith, large, length_is)))
@@ -112,8 +112,8 @@ module _ (p : Picture) where
 
     -- the last run was put
     pub all_packed : (y : Outbox) (slice : List ℕ) (behind : List (List ℕ)) → slices ≡ slice ∷ behind → length slice ≤ room
-        → ((left : List (List ℕ)) → HoldsSlices run left → Puts p (SlicesContent (run_with_slices run left) ∷ []) x y)
-        → Puts p (map SlicesContent (runs_of_slices room slices)) first y
+        → ((left : List (List ℕ)) → HoldsSlices run left → PutsDatagrams p (SlicesContent (run_with_slices run left) ∷ []) x y)
+        → PutsDatagrams p (map SlicesContent (runs_of_slices room slices)) first y
     all_packed y slice behind is fits puts =
         let r : SliceRun = run_with_slices run packed.left in
         let runs : packed.put ++ r ∷ [] ≡ runs_of_slices room slices =
@@ -122,13 +122,13 @@ module _ (p : Picture) where
         ∙ ap (runs_from room first_run) (append-nil slices ∙ is)
         ∙ runs_are room slice behind fits
         ∙ ap (runs_of_slices room) (sym is) in
-        subst (λ (l : List SliceRun). Puts p (map SlicesContent l) first y) runs
-        (subst (λ (l : List DatagramContent). Puts p l first y) (sym (map-append SlicesContent packed.put (r ∷ []))) (puts_more p (map SlicesContent packed.put) (SlicesContent r ∷ []) first x y packed.puts (puts packed.left packed.holds)))
+        subst (λ (l : List SliceRun). PutsDatagrams p (map SlicesContent l) first y) runs
+        (subst (λ (l : List DatagramContent). PutsDatagrams p l first y) (sym (map-append SlicesContent packed.put (r ∷ []))) (puts_more p (map SlicesContent packed.put) (SlicesContent r ∷ []) first x y packed.puts (puts packed.left packed.holds)))
 
 -- the slices of a picture, of which there is at least one
 pub whole_packed : (p : Picture) (slices : List (List ℕ)) (first x y : Outbox) (run : OpenRun) (n : ℕ) → 1 ≤ n → length slices ≡ n → first_large_slice (slices_room (packing_view p.settings)) 0 slices ≡ None → PacksSlices p slices first x run
-    → ((left : List (List ℕ)) → HoldsSlices run left → Puts p (SlicesContent (run_with_slices run left) ∷ []) x y)
-    → Puts p (map SlicesContent (runs_of_slices (slices_room (packing_view p.settings)) slices)) first y
+    → ((left : List (List ℕ)) → HoldsSlices run left → PutsDatagrams p (SlicesContent (run_with_slices run left) ∷ []) x y)
+    → PutsDatagrams p (map SlicesContent (runs_of_slices (slices_room (packing_view p.settings)) slices)) first y
 whole_packed p [] first x y run n some count fits packed puts = absurd (omega (arith, some, count))
 whole_packed p (slice ∷ behind) first x y run n some count fits packed puts =
     all_packed p (slice ∷ behind) first x run packed y slice behind refl (first_fits (slices_room (packing_view p.settings)) 0 slice behind fits).0 puts

@@ -6,7 +6,7 @@ use Rattle.link_stream.specs.Packing.{slices_room}
 use Rattle.picture_pack.specs.declared.outbox.Outbox.{Outbox}
 use Rattle.picture_pack.specs.declared.picture.Picture.{Picture}
 use Rattle.picture_pack.specs.declared.runs.OpenRun.{OpenRun}
-use Rattle.picture_pack.specs.Puts.{Puts}
+use Rattle.picture_pack.specs.Puts.{PutsDatagrams}
 use Rattle.vc_types.specs.Fields.{joined}
 use Rattle.vc_types.specs.SenderSettings.{Packing, packing_view}
 
@@ -37,7 +37,7 @@ pub record PacksSlices (p : Picture) (slices : List (List ℕ)) (old new : Outbo
   pub put : List SliceRun
   pub left : List (List ℕ)
   pub holds : HoldsSlices run left
-  pub puts : Puts p (map SlicesContent put) old new
+  pub puts : PutsDatagrams p (map SlicesContent put) old new
   pub goes_on : (more : List (List ℕ))
       → runs_from (slices_room (packing_view p.settings)) first_run (slices ++ more)
       ≡ put ++ runs_from (slices_room (packing_view p.settings)) (run_with_slices run left)

@@ -5,8 +5,8 @@ use Rattle.picture_pack.specs.declared.picture.Picture.{Picture}
 use Rattle.vc_types.specs.TransformParameters.{Parameters, parameters_of}
 
 -- a picture by its number, its parameters and its bytes
-abbrev pub picture_of : ℕ → Parameters → List ℕ → List ℕ → List ℕ → PackedPicture
-picture_of number p header coded slices = record {
+abbrev pub packed_picture_of : ℕ → Parameters → List ℕ → List ℕ → List ℕ → PackedPicture
+packed_picture_of number p header coded slices = record {
   number = number;
   header = header;
   coded = coded;
@@ -16,4 +16,4 @@ picture_of number p header coded slices = record {
 
 abbrev pub packed_view : Picture → PackedPicture
 packed_view p =
-    picture_of p.number (parameters_of p.plan.now) p.header.now p.params.now p.slices.now
+    packed_picture_of p.number (parameters_of p.plan.now) p.header.now p.params.now p.slices.now

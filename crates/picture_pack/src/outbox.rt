@@ -3,7 +3,7 @@ ghost use Rattle.link_model.specs.Packets.{payload_bytes};
 ghost use Rattle.link_model.specs.Sending.{HeaderContent, ParametersContent};
 ghost use Rattle.link_stream.specs.Packing.{AreAllSlices, datagram_around, first_large_part, header_room, packed_contents, packed_head, parameters_room};
 ghost use Rattle.link_sender.specs.Packing.{bytes_of_all};
-ghost use Rattle.picture_pack.specs.Puts.{Puts};
+ghost use Rattle.picture_pack.specs.Puts.{PutsDatagrams};
 ghost use Rattle.picture_pack.specs.Views.{packed_view};
 ghost use Rattle.vc2_payload.specs.Views.{CanBeWritten, head_of, payload_value};
 ghost use Rattle.vc_types.specs.SenderSettings.{packing_view};
@@ -26,12 +26,12 @@ pub(crate) struct Outbox {
 }
 
 impl Outbox {
-    /// Puts the datagrams of a picture whose parts have room.
+    /// PutsDatagrams the datagrams of a picture whose parts have room.
     pub(crate) fn put_picture(&mut self, p: &Picture<'_>) -> Result<(), NoMemory>
         requires whole { AreAllSlices (parameters_of p.now.plan.now) p.now.slices.now }
         requires fits { first_large_part (packing_view p.now.settings) (packed_view p.now)
             ≡ None }
-        ensures { OnOk result (Puts p.now
+        ensures { OnOk result (PutsDatagrams p.now
             (packed_contents (packing_view p.now.settings) (packed_view p.now))
             self.old self.new) }
     {
@@ -40,10 +40,10 @@ impl Outbox {
         self.put_slices(p)
     }
 
-    // Puts a picture's sequence header.
+    // PutsDatagrams a picture's sequence header.
     fn put_header(&mut self, p: &Picture<'_>) -> Result<(), NoMemory>
         requires { length p.now.header.now ≤ header_room (packing_view p.now.settings) }
-        ensures { OnOk result (Puts p.now (HeaderContent ∷ []) self.old self.new) }
+        ensures { OnOk result (PutsDatagrams p.now (HeaderContent ∷ []) self.old self.new) }
     {
         let payload = Payload::Header {
             high: high_half(self.sequence),
@@ -53,10 +53,10 @@ impl Outbox {
         self.put(p, false, &payload)
     }
 
-    // Puts a picture's transform parameters.
+    // PutsDatagrams a picture's transform parameters.
     fn put_parameters(&mut self, p: &Picture<'_>) -> Result<(), NoMemory>
         requires { length p.now.params.now ≤ parameters_room (packing_view p.now.settings) }
-        ensures { OnOk result (Puts p.now (ParametersContent ∷ []) self.old self.new) }
+        ensures { OnOk result (PutsDatagrams p.now (ParametersContent ∷ []) self.old self.new) }
     {
         let payload = Payload::Params {
             head: self.fragment_head(p),
@@ -80,7 +80,7 @@ impl Outbox {
         }
     }
 
-    /// Puts the datagram of a picture's payload.
+    /// PutsDatagrams the datagram of a picture's payload.
     pub(crate) fn put(
         &mut self,
         p: &Picture<'_>,

@@ -1,7 +1,7 @@
 ghost use Rattle.std.specs.Prelude.{◌≡◌, IfOk, OnErr};
 ghost use Rattle.link_stream.specs.Packing.{AreAllSlices};
 ghost use Rattle.picture_pack.specs.State.{EndsPacking, PacksPicture, counts_of};
-ghost use Rattle.picture_pack.specs.Views.{picture_of};
+ghost use Rattle.picture_pack.specs.Views.{packed_picture_of};
 ghost use Rattle.vc_types.specs.SenderSettings.{packing_view};
 ghost use Rattle.vc_types.specs.TransformParameters.{parameters_of};
 
@@ -58,7 +58,7 @@ impl Packer {
         requires whole { AreAllSlices (parameters_of plan.now) slices.now }
         ensures settings { self.new.settings ≡ self.old.settings }
         ensures value { PacksPicture (packing_view self.old.settings)
-            (picture_of number (parameters_of plan.now) header.now params.now slices.now)
+            (packed_picture_of number (parameters_of plan.now) header.now params.now slices.now)
             (counts_of self.old) (counts_of self.new) result }
     {
         let picture = Picture {

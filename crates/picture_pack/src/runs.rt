@@ -2,7 +2,7 @@ ghost use Rattle.std.specs.Prelude.{◌≡◌, ◌≤◌, ◌<◌, ◌+◌, ◌*
 ghost use Rattle.link_model.specs.Sending.{SlicesContent, runs_of_slices};
 ghost use Rattle.link_stream.specs.Packing.{AreAllSlices, first_large_slice, slices_in, slices_room};
 ghost use Rattle.picture_pack.specs.declared.outbox.Outbox.{Outbox};
-ghost use Rattle.picture_pack.specs.Puts.{Puts};
+ghost use Rattle.picture_pack.specs.Puts.{PutsDatagrams};
 ghost use Rattle.picture_pack.specs.Runs.{EndsRun, HoldsSlices, PacksSlices, run_with_slices};
 ghost use Rattle.vc_types.specs.SenderSettings.{packing_view};
 ghost use Rattle.vc_types.specs.Subbands.{slice_count};
@@ -24,13 +24,13 @@ pub(crate) struct OpenRun {
 }
 
 impl Outbox {
-    /// Puts a picture's slices, of which each has room in a datagram: into each datagram as many
+    /// PutsDatagrams a picture's slices, of which each has room in a datagram: into each datagram as many
     /// whole ones as it has room for.
     pub(crate) fn put_slices(&mut self, p: &Picture<'_>) -> Result<(), NoMemory>
         requires whole { AreAllSlices (parameters_of p.now.plan.now) p.now.slices.now }
         requires fits { first_large_slice (slices_room (packing_view p.now.settings)) 0
             (slices_in (parameters_of p.now.plan.now) p.now.slices.now) ≡ None }
-        ensures { OnOk result (Puts p.now
+        ensures { OnOk result (PutsDatagrams p.now
             (map SlicesContent (runs_of_slices (slices_room (packing_view p.now.settings))
             (slices_in (parameters_of p.now.plan.now) p.now.slices.now)))
             self.old self.new) }
@@ -76,14 +76,14 @@ impl Outbox {
         Ok(())
     }
 
-    // Puts a run of slices. The marker is set exactly where the picture's last slice is in it.
+    // PutsDatagrams a run of slices. The marker is set exactly where the picture's last slice is in it.
     fn put_run(&mut self, p: &Picture<'_>, run: &OpenRun) -> Result<(), NoMemory>
         requires some { 1 ≤ run.now.count }
         requires end { run.now.first + run.now.count ≤ slice_count (parameters_of p.now.plan.now) }
         requires body { run.now.count ≤ length run.now.body.items }
         requires fits { length run.now.body.items + 32 ≤ p.now.settings.size }
         ensures { OnOk result ((slices : List (List ℕ)) → HoldsSlices run.now slices
-            → Puts p.now (SlicesContent (run_with_slices run.now slices) ∷ [])
+            → PutsDatagrams p.now (SlicesContent (run_with_slices run.now slices) ∷ [])
             self.old self.new) }
     {
         let payload = Payload::Slices {

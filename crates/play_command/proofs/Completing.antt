@@ -4,7 +4,7 @@ use Rattle.vc_types.specs.FieldPairs.{woven}
 use Rattle.vc_types.specs.Planes.{Planes, planes_in}
 use Rattle.vc_types.specs.Rasters.{Raster}
 use Rattle.vc_types.specs.SequenceHeader.{picture_shape}
-use Rattle.play_command.specs.Shapes.{HaveShape}
+use Rattle.frame_writer.specs.Shapes.{HaveShape}
 use Rattle.play_command.specs.Steps.{PlayState}
 use Rattle.play_command.specs.Stream.{StreamPicture, is_pair}
 use Rattle.play_command.specs.Taking.{CompletesFrame}

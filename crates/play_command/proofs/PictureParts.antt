@@ -13,7 +13,7 @@ use Rattle.vc_types.specs.SequenceHeader.{Sequence, bytes_used, with_bytes_used}
 use Rattle.vc_types.specs.Slices.{Coefficients}
 use Rattle.vc_types.specs.Subbands.{slice_count}
 use Rattle.vc_types.specs.TransformParameters.{Parameters, transform_parameters, coded_parameters}
-use Rattle.play_command.specs.Shapes.{HaveShape}
+use Rattle.frame_writer.specs.Shapes.{HaveShape}
 use Rattle.play_command.specs.Slices.{IsBuilt}
 use Rattle.play_command.proofs.Shaped.{built-shape}
 

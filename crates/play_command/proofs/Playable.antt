@@ -12,7 +12,7 @@ use Rattle.vc_units.specs.declared.fault.UnitFault.{UnitFault}
 use Rattle.vc_units.specs.declared.fault.UnitFault.TheVariants as faults
 use Rattle.vc_units.proofs.Behind.{NoneBehind, data_unit-bad, units_within-more, units_within-rest}
 use Rattle.play_command.specs.Stream.{Stream, StreamSoFar, all_taken, after_unit, takes, units_taken}
-use Rattle.play_command.specs.Playing.{UnitSplit, unit_split, AreAccepted, has_ended, IsPastLimit, EndsWithRefused, HasRefusedRest, IsLast, IsBad, Plays, PlayEnded, IsPlayable}
+use Rattle.play_command.specs.Playing.{UnitSplit, unit_split, AreAccepted, has_ended, UnitIsPastLimit, EndsWithRefused, HasRefusedRest, IsLast, IsBad, Plays, PlayEnded, IsPlayable}
 use Rattle.play_command.proofs.SoFar.{so_far-refused}
 
 true_is_false : true ≡ false → ⊥
@@ -68,7 +68,7 @@ module _ (packets : ℕ) (given more : List ℕ) (whole : IsPlayable packets (gi
       by_end (inl empty) = sym (ap (λ (s : UnitSplit). s.rest) same) ∙ empty
       by_end (inr ends) = absurd (true_is_false (sym ends ∙ ap has_ended same ∙ goes_on))
 
-  no_limit : (output : OutputChange) (limit : ℕ) → IsPastLimit packets output split limit → ⊥
+  no_limit : (output : OutputChange) (limit : ℕ) → UnitIsPastLimit packets output split limit → ⊥
   no_limit output limit p =
       let empty : length split.rest + length more ≡ 0 = sym (length-append split.rest more) ∙ ap length (no_rest (inl p.count) p.goes_on) in
       omega (arith, empty, p.one_more)

@@ -20,7 +20,7 @@ use Rattle.vc_units.proofs.Streams.{units_within-refused}
 use Rattle.play_command.specs.declared.fault.TakeFault.{TakeFault}
 use Rattle.play_command.specs.declared.fault.TakeFault.TheVariants as taking
 use Rattle.play_command.specs.Endings.{reading_ended, taking_ended}
-use Rattle.play_command.specs.Looping.{IsBehind, HasEnded, Stops}
+use Rattle.play_command.specs.Looping.{IsBehindUnits, UnitsHaveEnded, PlayStops}
 use Rattle.play_command.specs.Playing.{UnitSplit, IsLast, PlayEnded, Plays}
 use Rattle.play_command.specs.Steps.{PlayState}
 use Rattle.play_command.specs.Stream.{StreamSoFar, Stream, units_taken, takes, after_unit, played, pictures_in, frames_in, unpaired_in}
@@ -34,9 +34,9 @@ Units = List DataUnit × List ℕ
 abbrev split : Units → UnitSplit
 split all = record { units = all.0; rest = all.1 }
 
-module _ (packets number : ℕ) (input : InputChange) (output : OutputChange) (mid held_mid : Option (List ℕ)) (h : StreamSoFar) (at : IsBehind packets number input.left.before mid output.held.before held_mid h) where
+module _ (packets number : ℕ) (input : InputChange) (output : OutputChange) (mid held_mid : Option (List ℕ)) (h : StreamSoFar) (at : IsBehindUnits packets number input.left.before mid output.held.before held_mid h) where
   -- an end with these units and this rest
-  stopped : (answer : Result Summary Ending) (more : List ℕ) (all : Units) → Gave mid input.left.after more → units_within packets (at.given ++ more) ≡ all → PlayEnded packets answer input output (split all) → Stops packets answer input output
+  stopped : (answer : Result Summary Ending) (more : List ℕ) (all : Units) → Gave mid input.left.after more → units_within packets (at.given ++ more) ≡ all → PlayEnded packets answer input output (split all) → PlayStops packets answer input output
   stopped answer more all gave is ended = record {
     given = at.given ++ more;
     took = Gave-then input.left.before mid input.left.after at.given more at.gave gave;
@@ -64,22 +64,22 @@ module _ (packets number : ℕ) (input : InputChange) (output : OutputChange) (m
     wrote : Grew output.held.before output.held.after (played (units_taken at.units).0.stream)
     wrote = wrote_of at.units h false at.so_far all_written
 
-    pub input_failed : (rest : List ℕ) → Gave mid input.left.after rest → data_unit rest ≡ Err faults.Short → (length at.units < packets) ⊎ (rest ≡ []) → Stops packets (Err InputFailed) input output
+    pub input_failed : (rest : List ℕ) → Gave mid input.left.after rest → data_unit rest ≡ Err faults.Short → (length at.units < packets) ⊎ (rest ≡ []) → PlayStops packets (Err InputFailed) input output
     input_failed rest gave short wanted = stopped (Err InputFailed) rest (at.units, rest) gave (before_rest faults.Short rest short)
         (record { accepted = accepted; goes_on = at.goes_on; short = short; wanted = wanted; wrote = wrote })
 
-    no_memory : GavePartOfUnit mid input.left.after → Stops packets (Err NoMemory) input output
+    no_memory : GavePartOfUnit mid input.left.after → PlayStops packets (Err NoMemory) input output
     no_memory part =
         stopped (Err NoMemory) part.part (at.units, part.part) part.gave (before_rest faults.Short part.part part.not_whole) (GrewBySome-all output.held.before output.held.after _ wrote)
 
     -- one byte more than as many units as were asked for
-    pub past_limit : number ≡ packets → (more : List ℕ) → length more ≡ 1 → Gave mid input.left.after more → Stops packets (Err (PacketLimit packets)) input output
+    pub past_limit : number ≡ packets → (more : List ℕ) → length more ≡ 1 → Gave mid input.left.after more → PlayStops packets (Err (PacketLimit packets)) input output
     past_limit enough more one gave =
         stopped (Err (PacketLimit packets)) more (at.units, more) gave (before_rest faults.Short more (data_unit-stub more (omega arith)))
         (record { limit_is = refl; count = at.count ∙ enough; goes_on = at.goes_on; one_more = one; accepted = accepted; wrote = wrote })
 
     module _ (room : number < packets) where
-      bad : (fault : UnitFault) (rest : List ℕ) → Gave mid input.left.after rest → data_unit rest ≡ Err fault → IsLast input rest fault → Stops packets (Err (StreamBad h.place)) input output
+      bad : (fault : UnitFault) (rest : List ℕ) → Gave mid input.left.after rest → data_unit rest ≡ Err fault → IsLast input rest fault → PlayStops packets (Err (StreamBad h.place)) input output
       bad fault rest gave refused last =
           stopped (Err (StreamBad h.place)) rest (at.units, rest) gave (before_rest fault rest refused)
           (record {
@@ -88,11 +88,11 @@ module _ (packets number : ℕ) (input : InputChange) (output : OutputChange) (m
             wrote = wrote;
           })
 
-      refused_info : (fault : UnitFault) (gave : GaveRefused mid input.left.after fault) → IsLast input gave.bytes fault → Stops packets (Err (StreamBad h.place)) input output
+      refused_info : (fault : UnitFault) (gave : GaveRefused mid input.left.after fault) → IsLast input gave.bytes fault → PlayStops packets (Err (StreamBad h.place)) input output
       refused_info fault gave last = bad fault gave.bytes gave.gave (rw append-nil at (gave.refused [])) last
 
       -- a unit isn't read
-      pub unit_unread : (fault : UnitFault) (place : ℕ) → ReadsUnit mid input.left.after place (Err fault) → Stops packets (Err (reading_ended fault h.place)) input output
+      pub unit_unread : (fault : UnitFault) (place : ℕ) → ReadsUnit mid input.left.after place (Err fault) → PlayStops packets (Err (reading_ended fault h.place)) input output
       unit_unread faults.Prefix place gave = refused_info faults.Prefix gave gave.long
       unit_unread faults.Offset place gave = refused_info faults.Offset gave gave.long
       unit_unread faults.Code place gave = refused_info faults.Code gave gave.long
@@ -101,10 +101,10 @@ module _ (packets number : ℕ) (input : InputChange) (output : OutputChange) (m
       unit_unread faults.NoMemory place part = no_memory part
 
   module _ (room : number < packets) (u : DataUnit) (gave : GaveUnit mid input.left.after u) where
-    with_one : (answer : Result Summary Ending) → PlayEnded packets answer input output (split (at.units ++ u ∷ [], [])) → Stops packets answer input output
+    with_one : (answer : Result Summary Ending) → PlayEnded packets answer input output (split (at.units ++ u ∷ [], [])) → PlayStops packets answer input output
     with_one answer ended = stopped answer gave.bytes (at.units ++ u ∷ [], []) gave.gave (one_unit packets number input.left.before mid output.held.before held_mid h at room input.left.after u gave (is_end_of_sequence u) refl) ended
 
-    refused_unit : takes h.stream u ≡ None → output.held.after ≡ held_mid → Stops packets (Err (StreamBad h.place)) input output
+    refused_unit : takes h.stream u ≡ None → output.held.after ≡ held_mid → PlayStops packets (Err (StreamBad h.place)) input output
     refused_unit none same =
         let so_far = so_far-refused at.units u h at.so_far none in
         with_one (Err (StreamBad h.place)) (record {
@@ -124,23 +124,23 @@ module _ (packets number : ℕ) (input : InputChange) (output : OutputChange) (m
       taken : units_taken (at.units ++ u ∷ []) ≡ (after_unit h u b.next, false)
       taken = so_far-taken at.units u h b.next at.so_far b.taken
 
-      unwritten : GrewBySome held_mid output.held.after b.due → Stops packets (Err OutputFailed) input output
+      unwritten : GrewBySome held_mid output.held.after b.due → PlayStops packets (Err OutputFailed) input output
       unwritten some =
           let part : GrewBySome output.held.before output.held.after (played b.next) = rw b.grows (GrewBySome-then output.held.before held_mid output.held.after (played h.stream) b.due at.wrote some) in
           with_one (Err OutputFailed) (part_of (at.units ++ u ∷ []) (after_unit h u b.next) false taken part)
 
-      unkept : output.held.after ≡ held_mid → Stops packets (Err NoMemory) input output
+      unkept : output.held.after ≡ held_mid → PlayStops packets (Err NoMemory) input output
       unkept same =
           let part : GrewBySome output.held.before output.held.after (played b.next) = rw b.grows (GrewBySome-front output.held.before output.held.after (played h.stream) b.due (GrewBySome-all output.held.before output.held.after (played h.stream) (all_written same))) in
           with_one (Err NoMemory) (part_of (at.units ++ u ∷ []) (after_unit h u b.next) false taken part)
 
-    without_memory : (next : Option (Option Stream)) → takes h.stream u ≡ next → output.held.after ≡ held_mid → Stops packets (Err NoMemory) input output
+    without_memory : (next : Option (Option Stream)) → takes h.stream u ≡ next → output.held.after ≡ held_mid → PlayStops packets (Err NoMemory) input output
     without_memory None none same =
         with_one (Err NoMemory) (part_of (at.units ++ u ∷ []) h true (so_far-refused at.units u h at.so_far none) (GrewBySome-all output.held.before output.held.after (played h.stream) (all_written same)))
     without_memory (Some next) taken same = unkept (taken-grows h.stream next u taken) same
 
     -- a unit isn't taken
-    pub unit_untaken : (fault : TakeFault) (new : Option PlayState) → Brought h.stream u new held_mid output.held.after (Err fault) → Stops packets (Err (taking_ended fault h.place)) input output
+    pub unit_untaken : (fault : TakeFault) (new : Option PlayState) → Brought h.stream u new held_mid output.held.after (Err fault) → PlayStops packets (Err (taking_ended fault h.place)) input output
     unit_untaken taking.Refused new (none, same) = refused_unit none same
     unit_untaken taking.WriteFault new (b, some) = unwritten b some
     unit_untaken taking.NoMemory new same = without_memory (takes h.stream u) refl same
@@ -156,7 +156,7 @@ none_of bytes n one less = subst (λ (k : ℕ). take k bytes ≡ []) none refl
 
 module _ (packets : ℕ) (input : InputChange) (output : OutputChange) where
   -- the stream ended
-  pub plays_whole : (h : StreamSoFar) (summary : Summary) → HasEnded packets input.left.before input.left.after output.held.before output.held.after h
+  pub plays_whole : (h : StreamSoFar) (summary : Summary) → UnitsHaveEnded packets input.left.before input.left.after output.held.before output.held.after h
       → summary ≡ summaries.Played (pictures_in h.stream) (unpaired_in h.stream) (frames_in h.stream) → Plays packets (Ok summary) input output
   plays_whole h summary ended is = record {
     given = ended.given;
@@ -175,7 +175,7 @@ module _ (packets : ℕ) (input : InputChange) (output : OutputChange) where
   }
 
   -- it stopped by a fault
-  pub plays_part : (ending : Ending) → Stops packets (Err ending) input output → (ending ≡ InputFailed → HasRisen input.faults) → (ending ≡ OutputFailed → HasRisen output.faults) → Plays packets (Err ending) input output
+  pub plays_part : (ending : Ending) → PlayStops packets (Err ending) input output → (ending ≡ InputFailed → HasRisen input.faults) → (ending ≡ OutputFailed → HasRisen output.faults) → Plays packets (Err ending) input output
   plays_part ending stops input_rose output_rose = record {
     given = stops.given;
     took = stops.took;

@@ -3,7 +3,6 @@ pub mod Playing
 pub mod Steps
 pub mod Slices
 pub mod Views
-pub mod Shapes
 pub mod Taking
 pub mod Looping
 pub mod Endings

@@ -23,7 +23,7 @@ then_units units behind = (units ++ behind.0, behind.1)
 
 -- the source gave the bytes of so many units, none of which ends the sequence or is refused; what they bring, and what
 -- was written of it
-pub record IsBehind
+pub record IsBehindUnits
     (packets number : ℕ) (before after held_before held_after : Option (List ℕ)) (h : StreamSoFar)
     : Type 0 where
   pub given : List ℕ
@@ -37,7 +37,7 @@ pub record IsBehind
   pub wrote : Grew held_before held_after (played h.stream)
 
 -- the units end: at the end of the source, or with an end of sequence
-pub record HasEnded
+pub record UnitsHaveEnded
     (packets : ℕ) (before after held_before held_after : Option (List ℕ)) (h : StreamSoFar)
     : Type 0 where
   pub given : List ℕ
@@ -51,13 +51,13 @@ pub record HasEnded
 -- so many units were played, and no fault came
 abbrev pub HasPlayedUnits : ℕ → Stop → InputChange → OutputChange → StreamSoFar → Type 0
 HasPlayedUnits packets Ended input output h =
-    HasEnded packets input.left.before input.left.after output.held.before output.held.after h
+    UnitsHaveEnded packets input.left.before input.left.after output.held.before output.held.after h
 HasPlayedUnits packets AtLimit input output h =
-    IsBehind packets packets
+    IsBehindUnits packets packets
     input.left.before input.left.after output.held.before output.held.after h
 
 -- the loop stopped without a fault; what came, and what is kept of it
-pub record HasStopped
+pub record PlayHasStopped
     (packets : ℕ) (stop : Stop) (kept : Option PlayState)
     (input : InputChange) (output : OutputChange) : Type 0 where
   pub so_far : StreamSoFar
@@ -66,7 +66,7 @@ pub record HasStopped
   pub units : HasPlayedUnits packets stop input output so_far
 
 -- the units ended in this way, whatever the causes
-pub record Stops
+pub record PlayStops
     (packets : ℕ) (answer : Result Summary Ending) (input : InputChange) (output : OutputChange)
     : Type 0 where
   pub given : List ℕ
@@ -74,10 +74,10 @@ pub record Stops
   pub ended : PlayEnded packets answer input output (unit_split packets given)
 
 -- what a loop over the units did
-abbrev pub LoopEnded : ℕ → Result Stop Ending → Option PlayState → InputChange → OutputChange
+abbrev pub PlayLoopEnded : ℕ → Result Stop Ending → Option PlayState → InputChange → OutputChange
     → Type 0
-LoopEnded packets (Ok stop) kept input output = HasStopped packets stop kept input output
-LoopEnded packets (Err ending) kept input output = Stops packets (Err ending) input output
+PlayLoopEnded packets (Ok stop) kept input output = PlayHasStopped packets stop kept input output
+PlayLoopEnded packets (Err ending) kept input output = PlayStops packets (Err ending) input output
 
 -- ---- what is said of it
 

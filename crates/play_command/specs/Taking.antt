@@ -11,7 +11,7 @@ use Rattle.vc_types.specs.declared.refusal.HeaderRefusal.{HeaderRefusal}
 use Rattle.vc_types.specs.DataUnits.{DataUnit}
 use Rattle.play_command.specs.declared.fault.TakeFault.{TakeFault}
 use Rattle.play_command.specs.declared.fault.TakeFault.TheVariants as faults
-use Rattle.play_command.specs.Shapes.{HaveShape}
+use Rattle.frame_writer.specs.Shapes.{HaveShape}
 use Rattle.play_command.specs.Steps.{PlayState, stream_state, shown, new_frames}
 use Rattle.vc_types.specs.SameValues.{same_sequence}
 use Rattle.play_command.specs.Stream.{Stream, StreamPicture, picture_in, takes, played, raw_frames}

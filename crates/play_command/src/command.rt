@@ -2,7 +2,7 @@ ghost use Rattle.std.specs.Prelude.{◌≡◌, None, Err};
 ghost use Rattle.vc_ports.specs.Changes.{input_of, output_of};
 ghost use Rattle.vc_ports.specs.Faults.{HasCause};
 ghost use Rattle.play_command.specs.Endings.{reading_ended, taking_ended};
-ghost use Rattle.play_command.specs.Looping.{LoopEnded};
+ghost use Rattle.play_command.specs.Looping.{PlayLoopEnded};
 ghost use Rattle.play_command.specs.Playing.{Plays};
 ghost use Rattle.play_command.specs.Steps.{state_so_far};
 ghost use Rattle.play_command.specs.Stream.{at_start};
@@ -58,7 +58,7 @@ fn play_units<S: Source, O: Sink>(
     output: &mut O,
 ) -> Result<Stop, Ending>
     requires { player_state player.old ≡ state_so_far at_start }
-    ensures ended { LoopEnded packets result (player_state player.new)
+    ensures ended { PlayLoopEnded packets result (player_state player.new)
         (input_of S.left S.faults input.old input.new)
         (output_of O.held O.faults output.old output.new) }
     ensures input_cause { HasCause (S.faults input.old) (S.faults input.new)
@@ -81,7 +81,7 @@ fn play_with<S: Source, O: Sink>(
     requires place { reader.old.place ≡ 0 }
     requires sound { reader.old.fault ≡ None }
     ensures borrows { reader.new.source.ghost_name ≡ reader.old.source.ghost_name }
-    ensures ended { LoopEnded packets result (player_state player.new)
+    ensures ended { PlayLoopEnded packets result (player_state player.new)
         (input_of S.left S.faults reader.old.source.now reader.new.source.now)
         (output_of O.held O.faults output.old output.new) }
     ensures input_cause { HasCause (S.faults reader.old.source.now) (S.faults reader.new.source.now)

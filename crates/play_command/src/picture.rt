@@ -4,7 +4,7 @@ ghost use Rattle.vc_types.specs.Planes.{planes_in, decoded_planes};
 ghost use Rattle.vc_types.specs.SequenceHeader.{sequence_of, picture_shape};
 ghost use Rattle.vc_types.specs.TransformParameters.{parameters_of};
 ghost use Rattle.picture_build.specs.Kept.{no_slices};
-ghost use Rattle.play_command.specs.Shapes.{HaveShape};
+ghost use Rattle.frame_writer.specs.Shapes.{HaveShape};
 ghost use Rattle.play_command.specs.Slices.{IsBuilt};
 ghost use Rattle.play_command.specs.Stream.{picture_in};
 ghost use Rattle.play_command.specs.Views.{picture_of};

@@ -3,7 +3,7 @@ ghost use Rattle.std.specs.Option.{option_map};
 ghost use Rattle.vc_ports.specs.Faults.{HasCause};
 ghost use Rattle.vc_types.specs.Planes.{planes_in};
 ghost use Rattle.vc_types.specs.SequenceHeader.{sequence_of, picture_shape};
-ghost use Rattle.play_command.specs.Shapes.{HaveShape};
+ghost use Rattle.frame_writer.specs.Shapes.{HaveShape};
 ghost use Rattle.play_command.specs.Looping.{unpaired_of};
 ghost use Rattle.play_command.specs.Steps.{stream_state, next_waiting, new_frames};
 ghost use Rattle.play_command.specs.Taking.{HasShape, CompletesFrame, Shows};

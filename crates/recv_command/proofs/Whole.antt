@@ -3,7 +3,7 @@
 use Rattle.std.proofs.Common.{◌≡◌, ℕ, List, [], ◌∷◌, Option, refl, ap, ◌∙◌, arith, inl, inr}
 use Rattle.std.specs.Prelude.{Ok, Err, ◌⊎◌}
 use Rattle.decode_command.specs.Decoding.{HasStarted, HasGivenWork}
-use Rattle.decode_command.specs.Hearing.{HasOffered}
+use Rattle.decode_command.specs.Hearing.{HandsWereOffered}
 use Rattle.decode_command.proofs.Asking.{nothing_offered}
 use Rattle.link_model.specs.Judgement.{tally_of, no_counts, with_sessions, outcomes_behind}
 use Rattle.link_model.specs.Output.{full_output, all_output}
@@ -27,7 +27,7 @@ use Rattle.vc_slice.specs.Asked.{Told, Grows, told_more, starting}
 
 -- workers were started, and then slices were offered
 gave_work : (window workers : ℕ) (heard : List (List ℕ)) (before mid after : Option Told) → Grows before mid (starting workers (Ok tt))
-    → HasOffered window heard (record { before = mid; after = after })
+    → HandsWereOffered window heard (record { before = mid; after = after })
     → HasGivenWork window workers (record { before = before; after = after }) (as_entries heard)
 gave_work window workers heard before mid after grew told = record {
   more = told_more (starting workers (Ok tt)) told.more;

@@ -1,6 +1,6 @@
 -- What a loop over the datagrams of a wire knows.
 use Rattle.std.specs.Prelude.{◌≡◌, ◌≤◌, ◌<◌, ℕ, List, [], length, take, Option, Result, Ok, Err}
-use Rattle.decode_command.specs.Hearing.{HasOffered, IsBroken}
+use Rattle.decode_command.specs.Hearing.{HandsWereOffered, IsBroken}
 use Rattle.link_model.specs.Judgement.{tally_of}
 use Rattle.link_model.specs.Output.{output_so_far, full_output}
 use Rattle.link_receiver.specs.HeardLists.{AsFrames, HasHeard}
@@ -22,12 +22,12 @@ abbrev pub GaveDatagrams : WireChange → List (List ℕ) → Type 0
 GaveDatagrams wire heard = Passes wire.told.before wire.told.after [] heard
 
 -- the receiver heard them, they let go what was written, and their slices were offered
-pub record IsHeard
+pub record HasListened
     (window : ℕ) (receiver : ReceiverState) (held_before held_after : Option (List ℕ))
     (hands : Change (Option Told)) (heard : List (List ℕ)) : Type 0 where
   pub has_heard : HasHeard AsFrames receiver window heard
   pub wrote : Grew held_before held_after (output_so_far window heard)
-  pub offered : HasOffered window heard hands
+  pub offered : HandsWereOffered window heard hands
 
 -- so many datagrams were heard of those that the wire gave, and none of them but the last ends the
 -- session that was asked for
@@ -39,7 +39,7 @@ pub record IsBehindDatagrams
   pub counts : Counts count sessions heard
   pub no_sooner : (k : ℕ) → k < length heard → ended_sessions (take k heard) < sessions
   pub gave : Passes told_before told_after [] heard
-  pub is_heard : IsHeard window receiver held_before held_after hands heard
+  pub is_heard : HasListened window receiver held_before held_after hands heard
 
 -- ---- the loop
 
@@ -50,7 +50,7 @@ pub record StopsBehind
     (heard : List (List ℕ)) : Type 0 where
   pub few : length heard ≤ packets
   pub gave : GaveDatagrams wire heard
-  pub is_heard : IsHeard window receiver output.held.before output.held.after hands heard
+  pub is_heard : HasListened window receiver output.held.before output.held.after hands heard
 
 abbrev pub EndsSo : (packets sessions : ℕ) → Stop → WireChange → List (List ℕ) → Type 0
 EndsSo packets sessions Ended wire heard = HeardToEnd sessions wire heard
@@ -84,7 +84,7 @@ pub record ReceivedBehind
   pub gave : GaveDatagrams wire heard
   pub wrote : Wrote output (full_output window heard)
   pub counted : receiver.reception.counts ≡ tally_of window heard
-  pub offered : HasOffered window heard hands
+  pub offered : HandsWereOffered window heard hands
 
 abbrev pub ReceivesAll : (window packets sessions : ℕ) → Result Stop Ending → ReceiverState
     → WireChange → OutputChange → Change (Option Told) → Type 0

@@ -6,7 +6,7 @@ ghost use Rattle.link_receiver.specs.HeardLists.{AsFrames, HasHeard, AskedPlaces
 ghost use Rattle.link_receiver.specs.HeardLists.{newly_due};
 ghost use Rattle.recv_command.specs.Listening.{LoopEnds, ReceivesAll};
 ghost use Rattle.recv_command.specs.Receiving.{ReceivesFrom};
-ghost use Rattle.slice_exchange.specs.Calls.{AreBelow};
+ghost use Rattle.slice_exchange.specs.Calls.{PlacesAreBelow};
 ghost use Rattle.vc_ports.specs.Changes.{changed, output_of, wire_of};
 ghost use Rattle.vc_ports.specs.Faults.{HasCause};
 ghost use Rattle.vc_ports.specs.Writing.{Grew, GrewBySome};
@@ -96,7 +96,7 @@ fn receive<N: Wire, O: Sink, P: Places>(
     output: &mut O,
     places: &mut P,
 ) -> Result<Stop, Ending>
-    requires below { AreBelow (P.bound places.old) receiver.old.reception.out }
+    requires below { PlacesAreBelow (P.bound places.old) receiver.old.reception.out }
     requires listens { IsTrue (N.told wire.old).listens }
     ensures received { (window : ℕ) → HasHeard AsFrames receiver.old window []
         → ReceivesAll window packets sessions result receiver.new
@@ -125,7 +125,7 @@ fn hear_sessions<N: Wire, O: Sink, P: Places>(
     output: &mut O,
     places: &mut P,
 ) -> Result<Stop, Ending>
-    requires below { AreBelow (P.bound places.old) receiver.old.reception.out }
+    requires below { PlacesAreBelow (P.bound places.old) receiver.old.reception.out }
     requires listens { IsTrue (N.told wire.old).listens }
     ensures heard { (window : ℕ) → HasHeard AsFrames receiver.old window []
         → LoopEnds window packets sessions result receiver.new
@@ -137,7 +137,7 @@ fn hear_sessions<N: Wire, O: Sink, P: Places>(
     ensures output_cause { HasCause (O.faults output.old) (O.faults output.new)
         (result ≡ Err Ending.OutputFailed) }
     ensures told { AskedPlaces (P.told places.old) (P.told places.new) }
-    ensures below { AreBelow (P.bound places.new) receiver.new.reception.out }
+    ensures below { PlacesAreBelow (P.bound places.new) receiver.new.reception.out }
 {
     let mut count = SessionCount::new(sessions);
     for _place in 0..packets {
@@ -169,7 +169,7 @@ fn enter<O: Sink, P: Places>(
     output: &mut O,
     places: &mut P,
 ) -> Result<Outcome, Ending>
-    requires below { AreBelow (P.bound places.old) receiver.old.reception.out }
+    requires below { PlacesAreBelow (P.bound places.old) receiver.old.reception.out }
     ensures judged { (window : ℕ) (heard : List (List ℕ))
         → HasHeard AsFrames receiver.old window heard
         → IfOk result (λ outcome. outcome ≡ outcome_behind window heard datagram) }
@@ -190,7 +190,7 @@ fn enter<O: Sink, P: Places>(
     ensures told { AskedPlaces (P.told places.old) (P.told places.new) }
     ensures offered { OnOk result (OfferedToPlaces (P.told places.old) (P.told places.new)
         (datagram_jobs receiver.old.reception datagram)) }
-    ensures below { AreBelow (P.bound places.new) receiver.new.reception.out }
+    ensures below { PlacesAreBelow (P.bound places.new) receiver.new.reception.out }
 {
     match receiver.enter(datagram, places, output) {
         Ok(outcome) => Ok(outcome),

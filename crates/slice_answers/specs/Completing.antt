@@ -85,7 +85,7 @@ pub record IsCompleted (decoding : ℕ → Decoding) (p : Parameters) (new : Par
   pub parameters : new.parameters ≡ p
 
 -- all slices are in the picture; or one of them is unsound
-abbrev pub Completes : (ℕ → Decoding) → Parameters → PartPicture → Bool → Type 0
-Completes decoding p new true = IsCompleted decoding p new
-Completes decoding p new false =
+abbrev pub CompletesPicture : (ℕ → Decoding) → Parameters → PartPicture → Bool → Type 0
+CompletesPicture decoding p new true = IsCompleted decoding p new
+CompletesPicture decoding p new false =
     sound_slices decoding (range_with_len 0 (slice_count p)) ≡ None

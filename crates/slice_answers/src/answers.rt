@@ -4,7 +4,7 @@ ghost use Rattle.link_reception.specs.Receptions.{PictureAnswers, answer_at, ans
 ghost use Rattle.link_reception.specs.Releasing.{answers_by, book_planes};
 ghost use Rattle.link_reception.specs.WholeBooks.{ArePicturePlanes, IsWholeBook};
 ghost use Rattle.slice_answers.specs.Completing.{IsWholeBySome, IsWholeIfAny, IsWholePlan};
-ghost use Rattle.slice_answers.specs.Jobs.{answered};
+ghost use Rattle.slice_jobs.specs.Jobs.{answered};
 ghost use Rattle.slice_answers.specs.SeenAnswers.{answers_of_plan, is_of_number};
 ghost use Rattle.vc_types.specs.Planes.{planes_in};
 ghost use Rattle.vc_types.specs.SequenceHeader.{Sequence};

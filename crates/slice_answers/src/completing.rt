@@ -2,7 +2,7 @@ ghost use Rattle.std.specs.Prelude.{◌≡◌, ◌<◌, IfOk, None, Some, length
 ghost use Rattle.std.specs.List.{range_with_len};
 ghost use Rattle.std.specs.Option.{option_map};
 ghost use Rattle.link_reception.specs.Releasing.{sound_slices};
-ghost use Rattle.slice_answers.specs.Completing.{ComesInto, Completes, HasWholeSlices, PutsDecoded, comes_to};
+ghost use Rattle.slice_answers.specs.Completing.{ComesInto, CompletesPicture, HasWholeSlices, PutsDecoded, comes_to};
 ghost use Rattle.slice_answers.specs.SeenAnswers.{HasEntries};
 ghost use Rattle.picture_build.specs.Kept.{slice_that_came};
 ghost use Rattle.vc_types.specs.Planes.{planes_in, planes_of};
@@ -59,7 +59,7 @@ impl Source<'_> {
         requires plan { builder.old.parameters ≡ parameters_of self.now.plan }
         requires entries { HasEntries builder.old unsound.now }
         requires slices { HasWholeSlices (parameters_of self.now.plan) self.now.book.now }
-        ensures value { IfOk result (Completes (comes_to builder.old unsound.now self.now.book.now)
+        ensures value { IfOk result (CompletesPicture (comes_to builder.old unsound.now self.now.book.now)
             (parameters_of self.now.plan) builder.new) }
     {
         for index in 0..self.plan.slices_x * self.plan.slices_y {

@@ -1,6 +1,6 @@
 ghost use Rattle.std.specs.Prelude.{◌≡◌, ◌==◌, IfOk, None, is_some, slice_index_or};
 ghost use Rattle.link_reception.specs.Receptions.{answer_at, answers_with, no_answers};
-ghost use Rattle.slice_answers.specs.Jobs.{answered};
+ghost use Rattle.slice_jobs.specs.Jobs.{answered};
 ghost use Rattle.slice_answers.specs.SeenAnswers.{HasEntries, seen_answers};
 ghost use Rattle.vc_types.specs.SameValues.{same_parameters};
 ghost use Rattle.vc_types.specs.TransformParameters.{parameters_of};

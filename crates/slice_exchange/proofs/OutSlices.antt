@@ -5,24 +5,24 @@ use Rattle.std.proofs.lemmas.List.Elements.{filter_more}
 use Rattle.std.specs.Prelude.{filter, map, not}
 use Rattle.link_reception.specs.Receptions.{SliceOut}
 use Rattle.link_reception.specs.Releasing.{is_of_other}
-use Rattle.slice_exchange.specs.Calls.{AreBelow, places_of_picture}
+use Rattle.slice_exchange.specs.Calls.{PlacesAreBelow, places_of_picture}
 
-pub below_push : (bound : ℕ) (out : List SliceOut) (slice : SliceOut) → AreBelow bound out
-    → slice.place < bound → AreBelow bound (out ++ slice ∷ [])
+pub below_push : (bound : ℕ) (out : List SliceOut) (slice : SliceOut) → PlacesAreBelow bound out
+    → slice.place < bound → PlacesAreBelow bound (out ++ slice ∷ [])
 below_push bound [] slice h s = (s, tt)
 below_push bound (x ∷ out) slice h s = (h.0, below_push bound out slice h.1 s)
 
-pub below_filter : (bound : ℕ) (p : SliceOut → Bool) (out : List SliceOut) → AreBelow bound out
-    → AreBelow bound (filter p out)
+pub below_filter : (bound : ℕ) (p : SliceOut → Bool) (out : List SliceOut) → PlacesAreBelow bound out
+    → PlacesAreBelow bound (filter p out)
 below_filter bound p [] h = tt
 below_filter bound p (x ∷ out) h = by_test (p x) (below_filter bound p out h.1)
   where
-    by_test : (b : Bool) → AreBelow bound (filter p out)
-        → AreBelow bound (cond b (x ∷ filter p out) (filter p out))
+    by_test : (b : Bool) → PlacesAreBelow bound (filter p out)
+        → PlacesAreBelow bound (cond b (x ∷ filter p out) (filter p out))
     by_test true rest = (h.0, rest)
     by_test false rest = rest
 
-pub below_at : (bound : ℕ) (out : List SliceOut) (i : ℕ) (d : SliceOut) → AreBelow bound out
+pub below_at : (bound : ℕ) (out : List SliceOut) (i : ℕ) (d : SliceOut) → PlacesAreBelow bound out
     → i < length out → (get_or out i d).place < bound
 below_at bound [] i d h l = absurd (omega arith)
 below_at bound (x ∷ out) zero d h l = h.0

@@ -8,7 +8,7 @@ use Rattle.link_reception.specs.Releasing.{is_of_other}
 use Rattle.vc_slice.specs.Asked.{Told, nothing_told, told_more, one_offer, taking}
 use Rattle.vc_slice.specs.declared.done.SliceDone.{SliceDone}
 use Rattle.vc_slice.specs.declared.job.SliceJob.{SliceJob}
-use Rattle.slice_exchange.specs.Jobs.{job_of, answered}
+use Rattle.slice_jobs.specs.Jobs.{job_of, answered}
 
 -- ---- calls
 
@@ -37,9 +37,9 @@ exchanges_of calls = map exchange_by calls
 -- ---- the slices that are out
 
 -- each place is below the bound
-abbrev pub AreBelow : ℕ → List SliceOut → Type 0
-AreBelow bound [] = Unit {0}
-AreBelow bound (slice ∷ rest) = (slice.place < bound) × AreBelow bound rest
+abbrev pub PlacesAreBelow : ℕ → List SliceOut → Type 0
+PlacesAreBelow bound [] = Unit {0}
+PlacesAreBelow bound (slice ∷ rest) = (slice.place < bound) × PlacesAreBelow bound rest
 
 -- behind an exchange
 abbrev pub out_exchanged : List SliceOut → Exchange → List SliceOut

@@ -3,9 +3,9 @@ ghost use Rattle.std.specs.Prelude.{Option, Some};
 ghost use Rattle.std.specs.Option.{option_map};
 ghost use Rattle.link_reception.specs.Exchanging.{Proposed, Fetched, not_at};
 ghost use Rattle.link_reception.specs.Releasing.{is_of_other};
-ghost use Rattle.slice_exchange.specs.Calls.{AreBelow, out_exchanged, places_of_picture, freeing};
+ghost use Rattle.slice_exchange.specs.Calls.{PlacesAreBelow, out_exchanged, places_of_picture, freeing};
 ghost use Rattle.slice_exchange.specs.Calls.{handed_back};
-ghost use Rattle.slice_exchange.specs.Jobs.{job_of, answered};
+ghost use Rattle.slice_jobs.specs.Jobs.{job_of, answered};
 ghost use Rattle.vc_slice.specs.Asked.{Grows, one_offer, taking, leaving};
 
 use crate::slice_out::OutSlice;
@@ -59,14 +59,14 @@ impl SlicesOut {
         job: SliceJob,
         places: &mut P,
     ) -> Result<Option<SliceJob>, NoMemory>
-        requires below { AreBelow (P.bound places.old) self.old }
+        requires below { PlacesAreBelow (P.bound places.old) self.old }
         ensures offered { IfOk result (λ back. (answer : Option ℕ)
             × Grows (P.told places.old) (P.told places.new) (one_offer job answer)
             × (self.new ≡ out_exchanged self.old (Proposed (job_of job) answer))
             × (back ≡ handed_back job answer)) }
         ensures unchanged { OnErr result ((self.new ≡ self.old) × (places.new ≡ places.old)) }
         ensures bound { P.bound places.new ≡ P.bound places.old }
-        ensures below { AreBelow (P.bound places.new) self.new }
+        ensures below { PlacesAreBelow (P.bound places.new) self.new }
     {
         let number = job.number;
         let index = job.index;
@@ -84,12 +84,12 @@ impl SlicesOut {
     /// Asks a place. What it gives is no longer out.
     pub fn ask<P: Places>(&mut self, place: u32, places: &mut P) -> Option<SliceDone>
         requires place { place < P.bound places.old }
-        requires below { AreBelow (P.bound places.old) self.old }
+        requires below { PlacesAreBelow (P.bound places.old) self.old }
         ensures told { Grows (P.told places.old) (P.told places.new) (taking place result) }
         ensures out { self.new
             ≡ out_exchanged self.old (Fetched place (option_map answered result)) }
         ensures bound { P.bound places.new ≡ P.bound places.old }
-        ensures below { AreBelow (P.bound places.new) self.new }
+        ensures below { PlacesAreBelow (P.bound places.new) self.new }
     {
         let done = places.take(place)?;
         self.forget(place);
@@ -104,12 +104,12 @@ impl SlicesOut {
 
     /// Frees each place where a slice of the picture is. None of its slices is out then.
     pub fn free_picture<P: Places>(&mut self, number: u64, places: &mut P)
-        requires below { AreBelow (P.bound places.old) self.old }
+        requires below { PlacesAreBelow (P.bound places.old) self.old }
         ensures told { Grows (P.told places.old) (P.told places.new)
             (freeing (places_of_picture number self.old)) }
         ensures out { self.new ≡ filter (is_of_other number) self.old }
         ensures bound { P.bound places.new ≡ P.bound places.old }
-        ensures below { AreBelow (P.bound places.new) self.new }
+        ensures below { PlacesAreBelow (P.bound places.new) self.new }
     {
         free_slices(&self.slices, number, places);
         self.slices.retain(|slice| slice.is_of_other(number));
@@ -117,7 +117,7 @@ impl SlicesOut {
 }
 
 fn free_slices<P: Places>(slices: &[OutSlice], number: u64, places: &mut P)
-    requires below { AreBelow (P.bound places.old) slices.now }
+    requires below { PlacesAreBelow (P.bound places.old) slices.now }
     ensures told { Grows (P.told places.old) (P.told places.new)
         (freeing (places_of_picture number slices.now)) }
     ensures bound { P.bound places.new ≡ P.bound places.old }

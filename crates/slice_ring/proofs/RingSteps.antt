@@ -25,7 +25,7 @@ use Rattle.slice_ring.specs.Calls.{Completed, completing, completing_by, complet
 use Rattle.slice_ring.specs.Calls.{stale}
 use Rattle.slice_ring.specs.declared.answers.CompleteRefusal.{CompleteRefusal}
 use Rattle.slice_ring.specs.declared.answers.CompleteRefusal.TheVariants.{Other}
-use Rattle.slice_ring.specs.Jobs.{job_of, done_of}
+use Rattle.slice_jobs.specs.Jobs.{job_of, answered}
 use Rattle.slice_ring.specs.Rings.{IsRing}
 use Rattle.vc_slice.specs.declared.done.SliceDone.{SliceDone}
 use Rattle.vc_types.specs.SameValues.{same_parameters}
@@ -136,11 +136,11 @@ err_ok h = cc
 
 -- the job of what was decoded is the one that stands there
 module _ (p : JobPlace) (given : ℕ) (done : SliceDone) where
-  own_decoding : (job : Job) → job_of done.job ≡ job → Decoded (done_of done) ≡ Decoded (own_answer job)
+  own_decoding : (job : Job) → job_of done.job ≡ job → Decoded (answered done) ≡ Decoded (own_answer job)
   own_decoding job same = ap (λ (answer : Result Coefficients Unsound). Decoded (record { job = job_of done.job; answer = answer })) done.decoded ∙ ap (λ (j : Job). Decoded (own_answer j)) same
 
   abbrev IsDone : Content → Type 0
-  IsDone content = (p.serial == given ≡ true) × (Decoded (done_of done) ≡ decoded_there content)
+  IsDone content = (p.serial == given ≡ true) × (Decoded (answered done) ≡ decoded_there content)
 
   pub completed : (content : Content) → completing_by p given done content ≡ Ok tt → IsDone content
   completed Nothing e = absurd (err_ok e)
@@ -191,7 +191,7 @@ module _ (places : List JobPlace) (place given : ℕ) (done : SliceDone) where
       by_content (Claimed worker job) is = by_serial (there.serial == given) job refl
 
   module _ (r : Completed) (old new : JobPlace) (read : old ≡ there) (answer : r ≡ completing old given done)
-      (ok : OnOk r (new ≡ record old { content = Decoded (done_of done) })) (err : OnErr r (new ≡ old)) where
+      (ok : OnOk r (new ≡ record old { content = Decoded (answered done) })) (err : OnErr r (new ≡ old)) where
     answer_there : r ≡ completing there given done
     answer_there = answer ∙ ap (λ (p : JobPlace). completing p given done) read
 
@@ -201,11 +201,11 @@ module _ (places : List JobPlace) (place given : ℕ) (done : SliceDone) where
     pub complete_done : OnOk r (slice_set places place new ≡ completes_job places place given)
     complete_done = by_answer r answer_there ok
       where
-        by_answer : (r : Completed) → r ≡ completing there given done → OnOk r (new ≡ record old { content = Decoded (done_of done) }) → OnOk r (slice_set places place new ≡ completes_job places place given)
+        by_answer : (r : Completed) → r ≡ completing there given done → OnOk r (new ≡ record old { content = Decoded (answered done) }) → OnOk r (slice_set places place new ≡ completes_job places place given)
         by_answer (Err e) is ok = tt
         by_answer (Ok x) is ok =
             let both = completed there given done there.content (sym is) in
-            ap (slice_set places place) (ok ∙ ap (λ (p : JobPlace). (let q : JobPlace = record p { content = Decoded (done_of done) } in q)) read ∙ ap (λ (content : Content). (let q : JobPlace = record there { content = content } in q)) both.1)
+            ap (slice_set places place) (ok ∙ ap (λ (p : JobPlace). (let q : JobPlace = record p { content = Decoded (answered done) } in q)) read ∙ ap (λ (content : Content). (let q : JobPlace = record there { content = content } in q)) both.1)
             ∙ sym (ap (λ (b : Bool). cond b (with_content places place (decoded_there there.content)) places) both.0)
 
     pub complete_same : OnErr r (slice_set places place new ≡ places)

@@ -4,7 +4,7 @@ use Rattle.std.specs.Prelude.{Ok, Err}
 use Rattle.link_model.specs.Feeding.{is_same_job}
 use Rattle.link_model.specs.Places.{Job, Answered, Content, Offered, Claimed, Decoded, JobPlace}
 use Rattle.link_model.specs.Places.{state_of, place_at, is_free, has_slice}
-use Rattle.slice_ring.specs.Jobs.{job_of}
+use Rattle.slice_jobs.specs.Jobs.{job_of}
 use Rattle.slice_ring.specs.declared.answers.CompleteRefusal.{CompleteRefusal}
 use Rattle.slice_ring.specs.declared.answers.CompleteRefusal.TheVariants.{Stale, Other}
 use Rattle.slice_ring.specs.declared.answers.NotHeld.{NotHeld}

@@ -1,3 +1,3 @@
-pub mod Jobs
+pub mod Stages
 pub mod Calls
 pub mod Rings

@@ -3,12 +3,10 @@
 #![tactic(auto)]
 
 mod answers;
-mod comparing;
 mod place;
 mod ring;
 
 pub use answers::{Claim, CompleteRefusal, NotHeld, NotWaiting, NotYet, PutRefusal};
-pub use comparing::same_job;
 pub use link_model::PlaceState;
 pub use ring::Ring;
 

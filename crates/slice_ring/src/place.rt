@@ -6,11 +6,12 @@ ghost use Rattle.link_model.specs.Places.{is_free, has_slice, is_of_slice, claim
 ghost use Rattle.link_model.specs.declared.place_state.PlaceState.TheVariants.{Waiting};
 ghost use Rattle.slice_ring.specs.Calls.{completing, stale, taking_from, withdrawing_from};
 ghost use Rattle.slice_ring.specs.Calls.{leaving_from, held_with, done_in};
-ghost use Rattle.slice_ring.specs.Jobs.{job_of, done_of, content_of};
+ghost use Rattle.slice_ring.specs.Stages.{content_of};
+ghost use Rattle.slice_jobs.specs.Jobs.{job_of, answered};
 
 use crate::answers::{CompleteRefusal, NotHeld, NotWaiting, NotYet};
-use crate::comparing::same_job;
 use link_model::PlaceState;
+use slice_jobs::same_job;
 use std::marker::Model;
 use std::mem;
 use vc_slice::{SliceDone, SliceJob};
@@ -40,7 +41,7 @@ impl Model for RingPlace {
 
     ghost Value = { JobPlace };
 
-    ghost use Rattle.slice_ring.specs.Jobs.{content_of};
+    ghost use Rattle.slice_ring.specs.Stages.{content_of};
 
     ghost view = { λ p. record { serial = p.serial; content = content_of p.stage } };
 }
@@ -105,7 +106,7 @@ impl RingPlace {
     }
 
     pub(crate) fn done(&self) -> Option<&SliceDone>
-        ensures { option_map done_of (option_copied result) ≡ done_in self.now.content }
+        ensures { option_map answered (option_copied result) ≡ done_in self.now.content }
     {
         match &self.stage {
             Stage::Done(done) => Some(done),
@@ -141,7 +142,7 @@ impl RingPlace {
     pub(crate) fn complete(&mut self, serial: u64, done: SliceDone) -> Result<(), CompleteRefusal>
         ensures answer { result ≡ completing self.old serial done }
         ensures done { OnOk result (self.new
-            ≡ record self.old { content = Decoded (done_of done) }) }
+            ≡ record self.old { content = Decoded (answered done) }) }
         ensures unchanged { OnErr result (self.new ≡ self.old) }
     {
         let Stage::Held(_, job) = &self.stage else {
@@ -169,7 +170,7 @@ impl RingPlace {
     }
 
     pub(crate) fn take(&mut self) -> Result<SliceDone, NotYet>
-        ensures answer { result_map_both done_of (λ e. e) result ≡ taking_from self.old.content }
+        ensures answer { result_map_both answered (λ e. e) result ≡ taking_from self.old.content }
         ensures free { OnOk result (self.new ≡ record self.old { content = Nothing }) }
         ensures unchanged { OnErr result (self.new ≡ self.old) }
     {

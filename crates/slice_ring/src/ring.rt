@@ -11,7 +11,7 @@ ghost use Rattle.link_model.specs.Places.{AreApart, HaveOwnAnswers};
 ghost use Rattle.link_model.specs.declared.place_state.PlaceState.TheVariants.{Waiting};
 ghost use Rattle.slice_ring.specs.Calls.{put_answer, complete_answer, IfStale, taking_from};
 ghost use Rattle.slice_ring.specs.Calls.{withdrawing_from, leaving_from, held_with, done_in};
-ghost use Rattle.slice_ring.specs.Jobs.{job_of, done_of};
+ghost use Rattle.slice_jobs.specs.Jobs.{job_of, answered};
 
 use crate::answers::{Claim, CompleteRefusal, NotHeld, NotWaiting, NotYet, PutRefusal};
 use crate::place::RingPlace;
@@ -134,7 +134,7 @@ impl Ring {
 
     /// What is done in a place is taken, and the place is empty.
     pub fn take(&mut self, place: u32) -> Result<SliceDone, NotYet>
-        ensures answer { result_map_both done_of (λ e. e) result
+        ensures answer { result_map_both answered (λ e. e) result
             ≡ taking_from (place_at self.old place).content }
         ensures freed { OnOk result (self.new ≡ frees_place self.old place) }
         ensures legal { OnOk result (is_legal_on_places self.old (machine.Take place) ≡ true) }
@@ -216,7 +216,7 @@ impl Ring {
 
     /// What is done in a place.
     pub fn done(&self, place: u32) -> Option<&SliceDone>
-        ensures { option_map done_of (option_copied result)
+        ensures { option_map answered (option_copied result)
             ≡ done_in (place_at self.now place).content }
     {
         self.places.get(place as usize)?.done()

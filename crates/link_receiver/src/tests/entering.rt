@@ -1,5 +1,5 @@
 ghost use Rattle.std.specs.Prelude.{◌≡◌};
-ghost use Rattle.slice_exchange.specs.Calls.{AreBelow};
+ghost use Rattle.slice_exchange.specs.Calls.{PlacesAreBelow};
 
 use super::datagram;
 use crate::Receiver;
@@ -31,7 +31,7 @@ pub(super) fn enter_all<P: Places>(
     places: &mut P,
     sink: &mut MemSink,
 ) -> Result<(), Fail>
-    requires { AreBelow (P.bound places.old) receiver.old.reception.out }
+    requires { PlacesAreBelow (P.bound places.old) receiver.old.reception.out }
 {
     for payload in payloads {
         enter(datagram(alloc, payload)?, receiver, places, sink)?;
@@ -48,9 +48,9 @@ fn enter<P: Places>(
     places: &mut P,
     sink: &mut MemSink,
 ) -> Result<(), Fail>
-    requires { AreBelow (P.bound places.old) receiver.old.reception.out }
+    requires { PlacesAreBelow (P.bound places.old) receiver.old.reception.out }
     ensures bound { P.bound places.new ≡ P.bound places.old }
-    ensures below { AreBelow (P.bound places.new) receiver.new.reception.out }
+    ensures below { PlacesAreBelow (P.bound places.new) receiver.new.reception.out }
 {
     match receiver.enter(datagram, places, sink) {
         Ok(_) => Ok(()),

@@ -4,7 +4,7 @@ use Rattle.check_command.specs.Looping.{HasChecked}
 use Rattle.link_gen.specs.Defaults.{shape_of_frames}
 use Rattle.link_gen.specs.Generator.{frame_samples, generated_frames, state_behind}
 use Rattle.link_receiver.specs.HeardLists.{AskedPlaces}
-use Rattle.slice_exchange.specs.Calls.{AreBelow}
+use Rattle.slice_exchange.specs.Calls.{PlacesAreBelow}
 use Rattle.vc_types.specs.SenderSettings.{generating_view}
 use Rattle.check_command.proofs.command.check_frames.Given as goal
 
@@ -16,5 +16,5 @@ invariant-loop-frame g l = record {
   checked : (window : ℕ) → IsCheckedUpTo (generating_view l.g) window [] l.fn.checker
       → HasChecked (generating_view l.g) window (generated_frames (shape_of_frames (generating_view l.g).frames) l.g.seed l._frame) l.sender l.checker;
   told : AskedPlaces (g.P.Places.told l.fn.places) (g.P.Places.told l.places);
-  below : AreBelow (g.P.Places.bound l.places) l.checker.receiver.reception.out;
+  below : PlacesAreBelow (g.P.Places.bound l.places) l.checker.receiver.reception.out;
 }

@@ -1,8 +1,8 @@
 use Rattle.std.proofs.Common.{◌≡◌, ◌*◌, ◌≤◌, ℕ, List, [], None}
-use Rattle.slice_exchange.specs.Calls.{AreBelow}
+use Rattle.slice_exchange.specs.Calls.{PlacesAreBelow}
 use Rattle.link_receiver.specs.HeardLists.{OutputForm, HasHeard, AskedPlaces}
 use Rattle.vc_ports.specs.Changes.{changed}
-use Rattle.decode_command.specs.Hearing.{IsBehind, HasOffered}
+use Rattle.decode_command.specs.Hearing.{IsBehind, HandsWereOffered}
 use Rattle.decode_command.proofs.command.hear_with.Given as goal
 
 abbrev pub invariant-loop-entry : goal.invariant-loop-entry
@@ -14,9 +14,9 @@ invariant-loop-entry g l = record {
       → (datagrams : List (List ℕ)) × IsBehind form window l.fn.packets l._entry l.reader.place
       (g.S.Source.left l.fn.reader.source.now) (g.S.Source.left l.reader.source.now)
       (g.O.Sink.held l.fn.output) (g.O.Sink.held l.output) l.receiver datagrams
-      × HasOffered window datagrams (changed g.P.Places.told l.fn.places l.places);
+      × HandsWereOffered window datagrams (changed g.P.Places.told l.fn.places l.places);
   input_later : g.S.Source.faults l.fn.reader.source.now ≤ g.S.Source.faults l.reader.source.now;
   output_later : g.O.Sink.faults l.fn.output ≤ g.O.Sink.faults l.output;
   told : AskedPlaces (g.P.Places.told l.fn.places) (g.P.Places.told l.places);
-  below : AreBelow (g.P.Places.bound l.places) l.receiver.reception.out;
+  below : PlacesAreBelow (g.P.Places.bound l.places) l.receiver.reception.out;
 }

@@ -1,7 +1,7 @@
 use Rattle.std.proofs.Common.{ℕ, ◌+◌, ◌∙◌, ◌++◌, ◌∷◌, ◌^◌, [], List, length, Err, subst, sym, refl, arith, inr, length-append, ◌<◌}
 use Rattle.frame_reader.specs.FrameBytes.{frame_length}
 use Rattle.frame_reader.specs.Reading.{GaveFrame, ReadsFrame}
-use Rattle.frame_sending.specs.Steps.{FailsAt, IsBehindFrames, IsTaken}
+use Rattle.frame_sending.specs.Steps.{FailsAt, IsBehindFrames, FrameIsTaken}
 use Rattle.frame_sending.proofs.FrameSizes.{sized}
 use Rattle.frame_sending.proofs.Laws.{OutletLaws}
 use Rattle.frame_sending.proofs.LoopSteps.{failed_at, unread_at, more_than_one_byte, none_of, not_read}
@@ -74,7 +74,7 @@ loop-frame-preserved g c =
     let frame = planes_in c.in-Ok-Some.planes in
     let read = rw c.in-Ok-Some.field-0-is at c.in-Ok-Some.ensures.frame in
     let gave = subst (λ (shape : Shape). GaveFrame shape (g.S.Source.left c.loop-frame.input) (g.S.Source.left c.read_frame.new.source) frame) c.requires.shape read in
-    let value = subst (λ (st : SendSettings). (sent : List Planes) → length sent + 1 < 2 ^ 32 → IsBehindFrames (sending_view st) sent c.loop-frame.sender → IsTaken (sending_view st) sent (planes_in c.in-Ok-Some.planes) c.take.new.self (g.O.Outlet.carried c.loop-frame.outlet c.take.new.outlet)) c.loop-frame.invariant.settings c.in-Ok.ensures.value in
+    let value = subst (λ (st : SendSettings). (sent : List Planes) → length sent + 1 < 2 ^ 32 → IsBehindFrames (sending_view st) sent c.loop-frame.sender → FrameIsTaken (sending_view st) sent (planes_in c.in-Ok-Some.planes) c.take.new.self (g.O.Outlet.carried c.loop-frame.outlet c.take.new.outlet)) c.loop-frame.invariant.settings c.in-Ok.ensures.value in
     let taken = value at.0 (omega (arith, at.1, c.loop-frame-test.true, c.ranges.frames.fits)) at.2 in
     let long = length-append at.0 (frame ∷ []) in
     record {

@@ -1,7 +1,7 @@
 use Rattle.std.proofs.Common.{◌≡◌, ◌<◌, ℕ, Err, ap, subst, ◌∙◌, arith}
 use Rattle.std.specs.Prelude.{Result}
 use Rattle.gen_command.proofs.Writing.{no_failure, none_behind, none_written, same_ending, stopped, written_more}
-use Rattle.gen_command.specs.Generating.{raw_bytes}
+use Rattle.gen_command.specs.Generating.{raw_bytes_of_frames}
 use Rattle.gen_command.specs.Steps.{next_bytes}
 use Rattle.link_gen.proofs.Frames.{behind_one_frame_more}
 use Rattle.link_gen.specs.Defaults.{shape_of_frames}
@@ -54,7 +54,7 @@ returns g c =
     let all : c.loop-frame._frame ≡ c.args.g.now.frames = omega (arith, c.loop-frame-test.false, c.loop-frame.auto._frame-end) in
     record {
       ended = record {
-        wrote = subst (λ (n : ℕ). Grew (g.O.Sink.held c.args.output.now) (g.O.Sink.held c.loop-frame.output) (raw_bytes shape (generated_frames shape c.args.g.now.seed n))) all c.loop-frame.invariant.wrote;
+        wrote = subst (λ (n : ℕ). Grew (g.O.Sink.held c.args.output.now) (g.O.Sink.held c.loop-frame.output) (raw_bytes_of_frames shape (generated_frames shape c.args.g.now.seed n))) all c.loop-frame.invariant.wrote;
         frames_are = c.from-frames.ensures;
         samples_are = c.samples_of-samples.ensures;
       };

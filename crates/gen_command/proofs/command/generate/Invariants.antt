@@ -1,5 +1,5 @@
 use Rattle.std.proofs.Common.{◌≡◌, ◌≤◌, ◌*◌}
-use Rattle.gen_command.specs.Generating.{raw_bytes}
+use Rattle.gen_command.specs.Generating.{raw_bytes_of_frames}
 use Rattle.link_gen.specs.Defaults.{shape_of_frames}
 use Rattle.link_gen.specs.Generator.{frame_samples, generated_frames, state_behind}
 use Rattle.vc_ports.specs.Writing.{Grew}
@@ -10,6 +10,6 @@ abbrev pub invariant-loop-frame : goal.invariant-loop-frame
 invariant-loop-frame g l = record {
   state : l.state ≡ state_behind l.g.seed (l._frame * frame_samples (shape_of_frames (generating_view l.g).frames));
   wrote : Grew (g.O.Sink.held l.fn.output) (g.O.Sink.held l.output)
-      (raw_bytes (shape_of_frames (generating_view l.g).frames) (generated_frames (shape_of_frames (generating_view l.g).frames) l.g.seed l._frame));
+      (raw_bytes_of_frames (shape_of_frames (generating_view l.g).frames) (generated_frames (shape_of_frames (generating_view l.g).frames) l.g.seed l._frame));
   later : g.O.Sink.faults l.fn.output ≤ g.O.Sink.faults l.output;
 }

@@ -4,7 +4,7 @@ use Rattle.frame_writer.specs.Samples.{HaveByteSamples}
 use Rattle.vc_types.specs.Planes.{planes_in}
 use Rattle.vc_types.specs.Rasters.{Raster}
 use Rattle.vc_types.specs.SequenceHeader.{Sequence, picture_shape, sequence_of}
-use Rattle.link_core.specs.Shapes.{HaveShape}
+use Rattle.frame_writer.specs.Shapes.{HaveShape}
 use Rattle.link_core.proofs.Weavable.{field_heights, woven_fits}
 use Rattle.link_core.proofs.frames.frame.Goals as goal
 

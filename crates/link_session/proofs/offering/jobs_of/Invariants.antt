@@ -1,7 +1,7 @@
 use Rattle.std.proofs.Common.{◌≡◌, ◌++◌, map, drop}
 use Rattle.std.specs.Prelude.{filter_map}
 use Rattle.link_reception.specs.Exchanging.{book_job}
-use Rattle.link_session.specs.Jobs.{job_of}
+use Rattle.slice_jobs.specs.Jobs.{job_of}
 use Rattle.link_session.proofs.offering.jobs_of.Given as goal
 
 -- the jobs so far, and those of the other slices

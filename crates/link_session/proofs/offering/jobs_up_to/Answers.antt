@@ -3,7 +3,7 @@ use Rattle.std.specs.Prelude.{filter_map}
 use Rattle.std.specs.List.{range_with_len}
 use Rattle.link_model.specs.Places.{Job}
 use Rattle.link_reception.specs.Exchanging.{book_job}
-use Rattle.link_session.specs.Jobs.{job_of}
+use Rattle.slice_jobs.specs.Jobs.{job_of}
 use Rattle.link_session.proofs.OfferedJobs.{jobs_more}
 use Rattle.link_session.proofs.offering.jobs_up_to.Goals as goal
 

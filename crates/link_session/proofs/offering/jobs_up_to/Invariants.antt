@@ -2,7 +2,7 @@ use Rattle.std.proofs.Common.{◌≡◌, ◌++◌, ◌-◌, map}
 use Rattle.std.specs.Prelude.{filter_map}
 use Rattle.std.specs.List.{range_with_len}
 use Rattle.link_reception.specs.Exchanging.{book_job}
-use Rattle.link_session.specs.Jobs.{job_of}
+use Rattle.slice_jobs.specs.Jobs.{job_of}
 use Rattle.link_session.proofs.offering.jobs_up_to.Given as goal
 
 -- the jobs so far, and those of the other slices

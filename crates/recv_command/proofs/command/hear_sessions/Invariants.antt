@@ -2,7 +2,7 @@ use Rattle.std.proofs.Common.{◌≤◌, ℕ, List, []}
 use Rattle.std.specs.Prelude.{IsTrue}
 use Rattle.link_receiver.specs.HeardLists.{AsFrames, HasHeard, AskedPlaces}
 use Rattle.recv_command.specs.Listening.{IsBehindDatagrams}
-use Rattle.slice_exchange.specs.Calls.{AreBelow}
+use Rattle.slice_exchange.specs.Calls.{PlacesAreBelow}
 use Rattle.vc_ports.specs.Changes.{changed}
 use Rattle.recv_command.proofs.command.hear_sessions.Given as goal
 
@@ -17,5 +17,5 @@ invariant-loop-place g l = record {
   wire_later : g.N.Wire.faults l.fn.wire ≤ g.N.Wire.faults l.wire;
   output_later : g.O.Sink.faults l.fn.output ≤ g.O.Sink.faults l.output;
   told : AskedPlaces (g.P.Places.told l.fn.places) (g.P.Places.told l.places);
-  below : AreBelow (g.P.Places.bound l.places) l.receiver.reception.out;
+  below : PlacesAreBelow (g.P.Places.bound l.places) l.receiver.reception.out;
 }

@@ -2,7 +2,7 @@ use Rattle.std.proofs.Common.{ℕ, ◌++◌, List, take}
 use Rattle.check_command.specs.Comparing.{IsCheckedUpTo}
 use Rattle.link_receiver.specs.HeardLists.{AskedPlaces}
 use Rattle.link_sender.specs.Packing.{bytes_of_all}
-use Rattle.slice_exchange.specs.Calls.{AreBelow}
+use Rattle.slice_exchange.specs.Calls.{PlacesAreBelow}
 use Rattle.vc_types.specs.SenderSettings.{Generating}
 use Rattle.check_command.proofs.checker.Checker.take_all.Given as goal
 
@@ -11,5 +11,5 @@ invariant-loop-datagram g l = record {
   checked : (generating : Generating) (window : ℕ) (heard : List (List ℕ)) → IsCheckedUpTo generating window heard l.fn.self
       → IsCheckedUpTo generating window (heard ++ bytes_of_all (take l.datagram-index l.datagrams)) l.self;
   told : AskedPlaces (g.P.Places.told l.fn.places) (g.P.Places.told l.places);
-  below : AreBelow (g.P.Places.bound l.places) l.self.receiver.reception.out;
+  below : PlacesAreBelow (g.P.Places.bound l.places) l.self.receiver.reception.out;
 }

@@ -3,7 +3,7 @@ use Rattle.std.specs.Prelude.{not}
 use Rattle.std.specs.Option.{option_map}
 use Rattle.link_model.specs.Feeders.{is_kept, slice_job}
 use Rattle.link_model.specs.Machine as machine
-use Rattle.slice_ring.specs.Jobs.{job_of}
+use Rattle.slice_jobs.specs.Jobs.{job_of}
 use Rattle.link_core.proofs.Stepping.{reached_by, legal_if, redone_is, some_mapped}
 use Rattle.link_core.proofs.machine.Core.redo.Goals as goal
 

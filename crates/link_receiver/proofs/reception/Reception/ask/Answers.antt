@@ -4,7 +4,7 @@ use Rattle.link_receiver.proofs.Asked.{asked_none, asked_take}
 use Rattle.link_receiver.proofs.Exchanges.{no_call}
 use Rattle.link_receiver.proofs.Stays.{asked_past, asked_got, below_got}
 use Rattle.link_receiver.proofs.Steps.{take_some, take_none}
-use Rattle.slice_exchange.specs.Calls.{Takes, AreBelow}
+use Rattle.slice_exchange.specs.Calls.{Takes, PlacesAreBelow}
 use Rattle.link_receiver.proofs.reception.Reception.ask.Goals as goal
 
 pub returns-then-i-count-clause-exchanged : goal.returns-then-i-count-clause-exchanged
@@ -17,8 +17,8 @@ returns-then-i-count-clause-exchanged g c =
 
 pub ask-requires-clause-place : goal.ask-requires-clause-place
 ask-requires-clause-place g c =
-    let below : AreBelow (g.P.Places.bound c.args.places.now) c.self.inside.out =
-    subst (λ (r : Reception). AreBelow (g.P.Places.bound c.args.places.now) r.out)
+    let below : PlacesAreBelow (g.P.Places.bound c.args.places.now) c.self.inside.out =
+    subst (λ (r : Reception). PlacesAreBelow (g.P.Places.bound c.args.places.now) r.out)
     (sym c.self.view_is) c.requires.below in
     below_got _ c.self.inside.out c.args.i c.place-place.result below c.place-place.ensures
 

@@ -3,7 +3,7 @@ use Rattle.link_receiver.proofs.Stays.{AreAskedOrIn}
 use Rattle.link_receiver.specs.Exchanged.{IsExchanged}
 use Rattle.link_receiver.specs.Offers.{asked_in, proposed_in}
 use Rattle.link_receiver.specs.HeardLists.{AskedPlaces}
-use Rattle.slice_exchange.specs.Calls.{PlaceCall, AreBelow, exchanges_of}
+use Rattle.slice_exchange.specs.Calls.{PlaceCall, PlacesAreBelow, exchanges_of}
 use Rattle.link_receiver.proofs.reception.Reception.ask_all.Given as goal
 
 abbrev pub invariant-loop-i : goal.invariant-loop-i
@@ -14,5 +14,5 @@ invariant-loop-i g l = record {
       × AreAskedOrIn l.fn.self.out (asked_in (exchanges_of calls)) (take l.i l.self.out);
   asked : AskedPlaces (g.P.Places.told l.fn.places) (g.P.Places.told l.places);
   bound : g.P.Places.bound l.places ≡ g.P.Places.bound l.fn.places;
-  below : AreBelow (g.P.Places.bound l.places) l.self.out;
+  below : PlacesAreBelow (g.P.Places.bound l.places) l.self.out;
 }

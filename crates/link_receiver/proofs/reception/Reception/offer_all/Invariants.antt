@@ -1,7 +1,7 @@
 use Rattle.std.proofs.Common.{◌≡◌, take}
 use Rattle.link_receiver.proofs.CallSteps.{Offers}
 use Rattle.link_receiver.specs.HeardLists.{AskedPlaces}
-use Rattle.slice_exchange.specs.Calls.{AreBelow}
+use Rattle.slice_exchange.specs.Calls.{PlacesAreBelow}
 use Rattle.link_receiver.proofs.reception.Reception.offer_all.Given as goal
 
 abbrev pub invariant-loop-job : goal.invariant-loop-job
@@ -10,5 +10,5 @@ invariant-loop-job g l = record {
       (take l.job-index l.jobs);
   asked : AskedPlaces (g.P.Places.told l.fn.places) (g.P.Places.told l.places);
   bound : g.P.Places.bound l.places ≡ g.P.Places.bound l.fn.places;
-  below : AreBelow (g.P.Places.bound l.places) l.self.out;
+  below : PlacesAreBelow (g.P.Places.bound l.places) l.self.out;
 }

@@ -3,7 +3,7 @@ use Rattle.link_reception.specs.Releasing.{book_count}
 use Rattle.link_receiver.proofs.ReleaseLoop.{IsReleasing}
 use Rattle.link_receiver.specs.HeardLists.{AskedPlaces}
 use Rattle.link_receiver.specs.States.{WaitsForSecond}
-use Rattle.slice_exchange.specs.Calls.{AreBelow}
+use Rattle.slice_exchange.specs.Calls.{PlacesAreBelow}
 use Rattle.link_receiver.proofs.reception.Reception.release_all.Given as goal
 
 abbrev pub invariant-loop : goal.invariant-loop
@@ -16,5 +16,5 @@ invariant-loop g l = record {
   waiting : WaitsForSecond l.self.standing l.self.field;
   asked : AskedPlaces (g.P.Places.told l.fn.places) (g.P.Places.told l.places);
   bound : g.P.Places.bound l.places ≡ g.P.Places.bound l.fn.places;
-  below : AreBelow (g.P.Places.bound l.places) l.self.out;
+  below : PlacesAreBelow (g.P.Places.bound l.places) l.self.out;
 }

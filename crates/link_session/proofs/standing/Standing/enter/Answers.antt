@@ -2,7 +2,7 @@ use Rattle.std.proofs.Common.{ap, sym, ◌∙◌, map}
 use Rattle.std.proofs.lemmas.Result.{on_ok_weaker}
 use Rattle.link_model.proofs.WindowStands.{enters_runs}
 use Rattle.link_reception.specs.Receptions.{StandingSession}
-use Rattle.link_session.specs.Jobs.{job_of}
+use Rattle.slice_jobs.specs.Jobs.{job_of}
 use Rattle.link_session.proofs.WindowJobs.{late_offers}
 use Rattle.link_window.specs.Views.{sent_fragment}
 use Rattle.link_session.proofs.standing.Standing.enter.Goals as goal

@@ -3,7 +3,7 @@ use Rattle.link_model.specs.Sending.{SlicesContent}
 use Rattle.vc_types.specs.SenderSettings.{packing_view}
 use Rattle.picture_pack.specs.declared.outbox.Outbox.{Outbox}
 use Rattle.picture_pack.specs.declared.runs.OpenRun.{OpenRun}
-use Rattle.picture_pack.specs.Puts.{Puts}
+use Rattle.picture_pack.specs.Puts.{PutsDatagrams}
 use Rattle.picture_pack.specs.Runs.{PacksSlices, HoldsSlices, run_with_slices}
 use Rattle.picture_pack.proofs.RunsPut.{another_run, has_some, one_more}
 use Rattle.picture_pack.proofs.outbox.Outbox.pack.Goals as goal
@@ -23,7 +23,7 @@ returns-clause-packed c = λ slices first packed.
       | then-len-slice+in_ok-put_run w ↦ (
           let empty : c.if-len-slice.run.body.items ≡ [] = search rules in
           another_run p slices first x run packed slice next c.if-len-slice.self (omega (arith, w.if-len-slice.true, c.len.ensures))
-          (subst (λ (y : Outbox). (left : List (List ℕ)) → HoldsSlices run left → Puts p (SlicesContent (run_with_slices run left) ∷ []) x y) (sym w.self-is) w.in_ok-put_run.ensures)
+          (subst (λ (y : Outbox). (left : List (List ℕ)) → HoldsSlices run left → PutsDatagrams p (SlicesContent (run_with_slices run left) ∷ []) x y) (sym w.self-is) w.in_ok-put_run.ensures)
           (ap (λ (r : OpenRun). r.first) w.run-is)
           (ap (λ (r : OpenRun). r.count + 1) w.run-is)
           (c.in_ok-extend_from_slice.ensures.items ∙ (λ i. empty i ++ slice)))

@@ -2,7 +2,7 @@ use Rattle.std.proofs.Common.{rules, ◌≡◌, List, Some, None, refl, sym, ap,
 use Rattle.std.specs.Prelude.{position, slice_index_or, Option}
 use Rattle.std.specs.Option.{option_and_then}
 use Rattle.link_reception.specs.Receptions.{PictureAnswers, answer_at, answers_with, kept_answer, keeps_answer}
-use Rattle.slice_answers.specs.Jobs.{answered}
+use Rattle.slice_jobs.specs.Jobs.{answered}
 use Rattle.slice_answers.specs.SeenAnswers.{is_of_number}
 use Rattle.slice_answers.proofs.PictureLists.{stands, found_there, keeps_there, keeps_first}
 use Rattle.slice_answers.proofs.SeenSlots.{none_at}

@@ -1,7 +1,7 @@
 use Rattle.std.proofs.Common.{◌≡◌, ◌<◌, true, refl, sym, ap, subst, ◌∙◌, arith}
 use Rattle.picture_build.proofs.WholeSlices.{whole_slice}
 use Rattle.picture_build.specs.Kept.{PartPicture}
-use Rattle.slice_answers.specs.Jobs.{answered}
+use Rattle.slice_jobs.specs.Jobs.{answered}
 use Rattle.slice_answers.specs.SeenAnswers.{seen_answers}
 use Rattle.slice_answers.proofs.SeenSlots.{still_none, unanswered, kept_sound, kept_unsound}
 use Rattle.vc_types.specs.SameValues.{same_parameters}

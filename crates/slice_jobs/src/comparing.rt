@@ -1,6 +1,6 @@
 ghost use Rattle.std.specs.Prelude.{◌≡◌, bytes_eq};
 ghost use Rattle.link_model.specs.Feeding.{is_same_job};
-ghost use Rattle.slice_ring.specs.Jobs.{job_of};
+ghost use Rattle.slice_jobs.specs.Jobs.{job_of};
 
 use vc_slice::SliceJob;
 
