@@ -36,8 +36,8 @@ module _ (a b c : Option (List ℕ)) (i j k : ℕ) (first second : List (List �
     rose = omega (arith, p.later, q.rose);
   }
 
-pub part_before : (a b : Option (List ℕ)) (i j : ℕ) (first second : List (List ℕ)) (fault : OutletFault) → WrotePartOfEntries (held_between a b i j) first fault → WrotePartOfEntries (held_between a b i j) (first ++ second) fault
-part_before a b i j first second fault p = record {
+pub wrote_part_before : (a b : Option (List ℕ)) (i j : ℕ) (first second : List (List ℕ)) (fault : OutletFault) → WrotePartOfEntries (held_between a b i j) first fault → WrotePartOfEntries (held_between a b i j) (first ++ second) fault
+wrote_part_before a b i j first second fault p = record {
   fault_is = p.fault_is;
   wrote = subst (GrewBySome a b) (both first second) (GrewBySome-front a b (capture_of first) (capture_of second) p.wrote);
   rose = p.rose;

@@ -35,8 +35,8 @@ module _ (a b c : WireTold) (i j k : ℕ) (first second : List (List ℕ)) where
     rose = omega (arith, p.later, q.rose);
   }
 
-pub part_before : (a b : WireTold) (i j : ℕ) (first second : List (List ℕ)) (fault : OutletFault) → SentPart (told_between a b i j) first fault → SentPart (told_between a b i j) (first ++ second) fault
-part_before a b i j first second fault p = record {
+pub sent_part_before : (a b : WireTold) (i j : ℕ) (first second : List (List ℕ)) (fault : OutletFault) → SentPart (told_between a b i j) first fault → SentPart (told_between a b i j) (first ++ second) fault
+sent_part_before a b i j first second fault p = record {
   fault_is = p.fault_is;
   count = p.count;
   within = omega (arith, p.within, length-append first second);

@@ -1,6 +1,6 @@
 ghost use Rattle.std.proofs.Common.{◌∙◌};
 ghost use Rattle.std.specs.Prelude.{◌≡◌, ⊤, refl};
-ghost use Rattle.datagram_outlet.specs.CaptureLaws.{none_written, more_written, part_behind, part_before};
+ghost use Rattle.datagram_outlet.specs.CaptureLaws.{none_written, more_written, part_behind, wrote_part_before};
 ghost use Rattle.datagram_outlet.specs.Outlets.{WroteEntries, WrotePartOfEntries};
 ghost use Rattle.vc_ports.specs.Changes.{output_of};
 
@@ -51,6 +51,6 @@ impl<'a, O: Sink> Outlet for CaptureOutlet<'a, O> {
 
     ghost breaks_before = { λ x y first second fault a. (
       a.0,
-      part_before _ _ _ _ first second fault a.1,
+      wrote_part_before _ _ _ _ first second fault a.1,
     ) };
 }

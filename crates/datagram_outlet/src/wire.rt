@@ -1,6 +1,6 @@
 ghost use Rattle.std.proofs.Common.{◌∙◌};
 ghost use Rattle.std.specs.Prelude.{◌≡◌, IsTrue, refl};
-ghost use Rattle.datagram_outlet.specs.WireLaws.{none_sent, more_sent, part_behind, part_before};
+ghost use Rattle.datagram_outlet.specs.WireLaws.{none_sent, more_sent, part_behind, sent_part_before};
 ghost use Rattle.datagram_outlet.specs.Outlets.{SentAll, SentPart};
 ghost use Rattle.vc_ports.specs.Changes.{wire_of};
 
@@ -49,6 +49,6 @@ impl<'a, N: Wire> Outlet for WireOutlet<'a, N> {
 
     ghost breaks_before = { λ x y first second fault a. (
       a.0,
-      part_before _ _ _ _ first second fault a.1,
+      sent_part_before _ _ _ _ first second fault a.1,
     ) };
 }

@@ -9,7 +9,7 @@ use Rattle.vc_units.specs.Reading.{GaveUnit}
 use Rattle.vc_types.specs.DataUnits.{DataUnit, is_end_of_sequence}
 use Rattle.vc_units.specs.Units.{units_within}
 use Rattle.vc_units.proofs.Streams.{units_within-unit, units_within-end, units_within-nothing}
-use Rattle.play_command.specs.Looping.{then_units, IsBehindUnits, UnitsHaveEnded}
+use Rattle.play_command.specs.Looping.{then_units, PlayIsBehind, UnitsHaveEnded}
 use Rattle.play_command.specs.Taking.{Brings}
 use Rattle.play_command.specs.Stream.{StreamSoFar, Stream, at_start, all_taken, takes, after_unit, played}
 use Rattle.play_command.proofs.SoFar.{so_far-taken}
@@ -18,7 +18,7 @@ abbrev Units : Type 0
 Units = List DataUnit × List ℕ
 
 -- before the first unit
-pub begun : (packets : ℕ) (left held : Option (List ℕ)) → IsBehindUnits packets 0 left left held held at_start
+pub begun : (packets : ℕ) (left held : Option (List ℕ)) → PlayIsBehind packets 0 left left held held at_start
 unfolding all_taken
 begun packets left held = record {
   given = [];
@@ -34,7 +34,7 @@ begun packets left held = record {
     same : packets ≡ packets - 0
     same = omega arith
 
-module _ (packets number : ℕ) (before mid held_before held_mid : Option (List ℕ)) (h : StreamSoFar) (at : IsBehindUnits packets number before mid held_before held_mid h) where
+module _ (packets number : ℕ) (before mid held_before held_mid : Option (List ℕ)) (h : StreamSoFar) (at : PlayIsBehind packets number before mid held_before held_mid h) where
   -- bytes behind the units, and the units that these have
   pub with_units : (more : List ℕ) (last : Units) → units_within (packets - number) more ≡ last → units_within packets (at.given ++ more) ≡ then_units at.units last
   with_units more last is = at.split more ∙ ap (then_units at.units) is
@@ -66,7 +66,7 @@ module _ (packets number : ℕ) (before mid held_before held_mid : Option (List 
       all_written = rw b.grows (Grew-then held_before held_mid held_after (played h.stream) b.due at.wrote grew)
 
       -- a unit more
-      pub with_unit : is_end_of_sequence u ≡ false → IsBehindUnits packets (number + 1) before after held_before held_after (after_unit h u b.next)
+      pub with_unit : is_end_of_sequence u ≡ false → PlayIsBehind packets (number + 1) before after held_before held_after (after_unit h u b.next)
       with_unit goes_on = record {
         given = at.given ++ gave.bytes;
         units = at.units ++ u ∷ [];

@@ -20,7 +20,7 @@ use Rattle.vc_units.proofs.Streams.{units_within-refused}
 use Rattle.play_command.specs.declared.fault.TakeFault.{TakeFault}
 use Rattle.play_command.specs.declared.fault.TakeFault.TheVariants as taking
 use Rattle.play_command.specs.Endings.{reading_ended, taking_ended}
-use Rattle.play_command.specs.Looping.{IsBehindUnits, UnitsHaveEnded, PlayStops}
+use Rattle.play_command.specs.Looping.{PlayIsBehind, UnitsHaveEnded, PlayStops}
 use Rattle.play_command.specs.Playing.{UnitSplit, IsLast, PlayEnded, Plays}
 use Rattle.play_command.specs.Steps.{PlayState}
 use Rattle.play_command.specs.Stream.{StreamSoFar, Stream, units_taken, takes, after_unit, played, pictures_in, frames_in, unpaired_in}
@@ -34,7 +34,7 @@ Units = List DataUnit × List ℕ
 abbrev split : Units → UnitSplit
 split all = record { units = all.0; rest = all.1 }
 
-module _ (packets number : ℕ) (input : InputChange) (output : OutputChange) (mid held_mid : Option (List ℕ)) (h : StreamSoFar) (at : IsBehindUnits packets number input.left.before mid output.held.before held_mid h) where
+module _ (packets number : ℕ) (input : InputChange) (output : OutputChange) (mid held_mid : Option (List ℕ)) (h : StreamSoFar) (at : PlayIsBehind packets number input.left.before mid output.held.before held_mid h) where
   -- an end with these units and this rest
   stopped : (answer : Result Summary Ending) (more : List ℕ) (all : Units) → Gave mid input.left.after more → units_within packets (at.given ++ more) ≡ all → PlayEnded packets answer input output (split all) → PlayStops packets answer input output
   stopped answer more all gave is ended = record {

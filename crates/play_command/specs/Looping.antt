@@ -23,7 +23,7 @@ then_units units behind = (units ++ behind.0, behind.1)
 
 -- the source gave the bytes of so many units, none of which ends the sequence or is refused; what they bring, and what
 -- was written of it
-pub record IsBehindUnits
+pub record PlayIsBehind
     (packets number : ℕ) (before after held_before held_after : Option (List ℕ)) (h : StreamSoFar)
     : Type 0 where
   pub given : List ℕ
@@ -53,7 +53,7 @@ abbrev pub HasPlayedUnits : ℕ → Stop → InputChange → OutputChange → St
 HasPlayedUnits packets Ended input output h =
     UnitsHaveEnded packets input.left.before input.left.after output.held.before output.held.after h
 HasPlayedUnits packets AtLimit input output h =
-    IsBehindUnits packets packets
+    PlayIsBehind packets packets
     input.left.before input.left.after output.held.before output.held.after h
 
 -- the loop stopped without a fault; what came, and what is kept of it

@@ -56,7 +56,7 @@ pub record HasPlayed
   pub frames_are : frames ≡ frames_in (so_far s).stream
 
 -- a read failed, where a unit more was asked for, or a byte behind as many units as were asked for
-pub record CouldNotReadUnit (packets : ℕ) (output : OutputChange) (s : UnitSplit) : Type 0 where
+pub record PlayCouldNotRead (packets : ℕ) (output : OutputChange) (s : UnitSplit) : Type 0 where
   pub accepted : AreAccepted s.units
   pub goes_on : IsFalse (has_ended s)
   pub short : data_unit s.rest ≡ Err Short
@@ -107,7 +107,7 @@ pub record IsBad
 abbrev pub PlayEnded : ℕ → Result Summary Ending → InputChange → OutputChange → UnitSplit → Type 0
 PlayEnded packets (Ok (Played pictures unpaired frames)) input output s =
     HasPlayed input output s pictures unpaired frames
-PlayEnded packets (Err InputFailed) input output s = CouldNotReadUnit packets output s
+PlayEnded packets (Err InputFailed) input output s = PlayCouldNotRead packets output s
 PlayEnded packets (Err OutputFailed) input output s = WrotePart output (frames_due s)
 PlayEnded packets (Err NoMemory) input output s = WrotePart output (frames_due s)
 PlayEnded packets (Err (PacketLimit limit)) input output s = UnitIsPastLimit packets output s limit

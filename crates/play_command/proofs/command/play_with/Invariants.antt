@@ -1,5 +1,5 @@
 use Rattle.std.proofs.Common.{◌≡◌, ◌*◌, ◌≤◌, None}
-use Rattle.play_command.specs.Looping.{IsBehindUnits}
+use Rattle.play_command.specs.Looping.{PlayIsBehind}
 use Rattle.play_command.specs.Steps.{state_so_far}
 use Rattle.play_command.specs.Stream.{StreamSoFar}
 use Rattle.play_command.specs.Taking.{CountsAtMost}
@@ -12,7 +12,7 @@ invariant-loop-unit g l = record {
   sound : l.reader.fault ≡ None;
   near : l.reader.place ≤ 268435456 * l._unit;
   behind : (h : StreamSoFar) × (player_state l.player ≡ state_so_far h) × (l.reader.place ≡ h.place)
-      × IsBehindUnits l.fn.packets l._unit (g.S.Source.left l.fn.reader.source.now) (g.S.Source.left l.reader.source.now) (g.O.Sink.held l.fn.output) (g.O.Sink.held l.output) h;
+      × PlayIsBehind l.fn.packets l._unit (g.S.Source.left l.fn.reader.source.now) (g.S.Source.left l.reader.source.now) (g.O.Sink.held l.fn.output) (g.O.Sink.held l.output) h;
   few : CountsAtMost l._unit (player_state l.player);
   input_later : g.S.Source.faults l.fn.reader.source.now ≤ g.S.Source.faults l.reader.source.now;
   output_later : g.O.Sink.faults l.fn.output ≤ g.O.Sink.faults l.output;
