@@ -103,19 +103,19 @@ matrix_bits true values fits few = omega arith
 matrix_bits false values fits few = let bits = values_bits values fits in omega (arith, bits, few)
 
 -- numbers of 16 bits and a matrix of 16 values
-record AreSmall (p : Parameters) : Type 0 where
-  wavelet : p.wavelet < 2 ^ 16
-  wavelet_ho : p.wavelet_ho < 2 ^ 16
-  depth : p.depth < 2 ^ 16
-  depth_ho : p.depth_ho < 2 ^ 16
-  levels : p.depth_ho + 3 * p.depth ≤ 15
-  across : p.slices_x < 2 ^ 16
-  down : p.slices_y < 2 ^ 16
-  prefix : p.prefix < 2 ^ 16
-  scaler : p.scaler < 2 ^ 16
-  matrix : matrix_fits p.matrix ≡ true
+pub record AreSmall (p : Parameters) : Type 0 where
+  pub wavelet : p.wavelet < 2 ^ 16
+  pub wavelet_ho : p.wavelet_ho < 2 ^ 16
+  pub depth : p.depth < 2 ^ 16
+  pub depth_ho : p.depth_ho < 2 ^ 16
+  pub levels : p.depth_ho + 3 * p.depth ≤ 15
+  pub across : p.slices_x < 2 ^ 16
+  pub down : p.slices_y < 2 ^ 16
+  pub prefix : p.prefix < 2 ^ 16
+  pub scaler : p.scaler < 2 ^ 16
+  pub matrix : matrix_fits p.matrix ≡ true
 
-few_parameter_bits : (p : Parameters) → AreSmall p → length (parameter_bits 3 (encoder_parameters p)) ≤ 1000
+pub few_parameter_bits : (p : Parameters) → AreSmall p → length (parameter_bits 3 (encoder_parameters p)) ≤ 1000
 few_parameter_bits p small =
     let a = uint_bits p.wavelet in
     let b = uint_bits p.depth in
@@ -137,17 +137,17 @@ few_parameter_bits p small =
 filled_length : (bits : List Bool) → length (filled_up bits) ≡ length bits + (8 - length bits % 8) % 8
 filled_length bits = length-append bits (replicate ((8 - length bits % 8) % 8) false) ∙ ap (λ n. length bits + n) (length-replicate ((8 - length bits % 8) % 8) false)
 
-few_packed : (bits : List Bool) → length bits ≤ 1000 → length (packed_bits (filled_up bits)) ≤ 1000
+pub few_packed : (bits : List Bool) → length bits ≤ 1000 → length (packed_bits (filled_up bits)) ≤ 1000
 few_packed bits few =
     let filled = filled_length bits in
     let whole : length (filled_up bits) % 8 ≡ 0 = omega (arith, filled) in
     let packed = length-packed_bits (filled_up bits) whole in
     omega (arith, filled, packed, few)
 
-slices_small : (across down : ℕ) → slices_fit across down ≡ true → (across < 2 ^ 16) × (down < 2 ^ 16)
+pub slices_small : (across down : ℕ) → slices_fit across down ≡ true → (across < 2 ^ 16) × (down < 2 ^ 16)
 slices_small across down fits = (grind (arith, nat_tests), grind (arith, nat_tests))
 
-slice_bytes_small : (prefix scaler : ℕ) → slice_bytes_fit prefix scaler ≡ true → (prefix < 2 ^ 16) × (scaler < 2 ^ 16)
+pub slice_bytes_small : (prefix scaler : ℕ) → slice_bytes_fit prefix scaler ≡ true → (prefix < 2 ^ 16) × (scaler < 2 ^ 16)
 slice_bytes_small prefix scaler fits = (grind (arith, nat_tests), grind (arith, nat_tests))
 
 plan_small : (plan : Plan) → AreSmall (parameters_of plan)

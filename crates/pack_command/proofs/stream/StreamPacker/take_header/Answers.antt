@@ -9,4 +9,4 @@ returns-in-None-clause-value c = λ s stream was.
 
 pub returns-in-Some-clause-value : goal.returns-in-Some-clause-value
 returns-in-Some-clause-value c = λ s stream was.
-    next_header s stream c.args.self.now c.in-Some.stream was c.in-Some.is c.args.body.items _ c.in-Ok.used (rw c.deref.ensures.value at c.in-Ok.ensures.exact) (sym c.same_header.ensures ∙ c.if-same_header.true) _ _ refl refl refl refl c.truncate.ensures.items refl refl
+    next_header s stream c.args.self.now c.in-Some.stream was c.in-Some.is c.args.body.items _ c.in-Ok.used (rw c.deref.ensures.value at c.in-Ok.ensures.exact) (sym c.is_same.ensures ∙ c.if-is_same.true) _ _ refl refl refl refl c.truncate.ensures.items refl refl
