@@ -1,3 +1,4 @@
+pub mod ColourParts
 pub mod Samples
 pub mod FilledRows
 pub mod PlacedSlices

@@ -129,13 +129,27 @@ pub(crate) fn put_blocks(
         (in_range (all_coefficients (parameters_of plan.now) slice (coded_of coded.now))
         ≡ Ok (all_coefficients (parameters_of plan.now) slice (coded_of coded.now))) }
 {
-    put_block(plan, Component::Y, slice, coded.index, coded.y, numbers, y)?;
+    let index = coded.index;
+    let mut rects = [NOWHERE; 16];
+    slice_rects(plan, Component::Y, slice, &mut rects);
+    put_block(
+        plan,
+        Component::Y,
+        slice,
+        index,
+        coded.y,
+        &rects,
+        numbers,
+        y,
+    )?;
+    slice_rects(plan, Component::C1, slice, &mut rects);
     put_block(
         plan,
         Component::C1,
         slice,
-        coded.index,
+        index,
         coded.c1,
+        &rects,
         numbers,
         c1,
     )?;
@@ -143,8 +157,9 @@ pub(crate) fn put_blocks(
         plan,
         Component::C2,
         slice,
-        coded.index,
+        index,
         coded.c2,
+        &rects,
         numbers,
         c2,
     )
@@ -156,11 +171,14 @@ fn put_block(
     slice: u32,
     index: u8,
     block: &[u8],
+    rects: &[Rect],
     numbers: &mut [i32],
     cells: &mut CoefficientCells,
 ) -> Result<(), TooWide>
     requires slice { slice < slice_count (parameters_of plan.now) }
     requires index { index ≤ 127 }
+    requires rects { AreSliceRectangles (parameters_of plan.now) c slice rects.now }
+    requires all { subband_count plan.now.depth_ho plan.now.depth ≤ length rects.now }
     requires room { slice_coefficient_count (parameters_of plan.now) c slice + 8
         ≤ length numbers.old }
     requires cells { length cells.old
@@ -171,10 +189,8 @@ fn put_block(
     ensures sound { OnOk result (list_any is_large
         (block_coefficients (parameters_of plan.now) c slice index block.now) ≡ false) }
 {
-    let mut rects = [NOWHERE; 16];
-    slice_rects(plan, c, slice, &mut rects);
-    read_narrow_in(plan, c, slice, index, block, &rects, numbers)?;
-    place_numbers(plan, c, slice, &rects, numbers, cells);
+    read_narrow_in(plan, c, slice, index, block, rects, numbers)?;
+    place_numbers(plan, c, slice, rects, numbers, cells);
     Ok(())
 }
 

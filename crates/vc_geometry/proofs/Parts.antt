@@ -32,3 +32,12 @@ module _ (p : Parameters) (c : Component) (slice b : ℕ) (rects : List Rect) (b
     bottom = at (λ k q. q.y + q.height ≤ padded_height p c) bottom before.bottom;
     small = at (λ k q. (q.x + q.width ≤ 8192) × (q.y + q.height ≤ 8192)) few before.small;
   }
+
+-- of none
+pub no_parts : (p : Parameters) (c : Component) (slice : ℕ) (rects : List Rect) → ArePartsOf p c slice 0 rects
+no_parts p c slice rects = record {
+  parts = λ b none lt. absurd (omega (arith, lt));
+  right = λ b none lt. absurd (omega (arith, lt));
+  bottom = λ b none lt. absurd (omega (arith, lt));
+  small = λ b none lt. absurd (omega (arith, lt));
+}

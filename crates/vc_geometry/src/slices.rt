@@ -32,9 +32,14 @@ pub fn slice_rects(plan: &Plan, c: Component, slice: u32, rects: &mut [Rect])
 {
     let (width, height) = padded(plan, c);
     let (column, row) = place_of_slice(plan, slice);
-    for b in 0..bands(plan) {
-        let band = band_in(plan, c, width, height, b);
-        rects[b as usize] = part(plan, &band, column, row);
+    let mut band = band_in(plan, c, width, height, 0);
+    let mut rect = part(plan, &band, column, row);
+    rects[0] = rect;
+    for b in 1..bands(plan) {
+        let next = band_in(plan, c, width, height, b);
+        rect = part_beside(plan, &band, &rect, &next, column, row);
+        rects[b as usize] = rect;
+        band = next;
     }
 }
 
@@ -68,9 +73,34 @@ fn part(plan: &Plan, band: &Rect, column: u32, row: u32) -> Rect
     }
 }
 
+// The part of a subband, from the same part of the one before: most have the size of the one before.
+#[inline(always)]
+fn part_beside(plan: &Plan, before: &Rect, rect: &Rect, band: &Rect, column: u32, row: u32) -> Rect
+    requires column { column < plan.now.slices_x }
+    requires row { row < plan.now.slices_y }
+    requires rect { rect.now ≡ share before.now plan.now.slices_x plan.now.slices_y column row }
+    requires range { (band.now.x + band.now.width ≤ 8192) × (band.now.y + band.now.height ≤ 8192) }
+    requires right { rect.now.x + rect.now.width ≤ before.now.x + before.now.width }
+    requires bottom { rect.now.y + rect.now.height ≤ before.now.y + before.now.height }
+    ensures value { result ≡ share band.now plan.now.slices_x plan.now.slices_y column row }
+    ensures right { result.x + result.width ≤ band.now.x + band.now.width }
+    ensures bottom { result.y + result.height ≤ band.now.y + band.now.height }
+{
+    if band.width != before.width || band.height != before.height {
+        return part(plan, band, column, row);
+    }
+    Rect {
+        x: band.x + (rect.x - before.x),
+        y: band.y + (rect.y - before.y),
+        width: rect.width,
+        height: rect.height,
+    }
+}
+
 // Where share k of n begins in a length, and how long it is.
 fn share_of(length: u32, n: u32, k: u32) -> (u32, u32)
     requires share { k < n }
+    requires small { (length ≤ 8192) × (n ≤ 65535) }
     ensures from { result.0 ≡ share_start length n k }
     ensures len { result.1 ≡ share_start length n (k + 1) - share_start length n k }
     ensures within { result.0 + result.1 ≤ length }
@@ -82,10 +112,11 @@ fn share_of(length: u32, n: u32, k: u32) -> (u32, u32)
 fn start(length: u32, n: u32, k: u32) -> u32
     requires some { 0 < n }
     requires share { k ≤ n }
+    requires small { (length ≤ 8192) × (n ≤ 65535) }
     ensures value { result ≡ share_start length n k }
     ensures within { result ≤ length }
 {
-    (u64::from(length) * u64::from(k) / u64::from(n)) as u32
+    length * k / n
 }
 
 /// How many coefficients of a component a slice has.
