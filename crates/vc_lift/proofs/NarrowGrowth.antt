@@ -11,10 +11,10 @@ use Rattle.std.proofs.Math.Seq.{drop-cons}
 use Rattle.vc_types.specs.Lifting.{half_of, changed_by}
 use Rattle.vc_lift.specs.CountedSteps.{CountedStep, sum_met, change_at, lift, lift_all}
 use Rattle.vc_lift.specs.Growth.{IsWithin}
-use Rattle.vc_lift.specs.Ranges.{HasRange, StaysNarrow, rounded_sum, stretched, stretched_below, bound_after, counted_synthesis, narrow_bound}
-use Rattle.vc_types.specs.Wavelets.{synthesised}
-use Rattle.vc_lift.proofs.CountedSteps.{counted_steps, synthesised_counted}
-use Rattle.vc_lift.proofs.LineGrowth.{kept_at, lifted_at, plain_parity, plain_at, synthesis_little}
+use Rattle.vc_lift.specs.Ranges.{HasRange, StaysNarrow, rounded_sum, stretched, stretched_below, bound_after, counted_synthesis, counted_analysis, narrow_bound, narrow_analysis_bound}
+use Rattle.vc_types.specs.Wavelets.{synthesised, analysed}
+use Rattle.vc_lift.proofs.CountedSteps.{counted_steps, synthesised_counted, analysed_counted}
+use Rattle.vc_lift.proofs.LineGrowth.{kept_at, lifted_at, plain_parity, plain_at, synthesis_little, analysis_little}
 use Rattle.vc_lift.proofs.NarrowSums.{shr_at_most, sum_met_within}
 use Rattle.vc_lift.proofs.WeightedSums.{abs-add}
 
@@ -213,3 +213,13 @@ unfolding counted_steps
 synthesis_after wavelet half most after x some fits small k h =
     subst (λ (z : ℤ). unsigned_abs z ≤ after) (sym (ap (λ f. f k) (synthesised_counted wavelet half x)))
     (narrow_after (counted_synthesis wavelet) half most after x some (λ j d lt. plain_parity (get_or (counted_synthesis wavelet) j d) (plain_at 16 (counted_synthesis wavelet) 4096 4096 j d (synthesis_little wavelet) lt)) fits small k h)
+
+pub narrow_analysis_covers : (wavelet most after : ℕ) → narrow_analysis_bound wavelet most ≡ Some after → most ≤ after
+narrow_analysis_covers wavelet most after fits = (bound_covers (2 ^ 31) (counted_analysis wavelet) most most after fits).0
+
+-- what analysis makes of a line
+pub analysis_after : (wavelet half most after : ℕ) (x : ℕ → ℤ) → 0 < half → narrow_analysis_bound wavelet most ≡ Some after → ((k : ℕ) → k < 2 * half → unsigned_abs (x k) ≤ most) → (k : ℕ) → k < 2 * half → unsigned_abs (analysed wavelet (2 * half) x k) ≤ after
+unfolding counted_steps
+analysis_after wavelet half most after x some fits small k h =
+    subst (λ (z : ℤ). unsigned_abs z ≤ after) (sym (ap (λ f. f k) (analysed_counted wavelet half x)))
+    (narrow_after (counted_analysis wavelet) half most after x some (λ j d lt. plain_parity (get_or (counted_analysis wavelet) j d) (plain_at 16 (counted_analysis wavelet) 4096 4096 j d (analysis_little wavelet) lt)) fits small k h)

@@ -3,7 +3,7 @@ use Rattle.std.specs.Prelude.{ℕ, ◌+◌, ◌-◌, ◌*◌, ◌/◌, ◌^◌, 
 use Rattle.std.specs.Option.{option_and_then}
 use Rattle.vc_types.specs.Lifting.{Line, half_of}
 use Rattle.vc_types.specs.Wavelets.{synthesis_steps}
-use Rattle.vc_lift.specs.CountedSteps.{CountedStep, counted_step, place_met}
+use Rattle.vc_lift.specs.CountedSteps.{CountedStep, counted_step, place_met, undone}
 use Rattle.vc_lift.specs.Growth.{weight, IsWithin}
 
 -- a bound on a step's rounded sums, from one on the samples that the taps meet
@@ -38,6 +38,14 @@ counted_synthesis wavelet = map counted_step (synthesis_steps wavelet)
 -- a bound on all samples after synthesis in 32 bits, from one before it
 abbrev pub narrow_bound : ℕ → ℕ → Option ℕ
 narrow_bound wavelet most = bound_after (2 ^ 31) (counted_synthesis wavelet) most most
+
+-- the steps of analysis
+abbrev pub counted_analysis : ℕ → List CountedStep
+counted_analysis wavelet = undone (counted_synthesis wavelet)
+
+-- a bound on all samples after analysis in 32 bits, from one before it
+abbrev pub narrow_analysis_bound : ℕ → ℕ → Option ℕ
+narrow_analysis_bound wavelet most = bound_after (2 ^ 31) (counted_analysis wavelet) most most
 
 -- bounds with which a step stays below the limit, on a line
 pub record HasRange (limit : ℕ) (s : CountedStep) (half : ℕ) (x : Line) : Type 0 where

@@ -15,5 +15,5 @@ pub use columns::{analyse_columns, synth_columns};
 pub use halves::Halves;
 pub use laws::{lines_grow_little, lines_stand_alone, synthesis_undoes_analysis};
 pub use line::{analyse, synth};
-pub use narrow::synth_narrow;
-pub use ranges::narrow_bound;
+pub use narrow::{analyse_narrow, synth_narrow};
+pub use ranges::{narrow_analysis_bound, narrow_bound};

@@ -1,9 +1,9 @@
 ghost use Rattle.std.specs.Prelude.{◌≡◌, ◌+◌, ◌-◌, ◌*◌, ◌/◌, ◌^◌, ◌<◌, ◌≤◌, ◌⊎◌, ℕ, length, unsigned_abs, map, IsTrue};
 ghost use Rattle.vc_types.specs.Lifting.{line_of, half_of, changed_by};
-ghost use Rattle.vc_types.specs.Wavelets.{synthesised};
+ghost use Rattle.vc_types.specs.Wavelets.{synthesised, analysed};
 ghost use Rattle.vc_lift.specs.CountedSteps.{sum_met, change_at, lift, lift_all, lift_between, in_order, place_met};
 ghost use Rattle.vc_lift.specs.Growth.{IsPlain, grows_little};
-ghost use Rattle.vc_lift.specs.Ranges.{HasRange, HasRangeAt, StaysNarrow, counted_synthesis};
+ghost use Rattle.vc_lift.specs.Ranges.{HasRange, HasRangeAt, StaysNarrow, counted_synthesis, counted_analysis};
 ghost use Rattle.vc_lift.specs.Steps.{counted_of, counted_row};
 ghost use Rattle.vc_lift.specs.Halves.{halves_place, line_in, AreLines, CanRun, IsBeside};
 
@@ -294,4 +294,20 @@ pub fn synth_narrow(wavelet: u8, cells: &mut [i32], halves: &Halves, width: usiz
         → line_of cells.new i ≡ line_of cells.old i }
 {
     run(cells, halves, width, steps(wavelet), false)
+}
+
+/// Analyses lines that stand side by side, in 32 bits. Magnitudes are such that no step leaves 32 bits, as
+/// `narrow_analysis_bound` tells.
+pub fn analyse_narrow(wavelet: u8, cells: &mut [i32], halves: &Halves, width: usize)
+    requires wavelet { wavelet ≤ 6 }
+    requires lines { AreLines halves.now width (length cells.old) }
+    requires narrow { (x : ℕ) → x < width
+        → StaysNarrow (counted_analysis wavelet) halves.now.half (line_in halves.now cells.old x) }
+    ensures on { (x k : ℕ) → x < width → k < 2 * halves.now.half
+        → line_in halves.now cells.new x k
+        ≡ analysed wavelet (2 * halves.now.half) (line_in halves.now cells.old x) k }
+    ensures off { (i : ℕ) → IsBeside halves.now width i
+        → line_of cells.new i ≡ line_of cells.old i }
+{
+    run(cells, halves, width, steps(wavelet), true)
 }

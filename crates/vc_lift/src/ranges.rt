@@ -1,11 +1,11 @@
-ghost use Rattle.std.specs.Prelude.{◌≡◌, ◌+◌, ◌*◌, ◌^◌, ◌<◌, ◌≤◌, ◌∷◌, List, IfSome, unsigned_abs};
+ghost use Rattle.std.specs.Prelude.{◌≡◌, ◌+◌, ◌*◌, ◌^◌, ◌<◌, ◌≤◌, ◌∷◌, List, IfSome, IsTrue, map, unsigned_abs};
 ghost use Rattle.std.specs.Option.{option_and_then};
-ghost use Rattle.vc_lift.specs.CountedSteps.{CountedStep};
-ghost use Rattle.vc_lift.specs.Growth.{IsPlain, weight};
-ghost use Rattle.vc_lift.specs.Ranges.{stretched_below, bound_after, narrow_bound};
-ghost use Rattle.vc_lift.specs.Steps.{counted_of};
+ghost use Rattle.vc_lift.specs.CountedSteps.{CountedStep, in_order};
+ghost use Rattle.vc_lift.specs.Growth.{IsPlain, weight, grows_little};
+ghost use Rattle.vc_lift.specs.Ranges.{stretched_below, bound_after, narrow_bound, narrow_analysis_bound};
+ghost use Rattle.vc_lift.specs.Steps.{counted_of, counted_row};
 
-use crate::step::{Step, step_at, steps};
+use crate::step::{Row, Step, step_at, steps};
 
 // The taps' magnitudes in sum.
 fn weight(step: &Step) -> u64
@@ -53,6 +53,22 @@ fn next(step: &Step, even: u64, odd: u64) -> Option<(u64, u64)>
     }
 }
 
+// A bound on the samples of lines after steps in 32 bits, in turn or undone, from a bound before them.
+fn bound_after(rows: &[Row], undo: bool, most: u64) -> Option<u64>
+    requires steps { IsTrue (grows_little 16 (in_order undo (map counted_row rows.now))) }
+    requires most { most < 2 ^ 31 }
+    ensures value { result
+        ≡ bound_after (2 ^ 31) (in_order undo (map counted_row rows.now)) most most }
+    ensures small { IfSome result (λ bound. bound < 2 ^ 31) }
+{
+    let mut bounds = (most, most);
+    for i in 0..rows.len() {
+        let step = step_at(rows, undo, i);
+        bounds = next(&step, bounds.0, bounds.1)?;
+    }
+    Some(bounds.0.max(bounds.1))
+}
+
 /// A bound on the samples of lines that are synthesised in 32 bits, from a bound before that; none where a step could
 /// leave 32 bits.
 pub fn narrow_bound(wavelet: u8, most: u64) -> Option<u64>
@@ -61,11 +77,15 @@ pub fn narrow_bound(wavelet: u8, most: u64) -> Option<u64>
     ensures value { result ≡ narrow_bound wavelet most }
     ensures small { IfSome result (λ bound. bound < 2 ^ 31) }
 {
-    let rows = steps(wavelet);
-    let mut bounds = (most, most);
-    for i in 0..rows.len() {
-        let step = step_at(rows, false, i);
-        bounds = next(&step, bounds.0, bounds.1)?;
-    }
-    Some(bounds.0.max(bounds.1))
+    bound_after(steps(wavelet), false, most)
+}
+
+/// The same of lines that are analysed.
+pub fn narrow_analysis_bound(wavelet: u8, most: u64) -> Option<u64>
+    requires wavelet { wavelet ≤ 6 }
+    requires most { most < 2 ^ 31 }
+    ensures value { result ≡ narrow_analysis_bound wavelet most }
+    ensures small { IfSome result (λ bound. bound < 2 ^ 31) }
+{
+    bound_after(steps(wavelet), true, most)
 }
