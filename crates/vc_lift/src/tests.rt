@@ -2,8 +2,9 @@ ghost use Rattle.std.specs.Prelude.{◌≡◌, ◌+◌, ◌*◌, ◌%◌, ◌^�
 ghost use Rattle.vc_types.specs.Lifting.{line_of};
 
 use crate::{
-    Halves, analyse, analyse_columns, lines_grow_little, lines_stand_alone, narrow_bound, synth,
-    synth_columns, synth_narrow, synthesis_undoes_analysis,
+    Halves, analyse, analyse_columns, analyse_narrow, lines_grow_little, lines_stand_alone,
+    narrow_analysis_bound, narrow_bound, synth, synth_columns, synth_narrow,
+    synthesis_undoes_analysis,
 };
 use std::alloc::Global;
 use std::test::Fail;
@@ -245,6 +246,91 @@ fn widths_agree_at_the_limit(rt: HostRuntime) -> Result<(), Fail> {
             assert!(rt; narrow_line(wavelet, narrow.as_mut_slice(), most));
             assert!(rt; is_line(wide.as_slice()));
             synth(wavelet, wide.as_mut_slice());
+            assert!(rt;
+                are_same(narrow.as_slice(), wide.as_slice()),
+                "wavelet {wavelet}"
+            );
+        }
+    }
+    Ok(())
+}
+
+// The same bounds where lines are analysed.
+static GREATEST_ANALYSED: [(u64, u64); 7] = [
+    (107_374_181, 241_591_908),
+    (536_870_910, 1_073_741_822),
+    (47_721_857, 114_830_720),
+    (1_073_741_822, 2_147_483_646),
+    (1_073_741_822, 2_147_483_646),
+    (3_199_826, 11_588_434),
+    (87_956, 651_130),
+];
+
+#[test]
+fn bounds_of_analysis_end_where_32_bits_do(rt: HostRuntime) {
+    for wavelet in 0..7 {
+        let (most, after) = GREATEST_ANALYSED[wavelet as usize];
+        assert_eq!(rt;
+            narrow_analysis_bound(wavelet, most),
+            Some(after),
+            "wavelet {wavelet}"
+        );
+        assert_eq!(rt;
+            narrow_analysis_bound(wavelet, most + 1),
+            None,
+            "wavelet {wavelet}"
+        );
+    }
+}
+
+// Analyses a line in 32 bits, if it is one and its samples are within a bound that allows it.
+fn analyse_narrow_line(wavelet: u8, line: &mut [i32], most: u64) -> bool
+    requires wavelet { wavelet ≤ 6 }
+    requires most { most < 2 ^ 31 }
+{
+    let half = line.len() / 2;
+    if half == 0 || half >= 1000 || line.len() % 2 != 0 || !are_within(line, most) {
+        return false;
+    }
+    let Some(_) = narrow_analysis_bound(wavelet, most) else {
+        return false;
+    };
+    let halves = Halves {
+        even: 0,
+        odd: 1,
+        pitch: 2,
+        half,
+    };
+    analyse_narrow(wavelet, line, &halves, 1);
+    true
+}
+
+#[test]
+fn analysis_in_32_bits_takes_the_standards_samples_back(rt: HostRuntime) -> Result<(), Fail> {
+    for wavelet in 0..7 {
+        for n in 0..4 {
+            let mut line = narrowed(rt.alloc(), SYNTHESISED[wavelet as usize][n])?;
+            assert!(rt; analyse_narrow_line(wavelet, line.as_mut_slice(), 4096));
+            assert!(rt; are_same(line.as_slice(), LINES[n]), "wavelet {wavelet}");
+        }
+    }
+    Ok(())
+}
+
+// Both widths make the same of the largest samples that 32 bits may have.
+#[test]
+fn widths_agree_at_the_limit_of_analysis(rt: HostRuntime) -> Result<(), Fail> {
+    for wavelet in 0..7 {
+        let (most, _) = GREATEST_ANALYSED[wavelet as usize];
+        if most >= 1 << 31 {
+            return Err(Fail::from("no such bound"));
+        }
+        for signs in [0u32, 0x5555, 0x6666, 0x9696, 0x00FF, 0xA5C3] {
+            let mut wide = extremes(rt.alloc(), i128::from(most), signs)?;
+            let mut narrow = narrowed(rt.alloc(), wide.as_slice())?;
+            assert!(rt; analyse_narrow_line(wavelet, narrow.as_mut_slice(), most));
+            assert!(rt; is_line(wide.as_slice()));
+            analyse(wavelet, wide.as_mut_slice());
             assert!(rt;
                 are_same(narrow.as_slice(), wide.as_slice()),
                 "wavelet {wavelet}"

@@ -1,8 +1,9 @@
 -- Rows of cells that are filled with a plane's samples, and what the forward transform makes of them.
-use Rattle.std.proofs.Common.{◌≡◌, ◌≢◌, ℕ, ◌+◌, ◌-◌, ◌*◌, ◌^◌, ◌<◌, ◌≤◌, List, length, set, ℤ, pos, ◌-ℤ◌, unsigned_abs, All, arith, ap, ◌∙◌, ◌⊎◌, inl, inr, slice_index_or, min}
+use Rattle.std.proofs.Common.{◌≡◌, ◌≢◌, ℕ, suc, sym, ◌+◌, ◌-◌, ◌*◌, ◌^◌, ◌<◌, ◌≤◌, List, length, set, take, drop, refl, ℤ, pos, ◌-ℤ◌, unsigned_abs, All, arith, ap, ◌∙◌, ◌⊎◌, inl, inr, slice_index_or, min}
 use Rattle.std.proofs.lemmas.Bool.{cases_lt, cases_eq}
 use Rattle.std.proofs.lemmas.Int.{ints}
-use Rattle.std.proofs.lemmas.List.{get_or-set_same, get_or-set_other, get_or_past}
+use Rattle.std.specs.Prelude.{slice_range}
+use Rattle.std.proofs.lemmas.List.{get_or-set_same, get_or-set_other, get_or_past, get_or-take, get_or-drop, length-take-le, length-drop}
 use Rattle.std.proofs.lemmas.List.Elements.{All-get_or}
 use Rattle.std.proofs.lemmas.Nat.{same_from_place}
 use Rattle.std.proofs.Math.Nat.{mul-le-mul_right}
@@ -43,6 +44,28 @@ sample_read p samples w h x y row column list wide high down across =
     ∙ ap (λ n. slice_index_or p.samples (min y (p.height - 1) * w + n) 0) (across ∙ ap (λ n. min x (n - 1)) wide)
     ∙ ap (λ n. slice_index_or p.samples (min y (p.height - 1) * n + min x (p.width - 1)) 0) wide
 
+-- the samples of a row, the last of which is met again past it
+pub row_read : (p : Raster) (samples : List ℕ) (w h x y row : ℕ) → samples ≡ p.samples → w ≡ p.width → h ≡ p.height → row ≡ min y (h - 1) → 0 < w → row * w + w ≤ length samples
+    → slice_index_or (slice_range samples (row * w) (row * w + w)) (min x (length (slice_range samples (row * w) (row * w + w)) - 1)) 0 ≡ sample_at p (min x (p.width - 1)) (min y (p.height - 1))
+row_read p samples w h x y row list wide high down some inside =
+    let n = row * w + w - row * w in
+    let many : n ≡ w = omega arith in
+    let rest = drop (row * w) samples in
+    let long : length (take n rest) ≡ w = length-take-le n rest (omega (arith, length-drop (row * w) samples)) ∙ many in
+    let k = min x (length (take n rest) - 1) in
+    let same : k ≡ min x (w - 1) = ap (λ m. min x (m - 1)) long in
+    let below : k < n = omega (arith, same, many, some) in
+    get_or-take n rest k 0 below ∙ get_or-drop (row * w) samples k 0 ∙ ap (λ j. slice_index_or samples (row * w + j) 0) same
+    ∙ sample_read p samples w h x y row (min x (w - 1)) list wide high down refl
+
+-- a row that is read lies in the plane
+pub row_inside : (p : Raster) (samples : List ℕ) (w h y row : ℕ) → length samples ≡ p.width * p.height → w ≡ p.width → h ≡ p.height → row ≡ min y (h - 1) → 1 ≤ p.height → row * w + w ≤ length samples
+row_inside p samples w h y row whole wide high down some =
+    let below : suc row ≤ h = omega (arith, down, high, some) in
+    let rows : suc row * w ≤ h * w = mul-le-mul_right w below in
+    let all : length samples ≡ w * h = whole ∙ ap (λ n. n * p.height) (sym wide) ∙ ap (λ n. w * n) (sym high) in
+    omega (arith, rows, all)
+
 -- ---- the forward transform of the filled cells
 
 centred_small : (s d : ℕ) → s < 2 ^ d → 1 ≤ d → d ≤ 16 → unsigned_abs (pos s -ℤ pos (2 ^ (d - 1))) < 2 ^ 16
@@ -51,7 +74,7 @@ centred_small s d h some few =
     let half : 2 ^ (d - 1) ≤ 2 ^ 15 = pow_mono {i = d - 1} {j = 15} (omega arith) in
     omega (arith, ints, all, half)
 
-samples_below : (m : ℕ) (p : Raster) → 0 < m → All (λ s. s < m) p.samples → (x y : ℕ) → sample_at p x y < m
+pub samples_below : (m : ℕ) (p : Raster) → 0 < m → All (λ s. s < m) p.samples → (x y : ℕ) → sample_at p x y < m
 unfolding sample_at
 samples_below m p some small x y = elim (cases_lt (y * p.width + x) (length p.samples)) [
   | inl h ↦ All-get_or (λ s. s < m) p.samples (y * p.width + x) 0 h small
@@ -70,7 +93,7 @@ module _ (p : Parameters) (c : Component) (plane : Raster) (made : Lattice) (wid
       ∙ ap (λ n. pos (sample_at plane (min x (plane_width p.shape c - 1)) (min y (n - 1))) -ℤ pos (2 ^ (depth - 1))) own_height
       ∙ ap (λ n. pos (sample_at plane (min x (plane_width p.shape c - 1)) (min y (plane_height p.shape c - 1))) -ℤ pos (2 ^ (n - 1))) own_depth
 
-  first_agrees : (x y : ℕ) → x < padded_width p c → y < padded_height p c → plane_of width first x y ≡ padded_plane p c (sample_at plane) x y
+  pub first_agrees : (x y : ℕ) → x < padded_width p c → y < padded_height p c → plane_of width first x y ≡ padded_plane p c (sample_at plane) x y
   first_agrees x y h lt = plane_in width first x y (omega (arith, across)) ∙ filled x y (omega (arith, across)) (omega (arith, down)) ∙ same_sample x y
 
   made_plane : cell_at made ≡ plane_of width cells

@@ -14,3 +14,6 @@ pub mod LayoutLaws
 pub mod Turns
 pub mod NarrowLevels
 mod NarrowCarry
+mod PartedRows
+mod PartedLevels
+pub mod BandRows

@@ -1,20 +1,19 @@
--- Columns that are synthesised in place, and how large a plane's cells are after each pass.
+-- Columns that are synthesised or analysed in place, and how large a plane's cells are after each pass.
 use Rattle.std.proofs.Common.{◌≡◌, ◌≢◌, ℕ, zero, suc, ◌+◌, ◌*◌, ◌/◌, ◌%◌, ◌^◌, ◌<◌, ◌≤◌, ◌⊎◌, inl, inr, List, ℤ, unsigned_abs, arith, ap, sym, subst, ◌∙◌}
 use Rattle.std.specs.Prelude.{if◌then◌else◌, ◌==◌}
 use mathlib.Core.Path.{fun_ext}
 use Rattle.std.proofs.lemmas.Bool.{cases_lt}
 use Rattle.std.proofs.lemmas.Nat.{same_from_place}
 use Rattle.std.proofs.Math.Nat.{mul-le-mul_right}
-use Rattle.vc_types.specs.Lifting.{line_of}
+use Rattle.vc_types.specs.Lifting.{Line, line_of}
 use Rattle.vc_types.specs.Transforms.{on_columns}
-use Rattle.vc_types.specs.Wavelets.{synthesised}
 use Rattle.vc_lift.specs.declared.halves.Halves.{Halves}
 use Rattle.vc_lift.specs.Halves.{halves_place, line_in, AreLines, StandApart, IsBeside}
-use Rattle.vc_lift.specs.Ranges.{StaysNarrow, narrow_bound, counted_synthesis}
-use Rattle.vc_lift.proofs.LineLaws.{synthesis_past}
+use Rattle.vc_lift.specs.CountedSteps.{CountedStep}
+use Rattle.vc_lift.specs.Ranges.{StaysNarrow, bound_after}
 use Rattle.vc_wave.specs.NarrowBounds.{HasBound}
 use Rattle.vc_wave.specs.Planes.{plane_of}
-use Rattle.vc_wave.proofs.PlaneLines.{column_in, column_out}
+use Rattle.vc_wave.proofs.PlaneLines.{LeavesPast, column_in, column_out}
 use Rattle.vc_wave.proofs.PlaneSteps.{plane_in, plane_out}
 
 abbrev pub column_halves : ℕ → ℕ → Halves
@@ -60,16 +59,16 @@ cells_small pitch m cells some small i =
     let place : i / pitch * pitch + i % pitch ≡ i = omega arith in
     subst (λ j. unsigned_abs (line_of cells j) ≤ m) place (subst (λ z. unsigned_abs z ≤ m) (plane_in pitch cells (i % pitch) (i / pitch) column) (small (i % pitch) (i / pitch)))
 
-pub column_narrow : (wavelet pitch half : ℕ) (cells : List ℤ) (x : ℕ) → HasBound (narrow_bound wavelet) cells → StaysNarrow (counted_synthesis wavelet) half (line_in (column_halves pitch half) cells x)
-column_narrow wavelet pitch half cells x bound = record {
+pub column_narrow : (steps : List CountedStep) (pitch half : ℕ) (cells : List ℤ) (x : ℕ) → HasBound (λ m. bound_after (2 ^ 31) steps m m) cells → StaysNarrow steps half (line_in (column_halves pitch half) cells x)
+column_narrow steps pitch half cells x bound = record {
   most = bound.most;
   after = bound.after;
   small = λ k h. bound.small (halves_place (column_halves pitch half) k + x);
   fits = bound.fits;
 }
 
-module _ (wavelet pitch columns half : ℕ) (old new : List ℤ) (wide : columns ≤ pitch)
-    (on : (x k : ℕ) → x < columns → k < 2 * half → line_in (column_halves pitch half) new x k ≡ synthesised wavelet (2 * half) (line_in (column_halves pitch half) old x) k)
+module _ (make : Line → Line) (pitch columns half : ℕ) (past : LeavesPast (2 * half) make) (old new : List ℤ) (wide : columns ≤ pitch)
+    (on : (x k : ℕ) → x < columns → k < 2 * half → line_in (column_halves pitch half) new x k ≡ make (line_in (column_halves pitch half) old x) k)
     (off : (i : ℕ) → IsBeside (column_halves pitch half) columns i → line_of new i ≡ line_of old i) where
   column_at : (cells : List ℤ) (x : ℕ) → x < pitch → line_in (column_halves pitch half) cells x ≡ (λ k. plane_of pitch cells x k)
   column_at cells x h = fun_ext (λ k. (let place = column_place pitch half k in ap (line_of cells) (omega (arith, place))) ∙ sym (plane_in pitch cells x k h))
@@ -84,14 +83,14 @@ module _ (wavelet pitch columns half : ℕ) (old new : List ℤ) (wide : columns
       not_there u k lt below (inl right) e = (let s = same u k lt e in omega (arith, s))
       not_there u k lt below (inr under) e = (let s = same u k lt e in omega (arith, s))
 
-  at : (x y : ℕ) → (x < pitch) ⊎ (pitch ≤ x) → (x < columns) ⊎ (columns ≤ x) → (y < 2 * half) ⊎ (2 * half ≤ y) → plane_of pitch new x y ≡ on_columns (synthesised wavelet (2 * half)) columns (plane_of pitch old) x y
+  at : (x y : ℕ) → (x < pitch) ⊎ (pitch ≤ x) → (x < columns) ⊎ (columns ≤ x) → (y < 2 * half) ⊎ (2 * half ≤ y) → plane_of pitch new x y ≡ on_columns make columns (plane_of pitch old) x y
   at x y (inr past) (inl inside) any = absurd (omega arith)
-  at x y (inr past) (inr outside) any = plane_out pitch new x y past ∙ sym (plane_out pitch old x y past) ∙ sym (column_out (synthesised wavelet (2 * half)) columns (plane_of pitch old) x y outside)
-  at x y (inl h) (inr outside) any = kept x y h (inl outside) ∙ sym (column_out (synthesised wavelet (2 * half)) columns (plane_of pitch old) x y outside)
-  at x y (inl h) (inl inside) (inr below) = kept x y h (inr below) ∙ sym (synthesis_past wavelet half (λ k. plane_of pitch old x k) y below) ∙ sym (column_in (synthesised wavelet (2 * half)) columns (plane_of pitch old) x y inside)
+  at x y (inr past) (inr outside) any = plane_out pitch new x y past ∙ sym (plane_out pitch old x y past) ∙ sym (column_out make columns (plane_of pitch old) x y outside)
+  at x y (inl h) (inr outside) any = kept x y h (inl outside) ∙ sym (column_out make columns (plane_of pitch old) x y outside)
+  at x y (inl h) (inl inside) (inr below) = kept x y h (inr below) ∙ sym (past (λ k. plane_of pitch old x k) y below) ∙ sym (column_in make columns (plane_of pitch old) x y inside)
   at x y (inl h) (inl inside) (inl above) =
-      ap (λ l. l y) (sym (column_at new x h)) ∙ on x y inside above ∙ ap (λ l. synthesised wavelet (2 * half) l y) (column_at old x h)
-      ∙ sym (column_in (synthesised wavelet (2 * half)) columns (plane_of pitch old) x y inside)
+      ap (λ l. l y) (sym (column_at new x h)) ∙ on x y inside above ∙ ap (λ l. make l y) (column_at old x h)
+      ∙ sym (column_in make columns (plane_of pitch old) x y inside)
 
-  pub columns_made : plane_of pitch new ≡ on_columns (synthesised wavelet (2 * half)) columns (plane_of pitch old)
+  pub columns_made : plane_of pitch new ≡ on_columns make columns (plane_of pitch old)
   columns_made = fun_ext (λ x. fun_ext (λ y. at x y (cases_lt x pitch) (cases_lt x columns) (cases_lt y (2 * half))))

@@ -106,7 +106,7 @@ module _ (start half : ℕ) (some : 0 < half) where
         (apart_one (start + half_place half j) (start + half_place half k) (λ e. places_differ true half j k h lt ne (omega arith))));
   }
 
-  row_at : (cells : List ℤ) (k : ℕ) → line_in (row_halves start half) cells 0 k ≡ line_of cells (start + half_place half k)
+  pub row_at : (cells : List ℤ) (k : ℕ) → line_in (row_halves start half) cells 0 k ≡ line_of cells (start + half_place half k)
   row_at cells k = (let place = row_place start half k in ap (line_of cells) (omega (arith, place)))
 
   module _ (wavelet : ℕ) (old : List ℤ) (bound : RowHasBound (rows_bound wavelet) old start (2 * half)) where

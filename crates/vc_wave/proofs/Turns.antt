@@ -23,7 +23,7 @@ use Rattle.vc_wave.proofs.Weaving.{source_below}
 
 -- ---- rows
 
-twice_power : (h n : ℕ) → 2 * h * 2 ^ n ≡ h * 2 ^ suc n
+pub twice_power : (h n : ℕ) → 2 * h * 2 ^ n ≡ h * 2 ^ suc n
 twice_power h n = omega (arith, ap (λ p. h * p) (pow-suc 2 n))
 
 level_below : (w h levels x y height : ℕ) → h * 2 ^ suc levels ≤ height → y < height → turned w h x y < height

@@ -53,6 +53,16 @@ woven_back half l k (inr h) = rearranged_past (2 * half) (half_place half) (halv
 pub halves_together-halves_apart : (half : ℕ) (l : ℕ → ℤ) → halves_together half (halves_apart half l) ≡ l
 halves_together-halves_apart half l = fun_ext (λ k. woven_back half l k (cases_lt k (2 * half)))
 
+split_back : (half : ℕ) (l : ℕ → ℤ) (k : ℕ) → (k < 2 * half) ⊎ (2 * half ≤ k) → halves_apart half (halves_together half l) k ≡ l k
+split_back half l k (inl h) =
+    rearranged_in (2 * half) (source_of half) (halves_together half l) k h
+    ∙ rearranged_in (2 * half) (half_place half) l (source_of half k) (source_below half k h)
+    ∙ ap l (half_place-source_of half k h)
+split_back half l k (inr h) = rearranged_past (2 * half) (source_of half) (halves_together half l) k h ∙ rearranged_past (2 * half) (half_place half) l k h
+
+pub halves_apart-halves_together : (half : ℕ) (l : ℕ → ℤ) → halves_apart half (halves_together half l) ≡ l
+halves_apart-halves_together half l = fun_ext (λ k. split_back half l k (cases_lt k (2 * half)))
+
 twice_even : (half : ℕ) → 2 * half % 2 ≡ 0
 twice_even half = omega arith
 
@@ -89,7 +99,7 @@ not_changed f n l = refl
 pub remade_merged : (wavelet half : ℕ) → merged wavelet half ≡ remade Synthesis wavelet false half
 remade_merged wavelet half = fun_ext (λ l. sym (not_changed halved (2 * half) (merged wavelet half l)))
 
-remade_parted : (wavelet half : ℕ) → parted wavelet half ≡ remade Analysis wavelet false half
+pub remade_parted : (wavelet half : ℕ) → parted wavelet half ≡ remade Analysis wavelet false half
 remade_parted wavelet half = fun_ext (λ l. ap (parted wavelet half) (sym (not_changed doubled (2 * half) l)))
 
 pub synthesis_leaves : (wavelet half : ℕ) → LeavesPast (2 * half) (synthesised wavelet (2 * half))
@@ -97,6 +107,12 @@ synthesis_leaves wavelet half l k h = synthesis_past wavelet half l k h
 
 pub synthesis_reads : (wavelet half : ℕ) → ReadsBelow (2 * half) (synthesised wavelet (2 * half))
 synthesis_reads wavelet half l m e = synthesis_is_local wavelet (2 * half) l m (twice_even half) e
+
+pub analysis_leaves : (wavelet half : ℕ) → LeavesPast (2 * half) (analysed wavelet (2 * half))
+analysis_leaves wavelet half l k h = analysis_past wavelet half l k h
+
+pub analysis_reads : (wavelet half : ℕ) → ReadsBelow (2 * half) (analysed wavelet (2 * half))
+analysis_reads wavelet half l m e = analysis_is_local wavelet (2 * half) l m (twice_even half) e
 
 -- ---- four quarters, by direction
 

@@ -4,3 +4,4 @@ pub mod Remade
 pub mod Samples
 pub mod Layout
 pub mod NarrowBounds
+pub mod ForwardBounds

@@ -46,3 +46,9 @@ unfoldable pub level_in_turn : ℕ → ℕ → ℕ → ℕ → Cells → Cells
 level_in_turn vertical horizontal w h cells =
     on_rows (remade Synthesis horizontal (is_shifted horizontal) w) (2 * h)
     (on_columns (synthesised vertical (2 * h)) (2 * w) cells)
+
+-- a level of the forward transform that leaves its rows, the low and the high ones, in turn
+unfoldable pub parted_in_turn : ℕ → ℕ → ℕ → Cells → Cells
+parted_in_turn wavelet w h cells =
+    on_columns (analysed wavelet (2 * h)) (2 * w)
+    (on_rows (remade Analysis wavelet (is_shifted wavelet) w) (2 * h) cells)

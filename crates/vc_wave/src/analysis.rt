@@ -38,8 +38,8 @@ pub fn forward(alloc: Global, plan: &Plan, c: Component, plane: &Plane) -> Resul
     Ok(Grid::new(width, height, cells))
 }
 
-// The bits of a component's samples.
-fn sample_depth(plan: &Plan, c: Component) -> u8
+/// The bits of a component's samples.
+pub(crate) fn sample_depth(plan: &Plan, c: Component) -> u8
     ensures value { result ≡ plane_depth plan.now.shape c }
     ensures range { (1 ≤ result) × (result ≤ 16) }
 {

@@ -4,10 +4,12 @@
 
 mod analysis;
 mod bounds;
+mod forward_bounds;
 mod laws;
 mod level;
 mod lines;
 mod narrow;
+mod narrow_analysis;
 mod pass;
 mod shift;
 mod sides;
@@ -18,7 +20,9 @@ mod turn;
 
 pub use analysis::forward;
 pub use bounds::{are_narrow, fits_narrow};
+pub use forward_bounds::forward_fits_narrow;
 pub use laws::inverse_undoes_forward;
 pub use narrow::inverse_narrow;
+pub use narrow_analysis::forward_narrow;
 pub use synthesis::inverse;
-pub use turn::turn_rows;
+pub use turn::{Nesting, nesting_of, row_in_turn, turn_rows};

@@ -27,9 +27,9 @@ fn settled(sample: i32, shifted: bool) -> i32
     if shifted { (sample + 1) >> 1 } else { sample }
 }
 
-// Copies so many cells from one of them on to the front of a line.
+/// Copies so many cells from one of them on to the front of a line.
 #[inline(always)]
-fn copy_row(line: &mut [i32], cells: &[i32], start: usize, width: usize)
+pub(crate) fn copy_row(line: &mut [i32], cells: &[i32], start: usize, width: usize)
     requires line { width ≤ length line.old }
     requires inside { start + width ≤ length cells.now }
     ensures { (k : ℕ) → k < width → line_of line.new k ≡ line_of cells.now (start + k) }

@@ -2,7 +2,7 @@ ghost use Rattle.std.specs.Prelude.{◌≡◌, ◌+◌, ◌*◌, ◌^◌, ◌<�
 ghost use Rattle.vc_types.specs.Lifting.{line_of};
 ghost use Rattle.vc_types.specs.Subbands.{padded_width, padded_height};
 ghost use Rattle.vc_types.specs.TransformParameters.{parameters_of};
-ghost use Rattle.vc_types.specs.Transforms.{is_within, source_of};
+ghost use Rattle.vc_types.specs.Transforms.{is_within, source_of, lowest_width, lowest_height};
 ghost use Rattle.vc_wave.specs.Layout.{nested_in, row_in_turn};
 ghost use Rattle.vc_wave.specs.Planes.{plane_of};
 
@@ -10,12 +10,29 @@ use crate::sides::{lowest, side_at};
 use vc_geometry::padded;
 use vc_types::{Component, Plan};
 
-// Nested subbands of so many levels both ways, the lowest of which have w columns and h rows.
+/// Nested subbands of so many levels both ways, the lowest of which have w columns and h rows.
 #[derive(Clone, Copy)]
-struct Nesting {
-    levels: u8,
-    w: usize,
-    h: usize,
+pub struct Nesting {
+    pub levels: u8,
+    pub w: usize,
+    pub h: usize,
+}
+
+/// The nested subbands of a component. The levels across alone belong to the lowest of them.
+pub fn nesting_of(plan: &Plan, c: Component) -> Nesting
+    ensures levels { result.levels ≡ plan.now.depth }
+    ensures w { result.w
+        ≡ lowest_width (parameters_of plan.now) c * 2 ^ (parameters_of plan.now).depth_ho }
+    ensures h { result.h ≡ lowest_height (parameters_of plan.now) c }
+    ensures small { (result.w * 2 ^ result.levels < 2 ^ 60)
+        × (result.h * 2 ^ result.levels < 2 ^ 60) }
+{
+    let (w, h) = lowest(plan, c);
+    Nesting {
+        levels: plan.depth,
+        w: side_at(w, plan.depth_ho),
+        h,
+    }
 }
 
 // The row that a level takes the cell in column x and row y to, where the level's subbands have w columns and h rows.
@@ -32,8 +49,8 @@ fn row_of_level(w: usize, h: usize, x: usize, y: usize) -> usize
     }
 }
 
-// Which row has the cell in column x and row y, once the rows are taken in turn.
-fn row_in_turn(nesting: Nesting, x: usize, y: usize) -> usize
+/// Which row has the cell in column x and row y, once the rows are taken in turn.
+pub fn row_in_turn(nesting: Nesting, x: usize, y: usize) -> usize
     requires levels { nesting.levels ≤ 5 }
     requires small { (nesting.w * 2 ^ nesting.levels < 2 ^ 60)
         × (nesting.h * 2 ^ nesting.levels < 2 ^ 60) }

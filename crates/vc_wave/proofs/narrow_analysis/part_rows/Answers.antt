@@ -1,0 +1,35 @@
+use Rattle.std.proofs.Common.{◌≡◌, ◌+◌, ◌*◌, ◌≤◌, unsigned_abs, arith, ap, sym, subst, ◌∙◌}
+use Rattle.vc_types.specs.Lifting.{line_of}
+use Rattle.vc_types.specs.Wavelets.{is_shifted}
+use Rattle.vc_wave.specs.declared.pass.Direction.TheVariants.{Analysis}
+use Rattle.vc_wave.specs.Planes.{plane_of}
+use Rattle.vc_wave.specs.Remade.{remade}
+use Rattle.vc_wave.proofs.NarrowColumns.{plane_small}
+use Rattle.vc_wave.proofs.PlaneSteps.{rows_none, row_left, rows_more}
+use Rattle.vc_wave.proofs.Weaving.{remade_past, remade_reads}
+use Rattle.vc_wave.proofs.narrow_analysis.part_rows.Goals as goal
+
+pub loop-y-init : goal.loop-y-init
+loop-y-init c = rows_none (remade Analysis c.args.wavelet (is_shifted c.args.wavelet) c.args.half) (plane_of c.args.pitch c.args.cells.now)
+
+pub part_row-requires-clause-bound : goal.part_row-requires-clause-bound
+part_row-requires-clause-bound c =
+    let f = remade Analysis c.args.wavelet (is_shifted c.args.wavelet) c.args.half in
+    let first = plane_of c.args.pitch c.args.cells.now in
+    let y = c.loop-y.y in
+    record {
+      most = c.requires.bound.most;
+      after = c.requires.bound.after;
+      small = λ k lt.
+          (let left = row_left f c.args.pitch y (2 * c.args.half) first c.loop-y.cells c.requires.across c.loop-y.invariant k lt in
+          let place : y * c.args.pitch + k ≡ y * c.args.pitch + k * 1 + 0 = omega arith in
+          subst (λ z. unsigned_abs z ≤ c.requires.bound.most) (sym (ap (line_of c.loop-y.cells) place ∙ left)) (plane_small c.args.pitch c.requires.bound.most c.args.cells.now c.requires.bound.small k y));
+      fits = c.requires.bound.fits;
+    }
+
+pub loop-y-preserved : goal.loop-y-preserved
+loop-y-preserved c =
+    let w = c.args.wavelet in
+    let f = remade Analysis w (is_shifted w) c.args.half in
+    rows_more f c.args.pitch c.loop-y.y (2 * c.args.half) (plane_of c.args.pitch c.args.cells.now) c.loop-y.cells c.requires.across c.loop-y.invariant c.part_row.new.cells
+    (remade_past Analysis w (is_shifted w) c.args.half) (remade_reads Analysis w (is_shifted w) c.args.half) c.part_row.ensures.on c.part_row.ensures.off

@@ -1,0 +1,10 @@
+use Rattle.std.proofs.Common.{◌≡◌}
+use Rattle.vc_types.specs.Transforms.{on_rows}
+use Rattle.vc_types.specs.Wavelets.{is_shifted}
+use Rattle.vc_wave.specs.declared.pass.Direction.TheVariants.{Analysis}
+use Rattle.vc_wave.specs.Planes.{plane_of}
+use Rattle.vc_wave.specs.Remade.{remade}
+use Rattle.vc_wave.proofs.narrow_analysis.part_rows.Given as goal
+
+abbrev pub invariant-loop-y : goal.invariant-loop-y
+invariant-loop-y l = plane_of l.pitch l.cells ≡ on_rows (remade Analysis l.wavelet (is_shifted l.wavelet) l.half) l.y (plane_of l.pitch l.initial.cells)

@@ -1,0 +1,255 @@
+ghost use Rattle.std.specs.Prelude.{◌≡◌, ◌+◌, ◌-◌, ◌*◌, ◌^◌, ◌<◌, ◌≤◌, ◌⊎◌, ℕ, All, IsTrue, true, if◌then◌else◌, length, min, slice_index_or, unsigned_abs, pos, ◌-ℤ◌};
+ghost use Rattle.vc_types.specs.Lifting.{line_of};
+ghost use Rattle.vc_types.specs.Rasters.{sample_at};
+ghost use Rattle.vc_types.specs.Subbands.{plane_width, plane_height, plane_depth, padded_width, padded_height};
+ghost use Rattle.vc_types.specs.TransformParameters.{is_symmetric, parameters_of};
+ghost use Rattle.vc_types.specs.Transforms.{doubled, on_columns, on_rows, forward_levels, forward_transform};
+ghost use Rattle.vc_types.specs.Wavelets.{is_shifted, analysed};
+ghost use Rattle.vc_lift.specs.Ranges.{narrow_analysis_bound};
+ghost use Rattle.vc_wave.specs.declared.pass.Direction.TheVariants.{Analysis};
+ghost use Rattle.vc_wave.specs.ForwardBounds.{forward_fits_narrow, parted_rows_bound, parted_level_bound};
+ghost use Rattle.vc_wave.specs.Layout.{laid_out, nested_in};
+ghost use Rattle.vc_wave.specs.Lines.{IsMade};
+ghost use Rattle.vc_wave.specs.NarrowBounds.{HasBound, RowHasBound, bound_over};
+ghost use Rattle.vc_wave.specs.Planes.{HasRoom, plane_of};
+ghost use Rattle.vc_wave.specs.Remade.{remade, parted_in_turn};
+ghost use Rattle.vc_wave.specs.Samples.{padded_sample};
+
+use crate::analysis::sample_depth;
+use crate::narrow::copy_row;
+use crate::shift::is_shifted;
+use crate::sides::{lowest, side_at};
+use vc_geometry::padded;
+use vc_lift::{Halves, analyse_narrow};
+use vc_types::{Component, Plan, Plane};
+
+// A sample doubled, if that is wanted.
+#[inline(always)]
+fn readied(sample: i32, shifted: bool) -> i32
+    requires { shifted ≡ true → 2 * unsigned_abs sample < 2 ^ 31 }
+    ensures { result ≡ (if shifted then doubled sample else sample) }
+{
+    if shifted { 2 * sample } else { sample }
+}
+
+// Takes the even and the odd samples of a row apart into two halves, and doubles them if that is wanted. The line is room
+// to work in.
+#[inline(always)]
+fn unweave(cells: &mut [i32], start: usize, half: usize, shifted: bool, line: &mut [i32])
+    requires half { half < 2 ^ 60 }
+    requires inside { start + 2 * half ≤ length cells.old }
+    requires line { 2 * half ≤ length line.old }
+    requires small { shifted ≡ true → (k : ℕ) → k < 2 * half
+        → 2 * unsigned_abs (line_of cells.old (start + k)) < 2 ^ 31 }
+    ensures even { (k : ℕ) → k < half
+        → line_of cells.new (start + k)
+        ≡ (if shifted then doubled (line_of cells.old (start + 2 * k)) else line_of cells.old
+        (start + 2 * k)) }
+    ensures odd { (k : ℕ) → k < half
+        → line_of cells.new (start + (half + k))
+        ≡ (if shifted then doubled (line_of cells.old (start + (2 * k + 1))) else line_of cells.old
+        (start + (2 * k + 1))) }
+    ensures off { (i : ℕ) → (i < start) ⊎ (start + 2 * half ≤ i)
+        → line_of cells.new i ≡ line_of cells.old i }
+{
+    copy_row(line, cells, start, 2 * half);
+    for k in 0..half {
+        cells[start + k] = readied(line[2 * k], shifted);
+        cells[start + half + k] = readied(line[2 * k + 1], shifted);
+    }
+}
+
+// Doubles the samples of a row if the wavelet wants that, and takes it apart into two halves, in place.
+#[inline(always)]
+fn part_row(wavelet: u8, cells: &mut [i32], start: usize, half: usize, line: &mut [i32])
+    requires wavelet { wavelet ≤ 6 }
+    requires some { (0 < half) × (half < 2 ^ 60) }
+    requires inside { start + 2 * half ≤ length cells.old }
+    requires line { 2 * half ≤ length line.old }
+    requires bound { RowHasBound (parted_rows_bound wavelet) cells.old start (2 * half) }
+    ensures { IsMade (remade Analysis wavelet (is_shifted wavelet) half)
+        (record { start = start; step = 1; width = 1; half = half }) cells.old cells.new }
+{
+    let halves = Halves {
+        even: start,
+        odd: start + half,
+        pitch: 1,
+        half,
+    };
+    unweave(cells, start, half, is_shifted(wavelet), line);
+    analyse_narrow(wavelet, cells, &halves, 1);
+}
+
+// Takes the first rows apart into halves, which begin `pitch` cells apart.
+fn part_rows(
+    wavelet: u8,
+    cells: &mut [i32],
+    pitch: usize,
+    rows: usize,
+    half: usize,
+    line: &mut [i32],
+)
+    requires wavelet { wavelet ≤ 6 }
+    requires some { (0 < half) × (half < 2 ^ 60) }
+    requires across { 2 * half ≤ pitch }
+    requires down { rows * pitch ≤ length cells.old }
+    requires line { 2 * half ≤ length line.old }
+    requires bound { HasBound (parted_rows_bound wavelet) cells.old }
+    ensures { plane_of pitch cells.new
+        ≡ on_rows (remade Analysis wavelet (is_shifted wavelet) half) rows
+        (plane_of pitch cells.old) }
+{
+    for y in 0..rows {
+        part_row(wavelet, cells, y * pitch, half, line);
+    }
+}
+
+// Analyses the first columns, whose samples stand `pitch` cells apart and stay there.
+fn part_columns(wavelet: u8, cells: &mut [i32], pitch: usize, columns: usize, half: usize)
+    requires wavelet { wavelet ≤ 6 }
+    requires some { (0 < half) × (half < 2 ^ 60) }
+    requires across { columns ≤ pitch }
+    requires down { 2 * half * pitch ≤ length cells.old }
+    requires bound { HasBound (narrow_analysis_bound wavelet) cells.old }
+    ensures { plane_of pitch cells.new
+        ≡ on_columns (analysed wavelet (2 * half)) columns (plane_of pitch cells.old) }
+{
+    let halves = Halves {
+        even: 0,
+        odd: pitch,
+        pitch: 2 * pitch,
+        half,
+    };
+    analyse_narrow(wavelet, cells, &halves, columns);
+}
+
+// Takes a level apart whose rows stand `pitch` cells apart, and whose subbands have w columns and h rows: first rows and
+// then columns. Its low and high rows then stand in turn.
+fn part_level(wavelet: u8, cells: &mut [i32], pitch: usize, w: usize, h: usize, line: &mut [i32])
+    requires wavelet { wavelet ≤ 6 }
+    requires some { (0 < w) × (0 < h) }
+    requires small { (w < 2 ^ 60) × (h < 2 ^ 60) }
+    requires room { HasRoom (2 * w) (2 * h) pitch (length cells.old) 0 (length line.old) }
+    requires bound { HasBound (parted_level_bound wavelet) cells.old }
+    ensures { plane_of pitch cells.new ≡ parted_in_turn wavelet w h (plane_of pitch cells.old) }
+{
+    part_rows(wavelet, cells, pitch, 2 * h, w, line);
+    part_columns(wavelet, cells, pitch, 2 * w, h);
+}
+
+// Takes levels apart, from the highest on, whose rows then are in turn, and the lowest of which has subbands of w columns
+// and h rows.
+fn part_levels(
+    wavelet: u8,
+    levels: u8,
+    cells: &mut [i32],
+    stride: usize,
+    w: usize,
+    h: usize,
+    line: &mut [i32],
+)
+    requires wavelet { wavelet ≤ 6 }
+    requires levels { levels ≤ 5 }
+    requires some { (0 < w) × (0 < h) }
+    requires small { (w * 2 ^ levels < 2 ^ 60) × (h * 2 ^ levels < 2 ^ 60) }
+    requires room { HasRoom (w * 2 ^ levels) (h * 2 ^ levels) stride (length cells.old) 0
+        (length line.old) }
+    requires bound { HasBound (bound_over (parted_level_bound wavelet) levels) cells.old }
+    ensures { laid_out levels w h (plane_of stride cells.new)
+        ≡ forward_levels wavelet levels w h (plane_of stride cells.old) }
+{
+    for level in 0..levels {
+        let left = levels - 1 - level;
+        let pitch = side_at(stride, level);
+        let (columns, rows) = (side_at(w, left), side_at(h, left));
+        part_level(wavelet, cells, pitch, columns, rows, line);
+    }
+}
+
+/// Half of the range of so many bits.
+pub(crate) fn half_range(depth: u8) -> u16
+    requires { (1 ≤ depth) × (depth ≤ 16) }
+    ensures { result ≡ 2 ^ (depth - 1) }
+{
+    1 << (depth - 1)
+}
+
+// A sample less half of the range.
+#[inline(always)]
+fn centred(sample: u16, middle: u16) -> i32
+    ensures { result ≡ (pos sample -ℤ pos middle) }
+{
+    i32::from(sample) - i32::from(middle)
+}
+
+// Fills so many cells, from one of them on, with samples less half of their range; past the last, with that one.
+#[inline(always)]
+fn fill_row(cells: &mut [i32], at: usize, columns: usize, samples: &[u16], middle: u16)
+    requires some { 0 < length samples.now }
+    requires few { length samples.now ≤ columns }
+    requires inside { at + columns ≤ length cells.old }
+    ensures on { (x : ℕ) → x < columns
+        → line_of cells.new (at + x)
+        ≡ (pos (slice_index_or samples.now (min x (length samples.now - 1)) 0) -ℤ pos middle) }
+    ensures off { (i : ℕ) → (i < at) ⊎ (at + columns ≤ i)
+        → line_of cells.new i ≡ line_of cells.old i }
+{
+    let width = samples.len();
+    for x in 0..width {
+        cells[at + x] = centred(samples[x], middle);
+    }
+    let last = centred(samples[width - 1], middle);
+    for x in width..columns {
+        cells[at + x] = last;
+    }
+}
+
+// Fills rows of cells with a plane's samples less half of their range; past the last column and row, those of the last.
+fn fill(cells: &mut [i32], columns: usize, rows: usize, plane: &Plane, depth: u8)
+    requires depth { (1 ≤ depth) × (depth ≤ 16) }
+    requires some { (1 ≤ plane.now.width) × (1 ≤ plane.now.height) }
+    requires wide { plane.now.width ≤ columns }
+    requires cells { length cells.old ≡ rows * columns }
+    ensures { (x y : ℕ) → x < columns → y < rows
+        → line_of cells.new (y * columns + x) ≡ padded_sample plane.now depth x y }
+{
+    let (width, height) = (plane.width() as usize, plane.height() as usize);
+    let samples = plane.samples();
+    let middle = half_range(depth);
+    for y in 0..rows {
+        let from = y.min(height - 1) * width;
+        fill_row(
+            cells,
+            y * columns,
+            columns,
+            &samples[from..from + width],
+            middle,
+        );
+    }
+}
+
+/// The coefficients of a component's plane by a symmetric transform, in 32 bits, as `forward` makes them where `forward_fits_narrow` says that they fit: the plane's last
+/// column and row are repeated, half of the samples' range is taken away, and the forward transform is applied. They
+/// stand in rows of the padded width, whose rows are taken in turn as `nested_in` says; nothing of the cells as they
+/// were is read. The line is room to work in, as long as a row. It takes no memory.
+pub fn forward_narrow(plan: &Plan, c: Component, plane: &Plane, cells: &mut [i32], line: &mut [i32])
+    requires symmetric { IsTrue (is_symmetric (parameters_of plan.now)) }
+    requires width { plane.now.width ≡ plane_width plan.now.shape c }
+    requires height { plane.now.height ≡ plane_height plan.now.shape c }
+    requires samples { All (λ s. s < 2 ^ plane_depth plan.now.shape c) plane.now.samples }
+    requires narrow { IsTrue (forward_fits_narrow (parameters_of plan.now)
+        (2 ^ (plane_depth plan.now.shape c - 1))) }
+    requires cells { length cells.old ≡ padded_height (parameters_of plan.now) c
+        * padded_width (parameters_of plan.now) c }
+    requires line { padded_width (parameters_of plan.now) c ≤ length line.old }
+    ensures { (x y : ℕ) → x < padded_width (parameters_of plan.now) c
+        → y < padded_height (parameters_of plan.now) c
+        → nested_in (parameters_of plan.now) c (padded_width (parameters_of plan.now) c) cells.new
+        x y ≡ forward_transform (parameters_of plan.now) c (sample_at plane.now) x y }
+{
+    let (width, height) = padded(plan, c);
+    let (columns, rows) = (width as usize, height as usize);
+    fill(cells, columns, rows, plane, sample_depth(plan, c));
+    let (w, h) = lowest(plan, c);
+    part_levels(plan.wavelet, plan.depth, cells, columns, w, h, line);
+}
