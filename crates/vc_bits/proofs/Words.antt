@@ -1,7 +1,6 @@
 -- The last bits of a word.
-use Rattle.std.proofs.Common.{◌≡◌, ℕ, zero, suc, ◌+◌, ◌-◌, ◌*◌, ◌/◌, ◌%◌, ◌^◌, ◌<◌, ◌≤◌, Bool, true, eqb, List, [], ◌∷◌, ◌++◌, length, get_or, drop, refl, sym, ap, ◌∙◌, arith, inl, inr, append_assoc, append-nil, zero-add, suc-add, length-drop, replicate}
+use Rattle.std.proofs.Common.{◌≡◌, ℕ, zero, suc, ◌+◌, ◌-◌, ◌*◌, ◌/◌, ◌%◌, ◌^◌, ◌<◌, ◌≤◌, Bool, true, eqb, List, [], ◌∷◌, ◌++◌, length, get_or, drop, refl, sym, ap, ◌∙◌, arith, append_assoc, append-nil, zero-add, suc-add, length-drop, replicate}
 use Rattle.std.specs.Int.{bit_at}
-use Rattle.std.proofs.lemmas.Bool.{cases_lt}
 use Rattle.std.proofs.Math.Seq.{drop-append-add, drop-length}
 use Rattle.std.proofs.Math.ListN.{drop_of_length-le}
 use Rattle.std.proofs.lemmas.Nat.{div-mul-add}
@@ -11,7 +10,8 @@ use Rattle.vc_types.specs.Bits.{byte_bits, bits_of}
 use Rattle.vc_types.specs.Bounded.{bounded, BeginsWith}
 use Rattle.vc_types.proofs.Bits.{bit_of_byte, bits_of-nil, bits_of-cons, length-byte_bits, length-bits_of, drop-bits_of}
 use Rattle.vc_types.proofs.BoundedCodes.{same_ones}
-use Rattle.vc_bits.specs.Inside.{low_bits, word_bits}
+use Rattle.vc_bits.specs.Bits.{word_bits}
+use Rattle.vc_bits.specs.Inside.{low_bits}
 use Rattle.vc_bits.proofs.Peeking.{low_bits_of, high_bits_of, no_byte}
 
 pub length-word_bits : (count word : ℕ) → length (word_bits count word) ≡ count
@@ -29,26 +29,26 @@ bit_of_word_bits (suc count) word (suc place) lt =
     bit_of_word_bits count word place (omega arith) ∙ ap (λ (n : ℕ). eqb (bit_at word n) 1) same
 
 -- fewer of its last bits
-drop-word_bits : (n count word : ℕ) → n ≤ count → drop n (word_bits count word) ≡ word_bits (count - n) word
+pub drop-word_bits : (n count word : ℕ) → n ≤ count → drop n (word_bits count word) ≡ word_bits (count - n) word
 unfolding word_bits
 drop-word_bits zero count word le = let same : count ≡ count - 0 = omega arith in ap (λ (k : ℕ). word_bits k word) same
 drop-word_bits (suc n) zero word le = absurd (omega arith)
 drop-word_bits (suc n) (suc count) word le = let same : count - n ≡ suc count - suc n = omega arith in drop-word_bits n count word (omega arith) ∙ ap (λ (k : ℕ). word_bits k word) same
 
 -- a byte is a word
-byte_is_word : (byte : ℕ) → word_bits 8 byte ≡ byte_bits byte
+pub byte_is_word : (byte : ℕ) → word_bits 8 byte ≡ byte_bits byte
 unfolding word_bits byte_bits
 byte_is_word byte = refl
 
 -- words with the same last bits
-same_word_bits : (count first second : ℕ) → ((i : ℕ) → i < count → bit_at first i ≡ bit_at second i) → word_bits count first ≡ word_bits count second
+pub same_word_bits : (count first second : ℕ) → ((i : ℕ) → i < count → bit_at first i ≡ bit_at second i) → word_bits count first ≡ word_bits count second
 unfolding word_bits
 same_word_bits zero first second same = refl
 same_word_bits (suc count) first second same =
     ap (λ (n : ℕ). eqb n 1 ∷ word_bits count first) (same count (omega arith)) ∙ ap (λ (bits : List Bool). eqb (bit_at second count) 1 ∷ bits) (same_word_bits count first second (λ i lt. same i (omega arith)))
 
 -- the first of its last bits, and the others
-split : (count n word : ℕ) → word_bits (count + n) word ≡ word_bits count (word / 2 ^ n) ++ word_bits n word
+pub split : (count n word : ℕ) → word_bits (count + n) word ≡ word_bits count (word / 2 ^ n) ++ word_bits n word
 unfolding word_bits
 split zero n word = ap (λ (k : ℕ). word_bits k word) (zero-add n)
 split (suc count) n word =
@@ -128,7 +128,7 @@ skipped_past count word n bits lt =
 pub ruleset skips = (skipped_word, skipped_past)
 
 -- no bit of a word
-word_none : (word : ℕ) (bits : List Bool) → word_bits 0 word ++ bits ≡ bits
+pub word_none : (word : ℕ) (bits : List Bool) → word_bits 0 word ++ bits ≡ bits
 unfolding word_bits
 word_none word bits = refl
 

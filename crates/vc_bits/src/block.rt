@@ -1,7 +1,7 @@
 ghost use Rattle.std.specs.Prelude.{◌≡◌, ◌+◌, ◌*◌, ◌<◌, ◌≤◌, ◌++◌, [], drop, length};
 ghost use Rattle.vc_types.specs.Bits.{byte_bits, bits_of};
 ghost use Rattle.vc_types.specs.Bounded.{bounded, BeginsWith};
-ghost use Rattle.vc_bits.specs.Inside.{word_bits};
+ghost use Rattle.vc_bits.specs.Bits.{word_bits};
 
 use crate::byte::filled;
 use std::marker::Model;
@@ -20,7 +20,7 @@ pub struct Block<'a> {
 impl<'a> Model for Block<'a> {
     ghost use Rattle.std.specs.Prelude.{◌≡◌, ◌<◌, ◌≤◌, ◌++◌, [], List, Bool};
     ghost use Rattle.vc_types.specs.Bits.{bits_of};
-    ghost use Rattle.vc_bits.specs.Inside.{word_bits};
+    ghost use Rattle.vc_bits.specs.Bits.{word_bits};
 
     ghost Value = { List Bool };
 

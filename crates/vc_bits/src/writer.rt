@@ -1,8 +1,8 @@
-ghost use Rattle.std.specs.Prelude.{◌≡◌, ◌+◌, ◌-◌, ◌*◌, ◌%◌, ◌<◌, ◌≤◌, ◌^◌, ◌++◌, ◌∷◌, [], false, length, replicate, vec_len, vec_capacity, OnOk, OnErr, IsOk};
+ghost use Rattle.std.specs.Prelude.{◌≡◌, ◌+◌, ◌-◌, ◌*◌, ◌%◌, ◌<◌, ◌≤◌, ◌^◌, ◌++◌, ◌∷◌, [], false, length, replicate, vec_len, vec_capacity, IfOk, OnOk, OnErr, IsOk};
 ghost use Rattle.vc_types.specs.Bits.{bits_of};
-ghost use Rattle.vc_bits.specs.Bits.{to_edge};
+ghost use Rattle.vc_bits.specs.Bits.{to_edge, word_bits};
 
-use crate::byte::{filled, with_bit};
+use crate::pending::{joined, make_room, push_all, push_four, repeated};
 use std::alloc::Global;
 use std::marker::Model;
 use vc_types::NoMemory;
@@ -11,89 +11,100 @@ use vc_types::NoMemory;
 #[derive(Drop)]
 pub struct BitWriter {
     bytes: Vec<u8>,
-    // The number of the bits behind the last whole byte, and how many they are. Where there are some, the vector has
-    // room for their byte.
-    last: u8,
-    count: u8,
+    // The last bits are those of a word, and this many. Where there are some, the vector has room for their bytes.
+    word: u64,
+    count: u32,
 }
 
 impl Model for BitWriter {
-    ghost use Rattle.std.specs.Prelude.{◌<◌, ◌^◌, ◌++◌, List, Bool, vec_len, vec_capacity};
+    ghost use Rattle.std.specs.Prelude.{◌<◌, ◌≤◌, ◌+◌, ◌^◌, ◌++◌, List, Bool, vec_len, vec_capacity};
     ghost use Rattle.vc_types.specs.Bits.{bits_of};
-    ghost use Rattle.vc_bits.specs.Inside.{low_bits};
+    ghost use Rattle.vc_bits.specs.Bits.{word_bits};
 
     ghost Value = { List Bool };
 
-    ghost view = { λ w. bits_of w.bytes.items ++ low_bits w.count w.last };
+    ghost view = { λ w. bits_of w.bytes.items ++ word_bits w.count w.word };
 
-    ghost invariant = { λ w. (w.count < 8) × (w.last < 2 ^ w.count)
-        × (0 < w.count → vec_len w.bytes < vec_capacity w.bytes) };
+    ghost invariant = { λ w. (w.count < 32) × (w.word < 2 ^ w.count)
+        × (0 < w.count → vec_len w.bytes + 4 ≤ vec_capacity w.bytes) };
 }
 
 impl BitWriter {
-    #[tactic(auto, using(crate::proofs::Writing::starts))]
+    #[tactic(auto, using(crate::proofs::Waiting::starts))]
     pub fn new(alloc: Global) -> BitWriter
         ensures { result ≡ [] }
     {
         BitWriter {
             bytes: Vec::new(alloc),
-            last: 0,
+            word: 0,
             count: 0,
         }
     }
 
+    /// One that has room for so many bytes.
+    #[tactic(auto, using(crate::proofs::Waiting::starts))]
+    pub fn with_room(alloc: Global, bytes: usize) -> Result<BitWriter, NoMemory>
+        ensures { IfOk result (λ w. w ≡ []) }
+    {
+        let bytes = Vec::with_capacity(alloc, bytes.saturating_add(8))?;
+        Ok(BitWriter {
+            bytes,
+            word: 0,
+            count: 0,
+        })
+    }
+
     /// Adds a bit at the end.
-    #[tactic(auto, using(crate::proofs::Writing::pushes))]
     pub fn bit(&mut self, bit: bool) -> Result<(), NoMemory>
         ensures ok { OnOk result (self.new ≡ self.old ++ bit ∷ []) }
         ensures err { OnErr result (self.new ≡ self.old) }
     {
-        if self.count == 0 {
-            self.bytes.reserve(1)?;
-        }
-        let next = with_bit(self.last, self.count, bit);
-        if self.count == 7 {
-            self.bytes.push(next)?;
-            self.last = 0;
-            self.count = 0;
+        self.bits(u64::from(bit), 1)
+    }
+
+    /// Adds the last bits of a number, up to 32 of them, the most significant first. The number has no others.
+    #[inline]
+    pub fn bits(&mut self, number: u64, count: u32) -> Result<(), NoMemory>
+        requires count { count ≤ 32 }
+        requires number { number < 2 ^ count }
+        ensures ok { OnOk result (self.new ≡ self.old ++ word_bits count number) }
+        ensures err { OnErr result (self.new ≡ self.old) }
+    {
+        let filled = self.count + count;
+        make_room(&mut self.bytes, self.count == 0 || filled >= 32)?;
+        let word = joined(self.word, self.count, number, count);
+        if filled >= 32 {
+            push_four(&mut self.bytes, word, filled);
+            self.count = filled - 32;
+            self.word = word % (1 << self.count);
         } else {
-            self.last = next;
-            self.count += 1;
+            self.count = filled;
+            self.word = word;
         }
         Ok(())
     }
 
     /// Fills the last byte.
-    #[tactic(auto, using(crate::proofs::Writing::fills))]
     pub fn align(&mut self, fill: bool) -> Result<(), NoMemory>
         ensures ok { OnOk result (self.new
             ≡ self.old ++ replicate (to_edge (length self.old)) fill) }
         ensures err { OnErr result (self.new ≡ self.old) }
     {
-        if self.count > 0 {
-            self.bytes.push(filled(self.last, self.count, fill))?;
-            self.last = 0;
-            self.count = 0;
-        }
-        Ok(())
+        let missing = (8 - self.count % 8) % 8;
+        self.bits(repeated(fill, missing), missing)
     }
 
     /// The bytes of which these are the bits. The last byte is filled with zeros.
-    #[tactic(auto, using(crate::proofs::Writing::fills))]
     pub fn finish(self) -> Vec<u8>
         ensures { bits_of result.items ≡ self ++ replicate (to_edge (length self)) false }
     {
         let BitWriter {
             mut bytes,
-            last,
+            word,
             count,
         } = self;
-        if count > 0 {
-            match bytes.push(filled(last, count, false)) {
-                Ok(()) => {}
-                Err(_) => unreachable!(),
-            }
-        }
+        let missing = (8 - count % 8) % 8;
+        push_all(&mut bytes, word << missing, count + missing);
         bytes
     }
 }

@@ -47,11 +47,11 @@ numbers_rest (v ∷ vs) bits begin k =
 
 -- ---- a test of the whole table
 
-abbrev holds_below : (ℕ → Bool) → ℕ → Bool
+abbrev pub holds_below : (ℕ → Bool) → ℕ → Bool
 holds_below test zero = true
 holds_below test (suc n) = test n && holds_below test n
 
-at : (test : ℕ → Bool) (n k : ℕ) → holds_below test n ≡ true → k < n → test k ≡ true
+pub at : (test : ℕ → Bool) (n k : ℕ) → holds_below test n ≡ true → k < n → test k ≡ true
 at test zero k all lt = absurd (omega arith)
 at test (suc n) k all lt =
     let both = and_parts (test n) (holds_below test n) all in
@@ -60,13 +60,13 @@ at test (suc n) k all lt =
       | inr le ↦ let same : n ≡ k = omega arith in subst (λ (m : ℕ). test m ≡ true) same both.0
     ]
 
-abbrev same_bits : List Bool → List Bool → Bool
+abbrev pub same_bits : List Bool → List Bool → Bool
 same_bits [] [] = true
 same_bits (true ∷ xs) (true ∷ ys) = same_bits xs ys
 same_bits (false ∷ xs) (false ∷ ys) = same_bits xs ys
 same_bits xs ys = false
 
-same : (xs ys : List Bool) → same_bits xs ys ≡ true → xs ≡ ys
+pub same : (xs ys : List Bool) → same_bits xs ys ≡ true → xs ≡ ys
 same [] [] h = refl
 same (true ∷ xs) (true ∷ ys) h = ap (λ (bits : List Bool). true ∷ bits) (same xs ys h)
 same (false ∷ xs) (false ∷ ys) h = ap (λ (bits : List Bool). false ∷ bits) (same xs ys h)

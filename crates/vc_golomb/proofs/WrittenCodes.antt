@@ -97,7 +97,7 @@ pub front_magnitude : (v : ℤ) (old new : List Bool) → WroteFront (uint_bits 
 unfolding sint_bits
 front_magnitude v old new wrote = (wrote.0, wrote.1 ++ sign_bits v, ap (λ (bits : List Bool). bits ++ sign_bits v) wrote.2 ∙ append_assoc wrote.0 wrote.1 (sign_bits v), wrote.3)
 
-sign_pos : (n : ℕ) → is_negative (pos n) ≡ false
+pub sign_pos : (n : ℕ) → is_negative (pos n) ≡ false
 sign_pos n = le-ltb n 0 (omega arith)
 
 -- no sign, and a sign

@@ -2,6 +2,7 @@ ghost use Rattle.std.specs.Prelude.{◌≡◌, ◌<◌, ◌^◌, ◌++◌, unsig
 ghost use Rattle.vc_types.specs.Codes.{uint_bits, sint_bits};
 ghost use Rattle.vc_golomb.specs.Writing.{WroteFront};
 
+use crate::short::{SHORT, short_code};
 use vc_bits::BitWriter;
 use vc_types::NoMemory;
 
@@ -22,7 +23,31 @@ pub fn write_uint(w: &mut BitWriter, v: u64) -> Result<(), NoMemory>
 }
 
 /// Adds the signed code of a number. Where memory runs out, a front of the code stands there.
+#[inline]
 pub fn write_sint(w: &mut BitWriter, v: i64) -> Result<(), NoMemory>
+    requires { unsigned_abs v < 2 ^ 62 }
+    ensures ok { OnOk result (w.new ≡ w.old ++ sint_bits v) }
+    ensures front { OnErr result (WroteFront (sint_bits v) w.old w.new) }
+{
+    if v.unsigned_abs() < SHORT {
+        write_short(w, v)
+    } else {
+        write_long(w, v)
+    }
+}
+
+#[inline(always)]
+fn write_short(w: &mut BitWriter, v: i64) -> Result<(), NoMemory>
+    requires { unsigned_abs v < 255 }
+    ensures ok { OnOk result (w.new ≡ w.old ++ sint_bits v) }
+    ensures front { OnErr result (WroteFront (sint_bits v) w.old w.new) }
+{
+    let code = short_code(v);
+    w.bits(code.bits, code.count)
+}
+
+#[inline(never)]
+fn write_long(w: &mut BitWriter, v: i64) -> Result<(), NoMemory>
     requires { unsigned_abs v < 2 ^ 62 }
     ensures ok { OnOk result (w.new ≡ w.old ++ sint_bits v) }
     ensures front { OnErr result (WroteFront (sint_bits v) w.old w.new) }

@@ -1,4 +1,4 @@
-use Rattle.std.proofs.Common.{◌≡◌, ◌+◌, ◌*◌, ◌<◌, ◌^◌, take}
+use Rattle.std.proofs.Common.{◌≡◌, ◌*◌, ◌<◌, ◌^◌, take}
 use Rattle.vc_types.specs.Bits.{bits_of, number_of}
 use Rattle.vc_bits.proofs.ahead.number.Given as goal
 

@@ -1,6 +1,6 @@
 use Rattle.std.proofs.Common.{◌+◌, ◌-◌, ◌≡◌, ◌≤◌, ◌++◌}
 use Rattle.vc_types.specs.Bits.{bits_of}
-use Rattle.vc_bits.specs.Inside.{word_bits}
+use Rattle.vc_bits.specs.Bits.{word_bits}
 use Rattle.vc_bits.proofs.block.refilled.Given as goal
 
 abbrev pub invariant-bytes : goal.invariant-bytes

@@ -1,4 +1,4 @@
-use Rattle.std.proofs.Common.{◌≡◌, ◌+◌, ◌*◌, ◌-◌, ◌≤◌, ap, sym, subst, ◌∙◌, arith, drop, length}
+use Rattle.std.proofs.Common.{◌+◌, ◌*◌, ◌≤◌, ap, sym, subst, ◌∙◌, arith, drop, length}
 use Rattle.vc_bits.specs.Bits.{BitsLeft}
 use Rattle.vc_bits.proofs.Left.{state_is, enough_left}
 use Rattle.vc_bits.proofs.reader.BitReader.skip.Goals as goal

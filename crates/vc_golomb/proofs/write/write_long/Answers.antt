@@ -3,7 +3,7 @@ use mir.Val.{SFits}
 use Rattle.std.specs.Int.{is_negative}
 use Rattle.std.proofs.lemmas.Int.{to_z-of_z}
 use Rattle.vc_golomb.proofs.WrittenCodes.{no_sign, signed, front_unsigned, front_whole, on_err, on_err_too, on_ok}
-use Rattle.vc_golomb.proofs.write.write_sint.Goals as goal
+use Rattle.vc_golomb.proofs.write.write_long.Goals as goal
 
 pub returns-in_err-write_uint-clause-front : goal.returns-in_err-write_uint-clause-front
 returns-in_err-write_uint-clause-front c =

@@ -1,0 +1,118 @@
+-- Bits that wait in a word until they make bytes.
+use Rattle.std.proofs.Common.{◌≡◌, ℕ, zero, suc, ◌+◌, ◌-◌, ◌*◌, ◌/◌, ◌%◌, ◌^◌, ◌<◌, ◌≤◌, Bool, true, false, List, [], ◌∷◌, ◌++◌, length, refl, sym, ap, ◌∙◌, arith, append_assoc, append-nil, length-append, replicate, eqb}
+use mir.Val.{bool_byte}
+use Rattle.std.specs.Int.{bit_at}
+use Rattle.std.specs.Prelude.{Result, Ok, Err, OnOk}
+use Rattle.std.proofs.lemmas.Nat.{pow-add, pow_pos, div-mul-add, mul-add-lt, one_shl}
+use Rattle.std.proofs.lemmas.Nat.Bits.{bit_at_cat_low, bit_at_ones, bit_at-zero}
+use Rattle.std.proofs.Math.Nat.{mul_comm, pow-le-pow_right, mod-eq_of_lt}
+use Rattle.vc_types.specs.Bits.{byte_bits, bits_of}
+use Rattle.vc_types.proofs.Bits.{bits_of-push, bits_of-nil, length-bits_of}
+use Rattle.vc_bits.specs.Bits.{to_edge, word_bits}
+use Rattle.vc_bits.proofs.Peeking.{low_bits_of}
+use Rattle.vc_bits.proofs.Words.{length-word_bits, same_word_bits, byte_is_word, split}
+
+-- no bit at all
+pub starts_empty : bits_of [] ++ word_bits 0 0 ≡ []
+unfolding word_bits
+starts_empty = append-nil (bits_of []) ∙ bits_of-nil
+
+-- none are left
+pub no_bits : (bytes : List ℕ) (count word : ℕ) → count ≡ 0 → bits_of bytes ++ word_bits count word ≡ bits_of bytes
+unfolding word_bits
+no_bits bytes count word none = rw none (append-nil (bits_of bytes))
+
+pub ruleset starts = (starts_empty)
+
+-- bits behind bits
+pub joined_bits : (have word count number : ℕ) → number < 2 ^ count → word_bits (have + count) (word * 2 ^ count + number) ≡ word_bits have word ++ word_bits count number
+joined_bits have word count number small =
+    split have count (word * 2 ^ count + number)
+    ∙ ap (λ (n : ℕ). word_bits have n ++ word_bits count (word * 2 ^ count + number)) (div-mul-add word (2 ^ count) number small)
+    ∙ ap (λ (bits : List Bool). word_bits have word ++ bits) (same_word_bits count (word * 2 ^ count + number) number (λ i lt. bit_at_cat_low word count number i lt))
+
+-- both fit
+pub joined_fits : (have word count number : ℕ) → word < 2 ^ have → number < 2 ^ count → word * 2 ^ count + number < 2 ^ (have + count)
+joined_fits have word count number fits small =
+    omega (arith, mul-add-lt word (2 ^ count) number (2 ^ have) fits small, pow-add 2 have count, mul_comm (2 ^ have) (2 ^ count))
+
+-- the first eight of a word's bits
+pub first_byte : (bytes : List ℕ) (count word : ℕ) → 8 ≤ count → bits_of (bytes ++ (word / 2 ^ (count - 8) % 256) ∷ []) ++ word_bits (count - 8) word ≡ bits_of bytes ++ word_bits count word
+first_byte bytes count word many =
+    let upper = word / 2 ^ (count - 8) in
+    let parts : 8 + (count - 8) ≡ count = omega arith in
+    let byte : byte_bits (upper % 256) ≡ word_bits 8 upper = sym (byte_is_word (upper % 256)) ∙ same_word_bits 8 (upper % 2 ^ 8) upper (λ i lt. low_bits_of upper 8 i lt) in
+    ap (λ (bits : List Bool). bits ++ word_bits (count - 8) word) (bits_of-push bytes (upper % 256) ∙ ap (λ (bits : List Bool). bits_of bytes ++ bits) byte)
+    ∙ append_assoc (bits_of bytes) (word_bits 8 upper) (word_bits (count - 8) word)
+    ∙ ap (λ (bits : List Bool). bits_of bytes ++ bits) (sym (split 8 (count - 8) word) ∙ ap (λ (n : ℕ). word_bits n word) parts)
+
+-- ones alone, and zeros
+ones_from : (count word : ℕ) → ((i : ℕ) → i < count → bit_at word i ≡ 1) → word_bits count word ≡ replicate count true
+unfolding word_bits
+ones_from zero word all = refl
+ones_from (suc count) word all = ap (λ (n : ℕ). eqb n 1 ∷ word_bits count word) (all count (omega arith)) ∙ ap (λ (bits : List Bool). true ∷ bits) (ones_from count word (λ i lt. all i (omega arith)))
+
+pub ones_are : (count : ℕ) → word_bits count (2 ^ count - 1) ≡ replicate count true
+ones_are count = ones_from count (2 ^ count - 1) (λ i lt. bit_at_ones count i lt)
+
+zeros_from : (count word : ℕ) → ((i : ℕ) → i < count → bit_at word i ≡ 0) → word_bits count word ≡ replicate count false
+unfolding word_bits
+zeros_from zero word all = refl
+zeros_from (suc count) word all = ap (λ (n : ℕ). eqb n 1 ∷ word_bits count word) (all count (omega arith)) ∙ ap (λ (bits : List Bool). false ∷ bits) (zeros_from count word (λ i lt. all i (omega arith)))
+
+pub zeros_are : (count : ℕ) → word_bits count 0 ≡ replicate count false
+zeros_are count = zeros_from count 0 (λ i lt. bit_at-zero i)
+
+-- a word that is moved up within 64 bits
+pub moved_up : (have word count : ℕ) → word < 2 ^ have → have + count < 64 → word * 2 ^ count % 2 ^ 64 ≡ word * 2 ^ count
+moved_up have word count fits small =
+    let power : 2 ^ (have + count) ≤ 2 ^ 63 = pow-le-pow_right (omega arith) {j = 63} (omega arith) in
+    let within = joined_fits have word count 0 fits (pow_pos count) in
+    mod-eq_of_lt (omega (arith, power, within))
+
+-- its last bits alone
+pub last_bits : (count word : ℕ) → count < 64 → word_bits count (word % (1 * 2 ^ count % 2 ^ 64)) ≡ word_bits count word
+last_bits count word small = ap (λ (n : ℕ). word_bits count (word % n)) (one_shl count 64 small) ∙ same_word_bits count (word % 2 ^ count) word (λ i lt. low_bits_of word count i lt)
+
+-- a bit alone
+pub single_bit : (bit : Bool) (number : ℕ) → number ≡ bool_byte bit → word_bits 1 number ≡ bit ∷ []
+unfolding word_bits
+single_bit true number is = rw is refl
+single_bit false number is = rw is refl
+
+-- how many bits there are
+pub length_so_far : (bytes : List ℕ) (count word : ℕ) → length (bits_of bytes ++ word_bits count word) ≡ 8 * length bytes + count
+length_so_far bytes count word = length-append (bits_of bytes) (word_bits count word) ∙ omega (arith, length-bits_of bytes, length-word_bits count word)
+
+pub edge_so_far : (bytes : List ℕ) (count word : ℕ) → to_edge (length (bits_of bytes ++ word_bits count word)) ≡ (8 - count % 8) % 8
+edge_so_far bytes count word = omega (arith, length_so_far bytes count word)
+
+pub filled_up : (bytes : List ℕ) (count word missing number : ℕ) (bit : Bool) (old new : List Bool) → bits_of bytes ++ word_bits count word ≡ old → missing ≡ (8 - count % 8) % 8
+    → word_bits missing number ≡ replicate missing bit → new ≡ old ++ word_bits missing number → new ≡ old ++ replicate (to_edge (length old)) bit
+filled_up bytes count word missing number bit old new view is same wrote =
+    let edge : missing ≡ to_edge (length old) = is ∙ sym (edge_so_far bytes count word) ∙ ap (λ (bits : List Bool). to_edge (length bits)) view in
+    wrote ∙ ap (λ (bits : List Bool). old ++ bits) (same ∙ ap (λ (n : ℕ). replicate n bit) edge)
+
+-- zeros behind the bits, up to a whole byte
+pub whole_bytes : (bytes : List ℕ) (count word missing : ℕ) (old : List Bool) → bits_of bytes ++ word_bits count word ≡ old → count < 32 → word < 2 ^ count → missing ≡ (8 - count % 8) % 8
+    → bits_of bytes ++ word_bits (count + missing) (word * 2 ^ missing % 2 ^ 64) ≡ old ++ replicate (to_edge (length old)) false
+whole_bytes bytes count word missing old view small fits is =
+    let edge : missing ≡ to_edge (length old) = is ∙ sym (edge_so_far bytes count word) ∙ ap (λ (bits : List Bool). to_edge (length bits)) view in
+    let sum : word * 2 ^ missing ≡ word * 2 ^ missing + 0 = omega arith in
+    ap (λ (n : ℕ). bits_of bytes ++ word_bits (count + missing) n) (moved_up count word missing fits (omega arith) ∙ sum)
+    ∙ ap (λ (bits : List Bool). bits_of bytes ++ bits) (joined_bits count word missing 0 (pow_pos missing))
+    ∙ sym (append_assoc (bits_of bytes) (word_bits count word) (word_bits missing 0))
+    ∙ ap (λ (bits : List Bool). bits ++ word_bits missing 0) view
+    ∙ ap (λ (bits : List Bool). old ++ bits) (zeros_are missing ∙ ap (λ (n : ℕ). replicate n false) edge)
+
+-- bits behind what waits
+pub added : (bytes before : List ℕ) (have word count number next filled : ℕ) (old : List Bool) → bits_of before ++ word_bits have word ≡ old → bytes ≡ before
+    → filled ≡ have + count → word_bits (have + count) next ≡ word_bits have word ++ word_bits count number → bits_of bytes ++ word_bits filled next ≡ old ++ word_bits count number
+added bytes before have word count number next filled old view same sum joined =
+    ap (λ (n : ℕ). bits_of bytes ++ word_bits n next) sum ∙ ap (λ (bits : List ℕ). bits_of bits ++ word_bits (have + count) next) same
+    ∙ ap (λ (bits : List Bool). bits_of before ++ bits) joined ∙ sym (append_assoc (bits_of before) (word_bits have word) (word_bits count number)) ∙ ap (λ (bits : List Bool). bits ++ word_bits count number) view
+
+-- what an answer without an error says
+pub on_ok : {A E : Type 0} (r : Result A E) (P Q : Type 0) → OnOk r P → (P → Q) → OnOk r Q
+on_ok (Ok x) P Q p f = f p
+on_ok (Err e) P Q p f = tt
