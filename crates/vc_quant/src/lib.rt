@@ -1,10 +1,13 @@
 //! The quantisers of high-quality slices, and the default quantisation matrices.
 #![tactic(auto)]
 
+mod last;
 mod laws;
 mod matrix;
 mod quantiser;
+mod quotient;
 
+pub use last::last_index_with;
 pub use laws::{dequantising_never_shrinks, quantisation_is_near};
 pub use matrix::{NoDefault, default_matrix};
 pub use quantiser::{Quantiser, dequant, factor, offset, quant};

@@ -2,6 +2,9 @@ ghost use Rattle.std.specs.Prelude.{◌≡◌, ◌+◌, ◌*◌, ◌/◌, ◌^�
 ghost use Rattle.vc_types.specs.Lifting.{line_of};
 ghost use Rattle.vc_types.specs.Quantisation.{quant_factor, quant_offset, dequantised, dequantised_magnitude, quantised, with_sign_of};
 ghost use Rattle.vc_quant.specs.Narrow.{IsNarrow};
+ghost use Rattle.vc_quant.specs.Reciprocal.{IsReciprocal};
+
+use crate::quotient::quotient;
 
 /// The quantisation factor of an index from 0 to 127, in quarters (ST 2042-1, quantisation factor).
 #[tactic(auto, unfolding(vc_types::specs::Quantisation::quant_factor))]
@@ -39,11 +42,13 @@ pub struct Quantiser {
     pub index: u8,
     factor: u64,
     offset: u64,
+    reciprocal: u64,
     ghost factor_is: { factor ≡ quant_factor index },
     ghost offset_is: { offset ≡ quant_offset index },
     ghost factor_fits: { factor < 2 ^ 34 },
     ghost factor_is_large: { 4 ≤ factor },
     ghost offset_fits: { offset < 2 ^ 34 },
+    ghost reciprocal_is: { IsReciprocal factor reciprocal },
 }
 
 impl Quantiser {
@@ -51,10 +56,12 @@ impl Quantiser {
         requires { index ≤ 127 }
         ensures { result.index ≡ index }
     {
+        let factor = factor(index);
         Quantiser {
             index,
-            factor: factor(index),
+            factor,
             offset: offset(index),
+            reciprocal: u64::from(u32::MAX) / factor,
         }
     }
 
@@ -78,7 +85,7 @@ impl Quantiser {
         ensures value { result ≡ quantised c self.now.index }
         ensures not_larger { unsigned_abs result ≤ unsigned_abs c }
     {
-        let value = (4 * c.unsigned_abs() / self.factor) as i64;
+        let value = quotient(4 * c.unsigned_abs(), self.factor, self.reciprocal) as i64;
         if c < 0 { -value } else { value }
     }
 

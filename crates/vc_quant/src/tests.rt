@@ -1,6 +1,8 @@
+ghost use Rattle.std.specs.Prelude.{◌^◌, ◌<◌, ◌≤◌};
+
 use crate::{
-    NoDefault, default_matrix, dequant, dequantising_never_shrinks, factor, offset, quant,
-    quantisation_is_near,
+    NoDefault, default_matrix, dequant, dequantising_never_shrinks, factor, last_index_with,
+    offset, quant, quantisation_is_near,
 };
 
 // Indices with their factors and offsets, by the standard's formulas in Python.
@@ -149,4 +151,59 @@ fn default_matrices_are_the_tables(rt: HostRuntime) {
 fn laws_can_be_cited() {
     quantisation_is_near(127);
     dequantising_never_shrinks(127);
+}
+
+// The greatest index with 4 * magnitude / factor + 1 >= 2 ** digits, by these formulas in Python.
+#[test]
+fn last_indices_are_found(rt: HostRuntime) {
+    for (digits, magnitude, want) in [
+        (1, 1, 0),
+        (1, 2, 4),
+        (2, 3, 0),
+        (1, 100, 26),
+        (3, 100, 15),
+        (6, 100, 2),
+        (11, 2047, 0),
+        (1, 1073741823, 119),
+        (1, 1073741824, 120),
+        (2, 1073741824, 113),
+        (30, 1073741823, 0),
+        (3, 6320339555, 118),
+        (3, 6320339556, 119),
+        (1, 1152921504606846975, 127),
+        (33, 1152921504606846975, 108),
+        (60, 1152921504606846975, 0),
+    ] {
+        assert!(rt; digits >= 1 && digits <= 60 && magnitude < 1 << 60);
+        assert!(rt; 1u64 << digits <= magnitude + 1);
+        assert_eq!(rt;
+            last_index_with(digits, magnitude),
+            want,
+            "{digits} digits, {magnitude}"
+        );
+    }
+}
+
+// A coefficient's number is the plain quotient.
+fn is_plain(c: u64, q: u8) -> bool
+    requires index { q ≤ 127 }
+    requires size { c < 2 ^ 60 }
+{
+    quant(c as i64, q) == (4 * c / factor(q)) as i64
+}
+
+// Around multiples of the factor, and around the greatest magnitudes with and without a reciprocal.
+#[test]
+fn no_quotient_is_off_by_one(rt: HostRuntime) {
+    for q in 0..128u8 {
+        for times in 1..20u64 {
+            let near = times * factor(q) / 4;
+            assert!(rt; near > 0 && near < 1 << 59);
+            assert!(rt; is_plain(near - 1, q) && is_plain(near, q) && is_plain(near + 1, q));
+        }
+        for c in [0, (1 << 30) - 2, (1 << 30) - 1, 1 << 30, (1 << 60) - 1] {
+            assert!(rt; c < 1 << 60);
+            assert!(rt; is_plain(c, q), "{c} at {q}");
+        }
+    }
 }

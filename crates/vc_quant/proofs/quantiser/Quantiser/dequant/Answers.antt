@@ -1,7 +1,7 @@
-use Rattle.std.proofs.Common.{◌≡◌, ℕ, ℤ, pos, ◌≤ℤ◌, ◌<ℤ◌, unsigned_abs, arith, refl, ◌∙◌, ap}
+use Rattle.std.proofs.Common.{pos, ◌≤ℤ◌, ◌<ℤ◌, unsigned_abs, arith, ◌∙◌, ap}
 use Rattle.std.specs.Int.{w64}
 use Rattle.std.proofs.lemmas.Int.{ints, to_z-of_z}
-use Rattle.vc_types.specs.Quantisation.{quant_factor, quant_offset, dequantised, dequantised_magnitude, with_sign_of}
+use Rattle.vc_types.specs.Quantisation.{quant_factor, quant_offset, dequantised_magnitude}
 use Rattle.vc_quant.proofs.Magnitudes.{signed, negated_128, kept_128}
 use Rattle.vc_quant.proofs.quantiser.Quantiser.dequant.Goals as goal
 

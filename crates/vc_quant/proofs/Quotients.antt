@@ -1,0 +1,212 @@
+-- Quotients by a reciprocal, and the last index whose factor is small enough.
+use Rattle.std.proofs.Common.{◌≡◌, ℕ, zero, suc, ◌+◌, ◌-◌, ◌*◌, ◌/◌, ◌^◌, ◌<◌, ◌≤◌, Bool, true, eqb, leb, get_or, refl, sym, ap, subst, ◌∙◌, arith, inl, inr}
+use Rattle.std.specs.Prelude.{◌&&◌, ◌↔◌}
+use Rattle.std.proofs.lemmas.Bool.{and_parts, cases_lt, eqb-true, leb-true}
+use Rattle.std.proofs.Math.Nat.{mul-le-mul_right, mul-le-mul_left, div-mul-le_self, lt-div-mul-add, div-eq_of_lt-le, pow-le-pow_right, pow-suc, le-div_iff_mul-le}
+use Rattle.vc_types.specs.Quantisation.{quant_factor}
+use Rattle.vc_quant.specs.Reciprocal.{IsReciprocal}
+use Rattle.vc_quant.specs.declared.last.TheConstants.{FACTORS, RECIPROCALS}
+
+-- ---- a quotient
+
+module _ (size divisor reciprocal product : ℕ) (some : 0 < divisor) (small : size < 2 ^ 32) (is : IsReciprocal divisor reciprocal) (product_is : product ≡ size * reciprocal / 2 ^ 32) where
+  -- it is not too large
+  pub not_over : product * divisor ≤ size
+  not_over =
+      let below : product * 2 ^ 32 ≤ size * reciprocal = omega (arith, product_is, div-mul-le_self (size * reciprocal) (2 ^ 32)) in
+      let times = mul-le-mul_right divisor below in
+      let more = mul-le-mul_left size is.0 in
+      omega (arith, times, more)
+
+  -- and one too small at most
+  nearly : size < (product + 2) * divisor
+  nearly =
+      let next : size * reciprocal < product * 2 ^ 32 + 2 ^ 32 = omega (arith, product_is, lt-div-mul-add {a = size * reciprocal} {b = 2 ^ 32} (omega arith)) in
+      let sum : size * reciprocal + size + 1 ≤ (product + 2) * 2 ^ 32 = omega (arith, next) in
+      let times = mul-le-mul_right divisor sum in
+      let more = mul-le-mul_left size is.1 in
+      omega (arith, times, more, some)
+
+  pub one_more : divisor ≤ size - product * divisor → product + 1 ≡ size / divisor
+  one_more h = sym (div-eq_of_lt-le {k = product + 1} divisor (omega (arith, h, not_over, some)) (omega (arith, nearly)))
+
+  pub no_more : size - product * divisor < divisor → product ≡ size / divisor
+  no_more h = sym (div-eq_of_lt-le {k = product} divisor not_over (omega (arith, h, not_over)))
+
+-- a magnitude isn't quantised to a larger one
+pub not_larger : (magnitude factor : ℕ) → 4 ≤ factor → 4 * magnitude / factor ≤ magnitude
+not_larger magnitude factor large = omega (arith, div-mul-le_self (4 * magnitude) factor, mul-le-mul_left (4 * magnitude / factor) large)
+
+-- ---- tables
+
+abbrev holds_below : (ℕ → Bool) → ℕ → Bool
+holds_below test zero = true
+holds_below test (suc n) = test n && holds_below test n
+
+at : (test : ℕ → Bool) (n k : ℕ) → holds_below test n ≡ true → k < n → test k ≡ true
+at test zero k all lt = absurd (omega arith)
+at test (suc n) k all lt =
+    let both = and_parts (test n) (holds_below test n) all in
+    elim (cases_lt k n) [
+      | inl less ↦ at test n k both.1 less
+      | inr le ↦ let same : n ≡ k = omega arith in subst (λ (m : ℕ). test m ≡ true) same both.0
+    ]
+
+all_factors : holds_below (λ q. eqb (get_or FACTORS q 0) (quant_factor q)) 128 ≡ true
+unfolding quant_factor
+all_factors = refl
+
+all_rise : holds_below (λ q. leb (quant_factor q) (quant_factor (q + 1))) 127 ≡ true
+unfolding quant_factor
+all_rise = refl
+
+all_powers : holds_below (λ n. eqb (quant_factor (4 * n)) (2 ^ (n + 2))) 32 ≡ true
+unfolding quant_factor
+all_powers = refl
+
+all_reciprocals : holds_below (λ k. leb (get_or RECIPROCALS (k + 1) 0 * (2 ^ (k + 1) - 1)) (2 ^ 32) && leb (2 ^ 32) ((get_or RECIPROCALS (k + 1) 0 + 1) * (2 ^ (k + 1) - 1))) 60 ≡ true
+all_reciprocals = refl
+
+pub reciprocal_at : (k : ℕ) → 1 ≤ k → k ≤ 60 → IsReciprocal (2 ^ k - 1) (get_or RECIPROCALS k 0)
+reciprocal_at k some few =
+    let same : k - 1 + 1 ≡ k = omega arith in
+    let both = and_parts _ _ (at (λ k. leb (get_or RECIPROCALS (k + 1) 0 * (2 ^ (k + 1) - 1)) (2 ^ 32) && leb (2 ^ 32) ((get_or RECIPROCALS (k + 1) 0 + 1) * (2 ^ (k + 1) - 1))) 60 (k - 1) all_reciprocals (omega arith)) in
+    subst (λ (n : ℕ). IsReciprocal (2 ^ n - 1) (get_or RECIPROCALS n 0)) same (leb-true _ _ both.0, leb-true _ _ both.1)
+
+-- ---- factors rise with the index
+
+rises_by : (n q : ℕ) → q + n ≤ 127 → quant_factor q ≤ quant_factor (q + n)
+rises_by zero q within = let same : q + 0 ≡ q = omega arith in rw same (omega arith)
+rises_by (suc n) q within =
+    let next : q + n + 1 ≡ q + suc n = omega arith in
+    let step = leb-true _ _ (at (λ q. leb (quant_factor q) (quant_factor (q + 1))) 127 (q + n) all_rise (omega arith)) in
+    let last : quant_factor (q + n) ≤ quant_factor (q + suc n) = subst (λ (k : ℕ). quant_factor (q + n) ≤ quant_factor k) next step in
+    omega (arith, rises_by n q (omega arith), last)
+
+pub rises : (q r : ℕ) → q ≤ r → r ≤ 127 → quant_factor q ≤ quant_factor r
+rises q r le within =
+    let same : q + (r - q) ≡ r = omega arith in
+    subst (λ (k : ℕ). quant_factor q ≤ quant_factor k) same (rises_by (r - q) q (omega arith))
+
+-- where one index is the last
+pub last_is : (last quarters : ℕ) → last ≤ 127 → quant_factor last ≤ quarters → (last < 127 → quarters < quant_factor (last + 1)) → (q : ℕ) → q ≤ 127 → (quant_factor q ≤ quarters) ↔ (q ≤ last)
+last_is last quarters few reached next q within = (
+  (λ reach. elim (cases_lt last q) [ inl lt ↦ absurd (omega (arith, next (omega arith), rises (last + 1) q (omega arith) within)) | inr le2 ↦ le2 ]),
+  (λ le. omega (arith, rises q last le few)),
+)
+
+-- ---- the last index, four at a time
+
+greatest_factor : quant_factor 127 < 2 ^ 34
+unfolding quant_factor
+greatest_factor = omega arith
+
+pub all_reached : (quarters : ℕ) → 2 ^ 34 ≤ quarters → (q : ℕ) → q ≤ 127 → (quant_factor q ≤ quarters) ↔ (q ≤ 127)
+all_reached quarters many = last_is 127 quarters (omega arith) (omega (arith, greatest_factor)) (λ lt. absurd (omega arith))
+
+pub factor_at : (q : ℕ) → q < 128 → get_or FACTORS q 0 ≡ quant_factor q
+factor_at q small = eqb-true _ _ (at (λ q. eqb (get_or FACTORS q 0) (quant_factor q)) 128 q all_factors small)
+
+-- the power of two that is at most so many quarters
+pub some_power : (power quarters : ℕ) → quarters < 2 * 2 ^ power → 4 ≤ quarters → 2 ≤ power
+some_power zero quarters above many = absurd (omega arith)
+some_power (suc zero) quarters above many = absurd (omega arith)
+some_power (suc (suc power)) quarters above many = omega arith
+
+pub few_powers : (power quarters : ℕ) → 2 ^ power ≤ quarters → quarters < 2 ^ 34 → power < 34
+few_powers power quarters below few =
+    elim (cases_lt power 34) [
+      | inl lt ↦ lt
+      | inr many ↦ let more : 2 ^ 34 ≤ 2 ^ power = pow-le-pow_right (omega arith) {j = power} many in absurd (omega (arith, more))
+    ]
+
+power_at : (n : ℕ) → n < 32 → quant_factor (4 * n) ≡ 2 ^ (n + 2)
+power_at n small = eqb-true _ _ (at (λ n. eqb (quant_factor (4 * n)) (2 ^ (n + 2))) 32 n all_powers small)
+
+pub first_reached : (power quarters : ℕ) → 2 ≤ power → power < 34 → 2 ^ power ≤ quarters → quant_factor (4 * (power - 2)) ≤ quarters
+first_reached power quarters some few below =
+    let same : power - 2 + 2 ≡ power = omega arith in
+    omega (arith, power_at (power - 2) (omega arith), ap (λ (n : ℕ). 2 ^ n) same)
+
+pub fourth_not : (power quarters : ℕ) → 2 ≤ power → power < 33 → quarters < 2 * 2 ^ power → quarters < quant_factor (4 * (power - 2) + 4)
+fourth_not power quarters some few above =
+    let next : 4 * (power - 1) ≡ 4 * (power - 2) + 4 = omega arith in
+    let same : power - 1 + 2 ≡ suc power = omega arith in
+    omega (arith, sym (ap quant_factor next) ∙ power_at (power - 1) (omega arith) ∙ ap (λ (n : ℕ). 2 ^ n) same, pow-suc 2 power)
+
+-- how many of the next three factors are reached
+not_reached : (quarters factor is : ℕ) → (is ≡ 1) ↔ (factor ≤ quarters) → is ≤ 1 → quarters < factor → is ≡ 0
+not_reached quarters factor zero exactly few lt = refl
+not_reached quarters factor (suc zero) exactly few lt = absurd (omega (arith, exactly.0 refl))
+not_reached quarters factor (suc (suc n)) exactly few lt = absurd (omega arith)
+
+module _ (quarters first one two three : ℕ) (few : first ≤ 124) (from : quant_factor first ≤ quarters) (to : first < 124 → quarters < quant_factor (first + 4))
+    (is_one : (one ≡ 1) ↔ (quant_factor (first + 1) ≤ quarters)) (is_two : (two ≡ 1) ↔ (quant_factor (first + 2) ≤ quarters)) (is_three : (three ≡ 1) ↔ (quant_factor (first + 3) ≤ quarters))
+    (one_most : one ≤ 1) (two_most : two ≤ 1) (three_most : three ≤ 1) where
+  reached_at : (n : ℕ) → n ≤ 3 → quant_factor (first + n) ≤ quarters → (first + n < 127 → quarters < quant_factor (first + n + 1)) → one + two + three ≡ n
+      → (q : ℕ) → q ≤ 127 → (quant_factor q ≤ quarters) ↔ (q ≤ first + (one + two + three))
+  reached_at n small here next sum = rw sum (last_is (first + n) quarters (omega arith) here next)
+
+  beyond : (n m : ℕ) → n ≤ m → m ≤ 3 → quarters < quant_factor (first + n) → quarters < quant_factor (first + m)
+  beyond n m le small lt = omega (arith, lt, rises (first + n) (first + m) (omega arith) (omega arith))
+
+  within : (n m : ℕ) → n ≤ m → m ≤ 3 → quant_factor (first + m) ≤ quarters → quant_factor (first + n) ≤ quarters
+  within n m le small h = omega (arith, h, rises (first + n) (first + m) (omega arith) (omega arith))
+
+  after : (n m : ℕ) → n + 1 ≡ m → quarters < quant_factor (first + m) → quarters < quant_factor (first + n + 1)
+  after n m next lt = let same : first + m ≡ first + n + 1 = omega arith in subst (λ (k : ℕ). quarters < quant_factor k) same lt
+
+  pub reached : (q : ℕ) → q ≤ 127 → (quant_factor q ≤ quarters) ↔ (q ≤ first + (one + two + three))
+  reached =
+      elim (cases_lt quarters (quant_factor (first + 1))) [
+        | inl lt1 ↦
+            let none1 = not_reached quarters _ one is_one one_most lt1 in
+            let none2 = not_reached quarters _ two is_two two_most (beyond 1 2 (omega arith) (omega arith) lt1) in
+            let none3 = not_reached quarters _ three is_three three_most (beyond 1 3 (omega arith) (omega arith) lt1) in
+            let same : first ≡ first + 0 = omega arith in
+            reached_at 0 (omega arith) (subst (λ (k : ℕ). quant_factor k ≤ quarters) same from) (λ h. after 0 1 refl lt1) (omega (arith, none1, none2, none3))
+        | inr le1 ↦
+            elim (cases_lt quarters (quant_factor (first + 2))) [
+              | inl lt2 ↦
+                  let none2 = not_reached quarters _ two is_two two_most lt2 in
+                  let none3 = not_reached quarters _ three is_three three_most (beyond 2 3 (omega arith) (omega arith) lt2) in
+                  reached_at 1 (omega arith) le1 (λ h. after 1 2 refl lt2) (omega (arith, is_one.1 le1, none2, none3))
+              | inr le2 ↦
+                  elim (cases_lt quarters (quant_factor (first + 3))) [
+                    | inl lt3 ↦
+                        let none3 = not_reached quarters _ three is_three three_most lt3 in
+                        reached_at 2 (omega arith) le2 (λ h. after 2 3 refl lt3) (omega (arith, is_one.1 le1, is_two.1 le2, none3))
+                    | inr le3 ↦ reached_at 3 (omega arith) le3 (λ h. after 3 4 refl (to (omega arith))) (omega (arith, is_one.1 le1, is_two.1 le2, is_three.1 le3))
+                  ]
+            ]
+      ]
+
+-- ---- digits of a quotient
+
+-- so many digits where 1 is added are a quotient of at least so many ones
+pub digits_are : (digits magnitude factor quotient : ℕ) → 1 ≤ digits → 0 < factor → quotient ≡ 4 * magnitude / (2 ^ digits - 1) → (2 ^ digits ≤ 4 * magnitude / factor + 1) ↔ (factor ≤ quotient)
+digits_are digits magnitude factor quotient some large is =
+    let two : 2 ≤ 2 ^ digits = pow-le-pow_right (omega arith) {i = 1} {j = digits} some in
+    let least = 2 ^ digits - 1 in
+    let by_factor = le-div_iff_mul-le {k = factor} {x = least} {y = 4 * magnitude} large in
+    let by_least = le-div_iff_mul-le {k = least} {x = factor} {y = 4 * magnitude} (omega (arith, two)) in (
+      (λ h. let one : least * factor ≤ 4 * magnitude = by_factor.0 (omega arith) in let other : factor ≤ 4 * magnitude / least = by_least.1 (omega (arith, one)) in omega (arith, is, other)),
+      (λ h. let one : factor * least ≤ 4 * magnitude = by_least.0 (omega (arith, is)) in let other : least ≤ 4 * magnitude / factor = by_factor.1 (omega (arith, one)) in omega (arith, other, two)),
+    )
+
+pub some_quarters : (digits magnitude quotient : ℕ) → 1 ≤ digits → 2 ^ digits ≤ magnitude + 1 → quotient ≡ 4 * magnitude / (2 ^ digits - 1) → 4 ≤ quotient
+some_quarters digits magnitude quotient some few is =
+    let two : 2 ≤ 2 ^ digits = pow-le-pow_right (omega arith) {i = 1} {j = digits} some in
+    let least = 2 ^ digits - 1 in
+    let by_least = le-div_iff_mul-le {k = least} {x = 4} {y = 4 * magnitude} (omega (arith, two)) in
+    omega (arith, is, by_least.1 (omega arith))
+
+pub few_digits : (digits magnitude : ℕ) → 2 ^ digits ≤ magnitude + 1 → magnitude < 2 ^ 60 → digits ≤ 60
+few_digits digits magnitude h small =
+    elim (cases_lt 60 digits) [
+      | inl lt ↦ let more : 2 ^ 61 ≤ 2 ^ digits = pow-le-pow_right (omega arith) {j = digits} lt in absurd (omega (arith, more))
+      | inr le ↦ le
+    ]
+
+pub some_factor : (q : ℕ) → q ≤ 127 → 0 < quant_factor q
+some_factor q few = let first : quant_factor 0 ≡ 4 = power_at 0 (omega arith) in omega (arith, rises 0 q (omega arith) few, first)
