@@ -1,9 +1,8 @@
 -- Calls of places, by the steps that make them.
-use Rattle.std.proofs.Common.{◌≡◌, ◌≢◌, ℕ, zero, suc, ◌+◌, ◌<◌, Bool, true, false, cond, List, [], ◌∷◌, ◌++◌, length, take, get_or, Option, Some, None, Result, Ok, Err, refl, ap, sym, ◌∙◌, subst, inl, inr, append-nil}
+use Rattle.std.proofs.Common.{◌≡◌, ℕ, suc, ◌+◌, ◌<◌, Bool, true, false, cond, List, [], ◌∷◌, ◌++◌, length, take, get_or, Option, Some, None, Result, Ok, Err, refl, ap, sym, ◌∙◌, subst, inr, append-nil}
 use Rattle.std.proofs.lemmas.List.{take_more, map-append}
-use Rattle.std.specs.Prelude.{map, OnOk, is_some, is_none, ◌==◌}
-use Rattle.std.specs.List.{list_all}
-use Rattle.std.specs.Option.{option_map, option_and_then}
+use Rattle.std.specs.Prelude.{map, OnOk, is_some}
+use Rattle.std.specs.Option.{option_and_then}
 use Rattle.std.proofs.lemmas.Bool.{false≢true}
 use Rattle.link_model.specs.Windows.{Releasable, next_release}
 use Rattle.link_model.specs.Places.{Job, Answered}
@@ -14,7 +13,7 @@ use Rattle.link_receiver.proofs.Exchanges.{calls_then, exchanges_of-append, no_c
 use Rattle.link_receiver.proofs.Offered.{proposed_in-append, offers_more, offers_again}
 use Rattle.link_receiver.proofs.Stays.{AreAskedOrIn, one_asked, all_asked, asked_then}
 use Rattle.link_receiver.specs.Exchanged.{IsExchanged}
-use Rattle.link_receiver.specs.Offers.{AreOffersOf, IsOfferOf, MayOffer, proposed_in, asked_in, asked_at, are_asked, is_asked}
+use Rattle.link_receiver.specs.Offers.{AreOffersOf, IsOfferOf, MayOffer, proposed_in, asked_in, asked_at, are_asked}
 use Rattle.slice_exchange.specs.Calls.{PlaceCall, exchanges_of}
 use Rattle.slice_jobs.specs.Jobs.{job_of}
 use Rattle.vc_slice.specs.Asked.{Told}

@@ -1,9 +1,9 @@
 -- A datagram and the end of the input, by their steps.
-use Rattle.std.proofs.Common.{◌≡◌, ℕ, zero, suc, ◌≤◌, Bool, true, false, List, [], ◌∷◌, ◌++◌, Option, Some, None, refl, ap, sym, ◌∙◌, subst, append-nil}
+use Rattle.std.proofs.Common.{◌≡◌, ℕ, zero, suc, ◌≤◌, Bool, true, List, [], ◌++◌, Option, Some, None, refl, ap, sym, ◌∙◌, subst, append-nil}
 use Rattle.std.specs.Prelude.{map, is_some, is_none}
 use Rattle.std.specs.Option.{option_map, option_map_or}
 use Rattle.link_model.specs.Places.{Job}
-use Rattle.link_model.specs.Session.{Session, begins}
+use Rattle.link_model.specs.Session.{Session}
 use Rattle.link_model.specs.Windows.{Releasable}
 use Rattle.link_model.specs.declared.outcome.Outcome.{Outcome}
 use Rattle.link_reception.specs.Entering.{datagram_jobs, opens_session, takes_datagram, datagram_bytes, before_releases, takes_end, end_bytes, gives_up_field}
@@ -17,7 +17,6 @@ use Rattle.link_session.specs.Openings.{session_of}
 use Rattle.link_session.specs.declared.heard.Opening.{Opening}
 use Rattle.link_receiver.proofs.CallSteps.{Exchanges, TakesBack, HaveSameSession, calls_session}
 use Rattle.link_receiver.specs.Entered.{IsEntered, IsDrained}
-use Rattle.link_receiver.specs.Exchanged.{IsExchanged}
 use Rattle.link_receiver.specs.Freeing.{all_freed_places}
 use Rattle.link_receiver.specs.Offers.{AreOffersOf, proposed_in, are_asked}
 use Rattle.link_receiver.specs.States.{IsRunning, WaitsForSecond, GoesOn}

@@ -2,12 +2,11 @@
 use Rattle.std.proofs.Common.{◌≡◌, List, [], ◌∷◌, ◌++◌, Option, Some, None, refl, ap, sym, ◌∙◌, subst, append_assoc}
 use Rattle.std.proofs.lemmas.Grind.{flat_map-append}
 use Rattle.std.proofs.lemmas.List.{map-append}
-use Rattle.std.specs.Prelude.{fold, ℕ}
-use Rattle.std.specs.List.{flat_map}
+use Rattle.std.specs.Prelude.{ℕ}
 use Rattle.std.specs.Option.{option_map}
-use Rattle.link_model.specs.Places.{Job, Answered, decoding}
-use Rattle.link_reception.specs.Exchanging.{Exchange, Proposed, Fetched, exchanged, all_exchanged, dones_in, given_back, takes_done, back_from, is_wanted}
-use Rattle.link_reception.specs.Receptions.{Reception, keeps_answer}
+use Rattle.link_model.specs.Places.{Answered, decoding}
+use Rattle.link_reception.specs.Exchanging.{Exchange, Proposed, Fetched, exchanged, all_exchanged, dones_in, given_back}
+use Rattle.link_reception.specs.Receptions.{Reception}
 use Rattle.link_reception.specs.Standing.{AreDecodings}
 use Rattle.slice_exchange.proofs.Growing.{grows_twice, grows_none}
 use Rattle.slice_exchange.specs.Calls.{PlaceCall, Puts, Takes, told_by, told_of, exchange_by, exchanges_of}

@@ -1,27 +1,24 @@
 -- What a receiver has heard behind a datagram, and what it wrote then and at the end.
-use Rattle.std.proofs.Common.{◌≡◌, ℕ, ◌≤◌, false, List, [], ◌∷◌, ◌++◌, length, drop, Option, Some, None, sym, ap, ◌∙◌, refl}
-use Rattle.std.specs.Option.{option_map}
+use Rattle.std.proofs.Common.{◌≡◌, ℕ, false, List, [], ◌∷◌, ◌++◌, length, drop, Option, sym, ap, ◌∙◌, refl}
 use Rattle.std.proofs.Math.Seq.{drop-append_seam}
-use Rattle.link_model.specs.Feeders.{Feeder}
 use Rattle.link_model.specs.Judgement.{tally_of, outcome_behind}
 use Rattle.link_model.specs.Machine.{Enter}
 use Rattle.link_model.specs.Next.{next_feeder}
-use Rattle.link_model.specs.Output.{output_so_far, full_output}
-use Rattle.link_reception.specs.Entering.{takes_datagram, takes_end}
+use Rattle.link_reception.specs.Entering.{datagram_jobs, takes_datagram, takes_end}
 use Rattle.link_reception.specs.Exchanging.{Exchange, dones_in}
 use Rattle.link_reception.specs.Judging.{judged}
 use Rattle.link_reception.specs.Receptions.{Reception}
-use Rattle.link_reception.specs.Standing.{StandsFor, AreDecodings}
+use Rattle.link_reception.specs.SlicesOut.{ArePutsOf}
+use Rattle.link_reception.specs.Standing.{StandsForHeard, AreDecodings}
 use Rattle.link_reception.proofs.Entered.{heard_again}
 use Rattle.link_reception.proofs.Following.{outcome_is, datagram_stands, datagram_writes, finished_writes, finished_counts}
+use Rattle.link_reception.proofs.OutKept.{datagram_out_kept}
 use Rattle.link_receiver.specs.States.{ReceiverState}
 use Rattle.link_receiver.specs.HeardLists.{OutputForm, AsFrames, AsUnits, HasHeard, WritesAs}
 use Rattle.link_receiver.specs.HeardLists.{due_so_far, due_in_all, newly_due, still_due}
-use Rattle.link_stream.specs.Streams.{stream_so_far, stream_of}
 use Rattle.unit_release.proofs.Following.{stream_follows, stream_grows, stream_ends}
 use Rattle.unit_release.specs.Outputs.{datagram_output, stream_behind_datagram, end_output}
-use Rattle.unit_release.specs.Receiving.{stream_takes, datagram_units, end_units}
-use Rattle.unit_release.specs.Standing.{StreamsFor}
+use Rattle.unit_release.specs.Receiving.{stream_takes}
 use Rattle.unit_release.specs.Writing.{WrittenStream}
 
 -- what stands behind a list
@@ -40,8 +37,11 @@ sound_with r stream = record { reception = r; stream = stream; has_failed = fals
 
 module _ (form : OutputForm) (r : ReceiverState) (size : ℕ) (datagrams : List (List ℕ))
     (h : HasHeard form r size datagrams) where
+  pub heard_stands : StandsForHeard r.reception size datagrams false
+  heard_stands = rw h.heard at (rw h.goes_on at h.stands.heard)
+
   pub heard_outcome : (d : List ℕ) → judged r.reception d ≡ outcome_behind size datagrams d
-  heard_outcome d = rw h.heard at (outcome_is r.reception size h.feeder.heard d (rw h.goes_on at h.stands.heard))
+  heard_outcome d = outcome_is r.reception size datagrams d heard_stands
 
   module _ (exchanges : List Exchange) (right : AreDecodings (dones_in exchanges)) where
     abbrev then : List ℕ → ReceiverState
@@ -59,16 +59,20 @@ module _ (form : OutputForm) (r : ReceiverState) (size : ℕ) (datagrams : List 
           (rw (← h.heard) at w.2) exchanges right d),
     )
 
-    pub heard_with : (d : List ℕ) → HasHeard form (then d) size (datagrams ++ d ∷ [])
-    heard_with d =
+    pub heard_with : (d : List ℕ) → ArePutsOf (datagram_jobs r.reception d) exchanges
+        → HasHeard form (then d) size (datagrams ++ d ∷ [])
+    heard_with d offers =
         let again = heard_again size h.feeder d exchanges in
         record {
           sound = refl;
+          least = h.least;
           fits = h.fits;
           feeder = next_feeder size h.feeder (Enter d) (dones_in exchanges);
           stands = datagram_stands r.reception size h.feeder h.fits h.stands h.goes_on exchanges right d;
           heard = again.0 ∙ ap (λ (l : List (List ℕ)). l ++ d ∷ []) h.heard;
           goes_on = again.1 ∙ h.goes_on;
+          out = datagram_out_kept r.reception size datagrams d h.fits heard_stands h.out exchanges
+              offers;
           writes = writes_with d form h.writes;
         }
 

@@ -1,14 +1,9 @@
 -- Offers and places that were asked, over more calls than one.
-use Rattle.std.proofs.Common.{◌≡◌, ◌⊎◌, ℕ, zero, suc, ◌+◌, ◌<◌, ◌≤◌, Bool, true, false, cond, List, [], ◌∷◌, ◌++◌, length, take, get_or, refl, ap, sym, ◌∙◌, subst, inl, inr, append_assoc, append-nil, arith, eqb, eq-eqb}
+use Rattle.std.proofs.Common.{◌≡◌, List, [], ◌∷◌, ◌++◌, refl, ap, sym, ◌∙◌, inl, inr, append_assoc, append-nil}
 use Rattle.std.proofs.lemmas.Grind.{flat_map-append}
-use Rattle.std.proofs.lemmas.List.{take_more}
-use Rattle.std.specs.Prelude.{filter, ◌&&◌, ◌||◌, ◌==◌, not, Option, Some, None}
-use Rattle.std.specs.List.{list_any, list_all, flat_map}
-use Rattle.link_model.specs.Places.{Job, Answered}
-use Rattle.link_reception.specs.Exchanging.{Exchange, Proposed, Fetched, not_at}
-use Rattle.link_reception.specs.Receptions.{SliceOut}
-use Rattle.slice_exchange.specs.Calls.{out_exchanged}
-use Rattle.link_receiver.specs.Offers.{AreOffersOf, IsOfferOf, MayOffer, proposed_by, proposed_in, asked_by, asked_in, is_asked, are_asked}
+use Rattle.link_model.specs.Places.{Job}
+use Rattle.link_reception.specs.Exchanging.{Exchange}
+use Rattle.link_receiver.specs.Offers.{AreOffersOf, IsOfferOf, MayOffer, proposed_by, proposed_in, asked_by, asked_in}
 
 -- ---- offers
 

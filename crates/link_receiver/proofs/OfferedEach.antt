@@ -1,12 +1,14 @@
--- Each job of a datagram is among the jobs that places were told of.
-use Rattle.std.proofs.Common.{◌≡◌, ℕ, Bool, true, false, List, [], ◌∷◌, refl, ap, ◌∙◌, inl, inr, append-nil}
+-- Each job of a datagram is among the jobs that places were told of, and each of these is one of it.
+use Rattle.std.proofs.Common.{◌≡◌, ℕ, Bool, true, false, List, [], ◌∷◌, refl, ap, sym, ◌∙◌, inl, inr, append-nil}
 use Rattle.std.specs.Prelude.{◌||◌}
 use Rattle.std.proofs.lemmas.Bool.{false≢true}
 use Rattle.std.proofs.lemmas.List.Folds.{list_any-append}
 use Rattle.link_model.specs.Feeding.{is_same_job}
 use Rattle.link_model.specs.Places.{Job}
-use Rattle.link_reception.specs.Exchanging.{is_job_among}
+use Rattle.link_reception.specs.Exchanging.{Exchange, Proposed, Fetched, is_job_among}
 use Rattle.link_reception.specs.Offered.{HasJobs}
+use Rattle.link_reception.specs.SlicesOut.{ArePutsOf}
+use Rattle.link_reception.proofs.OfferedJobs.{same_itself}
 use Rattle.link_receiver.specs.HeardLists.{told_jobs}
 use Rattle.link_receiver.specs.Offers.{AreOffersOf, IsOfferOf, proposed_in}
 use Rattle.slice_exchange.specs.Calls.{PlaceCall, Puts, Takes, told_of, exchanges_of, freeing}
@@ -59,3 +61,57 @@ pub told_have : (calls : List PlaceCall) (freed : List ℕ) (jobs : List Job)
 told_have calls freed jobs p =
     rw (append-nil (told_of calls).offered, told_are_proposed calls)
     (offers_have jobs (proposed_in (exchanges_of calls)) p)
+
+-- ---- nothing else is offered
+
+offer_is : (first job : Job) (offers : List Job) → IsOfferOf first offers
+    → is_job_among offers job ≡ true → is_same_job job first ≡ true
+offer_is first job offers (inl once) is = by_test (is_same_job job first) (rw once at is)
+  where
+    by_test : (b : Bool) → (b || false) ≡ true → b ≡ true
+    by_test true e = refl
+    by_test false e = e
+offer_is first job offers (inr twice) is = by_test (is_same_job job first) (rw twice at is)
+  where
+    by_test : (b : Bool) → (b || (b || false)) ≡ true → b ≡ true
+    by_test true e = refl
+    by_test false e = e
+
+-- the offers of jobs have no other
+pub offers_are : (jobs offers : List Job) → AreOffersOf jobs offers → HasJobs jobs offers
+offers_are [] offers p job is =
+    absurd (false≢true (sym (ap (λ (l : List Job). is_job_among l job) p) ∙ is))
+offers_are (first ∷ jobs) offers p job is =
+    by_part (is_job_among p.0 job) refl (sym (list_any-append (is_same_job job) p.0 p.1)
+    ∙ sym (ap (λ (l : List Job). is_job_among l job) p.4) ∙ is) (offers_are jobs p.1 p.3)
+  where
+    by_part : (b : Bool) → is_job_among p.0 job ≡ b → (b || is_job_among p.1 job) ≡ true
+        → HasJobs jobs p.1 → (is_same_job job first || is_job_among jobs job) ≡ true
+    by_part true there e rest = or_left (is_same_job job first) (is_job_among jobs job)
+        (offer_is first job p.0 p.2 there)
+    by_part false there e rest = or_right (is_same_job job first) (is_job_among jobs job)
+        (rest job e)
+
+-- what places were told of are these jobs alone
+pub told_are : (calls : List PlaceCall) (freed : List ℕ) (jobs : List Job)
+    → AreOffersOf jobs (proposed_in (exchanges_of calls))
+    → HasJobs jobs (told_jobs (told_more (told_of calls) (freeing freed)))
+told_are calls freed jobs p =
+    rw (append-nil (told_of calls).offered, told_are_proposed calls)
+    (offers_are jobs (proposed_in (exchanges_of calls)) p)
+
+puts_among : (jobs : List Job) (exchanges : List Exchange) → HasJobs jobs (proposed_in exchanges)
+    → ArePutsOf jobs exchanges
+puts_among jobs [] each = tt
+puts_among jobs (Proposed job place ∷ rest) each = (
+  each job (or_left (is_same_job job job) (is_job_among (proposed_in rest) job) (same_itself job)),
+  puts_among jobs rest (λ other is. each other
+      (or_right (is_same_job other job) (is_job_among (proposed_in rest) other) is)),
+)
+puts_among jobs (Fetched place given ∷ rest) each = puts_among jobs rest each
+
+-- what was put into places are these jobs
+pub offers_are_puts : (jobs : List Job) (exchanges : List Exchange)
+    → AreOffersOf jobs (proposed_in exchanges) → ArePutsOf jobs exchanges
+offers_are_puts jobs exchanges p =
+    puts_among jobs exchanges (offers_are jobs (proposed_in exchanges) p)

@@ -1,6 +1,5 @@
 -- The releases of a call, one after another.
-use Rattle.std.proofs.Common.{◌≡◌, ℕ, zero, suc, List, [], ◌∷◌, ◌++◌, Option, Some, None, refl, ap, sym, ◌∙◌, subst, append_assoc, append-nil}
-use Rattle.std.specs.Option.{option_map_or}
+use Rattle.std.proofs.Common.{◌≡◌, ℕ, zero, suc, List, [], ◌++◌, Option, Some, None, refl, ap, sym, ◌∙◌, subst, append_assoc, append-nil}
 use Rattle.link_model.specs.Windows.{Releasable}
 use Rattle.link_reception.specs.Receptions.{Reception}
 use Rattle.link_reception.specs.Releasing.{next_picture, releases_picture_of, freed_places, releases_up_to, bytes_up_to}

@@ -1,12 +1,12 @@
 -- A slice that is out stays out, unless its place is asked.
-use Rattle.std.proofs.Common.{◌≡◌, ◌≢◌, ◌⊎◌, ℕ, zero, suc, ◌+◌, ◌<◌, ◌≤◌, Bool, true, false, cond, List, [], ◌∷◌, ◌++◌, length, take, get_or, refl, ap, sym, ◌∙◌, subst, inl, inr, arith, eqb, eq-eqb, eqb-true}
+use Rattle.std.proofs.Common.{◌≡◌, ◌⊎◌, ℕ, zero, suc, ◌<◌, ◌≤◌, Bool, true, false, cond, List, [], ◌∷◌, ◌++◌, length, take, refl, ap, sym, ◌∙◌, subst, inl, inr, eqb, eq-eqb, eqb-true}
 use Rattle.std.proofs.lemmas.Grind.{flat_map-append}
 use Rattle.std.proofs.Math.Seq.{take-length}
 use Rattle.std.proofs.lemmas.Bool.{and_parts}
 use Rattle.std.proofs.lemmas.List.Folds.{list_any-append}
-use Rattle.std.specs.Prelude.{filter, ◌&&◌, ◌||◌, ◌==◌, not, Option, Some, None}
-use Rattle.std.specs.List.{list_any, list_all, flat_map}
-use Rattle.link_model.specs.Places.{Job, Answered}
+use Rattle.std.specs.Prelude.{filter, ◌||◌, ◌==◌, not, Option, Some, None}
+use Rattle.std.specs.List.{list_all}
+use Rattle.link_model.specs.Places.{Answered}
 use Rattle.link_reception.specs.Exchanging.{Exchange, Proposed, Fetched, exchanged, all_exchanged, not_at, out_at, takes_done, back_from, is_wanted}
 use Rattle.link_reception.specs.Receptions.{SliceOut, Reception, keeps_answer}
 use Rattle.slice_exchange.specs.Calls.{out_exchanged}

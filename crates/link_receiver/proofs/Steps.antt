@@ -1,11 +1,11 @@
 -- What one step on a receiver's parts is on its value.
-use Rattle.std.proofs.Common.{◌≡◌, ℕ, ◌+◌, Bool, true, false, cond, List, [], ◌∷◌, ◌++◌, Option, Some, None, Result, Ok, Err, refl, ap, sym, ◌∙◌, subst}
+use Rattle.std.proofs.Common.{◌≡◌, ℕ, List, [], ◌∷◌, Option, Some, None, Result, Ok, Err, refl, ap, ◌∙◌}
 use Rattle.std.specs.Prelude.{filter, IfSome, IfOk, OnOk, OnErr}
-use Rattle.std.specs.Option.{option_copied, option_map, option_map_or}
+use Rattle.std.specs.Option.{option_copied}
 use denote.Ref.{Bor}
 use Rattle.link_model.specs.Books.{Book}
 use Rattle.link_model.specs.Windows.{Releasable}
-use Rattle.link_reception.specs.Exchanging.{Proposed, Fetched, exchanged, takes_done, not_at}
+use Rattle.link_reception.specs.Exchanging.{Proposed, exchanged, takes_done, not_at}
 use Rattle.link_reception.specs.Receptions.{Reception, SliceOut, StandingSession}
 use Rattle.link_reception.specs.Releasing.{released_planes}
 use Rattle.link_reception.specs.WholeBooks.{IsWholeBook}

@@ -1,11 +1,15 @@
 -- The lists of datagrams that a receiver has heard, what it writes of them, and what its calls of
 -- places told.
-use Rattle.std.specs.Prelude.{◌≡◌, ℕ, ◌≤◌, false, List, [], ◌∷◌, ◌++◌, length, drop, map}
+use Rattle.std.specs.Prelude.{◌≡◌, ℕ, ◌≤◌, true, false, List, [], ◌∷◌, ◌++◌, length, drop, map}
 use Rattle.std.specs.Prelude.{Option, Some, None}
-use Rattle.link_model.specs.Feeders.{Feeder}
-use Rattle.link_model.specs.Output.{output_so_far, full_output}
+use Rattle.link_model.specs.Feeders.{Feeder, kept_job}
+use Rattle.link_model.specs.Output.{output_so_far, full_output, is_closed_in}
 use Rattle.link_model.specs.Places.{Job}
+use Rattle.link_model.specs.Session.{sessions_of}
+use Rattle.link_reception.specs.Exchanging.{is_job_among}
 use Rattle.link_reception.specs.Offered.{HasJobs}
+use Rattle.link_reception.specs.Receptions.{Reception, kept_answer}
+use Rattle.link_reception.specs.SlicesOut.{AreOutKept, is_job_out}
 use Rattle.link_reception.specs.Standing.{StandsFor}
 use Rattle.link_receiver.specs.States.{ReceiverState}
 use Rattle.link_stream.specs.Streams.{stream_so_far, stream_of}
@@ -48,15 +52,18 @@ WritesAs AsFrames r size datagrams = r.stream ≡ None
 WritesAs AsUnits r size datagrams = (w : WrittenStream) × (r.stream ≡ Some w)
     × StreamsFor r.reception w size datagrams
 
--- it stands for these datagrams, and its input goes on
+-- it stands for these datagrams, of which pictures keep the slices that are out, and its input goes
+-- on
 pub record HasHeard (form : OutputForm) (r : ReceiverState) (size : ℕ) (datagrams : List (List ℕ))
     : Type 0 where
   pub sound : r.has_failed ≡ false
+  pub least : 2 ≤ size
   pub fits : size ≤ 8
   pub feeder : Feeder
   pub stands : StandsFor r.reception size feeder
   pub heard : feeder.heard ≡ datagrams
   pub goes_on : feeder.has_ended ≡ false
+  pub out : AreOutKept size (sessions_of datagrams) r.reception.out
   pub writes : WritesAs form r size datagrams
 
 -- ---- what was told
@@ -77,3 +84,24 @@ pub record OfferedToPlaces (old new : Option Told) (jobs : List Job) : Type 0 wh
   pub grows : Grows old new more
   pub started : more.started ≡ []
   pub offered : HasJobs (told_jobs more) jobs
+
+-- ---- what may be offered
+
+-- a picture keeps the slice of this job with the datagram, and didn't keep it before; it isn't closed
+-- behind the datagram, and the slice has no answer and isn't out
+pub record IsNewSlice
+    (r : Reception) (size : ℕ) (datagrams : List (List ℕ)) (d : List ℕ) (job : Job) : Type 0 where
+  pub kept : kept_job size (sessions_of (datagrams ++ d ∷ [])) job.number job.index ≡ Some job
+  pub new : kept_job size (sessions_of datagrams) job.number job.index ≡ None
+  pub unclosed : is_closed_in size (sessions_of (datagrams ++ d ∷ [])) job.number ≡ false
+  pub unanswered : kept_answer r.answers job.number job.index ≡ None
+  pub not_out : is_job_out r.out job ≡ false
+
+-- what was told of places, where each job that was offered is such a one
+pub record OfferedNewSlices
+    (old new : Option Told) (r : Reception) (size : ℕ) (datagrams : List (List ℕ)) (d : List ℕ)
+    : Type 0 where
+  pub more : Told
+  pub grows : Grows old new more
+  pub each : (job : Job) → is_job_among (told_jobs more) job ≡ true
+      → IsNewSlice r size datagrams d job

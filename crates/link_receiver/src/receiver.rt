@@ -6,6 +6,7 @@ ghost use Rattle.link_reception.specs.Receptions.{new_reception};
 ghost use Rattle.link_reception.specs.Standing.{AreDecodings};
 ghost use Rattle.link_receiver.specs.Entered.{IsEntered, IsDrained};
 ghost use Rattle.link_receiver.specs.HeardLists.{HasHeard, AskedPlaces, OfferedToPlaces};
+ghost use Rattle.link_receiver.specs.HeardLists.{OfferedNewSlices};
 ghost use Rattle.link_receiver.specs.HeardLists.{OutputForm, AsFrames, AsUnits};
 ghost use Rattle.link_receiver.specs.HeardLists.{newly_due, still_due};
 ghost use Rattle.link_receiver.specs.States.{has_stopped};
@@ -152,6 +153,10 @@ impl Receiver {
             (newly_due form size datagrams datagram)) }
         ensures offered { OnOk result (OfferedToPlaces (P.told places.old) (P.told places.new)
             (datagram_jobs self.old.reception datagram)) }
+        ensures chosen { (form : OutputForm) (size : ℕ) (datagrams : List (List ℕ))
+            → HasHeard form self.old size datagrams
+            → OnOk result (OfferedNewSlices (P.told places.old) (P.told places.new)
+            self.old.reception size datagrams datagram) }
     {
         self.take(datagram, places, sink)
     }

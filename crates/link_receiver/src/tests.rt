@@ -1,3 +1,4 @@
+mod ended;
 mod entering;
 mod offers;
 mod wrong_answers;

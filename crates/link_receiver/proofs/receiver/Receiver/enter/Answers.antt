@@ -1,5 +1,5 @@
 use Rattle.std.proofs.Common.{refl}
-use Rattle.link_receiver.proofs.ListClauses.{enter_offered, enter_judged, enter_heard, enter_wrote, enter_part}
+use Rattle.link_receiver.proofs.ListClauses.{enter_offered, enter_judged, enter_heard, enter_chosen, enter_wrote, enter_part}
 use Rattle.link_receiver.specs.Entered.{Outside}
 use Rattle.link_receiver.proofs.receiver.Receiver.enter.Given.{Over}
 use Rattle.link_receiver.proofs.receiver.Receiver.enter.Goals as goal
@@ -34,3 +34,7 @@ returns-clause-part g c = λ form size datagrams h. enter_part c.args.self.now c
 pub returns-clause-offered : goal.returns-clause-offered
 returns-clause-offered g c = enter_offered c.args.self.now c.take.new.self c.args.datagram
     (outside g c) refl refl _ c.take.ensures.entered
+
+pub returns-clause-chosen : goal.returns-clause-chosen
+returns-clause-chosen g c = λ form size datagrams h. enter_chosen c.args.self.now c.take.new.self
+    c.args.datagram (outside g c) refl refl form size datagrams h _ c.take.ensures.entered

@@ -8,10 +8,12 @@ use Rattle.link_receiver.proofs.receiver.Receiver.units.Goals as goal
 pub returns-clause-heard : goal.returns-clause-heard
 returns-clause-heard c = record {
   sound = refl;
+  least = c.requires.least;
   fits = c.requires.most;
   feeder = new_feeder;
   stands = rw c.new.ensures (new_stands c.args.size);
   heard = refl;
   goes_on = refl;
+  out = rw c.new.ensures tt;
   writes = (nothing_written, ap Some c.new-2.ensures, rw c.new.ensures (new_streams c.args.size));
 }
