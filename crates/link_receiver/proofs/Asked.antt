@@ -1,11 +1,11 @@
 -- Calls of places one after another, none of which starts workers.
 use Rattle.std.proofs.Common.{◌≡◌, ℕ, List, [], ◌∷◌, refl, Option, None, Some, Ok, Err, ap, ◌∙◌, sym, subst, append_assoc, append-nil}
-use Rattle.std.specs.Prelude.{Result, OnOk, OnErr}
+use Rattle.std.specs.Prelude.{Result, IfOk, OnErr}
 use Rattle.link_model.specs.Places.{Job}
 use Rattle.link_reception.specs.Receptions.{Reception}
 use Rattle.link_receiver.specs.Exchanged.{IsExchanged}
 use Rattle.link_receiver.specs.HeardLists.{AskedPlaces}
-use Rattle.link_receiver.specs.Offers.{proposed_in}
+use Rattle.link_receiver.specs.Offers.{IsOneOffer, proposed_in}
 use Rattle.slice_exchange.specs.Calls.{PlaceCall, Puts, Takes, told_of, exchanges_of, freeing}
 use Rattle.vc_slice.specs.Asked.{Told, Grows, nothing_told, told_more, taking}
 use Rattle.vc_slice.specs.declared.done.SliceDone.{SliceDone}
@@ -63,8 +63,8 @@ asked_freed a b places grew = record { more = freeing places; grows = grew; star
 -- a job is put, or there was no memory for that
 pub asked_put : {X : Type 0} (told : X → Option Told) (x y : X) {S : Type 0} (s t : S)
     (result : Result (Option SliceJob) NoMemory) (old new : Reception) (job : Job)
-    → OnOk result ((calls : List PlaceCall) × IsExchanged (told x) (told y) old new calls
-    × (proposed_in (exchanges_of calls) ≡ job ∷ []))
+    → IfOk result (λ back. (calls : List PlaceCall) × IsExchanged (told x) (told y) old new calls
+    × IsOneOffer job back (proposed_in (exchanges_of calls)))
     → OnErr result ((t ≡ s) × (y ≡ x)) → AskedPlaces (told x) (told y)
 asked_put told x y s t (Ok back) old new job h e = asked_calls (told x) (told y) old new h.0 h.1
 asked_put told x y s t (Err fault) old new job h e =

@@ -1,5 +1,5 @@
 -- Calls of places, by the steps that make them.
-use Rattle.std.proofs.Common.{◌≡◌, ℕ, suc, ◌+◌, ◌<◌, Bool, true, false, cond, List, [], ◌∷◌, ◌++◌, length, take, get_or, Option, Some, None, Result, Ok, Err, refl, ap, sym, ◌∙◌, subst, inr, append-nil}
+use Rattle.std.proofs.Common.{◌≡◌, ℕ, suc, ◌+◌, ◌<◌, Bool, true, false, cond, List, [], ◌∷◌, ◌++◌, length, take, get_or, Option, Some, None, Result, Ok, Err, refl, ap, sym, ◌∙◌, subst, append-nil}
 use Rattle.std.proofs.lemmas.List.{take_more, map-append}
 use Rattle.std.specs.Prelude.{map, OnOk, is_some}
 use Rattle.std.specs.Option.{option_and_then}
@@ -10,10 +10,10 @@ use Rattle.link_reception.specs.Exchanging.{Exchange, Proposed, Fetched, exchang
 use Rattle.link_reception.specs.Receptions.{Reception, StandingSession, keeps_answer}
 use Rattle.link_reception.specs.Releasing.{next_picture}
 use Rattle.link_receiver.proofs.Exchanges.{calls_then, exchanges_of-append, no_call}
-use Rattle.link_receiver.proofs.Offered.{proposed_in-append, offers_more, offers_again}
+use Rattle.link_receiver.proofs.Offered.{proposed_in-append, offers_more, offers_again, once_more}
 use Rattle.link_receiver.proofs.Stays.{AreAskedOrIn, one_asked, all_asked, asked_then}
 use Rattle.link_receiver.specs.Exchanged.{IsExchanged}
-use Rattle.link_receiver.specs.Offers.{AreOffersOf, IsOfferOf, MayOffer, proposed_in, asked_in, asked_at, are_asked}
+use Rattle.link_receiver.specs.Offers.{AreOffersOf, IsOfferOf, IsOneOffer, MayOffer, proposed_in, asked_in, asked_at, are_asked}
 use Rattle.slice_exchange.specs.Calls.{PlaceCall, exchanges_of}
 use Rattle.slice_jobs.specs.Jobs.{job_of}
 use Rattle.vc_slice.specs.Asked.{Told}
@@ -46,7 +46,7 @@ ask_step a b c first now behind k i e h m = (
   h.0 ++ m.0,
   calls_then a b c first now behind h.0 m.0 h.1 m.1,
   proposed_then h.0 m.0
-      ∙ ap (λ (l : List Job). l ++ proposed_in (exchanges_of m.0)) h.2 ∙ m.2,
+      ∙ ap (λ (l : List Exchange). l ++ proposed_in (exchanges_of m.0)) h.2 ∙ m.2,
   subst (λ (es : List Exchange). AreAskedOrIn first.out (asked_in es) (take i behind.out))
       (sym (exchanges_of-append h.0 m.0))
       (subst (λ (r : Reception). AreAskedOrIn first.out
@@ -69,25 +69,27 @@ asked_last a b first now k e h = (
 
 -- ---- offers
 
-abbrev pub Proposes : Option Told → Option Told → Reception → Reception → Job → Type 0
-Proposes a b old new job = (calls : List PlaceCall) × IsExchanged a b old new calls
-    × (proposed_in (exchanges_of calls) ≡ job ∷ [])
+abbrev pub Proposes : Option Told → Option Told → Reception → Reception → Job
+    → Option SliceJob → Type 0
+Proposes a b old new job back = (calls : List PlaceCall) × IsExchanged a b old new calls
+    × IsOneOffer job back (proposed_in (exchanges_of calls))
 
-pub again_calls : (a b c : Option Told) (r s t : Reception) (job : Job)
+pub again_calls : (a b c : Option Told) (r s t : Reception) (job : Job) (back : Option SliceJob)
     → ((calls : List PlaceCall) × IsExchanged a b r s calls
     × (proposed_in (exchanges_of calls) ≡ []) × (are_asked r.out (exchanges_of calls) ≡ true))
-    → Proposes b c s t job
+    → Proposes b c s t job back
     → (calls : List PlaceCall) × IsExchanged a c r t calls
     × MayOffer job (proposed_in (exchanges_of calls))
-again_calls a b c r s t job h m = (
+again_calls a b c r s t job back h m = (
   h.0 ++ m.0,
   calls_then a b c r s t h.0 m.0 h.1 m.1,
-  inr (proposed_then h.0 m.0
-      ∙ ap (λ (l : List Job). l ++ proposed_in (exchanges_of m.0)) h.2 ∙ m.2),
+  subst (MayOffer job) (sym (proposed_then h.0 m.0
+      ∙ ap (λ (l : List Exchange). l ++ proposed_in (exchanges_of m.0)) h.2))
+      (once_more job back (proposed_in (exchanges_of m.0)) m.2),
 )
 
 pub offer_calls : (result : Result Bool NoMemory) (a b c : Option Told) (r s t : Reception)
-    (job back : SliceJob) → back ≡ job → Proposes a b r s (job_of job)
+    (job back : SliceJob) → back ≡ job → Proposes a b r s (job_of job) (Some back)
     → OnOk result ((calls : List PlaceCall) × IsExchanged b c s t calls
     × MayOffer (job_of back) (proposed_in (exchanges_of calls)))
     → OnOk result ((calls : List PlaceCall) × IsExchanged a c r t calls
@@ -244,7 +246,7 @@ exchanges_then (Ok done) a b c r s t jobs h m = (
   h.0 ++ m.0,
   calls_then a b c r s t h.0 m.0 h.1 m.1,
   subst (AreOffersOf (map job_of jobs)) (sym (proposed_then h.0 m.0
-      ∙ ap (λ (l : List Job). proposed_in (exchanges_of h.0) ++ l) m.2
+      ∙ ap (λ (l : List Exchange). proposed_in (exchanges_of h.0) ++ l) m.2
       ∙ append-nil (proposed_in (exchanges_of h.0)))) h.2,
   λ some. subst (λ (es : List Exchange). are_asked r.out es ≡ true)
       (sym (exchanges_of-append h.0 m.0))

@@ -1,9 +1,10 @@
 -- Offers and places that were asked, over more calls than one.
-use Rattle.std.proofs.Common.{◌≡◌, List, [], ◌∷◌, ◌++◌, refl, ap, sym, ◌∙◌, inl, inr, append_assoc, append-nil}
+use Rattle.std.proofs.Common.{◌≡◌, List, [], ◌∷◌, ◌++◌, Option, Some, None, refl, ap, sym, ◌∙◌, inl, inr, append_assoc, append-nil}
 use Rattle.std.proofs.lemmas.Grind.{flat_map-append}
 use Rattle.link_model.specs.Places.{Job}
-use Rattle.link_reception.specs.Exchanging.{Exchange}
-use Rattle.link_receiver.specs.Offers.{AreOffersOf, IsOfferOf, MayOffer, proposed_by, proposed_in, asked_by, asked_in}
+use Rattle.link_reception.specs.Exchanging.{Exchange, Proposed}
+use Rattle.vc_slice.specs.declared.job.SliceJob.{SliceJob}
+use Rattle.link_receiver.specs.Offers.{AreOffersOf, IsOfferOf, IsOneOffer, MayOffer, proposed_by, proposed_in, asked_by, asked_in}
 
 -- ---- offers
 
@@ -11,26 +12,37 @@ pub proposed_in-append : (a b : List Exchange)
     → proposed_in (a ++ b) ≡ proposed_in a ++ proposed_in b
 proposed_in-append a b = flat_map-append proposed_by a b
 
-pub offers_more : (jobs offers : List Job) (job : Job) (last : List Job)
+pub offers_more : (jobs : List Job) (offers : List Exchange) (job : Job) (last : List Exchange)
     → AreOffersOf jobs offers → IsOfferOf job last
     → AreOffersOf (jobs ++ job ∷ []) (offers ++ last)
 offers_more [] offers job last p l =
-    (last, [], l, refl, ap (λ (o : List Job). o ++ last) p ∙ sym (append-nil last))
+    (last, [], l, refl, ap (λ (o : List Exchange). o ++ last) p ∙ sym (append-nil last))
 offers_more (first ∷ jobs) offers job last p l = (
   p.0,
   p.1 ++ last,
   p.2,
   offers_more jobs p.1 job last p.3 l,
-  ap (λ (o : List Job). o ++ last) p.4 ∙ append_assoc p.0 p.1 last,
+  ap (λ (o : List Exchange). o ++ last) p.4 ∙ append_assoc p.0 p.1 last,
 )
 
--- an offer, and maybe one more of the same job
-pub offers_again : (job : Job) (offers more : List Job) → offers ≡ job ∷ [] → MayOffer job more
-    → IsOfferOf job (offers ++ more)
-offers_again job offers more e (inl none) = inl (ap (λ (o : List Job). o ++ more) e
-    ∙ ap (λ (m : List Job). job ∷ m) none)
-offers_again job offers more e (inr one) = inr (ap (λ (o : List Job). o ++ more) e
-    ∙ ap (λ (m : List Job). job ∷ m) one)
+-- an offer of a job that is handed back, and maybe one more of it
+pub offers_again : (job : Job) (offers more : List Exchange) → offers ≡ Proposed job None ∷ []
+    → MayOffer job more → IsOfferOf job (offers ++ more)
+offers_again job offers more e (inl none) = inl (
+  None,
+  ap (λ (o : List Exchange). o ++ more) e
+      ∙ ap (λ (m : List Exchange). Proposed job None ∷ m) none,
+)
+offers_again job offers more e (inr one) = inr (
+  one.0,
+  ap (λ (o : List Exchange). o ++ more) e
+      ∙ ap (λ (m : List Exchange). Proposed job None ∷ m) one.1,
+)
+
+pub once_more : (job : Job) (back : Option SliceJob) (offers : List Exchange)
+    → IsOneOffer job back offers → MayOffer job offers
+once_more job None offers one = inr (Some one.0, one.1)
+once_more job (Some back) offers one = inr (None, one)
 
 pub asked_in-append : (a b : List Exchange) → asked_in (a ++ b) ≡ asked_in a ++ asked_in b
 asked_in-append a b = flat_map-append asked_by a b

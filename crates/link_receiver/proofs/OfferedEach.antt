@@ -1,8 +1,10 @@
 -- Each job of a datagram is among the jobs that places were told of, and each of these is one of it.
-use Rattle.std.proofs.Common.{◌≡◌, ℕ, Bool, true, false, List, [], ◌∷◌, refl, ap, sym, ◌∙◌, inl, inr, append-nil}
+use Rattle.std.proofs.Common.{◌≡◌, ℕ, Bool, true, false, List, [], ◌∷◌, ◌++◌, refl, ap, sym, subst, ◌∙◌, inl, inr, append-nil}
 use Rattle.std.specs.Prelude.{◌||◌}
 use Rattle.std.proofs.lemmas.Bool.{false≢true}
+use Rattle.std.proofs.lemmas.Grind.{flat_map-append}
 use Rattle.std.proofs.lemmas.List.Folds.{list_any-append}
+use Rattle.std.specs.List.{flat_map}
 use Rattle.link_model.specs.Feeding.{is_same_job}
 use Rattle.link_model.specs.Places.{Job}
 use Rattle.link_reception.specs.Exchanging.{Exchange, Proposed, Fetched, is_job_among}
@@ -23,32 +25,55 @@ or_right : (a b : Bool) → b ≡ true → (a || b) ≡ true
 or_right true b e = refl
 or_right false b e = e
 
+-- the job of an offer
+abbrev pub job_by : Exchange → List Job
+job_by (Proposed job place) = job ∷ []
+job_by (Fetched place given) = []
+
+abbrev pub jobs_in : List Exchange → List Job
+jobs_in exchanges = flat_map job_by exchanges
+
+jobs_proposed : (exchanges : List Exchange) → jobs_in (proposed_in exchanges) ≡ jobs_in exchanges
+jobs_proposed [] = refl
+jobs_proposed (Proposed job place ∷ rest) = ap (λ (l : List Job). job ∷ l) (jobs_proposed rest)
+jobs_proposed (Fetched place given ∷ rest) = jobs_proposed rest
+
+-- whether a job is one of the offers
+abbrev is_offered : List Exchange → Job → Bool
+is_offered offers job = is_job_among (jobs_in offers) job
+
+offered_split : (a b : List Exchange) (job : Job)
+    → is_offered (a ++ b) job ≡ is_offered a job || is_offered b job
+offered_split a b job = ap (λ (l : List Job). is_job_among l job) (flat_map-append job_by a b)
+    ∙ list_any-append (is_same_job job) (jobs_in a) (jobs_in b)
+
 -- an offer has its job
-offer_has : (first job : Job) (offers : List Job) → IsOfferOf first offers
-    → is_same_job job first ≡ true → is_job_among offers job ≡ true
+offer_has : (first job : Job) (offers : List Exchange) → IsOfferOf first offers
+    → is_same_job job first ≡ true → is_offered offers job ≡ true
 offer_has first job offers (inl once) same =
-    rw once (or_left (is_same_job job first) false same)
+    rw once.1 (or_left (is_same_job job first) false same)
 offer_has first job offers (inr twice) same =
-    rw twice (or_left (is_same_job job first) (is_same_job job first || false) same)
+    rw twice.1 (or_left (is_same_job job first) (is_same_job job first || false) same)
 
 -- the offers of jobs have each of them
-pub offers_have : (jobs offers : List Job) → AreOffersOf jobs offers → HasJobs offers jobs
+pub offers_have : (jobs : List Job) (offers : List Exchange) → AreOffersOf jobs offers
+    → HasJobs (jobs_in offers) jobs
 offers_have [] offers p job is = absurd (false≢true is)
 offers_have (first ∷ jobs) offers p job is =
-    ap (λ (l : List Job). is_job_among l job) p.4
-    ∙ list_any-append (is_same_job job) p.0 p.1
+    ap (λ (l : List Exchange). is_offered l job) p.4
+    ∙ offered_split p.0 p.1 job
     ∙ by_first (is_same_job job first) refl is (offers_have jobs p.1 p.3)
   where
     by_first : (b : Bool) → is_same_job job first ≡ b → (b || is_job_among jobs job) ≡ true
-        → HasJobs p.1 jobs → (is_job_among p.0 job || is_job_among p.1 job) ≡ true
-    by_first true same is rest = or_left (is_job_among p.0 job) (is_job_among p.1 job)
+        → HasJobs (jobs_in p.1) jobs → (is_offered p.0 job || is_offered p.1 job) ≡ true
+    by_first true same is rest = or_left (is_offered p.0 job) (is_offered p.1 job)
         (offer_has first job p.0 p.2 same)
-    by_first false same is rest = or_right (is_job_among p.0 job) (is_job_among p.1 job)
+    by_first false same is rest = or_right (is_offered p.0 job) (is_offered p.1 job)
         (rest job is)
 
 -- what places were told of are the offers
 told_are_proposed : (calls : List PlaceCall)
-    → told_jobs (told_of calls) ≡ proposed_in (exchanges_of calls)
+    → told_jobs (told_of calls) ≡ jobs_in (exchanges_of calls)
 told_are_proposed [] = refl
 told_are_proposed (Puts job answer ∷ rest) =
     ap (λ (l : List Job). job_of job ∷ l) (told_are_proposed rest)
@@ -59,34 +84,39 @@ pub told_have : (calls : List PlaceCall) (freed : List ℕ) (jobs : List Job)
     → AreOffersOf jobs (proposed_in (exchanges_of calls))
     → HasJobs (told_jobs (told_more (told_of calls) (freeing freed))) jobs
 told_have calls freed jobs p =
-    rw (append-nil (told_of calls).offered, told_are_proposed calls)
+    rw (
+      append-nil (told_of calls).offered,
+      told_are_proposed calls,
+      ← jobs_proposed (exchanges_of calls),
+    )
     (offers_have jobs (proposed_in (exchanges_of calls)) p)
 
 -- ---- nothing else is offered
 
-offer_is : (first job : Job) (offers : List Job) → IsOfferOf first offers
-    → is_job_among offers job ≡ true → is_same_job job first ≡ true
-offer_is first job offers (inl once) is = by_test (is_same_job job first) (rw once at is)
+offer_is : (first job : Job) (offers : List Exchange) → IsOfferOf first offers
+    → is_offered offers job ≡ true → is_same_job job first ≡ true
+offer_is first job offers (inl once) is = by_test (is_same_job job first) (rw once.1 at is)
   where
     by_test : (b : Bool) → (b || false) ≡ true → b ≡ true
     by_test true e = refl
     by_test false e = e
-offer_is first job offers (inr twice) is = by_test (is_same_job job first) (rw twice at is)
+offer_is first job offers (inr twice) is = by_test (is_same_job job first) (rw twice.1 at is)
   where
     by_test : (b : Bool) → (b || (b || false)) ≡ true → b ≡ true
     by_test true e = refl
     by_test false e = e
 
 -- the offers of jobs have no other
-pub offers_are : (jobs offers : List Job) → AreOffersOf jobs offers → HasJobs jobs offers
+pub offers_are : (jobs : List Job) (offers : List Exchange) → AreOffersOf jobs offers
+    → HasJobs jobs (jobs_in offers)
 offers_are [] offers p job is =
-    absurd (false≢true (sym (ap (λ (l : List Job). is_job_among l job) p) ∙ is))
+    absurd (false≢true (sym (ap (λ (l : List Exchange). is_offered l job) p) ∙ is))
 offers_are (first ∷ jobs) offers p job is =
-    by_part (is_job_among p.0 job) refl (sym (list_any-append (is_same_job job) p.0 p.1)
-    ∙ sym (ap (λ (l : List Job). is_job_among l job) p.4) ∙ is) (offers_are jobs p.1 p.3)
+    by_part (is_offered p.0 job) refl (sym (offered_split p.0 p.1 job)
+    ∙ sym (ap (λ (l : List Exchange). is_offered l job) p.4) ∙ is) (offers_are jobs p.1 p.3)
   where
-    by_part : (b : Bool) → is_job_among p.0 job ≡ b → (b || is_job_among p.1 job) ≡ true
-        → HasJobs jobs p.1 → (is_same_job job first || is_job_among jobs job) ≡ true
+    by_part : (b : Bool) → is_offered p.0 job ≡ b → (b || is_offered p.1 job) ≡ true
+        → HasJobs jobs (jobs_in p.1) → (is_same_job job first || is_job_among jobs job) ≡ true
     by_part true there e rest = or_left (is_same_job job first) (is_job_among jobs job)
         (offer_is first job p.0 p.2 there)
     by_part false there e rest = or_right (is_same_job job first) (is_job_among jobs job)
@@ -97,16 +127,20 @@ pub told_are : (calls : List PlaceCall) (freed : List ℕ) (jobs : List Job)
     → AreOffersOf jobs (proposed_in (exchanges_of calls))
     → HasJobs jobs (told_jobs (told_more (told_of calls) (freeing freed)))
 told_are calls freed jobs p =
-    rw (append-nil (told_of calls).offered, told_are_proposed calls)
+    rw (
+      append-nil (told_of calls).offered,
+      told_are_proposed calls,
+      ← jobs_proposed (exchanges_of calls),
+    )
     (offers_are jobs (proposed_in (exchanges_of calls)) p)
 
-puts_among : (jobs : List Job) (exchanges : List Exchange) → HasJobs jobs (proposed_in exchanges)
+puts_among : (jobs : List Job) (exchanges : List Exchange) → HasJobs jobs (jobs_in exchanges)
     → ArePutsOf jobs exchanges
 puts_among jobs [] each = tt
 puts_among jobs (Proposed job place ∷ rest) each = (
-  each job (or_left (is_same_job job job) (is_job_among (proposed_in rest) job) (same_itself job)),
+  each job (or_left (is_same_job job job) (is_offered rest job) (same_itself job)),
   puts_among jobs rest (λ other is. each other
-      (or_right (is_same_job other job) (is_job_among (proposed_in rest) other) is)),
+      (or_right (is_same_job other job) (is_offered rest other) is)),
 )
 puts_among jobs (Fetched place given ∷ rest) each = puts_among jobs rest each
 
@@ -114,4 +148,5 @@ puts_among jobs (Fetched place given ∷ rest) each = puts_among jobs rest each
 pub offers_are_puts : (jobs : List Job) (exchanges : List Exchange)
     → AreOffersOf jobs (proposed_in exchanges) → ArePutsOf jobs exchanges
 offers_are_puts jobs exchanges p =
-    puts_among jobs exchanges (offers_are jobs (proposed_in exchanges) p)
+    puts_among jobs exchanges (subst (λ (l : List Job). HasJobs jobs l) (jobs_proposed exchanges)
+    (offers_are jobs (proposed_in exchanges) p))

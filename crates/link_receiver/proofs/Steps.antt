@@ -11,7 +11,7 @@ use Rattle.link_reception.specs.Releasing.{released_planes}
 use Rattle.link_reception.specs.WholeBooks.{IsWholeBook}
 use Rattle.link_receiver.proofs.Exchanges.{one_put, one_take}
 use Rattle.link_receiver.specs.Exchanged.{IsExchanged}
-use Rattle.link_receiver.specs.Offers.{proposed_in}
+use Rattle.link_receiver.specs.Offers.{IsOneOffer, proposed_in}
 use Rattle.slice_answers.specs.Completing.{IsWholeIfAny, IsWholeBySome}
 use Rattle.slice_exchange.specs.Calls.{PlaceCall, Puts, Takes, exchanges_of, out_exchanged, handed_back}
 use Rattle.slice_jobs.specs.Jobs.{job_of, answered}
@@ -71,15 +71,20 @@ pub put_calls : (r : Result (Option SliceJob) NoMemory) (before behind : Option 
     → IfOk r (λ back. (answer : Option ℕ) × Grows before behind (one_offer job answer)
     × (out ≡ out_exchanged old.out (Proposed (job_of job) answer))
     × (back ≡ handed_back job answer))
-    → OnOk r ((calls : List PlaceCall)
+    → IfOk r (λ back. (calls : List PlaceCall)
     × IsExchanged before behind old (record old { out = out }) calls
-    × (proposed_in (exchanges_of calls) ≡ job_of job ∷ []))
+    × IsOneOffer (job_of job) back (proposed_in (exchanges_of calls)))
 put_calls (Err e) before behind old out job h = tt
 put_calls (Ok back) before behind old out job h = (
   Puts job h.0 ∷ [],
   one_put before behind old (record old { out = out }) job h.0 h.1 (put_value old out job h.0 h.2),
-  refl,
+  by_answer h.0 back h.3,
 )
+  where
+    by_answer : (answer : Option ℕ) (back : Option SliceJob) → back ≡ handed_back job answer
+        → IsOneOffer (job_of job) back (proposed_in (exchanges_of (Puts job answer ∷ [])))
+    by_answer None back e = rw e refl
+    by_answer (Some place) back e = rw e (place, refl)
 
 -- ---- a place is asked
 

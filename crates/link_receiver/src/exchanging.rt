@@ -5,7 +5,7 @@ ghost use Rattle.link_reception.specs.Exchanging.{is_wanted, takes_done};
 ghost use Rattle.link_reception.specs.Releasing.{next_picture};
 ghost use Rattle.link_receiver.specs.Exchanged.{IsExchanged};
 ghost use Rattle.link_receiver.specs.HeardLists.{AskedPlaces};
-ghost use Rattle.link_receiver.specs.Offers.{AreOffersOf, IsOfferOf, MayOffer, proposed_in};
+ghost use Rattle.link_receiver.specs.Offers.{AreOffersOf, IsOfferOf, IsOneOffer, MayOffer, proposed_in};
 ghost use Rattle.link_receiver.specs.Offers.{are_asked};
 ghost use Rattle.link_receiver.specs.Offers.{asked_in, asked_at};
 ghost use Rattle.slice_exchange.specs.Calls.{PlaceCall, PlacesAreBelow, exchanges_of};
@@ -125,9 +125,9 @@ impl Reception {
         places: &mut P,
     ) -> Result<Option<SliceJob>, NoMemory>
         requires below { PlacesAreBelow (P.bound places.old) self.old.out }
-        ensures exchanged { OnOk result ((calls : List PlaceCall)
+        ensures exchanged { IfOk result (λ back. (calls : List PlaceCall)
             × IsExchanged (P.told places.old) (P.told places.new) self.old self.new calls
-            × (proposed_in (exchanges_of calls) ≡ job_of job ∷ [])) }
+            × IsOneOffer (job_of job) back (proposed_in (exchanges_of calls))) }
         ensures back { IfOk result (λ back. IfSome back (λ same. same ≡ job)) }
         ensures asked { AskedPlaces (P.told places.old) (P.told places.new) }
         ensures bound { P.bound places.new ≡ P.bound places.old }

@@ -11,7 +11,7 @@ returns-clause-exchanged g c =
     subst (λ (o : Option SliceJob). IfSome o (λ same. same ≡ c.args.job)) c.in-Some.is
     c.in_ok-job.ensures.back in
     offer_calls c.offer_again.result _ _ _ _ _ _ c.args.job c.in-Some.job same
-    c.in_ok-job.ensures.exchanged c.offer_again.ensures.exchanged
+    (rw c.in-Some.is at c.in_ok-job.ensures.exchanged) c.offer_again.ensures.exchanged
 
 pub returns-clause-asked : goal.returns-clause-asked
 returns-clause-asked g c = asked_twice _ _ _ c.in_ok-job.ensures.asked
