@@ -4,6 +4,7 @@ use mir.Val.{bool_byte}
 use Rattle.std.specs.Int.{bit_at}
 use Rattle.std.specs.Prelude.{Result, Ok, Err, OnOk}
 use Rattle.std.proofs.lemmas.Nat.{pow-add, pow_pos, div-mul-add, mul-add-lt, one_shl}
+use Rattle.std.proofs.lemmas.List.{replicate-append-replicate}
 use Rattle.std.proofs.lemmas.Nat.Bits.{bit_at_cat_low, bit_at_ones, bit_at-zero}
 use Rattle.std.proofs.Math.Nat.{mul_comm, pow-le-pow_right, mod-eq_of_lt}
 use Rattle.vc_types.specs.Bits.{byte_bits, bits_of}
@@ -116,3 +117,11 @@ added bytes before have word count number next filled old view same sum joined =
 pub on_ok : {A E : Type 0} (r : Result A E) (P Q : Type 0) → OnOk r P → (P → Q) → OnOk r Q
 on_ok (Ok x) P Q p f = f p
 on_ok (Err e) P Q p f = tt
+
+-- the same bit some more times
+pub repeated_more : (times left count : ℕ) (bit : Bool) (old before word after : List Bool) → left ≤ times → count ≤ left → before ≡ old ++ replicate (times - left) bit → word ≡ replicate count bit → after ≡ before ++ word
+    → after ≡ old ++ replicate (times - (left - count)) bit
+repeated_more times left count bit old before word after within some so_far is wrote =
+    let sum : times - (left - count) ≡ (times - left) + count = omega arith in
+    wrote ∙ ap (λ (bits : List Bool). bits ++ word) so_far ∙ append_assoc old (replicate (times - left) bit) word
+    ∙ ap (λ (bits : List Bool). old ++ bits) (ap (λ (bits : List Bool). replicate (times - left) bit ++ bits) is ∙ replicate-append-replicate (times - left) count bit ∙ ap (λ (n : ℕ). replicate n bit) (sym sum))

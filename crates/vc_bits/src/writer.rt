@@ -1,5 +1,5 @@
 ghost use Rattle.std.specs.Prelude.{◌≡◌, ◌+◌, ◌-◌, ◌*◌, ◌%◌, ◌<◌, ◌≤◌, ◌^◌, ◌++◌, ◌∷◌, [], false, length, replicate, vec_len, vec_capacity, IfOk, OnOk, OnErr, IsOk};
-ghost use Rattle.vc_types.specs.Bits.{bits_of};
+ghost use Rattle.vc_types.specs.Bits.{bits_of, byte_bits};
 ghost use Rattle.vc_bits.specs.Bits.{to_edge, word_bits};
 
 use crate::pending::{joined, make_room, push_all, push_four, repeated};
@@ -82,6 +82,27 @@ impl BitWriter {
             self.word = word;
         }
         Ok(())
+    }
+
+    /// Adds the same bit so many times. Where memory runs out, it isn't said how many of them were added.
+    pub fn repeat(&mut self, bit: bool, times: u64) -> Result<(), NoMemory>
+        ensures { OnOk result (self.new ≡ self.old ++ replicate times bit) }
+    {
+        let mut left = times;
+        'words: while left > 0 {
+            let count = left.min(32) as u32;
+            self.bits(repeated(bit, count), count)?;
+            left -= u64::from(count);
+        }
+        Ok(())
+    }
+
+    /// Adds a byte.
+    #[inline]
+    pub fn byte(&mut self, byte: u8) -> Result<(), NoMemory>
+        ensures { OnOk result (self.new ≡ self.old ++ byte_bits byte) }
+    {
+        self.bits(u64::from(byte), 8)
     }
 
     /// Fills the last byte.

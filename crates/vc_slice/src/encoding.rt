@@ -9,7 +9,7 @@ ghost use Rattle.vc_types.specs.Encoding.{block_units, component_bits, encoded_l
 
 use crate::coeffs::SliceCoeffs;
 use crate::counting::block_len;
-use crate::writing::{units, write_block, write_byte};
+use crate::writing::{units, write_block};
 use std::alloc::Global;
 use vc_bits::BitWriter;
 use vc_types::{Component, NoMemory, Plan};
@@ -59,9 +59,8 @@ pub fn encode(
             bytes: slice_len(plan, lens),
         });
     }
-    let mut w = BitWriter::new(alloc);
-    match write_slice(&mut w, plan, index, coeffs, q, lens) {
-        Ok(()) => Ok(w.finish()),
+    match written(alloc, plan, index, coeffs, q, lens) {
+        Ok(bytes) => Ok(bytes),
         Err(_) => Err(EncodeRefusal::NoMemory),
     }
 }
@@ -112,6 +111,35 @@ fn is_too_long(plan: &Plan, lens: BlockLens) -> bool
     units(plan, lens.y) > 255 || units(plan, lens.c1) > 255 || units(plan, lens.c2) > 255
 }
 
+// The bytes of a slice.
+fn written(
+    alloc: Global,
+    plan: &Plan,
+    index: u32,
+    coeffs: &SliceCoeffs,
+    q: u8,
+    lens: BlockLens,
+) -> Result<Vec<u8>, NoMemory>
+    requires slice { index < slice_count (parameters_of plan.now) }
+    requires coefficients { AreSliceCoefficients (parameters_of plan.now) index coeffs.now }
+    requires index { q ≤ 127 }
+    requires y { lens.y ≡ length (component_bits (parameters_of plan.now) index q coeffs.now Y) }
+    requires c1 { lens.c1 ≡ length (component_bits (parameters_of plan.now) index q coeffs.now C1) }
+    requires c2 { lens.c2 ≡ length (component_bits (parameters_of plan.now) index q coeffs.now C2) }
+    requires range { (lens.y < 2 ^ 40) × (lens.c1 < 2 ^ 40) × (lens.c2 < 2 ^ 40) }
+    requires fits { (block_units plan.now.scaler lens.y ≤ 255)
+        × (block_units plan.now.scaler lens.c1 ≤ 255)
+        × (block_units plan.now.scaler lens.c2 ≤ 255) }
+    ensures value { IfOk result
+        (λ bytes. bits_of bytes.items ≡ encoded_slice (parameters_of plan.now) index q coeffs.now) }
+    ensures len { IfOk result
+        (λ bytes. length bytes.items ≡ encoded_length (parameters_of plan.now) index q coeffs.now) }
+{
+    let mut w = BitWriter::with_room(alloc, slice_len(plan, lens) as usize)?;
+    write_slice(&mut w, plan, index, coeffs, q, lens)?;
+    Ok(w.finish())
+}
+
 fn write_slice(
     w: &mut BitWriter,
     plan: &Plan,
@@ -144,7 +172,7 @@ fn write_head(w: &mut BitWriter, plan: &Plan, q: u8) -> Result<(), NoMemory>
     ensures { OnOk result (w.new ≡ w.old ++ bits_of (replicate plan.now.prefix 0 ++ q ∷ [])) }
 {
     for _i in 0..plan.prefix {
-        write_byte(w, 0)?;
+        w.byte(0)?;
     }
-    write_byte(w, q)
+    w.byte(q)
 }

@@ -49,9 +49,9 @@ pub(crate) fn write_block(
         (component_bits (parameters_of plan.now) slice index coeffs.now c)) }
 {
     let units = units(plan, bits);
-    write_byte(w, units as u8)?;
+    w.byte(units as u8)?;
     write_codes(w, plan, c, slice, coeffs, index)?;
-    write_ones(w, 8 * (units * u64::from(plan.scaler)) - bits)
+    w.repeat(true, 8 * (units * u64::from(plan.scaler)) - bits)
 }
 
 // Adds the codes of a component's numbers, up to the last that isn't 0.
@@ -114,25 +114,7 @@ fn write_number(w: &mut BitWriter, zeros: u64, number: i64) -> Result<u64, NoMem
     if number == 0 {
         return Ok(zeros + 1);
     }
-    write_ones(w, zeros)?;
+    w.repeat(true, zeros)?;
     write_sint(w, number)?;
     Ok(0)
-}
-
-fn write_ones(w: &mut BitWriter, count: u64) -> Result<(), NoMemory>
-    ensures { OnOk result (w.new ≡ w.old ++ replicate count true) }
-{
-    for _i in 0..count {
-        w.bit(true)?;
-    }
-    Ok(())
-}
-
-pub(crate) fn write_byte(w: &mut BitWriter, byte: u8) -> Result<(), NoMemory>
-    ensures { OnOk result (w.new ≡ w.old ++ byte_bits byte) }
-{
-    for place in 0..8u8 {
-        w.bit((byte >> (7 - place)) & 1 == 1)?;
-    }
-    Ok(())
 }

@@ -11,22 +11,6 @@ returns-then-is_too_long-clause-too_long c =
       c.slice_len.ensures ∙ length_by (parameters_of c.args.plan.now) c.args.index c.args.q c.args.coeffs.now lens.result.y lens.result.c1 lens.result.c2 lens.ensures.y lens.ensures.c1 lens.ensures.c2,
     )
 
-pub returns-in-Ok-clause-value : goal.returns-in-Ok-clause-value
-returns-in-Ok-clause-value c =
-    let p = parameters_of c.args.plan.now in
-    let code = encoded_slice p c.args.index c.args.q c.args.coeffs.now in
-    let written : c.write_slice.new.w ≡ code = c.in-Ok.ensures ∙ ap (λ (bits : List Bool). bits ++ code) c.new-w.ensures in
-    let whole : length c.write_slice.new.w ≡ 8 * encoded_length p c.args.index c.args.q c.args.coeffs.now = ap length written ∙ length_slice p c.args.index c.args.q c.args.coeffs.now (some_scaler c.args.plan.now.prefix c.args.plan.now.scaler c.args.plan.now.slice_bytes) in
-    finished c.finish.result.items c.write_slice.new.w (encoded_length p c.args.index c.args.q c.args.coeffs.now) c.finish.ensures whole ∙ written
-
-pub returns-in-Ok-clause-len : goal.returns-in-Ok-clause-len
-returns-in-Ok-clause-len c =
-    let p = parameters_of c.args.plan.now in
-    let code = encoded_slice p c.args.index c.args.q c.args.coeffs.now in
-    let written : c.write_slice.new.w ≡ code = c.in-Ok.ensures ∙ ap (λ (bits : List Bool). bits ++ code) c.new-w.ensures in
-    let whole : length c.write_slice.new.w ≡ 8 * encoded_length p c.args.index c.args.q c.args.coeffs.now = ap length written ∙ length_slice p c.args.index c.args.q c.args.coeffs.now (some_scaler c.args.plan.now.prefix c.args.plan.now.scaler c.args.plan.now.slice_bytes) in
-    length_finished c.finish.result.items c.write_slice.new.w (encoded_length p c.args.index c.args.q c.args.coeffs.now) c.finish.ensures whole
-
 pub returns-in-Ok-clause-fits : goal.returns-in-Ok-clause-fits
 returns-in-Ok-clause-fits c =
     let lens = c.block_lens-lens in

@@ -8,9 +8,9 @@ pub loop-i-init : goal.loop-i-init
 loop-i-init c = sym (ap (λ (bits : List Bool). c.args.w.now ++ bits) bits_of-nil ∙ append-nil c.args.w.now)
 
 pub loop-i-preserved : goal.loop-i-preserved
-loop-i-preserved c = prefix_more c.loop-i._i c.args.w.now c.loop-i.w c.write_byte.new.w c.loop-i.invariant c.in_ok-write_byte.ensures
+loop-i-preserved c = prefix_more c.loop-i._i c.args.w.now c.loop-i.w c.byte.new.self c.loop-i.invariant c.in_ok-byte.ensures
 
 pub returns : goal.returns
 returns c =
     let all : c.loop-i._i ≡ c.args.plan.now.prefix = omega arith in
-    on_ok c.write_byte-2.result _ _ c.write_byte-2.ensures (λ wrote. written_head c.args.plan.now.prefix c.loop-i._i c.args.q c.args.w.now c.loop-i.w _ all c.loop-i.invariant wrote)
+    on_ok c.byte-2.result _ _ c.byte-2.ensures (λ wrote. written_head c.args.plan.now.prefix c.loop-i._i c.args.q c.args.w.now c.loop-i.w _ all c.loop-i.invariant wrote)

@@ -5,4 +5,4 @@ use Rattle.vc_slice.proofs.EncodedSlices.{written_block}
 use Rattle.vc_slice.proofs.writing.write_block.Goals as goal
 
 pub returns : goal.returns
-returns c = on_ok c.write_ones.result _ _ c.write_ones.ensures (λ wrote. written_block c.args.plan.now.scaler c.from.result c.units-units.result c.args.bits (component_bits (parameters_of c.args.plan.now) c.args.slice c.args.index c.args.coeffs.now c.args.c) c.args.w.now c.write_byte.new.w c.write_codes.new.w _ c.from.ensures c.units-units.ensures.value c.requires.bits c.in_ok-write_byte.ensures c.in_ok-write_codes.ensures wrote)
+returns c = on_ok c.repeat.result _ _ c.repeat.ensures (λ wrote. written_block c.args.plan.now.scaler c.from.result c.units-units.result c.args.bits (component_bits (parameters_of c.args.plan.now) c.args.slice c.args.index c.args.coeffs.now c.args.c) c.args.w.now c.byte.new.self c.write_codes.new.w _ c.from.ensures c.units-units.ensures.value c.requires.bits c.in_ok-byte.ensures c.in_ok-write_codes.ensures wrote)

@@ -13,4 +13,4 @@ returns-then-number-eq0-clause-codes c = λ more.
 pub returns-clause-codes : goal.returns-clause-codes
 returns-clause-codes c = λ more.
     let some : 0 < unsigned_abs c.args.number = omega (arith, ints) in
-    written_number c.args.zeros c.args.number more c.args.w.now c.write_ones.new.w c.write_sint.new.w some c.in_ok-write_ones.ensures (c.in_ok-write_sint.ensures.ok ∙ ap (λ z. c.write_ones.new.w ++ sint_bits z) (to_z-of_z w64 c.args.number c.ranges.number))
+    written_number c.args.zeros c.args.number more c.args.w.now c.repeat.new.self c.write_sint.new.w some c.in_ok-repeat.ensures (c.in_ok-write_sint.ensures.ok ∙ ap (λ z. c.repeat.new.self ++ sint_bits z) (to_z-of_z w64 c.args.number c.ranges.number))
