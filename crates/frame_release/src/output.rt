@@ -1,11 +1,11 @@
-ghost use Rattle.std.specs.Prelude.{◌≡◌, Err, None, is_some, IfOk, IfSome, OnOk, OnErr};
+ghost use Rattle.std.specs.Prelude.{◌≡◌, ◌%◌, Err, None, Option, is_some, true, IfOk, IfSome, OnOk, OnErr};
 ghost use Rattle.std.specs.Option.{option_map};
 ghost use Rattle.link_model.specs.Output.{raw_bytes};
 ghost use Rattle.link_reception.specs.Releasing.{released_frame, field_behind, fields_alone};
 ghost use Rattle.link_reception.specs.WholeBooks.{ArePicturePlanes};
 ghost use Rattle.vc_ports.specs.Faults.{HasCause};
 ghost use Rattle.vc_ports.specs.Writing.{Grew, GrewBySome};
-ghost use Rattle.vc_types.specs.Planes.{planes_in};
+ghost use Rattle.vc_types.specs.Planes.{Planes, planes_in};
 ghost use Rattle.vc_types.specs.SequenceHeader.{sequence_of};
 
 use crate::pairing::{Field, field_before, first_field, woven};
@@ -106,6 +106,57 @@ impl FrameOutput {
             has_frame: true,
             alone: 0,
         })
+    }
+
+    /// The same of a frame that goes nowhere: it is neither woven nor written, and what waits is the same.
+    pub fn pass(&mut self, header: &Header, number: u64, planes: Option<[Plane; 3]>) -> Shown
+        requires planes { IfSome planes
+            (λ planes. ArePicturePlanes (sequence_of header.now) (planes_in planes)) }
+        ensures field { self.new
+            ≡ field_behind (sequence_of header.now) number (option_map planes_in planes) }
+        ensures waiting { IfSome self.new
+            (λ field. ArePicturePlanes (sequence_of header.now) field.planes) }
+        ensures has_frame { result.has_frame ≡ is_some (released_frame
+            (sequence_of header.now) self.old number (option_map planes_in planes)) }
+        ensures alone { result.alone ≡ fields_alone
+            (sequence_of header.now) self.old number (option_map planes_in planes) }
+    {
+        if header.fields && number % 2 == 0 {
+            let has_waited = self.waiting.is_some();
+            self.waiting = first_field(number, planes);
+            return Shown {
+                has_frame: false,
+                alone: u64::from(has_waited),
+            };
+        }
+        self.pass_unbuilt(header, number, planes.is_some())
+    }
+
+    /// The same of a picture whose planes, if it has any, aren't built. It is no first field, which
+    /// would wait.
+    pub fn pass_unbuilt(&mut self, header: &Header, number: u64, is_sound: bool) -> Shown
+        requires second { header.now.fields ≡ true → number % 2 ≡ 1 }
+        ensures none { self.new ≡ None }
+        ensures field { (planes : Option Planes)
+            → self.new ≡ field_behind (sequence_of header.now) number planes }
+        ensures has_frame { (planes : Option Planes) → is_some planes ≡ is_sound
+            → result.has_frame ≡ is_some (released_frame
+            (sequence_of header.now) self.old number planes) }
+        ensures alone { (planes : Option Planes) → is_some planes ≡ is_sound
+            → result.alone ≡ fields_alone (sequence_of header.now) self.old number planes }
+    {
+        let waiting = self.waiting.take();
+        let has_waited = waiting.is_some();
+        if is_sound && (!header.fields || field_before(waiting, number).is_some()) {
+            return Shown {
+                has_frame: true,
+                alone: 0,
+            };
+        }
+        Shown {
+            has_frame: false,
+            alone: u64::from(has_waited) + u64::from(header.fields && is_sound),
+        }
     }
 
     /// Lets the field go that waits, and answers whether one did.

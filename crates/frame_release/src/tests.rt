@@ -210,6 +210,32 @@ fn a_second_field_may_be_alone(rt: HostRuntime) -> Result<(), Fail> {
     Ok(())
 }
 
+// A pair, and then four fields that are alone; none is woven or written.
+#[test]
+fn frames_that_go_nowhere(rt: HostRuntime) -> Result<(), Fail> {
+    let alloc = rt.alloc();
+    let header = fields(true);
+    let mut output = FrameOutput::new(alloc);
+    for (number, is_there, has_frame, alone) in [
+        (6, true, false, 0),
+        (7, true, true, 0),
+        (8, true, false, 0),
+        (10, true, false, 1),
+        (11, false, false, 1),
+        (13, true, false, 1),
+    ] {
+        let planes = if is_there {
+            Some(picture(alloc, &header, GREY)?)
+        } else {
+            None
+        };
+        let passed = output.pass(&header, number, planes);
+        assert_eq!(rt; passed, Shown { has_frame, alone }, "{number}");
+    }
+    assert!(rt; !output.give_up());
+    Ok(())
+}
+
 // Each plane goes out by itself.
 #[test]
 fn a_prefix_goes_out_before_a_fault(rt: HostRuntime) -> Result<(), Fail> {

@@ -1,10 +1,7 @@
-ghost use Rattle.std.specs.Prelude.{◌≡◌, ℕ, IfOk, IfSome, OnOk, OnErr, Some, Err, length};
-ghost use Rattle.std.specs.Option.{option_map};
-ghost use Rattle.link_reception.specs.Receptions.{answers_without};
+ghost use Rattle.std.specs.Prelude.{◌≡◌, OnOk, OnErr, Some, Err};
 ghost use Rattle.link_reception.specs.Releasing.{releases_picture_of};
-ghost use Rattle.link_reception.specs.Releasing.{released_planes, freed_places, next_picture};
+ghost use Rattle.link_reception.specs.Releasing.{freed_places, next_picture};
 ghost use Rattle.link_reception.specs.Releasing.{releases_all, book_count};
-ghost use Rattle.link_reception.specs.WholeBooks.{ArePicturePlanes};
 ghost use Rattle.link_receiver.specs.HeardLists.{AskedPlaces};
 ghost use Rattle.link_receiver.specs.Freeing.{all_freed_places};
 ghost use Rattle.link_receiver.specs.States.{WaitsForSecond};
@@ -16,18 +13,15 @@ ghost use Rattle.unit_release.specs.Outputs.{all_released_output, stream_behind_
 ghost use Rattle.vc_ports.specs.Faults.{HasCause};
 ghost use Rattle.vc_ports.specs.Writing.{Grew, GrewBySome};
 ghost use Rattle.vc_slice.specs.Asked.{Grows};
-ghost use Rattle.vc_types.specs.Planes.{planes_in};
 
 use crate::counting::with_picture;
 use crate::fault::StepFault;
 use crate::reception::Reception;
 use crate::showing::show;
-use link_session::{Released, Standing};
-use slice_answers::Answers;
+use link_session::Released;
 use unit_release::StreamOutput;
 use vc_ports::Sink;
 use vc_slice::Places;
-use vc_types::{NoMemory, Plane};
 
 impl Reception {
     /// Releases each picture that may be released.
@@ -104,33 +98,17 @@ impl Reception {
             unreachable!()
         };
         let number = picture.number;
-        let planes = take_planes(&mut self.answers, standing, number)?;
-        let is_sound = planes.is_some();
         self.out.free_picture(number, places);
-        let shown = show(&mut self.field, stream, standing, number, planes, sink)?;
+        let (answers, field) = (&mut self.answers, &mut self.field);
+        let seen = show(answers, field, stream, standing, number, sink)?;
         standing.release(number);
         self.counts = with_picture(
             &self.counts,
             picture.complete,
-            is_sound,
-            shown.alone,
-            shown.has_frame,
+            seen.is_sound,
+            seen.shown.alone,
+            seen.shown.has_frame,
         )?;
         Ok(())
     }
-}
-
-// The planes of a picture, whose answers are forgotten.
-fn take_planes(
-    answers: &mut Answers,
-    standing: &Standing,
-    number: u64,
-) -> Result<Option<[Plane; 3]>, NoMemory>
-    ensures planes { IfOk result (λ planes. option_map planes_in planes
-        ≡ released_planes answers.old standing.now.window number) }
-    ensures value { OnOk result (answers.new ≡ answers_without answers.old number) }
-    ensures shape { IfOk result (λ planes. IfSome planes
-        (λ planes. ArePicturePlanes standing.now.session.sequence (planes_in planes))) }
-{
-    answers.take_planes(number, standing.book(number))
 }

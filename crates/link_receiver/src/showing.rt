@@ -1,7 +1,10 @@
 ghost use Rattle.std.specs.Prelude.{◌≡◌, IfOk, IfSome, OnOk, OnErr, Err, is_some, None};
 ghost use Rattle.std.specs.Option.{option_map, option_copied, option_and_then};
 ghost use Rattle.link_model.specs.Books.{book_whole};
-ghost use Rattle.link_reception.specs.Releasing.{released_frame, field_behind, fields_alone};
+ghost use Rattle.link_model.specs.Output.{raw_bytes};
+ghost use Rattle.link_reception.specs.Receptions.{answers_without};
+ghost use Rattle.link_reception.specs.Releasing.{released_planes, released_frame, field_behind};
+ghost use Rattle.link_reception.specs.Releasing.{fields_alone};
 ghost use Rattle.link_reception.specs.WholeBooks.{ArePicturePlanes};
 ghost use Rattle.link_receiver.specs.Shown.{shown_bytes, stream_behind_shown, shown_picture};
 ghost use Rattle.link_receiver.specs.declared.fault.StepFault.{StepFault};
@@ -13,96 +16,213 @@ ghost use Rattle.vc_types.specs.Planes.{planes_in};
 use crate::fault::StepFault;
 use frame_release::{FrameOutput, Shown};
 use link_session::{PictureBook, Standing};
+use slice_answers::Answers;
 use unit_release::{ReleasedPicture, StreamOutput};
-use vc_ports::{PlainSink, Sink};
+use vc_ports::Sink;
 use vc_types::{NoMemory, Plane};
 
-/// Writes the frame of which a picture that is released is the last, or, where there is a stream,
-/// the units of that frame's pictures. What waits for a second field is the same.
+/// What a released picture came to, and whether it is complete and sound.
+#[derive(Clone, Copy)]
+pub(crate) struct Seen {
+    pub(crate) is_sound: bool,
+    pub(crate) shown: Shown,
+}
+
+/// Releases the answers of a picture, and writes the frame of which it is the last, or, where there
+/// is a stream, the units of that frame's pictures. What waits for a second field is the same.
 pub(crate) fn show<O: Sink>(
+    answers: &mut Answers,
     field: &mut FrameOutput,
     stream: &mut Option<StreamOutput>,
     standing: &Standing,
     number: u64,
-    planes: Option<[Plane; 3]>,
     sink: &mut O,
-) -> Result<Shown, StepFault>
-    requires planes { let s = standing.now.session.sequence in
-        IfSome planes (λ planes. ArePicturePlanes s (planes_in planes)) }
+) -> Result<Seen, StepFault>
     requires waiting { let s = standing.now.session.sequence in
         IfSome field.old (λ field. ArePicturePlanes s field.planes) }
+    ensures answers { OnOk result (answers.new ≡ answers_without answers.old number) }
+    ensures sound { let planes = released_planes answers.old standing.now.window number in
+        IfOk result (λ seen. seen.is_sound ≡ is_some planes) }
     ensures field { let s = standing.now.session.sequence in
-        OnOk result (field.new ≡ field_behind s number (option_map planes_in planes)) }
+        let planes = released_planes answers.old standing.now.window number in
+        OnOk result (field.new ≡ field_behind s number planes) }
     ensures waiting { let s = standing.now.session.sequence in
         OnOk result (IfSome field.new (λ field. ArePicturePlanes s field.planes)) }
     ensures has_frame { let s = standing.now.session.sequence in
-        IfOk result (λ shown. shown.has_frame
-        ≡ is_some (released_frame s field.old number (option_map planes_in planes))) }
+        let planes = released_planes answers.old standing.now.window number in
+        IfOk result (λ seen. seen.shown.has_frame
+        ≡ is_some (released_frame s field.old number planes)) }
     ensures alone { let s = standing.now.session.sequence in
-        IfOk result (λ shown. shown.alone
-        ≡ fields_alone s field.old number (option_map planes_in planes)) }
-    ensures stream { OnOk result (stream.new ≡ stream_behind_shown stream.old standing.now
-        field.old number (option_map planes_in planes)) }
-    ensures ok { OnOk result (Grew (O.held sink.old) (O.held sink.new)
-        (shown_bytes stream.old standing.now field.old number (option_map planes_in planes))) }
-    ensures err { OnErr result (GrewBySome (O.held sink.old) (O.held sink.new)
-        (shown_bytes stream.old standing.now field.old number (option_map planes_in planes))) }
+        let planes = released_planes answers.old standing.now.window number in
+        IfOk result (λ seen. seen.shown.alone ≡ fields_alone s field.old number planes) }
+    ensures stream { let planes = released_planes answers.old standing.now.window number in
+        OnOk result (stream.new
+        ≡ stream_behind_shown stream.old standing.now field.old number planes) }
+    ensures ok { let planes = released_planes answers.old standing.now.window number in
+        OnOk result (Grew (O.held sink.old) (O.held sink.new)
+        (shown_bytes stream.old standing.now field.old number planes)) }
+    ensures err { let planes = released_planes answers.old standing.now.window number in
+        OnErr result (GrewBySome (O.held sink.old) (O.held sink.new)
+        (shown_bytes stream.old standing.now field.old number planes)) }
     ensures cause { HasCause (O.faults sink.old) (O.faults sink.new)
         (result ≡ Err StepFault.WriteFault) }
 {
     match stream {
-        Some(stream) => show_units(field, stream, standing, number, planes, sink),
-        None => Ok(field.release(standing.header(), number, planes, sink)?),
+        Some(stream) => show_units(answers, field, stream, standing, number, sink),
+        None => show_frame(answers, field, standing, number, sink),
     }
 }
 
-// The frame itself goes nowhere.
+fn show_frame<O: Sink>(
+    answers: &mut Answers,
+    field: &mut FrameOutput,
+    standing: &Standing,
+    number: u64,
+    sink: &mut O,
+) -> Result<Seen, StepFault>
+    requires waiting { let s = standing.now.session.sequence in
+        IfSome field.old (λ field. ArePicturePlanes s field.planes) }
+    ensures answers { OnOk result (answers.new ≡ answers_without answers.old number) }
+    ensures sound { let planes = released_planes answers.old standing.now.window number in
+        IfOk result (λ seen. seen.is_sound ≡ is_some planes) }
+    ensures field { let s = standing.now.session.sequence in
+        let planes = released_planes answers.old standing.now.window number in
+        OnOk result (field.new ≡ field_behind s number planes) }
+    ensures waiting { let s = standing.now.session.sequence in
+        OnOk result (IfSome field.new (λ field. ArePicturePlanes s field.planes)) }
+    ensures has_frame { let s = standing.now.session.sequence in
+        let planes = released_planes answers.old standing.now.window number in
+        IfOk result (λ seen. seen.shown.has_frame
+        ≡ is_some (released_frame s field.old number planes)) }
+    ensures alone { let s = standing.now.session.sequence in
+        let planes = released_planes answers.old standing.now.window number in
+        IfOk result (λ seen. seen.shown.alone ≡ fields_alone s field.old number planes) }
+    ensures ok { let planes = released_planes answers.old standing.now.window number in
+        OnOk result (Grew (O.held sink.old) (O.held sink.new)
+        (raw_bytes standing.now.session.sequence
+        (released_frame standing.now.session.sequence field.old number planes))) }
+    ensures err { let planes = released_planes answers.old standing.now.window number in
+        OnErr result (GrewBySome (O.held sink.old) (O.held sink.new)
+        (raw_bytes standing.now.session.sequence
+        (released_frame standing.now.session.sequence field.old number planes))) }
+    ensures cause { HasCause (O.faults sink.old) (O.faults sink.new)
+        (result ≡ Err StepFault.WriteFault) }
+{
+    let planes = take_planes(answers, standing, number)?;
+    let is_sound = planes.is_some();
+    let shown = field.release(standing.header(), number, planes, sink)?;
+    Ok(Seen { is_sound, shown })
+}
+
 fn show_units<O: Sink>(
+    answers: &mut Answers,
     field: &mut FrameOutput,
     stream: &mut StreamOutput,
     standing: &Standing,
     number: u64,
-    planes: Option<[Plane; 3]>,
     sink: &mut O,
-) -> Result<Shown, StepFault>
-    requires planes { let s = standing.now.session.sequence in
-        IfSome planes (λ planes. ArePicturePlanes s (planes_in planes)) }
+) -> Result<Seen, StepFault>
     requires waiting { let s = standing.now.session.sequence in
         IfSome field.old (λ field. ArePicturePlanes s field.planes) }
+    ensures answers { OnOk result (answers.new ≡ answers_without answers.old number) }
+    ensures sound { let planes = released_planes answers.old standing.now.window number in
+        IfOk result (λ seen. seen.is_sound ≡ is_some planes) }
     ensures field { let s = standing.now.session.sequence in
-        OnOk result (field.new ≡ field_behind s number (option_map planes_in planes)) }
+        let planes = released_planes answers.old standing.now.window number in
+        OnOk result (field.new ≡ field_behind s number planes) }
     ensures waiting { let s = standing.now.session.sequence in
         OnOk result (IfSome field.new (λ field. ArePicturePlanes s field.planes)) }
     ensures has_frame { let s = standing.now.session.sequence in
-        IfOk result (λ shown. shown.has_frame
-        ≡ is_some (released_frame s field.old number (option_map planes_in planes))) }
+        let planes = released_planes answers.old standing.now.window number in
+        IfOk result (λ seen. seen.shown.has_frame
+        ≡ is_some (released_frame s field.old number planes)) }
     ensures alone { let s = standing.now.session.sequence in
-        IfOk result (λ shown. shown.alone
-        ≡ fields_alone s field.old number (option_map planes_in planes)) }
-    ensures stream { OnOk result (stream.new ≡ writes_picture stream.old
-        (shown_picture standing.now field.old number (option_map planes_in planes))) }
-    ensures ok { OnOk result (Grew (O.held sink.old) (O.held sink.new) (picture_bytes stream.old
-        (shown_picture standing.now field.old number (option_map planes_in planes)))) }
-    ensures err { OnErr result (GrewBySome (O.held sink.old) (O.held sink.new)
-        (picture_bytes stream.old
-        (shown_picture standing.now field.old number (option_map planes_in planes)))) }
+        let planes = released_planes answers.old standing.now.window number in
+        IfOk result (λ seen. seen.shown.alone ≡ fields_alone s field.old number planes) }
+    ensures stream { let planes = released_planes answers.old standing.now.window number in
+        OnOk result (stream.new ≡ writes_picture stream.old
+        (shown_picture standing.now field.old number planes)) }
+    ensures ok { let planes = released_planes answers.old standing.now.window number in
+        OnOk result (Grew (O.held sink.old) (O.held sink.new)
+        (picture_bytes stream.old (shown_picture standing.now field.old number planes))) }
+    ensures err { let planes = released_planes answers.old standing.now.window number in
+        OnErr result (GrewBySome (O.held sink.old) (O.held sink.new)
+        (picture_bytes stream.old (shown_picture standing.now field.old number planes))) }
     ensures cause { HasCause (O.faults sink.old) (O.faults sink.new)
         (result ≡ Err StepFault.WriteFault) }
 {
     let whole = whole_bytes(standing.book(number))?;
-    let waits = standing.header().fields && number % 2 == 0 && planes.is_some();
-    let mut nowhere = PlainSink::new();
-    let Ok(shown) = field.release(standing.header(), number, planes, &mut nowhere) else {
-        return Err(StepFault::NoMemory);
-    };
+    let seen = pass(answers, field, standing, number)?;
+    let waits = standing.header().fields && number % 2 == 0 && seen.is_sound;
     let picture = ReleasedPicture {
         number,
         whole,
-        has_frame: shown.has_frame,
+        has_frame: seen.shown.has_frame,
         waits,
     };
     stream.release(picture, sink)?;
-    Ok(shown)
+    Ok(seen)
+}
+
+// The frame itself isn't made, and planes only of a first field, which waits.
+fn pass(
+    answers: &mut Answers,
+    field: &mut FrameOutput,
+    standing: &Standing,
+    number: u64,
+) -> Result<Seen, NoMemory>
+    requires waiting { let s = standing.now.session.sequence in
+        IfSome field.old (λ field. ArePicturePlanes s field.planes) }
+    ensures answers { OnOk result (answers.new ≡ answers_without answers.old number) }
+    ensures sound { let planes = released_planes answers.old standing.now.window number in
+        IfOk result (λ seen. seen.is_sound ≡ is_some planes) }
+    ensures field { let s = standing.now.session.sequence in
+        let planes = released_planes answers.old standing.now.window number in
+        OnOk result (field.new ≡ field_behind s number planes) }
+    ensures waiting { let s = standing.now.session.sequence in
+        OnOk result (IfSome field.new (λ field. ArePicturePlanes s field.planes)) }
+    ensures has_frame { let s = standing.now.session.sequence in
+        let planes = released_planes answers.old standing.now.window number in
+        IfOk result (λ seen. seen.shown.has_frame
+        ≡ is_some (released_frame s field.old number planes)) }
+    ensures alone { let s = standing.now.session.sequence in
+        let planes = released_planes answers.old standing.now.window number in
+        IfOk result (λ seen. seen.shown.alone ≡ fields_alone s field.old number planes) }
+{
+    let header = standing.header();
+    if header.fields && number % 2 == 0 {
+        let planes = take_planes(answers, standing, number)?;
+        let is_sound = planes.is_some();
+        let shown = field.pass(header, number, planes);
+        return Ok(Seen { is_sound, shown });
+    }
+    let is_sound = take_soundness(answers, standing, number)?;
+    let shown = field.pass_unbuilt(header, number, is_sound);
+    Ok(Seen { is_sound, shown })
+}
+
+// The planes of a picture, whose answers are forgotten.
+fn take_planes(
+    answers: &mut Answers,
+    standing: &Standing,
+    number: u64,
+) -> Result<Option<[Plane; 3]>, NoMemory>
+    ensures planes { IfOk result (λ planes. option_map planes_in planes
+        ≡ released_planes answers.old standing.now.window number) }
+    ensures value { OnOk result (answers.new ≡ answers_without answers.old number) }
+    ensures shape { IfOk result (λ planes. IfSome planes
+        (λ planes. ArePicturePlanes standing.now.session.sequence (planes_in planes))) }
+{
+    answers.take_planes(number, standing.book(number))
+}
+
+// Whether a picture has planes, which aren't built; its answers are forgotten.
+fn take_soundness(answers: &mut Answers, standing: &Standing, number: u64) -> Result<bool, NoMemory>
+    ensures sound { IfOk result (λ sound. sound
+        ≡ is_some (released_planes answers.old standing.now.window number)) }
+    ensures value { OnOk result (answers.new ≡ answers_without answers.old number) }
+{
+    answers.take_soundness(number, standing.book(number))
 }
 
 // The parameters and slices of a picture that is complete.

@@ -109,6 +109,28 @@ impl Answers {
             }
         }
     }
+
+    /// Whether there are planes of a picture, which aren't built. Its answers are forgotten, as by
+    /// `take_planes`.
+    pub fn take_soundness(
+        &mut self,
+        number: u64,
+        book: Option<&PictureBook>,
+    ) -> Result<bool, NoMemory>
+        requires whole { IsWholeBySome (option_copied book) }
+        ensures sound { IfOk result (λ sound. sound ≡ is_some
+            (option_and_then (book_planes self.old number) (option_copied book.entry))) }
+        ensures value { OnOk result (self.new ≡ answers_without self.old number) }
+    {
+        let kept = taken(&mut self.pictures, number);
+        match book {
+            Some(book) => released_soundness(self.alloc, &mut self.spare, kept, number, book),
+            None => {
+                keep_spare(&mut self.spare, kept);
+                Ok(false)
+            }
+        }
+    }
 }
 
 // The first picture of this number.
@@ -173,6 +195,42 @@ fn released(
         None => {
             keep_spare(spare, kept);
             Ok(None)
+        }
+    }
+}
+
+// Whether there are such planes.
+fn released_soundness(
+    alloc: Global,
+    spare: &mut Option<PictureBuilder>,
+    kept: Option<PictureSlices>,
+    number: u64,
+    book: &PictureBook,
+) -> Result<bool, NoMemory>
+    requires whole { (s : Sequence) × IsWholeBook s book.now }
+    ensures sound { (answers : List PictureAnswers) → answers_at answers number ≡ kept
+        → IfOk result (λ sound. sound ≡ is_some (book_planes answers number book.now)) }
+{
+    match whole_plan(book) {
+        Some(plan) => {
+            let picture = picture_of(alloc, spare, kept, number, plan)?;
+            let SliceParts {
+                mut builder,
+                unsound,
+            } = picture.into_parts();
+            let source = Source {
+                alloc,
+                plan,
+                number,
+                book,
+            };
+            let is_sound = source.is_sound(&unsound, &mut builder)?;
+            *spare = Some(builder);
+            Ok(is_sound)
+        }
+        None => {
+            keep_spare(spare, kept);
+            Ok(false)
         }
     }
 }

@@ -1,4 +1,4 @@
-ghost use Rattle.std.specs.Prelude.{◌≡◌, ◌<◌, IfOk, None, Some, length};
+ghost use Rattle.std.specs.Prelude.{◌≡◌, ◌<◌, IfOk, None, Some, is_some, length};
 ghost use Rattle.std.specs.List.{range_with_len};
 ghost use Rattle.std.specs.Option.{option_map};
 ghost use Rattle.link_reception.specs.Releasing.{sound_slices};
@@ -48,6 +48,24 @@ impl Source<'_> {
         }
         let planes = builder.planes()?;
         Ok(Some(planes))
+    }
+
+    /// Whether each slice is sound, without the planes. The builder is then as for another picture of
+    /// the plan, after a restart.
+    pub(crate) fn is_sound(
+        &self,
+        unsound: &[Option<Unsound>],
+        builder: &mut PictureBuilder,
+    ) -> Result<bool, NoMemory>
+        requires plan { builder.old.parameters ≡ parameters_of self.now.plan }
+        requires entries { HasEntries builder.old unsound.now }
+        requires slices { HasWholeSlices (parameters_of self.now.plan) self.now.book.now }
+        ensures value { let p = parameters_of self.now.plan in
+            IfOk result (λ sound. sound ≡ is_some
+            (sound_slices (comes_to builder.old unsound.now self.now.book.now)
+            (range_with_len 0 (slice_count p)))) }
+    {
+        self.complete(unsound, builder)
     }
 
     // Decodes each slice that has no answer; false where a slice is unsound.

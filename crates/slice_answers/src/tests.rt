@@ -1,4 +1,6 @@
 ghost use Rattle.std.specs.Prelude.{◌≡◌, ◌<◌, IfOk};
+ghost use Rattle.link_reception.specs.WholeBooks.{IsWholeBook};
+ghost use Rattle.vc_types.specs.SequenceHeader.{Sequence};
 ghost use Rattle.vc_types.specs.Subbands.{slice_count};
 ghost use Rattle.vc_types.specs.TransformParameters.{parameters_of};
 
@@ -117,13 +119,10 @@ fn keep_done(answers: &mut Answers, done: SliceDone) -> Result<(), Fail> {
     Ok(answers.keep(done)?)
 }
 
-// The planes by the answers, and by so many slices in the picture's book.
-fn take(
-    alloc: Global,
-    answers: &mut Answers,
-    count: u16,
-    slices: &'static [u8],
-) -> Result<Option<[Plane; 3]>, Fail> {
+// The picture's book, with so many slices.
+fn book(alloc: Global, count: u16, slices: &'static [u8]) -> Result<PictureBook, Fail>
+    ensures { IfOk result (λ book. (s : Sequence) × IsWholeBook s book) }
+{
     let mut book = PictureBook::new(alloc, header());
     let _kept = book.take_params(Bytes::from_static(PARAMS))?;
     let part = SlicePart {
@@ -135,6 +134,17 @@ fn take(
         body: Bytes::from_static(slices),
     };
     let _kept = book.take_slices(part)?;
+    Ok(book)
+}
+
+// The planes by the answers, and by the slices in the book.
+fn take(
+    alloc: Global,
+    answers: &mut Answers,
+    count: u16,
+    slices: &'static [u8],
+) -> Result<Option<[Plane; 3]>, Fail> {
+    let book = book(alloc, count, slices)?;
     Ok(answers.take_planes(NUMBER, Some(&book))?)
 }
 
@@ -214,6 +224,22 @@ fn an_unsound_answer_gives_no_planes(rt: HostRuntime) -> Result<(), Fail> {
     keep(rt.alloc(), &mut answers, plan(), 1, UNSOUND)?;
     let planes = take(rt.alloc(), &mut answers, 2, &[0; 8])?;
     assert!(rt; planes.is_none());
+    Ok(())
+}
+
+// Slice 1 is unsound by its answer, slice 0 by its bytes, and without either the picture is sound.
+#[test]
+fn soundness_by_answers_and_bytes(rt: HostRuntime) -> Result<(), Fail> {
+    let alloc = rt.alloc();
+    let sound = book(alloc, 2, &[0; 8])?;
+    let unsound = book(alloc, 2, &[0x80, 0, 0, 0, 0, 0, 0, 0])?;
+    let mut answers = Answers::new(alloc);
+    keep(alloc, &mut answers, plan(), 1, UNSOUND)?;
+    assert!(rt; !answers.take_soundness(NUMBER, Some(&sound))?);
+    assert!(rt; !answers.has(NUMBER, 1));
+    assert!(rt; answers.take_soundness(NUMBER, Some(&sound))?);
+    assert!(rt; !answers.take_soundness(NUMBER, Some(&unsound))?);
+    assert!(rt; !answers.take_soundness(NUMBER, None)?);
     Ok(())
 }
 

@@ -1,13 +1,11 @@
-use Rattle.std.proofs.Common.{◌≡◌, subst}
-use Rattle.std.specs.Option.{option_map}
+use Rattle.std.proofs.Common.{◌≡◌, refl, subst}
 use Rattle.link_reception.specs.Receptions.{Reception}
-use Rattle.link_receiver.proofs.Asked.{asked_none}
+use Rattle.link_reception.specs.Releasing.{released_planes}
 use Rattle.link_receiver.proofs.Steps.{on_err, shown_output}
 use Rattle.link_window.specs.Views.{releasable_of}
 use Rattle.unit_release.specs.Outputs.{released_output}
 use Rattle.vc_ports.proofs.Growing.{GrewBySome-all}
 use Rattle.vc_ports.specs.Writing.{GrewBySome}
-use Rattle.vc_types.specs.Planes.{planes_in}
 use Rattle.link_receiver.proofs.reception.Reception.release.Goals as goal
 
 pub returns-in_err-self-inside-clause-err : goal.returns-in_err-self-inside-clause-err
@@ -27,8 +25,5 @@ returns-in_err-self-inside-clause-err g c =
     (released_output c.args.stream.now s (releasable_of c.args.picture))) same
     (subst (GrewBySome (g.O.Sink.held c.args.sink.now) (g.O.Sink.held c.show.new.sink))
     (shown_output r c.in-Some.standing (releasable_of c.args.picture)
-    (option_map planes_in c.in_ok-planes.planes) c.in-Some.is c.in_ok-planes.ensures.planes
-    c.args.stream.now) (GrewBySome-all _ _ _ c.in_ok-shown.ensures.ok)))
-
-pub returns-in_err-planes-clause-asked : goal.returns-in_err-planes-clause-asked
-returns-in_err-planes-clause-asked g c = asked_none _
+    (released_planes r.answers c.in-Some.standing.window c.args.picture.number) c.in-Some.is refl
+    c.args.stream.now) (GrewBySome-all _ _ _ c.in_ok-seen.ensures.ok)))

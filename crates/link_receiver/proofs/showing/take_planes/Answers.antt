@@ -1,5 +1,5 @@
 use Rattle.link_receiver.proofs.Steps.{whole_by_some}
-use Rattle.link_receiver.proofs.releasing.take_planes.Goals as goal
+use Rattle.link_receiver.proofs.showing.take_planes.Goals as goal
 
 pub take_planes-requires : goal.take_planes-requires
 take_planes-requires c = record {
