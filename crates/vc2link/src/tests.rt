@@ -5,6 +5,7 @@ mod decoding;
 mod encoding;
 mod faults;
 mod generating;
+mod packing;
 mod page;
 mod unpacking;
 mod wires;

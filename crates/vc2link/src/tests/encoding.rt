@@ -31,7 +31,7 @@ pub(super) const END: [u8; 18] = [
     0, 16, 0x80, 0x60, 0, 3, 0, 0, 0, 0, 0, 0, 0, 1, 0, 0, 0, 0x10,
 ];
 
-fn joined(alloc: Global, parts: &[&[u8]]) -> Result<Vec<u8>, Fail> {
+pub(super) fn joined(alloc: Global, parts: &[&[u8]]) -> Result<Vec<u8>, Fail> {
     let mut bytes = Vec::new(alloc);
     for part in parts {
         bytes.extend_from_slice(part)?;

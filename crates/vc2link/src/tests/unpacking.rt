@@ -1,16 +1,8 @@
 use super::captures::run_over;
+use super::encoding::joined;
 use super::{CAPTURE, STREAM};
-use std::alloc::Global;
 use std::test::Fail;
 use vc_slice::NoPlaces;
-
-fn joined(alloc: Global, parts: &[&[u8]]) -> Result<Vec<u8>, Fail> {
-    let mut bytes = Vec::new(alloc);
-    for part in parts {
-        bytes.extend_from_slice(part)?;
-    }
-    Ok(bytes)
-}
 
 // The picture's own header, parameters and slices, as data units.
 #[test]
