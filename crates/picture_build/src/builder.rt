@@ -41,6 +41,9 @@ pub struct PictureBuilder {
     c2: CoefficientCells,
     // The coefficients of a component of the slice that is coming.
     numbers: Vec<i32>,
+    // Room for the samples of luma and of a colour component, kept from picture to picture.
+    luma: Vec<i32>,
+    colour: Vec<i32>,
 }
 
 impl Model for PictureBuilder {
@@ -80,6 +83,8 @@ impl PictureBuilder {
             c1,
             c2,
             numbers,
+            luma: Vec::new(alloc),
+            colour: Vec::new(alloc),
         })
     }
 
@@ -171,6 +176,8 @@ impl PictureBuilder {
             &mut self.y,
             &mut self.c1,
             &mut self.c2,
+            &mut self.luma,
+            &mut self.colour,
         );
         self.came.fill(false);
         self.y.restart();

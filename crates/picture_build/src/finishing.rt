@@ -14,13 +14,16 @@ use vc_geometry::padded;
 use vc_types::{Component, Grid, NoMemory, Plan, Plane};
 use vc_wave::inverse;
 
-/// The planes of a picture from the cells that its slices are in. The cells hold anything then.
+/// The planes of a picture from the cells that its slices are in. The cells hold anything then. Luma and
+/// colour have lists to work in, which are made where they haven't the length of a component.
 pub(crate) fn finished(
     alloc: Global,
     plan: &Plan,
     y: &mut CoefficientCells,
     c1: &mut CoefficientCells,
     c2: &mut CoefficientCells,
+    luma: &mut Vec<i32>,
+    colour: &mut Vec<i32>,
 ) -> Result<[Plane; 3], NoMemory>
     requires whole { (slices : List Coefficients) × AreIn (parameters_of plan.now) Y slices y.old
         × AreIn (parameters_of plan.now) C1 slices c1.old
@@ -34,9 +37,9 @@ pub(crate) fn finished(
     ensures c1 { length c1.new ≡ length c1.old }
     ensures c2 { length c2.new ≡ length c2.old }
 {
-    let y = component(alloc, plan, Component::Y, y)?;
-    let c1 = component(alloc, plan, Component::C1, c1)?;
-    let c2 = component(alloc, plan, Component::C2, c2)?;
+    let y = component(alloc, plan, Component::Y, y, luma)?;
+    let c1 = component(alloc, plan, Component::C1, c1, colour)?;
+    let c2 = component(alloc, plan, Component::C2, c2, colour)?;
     Ok([y, c1, c2])
 }
 
@@ -46,6 +49,7 @@ fn component(
     plan: &Plan,
     c: Component,
     cells: &CoefficientCells,
+    work: &mut Vec<i32>,
 ) -> Result<Plane, NoMemory>
     requires whole { (slices : List Coefficients)
         × AreIn (parameters_of plan.now) c slices cells.now }
@@ -53,9 +57,10 @@ fn component(
         → AreIn (parameters_of plan.now) c slices cells.now
         → plane ≡ component_plane (parameters_of plan.now) c slices) }
 {
-    match narrow_samples(alloc, plan, c, cells)? {
-        Some(samples) => narrow_output(alloc, plan, c, &samples),
-        None => wide_component(alloc, plan, c, cells),
+    if narrow_samples(alloc, plan, c, cells, work)? {
+        narrow_output(alloc, plan, c, work)
+    } else {
+        wide_component(alloc, plan, c, cells)
     }
 }
 

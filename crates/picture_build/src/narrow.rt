@@ -1,4 +1,4 @@
-ghost use Rattle.std.specs.Prelude.{◌≡◌, ◌+◌, ◌*◌, ◌-◌, ◌^◌, ◌<◌, ◌≤◌, ◌⊎◌, ℕ, IfOk, IfSome, length, slice_index_or};
+ghost use Rattle.std.specs.Prelude.{◌≡◌, ◌+◌, ◌*◌, ◌-◌, ◌^◌, ◌<◌, ◌≤◌, ◌⊎◌, ℕ, Ok, IfOk, length, slice_index_or, true};
 ghost use Rattle.vc_types.specs.Lifting.{line_of};
 ghost use Rattle.vc_types.specs.Planes.{output_sample};
 ghost use Rattle.vc_types.specs.Subbands.{padded_width, padded_height};
@@ -14,30 +14,52 @@ use vc_geometry::padded;
 use vc_types::{Component, NoMemory, Plan, Plane};
 use vc_wave::{are_narrow, inverse_narrow, turn_rows};
 
-/// The samples of a component, not yet clipped, if its coefficients are so small that 32 bits are enough on the way.
+/// Puts the samples of a component, not yet clipped, into `work`; false if its coefficients are so large that 32 bits may not be
+/// enough on the way. A list of another length is replaced.
 pub(crate) fn narrow_samples(
     alloc: Global,
     plan: &Plan,
     c: Component,
     cells: &CoefficientCells,
-) -> Result<Option<Vec<i32>>, NoMemory>
+    work: &mut Vec<i32>,
+) -> Result<bool, NoMemory>
     requires { length cells.now ≡ padded_height (parameters_of plan.now) c * padded_width
         (parameters_of plan.now) c }
-    ensures { IfOk result (λ made. IfSome made
-        (λ samples. AreSamples (parameters_of plan.now) c cells.now samples.items)) }
+    ensures { result ≡ Ok true
+        → AreSamples (parameters_of plan.now) c cells.now work.new.items }
 {
     let Some(nested) = cells.narrow() else {
-        return Ok(None);
+        return Ok(false);
     };
-    let mut samples = vec![in alloc; 0i32; nested.len()]?;
-    turn_rows(plan, c, nested, &mut samples);
-    if !are_narrow(plan, &samples) {
-        return Ok(None);
+    if work.len() != nested.len() {
+        *work = vec![in alloc; 0i32; nested.len()]?;
     }
     let (width, _) = padded(plan, c);
     let mut line = vec![in alloc; 0i32; width as usize]?;
-    inverse_narrow(plan, c, &mut samples, width as usize, &mut line);
-    Ok(Some(samples))
+    Ok(samples_of(plan, c, nested, work, &mut line))
+}
+
+// The same from coefficients of 32 bits. The line is room to work in.
+fn samples_of(
+    plan: &Plan,
+    c: Component,
+    nested: &[i32],
+    samples: &mut [i32],
+    line: &mut [i32],
+) -> bool
+    requires cells { length nested.now ≡ padded_height (parameters_of plan.now) c * padded_width
+        (parameters_of plan.now) c }
+    requires samples { length samples.old ≡ length nested.now }
+    requires line { padded_width (parameters_of plan.now) c ≤ length line.old }
+    ensures { result ≡ true → AreSamples (parameters_of plan.now) c nested.now samples.new }
+{
+    turn_rows(plan, c, nested, samples);
+    if !are_narrow(plan, samples) {
+        return false;
+    }
+    let (width, _) = padded(plan, c);
+    inverse_narrow(plan, c, samples, width as usize, line);
+    true
 }
 
 /// A component's plane from its padded samples (ST 2042-1, picture output): the padding is cut off, and each number is
