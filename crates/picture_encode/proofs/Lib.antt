@@ -7,3 +7,4 @@ mod Judged
 mod FirstSlices
 mod PlanFacts
 mod SmallPicture
+mod CopiedSlices

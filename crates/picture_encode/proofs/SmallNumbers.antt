@@ -10,7 +10,11 @@ use Rattle.vc_types.proofs.RectangleLists.{none_numbered}
 use Rattle.std.proofs.lemmas.List.Elements.{All-get_or}
 use Rattle.std.proofs.lemmas.List.FromFn.{length-map-range_with_len}
 use Rattle.link_model.specs.SendingPictures.{number_in, numbers_in_slice, sent_coefficients, sent_cells}
-use Rattle.picture_encode.specs.Grids.{AreGrids, HasCoefficients, HaveCoefficients, slice_in_grids}
+use Rattle.picture_encode.specs.Grids.{IsGrid, AreGrids, cells_of, HasCoefficients, HaveCoefficients, slice_in_grids}
+use Rattle.picture_encode.specs.declared.grids.ComponentGrid.{ComponentGrid}
+use Rattle.picture_encode.specs.declared.grids.ComponentGrid.TheVariants.{Narrow, Wide}
+use Rattle.vc_wave.specs.Layout.{turned_row}
+use Rattle.vc_wave.specs.Planes.{plane_of}
 use Rattle.picture_encode.specs.declared.grids.PictureGrids.{PictureGrids}
 use Rattle.picture_encode.proofs.Gathered.{range_same}
 use Rattle.vc_types.specs.declared.video.Component.{Component}
@@ -50,19 +54,32 @@ none_large f a (suc n) h = first (is_large (f a)) (not_large (f a) (h a)) (none_
     first true e rest = absurd cc
     first false e rest = rest
 
-module _ (p : Parameters) (slice : ℕ) (c : Component) (g : Lattice) where
-  count_is : length (numbers_in_slice p c (cell_at g) slice) ≡ slice_coefficient_count p c slice
-  unfolding numbers_in_slice
-  count_is = length-map-range_with_len (λ i. number_in (cell_at g) (coefficient_place p c slice i)) 0 (slice_coefficient_count p c slice)
+small_plane : (stride : ℕ) (cells : List ℤ) (x y : ℕ) → All (λ z. unsigned_abs z < 2 ^ 60) cells → unsigned_abs (plane_of stride cells x y) < 2 ^ 60
+unfolding plane_of
+small_plane stride cells x y h = by_test (nat_lt x stride)
+  where
+    by_test : (b : Bool) → unsigned_abs (cond b (get_or cells (y * stride + x) (pos 0)) (pos 0)) < 2 ^ 60
+    by_test true = small_item cells (y * stride + x) h
+    by_test false = omega arith
 
-  small_are : All (λ z. unsigned_abs z < 2 ^ 60) g.cells → list_any is_large (numbers_in_slice p c (cell_at g) slice) ≡ false
+grid_small : (p : Parameters) (c : Component) (g : ComponentGrid) → IsGrid p c g → (x y : ℕ) → unsigned_abs (cells_of p c g x y) < 2 ^ 60
+unfolding cells_of
+grid_small p c (Narrow cells) h x y = small_plane (padded_width p c) cells.items x (turned_row p c x y) h.small
+grid_small p c (Wide g) h x y = small_cell g x y h.small
+
+module _ (p : Parameters) (slice : ℕ) (c : Component) (g : ComponentGrid) where
+  count_is : length (numbers_in_slice p c (cells_of p c g) slice) ≡ slice_coefficient_count p c slice
   unfolding numbers_in_slice
-  small_are h = none_large (λ i. number_in (cell_at g) (coefficient_place p c slice i)) 0 (slice_coefficient_count p c slice) (λ i. small_cell g (coefficient_place p c slice i).0 (coefficient_place p c slice i).1 h)
+  count_is = length-map-range_with_len (λ i. number_in (cells_of p c g) (coefficient_place p c slice i)) 0 (slice_coefficient_count p c slice)
+
+  small_are : IsGrid p c g → list_any is_large (numbers_in_slice p c (cells_of p c g) slice) ≡ false
+  unfolding numbers_in_slice
+  small_are h = none_large (λ i. number_in (cells_of p c g) (coefficient_place p c slice i)) 0 (slice_coefficient_count p c slice) (λ i. grid_small p c g h (coefficient_place p c slice i).0 (coefficient_place p c slice i).1)
 
 pub are_coefficients : (p : Parameters) (slice : ℕ) (g : PictureGrids) → AreGrids p g → AreSliceCoefficients p slice (slice_in_grids p g slice)
 are_coefficients p slice g h = record {
   count = elim [ Y ↦ count_is p slice Y g.y | C1 ↦ count_is p slice C1 g.c1 | C2 ↦ count_is p slice C2 g.c2 ];
-  small = elim [ Y ↦ small_are p slice Y g.y h.y.small | C1 ↦ small_are p slice C1 g.c1 h.c1.small | C2 ↦ small_are p slice C2 g.c2 h.c2.small ];
+  small = elim [ Y ↦ small_are p slice Y g.y h.y | C1 ↦ small_are p slice C1 g.c1 h.c1 | C2 ↦ small_are p slice C2 g.c2 h.c2 ];
 }
 
 -- ---- the same of the coefficients of planes
@@ -78,10 +95,10 @@ module _ (p : Parameters) (c : Component) (some_across : 0 < p.slices_x) where
         | inr f ↦ absurd (none_numbered (slice_rectangles p c s) x y (count-outside p c x y some_across s h f) i below refl)
       ]
 
-  numbers_are : (planes : Planes) (g : Lattice) (slice : ℕ) → slice < slice_count p → HasCoefficients p c planes g → numbers_in_slice p c (cell_at g) slice ≡ numbers_in_slice p c (sent_cells p planes c) slice
+  numbers_are : (planes : Planes) (g : ComponentGrid) (slice : ℕ) → slice < slice_count p → HasCoefficients p c planes g → numbers_in_slice p c (cells_of p c g) slice ≡ numbers_in_slice p c (sent_cells p planes c) slice
   unfolding numbers_in_slice
   numbers_are planes g slice h has =
-      range_same (pos 0) (λ i. number_in (cell_at g) (coefficient_place p c slice i)) (λ i. number_in (sent_cells p planes c) (coefficient_place p c slice i)) (slice_coefficient_count p c slice)
+      range_same (pos 0) (λ i. number_in (cells_of p c g) (coefficient_place p c slice i)) (λ i. number_in (sent_cells p planes c) (coefficient_place p c slice i)) (slice_coefficient_count p c slice)
       (λ i below. let within = inside slice i h below in has.cells (coefficient_place p c slice i).0 (coefficient_place p c slice i).1 within.0 within.1)
 
 pub coefficients_are : (p : Parameters) (planes : Planes) (g : PictureGrids) (slice : ℕ) → 0 < p.slices_x → slice < slice_count p → HaveCoefficients p planes g → slice_in_grids p g slice ≡ sent_coefficients p planes slice

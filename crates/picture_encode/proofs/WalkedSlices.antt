@@ -29,7 +29,7 @@ module _ (p : Parameters) (c : Component) (slice : ℕ) where
       subst (λ k. IsLeft p c slice i (suc b) k) back (rw (← add-one) next)
 
   -- coefficient j of subband number b
-  walked : (b : ℕ) → b < subband_count p.depth_ho p.depth → (j : ℕ) → j < area (rectangle b) → coefficient_place p c slice (coefficients_before p c slice b + j) ≡ place_in (rectangle b) j
+  pub walked : (b : ℕ) → b < subband_count p.depth_ho p.depth → (j : ℕ) → j < area (rectangle b) → coefficient_place p c slice (coefficients_before p c slice b + j) ≡ place_in (rectangle b) j
   walked b inside j h =
       let more = coefficients_before-more p c slice b inside in
       let rest = coefficients_before-rest p c slice (b + 1) in

@@ -1,7 +1,9 @@
--- The coefficients of a picture, in a grid of nested subbands for each component.
-use Rattle.std.specs.Prelude.{◌≡◌, ◌<◌, ◌^◌, ℕ, ℤ, All, unsigned_abs, List, map}
+-- The coefficients of a picture, in a grid for each component.
+use Rattle.std.specs.Prelude.{◌≡◌, ◌*◌, ◌<◌, ◌^◌, ℕ, ℤ, All, unsigned_abs, List, length, map}
 use Rattle.std.specs.List.{range_with_len}
 use Rattle.link_model.specs.SendingPictures.{number_in, numbers_in_slice, sent_cells}
+use Rattle.picture_encode.specs.declared.grids.ComponentGrid.{ComponentGrid}
+use Rattle.picture_encode.specs.declared.grids.ComponentGrid.TheVariants.{Narrow, Wide}
 use Rattle.picture_encode.specs.declared.grids.PictureGrids.{PictureGrids}
 use Rattle.vc_types.specs.declared.rect.Rect.{Rect}
 use Rattle.vc_types.specs.declared.video.Component.{Component}
@@ -12,19 +14,36 @@ use Rattle.vc_types.specs.Slices.{Coefficients}
 use Rattle.vc_types.specs.Subbands.{area, place_in, padded_width, padded_height}
 use Rattle.vc_types.specs.TransformParameters.{Parameters}
 use Rattle.vc_types.specs.Transforms.{Cells}
+use Rattle.vc_wave.specs.Layout.{nested_in}
 
--- a grid has the padded size of a component, and small coefficients
-pub record IsGrid (p : Parameters) (c : Component) (g : Lattice) : Type 0 where
+-- cells of the padded size of a component that has no levels across alone
+pub record IsNarrowGrid (p : Parameters) (c : Component) (cells : List ℤ) : Type 0 where
+  pub none_across : p.depth_ho ≡ 0
+  pub size : length cells ≡ padded_height p c * padded_width p c
+  pub small : All (λ z. unsigned_abs z < 2 ^ 60) cells
+
+-- a grid of the padded size of a component
+pub record IsWideGrid (p : Parameters) (c : Component) (g : Lattice) : Type 0 where
   pub width : g.width ≡ padded_width p c
   pub height : g.height ≡ padded_height p c
   pub small : All (λ z. unsigned_abs z < 2 ^ 60) g.cells
 
--- and the coefficients of a component of these planes
-pub record HasCoefficients (p : Parameters) (c : Component) (planes : Planes) (g : Lattice)
+-- either with small coefficients
+abbrev pub IsGrid : Parameters → Component → ComponentGrid → Type 0
+IsGrid p c (Narrow cells) = IsNarrowGrid p c cells.items
+IsGrid p c (Wide g) = IsWideGrid p c g
+
+-- the number in each column and row of the nested subbands
+unfoldable pub cells_of : Parameters → Component → ComponentGrid → Cells
+cells_of p c (Narrow cells) = nested_in p c (padded_width p c) cells.items
+cells_of p c (Wide g) = cell_at g
+
+-- a grid has the coefficients of a component of these planes
+pub record HasCoefficients (p : Parameters) (c : Component) (planes : Planes) (g : ComponentGrid)
     : Type 0 where
   pub grid : IsGrid p c g
   pub cells : (x y : ℕ) → x < padded_width p c → y < padded_height p c
-      → cell_at g x y ≡ sent_cells p planes c x y
+      → cells_of p c g x y ≡ sent_cells p planes c x y
 
 -- the grids have the coefficients of these planes
 pub record HaveCoefficients (p : Parameters) (planes : Planes) (g : PictureGrids) : Type 0 where
@@ -40,9 +59,9 @@ pub record AreGrids (p : Parameters) (g : PictureGrids) : Type 0 where
 -- the coefficients of a slice
 abbrev pub slice_in_grids : Parameters → PictureGrids → ℕ → Coefficients
 slice_in_grids p g slice = record {
-  y = numbers_in_slice p Y (cell_at g.y) slice;
-  c1 = numbers_in_slice p C1 (cell_at g.c1) slice;
-  c2 = numbers_in_slice p C2 (cell_at g.c2) slice;
+  y = numbers_in_slice p Y (cells_of p Y g.y) slice;
+  c1 = numbers_in_slice p C1 (cells_of p C1 g.c1) slice;
+  c2 = numbers_in_slice p C2 (cells_of p C2 g.c2) slice;
 }
 
 -- the numbers of a rectangle, row by row

@@ -1,17 +1,20 @@
-ghost use Rattle.std.specs.Prelude.{◌≡◌, ◌++◌, ◌+◌, ◌*◌, ◌^◌, ◌<◌, ◌≤◌, All, OnOk, IfOk, length, unsigned_abs};
-ghost use Rattle.link_model.specs.SendingPictures.{numbers_in_slice};
-ghost use Rattle.picture_encode.specs.Grids.{IsGrid, AreGrids, rectangle_numbers, slice_in_grids};
+ghost use Rattle.std.specs.Prelude.{◌≡◌, ◌++◌, ◌+◌, ◌*◌, ◌^◌, ◌<◌, ◌≤◌, ◌⊎◌, ℕ, All, OnOk, IfOk, length, unsigned_abs};
+ghost use Rattle.link_model.specs.SendingPictures.{number_in, numbers_in_slice};
+ghost use Rattle.picture_encode.specs.Grids.{IsGrid, IsNarrowGrid, IsWideGrid, AreGrids, cells_of, rectangle_numbers, slice_in_grids};
 ghost use Rattle.vc_types.specs.Lifting.{line_of};
 ghost use Rattle.vc_types.specs.Rasters.{cell_at};
 ghost use Rattle.vc_types.specs.SliceCoefficients.{AreSliceCoefficients};
-ghost use Rattle.vc_types.specs.Subbands.{slice_count};
+ghost use Rattle.vc_types.specs.Subbands.{area, place_in, padded_width, slice_count, slice_coefficient_count};
 ghost use Rattle.vc_types.specs.TransformParameters.{parameters_of};
+ghost use Rattle.vc_wave.specs.Layout.{laid_out, nested_in, row_in_turn};
+ghost use Rattle.vc_wave.specs.Planes.{plane_of};
 
-use crate::grids::PictureGrids;
+use crate::grids::{ComponentGrid, PictureGrids};
 use std::alloc::Global;
-use vc_geometry::{bands, slice_len, slice_rect};
+use vc_geometry::{bands, padded, slice_len, slice_rect};
 use vc_slice::SliceCoeffs;
 use vc_types::{Component, Grid, NoMemory, Plan, Rect};
+use vc_wave::{Nesting, nesting_of, row_in_turn};
 
 /// The coefficients of a slice, gathered out of a picture's grids.
 pub(crate) fn gather(
@@ -34,7 +37,27 @@ pub(crate) fn gather(
     ))
 }
 
+#[tactic(auto, unfolding(crate::specs::Grids::cells_of))]
 fn gather_component(
+    alloc: Global,
+    plan: &Plan,
+    c: Component,
+    grid: &ComponentGrid,
+    slice: u32,
+) -> Result<Vec<i64>, NoMemory>
+    requires slice { slice < slice_count (parameters_of plan.now) }
+    requires grid { IsGrid (parameters_of plan.now) c grid.now }
+    ensures { IfOk result (λ coeffs. coeffs.items
+        ≡ numbers_in_slice (parameters_of plan.now) c
+        (cells_of (parameters_of plan.now) c grid.now) slice) }
+{
+    match grid {
+        ComponentGrid::Narrow(cells) => gather_narrow(alloc, plan, c, cells, slice),
+        ComponentGrid::Wide(grid) => gather_wide(alloc, plan, c, grid, slice),
+    }
+}
+
+fn gather_wide(
     alloc: Global,
     plan: &Plan,
     c: Component,
@@ -42,7 +65,7 @@ fn gather_component(
     slice: u32,
 ) -> Result<Vec<i64>, NoMemory>
     requires slice { slice < slice_count (parameters_of plan.now) }
-    requires grid { IsGrid (parameters_of plan.now) c grid.now }
+    requires grid { IsWideGrid (parameters_of plan.now) c grid.now }
     ensures { IfOk result (λ coeffs. coeffs.items
         ≡ numbers_in_slice (parameters_of plan.now) c (cell_at grid.now) slice) }
 {
@@ -79,4 +102,93 @@ fn push_row(coeffs: &mut Vec<i64>, cells: &[i128]) -> Result<(), NoMemory>
         coeffs.push(*cell as i64)?;
     }
     Ok(())
+}
+
+fn gather_narrow(
+    alloc: Global,
+    plan: &Plan,
+    c: Component,
+    cells: &[i32],
+    slice: u32,
+) -> Result<Vec<i64>, NoMemory>
+    requires slice { slice < slice_count (parameters_of plan.now) }
+    requires grid { IsNarrowGrid (parameters_of plan.now) c cells.now }
+    ensures { IfOk result (λ coeffs. coeffs.items
+        ≡ numbers_in_slice (parameters_of plan.now) c
+        (nested_in (parameters_of plan.now) c (padded_width (parameters_of plan.now) c) cells.now)
+        slice) }
+{
+    let mut coeffs = vec![in alloc; 0i64; slice_len(plan, c, slice) as usize]?;
+    copy_slice(plan, c, cells, slice, &mut coeffs);
+    Ok(coeffs)
+}
+
+// Copies the numbers of a slice, rectangle by rectangle.
+fn copy_slice(plan: &Plan, c: Component, cells: &[i32], slice: u32, coeffs: &mut [i64])
+    requires slice { slice < slice_count (parameters_of plan.now) }
+    requires grid { IsNarrowGrid (parameters_of plan.now) c cells.now }
+    requires coeffs { length coeffs.old ≡ slice_coefficient_count (parameters_of plan.now) c slice }
+    ensures { coeffs.new ≡ numbers_in_slice (parameters_of plan.now) c
+        (nested_in (parameters_of plan.now) c (padded_width (parameters_of plan.now) c) cells.now)
+        slice }
+{
+    let (width, _) = padded(plan, c);
+    let nesting = nesting_of(plan, c);
+    let mut from = 0;
+    for b in 0..bands(plan) {
+        let rect = slice_rect(plan, c, b, slice);
+        copy_rect(coeffs, from, cells, width as usize, nesting, &rect);
+        from += rect.width as usize * rect.height as usize;
+    }
+}
+
+// Copies the numbers of a rectangle, row by row, out of cells whose rows are taken in turn.
+fn copy_rect(
+    coeffs: &mut [i64],
+    from: usize,
+    cells: &[i32],
+    stride: usize,
+    nesting: Nesting,
+    rect: &Rect,
+)
+    requires levels { nesting.levels ≤ 5 }
+    requires small { (nesting.w * 2 ^ nesting.levels < 2 ^ 60)
+        × (nesting.h * 2 ^ nesting.levels < 2 ^ 60) }
+    requires across { rect.now.x + rect.now.width ≤ stride }
+    requires down { (y : ℕ) → y < rect.now.y + rect.now.height
+        → row_in_turn nesting.levels nesting.w nesting.h rect.now.x y * stride + stride
+        ≤ length cells.now }
+    requires together { (x y : ℕ) → rect.now.x ≤ x → x < rect.now.x + rect.now.width
+        → rect.now.y ≤ y → y < rect.now.y + rect.now.height
+        → row_in_turn nesting.levels nesting.w nesting.h x y
+        ≡ row_in_turn nesting.levels nesting.w nesting.h rect.now.x y }
+    requires from { from + area rect.now ≤ length coeffs.old }
+    ensures on { (j : ℕ) → j < area rect.now
+        → line_of coeffs.new (from + j)
+        ≡ number_in
+        (laid_out nesting.levels nesting.w nesting.h (plane_of stride cells.now))
+        (place_in rect.now j) }
+    ensures off { (i : ℕ) → (i < from) ⊎ (from + area rect.now ≤ i)
+        → line_of coeffs.new i ≡ line_of coeffs.old i }
+{
+    let width = rect.width as usize;
+    let column = rect.x as usize;
+    for row in 0..rect.height as usize {
+        let at = row_in_turn(nesting, column, rect.y as usize + row) * stride + column;
+        copy_row(coeffs, from + row * width, cells, at, width);
+    }
+}
+
+// Copies so many numbers, from one of them on, to those from another on.
+#[inline(always)]
+fn copy_row(coeffs: &mut [i64], at: usize, cells: &[i32], from: usize, width: usize)
+    requires at { at + width ≤ length coeffs.old }
+    requires from { from + width ≤ length cells.now }
+    ensures on { (x : ℕ) → x < width → line_of coeffs.new (at + x) ≡ line_of cells.now (from + x) }
+    ensures off { (i : ℕ) → (i < at) ⊎ (at + width ≤ i)
+        → line_of coeffs.new i ≡ line_of coeffs.old i }
+{
+    for x in 0..width {
+        coeffs[at + x] = i64::from(cells[from + x]);
+    }
 }

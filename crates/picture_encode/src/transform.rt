@@ -1,16 +1,22 @@
-ghost use Rattle.std.specs.Prelude.{◌≡◌, IfOk};
+ghost use Rattle.std.specs.Prelude.{◌≡◌, ◌-◌, ◌^◌, ◌<◌, ℕ, All, IfOk, IsTrue, unsigned_abs};
 ghost use Rattle.link_model.specs.SendingPictures.{plane_in};
-ghost use Rattle.picture_encode.specs.Grids.{HasCoefficients, HaveCoefficients};
-ghost use Rattle.picture_encode.specs.Shapes.{CanBeTransformed};
+ghost use Rattle.picture_encode.specs.Grids.{IsNarrowGrid, HasCoefficients, HaveCoefficients};
+ghost use Rattle.picture_encode.specs.Shapes.{IsPlane, CanBeTransformed};
 ghost use Rattle.vc_types.specs.declared.video.Component.TheVariants.{C1, C2};
 ghost use Rattle.vc_types.specs.Planes.{planes_in};
-ghost use Rattle.vc_types.specs.TransformParameters.{parameters_of};
+ghost use Rattle.vc_types.specs.Rasters.{sample_at};
+ghost use Rattle.vc_types.specs.Subbands.{plane_depth, padded_width, padded_height};
+ghost use Rattle.vc_types.specs.TransformParameters.{is_symmetric, parameters_of};
+ghost use Rattle.vc_types.specs.Transforms.{forward_transform};
+ghost use Rattle.vc_wave.specs.ForwardBounds.{forward_fits_narrow};
+ghost use Rattle.vc_wave.specs.Layout.{nested_in};
 
-use crate::grids::PictureGrids;
+use crate::grids::{ComponentGrid, PictureGrids};
 use std::alloc::Global;
 use std::thread::{Threads, join};
-use vc_types::{Component, Grid, NoMemory, Plan, Plane};
-use vc_wave::forward;
+use vc_geometry::padded;
+use vc_types::{Component, NoMemory, Plan, Plane};
+use vc_wave::{forward, forward_fits_narrow, forward_narrow};
 
 /// How the three components of a picture are transformed.
 pub(crate) trait Transform {
@@ -76,7 +82,10 @@ fn colours(
     alloc: Global,
     plan: &Plan,
     planes: &[Plane; 3],
-) -> (Result<Grid, NoMemory>, Result<Grid, NoMemory>)
+) -> (
+    Result<ComponentGrid, NoMemory>,
+    Result<ComponentGrid, NoMemory>,
+)
     requires { CanBeTransformed (parameters_of plan.now) (planes_in planes.now) }
     ensures c1 { IfOk result.0
         (λ g. HasCoefficients (parameters_of plan.now) C1 (planes_in planes.now) g) }
@@ -89,18 +98,53 @@ fn colours(
     )
 }
 
-// The coefficients of a component.
+// The coefficients of a component, in 32 bits where they fit.
 fn component(
     alloc: Global,
     plan: &Plan,
     planes: &[Plane; 3],
     c: Component,
-) -> Result<Grid, NoMemory>
+) -> Result<ComponentGrid, NoMemory>
     requires { CanBeTransformed (parameters_of plan.now) (planes_in planes.now) }
     ensures { IfOk result
         (λ g. HasCoefficients (parameters_of plan.now) c (planes_in planes.now) g) }
 {
-    forward(alloc, plan, c, plane_in(planes, c))
+    let plane = plane_in(planes, c);
+    if forward_fits_narrow(plan, c) {
+        Ok(ComponentGrid::Narrow(narrow(alloc, plan, c, plane)?))
+    } else {
+        Ok(ComponentGrid::Wide(forward(alloc, plan, c, plane)?))
+    }
+}
+
+// The coefficients of a component in 32 bits, where they fit.
+fn narrow(alloc: Global, plan: &Plan, c: Component, plane: &Plane) -> Result<Vec<i32>, NoMemory>
+    requires symmetric { IsTrue (is_symmetric (parameters_of plan.now)) }
+    requires plane { IsPlane (parameters_of plan.now) c plane.now }
+    requires narrow { IsTrue (forward_fits_narrow (parameters_of plan.now)
+        (2 ^ (plane_depth plan.now.shape c - 1))) }
+    ensures grid { IfOk result (λ cells. IsNarrowGrid (parameters_of plan.now) c cells.items) }
+    ensures value { IfOk result (λ cells. (x y : ℕ) → x < padded_width (parameters_of plan.now) c
+        → y < padded_height (parameters_of plan.now) c
+        → nested_in (parameters_of plan.now) c (padded_width (parameters_of plan.now) c)
+        cells.items x y
+        ≡ forward_transform (parameters_of plan.now) c (sample_at plane.now) x y) }
+{
+    let (width, height) = padded(plan, c);
+    let mut line = vec![in alloc; 0i32; width as usize]?;
+    let mut cells = vec![in alloc; 0i32; height as usize * width as usize]?;
+    forward_narrow(plan, c, plane, &mut cells, &mut line);
+    are_small(&cells);
+    Ok(cells)
+}
+
+// Numbers of 32 bits are small. The loop does nothing, and the compiler leaves it out.
+fn are_small(cells: &[i32])
+    ensures { All (λ z. unsigned_abs z < 2 ^ 60) cells.now }
+{
+    for cell in cells {
+        let _size = cell.unsigned_abs();
+    }
 }
 
 fn plane_in(planes: &[Plane; 3], c: Component) -> &Plane

@@ -1,9 +1,14 @@
 use Rattle.vc_types.specs.Planes.{planes_in}
 use Rattle.vc_types.specs.TransformParameters.{parameters_of}
-use Rattle.picture_encode.proofs.Transformed.{transformed}
+use Rattle.picture_encode.proofs.Transformed.{narrow_has, wide_has}
 use Rattle.picture_encode.proofs.transform.component.Goals as goal
 
-pub returns : goal.returns
-returns c =
-    let e = c.forward.ensures in
-    transformed (parameters_of c.args.plan.now) c.args.c (planes_in c.args.planes.now) c.plane_in.result.now c.plane_in.ensures c.forward.result e.width e.height e.value e.small
+pub returns-in_ok-narrow : goal.returns-in_ok-narrow
+returns-in_ok-narrow c =
+    let e = c.in_ok-narrow.ensures in
+    narrow_has (parameters_of c.args.plan.now) c.args.c (planes_in c.args.planes.now) c.plane_in-plane.result.now c.plane_in-plane.ensures c.in_ok-narrow.field-0 e.grid e.value
+
+pub returns-in_ok-forward : goal.returns-in_ok-forward
+returns-in_ok-forward c =
+    let e = c.in_ok-forward.ensures in
+    wide_has (parameters_of c.args.plan.now) c.args.c (planes_in c.args.planes.now) c.plane_in-plane.result.now c.plane_in-plane.ensures c.in_ok-forward.field-0 e.width e.height e.value e.small

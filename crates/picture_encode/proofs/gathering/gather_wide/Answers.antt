@@ -4,7 +4,7 @@ use Rattle.vc_types.specs.Rasters.{cell_at}
 use Rattle.vc_types.specs.TransformParameters.{parameters_of}
 use Rattle.picture_encode.specs.Grids.{rectangle_numbers}
 use Rattle.picture_encode.proofs.WalkedSlices.{none_before, more_before, all_before}
-use Rattle.picture_encode.proofs.gathering.gather_component.Goals as goal
+use Rattle.picture_encode.proofs.gathering.gather_wide.Goals as goal
 
 pub loop-b-init : goal.loop-b-init
 loop-b-init c = c.in_ok-coeffs.ensures.items ∙ sym (none_before (parameters_of c.args.plan.now) c.args.c c.args.slice (cell_at c.args.grid.now))
