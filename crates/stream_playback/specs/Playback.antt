@@ -25,7 +25,8 @@ pub record AreReadable (packets : ℕ) (units : List DataUnit) : Type 0 where
   pub lengths : All (λ u. unit_length u ≤ 268435456) units
   pub few : length units ≤ packets
 
--- a stream is played to its end, none of its units is refused, each field has its partner, and these bytes are written
+-- a stream is played to its end, none of its units is refused, each field has its partner, and
+-- these bytes are written
 pub record IsPlayedTo (packets : ℕ) (stream bytes : List ℕ) : Type 0 where
   pub playable : IsPlayable packets stream
   pub written : frames_due (unit_split packets stream) ≡ bytes
@@ -33,7 +34,8 @@ pub record IsPlayedTo (packets : ℕ) (stream bytes : List ℕ) : Type 0 where
 
 -- ---- the laws
 
--- The elementary stream of datagrams is played to the frames of their first session, up to `packets` units.
+-- The elementary stream of datagrams is played to the frames of their first session, up to
+-- `packets` units.
 abbrev pub StreamsArePlayedBack : Type 0
 StreamsArePlayedBack = (window packets : ℕ) (datagrams : List (List ℕ))
     → AreReadable packets (stream_units window datagrams)

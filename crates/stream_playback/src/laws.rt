@@ -1,4 +1,5 @@
-ghost use Rattle.stream_playback.specs.Playback.{StreamsArePlayedBack, FirstSessionsBeginOutput, OneSessionIsAll};
+ghost use Rattle.stream_playback.specs.Playback.{StreamsArePlayedBack};
+ghost use Rattle.stream_playback.specs.Playback.{FirstSessionsBeginOutput, OneSessionIsAll};
 
 /// The elementary stream of datagrams is read whole, none of its units is refused, no field of it is
 /// left over, and its frames are all those of the first session: where each unit is within
