@@ -4,5 +4,6 @@ pub mod BlockCoefficients
 pub mod CodeLengths
 pub mod Dequantising
 pub mod EncodedSlices
+pub mod FallSums
 pub mod SameJobs
 pub mod NarrowRuns

@@ -2,3 +2,4 @@ pub mod Asked
 pub mod Coded
 pub mod Refusals
 pub mod Inside
+pub mod Falls

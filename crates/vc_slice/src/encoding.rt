@@ -1,4 +1,5 @@
-ghost use Rattle.std.specs.Prelude.{◌≡◌, ◌++◌, ◌∷◌, [], ◌+◌, ◌*◌, ◌^◌, ◌<◌, ◌≤◌, ◌||◌, nat_lt, length, replicate, false, IfOk, IfErr, OnOk};
+ghost use Rattle.std.specs.Prelude.{◌≡◌, ◌++◌, ◌∷◌, [], ◌+◌, ◌*◌, ◌^◌, ◌<◌, ◌≤◌, ◌||◌, nat_lt, length, replicate, map, false, IfOk, IfErr, OnOk};
+ghost use Rattle.std.specs.List.{range_with_len};
 ghost use Rattle.vc_types.specs.declared.video.Component.TheVariants.{Y, C1, C2};
 ghost use Rattle.vc_types.specs.Bits.{bits_of};
 ghost use Rattle.vc_types.specs.Subbands.{slice_count};
@@ -9,6 +10,7 @@ ghost use Rattle.vc_types.specs.Encoding.{block_units, component_bits, encoded_l
 
 use crate::coeffs::SliceCoeffs;
 use crate::counting::block_len;
+use crate::falls::all_lens;
 use crate::writing::{units, write_block};
 use std::alloc::Global;
 use vc_bits::BitWriter;
@@ -31,6 +33,35 @@ pub fn encoded_len(plan: &Plan, index: u32, coeffs: &SliceCoeffs, q: u8) -> u64
     ensures { result ≡ encoded_length (parameters_of plan.now) index q coeffs.now }
 {
     slice_len(plan, block_lens(plan, index, coeffs, q))
+}
+
+/// How many bytes a slice has, prefix bytes included, at each of the quantisation indices from 0 to 127: the same as
+/// `encoded_len` says of each, found at once.
+pub fn encoded_lens(
+    alloc: Global,
+    plan: &Plan,
+    index: u32,
+    coeffs: &SliceCoeffs,
+) -> Result<Vec<u64>, NoMemory>
+    requires slice { index < slice_count (parameters_of plan.now) }
+    requires coefficients { AreSliceCoefficients (parameters_of plan.now) index coeffs.now }
+    ensures { IfOk result (λ lens. lens.items
+        ≡ map (λ q. encoded_length (parameters_of plan.now) index q coeffs.now)
+        (range_with_len 0 128)) }
+{
+    let y = all_lens(plan, Component::Y, index, coeffs);
+    let c1 = all_lens(plan, Component::C1, index, coeffs);
+    let c2 = all_lens(plan, Component::C2, index, coeffs);
+    let mut lens = Vec::with_capacity(alloc, 128)?;
+    for q in 0..128usize {
+        let of_blocks = BlockLens {
+            y: y[q],
+            c1: c1[q],
+            c2: c2[q],
+        };
+        lens.push(slice_len(plan, of_blocks))?;
+    }
+    Ok(lens)
 }
 
 /// Encodes a slice (ST 2042-1, high-quality slice) at the quantisation index `q` from 0 to 127, in this project's own

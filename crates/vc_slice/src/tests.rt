@@ -7,7 +7,7 @@ ghost use Rattle.vc_types.specs.SliceCoefficients.{AreSliceCoefficients};
 
 use crate::{
     EncodeRefusal, Hands, NoPlaces, Places, Short, SliceCoeffs, SliceDone, SliceJob, Unsound, cut,
-    decode, encode, encoded_len, slices_decode_apart,
+    decode, encode, encoded_len, encoded_lens, slices_decode_apart,
 };
 use bytes::Bytes;
 use std::alloc::Global;
@@ -384,6 +384,39 @@ fn a_block_has_at_most_255_units(rt: HostRuntime) -> Result<(), Fail> {
     let refused = encode_first(alloc, &plan, above.as_slice(), 0)?;
     assert!(rt; matches!(refused, Err(EncodeRefusal::TooLong { bytes: 65284 })));
     Ok(())
+}
+
+// The lengths that are found at once are those of each index.
+fn lens_agree(alloc: Global, plan: &Plan, y: &[i64]) -> Result<(), Fail> {
+    let coeffs = first_coeffs(alloc, plan, y)?;
+    let lens = encoded_lens(alloc, plan, 0, &coeffs)?;
+    for q in 0..128u8 {
+        match lens.get(usize::from(q)) {
+            Some(len) if *len == encoded_len(plan, 0, &coeffs, q) => {}
+            _ => return Err(Fail::from("another length")),
+        }
+    }
+    Ok(())
+}
+
+#[test]
+fn all_lengths_are_those_of_each_index(rt: HostRuntime) -> Result<(), Fail> {
+    lens_agree(
+        rt.alloc(),
+        &two_slices(),
+        &[1000, -517, 30, 4, 0, 1, 0, 0, -2, 255, -256],
+    )?;
+    lens_agree(rt.alloc(), &two_slices(), &[])?;
+    lens_agree(rt.alloc(), &without_matrix(), &[(1 << 30) - 1, 1 << 30, 7])
+}
+
+#[test]
+fn all_lengths_of_the_greatest_coefficients(rt: HostRuntime) -> Result<(), Fail> {
+    lens_agree(
+        rt.alloc(),
+        &one_slice(),
+        &[(1 << 60) - 1, 0, 1 - (1 << 60), 3],
+    )
 }
 
 #[test]

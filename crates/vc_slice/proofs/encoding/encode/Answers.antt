@@ -1,7 +1,6 @@
-use Rattle.std.proofs.Common.{◌≡◌, ◌∙◌, ◌*◌, ◌++◌, Bool, List, length, sym, ap}
+use Rattle.std.proofs.Common.{◌∙◌, sym}
 use Rattle.vc_types.specs.TransformParameters.{parameters_of}
-use Rattle.vc_types.specs.Encoding.{encoded_slice, encoded_length}
-use Rattle.vc_slice.proofs.EncodedSlices.{some_scaler, length_slice, length_by, too_long_by, finished, length_finished}
+use Rattle.vc_slice.proofs.EncodedSlices.{length_by, too_long_by}
 use Rattle.vc_slice.proofs.encoding.encode.Goals as goal
 
 pub returns-then-is_too_long-clause-too_long : goal.returns-then-is_too_long-clause-too_long

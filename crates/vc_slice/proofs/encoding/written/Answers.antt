@@ -1,7 +1,7 @@
-use Rattle.std.proofs.Common.{◌≡◌, ◌∙◌, ◌*◌, ◌++◌, Bool, List, length, sym, ap}
+use Rattle.std.proofs.Common.{◌≡◌, ◌∙◌, ◌*◌, ◌++◌, Bool, List, length, ap}
 use Rattle.vc_types.specs.TransformParameters.{parameters_of}
 use Rattle.vc_types.specs.Encoding.{encoded_slice, encoded_length}
-use Rattle.vc_slice.proofs.EncodedSlices.{some_scaler, length_slice, length_by, too_long_by, finished, length_finished}
+use Rattle.vc_slice.proofs.EncodedSlices.{some_scaler, length_slice, finished, length_finished}
 use Rattle.vc_slice.proofs.encoding.written.Goals as goal
 
 pub returns-clause-value : goal.returns-clause-value
