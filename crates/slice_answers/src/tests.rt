@@ -1,6 +1,4 @@
 ghost use Rattle.std.specs.Prelude.{◌≡◌, ◌<◌, IfOk};
-ghost use Rattle.link_reception.specs.WholeBooks.{IsWholeBook};
-ghost use Rattle.vc_types.specs.SequenceHeader.{Sequence};
 ghost use Rattle.vc_types.specs.Subbands.{slice_count};
 ghost use Rattle.vc_types.specs.TransformParameters.{parameters_of};
 
@@ -119,33 +117,37 @@ fn keep_done(answers: &mut Answers, done: SliceDone) -> Result<(), Fail> {
     Ok(answers.keep(done)?)
 }
 
-// The picture's book, with so many slices.
-fn book(alloc: Global, count: u16, slices: &'static [u8]) -> Result<PictureBook, Fail>
-    ensures { IfOk result (λ book. (s : Sequence) × IsWholeBook s book) }
-{
-    let mut book = PictureBook::new(alloc, header());
-    let _kept = book.take_params(Bytes::from_static(PARAMS))?;
-    let part = SlicePart {
+// So many slices from the first on.
+fn part(count: u16, slices: &'static [u8]) -> SlicePart {
+    SlicePart {
         prefix: 0,
         scaler: 1,
         count,
         x: 0,
         y: 0,
         body: Bytes::from_static(slices),
-    };
-    let _kept = book.take_slices(part)?;
-    Ok(book)
+    }
 }
 
-// The planes by the answers, and by the slices in the book.
+// The planes by the answers, and by so many slices in the picture's book.
 fn take(
     alloc: Global,
     answers: &mut Answers,
     count: u16,
     slices: &'static [u8],
 ) -> Result<Option<[Plane; 3]>, Fail> {
-    let book = book(alloc, count, slices)?;
+    let mut book = PictureBook::new(alloc, header());
+    let _kept = book.take_params(Bytes::from_static(PARAMS))?;
+    let _kept = book.take_slices(part(count, slices))?;
     Ok(answers.take_planes(NUMBER, Some(&book))?)
+}
+
+// Whether there are such planes, of both slices.
+fn is_sound(alloc: Global, answers: &mut Answers, slices: &'static [u8]) -> Result<bool, Fail> {
+    let mut book = PictureBook::new(alloc, header());
+    let _kept = book.take_params(Bytes::from_static(PARAMS))?;
+    let _kept = book.take_slices(part(2, slices))?;
+    Ok(answers.take_soundness(NUMBER, Some(&book))?)
 }
 
 #[test]
@@ -231,14 +233,12 @@ fn an_unsound_answer_gives_no_planes(rt: HostRuntime) -> Result<(), Fail> {
 #[test]
 fn soundness_by_answers_and_bytes(rt: HostRuntime) -> Result<(), Fail> {
     let alloc = rt.alloc();
-    let sound = book(alloc, 2, &[0; 8])?;
-    let unsound = book(alloc, 2, &[0x80, 0, 0, 0, 0, 0, 0, 0])?;
     let mut answers = Answers::new(alloc);
     keep(alloc, &mut answers, plan(), 1, UNSOUND)?;
-    assert!(rt; !answers.take_soundness(NUMBER, Some(&sound))?);
+    assert!(rt; !is_sound(alloc, &mut answers, &[0; 8])?);
     assert!(rt; !answers.has(NUMBER, 1));
-    assert!(rt; answers.take_soundness(NUMBER, Some(&sound))?);
-    assert!(rt; !answers.take_soundness(NUMBER, Some(&unsound))?);
+    assert!(rt; is_sound(alloc, &mut answers, &[0; 8])?);
+    assert!(rt; !is_sound(alloc, &mut answers, &[0x80, 0, 0, 0, 0, 0, 0, 0])?);
     assert!(rt; !answers.take_soundness(NUMBER, None)?);
     Ok(())
 }
