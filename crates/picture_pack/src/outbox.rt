@@ -26,7 +26,7 @@ pub(crate) struct Outbox {
 }
 
 impl Outbox {
-    /// PutsDatagrams the datagrams of a picture whose parts have room.
+    /// Puts the datagrams of a picture whose parts have room.
     pub(crate) fn put_picture(&mut self, p: &Picture<'_>) -> Result<(), NoMemory>
         requires whole { AreAllSlices (parameters_of p.now.plan.now) p.now.slices.now }
         requires fits { first_large_part (packing_view p.now.settings) (packed_view p.now)
@@ -40,7 +40,7 @@ impl Outbox {
         self.put_slices(p)
     }
 
-    // PutsDatagrams a picture's sequence header.
+    // Puts a picture's sequence header.
     fn put_header(&mut self, p: &Picture<'_>) -> Result<(), NoMemory>
         requires { length p.now.header.now ≤ header_room (packing_view p.now.settings) }
         ensures { OnOk result (PutsDatagrams p.now (HeaderContent ∷ []) self.old self.new) }
@@ -53,7 +53,7 @@ impl Outbox {
         self.put(p, false, &payload)
     }
 
-    // PutsDatagrams a picture's transform parameters.
+    // Puts a picture's transform parameters.
     fn put_parameters(&mut self, p: &Picture<'_>) -> Result<(), NoMemory>
         requires { length p.now.params.now ≤ parameters_room (packing_view p.now.settings) }
         ensures { OnOk result (PutsDatagrams p.now (ParametersContent ∷ []) self.old self.new) }
@@ -80,7 +80,7 @@ impl Outbox {
         }
     }
 
-    /// PutsDatagrams the datagram of a picture's payload.
+    /// Puts the datagram of a picture's payload.
     pub(crate) fn put(
         &mut self,
         p: &Picture<'_>,

@@ -24,7 +24,7 @@ pub(crate) struct OpenRun {
 }
 
 impl Outbox {
-    /// PutsDatagrams a picture's slices, of which each has room in a datagram: into each datagram as many
+    /// Puts a picture's slices, of which each has room in a datagram: into each datagram as many
     /// whole ones as it has room for.
     pub(crate) fn put_slices(&mut self, p: &Picture<'_>) -> Result<(), NoMemory>
         requires whole { AreAllSlices (parameters_of p.now.plan.now) p.now.slices.now }
@@ -76,7 +76,7 @@ impl Outbox {
         Ok(())
     }
 
-    // PutsDatagrams a run of slices. The marker is set exactly where the picture's last slice is in it.
+    // Puts a run of slices. The marker is set exactly where the picture's last slice is in it.
     fn put_run(&mut self, p: &Picture<'_>, run: &OpenRun) -> Result<(), NoMemory>
         requires some { 1 ≤ run.now.count }
         requires end { run.now.first + run.now.count ≤ slice_count (parameters_of p.now.plan.now) }
