@@ -5,7 +5,7 @@ use Rattle.std.proofs.lemmas.Bool.{cases_lt}
 use Rattle.std.proofs.lemmas.List.{ext_get_or}
 use Rattle.std.proofs.lemmas.List.FromFn.{length-map-range_with_len, get_or-map-range_with_len}
 use Rattle.std.proofs.lemmas.Nat.{div-mul-add, mod-mul-add}
-use Rattle.std.proofs.Math.Nat.{add-mul, div-mul-le_self, mul-le-mul_right}
+use Rattle.std.proofs.Math.Nat.{add-mul, div-mul-le_self, mul-le-mul, mul-le-mul_right}
 use Rattle.link_model.specs.SendingPictures.{number_in, numbers_in_slice}
 use Rattle.vc_types.specs.declared.rect.Rect.{Rect}
 use Rattle.vc_types.specs.declared.video.Component.{Component}
@@ -65,6 +65,11 @@ row_fits row height width h =
     let rows : suc row * width ≤ height * width = mul-le-mul_right width h in
     let turned : height * width ≡ width * height = omega arith in
     omega (arith, rows, turned)
+
+pub area_small : (r : Rect) → r.width ≤ 8192 → r.height ≤ 8192 → r.width * r.height ≤ 2 ^ 26
+area_small r across down =
+    let all : r.width * r.height ≤ 8192 * 8192 = mul-le-mul across down in
+    omega (arith, all)
 
 -- ---- a slice, rectangle by rectangle
 

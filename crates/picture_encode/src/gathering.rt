@@ -4,17 +4,26 @@ ghost use Rattle.picture_encode.specs.Grids.{IsGrid, IsNarrowGrid, IsWideGrid, A
 ghost use Rattle.vc_types.specs.Lifting.{line_of};
 ghost use Rattle.vc_types.specs.Rasters.{cell_at};
 ghost use Rattle.vc_types.specs.SliceCoefficients.{AreSliceCoefficients};
-ghost use Rattle.vc_types.specs.Subbands.{area, place_in, padded_width, slice_count, slice_coefficient_count};
+ghost use Rattle.vc_geometry.specs.Rectangles.{AreSliceRectangles};
+ghost use Rattle.vc_types.specs.Quantisation.{subband_count};
+ghost use Rattle.vc_types.specs.Subbands.{area, place_in, padded_width, padded_height, slice_count, slice_coefficient_count, slice_rectangle, subband_at};
 ghost use Rattle.vc_types.specs.TransformParameters.{parameters_of};
 ghost use Rattle.vc_wave.specs.Layout.{laid_out, nested_in, row_in_turn};
 ghost use Rattle.vc_wave.specs.Planes.{plane_of};
 
 use crate::grids::{ComponentGrid, PictureGrids};
 use std::alloc::Global;
-use vc_geometry::{bands, padded, slice_len, slice_rect};
+use vc_geometry::{bands, padded, slice_len, slice_rect, slice_rects};
 use vc_slice::SliceCoeffs;
 use vc_types::{Component, Grid, NoMemory, Plan, Rect};
 use vc_wave::{Nesting, nesting_of, row_in_turn};
+
+const NOWHERE: Rect = Rect {
+    x: 0,
+    y: 0,
+    width: 0,
+    height: 0,
+};
 
 /// The coefficients of a slice, gathered out of a picture's grids.
 pub(crate) fn gather(
@@ -118,15 +127,56 @@ fn gather_narrow(
         (nested_in (parameters_of plan.now) c (padded_width (parameters_of plan.now) c) cells.now)
         slice) }
 {
-    let mut coeffs = vec![in alloc; 0i64; slice_len(plan, c, slice) as usize]?;
-    copy_slice(plan, c, cells, slice, &mut coeffs);
+    let mut rects = [NOWHERE; 16];
+    slice_rects(plan, c, slice, &mut rects);
+    let mut coeffs = vec![in alloc; 0i64; count(plan, c, slice, &rects)]?;
+    copy_slice(plan, c, cells, slice, &rects, &mut coeffs);
     Ok(coeffs)
 }
 
+// The part of subband number `b` that belongs to a slice.
+#[inline(always)]
+fn rect_at(plan: &Plan, c: Component, slice: u32, rects: &[Rect], b: u32) -> Rect
+    requires number { b < subband_count plan.now.depth_ho plan.now.depth }
+    requires rects { AreSliceRectangles (parameters_of plan.now) c slice rects.now }
+    requires all { subband_count plan.now.depth_ho plan.now.depth ≤ length rects.now }
+    ensures value { result ≡ slice_rectangle (parameters_of plan.now) c
+        (subband_at plan.now.depth_ho plan.now.depth b) slice }
+    ensures right { result.x + result.width ≤ padded_width (parameters_of plan.now) c }
+    ensures bottom { result.y + result.height ≤ padded_height (parameters_of plan.now) c }
+    ensures range { (result.x + result.width ≤ 8192) × (result.y + result.height ≤ 8192) }
+{
+    rects[b as usize]
+}
+
+// How many coefficients a slice has in its rectangles.
+fn count(plan: &Plan, c: Component, slice: u32, rects: &[Rect]) -> usize
+    requires slice { slice < slice_count (parameters_of plan.now) }
+    requires rects { AreSliceRectangles (parameters_of plan.now) c slice rects.now }
+    requires all { subband_count plan.now.depth_ho plan.now.depth ≤ length rects.now }
+    ensures { result ≡ slice_coefficient_count (parameters_of plan.now) c slice }
+{
+    let mut len = 0;
+    for b in 0..bands(plan) {
+        let rect = rect_at(plan, c, slice, rects, b);
+        len += rect.width as usize * rect.height as usize;
+    }
+    len
+}
+
 // Copies the numbers of a slice, rectangle by rectangle.
-fn copy_slice(plan: &Plan, c: Component, cells: &[i32], slice: u32, coeffs: &mut [i64])
+fn copy_slice(
+    plan: &Plan,
+    c: Component,
+    cells: &[i32],
+    slice: u32,
+    rects: &[Rect],
+    coeffs: &mut [i64],
+)
     requires slice { slice < slice_count (parameters_of plan.now) }
     requires grid { IsNarrowGrid (parameters_of plan.now) c cells.now }
+    requires rects { AreSliceRectangles (parameters_of plan.now) c slice rects.now }
+    requires all { subband_count plan.now.depth_ho plan.now.depth ≤ length rects.now }
     requires coeffs { length coeffs.old ≡ slice_coefficient_count (parameters_of plan.now) c slice }
     ensures { coeffs.new ≡ numbers_in_slice (parameters_of plan.now) c
         (nested_in (parameters_of plan.now) c (padded_width (parameters_of plan.now) c) cells.now)
@@ -136,7 +186,7 @@ fn copy_slice(plan: &Plan, c: Component, cells: &[i32], slice: u32, coeffs: &mut
     let nesting = nesting_of(plan, c);
     let mut from = 0;
     for b in 0..bands(plan) {
-        let rect = slice_rect(plan, c, b, slice);
+        let rect = rect_at(plan, c, slice, rects, b);
         copy_rect(coeffs, from, cells, width as usize, nesting, &rect);
         from += rect.width as usize * rect.height as usize;
     }

@@ -228,10 +228,11 @@ fn fill(cells: &mut [i32], columns: usize, rows: usize, plane: &Plane, depth: u8
     }
 }
 
-/// The coefficients of a component's plane by a symmetric transform, in 32 bits, as `forward` makes them where `forward_fits_narrow` says that they fit: the plane's last
-/// column and row are repeated, half of the samples' range is taken away, and the forward transform is applied. They
-/// stand in rows of the padded width, whose rows are taken in turn as `nested_in` says; nothing of the cells as they
-/// were is read. The line is room to work in, as long as a row. It takes no memory.
+/// The coefficients of a component's plane by a symmetric transform, in 32 bits, as `forward` makes them; whether they fit
+/// is what `forward_fits_narrow` says. The plane's last column and row are repeated, half of the samples' range is taken
+/// away, and the forward transform is applied. The coefficients stand in rows of the padded width, whose rows are taken in
+/// turn as `nested_in` says; nothing of the cells as they were is read. The line is room to work in, as long as a row. It
+/// takes no memory.
 pub fn forward_narrow(plan: &Plan, c: Component, plane: &Plane, cells: &mut [i32], line: &mut [i32])
     requires symmetric { IsTrue (is_symmetric (parameters_of plan.now)) }
     requires width { plane.now.width ≡ plane_width plan.now.shape c }
