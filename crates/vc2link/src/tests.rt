@@ -1,3 +1,5 @@
+mod arriving;
+mod asymmetric;
 mod captures;
 mod coming_back;
 mod damage;
@@ -5,10 +7,14 @@ mod decoding;
 mod encoding;
 mod faults;
 mod generating;
+mod held_worker;
 mod packing;
 mod page;
+mod sessions;
+mod told_hands;
 mod unpacking;
 mod wires;
+mod wrong_hands;
 
 use crate::link::link_main;
 use std::alloc::Global;

@@ -5,7 +5,7 @@ use std::alloc::Global;
 use std::test::Fail;
 use std::thread::Threads;
 use vc_ports::{MemSink, MemSource, MemWire, Wire};
-use vc_slice::Hands;
+use vc_slice::{Hands, NoPlaces};
 use vc_types::Words;
 
 /// The payload of a sequence header: 8 by 4 samples of 8 bits, 4:4:4, frames.
@@ -192,4 +192,18 @@ pub(super) fn run_on<H: Threads + Copy + Send + Sync, N: Wire, P: Hands>(
         output,
         report,
     })
+}
+
+/// Whether these datagrams, of one source, are decoded to these bytes, and counted so.
+pub(super) fn decodes_to<H: Threads + Copy + Send + Sync>(
+    rt: H,
+    alloc: Global,
+    payloads: &[&[u8]],
+    due: &[u8],
+    counts: &[(&str, &str)],
+) -> Result<bool, Fail> {
+    let input = capture(alloc, payloads)?;
+    let ran = run_over(rt, alloc, "decode", input, &mut NoPlaces)?;
+    let text = tally(alloc, counts)?;
+    Ok(ran.status == 0 && ran.output.bytes() == due && ran.report.bytes() == text.as_slice())
 }

@@ -11,7 +11,7 @@ use vc_ports::NoGate;
 use vc_slice::NoPlaces;
 
 // The places of row 0 and 1 of luma where a coefficient of -15 shows, in a plane of 8 samples a row.
-const TWO_ROWS: [(usize, u8); 4] = [(0, 0x71), (1, 0x71), (8, 0x71), (9, 0x71)];
+pub(super) const TWO_ROWS: [(usize, u8); 4] = [(0, 0x71), (1, 0x71), (8, 0x71), (9, 0x71)];
 
 fn run<H: Threads + Copy + Send + Sync>(
     rt: H,
@@ -43,7 +43,7 @@ pub(super) fn one_picture(alloc: Global) -> Result<Vec<u8>, Fail> {
     )
 }
 
-const ONE_PICTURE: [(&str, &str); 5] = [
+pub(super) const ONE_PICTURE: [(&str, &str); 5] = [
     ("datagrams", "3"),
     ("header-new", "1"),
     ("params-kept", "1"),
@@ -122,7 +122,7 @@ pub(super) fn loss_and_disorder(alloc: Global) -> Result<Vec<u8>, Fail> {
     )
 }
 
-const LOSS_AND_DISORDER: [(&str, &str); 7] = [
+pub(super) const LOSS_AND_DISORDER: [(&str, &str); 7] = [
     ("datagrams", "11"),
     ("header-new", "1"),
     ("params-kept", "3"),
@@ -227,11 +227,11 @@ fn coefficients(rt: HostRuntime) -> Result<(), Fail> {
 }
 
 // The payload of a whole picture of 2 by 2 samples, in its parameters and its one slice.
-const SMALL_PARAMS: [u8; 19] = [
+pub(super) const SMALL_PARAMS: [u8; 19] = [
     0, 0, 0, 0xEC, 0, 0, 0, 0, 0, 0, 0, 1, 0, 3, 0, 0, 0x09, 0x26, 0x40,
 ];
 
-const SMALL_SLICE: [u8; 6] = [0x00, 0x02, 0x94, 0x80, 0x00, 0x00];
+pub(super) const SMALL_SLICE: [u8; 6] = [0x00, 0x02, 0x94, 0x80, 0x00, 0x00];
 
 fn two_sessions(alloc: Global, end: &[u8]) -> Result<Vec<u8>, Fail> {
     capture(
@@ -282,24 +282,44 @@ fn workers_change_nothing(rt: HostRuntime) -> Result<(), Fail> {
 #[test]
 fn nor_do_they_with_a_window_of_two(rt: HostRuntime) -> Result<(), Fail> {
     let alloc = rt.alloc();
-    let line = "decode --window 2 --workers 4";
-    let ran = run_with_crew(rt, alloc, line, loss_and_disorder(alloc)?)?;
-    assert_eq!(rt; ran.output.bytes(), grey(alloc, 192, &[])?.as_slice());
-    assert_eq!(rt;
-        ran.report.bytes(),
-        tally(alloc, &LOSS_AND_DISORDER)?.as_slice()
-    );
+    for workers in ["0", "1", "4"] {
+        let line = format!(in alloc; "decode --window 2 --workers {workers}")?;
+        let ran = run_with_crew(rt, alloc, &line, loss_and_disorder(alloc)?)?;
+        assert_eq!(rt; ran.output.bytes(), grey(alloc, 192, &[])?.as_slice());
+        assert_eq!(rt;
+            ran.report.bytes(),
+            tally(alloc, &LOSS_AND_DISORDER)?.as_slice()
+        );
+    }
     Ok(())
 }
 
 #[test]
 fn nor_with_fields(rt: HostRuntime) -> Result<(), Fail> {
     let alloc = rt.alloc();
-    let ran = run_with_crew(rt, alloc, "decode --workers 4", fields(alloc)?)?;
+    for workers in ["0", "1", "4"] {
+        let line = format!(in alloc; "decode --workers {workers}")?;
+        let ran = run_with_crew(rt, alloc, &line, fields(alloc)?)?;
+        assert_eq!(rt;
+            ran.output.bytes(),
+            grey(alloc, 96, &BOTTOM_ROWS)?.as_slice()
+        );
+        assert_eq!(rt; ran.report.bytes(), tally(alloc, &FIELD_COUNTS)?.as_slice());
+    }
+    Ok(())
+}
+
+// 2 by 2 samples, of which one is darker.
+#[test]
+fn nor_do_64_of_them_with_one_slice(rt: HostRuntime) -> Result<(), Fail> {
+    let alloc = rt.alloc();
+    let slice = slices(alloc, 0, 0, 1, &SMALL_SLICE)?;
+    let input = capture(alloc, &[&SMALL_HEADER, &SMALL_PARAMS, &slice])?;
+    let ran = run_with_crew(rt, alloc, "decode --workers 64", input)?;
     assert_eq!(rt;
         ran.output.bytes(),
-        grey(alloc, 96, &BOTTOM_ROWS)?.as_slice()
+        grey(alloc, 12, &[(2, 0x7F)])?.as_slice()
     );
-    assert_eq!(rt; ran.report.bytes(), tally(alloc, &FIELD_COUNTS)?.as_slice());
+    assert_eq!(rt; ran.report.bytes(), tally(alloc, &ONE_PICTURE)?.as_slice());
     Ok(())
 }

@@ -1,0 +1,152 @@
+//! A capture whose slices come only as workers take them, one of which is held up.
+
+use super::captures::{HEADER, ZEROS, capture, slices};
+use crate::link::link_main;
+use slice_pool::{Crew, Worker};
+use std::alloc::Global;
+use std::sync::Arc;
+use std::sync::atomic::{AtomicBool, AtomicU64, Ordering};
+use std::test::Fail;
+use std::thread;
+use std::thread::Threads;
+use vc_ports::{Gate, Got, MemSink, MemWire, PlainSource, Source};
+use vc_slice::Hands;
+use vc_types::Words;
+
+// How often one that waits asks before it gives up. Each turn yields the processor.
+const TURNS: u64 = 10_000_000;
+
+// Holds the first worker that comes, until it is opened, and lets all others pass.
+#[derive(Drop)]
+struct Doorkeeper {
+    // The slice of the worker that is held, and the one that passed last, each plus 1.
+    held: AtomicU64,
+    passed: AtomicU64,
+    is_open: AtomicBool,
+}
+
+impl Gate for Doorkeeper {
+    fn pass(&self, _worker: u32, slice: u32) {
+        let slice = slice as u64 + 1;
+        let first = self
+            .held
+            .compare_exchange(0, slice, Ordering::SeqCst, Ordering::SeqCst);
+        if first.is_err() {
+            self.passed.store(slice, Ordering::SeqCst);
+            return;
+        }
+        for _turn in 0..TURNS {
+            if self.is_open.load(Ordering::SeqCst) {
+                return;
+            }
+            thread::yield_now();
+        }
+    }
+}
+
+// Whether the word comes to have this value.
+fn comes(word: &AtomicU64, value: u64) -> bool {
+    for _turn in 0..TURNS {
+        if word.load(Ordering::SeqCst) == value {
+            return true;
+        }
+        thread::yield_now();
+    }
+    false
+}
+
+// A source of five entries, each of which takes two reads. It gives the fourth only once a worker is
+// held with the slice of the third, and the fifth only once another worker passed with that of the
+// fourth; then it lets the held one go.
+#[derive(Drop)]
+struct Paced<S> {
+    inner: S,
+    door: Arc<Doorkeeper>,
+    reads: u32,
+    // Nothing was waited for in vain.
+    in_time: bool,
+}
+
+impl<S: Source> Source for Paced<S> {
+    ghost left = { λ s. S.left s.inner };
+
+    ghost faults = { λ s. S.faults s.inner };
+
+    fn read(&mut self, buf: &mut [u8]) -> Got {
+        self.reads = self.reads.saturating_add(1);
+        if self.reads == 7 {
+            self.in_time = comes(&self.door.held, 1);
+        }
+        if self.reads == 9 {
+            self.in_time = comes(&self.door.passed, 2) && self.in_time;
+            self.door.is_open.store(true, Ordering::SeqCst);
+        }
+        self.inner.read(buf)
+    }
+}
+
+// Wavelet 3, depth 1, 3 by 1 slices.
+const THREE_SLICES: [u8; 19] = [
+    0, 0, 0, 0xEC, 0, 0, 0, 0, 0, 0, 0, 1, 0, 3, 0, 0, 0x09, 0x09, 0x90,
+];
+
+fn three_slices(alloc: Global) -> Result<Vec<u8>, Fail> {
+    let first = slices(alloc, 0, 0, 1, &ZEROS)?;
+    let second = slices(alloc, 0, 1, 1, &ZEROS)?;
+    let third = slices(alloc, 0, 2, 1, &ZEROS)?;
+    let payloads: [&[u8]; 5] = [&HEADER, &THREE_SLICES, &first, &second, &third];
+    capture(alloc, &payloads)
+}
+
+// Whether the frame is written, each slice of which was waited for.
+fn is_frame_written<H: Threads + Copy + Send + Sync, P: Hands>(
+    rt: H,
+    alloc: Global,
+    door: &Arc<Doorkeeper>,
+    hands: &mut P,
+) -> Result<bool, Fail>
+    requires { P.is_free hands.old }
+{
+    let mut words = Words::new(alloc);
+    for word in ["decode", "--workers", "2"] {
+        words.push(word)?;
+    }
+    let mut input = Paced {
+        inner: PlainSource::new(three_slices(alloc)?),
+        door: Arc::try_clone(door)?,
+        reads: 0,
+        in_time: false,
+    };
+    let mut output = MemSink::new(alloc, 96, Vec::new(alloc))?;
+    let mut report = MemSink::new(alloc, 1000, Vec::new(alloc))?;
+    let mut wire = MemWire::new(alloc, Vec::new(alloc), false, 0, Vec::new(alloc))?;
+    let status = link_main(
+        rt,
+        alloc,
+        &words,
+        &mut input,
+        &mut output,
+        &mut report,
+        &mut wire,
+        hands,
+    );
+    Ok(status == 0 && input.in_time && output.bytes() == [0x80; 96].as_slice())
+}
+
+#[test]
+fn a_held_worker_holds_up_no_frame(rt: HostRuntime) -> Result<(), Fail> {
+    let alloc = rt.alloc();
+    let door = Arc::new(
+        alloc,
+        Doorkeeper {
+            held: AtomicU64::new(0),
+            passed: AtomicU64::new(0),
+            is_open: AtomicBool::new(false),
+        },
+    )?;
+    let mut crew = Crew::new(rt, alloc, |worker: Worker| worker.start(rt, &door));
+    let written = is_frame_written(rt, alloc, &door, &mut crew);
+    crew.stop();
+    assert!(rt; written?);
+    Ok(())
+}
