@@ -14,7 +14,7 @@ use Rattle.vc_types.specs.declared.settings.SendSettings.{SendSettings}
 use Rattle.vc_types.specs.Planes.{Planes}
 use Rattle.vc_types.specs.SenderSettings.{Sending, sending_view}
 
-can_be_sent : (settings : SendSettings) (bytes : List ℕ) (frames : List Planes) → settings.choice ≡ Index 0 → IsRawVideo (sending_view settings) bytes frames
+pub can_be_sent : (settings : SendSettings) (bytes : List ℕ) (frames : List Planes) → settings.choice ≡ Index 0 → IsRawVideo (sending_view settings) bytes frames
     → AreFramesToSend (sending_view settings) (frames_indices (sending_view settings) frames) frames
 can_be_sent settings bytes frames chooses video =
     let s : Sending = sending_view settings in

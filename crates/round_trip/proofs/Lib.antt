@@ -3,3 +3,4 @@ pub mod RawBytes
 pub mod ShortDatagrams
 pub mod ComingBack
 pub mod GeneratedBack
+pub mod LoopedBack

@@ -1,5 +1,6 @@
--- What `encode` writes of raw frames at quantisation index 0, `decode` writes as these frames.
-use Rattle.std.specs.Prelude.{◌≡◌, ◌<◌, ◌≤◌, ℕ, ◌*◌, ◌^◌, All, List, [], length}
+-- What `encode` writes of raw frames at quantisation index 0, `decode` writes as these frames, and `loop`
+-- writes them back.
+use Rattle.std.specs.Prelude.{◌≡◌, ◌<◌, ◌≤◌, ℕ, ◌*◌, ◌^◌, IsTrue, All, List, [], length, Option, Some, Ok}
 use Rattle.datagram_outlet.specs.Outlets.{capture_of}
 use Rattle.decode_command.specs.Capture.{capture_split}
 use Rattle.decode_command.specs.Decoding.{IsDecodable}
@@ -9,6 +10,11 @@ use Rattle.frame_sending.specs.FramesSent.{AreSendable, frame_shape, stream_sent
 use Rattle.link_gen.specs.Defaults.{all_generated, sent_by_default}
 use Rattle.link_model.specs.Output.{full_output}
 use Rattle.link_model.specs.Sending.{pictures_per_frame}
+use Rattle.link_model.specs.declared.tally.Tally.{Tally}
+use Rattle.link_report.specs.declared.summary.Summary.TheVariants.{Looped}
+use Rattle.loop_command.specs.Looping.{LoopsBack}
+use Rattle.vc_ports.specs.Changes.{Change, InputChange, OutputChange, WireChange, Wrote}
+use Rattle.vc_slice.specs.Asked.{Told}
 use Rattle.vc_types.specs.declared.choice.IndexChoice.TheVariants.{Index}
 use Rattle.vc_types.specs.declared.settings.GenSettings.{GenSettings}
 use Rattle.vc_types.specs.declared.settings.SendSettings.{SendSettings}
@@ -47,3 +53,17 @@ GeneratedFramesComeBack = (g : GenSettings) (settings : SendSettings) (window : 
     → differences (generating_view g)
     (full_output window (stream_sent (sending_view settings) (all_generated (generating_view g))))
     ≡ 0
+
+-- Raw frames of fewer than 2 ^ 31 pictures that were looped to their end at index 0, over a looped
+-- wire from which nothing else was to come, were written back.
+abbrev pub LoopedFramesComeBack : Type 0
+LoopedFramesComeBack = (settings : SendSettings) (most window workers : ℕ) (at bytes : List ℕ)
+    (count datagrams sum : ℕ) (tally : Tally)
+    (input : InputChange) (output : OutputChange) (wire : WireChange) (hands : Change (Option Told))
+    → settings.ssrc < 2 ^ 32 → 1 ≤ window → settings.choice ≡ Index 0
+    → IsTrue wire.told.before.looped → wire.told.before.coming ≡ Some []
+    → input.left.before ≡ Some bytes → All (λ byte. byte < 256) bytes
+    → count * pictures_per_frame (sending_view settings) < 2 ^ 31
+    → LoopsBack (sending_view settings) most window workers at
+    (Ok (Looped count datagrams sum tally)) input output wire hands
+    → Wrote output bytes
