@@ -1,5 +1,5 @@
 -- Commands that come to their end.
-use Rattle.std.proofs.Common.{◌≡◌, ◌⊎◌, ℕ, List, Result, Ok, Err, true, false, inl, inr, refl, sym, ap, ◌∙◌}
+use Rattle.std.proofs.Common.{◌≡◌, ◌⊎◌, ℕ, List, Result, Ok, Err, true, false, inl, inr, refl, ap, ◌∙◌}
 use Rattle.std.specs.Result.{IsOk}
 use Rattle.check_command.proofs.Completing.{check_completes}
 use Rattle.decode_command.proofs.Completing.{IsComplete, decode_completes, unpack_completes}
@@ -12,7 +12,8 @@ use Rattle.link_report.specs.declared.answer.Answer.TheVariants.{Done, Stopped, 
 use Rattle.link_report.specs.declared.ending.Ending.{Ending}
 use Rattle.link_report.specs.declared.ending.Ending.TheVariants as endings
 use Rattle.link_report.specs.declared.summary.Summary.{Summary}
-use Rattle.link_words.specs.Settings.{Meaning, ToDecode, ToEncode, ToSend, ToRecv, ToUnpack, ToPack, ToPlay, ToGen}
+use Rattle.link_words.specs.Settings.{Meaning, ToDecode, ToEncode, ToSend, ToRecv, ToLoop, ToUnpack, ToPack, ToPlay, ToGen}
+use Rattle.loop_command.proofs.Completing.{loop_completes}
 use Rattle.pack_command.proofs.Completing.{pack_completes}
 use Rattle.pack_command.specs.Packs.{pack_settings}
 use Rattle.play_command.proofs.Playable.{play_completes}
@@ -20,7 +21,7 @@ use Rattle.recv_command.proofs.Completing.{recv_completes}
 use Rattle.send_command.proofs.Completing.{send_completes}
 use Rattle.vc_ports.specs.Changes.{OutputChange, HasRisen}
 use Rattle.vc_types.specs.SenderSettings.{Generating, Sending}
-use Rattle.vc2link.specs.LinkMain.{Changes, DecodesTo, EncodesTo, SendsTo, ReceivesTo, UnpacksTo, PacksTo, PlaysTo, GeneratesTo, ChecksTo, Does, Completes, is_built}
+use Rattle.vc2link.specs.LinkMain.{Changes, DecodesTo, EncodesTo, SendsTo, ReceivesTo, LoopsTo, UnpacksTo, PacksTo, PlaysTo, GeneratesTo, ChecksTo, Does, Completes}
 
 false_is_true : false ≡ true → ⊥
 false_is_true p = cc
@@ -51,6 +52,11 @@ encode_ends sender frames status c d sound whole =
 pub send_ends : (sender : Sending) (frames : ℕ) (to : List ℕ) (status : ℕ) (c : Changes) → SendsTo sender frames to status c → Completes (ToSend sender frames to) status c
 send_ends sender frames to status c d sound whole =
     let came = send_completes sender frames to c.input c.wire sound.input sound.wire whole d.answer d.sends in
+    answered_well (answer_of d.answer) status c.report sound.report (summed_status d.answer came) d.reports
+
+pub loop_ends : (sender : Sending) (frames window workers : ℕ) (at : List ℕ) (status : ℕ) (c : Changes) → LoopsTo sender frames window workers at status c → Completes (ToLoop sender frames window workers at) status c
+loop_ends sender frames window workers at status c d sound whole =
+    let came = loop_completes sender frames window workers at c.input c.output c.wire c.hands sound.input sound.output sound.wire whole d.answer d.loops in
     answered_well (answer_of d.answer) status c.report sound.report (summed_status d.answer came) d.reports
 
 pub pack_ends : (packets size ssrc pt seq tick status : ℕ) (c : Changes) → PacksTo packets (pack_settings size ssrc pt seq tick) status c → Completes (ToPack packets size ssrc pt seq tick) status c
@@ -96,77 +102,64 @@ recv_ends window workers packets sessions at status c d sound whole =
     let came = recv_completes window workers packets sessions at c.wire c.output c.hands sound.wire sound.output whole d.answer d.receives in
     answered_well d.answer status c.report sound.report (decoded_status d.answer came) d.reports
 
-true_is_false : true ≡ false → ⊥
-true_is_false p = cc
-
 -- ---- by the form of the words
-
-pub unbuilt_does : (meaning : Meaning) (c : Changes) → is_built meaning ≡ false → Does meaning 1 c
-unbuilt_does meaning c not_built = record {
-  built = λ is. absurd (true_is_false (sym is ∙ not_built));
-  unbuilt = λ _. refl;
-  completes = λ is. absurd (true_is_false (sym is ∙ not_built));
-}
 
 pub decode_does : (window workers packets status : ℕ) (c : Changes) → DecodesTo window workers packets status c → Does (ToDecode window workers packets) status c
 decode_does window workers packets status c did = record {
-  built = λ _. did;
-  unbuilt = λ is. absurd (true_is_false is);
-  completes = λ _. decode_ends window workers packets status c did;
+  did = did;
+  completes = decode_ends window workers packets status c did;
 }
 
 pub encode_does : (sender : Sending) (frames status : ℕ) (c : Changes) → EncodesTo sender frames status c → Does (ToEncode sender frames) status c
 encode_does sender frames status c did = record {
-  built = λ _. did;
-  unbuilt = λ is. absurd (true_is_false is);
-  completes = λ _. encode_ends sender frames status c did;
+  did = did;
+  completes = encode_ends sender frames status c did;
 }
 
 pub send_does : (sender : Sending) (frames : ℕ) (to : List ℕ) (status : ℕ) (c : Changes) → SendsTo sender frames to status c → Does (ToSend sender frames to) status c
 send_does sender frames to status c did = record {
-  built = λ _. did;
-  unbuilt = λ is. absurd (true_is_false is);
-  completes = λ _. send_ends sender frames to status c did;
+  did = did;
+  completes = send_ends sender frames to status c did;
 }
 
 pub recv_does : (window workers packets sessions : ℕ) (at : List ℕ) (status : ℕ) (c : Changes) → ReceivesTo window workers packets sessions at status c → Does (ToRecv window workers packets sessions at) status c
 recv_does window workers packets sessions at status c did = record {
-  built = λ _. did;
-  unbuilt = λ is. absurd (true_is_false is);
-  completes = λ _. recv_ends window workers packets sessions at status c did;
+  did = did;
+  completes = recv_ends window workers packets sessions at status c did;
+}
+
+pub loop_does : (sender : Sending) (frames window workers : ℕ) (at : List ℕ) (status : ℕ) (c : Changes) → LoopsTo sender frames window workers at status c → Does (ToLoop sender frames window workers at) status c
+loop_does sender frames window workers at status c did = record {
+  did = did;
+  completes = loop_ends sender frames window workers at status c did;
 }
 
 pub unpack_does : (window workers packets status : ℕ) (c : Changes) → UnpacksTo window workers packets status c → Does (ToUnpack window workers packets) status c
 unpack_does window workers packets status c did = record {
-  built = λ _. did;
-  unbuilt = λ is. absurd (true_is_false is);
-  completes = λ _. unpack_ends window workers packets status c did;
+  did = did;
+  completes = unpack_ends window workers packets status c did;
 }
 
 pub pack_does : (packets size ssrc pt seq tick status : ℕ) (c : Changes) → PacksTo packets (pack_settings size ssrc pt seq tick) status c → Does (ToPack packets size ssrc pt seq tick) status c
 pack_does packets size ssrc pt seq tick status c did = record {
-  built = λ _. did;
-  unbuilt = λ is. absurd (true_is_false is);
-  completes = λ _. pack_ends packets size ssrc pt seq tick status c did;
+  did = did;
+  completes = pack_ends packets size ssrc pt seq tick status c did;
 }
 
 pub play_does : (packets status : ℕ) (c : Changes) → PlaysTo packets status c → Does (ToPlay packets) status c
 play_does packets status c did = record {
-  built = λ _. did;
-  unbuilt = λ is. absurd (true_is_false is);
-  completes = λ _. play_ends packets status c did;
+  did = did;
+  completes = play_ends packets status c did;
 }
 
 pub gen_does : (generator : Generating) (window workers status : ℕ) (c : Changes) → GeneratesTo generator status c → Does (ToGen generator false window workers) status c
 gen_does generator window workers status c did = record {
-  built = λ _. did;
-  unbuilt = λ is. absurd (true_is_false is);
-  completes = λ _. gen_ends generator window workers status c did;
+  did = did;
+  completes = gen_ends generator window workers status c did;
 }
 
 pub check_does : (generator : Generating) (window workers status : ℕ) (c : Changes) → ChecksTo generator window workers status c → Does (ToGen generator true window workers) status c
 check_does generator window workers status c did = record {
-  built = λ _. did;
-  unbuilt = λ is. absurd (true_is_false is);
-  completes = λ _. check_ends generator window workers status c did;
+  did = did;
+  completes = check_ends generator window workers status c did;
 }

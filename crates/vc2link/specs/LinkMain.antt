@@ -1,5 +1,5 @@
 -- What vc2link did, by what its words mean and by the status that it answered.
-use Rattle.std.specs.Prelude.{◌≡◌, ◌⊎◌, ℕ, Bool, true, false, not, List, Option, IsTrue, IsFalse, IsSomeAnd, if◌then◌else◌, Result, Ok, Err}
+use Rattle.std.specs.Prelude.{◌≡◌, ◌⊎◌, ℕ, Bool, true, false, not, List, Option, IsSomeAnd, Result, Ok, Err}
 use Rattle.check_command.specs.Checking.{Checks, IsCheckable}
 use Rattle.decode_command.specs.Decoding.{Decodes, Unpacks, IsDecodable}
 use Rattle.encode_command.specs.Encodes.{Encodes, IsEncodable}
@@ -12,6 +12,7 @@ use Rattle.link_report.specs.declared.ending.Ending.{Ending}
 use Rattle.link_report.specs.declared.ending.Ending.TheVariants.{Usage}
 use Rattle.link_report.specs.declared.summary.Summary.{Summary}
 use Rattle.link_words.specs.Settings.{Meaning, ToDecode, ToEncode, ToSend, ToRecv, ToLoop, ToUnpack, ToPack, ToPlay, ToGen}
+use Rattle.loop_command.specs.Looping.{LoopsBack}
 use Rattle.pack_command.specs.Packs.{Packs, IsPackable, pack_settings}
 use Rattle.play_command.specs.Playing.{Plays, IsPlayable}
 use Rattle.recv_command.specs.Receiving.{ReceivesFrom, IsReceivable}
@@ -70,15 +71,9 @@ calls_of (ToPack packets size ssrc pt seq tick) = calls true true false false tr
 calls_of (ToPlay packets) = calls true true false false true
 calls_of (ToGen generator check window workers) = calls false (not check) false check true
 
--- the commands that are built
-abbrev pub is_built : Meaning → Bool
-is_built (ToLoop sender frames window workers at) = false
-is_built meaning = true
-
--- Words outside the grammar are refused in the report, and a form that is not built calls nothing.
+-- Words outside the grammar are refused in the report.
 abbrev pub may_call : Result Meaning ℕ → Calls
-may_call (Ok meaning) =
-    if is_built meaning then calls_of meaning else calls false false false false false
+may_call (Ok meaning) = calls_of meaning
 may_call (Err place) = calls false false false false true
 
 -- ---- the commands
@@ -108,6 +103,15 @@ pub record ReceivesTo (window workers packets sessions : ℕ) (at : List ℕ) (s
   pub answer : Answer
   pub receives : ReceivesFrom window workers packets sessions at answer c.wire c.output c.hands
   pub reports : Reports answer status c.report
+
+-- at most so many raw frames were sent to the address and received there, and the report says how
+-- that ended
+pub record LoopsTo
+    (sender : Sending) (frames window workers : ℕ) (at : List ℕ) (status : ℕ) (c : Changes) : Type 0
+  where
+    pub answer : Result Summary Ending
+    pub loops : LoopsBack sender frames window workers at answer c.input c.output c.wire c.hands
+    pub reports : Reports (answer_of answer) status c.report
 
 -- the capture was unpacked, and the report says how that ended
 pub record UnpacksTo (window workers packets status : ℕ) (c : Changes) : Type 0 where
@@ -146,13 +150,14 @@ Did (ToEncode sender frames) status c = EncodesTo sender frames status c
 Did (ToSend sender frames to) status c = SendsTo sender frames to status c
 Did (ToRecv window workers packets sessions at) status c =
     ReceivesTo window workers packets sessions at status c
+Did (ToLoop sender frames window workers at) status c =
+    LoopsTo sender frames window workers at status c
 Did (ToUnpack window workers packets) status c = UnpacksTo window workers packets status c
 Did (ToPack packets size ssrc pt seq tick) status c =
     PacksTo packets (pack_settings size ssrc pt seq tick) status c
 Did (ToPlay packets) status c = PlaysTo packets status c
 Did (ToGen generator false window workers) status c = GeneratesTo generator status c
 Did (ToGen generator true window workers) status c = ChecksTo generator window workers status c
-Did meaning status c = ⊥
 
 -- ---- the status
 
@@ -163,8 +168,8 @@ pub record HasNoFault (c : Changes) : Type 0 where
   pub report : HasRisen c.report.faults → ⊥
   pub wire : HasRisen c.wire.faults → ⊥
 
--- The input, or the wire, tells what comes, which ends where the command may end, and is accepted: a row for each command that
--- is built. What reads nothing ends well, but that generated frames may be too large to be sent.
+-- The input, or the wire, tells what comes, which ends where the command may end, and is accepted: a row for each command.
+-- What reads nothing ends well, but that generated frames may be too large to be sent.
 abbrev pub EndsWell : Meaning → Changes → Type 0
 EndsWell (ToDecode window workers packets) c =
     IsSomeAnd c.input.left.before (IsDecodable packets)
@@ -174,6 +179,8 @@ EndsWell (ToSend sender frames to) c =
     IsSomeAnd c.input.left.before (IsSendable sender frames)
 EndsWell (ToRecv window workers packets sessions at) c =
     IsSomeAnd c.wire.told.before.coming (IsReceivable packets sessions)
+EndsWell (ToLoop sender frames window workers at) c =
+    IsSomeAnd c.input.left.before (IsSendable sender frames)
 EndsWell (ToUnpack window workers packets) c =
     IsSomeAnd c.input.left.before (IsDecodable packets)
 EndsWell (ToPack packets size ssrc pt seq tick) c =
@@ -181,7 +188,6 @@ EndsWell (ToPack packets size ssrc pt seq tick) c =
 EndsWell (ToPlay packets) c = IsSomeAnd c.input.left.before (IsPlayable packets)
 EndsWell (ToGen generator false window workers) c = Unit {0}
 EndsWell (ToGen generator true window workers) c = IsCheckable generator
-EndsWell meaning c = ⊥
 
 -- The command came to its end, where no count of faults rose and the input ends well, unless memory ran out.
 abbrev pub Completes : Meaning → ℕ → Changes → Type 0
@@ -189,9 +195,8 @@ Completes meaning status c = HasNoFault c → EndsWell meaning c → (status ≡
 
 -- what words in the grammar did
 pub record Does (meaning : Meaning) (status : ℕ) (c : Changes) : Type 0 where
-  pub built : IsTrue (is_built meaning) → Did meaning status c
-  pub unbuilt : IsFalse (is_built meaning) → status ≡ 1
-  pub completes : IsTrue (is_built meaning) → Completes meaning status c
+  pub did : Did meaning status c
+  pub completes : Completes meaning status c
 
 -- By what the words mean. Words outside the grammar are refused by the place of the first bad one.
 abbrev pub Obeys : Result Meaning ℕ → ℕ → Changes → Type 0

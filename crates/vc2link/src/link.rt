@@ -1,8 +1,7 @@
 ghost use Rattle.std.specs.Prelude.{◌≡◌, IsFalse};
 ghost use Rattle.link_words.specs.Settings.{settings_of};
-ghost use Rattle.link_words.specs.Views.{meaning_view};
 ghost use Rattle.vc_ports.specs.Changes.{changed, input_of, output_of, wire_of};
-ghost use Rattle.vc2link.specs.LinkMain.{changes, is_built, may_call, Obeys};
+ghost use Rattle.vc2link.specs.LinkMain.{changes, may_call, Obeys};
 
 use check_command::check;
 use decode_command::{decode, unpack};
@@ -10,6 +9,7 @@ use encode_command::encode;
 use gen_command::generate;
 use link_report::{Answer, Ending, write_answer};
 use link_words::{Settings, read_words};
+use loop_command::loop_back;
 use pack_command::pack;
 use play_command::play;
 use recv_command::recv;
@@ -20,10 +20,8 @@ use vc_ports::{Sink, Source, Wire};
 use vc_slice::Hands;
 use vc_types::Words;
 
-const UNBUILT: u8 = 1;
-
 /// Does what the words say, and answers the status. The words are those behind the program's name.
-#[tactic(auto, using(crate::proofs::Ends::unbuilt_does, crate::proofs::Ends::decode_does, crate::proofs::Ends::encode_does, crate::proofs::Ends::send_does, crate::proofs::Ends::recv_does, crate::proofs::Ends::unpack_does, crate::proofs::Ends::pack_does, crate::proofs::Ends::play_does, crate::proofs::Ends::gen_does, crate::proofs::Ends::check_does))]
+#[tactic(auto, using(crate::proofs::Ends::decode_does, crate::proofs::Ends::encode_does, crate::proofs::Ends::send_does, crate::proofs::Ends::recv_does, crate::proofs::Ends::loop_does, crate::proofs::Ends::unpack_does, crate::proofs::Ends::pack_does, crate::proofs::Ends::play_does, crate::proofs::Ends::gen_does, crate::proofs::Ends::check_does))]
 pub fn link_main<H: Threads + Copy + Send + Sync, S: Source, O: Sink, E: Sink, N: Wire, P: Hands>(
     rt: H,
     alloc: Global,
@@ -49,7 +47,6 @@ pub fn link_main<H: Threads + Copy + Send + Sync, S: Source, O: Sink, E: Sink, N
     ensures report { IsFalse (may_call (settings_of words.now)).report → report.new ≡ report.old }
 {
     match read_words(words) {
-        Ok(settings) if !is_built(&settings) => UNBUILT,
         Ok(
             Settings::Decode {
                 window,
@@ -81,6 +78,20 @@ pub fn link_main<H: Threads + Copy + Send + Sync, S: Source, O: Sink, E: Sink, N
                 alloc, window, workers, packets, sessions, at, wire, output, hands,
             );
             write_answer(alloc, report, &answer)
+        }
+        Ok(
+            Settings::Loop {
+                sender,
+                frames,
+                window,
+                workers,
+                at,
+            },
+        ) => {
+            let looped = loop_back(
+                rt, alloc, &sender, frames, window, workers, at, input, output, wire, hands,
+            );
+            write_answer(alloc, report, &Answer::from(looped))
         }
         Ok(
             Settings::Unpack {
@@ -130,17 +141,9 @@ pub fn link_main<H: Threads + Copy + Send + Sync, S: Source, O: Sink, E: Sink, N
             let checked = check(rt, alloc, &frames_of, window, workers, hands);
             write_answer(alloc, report, &Answer::from(checked))
         }
-        Ok(_) => unreachable!(),
         Err(usage) => {
             let place = usage.place as u64;
             write_answer(alloc, report, &Answer::Stopped(Ending::Usage { place }))
         }
     }
-}
-
-// Whether what the words ask for is built.
-fn is_built(settings: &Settings<'_>) -> bool
-    ensures { result ≡ is_built (meaning_view settings.now) }
-{
-    !matches!(settings, Settings::Loop { .. })
 }
