@@ -1,5 +1,4 @@
-ghost use Rattle.std.specs.Prelude.{◌≡◌, ◌<◌, ◌≤◌, [], ◌∷◌, ◌++◌, IfOk, IfErr, OnOk, map};
-ghost use Rattle.std.specs.List.{range_with_len};
+ghost use Rattle.std.specs.Prelude.{◌≡◌, ◌<◌, ◌≤◌, [], ◌∷◌, ◌++◌, IfOk, IfErr, OnOk};
 ghost use Rattle.link_model.specs.SendingPictures.{packed_bits, need_of, sent_coefficients, sent_parameters, told_lengths};
 ghost use Rattle.picture_encode.specs.Choosing.{AnswersAtMost127, AnswersNeed};
 ghost use Rattle.picture_encode.specs.Encoded.{IsEncodedAt, RefusesAt, IsEncoded, IsRefusedSlice, AreFirstSlices, IsRefusedPicture};
@@ -7,7 +6,6 @@ ghost use Rattle.picture_encode.specs.Grids.{AreGrids, HaveCoefficients};
 ghost use Rattle.picture_encode.specs.Refusals.{refusal_of};
 ghost use Rattle.picture_encode.specs.Shapes.{CanBeTransformed};
 ghost use Rattle.vc_types.specs.Bits.{bits_of};
-ghost use Rattle.vc_types.specs.Encoding.{encoded_length};
 ghost use Rattle.vc_types.specs.Planes.{Planes, planes_in};
 ghost use Rattle.vc_types.specs.SenderSettings.{sending_view};
 ghost use Rattle.vc_types.specs.SliceCoefficients.{AreSliceCoefficients};
@@ -21,14 +19,11 @@ use crate::refusal::SliceRefusal;
 use crate::transform::{AtOnce, InTurn, Transform};
 use std::alloc::Global;
 use std::thread::Threads;
-use vc_slice::{EncodeRefusal, SliceCoeffs, encode, encoded_len};
+use vc_slice::{EncodeRefusal, SliceCoeffs, encode, encoded_lens};
 use vc_types::{NoMemory, Plan, Plane, SendSettings, SliceNeed};
 
 // The heads of the packet and of the payload in front of slices have so many bytes.
 const HEADS: u32 = 32;
-
-// Lengths are told at the indices below this one.
-const INDICES: u8 = 128;
 
 /// An encoded slice, and the quantisation index that it has.
 #[derive(Drop)]
@@ -198,29 +193,10 @@ fn told_lens(
         → lens.items ≡ told_lengths wanted (parameters_of plan.now) planes slice) }
 {
     if wanted {
-        all_lens(alloc, plan, slice, coeffs)
+        encoded_lens(alloc, plan, slice, coeffs)
     } else {
         Ok(Vec::new(alloc))
     }
-}
-
-fn all_lens(
-    alloc: Global,
-    plan: &Plan,
-    slice: u32,
-    coeffs: &SliceCoeffs,
-) -> Result<Vec<u64>, NoMemory>
-    requires slice { slice < slice_count (parameters_of plan.now) }
-    requires coefficients { AreSliceCoefficients (parameters_of plan.now) slice coeffs.now }
-    ensures { IfOk result (λ lens. lens.items
-        ≡ map (λ index. encoded_length (parameters_of plan.now) slice index coeffs.now)
-        (range_with_len 0 128)) }
-{
-    let mut lens = Vec::with_capacity(alloc, usize::from(INDICES))?;
-    for index in 0..INDICES {
-        lens.push(encoded_len(plan, slice, coeffs, index))?;
-    }
-    Ok(lens)
 }
 
 // A slice's bytes at an index. It is refused where it is too large for its lengths or for a
