@@ -1,6 +1,10 @@
+ghost use Rattle.vc_ports.specs.MemoryWires.{AreDatagrams, datagrams_in};
+
 use super::captures::{run_on, tally};
 use super::encoding::{END, FRAME, HEADER, PARAMETERS, SLICE};
+use std::alloc::Global;
 use std::test::Fail;
+use std::thread::Threads;
 use vc_ports::MemWire;
 use vc_slice::NoPlaces;
 
@@ -9,6 +13,107 @@ const SENT: &[u8] = b"frames 1\ndatagrams 4\nbytes 106\n";
 // Whether the datagram of an entry was sent at this place.
 fn is_sent(wire: &MemWire, place: usize, entry: &[u8]) -> bool {
     wire.sent(place) == entry.get(2..)
+}
+
+// A wire that gives these datagrams.
+fn giving(alloc: Global, coming: Vec<Vec<u8>>) -> Result<MemWire, Fail>
+    requires { AreDatagrams (datagrams_in coming.items) }
+{
+    Ok(MemWire::new(alloc, coming, false, 1000, Vec::new(alloc))?)
+}
+
+/// A wire that gives the datagrams of one frame, the slice before the parameters.
+pub(super) fn disordered(alloc: Global) -> Result<MemWire, Fail> {
+    let header = Vec::from_slice(alloc, &HEADER[2..])?;
+    let slice = Vec::from_slice(alloc, &SLICE[2..])?;
+    let parameters = Vec::from_slice(alloc, &PARAMETERS[2..])?;
+    let end = Vec::from_slice(alloc, &END[2..])?;
+    giving(
+        alloc,
+        Vec::from_array(alloc, [header, slice, parameters, end])?,
+    )
+}
+
+/// A wire that gives the slice of one frame twice, and no end.
+pub(super) fn repeated(alloc: Global) -> Result<MemWire, Fail> {
+    let header = Vec::from_slice(alloc, &HEADER[2..])?;
+    let parameters = Vec::from_slice(alloc, &PARAMETERS[2..])?;
+    let slice = Vec::from_slice(alloc, &SLICE[2..])?;
+    let again = Vec::from_slice(alloc, &SLICE[2..])?;
+    giving(
+        alloc,
+        Vec::from_array(alloc, [header, parameters, slice, again])?,
+    )
+}
+
+/// A wire that doesn't give the slice of one frame.
+pub(super) fn wanting(alloc: Global) -> Result<MemWire, Fail> {
+    let header = Vec::from_slice(alloc, &HEADER[2..])?;
+    let parameters = Vec::from_slice(alloc, &PARAMETERS[2..])?;
+    let end = Vec::from_slice(alloc, &END[2..])?;
+    giving(alloc, Vec::from_array(alloc, [header, parameters, end])?)
+}
+
+// Whether what comes from a wire is received as these frames, with these counts.
+fn is_received<H: Threads + Copy + Send + Sync>(
+    rt: H,
+    alloc: Global,
+    wire: &mut MemWire,
+    frames: &[u8],
+    counts: &[(&str, &str)],
+) -> Result<bool, Fail> {
+    let nothing = Vec::new(alloc);
+    let ran = run_on(rt, alloc, "recv --at here", nothing, wire, &mut NoPlaces)?;
+    let due = tally(alloc, counts)?;
+    Ok(ran.status == 0 && ran.output.bytes() == frames && ran.report.bytes() == due.as_slice())
+}
+
+// Parameters that come behind the slice still make the frame.
+#[test]
+fn datagrams_in_another_order(rt: HostRuntime) -> Result<(), Fail> {
+    let alloc = rt.alloc();
+    let mut wire = disordered(alloc)?;
+    let counts = [
+        ("datagrams", "4"),
+        ("header-new", "1"),
+        ("end", "1"),
+        ("params-kept", "1"),
+        ("slices-pending", "1"),
+        ("frames", "1"),
+    ];
+    assert!(rt; is_received(&rt, alloc, &mut wire, &FRAME, &counts)?);
+    Ok(())
+}
+
+#[test]
+fn a_datagram_that_comes_twice(rt: HostRuntime) -> Result<(), Fail> {
+    let alloc = rt.alloc();
+    let mut wire = repeated(alloc)?;
+    let counts = [
+        ("datagrams", "4"),
+        ("header-new", "1"),
+        ("params-kept", "1"),
+        ("slices-kept", "1"),
+        ("slices-repeat", "1"),
+        ("frames", "1"),
+    ];
+    assert!(rt; is_received(&rt, alloc, &mut wire, &FRAME, &counts)?);
+    Ok(())
+}
+
+#[test]
+fn a_datagram_that_does_not_come(rt: HostRuntime) -> Result<(), Fail> {
+    let alloc = rt.alloc();
+    let mut wire = wanting(alloc)?;
+    let counts = [
+        ("datagrams", "3"),
+        ("header-new", "1"),
+        ("end", "1"),
+        ("params-kept", "1"),
+        ("incomplete", "1"),
+    ];
+    assert!(rt; is_received(&rt, alloc, &mut wire, &[], &counts)?);
+    Ok(())
 }
 
 // The datagrams that `encode` writes entries of go to the address.
