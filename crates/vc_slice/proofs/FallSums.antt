@@ -10,7 +10,7 @@ use Rattle.std.proofs.Math.Nat.{pow-le-pow_right, pow-suc}
 use Rattle.vc_types.specs.Codes.{sint_bits}
 use Rattle.vc_types.specs.Quantisation.{quant_factor, quantised}
 use Rattle.vc_quant.proofs.Quotients.{rises, not_larger}
-use Rattle.vc_slice.specs.Falls.{sum_from, most_from, steps, block_from}
+use Rattle.vc_slice.specs.Falls.{sum_from, most_from, code_steps, block_from}
 use Rattle.vc_slice.specs.Inside.{codes_behind, subband_numbers}
 use Rattle.vc_slice.proofs.BlockCodes.{behind_zero, length_other}
 use Rattle.vc_slice.proofs.CodeLengths.{length-code}
@@ -104,39 +104,39 @@ sum_falls (suc q) (x ∷ xs) = omega (arith, sum_falls q xs)
 
 -- ---- the bits of a code
 
-one_step : (n : ℕ) → n < 2 → steps 1 n ≡ 0
-unfolding steps
+one_step : (n : ℕ) → n < 2 → code_steps 1 n ≡ 0
+unfolding code_steps
 one_step n small = rw (lt-leb 2 n small) refl
 
-pub first_step : (n : ℕ) → 2 ≤ n → steps 1 n ≡ 3
-unfolding steps
+pub first_step : (n : ℕ) → 2 ≤ n → code_steps 1 n ≡ 3
+unfolding code_steps
 first_step n many = rw (le-leb 2 n many) refl
 
-pub next_step : (k n : ℕ) → 1 ≤ k → 2 ^ (k + 1) ≤ n → steps (k + 1) n ≡ steps k n + 2
-unfolding steps
+pub next_step : (k n : ℕ) → 1 ≤ k → 2 ^ (k + 1) ≤ n → code_steps (k + 1) n ≡ code_steps k n + 2
+unfolding code_steps
 next_step zero n some le = absurd (omega arith)
 next_step (suc k) n some le = let same : suc k + 1 ≡ suc (suc k) = omega arith in rw same (rw (le-leb (2 ^ suc (suc k)) n (rw (sym same) le)) refl)
 
-pub no_step : (k n : ℕ) → 1 ≤ k → n < 2 ^ (k + 1) → steps (k + 1) n ≡ steps k n
-unfolding steps
+pub no_step : (k n : ℕ) → 1 ≤ k → n < 2 ^ (k + 1) → code_steps (k + 1) n ≡ code_steps k n
+unfolding code_steps
 no_step zero n some lt = absurd (omega arith)
 no_step (suc k) n some lt = let same : suc k + 1 ≡ suc (suc k) = omega arith in rw same (rw (lt-leb (2 ^ suc (suc k)) n (rw (sym same) lt)) (omega arith))
 
 -- all digits
-pub steps_all : (more k n : ℕ) → 1 ≤ k → n < 2 ^ (k + 1) → steps (more + k) n ≡ steps k n
-steps_all zero k n some small = ap (λ (j : ℕ). steps j n) (let e : zero + k ≡ k = omega arith in e)
+pub steps_all : (more k n : ℕ) → 1 ≤ k → n < 2 ^ (k + 1) → code_steps (more + k) n ≡ code_steps k n
+steps_all zero k n some small = ap (λ (j : ℕ). code_steps j n) (let e : zero + k ≡ k = omega arith in e)
 steps_all (suc more) k n some small =
     let same : suc more + k ≡ more + k + 1 = omega arith in
     let power : 2 ^ (k + 1) ≤ 2 ^ (more + k + 1) = pow-le-pow_right (omega arith) (omega arith) in
-    ap (λ (j : ℕ). steps j n) same ∙ no_step (more + k) n (omega arith) (omega (arith, power)) ∙ steps_all more k n some small
+    ap (λ (j : ℕ). code_steps j n) same ∙ no_step (more + k) n (omega arith) (omega (arith, power)) ∙ steps_all more k n some small
 
-pub steps_up : (k n : ℕ) → 1 ≤ k → k ≤ 60 → n < 2 ^ (k + 1) → steps 60 n ≡ steps k n
-steps_up k n some few small = let same : 60 ≡ 60 - k + k = omega arith in ap (λ (j : ℕ). steps j n) same ∙ steps_all (60 - k) k n some small
+pub steps_up : (k n : ℕ) → 1 ≤ k → k ≤ 60 → n < 2 ^ (k + 1) → code_steps 60 n ≡ code_steps k n
+steps_up k n some few small = let same : 60 ≡ 60 - k + k = omega arith in ap (λ (j : ℕ). code_steps j n) same ∙ steps_all (60 - k) k n some small
 
-pub steps_none : (n : ℕ) → n < 2 → steps 60 n ≡ 0
+pub steps_none : (n : ℕ) → n < 2 → code_steps 60 n ≡ 0
 steps_none n small = steps_up 1 n (omega arith) (omega arith) (omega arith) ∙ one_step n small
 
-steps_at : (k n : ℕ) → 2 ^ (k + 1) ≤ n → steps (k + 1) n ≡ 2 * (k + 1) + 1
+steps_at : (k n : ℕ) → 2 ^ (k + 1) ≤ n → code_steps (k + 1) n ≡ 2 * (k + 1) + 1
 steps_at zero n le = first_step n (omega arith)
 steps_at (suc k) n le =
     let same : suc k + 1 ≡ k + 1 + 1 = omega arith in
@@ -161,7 +161,7 @@ place_of (suc k) n some small =
     ]
 
 -- a code has the bits of its steps, and one
-pub length_steps : (z : ℤ) → 0 < unsigned_abs z → unsigned_abs z < 2 ^ 60 → length (sint_bits z) ≡ steps 60 (unsigned_abs z + 1) + 1
+pub length_steps : (z : ℤ) → 0 < unsigned_abs z → unsigned_abs z < 2 ^ 60 → length (sint_bits z) ≡ code_steps 60 (unsigned_abs z + 1) + 1
 length_steps z some small =
     let p = place_of 60 (unsigned_abs z + 1) (omega arith) (omega arith) in
     let double = pow-suc 2 (p.place + 1) in
@@ -170,8 +170,8 @@ length_steps z some small =
     omega (arith, long, steps_up (p.place + 1) (unsigned_abs z + 1) (omega arith) p.few p.high, steps_at p.place (unsigned_abs z + 1) p.low)
 
 -- one more digit
-pub step_more : (digits n q last before now other first : ℕ) → 2 ≤ digits → ((2 ^ digits ≤ n) ↔ (q ≤ last)) → (q ≤ last → now ≡ before + 2) → (last < q → now ≡ before) → before + first ≡ other + steps (digits - 1) n
-    → now + first ≡ other + steps (digits + 1 - 1) n
+pub step_more : (digits n q last before now other first : ℕ) → 2 ≤ digits → ((2 ^ digits ≤ n) ↔ (q ≤ last)) → (q ≤ last → now ≡ before + 2) → (last < q → now ≡ before) → before + first ≡ other + code_steps (digits - 1) n
+    → now + first ≡ other + code_steps (digits + 1 - 1) n
 step_more digits n q last before now other first some exactly on off so_far =
     let same : digits - 1 + 1 ≡ digits = omega arith in
     let next : digits + 1 - 1 ≡ digits - 1 + 1 = omega arith in
@@ -190,14 +190,14 @@ four_quarters = refl
 pub number_le : (magnitude q : ℕ) → q ≤ 127 → 4 * magnitude / quant_factor q ≤ magnitude
 number_le magnitude q few = not_larger magnitude (quant_factor q) (omega (arith, rises 0 q (omega arith) few, four_quarters))
 
-pub steps_done : (digits magnitude q : ℕ) → q ≤ 127 → 2 ≤ digits → digits ≤ 61 → magnitude + 1 < 2 ^ digits → steps (digits - 1) (4 * magnitude / quant_factor q + 1) ≡ steps 60 (4 * magnitude / quant_factor q + 1)
+pub steps_done : (digits magnitude q : ℕ) → q ≤ 127 → 2 ≤ digits → digits ≤ 61 → magnitude + 1 < 2 ^ digits → code_steps (digits - 1) (4 * magnitude / quant_factor q + 1) ≡ code_steps 60 (4 * magnitude / quant_factor q + 1)
 steps_done digits magnitude q within some few above =
     let same : digits - 1 + 1 ≡ digits = omega arith in
     let small : 4 * magnitude / quant_factor q + 1 < 2 ^ (digits - 1 + 1) = rw same (omega (arith, number_le magnitude q within)) in
     sym (steps_up (digits - 1) (4 * magnitude / quant_factor q + 1) (omega arith) (omega arith) small)
 
 -- the first digit too
-pub first_more : (n q last before now after : ℕ) → ((2 ^ 1 ≤ n) ↔ (q ≤ last)) → (q ≤ last → now ≡ before + 3) → (last < q → now ≡ before) → after + steps 1 n ≡ now + steps 60 n → after ≡ before + steps 60 n
+pub first_more : (n q last before now after : ℕ) → ((2 ^ 1 ≤ n) ↔ (q ≤ last)) → (q ≤ last → now ≡ before + 3) → (last < q → now ≡ before) → after + code_steps 1 n ≡ now + code_steps 60 n → after ≡ before + code_steps 60 n
 first_more n q last before now after exactly on off so_far =
     elim (cases_lt last q) [
       | inl lt ↦
@@ -206,7 +206,7 @@ first_more n q last before now after exactly on off so_far =
       | inr le ↦ omega (arith, on le, so_far, first_step n (exactly.1 le))
     ]
 
-pub no_steps : (magnitude q sum : ℕ) → q ≤ 127 → magnitude ≤ 0 → sum ≡ sum + steps 60 (4 * magnitude / quant_factor q + 1)
+pub no_steps : (magnitude q sum : ℕ) → q ≤ 127 → magnitude ≤ 0 → sum ≡ sum + code_steps 60 (4 * magnitude / quant_factor q + 1)
 no_steps magnitude q sum within none = omega (arith, steps_none (4 * magnitude / quant_factor q + 1) (omega (arith, number_le magnitude q within)))
 
 -- ---- a block
@@ -219,7 +219,7 @@ abs_quantised (negsuc n) q = omega (arith, ints)
 -- one more number of a block
 pub fallen : (q least magnitude count now : ℕ) (bits kept bits2 kept2 : List ℕ) (z : ℤ) (more : List ℤ) → q ≤ 127 → magnitude ≡ unsigned_abs z → magnitude < 2 ^ 60 → now ≡ count + 1
     → most_from q kept ≤ count
-    → sum_from q bits2 ≡ sum_from q bits + steps 60 (4 * magnitude / quant_factor (q - least) + 1)
+    → sum_from q bits2 ≡ sum_from q bits + code_steps 60 (4 * magnitude / quant_factor (q - least) + 1)
     → (4 * magnitude / quant_factor (q - least) ≡ 0 → most_from q kept2 ≡ most_from q kept)
     → (0 < 4 * magnitude / quant_factor (q - least) → most_from q kept2 ≡ now)
     → block_from q now bits2 kept2 more ≡ block_from q count bits kept (quantised z (q - least) ∷ more)
@@ -230,7 +230,7 @@ fallen q least magnitude count now bits kept bits2 kept2 z more within is small 
       | inl some ↦
           let few : unsigned_abs number < 2 ^ 60 = omega (arith, size, is, small, number_le magnitude (q - least) (omega arith)) in
           let long = length_steps number some few in
-          let steps_same = ap (λ (n : ℕ). steps 60 (n + 1)) size in
+          let steps_same = ap (λ (n : ℕ). code_steps 60 (n + 1)) size in
           let behind = length_other (count - most_from q kept) number more some in
           let last : most_from q kept2 ≡ now = other (omega (arith, size, some)) in
           let none : now - most_from q kept2 ≡ 0 = omega (arith, last) in
@@ -242,7 +242,7 @@ fallen q least magnitude count now bits kept bits2 kept2 z more within is small 
           let behind = ap length (behind_zero (count - most_from q kept) number more zero_size) in
           let places : now - most_from q kept2 ≡ count - most_from q kept + 1 = omega (arith, next, kept_same, most) in
           let rest = ap (λ (n : ℕ). length (codes_behind n more)) places in
-          let no_bits : steps 60 (4 * magnitude / quant_factor (q - least) + 1) ≡ 0 = steps_none (4 * magnitude / quant_factor (q - least) + 1) (omega (arith, size, zero_size)) in
+          let no_bits : code_steps 60 (4 * magnitude / quant_factor (q - least) + 1) ≡ 0 = steps_none (4 * magnitude / quant_factor (q - least) + 1) (omega (arith, size, zero_size)) in
           omega (arith, behind, rest, kept_same, sum, no_bits)
     ]
 

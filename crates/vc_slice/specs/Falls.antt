@@ -15,10 +15,10 @@ most_from zero (x ∷ xs) = max x (most_from zero xs)
 most_from (suc q) (x ∷ xs) = most_from q xs
 
 -- the bits beyond one in the code of n - 1, where only the first digits of n are counted
-unfoldable pub steps : ℕ → ℕ → ℕ
-steps zero n = 0
-steps (suc zero) n = if nat_le 2 n then 3 else 0
-steps (suc (suc k)) n = steps (suc k) n + (if nat_le (2 ^ suc (suc k)) n then 2 else 0)
+unfoldable pub code_steps : ℕ → ℕ → ℕ
+code_steps zero n = 0
+code_steps (suc zero) n = if nat_le 2 n then 3 else 0
+code_steps (suc (suc k)) n = code_steps (suc k) n + (if nat_le (2 ^ suc (suc k)) n then 2 else 0)
 
 -- how many bits the codes of a block have at an index, which goes on with these numbers behind so many
 abbrev pub block_from : ℕ → ℕ → List ℕ → List ℕ → List ℤ → ℕ

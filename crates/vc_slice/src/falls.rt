@@ -6,7 +6,7 @@ ghost use Rattle.vc_types.specs.SliceCoefficients.{AreSliceCoefficients};
 ghost use Rattle.vc_types.specs.Slices.{is_large};
 ghost use Rattle.vc_types.specs.Subbands.{slice_count};
 ghost use Rattle.vc_types.specs.TransformParameters.{parameters_of};
-ghost use Rattle.vc_slice.specs.Falls.{sum_from, most_from, steps, block_from};
+ghost use Rattle.vc_slice.specs.Falls.{sum_from, most_from, code_steps, block_from};
 ghost use Rattle.vc_slice.specs.Inside.{subband_numbers};
 
 use crate::coeffs::SliceCoeffs;
@@ -48,7 +48,7 @@ impl Falls {
         ensures room { sum_from 0 self.new.bits ≤ 128 * self.new.count }
         ensures places { (q : ℕ) → most_from q self.new.kept ≤ self.new.count }
         ensures bits { (q : ℕ) → q ≤ 127 → sum_from q self.new.bits ≡ sum_from q self.old.bits
-            + steps 60 (4 * magnitude / quant_factor (q - least) + 1) }
+            + code_steps 60 (4 * magnitude / quant_factor (q - least) + 1) }
         ensures zero { (q : ℕ) → q ≤ 127 → 4 * magnitude / quant_factor (q - least) ≡ 0
             → most_from q self.new.kept ≡ most_from q self.old.kept }
         ensures other { (q : ℕ) → q ≤ 127 → 0 < 4 * magnitude / quant_factor (q - least)
@@ -152,8 +152,8 @@ fn add_more(bits: &mut [u64; 128], magnitude: u64, least: u8)
     requires some { 0 < magnitude }
     requires room { sum_from 0 bits.old < 2 ^ 62 }
     ensures bits { (q : ℕ) → q ≤ 127
-        → sum_from q bits.new + steps 1 (4 * magnitude / quant_factor (q - least) + 1)
-        ≡ sum_from q bits.old + steps 60 (4 * magnitude / quant_factor (q - least) + 1) }
+        → sum_from q bits.new + code_steps 1 (4 * magnitude / quant_factor (q - least) + 1)
+        ≡ sum_from q bits.old + code_steps 60 (4 * magnitude / quant_factor (q - least) + 1) }
     ensures room { sum_from 0 bits.new ≤ sum_from 0 bits.old + 120 }
 {
     let mut digits = 2;

@@ -2,7 +2,7 @@ use Rattle.std.proofs.Common.{◌≡◌, ◌+◌, ◌-◌, ◌*◌, ◌/◌, ◌
 use Rattle.std.proofs.lemmas.Nat.{one_shl}
 use Rattle.vc_types.specs.Quantisation.{quant_factor}
 use Rattle.vc_quant.proofs.Quotients.{few_digits}
-use Rattle.vc_slice.specs.Falls.{sum_from, steps}
+use Rattle.vc_slice.specs.Falls.{sum_from, code_steps}
 use Rattle.vc_slice.proofs.FallSums.{step_more, steps_done}
 use Rattle.vc_slice.proofs.falls.add_more.Goals as goal
 
@@ -21,7 +21,7 @@ digits-preserved c =
       low = rw same low;
       bits = λ q within.
           let n = 4 * c.args.magnitude / quant_factor (q - c.args.least) + 1 in
-          step_more digits n q last (sum_from q c.digits.bits) (sum_from q c.add_at.new.bits) (sum_from q c.args.bits.now) (steps 1 n) c.digits.invariant.from (c.last_with.ensures.value q within) (on q) (off q) (c.digits.invariant.bits q within);
+          step_more digits n q last (sum_from q c.digits.bits) (sum_from q c.add_at.new.bits) (sum_from q c.args.bits.now) (code_steps 1 n) c.digits.invariant.from (c.last_with.ensures.value q within) (on q) (off q) (c.digits.invariant.bits q within);
       room = omega (arith, c.digits.invariant.room, on 0 (omega arith), c.digits.invariant.from);
     }
 
