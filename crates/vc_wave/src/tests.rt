@@ -1,9 +1,14 @@
-ghost use Rattle.std.specs.Prelude.{◌≡◌, ◌+◌, ◌^◌, ◌<◌, ◌≤◌, ◌↔◌, ℕ, All, IsTrue, length, unsigned_abs, replicate};
+ghost use Rattle.std.specs.Prelude.{◌≡◌, ◌+◌, ◌^◌, ◌<◌, ◌≤◌, ◌↔◌, ℕ, All, IfOk, IsTrue, length, unsigned_abs, replicate};
 ghost use Rattle.vc_types.specs.Lifting.{line_of};
 ghost use Rattle.vc_types.specs.Limits.{shape_fits, padded_luma_fits};
 ghost use Rattle.vc_types.specs.Quantisation.{filled_matrix, used_entries};
+ghost use Rattle.vc_types.specs.TransformParameters.{is_symmetric, parameters_of};
 
-use crate::{fits_narrow, forward, inverse, inverse_narrow, inverse_undoes_forward};
+use crate::forward_bounds::parted_bound;
+use crate::{
+    fits_narrow, forward, forward_fits_narrow, forward_narrow, inverse, inverse_narrow,
+    inverse_undoes_forward,
+};
 use std::alloc::Global;
 use std::test::Fail;
 use vc_geometry::padded;
@@ -447,6 +452,170 @@ fn widths_agree_on_each_size(rt: HostRuntime) -> Result<(), Fail> {
         assert!(rt; agree(rt.alloc(), &plan(size(1, 9), pair, (3, 1)), 1000)?);
         assert!(rt; agree(rt.alloc(), &plan(size(23, 7), pair, (1, 3)), 1000)?);
         assert!(rt; agree(rt.alloc(), &plan(size(40, 17), pair, (3, 0)), 1000)?);
+    }
+    Ok(())
+}
+
+// The greatest samples, less half of their range, of each wavelet and depth that are transformed in 32 bits, by bounds that
+// a program carried through the opposite steps. None fits where -1 stands.
+static GREATEST_SAMPLES: [[i64; 5]; 7] = [
+    [23_860_928, 2_356_634, 232_753, 22_987, 2_270],
+    [134_217_727, 16_777_215, 2_097_151, 262_143, 32_767],
+    [9_916_229, 856_317, 73_946, 6_385, 550],
+    [536_870_910, 134_217_726, 33_554_430, 8_388_606, 2_097_150],
+    [268_435_455, 33_554_431, 4_194_303, 524_287, 65_535],
+    [883_543, 67_363, 5_135, 390, 29],
+    [5_940, 53, 0, -1, -1],
+];
+
+fn forward_ends_at(wavelet: u8, levels: u8, most: i64) -> bool
+    requires { wavelet ≤ 6 }
+{
+    let Ok(over) = u64::try_from(most.wrapping_add(1)) else {
+        return false;
+    };
+    if over >= 1 << 31 || parted_bound(wavelet, levels, over).is_some() {
+        return false;
+    }
+    over == 0 || parted_bound(wavelet, levels, over - 1).is_some()
+}
+
+#[test]
+fn bounds_of_samples_end_where_32_bits_do(rt: HostRuntime) {
+    for wavelet in 0..7 {
+        for levels in 1..6 {
+            let most = GREATEST_SAMPLES[wavelet as usize][levels as usize - 1];
+            assert!(rt;
+                forward_ends_at(wavelet, levels, most),
+                "{wavelet} {levels}"
+            );
+        }
+    }
+}
+
+// So many columns and rows of luma, of so many bits.
+fn deep(width: u32, height: u32, bits: u8) -> Shape
+    ensures { result ≡ record {
+      luma_width = width;
+      luma_height = height;
+      colour_width = width;
+      colour_height = height;
+      luma_depth = bits;
+      colour_depth = bits;
+    } }
+{
+    Shape {
+        luma_width: width,
+        luma_height: height,
+        colour_width: width,
+        colour_height: height,
+        luma_depth: bits,
+        colour_depth: bits,
+    }
+}
+
+// Samples that are 0 or as large as they may be, as they come.
+fn extreme_plane(alloc: Global, width: u32, height: u32, bits: u8) -> Result<Plane, Fail>
+    requires sides { (width ≤ 64) × (height ≤ 64) }
+    requires bits { (1 ≤ bits) × (bits ≤ 16) }
+    ensures width { IfOk result (λ p. p.width ≡ width) }
+    ensures height { IfOk result (λ p. p.height ≡ height) }
+    ensures samples { IfOk result (λ p. All (λ s. s < 2 ^ bits) p.samples) }
+{
+    let most = ((1u32 << bits) - 1) as u16;
+    let mut samples = vec![in alloc; 0u16; width as usize * height as usize]?;
+    scatter_samples(&mut samples, most);
+    Ok(Plane::new(width, height, samples))
+}
+
+fn scatter_samples(samples: &mut [u16], most: u16)
+    ensures { All (λ s. s ≤ most) samples.new }
+{
+    let mut next = 1u32;
+    for sample in samples.iter_mut() {
+        next = next.wrapping_mul(1_664_525).wrapping_add(1_013_904_223);
+        *sample = if next >> 31 == 0 { most } else { 0 };
+    }
+}
+
+// Whether both widths make the same of luma whose samples are as far apart as they may be, where 32 bits suffice.
+fn forward_agrees(alloc: Global, plan: &Plan) -> Result<bool, Fail>
+    requires symmetric { IsTrue (is_symmetric (parameters_of plan.now)) }
+    requires sides { (plan.now.shape.luma_width ≤ 64) × (plan.now.shape.luma_height ≤ 64) }
+{
+    let shape = plan.shape;
+    let plane = extreme_plane(alloc, shape.luma_width, shape.luma_height, shape.luma_depth)?;
+    if !forward_fits_narrow(plan, Component::Y) {
+        return Ok(false);
+    }
+    let (width, height) = padded(plan, Component::Y);
+    let (columns, rows) = (width as usize, height as usize);
+    let mut cells = vec![in alloc; 7i32; rows * columns]?;
+    let mut line = vec![in alloc; 7i32; columns]?;
+    forward_narrow(plan, Component::Y, &plane, &mut cells, &mut line);
+    let mut nested = vec![in alloc; 0i128; rows * columns]?;
+    nest(plan, &cells, &mut nested, columns, rows);
+    let wanted = forward(alloc, plan, Component::Y, &plane)?;
+    Ok(nested.as_slice() == wanted.cells())
+}
+
+#[test]
+fn forward_widths_agree_on_16_bits(rt: HostRuntime) -> Result<(), Fail> {
+    for wavelet in 0..5 {
+        let pair = (wavelet, wavelet);
+        let shape = deep(13, 6, 16);
+        assert!(rt;
+            forward_agrees(rt.alloc(), &plan(shape, pair, (1, 0)))?,
+            "{wavelet}"
+        );
+        assert!(rt;
+            forward_agrees(rt.alloc(), &plan(shape, pair, (2, 0)))?,
+            "{wavelet}"
+        );
+        assert!(rt;
+            forward_agrees(rt.alloc(), &plan(shape, pair, (3, 0)))?,
+            "{wavelet}"
+        );
+    }
+    Ok(())
+}
+
+// Four levels: the most bits that each wavelet may have, where there are such up to 16, one less and one more.
+#[test]
+fn forward_widths_agree_up_to_the_limit(rt: HostRuntime) -> Result<(), Fail> {
+    let levels = (4, 0);
+    assert!(rt; forward_agrees(rt.alloc(), &plan(deep(13, 6, 14), (0, 0), levels))?);
+    assert!(rt; forward_agrees(rt.alloc(), &plan(deep(13, 6, 15), (0, 0), levels))?);
+    assert!(rt; !forward_agrees(rt.alloc(), &plan(deep(13, 6, 16), (0, 0), levels))?);
+    assert!(rt; forward_agrees(rt.alloc(), &plan(deep(13, 6, 16), (1, 1), levels))?);
+    assert!(rt; forward_agrees(rt.alloc(), &plan(deep(13, 6, 12), (2, 2), levels))?);
+    assert!(rt; forward_agrees(rt.alloc(), &plan(deep(13, 6, 13), (2, 2), levels))?);
+    assert!(rt; !forward_agrees(rt.alloc(), &plan(deep(13, 6, 14), (2, 2), levels))?);
+    assert!(rt; forward_agrees(rt.alloc(), &plan(deep(13, 6, 16), (3, 3), levels))?);
+    assert!(rt; forward_agrees(rt.alloc(), &plan(deep(13, 6, 16), (4, 4), levels))?);
+    Ok(())
+}
+
+#[test]
+fn forward_widths_agree_up_to_the_limits_of_long_wavelets(rt: HostRuntime) -> Result<(), Fail> {
+    assert!(rt; forward_agrees(rt.alloc(), &plan(deep(13, 6, 12), (5, 5), (3, 0)))?);
+    assert!(rt; forward_agrees(rt.alloc(), &plan(deep(13, 6, 13), (5, 5), (3, 0)))?);
+    assert!(rt; !forward_agrees(rt.alloc(), &plan(deep(13, 6, 14), (5, 5), (3, 0)))?);
+    assert!(rt; forward_agrees(rt.alloc(), &plan(deep(13, 6, 9), (5, 5), (4, 0)))?);
+    assert!(rt; !forward_agrees(rt.alloc(), &plan(deep(13, 6, 10), (5, 5), (4, 0)))?);
+    assert!(rt; forward_agrees(rt.alloc(), &plan(deep(13, 6, 13), (6, 6), (1, 0)))?);
+    assert!(rt; !forward_agrees(rt.alloc(), &plan(deep(13, 6, 14), (6, 6), (1, 0)))?);
+    Ok(())
+}
+
+#[test]
+fn forward_widths_agree_on_each_size(rt: HostRuntime) -> Result<(), Fail> {
+    for wavelet in 0..5 {
+        let pair = (wavelet, wavelet);
+        assert!(rt; forward_agrees(rt.alloc(), &plan(deep(1, 1, 8), pair, (1, 0)))?);
+        assert!(rt; forward_agrees(rt.alloc(), &plan(deep(40, 1, 8), pair, (2, 0)))?);
+        assert!(rt; forward_agrees(rt.alloc(), &plan(deep(1, 9, 10), pair, (3, 0)))?);
+        assert!(rt; forward_agrees(rt.alloc(), &plan(deep(23, 7, 12), pair, (3, 0)))?);
     }
     Ok(())
 }
