@@ -1,3 +1,4 @@
+ghost use Rattle.std.specs.Prelude.{◌<◌};
 ghost use Rattle.vc_types.specs.Slices.{slice_length};
 
 use crate::same_job;
@@ -28,7 +29,9 @@ const PLAN: Plan = Plan {
 };
 
 // The job of a whole slice of the picture.
-fn job(number: u64, index: u32, slice: &'static [u8]) -> Result<SliceJob, NoMemory> {
+fn job(number: u64, index: u32, slice: &'static [u8]) -> Result<SliceJob, NoMemory>
+    requires { index < 2 }
+{
     let bytes = Bytes::from_static(slice);
     match cut(PLAN.prefix, PLAN.scaler, bytes.as_slice()) {
         Ok(len) if len == bytes.len() => Ok(SliceJob {
@@ -46,18 +49,18 @@ const EMPTY: &[u8] = &[0, 0, 0, 0];
 const COARSER: &[u8] = &[1, 0, 0, 0];
 
 #[test]
-fn jobs_are_the_same_by_their_values() -> Result<(), Fail> {
+fn jobs_are_the_same_by_their_values(rt: HostRuntime) -> Result<(), Fail> {
     let first = job(7, 1, EMPTY)?;
     let again = job(7, 1, EMPTY)?;
-    assert!(same_job(&first, &again));
+    assert!(rt; same_job(&first, &again));
     Ok(())
 }
 
 #[test]
-fn another_picture_index_or_slice_is_another_job() -> Result<(), Fail> {
+fn another_picture_index_or_slice_is_another_job(rt: HostRuntime) -> Result<(), Fail> {
     let first = job(7, 1, EMPTY)?;
-    assert!(!same_job(&first, &job(8, 1, EMPTY)?));
-    assert!(!same_job(&first, &job(7, 0, EMPTY)?));
-    assert!(!same_job(&first, &job(7, 1, COARSER)?));
+    assert!(rt; !same_job(&first, &job(8, 1, EMPTY)?));
+    assert!(rt; !same_job(&first, &job(7, 0, EMPTY)?));
+    assert!(rt; !same_job(&first, &job(7, 1, COARSER)?));
     Ok(())
 }
