@@ -14,6 +14,7 @@ mod page;
 mod ranges;
 mod sessions;
 mod told_hands;
+mod two_sessions;
 mod unpacking;
 mod wires;
 mod wrong_hands;
