@@ -81,3 +81,25 @@ fn the_first_session_alone_is_received(rt: HostRuntime) -> Result<(), Fail> {
     assert_eq!(rt; ran.report.bytes(), tally(alloc, &counts)?.as_slice());
     Ok(())
 }
+
+// The frame of what was heard is written, and the report says both.
+#[test]
+fn no_more_is_received_than_wanted(rt: HostRuntime) -> Result<(), Fail> {
+    let alloc = rt.alloc();
+    let counts = [
+        ("datagrams", "3"),
+        ("header-new", "1"),
+        ("params-kept", "1"),
+        ("slices-kept", "1"),
+        ("frames", "1"),
+    ];
+    let mut due = tally(alloc, &counts)?;
+    due.extend_from_slice(b"packet limit 3\n")?;
+    let line = "recv --at here --packets 3";
+    let mut wire = two_sessions(alloc)?;
+    let ran = run_on(&rt, alloc, line, Vec::new(alloc), &mut wire, &mut NoPlaces)?;
+    assert_eq!(rt; ran.status, 9);
+    assert_eq!(rt; ran.output.bytes(), grey(alloc, 96, &[])?.as_slice());
+    assert_eq!(rt; ran.report.bytes(), due.as_slice());
+    Ok(())
+}
