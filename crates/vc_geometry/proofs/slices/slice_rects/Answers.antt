@@ -7,21 +7,27 @@ use Rattle.vc_geometry.proofs.slices.slice_rects.Goals as goal
 
 pub loop-b-init : goal.loop-b-init
 loop-b-init c =
-    let p = parameters_of c.args.plan.now in
-    (part_more p c.args.c c.args.slice 0 c.args.rects.now c.band_in-band.result c.part-rect.result (omega (arith, c.requires.room, c.bands-b-end.ensures.count, c.bands-b-end.ensures.range))
-    c.band_in-band.ensures.value
-    (c.part-rect.ensures.value ∙ part_at _ c.args.plan.now.slices_x c.args.plan.now.slices_y _ _ _ _ c.place_of_slice-column.ensures.column c.place_of_slice-column.ensures.row)
-    (omega (arith, c.part-rect.ensures.right, c.band_in-band.ensures.right)) (omega (arith, c.part-rect.ensures.bottom, c.band_in-band.ensures.bottom)) (omega (arith, c.part-rect.ensures.right, c.band_in-band.ensures.range), omega (arith, c.part-rect.ensures.bottom, c.band_in-band.ensures.range))
-    (no_parts p c.args.c c.args.slice c.args.rects.now),
-    c.part-rect.ensures.value, c.part-rect.ensures.right, c.part-rect.ensures.bottom)
+    let p = parameters_of c.args.plan.now in (
+      part_more p c.args.c c.args.slice 0 c.args.rects.now c.band_in-band.result c.part-rect.result (omega (arith, c.requires.room, c.bands-b-end.ensures.count, c.bands-b-end.ensures.range))
+          c.band_in-band.ensures.value
+          (c.part-rect.ensures.value ∙ part_at _ c.args.plan.now.slices_x c.args.plan.now.slices_y _ _ _ _ c.place_of_slice-column.ensures.column c.place_of_slice-column.ensures.row)
+          (omega (arith, c.part-rect.ensures.right, c.band_in-band.ensures.right)) (omega (arith, c.part-rect.ensures.bottom, c.band_in-band.ensures.bottom)) (omega (arith, c.part-rect.ensures.right, c.band_in-band.ensures.range), omega (arith, c.part-rect.ensures.bottom, c.band_in-band.ensures.range))
+          (no_parts p c.args.c c.args.slice c.args.rects.now),
+      c.part-rect.ensures.value,
+      c.part-rect.ensures.right,
+      c.part-rect.ensures.bottom,
+    )
 
 pub loop-b-preserved : goal.loop-b-preserved
-loop-b-preserved c =
-    (part_more (parameters_of c.args.plan.now) c.args.c c.args.slice c.loop-b.b c.loop-b.rects c.band_in-next.result c.part_beside-rect.result (omega (arith, length-set c.args.rects.now 0 c.part-rect.result))
-    c.band_in-next.ensures.value
-    (c.part_beside-rect.ensures.value ∙ part_at _ c.args.plan.now.slices_x c.args.plan.now.slices_y _ _ _ _ c.place_of_slice-column.ensures.column c.place_of_slice-column.ensures.row)
-    (omega (arith, c.part_beside-rect.ensures.right, c.band_in-next.ensures.right)) (omega (arith, c.part_beside-rect.ensures.bottom, c.band_in-next.ensures.bottom)) (omega (arith, c.part_beside-rect.ensures.right, c.band_in-next.ensures.range), omega (arith, c.part_beside-rect.ensures.bottom, c.band_in-next.ensures.range)) c.loop-b.invariant.0,
-    c.part_beside-rect.ensures.value, c.part_beside-rect.ensures.right, c.part_beside-rect.ensures.bottom)
+loop-b-preserved c = (
+  part_more (parameters_of c.args.plan.now) c.args.c c.args.slice c.loop-b.b c.loop-b.rects c.band_in-next.result c.part_beside-rect.result (omega (arith, length-set c.args.rects.now 0 c.part-rect.result))
+      c.band_in-next.ensures.value
+      (c.part_beside-rect.ensures.value ∙ part_at _ c.args.plan.now.slices_x c.args.plan.now.slices_y _ _ _ _ c.place_of_slice-column.ensures.column c.place_of_slice-column.ensures.row)
+      (omega (arith, c.part_beside-rect.ensures.right, c.band_in-next.ensures.right)) (omega (arith, c.part_beside-rect.ensures.bottom, c.band_in-next.ensures.bottom)) (omega (arith, c.part_beside-rect.ensures.right, c.band_in-next.ensures.range), omega (arith, c.part_beside-rect.ensures.bottom, c.band_in-next.ensures.range)) c.loop-b.invariant.0,
+  c.part_beside-rect.ensures.value,
+  c.part_beside-rect.ensures.right,
+  c.part_beside-rect.ensures.bottom,
+)
 
 pub returns : goal.returns
 returns c =
