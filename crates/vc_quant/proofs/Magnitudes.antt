@@ -1,11 +1,11 @@
 -- Magnitudes under a sign, as the code computes them.
-use Rattle.std.proofs.Common.{◌≡◌, Bool, true, false, ℕ, ◌+◌, ◌*◌, ◌/◌, ◌^◌, ◌<◌, ◌≤◌, ℤ, pos, negsuc, neg_ℤ, unsigned_abs, ◌-ℤ◌, ◌≤ℤ◌, ◌<ℤ◌, arith, refl, to_z, of_z}
+use Rattle.std.proofs.Common.{◌≡◌, Bool, true, false, ℕ, ◌+◌, ◌*◌, ◌/◌, ◌^◌, ◌<◌, ◌≤◌, ℤ, pos, negsuc, neg_ℤ, unsigned_abs, ◌-ℤ◌, ◌≤ℤ◌, ◌<ℤ◌, arith, refl, sym, ap, ◌∙◌, to_z, of_z}
 use Rattle.std.specs.Prelude.{◌==◌, if◌then◌else◌}
 use Rattle.std.specs.Int.{w64, w128}
 use Rattle.std.proofs.lemmas.Int.{ints}
-use Rattle.std.proofs.Math.Nat.{mul-le-mul_right}
+use Rattle.std.proofs.Math.Nat.{mul-le-mul_right, div-eq_of_lt-le}
 use Rattle.vc_quant.specs.Narrow.{IsNarrow}
-use Rattle.vc_types.specs.Quantisation.{quant_factor, quant_offset, dequantised, dequantised_magnitude, with_sign_of}
+use Rattle.vc_types.specs.Quantisation.{quant_factor, quant_offset, dequantised, dequantised_magnitude, quantised, with_sign_of}
 
 pub signed : (m : ℤ) (q : ℕ) → with_sign_of m (dequantised_magnitude (unsigned_abs m) (quant_factor q) (quant_offset q)) ≡ dequantised m q
 unfolding dequantised
@@ -30,6 +30,17 @@ negated_64 z n m h small e = rw (← e, with_sign_of-negative z n h) (omega (ari
 
 pub kept_64 : (z : ℤ) (n m : ℕ) → pos 0 ≤ℤ z → n < 2 ^ 63 → n ≡ m → to_z w64 n ≡ with_sign_of z m
 kept_64 z n m h small e = rw (← e, with_sign_of-positive z n h) (omega (arith, ints))
+
+-- what is less than a step is quantised to 0
+zero_under_sign : (z : ℤ) (n : ℕ) → n ≡ 0 → pos 0 ≡ with_sign_of z n
+zero_under_sign (pos k) n none = rw none refl
+zero_under_sign (negsuc k) n none = rw none refl
+
+pub nothing : (z : ℤ) (quarters factor q : ℕ) → quarters < factor → quarters ≡ 4 * unsigned_abs z → factor ≡ quant_factor q → pos 0 ≡ quantised z q
+unfolding quantised
+nothing z quarters factor q small is is_factor =
+    let none : quarters / factor ≡ 0 = div-eq_of_lt-le {k = 0} factor (omega arith) (omega (arith, small)) in
+    zero_under_sign z (4 * unsigned_abs z / quant_factor q) (ap (λ (n : ℕ). n / quant_factor q) (sym is) ∙ ap (λ (n : ℕ). quarters / n) (sym is_factor) ∙ none)
 
 -- ---- narrow numbers
 

@@ -6,6 +6,7 @@ use Rattle.std.proofs.Math.Nat.{mul-le-mul_right, mul-le-mul_left, div-mul-le_se
 use Rattle.vc_types.specs.Quantisation.{quant_factor}
 use Rattle.vc_quant.specs.Reciprocal.{IsReciprocal}
 use Rattle.vc_quant.specs.declared.last.TheConstants.{FACTORS, RECIPROCALS}
+use Rattle.vc_quant.specs.declared.reciprocal.TheConstants.{FACTOR_RECIPROCALS}
 
 -- ---- a quotient
 
@@ -72,6 +73,15 @@ reciprocal_at k some few =
     let same : k - 1 + 1 ≡ k = omega arith in
     let both = and_parts _ _ (at (λ k. leb (get_or RECIPROCALS (k + 1) 0 * (2 ^ (k + 1) - 1)) (2 ^ 32) && leb (2 ^ 32) ((get_or RECIPROCALS (k + 1) 0 + 1) * (2 ^ (k + 1) - 1))) 60 (k - 1) all_reciprocals (omega arith)) in
     subst (λ (n : ℕ). IsReciprocal (2 ^ n - 1) (get_or RECIPROCALS n 0)) same (leb-true _ _ both.0, leb-true _ _ both.1)
+
+all_factor_reciprocals : holds_below (λ q. leb (get_or FACTOR_RECIPROCALS q 0 * quant_factor q) (2 ^ 32) && leb (2 ^ 32) ((get_or FACTOR_RECIPROCALS q 0 + 1) * quant_factor q)) 128 ≡ true
+unfolding quant_factor
+all_factor_reciprocals = refl
+
+pub factor_reciprocal_at : (q : ℕ) → q < 128 → IsReciprocal (quant_factor q) (get_or FACTOR_RECIPROCALS q 0)
+factor_reciprocal_at q small =
+    let both = and_parts _ _ (at (λ q. leb (get_or FACTOR_RECIPROCALS q 0 * quant_factor q) (2 ^ 32) && leb (2 ^ 32) ((get_or FACTOR_RECIPROCALS q 0 + 1) * quant_factor q)) 128 q all_factor_reciprocals small) in
+    (leb-true _ _ both.0, leb-true _ _ both.1)
 
 -- ---- factors rise with the index
 

@@ -6,6 +6,7 @@ mod laws;
 mod matrix;
 mod quantiser;
 mod quotient;
+mod reciprocal;
 
 pub use last::last_index_with;
 pub use laws::{dequantising_never_shrinks, quantisation_is_near};

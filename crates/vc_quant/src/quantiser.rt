@@ -5,6 +5,7 @@ ghost use Rattle.vc_quant.specs.Narrow.{IsNarrow};
 ghost use Rattle.vc_quant.specs.Reciprocal.{IsReciprocal};
 
 use crate::quotient::quotient;
+use crate::reciprocal::factor_reciprocal;
 
 /// The quantisation factor of an index from 0 to 127, in quarters (ST 2042-1, quantisation factor).
 #[tactic(auto, unfolding(vc_types::specs::Quantisation::quant_factor))]
@@ -56,12 +57,11 @@ impl Quantiser {
         requires { index ≤ 127 }
         ensures { result.index ≡ index }
     {
-        let factor = factor(index);
         Quantiser {
             index,
-            factor,
+            factor: factor(index),
             offset: offset(index),
-            reciprocal: u64::from(u32::MAX) / factor,
+            reciprocal: factor_reciprocal(index),
         }
     }
 
@@ -85,7 +85,12 @@ impl Quantiser {
         ensures value { result ≡ quantised c self.now.index }
         ensures not_larger { unsigned_abs result ≤ unsigned_abs c }
     {
-        let value = quotient(4 * c.unsigned_abs(), self.factor, self.reciprocal) as i64;
+        let quarters = 4 * c.unsigned_abs();
+        // Most coefficients are quantised to 0.
+        if quarters < self.factor {
+            return 0;
+        }
+        let value = quotient(quarters, self.factor, self.reciprocal) as i64;
         if c < 0 { -value } else { value }
     }
 
