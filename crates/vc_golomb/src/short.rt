@@ -1,4 +1,4 @@
-ghost use Rattle.std.specs.Prelude.{◌≡◌, ◌<◌, ◌≤◌, ◌^◌, unsigned_abs};
+ghost use Rattle.std.specs.Prelude.{◌≡◌, ◌<◌, ◌≤◌, ◌^◌, ◌++◌, true, replicate, unsigned_abs};
 ghost use Rattle.std.specs.Int.{is_negative};
 ghost use Rattle.vc_types.specs.Codes.{sint_bits};
 ghost use Rattle.vc_bits.specs.Bits.{word_bits};
@@ -24,6 +24,23 @@ pub(crate) fn short_code(v: i64) -> ShortCode
     ShortCode {
         bits: u64::from(CODES[magnitude]) + u64::from(v.is_negative()),
         count: u32::from(LENGTHS[magnitude]),
+    }
+}
+
+/// A code behind so many ones.
+#[inline(always)]
+pub(crate) fn behind_ones(ones: u32, code: ShortCode) -> ShortCode
+    requires ones { ones ≤ 16 }
+    requires count { code.count ≤ 16 }
+    requires range { code.bits < 2 ^ code.count }
+    ensures value { word_bits result.count result.bits
+        ≡ replicate ones true ++ word_bits code.count code.bits }
+    ensures count { result.count ≤ 32 }
+    ensures range { result.bits < 2 ^ result.count }
+{
+    ShortCode {
+        bits: (((1 << ones) - 1) << code.count) + code.bits,
+        count: ones + code.count,
     }
 }
 

@@ -1,8 +1,8 @@
-ghost use Rattle.std.specs.Prelude.{◌≡◌, ◌<◌, ◌^◌, ◌++◌, unsigned_abs, OnOk, OnErr};
+ghost use Rattle.std.specs.Prelude.{◌≡◌, ◌<◌, ◌≤◌, ◌^◌, ◌++◌, true, replicate, unsigned_abs, OnOk, OnErr};
 ghost use Rattle.vc_types.specs.Codes.{uint_bits, sint_bits};
 ghost use Rattle.vc_golomb.specs.Writing.{WroteFront};
 
-use crate::short::{SHORT, short_code};
+use crate::short::{SHORT, behind_ones, short_code};
 use vc_bits::BitWriter;
 use vc_types::NoMemory;
 
@@ -34,6 +34,31 @@ pub fn write_sint(w: &mut BitWriter, v: i64) -> Result<(), NoMemory>
     } else {
         write_long(w, v)
     }
+}
+
+/// Adds so many codes of 0, and the code of a number behind them.
+#[inline]
+pub fn write_behind_zeros(w: &mut BitWriter, zeros: u64, v: i64) -> Result<(), NoMemory>
+    requires { unsigned_abs v < 2 ^ 62 }
+    ensures { OnOk result (w.new ≡ w.old ++ replicate zeros true ++ sint_bits v) }
+{
+    if zeros <= 16 && v.unsigned_abs() < SHORT {
+        write_run(w, zeros as u32, v)
+    } else {
+        w.repeat(true, zeros)?;
+        write_sint(w, v)
+    }
+}
+
+// The same of few zeros and a small number, at once.
+#[inline(always)]
+fn write_run(w: &mut BitWriter, zeros: u32, v: i64) -> Result<(), NoMemory>
+    requires zeros { zeros ≤ 16 }
+    requires number { unsigned_abs v < 255 }
+    ensures { OnOk result (w.new ≡ w.old ++ replicate zeros true ++ sint_bits v) }
+{
+    let run = behind_ones(zeros, short_code(v));
+    w.bits(run.bits, run.count)
 }
 
 #[inline(always)]
