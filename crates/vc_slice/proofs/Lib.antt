@@ -2,8 +2,10 @@ pub mod BlockBits
 pub mod BlockCodes
 pub mod BlockCoefficients
 pub mod CodeLengths
+pub mod ColourRects
 pub mod Dequantising
 pub mod EncodedSlices
+pub mod PaddedBlocks
 pub mod FallSums
 pub mod SameJobs
 pub mod NarrowRuns

@@ -1,6 +1,8 @@
 ghost use Rattle.std.specs.Prelude.{◌≡◌, ◌++◌, ◌∷◌, ◌+◌, ◌*◌, ◌^◌, ◌<◌, ◌≤◌, ℤ, List, unsigned_abs, length, false};
 ghost use Rattle.std.specs.List.{list_any};
+ghost use Rattle.vc_geometry.specs.Rectangles.{AreSliceRectangles};
 ghost use Rattle.vc_types.specs.Codes.{sint_bits};
+ghost use Rattle.vc_types.specs.Quantisation.{subband_count};
 ghost use Rattle.vc_types.specs.Slices.{is_large};
 ghost use Rattle.vc_types.specs.Subbands.{slice_count};
 ghost use Rattle.vc_types.specs.TransformParameters.{parameters_of};
@@ -9,10 +11,11 @@ ghost use Rattle.vc_types.specs.SliceCoefficients.{AreSliceCoefficients};
 ghost use Rattle.vc_slice.specs.Inside.{subband_numbers, codes_behind};
 
 use crate::coeffs::SliceCoeffs;
-use crate::component::{count, quantiser};
+use crate::component::quantiser;
+use crate::rects::area;
 use vc_geometry::bands;
 use vc_quant::Quantiser;
-use vc_types::{Component, Plan};
+use vc_types::{Component, Plan, Rect};
 
 // The codes of a block's numbers, counted: the bits up to the last number that isn't 0, and the zeros behind it.
 #[derive(Clone, Copy)]
@@ -56,10 +59,13 @@ pub(crate) fn block_len(
     slice: u32,
     coeffs: &SliceCoeffs,
     index: u8,
+    rects: &[Rect],
 ) -> u64
     requires slice { slice < slice_count (parameters_of plan.now) }
     requires coefficients { AreSliceCoefficients (parameters_of plan.now) slice coeffs.now }
     requires index { index ≤ 127 }
+    requires rects { AreSliceRectangles (parameters_of plan.now) c slice rects.now }
+    requires all { subband_count plan.now.depth_ho plan.now.depth ≤ length rects.now }
     ensures value { result
         ≡ length (component_bits (parameters_of plan.now) slice index coeffs.now c) }
     ensures range { result < 2 ^ 40 }
@@ -67,7 +73,7 @@ pub(crate) fn block_len(
     let mut counted = Counted { bits: 0, zeros: 0 };
     let mut rest = coeffs.component(c);
     for b in 0..bands(plan) {
-        let (subband, behind) = rest.split_at(count(plan, c, b, slice) as usize);
+        let (subband, behind) = rest.split_at(area(plan, c, slice, rects, b) as usize);
         count_subband(&mut counted, subband, &quantiser(plan, b, index));
         rest = behind;
     }

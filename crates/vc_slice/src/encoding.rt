@@ -8,12 +8,12 @@ ghost use Rattle.vc_types.specs.SliceCoefficients.{AreSliceCoefficients};
 ghost use Rattle.vc_slice.specs.Refusals.{IsRefusal};
 ghost use Rattle.vc_types.specs.Encoding.{block_units, component_bits, encoded_length, encoded_slice, is_too_long};
 
+use crate::blocks::{are_too_long, blocks_of, joined};
 use crate::coeffs::SliceCoeffs;
 use crate::counting::block_len;
 use crate::falls::all_lens;
-use crate::writing::{units, write_block};
+use crate::rects::rects_of;
 use std::alloc::Global;
-use vc_bits::BitWriter;
 use vc_types::{Component, NoMemory, Plan};
 
 /// Why a slice isn't encoded.
@@ -49,9 +49,11 @@ pub fn encoded_lens(
         ≡ map (λ q. encoded_length (parameters_of plan.now) index q coeffs.now)
         (range_with_len 0 128)) }
 {
-    let y = all_lens(plan, Component::Y, index, coeffs);
-    let c1 = all_lens(plan, Component::C1, index, coeffs);
-    let c2 = all_lens(plan, Component::C2, index, coeffs);
+    let luma = rects_of(plan, Component::Y, index);
+    let colour = rects_of(plan, Component::C1, index);
+    let y = all_lens(plan, Component::Y, index, coeffs, &luma);
+    let c1 = all_lens(plan, Component::C1, index, coeffs, &colour);
+    let c2 = all_lens(plan, Component::C2, index, coeffs, &colour);
     let mut lens = Vec::with_capacity(alloc, 128)?;
     for q in 0..128usize {
         let of_blocks = BlockLens {
@@ -84,13 +86,15 @@ pub fn encode(
     ensures fits { OnOk result (is_too_long (parameters_of plan.now) index q coeffs.now ≡ false) }
     ensures too_long { IfErr result (λ e. IsRefusal (parameters_of plan.now) index q coeffs.now e) }
 {
-    let lens = block_lens(plan, index, coeffs, q);
-    if is_too_long(plan, lens) {
+    let Ok(blocks) = blocks_of(alloc, plan, index, coeffs, q) else {
+        return Err(EncodeRefusal::NoMemory);
+    };
+    if are_too_long(plan, &blocks) {
         return Err(EncodeRefusal::TooLong {
-            bytes: slice_len(plan, lens),
+            bytes: encoded_len(plan, index, coeffs, q),
         });
     }
-    match written(alloc, plan, index, coeffs, q, lens) {
+    match joined(alloc, plan, q, &blocks) {
         Ok(bytes) => Ok(bytes),
         Err(_) => Err(EncodeRefusal::NoMemory),
     }
@@ -115,10 +119,12 @@ fn block_lens(plan: &Plan, index: u32, coeffs: &SliceCoeffs, q: u8) -> BlockLens
         ≡ length (component_bits (parameters_of plan.now) index q coeffs.now C2) }
     ensures range { (result.y < 2 ^ 40) × (result.c1 < 2 ^ 40) × (result.c2 < 2 ^ 40) }
 {
+    let luma = rects_of(plan, Component::Y, index);
+    let colour = rects_of(plan, Component::C1, index);
     BlockLens {
-        y: block_len(plan, Component::Y, index, coeffs, q),
-        c1: block_len(plan, Component::C1, index, coeffs, q),
-        c2: block_len(plan, Component::C2, index, coeffs, q),
+        y: block_len(plan, Component::Y, index, coeffs, q, &luma),
+        c1: block_len(plan, Component::C1, index, coeffs, q, &colour),
+        c2: block_len(plan, Component::C2, index, coeffs, q, &colour),
     }
 }
 
@@ -132,78 +138,13 @@ fn slice_len(plan: &Plan, lens: BlockLens) -> u64
     u64::from(plan.prefix) + 4 + u64::from(plan.scaler) * units
 }
 
-fn is_too_long(plan: &Plan, lens: BlockLens) -> bool
-    requires { (lens.y < 2 ^ 40) × (lens.c1 < 2 ^ 40) × (lens.c2 < 2 ^ 40) }
-    ensures { result
-        ≡ (nat_lt 255 (block_units plan.now.scaler lens.y)
-        || nat_lt 255 (block_units plan.now.scaler lens.c1)
-        || nat_lt 255 (block_units plan.now.scaler lens.c2)) }
+// The length of a block whose codes have so many bits, in units of the plan's slice size scaler.
+fn units(plan: &Plan, bits: u64) -> u64
+    requires range { bits < 2 ^ 40 }
+    ensures value { result ≡ block_units plan.now.scaler bits }
+    ensures range { result * plan.now.scaler < 2 ^ 40 }
 {
-    units(plan, lens.y) > 255 || units(plan, lens.c1) > 255 || units(plan, lens.c2) > 255
-}
-
-// The bytes of a slice.
-fn written(
-    alloc: Global,
-    plan: &Plan,
-    index: u32,
-    coeffs: &SliceCoeffs,
-    q: u8,
-    lens: BlockLens,
-) -> Result<Vec<u8>, NoMemory>
-    requires slice { index < slice_count (parameters_of plan.now) }
-    requires coefficients { AreSliceCoefficients (parameters_of plan.now) index coeffs.now }
-    requires index { q ≤ 127 }
-    requires y { lens.y ≡ length (component_bits (parameters_of plan.now) index q coeffs.now Y) }
-    requires c1 { lens.c1 ≡ length (component_bits (parameters_of plan.now) index q coeffs.now C1) }
-    requires c2 { lens.c2 ≡ length (component_bits (parameters_of plan.now) index q coeffs.now C2) }
-    requires range { (lens.y < 2 ^ 40) × (lens.c1 < 2 ^ 40) × (lens.c2 < 2 ^ 40) }
-    requires fits { (block_units plan.now.scaler lens.y ≤ 255)
-        × (block_units plan.now.scaler lens.c1 ≤ 255)
-        × (block_units plan.now.scaler lens.c2 ≤ 255) }
-    ensures value { IfOk result
-        (λ bytes. bits_of bytes.items ≡ encoded_slice (parameters_of plan.now) index q coeffs.now) }
-    ensures len { IfOk result
-        (λ bytes. length bytes.items ≡ encoded_length (parameters_of plan.now) index q coeffs.now) }
-{
-    let mut w = BitWriter::with_room(alloc, slice_len(plan, lens) as usize)?;
-    write_slice(&mut w, plan, index, coeffs, q, lens)?;
-    Ok(w.finish())
-}
-
-fn write_slice(
-    w: &mut BitWriter,
-    plan: &Plan,
-    index: u32,
-    coeffs: &SliceCoeffs,
-    q: u8,
-    lens: BlockLens,
-) -> Result<(), NoMemory>
-    requires slice { index < slice_count (parameters_of plan.now) }
-    requires coefficients { AreSliceCoefficients (parameters_of plan.now) index coeffs.now }
-    requires index { q ≤ 127 }
-    requires y { lens.y ≡ length (component_bits (parameters_of plan.now) index q coeffs.now Y) }
-    requires c1 { lens.c1 ≡ length (component_bits (parameters_of plan.now) index q coeffs.now C1) }
-    requires c2 { lens.c2 ≡ length (component_bits (parameters_of plan.now) index q coeffs.now C2) }
-    requires range { (lens.y < 2 ^ 40) × (lens.c1 < 2 ^ 40) × (lens.c2 < 2 ^ 40) }
-    requires fits { (block_units plan.now.scaler lens.y ≤ 255)
-        × (block_units plan.now.scaler lens.c1 ≤ 255)
-        × (block_units plan.now.scaler lens.c2 ≤ 255) }
-    ensures { OnOk result (w.new
-        ≡ w.old ++ encoded_slice (parameters_of plan.now) index q coeffs.now) }
-{
-    write_head(w, plan, q)?;
-    write_block(w, plan, Component::Y, index, coeffs, q, lens.y)?;
-    write_block(w, plan, Component::C1, index, coeffs, q, lens.c1)?;
-    write_block(w, plan, Component::C2, index, coeffs, q, lens.c2)
-}
-
-// Adds the prefix bytes, which are 0, and the quantisation index.
-fn write_head(w: &mut BitWriter, plan: &Plan, q: u8) -> Result<(), NoMemory>
-    ensures { OnOk result (w.new ≡ w.old ++ bits_of (replicate plan.now.prefix 0 ++ q ∷ [])) }
-{
-    for _i in 0..plan.prefix {
-        w.byte(0)?;
-    }
-    w.byte(q)
+    let bytes = (bits + 7) / 8;
+    let scaler = u64::from(plan.scaler);
+    (bytes + scaler - 1) / scaler
 }

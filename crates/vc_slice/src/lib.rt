@@ -1,6 +1,7 @@
 //! High-quality slices: their bytes, their coefficients, and slices as jobs for workers.
 #![tactic(auto)]
 
+mod blocks;
 mod coded;
 mod coeffs;
 mod component;
@@ -14,6 +15,7 @@ mod laws;
 mod narrow;
 mod no_places;
 mod places;
+mod rects;
 mod subband;
 mod writing;
 

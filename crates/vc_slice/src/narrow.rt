@@ -4,21 +4,15 @@ ghost use Rattle.vc_types.specs.Lifting.{line_of};
 ghost use Rattle.vc_types.specs.Quantisation.{dequantised, subband_count};
 ghost use Rattle.vc_types.specs.Slices.{block_coefficients, is_large, quantisers};
 ghost use Rattle.vc_geometry.specs.Rectangles.{AreSliceRectangles};
-ghost use Rattle.vc_types.specs.Subbands.{area, slice_count, slice_coefficient_count, slice_rectangle, subband_at};
+ghost use Rattle.vc_types.specs.Subbands.{slice_count, slice_coefficient_count};
 ghost use Rattle.vc_types.specs.TransformParameters.{parameters_of};
 
 use crate::component::{bits_of, quantiser};
-use vc_geometry::{bands, slice_rects};
+use crate::rects::{area, rects_of};
+use vc_geometry::bands;
 use vc_golomb::read_sints;
 use vc_quant::Quantiser;
 use vc_types::{Component, Plan, Rect};
-
-const NOWHERE: Rect = Rect {
-    x: 0,
-    y: 0,
-    width: 0,
-    height: 0,
-};
 
 /// A coefficient may be too wide for 32 bits.
 #[derive(Clone, Copy, Debug, PartialEq, Eq)]
@@ -44,8 +38,7 @@ pub fn read_narrow(
     ensures sound { OnOk result (list_any is_large
         (block_coefficients (parameters_of plan.now) c slice index block.now) ≡ false) }
 {
-    let mut rects = [NOWHERE; 16];
-    slice_rects(plan, c, slice, &mut rects);
+    let rects = rects_of(plan, c, slice);
     read_narrow_in(plan, c, slice, index, block, &rects, out)
 }
 
@@ -96,20 +89,6 @@ fn count_in(plan: &Plan, c: Component, slice: u32, rects: &[Rect]) -> u32
         count += area(plan, c, slice, rects, b);
     }
     count
-}
-
-// How many coefficients of a slice a subband has.
-#[inline(always)]
-fn area(plan: &Plan, c: Component, slice: u32, rects: &[Rect], b: u32) -> u32
-    requires number { b < subband_count plan.now.depth_ho plan.now.depth }
-    requires rects { AreSliceRectangles (parameters_of plan.now) c slice rects.now }
-    requires all { subband_count plan.now.depth_ho plan.now.depth ≤ length rects.now }
-    ensures value { result ≡ area (slice_rectangle (parameters_of plan.now) c
-        (subband_at plan.now.depth_ho plan.now.depth b) slice) }
-    ensures range { result ≤ 2 ^ 26 }
-{
-    let rect = &rects[b as usize];
-    rect.width * rect.height
 }
 
 fn greatest(numbers: &[i32]) -> u32

@@ -1,57 +1,48 @@
-ghost use Rattle.std.specs.Prelude.{◌≡◌, ◌++◌, ◌∷◌, ◌+◌, ◌-◌, ◌*◌, ◌^◌, ◌<◌, ◌≤◌, ℤ, List, unsigned_abs, length, replicate, true, false, OnOk, IfOk};
+ghost use Rattle.std.specs.Prelude.{◌≡◌, ◌++◌, ◌∷◌, ◌+◌, ◌*◌, ◌^◌, ◌<◌, ◌≤◌, ℤ, List, unsigned_abs, length, false, OnOk, IfOk};
 ghost use Rattle.std.specs.List.{list_any};
-ghost use Rattle.vc_types.specs.Bits.{byte_bits};
+ghost use Rattle.vc_geometry.specs.Rectangles.{AreSliceRectangles};
+ghost use Rattle.vc_types.specs.Bits.{bits_of};
+ghost use Rattle.vc_types.specs.Encoding.{component_bits};
+ghost use Rattle.vc_types.specs.Quantisation.{subband_count};
+ghost use Rattle.vc_types.specs.SliceCoefficients.{AreSliceCoefficients};
 ghost use Rattle.vc_types.specs.Slices.{is_large};
 ghost use Rattle.vc_types.specs.Subbands.{slice_count};
 ghost use Rattle.vc_types.specs.TransformParameters.{parameters_of};
-ghost use Rattle.vc_types.specs.Encoding.{block_units, component_bits, component_units, encoded_block};
-ghost use Rattle.vc_types.specs.SliceCoefficients.{AreSliceCoefficients};
-ghost use Rattle.vc_slice.specs.Inside.{subband_numbers, codes_behind};
+ghost use Rattle.vc_slice.specs.Inside.{codes_behind, subband_numbers, up_to_bytes};
 
 use crate::coeffs::SliceCoeffs;
-use crate::component::{count, quantiser};
+use crate::component::quantiser;
+use crate::rects::area;
+use std::alloc::Global;
 use vc_bits::BitWriter;
 use vc_geometry::bands;
-use vc_golomb::write_sint;
+use vc_golomb::write_behind_zeros;
 use vc_quant::Quantiser;
-use vc_types::{Component, NoMemory, Plan};
+use vc_types::{Component, NoMemory, Plan, Rect};
 
-// The length of a block whose codes have so many bits, in units of the plan's slice size scaler.
-pub(crate) fn units(plan: &Plan, bits: u64) -> u64
-    requires range { bits < 2 ^ 40 }
-    ensures value { result ≡ block_units plan.now.scaler bits }
-    ensures enough { bits ≤ 8 * (result * plan.now.scaler) }
-    ensures range { result * plan.now.scaler < 2 ^ 40 }
-{
-    let bytes = (bits + 7) / 8;
-    let scaler = u64::from(plan.scaler);
-    (bytes + scaler - 1) / scaler
-}
-
-// Adds a component's block behind its length: the codes, which have so many bits, and ones up to the end.
-pub(crate) fn write_block(
-    w: &mut BitWriter,
+/// The codes of a component's numbers, up to the last that isn't 0, and ones up to whole bytes.
+pub(crate) fn codes_of(
+    alloc: Global,
     plan: &Plan,
     c: Component,
     slice: u32,
     coeffs: &SliceCoeffs,
     index: u8,
-    bits: u64,
-) -> Result<(), NoMemory>
+    rects: &[Rect],
+) -> Result<Vec<u8>, NoMemory>
     requires slice { slice < slice_count (parameters_of plan.now) }
     requires coefficients { AreSliceCoefficients (parameters_of plan.now) slice coeffs.now }
     requires index { index ≤ 127 }
-    requires bits { bits
-        ≡ length (component_bits (parameters_of plan.now) slice index coeffs.now c) }
-    requires range { bits < 2 ^ 40 }
-    requires fits { component_units (parameters_of plan.now) slice index coeffs.now c ≤ 255 }
-    ensures { OnOk result (w.new ≡ w.old ++ encoded_block plan.now.scaler
-        (component_bits (parameters_of plan.now) slice index coeffs.now c)) }
+    requires rects { AreSliceRectangles (parameters_of plan.now) c slice rects.now }
+    requires all { subband_count plan.now.depth_ho plan.now.depth ≤ length rects.now }
+    ensures { IfOk result (λ bytes. bits_of bytes.items
+        ≡ up_to_bytes (component_bits (parameters_of plan.now) slice index coeffs.now c)) }
 {
-    let units = units(plan, bits);
-    w.byte(units as u8)?;
-    write_codes(w, plan, c, slice, coeffs, index)?;
-    w.repeat(true, 8 * (units * u64::from(plan.scaler)) - bits)
+    // Most codes have fewer bits than a byte.
+    let mut w = BitWriter::with_room(alloc, coeffs.component(c).len())?;
+    write_codes(&mut w, plan, c, slice, coeffs, index, rects)?;
+    w.align(true)?;
+    Ok(w.finish())
 }
 
 // Adds the codes of a component's numbers, up to the last that isn't 0.
@@ -62,17 +53,20 @@ fn write_codes(
     slice: u32,
     coeffs: &SliceCoeffs,
     index: u8,
+    rects: &[Rect],
 ) -> Result<(), NoMemory>
     requires slice { slice < slice_count (parameters_of plan.now) }
     requires coefficients { AreSliceCoefficients (parameters_of plan.now) slice coeffs.now }
     requires index { index ≤ 127 }
+    requires rects { AreSliceRectangles (parameters_of plan.now) c slice rects.now }
+    requires all { subband_count plan.now.depth_ho plan.now.depth ≤ length rects.now }
     ensures { OnOk result (w.new
         ≡ w.old ++ component_bits (parameters_of plan.now) slice index coeffs.now c) }
 {
     let mut zeros = 0;
     let mut rest = coeffs.component(c);
     for b in 0..bands(plan) {
-        let (subband, behind) = rest.split_at(count(plan, c, b, slice) as usize);
+        let (subband, behind) = rest.split_at(area(plan, c, slice, rects, b) as usize);
         zeros = write_subband(w, zeros, subband, &quantiser(plan, b, index))?;
         rest = behind;
     }
@@ -103,6 +97,7 @@ fn write_subband(
     Ok(zeros)
 }
 
+#[inline(always)]
 fn write_number(w: &mut BitWriter, zeros: u64, number: i64) -> Result<u64, NoMemory>
     requires size { unsigned_abs number < 2 ^ 60 }
     requires room { zeros < 2 ^ 61 }
@@ -114,7 +109,6 @@ fn write_number(w: &mut BitWriter, zeros: u64, number: i64) -> Result<u64, NoMem
     if number == 0 {
         return Ok(zeros + 1);
     }
-    w.repeat(true, zeros)?;
-    write_sint(w, number)?;
+    write_behind_zeros(w, zeros, number)?;
     Ok(0)
 }

@@ -1,16 +1,30 @@
 use Rattle.std.proofs.Common.{◌∙◌, sym}
 use Rattle.vc_types.specs.TransformParameters.{parameters_of}
-use Rattle.vc_slice.proofs.EncodedSlices.{length_by, too_long_by}
+use Rattle.vc_slice.proofs.EncodedSlices.{some_scaler}
+use Rattle.vc_slice.proofs.PaddedBlocks.{each_fits, length_up_slice, slice_up, too_long_up}
 use Rattle.vc_slice.proofs.encoding.encode.Goals as goal
 
-pub returns-then-is_too_long-clause-too_long : goal.returns-then-is_too_long-clause-too_long
-returns-then-is_too_long-clause-too_long c =
-    let lens = c.block_lens-lens in (
-      sym (too_long_by (parameters_of c.args.plan.now) c.args.index c.args.q c.args.coeffs.now lens.result.y lens.result.c1 lens.result.c2 lens.ensures.y lens.ensures.c1 lens.ensures.c2) ∙ sym c.is_too_long.ensures ∙ c.if-is_too_long.true,
-      c.slice_len.ensures ∙ length_by (parameters_of c.args.plan.now) c.args.index c.args.q c.args.coeffs.now lens.result.y lens.result.c1 lens.result.c2 lens.ensures.y lens.ensures.c1 lens.ensures.c2,
+pub returns-then-are_too_long-clause-too_long : goal.returns-then-are_too_long-clause-too_long
+returns-then-are_too_long-clause-too_long c =
+    let b = c.in-Ok.blocks in (
+      sym (too_long_up (parameters_of c.args.plan.now) c.args.index c.args.q c.args.coeffs.now b.y.items b.c1.items b.c2.items c.in-Ok.ensures.y c.in-Ok.ensures.c1 c.in-Ok.ensures.c2) ∙ sym c.are_too_long.ensures ∙ c.if-are_too_long.true,
+      c.encoded_len.ensures,
     )
 
-pub returns-in-Ok-clause-fits : goal.returns-in-Ok-clause-fits
-returns-in-Ok-clause-fits c =
-    let lens = c.block_lens-lens in
-    sym (too_long_by (parameters_of c.args.plan.now) c.args.index c.args.q c.args.coeffs.now lens.result.y lens.result.c1 lens.result.c2 lens.ensures.y lens.ensures.c1 lens.ensures.c2) ∙ sym c.is_too_long.ensures ∙ c.if-is_too_long.false
+pub returns-in-Ok-joined-clause-value : goal.returns-in-Ok-joined-clause-value
+returns-in-Ok-joined-clause-value c =
+    let b = c.in-Ok.blocks in
+    slice_up (parameters_of c.args.plan.now) c.args.index c.args.q c.args.coeffs.now b.y.items b.c1.items b.c2.items c.in-Ok.ensures.y c.in-Ok.ensures.c1 c.in-Ok.ensures.c2
+    (some_scaler c.args.plan.now.prefix c.args.plan.now.scaler c.args.plan.now.slice_bytes) c.in-Ok-joined.bytes.items c.in-Ok-joined.ensures
+
+pub returns-in-Ok-joined-clause-len : goal.returns-in-Ok-joined-clause-len
+returns-in-Ok-joined-clause-len c =
+    let b = c.in-Ok.blocks in
+    let some = some_scaler c.args.plan.now.prefix c.args.plan.now.scaler c.args.plan.now.slice_bytes in
+    length_up_slice (parameters_of c.args.plan.now) c.args.index c.args.q c.args.coeffs.now b.y.items b.c1.items b.c2.items c.in-Ok.ensures.y c.in-Ok.ensures.c1 c.in-Ok.ensures.c2 some c.in-Ok-joined.bytes.items
+    (slice_up (parameters_of c.args.plan.now) c.args.index c.args.q c.args.coeffs.now b.y.items b.c1.items b.c2.items c.in-Ok.ensures.y c.in-Ok.ensures.c1 c.in-Ok.ensures.c2 some c.in-Ok-joined.bytes.items c.in-Ok-joined.ensures)
+
+pub returns-in-Ok-joined-clause-fits : goal.returns-in-Ok-joined-clause-fits
+returns-in-Ok-joined-clause-fits c =
+    let b = c.in-Ok.blocks in
+    sym (too_long_up (parameters_of c.args.plan.now) c.args.index c.args.q c.args.coeffs.now b.y.items b.c1.items b.c2.items c.in-Ok.ensures.y c.in-Ok.ensures.c1 c.in-Ok.ensures.c2) ∙ sym c.are_too_long.ensures ∙ c.if-are_too_long.false

@@ -19,10 +19,10 @@ loop-b-init c =
     }
 
 pub split_at-requires : goal.split_at-requires
-split_at-requires c = enough (parameters_of c.args.plan.now) c.args.slice 0 c.args.c c.loop-b.b c.count.result c.loop-b.rest.now (omega arith) c.count.ensures.value (c.loop-b.invariant.rest 0)
+split_at-requires c = enough (parameters_of c.args.plan.now) c.args.slice 0 c.args.c c.loop-b.b c.area.result c.loop-b.rest.now (omega arith) c.area.ensures.value (c.loop-b.invariant.rest 0)
 
 pub add_subband-requires-clause-small : goal.add_subband-requires-clause-small
-add_subband-requires-clause-small c = rw c.split_at.ensures.front (none_large-parts c.count.result c.loop-b.rest.now (c.loop-b.invariant.rest 0).small).0
+add_subband-requires-clause-small c = rw c.split_at.ensures.front (none_large-parts c.area.result c.loop-b.rest.now (c.loop-b.invariant.rest 0).small).0
 
 pub loop-b-preserved : goal.loop-b-preserved
 loop-b-preserved c =
@@ -30,12 +30,12 @@ loop-b-preserved c =
     let before = c.loop-b.falls in
     let few : c.loop-b.b < subband_count c.args.plan.now.depth_ho c.args.plan.now.depth = omega arith in
     record {
-      rest = λ q. rest_from p c.args.slice q c.args.c c.loop-b.b c.count.result c.loop-b.rest.now c.split_at.result.1.now few c.count.ensures.value c.split_at.ensures.back (c.loop-b.invariant.rest q);
-      count = omega (arith, c.add_subband.ensures.count, c.split_at.ensures.front_len, c.count.ensures.range, c.loop-b.invariant.count);
+      rest = λ q. rest_from p c.args.slice q c.args.c c.loop-b.b c.area.result c.loop-b.rest.now c.split_at.result.1.now few c.area.ensures.value c.split_at.ensures.back (c.loop-b.invariant.rest q);
+      count = omega (arith, c.add_subband.ensures.count, c.split_at.ensures.front_len, c.area.ensures.range, c.loop-b.invariant.count);
       room = c.add_subband.ensures.room;
       places = c.add_subband.ensures.places;
       bits = λ q within.
-          let next = subband_from p c.args.slice q c.args.c c.loop-b.b c.count.result (q - slice_index_or c.args.plan.now.matrix c.loop-b.b 0) c.loop-b.rest.now c.split_at.result.0.now c.split_at.result.1.now few c.count.ensures.value refl c.split_at.ensures.front c.split_at.ensures.back (c.loop-b.invariant.rest q) in
+          let next = subband_from p c.args.slice q c.args.c c.loop-b.b c.area.result (q - slice_index_or c.args.plan.now.matrix c.loop-b.b 0) c.loop-b.rest.now c.split_at.result.0.now c.split_at.result.1.now few c.area.ensures.value refl c.split_at.ensures.front c.split_at.ensures.back (c.loop-b.invariant.rest q) in
           c.add_subband.ensures.bits q within (numbers_from p c.args.slice q c.args.c (c.loop-b.b + 1) c.split_at.result.1.now)
           ∙ ap (block_from q before.count before.bits before.kept) (sym next)
           ∙ c.loop-b.invariant.bits q within;

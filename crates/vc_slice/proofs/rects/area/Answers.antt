@@ -2,7 +2,7 @@ use Rattle.std.proofs.Common.{arith}
 use Rattle.std.specs.Prelude.{slice_index_or}
 use Rattle.std.proofs.lemmas.Nat.{mul-le}
 use Rattle.vc_types.specs.declared.rect.Rect.{Rect}
-use Rattle.vc_slice.proofs.narrow.area.Goals as goal
+use Rattle.vc_slice.proofs.rects.area.Goals as goal
 
 pub overflow_mul-result : goal.overflow_mul-result
 overflow_mul-result c =

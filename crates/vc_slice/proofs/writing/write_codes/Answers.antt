@@ -13,16 +13,16 @@ loop-b-init c = record {
 }
 
 pub split_at-requires : goal.split_at-requires
-split_at-requires c = enough (parameters_of c.args.plan.now) c.args.slice c.args.index c.args.c c.loop-b.b c.count.result c.loop-b.rest.now (omega arith) c.count.ensures.value c.loop-b.invariant.rest
+split_at-requires c = enough (parameters_of c.args.plan.now) c.args.slice c.args.index c.args.c c.loop-b.b c.area.result c.loop-b.rest.now (omega arith) c.area.ensures.value c.loop-b.invariant.rest
 
 pub loop-b-preserved : goal.loop-b-preserved
 loop-b-preserved c =
     let few : c.loop-b.b < subband_count c.args.plan.now.depth_ho c.args.plan.now.depth = omega arith in
-    let next = subband_from (parameters_of c.args.plan.now) c.args.slice c.args.index c.args.c c.loop-b.b c.count.result c.quantiser.result.index c.loop-b.rest.now c.split_at.result.0.now c.split_at.result.1.now few c.count.ensures.value c.quantiser.ensures c.split_at.ensures.front c.split_at.ensures.back c.loop-b.invariant.rest in
+    let next = subband_from (parameters_of c.args.plan.now) c.args.slice c.args.index c.args.c c.loop-b.b c.area.result c.quantiser.result.index c.loop-b.rest.now c.split_at.result.0.now c.split_at.result.1.now few c.area.ensures.value c.quantiser.ensures c.split_at.ensures.front c.split_at.ensures.back c.loop-b.invariant.rest in
     record {
-      rest = rest_from (parameters_of c.args.plan.now) c.args.slice c.args.index c.args.c c.loop-b.b c.count.result c.loop-b.rest.now c.split_at.result.1.now few c.count.ensures.value c.split_at.ensures.back c.loop-b.invariant.rest;
+      rest = rest_from (parameters_of c.args.plan.now) c.args.slice c.args.index c.args.c c.loop-b.b c.area.result c.loop-b.rest.now c.split_at.result.1.now few c.area.ensures.value c.split_at.ensures.back c.loop-b.invariant.rest;
       codes = c.in_ok-zeros.ensures.codes (numbers_from (parameters_of c.args.plan.now) c.args.slice c.args.index c.args.c (c.loop-b.b + 1) c.split_at.result.1.now) ∙ ap (λ (zs : List ℤ). c.loop-b.w ++ codes_behind c.loop-b.zeros zs) (sym next) ∙ c.loop-b.invariant.codes;
-      room = omega (arith, c.in_ok-zeros.ensures.room, c.split_at.ensures.front_len, c.count.ensures.range, c.loop-b.invariant.room);
+      room = omega (arith, c.in_ok-zeros.ensures.room, c.split_at.ensures.front_len, c.area.ensures.range, c.loop-b.invariant.room);
     }
 
 pub returns : goal.returns

@@ -1,4 +1,4 @@
-use Rattle.std.proofs.Common.{◌≡◌, ◌++◌, ◌<◌, Bool, List, unsigned_abs, arith, sym, ap, ◌∙◌}
+use Rattle.std.proofs.Common.{◌≡◌, ◌++◌, ◌<◌, true, Bool, List, replicate, unsigned_abs, arith, sym, ap, ◌∙◌, refl}
 use Rattle.std.specs.Int.{w64}
 use Rattle.std.proofs.lemmas.Int.{ints, to_z-of_z}
 use Rattle.vc_types.specs.Codes.{sint_bits}
@@ -13,4 +13,5 @@ returns-then-number-eq0-clause-codes c = λ more.
 pub returns-clause-codes : goal.returns-clause-codes
 returns-clause-codes c = λ more.
     let some : 0 < unsigned_abs c.args.number = omega (arith, ints) in
-    written_number c.args.zeros c.args.number more c.args.w.now c.repeat.new.self c.write_sint.new.w some c.in_ok-repeat.ensures (c.in_ok-write_sint.ensures.ok ∙ ap (λ z. c.repeat.new.self ++ sint_bits z) (to_z-of_z w64 c.args.number c.ranges.number))
+    let ones = c.args.w.now ++ replicate c.args.zeros true in
+    written_number c.args.zeros c.args.number more c.args.w.now ones c.write_behind_zeros.new.w some refl (c.in_ok-write_behind_zeros.ensures ∙ ap (λ z. ones ++ sint_bits z) (to_z-of_z w64 c.args.number c.ranges.number))

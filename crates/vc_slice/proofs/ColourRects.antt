@@ -1,0 +1,15 @@
+-- A slice has the same rectangles in both colour components.
+use Rattle.std.proofs.Common.{◌≡◌, ℕ, List, sym, subst}
+use Rattle.vc_types.specs.declared.rect.Rect.{Rect}
+use Rattle.vc_types.specs.declared.video.Component.{Component}
+use Rattle.vc_types.specs.declared.video.Component.TheVariants.{C1, C2}
+use Rattle.vc_types.specs.Subbands.{slice_rectangle}
+use Rattle.vc_types.specs.TransformParameters.{Parameters}
+use Rattle.vc_geometry.specs.Rectangles.{AreSliceRectangles}
+
+pub colours_alike : (p : Parameters) (slice : ℕ) (rects : List Rect) → AreSliceRectangles p C1 slice rects → AreSliceRectangles p C2 slice rects
+unfolding slice_rectangle
+colours_alike p slice rects are = record { parts = are.parts; right = are.right; bottom = are.bottom; small = are.small }
+
+pub of_colours : (p : Parameters) (c : Component) (slice : ℕ) (rects : List Rect) → AreSliceRectangles p c slice rects → c ≡ C1 → AreSliceRectangles p C2 slice rects
+of_colours p c slice rects are is = colours_alike p slice rects (subst (λ (k : Component). AreSliceRectangles p k slice rects) is are)
