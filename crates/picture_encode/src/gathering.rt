@@ -39,11 +39,12 @@ pub(crate) fn gather(
     ensures whole { IfOk result
         (λ coeffs. AreSliceCoefficients (parameters_of plan.now) slice coeffs) }
 {
-    Ok(SliceCoeffs::new(
-        gather_component(alloc, plan, Component::Y, &grids.y, slice)?,
-        gather_component(alloc, plan, Component::C1, &grids.c1, slice)?,
-        gather_component(alloc, plan, Component::C2, &grids.c2, slice)?,
-    ))
+    SliceCoeffs::joined(
+        alloc,
+        &gather_component(alloc, plan, Component::Y, &grids.y, slice)?,
+        &gather_component(alloc, plan, Component::C1, &grids.c1, slice)?,
+        &gather_component(alloc, plan, Component::C2, &grids.c2, slice)?,
+    )
 }
 
 #[tactic(auto, unfolding(crate::specs::Grids::cells_of))]

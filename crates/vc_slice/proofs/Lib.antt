@@ -7,3 +7,5 @@ pub mod EncodedSlices
 pub mod FallSums
 pub mod SameJobs
 pub mod NarrowRuns
+pub mod ColourParts
+pub mod WideSlices

@@ -13,7 +13,7 @@ use vc_golomb::read_sints;
 use vc_quant::Quantiser;
 use vc_types::{Component, Plan, Rect};
 
-const NOWHERE: Rect = Rect {
+pub(crate) const NOWHERE: Rect = Rect {
     x: 0,
     y: 0,
     width: 0,
@@ -85,7 +85,7 @@ pub fn read_narrow_in(
 }
 
 // How many coefficients a slice has, by its rectangles.
-fn count_in(plan: &Plan, c: Component, slice: u32, rects: &[Rect]) -> u32
+pub(crate) fn count_in(plan: &Plan, c: Component, slice: u32, rects: &[Rect]) -> u32
     requires slice { slice < slice_count (parameters_of plan.now) }
     requires rects { AreSliceRectangles (parameters_of plan.now) c slice rects.now }
     requires all { subband_count plan.now.depth_ho plan.now.depth ≤ length rects.now }
