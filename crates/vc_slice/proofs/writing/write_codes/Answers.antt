@@ -3,7 +3,7 @@ use Rattle.vc_types.specs.Quantisation.{subband_count}
 use Rattle.vc_types.specs.TransformParameters.{parameters_of}
 use Rattle.vc_slice.specs.Inside.{codes_behind}
 use Rattle.vc_slice.specs.Listed.{listed}
-use Rattle.vc_slice.proofs.BlockCodes.{numbers_from, all_from, all_bits, none_from, no_more_codes, enough, rest_from, subband_from}
+use Rattle.vc_slice.proofs.BlockCodes.{numbers_from, all_from, all_bits, none_from, no_more_codes, enough, rest_from, subband_from, none_large-parts}
 use Rattle.vc_slice.proofs.writing.write_codes.Goals as goal
 
 pub loop-b-init : goal.loop-b-init
@@ -30,3 +30,6 @@ pub returns : goal.returns
 returns c =
     let none = none_from (parameters_of c.args.plan.now) c.args.slice c.args.index c.args.c c.loop-b.b (listed c.loop-b.rest) (omega arith) c.loop-b.invariant.rest in
     sym (append-nil c.loop-b.w) ∙ ap (λ (bits : List Bool). c.loop-b.w ++ bits) (sym (ap (λ (zs : List ℤ). codes_behind c.loop-b.zeros zs) none ∙ no_more_codes c.loop-b.zeros)) ∙ c.loop-b.invariant.codes
+
+pub write_subband-requires-clause-small : goal.write_subband-requires-clause-small
+write_subband-requires-clause-small c = rw c.split_at.ensures.front (none_large-parts c.count.result (listed c.loop-b.rest) c.loop-b.invariant.rest.small).0
