@@ -1,4 +1,4 @@
-ghost use Rattle.std.specs.Prelude.{◌≡◌, ◌<◌, ◌≤◌, ◌+◌, IfOk, length, take, drop};
+ghost use Rattle.std.specs.Prelude.{◌≡◌, ◌<◌, ◌≤◌, ◌+◌, ◌^◌, IfOk, length, take, drop};
 ghost use Rattle.vc_types.specs.Lifting.{line_of};
 ghost use Rattle.vc_types.specs.Slices.{coefficients_of};
 ghost use Rattle.vc_slice.specs.Listed.{listed};
@@ -187,7 +187,8 @@ impl SliceCoeffs {
 
     /// The coefficients of a component, in the slice's order.
     pub fn component(&self, c: Component) -> CoefficientList<'_>
-        ensures { listed result ≡ coefficients_of self.now c }
+        ensures value { listed result ≡ coefficients_of self.now c }
+        ensures range { length (listed result) < 2 ^ 64 }
     {
         match c {
             Component::Y => self.block.part(0, self.y),

@@ -8,8 +8,8 @@ use Rattle.vc_slice.proofs.counting.block_len.Goals as goal
 
 pub loop-b-init : goal.loop-b-init
 loop-b-init c = record {
-  rest = rw c.component-rest.ensures (all_from (parameters_of c.args.plan.now) c.args.slice c.args.index c.args.c c.args.coeffs.now c.requires.coefficients);
-  bits = rw c.component-rest.ensures (omega (arith, ap length (all_bits (parameters_of c.args.plan.now) c.args.slice c.args.index c.args.c c.args.coeffs.now)));
+  rest = rw c.component-rest.ensures.value (all_from (parameters_of c.args.plan.now) c.args.slice c.args.index c.args.c c.args.coeffs.now c.requires.coefficients);
+  bits = rw c.component-rest.ensures.value (omega (arith, ap length (all_bits (parameters_of c.args.plan.now) c.args.slice c.args.index c.args.c c.args.coeffs.now)));
   room = omega arith;
 }
 

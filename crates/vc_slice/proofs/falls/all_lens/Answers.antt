@@ -12,11 +12,11 @@ pub loop-b-init : goal.loop-b-init
 loop-b-init c =
     let p = parameters_of c.args.plan.now in
     record {
-      rest = λ q. rw c.component-rest.ensures (all_from p c.args.slice q c.args.c c.args.coeffs.now c.requires.coefficients);
+      rest = λ q. rw c.component-rest.ensures.value (all_from p c.args.slice q c.args.c c.args.coeffs.now c.requires.coefficients);
       count = omega (arith, c.new-falls.ensures.count);
       room = omega (arith, c.new-falls.ensures.bits 0);
       places = λ q. omega (arith, c.new-falls.ensures.kept q);
-      bits = λ q within. rw c.component-rest.ensures (begins q c.new-falls.result.count c.new-falls.result.bits c.new-falls.result.kept (numbers_from p c.args.slice q c.args.c 0 (coefficients_of c.args.coeffs.now c.args.c)) c.new-falls.ensures.count (c.new-falls.ensures.bits q) (c.new-falls.ensures.kept q) ∙ ap length (all_bits p c.args.slice q c.args.c c.args.coeffs.now));
+      bits = λ q within. rw c.component-rest.ensures.value (begins q c.new-falls.result.count c.new-falls.result.bits c.new-falls.result.kept (numbers_from p c.args.slice q c.args.c 0 (coefficients_of c.args.coeffs.now c.args.c)) c.new-falls.ensures.count (c.new-falls.ensures.bits q) (c.new-falls.ensures.kept q) ∙ ap length (all_bits p c.args.slice q c.args.c c.args.coeffs.now));
     }
 
 pub split_at-requires : goal.split_at-requires

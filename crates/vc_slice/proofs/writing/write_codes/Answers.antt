@@ -8,8 +8,8 @@ use Rattle.vc_slice.proofs.writing.write_codes.Goals as goal
 
 pub loop-b-init : goal.loop-b-init
 loop-b-init c = record {
-  rest = rw c.component-rest.ensures (all_from (parameters_of c.args.plan.now) c.args.slice c.args.index c.args.c c.args.coeffs.now c.requires.coefficients);
-  codes = rw c.component-rest.ensures (ap (λ (bits : List Bool). c.args.w.now ++ bits) (all_bits (parameters_of c.args.plan.now) c.args.slice c.args.index c.args.c c.args.coeffs.now));
+  rest = rw c.component-rest.ensures.value (all_from (parameters_of c.args.plan.now) c.args.slice c.args.index c.args.c c.args.coeffs.now c.requires.coefficients);
+  codes = rw c.component-rest.ensures.value (ap (λ (bits : List Bool). c.args.w.now ++ bits) (all_bits (parameters_of c.args.plan.now) c.args.slice c.args.index c.args.c c.args.coeffs.now));
   room = omega arith;
 }
 
