@@ -76,6 +76,7 @@ fn place_slice(
     requires slice { slice < slice_count (parameters_of plan.now) }
     requires coeffs { length (listed coeffs.now)
         ≡ slice_coefficient_count (parameters_of plan.now) c slice }
+    requires range { length (listed coeffs.now) < 2 ^ 64 }
     requires stride { stride ≡ padded_width (parameters_of plan.now) c }
     requires cells { length cells.old ≡ padded_height (parameters_of plan.now) c * stride }
     ensures on { (i : ℕ) → i < length (listed coeffs.now)
@@ -106,6 +107,7 @@ fn place_rect(
     requires across { rect.now.x + rect.now.width ≤ stride }
     requires down { (rect.now.y + rect.now.height) * stride ≤ length cells.old }
     requires from { from + area rect.now ≤ length (listed coeffs.now) }
+    requires range { length (listed coeffs.now) < 2 ^ 64 }
     ensures on { (j : ℕ) → j < area rect.now
         → line_of cells.new (cell_number stride (place_in rect.now j))
         ≡ line_of (listed coeffs.now) (from + j) }
@@ -125,6 +127,7 @@ fn place_rect(
 fn put_row(cells: &mut [i128], at: usize, coeffs: &CoefficientList<'_>, from: usize, width: usize)
     requires at { at + width ≤ length cells.old }
     requires from { from + width ≤ length (listed coeffs.now) }
+    requires range { length (listed coeffs.now) < 2 ^ 64 }
     ensures on { (x : ℕ) → x < width
         → line_of cells.new (at + x) ≡ line_of (listed coeffs.now) (from + x) }
     ensures off { (i : ℕ) → (i < at) ⊎ (at + width ≤ i)

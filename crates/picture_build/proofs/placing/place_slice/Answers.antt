@@ -20,7 +20,7 @@ overflow_add-from c =
     let plan = c.args.plan.now in
     let within = rectangle_within (parameters_of plan) c.args.c c.args.stride (some_across plan.slices_x plan.slices_y plan.slices) (some_down plan.slices_x plan.slices_y plan.slices) c.requires.stride
     c.args.slice c.loop-b.b c.loop-b.from c.slice_rect-rect.result (listed c.args.coeffs.now) c.loop-b.cells c.loop-b.cells c.requires.slice (omega arith) c.slice_rect-rect.ensures.value c.loop-b.invariant.from c.requires.coeffs in
-    omega (arith, within)
+    omega (arith, within, c.requires.range)
 
 pub loop-b-preserved : goal.loop-b-preserved
 loop-b-preserved c =
