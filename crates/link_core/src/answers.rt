@@ -10,7 +10,7 @@ use link_window::PictureBook;
 use std::alloc::Global;
 use std::marker::Model;
 use vc_slice::{SliceCoeffs, SliceDone};
-use vc_types::{Component, NoMemory, Unsound};
+use vc_types::{NoMemory, Unsound};
 
 /// The answer to a slice of a picture.
 #[derive(Drop)]
@@ -28,16 +28,6 @@ impl Model for KeptAnswer {
     ghost view = { λ a. record { number = a.number; index = a.index; answer = a.answer } };
 }
 
-/// The same coefficients.
-pub(crate) fn copied(alloc: Global, c: &SliceCoeffs) -> Result<SliceCoeffs, NoMemory>
-    ensures { IfOk result (λ copy. copy ≡ c.now) }
-{
-    let y = Vec::from_slice(alloc, c.component(Component::Y))?;
-    let c1 = Vec::from_slice(alloc, c.component(Component::C1))?;
-    let c2 = Vec::from_slice(alloc, c.component(Component::C2))?;
-    Ok(SliceCoeffs::new(y, c1, c2))
-}
-
 fn copied_answer(
     alloc: Global,
     answer: &Result<SliceCoeffs, Unsound>,
@@ -45,7 +35,7 @@ fn copied_answer(
     ensures { IfOk result (λ copy. copy ≡ answer.now) }
 {
     match answer {
-        Ok(c) => Ok(Ok(copied(alloc, c)?)),
+        Ok(c) => Ok(Ok(c.copy(alloc)?)),
         Err(unsound) => Ok(Err(*unsound)),
     }
 }

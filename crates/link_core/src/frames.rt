@@ -10,7 +10,7 @@ ghost use Rattle.vc_types.specs.Planes.{planes_in};
 ghost use Rattle.vc_types.specs.RawFrames.{frame_bytes, is_wide};
 ghost use Rattle.vc_types.specs.SequenceHeader.{Sequence, picture_shape};
 
-use crate::answers::{KeptAnswer, answer_in, copied};
+use crate::answers::{KeptAnswer, answer_in};
 use crate::session::OpenSession;
 use field_pairs::weave;
 use frame_writer::{is_wide, write_frame};
@@ -39,7 +39,7 @@ fn sound_answers(
         let Some(coefficients) = kept.coefficients() else {
             return Ok(None);
         };
-        slices.push(copied(alloc, coefficients)?)?;
+        slices.push(coefficients.copy(alloc)?)?;
     }
     Ok(Some(slices))
 }

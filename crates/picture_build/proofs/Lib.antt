@@ -1,4 +1,3 @@
-pub mod ColourParts
 pub mod Samples
 pub mod FilledRows
 pub mod PlacedSlices

@@ -15,7 +15,7 @@ ghost use Rattle.picture_build.specs.Kept.{kept_at, ChangesOnly, FillsSlice};
 
 use crate::cells::CoefficientCells;
 use vc_geometry::{bands, padded, place_of, slice_len, slice_rects};
-use vc_slice::{CodedSlice, SliceCoeffs, TooWide, coded_slice, read_narrow_in};
+use vc_slice::{CodedSlice, CoefficientList, SliceCoeffs, TooWide, coded_slice, read_narrow_in};
 use vc_types::{Component, Plan, Rect};
 
 const NOWHERE: Rect = Rect {
@@ -49,9 +49,12 @@ pub(crate) fn fill_slice(
     ensures c1 { FillsSlice (parameters_of plan.now) C1 slice coeffs.now.c1 c1.old c1.new }
     ensures c2 { FillsSlice (parameters_of plan.now) C2 slice coeffs.now.c2 c2.old c2.new }
 {
-    fill_component(plan, Component::Y, slice, coeffs, numbers, y);
-    fill_component(plan, Component::C1, slice, coeffs, numbers, c1);
-    fill_component(plan, Component::C2, slice, coeffs, numbers, c2);
+    let mut rects = [NOWHERE; 16];
+    slice_rects(plan, Component::Y, slice, &mut rects);
+    fill_component(plan, Component::Y, slice, coeffs, &rects, numbers, y);
+    slice_rects(plan, Component::C1, slice, &mut rects);
+    fill_component(plan, Component::C1, slice, coeffs, &rects, numbers, c1);
+    fill_component(plan, Component::C2, slice, coeffs, &rects, numbers, c2);
 }
 
 fn fill_component(
@@ -59,22 +62,48 @@ fn fill_component(
     c: Component,
     slice: u32,
     coeffs: &SliceCoeffs,
+    rects: &[Rect],
     numbers: &mut [i32],
     cells: &mut CoefficientCells,
 )
     requires slice { slice < slice_count (parameters_of plan.now) }
     requires whole { AreSliceCoefficients (parameters_of plan.now) slice coeffs.now }
+    requires rects { AreSliceRectangles (parameters_of plan.now) c slice rects.now }
+    requires all { subband_count plan.now.depth_ho plan.now.depth ≤ length rects.now }
     requires room { slice_coefficient_count (parameters_of plan.now) c slice ≤ length numbers.old }
     requires cells { length cells.old
         ≡ padded_height (parameters_of plan.now) c * padded_width (parameters_of plan.now) c }
     ensures cells { FillsSlice (parameters_of plan.now) c slice (coefficients_of coeffs.now c)
         cells.old cells.new }
 {
-    let coeffs = coeffs.component(c);
+    match coeffs.component(c) {
+        CoefficientList::Narrow(coeffs) => place_numbers(plan, c, slice, rects, coeffs, cells),
+        CoefficientList::Wide(coeffs) => fill_wide(plan, c, slice, coeffs, rects, numbers, cells),
+    }
+}
+
+// The same of coefficients that have 64 bits each, though they may all fit 32.
+fn fill_wide(
+    plan: &Plan,
+    c: Component,
+    slice: u32,
+    coeffs: &[i64],
+    rects: &[Rect],
+    numbers: &mut [i32],
+    cells: &mut CoefficientCells,
+)
+    requires slice { slice < slice_count (parameters_of plan.now) }
+    requires count { length coeffs.now ≡ slice_coefficient_count (parameters_of plan.now) c slice }
+    requires small { list_any is_large coeffs.now ≡ false }
+    requires rects { AreSliceRectangles (parameters_of plan.now) c slice rects.now }
+    requires all { subband_count plan.now.depth_ho plan.now.depth ≤ length rects.now }
+    requires room { slice_coefficient_count (parameters_of plan.now) c slice ≤ length numbers.old }
+    requires cells { length cells.old
+        ≡ padded_height (parameters_of plan.now) c * padded_width (parameters_of plan.now) c }
+    ensures { FillsSlice (parameters_of plan.now) c slice coeffs.now cells.old cells.new }
+{
     if narrowed(coeffs, numbers) {
-        let mut rects = [NOWHERE; 16];
-        slice_rects(plan, c, slice, &mut rects);
-        place_numbers(plan, c, slice, &rects, numbers, cells);
+        place_numbers(plan, c, slice, rects, numbers, cells);
     } else {
         place_wide(plan, c, slice, coeffs, cells);
     }

@@ -5,12 +5,13 @@ ghost use Rattle.vc_types.specs.Rasters.{cell_at};
 ghost use Rattle.vc_types.specs.Slices.{Coefficients, coefficients_of};
 ghost use Rattle.vc_types.specs.Subbands.{area, place_in, coefficient_place, padded_width, padded_height, slice_count, slice_coefficient_count};
 ghost use Rattle.vc_types.specs.TransformParameters.{parameters_of};
+ghost use Rattle.vc_slice.specs.Listed.{listed};
 ghost use Rattle.picture_build.specs.Cells.{cell_number};
 ghost use Rattle.picture_build.specs.PictureCoefficients.{ArePictureCoefficients};
 
 use std::alloc::Global;
 use vc_geometry::{bands, padded, slice_rect};
-use vc_slice::SliceCoeffs;
+use vc_slice::{CoefficientList, SliceCoeffs};
 use vc_types::{Component, Grid, NoMemory, Plan, Rect};
 
 /// The coefficients of a component at their places in the padded grid.
@@ -56,7 +57,7 @@ fn place_slices(
             plan,
             c,
             slice as u32,
-            slices[slice].component(c),
+            &slices[slice].component(c),
             cells,
             stride,
         );
@@ -68,20 +69,22 @@ fn place_slice(
     plan: &Plan,
     c: Component,
     slice: u32,
-    coeffs: &[i64],
+    coeffs: &CoefficientList<'_>,
     cells: &mut [i128],
     stride: usize,
 )
     requires slice { slice < slice_count (parameters_of plan.now) }
-    requires coeffs { length coeffs.now ≡ slice_coefficient_count (parameters_of plan.now) c slice }
+    requires coeffs { length (listed coeffs.now)
+        ≡ slice_coefficient_count (parameters_of plan.now) c slice }
+    requires range { length (listed coeffs.now) < 2 ^ 64 }
     requires stride { stride ≡ padded_width (parameters_of plan.now) c }
     requires cells { length cells.old ≡ padded_height (parameters_of plan.now) c * stride }
-    ensures on { (i : ℕ) → i < length coeffs.now
+    ensures on { (i : ℕ) → i < length (listed coeffs.now)
         → line_of cells.new
         (cell_number stride (coefficient_place (parameters_of plan.now) c slice i))
-        ≡ line_of coeffs.now i }
+        ≡ line_of (listed coeffs.now) i }
     ensures off { (k : ℕ) →
-        ((i : ℕ) → i < length coeffs.now
+        ((i : ℕ) → i < length (listed coeffs.now)
         → k ≢ cell_number stride (coefficient_place (parameters_of plan.now) c slice i))
         → line_of cells.new k ≡ line_of cells.old k }
 {
@@ -94,13 +97,20 @@ fn place_slice(
 }
 
 // Puts coefficients, from one of them on, into a rectangle of a grid, row by row.
-fn place_rect(rect: &Rect, coeffs: &[i64], from: usize, cells: &mut [i128], stride: usize)
+fn place_rect(
+    rect: &Rect,
+    coeffs: &CoefficientList<'_>,
+    from: usize,
+    cells: &mut [i128],
+    stride: usize,
+)
     requires across { rect.now.x + rect.now.width ≤ stride }
     requires down { (rect.now.y + rect.now.height) * stride ≤ length cells.old }
-    requires from { from + area rect.now ≤ length coeffs.now }
+    requires from { from + area rect.now ≤ length (listed coeffs.now) }
+    requires range { length (listed coeffs.now) < 2 ^ 64 }
     ensures on { (j : ℕ) → j < area rect.now
         → line_of cells.new (cell_number stride (place_in rect.now j))
-        ≡ line_of coeffs.now (from + j) }
+        ≡ line_of (listed coeffs.now) (from + j) }
     ensures off { (k : ℕ) →
         ((j : ℕ) → j < area rect.now → k ≢ cell_number stride (place_in rect.now j))
         → line_of cells.new k ≡ line_of cells.old k }
@@ -114,14 +124,16 @@ fn place_rect(rect: &Rect, coeffs: &[i64], from: usize, cells: &mut [i128], stri
 
 // Copies so many coefficients, from one of them on, to cells from one of them on.
 #[inline(always)]
-fn put_row(cells: &mut [i128], at: usize, coeffs: &[i64], from: usize, width: usize)
+fn put_row(cells: &mut [i128], at: usize, coeffs: &CoefficientList<'_>, from: usize, width: usize)
     requires at { at + width ≤ length cells.old }
-    requires from { from + width ≤ length coeffs.now }
-    ensures on { (x : ℕ) → x < width → line_of cells.new (at + x) ≡ line_of coeffs.now (from + x) }
+    requires from { from + width ≤ length (listed coeffs.now) }
+    requires range { length (listed coeffs.now) < 2 ^ 64 }
+    ensures on { (x : ℕ) → x < width
+        → line_of cells.new (at + x) ≡ line_of (listed coeffs.now) (from + x) }
     ensures off { (i : ℕ) → (i < at) ⊎ (at + width ≤ i)
         → line_of cells.new i ≡ line_of cells.old i }
 {
     for x in 0..width {
-        cells[at + x] = i128::from(coeffs[from + x]);
+        cells[at + x] = i128::from(coeffs.get(from + x));
     }
 }

@@ -39,11 +39,11 @@ pub(crate) fn gather(
     ensures whole { IfOk result
         (λ coeffs. AreSliceCoefficients (parameters_of plan.now) slice coeffs) }
 {
-    Ok(SliceCoeffs::new(
-        gather_component(alloc, plan, Component::Y, &grids.y, slice)?,
-        gather_component(alloc, plan, Component::C1, &grids.c1, slice)?,
-        gather_component(alloc, plan, Component::C2, &grids.c2, slice)?,
-    ))
+    let y = gather_component(alloc, plan, Component::Y, &grids.y, slice)?;
+    let c1 = gather_component(alloc, plan, Component::C1, &grids.c1, slice)?;
+    let c2 = gather_component(alloc, plan, Component::C2, &grids.c2, slice)?;
+    let coeffs = SliceCoeffs::joined(alloc, &y, &c1, &c2)?;
+    Ok(coeffs)
 }
 
 #[tactic(auto, unfolding(crate::specs::Grids::cells_of))]

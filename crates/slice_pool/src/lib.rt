@@ -3,7 +3,6 @@
 #![tactic(auto)]
 
 mod crew;
-mod decoding;
 mod hands;
 mod places;
 mod team;

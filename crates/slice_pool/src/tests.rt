@@ -15,7 +15,7 @@ use std::test::Fail;
 use std::thread;
 use std::thread::Threads;
 use vc_ports::{Gate, NoGate};
-use vc_slice::{Hands, Places, SliceDone, SliceJob, cut};
+use vc_slice::{CoefficientList, Hands, Places, SliceDone, SliceJob, cut};
 use vc_types::{Component, NoMemory, Plan, Shape};
 
 // A picture of 6 by 2 samples with three slices side by side, each with one coefficient of each
@@ -43,7 +43,7 @@ const PLAN: Plan = Plan {
 // A slice whose luma coefficients are LL 0, HL 1, LH 0, HH 1.
 const SLICE: [u8; 6] = [0x00, 0x02, 0x94, 0x80, 0x00, 0x00];
 
-const LUMA: [i64; 4] = [0, 1, 0, 1];
+const LUMA: [i32; 4] = [0, 1, 0, 1];
 
 // How often a test asks before it fails. Each turn yields the processor.
 const TURNS: u64 = 10_000_000;
@@ -100,7 +100,10 @@ fn is_decoded<P: Places>(places: &mut P, place: u32, index: u32) -> bool
 
 fn has_luma(done: &SliceDone) -> bool {
     match &done.answer {
-        Ok(coeffs) => coeffs.component(Component::Y) == LUMA.as_slice(),
+        Ok(coeffs) => match coeffs.component(Component::Y) {
+            CoefficientList::Narrow(numbers) => numbers == LUMA.as_slice(),
+            CoefficientList::Wide(_) => false,
+        },
         Err(_) => false,
     }
 }

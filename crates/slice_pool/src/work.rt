@@ -3,13 +3,13 @@ ghost use Rattle.claim_board.specs.Seats.{IsWorkerOf, place_count, worker_sees};
 ghost use Rattle.link_model.specs.Board.{after_complete};
 ghost use Rattle.slice_pool.specs.Holding.{IsHeldBy};
 
-use crate::decoding::decode_narrow;
 use crate::worker::Worker;
 use claim_board::{Board, HeldPlace, WorkerSeat, bell, rest};
 use std::alloc::Global;
 use std::sync::Wait;
 use std::sync::atomic::Ordering;
 use vc_ports::Gate;
+use vc_slice::decode;
 use vc_types::NoMemory;
 
 /// Decodes what waits on the board, until the workers are to end. Where there is no memory for a
@@ -82,7 +82,7 @@ fn answer(
     ensures completed { OnOk result (worker_sees seat.new
         ≡ after_complete (worker_sees seat.old) held.place held.serial) }
 {
-    let done = decode_narrow(alloc, held.job.copy()?)?;
+    let done = decode(alloc, held.job.copy()?)?;
     board.complete(seat, held, done);
     Ok(())
 }

@@ -133,12 +133,11 @@ module _ (p : Parameters) (c : Component) (slice index : ℕ) where
       ∙ large (quantisers_from (b + 1))
 
   -- no subband was read
-  pub none_read : (out : List ℤ) (bits : List Bool) (block : List ℕ) → out ≡ [] → bits ≡ bits_of block → out ++ coefficients_by (quantisers_from 0) bits ≡ block_coefficients p c slice index block
-  none_read out bits block empty whole =
-      ap (λ (zs : List ℤ). zs ++ coefficients_by (quantisers_from 0) bits) empty
-      ∙ ap (λ (bs : List Bool). coefficients_by (quantisers_from 0) bs) whole
+  pub none_read : (out : List ℤ) (bits : List Bool) (block : List ℕ) → bits ≡ bits_of block → out ++ coefficients_by (quantisers_from 0) bits ≡ out ++ block_coefficients p c slice index block
+  none_read out bits block whole = ap (λ (zs : List ℤ). out ++ zs) (
+      ap (λ (bs : List Bool). coefficients_by (quantisers_from 0) bs) whole
       ∙ ap (λ (qs : List ℕ). coefficients_by qs (bits_of block)) quantisers_from-all
-      ∙ sym (block_coefficients-by block)
+      ∙ sym (block_coefficients-by block))
 
   -- every subband was read
   pub all_read : (out whole : List ℤ) (b : ℕ) (bits : List Bool) → b ≡ subband_count p.depth_ho p.depth → out ++ coefficients_by (quantisers_from b) bits ≡ whole → out ≡ whole

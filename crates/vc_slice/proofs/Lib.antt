@@ -2,10 +2,11 @@ pub mod BlockBits
 pub mod BlockCodes
 pub mod BlockCoefficients
 pub mod CodeLengths
-pub mod ColourRects
 pub mod Dequantising
 pub mod EncodedSlices
 pub mod PaddedBlocks
 pub mod FallSums
 pub mod SameJobs
 pub mod NarrowRuns
+pub mod ColourParts
+pub mod WideSlices

@@ -3,3 +3,5 @@ pub mod Coded
 pub mod Refusals
 pub mod Inside
 pub mod Falls
+pub mod OneBlock
+pub mod Listed

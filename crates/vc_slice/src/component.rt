@@ -1,56 +1,44 @@
-ghost use Rattle.std.specs.Prelude.{◌≡◌, ◌<◌, ◌≤◌, ◌-◌, ◌+◌, ◌*◌, ◌^◌, [], Err, IfOk, IfErr, true, false, slice_index_or};
+ghost use Rattle.std.specs.Prelude.{◌≡◌, ◌++◌, ◌<◌, ◌≤◌, ◌-◌, ◌*◌, ◌^◌, Err, OnOk, true, false, slice_index_or};
 ghost use Rattle.std.specs.List.{list_any};
 ghost use Rattle.vc_types.specs.Bits.{bits_of};
 ghost use Rattle.vc_types.specs.Slices.{is_large, block_coefficients};
 ghost use Rattle.vc_types.specs.Quantisation.{subband_count};
 ghost use Rattle.vc_types.specs.Subbands.{area, slice_count, slice_rectangle, subband_at};
 ghost use Rattle.vc_types.specs.TransformParameters.{parameters_of};
-ghost use Rattle.vc_slice.specs.declared.subband.Stopped.TheVariants.{Large, NoMemory};
+ghost use Rattle.vc_slice.specs.declared.subband.Stopped.TheVariants.{Large};
 
 use crate::subband::{Stopped, read_subband};
-use std::alloc::Global;
 use vc_bits::{BitReader, Block};
-use vc_geometry::{bands, slice_len, slice_rect};
+use vc_geometry::{bands, slice_rect};
 use vc_quant::Quantiser;
 use vc_types::{Component, Plan};
 
-// The coefficients that a component's block stands for.
+// Puts the coefficients that a component's block stands for at the end of others.
 pub(crate) fn read_component(
-    alloc: Global,
     plan: &Plan,
     c: Component,
     slice: u32,
     index: u8,
     block: &[u8],
-) -> Result<Vec<i64>, Stopped>
+    coeffs: &mut Vec<i64>,
+) -> Result<(), Stopped>
     requires slice { slice < slice_count (parameters_of plan.now) }
     requires index { index ≤ 127 }
-    ensures value { IfOk result
-        (λ coeffs. coeffs.items
-        ≡ block_coefficients (parameters_of plan.now) c slice index block.now) }
-    ensures sound { IfOk result (λ coeffs. list_any is_large coeffs.items ≡ false) }
+    requires sound { list_any is_large coeffs.old.items ≡ false }
+    ensures value { OnOk result (coeffs.new.items ≡ coeffs.old.items
+        ++ block_coefficients (parameters_of plan.now) c slice index block.now) }
+    ensures sound { OnOk result (list_any is_large coeffs.new.items ≡ false) }
     ensures large { result ≡ Err Large
         → list_any is_large (block_coefficients (parameters_of plan.now) c slice index block.now)
         ≡ true }
 {
     let mut bits = bits_of(block);
-    let mut coeffs = with_room(alloc, slice_len(plan, c, slice))?;
     for b in 0..bands(plan) {
         let count = count(plan, c, b, slice);
         let quantiser = quantiser(plan, b, index);
-        read_subband(&mut bits, count, &quantiser, &mut coeffs)?;
+        read_subband(&mut bits, count, &quantiser, coeffs)?;
     }
-    Ok(coeffs)
-}
-
-fn with_room(alloc: Global, len: u32) -> Result<Vec<i64>, Stopped>
-    ensures value { IfOk result (λ coeffs. coeffs.items ≡ []) }
-    ensures cause { IfErr result (λ e. e ≡ NoMemory) }
-{
-    match Vec::with_capacity(alloc, len as usize) {
-        Ok(coeffs) => Ok(coeffs),
-        Err(_) => Err(Stopped::NoMemory),
-    }
+    Ok(())
 }
 
 #[tactic(auto, using(crate::proofs::BlockBits::blocks))]

@@ -9,8 +9,9 @@ ghost use Rattle.vc_types.specs.TransformParameters.{parameters_of};
 ghost use Rattle.vc_types.specs.Encoding.{component_bits};
 ghost use Rattle.vc_types.specs.SliceCoefficients.{AreSliceCoefficients};
 ghost use Rattle.vc_slice.specs.Inside.{subband_numbers, codes_behind};
+ghost use Rattle.vc_slice.specs.Listed.{listed};
 
-use crate::coeffs::SliceCoeffs;
+use crate::coeffs::{CoefficientList, SliceCoeffs};
 use crate::component::quantiser;
 use crate::rects::area;
 use vc_geometry::bands;
@@ -74,24 +75,25 @@ pub(crate) fn block_len(
     let mut rest = coeffs.component(c);
     for b in 0..bands(plan) {
         let (subband, behind) = rest.split_at(area(plan, c, slice, rects, b) as usize);
-        count_subband(&mut counted, subband, &quantiser(plan, b, index));
+        count_subband(&mut counted, &subband, &quantiser(plan, b, index));
         rest = behind;
     }
     counted.bits
 }
 
 // Counts the next numbers of a block.
-fn count_subband(counted: &mut Counted, coefficients: &[i64], quantiser: &Quantiser)
-    requires small { list_any is_large coefficients.now ≡ false }
-    requires room { counted.old.bits + counted.old.zeros + 128 * length coefficients.now < 2 ^ 61 }
+fn count_subband(counted: &mut Counted, coefficients: &CoefficientList<'_>, quantiser: &Quantiser)
+    requires small { list_any is_large (listed coefficients.now) ≡ false }
+    requires room { counted.old.bits + counted.old.zeros
+        + 128 * length (listed coefficients.now) < 2 ^ 61 }
     ensures bits { (more : List ℤ)
         → counted.new.bits + length (codes_behind counted.new.zeros more)
         ≡ counted.old.bits + length (codes_behind counted.old.zeros
-        (subband_numbers quantiser.now.index coefficients.now ++ more)) }
+        (subband_numbers quantiser.now.index (listed coefficients.now) ++ more)) }
     ensures room { counted.new.bits + counted.new.zeros
-        ≤ counted.old.bits + counted.old.zeros + 128 * length coefficients.now }
+        ≤ counted.old.bits + counted.old.zeros + 128 * length (listed coefficients.now) }
 {
-    for coefficient in coefficients {
-        counted.add(quantiser.quant(*coefficient));
+    for place in 0..coefficients.len() {
+        counted.add(quantiser.quant(coefficients.get(place)));
     }
 }

@@ -8,12 +8,13 @@ ghost use Rattle.vc_slice.specs.declared.subband.Stopped.TheVariants.{Large};
 
 use crate::coded::{CodedSlice, coded_slice};
 use crate::coeffs::SliceCoeffs;
-use crate::component::read_component;
 use crate::done::SliceDone;
 use crate::job::SliceJob;
+use crate::narrow_slice::narrow_coefficients;
 use crate::subband::Stopped;
+use crate::wide_slice::wide_coefficients;
 use std::alloc::Global;
-use vc_types::{Component, NoMemory, Plan, Unsound};
+use vc_types::{NoMemory, Plan, Unsound};
 
 /// Decodes a slice (ST 2042-1, high-quality slice): its coefficients; IndexRange where its quantisation index is above
 /// 127, and else CoefficientRange where a coefficient has a magnitude of 2^60 or more.
@@ -50,6 +51,7 @@ fn answer(
     }
 }
 
+// The coefficients of a slice: in 32 bits first, and where one may be too wide, again in 64.
 fn coefficients(
     alloc: Global,
     plan: &Plan,
@@ -64,8 +66,9 @@ fn coefficients(
         → in_range (all_coefficients (parameters_of plan.now) slice (coded_of coded.now))
         ≡ Err CoefficientRange }
 {
-    let y = read_component(alloc, plan, Component::Y, slice, coded.index, coded.y)?;
-    let c1 = read_component(alloc, plan, Component::C1, slice, coded.index, coded.c1)?;
-    let c2 = read_component(alloc, plan, Component::C2, slice, coded.index, coded.c2)?;
-    Ok(SliceCoeffs::new(y, c1, c2))
+    match narrow_coefficients(alloc, plan, slice, coded) {
+        Ok(Some(coeffs)) => Ok(coeffs),
+        Ok(None) => wide_coefficients(alloc, plan, slice, coded),
+        Err(NoMemory) => Err(Stopped::NoMemory),
+    }
 }

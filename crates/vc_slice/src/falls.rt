@@ -9,8 +9,9 @@ ghost use Rattle.vc_types.specs.Subbands.{slice_count};
 ghost use Rattle.vc_types.specs.TransformParameters.{parameters_of};
 ghost use Rattle.vc_slice.specs.Falls.{sum_from, most_from, code_steps, block_from};
 ghost use Rattle.vc_slice.specs.Inside.{subband_numbers};
+ghost use Rattle.vc_slice.specs.Listed.{listed};
 
-use crate::coeffs::SliceCoeffs;
+use crate::coeffs::{CoefficientList, SliceCoeffs};
 use crate::rects::area;
 use vc_geometry::bands;
 use vc_quant::last_index_with;
@@ -106,28 +107,28 @@ pub(crate) fn all_lens(
     let mut rest = coeffs.component(c);
     for b in 0..bands(plan) {
         let (subband, behind) = rest.split_at(area(plan, c, slice, rects, b) as usize);
-        add_subband(&mut falls, subband, plan.matrix[b as usize]);
+        add_subband(&mut falls, &subband, plan.matrix[b as usize]);
         rest = behind;
     }
     falls.lens()
 }
 
 // Adds the next numbers of a block, where the matrix value of the subband is `least`.
-fn add_subband(falls: &mut Falls, coefficients: &[i64], least: u8)
-    requires small { list_any is_large coefficients.now ≡ false }
-    requires few { falls.old.count + length coefficients.now < 2 ^ 32 }
+fn add_subband(falls: &mut Falls, coefficients: &CoefficientList<'_>, least: u8)
+    requires small { list_any is_large (listed coefficients.now) ≡ false }
+    requires few { falls.old.count + length (listed coefficients.now) < 2 ^ 32 }
     requires room { sum_from 0 falls.old.bits ≤ 128 * falls.old.count }
     requires places { (q : ℕ) → most_from q falls.old.kept ≤ falls.old.count }
-    ensures count { falls.new.count ≡ falls.old.count + length coefficients.now }
+    ensures count { falls.new.count ≡ falls.old.count + length (listed coefficients.now) }
     ensures room { sum_from 0 falls.new.bits ≤ 128 * falls.new.count }
     ensures places { (q : ℕ) → most_from q falls.new.kept ≤ falls.new.count }
     ensures bits { (q : ℕ) → q ≤ 127 → (more : List ℤ)
         → block_from q falls.new.count falls.new.bits falls.new.kept more
         ≡ block_from q falls.old.count falls.old.bits falls.old.kept
-        (subband_numbers (q - least) coefficients.now ++ more) }
+        (subband_numbers (q - least) (listed coefficients.now) ++ more) }
 {
-    for coefficient in coefficients {
-        falls.add(coefficient.unsigned_abs(), least);
+    for place in 0..coefficients.len() {
+        falls.add(coefficients.get(place).unsigned_abs(), least);
     }
 }
 

@@ -13,14 +13,16 @@ mod falls;
 mod job;
 mod laws;
 mod narrow;
+mod narrow_slice;
 mod no_places;
 mod places;
 mod rects;
 mod subband;
+mod wide_slice;
 mod writing;
 
 pub use coded::{CodedSlice, coded_slice, cut};
-pub use coeffs::SliceCoeffs;
+pub use coeffs::{CoefficientList, SliceCoeffs};
 pub use decoding::decode;
 pub use done::SliceDone;
 pub use encoding::{EncodeRefusal, encode, encoded_len, encoded_lens};

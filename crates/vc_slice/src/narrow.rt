@@ -78,7 +78,7 @@ pub fn read_narrow_in(
 }
 
 // How many coefficients a slice has, by its rectangles.
-fn count_in(plan: &Plan, c: Component, slice: u32, rects: &[Rect]) -> u32
+pub(crate) fn count_in(plan: &Plan, c: Component, slice: u32, rects: &[Rect]) -> u32
     requires slice { slice < slice_count (parameters_of plan.now) }
     requires rects { AreSliceRectangles (parameters_of plan.now) c slice rects.now }
     requires all { subband_count plan.now.depth_ho plan.now.depth ≤ length rects.now }

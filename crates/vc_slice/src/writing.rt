@@ -9,8 +9,9 @@ ghost use Rattle.vc_types.specs.Slices.{is_large};
 ghost use Rattle.vc_types.specs.Subbands.{slice_count};
 ghost use Rattle.vc_types.specs.TransformParameters.{parameters_of};
 ghost use Rattle.vc_slice.specs.Inside.{codes_behind, subband_numbers, up_to_bytes};
+ghost use Rattle.vc_slice.specs.Listed.{listed};
 
-use crate::coeffs::SliceCoeffs;
+use crate::coeffs::{CoefficientList, SliceCoeffs};
 use crate::component::quantiser;
 use crate::rects::area;
 use std::alloc::Global;
@@ -67,7 +68,7 @@ fn write_codes(
     let mut rest = coeffs.component(c);
     for b in 0..bands(plan) {
         let (subband, behind) = rest.split_at(area(plan, c, slice, rects, b) as usize);
-        zeros = write_subband(w, zeros, subband, &quantiser(plan, b, index))?;
+        zeros = write_subband(w, zeros, &subband, &quantiser(plan, b, index))?;
         rest = behind;
     }
     Ok(())
@@ -78,21 +79,21 @@ fn write_codes(
 fn write_subband(
     w: &mut BitWriter,
     zeros: u64,
-    coefficients: &[i64],
+    coefficients: &CoefficientList<'_>,
     quantiser: &Quantiser,
 ) -> Result<u64, NoMemory>
-    requires small { list_any is_large coefficients.now ≡ false }
-    requires room { zeros + length coefficients.now < 2 ^ 61 }
+    requires small { list_any is_large (listed coefficients.now) ≡ false }
+    requires room { zeros + length (listed coefficients.now) < 2 ^ 61 }
     ensures codes { IfOk result
         (λ left. (more : List ℤ)
         → w.new ++ codes_behind left more
-        ≡ w.old ++ codes_behind zeros (subband_numbers quantiser.now.index coefficients.now
-        ++ more)) }
-    ensures room { IfOk result (λ left. left ≤ zeros + length coefficients.now) }
+        ≡ w.old ++ codes_behind zeros
+        (subband_numbers quantiser.now.index (listed coefficients.now) ++ more)) }
+    ensures room { IfOk result (λ left. left ≤ zeros + length (listed coefficients.now)) }
 {
     let mut zeros = zeros;
-    for coefficient in coefficients {
-        zeros = write_number(w, zeros, quantiser.quant(*coefficient))?;
+    for place in 0..coefficients.len() {
+        zeros = write_number(w, zeros, quantiser.quant(coefficients.get(place)))?;
     }
     Ok(zeros)
 }

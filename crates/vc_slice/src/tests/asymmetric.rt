@@ -1,4 +1,4 @@
-use super::{coefficients, decoded, encoded};
+use super::{coefficients, decoded, encoded, has};
 use std::test::Fail;
 use vc_types::{Component, Plan, Shape};
 
@@ -36,14 +36,20 @@ fn levels_across_come_first(rt: HostRuntime) -> Result<(), Fail> {
     ];
     let coeffs = coefficients(decoded(alloc, levels_across(), bytes)?)?;
     let y = [9, -12, 12, 36, -62, 28, 0, 17, 21, -5, 0, 0, 0, 5, -11, 2];
-    assert_eq!(rt; coeffs.component(Component::Y), y.as_slice());
-    assert_eq!(rt;
-        coeffs.component(Component::C1),
-        [4, -7, 20, -20, 40, -40, 0, 0, 0, 0, 0, 0, 0, 0, 0, 0].as_slice()
+    assert!(rt; has(&coeffs, Component::Y, &y));
+    assert!(rt;
+        has(
+            &coeffs,
+            Component::C1,
+            &[4, -7, 20, -20, 40, -40, 0, 0, 0, 0, 0, 0, 0, 0, 0, 0]
+        )
     );
-    assert_eq!(rt;
-        coeffs.component(Component::C2),
-        [0, 0, -28, 60, 0, 0, 0, 0, 0, 0, 0, 0, 0, 0, 0, 0].as_slice()
+    assert!(rt;
+        has(
+            &coeffs,
+            Component::C2,
+            &[0, 0, -28, 60, 0, 0, 0, 0, 0, 0, 0, 0, 0, 0, 0, 0]
+        )
     );
     let luma = encoded(alloc, levels_across(), &y, 14)?;
     assert_eq!(rt;

@@ -13,6 +13,6 @@ loop-index-preserved c =
     let i = c.loop-index.index in
     let all = sound_answers decoded n (range_with_len 0 c.args.count) in
     let less : i < c.args.count = search rules in
-    let some : sound_answer (answer_in decoded n i) ≡ Some c.in_ok-copied.field-0 = ap sound_answer (sym c.in-Some.ensures) ∙ sym c.in-Some-coefficients.ensures ∙ ap Some (sym c.in_ok-copied.ensures) in
+    let some : sound_answer (answer_in decoded n i) ≡ Some c.in_ok-copy.field-0 = ap sound_answer (sym c.in-Some.ensures) ∙ sym c.in-Some-coefficients.ensures ∙ ap Some (sym c.in_ok-copy.ensures) in
     subst (λ (l : List Coefficients). Left decoded n l (i + 1) c.args.count all) (sym c.in_ok-push.ensures.items)
-    (left_more decoded n c.loop-index.slices.items i c.args.count all c.loop-index.invariant less c.in_ok-copied.field-0 some)
+    (left_more decoded n c.loop-index.slices.items i c.args.count all c.loop-index.invariant less c.in_ok-copy.field-0 some)

@@ -1,5 +1,5 @@
 use Rattle.vc_types.specs.TransformParameters.{parameters_of}
-use Rattle.picture_build.proofs.ColourParts.{colours_alike}
+use Rattle.vc_slice.proofs.ColourParts.{colours_alike}
 use Rattle.picture_build.proofs.filling.put_blocks.Goals as goal
 
 pub put_block-requires-3-clause-rects : goal.put_block-requires-3-clause-rects

@@ -1,19 +1,23 @@
-use Rattle.std.proofs.Common.{rules, ◌<◌, refl, arith}
+use Rattle.std.proofs.Common.{rules, ◌<◌, arith}
 use Rattle.vc_types.specs.Quantisation.{subband_count}
+use Rattle.vc_types.specs.Slices.{block_coefficients}
 use Rattle.vc_types.specs.TransformParameters.{parameters_of}
 use Rattle.vc_slice.proofs.BlockCoefficients.{none_read, subband_read, subband_large, all_read}
+use Rattle.vc_slice.proofs.WideSlices.{large_behind}
 use Rattle.vc_slice.proofs.component.read_component.Goals as goal
 
 pub loop-b-init : goal.loop-b-init
 loop-b-init c = record {
-  read = none_read (parameters_of c.args.plan.now) c.args.c c.args.slice c.args.index c.in_ok-coeffs.coeffs.items c.bits_of-bits.result c.args.block.now c.in_ok-coeffs.ensures.value c.bits_of-bits.ensures;
-  sound = rw c.in_ok-coeffs.ensures.value refl;
+  read = none_read (parameters_of c.args.plan.now) c.args.c c.args.slice c.args.index c.args.coeffs.now.items c.bits_of-bits.result c.args.block.now c.bits_of-bits.ensures;
+  sound = c.requires.sound;
 }
 
 pub returns-in_err-read_subband-clause-large : goal.returns-in_err-read_subband-clause-large
 returns-in_err-read_subband-clause-large c = λ e.
+    let p = parameters_of c.args.plan.now in
     let few : c.loop-b.b < subband_count c.args.plan.now.depth_ho c.args.plan.now.depth = omega arith in
-    subband_large (parameters_of c.args.plan.now) c.args.c c.args.slice c.args.index c.loop-b.coeffs.items _ c.loop-b.b c.count-count.result c.quantiser-quantiser.result.index c.loop-b.bits few c.count-count.ensures.value c.quantiser-quantiser.ensures c.loop-b.invariant.read (c.in_err-read_subband.ensures.large (search rules))
+    large_behind c.args.coeffs.now.items (block_coefficients p c.args.c c.args.slice c.args.index c.args.block.now) c.requires.sound
+    (subband_large p c.args.c c.args.slice c.args.index c.loop-b.coeffs.items _ c.loop-b.b c.count-count.result c.quantiser-quantiser.result.index c.loop-b.bits few c.count-count.ensures.value c.quantiser-quantiser.ensures c.loop-b.invariant.read (c.in_err-read_subband.ensures.large (search rules)))
 
 pub loop-b-preserved : goal.loop-b-preserved
 loop-b-preserved c = record {

@@ -3,6 +3,7 @@ use Rattle.vc_types.specs.Quantisation.{subband_count}
 use Rattle.vc_types.specs.Slices.{coefficients_of}
 use Rattle.vc_types.specs.TransformParameters.{parameters_of}
 use Rattle.vc_slice.specs.Falls.{block_from}
+use Rattle.vc_slice.specs.Listed.{listed}
 use Rattle.vc_slice.proofs.BlockCodes.{numbers_from, all_from, all_bits, none_from, enough, rest_from, subband_from, none_large-parts}
 use Rattle.vc_slice.proofs.FallSums.{begins, ends, sum_falls}
 use Rattle.vc_slice.proofs.falls.all_lens.Goals as goal
@@ -11,18 +12,18 @@ pub loop-b-init : goal.loop-b-init
 loop-b-init c =
     let p = parameters_of c.args.plan.now in
     record {
-      rest = λ q. rw c.component-rest.ensures (all_from p c.args.slice q c.args.c c.args.coeffs.now c.requires.coefficients);
+      rest = λ q. rw c.component-rest.ensures.value (all_from p c.args.slice q c.args.c c.args.coeffs.now c.requires.coefficients);
       count = omega (arith, c.new-falls.ensures.count);
       room = omega (arith, c.new-falls.ensures.bits 0);
       places = λ q. omega (arith, c.new-falls.ensures.kept q);
-      bits = λ q within. rw c.component-rest.ensures (begins q c.new-falls.result.count c.new-falls.result.bits c.new-falls.result.kept (numbers_from p c.args.slice q c.args.c 0 (coefficients_of c.args.coeffs.now c.args.c)) c.new-falls.ensures.count (c.new-falls.ensures.bits q) (c.new-falls.ensures.kept q) ∙ ap length (all_bits p c.args.slice q c.args.c c.args.coeffs.now));
+      bits = λ q within. rw c.component-rest.ensures.value (begins q c.new-falls.result.count c.new-falls.result.bits c.new-falls.result.kept (numbers_from p c.args.slice q c.args.c 0 (coefficients_of c.args.coeffs.now c.args.c)) c.new-falls.ensures.count (c.new-falls.ensures.bits q) (c.new-falls.ensures.kept q) ∙ ap length (all_bits p c.args.slice q c.args.c c.args.coeffs.now));
     }
 
 pub split_at-requires : goal.split_at-requires
-split_at-requires c = enough (parameters_of c.args.plan.now) c.args.slice 0 c.args.c c.loop-b.b c.area.result c.loop-b.rest.now (omega arith) c.area.ensures.value (c.loop-b.invariant.rest 0)
+split_at-requires c = enough (parameters_of c.args.plan.now) c.args.slice 0 c.args.c c.loop-b.b c.area.result (listed c.loop-b.rest) (omega arith) c.area.ensures.value (c.loop-b.invariant.rest 0)
 
 pub add_subband-requires-clause-small : goal.add_subband-requires-clause-small
-add_subband-requires-clause-small c = rw c.split_at.ensures.front (none_large-parts c.area.result c.loop-b.rest.now (c.loop-b.invariant.rest 0).small).0
+add_subband-requires-clause-small c = rw c.split_at.ensures.front (none_large-parts c.area.result (listed c.loop-b.rest) (c.loop-b.invariant.rest 0).small).0
 
 pub loop-b-preserved : goal.loop-b-preserved
 loop-b-preserved c =
@@ -30,13 +31,13 @@ loop-b-preserved c =
     let before = c.loop-b.falls in
     let few : c.loop-b.b < subband_count c.args.plan.now.depth_ho c.args.plan.now.depth = omega arith in
     record {
-      rest = λ q. rest_from p c.args.slice q c.args.c c.loop-b.b c.area.result c.loop-b.rest.now c.split_at.result.1.now few c.area.ensures.value c.split_at.ensures.back (c.loop-b.invariant.rest q);
+      rest = λ q. rest_from p c.args.slice q c.args.c c.loop-b.b c.area.result (listed c.loop-b.rest) (listed c.split_at.result.1) few c.area.ensures.value c.split_at.ensures.back (c.loop-b.invariant.rest q);
       count = omega (arith, c.add_subband.ensures.count, c.split_at.ensures.front_len, c.area.ensures.range, c.loop-b.invariant.count);
       room = c.add_subband.ensures.room;
       places = c.add_subband.ensures.places;
       bits = λ q within.
-          let next = subband_from p c.args.slice q c.args.c c.loop-b.b c.area.result (q - slice_index_or c.args.plan.now.matrix c.loop-b.b 0) c.loop-b.rest.now c.split_at.result.0.now c.split_at.result.1.now few c.area.ensures.value refl c.split_at.ensures.front c.split_at.ensures.back (c.loop-b.invariant.rest q) in
-          c.add_subband.ensures.bits q within (numbers_from p c.args.slice q c.args.c (c.loop-b.b + 1) c.split_at.result.1.now)
+          let next = subband_from p c.args.slice q c.args.c c.loop-b.b c.area.result (q - slice_index_or c.args.plan.now.matrix c.loop-b.b 0) (listed c.loop-b.rest) (listed c.split_at.result.0) (listed c.split_at.result.1) few c.area.ensures.value refl c.split_at.ensures.front c.split_at.ensures.back (c.loop-b.invariant.rest q) in
+          c.add_subband.ensures.bits q within (numbers_from p c.args.slice q c.args.c (c.loop-b.b + 1) (listed c.split_at.result.1))
           ∙ ap (block_from q before.count before.bits before.kept) (sym next)
           ∙ c.loop-b.invariant.bits q within;
     }
@@ -44,8 +45,8 @@ loop-b-preserved c =
 pub returns-clause-value : goal.returns-clause-value
 returns-clause-value c = λ q within.
     let p = parameters_of c.args.plan.now in
-    let none = none_from p c.args.slice q c.args.c c.loop-b.b c.loop-b.rest.now (omega arith) (c.loop-b.invariant.rest q) in
-    c.lens.ensures q within ∙ sym (ends q c.loop-b.falls.count c.loop-b.falls.bits c.loop-b.falls.kept (numbers_from p c.args.slice q c.args.c c.loop-b.b c.loop-b.rest.now) none) ∙ c.loop-b.invariant.bits q within
+    let none = none_from p c.args.slice q c.args.c c.loop-b.b (listed c.loop-b.rest) (omega arith) (c.loop-b.invariant.rest q) in
+    c.lens.ensures q within ∙ sym (ends q c.loop-b.falls.count c.loop-b.falls.bits c.loop-b.falls.kept (numbers_from p c.args.slice q c.args.c c.loop-b.b (listed c.loop-b.rest)) none) ∙ c.loop-b.invariant.bits q within
 
 pub returns-clause-range : goal.returns-clause-range
 returns-clause-range c = λ q within. omega (arith, c.lens.ensures q within, sum_falls q c.loop-b.falls.bits, c.loop-b.invariant.room, c.loop-b.invariant.places q, c.loop-b.invariant.count)

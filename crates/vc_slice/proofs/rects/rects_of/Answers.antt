@@ -1,5 +1,5 @@
 use Rattle.vc_types.specs.TransformParameters.{parameters_of}
-use Rattle.vc_slice.proofs.ColourRects.{of_colours}
+use Rattle.vc_slice.proofs.ColourParts.{of_colours}
 use Rattle.vc_slice.proofs.rects.rects_of.Goals as goal
 
 pub returns-clause-colours : goal.returns-clause-colours

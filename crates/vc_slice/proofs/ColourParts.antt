@@ -1,9 +1,9 @@
--- A slice has the same rectangles in both colour components.
-use Rattle.std.proofs.Common.{◌≡◌, ℕ, List, sym, subst}
+-- A slice has the same rectangles, and as many coefficients, in both colour components.
+use Rattle.std.proofs.Common.{◌≡◌, ℕ, List, refl, subst}
 use Rattle.vc_types.specs.declared.rect.Rect.{Rect}
 use Rattle.vc_types.specs.declared.video.Component.{Component}
 use Rattle.vc_types.specs.declared.video.Component.TheVariants.{C1, C2}
-use Rattle.vc_types.specs.Subbands.{slice_rectangle}
+use Rattle.vc_types.specs.Subbands.{slice_coefficient_count, slice_rectangle}
 use Rattle.vc_types.specs.TransformParameters.{Parameters}
 use Rattle.vc_geometry.specs.Rectangles.{AreSliceRectangles}
 
@@ -13,3 +13,8 @@ colours_alike p slice rects are = record { parts = are.parts; right = are.right;
 
 pub of_colours : (p : Parameters) (c : Component) (slice : ℕ) (rects : List Rect) → AreSliceRectangles p c slice rects → c ≡ C1 → AreSliceRectangles p C2 slice rects
 of_colours p c slice rects are is = colours_alike p slice rects (subst (λ (k : Component). AreSliceRectangles p k slice rects) is are)
+
+-- and as many coefficients
+pub colour_counts : (p : Parameters) (slice : ℕ) → slice_coefficient_count p C2 slice ≡ slice_coefficient_count p C1 slice
+unfolding slice_rectangle slice_coefficient_count
+colour_counts p slice = refl
