@@ -3,3 +3,4 @@ pub mod Coded
 pub mod Refusals
 pub mod Inside
 pub mod Falls
+pub mod Quantisers
