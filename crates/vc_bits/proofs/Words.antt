@@ -1,10 +1,10 @@
 -- The last bits of a word.
-use Rattle.std.proofs.Common.{◌≡◌, ℕ, zero, suc, ◌+◌, ◌-◌, ◌*◌, ◌/◌, ◌%◌, ◌^◌, ◌<◌, ◌≤◌, Bool, true, eqb, List, [], ◌∷◌, ◌++◌, length, get_or, drop, refl, sym, ap, ◌∙◌, arith, append_assoc, append-nil, zero-add, suc-add, length-drop, replicate}
+use Rattle.std.proofs.Common.{◌≡◌, ℕ, zero, suc, ◌+◌, ◌-◌, ◌*◌, ◌/◌, ◌%◌, ◌^◌, ◌<◌, ◌≤◌, Bool, true, eqb, List, [], ◌∷◌, ◌++◌, length, get_or, drop, refl, sym, ap, ◌∙◌, arith, mod-lt, append_assoc, append-nil, zero-add, suc-add, length-drop, replicate}
 use Rattle.std.specs.Int.{bit_at}
 use Rattle.std.proofs.Math.Seq.{drop-append-add, drop-length}
 use Rattle.std.proofs.Math.ListN.{drop_of_length-le}
-use Rattle.std.proofs.lemmas.Nat.{div-mul-add}
-use Rattle.std.proofs.lemmas.Nat.Bits.{bit_at_cat_low}
+use Rattle.std.proofs.lemmas.Nat.{div-mul-add, pow_pos, pow-add, mul-add-lt, one_shl}
+use Rattle.std.proofs.lemmas.Nat.Bits.{bit_at_cat_low, bit_at_ones}
 use Rattle.std.proofs.lemmas.List.{get_or_append_left, drop-drop, drop-append-le}
 use Rattle.vc_types.specs.Bits.{byte_bits, bits_of}
 use Rattle.vc_types.specs.Bounded.{bounded, BeginsWith}
@@ -153,3 +153,103 @@ skipped_bytes bytes n lt =
     behind_bits (drop (n / 8) bytes) (n % 8) (omega (arith, length-drop (n / 8) bytes)) (omega arith) ∙ ap (drop (n % 8)) (sym (drop-bits_of (n / 8) bytes)) ∙ drop-drop (n % 8) (8 * (n / 8)) (bits_of bytes) ∙ ap (λ (k : ℕ). drop k (bits_of bytes)) whole
 
 pub ruleset behinds = (none_yet, skipped_all, skipped_bytes)
+
+-- ---- twelve bits
+
+pub peeked_twelve : (count word : ℕ) (bits : List Bool) → 12 ≤ count → BeginsWith (word_bits count word ++ bits) (word_bits 12 (word / 2 ^ (count - 12) % 2 ^ 12))
+peeked_twelve count word bits many place lt =
+    let within : place < 12 = omega (arith, length-word_bits 12 (word / 2 ^ (count - 12) % 2 ^ 12)) in
+    let same : 11 - place + (count - 12) ≡ count - 1 - place = omega arith in
+    let there : 12 - 1 - place ≡ 11 - place = omega arith in
+    at_word count word place bits (omega arith)
+    ∙ ap (λ (n : ℕ). eqb n 1) (sym (low_bits_of (word / 2 ^ (count - 12)) 12 (11 - place) (omega arith) ∙ high_bits_of word (count - 12) (11 - place) ∙ ap (bit_at word) same))
+    ∙ sym (bit_of_word_bits 12 (word / 2 ^ (count - 12) % 2 ^ 12) place within)
+
+-- ones alone
+first_ones : (n k : ℕ) → k ≤ n → word_bits k (2 ^ n - 1) ≡ replicate k true
+unfolding word_bits
+first_ones n zero le = refl
+first_ones n (suc k) le =
+    ap (λ (b : ℕ). eqb b 1 ∷ word_bits k (2 ^ n - 1)) (bit_at_ones n k (omega arith)) ∙ ap (λ (bits : List Bool). true ∷ bits) (first_ones n k (omega arith))
+
+only_ones : (n : ℕ) → word_bits n (2 ^ n - 1) ≡ replicate n true
+only_ones n = first_ones n n (omega arith)
+
+-- the last bits of a word, and ones
+pub ones_behind : (count n word : ℕ) → word_bits (count + n) (word % 2 ^ count * 2 ^ n + (2 ^ n - 1)) ≡ word_bits count word ++ replicate n true
+ones_behind count n word =
+    let below : 2 ^ n - 1 < 2 ^ n = omega (arith, pow_pos n) in
+    split count n (word % 2 ^ count * 2 ^ n + (2 ^ n - 1))
+    ∙ ap (λ (k : ℕ). word_bits count k ++ word_bits n (word % 2 ^ count * 2 ^ n + (2 ^ n - 1))) (div-mul-add (word % 2 ^ count) (2 ^ n) (2 ^ n - 1) below)
+    ∙ ap (λ (bits : List Bool). bits ++ word_bits n (word % 2 ^ count * 2 ^ n + (2 ^ n - 1))) (same_word_bits count (word % 2 ^ count) word (λ i lt. low_bits_of word count i lt))
+    ∙ ap (λ (bits : List Bool). word_bits count word ++ bits) (same_word_bits n (word % 2 ^ count * 2 ^ n + (2 ^ n - 1)) (2 ^ n - 1) (λ i lt. bit_at_cat_low (word % 2 ^ count) n (2 ^ n - 1) i lt) ∙ only_ones n)
+
+-- they stay below a power
+filled_below : (count word : ℕ) → count < 12 → word % 2 ^ count * 2 ^ (12 - count) + (2 ^ (12 - count) - 1) < 2 ^ 12
+filled_below count word small =
+    let n = 12 - count in
+    let whole : 2 ^ n * 2 ^ count ≡ 2 ^ 12 = sym (pow-add 2 n count) ∙ (let e : n + count ≡ 12 = omega arith in ap (λ (k : ℕ). 2 ^ k) e) in
+    let last : 2 ^ n - 1 < 2 ^ n = omega (arith, pow_pos n) in
+    let below : word % 2 ^ count * 2 ^ n + (2 ^ n - 1) < 2 ^ n * 2 ^ count = mul-add-lt (word % 2 ^ count) (2 ^ n) (2 ^ n - 1) (2 ^ count) (mod-lt word (pow_pos count)) last in
+    omega (arith, below, whole)
+
+-- the word that is reckoned in the width of its parts
+pub filled_is : (count word : ℕ) → count < 12 → word % (1 * 2 ^ count % 2 ^ 64) * 2 ^ (12 - count) % 2 ^ 16 + (1 * 2 ^ (12 - count) % 2 ^ 16 - 1) ≡ word % 2 ^ count * 2 ^ (12 - count) + (2 ^ (12 - count) - 1)
+filled_is count word small =
+    let power = one_shl count 64 (omega arith) in
+    let ones = one_shl (12 - count) 16 (omega arith) in
+    let front : word % 2 ^ count * 2 ^ (12 - count) < 2 ^ 16 = omega (arith, filled_below count word small) in
+    let kept : word % 2 ^ count * 2 ^ (12 - count) % 2 ^ 16 ≡ word % 2 ^ count * 2 ^ (12 - count) = omega (arith, front) in
+    ap (λ (n : ℕ). word % n * 2 ^ (12 - count) % 2 ^ 16 + (1 * 2 ^ (12 - count) % 2 ^ 16 - 1)) power ∙ ap (λ (n : ℕ). n + (1 * 2 ^ (12 - count) % 2 ^ 16 - 1)) kept ∙ ap (λ (n : ℕ). word % 2 ^ count * 2 ^ (12 - count) + (n - 1)) ones
+
+pub filled_small : (count word : ℕ) → count < 12 → word % (1 * 2 ^ count % 2 ^ 64) * 2 ^ (12 - count) % 2 ^ 16 + (1 * 2 ^ (12 - count) % 2 ^ 16 - 1) < 4096
+filled_small count word small = omega (arith, filled_is count word small, filled_below count word small)
+
+pub filled_bits : (count word : ℕ) → count < 12 → word_bits 12 (word % (1 * 2 ^ count % 2 ^ 64) * 2 ^ (12 - count) % 2 ^ 16 + (1 * 2 ^ (12 - count) % 2 ^ 16 - 1)) ≡ word_bits count word ++ replicate (12 - count) true
+filled_bits count word small =
+    let long : 12 ≡ count + (12 - count) = omega arith in
+    ap (word_bits 12) (filled_is count word small) ∙ ap (λ (n : ℕ). word_bits n (word % 2 ^ count * 2 ^ (12 - count) + (2 ^ (12 - count) - 1))) long ∙ ones_behind count (12 - count) word
+
+pub peeked_filled : (count word number : ℕ) (bytes : List ℕ) → bytes ≡ [] → word_bits 12 number ≡ word_bits count word ++ replicate (12 - count) true → BeginsWith (word_bits count word ++ bits_of bytes) (word_bits 12 number)
+peeked_filled count word number bytes none is place lt =
+    let bits = word_bits count word in
+    let here : bits ++ bits_of bytes ≡ bits = ap (λ (more : List ℕ). bits ++ bits_of more) none ∙ ap (λ (more : List Bool). bits ++ more) bits_of-nil ∙ append-nil bits in
+    ap (λ (xs : List Bool). bounded xs place) here ∙ (same_ones bits (12 - count)).at place ∙ ap (λ (xs : List Bool). bounded xs place) (sym is)
+
+-- ---- four bytes
+
+pub four_added : (count word b0 b1 b2 b3 next : ℕ) (bytes : List ℕ) → count ≤ 32 → b0 < 256 → b1 < 256 → b2 < 256 → b3 < 256
+    → next ≡ word % 2 ^ 32 * 2 ^ 32 + (((b0 * 256 + b1) * 256 + b2) * 256 + b3)
+    → word_bits (count + 32) next ++ bits_of bytes ≡ word_bits count word ++ bits_of (b0 ∷ b1 ∷ b2 ∷ b3 ∷ bytes)
+four_added count word b0 b1 b2 b3 next bytes le s0 s1 s2 s3 is =
+    let kept : word_bits count (word % 2 ^ 32) ≡ word_bits count word = same_word_bits count (word % 2 ^ 32) word (λ i lt. low_bits_of word 32 i (omega arith)) in
+    let w = word % 2 ^ 32 in
+    let whole : next ≡ (((w * 2 ^ 8 + b0) * 2 ^ 8 + b1) * 2 ^ 8 + b2) * 2 ^ 8 + b3 = omega (arith, is) in
+    let long : count + 32 ≡ count + 8 + 8 + 8 + 8 = omega arith in
+    let one = word_and_byte count w b0 s0 in
+    let two = word_and_byte (count + 8) (w * 2 ^ 8 + b0) b1 s1 in
+    let three = word_and_byte (count + 8 + 8) ((w * 2 ^ 8 + b0) * 2 ^ 8 + b1) b2 s2 in
+    let four = word_and_byte (count + 8 + 8 + 8) (((w * 2 ^ 8 + b0) * 2 ^ 8 + b1) * 2 ^ 8 + b2) b3 s3 in
+    let all : word_bits (count + 32) next ≡ (((word_bits count word ++ byte_bits b0) ++ byte_bits b1) ++ byte_bits b2) ++ byte_bits b3 =
+    ap (λ (n : ℕ). word_bits n next) long ∙ ap (word_bits (count + 8 + 8 + 8 + 8)) whole ∙ four
+    ∙ ap (λ (xs : List Bool). xs ++ byte_bits b3) (three ∙ ap (λ (xs : List Bool). xs ++ byte_bits b2) (two ∙ ap (λ (xs : List Bool). xs ++ byte_bits b1) (one ∙ ap (λ (xs : List Bool). xs ++ byte_bits b0) kept))) in
+    let front = word_bits count word in
+    ap (λ (xs : List Bool). xs ++ bits_of bytes) all
+    ∙ append_assoc (((front ++ byte_bits b0) ++ byte_bits b1) ++ byte_bits b2) (byte_bits b3) (bits_of bytes)
+    ∙ ap (λ (xs : List Bool). (((front ++ byte_bits b0) ++ byte_bits b1) ++ byte_bits b2) ++ xs) (sym (bits_of-cons b3 bytes))
+    ∙ append_assoc ((front ++ byte_bits b0) ++ byte_bits b1) (byte_bits b2) (bits_of (b3 ∷ bytes))
+    ∙ ap (λ (xs : List Bool). ((front ++ byte_bits b0) ++ byte_bits b1) ++ xs) (sym (bits_of-cons b2 (b3 ∷ bytes)))
+    ∙ append_assoc (front ++ byte_bits b0) (byte_bits b1) (bits_of (b2 ∷ b3 ∷ bytes))
+    ∙ ap (λ (xs : List Bool). (front ++ byte_bits b0) ++ xs) (sym (bits_of-cons b1 (b2 ∷ b3 ∷ bytes)))
+    ∙ append_assoc front (byte_bits b0) (bits_of (b1 ∷ b2 ∷ b3 ∷ bytes))
+    ∙ ap (λ (xs : List Bool). front ++ xs) (sym (bits_of-cons b0 (b1 ∷ b2 ∷ b3 ∷ bytes)))
+
+pub four_moved : (count word next : ℕ) (bytes after : List ℕ) → count ≤ 32 → 4 ≤ length bytes → ((i : ℕ) → get_or bytes i 0 < 256)
+    → next ≡ word % 2 ^ 32 * 2 ^ 32 + (((get_or bytes 0 0 * 256 + get_or bytes 1 0) * 256 + get_or bytes 2 0) * 256 + get_or bytes 3 0) → after ≡ drop 4 bytes
+    → word_bits (count + 32) next ++ bits_of after ≡ word_bits count word ++ bits_of bytes
+four_moved count word next (b0 ∷ b1 ∷ b2 ∷ b3 ∷ bytes) after le some small is behind =
+    ap (λ (rest : List ℕ). word_bits (count + 32) next ++ bits_of rest) behind ∙ four_added count word b0 b1 b2 b3 next bytes le (small 0) (small 1) (small 2) (small 3) is
+four_moved count word next [] after le some small is behind = absurd (omega arith)
+four_moved count word next (b0 ∷ []) after le some small is behind = absurd (omega arith)
+four_moved count word next (b0 ∷ b1 ∷ []) after le some small is behind = absurd (omega arith)
+four_moved count word next (b0 ∷ b1 ∷ b2 ∷ []) after le some small is behind = absurd (omega arith)

@@ -1,4 +1,4 @@
-ghost use Rattle.std.specs.Prelude.{◌≡◌, ◌+◌, ◌*◌, ◌<◌, ◌≤◌, ◌++◌, [], drop, length};
+ghost use Rattle.std.specs.Prelude.{◌≡◌, ◌+◌, ◌*◌, ◌<◌, ◌≤◌, ◌++◌, ◌-◌, ◌^◌, [], drop, length, replicate, true};
 ghost use Rattle.vc_types.specs.Bits.{byte_bits, bits_of};
 ghost use Rattle.vc_types.specs.Bounded.{bounded, BeginsWith};
 ghost use Rattle.vc_bits.specs.Bits.{word_bits};
@@ -11,7 +11,7 @@ use std::marker::Model;
 #[derive(Drop)]
 pub struct Block<'a> {
     // The bits that come next are the last bits of a word, and this many. The bytes behind them are read into it before
-    // fewer than eight bits are left there.
+    // fewer than twelve bits are left there.
     word: u64,
     count: u32,
     rest: &'a [u8],
@@ -26,7 +26,7 @@ impl<'a> Model for Block<'a> {
 
     ghost view = { λ b. word_bits b.count b.word ++ bits_of b.rest.now };
 
-    ghost invariant = { λ b. (b.count ≤ 64) × (b.count < 8 → b.rest.now ≡ []) };
+    ghost invariant = { λ b. (b.count ≤ 64) × (b.count < 12 → b.rest.now ≡ []) };
 }
 
 impl<'a> Block<'a> {
@@ -78,6 +78,19 @@ impl<'a> Block<'a> {
         }
     }
 
+    /// The number that the next twelve bits make, past the end ones. The block stays.
+    #[inline(always)]
+    pub fn peek_twelve(&self) -> u16
+        ensures twelve { BeginsWith self.now (word_bits 12 result) }
+        ensures range { result < 2 ^ 12 }
+    {
+        if self.count >= 12 {
+            ((self.word >> (self.count - 12)) % (1 << 12)) as u16
+        } else {
+            filled_word(self.word, self.count)
+        }
+    }
+
     /// Goes on behind the next bits.
     #[tactic(auto, using(crate::proofs::Words::skips))]
     pub fn skip(&mut self, bits: u32)
@@ -94,17 +107,60 @@ impl<'a> Block<'a> {
     }
 }
 
-// The same bits, of which the word has at least eight or all.
+// The last bits of a word, so many, with ones behind them.
+fn filled_word(word: u64, count: u32) -> u16
+    requires { count < 12 }
+    ensures bits { word_bits 12 result ≡ word_bits count word ++ replicate (12 - count) true }
+    ensures range { result < 2 ^ 12 }
+{
+    let last = (word % (1 << count)) as u16;
+    let ones = (1u16 << (12 - count)) - 1;
+    (last << (12 - count)) + ones
+}
+
+// The same bits, of which the word has at least twelve or all.
 fn refilled<'a>(word: u64, count: u32, rest: &'a [u8]) -> (u64, u32, &'a [u8])
     requires { count ≤ 64 }
     ensures bits { word_bits result.1 result.0 ++ bits_of result.2.now
         ≡ word_bits count word ++ bits_of rest.now }
     ensures count { result.1 ≤ 64 }
-    ensures few { result.1 < 8 → result.2.now ≡ [] }
+    ensures few { result.1 < 12 → result.2.now ≡ [] }
 {
-    if count >= 8 {
+    if count >= 12 {
         return (word, count, rest);
     }
+    if rest.len() >= 4 {
+        return with_four(word, count, rest);
+    }
+    with_bytes(word, count, rest)
+}
+
+// The same bits, of which the word has four bytes more.
+#[inline(always)]
+fn with_four<'a>(word: u64, count: u32, rest: &'a [u8]) -> (u64, u32, &'a [u8])
+    requires count { count ≤ 32 }
+    requires bytes { 4 ≤ length rest.now }
+    ensures bits { word_bits result.1 result.0 ++ bits_of result.2.now
+        ≡ word_bits count word ++ bits_of rest.now }
+    ensures count { result.1 ≡ count + 32 }
+{
+    let more = u32::from_be_bytes([rest[0], rest[1], rest[2], rest[3]]);
+    let (_, after) = rest.split_at(4);
+    (
+        word % (1 << 32) * (1 << 32) + u64::from(more),
+        count + 32,
+        after,
+    )
+}
+
+// The same bits, of which the word has as many bytes more as it has room for.
+fn with_bytes<'a>(word: u64, count: u32, rest: &'a [u8]) -> (u64, u32, &'a [u8])
+    requires { count ≤ 64 }
+    ensures bits { word_bits result.1 result.0 ++ bits_of result.2.now
+        ≡ word_bits count word ++ bits_of rest.now }
+    ensures count { result.1 ≤ 64 }
+    ensures few { result.1 < 12 → result.2.now ≡ [] }
+{
     let mut word = word;
     let mut count = count;
     let mut rest = rest;
@@ -123,7 +179,7 @@ fn behind<'a>(rest: &'a [u8], bits: u32) -> (u64, u32, &'a [u8])
     ensures bits { word_bits result.1 result.0 ++ bits_of result.2.now
         ≡ drop bits (bits_of rest.now) }
     ensures count { result.1 ≤ 64 }
-    ensures few { result.1 < 8 → result.2.now ≡ [] }
+    ensures few { result.1 < 12 → result.2.now ≡ [] }
 {
     let bytes = (bits / 8) as usize;
     if bytes >= rest.len() {

@@ -1,4 +1,4 @@
--- The table says of each byte what numbers' codes it begins with.
+-- The table says of each twelve bits what numbers' codes they begin with.
 use Rattle.std.proofs.lemmas.Int.{to_z-of_z, fits_signed_from_abs}
 use Rattle.std.specs.Int.{w32, w64}
 use Rattle.std.proofs.Common.{◌≡◌, ◌^◌, unsigned_abs, to_z, of_z, ℕ, zero, suc, ◌+◌, ◌-◌, ◌<◌, ◌≤◌, ℤ, pos, Bool, true, false, eqb, leb, List, [], ◌∷◌, ◌++◌, length, get_or, take, drop, refl, sym, ap, subst, ◌∙◌, arith, inl, inr, length-append, zero-add, suc-add}
@@ -6,7 +6,7 @@ use Rattle.std.specs.Prelude.{◌&&◌}
 use Rattle.std.proofs.lemmas.Bool.{and_parts, cases_lt, eqb-true, leb-true}
 use Rattle.std.proofs.lemmas.List.{take-append-drop, drop-drop, get_or-take}
 use Rattle.std.proofs.Math.Seq.{get_or-append_right}
-use Rattle.vc_types.specs.Bits.{byte_bits}
+use Rattle.vc_bits.specs.Bits.{word_bits}
 use Rattle.vc_types.specs.Codes.{uint_bits, spread_digits, sint_bits}
 use Rattle.vc_types.specs.Bounded.{bounded, BeginsWith, bounded_sint}
 use Rattle.vc_types.proofs.BoundedCodes.{bounded-drop, front_begins, bounded_sint-begins}
@@ -45,7 +45,7 @@ numbers_rest (v ∷ vs) bits begin k =
     ∙ numbers_rest vs (drop n bits) (behind bits (sint_bits v) (codes vs) begin) k
     ∙ ap (λ (xs : List Bool). number_at xs k) (drop-drop (length (codes vs)) n bits ∙ ap (λ (m : ℕ). drop m bits) long)
 
--- ---- a test of the whole table
+-- ---- a test of a whole table
 
 abbrev pub holds_below : (ℕ → Bool) → ℕ → Bool
 holds_below test zero = true
@@ -77,44 +77,69 @@ same (true ∷ xs) (false ∷ ys) h = absurd cc
 same (false ∷ xs) (true ∷ ys) h = absurd cc
 
 abbrev is_row : ℕ → List ℤ → ℕ → ℕ → Bool
-is_row byte values count taken =
-    same_bits (codes (take count values)) (take taken (byte_bits byte)) && (eqb (length (take count values)) count && (eqb (length (codes (take count values))) taken && leb count 8))
+is_row twelve values count taken =
+    same_bits (codes (take count values)) (take taken (word_bits 12 twelve)) && (eqb (length (take count values)) count && (eqb (length (codes (take count values))) taken && leb count 8))
 
-all_rows : holds_below (λ byte. is_row byte (get_or VALUES byte []) (get_or COUNT byte 0) (get_or BITS byte 0)) 256 ≡ true
-unfolding byte_bits sint_bits uint_bits spread_digits
+-- rows from one on
+abbrev are_rows : ℕ → List (List ℤ) → List ℕ → List ℕ → Bool
+are_rows twelve [] counts takens = true
+are_rows twelve (values ∷ more) (count ∷ counts) (taken ∷ takens) = is_row twelve values count taken && are_rows (suc twelve) more counts takens
+are_rows twelve (values ∷ more) [] takens = false
+are_rows twelve (values ∷ more) (count ∷ counts) [] = false
+
+all_rows : are_rows 0 VALUES COUNT BITS ≡ true
+unfolding word_bits sint_bits uint_bits spread_digits
 all_rows = refl
 
-pub record IsRow (byte : ℕ) (values : List ℤ) (count taken : ℕ) : Type 0 where
-  pub front : byte_bits byte ≡ codes (take count values) ++ drop taken (byte_bits byte)
+all_values : length VALUES ≡ 4096
+all_values = refl
+
+row_test : (first k : ℕ) (rows : List (List ℤ)) (counts takens : List ℕ) → are_rows first rows counts takens ≡ true → k < length rows → is_row (first + k) (get_or rows k []) (get_or counts k 0) (get_or takens k 0) ≡ true
+row_test first k [] counts takens all lt = absurd (omega arith)
+row_test first zero (values ∷ more) (count ∷ counts) (taken ∷ takens) all lt =
+    let here : first + 0 ≡ first = omega arith in
+    ap (λ (n : ℕ). is_row n values count taken) here ∙ (and_parts (is_row first values count taken) (are_rows (suc first) more counts takens) all).0
+row_test first (suc k) (values ∷ more) (count ∷ counts) (taken ∷ takens) all lt =
+    let there : first + suc k ≡ suc first + k = omega arith in
+    ap (λ (n : ℕ). is_row n (get_or more k []) (get_or counts k 0) (get_or takens k 0)) there
+    ∙ row_test (suc first) k more counts takens (and_parts (is_row first values count taken) (are_rows (suc first) more counts takens) all).1 (omega arith)
+row_test first k (values ∷ more) [] takens all lt = absurd cc
+row_test first k (values ∷ more) (count ∷ counts) [] all lt = absurd cc
+
+pub record IsRow (twelve : ℕ) (values : List ℤ) (count taken : ℕ) : Type 0 where
+  pub front : word_bits 12 twelve ≡ codes (take count values) ++ drop taken (word_bits 12 twelve)
   pub long : length (take count values) ≡ count
   pub bits : length (codes (take count values)) ≡ taken
   pub few : count ≤ 8
 
-from_test : (byte : ℕ) (values : List ℤ) (count taken : ℕ) → is_row byte values count taken ≡ true → IsRow byte values count taken
-from_test byte values count taken test =
+from_test : (twelve : ℕ) (values : List ℤ) (count taken : ℕ) → is_row twelve values count taken ≡ true → IsRow twelve values count taken
+from_test twelve values count taken test =
     let parts = and_parts _ _ test in
     let more = and_parts _ _ parts.1 in
     let last = and_parts _ _ more.1 in
     record {
-      front = sym (take-append-drop taken (byte_bits byte)) ∙ ap (λ (bits : List Bool). bits ++ drop taken (byte_bits byte)) (sym (same _ _ parts.0));
+      front = sym (take-append-drop taken (word_bits 12 twelve)) ∙ ap (λ (bits : List Bool). bits ++ drop taken (word_bits 12 twelve)) (sym (same _ _ parts.0));
       long = eqb-true _ _ more.0;
       bits = eqb-true _ _ last.0;
       few = leb-true count 8 last.1;
     }
 
-pub row : (byte : ℕ) → byte < 256 → IsRow byte (get_or VALUES byte []) (get_or COUNT byte 0) (get_or BITS byte 0)
-row byte small = from_test byte _ _ _ (at (λ byte. is_row byte (get_or VALUES byte []) (get_or COUNT byte 0) (get_or BITS byte 0)) 256 byte all_rows small)
+pub row : (twelve : ℕ) → twelve < 4096 → IsRow twelve (get_or VALUES twelve []) (get_or COUNT twelve 0) (get_or BITS twelve 0)
+row twelve small =
+    let within : twelve < length VALUES = omega (arith, all_values) in
+    let here : 0 + twelve ≡ twelve = omega arith in
+    from_test twelve _ _ _ (ap (λ (n : ℕ). is_row n (get_or VALUES twelve []) (get_or COUNT twelve 0) (get_or BITS twelve 0)) (sym here) ∙ row_test 0 twelve VALUES COUNT BITS all_rows within)
 
-row_begins : (byte : ℕ) (values : List ℤ) (count taken : ℕ) (bits : List Bool) → IsRow byte values count taken → BeginsWith bits (byte_bits byte) → BeginsWith bits (codes (take count values))
-row_begins byte values count taken bits r begin = front_begins bits (codes (take count values)) (drop taken (byte_bits byte)) (subst (BeginsWith bits) r.front begin)
+row_begins : (twelve : ℕ) (values : List ℤ) (count taken : ℕ) (bits : List Bool) → IsRow twelve values count taken → BeginsWith bits (word_bits 12 twelve) → BeginsWith bits (codes (take count values))
+row_begins twelve values count taken bits r begin = front_begins bits (codes (take count values)) (drop taken (word_bits 12 twelve)) (subst (BeginsWith bits) r.front begin)
 
-pub row_rest : (byte : ℕ) (values : List ℤ) (count taken : ℕ) (bits : List Bool) → IsRow byte values count taken → BeginsWith bits (byte_bits byte) → (k : ℕ) → number_at bits (count + k) ≡ number_at (drop taken bits) k
-row_rest byte values count taken bits r begin k =
-    ap (λ (n : ℕ). number_at bits (n + k)) (sym r.long) ∙ numbers_rest (take count values) bits (row_begins byte values count taken bits r begin) k ∙ ap (λ (n : ℕ). number_at (drop n bits) k) r.bits
+pub row_rest : (twelve : ℕ) (values : List ℤ) (count taken : ℕ) (bits : List Bool) → IsRow twelve values count taken → BeginsWith bits (word_bits 12 twelve) → (k : ℕ) → number_at bits (count + k) ≡ number_at (drop taken bits) k
+row_rest twelve values count taken bits r begin k =
+    ap (λ (n : ℕ). number_at bits (n + k)) (sym r.long) ∙ numbers_rest (take count values) bits (row_begins twelve values count taken bits r begin) k ∙ ap (λ (n : ℕ). number_at (drop n bits) k) r.bits
 
-pub row_values : (byte : ℕ) (values : List ℤ) (count taken : ℕ) (bits : List Bool) → IsRow byte values count taken → BeginsWith bits (byte_bits byte) → (j : ℕ) → j < count → get_or values j (pos 0) ≡ number_at bits j
-row_values byte values count taken bits r begin j lt =
-    sym (get_or-take count values j (pos 0) lt) ∙ numbers_front (take count values) bits (row_begins byte values count taken bits r begin) j (omega (arith, r.long))
+pub row_values : (twelve : ℕ) (values : List ℤ) (count taken : ℕ) (bits : List Bool) → IsRow twelve values count taken → BeginsWith bits (word_bits 12 twelve) → (j : ℕ) → j < count → get_or values j (pos 0) ≡ number_at bits j
+row_values twelve values count taken bits r begin j lt =
+    sym (get_or-take count values j (pos 0) lt) ∙ numbers_front (take count values) bits (row_begins twelve values count taken bits r begin) j (omega (arith, r.long))
 
 -- ---- one number
 

@@ -48,7 +48,7 @@ fn read_some(block: &mut Block, out: &mut [i32], at: usize) -> Result<usize, Too
         (λ n. (k : ℕ) → number_at block.old (n + k) ≡ number_at block.new k) }
     ensures too_large { OnErr result (2 ^ 30 ≤ unsigned_abs (number_at block.old 0)) }
 {
-    let row = row_of(block.peek());
+    let row = row_of(block.peek_twelve());
     if row.count > 0 {
         put_eight(out, at, row.values);
         block.skip(row.bits);
@@ -63,12 +63,12 @@ fn read_some(block: &mut Block, out: &mut [i32], at: usize) -> Result<usize, Too
 }
 
 #[inline(always)]
-fn put_eight(out: &mut [i32], at: usize, values: &[i32; 8])
+fn put_eight(out: &mut [i32], at: usize, values: &[i8; 8])
     requires { at + 8 ≤ length out.old }
     ensures on { (j : ℕ) → j < 8 → line_of out.new (at + j) ≡ line_of values.now j }
     ensures off { (i : ℕ) → i < at → line_of out.new i ≡ line_of out.old i }
 {
     for j in 0..8usize {
-        out[at + j] = values[j];
+        out[at + j] = i32::from(values[j]);
     }
 }

@@ -1,4 +1,4 @@
-ghost use Rattle.std.specs.Prelude.{◌≡◌, ◌+◌, ◌-◌, ◌*◌, ◌/◌, ◌^◌, ◌<◌, ◌≤◌, ◌⊎◌, ℕ, length, unsigned_abs, map, IsTrue};
+ghost use Rattle.std.specs.Prelude.{◌≡◌, ◌+◌, ◌-◌, ◌*◌, ◌/◌, ◌^◌, ◌<◌, ◌≤◌, ◌⊎◌, ℕ, length, unsigned_abs, map, IsTrue, true, false};
 ghost use Rattle.vc_types.specs.Lifting.{line_of, half_of, changed_by};
 ghost use Rattle.vc_types.specs.Wavelets.{synthesised, analysed};
 ghost use Rattle.vc_lift.specs.CountedSteps.{sum_met, change_at, lift, lift_all, lift_between, in_order, place_met};
@@ -110,6 +110,62 @@ fn with_taps<'a>(step: &Step, taps: &'a [i32]) -> Step<'a>
     }
 }
 
+// The step, where its changes are added, so that the compiler sees it.
+#[inline(always)]
+fn adding<'a>(step: &Step<'a>) -> Step<'a>
+    requires { step.now.adds ≡ true }
+    ensures { counted_of result ≡ counted_of step.now }
+{
+    Step {
+        parity: step.parity,
+        adds: true,
+        taps: step.taps,
+        back: step.back,
+        shift: step.shift,
+    }
+}
+
+// The step, where its changes are taken off.
+#[inline(always)]
+fn taking_off<'a>(step: &Step<'a>) -> Step<'a>
+    requires { step.now.adds ≡ false }
+    ensures { counted_of result ≡ counted_of step.now }
+{
+    Step {
+        parity: step.parity,
+        adds: false,
+        taps: step.taps,
+        back: step.back,
+        shift: step.shift,
+    }
+}
+
+// Makes the step on so many cells, by a loop for its sign.
+#[inline(always)]
+fn change_signed(cells: &mut [i32], halves: &Halves, step: &Step, n: usize, width: usize)
+    requires plain { IsPlain (counted_of step.now) }
+    requires small { halves.now.half < 2 ^ 60 }
+    requires at { n < halves.now.half }
+    requires run { CanRun (counted_of step.now) halves.now n width (length cells.old) }
+    requires room { (x : ℕ) → x < width
+        → HasRangeAt (2 ^ 31) (counted_of step.now) halves.now.half
+        (line_in halves.now cells.old x) n }
+    ensures on { (x : ℕ) → x < width
+        → line_of cells.new (halves_place halves.now (2 * n + step.now.parity) + x)
+        ≡ changed_by step.now.adds
+        (line_of cells.old (halves_place halves.now (2 * n + step.now.parity) + x))
+        (change_at (counted_of step.now) halves.now.half (line_in halves.now cells.old x) n) }
+    ensures off { (i : ℕ) → (i < halves_place halves.now (2 * n + step.now.parity))
+        ⊎ (halves_place halves.now (2 * n + step.now.parity) + width ≤ i)
+        → line_of cells.new i ≡ line_of cells.old i }
+{
+    if step.adds {
+        change_cells(cells, halves, &adding(step), n, width);
+    } else {
+        change_cells(cells, halves, &taking_off(step), n, width);
+    }
+}
+
 // The same, with a loop of its own for taps that are small enough for 32 bits to serve. It is no part of a loop over rows:
 // in one, the compiler would ask whether any row lies over another.
 #[inline(never)]
@@ -141,13 +197,13 @@ fn change_run(cells: &mut [i32], halves: &Halves, step: &Step, n: usize, width: 
     let two: &[i32] = &[1, 1];
     let four: &[i32] = &[-1, 9, 9, -1];
     if step.taps == two {
-        change_cells(cells, halves, &with_taps(step, two), n, width);
+        change_signed(cells, halves, &with_taps(step, two), n, width);
     } else if step.taps == four {
-        change_cells(cells, halves, &with_taps(step, four), n, width);
+        change_signed(cells, halves, &with_taps(step, four), n, width);
     } else if step.taps == one {
-        change_cells(cells, halves, &with_taps(step, one), n, width);
+        change_signed(cells, halves, &with_taps(step, one), n, width);
     } else {
-        change_cells(cells, halves, step, n, width);
+        change_signed(cells, halves, step, n, width);
     }
 }
 

@@ -5,3 +5,4 @@ pub mod Inside
 pub mod Falls
 pub mod OneBlock
 pub mod Listed
+pub mod Quantisers

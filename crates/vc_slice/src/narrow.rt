@@ -6,6 +6,7 @@ ghost use Rattle.vc_types.specs.Slices.{block_coefficients, is_large, quantisers
 ghost use Rattle.vc_geometry.specs.Rectangles.{AreSliceRectangles};
 ghost use Rattle.vc_types.specs.Subbands.{slice_count, slice_coefficient_count};
 ghost use Rattle.vc_types.specs.TransformParameters.{parameters_of};
+ghost use Rattle.vc_slice.specs.Quantisers.{AreSliceQuantisers};
 
 use crate::component::{bits_of, quantiser};
 use crate::rects::{area, rects_of};
@@ -39,23 +40,41 @@ pub fn read_narrow(
         (block_coefficients (parameters_of plan.now) c slice index block.now) ≡ false) }
 {
     let rects = rects_of(plan, c, slice);
-    read_narrow_in(plan, c, slice, index, block, &rects, out)
+    let mut by_subband = [Quantiser::new(index); 16];
+    slice_quantisers(plan, index, &mut by_subband);
+    read_narrow_with(plan, c, slice, index, block, &rects, &by_subband, out)
 }
 
-/// The same, where the parts of the subbands that belong to the slice are at hand, as `slice_rects` gives them.
-pub fn read_narrow_in(
+/// The quantisers of all subbands, in their order, in a slice of this index.
+pub fn slice_quantisers(plan: &Plan, index: u8, by_subband: &mut [Quantiser])
+    requires index { index ≤ 127 }
+    requires room { subband_count plan.now.depth_ho plan.now.depth ≤ length by_subband.old }
+    ensures value { AreSliceQuantisers (parameters_of plan.now) index by_subband.new }
+    ensures length { length by_subband.new ≡ length by_subband.old }
+{
+    for b in 0..bands(plan) {
+        by_subband[b as usize] = quantiser(plan, b, index);
+    }
+}
+
+/// The same as `read_narrow`, where the parts of the subbands that belong to the slice are at hand, as `slice_rects` gives
+/// them, and the subbands' quantisers, as `slice_quantisers` does.
+pub fn read_narrow_with(
     plan: &Plan,
     c: Component,
     slice: u32,
     index: u8,
     block: &[u8],
     rects: &[Rect],
+    by_subband: &[Quantiser],
     out: &mut [i32],
 ) -> Result<(), TooWide>
     requires slice { slice < slice_count (parameters_of plan.now) }
     requires index { index ≤ 127 }
     requires rects { AreSliceRectangles (parameters_of plan.now) c slice rects.now }
     requires all { subband_count plan.now.depth_ho plan.now.depth ≤ length rects.now }
+    requires quantisers { AreSliceQuantisers (parameters_of plan.now) index by_subband.now }
+    requires known { subband_count plan.now.depth_ho plan.now.depth ≤ length by_subband.now }
     requires room { slice_coefficient_count (parameters_of plan.now) c slice + 8 ≤ length out.old }
     ensures value { OnOk result
         ((i : ℕ) → i < slice_coefficient_count (parameters_of plan.now) c slice
@@ -70,7 +89,7 @@ pub fn read_narrow_in(
         return Err(TooWide);
     };
     let greatest = greatest(&out[..count]);
-    if dequantise(plan, c, slice, index, rects, greatest, out) {
+    if dequantise(plan, c, slice, index, rects, by_subband, greatest, out) {
         Ok(())
     } else {
         Err(TooWide)
@@ -109,6 +128,7 @@ fn dequantise(
     slice: u32,
     index: u8,
     rects: &[Rect],
+    by_subband: &[Quantiser],
     greatest: u32,
     numbers: &mut [i32],
 ) -> bool
@@ -116,6 +136,8 @@ fn dequantise(
     requires index { index ≤ 127 }
     requires rects { AreSliceRectangles (parameters_of plan.now) c slice rects.now }
     requires all { subband_count plan.now.depth_ho plan.now.depth ≤ length rects.now }
+    requires quantisers { AreSliceQuantisers (parameters_of plan.now) index by_subband.now }
+    requires known { subband_count plan.now.depth_ho plan.now.depth ≤ length by_subband.now }
     requires count { slice_coefficient_count (parameters_of plan.now) c slice ≤ length numbers.old }
     requires greatest { (i : ℕ) → i < slice_coefficient_count (parameters_of plan.now) c slice
         → unsigned_abs (line_of numbers.old i) ≤ greatest }
@@ -130,8 +152,7 @@ fn dequantise(
     let mut from = 0usize;
     for b in 0..bands(plan) {
         let to = from + area(plan, c, slice, rects, b) as usize;
-        let quantiser = quantiser(plan, b, index);
-        if !dequantise_run(&quantiser, numbers, from, to, greatest) {
+        if !dequantise_run(&by_subband[b as usize], numbers, from, to, greatest) {
             return false;
         }
         from = to;

@@ -9,12 +9,14 @@ ghost use Rattle.vc_types.specs.TransformParameters.{parameters_of};
 ghost use Rattle.vc_geometry.specs.Rectangles.{AreSliceRectangles};
 ghost use Rattle.vc_slice.specs.Coded.{coded_of};
 ghost use Rattle.vc_slice.specs.OneBlock.{three_parts};
+ghost use Rattle.vc_slice.specs.Quantisers.{AreSliceQuantisers};
 
 use crate::coded::CodedSlice;
 use crate::coeffs::SliceCoeffs;
-use crate::narrow::{TooWide, count_in, read_narrow_in};
+use crate::narrow::{TooWide, count_in, read_narrow_with, slice_quantisers};
 use crate::rects::rects_of;
 use std::alloc::Global;
+use vc_quant::Quantiser;
 use vc_types::{Component, NoMemory, Plan, Rect};
 
 // The coefficients of a slice in 32 bits each, unless one may be too wide.
@@ -67,7 +69,19 @@ fn read_blocks(
         ≡ Ok (all_coefficients (parameters_of plan.now) slice (coded_of coded.now))) }
 {
     let index = coded.index;
-    read_at(plan, Component::Y, slice, index, coded.y, luma, 0, numbers)?;
+    let mut quantisers = [Quantiser::new(index); 16];
+    slice_quantisers(plan, index, &mut quantisers);
+    read_at(
+        plan,
+        Component::Y,
+        slice,
+        index,
+        coded.y,
+        luma,
+        &quantisers,
+        0,
+        numbers,
+    )?;
     read_at(
         plan,
         Component::C1,
@@ -75,6 +89,7 @@ fn read_blocks(
         index,
         coded.c1,
         colour,
+        &quantisers,
         y,
         numbers,
     )?;
@@ -85,6 +100,7 @@ fn read_blocks(
         index,
         coded.c2,
         colour,
+        &quantisers,
         y + c,
         numbers,
     )?;
@@ -99,6 +115,7 @@ fn read_at(
     index: u8,
     block: &[u8],
     rects: &[Rect],
+    quantisers: &[Quantiser],
     from: usize,
     numbers: &mut [i32],
 ) -> Result<(), TooWide>
@@ -106,6 +123,8 @@ fn read_at(
     requires index { index ≤ 127 }
     requires rects { AreSliceRectangles (parameters_of plan.now) c slice rects.now }
     requires all { subband_count plan.now.depth_ho plan.now.depth ≤ length rects.now }
+    requires quantisers { AreSliceQuantisers (parameters_of plan.now) index quantisers.now }
+    requires known { subband_count plan.now.depth_ho plan.now.depth ≤ length quantisers.now }
     requires room { from + slice_coefficient_count (parameters_of plan.now) c slice + 8
         ≤ length numbers.old }
     ensures on { OnOk result
@@ -116,5 +135,14 @@ fn read_at(
     ensures sound { OnOk result (list_any is_large
         (block_coefficients (parameters_of plan.now) c slice index block.now) ≡ false) }
 {
-    read_narrow_in(plan, c, slice, index, block, rects, &mut numbers[from..])
+    read_narrow_with(
+        plan,
+        c,
+        slice,
+        index,
+        block,
+        rects,
+        quantisers,
+        &mut numbers[from..],
+    )
 }

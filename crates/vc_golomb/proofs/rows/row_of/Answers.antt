@@ -5,14 +5,14 @@ use Rattle.vc_golomb.proofs.ByteRows.{row, row_values, row_rest}
 use Rattle.vc_golomb.proofs.rows.row_of.Goals as goal
 
 pub returns-clause-few : goal.returns-clause-few
-returns-clause-few c = subst (λ (n : ℕ). n ≤ 8) (sym c.from.ensures) (row c.args.byte (omega arith)).few
+returns-clause-few c = subst (λ (n : ℕ). n ≤ 8) (sym c.from.ensures) (row c.args.twelve (omega (arith, c.requires))).few
 
 pub returns-clause-values : goal.returns-clause-values
 returns-clause-values c = λ bits begin j lt.
-    row_values c.args.byte (get_or VALUES c.args.byte []) (get_or COUNT c.args.byte 0) (get_or BITS c.args.byte 0) bits (row c.args.byte (omega arith)) begin j (subst (λ (n : ℕ). j < n) c.from.ensures lt)
+    row_values c.args.twelve (get_or VALUES c.args.twelve []) (get_or COUNT c.args.twelve 0) (get_or BITS c.args.twelve 0) bits (row c.args.twelve (omega (arith, c.requires))) begin j (subst (λ (n : ℕ). j < n) c.from.ensures lt)
 
 pub returns-clause-rest : goal.returns-clause-rest
 returns-clause-rest c = λ bits begin k.
     ap (λ (n : ℕ). number_at bits (n + k)) c.from.ensures
-    ∙ row_rest c.args.byte (get_or VALUES c.args.byte []) (get_or COUNT c.args.byte 0) (get_or BITS c.args.byte 0) bits (row c.args.byte (omega arith)) begin k
+    ∙ row_rest c.args.twelve (get_or VALUES c.args.twelve []) (get_or COUNT c.args.twelve 0) (get_or BITS c.args.twelve 0) bits (row c.args.twelve (omega (arith, c.requires))) begin k
     ∙ ap (λ (n : ℕ). number_at (drop n bits) k) (sym c.from-2.ensures)

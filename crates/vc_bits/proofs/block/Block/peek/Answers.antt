@@ -11,4 +11,4 @@ returns-then-self-gt0 c =
     let at = c.self.inside in
     let one : 1 * 2 ^ at.count % 2 ^ 64 ≡ 2 ^ at.count = one_shl at.count 64 (omega arith) in
     let bits : byte_bits c.filled.result ≡ low_bits at.count (at.word % 2 ^ at.count) ++ replicate (8 - at.count) true = subst (λ (n : ℕ). byte_bits c.filled.result ≡ low_bits at.count (at.word % n) ++ replicate (8 - at.count) true) one c.filled.ensures in
-    subst (λ (left : List Bool). BeginsWith left (byte_bits c.filled.result)) c.self.view_is (peeked_ones at.count at.word c.filled.result at.rest.now c.if-self-ge8.false (c.self.invariant.1 c.if-self-ge8.false) bits)
+    subst (λ (left : List Bool). BeginsWith left (byte_bits c.filled.result)) c.self.view_is (peeked_ones at.count at.word c.filled.result at.rest.now c.if-self-ge8.false (c.self.invariant.1 (omega (arith, c.if-self-ge8.false))) bits)

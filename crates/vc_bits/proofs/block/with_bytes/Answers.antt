@@ -1,7 +1,7 @@
 use Rattle.std.proofs.Common.{◌∙◌, ap, sym, length, ℕ, ◌+◌, ◌*◌, ◌%◌, ◌^◌, arith}
 use Rattle.std.proofs.lemmas.Bool.{eqb-false}
 use Rattle.vc_bits.proofs.Words.{byte_moved}
-use Rattle.vc_bits.proofs.block.refilled.Goals as goal
+use Rattle.vc_bits.proofs.block.with_bytes.Goals as goal
 
 pub bytes-preserved : goal.bytes-preserved
 bytes-preserved c = record {

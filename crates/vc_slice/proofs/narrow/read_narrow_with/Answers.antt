@@ -8,7 +8,7 @@ use Rattle.vc_types.specs.Slices.{quantisers, block_coefficients}
 use Rattle.vc_types.specs.Subbands.{slice_coefficient_count}
 use Rattle.vc_types.specs.TransformParameters.{parameters_of}
 use Rattle.vc_slice.proofs.NarrowRuns.{coefficient_of, none_large, length-block}
-use Rattle.vc_slice.proofs.narrow.read_narrow_in.Goals as goal
+use Rattle.vc_slice.proofs.narrow.read_narrow_with.Goals as goal
 
 pub dequantise-requires-clause-greatest : goal.dequantise-requires-clause-greatest
 dequantise-requires-clause-greatest c = λ i h.

@@ -1,7 +1,7 @@
 use Rattle.std.proofs.Common.{◌+◌, ◌-◌, ◌≡◌, ◌≤◌, ◌++◌}
 use Rattle.vc_types.specs.Bits.{bits_of}
 use Rattle.vc_bits.specs.Bits.{word_bits}
-use Rattle.vc_bits.proofs.block.refilled.Given as goal
+use Rattle.vc_bits.proofs.block.with_bytes.Given as goal
 
 abbrev pub invariant-bytes : goal.invariant-bytes
 invariant-bytes l = record {
