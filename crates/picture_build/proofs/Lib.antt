@@ -19,4 +19,5 @@ pub mod KeptSlices
 pub mod InCells
 pub mod SeenSlices
 pub mod Entries
+pub mod FilledSlices
 pub mod NarrowPlanes
