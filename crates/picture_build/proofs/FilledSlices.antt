@@ -1,5 +1,5 @@
 -- A picture that slices came to in raster order: what is known after each, and the whole picture.
-use Rattle.std.proofs.Common.{◌≡◌, ℕ, zero, suc, ◌+◌, ◌<◌, ◌≤◌, List, [], ◌∷◌, length, map, replicate, true, Some, None, arith, refl, sym, ap, subst, ◌∙◌, inl, inr, slice_set, length-set}
+use Rattle.std.proofs.Common.{◌≡◌, ℕ, ◌+◌, ◌<◌, ◌≤◌, List, [], ◌∷◌, length, map, Some, None, arith, refl, sym, ap, subst, ◌∙◌, inl, inr, slice_set, length-set}
 use Rattle.std.specs.Prelude.{slice_index_or, Option, Result, Ok, Err, IfOk}
 use Rattle.vc_types.specs.Planes.{planes_in, planes_of}
 use Rattle.vc_types.specs.Rasters.{Raster}

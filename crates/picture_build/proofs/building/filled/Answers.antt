@@ -2,10 +2,9 @@ use Rattle.std.proofs.Common.{arith, sym, ap, subst, ◌∙◌, ◌≡◌, ◌+�
 use Rattle.std.specs.Prelude.{slice_index_or}
 use Rattle.std.proofs.lemmas.List.{get_or_default}
 use Rattle.vc_types.specs.SliceCoefficients.{AreSliceCoefficients}
-use Rattle.vc_types.specs.Slices.{Coefficients}
 use Rattle.vc_types.specs.Subbands.{slice_count}
 use Rattle.vc_types.specs.TransformParameters.{Parameters, parameters_of}
-use Rattle.picture_build.specs.Kept.{PartPicture, no_coefficients}
+use Rattle.picture_build.specs.Kept.{no_coefficients}
 use Rattle.picture_build.proofs.FilledSlices.{FirstCame, none_came, one_more_came, all_came}
 use Rattle.picture_build.proofs.building.filled.Goals as goal
 
