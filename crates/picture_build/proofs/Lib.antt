@@ -18,4 +18,5 @@ pub mod KeptSlices
 pub mod InCells
 pub mod SeenSlices
 pub mod Entries
+pub mod FilledSlices
 pub mod NarrowPlanes

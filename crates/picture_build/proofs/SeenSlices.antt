@@ -9,7 +9,7 @@ use Rattle.vc_types.specs.SliceCoefficients.{AreSliceCoefficients}
 use Rattle.vc_types.specs.Slices.{CodedSlice, Coefficients, all_coefficients, in_range, decoded_slice}
 use Rattle.vc_types.specs.Subbands.{slice_count}
 use Rattle.vc_types.specs.TransformParameters.{Parameters}
-use Rattle.picture_build.specs.Kept.{PartPicture, with_slice, slice_that_came, slices_of, HasAllSlices, kept_slices, IsKept, ChangesOnly, FillsSlice, AreIn}
+use Rattle.picture_build.specs.Kept.{PartPicture, with_slice, slice_that_came, slices_of, HasAllSlices, kept_slices, IsKept, ChangesOnly, FillsSlice, AllAreIn}
 use Rattle.picture_build.proofs.KeptSlices.{unseen, still_kept, one_more, kept_more, y_in, c1_in, c2_in}
 
 abbrev pub seen : Parameters → List Bool → List ℤ → List ℤ → List ℤ → PartPicture
@@ -55,14 +55,20 @@ index_low p n coded low sound = ap (λ (b : Bool). if b then Err IndexRange else
 -- ---- the whole picture
 
 module _ (p : Parameters) (came : List Bool) (y c1 c2 : List ℤ) (room : ℕ) (kept : IsKept p came y c1 c2 room) (now : PartPicture) (view : seen p came y c1 c2 ≡ now) (whole : HasAllSlices now) where
-  pub all_in : (slices : List Coefficients) × AreIn p Y slices y × AreIn p C1 slices c1 × AreIn p C2 slices c2
-  all_in = (slices_of now, y_in p came y c1 c2 room kept now (sym view) whole, c1_in p came y c1 c2 room kept now (sym view) whole, c2_in p came y c1 c2 room kept now (sym view) whole)
+  seen_in : AllAreIn p (slices_of now) y c1 c2
+  seen_in = record {
+    luma = y_in p came y c1 c2 room kept now (sym view) whole;
+    first_colour = c1_in p came y c1 c2 room kept now (sym view) whole;
+    second_colour = c2_in p came y c1 c2 room kept now (sym view) whole;
+  }
+
+  pub all_in : (slices : List Coefficients) × AllAreIn p slices y c1 c2
+  all_in = (slices_of now, seen_in)
 
   pub planes_seen : {E : Type 0} (result : Result (List Raster) E)
-      → IfOk result (λ planes. (slices : List Coefficients) → AreIn p Y slices y → AreIn p C1 slices c1 → AreIn p C2 slices c2 → planes_in planes ≡ planes_of p slices)
+      → IfOk result (λ planes. (slices : List Coefficients) → AllAreIn p slices y c1 c2 → planes_in planes ≡ planes_of p slices)
       → IfOk result (λ planes. planes_in planes ≡ planes_of now.parameters (slices_of now))
-  unfolding all_in
   planes_seen (Ok planes) value =
-      value (slices_of now) all_in.1 all_in.2 all_in.3
+      value (slices_of now) seen_in
       ∙ ap (λ (q : PartPicture). planes_of q.parameters (slices_of now)) view
   planes_seen (Err e) value = value

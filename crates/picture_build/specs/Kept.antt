@@ -25,6 +25,10 @@ no_slices p = record { parameters = p; slices = replicate (slice_count p) None }
 abbrev pub slice_that_came : PartPicture → ℕ → Option Coefficients
 slice_that_came picture n = slice_index_or picture.slices n None
 
+-- all these slices came, in raster order
+abbrev pub all_slices : Parameters → List Coefficients → PartPicture
+all_slices p slices = record { parameters = p; slices = map Some slices }
+
 -- one slice more
 abbrev pub with_slice : PartPicture → ℕ → Coefficients → PartPicture
 with_slice picture n s =
@@ -105,3 +109,9 @@ pub record AreIn (p : Parameters) (c : Component) (slices : List Coefficients) (
       → i < slice_coefficient_count p c n
       → line_of cells (kept_at p c n i)
       ≡ line_of (coefficients_of (slice_index_or slices n none) c) i
+
+-- and so do those of all three
+pub record AllAreIn (p : Parameters) (slices : List Coefficients) (y c1 c2 : List ℤ) : Type 0 where
+  pub luma : AreIn p Y slices y
+  pub first_colour : AreIn p C1 slices c1
+  pub second_colour : AreIn p C2 slices c2

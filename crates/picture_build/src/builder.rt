@@ -11,10 +11,11 @@ ghost use Rattle.picture_build.specs.Puts.{Puts};
 
 use crate::cells::CoefficientCells;
 use crate::filling::{fill_slice, parts_of, put_blocks};
-use crate::finishing::finished;
+use crate::finishing::{AtOnce, InTurn, PictureCells, Transform};
 use crate::sizes::{cell_count, most_coefficients};
 use std::alloc::Global;
 use std::marker::Model;
+use std::thread::Threads;
 use vc_slice::{SliceCoeffs, TooWide};
 use vc_types::{Component, NoMemory, Plan, Plane, Unsound};
 
@@ -170,12 +171,37 @@ impl PictureBuilder {
             ≡ planes_of self.old.parameters (slices_of self.old)) }
         ensures restarted { self.new ≡ no_slices self.old.parameters }
     {
-        let planes = finished(
+        self.planes_by(&InTurn)
+    }
+
+    /// The same, where luma is transformed beside the colours, by join.
+    pub fn planes_joined<H: Threads + Copy + Send + Sync>(
+        &mut self,
+        rt: H,
+    ) -> Result<[Plane; 3], NoMemory>
+        requires whole { HasAllSlices self.old }
+        ensures value { IfOk result (λ planes. planes_in planes
+            ≡ planes_of self.old.parameters (slices_of self.old)) }
+        ensures restarted { self.new ≡ no_slices self.old.parameters }
+    {
+        self.planes_by(&AtOnce { rt })
+    }
+
+    fn planes_by<T: Transform>(&mut self, transform: &T) -> Result<[Plane; 3], NoMemory>
+        requires whole { HasAllSlices self.old }
+        ensures value { IfOk result (λ planes. planes_in planes
+            ≡ planes_of self.old.parameters (slices_of self.old)) }
+        ensures restarted { self.new ≡ no_slices self.old.parameters }
+    {
+        let cells = PictureCells {
+            y: &self.y,
+            c1: &self.c1,
+            c2: &self.c2,
+        };
+        let planes = transform.planes(
             self.alloc,
             &self.plan,
-            &mut self.y,
-            &mut self.c1,
-            &mut self.c2,
+            &cells,
             &mut self.luma,
             &mut self.colour,
         );

@@ -4,43 +4,134 @@ ghost use Rattle.vc_types.specs.Planes.{component_plane, planes_in, planes_of};
 ghost use Rattle.vc_types.specs.Slices.{Coefficients};
 ghost use Rattle.vc_types.specs.Subbands.{padded_width, padded_height};
 ghost use Rattle.vc_types.specs.TransformParameters.{parameters_of};
-ghost use Rattle.picture_build.specs.Kept.{AreIn};
+ghost use Rattle.picture_build.specs.Kept.{AllAreIn, AreIn};
 
 use crate::cells::CoefficientCells;
 use crate::narrow::{narrow_output, narrow_samples};
 use crate::output::output;
 use std::alloc::Global;
+use std::thread::{Threads, join_mut};
 use vc_geometry::padded;
 use vc_types::{Component, Grid, NoMemory, Plan, Plane};
 use vc_wave::inverse;
 
-/// The planes of a picture from the cells that its slices are in. The cells hold anything then. Luma and
-/// colour have lists to work in, which are made where they haven't the length of a component.
-pub(crate) fn finished(
+/// The cells of a picture's three components, whose slices are all in them.
+#[derive(Clone, Copy)]
+pub(crate) struct PictureCells<'a> {
+    pub(crate) y: &'a CoefficientCells,
+    pub(crate) c1: &'a CoefficientCells,
+    pub(crate) c2: &'a CoefficientCells,
+}
+
+/// How the three components of a picture are transformed. Luma and colour have lists to work in, which are made where
+/// they haven't the length of a component.
+pub(crate) trait Transform {
+    /// The planes of a picture.
+    fn planes(
+        &self,
+        alloc: Global,
+        plan: &Plan,
+        cells: &PictureCells<'_>,
+        luma: &mut Vec<i32>,
+        colour: &mut Vec<i32>,
+    ) -> Result<[Plane; 3], NoMemory>
+        requires { (slices : List Coefficients) × AllAreIn (parameters_of plan.now) slices
+            cells.now.y.now cells.now.c1.now cells.now.c2.now }
+        ensures { IfOk result (λ planes. (slices : List Coefficients)
+            → AllAreIn (parameters_of plan.now) slices cells.now.y.now cells.now.c1.now cells.now.c2.now
+            → planes_in planes ≡ planes_of (parameters_of plan.now) slices) };
+}
+
+/// One component after another.
+#[derive(Drop)]
+pub(crate) struct InTurn;
+
+impl Transform for InTurn {
+    fn planes(
+        &self,
+        alloc: Global,
+        plan: &Plan,
+        cells: &PictureCells<'_>,
+        luma: &mut Vec<i32>,
+        colour: &mut Vec<i32>,
+    ) -> Result<[Plane; 3], NoMemory> {
+        let y = component(alloc, plan, Component::Y, cells.y, luma)?;
+        let c1 = component(alloc, plan, Component::C1, cells.c1, colour)?;
+        let c2 = component(alloc, plan, Component::C2, cells.c2, colour)?;
+        Ok([y, c1, c2])
+    }
+}
+
+/// Luma beside the colours, by join.
+#[derive(Drop)]
+pub(crate) struct AtOnce<H> {
+    pub(crate) rt: H,
+}
+
+impl<H: Threads + Copy + Send + Sync> Transform for AtOnce<H> {
+    fn planes(
+        &self,
+        alloc: Global,
+        plan: &Plan,
+        cells: &PictureCells<'_>,
+        luma: &mut Vec<i32>,
+        colour: &mut Vec<i32>,
+    ) -> Result<[Plane; 3], NoMemory> {
+        let (y, (c1, c2)) = joined(&self.rt, alloc, plan, cells, luma, colour);
+        Ok([y?, c1?, c2?])
+    }
+}
+
+type Answer = Result<Plane, NoMemory>;
+
+// The planes of the three components, luma's beside the colours'.
+fn joined<H: Threads>(
+    rt: &H,
     alloc: Global,
     plan: &Plan,
-    y: &mut CoefficientCells,
-    c1: &mut CoefficientCells,
-    c2: &mut CoefficientCells,
+    cells: &PictureCells<'_>,
     luma: &mut Vec<i32>,
     colour: &mut Vec<i32>,
-) -> Result<[Plane; 3], NoMemory>
-    requires whole { (slices : List Coefficients) × AreIn (parameters_of plan.now) Y slices y.old
-        × AreIn (parameters_of plan.now) C1 slices c1.old
-        × AreIn (parameters_of plan.now) C2 slices c2.old }
-    ensures value { IfOk result (λ planes. (slices : List Coefficients)
-        → AreIn (parameters_of plan.now) Y slices y.old
-        → AreIn (parameters_of plan.now) C1 slices c1.old
-        → AreIn (parameters_of plan.now) C2 slices c2.old
-        → planes_in planes ≡ planes_of (parameters_of plan.now) slices) }
-    ensures y { length y.new ≡ length y.old }
-    ensures c1 { length c1.new ≡ length c1.old }
-    ensures c2 { length c2.new ≡ length c2.old }
+) -> (Answer, (Answer, Answer))
+    requires { (slices : List Coefficients) × AllAreIn (parameters_of plan.now) slices
+        cells.now.y.now cells.now.c1.now cells.now.c2.now }
+    ensures y { IfOk result.0 (λ plane. (slices : List Coefficients)
+        → AreIn (parameters_of plan.now) Y slices cells.now.y.now
+        → plane ≡ component_plane (parameters_of plan.now) Y slices) }
+    ensures c1 { IfOk result.1.0 (λ plane. (slices : List Coefficients)
+        → AreIn (parameters_of plan.now) C1 slices cells.now.c1.now
+        → plane ≡ component_plane (parameters_of plan.now) C1 slices) }
+    ensures c2 { IfOk result.1.1 (λ plane. (slices : List Coefficients)
+        → AreIn (parameters_of plan.now) C2 slices cells.now.c2.now
+        → plane ≡ component_plane (parameters_of plan.now) C2 slices) }
 {
-    let y = component(alloc, plan, Component::Y, y, luma)?;
-    let c1 = component(alloc, plan, Component::C1, c1, colour)?;
-    let c2 = component(alloc, plan, Component::C2, c2, colour)?;
-    Ok([y, c1, c2])
+    join_mut(
+        rt,
+        &mut || component(alloc, plan, Component::Y, cells.y, luma),
+        &mut || colours(alloc, plan, cells, colour),
+    )
+}
+
+// The planes of both colour components, one after another.
+fn colours(
+    alloc: Global,
+    plan: &Plan,
+    cells: &PictureCells<'_>,
+    work: &mut Vec<i32>,
+) -> (Answer, Answer)
+    requires { (slices : List Coefficients) × AreIn (parameters_of plan.now) C1 slices cells.now.c1.now
+        × AreIn (parameters_of plan.now) C2 slices cells.now.c2.now }
+    ensures c1 { IfOk result.0 (λ plane. (slices : List Coefficients)
+        → AreIn (parameters_of plan.now) C1 slices cells.now.c1.now
+        → plane ≡ component_plane (parameters_of plan.now) C1 slices) }
+    ensures c2 { IfOk result.1 (λ plane. (slices : List Coefficients)
+        → AreIn (parameters_of plan.now) C2 slices cells.now.c2.now
+        → plane ≡ component_plane (parameters_of plan.now) C2 slices) }
+{
+    (
+        component(alloc, plan, Component::C1, cells.c1, work),
+        component(alloc, plan, Component::C2, cells.c2, work),
+    )
 }
 
 // The plane of a component.

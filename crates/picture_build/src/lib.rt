@@ -8,11 +8,10 @@ mod filling;
 mod finishing;
 mod narrow;
 mod output;
-mod placing;
 mod sizes;
 
 pub use builder::{NotPut, PictureBuilder};
-pub use building::build;
+pub use building::{build, build_joined};
 
 #[cfg(test)]
 mod tests;

@@ -4,7 +4,7 @@ ghost use Rattle.vc_types.specs.TransformParameters.{parameters_of};
 ghost use Rattle.vc_types.specs.SliceCoefficients.{AreSliceCoefficients};
 ghost use Rattle.picture_build.specs.PictureCoefficients.{ArePictureCoefficients};
 
-use crate::build;
+use crate::{build, build_joined};
 use bytes::Bytes;
 use std::alloc::Global;
 use std::test::Fail;
@@ -277,15 +277,27 @@ fn built(alloc: Global, plan: Plan, coded: &[&'static [u8]]) -> Result<[Plane; 3
     Ok(build(alloc, &plan, slices)?)
 }
 
+// The luma of two slices, of which the first has a coefficient.
+const LUMA: [u16; 32] = [
+    0x71, 0x71, 0x80, 0x80, 0x80, 0x80, 0x80, 0x80, 0x71, 0x71, 0x80, 0x80, 0x80, 0x80, 0x80, 0x80,
+    0x80, 0x80, 0x80, 0x80, 0x80, 0x80, 0x80, 0x80, 0x80, 0x80, 0x80, 0x80, 0x80, 0x80, 0x80, 0x80,
+];
+
 #[test]
 fn each_slice_has_its_own_columns(rt: HostRuntime) -> Result<(), Fail> {
     let planes = built(rt.alloc(), two_slices(), &[&[0, 1, 0, 0, 0], &[0, 0, 0, 0]])?;
-    let rows = [
-        0x71, 0x71, 0x80, 0x80, 0x80, 0x80, 0x80, 0x80, 0x71, 0x71, 0x80, 0x80, 0x80, 0x80, 0x80,
-        0x80, 0x80, 0x80, 0x80, 0x80, 0x80, 0x80, 0x80, 0x80, 0x80, 0x80, 0x80, 0x80, 0x80, 0x80,
-        0x80, 0x80,
-    ];
-    assert_eq!(rt; planes[0].samples(), rows.as_slice());
+    assert_eq!(rt; planes[0].samples(), LUMA.as_slice());
+    assert_eq!(rt; planes[1].samples(), [0x80; 32].as_slice());
+    assert_eq!(rt; planes[2].samples(), [0x80; 32].as_slice());
+    Ok(())
+}
+
+#[test]
+fn components_are_built_at_once(rt: HostRuntime) -> Result<(), Fail> {
+    let plan = two_slices();
+    let slices = slices(rt.alloc(), plan, &[&[0, 1, 0, 0, 0], &[0, 0, 0, 0]])?;
+    let planes = build_joined(&rt, rt.alloc(), &plan, slices)?;
+    assert_eq!(rt; planes[0].samples(), LUMA.as_slice());
     assert_eq!(rt; planes[1].samples(), [0x80; 32].as_slice());
     assert_eq!(rt; planes[2].samples(), [0x80; 32].as_slice());
     Ok(())

@@ -12,6 +12,7 @@ use crate::fault::TakeFault;
 use crate::player::Player;
 use link_report::{Ending, Summary};
 use std::alloc::Global;
+use std::thread::Threads;
 use vc_ports::{Filled, Sink, Source, fill};
 use vc_types::END_OF_SEQUENCE;
 use vc_units::{UnitFault, UnitReader, next_unit};
@@ -27,9 +28,10 @@ pub(crate) enum Stop {
 
 /// Plays an elementary stream: reads at most so many data units, up to an end of sequence, a unit that is refused or the
 /// end of the input, and writes the raw frames that its pictures make (ST 2042-1, sequence; raw frames are this project's
-/// own). A frame goes out as soon as it stands, and one unit, one picture and at most one earlier field are kept, which no
+/// own). Luma is transformed beside the colours, by join. A frame goes out as soon as it stands, and one unit, one picture and at most one earlier field are kept, which no
 /// clause says.
-pub fn play<S: Source, O: Sink>(
+pub fn play<H: Threads + Copy + Send + Sync, S: Source, O: Sink>(
+    rt: H,
     alloc: Global,
     packets: u32,
     input: &mut S,
@@ -39,7 +41,7 @@ pub fn play<S: Source, O: Sink>(
         (output_of O.held O.faults output.old output.new) }
 {
     let mut player = Player::new();
-    match play_units(alloc, packets, &mut player, input, output)? {
+    match play_units(rt, alloc, packets, &mut player, input, output)? {
         Stop::Ended => Ok(player.summary()),
         Stop::AtLimit => match fill(input, &mut [0; 1]) {
             Filled::Whole => Err(Ending::PacketLimit { limit: packets }),
@@ -50,7 +52,8 @@ pub fn play<S: Source, O: Sink>(
 }
 
 // Plays so many units at most.
-fn play_units<S: Source, O: Sink>(
+fn play_units<H: Threads + Copy + Send + Sync, S: Source, O: Sink>(
+    rt: H,
     alloc: Global,
     packets: u32,
     player: &mut Player,
@@ -67,10 +70,11 @@ fn play_units<S: Source, O: Sink>(
         (result ≡ Err Ending.OutputFailed) }
 {
     let mut reader = UnitReader::new(alloc, input);
-    play_with(alloc, packets, player, &mut reader, output)
+    play_with(rt, alloc, packets, player, &mut reader, output)
 }
 
-fn play_with<S: Source, O: Sink>(
+fn play_with<H: Threads + Copy + Send + Sync, S: Source, O: Sink>(
+    rt: H,
     alloc: Global,
     packets: u32,
     player: &mut Player,
@@ -94,7 +98,7 @@ fn play_with<S: Source, O: Sink>(
         match next_unit(reader) {
             Ok(Some(unit)) => {
                 let is_last = unit.code == END_OF_SEQUENCE;
-                match player.take(alloc, unit, output) {
+                match player.take(rt, alloc, unit, output) {
                     Ok(()) if is_last => return Ok(Stop::Ended),
                     Ok(()) => {}
                     Err(fault) => return Err(taking_ended(fault, place)),

@@ -14,6 +14,7 @@ use byteorder::{BigEndian, ByteOrder};
 use bytes::Bytes;
 use picture_build::PictureBuilder;
 use std::alloc::Global;
+use std::thread::Threads;
 use vc_params::read_params;
 use vc_types::{Header, NoMemory, Plan, Plane};
 
@@ -29,7 +30,8 @@ pub(crate) struct Picture {
 
 /// The picture of a data unit's body; none where it is refused. A builder is kept from picture to picture.
 #[tactic(auto, unfolding(crate::specs::Stream::picture_in))]
-pub(crate) fn read_picture(
+pub(crate) fn read_picture<H: Threads + Copy + Send + Sync>(
+    rt: H,
     alloc: Global,
     header: &Header,
     kept: &mut Option<PictureBuilder>,
@@ -48,14 +50,15 @@ pub(crate) fn read_picture(
         return Err(NoMemory);
     };
     bytes.advance(NUMBER_BYTES);
-    match read_planes(alloc, header, kept, number, bytes)? {
+    match read_planes(rt, alloc, header, kept, number, bytes)? {
         Some(planes) => Ok(Some(Picture { number, planes })),
         None => Ok(None),
     }
 }
 
 // The planes of a picture's own bytes: its transform parameters and its slices.
-fn read_planes(
+fn read_planes<H: Threads + Copy + Send + Sync>(
+    rt: H,
     alloc: Global,
     header: &Header,
     kept: &mut Option<PictureBuilder>,
@@ -72,11 +75,12 @@ fn read_planes(
     };
     let mut slices = bytes;
     slices.advance(used);
-    built(alloc, &plan, kept, number, slices)
+    built(rt, alloc, &plan, kept, number, slices)
 }
 
 // The planes of a picture's slices.
-fn built(
+fn built<H: Threads + Copy + Send + Sync>(
+    rt: H,
     alloc: Global,
     plan: &Plan,
     kept: &mut Option<PictureBuilder>,
@@ -90,7 +94,7 @@ fn built(
     if !all {
         return Ok(None);
     }
-    let planes = builder.planes()?;
+    let planes = builder.planes_joined(rt)?;
     *kept = Some(builder);
     Ok(Some(planes))
 }

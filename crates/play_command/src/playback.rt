@@ -16,6 +16,7 @@ use field_pairs::weave;
 use frame_writer::{is_wide, write_frame};
 use picture_build::PictureBuilder;
 use std::alloc::Global;
+use std::thread::Threads;
 use vc_ports::Sink;
 use vc_types::{Header, NoMemory, Plane};
 
@@ -47,8 +48,9 @@ impl Playback {
     }
 
     /// Takes the picture of a data unit's body, and writes the frame that it completes.
-    pub(crate) fn show<O: Sink>(
+    pub(crate) fn show<H: Threads + Copy + Send + Sync, O: Sink>(
         &mut self,
+        rt: H,
         alloc: Global,
         body: Vec<u8>,
         output: &mut O,
@@ -63,7 +65,7 @@ impl Playback {
             × (self.new.frames ≤ self.new.pictures)) }
         ensures shape { OnOk result (HasShape (playback_state self.new)) }
     {
-        let Some(picture) = read_picture(alloc, &self.header, &mut self.builder, body)? else {
+        let Some(picture) = read_picture(rt, alloc, &self.header, &mut self.builder, body)? else {
             return Err(TakeFault::Refused);
         };
         let frame = self.completed(alloc, picture)?;

@@ -14,6 +14,7 @@ use crate::fault::TakeFault;
 use crate::playback::Playback;
 use link_report::Summary;
 use std::alloc::Global;
+use std::thread::Threads;
 use vc_ports::Sink;
 use vc_seqhdr::read_header;
 use vc_types::{HIGH_QUALITY_PICTURE, SEQUENCE_HEADER};
@@ -34,8 +35,9 @@ impl Player {
     }
 
     /// Takes a unit, and writes the frame that it completes.
-    pub(crate) fn take<O: Sink>(
+    pub(crate) fn take<H: Threads + Copy + Send + Sync, O: Sink>(
         &mut self,
+        rt: H,
         alloc: Global,
         unit: Unit,
         output: &mut O,
@@ -54,7 +56,7 @@ impl Player {
         match unit.code {
             SEQUENCE_HEADER => self.agree(&unit.body),
             HIGH_QUALITY_PICTURE => match &mut self.stream {
-                Some(stream) => stream.show(alloc, unit.body, output),
+                Some(stream) => stream.show(rt, alloc, unit.body, output),
                 None => Err(TakeFault::Refused),
             },
             _ => Ok(()),

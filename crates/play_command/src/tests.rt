@@ -28,7 +28,7 @@ fn a_stream_is_cut_at_each_length(rt: HostRuntime) -> Result<(), Fail> {
         let Some(part) = stream.get(..length) else {
             return Err(Fail::from("no such part"));
         };
-        let (answer, written) = played(alloc, 4, part)?;
+        let (answer, written) = played(&rt, alloc, 4, part)?;
         assert_eq!(rt; answer, want, "{length} bytes");
         assert_eq!(rt; written.as_slice(), &[0x80; 96][..bytes], "{length} bytes");
     }

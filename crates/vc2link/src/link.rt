@@ -117,7 +117,7 @@ pub fn link_main<H: Threads + Copy + Send + Sync, S: Source, O: Sink, E: Sink, N
             write_answer(alloc, report, &Answer::from(packed))
         }
         Ok(Settings::Play { packets }) => {
-            let answer = Answer::from(play(alloc, packets, input, output));
+            let answer = Answer::from(play(rt, alloc, packets, input, output));
             write_answer(alloc, report, &answer)
         }
         Ok(

@@ -12,7 +12,7 @@ fn a_level_across_alone(rt: HostRuntime) -> Result<(), Fail> {
     ];
     push_picture(&mut stream, &picture)?;
     stream.extend_from_slice(&END_UNIT)?;
-    let (answer, written) = played(alloc, 3, &stream)?;
+    let (answer, written) = played(&rt, alloc, 3, &stream)?;
     assert_eq!(rt; answer, Ok(counts(1, 0, 1)));
     let luma = [0x7F, 0x7F, 0x80, 0x80, 0x7F, 0x7F, 0x80, 0x80];
     let want = joined(alloc, &[&luma, &[0x80; 16]])?;
@@ -31,7 +31,7 @@ fn another_wavelet_across(rt: HostRuntime) -> Result<(), Fail> {
     ];
     push_picture(&mut stream, &picture)?;
     stream.extend_from_slice(&END_UNIT)?;
-    let (answer, written) = played(alloc, 3, &stream)?;
+    let (answer, written) = played(&rt, alloc, 3, &stream)?;
     assert_eq!(rt; answer, Ok(counts(1, 0, 1)));
     let want = joined(alloc, &[&[0x82; 4], &[0x80; 8]])?;
     assert_eq!(rt; written.as_slice(), want.as_slice());

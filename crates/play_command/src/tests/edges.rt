@@ -19,7 +19,7 @@ fn other_units_and_bytes_behind_the_last_slice_are_skipped(rt: HostRuntime) -> R
     stream.extend_from_slice(&auxiliary)?;
     stream.extend_from_slice(&DARK_UNIT)?;
     stream.extend_from_slice(&padding)?;
-    let (answer, written) = played(alloc, 99, &stream)?;
+    let (answer, written) = played(&rt, alloc, 99, &stream)?;
     assert_eq!(rt; answer, Ok(counts(2, 0, 2)));
     let want = joined(alloc, &[&[0x80; 96], &dark_frame()])?;
     assert_eq!(rt; written.as_slice(), want.as_slice());
@@ -33,7 +33,7 @@ fn what_is_behind_an_end_of_sequence_is_left(rt: HostRuntime) -> Result<(), Fail
     let end = [0x42, 0x42, 0x43, 0x44, 0x10, 0, 0, 0, 15, 0, 0, 0, 0];
     let stream = joined(alloc, &[&HEADER_UNIT, &DARK_UNIT, &end, &GREY_UNIT])?;
     let mut source = PlainSource::new(stream);
-    let (answer, written) = played_from(alloc, 9, &mut source)?;
+    let (answer, written) = played_from(&rt, alloc, 9, &mut source)?;
     assert_eq!(rt; answer, Ok(counts(1, 0, 1)));
     assert_eq!(rt; written.as_slice(), dark_frame().as_slice());
     let mut rest = [0; 29];
@@ -47,7 +47,7 @@ fn a_stream_without_pictures_is_no_frame(rt: HostRuntime) -> Result<(), Fail> {
     let alloc = rt.alloc();
     let streams: [&[u8]; 3] = [&[], &HEADER_UNIT, &END_UNIT];
     for stream in streams {
-        let (answer, written) = played(alloc, 1, stream)?;
+        let (answer, written) = played(&rt, alloc, 1, stream)?;
         assert_eq!(rt; answer, Ok(counts(0, 0, 0)));
         assert_eq!(rt; written.len(), 0);
     }
@@ -72,12 +72,12 @@ fn nothing_may_follow_the_last_unit_of_the_limit(rt: HostRuntime) -> Result<(), 
     ];
     for (packets, first, second, want, bytes) in cases {
         let stream = joined(alloc, &[&HEADER_UNIT, first, second])?;
-        let (answer, written) = played(alloc, packets, &stream)?;
+        let (answer, written) = played(&rt, alloc, packets, &stream)?;
         assert_eq!(rt; answer, want, "{packets}, {first:?}, {second:?}");
         assert_eq!(rt; written.len(), bytes, "{packets}, {first:?}, {second:?}");
     }
     let stream = joined(alloc, &[&HEADER_UNIT, &DARK_UNIT, &END_UNIT, &[7]])?;
-    let (answer, _) = played(alloc, 3, &stream)?;
+    let (answer, _) = played(&rt, alloc, 3, &stream)?;
     assert_eq!(rt; answer, Ok(counts(1, 0, 1)));
     Ok(())
 }
@@ -87,7 +87,7 @@ fn one_byte_is_read_behind_the_limit(rt: HostRuntime) -> Result<(), Fail> {
     let alloc = rt.alloc();
     let stream = joined(alloc, &[&HEADER_UNIT, &DARK_UNIT, &GREY_UNIT])?;
     let mut source = PlainSource::new(stream);
-    let (answer, written) = played_from(alloc, 2, &mut source)?;
+    let (answer, written) = played_from(&rt, alloc, 2, &mut source)?;
     assert_eq!(rt; answer, Err(Ending::PacketLimit { limit: 2 }));
     assert_eq!(rt; written.as_slice(), dark_frame().as_slice());
     let mut rest = [0; 29];

@@ -26,7 +26,7 @@ fn frames() -> [u8; 192] {
 fn one_byte_at_a_time_is_as_good(rt: HostRuntime) -> Result<(), Fail> {
     let alloc = rt.alloc();
     let mut source = Trickle(PlainSource::new(stream(alloc)?));
-    let (answer, written) = played_from(alloc, 3, &mut source)?;
+    let (answer, written) = played_from(&rt, alloc, 3, &mut source)?;
     assert_eq!(rt; answer, Ok(counts(2, 0, 2)));
     assert_eq!(rt; written.as_slice(), frames().as_slice());
     Ok(())
@@ -40,13 +40,13 @@ fn each_read_may_fail(rt: HostRuntime) -> Result<(), Fail> {
     for (call, count) in [(1, 0), (2, 0), (3, 0), (4, 0), (5, 96), (6, 96), (7, 192)] {
         for packets in [3, 9] {
             let mut source = MemSource::new(stream(alloc)?, vec![in alloc; call]?);
-            let (answer, written) = played_from(alloc, packets, &mut source)?;
+            let (answer, written) = played_from(&rt, alloc, packets, &mut source)?;
             assert_eq!(rt; answer, Err(Ending::InputFailed), "read {call}");
             assert_eq!(rt; written.as_slice(), &frames[..count], "read {call}");
         }
     }
     let mut source = MemSource::new(stream(alloc)?, vec![in alloc; 8]?);
-    let (answer, written) = played_from(alloc, 9, &mut source)?;
+    let (answer, written) = played_from(&rt, alloc, 9, &mut source)?;
     assert_eq!(rt; answer, Ok(counts(2, 0, 2)));
     assert_eq!(rt; written.as_slice(), frames.as_slice());
     Ok(())
@@ -68,7 +68,7 @@ fn each_write_may_fail(rt: HostRuntime) -> Result<(), Fail> {
     ] {
         let mut source = PlainSource::new(stream(alloc)?);
         let mut sink = MemSink::new(alloc, ROOM, vec![in alloc; call]?)?;
-        let found = play(alloc, 9, &mut source, &mut sink);
+        let found = play(&rt, alloc, 9, &mut source, &mut sink);
         assert_eq!(rt; found, answer, "write {call}");
         assert_eq!(rt; sink.bytes(), &frames[..count], "write {call}");
     }

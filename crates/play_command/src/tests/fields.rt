@@ -76,7 +76,7 @@ fn fields_are_paired_by_their_numbers(rt: HostRuntime) -> Result<(), Fail> {
     ];
     for (numbers, unpaired, frame) in cases {
         let stream = fields(alloc, &BOTTOM_FIRST, numbers)?;
-        let (answer, written) = played(alloc, 9, &stream)?;
+        let (answer, written) = played(&rt, alloc, 9, &stream)?;
         let pictures = numbers.len() as u64;
         match frame {
             Some(frame) => {
@@ -96,7 +96,7 @@ fn fields_are_paired_by_their_numbers(rt: HostRuntime) -> Result<(), Fail> {
 fn the_top_field_may_be_the_earlier(rt: HostRuntime) -> Result<(), Fail> {
     let alloc = rt.alloc();
     let stream = fields(alloc, &TOP_FIRST, &[6, 7, 8, 9])?;
-    let (answer, written) = played(alloc, 9, &stream)?;
+    let (answer, written) = played(&rt, alloc, 9, &stream)?;
     assert_eq!(rt; answer, Ok(counts(4, 0, 2)));
     let want = joined(alloc, &[&frame(0x71, 0x80), &[0x80; 96]])?;
     assert_eq!(rt; written.as_slice(), want.as_slice());
@@ -111,7 +111,7 @@ fn other_units_between_fields_do_not_part_them(rt: HostRuntime) -> Result<(), Fa
     push_header(&mut stream, &BOTTOM_FIRST)?;
     stream.extend_from_slice(&[0x42, 0x42, 0x43, 0x44, 0x30, 0, 0, 0, 14, 0, 0, 0, 0, 9])?;
     push_field(&mut stream, 7, false)?;
-    let (answer, written) = played(alloc, 9, &stream)?;
+    let (answer, written) = played(&rt, alloc, 9, &stream)?;
     assert_eq!(rt; answer, Ok(counts(2, 0, 1)));
     assert_eq!(rt; written.as_slice(), frame(0x80, 0x71).as_slice());
     Ok(())

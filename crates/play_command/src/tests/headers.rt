@@ -27,7 +27,7 @@ fn a_header_may_be_spelled_in_another_way(rt: HostRuntime) -> Result<(), Fail> {
         let mut stream = joined(alloc, &[&HEADER_UNIT, &DARK_UNIT])?;
         push_header(&mut stream, body)?;
         stream.extend_from_slice(&GREY_UNIT)?;
-        let (answer, written) = played(alloc, 9, &stream)?;
+        let (answer, written) = played(&rt, alloc, 9, &stream)?;
         assert_eq!(rt; answer, Ok(counts(2, 0, 2)), "{body:?}");
         let want = joined(alloc, &[&dark_frame(), &[0x80; 96]])?;
         assert_eq!(rt; written.as_slice(), want.as_slice(), "{body:?}");
@@ -79,7 +79,7 @@ fn a_later_header_has_the_value_of_the_first(rt: HostRuntime) -> Result<(), Fail
         let mut stream = joined(alloc, &[&HEADER_UNIT])?;
         push_header(&mut stream, body)?;
         stream.extend_from_slice(&GREY_UNIT)?;
-        let (answer, written) = played(alloc, 9, &stream)?;
+        let (answer, written) = played(&rt, alloc, 9, &stream)?;
         assert_eq!(rt; answer, Err(Ending::StreamBad { place: 18 }), "{what}");
         assert_eq!(rt; written.len(), 0, "{what}");
     }

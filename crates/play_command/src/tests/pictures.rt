@@ -175,7 +175,7 @@ fn pictures_are_decoded(rt: HostRuntime) -> Result<(), Fail> {
             push_picture(&mut stream, &body)?;
             number = 7;
         }
-        let (answer, written) = played(alloc, 9, &stream)?;
+        let (answer, written) = played(&rt, alloc, 9, &stream)?;
         assert_eq!(rt; answer, Ok(counts(pictures.len() as u64, 0, 1)), "{what}");
         assert_eq!(rt; written.as_slice(), frame, "{what}");
     }

@@ -109,7 +109,7 @@ fn each_refusal_tells_the_units_place(rt: HostRuntime) -> Result<(), Fail> {
         let (header, picture) = units_before(place);
         let info = [0x42, 0x42, 0x43, 0x44, code, 0, 0, 0, next, 0, 0, 0, 0];
         let stream = joined(alloc, &[header, picture, &info, body])?;
-        let (answer, written) = played(alloc, 9, &stream)?;
+        let (answer, written) = played(&rt, alloc, 9, &stream)?;
         assert_eq!(rt; answer, Err(Ending::StreamBad { place }), "{what}");
         let due = if place == 47 { frame.len() } else { 0 };
         assert_eq!(rt; written.as_slice(), &frame[..due], "{what}");

@@ -2,6 +2,7 @@ use crate::play;
 use link_report::{Ending, Summary};
 use std::alloc::Global;
 use std::test::Fail;
+use std::thread::Threads;
 use vc_ports::{MemSink, PlainSource, Source};
 use vc_units::write_unit;
 
@@ -65,21 +66,23 @@ pub fn counts(pictures: u64, unpaired: u64, frames: u64) -> Summary {
 }
 
 // Plays at most so many units of these bytes: the answer, and what was written.
-pub fn played(
+pub fn played<H: Threads + Copy + Send + Sync>(
+    rt: H,
     alloc: Global,
     packets: u32,
     bytes: &[u8],
 ) -> Result<(Result<Summary, Ending>, Vec<u8>), Fail> {
     let mut source = PlainSource::new(Vec::from_slice(alloc, bytes)?);
-    played_from(alloc, packets, &mut source)
+    played_from(rt, alloc, packets, &mut source)
 }
 
-pub fn played_from<S: Source>(
+pub fn played_from<H: Threads + Copy + Send + Sync, S: Source>(
+    rt: H,
     alloc: Global,
     packets: u32,
     source: &mut S,
 ) -> Result<(Result<Summary, Ending>, Vec<u8>), Fail> {
     let mut sink = MemSink::new(alloc, ROOM, Vec::new(alloc))?;
-    let answer = play(alloc, packets, source, &mut sink);
+    let answer = play(rt, alloc, packets, source, &mut sink);
     Ok((answer, Vec::from_slice(alloc, sink.bytes())?))
 }
