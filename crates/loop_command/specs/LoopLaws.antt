@@ -92,31 +92,44 @@ module _ (sent given more_sent more_given : List (List ℕ)) (few : length given
   by_wire true (Some coming) (Some mid) (Some after) first second none same =
       let empty : mid ≡ [] = some_is mid [] none in
       let long : length (coming ++ sent) ≡ length (given ++ mid) =
-          ap length (some_is (coming ++ sent) (given ++ mid) first) in
+      ap length (some_is (coming ++ sent) (given ++ mid) first) in
       let short : length mid ≡ 0 = ap length empty in
-      inl (omega (arith, few, same, long, short, length-append coming sent,
-          length-append given mid, length-append given more_given,
-          length-append sent more_sent))
+      inl (omega (
+        arith,
+        few,
+        same,
+        long,
+        short,
+        length-append coming sent,
+        length-append given mid,
+        length-append given more_given,
+        length-append sent more_sent,
+      ))
   by_wire false (Some coming) (Some mid) (Some after) first second none same =
       let empty : mid ≡ [] = some_is mid [] none in
       let long : length (mid ++ []) ≡ length (more_given ++ after) =
-          ap length (some_is (mid ++ []) (more_given ++ after) second) in
+      ap length (some_is (mid ++ []) (more_given ++ after) second) in
       let short : length mid ≡ 0 = ap length empty in
       inr (ap Some (no_datagrams after
-          (omega (arith, long, short, length-append mid [], length-append more_given after))))
+      (omega (arith, long, short, length-append mid [], length-append more_given after))))
 
   in_turn_then : (x y z : WireTold) → Passes x y sent given → Passes y z more_sent more_given
       → AreInTurn y sent given → AreInTurn z more_sent more_given
       → AreInTurn z (sent ++ more_sent) (given ++ more_given)
   in_turn_then x y z p q first (inr none) = inr none
   in_turn_then x y z p q (inl same) (inl more) =
-      inl (omega (arith, same, more, length-append sent more_sent,
-          length-append given more_given))
+      inl (omega (
+        arith,
+        same,
+        more,
+        length-append sent more_sent,
+        length-append given more_given,
+      ))
   in_turn_then x y z p q (inr none) (inl more) =
       by_wire x.looped x.coming y.coming z.coming p.came
-          (subst (λ (b : Bool).
-              grown_by y.coming (looped_back b more_sent) ≡ led_by more_given z.coming)
-          p.looped_stays q.came) none more
+      (subst (λ (b : Bool).
+      grown_by y.coming (looped_back b more_sent) ≡ led_by more_given z.coming)
+      p.looped_stays q.came) none more
 
 -- ---- datagrams one after another
 
