@@ -6,14 +6,11 @@ use Rattle.std.proofs.lemmas.List.Elements.{All-drop, All-head, All-tail}
 use Rattle.std.proofs.Math.Seq.{drop-append_seam}
 use Rattle.std.proofs.lemmas.List.Concat.{flat_map-cons}
 use Rattle.link_capture.specs.Capture.{entry, first_entry, entries_within, entries_of, BeginsEntry}
-use Rattle.link_capture.proofs.Heads.{first_entry-entry, first_entry-shorter, first_entry-is, first_entry-append, begins_entry}
+use Rattle.link_capture.proofs.Heads.{first_entry-entry, first_entry-shorter, first_entry-is, first_entry-append, begins_entry, none_is_not}
 
 -- an entry before other entries
 abbrev then : List ℕ → List (List ℕ) × List ℕ → List (List ℕ) × List ℕ
 then datagram behind = (datagram ∷ behind.0, behind.1)
-
-none_is_not : {A : Type 0} (x : A) → None ≡ Some x → ⊥
-none_is_not x same = cc
 
 -- bytes that begin with no whole entry have none
 within-part : (most : ℕ) (bytes : List ℕ) → first_entry bytes ≡ None → entries_within most bytes ≡ ([], bytes)
@@ -27,7 +24,7 @@ unfolding entries_within
 within-next most bytes first is = rw is refl
 
 -- no bytes have no entry
-none-in-nothing : first_entry [] ≡ None
+pub none-in-nothing : first_entry [] ≡ None
 unfolding first_entry
 none-in-nothing = refl
 
