@@ -6,7 +6,7 @@ use Rattle.std.proofs.lemmas.List.Elements.{All-drop, All-head, All-tail}
 use Rattle.std.proofs.Math.Seq.{drop-append_seam}
 use Rattle.std.proofs.lemmas.List.Concat.{flat_map-cons}
 use Rattle.link_capture.specs.Capture.{entry, first_entry, entries_within, entries_of, BeginsEntry}
-use Rattle.link_capture.proofs.Heads.{first_entry-entry, first_entry-shorter, first_entry-is, first_entry-append, begins_entry, none_is_not}
+use Rattle.link_capture.proofs.Heads.{first_entry-entry, first_entry-shorter, first_entry-is, first_entry-append, begins_entry}
 
 -- an entry before other entries
 abbrev then : List ℕ → List (List ℕ) × List ℕ → List (List ℕ) × List ℕ

@@ -51,7 +51,7 @@ first_entry-entry datagram rest fits = first_entry-whole (length datagram / 256 
 some_is : {A : Type 0} (x y : A) → Some x ≡ Some y → x ≡ y
 some_is x y same = cc
 
-pub none_is_not : {A : Type 0} (x : A) → None ≡ Some x → ⊥
+none_is_not : {A : Type 0} (x : A) → None ≡ Some x → ⊥
 none_is_not x same = cc
 
 -- the first entry, where there is one, is as long as its length tells

@@ -1,5 +1,5 @@
 -- Counts: those of outcomes and those of pictures don't touch each other.
-use Rattle.std.proofs.Common.{◌≡◌, ℕ, ◌+◌, Bool, true, false, refl, ap, sym, ◌∙◌, cond, arith}
+use Rattle.std.proofs.Common.{◌≡◌, ℕ, ◌+◌, Bool, true, refl, ap, sym, ◌∙◌, cond, arith}
 use Rattle.std.proofs.Common.{List, [], ◌∷◌, Option}
 use Rattle.std.specs.Prelude.{◌==◌, ◌||◌, ◌&&◌, not, is_some, count_by, filter, fold, length}
 use Rattle.std.proofs.lemmas.Bool.{eq-eqb}
