@@ -82,6 +82,6 @@ pub planes_fit : (s : Sequence) (planes : Planes) → ArePicturePlanes s planes
     → HaveByteSamples planes
 planes_fit s planes are fits narrow =
     let own : IsTrue (shape_fits are.parameters.shape) =
-        subst (λ (shape : Shape). IsTrue (shape_fits shape)) (sym are.shape) fits in
+    subst (λ (shape : Shape). IsTrue (shape_fits shape)) (sym are.shape) fits in
     let built = built-shape are.parameters are.slices own (picture_shape s) are.shape in
     subst HaveByteSamples (sym are.are) (built.narrow narrow)
