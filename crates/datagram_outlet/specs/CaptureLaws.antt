@@ -11,35 +11,50 @@ use Rattle.datagram_outlet.specs.Outlets.{WroteEntries, WrotePartOfEntries, capt
 -- an output that held so much, and had counted so many faults, before and after
 abbrev held_between : (before after : Option (List ℕ)) → (first last : ℕ) → OutputChange
 held_between before after first last =
-    record { held = record { before = before; after = after }; faults = record { before = first; after = last } }
+    record {
+      held = record { before = before; after = after };
+      faults = record { before = first; after = last };
+    }
 
-pub capture-append : (first second : List (List ℕ)) → capture_of (first ++ second) ≡ capture_of first ++ capture_of second
+pub capture-append : (first second : List (List ℕ))
+    → capture_of (first ++ second) ≡ capture_of first ++ capture_of second
 capture-append first second = flat_map-append entry first second
 
-both : (first second : List (List ℕ)) → capture_of first ++ capture_of second ≡ capture_of (first ++ second)
+both : (first second : List (List ℕ))
+    → capture_of first ++ capture_of second ≡ capture_of (first ++ second)
 both first second = sym (capture-append first second)
 
-pub none_written : (held : Option (List ℕ)) (faults : ℕ) → WroteEntries (held_between held held faults faults) []
+pub none_written : (held : Option (List ℕ)) (faults : ℕ)
+    → WroteEntries (held_between held held faults faults) []
 none_written held faults = record { wrote = Grew-none held; later = omega arith }
 
 module _ (a b c : Option (List ℕ)) (i j k : ℕ) (first second : List (List ℕ)) where
-  pub more_written : WroteEntries (held_between a b i j) first → WroteEntries (held_between b c j k) second → WroteEntries (held_between a c i k) (first ++ second)
+  pub more_written : WroteEntries (held_between a b i j) first
+      → WroteEntries (held_between b c j k) second
+      → WroteEntries (held_between a c i k) (first ++ second)
   more_written p q = record {
-    wrote = subst (Grew a c) (both first second) (Grew-then a b c (capture_of first) (capture_of second) p.wrote q.wrote);
+    wrote = subst (Grew a c) (both first second)
+        (Grew-then a b c (capture_of first) (capture_of second) p.wrote q.wrote);
     later = omega (arith, p.later, q.later);
   }
 
-  pub part_behind : (fault : OutletFault) → WroteEntries (held_between a b i j) first → WrotePartOfEntries (held_between b c j k) second fault → WrotePartOfEntries (held_between a c i k) (first ++ second) fault
+  pub part_behind : (fault : OutletFault) → WroteEntries (held_between a b i j) first
+      → WrotePartOfEntries (held_between b c j k) second fault
+      → WrotePartOfEntries (held_between a c i k) (first ++ second) fault
   part_behind fault p q = record {
     fault_is = q.fault_is;
-    wrote = subst (GrewBySome a c) (both first second) (GrewBySome-then a b c (capture_of first) (capture_of second) p.wrote q.wrote);
+    wrote = subst (GrewBySome a c) (both first second)
+        (GrewBySome-then a b c (capture_of first) (capture_of second) p.wrote q.wrote);
     rose = omega (arith, p.later, q.rose);
   }
 
-pub wrote_part_before : (a b : Option (List ℕ)) (i j : ℕ) (first second : List (List ℕ)) (fault : OutletFault) → WrotePartOfEntries (held_between a b i j) first fault → WrotePartOfEntries (held_between a b i j) (first ++ second) fault
+pub wrote_part_before : (a b : Option (List ℕ)) (i j : ℕ) (first second : List (List ℕ))
+    (fault : OutletFault) → WrotePartOfEntries (held_between a b i j) first fault
+    → WrotePartOfEntries (held_between a b i j) (first ++ second) fault
 wrote_part_before a b i j first second fault p = record {
   fault_is = p.fault_is;
-  wrote = subst (GrewBySome a b) (both first second) (GrewBySome-front a b (capture_of first) (capture_of second) p.wrote);
+  wrote = subst (GrewBySome a b) (both first second)
+      (GrewBySome-front a b (capture_of first) (capture_of second) p.wrote);
   rose = p.rose;
 }
 
@@ -47,8 +62,13 @@ wrote_part_before a b i j first second fault p = record {
 pub capture-one : (datagram : List ℕ) → capture_of (datagram ∷ []) ≡ entry datagram
 capture-one datagram = flat_map-cons entry datagram [] ∙ append-nil (entry datagram)
 
-pub entry_written : (a b : Option (List ℕ)) (i j : ℕ) (datagram : List ℕ) → Grew a b (entry datagram) → i ≤ j → WroteEntries (held_between a b i j) (datagram ∷ [])
-entry_written a b i j datagram grew later = record { wrote = subst (Grew a b) (sym (capture-one datagram)) grew; later = later }
+pub entry_written : (a b : Option (List ℕ)) (i j : ℕ) (datagram : List ℕ)
+    → Grew a b (entry datagram) → i ≤ j → WroteEntries (held_between a b i j) (datagram ∷ [])
+entry_written a b i j datagram grew later = record {
+  wrote = subst (Grew a b) (sym (capture-one datagram)) grew;
+  later = later;
+}
 
-pub entry_in_part : (a b : Option (List ℕ)) (datagram : List ℕ) → GrewBySome a b (entry datagram) → GrewBySome a b (capture_of (datagram ∷ []))
+pub entry_in_part : (a b : Option (List ℕ)) (datagram : List ℕ) → GrewBySome a b (entry datagram)
+    → GrewBySome a b (capture_of (datagram ∷ []))
 entry_in_part a b datagram grew = subst (GrewBySome a b) (sym (capture-one datagram)) grew

@@ -14,28 +14,37 @@ use Rattle.datagram_outlet.specs.Outlets.{SentAll, SentPart}
 -- a wire that told so much, and had counted so many faults, before and after
 abbrev told_between : (before after : WireTold) → (first last : ℕ) → WireChange
 told_between before after first last =
-    record { told = record { before = before; after = after }; faults = record { before = first; after = last } }
+    record {
+      told = record { before = before; after = after };
+      faults = record { before = first; after = last };
+    }
 
 pub none_sent : (told : WireTold) (faults : ℕ) → SentAll (told_between told told faults faults) []
 none_sent told faults = record { passes = passes_none told; later = omega arith }
 
 module _ (a b c : WireTold) (i j k : ℕ) (first second : List (List ℕ)) where
-  pub more_sent : SentAll (told_between a b i j) first → SentAll (told_between b c j k) second → SentAll (told_between a c i k) (first ++ second)
+  pub more_sent : SentAll (told_between a b i j) first → SentAll (told_between b c j k) second
+      → SentAll (told_between a c i k) (first ++ second)
   more_sent p q = record {
     passes = passes_then a b c first [] second [] p.passes q.passes;
     later = omega (arith, p.later, q.later);
   }
 
-  pub part_behind : (fault : OutletFault) → SentAll (told_between a b i j) first → SentPart (told_between b c j k) second fault → SentPart (told_between a c i k) (first ++ second) fault
+  pub part_behind : (fault : OutletFault) → SentAll (told_between a b i j) first
+      → SentPart (told_between b c j k) second fault
+      → SentPart (told_between a c i k) (first ++ second) fault
   part_behind fault p q = record {
     fault_is = q.fault_is;
     count = length first + q.count;
     within = omega (arith, q.within, length-append first second);
-    passes = rw take-append-add (passes_then a b c first [] (take q.count second) [] p.passes q.passes);
+    passes = rw take-append-add
+        (passes_then a b c first [] (take q.count second) [] p.passes q.passes);
     rose = omega (arith, p.later, q.rose);
   }
 
-pub sent_part_before : (a b : WireTold) (i j : ℕ) (first second : List (List ℕ)) (fault : OutletFault) → SentPart (told_between a b i j) first fault → SentPart (told_between a b i j) (first ++ second) fault
+pub sent_part_before : (a b : WireTold) (i j : ℕ) (first second : List (List ℕ))
+    (fault : OutletFault) → SentPart (told_between a b i j) first fault
+    → SentPart (told_between a b i j) (first ++ second) fault
 sent_part_before a b i j first second fault p = record {
   fault_is = p.fault_is;
   count = p.count;
@@ -45,10 +54,15 @@ sent_part_before a b i j first second fault p = record {
 }
 
 -- one datagram
-pub datagram_sent : (a b : WireTold) (i j : ℕ) (datagram : List ℕ) → b ≡ sending a datagram → i ≤ j → SentAll (told_between a b i j) (datagram ∷ [])
-datagram_sent a b i j datagram is later = record { passes = passes_sent a b datagram is; later = later }
+pub datagram_sent : (a b : WireTold) (i j : ℕ) (datagram : List ℕ) → b ≡ sending a datagram → i ≤ j
+    → SentAll (told_between a b i j) (datagram ∷ [])
+datagram_sent a b i j datagram is later = record {
+  passes = passes_sent a b datagram is;
+  later = later;
+}
 
-pub datagram_unsent : (a b : WireTold) (i j : ℕ) (datagram : List ℕ) → b ≡ a → Rose i j → SentPart (told_between a b i j) (datagram ∷ []) faults.Wire
+pub datagram_unsent : (a b : WireTold) (i j : ℕ) (datagram : List ℕ) → b ≡ a → Rose i j
+    → SentPart (told_between a b i j) (datagram ∷ []) faults.Wire
 datagram_unsent a b i j datagram is rose = record {
   fault_is = refl;
   count = 0;

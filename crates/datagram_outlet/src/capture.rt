@@ -42,7 +42,8 @@ impl<'a, O: Sink> Outlet for CaptureOutlet<'a, O> {
 
     ghost none = { λ x. (refl, none_written _ _) };
 
-    ghost more = { λ x y z first second a b. (b.0 ∙ a.0, more_written _ _ _ _ _ _ first second a.1 b.1) };
+    ghost more = { λ x y z first second a b.
+        (b.0 ∙ a.0, more_written _ _ _ _ _ _ first second a.1 b.1) };
 
     ghost breaks_then = { λ x y z first second fault a b. (
       b.0 ∙ a.0,

@@ -40,7 +40,8 @@ impl<'a, N: Wire> Outlet for WireOutlet<'a, N> {
 
     ghost none = { λ x. (refl, none_sent _ _) };
 
-    ghost more = { λ x y z first second a b. (b.0 ∙ a.0, more_sent _ _ _ _ _ _ first second a.1 b.1) };
+    ghost more = { λ x y z first second a b.
+        (b.0 ∙ a.0, more_sent _ _ _ _ _ _ first second a.1 b.1) };
 
     ghost breaks_then = { λ x y z first second fault a b. (
       b.0 ∙ a.0,

@@ -6,7 +6,8 @@ use Rattle.link_report.specs.declared.ending.Ending.TheVariants.{InputFailed, Ca
 use Rattle.vc_ports.specs.Changes.{InputChange}
 use Rattle.vc_ports.specs.Reading.{IsAtEnd}
 
--- the datagrams of the whole entries that begin the bytes, at most `packets`, the rest, and its place
+-- the datagrams of the whole entries that begin the bytes, at most `packets`, the rest, and its
+-- place
 pub record CaptureSplit : Type 0 where
   pub datagrams : List (List ℕ)
   pub rest : List ℕ

@@ -17,4 +17,5 @@ counted_with_samples c samples =
 
 -- where these bytes come and no more
 abbrev pub counted_with : Comparison → List ℕ → ℕ
-counted_with c bytes = counted_with_samples c (samples_of_bytes c.wide (held_back c.wide c.low ++ bytes))
+counted_with c bytes =
+    counted_with_samples c (samples_of_bytes c.wide (held_back c.wide c.low ++ bytes))

@@ -1,4 +1,5 @@
--- Raw frames as they are read (this project's own): the planes Y, C1 and C2 one after another, each row by row.
+-- Raw frames as they are read (this project's own): the planes Y, C1 and C2 one after another, each
+-- row by row.
 use Rattle.std.specs.Prelude.{ℕ, ◌+◌, ◌*◌, Bool, true, false, if◌then◌else◌, List, [], ◌∷◌, take, drop}
 use Rattle.vc_types.specs.declared.shape.Shape.{Shape}
 use Rattle.vc_types.specs.declared.video.Component.{Component}

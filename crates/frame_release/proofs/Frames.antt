@@ -1,57 +1,19 @@
 -- A released frame fits bytes where its pictures do.
-use Rattle.std.proofs.Common.{◌≡◌, ℕ, ◌*◌, ◌/◌, ◌%◌, ◌+◌, ◌<◌, Bool, true, false, List, length}
-use Rattle.std.proofs.Common.{Option, Some, None, arith, cond, inl, inr, sym, subst}
-use Rattle.std.specs.Prelude.{IsTrue, IfSome, ◌==◌, if◌then◌else◌}
+use Rattle.std.proofs.Common.{◌≡◌, ℕ, ◌%◌, ◌+◌, Bool, true, false, List, Option, Some, None, cond, sym, subst}
+use Rattle.std.specs.Prelude.{IsTrue, IfSome, ◌==◌}
 use Rattle.std.specs.Option.{option_map}
-use Rattle.std.proofs.lemmas.Bool.{cases_lt}
-use Rattle.std.proofs.lemmas.List.{get_or_past}
-use Rattle.frame_writer.specs.Samples.{FitBytes, HaveByteSamples}
+use Rattle.frame_shapes.proofs.Weaving.{woven_fits}
+use Rattle.frame_writer.specs.Samples.{HaveByteSamples}
 use Rattle.link_model.specs.Output.{woven_fields}
 use Rattle.link_reception.specs.Receptions.{FirstField}
 use Rattle.link_reception.specs.Releasing.{field_before, released_frame}
 use Rattle.link_reception.specs.WholeBooks.{ArePicturePlanes}
-use Rattle.picture_build.proofs.RasterLists.{raster-all}
-use Rattle.vc_types.specs.FieldPairs.{interleaved_rows, of_each, woven}
 use Rattle.vc_types.specs.Limits.{shape_fits}
 use Rattle.vc_types.specs.Planes.{Planes, planes_in}
-use Rattle.vc_types.specs.Rasters.{Raster, sample_at}
+use Rattle.vc_types.specs.Rasters.{Raster}
 use Rattle.vc_types.specs.RawFrames.{is_wide}
 use Rattle.vc_types.specs.SequenceHeader.{Sequence, picture_shape}
 use Rattle.frame_release.proofs.PicturePlanes.{planes_fit}
-
--- ---- samples of woven fields
-
-sample_fits : (plane : Raster) (x y : ℕ) → FitBytes plane.samples → sample_at plane x y < 256
-unfolding sample_at
-sample_fits plane x y fits = elim (cases_lt (y * plane.width + x) (length plane.samples)) [
-  | inl within ↦ fits (y * plane.width + x) 0 within
-  | inr past ↦ rw (get_or_past plane.samples (y * plane.width + x) 0 past) (omega arith)
-]
-
-either_fits : (even : Bool) (a b : Raster) (x y : ℕ) → FitBytes a.samples → FitBytes b.samples
-    → sample_at (if even then a else b) x y < 256
-either_fits true a b x y f g = sample_fits a x y f
-either_fits false a b x y f g = sample_fits b x y g
-
-rows_fit : (a b : Raster) → FitBytes a.samples → FitBytes b.samples
-    → FitBytes (interleaved_rows a b).samples
-unfolding interleaved_rows
-rows_fit a b f g =
-    raster-all a.width (λ x y. sample_at (if y % 2 == 0 then a else b) x (y / 2)) (2 * a.height)
-    (λ s. s < 256) 0 (λ x y. either_fits (y % 2 == 0) a b x (y / 2) f g)
-
-each_fits : (a b : Planes) → HaveByteSamples a → HaveByteSamples b
-    → HaveByteSamples (of_each interleaved_rows a b)
-each_fits a b f g = record {
-  y = rows_fit a.y b.y f.y g.y;
-  c1 = rows_fit a.c1 b.c1 f.c1 g.c1;
-  c2 = rows_fit a.c2 b.c2 f.c2 g.c2;
-}
-
-woven_fits : (top_first : Bool) (a b : Planes) → HaveByteSamples a → HaveByteSamples b
-    → HaveByteSamples (woven top_first a b)
-woven_fits true a b f g = each_fits a b f g
-woven_fits false a b f g = each_fits b a g f
 
 -- ---- released pictures
 

@@ -1,5 +1,5 @@
--- What sending raw frames did, by how it ended. Where their datagrams went is said by two relations:
--- these went out; a part of these went out, and then it failed so.
+-- What sending raw frames did, by how it ended. Where their datagrams went is said by two
+-- relations: these went out; a part of these went out, and then it failed so.
 use Rattle.std.specs.Prelude.{◌≡◌, ◌≢◌, ◌⊎◌, ◌≤◌, ◌<◌, ℕ, List, [], ◌∷◌, ◌++◌, length, Some, Result, Ok, Err}
 use Rattle.datagram_outlet.specs.declared.outlet.OutletFault.{OutletFault}
 use Rattle.datagram_outlet.specs.declared.outlet.OutletFault.TheVariants as outlets

@@ -45,7 +45,7 @@ later_number : (base : ℕ) (e : Numbered) (es : List Numbered) (bits : ℕ) →
 unfolding picture_number
 later_number base e es bits = refl
 
-none_greatest : greatest [] ≡ 0
+pub none_greatest : greatest [] ≡ 0
 unfolding greatest
 none_greatest = refl
 

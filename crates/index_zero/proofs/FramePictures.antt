@@ -7,29 +7,13 @@ use Rattle.std.proofs.lemmas.List.Concat.{flat_map-cons}
 use Rattle.std.proofs.lemmas.Option.{none-some, same_Some}
 use Rattle.std.proofs.Math.Nat.{suc-mul}
 use Rattle.index_zero.proofs.SentFaults.{both_sound, faultless}
+use Rattle.index_zero.proofs.SentRuns.{get_behind, get_in_front}
 use Rattle.index_zero.proofs.SentStream.{count}
 use Rattle.link_model.specs.Sending.{both_fields, pictures_of, pictures_per_frame}
 use Rattle.link_model.specs.SendingFaults.{first_slice_fault, send_fault}
 use Rattle.vc_types.specs.FieldPairs.{fields_of}
 use Rattle.vc_types.specs.Planes.{Planes}
 use Rattle.vc_types.specs.SenderSettings.{Sending}
-
--- ---- in lists one after another
-
-pub get_in_front : {A : Type 0} (xs ys : List A) (k : ℕ) → k < length xs → slice_get (xs ++ ys) k ≡ slice_get xs k
-get_in_front [] ys k inside = absurd (omega (arith, inside))
-get_in_front (x ∷ xs) ys zero inside = refl
-get_in_front (x ∷ xs) ys (suc k) inside = get_in_front xs ys k (omega (arith, inside))
-
-plus_zero : (k : ℕ) → 0 + k ≡ k
-plus_zero k = omega arith
-
-one_more : (n k : ℕ) → suc n + k ≡ suc (n + k)
-one_more n k = omega arith
-
-pub get_behind : {A : Type 0} (xs ys : List A) (k : ℕ) → slice_get (xs ++ ys) (length xs + k) ≡ slice_get ys k
-get_behind [] ys k = ap (slice_get ys) (plus_zero k)
-get_behind (x ∷ xs) ys k = ap (slice_get (x ∷ (xs ++ ys))) (one_more (length xs) k) ∙ get_behind xs ys k
 
 -- ---- the pictures of frames
 

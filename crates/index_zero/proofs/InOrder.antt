@@ -8,7 +8,7 @@ use Rattle.std.proofs.lemmas.List.Elements.{All-head, All-nil, All-push, All-tai
 use Rattle.std.proofs.lemmas.List.Sums.{fold-append}
 use Rattle.std.proofs.lemmas.Option.{none-some, same_Some, slice_get-get_or}
 use Rattle.index_zero.proofs.Among.{among_all, among_from}
-use Rattle.index_zero.proofs.EnteredNumbers.{IsEntry, first_number, not_late, number_behind, other_part, own_part, unopened}
+use Rattle.index_zero.proofs.EnteredNumbers.{IsEntry, first_number, none_greatest, not_late, number_behind, other_part, own_part, unopened}
 use Rattle.link_model.specs.Numbers.{Numbered, enters, entered, greatest, has_parts, is_closed, is_late, opened_numbers, parts_of, picture_number}
 use Rattle.link_model.specs.Sending.{number_bits}
 use Rattle.link_model.specs.Session.{Part, Fragment}
@@ -104,10 +104,6 @@ module _ (n : ℕ) (pictures : List (List Part)) (some : All HasParts pictures) 
       ∙ each_of n (length pictures) (omega arith) (omega arith)
 
 -- ---- what is entered
-
-greatest_none : greatest [] ≡ 0
-unfolding greatest
-greatest_none = refl
 
 greatest_one : (e : Numbered) → greatest (e ∷ []) ≡ e.number
 unfolding greatest
@@ -218,7 +214,7 @@ module _ (s : Sending) where
         ∙ append_assoc es (entries_of (first + j) parts) (entries_from (first + j + 1) pictures)
 
     none_before : IsBefore 0 []
-    none_before = record { all = All-nil IsOwn; top = omega (arith, greatest_none); starts = inr refl }
+    none_before = record { all = All-nil IsOwn; top = omega (arith, none_greatest); starts = inr refl }
 
     -- whole pictures one after another
     pub entered_in_order : (pictures : List (List Part)) → All HasParts pictures → length pictures ≤ 2 ^ 31 → entered (2 ^ 32) window (fragments_from 0 pictures) ≡ entries_from first pictures

@@ -9,7 +9,8 @@ use Rattle.std.proofs.lemmas.Option.{none-some, same_Some}
 use Rattle.index_zero.proofs.HeardFragments.{own_session}
 use Rattle.index_zero.proofs.InOrder.{HasParts, fragment_of, fragments_of, fragments_from}
 use Rattle.index_zero.proofs.OneSession.{stays}
-use Rattle.index_zero.proofs.SentFragments.{end_begins_none, end_unheard, header_begins, header_unheard, itself, parameters_begin_none, parameters_heard, slices_begin_none, slices_heard}
+use Rattle.index_zero.proofs.SentSlices.{itself}
+use Rattle.index_zero.proofs.SentFragments.{end_begins_none, end_unheard, header_begins, header_unheard, parameters_begin_none, parameters_heard, slices_begin_none, slices_heard}
 use Rattle.index_zero.proofs.SentSlices.{sent_part}
 use Rattle.index_zero.proofs.SentStream.{IsOfPicture, IsSent, all_of_pictures, all_sent, contents, count, more_outgoing, none_outgoing, picture_contents, runs_at, runs_later}
 use Rattle.link_model.specs.Kept.{SliceRun}

@@ -12,10 +12,11 @@ use Rattle.index_zero.proofs.HeardFragments.{IsPartOf, own_session, session_is, 
 use Rattle.index_zero.proofs.InTime.{entered_is, in_time}
 use Rattle.index_zero.proofs.OwnParts.{IsOwnPart, whole_picture-own}
 use Rattle.index_zero.proofs.SentFaults.{AreSoundPictures, are_sound}
+use Rattle.index_zero.proofs.SentRuns.{plus_zero}
 use Rattle.index_zero.proofs.SentFragments.{parameters_heard, slices_heard}
 use Rattle.index_zero.proofs.SentSlices.{sent_part}
 use Rattle.index_zero.proofs.SentStream.{IsOfPicture, IsContent, among_pictures, count, runs_at}
-use Rattle.index_zero.proofs.ShortParameters.{short_parameters}
+use Rattle.sent_counts.proofs.Heads.{short_parameters_of}
 use Rattle.link_model.specs.Complete.{whole_picture}
 use Rattle.link_model.specs.Kept.{SliceRun, part_slices, waiting_limit}
 use Rattle.link_model.specs.Numbers.{Numbered, is_opened, entered, parts_of}
@@ -30,9 +31,6 @@ use Rattle.vc_types.specs.Planes.{Planes}
 use Rattle.vc_types.specs.SenderSettings.{Sending, sending_view}
 use Rattle.vc_types.specs.Subbands.{slice_count}
 use Rattle.vc_types.specs.TransformParameters.{Parameters}
-
-from_none : (j : ℕ) → 0 + j ≡ j
-from_none j = omega arith
 
 module _ (settings : SendSettings) (small : settings.ssrc < 2 ^ 32) (indices : List ℕ) (frames : List Planes) (faultless : AreFaultless (sending_view settings) indices frames) (few : length frames * pictures_per_frame (sending_view settings) < 2 ^ 31) where
   abbrev s : Sending
@@ -56,7 +54,7 @@ module _ (settings : SendSettings) (small : settings.ssrc < 2 ^ 32) (indices : L
   -- all that is sent fits its datagrams
   content_fits : (c : DatagramContent) (number : ℕ) (planes : Planes) → slice_get pictures number ≡ Some planes → IsContent s (runs_at s indices number planes) c → FitsDatagram s c
   content_fits HeaderContent number planes at is = tt
-  content_fits ParametersContent number planes at is = omega (arith, short_parameters settings)
+  content_fits ParametersContent number planes at is = omega (arith, short_parameters_of settings)
   content_fits (SlicesContent run) number planes at is = run_fits settings planes (drop (number * count s) indices) (sound number planes at) run is
   content_fits EndContent number planes at is = absurd is
 
@@ -96,7 +94,7 @@ module _ (settings : SendSettings) (small : settings.ssrc < 2 ^ 32) (indices : L
 
     sent_place : (c : DatagramContent) → IsAmong (HeaderContent ∷ ParametersContent ∷ map SlicesContent runs) c → (k : ℕ) × (slice_get (frames_outgoing s indices frames) k ≡ Some (outgoing j c))
     sent_place c is =
-        let among : IsAmong (frames_outgoing s indices frames) (outgoing j c) = subst (λ (n : ℕ). IsAmong (frames_outgoing s indices frames) (outgoing n c)) (from_none j) (among_pictures s 0 indices pictures j planes at c is) in
+        let among : IsAmong (frames_outgoing s indices frames) (outgoing j c) = subst (λ (n : ℕ). IsAmong (frames_outgoing s indices frames) (outgoing n c)) (plus_zero j) (among_pictures s 0 indices pictures j planes at c is) in
         (length among.0, among_at (outgoing j c) (frames_outgoing s indices frames) among)
 
     parameters_place : (k : ℕ) × (slice_get (frames_outgoing s indices frames) k ≡ Some (outgoing j ParametersContent))
@@ -136,7 +134,7 @@ module _ (settings : SendSettings) (small : settings.ssrc < 2 ^ 32) (indices : L
             let k = parameters_place in
             let t = time.parameters k.0 k.1 in
             let part : Part = ParamsPart bytes in
-            let is = heard_as k.0 ParametersContent part (parameters_heard settings (are_settings settings small) (s.seq + k.0) j (omega (arith, short_parameters settings))) in
+            let is = heard_as k.0 ParametersContent part (parameters_heard settings (are_settings settings small) (s.seq + k.0) j (omega (arith, short_parameters_of settings))) in
             let e = in_time s IsPart window some datagrams h heard.one all_sent_fragments are.first are.bits are.low are.all
             (sent_datagram s (s.seq + k.0) (outgoing j ParametersContent)) (record { number = number_bits s j; part = part }) is (part_sent part (inl refl)) t.0 t.1 in
             (e.front, e.rest, e.is, omega (arith, e.few, t.2))

@@ -12,9 +12,6 @@ use Rattle.link_capture.proofs.Heads.{first_entry-entry, first_entry-shorter, fi
 abbrev then : List ℕ → List (List ℕ) × List ℕ → List (List ℕ) × List ℕ
 then datagram behind = (datagram ∷ behind.0, behind.1)
 
-none_is_not : {A : Type 0} (x : A) → None ≡ Some x → ⊥
-none_is_not x same = cc
-
 -- bytes that begin with no whole entry have none
 within-part : (most : ℕ) (bytes : List ℕ) → first_entry bytes ≡ None → entries_within most bytes ≡ ([], bytes)
 unfolding entries_within
@@ -27,7 +24,7 @@ unfolding entries_within
 within-next most bytes first is = rw is refl
 
 -- no bytes have no entry
-none-in-nothing : first_entry [] ≡ None
+pub none-in-nothing : first_entry [] ≡ None
 unfolding first_entry
 none-in-nothing = refl
 

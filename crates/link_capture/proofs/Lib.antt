@@ -1,5 +1,5 @@
 pub mod Heads
 pub mod Entries
-pub mod Parts
+pub mod EntrySteps
 pub mod Puts
-pub mod Loops
+pub mod EntriesRead

@@ -5,7 +5,8 @@ use Rattle.link_capture.specs.Capture.{entries_of}
 use Rattle.link_capture.specs.declared.fault.EntryFault.{EntryFault}
 use Rattle.link_capture.specs.declared.fault.EntryFault.TheVariants.{Cut, ReadFault, NoMemory}
 
--- the source gave bytes whose entries are these and whose rest is this; the rest begins at the place
+-- the source gave bytes whose entries are these and whose rest is this; the rest begins at the
+-- place
 pub record GaveEntries
     (before after : Option (List ℕ)) (place : ℕ) (entries : List (List ℕ)) (rest : List ℕ)
     : Type 0 where

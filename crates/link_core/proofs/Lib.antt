@@ -5,7 +5,5 @@ pub mod NextReleases
 pub mod Stepping
 pub mod Completions
 pub mod Ranges
-pub mod Shaped
-pub mod Weavable
 pub mod BuiltFrames
 pub mod SoundAnswers

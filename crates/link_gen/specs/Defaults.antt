@@ -1,5 +1,5 @@
--- How generated frames are sent: everything but the frames themselves as a sender is set by default; and the shape of
--- the frames.
+-- How generated frames are sent: everything but the frames themselves as a sender is set by
+-- default; and the shape of the frames.
 use Rattle.std.specs.Prelude.{false, List}
 use Rattle.link_gen.specs.Generator.{generated_frames}
 use Rattle.link_model.specs.SendingPictures.{sent_sequence}

@@ -1,5 +1,5 @@
--- The generator of frames (this project's own): a state of 64 bits takes a step for each sample, and the sample is the
--- state's upper bits.
+-- The generator of frames (this project's own): a state of 64 bits takes a step for each sample,
+-- and the sample is the state's upper bits.
 use Rattle.std.specs.Prelude.{ℕ, zero, suc, ◌+◌, ◌-◌, ◌*◌, ◌/◌, ◌%◌, ◌^◌, List, [], ◌∷◌}
 use Rattle.vc_types.specs.declared.shape.Shape.{Shape}
 use Rattle.vc_types.specs.declared.video.Component.{Component}

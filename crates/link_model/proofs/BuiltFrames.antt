@@ -1,12 +1,12 @@
 -- A frame that is built of the answers to its slices is the frame of the pictures' own bytes.
-use Rattle.std.proofs.Common.{◌≡◌, ℕ, zero, suc, ◌+◌, ◌-◌, ◌%◌, ◌<◌, ◌≤◌, Bool, true, false, cond}
+use Rattle.std.proofs.Common.{◌≡◌, ℕ, zero, suc, ◌+◌, ◌-◌, ◌%◌, Bool, true, false, cond}
 use Rattle.std.proofs.Common.{List, [], ◌∷◌, ◌++◌}
-use Rattle.std.proofs.Common.{length, map, take, drop, Option, Some, None, Result, Ok, Err, refl}
-use Rattle.std.proofs.Common.{ap, sym, subst, ◌∙◌, arith}
-use Rattle.std.proofs.Common.{eqb, eqb-true}
+use Rattle.std.proofs.Common.{length, map, Option, Some, None, Result, Ok, Err, refl}
+use Rattle.std.proofs.Common.{ap, sym, subst, ◌∙◌}
+use Rattle.std.proofs.Common.{eqb-true}
 use Rattle.std.specs.Prelude.{◌==◌, ◌&&◌, ◌||◌, not, is_some, unwrap_or}
-use Rattle.std.specs.List.{flat_map, list_all, range_with_len}
-use Rattle.std.specs.Option.{option_map, option_and_then, option_zip}
+use Rattle.std.specs.List.{list_all, range_with_len}
+use Rattle.std.specs.Option.{option_map, option_and_then}
 use Rattle.std.proofs.Math.Seq.{drop-append_seam, take-append_seam}
 use Rattle.std.proofs.lemmas.Bool.{and_parts, false≢true}
 use Rattle.std.proofs.lemmas.Option.{same_Some, none-some}
@@ -17,21 +17,20 @@ use Rattle.link_model.specs.Feeders.{picture_keeps}
 use Rattle.link_model.specs.Feeders.{kept_job, job_with, answer_in, has_every_answer, is_ready}
 use Rattle.link_model.specs.Feeding.{sound_answer, with_first, sound_answers, planes_by}
 use Rattle.link_model.specs.Feeding.{built_planes}
-use Rattle.link_model.specs.Feeding.{frame_of, built_bytes}
-use Rattle.link_model.specs.Interleavings.{IsOwnAnswer, AreOwnAnswers}
+use Rattle.link_model.specs.Feeding.{built_bytes}
+use Rattle.link_model.specs.Interleavings.{AreOwnAnswers}
 use Rattle.link_model.specs.Kept.{Own, own, own_slice, split_parts}
-use Rattle.link_model.specs.Numbers.{Numbered, has_parts, is_opened, parts_of}
+use Rattle.link_model.specs.Numbers.{has_parts, is_opened, parts_of}
 use Rattle.link_model.specs.Output.{planes_at, frame_at, frame_bytes_at, raw_bytes, woven_fields}
 use Rattle.link_model.specs.Places.{Job, decoding}
 use Rattle.link_model.specs.Session.{HeardSession, Part}
-use Rattle.link_model.proofs.PicturesStay.{KeptSlice, kept_slice, job_of_kept}
+use Rattle.link_model.proofs.PicturesStay.{kept_slice, job_of_kept}
 use Rattle.vc_types.specs.PictureBytes.{IsWholeSlice}
-use Rattle.link_model.proofs.WholeBytes.{SlicesStandAlone, own_slices, decoded_whole}
+use Rattle.link_model.proofs.WholeBytes.{decoded_whole}
 use Rattle.link_model.proofs.WholeBytes.{own_slice_whole}
 use Rattle.vc_types.specs.Fields.{and_then, joined}
-use Rattle.vc_types.specs.Pictures.{Picture, decoded_picture, with_slices, slices_from, sound}
+use Rattle.vc_types.specs.Pictures.{Picture, with_slices, slices_from}
 use Rattle.vc_types.specs.Planes.{Planes, planes_of, decoded_planes}
-use Rattle.vc_types.specs.SequenceHeader.{Sequence}
 use Rattle.vc_types.specs.Slices.{Coefficients, slice_coefficients}
 use Rattle.vc_types.specs.Subbands.{slice_count}
 use Rattle.vc_types.specs.TransformParameters.{Parameters}

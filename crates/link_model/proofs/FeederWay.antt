@@ -1,22 +1,21 @@
 -- The feeder's own way: each of its events is legal where it stands, and in the end nothing may be
 -- released.
-use Rattle.std.proofs.Common.{◌≡◌, ◌≢◌, ℕ, ◌+◌, ◌<◌, ◌≤◌, Bool, true, false, cond, List, [], ◌∷◌}
+use Rattle.std.proofs.Common.{◌≡◌, ◌≢◌, ℕ, ◌<◌, ◌≤◌, Bool, true, false, cond, List, [], ◌∷◌}
 use Rattle.std.proofs.Common.{◌++◌, map}
-use Rattle.std.proofs.Common.{Option, Some, None, Result, refl, ap, sym, subst, ◌∙◌, arith, eqb}
-use Rattle.std.proofs.Common.{eqb-true, eq-eqb, ne_eqb}
-use Rattle.std.specs.Prelude.{◌==◌, ◌&&◌, ◌||◌, not, is_some, slice_get, fold, filter}
+use Rattle.std.proofs.Common.{Option, Some, None, refl, ap, sym, subst, ◌∙◌, arith}
+use Rattle.std.proofs.Common.{eq-eqb, ne_eqb}
+use Rattle.std.specs.Prelude.{◌==◌, ◌&&◌, ◌||◌, not, is_some, slice_get, filter}
 use Rattle.std.specs.List.{flat_map, list_all}
-use Rattle.std.specs.Option.{option_map_or, option_and_then}
-use Rattle.std.proofs.lemmas.Bool.{and_parts, and_from, false≢true, both_ways}
+use Rattle.std.specs.Option.{option_map_or}
+use Rattle.std.proofs.lemmas.Bool.{and_parts, and_from, false≢true}
 use Rattle.std.proofs.lemmas.List.Sums.{fold-append}
-use Rattle.std.proofs.lemmas.Option.{same_Some, none-some}
 use Rattle.link_model.specs.Complete.{has_all_slices, slice_numbers}
 use Rattle.link_model.specs.Feeders.{SliceAnswer, Feeder, EnteredSession, session_opening, keeps_of}
 use Rattle.link_model.specs.Feeders.{picture_keeps, kept_job, job_with}
-use Rattle.link_model.specs.Feeders.{let_go_pictures, is_among, not_released, releasable}
+use Rattle.link_model.specs.Feeders.{let_go_pictures, is_among, not_released}
 use Rattle.link_model.specs.Feeders.{next_to_release, answer_in, is_ready}
 use Rattle.link_model.specs.Feeders.{has_every_answer}
-use Rattle.link_model.specs.Feeding.{built_bytes, redoes_slice, with_answer}
+use Rattle.link_model.specs.Feeding.{built_bytes, with_answer}
 use Rattle.link_model.specs.Kept.{Own, own_slice}
 use Rattle.link_model.specs.Machine.{Event, Redo, Release, feeder_after, is_next, has_answers}
 use Rattle.link_model.specs.Machine.{is_legal_for_feeder}

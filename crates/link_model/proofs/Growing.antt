@@ -29,7 +29,7 @@ begins_itself l = ([], sym (append-nil l))
 begins_longer : (a b c : List ℕ) → IsPrefixOf a b → IsPrefixOf b c → IsPrefixOf a c
 begins_longer a b c first second = (first.0 ++ second.0, second.1 ∙ ap (λ (l : List ℕ). l ++ second.0) first.1 ∙ append_assoc a first.0 second.0)
 
-begins_behind : (front a b : List ℕ) → IsPrefixOf a b → IsPrefixOf (front ++ a) (front ++ b)
+pub begins_behind : (front a b : List ℕ) → IsPrefixOf a b → IsPrefixOf (front ++ a) (front ++ b)
 begins_behind front a b begins = (begins.0, ap (λ (l : List ℕ). front ++ l) begins.1 ∙ sym (append_assoc front a begins.0))
 
 module _ (window : ℕ) where

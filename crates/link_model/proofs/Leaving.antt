@@ -29,7 +29,7 @@ module _ (s : Sequence) (es : List Numbered) where
       by_parts [] e = absurd (false≢true e)
       by_parts (part ∷ parts) e = refl
 
-has_more : (parts more : List Part) → has_parts parts ≡ true → has_parts (parts ++ more) ≡ true
+pub has_more : (parts more : List Part) → has_parts parts ≡ true → has_parts (parts ++ more) ≡ true
 has_more [] more e = absurd (false≢true e)
 has_more (part ∷ parts) more e = refl
 

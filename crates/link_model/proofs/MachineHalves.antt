@@ -1,7 +1,7 @@
 -- An event is legal where all its conditions hold: those on the places, and those on the feeder.
-use Rattle.std.proofs.Common.{◌≡◌, ℕ, suc, ◌+◌, ◌<◌, Bool, true, false, cond, List, [], ◌∷◌, length}
-use Rattle.std.proofs.Common.{Option, Some, None, refl, ap, sym, ◌∙◌, arith}
-use Rattle.std.specs.Prelude.{◌&&◌, ◌||◌, not, position, ◌↔◌}
+use Rattle.std.proofs.Common.{◌≡◌, ℕ, suc, ◌+◌, Bool, true, false, cond, List, [], ◌∷◌, length}
+use Rattle.std.proofs.Common.{Option, Some, None, refl, ap, sym, arith}
+use Rattle.std.specs.Prelude.{◌&&◌, not, position}
 use Rattle.std.specs.List.{list_all, list_any, position_or_len}
 use Rattle.std.specs.Option.{option_map}
 use Rattle.std.proofs.lemmas.Bool.{and_parts, and_from, false≢true, le-ltb}
@@ -10,7 +10,7 @@ use Rattle.link_model.proofs.Positions.{position_none}
 use Rattle.link_model.specs.Feeders.{is_closed_now, is_decoded, is_kept}
 use Rattle.link_model.specs.Machine.{Machine, Event, Enter, Put, Claim, Complete, Take, Withdraw}
 use Rattle.link_model.specs.Machine.{Leave, Redo, Release, Finish}
-use Rattle.link_model.specs.Machine.{conditions, first_broken, IsLegal, is_legal_on_places}
+use Rattle.link_model.specs.Machine.{conditions, IsLegal, is_legal_on_places}
 use Rattle.link_model.specs.Machine.{is_legal_for_feeder}
 use Rattle.link_model.specs.Machine.{is_next, has_answers}
 use Rattle.link_model.specs.Places.{place_at, is_in, may_put, stands_in}

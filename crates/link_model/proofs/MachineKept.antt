@@ -1,28 +1,27 @@
 -- What every legal event of the machine keeps.
-use Rattle.std.proofs.Common.{◌≡◌, ℕ, zero, suc, ◌+◌, ◌-◌, ◌%◌, ◌<◌, ◌≤◌, Bool, true, false, cond}
+use Rattle.std.proofs.Common.{◌≡◌, ℕ, ◌-◌, ◌%◌, ◌≤◌, Bool, true, false, cond}
 use Rattle.std.proofs.Common.{List, [], ◌∷◌, ◌++◌}
-use Rattle.std.proofs.Common.{Option, Some, None, Result, refl, ap, sym, subst, ◌∙◌, arith, inl}
-use Rattle.std.proofs.Common.{inr, eqb, eqb-true, eq-eqb}
-use Rattle.std.specs.Prelude.{◌⊎◌, ◌==◌, ◌&&◌, ◌||◌, not, is_some, bytes_eq, slice_get}
+use Rattle.std.proofs.Common.{Option, Some, None, refl, ap, sym, subst, ◌∙◌, arith}
+use Rattle.std.proofs.Common.{eq-eqb}
+use Rattle.std.specs.Prelude.{◌==◌, ◌&&◌, ◌||◌, not, is_some}
 use Rattle.std.specs.List.{flat_map, list_all}
-use Rattle.std.specs.Option.{option_map_or, option_and_then}
+use Rattle.std.specs.Option.{option_map_or}
 use Rattle.std.proofs.lemmas.Bool.{and_parts, and_from, false≢true, both_ways}
 use Rattle.std.proofs.lemmas.List.{append_assoc, append-nil}
 use Rattle.std.proofs.lemmas.List.Concat.{flat_map-append}
 use Rattle.std.proofs.lemmas.Option.{same_Some, none-some}
-use Rattle.std.proofs.lemmas.Slice.Eq.{bytes_eq-Decides}
 use Rattle.link_model.specs.Complete.{has_all_slices, slice_numbers}
 use Rattle.link_model.specs.Feeders.{SliceAnswer, EnteredSession, entered_session, session_opening}
 use Rattle.link_model.specs.Feeders.{picture_keeps, kept_job}
 use Rattle.link_model.specs.Feeders.{heard_pictures, let_go_pictures, is_among, not_released}
 use Rattle.link_model.specs.Feeders.{answer_in, is_ready, has_every_answer}
-use Rattle.link_model.specs.Feeding.{built_bytes, built_planes, is_same_job}
+use Rattle.link_model.specs.Feeding.{built_bytes, built_planes}
 use Rattle.link_model.specs.Interleavings.{AreOwnAnswers, IsOwnAnswer}
 use Rattle.link_model.specs.Kept.{Own}
 use Rattle.link_model.specs.Numbers.{is_opened, opened_numbers}
 use Rattle.link_model.specs.Output.{entered_behind, is_opened_in, is_let_go, let_go_numbers}
-use Rattle.link_model.specs.Output.{planes_at, frame_bytes_at, IsPrefixOf}
-use Rattle.link_model.specs.Places.{Job, decoding}
+use Rattle.link_model.specs.Output.{planes_at, frame_bytes_at}
+use Rattle.link_model.specs.Places.{Job}
 use Rattle.link_model.specs.Session.{HeardSession, hears}
 use Rattle.link_model.proofs.Apart.{sessions_apart}
 use Rattle.link_model.proofs.BuiltFrames.{built_is, unopened_planes, built_frame}
@@ -30,16 +29,12 @@ use Rattle.link_model.proofs.PicturesHeard.{picture_bytes, pictures_opened, sess
 use Rattle.link_model.proofs.PicturesHeard.{session_before, session_earlier, session_opened}
 use Rattle.link_model.proofs.PicturesHeard.{let_go_begins, let_go_in_sessions, let_go_rising}
 use Rattle.link_model.proofs.PicturesHeard.{among_opened, among_let_go, each_let_go}
-use Rattle.link_model.proofs.PicturesStay.{Stays, Gone, goes_on, stays, let_go_grows, job_goes_on}
-use Rattle.link_model.proofs.PicturesStay.{ready_stays, each_and, with_entries}
+use Rattle.link_model.proofs.PicturesStay.{Stays, goes_on, stays, let_go_grows, job_goes_on}
+use Rattle.link_model.proofs.PicturesStay.{ready_stays, each_and}
 use Rattle.link_model.proofs.Releasing.{let_go_before}
 use Rattle.link_model.proofs.RisingLists.{Each, IsRising, each_map, each_append, each_front}
 use Rattle.link_model.proofs.RisingLists.{among_each, among_front, among_back, among_before}
 use Rattle.link_model.proofs.RisingLists.{not_released_is, same_on}
-use Rattle.vc_types.specs.SameValues.{same_parameters}
-use Rattle.vc_types.specs.Slices.{Coefficients}
-use Rattle.vc_types.specs.declared.refusal.Unsound.{Unsound}
-use Rattle.vc_types.proofs.SameValues.{parameters_exactly}
 
 -- ---- the session of a picture, and of its neighbour
 

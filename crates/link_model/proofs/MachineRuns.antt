@@ -1,8 +1,8 @@
 -- The laws of the machine over every list of legal events.
-use Rattle.std.proofs.Common.{◌≡◌, ℕ, ◌+◌, ◌≤◌, Bool, true, false, cond, List, [], ◌∷◌, ◌++◌}
-use Rattle.std.proofs.Common.{Option, Some, None, refl, ap, sym, subst, ◌∙◌, arith, inl, inr, eqb}
+use Rattle.std.proofs.Common.{◌≡◌, ℕ, ◌≤◌, Bool, true, false, cond, List, [], ◌∷◌, ◌++◌}
+use Rattle.std.proofs.Common.{Option, Some, None, refl, ap, sym, subst, ◌∙◌, arith, inl, inr}
 use Rattle.std.proofs.Common.{eqb-true, eq-eqb}
-use Rattle.std.specs.Prelude.{◌⊎◌, ◌↔◌, ◌==◌, ◌&&◌, ◌||◌, not, is_some, slice_get, fold, filter}
+use Rattle.std.specs.Prelude.{◌⊎◌, ◌↔◌, ◌==◌, ◌&&◌, ◌||◌, not, is_some, slice_get, fold}
 use Rattle.std.specs.List.{flat_map, list_all}
 use Rattle.std.specs.Option.{option_map_or, option_and_then}
 use Rattle.std.proofs.lemmas.Bool.{and_parts, and_from, false≢true}
@@ -10,26 +10,26 @@ use Rattle.std.proofs.lemmas.List.{append-nil}
 use Rattle.std.proofs.lemmas.List.Concat.{flat_map-append}
 use Rattle.std.proofs.lemmas.Option.{same_Some, none-some}
 use Rattle.link_model.specs.Complete.{has_all_slices, slice_numbers}
-use Rattle.link_model.specs.Feeders.{SliceAnswer, Feeder, EnteredSession, session_opening, keeps_of}
+use Rattle.link_model.specs.Feeders.{Feeder, EnteredSession, session_opening, keeps_of}
 use Rattle.link_model.specs.Feeders.{kept_job, slice_job, is_kept}
-use Rattle.link_model.specs.Feeders.{let_go_pictures, not_released, releasable, next_to_release}
-use Rattle.link_model.specs.Feeders.{picture_keeps, keeps_now, has_released}
+use Rattle.link_model.specs.Feeders.{let_go_pictures, releasable, next_to_release}
+use Rattle.link_model.specs.Feeders.{has_released}
 use Rattle.link_model.specs.Feeders.{is_decoded, answer_in, is_ready, has_every_answer}
 use Rattle.link_model.specs.Feeding.{built_bytes, takes_answer, with_answer, has_job, is_same_job}
 use Rattle.link_model.specs.Feeding.{redoes_slice}
 use Rattle.link_model.specs.Feeders.{is_among}
 use Rattle.link_model.proofs.PicturesHeard.{let_go_rising}
 use Rattle.link_model.proofs.RisingLists.{IsRising, each_map, filter_rising, among_each}
-use Rattle.link_model.specs.Interleavings.{machine_after, IsRun, due, is_input, inputs}
+use Rattle.link_model.specs.Interleavings.{machine_after, IsRun, due, inputs}
 use Rattle.link_model.specs.Interleavings.{AreOwnAnswers}
 use Rattle.link_model.specs.Kept.{Own, own_slice}
 use Rattle.link_model.specs.Machine.{Machine, new_machine, Event, Enter, Put, Claim, Complete, Take}
 use Rattle.link_model.specs.Machine.{Withdraw, Leave, Redo, Release, Finish}
-use Rattle.link_model.specs.Machine.{IsLegal, is_next, has_answers, happens, takes_from, puts_slice}
+use Rattle.link_model.specs.Machine.{IsLegal, is_next, has_answers, happens, takes_from}
 use Rattle.link_model.specs.Machine.{run, AreLegal, is_legal_on_places, is_legal_for_feeder}
-use Rattle.link_model.specs.Output.{all_output, last_so_far, full_output, output_so_far, IsPrefixOf}
+use Rattle.link_model.specs.Output.{full_output, output_so_far, IsPrefixOf}
 use Rattle.link_model.specs.Places.{Job, Answered, own_answer, decoding, Content, Nothing, Offered}
-use Rattle.link_model.specs.Places.{Claimed, Decoded, JobPlace, place_at}
+use Rattle.link_model.specs.Places.{Claimed, Decoded, place_at}
 use Rattle.link_model.specs.Places.{may_put, stands_in, puts_job, AreApart, HasOwnAnswer}
 use Rattle.link_model.specs.Places.{HaveOwnAnswers}
 use Rattle.link_model.specs.Session.{HeardSession, sessions_of, hears}

@@ -2,39 +2,32 @@
 -- and as datagrams come those that are let go stay as they are.
 use Rattle.std.proofs.Common.{◌≡◌, ℕ, ◌+◌, ◌-◌, ◌<◌, ◌≤◌, Bool, true, false, cond, List, [], ◌∷◌}
 use Rattle.std.proofs.Common.{◌++◌}
-use Rattle.std.proofs.Common.{Option, Some, None, refl, ap, sym, subst, ◌∙◌, arith, inl, inr}
-use Rattle.std.specs.Prelude.{◌⊎◌, ◌||◌, filter, filter_map}
+use Rattle.std.proofs.Common.{Option, Some, refl, ap, sym, subst, ◌∙◌, arith, inl, inr}
+use Rattle.std.specs.Prelude.{◌⊎◌, ◌||◌}
 use Rattle.std.specs.List.{flat_map}
-use Rattle.std.specs.Option.{option_map_or, option_and_then}
-use Rattle.std.proofs.lemmas.Bool.{cases_lt, both_ways, false≢true}
+use Rattle.std.specs.Option.{option_map_or}
+use Rattle.std.proofs.lemmas.Bool.{cases_lt, both_ways}
 use Rattle.std.proofs.lemmas.List.{append_assoc, append-nil}
 use Rattle.std.proofs.lemmas.List.Concat.{flat_map-append}
-use Rattle.std.proofs.lemmas.Option.{same_Some, none-some}
-use Rattle.link_model.specs.Feeders.{EnteredSession, entered_session, session_opening, keeps_of}
-use Rattle.link_model.specs.Feeders.{picture_keeps}
-use Rattle.link_model.specs.Feeders.{kept_job, job_by, heard_pictures, let_go_pictures, is_among}
-use Rattle.link_model.specs.Kept.{Own, own, own_slice}
-use Rattle.link_model.specs.Numbers.{Numbered, base_above, entered, greatest, least, has_parts}
+use Rattle.std.proofs.lemmas.Option.{none-some}
+use Rattle.link_model.specs.Feeders.{EnteredSession, entered_session, session_opening}
+use Rattle.link_model.specs.Feeders.{heard_pictures, let_go_pictures, is_among}
+use Rattle.link_model.specs.Numbers.{Numbered, greatest, least, has_parts}
 use Rattle.link_model.specs.Numbers.{is_opened}
-use Rattle.link_model.specs.Numbers.{opened_numbers, parts_of, span}
+use Rattle.link_model.specs.Numbers.{opened_numbers, span}
 use Rattle.link_model.specs.Output.{greatest_of, entered_behind, is_opened_in, is_let_go}
 use Rattle.link_model.specs.Output.{let_go_numbers}
 use Rattle.link_model.specs.Output.{frame_bytes_at, all_frames, frames_so_far, all_output}
 use Rattle.link_model.specs.Output.{last_so_far}
 use Rattle.link_model.specs.Output.{IsPrefixOf}
-use Rattle.link_model.specs.Places.{Job}
-use Rattle.link_model.specs.Session.{Session, HeardSession, just_opened, opens_next, with_datagram}
-use Rattle.link_model.specs.Session.{last_with, hears, begins, fragment_in, Part}
-use Rattle.link_model.proofs.Apart.{unopened_above, nothing_below, sessions_apart, base_is_above}
-use Rattle.link_model.proofs.Growing.{so_far_begins_all_output}
-use Rattle.link_model.proofs.Leaving.{releases, last_releases, opened_same}
-use Rattle.link_model.proofs.Numbering.{Follows, entered_follows, parts_of-outside}
-use Rattle.link_model.proofs.Releasing.{frame_same, let_go_before}
+use Rattle.link_model.specs.Session.{HeardSession}
+use Rattle.link_model.proofs.Apart.{unopened_above, nothing_below, sessions_apart}
+use Rattle.link_model.proofs.Leaving.{last_releases}
+use Rattle.link_model.proofs.Numbering.{parts_of-outside}
 use Rattle.link_model.proofs.RisingLists.{Each, IsRising, each_map, each_append, each_front}
 use Rattle.link_model.proofs.RisingLists.{each_passes}
 use Rattle.link_model.proofs.RisingLists.{filter_rising, range_rising, append_rising, among_range}
-use Rattle.link_model.proofs.RisingLists.{among_filter, among_front, among_back, same_on}
-use Rattle.link_model.proofs.RisingLists.{among_each}
+use Rattle.link_model.proofs.RisingLists.{among_filter, same_on}
 use Rattle.vc_types.specs.SequenceHeader.{Sequence}
 
 -- ---- the pictures of one session

@@ -1,14 +1,13 @@
 -- As datagrams come, what a picture keeps stays kept, and a picture that is let go stays as it is.
-use Rattle.std.proofs.Common.{◌≡◌, ℕ, ◌+◌, ◌-◌, ◌<◌, ◌≤◌, Bool, true, false, cond, List, [], ◌∷◌}
+use Rattle.std.proofs.Common.{◌≡◌, ℕ, ◌+◌, ◌≤◌, Bool, true, false, cond, List, [], ◌∷◌}
 use Rattle.std.proofs.Common.{◌++◌}
 use Rattle.std.proofs.Common.{Option, Some, None, refl, ap, sym, subst, ◌∙◌, arith, inl, inr}
 use Rattle.std.specs.Prelude.{◌⊎◌, ◌||◌, not, is_some, filter_map}
-use Rattle.std.specs.List.{list_all}
 use Rattle.std.specs.Option.{option_map_or, option_and_then, option_map}
-use Rattle.std.proofs.lemmas.Bool.{cases_lt, both_ways, false≢true}
-use Rattle.std.proofs.lemmas.List.{append_assoc, append-nil}
+use Rattle.std.proofs.lemmas.Bool.{cases_lt, false≢true}
+use Rattle.std.proofs.lemmas.List.{append_assoc}
 use Rattle.std.proofs.lemmas.Option.{same_Some, none-some}
-use Rattle.link_model.specs.Complete.{has_all_slices, all_bytes, slice_numbers, whole_of}
+use Rattle.link_model.specs.Complete.{has_all_slices, all_bytes, whole_of}
 use Rattle.link_model.specs.Complete.{whole_picture}
 use Rattle.link_model.specs.Feeders.{EnteredSession, entered_session, session_opening, keeps_of}
 use Rattle.link_model.specs.Feeders.{picture_keeps}
@@ -22,12 +21,13 @@ use Rattle.link_model.specs.Output.{let_go_numbers}
 use Rattle.link_model.specs.Output.{complete_at, frame_bytes_at, IsPrefixOf}
 use Rattle.link_model.specs.Places.{Job}
 use Rattle.link_model.specs.Session.{Session, HeardSession, just_opened, opens_next, with_datagram}
-use Rattle.link_model.specs.Session.{last_with, hears, begins, fragment_in, Part}
+use Rattle.link_model.specs.Session.{last_with, hears, begins, fragment_in}
 use Rattle.link_model.proofs.Keeping.{grown, own-append, slice_stays}
-use Rattle.link_model.proofs.Leaving.{let_go_numbers_grow, opened_same}
+use Rattle.link_model.proofs.Growing.{begins_behind}
+use Rattle.link_model.proofs.Leaving.{has_more, let_go_numbers_grow}
 use Rattle.link_model.proofs.Numbering.{Follows, follows_itself, entered_follows}
 use Rattle.link_model.proofs.Releasing.{frame_same, let_go_at}
-use Rattle.link_model.proofs.PicturesHeard.{picture_bytes, pictures_opened, session_here}
+use Rattle.link_model.proofs.PicturesHeard.{pictures_opened, session_here}
 use Rattle.link_model.proofs.PicturesHeard.{session_before}
 use Rattle.link_model.proofs.PicturesHeard.{session_earlier, session_opened, let_go_begins}
 use Rattle.link_model.proofs.PicturesHeard.{let_go_in_sessions}
@@ -41,9 +41,6 @@ pub each_and : (P Q : ℕ → Type 0) (xs : List ℕ) → Each P xs → Each Q x
 each_and P Q [] a b = tt
 each_and P Q (x ∷ xs) a b = ((a.0, b.0), each_and P Q xs a.1 b.1)
 
-begins_behind : (front a b : List ℕ) → IsPrefixOf a b → IsPrefixOf (front ++ a) (front ++ b)
-begins_behind front a b begins = (begins.0, ap (λ (l : List ℕ). front ++ l) begins.1 ∙ sym (append_assoc front a begins.0))
-
 begins_longer : (a b more : List ℕ) → IsPrefixOf a b → IsPrefixOf a (b ++ more)
 begins_longer a b more begins = (begins.0 ++ more, ap (λ (l : List ℕ). l ++ more) begins.1 ∙ append_assoc a begins.0 more)
 
@@ -55,10 +52,6 @@ with_entries e es = record { sequence = e.sequence; entries = es }
 -- the parts of a picture that is let go are all that it ever has, or it is complete
 abbrev pub IsSettled : EnteredSession → List Numbered → ℕ → Type 0
 IsSettled e es n = (parts_of n es ≡ parts_of n e.entries) ⊎ (complete_at e.sequence e.entries n ≡ true)
-
-has_more : (parts more : List Part) → has_parts parts ≡ true → has_parts (parts ++ more) ≡ true
-has_more [] more e = absurd (false≢true e)
-has_more (part ∷ parts) more e = refl
 
 module _ (window : ℕ) where
   still_opened : (old new : List Numbered) (n : ℕ) → Follows window old new → is_opened old n ≡ true → is_opened new n ≡ true

@@ -1,16 +1,15 @@
 -- What holds of places and stays so: no slice stands in two of them, and each answer is its job's
 -- own.
-use Rattle.std.proofs.Common.{◌≡◌, ℕ, zero, suc, ◌+◌, Bool, true, false, List, [], ◌∷◌, ◌⊎◌, length}
-use Rattle.std.proofs.Common.{refl, ap, sym, subst, ◌∙◌, inl, inr, arith, cond, eqb, eqb-true}
-use Rattle.std.specs.Prelude.{◌==◌, ◌||◌, slice_set, Option, Some, None}
-use Rattle.std.specs.List.{list_any}
+use Rattle.std.proofs.Common.{◌≡◌, ℕ, zero, suc, ◌+◌, Bool, true, false, List, [], ◌∷◌, ◌⊎◌}
+use Rattle.std.proofs.Common.{refl, ap, sym, subst, ◌∙◌, inl, inr, cond, eqb-true}
+use Rattle.std.specs.Prelude.{◌==◌, ◌||◌, slice_set, Option, None}
 use Rattle.std.specs.Option.{option_map_or}
-use Rattle.std.proofs.lemmas.Bool.{and_parts, both_ways, false≢true, or_parts}
+use Rattle.std.proofs.lemmas.Bool.{and_parts, both_ways, false≢true}
 use Rattle.link_model.specs.Places.{Job, is_of_slice, Content, Nothing, Offered, Claimed, Decoded}
 use Rattle.link_model.specs.Places.{JobPlace, job_in, place_at, has_slice, stands_in, with_content}
 use Rattle.link_model.specs.Places.{puts_job, claimed_by, claims_job, decoded_there, completes_job}
 use Rattle.link_model.specs.Places.{frees_place, AreApart, HasOwnAnswer, HaveOwnAnswers}
-use Rattle.link_model.specs.Places.{unused_place, unused_places, own_answer}
+use Rattle.link_model.specs.Places.{unused_place, unused_places}
 
 -- ---- one place is set
 

@@ -4,8 +4,8 @@ use Rattle.std.specs.Prelude.{slice_range}
 use Rattle.std.proofs.Math.Nat.{div-lt_iff_lt-mul, mul_comm}
 use Rattle.std.proofs.lemmas.List.{append-nil, take_all}
 use Rattle.link_model.specs.Packets.{RtpPacket, RtpFits, rtp_packet, rtp_header, PayloadValue, Header, payload, payload_bytes, IsWritable, HeadFits, read_back}
-use Rattle.link_model.specs.Sending.{Outgoing, DatagramContent, HeaderContent, ParametersContent, SlicesContent, EndContent, sent_value, sent_packet, sent_datagram, sent_head, timestamp_of, high_half, run_bytes, AreSettings, FitsDatagram}
-use Rattle.link_model.specs.SendingPictures.{sent_header, sent_parameter_bytes}
+use Rattle.link_model.specs.Sending.{Outgoing, DatagramContent, HeaderContent, ParametersContent, SlicesContent, EndContent, sent_value, sent_packet, sent_datagram, sent_head, timestamp_of, high_half, AreSettings, FitsDatagram}
+use Rattle.link_model.specs.SendingPictures.{sent_header}
 use Rattle.link_model.specs.Session.{received, of_packet, of_payload}
 use Rattle.link_model.proofs.WrittenPackets.{rtp_packet-rtp_header}
 use Rattle.link_model.proofs.WrittenPayloads.{payload-payload_bytes}

@@ -100,16 +100,16 @@ module _ (g : ℕ → Option (List ℕ)) where
 
 -- ---- runs lie within their picture
 
-abbrev okay : {A : Type 0} → A → Result A (Unit {0})
+abbrev pub okay : {A : Type 0} → A → Result A (Unit {0})
 okay x = Ok x
 
-okay_is : {A : Type 0} (x y : A) → okay x ≡ okay y → x ≡ y
+pub okay_is : {A : Type 0} (x y : A) → okay x ≡ okay y → x ≡ y
 okay_is x y h = cc
 
-abbrev taken : SliceRun → Result SliceRun Outcome
+abbrev pub taken : SliceRun → Result SliceRun Outcome
 taken run = Ok run
 
-taken_is : (x y : SliceRun) → taken x ≡ taken y → x ≡ y
+pub taken_is : (x y : SliceRun) → taken x ≡ taken y → x ≡ y
 taken_is x y h = cc
 
 module _ (p : Parameters) where

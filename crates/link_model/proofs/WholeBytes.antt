@@ -20,6 +20,7 @@ use Rattle.vc_types.specs.Slices.{slice_length}
 use Rattle.vc_types.specs.Subbands.{slice_count}
 use Rattle.vc_types.specs.TransformParameters.{Parameters, transform_parameters}
 use Rattle.vc_types.specs.declared.refusal.ParamsRefusal.{ParamsRefusal}
+use Rattle.link_model.proofs.Slots.{okay_is, taken_is}
 use Rattle.vc_types.proofs.OwnBits.{and_then_ok}
 use Rattle.vc_types.proofs.OwnBytes.{ReadAgain, read_again}
 use Rattle.vc_types.proofs.OwnParameters.{parameters_own}
@@ -65,18 +66,6 @@ module _ (s : Sequence) where
 -- a slice that begins bytes is a whole slice by itself
 abbrev pub SlicesStandAlone : Parameters → Type 0
 SlicesStandAlone p = (bytes : List ℕ) (len : ℕ) → slice_length p.prefix p.scaler bytes ≡ Some len → IsWholeSlice p (take len bytes)
-
-abbrev okay : {A : Type 0} → A → Result A (Unit {0})
-okay x = Ok x
-
-okay_is : {A : Type 0} (x y : A) → okay x ≡ okay y → x ≡ y
-okay_is x y h = cc
-
-abbrev taken : SliceRun → Result SliceRun Outcome
-taken run = Ok run
-
-taken_is : (x y : SliceRun) → taken x ≡ taken y → x ≡ y
-taken_is x y h = cc
 
 module _ (p : Parameters) (alone : SlicesStandAlone p) where
   abbrev AreWhole : List (List ℕ) → Type 0

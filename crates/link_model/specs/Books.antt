@@ -1,4 +1,5 @@
--- A picture's book: what stands for its parts, without the parts themselves, and what one part more changes.
+-- A picture's book: what stands for its parts, without the parts themselves, and what one part more
+-- changes.
 use Rattle.std.specs.Prelude.{ℕ, nat_lt, if◌then◌else◌, List, [], ◌∷◌, ◌++◌, length, map, take, drop, replicate, slice_get, fold, filter_map, is_some, unwrap_or, Option, Some, None, Result, Ok, Err}
 use Rattle.std.specs.List.{flat_map, list_all}
 use Rattle.std.specs.Option.{option_and_then, option_map, option_or}

@@ -1,5 +1,5 @@
--- The numbers of pictures (this project's profile): 32 bits on the wire, which wrap, and without bound here. A number
--- is late where the window has passed it.
+-- The numbers of pictures (this project's profile): 32 bits on the wire, which wrap, and without
+-- bound here. A number is late where the window has passed it.
 use Rattle.std.specs.Prelude.{ℕ, ◌+◌, ◌-◌, ◌*◌, ◌/◌, ◌%◌, ◌^◌, max, min, Bool, true, false, ◌||◌, ◌==◌, nat_lt, nat_le, if◌then◌else◌, List, [], ◌∷◌, ◌++◌, map, fold, filter}
 use Rattle.std.specs.List.{range_with_len}
 use Rattle.link_model.specs.Session.{Part, Fragment}
@@ -32,12 +32,13 @@ nearest number bits =
     if nat_lt (distance number bits) (2 ^ 31) then number + distance number bits
     else number + distance number bits - 2 ^ 32
 
--- where the numbers of a session begin: the least multiple of 2 ^ 32 that is more than 8 above the greatest number of
--- the earlier sessions, which is 0 where they have none
+-- where the numbers of a session begin: the least multiple of 2 ^ 32 that is more than 8 above the
+-- greatest number of the earlier sessions, which is 0 where they have none
 unfoldable pub base_above : ℕ → ℕ
 base_above number = (number + 8) / 2 ^ 32 * 2 ^ 32 + 2 ^ 32
 
--- the number of a fragment behind those of its session that were entered; the first one's is its 32 bits plus the base
+-- the number of a fragment behind those of its session that were entered; the first one's is its 32
+-- bits plus the base
 unfoldable pub picture_number : ℕ → List Numbered → ℕ → ℕ
 picture_number base [] bits = base + bits
 picture_number base (e ∷ es) bits = nearest (greatest (e ∷ es)) bits

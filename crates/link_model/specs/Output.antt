@@ -29,7 +29,8 @@ field_frame_at sequence es n =
     then woven_fields sequence.top_first (planes_at sequence es (n - 1)) (planes_at sequence es n)
     else None
 
--- A frame by the number of its last picture. There is none where a picture of it isn't complete and sound.
+-- A frame by the number of its last picture. There is none where a picture of it isn't complete and
+-- sound.
 unfoldable pub frame_at : Sequence → List Numbered → ℕ → Option Planes
 frame_at sequence es n =
     if sequence.fields then field_frame_at sequence es n else planes_at sequence es n
@@ -42,7 +43,7 @@ raw_bytes sequence frame =
 unfoldable pub frame_bytes_at : Sequence → List Numbered → ℕ → List ℕ
 frame_bytes_at sequence es n = raw_bytes sequence (frame_at sequence es n)
 
--- ---- when a picture is let go: it is closed, or every picture that isn't closed is complete up to it
+-- ---- when a picture is let go: it is closed, or all pictures up to it that aren't are complete
 
 abbrev pub unclosed_up_to : ℕ → List Numbered → ℕ → List ℕ
 unclosed_up_to window es n = span (greatest es + 1 - window) n

@@ -1,5 +1,5 @@
--- Datagrams: an RTP packet (RFC 3550, 5.1) whose payload is one of VC-2 (RFC 8450, 4). Each has its fields at their
--- places, or the first refusal.
+-- Datagrams: an RTP packet (RFC 3550, 5.1) whose payload is one of VC-2 (RFC 8450, 4). Each has its
+-- fields at their places, or the first refusal.
 use Rattle.std.specs.Prelude.{◌≡◌, ◌<◌, ◌≤◌, ◌⊎◌, ℕ, ◌+◌, ◌-◌, ◌*◌, ◌/◌, ◌%◌, ◌^◌, Bool, ◌&&◌, ◌||◌, not, List, [], ◌∷◌, ◌++◌, length, take, drop, slice_index, Result, Ok, Err, nat_lt, nat_le, ◌==◌, if◌then◌else◌}
 use Rattle.byteorder.specs.Endian.{big_bytes, big_number}
 use Rattle.vc_types.specs.ParseCodes.{header_code, end_code, auxiliary_code, padding_code, fragment_code}
@@ -233,8 +233,8 @@ IsWritable (Params head from body) = HeadFits head × (length body < 2 ^ 16)
 IsWritable (Slices head count x y from body) =
     HeadFits head × RunFits count x y × (length body < 2 ^ 16)
 
--- what is read where a payload is written and other bytes follow: its body stands behind its head, and a sequence
--- header, whose length isn't told, goes on to the end
+-- what is read where a payload is written and other bytes follow: its body stands behind its head,
+-- and a sequence header, whose length isn't told, goes on to the end
 abbrev pub read_back : PayloadValue → List ℕ → PayloadValue
 read_back (Header high from body) behind = Header high 4 (body ++ behind)
 read_back (End high) behind = End high

@@ -1,5 +1,6 @@
--- A list of datagrams taken apart: what each datagram is, the sessions that sequence headers open one after another, and
--- the fragments of pictures that belong to each (this project's profile of RFC 8450).
+-- A list of datagrams taken apart: what each datagram is, the sessions that sequence headers open
+-- one after another, and the fragments of pictures that belong to each (this project's profile of
+-- RFC 8450).
 use Rattle.std.specs.Prelude.{ℕ, Bool, true, false, ◌&&◌, ◌||◌, not, ◌==◌, if◌then◌else◌, List, [], ◌∷◌, ◌++◌, slice_range, filter_map, fold, Option, Some, None, Result, Ok, Err}
 use Rattle.std.specs.Option.{option_map_or}
 use Rattle.vc_types.specs.SameValues.{same_sequence}
@@ -127,8 +128,8 @@ ends s datagram = end_from s (received datagram)
 
 -- ---- the whole list
 
--- a session, whether it has had its end, and the fragments that count: those behind the datagram that opens it, up to
--- the one that opens the next
+-- a session, whether it has had its end, and the fragments that count: those behind the datagram
+-- that opens it, up to the one that opens the next
 pub record HeardSession : Type 0 where
   pub session : Session
   pub has_ended : Bool
@@ -149,8 +150,8 @@ abbrev pub opens_behind : HeardSession → Option Session → Option Session
 opens_behind h None = None
 opens_behind h (Some t) = if h.has_ended && is_other h.session t then Some t else None
 
--- the session that a header opens behind others, the last of them first: the first one any, a later one where the last
--- has ended and it is another
+-- the session that a header opens behind others, the last of them first: the first one any, a later
+-- one where the last has ended and it is another
 abbrev pub opens_next : List HeardSession → Option Session → Option Session
 opens_next [] o = o
 opens_next (h ∷ hs) o = opens_behind h o

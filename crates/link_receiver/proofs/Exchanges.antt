@@ -1,11 +1,11 @@
 -- Calls of places, one after another.
 use Rattle.std.proofs.Common.{◌≡◌, List, [], ◌∷◌, ◌++◌, Option, Some, None, refl, ap, sym, ◌∙◌, subst, append_assoc}
-use Rattle.std.proofs.lemmas.Grind.{flat_map-append}
 use Rattle.std.proofs.lemmas.List.{map-append}
 use Rattle.std.specs.Prelude.{ℕ}
 use Rattle.std.specs.Option.{option_map}
-use Rattle.link_model.specs.Places.{Answered, decoding}
-use Rattle.link_reception.specs.Exchanging.{Exchange, Proposed, Fetched, exchanged, all_exchanged, dones_in, given_back}
+use Rattle.link_model.specs.Places.{decoding}
+use Rattle.link_reception.proofs.Exchanges.{decodings_then, exchanged_then}
+use Rattle.link_reception.specs.Exchanging.{Exchange, Proposed, Fetched, exchanged, all_exchanged, dones_in}
 use Rattle.link_reception.specs.Receptions.{Reception}
 use Rattle.link_reception.specs.Standing.{AreDecodings}
 use Rattle.slice_exchange.proofs.Growing.{grows_twice, grows_none}
@@ -27,18 +27,6 @@ told_of-append (call ∷ a) b = ap (told_more (told_by call)) (told_of-append a 
 pub exchanges_of-append : (a b : List PlaceCall)
     → exchanges_of (a ++ b) ≡ exchanges_of a ++ exchanges_of b
 exchanges_of-append a b = map-append exchange_by a b
-
-pub all_exchanged-append : (r : Reception) (a b : List Exchange)
-    → all_exchanged r (a ++ b) ≡ all_exchanged (all_exchanged r a) b
-all_exchanged-append r [] b = refl
-all_exchanged-append r (e ∷ a) b = all_exchanged-append (exchanged r e) a b
-
-decodings-append : (a b : List Answered) → AreDecodings a → AreDecodings b → AreDecodings (a ++ b)
-decodings-append [] b p q = q
-decodings-append (done ∷ a) b p q = (p.0, decodings-append a b p.1 q)
-
-dones_in-append : (a b : List Exchange) → dones_in (a ++ b) ≡ dones_in a ++ dones_in b
-dones_in-append a b = flat_map-append given_back a b
 
 -- ---- none, one and two
 
@@ -83,11 +71,9 @@ calls_then a b c r s t first second p q = record {
   told = subst (Grows a c) (sym (told_of-append first second))
       (grows_twice a b c (told_of first) (told_of second) p.told q.told);
   value = q.value ∙ ap (λ (x : Reception). all_exchanged x (exchanges_of second)) p.value
-      ∙ sym (all_exchanged-append r (exchanges_of first) (exchanges_of second))
+      ∙ sym (exchanged_then r (exchanges_of first) (exchanges_of second))
       ∙ ap (all_exchanged r) (sym (exchanges_of-append first second));
-  decodings = subst AreDecodings
-      (sym (ap dones_in (exchanges_of-append first second)
-      ∙ dones_in-append (exchanges_of first) (exchanges_of second)))
-      (decodings-append (dones_in (exchanges_of first)) (dones_in (exchanges_of second))
-      p.decodings q.decodings);
+  decodings = subst (λ (xs : List Exchange). AreDecodings (dones_in xs))
+      (sym (exchanges_of-append first second))
+      (decodings_then (exchanges_of first) (exchanges_of second) p.decodings q.decodings);
 }

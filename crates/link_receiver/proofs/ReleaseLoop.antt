@@ -1,6 +1,7 @@
 -- The releases of a call, one after another.
 use Rattle.std.proofs.Common.{◌≡◌, ℕ, zero, suc, List, [], ◌++◌, Option, Some, None, refl, ap, sym, ◌∙◌, subst, append_assoc, append-nil}
 use Rattle.link_model.specs.Windows.{Releasable}
+use Rattle.link_reception.proofs.ReleaseSteps.{none_released}
 use Rattle.link_reception.specs.Receptions.{Reception}
 use Rattle.link_reception.specs.Releasing.{next_picture, releases_picture_of, freed_places, releases_up_to, bytes_up_to}
 use Rattle.slice_exchange.proofs.Growing.{grows_twice, grows_none}
@@ -74,10 +75,6 @@ module _ (now : Reception) (none : next_picture now ≡ None) where
   unfolding freed_up_to
   none_freed zero = refl
   none_freed (suc k) = rw none refl
-
-last_value : (now : Reception) → releases_up_to 0 now ≡ now
-unfolding releases_up_to
-last_value now = refl
 
 last_bytes : (stream : Option WrittenStream) (now : Reception) → output_up_to stream 0 now ≡ []
 unfolding bytes_up_to streamed_up_to
@@ -187,7 +184,7 @@ module _ (n left : ℕ) (first now : Reception) (stream_first stream : Option Wr
       (none_bytes now none stream left) (none_freed now none left)
 
   pub releasing_ends : left ≡ 0 → Released
-  releasing_ends e = done (ap (λ (k : ℕ). releases_up_to k now) e ∙ last_value now)
+  releasing_ends e = done (ap (λ (k : ℕ). releases_up_to k now) e ∙ none_released now)
       (ap (λ (k : ℕ). stream_behind_up_to stream k now) e ∙ last_stream stream now)
       (ap (λ (k : ℕ). output_up_to stream k now) e ∙ last_bytes stream now)
       (ap (λ (k : ℕ). freed_up_to k now) e ∙ last_freed now)

@@ -25,9 +25,9 @@ pub record Outside : Type 0 where
   pub stream_before : Option WrittenStream
   pub stream_behind : Option WrittenStream
 
--- A datagram was taken, with these calls of places. Each slice that it brings was offered, and a second
--- time only where it was handed back; where it lets a picture be released, the places of all slices
--- that were out were asked; then the places of the released pictures were freed.
+-- A datagram was taken, with these calls of places. Each slice that it brings was offered, and a
+-- second time only where it was handed back; where it lets a picture be released, the places of all
+-- slices that were out were asked; then the places of the released pictures were freed.
 pub record IsEntered (outside : Outside) (old new : Reception) (datagram : List ℕ)
     (outcome : Outcome) (calls : List PlaceCall) : Type 0 where
   pub told : Grows outside.told_before outside.told_behind (told_more (told_of calls)

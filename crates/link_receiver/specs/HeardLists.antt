@@ -87,8 +87,8 @@ pub record OfferedToPlaces (old new : Option Told) (jobs : List Job) : Type 0 wh
 
 -- ---- what may be offered
 
--- a picture keeps the slice of this job with the datagram, and didn't keep it before; it isn't closed
--- behind the datagram, and the slice has no answer and isn't out
+-- a picture keeps the slice of this job with the datagram, and didn't keep it before; it isn't
+-- closed behind the datagram, and the slice has no answer and isn't out
 pub record IsNewSlice
     (r : Reception) (size : ℕ) (datagrams : List (List ℕ)) (d : List ℕ) (job : Job) : Type 0 where
   pub kept : kept_job size (sessions_of (datagrams ++ d ∷ [])) job.number job.index ≡ Some job

@@ -1,4 +1,5 @@
--- A receiver as contracts see it: what it has, the stream that it writes, and whether it has failed.
+-- A receiver as contracts see it: what it has, the stream that it writes, and whether it has
+-- failed.
 use Rattle.std.specs.Prelude.{◌≡◌, ◌≤◌, Bool, false, ◌||◌, Option, Some, None}
 use Rattle.link_reception.specs.Receptions.{StandingSession, FirstField, Reception}
 use Rattle.link_reception.specs.WholeBooks.{ArePicturePlanes}

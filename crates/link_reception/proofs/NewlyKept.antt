@@ -22,14 +22,10 @@ use Rattle.link_model.proofs.WindowStands.{enters_stands}
 use Rattle.link_reception.specs.Exchanging.{window_job, offered_jobs, is_job_among}
 use Rattle.link_reception.proofs.KeptJobs.{no_job, entered_job, is_forgotten}
 use Rattle.link_reception.proofs.KeptJobs.{window_keeps, unforgotten, forgotten}
-use Rattle.link_reception.proofs.OfferedJobs.{other_parts, closed_later, all_offered, only_offered}
+use Rattle.link_reception.proofs.OfferedJobs.{other_parts, closed_later, all_offered, only_offered, or_later}
 use Rattle.link_reception.proofs.ReleasedNumbers.{released_opened}
 
 -- ---- numbers up to the last of some
-
-or_later : (b : Bool) {c : Bool} → c ≡ true → (b || c) ≡ true
-or_later true e = refl
-or_later false e = e
 
 module _ (n bound : ℕ) where
   below_last : (k : ℕ) (ns : List ℕ) → k ≤ bound

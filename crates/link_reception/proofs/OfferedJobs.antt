@@ -44,7 +44,7 @@ same_itself job =
     (eq-eqb job.index job.index refl))
     ((bytes_eq-Decides job.bytes job.bytes).1 refl)
 
-or_later : (b : Bool) {c : Bool} → c ≡ true → (b || c) ≡ true
+pub or_later : (b : Bool) {c : Bool} → c ≡ true → (b || c) ≡ true
 or_later true e = refl
 or_later false e = e
 

@@ -1,5 +1,5 @@
 -- Counts: those of outcomes and those of pictures don't touch each other.
-use Rattle.std.proofs.Common.{◌≡◌, ℕ, ◌+◌, Bool, true, false, refl, ap, sym, ◌∙◌, cond, arith}
+use Rattle.std.proofs.Common.{◌≡◌, ℕ, ◌+◌, Bool, true, refl, ap, sym, ◌∙◌, cond, arith}
 use Rattle.std.proofs.Common.{List, [], ◌∷◌, Option}
 use Rattle.std.specs.Prelude.{◌==◌, ◌||◌, ◌&&◌, not, is_some, count_by, filter, fold, length}
 use Rattle.std.proofs.lemmas.Bool.{eq-eqb}
@@ -18,6 +18,7 @@ use Rattle.vc_types.specs.SequenceHeader.{Sequence}
 use Rattle.link_reception.specs.Releasing.{field_behind, fields_alone}
 use Rattle.link_reception.specs.Standing.{Fields, no_fields, next_field, fields_behind}
 use Rattle.link_reception.specs.Standing.{with_released}
+use Rattle.link_reception.proofs.OfferedJobs.{or_later}
 
 -- counts of pictures more
 abbrev pub added : ℕ → ℕ → ℕ → ℕ → Tally → Tally
@@ -92,10 +93,6 @@ none_released s es t =
     λ i. record t { incomplete = a i; unsound = b i; unpaired = c i; frames = d i }
 
 -- ---- of other entries, by which these pictures are the same
-
-or_later : (b : Bool) {c : Bool} → c ≡ true → (b || c) ≡ true
-or_later true e = refl
-or_later false e = e
 
 count_same : (f g : ℕ → Bool) (ns : List ℕ) → ((n : ℕ) → is_among ns n ≡ true → f n ≡ g n)
     → count_by f ns ≡ count_by g ns

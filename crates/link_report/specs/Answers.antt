@@ -33,7 +33,8 @@ Says text due status report =
     ((status ≡ due) × Wrote report text)
     ⊎ ((status ≡ status_at_fault due) × HasRisen report.faults × WrotePart report text)
 
--- An answer is said whole; where there is no memory for its text, the line of status 3 is said in its place.
+-- An answer is said whole; where there is no memory for its text, the line of status 3 is said in
+-- its place.
 abbrev pub Reports : Answer → ℕ → OutputChange → Type 0
 Reports answer status report =
     Says (answer_text answer) (answer_status answer) status report

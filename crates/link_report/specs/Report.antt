@@ -1,5 +1,5 @@
--- The report's text (this project's own): lines of a name and a number, the lines of each command, and the line of each
--- status.
+-- The report's text (this project's own): lines of a name and a number, the lines of each command,
+-- and the line of each status.
 use Rattle.std.specs.Prelude.{ℕ, List, [], ◌∷◌, ◌++◌, codes}
 use Rattle.std.specs.List.{flat_map}
 use Rattle.std.specs.Fmt.{decimal}

@@ -2,9 +2,9 @@ mod Places
 mod Outside
 mod SampleFaults
 pub mod Numbered
-mod Packed
+pub mod Packed
 mod Frames
 mod FramePictures
 mod EncodedFrames
 mod PutPictures
-mod PayloadLengths
+pub mod PayloadLengths

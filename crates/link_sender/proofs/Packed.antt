@@ -15,7 +15,7 @@ use Rattle.vc_types.specs.SenderSettings.{Sending}
 
 -- ---- runs
 
-joined_more : (parts : List (List ℕ)) (part : List ℕ) → joined (parts ++ part ∷ []) ≡ joined parts ++ part
+pub joined_more : (parts : List (List ℕ)) (part : List ℕ) → joined (parts ++ part ∷ []) ≡ joined parts ++ part
 joined_more [] part = append-nil part
 joined_more (first ∷ parts) part = ap (λ l. first ++ l) (joined_more parts part) ∙ sym (append_assoc first (joined parts) part)
 
@@ -30,17 +30,17 @@ module _ (room : ℕ) (run : SliceRun) (slice : List ℕ) (slices : List (List �
   unfolding runs_from
   chosen b is = ap (λ c. cond c (runs_from room (run_with run slice) slices) (run ∷ runs_from room (run_of_one (run_end run) slice) slices)) is
 
-  taken : length (joined run.slices) + length slice ≤ room → runs_from room run (slice ∷ slices) ≡ runs_from room (run_with run slice) slices
+  pub taken : length (joined run.slices) + length slice ≤ room → runs_from room run (slice ∷ slices) ≡ runs_from room (run_with run slice) slices
   taken fits = chosen true (at_most (length (joined run.slices) + length slice) room fits)
 
-  begun : room < length (joined run.slices) + length slice → runs_from room run (slice ∷ slices) ≡ run ∷ runs_from room (run_of_one (run_end run) slice) slices
+  pub begun : room < length (joined run.slices) + length slice → runs_from room run (slice ∷ slices) ≡ run ∷ runs_from room (run_of_one (run_end run) slice) slices
   begun large = chosen false (more_than (length (joined run.slices) + length slice) room large)
 
-ended : (room : ℕ) (run : SliceRun) → runs_from room run [] ≡ run ∷ []
+pub ended : (room : ℕ) (run : SliceRun) → runs_from room run [] ≡ run ∷ []
 unfolding runs_from
 ended room run = refl
 
-runs_are : (room : ℕ) (slice : List ℕ) (slices : List (List ℕ)) → length slice ≤ room → runs_from room empty_run (slice ∷ slices) ≡ runs_of_slices room (slice ∷ slices)
+pub runs_are : (room : ℕ) (slice : List ℕ) (slices : List (List ℕ)) → length slice ≤ room → runs_from room empty_run (slice ∷ slices) ≡ runs_of_slices room (slice ∷ slices)
 unfolding runs_of_slices
 runs_are room slice slices fits = taken room empty_run slice slices (omega (arith, fits))
 

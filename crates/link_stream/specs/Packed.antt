@@ -1,5 +1,5 @@
--- What an elementary stream brings to a packer, unit by unit (ST 2042-1, sequence): headers of one value, and pictures,
--- each with all its slices.
+-- What an elementary stream brings to a packer, unit by unit (ST 2042-1, sequence): headers of one
+-- value, and pictures, each with all its slices.
 use Rattle.std.specs.Prelude.{ℕ, ◌+◌, ◌==◌, nat_lt, if◌then◌else◌, false, List, [], ◌∷◌, ◌++◌, length, take, drop, Option, Some, None, Result, Ok, Err}
 use Rattle.std.specs.Option.{option_map_or}
 use Rattle.byteorder.specs.Endian.{big_number}
@@ -17,7 +17,8 @@ use Rattle.vc_types.specs.declared.refusal.ParamsRefusal.{ParamsRefusal}
 
 -- ---- units
 
--- a stream whose first header came: its sequence, the bytes of the last header, and the pictures up to now
+-- a stream whose first header came: its sequence, the bytes of the last header, and the pictures up
+-- to now
 pub record PackStream : Type 0 where
   pub sequence : Sequence
   pub header : List ℕ
@@ -33,8 +34,8 @@ abbrev pub settings_for : Packing → Option PackStream → Packing
 settings_for s stream =
     record s { fields = option_map_or (λ t. t.sequence.fields) stream false }
 
--- the first header begins the stream, and others have its value; the bytes that are used of one stand for the pictures
--- behind it
+-- the first header begins the stream, and others have its value; the bytes that are used of one
+-- stand for the pictures behind it
 abbrev pub packs_header : Option PackStream → List ℕ → Result (Sequence × ℕ) HeaderRefusal
     → Result (Option PackStream) PackFault
 packs_header stream body (Err refusal) = Err BadUnit
@@ -89,8 +90,8 @@ abbrev pub packs_picture : Packing → Option PackStream → List ℕ
 packs_picture s None body = Err BadUnit
 packs_picture s (Some t) body = if_it_is_whole s t (picture_to_pack t body)
 
--- A unit more: a sequence header of the first one's value, or a picture behind a header, which has all its slices and
--- whose parts have room in datagrams. Other units bring nothing.
+-- A unit more: a sequence header of the first one's value, or a picture behind a header, which has
+-- all its slices and whose parts have room in datagrams. Other units bring nothing.
 unfoldable pub packs_unit : Packing → Option PackStream → DataUnit
     → Result (Option PackStream) PackFault
 packs_unit s stream u =

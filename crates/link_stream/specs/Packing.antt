@@ -1,6 +1,6 @@
--- The datagrams that this project's packer makes of the pictures of an elementary stream (RFC 3550, 5.1; RFC 8450, 4): for
--- each picture its sequence header, its transform parameters and its slices in the stream's own bytes, and an end of
--- sequence behind the last.
+-- The datagrams that this project's packer makes of the pictures of an elementary stream (RFC 3550,
+-- 5.1; RFC 8450, 4): for each picture its sequence header, its transform parameters and its slices
+-- in the stream's own bytes, and an end of sequence behind the last.
 use Rattle.std.specs.Prelude.{◌≡◌, ℕ, ◌+◌, ◌-◌, ◌*◌, ◌/◌, ◌%◌, ◌^◌, Bool, false, ◌==◌, nat_lt, if◌then◌else◌, List, [], ◌∷◌, ◌++◌, length, map, Option, Some, None, Result, Ok, Err}
 use Rattle.link_model.specs.Kept.{next_slices}
 use Rattle.link_model.specs.Packets.{RtpPacket, rtp_header, FragmentHead, PayloadValue, Header, End, Params, Slices, payload_bytes}
@@ -11,8 +11,8 @@ use Rattle.vc_types.specs.TransformParameters.{Parameters}
 
 -- ---- pictures
 
--- a picture of a stream: its number, the bytes of the sequence header before it, those of its transform parameters, what
--- these say, and its slices in raster order
+-- a picture of a stream: its number, the bytes of the sequence header before it, those of its
+-- transform parameters, what these say, and its slices in raster order
 pub record PackedPicture : Type 0 where
   pub number : ℕ
   pub header : List ℕ
@@ -70,8 +70,8 @@ first_large_part s p =
 
 -- ---- the fields of a datagram
 
--- Frame f has f ticks, and its second field half a tick more: f counts the pictures before, or with field coding two of
--- them, and odd-numbered pictures are second fields.
+-- Frame f has f ticks, and its second field half a tick more: f counts the pictures before, or with
+-- field coding two of them, and odd-numbered pictures are second fields.
 unfoldable pub packed_timestamp : Packing → ℕ → ℕ → ℕ
 packed_timestamp s before number =
     if s.fields then (before / 2 * s.tick + number % 2 * (s.tick / 2)) % 2 ^ 32
@@ -90,7 +90,8 @@ packed_head s p sequence = record {
   scaler = p.parameters.scaler;
 }
 
--- the payload of a datagram by its extended sequence number; of slices, the column and the row of the first
+-- the payload of a datagram by its extended sequence number; of slices, the column and the row of
+-- the first
 abbrev pub packed_value : Packing → PackedPicture → ℕ → DatagramContent → PayloadValue
 packed_value s p sequence HeaderContent = Header (high_half sequence) 4 p.header
 packed_value s p sequence ParametersContent = Params (packed_head s p sequence) 16 p.coded
@@ -127,7 +128,8 @@ abbrev pub packed_contents : Packing → PackedPicture → List DatagramContent
 packed_contents s p = HeaderContent ∷ ParametersContent
     ∷ map SlicesContent (runs_of_slices (slices_room s) p.slices)
 
--- a picture's datagrams, by their timestamp and the sequence number of the first; the numbers rise by 1
+-- a picture's datagrams, by their timestamp and the sequence number of the first; the numbers rise
+-- by 1
 unfoldable pub contents_from : Packing → ℕ → PackedPicture → ℕ → List DatagramContent
     → List (List ℕ)
 contents_from s timestamp p sequence [] = []
@@ -154,7 +156,8 @@ packed_datagrams s pictures = packed_from s 0 s.seq pictures
 
 -- ---- the end
 
--- the timestamp of the last of some pictures, of which so many are before the first, and another one where there is none
+-- the timestamp of the last of some pictures, of which so many are before the first, and another
+-- one where there is none
 unfoldable pub timestamp_behind : Packing → ℕ → ℕ → List PackedPicture → ℕ
 timestamp_behind s before timestamp [] = timestamp
 timestamp_behind s before timestamp (p ∷ pictures) =

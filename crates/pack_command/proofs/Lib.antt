@@ -1,5 +1,5 @@
 mod SoFarPacked
-mod Loops
+mod UnitsPacked
 mod Stopping
 mod Slicing
 mod Bringing

@@ -4,6 +4,7 @@ use Rattle.std.proofs.Math.Seq.{drop-append_seam, take-append_seam}
 use Rattle.link_model.specs.Kept.{cut_off, next_slice, next_slices}
 use Rattle.link_stream.specs.Packing.{slices_in, slices_read}
 use Rattle.pack_command.specs.Steps.{EndsSlices}
+use Rattle.picture_pack.proofs.Cutting.{Cut, cut_is, cut_within}
 use Rattle.vc_types.proofs.OwnBits.{and_then_ok}
 use Rattle.vc_types.proofs.WholeSlices.{begins, slice_before, whole_slice}
 use Rattle.vc_types.specs.Fields.{and_then}
@@ -11,16 +12,7 @@ use Rattle.vc_types.specs.Slices.{slice_length}
 use Rattle.vc_types.specs.Subbands.{slice_count}
 use Rattle.vc_types.specs.TransformParameters.{Parameters}
 
-abbrev Cut : Type 0 → Type 0
-Cut A = Result (A × List ℕ) (Unit {0})
-
-cut_is : {A : Type 0} (x y : A × List ℕ) → ◌≡◌ {A = Cut A} (Ok x) (Ok y) → x ≡ y
-cut_is x y h = cc
-
 -- ---- one slice
-
-pub cut_within : (prefix scaler len : ℕ) (bytes : List ℕ) → slice_length prefix scaler bytes ≡ Some len → len ≤ length bytes
-cut_within prefix scaler len bytes e = (begins prefix scaler bytes len e).within
 
 -- a slice that was cut is cut again, whatever follows
 record IsOwn (p : Parameters) (bytes slice behind : List ℕ) : Type 0 where

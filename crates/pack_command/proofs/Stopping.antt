@@ -32,7 +32,7 @@ use Rattle.pack_command.specs.Looping.{HasComeToEnd, HasPackedSome, StopsPacking
 use Rattle.pack_command.specs.Packs.{EndsUnpacked, PackEnded, Packs}
 use Rattle.pack_command.specs.Steps.{BringsUnit, CouldNotFinish, FinishesStream, HasFinished, TakesUnit}
 use Rattle.pack_command.proofs.SoFarPacked.{packed_grows, so_far_refused, so_far_taken, whole_is, end_packed}
-use Rattle.pack_command.proofs.Loops.{no_units, one_unit}
+use Rattle.pack_command.proofs.UnitsPacked.{no_units, one_unit}
 use Rattle.vc_types.specs.SenderSettings.{Packing}
 
 abbrev Units : Type 0
@@ -179,13 +179,6 @@ module _ (s : Packing) (packets number : ℕ) (input : InputChange) (output : Ou
     unit_unpacked taking.NoMemory new same = without_memory (packs_unit s h.stream u) refl same
 
 -- ---- the answer
-
--- a byte was asked for, and none came
-pub none_of : (bytes : List ℕ) (n : ℕ) → length bytes ≡ 1 → n < length bytes → take n bytes ≡ []
-none_of bytes n one less = subst (λ (k : ℕ). take k bytes ≡ []) none refl
-  where
-    none : 0 ≡ n
-    none = omega arith
 
 module _ (s : Packing) (packets : ℕ) (input : InputChange) (output : OutputChange) where
   -- it stopped by a fault

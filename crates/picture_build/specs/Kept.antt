@@ -1,4 +1,5 @@
--- A picture whose slices come one after another, in any order: a finite map from a slice's number to its coefficients.
+-- A picture whose slices come one after another, in any order: a finite map from a slice's number
+-- to its coefficients.
 use Rattle.std.specs.Prelude.{◌≡◌, ◌≢◌, ◌<◌, ◌≤◌, ◌+◌, ◌*◌, ℕ, length, Bool, true, false, if◌then◌else◌, List, [], map, replicate, slice_index_or, slice_set, ℤ, Option, Some, None}
 use Rattle.std.specs.List.{range_with_len}
 use Rattle.std.specs.Option.{is_some, unwrap_or}
@@ -74,8 +75,8 @@ abbrev pub kept_slices : Parameters → List Bool → List ℤ → List ℤ → 
     → List (Option Coefficients)
 kept_slices p came y c1 c2 = map (kept_entry p came y c1 c2) (range_with_len 0 (slice_count p))
 
--- what is true of the cells: each slice has its entry, each component its cells, each slice that came its coefficients, and
--- the largest slice has room with eight more
+-- what is true of the cells: each slice has its entry, each component its cells, each slice that
+-- came its coefficients, and the largest slice has room with eight more
 pub record IsKept (p : Parameters) (came : List Bool) (y c1 c2 : List ℤ) (room : ℕ) : Type 0 where
   pub entries : length came ≡ slice_count p
   pub y_cells : length y ≡ padded_height p Y * padded_width p Y

@@ -6,14 +6,15 @@ use Rattle.std.proofs.lemmas.Bool.Decides.{nat_tests}
 use Rattle.link_model.specs.Kept.{cut_off, next_slice, next_slices}
 use Rattle.vc_types.proofs.OwnBits.{and_then_ok}
 use Rattle.vc_types.proofs.WholeSlices.{begins}
+use Rattle.picture_pack.proofs.Rooms.{is_more}
 use Rattle.vc_types.specs.Fields.{and_then}
 use Rattle.vc_types.specs.Slices.{CodedSlice, coded_slice, slice_length}
 use Rattle.vc_types.specs.TransformParameters.{Parameters}
 
-abbrev Cut : Type 0 → Type 0
+abbrev pub Cut : Type 0 → Type 0
 Cut A = Result (A × List ℕ) (Unit {0})
 
-cut_is : {A : Type 0} (x y : A × List ℕ) → ◌≡◌ {A = Cut A} (Ok x) (Ok y) → x ≡ y
+pub cut_is : {A : Type 0} (x y : A × List ℕ) → ◌≡◌ {A = Cut A} (Ok x) (Ok y) → x ≡ y
 cut_is x y h = cc
 
 -- so many slices are cut: one, and the others
@@ -65,13 +66,10 @@ module _ (p : Parameters) where
 
 -- ---- a slice has its index
 
-less_than : (a b : ℕ) → a < b → nat_lt a b ≡ true
-less_than a b h = grind (arith, nat_tests)
-
 no_slice : (prefix scaler : ℕ) → coded_slice prefix scaler [] ≡ Err tt
 unfolding coded_slice
 no_slice zero scaler = refl
-no_slice (suc n) scaler = rw (less_than 0 (suc n) (omega arith)) refl
+no_slice (suc n) scaler = rw (is_more 0 (suc n) (omega arith)) refl
 
 has_some : (prefix scaler : ℕ) (slice : List ℕ) (coded : CodedSlice) → coded_slice prefix scaler slice ≡ Ok (coded, []) → 1 ≤ length slice
 has_some prefix scaler [] coded e = absurd (let none = sym (no_slice prefix scaler) ∙ e in cc)

@@ -1,6 +1,6 @@
-mod Cutting
+pub mod Cutting
 mod Putting
-mod Rooms
+pub mod Rooms
 mod RunsPut
 mod Lengths
 mod Stamps

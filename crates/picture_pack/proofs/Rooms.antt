@@ -8,10 +8,10 @@ use Rattle.vc_types.specs.SenderSettings.{Packing}
 not_more : (a b : ℕ) → nat_lt a b ≡ false → b ≤ a
 not_more a b h = grind (arith, nat_tests)
 
-is_more : (a b : ℕ) → a < b → nat_lt a b ≡ true
+pub is_more : (a b : ℕ) → a < b → nat_lt a b ≡ true
 is_more a b h = grind (arith, nat_tests)
 
-no_more : (a b : ℕ) → b ≤ a → nat_lt a b ≡ false
+pub no_more : (a b : ℕ) → b ≤ a → nat_lt a b ≡ false
 no_more a b h = grind (arith, nat_tests)
 
 pub record PartsFit (s : Packing) (p : PackedPicture) : Type 0 where

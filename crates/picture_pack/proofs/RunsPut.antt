@@ -5,6 +5,7 @@ use Rattle.std.proofs.lemmas.Bool.Decides.{nat_tests}
 use Rattle.std.proofs.lemmas.List.{append-nil, length-append, map-append}
 use Rattle.link_model.specs.Kept.{SliceRun}
 use Rattle.link_model.specs.Sending.{DatagramContent, SlicesContent, has_room, run_end, run_of_one, run_with, runs_from, runs_of_slices}
+use Rattle.link_sender.proofs.Packed.{begun, ended, joined_more, runs_are, taken}
 use Rattle.link_stream.specs.Packing.{first_large_slice, slices_room}
 use Rattle.picture_pack.specs.declared.outbox.Outbox.{Outbox}
 use Rattle.picture_pack.specs.declared.picture.Picture.{Picture}
@@ -15,39 +16,6 @@ use Rattle.picture_pack.proofs.Putting.{puts_none, puts_more}
 use Rattle.picture_pack.proofs.Rooms.{first_fits}
 use Rattle.vc_types.specs.Fields.{joined}
 use Rattle.vc_types.specs.SenderSettings.{Packing, packing_view}
-
--- ---- runs
-
-joined_more : (parts : List (List ℕ)) (part : List ℕ) → joined (parts ++ part ∷ []) ≡ joined parts ++ part
-joined_more [] part = append-nil part
-joined_more (first ∷ parts) part = ap (λ l. first ++ l) (joined_more parts part) ∙ sym (append_assoc first (joined parts) part)
-
-at_most : (a b : ℕ) → a ≤ b → nat_le a b ≡ true
-at_most a b h = grind (arith, nat_tests)
-
-more_than : (a b : ℕ) → b < a → nat_le a b ≡ false
-more_than a b h = grind (arith, nat_tests)
-
-module _ (room : ℕ) (run : SliceRun) (slice : List ℕ) (slices : List (List ℕ)) where
-  chosen : (b : Bool) → has_room room run slice ≡ b → runs_from room run (slice ∷ slices) ≡ cond b (runs_from room (run_with run slice) slices) (run ∷ runs_from room (run_of_one (run_end run) slice) slices)
-  unfolding runs_from
-  chosen b is = ap (λ c. cond c (runs_from room (run_with run slice) slices) (run ∷ runs_from room (run_of_one (run_end run) slice) slices)) is
-
-  taken : length (joined run.slices) + length slice ≤ room → runs_from room run (slice ∷ slices) ≡ runs_from room (run_with run slice) slices
-  taken fits = chosen true (at_most (length (joined run.slices) + length slice) room fits)
-
-  begun : room < length (joined run.slices) + length slice → runs_from room run (slice ∷ slices) ≡ run ∷ runs_from room (run_of_one (run_end run) slice) slices
-  begun large = chosen false (more_than (length (joined run.slices) + length slice) room large)
-
-ended : (room : ℕ) (run : SliceRun) → runs_from room run [] ≡ run ∷ []
-unfolding runs_from
-ended room run = refl
-
-runs_are : (room : ℕ) (slice : List ℕ) (slices : List (List ℕ)) → length slice ≤ room → runs_from room first_run (slice ∷ slices) ≡ runs_of_slices room (slice ∷ slices)
-unfolding runs_of_slices
-runs_are room slice slices fits = taken room first_run slice slices (omega (arith, fits))
-
--- ---- what is packed
 
 pub has_some : (s : Packing) (n : ℕ) (run : OpenRun) → EndsRun s n run → 0 < length run.body.items → 1 ≤ run.count
 has_some s zero run ends some = absurd (let none = ends.empty refl in omega (arith, none, some))

@@ -9,7 +9,8 @@ use Rattle.picture_pack.specs.Views.{packed_view}
 use Rattle.vc_types.specs.SenderSettings.{packing_view}
 
 -- the datagrams that carry this of a picture were put behind the others
-pub record PutsDatagrams (p : Picture) (contents : List DatagramContent) (old new : Outbox) : Type 0 where
+pub record PutsDatagrams (p : Picture) (contents : List DatagramContent) (old new : Outbox)
+    : Type 0 where
   pub datagrams_are : bytes_of_all new.datagrams.items
       ≡ bytes_of_all old.datagrams.items
       ++ contents_from (packing_view p.settings) p.timestamp (packed_view p) old.sequence

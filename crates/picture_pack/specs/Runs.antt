@@ -30,8 +30,8 @@ pub record EndsRun (s : Packing) (slice : ℕ) (run : OpenRun) : Type 0 where
   pub body : run.count ≤ length run.body.items
   pub fits : length run.body.items + 32 ≤ s.size
 
--- slices were packed: some runs of them were put, the others are in the open run, and whatever slices follow, the runs
--- go on from there
+-- slices were packed: some runs of them were put, the others are in the open run, and whatever
+-- slices follow, the runs go on from there
 pub record PacksSlices (p : Picture) (slices : List (List ℕ)) (old new : Outbox) (run : OpenRun)
     : Type 0 where
   pub put : List SliceRun

@@ -9,8 +9,8 @@ use Rattle.link_sender.specs.Packing.{bytes_of_all}
 use Rattle.picture_pack.specs.Refusals.{SaysLarge}
 use Rattle.vc_types.specs.SenderSettings.{Packing}
 
--- how many pictures there were, modulo 2 ^ 64, the extended sequence number of the next datagram, modulo 2 ^ 32, and the
--- timestamp of the last
+-- how many pictures there were, modulo 2 ^ 64, the extended sequence number of the next datagram,
+-- modulo 2 ^ 32, and the timestamp of the last
 pub record PackCounts : Type 0 where
   pub pictures : ℕ
   pub sequence : ℕ

@@ -84,7 +84,7 @@ impl Packer {
     }
 
     /// The end of the sequence, with the timestamp of the last datagram, 0 if there was none.
-    #[tactic(auto, using(crate::proofs::Lengths::end_length), unfolding(link_stream::specs::Packing::end_around))]
+    #[tactic(auto, using(link_sender::proofs::PayloadLengths::end_length), unfolding(link_stream::specs::Packing::end_around))]
     pub fn finish(&mut self) -> Result<Datagram, NoMemory>
         ensures settings { self.new.settings ≡ self.old.settings }
         ensures value { IfOk result (EndsPacking (packing_view self.old.settings)

@@ -8,7 +8,7 @@ use Rattle.frame_writer.specs.Shapes.{HaveShape}
 use Rattle.play_command.specs.Steps.{PlayState}
 use Rattle.play_command.specs.Stream.{StreamPicture, is_pair}
 use Rattle.play_command.specs.Taking.{CompletesFrame}
-use Rattle.play_command.proofs.Weavable.{woven_fits}
+use Rattle.frame_shapes.proofs.Weaving.{woven_fits}
 
 -- what is kept when no field waits
 abbrev without_waiting : PlayState → PlayState

@@ -1,13 +1,11 @@
 pub mod Following
 pub mod SliceRuns
 pub mod PictureParts
-pub mod Shaped
-pub mod Weavable
 pub mod Showing
 pub mod Completing
 pub mod Bringing
 pub mod SoFar
-pub mod Loops
+pub mod UnitsRead
 pub mod Stopping
 pub mod Players
 pub mod Playable

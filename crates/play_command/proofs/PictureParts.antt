@@ -15,7 +15,7 @@ use Rattle.vc_types.specs.Subbands.{slice_count}
 use Rattle.vc_types.specs.TransformParameters.{Parameters, transform_parameters, coded_parameters}
 use Rattle.frame_writer.specs.Shapes.{HaveShape}
 use Rattle.play_command.specs.Slices.{IsBuilt}
-use Rattle.play_command.proofs.Shaped.{built-shape}
+use Rattle.frame_shapes.proofs.BuiltShapes.{built-shape}
 
 abbrev SlicesRead : Type 0
 SlicesRead = Result (List Coefficients × List ℕ) (Unit {0})

@@ -26,7 +26,7 @@ use Rattle.play_command.specs.Steps.{PlayState}
 use Rattle.play_command.specs.Stream.{StreamSoFar, Stream, units_taken, takes, after_unit, played, pictures_in, frames_in, unpaired_in}
 use Rattle.play_command.specs.Taking.{Brings, Brought}
 use Rattle.play_command.proofs.SoFar.{so_far-taken, so_far-refused, taken-grows}
-use Rattle.play_command.proofs.Loops.{no_units, one_unit}
+use Rattle.play_command.proofs.UnitsRead.{no_units, one_unit}
 
 abbrev Units : Type 0
 Units = List DataUnit × List ℕ

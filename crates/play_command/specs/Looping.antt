@@ -21,8 +21,8 @@ use Rattle.play_command.specs.Taking.{CountsAtMost}
 abbrev pub then_units : List DataUnit → List DataUnit × List ℕ → List DataUnit × List ℕ
 then_units units behind = (units ++ behind.0, behind.1)
 
--- the source gave the bytes of so many units, none of which ends the sequence or is refused; what they bring, and what
--- was written of it
+-- the source gave the bytes of so many units, none of which ends the sequence or is refused; what
+-- they bring, and what was written of it
 pub record PlayIsBehind
     (packets number : ℕ) (before after held_before held_after : Option (List ℕ)) (h : StreamSoFar)
     : Type 0 where

@@ -82,7 +82,8 @@ pub record EndsWithRefused (s : UnitSplit) : Type 0 where
   pub refused : takes (units_taken others).0.stream last ≡ None
   pub no_rest : s.rest ≡ []
 
--- nothing was read behind the 13 bytes of a refused parse info; the input ends within a unit that is short
+-- nothing was read behind the 13 bytes of a refused parse info; the input ends within a unit that
+-- is short
 abbrev pub IsLast : InputChange → List ℕ → UnitFault → Type 0
 IsLast input rest Short = (rest ≢ []) × IsAtEnd input.left.after
 IsLast input rest fault = length rest ≡ 13

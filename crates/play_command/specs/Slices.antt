@@ -25,7 +25,8 @@ GaveSlice p index old new (Some s) =
     × ((n : ℕ) → slices_from p index (suc n) old
     ≡ and_then (slices_from p (index + 1) n new) (λ read. Ok (s ∷ read.0, read.1)))
 
--- the bytes of the slice with this number decode soundly, and its coefficients are in the picture; or they are unsound
+-- the bytes of the slice with this number decode soundly, and its coefficients are in the picture;
+-- or they are unsound
 abbrev pub TookWhole : Parameters → ℕ → List ℕ → PartPicture → PartPicture → Bool → Type 0
 TookWhole p index bytes before after true =
     (s : Coefficients) × (slice_coefficients p index bytes ≡ Ok s)
@@ -33,7 +34,8 @@ TookWhole p index bytes before after true =
 TookWhole p index bytes before after false =
     (why : Unsound) × (slice_coefficients p index bytes ≡ Err why)
 
--- the slice with this number was taken from the front, and its coefficients are in the picture; or it is refused
+-- the slice with this number was taken from the front, and its coefficients are in the picture; or
+-- it is refused
 abbrev pub TookSlice : Parameters → ℕ → List ℕ → List ℕ → PartPicture → PartPicture → Bool → Type 0
 TookSlice p index old new before after true =
     (s : Coefficients) × GaveSlice p index old new (Some s) × (after ≡ with_slice before index s)

@@ -1,5 +1,5 @@
--- What an elementary stream brings, unit by unit (ST 2042-1, sequence): headers of one value, and pictures, each decoded
--- by itself; and the frames that its pictures make.
+-- What an elementary stream brings, unit by unit (ST 2042-1, sequence): headers of one value, and
+-- pictures, each decoded by itself; and the frames that its pictures make.
 use Rattle.std.specs.Prelude.{ℕ, ◌+◌, ◌-◌, ◌*◌, ◌%◌, Bool, true, false, ◌&&◌, ◌==◌, nat_lt, if◌then◌else◌, List, [], ◌∷◌, ◌++◌, length, map, drop, Option, Some, None, Result, Ok, Err, option_and_then}
 use Rattle.std.specs.Option.{option_map, option_map_or}
 use Rattle.std.specs.List.{flat_map}
@@ -46,8 +46,8 @@ with_picture stream p = record { sequence = stream.sequence; pictures = stream.p
 abbrev pub shows : List ℕ → Stream → Option Stream
 shows body stream = option_map (with_picture stream) (picture_in stream.sequence body)
 
--- A unit more: a sequence header of the first one's value, or a picture behind a header, which decodes soundly. Other
--- units bring nothing. None where the unit is refused.
+-- A unit more: a sequence header of the first one's value, or a picture behind a header, which
+-- decodes soundly. Other units bring nothing. None where the unit is refused.
 unfoldable pub takes : Option Stream → DataUnit → Option (Option Stream)
 takes stream u =
     if u.code == header_code then

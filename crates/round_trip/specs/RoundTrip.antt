@@ -1,5 +1,5 @@
--- What `encode` writes of raw frames at quantisation index 0, `decode` writes as these frames, and `loop`
--- writes them back.
+-- What `encode` writes of raw frames at quantisation index 0, `decode` writes as these frames, and
+-- `loop` writes them back.
 use Rattle.std.specs.Prelude.{◌≡◌, ◌<◌, ◌≤◌, ℕ, ◌*◌, ◌^◌, IsTrue, All, List, [], length, Option, Some, Ok}
 use Rattle.datagram_outlet.specs.Outlets.{capture_of}
 use Rattle.decode_command.specs.Capture.{capture_split}

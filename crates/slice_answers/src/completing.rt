@@ -77,7 +77,8 @@ impl Source<'_> {
         requires plan { builder.old.parameters ≡ parameters_of self.now.plan }
         requires entries { HasEntries builder.old unsound.now }
         requires slices { HasWholeSlices (parameters_of self.now.plan) self.now.book.now }
-        ensures value { IfOk result (CompletesPicture (comes_to builder.old unsound.now self.now.book.now)
+        ensures value { IfOk result (CompletesPicture
+            (comes_to builder.old unsound.now self.now.book.now)
             (parameters_of self.now.plan) builder.new) }
     {
         for index in 0..self.plan.slices_x * self.plan.slices_y {

@@ -36,8 +36,8 @@ HasBodyIn bytes (Skip high code) = Unit {0}
 HasBodyIn bytes (Params head from body) = StandsAt bytes from body.now
 HasBodyIn bytes (Slices head count x y from body) = StandsAt bytes from body.now
 
--- a fragment's length fits its field, there is a slice where slices are told, and what is skipped has one of the two
--- codes
+-- a fragment's length fits its field, there is a slice where slices are told, and what is skipped
+-- has one of the two codes
 abbrev pub CanBeWritten : Payload → Type 0
 CanBeWritten (Header high from body) = Unit {0}
 CanBeWritten (End high) = Unit {0}

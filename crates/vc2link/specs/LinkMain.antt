@@ -168,8 +168,9 @@ pub record HasNoFault (c : Changes) : Type 0 where
   pub report : HasRisen c.report.faults → ⊥
   pub wire : HasRisen c.wire.faults → ⊥
 
--- The input, or the wire, tells what comes, which ends where the command may end, and is accepted: a row for each command.
--- What reads nothing ends well, but that generated frames may be too large to be sent.
+-- The input, or the wire, tells what comes, which ends where the command may end, and is accepted:
+-- a row for each command. What reads nothing ends well, but that generated frames may be too large
+-- to be sent.
 abbrev pub EndsWell : Meaning → Changes → Type 0
 EndsWell (ToDecode window workers packets) c =
     IsSomeAnd c.input.left.before (IsDecodable packets)
@@ -189,7 +190,8 @@ EndsWell (ToPlay packets) c = IsSomeAnd c.input.left.before (IsPlayable packets)
 EndsWell (ToGen generator false window workers) c = Unit {0}
 EndsWell (ToGen generator true window workers) c = IsCheckable generator
 
--- The command came to its end, where no count of faults rose and the input ends well, unless memory ran out.
+-- The command came to its end, where no count of faults rose and the input ends well, unless memory
+-- ran out.
 abbrev pub Completes : Meaning → ℕ → Changes → Type 0
 Completes meaning status c = HasNoFault c → EndsWell meaning c → (status ≡ 0) ⊎ (status ≡ 3)
 

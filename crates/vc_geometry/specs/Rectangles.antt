@@ -6,8 +6,10 @@ use Rattle.vc_types.specs.Quantisation.{subband_count}
 use Rattle.vc_types.specs.Subbands.{subband_at, slice_rectangle, padded_width, padded_height}
 use Rattle.vc_types.specs.TransformParameters.{Parameters}
 
--- the first rectangles of a list are the parts of the first n subbands that belong to a slice, inside the padded grid
-pub record ArePartsOf (p : Parameters) (c : Component) (slice n : ℕ) (rects : List Rect) : Type 0 where
+-- the first rectangles of a list are the parts of the first n subbands that belong to a slice,
+-- inside the padded grid
+pub record ArePartsOf (p : Parameters) (c : Component) (slice n : ℕ) (rects : List Rect)
+    : Type 0 where
   pub parts : (b : ℕ) (none : Rect) → b < n
       → slice_index_or rects b none
       ≡ slice_rectangle p c (subband_at p.depth_ho p.depth b) slice

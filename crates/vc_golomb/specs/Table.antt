@@ -8,7 +8,8 @@ abbrev pub pairs_of : List Bool → List Bool
 pairs_of [] = []
 pairs_of (digit ∷ digits) = false ∷ digit ∷ pairs_of digits
 
--- of the byte's bits as many are taken: digits that make a number and, where not all bits are taken, the 1 behind them
+-- of the byte's bits as many are taken: digits that make a number and, where not all bits are
+-- taken, the 1 behind them
 pub record IsLook (byte taken digits : ℕ) : Type 0 where
   pub list : List Bool
   pub rest : List Bool

@@ -1,10 +1,11 @@
--- Lifting steps over samples that are counted in each parity: the form in which the code makes the standard's steps.
+-- Lifting steps over samples that are counted in each parity: the form in which the code makes the
+-- standard's steps.
 use Rattle.std.specs.Prelude.{ℕ, zero, suc, ◌+◌, ◌-◌, ◌*◌, ◌/◌, ◌%◌, Bool, true, false, ◌&&◌, not, nat_lt, nat_le, ◌==◌, if◌then◌else◌, List, length, map, reverse, fold, slice_index_or, ℤ, pos, negsuc, ◌+ℤ◌, ◌-ℤ◌, ◌*ℤ◌, unsigned_abs, min}
 use Rattle.std.specs.Int.{int_shr}
 use Rattle.vc_types.specs.Lifting.{Line, Parity, even, odd, offset_of, LiftingStep, half_of, changed_by}
 
--- A step on the samples of one parity, 0 for the even and 1 for the odd ones. Beside sample number n of that parity, tap
--- j meets sample number n + j - back of the other parity.
+-- A step on the samples of one parity, 0 for the even and 1 for the odd ones. Beside sample number
+-- n of that parity, tap j meets sample number n + j - back of the other parity.
 pub record CountedStep : Type 0 where
   pub parity : ℕ
   pub adds : Bool
@@ -44,7 +45,8 @@ unfoldable pub sum_below : ℕ → (ℕ → ℤ) → ℤ
 sum_below zero f = pos 0
 sum_below (suc n) f = sum_below n f +ℤ f n
 
--- the place of the sample that tap j meets; a number past the first or the last of `half` samples is held there
+-- the place of the sample that tap j meets; a number past the first or the last of `half` samples
+-- is held there
 abbrev pub place_met : CountedStep → ℕ → ℕ → ℕ → ℕ
 place_met s half n j = 2 * min (n + j - s.back) (half - 1) + (1 - s.parity)
 

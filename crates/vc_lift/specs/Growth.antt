@@ -28,11 +28,13 @@ abbrev pub is_plain : CountedStep → Bool
 is_plain s =
     nat_lt s.parity 2 && nat_le (length s.taps) 8 && nat_lt (weight s) (2 ^ 14) && nat_le s.shift 12
 
--- bounds on the even and on the odd samples, in 4096ths of a magnitude of at least 2 ^ 16, after a step
+-- bounds on the even and on the odd samples, in 4096ths of a magnitude of at least 2 ^ 16, after a
+-- step
 abbrev pub raised : CountedStep → ℕ → ℕ → ℕ
 raised s own other = own + weight s * other / 2 ^ s.shift + 2
 
--- from such bounds, no step takes any sample past `most` times that magnitude, and each step is plain
+-- from such bounds, no step takes any sample past `most` times that magnitude, and each step is
+-- plain
 abbrev pub stays_little : ℕ → List CountedStep → ℕ → ℕ → Bool
 stays_little most [] even odd = nat_le even (4096 * most) && nat_le odd (4096 * most)
 stays_little most (s ∷ steps) even odd =

@@ -31,7 +31,8 @@ pub record AreLines (h : Halves) (width cells : ℕ) : Type 0 where
 abbrev pub IsBeside : Halves → ℕ → ℕ → Type 0
 IsBeside h width i = (x k : ℕ) → x < width → k < 2 * h.half → i ≢ halves_place h k + x
 
--- A step can change as many cells as a run has, from its sample number n on, and reads none of these.
+-- A step can change as many cells as a run has, from its sample number n on, and reads none of
+-- these.
 pub record CanRun (s : CountedStep) (h : Halves) (n width cells : ℕ) : Type 0 where
   pub at : halves_place h (2 * n + s.parity) + width ≤ cells
   pub met : (j : ℕ) → j < length s.taps → halves_place h (place_met s h.half n j) + width ≤ cells

@@ -4,14 +4,12 @@ use Rattle.std.proofs.lemmas.List.{drop-drop}
 use Rattle.std.proofs.lemmas.Option.{get_or_from_slice_get, slice_get_within}
 use Rattle.std.proofs.Math.Seq.{take-add}
 use native.Mathlib.Numerals.{unary_clauses}
+use Rattle.vc_ports.proofs.Given.{some_is}
 use Rattle.vc_ports.specs.MemoryWires.{AreDatagrams, came_of}
 use Rattle.vc_ports.specs.declared.wire.Came.TheVariants as came
 
 none_is_some : {A : Type 0} (x : A) → None ≡ Some x → ⊥
 none_is_some x p = cc
-
-some_is : {A : Type 0} (x y : A) → Some x ≡ Some y → x ≡ y
-some_is x y p = cc
 
 pub front_at : (all : List (List ℕ)) (at : ℕ) (one : List ℕ) → slice_get all at ≡ Some one → take 1 (drop at all) ≡ one ∷ []
 front_at [] at one p = absurd (none_is_some one p)

@@ -6,7 +6,8 @@ use Rattle.vc_ports.specs.declared.source.Got.TheVariants as got
 use Rattle.vc_ports.specs.declared.sink.Took.{Took}
 use Rattle.vc_ports.specs.declared.sink.Took.TheVariants as took
 
--- the reader's next bytes came to the front of the buffer, its end is the source's end, and a fault took none of them
+-- the reader's next bytes came to the front of the buffer, its end is the source's end, and a fault
+-- took none of them
 abbrev pub PassesRead : Option (List ℕ) → Option (List ℕ) → List ℕ → Got → Type 0
 PassesRead before after buf (got.Bytes n) = Consumes before after (take n buf)
 PassesRead before after buf got.End = IsAtEnd after

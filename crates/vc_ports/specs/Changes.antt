@@ -1,4 +1,5 @@
--- What a command did, seen through its input, its output, its report and its wire: what each told before and after.
+-- What a command did, seen through its input, its output, its report and its wire: what each told
+-- before and after.
 use Rattle.std.specs.Prelude.{◌≡◌, ℕ, List, Option}
 use Rattle.vc_ports.specs.Faults.{Rose}
 use Rattle.vc_ports.specs.Reading.{Gave}

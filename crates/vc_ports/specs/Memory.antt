@@ -11,7 +11,8 @@ use Rattle.vc_ports.specs.declared.sink.Took.TheVariants as took
 abbrev pub fails_next : List ℕ → ℕ → Bool
 fails_next fails calls = list_any (λ number. nat_eq number (counted calls)) fails
 
--- the bytes that are left, the numbers of the calls that fail, how many calls there were, and how many failed
+-- the bytes that are left, the numbers of the calls that fail, how many calls there were, and how
+-- many failed
 pub record SourceState : Type 0 where
   pub left : List ℕ
   pub fails : List ℕ
@@ -33,7 +34,8 @@ source_after s room = if fails_next s.fails s.calls
     then record s { calls = counted s.calls; faults = counted s.faults }
     else record s { left = drop room s.left; calls = counted s.calls }
 
--- the bytes held, how many may be held, the numbers of the calls that fail, how many calls there were, and how many failed
+-- the bytes held, how many may be held, the numbers of the calls that fail, how many calls there
+-- were, and how many failed
 pub record SinkState : Type 0 where
   pub held : List ℕ
   pub room : ℕ
@@ -41,7 +43,8 @@ pub record SinkState : Type 0 where
   pub calls : ℕ
   pub faults : ℕ
 
--- whether the next write fails: its number is one of those that fail, or the piece would pass the room
+-- whether the next write fails: its number is one of those that fail, or the piece would pass the
+-- room
 abbrev pub refuses : SinkState → List ℕ → Bool
 refuses s piece = fails_next s.fails s.calls || nat_lt (s.room - length s.held) (length piece)
 

@@ -43,14 +43,16 @@ plain_received w = record { coming = drop 1 w.coming; given = w.given ++ take 1 
 
 -- ---- calls that fail
 
--- how many bytes of room are left, the numbers of the calls that fail, how many calls there were, and how many failed
+-- how many bytes of room are left, the numbers of the calls that fail, how many calls there were,
+-- and how many failed
 pub record Metered : Type 0 where
   pub room : ℕ
   pub fails : List ℕ
   pub calls : ℕ
   pub faults : ℕ
 
--- whether the next call fails, which takes so much room: its number is one of those that fail, or it would pass the room
+-- whether the next call fails, which takes so much room: its number is one of those that fail, or
+-- it would pass the room
 abbrev pub meter_refuses : Metered → ℕ → Bool
 meter_refuses m bytes = fails_next m.fails m.calls || nat_lt m.room bytes
 

@@ -6,9 +6,9 @@ use Rattle.vc_ports.specs.declared.wire.Came.TheVariants as came
 use Rattle.vc_ports.specs.declared.wire.Reached.{Reached}
 use Rattle.vc_ports.specs.declared.wire.Reached.TheVariants as reached
 
--- The datagrams that will come, those that were given and those that were sent, and the addresses at which it listens and
--- to which it is aimed: each list where the wire tells it. Whether what is sent comes, whether the wire listens, and
--- whether it is aimed.
+-- The datagrams that will come, those that were given and those that were sent, and the addresses
+-- at which it listens and to which it is aimed: each list where the wire tells it. Whether what is
+-- sent comes, whether the wire listens, and whether it is aimed.
 pub record WireTold : Type 0 where
   pub coming : Option (List (List ℕ))
   pub given : Option (List (List ℕ))

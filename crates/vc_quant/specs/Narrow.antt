@@ -2,7 +2,8 @@
 use Rattle.std.specs.Prelude.{◌+◌, ◌*◌, ◌^◌, ◌<◌, ℕ}
 use Rattle.vc_types.specs.Quantisation.{quant_factor, quant_offset}
 
--- magnitudes up to the greatest are dequantised at an index within 31 bits, every sum on the way too
+-- magnitudes up to the greatest are dequantised at an index within 31 bits, every sum on the way
+-- too
 abbrev pub IsNarrow : ℕ → ℕ → Type 0
 IsNarrow greatest index =
     (quant_factor index < 2 ^ 31)

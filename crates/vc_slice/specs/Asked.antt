@@ -14,8 +14,9 @@ pub record Given : Type 0 where
   pub place : ℕ
   pub done : SliceDone
 
--- the jobs that were offered, the places that were asked, what was given back, the places that were freed without a
--- decoding, and the numbers of workers that were started: each list in the order of the calls
+-- the jobs that were offered, the places that were asked, what was given back, the places that were
+-- freed without a decoding, and the numbers of workers that were started: each list in the order of
+-- the calls
 pub record Told : Type 0 where
   pub offered : List Offer
   pub asked : List ℕ

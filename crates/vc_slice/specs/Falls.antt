@@ -20,7 +20,8 @@ code_steps zero n = 0
 code_steps (suc zero) n = if nat_le 2 n then 3 else 0
 code_steps (suc (suc k)) n = code_steps (suc k) n + (if nat_le (2 ^ suc (suc k)) n then 2 else 0)
 
--- how many bits the codes of a block have at an index, which goes on with these numbers behind so many
+-- how many bits the codes of a block have at an index, which goes on with these numbers behind so
+-- many
 abbrev pub block_from : ℕ → ℕ → List ℕ → List ℕ → List ℤ → ℕ
 block_from q count bits kept more =
     sum_from q bits + most_from q kept + length (codes_behind (count - most_from q kept) more)

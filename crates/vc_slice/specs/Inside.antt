@@ -22,7 +22,8 @@ coefficients_by (index ∷ indices) bits =
 abbrev pub subband_numbers : ℕ → List ℤ → List ℤ
 subband_numbers index coefficients = map (λ z. quantised z index) coefficients
 
--- the codes of numbers up to the last that isn't 0, where n zeros came just before: a 0 has the code 1
+-- the codes of numbers up to the last that isn't 0, where n zeros came just before: a 0 has the
+-- code 1
 unfoldable pub codes_behind : ℕ → List ℤ → List Bool
 codes_behind n [] = []
 codes_behind n (z ∷ zs) =

@@ -1,16 +1,11 @@
 -- Fields at the front of bytes: what is read is what is spelled there, and what is written is read again.
 use Rattle.std.proofs.Common.{◌≡◌, ℕ, ◌+◌, ◌*◌, ◌<◌, Bool, List, ◌++◌, length, Result, Ok, Err, sym, ap, subst, ◌∙◌, append_assoc, length-append, arith}
 use Rattle.std.specs.Prelude.{IfOk}
-use Rattle.std.proofs.lemmas.Grind.{flat_map-append}
-use Rattle.vc_types.specs.Bits.{bits_of, byte_bits}
+use Rattle.vc_types.specs.Bits.{bits_of}
 use Rattle.vc_types.specs.Fields.{Field, Answers, Begins, bytes_for, IsCodec}
 use Rattle.vc_types.specs.SequenceHeader.{bytes_used, with_bytes_used}
-use Rattle.vc_types.proofs.Bits.{length-bits_of}
+use Rattle.vc_types.proofs.Bits.{bits_of-append, length-bits_of}
 use Rattle.vc_types.proofs.FieldCodecs.{ok_is}
-
-bits_of-append : (xs ys : List ℕ) → bits_of (xs ++ ys) ≡ bits_of xs ++ bits_of ys
-unfolding bits_of
-bits_of-append xs ys = flat_map-append byte_bits xs ys
 
 used_is : (bytes : List ℕ) (written rest : List Bool) → bits_of bytes ≡ written ++ rest → bytes_used bytes rest ≡ bytes_for (length written)
 used_is bytes written rest h =

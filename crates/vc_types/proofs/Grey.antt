@@ -6,6 +6,7 @@ use Rattle.std.proofs.lemmas.Int.{ints}
 use Rattle.std.proofs.lemmas.List.{replicate-append-replicate}
 use Rattle.std.proofs.lemmas.List.Concat.{flat_map-cons}
 use mathlib.Core.Path.{fun_ext}
+use Rattle.vc_types.proofs.Quantisers.{dequantised_zero}
 use Rattle.vc_types.proofs.ZeroTransform.{inverse_transform_zero}
 use Rattle.vc_types.specs.declared.video.Component.{Component}
 use Rattle.vc_types.specs.declared.video.Component.TheVariants.{Y, C1, C2}
@@ -105,15 +106,11 @@ empty_sint : bounded_sint [] ≡ (pos 0, [])
 unfolding bounded_sint bounded_uint bounded_uint_after
 empty_sint = refl
 
-zero_stays : (q : ℕ) → dequantised (pos 0) q ≡ pos 0
-unfolding dequantised
-zero_stays q = refl
-
 empty_sints : (n : ℕ) (qs : List ℕ) → AreZero (map (λ (z : ℤ × ℕ). dequantised z.0 z.1) (zip (bounded_sints n []) qs))
 unfolding bounded_sints
 empty_sints zero qs = tt
 empty_sints (suc n) [] = tt
-empty_sints (suc n) (q ∷ qs) = rw empty_sint (zero_stays q, empty_sints n qs)
+empty_sints (suc n) (q ∷ qs) = rw empty_sint (dequantised_zero q, empty_sints n qs)
 
 -- a block of no bytes stands for zeros
 pub block_coefficients-empty : (p : Parameters) (c : Component) (slice index : ℕ) → AreZero (block_coefficients p c slice index [])

@@ -1,5 +1,5 @@
 -- Transform parameters depend on nothing but their own bits, and on nothing but their own bytes.
-use Rattle.std.proofs.Common.{ℕ, zero, suc, ◌+◌, ◌-◌, ◌*◌, ◌^◌, Bool, true, false, List, [], ◌∷◌, Option, Some, None}
+use Rattle.std.proofs.Common.{ℕ, zero, suc, ◌+◌, ◌-◌, ◌^◌, Bool, true, false, List, [], ◌∷◌, Option, Some, None}
 use Rattle.std.specs.Prelude.{if◌then◌else◌, nat_le, ◌==◌, ◌&&◌}
 use Rattle.vc_types.specs.declared.refusal.ParamsRefusal.TheVariants as refusals
 use Rattle.vc_types.specs.Fields.{give, refuse, tested, flag, behind_flag}

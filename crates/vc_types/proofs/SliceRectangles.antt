@@ -1,5 +1,5 @@
 -- A slice's rectangles one after another: how many coefficients stand before each, and the place of a coefficient.
-use Rattle.std.proofs.Common.{◌≡◌, ℕ, suc, ◌+◌, ◌-◌, ◌*◌, ◌<◌, ◌≤◌, List, ◌∷◌, length, get_or, take, drop, arith, refl, ◌∙◌, sym, ap, add-one}
+use Rattle.std.proofs.Common.{◌≡◌, ℕ, suc, ◌+◌, ◌-◌, ◌<◌, ◌≤◌, List, ◌∷◌, length, get_or, take, drop, arith, refl, ◌∙◌, sym, ap, add-one}
 use Rattle.std.specs.Prelude.{nat_lt}
 use Rattle.std.specs.List.{sum_by}
 use Rattle.std.proofs.lemmas.Bool.{cond-true, cond-false, lt-ltb, le-ltb}

@@ -10,7 +10,7 @@ use Rattle.vc_types.specs.Fields.{and_then, joined}
 use Rattle.vc_types.specs.PictureBytes.{IsWholeSlice, ArePictureBytes, AreAnswers}
 use Rattle.vc_types.specs.Pictures.{Picture, decoded_picture, with_parameters, with_slices, slices_from, sound}
 use Rattle.vc_types.specs.SequenceHeader.{Sequence, bytes_used, with_bytes_used}
-use Rattle.vc_types.specs.Slices.{Coefficients, slice_length, slice_coefficients}
+use Rattle.vc_types.specs.Slices.{Coefficients, slice_coefficients}
 use Rattle.vc_types.specs.Subbands.{slice_count}
 use Rattle.vc_types.specs.TransformParameters.{Parameters, transform_parameters, coded_parameters}
 use Rattle.vc_types.proofs.FieldCodecs.{ok_is}

@@ -1,5 +1,5 @@
 -- Where every coefficient is 0, so is every sample.
-use Rattle.std.proofs.Common.{◌≡◌, ℕ, zero, suc, ◌+◌, ◌*◌, ◌/◌, ◌%◌, ◌^◌, ◌<◌, List, [], ◌∷◌, ℤ, pos, ◌+ℤ◌, ◌*ℤ◌, arith, ap, refl, ◌∙◌, Bool, true, false, fold}
+use Rattle.std.proofs.Common.{◌≡◌, ℕ, zero, suc, ◌*◌, ◌/◌, ◌%◌, ◌^◌, ◌<◌, List, [], ◌∷◌, ℤ, pos, ◌+ℤ◌, ◌*ℤ◌, arith, ap, refl, ◌∙◌, Bool, true, false, fold}
 use Rattle.std.specs.Prelude.{if◌then◌else◌, nat_lt, ◌==◌, ◌&&◌}
 use Rattle.std.specs.Int.{int_shr}
 use mathlib.Core.Path.{fun_ext}
@@ -7,7 +7,7 @@ use Rattle.std.proofs.lemmas.Int.{ints}
 use Rattle.std.proofs.Math.Nat.{div-eq_of_lt}
 use Rattle.std.proofs.Math.Pow.{pow_pos}
 use Rattle.vc_types.specs.declared.video.Component.{Component}
-use Rattle.vc_types.specs.Lifting.{Line, Parity, LiftingStep, offset_of, met, weighted, half_of, change, changed_by, lifted}
+use Rattle.vc_types.specs.Lifting.{Line, Parity, LiftingStep, offset_of, weighted, half_of, change, changed_by, lifted}
 use Rattle.vc_types.specs.TransformParameters.{Parameters}
 use Rattle.vc_types.specs.Transforms.{Cells, is_within, interleaved_across, level_across, levels_across, interleaved, on_columns, on_rows, on_cells, halved, inverse_level, inverse_levels, lowest_width, lowest_height, inverse_transform}
 use Rattle.vc_types.specs.Wavelets.{is_shifted, synthesis_steps, lifted_by, synthesised}

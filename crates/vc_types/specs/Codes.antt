@@ -24,7 +24,8 @@ sint_bits v = uint_bits (unsigned_abs v) ++ sign_bits v
 
 -- ---- reading
 
--- the number whose code begins the bits, and the bits behind it, where the digits of a number were read
+-- the number whose code begins the bits, and the bits behind it, where the digits of a number were
+-- read
 unfoldable pub uint_after : ℕ → List Bool → Option (ℕ × List Bool)
 uint_after number [] = None
 uint_after number (true ∷ rest) = Some (number - 1, rest)

@@ -29,8 +29,8 @@ parse_info_prefix = 0x42424344
 abbrev pub next_offset : ℕ → List ℕ → ℕ
 next_offset code body = if code == end_code then 0 else 13 + length body
 
--- the 13 bytes before a body: the prefix, the parse code, and the distances to the next unit and from the previous one,
--- of each the low 32 bits, high first
+-- the 13 bytes before a body: the prefix, the parse code, and the distances to the next unit and
+-- from the previous one, of each the low 32 bits, high first
 unfoldable pub parse_info : ℕ → ℕ → ℕ → List ℕ
 parse_info code next previous =
     big_bytes 4 parse_info_prefix ++ (code ∷ (big_bytes 4 next ++ big_bytes 4 previous))

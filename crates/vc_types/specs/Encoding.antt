@@ -60,7 +60,8 @@ is_too_long p slice index s =
     let units = component_units p slice index s in
     nat_lt 255 (units Y) || nat_lt 255 (units C1) || nat_lt 255 (units C2)
 
--- the bits of a slice: prefix bytes of 0, the quantisation index, and the blocks of the three components
+-- the bits of a slice: prefix bytes of 0, the quantisation index, and the blocks of the three
+-- components
 unfoldable pub encoded_slice : Parameters → ℕ → ℕ → Coefficients → List Bool
 encoded_slice p slice index s =
     let block = λ (c : Component). encoded_block p.scaler (component_bits p slice index s c) in

@@ -1,5 +1,5 @@
--- Two fields and their frame (this project's own): the rows of the frame are those of the fields in turn, and with the
--- top field first its first row is the earlier's.
+-- Two fields and their frame (this project's own): the rows of the frame are those of the fields in
+-- turn, and with the top field first its first row is the earlier's.
 use Rattle.std.specs.Prelude.{ℕ, ◌+◌, ◌*◌, ◌/◌, ◌%◌, Bool, ◌==◌, if◌then◌else◌}
 use Rattle.vc_types.specs.Planes.{Planes}
 use Rattle.vc_types.specs.Rasters.{Raster, raster, sample_at}

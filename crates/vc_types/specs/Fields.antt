@@ -1,5 +1,5 @@
--- Fields that are read one after another from the front of a list of bits or bytes. A field gives its value and what
--- is left, or the first refusal.
+-- Fields that are read one after another from the front of a list of bits or bytes. A field gives
+-- its value and what is left, or the first refusal.
 use Rattle.std.specs.Prelude.{◌≡◌, ℕ, Bool, true, false, List, [], ◌∷◌, ◌++◌, length, take, drop, Option, Some, None, Result, Ok, Err, nat_lt, if◌then◌else◌, ◌+◌, ◌-◌, ◌/◌, ◌%◌, replicate}
 use Rattle.vc_types.specs.Bits.{bits_of}
 use Rattle.vc_types.specs.Codes.{uint_bits, uint_at}
@@ -95,8 +95,8 @@ abbrev pub flagged_value : {A X : Type 0} → X → (A → X) → Option A → X
 flagged_value default value None = default
 flagged_value default value (Some a) = value a
 
--- Reading and writing belong together: what is read is what was written of some accepted spelling, and each accepted
--- spelling is read again, whatever follows it.
+-- Reading and writing belong together: what is read is what was written of some accepted spelling,
+-- and each accepted spelling is read again, whatever follows it.
 pub record IsCodec {T E A X : Type 0} (field : Field T E X) (written : A → List T)
     (value : A → X) (Accepted : A → Type 0) : Type 0 where
   pub takes : (all : List T) (x : X) (rest : List T) → field all ≡ Ok (x, rest)
@@ -113,7 +113,8 @@ bytes_for bits = (bits + 7) / 8
 abbrev pub filled_up : List Bool → List Bool
 filled_up bits = bits ++ replicate ((8 - length bits % 8) % 8) false
 
--- Bytes begin with the bits of an accepted spelling, which stands for a value and takes so many bytes.
+-- Bytes begin with the bits of an accepted spelling, which stands for a value and takes so many
+-- bytes.
 pub record Begins {A X : Type 0} (written : A → List Bool) (value : A → X)
     (Accepted : A → Type 0) (bytes : List ℕ) (x : X) (used : ℕ) : Type 0 where
   pub spelling : A

@@ -1,5 +1,5 @@
--- The spelling of a sequence header (ST 2042-1, sequence header): which of its parts are coded and by what numbers, the
--- bits that they are written as, and the value that they stand for.
+-- The spelling of a sequence header (ST 2042-1, sequence header): which of its parts are coded and
+-- by what numbers, the bits that they are written as, and the value that they stand for.
 use Rattle.std.specs.Prelude.{◌≡◌, ℕ, ◌<◌, ◌≤◌, ◌-◌, ◌^◌, ◌⊎◌, Bool, List, [], ◌∷◌, ◌++◌, Option, Some, None, IsTrue, IfSome, unwrap_or, ◌==◌, if◌then◌else◌}
 use Rattle.vc_types.specs.Bits.{digit_of}
 use Rattle.vc_types.specs.Codes.{uint_bits}
@@ -162,8 +162,8 @@ BeginsWithHeader bytes sequence used =
 abbrev pub encoder_base : Bool → ℕ
 encoder_base top_first = if top_first then 14 else 0
 
--- Version 3.0, level 0, base 14 with the top field first and else 0, interlaced exactly with field coding, a preset
--- signal range
+-- Version 3.0, level 0, base 14 with the top field first and else 0, interlaced exactly with field
+-- coding, a preset signal range
 pub record IsEncoderHeader (s : Sequence) : Type 0 where
   pub major : s.major ≡ 3
   pub minor : s.minor ≡ 0

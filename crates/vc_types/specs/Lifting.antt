@@ -1,5 +1,5 @@
--- One lifting step of a line (ST 2042-1, lifting). A line is an even number of samples long, and past its end a step
--- leaves it as it is.
+-- One lifting step of a line (ST 2042-1, lifting). A line is an even number of samples long, and
+-- past its end a step leaves it as it is.
 use Rattle.std.specs.Prelude.{ℕ, ◌-◌, ◌/◌, ◌%◌, ◌^◌, Bool, true, false, ◌&&◌, nat_lt, ◌==◌, if◌then◌else◌, List, [], ◌∷◌, ℤ, pos, negsuc, ◌+ℤ◌, ◌-ℤ◌, ◌*ℤ◌, min, max, slice_index_or}
 use Rattle.std.specs.Int.{int_shr}
 
@@ -11,7 +11,8 @@ Line = ℕ → ℤ
 abbrev pub line_of : List ℤ → Line
 line_of samples k = slice_index_or samples k (pos 0)
 
--- A step on the even samples changes each sample 2 * n, one on the odd samples each sample 2 * n + 1.
+-- A step on the even samples changes each sample 2 * n, one on the odd samples each sample 2 * n +
+-- 1.
 pub data Parity : Type 0 where
   even : Parity
   odd : Parity
@@ -20,7 +21,8 @@ abbrev pub offset_of : Parity → ℕ
 offset_of even = 0
 offset_of odd = 1
 
--- the columns of the standard's table: on which samples, whether the change is added, the taps, S and D
+-- the columns of the standard's table: on which samples, whether the change is added, the taps, S
+-- and D
 pub record LiftingStep : Type 0 where
   pub parity : Parity
   pub adds : Bool
@@ -33,8 +35,8 @@ abbrev pub held : ℕ → ℕ → ℤ → ℕ
 held low high (pos place) = max low (min place high)
 held low high (negsuc place) = low
 
--- the place of the sample that the tap of number i meets: an odd one in a step on the even samples, an even one in a
--- step on the odd samples
+-- the place of the sample that the tap of number i meets: an odd one in a step on the even samples,
+-- an even one in a step on the odd samples
 abbrev pub met : Parity → ℕ → ℕ → ℤ → ℕ
 met even length n i = held 1 (length - 1) (pos 2 *ℤ (pos n +ℤ i) -ℤ pos 1)
 met odd length n i = held 0 (length - 2) (pos 2 *ℤ (pos n +ℤ i))

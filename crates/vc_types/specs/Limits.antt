@@ -29,7 +29,8 @@ slice_bytes_fit prefix scaler = nat_le prefix 65535 && nat_le 1 scaler && nat_le
 abbrev pub padded : ℕ → ℕ → ℕ
 padded side depth = (side + 2 ^ depth - 1) / 2 ^ depth * 2 ^ depth
 
--- the padded luma of a picture, with e levels across alone and d both ways, has at most 8,912,896 samples
+-- the padded luma of a picture, with e levels across alone and d both ways, has at most 8,912,896
+-- samples
 abbrev pub padded_luma_fits : Shape → ℕ → ℕ → Bool
 padded_luma_fits s e d = nat_le (padded s.luma_width (d + e) * padded s.luma_height d) 8912896
 

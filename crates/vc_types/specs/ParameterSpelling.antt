@@ -1,6 +1,6 @@
--- The spelling of transform parameters (ST 2042-1, transform parameters): which of their parts are coded and by what
--- numbers, the bits that they are written as, and the value that they stand for.
-use Rattle.std.specs.Prelude.{◌≡◌, ℕ, ◌+◌, ◌*◌, ◌≤◌, Bool, true, false, List, [], ◌∷◌, length, Option, Some, None, ⊤, IsTrue, IsSome, MatchOption, unwrap_or, ◌==◌, if◌then◌else◌}
+-- The spelling of transform parameters (ST 2042-1, transform parameters): which of their parts are
+-- coded and by what numbers, the bits that they are written as, and the value that they stand for.
+use Rattle.std.specs.Prelude.{◌≡◌, ℕ, ◌+◌, ◌≤◌, Bool, true, false, List, [], ◌∷◌, length, Option, Some, None, ⊤, IsTrue, IsSome, MatchOption, unwrap_or, ◌==◌, if◌then◌else◌}
 use Rattle.std.specs.List.{flat_map}
 use Rattle.std.specs.Str.{bytes_eq}
 use Rattle.vc_types.specs.Codes.{uint_bits}
@@ -10,7 +10,8 @@ use Rattle.vc_types.specs.Quantisation.{filled_matrix, subband_count, used_entri
 use Rattle.vc_types.specs.SequenceHeader.{Sequence, picture_shape}
 use Rattle.vc_types.specs.TransformParameters.{Parameters, default_of}
 
--- The wavelet and the depth across are coded by major version 3 alone; the matrix has a value for each subband in order.
+-- The wavelet and the depth across are coded by major version 3 alone; the matrix has a value for
+-- each subband in order.
 pub record ParameterSpelling : Type 0 where
   pub wavelet : ℕ
   pub depth : ℕ
@@ -41,7 +42,8 @@ parameter_bits major s = joined (
     flagged_bits numbers_bits s.matrix ∷
     [])
 
--- the wavelet across and the levels across alone: where they aren't coded, the other wavelet and none
+-- the wavelet across and the levels across alone: where they aren't coded, the other wavelet and
+-- none
 abbrev pub across_of : ParameterSpelling → ℕ × ℕ
 across_of s = (unwrap_or s.wavelet_ho s.wavelet, unwrap_or s.depth_ho 0)
 
@@ -89,7 +91,8 @@ pub record AreParameters (sequence : Sequence) (s : ParameterSpelling) : Type 0 
       (IsMatrix (subband_count (across_of s).1 s.depth))
   pub padded_luma : IsTrue (padded_luma_fits (picture_shape sequence) (across_of s).1 s.depth)
 
--- bytes begin with the parameters, of this value, of a picture of this sequence, and they take so many bytes
+-- bytes begin with the parameters, of this value, of a picture of this sequence, and they take so
+-- many bytes
 abbrev pub BeginsWithParameters : Sequence → List ℕ → Parameters → ℕ → Type 0
 BeginsWithParameters sequence bytes parameters used =
     Begins (parameter_bits sequence.major) (spelled_parameters sequence) (AreParameters sequence)

@@ -1,4 +1,5 @@
--- Parse codes (ST 2042-1, parse code values; RFC 8450, 4 for fragments): those of this project's profile.
+-- Parse codes (ST 2042-1, parse code values; RFC 8450, 4 for fragments): those of this project's
+-- profile.
 use Rattle.std.specs.Prelude.{ℕ}
 
 -- of a sequence header

@@ -1,4 +1,5 @@
--- The bytes of a picture part by part (ST 2042-1, picture parsing): its coded transform parameters, and its slices.
+-- The bytes of a picture part by part (ST 2042-1, picture parsing): its coded transform parameters,
+-- and its slices.
 use Rattle.std.specs.Prelude.{◌≡◌, ◌<◌, ℕ, All, List, [], length, slice_index_or, Some, Result, Ok}
 use Rattle.vc_types.specs.declared.refusal.Unsound.{Unsound}
 use Rattle.vc_types.specs.SequenceHeader.{Sequence}

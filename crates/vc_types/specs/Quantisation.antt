@@ -1,5 +1,5 @@
--- Quantisers and quantisation matrices (ST 2042-1, inverse quantisation and quantisation matrices; the default matrices
--- are this project's profile).
+-- Quantisers and quantisation matrices (ST 2042-1, inverse quantisation and quantisation matrices;
+-- the default matrices are this project's profile).
 use Rattle.std.specs.Prelude.{ℕ, ◌+◌, ◌-◌, ◌*◌, ◌/◌, ◌%◌, ◌^◌, if◌then◌else◌, ◌==◌, ℤ, pos, negsuc, neg_ℤ, unsigned_abs, List, [], ◌∷◌, ◌++◌, take, replicate, slice_index_or, Option, Some, None}
 use Rattle.std.specs.List.{flat_map, range_with_len}
 
@@ -43,7 +43,8 @@ quantised z index = with_sign_of z (4 * unsigned_abs z / quant_factor index)
 abbrev pub filled_matrix : List ℕ → List ℕ
 filled_matrix entries = take 16 (entries ++ replicate 16 0)
 
--- how many subbands there are, with e levels across alone and d both ways: the lowest, then one and three for each level
+-- how many subbands there are, with e levels across alone and d both ways: the lowest, then one and
+-- three for each level
 abbrev pub subband_count : ℕ → ℕ → ℕ
 subband_count e d = 1 + e + 3 * d
 
@@ -59,7 +60,8 @@ at_level hl lh hh = hl ∷ lh ∷ hh ∷ []
 abbrev pub matrix_row : ℕ → List ℕ → List ℕ → List ℕ → List ℕ → List ℕ
 matrix_row ll level_1 level_2 level_3 level_4 = ll ∷ (level_1 ++ level_2 ++ level_3 ++ level_4)
 
--- Haar without a shift: LL is 8 + 4 * (depth - 1), and level k has 4 + 4 * (depth - k) twice and 4 * (depth - k)
+-- Haar without a shift: LL is 8 + 4 * (depth - 1), and level k has 4 + 4 * (depth - k) twice and 4
+-- * (depth - k)
 abbrev pub haar_entries : ℕ → List ℕ
 haar_entries depth = (8 + 4 * (depth - 1)) ∷ flat_map
     (λ k. at_level (4 + 4 * (depth - k)) (4 + 4 * (depth - k)) (4 * (depth - k)))

@@ -6,7 +6,8 @@ use Rattle.vc_types.specs.Slices.{Coefficients, coefficients_of, is_large}
 use Rattle.vc_types.specs.Subbands.{slice_coefficient_count}
 use Rattle.vc_types.specs.TransformParameters.{Parameters}
 
--- of each component as many as slice number n has, and none is large: what a decoded slice has, and what can be encoded
+-- of each component as many as slice number n has, and none is large: what a decoded slice has, and
+-- what can be encoded
 pub record AreSliceCoefficients (p : Parameters) (n : ℕ) (s : Coefficients) : Type 0 where
   pub count : (c : Component) → length (coefficients_of s c) ≡ slice_coefficient_count p c n
   pub small : (c : Component) → list_any is_large (coefficients_of s c) ≡ false

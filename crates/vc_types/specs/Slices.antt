@@ -62,7 +62,8 @@ coefficients_of s Y = s.y
 coefficients_of s C1 = s.c1
 coefficients_of s C2 = s.c2
 
--- the quantisation index of each coefficient: the slice's less the subband's matrix value, and at least 0
+-- the quantisation index of each coefficient: the slice's less the subband's matrix value, and at
+-- least 0
 unfoldable pub quantisers : Parameters → Component → ℕ → ℕ → List ℕ
 quantisers p c slice index = flat_map
     (λ b. replicate (area (slice_rectangle p c b.1 slice)) (index - slice_index_or p.matrix b.0 0))

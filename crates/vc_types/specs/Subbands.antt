@@ -1,6 +1,7 @@
--- Subbands and slices (ST 2042-1, subband data dimensions and slice coordinates). A component's coefficients stand in
--- a grid of the padded size with the subbands nested: LL at the corner, then H to the right of what stands, level by
--- level across alone, then HL to the right, LH below and HH across, level by level.
+-- Subbands and slices (ST 2042-1, subband data dimensions and slice coordinates). A component's
+-- coefficients stand in a grid of the padded size with the subbands nested: LL at the corner, then
+-- H to the right of what stands, level by level across alone, then HL to the right, LH below and HH
+-- across, level by level.
 use Rattle.std.specs.Prelude.{◌≡◌, ◌<◌, ℕ, zero, suc, ◌+◌, ◌-◌, ◌*◌, ◌/◌, ◌%◌, ◌^◌, min, nat_lt, if◌then◌else◌, List, [], ◌∷◌, ◌++◌, map, slice_index_or}
 use Rattle.std.specs.List.{sum_by}
 use Rattle.vc_types.specs.declared.rect.Rect.{Rect}
@@ -72,7 +73,8 @@ subbands e (suc d) = subbands e d ++ both_ways (e + suc d)
 abbrev pub subband_at : ℕ → ℕ → ℕ → Subband
 subband_at e d b = slice_index_or (subbands e d) b (subband 0 LL)
 
--- a side of the subbands of a level, of so many levels, `most` of which have halved this side of the padded plane
+-- a side of the subbands of a level, of so many levels, `most` of which have halved this side of
+-- the padded plane
 abbrev pub level_side : ℕ → ℕ → ℕ → ℕ → ℕ
 level_side side most levels level = side / 2 ^ min most (levels + 1 - level)
 
@@ -121,7 +123,7 @@ unfoldable pub slice_rectangle : Parameters → Component → Subband → ℕ �
 slice_rectangle p c b slice =
     share (subband_rectangle p c b) p.slices_x p.slices_y (slice_column p slice) (slice_row p slice)
 
--- ---- the places of a slice's coefficients: the subbands in order, and in each the slice's rectangle row by row
+-- ---- the places of a slice's coefficients: the subbands in order, in each its rectangle by rows
 
 abbrev pub area : Rect → ℕ
 area r = r.width * r.height
@@ -150,7 +152,8 @@ slice_coefficient_count p c slice = sum_by area (slice_rectangles p c slice)
 unfoldable pub coefficient_place : Parameters → Component → ℕ → ℕ → Place
 coefficient_place p c slice i = place_among (slice_rectangles p c slice) i
 
--- one coefficient of a component, and no other, stands in column x and row y: by its slice, and its number there
+-- one coefficient of a component, and no other, stands in column x and row y: by its slice, and its
+-- number there
 pub record IsMetOnce (p : Parameters) (c : Component) (x y : ℕ) : Type 0 where
   pub slice : ℕ
   pub number : ℕ

@@ -1,5 +1,6 @@
--- Transform parameters (ST 2042-1, transform parameters): the fields in order, and the first refusal.
-use Rattle.std.specs.Prelude.{ℕ, zero, suc, ◌+◌, ◌-◌, ◌*◌, ◌^◌, Bool, ◌&&◌, List, [], ◌∷◌, Option, Some, None, Result, nat_le, ◌==◌, if◌then◌else◌}
+-- Transform parameters (ST 2042-1, transform parameters): the fields in order, and the first
+-- refusal.
+use Rattle.std.specs.Prelude.{ℕ, zero, suc, ◌+◌, ◌-◌, ◌^◌, Bool, ◌&&◌, List, [], ◌∷◌, Option, Some, None, Result, nat_le, ◌==◌, if◌then◌else◌}
 use Rattle.vc_types.specs.declared.plan.Plan.{Plan}
 use Rattle.vc_types.specs.declared.shape.Shape.{Shape}
 use Rattle.vc_types.specs.declared.refusal.ParamsRefusal.{ParamsRefusal}
@@ -37,7 +38,8 @@ parameters_of p = record {
   matrix = p.matrix;
 }
 
--- the transform is the same across as down: by the wavelet, and the wavelet and the levels across alone
+-- the transform is the same across as down: by the wavelet, and the wavelet and the levels across
+-- alone
 abbrev pub same_across : ℕ → ℕ × ℕ → Bool
 same_across wavelet across = across.0 == wavelet && across.1 == 0
 

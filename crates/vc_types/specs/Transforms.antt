@@ -1,5 +1,6 @@
--- The wavelet transform of a component (ST 2042-1, inverse wavelet transform), in the grid of nested subbands. A grid is
--- the number in each column and row; outside the part that it speaks of, each function here leaves it as it is.
+-- The wavelet transform of a component (ST 2042-1, inverse wavelet transform), in the grid of
+-- nested subbands. A grid is the number in each column and row; outside the part that it speaks of,
+-- each function here leaves it as it is.
 use Rattle.std.specs.Prelude.{ℕ, zero, suc, ◌+◌, ◌-◌, ◌*◌, ◌/◌, ◌%◌, ◌^◌, Bool, ◌&&◌, nat_lt, if◌then◌else◌, ℤ, pos, ◌+ℤ◌, ◌-ℤ◌, ◌*ℤ◌, min}
 use Rattle.std.specs.Int.{int_shr}
 use Rattle.vc_types.specs.declared.video.Component.{Component}
@@ -34,8 +35,8 @@ halved z = int_shr (z +ℤ pos 1) 1
 abbrev pub doubled : ℤ → ℤ
 doubled z = pos 2 *ℤ z
 
--- where column or row k of a level stands in its subbands, side by side: an even one in the first half, an odd one in
--- the second
+-- where column or row k of a level stands in its subbands, side by side: an even one in the first
+-- half, an odd one in the second
 abbrev pub half_place : ℕ → ℕ → ℕ
 half_place half k = k / 2 + k % 2 * half
 
@@ -59,14 +60,14 @@ level_across wavelet w h cells =
 
 -- ---- a level both ways, whose subbands have w columns and h rows
 
--- LL goes to the even columns and even rows, HL to the odd columns and even rows, LH to the even columns and odd rows,
--- HH to the odd columns and odd rows
+-- LL goes to the even columns and even rows, HL to the odd columns and even rows, LH to the even
+-- columns and odd rows, HH to the odd columns and odd rows
 unfoldable pub interleaved : ℕ → ℕ → Cells → Cells
 interleaved w h cells x y =
     if is_within (2 * w) (2 * h) x y then cells (half_place w x) (half_place h y) else cells x y
 
--- the subbands are interleaved, each column is synthesised with one wavelet, then each row with the other, and the
--- samples are shifted as the one of the rows wants it
+-- the subbands are interleaved, each column is synthesised with one wavelet, then each row with the
+-- other, and the samples are shifted as the one of the rows wants it
 unfoldable pub inverse_level : ℕ → ℕ → ℕ → ℕ → Cells → Cells
 inverse_level vertical horizontal w h cells =
     on_cells halved (is_shifted horizontal) (2 * w) (2 * h)

@@ -1,4 +1,5 @@
--- Video formats (ST 2042-1, base video formats and signal ranges; the rows are this project's profile).
+-- Video formats (ST 2042-1, base video formats and signal ranges; the rows are this project's
+-- profile).
 use Rattle.std.specs.Prelude.{◌≤◌, ℕ, ◌+◌, ◌%◌, ◌/◌, ◌^◌, Bool, true, false, ◌&&◌, ◌||◌, not, nat_le, ◌==◌, if◌then◌else◌, List, [], ◌∷◌, slice_index_or}
 use Rattle.std.specs.List.{position_or_len, range_with_len}
 use Rattle.vc_types.specs.declared.video.Sampling.{Sampling}
@@ -107,7 +108,8 @@ colour_height S420 height = height / 2
 abbrev pub picture_height : Bool → ℕ → ℕ
 picture_height fields height = if fields then height / 2 else height
 
--- the first d of 0, 1, 2, .. 16 at which 2 ^ d is at least the excursion and 1 (ST 2042-1, video depth)
+-- the first d of 0, 1, 2, .. 16 at which 2 ^ d is at least the excursion and 1 (ST 2042-1, video
+-- depth)
 unfoldable pub video_depth : ℕ → ℕ
 video_depth excursion = position_or_len (λ d. nat_le (excursion + 1) (2 ^ d)) (range_with_len 0 17)
 

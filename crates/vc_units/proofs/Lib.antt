@@ -1,6 +1,6 @@
 pub mod Infos
 pub mod Streams
 pub mod Written
-pub mod Parts
+pub mod UnitSteps
 pub mod Rows
 pub mod Behind

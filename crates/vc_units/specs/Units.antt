@@ -1,5 +1,5 @@
--- An elementary stream, read: data units one after another, each a parse info header of 13 bytes and a body (ST 2042-1,
--- data unit; parse info header).
+-- An elementary stream, read: data units one after another, each a parse info header of 13 bytes
+-- and a body (ST 2042-1, data unit; parse info header).
 use Rattle.std.specs.Prelude.{ℕ, zero, suc, ◌+◌, ◌-◌, Bool, ◌||◌, not, List, [], ◌∷◌, ◌++◌, length, drop, slice_index, Result, Ok, Err, nat_lt, ◌==◌, if◌then◌else◌}
 use Rattle.byteorder.specs.Endian.{big_number}
 use Rattle.vc_types.specs.DataUnits.{DataUnit, is_end_of_sequence, is_unit_code, parse_info_prefix}
@@ -19,7 +19,8 @@ code_of info = slice_index info 4
 abbrev pub next_offset_of : List ℕ → ℕ
 next_offset_of info = big_number 4 (drop 5 info)
 
--- how many bytes the body has, or the first refusal; an end of sequence has none, and its distance isn't used
+-- how many bytes the body has, or the first refusal; an end of sequence has none, and its distance
+-- isn't used
 unfoldable pub body_length : List ℕ → Result ℕ UnitFault
 body_length info =
     if not (prefix_of info == parse_info_prefix) then Err Prefix
@@ -55,8 +56,8 @@ units_from bytes behind (Err refusal) = ([], bytes)
 units_from bytes behind (Ok read) =
     if is_end_of_sequence read.0 then (read.0 ∷ [], read.1) else before read.0 (behind read.1)
 
--- the units that begin the bytes, at most so many, up to the first end of sequence and before the first that is
--- refused; and the rest
+-- the units that begin the bytes, at most so many, up to the first end of sequence and before the
+-- first that is refused; and the rest
 unfoldable pub units_within : ℕ → List ℕ → List DataUnit × List ℕ
 units_within zero bytes = ([], bytes)
 units_within (suc most) bytes = units_from bytes (λ rest. units_within most rest) (data_unit bytes)

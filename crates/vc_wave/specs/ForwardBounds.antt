@@ -1,4 +1,5 @@
--- Whether the forward transform stays in 32 bits: bounds on magnitudes, carried through one level after another.
+-- Whether the forward transform stays in 32 bits: bounds on magnitudes, carried through one level
+-- after another.
 use Rattle.std.specs.Prelude.{ℕ, ◌*◌, ◌^◌, Bool, nat_lt, if◌then◌else◌, Option, Some, None}
 use Rattle.std.specs.Option.{option_and_then, is_some}
 use Rattle.vc_types.specs.TransformParameters.{Parameters}

@@ -1,12 +1,14 @@
--- Subbands whose rows are taken in turn, so that a level finds the rows that it synthesises in their order.
+-- Subbands whose rows are taken in turn, so that a level finds the rows that it synthesises in
+-- their order.
 use Rattle.std.specs.Prelude.{ℕ, zero, suc, ◌*◌, ◌^◌, if◌then◌else◌, List, ℤ}
 use Rattle.vc_types.specs.declared.video.Component.{Component}
 use Rattle.vc_types.specs.TransformParameters.{Parameters}
 use Rattle.vc_types.specs.Transforms.{Cells, is_within, source_of, lowest_width, lowest_height}
 use Rattle.vc_wave.specs.Planes.{plane_of}
 
--- Which row has the cell in column x and row y of the nested subbands, the lowest of which have w columns and h rows: each
--- level, from the lowest up, takes the low and the high rows of its own columns in turn.
+-- Which row has the cell in column x and row y of the nested subbands, the lowest of which have w
+-- columns and h rows: each level, from the lowest up, takes the low and the high rows of its own
+-- columns in turn.
 unfoldable pub row_in_turn : ℕ → ℕ → ℕ → ℕ → ℕ → ℕ
 row_in_turn zero w h x y = y
 row_in_turn (suc levels) w h x y =

@@ -1,4 +1,5 @@
--- Whether the inverse transform stays in 32 bits: bounds on magnitudes, carried through one level after another.
+-- Whether the inverse transform stays in 32 bits: bounds on magnitudes, carried through one level
+-- after another.
 use Rattle.std.specs.Prelude.{ℕ, zero, suc, ◌+◌, ◌/◌, ◌^◌, ◌<◌, ◌≤◌, ◌≡◌, Bool, IsTrue, nat_lt, if◌then◌else◌, max, List, ℤ, All, unsigned_abs, Option, Some, None}
 use Rattle.std.specs.Option.{option_and_then, is_some}
 use Rattle.vc_types.specs.Lifting.{line_of}
@@ -6,7 +7,8 @@ use Rattle.vc_types.specs.TransformParameters.{Parameters}
 use Rattle.vc_types.specs.Wavelets.{is_shifted}
 use Rattle.vc_lift.specs.Ranges.{narrow_bound}
 
--- a bound on all cells, from one on all of them before and one on those that were synthesised and are to be shifted
+-- a bound on all cells, from one on all of them before and one on those that were synthesised and
+-- are to be shifted
 abbrev pub shifted_bound : ℕ → ℕ → ℕ → Option ℕ
 shifted_bound wavelet most made =
     if is_shifted wavelet

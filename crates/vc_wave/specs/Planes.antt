@@ -3,7 +3,8 @@ use Rattle.std.specs.Prelude.{ℕ, ◌+◌, ◌*◌, ◌<◌, ◌≤◌, if◌th
 use Rattle.vc_types.specs.Lifting.{line_of}
 use Rattle.vc_types.specs.Transforms.{Cells}
 
--- the plane that is kept row by row, so many cells a row; past a row's end, and past the last cell, it is 0
+-- the plane that is kept row by row, so many cells a row; past a row's end, and past the last cell,
+-- it is 0
 unfoldable pub plane_of : ℕ → List ℤ → Cells
 plane_of stride cells x y = if nat_lt x stride then line_of cells (y * stride + x) else pos 0
 
@@ -11,8 +12,8 @@ plane_of stride cells x y = if nat_lt x stride then line_of cells (y * stride + 
 abbrev pub AreBelow : ℕ → Cells → Type 0
 AreBelow m c = (x y : ℕ) → unsigned_abs (c x y) < m
 
--- So many columns and rows are inside a plane of so many cells, and so much room is enough to work on a row, and on a
--- block of columns side by side.
+-- So many columns and rows are inside a plane of so many cells, and so much room is enough to work
+-- on a row, and on a block of columns side by side.
 pub record HasRoom (columns rows stride cells block scratch : ℕ) : Type 0 where
   pub across : columns ≤ stride
   pub down : rows * stride ≤ cells

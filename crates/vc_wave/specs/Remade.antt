@@ -33,8 +33,8 @@ merged wavelet half l = synthesised wavelet (2 * half) (halves_together half l)
 abbrev pub parted : ℕ → ℕ → Line → Line
 parted wavelet half l = halves_apart half (analysed wavelet (2 * half) l)
 
--- two halves are put together, and the samples are halved if that is wanted; or samples are doubled, and taken apart
--- into two halves
+-- two halves are put together, and the samples are halved if that is wanted; or samples are
+-- doubled, and taken apart into two halves
 abbrev pub remade : Direction → ℕ → Bool → ℕ → Line → Line
 remade Synthesis wavelet shifted half l =
     on_samples halved shifted (2 * half) (merged wavelet half l)

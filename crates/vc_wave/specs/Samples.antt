@@ -2,7 +2,8 @@
 use Rattle.std.specs.Prelude.{ℕ, ◌-◌, ◌^◌, ℤ, pos, ◌-ℤ◌, min}
 use Rattle.vc_types.specs.Rasters.{Raster, sample_at}
 
--- the sample in column x and row y less half of the range of so many bits; past the last column and row, that of the last
+-- the sample in column x and row y less half of the range of so many bits; past the last column and
+-- row, that of the last
 abbrev pub padded_sample : Raster → ℕ → ℕ → ℕ → ℤ
 padded_sample p depth x y =
     pos (sample_at p (min x (p.width - 1)) (min y (p.height - 1))) -ℤ pos (2 ^ (depth - 1))

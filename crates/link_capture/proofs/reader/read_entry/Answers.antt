@@ -1,6 +1,6 @@
 use Rattle.std.proofs.Common.{◌≡◌, length, drop, arith, refl}
 use Rattle.std.proofs.Math.Seq.{take-append_seam}
-use Rattle.link_capture.proofs.Parts.{cut_in_length, fault_in_length, part_without_memory, whole_entry, cut_in_datagram, fault_in_datagram}
+use Rattle.link_capture.proofs.EntrySteps.{cut_in_length, fault_in_length, part_without_memory, whole_entry, cut_in_datagram, fault_in_datagram}
 use Rattle.link_capture.proofs.reader.read_entry.Goals as goal
 
 pub returns-in-End-clause-entry : goal.returns-in-End-clause-entry

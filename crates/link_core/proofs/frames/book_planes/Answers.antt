@@ -5,7 +5,7 @@ use Rattle.vc_types.specs.SequenceHeader.{picture_shape}
 use Rattle.vc_types.specs.Subbands.{slice_count}
 use Rattle.vc_types.specs.TransformParameters.{parameters_of}
 use Rattle.frame_writer.specs.Shapes.{HaveShape}
-use Rattle.link_core.proofs.Shaped.{built-shape}
+use Rattle.frame_shapes.proofs.BuiltShapes.{built-shape}
 use Rattle.link_core.proofs.SoundAnswers.{slices_count, slices_whole, plan_shape}
 use Rattle.link_core.proofs.frames.book_planes.Goals as goal
 

@@ -2,8 +2,9 @@ use Rattle.std.proofs.Common.{subst, arith, inr, refl, List, ℕ, []}
 use Rattle.vc_ports.specs.Reading.{GaveAll, Gave}
 use Rattle.vc_units.proofs.Infos.{data_unit-stub}
 use Rattle.pack_command.specs.Packs.{pack_settings}
-use Rattle.pack_command.proofs.Loops.{at_edge}
-use Rattle.pack_command.proofs.Stopping.{none_of, input_failed, past_limit, packs_whole, packs_part}
+use Rattle.pack_command.proofs.UnitsPacked.{at_edge}
+use Rattle.play_command.proofs.Stopping.{none_of}
+use Rattle.pack_command.proofs.Stopping.{input_failed, past_limit, packs_whole, packs_part}
 use Rattle.pack_command.proofs.command.pack.Goals as goal
 
 -- the units ended

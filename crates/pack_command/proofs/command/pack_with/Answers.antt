@@ -3,7 +3,7 @@ use Rattle.vc_types.specs.DataUnits.{is_end_of_sequence}
 use Rattle.vc_types.specs.SenderSettings.{packing_view}
 use Rattle.vc_units.specs.Reading.{unit_of}
 use Rattle.link_stream.specs.Packed.{nothing_packed, packed_behind}
-use Rattle.pack_command.proofs.Loops.{begun, with_unit, with_last, at_edge}
+use Rattle.pack_command.proofs.UnitsPacked.{begun, with_unit, with_last, at_edge}
 use Rattle.pack_command.proofs.Few.{within_upto}
 use Rattle.pack_command.proofs.Stopping.{unit_unread, unit_unpacked}
 use Rattle.pack_command.proofs.command.pack_with.Goals as goal

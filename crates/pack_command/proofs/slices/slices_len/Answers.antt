@@ -5,7 +5,8 @@ use Rattle.vc_types.specs.Fields.{and_then}
 use Rattle.vc_types.specs.Slices.{slice_length}
 use Rattle.vc_types.specs.Subbands.{slice_count}
 use Rattle.vc_types.specs.TransformParameters.{parameters_of}
-use Rattle.pack_command.proofs.Slicing.{all_cut, cut_to, cut_within, no_more, none_more, one_more, put_none, put_one}
+use Rattle.picture_pack.proofs.Cutting.{cut_within}
+use Rattle.pack_command.proofs.Slicing.{all_cut, cut_to, no_more, none_more, one_more, put_none, put_one}
 use Rattle.pack_command.proofs.slices.slices_len.Goals as goal
 
 pub loop-slice-init : goal.loop-slice-init

@@ -2,7 +2,7 @@ use Rattle.std.proofs.Common.{◌∙◌, Ok, Err, Option, ap, subst, arith, inr,
 use Rattle.vc_ports.specs.Reading.{GaveAll, Gave}
 use Rattle.vc_units.proofs.Infos.{data_unit-stub}
 use Rattle.play_command.specs.Looping.{summary_of}
-use Rattle.play_command.proofs.Loops.{at_edge}
+use Rattle.play_command.proofs.UnitsRead.{at_edge}
 use Rattle.play_command.proofs.Players.{summary_is}
 use Rattle.play_command.proofs.Stopping.{none_of, input_failed, past_limit, plays_whole, plays_part}
 use Rattle.play_command.proofs.command.play.Goals as goal

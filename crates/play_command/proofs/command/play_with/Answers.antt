@@ -4,7 +4,7 @@ use Rattle.vc_units.specs.Reading.{unit_of}
 use Rattle.play_command.specs.Stream.{at_start, after_unit}
 use Rattle.play_command.specs.Taking.{CountsAtMost}
 use Rattle.play_command.specs.Views.{player_state}
-use Rattle.play_command.proofs.Loops.{begun, with_unit, with_last, at_edge}
+use Rattle.play_command.proofs.UnitsRead.{begun, with_unit, with_last, at_edge}
 use Rattle.play_command.proofs.Players.{within_upto}
 use Rattle.play_command.proofs.Stopping.{unit_unread, unit_untaken}
 use Rattle.play_command.proofs.command.play_with.Goals as goal

@@ -1,7 +1,7 @@
 use Rattle.std.proofs.Common.{ap, ◌∙◌}
 use Rattle.vc_types.specs.declared.rect.Rect.{Rect}
 use Rattle.vc_types.specs.Subbands.{share, slice_rectangle}
-use Rattle.vc_geometry.proofs.Parts.{part_at}
+use Rattle.vc_geometry.proofs.RectanglesInTurn.{part_at}
 use Rattle.vc_geometry.proofs.slices.slice_rect.Goals as goal
 
 pub returns-clause-value : goal.returns-clause-value

@@ -2,7 +2,7 @@ use Rattle.std.proofs.Common.{◌≡◌, arith, subst, ◌∙◌}
 use Rattle.std.proofs.lemmas.List.{length-set}
 use Rattle.vc_types.specs.TransformParameters.{parameters_of}
 use Rattle.vc_geometry.specs.Rectangles.{ArePartsOf}
-use Rattle.vc_geometry.proofs.Parts.{no_parts, part_at, part_more}
+use Rattle.vc_geometry.proofs.RectanglesInTurn.{no_parts, part_at, part_more}
 use Rattle.vc_geometry.proofs.slices.slice_rects.Goals as goal
 
 pub loop-b-init : goal.loop-b-init

@@ -1,7 +1,7 @@
 use Rattle.std.proofs.Common.{rules, ◌∙◌, Ok, Err, ◌≡◌, length, drop, arith, refl, sym}
 use Rattle.std.proofs.Math.Seq.{take-append_seam}
 use Rattle.vc_units.specs.declared.fault.UnitFault.TheVariants.{ReadFault}
-use Rattle.vc_units.proofs.Parts.{cut_in_info, fault_in_info, fault_is, no_read_fault, refused_info, part_without_memory, whole_unit, cut_in_body, fault_in_body}
+use Rattle.vc_units.proofs.UnitSteps.{cut_in_info, fault_in_info, fault_is, no_read_fault, refused_info, part_without_memory, whole_unit, cut_in_body, fault_in_body}
 use Rattle.vc_units.proofs.reader.read_unit.Goals as goal
 
 pub returns-in-End-clause-unit : goal.returns-in-End-clause-unit

@@ -1,5 +1,5 @@
 use Rattle.std.proofs.Common.{◌++◌, ◌∷◌, [], ◌∙◌, ◌+◌, ℕ, ap, arith, refl, length-append}
-use Rattle.link_capture.proofs.Loops.{begun, with_entry, at_fault}
+use Rattle.link_capture.proofs.EntriesRead.{begun, with_entry, at_fault}
 use Rattle.link_capture.proofs.tests.counting.count_with.Goals as goal
 
 pub entries-init : goal.entries-init

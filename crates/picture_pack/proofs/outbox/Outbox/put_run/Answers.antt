@@ -5,7 +5,7 @@ use Rattle.vc2_payload.specs.Views.{head_of}
 use Rattle.picture_pack.specs.Runs.{run_with_slices}
 use Rattle.link_sender.proofs.Numbered.{both_ok}
 use Rattle.picture_pack.proofs.Putting.{puts_one}
-use Rattle.picture_pack.proofs.Lengths.{most_room, slices_length}
+use Rattle.link_sender.proofs.PayloadLengths.{most_room, slices_length}
 use Rattle.picture_pack.proofs.outbox.Outbox.put_run.Goals as goal
 
 pub put-requires-clause-fits : goal.put-requires-clause-fits

@@ -4,7 +4,7 @@ use Rattle.vc_types.specs.Planes.{planes_in}
 use Rattle.vc_types.specs.SequenceHeader.{sequence_of}
 use Rattle.play_command.specs.Views.{playback_state, picture_of}
 use Rattle.play_command.proofs.Completing.{completes-pair}
-use Rattle.play_command.proofs.Weavable.{field_heights}
+use Rattle.frame_shapes.proofs.Weaving.{field_heights}
 use Rattle.play_command.proofs.playback.Playback.completed.Goals as goal
 
 pub weave-requires-clause-heights : goal.weave-requires-clause-heights

@@ -10,11 +10,7 @@ use Rattle.link_capture.specs.Reading.{ReadsEntry, place_after_entry}
 use Rattle.link_capture.specs.declared.fault.EntryFault.{EntryFault}
 use Rattle.link_capture.specs.declared.fault.EntryFault.TheVariants.{Cut, ReadFault, NoMemory}
 use Rattle.link_capture.proofs.Heads.{length-entry}
-use Rattle.link_capture.proofs.Entries.{entries_of-nothing, entries_of-next, entries_of-cut}
-
-nothing_is_part : first_entry [] ≡ None
-unfolding first_entry
-nothing_is_part = refl
+use Rattle.link_capture.proofs.Entries.{entries_of-nothing, entries_of-next, entries_of-cut, none-in-nothing}
 
 -- before the first entry
 pub begun : (before : Option (List ℕ)) → GaveEntries before before 0 [] []
@@ -42,7 +38,7 @@ with_rest before mid after place entries part heard gave not_whole = record {
 
 -- the end at an entry's edge
 pub at_edge : (before mid after : Option (List ℕ)) (place : ℕ) (entries : List (List ℕ)) → GaveEntries before mid place entries [] → ReadsEntry mid after place (Ok None) → Ends before after place entries None
-at_edge before mid after place entries heard read = (with_rest before mid after place entries [] heard read.gave nothing_is_part, read.at_end)
+at_edge before mid after place entries heard read = (with_rest before mid after place entries [] heard read.gave none-in-nothing, read.at_end)
 
 -- the end by a fault
 pub at_fault : (before mid after : Option (List ℕ)) (place : ℕ) (entries : List (List ℕ)) (fault : EntryFault) → GaveEntries before mid place entries [] → ReadsEntry mid after place (Err fault)

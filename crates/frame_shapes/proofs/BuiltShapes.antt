@@ -1,4 +1,4 @@
--- The planes that a picture of a sequence has.
+-- The planes of a picture that was built have its shape.
 use Rattle.std.proofs.Common.{◌≡◌, ℕ, ◌<◌, ◌≤◌, ◌^◌, List, false, subst, arith}
 use Rattle.std.specs.Prelude.{IsTrue}
 use Rattle.std.proofs.Math.Pow.{pow_mono}
@@ -17,30 +17,40 @@ use Rattle.vc_types.specs.declared.video.Component.TheVariants.{Y, C1, C2}
 use Rattle.frame_writer.specs.Shapes.{HaveShape}
 
 below_byte : (depth sample : ℕ) → depth ≤ 8 → sample < 2 ^ depth → sample < 256
-below_byte depth sample narrow h = omega (arith, pow_mono narrow)
+below_byte depth sample narrow below = omega (arith, pow_mono narrow)
 
-narrow_luma : (s : Shape) → is_wide s ≡ false → s.luma_depth ≤ 8
-narrow_luma s narrow = grind (arith, nat_tests)
-
-narrow_colour : (s : Shape) → is_wide s ≡ false → s.colour_depth ≤ 8
-narrow_colour s narrow = grind (arith, nat_tests)
+narrow_depth : (shape : Shape) (c : Component) → is_wide shape ≡ false → plane_depth shape c ≤ 8
+narrow_depth shape Y narrow = grind (arith, nat_tests)
+narrow_depth shape C1 narrow = grind (arith, nat_tests)
+narrow_depth shape C2 narrow = grind (arith, nat_tests)
 
 module _ (p : Parameters) (slices : List Coefficients) (fits : IsTrue (shape_fits p.shape)) where
-  component_fits : (c : Component) → plane_depth p.shape c ≤ 8 → FitBytes (component_plane p c slices).samples
-  component_fits c narrow i d h = below_byte (plane_depth p.shape c) _ narrow (component_plane-samples p c slices fits i d h)
+  component_fits : (c : Component) → is_wide p.shape ≡ false
+      → FitBytes (component_plane p c slices).samples
+  component_fits c narrow i d below = below_byte (plane_depth p.shape c) _
+      (narrow_depth p.shape c narrow) (component_plane-samples p c slices fits i d below)
 
-  own_shape : HaveShape p.shape (planes_of p slices)
+  pub own_shape : HaveShape p.shape (planes_of p slices)
   own_shape = record {
-    y = record { width = component_plane-width p Y slices; height = component_plane-height p Y slices };
-    c1 = record { width = component_plane-width p C1 slices; height = component_plane-height p C1 slices };
-    c2 = record { width = component_plane-width p C2 slices; height = component_plane-height p C2 slices };
+    y = record {
+      width = component_plane-width p Y slices;
+      height = component_plane-height p Y slices;
+    };
+    c1 = record {
+      width = component_plane-width p C1 slices;
+      height = component_plane-height p C1 slices;
+    };
+    c2 = record {
+      width = component_plane-width p C2 slices;
+      height = component_plane-height p C2 slices;
+    };
     narrow = λ narrow. record {
-      y = component_fits Y (narrow_luma p.shape narrow);
-      c1 = component_fits C1 (narrow_colour p.shape narrow);
-      c2 = component_fits C2 (narrow_colour p.shape narrow);
+      y = component_fits Y narrow;
+      c1 = component_fits C1 narrow;
+      c2 = component_fits C2 narrow;
     };
   }
 
-  -- the planes of a picture whose parameters are of this shape
+  -- where the parameters are of this shape
   pub built-shape : (shape : Shape) → p.shape ≡ shape → HaveShape shape (planes_of p slices)
   built-shape shape same = subst (λ (s : Shape). HaveShape s (planes_of p slices)) same own_shape

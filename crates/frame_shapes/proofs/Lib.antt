@@ -1,0 +1,2 @@
+pub mod BuiltShapes
+pub mod Weaving
