@@ -7,4 +7,5 @@ mod Judged
 mod FirstSlices
 mod PlanFacts
 mod SmallPicture
+mod WidePicture
 mod CopiedSlices

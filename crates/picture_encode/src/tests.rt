@@ -6,6 +6,8 @@ ghost use Rattle.vc_types.specs.SenderSettings.{sending_view};
 ghost use Rattle.vc_types.specs.declared.choice.IndexChoice.TheVariants.{Index};
 ghost use Rattle.vc_types.specs.declared.video.Sampling.TheVariants.{S444};
 
+mod wide;
+
 use crate::{
     Chooser, EncodedSlice, SliceRefusal, encode_picture, encode_picture_joined, header_of, plan_of,
 };

@@ -5,7 +5,7 @@ use Rattle.std.proofs.lemmas.Bool.{and_parts, cases_lt, eqb-true, leb-true}
 use Rattle.std.proofs.Math.Nat.{mul-le-mul_right, mul-le-mul_left, div-mul-le_self, lt-div-mul-add, div-eq_of_lt-le, pow-le-pow_right, pow-suc, le-div_iff_mul-le}
 use Rattle.vc_types.specs.Quantisation.{quant_factor}
 use Rattle.vc_quant.specs.Reciprocal.{IsReciprocal}
-use Rattle.vc_quant.specs.declared.last.TheConstants.{FACTORS, RECIPROCALS}
+use Rattle.vc_quant.specs.declared.last.TheConstants.{FACTORS, LASTS, RECIPROCALS}
 use Rattle.vc_quant.specs.declared.reciprocal.TheConstants.{FACTOR_RECIPROCALS}
 
 -- ---- a quotient
@@ -104,6 +104,34 @@ last_is last quarters few reached next q within = (
   (λ reach. elim (cases_lt last q) [ inl lt ↦ absurd (omega (arith, next (omega arith), rises (last + 1) q (omega arith) within)) | inr le2 ↦ le2 ]),
   (λ le. omega (arith, rises q last le few)),
 )
+
+-- ---- the last index, by the table
+
+is_last : ℕ → ℕ → Bool
+is_last quarters last = leb last 126 && (leb (quant_factor last) quarters && leb (quarters + 1) (quant_factor (last + 1)))
+
+all_lasts : holds_below (λ k. is_last (k + 4) (get_or LASTS (k + 4) 0)) 508 ≡ true
+unfolding quant_factor is_last
+all_lasts = refl
+
+pub record IsLast (quarters last : ℕ) : Type 0 where
+  pub value : (q : ℕ) → q ≤ 127 → (quant_factor q ≤ quarters) ↔ (q ≤ last)
+  pub range : last ≤ 127
+
+last_from : (quarters last : ℕ) → is_last quarters last ≡ true → IsLast quarters last
+unfolding is_last
+last_from quarters last test =
+    let parts = and_parts _ _ test in
+    let both = and_parts _ _ parts.1 in
+    let few = leb-true last 126 parts.0 in
+    let here = leb-true (quant_factor last) quarters both.0 in
+    let next = leb-true (quarters + 1) (quant_factor (last + 1)) both.1 in
+    record { value = last_is last quarters (omega (arith, few)) here (λ lt. omega (arith, next)); range = omega (arith, few) }
+
+pub last_at : (quarters : ℕ) → 4 ≤ quarters → quarters < 512 → IsLast quarters (get_or LASTS quarters 0)
+last_at quarters some few =
+    let same : quarters - 4 + 4 ≡ quarters = omega arith in
+    subst (λ (n : ℕ). IsLast n (get_or LASTS n 0)) same (last_from (quarters - 4 + 4) (get_or LASTS (quarters - 4 + 4) 0) (at (λ k. is_last (k + 4) (get_or LASTS (k + 4) 0)) 508 (quarters - 4) all_lasts (omega arith)))
 
 -- ---- the last index, four at a time
 

@@ -1,6 +1,6 @@
 use Rattle.std.proofs.Common.{◌≡◌, ◌↔◌, ◌+◌, ◌-◌, ◌*◌, ◌≤◌, ℕ, arith, subst}
 use Rattle.vc_quant.proofs.Quotients.{all_reached, some_power, few_powers, first_reached, fourth_not, factor_at, reached}
-use Rattle.vc_quant.proofs.last.last_index.Goals as goal
+use Rattle.vc_quant.proofs.last.last_of_many.Goals as goal
 
 pub returns-then-quarters-clause-value : goal.returns-then-quarters-clause-value
 returns-then-quarters-clause-value c = all_reached c.args.quarters (omega arith)
