@@ -131,6 +131,43 @@ fn copy_row(cells: &mut [i32], at: usize, numbers: &[i32], from: usize, width: u
         → line_of cells.new k ≡ line_of cells.old k }
     ensures length { length cells.new ≡ length cells.old }
 {
+    match width {
+        1 => copy_few(cells, at, numbers, from, 1),
+        2 => copy_few(cells, at, numbers, from, 2),
+        4 => copy_few(cells, at, numbers, from, 4),
+        8 => copy_few(cells, at, numbers, from, 8),
+        _ => copy_many(cells, at, numbers, from, width),
+    }
+}
+
+// The same for a few cells: all numbers are read before one is written, so that they go over at once.
+#[inline(always)]
+fn copy_few(cells: &mut [i32], at: usize, numbers: &[i32], from: usize, width: usize)
+    requires few { width ≤ 8 }
+    requires at { at + width ≤ length cells.old }
+    requires from { from + width ≤ length numbers.now }
+    ensures on { (x : ℕ) → x < width → line_of cells.new (at + x) ≡ line_of numbers.now (from + x) }
+    ensures off { (k : ℕ) → (k < at) ⊎ (at + width ≤ k)
+        → line_of cells.new k ≡ line_of cells.old k }
+    ensures length { length cells.new ≡ length cells.old }
+{
+    let mut few = [0; 8];
+    for x in 0..width {
+        few[x] = numbers[from + x];
+    }
+    for x in 0..width {
+        cells[at + x] = few[x];
+    }
+}
+
+fn copy_many(cells: &mut [i32], at: usize, numbers: &[i32], from: usize, width: usize)
+    requires at { at + width ≤ length cells.old }
+    requires from { from + width ≤ length numbers.now }
+    ensures on { (x : ℕ) → x < width → line_of cells.new (at + x) ≡ line_of numbers.now (from + x) }
+    ensures off { (k : ℕ) → (k < at) ⊎ (at + width ≤ k)
+        → line_of cells.new k ≡ line_of cells.old k }
+    ensures length { length cells.new ≡ length cells.old }
+{
     for x in 0..width {
         cells[at + x] = numbers[from + x];
     }

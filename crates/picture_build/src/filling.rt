@@ -10,12 +10,17 @@ ghost use Rattle.vc_types.specs.Quantisation.{subband_count};
 ghost use Rattle.vc_types.specs.Subbands.{area, place_in, padded_width, padded_height, slice_count, slice_coefficient_count, slice_rectangle, subband_at};
 ghost use Rattle.vc_types.specs.TransformParameters.{parameters_of};
 ghost use Rattle.vc_slice.specs.Coded.{coded_of};
+ghost use Rattle.vc_slice.specs.Quantisers.{AreSliceQuantisers};
 ghost use Rattle.picture_build.specs.Cells.{cell_number};
 ghost use Rattle.picture_build.specs.Kept.{kept_at, ChangesOnly, FillsSlice};
 
 use crate::cells::CoefficientCells;
 use vc_geometry::{bands, padded, place_of, slice_len, slice_rects};
-use vc_slice::{CodedSlice, CoefficientList, SliceCoeffs, TooWide, coded_slice, read_narrow_in};
+use vc_quant::Quantiser;
+use vc_slice::{
+    CodedSlice, CoefficientList, SliceCoeffs, TooWide, coded_slice, read_narrow_with,
+    slice_quantisers,
+};
 use vc_types::{Component, Plan, Rect};
 
 const NOWHERE: Rect = Rect {
@@ -159,6 +164,8 @@ pub(crate) fn put_blocks(
         ≡ Ok (all_coefficients (parameters_of plan.now) slice (coded_of coded.now))) }
 {
     let index = coded.index;
+    let mut quantisers = [Quantiser::new(index); 16];
+    slice_quantisers(plan, index, &mut quantisers);
     let mut rects = [NOWHERE; 16];
     slice_rects(plan, Component::Y, slice, &mut rects);
     put_block(
@@ -168,6 +175,7 @@ pub(crate) fn put_blocks(
         index,
         coded.y,
         &rects,
+        &quantisers,
         numbers,
         y,
     )?;
@@ -179,6 +187,7 @@ pub(crate) fn put_blocks(
         index,
         coded.c1,
         &rects,
+        &quantisers,
         numbers,
         c1,
     )?;
@@ -189,6 +198,7 @@ pub(crate) fn put_blocks(
         index,
         coded.c2,
         &rects,
+        &quantisers,
         numbers,
         c2,
     )
@@ -201,6 +211,7 @@ fn put_block(
     index: u8,
     block: &[u8],
     rects: &[Rect],
+    quantisers: &[Quantiser],
     numbers: &mut [i32],
     cells: &mut CoefficientCells,
 ) -> Result<(), TooWide>
@@ -208,6 +219,8 @@ fn put_block(
     requires index { index ≤ 127 }
     requires rects { AreSliceRectangles (parameters_of plan.now) c slice rects.now }
     requires all { subband_count plan.now.depth_ho plan.now.depth ≤ length rects.now }
+    requires quantisers { AreSliceQuantisers (parameters_of plan.now) index quantisers.now }
+    requires known { subband_count plan.now.depth_ho plan.now.depth ≤ length quantisers.now }
     requires room { slice_coefficient_count (parameters_of plan.now) c slice + 8
         ≤ length numbers.old }
     requires cells { length cells.old
@@ -218,7 +231,7 @@ fn put_block(
     ensures sound { OnOk result (list_any is_large
         (block_coefficients (parameters_of plan.now) c slice index block.now) ≡ false) }
 {
-    read_narrow_in(plan, c, slice, index, block, rects, numbers)?;
+    read_narrow_with(plan, c, slice, index, block, rects, quantisers, numbers)?;
     place_numbers(plan, c, slice, rects, numbers, cells);
     Ok(())
 }
