@@ -97,6 +97,46 @@ fn a_slice_is_filled_in(rt: HostRuntime) -> Result<(), Fail> {
     Ok(())
 }
 
+// Luma of the first slice is -15 in LL; that of the second is as wide as `WIDE` says, or nothing.
+fn both_filled(
+    alloc: Global,
+    builder: &mut PictureBuilder,
+    plan: &Plan,
+    second: &'static [u8],
+    is_first: bool,
+) -> Result<[Plane; 3], Fail>
+    requires plan { builder.old.parameters ≡ parameters_of plan.now }
+    requires two { (plan.now.slices_x ≡ 2) × (plan.now.slices_y ≡ 1) }
+    ensures plan { builder.new.parameters ≡ parameters_of plan.now }
+{
+    let narrow = decoded(alloc, *plan, 0, &[0, 1, 0, 0, 0])?;
+    let other = decoded(alloc, *plan, 1, second)?;
+    if is_first {
+        fill(builder, plan, 1, &other)?;
+        fill(builder, plan, 0, &narrow)?;
+    } else {
+        fill(builder, plan, 0, &narrow)?;
+        fill(builder, plan, 1, &other)?;
+    }
+    shown(builder, plan)
+}
+
+// Samples that are too bright are clipped. In the third picture nothing is left of the two before.
+#[test]
+fn a_wide_slice_is_filled_in_beside_a_narrow_one(rt: HostRuntime) -> Result<(), Fail> {
+    let plan = two_slices();
+    let mut builder = PictureBuilder::new(rt.alloc(), plan)?;
+    let bright = [113, 113, 128, 128, 255, 255, 128, 128];
+    let last = both_filled(rt.alloc(), &mut builder, &plan, WIDE, false)?;
+    assert!(rt; last[0].samples().starts_with(&bright));
+    let first = both_filled(rt.alloc(), &mut builder, &plan, WIDE, true)?;
+    assert!(rt; first[0].samples().starts_with(&bright));
+    let none = both_filled(rt.alloc(), &mut builder, &plan, &[0, 0, 0, 0], false)?;
+    let dark = [113, 113, 128, 128, 128, 128, 128, 128];
+    assert!(rt; none[0].samples().starts_with(&dark));
+    Ok(())
+}
+
 #[test]
 fn an_unsound_slice_leaves_the_picture(rt: HostRuntime) -> Result<(), Fail> {
     let plan = two_slices();
