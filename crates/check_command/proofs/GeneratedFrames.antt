@@ -1,4 +1,4 @@
--- Generated frames have the sizes of the settings, and no sample that is too large.
+-- Generated frames have no sample that is too large.
 use Rattle.std.proofs.Common.{◌≡◌, ◌≤◌, ◌<◌, ℕ, ◌+◌, ◌^◌, Bool, true, false, List, [], ◌∷◌, All, Option, Some, None, refl, sym, ap, ◌∙◌, arith}
 use Rattle.std.specs.Prelude.{IsTrue, drop, if◌then◌else◌, nat_lt}
 use Rattle.std.specs.Option.{option_or}
@@ -9,7 +9,7 @@ use Rattle.link_gen.specs.Defaults.{sent_by_default, shape_of_frames}
 use Rattle.link_gen.specs.Generator.{generated_frame, plane_samples, samples_before, state_behind}
 use Rattle.link_model.specs.Sending.{pictures_of}
 use Rattle.link_model.specs.SendingFaults.{SendFault, SampleRange, first_of_slices, first_outside, first_sample_fault, first_slice_fault, is_too_large, send_fault, slice_fault}
-use Rattle.link_model.specs.SendingPictures.{IsFrame, sent_parameters, sent_sequence, slices_with_indices}
+use Rattle.link_model.specs.SendingPictures.{sent_parameters, sent_sequence, slices_with_indices}
 use Rattle.vc_types.specs.declared.video.Component.TheVariants.{Y, C1, C2}
 use Rattle.vc_types.specs.Planes.{Planes}
 use Rattle.vc_types.specs.SenderSettings.{Frames, Sending}
@@ -17,16 +17,6 @@ use Rattle.vc_types.specs.SequenceHeader.{picture_shape}
 use Rattle.vc_types.specs.Settings.{within}
 use Rattle.vc_types.specs.Subbands.{slice_count}
 use Rattle.frame_comparison.proofs.SampleBits.{few_luma_bits, same_depth}
-
-pub is_frame : (f : Frames) (z : ℕ) → IsFrame (sent_by_default f) (generated_frame (shape_of_frames f) z)
-unfolding generated_frame picture_shape sent_sequence
-is_frame f z = record {
-  y = record { width = refl; height = refl };
-  c1 = record { width = refl; height = refl };
-  c2 = record { width = refl; height = refl };
-}
-
--- ---- samples
 
 below_is : (m n : ℕ) → m < n → nat_lt m n ≡ true
 below_is m n below = grind arith
