@@ -1,4 +1,4 @@
-use Rattle.std.proofs.Common.{◌≡◌, ◌++◌, ◌∷◌, [], List, Bool, ℕ, length, replicate, ap, ◌∙◌, refl, arith}
+use Rattle.std.proofs.Common.{◌≡◌, ◌++◌, List, ℕ, length, replicate, ap, ◌∙◌, arith}
 use Rattle.vc_types.specs.Bits.{bits_of}
 use Rattle.vc_slice.specs.Inside.{padded_block}
 use Rattle.vc_slice.proofs.PaddedBlocks.{grown, headed, three_put}

@@ -1,5 +1,4 @@
-use Rattle.std.proofs.Common.{◌≡◌, ◌+◌, ◌-◌, ◌*◌, ℕ, length, ap, refl, arith}
-use Rattle.vc_slice.specs.Inside.{units_for}
+use Rattle.std.proofs.Common.{◌+◌, ◌-◌, ◌*◌, ℕ, length, ap, arith}
 use Rattle.vc_slice.proofs.PaddedBlocks.{grown, put}
 use Rattle.vc_slice.proofs.blocks.put_block.Goals as goal
 

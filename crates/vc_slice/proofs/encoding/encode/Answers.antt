@@ -1,7 +1,7 @@
 use Rattle.std.proofs.Common.{◌∙◌, sym}
 use Rattle.vc_types.specs.TransformParameters.{parameters_of}
 use Rattle.vc_slice.proofs.EncodedSlices.{some_scaler}
-use Rattle.vc_slice.proofs.PaddedBlocks.{each_fits, length_up_slice, slice_up, too_long_up}
+use Rattle.vc_slice.proofs.PaddedBlocks.{length_up_slice, slice_up, too_long_up}
 use Rattle.vc_slice.proofs.encoding.encode.Goals as goal
 
 pub returns-then-are_too_long-clause-too_long : goal.returns-then-are_too_long-clause-too_long
