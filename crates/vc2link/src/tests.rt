@@ -4,6 +4,7 @@ mod captures;
 mod coming_back;
 mod damage;
 mod decoding;
+mod disorder;
 mod encoding;
 mod faults;
 mod generating;

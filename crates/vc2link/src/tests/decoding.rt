@@ -23,7 +23,7 @@ fn run<H: Threads + Copy + Send + Sync>(
 }
 
 // The same over a crew.
-fn run_with_crew<H: Threads + Wait + Copy + Send + Sync + 'static>(
+pub(super) fn run_with_crew<H: Threads + Wait + Copy + Send + Sync + 'static>(
     rt: H,
     alloc: Global,
     line: &str,
