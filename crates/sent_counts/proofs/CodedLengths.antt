@@ -1,5 +1,5 @@
 -- How long the blocks and the slices of small coefficients are.
-use Rattle.std.proofs.Common.{◌≡◌, ℕ, zero, suc, ◌+◌, ◌*◌, ◌/◌, ◌^◌, ◌<◌, ◌≤◌, ℤ, pos, negsuc, unsigned_abs, Bool, true, false, cond, List, [], ◌∷◌, length, map, drop, refl, ap, ◌∙◌, arith}
+use Rattle.std.proofs.Common.{◌≡◌, ℕ, zero, suc, ◌+◌, ◌-◌, ◌*◌, ◌/◌, ◌^◌, ◌<◌, ◌≤◌, ℤ, pos, negsuc, unsigned_abs, Bool, true, false, cond, List, [], ◌∷◌, length, map, drop, refl, ap, ◌∙◌, arith}
 use Rattle.std.specs.Prelude.{◌==◌}
 use Rattle.std.specs.Int.Digits.{digits_of}
 use Rattle.std.specs.List.{flat_map, range_with_len, zip}
@@ -7,8 +7,7 @@ use Rattle.std.proofs.lemmas.Int.{ints}
 use Rattle.std.proofs.lemmas.Int.Digits.{length-digits_of-le}
 use Rattle.std.proofs.lemmas.List.{length-append, length-drop}
 use Rattle.std.proofs.lemmas.List.Concat.{flat_map-cons}
-use Rattle.std.proofs.Math.Nat.{mul-le-mul_right, div-le_of_le-mul, pow-suc}
-use Rattle.vc_slice.proofs.EncodedSlices.{units_fit}
+use Rattle.std.proofs.Math.Nat.{div-mul-le_self, mul-le-mul_right, div-le_of_le-mul, pow-suc}
 use Rattle.vc_types.specs.declared.video.Component.{Component}
 use Rattle.vc_types.specs.declared.video.Component.TheVariants.{Y, C1, C2}
 use Rattle.vc_types.specs.Codes.{uint_bits, spread_digits, sign_bits, sint_bits}
@@ -106,7 +105,7 @@ block_short p c slice index n zs h = rw h.are (few_bits h.at h.small n 0 (quanti
 
 units_short : (scaler bits n : ℕ) → bits ≤ 128 * n → scaler * block_units scaler bits ≤ 16 * n + scaler
 units_short scaler bits n few =
-    let most = units_fit bits scaler in
+    let most : block_units scaler bits * scaler ≤ (bits + 7) / 8 + scaler - 1 = div-mul-le_self ((bits + 7) / 8 + scaler - 1) scaler in
     let bytes : (bits + 7) / 8 ≤ 16 * n = omega (arith, few) in
     omega (arith, most, bytes)
 
