@@ -38,7 +38,8 @@ pub(crate) trait Transform {
         requires { (slices : List Coefficients) × AllAreIn (parameters_of plan.now) slices
             cells.now.y.now cells.now.c1.now cells.now.c2.now }
         ensures { IfOk result (λ planes. (slices : List Coefficients)
-            → AllAreIn (parameters_of plan.now) slices cells.now.y.now cells.now.c1.now cells.now.c2.now
+            → AllAreIn (parameters_of plan.now) slices
+            cells.now.y.now cells.now.c1.now cells.now.c2.now
             → planes_in planes ≡ planes_of (parameters_of plan.now) slices) };
 }
 
@@ -119,7 +120,8 @@ fn colours(
     cells: &PictureCells<'_>,
     work: &mut Vec<i32>,
 ) -> (Answer, Answer)
-    requires { (slices : List Coefficients) × AreIn (parameters_of plan.now) C1 slices cells.now.c1.now
+    requires { (slices : List Coefficients)
+        × AreIn (parameters_of plan.now) C1 slices cells.now.c1.now
         × AreIn (parameters_of plan.now) C2 slices cells.now.c2.now }
     ensures c1 { IfOk result.0 (λ plane. (slices : List Coefficients)
         → AreIn (parameters_of plan.now) C1 slices cells.now.c1.now
