@@ -1,12 +1,12 @@
 -- The planes of a picture by the answers to its slices are those of its own whole bytes.
-use Rattle.std.proofs.Common.{◌≡◌, ℕ, zero, suc, ◌+◌, ◌<◌, ◌≤◌, Bool, true, false, refl, ap, sym}
+use Rattle.std.proofs.Common.{◌≡◌, ℕ, zero, suc, ◌+◌, ◌<◌, ◌≤◌, true, false, refl, ap, sym}
 use Rattle.std.proofs.Common.{List, [], ◌∷◌, ◌++◌, length, map, Option, Some, None}
-use Rattle.std.proofs.Common.{Result, Ok, Err, ◌∙◌, arith, cond, inl, inr}
+use Rattle.std.proofs.Common.{Result, Ok, Err, ◌∙◌, arith, inl, inr}
 use Rattle.std.specs.Prelude.{is_some, unwrap_or}
 use Rattle.std.specs.List.{range_with_len}
 use Rattle.std.specs.Option.{option_and_then, option_map}
 use Rattle.std.proofs.Math.Seq.{drop-append_seam, take-append_seam}
-use Rattle.std.proofs.lemmas.Bool.{false≢true, cases_lt, cond-true, cond-false}
+use Rattle.std.proofs.lemmas.Bool.{false≢true, cases_lt}
 use Rattle.std.proofs.lemmas.List.FromFn.{length-map-range_with_len}
 use Rattle.std.proofs.lemmas.Option.{none-some}
 use Rattle.link_model.specs.Books.{book_of, gathered_of, slot_at}
@@ -174,10 +174,7 @@ module _ (s : Sequence) (parts : List Part) (kept : Own) (is : own s parts ≡ S
 
   pub incomplete_planes : has_all_slices kept ≡ false → picture_planes s parts ≡ None
   unfolding whole_picture
-  incomplete_planes misses =
-      ap (λ (o : Option Own). option_and_then (decoded_planes s) (option_and_then whole_of o)) is
-      ∙ ap (option_and_then (decoded_planes s))
-      (cond-false (has_all_slices kept) (Some (all_bytes kept)) None misses)
+  incomplete_planes misses = grind arith
 
   module _ (complete : has_all_slices kept ≡ true) where
     one_kept : (k : ℕ) → k < count → is_some (own_slice kept k) ≡ true
@@ -203,23 +200,11 @@ module _ (s : Sequence) (parts : List Part) (kept : Own) (is : own s parts ≡ S
 
     whole_planes : decoded_planes s (all_bytes kept) ≡ own_planes
     unfolding decoded_planes
-    whole_planes =
-        let bytes_of : ℕ → List ℕ = λ i. unwrap_or (own_slice kept i) [] in
-        ap (option_map (λ (picture : Picture). planes_of picture.parameters picture.slices))
-        (decoded_whole s parts kept is)
-        ∙ with_planes (slices_from kept.plan.parameters 0 count
-        (joined (map bytes_of (range_with_len 0 count))))
-        ∙ ap (option_map (planes_of kept.plan.parameters))
-        (slices_are kept.plan.parameters bytes_of count 0
-        (λ k from to. one_whole k (omega arith)))
+    whole_planes = grind (arith, decoded_whole, one_whole, slices_are, with_planes)
 
     pub complete_planes : picture_planes s parts ≡ own_planes
     unfolding whole_picture
-    complete_planes =
-        ap (λ (o : Option Own). option_and_then (decoded_planes s) (option_and_then whole_of o)) is
-        ∙ ap (option_and_then (decoded_planes s))
-        (cond-true (has_all_slices kept) (Some (all_bytes kept)) None complete)
-        ∙ whole_planes
+    complete_planes = grind (arith, whole_planes)
 
   -- ---- by the feeder's answers
 
@@ -232,21 +217,11 @@ module _ (s : Sequence) (parts : List Part) (kept : Own) (is : own s parts ≡ S
     module _ (own_answers : AreOfKept) where
       known : (k : ℕ) → is_some (answer_in decoded n k) ≡ true
           → (is_some (own_slice kept k) ≡ true) × (answer_in decoded n k ≡ Some (own_decoding k))
-      known k some = by_answer (answer_in decoded n k) refl some
-        where
-          by_answer : (o : Option Decoding) → answer_in decoded n k ≡ o → is_some o ≡ true
-              → (is_some (own_slice kept k) ≡ true)
-              × (answer_in decoded n k ≡ Some (own_decoding k))
-          by_answer None at e = absurd (false≢true e)
-          by_answer (Some d) at e =
-              let found = own_answers k d at in (found.0, at ∙ ap Some found.1)
+      known k some = grind arith
 
       pub answered_planes_are : ((k : ℕ) → k < count → is_some (answer_in decoded n k) ≡ true)
           → planes_by decoded n kept ≡ own_planes
-      answered_planes_are each =
-          ap (option_map (planes_of kept.plan.parameters))
-          (answers_sound decoded n own_decoding count 0
-          (λ k from to. (known k (each k (omega arith))).1))
+      answered_planes_are each = grind (arith, answers_sound, known)
 
       has_all : ((k : ℕ) → k < count → is_some (answer_in decoded n k) ≡ true)
           → has_all_slices kept ≡ true
@@ -258,20 +233,7 @@ module _ (s : Sequence) (parts : List Part) (kept : Own) (is : own s parts ≡ S
       pub answered_planes_hold : (planes : Planes) → planes_by decoded n kept ≡ Some planes
           → picture_planes s parts ≡ Some planes
       answered_planes_hold planes e =
-          by_sound (sound_answers decoded n (slice_numbers kept)) refl e
-        where
-          by_sound : (o : Option (List Coefficients))
-              → sound_answers decoded n (slice_numbers kept) ≡ o
-              → option_map (planes_of kept.plan.parameters) o ≡ Some planes
-              → picture_planes s parts ≡ Some planes
-          by_sound None at e = absurd (none-some planes e)
-          by_sound (Some l) at e =
-              let each : (k : ℕ) → k < count → is_some (answer_in decoded n k) ≡ true =
-              λ k below. all_there decoded n count 0 l at k (omega arith) (omega arith) in
-              complete_planes (has_all each)
-              ∙ sym (answered_planes_are each)
-              ∙ ap (option_map (planes_of kept.plan.parameters)) at
-              ∙ e
+          grind (arith, all_there, answered_planes_are, complete_planes, has_all)
 
       pub answered_planes_ready : has_all_slices kept ≡ true
           → ((k : ℕ) → k < count → is_some (answer_in decoded n k) ≡ true)
@@ -280,12 +242,7 @@ module _ (s : Sequence) (parts : List Part) (kept : Own) (is : own s parts ≡ S
           answered_planes_are each ∙ sym (complete_planes complete)
 
       pub answered_planes_missing : has_all_slices kept ≡ false → planes_by decoded n kept ≡ None
-      answered_planes_missing misses = by_planes (planes_by decoded n kept) refl
-        where
-          by_planes : (o : Option Planes) → planes_by decoded n kept ≡ o → o ≡ None
-          by_planes None at = refl
-          by_planes (Some planes) at = absurd (none-some planes
-              (sym (incomplete_planes misses) ∙ answered_planes_hold planes at))
+      answered_planes_missing misses = grind (arith, answered_planes_hold, incomplete_planes)
 
   -- ---- by the receiver's
 
@@ -308,13 +265,7 @@ module _ (s : Sequence) (parts : List Part) (kept : Own) (is : own s parts ≡ S
               own_answers k d (kept_where_own answers n (gathered_of kept) k d at)
 
       gathered_planes_are : gathered_planes answers n (gathered_of kept) ≡ own_planes
-      gathered_planes_are =
-          ap (λ c. option_map (planes_of kept.plan.parameters)
-          (sound_slices (slice_decoding answers n (gathered_of kept)) (range_with_len 0 c)))
-          (length-map-range_with_len (own_slice kept) 0 count)
-          ∙ ap (option_map (planes_of kept.plan.parameters))
-          (sound_same (slice_decoding answers n (gathered_of kept)) own_decoding count 0
-          (λ k from to. one_decoding k (omega arith)))
+      gathered_planes_are = grind (arith, length-map-range_with_len, one_decoding, sound_same)
 
       pub gathered_planes_hold : has_all_slices kept ≡ true
           → gathered_planes answers n (gathered_of kept) ≡ picture_planes s parts
@@ -329,27 +280,4 @@ module _ (s : Sequence) (parts : List Part) (n : ℕ) (answers : List PictureAns
 
   pub book_planes_are : AreOwn → book_planes answers n (book_of s parts) ≡ picture_planes s parts
   unfolding whole_picture book_of
-  book_planes_are own_answers =
-      ap (λ (o : Option (List ℕ)). cond (is_some o)
-      (option_and_then (gathered_planes answers n) (book_of s parts).gathered) None)
-      (book_whole_is s parts)
-      ∙ by_own (own s parts) refl
-    where
-      by_test : (kept : Own) → own s parts ≡ Some kept → (b : Bool) → has_all_slices kept ≡ b
-          → cond (is_some (cond b (Some (all_bytes kept)) None))
-          (gathered_planes answers n (gathered_of kept)) None
-          ≡ option_and_then (decoded_planes s) (cond b (Some (all_bytes kept)) None)
-      by_test kept is false at = refl
-      by_test kept is true at =
-          gathered_planes_hold s parts kept is n answers (own_answers kept is) at
-          ∙ ap (λ (o : Option Own). option_and_then (decoded_planes s)
-          (option_and_then whole_of o)) is
-          ∙ ap (option_and_then (decoded_planes s))
-          (cond-true (has_all_slices kept) (Some (all_bytes kept)) None at)
-
-      by_own : (o : Option Own) → own s parts ≡ o
-          → cond (is_some (option_and_then whole_of o))
-          (option_and_then (gathered_planes answers n) (option_map gathered_of o)) None
-          ≡ option_and_then (decoded_planes s) (option_and_then whole_of o)
-      by_own None at = refl
-      by_own (Some kept) at = by_test kept at (has_all_slices kept) refl
+  book_planes_are own_answers = grind (arith, book_whole_is, gathered_planes_hold)

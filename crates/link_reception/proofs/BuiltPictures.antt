@@ -1,17 +1,16 @@
 -- The planes of the picture that may be released next, and of the field before it, by answers.
-use Rattle.std.proofs.Common.{◌≡◌, ℕ, ◌+◌, ◌%◌, ◌<◌, ◌≤◌, Bool, true, false, refl}
-use Rattle.std.proofs.Common.{ap, sym, List, [], ◌∷◌, ◌++◌, Option, Some, None, subst}
-use Rattle.std.proofs.Common.{◌∙◌, arith, cond, inl, inr}
+use Rattle.std.proofs.Common.{◌≡◌, ℕ, ◌+◌, ◌%◌, ◌<◌, ◌≤◌, Bool, true, false, refl, ap, sym, List}
+use Rattle.std.proofs.Common.{[], ◌∷◌, ◌++◌, Option, Some, None, subst, ◌∙◌, arith, cond, inl, inr}
 use Rattle.std.specs.Prelude.{◌==◌, ◌&&◌, ◌||◌, is_some, not}
 use Rattle.std.specs.List.{last_or}
 use Rattle.std.specs.Option.{option_and_then}
 use Rattle.std.proofs.lemmas.Bool.{cases_Bool, cases_eq, cond-true, cond-false}
 use Rattle.std.proofs.lemmas.Bool.{eq-eqb, ne_eqb, both_ways, false_from_ne_true}
+use Rattle.std.proofs.lemmas.Grind.{common_steps}
 use Rattle.std.proofs.lemmas.List.Sums.{fold_push}
 use Rattle.std.proofs.lemmas.Option.{none-some}
 use Rattle.link_model.specs.Complete.{slice_numbers, has_all_slices, picture_planes}
-use Rattle.link_model.specs.Feeders.{Feeder, EnteredSession, SliceAnswer, keeps_of}
-use Rattle.link_model.specs.Feeders.{picture_keeps, is_among, answer_in}
+use Rattle.link_model.specs.Feeders.{Feeder, SliceAnswer, picture_keeps, is_among, answer_in}
 use Rattle.link_model.specs.Feeders.{has_released, is_decoded, keeps_now}
 use Rattle.link_model.specs.Feeding.{planes_by, built_planes}
 use Rattle.link_model.specs.Kept.{Own, own, own_slice}
@@ -58,9 +57,7 @@ module _ (r : Reception) (size : ℕ) (f : Feeder) (hs : List HeardSession) (p :
   -- ---- the picture
 
   there : is_among (releasable_numbers p) n ≡ true
-  there = ap (λ (l : List ℕ). is_among l n) (first_among (releasable_numbers p) n next).1
-      ∙ ap (λ (b : Bool). b || is_among (first_among (releasable_numbers p) n next).0 n)
-      (eq-eqb n n refl)
+  there = grind (arith, first_among)
 
   pub next_opened : is_opened es n ≡ true
   next_opened = (releasable_gone p works.window.in_order n there).0
@@ -71,16 +68,12 @@ module _ (r : Reception) (size : ℕ) (f : Feeder) (hs : List HeardSession) (p :
 
   pub next_unreleased : has_released f n ≡ false
   next_unreleased =
-      released_parts r size f hs p st t works n
-      ∙ ap (λ (b : Bool). b || is_among p.released n) (works.apart n next_opened)
-      ∙ releasable_unreleased p works.window.in_order n there
+      grind (arith, common_steps, next_opened, releasable_unreleased, released_parts, there)
 
   -- what a picture of the session keeps
   pub session_keeps : (m : ℕ) → is_opened es m ≡ true
       → picture_keeps size heard m ≡ own s (parts_of m es)
-  session_keeps m opened =
-      ap (λ (o : Option EnteredSession). option_and_then (λ e. keeps_of e m) o)
-      (works.opened m opened)
+  session_keeps m opened = grind arith
 
   -- ---- the feeder decodes
 

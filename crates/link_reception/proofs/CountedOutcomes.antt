@@ -1,9 +1,8 @@
 -- The counts of outcomes are the tally's, whatever becomes of the pictures, and the frames are
 -- those that are in the output so far.
-use Rattle.std.proofs.Common.{◌≡◌, ℕ, ◌+◌, false, refl, ap, sym, ◌∙◌, arith, List, [], ◌∷◌}
+use Rattle.std.proofs.Common.{◌≡◌, ℕ, ◌+◌, false, refl, ap, ◌∙◌, arith, List, [], ◌∷◌}
 use Rattle.std.specs.Prelude.{fold}
-use Rattle.link_model.specs.Judgement.{outcomes_in, outcome_counts, with_pictures, with_sessions}
-use Rattle.link_model.specs.Judgement.{tally_of, with_outcome, no_counts}
+use Rattle.link_model.specs.Judgement.{with_pictures, with_sessions, tally_of, with_outcome}
 use Rattle.link_model.specs.Numbers.{Numbered}
 use Rattle.link_model.specs.Output.{entered_behind}
 use Rattle.link_model.specs.Session.{HeardSession, sessions_of}
@@ -41,13 +40,7 @@ pub outcomes_counted : (r : Reception) (size : ℕ) (datagrams : List (List ℕ)
     → StandsForHeard r size datagrams false
     → r.counts ≡ with_picture_counts (tally_of size datagrams) r.counts
 unfolding tally_of
-outcomes_counted r size datagrams stands =
-    let t = outcome_counts (outcomes_in size datagrams) in
-    let hs = sessions_of datagrams in
-    stands.counted
-    ∙ but_so_far size hs t
-    ∙ ap (with_picture_counts t) (sym stands.counted)
-    ∙ sym (ap (λ (u : Tally). with_picture_counts u r.counts) (but_sessions size hs t))
+outcomes_counted r size datagrams stands = grind (arith, but_sessions, but_so_far)
 
 -- ---- frames
 
@@ -75,9 +68,4 @@ so_far_frames size (h ∷ hs) t = omega (arith, sessions_frames size hs t)
 pub frames_counted : (r : Reception) (size : ℕ) (datagrams : List (List ℕ))
     → StandsForHeard r size datagrams false
     → r.counts.frames ≡ frames_written size (sessions_of datagrams)
-frames_counted r size datagrams stands =
-    let t = outcome_counts (outcomes_in size datagrams) in
-    let none : t.frames ≡ 0 = all_outcomes_frames (outcomes_in size datagrams) no_counts in
-    ap (λ (c : Tally). c.frames) stands.counted
-    ∙ so_far_frames size (sessions_of datagrams) t
-    ∙ omega (arith, none)
+frames_counted r size datagrams stands = grind (arith, all_outcomes_frames, so_far_frames)

@@ -1,9 +1,8 @@
 -- The jobs that a datagram offers are those of the slices that it newly brings: the pictures of the
 -- longer list keep them, and those of the shorter one don't.
 use Rattle.std.proofs.Common.{◌≡◌, ℕ, ◌≤◌, Bool, true, false, refl, ap, sym, ◌∙◌}
-use Rattle.std.proofs.Common.{List, [], ◌∷◌, ◌++◌, Option, Some, None, inl, inr}
+use Rattle.std.proofs.Common.{List, [], ◌∷◌, ◌++◌, Option, Some, None, inl, inr, arith}
 use Rattle.std.specs.Prelude.{◌||◌}
-use Rattle.std.specs.Option.{option_map_or}
 use Rattle.std.proofs.lemmas.Bool.{cases_Bool, both_ways, false≢true, false_from_ne_true}
 use Rattle.std.proofs.lemmas.Option.{none-some}
 use Rattle.link_model.specs.Feeders.{kept_job}
@@ -12,7 +11,6 @@ use Rattle.link_model.specs.Output.{entered_behind, is_opened_in, is_closed_in}
 use Rattle.link_model.specs.Places.{Job}
 use Rattle.link_model.specs.Session.{Session, Fragment, HeardSession, just_opened, with_datagram}
 use Rattle.link_model.specs.Session.{hears, sessions_of, begins, fragment_in, opens_behind}
-use Rattle.link_model.specs.Session.{opens_next}
 use Rattle.link_model.specs.Windows.{WindowPast}
 use Rattle.link_model.proofs.Apart.{sessions_apart}
 use Rattle.link_model.proofs.Hearing.{sessions_of_more, hears_new, hears_on}
@@ -95,16 +93,8 @@ module _ (size : ℕ) (h : HeardSession) (hs : List HeardSession) (d : List ℕ)
   -- by all sessions
   all_offer : (n i : ℕ) (job : Job) → kept_job size (h ∷ hs) n i ≡ None
       → kept_job size (h_now ∷ hs) n i ≡ Some job → is_job_among offered job ≡ true
-  all_offer n i job none is = elim (cases_Bool (is_opened new n)) [
-    | inl opened ↦ session_offers n i job
-        (no_job (job_before n i) (λ was at. none-some was (sym none
-        ∙ last_job size h hs n i (job_opened h.session.sequence old n i was at) ∙ at)))
-        (sym (last_job size h_now hs n i opened) ∙ is)
-    | inr shut ↦ absurd (none-some job (sym none
-        ∙ earlier_job size h hs n i (shut_before size h hs n i d shut)
-        ∙ sym (earlier_job size h_now hs n i shut)
-        ∙ is))
-  ]
+  all_offer n i job none is =
+      grind (arith, earlier_job, job_opened, last_job, no_job, session_offers, shut_before)
 
   not_earlier : size ≤ 8 → (n : ℕ) → is_opened new n ≡ true → is_opened_in size hs n ≡ false
   not_earlier small n opened = false_from_ne_true (is_opened_in size hs n) (λ earlier.
@@ -174,10 +164,7 @@ module _ (r : Reception) (size : ℕ) (datagrams : List (List ℕ)) (d : List �
     jobs_are : (o : Option Session) → opens_behind h (begins d) ≡ o
         → datagram_jobs r d ≡ jobs_before o st_there d
     unfolding datagram_jobs
-    jobs_are o is =
-        ap (λ (standing : Option StandingSession).
-        option_map_or (λ st. jobs_before (session_opened r d) st d) standing []) standing_is
-        ∙ ap (λ (o : Option Session). jobs_before o st_there d) (opened_is ∙ is)
+    jobs_are o is = grind (arith, opened_is, standing_is)
 
     longer_on : opens_behind h (begins d) ≡ None → longer ≡ with_datagram h d ∷ hs
     longer_on none = sessions_of_more datagrams d ∙ ap (λ (l : List HeardSession). hears l d) at
@@ -250,34 +237,23 @@ module _ (r : Reception) (size : ℕ) (datagrams : List (List ℕ)) (d : List �
   module _ (at : sessions_of datagrams ≡ []) where
     no_jobs : datagram_jobs r d ≡ []
     unfolding datagram_jobs
-    no_jobs = ap (λ (standing : Option StandingSession).
-        option_map_or (λ st. jobs_before (session_opened r d) st d) standing [])
-        (stands.session ∙ ap (standing_of size false) at)
+    no_jobs = grind arith
 
     first_keeps_none : (n i : ℕ) → kept_job size longer n i ≡ None
     first_keeps_none n i =
-        ap (λ (l : List HeardSession). kept_job size l n i)
-        (sessions_of_more datagrams d ∙ ap (λ (l : List HeardSession). hears l d) at)
-        ∙ by_next (opens_next [] (begins d)) refl
-      where
-        by_next : (o : Option Session) → opens_next [] (begins d) ≡ o
-            → kept_job size (hears [] d) n i ≡ None
-        by_next None none = ap (λ (l : List HeardSession). kept_job size l n i)
-            (hears_on [] d none)
-            ∙ unopened_job size n i [] (session_none size [] n refl)
-        by_next (Some s) opens = ap (λ (l : List HeardSession). kept_job size l n i)
-            (hears_new [] d s opens)
-            ∙ unopened_job size n i (just_opened s ∷ [])
-            (session_opens size s [] n ∙ session_none size [] n refl)
+        grind (
+          arith,
+          hears_new,
+          hears_on,
+          session_none,
+          session_opens,
+          sessions_of_more,
+          unopened_job,
+        )
 
   pub all_jobs : (n i : ℕ) (job : Job) → kept_job size (sessions_of datagrams) n i ≡ None
       → kept_job size longer n i ≡ Some job → is_job_among (datagram_jobs r d) job ≡ true
-  all_jobs n i job none is = by_sessions (sessions_of datagrams) refl
-    where
-      by_sessions : (l : List HeardSession) → sessions_of datagrams ≡ l
-          → is_job_among (datagram_jobs r d) job ≡ true
-      by_sessions [] at = absurd (none-some job (sym (first_keeps_none at n i) ∙ is))
-      by_sessions (h ∷ hs) at = all_there h hs at n i job none is
+  all_jobs n i job none is = grind (arith, all_there, first_keeps_none)
 
   pub only_jobs : size ≤ 8 → (job : Job) → is_job_among (datagram_jobs r d) job ≡ true
       → (kept_job size longer job.number job.index ≡ Some job)
@@ -293,10 +269,4 @@ module _ (r : Reception) (size : ℕ) (datagrams : List (List ℕ)) (d : List �
 
   pub open_jobs : 1 ≤ size → size ≤ 8 → (job : Job) → is_job_among (datagram_jobs r d) job ≡ true
       → is_closed_in size longer job.number ≡ false
-  open_jobs some small job there = by_sessions (sessions_of datagrams) refl
-    where
-      by_sessions : (l : List HeardSession) → sessions_of datagrams ≡ l
-          → is_closed_in size longer job.number ≡ false
-      by_sessions [] at = absurd (false≢true
-          (sym (ap (λ (l : List Job). is_job_among l job) (no_jobs at)) ∙ there))
-      by_sessions (h ∷ hs) at = open_there h hs at some small job there
+  open_jobs some small job there = grind (arith, no_jobs, open_there)

@@ -1,22 +1,20 @@
 -- A datagram before a session stands: it is judged, and it may open the first one.
-use Rattle.std.proofs.Common.{◌≡◌, ℕ, ◌+◌, ◌≤◌, Bool, false, refl, ap, sym, ◌∙◌, arith}
+use Rattle.std.proofs.Common.{◌≡◌, ℕ, ◌≤◌, Bool, false, refl, ap, sym, ◌∙◌, arith}
 use Rattle.std.proofs.Common.{List, [], ◌∷◌, ◌++◌, Option, Some, None, subst}
-use Rattle.std.specs.Prelude.{is_some}
 use Rattle.std.specs.Option.{option_map}
 use Rattle.std.proofs.lemmas.List.{append-nil}
 use Rattle.std.proofs.lemmas.Option.{none-some}
-use Rattle.link_model.specs.Feeders.{Feeder, kept_job, heard_pictures, let_go_pictures, releasable}
+use Rattle.link_model.specs.Feeders.{Feeder, heard_pictures, let_go_pictures, releasable}
 use Rattle.link_model.specs.Feeding.{hears_datagram}
-use Rattle.link_model.specs.Judgement.{outcomes_in, outcome_counts, with_outcome, with_sessions}
+use Rattle.link_model.specs.Judgement.{outcomes_in, outcome_counts, with_sessions}
 use Rattle.link_model.specs.Machine.{Enter}
-use Rattle.link_model.specs.Next.{feeder_run, all_releasing, taken_back, next_feeder}
+use Rattle.link_model.specs.Next.{taken_back, next_feeder}
 use Rattle.link_model.specs.Numbers.{greatest, least, parts_of, opened_numbers}
 use Rattle.link_model.specs.Output.{let_go_numbers, all_output, last_so_far}
 use Rattle.link_model.specs.Output.{output_so_far, greatest_of}
 use Rattle.link_model.specs.Places.{Answered}
 use Rattle.link_model.specs.Session.{Session, HeardSession, just_opened, hears, sessions_of, begins}
 use Rattle.link_model.specs.Windows.{Window, WindowPast, new_past, new_window, window_of}
-use Rattle.link_model.specs.declared.tally.Tally.{Tally}
 use Rattle.link_model.proofs.Counting.{counts_more}
 use Rattle.link_model.proofs.Hearing.{sessions_of_more, hears_new, hears_on}
 use Rattle.link_model.proofs.SessionOutput.{opening_writes_nothing}
@@ -24,14 +22,13 @@ use Rattle.link_model.proofs.WindowStands.{new_stands}
 use Rattle.link_reception.specs.Entering.{greatest_in, opens_session, takes_datagram}
 use Rattle.link_reception.specs.Entering.{datagram_bytes}
 use Rattle.link_reception.specs.Exchanging.{Exchange, all_exchanged, dones_in}
-use Rattle.link_reception.specs.Judging.{session_opened, opens_after, keeps_datagram}
-use Rattle.link_reception.specs.Judging.{stands_on, judged}
-use Rattle.link_reception.specs.Receptions.{StandingSession, Reception, FirstField}
+use Rattle.link_reception.specs.Judging.{session_opened, opens_after, keeps_datagram, stands_on}
+use Rattle.link_reception.specs.Receptions.{StandingSession, Reception}
 use Rattle.link_reception.specs.Receptions.{PictureAnswers, answers_at, kept_answer}
-use Rattle.link_reception.specs.Releasing.{releases_all, one_if}
+use Rattle.link_reception.specs.Releasing.{releases_all}
 use Rattle.link_reception.specs.Standing.{StandsFor, standing_of, all_released}
 use Rattle.link_reception.specs.Standing.{last_past, field_of_sessions, counts_of_sessions}
-use Rattle.link_reception.specs.Standing.{past_fields, past_counts, HasSlots}
+use Rattle.link_reception.specs.Standing.{past_fields, HasSlots}
 use Rattle.link_reception.proofs.HeardMore.{written_of}
 use Rattle.link_reception.specs.Standing.{out_without}
 use Rattle.link_model.specs.Interleavings.{AreOwnAnswers}
@@ -72,12 +69,7 @@ module _ (r : Reception) (size : ℕ) (small : size ≤ 8) (f : Feeder)
 
     counts_now : r_now.counts ≡ outcome_counts (outcomes_in size (f.heard ++ d ∷ []))
     unfolding keeps_datagram
-    counts_now = same_now.counts
-        ∙ ap (λ (c : Tally). with_outcome c (judged r d)) (counts_are r size f stands runs at)
-        ∙ ap (with_outcome (outcome_counts (outcomes_in size f.heard)))
-        (judged_is r size f.heard d (none_stands r size f stands runs at
-        ∙ sym (ap (standing_of size false) at)))
-        ∙ sym (counts_more size f.heard d)
+    counts_now = grind (arith, counts_are, counts_more, judged_is, none_stands, same_now)
 
     rest_now : (keeps_datagram r d).field ≡ None
     unfolding keeps_datagram
@@ -103,9 +95,7 @@ module _ (r : Reception) (size : ℕ) (small : size ≤ 8) (f : Feeder)
     heard_now = sessions_of_more f.heard d ∙ ap (λ (l : List HeardSession). hears l d) at
 
     own_now : AreOwnAnswers size (sessions_of (f.heard ++ d ∷ [])) f.decoded
-    own_now = subst (λ (l : List HeardSession). AreOwnAnswers size l f.decoded)
-        (sym (sessions_of_more f.heard d))
-        (own_stays size small (sessions_of f.heard) d f.decoded stands.own)
+    own_now = grind (arith, own_stays, sessions_of_more)
 
     room_now : (n : ℕ) → HasSlots size (sessions_of (f.heard ++ d ∷ [])) n
         (answers_at r_now.answers n)
@@ -123,65 +113,49 @@ module _ (r : Reception) (size : ℕ) (small : size ≤ 8) (f : Feeder)
 
       still_idle : IsIdle size f_now
       unfolding let_go_pictures
-      still_idle = record {
-        none_kept = λ n i. ap (λ (l : List HeardSession). kept_job size l n i) sessions_now
-            ∙ nothing_kept size n i;
-        none_gone = ap (λ (over : Bool). let_go_pictures size over
-            (sessions_of (f.heard ++ d ∷ []))) runs
-            ∙ ap (let_go_pictures size false) sessions_now;
-      }
+      still_idle = grind (arith, none_gone, nothing_kept, sessions_now)
 
       none_written_now : f.written ≡ written_of size f.has_ended (f.heard ++ d ∷ [])
       unfolding output_so_far last_so_far
-      none_written_now = (none_written r size f stands runs at)
-          ∙ sym (ap (last_so_far size) sessions_now)
-          ∙ sym (ap (λ (over : Bool). written_of size over (f.heard ++ d ∷ [])) runs)
+      none_written_now = grind (arith, none_written, sessions_now, written_of)
 
       idle_stands : StandsFor r_now size f_now
-      idle_stands = record {
-        heard = record {
-          open_pictures = size_now;
-          ended = ended_now;
-          session = standing_now
-              ∙ sym (ap (standing_of size false) sessions_now)
-              ∙ sym (ap (λ (over : Bool). standing_of size over
-              (sessions_of (f.heard ++ d ∷ []))) runs);
-          waiting_field = same_now.field ∙ rest_now
-              ∙ sym (ap (field_of_sessions size false) sessions_now)
-              ∙ sym (ap (λ (over : Bool). field_of_sessions size over
-              (sessions_of (f.heard ++ d ∷ []))) runs);
-          counted = counts_now
-              ∙ sym (ap (λ (l : List HeardSession). counts_of_sessions size false l
-              (outcome_counts (outcomes_in size (f.heard ++ d ∷ [])))) sessions_now)
-              ∙ sym (ap (λ (over : Bool). counts_of_sessions size over
-              (sessions_of (f.heard ++ d ∷ []))
-              (outcome_counts (outcomes_in size (f.heard ++ d ∷ [])))) runs);
-        };
-        released = (none_gone r size f stands runs at) ∙ sym still_idle.none_gone;
-        written = none_written_now;
-        own = own_now;
-        answers = λ n i stays. ap (λ (l : List PictureAnswers). kept_answer l n i) answers_now
-            ∙ stands.answers n i stays;
-        room = room_now;
-        first_field = λ w is. absurd (none-some w (sym (same_now.field ∙ rest_now) ∙ is));
-      }
+      idle_stands =
+          grind (
+            arith,
+            answers_now,
+            counts_now,
+            ended_now,
+            none_gone,
+            none_written_now,
+            own_now,
+            rest_now,
+            room_now,
+            same_now,
+            sessions_now,
+            size_now,
+            standing_now,
+            still_idle,
+          )
 
       pub early_stands : StandsFor (takes_datagram r d xs) size (next_feeder size f (Enter d) dones)
       unfolding next_feeder takes_datagram
-      early_stands = subst (λ (v : Reception). StandsFor v size
-          (feeder_run size (taken_back size f_now dones)
-          (all_releasing size (taken_back size f_now dones))))
-          (sym (nothing_released r_now standing_now)
-          ∙ sym (ap (λ (o : Option Session). opens_session o (releases_all r_now))
-          (opened_now ∙ none)))
-          (subst (StandsFor r_now size) (sym (idle_feeder size f_now still_idle dones)) idle_stands)
+      early_stands =
+          grind (
+            arith,
+            idle_feeder,
+            idle_stands,
+            nothing_released,
+            opened_now,
+            standing_now,
+            still_idle,
+          )
 
       pub early_writes : (next_feeder size f (Enter d) dones).written
           ≡ f.written ++ datagram_bytes r d xs
       unfolding next_feeder datagram_bytes
-      early_writes = ap (λ (g : Feeder). g.written) (idle_feeder size f_now still_idle dones)
-          ∙ sym (append-nil f.written)
-          ∙ sym (ap (λ (l : List ℕ). f.written ++ l) (nothing_written r_now standing_now))
+      early_writes =
+          grind (arith, append-nil, idle_feeder, nothing_written, standing_now, still_idle)
 
       pub early_out : (takes_datagram r d xs).out
           ≡ out_without (releasable size (taken_back size f_now dones)) r_now.out
@@ -201,13 +175,7 @@ module _ (r : Reception) (size : ℕ) (small : size ≤ 8) (f : Feeder)
 
       idle_first : IsIdle size f_now
       unfolding let_go_pictures heard_pictures let_go_numbers opened_numbers greatest least parts_of
-      idle_first = record {
-        none_kept = λ n i. ap (λ (l : List HeardSession). kept_job size l n i) sessions_first
-            ∙ nothing_kept_yet size s n i;
-        none_gone = ap (λ (over : Bool). let_go_pictures size over
-            (sessions_of (f.heard ++ d ∷ []))) runs
-            ∙ ap (let_go_pictures size false) sessions_first;
-      }
+      idle_first = grind (arith, none_gone, nothing_kept_yet, sessions_first)
 
       abbrev fresh : WindowPast
       fresh = all_released (last_past size false [] (just_opened s))
@@ -218,31 +186,14 @@ module _ (r : Reception) (size : ℕ) (small : size ≤ 8) (f : Feeder)
 
       window_first : new_window s.sequence r_now.size (greatest_in r_now.standing)
           ≡ window_of fresh
-      window_first =
-          ap (λ k. new_window s.sequence k (greatest_in r_now.standing)) size_now
-          ∙ ap (λ (o : Option StandingSession). new_window s.sequence size (greatest_in o))
-          standing_now
-          ∙ (new_stands s.sequence size 0).value
-          ∙ ap window_of fresh_is
+      window_first = grind (arith, fresh_is, new_stands, size_now, standing_now)
 
       counts_first : (opens_session (Some s) r_now).counts
           ≡ counts_of_sessions size f.has_ended (sessions_of (f.heard ++ d ∷ []))
           (outcome_counts (outcomes_in size (f.heard ++ d ∷ [])))
       unfolding with_sessions
       counts_first =
-          let all = outcome_counts (outcomes_in size (f.heard ++ d ∷ [])) in
-          let none : all.unpaired + 0 ≡ all.unpaired = omega arith in
-          ap (λ (o : Option FirstField). record r_now.counts {
-            unpaired = r_now.counts.unpaired + one_if (is_some o);
-          }) (same_now.field ∙ rest_now)
-          ∙ ap (λ (c : Tally). record c { unpaired = c.unpaired + 0 }) counts_now
-          ∙ ap (λ k. record all { unpaired = k }) none
-          ∙ sym (none_released s.sequence [] all)
-          ∙ ap (λ (q : WindowPast). past_counts q all) fresh_is
-          ∙ sym (ap (λ (l : List HeardSession). counts_of_sessions size false l all)
-          sessions_first)
-          ∙ sym (ap (λ (over : Bool). counts_of_sessions size over
-          (sessions_of (f.heard ++ d ∷ [])) all) runs)
+          grind (arith, counts_now, fresh_is, none_released, rest_now, same_now, sessions_first)
 
       written_first : f.written ≡ written_of size f.has_ended (f.heard ++ d ∷ [])
       unfolding output_so_far all_output
@@ -283,21 +234,22 @@ module _ (r : Reception) (size : ℕ) (small : size ≤ 8) (f : Feeder)
 
       pub first_stands : StandsFor (takes_datagram r d xs) size (next_feeder size f (Enter d) dones)
       unfolding next_feeder takes_datagram
-      first_stands = subst (λ (v : Reception). StandsFor v size
-          (feeder_run size (taken_back size f_now dones)
-          (all_releasing size (taken_back size f_now dones))))
-          (sym (ap (opens_session (Some s)) (nothing_released r_now standing_now))
-          ∙ sym (ap (λ (o : Option Session). opens_session o (releases_all r_now))
-          (opened_now ∙ opens)))
-          (subst (StandsFor (opens_session (Some s) r_now) size)
-          (sym (idle_feeder size f_now idle_first dones)) opens_first)
+      first_stands =
+          grind (
+            arith,
+            idle_feeder,
+            idle_first,
+            nothing_released,
+            opened_now,
+            opens_first,
+            standing_now,
+          )
 
       pub first_writes : (next_feeder size f (Enter d) dones).written
           ≡ f.written ++ datagram_bytes r d xs
       unfolding next_feeder datagram_bytes
-      first_writes = ap (λ (g : Feeder). g.written) (idle_feeder size f_now idle_first dones)
-          ∙ sym (append-nil f.written)
-          ∙ sym (ap (λ (l : List ℕ). f.written ++ l) (nothing_written r_now standing_now))
+      first_writes =
+          grind (arith, append-nil, idle_feeder, idle_first, nothing_written, standing_now)
 
       pub first_out : (takes_datagram r d xs).out
           ≡ out_without (releasable size (taken_back size f_now dones)) r_now.out

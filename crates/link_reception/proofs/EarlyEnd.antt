@@ -1,25 +1,21 @@
 -- The end of the input before a session stands.
-use Rattle.std.proofs.Common.{◌≡◌, ℕ, ◌+◌, true, false, refl, ap, sym, ◌∙◌, arith}
-use Rattle.std.proofs.Common.{List, [], ◌++◌, Option, None, subst}
-use Rattle.std.specs.Prelude.{is_some}
+use Rattle.std.proofs.Common.{◌≡◌, ℕ, true, false, refl, ap, sym, ◌∙◌, arith}
+use Rattle.std.proofs.Common.{List, [], ◌++◌, None, subst}
 use Rattle.std.specs.Option.{option_map}
 use Rattle.std.proofs.lemmas.List.{append-nil}
 use Rattle.std.proofs.lemmas.Option.{none-some}
-use Rattle.link_model.specs.Feeders.{Feeder, kept_job, heard_pictures, let_go_pictures, releasable}
+use Rattle.link_model.specs.Feeders.{Feeder, heard_pictures, let_go_pictures, releasable}
 use Rattle.link_model.specs.Feeding.{hears_end}
 use Rattle.link_model.specs.Judgement.{outcomes_in, outcome_counts, with_sessions}
 use Rattle.link_model.specs.Machine.{Finish}
-use Rattle.link_model.specs.Next.{feeder_run, all_releasing, taken_back, next_feeder}
+use Rattle.link_model.specs.Next.{taken_back, next_feeder}
 use Rattle.link_model.specs.Output.{all_output, full_output}
 use Rattle.link_model.specs.Places.{Answered}
-use Rattle.link_model.specs.Session.{HeardSession, sessions_of}
-use Rattle.link_model.specs.declared.tally.Tally.{Tally}
+use Rattle.link_model.specs.Session.{sessions_of}
 use Rattle.link_reception.specs.Entering.{gives_up_field, takes_end, end_bytes}
 use Rattle.link_reception.specs.Exchanging.{Exchange, all_exchanged, dones_in}
 use Rattle.link_reception.specs.Judging.{ends_input, is_over}
-use Rattle.link_reception.specs.Receptions.{Reception, FirstField}
-use Rattle.link_reception.specs.Receptions.{PictureAnswers, answers_at, kept_answer}
-use Rattle.link_reception.specs.Releasing.{one_if}
+use Rattle.link_reception.specs.Receptions.{Reception, PictureAnswers, answers_at, kept_answer}
 use Rattle.link_reception.specs.Standing.{StandsFor, standing_of, counts_of_sessions, HasSlots}
 use Rattle.link_reception.proofs.HeardMore.{written_of}
 use Rattle.link_reception.specs.Standing.{out_without}
@@ -50,25 +46,12 @@ module _ (r : Reception) (size : ℕ) (f : Feeder) (stands : StandsFor r size f)
 
   over_idle : IsIdle size f_end
   unfolding let_go_pictures heard_pictures
-  over_idle = record {
-    none_kept = λ n i. ap (λ (l : List HeardSession). kept_job size l n i) at
-        ∙ nothing_kept size n i;
-    none_gone = ap (let_go_pictures size true) at;
-  }
+  over_idle = grind (arith, none_gone, nothing_kept)
 
   counts_end : (gives_up_field r_end).counts ≡ counts_of_sessions size true (sessions_of f.heard)
       (outcome_counts (outcomes_in size f.heard))
   unfolding with_sessions
-  counts_end =
-      let all = outcome_counts (outcomes_in size f.heard) in
-      let none : all.unpaired + 0 ≡ all.unpaired = omega arith in
-      ap (λ (o : Option FirstField). record r_end.counts {
-        unpaired = r_end.counts.unpaired + one_if (is_some o);
-      }) (same_end.field ∙ (no_field r size f stands runs at))
-      ∙ ap (λ (c : Tally). record c { unpaired = c.unpaired + 0 })
-      (same_end.counts ∙ (counts_are r size f stands runs at))
-      ∙ ap (λ k. record all { unpaired = k }) none
-      ∙ sym (ap (λ (l : List HeardSession). counts_of_sessions size true l all) at)
+  counts_end = grind (arith, counts_are, no_field, same_end)
 
   written_end : f.written ≡ written_of size true f.heard
   unfolding full_output all_output
@@ -96,18 +79,11 @@ module _ (r : Reception) (size : ℕ) (f : Feeder) (stands : StandsFor r size f)
 
   pub end_stands : StandsFor (takes_end r xs) size (next_feeder size f Finish dones)
   unfolding next_feeder takes_end
-  end_stands = subst (λ (v : Reception). StandsFor (gives_up_field v) size
-      (feeder_run size (taken_back size f_end dones)
-      (all_releasing size (taken_back size f_end dones))))
-      (sym (nothing_released r_end standing_end))
-      (subst (StandsFor (gives_up_field r_end) size)
-      (sym (idle_feeder size f_end over_idle dones)) over_stands)
+  end_stands = grind (arith, idle_feeder, nothing_released, over_idle, over_stands, standing_end)
 
   pub end_writes : (next_feeder size f Finish dones).written ≡ f.written ++ end_bytes r xs
   unfolding next_feeder end_bytes
-  end_writes = ap (λ (g : Feeder). g.written) (idle_feeder size f_end over_idle dones)
-      ∙ sym (append-nil f.written)
-      ∙ sym (ap (λ (l : List ℕ). f.written ++ l) (nothing_written r_end standing_end))
+  end_writes = grind (arith, append-nil, idle_feeder, nothing_written, over_idle, standing_end)
 
   pub end_out : (takes_end r xs).out
       ≡ out_without (releasable size (taken_back size f_end dones)) r_end.out

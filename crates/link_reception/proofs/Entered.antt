@@ -1,16 +1,13 @@
 -- A datagram and the end of the input: the receiver stands for what was heard, and it wrote what is
 -- due.
-use Rattle.std.proofs.Common.{◌≡◌, ℕ, ◌≤◌, Bool, true, false, refl, ap, sym, ◌∙◌}
-use Rattle.std.proofs.Common.{List, [], ◌∷◌, ◌++◌, Option, Some, None, subst, cond, map}
-use Rattle.std.specs.Prelude.{◌&&◌, not}
+use Rattle.std.proofs.Common.{◌≡◌, ℕ, ◌≤◌, true, false, refl, ap, sym, ◌∙◌}
+use Rattle.std.proofs.Common.{List, [], ◌∷◌, ◌++◌, Option, Some, None, subst, arith}
 use Rattle.std.specs.List.{flat_map}
 use Rattle.std.proofs.lemmas.List.Sums.{fold-append}
-use Rattle.link_model.specs.Feeders.{Feeder, is_decoded, keeps_now, releasable}
-use Rattle.link_model.specs.Feeding.{hears_datagram, hears_end, takes_answer, with_answer, has_job}
-use Rattle.link_model.specs.Feeding.{releases_picture}
-use Rattle.link_model.specs.Machine.{Enter, Finish, Redo, Release, feeder_after}
-use Rattle.link_model.specs.Next.{feeder_run, all_releasing, taken_back, next_feeder}
-use Rattle.link_model.specs.Next.{unanswered, releasing}
+use Rattle.link_model.specs.Feeders.{Feeder, releasable}
+use Rattle.link_model.specs.Feeding.{hears_datagram, hears_end, takes_answer}
+use Rattle.link_model.specs.Machine.{Enter, Finish, feeder_after}
+use Rattle.link_model.specs.Next.{feeder_run, all_releasing, taken_back, next_feeder, releasing}
 use Rattle.link_model.specs.Places.{Answered}
 use Rattle.link_model.specs.Session.{Session, HeardSession, sessions_of, opens_behind, begins}
 use Rattle.link_model.specs.Windows.{WindowPast}
@@ -39,12 +36,7 @@ pub record HasMoreAnswers (f g : Feeder) : Type 0 where
 
 one_answer : (size : ℕ) (f : Feeder) (done : Answered)
     → HasMoreAnswers f (takes_answer size f done)
-one_answer size f done = by_test (has_job size f done.job
-    && not (is_decoded f done.job.number done.job.index))
-  where
-    by_test : (b : Bool) → HasMoreAnswers f (cond b (with_answer f done) f)
-    by_test true = record { heard = refl; ended = refl; written = refl }
-    by_test false = record { heard = refl; ended = refl; written = refl }
+one_answer size f done = grind arith
 
 more_answers : (size : ℕ) (dones : List Answered) (f : Feeder)
     → HasMoreAnswers f (taken_back size f dones)
@@ -64,14 +56,7 @@ module _ (size : ℕ) (f : Feeder) where
   one_release : (g : Feeder) (n : ℕ)
       → ((feeder_run size g (releasing size f n)).heard ≡ g.heard)
       × ((feeder_run size g (releasing size f n)).has_ended ≡ g.has_ended)
-  one_release g n =
-      let is = unanswered f n (keeps_now size f n) in
-      let run : feeder_run size g (releasing size f n)
-      ≡ releases_picture size
-      (record g { decoded = redone size (sessions_of g.heard) n is g.decoded }) n =
-      fold-append (feeder_after size) g (map (Redo n) is) (Release n ∷ [])
-      ∙ ap (λ (v : Feeder). releases_picture size v n) (redo_run size n is g) in
-      (ap (λ (v : Feeder). v.heard) run, ap (λ (v : Feeder). v.has_ended) run)
+  one_release g n = grind (arith, fold-append, redo_run, redone)
 
   releases_heard : (ns : List ℕ) (g : Feeder)
       → ((feeder_run size g (flat_map (releasing size f) ns)).heard ≡ g.heard)
@@ -93,21 +78,13 @@ module _ (size : ℕ) (f : Feeder) where
       → ((next_feeder size f (Enter d) (dones_in xs)).heard ≡ f.heard ++ d ∷ [])
       × ((next_feeder size f (Enter d) (dones_in xs)).has_ended ≡ f.has_ended)
   unfolding next_feeder
-  heard_again d xs =
-      let more = more_answers size (dones_in xs) (hears_datagram f d) in
-      let taken = taken_back size (hears_datagram f d) (dones_in xs) in
-      let all = releases_heard size taken (releasable size taken) taken in
-      (all.0 ∙ more.heard, all.1 ∙ more.ended)
+  heard_again d xs = grind (arith, more_answers, releases_heard)
 
   pub heard_still : (xs : List Exchange)
       → ((next_feeder size f Finish (dones_in xs)).heard ≡ f.heard)
       × ((next_feeder size f Finish (dones_in xs)).has_ended ≡ true)
   unfolding next_feeder
-  heard_still xs =
-      let more = more_answers size (dones_in xs) (hears_end f) in
-      let taken = taken_back size (hears_end f) (dones_in xs) in
-      let all = releases_heard size taken (releasable size taken) taken in
-      (all.0 ∙ more.heard, all.1 ∙ more.ended)
+  heard_still xs = grind (arith, more_answers, releases_heard)
 
 -- ---- all that may be released is
 
@@ -197,17 +174,12 @@ module _ (r : Reception) (size : ℕ) (small : size ≤ 8) (f : Feeder) (stands 
         pub on_writes : (next_feeder size f (Enter d) dones).written
             ≡ f.written ++ datagram_bytes r d xs
         unfolding next_feeder datagram_bytes
-        on_writes = done_now.written
-            ∙ ap (λ (l : List ℕ). l ++ all_released_bytes (before_releases r d xs))
-            taken_more.written
+        on_writes = grind (arith, done_now, taken_more)
 
         pub on_out : (takes_datagram r d xs).out
             ≡ out_without (releasable size taken) (before_releases r d xs).out
         unfolding takes_datagram
-        on_out = ap (λ (o : Option Session).
-            (opens_session o (releases_all (before_releases r d xs))).out)
-            (opened_is r size small f stands runs h hs at d ∙ none)
-            ∙ done_now.out
+        on_out = grind (arith, done_now, opened_is)
 
       -- or the next session opens
       module _ (s : Session) (opens : opens_behind h (begins d) ≡ Some s) where
@@ -244,17 +216,12 @@ module _ (r : Reception) (size : ℕ) (small : size ≤ 8) (f : Feeder) (stands 
         pub opens_writes : (next_feeder size f (Enter d) dones).written
             ≡ f.written ++ datagram_bytes r d xs
         unfolding next_feeder datagram_bytes
-        opens_writes = done_next.written
-            ∙ ap (λ (l : List ℕ). l ++ all_released_bytes (before_releases r d xs))
-            taken_more.written
+        opens_writes = grind (arith, done_next, taken_more)
 
         pub opens_out : (takes_datagram r d xs).out
             ≡ out_without (releasable size taken) (before_releases r d xs).out
         unfolding takes_datagram
-        opens_out = ap (λ (o : Option Session).
-            (opens_session o (releases_all (before_releases r d xs))).out)
-            (opened_is r size small f stands runs h hs at d ∙ opens)
-            ∙ done_next.out
+        opens_out = grind (arith, done_next, opened_is)
 
     -- ---- the end of the input
 
@@ -289,9 +256,7 @@ module _ (r : Reception) (size : ℕ) (small : size ≤ 8) (f : Feeder) (stands 
 
     pub finish_writes : (next_feeder size f Finish dones).written ≡ f.written ++ end_bytes r xs
     unfolding next_feeder end_bytes
-    finish_writes = done_end.written
-        ∙ ap (λ (l : List ℕ). l ++ all_released_bytes (all_exchanged (ends_input r) xs))
-        end_more.written
+    finish_writes = grind (arith, done_end, end_more)
 
     pub finish_out : (takes_end r xs).out
         ≡ out_without (releasable size taken_end) (all_exchanged (ends_input r) xs).out

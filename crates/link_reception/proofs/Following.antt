@@ -1,9 +1,9 @@
 -- What a receiver stands for, whatever session stands.
-use Rattle.std.proofs.Common.{◌≡◌, ℕ, ◌≤◌, false, true, refl, ap, sym, ◌∙◌, List, [], ◌∷◌, ◌++◌}
-use Rattle.std.proofs.Common.{Option, Some, None, Bool}
+use Rattle.std.proofs.Common.{◌≡◌, ℕ, ◌≤◌, false, refl, ap, ◌∙◌, List, [], ◌∷◌, ◌++◌}
+use Rattle.std.proofs.Common.{Option, Some, None, Bool, arith}
 use Rattle.link_model.specs.Feeders.{Feeder, releasable}
 use Rattle.link_model.specs.Feeding.{hears_datagram, hears_end}
-use Rattle.link_model.specs.Judgement.{outcome_behind, tally_of, outcomes_in, outcome_counts}
+use Rattle.link_model.specs.Judgement.{outcome_behind, tally_of}
 use Rattle.link_model.specs.Machine.{Enter, Finish}
 use Rattle.link_model.specs.Next.{next_feeder, taken_back}
 use Rattle.link_model.specs.Output.{output_so_far, full_output}
@@ -15,7 +15,7 @@ use Rattle.link_reception.specs.Judging.{judged, ends_input}
 use Rattle.link_reception.specs.Receptions.{Reception}
 use Rattle.link_reception.specs.Standing.{StandsFor, StandsForHeard, AreDecodings}
 use Rattle.link_reception.proofs.HeardMore.{written_of}
-use Rattle.link_reception.specs.Standing.{counts_of_sessions, out_without}
+use Rattle.link_reception.specs.Standing.{out_without}
 use Rattle.link_reception.proofs.Entered.{on_stands, on_writes, opens_stands, opens_writes}
 use Rattle.link_reception.proofs.Entered.{finish_stands, finish_writes, heard_again, heard_still}
 use Rattle.link_reception.proofs.Entered.{on_out, opens_out, finish_out}
@@ -89,13 +89,7 @@ module _ (r : Reception) (size : ℕ) (f : Feeder) (small : size ≤ 8) (stands 
     -- the output so far grows by what it writes
     pub datagram_writes : output_so_far size (f.heard ++ d ∷ [])
         ≡ output_so_far size f.heard ++ datagram_bytes r d xs
-    datagram_writes =
-        let heard = heard_again size f d xs in
-        sym (ap (output_so_far size) heard.0)
-        ∙ sym (ap (λ (over : Bool). written_of size over then.heard) (heard.1 ∙ runs))
-        ∙ sym both.0.written
-        ∙ both.1
-        ∙ ap (λ (l : List ℕ). l ++ datagram_bytes r d xs) so_far
+    datagram_writes = grind (arith, both, heard_again, so_far, written_of)
 
   -- ---- the end
 
@@ -134,20 +128,8 @@ module _ (r : Reception) (size : ℕ) (f : Feeder) (small : size ≤ 8) (stands 
   finished_out = both_end.2
 
   pub finished_writes : full_output size f.heard ≡ output_so_far size f.heard ++ end_bytes r xs
-  finished_writes =
-      let heard = heard_still size f xs in
-      sym (ap (full_output size) heard.0)
-      ∙ sym (ap (λ (b : Bool). written_of size b over.heard) heard.1)
-      ∙ sym both_end.0.written
-      ∙ both_end.1
-      ∙ ap (λ (l : List ℕ). l ++ end_bytes r xs) so_far
+  finished_writes = grind (arith, both_end, heard_still, so_far, written_of)
 
   pub finished_counts : (takes_end r xs).counts ≡ tally_of size f.heard
   unfolding tally_of
-  finished_counts =
-      let heard = heard_still size f xs in
-      both_end.0.heard.counted
-      ∙ ap (λ (b : Bool). counts_of_sessions size b (sessions_of over.heard)
-      (outcome_counts (outcomes_in size over.heard))) heard.1
-      ∙ ap (λ (l : List (List ℕ)). counts_of_sessions size true (sessions_of l)
-      (outcome_counts (outcomes_in size l))) heard.0
+  finished_counts = grind (arith, both_end, heard_still)

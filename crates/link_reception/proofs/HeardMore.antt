@@ -1,17 +1,16 @@
 -- What stays as a datagram more is heard, and which pictures are the last session's.
 use Rattle.std.proofs.Common.{cond, Bool, ◌≡◌, ℕ, ◌≤◌, true, false, refl, ap, sym}
-use Rattle.std.proofs.Common.{List, [], ◌∷◌, Option, Some, None, ◌∙◌, inl, inr}
+use Rattle.std.proofs.Common.{List, [], ◌∷◌, Option, Some, None, ◌∙◌, arith}
 use Rattle.std.specs.Prelude.{◌⊎◌}
 use Rattle.std.specs.List.{range_with_len}
 use Rattle.std.specs.Option.{option_and_then, option_map}
-use Rattle.std.proofs.lemmas.Bool.{cases_Bool, false_from_ne_true, both_ways}
 use Rattle.std.proofs.lemmas.Option.{none-some}
 use Rattle.link_model.specs.Feeders.{SliceAnswer, session_opening, entered_session, picture_keeps}
 use Rattle.link_model.specs.Feeders.{heard_pictures, is_among}
 use Rattle.link_model.specs.Feeding.{planes_by, sound_answers}
 use Rattle.link_model.specs.Kept.{Own, KeptParameters}
 use Rattle.link_model.specs.Numbers.{Numbered, is_opened}
-use Rattle.link_model.specs.Output.{full_output, output_so_far, is_opened_in, entered_behind}
+use Rattle.link_model.specs.Output.{full_output, output_so_far, entered_behind}
 use Rattle.link_model.specs.Session.{HeardSession, hears}
 use Rattle.link_model.proofs.Apart.{sessions_apart}
 use Rattle.vc_types.specs.Planes.{Planes, planes_of}
@@ -34,10 +33,7 @@ module _ (size : ℕ) (small : size ≤ 8) (hs : List HeardSession) (d : List �
   pub own_stays : (decoded : List SliceAnswer) → AreOwnAnswers size hs decoded
       → AreOwnAnswers size (hears hs d) decoded
   own_stays [] own = tt
-  own_stays (a ∷ rest) own = (
-    (own.0.0, job_stays a.number a.index size small hs d own.0.0 own.0.1, own.0.2),
-    own_stays rest own.1,
-  )
+  own_stays (a ∷ rest) own = grind (arith, job_stays, own_stays rest own.1)
 
   pub room_stays : (n : ℕ) (o : Option PictureAnswers) → HasSlots size hs n o
       → HasSlots size (hears hs d) n o
@@ -79,13 +75,8 @@ module _ (size : ℕ) (h : HeardSession) (hs : List HeardSession) where
 
   pub of_others : (n : ℕ) → is_opened es_of n ≡ false
       → (is_among (heard_pictures size hs) n ≡ true) ⊎ (session_opening size (h ∷ hs) n ≡ None)
-  of_others n shut = elim (cases_Bool (is_opened_in size hs n)) [
-    | inl was ↦ inl (pictures_among size hs n ∙ was)
-    | inr none ↦ inr (session_before size h hs n shut ∙ session_none size hs n none)
-  ]
+  of_others n shut = grind (arith, pictures_among, session_before, session_none)
 
   pub not_before : size ≤ 8 → (n : ℕ) → is_opened es_of n ≡ true
       → is_among (heard_pictures size hs) n ≡ false
-  not_before small n opened = pictures_among size hs n
-      ∙ false_from_ne_true (is_opened_in size hs n)
-      (λ was. both_ways (is_opened es_of n) (sessions_apart size hs h n small was) opened)
+  not_before small n opened = grind (arith, pictures_among, sessions_apart)

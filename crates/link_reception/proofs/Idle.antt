@@ -1,27 +1,22 @@
 -- Before a session stands a receiver has nothing to do but to judge.
-use Rattle.std.proofs.Common.{◌≡◌, ℕ, Bool, true, false, refl, ap, sym, ◌∙◌}
-use Rattle.std.proofs.Common.{List, [], ◌∷◌, ◌++◌, length, Option, Some, None, subst}
-use Rattle.std.specs.Prelude.{◌&&◌, is_none, not}
+use Rattle.std.proofs.Common.{◌≡◌, ℕ, false, refl, ap, sym, ◌∙◌}
+use Rattle.std.proofs.Common.{List, [], ◌∷◌, ◌++◌, length, Option, Some, None, subst, arith}
 use Rattle.std.specs.List.{flat_map}
-use Rattle.std.specs.Option.{option_and_then, option_map_or}
-use Rattle.std.proofs.lemmas.Bool.{cond-false}
+use Rattle.std.specs.Option.{option_map_or}
 use Rattle.link_model.specs.Feeders.{Feeder, session_opening, kept_job, let_go_pictures}
-use Rattle.link_model.specs.Feeders.{slice_job, has_released, is_decoded, not_released, releasable}
-use Rattle.link_model.specs.Feeders.{keeps_of, job_by, EnteredSession}
-use Rattle.link_model.specs.Feeding.{takes_answer, with_answer, has_job, is_same_job}
+use Rattle.link_model.specs.Feeders.{slice_job, not_released, releasable}
+use Rattle.link_model.specs.Feeding.{takes_answer}
 use Rattle.link_model.specs.Judgement.{outcomes_in, outcome_counts}
 use Rattle.link_model.specs.Next.{feeder_run, all_releasing, releasing, taken_back}
 use Rattle.link_model.specs.Output.{last_so_far, output_so_far}
-use Rattle.link_model.specs.Places.{Job, Answered}
-use Rattle.link_model.specs.Session.{Session, HeardSession, just_opened, sessions_of}
-use Rattle.link_reception.specs.Exchanging.{Exchange, Proposed, Fetched, all_exchanged}
-use Rattle.link_reception.specs.Exchanging.{out_at, back_from, unreleased_job, is_wanted}
-use Rattle.link_reception.specs.Exchanging.{takes_done}
-use Rattle.link_reception.specs.Receptions.{StandingSession, Reception, kept_answer, keeps_answer}
+use Rattle.link_model.specs.Places.{Answered}
+use Rattle.link_model.specs.Session.{Session, just_opened, sessions_of}
+use Rattle.link_reception.specs.Exchanging.{Exchange, Proposed, Fetched, all_exchanged, out_at}
+use Rattle.link_reception.specs.Exchanging.{back_from, takes_done}
+use Rattle.link_reception.specs.Receptions.{StandingSession, Reception}
 use Rattle.link_reception.specs.Releasing.{releases_up_to, bytes_up_to, releases_all}
 use Rattle.link_reception.specs.Releasing.{all_released_bytes}
-use Rattle.link_reception.specs.Standing.{StandsFor, standing_of}
-use Rattle.link_reception.specs.Standing.{field_of_sessions, counts_of_sessions}
+use Rattle.link_reception.specs.Standing.{StandsFor}
 use Rattle.link_reception.proofs.HeardMore.{written_of}
 use Rattle.link_reception.proofs.SessionPictures.{session_opens}
 
@@ -38,23 +33,11 @@ pub record IsSame (r v : Reception) : Type 0 where
 
 unwanted : (r : Reception) (done : Answered) → r.standing ≡ None → takes_done r done ≡ r
 unfolding takes_done
-unwanted r done none =
-    cond-false (is_wanted r done)
-    (record r { answers = keeps_answer r.answers done }) r
-    (ap (λ (o : Option StandingSession). option_map_or (is_same_job done.job)
-    (option_and_then (λ st. unreleased_job st done.job.number done.job.index) o) false
-    && is_none (kept_answer r.answers done.job.number done.job.index)) none)
+unwanted r done none = grind arith
 
 pub idle_exchanged : (xs : List Exchange) (r : Reception) → r.standing ≡ None
     → IsSame r (all_exchanged r xs)
-idle_exchanged [] r none = record {
-  size = refl;
-  standing = refl;
-  counts = refl;
-  answers = refl;
-  field = refl;
-  ended = refl;
-}
+idle_exchanged [] r none = grind arith
 idle_exchanged (Proposed job None ∷ xs) r none = idle_exchanged xs r none
 idle_exchanged (Proposed job (Some place) ∷ xs) r none =
     let rest = idle_exchanged xs (record r { out = r.out ++ out_at job place ∷ [] }) none in
@@ -99,18 +82,7 @@ pub record IsIdle (size : ℕ) (f : Feeder) : Type 0 where
 
 module _ (size : ℕ) (f : Feeder) (idle : IsIdle size f) where
   unused : (done : Answered) → takes_answer size f done ≡ f
-  unused done = cond-false (has_job size f done.job
-      && not (is_decoded f done.job.number done.job.index)) (with_answer f done) f
-      (ap (λ (o : Option Job). (not (has_released f done.job.number)
-      && option_map_or (is_same_job done.job) o false)
-      && not (is_decoded f done.job.number done.job.index))
-      (idle.none_kept done.job.number done.job.index)
-      ∙ both_false (not (has_released f done.job.number))
-      (not (is_decoded f done.job.number done.job.index)))
-    where
-      both_false : (a b : Bool) → ((a && false) && b) ≡ false
-      both_false true b = refl
-      both_false false b = refl
+  unused done = grind arith
 
   all_unused : (dones : List Answered) → taken_back size f dones ≡ f
   all_unused [] = refl
@@ -144,40 +116,25 @@ no_session size n = refl
 pub nothing_kept_yet : (size : ℕ) (s : Session) (n i : ℕ)
     → kept_job size (just_opened s ∷ []) n i ≡ None
 unfolding kept_job
-nothing_kept_yet size s n i =
-    ap (λ (o : Option EnteredSession). option_and_then (λ kept. job_by kept n i)
-    (option_and_then (λ e. keeps_of e n) o))
-    (session_opens size s [] n ∙ no_session size n)
+nothing_kept_yet size s n i = grind (arith, no_session, session_opens)
 
 -- ---- while no session stands
 
 module _ (r : Reception) (size : ℕ) (f : Feeder) (stands : StandsFor r size f)
     (runs : f.has_ended ≡ false) (at : sessions_of f.heard ≡ []) where
   pub none_stands : r.standing ≡ None
-  none_stands = stands.heard.session
-      ∙ ap (λ (over : Bool). standing_of size over (sessions_of f.heard)) runs
-      ∙ ap (standing_of size false) at
+  none_stands = grind arith
 
   pub no_field : r.field ≡ None
-  no_field = stands.heard.waiting_field
-      ∙ ap (λ (over : Bool). field_of_sessions size over (sessions_of f.heard)) runs
-      ∙ ap (field_of_sessions size false) at
+  no_field = grind arith
 
   pub counts_are : r.counts ≡ outcome_counts (outcomes_in size f.heard)
-  counts_are = stands.heard.counted
-      ∙ ap (λ (over : Bool). counts_of_sessions size over (sessions_of f.heard)
-      (outcome_counts (outcomes_in size f.heard))) runs
-      ∙ ap (λ (l : List HeardSession). counts_of_sessions size false l
-      (outcome_counts (outcomes_in size f.heard))) at
+  counts_are = grind arith
 
   pub none_gone : f.released ≡ []
   unfolding let_go_pictures
-  none_gone = stands.released
-      ∙ ap (λ (over : Bool). let_go_pictures size over (sessions_of f.heard)) runs
-      ∙ ap (let_go_pictures size false) at
+  none_gone = grind arith
 
   pub none_written : f.written ≡ []
   unfolding output_so_far last_so_far
-  none_written = stands.written
-      ∙ ap (λ (over : Bool). written_of size over f.heard) runs
-      ∙ ap (last_so_far size) at
+  none_written = grind (arith, written_of)

@@ -1,15 +1,14 @@
 -- A receiver judges a datagram as the list of those that it heard says.
 use Rattle.std.proofs.Common.{◌≡◌, ℕ, List, [], ◌∷◌, Option, Some, None, Result, Ok, Err}
-use Rattle.std.proofs.Common.{refl, ap, sym, ◌∙◌, cond, false}
+use Rattle.std.proofs.Common.{refl, ap, ◌∙◌, cond, false, arith}
 use Rattle.std.specs.Prelude.{◌==◌, is_some}
-use Rattle.std.proofs.lemmas.List.{append-nil}
+use Rattle.std.proofs.lemmas.Grind.{common_steps}
 use Rattle.link_model.specs.Judgement.{outcome_of, outcome_behind, later_outcome}
 use Rattle.link_model.specs.Output.{base_behind}
 use Rattle.link_model.specs.Packets.{PayloadValue, Header, End, Skip, Params, Slices}
-use Rattle.link_model.specs.Session.{Received, received, DatagramRefusal, Session, HeardSession}
-use Rattle.link_model.specs.Session.{opens_behind, session_by, sessions_of}
-use Rattle.link_model.specs.Session.{params_fragment, slices_fragment}
-use Rattle.link_model.specs.Windows.{WindowPast, past_let_go, window_of, StandsForPast}
+use Rattle.link_model.specs.Session.{Received, DatagramRefusal, Session, HeardSession, opens_behind}
+use Rattle.link_model.specs.Session.{session_by, sessions_of, params_fragment, slices_fragment}
+use Rattle.link_model.specs.Windows.{WindowPast, window_of, StandsForPast}
 use Rattle.link_model.specs.declared.outcome.Outcome.{Outcome}
 use Rattle.link_model.specs.declared.outcome.Outcome.TheVariants as outcomes
 use Rattle.link_model.proofs.RisingNumbers.{begins_with}
@@ -19,18 +18,9 @@ use Rattle.link_reception.specs.Receptions.{StandingSession, Reception}
 use Rattle.link_reception.specs.Standing.{all_released, last_past, standing_with, standing_of}
 
 -- a window of which every picture that is let go was released
-pub all_released_stands : (p : WindowPast) → StandsForPast (window_of p) p
-    → StandsForPast (window_of (all_released p)) (all_released p)
-all_released_stands p stands = record {
-  value = refl;
-  in_order = begins_with (past_let_go p) (past_let_go p) [] (sym (append-nil (past_let_go p)));
-}
 
 pub resting_stands : (p : WindowPast) → StandsForPast (window_of (all_released p)) (all_released p)
-resting_stands p = record {
-  value = refl;
-  in_order = begins_with (past_let_go p) (past_let_go p) [] (sym (append-nil (past_let_go p)));
-}
+resting_stands p = grind (arith, common_steps, begins_with)
 
 module _ (size : ℕ) (h : HeardSession) (hs : List HeardSession) where
   abbrev at_rest : StandingSession
@@ -73,6 +63,4 @@ pub judged_is : (r : Reception) (size : ℕ) (datagrams : List (List ℕ)) (d : 
     → r.standing ≡ standing_of size false (sessions_of datagrams)
     → judged r d ≡ outcome_behind size datagrams d
 unfolding judged outcome_behind
-judged_is r size datagrams d stands =
-    ap (λ (o : Option StandingSession). outcome_by o (received d)) stands
-    ∙ outcome_same size (sessions_of datagrams) (received d)
+judged_is r size datagrams d stands = grind (arith, outcome_same)

@@ -1,16 +1,14 @@
 -- The jobs of the slices that the pictures of a session keep, by what was entered of it, and those
 -- of its window, which has forgotten pictures that are closed and released.
 use Rattle.std.proofs.Common.{◌≡◌, ℕ, Bool, true, false, refl, ap, sym, ◌∙◌}
-use Rattle.std.proofs.Common.{List, [], ◌∷◌, ◌++◌, Option, Some, None, cond}
+use Rattle.std.proofs.Common.{List, [], ◌∷◌, ◌++◌, Option, Some, None, cond, arith}
 use Rattle.std.specs.Prelude.{◌&&◌, ◌||◌, not, filter_map}
 use Rattle.std.specs.List.{last_or}
 use Rattle.std.specs.Option.{option_and_then}
-use Rattle.std.proofs.lemmas.Bool.{false≢true}
-use Rattle.std.proofs.lemmas.Option.{none-some}
 use Rattle.link_model.specs.Books.{Book, book_of}
 use Rattle.link_model.specs.Feeders.{EnteredSession, entered_session, session_opening}
 use Rattle.link_model.specs.Feeders.{keeps_of, job_by, kept_job}
-use Rattle.link_model.specs.Kept.{Own, own}
+use Rattle.link_model.specs.Kept.{own}
 use Rattle.link_model.specs.Numbers.{Numbered, base_above, has_parts, is_closed, is_opened}
 use Rattle.link_model.specs.Numbers.{parts_of}
 use Rattle.link_model.specs.Output.{entered_behind, greatest_of}
@@ -37,12 +35,7 @@ entered_job s es n i = option_and_then (λ kept. job_by kept n i) (own s (parts_
 -- a picture that keeps a slice is opened
 pub job_opened : (s : Sequence) (es : List Numbered) (n i : ℕ) (job : Job)
     → entered_job s es n i ≡ Some job → is_opened es n ≡ true
-job_opened s es n i job is = by_own (own s (parts_of n es)) refl is
-  where
-    by_own : (o : Option Own) → own s (parts_of n es) ≡ o
-        → option_and_then (λ kept. job_by kept n i) o ≡ Some job → is_opened es n ≡ true
-    by_own None at e = absurd (none-some job e)
-    by_own (Some kept) at e = keeps_opened s es n kept at
+job_opened s es n i job is = grind (arith, keeps_opened)
 
 -- ---- of sessions
 
@@ -117,35 +110,12 @@ module _ (w : Window) (p : WindowPast) (stands : StandsForPast w p) (n i : ℕ) 
 
   -- what the window has is kept
   pub window_keeps : (job : Job) → window_job w n i ≡ Some job → its_job ≡ Some job
-  window_keeps job is =
-      by_test (is_opened p.entries n && not is_forgotten) (sym window_job_by ∙ is)
-    where
-      by_test : (b : Bool) → cond b (entered_job p.sequence p.entries n i) None ≡ Some job
-          → entered_job p.sequence p.entries n i ≡ Some job
-      by_test true e = e
-      by_test false e = absurd (none-some job e)
+  window_keeps job is = grind (arith, window_job_by)
 
   -- and it has all that it hasn't forgotten
   pub unforgotten : (job : Job) → is_forgotten ≡ false → its_job ≡ Some job
       → window_job w n i ≡ Some job
-  unforgotten job stays is =
-      window_job_by
-      ∙ by_tests (is_opened p.entries n) is_forgotten
-      (job_opened p.sequence p.entries n i job is) stays
-      ∙ is
-    where
-      by_tests : (was gone : Bool) → was ≡ true → gone ≡ false
-          → cond (was && not gone) (entered_job p.sequence p.entries n i) None
-          ≡ entered_job p.sequence p.entries n i
-      by_tests true false opened stays = refl
-      by_tests true true opened stays = absurd (false≢true (sym stays))
-      by_tests false gone opened stays = absurd (false≢true opened)
+  unforgotten job stays is = grind (arith, job_opened, window_job_by)
 
   pub forgotten : is_forgotten ≡ true → window_job w n i ≡ None
-  forgotten gone = window_job_by ∙ by_tests (is_opened p.entries n) is_forgotten gone
-    where
-      by_tests : (was gone : Bool) → gone ≡ true
-          → cond (was && not gone) (entered_job p.sequence p.entries n i) None ≡ None
-      by_tests true true is = refl
-      by_tests true false is = absurd (false≢true is)
-      by_tests false gone is = refl
+  forgotten gone = grind (arith, window_job_by)

@@ -1,10 +1,11 @@
 -- The fields that were found to be alone one after another are the unpaired ones.
 use Rattle.std.proofs.Common.{◌≡◌, ℕ, ◌+◌, ◌-◌, ◌%◌, ◌<◌, ◌≤◌, Bool, true, false, refl, ap, sym}
 use Rattle.std.proofs.Common.{List, [], ◌∷◌, Option, Some, None, ◌∙◌, arith, cond, inl, inr}
-use Rattle.std.specs.Prelude.{◌==◌, ◌&&◌, ◌||◌, is_some, not, fold, count_by, filter, length}
+use Rattle.std.specs.Prelude.{◌==◌, ◌&&◌, is_some, not, fold, count_by}
 use Rattle.std.specs.Option.{option_map}
 use Rattle.std.proofs.lemmas.Bool.{cases_Bool, cases_eq, cases_lt, cond-true, cond-false, eqb-true}
 use Rattle.std.proofs.lemmas.Bool.{eq-eqb, ne_eqb, false≢true, both_ways, false_from_ne_true}
+use Rattle.std.proofs.lemmas.Grind.{common_steps}
 use Rattle.std.proofs.lemmas.List.Sums.{length-filter}
 use Rattle.std.proofs.lemmas.Option.{none-some}
 use Rattle.link_model.specs.Feeders.{is_among}
@@ -14,7 +15,7 @@ use Rattle.link_model.specs.Output.{planes_at, woven_fields}
 use Rattle.vc_types.specs.Planes.{Planes}
 use Rattle.vc_types.specs.SequenceHeader.{Sequence}
 use Rattle.link_reception.specs.Receptions.{FirstField}
-use Rattle.link_reception.specs.Releasing.{as_first, field_before, field_behind, released_frame}
+use Rattle.link_reception.specs.Releasing.{as_first, field_before, field_behind}
 use Rattle.link_reception.specs.Releasing.{fields_alone, one_if}
 use Rattle.link_reception.specs.Standing.{Fields, no_fields, next_field, fields_behind}
 use Rattle.link_reception.proofs.ReleasedNumbers.{AreRising, among_rising}
@@ -23,17 +24,7 @@ use Rattle.link_reception.proofs.WaitingFields.{first_is}
 -- how many pass
 count_first : (test : ℕ → Bool) (n : ℕ) (ns : List ℕ)
     → count_by test (n ∷ ns) ≡ one_if (test n) + count_by test ns
-count_first test n ns =
-    omega (
-      arith,
-      length-filter test (n ∷ ns),
-      length-filter test ns,
-      one (test n) (filter test ns),
-    )
-  where
-    one : (b : Bool) (l : List ℕ) → length (cond b (n ∷ l) l) ≡ one_if b + length l
-    one true l = omega arith
-    one false l = omega arith
+count_first test n ns = grind (arith, common_steps, length-filter)
 
 module _ (s : Sequence) (es : List Numbered) where
   abbrev found : ℕ → Bool
@@ -50,14 +41,7 @@ module _ (s : Sequence) (es : List Numbered) where
         ap (λ (b : Bool). cond (b && n % 2 == 0) (option_map (as_first n) planes) None) frames
 
     none_alone : (n : ℕ) (planes : Option Planes) → fields_alone s None n planes ≡ 0
-    none_alone n planes =
-        ap (λ (b : Bool). cond (is_some (released_frame s None n planes)) 0
-        (0 + one_if (b && n % 2 == 1 && is_some planes))) frames
-        ∙ by_frame (is_some (released_frame s None n planes))
-      where
-        by_frame : (b : Bool) → cond b 0 (0 + 0) ≡ 0
-        by_frame true = refl
-        by_frame false = refl
+    none_alone n planes = grind arith
 
     frames_after : (ns : List ℕ) (x : Fields) → x.waiting ≡ None
         → ((after x ns).alone ≡ x.alone) × ((after x ns).waiting ≡ None)
@@ -75,13 +59,7 @@ module _ (s : Sequence) (es : List Numbered) where
 
     none_unpaired : (ns : List ℕ) → count_by (is_unpaired s es) ns ≡ 0
     none_unpaired [] = omega (arith, length-filter (is_unpaired s es) [])
-    none_unpaired (n ∷ ns) = omega (
-      arith,
-      count_first (is_unpaired s es) n ns,
-      none_unpaired ns,
-      ap (λ (b : Bool). one_if (b && has_planes s es n && not (has_planes s es (partner n))))
-          frames,
-    )
+    none_unpaired (n ∷ ns) = grind (arith, count_first, none_unpaired ns)
 
   -- ---- with field coding
 
@@ -99,9 +77,7 @@ module _ (s : Sequence) (es : List Numbered) where
         ≡ cond (is_some (cond (n % 2 == 1)
         (woven_fields s.top_first (field_before w n) (planes_at s es n)) None)) 0
         (one_if (is_some w) + one_if (n % 2 == 1 && found n))
-    alone_is w n = ap (λ (b : Bool). cond (is_some (cond b (cond (n % 2 == 1)
-        (woven_fields s.top_first (field_before w n) (planes_at s es n)) None) (planes_at s es n)))
-        0 (one_if (is_some w) + one_if (b && n % 2 == 1 && found n))) coding
+    alone_is w n = grind arith
 
     behind_is : (n : ℕ) → field_behind s n (planes_at s es n)
         ≡ cond (n % 2 == 0) (option_map (as_first n) (planes_at s es n)) None
@@ -130,9 +106,7 @@ module _ (s : Sequence) (es : List Numbered) where
     -- what isn't left has no planes
     missing : (bound n : ℕ) (ns : List ℕ) (w : Option FirstField) → IsReady bound (n ∷ ns) w
         → (k : ℕ) → bound ≤ k → k < n → found k ≡ false
-    missing bound n ns w ready k from less = false_from_ne_true (found k)
-        (λ is. let low = among_rising k n (n ∷ ns) (omega arith, ready.rises.1)
-        (ready.left k from is) in omega (arith, low, less))
+    missing bound n ns w ready k from less = grind (arith, among_rising, from)
 
     -- what n is, by its parity
     abbrev alone_by : Bool → Option FirstField → ℕ → Option Planes → ℕ
@@ -160,12 +134,7 @@ module _ (s : Sequence) (es : List Numbered) where
 
         debt_now : debt (option_map (as_first n) (planes_at s es n))
             ≡ one_if (found n && not (found (n + 1)))
-        debt_now = by_planes (planes_at s es n)
-          where
-            by_planes : (o : Option Planes) → debt (option_map (as_first n) o)
-                ≡ one_if (is_some o && not (found (n + 1)))
-            by_planes None = refl
-            by_planes (Some planes) = refl
+        debt_now = grind arith
 
         debt_before : one_if (is_some w) ≡ debt w
         debt_before = by_field w refl
@@ -179,17 +148,7 @@ module _ (s : Sequence) (es : List Numbered) where
 
         even_step : fields_alone s w n (planes_at s es n)
             + debt (field_behind s n (planes_at s es n)) ≡ one_if (is_unpaired s es n) + debt w
-        even_step =
-            let a : fields_alone s w n (planes_at s es n) ≡ one_if (is_some w) + 0 =
-            alone_is w n ∙ ap (λ (b : Bool). alone_by b w n (planes_at s es n)) odd_not in
-            let b : debt (field_behind s n (planes_at s es n))
-            ≡ one_if (found n && not (found (n + 1))) =
-            ap debt (behind_is n ∙ ap (λ (b : Bool).
-            cond b (option_map (as_first n) (planes_at s es n)) None) even) ∙ debt_now in
-            let c : one_if (is_unpaired s es n) ≡ one_if (found n && not (found (n + 1))) =
-            ap one_if (unpaired_is n) ∙ ap (λ (b : Bool).
-            one_if (found n && not (found (cond b (n + 1) (n - 1))))) even in
-            omega (arith, a, b, c, debt_before)
+        even_step = grind (arith, alone_is, behind_is, debt_before, debt_now, odd_not, unpaired_is)
 
       -- an odd one
       module _ (odd : (n % 2 == 1) ≡ true) where
@@ -210,33 +169,16 @@ module _ (s : Sequence) (es : List Numbered) where
               (eq-eqb ((n - 1) % 2) 0 (omega (arith, is_odd))) is)))
         ]
 
-        abbrev frame_of_it : Option Planes
-        frame_of_it = woven_fields s.top_first (field_before w n) (planes_at s es n)
-
         -- nothing is woven: what waited is alone, and so is this one
         unwoven : field_before w n ≡ None → one_if (is_some w) ≡ debt w
             → found (n - 1) ≡ false
             → alone_by true w n (planes_at s es n)
             ≡ one_if (found n && not (found (n - 1))) + debt w
-        unwoven none owed missing =
-            let a : alone_by true w n (planes_at s es n) ≡ one_if (is_some w) + one_if (found n) =
-            ap (λ (o : Option Planes). cond (is_some (woven_fields s.top_first o
-            (planes_at s es n))) 0 (one_if (is_some w) + one_if (true && found n))) none
-            ∙ ap (λ (b : Bool). cond b 0 (one_if (is_some w) + one_if (found n)))
-            (no_frame s.top_first (planes_at s es n)) in
-            let b : one_if (found n && not (found (n - 1))) ≡ one_if (found n) =
-            ap (λ (b : Bool). one_if (found n && not b)) missing ∙ and_true (found n) in
-            omega (arith, a, b, owed)
-          where
-            and_true : (b : Bool) → one_if (b && true) ≡ one_if b
-            and_true true = refl
-            and_true false = refl
+        unwoven none owed missing = grind (arith, missing, no_frame)
 
         by_field : (o : Option FirstField) → w ≡ o → alone_by true w n (planes_at s es n)
             ≡ one_if (found n && not (found (n - 1))) + debt w
-        by_field None is = unwoven (ap (λ (v : Option FirstField). field_before v n) is)
-            (ap (λ (v : Option FirstField). one_if (is_some v)) is ∙ sym (ap debt is))
-            (none_before (λ same. ap (λ (v : Option FirstField). is_some v) is))
+        by_field None is = grind (arith, none_before, unwoven)
         by_field (Some v) is = elim (cases_eq (v.number + 1) n) [
           | inl second ↦ woven second
           | inr other ↦ (let waits = ready.waits v is in
@@ -277,52 +219,14 @@ module _ (s : Sequence) (es : List Numbered) where
 
         odd_step : fields_alone s w n (planes_at s es n)
             + debt (field_behind s n (planes_at s es n)) ≡ one_if (is_unpaired s es n) + debt w
-        odd_step =
-            let a : fields_alone s w n (planes_at s es n)
-            ≡ one_if (found n && not (found (n - 1))) + debt w =
-            alone_is w n
-            ∙ ap (λ (b : Bool). alone_by b w n (planes_at s es n)) odd
-            ∙ by_field w refl in
-            let b : debt (field_behind s n (planes_at s es n)) ≡ 0 =
-            ap debt (behind_is n ∙ ap (λ (b : Bool).
-            cond b (option_map (as_first n) (planes_at s es n)) None) even_not) in
-            let c : one_if (is_unpaired s es n) ≡ one_if (found n && not (found (n - 1))) =
-            ap one_if (unpaired_is n) ∙ ap (λ (b : Bool).
-            one_if (found n && not (found (cond b (n + 1) (n - 1))))) even_not in
-            omega (arith, a, b, c)
+        odd_step = grind (arith, alone_is, behind_is, by_field, even_not, unpaired_is)
 
       step : fields_alone s w n (planes_at s es n) + debt (field_behind s n (planes_at s es n))
           ≡ one_if (is_unpaired s es n) + debt w
-      step = elim (cases_eq (n % 2) 0) [
-        | inl even ↦ even_step (eq-eqb (n % 2) 0 even)
-        | inr other ↦ odd_step (eq-eqb (n % 2) 1 (omega (arith, other)))
-      ]
+      step = grind (arith, even_step, odd_step)
 
       ready_behind : IsReady (n + 1) ns (field_behind s n (planes_at s es n))
-      ready_behind = record {
-        rises = ready.rises.1;
-        left = λ k above is. later k above (ready.left k (omega (arith, above, from)) is);
-        waits = λ v is. (let first = first_is s n (planes_at s es n) v is in (
-          ap (λ k. k + 1) first.number,
-          ap (planes_at s es) first.number ∙ first.planes_are,
-          ap (λ k. k % 2 == 0) first.number ∙ first.even,
-        ));
-        waited = λ k at even is. (let here : k ≡ n = omega (arith, at) in
-            ap (λ (o : Option FirstField). is_some o) (behind_is n)
-            ∙ ap (λ (b : Bool).
-            is_some (cond b (option_map (as_first n) (planes_at s es n)) None))
-            (sym (ap (λ k. k % 2 == 0) here) ∙ even)
-            ∙ by_planes (planes_at s es n) (sym (ap found here) ∙ is));
-      }
-        where
-          later : (k : ℕ) → n + 1 ≤ k → is_among (n ∷ ns) k ≡ true → is_among ns k ≡ true
-          later k above there = sym (ap (λ (b : Bool). b || is_among ns k)
-              (ne_eqb n k (λ same. omega (arith, same, above)))) ∙ there
-
-          by_planes : (o : Option Planes) → is_some o ≡ true
-              → is_some (option_map (as_first n) o) ≡ true
-          by_planes None e = absurd (false≢true e)
-          by_planes (Some planes) e = refl
+      ready_behind = grind (arith, behind_is, first_is, from)
 
     fields_after : (ns : List ℕ) (bound : ℕ) (x : Fields) → IsReady bound ns x.waiting
         → (after x ns).alone + one_if (is_some (after x ns).waiting)

@@ -1,16 +1,15 @@
 -- A fragment more in a window: the jobs that it offers are those of the slices that its session's
 -- pictures newly keep.
-use Rattle.std.proofs.Common.{◌≡◌, ℕ, ◌+◌, ◌≤◌, Bool, true, false, refl, ap, sym, ◌∙◌, arith}
-use Rattle.std.proofs.Common.{List, [], ◌∷◌, ◌++◌, Option, Some, None, inl, inr}
+use Rattle.std.proofs.Common.{◌≡◌, ℕ, ◌≤◌, Bool, true, false, refl, ap, sym, ◌∙◌, arith}
+use Rattle.std.proofs.Common.{List, [], ◌∷◌, Option, Some, None, inl, inr}
 use Rattle.std.specs.Prelude.{◌==◌, ◌&&◌, ◌||◌}
 use Rattle.std.specs.List.{last_or}
 use Rattle.std.specs.Option.{option_and_then}
-use Rattle.std.proofs.lemmas.Bool.{cases_Bool, cases_eq, cases_lt, false≢true, leb-true, lt-leb}
-use Rattle.std.proofs.lemmas.Bool.{eq-eqb}
+use Rattle.std.proofs.lemmas.Bool.{cases_Bool, cases_eq, false≢true, leb-true, eq-eqb}
 use Rattle.std.proofs.lemmas.Option.{none-some}
 use Rattle.link_model.specs.Feeders.{is_among, job_by}
 use Rattle.link_model.specs.Kept.{own}
-use Rattle.link_model.specs.Numbers.{Numbered, base_above, greatest, has_parts, is_closed, is_late}
+use Rattle.link_model.specs.Numbers.{Numbered, base_above, greatest, is_closed, is_late}
 use Rattle.link_model.specs.Numbers.{is_opened, picture_number}
 use Rattle.link_model.specs.Places.{Job}
 use Rattle.link_model.specs.Session.{Part, Fragment}
@@ -44,11 +43,7 @@ module _ (n bound : ℕ) where
       (λ i there. each i (or_later (k == i) there)) low
 
 opened_below : (es : List Numbered) (n : ℕ) → is_opened es n ≡ true → n ≤ greatest es
-opened_below es n opened = elim (cases_lt (greatest es) n) [
-  | inl above ↦ absurd (false≢true
-      (sym (ap has_parts (parts_of-outside n es (inr above))) ∙ opened))
-  | inr low ↦ low
-]
+opened_below es n opened = grind (arith, parts_of-outside)
 
 -- ---- a fragment more
 
@@ -72,29 +67,7 @@ module _ (w : Window) (p : WindowPast) (stands : StandsForPast w p) (runs : p.is
   stays_here : is_late p.size p.entries m ≡ false → is_forgotten (window_enters w f) later
       later_stands m 0 ≡ false
   unfolding is_closed greatest
-  stays_here early = by_tests p.is_ended (is_closed p.size later.entries m)
-      (released_up_to (last_or None p.released) m) runs unclosed
-    where
-      by_tests : (over closed low : Bool) → over ≡ false → (low ≡ true → closed ≡ false)
-          → ((over || closed) && low) ≡ false
-      by_tests true closed low is stays = absurd (false≢true (sym is))
-      by_tests false true true is stays = stays refl
-      by_tests false true false is stays = refl
-      by_tests false false low is stays = refl
-
-      unclosed : released_up_to (last_or None p.released) m ≡ true
-          → is_closed p.size later.entries m ≡ false
-      unclosed low =
-          let e : Numbered = record { number = m; part = f.part } in
-          let grown : greatest later.entries ≡ greatest (p.entries ++ e ∷ []) =
-          ap greatest (early_enters (base_above p.before) p.size p.entries f early) in
-          lt-leb (m + p.size) (greatest later.entries) (omega (
-            arith,
-            grown,
-            greatest-append p.entries (e ∷ []),
-            low_is_small m low,
-            early_is p.size p.entries m early,
-          ))
+  stays_here early = grind (arith, early_enters, early_is, greatest-append, low_is_small)
 
   abbrev job_before : ℕ → ℕ → Option Job
   job_before n i = entered_job p.sequence p.entries n i
@@ -136,18 +109,7 @@ module _ (w : Window) (p : WindowPast) (stands : StandsForPast w p) (runs : p.is
       → job_behind n i ≡ Some job → is_closed p.size later.entries n ≡ false
   unfolding is_closed greatest
   newly_open some n i job none is =
-      let here = newly_here n i job none is in
-      let e : Numbered = record { number = m; part = f.part } in
-      let grown : greatest later.entries ≡ greatest (p.entries ++ e ∷ []) =
-      ap greatest (early_enters (base_above p.before) p.size p.entries f here.1) in
-      ap (is_closed p.size later.entries) here.0
-      ∙ lt-leb (m + p.size) (greatest later.entries) (omega (
-        arith,
-        grown,
-        greatest-append p.entries (e ∷ []),
-        early_is p.size p.entries m here.1,
-        some,
-      ))
+      grind (arith, early_enters, early_is, greatest-append, newly_here)
 
   -- nothing else is offered
   pub only_newly : (job : Job) → is_job_among (offered_jobs w (window_enters w f) f) job ≡ true

@@ -1,48 +1,36 @@
 -- The jobs that a fragment offers are those of the slices that it brings.
-use Rattle.std.proofs.Common.{◌≡◌, ℕ, ◌+◌, Bool, true, false, refl, ap, sym, ◌∙◌, arith}
-use Rattle.std.proofs.Common.{List, [], ◌∷◌, ◌++◌, length, Option, Some, None, cond, inl, inr}
-use Rattle.std.proofs.Common.{subst}
-use Rattle.std.specs.Prelude.{◌==◌, ◌&&◌, ◌||◌, is_some, not, filter_map, bytes_eq, slice_get}
-use Rattle.std.specs.List.{cons_option, last_or, range_with_len}
-use Rattle.std.specs.Option.{option_and_then, option_map, option_map_or}
-use Rattle.std.proofs.lemmas.Bool.{cases_Bool, cases_eq, cond-false, and_from, eq-eqb}
-use Rattle.std.proofs.lemmas.Bool.{ne_eqb, false≢true, le-leb, leb-true}
+use Rattle.std.proofs.Common.{◌≡◌, ℕ, Bool, true, false, refl, ap, sym, ◌∙◌, arith, List, [], ◌∷◌}
+use Rattle.std.proofs.Common.{◌++◌, Option, Some, None, cond, inl, inr, subst}
+use Rattle.std.specs.Prelude.{◌&&◌, ◌||◌, is_some, not, filter_map}
+use Rattle.std.specs.List.{cons_option, last_or}
+use Rattle.std.specs.Option.{option_and_then}
+use Rattle.std.proofs.lemmas.Bool.{cases_Bool, cases_eq, ne_eqb, false≢true}
 use Rattle.std.proofs.lemmas.List.{append-nil}
-use Rattle.std.proofs.lemmas.Option.{none-some, same_Some, slice_get_within}
+use Rattle.std.proofs.lemmas.Option.{none-some, slice_get_within}
 use Rattle.std.proofs.lemmas.Slice.Eq.{bytes_eq-Decides}
-use Rattle.link_model.specs.Books.{Book, book_of, book_slice, Gathered, slot_at}
+use Rattle.link_model.specs.Books.{Book, book_of}
 use Rattle.link_model.specs.Feeders.{is_among}
 use Rattle.link_model.specs.Feeding.{is_same_job}
-use Rattle.link_model.specs.Numbers.{Numbered, base_above, greatest, has_parts, is_closed}
+use Rattle.link_model.specs.Numbers.{Numbered, base_above, has_parts, is_closed}
 use Rattle.link_model.specs.Numbers.{is_late, is_opened, parts_of, picture_number}
 use Rattle.link_model.specs.Places.{Job}
 use Rattle.link_model.specs.Session.{Part, Fragment}
-use Rattle.link_model.specs.Windows.{Window, WindowPast, StandsForPast, book_at, number_by}
+use Rattle.link_model.specs.Windows.{Window, WindowPast, StandsForPast, number_by}
 use Rattle.link_model.specs.Windows.{window_enters, past_enters, released_up_to}
 use Rattle.link_model.proofs.Numbering.{early_enters, enters_follows, late_changes_nothing}
 use Rattle.link_model.proofs.Numbering.{parts_of-append, parts_of-other}
 use Rattle.link_model.proofs.Windowing.{number_of_window}
 use Rattle.link_model.proofs.WindowStands.{book_is, enters_stands}
-use Rattle.vc_types.specs.SameValues.{same_parameters}
 use Rattle.vc_types.proofs.SameValues.{parameters_exactly}
-use Rattle.link_reception.specs.Exchanging.{gathered_job, slot_job, book_job, window_job, new_job}
-use Rattle.link_reception.specs.Exchanging.{has_slice_in, numbers_in, new_jobs_of, offered_jobs}
-use Rattle.link_reception.specs.Exchanging.{is_job_among}
+use Rattle.link_reception.specs.Exchanging.{book_job, window_job, has_slice_in, numbers_in}
+use Rattle.link_reception.specs.Exchanging.{new_jobs_of, offered_jobs, is_job_among}
 use Rattle.link_reception.proofs.ReleaseLists.{among_range}
 use Rattle.link_reception.proofs.SliceJobs.{same_job_is}
 
 -- ---- jobs among others
 
 pub same_itself : (job : Job) → is_same_job job job ≡ true
-same_itself job =
-    and_from (same_parameters job.plan job.plan && job.number == job.number
-    && job.index == job.index) (bytes_eq job.bytes job.bytes)
-    (and_from (same_parameters job.plan job.plan && job.number == job.number)
-    (job.index == job.index)
-    (and_from (same_parameters job.plan job.plan) (job.number == job.number)
-    ((parameters_exactly job.plan job.plan).1 refl) (eq-eqb job.number job.number refl))
-    (eq-eqb job.index job.index refl))
-    ((bytes_eq-Decides job.bytes job.bytes).1 refl)
+same_itself job = grind (arith, bytes_eq-Decides, parameters_exactly)
 
 pub or_later : (b : Bool) {c : Bool} → c ≡ true → (b || c) ≡ true
 or_later true e = refl
@@ -92,69 +80,21 @@ module _ (job_by : ℕ → Option Job) (job : Job) where
 module _ (w : Window) (n i : ℕ) where
   -- a slice has a job where it is kept
   slice_there : is_some (window_job w n i) ≡ has_slice_in w n i
-  slice_there = by_book (book_at w.books n)
-    where
-      by_slot : (g : Gathered) (o : Option (List ℕ))
-          → is_some (option_map (gathered_job g n i) o) ≡ is_some o
-      by_slot g None = refl
-      by_slot g (Some bytes) = refl
-
-      by_gathered : (o : Option Gathered)
-          → is_some (option_and_then (λ g. slot_job g n i) o)
-          ≡ is_some (option_and_then (λ (g : Gathered). slot_at g.slots i) o)
-      by_gathered None = refl
-      by_gathered (Some g) = by_slot g (slot_at g.slots i)
-
-      by_book : (o : Option Book) → is_some (option_and_then (λ book. book_job book n i) o)
-          ≡ is_some (option_and_then (λ book. book_slice book i) o)
-      by_book None = refl
-      by_book (Some book) = by_gathered book.gathered
+  slice_there = grind arith
 
   none_there : window_job w n i ≡ None → has_slice_in w n i ≡ false
   none_there none = sym slice_there ∙ ap (λ (o : Option Job). is_some o) none
 
   no_job_there : has_slice_in w n i ≡ false → window_job w n i ≡ None
-  no_job_there none = by_job (window_job w n i) (slice_there ∙ none)
-    where
-      by_job : (o : Option Job) → is_some o ≡ false → o ≡ None
-      by_job None e = refl
-      by_job (Some job) e = absurd (false≢true (sym e))
+  no_job_there none = grind (arith, slice_there)
 
   job_numbers : (job : Job) → window_job w n i ≡ Some job → (job.number ≡ n) × (job.index ≡ i)
-  job_numbers job is = by_book (book_at w.books n) is
-    where
-      by_slot : (g : Gathered) (o : Option (List ℕ))
-          → option_map (gathered_job g n i) o ≡ Some job → (job.number ≡ n) × (job.index ≡ i)
-      by_slot g None e = absurd (none-some job e)
-      by_slot g (Some bytes) e = let same = same_Some (gathered_job g n i bytes) job e in
-          (sym (ap (λ (j : Job). j.number) same), sym (ap (λ (j : Job). j.index) same))
-
-      by_gathered : (o : Option Gathered) → option_and_then (λ g. slot_job g n i) o ≡ Some job
-          → (job.number ≡ n) × (job.index ≡ i)
-      by_gathered None e = absurd (none-some job e)
-      by_gathered (Some g) e = by_slot g (slot_at g.slots i) e
-
-      by_book : (o : Option Book) → option_and_then (λ book. book_job book n i) o ≡ Some job
-          → (job.number ≡ n) × (job.index ≡ i)
-      by_book None e = absurd (none-some job e)
-      by_book (Some book) e = by_gathered book.gathered e
+  job_numbers job is = grind arith
 
 -- a slice that a book keeps is one of its numbers
 numbered : (book : Book) (n i : ℕ) (job : Job) → book_job book n i ≡ Some job
     → is_among (numbers_in book) i ≡ true
-numbered book n i job is = by_gathered book.gathered is
-  where
-    by_slot : (g : Gathered) (o : Option (Option (List ℕ))) → slice_get g.slots i ≡ o
-        → option_map (gathered_job g n i) (option_and_then (λ slot. slot) o) ≡ Some job
-        → is_among (range_with_len 0 (length g.slots)) i ≡ true
-    by_slot g None at e = absurd (none-some job e)
-    by_slot g (Some slot) at e = let below = slice_get_within g.slots i slot at in
-        among_range i (length g.slots) 0 (omega arith) (omega (arith, below))
-
-    by_gathered : (o : Option Gathered) → option_and_then (λ g. slot_job g n i) o ≡ Some job
-        → is_among (option_map_or (λ g. range_with_len 0 (length g.slots)) o []) i ≡ true
-    by_gathered None e = absurd (none-some job e)
-    by_gathered (Some g) e = by_slot g (slice_get g.slots i) refl e
+numbered book n i job is = grind (arith, among_range, slice_get_within)
 
 -- ---- of a picture
 
@@ -162,46 +102,13 @@ module _ (old new : Window) (n : ℕ) where
   -- each slice that it has now and hadn't before is offered
   of_picture : (i : ℕ) (job : Job) → window_job old n i ≡ None → window_job new n i ≡ Some job
       → is_job_among (new_jobs_of old new n) job ≡ true
-  of_picture i job none is = by_book (book_at new.books n) refl is
-    where
-      now : new_job old new n i ≡ Some job
-      now = cond-false (has_slice_in old n i) None (window_job new n i) (none_there old n i none)
-          ∙ is
-
-      by_book : (o : Option Book) → book_at new.books n ≡ o
-          → option_and_then (λ book. book_job book n i) o ≡ Some job
-          → is_job_among (option_map_or
-          (λ book. filter_map (new_job old new n) (numbers_in book)) o []) job ≡ true
-      by_book None at e = absurd (none-some job e)
-      by_book (Some book) at e = job_among (new_job old new n) job (numbers_in book) i
-          (numbered book n i job e) now
+  of_picture i job none is = grind (arith, job_among, none_there, numbered)
 
   -- and nothing else is
   only_new : (job : Job) → is_job_among (new_jobs_of old new n) job ≡ true
       → (window_job new job.number job.index ≡ Some job)
       × (window_job old job.number job.index ≡ None)
-  only_new job there = by_book (book_at new.books n) there
-    where
-      by_test : (i : ℕ) (b : Bool) → has_slice_in old n i ≡ b
-          → cond b None (window_job new n i) ≡ Some job
-          → (window_job new job.number job.index ≡ Some job)
-          × (window_job old job.number job.index ≡ None)
-      by_test i true at e = absurd (none-some job e)
-      by_test i false at e =
-          let numbers = job_numbers new n i job e in (
-            ap (λ m. window_job new m job.index) numbers.0 ∙ ap (window_job new n) numbers.1 ∙ e,
-            ap (λ m. window_job old m job.index) numbers.0 ∙ ap (window_job old n) numbers.1
-                ∙ no_job_there old n i at,
-          )
-
-      by_book : (o : Option Book) → is_job_among (option_map_or
-          (λ book. filter_map (new_job old new n) (numbers_in book)) o []) job ≡ true
-          → (window_job new job.number job.index ≡ Some job)
-          × (window_job old job.number job.index ≡ None)
-      by_book None e = absurd (false≢true e)
-      by_book (Some book) e =
-          let found = from_among (new_job old new n) job (numbers_in book) e in
-          by_test found.0 (has_slice_in old n found.0) refl found.1
+  only_new job there = grind (arith, from_among, job_numbers, no_job_there)
 
 -- ---- of a fragment
 
@@ -232,10 +139,7 @@ module _ (w : Window) (p : WindowPast) (stands : StandsForPast w p) (runs : p.is
   pub closed_later : (n : ℕ) → is_closed p.size p.entries n ≡ true
       → is_closed p.size later.entries n ≡ true
   unfolding is_closed
-  closed_later n closed =
-      let grows = (enters_follows (base_above p.before) p.size p.entries f).grows in
-      let low = leb-true (n + p.size) (greatest p.entries) closed in
-      le-leb (n + p.size) (greatest later.entries) (omega (arith, grows, low))
+  closed_later n closed = grind (arith, enters_follows)
 
   -- the jobs of other pictures were there before
   module _ (n i : ℕ) (job : Job) (other : n ≡ m → ⊥) where
@@ -280,12 +184,7 @@ module _ (w : Window) (p : WindowPast) (stands : StandsForPast w p) (runs : p.is
       → window_job (window_enters w f) n i ≡ Some job
       → is_job_among (offered_jobs w (window_enters w f) f) job ≡ true
   unfolding offered_jobs
-  all_offered n i job none is = elim (cases_eq n m) [
-    | inl same ↦
-        ap (λ k. is_job_among (new_jobs_of w (window_enters w f) k) job) (number_is ∙ sym same)
-        ∙ of_picture w (window_enters w f) n i job none is
-    | inr other ↦ absurd (none-some job (sym none ∙ other_jobs n i job other is))
-  ]
+  all_offered n i job none is = grind (arith, number_is, of_picture, other_jobs)
 
 pub only_offered : (old new : Window) (f : Fragment) (job : Job)
     → is_job_among (offered_jobs old new f) job ≡ true

@@ -1,10 +1,9 @@
 -- The slices that are out are such as a picture keeps, whatever becomes of them, so that the slice
 -- of a job that a datagram offers isn't out.
-use Rattle.std.proofs.Common.{◌≡◌, ℕ, zero, suc, ◌≤◌, Bool, true, false, refl, ap, sym, subst, ◌∙◌}
-use Rattle.std.proofs.Common.{List, [], ◌∷◌, ◌++◌, Option, Some, None, cond}
-use Rattle.std.specs.Prelude.{◌==◌, ◌||◌, is_some, filter}
+use Rattle.std.proofs.Common.{◌≡◌, ℕ, zero, suc, ◌≤◌, Bool, true, false, refl, ap, sym, subst}
+use Rattle.std.proofs.Common.{List, [], ◌∷◌, ◌++◌, Option, Some, None, arith}
+use Rattle.std.specs.Prelude.{is_some, filter}
 use Rattle.std.specs.Option.{option_map_or}
-use Rattle.std.proofs.lemmas.Bool.{and_parts, both_ways, eqb-true, false≢true}
 use Rattle.link_model.specs.Feeders.{kept_job}
 use Rattle.link_model.specs.Places.{Job, Answered}
 use Rattle.link_model.specs.Session.{HeardSession, Session, hears, sessions_of}
@@ -13,12 +12,12 @@ use Rattle.link_model.proofs.Hearing.{sessions_of_more}
 use Rattle.link_reception.specs.Entering.{before_releases, datagram_jobs, opens_session}
 use Rattle.link_reception.specs.Entering.{takes_datagram, takes_end}
 use Rattle.link_reception.specs.Exchanging.{Exchange, Proposed, Fetched, all_exchanged, out_at}
-use Rattle.link_reception.specs.Exchanging.{back_from, is_job_among, is_wanted, not_at, takes_done}
-use Rattle.link_reception.specs.Judging.{ends_input, keeps_datagram, session_opened}
-use Rattle.link_reception.specs.Receptions.{Reception, SliceOut, StandingSession, keeps_answer}
-use Rattle.link_reception.specs.Releasing.{book_count, is_of_other, next_picture, releases_all}
-use Rattle.link_reception.specs.Releasing.{releases_from, releases_picture_of, releases_up_to}
-use Rattle.link_reception.specs.SlicesOut.{AreOutKept, ArePutsOf, is_its_slice, is_job_out}
+use Rattle.link_reception.specs.Exchanging.{back_from, is_job_among, not_at, takes_done}
+use Rattle.link_reception.specs.Judging.{keeps_datagram, session_opened}
+use Rattle.link_reception.specs.Receptions.{Reception, SliceOut}
+use Rattle.link_reception.specs.Releasing.{book_count, next_picture, releases_all}
+use Rattle.link_reception.specs.Releasing.{releases_picture_of, releases_up_to}
+use Rattle.link_reception.specs.SlicesOut.{AreOutKept, ArePutsOf, is_job_out}
 use Rattle.link_reception.specs.Standing.{StandsForHeard}
 use Rattle.link_reception.proofs.DatagramJobs.{only_jobs}
 use Rattle.link_reception.proofs.SessionPictures.{job_stays}
@@ -32,12 +31,7 @@ module _ (size : ℕ) (hs : List HeardSession) where
   kept_filter : (test : SliceOut → Bool) (out : List SliceOut) → AreOutKept size hs out
       → AreOutKept size hs (filter test out)
   kept_filter test [] kept = tt
-  kept_filter test (slice ∷ rest) kept = by_test (test slice) (kept_filter test rest kept.1)
-    where
-      by_test : (b : Bool) → AreOutKept size hs (filter test rest)
-          → AreOutKept size hs (cond b (slice ∷ filter test rest) (filter test rest))
-      by_test true more = (kept.0, more)
-      by_test false more = more
+  kept_filter test (slice ∷ rest) kept = grind (arith, kept_filter test rest kept.1)
 
   kept_more : (out : List SliceOut) (slice : SliceOut) → AreOutKept size hs out
       → IsKeptSlice slice.number slice.index → AreOutKept size hs (out ++ slice ∷ [])
@@ -48,12 +42,7 @@ module _ (size : ℕ) (hs : List HeardSession) where
 
   done_out : (r : Reception) (done : Answered) → (takes_done r done).out ≡ r.out
   unfolding takes_done
-  done_out r done = by_test (is_wanted r done)
-    where
-      by_test : (b : Bool) → (cond b (record r { answers = keeps_answer r.answers done }) r).out
-          ≡ r.out
-      by_test true = refl
-      by_test false = refl
+  done_out r done = grind arith
 
   pub exchanges_kept : (jobs : List Job)
       → ((job : Job) → is_job_among jobs job ≡ true → IsKeptSlice job.number job.index)
@@ -76,12 +65,7 @@ module _ (size : ℕ) (hs : List HeardSession) where
 
   release_kept : (r : Reception) (picture : Releasable) → AreOutKept size hs r.out
       → AreOutKept size hs (releases_picture_of r picture).out
-  release_kept r picture kept = by_standing r.standing
-    where
-      by_standing : (o : Option StandingSession)
-          → AreOutKept size hs (option_map_or (releases_from r picture) o r).out
-      by_standing None = kept
-      by_standing (Some st) = kept_filter (is_of_other picture.number) r.out kept
+  release_kept r picture kept = grind (arith, kept_filter)
 
   pub releases_kept : (k : ℕ) (r : Reception) → AreOutKept size hs r.out
       → AreOutKept size hs (releases_up_to k r).out
@@ -103,49 +87,21 @@ module _ (size : ℕ) (hs : List HeardSession) where
   pub end_out_kept : (r : Reception) → AreOutKept size hs r.out → (exchanges : List Exchange)
       → ArePutsOf [] exchanges → AreOutKept size hs (takes_end r exchanges).out
   unfolding takes_end
-  end_out_kept r kept exchanges offers =
-      releases_kept (book_count (all_exchanged (ends_input r) exchanges))
-      (all_exchanged (ends_input r) exchanges)
-      (exchanges_kept [] (λ job there. absurd (false≢true there)) exchanges (ends_input r) kept
-      offers)
+  end_out_kept r kept exchanges offers = grind (arith, exchanges_kept, releases_kept)
 
   -- ---- one that no picture keeps isn't out
 
   unkept_not_out : (job : Job) → kept_job size hs job.number job.index ≡ None
       → (out : List SliceOut) → AreOutKept size hs out → is_job_out out job ≡ false
   unkept_not_out job none [] kept = refl
-  unkept_not_out job none (slice ∷ rest) kept =
-      by_test (is_its_slice job slice) refl (unkept_not_out job none rest kept.1)
-    where
-      by_test : (b : Bool) → is_its_slice job slice ≡ b → is_job_out rest job ≡ false
-          → (b || is_job_out rest job) ≡ false
-      by_test false at later = later
-      by_test true at later =
-          let same = and_parts (slice.number == job.number) (slice.index == job.index) at in
-          absurd (both_ways (is_some (kept_job size hs slice.number slice.index))
-          (ap (λ n. is_some (kept_job size hs n slice.index))
-          (eqb-true slice.number job.number same.0)
-          ∙ ap (λ i. is_some (kept_job size hs job.number i))
-          (eqb-true slice.index job.index same.1)
-          ∙ ap (λ (o : Option Job). is_some o) none)
-          kept.0)
+  unkept_not_out job none (slice ∷ rest) kept = grind (arith, unkept_not_out job none rest kept.1)
 
   -- ---- what is kept stays so
 
   more_heard : size ≤ 8 → (d : List ℕ) (out : List SliceOut) → AreOutKept size hs out
       → AreOutKept size (hears hs d) out
   more_heard small d [] kept = tt
-  more_heard small d (slice ∷ rest) kept = (
-    by_job (kept_job size hs slice.number slice.index) refl kept.0,
-    more_heard small d rest kept.1,
-  )
-    where
-      by_job : (o : Option Job) → kept_job size hs slice.number slice.index ≡ o
-          → is_some o ≡ true
-          → is_some (kept_job size (hears hs d) slice.number slice.index) ≡ true
-      by_job None at e = absurd (false≢true e)
-      by_job (Some job) at e = ap (λ (o : Option Job). is_some o)
-          (job_stays slice.number slice.index size small hs d job at)
+  more_heard small d (slice ∷ rest) kept = grind (arith, job_stays, more_heard small d rest kept.1)
 
 -- ---- a datagram
 
@@ -161,9 +117,7 @@ module _ (r : Reception) (size : ℕ) (datagrams : List (List ℕ)) (d : List �
       (only_jobs r size datagrams d stands small job there).1 r.out kept
 
   kept_longer : AreOutKept size longer r.out
-  kept_longer = subst (λ (l : List HeardSession). AreOutKept size l r.out)
-      (sym (sessions_of_more datagrams d))
-      (more_heard size (sessions_of datagrams) small d r.out kept)
+  kept_longer = grind (arith, more_heard, sessions_of_more)
 
   opened_same : (o : Option Session) (now : Reception) → (opens_session o now).out ≡ now.out
   opened_same None now = refl

@@ -1,9 +1,9 @@
 -- The feeder decodes slices of a picture by itself.
 use Rattle.std.proofs.Common.{◌≡◌, ℕ, Bool, true, false, refl, ap, sym, ◌∙◌, cond, map}
-use Rattle.std.proofs.Common.{List, [], ◌∷◌, Option, Some, None, inl, inr}
+use Rattle.std.proofs.Common.{List, [], ◌∷◌, Option, Some, None, inl, inr, arith}
 use Rattle.std.specs.Prelude.{◌==◌, ◌&&◌, ◌||◌, is_some, unwrap_or}
-use Rattle.std.specs.Option.{option_and_then, option_map, option_map_or}
-use Rattle.std.proofs.lemmas.Bool.{cases_eq, and_parts, eqb-true, eq-eqb, ne_eqb, false≢true}
+use Rattle.std.specs.Option.{option_and_then, option_map_or}
+use Rattle.std.proofs.lemmas.Bool.{cases_eq, and_parts, eqb-true, ne_eqb, false≢true}
 use Rattle.std.proofs.lemmas.Option.{none-some, same_Some}
 use Rattle.link_model.specs.Feeders.{Feeder, SliceAnswer, answer_in, kept_job, picture_keeps}
 use Rattle.link_model.specs.Feeders.{job_by, job_with, is_among}
@@ -26,26 +26,12 @@ module _ (size : ℕ) (hs : List HeardSession) (n i : ℕ) where
       → kept_job size hs n i ≡ Some job
       → (bytes : List ℕ) × (own_slice kept i ≡ Some bytes) × (job_with kept n i bytes ≡ job)
   unfolding kept_job
-  kept_job_by kept keeps job is = by_slice (own_slice kept i) refl
-      (sym (ap (option_and_then (λ (kept : Own). job_by kept n i)) keeps) ∙ is)
-    where
-      by_slice : (o : Option (List ℕ)) → own_slice kept i ≡ o
-          → option_map (job_with kept n i) o ≡ Some job
-          → (bytes : List ℕ) × (own_slice kept i ≡ Some bytes) × (job_with kept n i bytes ≡ job)
-      by_slice None at e = absurd (none-some job e)
-      by_slice (Some bytes) at e = (bytes, at, same_Some (job_with kept n i bytes) job e)
+  kept_job_by kept keeps job is = grind arith
 
   pub kept_job_there : (kept : Own) → picture_keeps size hs n ≡ Some kept
       → is_some (own_slice kept i) ≡ true → is_some (kept_job size hs n i) ≡ true
   unfolding kept_job
-  kept_job_there kept keeps there =
-      ap (λ (o : Option Own). is_some (option_and_then (λ (kept : Own). job_by kept n i) o)) keeps
-      ∙ by_slice (own_slice kept i) there
-    where
-      by_slice : (o : Option (List ℕ)) → is_some o ≡ true
-          → is_some (option_map (job_with kept n i) o) ≡ true
-      by_slice None e = absurd (false≢true e)
-      by_slice (Some bytes) e = refl
+  kept_job_there kept keeps there = grind arith
 
   no_job : picture_keeps size hs n ≡ None → kept_job size hs n i ≡ None
   unfolding kept_job
@@ -93,16 +79,7 @@ module _ (size : ℕ) (hs : List HeardSession) where
       → answer_in decoded n k ≡ Some d
       → (is_some (own_slice kept k) ≡ true)
       × (d ≡ slice_coefficients kept.plan.parameters k (unwrap_or (own_slice kept k) []))
-  answers_of_kept decoded own n kept keeps k d is =
-      let answer = own_answer_of decoded own n k d is in
-      let slice = kept_job_by size hs n k kept keeps answer.0 answer.1 in (
-        ap is_some slice.1,
-        answer.2
-            ∙ ap decoding (sym slice.2)
-            ∙ ap (λ (o : Option (List ℕ)).
-            slice_coefficients kept.plan.parameters k (unwrap_or o []))
-            (sym slice.1),
-      )
+  answers_of_kept decoded own n kept keeps k d is = grind (arith, kept_job_by, own_answer_of)
 
   -- ---- slices that are decoded again
 
@@ -119,20 +96,7 @@ module _ (size : ℕ) (hs : List HeardSession) where
 
     one_own : (i : ℕ) (decoded : List SliceAnswer) → AreOwnAnswers size hs decoded
         → AreOwnAnswers size hs (with_own decoded (kept_job size hs n i))
-    one_own i decoded own = by_job (kept_job size hs n i) refl
-      where
-        by_job : (o : Option Job) → kept_job size hs n i ≡ o
-            → AreOwnAnswers size hs (with_own decoded o)
-        by_job None at = own
-        by_job (Some job) at = let numbers = kept_job_numbers size hs n i job at in (
-          (
-            job,
-            ap (λ m. kept_job size hs m job.index) numbers.0
-                ∙ ap (kept_job size hs n) numbers.1 ∙ at,
-            refl,
-          ),
-          own,
-        )
+    one_own i decoded own = grind (arith, kept_job_numbers)
 
     pub redone_own : (is : List ℕ) (decoded : List SliceAnswer) → AreOwnAnswers size hs decoded
         → AreOwnAnswers size hs (redone is decoded)
@@ -142,13 +106,7 @@ module _ (size : ℕ) (hs : List HeardSession) where
 
     one_other : (i m k : ℕ) (decoded : List SliceAnswer) → (n ≡ m → ⊥)
         → answer_in (with_own decoded (kept_job size hs n i)) m k ≡ answer_in decoded m k
-    one_other i m k decoded other = by_job (kept_job size hs n i) refl
-      where
-        by_job : (o : Option Job) → kept_job size hs n i ≡ o
-            → answer_in (with_own decoded o) m k ≡ answer_in decoded m k
-        by_job None at = refl
-        by_job (Some job) at = other_answer (answer_by job) decoded m
-            (λ same. other (sym (kept_job_numbers size hs n i job at).0 ∙ same)) k
+    one_other i m k decoded other = grind (arith, kept_job_numbers, other_answer)
 
     pub redone_others : (is : List ℕ) (decoded : List SliceAnswer) (m : ℕ) → (n ≡ m → ⊥)
         → (k : ℕ) → answer_in (redone is decoded) m k ≡ answer_in decoded m k
@@ -161,13 +119,7 @@ module _ (size : ℕ) (hs : List HeardSession) where
         → is_some (answer_in decoded n k) ≡ true
         → is_some (answer_in (with_own decoded o) n k) ≡ true
     one_stays k decoded None there = there
-    one_stays k decoded (Some job) there =
-        by_test (job.number == n && job.index == k)
-      where
-        by_test : (b : Bool)
-            → is_some (cond b (Some (decoding job)) (answer_in decoded n k)) ≡ true
-        by_test true = refl
-        by_test false = there
+    one_stays k decoded (Some job) there = grind arith
 
     pub redone_stays : (is : List ℕ) (decoded : List SliceAnswer) (k : ℕ)
         → is_some (answer_in decoded n k) ≡ true
@@ -179,17 +131,7 @@ module _ (size : ℕ) (hs : List HeardSession) where
 
     one_there : (k : ℕ) (decoded : List SliceAnswer) → is_some (kept_job size hs n k) ≡ true
         → is_some (answer_in (with_own decoded (kept_job size hs n k)) n k) ≡ true
-    one_there k decoded there = by_job (kept_job size hs n k) refl there
-      where
-        by_job : (o : Option Job) → kept_job size hs n k ≡ o → is_some o ≡ true
-            → is_some (answer_in (with_own decoded o) n k) ≡ true
-        by_job None at e = absurd (false≢true e)
-        by_job (Some job) at e =
-            let numbers = kept_job_numbers size hs n k job at in
-            ap (λ (b : Bool). is_some (cond (b && job.index == k) (Some (decoding job))
-            (answer_in decoded n k))) (eq-eqb job.number n numbers.0)
-            ∙ ap (λ (b : Bool). is_some (cond b (Some (decoding job)) (answer_in decoded n k)))
-            (eq-eqb job.index k numbers.1)
+    one_there k decoded there = grind (arith, kept_job_numbers)
 
     pub redone_there : (is : List ℕ) (decoded : List SliceAnswer) (k : ℕ)
         → is_some (kept_job size hs n k) ≡ true → is_among is k ≡ true

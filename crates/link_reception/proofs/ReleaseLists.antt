@@ -1,21 +1,19 @@
 -- Numbers among others, how many pass a test, and pictures that are opened.
-use Rattle.std.proofs.Common.{◌≡◌, ℕ, zero, suc, ◌+◌, ◌<◌, ◌≤◌, Bool, true, false, refl}
-use Rattle.std.proofs.Common.{ap, sym, List, [], ◌∷◌, ◌++◌, length, Option, Some, None}
-use Rattle.std.proofs.Common.{◌∙◌, arith, cond, inl, inr}
+use Rattle.std.proofs.Common.{◌≡◌, ℕ, zero, suc, ◌+◌, ◌<◌, ◌≤◌, Bool, true, false, refl, ap, sym}
+use Rattle.std.proofs.Common.{List, [], ◌∷◌, ◌++◌, Option, Some, None, ◌∙◌, arith, cond, inl, inr}
 use Rattle.std.specs.Prelude.{◌==◌, ◌||◌, is_some, filter, count_by}
 use Rattle.std.specs.List.{range_with_len}
 use Rattle.std.specs.Option.{option_and_then}
 use Rattle.std.proofs.lemmas.Bool.{cases_eq, cond-true, eq-eqb, ne_eqb, false≢true}
-use Rattle.std.proofs.lemmas.List.{length-append}
+use Rattle.std.proofs.lemmas.Grind.{common_steps}
 use Rattle.std.proofs.lemmas.List.Elements.{filter-append}
 use Rattle.std.proofs.lemmas.List.Sums.{length-filter}
 use Rattle.std.proofs.lemmas.Option.{none-some, same_Some}
 use Rattle.link_model.specs.Complete.{whole_picture}
 use Rattle.link_model.specs.Feeders.{is_among}
 use Rattle.link_model.specs.Kept.{Own, own, split_parts}
-use Rattle.link_model.specs.Numbers.{Numbered, is_opened, has_parts, parts_of}
+use Rattle.link_model.specs.Numbers.{Numbered, is_opened, parts_of}
 use Rattle.link_model.specs.Output.{complete_at, planes_at}
-use Rattle.link_model.specs.Session.{Part}
 use Rattle.link_model.specs.Windows.{first_of}
 use Rattle.link_model.proofs.Leaving.{complete_opened}
 use Rattle.vc_types.specs.Planes.{Planes, decoded_planes}
@@ -64,20 +62,7 @@ first_among (m ∷ ns) n is = (ns, ap (λ k. k ∷ ns) (same_Some m n is))
 
 pub count_push : (test : ℕ → Bool) (l : List ℕ) (n : ℕ)
     → count_by test (l ++ n ∷ []) ≡ count_by test l + one_if (test n)
-count_push test l n =
-    let both = ap length (filter-append test l (n ∷ [])) in
-    omega (
-      arith,
-      both,
-      length-append (filter test l) (filter test (n ∷ [])),
-      length-filter test (l ++ n ∷ []),
-      length-filter test l,
-      one (test n),
-    )
-  where
-    one : (b : Bool) → length (cond b (n ∷ []) []) ≡ one_if b
-    one true = refl
-    one false = refl
+count_push test l n = grind (arith, common_steps, filter-append, length-filter)
 
 -- ---- planes of what was entered
 
@@ -98,8 +83,4 @@ module _ (s : Sequence) (es : List Numbered) (m : ℕ) where
   -- and so is one that keeps something
   pub keeps_opened : (kept : Own) → own s (parts_of m es) ≡ Some kept → is_opened es m ≡ true
   unfolding own split_parts
-  keeps_opened kept is = by_parts (parts_of m es) is
-    where
-      by_parts : (parts : List Part) → own s parts ≡ Some kept → has_parts parts ≡ true
-      by_parts [] e = absurd (none-some kept e)
-      by_parts (part ∷ parts) e = refl
+  keeps_opened kept is = grind arith

@@ -1,24 +1,20 @@
 -- All pictures that may be released, one after another: the receiver and the feeder go together.
-use Rattle.std.proofs.Common.{◌≡◌, ℕ, zero, suc, ◌+◌, ◌≤◌, Bool, true, false, refl, ap, sym}
+use Rattle.std.proofs.Common.{◌≡◌, ℕ, zero, suc, ◌+◌, ◌≤◌, Bool, true, false, refl, ap, sym, arith}
 use Rattle.std.proofs.Common.{List, [], ◌∷◌, ◌++◌, length, map, Option, Some, None, subst, ◌∙◌}
-use Rattle.std.proofs.Common.{arith, cond, inl, inr}
-use Rattle.std.specs.Prelude.{◌&&◌, ◌||◌, ◌==◌, ◌⊎◌, is_some, not, filter}
+use Rattle.std.specs.Prelude.{◌||◌, ◌==◌, is_some, filter}
 use Rattle.std.specs.List.{flat_map}
-use Rattle.std.specs.Option.{option_and_then, option_map, option_map_or}
-use Rattle.std.proofs.lemmas.Bool.{cases_eq, eq-eqb, ne_eqb}
+use Rattle.std.specs.Option.{option_and_then, option_map}
+use Rattle.std.proofs.lemmas.Bool.{eq-eqb}
 use Rattle.std.proofs.lemmas.List.{append_assoc, append-nil}
 use Rattle.std.proofs.lemmas.List.Sums.{fold-append}
-use Rattle.link_model.specs.Complete.{slice_numbers, has_all_slices}
-use Rattle.link_model.specs.Feeders.{Feeder, is_among, is_decoded, keeps_now}
-use Rattle.link_model.specs.Feeders.{heard_pictures, let_go_pictures, not_released, releasable}
+use Rattle.link_model.specs.Feeders.{Feeder, is_among, is_decoded, keeps_now, releasable}
 use Rattle.link_model.specs.Kept.{Own}
 use Rattle.link_model.specs.Machine.{Event, Redo, Release, feeder_after}
 use Rattle.link_model.specs.Next.{feeder_run, unanswered, releasing, all_releasing}
 use Rattle.link_model.specs.Output.{frame_bytes_at}
 use Rattle.link_model.specs.Session.{HeardSession, sessions_of}
-use Rattle.link_model.specs.Windows.{Window, WindowPast, past_releases, window_of}
-use Rattle.link_model.specs.Windows.{releasable_numbers, first_of, as_releasable}
-use Rattle.link_model.specs.Windows.{next_release}
+use Rattle.link_model.specs.Windows.{WindowPast, past_releases, window_of, releasable_numbers}
+use Rattle.link_model.specs.Windows.{first_of, as_releasable, next_release}
 use Rattle.link_model.specs.declared.tally.Tally.{Tally}
 use Rattle.link_model.proofs.WindowStands.{next_is, releasable_next}
 use Rattle.link_reception.specs.Receptions.{StandingSession, Reception, SliceOut}
@@ -38,17 +34,12 @@ use Rattle.link_reception.proofs.Working.{IsWorking}
 
 filter_same : (f g : ℕ → Bool) → ((i : ℕ) → f i ≡ g i) → (l : List ℕ) → filter f l ≡ filter g l
 filter_same f g same [] = refl
-filter_same f g same (i ∷ l) =
-    ap (λ (b : Bool). cond b (i ∷ filter f l) (filter f l)) (same i)
-    ∙ ap (λ (k : List ℕ). cond (g i) (i ∷ k) k) (filter_same f g same l)
+filter_same f g same (i ∷ l) = grind (arith, filter_same f g same l)
 
 unanswered_same : (f g : Feeder) (m : ℕ) → ((i : ℕ) → is_decoded g m i ≡ is_decoded f m i)
     → (o : Option Own) → unanswered g m o ≡ unanswered f m o
 unanswered_same f g m same None = refl
-unanswered_same f g m same (Some kept) = filter_same
-    (λ i. has_all_slices kept && not (is_decoded g m i))
-    (λ i. has_all_slices kept && not (is_decoded f m i))
-    (λ i. ap (λ (b : Bool). has_all_slices kept && not b) (same i)) (slice_numbers kept)
+unanswered_same f g m same (Some kept) = grind (arith, filter_same)
 
 -- ---- slices that are out
 
@@ -59,36 +50,7 @@ none_go (slice ∷ out) = ap (λ (l : List SliceOut). slice ∷ l) (none_go out)
 both_go : (n : ℕ) (ns : List ℕ) (out : List SliceOut)
     → out_without ns (filter (is_of_other n) out) ≡ out_without (n ∷ ns) out
 both_go n ns [] = refl
-both_go n ns (slice ∷ out) = by_number (cases_eq slice.number n) (both_go n ns out)
-  where
-    by_test : (b : Bool)
-        → out_without ns (filter (is_of_other n) out) ≡ out_without (n ∷ ns) out
-        → cond (not b) (slice ∷ out_without ns (filter (is_of_other n) out))
-        (out_without ns (filter (is_of_other n) out))
-        ≡ cond (not b) (slice ∷ out_without (n ∷ ns) out) (out_without (n ∷ ns) out)
-    by_test true rest = rest
-    by_test false rest = ap (λ (l : List SliceOut). slice ∷ l) rest
-
-    by_number : (slice.number ≡ n) ⊎ (slice.number ≡ n → ⊥)
-        → out_without ns (filter (is_of_other n) out) ≡ out_without (n ∷ ns) out
-        → out_without ns (cond (not (slice.number == n)) (slice ∷ filter (is_of_other n) out)
-        (filter (is_of_other n) out))
-        ≡ cond (not ((n == slice.number) || is_among ns slice.number))
-        (slice ∷ out_without (n ∷ ns) out) (out_without (n ∷ ns) out)
-    by_number (inl same) rest =
-        ap (λ (b : Bool). out_without ns (cond (not b) (slice ∷ filter (is_of_other n) out)
-        (filter (is_of_other n) out))) (eq-eqb slice.number n same)
-        ∙ rest
-        ∙ sym (ap (λ (b : Bool). cond (not (b || is_among ns slice.number))
-        (slice ∷ out_without (n ∷ ns) out) (out_without (n ∷ ns) out))
-        (eq-eqb n slice.number (sym same)))
-    by_number (inr other) rest =
-        ap (λ (b : Bool). out_without ns (cond (not b) (slice ∷ filter (is_of_other n) out)
-        (filter (is_of_other n) out))) (ne_eqb slice.number n other)
-        ∙ by_test (is_among ns slice.number) rest
-        ∙ sym (ap (λ (b : Bool). cond (not (b || is_among ns slice.number))
-        (slice ∷ out_without (n ∷ ns) out) (out_without (n ∷ ns) out))
-        (ne_eqb n slice.number (λ same. other (sym same))))
+both_go n ns (slice ∷ out) = grind (arith, both_go n ns out)
 
 -- ---- the run
 
@@ -227,22 +189,11 @@ module _ (size : ℕ) (hs : List HeardSession) (t : Tally) where
   module _ (r : Reception) (f : Feeder) (p : WindowPast) (st : StandingSession)
       (works : IsWorking r size f hs p st t) where
     pub releasable_are : releasable size f ≡ releasable_numbers p
-    releasable_are =
-        ap (λ (l : List ℕ). not_released l
-        (let_go_pictures size f.has_ended (sessions_of f.heard))) works.released
-        ∙ ap (not_released (heard_pictures size hs ++ p.released)) works.let_go
-        ∙ unreleased_are p works.window.in_order (heard_pictures size hs) works.apart
+    releasable_are = grind (arith, unreleased_are)
 
     books_are : book_count r ≡ length (window_of p).books
-    books_are =
-        ap (λ (o : Option StandingSession). option_map_or (λ st. length st.window.books) o 0)
-        works.stands
-        ∙ ap (λ (w : Window). length w.books) works.window.value
+    books_are = grind arith
 
     pub all_run : Ran (book_count r) r st f (feeder_run size f (all_releasing size f)) p
         (releasable_numbers p)
-    all_run = subst (λ (ns : List ℕ). Ran (book_count r) r st f
-        (feeder_run size f (flat_map (releasing size f) ns)) p (releasable_numbers p))
-        (sym releasable_are)
-        (run (releasable_numbers p) (book_count r) r f p st works refl
-        (omega (arith, books_are, books_enough p works.window.in_order)) f (λ m there. refl))
+    all_run = grind (arith, books_are, books_enough, releasable_are, run)

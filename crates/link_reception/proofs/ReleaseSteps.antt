@@ -1,6 +1,5 @@
 -- Releases one step at a time: while there is a next picture it is released, and the rest follows.
-use Rattle.std.proofs.Common.{◌≡◌, ℕ, zero, suc, refl, ap}
-use Rattle.std.proofs.Common.{[], ◌++◌, Option, Some, None}
+use Rattle.std.proofs.Common.{◌≡◌, ℕ, zero, suc, refl, ap, [], ◌++◌, Option, Some, None, arith}
 use Rattle.std.specs.Option.{option_map_or}
 use Rattle.link_model.specs.Windows.{Releasable}
 use Rattle.link_reception.specs.Receptions.{Reception}
@@ -28,9 +27,7 @@ module _ (k : ℕ) (r : Reception) (picture : Releasable) (is : next_picture r �
   pub step_bytes : bytes_up_to (suc k) r
       ≡ released_bytes r picture ++ bytes_up_to k (releases_picture_of r picture)
   unfolding bytes_up_to
-  step_bytes = ap (λ (o : Option Releasable). option_map_or
-      (λ picture. released_bytes r picture
-      ++ bytes_up_to k (releases_picture_of r picture)) o []) is
+  step_bytes = grind arith
 
 -- ---- none is next
 
@@ -43,6 +40,4 @@ stops (suc k) r none = ap (λ (o : Option Releasable). option_map_or
 pub stops_writing : (k : ℕ) (r : Reception) → next_picture r ≡ None → bytes_up_to k r ≡ []
 unfolding bytes_up_to
 stops_writing zero r none = refl
-stops_writing (suc k) r none = ap (λ (o : Option Releasable). option_map_or
-    (λ picture. released_bytes r picture
-    ++ bytes_up_to k (releases_picture_of r picture)) o []) none
+stops_writing (suc k) r none = grind arith

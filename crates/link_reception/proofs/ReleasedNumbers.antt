@@ -4,17 +4,15 @@ use Rattle.std.proofs.Common.{List, [], ◌∷◌, ◌++◌, length, map, Option
 use Rattle.std.proofs.Common.{arith, cond, inl, inr}
 use Rattle.std.specs.Prelude.{◌==◌, ◌&&◌, ◌||◌, not, filter}
 use Rattle.std.specs.List.{last_or}
-use Rattle.std.proofs.lemmas.Bool.{cases_eq, cond-true, cond-false, ne_eqb, eq-eqb}
-use Rattle.std.proofs.lemmas.Bool.{false≢true, le-leb, lt-leb, leb-true, both_ways, and_parts}
-use Rattle.std.proofs.lemmas.Bool.{and_from}
+use Rattle.std.proofs.lemmas.Bool.{cases_eq, cond-true, cond-false, ne_eqb, eq-eqb, false≢true}
+use Rattle.std.proofs.lemmas.Bool.{le-leb, lt-leb, leb-true, both_ways, and_parts, and_from}
 use Rattle.std.proofs.lemmas.List.{append_assoc}
 use Rattle.std.proofs.lemmas.List.Elements.{filter-append}
 use Rattle.link_model.specs.Feeders.{is_among, not_released}
-use Rattle.link_model.specs.Numbers.{is_closed, is_opened, opened_numbers}
+use Rattle.link_model.specs.Numbers.{is_opened, opened_numbers}
 use Rattle.link_model.specs.Output.{is_let_go, let_go_numbers}
-use Rattle.link_model.specs.Windows.{WindowPast, past_let_go, past_book}
-use Rattle.link_model.specs.Windows.{releasable_numbers, released_up_to, is_needed, window_of}
-use Rattle.link_model.specs.Windows.{needed_numbers}
+use Rattle.link_model.specs.Windows.{WindowPast, past_let_go, past_book, releasable_numbers}
+use Rattle.link_model.specs.Windows.{released_up_to, is_needed, window_of, needed_numbers}
 use Rattle.link_model.proofs.Leaving.{past}
 use Rattle.link_model.proofs.LettingGo.{is_let_go_by, releasable_over}
 use Rattle.link_model.proofs.Releasing.{let_go_before}
@@ -33,12 +31,8 @@ rising_from a b (n ∷ ns) less rises = (omega (arith, less, rises.0), rises.1)
 
 pub numbers_rising : (test : ℕ → Bool) (a m : ℕ) → AreRising a (numbers_over test a m)
 numbers_rising test a zero = tt
-numbers_rising test a (suc m) = by_test (test a) (numbers_rising test (a + 1) m)
-  where
-    by_test : (b : Bool) → AreRising (a + 1) (numbers_over test (a + 1) m)
-        → AreRising a (cond b (a ∷ []) [] ++ numbers_over test (a + 1) m)
-    by_test true rest = (omega arith, rest)
-    by_test false rest = rising_from a (a + 1) (numbers_over test (a + 1) m) (omega arith) rest
+numbers_rising test a (suc m) =
+    grind (arith, numbers_over, rising_from, numbers_rising test (a + 1) m)
 
 module _ (n : ℕ) where
   pub among_rising : (bound : ℕ) (ns : List ℕ) → AreRising bound ns → is_among ns n ≡ true
@@ -81,11 +75,7 @@ last_of k bound (m ∷ ns) more less rises =
 -- some aren't greater than the last of them
 lower : (n k bound : ℕ) (ns more : List ℕ) → k < bound → AreRising bound (ns ++ more)
     → is_among (k ∷ ns) n ≡ true → released_up_to (last_or (Some k) ns) n ≡ true
-lower n k bound [] more less rises there = elim (cases_eq k n) [
-  | inl same ↦ le-leb n k (omega (arith, same))
-  | inr other ↦ absurd (false≢true
-      (sym (ap (λ (b : Bool). b || false) (ne_eqb k n other)) ∙ there))
-]
+lower n k bound [] more less rises there = grind arith
 lower n k bound (m ∷ ns) more less rises there = elim (cases_eq k n) [
   | inl same ↦ (let last = last_of m (m + 1) ns more (omega arith) rises.1 in
       ap (λ (o : Option ℕ). released_up_to o n) last.1
@@ -104,10 +94,7 @@ front_is_lower n bound (k ∷ ns) more rises there =
 pub just_before : (m bound : ℕ) (l more : List ℕ) → AreRising bound (l ++ (m + 1) ∷ more)
     → is_among l m ≡ true → (front : List ℕ) × (l ≡ front ++ m ∷ [])
 just_before m bound [] more rises there = absurd (false≢true there)
-just_before m bound (k ∷ []) more rises there = elim (cases_eq k m) [
-  | inl same ↦ ([], ap (λ j. j ∷ []) same)
-  | inr other ↦ absurd (false≢true (sym (ap (λ (b : Bool). b || false) (ne_eqb k m other)) ∙ there))
-]
+just_before m bound (k ∷ []) more rises there = grind arith
 just_before m bound (k ∷ j ∷ l) more rises there = elim (cases_eq k m) [
   | inl same ↦ absurd (too_low rises.1 same)
   | inr other ↦ (let rest = just_before m (k + 1) (j ∷ l) more rises.1
@@ -183,12 +170,7 @@ module _ (p : WindowPast) (in_order : past_let_go p ≡ p.released ++ releasable
       there)
 
   down : (f g : ℕ) → f ≤ g → is_let_go_by p g ≡ true → is_let_go_by p f ≡ true
-  down f g less gone = by_end p.is_ended gone
-    where
-      by_end : (over : Bool) → (over || is_let_go p.size p.sequence p.entries g) ≡ true
-          → (over || is_let_go p.size p.sequence p.entries f) ≡ true
-      by_end true gone = refl
-      by_end false gone = let_go_before p.size p.sequence p.entries g f less gone
+  down f g less gone = grind (arith, let_go_before)
 
   -- the last one that was released is let go
   last_gone : (n : ℕ) → released_up_to (last_or None p.released) n ≡ true
@@ -241,39 +223,19 @@ module _ (p : WindowPast) (in_order : past_let_go p ≡ p.released ++ releasable
   pub releasable_unreleased : (n : ℕ) → is_among (releasable_numbers p) n ≡ true
       → is_among p.released n ≡ false
   releasable_unreleased n there =
-      released_is n (releasable_gone n there).0
-      ∙ behind_is_higher n 0 p.released (releasable_numbers p) released_rise there
+      grind (arith, behind_is_higher, releasable_gone, released_is, released_rise)
 
   -- ---- there are at least as many books
 
   fewer : (f g : ℕ → Bool) → ((k : ℕ) → f k ≡ true → g k ≡ true) → (m a : ℕ)
       → length (numbers_over f a m) ≤ length (numbers_over g a m)
   fewer f g less zero a = omega arith
-  fewer f g less (suc m) a = by_tests (f a) (g a) (less a) (fewer f g less m (a + 1))
-    where
-      by_tests : (b c : Bool) → (b ≡ true → c ≡ true)
-          → length (numbers_over f (a + 1) m) ≤ length (numbers_over g (a + 1) m)
-          → length (cond b (a ∷ []) [] ++ numbers_over f (a + 1) m)
-          ≤ length (cond c (a ∷ []) [] ++ numbers_over g (a + 1) m)
-      by_tests true true both rest = omega (arith, rest)
-      by_tests true false both rest = absurd (false≢true (both refl))
-      by_tests false true both rest = omega (arith, rest)
-      by_tests false false both rest = rest
+  fewer f g less (suc m) a = grind (arith, numbers_over, fewer f g less m (a + 1))
 
   needed_there : (k : ℕ)
       → ((is_opened p.entries k && is_behind (last_or None p.released) k) && is_let_go_by p k)
       ≡ true → (is_opened p.entries k && is_needed p k) ≡ true
-  needed_there k passes = by_tests (is_opened p.entries k)
-      (released_up_to (last_or None p.released) k) (p.is_ended || is_closed p.size p.entries k)
-      (and_parts (is_opened p.entries k && is_behind (last_or None p.released) k)
-      (is_let_go_by p k) passes).0
-    where
-      by_tests : (was low closed : Bool) → (was && not low) ≡ true
-          → (was && not (closed && low)) ≡ true
-      by_tests false low closed e = absurd (false≢true e)
-      by_tests true true closed e = absurd (false≢true e)
-      by_tests true false true e = refl
-      by_tests true false false e = refl
+  needed_there k passes = grind (arith, is_behind, is_let_go_by)
 
   length_map : {A B : Type 0} (f : A → B) (xs : List A) → length (map f xs) ≡ length xs
   length_map f [] = refl

@@ -4,7 +4,6 @@ use Rattle.std.proofs.Common.{List, [], ◌∷◌, ◌++◌, Option, Some, None,
 use Rattle.std.specs.Prelude.{is_some, count_by}
 use Rattle.std.specs.List.{flat_map}
 use Rattle.std.proofs.lemmas.List.{append-nil}
-use Rattle.std.proofs.lemmas.Option.{none-some}
 use Rattle.link_model.specs.Feeders.{Feeder, let_go_pictures, is_among}
 use Rattle.link_model.specs.Judgement.{outcomes_in, outcome_counts, with_pictures, with_sessions}
 use Rattle.link_model.specs.Judgement.{is_incomplete, is_unsound, is_unpaired, has_frame}
@@ -24,9 +23,8 @@ use Rattle.vc_types.specs.SequenceHeader.{Sequence}
 use Rattle.link_reception.specs.Entering.{gives_up_field, greatest_in, opens_session}
 use Rattle.link_reception.specs.Receptions.{StandingSession, Reception, FirstField}
 use Rattle.link_reception.specs.Releasing.{one_if}
-use Rattle.link_reception.specs.Standing.{StandsFor, standing_of, standing_with}
-use Rattle.link_reception.specs.Standing.{all_released, last_past, field_of_sessions, fields_behind}
-use Rattle.link_reception.specs.Standing.{counts_of_sessions, past_fields, past_counts}
+use Rattle.link_reception.specs.Standing.{StandsFor, standing_of, standing_with, all_released}
+use Rattle.link_reception.specs.Standing.{last_past, fields_behind, counts_of_sessions, past_counts}
 use Rattle.link_reception.proofs.HeardMore.{written_of}
 use Rattle.link_reception.specs.Standing.{with_released}
 use Rattle.link_reception.proofs.LoneFields.{all_fields}
@@ -48,14 +46,7 @@ module _ (r : Reception) (size : ℕ) (f : Feeder) (h : HeardSession) (hs : List
   p = all_released (last_past size over hs h)
 
   standing_is : r.standing ≡ Some (standing_with h p)
-  standing_is = works.stands ∙ ap Some same
-    where
-      same : st ≡ standing_with h p
-      same = λ i. record {
-        session = session i;
-        has_ended = has_ended i;
-        window = works.window.value i;
-      }
+  standing_is = grind arith
 
   pub all_released_is : f.released ≡ let_go_pictures size f.has_ended (sessions_of f.heard)
   all_released_is = works.released ∙ sym works.let_go
@@ -68,42 +59,11 @@ module _ (r : Reception) (size : ℕ) (f : Feeder) (h : HeardSession) (hs : List
 
     written_now : f.written ≡ written_of size f.has_ended f.heard
     unfolding output_so_far last_so_far frames_so_far
-    written_now =
-        works.written
-        ∙ ap (λ (b : Bool). all_output size hs
-        ++ flat_map (frame_bytes_at h.session.sequence (entered_behind size hs h))
-        (past_let_go (last_past size b hs h))) runs
-        ∙ sym (ap (last_so_far size) at)
-        ∙ sym (ap (λ (b : Bool). written_of size b f.heard) ended_not)
+    written_now = grind (arith, ended_not, written_of)
 
     pub rest_stands : StandsFor r size f
-    rest_stands = record {
-      heard = record {
-        open_pictures = works.open_pictures;
-        ended = works.ended;
-        session = standing_is
-            ∙ sym (ap (standing_of size over) at)
-            ∙ sym (ap (λ (b : Bool). standing_of size b (sessions_of f.heard)) is_over);
-        waiting_field = works.waiting
-            ∙ ap (λ (b : Bool). (past_fields (all_released (last_past size b hs h))).waiting) runs
-            ∙ sym (ap (field_of_sessions size false) at)
-            ∙ sym (ap (λ (b : Bool). field_of_sessions size b (sessions_of f.heard)) ended_not);
-        counted = works.counted
-            ∙ ap (past_counts p) tally
-            ∙ ap (λ (b : Bool). past_counts (all_released (last_past size b hs h))
-            (tally_behind size hs f.heard)) runs
-            ∙ sym (ap (λ (l : List HeardSession). counts_of_sessions size false l
-            (outcome_counts (outcomes_in size f.heard))) at)
-            ∙ sym (ap (λ (b : Bool). counts_of_sessions size b (sessions_of f.heard)
-            (outcome_counts (outcomes_in size f.heard))) ended_not);
-      };
-      released = all_released_is;
-      written = written_now;
-      own = works.own;
-      answers = works.answers;
-      room = works.room;
-      first_field = works.first_field;
-    }
+    rest_stands =
+        grind (arith, all_released_is, ended_not, is_over, standing_is, tally_behind, written_now)
 
   -- ---- the pictures of a session that is over
 
@@ -191,63 +151,24 @@ module _ (r : Reception) (size : ℕ) (f : Feeder) (h : HeardSession) (hs : List
           ∙ session_greatest size hs h p.released
 
       window_is : new_window next.sequence r.size (greatest_in r.standing) ≡ window_of fresh
-      window_is =
-          ap (λ k. new_window next.sequence k (greatest_in r.standing)) works.open_pictures
-          ∙ ap (new_window next.sequence size) top_is
-          ∙ (new_stands next.sequence size (greatest_of size (h ∷ hs))).value
-          ∙ ap window_of fresh_is
+      window_is = grind (arith, fresh_is, new_stands, top_is)
 
       written_next : f.written ≡ written_of size f.has_ended f.heard
       unfolding output_so_far
-      written_next =
-          written_over
-          ∙ sym (opening_writes_nothing size (h ∷ hs) next)
-          ∙ sym (ap (last_so_far size) at)
-          ∙ sym (ap (λ (b : Bool). written_of size b f.heard) runs)
+      written_next = grind (arith, opening_writes_nothing, written_of, written_over)
 
       counts_next : (opens_session (Some next) r).counts
           ≡ counts_of_sessions size f.has_ended (sessions_of f.heard)
           (outcome_counts (outcomes_in size f.heard))
-      counts_next =
-          let all = with_sessions size (h ∷ hs) (outcome_counts (outcomes_in size f.heard)) in
-          counts_over
-          ∙ sym (none_released next.sequence [] all)
-          ∙ ap (λ (q : WindowPast). past_counts q all) fresh_is
-          ∙ sym (ap (λ (l : List HeardSession). counts_of_sessions size false l
-          (outcome_counts (outcomes_in size f.heard))) at)
-          ∙ sym (ap (λ (b : Bool). counts_of_sessions size b (sessions_of f.heard)
-          (outcome_counts (outcomes_in size f.heard))) runs)
+      counts_next = grind (arith, counts_over, fresh_is, none_released)
 
       standing_next : (opens_session (Some next) r).standing
           ≡ standing_of size f.has_ended (sessions_of f.heard)
-      standing_next =
-          ap (λ (w : Window). (let o : Option StandingSession = Some (record {
-            session = next;
-            has_ended = false;
-            window = w;
-          }) in o)) window_is
-          ∙ sym (ap (standing_of size false) at)
-          ∙ sym (ap (λ (b : Bool). standing_of size b (sessions_of f.heard)) runs)
+      standing_next = grind (arith, window_is)
 
       pub next_stands : StandsFor (opens_session (Some next) r) size f
-      next_stands = record {
-        heard = record {
-          open_pictures = works.open_pictures;
-          ended = works.ended;
-          session = standing_next;
-          waiting_field =
-              ap (λ (q : WindowPast). (past_fields q).waiting) fresh_is
-              ∙ sym (ap (field_of_sessions size false) at)
-              ∙ sym (ap (λ (b : Bool). field_of_sessions size b (sessions_of f.heard)) runs);
-          counted = counts_next;
-        };
-        released = all_released_is;
-        written = written_next;
-        own = works.own;
-        answers = works.answers;
-        room = works.room;
-        first_field = λ w none. absurd (none-some w none);
-      }
+      next_stands =
+          grind (arith, all_released_is, counts_next, fresh_is, standing_next, written_next)
 
     -- or the input has ended
     module _ (at : sessions_of f.heard ≡ h ∷ hs) (is_done : f.has_ended ≡ true) where
@@ -256,31 +177,7 @@ module _ (r : Reception) (size : ℕ) (f : Feeder) (h : HeardSession) (hs : List
 
       written_end : f.written ≡ written_of size f.has_ended f.heard
       unfolding full_output
-      written_end =
-          written_over
-          ∙ sym (ap (all_output size) at)
-          ∙ sym (ap (λ (b : Bool). written_of size b f.heard) is_done)
+      written_end = grind (arith, written_of, written_over)
 
       pub end_stands : StandsFor (gives_up_field r) size f
-      end_stands = record {
-        heard = record {
-          open_pictures = works.open_pictures;
-          ended = works.ended;
-          session = standing_is
-              ∙ sym (ap (standing_of size over) at)
-              ∙ sym (ap (λ (b : Bool). standing_of size b (sessions_of f.heard)) is_over);
-          waiting_field =
-              sym (ap (λ (b : Bool). field_of_sessions size b (sessions_of f.heard)) is_done);
-          counted = counts_over
-              ∙ sym (ap (λ (l : List HeardSession). with_sessions size l
-              (outcome_counts (outcomes_in size f.heard))) at)
-              ∙ sym (ap (λ (b : Bool). counts_of_sessions size b (sessions_of f.heard)
-              (outcome_counts (outcomes_in size f.heard))) is_done);
-        };
-        released = all_released_is;
-        written = written_end;
-        own = works.own;
-        answers = works.answers;
-        room = works.room;
-        first_field = λ w none. absurd (none-some w none);
-      }
+      end_stands = grind (arith, all_released_is, counts_over, is_over, standing_is, written_end)

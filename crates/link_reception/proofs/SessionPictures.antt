@@ -2,15 +2,14 @@
 use Rattle.std.proofs.Common.{◌≡◌, ℕ, zero, suc, ◌+◌, ◌<◌, ◌≤◌, Bool, true, false, refl, ap, sym}
 use Rattle.std.proofs.Common.{List, [], ◌∷◌, ◌++◌, Option, Some, None, ◌∙◌, arith, cond, inl, inr}
 use Rattle.std.specs.Prelude.{◌==◌, ◌||◌, filter_map}
-use Rattle.std.specs.Option.{option_and_then, option_map, option_map_or}
-use Rattle.std.proofs.lemmas.Bool.{cases_Bool, cond-true, cond-false, ne_eqb, eq-eqb, or_parts}
+use Rattle.std.specs.Option.{option_and_then, option_map_or}
+use Rattle.std.proofs.lemmas.Bool.{cases_Bool, cond-false, ne_eqb, eq-eqb, or_parts}
 use Rattle.std.proofs.lemmas.Bool.{false≢true, cases_lt}
 use Rattle.std.proofs.lemmas.List.Folds.{list_any-append}
 use Rattle.std.proofs.lemmas.Option.{none-some}
 use Rattle.link_model.specs.Feeders.{EnteredSession, entered_session, session_opening, keeps_of}
-use Rattle.link_model.specs.Feeders.{job_by}
-use Rattle.link_model.specs.Feeders.{picture_keeps, kept_job, heard_pictures, is_among, job_with}
-use Rattle.link_model.specs.Kept.{Own, own, own_slice, KeptParameters}
+use Rattle.link_model.specs.Feeders.{job_by, picture_keeps, kept_job, heard_pictures, is_among}
+use Rattle.link_model.specs.Kept.{Own, own, own_slice}
 use Rattle.link_model.specs.Numbers.{Numbered, base_above, parts_of, is_opened, has_parts}
 use Rattle.link_model.specs.Numbers.{opened_numbers}
 use Rattle.link_model.specs.Output.{entered_behind, is_opened_in, greatest_of}
@@ -89,12 +88,7 @@ module _ (window : ℕ) where
   unfolding heard_pictures
   pictures_among [] n = refl
   pictures_among (h ∷ hs) n =
-      among_append (heard_pictures window hs) (opened_numbers (entered_behind window hs h)) n
-      ∙ ap (λ (b : Bool). b || is_among (opened_numbers (entered_behind window hs h)) n)
-      (pictures_among hs n)
-      ∙ ap (λ (b : Bool). is_opened_in window hs n || b)
-      (opened_among (entered_behind window hs h) n)
-      ∙ or_turned (is_opened_in window hs n) (is_opened (entered_behind window hs h) n)
+      grind (arith, among_append, opened_among, or_turned, pictures_among hs n)
 
   pub session_none : (hs : List HeardSession) (n : ℕ) → is_opened_in window hs n ≡ false
       → session_opening window hs n ≡ None
@@ -111,16 +105,12 @@ module _ (window : ℕ) where
     pub session_last : is_opened (entered_behind window hs h) n ≡ true
         → session_opening window (h ∷ hs) n ≡ Some (entered_session window hs h)
     unfolding session_opening
-    session_last opened =
-        cond-true (is_opened (entered_behind window hs h) n) (Some (entered_session window hs h))
-        (session_opening window hs n) opened
+    session_last opened = grind arith
 
     pub session_before : is_opened (entered_behind window hs h) n ≡ false
         → session_opening window (h ∷ hs) n ≡ session_opening window hs n
     unfolding session_opening
-    session_before shut =
-        cond-false (is_opened (entered_behind window hs h) n) (Some (entered_session window hs h))
-        (session_opening window hs n) shut
+    session_before shut = grind arith
 
   pub session_opens : (s : Session) (hs : List HeardSession) (n : ℕ)
       → session_opening window (just_opened s ∷ hs) n ≡ session_opening window hs n
@@ -178,16 +168,8 @@ module _ (window : ℕ) (small : window ≤ 8) (n : ℕ) (kept : Own) where
 
     last_keeps : keeps_in (session_opening window (h ∷ hs) n) ≡ Some kept
         → IsKeptOn kept (keeps_in (session_opening window (with_datagram h d ∷ hs) n))
-    last_keeps is = elim (cases_Bool (is_opened old n)) [
-      | inl was ↦ (let later = own_later
-          (sym (ap keeps_in (session_last window h hs n was)) ∙ is) in (
-            later.0,
-            ap keeps_in (session_last window (with_datagram h d) hs n (still_opened was)) ∙ later.1,
-            later.2,
-          ))
-      | inr shut ↦ kept_same kept (keeps_in (session_opening window (with_datagram h d ∷ hs) n))
-          (of_earlier shut (sym (ap keeps_in (session_before window h hs n shut)) ∙ is))
-    ]
+    last_keeps is =
+        grind (arith, kept_same, of_earlier, own_later, session_before, session_last, still_opened)
 
   module _ (hs : List HeardSession) (d : List ℕ) where
     last_with_keeps : (hs : List HeardSession) → keeps_in (session_opening window hs n) ≡ Some kept
@@ -212,20 +194,7 @@ module _ (window : ℕ) (small : window ≤ 8) (n : ℕ) (kept : Own) where
 module _ (n i : ℕ) where
   job_of_later : (kept later : Own) → KeepsOn kept later → (job : Job) → job_by kept n i ≡ Some job
       → job_by later n i ≡ Some job
-  job_of_later kept later on job is = by_slice (own_slice kept i) refl is
-    where
-      by_slice : (o : Option (List ℕ)) → own_slice kept i ≡ o
-          → option_map (job_with kept n i) o ≡ Some job → job_by later n i ≡ Some job
-      by_slice None at e = absurd (none-some job e)
-      by_slice (Some bytes) at e =
-          ap (option_map (job_with later n i)) (on.slices i bytes at)
-          ∙ ap (λ (plan : KeptParameters). Some (let job : Job = record {
-            plan = plan.parameters;
-            number = n;
-            index = i;
-            bytes = bytes;
-          } in job)) on.plan
-          ∙ e
+  job_of_later kept later on job is = grind arith
 
   pub job_stays : (window : ℕ) → window ≤ 8 → (hs : List HeardSession) (d : List ℕ) (job : Job)
       → kept_job window hs n i ≡ Some job → kept_job window (hears hs d) n i ≡ Some job

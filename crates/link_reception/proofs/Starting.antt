@@ -5,6 +5,7 @@ use Rattle.std.specs.Prelude.{◌==◌, ◌||◌, ◌⊎◌, is_some, filter_map
 use Rattle.std.specs.List.{flat_map}
 use Rattle.std.specs.Option.{option_map}
 use Rattle.std.proofs.lemmas.Bool.{eq-eqb}
+use Rattle.std.proofs.lemmas.Grind.{common_steps}
 use Rattle.std.proofs.lemmas.List.{append-nil}
 use Rattle.link_model.specs.Feeders.{Feeder, session_opening}
 use Rattle.link_model.specs.Feeders.{heard_pictures, let_go_pictures, is_among, EnteredSession}
@@ -34,8 +35,7 @@ use Rattle.link_reception.specs.Receptions.{StandingSession, Reception, FirstFie
 use Rattle.link_reception.specs.Standing.{StandsFor, standing_of, standing_with}
 use Rattle.link_reception.specs.Standing.{all_released, last_past, HasSlots}
 use Rattle.link_model.specs.Interleavings.{AreOwnAnswers}
-use Rattle.link_reception.specs.Standing.{answered_planes, field_of_sessions, counts_of_sessions}
-use Rattle.link_reception.specs.Standing.{past_fields, past_counts, Fields}
+use Rattle.link_reception.specs.Standing.{answered_planes, past_fields, past_counts, Fields}
 use Rattle.link_reception.proofs.HeardMore.{written_of, own_stays, room_stays, planes_stay, of_last}
 use Rattle.link_reception.proofs.HeardMore.{of_others, not_before}
 use Rattle.link_reception.proofs.JudgedOutcomes.{resting_stands, opens_same, judged_is}
@@ -60,59 +60,39 @@ module _ (r : Reception) (size : ℕ) (small : size ≤ 8) (f : Feeder) (stands 
   st_at_rest = standing_with h past_at_rest
 
   pub standing_at_rest : r.standing ≡ Some st_at_rest
-  standing_at_rest = stands.heard.session
-      ∙ ap (λ (over : Bool). standing_of size over (sessions_of f.heard)) runs
-      ∙ ap (standing_of size false) at
+  standing_at_rest = grind arith
 
   field_at_rest : r.field ≡ (past_fields past_at_rest).waiting
-  field_at_rest = stands.heard.waiting_field
-      ∙ ap (λ (over : Bool). field_of_sessions size over (sessions_of f.heard)) runs
-      ∙ ap (field_of_sessions size false) at
+  field_at_rest = grind arith
 
   counts_at_rest : r.counts ≡ past_counts past_at_rest (tally_behind size hs f.heard)
-  counts_at_rest = stands.heard.counted
-      ∙ ap (λ (over : Bool). counts_of_sessions size over (sessions_of f.heard)
-      (outcome_counts (outcomes_in size f.heard))) runs
-      ∙ ap (λ (l : List HeardSession). counts_of_sessions size false l
-      (outcome_counts (outcomes_in size f.heard))) at
+  counts_at_rest = grind arith
 
   let_go_at_rest : let_go_pictures size f.has_ended (sessions_of f.heard)
       ≡ heard_pictures size hs ++ past_let_go past_at_rest
   unfolding let_go_pictures
-  let_go_at_rest =
-      ap (λ (over : Bool). let_go_pictures size over (sessions_of f.heard)) runs
-      ∙ ap (let_go_pictures size false) at
+  let_go_at_rest = grind arith
 
   written_at_rest : f.written ≡ all_output size hs
       ++ flat_map (frame_bytes_at past_at_rest.sequence past_at_rest.entries) past_at_rest.released
   unfolding output_so_far last_so_far frames_so_far
-  written_at_rest = stands.written
-      ∙ ap (λ (over : Bool). written_of size over f.heard) runs
-      ∙ ap (last_so_far size) at
+  written_at_rest = grind (arith, written_of)
 
   pub at_rest_works : IsWorking r size f hs past_at_rest st_at_rest (tally_behind size hs f.heard)
-  at_rest_works = record {
-    open_pictures = stands.heard.open_pictures;
-    ended = stands.heard.ended;
-    stands = standing_at_rest;
-    sequence = refl;
-    window = resting_stands (last_past size false hs h);
-    let_go = let_go_at_rest;
-    released = stands.released ∙ let_go_at_rest;
-    opened = λ n opened. ap (λ (l : List HeardSession). session_opening size l n) at
-        ∙ of_last size h hs n opened;
-    others = λ n shut. subst (λ (l : List HeardSession).
-        (is_among (heard_pictures size hs) n ≡ true) ⊎ (session_opening size l n ≡ None)) (sym at)
-        (of_others size h hs n shut);
-    apart = not_before size h hs small;
-    written = written_at_rest;
-    own = stands.own;
-    answers = stands.answers;
-    room = stands.room;
-    first_field = stands.first_field;
-    waiting = field_at_rest;
-    counted = counts_at_rest;
-  }
+  at_rest_works =
+      grind (
+        arith,
+        common_steps,
+        counts_at_rest,
+        field_at_rest,
+        let_go_at_rest,
+        not_before,
+        of_last,
+        of_others,
+        resting_stands,
+        standing_at_rest,
+        written_at_rest,
+      )
 
   -- ---- a datagram that opens no session
 
@@ -128,9 +108,7 @@ module _ (r : Reception) (size : ℕ) (small : size ≤ 8) (f : Feeder) (stands 
         (own_stays size small (sessions_of f.heard) d f.decoded stands.own)
 
     room_now : (n : ℕ) → HasSlots size (sessions_of now_heard) n (answers_at r.answers n)
-    room_now n = subst (λ (l : List HeardSession). HasSlots size l n (answers_at r.answers n))
-        (sym heard_is)
-        (room_stays size small (sessions_of f.heard) d n (answers_at r.answers n) (stands.room n))
+    room_now n = grind (arith, heard_is, room_stays)
 
     field_now : (w : FirstField) → r.field ≡ Some w
         → answered_planes size (sessions_of now_heard) f.decoded w.number ≡ Some w.planes
@@ -162,10 +140,7 @@ module _ (r : Reception) (size : ℕ) (small : size ≤ 8) (f : Feeder) (stands 
     standing_now : (o : Option Session) → opens_behind h (begins d) ≡ o
         → (keeps_datagram r d).standing ≡ Some (stands_on o st_at_rest d)
     unfolding keeps_datagram
-    standing_now o is =
-        ap (option_map (λ (st : StandingSession). stands_on (session_opened r d) st d))
-        standing_at_rest
-        ∙ ap (λ (o : Option Session). Some (stands_on o st_at_rest d)) (opened_is ∙ is)
+    standing_now o is = grind (arith, opened_is, standing_at_rest)
 
     module _ (none : opens_behind h (begins d) ≡ None) where
       abbrev pub h_now : HeardSession
@@ -247,9 +222,7 @@ module _ (r : Reception) (size : ℕ) (small : size ≤ 8) (f : Feeder) (stands 
       let_go_now : let_go_pictures size f.has_ended (sessions_of now_heard)
           ≡ heard_pictures size hs ++ past_let_go past_now
       unfolding let_go_pictures
-      let_go_now =
-          ap (λ (over : Bool). let_go_pictures size over (sessions_of now_heard)) runs
-          ∙ ap (let_go_pictures size false) sessions_now
+      let_go_now = grind (arith, sessions_now)
 
       pub datagram_works : IsWorking (keeps_datagram r d) size (hears_datagram f d) hs past_now
           (goes_on st_at_rest d) (tally_behind size hs now_heard)
@@ -297,10 +270,7 @@ module _ (r : Reception) (size : ℕ) (small : size ≤ 8) (f : Feeder) (stands 
       let_go_next : let_go_pictures size f.has_ended (sessions_of now_heard)
           ≡ heard_pictures size hs ++ past_let_go past_over
       unfolding let_go_pictures heard_pictures let_go_numbers opened_numbers greatest least parts_of
-      let_go_next =
-          ap (λ (over : Bool). let_go_pictures size over (sessions_of now_heard)) runs
-          ∙ ap (let_go_pictures size false) sessions_next
-          ∙ append-nil (heard_pictures size (h ∷ hs))
+      let_go_next = grind (arith, append-nil, sessions_next)
 
       session_next : (n : ℕ) → session_opening size (sessions_of now_heard) n
           ≡ session_opening size (h ∷ hs) n

@@ -1,14 +1,15 @@
 -- Counts: those of outcomes and those of pictures don't touch each other.
 use Rattle.std.proofs.Common.{◌≡◌, ℕ, ◌+◌, Bool, true, refl, ap, sym, ◌∙◌, cond, arith}
 use Rattle.std.proofs.Common.{List, [], ◌∷◌, Option}
-use Rattle.std.specs.Prelude.{◌==◌, ◌||◌, ◌&&◌, not, is_some, count_by, filter, fold, length}
+use Rattle.std.specs.Prelude.{◌==◌, ◌||◌, count_by, filter, fold, length}
 use Rattle.std.proofs.lemmas.Bool.{eq-eqb}
+use Rattle.std.proofs.lemmas.Grind.{common_steps}
 use Rattle.std.proofs.lemmas.List.Sums.{length-filter}
 use Rattle.link_model.specs.Feeders.{is_among}
 use Rattle.link_model.specs.Judgement.{with_outcome, with_pictures, with_sessions, is_incomplete}
 use Rattle.link_model.specs.Judgement.{is_unsound, has_frame}
 use Rattle.link_model.specs.Numbers.{Numbered}
-use Rattle.link_model.specs.Output.{complete_at, planes_at, frame_at, entered_behind}
+use Rattle.link_model.specs.Output.{complete_at, planes_at, frame_at}
 use Rattle.link_model.specs.Session.{HeardSession}
 use Rattle.link_model.specs.declared.outcome.Outcome.{Outcome}
 use Rattle.link_model.specs.declared.outcome.Outcome.TheVariants as outcomes
@@ -73,24 +74,12 @@ pub sessions_outcome : (size : ℕ) (hs : List HeardSession) (t : Tally) (o : Ou
     → with_outcome (with_sessions size hs t) o ≡ with_sessions size hs (with_outcome t o)
 unfolding with_sessions
 sessions_outcome size [] t o = refl
-sessions_outcome size (h ∷ hs) t o =
-    pictures_outcome h.session.sequence (entered_behind size hs h) (with_sessions size hs t) o
-    ∙ ap (with_pictures h.session.sequence (entered_behind size hs h))
-    (sessions_outcome size hs t o)
+sessions_outcome size (h ∷ hs) t o = grind (arith, pictures_outcome, sessions_outcome size hs t o)
 
 -- nothing was released yet
 pub none_released : (s : Sequence) (es : List Numbered) (t : Tally) → with_released s es [] t ≡ t
 unfolding with_released
-none_released s es t =
-    let none : (test : ℕ → Bool) → count_by test [] ≡ 0 = λ test. sym (length-filter test []) in
-    let a : t.incomplete + count_by (is_incomplete s es) [] ≡ t.incomplete =
-    omega (arith, none (is_incomplete s es)) in
-    let b : t.unsound + count_by (is_unsound s es) [] ≡ t.unsound =
-    omega (arith, none (is_unsound s es)) in
-    let c : t.unpaired + 0 ≡ t.unpaired = omega arith in
-    let d : t.frames + count_by (has_frame s es) [] ≡ t.frames =
-    omega (arith, none (has_frame s es)) in
-    λ i. record t { incomplete = a i; unsound = b i; unpaired = c i; frames = d i }
+none_released s es t = grind (arith, length-filter)
 
 -- ---- of other entries, by which these pictures are the same
 
@@ -128,12 +117,4 @@ module _ (s : Sequence) (old new : List Numbered) (ns : List ℕ)
 
   pub released_same : (t : Tally) → with_released s old ns t ≡ with_released s new ns t
   unfolding with_released
-  released_same t =
-      let a = count_same (is_incomplete s old) (is_incomplete s new) ns
-      (λ n there. ap not (complete n there)) in
-      let b = count_same (is_unsound s old) (is_unsound s new) ns
-      (λ n there. ap (λ (c : Bool). c && not (is_some (planes_at s old n))) (complete n there)
-      ∙ ap (λ (o : Option Planes). complete_at s new n && not (is_some o)) (planes n there)) in
-      let d = count_same (has_frame s old) (has_frame s new) ns
-      (λ n there. ap (λ (o : Option Planes). is_some o) (frame n there)) in
-      λ i. added (a i) (b i) (fields_same i).alone (d i) t
+  released_same t = grind (arith, common_steps, count_same, fields_same)

@@ -9,7 +9,7 @@ use Rattle.std.proofs.lemmas.Option.{none-some, same_Some}
 use Rattle.link_model.specs.Complete.{has_all_slices, all_bytes, whole_of, whole_picture}
 use Rattle.link_model.specs.Feeders.{Feeder, EnteredSession, session_opening, keeps_of, job_by}
 use Rattle.link_model.specs.Feeders.{kept_job, picture_keeps, let_go_pictures, is_among}
-use Rattle.link_model.specs.Feeders.{has_released, answer_in}
+use Rattle.link_model.specs.Feeders.{has_released}
 use Rattle.link_model.specs.Kept.{Own, KeptParameters, own, own_slice}
 use Rattle.link_model.specs.Numbers.{parts_of}
 use Rattle.link_model.specs.Output.{complete_at, is_opened_in}
@@ -24,7 +24,7 @@ use Rattle.link_model.proofs.RisingLists.{among_each}
 use Rattle.vc_types.specs.Subbands.{slice_count}
 use Rattle.link_reception.specs.Entering.{datagram_jobs}
 use Rattle.link_reception.specs.Exchanging.{is_job_among}
-use Rattle.link_reception.specs.Receptions.{Reception, Decoding, kept_answer}
+use Rattle.link_reception.specs.Receptions.{Reception, kept_answer}
 use Rattle.link_reception.specs.Standing.{StandsFor, StandsForHeard}
 use Rattle.link_reception.proofs.DatagramJobs.{only_jobs}
 use Rattle.link_reception.proofs.KeptJobs.{session_job}
@@ -100,21 +100,7 @@ module _ (r : Reception) (size : ℕ) (f : Feeder) (small : size ≤ 8) (stands 
       (subst (StandsForHeard r size f.heard) runs stands.heard) small job there
 
   pub offered_unreleased : has_released f job.number ≡ false
-  offered_unreleased =
-      ap (λ (l : List ℕ). is_among l job.number)
-      (stands.released
-      ∙ ap (λ (over : Bool). let_go_pictures size over (sessions_of f.heard)) runs)
-      ∙ not_let_go size small (sessions_of f.heard) d job.number job.index job its_jobs.1
-      (ap (λ (l : List HeardSession). kept_job size l job.number job.index)
-      (sym (sessions_of_more f.heard d)) ∙ its_jobs.0)
+  offered_unreleased = grind (arith, its_jobs, not_let_go, sessions_of_more)
 
   pub offered_unanswered : kept_answer r.answers job.number job.index ≡ None
-  offered_unanswered = stands.answers job.number job.index offered_unreleased
-      ∙ by_answer (answer_in f.decoded job.number job.index) refl
-    where
-      by_answer : (o : Option Decoding) → answer_in f.decoded job.number job.index ≡ o → o ≡ None
-      by_answer None at = refl
-      by_answer (Some answer) at =
-          let its = own_answer_of size (sessions_of f.heard) f.decoded stands.own job.number
-          job.index answer at in
-          absurd (none-some its.0 (sym its_jobs.1 ∙ its.1))
+  offered_unanswered = grind (arith, its_jobs, offered_unreleased, own_answer_of)

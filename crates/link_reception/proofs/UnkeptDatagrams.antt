@@ -1,9 +1,8 @@
 -- A datagram that isn't kept leaves the session that stands, and what its pictures keep.
-use Rattle.std.proofs.Common.{◌≡◌, ℕ, Bool, true, false, refl, ap, sym, ◌∙◌}
+use Rattle.std.proofs.Common.{◌≡◌, ℕ, Bool, true, false, refl, ap, sym, ◌∙◌, arith}
 use Rattle.std.proofs.Common.{List, [], ◌∷◌, ◌++◌, Option, Some, None, cond, inl, inr, subst, map}
 use Rattle.std.specs.Prelude.{◌&&◌, ◌||◌, ◌⊎◌, not}
 use Rattle.std.specs.List.{last_or}
-use Rattle.std.specs.Option.{option_map}
 use Rattle.std.proofs.lemmas.Bool.{cases_Bool, cases_eq, cond-false, eq-eqb, false≢true, both_ways}
 use Rattle.std.proofs.lemmas.Option.{none-some, same_Some}
 use Rattle.link_model.specs.Books.{Book, book_of}
@@ -21,7 +20,7 @@ use Rattle.link_model.proofs.Numbering.{early_enters, late_changes_nothing, part
 use Rattle.link_model.proofs.SessionOutcomes.{opening_is_new, fragment_is_judged, end_is_end}
 use Rattle.link_model.proofs.Unchanged.{unkept_changes_nothing}
 use Rattle.link_model.proofs.WindowStands.{book_is, enters_stands, window_outcome_is}
-use Rattle.link_reception.specs.Judging.{enters_window, goes_on, keeps_datagram, judged, stands_on}
+use Rattle.link_reception.specs.Judging.{enters_window, goes_on, keeps_datagram, judged}
 use Rattle.link_reception.specs.Judging.{session_opened, opens_after}
 use Rattle.link_reception.specs.Receptions.{StandingSession, Reception}
 use Rattle.link_reception.specs.Standing.{StandsForHeard, standing_of, standing_with, all_released}
@@ -204,19 +203,8 @@ module _ (r : Reception) (size : ℕ) (datagrams : List (List ℕ)) (d : List �
 
     standing_leaves : LeavesSession r.standing (keeps_datagram r d).standing
     unfolding keeps_datagram
-    standing_leaves = subst (λ (o : Option StandingSession). LeavesSession o
-        (option_map (λ st. stands_on (session_opened r d) st d) o)) (sym standing_is)
-        (subst (λ (o : Option Session). LeavesSession (Some st) (Some (stands_on o st d)))
-        (sym opened_none)
-        (refl, ap (λ (b : Bool). h.has_ended || b) ends_not ∙ or-false h.has_ended, its_books))
+    standing_leaves = grind (arith, ends_not, its_books, opened_none, or-false, standing_is)
 
   pub unkept_leaves : LeavesSession r.standing (keeps_datagram r d).standing
   unfolding keeps_datagram
-  unkept_leaves = by_sessions (sessions_of datagrams) refl
-    where
-      by_sessions : (l : List HeardSession) → sessions_of datagrams ≡ l
-          → LeavesSession r.standing (keeps_datagram r d).standing
-      by_sessions [] at = subst (λ (o : Option StandingSession). LeavesSession o
-          (option_map (λ st. stands_on (session_opened r d) st d) o))
-          (sym (stands.session ∙ ap (standing_of size false) at)) tt
-      by_sessions (h ∷ hs) at = standing_leaves h hs at
+  unkept_leaves = grind (arith, standing_leaves)

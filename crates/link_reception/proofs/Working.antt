@@ -1,16 +1,14 @@
 -- A receiver at work: its window isn't done with all pictures that are let go. It uses an answer
 -- where the feeder does.
-use Rattle.std.proofs.Common.{◌≡◌, ℕ, ◌<◌, Bool, true, false, refl, ap, sym}
-use Rattle.std.proofs.Common.{List, [], ◌∷◌, ◌++◌, length, Option, Some, None, subst, ◌∙◌}
-use Rattle.std.proofs.Common.{arith, cond, inl, inr}
-use Rattle.std.specs.Prelude.{◌==◌, ◌&&◌, ◌||◌, ◌⊎◌, is_none, not, unwrap_or}
+use Rattle.std.proofs.Common.{◌≡◌, ℕ, ◌<◌, Bool, true, false, refl, ap, sym, List, [], ◌∷◌, ◌++◌}
+use Rattle.std.proofs.Common.{length, Option, Some, None, subst, ◌∙◌, arith, cond, inl, inr}
+use Rattle.std.specs.Prelude.{◌&&◌, ◌||◌, ◌⊎◌, not}
 use Rattle.std.specs.List.{flat_map, last_or}
 use Rattle.std.specs.Option.{option_and_then, option_map_or}
-use Rattle.std.proofs.lemmas.Bool.{cases_Bool, cases_eq, cond-true, cond-false, and_parts, or_parts}
-use Rattle.std.proofs.lemmas.Bool.{false≢true, both_ways, not-true}
-use Rattle.std.proofs.lemmas.Option.{same_Some}
+use Rattle.std.proofs.lemmas.Bool.{cases_eq, and_parts, or_parts, false≢true, not-true}
+use Rattle.std.proofs.lemmas.Grind.{common_steps}
 use Rattle.link_model.specs.Books.{Book, book_of}
-use Rattle.link_model.specs.Feeders.{Feeder, EnteredSession, session_opening, keeps_of, job_by}
+use Rattle.link_model.specs.Feeders.{Feeder, EnteredSession, session_opening}
 use Rattle.link_model.specs.Feeders.{kept_job, picture_keeps, heard_pictures, let_go_pictures}
 use Rattle.link_model.specs.Feeders.{is_among, answer_in, has_released, slice_job, is_decoded}
 use Rattle.link_model.specs.Feeding.{is_same_job, has_job, takes_answer, with_answer}
@@ -25,19 +23,16 @@ use Rattle.link_model.specs.Windows.{book_at, is_needed, released_up_to}
 use Rattle.link_model.specs.declared.tally.Tally.{Tally}
 use Rattle.link_model.proofs.WindowStands.{book_is}
 use Rattle.vc_types.specs.Subbands.{slice_count}
-use Rattle.link_reception.specs.Exchanging.{book_job, window_job}
-use Rattle.link_reception.specs.Exchanging.{unreleased_job, own_job, is_wanted, takes_done}
+use Rattle.link_reception.specs.Exchanging.{book_job, window_job, own_job, is_wanted, takes_done}
 use Rattle.link_reception.specs.Exchanging.{Exchange, Proposed, Fetched, out_at, back_from}
 use Rattle.link_reception.specs.Exchanging.{all_exchanged, dones_in}
-use Rattle.link_reception.specs.Receptions.{StandingSession, Reception, FirstField, Decoding}
-use Rattle.link_reception.specs.Receptions.{PictureAnswers, SliceOut}
-use Rattle.link_reception.specs.Receptions.{answers_at, kept_answer, keeps_answer, no_answers}
+use Rattle.link_reception.specs.Receptions.{StandingSession, Reception, FirstField, SliceOut}
+use Rattle.link_reception.specs.Receptions.{answers_at, kept_answer, keeps_answer}
 use Rattle.link_reception.specs.Standing.{past_fields, past_counts}
 use Rattle.link_model.specs.Interleavings.{AreOwnAnswers}
 use Rattle.link_reception.specs.Standing.{HasSlots, answered_planes, AreDecodings}
-use Rattle.link_reception.proofs.KeptAnswers.{answers_before, answers_by_same}
-use Rattle.link_reception.proofs.KeptAnswers.{keeps_own, keeps_others}
-use Rattle.link_reception.proofs.KeptAnswers.{keeps_found, room_of_none, room_stays}
+use Rattle.link_reception.proofs.KeptAnswers.{answers_before, answers_by_same, keeps_own}
+use Rattle.link_reception.proofs.KeptAnswers.{keeps_others, keeps_found, room_of_none, room_stays}
 use Rattle.link_reception.proofs.ReleasedNumbers.{released_is}
 use Rattle.link_reception.proofs.SessionPictures.{among_append}
 use Rattle.link_reception.proofs.SliceJobs.{other_answer, same_planes_by, book_job_is}
@@ -113,93 +108,33 @@ module _ (r : Reception) (size : ℕ) (f : Feeder) (hs : List HeardSession) (p :
 
   own_job_by : (n i : ℕ) → own_job r n i
       ≡ cond (released_up_to (last_or None p.released) n) None (window_job st.window n i)
-  own_job_by n i =
-      ap (option_and_then (λ (s : StandingSession). unreleased_job s n i)) works.stands
-      ∙ ap (λ (o : Option ℕ). cond (released_up_to o n) None (window_job st.window n i))
-      last_released_is
+  own_job_by n i = grind (arith, last_released_is)
 
   -- a released picture has no job
   pub own_job_gone : (n i : ℕ) → has_released f n ≡ true → own_job r n i ≡ None
-  own_job_gone n i gone = own_job_by n i ∙ elim (cases_Bool (is_opened p.entries n)) [
-    | inl opened ↦ cond-true (released_up_to (last_or None p.released) n) None
-        (window_job st.window n i)
-        (sym (released_is p works.window.in_order n opened)
-        ∙ sym (ap (λ (b : Bool). b || is_among p.released n) (works.apart n opened))
-        ∙ sym (released_parts n)
-        ∙ gone)
-    | inr shut ↦ ap (λ (o : Option Job). cond (released_up_to (last_or None p.released) n) None o)
-        (unopened_job n i shut)
-        ∙ both_none (released_up_to (last_or None p.released) n)
-  ]
-    where
-      no_job : Option Job
-      no_job = None
-
-      both_none : (b : Bool) → cond b no_job no_job ≡ None
-      both_none true = refl
-      both_none false = refl
+  own_job_gone n i gone = grind (arith, own_job_by, released_is, released_parts, unopened_job)
 
   -- and one that isn't released has the feeder's
   pub own_job_is : (n i : ℕ) → has_released f n ≡ false → own_job r n i ≡ slice_job size f n i
   unfolding kept_job
   own_job_is n i stays =
-      own_job_by n i
-      ∙ elim (cases_Bool (is_opened p.entries n)) [
-        | inl opened ↦ (let above = sym (released_is p works.window.in_order n opened)
-            ∙ (or_parts (is_among (heard_pictures size hs) n) (is_among p.released n)
-            (sym (released_parts n) ∙ stays)).1 in
-            cond-false (released_up_to (last_or None p.released) n) None
-            (window_job st.window n i) above
-            ∙ ap (option_and_then (λ (book : Book). book_job book n i))
-            (book_of_unreleased n opened above)
-            ∙ book_job_is p.sequence (parts_of n p.entries) n i
-            ∙ sym (ap (λ (o : Option EnteredSession). option_and_then (λ kept. job_by kept n i)
-            (option_and_then (λ e. keeps_of e n) o)) (works.opened n opened)))
-        | inr shut ↦ ap (λ (o : Option Job). cond (released_up_to (last_or None p.released) n)
-            no_job o) (unopened_job n i shut)
-            ∙ both_none (released_up_to (last_or None p.released) n)
-            ∙ sym (feeder_none (works.others n shut))
-      ]
-    where
-      no_job : Option Job
-      no_job = None
-
-      both_none : (b : Bool) → cond b no_job no_job ≡ None
-      both_none true = refl
-      both_none false = refl
-
-      feeder_none : (is_among (heard_pictures size hs) n ≡ true)
-          ⊎ (session_opening size (sessions_of f.heard) n ≡ None) → slice_job size f n i ≡ None
-      feeder_none (inl before) = absurd (both_ways (is_among (heard_pictures size hs) n)
-          (or_parts (is_among (heard_pictures size hs) n) (is_among p.released n)
-          (sym (released_parts n) ∙ stays)).0 before)
-      feeder_none (inr none) = ap (λ (o : Option EnteredSession).
-          option_and_then (λ kept. job_by kept n i) (option_and_then (λ e. keeps_of e n) o)) none
+      grind (
+        arith,
+        book_job_is,
+        book_of_unreleased,
+        or_parts,
+        own_job_by,
+        released_is,
+        released_parts,
+        unopened_job,
+      )
 
   -- ---- a decoded slice that is given back
 
   -- it is used where the feeder uses it
   pub wanted_is : (done : Answered) → is_wanted r done
       ≡ (has_job size f done.job && not (is_decoded f done.job.number done.job.index))
-  wanted_is done = elim (cases_Bool (has_released f done.job.number)) [
-    | inl gone ↦
-        ap (λ (o : Option Job). option_map_or (is_same_job done.job) o false
-        && is_none (kept_answer r.answers done.job.number done.job.index))
-        (own_job_gone done.job.number done.job.index gone)
-        ∙ sym (ap (λ (b : Bool). (not b && option_map_or (is_same_job done.job)
-        (slice_job size f done.job.number done.job.index) false)
-        && not (is_decoded f done.job.number done.job.index)) gone)
-    | inr stays ↦
-        ap (λ (o : Option Job). option_map_or (is_same_job done.job) o false
-        && is_none (kept_answer r.answers done.job.number done.job.index))
-        (own_job_is done.job.number done.job.index stays)
-        ∙ ap (λ (o : Option Decoding). option_map_or (is_same_job done.job)
-        (slice_job size f done.job.number done.job.index) false && is_none o)
-        (works.answers done.job.number done.job.index stays)
-        ∙ sym (ap (λ (b : Bool). (not b && option_map_or (is_same_job done.job)
-        (slice_job size f done.job.number done.job.index) false)
-        && not (is_decoded f done.job.number done.job.index)) stays)
-  ]
+  wanted_is done = grind (arith, own_job_gone, own_job_is)
 
   -- a first field that waits was released
   pub waiting_released : (w : FirstField) → r.field ≡ Some w → has_released f w.number ≡ true
@@ -249,20 +184,7 @@ module _ (r : Reception) (size : ℕ) (f : Feeder) (hs : List HeardSession) (p :
     slots : ((answers_before done r.answers).parameters ≡ done.job.plan)
         × (length (answers_before done r.answers).slices
         ≡ slice_count kept_there.0.plan.parameters)
-    slots = by_answers (answers_at r.answers n) (works.room n)
-      where
-        by_answers : (o : Option PictureAnswers) → HasSlots size (sessions_of f.heard) n o
-            → ((unwrap_or o (no_answers n done.job.plan)).parameters ≡ done.job.plan)
-            × (length (unwrap_or o (no_answers n done.job.plan)).slices
-            ≡ slice_count kept_there.0.plan.parameters)
-        by_answers None room =
-            (refl, room_of_none n done.job.plan ∙ ap slice_count kept_there.2)
-        by_answers (Some a) room =
-            let same : room.0 ≡ kept_there.0 =
-            same_Some room.0 kept_there.0 (sym room.1 ∙ kept_there.1) in (
-              room.2 ∙ ap (λ (kept : Own). kept.plan.parameters) same ∙ sym kept_there.2,
-              room.3 ∙ ap (λ (kept : Own). slice_count kept.plan.parameters) same,
-            )
+    slots = grind (arith, common_steps, kept_there, room_of_none)
 
     room_for_it : i < length (answers_before done r.answers).slices
     room_for_it = omega (arith, slots.1, kept_there.3)
@@ -285,81 +207,29 @@ module _ (r : Reception) (size : ℕ) (f : Feeder) (hs : List HeardSession) (p :
 
     pub with_one_answer : IsWorking (record r { answers = keeps_answer r.answers done }) size
         (with_answer f done) hs p st t
-    with_one_answer = record {
-      open_pictures = works.open_pictures;
-      ended = works.ended;
-      stands = works.stands;
-      sequence = works.sequence;
-      window = works.window;
-      let_go = works.let_go;
-      released = works.released;
-      opened = works.opened;
-      others = works.others;
-      apart = works.apart;
-      written = works.written;
-      own = ((done.job, its_job, right), works.own);
-      answers = λ m j stays. keeps_found done r.answers slots.0 room_for_it m j
-          ∙ ap (λ (o : Option Decoding). cond (n == m && i == j) (Some done.answer) o)
-          (works.answers m j stays);
-      room = room_behind;
-      first_field = λ w is. same_planes_by f.decoded (with_answer f done).decoded w.number
-          (other_answer (record { number = n; index = i; answer = done.answer }) f.decoded w.number
-          (λ same. both_ways (has_released f n) unreleased
-          (ap (has_released f) same ∙ waiting_released w is)))
-          (picture_keeps size (sessions_of f.heard) w.number)
-          ∙ works.first_field w is;
-      waiting = works.waiting;
-      counted = works.counted;
-    }
+    with_one_answer =
+        grind (
+          arith,
+          its_job,
+          keeps_found,
+          other_answer,
+          room_behind,
+          room_for_it,
+          same_planes_by,
+          slots,
+          unreleased,
+          waiting_released,
+        )
 
   pub takes_working : (done : Answered) → done.answer ≡ decoding done.job
       → IsWorking (takes_done r done) size (takes_answer size f done) hs p st t
   unfolding takes_done
-  takes_working done right = elim (cases_Bool (is_wanted r done)) [
-    | inl wanted ↦ (let used : takes_answer size f done ≡ with_answer f done =
-        cond-true (has_job size f done.job
-        && not (is_decoded f done.job.number done.job.index)) (with_answer f done) f
-        (sym (wanted_is done) ∙ wanted) in
-        let kept : takes_done r done ≡ record r { answers = keeps_answer r.answers done } =
-        cond-true (is_wanted r done) (record r { answers = keeps_answer r.answers done }) r
-        wanted in
-        subst (λ (v : Reception). IsWorking v size (takes_answer size f done) hs p st t) (sym kept)
-        (subst (λ (g : Feeder).
-        IsWorking (record r { answers = keeps_answer r.answers done }) size g hs p st t)
-        (sym used) (with_one_answer done right wanted)))
-    | inr other ↦ (let unused : takes_answer size f done ≡ f =
-        cond-false (has_job size f done.job
-        && not (is_decoded f done.job.number done.job.index)) (with_answer f done) f
-        (sym (wanted_is done) ∙ other) in
-        let same : takes_done r done ≡ r =
-        cond-false (is_wanted r done) (record r { answers = keeps_answer r.answers done }) r
-        other in
-        subst (λ (v : Reception). IsWorking v size (takes_answer size f done) hs p st t) (sym same)
-        (subst (λ (g : Feeder). IsWorking r size g hs p st t) (sym unused) works))
-  ]
+  takes_working done right = grind (arith, wanted_is, with_one_answer)
 
   -- ---- slices that are out
 
   pub with_out : (out : List SliceOut) → IsWorking (record r { out = out }) size f hs p st t
-  with_out out = record {
-    open_pictures = works.open_pictures;
-    ended = works.ended;
-    stands = works.stands;
-    sequence = works.sequence;
-    window = works.window;
-    let_go = works.let_go;
-    released = works.released;
-    opened = works.opened;
-    others = works.others;
-    apart = works.apart;
-    written = works.written;
-    own = works.own;
-    answers = works.answers;
-    room = works.room;
-    first_field = works.first_field;
-    waiting = works.waiting;
-    counted = works.counted;
-  }
+  with_out out = grind arith
 
 -- ---- one call to the places after another
 
