@@ -1,10 +1,9 @@
 -- The numbers of a session are above all of the earlier ones.
 use Rattle.std.proofs.Common.{◌≡◌, ℕ, ◌+◌, ◌%◌, ◌^◌, ◌<◌, ◌≤◌, Bool, true, false, List, [], ◌∷◌, ◌++◌, refl, ap, sym, subst, ◌∙◌, inl, inr, arith}
 use Rattle.std.specs.Prelude.{◌⊎◌, ◌||◌, fold}
-use Rattle.std.proofs.lemmas.Bool.{cases_Bool, cases_lt, both_ways}
-use Rattle.link_model.specs.Numbers.{Numbered, greatest, base_above, picture_number, is_late, is_opened, has_parts, enters, entered, parts_of}
+use Rattle.link_model.specs.Numbers.{Numbered, greatest, base_above, picture_number, is_opened, has_parts, enters, entered, parts_of}
 use Rattle.link_model.specs.Output.{greatest_of, entered_behind, is_opened_in}
-use Rattle.link_model.specs.Session.{Part, Fragment, HeardSession}
+use Rattle.link_model.specs.Session.{Fragment, HeardSession}
 use Rattle.link_model.proofs.Numbering.{greatest-append, parts_of-append, parts_of-other, parts_of-outside, early_is, late_changes_nothing, early_enters}
 
 -- ---- where numbers begin: the least multiple of 2 ^ 32 that is more than 8 above
@@ -29,10 +28,7 @@ module _ (number window n : ℕ) (small : window ≤ 8) (low : n ≤ number) whe
 
   one_more : (es : List Numbered) (e : Numbered) → base_above number ≤ greatest (es ++ e ∷ []) → parts_of n es ≡ [] → number < e.number
       → (base_above number ≤ greatest (es ++ e ∷ [])) × (parts_of n (es ++ e ∷ []) ≡ [])
-  one_more es e above none high = (
-    above,
-    parts_of-append n es (e ∷ []) ∙ ap (λ (l : List Part). l ++ parts_of n (e ∷ [])) none ∙ parts_of-other n e (λ same. omega (arith, same, high, low)),
-  )
+  one_more es e above none high = grind (arith, parts_of-append, parts_of-other)
 
   no_parts : parts_of n [] ≡ []
   unfolding parts_of
@@ -60,21 +56,14 @@ module _ (number window n : ℕ) (small : window ≤ 8) (low : n ≤ number) whe
       one_more es e (omega (arith, greatest-append es (e ∷ []), above.0)) above.1 (omega (arith, above.0, early, small, base_is_above number))
 
   enters_above : (es : List Numbered) (f : Fragment) → IsAbove es → IsAbove (enters (base_above number) window es f)
-  enters_above es f above = elim (cases_Bool (is_late window es (picture_number (base_above number) es f.number))) [
-    | inl late ↦ subst IsAbove (sym (late_changes_nothing (base_above number) window es f late)) above
-    | inr early ↦ subst IsAbove (sym (early_enters (base_above number) window es f early)) (inr (adds es f above (early_is window es (picture_number (base_above number) es f.number) early)))
-  ]
+  enters_above es f above = grind (arith, adds, early_enters, early_is, late_changes_nothing)
 
   all_above : (es : List Numbered) (fragments : List Fragment) → IsAbove es → IsAbove (fold (enters (base_above number) window) es fragments)
   all_above es [] above = above
   all_above es (f ∷ fragments) above = all_above (enters (base_above number) window es f) fragments (enters_above es f above)
 
   pub nothing_below : (fragments : List Fragment) → parts_of n (entered (base_above number) window fragments) ≡ []
-  nothing_below fragments = by_entries (entered (base_above number) window fragments) (all_above [] fragments (inl refl))
-    where
-      by_entries : (es : List Numbered) → IsAbove es → parts_of n es ≡ []
-      by_entries es (inl none) = ap (parts_of n) none ∙ no_parts
-      by_entries es (inr above) = above.1
+  nothing_below fragments = grind (arith, all_above, no_parts)
 
 -- ---- of sessions
 
@@ -87,9 +76,6 @@ module _ (window : ℕ) where
       ∙ unopened_above hs n (omega (arith, above))
 
 pub sessions_apart : (window : ℕ) (hs : List HeardSession) (h : HeardSession) (n : ℕ) → window ≤ 8 → is_opened_in window hs n ≡ true → is_opened (entered_behind window hs h) n ≡ false
-sessions_apart window hs h n small was = elim (cases_lt (greatest_of window hs) n) [
-  | inl above ↦ absurd (both_ways (is_opened_in window hs n) (unopened_above window hs n above) was)
-  | inr low ↦ ap has_parts (nothing_below (greatest_of window hs) window n small low h.fragments)
-]
+sessions_apart window hs h n small was = grind (arith, nothing_below, unopened_above)
 
 pub ruleset laws = (base_is_above, base_is_near, base_is_multiple, sessions_apart)

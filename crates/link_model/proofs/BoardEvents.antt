@@ -2,7 +2,6 @@
 use Rattle.std.proofs.Common.{◌≡◌, ◌≢◌, refl, ℕ, ◌+◌, ◌/◌, ◌^◌, ◌<◌, Bool, true, false}
 use Rattle.std.proofs.Common.{◌&&◌, ◌||◌, List, [], ◌∷◌, length, get_or, set, sym, ap, ◌∙◌, subst}
 use Rattle.std.proofs.Common.{arith, length-set, get_or-set_other, get_or-set_same, eq-eqb}
-use Rattle.std.proofs.Common.{ne_eqb}
 use Rattle.std.proofs.lemmas.Bool.{lt-ltb}
 use Rattle.std.specs.List.{list_any}
 use Rattle.std.specs.Option.{option_map_or}
@@ -40,23 +39,14 @@ or_grows false b c f e = f e
 -- ---- states
 
 state_below : (c : Content) → state_number (state_of c) < 4
-state_below Nothing = omega arith
-state_below (Offered job) = omega arith
-state_below (Claimed worker job) = omega arith
-state_below (Decoded done) = omega arith
+state_below o = grind arith
 
 offered_of : (c : Content) → state_number (state_of c) ≡ 1 → (job : Job) × (c ≡ Offered job)
-offered_of Nothing e = absurd (omega arith)
-offered_of (Offered job) e = (job, refl)
-offered_of (Claimed worker job) e = absurd (omega arith)
-offered_of (Decoded done) e = absurd (omega arith)
+offered_of o e = grind arith
 
 claimed_of : (c : Content) → state_number (state_of c) ≡ 2
     → (worker : ℕ) × (job : Job) × (c ≡ Claimed worker job)
-claimed_of Nothing e = absurd (omega arith)
-claimed_of (Offered job) e = absurd (omega arith)
-claimed_of (Claimed worker job) e = (worker, job, refl)
-claimed_of (Decoded done) e = absurd (omega arith)
+claimed_of o e = grind arith
 
 -- ---- pairs
 
@@ -64,18 +54,7 @@ claimed_of (Decoded done) e = absurd (omega arith)
 stays_without : (p t q s : ℕ) (hs : List Hold) → q ≢ p → list_any (is_hold q s) hs ≡ true
     → list_any (is_hold q s) (without p t hs) ≡ true
 stays_without p t q s [] ne e = e
-stays_without p t q s (h ∷ hs) ne e =
-    dite (ℕ_discrete h.place p)
-    (λ same. dite (ℕ_discrete h.serial t)
-    (λ f. rw (eq-eqb h.place p same, eq-eqb h.serial t f)
-    (let miss : is_hold q s h ≡ false = rw (ne_eqb h.place q (λ x. ne (sym x ∙ same))) refl in
-    sym (ap (λ (b : Bool). b || list_any (is_hold q s) hs) miss) ∙ e))
-    (λ nf. rw (eq-eqb h.place p same, ne_eqb h.serial t nf)
-    (or_grows (is_hold q s h) (list_any (is_hold q s) hs)
-    (list_any (is_hold q s) (without p t hs)) (stays_without p t q s hs ne) e)))
-    (λ other. rw (ne_eqb h.place p other)
-    (or_grows (is_hold q s h) (list_any (is_hold q s) hs)
-    (list_any (is_hold q s) (without p t hs)) (stays_without p t q s hs ne) e))
+stays_without p t q s (h ∷ hs) ne e = grind (arith, or_grows, stays_without p t q s hs ne)
 
 pair_here : (p t : ℕ) (hs : List Hold) → list_any (is_hold p t) (hold p t ∷ hs) ≡ true
 pair_here p t hs = rw (eq-eqb p p refl, eq-eqb t t refl) refl
@@ -259,14 +238,4 @@ step_is_event window m b seat e word n i s =
 
 pub new_board_shows : {C : Type 0} (n : ℕ) (views : List (View C))
     → ShowsPlaces (record { words = replicate n 0; views = views }) (unused_places n)
-new_board_shows n views = record {
-  many = length-replicate {A = JobPlace} n unused_place
-      ∙ sym (length-replicate {A = ℕ} n 0);
-  each = λ p h.
-      let within : p < n = (let l = length-replicate {A = ℕ} n 0 in omega arith) in
-      let at : place_at (unused_places n) p ≡ unused_place =
-      get_or-replicate {A = JobPlace} n p unused_place unused_place within in
-      let word : get_or (replicate n 0) p 0 ≡ 0 = get_or-replicate {A = ℕ} n p 0 0 within in
-      subst (λ (y : JobPlace). ShowsPlace (get_or (replicate n 0) p 0) views p y) (sym at)
-      (record { state = word; holder = tt });
-}
+new_board_shows n views = grind (arith, get_or-replicate, length-replicate)

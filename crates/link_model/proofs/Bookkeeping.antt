@@ -1,18 +1,18 @@
 -- The book of a list of parts: with a part more it is the book of the longer list, and it answers the part's outcome, the
 -- slices that are kept and the whole bytes.
-use Rattle.std.proofs.Common.{◌≡◌, ℕ, ◌+◌, ◌<◌, ◌≤◌, min, Bool, List, [], ◌∷◌, ◌++◌, length, map, take, Option, Some, None, Result, Ok, Err, refl, ap, sym, ◌∙◌, inl, inr, arith, cond}
-use Rattle.std.specs.Prelude.{filter_map, fold, nat_lt, is_some, unwrap_or}
-use Rattle.std.specs.List.{flat_map, list_all, range_with_len}
-use Rattle.std.specs.Option.{option_map, option_map_or, option_or, option_and_then}
+use Rattle.std.proofs.Common.{◌≡◌, ℕ, ◌<◌, ◌≤◌, min, Bool, List, [], ◌∷◌, ◌++◌, length, map, take, Option, Some, None, Result, refl, ap, sym, ◌∙◌, inl, inr, arith, cond}
+use Rattle.std.specs.Prelude.{filter_map, fold, nat_lt, unwrap_or}
+use Rattle.std.specs.List.{flat_map}
+use Rattle.std.specs.Option.{option_map, option_or, option_and_then}
 use Rattle.std.proofs.lemmas.Bool.{cases_lt, cond-true, cond-false, lt-ltb, le-ltb}
 use Rattle.std.proofs.lemmas.List.{append-nil, append_assoc, length-take, length-append, take_all, take-append-le}
 use Rattle.std.proofs.lemmas.List.Elements.{filter_map-append}
 use Rattle.std.proofs.lemmas.List.Folds.{list_all-map}
 use Rattle.std.proofs.lemmas.Option.{none-some}
-use Rattle.link_model.specs.Complete.{slice_numbers, has_all_slices, all_bytes, whole_of, whole_picture}
+use Rattle.link_model.specs.Complete.{has_all_slices, all_bytes, whole_picture}
 use Rattle.link_model.specs.Books.{Slots, slot_at, Gathered, Book, nothing_gathered, gathers_run, gathers, takes_plan, waits_too, book_takes, book_outcome, gathered_of, book_by, book_of, book_slice, book_whole}
 use Rattle.link_model.specs.Judgement.{part_outcome, parameters_outcome, slices_outcome, run_outcome, waiting_outcome}
-use Rattle.link_model.specs.Kept.{KeptParameters, parameters_in, kept_parameters, SplitParts, split_by, also_before, split_parts, Own, own_of, own, own_slice, runs_of, run_taken, part_slices, slice_in, SliceRun, first_copy, slice_run, waiting_limit}
+use Rattle.link_model.specs.Kept.{KeptParameters, parameters_in, kept_parameters, SplitParts, split_parts, Own, own_of, own, own_slice, runs_of, run_taken, part_slices, slice_in, SliceRun, first_copy, slice_run, waiting_limit}
 use Rattle.link_model.specs.Session.{Part, ParamsPart, SlicesPart, SlicePart}
 use Rattle.link_model.specs.declared.outcome.Outcome.{Outcome}
 use Rattle.link_model.specs.declared.outcome.Outcome.TheVariants.{SlicesPending, SlicesFull}
@@ -33,25 +33,8 @@ first_kept parts plan = record { plan = plan; runs = runs_of plan.parameters (ta
 module _ (s : Sequence) (part : Part) where
   split_parts-first : (parts : List Part) → split_parts s parts ≡ None → split_parts s (parts ++ part ∷ []) ≡ option_map (first_plan parts) (parameters_in s part)
   unfolding split_parts
-  split_parts-first [] e = by_plan (parameters_in s part)
-    where
-      by_plan : (o : Option KeptParameters) → option_map_or (λ plan. Some (split_by [] plan)) o None ≡ option_map (first_plan []) o
-      by_plan None = refl
-      by_plan (Some plan) = refl
-  split_parts-first (p ∷ parts) e = by_plans (parameters_in s p) (split_parts s parts) e (split_parts-first parts)
-    where
-      also : (p : Part) (o : Option KeptParameters) → option_map (also_before p) (option_map (first_plan parts) o) ≡ option_map (first_plan (p ∷ parts)) o
-      also (ParamsPart body) None = refl
-      also (ParamsPart body) (Some plan) = refl
-      also (SlicesPart slices) None = refl
-      also (SlicesPart slices) (Some plan) = refl
-
-      by_plans : (o : Option KeptParameters) (old : Option SplitParts) → option_map_or (λ plan. Some (split_by parts plan)) o (option_map (also_before p) old) ≡ None
-          → (old ≡ None → split_parts s (parts ++ part ∷ []) ≡ option_map (first_plan parts) (parameters_in s part))
-          → option_map_or (λ plan. Some (split_by (parts ++ part ∷ []) plan)) o (option_map (also_before p) (split_parts s (parts ++ part ∷ []))) ≡ option_map (first_plan (p ∷ parts)) (parameters_in s part)
-      by_plans (Some plan) old e again = absurd (none-some (split_by parts plan) (sym e))
-      by_plans None (Some q) e again = absurd (none-some (also_before p q) (sym e))
-      by_plans None None e again = ap (option_map (also_before p)) (again refl) ∙ also p (parameters_in s part)
+  split_parts-first [] e = grind arith
+  split_parts-first (p ∷ parts) e = grind (arith, split_parts-first parts)
 
   own-first : (parts : List Part) → own s parts ≡ None → own s (parts ++ part ∷ []) ≡ option_map (first_kept parts) (parameters_in s part)
   unfolding own
@@ -76,11 +59,7 @@ with_runs kept more = record { plan = kept.plan; runs = kept.runs ++ more }
 
 -- what is gathered with a slice part more
 gathers-one : (kept : Own) (r : Result SliceRun Outcome) → gathers_run (gathered_of kept) r ≡ gathered_of (with_runs kept (filter_map run_taken (r ∷ [])))
-gathers-one kept (Err outcome) = ap (λ (l : List SliceRun). gathered_of (let k : Own = record { plan = kept.plan; runs = l } in k)) (sym (append-nil kept.runs))
-gathers-one kept (Ok run) =
-    let n = slice_count kept.plan.parameters in
-    ap (λ (l : Slots). let g : Gathered = record { plan = kept.plan; slots = l } in g)
-    (with_run_is (own_slice kept) n run ∙ (λ j. map (λ i. sym (one_run kept.runs run i) j) (range_with_len 0 n)))
+gathers-one kept o = grind (arith, append-nil, one_run, with_run_is)
 
 -- and with several
 gathers-all : (parts : List SlicePart) (kept : Own) → fold gathers (gathered_of kept) parts ≡ gathered_of (with_runs kept (runs_of kept.plan.parameters parts))
@@ -123,11 +102,7 @@ module _ (s : Sequence) (parts : List Part) where
 
   -- without parameters
   params_first : (body : List ℕ) (o : Option KeptParameters) → takes_plan (waiting_book (take waiting_limit (filter_map part_slices parts))) o ≡ book_by s (parts ++ ParamsPart body ∷ []) (option_map (first_kept parts) o)
-  params_first body None = ap (λ (l : List SlicePart). waiting_book (take waiting_limit l)) (sym (filter_map-append part_slices parts (ParamsPart body ∷ []) ∙ append-nil (filter_map part_slices parts)))
-  params_first body (Some plan) =
-      ap gathered_book
-      (ap (λ (g : Gathered). fold gathers g (take waiting_limit (filter_map part_slices parts))) (nothing_is plan)
-      ∙ gathers-all (take waiting_limit (filter_map part_slices parts)) (record { plan = plan; runs = [] }))
+  params_first body o = grind (arith, append-nil, filter_map-append, gathers-all, nothing_is)
 
   slices_wait : (slices : SlicePart) → waits_too (waiting_book (take waiting_limit (filter_map part_slices parts))) slices ≡ book_by s (parts ++ SlicesPart slices ∷ []) None
   slices_wait slices =
@@ -146,39 +121,21 @@ module _ (s : Sequence) (parts : List Part) where
       by_own (Some kept) some =
           ap (λ (l : List SliceRun). gathered_book (gathered_of (let k : Own = record { plan = kept.plan; runs = l } in k))) (sym (append-nil kept.runs))
           ∙ ap (book_by s (parts ++ ParamsPart body ∷ [])) (sym (own-append s parts (ParamsPart body ∷ []) kept some))
-  takes-more (SlicesPart slices) = by_own (own s parts) refl
-    where
-      by_own : (o : Option Own) → own s parts ≡ o → book_takes (book_by s parts o) (SlicesPart slices) ≡ book_by s (parts ++ SlicesPart slices ∷ []) (own s (parts ++ SlicesPart slices ∷ []))
-      by_own None none =
-          slices_wait slices
-          ∙ ap (book_by s (parts ++ SlicesPart slices ∷ [])) (sym (own-first s (SlicesPart slices) parts none))
-      by_own (Some kept) some =
-          ap gathered_book (gathers-one kept (slice_run kept.plan.parameters slices))
-          ∙ ap (book_by s (parts ++ SlicesPart slices ∷ [])) (sym (own-append s parts (SlicesPart slices ∷ []) kept some))
+  takes-more (SlicesPart slices) = grind (arith, gathers-one, own-append, own-first, slices_wait)
 
   -- ---- its slices
 
   slot_is : (kept : Own) → own s parts ≡ Some kept → (i : ℕ) → slot_at (gathered_of kept).slots i ≡ own_slice kept i
-  slot_is kept some i = elim (cases_lt i (slice_count kept.plan.parameters)) [
-    | inl inside ↦ slot_inside (own_slice kept) 0 (slice_count kept.plan.parameters) i inside ∙ (let same : 0 + i ≡ i = omega arith in ap (own_slice kept) same)
-    | inr outside ↦ slot_outside (own_slice kept) 0 (slice_count kept.plan.parameters) i outside ∙ sym (own_slice_inside s parts kept some i outside)
-  ]
+  slot_is kept some i = grind (arith, own_slice_inside, slot_inside, slot_outside)
 
   pub book_slice_is : (i : ℕ) → book_slice (book_of s parts) i ≡ option_and_then (λ kept. own_slice kept i) (own s parts)
   unfolding book_of
-  book_slice_is i = by_own (own s parts) refl
-    where
-      by_own : (o : Option Own) → own s parts ≡ o → book_slice (book_by s parts o) i ≡ option_and_then (λ kept. own_slice kept i) o
-      by_own None none = refl
-      by_own (Some kept) some = slot_is kept some i
+  book_slice_is i = grind (arith, slot_is)
 
 -- ---- outcomes
 
 few_is : (n limit : ℕ) → nat_lt (min limit n) limit ≡ nat_lt n limit
-few_is n limit = elim (cases_lt n limit) [
-  | inl few ↦ lt-ltb (min limit n) limit (omega arith) ∙ sym (lt-ltb n limit few)
-  | inr many ↦ le-ltb (min limit n) limit (omega arith) ∙ sym (le-ltb n limit many)
-]
+few_is n limit = grind (arith, le-ltb)
 
 module _ (s : Sequence) (parts : List Part) where
   plan_is : (o : Option Own) → option_map (λ (g : Gathered). g.plan) (option_map gathered_of o) ≡ option_map (λ (k : Own). k.plan) o
@@ -206,12 +163,6 @@ all_kept f (i ∷ is) = ap (λ (l : List ℕ). unwrap_or (f i) [] ++ l) (all_kep
 -- a book has its picture's whole bytes
 pub book_whole_is : (s : Sequence) (parts : List Part) → book_whole (book_of s parts) ≡ whole_picture s parts
 unfolding whole_picture has_all_slices all_bytes book_of
-book_whole_is s parts = by_own (own s parts)
-  where
-    by_own : (o : Option Own) → book_whole (book_by s parts o) ≡ option_and_then whole_of o
-    by_own None = refl
-    by_own (Some kept) =
-        ap (λ (b : Bool). cond b (Some (kept.plan.bytes ++ flat_map (λ slot. unwrap_or slot []) (gathered_of kept).slots)) None) (list_all-map is_some (own_slice kept) (slice_numbers kept))
-        ∙ ap (λ (l : List ℕ). cond (list_all (λ i. is_some (own_slice kept i)) (slice_numbers kept)) (Some (kept.plan.bytes ++ l)) None) (all_kept (own_slice kept) (slice_numbers kept))
+book_whole_is s parts = grind (arith, all_kept, list_all-map)
 
 pub ruleset laws = (takes-more, book_slice_is, book_outcome_is, book_whole_is)

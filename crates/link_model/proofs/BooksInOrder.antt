@@ -2,7 +2,7 @@
 use Rattle.std.proofs.Common.{◌≡◌, ℕ, zero, suc, ◌+◌, ◌<◌, ◌≤◌, Bool, true, false, List, [], ◌∷◌, ◌++◌, Some, None, refl, ap, sym, ◌∙◌, inl, inr, arith, cond}
 use Rattle.std.specs.Prelude.{nat_lt, ◌&&◌, ◌==◌, filter}
 use Rattle.std.specs.List.{flat_map, range_with_len}
-use Rattle.std.proofs.lemmas.Bool.{cases_lt, cond-true, cond-false, eq-eqb, ne_eqb, lt-ltb, le-ltb}
+use Rattle.std.proofs.lemmas.Bool.{cases_lt, cond-true, lt-ltb, le-ltb}
 use Rattle.link_model.specs.Books.{Book, book_of, book_takes}
 use Rattle.link_model.specs.Session.{Part}
 use Rattle.link_model.specs.Windows.{NumberedBook, with_number, book_at, with_part}
@@ -23,14 +23,10 @@ module _ (k : ℕ) (book : Book) (books : List NumberedBook) (n : ℕ) where
   at_later later = cond-true (nat_lt k n) (book_at books n) (cond (k == n) (Some book) None) (lt-ltb k n later)
 
   at_here : k ≡ n → book_at (with_number k book ∷ books) n ≡ Some book
-  at_here here =
-      cond-false (nat_lt k n) (book_at books n) (cond (k == n) (Some book) None) (le-ltb k n (omega (arith, here)))
-      ∙ cond-true (k == n) (Some book) None (eq-eqb k n here)
+  at_here here = grind (arith, le-ltb)
 
   at_earlier : n < k → book_at (with_number k book ∷ books) n ≡ None
-  at_earlier earlier =
-      cond-false (nat_lt k n) (book_at books n) (cond (k == n) (Some book) None) (le-ltb k n (omega (arith, earlier)))
-      ∙ cond-false (k == n) (Some book) None (ne_eqb k n (λ same. omega (arith, same, earlier)))
+  at_earlier earlier = grind (arith, le-ltb)
 
 module _ (test : ℕ → Bool) (book : ℕ → Book) (n : ℕ) where
   abbrev front : Bool → ℕ → List NumberedBook → List NumberedBook
@@ -42,14 +38,6 @@ module _ (test : ℕ → Bool) (book : ℕ → Book) (n : ℕ) where
     where
       by_test : (b : Bool) → book_at (books_over test book (a + 1) m) n ≡ None → book_at (front b a (books_over test book (a + 1) m)) n ≡ None
       by_test true rest = at_earlier a (book a) (books_over test book (a + 1) m) n below
-      by_test false rest = rest
-
-  pub none_above : (a m : ℕ) → a + m ≤ n → book_at (books_over test book a m) n ≡ None
-  none_above a zero above = refl
-  none_above a (suc m) above = by_test (test a) (none_above (a + 1) m (omega arith))
-    where
-      by_test : (b : Bool) → book_at (books_over test book (a + 1) m) n ≡ None → book_at (front b a (books_over test book (a + 1) m)) n ≡ None
-      by_test true rest = at_later a (book a) (books_over test book (a + 1) m) n (omega arith) ∙ rest
       by_test false rest = rest
 
   pub book_inside : (a m : ℕ) → a ≤ n → n < a + m → book_at (books_over test book a m) n ≡ cond (test n) (Some (book n)) None
@@ -64,13 +52,7 @@ module _ (test : ℕ → Bool) (book : ℕ → Book) (n : ℕ) where
       past less false rest = rest
 
       here : a ≡ n → (now b : Bool) → b ≡ now → book_at (front b a (books_over test book (a + 1) m)) n ≡ cond now (Some (book n)) None
-      here same true b is =
-          ap (λ (c : Bool). book_at (front c a (books_over test book (a + 1) m)) n) is
-          ∙ at_here a (book a) (books_over test book (a + 1) m) n same
-          ∙ ap (λ k. Some (book k)) same
-      here same false b is =
-          ap (λ (c : Bool). book_at (front c a (books_over test book (a + 1) m)) n) is
-          ∙ none_below (a + 1) m (omega (arith, same))
+      here same o b is = grind (arith, at_here, none_below)
 
 -- ---- the same books, and fewer
 
@@ -85,18 +67,7 @@ same_books test other book later a (suc m) each =
 pub fewer_books : (test keep : ℕ → Bool) (book : ℕ → Book) (a m : ℕ)
     → filter (λ (b : NumberedBook). keep b.number) (books_over test book a m) ≡ books_over (λ k. test k && keep k) book a m
 fewer_books test keep book a zero = refl
-fewer_books test keep book a (suc m) =
-    by_test (test a) (books_over test book (a + 1) m) (books_over (λ k. test k && keep k) book (a + 1) m) (fewer_books test keep book (a + 1) m)
-  where
-    by_keep : (passes : Bool) (kept left : List NumberedBook) → kept ≡ left
-        → cond passes (with_number a (book a) ∷ kept) kept ≡ cond passes (with_number a (book a) ∷ []) [] ++ left
-    by_keep true kept left same = ap (λ (l : List NumberedBook). with_number a (book a) ∷ l) same
-    by_keep false kept left same = same
-
-    by_test : (b : Bool) (rest left : List NumberedBook) → filter (λ (b : NumberedBook). keep b.number) rest ≡ left
-        → filter (λ (b : NumberedBook). keep b.number) (cond b (with_number a (book a) ∷ []) [] ++ rest) ≡ cond (b && keep a) (with_number a (book a) ∷ []) [] ++ left
-    by_test true rest left same = by_keep (keep a) (filter (λ (b : NumberedBook). keep b.number) rest) left same
-    by_test false rest left same = same
+fewer_books test keep book a (suc m) = grind (arith, fewer_books test keep book (a + 1) m)
 
 -- ---- a part more
 
@@ -110,14 +81,10 @@ module _ (s : Sequence) (n : ℕ) (part : Part) where
     part_later later = cond-true (nat_lt k n) (with_number k book ∷ with_part s books n part) (cond (k == n) (with_number n (book_takes book part) ∷ books) (fresh ∷ with_number k book ∷ books)) (lt-ltb k n later)
 
     part_here : k ≡ n → with_part s (with_number k book ∷ books) n part ≡ with_number n (book_takes book part) ∷ books
-    part_here here =
-        cond-false (nat_lt k n) (with_number k book ∷ with_part s books n part) (cond (k == n) (with_number n (book_takes book part) ∷ books) (fresh ∷ with_number k book ∷ books)) (le-ltb k n (omega (arith, here)))
-        ∙ cond-true (k == n) (with_number n (book_takes book part) ∷ books) (fresh ∷ with_number k book ∷ books) (eq-eqb k n here)
+    part_here here = grind (arith, le-ltb)
 
     part_earlier : n < k → with_part s (with_number k book ∷ books) n part ≡ fresh ∷ with_number k book ∷ books
-    part_earlier earlier =
-        cond-false (nat_lt k n) (with_number k book ∷ with_part s books n part) (cond (k == n) (with_number n (book_takes book part) ∷ books) (fresh ∷ with_number k book ∷ books)) (le-ltb k n (omega (arith, earlier)))
-        ∙ cond-false (k == n) (with_number n (book_takes book part) ∷ books) (fresh ∷ with_number k book ∷ books) (ne_eqb k n (λ same. omega (arith, same, earlier)))
+    part_earlier earlier = grind (arith, le-ltb)
 
   module _ (test : ℕ → Bool) (book : ℕ → Book) where
     opens_first : (a m : ℕ) → n < a → with_part s (books_over test book a m) n part ≡ fresh ∷ books_over test book a m
@@ -135,14 +102,7 @@ module _ (s : Sequence) (n : ℕ) (part : Part) where
         (elsewhere : (k : ℕ) → (k ≡ n → ⊥) → picked other later k ≡ picked test book k) where
       taken_here : (a m : ℕ) → a ≡ n → (b : Bool) → test n ≡ b
           → with_part s (cond b (with_number a (book a) ∷ []) [] ++ books_over test book (a + 1) m) n part ≡ with_number n (later n) ∷ books_over test book (a + 1) m
-      taken_here a m same true is =
-          part_here a (book a) (books_over test book (a + 1) m) same
-          ∙ ap (λ (b : Book). with_number n b ∷ books_over test book (a + 1) m)
-          (ap (λ k. book_takes (book k) part) same ∙ sym (takes ∙ ap (λ (b : Bool). book_takes (cond b (book n) (book_of s [])) part) is))
-      taken_here a m same false is =
-          opens_first (a + 1) m (omega (arith, same))
-          ∙ ap (λ (b : Book). with_number n b ∷ books_over test book (a + 1) m)
-          (sym (takes ∙ ap (λ (b : Bool). book_takes (cond b (book n) (book_of s [])) part) is))
+      taken_here a m same o is = grind (arith, opens_first, part_here)
 
       pub part_inside : (a m : ℕ) → a ≤ n → n < a + m → with_part s (books_over test book a m) n part ≡ books_over other later a m
       part_inside a zero from to = absurd (omega arith)

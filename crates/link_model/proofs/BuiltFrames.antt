@@ -1,10 +1,8 @@
 -- A frame that is built of the answers to its slices is the frame of the pictures' own bytes.
-use Rattle.std.proofs.Common.{◌≡◌, ℕ, zero, suc, ◌+◌, ◌-◌, ◌%◌, Bool, true, false, cond}
-use Rattle.std.proofs.Common.{List, [], ◌∷◌, ◌++◌}
-use Rattle.std.proofs.Common.{length, map, Option, Some, None, Result, Ok, Err, refl}
-use Rattle.std.proofs.Common.{ap, sym, subst, ◌∙◌}
-use Rattle.std.proofs.Common.{eqb-true}
-use Rattle.std.specs.Prelude.{◌==◌, ◌&&◌, ◌||◌, not, is_some, unwrap_or}
+use Rattle.std.proofs.Common.{◌≡◌, ℕ, zero, suc, ◌+◌, ◌-◌, ◌%◌, true, false, List, [], ◌∷◌, ◌++◌}
+use Rattle.std.proofs.Common.{length, map, Option, Some, None, Result, Ok, Err, refl, ap, sym, ◌∙◌}
+use Rattle.std.proofs.Common.{arith}
+use Rattle.std.specs.Prelude.{is_some, unwrap_or}
 use Rattle.std.specs.List.{list_all, range_with_len}
 use Rattle.std.specs.Option.{option_map, option_and_then}
 use Rattle.std.proofs.Math.Seq.{drop-append_seam, take-append_seam}
@@ -13,24 +11,21 @@ use Rattle.std.proofs.lemmas.Option.{same_Some, none-some}
 use Rattle.link_model.specs.Complete.{slice_numbers, has_all_slices, all_bytes, whole_of}
 use Rattle.link_model.specs.Complete.{whole_picture}
 use Rattle.link_model.specs.Feeders.{SliceAnswer, EnteredSession, session_opening, keeps_of}
-use Rattle.link_model.specs.Feeders.{picture_keeps}
-use Rattle.link_model.specs.Feeders.{kept_job, job_with, answer_in, has_every_answer, is_ready}
+use Rattle.link_model.specs.Feeders.{picture_keeps, kept_job, answer_in, has_every_answer, is_ready}
 use Rattle.link_model.specs.Feeding.{sound_answer, with_first, sound_answers, planes_by}
-use Rattle.link_model.specs.Feeding.{built_planes}
-use Rattle.link_model.specs.Feeding.{built_bytes}
+use Rattle.link_model.specs.Feeding.{built_planes, built_bytes}
 use Rattle.link_model.specs.Interleavings.{AreOwnAnswers}
 use Rattle.link_model.specs.Kept.{Own, own, own_slice, split_parts}
-use Rattle.link_model.specs.Numbers.{has_parts, is_opened, parts_of}
-use Rattle.link_model.specs.Output.{planes_at, frame_at, frame_bytes_at, raw_bytes, woven_fields}
+use Rattle.link_model.specs.Numbers.{is_opened, parts_of}
+use Rattle.link_model.specs.Output.{planes_at, frame_at, frame_bytes_at}
 use Rattle.link_model.specs.Places.{Job, decoding}
 use Rattle.link_model.specs.Session.{HeardSession, Part}
 use Rattle.link_model.proofs.PicturesStay.{kept_slice, job_of_kept}
 use Rattle.vc_types.specs.PictureBytes.{IsWholeSlice}
-use Rattle.link_model.proofs.WholeBytes.{decoded_whole}
-use Rattle.link_model.proofs.WholeBytes.{own_slice_whole}
+use Rattle.link_model.proofs.WholeBytes.{decoded_whole, own_slice_whole}
 use Rattle.vc_types.specs.Fields.{and_then, joined}
 use Rattle.vc_types.specs.Pictures.{Picture, with_slices, slices_from}
-use Rattle.vc_types.specs.Planes.{Planes, planes_of, decoded_planes}
+use Rattle.vc_types.specs.Planes.{planes_of, decoded_planes}
 use Rattle.vc_types.specs.Slices.{Coefficients, slice_coefficients}
 use Rattle.vc_types.specs.Subbands.{slice_count}
 use Rattle.vc_types.specs.TransformParameters.{Parameters}
@@ -52,9 +47,7 @@ EachSlice P (i ∷ is) = P i × EachSlice P is
 same_answers : (decoded : List SliceAnswer) (n : ℕ) (answer : ℕ → Result Coefficients Unsound) (is : List ℕ) → EachSlice (λ i. answer_in decoded n i ≡ Some (answer i)) is
     → sound_answers decoded n is ≡ sound_list answer is
 same_answers decoded n answer [] all = refl
-same_answers decoded n answer (i ∷ is) all =
-    ap (λ (o : Option (Result Coefficients Unsound)). with_first (sound_answer o) (sound_answers decoded n is)) all.0
-    ∙ ap (with_first (sound_answer (Some (answer i)))) (same_answers decoded n answer is all.1)
+same_answers decoded n answer (i ∷ is) all = grind (arith, same_answers decoded n answer is all.1)
 
 abbrev read_of : Option (List Coefficients) → Result (List Coefficients × List ℕ) (Unit {0})
 read_of None = Err tt
@@ -99,18 +92,7 @@ module _ (window : ℕ) (hs : List HeardSession) where
   pub answer_is_own : (decoded : List SliceAnswer) (n i : ℕ) (a : Result Coefficients Unsound) → AreOwnAnswers window hs decoded → answer_in decoded n i ≡ Some a
       → (job : Job) × (kept_job window hs n i ≡ Some job) × (a ≡ decoding job)
   answer_is_own [] n i a own e = absurd (none-some a e)
-  answer_is_own (x ∷ decoded) n i a own e = by_here (x.number == n && x.index == i) refl e (answer_is_own decoded n i a own.1)
-    where
-      by_here : (b : Bool) → x.number == n && x.index == i ≡ b → cond b (Some x.answer) (answer_in decoded n i) ≡ Some a
-          → (answer_in decoded n i ≡ Some a → (job : Job) × (kept_job window hs n i ≡ Some job) × (a ≡ decoding job)) → (job : Job) × (kept_job window hs n i ≡ Some job) × (a ≡ decoding job)
-      by_here false is e rest = rest e
-      by_here true is e rest =
-          let same = and_parts (x.number == n) (x.index == i) is in
-          let here = own.0 in (
-            here.0,
-            ap (λ (k : ℕ). kept_job window hs k i) (sym (eqb-true x.number n same.0)) ∙ ap (kept_job window hs x.number) (sym (eqb-true x.index i same.1)) ∙ here.1,
-            sym (same_Some x.answer a e) ∙ here.2,
-          )
+  answer_is_own (x ∷ decoded) n i a own e = grind (arith, answer_is_own decoded n i a own.1)
 
 -- ---- the planes of a picture
 
@@ -132,9 +114,7 @@ module _ (window : ℕ) (hs : List HeardSession) (decoded : List SliceAnswer) (a
 
     -- an answer is the slice's own
     own_decoding : (i : ℕ) (a : Result Coefficients Unsound) (bytes : List ℕ) → answer_in decoded n i ≡ Some a → own_slice kept i ≡ Some bytes → a ≡ slice_coefficients p i bytes
-    own_decoding i a bytes got slice =
-        let own = answer_is_own window hs decoded n i a answers got in
-        own.2 ∙ ap decoding (sym (same_Some (job_with kept n i bytes) own.0 (sym (job_of_kept window hs n i e kept bytes found keeps slice) ∙ own.1)))
+    own_decoding i a bytes got slice = grind (arith, answer_is_own, job_of_kept)
 
     -- and there is none to a slice that isn't kept
     no_answer : (i : ℕ) → own_slice kept i ≡ None → answer_in decoded n i ≡ None
@@ -151,12 +131,7 @@ module _ (window : ℕ) (hs : List HeardSession) (decoded : List SliceAnswer) (a
 
     missing : (is : List ℕ) → list_all (λ i. is_some (own_slice kept i)) is ≡ false → sound_answers decoded n is ≡ None
     missing [] e = absurd (false≢true (sym e))
-    missing (i ∷ is) e = by_slice (own_slice kept i) refl e (missing is)
-      where
-        by_slice : (o : Option (List ℕ)) → own_slice kept i ≡ o → is_some o && list_all (λ i. is_some (own_slice kept i)) is ≡ false → (list_all (λ i. is_some (own_slice kept i)) is ≡ false → sound_answers decoded n is ≡ None)
-            → with_first (sound_answer (answer_in decoded n i)) (sound_answers decoded n is) ≡ None
-        by_slice None slice e rest = ap (λ (o : Option (Result Coefficients Unsound)). with_first (sound_answer o) (sound_answers decoded n is)) (no_answer i slice)
-        by_slice (Some bytes) slice e rest = ap (with_first (sound_answer (answer_in decoded n i))) (rest e) ∙ none_first (sound_answer (answer_in decoded n i))
+    missing (i ∷ is) e = grind (arith, no_answer, none_first, missing is)
 
     -- each slice is kept, whole and answered
     whole_here : (i : ℕ) (bytes : List ℕ) → own_slice kept i ≡ Some bytes → IsWholeSlice p bytes
@@ -174,13 +149,7 @@ module _ (window : ℕ) (hs : List HeardSession) (decoded : List SliceAnswer) (a
       where
         by_both : (o : Option (List ℕ)) → own_slice kept i ≡ o → is_some o ≡ true → (r : Option (Result Coefficients Unsound)) → answer_in decoded n i ≡ r → is_some r ≡ true
             → IsWholeSlice p (bytes_of i) × (answer_in decoded n i ≡ Some (answer_of p bytes_of i))
-        by_both None slice e r got f = absurd (false≢true e)
-        by_both (Some bytes) slice e None got f = absurd (false≢true f)
-        by_both (Some bytes) slice e (Some a) got f =
-            let same : bytes ≡ bytes_of i = ap (λ (o : Option (List ℕ)). unwrap_or o []) (sym slice) in (
-              subst (IsWholeSlice p) same (whole_here i bytes slice),
-              got ∙ ap Some (own_decoding i a bytes got slice ∙ ap (slice_coefficients p i) same),
-            )
+        by_both o slice e r got f = grind (arith, own_decoding, whole_here)
 
     abbrev picture_by : Option (List Coefficients) → Option Picture
     picture_by o = option_map (λ (slices : List Coefficients). (let picture : Picture = record { parameters = p; slices = slices } in picture)) o
@@ -209,28 +178,16 @@ module _ (window : ℕ) (hs : List HeardSession) (decoded : List SliceAnswer) (a
     built_broken broken = ap (option_map (planes_of p)) (missing (slice_numbers kept) broken)
 
     built_kept : is_ready decoded n (Some kept) ≡ true → planes_by decoded n kept ≡ option_and_then (decoded_planes e.sequence) (whole_of kept)
-    built_kept ready = by_all (has_all_slices kept) refl ready
-      where
-        by_all : (b : Bool) → has_all_slices kept ≡ b → not b || has_every_answer decoded n kept ≡ true → planes_by decoded n kept ≡ option_and_then (decoded_planes e.sequence) (cond b (Some (all_bytes kept)) None)
-        by_all true all ready = built_whole all ready
-        by_all false broken ready = built_broken broken
+    built_kept ready = grind (arith, built_broken, built_whole)
 
   pub built_is : is_ready decoded n (picture_keeps window hs n) ≡ true → built_planes decoded e n ≡ planes_at e.sequence e.entries n
   unfolding planes_at whole_picture
-  built_is ready = by_own (own e.sequence parts) refl (ap (is_ready decoded n) (sym (ap (option_and_then (λ (e : EnteredSession). keeps_of e n)) found)) ∙ ready)
-    where
-      by_own : (o : Option Own) → own e.sequence parts ≡ o → is_ready decoded n o ≡ true → option_and_then (planes_by decoded n) o ≡ option_and_then (decoded_planes e.sequence) (option_and_then whole_of o)
-      by_own None keeps ready = refl
-      by_own (Some kept) keeps ready = built_kept kept keeps ready
+  built_is ready = grind (arith, built_kept)
 
 -- a picture that isn't opened has no planes
 pub unopened_planes : (decoded : List SliceAnswer) (e : EnteredSession) (n : ℕ) → is_opened e.entries n ≡ false → built_planes decoded e n ≡ planes_at e.sequence e.entries n
 unfolding planes_at whole_picture own split_parts
-unopened_planes decoded e n unopened = by_parts (parts_of n e.entries) unopened
-  where
-    by_parts : (parts : List Part) → has_parts parts ≡ false → option_and_then (planes_by decoded n) (own e.sequence parts) ≡ option_and_then (decoded_planes e.sequence) (option_and_then whole_of (own e.sequence parts))
-    by_parts [] none = refl
-    by_parts (part ∷ parts) none = absurd (false≢true (sym none))
+unopened_planes decoded e n unopened = grind arith
 
 -- ---- its frame
 
@@ -238,14 +195,4 @@ pub built_frame : (decoded : List SliceAnswer) (e : EnteredSession) (n : ℕ) �
     → (n % 2 ≡ 1 → built_planes decoded e (n - 1) ≡ planes_at e.sequence e.entries (n - 1))
     → built_bytes decoded n e ≡ frame_bytes_at e.sequence e.entries n
 unfolding frame_bytes_at frame_at
-built_frame decoded e n here before = by_mode e.sequence.fields (n % 2 == 1) refl
-  where
-    frame : (ℕ → Option Planes) → Bool → Bool → Option Planes
-    frame planes fields odd = cond fields (cond odd (woven_fields e.sequence.top_first (planes (n - 1)) (planes n)) None) (planes n)
-
-    by_mode : (fields odd : Bool) → n % 2 == 1 ≡ odd → raw_bytes e.sequence (frame (built_planes decoded e) fields odd) ≡ raw_bytes e.sequence (frame (planes_at e.sequence e.entries) fields odd)
-    by_mode true true is =
-        ap (λ (o : Option Planes). raw_bytes e.sequence (woven_fields e.sequence.top_first o (built_planes decoded e n))) (before (eqb-true (n % 2) 1 is))
-        ∙ ap (λ (o : Option Planes). raw_bytes e.sequence (woven_fields e.sequence.top_first (planes_at e.sequence e.entries (n - 1)) o)) here
-    by_mode true false is = refl
-    by_mode false odd is = ap (raw_bytes e.sequence) here
+built_frame decoded e n here before = grind arith

@@ -1,8 +1,8 @@
 -- A picture closes behind its closing place, and behind no place before it.
-use Rattle.std.proofs.Common.{◌≡◌, ℕ, zero, suc, ◌+◌, ◌<◌, ◌≤◌, Bool, true, false, List, [], ◌∷◌, length, refl, ap, sym, subst, ◌∙◌, inl, inr, arith, cond}
+use Rattle.std.proofs.Common.{◌≡◌, ℕ, zero, suc, ◌+◌, ◌<◌, ◌≤◌, Bool, true, false, List, [], ◌∷◌, length, refl, ap, subst, arith, cond}
 use Rattle.std.specs.Prelude.{not, take_while}
 use Rattle.std.specs.List.{range_with_len}
-use Rattle.std.proofs.lemmas.Bool.{cases_lt, not-false, not-true}
+use Rattle.std.proofs.lemmas.Bool.{not-false, not-true}
 use Rattle.std.proofs.lemmas.List.Sums.{take_while-cons}
 use Rattle.link_model.specs.Output.{is_closed_behind, closing_place}
 
@@ -20,25 +20,12 @@ module _ (test : ℕ → Bool) where
     where
       by_test : (b : Bool) → test a ≡ b → k < a + length (cond b (a ∷ take_while test (range_with_len (a + 1) m)) [])
           → (a + 1 ≤ k → k < a + 1 + reached (a + 1) m → test k ≡ true) → test k ≡ true
-      by_test false is below later = absurd (omega (arith, below, from))
-      by_test true is below later = elim (cases_lt a k) [
-        | inl less ↦ later (omega arith) (omega (arith, below))
-        | inr more ↦ (let same : a ≡ k = omega arith in ap test (sym same) ∙ is)
-      ]
+      by_test o is below later = grind arith
 
   -- and it doesn't
   at_reached : (a m : ℕ) → reached a m < m → test (a + reached a m) ≡ false
   at_reached a zero short = absurd (omega (arith, short))
-  at_reached a (suc m) short = by_test (test a) refl (subst (λ n. n < suc m) (step a m) short) (at_reached (a + 1) m)
-    where
-      by_test : (b : Bool) → test a ≡ b → length (cond b (a ∷ take_while test (range_with_len (a + 1) m)) []) < suc m
-          → (reached (a + 1) m < m → test (a + 1 + reached (a + 1) m) ≡ false) → test (a + reached a (suc m)) ≡ false
-      by_test false is short later =
-          let here : a + reached a (suc m) ≡ a = omega (arith, step a m ∙ ap (λ (b : Bool). length (cond b (a ∷ take_while test (range_with_len (a + 1) m)) [])) is) in
-          ap test here ∙ is
-      by_test true is short later =
-          let there : a + reached a (suc m) ≡ a + 1 + reached (a + 1) m = omega (arith, step a m ∙ ap (λ (b : Bool). length (cond b (a ∷ take_while test (range_with_len (a + 1) m)) [])) is) in
-          ap test there ∙ later (omega (arith, short))
+  at_reached a (suc m) short = grind (arith, step, at_reached (a + 1) m)
 
 module _ (window : ℕ) (datagrams : List (List ℕ)) (n : ℕ) where
   pub open_before : (k : ℕ) → k < closing_place window datagrams n → is_closed_behind window datagrams n k ≡ false
@@ -48,10 +35,6 @@ module _ (window : ℕ) (datagrams : List (List ℕ)) (n : ℕ) where
 
   pub closed_at : closing_place window datagrams n < length datagrams → is_closed_behind window datagrams n (closing_place window datagrams n) ≡ true
   unfolding closing_place
-  closed_at short =
-      let place = reached (λ k. not (is_closed_behind window datagrams n k)) 0 (length datagrams) in
-      let same : place ≡ 0 + place = omega arith in
-      ap (is_closed_behind window datagrams n) same
-      ∙ not-false (is_closed_behind window datagrams n (0 + place)) (at_reached (λ k. not (is_closed_behind window datagrams n k)) 0 (length datagrams) short)
+  closed_at short = grind (arith, at_reached, not-false)
 
 pub ruleset laws = (open_before, closed_at)

@@ -1,17 +1,14 @@
 -- One datagram more has one outcome more, and those before keep theirs.
-use Rattle.std.proofs.Common.{◌≡◌, ℕ, List, [], ◌∷◌, ◌++◌, ap, sym, ◌∙◌}
+use Rattle.std.proofs.Common.{◌≡◌, ℕ, List, [], ◌∷◌, ◌++◌, ap, sym, ◌∙◌, arith}
 use Rattle.std.proofs.lemmas.List.{append_assoc, append-nil}
 use Rattle.std.proofs.lemmas.List.Sums.{fold_push}
 use Rattle.link_model.specs.Judgement.{outcome_behind, outcomes_behind, outcomes_in, with_outcome, no_counts, outcome_counts}
-use Rattle.link_model.specs.declared.outcome.Outcome.{Outcome}
 
 outcomes_behind-append : (window : ℕ) (before datagrams more : List (List ℕ)) → outcomes_behind window before (datagrams ++ more) ≡ outcomes_behind window before datagrams ++ outcomes_behind window (before ++ datagrams) more
 unfolding outcomes_behind
 outcomes_behind-append window before [] more = ap (λ (l : List (List ℕ)). outcomes_behind window l more) (sym (append-nil before))
 outcomes_behind-append window before (d ∷ datagrams) more =
-    ap (λ (l : List Outcome). outcome_behind window before d ∷ l)
-    (outcomes_behind-append window (before ++ d ∷ []) datagrams more
-    ∙ ap (λ (l : List (List ℕ)). outcomes_behind window (before ++ d ∷ []) datagrams ++ outcomes_behind window l more) (append_assoc before (d ∷ []) datagrams))
+    grind (arith, append_assoc, outcomes_behind-append window (before ++ d ∷ []) datagrams more)
 
 pub outcomes_in_more : (window : ℕ) (datagrams : List (List ℕ)) (d : List ℕ) → outcomes_in window (datagrams ++ d ∷ []) ≡ outcomes_in window datagrams ++ outcome_behind window datagrams d ∷ []
 unfolding outcomes_behind

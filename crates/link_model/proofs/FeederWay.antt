@@ -1,9 +1,8 @@
 -- The feeder's own way: each of its events is legal where it stands, and in the end nothing may be
 -- released.
-use Rattle.std.proofs.Common.{◌≡◌, ◌≢◌, ℕ, ◌<◌, ◌≤◌, Bool, true, false, cond, List, [], ◌∷◌}
-use Rattle.std.proofs.Common.{◌++◌, map}
-use Rattle.std.proofs.Common.{Option, Some, None, refl, ap, sym, subst, ◌∙◌, arith}
-use Rattle.std.proofs.Common.{eq-eqb, ne_eqb}
+use Rattle.std.proofs.Common.{◌≡◌, ◌≢◌, ℕ, ◌<◌, ◌≤◌, Bool, true, false, cond, List, [], ◌∷◌, ◌++◌}
+use Rattle.std.proofs.Common.{map, Option, Some, None, refl, ap, sym, subst, ◌∙◌, arith, eq-eqb}
+use Rattle.std.proofs.Common.{ne_eqb}
 use Rattle.std.specs.Prelude.{◌==◌, ◌&&◌, ◌||◌, not, is_some, slice_get, filter}
 use Rattle.std.specs.List.{flat_map, list_all}
 use Rattle.std.specs.Option.{option_map_or}
@@ -11,10 +10,8 @@ use Rattle.std.proofs.lemmas.Bool.{and_parts, and_from, false≢true}
 use Rattle.std.proofs.lemmas.List.Sums.{fold-append}
 use Rattle.link_model.specs.Complete.{has_all_slices, slice_numbers}
 use Rattle.link_model.specs.Feeders.{SliceAnswer, Feeder, EnteredSession, session_opening, keeps_of}
-use Rattle.link_model.specs.Feeders.{picture_keeps, kept_job, job_with}
-use Rattle.link_model.specs.Feeders.{let_go_pictures, is_among, not_released}
-use Rattle.link_model.specs.Feeders.{next_to_release, answer_in, is_ready}
-use Rattle.link_model.specs.Feeders.{has_every_answer}
+use Rattle.link_model.specs.Feeders.{picture_keeps, kept_job, job_with, let_go_pictures, is_among}
+use Rattle.link_model.specs.Feeders.{not_released, next_to_release, answer_in, is_ready}
 use Rattle.link_model.specs.Feeding.{built_bytes, with_answer}
 use Rattle.link_model.specs.Kept.{Own, own_slice}
 use Rattle.link_model.specs.Machine.{Event, Redo, Release, feeder_after, is_next, has_answers}
@@ -54,35 +51,16 @@ each_covered p P (x ∷ xs) passed failed = by_test (p x) refl passed (λ rest. 
 
 -- a number more is released
 among_one_more : (xs : List ℕ) (n m : ℕ) → is_among (xs ++ n ∷ []) m ≡ is_among xs m || n == m
-among_one_more [] n m = by_here (n == m)
-  where
-    by_here : (b : Bool) → b || false ≡ b
-    by_here true = refl
-    by_here false = refl
-among_one_more (x ∷ xs) n m = by_here (x == m) (among_one_more xs n m)
-  where
-    by_here : (b : Bool) → is_among (xs ++ n ∷ []) m ≡ is_among xs m || n == m → b || is_among (xs ++ n ∷ []) m ≡ (b || is_among xs m) || n == m
-    by_here true rest = refl
-    by_here false rest = rest
+among_one_more [] n m = grind arith
+among_one_more (x ∷ xs) n m = grind (arith, among_one_more xs n m)
 
 not_released_more : (r : List ℕ) (n : ℕ) (xs : List ℕ) → not_released (r ++ n ∷ []) xs ≡ filter (λ m. not (n == m)) (not_released r xs)
 not_released_more r n [] = refl
-not_released_more r n (x ∷ xs) =
-    ap (λ (b : Bool). cond (not b) (x ∷ not_released (r ++ n ∷ []) xs) (not_released (r ++ n ∷ []) xs)) (among_one_more r n x)
-    ∙ by_tests (is_among r x) (n == x) refl (not_released_more r n xs)
-  where
-    by_tests : (a b : Bool) → n == x ≡ b → not_released (r ++ n ∷ []) xs ≡ filter (λ m. not (n == m)) (not_released r xs)
-        → cond (not (a || b)) (x ∷ not_released (r ++ n ∷ []) xs) (not_released (r ++ n ∷ []) xs) ≡ filter (λ m. not (n == m)) (cond (not a) (x ∷ not_released r xs) (not_released r xs))
-    by_tests true b is rest = rest
-    by_tests false true is rest = rest ∙ sym (ap (λ (b : Bool). cond (not b) (x ∷ filter (λ m. not (n == m)) (not_released r xs)) (filter (λ m. not (n == m)) (not_released r xs))) is)
-    by_tests false false is rest = ap (λ (l : List ℕ). x ∷ l) rest ∙ sym (ap (λ (b : Bool). cond (not b) (x ∷ filter (λ m. not (n == m)) (not_released r xs)) (filter (λ m. not (n == m)) (not_released r xs))) is)
+not_released_more r n (x ∷ xs) = grind (arith, among_one_more, not_released_more r n xs)
 
 all_differ : (n : ℕ) (xs : List ℕ) → Each (λ m. n < m) xs → filter (λ m. not (n == m)) xs ≡ xs
 all_differ n [] above = refl
-all_differ n (x ∷ xs) above =
-    let less = above.0 in
-    ap (λ (b : Bool). cond (not b) (x ∷ filter (λ m. not (n == m)) xs) (filter (λ m. not (n == m)) xs)) (ne_eqb n x (λ same. omega (arith, same, less)))
-    ∙ ap (λ (l : List ℕ). x ∷ l) (all_differ n xs above.1)
+all_differ n (x ∷ xs) above = grind (arith, all_differ n xs above.1)
 
 first_goes : (n : ℕ) (more : List ℕ) → Each (λ m. n < m) more → filter (λ m. not (n == m)) (n ∷ more) ≡ more
 first_goes n more above = ap (λ (b : Bool). cond (not b) (n ∷ filter (λ m. not (n == m)) more) (filter (λ m. not (n == m)) more)) (eq-eqb n n refl) ∙ all_differ n more above
@@ -137,18 +115,10 @@ module _ (window : ℕ) (small : window ≤ 8) (heard : List (List ℕ)) (ended 
     others_now m j ne = ap (λ (b : Bool). is_some (cond (b && job.index == j) (Some (decoding job)) (answer_in d m j))) (ne_eqb job.number m (λ same. ne (sym same ∙ number)))
 
     later_now : (j : ℕ) → i < j → has (answer_for job ∷ d) n j ≡ has d n j
-    later_now j less = by_number (job.number == n)
-      where
-        by_number : (b : Bool) → is_some (cond (b && job.index == j) (Some (decoding job)) (answer_in d n j)) ≡ has d n j
-        by_number true = ap (λ (b : Bool). is_some (cond b (Some (decoding job)) (answer_in d n j))) (ne_eqb job.index j (λ same. omega (arith, same, index, less)))
-        by_number false = refl
+    later_now j less = grind arith
 
     stays_now : (m j : ℕ) → has d m j ≡ true → has (answer_for job ∷ d) m j ≡ true
-    stays_now m j e = by_slice (job.number == m && job.index == j)
-      where
-        by_slice : (b : Bool) → is_some (cond b (Some (decoding job)) (answer_in d m j)) ≡ true
-        by_slice true = refl
-        by_slice false = e
+    stays_now m j e = grind arith
 
   redo_all : (n : ℕ) (is : List ℕ) (d : List SliceAnswer) (r w : List ℕ) → IsRising is → Each (λ i. IsKept n i × (has d n i ≡ false)) is → Redone n is d r w
   redo_all n [] d r w rising facts = record { legal = tt; later = d; after = refl; got = tt; stays = λ m i e. e; others = λ m i ne. refl }
@@ -206,17 +176,7 @@ module _ (window : ℕ) (small : window ≤ 8) (heard : List (List ℕ)) (ended 
             (job_with kept n i bytes, job_of_kept window hs n i session.0 kept bytes session.1 session.2 slice)
 
     ready_then : (n : ℕ) (d : List SliceAnswer) (o : Option Own) → Each (λ i. has d n i ≡ true) (todo n o) → ((i : ℕ) → has D n i ≡ true → has d n i ≡ true) → is_ready d n o ≡ true
-    ready_then n d None got stays = refl
-    ready_then n d (Some kept) got stays = by_all (has_all_slices kept) refl
-      where
-        by_test : (i : ℕ) (b : Bool) → has D n i ≡ b → has_all_slices kept ≡ true → has_all_slices kept && not (has D n i) ≡ false → has d n i ≡ true
-        by_test i true is all failed = stays i is
-        by_test i false is all failed = absurd (false≢true (sym failed ∙ and_from (has_all_slices kept) (not (has D n i)) all (ap not is)))
-
-        by_all : (b : Bool) → has_all_slices kept ≡ b → not b || has_every_answer d n kept ≡ true
-        by_all false is = refl
-        by_all true is = each_all (λ i. has d n i) (slice_numbers kept)
-            (each_covered (λ i. has_all_slices kept && not (has D n i)) (λ i. has d n i ≡ true) (slice_numbers kept) got (λ i failed. by_test i (has D n i) refl is failed))
+    ready_then n d o got stays = grind (arith, each_all, each_covered)
 
     -- ---- all pictures
 

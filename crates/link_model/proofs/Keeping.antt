@@ -1,15 +1,15 @@
 -- What a picture keeps stays kept as parts come: its parameters, each slice, and its whole bytes.
-use Rattle.std.proofs.Common.{◌≡◌, ℕ, Bool, true, false, List, [], ◌∷◌, ◌++◌, take, Option, Some, None, refl, ap, sym, ◌∙◌, cond}
+use Rattle.std.proofs.Common.{◌≡◌, ℕ, Bool, true, false, List, [], ◌∷◌, ◌++◌, Option, Some, None, refl, ap, sym, ◌∙◌, cond, arith}
 use Rattle.std.specs.Prelude.{is_some, unwrap_or, filter_map}
 use Rattle.std.specs.List.{flat_map, list_all}
-use Rattle.std.specs.Option.{option_map, option_map_or, option_or, option_and_then}
+use Rattle.std.specs.Option.{option_map, option_or, option_and_then}
 use Rattle.std.proofs.lemmas.Bool.{and_parts, and_from, false≢true}
 use Rattle.std.proofs.lemmas.List.{append_assoc}
 use Rattle.std.proofs.lemmas.List.Elements.{filter_map-append}
 use Rattle.std.proofs.lemmas.Option.{same_Some, none-some}
 use Rattle.link_model.specs.Complete.{slice_numbers, has_all_slices, all_bytes, whole_of, whole_picture}
-use Rattle.link_model.specs.Kept.{KeptParameters, parameters_in, SplitParts, split_by, also_before, split_parts, SliceRun, Own, runs_of, own_of, own, part_slices, first_copy, slice_in, own_slice, waiting_limit, run_taken, slice_run}
-use Rattle.link_model.specs.Session.{Part, ParamsPart, SlicesPart, SlicePart}
+use Rattle.link_model.specs.Kept.{SplitParts, split_parts, SliceRun, Own, runs_of, own_of, own, part_slices, first_copy, slice_in, own_slice}
+use Rattle.link_model.specs.Session.{Part}
 use Rattle.vc_types.specs.SequenceHeader.{Sequence}
 
 -- ---- more parts
@@ -21,30 +21,14 @@ module _ (s : Sequence) (more : List Part) where
   split_parts-append : (parts : List Part) (p : SplitParts) → split_parts s parts ≡ Some p → split_parts s (parts ++ more) ≡ Some (longer more p)
   unfolding split_parts
   split_parts-append [] p e = absurd (none-some p e)
-  split_parts-append (part ∷ parts) p e = by_plan (parameters_in s part) (split_parts s parts) p e (split_parts-append parts)
-    where
-      behind : (part : Part) (q p : SplitParts) → also_before part q ≡ p → also_before part (longer more q) ≡ longer more p
-      behind (ParamsPart body) q p e = ap (longer more) e
-      behind (SlicesPart slices) q p e = ap (longer more) e
-
-      by_plan : (plan : Option KeptParameters) (old : Option SplitParts) (p : SplitParts) → option_map_or (λ plan. Some (split_by parts plan)) plan (option_map (also_before part) old) ≡ Some p
-          → ((q : SplitParts) → old ≡ Some q → split_parts s (parts ++ more) ≡ Some (longer more q))
-          → option_map_or (λ plan. Some (split_by (parts ++ more) plan)) plan (option_map (also_before part) (split_parts s (parts ++ more))) ≡ Some (longer more p)
-      by_plan (Some plan) old p e again =
-          ap (λ (l : List SlicePart). Some (record { plan = plan; before = []; behind = l })) (filter_map-append part_slices parts more)
-          ∙ ap (λ q. Some (longer more q)) (same_Some (split_by parts plan) p e)
-      by_plan None None p e again = absurd (none-some p e)
-      by_plan None (Some q) p e again = ap (option_map (also_before part)) (again q refl) ∙ ap Some (behind part q p (same_Some (also_before part q) p e))
+  split_parts-append (part ∷ parts) p e = grind (arith, filter_map-append, split_parts-append parts)
 
 -- what is kept with more runs
 abbrev pub grown : List Part → Own → Own
 grown more kept = record { plan = kept.plan; runs = kept.runs ++ runs_of kept.plan.parameters (filter_map part_slices more) }
 
 own_of-longer : (more : List Part) (p : SplitParts) → own_of (longer more p) ≡ grown more (own_of p)
-own_of-longer more p =
-    ap (λ (runs : List SliceRun). (let k : Own = record { plan = p.plan; runs = runs } in k))
-    (ap (runs_of p.plan.parameters) (sym (append_assoc (take waiting_limit p.before) p.behind (filter_map part_slices more)))
-    ∙ filter_map-append (λ r. run_taken (slice_run p.plan.parameters r)) (take waiting_limit p.before ++ p.behind) (filter_map part_slices more))
+own_of-longer more p = grind (arith, append_assoc, filter_map-append)
 
 pub own-append : (s : Sequence) (parts more : List Part) (kept : Own) → own s parts ≡ Some kept → own s (parts ++ more) ≡ Some (grown more kept)
 unfolding own

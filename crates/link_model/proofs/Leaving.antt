@@ -1,13 +1,13 @@
 -- Pictures are let go in rising order: those that are let go later stand behind those that are let go now, and so does
 -- what they write.
 use Rattle.std.proofs.Common.{◌≡◌, ℕ, ◌+◌, ◌-◌, ◌<◌, ◌≤◌, Bool, true, false, List, [], ◌∷◌, ◌++◌, refl, ap, sym, ◌∙◌, inl, inr, arith, cond}
-use Rattle.std.specs.Prelude.{◌⊎◌, filter, is_some}
+use Rattle.std.specs.Prelude.{◌⊎◌, filter}
 use Rattle.std.specs.List.{flat_map, range_with_len}
 use Rattle.std.proofs.lemmas.Bool.{cases_lt, false≢true}
 use Rattle.std.proofs.lemmas.List.Concat.{flat_map-append}
 use Rattle.link_model.specs.Complete.{whole_picture}
 use Rattle.link_model.specs.Kept.{own, split_parts}
-use Rattle.link_model.specs.Numbers.{Numbered, greatest, least, parts_of, entered, has_parts, is_opened, opened_numbers, span}
+use Rattle.link_model.specs.Numbers.{Numbered, greatest, least, parts_of, entered, has_parts, is_opened, opened_numbers}
 use Rattle.link_model.specs.Output.{complete_at, frame_bytes_at, is_let_go, all_frames, frames_so_far, let_go_numbers, IsPrefixOf}
 use Rattle.link_model.specs.Session.{Part, Fragment}
 use Rattle.link_model.proofs.Numbering.{Follows, entered_follows, parts_of-outside}
@@ -23,11 +23,7 @@ opened_inside es n outside = ap has_parts (parts_of-outside n es outside)
 module _ (s : Sequence) (es : List Numbered) where
   pub complete_opened : (n : ℕ) → complete_at s es n ≡ true → is_opened es n ≡ true
   unfolding complete_at whole_picture own split_parts
-  complete_opened n e = by_parts (parts_of n es) e
-    where
-      by_parts : (parts : List Part) → is_some (whole_picture s parts) ≡ true → has_parts parts ≡ true
-      by_parts [] e = absurd (false≢true e)
-      by_parts (part ∷ parts) e = refl
+  complete_opened n e = grind arith
 
 pub has_more : (parts more : List Part) → has_parts parts ≡ true → has_parts (parts ++ more) ≡ true
 has_more [] more e = absurd (false≢true e)
@@ -51,10 +47,7 @@ module _ (es : List Numbered) where
 
   pub opened-over : (n rest : ℕ) → past + rest ≡ n → opened_numbers es ≡ flat_map one (range_with_len 0 n)
   unfolding opened_numbers
-  opened-over n rest size =
-      filter_is (is_opened es) (span (least es) (greatest es))
-      ∙ in_longer one (least es) long rest one-outside
-      ∙ ap (λ k. flat_map one (range_with_len 0 k)) size
+  opened-over n rest size = grind (arith, filter_is, in_longer, one-outside)
 
   -- those that pass a test
   module _ (test : ℕ → Bool) where
@@ -62,28 +55,24 @@ module _ (es : List Numbered) where
     passing n = cond (test n) (one n) []
 
     none_passes : (n : ℕ) → one n ≡ [] → passing n ≡ []
-    none_passes n none = by_test (test n)
-      where
-        by_test : (b : Bool) → cond b (one n) [] ≡ []
-        by_test true = none
-        by_test false = refl
+    none_passes n none = grind arith
 
     exchanged : (n : ℕ) → cond (is_opened es n) (cond (test n) (n ∷ []) []) [] ≡ passing n
-    exchanged n = by_tests (is_opened es n) (test n)
-      where
-        by_tests : (o b : Bool) → cond o (cond b (n ∷ []) []) [] ≡ cond b (cond o (n ∷ []) []) []
-        by_tests true b = refl
-        by_tests false true = refl
-        by_tests false false = refl
+    exchanged n = grind arith
 
     pub passing-over : (n rest : ℕ) → past + rest ≡ n → filter test (opened_numbers es) ≡ flat_map passing (range_with_len 0 n)
     unfolding opened_numbers
     passing-over n rest size =
-        filter_is test (filter (is_opened es) (span (least es) (greatest es)))
-        ∙ flat_map-filter (λ n. cond (test n) (n ∷ []) []) (is_opened es) (span (least es) (greatest es))
-        ∙ same_pieces (λ n. cond (is_opened es n) (cond (test n) (n ∷ []) []) []) passing exchanged (span (least es) (greatest es))
-        ∙ in_longer passing (least es) long rest (λ n outside. none_passes n (one-outside n outside))
-        ∙ ap (λ k. flat_map passing (range_with_len 0 k)) size
+        grind (
+          arith,
+          exchanged,
+          filter_is,
+          flat_map-filter,
+          in_longer,
+          none_passes,
+          one-outside,
+          same_pieces,
+        )
 
 -- ---- pictures that are let go
 
@@ -118,30 +107,16 @@ module _ (window : ℕ) (s : Sequence) (old new : List Numbered) (later : Follow
   piece es n = cond (is_let_go window s old n) (frame_bytes_at s es n) []
 
   piece_same : (n : ℕ) → piece new n ≡ piece old n
-  piece_same n = by_test (is_let_go window s old n) refl
-    where
-      by_test : (b : Bool) → is_let_go window s old n ≡ b → cond b (frame_bytes_at s new n) [] ≡ cond b (frame_bytes_at s old n) []
-      by_test true gone = frame_same window s old new later n gone
-      by_test false kept = refl
+  piece_same n = grind (arith, frame_same)
 
   written_same : flat_map (frame_bytes_at s new) (let_go_numbers window s old) ≡ frames_so_far window s old
   unfolding let_go_numbers frames_so_far
-  written_same =
-      flat_map-filter (frame_bytes_at s new) (is_let_go window s old) (opened_numbers old)
-      ∙ same_pieces (piece new) (piece old) piece_same (opened_numbers old)
-      ∙ sym (flat_map-filter (frame_bytes_at s old) (is_let_go window s old) (opened_numbers old))
+  written_same = grind (arith, flat_map-filter, piece_same, same_pieces)
 
   -- the pictures that are let go now, and what they add
   pub releases : (rest : List ℕ) × (let_go_numbers window s new ≡ let_go_numbers window s old ++ rest) × (frames_so_far window s new ≡ frames_so_far window s old ++ flat_map (frame_bytes_at s new) rest)
   unfolding frames_so_far
-  releases =
-      let grown = let_go_numbers_grow in (
-        grown.0,
-        grown.1,
-        ap (flat_map (frame_bytes_at s new)) grown.1
-            ∙ flat_map-append (frame_bytes_at s new) (let_go_numbers window s old) grown.0
-            ∙ ap (λ (l : List ℕ). l ++ flat_map (frame_bytes_at s new) grown.0) written_same,
-      )
+  releases = grind (arith, flat_map-append, let_go_numbers_grow, written_same)
 
 -- the pictures that are left when the input ends
 module _ (window : ℕ) (s : Sequence) (es : List Numbered) where
@@ -153,11 +128,7 @@ module _ (window : ℕ) (s : Sequence) (es : List Numbered) where
 
   pub last_releases : (rest : List ℕ) × (opened_numbers es ≡ let_go_numbers window s es ++ rest) × (all_frames s es ≡ frames_so_far window s es ++ flat_map (frame_bytes_at s es) rest)
   unfolding frames_so_far all_frames
-  last_releases = (
-    opened_grow.0,
-    opened_grow.1,
-    ap (flat_map (frame_bytes_at s es)) opened_grow.1 ∙ flat_map-append (frame_bytes_at s es) (let_go_numbers window s es) opened_grow.0,
-  )
+  last_releases = grind (arith, flat_map-append, opened_grow)
 
 -- ---- the same, of fragments
 

@@ -1,14 +1,14 @@
 -- The picture that a window names next is the least that may be released, and pictures are released in the order in
 -- which they are let go.
-use Rattle.std.proofs.Common.{◌≡◌, ℕ, zero, suc, ◌+◌, ◌-◌, ◌<◌, ◌≤◌, Bool, true, false, List, [], ◌∷◌, ◌++◌, Option, Some, None, refl, ap, sym, ◌∙◌, arith, cond}
+use Rattle.std.proofs.Common.{◌≡◌, ℕ, zero, suc, ◌+◌, ◌<◌, ◌≤◌, Bool, true, false, List, [], ◌∷◌, ◌++◌, Option, Some, None, refl, ap, sym, ◌∙◌, arith, cond}
 use Rattle.std.specs.Prelude.{nat_le, not, ◌&&◌, ◌||◌, is_some, filter}
 use Rattle.std.specs.List.{list_all, range_with_len, last_or}
-use Rattle.std.specs.Option.{option_map, option_map_or, option_and_then}
+use Rattle.std.specs.Option.{option_map, option_and_then}
 use Rattle.std.proofs.lemmas.Bool.{lt-leb, and_left, false_from_ne_true, both_ways}
 use Rattle.link_model.specs.Books.{Book, book_whole}
-use Rattle.link_model.specs.Numbers.{greatest, is_closed, is_opened, parts_of, opened_numbers, span}
+use Rattle.link_model.specs.Numbers.{greatest, is_closed, is_opened, parts_of, opened_numbers}
 use Rattle.link_model.specs.Output.{complete_at, is_let_go, let_go_numbers}
-use Rattle.link_model.specs.Windows.{NumberedBook, with_number, complete_in, let_go_in, released_up_to, first_unreleased, Releasable, if_let_go, next_release, WindowPast, past_let_go, releasable_numbers, as_releasable, first_of, greatest_behind, window_of}
+use Rattle.link_model.specs.Windows.{NumberedBook, with_number, complete_in, let_go_in, released_up_to, first_unreleased, if_let_go, next_release, WindowPast, past_let_go, releasable_numbers, as_releasable, first_of, greatest_behind, window_of}
 use Rattle.link_model.proofs.Bookkeeping.{book_whole_is}
 use Rattle.link_model.proofs.BooksInOrder.{books_over}
 use Rattle.link_model.proofs.Leaving.{past, complete_opened}
@@ -42,33 +42,22 @@ module _ (p : WindowPast) where
 
     complete_of_window : (n : ℕ) → greatest p.entries < n + p.size → complete_in (window_of p) n ≡ complete_at p.sequence p.entries n
     complete_of_window n above =
-        ap (λ (o : Option Book). option_map_or (λ book. is_some (book_whole book)) o false) (book_of_window p n)
-        ∙ by_tests (is_opened p.entries n) refl (gone_in p n) (not_gone n above)
-      where
-        by_tests : (was : Bool) → is_opened p.entries n ≡ was → (gone : Bool) → gone ≡ false
-            → option_map_or (λ book. is_some (book_whole book)) (cond (was && not gone) (Some (books_by p.sequence p.entries n)) None) false ≡ complete_at p.sequence p.entries n
-        by_tests false is gone kept = sym (unopened_incomplete n is)
-        by_tests true is gone kept =
-            ap (λ (b : Bool). option_map_or (λ book. is_some (book_whole book)) (cond (not b) (Some (books_by p.sequence p.entries n)) None) false) kept
-            ∙ whole_of_book n
+        grind (
+          arith,
+          book_of_window,
+          books_by,
+          gone_in,
+          not_gone,
+          unopened_incomplete,
+          whole_of_book,
+        )
 
   let_go_of_window : greatest_behind p.before p.entries ≡ greatest p.entries → (n : ℕ) → let_go_in (window_of p) n ≡ is_let_go_by n
   unfolding window_of is_let_go
-  let_go_of_window top n = by_end p.is_ended refl
-    where
-      by_end : (over : Bool) → p.is_ended ≡ over
-          → (over || list_all (complete_in (window_of p)) (span (greatest_behind p.before p.entries + 1 - p.size) n)) ≡ (over || list_all (complete_at p.sequence p.entries) (span (greatest p.entries + 1 - p.size) n))
-      by_end true is = refl
-      by_end false is =
-          ap (λ t. list_all (complete_in (window_of p)) (span (t + 1 - p.size) n)) top
-          ∙ all_same (complete_in (window_of p)) (complete_at p.sequence p.entries) (greatest p.entries + 1 - p.size) (n + 1 - (greatest p.entries + 1 - p.size)) (λ k above. complete_of_window is k (omega arith))
+  let_go_of_window top n = grind (arith, all_same, complete_of_window)
 
   down : (f g : ℕ) → f ≤ g → is_let_go_by g ≡ true → is_let_go_by f ≡ true
-  down f g less gone = by_end p.is_ended gone
-    where
-      by_end : (over : Bool) → (over || is_let_go p.size p.sequence p.entries g) ≡ true → (over || is_let_go p.size p.sequence p.entries f) ≡ true
-      by_end true gone = refl
-      by_end false gone = let_go_before p.size p.sequence p.entries g f less gone
+  down f g less gone = grind (arith, let_go_before)
 
 -- ---- the list of what is let go
 
@@ -103,11 +92,7 @@ module _ (p : WindowPast) where
         ∙ same_numbers (λ k. (is_opened p.entries k && is_let_go_by p k) && behind k) (λ k. (is_opened p.entries k && behind k) && is_let_go_by p k) 0 all (λ k. exchanged (is_opened p.entries k) (is_let_go_by p k) (behind k))
       where
         exchanged : (a b c : Bool) → ((a && b) && c) ≡ ((a && c) && b)
-        exchanged false b c = refl
-        exchanged true false false = refl
-        exchanged true false true = refl
-        exchanged true true false = refl
-        exchanged true true true = refl
+        exchanged o b c = grind arith
 
     first_releasable : first_of (releasable_numbers p) ≡ option_and_then (λ k. cond (is_let_go_by p k) (Some k) None) (first_of (numbers_over (λ k. is_opened p.entries k && behind k) 0 all))
     first_releasable = ap first_of releasable_over ∙ first_that (λ k. is_opened p.entries k && behind k) (is_let_go_by p) (down p) 0 all
@@ -117,16 +102,8 @@ module _ (p : WindowPast) where
 first_book : (last : Option ℕ) (test : ℕ → Bool) (book : ℕ → Book) (a m : ℕ)
     → first_unreleased last (books_over test book a m) ≡ option_map (λ k. with_number k (book k)) (first_of (numbers_over (λ k. test k && is_behind last k) a m))
 first_book last test book a zero = refl
-first_book last test book a (suc m) = by_tests (test a) (released_up_to last a) refl (first_book last test book (a + 1) m)
-  where
-    by_tests : (b gone : Bool) → released_up_to last a ≡ gone
-        → first_unreleased last (books_over test book (a + 1) m) ≡ option_map (λ k. with_number k (book k)) (first_of (numbers_over (λ k. test k && is_behind last k) (a + 1) m))
-        → first_unreleased last (cond b (with_number a (book a) ∷ []) [] ++ books_over test book (a + 1) m) ≡ option_map (λ k. with_number k (book k)) (first_of (cond (b && not gone) (a ∷ []) [] ++ numbers_over (λ k. test k && is_behind last k) (a + 1) m))
-    by_tests false gone is rest = rest
-    by_tests true true is rest =
-        ap (λ (b : Bool). cond b (first_unreleased last (books_over test book (a + 1) m)) (Some (with_number a (book a)))) is ∙ rest
-    by_tests true false is rest =
-        ap (λ (b : Bool). cond b (first_unreleased last (books_over test book (a + 1) m)) (Some (with_number a (book a)))) is
+first_book last test book a (suc m) =
+    grind (arith, books_over, is_behind, numbers_over, first_book last test book (a + 1) m)
 
 module _ (p : WindowPast) (in_order : past_let_go p ≡ p.released ++ releasable_numbers p) where
   pub next_some : greatest_behind p.before p.entries ≡ greatest p.entries → next_release (window_of p) ≡ option_map (as_releasable p) (first_of (releasable_numbers p))
@@ -140,18 +117,11 @@ module _ (p : WindowPast) (in_order : past_let_go p ≡ p.released ++ releasable
       ∙ ap (option_map (as_releasable p)) (sym (first_releasable p in_order))
     where
       by_tests : (was closed low : Bool) → ((was && not (closed && low)) && not low) ≡ (was && not low)
-      by_tests false closed low = refl
-      by_tests true false low = refl
-      by_tests true true false = refl
-      by_tests true true true = refl
+      by_tests o closed low = grind arith
 
       by_end : (k : ℕ) (go : Bool) → cond go (Some (as_releasable p k)) None ≡ option_map (as_releasable p) (cond go (Some k) None)
       by_end k true = refl
       by_end k false = refl
 
       by_first : (o : Option ℕ) → option_and_then (if_let_go (window_of p)) (option_map (λ k. with_number k (books_by p.sequence p.entries k)) o) ≡ option_map (as_releasable p) (option_and_then (λ k. cond (is_let_go_by p k) (Some k) None) o)
-      by_first None = refl
-      by_first (Some k) =
-          ap (λ (b : Bool). cond b (Some (let r : Releasable = record { number = k; complete = is_some (book_whole (books_by p.sequence p.entries k)) } in r)) None) (let_go_of_window p top k)
-          ∙ ap (λ (c : Bool). cond (is_let_go_by p k) (Some (let r : Releasable = record { number = k; complete = c } in r)) None) (whole_of_book p k)
-          ∙ by_end k (is_let_go_by p k)
+      by_first o = grind (arith, books_by, by_end, let_go_of_window, whole_of_book)

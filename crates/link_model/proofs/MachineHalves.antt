@@ -1,20 +1,14 @@
 -- An event is legal where all its conditions hold: those on the places, and those on the feeder.
-use Rattle.std.proofs.Common.{◌≡◌, ℕ, suc, ◌+◌, Bool, true, false, cond, List, [], ◌∷◌, length}
-use Rattle.std.proofs.Common.{Option, Some, None, refl, ap, sym, arith}
-use Rattle.std.specs.Prelude.{◌&&◌, not, position}
+use Rattle.std.proofs.Common.{◌≡◌, ℕ, suc, ◌+◌, Bool, true, false, List, [], ◌∷◌, length}
+use Rattle.std.proofs.Common.{Option, Some, None, refl, sym, arith}
+use Rattle.std.specs.Prelude.{not, position}
 use Rattle.std.specs.List.{list_all, list_any, position_or_len}
 use Rattle.std.specs.Option.{option_map}
 use Rattle.std.proofs.lemmas.Bool.{and_parts, and_from, false≢true, le-ltb}
 use Rattle.std.proofs.lemmas.Option.{none-some}
 use Rattle.link_model.proofs.Positions.{position_none}
-use Rattle.link_model.specs.Feeders.{is_closed_now, is_decoded, is_kept}
-use Rattle.link_model.specs.Machine.{Machine, Event, Enter, Put, Claim, Complete, Take, Withdraw}
-use Rattle.link_model.specs.Machine.{Leave, Redo, Release, Finish}
-use Rattle.link_model.specs.Machine.{conditions, IsLegal, is_legal_on_places}
+use Rattle.link_model.specs.Machine.{Machine, Event, conditions, IsLegal, is_legal_on_places}
 use Rattle.link_model.specs.Machine.{is_legal_for_feeder}
-use Rattle.link_model.specs.Machine.{is_next, has_answers}
-use Rattle.link_model.specs.Places.{place_at, is_in, may_put, stands_in}
-use Rattle.link_model.specs.declared.place_state.PlaceState.TheVariants.{Waiting, Held, Done}
 
 -- ---- all conditions
 
@@ -42,9 +36,7 @@ long (true ∷ bs) e = let rest = long bs e in let more : 1 + position_or_len no
 long (false ∷ bs) e = absurd (false≢true e)
 
 pub unbroken : (bs : List Bool) → AllTrue bs → Unbroken bs
-unbroken bs e =
-    let past : length bs ≡ position_or_len not bs = sym (long bs e) in
-    ap (λ (b : Bool). option_map (λ k. k + 1) (cond b (Some (position_or_len not bs)) None)) (le-ltb (position_or_len not bs) (length bs) (omega (arith, past)))
+unbroken bs e = grind (arith, le-ltb, long)
 
 -- ---- halves
 
@@ -59,49 +51,10 @@ module _ (window : ℕ) (m : Machine) where
   one_from b e = and_from b true e refl
 
   pub halves : (e : Event) → AllTrue (conditions window m e) → Halves e
-  halves (Enter d) e = (refl, one (not m.feeder.has_ended) e)
-  halves (Put place n i) e =
-      let a = may_put m.places place in let b = is_kept window m.feeder n i in let c = not (is_closed_now window m.feeder n) in
-      let d = not (stands_in m.places n i) in let f = not (is_decoded m.feeder n i) in
-      let first = and_parts a (b && (c && (d && (f && true)))) e in
-      let second = and_parts b (c && (d && (f && true))) first.1 in
-      let third = and_parts c (d && (f && true)) second.1 in
-      let fourth = and_parts d (f && true) third.1 in
-      (and_from a d first.0 fourth.0, and_from (b && c) f (and_from b c second.0 third.0) (one f fourth.1))
-  halves (Claim worker place) e = (one (is_in Waiting (place_at m.places place)) e, refl)
-  halves (Complete place serial) e = (refl, refl)
-  halves (Take place) e = (one (is_in Done (place_at m.places place)) e, refl)
-  halves (Withdraw place) e = (one (is_in Waiting (place_at m.places place)) e, refl)
-  halves (Leave place) e = (one (is_in Held (place_at m.places place)) e, refl)
-  halves (Redo n i) e =
-      let first = and_parts (is_kept window m.feeder n i) (not (is_decoded m.feeder n i) && true) e in
-      (refl, and_from (is_kept window m.feeder n i) (not (is_decoded m.feeder n i)) first.0 (one (not (is_decoded m.feeder n i)) first.1))
-  halves (Release n) e =
-      let first = and_parts (is_next window m.feeder n) (has_answers window m.feeder n && true) e in
-      (refl, and_from (is_next window m.feeder n) (has_answers window m.feeder n) first.0 (one (has_answers window m.feeder n) first.1))
-  halves Finish e = (refl, refl)
+  halves o e = grind (arith, one)
 
   pub whole : (e : Event) → Halves e → AllTrue (conditions window m e)
-  whole (Enter d) h = one_from (not m.feeder.has_ended) h.1
-  whole (Put place n i) h =
-      let a = may_put m.places place in let b = is_kept window m.feeder n i in let c = not (is_closed_now window m.feeder n) in
-      let d = not (stands_in m.places n i) in let f = not (is_decoded m.feeder n i) in
-      let places = and_parts a d h.0 in
-      let feeder = and_parts (b && c) f h.1 in
-      let two = and_parts b c feeder.0 in
-      and_from a (b && (c && (d && (f && true)))) places.0 (and_from b (c && (d && (f && true))) two.0 (and_from c (d && (f && true)) two.1 (and_from d (f && true) places.1 (one_from f feeder.1))))
-  whole (Claim worker place) h = one_from (is_in Waiting (place_at m.places place)) h.0
-  whole (Complete place serial) h = refl
-  whole (Take place) h = one_from (is_in Done (place_at m.places place)) h.0
-  whole (Withdraw place) h = one_from (is_in Waiting (place_at m.places place)) h.0
-  whole (Leave place) h = one_from (is_in Held (place_at m.places place)) h.0
-  whole (Redo n i) h =
-      let two = and_parts (is_kept window m.feeder n i) (not (is_decoded m.feeder n i)) h.1 in
-      and_from (is_kept window m.feeder n i) (not (is_decoded m.feeder n i) && true) two.0 (one_from (not (is_decoded m.feeder n i)) two.1)
-  whole (Release n) h =
-      let two = and_parts (is_next window m.feeder n) (has_answers window m.feeder n) h.1 in
-      and_from (is_next window m.feeder n) (has_answers window m.feeder n && true) two.0 (one_from (has_answers window m.feeder n) two.1)
-  whole Finish h = refl
+  whole o h = grind (arith, one_from)
 
   pub legal_halves : (e : Event) → IsLegal window m e → Halves e
   legal_halves e legal = halves e (all_true (conditions window m e) legal)

@@ -1,8 +1,6 @@
 -- What every legal event of the machine keeps.
-use Rattle.std.proofs.Common.{◌≡◌, ℕ, ◌-◌, ◌%◌, ◌≤◌, Bool, true, false, cond}
-use Rattle.std.proofs.Common.{List, [], ◌∷◌, ◌++◌}
-use Rattle.std.proofs.Common.{Option, Some, None, refl, ap, sym, subst, ◌∙◌, arith}
-use Rattle.std.proofs.Common.{eq-eqb}
+use Rattle.std.proofs.Common.{◌≡◌, ℕ, ◌-◌, ◌%◌, ◌≤◌, Bool, true, false, cond, List, [], ◌∷◌, ◌++◌}
+use Rattle.std.proofs.Common.{Option, Some, None, refl, ap, sym, subst, ◌∙◌, arith, eq-eqb}
 use Rattle.std.specs.Prelude.{◌==◌, ◌&&◌, ◌||◌, not, is_some}
 use Rattle.std.specs.List.{flat_map, list_all}
 use Rattle.std.specs.Option.{option_map_or}
@@ -12,9 +10,8 @@ use Rattle.std.proofs.lemmas.List.Concat.{flat_map-append}
 use Rattle.std.proofs.lemmas.Option.{same_Some, none-some}
 use Rattle.link_model.specs.Complete.{has_all_slices, slice_numbers}
 use Rattle.link_model.specs.Feeders.{SliceAnswer, EnteredSession, entered_session, session_opening}
-use Rattle.link_model.specs.Feeders.{picture_keeps, kept_job}
-use Rattle.link_model.specs.Feeders.{heard_pictures, let_go_pictures, is_among, not_released}
-use Rattle.link_model.specs.Feeders.{answer_in, is_ready, has_every_answer}
+use Rattle.link_model.specs.Feeders.{picture_keeps, kept_job, heard_pictures, let_go_pictures}
+use Rattle.link_model.specs.Feeders.{is_among, not_released, answer_in, is_ready, has_every_answer}
 use Rattle.link_model.specs.Feeding.{built_bytes, built_planes}
 use Rattle.link_model.specs.Interleavings.{AreOwnAnswers, IsOwnAnswer}
 use Rattle.link_model.specs.Kept.{Own}
@@ -188,13 +185,7 @@ module _ (window : ℕ) (small : window ≤ 8) (hs : List HeardSession) (decoded
     -- ---- an answer
 
     pub answer_holds : (x : SliceAnswer) → IsOwnAnswer window hs x → Holds window hs ended (x ∷ decoded) released written
-    answer_holds x own = record {
-      answers = (own, holds.answers);
-      rest = holds.rest;
-      order = holds.order;
-      ready = each_map (λ n is. still_ready x decoded n (picture_keeps window hs n) is) released holds.ready;
-      bytes = holds.bytes;
-    }
+    answer_holds x own = grind (arith, each_map, still_ready)
 
     -- ---- a release
 
@@ -226,10 +217,7 @@ module _ (window : ℕ) (small : window ≤ 8) (hs : List HeardSession) (decoded
         frame_is = built_frame decoded e n (built_is window hs decoded holds.answers n e found here) before
 
       bytes_now : option_map_or (built_bytes decoded n) (session_opening window hs n) [] ≡ picture_bytes window hs n
-      bytes_now = let e = opened_session window hs n opened_now in
-          ap (λ (o : Option EnteredSession). option_map_or (built_bytes decoded n) o []) e.1
-          ∙ frame_is e.0 e.1
-          ∙ sym (ap (λ (o : Option EnteredSession). option_map_or (λ (e : EnteredSession). frame_bytes_at e.sequence e.entries n) o []) e.1)
+      bytes_now = grind (arith, frame_is, opened_now, opened_session)
 
       pub release_holds : Holds window hs ended decoded (released ++ n ∷ []) (written ++ option_map_or (built_bytes decoded n) (session_opening window hs n) [])
       release_holds = record {

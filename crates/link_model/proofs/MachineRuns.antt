@@ -1,38 +1,32 @@
 -- The laws of the machine over every list of legal events.
-use Rattle.std.proofs.Common.{◌≡◌, ℕ, ◌≤◌, Bool, true, false, cond, List, [], ◌∷◌, ◌++◌}
-use Rattle.std.proofs.Common.{Option, Some, None, refl, ap, sym, subst, ◌∙◌, arith, inl, inr}
-use Rattle.std.proofs.Common.{eqb-true, eq-eqb}
+use Rattle.std.proofs.Common.{◌≡◌, ℕ, ◌≤◌, Bool, true, false, cond, List, [], ◌∷◌, ◌++◌, Option}
+use Rattle.std.proofs.Common.{Some, None, refl, ap, sym, ◌∙◌, arith, eqb-true}
 use Rattle.std.specs.Prelude.{◌⊎◌, ◌↔◌, ◌==◌, ◌&&◌, ◌||◌, not, is_some, slice_get, fold}
 use Rattle.std.specs.List.{flat_map, list_all}
-use Rattle.std.specs.Option.{option_map_or, option_and_then}
+use Rattle.std.specs.Option.{option_map_or}
 use Rattle.std.proofs.lemmas.Bool.{and_parts, and_from, false≢true}
 use Rattle.std.proofs.lemmas.List.{append-nil}
 use Rattle.std.proofs.lemmas.List.Concat.{flat_map-append}
-use Rattle.std.proofs.lemmas.Option.{same_Some, none-some}
-use Rattle.link_model.specs.Complete.{has_all_slices, slice_numbers}
-use Rattle.link_model.specs.Feeders.{Feeder, EnteredSession, session_opening, keeps_of}
-use Rattle.link_model.specs.Feeders.{kept_job, slice_job, is_kept}
-use Rattle.link_model.specs.Feeders.{let_go_pictures, releasable, next_to_release}
-use Rattle.link_model.specs.Feeders.{has_released}
-use Rattle.link_model.specs.Feeders.{is_decoded, answer_in, is_ready, has_every_answer}
+use Rattle.std.proofs.lemmas.Option.{none-some}
+use Rattle.link_model.specs.Complete.{has_all_slices}
+use Rattle.link_model.specs.Feeders.{Feeder, EnteredSession, session_opening, keeps_of, kept_job}
+use Rattle.link_model.specs.Feeders.{slice_job, is_kept, releasable, next_to_release, is_decoded}
+use Rattle.link_model.specs.Feeders.{answer_in}
 use Rattle.link_model.specs.Feeding.{built_bytes, takes_answer, with_answer, has_job, is_same_job}
 use Rattle.link_model.specs.Feeding.{redoes_slice}
 use Rattle.link_model.specs.Feeders.{is_among}
 use Rattle.link_model.proofs.PicturesHeard.{let_go_rising}
 use Rattle.link_model.proofs.RisingLists.{IsRising, each_map, filter_rising, among_each}
-use Rattle.link_model.specs.Interleavings.{machine_after, IsRun, due, inputs}
-use Rattle.link_model.specs.Interleavings.{AreOwnAnswers}
+use Rattle.link_model.specs.Interleavings.{machine_after, IsRun, due, inputs, AreOwnAnswers}
 use Rattle.link_model.specs.Kept.{Own, own_slice}
 use Rattle.link_model.specs.Machine.{Machine, new_machine, Event, Enter, Put, Claim, Complete, Take}
 use Rattle.link_model.specs.Machine.{Withdraw, Leave, Redo, Release, Finish}
 use Rattle.link_model.specs.Machine.{IsLegal, is_next, has_answers, happens, takes_from}
 use Rattle.link_model.specs.Machine.{run, AreLegal, is_legal_on_places, is_legal_for_feeder}
 use Rattle.link_model.specs.Output.{full_output, output_so_far, IsPrefixOf}
-use Rattle.link_model.specs.Places.{Job, Answered, own_answer, decoding, Content, Nothing, Offered}
-use Rattle.link_model.specs.Places.{Claimed, Decoded, place_at}
-use Rattle.link_model.specs.Places.{may_put, stands_in, puts_job, AreApart, HasOwnAnswer}
-use Rattle.link_model.specs.Places.{HaveOwnAnswers}
-use Rattle.link_model.specs.Session.{HeardSession, sessions_of, hears}
+use Rattle.link_model.specs.Places.{Job, Answered, own_answer, decoding, Content, place_at, may_put}
+use Rattle.link_model.specs.Places.{stands_in, puts_job, AreApart, HaveOwnAnswers}
+use Rattle.link_model.specs.Session.{HeardSession, sessions_of}
 use Rattle.link_model.proofs.Growing.{sessions_of-append}
 use Rattle.link_model.proofs.MachineHalves.{legal_halves, halves_legal}
 use Rattle.link_model.proofs.MachineKept.{Holds, new_holds, hears_holds, finish_holds, answer_holds}
@@ -72,16 +66,10 @@ module _ (window : ℕ) (small : window ≤ 8) where
     heard_sessions = sessions_of f.heard
 
     enter_holds : (d : List ℕ) → f.has_ended ≡ false → Holds window (sessions_of (f.heard ++ d ∷ [])) f.has_ended f.decoded f.released f.written
-    enter_holds d open_still =
-        subst (λ (hs : List HeardSession). Holds window hs f.has_ended f.decoded f.released f.written) (sym (sessions_of-append f.heard (d ∷ [])))
-        (subst (λ (b : Bool). Holds window (hears heard_sessions d) b f.decoded f.released f.written) (sym open_still)
-        (hears_holds window small heard_sessions f.decoded f.released f.written d
-        (subst (λ (b : Bool). Holds window heard_sessions b f.decoded f.released f.written) open_still holds)))
+    enter_holds d open_still = grind (arith, hears_holds, sessions_of-append)
 
     with_holds : (job : Job) (n i : ℕ) → kept_job window heard_sessions n i ≡ Some job → (done : Answered) → done.job ≡ job → done.answer ≡ decoding done.job → HoldsFor window (with_answer f done)
-    with_holds job n i kept done same own = answer_holds window small heard_sessions f.decoded f.released f.written f.has_ended holds
-        (record { number = done.job.number; index = done.job.index; answer = done.answer })
-        (done.job, subst (λ (j : Job). kept_job window heard_sessions j.number j.index ≡ Some j) (sym same) (job_itself heard_sessions n i job kept), own)
+    with_holds job n i kept done same own = grind (arith, answer_holds, job_itself)
 
     redo_holds : (n i : ℕ) → HoldsFor window (redoes_slice window f n i)
     redo_holds n i = by_job (kept_job window heard_sessions n i) refl
@@ -98,11 +86,7 @@ module _ (window : ℕ) (small : window ≤ 8) where
         by_job (Some job) kept e = with_holds job done.job.number done.job.index kept done (same_job done.job job e) own
 
         by_test : (b : Bool) → has_job window f done.job && not (is_decoded f done.job.number done.job.index) ≡ b → HoldsFor window (cond b (with_answer f done) f)
-        by_test false is = holds
-        by_test true is =
-            let first = and_parts (has_job window f done.job) (not (is_decoded f done.job.number done.job.index)) is in
-            let second = and_parts (not (has_released f done.job.number)) (option_map_or (is_same_job done.job) (slice_job window f done.job.number done.job.index) false) first.0 in
-            by_job (kept_job window heard_sessions done.job.number done.job.index) refl second.1
+        by_test o is = grind (arith, by_job)
 
     first_is : (n : ℕ) → is_next window f n ≡ true → (more : List ℕ) × (holds.rest ≡ n ∷ more)
     first_is n e = by_rest holds.rest refl (ap (λ (l : List ℕ). option_map_or (λ m. m == n) (slice_get l 0) false) (sym (left window small heard_sessions f.decoded f.released f.written f.has_ended holds)) ∙ e)
@@ -120,11 +104,7 @@ module _ (window : ℕ) (small : window ≤ 8) where
 
   -- what every legal event keeps
   pub event_keeps : (m : Machine) → KeptBy window m → (e : Event) → IsLegal window m e → KeptBy window (happens window m e)
-  event_keeps m kept (Enter d) legal = record {
-    feeder = enter_holds m.feeder kept.feeder d (not_true m.feeder.has_ended (legal_halves window m (Enter d) legal).1);
-    own = kept.own;
-    apart = kept.apart;
-  }
+  event_keeps m kept (Enter d) legal = grind (arith, enter_holds, legal_halves)
   event_keeps m kept (Put place n i) legal = record {
     feeder = kept.feeder;
     own = put_own (slice_job window m.feeder n i);
@@ -145,26 +125,12 @@ module _ (window : ℕ) (small : window ≤ 8) where
           kept.apart
   event_keeps m kept (Claim worker place) legal = record { feeder = kept.feeder; own = claims_own m.places worker place kept.own; apart = claims_apart m.places worker place kept.apart }
   event_keeps m kept (Complete place serial) legal = record { feeder = kept.feeder; own = completes_own m.places place serial kept.own; apart = completes_apart m.places place serial kept.apart }
-  event_keeps m kept (Take place) legal = record {
-    feeder = by_content (place_at m.places place).content (kept.own place);
-    own = frees_own m.places place kept.own;
-    apart = frees_apart m.places place kept.apart;
-  }
-    where
-      by_content : (content : Content) → HasOwnAnswer content → HoldsFor window (takes_from window m.feeder content)
-      by_content Nothing own = kept.feeder
-      by_content (Offered job) own = kept.feeder
-      by_content (Claimed worker job) own = kept.feeder
-      by_content (Decoded done) own = take_holds m.feeder kept.feeder done own
+  event_keeps m kept (Take place) legal = grind (arith, frees_apart, frees_own, take_holds)
   event_keeps m kept (Withdraw place) legal = record { feeder = kept.feeder; own = frees_own m.places place kept.own; apart = frees_apart m.places place kept.apart }
   event_keeps m kept (Leave place) legal = record { feeder = kept.feeder; own = frees_own m.places place kept.own; apart = frees_apart m.places place kept.apart }
   event_keeps m kept (Redo n i) legal = record { feeder = redo_holds m.feeder kept.feeder n i; own = kept.own; apart = kept.apart }
   event_keeps m kept (Release n) legal = record { feeder = releasing_holds m.feeder kept.feeder n (legal_halves window m (Release n) legal).1; own = kept.own; apart = kept.apart }
-  event_keeps m kept Finish legal = record {
-    feeder = finish_holds window small (sessions_of m.feeder.heard) m.feeder.decoded m.feeder.released m.feeder.written m.feeder.has_ended kept.feeder;
-    own = kept.own;
-    apart = kept.apart;
-  }
+  event_keeps m kept Finish legal = grind (arith, finish_holds)
 
   run_keeps : (events : List Event) (m : Machine) → KeptBy window m → AreLegal window m events → KeptBy window (run window m events)
   run_keeps [] m kept legal = kept
@@ -177,11 +143,7 @@ module _ (window : ℕ) (small : window ≤ 8) where
 
 due_is : (window : ℕ) (f : Feeder) → due window f ≡ written_of window f.has_ended (sessions_of f.heard)
 unfolding full_output output_so_far
-due_is window f = by_end f.has_ended
-  where
-    by_end : (b : Bool) → cond b (full_output window f.heard) (output_so_far window f.heard) ≡ written_of window b (sessions_of f.heard)
-    by_end true = refl
-    by_end false = refl
+due_is window f = grind (arith, written_of)
 
 module _ (window : ℕ) (small : window ≤ 8) (f : Feeder) (holds : HoldsFor window f) where
   abbrev pieces : List ℕ → List ℕ
@@ -240,21 +202,10 @@ inputs_of f = (f.heard, f.has_ended)
 
 module _ (window : ℕ) where
   takes_same : (f : Feeder) (content : Content) → inputs_of (takes_from window f content) ≡ inputs_of f
-  takes_same f Nothing = refl
-  takes_same f (Offered job) = refl
-  takes_same f (Claimed worker job) = refl
-  takes_same f (Decoded done) = by_test (has_job window f done.job && not (is_decoded f done.job.number done.job.index))
-    where
-      by_test : (b : Bool) → inputs_of (cond b (with_answer f done) f) ≡ inputs_of f
-      by_test true = refl
-      by_test false = refl
+  takes_same f o = grind arith
 
   redo_same : (f : Feeder) (n i : ℕ) → inputs_of (redoes_slice window f n i) ≡ inputs_of f
-  redo_same f n i = by_job (slice_job window f n i)
-    where
-      by_job : (o : Option Job) → inputs_of (option_map_or (λ job. with_answer f (own_answer job)) o f) ≡ inputs_of f
-      by_job None = refl
-      by_job (Some job) = refl
+  redo_same f n i = grind arith
 
   pub run_inputs : (events : List Event) (m : Machine) → inputs_of (run window m events).feeder ≡ fold input_step (inputs_of m.feeder) (inputs events)
   run_inputs [] m = refl
@@ -269,16 +220,11 @@ module _ (window : ℕ) where
   run_inputs (Release n ∷ events) m = run_inputs events (happens window m (Release n))
   run_inputs (Finish ∷ events) m = run_inputs events (happens window m Finish)
 
-abbrev due_of : ℕ → Inputs → List ℕ
-due_of window x = cond x.1 (full_output window x.0) (output_so_far window x.0)
-
 pub same_written : (window places others : ℕ) (events different : List Event) → window ≤ 8 → IsRun window places events → IsRun window others different → inputs events ≡ inputs different
     → next_to_release window (machine_after window places events).feeder ≡ None → next_to_release window (machine_after window others different).feeder ≡ None
     → (machine_after window places events).feeder.written ≡ (machine_after window others different).feeder.written
 same_written window places others events different small legal also same none nothing =
-    written_is window places events small legal none
-    ∙ ap (due_of window) (run_inputs window events (new_machine places) ∙ ap (fold input_step ([], false)) same ∙ sym (run_inputs window different (new_machine others)))
-    ∙ sym (written_is window others different small also nothing)
+    grind (arith, run_inputs, written_is)
 
 -- ---- never stuck
 
@@ -306,41 +252,20 @@ module _ (window : ℕ) (m : Machine) (n : ℕ) where
 
   redo_one : has_answers window m.feeder n ≡ false → (i : ℕ) × IsLegal window m (Redo n i)
   unfolding has_all_slices
-  redo_one e = by_session (session_opening window hs n) refl e
-    where
-      by_kept : (s : EnteredSession) → session_opening window hs n ≡ Some s → (o : Option Own) → keeps_of s n ≡ o → is_ready m.feeder.decoded n o ≡ false → (i : ℕ) × IsLegal window m (Redo n i)
-      by_kept s found None keeps e = absurd (false≢true (sym e))
-      by_kept s found (Some kept) keeps e = let both = not_ready kept (has_all_slices kept) (has_every_answer m.feeder.decoded n kept) e in
-          unanswered_slice s kept found keeps (slice_numbers kept) both.0 both.1
-
-      by_session : (o : Option EnteredSession) → session_opening window hs n ≡ o → is_ready m.feeder.decoded n (option_and_then (λ (e : EnteredSession). keeps_of e n) o) ≡ false → (i : ℕ) × IsLegal window m (Redo n i)
-      by_session None found e = absurd (false≢true (sym e))
-      by_session (Some s) found e = by_kept s found (keeps_of s n) refl e
+  redo_one e = grind (arith, not_ready, unanswered_slice)
 
   pub never_stuck : next_to_release window m.feeder ≡ Some n → IsLegal window m (Release n) ⊎ ((i : ℕ) × IsLegal window m (Redo n i))
-  never_stuck next = by_answers (has_answers window m.feeder n) refl
-    where
-      by_answers : (b : Bool) → has_answers window m.feeder n ≡ b → IsLegal window m (Release n) ⊎ ((i : ℕ) × IsLegal window m (Redo n i))
-      by_answers true is = inl (halves_legal window m (Release n) (
-        refl,
-        and_from (is_next window m.feeder n) (has_answers window m.feeder n)
-            (ap (λ (o : Option ℕ). option_map_or (λ k. k == n) o false) next ∙ eq-eqb n n refl) is,
-      ))
-      by_answers false is = inr (redo_one is)
+  never_stuck next = grind (arith, halves_legal, redo_one)
 
 -- ---- the least
 
 least_first : (xs : List ℕ) (n m : ℕ) → IsRising xs → slice_get xs 0 ≡ Some n → is_among xs m ≡ true → n ≤ m
 least_first [] n m rising first among = absurd (none-some n first)
-least_first (x ∷ xs) n m rising first among =
-    let same : x ≡ n = same_Some x n first in
-    let least : x ≤ m = among_each (λ k. x ≤ k) (x ∷ xs) m (omega arith, each_map (λ k above. omega (arith, above)) xs rising.0) among in
-    omega (arith, same, least)
+least_first (x ∷ xs) n m rising first among = grind (arith, among_each, each_map)
 
 pub next_is_least : (window : ℕ) (f : Feeder) (n m : ℕ) → window ≤ 8 → next_to_release window f ≡ Some n → is_among (releasable window f) m ≡ true → n ≤ m
-next_is_least window f n m small first among = least_first (releasable window f) n m
-    (filter_rising (λ k. not (is_among f.released k)) (let_go_pictures window f.has_ended (sessions_of f.heard)) (let_go_rising window small f.has_ended (sessions_of f.heard)))
-    first among
+next_is_least window f n m small first among =
+    grind (arith, filter_rising, least_first, let_go_rising)
 
 pub two_halves : (window : ℕ) (m : Machine) (e : Event) → IsLegal window m e ↔ ((is_legal_on_places m.places e ≡ true) × (is_legal_for_feeder window m.feeder e ≡ true))
 two_halves window m e = (legal_halves window m e, halves_legal window m e)

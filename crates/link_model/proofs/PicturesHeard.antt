@@ -1,33 +1,28 @@
 -- The pictures of sessions that were heard: their numbers rise, each is found in its own session,
 -- and as datagrams come those that are let go stay as they are.
 use Rattle.std.proofs.Common.{◌≡◌, ℕ, ◌+◌, ◌-◌, ◌<◌, ◌≤◌, Bool, true, false, cond, List, [], ◌∷◌}
-use Rattle.std.proofs.Common.{◌++◌}
-use Rattle.std.proofs.Common.{Option, Some, refl, ap, sym, subst, ◌∙◌, arith, inl, inr}
+use Rattle.std.proofs.Common.{◌++◌, Option, Some, refl, ap, sym, subst, ◌∙◌, arith}
 use Rattle.std.specs.Prelude.{◌⊎◌, ◌||◌}
 use Rattle.std.specs.List.{flat_map}
 use Rattle.std.specs.Option.{option_map_or}
-use Rattle.std.proofs.lemmas.Bool.{cases_lt, both_ways}
+use Rattle.std.proofs.lemmas.Bool.{both_ways}
 use Rattle.std.proofs.lemmas.List.{append_assoc, append-nil}
 use Rattle.std.proofs.lemmas.List.Concat.{flat_map-append}
 use Rattle.std.proofs.lemmas.Option.{none-some}
 use Rattle.link_model.specs.Feeders.{EnteredSession, entered_session, session_opening}
 use Rattle.link_model.specs.Feeders.{heard_pictures, let_go_pictures, is_among}
-use Rattle.link_model.specs.Numbers.{Numbered, greatest, least, has_parts}
-use Rattle.link_model.specs.Numbers.{is_opened}
+use Rattle.link_model.specs.Numbers.{Numbered, greatest, least, has_parts, is_opened}
 use Rattle.link_model.specs.Numbers.{opened_numbers, span}
 use Rattle.link_model.specs.Output.{greatest_of, entered_behind, is_opened_in, is_let_go}
-use Rattle.link_model.specs.Output.{let_go_numbers}
-use Rattle.link_model.specs.Output.{frame_bytes_at, all_frames, frames_so_far, all_output}
-use Rattle.link_model.specs.Output.{last_so_far}
-use Rattle.link_model.specs.Output.{IsPrefixOf}
+use Rattle.link_model.specs.Output.{let_go_numbers, frame_bytes_at, all_frames, frames_so_far}
+use Rattle.link_model.specs.Output.{all_output, last_so_far, IsPrefixOf}
 use Rattle.link_model.specs.Session.{HeardSession}
 use Rattle.link_model.proofs.Apart.{unopened_above, nothing_below, sessions_apart}
 use Rattle.link_model.proofs.Leaving.{last_releases}
 use Rattle.link_model.proofs.Numbering.{parts_of-outside}
 use Rattle.link_model.proofs.RisingLists.{Each, IsRising, each_map, each_append, each_front}
-use Rattle.link_model.proofs.RisingLists.{each_passes}
-use Rattle.link_model.proofs.RisingLists.{filter_rising, range_rising, append_rising, among_range}
-use Rattle.link_model.proofs.RisingLists.{among_filter, same_on}
+use Rattle.link_model.proofs.RisingLists.{each_passes, filter_rising, range_rising, append_rising}
+use Rattle.link_model.proofs.RisingLists.{among_range, among_filter, same_on}
 use Rattle.vc_types.specs.SequenceHeader.{Sequence}
 
 -- ---- the pictures of one session
@@ -46,14 +41,7 @@ module _ (es : List Numbered) where
 
   pub among_opened : (n : ℕ) → is_opened es n ≡ true → is_among (opened_numbers es) n ≡ true
   unfolding opened_numbers
-  among_opened n opened = among_filter (is_opened es) (span (least es) (greatest es)) n opened
-      (elim (cases_lt n (least es)) [
-        | inl less ↦ absurd (not_outside n opened (inl less))
-        | inr from ↦ (elim (cases_lt (greatest es) n) [
-          | inl more ↦ absurd (not_outside n opened (inr more))
-          | inr to ↦ among_range (least es) (greatest es + 1 - least es) n from (omega (arith, from, to))
-        ])
-      ])
+  among_opened n opened = grind (arith, among_filter, among_range, not_outside)
 
   module _ (window : ℕ) (s : Sequence) where
     pub each_let_go : Each (λ n. is_let_go window s es n ≡ true) (let_go_numbers window s es)
@@ -87,31 +75,28 @@ module _ (window : ℕ) where
   opened_here hs h n opened = ap (λ (b : Bool). b || is_opened_in window hs n) opened
 
   opened_before : (hs : List HeardSession) (h : HeardSession) (n : ℕ) → is_opened_in window hs n ≡ true → is_opened_in window (h ∷ hs) n ≡ true
-  opened_before hs h n was = by_here (is_opened (entered_behind window hs h) n)
-    where
-      by_here : (b : Bool) → b || is_opened_in window hs n ≡ true
-      by_here true = refl
-      by_here false = was
+  opened_before hs h n was = grind arith
 
   pub pictures_opened : (hs : List HeardSession) → Each (λ n. is_opened_in window hs n ≡ true) (heard_pictures window hs)
   unfolding heard_pictures
   pictures_opened [] = tt
-  pictures_opened (h ∷ hs) = each_append (λ n. is_opened_in window (h ∷ hs) n ≡ true) (heard_pictures window hs) (opened_numbers (entered_behind window hs h))
-      (each_map (opened_before hs h) (heard_pictures window hs) (pictures_opened hs))
-      (each_map (opened_here hs h) (opened_numbers (entered_behind window hs h)) (each_opened (entered_behind window hs h)))
+  pictures_opened (h ∷ hs) =
+      grind (
+        arith,
+        each_append,
+        each_map,
+        each_opened,
+        opened_before,
+        opened_here,
+        pictures_opened hs,
+      )
 
   module _ (small : window ≤ 8) where
     below_greatest : (hs : List HeardSession) (n : ℕ) → is_opened_in window hs n ≡ true → n ≤ greatest_of window hs
-    below_greatest hs n opened = elim (cases_lt (greatest_of window hs) n) [
-      | inl above ↦ absurd (both_ways (is_opened_in window hs n) (unopened_above window hs n above) opened)
-      | inr low ↦ low
-    ]
+    below_greatest hs n opened = grind (arith, unopened_above)
 
     above_greatest : (hs : List HeardSession) (h : HeardSession) (n : ℕ) → is_opened (entered_behind window hs h) n ≡ true → greatest_of window hs < n
-    above_greatest hs h n opened = elim (cases_lt (greatest_of window hs) n) [
-      | inl above ↦ above
-      | inr low ↦ absurd (both_ways (is_opened (entered_behind window hs h) n) (ap has_parts (nothing_below (greatest_of window hs) window n small low h.fragments)) opened)
-    ]
+    above_greatest hs h n opened = grind (arith, nothing_below)
 
     pub pictures_rising : (hs : List HeardSession) → IsRising (heard_pictures window hs)
     unfolding heard_pictures
@@ -127,11 +112,7 @@ module _ (window : ℕ) where
   pub session_opened : (hs : List HeardSession) (n : ℕ) (e : EnteredSession) → session_opening window hs n ≡ Some e → is_opened_in window hs n ≡ true
   unfolding session_opening
   session_opened [] n e is = absurd (none-some e is)
-  session_opened (h ∷ hs) n e is = by_here (is_opened (entered_behind window hs h) n) is (session_opened hs n e)
-    where
-      by_here : (b : Bool) → cond b (Some (entered_session window hs h)) (session_opening window hs n) ≡ Some e → (session_opening window hs n ≡ Some e → is_opened_in window hs n ≡ true) → b || is_opened_in window hs n ≡ true
-      by_here true is rest = refl
-      by_here false is rest = rest is
+  session_opened (h ∷ hs) n e is = grind (arith, session_opened hs n e)
 
 -- ---- pictures that are let go
 
@@ -178,11 +159,17 @@ module _ (window : ℕ) (small : window ≤ 8) where
   unfolding heard_pictures all_output all_frames
   all_bytes_written [] = refl
   all_bytes_written (h ∷ hs) =
-      flat_map-append (picture_bytes window (h ∷ hs)) (heard_pictures window hs) (opened_numbers (entered_behind window hs h))
-      ∙ ap (λ (l : List ℕ). l ++ flat_map (picture_bytes window (h ∷ hs)) (opened_numbers (entered_behind window hs h)))
-      (same_on (picture_bytes window (h ∷ hs)) (picture_bytes window hs) (heard_pictures window hs) (each_map (bytes_earlier hs h) (heard_pictures window hs) (pictures_opened window hs)) ∙ all_bytes_written hs)
-      ∙ ap (λ (l : List ℕ). all_output window hs ++ l)
-      (same_on (picture_bytes window (h ∷ hs)) (frame_bytes_at h.session.sequence (entered_behind window hs h)) (opened_numbers (entered_behind window hs h)) (each_map (bytes_here hs h) (opened_numbers (entered_behind window hs h)) (each_opened (entered_behind window hs h))))
+      grind (
+        arith,
+        bytes_earlier,
+        bytes_here,
+        each_map,
+        each_opened,
+        flat_map-append,
+        pictures_opened,
+        same_on,
+        all_bytes_written hs,
+      )
 
   pub let_go_written : (ended : Bool) (hs : List HeardSession) → flat_map (picture_bytes window hs) (let_go_pictures window ended hs) ≡ written_of window ended hs
   unfolding let_go_pictures last_so_far frames_so_far

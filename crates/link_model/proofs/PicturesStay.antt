@@ -1,24 +1,18 @@
 -- As datagrams come, what a picture keeps stays kept, and a picture that is let go stays as it is.
-use Rattle.std.proofs.Common.{◌≡◌, ℕ, ◌+◌, ◌≤◌, Bool, true, false, cond, List, [], ◌∷◌}
-use Rattle.std.proofs.Common.{◌++◌}
-use Rattle.std.proofs.Common.{Option, Some, None, refl, ap, sym, subst, ◌∙◌, arith, inl, inr}
-use Rattle.std.specs.Prelude.{◌⊎◌, ◌||◌, not, is_some, filter_map}
+use Rattle.std.proofs.Common.{◌≡◌, ℕ, ◌≤◌, Bool, true, false, List, [], ◌∷◌, ◌++◌, Option, Some}
+use Rattle.std.proofs.Common.{None, refl, ap, sym, ◌∙◌, arith, inl, inr}
+use Rattle.std.specs.Prelude.{◌⊎◌, ◌||◌, not, filter_map}
 use Rattle.std.specs.Option.{option_map_or, option_and_then, option_map}
-use Rattle.std.proofs.lemmas.Bool.{cases_lt, false≢true}
 use Rattle.std.proofs.lemmas.List.{append_assoc}
 use Rattle.std.proofs.lemmas.Option.{same_Some, none-some}
-use Rattle.link_model.specs.Complete.{has_all_slices, all_bytes, whole_of}
-use Rattle.link_model.specs.Complete.{whole_picture}
+use Rattle.link_model.specs.Complete.{has_all_slices, whole_picture}
 use Rattle.link_model.specs.Feeders.{EnteredSession, entered_session, session_opening, keeps_of}
-use Rattle.link_model.specs.Feeders.{picture_keeps}
-use Rattle.link_model.specs.Feeders.{SliceAnswer, has_every_answer, is_ready, kept_job, job_by}
-use Rattle.link_model.specs.Feeders.{job_with}
-use Rattle.link_model.specs.Feeders.{heard_pictures, let_go_pictures}
+use Rattle.link_model.specs.Feeders.{picture_keeps, SliceAnswer, has_every_answer, is_ready}
+use Rattle.link_model.specs.Feeders.{kept_job, job_with, heard_pictures, let_go_pictures}
 use Rattle.link_model.specs.Kept.{Own, own, own_slice}
-use Rattle.link_model.specs.Numbers.{Numbered, base_above, greatest, has_parts, is_opened, parts_of}
+use Rattle.link_model.specs.Numbers.{Numbered, base_above, has_parts, is_opened, parts_of}
 use Rattle.link_model.specs.Output.{greatest_of, entered_behind, is_opened_in, is_let_go}
-use Rattle.link_model.specs.Output.{let_go_numbers}
-use Rattle.link_model.specs.Output.{complete_at, frame_bytes_at, IsPrefixOf}
+use Rattle.link_model.specs.Output.{let_go_numbers, complete_at, frame_bytes_at, IsPrefixOf}
 use Rattle.link_model.specs.Places.{Job}
 use Rattle.link_model.specs.Session.{Session, HeardSession, just_opened, opens_next, with_datagram}
 use Rattle.link_model.specs.Session.{last_with, hears, begins, fragment_in}
@@ -27,11 +21,9 @@ use Rattle.link_model.proofs.Growing.{begins_behind}
 use Rattle.link_model.proofs.Leaving.{has_more, let_go_numbers_grow}
 use Rattle.link_model.proofs.Numbering.{Follows, follows_itself, entered_follows}
 use Rattle.link_model.proofs.Releasing.{frame_same, let_go_at}
-use Rattle.link_model.proofs.PicturesHeard.{pictures_opened, session_here}
-use Rattle.link_model.proofs.PicturesHeard.{session_before}
+use Rattle.link_model.proofs.PicturesHeard.{pictures_opened, session_here, session_before}
 use Rattle.link_model.proofs.PicturesHeard.{session_earlier, session_opened, let_go_begins}
-use Rattle.link_model.proofs.PicturesHeard.{let_go_in_sessions}
-use Rattle.link_model.proofs.PicturesHeard.{each_let_go, let_go_opened}
+use Rattle.link_model.proofs.PicturesHeard.{let_go_in_sessions, each_let_go, let_go_opened}
 use Rattle.link_model.proofs.RisingLists.{Each, each_map, each_append}
 use Rattle.vc_types.specs.SequenceHeader.{Sequence}
 
@@ -58,10 +50,7 @@ module _ (window : ℕ) where
   still_opened old new n later opened = ap has_parts (later.adds n).1 ∙ has_more (parts_of n old) (later.adds n).0 opened
 
   settled : (e : EnteredSession) (es : List Numbered) (n : ℕ) → Follows window e.entries es → is_let_go window e.sequence e.entries n ≡ true → IsSettled e es n
-  settled e es n later gone = elim (cases_lt (greatest e.entries) (n + window)) [
-    | inl unclosed ↦ inr (let_go_at window e.sequence e.entries n n gone unclosed (omega arith))
-    | inr closed ↦ inl (later.closed n closed)
-  ]
+  settled e es n later gone = grind (arith, let_go_at)
 
   -- a picture's session goes on
   abbrev pub GoesOn : List HeardSession → List HeardSession → ℕ → Type 0
@@ -100,20 +89,10 @@ module _ (window : ℕ) where
 
     -- a picture of this session
     here_goes_on : (n : ℕ) → is_opened before n ≡ true → GoesOn (h ∷ hs) (with_datagram h d ∷ hs) n
-    here_goes_on n opened e is = subst (λ (e : EnteredSession). (es : List Numbered) × (session_opening window (with_datagram h d ∷ hs) n ≡ Some (with_entries e es)) × Follows window e.entries es)
-        (same_Some (entered_session window hs h) e (sym (session_here window hs h n opened) ∙ is))
-        (behind, session_here window hs (with_datagram h d) n (still_opened before behind n follows opened), follows)
+    here_goes_on n opened e is = grind (arith, follows, session_here, still_opened)
 
     here_stays : (n : ℕ) → (is_opened before n ≡ true) × (is_let_go window h.session.sequence before n ≡ true) → Stays (h ∷ hs) (with_datagram h d ∷ hs) n
-    here_stays n both e is = subst (Gone (with_datagram h d ∷ hs) n)
-        (same_Some (entered_session window hs h) e (sym (session_here window hs h n both.0) ∙ is))
-        (record {
-          entries = behind;
-          follows = follows;
-          session = session_here window hs (with_datagram h d) n (still_opened before behind n follows both.0);
-          bytes = frame_same window h.session.sequence before behind follows n both.1;
-          settled = settled (entered_session window hs h) behind n follows both.1;
-        })
+    here_stays n both e is = grind (arith, follows, frame_same, session_here, settled, still_opened)
 
 -- ---- a datagram more
 
@@ -123,12 +102,8 @@ module _ (window : ℕ) (small : window ≤ 8) where
 
   last_goes_on : (hs : List HeardSession) (d : List ℕ) (n : ℕ) → GoesOn window hs (last_with hs d) n
   last_goes_on [] d n e is = same_goes_on window [] [] n refl e is
-  last_goes_on (h ∷ hs) d n e is = by_here (is_opened (entered_behind window hs h) n) refl
-    where
-      by_here : (b : Bool) → is_opened (entered_behind window hs h) n ≡ b → (es : List Numbered) × (session_opening window (with_datagram h d ∷ hs) n ≡ Some (with_entries e es)) × Follows window e.entries es
-      by_here true opened = here_goes_on window hs h d n opened e is
-      by_here false unopened = same_goes_on window (h ∷ hs) (with_datagram h d ∷ hs) n
-          (earlier_same hs h (with_datagram h d) n (session_opened window hs n e (sym (session_before window hs h n unopened) ∙ is))) e is
+  last_goes_on (h ∷ hs) d n e is =
+      grind (arith, earlier_same, here_goes_on, same_goes_on, session_before, session_opened)
 
   pub goes_on : (hs : List HeardSession) (d : List ℕ) (n : ℕ) → GoesOn window hs (hears hs d) n
   unfolding hears
@@ -195,19 +170,12 @@ pub record KeptSlice (window : ℕ) (hs : List HeardSession) (n i : ℕ) (job : 
 module _ (window : ℕ) where
   pub kept_slice : (hs : List HeardSession) (n i : ℕ) (job : Job) → kept_job window hs n i ≡ Some job → KeptSlice window hs n i job
   unfolding kept_job
-  kept_slice hs n i job e =
-      let own = some_after (λ (kept : Own). job_by kept n i) (picture_keeps window hs n) job e in
-      let session = some_after (λ (e : EnteredSession). keeps_of e n) (session_opening window hs n) own.0 own.1 in
-      let slice = some_map (job_with own.0 n i) (own_slice own.0 i) job own.2 in
-      record { session = session.0; found = session.1; kept = own.0; keeps = session.2; bytes = slice.0; slice = slice.1; is = slice.2 }
+  kept_slice hs n i job e = grind (arith, some_after, some_map)
 
   pub job_of_kept : (hs : List HeardSession) (n i : ℕ) (e : EnteredSession) (kept : Own) (bytes : List ℕ) → session_opening window hs n ≡ Some e → keeps_of e n ≡ Some kept → own_slice kept i ≡ Some bytes
       → kept_job window hs n i ≡ Some (job_with kept n i bytes)
   unfolding kept_job
-  job_of_kept hs n i e kept bytes found keeps slice =
-      ap (λ (o : Option EnteredSession). option_and_then (λ (kept : Own). job_by kept n i) (option_and_then (λ (e : EnteredSession). keeps_of e n) o)) found
-      ∙ ap (option_and_then (λ (kept : Own). job_by kept n i)) keeps
-      ∙ ap (option_map (job_with kept n i)) slice
+  job_of_kept hs n i e kept bytes found keeps slice = grind arith
 
   -- a job that is kept stays kept
   pub job_goes_on : (old new : List HeardSession) (n i : ℕ) (job : Job) → GoesOn window old new n → kept_job window old n i ≡ Some job → kept_job window new n i ≡ Some job
@@ -222,15 +190,7 @@ module _ (window : ℕ) where
 
 complete_own : (s : Sequence) (es : List Numbered) (n : ℕ) → complete_at s es n ≡ true → (kept : Own) × (own s (parts_of n es) ≡ Some kept) × (has_all_slices kept ≡ true)
 unfolding complete_at whole_picture
-complete_own s es n e = by_own (own s (parts_of n es)) refl e
-  where
-    by_all : (kept : Own) (b : Bool) → has_all_slices kept ≡ b → is_some (cond b (Some (all_bytes kept)) None) ≡ true → has_all_slices kept ≡ true
-    by_all kept true is e = is
-    by_all kept false is e = absurd (false≢true e)
-
-    by_own : (o : Option Own) → own s (parts_of n es) ≡ o → is_some (option_and_then whole_of o) ≡ true → (kept : Own) × (own s (parts_of n es) ≡ Some kept) × (has_all_slices kept ≡ true)
-    by_own None is e = absurd (false≢true e)
-    by_own (Some kept) is e = (kept, is, by_all kept (has_all_slices kept) refl e)
+complete_own s es n e = grind arith
 
 or_true : (b : Bool) → b || true ≡ true
 or_true true = refl

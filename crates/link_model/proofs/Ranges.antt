@@ -1,5 +1,5 @@
 -- Lists joined over a range of numbers: what is outside a longer range, and where one such list begins another.
-use Rattle.std.proofs.Common.{◌≡◌, ℕ, zero, suc, ◌+◌, ◌<◌, ◌≤◌, Bool, true, false, List, [], ◌∷◌, ◌++◌, refl, ap, sym, ◌∙◌, inl, inr, arith, cond}
+use Rattle.std.proofs.Common.{◌≡◌, ℕ, zero, suc, ◌+◌, ◌<◌, ◌≤◌, Bool, true, List, [], ◌∷◌, ◌++◌, refl, ap, sym, ◌∙◌, inl, inr, arith, cond}
 use Rattle.std.specs.Prelude.{◌⊎◌, filter}
 use Rattle.std.specs.List.{flat_map, range_with_len}
 use Rattle.std.proofs.lemmas.Bool.{cases_Bool, both_ways, false_from_ne_true, cond-true, cond-false}
@@ -9,29 +9,18 @@ use Rattle.link_model.specs.Output.{IsPrefixOf}
 
 pub filter_is : {X : Type 0} (p : X → Bool) (xs : List X) → filter p xs ≡ flat_map (λ x. cond (p x) (x ∷ []) []) xs
 filter_is p [] = refl
-filter_is {X = X} p (x ∷ xs) = by_test (p x) (filter_is p xs)
-  where
-    by_test : (b : Bool) → filter p xs ≡ flat_map (λ y. cond (p y) (y ∷ []) []) xs → cond b (x ∷ filter p xs) (filter p xs) ≡ cond b (x ∷ []) [] ++ flat_map (λ y. cond (p y) (y ∷ []) []) xs
-    by_test true rest = ap (λ (l : List X). x ∷ l) rest
-    by_test false rest = rest
+filter_is {X = X} p (x ∷ xs) = grind (arith, filter_is p xs)
 
 pub flat_map-filter : {X A : Type 0} (g : X → List A) (p : X → Bool) (xs : List X) → flat_map g (filter p xs) ≡ flat_map (λ x. cond (p x) (g x) []) xs
 flat_map-filter g p [] = refl
-flat_map-filter {A = A} g p (x ∷ xs) = by_test (p x) (flat_map-filter g p xs)
-  where
-    by_test : (b : Bool) → flat_map g (filter p xs) ≡ flat_map (λ y. cond (p y) (g y) []) xs → flat_map g (cond b (x ∷ filter p xs) (filter p xs)) ≡ cond b (g x) [] ++ flat_map (λ y. cond (p y) (g y) []) xs
-    by_test true rest = ap (λ (l : List A). g x ++ l) rest
-    by_test false rest = rest
+flat_map-filter {A = A} g p (x ∷ xs) = grind (arith, flat_map-filter g p xs)
 
 pub same_pieces : (g h : ℕ → List ℕ) → ((n : ℕ) → g n ≡ h n) → (xs : List ℕ) → flat_map g xs ≡ flat_map h xs
 same_pieces g h same [] = refl
 same_pieces g h same (x ∷ xs) = ap (λ (l : List ℕ). l ++ flat_map g xs) (same x) ∙ ap (λ (l : List ℕ). h x ++ l) (same_pieces g h same xs)
 
 range-append : (a m n : ℕ) → range_with_len a (m + n) ≡ range_with_len a m ++ range_with_len (a + m) n
-range-append a zero n =
-    let none : 0 + n ≡ n = omega arith in
-    let same : a ≡ a + 0 = omega arith in
-    ap (λ k. range_with_len a k) none ∙ ap (λ k. range_with_len k n) same
+range-append a zero n = grind arith
 range-append a (suc m) n =
     let one : suc m + n ≡ suc (m + n) = omega arith in
     let next : a + 1 + m ≡ a + suc m = omega arith in
@@ -45,14 +34,7 @@ module _ (piece : ℕ → List ℕ) where
 
   -- a longer range, outside of which there is nothing
   pub in_longer : (a n rest : ℕ) → ((k : ℕ) → (k < a) ⊎ (a + n ≤ k) → piece k ≡ []) → flat_map piece (range_with_len a n) ≡ flat_map piece (range_with_len 0 (a + n + rest))
-  in_longer a n rest outside = let none : 0 + a ≡ a = omega arith in sym (
-      ap (flat_map piece) (range-append 0 (a + n) rest ∙ ap (λ (l : List ℕ). l ++ range_with_len (0 + (a + n)) rest) (range-append 0 a n))
-      ∙ flat_map-append piece (range_with_len 0 a ++ range_with_len (0 + a) n) (range_with_len (0 + (a + n)) rest)
-      ∙ ap (λ (l : List ℕ). flat_map piece (range_with_len 0 a ++ range_with_len (0 + a) n) ++ l) (nothing_in (0 + (a + n)) rest (λ k above below. outside k (inr (omega arith))))
-      ∙ append-nil (flat_map piece (range_with_len 0 a ++ range_with_len (0 + a) n))
-      ∙ flat_map-append piece (range_with_len 0 a) (range_with_len (0 + a) n)
-      ∙ ap (λ (l : List ℕ). l ++ flat_map piece (range_with_len (0 + a) n)) (nothing_in 0 a (λ k above below. outside k (inl (omega arith))))
-      ∙ ap (λ k. flat_map piece (range_with_len k n)) none)
+  in_longer a n rest outside = grind (arith, append-nil, flat_map-append, nothing_in, range-append)
 
 -- pieces up to a place, and further pieces
 module _ (open_now open_later : ℕ → Bool) (now later : ℕ → List ℕ)

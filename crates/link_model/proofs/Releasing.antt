@@ -1,16 +1,16 @@
 -- A picture that is let go stays so, and nothing of it changes then.
-use Rattle.std.proofs.Common.{◌≡◌, ℕ, zero, suc, ◌+◌, ◌-◌, ◌%◌, ◌<◌, ◌≤◌, Bool, true, false, List, ◌++◌, Option, Some, None, refl, ap, subst, ◌∙◌, inl, inr, arith, cond}
-use Rattle.std.specs.Prelude.{is_some, ◌==◌}
+use Rattle.std.proofs.Common.{◌≡◌, ℕ, zero, suc, ◌+◌, ◌-◌, ◌<◌, ◌≤◌, Bool, true, false, List, ◌++◌, Some, refl, ap, subst, ◌∙◌, inl, inr, arith}
+use Rattle.std.specs.Prelude.{is_some}
 use Rattle.std.specs.List.{list_all, range_with_len}
 use Rattle.std.specs.Option.{option_and_then}
-use Rattle.std.proofs.lemmas.Bool.{and_parts, and_from, cases_lt, both_ways, false≢true}
+use Rattle.std.proofs.lemmas.Bool.{and_parts, and_from, cases_lt}
 use Rattle.link_model.specs.Complete.{whole_picture}
 use Rattle.link_model.specs.Numbers.{Numbered, greatest, parts_of, entered}
-use Rattle.link_model.specs.Output.{complete_at, planes_at, frame_at, frame_bytes_at, raw_bytes, is_let_go, woven_fields}
+use Rattle.link_model.specs.Output.{complete_at, planes_at, frame_at, frame_bytes_at, is_let_go}
 use Rattle.link_model.specs.Session.{Fragment}
 use Rattle.link_model.proofs.Keeping.{whole_picture-append}
 use Rattle.link_model.proofs.Numbering.{Follows, entered_follows}
-use Rattle.vc_types.specs.Planes.{Planes, decoded_planes}
+use Rattle.vc_types.specs.Planes.{decoded_planes}
 use Rattle.vc_types.specs.SequenceHeader.{Sequence}
 
 -- ---- ranges
@@ -50,10 +50,7 @@ module _ (window : ℕ) (s : Sequence) where
 
   -- what isn't let go is greater than all that is
   pub let_go_later_is_greater : (es : List Numbered) (n m : ℕ) → is_let_go window s es n ≡ true → is_let_go window s es m ≡ false → n < m
-  let_go_later_is_greater es n m gone kept = elim (cases_lt n m) [
-    | inl less ↦ less
-    | inr more ↦ absurd (both_ways (is_let_go window s es m) kept (let_go_before es n m more gone))
-  ]
+  let_go_later_is_greater es n m gone kept = grind (arith, let_go_before)
 
   module _ (old new : List Numbered) (later : Follows window old new) where
     whole_later : (n : ℕ) (bytes : List ℕ) → whole_picture s (parts_of n old) ≡ Some bytes → whole_picture s (parts_of n new) ≡ Some bytes
@@ -62,11 +59,7 @@ module _ (window : ℕ) (s : Sequence) where
     -- a picture that is complete keeps its bytes
     complete_same : (n : ℕ) → complete_at s old n ≡ true → whole_picture s (parts_of n new) ≡ whole_picture s (parts_of n old)
     unfolding complete_at
-    complete_same n complete = by_whole (whole_picture s (parts_of n old)) refl complete
-      where
-        by_whole : (o : Option (List ℕ)) → whole_picture s (parts_of n old) ≡ o → is_some o ≡ true → whole_picture s (parts_of n new) ≡ o
-        by_whole None is e = absurd (false≢true e)
-        by_whole (Some bytes) is e = whole_later n bytes is
+    complete_same n complete = grind (arith, whole_later)
 
     pub complete_later : (n : ℕ) → complete_at s old n ≡ true → complete_at s new n ≡ true
     unfolding complete_at
@@ -77,10 +70,7 @@ module _ (window : ℕ) (s : Sequence) where
 
     -- a picture that is let go stays as it is
     pub whole_same : (n : ℕ) → is_let_go window s old n ≡ true → whole_picture s (parts_of n new) ≡ whole_picture s (parts_of n old)
-    whole_same n gone = elim (cases_lt (greatest old) (n + window)) [
-      | inl unclosed ↦ complete_same n (let_go_at old n n gone unclosed (omega arith))
-      | inr closed ↦ ap (whole_picture s) (later.closed n closed)
-    ]
+    whole_same n gone = grind (arith, complete_same, let_go_at)
 
     pub planes_same : (n : ℕ) → is_let_go window s old n ≡ true → planes_at s new n ≡ planes_at s old n
     unfolding planes_at
@@ -89,17 +79,7 @@ module _ (window : ℕ) (s : Sequence) where
     -- and so does a frame whose last picture is let go
     pub frame_same : (n : ℕ) → is_let_go window s old n ≡ true → frame_bytes_at s new n ≡ frame_bytes_at s old n
     unfolding frame_bytes_at frame_at
-    frame_same n gone = by_mode s.fields (n % 2 == 1)
-      where
-        frame_of : List Numbered → Bool → Bool → Option Planes
-        frame_of es fields odd = cond fields (cond odd (woven_fields s.top_first (planes_at s es (n - 1)) (planes_at s es n)) None) (planes_at s es n)
-
-        by_mode : (fields odd : Bool) → raw_bytes s (frame_of new fields odd) ≡ raw_bytes s (frame_of old fields odd)
-        by_mode true true =
-            ap (λ (p : Option Planes). raw_bytes s (woven_fields s.top_first p (planes_at s new n))) (planes_same (n - 1) (let_go_before old n (n - 1) (omega arith) gone))
-            ∙ ap (λ (p : Option Planes). raw_bytes s (woven_fields s.top_first (planes_at s old (n - 1)) p)) (planes_same n gone)
-        by_mode true false = refl
-        by_mode false odd = ap (raw_bytes s) (planes_same n gone)
+    frame_same n gone = grind (arith, let_go_before, planes_same)
 
 -- ---- the same, of fragments
 

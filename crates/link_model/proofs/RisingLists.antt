@@ -1,9 +1,7 @@
 -- Numbers in rising order: what holds of each, which of them are in a list, and what a list begins
 -- with.
-use Rattle.std.proofs.Common.{◌≡◌, ◌≢◌, ℕ, zero, suc, ◌+◌, ◌<◌, ◌≤◌, Bool, true, false, cond}
-use Rattle.std.proofs.Common.{List, [], ◌∷◌, ◌++◌, refl, ap, subst, ◌∙◌}
-use Rattle.std.proofs.Common.{arith}
-use Rattle.std.proofs.Common.{eqb-true, eq-eqb}
+use Rattle.std.proofs.Common.{◌≡◌, ◌≢◌, ℕ, zero, suc, ◌+◌, ◌<◌, ◌≤◌, Bool, true, false, cond, List}
+use Rattle.std.proofs.Common.{[], ◌∷◌, ◌++◌, refl, ap, subst, ◌∙◌, eq-eqb, arith}
 use Rattle.std.specs.Prelude.{◌==◌, ◌||◌, not, filter}
 use Rattle.std.specs.List.{flat_map, range_with_len}
 use Rattle.std.proofs.lemmas.Bool.{false≢true, both_ways}
@@ -38,27 +36,15 @@ each_back P (x ∷ xs) ys all = each_back P xs ys all.1
 
 pub each_passes : (p : ℕ → Bool) (xs : List ℕ) → Each (λ n. p n ≡ true) (filter p xs)
 each_passes p [] = tt
-each_passes p (x ∷ xs) = by_test (p x) refl (each_passes p xs)
-  where
-    by_test : (b : Bool) → p x ≡ b → Each (λ n. p n ≡ true) (filter p xs) → Each (λ n. p n ≡ true) (cond b (x ∷ filter p xs) (filter p xs))
-    by_test true is rest = (is, rest)
-    by_test false is rest = rest
+each_passes p (x ∷ xs) = grind (arith, each_passes p xs)
 
 pub each_filter : (P : ℕ → Type 0) (p : ℕ → Bool) (xs : List ℕ) → Each P xs → Each P (filter p xs)
 each_filter P p [] all = tt
-each_filter P p (x ∷ xs) all = by_test (p x) all.0 (each_filter P p xs all.1)
-  where
-    by_test : (b : Bool) → P x → Each P (filter p xs) → Each P (cond b (x ∷ filter p xs) (filter p xs))
-    by_test true here rest = (here, rest)
-    by_test false here rest = rest
+each_filter P p (x ∷ xs) all = grind (arith, each_filter P p xs all.1)
 
 pub filter_rising : (p : ℕ → Bool) (xs : List ℕ) → IsRising xs → IsRising (filter p xs)
 filter_rising p [] rising = tt
-filter_rising p (x ∷ xs) rising = by_test (p x) (each_filter (λ y. x < y) p xs rising.0) (filter_rising p xs rising.1)
-  where
-    by_test : (b : Bool) → Each (λ y. x < y) (filter p xs) → IsRising (filter p xs) → IsRising (cond b (x ∷ filter p xs) (filter p xs))
-    by_test true above rest = (above, rest)
-    by_test false above rest = rest
+filter_rising p (x ∷ xs) rising = grind (arith, each_filter, filter_rising p xs rising.1)
 
 -- ---- ranges
 
@@ -81,11 +67,7 @@ append_rising bound (x ∷ xs) ys a b below above =
 
 pub among_each : (P : ℕ → Type 0) (xs : List ℕ) (n : ℕ) → Each P xs → is_among xs n ≡ true → P n
 among_each P [] n all e = absurd (false≢true e)
-among_each P (x ∷ xs) n all e = by_here (x == n) refl e (among_each P xs n all.1)
-  where
-    by_here : (b : Bool) → x == n ≡ b → b || is_among xs n ≡ true → (is_among xs n ≡ true → P n) → P n
-    by_here true is e rest = subst P (eqb-true x n is) all.0
-    by_here false is e rest = rest e
+among_each P (x ∷ xs) n all e = grind (arith, among_each P xs n all.1)
 
 pub among_range : (a len n : ℕ) → a ≤ n → n < a + len → is_among (range_with_len a len) n ≡ true
 among_range a zero n low high = absurd (omega (arith, low, high))
@@ -97,52 +79,27 @@ among_range a (suc len) n low high = by_here (a == n) refl (λ more. among_range
 
 pub among_filter : (p : ℕ → Bool) (xs : List ℕ) (n : ℕ) → p n ≡ true → is_among xs n ≡ true → is_among (filter p xs) n ≡ true
 among_filter p [] n passes e = e
-among_filter p (x ∷ xs) n passes e = by_here (x == n) refl (p x) refl e (among_filter p xs n passes)
-  where
-    by_here : (b : Bool) → x == n ≡ b → (c : Bool) → p x ≡ c → b || is_among xs n ≡ true → (is_among xs n ≡ true → is_among (filter p xs) n ≡ true) → is_among (cond c (x ∷ filter p xs) (filter p xs)) n ≡ true
-    by_here true is true at e rest = ap (λ (b : Bool). b || is_among (filter p xs) n) is
-    by_here true is false at e rest = absurd (both_ways (p x) at (ap p (eqb-true x n is) ∙ passes))
-    by_here false is true at e rest = ap (λ (b : Bool). b || is_among (filter p xs) n) is ∙ rest e
-    by_here false is false at e rest = rest e
+among_filter p (x ∷ xs) n passes e = grind (arith, among_filter p xs n passes)
 
 pub among_front : (xs ys : List ℕ) (n : ℕ) → is_among xs n ≡ true → is_among (xs ++ ys) n ≡ true
 among_front [] ys n e = absurd (false≢true e)
-among_front (x ∷ xs) ys n e = by_here (x == n) e (among_front xs ys n)
-  where
-    by_here : (b : Bool) → b || is_among xs n ≡ true → (is_among xs n ≡ true → is_among (xs ++ ys) n ≡ true) → b || is_among (xs ++ ys) n ≡ true
-    by_here true e rest = refl
-    by_here false e rest = rest e
+among_front (x ∷ xs) ys n e = grind (arith, among_front xs ys n)
 
 pub among_back : (xs ys : List ℕ) (n : ℕ) → is_among ys n ≡ true → is_among (xs ++ ys) n ≡ true
 among_back [] ys n e = e
-among_back (x ∷ xs) ys n e = by_here (x == n) (among_back xs ys n e)
-  where
-    by_here : (b : Bool) → is_among (xs ++ ys) n ≡ true → b || is_among (xs ++ ys) n ≡ true
-    by_here true rest = refl
-    by_here false rest = rest
+among_back (x ∷ xs) ys n e = grind (arith, among_back xs ys n e)
 
 -- what isn't behind a number of a rising list, and is in the list, is before it
 pub among_before : (front rest : List ℕ) (n k : ℕ) → IsRising (front ++ n ∷ rest) → k < n → is_among (front ++ n ∷ rest) k ≡ true → is_among front k ≡ true
-among_before [] rest n k rising less e = by_here (n == k) refl e
-  where
-    by_here : (b : Bool) → n == k ≡ b → b || is_among rest k ≡ true → is_among [] k ≡ true
-    by_here true is e = (let same = eqb-true n k is in absurd (omega (arith, same, less)))
-    by_here false is e = (let above = among_each (λ y. n < y) rest k rising.0 e in absurd (omega (arith, above, less)))
-among_before (x ∷ front) rest n k rising less e = by_here (x == k) e (among_before front rest n k rising.1 less)
-  where
-    by_here : (b : Bool) → b || is_among (front ++ n ∷ rest) k ≡ true → (is_among (front ++ n ∷ rest) k ≡ true → is_among front k ≡ true) → b || is_among front k ≡ true
-    by_here true e rest = refl
-    by_here false e rest = rest e
+among_before [] rest n k rising less e = grind (arith, among_each)
+among_before (x ∷ front) rest n k rising less e =
+    grind (arith, among_before front rest n k rising.1 less)
 
 -- ---- what is left of a rising list without its front
 
 above_front : (xs : List ℕ) (n : ℕ) → Each (λ x. x < n) xs → is_among xs n ≡ false
 above_front [] n below = refl
-above_front (x ∷ xs) n below = by_here (x == n) refl (above_front xs n below.1)
-  where
-    by_here : (b : Bool) → x == n ≡ b → is_among xs n ≡ false → b || is_among xs n ≡ false
-    by_here true is rest = (let same = eqb-true x n is in let low = below.0 in absurd (omega (arith, same, low)))
-    by_here false is rest = rest
+above_front (x ∷ xs) n below = grind (arith, above_front xs n below.1)
 
 below_rest : (xs ys : List ℕ) → IsRising (xs ++ ys) → Each (λ n. Each (λ x. x < n) xs) ys
 below_rest [] ys rising = trivial ys
@@ -177,11 +134,7 @@ each_among front (x ∷ xs) = (
 
 filter_apart : (p : ℕ → Bool) (xs ys : List ℕ) → filter p (xs ++ ys) ≡ filter p xs ++ filter p ys
 filter_apart p [] ys = refl
-filter_apart p (x ∷ xs) ys = by_test (p x) (filter_apart p xs ys)
-  where
-    by_test : (b : Bool) → filter p (xs ++ ys) ≡ filter p xs ++ filter p ys → cond b (x ∷ filter p (xs ++ ys)) (filter p (xs ++ ys)) ≡ cond b (x ∷ filter p xs) (filter p xs) ++ filter p ys
-    by_test true rest = ap (λ (l : List ℕ). x ∷ l) rest
-    by_test false rest = rest
+filter_apart p (x ∷ xs) ys = grind (arith, filter_apart p xs ys)
 
 -- what isn't among the first is what follows them
 pub not_released_is : (released rest : List ℕ) → IsRising (released ++ rest) → not_released released (released ++ rest) ≡ rest

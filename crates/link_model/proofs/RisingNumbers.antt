@@ -4,7 +4,7 @@ use Rattle.std.specs.Prelude.{nat_le, not, ◌&&◌, filter}
 use Rattle.std.specs.List.{flat_map, range_with_len, last_or}
 use Rattle.std.specs.Option.{option_and_then}
 use Rattle.std.proofs.Math.Seq.{drop-append_seam}
-use Rattle.std.proofs.lemmas.Bool.{cond-true, cond-false, le-leb, lt-leb, and_right, both_ways, false_from_ne_true}
+use Rattle.std.proofs.lemmas.Bool.{cond-true, cond-false, le-leb, lt-leb, and_right}
 use Rattle.link_model.specs.Numbers.{Numbered, is_opened, opened_numbers}
 use Rattle.link_model.specs.Windows.{first_of, released_up_to}
 use Rattle.link_model.proofs.Leaving.{past, passing, passing-over}
@@ -20,40 +20,25 @@ numbers_over test a m = flat_map (number_if test) (range_with_len a m)
 
 pub same_numbers : (test other : ℕ → Bool) (a m : ℕ) → ((k : ℕ) → test k ≡ other k) → numbers_over test a m ≡ numbers_over other a m
 same_numbers test other a zero same = refl
-same_numbers test other a (suc m) same =
-    ap (λ (b : Bool). cond b (a ∷ []) [] ++ numbers_over test (a + 1) m) (same a)
-    ∙ ap (λ (l : List ℕ). number_if other a ++ l) (same_numbers test other (a + 1) m same)
+same_numbers test other a (suc m) same = grind (arith, same_numbers test other (a + 1) m same)
 
 pub no_numbers : (test : ℕ → Bool) (a m : ℕ) → ((k : ℕ) → a ≤ k → test k ≡ false) → numbers_over test a m ≡ []
 no_numbers test a m each = nothing_in (number_if test) a m (λ k from to. cond-false (test k) (k ∷ []) [] (each k from))
 
 pub fewer_numbers : (test keep : ℕ → Bool) (a m : ℕ) → filter keep (numbers_over test a m) ≡ numbers_over (λ k. test k && keep k) a m
 fewer_numbers test keep a zero = refl
-fewer_numbers test keep a (suc m) = by_test (test a) (numbers_over test (a + 1) m) (numbers_over (λ k. test k && keep k) (a + 1) m) (fewer_numbers test keep (a + 1) m)
-  where
-    by_keep : (passes : Bool) (kept left : List ℕ) → kept ≡ left → cond passes (a ∷ kept) kept ≡ cond passes (a ∷ []) [] ++ left
-    by_keep true kept left same = ap (λ (l : List ℕ). a ∷ l) same
-    by_keep false kept left same = same
-
-    by_test : (b : Bool) (rest left : List ℕ) → filter keep rest ≡ left → filter keep (cond b (a ∷ []) [] ++ rest) ≡ cond (b && keep a) (a ∷ []) [] ++ left
-    by_test true rest left same = by_keep (keep a) (filter keep rest) left same
-    by_test false rest left same = same
+fewer_numbers test keep a (suc m) = grind (arith, fewer_numbers test keep (a + 1) m)
 
 -- the opened pictures that pass a test
 pub opened_over : (es : List Numbered) (test : ℕ → Bool) (n rest : ℕ) → past es + rest ≡ n → filter test (opened_numbers es) ≡ numbers_over (λ k. is_opened es k && test k) 0 n
 opened_over es test n rest size = passing-over es test n rest size ∙ same_over (range_with_len 0 n)
   where
     by_tests : (k : ℕ) (was passes : Bool) → cond passes (cond was (k ∷ []) []) [] ≡ cond (was && passes) (k ∷ []) []
-    by_tests k true true = refl
-    by_tests k true false = refl
-    by_tests k false true = refl
-    by_tests k false false = refl
+    by_tests k o b = grind arith
 
     same_over : (ks : List ℕ) → flat_map (passing es test) ks ≡ flat_map (number_if (λ k. is_opened es k && test k)) ks
     same_over [] = refl
-    same_over (k ∷ ks) =
-        ap (λ (l : List ℕ). l ++ flat_map (passing es test) ks) (by_tests k (is_opened es k) (test k))
-        ∙ ap (λ (l : List ℕ). number_if (λ k. is_opened es k && test k) k ++ l) (same_over ks)
+    same_over (k ∷ ks) = grind (arith, by_tests, passing, same_over ks)
 
 -- ---- the first of them
 
@@ -61,16 +46,7 @@ opened_over es test n rest size = passing-over es test n rest size ∙ same_over
 module _ (test go : ℕ → Bool) (down : (f g : ℕ) → f ≤ g → go g ≡ true → go f ≡ true) where
   pub first_that : (a m : ℕ) → first_of (numbers_over (λ k. test k && go k) a m) ≡ option_and_then (λ k. cond (go k) (Some k) None) (first_of (numbers_over test a m))
   first_that a zero = refl
-  first_that a (suc m) = by_tests (test a) (go a) refl (first_that (a + 1) m)
-    where
-      by_tests : (b goes : Bool) → go a ≡ goes
-          → first_of (numbers_over (λ k. test k && go k) (a + 1) m) ≡ option_and_then (λ k. cond (go k) (Some k) None) (first_of (numbers_over test (a + 1) m))
-          → first_of (cond (b && goes) (a ∷ []) [] ++ numbers_over (λ k. test k && go k) (a + 1) m) ≡ option_and_then (λ k. cond (go k) (Some k) None) (first_of (cond b (a ∷ []) [] ++ numbers_over test (a + 1) m))
-      by_tests false goes is rest = rest
-      by_tests true true is rest = sym (cond-true (go a) (Some a) None is)
-      by_tests true false is rest =
-          ap first_of (no_numbers (λ k. test k && go k) (a + 1) m (λ k from. and_right (test k) (go k) (false_from_ne_true (go k) (λ goes. both_ways (go a) is (down a k (omega (arith, from)) goes)))))
-          ∙ sym (cond-false (go a) (Some a) None is)
+  first_that a (suc m) = grind (arith, and_right, no_numbers, first_that (a + 1) m)
 
 -- ---- numbers that rise
 
@@ -84,11 +60,7 @@ rises_from a b (n ∷ ns) less rises = (omega (arith, less, rises.0), rises.1)
 
 numbers_rise : (test : ℕ → Bool) (a m : ℕ) → Rises a (numbers_over test a m)
 numbers_rise test a zero = tt
-numbers_rise test a (suc m) = by_test (test a) (numbers_rise test (a + 1) m)
-  where
-    by_test : (b : Bool) → Rises (a + 1) (numbers_over test (a + 1) m) → Rises a (cond b (a ∷ []) [] ++ numbers_over test (a + 1) m)
-    by_test true rest = (omega arith, rest)
-    by_test false rest = rises_from a (a + 1) (numbers_over test (a + 1) m) (omega arith) rest
+numbers_rise test a (suc m) = grind (arith, rises_from, numbers_rise test (a + 1) m)
 
 abbrev pub is_behind : Option ℕ → ℕ → Bool
 is_behind last k = not (released_up_to last k)

@@ -4,7 +4,7 @@ use Rattle.std.specs.Prelude.{replicate}
 use Rattle.std.proofs.lemmas.List.{get_or-replicate, length-replicate}
 use mathlib.Core.Logic.{dite}
 use native.Mathlib.Decide.{ℕ_discrete}
-use Rattle.link_model.specs.Rounds.{BoardStep, PutStep, ClaimStep, CompleteStep, TakeStep, WithdrawStep, StepAt, Turns, AreSteps, steps_at, AreRounds}
+use Rattle.link_model.specs.Rounds.{BoardStep, StepAt, Turns, AreSteps, steps_at, AreRounds}
 use Rattle.link_model.specs.declared.place_state.PlaceState.{PlaceState}
 use Rattle.link_model.specs.declared.place_state.PlaceState.TheVariants.{Empty, Waiting, Held, Done}
 
@@ -18,26 +18,7 @@ Shows word Done = (s : ℕ) × (word ≡ 4 * s + 3)
 -- one step of the place goes on in its round
 goes_on : (old new : ℕ) (state : PlaceState) (step : BoardStep) (steps : List BoardStep) → Shows old state → Turns old step new
     → ((next : PlaceState) → Shows new next → AreRounds next steps) → AreRounds state (step ∷ steps)
-goes_on old new Empty PutStep steps f t go = go Waiting (t.0 + 1, t.2)
-goes_on old new Empty (ClaimStep seat) steps f t go = let a = f.1 in let b = t.1 in absurd (omega arith)
-goes_on old new Empty CompleteStep steps f t go = let a = f.1 in let b = t.1 in absurd (omega arith)
-goes_on old new Empty TakeStep steps f t go = let a = f.1 in let b = t.1 in absurd (omega arith)
-goes_on old new Empty WithdrawStep steps f t go = let a = f.1 in let b = t.1 in absurd (omega arith)
-goes_on old new Waiting PutStep steps f t go = let a = f.1 in let b = t.1 in absurd (omega arith)
-goes_on old new Waiting (ClaimStep seat) steps f t go = go Held (t.0, t.2)
-goes_on old new Waiting CompleteStep steps f t go = let a = f.1 in let b = t.1 in absurd (omega arith)
-goes_on old new Waiting TakeStep steps f t go = let a = f.1 in let b = t.1 in absurd (omega arith)
-goes_on old new Waiting WithdrawStep steps f t go = go Empty (t.0, t.2)
-goes_on old new Held PutStep steps f t go = let a = f.1 in let b = t.1 in absurd (omega arith)
-goes_on old new Held (ClaimStep seat) steps f t go = let a = f.1 in let b = t.1 in absurd (omega arith)
-goes_on old new Held CompleteStep steps f t go = go Done (t.0, t.2)
-goes_on old new Held TakeStep steps f t go = let a = f.1 in let b = t.1 in absurd (omega arith)
-goes_on old new Held WithdrawStep steps f t go = let a = f.1 in let b = t.1 in absurd (omega arith)
-goes_on old new Done PutStep steps f t go = let a = f.1 in let b = t.1 in absurd (omega arith)
-goes_on old new Done (ClaimStep seat) steps f t go = let a = f.1 in let b = t.1 in absurd (omega arith)
-goes_on old new Done CompleteStep steps f t go = let a = f.1 in let b = t.1 in absurd (omega arith)
-goes_on old new Done TakeStep steps f t go = go Empty (t.0, t.2)
-goes_on old new Done WithdrawStep steps f t go = let a = f.1 in let b = t.1 in absurd (omega arith)
+goes_on old new o b steps f t go = grind arith
 
 rounds_from : (es : List StepAt) (words : List ℕ) (place : ℕ) (state : PlaceState) → place < length words → Shows (get_or words place 0) state → AreSteps words es → AreRounds state (steps_at place es)
 rounds_from [] words place state h f s = tt

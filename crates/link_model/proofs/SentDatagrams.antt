@@ -1,11 +1,10 @@
 -- A datagram that was sent is read back as what it carries.
-use Rattle.std.proofs.Common.{◌≡◌, ◌<◌, ◌≤◌, ℕ, ◌+◌, ◌*◌, ◌/◌, ◌%◌, ◌^◌, Bool, true, false, List, [], ◌++◌, length, take, Ok, refl, sym, ap, ◌∙◌, arith, cond}
+use Rattle.std.proofs.Common.{◌≡◌, ◌<◌, ◌≤◌, ℕ, ◌+◌, ◌*◌, ◌/◌, ◌^◌, true, List, [], ◌++◌, length, take, Ok, sym, ap, ◌∙◌, arith}
 use Rattle.std.specs.Prelude.{slice_range}
 use Rattle.std.proofs.Math.Nat.{div-lt_iff_lt-mul, mul_comm}
 use Rattle.std.proofs.lemmas.List.{append-nil, take_all}
-use Rattle.link_model.specs.Packets.{RtpPacket, RtpFits, rtp_packet, rtp_header, PayloadValue, Header, payload, payload_bytes, IsWritable, HeadFits, read_back}
-use Rattle.link_model.specs.Sending.{Outgoing, DatagramContent, HeaderContent, ParametersContent, SlicesContent, EndContent, sent_value, sent_packet, sent_datagram, sent_head, timestamp_of, high_half, AreSettings, FitsDatagram}
-use Rattle.link_model.specs.SendingPictures.{sent_header}
+use Rattle.link_model.specs.Packets.{RtpPacket, RtpFits, rtp_packet, rtp_header, PayloadValue, payload, payload_bytes, IsWritable, HeadFits, read_back}
+use Rattle.link_model.specs.Sending.{Outgoing, DatagramContent, HeaderContent, ParametersContent, SlicesContent, EndContent, sent_value, sent_packet, sent_datagram, sent_head, timestamp_of, AreSettings, FitsDatagram}
 use Rattle.link_model.specs.Session.{received, of_packet, of_payload}
 use Rattle.link_model.proofs.WrittenPackets.{rtp_packet-rtp_header}
 use Rattle.link_model.proofs.WrittenPayloads.{payload-payload_bytes}
@@ -17,11 +16,7 @@ use Rattle.vc_types.specs.Settings.{within}
 
 timestamp_small : (s : Sending) (picture : ℕ) → timestamp_of s picture < 2 ^ 32
 unfolding timestamp_of
-timestamp_small s picture = by_fields s.frames.fields
-  where
-    by_fields : (b : Bool) → (cond b ((picture / 2 * s.tick + picture % 2 * (s.tick / 2)) % 2 ^ 32) (picture * s.tick % 2 ^ 32)) < 2 ^ 32
-    by_fields true = omega arith
-    by_fields false = omega arith
+timestamp_small s picture = grind arith
 
 packet_fits : (s : Sending) (number : ℕ) (o : Outgoing) (bytes : ℕ) → AreSettings s → RtpFits (sent_packet s number o bytes)
 unfolding sent_packet
@@ -31,12 +26,7 @@ head_fits : (s : Sending) (number picture : ℕ) → AreSettings s → HeadFits 
 head_fits s number picture are = record { high = omega arith; number = omega arith; prefix = are.prefix; scaler = are.scaler }
 
 row_below : (first across down : ℕ) → 1 ≤ across → first < across * down → down < 2 ^ 16 → first / across < 2 ^ 16
-row_below first across down some below small =
-    let row : first / across < down = (div-lt_iff_lt-mul {k = across} {x = first} {y = down} (omega arith)).1 (omega (arith, below, times across down)) in
-    omega (arith, row)
-  where
-    times : (a b : ℕ) → a * b ≡ b * a
-    times a b = mul_comm a b
+row_below first across down some below small = grind (arith, div-lt_iff_lt-mul, mul_comm)
 
 is_writable : (s : Sending) (number picture : ℕ) (c : DatagramContent) → AreSettings s → FitsDatagram s c → IsWritable (sent_value s number (record { picture = picture; content = c }))
 unfolding sent_value
@@ -47,10 +37,7 @@ is_writable s number picture EndContent are fits = omega arith
 
 same_back : (s : Sending) (number picture : ℕ) (c : DatagramContent) → read_back (sent_value s number (record { picture = picture; content = c })) [] ≡ sent_value s number (record { picture = picture; content = c })
 unfolding sent_value
-same_back s number picture HeaderContent = ap (λ (b : List ℕ). Header (high_half number) 4 b) (append-nil (sent_header s))
-same_back s number picture ParametersContent = refl
-same_back s number picture (SlicesContent run) = refl
-same_back s number picture EndContent = refl
+same_back s number picture o = grind (arith, append-nil)
 
 payload_back : (s : Sending) (number picture : ℕ) (c : DatagramContent) → AreSettings s → FitsDatagram s c → payload (payload_bytes (sent_value s number (record { picture = picture; content = c }))) ≡ Ok (sent_value s number (record { picture = picture; content = c }))
 payload_back s number picture c are fits =
@@ -94,15 +81,7 @@ down_small across down h = grind (arith, nat_tests)
 
 -- settings that exist have fields of these bits
 pub are_settings : (settings : SendSettings) → settings.ssrc < 2 ^ 32 → AreSettings (sending_view settings)
-are_settings settings small = record {
-  payload_type = omega (arith, settings.payload_type);
-  ssrc = small;
-  prefix = omega (arith, settings.prefix_fits);
-  scaler = scaler_small settings.scaler settings.scaler_fits;
-  across = across_small settings.slices_x settings.slices_y settings.slices;
-  some_across = some_across settings.slices_x settings.slices_y settings.slices;
-  down = down_small settings.slices_x settings.slices_y settings.slices;
-}
+are_settings settings small = grind (arith, across_small, down_small, scaler_small, some_across)
 
 pub datagram_back : (settings : SendSettings) (number : ℕ) (o : Outgoing) → settings.ssrc < 2 ^ 32 → FitsDatagram (sending_view settings) o.content
     → received (sent_datagram (sending_view settings) number o) ≡ Ok (record { ssrc = settings.ssrc; value = sent_value (sending_view settings) number o })

@@ -1,11 +1,9 @@
 -- The sequence header and the transform parameters that are sent are read again.
-use Rattle.std.proofs.Common.{◌≡◌, ◌≤◌, ◌+◌, ◌*◌, ◌∙◌, ap, ℕ, zero, suc, Bool, true, cond, List, [], ◌++◌, length, Some, None, Ok, refl, arith}
+use Rattle.std.proofs.Common.{◌≡◌, ◌≤◌, ◌∙◌, ap, ℕ, zero, suc, Bool, true, cond, List, [], ◌++◌, length, Some, None, Ok, refl, arith}
 use Rattle.std.specs.Prelude.{IsTrue, unwrap_or, nat_le, ◌&&◌}
-use Rattle.std.proofs.lemmas.Bool.{le-leb, leb-true, and_parts, and_from}
 use Rattle.link_model.specs.SendingPictures.{sent_sequence, sent_header, sent_parameters, sent_parameter_bytes}
 use Rattle.vc_types.specs.declared.settings.SendSettings.{SendSettings}
-use Rattle.vc_types.specs.Limits.{matrix_fits, slice_bytes_fit, padded, padded_luma_fits}
-use Rattle.vc_types.specs.Video.{picture_height}
+use Rattle.vc_types.specs.Limits.{matrix_fits, slice_bytes_fit, padded_luma_fits}
 use Rattle.vc_types.specs.HeaderSpelling.{IsEncoderHeader, header_bits, encoder_header}
 use Rattle.vc_types.specs.ParameterSpelling.{parameter_bits, encoder_parameters}
 use Rattle.vc_types.specs.Quantisation.{default_matrix}
@@ -83,15 +81,11 @@ module _ (settings : SendSettings) where
     most : number ≤ high
 
   between : (low high number : ℕ) → IsTrue (nat_le low number && nat_le number high) → IsBetween low high number
-  between low high number fits =
-      let both = and_parts (nat_le low number) (nat_le number high) fits in
-      record { least = leb-true low number both.0; most = leb-true number high both.1 }
+  between low high number fits = grind arith
 
   form : IsEncoderHeader (sent_sequence s)
   unfolding sent_sequence
-  form =
-      let range = between 1 4 settings.range settings.range_is_known in
-      record { major = refl; minor = refl; level = refl; base = refl; scan = refl; range = (settings.range, range.least, range.most, refl) }
+  form = grind (arith, between)
 
   -- whatever follows it
   pub coded_header-sent : (behind : List ℕ) → coded_header (sent_header s ++ behind) ≡ Ok (sent_sequence s, length (sent_header s))
@@ -99,17 +93,11 @@ module _ (settings : SendSettings) where
   coded_header-sent behind = header_again (sent_sequence s) (sent_header s) behind form settings.dimensions (bits_of-filled (header_bits (encoder_header (sent_sequence s))))
 
   slice_bytes : slice_bytes_fit settings.prefix settings.scaler ≡ true
-  slice_bytes =
-      let scaler = between 1 255 settings.scaler settings.scaler_fits in
-      let prefix : settings.prefix ≤ 65535 = omega (arith, settings.prefix_fits) in
-      let most : settings.scaler ≤ 65535 = omega (arith, scaler.most) in
-      and_from _ _ (and_from _ _ (le-leb settings.prefix 65535 prefix) (le-leb 1 settings.scaler scaler.least)) (le-leb settings.scaler 65535 most)
+  slice_bytes = grind (arith, between)
 
   padded_luma : padded_luma_fits (picture_shape (sent_sequence s)) 0 settings.depth ≡ true
   unfolding picture_shape sent_sequence
-  padded_luma =
-      let none : settings.depth + 0 ≡ settings.depth = omega arith in
-      ap (λ (d : ℕ). nat_le (padded settings.width d * padded (picture_height settings.fields settings.height) settings.depth) 8912896) none ∙ settings.padded_luma
+  padded_luma = grind arith
 
   pub plan : IsPlan (sent_parameters s)
   unfolding sent_parameters sent_sequence picture_shape

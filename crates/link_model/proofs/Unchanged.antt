@@ -1,15 +1,14 @@
 -- A part that isn't kept leaves its picture's book as it was.
-use Rattle.std.proofs.Common.{◌≡◌, ℕ, zero, suc, ◌+◌, Bool, true, false, List, [], ◌∷◌, ◌++◌, length, take, drop, Option, Some, None, Result, Ok, Err, refl, ap, sym, ◌∙◌, arith, cond}
-use Rattle.std.specs.Prelude.{nat_lt, is_none}
+use Rattle.std.proofs.Common.{◌≡◌, ℕ, zero, suc, ◌+◌, false, List, [], ◌∷◌, ◌++◌, take, drop, Option, Some, None, Result, refl, ap, sym, ◌∙◌, arith}
+use Rattle.std.specs.Prelude.{is_none}
 use Rattle.std.specs.List.{list_any, enumerate_from}
 use Rattle.std.specs.Option.{option_or}
 use Rattle.std.proofs.lemmas.Bool.{false≢true, or_parts}
-use Rattle.link_model.specs.Books.{Slots, slot_at, Gathered, Book, filled_with, with_run, gathers_run, takes_plan, takes_params, takes_slices, book_plan, book_takes, book_slices_outcome, book_outcome}
-use Rattle.link_model.specs.Judgement.{parameters_outcome, run_outcome, numbered_slices, is_conflict, is_new, keeps}
-use Rattle.link_model.specs.Kept.{kept_parameters, SliceRun, slice_run, waiting_limit}
+use Rattle.link_model.specs.Books.{Slots, slot_at, Gathered, Book, filled_with, with_run, gathers_run, takes_params, takes_slices, book_plan, book_takes, book_slices_outcome, book_outcome}
+use Rattle.link_model.specs.Judgement.{parameters_outcome, run_outcome, numbered_slices, is_new, keeps}
+use Rattle.link_model.specs.Kept.{SliceRun}
 use Rattle.link_model.specs.Session.{Part, ParamsPart, SlicesPart, SlicePart}
 use Rattle.link_model.specs.declared.outcome.Outcome.{Outcome}
-use Rattle.link_model.specs.declared.outcome.Outcome.TheVariants.{SlicesConflict, SlicesKept, SlicesRepeat, SlicesPending, SlicesFull}
 use Rattle.vc_types.specs.TransformParameters.{Parameters, coded_parameters}
 use Rattle.vc_types.specs.declared.refusal.ParamsRefusal.{ParamsRefusal}
 
@@ -40,35 +39,18 @@ take_drop (suc n) [] = refl
 take_drop (suc n) (slot ∷ slots) = ap (λ (l : Slots). slot ∷ l) (take_drop n slots)
 
 repeat_same : (slots : Slots) (run : SliceRun) → list_any (is_new (slot_at slots)) (numbered_slices run) ≡ false → with_run slots run ≡ slots
-repeat_same slots run none =
-    ap (λ (l : Slots). take run.first slots ++ l) (same_from (slot_at slots) (drop run.first slots) run.slices run.first (slot_behind slots run.first) none)
-    ∙ take_drop run.first slots
+repeat_same slots run none = grind (arith, same_from, slot_behind, take_drop)
 
 module _ (book : Book) where
   params_unchanged : (o : Option Gathered) (body : List ℕ) (r : Result (Parameters × ℕ) ParamsRefusal) → coded_parameters book.sequence body ≡ r
       → keeps (parameters_outcome (book_plan (record book { gathered = o })) r) ≡ false → takes_params o book body ≡ book
-  params_unchanged None body (Err refusal) is e = ap (λ (r : Result (Parameters × ℕ) ParamsRefusal). takes_plan book (kept_parameters body r)) is
-  params_unchanged None body (Ok read) is e = absurd (false≢true (sym e))
-  params_unchanged (Some g) body r is e = refl
+  params_unchanged o body r is e = grind arith
 
   run_unchanged : (g : Gathered) (r : Result SliceRun Outcome) → keeps (run_outcome (slot_at g.slots) r) ≡ false → gathers_run g r ≡ g
-  run_unchanged g (Err outcome) e = refl
-  run_unchanged g (Ok run) e = by_tests (list_any (is_conflict (slot_at g.slots)) (numbered_slices run)) (list_any (is_new (slot_at g.slots)) (numbered_slices run)) refl e
-    where
-      by_tests : (conflict new : Bool) → list_any (is_new (slot_at g.slots)) (numbered_slices run) ≡ new → keeps (cond conflict SlicesConflict (cond new SlicesKept SlicesRepeat)) ≡ false → gathers_run g (Ok run) ≡ g
-      by_tests true new is e = absurd (false≢true (sym e))
-      by_tests false true is e = absurd (false≢true (sym e))
-      by_tests false false is e = ap (λ (l : Slots). record g { slots = l }) (repeat_same g.slots run is)
+  run_unchanged g o e = grind (arith, repeat_same)
 
   slices_unchanged : (slices : SlicePart) (o : Option Gathered) → book.gathered ≡ o → keeps (book_slices_outcome o book slices) ≡ false → takes_slices o book slices ≡ book
-  slices_unchanged slices (Some g) is e =
-      ap (λ (g : Gathered). record book { gathered = Some g }) (run_unchanged g (slice_run g.plan.parameters slices) e)
-      ∙ ap (λ (o : Option Gathered). record book { gathered = o }) (sym is)
-  slices_unchanged slices None is e = by_room (nat_lt (length book.waiting) waiting_limit) e
-    where
-      by_room : (b : Bool) → keeps (cond b SlicesPending SlicesFull) ≡ false → cond b (record book { waiting = book.waiting ++ slices ∷ [] }) book ≡ book
-      by_room true e = absurd (false≢true (sym e))
-      by_room false e = refl
+  slices_unchanged slices o is e = grind (arith, run_unchanged)
 
   pub unkept_changes_nothing : (part : Part) → keeps (book_outcome book part) ≡ false → book_takes book part ≡ book
   unfolding book_outcome book_takes

@@ -1,16 +1,14 @@
 -- The whole bytes of a picture are decoded as its parameters and, behind them, its own slices, each of which is one whole
 -- slice.
-use Rattle.std.proofs.Common.{◌≡◌, ℕ, zero, suc, ◌-◌, Bool, true, false, List, [], ◌∷◌, ◌++◌, map, take, drop, Option, Some, None, Result, Ok, Err, refl, ap, sym, subst, ◌∙◌, cond}
-use Rattle.std.specs.Prelude.{slice_get, unwrap_or, nat_le, not}
-use Rattle.std.specs.List.{flat_map, cons_option}
-use Rattle.std.specs.Option.{option_map, option_map_or, option_or}
+use Rattle.std.proofs.Common.{◌≡◌, ℕ, zero, suc, Bool, List, [], ◌∷◌, ◌++◌, map, take, drop, Option, Some, None, Result, Ok, Err, refl, ap, sym, subst, ◌∙◌, arith}
+use Rattle.std.specs.Prelude.{slice_get, unwrap_or}
+use Rattle.std.specs.List.{flat_map}
+use Rattle.std.specs.Option.{option_map, option_map_or}
 use Rattle.std.proofs.Math.Seq.{drop-append_seam}
 use Rattle.std.proofs.lemmas.Option.{same_Some, none-some}
 use Rattle.link_model.specs.Complete.{slice_numbers, all_bytes}
-use Rattle.link_model.specs.Kept.{KeptParameters, kept_parameters, parameters_in, SplitParts, split_by, also_before, split_parts, Own, own_of, own, own_slice, SliceRun, runs_of, run_taken, run_from, slice_run, slice_in, first_copy, cut_off, next_slice, next_slices, has_form, has_place, first_slice, waiting_limit}
+use Rattle.link_model.specs.Kept.{KeptParameters, kept_parameters, parameters_in, SplitParts, split_by, also_before, split_parts, Own, own_of, own, own_slice, SliceRun, runs_of, slice_run, first_copy, cut_off, next_slice, next_slices, waiting_limit}
 use Rattle.link_model.specs.Session.{Part, ParamsPart, SlicesPart, SlicePart}
-use Rattle.link_model.specs.declared.outcome.Outcome.{Outcome}
-use Rattle.link_model.specs.declared.outcome.Outcome.TheVariants.{SlicesForm, SlicesPlace}
 use Rattle.vc_types.specs.Bits.{bits_of}
 use Rattle.vc_types.specs.Fields.{joined, and_then}
 use Rattle.vc_types.specs.PictureBytes.{IsWholeSlice}
@@ -90,33 +88,12 @@ module _ (p : Parameters) (alone : SlicesStandAlone p) where
 
   run_whole : (part : SlicePart) (run : SliceRun) → slice_run p part ≡ Ok run → AreWhole run.slices
   unfolding slice_run
-  run_whole part run e = by_tests (has_form p part) (has_place p part) e
-    where
-      by_slices : (r : Result (List (List ℕ) × List ℕ) (Unit {0})) → next_slices p part.count part.body ≡ r → run_from (first_slice p part) r ≡ Ok run → AreWhole run.slices
-      by_slices (Err short) is e = absurd cc
-      by_slices (Ok read) is e = subst (λ (run : SliceRun). AreWhole run.slices) (taken_is (record { first = first_slice p part; slices = read.0 }) run e) (next_whole part.count part.body read is)
-
-      by_tests : (form place : Bool) → cond (not form) (Err SlicesForm) (cond (not place) (Err SlicesPlace) (run_from (first_slice p part) (next_slices p part.count part.body))) ≡ Ok run → AreWhole run.slices
-      by_tests false place e = absurd cc
-      by_tests true false e = absurd cc
-      by_tests true true e = by_slices (next_slices p part.count part.body) refl e
+  run_whole part run e = grind (arith, next_whole, taken_is)
 
   runs_whole : (parts : List SlicePart) (i : ℕ) (bytes : List ℕ) → first_copy (runs_of p parts) i ≡ Some bytes → IsWholeSlice p bytes
   unfolding first_copy
   runs_whole [] i bytes e = absurd (none-some bytes e)
-  runs_whole (part ∷ parts) i bytes e = by_run (slice_run p part) refl e (runs_whole parts i bytes)
-    where
-      by_copy : (run : SliceRun) → AreWhole run.slices → (b : Bool) → cond b (slice_get run.slices (i - run.first)) None ≡ Some bytes → IsWholeSlice p bytes
-      by_copy run whole true e = whole (i - run.first) bytes e
-      by_copy run whole false e = absurd (none-some bytes e)
-
-      by_first : (o later : Option (List ℕ)) → option_or o later ≡ Some bytes → (o ≡ Some bytes → IsWholeSlice p bytes) → (later ≡ Some bytes → IsWholeSlice p bytes) → IsWholeSlice p bytes
-      by_first None later e here rest = rest e
-      by_first (Some b) later e here rest = here e
-
-      by_run : (r : Result SliceRun Outcome) → slice_run p part ≡ r → first_copy (cons_option (run_taken r) (runs_of p parts)) i ≡ Some bytes → (first_copy (runs_of p parts) i ≡ Some bytes → IsWholeSlice p bytes) → IsWholeSlice p bytes
-      by_run (Err outcome) is e rest = rest e
-      by_run (Ok run) is e rest = by_first (slice_in run i) (first_copy (runs_of p parts) i) e (λ here. by_copy run (run_whole part run is) (nat_le run.first i) here) rest
+  runs_whole (part ∷ parts) i bytes e = grind (arith, run_whole, runs_whole parts i bytes)
 
 -- ---- the whole picture
 
@@ -131,11 +108,7 @@ own_slices kept = map (λ i. unwrap_or (own_slice kept i) []) (slice_numbers kep
 module _ (s : Sequence) (parts : List Part) (kept : Own) (is : own s parts ≡ Some kept) where
   from_parted : (Q : Own → Type 0) → ((p : SplitParts) → split_parts s parts ≡ Some p → Q (own_of p)) → Q kept
   unfolding own
-  from_parted Q each = by_parted (split_parts s parts) refl is
-    where
-      by_parted : (o : Option SplitParts) → split_parts s parts ≡ o → option_map own_of o ≡ Some kept → Q kept
-      by_parted None at e = absurd (none-some kept e)
-      by_parted (Some p) at e = subst Q (same_Some (own_of p) kept e) (each p at)
+  from_parted Q each = grind arith
 
   pub decoded_whole : decoded_picture s (all_bytes kept) ≡ with_slices kept.plan.parameters (slices_from kept.plan.parameters 0 (slice_count kept.plan.parameters) (joined (own_slices kept)))
   unfolding all_bytes

@@ -1,12 +1,11 @@
 -- How many books a window has.
-use Rattle.std.proofs.Common.{◌≡◌, ℕ, zero, suc, ◌+◌, ◌-◌, ◌<◌, ◌≤◌, max, Bool, true, false, List, [], ◌∷◌, ◌++◌, length, None, refl, ap, sym, subst, ◌∙◌, inl, inr, arith, cond}
+use Rattle.std.proofs.Common.{◌≡◌, ℕ, zero, suc, ◌+◌, ◌-◌, ◌<◌, ◌≤◌, max, Bool, true, false, List, [], ◌∷◌, ◌++◌, length, None, refl, ap, sym, subst, ◌∙◌, arith, cond}
 use Rattle.std.specs.Prelude.{nat_le, not, ◌&&◌, ◌||◌, filter}
 use Rattle.std.specs.List.{last_or}
-use Rattle.std.proofs.lemmas.Bool.{cases_lt, and_parts, false≢true, not-true, leb-true, leb-false, or_parts}
+use Rattle.std.proofs.lemmas.Bool.{and_parts, not-true, leb-false, or_parts}
 use Rattle.link_model.specs.Books.{Book}
-use Rattle.link_model.specs.Numbers.{Numbered, greatest, is_closed, is_opened, has_parts}
-use Rattle.link_model.specs.Output.{is_let_go}
-use Rattle.link_model.specs.Windows.{NumberedBook, with_number, Window, closed_in, released_up_to, WindowPast, past_let_go, releasable_numbers, greatest_behind, window_of, StandsForPast}
+use Rattle.link_model.specs.Numbers.{Numbered, greatest, is_closed, is_opened}
+use Rattle.link_model.specs.Windows.{NumberedBook, Window, closed_in, released_up_to, WindowPast, past_let_go, releasable_numbers, greatest_behind, window_of, StandsForPast}
 use Rattle.link_model.proofs.BooksInOrder.{books_over, fewer_books}
 use Rattle.link_model.proofs.Leaving.{past}
 use Rattle.link_model.proofs.LettingGo.{is_let_go_by, releasable_over}
@@ -21,28 +20,17 @@ use Rattle.link_model.proofs.Windowing.{gone_in, needed_by, books_by, books_rang
 few_between : (test : ℕ → Bool) (book : ℕ → Book) (low size : ℕ) → ((k : ℕ) → test k ≡ true → (low ≤ k) × (k < low + size))
     → (a m : ℕ) → length (books_over test book a m) ≤ low + size - max a low
 few_between test book low size within a zero = omega arith
-few_between test book low size within a (suc m) = by_test (test a) refl (few_between test book low size within (a + 1) m)
-  where
-    by_test : (b : Bool) → test a ≡ b → length (books_over test book (a + 1) m) ≤ low + size - max (a + 1) low
-        → length (cond b (with_number a (book a) ∷ []) [] ++ books_over test book (a + 1) m) ≤ low + size - max a low
-    by_test true passes rest = (let inside = within a passes in omega (arith, inside.0, inside.1, rest))
-    by_test false fails rest = omega (arith, rest)
+few_between test book low size within a (suc m) =
+    grind (arith, books_over, few_between test book low size within (a + 1) m)
 
 opened_at_most : (es : List Numbered) (n : ℕ) → is_opened es n ≡ true → n ≤ greatest es
-opened_at_most es n opened = elim (cases_lt (greatest es) n) [
-  | inl above ↦ absurd (false≢true (sym (ap has_parts (parts_of-outside n es (inr above))) ∙ opened))
-  | inr low ↦ low
-]
+opened_at_most es n opened = grind (arith, parts_of-outside)
 
 -- the books of pictures that aren't closed are at most as many as may be open
 module _ (p : WindowPast) where
   at_most_top : greatest p.entries ≤ greatest_behind p.before p.entries
   unfolding greatest
-  at_most_top = by_entries p.entries
-    where
-      by_entries : (es : List Numbered) → greatest es ≤ greatest_behind p.before es
-      by_entries [] = omega arith
-      by_entries (e ∷ es) = omega arith
+  at_most_top = grind arith
 
   abbrev open_in : ℕ → Bool
   open_in k = not (p.is_ended || nat_le (k + p.size) (greatest_behind p.before p.entries))
@@ -59,10 +47,16 @@ module _ (p : WindowPast) where
     where
       within : (k : ℕ) → (needed_by p.entries (gone_in p) k && open_in k) ≡ true → (greatest_behind p.before p.entries + 1 - p.size ≤ k) × (k < greatest_behind p.before p.entries + 1 - p.size + p.size)
       within k passes =
-          let parts = and_parts (needed_by p.entries (gone_in p) k) (open_in k) passes in
-          let opened = opened_at_most p.entries k (and_parts (is_opened p.entries k) (not (gone_in p k)) parts.0).0 in
-          let above = leb-false (k + p.size) (greatest_behind p.before p.entries) (or_parts p.is_ended (nat_le (k + p.size) (greatest_behind p.before p.entries)) (not-true (p.is_ended || nat_le (k + p.size) (greatest_behind p.before p.entries)) parts.1)).1 in
-          (omega (arith, above), omega (arith, opened, at_most_top))
+          grind (
+            arith,
+            at_most_top,
+            gone_in,
+            leb-false,
+            needed_by,
+            not-true,
+            opened_at_most,
+            or_parts,
+          )
 
 pub few_books : (w : Window) (p : WindowPast) → StandsForPast w p → length (filter (λ (b : NumberedBook). not (closed_in w b.number)) w.books) ≤ w.size
 unfolding window_of
@@ -76,11 +70,7 @@ none_of test a (suc m) none k from to = by_test (test a) refl none (λ rest abov
   where
     by_test : (b : Bool) → test a ≡ b → (cond b (a ∷ []) [] ++ numbers_over test (a + 1) m) ≡ []
         → (numbers_over test (a + 1) m ≡ [] → a + 1 ≤ k → test k ≡ false) → test k ≡ false
-    by_test true is none later = cc
-    by_test false is none later = elim (cases_lt a k) [
-      | inl less ↦ later none (omega arith)
-      | inr more ↦ (let same : a ≡ k = omega arith in ap test (sym same) ∙ is)
-    ]
+    by_test o is none later = grind arith
 
 module _ (p : WindowPast) (in_order : past_let_go p ≡ p.released ++ releasable_numbers p) (none : releasable_numbers p ≡ []) where
   abbrev is_shut : ℕ → Bool
@@ -91,11 +81,7 @@ module _ (p : WindowPast) (in_order : past_let_go p ≡ p.released ++ releasable
 
   shut_goes : (k : ℕ) → is_shut k ≡ true → is_let_go_by p k ≡ true
   unfolding is_closed
-  shut_goes k shut = by_end p.is_ended shut
-    where
-      by_end : (over : Bool) → (over || nat_le (k + p.size) (greatest p.entries)) ≡ true → (over || is_let_go p.size p.sequence p.entries k) ≡ true
-      by_end true shut = refl
-      by_end false shut = closed_is_let_go p.size p.sequence p.entries k (leb-true (k + p.size) (greatest p.entries) shut)
+  shut_goes k shut = grind (arith, closed_is_let_go)
 
   -- what is opened and isn't gone isn't closed
   needed_open : (k : ℕ) → needed_by p.entries (gone_in p) k ≡ true → is_shut k ≡ false
@@ -103,10 +89,7 @@ module _ (p : WindowPast) (in_order : past_let_go p ≡ p.released ++ releasable
       (none_of (λ n. (is_opened p.entries n && not (is_low n)) && is_let_go_by p n) 0 (past p.entries + 0) (sym (releasable_over p in_order) ∙ none) k (omega arith) (omega (arith, opened_at_most p.entries k (and_parts (is_opened p.entries k) (not (gone_in p k)) needed).0)))
     where
       by_tests : (was shut low go : Bool) → (was && not (shut && low)) ≡ true → (shut ≡ true → go ≡ true) → ((was && not low) && go) ≡ false → shut ≡ false
-      by_tests false shut low go needed goes fails = absurd (false≢true needed)
-      by_tests true false low go needed goes fails = refl
-      by_tests true true true go needed goes fails = absurd (false≢true needed)
-      by_tests true true false go needed goes fails = absurd (false≢true (sym fails ∙ goes refl))
+      by_tests o shut low go needed goes fails = grind arith
 
   all_few : length (window_of p).books ≤ p.size
   unfolding window_of is_closed
@@ -116,10 +99,7 @@ module _ (p : WindowPast) (in_order : past_let_go p ≡ p.released ++ releasable
       omega (arith, few, ap length (books_range p (past p.entries + 0) 0 refl))
     where
       within : (k : ℕ) → needed_by p.entries (gone_in p) k ≡ true → (greatest p.entries + 1 - p.size ≤ k) × (k < greatest p.entries + 1 - p.size + p.size)
-      within k needed =
-          let opened = opened_at_most p.entries k (and_parts (is_opened p.entries k) (not (gone_in p k)) needed).0 in
-          let above = leb-false (k + p.size) (greatest p.entries) (or_parts p.is_ended (nat_le (k + p.size) (greatest p.entries)) (needed_open k needed)).1 in
-          (omega (arith, above), omega (arith, opened))
+      within k needed = grind (arith, gone_in, leb-false, needed_open, opened_at_most, or_parts)
 
 pub all_books_few : (w : Window) (p : WindowPast) → StandsForPast w p → releasable_numbers p ≡ [] → length w.books ≤ w.size
 unfolding window_of

@@ -1,11 +1,11 @@
 -- A window's greatest number, the picture that a fragment opened, and the window of a list's last session.
-use Rattle.std.proofs.Common.{◌≡◌, ℕ, ◌+◌, ◌-◌, ◌%◌, ◌^◌, ◌<◌, ◌≤◌, max, Bool, true, false, List, [], ◌∷◌, ◌++◌, map, Some, None, refl, ap, sym, subst, ◌∙◌, inl, inr, arith, cond}
-use Rattle.std.specs.Prelude.{nat_le, nat_lt, not, ◌&&◌, ◌||◌, fold}
+use Rattle.std.proofs.Common.{◌≡◌, ℕ, ◌+◌, ◌%◌, ◌^◌, ◌<◌, ◌≤◌, max, Bool, true, false, List, [], ◌∷◌, ◌++◌, map, Some, None, refl, ap, sym, subst, ◌∙◌, inl, inr, arith, cond}
+use Rattle.std.specs.Prelude.{nat_le, not, ◌&&◌, ◌||◌, fold}
 use Rattle.std.specs.List.{last_or}
-use Rattle.std.proofs.lemmas.Bool.{cases_Bool, cases_lt, and_from, and_left, cond-true, eq-eqb, false≢true, lt-leb, lt-ltb, not_from_false, or_from}
+use Rattle.std.proofs.lemmas.Bool.{cases_lt, and_from, and_left, cond-true, eq-eqb, false≢true, lt-leb, not_from_false, or_from}
 use Rattle.std.proofs.lemmas.List.Sums.{fold-append}
 use Rattle.link_model.specs.Books.{book_of}
-use Rattle.link_model.specs.Numbers.{Numbered, greatest, nearest, distance, base_above, enters, entered, is_closed, is_late, is_opened, has_parts, parts_of, picture_number}
+use Rattle.link_model.specs.Numbers.{Numbered, greatest, nearest, base_above, enters, entered, is_closed, is_late, is_opened, has_parts, parts_of, picture_number}
 use Rattle.link_model.specs.Output.{greatest_of}
 use Rattle.link_model.specs.Session.{Part, Fragment, HeardSession, with_datagram, fragment_in}
 use Rattle.link_model.specs.Windows.{Window, book_at, released_up_to, window_enters, WindowPast, past_enters, greatest_behind, is_nothing, window_of, StandsForPast, session_past}
@@ -31,14 +31,8 @@ module _ (before window : ℕ) where
   one_number e = omega arith
 
   enters_high : (es : List Numbered) (f : Fragment) → IsHigh es → IsHigh (enters (base_above before) window es f)
-  enters_high es f high = elim (cases_Bool (is_late window es (picture_number (base_above before) es f.number))) [
-    | inl late ↦ subst IsHigh (sym (late_changes_nothing (base_above before) window es f late)) high
-    | inr early ↦ subst IsHigh (sym (early_enters (base_above before) window es f early)) (λ some. by_entries es high)
-  ]
-    where
-      by_entries : (es : List Numbered) → IsHigh es → base_above before ≤ greatest (es ++ record { number = picture_number (base_above before) es f.number; part = f.part } ∷ [])
-      by_entries [] high = omega (arith, first_is_high f.number, one_number (record { number = picture_number (base_above before) [] f.number; part = f.part }))
-      by_entries (e ∷ es) high = omega (arith, high refl, greatest-append (e ∷ es) (record { number = picture_number (base_above before) (e ∷ es) f.number; part = f.part } ∷ []))
+  enters_high es f high =
+      grind (arith, early_enters, first_is_high, greatest-append, late_changes_nothing, one_number)
 
   all_high : (es : List Numbered) (fragments : List Fragment) → IsHigh es → IsHigh (fold (enters (base_above before) window) es fragments)
   all_high es [] high = high
@@ -49,20 +43,13 @@ module _ (before window : ℕ) where
 
   pub greatest_of_all : (fragments : List Fragment) → greatest_behind before (entered (base_above before) window fragments) ≡ max (greatest (entered (base_above before) window fragments)) before
   unfolding greatest
-  greatest_of_all fragments = by_entries (entered (base_above before) window fragments) (entered_high fragments)
-    where
-      by_entries : (es : List Numbered) → IsHigh es → greatest_behind before es ≡ max (greatest es) before
-      by_entries [] high = omega arith
-      by_entries (e ∷ es) high = omega (arith, high refl, base_is_above before)
+  greatest_of_all fragments = grind (arith, base_is_above, entered_high)
 
 -- ---- the number of a picture that a fragment opened, by the greatest number behind it
 
 nearest_itself : (n bits : ℕ) → n % 2 ^ 32 ≡ bits → nearest n bits ≡ n
 unfolding nearest
-nearest_itself n bits is =
-    let none : distance n bits ≡ 0 = omega (arith, is) in
-    cond-true (nat_lt (distance n bits) (2 ^ 31)) (n + distance n bits) (n + distance n bits - 2 ^ 32) (lt-ltb (distance n bits) (2 ^ 31) (omega (arith, none)))
-    ∙ omega (arith, none)
+nearest_itself n bits is = grind arith
 
 base_is_large : (before : ℕ) → 2 ^ 32 ≤ base_above before
 unfolding base_above
@@ -161,13 +148,8 @@ module _ (size : ℕ) (hs : List HeardSession) (h : HeardSession) (released : Li
   module _ (d : List ℕ) where
     -- a datagram with a fragment
     pub session_enters : (f : Fragment) → fragment_in h.session d ≡ Some f → past_enters (session_past size hs h released) f ≡ session_past size hs (with_datagram h d) released
-    session_enters f is =
-        ap (λ (es : List Numbered). record (session_past size hs h released) { entries = es })
-        (sym (ap (λ (fs : List Fragment). entered (base_above (greatest_of size hs)) size fs) (with_fragment h d f is)
-        ∙ fold-append (enters (base_above (greatest_of size hs)) size) [] h.fragments (f ∷ [])))
+    session_enters f is = grind (arith, fold-append, with_fragment)
 
     -- and one without
     pub session_stays : fragment_in h.session d ≡ None → session_past size hs (with_datagram h d) released ≡ session_past size hs h released
-    session_stays is =
-        ap (λ (fs : List Fragment). record (session_past size hs h released) { entries = entered (base_above (greatest_of size hs)) size fs })
-        (without_fragment h d is)
+    session_stays is = grind (arith, without_fragment)

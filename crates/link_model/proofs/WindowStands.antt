@@ -1,17 +1,16 @@
 -- A window stands for its past: what carries over each step, and what it answers.
-use Rattle.std.proofs.Common.{◌≡◌, ℕ, zero, suc, ◌+◌, ◌<◌, Bool, true, false, List, [], ◌∷◌, ◌++◌, length, drop, Option, Some, None, refl, ap, sym, subst, ◌∙◌, arith, cond}
-use Rattle.std.specs.Prelude.{nat_lt, not, ◌&&◌, ◌||◌}
+use Rattle.std.proofs.Common.{◌≡◌, ℕ, zero, suc, ◌+◌, ◌<◌, Bool, true, false, List, [], ◌∷◌, ◌++◌, drop, Some, None, refl, ap, sym, ◌∙◌, arith, cond}
 use Rattle.std.specs.List.{last_or}
 use Rattle.std.specs.Option.{option_map}
-use Rattle.std.proofs.lemmas.Bool.{and_parts, and_from, cond-true, cond-false, false≢true, not-true, not_from_false, leb-false, leb-true}
+use Rattle.std.proofs.lemmas.Bool.{cond-true, cond-false, not-true, not_from_false, leb-false}
 use Rattle.std.proofs.lemmas.List.{append_assoc}
 use Rattle.std.proofs.lemmas.Option.{none-some}
 use Rattle.link_model.specs.Books.{book_of}
 use Rattle.link_model.specs.Judgement.{fragment_outcome}
-use Rattle.link_model.specs.Numbers.{Numbered, greatest, least, base_above, is_closed, is_opened, parts_of, opened_numbers}
+use Rattle.link_model.specs.Numbers.{greatest, least, base_above, is_opened, parts_of, opened_numbers}
 use Rattle.link_model.specs.Output.{let_go_numbers}
 use Rattle.link_model.specs.Session.{Fragment}
-use Rattle.link_model.specs.Windows.{book_at, Window, new_window, number_by, late_in, forgets, opens_picture, rises_to, released_up_to, window_enters, window_outcome, Releasable, next_release, releases, finishes, WindowPast, new_past, past_enters, past_releases, past_finishes, past_let_go, releasable_numbers, as_releasable, first_of, window_of, StandsForPast}
+use Rattle.link_model.specs.Windows.{book_at, Window, new_window, number_by, late_in, opens_picture, rises_to, released_up_to, window_enters, window_outcome, Releasable, next_release, releases, finishes, WindowPast, new_past, past_enters, past_releases, past_finishes, past_let_go, releasable_numbers, as_releasable, first_of, window_of, StandsForPast}
 use Rattle.link_model.proofs.Leaving.{past, let_go_numbers_grow, last_releases}
 use Rattle.link_model.proofs.LettingGo.{is_let_go_by, releasable_over, next_some}
 use Rattle.link_model.proofs.Numbering.{enters_follows}
@@ -34,11 +33,7 @@ first_and_rest (m ∷ ns) n is = (ns, (let same : m ≡ n = cc in ap (λ k. k �
 
 first_passes : (test : ℕ → Bool) (a m n : ℕ) → first_of (numbers_over test a m) ≡ Some n → test n ≡ true
 first_passes test a zero n is = absurd (none-some n is)
-first_passes test a (suc m) n is = by_test (test a) refl is (first_passes test (a + 1) m n)
-  where
-    by_test : (b : Bool) → test a ≡ b → first_of (cond b (a ∷ []) [] ++ numbers_over test (a + 1) m) ≡ Some n → (first_of (numbers_over test (a + 1) m) ≡ Some n → test n ≡ true) → test n ≡ true
-    by_test true passes is later = (let same : a ≡ n = cc in subst (λ k. test k ≡ true) same passes)
-    by_test false fails is later = later is
+first_passes test a (suc m) n is = grind (arith, numbers_over, first_passes test (a + 1) m n)
 
 -- ---- what is let go, by whether the input has ended
 
@@ -79,76 +74,39 @@ module _ (w : Window) (p : WindowPast) (stands : StandsForPast w p) where
 
   pub next_is : next_release w ≡ option_map (as_releasable p) (first_of (releasable_numbers p))
   unfolding next_release window_of let_go_numbers opened_numbers least greatest parts_of
-  next_is = ap next_release stands.value ∙ by_entries p.entries stands.in_order
-    where
-      none_yet : (over : Bool) → cond over no_number no_number ≡ no_number
-      none_yet true = refl
-      none_yet false = refl
-
-      by_entries : (es : List Numbered) → past_let_go (record p { entries = es }) ≡ p.released ++ releasable_numbers (record p { entries = es })
-          → next_release (window_of (record p { entries = es })) ≡ option_map (as_releasable (record p { entries = es })) (first_of (releasable_numbers (record p { entries = es })))
-      by_entries [] in_order = ap (λ (l : List ℕ). option_map (as_releasable (record p { entries = [] })) (first_of l)) (sym (ap (drop (length p.released)) (none_yet p.is_ended) ∙ drop_none (length p.released)))
-      by_entries (e ∷ es) in_order = next_some (record p { entries = e ∷ es }) in_order refl
+  next_is = grind (arith, drop_none, next_some)
 
   -- its number
   pub next_number : (n : ℕ) → option_map (λ (r : Releasable). r.number) (next_release w) ≡ Some n → first_of (releasable_numbers p) ≡ Some n
-  next_number n is = sym (ap (option_map (λ (r : Releasable). r.number)) next_is ∙ by_first (first_of (releasable_numbers p))) ∙ is
-    where
-      by_first : (o : Option ℕ) → option_map (λ (r : Releasable). r.number) (option_map (as_releasable p) o) ≡ o
-      by_first None = refl
-      by_first (Some k) = refl
+  next_number n is = grind (arith, next_is)
 
   -- ---- a release
 
   module _ (n : ℕ) (next : first_of (releasable_numbers p) ≡ Some n) where
     next_passes : (is_opened p.entries n ≡ true) × (released_up_to (last_or None p.released) n ≡ false)
-    next_passes =
-        let passes = first_passes (λ k. (is_opened p.entries k && not (released_up_to (last_or None p.released) k)) && is_let_go_by p k) 0 (past p.entries + 0) n
-        (sym (ap first_of (releasable_over p stands.in_order)) ∙ next) in
-        let both = and_parts (is_opened p.entries n) (not (released_up_to (last_or None p.released) n)) (and_parts (is_opened p.entries n && not (released_up_to (last_or None p.released) n)) (is_let_go_by p n) passes).0 in
-        (both.0, not-true (released_up_to (last_or None p.released) n) both.1)
+    next_passes = grind (arith, first_passes, is_let_go_by, not-true, past, releasable_over)
 
     pub releasable_opened : is_opened p.entries n ≡ true
     releasable_opened = next_passes.0
 
     -- it is behind all that were released
     pub next_is_greater : (m : ℕ) → released_up_to (last_or None p.released) m ≡ true → m < n
-    next_is_greater m = by_last (last_or None p.released) next_passes.1
-      where
-        by_last : (o : Option ℕ) → released_up_to o n ≡ false → released_up_to o m ≡ true → m < n
-        by_last None behind gone = absurd (false≢true gone)
-        by_last (Some last) behind gone = omega (arith, leb-true m last gone, leb-false n last behind)
+    next_is_greater m = grind (arith, leb-false, next_passes)
 
     split : past_let_go p ≡ (p.released ++ n ∷ []) ++ (first_and_rest (releasable_numbers p) n next).0
-    split =
-        let rest = first_and_rest (releasable_numbers p) n next in
-        stands.in_order
-        ∙ ap (λ (l : List ℕ). p.released ++ l) rest.1
-        ∙ sym (append_assoc p.released (n ∷ []) rest.0)
+    split = grind (arith, append_assoc, first_and_rest)
 
     pub releases_stands : StandsForPast (releases w n) (past_releases p n)
-    releases_stands = record {
-      value = ap (λ (v : Window). releases v n) stands.value ∙ releases_is n p next_passes.1;
-      in_order = begins_with (past_let_go p) (p.released ++ n ∷ []) (first_and_rest (releasable_numbers p) n next).0 split;
-    }
+    releases_stands = grind (arith, begins_with, first_and_rest, next_passes, releases_is, split)
 
     -- the others are still to be released
     pub releasable_next : releasable_numbers p ≡ n ∷ releasable_numbers (past_releases p n)
-    releasable_next =
-        let rest = first_and_rest (releasable_numbers p) n next in
-        rest.1 ∙ ap (λ (l : List ℕ). n ∷ l) (sym (rest_of (past_let_go p) (p.released ++ n ∷ []) rest.0 split))
+    releasable_next = grind (arith, first_and_rest, rest_of, split)
 
     -- its book is there
     pub book_of_next : book_at w.books n ≡ Some (book_of p.sequence (parts_of n p.entries))
     book_of_next =
-        ap (λ (v : Window). book_at v.books n) stands.value
-        ∙ book_of_window p n
-        ∙ cond-true (needed_by p.entries (gone_in p) n) (Some (books_by p.sequence p.entries n)) None
-        (and_from (is_opened p.entries n) (not (gone_in p n)) next_passes.0 (not_from_false (gone_in p n) (and_low (p.is_ended || is_closed p.size p.entries n) (released_up_to (last_or None p.released) n) next_passes.1)))
-      where
-        and_low : (a b : Bool) → b ≡ false → (a && b) ≡ false
-        and_low true b low = low
-        and_low false b low = refl
+        grind (arith, book_of_window, books_by, gone_in, needed_by, next_passes, not_from_false)
 
   -- ---- the end
 
@@ -177,10 +135,4 @@ late_leaves w f late = cond-true (late_in w (number_by w f.number)) w (rises_to 
 -- a fragment doesn't end the input
 pub enters_runs : (w : Window) (f : Fragment) → (window_enters w f).is_ended ≡ w.is_ended
 unfolding window_enters
-enters_runs w f = by_tests (late_in w (number_by w f.number)) (nat_lt w.top (number_by w f.number))
-  where
-    by_tests : (late rises : Bool)
-        → (cond late w (cond rises (forgets (record (opens_picture w (number_by w f.number) f.part) { top = number_by w f.number })) (opens_picture w (number_by w f.number) f.part))).is_ended ≡ w.is_ended
-    by_tests true rises = refl
-    by_tests false true = refl
-    by_tests false false = refl
+enters_runs w f = grind arith

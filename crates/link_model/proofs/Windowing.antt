@@ -1,15 +1,14 @@
 -- What a window's value is by its past, and that it stays so with a fragment more, a release, and the end of the input.
 use Rattle.std.proofs.Common.{◌≡◌, ℕ, ◌+◌, ◌-◌, ◌^◌, ◌<◌, ◌≤◌, max, Bool, true, false, List, [], ◌∷◌, ◌++◌, map, Option, Some, None, refl, ap, sym, ◌∙◌, inl, inr, arith, cond}
-use Rattle.std.specs.Prelude.{nat_lt, nat_le, not, ◌&&◌, ◌||◌, unwrap_or, filter}
+use Rattle.std.specs.Prelude.{nat_lt, nat_le, not, ◌&&◌, ◌||◌, filter}
 use Rattle.std.specs.List.{flat_map, range_with_len, last_or}
-use Rattle.std.proofs.lemmas.Bool.{cases_Bool, cases_lt, and_from, and_left, cond-true, cond-false, eq-eqb, leb-true, le-leb, lt-leb, le-ltb, lt-ltb, leb-false, false≢true, not_from_false, or_parts, or_from}
+use Rattle.std.proofs.lemmas.Bool.{cases_lt, and_from, and_left, cond-true, le-ltb, lt-ltb, leb-false, false≢true, not_from_false, or_parts, or_from}
 use Rattle.std.proofs.lemmas.List.{append-nil, map-append}
-use Rattle.link_model.specs.Books.{Book, book_of, book_takes, book_outcome}
-use Rattle.link_model.specs.Judgement.{fragment_outcome, part_outcome}
-use Rattle.link_model.specs.Numbers.{Numbered, greatest, nearest, base_above, picture_number, is_closed, is_late, is_opened, has_parts, parts_of, least, opened_numbers}
+use Rattle.link_model.specs.Books.{Book, book_of, book_takes}
+use Rattle.link_model.specs.Judgement.{fragment_outcome}
+use Rattle.link_model.specs.Numbers.{Numbered, greatest, base_above, picture_number, is_closed, is_late, is_opened, has_parts, parts_of, least, opened_numbers}
 use Rattle.link_model.specs.Session.{Part, Fragment}
-use Rattle.link_model.specs.Windows.{NumberedBook, with_number, book_at, with_part, Window, number_by, late_in, released_up_to, stays_in, forgets, opens_picture, rises_to, window_enters, book_in, window_outcome, releases, finishes, WindowPast, past_enters, past_releases, past_finishes, is_needed, needed_numbers, past_book, greatest_behind, is_nothing, window_of}
-use Rattle.link_model.specs.declared.outcome.Outcome.TheVariants.{Late}
+use Rattle.link_model.specs.Windows.{NumberedBook, with_number, book_at, with_part, number_by, late_in, released_up_to, stays_in, forgets, opens_picture, rises_to, window_enters, book_in, window_outcome, releases, finishes, WindowPast, past_enters, past_releases, past_finishes, is_needed, needed_numbers, past_book, greatest_behind, is_nothing, window_of}
 use Rattle.link_model.proofs.Apart.{base_is_above}
 use Rattle.link_model.proofs.Bookkeeping.{takes-more, book_outcome_is}
 use Rattle.link_model.proofs.BooksInOrder.{picked, books_over, book_inside, same_books, fewer_books, part_inside}
@@ -46,10 +45,7 @@ module _ (p : WindowPast) where
       ∙ same_flat (λ k. map (past_book p) (passing p.entries (is_needed p) k)) (picked (needed_by p.entries gone_in) (books_by p.sequence p.entries)) each (range_with_len 0 n)
     where
       by_tests : (k : ℕ) (needed was : Bool) → map (past_book p) (cond needed (cond was (k ∷ []) []) []) ≡ cond (was && needed) (past_book p k ∷ []) []
-      by_tests k true true = refl
-      by_tests k true false = refl
-      by_tests k false true = refl
-      by_tests k false false = refl
+      by_tests k o b = grind arith
 
       each : (k : ℕ) → map (past_book p) (passing p.entries (is_needed p) k) ≡ picked (needed_by p.entries gone_in) (books_by p.sequence p.entries) k
       each k = by_tests k (is_needed p k) (is_opened p.entries k)
@@ -69,9 +65,7 @@ fewer es book gone later n stays =
     ∙ same_books (λ k. needed_by es gone k && not (later k)) (needed_by es later) book book 0 n (λ k from to. ap (λ (b : Bool). cond b (with_number k (book k) ∷ []) []) (by_tests (is_opened es k) (gone k) (later k) (stays k)))
   where
     by_tests : (was now then : Bool) → (now ≡ true → then ≡ true) → ((was && not now) && not then) ≡ (was && not then)
-    by_tests false now then stays = refl
-    by_tests true false then stays = refl
-    by_tests true true then stays = ap not (sym (stays refl))
+    by_tests o now then stays = grind arith
 
 -- ---- numbers
 
@@ -81,33 +75,16 @@ module _ (p : WindowPast) where
 
   pub number_of_window : (bits : ℕ) → number_by (window_of p) bits ≡ picture_number base p.entries bits
   unfolding window_of picture_number
-  number_of_window bits = by_entries p.entries
-    where
-      by_entries : (es : List Numbered) → cond (is_nothing es) (base_above (greatest_behind p.before es) + bits) (nearest (greatest_behind p.before es) bits) ≡ picture_number base es bits
-      by_entries [] = refl
-      by_entries (e ∷ es) = refl
+  number_of_window bits = grind arith
 
   -- a first number is above those of the earlier sessions
   first_is_above : (bits : ℕ) → is_nothing p.entries ≡ true → p.before < picture_number base p.entries bits
   unfolding picture_number
-  first_is_above bits none = by_entries p.entries none
-    where
-      by_entries : (es : List Numbered) → is_nothing es ≡ true → p.before < picture_number base es bits
-      by_entries [] none = omega (arith, base_is_above p.before)
-      by_entries (e ∷ es) none = absurd (false≢true none)
+  first_is_above bits none = grind (arith, base_is_above)
 
   late_of_window : (bits : ℕ) → late_in (window_of p) (number_by (window_of p) bits) ≡ is_late p.size p.entries (picture_number base p.entries bits)
   unfolding window_of is_late is_closed greatest
-  late_of_window bits =
-      ap (late_in (window_of p)) (number_of_window bits)
-      ∙ by_entries p.entries (picture_number base p.entries bits) (first_is_above bits)
-    where
-      by_entries : (es : List Numbered) (n : ℕ) → (is_nothing es ≡ true → p.before < n)
-          → (nat_le (n + p.size) (greatest_behind p.before es) || nat_le (2 ^ 64 - 16) n) ≡ (nat_le (n + p.size) (greatest es) || nat_le (2 ^ 64 - 16) n)
-      by_entries [] n above =
-          ap (λ (b : Bool). b || nat_le (2 ^ 64 - 16) n)
-          (lt-leb (n + p.size) p.before (omega (arith, above refl)) ∙ sym (lt-leb (n + p.size) (greatest []) (omega (arith, above refl))))
-      by_entries (e ∷ es) n above = refl
+  late_of_window bits = grind (arith, first_is_above, number_of_window)
 
 -- ---- one fragment more
 
@@ -126,22 +103,11 @@ module _ (p : WindowPast) (runs : p.is_ended ≡ false) where
 
     -- the book of a picture that isn't closed, or a new one
     open_book : cond (needed_by p.entries (gone_in p) n) (books_by p.sequence p.entries n) (book_of p.sequence []) ≡ books_by p.sequence p.entries n
-    open_book = by_test (is_opened p.entries n) refl (gone_in p n) not_gone
-      where
-        by_test : (was : Bool) → is_opened p.entries n ≡ was → (gone : Bool) → gone ≡ false → cond (was && not gone) (books_by p.sequence p.entries n) (book_of p.sequence []) ≡ books_by p.sequence p.entries n
-        by_test true is gone kept = cond-true (not gone) (books_by p.sequence p.entries n) (book_of p.sequence []) (not_from_false gone kept)
-        by_test false is gone kept = ap (book_of p.sequence) (sym (no_parts (parts_of n p.entries) is))
+    open_book = grind (arith, no_parts, not_from_false, not_gone)
 
     book_in_is : book_in (window_of p) n ≡ books_by p.sequence p.entries n
     unfolding window_of
-    book_in_is =
-        ap (λ (o : Option Book). unwrap_or o (book_of p.sequence [])) (book_of_window p n)
-        ∙ by_test (needed_by p.entries (gone_in p) n)
-        ∙ open_book
-      where
-        by_test : (b : Bool) → unwrap_or (cond b (Some (books_by p.sequence p.entries n)) None) (book_of p.sequence []) ≡ cond b (books_by p.sequence p.entries n) (book_of p.sequence [])
-        by_test true = refl
-        by_test false = refl
+    book_in_is = grind (arith, book_of_window, open_book)
 
     module _ (part : Part) where
       abbrev more : List Numbered
@@ -149,10 +115,7 @@ module _ (p : WindowPast) (runs : p.is_ended ≡ false) where
 
       own_parts : parts_of n more ≡ parts_of n p.entries ++ part ∷ []
       unfolding parts_of
-      own_parts = parts_of-append n p.entries (record { number = n; part = part } ∷ []) ∙ ap (λ (l : List Part). parts_of n p.entries ++ l) here
-        where
-          here : parts_of n (record { number = n; part = part } ∷ []) ≡ part ∷ []
-          here = ap (λ (b : Bool). map (λ (e : Numbered). e.part) (cond b (record { number = n; part = part } ∷ []) [])) (eq-eqb n n refl)
+      own_parts = grind (arith, parts_of-append)
 
       other_parts : (m : ℕ) → (m ≡ n → ⊥) → parts_of m more ≡ parts_of m p.entries
       other_parts m apart = parts_of-append m p.entries (record { number = n; part = part } ∷ []) ∙ ap (λ (l : List Part). parts_of m p.entries ++ l) (parts_of-other m (record { number = n; part = part }) (λ same. apart (sym same))) ∙ append-nil (parts_of m p.entries)
@@ -202,21 +165,11 @@ module _ (p : WindowPast) (runs : p.is_ended ≡ false) where
 
       top_at_least : greatest p.entries ≤ greatest_behind p.before p.entries
       unfolding greatest
-      top_at_least = by_entries p.entries
-        where
-          by_entries : (es : List Numbered) → greatest es ≤ greatest_behind p.before es
-          by_entries [] = omega arith
-          by_entries (e ∷ es) = omega arith
+      top_at_least = grind arith
 
       closed_later : (k : ℕ) → gone_in p k ≡ true → gone_in later k ≡ true
       unfolding is_closed
-      closed_later k = by_tests p.is_ended (nat_le (k + p.size) (greatest p.entries)) (nat_le (k + p.size) (greatest more)) (released_up_to (last_or None p.released) k)
-          (λ closed. le-leb (k + p.size) (greatest more) (omega (arith, leb-true (k + p.size) (greatest p.entries) closed, rises)))
-        where
-          by_tests : (over now then low : Bool) → (now ≡ true → then ≡ true) → ((over || now) && low) ≡ true → ((over || then) && low) ≡ true
-          by_tests true now then low stays e = e
-          by_tests false false then low stays e = absurd (false≢true e)
-          by_tests false true then low stays e = ap (λ (b : Bool). b && low) (stays refl) ∙ e
+      closed_later k = grind (arith, rises)
 
       module _ (above : is_nothing p.entries ≡ true → p.before < n) where
         -- the greatest number rises
@@ -241,29 +194,22 @@ module _ (p : WindowPast) (runs : p.is_ended ≡ false) where
 
         -- or stays
         settled : n ≤ greatest_behind p.before p.entries → greatest_behind p.before p.entries ≡ greatest p.entries
-        settled high = by_entries p.entries above high
-          where
-            by_entries : (es : List Numbered) → (is_nothing es ≡ true → p.before < n) → n ≤ greatest_behind p.before es → greatest_behind p.before es ≡ greatest es
-            by_entries [] above high = absurd (omega (arith, above refl, high))
-            by_entries (e ∷ es) above high = refl
+        settled high = grind arith
 
         stayed : n ≤ greatest_behind p.before p.entries → rises_to (opens_picture (window_of p) n part) n ≡ window_of later
         unfolding window_of is_closed
         stayed high =
-            let same : greatest p.entries ≡ greatest more = omega (arith, rises, settled high, high) in
-            let opened = opens_picture (window_of p) n part in
-            cond-false (nat_lt (greatest_behind p.before p.entries) n) (forgets (record opened { top = n })) opened (le-ltb (greatest_behind p.before p.entries) n high)
-            ∙ (λ j. record {
-              sequence = p.sequence;
-              size = p.size;
-              top = (settled high ∙ same ∙ sym top_later) j;
-              is_new = sym not_nothing j;
-              last_released = last_or None p.released;
-              is_ended = p.is_ended;
-              books = (with_part_is
-                  ∙ ap (λ t. books_over (needed_by more (λ k. (p.is_ended || nat_le (k + p.size) t) && released_up_to (last_or None p.released) k)) (books_by p.sequence more) 0 long) same
-                  ∙ sym later_books) j;
-            })
+            grind (
+              arith,
+              books_over,
+              later_books,
+              le-ltb,
+              not_nothing,
+              rises,
+              settled,
+              top_later,
+              with_part_is,
+            )
 
         entered_is : rises_to (opens_picture (window_of p) n part) n ≡ window_of later
         entered_is = elim (cases_lt (greatest_behind p.before p.entries) n) [ inl less ↦ raised less | inr high ↦ stayed high ]
@@ -272,33 +218,20 @@ module _ (p : WindowPast) (runs : p.is_ended ≡ false) where
   pub enters_is : (f : Fragment) → window_enters (window_of p) f ≡ window_of (past_enters p f)
   unfolding window_enters
   enters_is f =
-      let n = picture_number (base_above p.before) p.entries f.number in
-      let entered : Window = rises_to (opens_picture (window_of p) (number_by (window_of p) f.number) f.part) (number_by (window_of p) f.number) in
-      elim (cases_Bool (is_late p.size p.entries n)) [
-        | inl late ↦ cond-true (late_in (window_of p) (number_by (window_of p) f.number)) (window_of p) entered (late_of_window p f.number ∙ late)
-            ∙ ap (λ (es : List Numbered). window_of (record p { entries = es })) (sym (late_changes_nothing (base_above p.before) p.size p.entries f late))
-        | inr early ↦ cond-false (late_in (window_of p) (number_by (window_of p) f.number)) (window_of p) entered (late_of_window p f.number ∙ early)
-            ∙ ap (λ k. rises_to (opens_picture (window_of p) k f.part) k) (number_of_window p f.number)
-            ∙ entered_is n early f.part (first_is_above p f.number)
-            ∙ ap (λ (es : List Numbered). window_of (record p { entries = es })) (sym (early_enters (base_above p.before) p.size p.entries f early))
-      ]
+      grind (
+        arith,
+        early_enters,
+        entered_is,
+        first_is_above,
+        late_changes_nothing,
+        late_of_window,
+        number_of_window,
+      )
 
   -- and its outcome
   pub outcome_is : (f : Fragment) → window_outcome (window_of p) f ≡ fragment_outcome (base_above p.before) p.size p.sequence p.entries f
   unfolding window_outcome fragment_outcome
-  outcome_is f =
-      let n = picture_number (base_above p.before) p.entries f.number in
-      ap (λ (b : Bool). cond b Late (book_outcome (book_in (window_of p) (number_by (window_of p) f.number)) f.part)) (late_of_window p f.number)
-      ∙ ap (λ k. cond (is_late p.size p.entries n) Late (book_outcome (book_in (window_of p) k) f.part)) (number_of_window p f.number)
-      ∙ by_late (is_late p.size p.entries n) refl
-    where
-      by_late : (b : Bool) → is_late p.size p.entries (picture_number (base_above p.before) p.entries f.number) ≡ b
-          → cond b Late (book_outcome (book_in (window_of p) (picture_number (base_above p.before) p.entries f.number)) f.part)
-          ≡ cond b Late (part_outcome p.sequence (parts_of (picture_number (base_above p.before) p.entries f.number) p.entries) f.part)
-      by_late true is = refl
-      by_late false is =
-          ap (λ (b : Book). book_outcome b f.part) (book_in_is (picture_number (base_above p.before) p.entries f.number) is)
-          ∙ book_outcome_is p.sequence (parts_of (picture_number (base_above p.before) p.entries f.number) p.entries) f.part
+  outcome_is f = grind (arith, book_in_is, book_outcome_is, late_of_window, number_of_window)
 
 -- ---- the end, and a release
 
@@ -336,12 +269,7 @@ module _ (n : ℕ) where
     closed_at t k = p.is_ended || nat_le (k + p.size) t
 
     gone_later : (k : ℕ) → (closed_at (greatest p.entries) k && released_up_to (last_or None p.released) k) ≡ true → (closed_at (greatest p.entries) k && nat_le k n) ≡ true
-    gone_later k = by_tests (closed_at (greatest p.entries) k) (last_or None p.released) behind
-      where
-        by_tests : (closed : Bool) (o : Option ℕ) → released_up_to o n ≡ false → (closed && released_up_to o k) ≡ true → (closed && nat_le k n) ≡ true
-        by_tests false o behind e = absurd (false≢true e)
-        by_tests true None behind e = absurd (false≢true e)
-        by_tests true (Some last) behind e = le-leb k n (omega (arith, leb-true k last e, leb-false n last behind))
+    gone_later k = grind (arith, leb-false)
 
     releases_some : releases (window_of p) n ≡ window_of (past_releases p n)
     unfolding window_of is_closed
@@ -362,15 +290,7 @@ module _ (n : ℕ) where
   releases_by : (p : WindowPast) → released_up_to (last_or None p.released) n ≡ false → (es : List Numbered)
       → releases (window_of (record p { entries = es })) n ≡ window_of (past_releases (record p { entries = es }) n)
   unfolding window_of opened_numbers least greatest parts_of
-  releases_by p behind [] = λ j. record {
-    sequence = p.sequence;
-    size = p.size;
-    top = p.before;
-    is_new = true;
-    last_released = sym (last_is None p.released n) j;
-    is_ended = p.is_ended;
-    books = [];
-  }
+  releases_by p behind [] = grind (arith, last_is)
   releases_by p behind (e ∷ es) = releases_some (record p { entries = e ∷ es }) behind refl
 
   pub releases_is : (p : WindowPast) → released_up_to (last_or None p.released) n ≡ false → releases (window_of p) n ≡ window_of (past_releases p n)

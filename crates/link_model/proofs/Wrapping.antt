@@ -1,8 +1,8 @@
 -- A picture's number has the 32 bits that were sent, is the nearest such number to the greatest one, and fits 64 bits.
-use Rattle.std.proofs.Common.{◌≡◌, ℕ, ◌+◌, ◌-◌, ◌%◌, ◌^◌, ◌<◌, ◌≤◌, false, List, [], ◌∷◌, ◌++◌, ap, sym, subst, ◌∙◌, inl, inr, arith}
+use Rattle.std.proofs.Common.{◌≡◌, ℕ, ◌+◌, ◌-◌, ◌%◌, ◌^◌, ◌<◌, ◌≤◌, false, List, [], ◌∷◌, ◌++◌, arith}
 use Rattle.std.specs.Prelude.{fold, nat_le, nat_lt}
-use Rattle.std.proofs.lemmas.Bool.{cases_Bool, or_parts, leb-false, cases_lt, cond-true, cond-false, lt-ltb, le-ltb}
-use Rattle.link_model.specs.Numbers.{Numbered, greatest, distance, nearest, picture_number, is_closed, is_late, enters, entered}
+use Rattle.std.proofs.lemmas.Bool.{or_parts, leb-false, cond-true, cond-false, lt-ltb, le-ltb}
+use Rattle.link_model.specs.Numbers.{Numbered, greatest, distance, nearest, is_closed, is_late, enters, entered}
 use Rattle.link_model.specs.Session.{Fragment}
 use Rattle.link_model.proofs.Numbering.{late_changes_nothing, early_enters, greatest-append}
 
@@ -16,22 +16,13 @@ module _ (g bits : ℕ) (large : 2 ^ 32 ≤ g) (small : bits < 2 ^ 32) where
   nearest-below h = cond-false (nat_lt (distance g bits) (2 ^ 31)) (g + distance g bits) (g + distance g bits - 2 ^ 32) (le-ltb (distance g bits) (2 ^ 31) h)
 
   pub nearest-bits : nearest g bits % 2 ^ 32 ≡ bits
-  nearest-bits = elim (cases_lt (distance g bits) (2 ^ 31)) [
-    | inl h ↦ ap (λ n. n % 2 ^ 32) (nearest-above h) ∙ omega arith
-    | inr h ↦ ap (λ n. n % 2 ^ 32) (nearest-below h) ∙ omega arith
-  ]
+  nearest-bits = grind (arith, nearest-above, nearest-below)
 
   pub nearest-not_above : nearest g bits < g + 2 ^ 31
-  nearest-not_above = elim (cases_lt (distance g bits) (2 ^ 31)) [
-    | inl h ↦ omega (arith, nearest-above h, h)
-    | inr h ↦ omega (arith, nearest-below h, h)
-  ]
+  nearest-not_above = grind (arith, nearest-above, nearest-below)
 
   pub nearest-not_below : g ≤ nearest g bits + 2 ^ 31
-  nearest-not_below = elim (cases_lt (distance g bits) (2 ^ 31)) [
-    | inl h ↦ omega (arith, nearest-above h, h)
-    | inr h ↦ omega (arith, nearest-below h, h)
-  ]
+  nearest-not_below = grind (arith, nearest-above, nearest-below)
 
 -- ---- all numbers that enter fit
 
@@ -48,10 +39,8 @@ unfolding is_late
 unlate window es n early = leb-false (2 ^ 64 - 16) n (or_parts (is_closed window es n) (nat_le (2 ^ 64 - 16) n) early).1
 
 pub enters_fits : (base window : ℕ) (es : List Numbered) (f : Fragment) → greatest es < 2 ^ 64 - 16 → greatest (enters base window es f) < 2 ^ 64 - 16
-enters_fits base window es f fits = elim (cases_Bool (is_late window es (picture_number base es f.number))) [
-  | inl late ↦ subst (λ (l : List Numbered). greatest l < 2 ^ 64 - 16) (sym (late_changes_nothing base window es f late)) fits
-  | inr early ↦ subst (λ (l : List Numbered). greatest l < 2 ^ 64 - 16) (sym (early_enters base window es f early)) (greatest-one es (record { number = picture_number base es f.number; part = f.part }) fits (unlate window es (picture_number base es f.number) early))
-]
+enters_fits base window es f fits =
+    grind (arith, early_enters, greatest-one, late_changes_nothing, unlate)
 
 pub entered_fits : (base window : ℕ) (fragments : List Fragment) → greatest (entered base window fragments) < 2 ^ 64 - 16
 entered_fits base window fragments = all_fit [] fragments greatest-none

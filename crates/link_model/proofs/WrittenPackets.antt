@@ -1,17 +1,13 @@
 -- An RTP header that was written is read back.
-use Rattle.std.proofs.Common.{◌≡◌, ◌<◌, ◌≤◌, ℕ, ◌+◌, ◌/◌, ◌%◌, ◌^◌, Bool, true, false, List, [], ◌++◌, length, drop, Ok, refl, ap, ◌∙◌, arith, if◌then◌else◌, ◌==◌}
-use Rattle.std.proofs.lemmas.Bool.{le-ltb, le-leb}
+use Rattle.std.proofs.Common.{◌≡◌, ◌<◌, ◌≤◌, ℕ, ◌+◌, ◌/◌, ◌%◌, ◌^◌, Bool, true, false, List, ◌++◌, length, drop, Ok, refl, arith, if◌then◌else◌, ◌==◌}
+use Rattle.std.proofs.lemmas.Bool.{le-ltb}
 use Rattle.byteorder.specs.Endian.{big_number}
-use Rattle.byteorder.specs.Numbers.{big_number-reads_back}
 use Rattle.link_model.specs.Packets.{RtpPacket, RtpFits, version, has_padding, has_extension, csrc_count, marker, payload_type, rtp_packet, rtp_header, is_shaped, header_end, payload_end, packet_fields}
 
 -- a packet without CSRC list, extension or padding: the payload is all that follows the first 12 bytes
 plain_packet : (bytes : List ℕ) → 12 ≤ length bytes → version bytes ≡ 2 → has_padding bytes ≡ false → has_extension bytes ≡ false → csrc_count bytes ≡ 0 → rtp_packet bytes ≡ Ok (record { marker = marker bytes; payload_type = payload_type bytes; sequence = big_number 2 (drop 2 bytes); timestamp = big_number 4 (drop 4 bytes); ssrc = big_number 4 (drop 8 bytes); from = 12; to = length bytes })
 unfolding rtp_packet is_shaped header_end payload_end packet_fields
-plain_packet bytes long two unpadded unextended alone =
-    let whole = le-ltb (length bytes) 12 long in
-    let fits = le-leb 12 (length bytes) long in
-    rw (whole, two, unpadded, unextended, alone, fits) refl
+plain_packet bytes long two unpadded unextended alone = grind (arith, le-ltb)
 
 -- the marker and the payload type in one byte
 marker_is : (m : Bool) (t : ℕ) → t < 2 ^ 7 → ((if m then 128 + t else t) / 128 == 1) ≡ m
@@ -31,9 +27,6 @@ same_packet em et es ez ec eto = λ i. packet (em i) (et i) (es i) (ez i) (ec i)
 
 pub rtp_packet-rtp_header : (p : RtpPacket) (rest : List ℕ) → RtpFits p → rtp_packet (rtp_header p ++ rest) ≡ Ok (record p { from = 12; to = 12 + length rest })
 unfolding rtp_header
-rtp_packet-rtp_header p rest fits =
-    plain_packet (rtp_header p ++ rest) (omega arith) refl refl refl refl
-    ∙ ap Ok (same_packet (marker_is p.marker p.payload_type fits.payload_type) (type_is p.marker p.payload_type fits.payload_type)
-    (big_number-reads_back 2 p.sequence [] fits.sequence) (big_number-reads_back 4 p.timestamp [] fits.timestamp) (big_number-reads_back 4 p.ssrc [] fits.ssrc) (omega arith))
+rtp_packet-rtp_header p rest fits = grind (arith, marker_is, plain_packet, same_packet, type_is)
 
 pub ruleset laws = (rtp_packet-rtp_header)
