@@ -1,6 +1,6 @@
 -- The end of the input: what is written then is the rest of the stream.
 use Rattle.std.proofs.Common.{◌≡◌, ℕ, ◌≤◌, ◌%◌, ◌^◌, true, false, refl, ap, sym, subst, ◌∙◌}
-use Rattle.std.proofs.Common.{List, [], ◌∷◌, ◌++◌, length, Option, None}
+use Rattle.std.proofs.Common.{List, [], ◌∷◌, ◌++◌, length, Option, None, arith}
 use Rattle.std.specs.Prelude.{drop}
 use Rattle.std.specs.List.{flat_map}
 use Rattle.std.specs.Option.{option_map, option_map_or}
@@ -22,8 +22,7 @@ use Rattle.link_reception.proofs.Starting.{past_at_rest, st_at_rest, end_works, 
 use Rattle.link_reception.proofs.Working.{IsWorking, all_working}
 use Rattle.link_stream.specs.Streams.{units_behind, last_length, behind_header, with_end, end_unit}
 use Rattle.link_stream.specs.Streams.{frame_units, first_header, first_pictures}
-use Rattle.link_stream.specs.Streams.{first_pictures_so_far, units_so_far, stream_of}
-use Rattle.link_stream.specs.Streams.{stream_so_far}
+use Rattle.link_stream.specs.Streams.{first_pictures_so_far, stream_of, stream_so_far}
 use Rattle.link_stream.proofs.FirstPictures.{end_shows}
 use Rattle.vc_types.specs.DataUnits.{DataUnit, unit_bytes}
 use Rattle.vc_types.specs.ParseCodes.{end_code}
@@ -87,19 +86,13 @@ module _ (r : Reception) (size : ℕ) (f : Feeder) (small : size ≤ 8) (stands 
   same_stream : all_pictures ≡ pictures_so_far
       → stream_of size f.heard ≡ stream_so_far size f.heard ++ end_of_stream w
   unfolding stream_of stream_so_far
-  same_stream same =
-      ap (λ (l : List DataUnit). units_behind 0 (with_end (behind_header header l))) same
-      ∙ end_bytes (units_so_far size f.heard)
-      ∙ ap (λ (o : Option ℕ). units_behind 0 (units_so_far size f.heard) ++ end_behind o)
-      (sym streams.previous)
+  same_stream same = grind (arith, end_bytes)
 
   writes : (bytes : List ℕ) (then : WrittenStream) → all_streamed_bytes last w ≡ bytes
       → streams_all last w ≡ then
       → end_units r xs w ≡ bytes ++ end_of_stream then
   unfolding end_units stream_takes_end
-  writes bytes then is stream =
-      ap (λ (l : List ℕ). l ++ end_of_stream (streams_all last w)) is
-      ∙ ap (λ (v : WrittenStream). bytes ++ end_of_stream v) stream
+  writes bytes then is stream = grind arith
 
   abbrev Goal : Type 0
   Goal = stream_of size f.heard ≡ stream_so_far size f.heard ++ end_units r xs w
@@ -174,12 +167,7 @@ module _ (r : Reception) (size : ℕ) (f : Feeder) (small : size ≤ 8) (stands 
     more = flat_map (frame_units s es) (releasable_numbers past)
 
     grown : all_pictures ≡ pictures_so_far ++ more
-    grown =
-        ap (first_pictures size) at
-        ∙ left.2
-        ∙ ap (λ (l : List DataUnit). l ++ flat_map (frame_units s es) left.0)
-        (sym (ap (first_pictures_so_far size) at))
-        ∙ ap (λ (ns : List ℕ). pictures_so_far ++ flat_map (frame_units s es) ns) (sym released)
+    grown = grind (arith, left, released)
 
     one : Goal
     one =
@@ -189,9 +177,4 @@ module _ (r : Reception) (size : ℕ) (f : Feeder) (small : size ≤ 8) (stands 
         ∙ sym (writes (bytes_next w more) (streams_all last w) ran.bytes refl))
 
   pub ends : Goal
-  ends = by_sessions (sessions_of f.heard) refl
-    where
-      by_sessions : (l : List HeardSession) → sessions_of f.heard ≡ l → Goal
-      by_sessions [] at = none at
-      by_sessions (h ∷ []) at = one h at
-      by_sessions (h ∷ g ∷ hs) at = several h g hs at
+  ends = grind (arith, none, one, several)

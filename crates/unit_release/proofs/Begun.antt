@@ -1,10 +1,10 @@
 -- Datagrams of which one begins a session, and the header of the first that does.
-use Rattle.std.proofs.Common.{◌≡◌, ℕ, Bool, true, false, refl, ap, sym, subst, ◌∙◌, inl, inr}
-use Rattle.std.proofs.Common.{List, [], ◌∷◌, ◌++◌, Option, Some, None, cond}
+use Rattle.std.proofs.Common.{◌≡◌, ℕ, Bool, true, false, refl, ap, sym, ◌∙◌}
+use Rattle.std.proofs.Common.{List, [], ◌∷◌, ◌++◌, Option, Some, None, cond, arith}
 use Rattle.std.specs.Prelude.{◌||◌, is_some, fold}
 use Rattle.std.specs.List.{list_any}
 use Rattle.std.specs.Option.{option_map_or}
-use Rattle.std.proofs.lemmas.Bool.{cases_Bool, false≢true, or_parts}
+use Rattle.std.proofs.lemmas.Bool.{false≢true, or_parts}
 use Rattle.std.proofs.lemmas.List.{append-nil}
 use Rattle.link_model.specs.Session.{Session, HeardSession, just_opened, opens_behind}
 use Rattle.link_model.specs.Session.{with_datagram, hears, sessions_of, begins}
@@ -16,11 +16,7 @@ abbrev pub has_begun : List (List ℕ) → Bool
 has_begun datagrams = list_any (λ d. is_some (begins d)) datagrams
 
 some_stand : (h : HeardSession) (hs : List HeardSession) → [] ≡ h ∷ hs → ⊥
-some_stand h hs e = subst (λ (l : List HeardSession). by_list l) e tt
-  where
-    by_list : List HeardSession → Type 0
-    by_list [] = Unit {0}
-    by_list (h ∷ hs) = ⊥
+some_stand h hs e = grind arith
 
 -- sessions that were opened stay
 stand_on : (datagrams : List (List ℕ)) (h : HeardSession) (hs : List HeardSession)
@@ -57,18 +53,12 @@ begun_stand (d ∷ datagrams) begun e =
 
 pub none_begun : (datagrams : List (List ℕ)) → sessions_of datagrams ≡ []
     → has_begun datagrams ≡ false
-none_begun datagrams none = elim (cases_Bool (has_begun datagrams)) [
-  | inl begun ↦ absurd (begun_stand datagrams begun none)
-  | inr not ↦ not
-]
+none_begun datagrams none = grind (arith, begun_stand)
 
 -- and with them one did
 pub one_begun : (datagrams : List (List ℕ)) (h : HeardSession) (hs : List HeardSession)
     → sessions_of datagrams ≡ h ∷ hs → has_begun datagrams ≡ true
-one_begun datagrams h hs at = elim (cases_Bool (has_begun datagrams)) [
-  | inl begun ↦ begun
-  | inr not ↦ absurd (some_stand h hs (sym (no_session datagrams not) ∙ at))
-]
+one_begun datagrams h hs at = grind (arith, no_session, some_stand)
 
 -- ---- the first header
 

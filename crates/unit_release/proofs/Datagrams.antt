@@ -1,10 +1,11 @@
 -- A datagram: the stream that is written stands for what was heard, and it grows as the stream so
 -- far does.
 use Rattle.std.proofs.Common.{◌≡◌, ℕ, ◌≤◌, Bool, true, false, refl, ap, sym, subst, ◌∙◌}
-use Rattle.std.proofs.Common.{List, [], ◌∷◌, ◌++◌, length, Option, Some, None}
+use Rattle.std.proofs.Common.{List, [], ◌∷◌, ◌++◌, length, Option, Some, None, arith}
 use Rattle.std.specs.Prelude.{drop, is_none, unwrap_or, filter_map}
 use Rattle.std.specs.List.{flat_map}
-use Rattle.std.specs.Option.{option_map, option_map_or}
+use Rattle.std.specs.Option.{option_map_or}
+use Rattle.std.proofs.lemmas.Grind.{common_steps}
 use Rattle.std.proofs.lemmas.List.{append-nil}
 use Rattle.link_model.specs.Complete.{whole_picture}
 use Rattle.link_model.specs.Feeders.{Feeder}
@@ -20,7 +21,7 @@ use Rattle.link_model.proofs.Numbering.{Follows, entered_follows}
 use Rattle.link_model.proofs.Releasing.{whole_same}
 use Rattle.link_reception.specs.Entering.{opens_session, before_releases, takes_datagram}
 use Rattle.link_reception.specs.Exchanging.{Exchange, dones_in}
-use Rattle.link_reception.specs.Judging.{session_opened, opens_after, stands_on, goes_on, is_over}
+use Rattle.link_reception.specs.Judging.{session_opened, opens_after, goes_on, is_over}
 use Rattle.link_reception.specs.Judging.{keeps_datagram}
 use Rattle.link_reception.specs.Receptions.{StandingSession, Reception, FirstField}
 use Rattle.link_reception.specs.Releasing.{releases_all, book_count}
@@ -58,12 +59,7 @@ more_units : (header own : List ℕ) (previous : Option ℕ) (pictures more : Li
     → own ≡ header → previous ≡ length_behind None (behind_header header pictures)
     → behind_header header (pictures ++ more) ≡ behind_header header pictures
     ++ option_map_or (λ previous. more) previous (behind_header own more)
-more_units header own previous [] more same is =
-    sym (ap (λ (o : Option ℕ). option_map_or (λ previous. more) o (behind_header own more)) is
-    ∙ ap (λ (l : List ℕ). behind_header l more) same)
-more_units header own previous (u ∷ pictures) more same is =
-    sym (ap (λ (o : Option ℕ). behind_header header (u ∷ pictures)
-    ++ option_map_or (λ previous. more) o (behind_header own more)) is)
+more_units header own previous pictures more same is = grind arith
 
 -- what a stream so far and its pictures come to with more pictures
 module _ (header : List ℕ) (w : WrittenStream) (pictures more : List DataUnit)
@@ -83,10 +79,7 @@ module _ (header : List ℕ) (w : WrittenStream) (pictures more : List DataUnit)
 
   pub length_more : length_behind None (behind_header header (pictures ++ more))
       ≡ length_behind w.previous (units_next w more)
-  length_more =
-      ap (length_behind None) units_more
-      ∙ length-append None (behind_header header pictures) (units_next w more)
-      ∙ ap (λ (o : Option ℕ). length_behind o (units_next w more)) (sym is)
+  length_more = grind (arith, common_steps, length-append, units_more)
 
 pub drop_front : (a b : List ℕ) → drop (length a) (a ++ b) ≡ b
 drop_front [] b = refl
@@ -128,41 +121,28 @@ module _ (r : Reception) (size : ℕ) (f : Feeder) (small : size ≤ 8) (stands 
   units_are : (more : List DataUnit) → first_header now ≡ first_header f.heard
       → pictures_now ≡ pictures_before ++ more
       → units_so_far size now ≡ behind_header (first_header f.heard) (pictures_before ++ more)
-  units_are more header grown =
-      ap (λ (l : List ℕ). behind_header l pictures_now) header
-      ∙ ap (behind_header (first_header f.heard)) grown
+  units_are more header grown = grind (arith, grown)
 
   bytes_are : (more : List DataUnit) → first_header now ≡ first_header f.heard
       → pictures_now ≡ pictures_before ++ more
       → stream_so_far size now ≡ stream_so_far size f.heard ++ bytes_next w more
   unfolding stream_so_far
-  bytes_are more header grown =
-      ap (units_behind 0) (units_are more header grown)
-      ∙ bytes_more (first_header f.heard) w pictures_before more streams.header streams.previous
+  bytes_are more header grown = grind (arith, bytes_more, grown, units_are)
 
   length_is : (more : List DataUnit) → first_header now ≡ first_header f.heard
       → pictures_now ≡ pictures_before ++ more
       → length_behind w.previous (units_next w more) ≡ length_behind None (units_so_far size now)
-  length_is more header grown =
-      sym (ap (length_behind None) (units_are more header grown)
-      ∙ length_more (first_header f.heard) w pictures_before more streams.header streams.previous)
+  length_is more header grown = grind (arith, grown, length_more, units_are)
 
   -- where nothing comes to it
   same_bytes : first_header now ≡ first_header f.heard → pictures_now ≡ pictures_before
       → stream_so_far size now ≡ stream_so_far size f.heard ++ []
   unfolding stream_so_far
-  same_bytes header same =
-      ap (λ (l : List ℕ). units_behind 0 (behind_header l pictures_now)) header
-      ∙ ap (λ (l : List DataUnit). units_behind 0 (behind_header (first_header f.heard) l)) same
-      ∙ sym (append-nil (units_behind 0 (units_so_far size f.heard)))
+  same_bytes header same = grind (arith, common_steps, append-nil)
 
   same_length : first_header now ≡ first_header f.heard → pictures_now ≡ pictures_before
       → w.previous ≡ length_behind None (units_so_far size now)
-  same_length header same =
-      streams.previous
-      ∙ sym (ap (λ (l : List ℕ). length_behind None (behind_header l pictures_now)) header
-      ∙ ap (λ (l : List DataUnit). length_behind None (behind_header (first_header f.heard) l))
-      same)
+  same_length header same = grind arith
 
   -- ---- before a session stands
 
@@ -182,11 +162,7 @@ module _ (r : Reception) (size : ℕ) (f : Feeder) (small : size ≤ 8) (stands 
 
     still_none : before.standing ≡ None
     unfolding keeps_datagram
-    still_none =
-        let idle : (keeps_datagram r d).standing ≡ None =
-        ap (option_map (λ (st : StandingSession). stands_on (session_opened r d) st d))
-        none_standing in
-        (idle_exchanged xs (keeps_datagram r d) idle).standing ∙ idle
+    still_none = grind (arith, idle_exchanged, none_standing)
 
     opened_first : session_opened r d ≡ begins d
     opened_first = ap (λ (o : Option StandingSession). opens_after o (begins d)) none_standing
@@ -197,10 +173,7 @@ module _ (r : Reception) (size : ℕ) (f : Feeder) (small : size ≤ 8) (stands 
     takes_is : (o : Option Session) → begins d ≡ o
         → stream_takes r d xs w ≡ opens_stream_for o (is_none r.standing) d w
     unfolding stream_takes
-    takes_is o is =
-        ap (λ (o : Option Session). opens_stream_for o (is_none r.standing) d (streams_all before w))
-        (opened_first ∙ is)
-        ∙ ap (opens_stream_for o (is_none r.standing) d) (idle_stream before w still_none)
+    takes_is o is = grind (arith, idle_stream, opened_first, still_none)
 
     writes_none : datagram_units r d xs w ≡ []
     unfolding datagram_units
@@ -213,12 +186,7 @@ module _ (r : Reception) (size : ℕ) (f : Feeder) (small : size ≤ 8) (stands 
     empty_so_far : pictures_now ≡ [] → stream_so_far size now
         ≡ stream_so_far size f.heard ++ datagram_units r d xs w
     unfolding stream_so_far
-    empty_so_far none =
-        ap (λ (l : List DataUnit). units_behind 0 (behind_header (first_header now) l)) none
-        ∙ sym (ap (λ (l : List DataUnit). units_behind 0
-        (behind_header (first_header f.heard) l) ++ datagram_units r d xs w) no_pictures
-        ∙ ap (λ (l : List ℕ). units_behind 0 [] ++ l) writes_none
-        ∙ append-nil (units_behind 0 []))
+    empty_so_far none = grind (arith, common_steps, append-nil, no_pictures, writes_none)
 
     empty_length : pictures_now ≡ []
         → w.previous ≡ length_behind None (units_so_far size now)
@@ -315,9 +283,7 @@ module _ (r : Reception) (size : ℕ) (f : Feeder) (small : size ≤ 8) (stands 
         → pictures_now ≡ pictures_before ++ more
         → stream_so_far size now ≡ stream_so_far size f.heard ++ datagram_units r d xs w
     unfolding datagram_units
-    wrote_all more wrote grown =
-        bytes_are more header_same grown
-        ∙ ap (λ (l : List ℕ). stream_so_far size f.heard ++ l) (sym wrote)
+    wrote_all more wrote grown = grind (arith, bytes_are, grown, header_same)
 
     -- ---- behind the first
 
@@ -329,18 +295,11 @@ module _ (r : Reception) (size : ℕ) (f : Feeder) (small : size ≤ 8) (stands 
 
       stays_over : (v : WrittenStream) → v.header ≡ w.header → v.is_over ≡ true
           → v.previous ≡ w.previous → StreamsFor then v size now
-      stays_over v header is previous = record {
-        header = header ∙ streams.header ∙ sym header_same;
-        over = is ∙ sym several;
-        field = any v.field;
-        previous = previous ∙ same_length header_same same;
-      }
+      stays_over v header is previous = grind (arith, header_same, same_length)
 
       over_bytes : stream_so_far size now ≡ stream_so_far size f.heard ++ datagram_units r d xs w
       unfolding datagram_units
-      over_bytes = same_bytes header_same same ∙ ap (λ (l : List ℕ).
-          stream_so_far size f.heard ++ l)
-          (sym (over_writes_nothing w over (book_count before) before))
+      over_bytes = grind (arith, header_same, over_writes_nothing, same_bytes)
 
       pub behind : (o : Option Session) → opens_behind h (begins d) ≡ o → Grown
       behind None is = record {
@@ -447,13 +406,7 @@ module _ (r : Reception) (size : ℕ) (f : Feeder) (small : size ≤ 8) (stands 
       more = flat_map (frame_units s new) (releasable_numbers past_then)
 
       grown : pictures_now ≡ pictures_before ++ more
-      grown =
-          ap (first_pictures_so_far size) sessions_then
-          ∙ shown.2
-          ∙ ap (λ (l : List DataUnit). l ++ flat_map (frame_units s new) shown.0)
-          (sym shown_before)
-          ∙ ap (λ (ns : List ℕ). pictures_before ++ flat_map (frame_units s new) ns)
-          (sym released)
+      grown = grind (arith, released, sessions_then, shown, shown_before)
 
       then_is : then.field ≡ (releases_all before).field
       unfolding takes_datagram
@@ -461,14 +414,7 @@ module _ (r : Reception) (size : ℕ) (f : Feeder) (small : size ≤ 8) (stands 
           (opened_by h [] at ∙ none)
 
       goes : StreamsFor then (streams_all before w) size now
-      goes = record {
-        header = ran.goes_on.header ∙ streams.header ∙ sym (header_same h [] at);
-        over = ran.goes_on.over ∙ still_first ∙ sym (ap has_next sessions_then);
-        field = subst (λ (l : List HeardSession).
-            HasField size l then.field (streams_all before w).field) (sym sessions_then)
-            (ran.field ∙ ap (waiting_bytes s new) (sym then_is));
-        previous = ran.goes_on.previous ∙ length_is more (header_same h [] at) grown;
-      }
+      goes = grind (arith, grown, header_same, length_is, ran, sessions_then, still_first, then_is)
 
       pub on : Grown
       on = record {
@@ -522,29 +468,13 @@ module _ (r : Reception) (size : ℕ) (f : Feeder) (small : size ≤ 8) (stands 
 
       grown_over : pictures_now ≡ pictures_before ++ more_over
       unfolding first_pictures_so_far
-      grown_over =
-          ap (first_pictures_so_far size) sessions_two
-          ∙ left.2
-          ∙ ap (λ (l : List DataUnit). l ++ flat_map (frame_units s old) left.0)
-          (sym shown_before)
-          ∙ ap (λ (ns : List ℕ). pictures_before ++ flat_map (frame_units s old) ns)
-          (sym released_over)
+      grown_over = grind (arith, left, released_over, sessions_two, shown_before)
 
       closes : StreamsFor then (opens_stream (streams_all before w) false d) size now
-      closes = record {
-        header = ran_over.goes_on.header ∙ streams.header ∙ sym (header_same h [] at);
-        over = sym (ap has_next sessions_two);
-        field = subst (λ (l : List HeardSession). HasField size l then.field None)
-            (sym sessions_two) tt;
-        previous = ran_over.goes_on.previous ∙ length_is more_over (header_same h [] at) grown_over;
-      }
+      closes = grind (arith, grown_over, header_same, length_is, ran_over, sessions_two)
 
       pub next : Grown
-      next = record {
-        follows = subst (λ (v : WrittenStream). StreamsFor then v size now)
-            (sym (takes_next h [] at t opens)) closes;
-        bytes = wrote_all h [] at more_over ran_over.bytes grown_over;
-      }
+      next = grind (arith, closes, follows, grown_over, ran_over, takes_next, wrote_all)
 
   -- ---- whatever stands
 

@@ -1,9 +1,9 @@
 -- A release: the pictures that a receiver of units writes are those of the frame that its last
 -- picture completes.
 use Rattle.std.proofs.Common.{◌≡◌, ℕ, ◌+◌, ◌-◌, ◌%◌, Bool, true, false, refl, ap, sym, ◌∙◌}
-use Rattle.std.proofs.Common.{List, [], ◌∷◌, ◌++◌, map, Option, Some, None, cond, arith, inl, inr}
+use Rattle.std.proofs.Common.{List, [], ◌∷◌, Option, Some, None, cond, arith, inl, inr}
 use Rattle.std.specs.Prelude.{◌==◌, is_some, unwrap_or}
-use Rattle.std.specs.Option.{option_and_then, option_map_or}
+use Rattle.std.specs.Option.{option_and_then}
 use Rattle.std.proofs.lemmas.Bool.{false≢true, eqb-true, cases_Bool}
 use Rattle.link_model.specs.Books.{book_whole}
 use Rattle.link_model.specs.Complete.{whole_picture}
@@ -12,8 +12,7 @@ use Rattle.link_model.specs.Judgement.{has_frame}
 use Rattle.link_model.specs.Numbers.{Numbered, parts_of}
 use Rattle.link_model.specs.Output.{planes_at, frame_at, woven_fields}
 use Rattle.link_model.specs.Session.{HeardSession}
-use Rattle.link_model.specs.Windows.{WindowPast, releasable_numbers, first_of}
-use Rattle.link_model.specs.Windows.{as_releasable}
+use Rattle.link_model.specs.Windows.{WindowPast, releasable_numbers, first_of, as_releasable}
 use Rattle.link_model.specs.declared.tally.Tally.{Tally}
 use Rattle.link_model.proofs.Bookkeeping.{book_whole_is}
 use Rattle.link_reception.specs.Receptions.{StandingSession, Reception, FirstField}
@@ -25,9 +24,9 @@ use Rattle.link_reception.proofs.ReleaseLists.{count_push}
 use Rattle.link_reception.proofs.Releases.{works_then}
 use Rattle.link_reception.proofs.WaitingFields.{first_is, waiting_is}
 use Rattle.link_reception.proofs.Working.{IsWorking, book_of_unreleased}
-use Rattle.link_stream.specs.Streams.{picture_unit, picture_unit_at, frame_pictures, frame_units}
+use Rattle.link_stream.specs.Streams.{picture_unit, picture_unit_at, frame_units}
 use Rattle.vc_types.specs.DataUnits.{DataUnit}
-use Rattle.vc_types.specs.Planes.{Planes, decoded_planes}
+use Rattle.vc_types.specs.Planes.{Planes}
 use Rattle.vc_types.specs.SequenceHeader.{Sequence}
 use Rattle.unit_release.specs.Writing.{WrittenStream, ReleasedPicture, released_pictures}
 use Rattle.unit_release.specs.Writing.{field_unit, writes_picture, behind_picture, picture_bytes}
@@ -36,21 +35,13 @@ use Rattle.unit_release.specs.Receiving.{picture_from, whole_in, streams_picture
 use Rattle.unit_release.specs.Standing.{waiting_bytes}
 
 same_ones : (a b : Bool) → one_if a ≡ one_if b → a ≡ b
-same_ones true true e = refl
-same_ones true false e = absurd (omega (arith, e))
-same_ones false true e = absurd (omega (arith, e))
-same_ones false false e = refl
+same_ones a b e = grind arith
 
 -- a picture that has planes is whole
 planes_whole : (s : Sequence) (es : List Numbered) (n : ℕ) → is_some (planes_at s es n) ≡ true
     → is_some (whole_picture s (parts_of n es)) ≡ true
 unfolding planes_at
-planes_whole s es n has = by_whole (whole_picture s (parts_of n es)) has
-  where
-    by_whole : (o : Option (List ℕ)) → is_some (option_and_then (decoded_planes s) o) ≡ true
-        → is_some o ≡ true
-    by_whole None e = absurd (false≢true e)
-    by_whole (Some bytes) e = refl
+planes_whole s es n has = grind arith
 
 is_there : {X : Type 0} (o : Option X) → is_some o ≡ true → (x : X) × (o ≡ Some x)
 is_there None e = absurd (false≢true e)
@@ -100,10 +91,7 @@ module _ (r : Reception) (size : ℕ) (f : Feeder) (hs : List HeardSession) (p :
   -- the bytes of a first field, as it waits
   field_is : (o : Option FirstField) → field_behind st.session.sequence n planes ≡ o
       → cond (is_some o) (whole_in st.window n) None ≡ waiting_bytes s es o
-  field_is None is = refl
-  field_is (Some w) is =
-      whole_is ∙ ap (λ k. whole_picture s (parts_of k es))
-      (sym (first_is st.session.sequence n planes w is).number)
+  field_is o is = grind (arith, first_is, whole_is)
 
   -- without field coding none waits
   none_waits : s.fields ≡ false → r.field ≡ None
@@ -165,44 +153,17 @@ module _ (r : Reception) (size : ℕ) (f : Feeder) (hs : List HeardSession) (p :
     -- what is written is the frame's pictures
     pub pictures_are : released_pictures w of_receiver ≡ frame_units s es n
     unfolding frame_units
-    pictures_are =
-        ap (λ (b : Bool). cond b (field_unit (n - 1) w.field
-        ++ picture_unit n (unwrap_or (whole_in st.window n) []) ∷ []) []) frame_is
-        ∙ ap (λ (o : Option (List ℕ)). cond (is_some (frame_at s es n))
-        (field_unit (n - 1) w.field ++ picture_unit n (unwrap_or o []) ∷ []) []) whole_is
-        ∙ by_frame (is_some (frame_at s es n)) refl
-      where
-        by_mode : (fields : Bool) → s.fields ≡ fields → is_some (frame_at s es n) ≡ true
-            → field_unit (n - 1) w.field ++ own ∷ []
-            ≡ map (picture_unit_at s es) (cond fields ((n - 1) ∷ n ∷ []) (n ∷ []))
-        by_mode false coding there =
-            ap (λ (o : Option (List ℕ)). field_unit (n - 1) o ++ own ∷ [])
-            (stands ∙ ap (waiting_bytes s es) (none_waits coding))
-        by_mode true coding there = ap (λ (l : List DataUnit). l ++ own ∷ [])
-            (first_units coding there)
-
-        by_frame : (b : Bool) → is_some (frame_at s es n) ≡ b
-            → cond b (field_unit (n - 1) w.field ++ own ∷ []) []
-            ≡ cond b (map (picture_unit_at s es) (frame_pictures s n)) []
-        by_frame false is = refl
-        by_frame true is = by_mode s.fields refl is
+    pictures_are = grind (arith, first_units, frame_is, none_waits, whole_is)
 
     -- behind the release
     module _ (on : w.is_over ≡ false) where
       pub stream_then : streams_picture r (as_releasable p n) w ≡ behind_picture w of_receiver
       unfolding writes_picture
-      stream_then =
-          ap (λ (o : Option StandingSession).
-          option_map_or (λ st. writes_picture w (picture_from r n st)) o w) works.stands
-          ∙ ap (λ (b : Bool). cond b w (behind_picture w of_receiver)) on
+      stream_then = grind arith
 
       pub bytes_then : streamed_bytes r (as_releasable p n) w ≡ bytes_next w (frame_units s es n)
       unfolding picture_bytes
-      bytes_then =
-          ap (λ (o : Option StandingSession).
-          option_map_or (λ st. picture_bytes w (picture_from r n st)) o []) works.stands
-          ∙ ap (λ (b : Bool). cond b [] (bytes_next w (released_pictures w of_receiver))) on
-          ∙ ap (bytes_next w) pictures_are
+      bytes_then = grind (arith, pictures_are)
 
       pub field_then : (behind_picture w of_receiver).field
           ≡ waiting_bytes s es (field_behind st.session.sequence n planes)

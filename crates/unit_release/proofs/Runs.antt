@@ -1,13 +1,12 @@
 -- All pictures that may be released, one after another: the stream goes on by the pictures of their
 -- frames.
 use Rattle.std.proofs.Common.{◌≡◌, ℕ, zero, suc, ◌≤◌, false, refl, ap, sym, subst, ◌∙◌}
-use Rattle.std.proofs.Common.{List, [], ◌∷◌, ◌++◌, length, Option, Some, None, arith}
-use Rattle.std.specs.Prelude.{unwrap_or}
+use Rattle.std.proofs.Common.{List, [], ◌∷◌, ◌++◌, length, None, arith}
 use Rattle.std.specs.List.{flat_map}
-use Rattle.std.specs.Option.{option_and_then, option_map, option_map_or}
+use Rattle.std.specs.Option.{option_and_then, option_map}
 use Rattle.link_model.specs.Feeders.{Feeder}
 use Rattle.link_model.specs.Session.{HeardSession}
-use Rattle.link_model.specs.Windows.{Window, WindowPast, past_releases, window_of}
+use Rattle.link_model.specs.Windows.{WindowPast, past_releases, window_of}
 use Rattle.link_model.specs.Windows.{releasable_numbers, first_of, as_releasable, next_release}
 use Rattle.link_model.specs.declared.tally.Tally.{Tally}
 use Rattle.link_model.proofs.WindowStands.{next_is, releasable_next}
@@ -36,21 +35,11 @@ pub record GoesOn (before after : WrittenStream) (pictures : List DataUnit) : Ty
   pub previous : after.previous ≡ length_behind before.previous (units_next before pictures)
 
 nothing_more : (w : WrittenStream) → GoesOn w w []
-nothing_more w = record { header = refl; over = refl; previous = by_length w.previous }
-  where
-    by_length : (previous : Option ℕ) → previous ≡ length_behind previous
-        (option_map_or (λ previous. []) previous [])
-    by_length None = refl
-    by_length (Some k) = refl
+nothing_more w = grind arith
 
 nothing_written : (w : WrittenStream) → bytes_next w [] ≡ []
 unfolding units_behind
-nothing_written w = by_length w.previous
-  where
-    by_length : (previous : Option ℕ) → units_behind (unwrap_or previous 0)
-        (option_map_or (λ previous. []) previous []) ≡ []
-    by_length None = refl
-    by_length (Some k) = refl
+nothing_written w = grind arith
 
 module _ (size : ℕ) (hs : List HeardSession) (t : Tally) where
   -- after at most so many releases, of these pictures
@@ -144,10 +133,7 @@ module _ (size : ℕ) (hs : List HeardSession) (t : Tally) where
 
   books_are : (r : Reception) (f : Feeder) (p : WindowPast) (st : StandingSession)
       → IsWorking r size f hs p st t → book_count r ≡ length (window_of p).books
-  books_are r f p st works =
-      ap (λ (o : Option StandingSession). option_map_or (λ st. length st.window.books) o 0)
-      works.stands
-      ∙ ap (λ (w : Window). length w.books) works.window.value
+  books_are r f p st works = grind arith
 
   -- all that may be released
   pub all_streamed : (r : Reception) (f : Feeder) (p : WindowPast) (st : StandingSession)

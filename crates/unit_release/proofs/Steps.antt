@@ -1,14 +1,14 @@
 -- What is written of one release after another, and that nothing is once the next session opened.
 use Rattle.std.proofs.Common.{◌≡◌, ℕ, zero, suc, Bool, true, refl, ap, ◌∙◌}
-use Rattle.std.proofs.Common.{List, [], ◌++◌, Option, Some, None, cond}
+use Rattle.std.proofs.Common.{List, [], ◌++◌, Option, Some, None, cond, arith}
 use Rattle.std.specs.Option.{option_map_or}
 use Rattle.link_model.specs.Windows.{Releasable}
-use Rattle.link_reception.specs.Receptions.{Reception, StandingSession}
+use Rattle.link_reception.specs.Receptions.{Reception}
 use Rattle.link_reception.specs.Releasing.{next_picture, releases_picture_of}
 use Rattle.unit_release.specs.Writing.{WrittenStream, ReleasedPicture, writes_picture}
 use Rattle.unit_release.specs.Writing.{picture_bytes, behind_picture, released_pictures, bytes_next}
 use Rattle.unit_release.specs.Receiving.{streams_picture, streamed_bytes, streams_up_to}
-use Rattle.unit_release.specs.Receiving.{streamed_up_to, picture_from}
+use Rattle.unit_release.specs.Receiving.{streamed_up_to}
 
 pub none_streamed : (r : Reception) (w : WrittenStream) → streams_up_to 0 r w ≡ w
 unfolding streams_up_to
@@ -39,17 +39,12 @@ module _ (k : ℕ) (r : Reception) (w : WrittenStream) (picture : Releasable)
 pub stream_stops : (k : ℕ) (r : Reception) (w : WrittenStream) → next_picture r ≡ None
     → streams_up_to k r w ≡ w
 unfolding streams_up_to
-stream_stops zero r w none = refl
-stream_stops (suc k) r w none = ap (λ (o : Option Releasable). option_map_or (λ picture.
-    streams_up_to k (releases_picture_of r picture) (streams_picture r picture w)) o w) none
+stream_stops k r w none = grind arith
 
 pub bytes_stop : (k : ℕ) (r : Reception) (w : WrittenStream) → next_picture r ≡ None
     → streamed_up_to k r w ≡ []
 unfolding streamed_up_to
-bytes_stop zero r w none = refl
-bytes_stop (suc k) r w none = ap (λ (o : Option Releasable). option_map_or
-    (λ picture. streamed_bytes r picture w
-    ++ streamed_up_to k (releases_picture_of r picture) (streams_picture r picture w)) o []) none
+bytes_stop k r w none = grind arith
 
 -- ---- once the next session has opened
 
@@ -63,20 +58,10 @@ module _ (w : WrittenStream) (over : w.is_over ≡ true) where
   no_picture_bytes p = ap (λ (b : Bool). cond b [] (bytes_next w (released_pictures w p))) over
 
   over_picture : (r : Reception) (picture : Releasable) → streams_picture r picture w ≡ w
-  over_picture r picture = by_standing r.standing
-    where
-      by_standing : (o : Option StandingSession)
-          → option_map_or (λ st. writes_picture w (picture_from r picture.number st)) o w ≡ w
-      by_standing None = refl
-      by_standing (Some st) = writes_none (picture_from r picture.number st)
+  over_picture r picture = grind (arith, writes_none)
 
   over_bytes : (r : Reception) (picture : Releasable) → streamed_bytes r picture w ≡ []
-  over_bytes r picture = by_standing r.standing
-    where
-      by_standing : (o : Option StandingSession)
-          → option_map_or (λ st. picture_bytes w (picture_from r picture.number st)) o [] ≡ []
-      by_standing None = refl
-      by_standing (Some st) = no_picture_bytes (picture_from r picture.number st)
+  over_bytes r picture = grind (arith, no_picture_bytes)
 
   pub over_stays : (k : ℕ) (r : Reception) → streams_up_to k r w ≡ w
   over_stays zero r = none_streamed r w

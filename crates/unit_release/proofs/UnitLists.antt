@@ -1,12 +1,12 @@
 -- Units behind others, where of the length of the one before the low 32 bits are known.
-use Rattle.std.proofs.Common.{◌≡◌, ℕ, ◌%◌, ◌^◌, refl, ap, sym, ◌∙◌}
-use Rattle.std.proofs.Common.{List, [], ◌∷◌, ◌++◌, Option, Some, None}
+use Rattle.std.proofs.Common.{◌≡◌, ℕ, ◌%◌, ◌^◌, refl, ap, ◌∙◌}
+use Rattle.std.proofs.Common.{List, [], ◌∷◌, ◌++◌, Option, Some, arith}
 use Rattle.std.specs.Prelude.{unwrap_or}
 use Rattle.std.specs.Option.{option_map_or}
+use Rattle.std.proofs.lemmas.Grind.{common_steps}
 use Rattle.std.proofs.lemmas.List.{append-nil}
 use Rattle.byteorder.specs.Endian.{big_bytes}
-use Rattle.link_stream.specs.Streams.{units_behind, last_length, behind_header}
-use Rattle.link_stream.specs.Streams.{picture_unit}
+use Rattle.link_stream.specs.Streams.{units_behind, last_length, behind_header, picture_unit}
 use Rattle.link_stream.proofs.Units.{units_behind-append, last_length-append}
 use Rattle.vc_types.specs.DataUnits.{DataUnit, unit_length, unit_bytes, parse_info, next_offset}
 use Rattle.vc_types.specs.DataUnits.{parse_info_prefix}
@@ -43,18 +43,12 @@ pub bytes-append : (previous : Option ℕ) (units more : List DataUnit)
     → units_behind (unwrap_or previous 0) (units ++ more)
     ≡ units_behind (unwrap_or previous 0) units
     ++ units_behind (unwrap_or (length_behind previous units) 0) more
-bytes-append previous units more =
-    units_behind-append (unwrap_or previous 0) units more
-    ∙ ap (λ (l : List ℕ). units_behind (unwrap_or previous 0) units ++ l)
-    (sym (behind_units previous units more))
+bytes-append previous units more = grind (arith, behind_units, units_behind-append)
 
 pub length-append : (previous : Option ℕ) (units more : List DataUnit)
     → length_behind previous (units ++ more) ≡ length_behind (length_behind previous units) more
 unfolding last_length
-length-append previous units [] = ap (length_behind previous) (append-nil units)
-length-append previous [] (v ∷ more) = refl
-length-append previous (u ∷ units) (v ∷ more) =
-    ap (λ k. Some (k % 2 ^ 32)) (last_length-append (unit_length u) units (v ∷ more))
+length-append previous units more = grind (arith, last_length-append)
 
 abbrev behind_or : List ℕ → Option ℕ → List DataUnit → List DataUnit
 behind_or header previous pictures =
@@ -64,10 +58,7 @@ next_parts : (header : List ℕ) (previous : Option ℕ) (units more : List Data
     → behind_or header previous (units ++ more)
     ≡ behind_or header previous units
     ++ behind_or header (length_behind previous (behind_or header previous units)) more
-next_parts header (Some k) [] more = refl
-next_parts header (Some k) (u ∷ units) more = refl
-next_parts header None [] more = refl
-next_parts header None (u ∷ units) more = refl
+next_parts header previous units more = grind arith
 
 module _ (w : WrittenStream) (units more : List DataUnit) where
   abbrev pub behind_first : WrittenStream
@@ -89,11 +80,7 @@ module _ (w : WrittenStream) (units more : List DataUnit) where
 
 -- nothing more
 pub next_nothing : (w : WrittenStream) → units_next w [] ≡ []
-next_nothing w = by_length w.previous
-  where
-    by_length : (previous : Option ℕ) → behind_or w.header previous [] ≡ []
-    by_length None = refl
-    by_length (Some k) = refl
+next_nothing w = grind arith
 
 -- ---- one unit more
 
@@ -106,25 +93,14 @@ pub unit_more : (before : Option ℕ) (units : List DataUnit) (bytes : List ℕ)
     → AreUnits before (units ++ u ∷ [])
     (bytes ++ unit_bytes u.code u.body (unwrap_or after 0)) (Some (unit_length u % 2 ^ 32))
 unfolding units_behind last_length
-unit_more before units bytes after are u = record {
-  are =
-      ap (λ (l : List ℕ). l ++ unit_bytes u.code u.body (unwrap_or after 0)) are.are
-      ∙ ap (λ (o : Option ℕ). units_behind (unwrap_or before 0) units
-      ++ unit_bytes u.code u.body (unwrap_or o 0)) are.last
-      ∙ ap (λ (l : List ℕ). units_behind (unwrap_or before 0) units ++ l)
-      (sym (append-nil (unit_bytes u.code u.body (unwrap_or (length_behind before units) 0))))
-      ∙ sym (bytes-append before units (u ∷ []));
-  last = sym (length-append before units (u ∷ []));
-}
+unit_more before units bytes after are u =
+    grind (arith, common_steps, append-nil, bytes-append, length-append)
 
 pub frame_next : (header : List ℕ) (previous : Option ℕ) (n m : ℕ) (field : Option (List ℕ))
     (whole : List ℕ)
     → (header_before header previous ++ field_unit m field) ++ picture_unit n whole ∷ []
     ≡ behind_or header previous (field_unit m field ++ picture_unit n whole ∷ [])
-frame_next header None n m None whole = refl
-frame_next header None n m (Some first) whole = refl
-frame_next header (Some previous) n m None whole = refl
-frame_next header (Some previous) n m (Some first) whole = refl
+frame_next header previous n m field whole = grind arith
 
 pub none_more : (units : List DataUnit) → units ++ [] ≡ units
 none_more units = append-nil units
