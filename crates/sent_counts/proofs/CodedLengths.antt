@@ -1,5 +1,5 @@
 -- How long the blocks and the slices of small coefficients are.
-use Rattle.std.proofs.Common.{◌≡◌, ℕ, zero, suc, ◌+◌, ◌-◌, ◌*◌, ◌/◌, ◌^◌, ◌<◌, ◌≤◌, ℤ, pos, negsuc, unsigned_abs, Bool, true, false, cond, List, [], ◌∷◌, length, map, drop, refl, ap, ◌∙◌, arith}
+use Rattle.std.proofs.Common.{◌≡◌, ℕ, zero, suc, ◌+◌, ◌-◌, ◌*◌, ◌^◌, ◌<◌, ◌≤◌, ℤ, pos, negsuc, unsigned_abs, true, false, List, [], ◌∷◌, length, map, drop, refl, ap, ◌∙◌, arith}
 use Rattle.std.specs.Prelude.{◌==◌}
 use Rattle.std.specs.Int.Digits.{digits_of}
 use Rattle.std.specs.List.{flat_map, range_with_len, zip}
@@ -12,7 +12,7 @@ use Rattle.vc_types.specs.declared.video.Component.{Component}
 use Rattle.vc_types.specs.declared.video.Component.TheVariants.{Y, C1, C2}
 use Rattle.vc_types.specs.Codes.{uint_bits, spread_digits, sign_bits, sint_bits}
 use Rattle.vc_types.specs.Encoding.{block_bits, block_units, component_bits, encoded_length, kept_before, quantised_numbers, without_last_zeros}
-use Rattle.vc_types.specs.Quantisation.{quant_factor, quantised, with_sign_of}
+use Rattle.vc_types.specs.Quantisation.{quantised, with_sign_of}
 use Rattle.vc_types.specs.Slices.{Coefficients, quantisers}
 use Rattle.vc_types.specs.TransformParameters.{Parameters}
 use Rattle.vc_types.proofs.Quantisers.{quant_factor_range}
@@ -21,9 +21,7 @@ use Rattle.vc_types.proofs.Quantisers.{quant_factor_range}
 
 two_each : (digits : List ℕ) → length (flat_map (λ digit. false ∷ (digit == 1) ∷ []) digits) ≡ 2 * length digits
 two_each [] = refl
-two_each (digit ∷ digits) =
-    ap length (flat_map-cons (λ (d : ℕ). false ∷ (d == 1) ∷ []) digit digits)
-    ∙ (let rest = two_each digits in omega (arith, rest))
+two_each (digit ∷ digits) = grind (arith, flat_map-cons, two_each digits)
 
 -- a number of so many digits
 pub uint_short : (digits v : ℕ) → v < 2 ^ digits → length (uint_bits v) ≤ 2 * digits + 1
@@ -38,9 +36,7 @@ uint_short places v small =
     omega (arith, some, rest, pairs, all)
 
 sign_short : (v : ℤ) → length (sign_bits v) ≤ 1
-sign_short (pos zero) = omega arith
-sign_short (pos (suc n)) = omega arith
-sign_short (negsuc n) = omega arith
+sign_short v = grind arith
 
 pub code_short : (v : ℤ) → unsigned_abs v < 2 ^ 60 → length (sint_bits v) ≤ 128
 unfolding sint_bits
@@ -55,10 +51,7 @@ with_sign (negsuc k) n = omega (arith, ints)
 quantised_small : (z : ℤ) (index m : ℕ) → unsigned_abs z < m → unsigned_abs (quantised z index) < m
 unfolding quantised
 quantised_small z index m small =
-    let n = unsigned_abs z in
-    let large = mul-le-mul_right n (quant_factor_range index) in
-    let less = div-le_of_le-mul (quant_factor index) {m = 4 * n} {n = n} large in
-    omega (arith, with_sign z (4 * n / quant_factor index), less)
+    grind (arith, div-le_of_le-mul, mul-le-mul_right, quant_factor_range, with_sign)
 
 -- ---- a block
 
@@ -69,12 +62,7 @@ bits_more : (z : ℤ) (zs : List ℤ) → bits_in (z ∷ zs) ≡ length (sint_bi
 bits_more z zs = ap length (flat_map-cons sint_bits z zs) ∙ length-append (sint_bits z) (flat_map sint_bits zs)
 
 kept_bits : (zs : List ℤ) (z : ℤ) → bits_in (kept_before zs z) ≤ length (sint_bits z) + bits_in zs
-kept_bits [] z = by_test (unsigned_abs z == 0)
-  where
-    by_test : (b : Bool) → bits_in (cond b [] (z ∷ [])) ≤ length (sint_bits z) + bits_in []
-    by_test true = omega arith
-    by_test false = omega (arith, bits_more z [])
-kept_bits (next ∷ rest) z = omega (arith, bits_more z (next ∷ rest))
+kept_bits zs z = grind (arith, bits_more)
 
 module _ (f : ℕ → ℤ) (small : (i : ℕ) → unsigned_abs (f i) < 2 ^ 60) where
   abbrev numbers : ℕ → ℕ → List ℕ → List ℤ
@@ -85,11 +73,7 @@ module _ (f : ℕ → ℤ) (small : (i : ℕ) → unsigned_abs (f i) < 2 ^ 60) w
   few_bits zero a indices = omega arith
   few_bits (suc n) a [] = omega arith
   few_bits (suc n) a (index ∷ indices) =
-      let z = quantised (f a) index in
-      let first = code_short z (quantised_small (f a) index (2 ^ 60) (small a)) in
-      let rest = few_bits n (a + 1) indices in
-      let both = kept_bits (without_last_zeros (numbers (a + 1) n indices)) z in
-      omega (arith, first, rest, both)
+      grind (arith, code_short, kept_bits, quantised_small, few_bits n (a + 1) indices)
 
 -- coefficients that are small, as many as a number says
 pub record AreSmallNumbers (n : ℕ) (zs : List ℤ) : Type 0 where
@@ -104,10 +88,7 @@ block_short p c slice index n zs h = rw h.are (few_bits h.at h.small n 0 (quanti
 -- ---- a slice
 
 units_short : (scaler bits n : ℕ) → bits ≤ 128 * n → scaler * block_units scaler bits ≤ 16 * n + scaler
-units_short scaler bits n few =
-    let most : block_units scaler bits * scaler ≤ (bits + 7) / 8 + scaler - 1 = div-mul-le_self ((bits + 7) / 8 + scaler - 1) scaler in
-    let bytes : (bits + 7) / 8 ≤ 16 * n = omega (arith, few) in
-    omega (arith, most, bytes)
+units_short scaler bits n few = grind (arith, div-mul-le_self)
 
 pub slice_short : (p : Parameters) (slice index y c1 c2 : ℕ) (s : Coefficients) → AreSmallNumbers y s.y → AreSmallNumbers c1 s.c1 → AreSmallNumbers c2 s.c2
     → encoded_length p slice index s ≤ p.prefix + 4 + 3 * p.scaler + 16 * (y + c1 + c2)

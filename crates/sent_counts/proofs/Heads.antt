@@ -4,6 +4,7 @@ use Rattle.std.specs.Prelude.{IsTrue, nat_le, ◌&&◌, ◌==◌, replicate}
 use Rattle.std.specs.List.{list_all}
 use Rattle.std.proofs.lemmas.Bool.{and_parts, leb-true}
 use Rattle.std.proofs.lemmas.Bool.Decides.{nat_tests}
+use Rattle.std.proofs.lemmas.Grind.{common_steps}
 use Rattle.std.proofs.lemmas.List.{length-append, length-replicate, length-take}
 use Rattle.link_model.specs.SendingPictures.{packed_bits, sent_header, sent_parameter_bytes, sent_parameters, sent_sequence}
 use Rattle.link_model.proofs.PackedBits.{length-packed_bits}
@@ -14,14 +15,12 @@ use Rattle.vc_types.specs.Codes.{uint_bits}
 use Rattle.vc_types.specs.declared.plan.Plan.{Plan}
 use Rattle.vc_types.specs.declared.settings.SendSettings.{SendSettings}
 use Rattle.vc_types.specs.declared.video.Sampling.{Sampling}
-use Rattle.vc_types.specs.declared.video.Sampling.TheVariants.{S444, S422, S420}
 use Rattle.vc_types.specs.declared.video.SignalRange.{SignalRange}
 use Rattle.vc_types.specs.Video.{sampling_fits, side_fits}
 use Rattle.vc_types.specs.Fields.{filled_up, flagged_bits, joined}
 use Rattle.vc_types.specs.HeaderSpelling.{IsEncoderHeader, encoder_base, encoder_header, header_bits, preset_of, sampling_index}
 use Rattle.vc_types.specs.Limits.{matrix_fits, slice_bytes_fit, slices_fit}
-use Rattle.vc_types.specs.ParameterSpelling.{coded_unless, default_for, encoder_parameters, is_default, numbers_bits, parameter_bits}
-use Rattle.vc_types.specs.Quantisation.{used_entries}
+use Rattle.vc_types.specs.ParameterSpelling.{coded_unless, encoder_parameters, numbers_bits, parameter_bits}
 use Rattle.vc_types.specs.SenderSettings.{Sending, sending_view}
 use Rattle.vc_types.specs.SequenceHeader.{Sequence}
 use Rattle.vc_types.specs.TransformParameters.{Parameters, parameters_of}
@@ -34,32 +33,24 @@ pub record IsBetween (low high number : ℕ) : Type 0 where
   pub most : number ≤ high
 
 pub between : (low high number : ℕ) → IsTrue (nat_le low number && nat_le number high) → IsBetween low high number
-between low high number fits =
-    let both = and_parts (nat_le low number) (nat_le number high) fits in
-    record { least = leb-true low number both.0; most = leb-true number high both.1 }
+between low high number fits = grind arith
 
 encoder_form : (settings : SendSettings) → IsEncoderHeader (sent_sequence (sending_view settings))
 unfolding sent_sequence
-encoder_form settings =
-    let range = between 1 4 settings.range settings.range_is_known in
-    record { major = refl; minor = refl; level = refl; base = refl; scan = refl; range = (settings.range, range.least, range.most, refl) }
+encoder_form settings = grind (arith, between)
 
 pub is_encoder_header : (settings : SendSettings) (h : Sequence) → h ≡ sent_sequence (sending_view settings) → IsEncoderHeader h
 is_encoder_header settings h is = subst (λ (x : Sequence). IsEncoderHeader x) (sym is) (encoder_form settings)
 
 pub header_bytes : (s : Sending) (h : Sequence) (bytes : List ℕ) → h ≡ sent_sequence s → bits_of bytes ≡ filled_up (header_bits (encoder_header h)) → packed_bits (bits_of bytes) ≡ sent_header s
 unfolding sent_header
-header_bytes s h bytes is bits =
-    ap packed_bits bits
-    ∙ ap (λ (x : Sequence). packed_bits (filled_up (header_bits (encoder_header x)))) is
+header_bytes s h bytes is bits = grind arith
 
 -- ---- the transform parameters
 
 pub parameter_bytes : (s : Sending) (p : Parameters) (bytes : List ℕ) → p ≡ sent_parameters s → bits_of bytes ≡ filled_up (parameter_bits 3 (encoder_parameters p)) → packed_bits (bits_of bytes) ≡ sent_parameter_bytes s
 unfolding sent_parameter_bytes
-parameter_bytes s p bytes is bits =
-    ap packed_bits bits
-    ∙ ap (λ (x : Parameters). packed_bits (filled_up (parameter_bits 3 (encoder_parameters x)))) is
+parameter_bytes s p bytes is bits = grind arith
 
 -- ---- which are few
 
@@ -75,11 +66,7 @@ joined_length [] = refl
 joined_length (part ∷ parts) = length-append part (joined parts) ∙ ap (λ n. length part + n) (joined_length parts)
 
 unless_bits : (number default : ℕ) → number < 2 ^ 16 → length (flagged_bits uint_bits (coded_unless number default)) ≤ 36
-unless_bits number default small = by_test (number == default)
-  where
-    by_test : (b : Bool) → length (flagged_bits uint_bits (cond b None (Some number))) ≤ 36
-    by_test true = omega arith
-    by_test false = (let few = few_bits number small in omega (arith, few))
+unless_bits number default small = grind (arith, few_bits)
 
 values_bits : (values : List ℕ) → matrix_fits values ≡ true → length (numbers_bits values) ≤ 35 * length values
 values_bits [] fits = omega arith
@@ -117,32 +104,22 @@ pub record AreSmall (p : Parameters) : Type 0 where
 
 pub few_parameter_bits : (p : Parameters) → AreSmall p → length (parameter_bits 3 (encoder_parameters p)) ≤ 1000
 few_parameter_bits p small =
-    let a = uint_bits p.wavelet in
-    let b = uint_bits p.depth in
-    let c = flagged_bits uint_bits (coded_unless p.wavelet_ho p.wavelet) in
-    let d = flagged_bits uint_bits (coded_unless p.depth_ho 0) in
-    let e = uint_bits p.slices_x in
-    let f = uint_bits p.slices_y in
-    let g = uint_bits p.prefix in
-    let h = uint_bits p.scaler in
-    let values = used_entries p.depth_ho p.depth p.matrix in
-    let m = flagged_bits numbers_bits (cond (is_default (default_for p) p.matrix) None (Some values)) in
-    let taken = length-take (1 + p.depth_ho + 3 * p.depth) p.matrix in
-    let few : length values ≤ 16 = omega (arith, taken, small.levels) in
-    let across = joined_length (c ∷ d ∷ []) in
-    let slices = joined_length (e ∷ f ∷ []) in
-    let all = joined_length (a ∷ b ∷ joined (c ∷ d ∷ []) ∷ joined (e ∷ f ∷ []) ∷ g ∷ h ∷ m ∷ []) in
-    omega (arith, across, slices, all, few_bits p.wavelet small.wavelet, few_bits p.depth small.depth, unless_bits p.wavelet_ho p.wavelet small.wavelet_ho, unless_bits p.depth_ho 0 small.depth_ho, few_bits p.slices_x small.across, few_bits p.slices_y small.down, few_bits p.prefix small.prefix, few_bits p.scaler small.scaler, matrix_bits (is_default (default_for p) p.matrix) values (taken_fit (1 + p.depth_ho + 3 * p.depth) p.matrix small.matrix) few)
+    grind (
+      arith,
+      common_steps,
+      few_bits,
+      joined_length,
+      length-take,
+      matrix_bits,
+      taken_fit,
+      unless_bits,
+    )
 
 filled_length : (bits : List Bool) → length (filled_up bits) ≡ length bits + (8 - length bits % 8) % 8
 filled_length bits = length-append bits (replicate ((8 - length bits % 8) % 8) false) ∙ ap (λ n. length bits + n) (length-replicate ((8 - length bits % 8) % 8) false)
 
 pub few_packed : (bits : List Bool) → length bits ≤ 1000 → length (packed_bits (filled_up bits)) ≤ 1000
-few_packed bits few =
-    let filled = filled_length bits in
-    let whole : length (filled_up bits) % 8 ≡ 0 = omega (arith, filled) in
-    let packed = length-packed_bits (filled_up bits) whole in
-    omega (arith, filled, packed, few)
+few_packed bits few = grind (arith, filled_length, length-packed_bits)
 
 pub slices_small : (across down : ℕ) → slices_fit across down ≡ true → (across < 2 ^ 16) × (down < 2 ^ 16)
 slices_small across down fits = (grind (arith, nat_tests), grind (arith, nat_tests))
@@ -151,53 +128,19 @@ pub slice_bytes_small : (prefix scaler : ℕ) → slice_bytes_fit prefix scaler 
 slice_bytes_small prefix scaler fits = (grind (arith, nat_tests), grind (arith, nat_tests))
 
 plan_small : (plan : Plan) → AreSmall (parameters_of plan)
-plan_small plan =
-    let slices = slices_small plan.slices_x plan.slices_y plan.slices in
-    let bytes = slice_bytes_small plan.prefix plan.scaler plan.slice_bytes in
-    let levels = plan.few_levels in
-    record {
-      wavelet = omega (arith, plan.wavelet_is_known);
-      wavelet_ho = omega (arith, plan.wavelet_ho_is_known);
-      depth = omega (arith, levels);
-      depth_ho = omega (arith, levels);
-      levels = omega (arith, levels);
-      across = slices.0;
-      down = slices.1;
-      prefix = bytes.0;
-      scaler = bytes.1;
-      matrix = plan.matrix_values;
-    }
+plan_small plan = grind (arith, plan, slice_bytes_small, slices_small)
 
 pub short_parameters : (s : Sending) (plan : Plan) → parameters_of plan ≡ sent_parameters s → length (sent_parameter_bytes s) ≤ 1000
 unfolding sent_parameter_bytes
-short_parameters s plan is =
-    subst (λ (p : Parameters). length (packed_bits (filled_up (parameter_bits 3 (encoder_parameters p)))) ≤ 1000) is
-    (few_packed (parameter_bits 3 (encoder_parameters (parameters_of plan))) (few_parameter_bits (parameters_of plan) (plan_small plan)))
+short_parameters s plan is = grind (arith, few_packed, few_parameter_bits, plan, plan_small)
 
 planned_small : (p : Parameters) → IsPlan p → AreSmall p
-planned_small p plan =
-    let slices = slices_small p.slices_x p.slices_y plan.slices in
-    let bytes = slice_bytes_small p.prefix p.scaler plan.slice_bytes in
-    let levels = plan.few_levels in
-    record {
-      wavelet = omega (arith, plan.wavelet);
-      wavelet_ho = omega (arith, plan.wavelet_ho);
-      depth = omega (arith, levels);
-      depth_ho = omega (arith, levels);
-      levels = omega (arith, levels);
-      across = slices.0;
-      down = slices.1;
-      prefix = bytes.0;
-      scaler = bytes.1;
-      matrix = plan.values;
-    }
+planned_small p plan = grind (arith, plan, slice_bytes_small, slices_small)
 
 -- the same of settings
 pub short_parameters_of : (settings : SendSettings) → length (sent_parameter_bytes (sending_view settings)) ≤ 1000
 unfolding sent_parameter_bytes
-short_parameters_of settings =
-    let p = sent_parameters (sending_view settings) in
-    few_packed (parameter_bits 3 (encoder_parameters p)) (few_parameter_bits p (planned_small p (plan settings)))
+short_parameters_of settings = grind (arith, few_packed, few_parameter_bits, plan, planned_small)
 
 -- ---- and so are those of the sequence header
 
@@ -206,36 +149,30 @@ base_small true = omega arith
 base_small false = omega arith
 
 sampling_small : (sampling : Sampling) → sampling_index sampling < 2 ^ 16
-sampling_small S444 = omega arith
-sampling_small S422 = omega arith
-sampling_small S420 = omega arith
+sampling_small sampling = grind arith
 
 digit_small : (b : Bool) → digit_of b < 2 ^ 16
 digit_small true = omega arith
 digit_small false = omega arith
 
 one_of_four : (a b c : Bool) → cond a 1 (cond b 2 (cond c 3 4)) < 2 ^ 16
-one_of_four true b c = omega arith
-one_of_four false true c = omega arith
-one_of_four false false true = omega arith
-one_of_four false false false = omega arith
+one_of_four a b c = grind arith
 
 preset_small : (range : SignalRange) → preset_of range < 2 ^ 16
 preset_small range = one_of_four (range.luma_excursion == 255) (range.luma_excursion == 219) (range.luma_excursion == 876)
 
 few_header_bits : (h : Sequence) → h.width < 2 ^ 16 → h.height < 2 ^ 16 → length (header_bits (encoder_header h)) ≤ 1000
 few_header_bits h across down =
-    let a = uint_bits 3 in
-    let b = uint_bits 0 in
-    let c = uint_bits (encoder_base h.top_first) in
-    let d = uint_bits h.width in
-    let e = uint_bits h.height in
-    let f = uint_bits (sampling_index h.sampling) in
-    let g = uint_bits (digit_of h.fields) in
-    let r = uint_bits (preset_of h.range) in
-    let size = joined_length (d ∷ e ∷ []) in
-    let all = joined_length (a ∷ b ∷ a ∷ b ∷ c ∷ (true ∷ joined (d ∷ e ∷ [])) ∷ (true ∷ f) ∷ (true ∷ g) ∷ (false ∷ []) ∷ (false ∷ []) ∷ (false ∷ []) ∷ (true ∷ r) ∷ (false ∷ []) ∷ g ∷ []) in
-    omega (arith, size, all, few_bits 3 (omega arith), few_bits 0 (omega arith), few_bits (encoder_base h.top_first) (base_small h.top_first), few_bits h.width across, few_bits h.height down, few_bits (sampling_index h.sampling) (sampling_small h.sampling), few_bits (digit_of h.fields) (digit_small h.fields), few_bits (preset_of h.range) (preset_small h.range))
+    grind (
+      arith,
+      common_steps,
+      base_small,
+      digit_small,
+      few_bits,
+      joined_length,
+      preset_small,
+      sampling_small,
+    )
 
 side_small : (side : ℕ) → side_fits side ≡ true → side < 2 ^ 16
 side_small side fits = grind (arith, nat_tests)

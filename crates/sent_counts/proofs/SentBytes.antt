@@ -1,19 +1,20 @@
 -- How many datagrams, and how many bytes, pictures with small samples are sent in.
-use Rattle.std.proofs.Common.{◌≡◌, ℕ, suc, ◌+◌, ◌*◌, ◌%◌, ◌^◌, ◌<◌, ◌≤◌, Bool, true, false, cond, List, [], ◌∷◌, ◌++◌, length, map, take, drop, refl, sym, ap, ◌∙◌, arith}
+use Rattle.std.proofs.Common.{◌≡◌, ℕ, suc, ◌+◌, ◌*◌, ◌^◌, ◌<◌, ◌≤◌, Bool, true, false, cond, List, [], ◌∷◌, ◌++◌, length, map, take, drop, refl, sym, ap, ◌∙◌, arith}
 use Rattle.std.specs.List.{enumerate_from, sum_by}
+use Rattle.std.proofs.lemmas.Grind.{common_steps}
 use Rattle.std.proofs.lemmas.List.{length-append, length-map, length-take}
 use Rattle.std.proofs.lemmas.List.FromFn.{length-enumerate_from}
 use Rattle.std.proofs.lemmas.List.Sums.{sum_by-append, sum_by-cons, sum_by_push}
 use Rattle.std.proofs.Math.Nat.{mul-le-mul_left, mul-le-mul_right}
 use Rattle.link_model.specs.Kept.{SliceRun}
 use Rattle.link_model.specs.Packets.{rtp_header, fragment_bytes, payload_bytes, payload_head}
-use Rattle.link_model.specs.Sending.{Outgoing, DatagramContent, HeaderContent, ParametersContent, SlicesContent, EndContent, datagrams_from, has_room, outgoing, picture_outgoing, picture_runs, pictures_outgoing, run_bytes, run_end, run_of_one, run_with, runs_from, runs_of_slices, sent_datagram, sent_value}
-use Rattle.link_model.specs.SendingPictures.{plane_in, sent_coefficients, sent_header, sent_parameter_bytes, sent_parameters, sent_slice, sent_slices, slice_room, slices_with_indices}
+use Rattle.link_model.specs.Sending.{Outgoing, DatagramContent, HeaderContent, ParametersContent, SlicesContent, EndContent, datagrams_from, has_room, outgoing, picture_outgoing, pictures_outgoing, run_bytes, run_end, run_of_one, run_with, runs_from, runs_of_slices, sent_datagram, sent_value}
+use Rattle.link_model.specs.SendingPictures.{plane_in, sent_coefficients, sent_header, sent_parameter_bytes, sent_parameters, sent_slice, sent_slices, slices_with_indices}
 use Rattle.link_model.proofs.PackedBits.{length-packed_bits}
 use Rattle.vc_slice.proofs.EncodedSlices.{length_slice}
 use Rattle.vc_types.specs.declared.video.Component.{Component}
 use Rattle.vc_types.specs.declared.video.Component.TheVariants.{Y, C1, C2}
-use Rattle.vc_types.specs.Encoding.{encoded_length, encoded_slice}
+use Rattle.vc_types.specs.Encoding.{encoded_length}
 use Rattle.vc_types.specs.Fields.{joined}
 use Rattle.vc_types.specs.Planes.{Planes}
 use Rattle.vc_types.specs.SenderSettings.{Sending}
@@ -70,11 +71,7 @@ module _ (p : Parameters) (planes : Planes) (levels : p.depth ≤ 5) (depth : (c
 
   sent_short : (slice index : ℕ) → length (sent_slice p planes slice index) ≤ most + 16 * counts slice
   unfolding sent_slice
-  sent_short slice index =
-      let bits = encoded_slice p slice index (sent_coefficients p planes slice) in
-      let eight = length_slice p slice index (sent_coefficients p planes slice) some_scaler in
-      let whole : length bits % 8 ≡ 0 = omega (arith, eight) in
-      omega (arith, eight, length-packed_bits bits whole, encoded_short slice index)
+  sent_short slice index = grind (arith, encoded_short, length-packed_bits, length_slice)
 
   abbrev slices_from : ℕ → List ℕ → List (List ℕ)
   slices_from slice indices = map (λ z. sent_slice p planes z.0 z.1) (enumerate_from slice indices)
@@ -82,32 +79,21 @@ module _ (p : Parameters) (planes : Planes) (levels : p.depth ≤ 5) (depth : (c
   slices_short : (indices : List ℕ) (slice : ℕ) → bytes_in (slices_from slice indices) + 16 * before slice ≤ length indices * most + 16 * before (slice + length indices)
   slices_short [] slice = let same : slice + 0 ≡ slice = omega arith in let e = ap before same in omega (arith, e)
   slices_short (index ∷ indices) slice =
-      let one = sent_short slice index in
-      let rest = slices_short indices (slice + 1) in
-      let sum = sum_by-cons length (sent_slice p planes slice index) (slices_from (slice + 1) indices) in
-      let place : slice + 1 + length indices ≡ slice + suc (length indices) = omega arith in
-      let e = ap before place in
-      let y = counted_more p Y slice some_across some_down in
-      let c1 = counted_more p C1 slice some_across some_down in
-      let c2 = counted_more p C2 slice some_across some_down in
-      omega (arith, one, rest, sum, e, y, c1, c2)
+      grind (
+        arith,
+        common_steps,
+        counted_more,
+        sent_short,
+        sum_by-cons,
+        slices_short indices (slice + 1),
+      )
 
   abbrev area : Component → ℕ
   area c = padded_width p c * padded_height p c
 
   pub picture_short : (indices : List ℕ) → bytes_in (sent_slices p planes indices) ≤ slice_count p * most + 16 * (area Y + area C1 + area C2)
   unfolding sent_slices
-  picture_short indices =
-      let taken = take (slice_count p) indices in
-      let few = length-take (slice_count p) indices in
-      let n = 0 + length taken in
-      let below : n ≤ slice_count p = omega (arith, few) in
-      let y = counted_most p Y n some_across some_down below in
-      let c1 = counted_most p C1 n some_across some_down below in
-      let c2 = counted_most p C2 n some_across some_down below in
-      let all = slices_short taken 0 in
-      let heads = mul-le-mul_right most below in
-      omega (arith, y, c1, c2, all, heads)
+  picture_short indices = grind (arith, counted_most, length-take, mul-le-mul_right, slices_short)
 
   pub picture_count : (indices : List ℕ) → length (sent_slices p planes indices) ≤ slice_count p
   unfolding sent_slices
@@ -178,10 +164,7 @@ module _ (s : Sending) where
 
   content_length : (number picture : ℕ) (c : DatagramContent) → length (sent_datagram s number (outgoing picture c)) ≡ content_weight c
   unfolding sent_datagram sent_value rtp_header payload_bytes fragment_bytes payload_head
-  content_length number picture HeaderContent = omega arith
-  content_length number picture ParametersContent = omega arith
-  content_length number picture (SlicesContent run) = omega arith
-  content_length number picture EndContent = omega arith
+  content_length number picture c = grind arith
 
   pub datagram_length : (number : ℕ) (o : Outgoing) → length (sent_datagram s number o) ≡ weight o
   datagram_length number o = content_length number o.picture o.content
@@ -190,10 +173,7 @@ module _ (s : Sending) where
   unfolding datagrams_from
   datagrams_bytes number [] = refl
   datagrams_bytes number (o ∷ os) =
-      sum_by-cons length (sent_datagram s number o) (datagrams_from s (number + 1) os)
-      ∙ ap (λ n. n + bytes_in (datagrams_from s (number + 1) os)) (datagram_length number o)
-      ∙ ap (λ n. weight o + n) (datagrams_bytes (number + 1) os)
-      ∙ sym (sum_by-cons weight o os)
+      grind (arith, common_steps, datagram_length, sum_by-cons, datagrams_bytes (number + 1) os)
 
   pub datagrams_count : (number : ℕ) (os : List Outgoing) → length (datagrams_from s number os) ≡ length os
   unfolding datagrams_from
@@ -202,9 +182,7 @@ module _ (s : Sending) where
   runs_weight : (picture : ℕ) (runs : List SliceRun) → sum_by weight (map (outgoing picture) (map SlicesContent runs)) ≡ sum_by run_weight runs
   runs_weight picture [] = refl
   runs_weight picture (run ∷ runs) =
-      sum_by-cons weight (outgoing picture (SlicesContent run)) (map (outgoing picture) (map SlicesContent runs))
-      ∙ ap (λ n. run_weight run + n) (runs_weight picture runs)
-      ∙ sym (sum_by-cons run_weight run runs)
+      grind (arith, common_steps, sum_by-cons, runs_weight picture runs)
 
   -- ---- pictures
 
@@ -224,26 +202,24 @@ module _ (s : Sending) where
 
     slices_few : (planes : Planes) (indices : List ℕ) → HaveSmallSamples planes → length (sent_slices (sent_parameters s) planes indices) ≤ 131072
     unfolding sent_parameters
-    slices_few planes indices small =
-        let few = picture_count (sent_parameters s) planes keeps.levels keeps.depth keeps.some_across keeps.some_down keeps.some_scaler small indices in
-        omega (arith, few, keeps.few_slices)
+    slices_few planes indices small = grind (arith, picture_count)
 
     picture_bytes : (picture : ℕ) (indices : List ℕ) (planes : Planes) → HaveSmallSamples planes → sum_by weight (picture_outgoing s picture indices planes) ≤ 2 ^ 30
     unfolding picture_outgoing
     picture_bytes picture indices planes small =
-        let slices = sent_slices (sent_parameters s) planes indices in
-        let runs = picture_runs s indices planes in
-        let behind = map (outgoing picture) (map SlicesContent runs) in
-        let first = sum_by-cons weight (outgoing picture HeaderContent) (outgoing picture ParametersContent ∷ behind) in
-        let second = sum_by-cons weight (outgoing picture ParametersContent) behind in
-        omega (arith, first, second, runs_weight picture runs, all_runs_short (slice_room s) slices, slices_most planes indices small, slices_few planes indices small, keeps.header, keeps.parameters)
+        grind (
+          arith,
+          common_steps,
+          all_runs_short,
+          runs_weight,
+          slices_few,
+          slices_most,
+          sum_by-cons,
+        )
 
     picture_few : (picture : ℕ) (indices : List ℕ) (planes : Planes) → HaveSmallSamples planes → length (picture_outgoing s picture indices planes) ≤ 2 ^ 18
     unfolding picture_outgoing
-    picture_few picture indices planes small =
-        let slices = sent_slices (sent_parameters s) planes indices in
-        let runs = picture_runs s indices planes in
-        omega (arith, length-map (map SlicesContent runs) (outgoing picture), length-map runs SlicesContent, all_runs_few (slice_room s) slices, slices_few planes indices small)
+    picture_few picture indices planes small = grind (arith, all_runs_few, length-map, slices_few)
 
     pub pictures_bytes : (pictures : List Planes) (picture : ℕ) (indices : List ℕ) → AreAllSmall pictures → sum_by weight (pictures_outgoing s picture indices pictures) ≤ 2 ^ 30 * length pictures
     unfolding pictures_outgoing

@@ -1,10 +1,11 @@
 -- How many datagrams, and how many bytes, frames are sent in whose samples are within their limits.
-use Rattle.std.proofs.Common.{◌≡◌, ℕ, zero, suc, ◌+◌, ◌-◌, ◌*◌, ◌/◌, ◌^◌, ◌<◌, ◌≤◌, Bool, true, false, cond, List, [], ◌∷◌, ◌++◌, length, map, get_or, Option, Some, None, refl, sym, ap, subst, ◌∙◌, arith}
-use Rattle.std.specs.Prelude.{nat_lt, nat_le, not}
+use Rattle.std.proofs.Common.{◌≡◌, ℕ, zero, suc, ◌+◌, ◌-◌, ◌*◌, ◌/◌, ◌^◌, ◌<◌, ◌≤◌, Bool, true, false, cond, List, [], ◌∷◌, ◌++◌, length, map, get_or, Option, Some, None, refl, sym, subst, arith}
+use Rattle.std.specs.Prelude.{nat_le, not}
 use Rattle.std.specs.List.{flat_map, range_with_len, sum_by}
 use Rattle.std.specs.Option.{option_map, option_or}
-use Rattle.std.proofs.lemmas.Bool.{leb-true, ltb-true}
+use Rattle.std.proofs.lemmas.Bool.{leb-true}
 use Rattle.std.proofs.lemmas.Bool.Decides.{nat_tests}
+use Rattle.std.proofs.lemmas.Grind.{common_steps}
 use Rattle.std.proofs.lemmas.List.{length-append}
 use Rattle.std.proofs.lemmas.List.Concat.{flat_map-cons}
 use Rattle.std.proofs.lemmas.List.Elements.{All-head, All-tail}
@@ -13,15 +14,14 @@ use Rattle.std.proofs.lemmas.Nat.{le-div}
 use Rattle.std.proofs.lemmas.Option.{none-some}
 use Rattle.std.proofs.Math.Nat.{div-mul-le_self, mul-le-mul_left, mul-le-mul_right}
 use Rattle.std.proofs.Math.Pow.{pow_mono, pow_pos}
-use Rattle.link_model.specs.Sending.{both_fields, end_datagram, frames_outgoing, outgoing, EndContent, pictures_of, pictures_per_frame, sent_datagrams}
-use Rattle.link_model.specs.SendingFaults.{SendFault, first_outside, first_sample_fault, plane_fault, sample_fault}
+use Rattle.link_model.specs.Sending.{both_fields, end_datagram, outgoing, EndContent, pictures_of, pictures_per_frame, sent_datagrams}
+use Rattle.link_model.specs.SendingFaults.{SendFault, first_outside, first_sample_fault, plane_fault}
 use Rattle.link_model.specs.SendingPictures.{plane_in, sent_parameters, sent_sequence}
 use Rattle.link_model.proofs.SentHeads.{plan}
 use Rattle.vc_types.specs.declared.settings.SendSettings.{SendSettings}
 use Rattle.vc_types.specs.declared.video.Component.{Component}
 use Rattle.vc_types.specs.declared.video.Component.TheVariants.{Y, C1, C2}
 use Rattle.vc_types.specs.declared.video.Sampling.{Sampling}
-use Rattle.vc_types.specs.declared.video.Sampling.TheVariants.{S444, S422, S420}
 use Rattle.vc_types.specs.FieldPairs.{every_other_row, fields_of}
 use Rattle.vc_types.specs.Limits.{padded, slices_fit}
 use Rattle.vc_types.specs.Planes.{Planes}
@@ -52,11 +52,7 @@ unmapped f (Some x) h = absurd (none-some (f x) (sym h))
 
 first_inside : (limit place x : ℕ) (xs : List ℕ) → first_outside limit place (x ∷ xs) ≡ None → (x < limit) × (first_outside limit (place + 1) xs ≡ None)
 unfolding first_outside
-first_inside limit place x xs none = by_test (nat_lt x limit) refl none
-  where
-    by_test : (b : Bool) → nat_lt x limit ≡ b → cond b (first_outside limit (place + 1) xs) (Some (place, x)) ≡ None → (x < limit) × (first_outside limit (place + 1) xs ≡ None)
-    by_test true is h = (ltb-true x limit is, h)
-    by_test false is h = absurd (none-some (place, x) (sym h))
+first_inside limit place x xs none = grind arith
 
 all_inside : (limit place : ℕ) (xs : List ℕ) (i : ℕ) → 0 < limit → first_outside limit place xs ≡ None → get_or xs i 0 < limit
 all_inside limit place [] i some none = some
@@ -65,13 +61,7 @@ all_inside limit place (x ∷ xs) (suc i) some none = all_inside limit (place + 
 
 plane_small : (depth number : ℕ) (plane : Raster) → depth ≤ 17 → plane_fault depth number plane ≡ None → HasSmallSamples plane
 unfolding sample_at
-plane_small depth number plane few none = record { below = below }
-  where
-    below : (x y : ℕ) → sample_at plane x y < 2 ^ 17
-    below x y =
-        let most : 2 ^ depth ≤ 2 ^ 17 = pow_mono few in
-        let inside = all_inside (2 ^ depth) 0 plane.samples (y * plane.width + x) (pow_pos depth) (unmapped (sample_fault number) (first_outside (2 ^ depth) 0 plane.samples) none) in
-        omega (arith, most, inside)
+plane_small depth number plane few none = grind (arith, all_inside, pow_mono, pow_pos, unmapped)
 
 frame_small : (s : Sending) (frame : Planes) → ((c : Component) → plane_depth (sent_parameters s).shape c ≤ 17) → first_sample_fault s frame ≡ None → HaveSmallSamples frame
 unfolding first_sample_fault
@@ -110,8 +100,7 @@ module _ (m : ℕ) (f : ℕ → ℕ → ℕ) (small : (x y : ℕ) → f x y < m)
   rows_below : (width a n : ℕ) → AllBelow m (flat_map (λ y. map (λ x. f x y) (range_with_len 0 width)) (range_with_len a n))
   rows_below width a zero = tt
   rows_below width a (suc n) =
-      subst (AllBelow m) (sym (flat_map-cons (λ y. map (λ x. f x y) (range_with_len 0 width)) a (range_with_len (a + 1) n)))
-      (below_append m (map (λ x. f x a) (range_with_len 0 width)) (flat_map (λ y. map (λ x. f x y) (range_with_len 0 width)) (range_with_len (a + 1) n)) (row_below a 0 width) (rows_below width (a + 1) n))
+      grind (arith, below_append, flat_map-cons, row_below, rows_below width (a + 1) n)
 
   raster_below : (width height : ℕ) → AllBelow m (raster width height f)
   unfolding raster
@@ -146,11 +135,7 @@ all_append (planes ∷ a) b x y = (x.0, all_append a b x.1 y)
 
 one_or_two : (s : Sending) (frame : Planes) → length (pictures_of s frame) ≤ 2
 unfolding pictures_of
-one_or_two s frame = by_test s.frames.fields
-  where
-    by_test : (fields : Bool) → length (cond fields (both_fields (fields_of s.frames.top frame)) (frame ∷ [])) ≤ 2
-    by_test true = omega arith
-    by_test false = omega arith
+one_or_two s frame = grind arith
 
 -- ---- frames
 
@@ -166,21 +151,17 @@ module _ (s : Sending) (keeps : KeepsSmall s) where
   two_each : (frames : List Planes) → length (flat_map (pictures_of s) frames) ≤ 2 * length frames
   two_each [] = omega arith
   two_each (frame ∷ frames) =
-      let whole = ap length (flat_map-cons (pictures_of s) frame frames) ∙ length-append (pictures_of s frame) (flat_map (pictures_of s) frames) in
-      let rest = two_each frames in
-      omega (arith, whole, rest, one_or_two s frame)
+      grind (arith, common_steps, flat_map-cons, length-append, one_or_two, two_each frames)
 
   few_datagrams : (indices : List ℕ) (frames : List Planes) → HaveSoundSamples s frames → length (sent_datagrams s indices frames) ≤ 2 ^ 19 * length frames
   unfolding sent_datagrams
   few_datagrams indices frames inside =
-      let pictures = flat_map (pictures_of s) frames in
-      omega (arith, datagrams_count s s.seq (frames_outgoing s indices frames), pictures_few s keeps pictures 0 indices (all_small frames inside), two_each frames)
+      grind (arith, all_small, datagrams_count, pictures_few, two_each)
 
   few_bytes : (indices : List ℕ) (frames : List Planes) → HaveSoundSamples s frames → sum_by length (sent_datagrams s indices frames) ≤ 2 ^ 31 * length frames
   unfolding sent_datagrams
   few_bytes indices frames inside =
-      let pictures = flat_map (pictures_of s) frames in
-      omega (arith, datagrams_bytes s s.seq (frames_outgoing s indices frames), pictures_bytes s keeps pictures 0 indices (all_small frames inside), two_each frames)
+      grind (arith, all_small, datagrams_bytes, pictures_bytes, two_each)
 
 pub end_bytes : (s : Sending) (number frames : ℕ) → length (end_datagram s number frames) ≡ 16
 unfolding end_datagram
@@ -193,23 +174,13 @@ unfolding video_depth
 few_bits excursion = prefix_len-le-length (λ d. not (nat_le (excursion + 1) (2 ^ d))) (range_with_len 0 17)
 
 padded_more : (a b depth : ℕ) → a ≤ b → padded a depth ≤ padded b depth
-padded_more a b depth le =
-    let unit = 2 ^ depth in
-    let some = pow_pos depth in
-    let low = div-mul-le_self (a + unit - 1) unit in
-    let quotient = le-div ((a + unit - 1) / unit) (b + unit - 1) unit some (omega (arith, low)) in
-    mul-le-mul_right unit quotient
+padded_more a b depth le = grind (arith, div-mul-le_self, le-div, mul-le-mul_right, pow_pos)
 
 narrower : (sampling : Sampling) (width : ℕ) → colour_width sampling width ≤ width
-narrower S444 width = omega arith
-narrower S422 width = omega arith
-narrower S420 width = omega arith
+narrower sampling width = grind arith
 
 lower : (sampling : Sampling) (fields : Bool) (height : ℕ) → picture_height fields (colour_height sampling height) ≤ picture_height fields height
-lower S444 fields height = omega arith
-lower S422 fields height = omega arith
-lower S420 true height = omega arith
-lower S420 false height = omega arith
+lower sampling fields height = grind arith
 
 module _ (settings : SendSettings) where
   abbrev s : Sending
@@ -217,11 +188,7 @@ module _ (settings : SendSettings) where
 
   depths : (c : Component) → plane_depth (sent_parameters s).shape c ≤ 17
   unfolding sent_parameters picture_shape
-  depths = elim [
-    | Y ↦ few_bits (sent_sequence s).range.luma_excursion
-    | C1 ↦ few_bits (sent_sequence s).range.colour_excursion
-    | C2 ↦ few_bits (sent_sequence s).range.colour_excursion
-  ]
+  depths = grind (arith, few_bits)
 
   luma_area : padded_width (sent_parameters s) Y * padded_height (sent_parameters s) Y ≤ 8912896
   luma_area = leb-true (padded_width (sent_parameters s) Y * padded_height (sent_parameters s) Y) 8912896 (plan settings).padded_luma
@@ -245,24 +212,17 @@ module _ (settings : SendSettings) where
   keeps_small : KeepsSmall s
   unfolding sent_parameters
   keeps_small =
-      let depth = between 1 4 settings.depth settings.levels in
-      let scaler = between 1 255 settings.scaler settings.scaler_fits in
-      record {
-        levels = omega (arith, depth.most);
-        depth = depths;
-        some_across = some_across settings.slices_x settings.slices_y settings.slices;
-        some_down = some_down settings.slices_x settings.slices_y settings.slices;
-        few_slices = few_slices settings.slices_x settings.slices_y settings.slices;
-        prefix = settings.prefix_fits;
-        some_scaler = scaler.least;
-        scaler = scaler.most;
-        area = areas;
-        header = short_header settings;
-        parameters = short_parameters_of settings;
-      }
+      grind (
+        arith,
+        areas,
+        between,
+        depths,
+        few_slices,
+        short_header,
+        short_parameters_of,
+        some_across,
+        some_down,
+      )
 
   pub are_few : (indices : List ℕ) (frames : List Planes) → HaveSoundSamples s frames → AreFew (length frames) (sent_datagrams s indices frames)
-  are_few indices frames sound = record {
-    count = few_datagrams s keeps_small indices frames sound;
-    bytes = few_bytes s keeps_small indices frames sound;
-  }
+  are_few indices frames sound = grind (arith, few_bytes, few_datagrams, keeps_small)

@@ -39,26 +39,16 @@ covered across down slice r = covered_at r across down (slice % across) (slice /
 
 covered_is : (across down slice column row : ℕ) (r : Rect) → slice ≡ row * across + column → column < across → covered across down slice r ≡ covered_at r across down column row
 unfolding covered
-covered_is across down slice column row r is below =
-    let quotient : slice / across ≡ row = ap (λ n. n / across) is ∙ div-mul-add row across column below in
-    let rest : slice % across ≡ column = ap (λ n. n % across) is ∙ mod-mul-add row across column below in
-    rw (quotient, rest) refl
+covered_is across down slice column row r is below = grind (arith, div-mul-add, is, mod-mul-add)
 
 joined : (a b d : ℕ) → a ≤ b → a * d + (b - a) * d ≡ b * d
-joined a b d le =
-    let k = b - a in
-    let e : b ≡ a + k = omega arith in
-    let f = ap (λ n. n * d) e in
-    omega (arith, f)
+joined a b d le = grind arith
 
 joined_left : (a b d : ℕ) → a ≤ b → d * a + d * (b - a) ≡ d * b
 joined_left a b d le = let f = joined a b d le in omega (arith, f)
 
 next_column : (across down column row : ℕ) (r : Rect) → 0 < across → covered_at r across down column row + area (share r across down column row) ≡ covered_at r across down (column + 1) row
-next_column across down column row r some =
-    let d = share_start r.height down (row + 1) - share_start r.height down row in
-    let more = joined (share_start r.width across column) (share_start r.width across (column + 1)) d (start_rises r.width across column some) in
-    omega (arith, more)
+next_column across down column row r some = grind (arith, joined, start_rises)
 
 next_row : (across down column row : ℕ) (r : Rect) → 0 < across → 0 < down → column + 1 ≡ across → covered_at r across down (column + 1) row ≡ covered_at r across down 0 (row + 1)
 next_row across down column row r some some_down last =
@@ -122,23 +112,19 @@ module _ (across down slice : ℕ) (some : 0 < across) (some_down : 0 < down) (p
   all_more : (bands : List Subband) → sum_by (covered across down slice) (map place bands) + sum_by area (map part bands) ≡ sum_by (covered across down (slice + 1)) (map place bands)
   all_more [] = refl
   all_more (b ∷ bands) =
-      let one = covered_more across down slice (place b) some some_down in
-      let rest = all_more bands in
-      omega (arith, one, rest, sum_by-cons (covered across down slice) (place b) (map place bands), sum_by-cons area (part b) (map part bands), sum_by-cons (covered across down (slice + 1)) (place b) (map place bands))
+      grind (arith, common_steps, covered, covered_more, sum_by-cons, all_more bands)
 
 all_most : (across down slice : ℕ) → 0 < across → 0 < down → slice ≤ across * down → (rs : List Rect) → sum_by (covered across down slice) rs ≤ sum_by area rs
 all_most across down slice some some_down few [] = omega arith
 all_most across down slice some some_down few (r ∷ rs) =
-    let one = covered_most across down slice r some some_down few in
-    let rest = all_most across down slice some some_down few rs in
-    omega (arith, one, rest, sum_by-cons (covered across down slice) r rs, sum_by-cons area r rs)
-
-none_covered : (across down : ℕ) (r : Rect) → 0 < across → 0 < down → covered across down 0 r ≡ 0
-none_covered across down r some some_down =
-    let at = covered_is across down 0 0 0 r (omega arith) some in
-    let a = ap (λ n. r.width * n) (start_none r.height down some_down) in
-    let b = ap (λ n. n * (share_start r.height down (0 + 1) - share_start r.height down 0)) (start_none r.width across some) in
-    omega (arith, at, a, b)
+    grind (
+      arith,
+      common_steps,
+      covered,
+      covered_most,
+      sum_by-cons,
+      all_most across down slice some some_down few rs,
+    )
 
 side_is : (w most levels level n : ℕ) → n + min most (levels + 1 - level) ≡ most → level_side (w * 2 ^ most) most levels level ≡ w * 2 ^ n
 side_is w most levels level n e =
@@ -207,6 +193,4 @@ module _ (p : Parameters) (c : Component) where
 
   pub counted_most : (slice : ℕ) → 0 < p.slices_x → 0 < p.slices_y → slice ≤ slice_count p → counted slice ≤ padded_width p c * padded_height p c
   unfolding counted
-  counted_most slice some some_down few =
-      let most = all_most p.slices_x p.slices_y slice some some_down few rectangles in
-      omega (arith, most, areas_are)
+  counted_most slice some some_down few = grind (arith, all_most, areas_are)

@@ -1,13 +1,13 @@
 -- How large the coefficients of planes with small samples are.
-use Rattle.std.proofs.Common.{ℕ, ◌+◌, ◌-◌, ◌*◌, ◌^◌, ◌<◌, ◌≤◌, pos, unsigned_abs, refl, arith, min}
+use Rattle.std.proofs.Common.{ℕ, ◌+◌, ◌-◌, ◌*◌, ◌^◌, ◌<◌, ◌≤◌, pos, unsigned_abs, arith}
 use Rattle.std.specs.Prelude.{◌-ℤ◌}
 use Rattle.std.proofs.lemmas.Int.{ints}
 use Rattle.std.proofs.Math.Pow.{pow_mono}
-use Rattle.link_model.specs.SendingPictures.{plane_in, sent_cells, number_in, numbers_in_slice}
+use Rattle.link_model.specs.SendingPictures.{plane_in, sent_cells, numbers_in_slice}
 use Rattle.vc_types.specs.declared.video.Component.{Component}
 use Rattle.vc_types.specs.Planes.{Planes}
 use Rattle.vc_types.specs.Rasters.{Raster, sample_at}
-use Rattle.vc_types.specs.Subbands.{plane_width, plane_height, plane_depth, slice_coefficient_count, coefficient_place}
+use Rattle.vc_types.specs.Subbands.{plane_depth, slice_coefficient_count}
 use Rattle.vc_types.specs.TransformParameters.{Parameters}
 use Rattle.vc_types.specs.Transforms.{padded_plane, forward_transform, forward_levels, lowest_width, lowest_height}
 use Rattle.vc_wave.specs.Planes.{AreBelow}
@@ -29,9 +29,7 @@ module _ (p : Parameters) (c : Component) (planes : Planes) (levels : p.depth �
 
   first_below : AreBelow (2 ^ 17) (padded_plane p c samples)
   unfolding padded_plane
-  first_below x y =
-      centred (samples (min x (plane_width p.shape c - 1)) (min y (plane_height p.shape c - 1))) (plane_depth p.shape c)
-      (small.below (min x (plane_width p.shape c - 1)) (min y (plane_height p.shape c - 1))) depth
+  first_below x y = grind (arith, centred)
 
   cells_below : AreBelow (2 ^ 60) (sent_cells p planes c)
   unfolding sent_cells forward_transform
@@ -43,8 +41,4 @@ module _ (p : Parameters) (c : Component) (planes : Planes) (levels : p.depth �
 
   pub small_numbers : (slice : ℕ) → AreSmallNumbers (slice_coefficient_count p c slice) (numbers_in_slice p c (sent_cells p planes c) slice)
   unfolding numbers_in_slice
-  small_numbers slice = record {
-    at = λ i. number_in (sent_cells p planes c) (coefficient_place p c slice i);
-    are = refl;
-    small = λ i. cells_below (coefficient_place p c slice i).0 (coefficient_place p c slice i).1;
-  }
+  small_numbers slice = grind (arith, cells_below)
