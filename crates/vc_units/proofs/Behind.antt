@@ -1,6 +1,7 @@
 -- Bytes behind a unit, and behind units: what stands stays as it is.
 use Rattle.std.proofs.Common.{◌≡◌, ◌⊎◌, ℕ, zero, suc, Bool, true, false, List, [], ◌∷◌, ◌++◌, length, Result, Ok, Err, inl, inr, refl, sym, ap, ◌∙◌, append_assoc, append-nil, arith}
-use Rattle.vc_types.specs.Fields.{and_then, next_items}
+use Rattle.std.proofs.lemmas.Grind.{common_steps}
+use Rattle.vc_types.specs.Fields.{next_items}
 use Rattle.vc_types.proofs.FieldCodecs.{and_then_ok, ok_is, next_items_codec}
 use Rattle.vc_types.specs.DataUnits.{DataUnit, is_end_of_sequence}
 use Rattle.vc_units.specs.Units.{body_length, code_of, settled, data_unit, units_within}
@@ -15,15 +16,10 @@ Units = List DataUnit × List ℕ
 
 -- what is read from the front, and the rest
 front_of : (n : ℕ) (bytes : List ℕ) (read : List ℕ × List ℕ) → next_items Short n bytes ≡ Ok read → (length read.0 ≡ n) × (bytes ≡ read.0 ++ read.1)
-front_of n bytes read is =
-    let a = (next_items_codec Short n).takes bytes read.0 read.1 is in
-    (ap length (sym a.2) ∙ a.1, a.3 ∙ ap (λ (l : List ℕ). l ++ read.1) a.2)
+front_of n bytes read is = grind (arith, common_steps, next_items_codec)
 
 settled_as : (told : Result ℕ UnitFault) (bytes : List ℕ) (read : ℕ × List ℕ) → settled told bytes ≡ Ok read → (told ≡ Ok read.0) × (read.1 ≡ bytes)
-settled_as (Ok count) bytes read is =
-    let same : (count, bytes) ≡ read = ok_is {E = UnitFault} (count, bytes) read is in
-    (ap (λ (r : ℕ × List ℕ). Ok r.0) same, ap (λ (r : ℕ × List ℕ). r.1) (sym same))
-settled_as (Err fault) bytes read is = absurd cc
+settled_as told bytes read is = grind (arith, ok_is)
 
 -- its parse info, its body and what is behind it
 record Cut (bytes : List ℕ) (u : DataUnit) (rest : List ℕ) : Type 0 where
@@ -39,24 +35,17 @@ record Cut (bytes : List ℕ) (u : DataUnit) (rest : List ℕ) : Type 0 where
 cut_of : (bytes : List ℕ) (u : DataUnit) (rest : List ℕ) → data_unit bytes ≡ Ok (u, rest) → Cut bytes u rest
 unfolding data_unit
 cut_of bytes u rest is =
-    let info = and_then_ok (next_items Short 13 bytes) (λ read. behind_info read.0 (body_length read.0) read.1) (u, rest) is in
-    let told = and_then_ok (settled (body_length info.0.0) info.0.1) (λ read. body_behind info.0.0 read.0 read.1) (u, rest) info.2 in
-    let body = and_then_ok (next_items Short told.0.0 told.0.1) (λ read. Ok (record { code = code_of info.0.0; body = read.0 }, read.1)) (u, rest) told.2 in
-    let own = ok_is {E = UnitFault} (pair (record { code = code_of info.0.0; body = body.0.0 }) body.0.1) (u, rest) body.2 in
-    let first = front_of 13 bytes info.0 info.1 in
-    let length_told = settled_as (body_length info.0.0) info.0.1 told.0 told.1 in
-    let second = front_of told.0.0 told.0.1 body.0 body.1 in
-    let behind : info.0.1 ≡ body.0.0 ++ rest = sym length_told.1 ∙ second.1 ∙ ap (λ (r : DataUnit × List ℕ). body.0.0 ++ r.1) own in
-    record {
-      info = info.0.0;
-      body = body.0.0;
-      count = told.0.0;
-      info_length = first.0;
-      told = length_told.0;
-      body_whole = second.0;
-      bytes_are = first.1 ∙ ap (λ (l : List ℕ). info.0.0 ++ l) behind;
-      unit_is = ap (λ (r : DataUnit × List ℕ). r.0) own;
-    }
+    grind (
+      arith,
+      common_steps,
+      and_then_ok,
+      behind_info,
+      body_behind,
+      front_of,
+      ok_is,
+      pair,
+      settled_as,
+    )
 
 pub data_unit-more : (bytes more : List ℕ) (u : DataUnit) (rest : List ℕ) → data_unit bytes ≡ Ok (u, rest) → data_unit (bytes ++ more) ≡ Ok (u, rest ++ more)
 data_unit-more bytes more u rest is =

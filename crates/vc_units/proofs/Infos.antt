@@ -1,9 +1,9 @@
 -- The unit that begins some bytes, by its parse info and what follows it.
-use Rattle.std.proofs.Common.{◌≡◌, ℕ, ◌+◌, ◌<◌, List, ◌++◌, length, Result, Ok, Err, refl, sym, ap, ◌∙◌, length-append, arith}
+use Rattle.std.proofs.Common.{◌≡◌, ℕ, ◌+◌, ◌<◌, List, ◌++◌, length, Result, Ok, Err, refl, ap, ◌∙◌}
 use Rattle.std.proofs.lemmas.Bool.{lt-ltb}
 use Rattle.vc_types.specs.Fields.{Field, and_then, ◌>>=◌, give, next_items}
-use Rattle.vc_types.proofs.FieldCodecs.{and_then_ok, ok_is, next_items_codec}
-use Rattle.vc_types.specs.DataUnits.{DataUnit, unit_length}
+use Rattle.vc_types.proofs.FieldCodecs.{next_items_codec}
+use Rattle.vc_types.specs.DataUnits.{DataUnit}
 use Rattle.vc_units.specs.Units.{code_of, body_length, settled, data_unit}
 use Rattle.vc_units.specs.declared.fault.UnitFault.{UnitFault}
 use Rattle.vc_units.specs.declared.fault.UnitFault.TheVariants.{Short}
@@ -53,36 +53,9 @@ data_unit-whole info body rest count len told whole =
     ∙ ap (λ (r : Result (List ℕ × List ℕ) UnitFault). and_then r (λ read. Ok (record { code = code_of info; body = read.0 }, read.1))) (taken count body rest whole)
 
 -- the bytes that so many bytes from the front leave
-rest_of : (n : ℕ) (bytes : List ℕ) (read : List ℕ × List ℕ) → next_items Short n bytes ≡ Ok read → (length read.0 ≡ n) × (length bytes ≡ n + length read.1)
-rest_of n bytes read is =
-    let a = (next_items_codec Short n).takes bytes read.0 read.1 is in
-    let first : length read.0 ≡ n = ap length (sym a.2) ∙ a.1 in
-    let all : length bytes ≡ length a.0 + length read.1 = ap length a.3 ∙ length-append a.0 read.1 in
-    (first, omega (arith, all, a.1))
 
 -- a unit and what is behind it
 abbrev pub pair : DataUnit → List ℕ → DataUnit × List ℕ
 pair u rest = (u, rest)
 
-same_lengths : (p q : DataUnit × List ℕ) → p ≡ q → (length p.0.body ≡ length q.0.body) × (length p.1 ≡ length q.1)
-same_lengths p q same = (ap (λ (r : DataUnit × List ℕ). length r.0.body) same, ap (λ (r : DataUnit × List ℕ). length r.1) same)
-
-settled_is : (told : Result ℕ UnitFault) (bytes : List ℕ) (read : ℕ × List ℕ) → settled told bytes ≡ Ok read → read.1 ≡ bytes
-settled_is (Ok count) bytes read is =
-    let same : (count, bytes) ≡ read = ok_is {E = UnitFault} (count, bytes) read is in
-    ap (λ (r : ℕ × List ℕ). r.1) (sym same)
-settled_is (Err fault) bytes read is = absurd cc
-
 -- the bytes are those of the unit and what is behind it
-pub data_unit-length : (bytes : List ℕ) (u : DataUnit) (rest : List ℕ) → data_unit bytes ≡ Ok (u, rest) → length bytes ≡ unit_length u + length rest
-unfolding data_unit
-data_unit-length bytes u rest is =
-    let info = and_then_ok (next_items Short 13 bytes) (λ read. behind_info read.0 (body_length read.0) read.1) (u, rest) is in
-    let told = and_then_ok (settled (body_length info.0.0) info.0.1) (λ read. body_behind info.0.0 read.0 read.1) (u, rest) info.2 in
-    let body = and_then_ok (next_items Short told.0.0 told.0.1) (λ read. Ok (record { code = code_of info.0.0; body = read.0 }, read.1)) (u, rest) told.2 in
-    let unit = pair (record { code = code_of info.0.0; body = body.0.0 }) body.0.1 in
-    let own = same_lengths unit (u, rest) (ok_is {E = UnitFault} unit (u, rest) body.2) in
-    let first = rest_of 13 bytes info.0 info.1 in
-    let second = rest_of told.0.0 told.0.1 body.0 body.1 in
-    let kept : length told.0.1 ≡ length info.0.1 = ap length (settled_is (body_length info.0.0) info.0.1 told.0 told.1) in
-    omega (arith, first.1, second.0, second.1, kept, own.0, own.1)

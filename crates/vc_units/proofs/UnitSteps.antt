@@ -1,5 +1,5 @@
 -- A unit that is read in two steps, its parse info and its body, and what each step's end means.
-use Rattle.std.proofs.Common.{◌≡◌, ◌≢◌, ℕ, ◌<◌, Bool, true, false, not, cond, List, [], ◌++◌, length, take, Option, Result, Ok, Err, sym, ap, subst, ◌∙◌, append_assoc, arith}
+use Rattle.std.proofs.Common.{◌≡◌, ◌≢◌, ℕ, ◌<◌, Bool, not, cond, List, [], ◌++◌, length, take, Option, Result, Ok, Err, sym, ap, subst, ◌∙◌, append_assoc, arith}
 use Rattle.std.proofs.lemmas.List.{length-append, length-take-le, append-nil}
 use Rattle.vc_ports.specs.Reading.{Gave}
 use Rattle.vc_ports.specs.Filling.{Fills}
@@ -24,9 +24,7 @@ cut_in_info before after info n len some fills =
 
 -- a read failed within the parse info
 pub fault_in_info : (before after : Option (List ℕ)) (info : List ℕ) (n : ℕ) → length info ≡ 13 → Fills before after info (Failed n) → GavePartOfUnit before after
-fault_in_info before after info n len fills =
-    let taken : length (take n info) ≡ n = length-take-le n info (omega (arith, fills.0)) in
-    record { part = take n info; gave = fills.1; not_whole = data_unit-stub (take n info) (omega (arith, fills.0)) }
+fault_in_info before after info n len fills = grind (arith, data_unit-stub, length-take-le)
 
 -- the faults of a parse info
 abbrev pub IsInfoFault : UnitFault → Type 0
@@ -44,11 +42,7 @@ fault_is x y same = cc
 -- one of three faults, or a number
 told_fault : (prefix code ends offset : Bool) (count : ℕ) (fault : UnitFault)
     → cond (not prefix) (Err Prefix) (cond (not code) (Err Code) (cond ends (Ok 0) (cond offset (Err Offset) (Ok count)))) ≡ Err fault → IsInfoFault fault
-told_fault false code ends offset count fault is = subst IsInfoFault (fault_is Prefix fault is) tt
-told_fault true false ends offset count fault is = subst IsInfoFault (fault_is Code fault is) tt
-told_fault true true true offset count fault is = absurd cc
-told_fault true true false true count fault is = subst IsInfoFault (fault_is Offset fault is) tt
-told_fault true true false false count fault is = absurd cc
+told_fault prefix code ends offset count fault is = grind (arith, fault_is)
 
 -- what a parse info is refused for
 pub info_fault : (info : List ℕ) (fault : UnitFault) → body_length info ≡ Err fault → IsInfoFault fault
