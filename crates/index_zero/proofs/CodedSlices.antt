@@ -1,7 +1,7 @@
 -- The bytes of a slice that was encoded are read again as its index and its blocks.
 use Rattle.std.proofs.Common.{◌≡◌, ◌<◌, ◌≤◌, ℕ, zero, suc, ◌+◌, ◌-◌, ◌*◌, ◌/◌, Bool, true, false, List, [], ◌∷◌, ◌++◌, length, replicate, Some, Ok, refl, sym, ap, ◌∙◌, arith, append_assoc, length-append}
-use Rattle.std.specs.Prelude.{nat_lt, ◌||◌}
 use Rattle.std.proofs.lemmas.Bool.{le-ltb, ltb-false, or_parts}
+use Rattle.std.proofs.lemmas.Grind.{common_steps}
 use Rattle.std.proofs.lemmas.List.{length-replicate, append-nil}
 use Rattle.std.proofs.Math.Nat.{lt-div-mul-add}
 use Rattle.std.proofs.Math.Seq.{take-append_seam, drop-append_seam}
@@ -9,7 +9,7 @@ use Rattle.vc_types.specs.Bits.{byte_bits, bits_of, number_of}
 use Rattle.link_model.specs.SendingPictures.{packed_bits}
 use Rattle.vc_types.specs.Encoding.{encoded_block, block_units, encoded_slice, component_bits, component_units, is_too_long}
 use Rattle.vc_types.specs.Fields.{next_items}
-use Rattle.vc_types.specs.Slices.{block, coded_slice, CodedSlice, Coefficients, slice_length, length_read}
+use Rattle.vc_types.specs.Slices.{block, coded_slice, CodedSlice, Coefficients, slice_length}
 use Rattle.vc_types.specs.TransformParameters.{Parameters}
 use Rattle.vc_types.specs.declared.video.Component.TheVariants.{Y, C1, C2}
 use Rattle.vc_types.proofs.Bits.{bits_of-cons, bits_of-nil}
@@ -31,15 +31,16 @@ appended xs ys n whole = absurd (omega arith)
 
 head_bytes : (prefix index : ℕ) (bits : List Bool) → index < 256 → packed_bits (bits_of (replicate prefix 0 ++ index ∷ []) ++ bits) ≡ replicate prefix 0 ++ index ∷ packed_bits bits
 head_bytes zero index bits small =
-    ap (λ (l : List Bool). packed_bits (l ++ bits)) (bits_of-cons index [])
-    ∙ ap packed_bits (append_assoc (byte_bits index) (bits_of []) bits)
-    ∙ packed_bits-byte index (bits_of [] ++ bits) small
-    ∙ ap (λ (l : List Bool). index ∷ packed_bits (l ++ bits)) bits_of-nil
+    grind (arith, append_assoc, bits_of-cons, bits_of-nil, packed_bits-byte, small)
 head_bytes (suc prefix) index bits small =
-    ap (λ (l : List Bool). packed_bits (l ++ bits)) (bits_of-cons 0 (replicate prefix 0 ++ index ∷ []))
-    ∙ ap packed_bits (append_assoc (byte_bits 0) (bits_of (replicate prefix 0 ++ index ∷ [])) bits)
-    ∙ packed_bits-byte 0 (bits_of (replicate prefix 0 ++ index ∷ []) ++ bits) (omega arith)
-    ∙ ap (λ (l : List ℕ). 0 ∷ l) (head_bytes prefix index bits small)
+    grind (
+      arith,
+      append_assoc,
+      bits_of-cons,
+      packed_bits-byte,
+      small,
+      head_bytes prefix index bits small,
+    )
 
 none_packed : packed_bits [] ≡ []
 unfolding packed_bits
@@ -101,14 +102,7 @@ module _ (p : Parameters) (slice index : ℕ) (s : Coefficients) (some : 0 < p.s
 
   small : AreSmall
   unfolding is_too_long
-  small =
-      let all = or_parts (nat_lt 255 (component_units p slice index s Y) || nat_lt 255 (component_units p slice index s C1)) (nat_lt 255 (component_units p slice index s C2)) fits in
-      let front = or_parts (nat_lt 255 (component_units p slice index s Y)) (nat_lt 255 (component_units p slice index s C1)) all.0 in
-      record {
-        y = omega (arith, ltb-false 255 (component_units p slice index s Y) front.0);
-        c1 = omega (arith, ltb-false 255 (component_units p slice index s C1) front.1);
-        c2 = omega (arith, ltb-false 255 (component_units p slice index s C2) all.1);
-      }
+  small = grind (arith, ltb-false, or_parts)
 
   abbrev pub with_length : List ℕ → List Bool → List ℕ → List ℕ
   with_length own bits rest = units_of p.scaler bits ∷ (own ++ rest)
@@ -134,28 +128,10 @@ module _ (p : Parameters) (slice index : ℕ) (s : Coefficients) (some : 0 < p.s
 
   pub read : (behind : List ℕ) → coded_slice p.prefix p.scaler (laid_out behind) ≡ Ok (coded, behind)
   unfolding coded_slice
-  read behind =
-      let y : List Bool = component_bits p slice index s Y in
-      let c1 : List Bool = component_bits p slice index s C1 in
-      let c2 : List Bool = component_bits p slice index s C2 in
-      let third : block p.scaler (with_length coded.c2 c2 behind) ≡ Ok (coded.c2, behind) = block_front p.scaler (units_of p.scaler c2) coded.c2 behind (length-block_bytes p.scaler c2 some) in
-      let second : block p.scaler (with_length coded.c1 c1 (with_length coded.c2 c2 behind)) ≡ Ok (coded.c1, with_length coded.c2 c2 behind) = block_front p.scaler (units_of p.scaler c1) coded.c1 (with_length coded.c2 c2 behind) (length-block_bytes p.scaler c1 some) in
-      let first : block p.scaler (with_length coded.y y (with_length coded.c1 c1 (with_length coded.c2 c2 behind))) ≡ Ok (coded.y, with_length coded.c1 c1 (with_length coded.c2 c2 behind)) = block_front p.scaler (units_of p.scaler y) coded.y (with_length coded.c1 c1 (with_length coded.c2 c2 behind)) (length-block_bytes p.scaler y some) in
-      let zeros = items_front p.prefix (replicate p.prefix 0) (index ∷ with_length coded.y y (with_length coded.c1 c1 (with_length coded.c2 c2 behind))) (length-replicate p.prefix 0) in
-      rw (zeros, first, second, third) refl
+  read behind = grind (arith, block_front, items_front, length-block_bytes, length-replicate)
 
   behind_it : (behind : List ℕ) → laid_out [] ++ behind ≡ laid_out behind
-  behind_it behind =
-      let y : List Bool = component_bits p slice index s Y in
-      let c1 : List Bool = component_bits p slice index s C1 in
-      let c2 : List Bool = component_bits p slice index s C2 in
-      append_assoc (replicate p.prefix 0) (index ∷ with_length coded.y y (with_length coded.c1 c1 (with_length coded.c2 c2 []))) behind
-      ∙ ap (λ (l : List ℕ). replicate p.prefix 0 ++ index ∷ units_of p.scaler y ∷ l) (append_assoc coded.y (with_length coded.c1 c1 (with_length coded.c2 c2 [])) behind
-      ∙ ap (with_first y) (append_assoc coded.c1 (with_length coded.c2 c2 []) behind
-      ∙ ap (λ (l : List ℕ). coded.c1 ++ units_of p.scaler c2 ∷ l) (append_assoc coded.c2 [] behind)))
-    where
-      with_first : List Bool → List ℕ → List ℕ
-      with_first y l = coded.y ++ units_of p.scaler (component_bits p slice index s C1) ∷ l
+  behind_it behind = grind (arith, append_assoc)
 
   -- it is read as its index and its blocks, whatever follows
   pub coded_slice-encoded : (behind : List ℕ) → coded_slice p.prefix p.scaler (packed_bits (encoded_slice p slice index s) ++ behind) ≡ Ok (coded, behind)
@@ -164,9 +140,4 @@ module _ (p : Parameters) (slice index : ℕ) (s : Coefficients) (some : 0 < p.s
   -- so it is one whole slice
   pub slice_length-encoded : (behind : List ℕ) → slice_length p.prefix p.scaler (packed_bits (encoded_slice p slice index s) ++ behind) ≡ Some (length (packed_bits (encoded_slice p slice index s)))
   unfolding slice_length
-  slice_length-encoded behind =
-      let own : List ℕ = packed_bits (encoded_slice p slice index s) in
-      ap (length_read (own ++ behind)) (coded_slice-encoded behind) ∙ ap Some (ends own behind)
-    where
-      ends : (own behind : List ℕ) → length (own ++ behind) - length behind ≡ length own
-      ends own behind = omega (arith, length-append own behind)
+  slice_length-encoded behind = grind (arith, common_steps, coded_slice-encoded, length-append)

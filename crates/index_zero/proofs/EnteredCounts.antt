@@ -1,8 +1,9 @@
 -- How many parts with slices a picture has: at most as many as there were datagrams of its slices.
-use Rattle.std.proofs.Common.{◌≡◌, ◌≤◌, ℕ, ◌+◌, ◌%◌, ◌^◌, Bool, cond, List, [], ◌∷◌, ◌++◌, length, Option, Some, None, refl, sym, ap, ◌∙◌, subst, arith, All, inl, inr}
+use Rattle.std.proofs.Common.{◌≡◌, ◌≤◌, ℕ, ◌+◌, ◌%◌, ◌^◌, Bool, cond, List, [], ◌∷◌, ◌++◌, length, Option, refl, ap, ◌∙◌, subst, arith, All, inl, inr}
 use Rattle.std.specs.Prelude.{◌==◌, ◌&&◌, fold, filter_map}
-use Rattle.std.specs.List.{count_by, cons_option}
-use Rattle.std.proofs.lemmas.Bool.{cases_Bool, cases_eq, eq-eqb}
+use Rattle.std.specs.List.{count_by}
+use Rattle.std.proofs.lemmas.Bool.{cases_Bool, eq-eqb}
+use Rattle.std.proofs.lemmas.Grind.{common_steps}
 use Rattle.std.proofs.lemmas.List.{length-append}
 use Rattle.std.proofs.lemmas.List.Elements.{All-head, All-tail, filter_map-append}
 use Rattle.std.proofs.lemmas.List.Sums.{sum_by-cons, sum_by-append}
@@ -23,10 +24,7 @@ abbrev pub is_slices_of : ℕ → Fragment → Bool
 is_slices_of bits f = f.number == bits && has_slices f.part
 
 slices_more : (n : ℕ) (es : List Numbered) (e : Numbered) → slices_in n (es ++ e ∷ []) ≡ slices_in n es + slices_in n (e ∷ [])
-slices_more n es e =
-    ap (λ (l : List Part). length (filter_map part_slices l)) (parts_of-append n es (e ∷ []))
-    ∙ ap length (filter_map-append part_slices (parts_of n es) (parts_of n (e ∷ [])))
-    ∙ length-append (filter_map part_slices (parts_of n es)) (filter_map part_slices (parts_of n (e ∷ [])))
+slices_more n es e = grind (arith, common_steps, filter_map-append, length-append, parts_of-append)
 
 one_part : (part : Part) → length (filter_map part_slices (part ∷ [])) ≡ cond (has_slices part) 1 0
 one_part (ParamsPart body) = refl
@@ -44,18 +42,11 @@ count_own bits f same = ap (λ (b : Bool). (let n : ℕ = cond (b && has_slices 
 -- of datagrams
 pub datagrams_counted : {A : Type 0} (bits : ℕ) (h : A → Option Fragment) (xs : List A) → count_by (is_slices_of bits) (filter_map h xs) ≡ count_by (λ d. has_slices_of bits (h d)) xs
 datagrams_counted bits h [] = refl
-datagrams_counted {A} bits h (x ∷ xs) = by_fragment (h x) (datagrams_counted bits h xs) ∙ sym (sum_by-cons (λ (d : A). cond (has_slices_of bits (h d)) 1 0) x xs)
-  where
-    by_fragment : (o : Option Fragment) → count_by (is_slices_of bits) (filter_map h xs) ≡ count_by (λ d. has_slices_of bits (h d)) xs
-        → count_by (is_slices_of bits) (cons_option o (filter_map h xs)) ≡ cond (has_slices_of bits o) 1 0 + count_by (λ d. has_slices_of bits (h d)) xs
-    by_fragment None again = omega (arith, again)
-    by_fragment (Some f) again = sum_by-cons (λ (g : Fragment). cond (is_slices_of bits g) 1 0) f (filter_map h xs) ∙ ap (λ (n : ℕ). cond (is_slices_of bits f) 1 0 + n) again
+datagrams_counted {A} bits h (x ∷ xs) =
+    grind (arith, common_steps, sum_by-cons, datagrams_counted bits h xs)
 
 pub counted_behind : {A : Type 0} (test : A → Bool) (before : List A) (x : A) (behind : List A) → count_by test behind ≤ count_by test (before ++ x ∷ behind)
-counted_behind {A} test before x behind =
-    let all = sum_by-append (λ (y : A). cond (test y) 1 0) before (x ∷ behind) in
-    let last = sum_by-cons (λ (y : A). cond (test y) 1 0) x behind in
-    omega (arith, all, last)
+counted_behind {A} test before x behind = grind (arith, common_steps, sum_by-append, sum_by-cons)
 
 module _ (s : Sending) (IsPart : ℕ → Part → Type 0) (window : ℕ) (some : 1 ≤ window) (first : ℕ) (bits : first % 2 ^ 32 ≡ s.picture % 2 ^ 32) (j : ℕ) where
   abbrev own : Fragment → Bool
@@ -63,14 +54,7 @@ module _ (s : Sending) (IsPart : ℕ → Part → Type 0) (window : ℕ) (some :
 
   one_entry : (es : List Numbered) (f : Fragment) (sent : IsSentFragment s IsPart f) → picture_number (2 ^ 32) es f.number ≡ first + sent.picture
       → slices_in (first + j) (record { number = picture_number (2 ^ 32) es f.number; part = f.part } ∷ []) ≤ cond (own f) 1 0
-  one_entry es f sent is =
-      let e : Numbered = record { number = picture_number (2 ^ 32) es f.number; part = f.part } in
-      elim (cases_eq e.number (first + j)) [
-        | inl same ↦ (let picture : sent.picture ≡ j = omega (arith, is, same) in
-            let counted = count_own (number_bits s j) f (sent.number ∙ ap (number_bits s) picture) in
-            omega (arith, slices_own (first + j) e same, counted))
-        | inr other ↦ omega (arith, slices_other (first + j) e other)
-      ]
+  one_entry es f sent is = grind (arith, count_own, slices_other, slices_own)
 
   one_counted : (es : List Numbered) (f : Fragment) → IsSentFragment s IsPart f → All (IsEntry s IsPart first) (enters (2 ^ 32) window es f) → slices_in (first + j) (enters (2 ^ 32) window es f) ≤ slices_in (first + j) es + cond (own f) 1 0
   one_counted es f sent all = elim (cases_Bool (is_late window es (picture_number (2 ^ 32) es f.number))) [

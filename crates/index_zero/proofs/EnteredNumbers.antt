@@ -111,8 +111,7 @@ module _ (s : Sending) (IsPart : ℕ → Part → Type 0) where
   -- the number of a picture behind others
   pub number_behind : (base first j : ℕ) (e : Numbered) (es : List Numbered) → first % 2 ^ 32 ≡ s.picture % 2 ^ 32 → All (IsEntry first) (e ∷ es) → j < 2 ^ 31 → picture_number base (e ∷ es) (number_bits s j) ≡ first + j
   number_behind base first j e es bits all few =
-      let top = greatest_is first e es all in
-      later_number base e es (number_bits s j) ∙ ap (λ (n : ℕ). nearest n (number_bits s j)) top.2 ∙ number_found s first top.0 j bits top.1 few
+      grind (arith, greatest_is, later_number, number_found)
 
   with_one : (window : ℕ) (es : List Numbered) (f : Fragment) → AreEntries es → IsSentFragment f → AreEntries (es ++ record { number = picture_number (2 ^ 32) es f.number; part = f.part } ∷ [])
   with_one window [] f are sent =
@@ -158,10 +157,7 @@ module _ (s : Sending) (IsPart : ℕ → Part → Type 0) where
     ]
 
     pub opened_number : (es : List Numbered) (number j : ℕ) → All (IsEntry first) es → is_opened es number ≡ true → j < 2 ^ 31 → number % 2 ^ 32 ≡ number_bits s j → number ≡ first + j
-    opened_number es number j all opened few same =
-        let found = opened_is es number all opened in
-        let picture : found.0 ≡ j = numbers_apart s found.0 j found.1 few (omega (arith, bits, same, found.2)) in
-        found.2 ∙ ap (λ (n : ℕ). first + n) picture
+    opened_number es number j all opened few same = grind (arith, numbers_apart, opened_is)
 
     pub parts_are : (es : List Numbered) (j : ℕ) → All (IsEntry first) es → All (IsPart j) (parts_of (first + j) es)
     parts_are [] j all = subst (λ (l : List Part). All (IsPart j) l) (sym (unopened (first + j))) (All-nil (IsPart j))
@@ -224,11 +220,7 @@ module _ (s : Sending) (IsPart : ℕ → Part → Type 0) where
         all_before = (let rest = entered_begins (2 ^ 32) window old (f ∷ []) in All-front (IsEntry first) before rest.0 (subst (λ (l : List Numbered). All (IsEntry first) l) rest.1 all_after))
 
         early : is_late window before (picture_number (2 ^ 32) before f.number) ≡ false
-        early = elim (cases_Bool (is_late window before (picture_number (2 ^ 32) before f.number))) [
-          | inl late ↦ (let same : after ≡ before = one_more ∙ late_changes_nothing (2 ^ 32) window before f late in
-              early_in before low all_before (ap (λ (l : List Numbered). is_closed window l own_number) (sym same) ∙ unclosed))
-          | inr is ↦ is
-        ]
+        early = grind (arith, all_before, early_in, late_changes_nothing, one_more)
 
         entered_now : after ≡ before ++ entry_in before ∷ []
         entered_now = one_more ∙ early_enters (2 ^ 32) window before f early
@@ -240,10 +232,7 @@ module _ (s : Sending) (IsPart : ℕ → Part → Type 0) where
         number_is = number_by before all_before own_entry
 
         parts_now : parts_of own_number after ≡ parts_of own_number before ++ f.part ∷ []
-        parts_now =
-            ap (parts_of own_number) entered_now
-            ∙ parts_of-append own_number before (entry_in before ∷ [])
-            ∙ ap (λ (l : List Part). parts_of own_number before ++ l) (own_part own_number (entry_in before) [] number_is ∙ ap (λ (l : List Part). f.part ∷ l) (unopened own_number))
+        parts_now = grind (arith, entered_now, number_is, own_part, parts_of-append, unopened)
 
         -- so its part is one of its picture's, behind those that came before it
         pub part_entered : (rest : List Part) × (parts_of own_number last ≡ parts_of own_number before ++ f.part ∷ rest)

@@ -1,5 +1,5 @@
 -- The pictures of a frame without a fault are pictures without a fault.
-use Rattle.std.proofs.Common.{◌≡◌, ◌<◌, ℕ, ◌+◌, ◌*◌, ◌/◌, ◌%◌, ◌^◌, Bool, true, false, List, [], ◌∷◌, map, get_or, Option, Some, None, refl, sym, ap, subst, ◌∙◌, arith, All}
+use Rattle.std.proofs.Common.{◌≡◌, ◌<◌, ℕ, ◌+◌, ◌*◌, ◌/◌, ◌%◌, ◌^◌, Bool, true, false, List, [], ◌∷◌, map, get_or, Option, Some, None, refl, sym, ap, ◌∙◌, arith, All}
 use Rattle.std.specs.Prelude.{nat_lt}
 use Rattle.std.specs.List.{flat_map, range_with_len}
 use Rattle.std.specs.Option.{option_map, option_or}
@@ -16,13 +16,12 @@ use Rattle.vc_types.specs.declared.settings.SendSettings.{SendSettings}
 use Rattle.vc_types.specs.declared.video.Component.{Component}
 use Rattle.vc_types.specs.declared.video.Component.TheVariants.{Y, C1, C2}
 use Rattle.vc_types.specs.declared.video.Sampling.{Sampling}
-use Rattle.vc_types.specs.declared.video.Sampling.TheVariants.{S444, S422, S420}
 use Rattle.vc_types.specs.FieldPairs.{every_other_row, on_each}
 use Rattle.vc_types.specs.Planes.{Planes}
 use Rattle.vc_types.specs.Rasters.{Raster, raster, sample_at}
 use Rattle.vc_types.specs.SenderSettings.{Sending, sending_view}
 use Rattle.vc_types.specs.SequenceHeader.{picture_shape}
-use Rattle.vc_types.specs.Subbands.{plane_width, plane_height, plane_depth}
+use Rattle.vc_types.specs.Subbands.{plane_width, plane_height}
 use Rattle.vc_types.specs.Video.{colour_width, colour_height, dimensions_fit, picture_height}
 
 -- ---- samples
@@ -76,12 +75,7 @@ module _ (s : Sending) (frame : Planes) (first : ℕ) where
 
   pub field_samples : first_sample_fault s frame ≡ None → first_sample_fault s field ≡ None
   unfolding first_sample_fault
-  field_samples none =
-      let depth = plane_depth (sent_parameters s).shape in
-      let all = neither (plane_fault (depth Y) 0 frame.y) (option_or (plane_fault (depth C1) 1 frame.c1) (plane_fault (depth C2) 2 frame.c2)) none in
-      let colour = neither (plane_fault (depth C1) 1 frame.c1) (plane_fault (depth C2) 2 frame.c2) all.1 in
-      neither_from (plane_fault (depth Y) 0 field.y) (option_or (plane_fault (depth C1) 1 field.c1) (plane_fault (depth C2) 2 field.c2)) (plane_rows_sound (depth Y) 0 first frame.y all.0)
-      (neither_from (plane_fault (depth C1) 1 field.c1) (plane_fault (depth C2) 2 field.c2) (plane_rows_sound (depth C1) 1 first frame.c1 colour.0) (plane_rows_sound (depth C2) 2 first frame.c2 colour.1))
+  field_samples none = grind (arith, neither, neither_from, plane_rows_sound)
 
   pub field_whole : AreWhole field
   field_whole = record { y = rows_whole first frame.y; c1 = rows_whole first frame.c1; c2 = rows_whole first frame.c2 }
@@ -104,38 +98,19 @@ module _ (s : Sending) (frame : Planes) (first : ℕ) where
 -- ---- a frame that is a picture
 
 whole_height : (fields : Bool) (n : ℕ) → fields ≡ false → n ≡ picture_height fields n
-whole_height true n is = absurd (true_not is)
-  where
-    true_not : true ≡ false → ⊥
-    true_not e = cc
-whole_height false n is = refl
+whole_height fields n is = grind arith
 
 pub frame_sides : (s : Sending) (frame : Planes) → s.frames.fields ≡ false → IsFrame s frame → (c : Component) → HasSides (plane_width (sent_parameters s).shape c) (plane_height (sent_parameters s).shape c) (plane_in frame c)
 unfolding sent_parameters sent_sequence picture_shape
-frame_sides s frame fields is Y = record { width = is.y.width; height = is.y.height ∙ whole_height s.frames.fields s.frames.height fields }
-frame_sides s frame fields is C1 = record { width = is.c1.width; height = is.c1.height ∙ whole_height s.frames.fields (colour_height s.frames.sampling s.frames.height) fields }
-frame_sides s frame fields is C2 = record { width = is.c2.width; height = is.c2.height ∙ whole_height s.frames.fields (colour_height s.frames.sampling s.frames.height) fields }
+frame_sides s frame fields is c = grind (arith, whole_height)
 
 -- ---- the rows of a frame with field coding
 
 even_luma : (width height : ℕ) (sampling : Sampling) → dimensions_fit width height sampling true ≡ true → height % 2 ≡ 0
-even_luma width height S444 h = grind (arith, nat_tests)
-even_luma width height S422 h = grind (arith, nat_tests)
-even_luma width height S420 h = grind (arith, nat_tests)
+even_luma width height sampling h = grind (arith, nat_tests)
 
 even_colour : (width height : ℕ) (sampling : Sampling) → dimensions_fit width height sampling true ≡ true → colour_height sampling height % 2 ≡ 0
-even_colour width height S444 h = grind (arith, nat_tests)
-even_colour width height S422 h = grind (arith, nat_tests)
-even_colour width height S420 h = (let quarters = quartered width height h in omega (arith, quarters))
-  where
-    quartered : (width height : ℕ) → dimensions_fit width height S420 true ≡ true → height % 4 ≡ 0
-    quartered width height h = grind (arith, nat_tests)
+even_colour width height sampling h = grind (arith, nat_tests)
 
 pub even_rows : (settings : SendSettings) (frame : Planes) → settings.fields ≡ true → IsFrame (sending_view settings) frame → HaveEvenHeights frame
-even_rows settings frame fields is =
-    let fit : dimensions_fit settings.width settings.height settings.sampling true ≡ true = subst (λ (b : Bool). dimensions_fit settings.width settings.height settings.sampling b ≡ true) fields settings.dimensions in
-    record {
-      y = ap (λ (n : ℕ). n % 2) is.y.height ∙ even_luma settings.width settings.height settings.sampling fit;
-      c1 = ap (λ (n : ℕ). n % 2) is.c1.height ∙ even_colour settings.width settings.height settings.sampling fit;
-      c2 = ap (λ (n : ℕ). n % 2) is.c2.height ∙ even_colour settings.width settings.height settings.sampling fit;
-    }
+even_rows settings frame fields is = grind (arith, even_colour, even_luma)

@@ -1,13 +1,12 @@
 -- The runs of a picture's slices fit their datagrams, and at index 0 they are taken from them again.
-use Rattle.std.proofs.Common.{◌≡◌, ◌<◌, ◌≤◌, ℕ, ◌*◌, true, List, [], ◌∷◌, ◌++◌, length, take, get_or, Some, None, Ok, refl, sym, ap, subst, ◌∙◌, arith, All, inl, inr}
+use Rattle.std.proofs.Common.{◌≡◌, ◌<◌, ◌≤◌, ℕ, ◌*◌, true, List, [], ◌∷◌, ◌++◌, length, take, get_or, Some, None, Ok, refl, sym, ap, subst, ◌∙◌, arith, All}
 use Rattle.std.specs.Prelude.{slice_get}
 use Rattle.std.specs.List.{flat_map}
-use Rattle.std.proofs.lemmas.Bool.{cases_lt}
 use Rattle.std.proofs.lemmas.Bool.Decides.{nat_tests}
 use Rattle.std.proofs.lemmas.List.{length-append, length-take, get_or-take}
 use Rattle.std.proofs.lemmas.List.Concat.{flat_map-append, flat_map-cons}
 use Rattle.std.proofs.lemmas.List.Elements.{All-head, All-tail, All-map, All-weaker}
-use Rattle.std.proofs.lemmas.Option.{none-some, slice_get_past, get_or_from_slice_get}
+use Rattle.std.proofs.lemmas.Option.{slice_get_past, get_or_from_slice_get}
 use Rattle.index_zero.proofs.Among.{IsAmong, among_all, All-front, All-back}
 use Rattle.index_zero.proofs.CodedSlices.{slice_length-encoded}
 use Rattle.index_zero.proofs.SentFaults.{HasBytes, all_have_bytes, length-sent_slices, none_too_large, not_too_long, IsSmall}
@@ -103,10 +102,7 @@ module _ (settings : SendSettings) where
 
     module _ (zeros : (k : ℕ) → k < slice_count p → slice_get indices k ≡ Some 0) where
       pub all_slices : length slices ≡ slice_count p
-      all_slices = elim (cases_lt (length indices) (slice_count p)) [
-        | inl short ↦ absurd (none-some 0 (sym (slice_get_past indices (length indices) (omega arith)) ∙ zeros (length indices) short))
-        | inr enough ↦ omega (arith, enough, length-sent_slices s planes indices, length-take (slice_count p) indices)
-      ]
+      all_slices = grind (arith, length-sent_slices, length-take, slice_get_past)
 
       index_zero : All (λ (z : ℕ × ℕ). z.1 ≡ 0) (slices_with_indices p indices)
       index_zero = all_enumerated (λ (n : ℕ). n ≡ 0) 0 (take (slice_count p) indices)

@@ -2,9 +2,10 @@
 use Rattle.std.proofs.Common.{◌≡◌, ◌<◌, ℕ, zero, suc, ◌+◌, ◌*◌, Bool, true, false, cond, List, [], ◌∷◌, ◌++◌, length, drop, Some, None, refl, sym, ap, ◌∙◌, arith}
 use Rattle.std.specs.Prelude.{slice_get}
 use Rattle.std.specs.List.{flat_map}
+use Rattle.std.proofs.lemmas.Grind.{common_steps}
 use Rattle.std.proofs.lemmas.List.{drop-drop, length-append}
 use Rattle.std.proofs.lemmas.List.Concat.{flat_map-cons}
-use Rattle.std.proofs.lemmas.Option.{none-some, same_Some}
+use Rattle.std.proofs.lemmas.Option.{none-some}
 use Rattle.std.proofs.Math.Nat.{suc-mul}
 use Rattle.index_zero.proofs.SentFaults.{both_sound, faultless}
 use Rattle.index_zero.proofs.SentRuns.{get_behind, get_in_front}
@@ -29,18 +30,10 @@ module _ (s : Sending) where
 
   pub pictures_many : (frame : Planes) → length (pictures_of s frame) ≡ pictures_per_frame s
   unfolding pictures_of
-  pictures_many frame = by_coding s.frames.fields
-    where
-      by_coding : (b : Bool) → length (cond b (both_fields (fields_of s.frames.top frame)) (frame ∷ [])) ≡ cond b 2 1
-      by_coding true = refl
-      by_coding false = refl
+  pictures_many frame = grind arith
 
   pub some_pictures : 0 < pictures_per_frame s
-  some_pictures = by_coding s.frames.fields
-    where
-      by_coding : (b : Bool) → 0 < cond b 2 1
-      by_coding true = omega arith
-      by_coding false = omega arith
+  some_pictures = grind arith
 
   pub first_picture_at : (frame : Planes) → (planes : Planes) × (slice_get (pictures_of s frame) 0 ≡ Some planes)
   unfolding pictures_of
@@ -71,22 +64,29 @@ module _ (s : Sending) where
   pub picture_at : (frames : List Planes) (f i : ℕ) (frame : Planes) → slice_get frames f ≡ Some frame → i < pictures_per_frame s → slice_get (all_pictures frames) (f * pictures_per_frame s + i) ≡ slice_get (pictures_of s frame) i
   picture_at [] f i frame at below = absurd (none-some frame at)
   picture_at (own ∷ frames) zero i frame at below =
-      ap (slice_get (all_pictures (own ∷ frames))) (first_place i)
-      ∙ ap (λ (l : List Planes). slice_get l i) (flat_map-cons (pictures_of s) own frames)
-      ∙ get_in_front (pictures_of s own) (all_pictures frames) i (omega (arith, below, pictures_many own))
-      ∙ ap (λ (q : Planes). slice_get (pictures_of s q) i) (same_Some own frame at)
+      grind (arith, first_place, flat_map-cons, get_in_front, pictures_many)
   picture_at (own ∷ frames) (suc f) i frame at below =
-      ap (slice_get (all_pictures (own ∷ frames))) (next_place f i ∙ ap (λ (n : ℕ). n + (f * pictures_per_frame s + i)) (sym (pictures_many own)))
-      ∙ ap (λ (l : List Planes). slice_get l (length (pictures_of s own) + (f * pictures_per_frame s + i))) (flat_map-cons (pictures_of s) own frames)
-      ∙ get_behind (pictures_of s own) (all_pictures frames) (f * pictures_per_frame s + i)
-      ∙ picture_at frames f i frame at below
+      grind (
+        arith,
+        flat_map-cons,
+        get_behind,
+        next_place,
+        pictures_many,
+        picture_at frames f i frame at below,
+      )
 
   pub length-all_pictures : (frames : List Planes) → length (all_pictures frames) ≡ length frames * pictures_per_frame s
   length-all_pictures [] = omega arith
   length-all_pictures (frame ∷ frames) =
-      ap length (flat_map-cons (pictures_of s) frame frames)
-      ∙ length-append (pictures_of s frame) (all_pictures frames)
-      ∙ omega (arith, pictures_many frame, length-all_pictures frames, suc-mul (length frames) (pictures_per_frame s))
+      grind (
+        arith,
+        common_steps,
+        flat_map-cons,
+        length-append,
+        pictures_many,
+        suc-mul,
+        length-all_pictures frames,
+      )
 
   -- ---- none of which has a slice that is too large
 
@@ -97,10 +97,7 @@ module _ (s : Sending) where
   per_frame = pictures_per_frame s * count s
 
   next_indices : (f : ℕ) (indices : List ℕ) → drop (suc f * per_frame) indices ≡ drop (f * per_frame) (drop per_frame indices)
-  next_indices f indices = ap (λ (n : ℕ). drop n indices) (more f per_frame) ∙ sym (drop-drop (f * per_frame) per_frame indices)
-    where
-      more : (f n : ℕ) → suc f * n ≡ n + f * n
-      more f n = omega (arith, suc-mul f n)
+  next_indices f indices = grind (arith, drop-drop, suc-mul)
 
   pub no_slice_fault : (indices : List ℕ) (frames : List Planes) → AreFaultless indices frames → first_slice_fault s indices (all_pictures frames) ≡ None
   unfolding first_slice_fault

@@ -1,10 +1,10 @@
 -- Every fragment that is heard of a sender's stream is one of a picture that was sent.
-use Rattle.std.proofs.Common.{◌≡◌, ◌<◌, ℕ, ◌^◌, Bool, true, false, cond, List, [], ◌∷◌, length, Option, Some, None, Result, Ok, Err, refl, sym, ap, ◌∙◌, subst, arith, All, inl, inr}
-use Rattle.std.specs.Prelude.{◌⊎◌, slice_get, filter_map, ◌==◌}
+use Rattle.std.proofs.Common.{◌≡◌, ◌<◌, ℕ, ◌^◌, Bool, true, false, List, [], ◌∷◌, length, Option, Some, None, Ok, refl, sym, ap, ◌∙◌, subst, arith, All, inl, inr}
+use Rattle.std.specs.Prelude.{◌⊎◌, slice_get, filter_map}
 use Rattle.std.specs.List.{Contains, flat_map, cons_option}
-use Rattle.std.proofs.lemmas.Bool.{eqb-true}
+use Rattle.std.proofs.lemmas.Bool.{false≢true}
 use Rattle.std.proofs.lemmas.List.Elements.{All-cons, All-nil, All-contains, Contains-append_right}
-use Rattle.std.proofs.lemmas.Option.{none-some, same_Some, slice_get_within}
+use Rattle.std.proofs.lemmas.Option.{none-some, slice_get_within}
 use Rattle.index_zero.specs.HeardStreams.{IsHeardOf}
 use Rattle.index_zero.proofs.Among.{IsAmong, among_first, among_later, among_behind}
 use Rattle.index_zero.proofs.EnteredNumbers.{IsSentFragment}
@@ -15,7 +15,7 @@ use Rattle.index_zero.proofs.SentSlices.{sent_part}
 use Rattle.index_zero.proofs.SentStream.{IsOfPicture, IsSent, all_sent, runs_at}
 use Rattle.link_model.specs.Sending.{Outgoing, outgoing, DatagramContent, HeaderContent, ParametersContent, SlicesContent, EndContent, number_bits, pictures_of, sent_datagram, sent_stream, FitsDatagram}
 use Rattle.link_model.specs.SendingPictures.{sent_sequence, sent_parameters, sent_parameter_bytes}
-use Rattle.link_model.specs.Session.{Received, received, DatagramRefusal, Session, Part, ParamsPart, SlicesPart, Fragment, HeardSession, fragment_by, fragment_from, fragment_in}
+use Rattle.link_model.specs.Session.{Received, received, Session, Part, ParamsPart, SlicesPart, Fragment, HeardSession, fragment_in}
 use Rattle.link_model.proofs.SentDatagrams.{are_settings}
 use Rattle.vc_types.specs.declared.settings.SendSettings.{SendSettings}
 use Rattle.vc_types.specs.Planes.{Planes}
@@ -24,15 +24,7 @@ use Rattle.vc_types.specs.SenderSettings.{Sending, sending_view}
 -- what a datagram has a fragment of was read
 pub received_of : (session : Session) (d : List ℕ) (f : Fragment) → fragment_in session d ≡ Some f → (r : Received) × (received d ≡ Ok r) × (r.ssrc ≡ session.ssrc)
 unfolding fragment_in
-received_of session d f is = by_read (received d) refl is
-  where
-    by_source : (r : Received) → received d ≡ Ok r → (b : Bool) → (r.ssrc == session.ssrc) ≡ b → cond b (fragment_by r.value) None ≡ Some f → (r : Received) × (received d ≡ Ok r) × (r.ssrc ≡ session.ssrc)
-    by_source r read true same is = (r, read, eqb-true r.ssrc session.ssrc same)
-    by_source r read false other is = absurd (none-some f is)
-
-    by_read : (o : Result Received DatagramRefusal) → received d ≡ o → fragment_from session o ≡ Some f → (r : Received) × (received d ≡ Ok r) × (r.ssrc ≡ session.ssrc)
-    by_read (Ok r) read is = by_source r read (r.ssrc == session.ssrc) refl is
-    by_read (Err refusal) read is = absurd (none-some f is)
+received_of session d f is = grind arith
 
 contains_among : {A : Type 0} (x : A) (xs : List A) → IsAmong xs x → Contains xs x
 contains_among x xs is = subst (λ l. Contains l x) (sym is.2) (Contains-append_right is.0 (x ∷ is.1) x (0, omega arith, refl))
@@ -51,9 +43,6 @@ is_end_content ParametersContent = false
 is_end_content (SlicesContent run) = false
 is_end_content EndContent = true
 
-false_is_true : false ≡ true → ⊥
-false_is_true e = cc
-
 module _ (settings : SendSettings) (small : settings.ssrc < 2 ^ 32) (indices : List ℕ) (pictures : List Planes) (few : length pictures < 2 ^ 31) (fits : (o : Outgoing) → IsOfPicture (sending_view settings) 0 indices pictures o → FitsDatagram (sending_view settings) o.content) where
   abbrev s : Sending
   s = sending_view settings
@@ -68,24 +57,17 @@ module _ (settings : SendSettings) (small : settings.ssrc < 2 ^ 32) (indices : L
   module _ (number picture : ℕ) (f : Fragment) where
     of_picture : (c : DatagramContent) (own : IsOfPicture s 0 indices pictures (outgoing picture c)) (part : Part) → IsOwnPart (sent_parameters s) (sent_parameter_bytes s) (runs_at s indices own.number own.planes) part
         → Some (record { number = number_bits s picture; part = part }) ≡ Some f → IsSentFragment s IsPartOf f
-    of_picture c own part is same =
-        let at : picture ≡ own.number = omega (arith, own.picture) in
-        subst (λ (g : Fragment). IsSentFragment s IsPartOf g) (same_Some (record { number = number_bits s picture; part = part }) f same) (record {
-          picture = own.number;
-          few = omega (arith, few, slice_get_within pictures own.number own.planes own.at);
-          number = ap (number_bits s) at;
-          part = (own.planes, own.at, is);
-        })
+    of_picture c own part is same = grind (arith, slice_get_within)
 
     of_content : (c : DatagramContent) → IsOfPicture s 0 indices pictures (outgoing picture c) ⊎ (c ≡ EndContent) → fragment_in own_session (sent_datagram s number (outgoing picture c)) ≡ Some f → IsSentFragment s IsPartOf f
     of_content HeaderContent own is = absurd (none-some f (sym (header_unheard settings (are_settings settings small) number picture) ∙ is))
     of_content EndContent own is = absurd (none-some f (sym (end_unheard settings (are_settings settings small) number picture) ∙ is))
     of_content ParametersContent (inl own) is = of_picture ParametersContent own (ParamsPart (sent_parameter_bytes s)) (inl refl)
         (sym (parameters_heard settings (are_settings settings small) number picture (fits (outgoing picture ParametersContent) own)) ∙ is)
-    of_content ParametersContent (inr last) is = absurd (false_is_true (ap is_end_content last))
+    of_content ParametersContent (inr last) is = absurd (false≢true (ap is_end_content last))
     of_content (SlicesContent run) (inl own) is = of_picture (SlicesContent run) own (SlicesPart (sent_part (sent_parameters s) run)) (inr (run, own.content, refl))
         (sym (slices_heard settings (are_settings settings small) number picture run (fits (outgoing picture (SlicesContent run)) own)) ∙ is)
-    of_content (SlicesContent run) (inr last) is = absurd (false_is_true (ap is_end_content last))
+    of_content (SlicesContent run) (inr last) is = absurd (false≢true (ap is_end_content last))
 
   pub sent_fragment : (d : List ℕ) (f : Fragment) → IsSent s indices pictures d → fragment_in own_session d ≡ Some f → IsSentFragment s IsPartOf f
   sent_fragment d f sent is = of_content sent.number sent.o.picture f sent.o.content sent.content (ap (fragment_in own_session) (sym sent.is) ∙ is)

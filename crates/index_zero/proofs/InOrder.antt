@@ -3,8 +3,9 @@ use Rattle.std.proofs.Common.{◌≡◌, ◌<◌, ◌≤◌, ℕ, zero, suc, ◌
 use Rattle.std.specs.Prelude.{◌⊎◌, fold, get_or, slice_get}
 use Rattle.std.specs.List.{flat_map, range_with_len}
 use Rattle.std.proofs.lemmas.Bool.{lt-leb}
+use Rattle.std.proofs.lemmas.Grind.{common_steps}
 use Rattle.std.proofs.lemmas.List.{append_assoc, append-nil}
-use Rattle.std.proofs.lemmas.List.Elements.{All-head, All-nil, All-push, All-tail}
+use Rattle.std.proofs.lemmas.List.Elements.{All-head, All-nil, All-tail}
 use Rattle.std.proofs.lemmas.List.Sums.{fold-append}
 use Rattle.std.proofs.lemmas.Option.{none-some, same_Some, slice_get-get_or}
 use Rattle.index_zero.proofs.Among.{among_all, among_from}
@@ -156,10 +157,7 @@ module _ (s : Sending) where
     early j es few before = not_late window es (first + j) (lt-leb (first + j + window) (greatest es) (omega (arith, before.top, some))) (omega (arith, few))
 
     enters_now : (j : ℕ) (es : List Numbered) (part : Part) → j < 2 ^ 31 → IsBefore j es → enters (2 ^ 32) window es (fragment_of j part) ≡ es ++ entry j part ∷ []
-    enters_now j es part few before =
-        let number = number_now j es few before in
-        early_enters (2 ^ 32) window es (fragment_of j part) (ap (is_late window es) number ∙ early j es few before)
-        ∙ ap (λ (n : ℕ). es ++ record { number = n; part = part } ∷ []) number
+    enters_now j es part few before = grind (arith, early, early_enters, number_now)
 
     longer : (es : List Numbered) (e : Numbered) → 1 ≤ length (es ++ e ∷ [])
     longer [] e = omega arith
@@ -167,12 +165,7 @@ module _ (s : Sending) where
 
     before_more : (j : ℕ) (es : List Numbered) (part : Part) → j < 2 ^ 31 → IsBefore j es → IsBefore j (es ++ entry j part ∷ [])
     before_more j es part few before =
-        let top = greatest-append es (entry j part ∷ []) in
-        record {
-          all = All-push IsOwn es (entry j part) before.all (record { picture = j; few = few; number = refl; part = tt });
-          top = omega (arith, top, greatest_one (entry j part), before.top);
-          starts = inl (longer es (entry j part));
-        }
+        grind (arith, common_steps, greatest-append, greatest_one, longer)
 
     before_next : (j : ℕ) (es : List Numbered) → 1 ≤ length es → IsBefore j es → IsBefore (j + 1) es
     before_next j es more before = record { all = before.all; top = omega (arith, before.top); starts = inl more }
@@ -192,9 +185,7 @@ module _ (s : Sending) where
         }
 
     with_some : (es : List Numbered) (n : ℕ) (parts : List Part) → HasParts parts → 1 ≤ length (es ++ entries_of n parts)
-    with_some [] n [] are = absurd (omega (arith, are))
-    with_some [] n (part ∷ parts) are = omega arith
-    with_some (e ∷ es) n parts are = omega arith
+    with_some es n parts are = grind (arith, common_steps)
 
     next : (j : ℕ) → first + j + 1 ≡ first + (j + 1)
     next j = omega arith
@@ -218,6 +209,4 @@ module _ (s : Sending) where
 
     -- whole pictures one after another
     pub entered_in_order : (pictures : List (List Part)) → All HasParts pictures → length pictures ≤ 2 ^ 31 → entered (2 ^ 32) window (fragments_from 0 pictures) ≡ entries_from first pictures
-    entered_in_order pictures are few =
-        let start : first + 0 ≡ first = omega arith in
-        all_enter 0 [] pictures are (omega (arith, few)) none_before ∙ ap (λ (n : ℕ). entries_from n pictures) start
+    entered_in_order pictures are few = grind (arith, all_enter, none_before)

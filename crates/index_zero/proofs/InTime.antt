@@ -78,9 +78,4 @@ module _ (s : Sending) (IsPart : ℕ → Part → Type 0) (window : ℕ) (some :
         omega (arith, own_count, same, less, whole)
 
     pub in_time : IsEntered own.picture d place f.part
-    in_time = record {
-      front = parts_of (first + own.picture) (entered (2 ^ 32) window at.old.fragments);
-      rest = found.0;
-      is = ap (λ (l : List Fragment). parts_of (first + own.picture) (entered (2 ^ 32) window l)) all ∙ found.1;
-      few = counted;
-    }
+    in_time = grind (arith, all, at, counted, found)

@@ -19,7 +19,6 @@ pub mod SentPictures
 pub mod SentFaults
 pub mod PicturesBack
 pub mod FramePictures
-pub mod ShortParameters
 pub mod FittingRuns
 pub mod ReceivedPictures
 pub mod FieldPlanes

@@ -10,16 +10,15 @@ use Rattle.std.proofs.lemmas.List.Sums.{sum_by-cons}
 use Rattle.vc_types.specs.Bits.{bits_of}
 use Rattle.vc_types.specs.Bounded.{bounded_sints}
 use Rattle.vc_types.specs.Codes.{sint_bits}
-use Rattle.link_model.specs.SendingPictures.{packed_bits}
-use Rattle.vc_types.specs.Encoding.{encoded_slice, is_too_long, kept_before, without_last_zeros, quantised_numbers, block_bits}
+use Rattle.vc_types.specs.Encoding.{is_too_long, kept_before, without_last_zeros, quantised_numbers, block_bits}
 use Rattle.vc_types.specs.Quantisation.{quantised, dequantised}
-use Rattle.vc_types.specs.Slices.{Coefficients, coefficients_of, is_large, quantisers, block_coefficients, all_coefficients, in_range, decoded_slice, decoded_from, slice_coefficients, coded_slice}
+use Rattle.vc_types.specs.Slices.{Coefficients, coefficients_of, is_large, quantisers, block_coefficients, all_coefficients, in_range, decoded_slice}
 use Rattle.vc_types.specs.Subbands.{area, Subband, subbands, slice_rectangle, slice_coefficient_count}
 use Rattle.vc_types.specs.TransformParameters.{Parameters}
 use Rattle.vc_types.specs.declared.video.Component.{Component}
 use Rattle.vc_types.specs.declared.video.Component.TheVariants.{Y, C1, C2}
 use Rattle.picture_build.proofs.BoundedLists.{bounded_sints-written, bounded_sints-ones}
-use Rattle.index_zero.proofs.CodedSlices.{units_of, block_bytes, bits_of-block_bytes, coded, bytes_are, read}
+use Rattle.index_zero.proofs.CodedSlices.{units_of, block_bytes, bits_of-block_bytes, coded, read}
 use Rattle.vc_types.proofs.Quantisers.{comes_back}
 
 -- what can be encoded: lists of the lengths that the slice has, and magnitudes below 2 ^ 60
@@ -138,9 +137,3 @@ decoded_slice-coded p slice s some known fits are =
     ap in_range all ∙ in_range-small s (none_large s.y s.c1 s.c2 (are.small Y) (are.small C1) (are.small C2))
 
 -- the bytes of a slice stand for its coefficients
-pub slice_coefficients-encoded : (p : Parameters) (slice : ℕ) (s : Coefficients) → 0 < p.scaler → is_too_long p slice 0 s ≡ false → AreCoefficients p slice s → slice_coefficients p slice (packed_bits (encoded_slice p slice 0 s)) ≡ Ok s
-unfolding slice_coefficients
-slice_coefficients-encoded p slice s some fits are =
-    ap (λ (l : List ℕ). decoded_from p slice (coded_slice p.prefix p.scaler l)) (bytes_are p slice 0 s some (omega arith) fits)
-    ∙ ap (decoded_from p slice) (read p slice 0 s some (omega arith) fits [])
-    ∙ decoded_slice-coded p slice s some (omega arith) fits are

@@ -1,24 +1,17 @@
 -- One session in a list of datagrams: where it opens, and its fragments in each front of the list.
-use Rattle.std.proofs.Common.{◌≡◌, ◌≤◌, ℕ, zero, suc, ◌+◌, List, [], ◌∷◌, ◌++◌, length, take, Option, Some, None, refl, sym, ap, ◌∙◌, subst, arith}
+use Rattle.std.proofs.Common.{◌≡◌, ◌≤◌, ℕ, zero, suc, ◌+◌, List, [], ◌∷◌, ◌++◌, length, take, Option, Some, None, refl, sym, ap, ◌∙◌, arith}
 use Rattle.std.specs.Prelude.{filter_map, fold, slice_get}
+use Rattle.std.proofs.lemmas.Grind.{common_steps}
 use Rattle.std.proofs.lemmas.List.{append_assoc, append-nil}
 use Rattle.std.proofs.lemmas.List.Elements.{filter_map-append}
 use Rattle.std.proofs.lemmas.List.Sums.{fold-append}
-use Rattle.link_model.specs.Session.{Session, Fragment, HeardSession, just_opened, opens_next, with_datagram, last_with, hears, sessions_of, begins, fragment_in}
+use Rattle.link_model.specs.Session.{Session, Fragment, HeardSession, just_opened, opens_next, with_datagram, hears, sessions_of, begins, fragment_in}
 use Rattle.link_model.proofs.Hearing.{hears_new, hears_on}
 
 -- ---- sessions don't go
 
 one_longer : (hs : List HeardSession) (d : List ℕ) → length hs ≤ length (hears hs d)
-one_longer hs d = by_next (opens_next hs (begins d)) refl
-  where
-    last_long : (hs : List HeardSession) → length (last_with hs d) ≡ length hs
-    last_long [] = refl
-    last_long (h ∷ hs) = refl
-
-    by_next : (o : Option Session) → opens_next hs (begins d) ≡ o → length hs ≤ length (hears hs d)
-    by_next (Some s) is = let same = ap length (hears_new hs d s is) in omega (arith, same)
-    by_next None is = let same = ap length (hears_on hs d is) in omega (arith, same, last_long hs)
+one_longer hs d = grind (arith, hears_new, hears_on)
 
 pub all_longer : (hs : List HeardSession) (ds : List (List ℕ)) → length hs ≤ length (fold hears hs ds)
 all_longer hs [] = omega arith
@@ -35,9 +28,7 @@ first_of other [] = other
 first_of other (h ∷ hs) = h
 
 stays_itself : (old new : HeardSession) → old ∷ [] ≡ new ∷ [] → Stays old new []
-stays_itself old new is =
-    let same : old ≡ new = ap (first_of old) is in
-    subst (λ (h : HeardSession). Stays old h []) same (record { session = refl; fragments = sym (append-nil old.fragments) })
+stays_itself old new is = grind (arith, common_steps, append-nil)
 
 pub stays : (old new : HeardSession) (ds : List (List ℕ)) → fold hears (old ∷ []) ds ≡ new ∷ [] → Stays old new ds
 stays old new [] is = stays_itself old new is

@@ -6,6 +6,7 @@ use Rattle.std.specs.Option.{option_map, option_map_or, option_or, option_and_th
 use Rattle.std.proofs.lemmas.List.{append-nil, take_all}
 use Rattle.std.proofs.lemmas.List.Elements.{All-head, All-tail, All-cons, All-nil, filter_map-append}
 use Rattle.std.proofs.lemmas.Option.{none-some, slice_get_cases}
+use Rattle.std.proofs.lemmas.Bool.{true≢false}
 use Rattle.link_model.specs.Complete.{slice_numbers, has_all_slices, all_bytes, whole_of, whole_picture}
 use Rattle.link_model.specs.Kept.{KeptParameters, kept_parameters, parameters_in, ReadParameters, SplitParts, split_by, also_before, split_parts, Own, own_of, own, own_slice, SliceRun, runs_of, run_taken, slice_run, slice_in, first_copy, part_slices, waiting_limit}
 use Rattle.link_model.specs.Sending.{runs_of_slices}
@@ -26,13 +27,8 @@ use Rattle.vc_types.specs.TransformParameters.{Parameters, coded_parameters}
 pub run_having : (runs : List SliceRun) (i : ℕ) (bytes : List ℕ) → first_copy runs i ≡ Some bytes → (run : SliceRun) × (IsAmong runs run) × (slice_in run i ≡ Some bytes)
 unfolding first_copy
 run_having [] i bytes is = absurd (none-some bytes is)
-run_having (run ∷ runs) i bytes is = by_first (slice_in run i) refl is (run_having runs i bytes)
-  where
-    by_first : (o : Option (List ℕ)) → slice_in run i ≡ o → option_or o (first_copy runs i) ≡ Some bytes
-        → (first_copy runs i ≡ Some bytes → (run : SliceRun) × (IsAmong runs run) × (slice_in run i ≡ Some bytes))
-        → (r : SliceRun) × (IsAmong (run ∷ runs) r) × (slice_in r i ≡ Some bytes)
-    by_first (Some x) has same more = (run, among_first run runs, has ∙ same)
-    by_first None has same more = (let found = more same in (found.0, among_later run found.0 runs found.1, found.2))
+run_having (run ∷ runs) i bytes is =
+    grind (arith, among_first, among_later, run_having runs i bytes)
 
 copy_first : (run : SliceRun) (rest : List SliceRun) (i : ℕ) (bytes : List ℕ) → slice_in run i ≡ Some bytes → first_copy (run ∷ rest) i ≡ Some bytes
 unfolding first_copy
@@ -124,10 +120,7 @@ module _ (sequence : Sequence) (p : Parameters) (bytes : List ℕ) (read : (more
     where
       by_own : IsOwn (ParamsPart body) → AreSplit (ParamsPart body ∷ front) (ParamsPart body ∷ (front ++ ParamsPart bytes ∷ rest))
       by_own (inl same) = at_first (ParamsPart body ∷ front) (ParamsPart body) (front ++ ParamsPart bytes ∷ rest) same
-      by_own (inr other) = absurd (true_is_false (ap is_params other.2))
-        where
-          true_is_false : true ≡ false → ⊥
-          true_is_false e = cc
+      by_own (inr other) = absurd (true≢false (ap is_params other.2))
   is_split (SlicesPart slices ∷ front) rest all =
       let more = is_split front rest (All-tail IsOwn (SlicesPart slices) (front ++ ParamsPart bytes ∷ rest) all) in
       record {

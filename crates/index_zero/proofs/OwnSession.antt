@@ -1,11 +1,12 @@
 -- Of the sender's own list one session is heard, the sender's, with the fragments of all pictures in their order.
-use Rattle.std.proofs.Common.{◌≡◌, ◌<◌, ℕ, zero, suc, ◌+◌, ◌-◌, ◌*◌, ◌^◌, Bool, true, false, cond, List, [], ◌∷◌, ◌++◌, length, drop, map, Option, Some, None, refl, sym, ap, ◌∙◌, subst, arith, All, inl, inr}
+use Rattle.std.proofs.Common.{◌≡◌, ◌<◌, ℕ, zero, suc, ◌+◌, ◌-◌, ◌*◌, ◌^◌, true, false, List, [], ◌∷◌, ◌++◌, length, drop, map, Option, Some, None, refl, sym, ap, ◌∙◌, subst, arith, All, inl, inr}
 use Rattle.std.specs.Prelude.{◌⊎◌, filter_map, fold, slice_get}
 use Rattle.std.specs.List.{cons_option, enumerate_from, flat_map}
 use Rattle.std.proofs.lemmas.Bool.{and_right}
+use Rattle.std.proofs.lemmas.Grind.{common_steps}
 use Rattle.std.proofs.lemmas.List.{append-nil}
 use Rattle.std.proofs.lemmas.List.Elements.{All-cons, All-head, All-nil, All-tail, All-weaker, filter_map-append}
-use Rattle.std.proofs.lemmas.Option.{none-some, same_Some}
+use Rattle.std.proofs.lemmas.Option.{none-some}
 use Rattle.index_zero.proofs.HeardFragments.{own_session}
 use Rattle.index_zero.proofs.InOrder.{HasParts, fragment_of, fragments_of, fragments_from}
 use Rattle.index_zero.proofs.OneSession.{stays}
@@ -16,36 +17,19 @@ use Rattle.index_zero.proofs.SentStream.{IsOfPicture, IsSent, all_of_pictures, a
 use Rattle.link_model.specs.Kept.{SliceRun}
 use Rattle.link_model.specs.Sending.{DatagramContent, EndContent, FitsDatagram, HeaderContent, Outgoing, ParametersContent, SlicesContent, datagrams_from, end_datagram, frames_outgoing, last_datagram, outgoing, picture_runs, pictures_of, pictures_outgoing, pictures_per_frame, sent_datagram, sent_datagrams, sent_stream}
 use Rattle.link_model.specs.SendingPictures.{sent_parameter_bytes, sent_parameters}
-use Rattle.link_model.specs.Session.{Fragment, HeardSession, ParamsPart, Part, Session, SlicesPart, begins, fragment_in, hears, is_other, just_opened, opens_behind, sessions_of, with_datagram}
+use Rattle.link_model.specs.Session.{Fragment, HeardSession, ParamsPart, Part, Session, SlicesPart, begins, fragment_in, hears, is_other, just_opened, sessions_of, with_datagram}
 use Rattle.link_model.proofs.Hearing.{hears_new, hears_on}
 use Rattle.link_model.proofs.SentDatagrams.{are_settings}
 use Rattle.vc_types.specs.declared.settings.SendSettings.{SendSettings}
-use Rattle.vc_types.specs.Bits.{digit_of}
-use Rattle.vc_types.specs.HeaderSpelling.{sampling_index}
 use Rattle.vc_types.specs.Planes.{Planes}
 use Rattle.vc_types.specs.SameValues.{same_sequence}
+use Rattle.vc_types.proofs.SameValues.{sequences_exactly}
 use Rattle.vc_types.specs.SenderSettings.{Sending, sending_view}
 use Rattle.vc_types.specs.SequenceHeader.{Sequence}
 use Rattle.vc_types.specs.TransformParameters.{Parameters}
 
 same_itself : (a : Sequence) → same_sequence a a ≡ true
-unfolding same_sequence
-same_itself a = rw (
-  itself a.major,
-  itself a.minor,
-  itself a.level,
-  itself a.base,
-  itself a.width,
-  itself a.height,
-  itself (sampling_index a.sampling),
-  itself (digit_of a.interlaced),
-  itself (digit_of a.top_first),
-  itself (digit_of a.fields),
-  itself a.range.luma_offset,
-  itself a.range.luma_excursion,
-  itself a.range.colour_offset,
-  itself a.range.colour_excursion,
-) refl
+same_itself a = (sequences_exactly a a).1 refl
 
 no_other : (t : Session) → is_other t t ≡ false
 no_other t = rw (itself t.ssrc, same_itself t.sequence) refl
@@ -76,11 +60,7 @@ module _ (s : Sending) where
 
   pub parts_at : (indices : List ℕ) (pictures : List Planes) (j : ℕ) (planes : Planes) → slice_get pictures j ≡ Some planes → slice_get (parts_from indices pictures) j ≡ Some (parts_sent (runs_at s indices j planes))
   parts_at indices [] j planes at = absurd (none-some planes at)
-  parts_at indices (own ∷ pictures) zero planes at =
-      (λ i. Some (parts_sent (picture_runs s (drop (none (count s) i) indices) (same_Some own planes at i))))
-    where
-      none : (n : ℕ) → 0 ≡ 0 * n
-      none n = omega arith
+  parts_at indices (own ∷ pictures) zero planes at = grind (arith, count)
   parts_at indices (own ∷ pictures) (suc j) planes at = parts_at (drop (count s) indices) pictures j planes at ∙ ap (λ (runs : List SliceRun). Some (parts_sent runs)) (runs_later s indices j planes)
 
   -- what a datagram is heard as, by what it carries
@@ -133,10 +113,7 @@ module _ (settings : SendSettings) (small : settings.ssrc < 2 ^ 32) (indices : L
 
   -- a session goes on
   hears_own : (h : HeardSession) (d : List ℕ) → h.session ≡ own → BeginsOwn d → hears (h ∷ []) d ≡ with_datagram h d ∷ []
-  hears_own h d same (inl none) = hears_on (h ∷ []) d (ap (opens_behind h) none)
-  hears_own h d same (inr again) =
-      let no : is_other h.session own ≡ false = ap (λ (t : Session). is_other t own) same ∙ no_other own in
-      hears_on (h ∷ []) d (ap (opens_behind h) again ∙ ap (λ (b : Bool). cond b (Some own) None) (and_right h.has_ended (is_other h.session own) no))
+  hears_own h d same o = grind (arith, and_right, hears_on, no_other)
 
   goes_on : (h : HeardSession) (ds : List (List ℕ)) → h.session ≡ own → All BeginsOwn ds → (new : HeardSession) × (fold hears (h ∷ []) ds ≡ new ∷ [])
   goes_on h [] same all = (h, refl)
@@ -147,10 +124,8 @@ module _ (settings : SendSettings) (small : settings.ssrc < 2 ^ 32) (indices : L
   -- ---- its fragments
 
   heard_told : (number : ℕ) (picture : ℕ) (c : DatagramContent) → FitsDatagram s c → fragment_in own (sent_datagram s number (outgoing picture c)) ≡ told_by s picture c
-  heard_told number picture HeaderContent are = header_unheard settings (are_settings settings small) number picture
-  heard_told number picture ParametersContent are = parameters_heard settings (are_settings settings small) number picture are
-  heard_told number picture (SlicesContent run) are = slices_heard settings (are_settings settings small) number picture run are
-  heard_told number picture EndContent are = end_unheard settings (are_settings settings small) number picture
+  heard_told number picture c are =
+      grind (arith, are_settings, end_unheard, header_unheard, parameters_heard, slices_heard)
 
   abbrev Fits : Outgoing → Type 0
   Fits o = FitsDatagram s o.content
@@ -178,9 +153,15 @@ module _ (settings : SendSettings) (small : settings.ssrc < 2 ^ 32) (indices : L
     stream_told : filter_map (fragment_in own) (sent_stream s indices frames) ≡ fragments_from s 0 (parts_from s indices pictures)
     unfolding sent_stream
     stream_told =
-        filter_map-append (fragment_in own) (sent_datagrams s indices frames) (last_datagram s indices frames ∷ [])
-        ∙ (λ i. datagrams_told i ++ cons_option (end_told i) [])
-        ∙ append-nil (fragments_from s 0 (parts_from s indices pictures))
+        grind (
+          arith,
+          common_steps,
+          append-nil,
+          datagrams_told,
+          end_told,
+          filter_map-append,
+          fragments_from,
+        )
 
     all_begin : All BeginsOwn (sent_stream s indices frames)
     all_begin = All-weaker (IsSent s indices pictures) BeginsOwn sent_begins (sent_stream s indices frames) (all_sent s indices frames pictures are)
@@ -230,7 +211,4 @@ module _ (settings : SendSettings) (small : settings.ssrc < 2 ^ 32) (indices : L
     -- without one no session is heard
     pub none_heard : pictures ≡ [] → sessions_of (sent_stream s indices frames) ≡ []
     unfolding sent_stream sent_datagrams datagrams_from last_datagram end_datagram
-    none_heard none =
-        let no_datagrams : frames_outgoing s indices frames ≡ [] = ap (λ (l : List Planes). pictures_outgoing s 0 indices l) (sym are ∙ none) ∙ none_outgoing s 0 indices in
-        ap (λ (l : List Outgoing). sessions_of (map (λ (z : ℕ × Outgoing). sent_datagram s z.0 z.1) (enumerate_from s.seq l) ++ sent_datagram s (s.seq + length l) (outgoing (length frames * pictures_per_frame s - 1) EndContent) ∷ [])) no_datagrams
-        ∙ hears_on [] (sent_datagram s (s.seq + 0) (outgoing (length frames * pictures_per_frame s - 1) EndContent)) (end_begins_none settings (are_settings settings small) (s.seq + 0) (length frames * pictures_per_frame s - 1))
+    none_heard none = grind (arith, are_settings, end_begins_none, hears_on, none_outgoing)

@@ -1,8 +1,9 @@
 -- A picture without a fault, sent at index 0, decodes to its planes.
-use Rattle.std.proofs.Common.{◌≡◌, ◌<◌, ◌≤◌, ℕ, zero, suc, ◌+◌, ◌*◌, ◌^◌, true, false, List, [], ◌++◌, length, take, get_or, Some, None, sym, ap, subst, ◌∙◌, arith, lit≤}
+use Rattle.std.proofs.Common.{◌≡◌, ◌<◌, ◌≤◌, ℕ, ◌+◌, ◌*◌, ◌^◌, true, false, List, [], ◌++◌, length, take, get_or, Some, None, sym, ap, subst, ◌∙◌, arith}
 use Rattle.std.specs.Prelude.{IsTrue, slice_get, nat_le, ◌&&◌}
 use Rattle.std.proofs.Math.Pow.{pow_pos}
 use Rattle.std.proofs.lemmas.Bool.{and_parts, leb-true}
+use Rattle.std.proofs.lemmas.Grind.{common_steps}
 use Rattle.std.proofs.lemmas.List.{append-nil, get_or-take}
 use Rattle.std.proofs.lemmas.List.FromFn.{get_or-enumerate_from, length-enumerate_from}
 use Rattle.std.proofs.lemmas.Option.{get_or_from_slice_get}
@@ -34,21 +35,11 @@ record HasBits (depth : ℕ) : Type 0 where
 
 luma_bits : (range : ℕ) → 1 ≤ range → range ≤ 4 → HasBits (video_depth (range_of range).luma_excursion)
 unfolding range_of video_depth
-luma_bits zero low high = absurd (omega arith)
-luma_bits (suc zero) low high = record { some = lit≤ tt; few = lit≤ tt }
-luma_bits (suc (suc zero)) low high = record { some = lit≤ tt; few = lit≤ tt }
-luma_bits (suc (suc (suc zero))) low high = record { some = lit≤ tt; few = lit≤ tt }
-luma_bits (suc (suc (suc (suc zero)))) low high = record { some = lit≤ tt; few = lit≤ tt }
-luma_bits (suc (suc (suc (suc (suc range))))) low high = absurd (omega arith)
+luma_bits range low high = grind (arith, common_steps)
 
 colour_bits : (range : ℕ) → 1 ≤ range → range ≤ 4 → HasBits (video_depth (range_of range).colour_excursion)
 unfolding range_of video_depth
-colour_bits zero low high = absurd (omega arith)
-colour_bits (suc zero) low high = record { some = lit≤ tt; few = lit≤ tt }
-colour_bits (suc (suc zero)) low high = record { some = lit≤ tt; few = lit≤ tt }
-colour_bits (suc (suc (suc zero))) low high = record { some = lit≤ tt; few = lit≤ tt }
-colour_bits (suc (suc (suc (suc zero)))) low high = record { some = lit≤ tt; few = lit≤ tt }
-colour_bits (suc (suc (suc (suc (suc range))))) low high = absurd (omega arith)
+colour_bits range low high = grind (arith, common_steps)
 
 record IsRange (range : ℕ) : Type 0 where
   low : 1 ≤ range
@@ -72,24 +63,17 @@ module _ (settings : SendSettings) (planes : Planes) (indices : List ℕ) (is : 
 
   bits : (c : Component) → HasBits (plane_depth (sent_parameters (sending_view settings)).shape c)
   unfolding sent_parameters sent_sequence picture_shape
-  bits Y = (let range = range_between settings.range settings.range_is_known in luma_bits settings.range range.low range.high)
-  bits C1 = (let range = range_between settings.range settings.range_is_known in colour_bits settings.range range.low range.high)
-  bits C2 = (let range = range_between settings.range settings.range_is_known in colour_bits settings.range range.low range.high)
+  bits c = grind (arith, colour_bits, luma_bits, range_between)
 
   plane_sound : (plane : ℕ) (c : Component) → plane_fault (depth c) plane (plane_in planes c) ≡ None → first_outside (2 ^ depth c) 0 (plane_in planes c).samples ≡ None
   plane_sound plane c none = none_mapped (sample_fault plane) (first_outside (2 ^ depth c) 0 (plane_in planes c).samples) none
 
   no_sample : (plane_fault (depth Y) 0 planes.y ≡ None) × (plane_fault (depth C1) 1 planes.c1 ≡ None) × (plane_fault (depth C2) 2 planes.c2 ≡ None)
   unfolding first_sample_fault
-  no_sample =
-      let all = neither _ _ is.samples in
-      let colour = neither _ _ all.1 in
-      (all.0, colour.0, colour.1)
+  no_sample = grind (arith, neither)
 
   sound : (c : Component) → first_outside (2 ^ depth c) 0 (plane_in planes c).samples ≡ None
-  sound Y = plane_sound 0 Y no_sample.0
-  sound C1 = plane_sound 1 C1 no_sample.1
-  sound C2 = plane_sound 2 C2 no_sample.2
+  sound c = grind (arith, no_sample, plane_sound)
 
   inside : (c : Component) (x y : ℕ) → sample_at (plane_in planes c) x y < 2 ^ depth c
   unfolding sample_at
@@ -129,15 +113,8 @@ module _ (settings : SendSettings) (planes : Planes) (indices : List ℕ) (is : 
   symmetric = same_wavelet settings.wavelet
 
   is_sendable : IsSendable p planes
-  is_sendable = record {
-    scaler = scaler_is_some settings;
-    symmetric = symmetric;
-    across = across;
-    down = down;
-    levels = few_levels;
-    each = λ c. record { size = is.sizes c; all_there = whole c; some_bits = (bits c).some; few_bits = (bits c).few; samples = inside c };
-    slices = fits;
-  }
+  is_sendable =
+      grind (arith, across, bits, down, few_levels, fits, inside, scaler_is_some, symmetric, whole)
 
   -- its whole bytes decode to its planes
   pub picture_back : decoded_planes (sent_sequence s) (sent_parameter_bytes s ++ joined (sent_slices p planes indices)) ≡ Some planes

@@ -75,12 +75,7 @@ module _ (settings : SendSettings) (small : settings.ssrc < 2 ^ 32) (window : �
       (subst (λ (k : ℕ). IsNumberOf s es k number) same time.first)
 
   wholes : AreWholePictures s indices f number frame es
-  wholes = record {
-    bits = time.first.bits;
-    zero = time.zero;
-    each = λ i planes below is.
-        whole_received settings small indices frames can.sound can.few (place i) planes (there i planes below is) (time.zero i below) window some datagrams h heard (number + i) (omega (arith, first_number)) (time.each i below);
-  }
+  wholes = grind (arith, first_number, there, whole_received)
 
   pub frame_is_written : IsWritten window (sending_view settings) datagrams h number frame
   frame_is_written =

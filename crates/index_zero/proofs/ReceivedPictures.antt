@@ -164,6 +164,4 @@ module _ (settings : SendSettings) (small : settings.ssrc < 2 ^ 32) (indices : L
       -- so the picture is whole, by any number that is its own
       pub whole_received : (number : ℕ) → number ≡ are.first + j → IsHeardInTime window s indices frames datagrams h.session j number
           → whole_picture (sent_sequence s) (parts_of number (entered_of window h)) ≡ Some (bytes ++ joined (sent_slices p planes own_indices))
-      whole_received number same time =
-          (λ i. whole_picture (sent_sequence s) (parts_of (same i) (entered_is window h i)))
-          ∙ whole_first (subst (λ (n : ℕ). IsHeardInTime window s indices frames datagrams h.session j n) same time)
+      whole_received number same time = grind (arith, entered_is, whole_first)

@@ -1,12 +1,12 @@
 -- What it means that a frame has no fault: its samples have their bits, and its slices fit.
-use Rattle.std.proofs.Common.{◌≡◌, ◌<◌, ◌≤◌, ℕ, zero, suc, ◌+◌, ◌*◌, true, false, List, [], ◌∷◌, ◌++◌, length, drop, take, get_or, Option, Some, None, refl, sym, ap, subst, ◌∙◌, arith, All, inl, inr}
+use Rattle.std.proofs.Common.{◌≡◌, ◌<◌, ◌≤◌, ℕ, zero, suc, ◌+◌, ◌*◌, true, false, List, [], ◌∷◌, ◌++◌, length, drop, take, get_or, Option, Some, None, refl, sym, ap, ◌∙◌, arith, All, inl, inr}
 use Rattle.std.specs.Prelude.{nat_lt, slice_get}
 use Rattle.std.specs.Option.{option_map, option_or}
-use Rattle.std.proofs.lemmas.Bool.{cases_Bool, or_parts, ltb-true, ltb-false, cond-true, cond-false}
+use Rattle.std.proofs.lemmas.Bool.{cases_Bool, or_parts, ltb-false, cond-true, cond-false}
 use Rattle.std.proofs.lemmas.List.{drop-drop, length-map}
 use Rattle.std.proofs.lemmas.List.Elements.{All-cons, All-nil, All-map, All-weaker}
 use Rattle.std.proofs.lemmas.List.FromFn.{length-enumerate_from}
-use Rattle.std.proofs.lemmas.Option.{none-some, same_Some}
+use Rattle.std.proofs.lemmas.Option.{none-some}
 use Rattle.std.proofs.Math.Nat.{suc-mul}
 use Rattle.index_zero.proofs.SentStream.{count}
 use Rattle.link_model.specs.Sending.{pictures_of}
@@ -14,7 +14,7 @@ use Rattle.link_model.specs.SendingFaults.{first_outside, is_too_large, first_of
 use Rattle.link_model.specs.SendingPictures.{sent_parameters, sent_coefficients, sent_length, sent_slice, sent_slices, slices_with_indices, slice_room}
 use Rattle.link_model.proofs.PackedBits.{length-packed_bits}
 use Rattle.vc_slice.proofs.EncodedSlices.{length_slice}
-use Rattle.vc_types.specs.Encoding.{encoded_slice, encoded_length, is_too_long}
+use Rattle.vc_types.specs.Encoding.{encoded_length, is_too_long}
 use Rattle.vc_types.specs.Planes.{Planes}
 use Rattle.vc_types.specs.SenderSettings.{Sending}
 use Rattle.vc_types.specs.Subbands.{slice_count}
@@ -44,10 +44,7 @@ outside_later limit place sample samples inside none = sym (cond-true (nat_lt sa
 
 pub all_inside : (limit place : ℕ) (samples : List ℕ) → 0 < limit → first_outside limit place samples ≡ None → (k : ℕ) → get_or samples k 0 < limit
 all_inside limit place [] some none k = some
-all_inside limit place (sample ∷ samples) some none zero = elim (cases_Bool (nat_lt sample limit)) [
-  | inl inside ↦ ltb-true sample limit inside
-  | inr outside ↦ absurd (outside_found limit place sample samples outside none)
-]
+all_inside limit place (sample ∷ samples) some none zero = grind (arith, outside_found)
 all_inside limit place (sample ∷ samples) some none (suc k) = elim (cases_Bool (nat_lt sample limit)) [
   | inl inside ↦ all_inside limit (place + 1) samples some (outside_later limit place sample samples inside none) k
   | inr outside ↦ absurd (outside_found limit place sample samples outside none)
@@ -86,10 +83,7 @@ module _ (s : Sending) (planes : Planes) where
     -- a slice is as long as is told
     length-sent_slice : (slice index : ℕ) → length (sent_slice (sent_parameters s) planes slice index) ≡ sent_length (sent_parameters s) planes slice index
     unfolding sent_slice sent_length
-    length-sent_slice slice index =
-        let bits = length_slice (sent_parameters s) slice index (sent_coefficients (sent_parameters s) planes slice) some in
-        let packed = length-packed_bits (encoded_slice (sent_parameters s) slice index (sent_coefficients (sent_parameters s) planes slice)) (omega (arith, bits)) in
-        omega (arith, bits, packed)
+    length-sent_slice slice index = grind (arith, length-packed_bits, length_slice)
 
     some_length : (slice index : ℕ) → 1 ≤ sent_length (sent_parameters s) planes slice index
     unfolding sent_length encoded_length
@@ -123,35 +117,19 @@ module _ (s : Sending) where
   unfolding first_slice_fault
   fault_more indices planes pictures = refl
 
-  no_fault : (indices : List ℕ) → first_slice_fault s indices [] ≡ None
-  unfolding first_slice_fault
-  no_fault indices = refl
-
   later : (j : ℕ) (indices : List ℕ) → drop (j * count s) (drop (count s) indices) ≡ drop (suc j * count s) indices
-  later j indices = drop-drop (j * count s) (count s) indices ∙ ap (λ (n : ℕ). drop n indices) (one_more j (count s))
-    where
-      one_more : (j n : ℕ) → n + j * n ≡ suc j * n
-      one_more j n = omega (arith, suc-mul j n)
+  later j indices = grind (arith, count, drop-drop, suc-mul)
 
   pub are_sound : (indices : List ℕ) (pictures : List Planes) → first_slice_fault s indices pictures ≡ None → AreSoundPictures indices pictures
   are_sound indices [] none j planes at = absurd (none-some planes at)
-  are_sound indices (own ∷ pictures) none zero planes at =
-      let both = neither _ _ (sym (fault_more indices own pictures) ∙ none) in
-      let here : first_of_slices s own (slices_with_indices (sent_parameters s) (drop (0 * count s) indices)) ≡ None = ap (λ (n : ℕ). first_of_slices s own (slices_with_indices (sent_parameters s) (drop n indices))) (none_of (count s)) ∙ both.0 in
-      subst (λ (q : Planes). first_of_slices s q (slices_with_indices (sent_parameters s) (drop (0 * count s) indices)) ≡ None) (same_Some own planes at) here
-    where
-      none_of : (n : ℕ) → 0 * n ≡ 0
-      none_of n = omega arith
+  are_sound indices (own ∷ pictures) none zero planes at = grind (arith, count, fault_more, neither)
   are_sound indices (own ∷ pictures) none (suc j) planes at =
       let both = neither _ _ (sym (fault_more indices own pictures) ∙ none) in
       ap (λ (l : List ℕ). first_of_slices s planes (slices_with_indices (sent_parameters s) l)) (sym (later j indices))
       ∙ are_sound (drop (count s) indices) pictures both.1 j planes at
 
   pub both_sound : (indices : List ℕ) (first second : List Planes) → first_slice_fault s indices first ≡ None → first_slice_fault s (drop (length first * count s) indices) second ≡ None → first_slice_fault s indices (first ++ second) ≡ None
-  both_sound indices [] second none also = ap (λ (n : ℕ). first_slice_fault s (drop n indices) second) (none_of (count s)) ∙ also
-    where
-      none_of : (n : ℕ) → 0 ≡ 0 * n
-      none_of n = omega arith
+  both_sound indices [] second none also = grind (arith, count)
   both_sound indices (planes ∷ first) second none also =
       let both = neither _ _ (sym (fault_more indices planes first) ∙ none) in
       fault_more indices planes (first ++ second)

@@ -1,29 +1,26 @@
 -- A picture that was sent at index 0 decodes to its planes.
-use Rattle.std.proofs.Common.{◌≡◌, ◌<◌, ◌≤◌, ℕ, zero, suc, ◌+◌, ◌-◌, ◌^◌, ℤ, pos, ◌-ℤ◌, unsigned_abs, Bool, false, List, [], ◌∷◌, ◌++◌, length, map, drop, Some, Result, Ok, Err, refl, ap, ◌∙◌, arith, append_assoc}
-use Rattle.std.specs.Prelude.{IsTrue, min, slice_get, take}
+use Rattle.std.proofs.Common.{◌≡◌, ◌<◌, ◌≤◌, ℕ, zero, suc, ◌+◌, ◌-◌, ◌^◌, ℤ, pos, ◌-ℤ◌, unsigned_abs, Bool, false, List, [], ◌∷◌, ◌++◌, length, map, drop, Some, Result, Ok, refl, ap, ◌∙◌, arith, append_assoc}
+use Rattle.std.specs.Prelude.{IsTrue, slice_get, take}
 use Rattle.std.specs.List.{enumerate_from, range_with_len, list_any}
 use Rattle.std.proofs.lemmas.Option.{none-some, same_Some}
-use Rattle.std.specs.Option.{option_map}
-use Rattle.std.proofs.lemmas.Bool.{lt-leb}
 use Rattle.std.proofs.lemmas.Int.{ints}
 use Rattle.std.proofs.Math.Pow.{pow_mono}
 use Rattle.std.proofs.Math.Seq.{drop-append_seam}
 use Rattle.field_pairs.specs.Sizes.{IsWhole}
 use Rattle.link_model.specs.SendingPictures.{plane_in, sent_cells, number_in, numbers_in_slice, HasSides, packed_bits, sent_coefficients, sent_slice, sent_slices}
 use Rattle.index_zero.proofs.SentPlanes.{length-own, plane_back}
-use Rattle.vc_types.specs.Bits.{bits_of}
 use Rattle.vc_types.specs.declared.refusal.ParamsRefusal.{ParamsRefusal}
 use Rattle.vc_types.specs.declared.video.Component.{Component}
 use Rattle.vc_types.specs.declared.video.Component.TheVariants.{Y, C1, C2}
 use Rattle.vc_types.specs.Encoding.{encoded_slice, is_too_long}
 use Rattle.vc_types.specs.Fields.{joined}
-use Rattle.vc_types.specs.Pictures.{slices_from, decoded_picture, with_parameters, with_slices, Picture}
+use Rattle.vc_types.specs.Pictures.{slices_from, decoded_picture, with_parameters, with_slices}
 use Rattle.vc_types.specs.Planes.{Planes, planes_of, decoded_planes}
 use Rattle.vc_types.specs.Rasters.{sample_at}
-use Rattle.vc_types.specs.SequenceHeader.{Sequence, bytes_used, with_bytes_used}
+use Rattle.vc_types.specs.SequenceHeader.{Sequence, with_bytes_used}
 use Rattle.vc_types.specs.Slices.{Coefficients, coefficients_of, coded_slice, is_large}
 use Rattle.vc_types.specs.Subbands.{slice_count, slice_coefficient_count, coefficient_place, plane_width, plane_height, plane_depth}
-use Rattle.vc_types.specs.TransformParameters.{Parameters, is_symmetric, transform_parameters, coded_parameters}
+use Rattle.vc_types.specs.TransformParameters.{Parameters, is_symmetric, coded_parameters}
 use Rattle.vc_types.specs.Transforms.{forward_transform, padded_plane, lowest_width, lowest_height}
 use Rattle.index_zero.proofs.CodedSlices.{coded, coded_slice-encoded}
 use Rattle.vc_types.proofs.FieldCodecs.{ok_is}
@@ -57,10 +54,7 @@ module _ (p : Parameters) (planes : Planes) (some : 0 < p.scaler) (fits : (n : �
 -- ---- a whole picture
 
 with_params : (bytes : List ℕ) (n : ℕ) (p : Parameters) (read : Result (Parameters × List Bool) ParamsRefusal) → with_bytes_used bytes read ≡ Ok (p, n) → with_parameters bytes read ≡ with_slices p (slices_from p 0 (slice_count p) (drop n bytes))
-with_params bytes n p (Ok read) is =
-    let same : (read.0, bytes_used bytes read.1) ≡ (p, n) = ok_is {E = ParamsRefusal} (read.0, bytes_used bytes read.1) (p, n) is in
-    ap (λ (w : Parameters × ℕ). with_slices w.0 (slices_from w.0 0 (slice_count w.0) (drop w.1 bytes))) same
-with_params bytes n p (Err refusal) is = absurd cc
+with_params bytes n p read is = grind (arith, ok_is)
 
 -- what a plane of a picture has to be
 pub record IsSound (p : Parameters) (planes : Planes) (c : Component) : Type 0 where
@@ -78,12 +72,7 @@ less_half s half a b = omega (arith, ints, a, b)
 module _ (p : Parameters) (planes : Planes) (c : Component) (sound_plane : IsSound p planes c) (levels : p.depth ≤ 5) where
   plane_below : AreBelow (2 ^ 16) (padded_plane p c (sample_at (plane_in planes c)))
   unfolding padded_plane
-  plane_below x y =
-      let column : ℕ = min x (plane_width p.shape c - 1) in
-      let row : ℕ = min y (plane_height p.shape c - 1) in
-      less_half (sample_at (plane_in planes c) column row) (2 ^ (plane_depth p.shape c - 1))
-      (omega (arith, sound_plane.samples column row, pow_mono {i = plane_depth p.shape c} {j = 16} sound_plane.few_bits))
-      (pow_mono {i = plane_depth p.shape c - 1} {j = 15} (omega (arith, sound_plane.few_bits)))
+  plane_below x y = grind (arith, less_half, pow_mono)
 
   pub cells_below : (x y : ℕ) → unsigned_abs (sent_cells p planes c x y) < 2 ^ 60
   unfolding sent_cells forward_transform
@@ -91,9 +80,7 @@ module _ (p : Parameters) (planes : Planes) (c : Component) (sound_plane : IsSou
 
 none_large : (f : ℕ → ℤ) → ((i : ℕ) → unsigned_abs (f i) < 2 ^ 60) → (l : List ℕ) → list_any is_large (map f l) ≡ false
 none_large f small [] = refl
-none_large f small (i ∷ l) =
-    let own : is_large (f i) ≡ false = lt-leb (2 ^ 60) (unsigned_abs (f i)) (small i) in
-    rw (own, none_large f small l) refl
+none_large f small (i ∷ l) = grind (arith, none_large f small l)
 
 -- ---- the picture
 
@@ -113,9 +100,7 @@ module _ (p : Parameters) (planes : Planes) (is : IsSendable p planes) where
 
   small_of : (n : ℕ) (c : Component) → list_any is_large (coefficients_of (sent_coefficients p planes n) c) ≡ false
   unfolding sent_coefficients
-  small_of n Y = small_in Y n
-  small_of n C1 = small_in C1 n
-  small_of n C2 = small_in C2 n
+  small_of n c = grind (arith, small_in)
 
   pub are_coefficients : (n : ℕ) → AreCoefficients p n (sent_coefficients p planes n)
   are_coefficients n = record { lengths = λ c. length-own p planes is.across is.down c n; small = small_of n }
@@ -135,14 +120,7 @@ module _ (p : Parameters) (planes : Planes) (is : IsSendable p planes) where
   pub decoded_planes-sent : (sequence : Sequence) (bytes behind : List ℕ) → ((more : List ℕ) → coded_parameters sequence (bytes ++ more) ≡ Ok (p, length bytes)) → decoded_planes sequence (bytes ++ (joined slices_at_zero ++ behind)) ≡ Some planes
   unfolding decoded_planes decoded_picture
   decoded_planes-sent sequence bytes behind read =
-      let whole : List ℕ = bytes ++ (joined slices_at_zero ++ behind) in
-      let coefficients : List Coefficients = map (sent_coefficients p planes) (range_with_len 0 (slice_count p)) in
-      let picture : with_parameters whole (transform_parameters sequence (bits_of whole)) ≡ Some (record { parameters = p; slices = coefficients }) =
-      with_params whole (length bytes) p (transform_parameters sequence (bits_of whole)) (read (joined slices_at_zero ++ behind))
-      ∙ ap (λ (l : List ℕ). with_slices p (slices_from p 0 (slice_count p) l)) (drop-append_seam bytes (joined slices_at_zero ++ behind))
-      ∙ ap (with_slices p) (slices_back p planes is.scaler is.slices are_coefficients 0 (slice_count p) behind (omega arith)) in
-      ap (option_map (λ (q : Picture). planes_of q.parameters q.slices)) picture
-      ∙ ap (λ (q : Planes). Some q) planes_back
+      grind (arith, are_coefficients, drop-append_seam, planes_back, slices_back, with_params)
 
 -- at indices that are all 0 the slices are these
 zeros_at : (p : Parameters) (planes : Planes) (i n : ℕ) (indices : List ℕ) → ((k : ℕ) → k < n → slice_get indices k ≡ Some 0)

@@ -1,5 +1,5 @@
 -- The planes of a picture whose coefficients come back are the planes that were sent.
-use Rattle.std.proofs.Common.{◌≡◌, ◌<◌, ◌≤◌, ℕ, ◌+◌, ◌-◌, ◌*◌, ◌^◌, ℤ, pos, negsuc, ◌+ℤ◌, ◌-ℤ◌, unsigned_abs, List, [], length, map, get_or, refl, sym, ap, ◌∙◌, arith}
+use Rattle.std.proofs.Common.{◌≡◌, ◌<◌, ◌≤◌, ℕ, ◌+◌, ◌-◌, ◌*◌, ◌^◌, ℤ, pos, ◌+ℤ◌, ◌-ℤ◌, unsigned_abs, List, [], length, map, get_or, ap, ◌∙◌, arith}
 use Rattle.std.specs.Prelude.{IsTrue}
 use Rattle.std.specs.List.{range_with_len}
 use Rattle.std.proofs.lemmas.Int.{ints}
@@ -9,10 +9,9 @@ use Rattle.field_pairs.specs.Sizes.{IsWhole}
 use Rattle.link_model.specs.SendingPictures.{HasSides, plane_in, sent_cells, number_in, numbers_in_slice, sent_coefficients}
 use Rattle.field_pairs.proofs.RowsOfRasters.{raster_of_plane}
 use Rattle.vc_types.specs.declared.video.Component.{Component}
-use Rattle.vc_types.specs.declared.video.Component.TheVariants.{Y, C1, C2}
 use Rattle.vc_types.specs.Pictures.{component_cells}
 use Rattle.vc_types.specs.Planes.{Planes, component_plane, clipped, output_sample}
-use Rattle.vc_types.specs.Rasters.{raster, sample_at}
+use Rattle.vc_types.specs.Rasters.{sample_at}
 use Rattle.vc_types.specs.Slices.{Coefficients, coefficients_of}
 use Rattle.vc_types.specs.Subbands.{slice_count, slice_coefficient_count, coefficient_place, plane_width, plane_height, plane_depth, padded_width, padded_height, levels}
 use Rattle.vc_types.specs.TransformParameters.{Parameters, is_symmetric}
@@ -26,18 +25,11 @@ use Rattle.vc_wave.proofs.TransformLocality.{inverse_transform_agrees}
 -- ---- a sample comes back
 
 not_clipped : (half s : ℕ) → s < 2 * half → unsigned_abs (clipped half (pos s -ℤ pos half) +ℤ pos half) ≡ s
-not_clipped half s small = by_sign (pos s -ℤ pos half) refl
-  where
-    by_sign : (z : ℤ) → z ≡ pos s -ℤ pos half → unsigned_abs (clipped half z +ℤ pos half) ≡ s
-    by_sign (pos n) is = omega (arith, ints, is)
-    by_sign (negsuc n) is = omega (arith, ints, is)
+not_clipped half s small = grind (arith, ints)
 
 sample_back : (depth s : ℕ) → 1 ≤ depth → s < 2 ^ depth → output_sample depth (pos s -ℤ pos (2 ^ (depth - 1))) ≡ s
 unfolding output_sample
-sample_back depth s some small =
-    let more : 1 + (depth - 1) ≡ depth = omega arith in
-    let all : 2 ^ depth ≡ 2 * 2 ^ (depth - 1) = ap (λ n. 2 ^ n) (sym more) ∙ pow-add 2 1 (depth - 1) in
-    not_clipped (2 ^ (depth - 1)) s (omega (arith, small, all))
+sample_back depth s some small = grind (arith, not_clipped, pow-add)
 
 -- ---- coefficients
 
@@ -51,9 +43,7 @@ module _ (p : Parameters) (planes : Planes) (across : 0 < p.slices_x) (down : 0 
 
   own : (c : Component) (n : ℕ) → coefficients_of (sent_coefficients p planes n) c ≡ numbers_in_slice p c (sent_cells p planes c) n
   unfolding sent_coefficients
-  own Y n = refl
-  own C1 n = refl
-  own C2 n = refl
+  own c n = grind arith
 
   pub length-own : (c : Component) (n : ℕ) → length (coefficients_of (sent_coefficients p planes n) c) ≡ slice_coefficient_count p c n
   unfolding numbers_in_slice
@@ -98,8 +88,4 @@ module _ (p : Parameters) (planes : Planes) (across : 0 < p.slices_x) (down : 0 
     -- a component's plane comes back
     pub plane_back : component_plane p c all ≡ plane_in planes c
     unfolding component_plane
-    plane_back =
-        let samples : raster (plane_in planes c).width (plane_in planes c).height made ≡ (plane_in planes c).samples =
-        raster_of_plane (plane_in planes c) made all_there (λ x y a b. sample_is x y (omega (arith, a, size.width)) (omega (arith, b, size.height))) in
-        (λ i. record { width = sym size.width i; height = sym size.height i; samples = raster (sym size.width i) (sym size.height i) made })
-        ∙ (λ i. record { width = (plane_in planes c).width; height = (plane_in planes c).height; samples = samples i })
+    plane_back = grind (arith, raster_of_plane, sample_is)

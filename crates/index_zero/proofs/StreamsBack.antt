@@ -20,7 +20,7 @@ use Rattle.index_zero.proofs.SentStream.{all_among, runs_at}
 use Rattle.index_zero.proofs.WholeFrames.{AreWholePictures, bytes_back, coded_fields, even_start, none_at_even, one_each, sent_bytes, two_each}
 use Rattle.link_model.specs.Complete.{whole_picture}
 use Rattle.link_model.specs.Kept.{SliceRun}
-use Rattle.link_model.specs.Numbers.{Numbered, entered, opened_numbers, parts_of}
+use Rattle.link_model.specs.Numbers.{Numbered, parts_of}
 use Rattle.link_model.specs.Output.{all_frames, all_output, frame_bytes_at, full_output}
 use Rattle.link_model.specs.Sending.{pictures_of, pictures_per_frame, sent_stream}
 use Rattle.link_model.specs.SendingPictures.{sent_parameter_bytes, sent_parameters, sent_sequence}
@@ -134,19 +134,11 @@ module _ (settings : SendSettings) (small : settings.ssrc < 2 ^ 32) (window : �
     frame_written = bytes_back settings indices frames can f number frame at es wholes
 
     one_written : s.frames.fields ≡ false → written (first s + f) ≡ raw_frame s frame
-    one_written fields =
-        let one = one_each s fields in
-        let times : f * pictures_per_frame s ≡ f * 1 = ap (λ (n : ℕ). f * n) one in
-        let last : first s + f ≡ last_picture s number = omega (arith, one, times) in
-        ap written last ∙ frame_written
+    one_written fields = grind (arith, first, frame_written, one_each)
 
     pair_written : s.frames.fields ≡ true → (written (first s + f * 2) ≡ []) × (written (first s + f * 2 + 1) ≡ raw_frame s frame)
     pair_written fields =
-        let two = two_each s fields in
-        let times : f * pictures_per_frame s ≡ f * 2 = ap (λ (n : ℕ). f * n) two in
-        let last : first s + f * 2 + 1 ≡ last_picture s number = omega (arith, two, times) in
-        let even = even_start settings.fields settings.picture settings.first_picture fields in
-        (none_at_even sequence es (first s + f * 2) (coded_fields s ∙ fields) (omega (arith, even)), ap written last ∙ frame_written)
+        grind (arith, coded_fields, even_start, first, frame_written, none_at_even, two_each)
 
   all_written : flat_map written (range_with_len (first s) (length parts)) ≡ raw_video s frames
   all_written = elim (cases_Bool s.frames.fields) [
@@ -165,17 +157,12 @@ module _ (settings : SendSettings) (small : settings.ssrc < 2 ^ 32) (window : �
   module _ (h : HeardSession) (own : IsOwnSession settings small indices pictures many (fits settings small indices frames can.sound can.few) frames refl h) where
     entries_are : entered_of window h ≡ es
     entries_are =
-        entered_is window h
-        ∙ ap (entered (2 ^ 32) window) own.fragments
-        ∙ entered_in_order s window some parts (all_have_parts s indices pictures) (omega (arith, many, length-parts_from s indices pictures))
+        grind (arith, all_have_parts, entered_in_order, entered_is, length-parts_from, many)
 
     frames_of_session : full_output window (sent_stream s indices frames) ≡ raw_video s frames
     unfolding full_output all_output all_frames
     frames_of_session =
-        ap (all_output window) own.one
-        ∙ (λ i. flat_map (frame_bytes_at (own.session i).sequence (entries_are i)) (opened_numbers (entries_are i)))
-        ∙ ap (flat_map written) (opened_in_order (first s) parts (all_have_parts s indices pictures))
-        ∙ all_written
+        grind (arith, all_have_parts, all_written, entries_are, first, opened_in_order)
 
   pub stream_back : full_output window (sent_stream (sending_view settings) indices frames) ≡ raw_video (sending_view settings) frames
   unfolding full_output all_output

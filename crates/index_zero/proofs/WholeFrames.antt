@@ -1,8 +1,8 @@
 -- A frame whose pictures are whole is the frame that was sent.
-use Rattle.std.proofs.Common.{◌≡◌, ◌<◌, ℕ, ◌+◌, ◌-◌, ◌*◌, ◌%◌, ◌^◌, Bool, true, false, cond, List, [], ◌++◌, drop, Option, Some, None, refl, sym, ap, ◌∙◌, arith, inl, inr}
+use Rattle.std.proofs.Common.{◌≡◌, ◌<◌, ℕ, ◌+◌, ◌-◌, ◌*◌, ◌%◌, ◌^◌, Bool, true, false, cond, List, [], ◌++◌, drop, Option, Some, None, refl, sym, ap, ◌∙◌, arith}
 use Rattle.std.specs.Prelude.{slice_get, ◌==◌, is_some}
 use Rattle.std.specs.Option.{option_and_then}
-use Rattle.std.proofs.lemmas.Bool.{cases_Bool, cond-true, cond-false, eq-eqb, eqb-true, ne_eqb}
+use Rattle.std.proofs.lemmas.Bool.{cond-true, cond-false, ne_eqb}
 use Rattle.field_pairs.proofs.Fields.{woven-fields_of}
 use Rattle.field_pairs.specs.Sizes.{AreWhole}
 use Rattle.index_zero.specs.FramesToSend.{AreFramesToSend, IsAtIndexZero, IsPictureToSend}
@@ -51,19 +51,10 @@ frame_alone sequence es n fields = cond-false sequence.fields (field_frame_at se
 frame_of_two : (sequence : Sequence) (es : List Numbered) (n : ℕ) (earlier later : Planes) → sequence.fields ≡ true → (n + 1) % 2 ≡ 1 → planes_at sequence es n ≡ Some earlier → planes_at sequence es (n + 1) ≡ Some later
     → frame_at sequence es (n + 1) ≡ Some (woven sequence.top_first earlier later)
 unfolding frame_at
-frame_of_two sequence es n earlier later fields odd first second =
-    let before : n + 1 - 1 ≡ n = omega arith in
-    cond-true sequence.fields (field_frame_at sequence es (n + 1)) (planes_at sequence es (n + 1)) fields
-    ∙ cond-true ((n + 1) % 2 == 1) (woven_fields sequence.top_first (planes_at sequence es (n + 1 - 1)) (planes_at sequence es (n + 1))) None (eq-eqb ((n + 1) % 2) 1 odd)
-    ∙ ap (λ (k : ℕ). woven_fields sequence.top_first (planes_at sequence es k) (planes_at sequence es (n + 1))) before
-    ∙ (λ i. woven_fields sequence.top_first (first i) (second i))
+frame_of_two sequence es n earlier later fields odd first second = grind (arith, odd)
 
 pub even_start : (fields : Bool) (picture : ℕ) → first_picture_fits fields picture ≡ true → fields ≡ true → picture % 2 ≡ 0
-even_start true picture fits is = eqb-true (picture % 2) 0 fits
-even_start false picture fits is = absurd (false_not is)
-  where
-    false_not : false ≡ true → ⊥
-    false_not e = cc
+even_start fields picture fits is = grind arith
 
 -- the even one of two fields has no frame
 pub none_at_even : (sequence : Sequence) (es : List Numbered) (n : ℕ) → sequence.fields ≡ true → n % 2 ≡ 0 → frame_bytes_at sequence es n ≡ []
@@ -220,10 +211,7 @@ module _ (settings : SendSettings) (indices : List ℕ) (frames : List Planes) (
     no_more = omega arith
 
     odd : (number + 1) % 2 ≡ 1
-    odd =
-        let even = even_start settings.fields settings.picture settings.first_picture fields in
-        let twice : f * pictures_per_frame s ≡ f * 2 = ap (λ (n : ℕ). f * n) (two_each s fields) in
-        omega (arith, even, are.bits, twice)
+    odd = grind (arith, even_start, two_each)
 
     pair_there : frame_at sequence es (number + 1) ≡ Some frame
     pair_there =
@@ -237,10 +225,8 @@ module _ (settings : SendSettings) (indices : List ℕ) (frames : List Planes) (
     pair_last = omega (arith, two_each s fields)
 
   pub frame_back : IsFrameBack (sending_view settings) number frame es
-  frame_back = elim (cases_Bool s.frames.fields) [
-    | inl fields ↦ record { is = ap (frame_at sequence es) (sym (pair_last fields)) ∙ pair_there fields; opened = ap (is_opened es) (sym (pair_last fields)) ∙ pair_opened fields }
-    | inr fields ↦ record { is = ap (frame_at sequence es) (sym (frame_last fields)) ∙ frame_there fields; opened = ap (is_opened es) (sym (frame_last fields)) ∙ frame_opened fields }
-  ]
+  frame_back =
+      grind (arith, frame_last, frame_opened, frame_there, pair_last, pair_opened, pair_there)
 
   -- and its raw bytes are those of the frame
   pub bytes_back : frame_bytes_at (sent_sequence (sending_view settings)) es (last_picture (sending_view settings) number) ≡ raw_frame (sending_view settings) frame

@@ -9,7 +9,7 @@ use Rattle.index_zero.proofs.FittingRuns.{room_few, run_is}
 use Rattle.index_zero.proofs.FramePictures.{AreFaultless, all_pictures, no_slice_fault}
 use Rattle.index_zero.proofs.SentFaults.{are_sound}
 use Rattle.index_zero.proofs.SentStream.{IsOfPicture, IsSent, all_sent, count}
-use Rattle.index_zero.proofs.ShortParameters.{short_parameters}
+use Rattle.sent_counts.proofs.Heads.{short_parameters_of}
 use Rattle.link_capture.specs.Capture.{entries_within, entry}
 use Rattle.link_model.specs.Packets.{fragment_bytes, payload_bytes, payload_head, rtp_header}
 use Rattle.link_model.specs.Sending.{DatagramContent, EndContent, HeaderContent, ParametersContent, SlicesContent, outgoing, sent_datagram, sent_stream, sent_value}
@@ -41,7 +41,7 @@ module _ (settings : SendSettings) (indices : List ℕ) (frames : List Planes) (
   of_content : (number picture : ℕ) (c : DatagramContent) → IsOfPicture s 0 indices pictures (outgoing picture c) ⊎ (c ≡ EndContent) → IsShort (sent_datagram s number (outgoing picture c))
   unfolding sent_datagram sent_value rtp_header payload_bytes fragment_bytes payload_head
   of_content number picture HeaderContent is = omega (arith, short_header settings)
-  of_content number picture ParametersContent is = omega (arith, short_parameters settings)
+  of_content number picture ParametersContent is = omega (arith, short_parameters_of settings)
   of_content number picture (SlicesContent run) (inl own) =
       let sound = are_sound s indices pictures (no_slice_fault s indices frames faultless) own.number own.planes own.at in
       omega (arith, (run_is settings own.planes (drop (own.number * count s) indices) sound run own.content).fits, room_few settings)
