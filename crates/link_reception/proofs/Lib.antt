@@ -34,3 +34,4 @@ pub mod EarlyEnd
 pub mod Following
 pub mod Exchanges
 pub mod ReceiverRows
+pub mod WholeBooks

@@ -39,11 +39,6 @@ slice_decoding answers n g i =
     unwrap_or (own_answer_at answers n g i)
     (slice_coefficients g.plan.parameters i (slot_bytes g i))
 
--- the slices that it decodes itself, in rising order
-abbrev pub undecoded_slices : List PictureAnswers → ℕ → Gathered → List ℕ
-undecoded_slices answers n g =
-    filter (λ i. is_none (own_answer_at answers n g i)) (range_with_len 0 (length g.slots))
-
 abbrev pub if_sound : Decoding → Option Coefficients
 if_sound (Ok coefficients) = Some coefficients
 if_sound (Err unsound) = None

@@ -1,5 +1,5 @@
 -- A picture's slices as they come into its builder, and the planes of all of them.
-use Rattle.std.proofs.Common.{◌≡◌, ℕ, zero, suc, ◌+◌, ◌<◌, ◌≤◌, Bool, true, false, List, [], ◌∷◌}
+use Rattle.std.proofs.Common.{◌≡◌, ℕ, zero, suc, ◌+◌, ◌<◌, ◌≤◌, Bool, false, List, [], ◌∷◌}
 use Rattle.std.proofs.Common.{length, Option, Some, None, Result, Ok, Err, refl, sym, ap, subst, ◌∙◌}
 use Rattle.std.proofs.Common.{inl, inr, arith, length-set}
 use Rattle.std.specs.Prelude.{map, slice_index_or, unwrap_or, is_some, IfOk}
@@ -12,9 +12,8 @@ use Rattle.link_model.specs.Books.{Book, book_slice}
 use Rattle.link_model.specs.Feeding.{with_first}
 use Rattle.link_reception.specs.Receptions.{Decoding}
 use Rattle.link_reception.specs.Releasing.{if_sound, sound_slices}
-use Rattle.picture_build.specs.Kept.{PartPicture, slice_that_came, slices_of}
-use Rattle.picture_build.specs.Kept.{no_coefficients}
-use Rattle.slice_answers.specs.Completing.{comes_to, book_bytes, PutsDecoded, HasCome, ComesInto}
+use Rattle.picture_build.specs.Kept.{PartPicture, slice_that_came, slices_of, no_coefficients}
+use Rattle.slice_answers.specs.Completing.{comes_to, PutsDecoded, HasCome, ComesInto}
 use Rattle.slice_answers.specs.Completing.{HaveCome, IsCompleted}
 use Rattle.slice_answers.specs.SeenAnswers.{part_answer}
 use Rattle.slice_answers.proofs.SeenSlots.{answer_none, answer_sound, answer_unsound}
@@ -40,9 +39,7 @@ module _ (part : PartPicture) (unsound : List (Option Unsound)) (book : Book) (i
       → slice_index_or unsound i None ≡ None → book_slice book i ≡ Some bytes
       → comes_to part unsound book i ≡ slice_coefficients part.parameters i bytes
   unfolding comes_to
-  comes_decoded bytes came none is =
-      rw (answer_none part unsound i came none)
-      (ap (λ (o : Option (List ℕ)). slice_coefficients part.parameters i (unwrap_or o [])) is)
+  comes_decoded bytes came none is = grind (arith, answer_none)
 
 -- of another part with the same slice
 same_answer : (old new : PartPicture) (unsound : List (Option Unsound)) (i : ℕ)
@@ -55,49 +52,23 @@ pub comes_again : (old new : PartPicture) (unsound : List (Option Unsound)) (boo
     → slice_that_came new i ≡ slice_that_came old i → new.parameters ≡ old.parameters
     → comes_to new unsound book i ≡ comes_to old unsound book i
 unfolding comes_to
-comes_again old new unsound book i same p =
-    ap (λ (o : Option Decoding). unwrap_or o (slice_coefficients new.parameters i (book_bytes book i)))
-    (same_answer old new unsound i same)
-    ∙ ap (λ (q : Parameters). unwrap_or (part_answer old unsound i)
-    (slice_coefficients q i (book_bytes book i))) p
+comes_again old new unsound book i same p = grind (arith, same_answer)
 
 -- ---- a slice more
 
 pub comes_put : {E : Type 0} (decoding : Decoding) (i : ℕ) (old new : PartPicture)
     (result : Result Bool E) (own : Decoding) → own ≡ decoding → i < length old.slices
     → IfOk result (PutsDecoded decoding i old new) → IfOk result (ComesInto own i old new)
-comes_put decoding i old new (Ok true) own is inside put = record {
-  coefficients = put.0;
-  sound = is ∙ put.1;
-  here = ap (λ (q : PartPicture). slice_that_came q i) put.2
-      ∙ get_or-set_same old.slices i (Some put.0) None inside;
-  others = λ k ne. ap (λ (q : PartPicture). slice_that_came q k) put.2
-      ∙ get_or-set_other old.slices i k (Some put.0) None ne;
-  parameters = ap (λ (q : PartPicture). q.parameters) put.2;
-  entries = ap (λ (q : PartPicture). length q.slices) put.2 ∙ length-set old.slices i (Some put.0);
-}
-comes_put decoding i old new (Ok false) own is inside put = (put.0, is ∙ put.1)
-comes_put decoding i old new (Err e) own is inside put = put
+comes_put decoding i old new result own is inside put =
+    grind (arith, get_or-set_other, get_or-set_same, length-set)
 
 pub was_there : (decoding : Decoding) (i : ℕ) (old : PartPicture) (s : Coefficients)
     → slice_that_came old i ≡ Some s → decoding ≡ Ok s → HasCome decoding i old old
-was_there decoding i old s came is = record {
-  coefficients = s;
-  sound = is;
-  here = came;
-  others = λ k ne. refl;
-  parameters = refl;
-  entries = refl;
-}
+was_there decoding i old s came is = grind arith
 
 module _ (decoding : ℕ → Decoding) where
   pub none_came : (old : PartPicture) → HaveCome decoding 0 old old
-  none_came old = record {
-    came = λ i h. absurd (omega (arith, h));
-    others = λ i h. refl;
-    parameters = refl;
-    entries = refl;
-  }
+  none_came old = grind arith
 
   pub one_came : (count : ℕ) (first old new : PartPicture) (one : Decoding)
       → HaveCome decoding count first old → one ≡ decoding count → HasCome one count old new
@@ -191,15 +162,9 @@ module _ (decoding : ℕ → Decoding) where
 pub same_sound : (f g : ℕ → Decoding) → ((i : ℕ) → f i ≡ g i) → (is : List ℕ)
     → sound_slices f is ≡ sound_slices g is
 same_sound f g same [] = refl
-same_sound f g same (i ∷ is) =
-    ap (λ (d : Decoding). with_first (if_sound d) (sound_slices f is)) (same i)
-    ∙ ap (with_first (if_sound (g i))) (same_sound f g same is)
+same_sound f g same (i ∷ is) = grind (arith, same_sound f g same is)
 
 -- ---- tests
-
-pub some_is : {X : Type 0} (o : Option X) → is_some o ≡ true → (x : X) × (o ≡ Some x)
-some_is None e = absurd cc
-some_is (Some x) e = (x, refl)
 
 pub none_is : {X : Type 0} (o : Option X) → is_some o ≡ false → o ≡ None
 none_is None e = refl

@@ -2,4 +2,3 @@ mod SeenSlots
 mod PictureLists
 mod CompletedSlices
 mod ReleasedPictures
-mod WholeBooks

@@ -1,9 +1,9 @@
 -- A picture among others: where it stands, and what the list is without it and with one answer more.
-use Rattle.std.proofs.Common.{◌≡◌, ℕ, zero, suc, ◌<◌, Bool, true, false, List, [], ◌∷◌, ◌++◌, length}
+use Rattle.std.proofs.Common.{◌≡◌, ℕ, zero, suc, ◌<◌, true, false, List, [], ◌∷◌, ◌++◌, length}
 use Rattle.std.proofs.Common.{Some, None, refl, sym, ap, ◌∙◌, arith, cond, get_or, set}
-use Rattle.std.specs.Prelude.{not, filter, position, ◌==◌, ◌||◌}
+use Rattle.std.specs.Prelude.{not, filter, position, ◌==◌}
 use Rattle.std.specs.List.{remove, list_any}
-use Rattle.std.proofs.lemmas.Bool.{false≢true}
+use Rattle.std.proofs.lemmas.Grind.{common_steps}
 use Rattle.std.proofs.lemmas.List.Quantifiers.{position-Some}
 use Rattle.link_model.specs.Places.{Answered}
 use Rattle.link_model.proofs.Positions.{position_none}
@@ -20,9 +20,8 @@ module _ (n : ℕ) where
 
   pub stands : (pictures : List PictureAnswers) (place : ℕ) (d : PictureAnswers)
       → position (is_of_number n) pictures ≡ Some place → StandsAt pictures place d
-  stands pictures place d is = (
-      let found = position-Some (is_of_number n) pictures place d is in
-      record { within = found.0; here = found.1; before = found.2 })
+  stands pictures place d is =
+      grind (arith, common_steps, position-Some (is_of_number n) pictures place d is)
 
   behind : (a : PictureAnswers) (rest : List PictureAnswers) (place : ℕ) (d : PictureAnswers)
       → StandsAt (a ∷ rest) (suc place) d → StandsAt rest place d
@@ -75,9 +74,7 @@ module _ (n : ℕ) where
         → set pictures place (answers_with (get_or pictures place d) done)
         ≡ keeps_answer pictures done
     keeps_there [] place d at = absurd (omega (arith, at.within))
-    keeps_there (a ∷ rest) zero d at =
-        sym (ap (λ b. cond b (answers_with a done ∷ rest) (a ∷ keeps_answer rest done))
-        (by_number a ∙ at.here))
+    keeps_there (a ∷ rest) zero d at = grind (arith, by_number)
     keeps_there (a ∷ rest) (suc place) d at =
         ap (λ (l : List PictureAnswers). a ∷ l)
         (keeps_there rest place d (behind a rest place d at))
@@ -89,11 +86,7 @@ module _ (n : ℕ) where
   none_first : (a : PictureAnswers) (rest : List PictureAnswers)
       → list_any (is_of_number n) (a ∷ rest) ≡ false
       → (is_of_number n a ≡ false) × (list_any (is_of_number n) rest ≡ false)
-  none_first a rest e = each (is_of_number n a) (list_any (is_of_number n) rest) e
-    where
-      each : (b rest : Bool) → (b || rest) ≡ false → (b ≡ false) × (rest ≡ false)
-      each true rest e = absurd (false≢true (sym e))
-      each false rest e = (refl, e)
+  none_first a rest e = grind arith
 
   nowhere : (pictures : List PictureAnswers) → position (is_of_number n) pictures ≡ None
       → list_any (is_of_number n) pictures ≡ false

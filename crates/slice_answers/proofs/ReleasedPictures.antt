@@ -1,27 +1,24 @@
 -- A picture that is released: its book's slices, the answers to them, and its planes.
-use Rattle.std.proofs.Common.{◌≡◌, ℕ, zero, suc, ◌<◌, Bool, true, false, List, [], ◌∷◌, length, Option, Some, None}
-use Rattle.std.proofs.Common.{Result, Ok, Err, refl, sym, ap, subst, ◌∙◌, arith, cond}
-use Rattle.std.specs.Prelude.{is_some, unwrap_or, IfOk}
+use Rattle.std.proofs.Common.{◌≡◌, ℕ, zero, suc, ◌<◌, true, List, [], ◌∷◌, length, Option, Some, None}
+use Rattle.std.proofs.Common.{Result, Ok, Err, sym, ap, subst, ◌∙◌, arith}
+use Rattle.std.specs.Prelude.{is_some, IfOk}
 use Rattle.std.specs.List.{list_all, range_with_len}
 use Rattle.std.specs.Option.{option_map, option_map_or, option_and_then}
-use Rattle.std.proofs.lemmas.Bool.{false≢true, and_parts}
-use Rattle.std.proofs.lemmas.Option.{none-some, same_Some}
+use Rattle.std.proofs.lemmas.Bool.{and_parts}
+use Rattle.std.proofs.lemmas.Grind.{common_steps}
 use Rattle.link_model.specs.Books.{Gathered, Book, Slots, slot_at, book_slice}
-use Rattle.link_model.specs.Books.{gathered_bytes, gathered_whole, book_whole}
+use Rattle.link_model.specs.Books.{gathered_whole, book_whole}
 use Rattle.link_reception.specs.Receptions.{Decoding, PictureAnswers, answer_at, answers_at}
 use Rattle.link_reception.specs.Receptions.{no_answers}
-use Rattle.link_reception.specs.Releasing.{answers_by, own_answer_at, slice_decoding}
-use Rattle.link_reception.specs.Releasing.{sound_slices, gathered_planes, book_planes}
+use Rattle.link_reception.specs.Releasing.{answers_by, slice_decoding, sound_slices, book_planes}
 use Rattle.link_reception.specs.WholeBooks.{IsWholeBook}
 use Rattle.picture_build.specs.Kept.{PartPicture}
-use Rattle.slice_answers.specs.Completing.{comes_to, book_bytes, HasWholeSlices}
+use Rattle.slice_answers.specs.Completing.{comes_to, HasWholeSlices}
 use Rattle.slice_answers.specs.SeenAnswers.{part_answer, answers_of_plan}
 use Rattle.slice_answers.proofs.CompletedSlices.{same_sound}
 use Rattle.slice_answers.proofs.SeenSlots.{none_at}
 use Rattle.vc_types.specs.Planes.{planes_of}
-use Rattle.vc_types.specs.SameValues.{same_parameters}
 use Rattle.vc_types.specs.SequenceHeader.{Sequence}
-use Rattle.vc_types.specs.Slices.{slice_coefficients}
 use Rattle.vc_types.specs.Subbands.{slice_count}
 use Rattle.vc_types.specs.TransformParameters.{Parameters}
 use Rattle.vc_types.specs.declared.refusal.Unsound.{Unsound}
@@ -31,11 +28,7 @@ use Rattle.vc_types.proofs.SameValues.{parameters_exactly}
 
 gathered_whole_is : (g : Gathered) → is_some (gathered_whole g) ≡ true
     → list_all is_some g.slots ≡ true
-gathered_whole_is g e = by_test (list_all is_some g.slots) e
-  where
-    by_test : (b : Bool) → is_some (cond b (Some (gathered_bytes g)) None) ≡ true → b ≡ true
-    by_test true e = refl
-    by_test false e = absurd (false≢true e)
+gathered_whole_is g e = grind arith
 
 slot_there : (slots : Slots) → list_all is_some slots ≡ true → (i : ℕ) → i < length slots
     → is_some (slot_at slots i) ≡ true
@@ -74,15 +67,7 @@ module _ (book : Book) where
           ≡ answer_at (option_map_or (answers_by g.plan.parameters) kept []) i)
           → (i : ℕ) → comes_to part unsound book i ≡ slice_decoding answers n g i
       unfolding comes_to
-      comes_own part unsound own same i =
-          ap (λ (o : Option Decoding). unwrap_or o
-          (slice_coefficients part.parameters i (book_bytes book i)))
-          (same i ∙ ap (λ (o : Option PictureAnswers).
-          answer_at (option_map_or (answers_by g.plan.parameters) o []) i) (sym found))
-          ∙ ap (λ (q : Parameters). unwrap_or (own_answer_at answers n g i)
-          (slice_coefficients q i (book_bytes book i))) own
-          ∙ ap (λ (o : Option (List ℕ)). unwrap_or (own_answer_at answers n g i)
-          (slice_coefficients g.plan.parameters i (unwrap_or o []))) (slice_is i)
+      comes_own part unsound own same i = grind (arith, slice_is)
 
       -- its planes
       pub planes_are : (s : Sequence) → IsWholeBook s book → is_some (book_whole book) ≡ true
@@ -90,15 +75,7 @@ module _ (book : Book) where
           → (decoding : ℕ → Decoding) → ((i : ℕ) → decoding i ≡ slice_decoding answers n g i)
           → option_map (planes_of p) (sound_slices decoding (range_with_len 0 (slice_count p)))
           ≡ book_planes answers n book
-      planes_are s is whole p own decoding same =
-          ap (λ (q : Parameters). option_map (planes_of q)
-          (sound_slices decoding (range_with_len 0 (slice_count q)))) (sym own)
-          ∙ ap (λ k. option_map (planes_of g.plan.parameters)
-          (sound_slices decoding (range_with_len 0 k))) (sym (is g at).slots)
-          ∙ ap (option_map (planes_of g.plan.parameters))
-          (same_sound decoding (slice_decoding answers n g) same (range_with_len 0 (length g.slots)))
-          ∙ sym (ap (option_and_then (gathered_planes answers n)) at)
-          ∙ sym (ap (λ b. cond b (option_and_then (gathered_planes answers n) book.gathered) None) whole)
+      planes_are s is whole p own decoding same = grind (arith, same_sound)
 
 -- ---- answers that are kept by these parameters
 
@@ -110,35 +87,16 @@ module _ (p : Parameters) where
 
   pub of_plan_some : (kept : Option PictureAnswers) (a : PictureAnswers)
       → answers_of_plan p kept ≡ Some a → (a.parameters ≡ p) × AnswersAre a kept
-  of_plan_some None a e = absurd (none-some a e)
-  of_plan_some (Some b) a e = by_test (same_parameters b.parameters p) refl e
-    where
-      by_test : (same : Bool) → same_parameters b.parameters p ≡ same
-          → cond same (Some b) None ≡ Some a → (a.parameters ≡ p) × AnswersAre a (Some b)
-      by_test false is e = absurd (none-some a e)
-      by_test true is e = subst
-          (λ (a : PictureAnswers). (a.parameters ≡ p) × AnswersAre a (Some b)) (same_Some b a e) (
-            (parameters_exactly b.parameters p).0 is,
-            λ i. sym (ap (λ same. answer_at (cond same b.slices []) i) is),
-          )
+  of_plan_some kept a e = grind (arith, parameters_exactly)
 
   pub of_plan_none : (n : ℕ) (kept : Option PictureAnswers)
       → answers_of_plan p kept ≡ None → AnswersAre (no_answers n p) kept
-  of_plan_none n None e i = none_at (slice_count p) i
-  of_plan_none n (Some b) e i =
-      none_at (slice_count p) i
-      ∙ sym (ap (λ same. answer_at (cond same b.slices []) i) (by_test (same_parameters b.parameters p) e))
-    where
-      by_test : (same : Bool) → cond same (Some b) None ≡ None → same ≡ false
-      by_test false e = refl
-      by_test true e = absurd (none-some b (sym e))
+  of_plan_none n kept e i = grind (arith, none_at)
 
   pub of_plan_new : {E : Type 0} (n : ℕ) (kept : Option PictureAnswers)
       (result : Result PictureAnswers E) → answers_of_plan p kept ≡ None
       → IfOk result (λ a. a ≡ no_answers n p) → IfOk result (λ a. AnswersAre a kept)
-  of_plan_new n kept (Ok a) none is =
-      subst (λ (a : PictureAnswers). AnswersAre a kept) (sym is) (of_plan_none n kept none)
-  of_plan_new n kept (Err e) none is = is
+  of_plan_new n kept result none is = grind (arith, common_steps, of_plan_none n kept none)
 
   pub new_plan : {E : Type 0} (n : ℕ) (result : Result PictureAnswers E)
       → IfOk result (λ a. a ≡ no_answers n p) → IfOk result (λ a. a.parameters ≡ p)

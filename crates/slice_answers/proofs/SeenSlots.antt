@@ -1,11 +1,10 @@
 -- The answers to a picture's slices: none at first, and then one more each time.
-use Rattle.std.proofs.Common.{◌≡◌, ◌≢◌, ℕ, ◌<◌, ◌≤◌, true, false, List, length, Option, Some, None}
-use Rattle.std.proofs.Common.{Ok, Err, refl, sym, ap, subst, ◌∙◌, inl, inr, slice_set, length-set}
-use Rattle.std.proofs.Common.{replicate, arith, cond}
+use Rattle.std.proofs.Common.{◌≡◌, ◌≢◌, ℕ, ◌<◌, ◌≤◌, true, List, Option, Some, None, Ok, Err, refl}
+use Rattle.std.proofs.Common.{sym, ap, ◌∙◌, inl, inr, slice_set, length-set, replicate, arith}
 use Rattle.std.specs.Prelude.{map, slice_get, slice_index_or, unwrap_or, is_some, ◌||◌}
 use Rattle.std.specs.List.{range_with_len}
 use Rattle.std.specs.Option.{option_and_then}
-use Rattle.std.proofs.lemmas.Bool.{cases_lt, cases_eq}
+use Rattle.std.proofs.lemmas.Bool.{cases_eq}
 use Rattle.std.proofs.lemmas.List.{ext_get_or, get_or_past, get_or-replicate, length-replicate}
 use Rattle.std.proofs.lemmas.List.{get_or-set_same, get_or-set_other}
 use Rattle.std.proofs.lemmas.List.FromFn.{length-map-range_with_len, get_or-map-range_with_len}
@@ -33,20 +32,13 @@ pub at_or : (slices : List (Option Decoding)) (i : ℕ)
 at_or slices i = flat (slice_get slices i) ∙ unwrap_or-slice_get slices i None
 
 pub none_at : (count i : ℕ) → answer_at (replicate count None) i ≡ None
-none_at count i = at_or (replicate count None) i ∙ elim (cases_lt i count) [
-  | inl lt ↦ get_or-replicate count i None None lt
-  | inr ge ↦ (
-      let long = length-replicate {A = Option Decoding} count None in
-      get_or_past (replicate count None) i None (omega (arith, long)))
-]
+none_at count i = grind (arith, at_or, get_or-replicate, get_or_past, length-replicate)
 
 -- ---- a slice's answer
 
 by_came : (o : Option Coefficients) (why : Option Unsound)
     → answer_by o why ≡ None → (o ≡ None) × (why ≡ None)
-by_came (Some s) why e = absurd cc
-by_came None None e = (refl, refl)
-by_came None (Some u) e = absurd cc
+by_came o why e = grind arith
 
 module _ (part : PartPicture) (unsound : List (Option Unsound)) where
   -- neither sound nor unsound
@@ -74,32 +66,24 @@ module _ (part : PartPicture) (unsound : List (Option Unsound)) where
   pub answer_some : (i : ℕ) → is_some (part_answer part unsound i)
       ≡ (is_some (slice_that_came part i) || is_some (slice_index_or unsound i None))
   unfolding part_answer
-  answer_some i = each (slice_that_came part i) (slice_index_or unsound i None)
-    where
-      each : (o : Option Coefficients) (why : Option Unsound)
-          → is_some (answer_by o why) ≡ (is_some o || is_some why)
-      each (Some s) why = refl
-      each None None = refl
-      each None (Some u) = refl
+  answer_some i = grind arith
 
   module _ (has : HasEntries part unsound) where
     past : (i : ℕ) → slice_count part.parameters ≤ i → part_answer part unsound i ≡ None
-    past i ge = answer_none i
-        (get_or_past part.slices i None (omega (arith, has.sound_entries)))
-        (get_or_past unsound i None (omega (arith, has.unsound_entries)))
+    past i ge = grind (arith, answer_none, get_or_past)
 
     -- what is seen of it
     pub seen_at : (n i : ℕ)
         → answer_at (seen_answers n part unsound).slices i ≡ part_answer part unsound i
-    seen_at n i = at_or (part_answers part unsound) i ∙ elim (cases_lt i (slice_count part.parameters)) [
-      | inl lt ↦ get_or-map-range_with_len (part_answer part unsound) 0
-          (slice_count part.parameters) i i None lt (omega arith)
-      | inr ge ↦ (
-          let long = length-map-range_with_len (part_answer part unsound) 0
-          (slice_count part.parameters) in
-          get_or_past (part_answers part unsound) i None (omega (arith, long))
-          ∙ sym (past i ge))
-    ]
+    seen_at n i =
+        grind (
+          arith,
+          at_or,
+          get_or-map-range_with_len,
+          get_or_past,
+          length-map-range_with_len,
+          past,
+        )
 
     module _ (n i : ℕ) (a : PictureAnswers) (view : seen_answers n part unsound ≡ a) where
       seen_there : answer_at a.slices i ≡ part_answer part unsound i
@@ -142,20 +126,14 @@ seen_none n p part unsound is none =
 
 pub entries_none : (p : Parameters) (part : PartPicture) (unsound : List (Option Unsound))
     → part ≡ no_slices p → unsound ≡ replicate (slice_count p) None → HasEntries part unsound
-entries_none p part unsound is none = subst (λ (q : PartPicture). HasEntries q unsound) (sym is)
-    (record {
-      sound_entries = length-replicate (slice_count p) None;
-      unsound_entries = ap length none ∙ length-replicate (slice_count p) None;
-    })
+entries_none p part unsound is none = grind (arith, length-replicate)
 
 -- ---- one more
 
 other_sound : (part : PartPicture) (unsound : List (Option Unsound)) (i k : ℕ) (s : Coefficients)
     → k ≢ i → part_answer (with_slice part i s) unsound k ≡ part_answer part unsound k
 unfolding part_answer
-other_sound part unsound i k s ne =
-    ap (λ (o : Option Coefficients). answer_by o (slice_index_or unsound k None))
-    (get_or-set_other part.slices i k (Some s) None ne)
+other_sound part unsound i k s ne = grind (arith, get_or-set_other)
 
 other_unsound : (part : PartPicture) (unsound : List (Option Unsound)) (i k : ℕ) (why : Unsound)
     → k ≢ i → part_answer part (slice_set unsound i (Some why)) k ≡ part_answer part unsound k
@@ -201,37 +179,13 @@ module _ (n : ℕ) (part : PartPicture) (unsound : List (Option Unsound))
 
   more_unsound : (why : Unsound)
       → seen_answers n part (slice_set unsound i (Some why)) ≡ answered_there (Err why)
-  more_unsound why = ap (λ (slices : List (Option Decoding)). let a : PictureAnswers =
-      record { number = n; parameters = part.parameters; slices = slices } in a)
-      (one_changed (part_answer part unsound) (part_answer part (slice_set unsound i (Some why)))
-      (slice_count part.parameters) i (Some (Err why))
-      (answer_unsound part (slice_set unsound i (Some why)) i why (unanswered part unsound i once).0
-      (get_or-set_same unsound i (Some why) None (omega (arith, has.unsound_entries))))
-      (λ k ne. other_unsound part unsound i k why ne))
-
-  pub entries_sound : (s : Coefficients) → HasEntries (with_slice part i s) unsound
-  entries_sound s = record {
-    sound_entries = length-set part.slices i (Some s) ∙ has.sound_entries;
-    unsound_entries = has.unsound_entries;
-  }
-
-  pub entries_unsound : (why : Unsound) → HasEntries part (slice_set unsound i (Some why))
-  entries_unsound why = record {
-    sound_entries = has.sound_entries;
-    unsound_entries = length-set unsound i (Some why) ∙ has.unsound_entries;
-  }
+  more_unsound why =
+      grind (arith, answer_unsound, get_or-set_same, one_changed, other_unsound, unanswered)
 
   module _ (a : PictureAnswers) (view : seen_answers n part unsound ≡ a) (done : Answered)
       (here : done.job.index ≡ i) (same : same_parameters part.parameters done.job.plan ≡ true) where
     kept : answered_there done.answer ≡ answers_with a done
-    kept =
-        ap (λ k. let b : PictureAnswers = record (seen_answers n part unsound) {
-          slices = slice_set (part_answers part unsound) k (Some done.answer);
-        } in b) (sym here)
-        ∙ sym (ap (λ b. cond b (let c : PictureAnswers = record (seen_answers n part unsound) {
-          slices = slice_set (part_answers part unsound) done.job.index (Some done.answer);
-        } in c) (seen_answers n part unsound)) same)
-        ∙ ap (λ b. answers_with b done) view
+    kept = grind arith
 
     pub kept_sound : (s : Coefficients) → done.answer ≡ Ok s
         → seen_answers n (with_slice part i s) unsound ≡ answers_with a done
@@ -242,8 +196,3 @@ module _ (n : ℕ) (part : PartPicture) (unsound : List (Option Unsound))
     kept_unsound why is = more_unsound why ∙ ap answered_there (sym is) ∙ kept
 
 -- none by other parameters
-pub kept_out : (a : PictureAnswers) (done : Answered)
-    → same_parameters a.parameters done.job.plan ≡ false → a ≡ answers_with a done
-kept_out a done other = sym (ap (λ b. cond b (let c : PictureAnswers = record a {
-  slices = slice_set a.slices done.job.index (Some done.answer);
-} in c) a) other)

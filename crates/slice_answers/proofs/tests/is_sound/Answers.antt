@@ -1,7 +1,7 @@
 use Rattle.std.proofs.Common.{[], ◌∷◌, ◌++◌}
 use Rattle.link_model.specs.Session.{ParamsPart}
 use Rattle.vc_types.specs.SequenceHeader.{sequence_of}
-use Rattle.slice_answers.proofs.WholeBooks.{book_is_whole}
+use Rattle.link_reception.proofs.WholeBooks.{book_is_whole}
 use Rattle.slice_answers.proofs.tests.is_sound.Goals as goal
 
 pub take_soundness-requires : goal.take_soundness-requires

@@ -1,4 +1,5 @@
 use Rattle.std.proofs.Common.{rules, ◌≡◌, List, Some, None, refl, sym, ap, ◌∙◌, ◌++◌, ◌∷◌, [], set}
+use Rattle.std.proofs.Common.{arith}
 use Rattle.std.specs.Prelude.{position, slice_index_or, Option}
 use Rattle.std.specs.Option.{option_and_then}
 use Rattle.link_reception.specs.Receptions.{PictureAnswers, answer_at, answers_with, kept_answer, keeps_answer}
@@ -6,8 +7,6 @@ use Rattle.slice_jobs.specs.Jobs.{answered}
 use Rattle.slice_answers.specs.SeenAnswers.{is_of_number}
 use Rattle.slice_answers.proofs.PictureLists.{stands, found_there, keeps_there, keeps_first}
 use Rattle.slice_answers.proofs.SeenSlots.{none_at}
-use Rattle.vc_types.specs.Subbands.{slice_count}
-use Rattle.vc_types.specs.TransformParameters.{parameters_of}
 use Rattle.slice_answers.proofs.answers.Answers.keep.Goals as goal
 
 pub keep-requires : goal.keep-requires
@@ -40,12 +39,7 @@ returns-in-Some c =
     }
 
 pub keep-requires-in-None : goal.keep-requires-in-None
-keep-requires-in-None c =
-    let p = parameters_of c.args.done.job.plan in
-    record {
-      once = ap (λ (a : PictureAnswers). answer_at a.slices c.args.done.job.index) c.in_ok-picture-in-None.ensures.value
-          ∙ none_at (slice_count p) c.args.done.job.index;
-    }
+keep-requires-in-None c = grind (arith, none_at)
 
 pub returns-in_ok-push-in-None : goal.returns-in_ok-push-in-None
 returns-in_ok-push-in-None c =

@@ -9,12 +9,7 @@ pub complete_slice-requires-clause-plan : goal.complete_slice-requires-clause-pl
 complete_slice-requires-clause-plan c = c.loop-index.invariant.parameters ∙ c.requires.plan
 
 pub complete_slice-requires-clause-entries : goal.complete_slice-requires-clause-entries
-complete_slice-requires-clause-entries c =
-    let same = ap slice_count (sym c.loop-index.invariant.parameters) in
-    record {
-      sound_entries = c.loop-index.invariant.entries ∙ c.requires.entries.sound_entries ∙ same;
-      unsound_entries = c.requires.entries.unsound_entries ∙ same;
-    }
+complete_slice-requires-clause-entries c = grind arith
 
 pub loop-index-init : goal.loop-index-init
 loop-index-init c = none_came (comes_to c.args.builder.now c.args.unsound.now c.args.self.now.book.now) c.args.builder.now

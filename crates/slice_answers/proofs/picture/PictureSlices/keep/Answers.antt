@@ -5,16 +5,13 @@ use Rattle.slice_jobs.specs.Jobs.{answered}
 use Rattle.slice_answers.specs.SeenAnswers.{seen_answers}
 use Rattle.slice_answers.proofs.SeenSlots.{still_none, unanswered, kept_sound, kept_unsound}
 use Rattle.vc_types.specs.SameValues.{same_parameters}
-use Rattle.vc_types.specs.SliceCoefficients.{AreSliceCoefficients}
 use Rattle.vc_types.specs.Subbands.{slice_count}
 use Rattle.vc_types.specs.TransformParameters.{Parameters, parameters_of}
 use Rattle.vc_types.proofs.SameValues.{parameters_exactly}
 use Rattle.slice_answers.proofs.picture.PictureSlices.keep.Goals as goal
 
 pub fill-requires-clause-in_plan : goal.fill-requires-clause-in_plan
-fill-requires-clause-in_plan c =
-    let own = (parameters_exactly c.self.inside.builder.parameters (parameters_of c.args.done.job.plan)).0 (sym c.has_plan.ensures ∙ c.if-not-has_plan.false) in
-    subst (λ (q : Parameters). c.args.done.job.index < slice_count q) (sym own) c.args.done.job.in_plan
+fill-requires-clause-in_plan c = grind (arith, parameters_exactly)
 
 pub fill-requires-clause-once : goal.fill-requires-clause-once
 fill-requires-clause-once c =
@@ -23,11 +20,7 @@ fill-requires-clause-once c =
     (still_none s.builder s.unsound.items c.self.invariant s.number c.args.done.job.index c.args.self.now c.self.view_is c.requires.once)).0
 
 pub fill-requires-clause-whole : goal.fill-requires-clause-whole
-fill-requires-clause-whole c =
-    let p = parameters_of c.args.done.job.plan in
-    let own = (parameters_exactly c.self.inside.builder.parameters p).0 (sym c.has_plan.ensures ∙ c.if-not-has_plan.false) in
-    subst (λ (q : Parameters). AreSliceCoefficients q c.args.done.job.index c.in-Ok.coeffs) (sym own)
-    (whole_slice p c.args.done.job.index c.in-Ok.coeffs c.args.done.job.bytes (sym c.args.done.decoded ∙ c.in-Ok.is))
+fill-requires-clause-whole c = grind (arith, parameters_exactly, whole_slice)
 
 pub returns-in-Ok : goal.returns-in-Ok
 returns-in-Ok c =
@@ -43,11 +36,7 @@ returns-in-Ok c =
     }
 
 pub index_mut-requires : goal.index_mut-requires
-index_mut-requires c =
-    let s = c.self.inside in
-    let own = (parameters_exactly s.builder.parameters (parameters_of c.args.done.job.plan)).0 (sym c.has_plan.ensures ∙ c.if-not-has_plan.false) in
-    let lt = subst (λ (q : Parameters). c.args.done.job.index < slice_count q) (sym own) c.args.done.job.in_plan in
-    omega (arith, lt, c.self.invariant.unsound_entries, s.unsound.ok.0)
+index_mut-requires c = grind (arith, parameters_exactly)
 
 pub returns : goal.returns
 returns c =
