@@ -1,9 +1,9 @@
 -- What stands at a picture's place among books, and what opening a picture and taking a part into its book leave.
-use Rattle.std.proofs.Common.{◌≡◌, ℕ, suc, ◌<◌, ◌≤◌, Bool, true, false, List, [], ◌∷◌, length, set, get_or, Option, Some, None, refl, ap, sym, ◌∙◌, arith, cond, Bor}
-use Rattle.std.specs.Prelude.{nat_lt, ◌==◌, is_some, unwrap_or}
+use Rattle.std.proofs.Common.{◌≡◌, ℕ, ◌<◌, ◌≤◌, true, false, List, [], ◌∷◌, length, set, get_or, Option, Some, None, refl, sym, arith, cond, Bor}
+use Rattle.std.specs.Prelude.{◌==◌, is_some, unwrap_or}
 use Rattle.std.specs.Option.{option_copied}
 use Rattle.std.specs.List.{insert}
-use Rattle.std.proofs.lemmas.Bool.{eqb-true, false≢true}
+use Rattle.std.proofs.lemmas.Bool.{false≢true}
 use Rattle.std.proofs.lemmas.Option.{none-some}
 use Rattle.link_model.specs.Books.{Book, book_of, book_takes}
 use Rattle.link_model.specs.Session.{Part}
@@ -16,30 +16,16 @@ module _ (n : ℕ) where
 
   pub no_place : (books : List NumberedBook) → length books ≤ number_place books n → book_at books n ≡ None
   no_place [] past = refl
-  no_place (b ∷ books) past = by_test (nat_lt b.number n) past (no_place books)
-    where
-      by_test : (less : Bool) → suc (length books) ≤ cond less (suc (number_place books n)) 0 → (length books ≤ number_place books n → book_at books n ≡ None)
-          → cond less (book_at books n) (cond (b.number == n) (Some b.book) None) ≡ None
-      by_test true past later = later (omega (arith, past))
-      by_test false past later = absurd (omega (arith, past))
+  no_place (b ∷ books) past = grind (arith, no_place books)
 
   pub book_at_place : (books : List NumberedBook) (d : NumberedBook) → number_place books n < length books
       → book_at books n ≡ cond ((get_or books (number_place books n) d).number == n) (Some (get_or books (number_place books n) d).book) None
   book_at_place [] d within = absurd (omega (arith, within))
-  book_at_place (b ∷ books) d within = by_test (nat_lt b.number n) within (book_at_place books d)
-    where
-      by_test : (less : Bool) → cond less (suc (number_place books n)) 0 < suc (length books)
-          → (number_place books n < length books → book_at books n ≡ cond ((get_or books (number_place books n) d).number == n) (Some (get_or books (number_place books n) d).book) None)
-          → cond less (book_at books n) (cond (b.number == n) (Some b.book) None)
-          ≡ cond ((get_or (b ∷ books) (cond less (suc (number_place books n)) 0) d).number == n) (Some (get_or (b ∷ books) (cond less (suc (number_place books n)) 0) d).book) None
-      by_test true within later = later (omega (arith, within))
-      by_test false within later = refl
+  book_at_place (b ∷ books) d within = grind (arith, book_at_place books d)
 
   -- by the book that was read there
   pub found_is : (books : List NumberedBook) (place : ℕ) (b : NumberedBook) → place ≡ number_place books n → place < length books → b ≡ get_or books place b → book_at books n ≡ cond (b.number == n) (Some b.book) None
-  found_is books place b is within read =
-      book_at_place books b (omega (arith, is, within))
-      ∙ ap (λ (r : NumberedBook). cond (r.number == n) (Some r.book) None) (sym (read ∙ ap (λ k. get_or books k b) is))
+  found_is books place b is within read = grind (arith, book_at_place)
 
   module _ (s : Sequence) where
     abbrev pub empty_book : NumberedBook
@@ -53,68 +39,29 @@ module _ (n : ℕ) where
 
     pub opens_none : (books : List NumberedBook) → book_at books n ≡ None → insert books (number_place books n) empty_book ≡ with_book s books n
     opens_none [] none = refl
-    opens_none (b ∷ books) none = by_tests (nat_lt b.number n) (b.number == n) none (opens_none books)
-      where
-        by_tests : (less same : Bool) → cond less (book_at books n) (cond same (Some b.book) None) ≡ None
-            → (book_at books n ≡ None → insert books (number_place books n) empty_book ≡ with_book s books n)
-            → insert (b ∷ books) (cond less (suc (number_place books n)) 0) empty_book ≡ cond less (b ∷ with_book s books n) (cond same (b ∷ books) (empty_book ∷ b ∷ books))
-        by_tests true same none later = ap (λ (l : List NumberedBook). b ∷ l) (later none)
-        by_tests false true none later = absurd (none-some b.book (sym none))
-        by_tests false false none later = refl
+    opens_none (b ∷ books) none = grind (arith, opens_none books)
 
     pub opens_some : (books : List NumberedBook) (book : Book) → book_at books n ≡ Some book → books ≡ with_book s books n
     opens_some [] book some = absurd (none-some book some)
-    opens_some (b ∷ books) book some = by_tests (nat_lt b.number n) (b.number == n) some (opens_some books book)
-      where
-        by_tests : (less same : Bool) → cond less (book_at books n) (cond same (Some b.book) None) ≡ Some book
-            → (book_at books n ≡ Some book → books ≡ with_book s books n)
-            → (b ∷ books) ≡ cond less (b ∷ with_book s books n) (cond same (b ∷ books) (empty_book ∷ b ∷ books))
-        by_tests true same some later = ap (λ (l : List NumberedBook). b ∷ l) (later some)
-        by_tests false true some later = refl
-        by_tests false false some later = absurd (none-some book some)
+    opens_some (b ∷ books) book some = grind (arith, opens_some books book)
 
     pub place_inside : (books : List NumberedBook) → number_place books n < length (with_book s books n)
     place_inside [] = omega arith
-    place_inside (b ∷ books) = by_tests (nat_lt b.number n) (b.number == n) (place_inside books)
-      where
-        by_tests : (less same : Bool) → number_place books n < length (with_book s books n)
-            → cond less (suc (number_place books n)) 0 < length (cond less (b ∷ with_book s books n) (cond same (b ∷ books) (empty_book ∷ b ∷ books)))
-        by_tests true same later = omega (arith, later)
-        by_tests false true later = omega arith
-        by_tests false false later = omega arith
+    place_inside (b ∷ books) = grind (arith, place_inside books)
 
     opened_at_place : (books : List NumberedBook) (d : NumberedBook) → get_or (with_book s books n) (number_place books n) d ≡ with_number n (own_book books)
     opened_at_place [] d = refl
-    opened_at_place (b ∷ books) d = by_tests (nat_lt b.number n) (b.number == n) refl (opened_at_place books d)
-      where
-        by_tests : (less same : Bool) → (b.number == n) ≡ same → get_or (with_book s books n) (number_place books n) d ≡ with_number n (own_book books)
-            → get_or (cond less (b ∷ with_book s books n) (cond same (b ∷ books) (empty_book ∷ b ∷ books))) (cond less (suc (number_place books n)) 0) d
-            ≡ with_number n (unwrap_or (cond less (book_at books n) (cond same (Some b.book) None)) (book_of s []))
-        by_tests true same is later = later
-        by_tests false true is later = ap (λ k. with_number k b.book) (eqb-true b.number n is)
-        by_tests false false is later = refl
+    opened_at_place (b ∷ books) d = grind (arith, opened_at_place books d)
 
     -- what is read at the place of a picture that was opened
     pub read_own : (books opened : List NumberedBook) (place : ℕ) (b : NumberedBook) → opened ≡ with_book s books n → place ≡ number_place books n → b ≡ get_or opened place b → b ≡ with_number n (own_book books)
-    read_own books opened place b is here read =
-        read
-        ∙ ap (λ (l : List NumberedBook). get_or l place b) is
-        ∙ ap (λ k. get_or (with_book s books n) k b) here
-        ∙ opened_at_place books b
+    read_own books opened place b is here read = grind (arith, opened_at_place)
 
     -- ---- a part
 
     pub takes_at_place : (part : Part) (books : List NumberedBook) → set (with_book s books n) (number_place books n) (with_number n (book_takes (own_book books) part)) ≡ with_part s books n part
     takes_at_place part [] = refl
-    takes_at_place part (b ∷ books) = by_tests (nat_lt b.number n) (b.number == n) (takes_at_place part books)
-      where
-        by_tests : (less same : Bool) → set (with_book s books n) (number_place books n) (with_number n (book_takes (own_book books) part)) ≡ with_part s books n part
-            → set (cond less (b ∷ with_book s books n) (cond same (b ∷ books) (empty_book ∷ b ∷ books))) (cond less (suc (number_place books n)) 0)
-            (with_number n (book_takes (unwrap_or (cond less (book_at books n) (cond same (Some b.book) None)) (book_of s [])) part))
-            ≡ cond less (b ∷ with_part s books n part) (cond same (with_number n (book_takes b.book part) ∷ books) (with_number n (book_takes (book_of s []) part) ∷ b ∷ books))
-        by_tests true same later = ap (λ (l : List NumberedBook). b ∷ l) later
-        by_tests false true later = refl
-        by_tests false false later = refl
+    takes_at_place part (b ∷ books) = grind (arith, takes_at_place part books)
 
 -- ---- what a look-up answered
 

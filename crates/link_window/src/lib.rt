@@ -11,6 +11,7 @@ mod window;
 pub use fragment::{Fragment, Part};
 pub use link_gather::{PictureBook, SlicePart};
 pub use link_model::Outcome;
+pub use numbering::{base_above, nearest};
 pub use window::{Released, Window};
 
 #[cfg(test)]

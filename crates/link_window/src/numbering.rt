@@ -6,7 +6,7 @@ const SPAN: u128 = 1 << 32;
 
 /// Where the numbers of a session begin, behind sessions with this greatest number.
 #[tactic(auto, unfolding(link_model::specs::Numbers::base_above))]
-pub(crate) fn base_above(greatest: u64) -> u128
+pub fn base_above(greatest: u64) -> u128
     ensures value { result ≡ numbers.base_above greatest }
     ensures fits { result < 2 ^ 66 }
 {
@@ -15,7 +15,7 @@ pub(crate) fn base_above(greatest: u64) -> u128
 
 /// The number with these 32 bits that is nearest to the greatest one.
 #[tactic(auto, unfolding(link_model::specs::Numbers::nearest))]
-pub(crate) fn nearest(greatest: u64, bits: u32) -> u128
+pub fn nearest(greatest: u64, bits: u32) -> u128
     ensures value { result ≡ numbers.nearest greatest bits }
     ensures fits { result < 2 ^ 66 }
 {

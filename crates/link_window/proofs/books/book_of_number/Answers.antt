@@ -1,14 +1,11 @@
 use Rattle.std.proofs.Common.{length, Some, None, ap, sym, ◌∙◌, arith}
 use Rattle.std.specs.Prelude.{◌==◌}
-use Rattle.std.specs.Option.{option_copied}
 use Rattle.std.proofs.lemmas.Bool.{ltb-true, ltb-false, cond-true, cond-false, eq-eqb, ne_eqb}
 use Rattle.link_window.proofs.BookPlaces.{no_place, found_is}
 use Rattle.link_window.proofs.books.book_of_number.Goals as goal
 
 pub returns-in_err-picture : goal.returns-in_err-picture
-returns-in_err-picture c =
-    let past = ltb-false c.place_of.result (length c.args.pictures.now) (sym c.in_err-picture.ensures.lookup.0) in
-    ap option_copied c.from_residual.ensures ∙ sym (no_place c.args.number c.args.pictures.now (omega (arith, past, c.place_of.ensures.value)))
+returns-in_err-picture c = grind (arith, ltb-false, no_place)
 
 pub returns-then-number : goal.returns-then-number
 returns-then-number c =

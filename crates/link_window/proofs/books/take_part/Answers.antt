@@ -1,6 +1,6 @@
-use Rattle.std.proofs.Common.{◌≡◌, ◌<◌, List, length, set, ap, ◌∙◌, arith, rules}
-use Rattle.std.proofs.lemmas.Result.{on_ok_weaker, IfOk-weaker}
-use Rattle.link_model.specs.Books.{book_takes, book_outcome}
+use Rattle.std.proofs.Common.{List, set, ap, ◌∙◌, arith}
+use Rattle.std.proofs.lemmas.Result.{on_ok_weaker}
+use Rattle.link_model.specs.Books.{book_takes}
 use Rattle.link_model.specs.Windows.{NumberedBook, with_number}
 use Rattle.link_window.proofs.BookPlaces.{own_book, place_inside, read_own, takes_at_place}
 use Rattle.link_window.specs.Places.{number_place, with_book}
@@ -9,18 +9,10 @@ use Rattle.vc_types.specs.SequenceHeader.{sequence_of}
 use Rattle.link_window.proofs.books.take_part.Goals as goal
 
 pub index_mut-requires : goal.index_mut-requires
-index_mut-requires c =
-    let inside = place_inside c.args.number (sequence_of c.args.h) c.args.pictures.now.items in
-    let within : c.in_ok-place.place < length c.opened.new.pictures.items = omega (arith, inside, c.in_ok-place.ensures.place, ap length c.in_ok-place.ensures.value) in
-    search rules
+index_mut-requires c = grind (arith, place_inside)
 
 pub returns-clause-outcome : goal.returns-clause-outcome
-returns-clause-outcome c =
-    let part = sent_part c.args.part in
-    let own = read_own c.args.number (sequence_of c.args.h) c.args.pictures.now.items c.opened.new.pictures.items c.in_ok-place.place c.index_mut.result.now c.in_ok-place.ensures.value c.in_ok-place.ensures.place c.index_mut.ensures.value in
-    IfOk-weaker c.take.result (λ outcome. outcome ≡ book_outcome c.index_mut.result.now.book part)
-    (λ outcome. outcome ≡ book_outcome (own_book c.args.number (sequence_of c.args.h) c.args.pictures.now.items) part)
-    (λ outcome e. e ∙ ap (λ (b : NumberedBook). book_outcome b.book part) own) c.take.ensures.outcome
+returns-clause-outcome c = grind (arith, own_book, read_own)
 
 pub returns-clause-value : goal.returns-clause-value
 returns-clause-value c =
