@@ -1,14 +1,12 @@
 -- What a datagram is to a session, by what was read of it.
 use Rattle.std.proofs.Common.{◌≡◌, ℕ, ◌+◌, ◌-◌, ◌≤◌, Bool, true, false, List, length, drop, Option, Some, None, length-take-le, length-drop}
-use Rattle.std.proofs.Common.{Result, Ok, Err, refl, ap, sym, subst, ◌∙◌, arith, cond}
+use Rattle.std.proofs.Common.{Ok, Err, ap, ◌∙◌, arith, cond}
 use Rattle.std.specs.Prelude.{◌==◌, ◌&&◌, is_some, slice_range}
-use Rattle.std.proofs.lemmas.Bool.{cond-true, cond-false, eq-eqb, ne_eqb}
-use Rattle.std.proofs.lemmas.Option.{same_Some, none-some}
-use Rattle.link_model.specs.Judgement.{early_outcome, opening_outcome, refusal_outcome}
-use Rattle.link_model.specs.Packets.{PayloadValue, Header, End, Skip, Params, Slices, RtpPacket}
-use Rattle.link_model.specs.Packets.{rtp_packet, payload}
+use Rattle.std.proofs.lemmas.Bool.{cond-true, eq-eqb}
+use Rattle.link_model.specs.Judgement.{early_outcome, refusal_outcome}
+use Rattle.link_model.specs.Packets.{PayloadValue, End, RtpPacket, rtp_packet, payload}
 use Rattle.link_model.specs.Session.{Received, received, DatagramRefusal, OfRtp, OfPayload, of_packet}
-use Rattle.link_model.specs.Session.{of_payload, Session, session_by, session_with, session_from, begins}
+use Rattle.link_model.specs.Session.{of_payload, Session, session_by, session_from, begins}
 use Rattle.link_model.specs.Session.{fragment_by, fragment_from, fragment_in, is_end, end_from, ends}
 use Rattle.link_model.specs.Windows.{window_outcome}
 use Rattle.link_model.specs.declared.outcome.Outcome.{Outcome}
@@ -22,8 +20,6 @@ use Rattle.link_session.specs.Openings.{session_of}
 use Rattle.link_session.specs.declared.heard.Opening.{Opening}
 use Rattle.link_window.specs.Views.{sent_fragment}
 use Rattle.link_window.specs.declared.fragment.Fragment.{Fragment}
-use Rattle.vc_types.specs.SequenceHeader.{Sequence, coded_header}
-use Rattle.vc_types.specs.declared.refusal.HeaderRefusal.{HeaderRefusal}
 use Rattle.vc2_payload.specs.Views.{StandsAt}
 use Rattle.bytes.proofs.Ranges.{slice_range-slice_range}
 
@@ -48,10 +44,7 @@ body_within d from to place body ordered within stands =
 pub body_is : (d : List ℕ) (from to place : ℕ) (body : List ℕ) → from ≤ to → to ≤ length d → StandsAt (slice_range d from to) place body
     → slice_range d (from + place) (from + place + length body) ≡ body
 body_is d from to place body ordered within stands =
-    let last : from + place + length body ≡ from + (place + length body) = omega arith in
-    ap (slice_range d (from + place)) last
-    ∙ sym (slice_range-slice_range d from to place (place + length body) (omega arith) (body_within d from to place body ordered within stands))
-    ∙ sym stands.1
+    grind (arith, body_within, slice_range-slice_range)
 
 -- ---- what was read
 
@@ -74,29 +67,13 @@ module _ (d : List ℕ) (r : Received) (is : received d ≡ Ok r) where
   -- ---- before a session stands
 
   opens_early : (value : PayloadValue) (ssrc : ℕ) (s : Session) → session_by ssrc value ≡ Some s → early_outcome value ≡ outcomes.HeaderNew
-  opens_early (Header high from body) ssrc s e = by_read (coded_header body) e
-    where
-      by_read : (o : Result (Sequence × ℕ) HeaderRefusal) → session_with ssrc o ≡ Some s → opening_outcome o ≡ outcomes.HeaderNew
-      by_read (Ok read) e = refl
-      by_read (Err refusal) e = absurd (none-some s e)
-  opens_early (End high) ssrc s e = absurd (none-some s e)
-  opens_early (Skip high code) ssrc s e = absurd (none-some s e)
-  opens_early (Params head from body) ssrc s e = absurd (none-some s e)
-  opens_early (Slices head count x y from body) ssrc s e = absurd (none-some s e)
+  opens_early value ssrc s e = grind arith
 
   pub opens_first : (o : Opening) → session_by r.ssrc r.value ≡ Some (session_of o) → OpensSession None d o
-  opens_first o opens = record {
-    opens = begins_is ∙ opens;
-    outcome = outcome_is None ∙ opens_early r.value r.ssrc (session_of o) opens;
-  }
+  opens_first o opens = grind (arith, begins_is, opens_early, outcome_is)
 
   pub nothing_first : (o : Outcome) → session_by r.ssrc r.value ≡ None → o ≡ early_outcome r.value → ChangesNothing None d o
-  nothing_first o none outcome = record {
-    goes_on = begins_is ∙ none;
-    no_fragment = λ st e. absurd (none-some st e);
-    no_end = λ st e. absurd (none-some st e);
-    outcome = outcome_is None ∙ sym outcome;
-  }
+  nothing_first o none outcome = grind (arith, begins_is, outcome_is)
 
   -- ---- behind a session that stands
 
@@ -108,10 +85,7 @@ module _ (d : List ℕ) (r : Received) (is : received d ≡ Ok r) where
     next_outcome = outcome_is some
 
     pub opens_behind : (o : Opening) → opens_from st (session_by r.ssrc r.value) ≡ Some (session_of o) → OpensSession some d o
-    opens_behind o opens = record {
-      opens = ap (opens_from st) begins_is ∙ opens;
-      outcome = next_outcome ∙ ap (λ (n : Option Session). cond (is_some n) outcomes.HeaderNew (cond (r.ssrc == st.session.ssrc) (standing_outcome st r.value) outcomes.Foreign)) opens;
-    }
+    opens_behind o opens = grind (arith, begins_is, next_outcome)
 
     module _ (none : opens_from st (session_by r.ssrc r.value) ≡ None) where
       still : opens_after some (begins d) ≡ None
@@ -122,14 +96,7 @@ module _ (d : List ℕ) (r : Received) (is : received d ≡ Ok r) where
 
       -- of another source
       pub foreign : (r.ssrc ≡ st.session.ssrc → ⊥) → ChangesNothing some d outcomes.Foreign
-      foreign other =
-          let differs = ne_eqb r.ssrc st.session.ssrc other in
-          record {
-            goes_on = still;
-            no_fragment = λ t e. subst (λ (t : StandingSession). fragment_in t.session d ≡ None) (same_Some st t e) (fragment_is st.session ∙ cond-false (r.ssrc == st.session.ssrc) (fragment_by r.value) None differs);
-            no_end = λ t e. subst (λ (t : StandingSession). ends t.session d ≡ false) (same_Some st t e) (end_is st.session ∙ ap (λ (b : Bool). b && is_end r.value) differs);
-            outcome = no_opening ∙ cond-false (r.ssrc == st.session.ssrc) (standing_outcome st r.value) outcomes.Foreign differs;
-          }
+      foreign other = grind (arith, end_is, fragment_is, no_opening, still)
 
       module _ (source : r.ssrc ≡ st.session.ssrc) where
         same : (r.ssrc == st.session.ssrc) ≡ true
@@ -145,32 +112,14 @@ module _ (d : List ℕ) (r : Received) (is : received d ≡ Ok r) where
         own_outcome = no_opening ∙ cond-true (r.ssrc == st.session.ssrc) (standing_outcome st r.value) outcomes.Foreign same
 
         pub nothing_more : (o : Outcome) → fragment_by r.value ≡ None → is_end r.value ≡ false → standing_outcome st r.value ≡ o → ChangesNothing some d o
-        nothing_more o no_fragment no_end outcome = record {
-          goes_on = still;
-          no_fragment = λ t e. subst (λ (t : StandingSession). fragment_in t.session d ≡ None) (same_Some st t e) (own_fragment ∙ no_fragment);
-          no_end = λ t e. subst (λ (t : StandingSession). ends t.session d ≡ false) (same_Some st t e) (own_end ∙ no_end);
-          outcome = own_outcome ∙ outcome;
-        }
+        nothing_more o no_fragment no_end outcome =
+            grind (arith, own_end, own_fragment, own_outcome, still)
 
         pub has_end : fragment_by r.value ≡ None → is_end r.value ≡ true → standing_outcome st r.value ≡ outcomes.End → EndsSession some d
-        has_end no_fragment end outcome = record {
-          session = st;
-          stands = refl;
-          goes_on = still;
-          no_fragment = own_fragment ∙ no_fragment;
-          end = own_end ∙ end;
-          outcome = own_outcome ∙ outcome;
-        }
+        has_end no_fragment end outcome = grind (arith, own_end, own_fragment, own_outcome, still)
 
         pub brings : (f : Fragment) → fragment_by r.value ≡ Some (sent_fragment f) → is_end r.value ≡ false → standing_outcome st r.value ≡ window_outcome st.window (sent_fragment f) → BringsFragment some d f
-        brings f fragment no_end outcome = record {
-          session = st;
-          stands = refl;
-          goes_on = still;
-          fragment = own_fragment ∙ fragment;
-          no_end = own_end ∙ no_end;
-          outcome = own_outcome ∙ outcome;
-        }
+        brings f fragment no_end outcome = grind (arith, own_end, own_fragment, own_outcome, still)
 
 -- one that can't be read
 module _ (d : List ℕ) (refusal : DatagramRefusal) (is : received d ≡ Err refusal) where
@@ -191,9 +140,4 @@ module _ (d : List ℕ) (refusal : DatagramRefusal) (is : received d ≡ Err ref
   unread_opens (Some st) = ap (opens_from st) unread_begins
 
   pub unread : (standing : Option StandingSession) (o : Outcome) → o ≡ refusal_outcome refusal → ChangesNothing standing d o
-  unread standing o outcome = record {
-    goes_on = unread_opens standing;
-    no_fragment = λ st e. unread_fragment st.session;
-    no_end = λ st e. unread_end st.session;
-    outcome = ap (outcome_by standing) is ∙ sym outcome;
-  }
+  unread standing o outcome = grind (arith, unread_end, unread_fragment, unread_opens)

@@ -5,7 +5,7 @@ use Rattle.std.proofs.Common.{◌∙◌, inl, inr, arith, cond}
 use Rattle.std.specs.Prelude.{◌⊎◌, ◌&&◌, nat_lt, filter, filter_map, is_none, is_some, not}
 use Rattle.std.specs.List.{cons_option, range_with_len}
 use Rattle.std.specs.Option.{option_and_then, option_copied, option_map, option_map_or}
-use Rattle.std.proofs.lemmas.Bool.{and_parts, false≢true, ltb-true}
+use Rattle.std.proofs.lemmas.Bool.{and_parts, ltb-true}
 use Rattle.std.proofs.lemmas.List.{append_assoc}
 use Rattle.std.proofs.lemmas.Nat.{mul-add-lt}
 use Rattle.std.proofs.lemmas.Option.{same_Some, none-some}
@@ -16,8 +16,7 @@ use Rattle.link_model.specs.Session.{Part, ParamsPart, SlicesPart, SlicePart}
 use Rattle.link_model.specs.Windows.{Window, book_at}
 use Rattle.link_reception.specs.Exchanging.{book_job, gathered_job, slot_job, numbers_in, new_jobs_of}
 use Rattle.link_reception.specs.WholeBooks.{IsWholeBook}
-use Rattle.link_session.specs.Missing.{missing_of, missing_in, jobs_by, numbers_between}
-use Rattle.link_session.specs.Missing.{part_range}
+use Rattle.link_session.specs.Missing.{missing_of, missing_in, jobs_by, numbers_between, part_range}
 use Rattle.vc_types.specs.SequenceHeader.{Sequence}
 use Rattle.vc_types.specs.Slices.{slice_length}
 use Rattle.vc_types.specs.Subbands.{slice_count}
@@ -36,22 +35,11 @@ one_filtered false x rest = refl
 -- numbers that pass a test, from one on
 pub passes_more : (test : ℕ → Bool) (items : List ℕ) (i n : ℕ) → i < n
     → (items ++ cond (test i) (i ∷ []) []) ++ filter test (range_with_len (i + 1) (n - (i + 1))) ≡ items ++ filter test (range_with_len i (n - i))
-passes_more test items i n below =
-    append_assoc items (cond (test i) (i ∷ []) []) (filter test (range_with_len (i + 1) (n - (i + 1))))
-    ∙ ap (λ (l : List ℕ). items ++ l) (sym (one_filtered (test i) i (filter test (range_with_len (i + 1) (n - (i + 1))))) ∙ sym (ap (filter test) (range_more i n below)))
+passes_more test items i n below = grind (arith, append_assoc, one_filtered, range_more)
 
 -- whether a slice is missing, by what a look-up answered
 pub missing_is : {X : Type 0} (r : Option (Bor X)) (o : Option X) → option_copied r ≡ o → (none : Bool) → is_some r ≡ not none → is_none o ≡ none
-missing_is None o is none e = ap is_none (sym is) ∙ by_none none e
-  where
-    by_none : (none : Bool) → false ≡ not none → true ≡ none
-    by_none true e = refl
-    by_none false e = absurd (false≢true e)
-missing_is (Some x) o is none e = ap is_none (sym is) ∙ by_none none e
-  where
-    by_none : (none : Bool) → true ≡ not none → false ≡ none
-    by_none true e = absurd (false≢true (sym e))
-    by_none false e = refl
+missing_is r o is none e = grind arith
 
 one_mapped : (o : Option Job) (rest : List Job) → cons_option o rest ≡ cons_option o [] ++ rest
 one_mapped None rest = refl
@@ -59,26 +47,17 @@ one_mapped (Some job) rest = refl
 
 module _ (h : ℕ → Option Job) where
   more_of : (jobs : List Job) (x : ℕ) (rest : List ℕ) → (jobs ++ cons_option (h x) []) ++ filter_map h rest ≡ jobs ++ filter_map h (x ∷ rest)
-  more_of jobs x rest =
-      append_assoc jobs (cons_option (h x) []) (filter_map h rest)
-      ∙ ap (λ (l : List Job). jobs ++ l) (sym (one_mapped (h x) (filter_map h rest)))
+  more_of jobs x rest = grind (arith, append_assoc, one_mapped)
 
   -- the jobs of numbers, from one on
   pub jobs_more : (jobs : List Job) (i n : ℕ) → i < n
       → (jobs ++ cons_option (h i) []) ++ filter_map h (range_with_len (i + 1) (n - (i + 1))) ≡ jobs ++ filter_map h (range_with_len i (n - i))
-  jobs_more jobs i n below =
-      more_of jobs i (range_with_len (i + 1) (n - (i + 1)))
-      ∙ ap (λ (l : List ℕ). jobs ++ filter_map h l) (sym (range_more i n below))
+  jobs_more jobs i n below = grind (arith, more_of, range_more)
 
   -- of those that don't have something yet
   passed : (had : ℕ → Option (List ℕ)) (is : List ℕ) → filter_map h (filter (λ i. is_none (had i)) is) ≡ filter_map (λ i. cond (is_some (had i)) None (h i)) is
   passed had [] = refl
-  passed had (i ∷ is) = by_had (had i) (passed had is)
-    where
-      by_had : (o : Option (List ℕ)) → filter_map h (filter (λ i. is_none (had i)) is) ≡ filter_map (λ i. cond (is_some (had i)) None (h i)) is
-          → filter_map h (cond (is_none o) (i ∷ filter (λ i. is_none (had i)) is) (filter (λ i. is_none (had i)) is)) ≡ cons_option (cond (is_some o) None (h i)) (filter_map (λ i. cond (is_some (had i)) None (h i)) is)
-      by_had None rest = ap (cons_option (h i)) rest
-      by_had (Some bytes) rest = rest
+  passed had (i ∷ is) = grind (arith, passed had is)
 
 -- ---- the job of a slice
 
@@ -97,16 +76,7 @@ slot_inside (slot ∷ slots) (suc i) bytes e = let rest = slot_inside slots i by
 pub slice_is_whole : (s : Sequence) (book : Book) → IsWholeBook s book → (plan : Plan) (i : ℕ) (bytes : List ℕ)
     → Some (parameters_of plan) ≡ option_map (λ (k : KeptParameters). k.parameters) (book_plan book) → Some bytes ≡ book_slice book i
     → (slice_length plan.prefix plan.scaler bytes ≡ Some (length bytes)) × (i < slice_count (parameters_of plan))
-slice_is_whole s book whole plan i bytes planned kept =
-    let from = plan_gathered book.gathered plan planned in
-    let g = from.0 in
-    let all = whole g from.1 in
-    let slot : slot_at g.slots i ≡ Some bytes = sym (kept ∙ ap (option_and_then (λ (g : Gathered). slot_at g.slots i)) from.1) in
-    let inside = slot_inside g.slots i bytes slot in
-    let count : slice_count g.plan.parameters ≡ slice_count (parameters_of plan) = ap slice_count from.2 in (
-      ap (λ (p : Parameters). slice_length p.prefix p.scaler bytes) (sym from.2) ∙ all.slices i bytes slot,
-      omega (arith, inside, all.slots, count),
-    )
+slice_is_whole s book whole plan i bytes planned kept = grind (arith, plan_gathered, slot_inside)
 
 -- ---- what is offered
 
@@ -123,10 +93,7 @@ module _ (h : ℕ → Option Job) where
       ∙ none_there (a + 1) n (λ k above below. none k (omega arith) (omega arith))
 
   none_before : (a m n : ℕ) → ((k : ℕ) → a ≤ k → k < a + m → h k ≡ None) → filter_map h (range_with_len a (m + n)) ≡ filter_map h (range_with_len (a + m) n)
-  none_before a zero n none =
-      let all : 0 + n ≡ n = omega arith in
-      let first : a ≡ a + 0 = omega arith in
-      ap (λ k. filter_map h (range_with_len a k)) all ∙ ap (λ k. filter_map h (range_with_len k n)) first
+  none_before a zero n none = grind arith
   none_before a (suc m) n none =
       let one : suc m + n ≡ suc (m + n) = omega arith in
       let next : a + 1 + m ≡ a + suc m = omega arith in
@@ -136,9 +103,7 @@ module _ (h : ℕ → Option Job) where
       ∙ ap (λ k. filter_map h (range_with_len k n)) next
 
   none_behind : (a m n : ℕ) → ((k : ℕ) → a + m ≤ k → h k ≡ None) → filter_map h (range_with_len a (m + n)) ≡ filter_map h (range_with_len a m)
-  none_behind a zero n none =
-      let all : 0 + n ≡ n = omega arith in
-      ap (λ k. filter_map h (range_with_len a k)) all ∙ none_there a n (λ k above below. none k (omega arith))
+  none_behind a zero n none = grind (arith, none_there)
   none_behind a (suc m) n none =
       let one : suc m + n ≡ suc (m + n) = omega arith in
       ap (λ k. filter_map h (range_with_len a k)) one

@@ -1,18 +1,15 @@
 -- The books of a session's window are whole, and a picture that has its parameters keeps them.
 use Rattle.std.proofs.Common.{◌≡◌, ℕ, zero, suc, ◌+◌, ◌-◌, ◌≤◌, min, Bool, true, false, List, []}
-use Rattle.std.proofs.Common.{◌∷◌, ◌++◌, length, map, take, Option, Some, None, Result, Ok, Err, refl, ap}
+use Rattle.std.proofs.Common.{◌∷◌, ◌++◌, length, map, Option, Some, None, Result, Ok, Err, refl, ap}
 use Rattle.std.proofs.Common.{sym, subst, ◌∙◌, inl, inr, arith, cond, append-nil}
 use Rattle.std.specs.Prelude.{◌⊎◌, ◌&&◌, not, nat_le, nat_lt, slice_get}
 use Rattle.std.specs.List.{cons_option}
-use Rattle.std.specs.Option.{option_map, option_map_or, option_or}
-use Rattle.std.proofs.lemmas.Bool.{cases_Bool, cases_lt, eq-eqb, leb-true}
-use Rattle.std.proofs.lemmas.List.FromFn.{length-map-range_with_len}
+use Rattle.std.specs.Option.{option_or}
+use Rattle.std.proofs.lemmas.Bool.{cases_Bool, eq-eqb, leb-true}
 use Rattle.std.proofs.lemmas.Option.{same_Some, none-some}
 use Rattle.link_model.specs.Books.{Gathered, Book, book_of, book_by, gathered_of, slot_at}
-use Rattle.link_model.specs.Kept.{KeptParameters, kept_parameters, parameters_in, SplitParts, split_by}
-use Rattle.link_model.specs.Kept.{also_before, split_parts, Own, own_of, own, own_slice, SliceRun}
-use Rattle.link_model.specs.Kept.{first_copy, first_slice, has_form, next_slices, run_from, run_taken}
-use Rattle.link_model.specs.Kept.{slice_in, slice_run}
+use Rattle.link_model.specs.Kept.{Own, own, own_slice, SliceRun, first_copy, first_slice, has_form}
+use Rattle.link_model.specs.Kept.{next_slices, run_from, run_taken, slice_in, slice_run}
 use Rattle.link_model.specs.Numbers.{Numbered, base_above, enters, is_late, parts_of, picture_number}
 use Rattle.link_model.specs.Session.{Part, ParamsPart, SlicesPart, SlicePart, Fragment}
 use Rattle.link_model.specs.Windows.{Window, WindowPast, StandsForPast, book_at, number_by}
@@ -22,94 +19,31 @@ use Rattle.link_model.proofs.Keeping.{grown, own-append, first_copy-append}
 use Rattle.link_model.proofs.Numbering.{late_changes_nothing, early_enters, parts_of-append}
 use Rattle.link_model.proofs.Slots.{or_none, slot_inside, slot_outside, next_slices-count}
 use Rattle.link_model.proofs.Slots.{own_slice_inside}
-use Rattle.link_model.proofs.WholeBytes.{own_slice_whole}
 use Rattle.link_model.proofs.Windowing.{number_of_window}
 use Rattle.link_model.proofs.WindowStands.{running_is, enters_stands, book_is}
-use Rattle.link_reception.specs.WholeBooks.{IsWholeGathered, IsWholeBook}
+use Rattle.link_reception.specs.WholeBooks.{IsWholeBook}
+use Rattle.link_reception.proofs.WholeBooks.{book_is_whole}
 use Rattle.link_session.specs.Missing.{part_range}
 use Rattle.link_session.proofs.OfferedJobs.{IsOutside, StaysBut, Stays}
-use Rattle.vc_types.specs.Bits.{bits_of}
-use Rattle.vc_types.specs.SequenceHeader.{Sequence, picture_shape, with_bytes_used, bytes_used}
+use Rattle.vc_types.specs.SequenceHeader.{Sequence}
 use Rattle.vc_types.specs.Subbands.{slice_count}
-use Rattle.vc_types.specs.TransformParameters.{Parameters, transform_parameters}
-use Rattle.vc_types.specs.declared.refusal.ParamsRefusal.{ParamsRefusal}
-use Rattle.vc_types.proofs.ParameterCodecs.{parameters_are}
-use Rattle.vc_types.proofs.WholeSlices.{whole_slice}
+use Rattle.vc_types.specs.TransformParameters.{Parameters}
 
 module _ (s : Sequence) where
-  abbrev HasShape : Parameters → Type 0
-  HasShape p = p.shape ≡ picture_shape s
-
-  -- ---- the shape of parameters is the sequence's
-
-  planned_shape : (part : Part) (plan : KeptParameters) → parameters_in s part ≡ Some plan → HasShape plan.parameters
-  unfolding parameters_in
-  planned_shape (SlicesPart slices) plan e = absurd (none-some plan e)
-  planned_shape (ParamsPart body) plan e = by_read (transform_parameters s (bits_of body)) refl e
-    where
-      by_read : (r : Result (Parameters × List Bool) ParamsRefusal) → transform_parameters s (bits_of body) ≡ r → kept_parameters body (with_bytes_used body r) ≡ Some plan → HasShape plan.parameters
-      by_read (Err refusal) is e = absurd (none-some plan e)
-      by_read (Ok read) is e =
-          let spelled = (parameters_are s).takes (bits_of body) read.0 read.1 is in
-          sym (ap (λ (k : KeptParameters). k.parameters.shape) (same_Some (record { parameters = read.0; bytes = take (bytes_used body read.1) body }) plan e))
-          ∙ sym (ap (λ (p : Parameters). p.shape) spelled.2)
-
-  parted_shape : (parts : List Part) (p : SplitParts) → split_parts s parts ≡ Some p → HasShape p.plan.parameters
-  unfolding split_parts
-  parted_shape [] p e = absurd (none-some p e)
-  parted_shape (part ∷ parts) p e = by_plan (parameters_in s part) refl (split_parts s parts) e (parted_shape parts)
-    where
-      also : (part : Part) (q : SplitParts) → HasShape q.plan.parameters → HasShape (also_before part q).plan.parameters
-      also (ParamsPart body) q shape = shape
-      also (SlicesPart slices) q shape = shape
-
-      by_plan : (o : Option KeptParameters) → parameters_in s part ≡ o → (old : Option SplitParts) → option_map_or (λ plan. Some (split_by parts plan)) o (option_map (also_before part) old) ≡ Some p
-          → ((q : SplitParts) → old ≡ Some q → HasShape q.plan.parameters) → HasShape p.plan.parameters
-      by_plan (Some plan) is old e rest = subst (λ (p : SplitParts). HasShape p.plan.parameters) (same_Some (split_by parts plan) p e) (planned_shape part plan is)
-      by_plan None is None e rest = absurd (none-some p e)
-      by_plan None is (Some q) e rest = subst (λ (p : SplitParts). HasShape p.plan.parameters) (same_Some (also_before part q) p e) (also part q (rest q refl))
-
   module _ (parts : List Part) where
-    own_shape : (kept : Own) → own s parts ≡ Some kept → HasShape kept.plan.parameters
-    unfolding own
-    own_shape kept is = by_parted (split_parts s parts) refl is
-      where
-        by_parted : (o : Option SplitParts) → split_parts s parts ≡ o → option_map own_of o ≡ Some kept → HasShape kept.plan.parameters
-        by_parted None at e = absurd (none-some kept e)
-        by_parted (Some p) at e = subst (λ (k : Own). HasShape k.plan.parameters) (same_Some (own_of p) kept e) (parted_shape parts p at)
-
     -- ---- the book of parts is whole
 
     slot_is : (kept : Own) → own s parts ≡ Some kept → (i : ℕ) → slot_at (gathered_of kept).slots i ≡ own_slice kept i
-    slot_is kept some i = elim (cases_lt i (slice_count kept.plan.parameters)) [
-      | inl inside ↦ slot_inside (own_slice kept) 0 (slice_count kept.plan.parameters) i inside ∙ (let same : 0 + i ≡ i = omega arith in ap (own_slice kept) same)
-      | inr outside ↦ slot_outside (own_slice kept) 0 (slice_count kept.plan.parameters) i outside ∙ sym (own_slice_inside s parts kept some i outside)
-    ]
-
-    kept_whole : (kept : Own) → own s parts ≡ Some kept → IsWholeGathered s (gathered_of kept)
-    kept_whole kept is =
-        let p = kept.plan.parameters in
-        record {
-          shape = own_shape kept is;
-          slots = length-map-range_with_len (own_slice kept) 0 (slice_count p);
-          slices = λ i bytes e. own_slice_whole s parts kept is (λ whole len cut. whole_slice p.prefix p.scaler whole len cut) i bytes (sym (slot_is kept is i) ∙ e);
-        }
+    slot_is kept some i = grind (arith, own_slice_inside, slot_inside, slot_outside)
 
     -- what the book gathered is of what the parts keep
     pub gathered_is : (g : Gathered) → (book_of s parts).gathered ≡ Some g → (kept : Own) × (own s parts ≡ Some kept) × (gathered_of kept ≡ g)
     unfolding book_of
-    gathered_is g is = by_own (own s parts) refl is
-      where
-        by_own : (o : Option Own) → own s parts ≡ o → (book_by s parts o).gathered ≡ Some g → (kept : Own) × (own s parts ≡ Some kept) × (gathered_of kept ≡ g)
-        by_own None none e = absurd (none-some g e)
-        by_own (Some kept) some e = (kept, some, same_Some (gathered_of kept) g e)
+    gathered_is g is = grind arith
 
     of_kept : (kept : Own) → own s parts ≡ Some kept → (book_of s parts).gathered ≡ Some (gathered_of kept)
     unfolding book_of
     of_kept kept is = ap (λ (o : Option Own). (book_by s parts o).gathered) is
-
-    book_whole : IsWholeBook s (book_of s parts)
-    book_whole = λ g is. (let from = gathered_is g is in subst (IsWholeGathered s) from.2 (kept_whole from.0 from.1))
 
 -- ---- the books of a window
 
@@ -123,7 +57,7 @@ module _ (w : Window) (p : WindowPast) (stands : StandsForPast w p) where
   book_parts n b is = if_needed _ (book_of p.sequence (parts_of n p.entries)) b (sym (book_is w p stands n) ∙ is)
 
   pub window_book_whole : (n : ℕ) (b : Book) → book_at w.books n ≡ Some b → IsWholeBook p.sequence b
-  window_book_whole n b is = subst (IsWholeBook p.sequence) (book_parts n b is) (book_whole p.sequence (parts_of n p.entries))
+  window_book_whole n b is = subst (IsWholeBook p.sequence) (book_parts n b is) (book_is_whole p.sequence (parts_of n p.entries) (book_of p.sequence (parts_of n p.entries)) refl)
 
 -- ---- a part more leaves the slices that it doesn't touch
 
@@ -142,14 +76,7 @@ module _ (kept : Own) (part : SlicePart) (i : ℕ) where
   -- a run of the part has no such slice
   not_in_run : (run : SliceRun) → run.first ≡ first_slice p part → length run.slices ≡ part.count → first_slice p part + part.count ≤ slice_count p
       → IsOutside (range true) i → slice_in run i ≡ None
-  not_in_run run first count fits out = by_place (nat_le run.first i) refl
-    where
-      by_place : (b : Bool) → nat_le run.first i ≡ b → cond b (slice_get run.slices (i - run.first)) None ≡ None
-      by_place false is = refl
-      by_place true is = get_past run.slices (i - run.first) (elim out [
-        | inl below ↦ absurd (omega (arith, below, leb-true run.first i is, first))
-        | inr above ↦ omega (arith, above, first, count, fits)
-      ])
+  not_in_run run first count fits out = grind (arith, get_past)
 
   no_run : IsOutside (part_range p (SlicesPart part)) i → first_copy (cons_option (run_taken (slice_run p part)) []) i ≡ None
   unfolding slice_run first_copy
@@ -178,10 +105,7 @@ module _ (kept : Own) (i : ℕ) where
   slice_with more = own_slice (grown more kept) i
 
   with_runs : (runs : List SliceRun) → first_copy runs i ≡ None → first_copy (kept.runs ++ runs) i ≡ own_slice kept i
-  with_runs runs none =
-      first_copy-append kept.runs runs i
-      ∙ ap (option_or (own_slice kept i)) none
-      ∙ or_none (own_slice kept i)
+  with_runs runs none = grind (arith, first_copy-append, or_none)
 
   no_runs : first_copy [] i ≡ None
   unfolding first_copy
@@ -192,10 +116,7 @@ module _ (kept : Own) (i : ℕ) where
   one_part (SlicesPart slices) out = with_runs (cons_option (run_taken (slice_run kept.plan.parameters slices)) []) (no_run kept slices i out)
 
   pub untouched : (part : Part) (more : List Part) → IsPart part more → IsOutside (part_range kept.plan.parameters part) i → slice_with more ≡ own_slice kept i
-  untouched part more is out = elim is [
-    | inl none ↦ ap slice_with none ∙ with_runs [] no_runs
-    | inr one ↦ ap slice_with one ∙ one_part part out
-  ]
+  untouched part more is out = grind (arith, no_runs, one_part, with_runs)
 
 -- ---- a fragment more
 

@@ -1,6 +1,5 @@
 -- The jobs that a fragment of a session's window offers.
-use Rattle.std.proofs.Common.{◌≡◌, ℕ, Bool, true, false, [], Some, None, refl, ap}
-use Rattle.std.proofs.Common.{◌∙◌, cond}
+use Rattle.std.proofs.Common.{◌≡◌, ℕ, Bool, true, false, [], Some, None, refl, ap, ◌∙◌, cond, arith}
 use Rattle.std.proofs.lemmas.Option.{none-some}
 use Rattle.link_model.specs.Session.{Fragment}
 use Rattle.link_model.specs.Windows.{Window, book_at, number_by, late_in, window_enters, past_enters}
@@ -29,6 +28,4 @@ module _ (w : Window) (f : Fragment) where
   -- a late one offers nothing
   pub late_offers : None ≡ cond (late_in w (number_by w f.number)) None (Some (number_by w f.number)) → offered_jobs w (window_enters w f) f ≡ []
   unfolding offered_jobs
-  late_offers none =
-      ap (λ (v : Window). new_jobs_of w v (number_by w f.number)) (late_leaves w f (is_late (late_in w (number_by w f.number)) (number_by w f.number) none))
-      ∙ no_new_jobs w (number_by w f.number)
+  late_offers none = grind (arith, is_late, late_leaves, no_new_jobs)

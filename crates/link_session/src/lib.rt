@@ -4,7 +4,6 @@
 mod datagram;
 mod heard;
 mod hearing;
-mod numbering;
 mod offering;
 mod standing;
 

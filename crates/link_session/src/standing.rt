@@ -16,11 +16,10 @@ ghost use Rattle.link_window.specs.Views.{sent_fragment, releasable_of};
 ghost use Rattle.vc_types.specs.SequenceHeader.{coded_header, sequence_of};
 
 use crate::heard::Opening;
-use crate::numbering::{base_above, nearest};
 use crate::offering::{all_jobs, has_job, jobs_of, missing_slices};
 use link_gather::PictureBook;
 use link_model::Outcome;
-use link_window::{Fragment, Released, Window};
+use link_window::{Fragment, Released, Window, base_above, nearest};
 use std::alloc::Global;
 use std::marker::Model;
 use vc_slice::SliceJob;

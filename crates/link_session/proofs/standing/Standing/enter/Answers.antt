@@ -1,17 +1,13 @@
-use Rattle.std.proofs.Common.{ap, sym, ◌∙◌, map}
+use Rattle.std.proofs.Common.{ap, sym, ◌∙◌, map, arith}
 use Rattle.std.proofs.lemmas.Result.{on_ok_weaker}
 use Rattle.link_model.proofs.WindowStands.{enters_runs}
-use Rattle.link_reception.specs.Receptions.{StandingSession}
 use Rattle.slice_jobs.specs.Jobs.{job_of}
 use Rattle.link_session.proofs.WindowJobs.{late_offers}
 use Rattle.link_window.specs.Views.{sent_fragment}
 use Rattle.link_session.proofs.standing.Standing.enter.Goals as goal
 
 pub returns-in-Some-clause-running : goal.returns-in-Some-clause-running
-returns-in-Some-clause-running c =
-    let w = c.args.self.now.window in
-    let f = sent_fragment c.args.f in
-    on_ok_weaker c.enter_picture.result (λ after. ap (λ (st : StandingSession). st.window.is_ended) after ∙ enters_runs w f ∙ c.requires) c.enter_picture.ensures.value
+returns-in-Some-clause-running c = grind (arith, enters_runs, on_ok_weaker)
 
 pub returns-in_ok-enter_window-in-None-clause-jobs : goal.returns-in_ok-enter_window-in-None-clause-jobs
 returns-in_ok-enter_window-in-None-clause-jobs c =
