@@ -1,5 +1,5 @@
 -- Weaving two fields and taking a frame's rows apart, plane by plane and for three planes.
-use Rattle.std.proofs.Common.{◌≡◌, ◌≢◌, ℕ, suc, ◌+◌, ◌*◌, ◌/◌, ◌%◌, ◌<◌, Bool, true, false, List, [], ◌++◌, map, arith, refl, ◌∙◌, sym, ap, ◌⊎◌, inl, inr}
+use Rattle.std.proofs.Common.{◌≡◌, ◌≢◌, ℕ, suc, ◌+◌, ◌*◌, ◌/◌, ◌%◌, ◌<◌, Bool, true, false, List, [], ◌++◌, map, arith, refl, ◌∙◌, sym, ap, ◌⊎◌}
 use Rattle.std.specs.Prelude.{◌==◌, if◌then◌else◌}
 use Rattle.std.specs.List.{range_with_len}
 use mathlib.Core.Path.{fun_ext}
@@ -12,32 +12,20 @@ use Rattle.field_pairs.specs.Sizes.{HasSizeOf, IsWhole, HaveEqualSizes, HaveEven
 use Rattle.field_pairs.proofs.RowsOfRasters.{row, raster_more, sample_at-raster, raster_of_plane}
 
 same_raster : (w v h k : ℕ) (s t : List ℕ) → w ≡ v → h ≡ k → s ≡ t → (let a : Raster = record { width = w; height = h; samples = s } in a) ≡ record { width = v; height = k; samples = t }
-same_raster w v h k s t e f g =
-    ap (λ (n : ℕ). let a : Raster = record { width = n; height = h; samples = s } in a) e
-    ∙ ap (λ (n : ℕ). let a : Raster = record { width = v; height = n; samples = s } in a) f
-    ∙ ap (λ (l : List ℕ). let a : Raster = record { width = v; height = k; samples = l } in a) g
+same_raster w v h k s t e f g = grind arith
 
 same_planes : (y z c d e f : Raster) → y ≡ z → c ≡ d → e ≡ f → (let a : Planes = record { y = y; c1 = c; c2 = e } in a) ≡ record { y = z; c1 = d; c2 = f }
-same_planes y z c d e f p q r =
-    ap (λ (n : Raster). let a : Planes = record { y = n; c1 = c; c2 = e } in a) p
-    ∙ ap (λ (n : Raster). let a : Planes = record { y = z; c1 = n; c2 = e } in a) q
-    ∙ ap (λ (n : Raster). let a : Planes = record { y = z; c1 = d; c2 = n } in a) r
+same_planes y z c d e f p q r = grind arith
 
 -- the row of a frame, from the field that it is of
 abbrev pub field_row : Raster → Raster → ℕ → ℕ → ℕ
 field_row even odd x y = sample_at (if y % 2 == 0 then even else odd) x (y / 2)
 
 even_row : (even odd : Raster) (x y : ℕ) → field_row even odd x (2 * y) ≡ sample_at even x y
-even_row even odd x y =
-    let parity : 2 * y % 2 ≡ 0 = omega arith in
-    let half : 2 * y / 2 ≡ y = omega arith in
-    rw (parity, half) refl
+even_row even odd x y = grind arith
 
 odd_row : (even odd : Raster) (x y : ℕ) → field_row even odd x (2 * y + 1) ≡ sample_at odd x y
-odd_row even odd x y =
-    let parity : (2 * y + 1) % 2 ≡ 1 = omega arith in
-    let half : (2 * y + 1) / 2 ≡ y = omega arith in
-    rw (parity, half) refl
+odd_row even odd x y = grind arith
 
 -- ---- planes that are made row by row
 
@@ -71,8 +59,7 @@ pub frame_whole : (even odd made : Raster) (width height done : ℕ) (samples : 
     → made ≡ interleaved_rows even odd
 unfolding interleaved_rows
 frame_whole even odd made width height done samples is across down all rows =
-    is ∙ same_raster width even.width height (2 * even.height) samples (raster even.width (2 * even.height) (field_row even odd)) across down
-    (rows ∙ ap (λ (n : ℕ). raster even.width (2 * n) (field_row even odd)) all)
+    grind (arith, same_raster)
 
 -- every other row of a frame
 abbrev pub chosen : Raster → ℕ → ℕ → ℕ → ℕ
@@ -94,8 +81,7 @@ pub field_whole : (frame made : Raster) (first width height done : ℕ) (samples
     → made ≡ every_other_row first frame
 unfolding every_other_row
 field_whole frame made first width height done samples is across down all rows =
-    is ∙ same_raster width frame.width height (frame.height / 2) samples (raster frame.width (frame.height / 2) (chosen frame first)) across down
-    (rows ∙ ap (λ (n : ℕ). raster frame.width n (chosen frame first)) all)
+    grind (arith, same_raster)
 
 -- ---- the rows of a frame that was woven
 
@@ -128,17 +114,7 @@ odd_rows even odd sizes whole =
 
 halves_at : (frame : Raster) → frame.height % 2 ≡ 0 → (x y : ℕ) → x < frame.width → y < frame.height → (y % 2 ≡ 0) ⊎ (y % 2 ≢ 0) → field_row (every_other_row 0 frame) (every_other_row 1 frame) x y ≡ sample_at frame x y
 unfolding every_other_row
-halves_at frame even x y across down (inl is) =
-    let place : 2 * (y / 2) + 0 ≡ y = omega arith in
-    let top : field_row (every_other_row 0 frame) (every_other_row 1 frame) x y ≡ sample_at (every_other_row 0 frame) x (y / 2) = rw is refl in
-    top ∙ sample_at-raster frame.width (frame.height / 2) (λ i j. sample_at frame i (2 * j + 0)) x (y / 2) across (omega arith)
-    ∙ ap (sample_at frame x) place
-halves_at frame even x y across down (inr is) =
-    let odd : y % 2 ≡ 1 = omega arith in
-    let place : 2 * (y / 2) + 1 ≡ y = omega arith in
-    let bottom : field_row (every_other_row 0 frame) (every_other_row 1 frame) x y ≡ sample_at (every_other_row 1 frame) x (y / 2) = rw odd refl in
-    bottom ∙ sample_at-raster frame.width (frame.height / 2) (λ i j. sample_at frame i (2 * j + 1)) x (y / 2) across (omega arith)
-    ∙ ap (sample_at frame x) place
+halves_at frame even x y across down o = grind (arith, sample_at-raster)
 
 pub halves : (frame : Raster) → frame.height % 2 ≡ 0 → IsWhole frame → interleaved_rows (every_other_row 0 frame) (every_other_row 1 frame) ≡ frame
 unfolding interleaved_rows every_other_row
@@ -158,14 +134,8 @@ has_size_turned : (a b : Raster) → HasSizeOf a b → HasSizeOf b a
 has_size_turned a b h = record { width = sym h.width; height = sym h.height }
 
 pub fields_of-woven : (top_first : Bool) (earlier later : Planes) → HaveEqualSizes earlier later → AreWhole earlier → AreWhole later → fields_of top_first (woven top_first earlier later) ≡ (earlier, later)
-fields_of-woven true earlier later sizes first second =
-    same_fields _ earlier _ later
-    (same_planes _ earlier.y _ earlier.c1 _ earlier.c2 (even_rows earlier.y later.y first.y) (even_rows earlier.c1 later.c1 first.c1) (even_rows earlier.c2 later.c2 first.c2))
-    (same_planes _ later.y _ later.c1 _ later.c2 (odd_rows earlier.y later.y sizes.y second.y) (odd_rows earlier.c1 later.c1 sizes.c1 second.c1) (odd_rows earlier.c2 later.c2 sizes.c2 second.c2))
-fields_of-woven false earlier later sizes first second =
-    same_fields _ earlier _ later
-    (same_planes _ earlier.y _ earlier.c1 _ earlier.c2 (odd_rows later.y earlier.y (has_size_turned _ _ sizes.y) first.y) (odd_rows later.c1 earlier.c1 (has_size_turned _ _ sizes.c1) first.c1) (odd_rows later.c2 earlier.c2 (has_size_turned _ _ sizes.c2) first.c2))
-    (same_planes _ later.y _ later.c1 _ later.c2 (even_rows later.y earlier.y second.y) (even_rows later.c1 earlier.c1 second.c1) (even_rows later.c2 earlier.c2 second.c2))
+fields_of-woven top_first earlier later sizes first second =
+    grind (arith, even_rows, has_size_turned, odd_rows, same_fields, same_planes)
 
 pub woven-fields_of : (top_first : Bool) (frame : Planes) → HaveEvenHeights frame → AreWhole frame → woven top_first (fields_of top_first frame).0 (fields_of top_first frame).1 ≡ frame
 woven-fields_of true frame even whole = same_planes _ frame.y _ frame.c1 _ frame.c2 (halves frame.y even.y whole.y) (halves frame.c1 even.c1 whole.c1) (halves frame.c2 even.c2 whole.c2)
