@@ -1,25 +1,13 @@
 -- The datagrams of a picture, one behind another.
-use Rattle.std.proofs.Common.{◌≡◌, ℕ, suc, ◌+◌, ◌/◌, ◌%◌, ◌^◌, Bool, false, List, [], ◌∷◌, ◌++◌, length, refl, ap, ◌∙◌, arith}
-use Rattle.link_model.specs.Packets.{PayloadValue, Header, End, Params, Slices, FragmentHead, payload_bytes, rtp_header}
-use Rattle.link_model.specs.Sending.{DatagramContent, HeaderContent, ParametersContent, SlicesContent, EndContent, high_half, run_bytes}
-use Rattle.link_stream.specs.Packing.{PackedPicture, contents_from, datagram_around, end_around, ends_picture, packed_flags, packed_value}
+use Rattle.std.proofs.Common.{◌≡◌, ℕ, suc, ◌+◌, ◌%◌, ◌^◌, Bool, List, [], ◌∷◌, ◌++◌, length, refl, ap, arith}
+use Rattle.link_model.specs.Packets.{PayloadValue, payload_bytes, rtp_header}
+use Rattle.link_model.specs.Sending.{DatagramContent, high_half}
+use Rattle.link_stream.specs.Packing.{PackedPicture, contents_from, datagram_around, end_around, ends_picture, packed_value}
 use Rattle.vc_types.specs.SenderSettings.{Packing}
 
 module _ (s : Packing) (t : ℕ) (p : PackedPicture) where
-  abbrev head_at : ℕ → FragmentHead
-  head_at high = record {
-    high = high;
-    flags = packed_flags s p.number;
-    number = p.number;
-    prefix = p.parameters.prefix;
-    scaler = p.parameters.scaler;
-  }
-
   same_value : (a b : ℕ) (c : DatagramContent) → high_half a ≡ high_half b → packed_value s p a c ≡ packed_value s p b c
-  same_value a b HeaderContent same = ap (λ h. Header h 4 p.header) same
-  same_value a b ParametersContent same = ap (λ h. Params (head_at h) 16 p.coded) same
-  same_value a b (SlicesContent run) same = ap (λ h. Slices (head_at h) (length run.slices) (run.first % p.parameters.slices_x) (run.first / p.parameters.slices_x) 20 (run_bytes run)) same
-  same_value a b EndContent same = ap (λ h. End h) same
+  same_value a b c same = grind arith
 
   low_half : (a b : ℕ) → a % 2 ^ 32 ≡ b % 2 ^ 32 → a % 2 ^ 16 ≡ b % 2 ^ 16
   low_half a b same = omega (arith, same)
@@ -40,9 +28,7 @@ module _ (s : Packing) (t : ℕ) (p : PackedPicture) where
 
   same_datagram : (a b : ℕ) (c : DatagramContent) → a % 2 ^ 32 ≡ b % 2 ^ 32 → datagram a c ≡ datagram b c
   unfolding datagram_around
-  same_datagram a b c same =
-      let value = same_value a b c (ap (λ n. n / 2 ^ 16) same) in
-      λ i. around (low_half a b same i) (ends_picture p.parameters c) (value i)
+  same_datagram a b c same = grind (arith, low_half, same_value)
 
   -- numbers that are the same modulo 2 ^ 32 give the same datagrams
   pub wrapped : (a b : ℕ) (cs : List DatagramContent) → a % 2 ^ 32 ≡ b % 2 ^ 32 → contents_from s t p a cs ≡ contents_from s t p b cs
@@ -53,9 +39,7 @@ module _ (s : Packing) (t : ℕ) (p : PackedPicture) where
   pub appended : (n : ℕ) (xs ys : List DatagramContent) → contents_from s t p n (xs ++ ys) ≡ contents_from s t p n xs ++ contents_from s t p (n + length xs) ys
   unfolding contents_from
   appended n [] ys = let none : n ≡ n + 0 = omega arith in ap (λ k. contents_from s t p k ys) none
-  appended n (x ∷ xs) ys =
-      let next : n + 1 + length xs ≡ n + suc (length xs) = omega arith in
-      ap (λ l. datagram n x ∷ l) (appended (n + 1) xs ys ∙ ap (λ k. contents_from s t p (n + 1) xs ++ contents_from s t p k ys) next)
+  appended n (x ∷ xs) ys = grind (arith, appended (n + 1) xs ys)
 
   pub how_many : (n : ℕ) (cs : List DatagramContent) → length (contents_from s t p n cs) ≡ length cs
   unfolding contents_from
@@ -73,15 +57,4 @@ module _ (s : Packing) (t : ℕ) (p : PackedPicture) where
 -- so do they give the same end
 pub end_wrapped : (s : Packing) (t a b : ℕ) → a % 2 ^ 32 ≡ b % 2 ^ 32 → end_around s a t ≡ end_around s b t
 unfolding end_around datagram_around
-end_wrapped s t a b same =
-    let low : a % 2 ^ 16 ≡ b % 2 ^ 16 = omega (arith, same) in
-    let high : high_half a ≡ high_half b = ap (λ n. n / 2 ^ 16) same in
-    λ i. rtp_header (record {
-      marker = false;
-      payload_type = s.pt;
-      sequence = low i;
-      timestamp = t;
-      ssrc = s.ssrc;
-      from = 12;
-      to = 12;
-    }) ++ payload_bytes (End (high i))
+end_wrapped s t a b same = grind arith

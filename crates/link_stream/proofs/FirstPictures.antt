@@ -1,7 +1,7 @@
 -- The pictures of the first session: those that are let go stay as they are, and more follow.
 use Rattle.std.proofs.Common.{◌≡◌, ℕ, ◌-◌, ◌%◌, Bool, true, false, refl, ap, ◌∙◌}
-use Rattle.std.proofs.Common.{List, [], ◌∷◌, ◌++◌, map, Option, None, cond, arith}
-use Rattle.std.specs.Prelude.{◌==◌, is_some, filter, filter_map, unwrap_or}
+use Rattle.std.proofs.Common.{List, [], ◌∷◌, ◌++◌, Option, None, cond, arith}
+use Rattle.std.specs.Prelude.{◌==◌, filter, filter_map, unwrap_or}
 use Rattle.std.specs.List.{flat_map}
 use Rattle.std.proofs.lemmas.List.Concat.{flat_map-append}
 use Rattle.link_model.specs.Numbers.{Numbered, base_above, parts_of, opened_numbers, greatest, least}
@@ -14,22 +14,14 @@ use Rattle.link_model.proofs.Releasing.{let_go_before, planes_same, whole_same}
 use Rattle.vc_types.specs.DataUnits.{DataUnit}
 use Rattle.vc_types.specs.Planes.{Planes}
 use Rattle.vc_types.specs.SequenceHeader.{Sequence}
-use Rattle.link_stream.specs.Streams.{picture_unit, picture_unit_at, frame_pictures, frame_units}
+use Rattle.link_stream.specs.Streams.{picture_unit, picture_unit_at, frame_units}
 use Rattle.link_stream.specs.Streams.{first_pictures, first_pictures_so_far}
 
 flat_map_same : (f g : ℕ → List DataUnit) (test : ℕ → Bool)
     → ((n : ℕ) → test n ≡ true → f n ≡ g n) → (ns : List ℕ)
     → flat_map f (filter test ns) ≡ flat_map g (filter test ns)
 flat_map_same f g test same [] = refl
-flat_map_same f g test same (n ∷ ns) = by_test (test n) refl (flat_map_same f g test same ns)
-  where
-    by_test : (b : Bool) → test n ≡ b
-        → flat_map f (filter test ns) ≡ flat_map g (filter test ns)
-        → flat_map f (cond b (n ∷ filter test ns) (filter test ns))
-        ≡ flat_map g (cond b (n ∷ filter test ns) (filter test ns))
-    by_test false is rest = rest
-    by_test true is rest = ap (λ (l : List DataUnit). l ++ flat_map f (filter test ns)) (same n is)
-        ∙ ap (λ (l : List DataUnit). g n ++ l) rest
+flat_map_same f g test same (n ∷ ns) = grind (arith, flat_map_same f g test same ns)
 
 -- ---- pictures that are let go stay as they are
 
@@ -61,19 +53,7 @@ module _ (window : ℕ) (s : Sequence) (old new : List Numbered) (later : Follow
   units_stay : (n : ℕ) → is_let_go window s old n ≡ true
       → frame_units s new n ≡ frame_units s old n
   unfolding frame_units
-  units_stay n gone =
-      ap (λ (o : Option Planes). cond (is_some o)
-      (map (picture_unit_at s new) (frame_pictures s n)) []) (frame_stays n gone)
-      ∙ ap (λ (l : List DataUnit). cond (is_some (frame_at s old n)) l []) (by_mode s.fields)
-    where
-      by_mode : (fields : Bool)
-          → map (picture_unit_at s new) (cond fields ((n - 1) ∷ n ∷ []) (n ∷ []))
-          ≡ map (picture_unit_at s old) (cond fields ((n - 1) ∷ n ∷ []) (n ∷ []))
-      by_mode false = ap (λ (u : DataUnit). u ∷ []) (unit_stays n gone)
-      by_mode true =
-          ap (λ (u : DataUnit). u ∷ picture_unit_at s new n ∷ [])
-          (unit_stays (n - 1) (let_go_before window s old n (n - 1) (omega arith) gone))
-          ∙ ap (λ (u : DataUnit). picture_unit_at s old (n - 1) ∷ u ∷ []) (unit_stays n gone)
+  units_stay n gone = grind (arith, frame_stays, let_go_before, unit_stays)
 
   -- and more follow
   pub more_let_go : (rest : List ℕ)

@@ -1,6 +1,6 @@
 -- A stream so far begins the later ones.
 use Rattle.std.proofs.Common.{◌≡◌, ℕ, Bool, true, false, refl, ap, sym, subst, ◌∙◌}
-use Rattle.std.proofs.Common.{List, [], ◌∷◌, ◌++◌, Option, Some, None, cond}
+use Rattle.std.proofs.Common.{List, [], ◌∷◌, ◌++◌, Option, Some, None, cond, arith}
 use Rattle.std.specs.Prelude.{is_some, fold, ◌||◌}
 use Rattle.std.specs.List.{flat_map, list_any}
 use Rattle.std.specs.Option.{option_map_or}
@@ -13,9 +13,8 @@ use Rattle.link_model.proofs.Growing.{sessions_of-append}
 use Rattle.link_model.proofs.Following.{no_session}
 use Rattle.vc_types.specs.DataUnits.{DataUnit}
 use Rattle.link_stream.specs.Streams.{units_behind, last_length, behind_header, with_end, frame_units}
-use Rattle.link_stream.specs.Streams.{header_in, first_header, first_pictures}
-use Rattle.link_stream.specs.Streams.{first_pictures_so_far, stream_units, units_so_far, stream_of}
-use Rattle.link_stream.specs.Streams.{stream_so_far}
+use Rattle.link_stream.specs.Streams.{header_in, first_header, first_pictures, first_pictures_so_far}
+use Rattle.link_stream.specs.Streams.{stream_units, units_so_far, stream_of, stream_so_far}
 use Rattle.link_stream.proofs.FirstPictures.{datagram_shows, end_shows}
 use Rattle.link_stream.proofs.Units.{units_behind-append, behind_header-append, with_end-is}
 use Rattle.link_stream.proofs.Units.{following, ending}
@@ -28,11 +27,7 @@ begins_itself : (l : List DataUnit) → Begins l l
 begins_itself l = ([], sym (append-nil l))
 
 begins_longer : (a b c : List DataUnit) → Begins a b → Begins b c → Begins a c
-begins_longer a b c first second = (
-  first.0 ++ second.0,
-  second.1 ∙ ap (λ (l : List DataUnit). l ++ second.0) first.1
-      ∙ append_assoc a first.0 second.0,
-)
+begins_longer a b c first second = grind (arith, append_assoc)
 
 -- ---- the pictures
 

@@ -12,10 +12,7 @@ module _ (s : Packing) where
   from_more : (before sequence : ℕ) (pictures : List PackedPicture) (p : PackedPicture)
       → packed_from s before sequence (pictures ++ p ∷ []) ≡ packed_from s before sequence pictures ++ packed_picture s (before + length pictures) (sequence + length (packed_from s before sequence pictures)) p
   unfolding packed_from
-  from_more before sequence [] p =
-      let here : before ≡ before + 0 = omega arith in
-      let same : sequence ≡ sequence + 0 = omega arith in
-      one_more before sequence p ∙ (λ i. packed_picture s (here i) (same i) p)
+  from_more before sequence [] p = grind (arith, one_more)
   from_more before sequence (q ∷ pictures) p =
       let first = packed_picture s before sequence q in
       let n = length (packed_contents s q) in
@@ -38,16 +35,11 @@ module _ (s : Packing) where
 -- the datagrams of a picture more come behind the others
 pub packed_more : (s : Packing) (pictures : List PackedPicture) (p : PackedPicture) → packed_datagrams s (pictures ++ p ∷ []) ≡ packed_datagrams s pictures ++ packed_picture s (length pictures) (s.seq + length (packed_datagrams s pictures)) p
 unfolding packed_datagrams
-packed_more s pictures p =
-    let here : 0 + length pictures ≡ length pictures = omega arith in
-    from_more s 0 s.seq pictures p
-    ∙ ap (λ n. packed_from s 0 s.seq pictures ++ packed_picture s n (s.seq + length (packed_from s 0 s.seq pictures)) p) here
+packed_more s pictures p = grind (arith, from_more)
 
 -- and its timestamp is the last
 pub timestamp_more : (s : Packing) (pictures : List PackedPicture) (p : PackedPicture) → timestamp_behind s 0 0 (pictures ++ p ∷ []) ≡ packed_timestamp s (length pictures) p.number
-timestamp_more s pictures p =
-    let here : 0 + length pictures ≡ length pictures = omega arith in
-    behind_more s 0 0 pictures p ∙ ap (λ n. packed_timestamp s n p.number) here
+timestamp_more s pictures p = grind (arith, behind_more)
 
 pub none_packed : (s : Packing) → packed_datagrams s [] ≡ []
 unfolding packed_datagrams packed_from
@@ -56,6 +48,3 @@ none_packed s = refl
 pub none_behind : (s : Packing) → timestamp_behind s 0 0 [] ≡ 0
 unfolding timestamp_behind
 none_behind s = refl
-
-pub length_picture : (s : Packing) (before sequence : ℕ) (p : PackedPicture) → length (packed_picture s before sequence p) ≡ length (packed_contents s p)
-length_picture s before sequence p = how_many s (packed_timestamp s before p.number) p sequence (packed_contents s p)
