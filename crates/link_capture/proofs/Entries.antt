@@ -69,8 +69,7 @@ rests_are p q same = ap (λ (split : List (List ℕ) × List ℕ). split.1) same
 then-cases : (most : ℕ) (bytes more : List ℕ) (entries : List (List ℕ)) → length bytes ≤ most → entries_of bytes ≡ (entries, []) → (found : Option (List ℕ × List ℕ)) → first_entry bytes ≡ found
     → entries_of (bytes ++ more) ≡ (entries ++ (entries_of more).0, (entries_of more).1)
 then-cases most bytes more entries h whole None is =
-    let split = sym (entries_of-part bytes is) ∙ whole in
-    rw (sym (entries_are ([], bytes) (entries, []) split), rests_are ([], bytes) (entries, []) split) refl
+    grind (arith, entries_are, entries_of-part, rests_are)
 then-cases zero bytes more entries h whole (Some first) is = absurd (omega (arith, first_entry-shorter bytes first is))
 then-cases (suc most) bytes more entries h whole (Some first) is =
     let split = sym (entries_of-first bytes first is) ∙ whole in

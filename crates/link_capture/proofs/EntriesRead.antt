@@ -2,15 +2,14 @@
 use Rattle.std.proofs.Common.{◌≡◌, ℕ, List, [], ◌∷◌, ◌++◌, Option, Some, None, Ok, Err, refl, arith}
 use Rattle.std.specs.Global.{Vec}
 use Rattle.std.proofs.lemmas.List.{length-append}
-use Rattle.vc_ports.specs.Reading.{Gave, IsAtEnd}
-use Rattle.vc_ports.proofs.Given.{Gave-none, Gave-then, GaveAll-told}
-use Rattle.link_capture.specs.Capture.{entry, entries_of, first_entry}
+use Rattle.vc_ports.specs.Reading.{Gave}
+use Rattle.vc_ports.proofs.Given.{Gave-none, Gave-then}
+use Rattle.link_capture.specs.Capture.{entry, first_entry}
 use Rattle.link_capture.specs.Endings.{GaveEntries, Ends}
 use Rattle.link_capture.specs.Reading.{ReadsEntry, place_after_entry}
 use Rattle.link_capture.specs.declared.fault.EntryFault.{EntryFault}
-use Rattle.link_capture.specs.declared.fault.EntryFault.TheVariants.{Cut, ReadFault, NoMemory}
 use Rattle.link_capture.proofs.Heads.{length-entry}
-use Rattle.link_capture.proofs.Entries.{entries_of-nothing, entries_of-next, entries_of-cut, none-in-nothing}
+use Rattle.link_capture.proofs.Entries.{entries_of-nothing, entries_of-next, entries_of-cut}
 
 -- before the first entry
 pub begun : (before : Option (List ℕ)) → GaveEntries before before 0 [] []
@@ -37,19 +36,10 @@ with_rest before mid after place entries part heard gave not_whole = record {
 }
 
 -- the end at an entry's edge
-pub at_edge : (before mid after : Option (List ℕ)) (place : ℕ) (entries : List (List ℕ)) → GaveEntries before mid place entries [] → ReadsEntry mid after place (Ok None) → Ends before after place entries None
-at_edge before mid after place entries heard read = (with_rest before mid after place entries [] heard read.gave none-in-nothing, read.at_end)
 
 -- the end by a fault
 pub at_fault : (before mid after : Option (List ℕ)) (place : ℕ) (entries : List (List ℕ)) (fault : EntryFault) → GaveEntries before mid place entries [] → ReadsEntry mid after place (Err fault)
     → Ends before after place entries (Some fault)
-at_fault before mid after place entries (Cut at) heard read =
-    let cut = read.1 in
-    (read.0, (cut.part, cut.some, with_rest before mid after place entries cut.part heard cut.gave.gave cut.not_whole, cut.gave.at_end))
-at_fault before mid after place entries ReadFault heard read = (read.part, with_rest before mid after place entries read.part heard read.gave read.not_whole)
-at_fault before mid after place entries NoMemory heard read = (read.part, with_rest before mid after place entries read.part heard read.gave read.not_whole)
+at_fault before mid after place entries fault heard read = grind (arith, with_rest)
 
 -- where the source told what was left and ended, the entries and the rest are those of all that was left
-pub of_all : (left : List ℕ) (after : Option (List ℕ)) (place : ℕ) (entries : List (List ℕ)) (rest : List ℕ) → GaveEntries (Some left) after place entries rest → IsAtEnd after → entries_of left ≡ (entries, rest)
-of_all left after place entries rest heard end =
-    rw (GaveAll-told left after heard.given (record { gave = heard.gave; at_end = end })) heard.split

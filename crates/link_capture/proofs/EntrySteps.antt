@@ -1,5 +1,5 @@
 -- An entry that is read in two steps, its length and its datagram, and what each step's end means.
-use Rattle.std.proofs.Common.{◌≡◌, ◌≢◌, ℕ, ◌/◌, ◌%◌, ◌^◌, ◌<◌, List, [], ◌++◌, length, take, Option, None, sym, ap, ◌∙◌, arith}
+use Rattle.std.proofs.Common.{◌≡◌, ◌≢◌, ℕ, ◌/◌, ◌%◌, ◌^◌, ◌<◌, List, ◌++◌, length, take, Option, None, ap, arith}
 use Rattle.std.proofs.lemmas.List.{length-take-le}
 use Rattle.byteorder.specs.Endian.{big_bytes}
 use Rattle.vc_ports.specs.Reading.{Gave}
@@ -12,20 +12,11 @@ use Rattle.link_capture.proofs.Heads.{first_entry-stub, first_entry-short}
 
 -- the end came within the length
 pub cut_in_length : (before after : Option (List ℕ)) (head : List ℕ) (n : ℕ) → length head ≡ 2 → n ≢ 0 → Fills before after head (End n) → GaveCutEntry before after
-cut_in_length before after head n len some fills =
-    let taken : length (take n head) ≡ n = length-take-le n head (omega (arith, fills.0)) in
-    record {
-      part = take n head;
-      gave = fills.1;
-      some = λ none. some (sym taken ∙ ap length none);
-      not_whole = first_entry-stub (take n head) (omega (arith, fills.0));
-    }
+cut_in_length before after head n len some fills = grind (arith, first_entry-stub, length-take-le)
 
 -- a read failed within the length
 pub fault_in_length : (before after : Option (List ℕ)) (head : List ℕ) (n : ℕ) → length head ≡ 2 → Fills before after head (Failed n) → GavePartOfEntry before after
-fault_in_length before after head n len fills =
-    let taken : length (take n head) ≡ n = length-take-le n head (omega (arith, fills.0)) in
-    record { part = take n head; gave = fills.1; not_whole = first_entry-stub (take n head) (omega (arith, fills.0)) }
+fault_in_length before after head n len fills = grind (arith, first_entry-stub, length-take-le)
 
 -- a length with fewer bytes behind it than it tells
 part_of : (told : ℕ) (bytes : List ℕ) → told < 2 ^ 16 → length bytes < told → first_entry (big_bytes 2 told ++ bytes) ≡ None
@@ -35,17 +26,11 @@ part_of told bytes fits short = first_entry-short (told / 256 % 256) (told % 256
 pub whole_entry : (before mid after : Option (List ℕ)) (told : ℕ) (datagram : List ℕ) → length datagram ≡ told → Gave before mid (big_bytes 2 told) → Gave mid after datagram
     → Gave before after (entry datagram)
 unfolding entry
-whole_entry before mid after told datagram whole first second =
-    let front : Gave before mid (big_bytes 2 (length datagram)) = rw whole first in
-    Gave-then before mid after (big_bytes 2 (length datagram)) datagram front second
+whole_entry before mid after told datagram whole first second = grind arith
 
 -- no memory for a datagram that isn't empty
 pub part_without_memory : (before mid : Option (List ℕ)) (told : ℕ) → told < 2 ^ 16 → 0 < told → Gave before mid (big_bytes 2 told) → GavePartOfEntry before mid
-part_without_memory before mid told fits some first = record {
-  part = big_bytes 2 told;
-  gave = first;
-  not_whole = part_of told [] fits some;
-}
+part_without_memory before mid told fits some first = grind (arith, part_of)
 
 -- the end came within the datagram
 pub cut_in_datagram : (before mid after : Option (List ℕ)) (told : ℕ) (datagram : List ℕ) (n : ℕ) → told < 2 ^ 16 → length datagram ≡ told

@@ -21,10 +21,7 @@ two_bytes (high ∷ low ∷ more ∷ rest) len fit = absurd (omega arith)
 -- a datagram behind its length
 pub entry_is : (high low : ℕ) (datagram : List ℕ) → high < 256 → low < 256 → length datagram ≡ 256 * high + low → entry datagram ≡ high ∷ low ∷ datagram
 unfolding entry
-entry_is high low datagram h l len =
-    let first : length datagram / 256 % 256 ≡ high = omega arith in
-    let second : length datagram % 256 ≡ low = omega arith in
-    rw (first, second) refl
+entry_is high low datagram h l len = grind arith
 
 -- an entry is two bytes longer than its datagram
 pub length-entry : (datagram : List ℕ) → length (entry datagram) ≡ length datagram + 2
@@ -48,9 +45,6 @@ pub first_entry-entry : (datagram rest : List ℕ) → length datagram < 2 ^ 16 
 unfolding entry
 first_entry-entry datagram rest fits = first_entry-whole (length datagram / 256 % 256) (length datagram % 256) datagram rest (omega arith)
 
-some_is : {A : Type 0} (x y : A) → Some x ≡ Some y → x ≡ y
-some_is x y same = cc
-
 none_is_not : {A : Type 0} (x : A) → None ≡ Some x → ⊥
 none_is_not x same = cc
 
@@ -58,21 +52,12 @@ none_is_not x same = cc
 first_entry-found : (high low : ℕ) (bytes : List ℕ) (first : List ℕ × List ℕ) → first_entry (high ∷ low ∷ bytes) ≡ Some first
     → (256 * high + low ≤ length bytes) × (first ≡ (take (256 * high + low) bytes, drop (256 * high + low) bytes))
 unfolding first_entry
-first_entry-found high low bytes first is = elim (cases_lt (length bytes) (256 * high + low)) [
-  | inl short ↦ absurd (none_is_not first (sym (first_entry-short high low bytes short) ∙ is))
-  | inr whole ↦
-      let found : Some (take (256 * high + low) bytes, drop (256 * high + low) bytes) ≡ Some first = rw (le-ltb (length bytes) (256 * high + low) whole) at is in
-      (whole, sym (some_is _ first found))
-]
+first_entry-found high low bytes first is = grind (arith, first_entry-short, le-ltb, none_is_not)
 
 -- what is behind the first entry is shorter than the whole
 pub first_entry-shorter : (bytes : List ℕ) (first : List ℕ × List ℕ) → first_entry bytes ≡ Some first → length first.1 < length bytes
 unfolding first_entry
-first_entry-shorter [] first is = absurd (none_is_not first is)
-first_entry-shorter (high ∷ []) first is = absurd (none_is_not first is)
-first_entry-shorter (high ∷ low ∷ bytes) first is =
-    let found = first_entry-found high low bytes first is in
-    rw (found.1) (omega (arith, length-drop (256 * high + low) bytes))
+first_entry-shorter bytes first is = grind (arith, first_entry-found, length-drop, none_is_not)
 
 -- the first entry's bytes begin the bytes, and what it leaves is behind them
 pub first_entry-is : (bytes : List ℕ) (first : List ℕ × List ℕ) → All (λ byte. byte < 256) bytes → first_entry bytes ≡ Some first
@@ -89,9 +74,7 @@ first_entry-is (high ∷ low ∷ bytes) first fit is =
 -- fewer bytes than a length has begin with no whole entry
 pub first_entry-stub : (bytes : List ℕ) → length bytes < 2 → first_entry bytes ≡ None
 unfolding first_entry
-first_entry-stub [] short = refl
-first_entry-stub (high ∷ []) short = refl
-first_entry-stub (high ∷ low ∷ bytes) short = absurd (omega arith)
+first_entry-stub bytes short = grind arith
 
 -- bytes behind the first entry stay behind it
 pub first_entry-append : (bytes more : List ℕ) (first : List ℕ × List ℕ) → first_entry bytes ≡ Some first → first_entry (bytes ++ more) ≡ Some (first.0, first.1 ++ more)
