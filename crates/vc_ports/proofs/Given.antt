@@ -1,5 +1,5 @@
 -- What a source gave, one piece after another.
-use Rattle.std.proofs.Common.{◌≡◌, ℕ, ◌+◌, List, [], ◌++◌, length, take, subst, Option, Some, None, IsSomeAnd, refl, ap, sym, ◌∙◌, append_assoc}
+use Rattle.std.proofs.Common.{◌≡◌, ℕ, ◌+◌, List, [], ◌++◌, length, take, subst, Option, Some, None, refl, ap, sym, ◌∙◌, append_assoc}
 use Rattle.std.proofs.lemmas.List.{append-nil}
 use Rattle.std.specs.Option.{option_map}
 use Rattle.std.proofs.Math.Seq.{take-append-add}
@@ -25,18 +25,11 @@ GaveAll-then before mid after first second p all = record {
   at_end = all.at_end;
 }
 
-none_is_not : (left : List ℕ) → Some left ≡ None → ⊥
-none_is_not left p = cc
-
--- what holds of all that a source told holds of what it gave with what it has left
-pub Gave-left : (P : List ℕ → Type 0) (before after : Option (List ℕ)) (bytes : List ℕ) → Gave before after bytes → IsSomeAnd before P → (more : List ℕ) × (after ≡ Some more) × P (bytes ++ more)
-Gave-left P None after bytes gave holds = absurd holds
-Gave-left P (Some left) None bytes gave holds = absurd (none_is_not left gave)
-Gave-left P (Some left) (Some more) bytes gave holds = (more, refl, subst P (some_is left (bytes ++ more) gave) holds)
-
 -- where a source told what was left, all of it was given
 pub GaveAll-told : (left : List ℕ) (after : Option (List ℕ)) (bytes : List ℕ) → GaveAll (Some left) after bytes → left ≡ bytes
-GaveAll-told left None bytes all = absurd (none_is_not left all.gave)
+GaveAll-told left None bytes all = absurd (none_is_not left all.gave) where
+  none_is_not : (left : List ℕ) → Some left ≡ None → ⊥
+  none_is_not left p = cc
 GaveAll-told left (Some rest) bytes all = some_is left (bytes ++ rest) all.gave ∙ ap (λ (end : List ℕ). bytes ++ end) all.at_end ∙ append-nil bytes
 
 -- a buffer whose front was given before, and the next bytes behind it
