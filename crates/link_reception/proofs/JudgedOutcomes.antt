@@ -17,8 +17,6 @@ use Rattle.link_reception.specs.Judging.{opens_from, standing_outcome, outcome_b
 use Rattle.link_reception.specs.Receptions.{StandingSession, Reception}
 use Rattle.link_reception.specs.Standing.{all_released, last_past, standing_with, standing_of}
 
--- a window of which every picture that is let go was released
-
 pub resting_stands : (p : WindowPast) → StandsForPast (window_of (all_released p)) (all_released p)
 resting_stands p = grind (arith, common_steps, begins_with)
 

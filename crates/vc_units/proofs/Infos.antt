@@ -52,10 +52,6 @@ data_unit-whole info body rest count len told whole =
     with_length info (body ++ rest) count len told
     ∙ ap (λ (r : Result (List ℕ × List ℕ) UnitFault). and_then r (λ read. Ok (record { code = code_of info; body = read.0 }, read.1))) (taken count body rest whole)
 
--- the bytes that so many bytes from the front leave
-
 -- a unit and what is behind it
 abbrev pub pair : DataUnit → List ℕ → DataUnit × List ℕ
 pair u rest = (u, rest)
-
--- the bytes are those of the unit and what is behind it

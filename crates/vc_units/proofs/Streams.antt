@@ -27,7 +27,3 @@ units_within-refused (suc most) bytes fault refused = rw refused refl
 -- no bytes have no unit
 pub units_within-nothing : (most : ℕ) → units_within most [] ≡ ([], [])
 units_within-nothing most = units_within-refused most [] Short (data_unit-stub [] (omega arith))
-
--- one unit more
-
--- the units and the rest are as long as the bytes
