@@ -135,5 +135,3 @@ decoded_slice-coded p slice s some known fits are =
     let all : all_coefficients p slice (coded p slice 0 s some known fits) ≡ s =
     (λ i. coefficients (block_back p slice some Y s.y (are.lengths Y) i) (block_back p slice some C1 s.c1 (are.lengths C1) i) (block_back p slice some C2 s.c2 (are.lengths C2) i)) in
     ap in_range all ∙ in_range-small s (none_large s.y s.c1 s.c2 (are.small Y) (are.small C1) (are.small C2))
-
--- the bytes of a slice stand for its coefficients

@@ -35,11 +35,7 @@ with_rest before mid after place entries part heard gave not_whole = record {
   edge = omega (arith, length-append heard.given part, heard.edge);
 }
 
--- the end at an entry's edge
-
 -- the end by a fault
 pub at_fault : (before mid after : Option (List ℕ)) (place : ℕ) (entries : List (List ℕ)) (fault : EntryFault) → GaveEntries before mid place entries [] → ReadsEntry mid after place (Err fault)
     → Ends before after place entries (Some fault)
 at_fault before mid after place entries fault heard read = grind (arith, with_rest)
-
--- where the source told what was left and ended, the entries and the rest are those of all that was left

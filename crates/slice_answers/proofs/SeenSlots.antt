@@ -194,5 +194,3 @@ module _ (n : ℕ) (part : PartPicture) (unsound : List (Option Unsound))
     pub kept_unsound : (why : Unsound) → done.answer ≡ Err why
         → seen_answers n part (slice_set unsound i (Some why)) ≡ answers_with a done
     kept_unsound why is = more_unsound why ∙ ap answered_there (sym is) ∙ kept
-
--- none by other parameters
