@@ -1,5 +1,5 @@
 -- Entries that are written one after another. The laws of an outlet cite these.
-use Rattle.std.proofs.Common.{◌≡◌, ℕ, ◌≤◌, List, [], ◌∷◌, ◌++◌, Option, sym, subst, arith, append-nil, ◌∙◌}
+use Rattle.std.proofs.Common.{◌≡◌, ℕ, List, [], ◌∷◌, ◌++◌, Option, sym, subst, arith, append-nil, ◌∙◌}
 use Rattle.std.proofs.lemmas.List.Concat.{flat_map-cons, flat_map-append}
 use Rattle.link_capture.specs.Capture.{entry}
 use Rattle.vc_ports.specs.Changes.{OutputChange}
@@ -61,14 +61,3 @@ wrote_part_before a b i j first second fault p = record {
 -- one entry
 pub capture-one : (datagram : List ℕ) → capture_of (datagram ∷ []) ≡ entry datagram
 capture-one datagram = flat_map-cons entry datagram [] ∙ append-nil (entry datagram)
-
-pub entry_written : (a b : Option (List ℕ)) (i j : ℕ) (datagram : List ℕ)
-    → Grew a b (entry datagram) → i ≤ j → WroteEntries (held_between a b i j) (datagram ∷ [])
-entry_written a b i j datagram grew later = record {
-  wrote = subst (Grew a b) (sym (capture-one datagram)) grew;
-  later = later;
-}
-
-pub entry_in_part : (a b : Option (List ℕ)) (datagram : List ℕ) → GrewBySome a b (entry datagram)
-    → GrewBySome a b (capture_of (datagram ∷ []))
-entry_in_part a b datagram grew = subst (GrewBySome a b) (sym (capture-one datagram)) grew

@@ -1,12 +1,10 @@
 -- Datagrams that are sent to a wire one after another. The laws of an outlet cite these.
-use Rattle.std.proofs.Common.{◌≡◌, ℕ, ◌+◌, ◌≤◌, List, [], ◌∷◌, ◌++◌, length, take, sym, subst, arith, refl, length-append}
+use Rattle.std.proofs.Common.{ℕ, ◌+◌, List, [], ◌++◌, length, take, arith, length-append}
 use Rattle.std.proofs.Math.Seq.{take-append-add}
 use Rattle.std.proofs.lemmas.List.{take-append-le}
 use Rattle.vc_ports.specs.Changes.{WireChange}
-use Rattle.vc_ports.specs.Faults.{Rose}
-use Rattle.vc_ports.specs.Wires.{WireTold, sending}
-use Rattle.wire_calls.specs.Passing.{Passes}
-use Rattle.wire_calls.proofs.Calls.{passes_none, passes_sent, passes_then}
+use Rattle.vc_ports.specs.Wires.{WireTold}
+use Rattle.wire_calls.proofs.Calls.{passes_none, passes_then}
 use Rattle.datagram_outlet.specs.declared.outlet.OutletFault.{OutletFault}
 use Rattle.datagram_outlet.specs.declared.outlet.OutletFault.TheVariants as faults
 use Rattle.datagram_outlet.specs.Outlets.{SentAll, SentPart}
@@ -51,22 +49,4 @@ sent_part_before a b i j first second fault p = record {
   within = omega (arith, p.within, length-append first second);
   passes = rw (take-append-le p.count first second p.within) p.passes;
   rose = p.rose;
-}
-
--- one datagram
-pub datagram_sent : (a b : WireTold) (i j : ℕ) (datagram : List ℕ) → b ≡ sending a datagram → i ≤ j
-    → SentAll (told_between a b i j) (datagram ∷ [])
-datagram_sent a b i j datagram is later = record {
-  passes = passes_sent a b datagram is;
-  later = later;
-}
-
-pub datagram_unsent : (a b : WireTold) (i j : ℕ) (datagram : List ℕ) → b ≡ a → Rose i j
-    → SentPart (told_between a b i j) (datagram ∷ []) faults.Wire
-datagram_unsent a b i j datagram is rose = record {
-  fault_is = refl;
-  count = 0;
-  within = omega arith;
-  passes = subst (λ (told : WireTold). Passes a told [] []) (sym is) (passes_none a);
-  rose = rose;
 }
