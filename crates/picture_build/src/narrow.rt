@@ -12,10 +12,10 @@ use crate::output::format;
 use std::alloc::Global;
 use vc_geometry::padded;
 use vc_types::{Component, NoMemory, Plan, Plane};
-use vc_wave::{are_narrow, inverse_narrow, turn_rows};
+use vc_wave::{inverse_narrow, turn_rows};
 
-/// Puts the samples of a component, not yet clipped, into `work`; false if its coefficients are so large that 32 bits may not be
-/// enough on the way. A list of another length is replaced.
+/// Puts the samples of a component, not yet clipped, into `work`; false if 32 bits may not be enough on the way. A list of
+/// another length is replaced.
 pub(crate) fn narrow_samples(
     alloc: Global,
     plan: &Plan,
@@ -54,12 +54,8 @@ fn samples_of(
     ensures { result ≡ true → AreSamples (parameters_of plan.now) c nested.now samples.new }
 {
     turn_rows(plan, c, nested, samples);
-    if !are_narrow(plan, samples) {
-        return false;
-    }
     let (width, _) = padded(plan, c);
-    inverse_narrow(plan, c, samples, width as usize, line);
-    true
+    inverse_narrow(plan, c, samples, width as usize, line)
 }
 
 /// A component's plane from its padded samples (ST 2042-1, picture output): the padding is cut off, and each number is

@@ -19,7 +19,6 @@ mod tests;
 mod turn;
 
 pub use analysis::forward;
-pub use bounds::{are_narrow, fits_narrow};
 pub use forward_bounds::forward_fits_narrow;
 pub use laws::inverse_undoes_forward;
 pub use narrow::inverse_narrow;

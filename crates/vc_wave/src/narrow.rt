@@ -1,4 +1,4 @@
-ghost use Rattle.std.specs.Prelude.{◌≡◌, ◌+◌, ◌-◌, ◌*◌, ◌^◌, ◌<◌, ◌≤◌, ◌⊎◌, ℕ, Some, true, if◌then◌else◌, length, unsigned_abs};
+ghost use Rattle.std.specs.Prelude.{◌≡◌, ◌+◌, ◌-◌, ◌*◌, ◌^◌, ◌<◌, ◌≤◌, ◌⊎◌, ℕ, IfSome, true, if◌then◌else◌, length, unsigned_abs};
 ghost use Rattle.vc_types.specs.Lifting.{line_of};
 ghost use Rattle.vc_types.specs.Subbands.{padded_width, padded_height};
 ghost use Rattle.vc_types.specs.TransformParameters.{parameters_of};
@@ -8,10 +8,11 @@ ghost use Rattle.vc_lift.specs.Ranges.{narrow_bound};
 ghost use Rattle.vc_wave.specs.declared.pass.Direction.TheVariants.{Synthesis};
 ghost use Rattle.vc_wave.specs.Layout.{laid_out, nested_in};
 ghost use Rattle.vc_wave.specs.Lines.{IsMade};
-ghost use Rattle.vc_wave.specs.NarrowBounds.{HasBound, RowHasBound, AreNarrow, rows_bound, level_bound, bound_over};
+ghost use Rattle.vc_wave.specs.NarrowBounds.{AreWithin, HasBound, RowHasBound, rows_bound};
 ghost use Rattle.vc_wave.specs.Planes.{HasRoom, plane_of};
 ghost use Rattle.vc_wave.specs.Remade.{remade, level_in_turn};
 
+use crate::bounds::{columns_reach, greatest, rows_reach};
 use crate::level::Wavelets;
 use crate::shift::is_shifted;
 use crate::sides::{lowest, side_at};
@@ -131,7 +132,7 @@ fn merge_columns(wavelet: u8, cells: &mut [i32], pitch: usize, columns: usize, h
 }
 
 // Puts a level together whose rows stand `pitch` cells apart, the low and the high ones in turn, and whose subbands have w
-// columns and h rows.
+// columns and h rows. From a bound on all cells it tells one on them after it; none where 32 bits may not be enough.
 fn merge_level(
     wavelets: Wavelets,
     cells: &mut [i32],
@@ -139,21 +140,28 @@ fn merge_level(
     w: usize,
     h: usize,
     line: &mut [i32],
-)
+    most: u64,
+) -> Option<u64>
     requires down { wavelets.down ≤ 6 }
     requires across { wavelets.across ≤ 6 }
     requires some { (0 < w) × (0 < h) }
     requires small { (w < 2 ^ 60) × (h < 2 ^ 60) }
     requires room { HasRoom (2 * w) (2 * h) pitch (length cells.old) 0 (length line.old) }
-    requires bound { HasBound (level_bound wavelets.down wavelets.across) cells.old }
-    ensures { plane_of pitch cells.new
-        ≡ level_in_turn wavelets.down wavelets.across w h (plane_of pitch cells.old) }
+    requires most { most < 2 ^ 31 }
+    requires within { AreWithin most cells.old }
+    ensures made { IfSome result (λ after. plane_of pitch cells.new
+        ≡ level_in_turn wavelets.down wavelets.across w h (plane_of pitch cells.old)) }
+    ensures within { IfSome result (λ after. AreWithin after cells.new) }
+    ensures small { IfSome result (λ after. after < 2 ^ 31) }
 {
+    let made = columns_reach(wavelets.down, cells, most)?;
     merge_columns(wavelets.down, cells, pitch, 2 * w, h);
+    let after = rows_reach(wavelets.across, cells, made)?;
     merge_rows(wavelets.across, cells, pitch, 2 * h, w, line);
+    Some(after)
 }
 
-// Puts levels across alone together, the lowest of which has subbands of w columns and h rows.
+// Puts levels across alone together, the lowest of which has subbands of w columns and h rows. Bounds as above.
 fn merge_across(
     wavelet: u8,
     levels: u8,
@@ -162,26 +170,31 @@ fn merge_across(
     w: usize,
     h: usize,
     line: &mut [i32],
-)
+    most: u64,
+) -> Option<u64>
     requires wavelet { wavelet ≤ 6 }
     requires levels { levels ≤ 5 }
     requires some { 0 < w }
     requires small { w * 2 ^ levels < 2 ^ 60 }
     requires room { HasRoom (w * 2 ^ levels) h pitch (length cells.old) 0 (length line.old) }
-    requires bound { HasBound (bound_over (rows_bound wavelet) levels) cells.old }
-    ensures made { plane_of pitch cells.new
-        ≡ levels_across wavelet levels w h (plane_of pitch cells.old) }
-    ensures small { (m b : ℕ) → ((i : ℕ) → unsigned_abs (line_of cells.old i) ≤ m)
-        → bound_over (rows_bound wavelet) levels m ≡ Some b → (i : ℕ)
-        → unsigned_abs (line_of cells.new i) ≤ b }
+    requires most { most < 2 ^ 31 }
+    requires within { AreWithin most cells.old }
+    ensures made { IfSome result (λ after. plane_of pitch cells.new
+        ≡ levels_across wavelet levels w h (plane_of pitch cells.old)) }
+    ensures within { IfSome result (λ after. AreWithin after cells.new) }
+    ensures small { IfSome result (λ after. after < 2 ^ 31) }
 {
+    let mut bound = most;
     for level in 0..levels {
         let half = side_at(w, level);
+        bound = rows_reach(wavelet, cells, bound)?;
         merge_rows(wavelet, cells, pitch, h, half, line);
     }
+    Some(bound)
 }
 
 // Puts levels both ways together whose rows are taken in turn, the lowest of which has subbands of w columns and h rows.
+// Bounds as above.
 fn merge_levels(
     wavelets: Wavelets,
     levels: u8,
@@ -190,7 +203,8 @@ fn merge_levels(
     w: usize,
     h: usize,
     line: &mut [i32],
-)
+    most: u64,
+) -> Option<u64>
     requires down { wavelets.down ≤ 6 }
     requires across { wavelets.across ≤ 6 }
     requires levels { levels ≤ 5 }
@@ -198,38 +212,53 @@ fn merge_levels(
     requires small { (w * 2 ^ levels < 2 ^ 60) × (h * 2 ^ levels < 2 ^ 60) }
     requires room { HasRoom (w * 2 ^ levels) (h * 2 ^ levels) stride (length cells.old) 0
         (length line.old) }
-    requires bound { HasBound
-        (bound_over (level_bound wavelets.down wavelets.across) levels) cells.old }
-    ensures { plane_of stride cells.new
+    requires most { most < 2 ^ 31 }
+    requires within { AreWithin most cells.old }
+    ensures { IfSome result (λ after. plane_of stride cells.new
         ≡ inverse_levels wavelets.down wavelets.across levels w h
-        (laid_out levels w h (plane_of stride cells.old)) }
+        (laid_out levels w h (plane_of stride cells.old))) }
 {
+    let mut bound = most;
     for level in 0..levels {
         let pitch = side_at(stride, levels - 1 - level);
         let (columns, rows) = (side_at(w, level), side_at(h, level));
-        merge_level(wavelets, cells, pitch, columns, rows, line);
+        bound = merge_level(wavelets, cells, pitch, columns, rows, line, bound)?;
     }
+    Some(bound)
 }
 
 /// The samples of a component from its coefficients, in place and in 32 bits (ST 2042-1, inverse wavelet transform). The
 /// coefficients stand in rows of `stride` cells, whose rows are taken in turn as `nested_in` says; the samples then stand
-/// row by row in their order, not yet clipped. The line is room to work in, as long as a row. It takes no memory.
-pub fn inverse_narrow(plan: &Plan, c: Component, cells: &mut [i32], stride: usize, line: &mut [i32])
+/// row by row in their order, not yet clipped. It answers whether 32 bits were enough; where they weren't, the cells hold
+/// nothing of use. The line is room to work in, as long as a row. It takes no memory.
+pub fn inverse_narrow(
+    plan: &Plan,
+    c: Component,
+    cells: &mut [i32],
+    stride: usize,
+    line: &mut [i32],
+) -> bool
     requires stride { padded_width (parameters_of plan.now) c ≤ stride }
     requires cells { padded_height (parameters_of plan.now) c * stride ≤ length cells.old }
     requires line { padded_width (parameters_of plan.now) c ≤ length line.old }
-    requires narrow { AreNarrow (parameters_of plan.now) cells.old }
-    ensures { plane_of stride cells.new
+    ensures { result ≡ true → plane_of stride cells.new
         ≡ inverse_transform (parameters_of plan.now) c
         (nested_in (parameters_of plan.now) c stride cells.old) }
 {
+    let most = u64::from(greatest(cells));
+    if most >= 1 << 31 {
+        return false;
+    }
     let (w, h) = lowest(plan, c);
     let wavelets = Wavelets {
         down: plan.wavelet,
         across: plan.wavelet_ho,
     };
     let pitch = side_at(stride, plan.depth);
-    merge_across(wavelets.across, plan.depth_ho, cells, pitch, w, h, line);
+    let levels = plan.depth_ho;
+    let Some(most) = merge_across(wavelets.across, levels, cells, pitch, w, h, line, most) else {
+        return false;
+    };
     let w = side_at(w, plan.depth_ho);
-    merge_levels(wavelets, plan.depth, cells, stride, w, h, line);
+    merge_levels(wavelets, plan.depth, cells, stride, w, h, line, most).is_some()
 }

@@ -4,14 +4,15 @@ ghost use Rattle.vc_types.specs.Limits.{shape_fits, padded_luma_fits};
 ghost use Rattle.vc_types.specs.Quantisation.{filled_matrix, used_entries};
 ghost use Rattle.vc_types.specs.TransformParameters.{is_symmetric, parameters_of};
 
+use crate::bounds::rows_bound;
 use crate::forward_bounds::parted_bound;
 use crate::{
-    fits_narrow, forward, forward_fits_narrow, forward_narrow, inverse, inverse_narrow,
-    inverse_undoes_forward,
+    forward, forward_fits_narrow, forward_narrow, inverse, inverse_narrow, inverse_undoes_forward,
 };
 use std::alloc::Global;
 use std::test::Fail;
 use vc_geometry::padded;
+use vc_lift::narrow_bound;
 use vc_types::{Component, Grid, Plan, Plane, Shape};
 
 fn plan(shape: Shape, wavelets: (u8, u8), levels: (u8, u8)) -> Plan
@@ -276,6 +277,28 @@ static GREATEST: [[i64; 5]; 7] = [
     [5_981, 85, 0, -1, -1],
 ];
 
+// A bound on the samples from one on the coefficients, where it is carried through all levels and the cells are never
+// looked at.
+fn carried(plan: &Plan, most: u64) -> Option<u64>
+    requires { most < 2 ^ 31 }
+{
+    let mut bound = most;
+    for _level in 0..plan.depth_ho {
+        bound = rows_bound(plan.wavelet_ho, bound)?;
+    }
+    for _level in 0..plan.depth {
+        let made = narrow_bound(plan.wavelet, bound)?;
+        bound = rows_bound(plan.wavelet_ho, made)?;
+    }
+    Some(bound)
+}
+
+fn fits_narrow(plan: &Plan, most: u32) -> bool
+    requires { most < 2 ^ 31 }
+{
+    carried(plan, u64::from(most)).is_some()
+}
+
 fn ends_at(plan: &Plan, most: i64) -> bool {
     let Ok(over) = u32::try_from(most.wrapping_add(1)) else {
         return false;
@@ -300,24 +323,14 @@ fn bounds_end_where_32_bits_do(rt: HostRuntime) {
     }
 }
 
-fn are_within(cells: &[i32], most: u32) -> bool
-    ensures { IsTrue result → All (λ z. unsigned_abs z ≤ most) cells.now }
-{
-    cells.iter().all(|z| z.unsigned_abs() <= most)
-}
-
-// Transforms luma in 32 bits, if there are as many cells as it has and they are small enough.
-fn narrow(plan: &Plan, cells: &mut [i32], line: &mut [i32], most: u32) -> bool {
+// Transforms luma in 32 bits, if there are as many cells as it has and 32 bits are enough.
+fn narrow(plan: &Plan, cells: &mut [i32], line: &mut [i32]) -> bool {
     let (width, height) = padded(plan, Component::Y);
     let (columns, rows) = (width as usize, height as usize);
-    if cells.len() != rows * columns || line.len() < columns || most >= 1 << 31 {
+    if cells.len() != rows * columns || line.len() < columns {
         return false;
     }
-    if !are_within(cells, most) || !fits_narrow(plan, most) {
-        return false;
-    }
-    inverse_narrow(plan, Component::Y, cells, columns, line);
-    true
+    inverse_narrow(plan, Component::Y, cells, columns, line)
 }
 
 // The row that has the cell in column x and row y of the nested subbands.
@@ -396,6 +409,13 @@ fn scatter(cells: &mut [i32], most: i32) {
     }
 }
 
+fn scattered(alloc: Global, plan: &Plan, most: i32) -> Result<Vec<i32>, Fail> {
+    let (width, height) = padded(plan, Component::Y);
+    let mut cells = vec![in alloc; 0i32; width as usize * height as usize]?;
+    scatter(&mut cells, most);
+    Ok(cells)
+}
+
 // Whether both widths make the same of luma whose coefficients are as large as they may be.
 fn agree(alloc: Global, plan: &Plan, most: i64) -> Result<bool, Fail> {
     let Ok(most) = i32::try_from(most) else {
@@ -404,13 +424,18 @@ fn agree(alloc: Global, plan: &Plan, most: i64) -> Result<bool, Fail> {
     if most < 0 {
         return Ok(true);
     }
-    let (width, height) = padded(plan, Component::Y);
-    let mut cells = vec![in alloc; 0i32; width as usize * height as usize]?;
-    scatter(&mut cells, most);
+    let mut cells = scattered(alloc, plan, most)?;
     let wanted = wide(alloc, plan, &cells)?;
-    let mut line = vec![in alloc; 0i32; width as usize]?;
-    let done = narrow(plan, &mut cells, &mut line, most.unsigned_abs());
+    let mut line = vec![in alloc; 0i32; padded(plan, Component::Y).0 as usize]?;
+    let done = narrow(plan, &mut cells, &mut line);
     Ok(done && are_same(&cells, wanted.cells()))
+}
+
+// Whether 32 bits aren't enough for luma with such coefficients.
+fn gives_up(alloc: Global, plan: &Plan, most: i32) -> Result<bool, Fail> {
+    let mut cells = scattered(alloc, plan, most)?;
+    let mut line = vec![in alloc; 0i32; padded(plan, Component::Y).0 as usize]?;
+    Ok(!narrow(plan, &mut cells, &mut line))
 }
 
 #[test]
@@ -437,6 +462,33 @@ fn widths_agree_at_the_limit(rt: HostRuntime) -> Result<(), Fail> {
         );
         assert!(rt;
             agree(rt.alloc(), &plan(shape, pair, (5, 0)), most[4])?,
+            "{wavelet}"
+        );
+    }
+    Ok(())
+}
+
+// The greatest such coefficients of each wavelet at depth 3 that are transformed in 32 bits where the cells are measured
+// before each pass that a bound doesn't admit. The program of the table above found them; one more is too large for one of
+// the passes.
+static GREATEST_MEASURED: [i32; 7] = [
+    34_188_793,
+    357_913_940,
+    31_617_875,
+    214_748_364,
+    509_033_159,
+    753_187,
+    35_604,
+];
+
+#[test]
+fn widths_agree_where_cells_are_measured(rt: HostRuntime) -> Result<(), Fail> {
+    for wavelet in 0..7 {
+        let plan = plan(size(13, 6), (wavelet, wavelet), (3, 0));
+        let most = GREATEST_MEASURED[wavelet as usize];
+        assert!(rt; agree(rt.alloc(), &plan, i64::from(most))?, "{wavelet}");
+        assert!(rt;
+            gives_up(rt.alloc(), &plan, most.wrapping_add(1))?,
             "{wavelet}"
         );
     }

@@ -12,4 +12,4 @@ returns c = λ is.
     let samples = c.inverse_narrow.new.cells in
     let stride = c.padded-width.result.0 in
     let whole : length samples ≡ padded_height p c.args.c * padded_width p c.args.c = omega (arith, c.requires.cells, c.requires.samples) in
-    samples_made p c.args.c stride nested turned samples c.padded-width.ensures.width whole c.turn_rows.ensures c.inverse_narrow.ensures
+    samples_made p c.args.c stride nested turned samples c.padded-width.ensures.width whole c.turn_rows.ensures (c.inverse_narrow.ensures is)
