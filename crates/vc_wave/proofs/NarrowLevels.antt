@@ -18,7 +18,7 @@ use Rattle.vc_lift.specs.Ranges.{narrow_bound}
 use Rattle.vc_lift.proofs.LineLaws.{synthesis_past}
 use Rattle.vc_lift.proofs.NarrowGrowth.{synthesis_after, narrow_covers}
 use Rattle.vc_wave.specs.declared.pass.Direction.TheVariants.{Synthesis}
-use Rattle.vc_wave.specs.Layout.{laid_out, row_in_turn}
+use Rattle.vc_wave.specs.Layout.{laid_out, row_in_turn, after_levels}
 use Rattle.vc_wave.specs.NarrowBounds.{AreWithin, Reaches, rows_bound, bound_over}
 use Rattle.vc_wave.specs.Planes.{HasRoom, plane_of}
 use Rattle.vc_wave.specs.Remade.{remade, merged, halves_together, level_in_turn}
@@ -213,6 +213,10 @@ pub some_holds : (o : Option ℕ) (P : Type 0) → is_some o ≡ true → IfSome
 some_holds (Some n) P some holds = holds
 some_holds None P some holds = absurd (false≢true some)
 
+pub some_also : (o : Option ℕ) (P Q : Type 0) → (P → Q) → IfSome o (λ n. P) → IfSome o (λ n. Q)
+some_also (Some n) P Q f holds = f holds
+some_also None P Q f none = none
+
 -- ---- sides and room
 
 pub rest_at : (levels level : ℕ) → level < levels → suc (levels - 1 - level) ≡ levels - level
@@ -306,6 +310,30 @@ unfolding row_in_turn
 last_laid levels level a b plane e = (let none : 0 ≡ levels - level = omega arith in ap (λ n. laid_out n a b plane) none)
 
 -- ---- a component
+
+module _ (p : Parameters) (c : Component) (count w side h : ℕ) (nested mid last : Cells) (lowest_across : w ≡ lowest_width p c) (lowest_down : h ≡ lowest_height p c) (above : side ≡ w * 2 ^ p.depth_ho) where
+  both_ways : ℕ → ℕ → Cells → Cells
+  both_ways n m g = inverse_levels p.wavelet p.wavelet_ho count n m g
+
+  across_alone : ℕ → ℕ → Cells
+  across_alone n m = levels_across p.wavelet_ho p.depth_ho n m nested
+
+  whole_side : side ≡ lowest_width p c * 2 ^ p.depth_ho
+  whole_side = above ∙ ap (λ n. n * 2 ^ p.depth_ho) lowest_across
+
+  -- so many levels, in two loops
+  pub after_made : laid_out p.depth side h mid ≡ levels_across p.wavelet_ho p.depth_ho w h nested
+      → laid_out (p.depth - count) (side * 2 ^ count) (h * 2 ^ count) last ≡ inverse_levels p.wavelet p.wavelet_ho count side h (laid_out p.depth side h mid)
+      → laid_out (p.depth - count) (lowest_width p c * 2 ^ p.depth_ho * 2 ^ count) (lowest_height p c * 2 ^ count) last ≡ after_levels p c count nested
+  unfolding both_ways across_alone
+  after_made before levels =
+      ap (λ n. laid_out (p.depth - count) (n * 2 ^ count) (lowest_height p c * 2 ^ count) last) (sym whole_side)
+      ∙ ap (λ n. laid_out (p.depth - count) (side * 2 ^ count) (n * 2 ^ count) last) (sym lowest_down)
+      ∙ levels
+      ∙ ap (both_ways side h) before
+      ∙ ap (λ n. both_ways n h (across_alone w h)) whole_side
+      ∙ ap (λ n. both_ways (lowest_width p c * 2 ^ p.depth_ho) n (across_alone w n)) lowest_down
+      ∙ ap (λ n. both_ways (lowest_width p c * 2 ^ p.depth_ho) (lowest_height p c) (across_alone n (lowest_height p c))) lowest_across
 
 pub all_rooms : (p : Parameters) (c : Component) (w h stride cells line : ℕ) → w ≡ lowest_width p c → h ≡ lowest_height p c → padded_width p c ≤ stride → padded_height p c * stride ≤ cells → padded_width p c ≤ line
     → HasRoom (w * 2 ^ p.depth_ho * 2 ^ p.depth) (h * 2 ^ p.depth) stride cells 0 line

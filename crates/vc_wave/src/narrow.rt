@@ -6,7 +6,7 @@ ghost use Rattle.vc_types.specs.Transforms.{halved, half_place, on_columns, on_r
 ghost use Rattle.vc_types.specs.Wavelets.{is_shifted, synthesised};
 ghost use Rattle.vc_lift.specs.Ranges.{narrow_bound};
 ghost use Rattle.vc_wave.specs.declared.pass.Direction.TheVariants.{Synthesis};
-ghost use Rattle.vc_wave.specs.Layout.{laid_out, nested_in};
+ghost use Rattle.vc_wave.specs.Layout.{laid_out, nested_in, left_in, after_levels};
 ghost use Rattle.vc_wave.specs.Lines.{IsMade};
 ghost use Rattle.vc_wave.specs.NarrowBounds.{AreWithin, HasBound, RowHasBound, rows_bound};
 ghost use Rattle.vc_wave.specs.Planes.{HasRoom, plane_of};
@@ -16,12 +16,13 @@ use crate::bounds::{columns_reach, greatest, rows_reach};
 use crate::level::Wavelets;
 use crate::shift::is_shifted;
 use crate::sides::{lowest, side_at};
+use crate::turn::Nesting;
 use vc_lift::{Halves, synth_narrow};
 use vc_types::{Component, Plan};
 
-// A sample shifted down by one bit, rounded, if that is wanted.
+/// A sample shifted down by one bit, rounded, if that is wanted.
 #[inline(always)]
-fn settled(sample: i32, shifted: bool) -> i32
+pub(crate) fn settled(sample: i32, shifted: bool) -> i32
     requires { shifted ≡ true → unsigned_abs sample + 1 < 2 ^ 31 }
     ensures { result ≡ (if shifted then halved sample else sample) }
 {
@@ -112,8 +113,14 @@ fn merge_rows(
     }
 }
 
-// Synthesises the first columns, whose samples stand `pitch` cells apart (ST 2042-1, vertical synthesis).
-fn merge_columns(wavelet: u8, cells: &mut [i32], pitch: usize, columns: usize, half: usize)
+/// Synthesises the first columns, whose samples stand `pitch` cells apart (ST 2042-1, vertical synthesis).
+pub(crate) fn merge_columns(
+    wavelet: u8,
+    cells: &mut [i32],
+    pitch: usize,
+    columns: usize,
+    half: usize,
+)
     requires wavelet { wavelet ≤ 6 }
     requires some { (0 < half) × (half < 2 ^ 60) }
     requires across { columns ≤ pitch }
@@ -193,38 +200,91 @@ fn merge_across(
     Some(bound)
 }
 
-// Puts levels both ways together whose rows are taken in turn, the lowest of which has subbands of w columns and h rows.
-// Bounds as above.
+// Puts the first levels both ways together of nested subbands whose rows are taken in turn. Bounds as above.
 fn merge_levels(
     wavelets: Wavelets,
-    levels: u8,
+    nesting: Nesting,
+    count: u8,
     cells: &mut [i32],
     stride: usize,
-    w: usize,
-    h: usize,
     line: &mut [i32],
     most: u64,
 ) -> Option<u64>
     requires down { wavelets.down ≤ 6 }
     requires across { wavelets.across ≤ 6 }
-    requires levels { levels ≤ 5 }
-    requires some { (0 < w) × (0 < h) }
-    requires small { (w * 2 ^ levels < 2 ^ 60) × (h * 2 ^ levels < 2 ^ 60) }
-    requires room { HasRoom (w * 2 ^ levels) (h * 2 ^ levels) stride (length cells.old) 0
-        (length line.old) }
+    requires levels { nesting.levels ≤ 5 }
+    requires count { count ≤ nesting.levels }
+    requires some { (0 < nesting.w) × (0 < nesting.h) }
+    requires small { (nesting.w * 2 ^ nesting.levels < 2 ^ 60)
+        × (nesting.h * 2 ^ nesting.levels < 2 ^ 60) }
+    requires room { HasRoom (nesting.w * 2 ^ nesting.levels) (nesting.h * 2 ^ nesting.levels) stride
+        (length cells.old) 0 (length line.old) }
     requires most { most < 2 ^ 31 }
     requires within { AreWithin most cells.old }
-    ensures { IfSome result (λ after. plane_of stride cells.new
-        ≡ inverse_levels wavelets.down wavelets.across levels w h
-        (laid_out levels w h (plane_of stride cells.old))) }
+    ensures made { IfSome result (λ after.
+        laid_out (nesting.levels - count) (nesting.w * 2 ^ count) (nesting.h * 2 ^ count)
+        (plane_of stride cells.new)
+        ≡ inverse_levels wavelets.down wavelets.across count nesting.w nesting.h
+        (laid_out nesting.levels nesting.w nesting.h (plane_of stride cells.old))) }
+    ensures within { IfSome result (λ after. AreWithin after cells.new) }
+    ensures small { IfSome result (λ after. after < 2 ^ 31) }
 {
     let mut bound = most;
-    for level in 0..levels {
-        let pitch = side_at(stride, levels - 1 - level);
-        let (columns, rows) = (side_at(w, level), side_at(h, level));
-        bound = merge_level(wavelets, cells, pitch, columns, rows, line, bound)?;
+    for level in 0..count {
+        let pitch = side_at(stride, nesting.levels - 1 - level);
+        let (w, h) = (side_at(nesting.w, level), side_at(nesting.h, level));
+        bound = merge_level(wavelets, cells, pitch, w, h, line, bound)?;
     }
     Some(bound)
+}
+
+/// Puts the levels across alone of a component together, and the first ones both ways. It tells a bound on all cells after
+/// that; none where 32 bits may not be enough.
+pub(crate) fn merge_below(
+    plan: &Plan,
+    c: Component,
+    count: u8,
+    cells: &mut [i32],
+    stride: usize,
+    line: &mut [i32],
+) -> Option<u64>
+    requires count { count ≤ plan.now.depth }
+    requires stride { padded_width (parameters_of plan.now) c ≤ stride }
+    requires cells { padded_height (parameters_of plan.now) c * stride ≤ length cells.old }
+    requires line { padded_width (parameters_of plan.now) c ≤ length line.old }
+    ensures made { IfSome result (λ after.
+        left_in (parameters_of plan.now) c count stride cells.new
+        ≡ after_levels (parameters_of plan.now) c count
+        (nested_in (parameters_of plan.now) c stride cells.old)) }
+    ensures within { IfSome result (λ after. AreWithin after cells.new) }
+    ensures small { IfSome result (λ after. after < 2 ^ 31) }
+{
+    let most = u64::from(greatest(cells));
+    if most >= 1 << 31 {
+        return None;
+    }
+    let (w, h) = lowest(plan, c);
+    let wavelets = Wavelets {
+        down: plan.wavelet,
+        across: plan.wavelet_ho,
+    };
+    let pitch = side_at(stride, plan.depth);
+    let most = merge_across(
+        wavelets.across,
+        plan.depth_ho,
+        cells,
+        pitch,
+        w,
+        h,
+        line,
+        most,
+    )?;
+    let nesting = Nesting {
+        levels: plan.depth,
+        w: side_at(w, plan.depth_ho),
+        h,
+    };
+    merge_levels(wavelets, nesting, count, cells, stride, line, most)
 }
 
 /// The samples of a component from its coefficients, in place and in 32 bits (ST 2042-1, inverse wavelet transform). The
@@ -245,20 +305,5 @@ pub fn inverse_narrow(
         ≡ inverse_transform (parameters_of plan.now) c
         (nested_in (parameters_of plan.now) c stride cells.old) }
 {
-    let most = u64::from(greatest(cells));
-    if most >= 1 << 31 {
-        return false;
-    }
-    let (w, h) = lowest(plan, c);
-    let wavelets = Wavelets {
-        down: plan.wavelet,
-        across: plan.wavelet_ho,
-    };
-    let pitch = side_at(stride, plan.depth);
-    let levels = plan.depth_ho;
-    let Some(most) = merge_across(wavelets.across, levels, cells, pitch, w, h, line, most) else {
-        return false;
-    };
-    let w = side_at(w, plan.depth_ho);
-    merge_levels(wavelets, plan.depth, cells, stride, w, h, line, most).is_some()
+    merge_below(plan, c, plan.depth, cells, stride, line).is_some()
 }

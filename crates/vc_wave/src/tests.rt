@@ -7,7 +7,8 @@ ghost use Rattle.vc_types.specs.TransformParameters.{is_symmetric, parameters_of
 use crate::bounds::rows_bound;
 use crate::forward_bounds::parted_bound;
 use crate::{
-    forward, forward_fits_narrow, forward_narrow, inverse, inverse_narrow, inverse_undoes_forward,
+    Format, forward, forward_fits_narrow, forward_narrow, inverse, inverse_narrow, inverse_output,
+    inverse_undoes_forward,
 };
 use std::alloc::Global;
 use std::test::Fail;
@@ -504,6 +505,69 @@ fn widths_agree_on_each_size(rt: HostRuntime) -> Result<(), Fail> {
         assert!(rt; agree(rt.alloc(), &plan(size(1, 9), pair, (3, 1)), 1000)?);
         assert!(rt; agree(rt.alloc(), &plan(size(23, 7), pair, (1, 3)), 1000)?);
         assert!(rt; agree(rt.alloc(), &plan(size(40, 17), pair, (3, 0)), 1000)?);
+    }
+    Ok(())
+}
+
+// Puts luma out in 32 bits, if the lists are as long as it wants and 32 bits are enough.
+fn narrow_output(plan: &Plan, cells: &mut [i32], line: &mut [i32], samples: &mut [u16]) -> bool {
+    let (width, height) = padded(plan, Component::Y);
+    let (columns, rows) = (width as usize, height as usize);
+    let format = Format {
+        columns: plan.shape.luma_width as usize,
+        rows: plan.shape.luma_height as usize,
+        depth: plan.shape.luma_depth,
+    };
+    if cells.len() != rows * columns || line.len() < columns {
+        return false;
+    }
+    if samples.len() != format.rows * format.columns {
+        return false;
+    }
+    inverse_output(plan, Component::Y, cells, columns, line, samples, format)
+}
+
+// Whether these samples are those of the plain transform without the padding, clipped to so many bits.
+fn are_clipped(samples: &[u16], width: usize, wide: &Grid, bits: u8) -> bool {
+    let half = 1i128 << bits.saturating_sub(1).min(15);
+    let stride = wide.width() as usize;
+    for i in 0..samples.len() {
+        let (x, y) = match width {
+            0 => (i, 0),
+            _ => (i % width, i / width),
+        };
+        let Some(cell) = wide.cells().get(y.wrapping_mul(stride).wrapping_add(x)) else {
+            return false;
+        };
+        if i128::from(samples[i]) != (*cell).clamp(-half, half - 1) + half {
+            return false;
+        }
+    }
+    true
+}
+
+// Whether luma with such coefficients is put out as the plain transform's samples say.
+fn outputs_agree(alloc: Global, plan: &Plan, most: i32) -> Result<bool, Fail> {
+    let shape = plan.shape;
+    let (columns, rows) = (shape.luma_width as usize, shape.luma_height as usize);
+    let mut cells = scattered(alloc, plan, most)?;
+    let wanted = wide(alloc, plan, &cells)?;
+    let mut line = vec![in alloc; 0i32; padded(plan, Component::Y).0 as usize]?;
+    let mut samples = vec![in alloc; 7u16; rows * columns]?;
+    let done = narrow_output(plan, &mut cells, &mut line, &mut samples);
+    Ok(done && are_clipped(&samples, columns, &wanted, shape.luma_depth))
+}
+
+#[test]
+fn outputs_agree_on_each_size(rt: HostRuntime) -> Result<(), Fail> {
+    for wavelet in 0..7 {
+        let pair = (wavelet, 6 - wavelet);
+        let alloc = rt.alloc();
+        assert!(rt; outputs_agree(alloc, &plan(deep(1, 1, 8), pair, (1, 0)), 150)?);
+        assert!(rt; outputs_agree(alloc, &plan(deep(8, 1, 10), pair, (2, 1)), 700)?);
+        assert!(rt; outputs_agree(alloc, &plan(deep(1, 9, 1), pair, (1, 1)), 2)?);
+        assert!(rt; outputs_agree(alloc, &plan(deep(23, 7, 12), pair, (1, 3)), 2_000)?);
+        assert!(rt; outputs_agree(alloc, &plan(deep(40, 17, 16), pair, (3, 0)), 20_000)?);
     }
     Ok(())
 }
