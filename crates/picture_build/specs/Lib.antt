@@ -3,4 +3,3 @@ pub mod Cells
 pub mod Kept
 pub mod Puts
 pub mod Output
-pub mod Narrow

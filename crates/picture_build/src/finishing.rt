@@ -7,7 +7,7 @@ ghost use Rattle.vc_types.specs.TransformParameters.{parameters_of};
 ghost use Rattle.picture_build.specs.Kept.{AllAreIn, AreIn};
 
 use crate::cells::CoefficientCells;
-use crate::narrow::{narrow_output, narrow_samples};
+use crate::narrow::narrow_plane;
 use crate::output::output;
 use std::alloc::Global;
 use std::thread::{Threads, join_mut};
@@ -150,10 +150,9 @@ fn component(
         → AreIn (parameters_of plan.now) c slices cells.now
         → plane ≡ component_plane (parameters_of plan.now) c slices) }
 {
-    if narrow_samples(alloc, plan, c, cells, work)? {
-        narrow_output(alloc, plan, c, work)
-    } else {
-        wide_component(alloc, plan, c, cells)
+    match narrow_plane(alloc, plan, c, cells, work)? {
+        Some(plane) => Ok(plane),
+        None => wide_component(alloc, plan, c, cells),
     }
 }
 

@@ -166,6 +166,44 @@ fn change_signed(cells: &mut [i32], halves: &Halves, step: &Step, n: usize, widt
     }
 }
 
+// The same, with a loop of its own for the taps of the wavelets 5 and 6: eight of them, or one weight for two samples.
+#[inline(always)]
+fn change_weighted(cells: &mut [i32], halves: &Halves, step: &Step, n: usize, width: usize)
+    requires plain { IsPlain (counted_of step.now) }
+    requires small { halves.now.half < 2 ^ 60 }
+    requires at { n < halves.now.half }
+    requires run { CanRun (counted_of step.now) halves.now n width (length cells.old) }
+    requires room { (x : ℕ) → x < width
+        → HasRangeAt (2 ^ 31) (counted_of step.now) halves.now.half
+        (line_in halves.now cells.old x) n }
+    ensures on { (x : ℕ) → x < width
+        → line_of cells.new (halves_place halves.now (2 * n + step.now.parity) + x)
+        ≡ changed_by step.now.adds
+        (line_of cells.old (halves_place halves.now (2 * n + step.now.parity) + x))
+        (change_at (counted_of step.now) halves.now.half (line_in halves.now cells.old x) n) }
+    ensures off { (i : ℕ) → (i < halves_place halves.now (2 * n + step.now.parity))
+        ⊎ (halves_place halves.now (2 * n + step.now.parity) + width ≤ i)
+        → line_of cells.new i ≡ line_of cells.old i }
+{
+    let first = if step.taps.is_empty() {
+        0
+    } else {
+        step.taps[0]
+    };
+    let twice: &[i32] = &[first, first];
+    let odd: &[i32] = &[-2, 10, -25, 81, 81, -25, 10, -2];
+    let even: &[i32] = &[-8, 21, -46, 161, 161, -46, 21, -8];
+    if step.taps == twice {
+        change_signed(cells, halves, &with_taps(step, twice), n, width);
+    } else if step.taps == odd {
+        change_signed(cells, halves, &with_taps(step, odd), n, width);
+    } else if step.taps == even {
+        change_signed(cells, halves, &with_taps(step, even), n, width);
+    } else {
+        change_signed(cells, halves, step, n, width);
+    }
+}
+
 // The same, with a loop of its own for taps that are small enough for 32 bits to serve. It is no part of a loop over rows:
 // in one, the compiler would ask whether any row lies over another.
 #[inline(never)]
@@ -203,7 +241,7 @@ fn change_run(cells: &mut [i32], halves: &Halves, step: &Step, n: usize, width: 
     } else if step.taps == one {
         change_signed(cells, halves, &with_taps(step, one), n, width);
     } else {
-        change_signed(cells, halves, step, n, width);
+        change_weighted(cells, halves, step, n, width);
     }
 }
 

@@ -9,6 +9,9 @@ pub mod Copies
 pub mod Grids
 pub mod Fills
 mod NarrowRows
+mod OutputRows
+mod HighestLevel
+pub mod Clipping
 mod NarrowColumns
 pub mod LayoutLaws
 pub mod Turns

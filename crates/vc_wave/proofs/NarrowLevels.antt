@@ -1,8 +1,8 @@
 -- Levels in 32 bits: what each makes, how far it reaches, and the bounds that it carries on.
-use Rattle.std.proofs.Common.{◌≡◌, ℕ, zero, suc, ◌+◌, ◌-◌, ◌*◌, ◌/◌, ◌^◌, ◌<◌, ◌≤◌, ◌⊎◌, inl, inr, List, length, ℤ, pos, negsuc, ◌+ℤ◌, unsigned_abs, arith, ap, sym, refl, ◌∙◌, Bool, true, false, max, Option, Some, None, All}
+use Rattle.std.proofs.Common.{◌≡◌, ℕ, zero, suc, ◌+◌, ◌-◌, ◌*◌, ◌/◌, ◌^◌, ◌<◌, ◌≤◌, ◌⊎◌, inl, inr, List, ℤ, pos, negsuc, ◌+ℤ◌, unsigned_abs, arith, ap, sym, subst, refl, ◌∙◌, Bool, true, false, max, Option, Some, None, IfSome}
 use Rattle.std.specs.Prelude.{if◌then◌else◌, nat_lt}
 use Rattle.std.specs.Int.{int_shr}
-use Rattle.std.specs.Option.{option_and_then, is_some}
+use Rattle.std.specs.Option.{is_some}
 use Rattle.std.proofs.lemmas.Bool.{cases_lt, false≢true}
 use Rattle.std.proofs.lemmas.Bool.Decides.{nat_tests}
 use Rattle.std.proofs.lemmas.Int.{ints}
@@ -10,18 +10,16 @@ use Rattle.std.proofs.lemmas.Option.{option_and_then_some}
 use Rattle.std.proofs.Math.Nat.{mul-le-mul_left, mul-le-mul_right, div-mul-le_self, pow-suc}
 use Rattle.std.proofs.Math.Numerals.{add-one}
 use Rattle.std.proofs.Math.Pow.{pow_mono, pow_pos}
-use Rattle.std.proofs.lemmas.List.{get_or_past}
-use Rattle.std.proofs.lemmas.List.Elements.{All-get_or}
 use Rattle.std.proofs.lemmas.Nat.{pow-add}
-use Rattle.vc_types.specs.Lifting.{Line, line_of}
+use Rattle.vc_types.specs.Lifting.{Line}
 use Rattle.vc_types.specs.Transforms.{Cells, half_place, halved, on_columns, on_rows, level_across, levels_across, inverse_level, inverse_levels, lowest_width, lowest_height}
 use Rattle.vc_types.specs.Wavelets.{is_shifted, synthesised}
 use Rattle.vc_lift.specs.Ranges.{narrow_bound}
 use Rattle.vc_lift.proofs.LineLaws.{synthesis_past}
 use Rattle.vc_lift.proofs.NarrowGrowth.{synthesis_after, narrow_covers}
 use Rattle.vc_wave.specs.declared.pass.Direction.TheVariants.{Synthesis}
-use Rattle.vc_wave.specs.Layout.{laid_out, row_in_turn}
-use Rattle.vc_wave.specs.NarrowBounds.{rows_bound, level_bound, bound_over, transform_bound}
+use Rattle.vc_wave.specs.Layout.{laid_out, row_in_turn, after_levels}
+use Rattle.vc_wave.specs.NarrowBounds.{AreWithin, Reaches, rows_bound, bound_over}
 use Rattle.vc_wave.specs.Planes.{HasRoom, plane_of}
 use Rattle.vc_wave.specs.Remade.{remade, merged, halves_together, level_in_turn}
 use Rattle.vc_wave.proofs.Copies.{on_samples_in}
@@ -30,6 +28,7 @@ use Rattle.vc_types.specs.TransformParameters.{Parameters}
 use Rattle.vc_types.specs.declared.video.Component.{Component}
 use Rattle.vc_types.specs.Subbands.{padded_width, padded_height}
 use Rattle.vc_wave.proofs.Levels.{level_fits, no_levels, next_level, whole_room}
+use Rattle.vc_wave.proofs.NarrowColumns.{plane_small, cells_small}
 use Rattle.vc_wave.proofs.NarrowRows.{RowsMade, rows_made}
 use Rattle.vc_wave.proofs.PlaneLines.{column_in, column_out, row_in, row_out, on_columns-on_columns, rearranged_in}
 use Rattle.vc_wave.proofs.TransformLocality.{less, Agree, columns_agree, rows_agree, levels_across_agree}
@@ -164,23 +163,18 @@ rows_at_most wavelet half rows most after c some fits small x y = row (cases_lt 
         (settled_at_most (is_shifted wavelet) (nat_lt (m.made + 1) (2 ^ 31)) most m.made after (merged wavelet half (λ k. c k y) x) m.last
         (synthesis_after wavelet half most m.made (halves_together half (λ k. c k y)) some m.synthesised woven x within))
 
--- a bound over a level, in its two parts
-pub record LevelMade (vertical horizontal most after : ℕ) : Type 0 where
-  pub made : ℕ
-  pub down : narrow_bound vertical most ≡ Some made
-  pub across : rows_bound horizontal made ≡ Some after
+-- the same of cells that are kept row by row, with a bound that a pass reaches from some bound on them
+pub columns_within : (wavelet half columns pitch after : ℕ) (old new : List ℤ) → 0 < half → 0 < pitch → Reaches (narrow_bound wavelet) old after → plane_of pitch new ≡ on_columns (synthesised wavelet (2 * half)) columns (plane_of pitch old) → AreWithin after new
+columns_within wavelet half columns pitch after old new some wide r made =
+    cells_small pitch after new wide
+    (subst (λ (p : Cells). AtMost after p) (sym made)
+    (columns_at_most wavelet half columns r.most after (plane_of pitch old) some r.fits (plane_small pitch r.most old r.small)))
 
-pub level_made : (vertical horizontal most after : ℕ) → level_bound vertical horizontal most ≡ Some after → LevelMade vertical horizontal most after
-unfolding level_bound
-level_made vertical horizontal most after fits =
-    option_and_then_some (λ (made : ℕ). rows_bound horizontal made) (narrow_bound vertical most) after fits
-    (λ made is last. record { made = made; down = is; across = last })
-
-pub level_at_most : (vertical horizontal w h most after : ℕ) (c : Cells) → 0 < w → 0 < h → level_bound vertical horizontal most ≡ Some after → AtMost most c → AtMost after (level_in_turn vertical horizontal w h c)
-unfolding level_in_turn
-level_at_most vertical horizontal w h most after c wide high fits small =
-    let m = level_made vertical horizontal most after fits in
-    rows_at_most horizontal w (2 * h) m.made after (on_columns (synthesised vertical (2 * h)) (2 * w) c) wide m.across (columns_at_most vertical h (2 * w) most m.made c high m.down small)
+pub rows_within : (wavelet half rows pitch after : ℕ) (old new : List ℤ) → 0 < half → 0 < pitch → Reaches (rows_bound wavelet) old after → plane_of pitch new ≡ on_rows (remade Synthesis wavelet (is_shifted wavelet) half) rows (plane_of pitch old) → AreWithin after new
+rows_within wavelet half rows pitch after old new some wide r made =
+    cells_small pitch after new wide
+    (subst (λ (p : Cells). AtMost after p) (sym made)
+    (rows_at_most wavelet half rows r.most after (plane_of pitch old) some r.fits (plane_small pitch r.most old r.small)))
 
 -- ---- a bound over levels, level by level
 
@@ -213,6 +207,15 @@ reached_at carry levels n most after le fits = (let sum : levels ≡ levels - n 
 pub bound_zero : (carry : ℕ → Option ℕ) (most b : ℕ) → bound_over carry 0 most ≡ Some b → most ≡ b
 unfolding bound_over
 bound_zero carry most b e = grind (arith, nat_tests)
+
+-- what holds where there is a bound
+pub some_holds : (o : Option ℕ) (P : Type 0) → is_some o ≡ true → IfSome o (λ n. P) → P
+some_holds (Some n) P some holds = holds
+some_holds None P some holds = absurd (false≢true some)
+
+pub some_also : (o : Option ℕ) (P Q : Type 0) → (P → Q) → IfSome o (λ n. P) → IfSome o (λ n. Q)
+some_also (Some n) P Q f holds = f holds
+some_also None P Q f none = none
 
 -- ---- sides and room
 
@@ -306,32 +309,31 @@ pub last_laid : (levels level a b : ℕ) (plane : Cells) → level ≡ levels �
 unfolding row_in_turn
 last_laid levels level a b plane e = (let none : 0 ≡ levels - level = omega arith in ap (λ n. laid_out n a b plane) none)
 
--- ---- coefficients that fit
-
-pub line_at_most : (m : ℕ) (cells : List ℤ) → All (λ z. unsigned_abs z ≤ m) cells → (i : ℕ) → unsigned_abs (line_of cells i) ≤ m
-line_at_most m cells small i = elim (cases_lt i (length cells)) [
-  | inl h ↦ All-get_or (λ z. unsigned_abs z ≤ m) cells i (pos 0) h small
-  | inr h ↦ rw (get_or_past cells i (pos 0) h) (omega arith)
-]
-
-pub record TransformMade (p : Parameters) (most : ℕ) : Type 0 where
-  pub made : ℕ
-  pub after : ℕ
-  pub across : bound_over (rows_bound p.wavelet_ho) p.depth_ho most ≡ Some made
-  pub both : bound_over (level_bound p.wavelet p.wavelet_ho) p.depth made ≡ Some after
-
-some_of : (o : Option ℕ) {P : Type 0} → is_some o ≡ true → ((n : ℕ) → o ≡ Some n → P) → P
-some_of (Some n) h f = f n refl
-some_of None h f = absurd (false≢true h)
-
-pub transform_made : (p : Parameters) (most : ℕ) → is_some (transform_bound p most) ≡ true → TransformMade p most
-unfolding transform_bound
-transform_made p most fits =
-    some_of (option_and_then (λ (made : ℕ). bound_over (level_bound p.wavelet p.wavelet_ho) p.depth made) (bound_over (rows_bound p.wavelet_ho) p.depth_ho most)) fits
-    (λ after e. option_and_then_some (λ (made : ℕ). bound_over (level_bound p.wavelet p.wavelet_ho) p.depth made) (bound_over (rows_bound p.wavelet_ho) p.depth_ho most) after e
-    (λ made is last. record { made = made; after = after; across = is; both = last }))
-
 -- ---- a component
+
+module _ (p : Parameters) (c : Component) (count w side h : ℕ) (nested mid last : Cells) (lowest_across : w ≡ lowest_width p c) (lowest_down : h ≡ lowest_height p c) (above : side ≡ w * 2 ^ p.depth_ho) where
+  both_ways : ℕ → ℕ → Cells → Cells
+  both_ways n m g = inverse_levels p.wavelet p.wavelet_ho count n m g
+
+  across_alone : ℕ → ℕ → Cells
+  across_alone n m = levels_across p.wavelet_ho p.depth_ho n m nested
+
+  whole_side : side ≡ lowest_width p c * 2 ^ p.depth_ho
+  whole_side = above ∙ ap (λ n. n * 2 ^ p.depth_ho) lowest_across
+
+  -- so many levels, in two loops
+  pub after_made : laid_out p.depth side h mid ≡ levels_across p.wavelet_ho p.depth_ho w h nested
+      → laid_out (p.depth - count) (side * 2 ^ count) (h * 2 ^ count) last ≡ inverse_levels p.wavelet p.wavelet_ho count side h (laid_out p.depth side h mid)
+      → laid_out (p.depth - count) (lowest_width p c * 2 ^ p.depth_ho * 2 ^ count) (lowest_height p c * 2 ^ count) last ≡ after_levels p c count nested
+  unfolding both_ways across_alone
+  after_made before levels =
+      ap (λ n. laid_out (p.depth - count) (n * 2 ^ count) (lowest_height p c * 2 ^ count) last) (sym whole_side)
+      ∙ ap (λ n. laid_out (p.depth - count) (side * 2 ^ count) (n * 2 ^ count) last) (sym lowest_down)
+      ∙ levels
+      ∙ ap (both_ways side h) before
+      ∙ ap (λ n. both_ways n h (across_alone w h)) whole_side
+      ∙ ap (λ n. both_ways (lowest_width p c * 2 ^ p.depth_ho) n (across_alone w n)) lowest_down
+      ∙ ap (λ n. both_ways (lowest_width p c * 2 ^ p.depth_ho) (lowest_height p c) (across_alone n (lowest_height p c))) lowest_across
 
 pub all_rooms : (p : Parameters) (c : Component) (w h stride cells line : ℕ) → w ≡ lowest_width p c → h ≡ lowest_height p c → padded_width p c ≤ stride → padded_height p c * stride ≤ cells → padded_width p c ≤ line
     → HasRoom (w * 2 ^ p.depth_ho * 2 ^ p.depth) (h * 2 ^ p.depth) stride cells 0 line

@@ -1,5 +1,5 @@
 -- Rows that are put together in place.
-use Rattle.std.proofs.Common.{◌≡◌, ◌≢◌, ℕ, zero, suc, ◌+◌, ◌-◌, ◌*◌, ◌/◌, ◌%◌, ◌^◌, ◌<◌, ◌≤◌, ◌⊎◌, inl, inr, List, length, set, ℤ, pos, unsigned_abs, arith, ap, sym, subst, refl, ◌∙◌, Bool, true, false, Some, None}
+use Rattle.std.proofs.Common.{◌≡◌, ◌≢◌, ℕ, zero, suc, ◌+◌, ◌-◌, ◌*◌, ◌/◌, ◌%◌, ◌^◌, ◌<◌, ◌≤◌, ◌⊎◌, inl, inr, List, length, set, slice_index_or, ℤ, unsigned_abs, arith, ap, sym, subst, refl, ◌∙◌, Bool, true, false, Some, None}
 use Rattle.std.specs.Prelude.{if◌then◌else◌, nat_lt, ◌==◌}
 use Rattle.std.proofs.lemmas.Bool.{cases_lt, cases_eq}
 use Rattle.std.proofs.lemmas.Bool.Decides.{nat_tests}
@@ -17,38 +17,38 @@ use Rattle.vc_wave.specs.declared.lines.Lines.{Lines}
 use Rattle.vc_wave.specs.declared.pass.Direction.TheVariants.{Synthesis}
 use Rattle.vc_wave.specs.Lines.{IsMade, IsApart, line_at}
 use Rattle.vc_wave.specs.NarrowBounds.{RowHasBound, rows_bound, shifted_bound}
-use Rattle.vc_wave.specs.Remade.{remade, halves_together, merged}
+use Rattle.vc_wave.specs.Remade.{remade, halves_together, merged, settled}
 use Rattle.vc_wave.proofs.Copies.{places_differ, on_samples_in}
 use Rattle.vc_wave.proofs.PlaneLines.{rearranged_in}
 use Rattle.vc_wave.proofs.Weaving.{half_place_below, source_below, half_place-source_of}
 
 -- ---- two samples more are woven
 
-module _ (cells : List ℤ) (start k : ℕ) (v w : ℤ) (within : start + 2 * k + 1 < length cells) where
-  abbrev pub one_set : List ℤ
+module _ {A : Type 0} (none : A) (cells : List A) (start k : ℕ) (v w : A) (within : start + 2 * k + 1 < length cells) where
+  abbrev pub one_set : List A
   one_set = set cells (start + 2 * k) v
 
-  abbrev pub both_set : List ℤ
+  abbrev pub both_set : List A
   both_set = set one_set (start + 2 * k + 1) w
 
   last_within : start + 2 * k + 1 < length one_set
   last_within = simp length-set within
 
-  pub even_more : (g : ℕ → ℤ) → v ≡ g k → ((i : ℕ) → i < k → line_of cells (start + 2 * i) ≡ g i) → (i : ℕ) → i < k + 1 → line_of both_set (start + 2 * i) ≡ g i
+  pub even_more : (g : ℕ → A) → v ≡ g k → ((i : ℕ) → i < k → slice_index_or cells (start + 2 * i) none ≡ g i) → (i : ℕ) → i < k + 1 → slice_index_or both_set (start + 2 * i) none ≡ g i
   even_more g is before i h = elim (cases_eq i k) [
-    | inl e ↦ subst (λ j. line_of both_set (start + 2 * j) ≡ g j) (sym e) (get_or-set_other one_set (start + 2 * k + 1) (start + 2 * k) w (pos 0) (λ p. omega arith) ∙ get_or-set_same cells (start + 2 * k) v (pos 0) (omega arith) ∙ is)
-    | inr ne ↦ get_or-set_other one_set (start + 2 * k + 1) (start + 2 * i) w (pos 0) (λ p. omega arith) ∙ get_or-set_other cells (start + 2 * k) (start + 2 * i) v (pos 0) (λ p. omega arith) ∙ before i (omega arith)
+    | inl e ↦ subst (λ j. slice_index_or both_set (start + 2 * j) none ≡ g j) (sym e) (get_or-set_other one_set (start + 2 * k + 1) (start + 2 * k) w none (λ p. omega arith) ∙ get_or-set_same cells (start + 2 * k) v none (omega arith) ∙ is)
+    | inr ne ↦ get_or-set_other one_set (start + 2 * k + 1) (start + 2 * i) w none (λ p. omega arith) ∙ get_or-set_other cells (start + 2 * k) (start + 2 * i) v none (λ p. omega arith) ∙ before i (omega arith)
   ]
 
-  pub odd_more : (g : ℕ → ℤ) → w ≡ g k → ((i : ℕ) → i < k → line_of cells (start + (2 * i + 1)) ≡ g i) → (i : ℕ) → i < k + 1 → line_of both_set (start + (2 * i + 1)) ≡ g i
+  pub odd_more : (g : ℕ → A) → w ≡ g k → ((i : ℕ) → i < k → slice_index_or cells (start + (2 * i + 1)) none ≡ g i) → (i : ℕ) → i < k + 1 → slice_index_or both_set (start + (2 * i + 1)) none ≡ g i
   odd_more g is before i h = elim (cases_eq i k) [
-    | inl e ↦ subst (λ j. line_of both_set (start + (2 * j + 1)) ≡ g j) (sym e) ((let place : start + (2 * k + 1) ≡ start + 2 * k + 1 = omega arith in ap (line_of both_set) place) ∙ get_or-set_same one_set (start + 2 * k + 1) w (pos 0) last_within ∙ is)
-    | inr ne ↦ get_or-set_other one_set (start + 2 * k + 1) (start + (2 * i + 1)) w (pos 0) (λ p. omega arith) ∙ get_or-set_other cells (start + 2 * k) (start + (2 * i + 1)) v (pos 0) (λ p. omega arith) ∙ before i (omega arith)
+    | inl e ↦ subst (λ j. slice_index_or both_set (start + (2 * j + 1)) none ≡ g j) (sym e) ((let place : start + (2 * k + 1) ≡ start + 2 * k + 1 = omega arith in ap (λ p. slice_index_or both_set p none) place) ∙ get_or-set_same one_set (start + 2 * k + 1) w none last_within ∙ is)
+    | inr ne ↦ get_or-set_other one_set (start + 2 * k + 1) (start + (2 * i + 1)) w none (λ p. omega arith) ∙ get_or-set_other cells (start + 2 * k) (start + (2 * i + 1)) v none (λ p. omega arith) ∙ before i (omega arith)
   ]
 
-  pub off_more : (first : List ℤ) → ((i : ℕ) → (i < start) ⊎ (start + 2 * k ≤ i) → line_of cells i ≡ line_of first i) → (i : ℕ) → (i < start) ⊎ (start + 2 * (k + 1) ≤ i) → line_of both_set i ≡ line_of first i
-  off_more first before i (inl h) = get_or-set_other one_set (start + 2 * k + 1) i w (pos 0) (λ p. omega arith) ∙ get_or-set_other cells (start + 2 * k) i v (pos 0) (λ p. omega arith) ∙ before i (inl h)
-  off_more first before i (inr h) = get_or-set_other one_set (start + 2 * k + 1) i w (pos 0) (λ p. omega arith) ∙ get_or-set_other cells (start + 2 * k) i v (pos 0) (λ p. omega arith) ∙ before i (inr (omega arith))
+  pub off_more : (first : List A) → ((i : ℕ) → (i < start) ⊎ (start + 2 * k ≤ i) → slice_index_or cells i none ≡ slice_index_or first i none) → (i : ℕ) → (i < start) ⊎ (start + 2 * (k + 1) ≤ i) → slice_index_or both_set i none ≡ slice_index_or first i none
+  off_more first before i (inl h) = get_or-set_other one_set (start + 2 * k + 1) i w none (λ p. omega arith) ∙ get_or-set_other cells (start + 2 * k) i v none (λ p. omega arith) ∙ before i (inl h)
+  off_more first before i (inr h) = get_or-set_other one_set (start + 2 * k + 1) i w none (λ p. omega arith) ∙ get_or-set_other cells (start + 2 * k) i v none (λ p. omega arith) ∙ before i (inr (omega arith))
 
 -- ---- bounds on a row
 
@@ -109,6 +109,14 @@ module _ (start half : ℕ) (some : 0 < half) where
   pub row_at : (cells : List ℤ) (k : ℕ) → line_in (row_halves start half) cells 0 k ≡ line_of cells (start + half_place half k)
   row_at cells k = (let place = row_place start half k in ap (line_of cells) (omega (arith, place)))
 
+  -- a cell outside the row
+  pub row_beside : (old mid : List ℤ) → ((i : ℕ) → IsBeside (row_halves start half) 1 i → line_of mid i ≡ line_of old i) → (i : ℕ) → (i < start) ⊎ (start + 2 * half ≤ i) → line_of mid i ≡ line_of old i
+  row_beside old mid beside i out = beside i (λ x k one h e. (let place = row_place start half k in let below = half_place_below half k h in not_inside i (half_place half k) below out (omega (arith, e, one, place))))
+    where
+      not_inside : (i n : ℕ) → n < 2 * half → (i < start) ⊎ (start + 2 * half ≤ i) → i ≢ start + n
+      not_inside i n h (inl before) e = omega (arith, e)
+      not_inside i n h (inr past) e = omega (arith, e)
+
   module _ (wavelet : ℕ) (old : List ℤ) (bound : RowHasBound (rows_bound wavelet) old start (2 * half)) where
     made_of : RowsMade wavelet bound.most bound.after
     made_of = rows_made wavelet bound.most bound.after bound.fits
@@ -141,6 +149,12 @@ module _ (start half : ℕ) (some : 0 < half) where
         synth 0 k (omega arith) h
         ∙ synthesis_is_local wavelet (2 * half) (line_in (row_halves start half) old 0) (halves_together half l) (omega arith)
         (λ j lt. row_at old j ∙ sym (is (half_place half j)) ∙ sym (rearranged_in (2 * half) (half_place half) l j lt)) k h
+
+    -- a sample of the row, where it stands in its half
+    pub row_value : (l : Line) → ((j : ℕ) → l j ≡ line_of old (start + j)) → (shifted : Bool) → shifted ≡ is_shifted wavelet → (k : ℕ) → k < 2 * half → settled shifted (line_of mid (start + half_place half k)) ≡ remade Synthesis wavelet (is_shifted wavelet) half l k
+    row_value l is shifted same k h =
+        ap (settled shifted) (sym (row_at mid k) ∙ together_at l is k h) ∙ ap (λ t. settled t (merged wavelet half l k)) same
+        ∙ sym (on_samples_in halved (is_shifted wavelet) (2 * half) (merged wavelet half l) k h)
 
     module _ (new : List ℤ) (shifted : Bool)
         (even : (k : ℕ) → k < half → line_of new (start + 2 * k) ≡ (if shifted then halved (line_of mid (start + k)) else line_of mid (start + k)))

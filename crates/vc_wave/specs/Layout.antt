@@ -1,9 +1,9 @@
 -- Subbands whose rows are taken in turn, so that a level finds the rows that it synthesises in
 -- their order.
-use Rattle.std.specs.Prelude.{ℕ, zero, suc, ◌*◌, ◌^◌, if◌then◌else◌, List, ℤ}
+use Rattle.std.specs.Prelude.{ℕ, zero, suc, ◌-◌, ◌*◌, ◌^◌, if◌then◌else◌, List, ℤ}
 use Rattle.vc_types.specs.declared.video.Component.{Component}
 use Rattle.vc_types.specs.TransformParameters.{Parameters}
-use Rattle.vc_types.specs.Transforms.{Cells, is_within, source_of, lowest_width, lowest_height}
+use Rattle.vc_types.specs.Transforms.{Cells, is_within, source_of, lowest_width, lowest_height, levels_across, inverse_levels}
 use Rattle.vc_wave.specs.Planes.{plane_of}
 
 -- Which row has the cell in column x and row y of the nested subbands, the lowest of which have w
@@ -27,3 +27,17 @@ turned_row p c x y =
 -- a component's nested subbands in cells that are kept row by row
 abbrev pub nested_in : Parameters → Component → ℕ → List ℤ → Cells
 nested_in p c stride cells x y = plane_of stride cells x (turned_row p c x y)
+
+-- what `count` levels both ways, after those across alone, make of a component's nested subbands
+abbrev pub after_levels : Parameters → Component → ℕ → Cells → Cells
+after_levels p c count nested =
+    inverse_levels p.wavelet p.wavelet_ho count
+    (lowest_width p c * 2 ^ p.depth_ho) (lowest_height p c)
+    (levels_across p.wavelet_ho p.depth_ho (lowest_width p c) (lowest_height p c) nested)
+
+-- the nested subbands of the levels above those, in cells that are kept row by row
+abbrev pub left_in : Parameters → Component → ℕ → ℕ → List ℤ → Cells
+left_in p c count stride cells =
+    laid_out (p.depth - count)
+    (lowest_width p c * 2 ^ p.depth_ho * 2 ^ count) (lowest_height p c * 2 ^ count)
+    (plane_of stride cells)

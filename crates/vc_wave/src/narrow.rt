@@ -1,4 +1,4 @@
-ghost use Rattle.std.specs.Prelude.{◌≡◌, ◌+◌, ◌-◌, ◌*◌, ◌^◌, ◌<◌, ◌≤◌, ◌⊎◌, ℕ, Some, true, if◌then◌else◌, length, unsigned_abs};
+ghost use Rattle.std.specs.Prelude.{◌≡◌, ◌+◌, ◌-◌, ◌*◌, ◌^◌, ◌<◌, ◌≤◌, ◌⊎◌, ℕ, IfSome, true, if◌then◌else◌, length, unsigned_abs};
 ghost use Rattle.vc_types.specs.Lifting.{line_of};
 ghost use Rattle.vc_types.specs.Subbands.{padded_width, padded_height};
 ghost use Rattle.vc_types.specs.TransformParameters.{parameters_of};
@@ -6,21 +6,23 @@ ghost use Rattle.vc_types.specs.Transforms.{halved, half_place, on_columns, on_r
 ghost use Rattle.vc_types.specs.Wavelets.{is_shifted, synthesised};
 ghost use Rattle.vc_lift.specs.Ranges.{narrow_bound};
 ghost use Rattle.vc_wave.specs.declared.pass.Direction.TheVariants.{Synthesis};
-ghost use Rattle.vc_wave.specs.Layout.{laid_out, nested_in};
+ghost use Rattle.vc_wave.specs.Layout.{laid_out, nested_in, left_in, after_levels};
 ghost use Rattle.vc_wave.specs.Lines.{IsMade};
-ghost use Rattle.vc_wave.specs.NarrowBounds.{HasBound, RowHasBound, AreNarrow, rows_bound, level_bound, bound_over};
+ghost use Rattle.vc_wave.specs.NarrowBounds.{AreWithin, HasBound, RowHasBound, rows_bound};
 ghost use Rattle.vc_wave.specs.Planes.{HasRoom, plane_of};
 ghost use Rattle.vc_wave.specs.Remade.{remade, level_in_turn};
 
+use crate::bounds::{columns_reach, greatest, rows_reach};
 use crate::level::Wavelets;
 use crate::shift::is_shifted;
 use crate::sides::{lowest, side_at};
+use crate::turn::Nesting;
 use vc_lift::{Halves, synth_narrow};
 use vc_types::{Component, Plan};
 
-// A sample shifted down by one bit, rounded, if that is wanted.
+/// A sample shifted down by one bit, rounded, if that is wanted.
 #[inline(always)]
-fn settled(sample: i32, shifted: bool) -> i32
+pub(crate) fn settled(sample: i32, shifted: bool) -> i32
     requires { shifted ≡ true → unsigned_abs sample + 1 < 2 ^ 31 }
     ensures { result ≡ (if shifted then halved sample else sample) }
 {
@@ -111,8 +113,14 @@ fn merge_rows(
     }
 }
 
-// Synthesises the first columns, whose samples stand `pitch` cells apart (ST 2042-1, vertical synthesis).
-fn merge_columns(wavelet: u8, cells: &mut [i32], pitch: usize, columns: usize, half: usize)
+/// Synthesises the first columns, whose samples stand `pitch` cells apart (ST 2042-1, vertical synthesis).
+pub(crate) fn merge_columns(
+    wavelet: u8,
+    cells: &mut [i32],
+    pitch: usize,
+    columns: usize,
+    half: usize,
+)
     requires wavelet { wavelet ≤ 6 }
     requires some { (0 < half) × (half < 2 ^ 60) }
     requires across { columns ≤ pitch }
@@ -131,7 +139,7 @@ fn merge_columns(wavelet: u8, cells: &mut [i32], pitch: usize, columns: usize, h
 }
 
 // Puts a level together whose rows stand `pitch` cells apart, the low and the high ones in turn, and whose subbands have w
-// columns and h rows.
+// columns and h rows. From a bound on all cells it tells one on them after it; none where 32 bits may not be enough.
 fn merge_level(
     wavelets: Wavelets,
     cells: &mut [i32],
@@ -139,21 +147,28 @@ fn merge_level(
     w: usize,
     h: usize,
     line: &mut [i32],
-)
+    most: u64,
+) -> Option<u64>
     requires down { wavelets.down ≤ 6 }
     requires across { wavelets.across ≤ 6 }
     requires some { (0 < w) × (0 < h) }
     requires small { (w < 2 ^ 60) × (h < 2 ^ 60) }
     requires room { HasRoom (2 * w) (2 * h) pitch (length cells.old) 0 (length line.old) }
-    requires bound { HasBound (level_bound wavelets.down wavelets.across) cells.old }
-    ensures { plane_of pitch cells.new
-        ≡ level_in_turn wavelets.down wavelets.across w h (plane_of pitch cells.old) }
+    requires most { most < 2 ^ 31 }
+    requires within { AreWithin most cells.old }
+    ensures made { IfSome result (λ after. plane_of pitch cells.new
+        ≡ level_in_turn wavelets.down wavelets.across w h (plane_of pitch cells.old)) }
+    ensures within { IfSome result (λ after. AreWithin after cells.new) }
+    ensures small { IfSome result (λ after. after < 2 ^ 31) }
 {
+    let made = columns_reach(wavelets.down, cells, most)?;
     merge_columns(wavelets.down, cells, pitch, 2 * w, h);
+    let after = rows_reach(wavelets.across, cells, made)?;
     merge_rows(wavelets.across, cells, pitch, 2 * h, w, line);
+    Some(after)
 }
 
-// Puts levels across alone together, the lowest of which has subbands of w columns and h rows.
+// Puts levels across alone together, the lowest of which has subbands of w columns and h rows. Bounds as above.
 fn merge_across(
     wavelet: u8,
     levels: u8,
@@ -162,74 +177,133 @@ fn merge_across(
     w: usize,
     h: usize,
     line: &mut [i32],
-)
+    most: u64,
+) -> Option<u64>
     requires wavelet { wavelet ≤ 6 }
     requires levels { levels ≤ 5 }
     requires some { 0 < w }
     requires small { w * 2 ^ levels < 2 ^ 60 }
     requires room { HasRoom (w * 2 ^ levels) h pitch (length cells.old) 0 (length line.old) }
-    requires bound { HasBound (bound_over (rows_bound wavelet) levels) cells.old }
-    ensures made { plane_of pitch cells.new
-        ≡ levels_across wavelet levels w h (plane_of pitch cells.old) }
-    ensures small { (m b : ℕ) → ((i : ℕ) → unsigned_abs (line_of cells.old i) ≤ m)
-        → bound_over (rows_bound wavelet) levels m ≡ Some b → (i : ℕ)
-        → unsigned_abs (line_of cells.new i) ≤ b }
+    requires most { most < 2 ^ 31 }
+    requires within { AreWithin most cells.old }
+    ensures made { IfSome result (λ after. plane_of pitch cells.new
+        ≡ levels_across wavelet levels w h (plane_of pitch cells.old)) }
+    ensures within { IfSome result (λ after. AreWithin after cells.new) }
+    ensures small { IfSome result (λ after. after < 2 ^ 31) }
 {
+    let mut bound = most;
     for level in 0..levels {
         let half = side_at(w, level);
+        bound = rows_reach(wavelet, cells, bound)?;
         merge_rows(wavelet, cells, pitch, h, half, line);
     }
+    Some(bound)
 }
 
-// Puts levels both ways together whose rows are taken in turn, the lowest of which has subbands of w columns and h rows.
+// Puts the first levels both ways together of nested subbands whose rows are taken in turn. Bounds as above.
 fn merge_levels(
     wavelets: Wavelets,
-    levels: u8,
+    nesting: Nesting,
+    count: u8,
     cells: &mut [i32],
     stride: usize,
-    w: usize,
-    h: usize,
     line: &mut [i32],
-)
+    most: u64,
+) -> Option<u64>
     requires down { wavelets.down ≤ 6 }
     requires across { wavelets.across ≤ 6 }
-    requires levels { levels ≤ 5 }
-    requires some { (0 < w) × (0 < h) }
-    requires small { (w * 2 ^ levels < 2 ^ 60) × (h * 2 ^ levels < 2 ^ 60) }
-    requires room { HasRoom (w * 2 ^ levels) (h * 2 ^ levels) stride (length cells.old) 0
-        (length line.old) }
-    requires bound { HasBound
-        (bound_over (level_bound wavelets.down wavelets.across) levels) cells.old }
-    ensures { plane_of stride cells.new
-        ≡ inverse_levels wavelets.down wavelets.across levels w h
-        (laid_out levels w h (plane_of stride cells.old)) }
+    requires levels { nesting.levels ≤ 5 }
+    requires count { count ≤ nesting.levels }
+    requires some { (0 < nesting.w) × (0 < nesting.h) }
+    requires small { (nesting.w * 2 ^ nesting.levels < 2 ^ 60)
+        × (nesting.h * 2 ^ nesting.levels < 2 ^ 60) }
+    requires room { HasRoom (nesting.w * 2 ^ nesting.levels) (nesting.h * 2 ^ nesting.levels) stride
+        (length cells.old) 0 (length line.old) }
+    requires most { most < 2 ^ 31 }
+    requires within { AreWithin most cells.old }
+    ensures made { IfSome result (λ after.
+        laid_out (nesting.levels - count) (nesting.w * 2 ^ count) (nesting.h * 2 ^ count)
+        (plane_of stride cells.new)
+        ≡ inverse_levels wavelets.down wavelets.across count nesting.w nesting.h
+        (laid_out nesting.levels nesting.w nesting.h (plane_of stride cells.old))) }
+    ensures within { IfSome result (λ after. AreWithin after cells.new) }
+    ensures small { IfSome result (λ after. after < 2 ^ 31) }
 {
-    for level in 0..levels {
-        let pitch = side_at(stride, levels - 1 - level);
-        let (columns, rows) = (side_at(w, level), side_at(h, level));
-        merge_level(wavelets, cells, pitch, columns, rows, line);
+    let mut bound = most;
+    for level in 0..count {
+        let pitch = side_at(stride, nesting.levels - 1 - level);
+        let (w, h) = (side_at(nesting.w, level), side_at(nesting.h, level));
+        bound = merge_level(wavelets, cells, pitch, w, h, line, bound)?;
     }
+    Some(bound)
 }
 
-/// The samples of a component from its coefficients, in place and in 32 bits (ST 2042-1, inverse wavelet transform). The
-/// coefficients stand in rows of `stride` cells, whose rows are taken in turn as `nested_in` says; the samples then stand
-/// row by row in their order, not yet clipped. The line is room to work in, as long as a row. It takes no memory.
-pub fn inverse_narrow(plan: &Plan, c: Component, cells: &mut [i32], stride: usize, line: &mut [i32])
+/// Puts the levels across alone of a component together, and the first ones both ways. It tells a bound on all cells after
+/// that; none where 32 bits may not be enough.
+pub(crate) fn merge_below(
+    plan: &Plan,
+    c: Component,
+    count: u8,
+    cells: &mut [i32],
+    stride: usize,
+    line: &mut [i32],
+) -> Option<u64>
+    requires count { count ≤ plan.now.depth }
     requires stride { padded_width (parameters_of plan.now) c ≤ stride }
     requires cells { padded_height (parameters_of plan.now) c * stride ≤ length cells.old }
     requires line { padded_width (parameters_of plan.now) c ≤ length line.old }
-    requires narrow { AreNarrow (parameters_of plan.now) cells.old }
-    ensures { plane_of stride cells.new
-        ≡ inverse_transform (parameters_of plan.now) c
-        (nested_in (parameters_of plan.now) c stride cells.old) }
+    ensures made { IfSome result (λ after.
+        left_in (parameters_of plan.now) c count stride cells.new
+        ≡ after_levels (parameters_of plan.now) c count
+        (nested_in (parameters_of plan.now) c stride cells.old)) }
+    ensures within { IfSome result (λ after. AreWithin after cells.new) }
+    ensures small { IfSome result (λ after. after < 2 ^ 31) }
 {
+    let most = u64::from(greatest(cells));
+    if most >= 1 << 31 {
+        return None;
+    }
     let (w, h) = lowest(plan, c);
     let wavelets = Wavelets {
         down: plan.wavelet,
         across: plan.wavelet_ho,
     };
     let pitch = side_at(stride, plan.depth);
-    merge_across(wavelets.across, plan.depth_ho, cells, pitch, w, h, line);
-    let w = side_at(w, plan.depth_ho);
-    merge_levels(wavelets, plan.depth, cells, stride, w, h, line);
+    let most = merge_across(
+        wavelets.across,
+        plan.depth_ho,
+        cells,
+        pitch,
+        w,
+        h,
+        line,
+        most,
+    )?;
+    let nesting = Nesting {
+        levels: plan.depth,
+        w: side_at(w, plan.depth_ho),
+        h,
+    };
+    merge_levels(wavelets, nesting, count, cells, stride, line, most)
+}
+
+/// The samples of a component from its coefficients, in place and in 32 bits (ST 2042-1, inverse wavelet transform). The
+/// coefficients stand in rows of `stride` cells, whose rows are taken in turn as `nested_in` says; the samples then stand
+/// row by row in their order, not yet clipped. It answers whether 32 bits were enough; where they weren't, the cells hold
+/// nothing of use. The line is room to work in, as long as a row. It takes no memory.
+pub fn inverse_narrow(
+    plan: &Plan,
+    c: Component,
+    cells: &mut [i32],
+    stride: usize,
+    line: &mut [i32],
+) -> bool
+    requires stride { padded_width (parameters_of plan.now) c ≤ stride }
+    requires cells { padded_height (parameters_of plan.now) c * stride ≤ length cells.old }
+    requires line { padded_width (parameters_of plan.now) c ≤ length line.old }
+    ensures { result ≡ true → plane_of stride cells.new
+        ≡ inverse_transform (parameters_of plan.now) c
+        (nested_in (parameters_of plan.now) c stride cells.old) }
+{
+    merge_below(plan, c, plan.depth, cells, stride, line).is_some()
 }

@@ -4,14 +4,16 @@ ghost use Rattle.vc_types.specs.Limits.{shape_fits, padded_luma_fits};
 ghost use Rattle.vc_types.specs.Quantisation.{filled_matrix, used_entries};
 ghost use Rattle.vc_types.specs.TransformParameters.{is_symmetric, parameters_of};
 
+use crate::bounds::rows_bound;
 use crate::forward_bounds::parted_bound;
 use crate::{
-    fits_narrow, forward, forward_fits_narrow, forward_narrow, inverse, inverse_narrow,
+    Format, forward, forward_fits_narrow, forward_narrow, inverse, inverse_narrow, inverse_output,
     inverse_undoes_forward,
 };
 use std::alloc::Global;
 use std::test::Fail;
 use vc_geometry::padded;
+use vc_lift::narrow_bound;
 use vc_types::{Component, Grid, Plan, Plane, Shape};
 
 fn plan(shape: Shape, wavelets: (u8, u8), levels: (u8, u8)) -> Plan
@@ -276,6 +278,28 @@ static GREATEST: [[i64; 5]; 7] = [
     [5_981, 85, 0, -1, -1],
 ];
 
+// A bound on the samples from one on the coefficients, where it is carried through all levels and the cells are never
+// looked at.
+fn carried(plan: &Plan, most: u64) -> Option<u64>
+    requires { most < 2 ^ 31 }
+{
+    let mut bound = most;
+    for _level in 0..plan.depth_ho {
+        bound = rows_bound(plan.wavelet_ho, bound)?;
+    }
+    for _level in 0..plan.depth {
+        let made = narrow_bound(plan.wavelet, bound)?;
+        bound = rows_bound(plan.wavelet_ho, made)?;
+    }
+    Some(bound)
+}
+
+fn fits_narrow(plan: &Plan, most: u32) -> bool
+    requires { most < 2 ^ 31 }
+{
+    carried(plan, u64::from(most)).is_some()
+}
+
 fn ends_at(plan: &Plan, most: i64) -> bool {
     let Ok(over) = u32::try_from(most.wrapping_add(1)) else {
         return false;
@@ -300,24 +324,14 @@ fn bounds_end_where_32_bits_do(rt: HostRuntime) {
     }
 }
 
-fn are_within(cells: &[i32], most: u32) -> bool
-    ensures { IsTrue result → All (λ z. unsigned_abs z ≤ most) cells.now }
-{
-    cells.iter().all(|z| z.unsigned_abs() <= most)
-}
-
-// Transforms luma in 32 bits, if there are as many cells as it has and they are small enough.
-fn narrow(plan: &Plan, cells: &mut [i32], line: &mut [i32], most: u32) -> bool {
+// Transforms luma in 32 bits, if there are as many cells as it has and 32 bits are enough.
+fn narrow(plan: &Plan, cells: &mut [i32], line: &mut [i32]) -> bool {
     let (width, height) = padded(plan, Component::Y);
     let (columns, rows) = (width as usize, height as usize);
-    if cells.len() != rows * columns || line.len() < columns || most >= 1 << 31 {
+    if cells.len() != rows * columns || line.len() < columns {
         return false;
     }
-    if !are_within(cells, most) || !fits_narrow(plan, most) {
-        return false;
-    }
-    inverse_narrow(plan, Component::Y, cells, columns, line);
-    true
+    inverse_narrow(plan, Component::Y, cells, columns, line)
 }
 
 // The row that has the cell in column x and row y of the nested subbands.
@@ -396,6 +410,13 @@ fn scatter(cells: &mut [i32], most: i32) {
     }
 }
 
+fn scattered(alloc: Global, plan: &Plan, most: i32) -> Result<Vec<i32>, Fail> {
+    let (width, height) = padded(plan, Component::Y);
+    let mut cells = vec![in alloc; 0i32; width as usize * height as usize]?;
+    scatter(&mut cells, most);
+    Ok(cells)
+}
+
 // Whether both widths make the same of luma whose coefficients are as large as they may be.
 fn agree(alloc: Global, plan: &Plan, most: i64) -> Result<bool, Fail> {
     let Ok(most) = i32::try_from(most) else {
@@ -404,13 +425,18 @@ fn agree(alloc: Global, plan: &Plan, most: i64) -> Result<bool, Fail> {
     if most < 0 {
         return Ok(true);
     }
-    let (width, height) = padded(plan, Component::Y);
-    let mut cells = vec![in alloc; 0i32; width as usize * height as usize]?;
-    scatter(&mut cells, most);
+    let mut cells = scattered(alloc, plan, most)?;
     let wanted = wide(alloc, plan, &cells)?;
-    let mut line = vec![in alloc; 0i32; width as usize]?;
-    let done = narrow(plan, &mut cells, &mut line, most.unsigned_abs());
+    let mut line = vec![in alloc; 0i32; padded(plan, Component::Y).0 as usize]?;
+    let done = narrow(plan, &mut cells, &mut line);
     Ok(done && are_same(&cells, wanted.cells()))
+}
+
+// Whether 32 bits aren't enough for luma with such coefficients.
+fn gives_up(alloc: Global, plan: &Plan, most: i32) -> Result<bool, Fail> {
+    let mut cells = scattered(alloc, plan, most)?;
+    let mut line = vec![in alloc; 0i32; padded(plan, Component::Y).0 as usize]?;
+    Ok(!narrow(plan, &mut cells, &mut line))
 }
 
 #[test]
@@ -443,6 +469,33 @@ fn widths_agree_at_the_limit(rt: HostRuntime) -> Result<(), Fail> {
     Ok(())
 }
 
+// The greatest such coefficients of each wavelet at depth 3 that are transformed in 32 bits where the cells are measured
+// before each pass that a bound doesn't admit. The program of the table above found them; one more is too large for one of
+// the passes.
+static GREATEST_MEASURED: [i32; 7] = [
+    34_188_793,
+    357_913_940,
+    31_617_875,
+    214_748_364,
+    509_033_159,
+    753_187,
+    35_604,
+];
+
+#[test]
+fn widths_agree_where_cells_are_measured(rt: HostRuntime) -> Result<(), Fail> {
+    for wavelet in 0..7 {
+        let plan = plan(size(13, 6), (wavelet, wavelet), (3, 0));
+        let most = GREATEST_MEASURED[wavelet as usize];
+        assert!(rt; agree(rt.alloc(), &plan, i64::from(most))?, "{wavelet}");
+        assert!(rt;
+            gives_up(rt.alloc(), &plan, most.wrapping_add(1))?,
+            "{wavelet}"
+        );
+    }
+    Ok(())
+}
+
 #[test]
 fn widths_agree_on_each_size(rt: HostRuntime) -> Result<(), Fail> {
     for wavelet in 0..5 {
@@ -452,6 +505,69 @@ fn widths_agree_on_each_size(rt: HostRuntime) -> Result<(), Fail> {
         assert!(rt; agree(rt.alloc(), &plan(size(1, 9), pair, (3, 1)), 1000)?);
         assert!(rt; agree(rt.alloc(), &plan(size(23, 7), pair, (1, 3)), 1000)?);
         assert!(rt; agree(rt.alloc(), &plan(size(40, 17), pair, (3, 0)), 1000)?);
+    }
+    Ok(())
+}
+
+// Puts luma out in 32 bits, if the lists are as long as it wants and 32 bits are enough.
+fn narrow_output(plan: &Plan, cells: &mut [i32], line: &mut [i32], samples: &mut [u16]) -> bool {
+    let (width, height) = padded(plan, Component::Y);
+    let (columns, rows) = (width as usize, height as usize);
+    let format = Format {
+        columns: plan.shape.luma_width as usize,
+        rows: plan.shape.luma_height as usize,
+        depth: plan.shape.luma_depth,
+    };
+    if cells.len() != rows * columns || line.len() < columns {
+        return false;
+    }
+    if samples.len() != format.rows * format.columns {
+        return false;
+    }
+    inverse_output(plan, Component::Y, cells, columns, line, samples, format)
+}
+
+// Whether these samples are those of the plain transform without the padding, clipped to so many bits.
+fn are_clipped(samples: &[u16], width: usize, wide: &Grid, bits: u8) -> bool {
+    let half = 1i128 << bits.saturating_sub(1).min(15);
+    let stride = wide.width() as usize;
+    for i in 0..samples.len() {
+        let (x, y) = match width {
+            0 => (i, 0),
+            _ => (i % width, i / width),
+        };
+        let Some(cell) = wide.cells().get(y.wrapping_mul(stride).wrapping_add(x)) else {
+            return false;
+        };
+        if i128::from(samples[i]) != (*cell).clamp(-half, half - 1) + half {
+            return false;
+        }
+    }
+    true
+}
+
+// Whether luma with such coefficients is put out as the plain transform's samples say.
+fn outputs_agree(alloc: Global, plan: &Plan, most: i32) -> Result<bool, Fail> {
+    let shape = plan.shape;
+    let (columns, rows) = (shape.luma_width as usize, shape.luma_height as usize);
+    let mut cells = scattered(alloc, plan, most)?;
+    let wanted = wide(alloc, plan, &cells)?;
+    let mut line = vec![in alloc; 0i32; padded(plan, Component::Y).0 as usize]?;
+    let mut samples = vec![in alloc; 7u16; rows * columns]?;
+    let done = narrow_output(plan, &mut cells, &mut line, &mut samples);
+    Ok(done && are_clipped(&samples, columns, &wanted, shape.luma_depth))
+}
+
+#[test]
+fn outputs_agree_on_each_size(rt: HostRuntime) -> Result<(), Fail> {
+    for wavelet in 0..7 {
+        let pair = (wavelet, 6 - wavelet);
+        let alloc = rt.alloc();
+        assert!(rt; outputs_agree(alloc, &plan(deep(1, 1, 8), pair, (1, 0)), 150)?);
+        assert!(rt; outputs_agree(alloc, &plan(deep(8, 1, 10), pair, (2, 1)), 700)?);
+        assert!(rt; outputs_agree(alloc, &plan(deep(1, 9, 1), pair, (1, 1)), 2)?);
+        assert!(rt; outputs_agree(alloc, &plan(deep(23, 7, 12), pair, (1, 3)), 2_000)?);
+        assert!(rt; outputs_agree(alloc, &plan(deep(40, 17, 16), pair, (3, 0)), 20_000)?);
     }
     Ok(())
 }

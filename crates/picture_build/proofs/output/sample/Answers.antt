@@ -1,7 +1,7 @@
 use Rattle.std.proofs.Common.{rules, ◌≡◌, ◌-◌, ◌^◌, pos, ◌-ℤ◌, neg_ℤ, to_z, of_z, arith, ◌∙◌}
 use Rattle.std.specs.Int.{w128}
 use Rattle.std.proofs.lemmas.Int.{ints, to_z-of_z}
-use Rattle.picture_build.proofs.Samples.{output_sample-is}
+use Rattle.vc_wave.proofs.Clipping.{output_sample-is}
 use Rattle.picture_build.proofs.output.sample.Goals as goal
 
 pub returns : goal.returns

@@ -1,82 +1,13 @@
-use Rattle.std.proofs.Common.{◌≡◌, ◌*◌, ◌^◌, ◌≤◌, length, arith, ap, sym, ◌∙◌}
+use Rattle.std.proofs.Common.{◌*◌, ◌^◌, refl, sym, ◌∙◌}
 use Rattle.vc_types.specs.TransformParameters.{parameters_of}
-use Rattle.vc_types.specs.Transforms.{levels_across, lowest_width}
-use Rattle.vc_wave.specs.Layout.{laid_out, nested_in}
+use Rattle.vc_types.specs.Transforms.{inverse_transform, lowest_width, lowest_height}
 use Rattle.vc_wave.specs.Planes.{plane_of}
-use Rattle.vc_wave.proofs.Grids.{all_levels}
-use Rattle.vc_wave.proofs.NarrowLevels.{transform_made, line_at_most, pitch_fits, apart_room, across_laid, all_rooms, sides_small}
+use Rattle.vc_wave.proofs.NarrowLevels.{last_laid, some_holds}
 use Rattle.vc_wave.proofs.narrow.inverse_narrow.Goals as goal
 
-pub side_at-pitch-requires-clause-fits : goal.side_at-pitch-requires-clause-fits
-side_at-pitch-requires-clause-fits c =
-    let p = parameters_of c.args.plan.now in
-    let room = all_rooms p c.args.c c.lowest-w.result.0 c.lowest-w.result.1 c.args.stride (length c.args.cells.now) (length c.args.line.now) c.lowest-w.ensures.width c.lowest-w.ensures.height c.requires.stride c.requires.cells c.requires.line in
-    let fits = pitch_fits c.args.stride c.lowest-w.result.1 p.depth p.depth (length c.args.cells.now) c.lowest-w.ensures.some.1 (omega arith) room.down in
-    omega (arith, fits)
-
-pub merge_across-requires-clause-room : goal.merge_across-requires-clause-room
-merge_across-requires-clause-room c =
-    let p = parameters_of c.args.plan.now in
-    apart_room c.lowest-w.result.0 c.lowest-w.result.1 p.depth_ho p.depth c.args.stride c.side_at-pitch.result (length c.args.cells.now) (length c.args.line.now) c.side_at-pitch.ensures
-    (all_rooms p c.args.c c.lowest-w.result.0 c.lowest-w.result.1 c.args.stride (length c.args.cells.now) (length c.args.line.now) c.lowest-w.ensures.width c.lowest-w.ensures.height c.requires.stride c.requires.cells c.requires.line)
-
-pub merge_across-requires-clause-bound : goal.merge_across-requires-clause-bound
-merge_across-requires-clause-bound c =
-    let n = c.requires.narrow in
-    let t = transform_made (parameters_of c.args.plan.now) n.most n.fits in
-    record { most = n.most; after = t.made; small = line_at_most n.most c.args.cells.now n.small; fits = t.across }
-
-pub side_at-w-requires-clause-fits : goal.side_at-w-requires-clause-fits
-side_at-w-requires-clause-fits c =
-    let p = parameters_of c.args.plan.now in
-    let small = sides_small p c.args.c c.lowest-w.result.0 c.lowest-w.result.1 c.lowest-w.ensures.width c.lowest-w.ensures.height c.lowest-w.ensures.small.0 c.lowest-w.ensures.small.1 in
-    omega (arith, small.0)
-
-pub merge_levels-requires-clause-small : goal.merge_levels-requires-clause-small
-merge_levels-requires-clause-small c =
-    let p = parameters_of c.args.plan.now in
-    let small = sides_small p c.args.c c.lowest-w.result.0 c.lowest-w.result.1 c.lowest-w.ensures.width c.lowest-w.ensures.height c.lowest-w.ensures.small.0 c.lowest-w.ensures.small.1 in
-    let side = ap (λ n. n * 2 ^ p.depth) c.side_at-w.ensures in
-    (omega (arith, small.1, side), omega (arith, small.2))
-
-pub merge_levels-requires-clause-room : goal.merge_levels-requires-clause-room
-merge_levels-requires-clause-room c =
-    let p = parameters_of c.args.plan.now in
-    let room = all_rooms p c.args.c c.lowest-w.result.0 c.lowest-w.result.1 c.args.stride (length c.args.cells.now) (length c.args.line.now) c.lowest-w.ensures.width c.lowest-w.ensures.height c.requires.stride c.requires.cells c.requires.line in
-    let side = ap (λ n. n * 2 ^ p.depth) c.side_at-w.ensures in
-    record {
-      across = omega (arith, side, room.across);
-      down = omega (arith, room.down, c.merge_across.auto.cells);
-      row = omega (arith, side, room.row, c.merge_across.auto.line);
-      side_by_side = omega arith;
-    }
-
-pub merge_levels-requires-clause-bound : goal.merge_levels-requires-clause-bound
-merge_levels-requires-clause-bound c =
-    let n = c.requires.narrow in
-    let t = transform_made (parameters_of c.args.plan.now) n.most n.fits in
-    record { most = t.made; after = t.after; small = c.merge_across.ensures.small n.most t.made (line_at_most n.most c.args.cells.now n.small) t.across; fits = t.both }
-
 pub returns : goal.returns
-returns c =
+unfolding inverse_transform
+returns c = λ whole.
     let p = parameters_of c.args.plan.now in
-    let w = c.lowest-w.result.0 in
-    let h = c.lowest-w.result.1 in
-    let side = c.side_at-w.result in
-    let stride = c.args.stride in
-    let before = plane_of stride c.args.cells.now in
-    let after = plane_of stride c.merge_across.new.cells in
-    let pitch = c.side_at-pitch.ensures in
-    let room = all_rooms p c.args.c w h stride (length c.args.cells.now) (length c.args.line.now) c.lowest-w.ensures.width c.lowest-w.ensures.height c.requires.stride c.requires.cells c.requires.line in
-    let small = sides_small p c.args.c w h c.lowest-w.ensures.width c.lowest-w.ensures.height c.lowest-w.ensures.small.0 c.lowest-w.ensures.small.1 in
-    let made : plane_of (stride * 2 ^ p.depth) c.merge_across.new.cells ≡ levels_across p.wavelet_ho p.depth_ho w h (plane_of (stride * 2 ^ p.depth) c.args.cells.now) =
-    ap (λ n. plane_of n c.merge_across.new.cells) (sym pitch) ∙ c.merge_across.ensures.made ∙ ap (λ n. levels_across p.wavelet_ho p.depth_ho w h (plane_of n c.args.cells.now)) pitch in
-    let narrow : w * 2 ^ p.depth_ho ≤ stride = omega (arith, small.3, c.requires.stride) in
-    let first : laid_out p.depth (w * 2 ^ p.depth_ho) h before ≡ nested_in p c.args.c stride c.args.cells.now =
-    ap (λ n. laid_out p.depth (n * 2 ^ p.depth_ho) h before) c.lowest-w.ensures.width ∙ ap (λ n. laid_out p.depth (lowest_width p c.args.c * 2 ^ p.depth_ho) n before) c.lowest-w.ensures.height in
-    all_levels p c.args.c w side h (nested_in p c.args.c stride c.args.cells.now) (laid_out p.depth side h after) (plane_of stride c.merge_levels.new.cells)
-    c.lowest-w.ensures.width c.lowest-w.ensures.height c.side_at-w.ensures
-    (ap (λ n. laid_out p.depth n h after) c.side_at-w.ensures
-    ∙ across_laid p.wavelet_ho p.depth_ho p.depth w h stride c.args.cells.now c.merge_across.new.cells narrow made
-    ∙ ap (levels_across p.wavelet_ho p.depth_ho w h) first)
-    c.merge_levels.ensures
+    last_laid p.depth p.depth (lowest_width p c.args.c * 2 ^ p.depth_ho * 2 ^ p.depth) (lowest_height p c.args.c * 2 ^ p.depth) (plane_of c.args.stride c.merge_below.new.cells) refl
+    ∙ some_holds c.merge_below.result _ (sym c.is_some.ensures ∙ whole) c.merge_below.ensures.made

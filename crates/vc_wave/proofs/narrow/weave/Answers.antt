@@ -21,7 +21,7 @@ loop-k-preserved c =
     let odd : to_z w32 (of_z w32 c.settled-in-loop-k.result) ≡ (if c.args.shifted then halved second else second) =
     to_z-of_z w32 c.settled-in-loop-k.result (record { sfits = c.settled-in-loop-k.type_inv }) ∙ c.settled-in-loop-k.ensures ∙ ap (λ z. if c.args.shifted then halved z else z) (to_z-of_z w32 second second_fits) in
     record {
-      even = even_more c.loop-k.cells c.args.start k _ _ within (λ i. if c.args.shifted then halved (line_of line i) else line_of line i) even c.loop-k.invariant.even;
-      odd = odd_more c.loop-k.cells c.args.start k _ _ within (λ i. if c.args.shifted then halved (line_of line (c.args.half + i)) else line_of line (c.args.half + i)) odd c.loop-k.invariant.odd;
-      off = off_more c.loop-k.cells c.args.start k _ _ within c.args.cells.now c.loop-k.invariant.off;
+      even = even_more (pos 0) c.loop-k.cells c.args.start k _ _ within (λ i. if c.args.shifted then halved (line_of line i) else line_of line i) even c.loop-k.invariant.even;
+      odd = odd_more (pos 0) c.loop-k.cells c.args.start k _ _ within (λ i. if c.args.shifted then halved (line_of line (c.args.half + i)) else line_of line (c.args.half + i)) odd c.loop-k.invariant.odd;
+      off = off_more (pos 0) c.loop-k.cells c.args.start k _ _ within c.args.cells.now c.loop-k.invariant.off;
     }

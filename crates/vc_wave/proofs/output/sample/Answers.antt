@@ -2,8 +2,8 @@ use Rattle.std.proofs.Common.{rules, ◌≡◌, ◌-◌, ◌^◌, ◌≤◌, pos
 use Rattle.std.specs.Int.{w32}
 use Rattle.std.proofs.lemmas.Int.{ints, to_z-of_z}
 use Rattle.std.proofs.Math.Pow.{pow_mono}
-use Rattle.picture_build.proofs.Samples.{output_sample-is}
-use Rattle.picture_build.proofs.narrow.sample.Goals as goal
+use Rattle.vc_wave.proofs.Clipping.{output_sample-is}
+use Rattle.vc_wave.proofs.output.sample.Goals as goal
 
 pub returns : goal.returns
 returns c =

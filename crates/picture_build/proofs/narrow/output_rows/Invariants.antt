@@ -1,7 +1,0 @@
-use Rattle.std.proofs.Common.{◌≡◌, ◌+◌, ◌*◌, ◌<◌, ℕ, slice_index_or}
-use Rattle.vc_types.specs.Planes.{output_sample}
-use Rattle.vc_wave.specs.Planes.{plane_of}
-use Rattle.picture_build.proofs.narrow.output_rows.Given as goal
-
-abbrev pub invariant-loop-y : goal.invariant-loop-y
-invariant-loop-y l = (x y : ℕ) → x < l.columns → y < l.y → slice_index_or l.samples (y * l.columns + x) 0 ≡ output_sample l.depth (plane_of l.stride l.cells x y)

@@ -1,0 +1,14 @@
+use Rattle.std.proofs.Common.{◌≡◌, ◌+◌, ◌*◌, ◌<◌, ◌≤◌, ℕ, slice_index_or}
+use Rattle.vc_types.specs.Lifting.{line_of}
+use Rattle.vc_types.specs.Planes.{output_sample}
+use Rattle.vc_types.specs.Wavelets.{is_shifted}
+use Rattle.vc_wave.specs.declared.pass.Direction.TheVariants.{Synthesis}
+use Rattle.vc_wave.specs.Planes.{plane_of}
+use Rattle.vc_wave.specs.Remade.{remade}
+use Rattle.vc_wave.proofs.output.put_rows.Given as goal
+
+abbrev pub invariant-loop-y : goal.invariant-loop-y
+invariant-loop-y l = record {
+  put : (x t : ℕ) → x < l.format.columns → t < l.y → slice_index_or l.samples (t * l.format.columns + x) 0 ≡ output_sample l.format.depth (remade Synthesis l.wavelet (is_shifted l.wavelet) l.half (λ k. plane_of l.pitch l.initial.cells k t) x);
+  left : (i : ℕ) → l.y * l.pitch ≤ i → line_of l.cells i ≡ line_of l.initial.cells i;
+}
