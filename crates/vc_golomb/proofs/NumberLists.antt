@@ -1,6 +1,6 @@
 -- Numbers that are read one after another, by their places and as a list.
 use Rattle.std.proofs.Common.{◌≡◌, ℕ, zero, suc, ◌<◌, ◌≤◌, ◌^◌, ◌-◌, ℤ, unsigned_abs, List, Bool, arith, refl, sym, subst, ◌∙◌}
-use Rattle.std.specs.Prelude.{Result, Ok, Err, OnOk, OnErr, IfOk, IsErr, ◌↔◌}
+use Rattle.std.specs.Prelude.{Result, Ok, Err, OnOk, OnErr, IsErr, ◌↔◌}
 use Rattle.vc_types.specs.Bounded.{bounded_sint, bounded_sints}
 use Rattle.vc_types.specs.Lifting.{line_of}
 use Rattle.vc_golomb.specs.Numbers.{number_at, HasLarge}

@@ -41,50 +41,57 @@ fn sints(block: &Block, count: usize, out: &mut [i32]) -> Result<u32, TooLarge>
     let mut most = MOST_OF_ROW;
     let mut done = 0;
     'numbers: while done < count {
-        done += read_some(&mut left, out, done, &mut most)?;
+        let row = read_row(&mut left, out, done);
+        if row > 0 {
+            done += row;
+        } else {
+            most = most.max(read_long(&mut left, out, done)?);
+            done += 1;
+        }
     }
     Ok(most)
 }
 
-// Puts the next numbers of a block, at least one, into a slice from a place on, and says how many. `most` rises to their
-// magnitudes.
+// Puts the next numbers of a block that have short codes into a slice from a place on, and says how many: none where the
+// next one has a long code.
 #[inline(always)]
-fn read_some(
-    block: &mut Block,
-    out: &mut [i32],
-    at: usize,
-    most: &mut u32,
-) -> Result<usize, TooLarge>
-    requires room { at + 8 ≤ length out.old }
-    requires row { 128 ≤ most.old }
-    ensures some { IfOk result (λ n. (0 < n) × (n ≤ 8)) }
-    ensures on { IfOk result (λ n. (j : ℕ) → j < n
-        → line_of out.new (at + j) ≡ number_at block.old j) }
+fn read_row(block: &mut Block, out: &mut [i32], at: usize) -> usize
+    requires { at + 8 ≤ length out.old }
+    ensures few { result ≤ 8 }
+    ensures on { (j : ℕ) → j < result → line_of out.new (at + j) ≡ number_at block.old j }
     ensures off { (i : ℕ) → i < at → line_of out.new i ≡ line_of out.old i }
-    ensures rest { IfOk result
-        (λ n. (k : ℕ) → number_at block.old (n + k) ≡ number_at block.new k) }
-    ensures most { IfOk result (λ n. (j : ℕ) → j < n
-        → unsigned_abs (line_of out.new (at + j)) ≤ most.new) }
-    ensures rises { most.old ≤ most.new }
-    ensures too_large { OnErr result (2 ^ 30 ≤ unsigned_abs (number_at block.old 0)) }
+    ensures small { (j : ℕ) → j < result → unsigned_abs (line_of out.new (at + j)) ≤ 128 }
+    ensures rest { (k : ℕ) → number_at block.old (result + k) ≡ number_at block.new k }
 {
     let row = row_of(block.peek_twelve());
     if row.count > 0 {
         put_eight(out, at, row.values);
         block.skip(row.bits);
-        return Ok(row.count);
     }
-    // A long code is read apart, so that what the block has stays in registers.
+    row.count
+}
+
+// Puts the next number of a block into a place, and gives its magnitude.
+#[inline(always)]
+fn read_long(block: &mut Block, out: &mut [i32], at: usize) -> Result<u32, TooLarge>
+    requires { at < length out.old }
+    ensures on { OnOk result (line_of out.new at ≡ number_at block.old 0) }
+    ensures off { (i : ℕ) → i < at → line_of out.new i ≡ line_of out.old i }
+    ensures most { IfOk result (λ most. unsigned_abs (line_of out.new at) ≤ most) }
+    ensures rest { OnOk result
+        ((k : ℕ) → number_at block.old (1 + k) ≡ number_at block.new k) }
+    ensures too_large { OnErr result (2 ^ 30 ≤ unsigned_abs (number_at block.old 0)) }
+{
+    // It is read apart, so that what the block has stays in registers.
     let mut apart = block.copy();
-    let number = read_long(&mut apart)?;
+    let number = read_apart(&mut apart)?;
     *block = apart;
     out[at] = number as i32;
-    *most = (*most).max(number.unsigned_abs() as u32);
-    Ok(1)
+    Ok(number.unsigned_abs() as u32)
 }
 
 #[inline(never)]
-fn read_long(block: &mut Block) -> Result<i64, TooLarge>
+fn read_apart(block: &mut Block) -> Result<i64, TooLarge>
     ensures value { IfOk result (λ v. v ≡ (bounded_sint block.old).0) }
     ensures small { IfOk result (λ v. unsigned_abs v < 2 ^ 30) }
     ensures rest { block.new ≡ (bounded_sint block.old).1 }
