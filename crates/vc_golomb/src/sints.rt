@@ -101,8 +101,9 @@ fn read_apart(block: &mut Block) -> Result<i64, TooLarge>
 }
 
 #[inline(always)]
-fn put_eight(out: &mut [i32], at: usize, values: &[i8; 8])
-    requires { at + 8 ≤ length out.old }
+fn put_eight(out: &mut [i32], at: usize, values: &[i8])
+    requires room { at + 8 ≤ length out.old }
+    requires eight { length values.now ≡ 8 }
     ensures on { (j : ℕ) → j < 8 → line_of out.new (at + j) ≡ line_of values.now j }
     ensures off { (i : ℕ) → i < at → line_of out.new i ≡ line_of out.old i }
     ensures small { (j : ℕ) → j < 8 → unsigned_abs (line_of out.new (at + j)) ≤ 128 }
