@@ -1,4 +1,4 @@
-use Rattle.std.proofs.Common.{rules, arith, ◌≡◌, ◌≢◌, ◌<◌, ◌≤◌, ◌^◌, ℕ, unsigned_abs, refl, sym, ap, subst, ◌∙◌, ◌+◌, ◌-◌}
+use Rattle.std.proofs.Common.{arith, ◌≡◌, ◌≢◌, ◌<◌, ◌≤◌, ◌^◌, ℕ, unsigned_abs, refl, sym, ap, subst, ◌∙◌, ◌+◌, ◌-◌}
 use Rattle.std.specs.Prelude.{slice_index_or}
 use Rattle.vc_types.specs.Lifting.{line_of}
 use Rattle.vc_types.specs.Quantisation.{dequantised}

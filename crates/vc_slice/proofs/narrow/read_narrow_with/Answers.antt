@@ -1,4 +1,4 @@
-use Rattle.std.proofs.Common.{rules, arith, sym, ap, ◌∙◌, ◌≤◌, pos, unsigned_abs, subst}
+use Rattle.std.proofs.Common.{rules, sym, ap, ◌∙◌}
 use Rattle.std.specs.Prelude.{slice_index_or}
 use Rattle.vc_types.specs.Quantisation.{dequantised}
 use Rattle.vc_types.specs.Slices.{quantisers, block_coefficients}
