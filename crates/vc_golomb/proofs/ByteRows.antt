@@ -1,7 +1,7 @@
 -- The table says of each twelve bits what numbers' codes they begin with.
 use Rattle.std.proofs.lemmas.Int.{to_z-of_z, fits_signed_from_abs}
 use Rattle.std.specs.Int.{w32, w64}
-use Rattle.std.proofs.Common.{◌≡◌, ◌^◌, unsigned_abs, to_z, of_z, ℕ, zero, suc, ◌+◌, ◌-◌, ◌<◌, ◌≤◌, ℤ, pos, Bool, true, false, eqb, leb, List, [], ◌∷◌, ◌++◌, length, get_or, take, drop, refl, sym, ap, subst, ◌∙◌, arith, inl, inr, length-append, zero-add, suc-add}
+use Rattle.std.proofs.Common.{◌≡◌, ◌^◌, unsigned_abs, to_z, of_z, ℕ, zero, suc, ◌+◌, ◌-◌, ◌*◌, ◌<◌, ◌≤◌, ℤ, pos, Bool, true, false, eqb, leb, List, [], ◌∷◌, ◌++◌, length, get_or, take, drop, refl, sym, ap, subst, ◌∙◌, arith, inl, inr, length-append, zero-add, suc-add}
 use Rattle.std.specs.Prelude.{◌&&◌}
 use Rattle.std.proofs.lemmas.Bool.{and_parts, cases_lt, eqb-true, leb-true}
 use Rattle.std.proofs.lemmas.List.{take-append-drop, drop-drop, get_or-take}
@@ -80,31 +80,35 @@ abbrev is_row : ℕ → List ℤ → ℕ → ℕ → Bool
 is_row twelve values count taken =
     same_bits (codes (take count values)) (take taken (word_bits 12 twelve)) && (eqb (length (take count values)) count && (eqb (length (codes (take count values))) taken && leb count 8))
 
--- rows from one on
-abbrev are_rows : ℕ → List (List ℤ) → List ℕ → List ℕ → Bool
-are_rows twelve [] counts takens = true
-are_rows twelve (values ∷ more) (count ∷ counts) (taken ∷ takens) = is_row twelve values count taken && are_rows (suc twelve) more counts takens
-are_rows twelve (values ∷ more) [] takens = false
-are_rows twelve (values ∷ more) (count ∷ counts) [] = false
+-- rows from one on, each with eight numbers
+abbrev are_rows : ℕ → List ℤ → List ℕ → List ℕ → Bool
+are_rows twelve values [] takens = true
+are_rows twelve values (count ∷ counts) (taken ∷ takens) = is_row twelve (take 8 values) count taken && are_rows (suc twelve) (drop 8 values) counts takens
+are_rows twelve values (count ∷ counts) [] = false
 
 all_rows : are_rows 0 VALUES COUNT BITS ≡ true
 unfolding word_bits sint_bits uint_bits spread_digits
 all_rows = refl
 
-all_values : length VALUES ≡ 4096
-all_values = refl
+all_counts : length COUNT ≡ 4096
+all_counts = refl
 
-row_test : (first k : ℕ) (rows : List (List ℤ)) (counts takens : List ℕ) → are_rows first rows counts takens ≡ true → k < length rows → is_row (first + k) (get_or rows k []) (get_or counts k 0) (get_or takens k 0) ≡ true
-row_test first k [] counts takens all lt = absurd (omega arith)
-row_test first zero (values ∷ more) (count ∷ counts) (taken ∷ takens) all lt =
+-- the eight numbers of a row
+abbrev pub eight_at : ℕ → List ℤ
+eight_at twelve = take 8 (drop (8 * twelve) VALUES)
+
+row_test : (first k : ℕ) (values : List ℤ) (counts takens : List ℕ) → are_rows first values counts takens ≡ true → k < length counts → is_row (first + k) (take 8 (drop (8 * k) values)) (get_or counts k 0) (get_or takens k 0) ≡ true
+row_test first k values [] takens all lt = absurd (omega arith)
+row_test first zero values (count ∷ counts) (taken ∷ takens) all lt =
     let here : first + 0 ≡ first = omega arith in
-    ap (λ (n : ℕ). is_row n values count taken) here ∙ (and_parts (is_row first values count taken) (are_rows (suc first) more counts takens) all).0
-row_test first (suc k) (values ∷ more) (count ∷ counts) (taken ∷ takens) all lt =
+    ap (λ (n : ℕ). is_row n (take 8 values) count taken) here ∙ (and_parts (is_row first (take 8 values) count taken) (are_rows (suc first) (drop 8 values) counts takens) all).0
+row_test first (suc k) values (count ∷ counts) (taken ∷ takens) all lt =
     let there : first + suc k ≡ suc first + k = omega arith in
-    ap (λ (n : ℕ). is_row n (get_or more k []) (get_or counts k 0) (get_or takens k 0)) there
-    ∙ row_test (suc first) k more counts takens (and_parts (is_row first values count taken) (are_rows (suc first) more counts takens) all).1 (omega arith)
-row_test first k (values ∷ more) [] takens all lt = absurd cc
-row_test first k (values ∷ more) (count ∷ counts) [] all lt = absurd cc
+    let behind : drop (8 * suc k) values ≡ drop (8 * k) (drop 8 values) = (let sum : 8 * suc k ≡ 8 + 8 * k = omega arith in ap (λ (n : ℕ). drop n values) sum ∙ sym (drop-drop (8 * k) 8 values)) in
+    ap (λ (n : ℕ). is_row n (take 8 (drop (8 * suc k) values)) (get_or counts k 0) (get_or takens k 0)) there
+    ∙ ap (λ (rest : List ℤ). is_row (suc first + k) (take 8 rest) (get_or counts k 0) (get_or takens k 0)) behind
+    ∙ row_test (suc first) k (drop 8 values) counts takens (and_parts (is_row first (take 8 values) count taken) (are_rows (suc first) (drop 8 values) counts takens) all).1 (omega arith)
+row_test first k values (count ∷ counts) [] all lt = absurd cc
 
 pub record IsRow (twelve : ℕ) (values : List ℤ) (count taken : ℕ) : Type 0 where
   pub front : word_bits 12 twelve ≡ codes (take count values) ++ drop taken (word_bits 12 twelve)
@@ -124,11 +128,11 @@ from_test twelve values count taken test =
       few = leb-true count 8 last.1;
     }
 
-pub row : (twelve : ℕ) → twelve < 4096 → IsRow twelve (get_or VALUES twelve []) (get_or COUNT twelve 0) (get_or BITS twelve 0)
+pub row : (twelve : ℕ) → twelve < 4096 → IsRow twelve (eight_at twelve) (get_or COUNT twelve 0) (get_or BITS twelve 0)
 row twelve small =
-    let within : twelve < length VALUES = omega (arith, all_values) in
+    let within : twelve < length COUNT = omega (arith, all_counts) in
     let here : 0 + twelve ≡ twelve = omega arith in
-    from_test twelve _ _ _ (ap (λ (n : ℕ). is_row n (get_or VALUES twelve []) (get_or COUNT twelve 0) (get_or BITS twelve 0)) (sym here) ∙ row_test 0 twelve VALUES COUNT BITS all_rows within)
+    from_test twelve _ _ _ (ap (λ (n : ℕ). is_row n (eight_at twelve) (get_or COUNT twelve 0) (get_or BITS twelve 0)) (sym here) ∙ row_test 0 twelve VALUES COUNT BITS all_rows within)
 
 row_begins : (twelve : ℕ) (values : List ℤ) (count taken : ℕ) (bits : List Bool) → IsRow twelve values count taken → BeginsWith bits (word_bits 12 twelve) → BeginsWith bits (codes (take count values))
 row_begins twelve values count taken bits r begin = front_begins bits (codes (take count values)) (drop taken (word_bits 12 twelve)) (subst (BeginsWith bits) r.front begin)

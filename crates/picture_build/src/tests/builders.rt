@@ -1,15 +1,16 @@
-ghost use Rattle.std.specs.Prelude.{◌≡◌, ◌<◌, true};
+ghost use Rattle.std.specs.Prelude.{◌≡◌, ◌<◌, true, IsTrue};
+ghost use Rattle.vc_types.specs.Limits.{shape_fits, padded_luma_fits};
 ghost use Rattle.vc_types.specs.SliceCoefficients.{AreSliceCoefficients};
 ghost use Rattle.vc_types.specs.Subbands.{slice_count};
 ghost use Rattle.vc_types.specs.TransformParameters.{parameters_of};
 ghost use Rattle.picture_build.specs.Kept.{HasAllSlices};
 
-use super::{decoded, one_slice, two_levels, two_slices};
+use super::{built, decoded, one_slice, two_levels, two_slices};
 use crate::{NotPut, PictureBuilder};
 use std::alloc::Global;
 use std::test::Fail;
 use vc_slice::{SliceCoeffs, cut};
-use vc_types::{Plan, Plane, Unsound};
+use vc_types::{Plan, Plane, Shape, Unsound};
 
 // Luma 14 at index 127, which takes 34 bits.
 const WIDE: &'static [u8] = &[127, 1, 0x56, 0, 0];
@@ -227,5 +228,75 @@ fn larger_coefficients_are_transformed_in_more(rt: HostRuntime) -> Result<(), Fa
         128, 128, 255, 255, 255, 255, 128, 128, 128, 128,
     ];
     assert_eq!(rt; planes[0].samples(), rows.as_slice());
+    Ok(())
+}
+
+// So many columns and 4 rows of each component.
+fn columns(width: u32) -> Shape
+    ensures { result ≡ record {
+      luma_width = width;
+      luma_height = 4;
+      colour_width = width;
+      colour_height = 4;
+      luma_depth = 8;
+      colour_depth = 8;
+    } }
+{
+    Shape {
+        luma_width: width,
+        luma_height: 4,
+        colour_width: width,
+        colour_height: 4,
+        luma_depth: 8,
+        colour_depth: 8,
+    }
+}
+
+// One slice of wavelet 3 at depth 1.
+fn one_slice_of(shape: Shape) -> Plan
+    requires shape { IsTrue (shape_fits shape) }
+    requires padded { IsTrue (padded_luma_fits shape 0 1) }
+    ensures { (result.slices_x ≡ 1) × (result.slices_y ≡ 1) }
+{
+    Plan {
+        shape,
+        wavelet: 3,
+        wavelet_ho: 3,
+        depth: 1,
+        depth_ho: 0,
+        slices_x: 1,
+        slices_y: 1,
+        prefix: 0,
+        scaler: 1,
+        matrix: [0; 16],
+    }
+}
+
+// Codes of all lengths up to 20 bits.
+const CODES: &'static [u8] = &[
+    23, 28, 0x21, 0x4c, 0x58, 0x05, 0xd3, 0x64, 0xcc, 0x25, 0xd8, 0x35, 0xd3, 0xcc, 0xcc, 0xa6,
+    0x46, 0x64, 0x45, 0x00, 0x05, 0x9b, 0x7f, 0x12, 0x84, 0xe1, 0x10, 0x3c, 0x58, 0xaa, 4, 0x46,
+    0x1c, 0x00, 0x93, 2, 0x2d, 0x60,
+];
+
+fn is_put_as_filled(alloc: Global, plan: Plan) -> Result<bool, Fail>
+    requires { (plan.slices_x ≡ 1) × (plan.slices_y ≡ 1) }
+{
+    let put = put_alone(alloc, plan, CODES)?;
+    let filled = built(alloc, plan, &[CODES])?;
+    Ok(
+        put[0].samples() == filled[0].samples()
+            && put[1].samples() == filled[1].samples()
+            && put[2].samples() == filled[2].samples(),
+    )
+}
+
+// The rows of a subband have half as many cells: one at a time, a few at once, and more than eight.
+#[test]
+fn coefficients_are_put_where_they_are_filled_in(rt: HostRuntime) -> Result<(), Fail> {
+    assert!(rt; is_put_as_filled(rt.alloc(), one_slice_of(columns(2)))?);
+    assert!(rt; is_put_as_filled(rt.alloc(), one_slice_of(columns(6)))?);
+    assert!(rt; is_put_as_filled(rt.alloc(), one_slice_of(columns(16)))?);
+    assert!(rt; is_put_as_filled(rt.alloc(), one_slice_of(columns(40)))?);
     Ok(())
 }

@@ -1,5 +1,4 @@
-use Rattle.std.proofs.Common.{arith}
-use Rattle.vc_golomb.proofs.OnesBefore.{ones_bits, ones_fit, ones_within, some_ones}
+use Rattle.vc_golomb.proofs.OnesBefore.{ones_bits, ones_fit}
 use Rattle.vc_golomb.proofs.short.behind_ones.Goals as goal
 
 pub returns-clause-value : goal.returns-clause-value
