@@ -4,6 +4,7 @@
 mod last;
 mod laws;
 mod matrix;
+mod quantising;
 mod quantiser;
 mod quotient;
 mod reciprocal;
