@@ -21,10 +21,10 @@ row_within row height width from len h inside =
     let below = mul-le-mul_right width next in
     omega (arith, below)
 
-module _ (r : Rect) (stride from : ℕ) (coeffs : List ℤ) where
+module _ (r : Rect) (stride from : ℕ) (coeffs : ℕ → ℤ) where
   -- the first rows have their coefficients
   abbrev pub FirstRows : ℕ → List ℤ → Type 0
-  FirstRows row cells = (x y : ℕ) → x < r.width → y < row → line_of cells ((r.y + y) * stride + (r.x + x)) ≡ line_of coeffs (from + (y * r.width + x))
+  FirstRows row cells = (x y : ℕ) → x < r.width → y < row → line_of cells ((r.y + y) * stride + (r.x + x)) ≡ coeffs (from + (y * r.width + x))
 
   -- cells outside the rectangle are as before
   abbrev pub OthersKept : List ℤ → List ℤ → Type 0
@@ -36,14 +36,14 @@ module _ (r : Rect) (stride from : ℕ) (coeffs : List ℤ) where
       ∙ ap (λ n. (r.y + row) * stride + (r.x + n)) (mod-mul-add row r.width x h)
 
   module _ (wide : r.x + r.width ≤ stride) (row : ℕ) (below : row < r.height) (old new : List ℤ)
-      (on : (x : ℕ) → x < r.width → line_of new ((r.y + row) * stride + r.x + x) ≡ line_of coeffs (from + row * r.width + x))
+      (on : (x : ℕ) → x < r.width → line_of new ((r.y + row) * stride + r.x + x) ≡ coeffs (from + row * r.width + x))
       (off : (k : ℕ) → (k < (r.y + row) * stride + r.x) ⊎ ((r.y + row) * stride + r.x + r.width ≤ k) → line_of new k ≡ line_of old k) where
     pub rows_more : FirstRows row old → FirstRows (row + 1) new
     rows_more before x y h lt = elim (cases_eq y row) [
       | inl e ↦ rw e (
           let place : (r.y + row) * stride + (r.x + x) ≡ (r.y + row) * stride + r.x + x = omega arith in
           let number : from + row * r.width + x ≡ from + (row * r.width + x) = omega arith in
-          ap (line_of new) place ∙ on x h ∙ ap (line_of coeffs) number)
+          ap (line_of new) place ∙ on x h ∙ ap coeffs number)
       | inr ne ↦ (
           let earlier : y < row = omega arith in
           let above = mul-add-lt (r.y + y) stride (r.x + x) (r.y + row) (omega arith) (omega arith) in
@@ -62,12 +62,12 @@ module _ (r : Rect) (stride from : ℕ) (coeffs : List ℤ) where
             let here = number_at row x column in
             absurd (none (row * r.width + x) (mul-add-lt row r.width x r.height below column) (omega (arith, here)))
 
-  pub rows_all : (cells : List ℤ) → FirstRows r.height cells → (j : ℕ) → j < area r → line_of cells (cell_number stride (place_in r j)) ≡ line_of coeffs (from + j)
+  pub rows_all : (cells : List ℤ) → FirstRows r.height cells → (j : ℕ) → j < area r → line_of cells (cell_number stride (place_in r j)) ≡ coeffs (from + j)
   rows_all cells rows j h =
       let turned : j < r.height * r.width = omega arith in
       let some : 0 < r.width = some_columns (cases_lt 0 r.width) in
       let whole : j / r.width * r.width + j % r.width ≡ j = omega arith in
-      rows (j % r.width) (j / r.width) (mod_below j r.width some) (div_below j r.width r.height some turned) ∙ ap (λ n. line_of coeffs (from + n)) whole
+      rows (j % r.width) (j / r.width) (mod_below j r.width some) (div_below j r.width r.height some turned) ∙ ap (λ n. coeffs (from + n)) whole
     where
       some_columns : (0 < r.width) ⊎ (r.width ≤ 0) → 0 < r.width
       some_columns (inl some) = some

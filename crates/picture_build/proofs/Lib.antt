@@ -17,6 +17,7 @@ pub mod PlacedNumbers
 pub mod KeptSlices
 pub mod InCells
 pub mod SeenSlices
+pub mod DequantisedNumbers
 pub mod Entries
 pub mod FilledSlices
 pub mod NarrowPlanes

@@ -17,8 +17,8 @@ use Rattle.picture_build.specs.Kept.{kept_at}
 
 module _ (p : Parameters) (c : Component) where
   -- the first coefficients of a slice stand at their places
-  abbrev pub FirstStand : ℕ → List ℤ → ℕ → List ℤ → Type 0
-  FirstStand slice coeffs n cells = (i : ℕ) → i < n → line_of cells (kept_at p c slice i) ≡ line_of coeffs i
+  abbrev pub FirstStand : ℕ → (ℕ → ℤ) → ℕ → List ℤ → Type 0
+  FirstStand slice coeffs n cells = (i : ℕ) → i < n → line_of cells (kept_at p c slice i) ≡ coeffs i
 
   -- cells of no coefficient of a slice are as before
   abbrev pub OthersStay : ℕ → ℕ → List ℤ → List ℤ → Type 0
@@ -44,8 +44,8 @@ module _ (p : Parameters) (c : Component) where
         omega (arith, below)
 
     -- a coefficient more
-    module _ (slice i : ℕ) (coeffs old new : List ℤ) (place : ℕ) (numbered : slice < slice_count p) (below : i < slice_coefficient_count p c slice) (is : place ≡ kept_at p c slice i)
-        (on : line_of new place ≡ line_of coeffs i) (off : (k : ℕ) → k ≢ place → line_of new k ≡ line_of old k) where
+    module _ (slice i : ℕ) (coeffs : ℕ → ℤ) (old new : List ℤ) (place : ℕ) (numbered : slice < slice_count p) (below : i < slice_coefficient_count p c slice) (is : place ≡ kept_at p c slice i)
+        (on : line_of new place ≡ coeffs i) (off : (k : ℕ) → k ≢ place → line_of new k ≡ line_of old k) where
       pub one_stands : FirstStand slice coeffs i old → FirstStand slice coeffs (i + 1) new
       one_stands before j h = elim (cases_eq j i) [
         | inl e ↦ rw e (ap (line_of new) (sym is) ∙ on)
@@ -58,7 +58,7 @@ module _ (p : Parameters) (c : Component) where
       one_stays first before k none = off k (λ e. none i below (e ∙ is)) ∙ before k none
 
     -- a subband more
-    module _ (slice b from : ℕ) (r : Rect) (coeffs old new : List ℤ) (numbered : slice < slice_count p) (inside : b < subband_count p.depth_ho p.depth)
+    module _ (slice b from : ℕ) (r : Rect) (coeffs : ℕ → ℤ) (old new : List ℤ) (numbered : slice < slice_count p) (inside : b < subband_count p.depth_ho p.depth)
         (is : r ≡ rectangle p c slice b) (at : from ≡ coefficients_before p c slice b) where
       pub subband_within : from + area r ≤ slice_coefficient_count p c slice
       subband_within =
@@ -78,7 +78,7 @@ module _ (p : Parameters) (c : Component) where
           ∙ ap (cell_number (padded_width p c)) (sym (walked p c slice b inside j (subst (λ q. j < area q) is h)))
           ∙ ap (λ n. kept_at p c slice (n + j)) (sym at)
 
-      module _ (on : (j : ℕ) → j < area r → line_of new (cell_number (padded_width p c) (place_in r j)) ≡ line_of coeffs (from + j))
+      module _ (on : (j : ℕ) → j < area r → line_of new (cell_number (padded_width p c) (place_in r j)) ≡ coeffs (from + j))
           (off : (k : ℕ) → ((j : ℕ) → j < area r → k ≢ cell_number (padded_width p c) (place_in r j)) → line_of new k ≡ line_of old k) where
         pub subband_stands : FirstStand slice coeffs from old → FirstStand slice coeffs (from + area r) new
         subband_stands before i h = elim (cases_lt i from) [
@@ -89,14 +89,14 @@ module _ (p : Parameters) (c : Component) where
           | inr ge ↦ (
               let number : from + (i - from) ≡ i = omega arith in
               let here : i - from < area r = omega arith in
-              ap (λ n. line_of new (kept_at p c slice n)) (sym number) ∙ ap (line_of new) (sym (there (i - from) here)) ∙ on (i - from) here ∙ ap (line_of coeffs) number)
+              ap (λ n. line_of new (kept_at p c slice n)) (sym number) ∙ ap (line_of new) (sym (there (i - from) here)) ∙ on (i - from) here ∙ ap coeffs number)
         ]
 
         pub subband_stays : (first : List ℤ) → OthersStay slice (slice_coefficient_count p c slice) first old → OthersStay slice (slice_coefficient_count p c slice) first new
         subband_stays first before k none =
             off k (λ j g e. none (from + j) (let below = subband_within in omega arith) (e ∙ there j g)) ∙ before k none
 
-    pub all_stand : (slice b from : ℕ) (coeffs cells : List ℤ) → b ≡ subband_count p.depth_ho p.depth → from ≡ coefficients_before p c slice b
+    pub all_stand : (slice b from : ℕ) (coeffs : ℕ → ℤ) (cells : List ℤ) → b ≡ subband_count p.depth_ho p.depth → from ≡ coefficients_before p c slice b
         → FirstStand slice coeffs from cells → FirstStand slice coeffs (slice_coefficient_count p c slice) cells
     all_stand slice b from coeffs cells e at before i h =
         let all = coefficients_before-all p c slice b e in

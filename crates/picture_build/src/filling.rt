@@ -1,15 +1,16 @@
-ghost use Rattle.std.specs.Prelude.{◌≡◌, ◌≢◌, ◌+◌, ◌*◌, ◌^◌, ◌<◌, ◌≤◌, ℕ, length, true, false, unsigned_abs, Some, Ok, OnOk};
+ghost use Rattle.std.specs.Prelude.{◌≡◌, ◌≢◌, ◌+◌, ◌*◌, ◌^◌, ◌<◌, ◌≤◌, ℕ, length, true, false, slice_index_or, unsigned_abs, Some, Ok, OnOk};
 ghost use Rattle.std.specs.List.{list_any};
 ghost use Rattle.vc_types.specs.declared.video.Component.{Component};
 ghost use Rattle.vc_types.specs.declared.video.Component.TheVariants.{Y, C1, C2};
 ghost use Rattle.vc_types.specs.Lifting.{line_of};
 ghost use Rattle.vc_types.specs.SliceCoefficients.{AreSliceCoefficients};
-ghost use Rattle.vc_types.specs.Slices.{all_coefficients, block_coefficients, coefficients_of, decoded_slice, in_range, is_large, slice_coefficients, slice_length};
+ghost use Rattle.vc_types.specs.Slices.{all_coefficients, block_coefficients, coefficients_of, decoded_slice, in_range, is_large, quantisers, slice_coefficients, slice_length};
 ghost use Rattle.vc_geometry.specs.Rectangles.{AreSliceRectangles};
-ghost use Rattle.vc_types.specs.Quantisation.{subband_count};
+ghost use Rattle.vc_types.specs.Quantisation.{dequantised, subband_count};
 ghost use Rattle.vc_types.specs.Subbands.{area, place_in, padded_width, padded_height, slice_count, slice_coefficient_count, slice_rectangle, subband_at};
 ghost use Rattle.vc_types.specs.TransformParameters.{parameters_of};
 ghost use Rattle.vc_slice.specs.Coded.{coded_of};
+ghost use Rattle.vc_slice.specs.Numbers.{AreUpTo};
 ghost use Rattle.vc_slice.specs.Quantisers.{AreSliceQuantisers};
 ghost use Rattle.picture_build.specs.Cells.{cell_number};
 ghost use Rattle.picture_build.specs.Kept.{kept_at, ChangesOnly, FillsSlice};
@@ -18,8 +19,7 @@ use crate::cells::CoefficientCells;
 use vc_geometry::{bands, padded, place_of, slice_len, slice_rects};
 use vc_quant::Quantiser;
 use vc_slice::{
-    CodedSlice, CoefficientList, SliceCoeffs, TooWide, coded_slice, read_narrow_with,
-    slice_quantisers,
+    CodedSlice, CoefficientList, SliceCoeffs, TooWide, coded_slice, read_numbers, slice_quantisers,
 };
 use vc_types::{Component, Plan, Rect};
 
@@ -231,8 +231,58 @@ fn put_block(
     ensures sound { OnOk result (list_any is_large
         (block_coefficients (parameters_of plan.now) c slice index block.now) ≡ false) }
 {
-    read_narrow_with(plan, c, slice, index, block, rects, quantisers, numbers)?;
-    place_numbers(plan, c, slice, rects, numbers, cells);
+    let greatest = read_numbers(plan, c, slice, index, block, rects, numbers)?;
+    dequantise_numbers(
+        plan, c, slice, index, rects, quantisers, numbers, greatest, cells,
+    )
+}
+
+// Puts the coefficients that a block's numbers stand for at their places. Where one may be too wide, only cells of this
+// slice were changed.
+fn dequantise_numbers(
+    plan: &Plan,
+    c: Component,
+    slice: u32,
+    index: u8,
+    rects: &[Rect],
+    by_subband: &[Quantiser],
+    numbers: &[i32],
+    greatest: u32,
+    cells: &mut CoefficientCells,
+) -> Result<(), TooWide>
+    requires slice { slice < slice_count (parameters_of plan.now) }
+    requires rects { AreSliceRectangles (parameters_of plan.now) c slice rects.now }
+    requires all { subband_count plan.now.depth_ho plan.now.depth ≤ length rects.now }
+    requires quantisers { AreSliceQuantisers (parameters_of plan.now) index by_subband.now }
+    requires known { subband_count plan.now.depth_ho plan.now.depth ≤ length by_subband.now }
+    requires count { slice_coefficient_count (parameters_of plan.now) c slice ≤ length numbers.now }
+    requires small { AreUpTo greatest (slice_coefficient_count (parameters_of plan.now) c slice)
+        numbers.now }
+    requires cells { length cells.old
+        ≡ padded_height (parameters_of plan.now) c * padded_width (parameters_of plan.now) c }
+    ensures on { OnOk result
+        ((i : ℕ) → i < slice_coefficient_count (parameters_of plan.now) c slice
+        → line_of cells.new (kept_at (parameters_of plan.now) c slice i)
+        ≡ dequantised (line_of numbers.now i)
+        (slice_index_or (quantisers (parameters_of plan.now) c slice index) i 0)) }
+    ensures narrow { OnOk result
+        ((i : ℕ) → i < slice_coefficient_count (parameters_of plan.now) c slice
+        → unsigned_abs (line_of cells.new (kept_at (parameters_of plan.now) c slice i)) < 2 ^ 29) }
+    ensures off { (k : ℕ) → ((i : ℕ) → i < slice_coefficient_count (parameters_of plan.now) c slice
+        → k ≢ kept_at (parameters_of plan.now) c slice i)
+        → line_of cells.new k ≡ line_of cells.old k }
+    ensures length { length cells.new ≡ length cells.old }
+{
+    let (width, _) = padded(plan, c);
+    let mut from = 0;
+    for b in 0..bands(plan) {
+        let rect = rect_at(plan, c, slice, rects, b);
+        let Some(quantiser) = by_subband[b as usize].narrow(greatest) else {
+            return Err(TooWide);
+        };
+        cells.put_rect(&rect, width as usize, numbers, from, &quantiser);
+        from += rect.width as usize * rect.height as usize;
+    }
     Ok(())
 }
 

@@ -4,6 +4,7 @@
 mod builder;
 mod building;
 mod cells;
+mod dequantising;
 mod filling;
 mod finishing;
 mod narrow;

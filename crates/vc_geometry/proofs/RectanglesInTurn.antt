@@ -1,16 +1,25 @@
 -- A slice's rectangles, one after another.
-use Rattle.std.proofs.Common.{◌≡◌, ℕ, ◌+◌, ◌<◌, ◌≤◌, List, length, set, arith, ap, sym, subst, ◌∙◌, inl, inr}
+use Rattle.std.proofs.Common.{◌≡◌, ℕ, ◌+◌, ◌-◌, ◌<◌, ◌≤◌, List, length, set, arith, ap, refl, sym, subst, ◌∙◌, inl, inr}
 use Rattle.std.specs.Prelude.{slice_index_or}
 use Rattle.std.proofs.lemmas.Bool.{cases_eq}
 use Rattle.std.proofs.lemmas.List.{get_or-set_same, get_or-set_other}
 use Rattle.vc_types.specs.declared.rect.Rect.{Rect}
 use Rattle.vc_types.specs.declared.video.Component.{Component}
-use Rattle.vc_types.specs.Subbands.{share, subband_at, subband_rectangle, slice_rectangle, slice_column, slice_row, padded_width, padded_height}
+use Rattle.vc_types.specs.Subbands.{rect, share, share_start, subband_at, subband_rectangle, slice_rectangle, slice_column, slice_row, padded_width, padded_height}
 use Rattle.vc_types.specs.TransformParameters.{Parameters}
+use Rattle.vc_types.proofs.SliceRectangles.{share-computed}
 use Rattle.vc_geometry.specs.Rectangles.{ArePartsOf}
 
 pub part_at : (r : Rect) (across down column row k t : ℕ) → column ≡ k → row ≡ t → share r across down column row ≡ share r across down k t
 part_at r across down column row k t same also = ap (λ n. share r across down n row) same ∙ ap (λ n. share r across down k n) also
+
+-- a part by where it begins and ends
+pub spanned : (r : Rect) (across down column row left right top bottom : ℕ) → left ≡ share_start r.width across column → right ≡ share_start r.width across (column + 1)
+    → top ≡ share_start r.height down row → bottom ≡ share_start r.height down (row + 1)
+    → rect (r.x + left) (r.y + top) (right - left) (bottom - top) ≡ share r across down column row
+spanned r across down column row left right top bottom first last above below =
+    share-computed r r across down column row left top (right - left) (bottom - top) refl first above (ap (λ n. n - left) last ∙ ap (λ n. share_start r.width across (column + 1) - n) first)
+    (ap (λ n. n - top) below ∙ ap (λ n. share_start r.height down (row + 1) - n) above)
 
 module _ (p : Parameters) (c : Component) (slice b : ℕ) (rects : List Rect) (band r : Rect) (inside : b < length rects)
     (is : band ≡ subband_rectangle p c (subband_at p.depth_ho p.depth b)) (value : r ≡ share band p.slices_x p.slices_y (slice_column p slice) (slice_row p slice))

@@ -3,14 +3,17 @@
 
 mod laws;
 mod padding;
+mod parts;
 mod places;
 mod slices;
+mod spans;
 mod subbands;
 
 pub use laws::each_cell_is_met_once;
 pub use padding::padded;
+pub use parts::slice_rects;
 pub use places::place_of;
-pub use slices::{slice_len, slice_rect, slice_rects};
+pub use slices::{slice_len, slice_rect};
 pub use subbands::{band, bands};
 pub use vc_types::Rect;
 

@@ -1,6 +1,8 @@
 ghost use Rattle.std.specs.Prelude.{◌≡◌, ◌*◌, ◌<◌};
 
-use crate::{Rect, band, bands, each_cell_is_met_once, padded, place_of, slice_len, slice_rect};
+use crate::{
+    Rect, band, bands, each_cell_is_met_once, padded, place_of, slice_len, slice_rect, slice_rects,
+};
 use vc_types::{Component, Plan, Shape};
 
 // 8 by 4 luma, 4 by 4 colour, one level, two slices side by side.
@@ -238,4 +240,23 @@ fn numbers_places_by_subband_and_row(rt: HostRuntime) {
 #[test]
 fn the_law_can_be_cited() {
     each_cell_is_met_once(&two_slices(), Component::C1);
+}
+
+#[test]
+fn all_rectangles_of_a_slice_are_each_of_them(rt: HostRuntime) {
+    for plan in [two_slices(), odd_sizes(), one_sample(), levels_across()] {
+        for c in [Component::Y, Component::C2] {
+            for slice in 0..plan.slices_x * plan.slices_y {
+                let mut rects = [rect(0, 0, 0, 0); 16];
+                slice_rects(&plan, c, slice, &mut rects);
+                for b in 0..bands(&plan) {
+                    assert_eq!(rt;
+                        rects[b as usize],
+                        slice_rect(&plan, c, b, slice),
+                        "slice {slice}, subband {b}"
+                    );
+                }
+            }
+        }
+    }
 }

@@ -5,7 +5,8 @@ use Rattle.std.proofs.lemmas.Bool.{and_parts, cases_lt, eqb-true, leb-true}
 use Rattle.std.proofs.Math.Nat.{mul-le-mul_right, mul-le-mul_left, div-mul-le_self, lt-div-mul-add, div-eq_of_lt-le, pow-le-pow_right, pow-suc, le-div_iff_mul-le}
 use Rattle.vc_types.specs.Quantisation.{quant_factor}
 use Rattle.vc_quant.specs.Reciprocal.{IsReciprocal}
-use Rattle.vc_quant.specs.declared.last.TheConstants.{FACTORS, LASTS, RECIPROCALS}
+use Rattle.vc_quant.specs.declared.factors.TheConstants.{FACTORS}
+use Rattle.vc_quant.specs.declared.last.TheConstants.{LASTS, RECIPROCALS}
 use Rattle.vc_quant.specs.declared.reciprocal.TheConstants.{FACTOR_RECIPROCALS}
 
 -- ---- a quotient
@@ -97,6 +98,17 @@ pub rises : (q r : ℕ) → q ≤ r → r ≤ 127 → quant_factor q ≤ quant_f
 rises q r le within =
     let same : q + (r - q) ≡ r = omega arith in
     subst (λ (k : ℕ). quant_factor q ≤ quant_factor k) same (rises_by (r - q) q (omega arith))
+
+least : quant_factor 0 ≡ 4
+unfolding quant_factor
+least = refl
+
+greatest : quant_factor 127 ≡ 14446490411
+unfolding quant_factor
+greatest = refl
+
+pub factor_range : (q : ℕ) → q ≤ 127 → (4 ≤ quant_factor q) × (quant_factor q < 2 ^ 34)
+factor_range q within = (omega (arith, least, rises 0 q (omega arith) within), omega (arith, greatest, rises q 127 within (omega arith)))
 
 -- where one index is the last
 pub last_is : (last quarters : ℕ) → last ≤ 127 → quant_factor last ≤ quarters → (last < 127 → quarters < quant_factor (last + 1)) → (q : ℕ) → q ≤ 127 → (quant_factor q ≤ quarters) ↔ (q ≤ last)

@@ -1,27 +1,22 @@
-ghost use Rattle.std.specs.Prelude.{◌≡◌, ◌+◌, ◌*◌, ◌/◌, ◌^◌, ◌<◌, ◌≤◌, ◌↔◌, All, length, unsigned_abs, true, false, ℕ, ℤ};
+ghost use Rattle.std.specs.Prelude.{◌≡◌, ◌+◌, ◌*◌, ◌/◌, ◌^◌, ◌<◌, ◌≤◌, ◌↔◌, All, IfSome, IsSome, length, unsigned_abs, true, false, ℕ, ℤ};
 ghost use Rattle.vc_types.specs.Lifting.{line_of};
 ghost use Rattle.vc_types.specs.Quantisation.{quant_factor, quant_offset, dequantised, dequantised_magnitude, quantised, with_sign_of};
 ghost use Rattle.vc_quant.specs.Narrow.{IsNarrow};
 ghost use Rattle.vc_quant.specs.Reciprocal.{IsReciprocal};
 
+use crate::factors::FACTORS;
+use crate::narrow::NarrowQuantiser;
 use crate::quantising::{NARROW, narrow_reciprocal, quantise};
 use crate::quotient::quotient;
 use crate::reciprocal::factor_reciprocal;
 
 /// The quantisation factor of an index from 0 to 127, in quarters (ST 2042-1, quantisation factor).
-#[tactic(auto, unfolding(vc_types::specs::Quantisation::quant_factor))]
 pub fn factor(q: u8) -> u64
     requires index { q ≤ 127 }
     ensures value { result ≡ quant_factor q }
     ensures range { (4 ≤ result) × (result < 2 ^ 34) }
 {
-    let power = 1u64 << (q / 4);
-    match q % 4 {
-        0 => 4 * power,
-        1 => (503829 * power + 52958) / 105917,
-        2 => (665857 * power + 58854) / 117708,
-        _ => (440253 * power + 32722) / 65444,
-    }
+    FACTORS[q as usize]
 }
 
 /// The quantisation offset of an index from 0 to 127, in quarters (ST 2042-1, quantisation offset).
@@ -107,11 +102,31 @@ impl Quantiser {
         ensures unchanged { result ≡ false → numbers.new ≡ numbers.old }
         ensures exactly { (result ≡ true) ↔ IsNarrow greatest self.now.index }
     {
-        if !self.is_narrow(greatest) {
+        let Some(narrow) = self.narrow(greatest) else {
             return false;
+        };
+        for number in numbers.iter_mut() {
+            *number = narrow.dequant(*number);
         }
-        dequantise(numbers, self.factor as u32, self.offset as u32, greatest);
         true
+    }
+
+    /// The same for numbers up to the greatest magnitude, where their coefficients surely fit 32 bits.
+    #[inline]
+    pub fn narrow(&self, greatest: u32) -> Option<NarrowQuantiser>
+        ensures same { IfSome result
+            (λ narrow. (narrow.index ≡ self.now.index) × (narrow.greatest ≡ greatest)) }
+        ensures exactly { IsSome result ↔ IsNarrow greatest self.now.index }
+    {
+        if !self.is_narrow(greatest) {
+            return None;
+        }
+        Some(NarrowQuantiser {
+            index: self.index,
+            greatest,
+            factor: self.factor as u32,
+            offset: self.offset as u32,
+        })
     }
 
     /// Puts in the place of coefficients the numbers that this encoder quantises them to: `greatest` is at least each
@@ -177,34 +192,6 @@ impl Quantiser {
         }
         (u128::from(size) * u128::from(self.factor) + u128::from(self.offset) + 2) / 4
     }
-}
-
-fn dequantise(numbers: &mut [i32], factor: u32, offset: u32, greatest: u32)
-    requires numbers { All (λ z. unsigned_abs z ≤ greatest) numbers.old }
-    requires room { greatest * factor + offset + 2 < 2 ^ 31 }
-    ensures { (k : ℕ) → k < length numbers.old → line_of numbers.new k
-        ≡ with_sign_of (line_of numbers.old k)
-        (dequantised_magnitude (unsigned_abs (line_of numbers.old k)) factor offset) }
-{
-    for number in numbers.iter_mut() {
-        *number = coefficient(*number, factor, offset);
-    }
-}
-
-#[inline(always)]
-fn coefficient(number: i32, factor: u32, offset: u32) -> i32
-    requires room { unsigned_abs number * factor + offset + 2 < 2 ^ 31 }
-    ensures { result ≡ with_sign_of number
-        (dequantised_magnitude (unsigned_abs number) factor offset) }
-{
-    let size = number.unsigned_abs();
-    let size = if size == 0 {
-        0
-    } else {
-        (size * factor + offset + 2) / 4
-    };
-    let size = size as i32;
-    if number < 0 { -size } else { size }
 }
 
 /// The coefficient that the number `m` stands for at index `q`.

@@ -3,6 +3,7 @@ pub mod Coded
 pub mod Refusals
 pub mod Inside
 pub mod Falls
+pub mod Numbers
 pub mod OneBlock
 pub mod Listed
 pub mod Quantisers

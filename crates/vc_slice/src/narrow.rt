@@ -1,4 +1,4 @@
-ghost use Rattle.std.specs.Prelude.{◌≡◌, ◌+◌, ◌^◌, ◌<◌, ◌≤◌, ◌⊎◌, ℕ, All, OnOk, length, slice_index_or, unsigned_abs, true, false};
+ghost use Rattle.std.specs.Prelude.{◌≡◌, ◌+◌, ◌^◌, ◌<◌, ◌≤◌, ◌⊎◌, ℕ, All, IfOk, OnOk, length, slice_index_or, unsigned_abs, true, false};
 ghost use Rattle.std.specs.List.{list_any};
 ghost use Rattle.vc_types.specs.Lifting.{line_of};
 ghost use Rattle.vc_types.specs.Quantisation.{dequantised, subband_count};
@@ -6,6 +6,7 @@ ghost use Rattle.vc_types.specs.Slices.{block_coefficients, is_large, quantisers
 ghost use Rattle.vc_geometry.specs.Rectangles.{AreSliceRectangles};
 ghost use Rattle.vc_types.specs.Subbands.{slice_count, slice_coefficient_count};
 ghost use Rattle.vc_types.specs.TransformParameters.{parameters_of};
+ghost use Rattle.vc_slice.specs.Numbers.{AreBlockNumbers, AreUpTo};
 ghost use Rattle.vc_slice.specs.Quantisers.{AreSliceQuantisers};
 
 use crate::component::{bits_of, quantiser};
@@ -14,6 +15,9 @@ use vc_geometry::bands;
 use vc_golomb::read_sints;
 use vc_quant::Quantiser;
 use vc_types::{Component, Plan, Rect};
+
+// From here on factors have more than 20 binary digits.
+const LARGE_INDEX: u8 = 80;
 
 /// A coefficient may be too wide for 32 bits.
 #[derive(Clone, Copy, Debug, PartialEq, Eq)]
@@ -83,16 +87,43 @@ pub fn read_narrow_with(
     ensures sound { OnOk result (list_any is_large
         (block_coefficients (parameters_of plan.now) c slice index block.now) ≡ false) }
 {
-    let count = count_in(plan, c, slice, rects) as usize;
-    let mut bits = bits_of(block);
-    let Ok(()) = read_sints(&mut bits, count, out) else {
-        return Err(TooWide);
-    };
-    let greatest = greatest(&out[..count]);
+    let greatest = read_numbers(plan, c, slice, index, block, rects, out)?;
     if dequantise(plan, c, slice, index, rects, by_subband, greatest, out) {
         Ok(())
     } else {
         Err(TooWide)
+    }
+}
+
+/// Reads the numbers that a component's block has for its coefficients (ST 2042-1, high-quality slice) to the front of
+/// `out`, which has room for eight more: a bound of their magnitudes. TooWide where one of them doesn't fit 32 bits.
+pub fn read_numbers(
+    plan: &Plan,
+    c: Component,
+    slice: u32,
+    index: u8,
+    block: &[u8],
+    rects: &[Rect],
+    out: &mut [i32],
+) -> Result<u32, TooWide>
+    requires slice { slice < slice_count (parameters_of plan.now) }
+    requires rects { AreSliceRectangles (parameters_of plan.now) c slice rects.now }
+    requires all { subband_count plan.now.depth_ho plan.now.depth ≤ length rects.now }
+    requires room { slice_coefficient_count (parameters_of plan.now) c slice + 8 ≤ length out.old }
+    ensures numbers { OnOk result (AreBlockNumbers
+        (slice_coefficient_count (parameters_of plan.now) c slice) block.now out.new) }
+    ensures most { IfOk result (λ most. AreUpTo most
+        (slice_coefficient_count (parameters_of plan.now) c slice) out.new) }
+{
+    let count = count_in(plan, c, slice, rects) as usize;
+    let Ok(most) = read_sints(&bits_of(block), count, out) else {
+        return Err(TooWide);
+    };
+    // Where factors are large, a closer bound may let the numbers stay narrow.
+    if index < LARGE_INDEX {
+        Ok(most)
+    } else {
+        Ok(greatest(&out[..count]))
     }
 }
 

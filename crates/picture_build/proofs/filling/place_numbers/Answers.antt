@@ -15,14 +15,14 @@ pub place_rect-requires-clause-from : goal.place_rect-requires-clause-from
 place_rect-requires-clause-from c =
     let plan = c.args.plan.now in
     let within = subband_within (parameters_of plan) c.args.c (some_across plan.slices_x plan.slices_y plan.slices) (some_down plan.slices_x plan.slices_y plan.slices)
-    c.args.slice c.loop-b.b c.loop-b.from c.rect_at-rect.result c.args.numbers.now c.loop-b.cells c.loop-b.cells c.requires.slice (omega arith) c.rect_at-rect.ensures.value c.loop-b.invariant.from in
+    c.args.slice c.loop-b.b c.loop-b.from c.rect_at-rect.result (line_of c.args.numbers.now) c.loop-b.cells c.loop-b.cells c.requires.slice (omega arith) c.rect_at-rect.ensures.value c.loop-b.invariant.from in
     omega (arith, within, c.requires.count)
 
 pub overflow_add-from : goal.overflow_add-from
 overflow_add-from c =
     let plan = c.args.plan.now in
     let within = subband_within (parameters_of plan) c.args.c (some_across plan.slices_x plan.slices_y plan.slices) (some_down plan.slices_x plan.slices_y plan.slices)
-    c.args.slice c.loop-b.b c.loop-b.from c.rect_at-rect.result c.args.numbers.now c.loop-b.cells c.loop-b.cells c.requires.slice (omega arith) c.rect_at-rect.ensures.value c.loop-b.invariant.from in
+    c.args.slice c.loop-b.b c.loop-b.from c.rect_at-rect.result (line_of c.args.numbers.now) c.loop-b.cells c.loop-b.cells c.requires.slice (omega arith) c.rect_at-rect.ensures.value c.loop-b.invariant.from in
     omega (arith, within, c.requires.count)
 
 pub loop-b-preserved : goal.loop-b-preserved
@@ -38,9 +38,9 @@ loop-b-preserved c =
     let off : (k : ℕ) → ((j : ℕ) → j < area r → k ≢ cell_number (padded_width p c.args.c) (place_in r j)) → line_of c.place_rect.new.cells k ≡ line_of c.loop-b.cells k =
     subst (λ stride. (k : ℕ) → ((j : ℕ) → j < area r → k ≢ cell_number stride (place_in r j)) → line_of c.place_rect.new.cells k ≡ line_of c.loop-b.cells k) same c.place_rect.ensures.off in
     record {
-      from = from_more p c.args.c across down c.args.slice c.loop-b.b c.loop-b.from r c.args.numbers.now c.loop-b.cells c.place_rect.new.cells c.requires.slice (omega arith) c.rect_at-rect.ensures.value c.loop-b.invariant.from;
-      on = subband_stands p c.args.c across down c.args.slice c.loop-b.b c.loop-b.from r c.args.numbers.now c.loop-b.cells c.place_rect.new.cells c.requires.slice (omega arith) c.rect_at-rect.ensures.value c.loop-b.invariant.from on off c.loop-b.invariant.on;
-      off = subband_stays p c.args.c across down c.args.slice c.loop-b.b c.loop-b.from r c.args.numbers.now c.loop-b.cells c.place_rect.new.cells c.requires.slice (omega arith) c.rect_at-rect.ensures.value c.loop-b.invariant.from on off c.args.cells.now c.loop-b.invariant.off;
+      from = from_more p c.args.c across down c.args.slice c.loop-b.b c.loop-b.from r (line_of c.args.numbers.now) c.loop-b.cells c.place_rect.new.cells c.requires.slice (omega arith) c.rect_at-rect.ensures.value c.loop-b.invariant.from;
+      on = subband_stands p c.args.c across down c.args.slice c.loop-b.b c.loop-b.from r (line_of c.args.numbers.now) c.loop-b.cells c.place_rect.new.cells c.requires.slice (omega arith) c.rect_at-rect.ensures.value c.loop-b.invariant.from on off c.loop-b.invariant.on;
+      off = subband_stays p c.args.c across down c.args.slice c.loop-b.b c.loop-b.from r (line_of c.args.numbers.now) c.loop-b.cells c.place_rect.new.cells c.requires.slice (omega arith) c.rect_at-rect.ensures.value c.loop-b.invariant.from on off c.args.cells.now c.loop-b.invariant.off;
       length = c.place_rect.ensures.length ∙ c.loop-b.invariant.length;
     }
 
@@ -48,4 +48,4 @@ pub returns-clause-on : goal.returns-clause-on
 returns-clause-on c =
     let plan = c.args.plan.now in
     all_stand (parameters_of plan) c.args.c (some_across plan.slices_x plan.slices_y plan.slices) (some_down plan.slices_x plan.slices_y plan.slices)
-    c.args.slice c.loop-b.b c.loop-b.from c.args.numbers.now c.loop-b.cells (omega arith) c.loop-b.invariant.from c.loop-b.invariant.on
+    c.args.slice c.loop-b.b c.loop-b.from (line_of c.args.numbers.now) c.loop-b.cells (omega arith) c.loop-b.invariant.from c.loop-b.invariant.on

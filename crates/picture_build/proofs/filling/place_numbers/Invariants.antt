@@ -1,4 +1,5 @@
 use Rattle.std.proofs.Common.{◌≡◌, length}
+use Rattle.vc_types.specs.Lifting.{line_of}
 use Rattle.vc_types.specs.Subbands.{slice_coefficient_count}
 use Rattle.vc_types.specs.TransformParameters.{parameters_of}
 use Rattle.vc_types.proofs.SliceRectangles.{coefficients_before}
@@ -8,7 +9,7 @@ use Rattle.picture_build.proofs.filling.place_numbers.Given as goal
 abbrev pub invariant-loop-b : goal.invariant-loop-b
 invariant-loop-b l = record {
   from : l.from ≡ coefficients_before (parameters_of l.plan) l.c l.slice l.b;
-  on : FirstStand (parameters_of l.plan) l.c l.slice l.numbers l.from l.cells;
+  on : FirstStand (parameters_of l.plan) l.c l.slice (line_of l.numbers) l.from l.cells;
   off : OthersStay (parameters_of l.plan) l.c l.slice (slice_coefficient_count (parameters_of l.plan) l.c l.slice) l.initial.cells l.cells;
   length : length l.cells ≡ length l.initial.cells;
 }

@@ -36,9 +36,9 @@ loop-i-preserved c =
     let here : i < length c.args.coeffs.now = omega (arith, below, c.requires.count) in
     let on : line_of c.put.new.self at ≡ z = c.put.ensures.on ∙ to_z-of_z w64 z (fits_signed_from_abs w64 z (omega (arith, c.requires.small i here))) in
     record {
-      on = one_stands p c.args.c across down c.args.slice i c.args.coeffs.now c.loop-i.cells c.put.new.self at c.requires.slice below is on c.put.ensures.off c.loop-i.invariant.on;
+      on = one_stands p c.args.c across down c.args.slice i (line_of c.args.coeffs.now) c.loop-i.cells c.put.new.self at c.requires.slice below is on c.put.ensures.off c.loop-i.invariant.on;
       off = subst (λ n. OthersStay p c.args.c c.args.slice n c.args.cells.now c.put.new.self) (sym c.requires.count)
-          (one_stays p c.args.c across down c.args.slice i c.args.coeffs.now c.loop-i.cells c.put.new.self at c.requires.slice below is on c.put.ensures.off c.args.cells.now
+          (one_stays p c.args.c across down c.args.slice i (line_of c.args.coeffs.now) c.loop-i.cells c.put.new.self at c.requires.slice below is on c.put.ensures.off c.args.cells.now
           (subst (λ n. OthersStay p c.args.c c.args.slice n c.args.cells.now c.loop-i.cells) c.requires.count c.loop-i.invariant.off));
       length = c.put.ensures.length ∙ c.loop-i.invariant.length;
     }

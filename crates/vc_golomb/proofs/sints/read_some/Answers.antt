@@ -16,8 +16,4 @@ returns-clause-on c = λ j lt.
     ∙ narrow_read c.in_ok-number.number (omega (arith, c.in_ok-number.ensures.small)) ∙ c.in_ok-number.ensures.value ∙ number_first c.copy-apart.result ∙ ap (λ b. number_at b 0) c.copy-apart.ensures)
 
 pub returns-clause-rest : goal.returns-clause-rest
-returns-clause-rest c = λ k. ap (λ b. number_at b (1 + k)) (sym c.copy-apart.ensures) ∙ number_next c.copy-apart.result c.read_sint_bounded.new.b k c.in_ok-number.ensures.rest
-
-pub returns-in_err-number-clause-too_large : goal.returns-in_err-number-clause-too_large
-returns-in_err-number-clause-too_large c =
-    subst (λ b. OnErr c.from_residual.result (2 ^ 30 ≤ unsigned_abs (number_at b 0))) c.copy-apart.ensures (large_first c.copy-apart.result c.from_residual.result (c.read_sint_bounded.ensures.refused.0 (search rules)))
+returns-clause-rest c = λ k. ap (λ b. number_at b (1 + k)) (sym c.copy-apart.ensures) ∙ number_next c.copy-apart.result c.read_long.new.block k c.in_ok-number.ensures.rest

@@ -1,8 +1,5 @@
 use Rattle.std.proofs.Common.{rules, arith, sym, ap, ◌∙◌, ◌≤◌, pos, unsigned_abs, subst}
 use Rattle.std.specs.Prelude.{slice_index_or}
-use Rattle.std.proofs.lemmas.List.{get_or-take, length-take}
-use Rattle.vc_types.specs.Bounded.{bounded_sints}
-use Rattle.vc_types.specs.Lifting.{line_of}
 use Rattle.vc_types.specs.Quantisation.{dequantised}
 use Rattle.vc_types.specs.Slices.{quantisers, block_coefficients}
 use Rattle.vc_types.specs.Subbands.{slice_coefficient_count}
@@ -10,22 +7,12 @@ use Rattle.vc_types.specs.TransformParameters.{parameters_of}
 use Rattle.vc_slice.proofs.NarrowRuns.{coefficient_of, none_large, length-block}
 use Rattle.vc_slice.proofs.narrow.read_narrow_with.Goals as goal
 
-pub dequantise-requires-clause-greatest : goal.dequantise-requires-clause-greatest
-dequantise-requires-clause-greatest c = λ i h.
-    let count = c.count_in-count.result in
-    let out = c.read_sints.new.out in
-    let few = length-take count out in
-    subst (λ z. unsigned_abs z ≤ c.greatest-greatest.result) (get_or-take count out i (pos 0) (omega (arith, c.count_in-count.ensures.value)))
-    (c.greatest-greatest.ensures i (pos 0) (omega (arith, few, c.count_in-count.ensures.value)))
-
 pub returns-then-dequantise-clause-value : goal.returns-then-dequantise-clause-value
 returns-then-dequantise-clause-value c = λ i h.
     let p = parameters_of c.args.plan.now in
     let index = slice_index_or (quantisers p c.args.c c.args.slice c.args.index) i 0 in
-    let bits = c.bits_of-bits.result in
-    let count = c.count_in-count.ensures.value in
     c.dequantise.ensures.value (search rules) i h
-    ∙ ap (λ z. dequantised z index) (c.in-Ok.ensures.numbers i (omega (arith, count)) ∙ ap (λ n. line_of (bounded_sints n bits) i) count ∙ ap (λ bs. line_of (bounded_sints (slice_coefficient_count p c.args.c c.args.slice) bs) i) c.bits_of-bits.ensures)
+    ∙ ap (λ z. dequantised z index) (c.in_ok-greatest.ensures.numbers i h)
     ∙ sym (coefficient_of p c.args.c c.args.slice c.args.index c.args.block.now i h)
 
 pub returns-then-dequantise-clause-sound : goal.returns-then-dequantise-clause-sound

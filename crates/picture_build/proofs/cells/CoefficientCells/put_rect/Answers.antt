@@ -1,0 +1,56 @@
+use Rattle.std.proofs.Common.{◌≡◌, arith, sym, ap, ◌∙◌, ◌+◌, length, drop, take, ◌++◌}
+use Rattle.vc_types.specs.Lifting.{line_of}
+use Rattle.vc_types.specs.Quantisation.{dequantised}
+use Rattle.vc_types.specs.Subbands.{place_in}
+use Rattle.picture_build.specs.Cells.{cell_number, cells_in}
+use Rattle.picture_build.proofs.GridCells.{written_over}
+use Rattle.picture_build.proofs.TwoParts.{length_seen, written_length, written_off, written_low}
+use Rattle.picture_build.proofs.cells.CoefficientCells.put_rect.Goals as goal
+
+pub dequantise_rect-requires-clause-down : goal.dequantise_rect-requires-clause-down
+dequantise_rect-requires-clause-down c =
+    let long = length_seen c.self.inside.is_wide c.self.inside.high.items c.self.inside.low.items c.args.self.now c.self.view_is c.self.invariant in
+    let same = ap length c.deref_mut.ensures.value in
+    omega (arith, long, c.requires.down, same)
+
+pub clear_rect-requires-clause-down : goal.clear_rect-requires-clause-down
+clear_rect-requires-clause-down c =
+    let long = length_seen c.self.inside.is_wide c.self.inside.high.items c.self.inside.low.items c.args.self.now c.self.view_is c.self.invariant in
+    let same = ap length c.deref_mut-then-self.ensures.value in
+    omega (arith, long, c.requires.down, same, c.self.invariant)
+
+low_long : (c : goal.After-self-then-self-1) → length c.dequantise_rect.new.cells ≡ length c.self.inside.low.items
+low_long c = c.dequantise_rect.ensures.length ∙ ap length c.deref_mut.ensures.value
+
+high_long : (c : goal.After-self-then-self-1) → length c.clear_rect.new.cells ≡ length c.self.inside.high.items
+high_long c = c.clear_rect.ensures.length ∙ ap length c.deref_mut-then-self.ensures.value
+
+even : (c : goal.After-self-then-self-1) → length c.clear_rect.new.cells ≡ length c.dequantise_rect.new.cells
+even c = high_long c ∙ c.self.invariant ∙ sym (low_long c)
+
+-- what the parts are then
+cells_are : (c : goal.After-self-then-self-1)
+    → cells_in c.self.inside.is_wide (take c.self.inside.high.len (c.clear_rect.new.cells ++ drop (length c.clear_rect.new.cells) c.self.inside.high.items)) (take c.self.inside.low.len (c.dequantise_rect.new.cells ++ drop (length c.dequantise_rect.new.cells) c.self.inside.low.items))
+    ≡ cells_in c.self.inside.is_wide c.clear_rect.new.cells c.dequantise_rect.new.cells
+cells_are c =
+    ap (λ zs. cells_in c.self.inside.is_wide zs (take c.self.inside.low.len (c.dequantise_rect.new.cells ++ drop (length c.dequantise_rect.new.cells) c.self.inside.low.items))) (written_over c.self.inside.high.len c.clear_rect.new.cells (drop (length c.clear_rect.new.cells) c.self.inside.high.items) (let same = high_long c in omega (arith, same, c.self.inside.high.ok.0)))
+    ∙ ap (cells_in c.self.inside.is_wide c.clear_rect.new.cells) (written_over c.self.inside.low.len c.dequantise_rect.new.cells (drop (length c.dequantise_rect.new.cells) c.self.inside.low.items) (let same = low_long c in omega (arith, same, c.self.inside.low.ok.0)))
+
+pub returns-then-self-clause-on : goal.returns-then-self-clause-on
+returns-then-self-clause-on c = λ j h.
+    let r = c.args.rect.now in
+    let at = cell_number c.args.stride (place_in r j) in
+    ap (λ zs. line_of zs at) (cells_are c)
+    ∙ written_low c.self.inside.is_wide c.self.inside.high.items c.self.inside.low.items c.args.self.now c.self.view_is c.self.invariant c.if-self.true c.clear_rect.new.cells c.dequantise_rect.new.cells (even c) at (dequantised (line_of c.args.numbers.now (c.args.from + j)) c.args.quantiser.now.index) (c.clear_rect.ensures.on j h) (c.dequantise_rect.ensures.on j h)
+
+pub returns-then-self-clause-off : goal.returns-then-self-clause-off
+returns-then-self-clause-off c = λ k outside.
+    ap (λ zs. line_of zs k) (cells_are c)
+    ∙ written_off c.self.inside.is_wide c.self.inside.high.items c.self.inside.low.items c.args.self.now c.self.view_is c.self.invariant c.if-self.true c.clear_rect.new.cells c.dequantise_rect.new.cells (even c) k
+    (c.clear_rect.ensures.off k outside ∙ ap (λ xs. line_of xs k) c.deref_mut-then-self.ensures.value)
+    (c.dequantise_rect.ensures.off k outside ∙ ap (λ xs. line_of xs k) c.deref_mut.ensures.value)
+
+pub returns-then-self-clause-length : goal.returns-then-self-clause-length
+returns-then-self-clause-length c =
+    ap length (cells_are c)
+    ∙ written_length c.self.inside.is_wide c.self.inside.high.items c.self.inside.low.items c.args.self.now c.self.view_is c.self.invariant c.if-self.true c.clear_rect.new.cells c.dequantise_rect.new.cells (even c) (low_long c)

@@ -1,0 +1,38 @@
+ghost use Rattle.std.specs.Prelude.{◌≤◌, ◌<◌, length};
+ghost use Rattle.vc_types.specs.Quantisation.{subband_count};
+ghost use Rattle.vc_types.specs.Subbands.{slice_count};
+ghost use Rattle.vc_types.specs.TransformParameters.{parameters_of};
+ghost use Rattle.vc_geometry.specs.Rectangles.{AreSliceRectangles};
+
+use crate::padding::padded;
+use crate::slices::place_of_slice;
+use crate::spans::{Span, part};
+use vc_types::{Component, Plan, Rect};
+
+/// The parts of all subbands, in their order, that belong to a slice: each as `slice_rect` gives it.
+pub fn slice_rects(plan: &Plan, c: Component, slice: u32, rects: &mut [Rect])
+    requires slice { slice < slice_count (parameters_of plan.now) }
+    requires room { subband_count plan.now.depth_ho plan.now.depth ≤ length rects.old }
+    ensures { AreSliceRectangles (parameters_of plan.now) c slice rects.new }
+{
+    let (width, height) = padded(plan, c);
+    let (column, row) = place_of_slice(plan, slice);
+    // What a slice has of a subband's side is what it has of the padded one, halved as often.
+    let columns = Span::new(width, plan.slices_x, column);
+    let rows = Span::new(height, plan.slices_y, row);
+    let (across, depth) = (u32::from(plan.depth_ho), u32::from(plan.depth));
+    let lowest = rows.halved(depth);
+    rects[0] = part(0, 0, &columns.halved(depth + across), &lowest);
+    for level in 0..across {
+        let columns = columns.halved(depth + across - level);
+        rects[(1 + level) as usize] = part(columns.side, 0, &columns, &lowest);
+    }
+    for level in 0..depth {
+        let columns = columns.halved(depth - level);
+        let rows = rows.halved(depth - level);
+        let b = (1 + across + 3 * level) as usize;
+        rects[b] = part(columns.side, 0, &columns, &rows);
+        rects[b + 1] = part(0, rows.side, &columns, &rows);
+        rects[b + 2] = part(columns.side, rows.side, &columns, &rows);
+    }
+}
