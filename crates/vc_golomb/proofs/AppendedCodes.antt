@@ -47,3 +47,15 @@ code_more numbers i before after below so_far added =
     ∙ ap (λ (bits : List Bool). flat_map sint_bits (take i numbers) ++ bits) (sym (append-nil (sint_bits z)))
     ∙ sym (flat_map-append sint_bits (take i numbers) (z ∷ []))
     ∙ ap (flat_map sint_bits) (sym (take_more numbers i (pos 0) below))
+
+-- and two more
+pub pair_added : (numbers : List ℤ) (i : ℕ) (before after : List Bool) → i + 1 < length numbers → before ≡ flat_map sint_bits (take i numbers)
+    → after ≡ before ++ (sint_bits (get_or numbers i (pos 0)) ++ sint_bits (get_or numbers (i + 1) (pos 0))) → after ≡ flat_map sint_bits (take (i + 2) numbers)
+pair_added numbers i before after below so_far added =
+    let first = get_or numbers i (pos 0) in
+    let second = get_or numbers (i + 1) (pos 0) in
+    let next : i + 1 + 1 ≡ i + 2 = omega arith in
+    code_more numbers (i + 1) (before ++ sint_bits first) after below
+    (code_more numbers i before (before ++ sint_bits first) (omega arith) so_far refl)
+    (added ∙ sym (append_assoc before (sint_bits first) (sint_bits second)))
+    ∙ ap (λ (n : ℕ). flat_map sint_bits (take n numbers)) next

@@ -1,9 +1,11 @@
-ghost use Rattle.std.specs.Prelude.{◌≡◌, ◌+◌, ◌*◌, ◌<◌, ◌≤◌, ◌^◌, ◌++◌, true, length, replicate, unsigned_abs, vec_len, vec_capacity, IfOk};
+ghost use Rattle.std.specs.Prelude.{◌≡◌, ◌+◌, ◌*◌, ◌<◌, ◌≤◌, ◌^◌, ◌++◌, true, length, pos, negsuc, ◌≤ℤ◌, ◌<ℤ◌, replicate, unsigned_abs, vec_len, vec_capacity, IfOk};
 ghost use Rattle.std.specs.List.{flat_map};
 ghost use Rattle.vc_types.specs.Bits.{bits_of};
 ghost use Rattle.vc_types.specs.Codes.{sint_bits};
 ghost use Rattle.vc_bits.specs.Bits.{to_edge};
+ghost use Rattle.vc_golomb.specs.Pairs.{IsPair};
 
+use crate::pairs::{is_small, pair_code};
 use crate::short::{SHORT, short_code};
 use std::alloc::Global;
 use vc_bits::BitTail;
@@ -18,11 +20,42 @@ pub fn sint_codes(alloc: Global, numbers: &[i32]) -> Result<Vec<u8>, NoMemory>
     // A code has 64 bits at most.
     let mut bytes = Vec::with_capacity(alloc, 8 * numbers.len() + 4)?;
     let mut tail = BitTail::new();
-    for number in numbers {
-        add_code(&mut bytes, &mut tail, *number);
+    let mut at = 0;
+    'numbers: while at < numbers.len() {
+        if begins_pair(numbers, at) {
+            add_pair(&mut bytes, &mut tail, numbers[at], numbers[at + 1]);
+            at += 2;
+        } else {
+            add_code(&mut bytes, &mut tail, numbers[at]);
+            at += 1;
+        }
     }
     tail.finish(&mut bytes, true);
     Ok(bytes)
+}
+
+// Whether two numbers from one of them on are so small that a table has their codes.
+#[inline(always)]
+fn begins_pair(numbers: &[i32], at: usize) -> bool
+    requires { at < length numbers.now }
+    ensures { result ≡ true → IsPair numbers.now at }
+{
+    at + 1 < numbers.len() && is_small(numbers[at]) && is_small(numbers[at + 1])
+}
+
+#[inline(always)]
+fn add_pair(bytes: &mut Vec<u8>, tail: &mut BitTail, first: i32, second: i32)
+    requires first { (negsuc 7 ≤ℤ first) × (first <ℤ pos 8) }
+    requires second { (negsuc 7 ≤ℤ second) × (second <ℤ pos 8) }
+    requires room { 8 * vec_len bytes.old + length tail.old + 96 ≤ 8 * vec_capacity bytes.old }
+    ensures bits { bits_of bytes.new.items ++ tail.new
+        ≡ (bits_of bytes.old.items ++ tail.old) ++ (sint_bits first ++ sint_bits second) }
+    ensures len { 8 * vec_len bytes.new + length tail.new
+        ≤ 8 * vec_len bytes.old + length tail.old + 64 }
+    ensures capacity { vec_capacity bytes.new ≡ vec_capacity bytes.old }
+{
+    let code = pair_code(first, second);
+    tail.add(bytes, code.bits, code.count);
 }
 
 #[inline(always)]
