@@ -1,4 +1,4 @@
-ghost use Rattle.std.specs.Prelude.{◌≡◌, ◌≤◌, ◌^◌, IfOk, IfSome, IsTrue, length, false};
+ghost use Rattle.std.specs.Prelude.{◌≡◌, ◌≤◌, ◌^◌, IfOk, IsTrue, length, false};
 ghost use Rattle.std.specs.List.{list_any};
 ghost use Rattle.vc_types.specs.Slices.{coefficients_of, is_large};
 ghost use Rattle.vc_types.specs.Subbands.{slice_coefficient_count};
@@ -267,35 +267,7 @@ fn any_large(coefficients: &CoefficientList<'_>) -> bool
     false
 }
 
-// The same coefficients in 32 bits, where they fit.
-fn first_narrow(alloc: Global, plan: &Plan, y: &[i64]) -> Result<Option<SliceCoeffs>, Fail>
-    ensures { IfOk result
-        (λ found. IfSome found (λ s. AreSliceCoefficients (parameters_of plan.now) 0 s)) }
-{
-    let mut numbers = Vec::new(alloc);
-    for place in 0..slice_len(plan, Component::Y, 0) as usize {
-        let number = y.get(place).copied().unwrap_or(0);
-        if number.unsigned_abs() >= 1 << 31 {
-            return Ok(None);
-        }
-        numbers.push(number as i32)?;
-    }
-    let of_y = numbers.len();
-    let of_c = slice_len(plan, Component::C1, 0) as usize;
-    numbers.resize(of_y + of_c + of_c, 0)?;
-    let coeffs = SliceCoeffs::narrow(numbers, of_y, of_c, of_c);
-    if fit(plan, &coeffs, Component::Y)
-        && fit(plan, &coeffs, Component::C1)
-        && fit(plan, &coeffs, Component::C2)
-    {
-        Ok(Some(coeffs))
-    } else {
-        Err(Fail::from("not the slice's coefficients"))
-    }
-}
-
-// Encodes the first slice of a plan from these coefficients of Y and no others: in 64 bits, and in 32 where they fit, with
-// the same answer. The length is that of `encoded_len`.
+// Encodes the first slice of a plan from these coefficients of Y and no others. The length is that of `encoded_len`.
 fn encode_first(
     alloc: Global,
     plan: &Plan,
@@ -308,11 +280,6 @@ fn encode_first(
     }
     let len = encoded_len(plan, 0, &coeffs, q);
     let answer = encode(alloc, plan, 0, &coeffs, q);
-    if let Some(narrow) = first_narrow(alloc, plan, y)? {
-        if encode(alloc, plan, 0, &narrow, q) != answer {
-            return Err(Fail::from("another answer in 32 bits"));
-        }
-    }
     let told = match &answer {
         Ok(bytes) => bytes.len() as u64,
         Err(EncodeRefusal::TooLong { bytes }) => *bytes,
@@ -487,19 +454,6 @@ fn all_lengths_of_the_greatest_coefficients(rt: HostRuntime) -> Result<(), Fail>
         &one_slice(),
         &[(1 << 60) - 1, 0, 1 - (1 << 60), 3],
     )
-}
-
-// Around the greatest magnitude that is quantised in fewer bits, and at the ends of 32 bits: encoded in 64 bits and in 32.
-#[test]
-fn narrow_coefficients_are_encoded_as_wide_ones(rt: HostRuntime) -> Result<(), Fail> {
-    let alloc = rt.alloc();
-    for greatest in [1, 254, 16383, 16384, (1 << 31) - 1, 1 << 31] {
-        for q in [0, 1, 12, 63, 127] {
-            let y = [greatest, -5, 0, -greatest, 0, 3, greatest - 1, 0];
-            let _answer = encode_first(alloc, &two_slices(), &y, q)?;
-        }
-    }
-    Ok(())
 }
 
 #[test]
