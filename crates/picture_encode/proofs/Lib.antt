@@ -3,6 +3,7 @@ mod WalkedSlices
 mod Transformed
 pub mod PackedBits
 mod SmallNumbers
+mod ThreeParts
 mod Judged
 mod FirstSlices
 mod PlanFacts

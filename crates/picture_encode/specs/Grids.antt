@@ -56,6 +56,10 @@ pub record AreGrids (p : Parameters) (g : PictureGrids) : Type 0 where
   pub c1 : IsGrid p C1 g.c1
   pub c2 : IsGrid p C2 g.c2
 
+-- the numbers of a slice in cells whose rows are taken in turn
+abbrev pub narrow_numbers : Parameters → Component → List ℤ → ℕ → List ℤ
+narrow_numbers p c cells slice = numbers_in_slice p c (nested_in p c (padded_width p c) cells) slice
+
 -- the coefficients of a slice
 abbrev pub slice_in_grids : Parameters → PictureGrids → ℕ → Coefficients
 slice_in_grids p g slice = record {

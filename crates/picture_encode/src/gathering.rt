@@ -1,6 +1,7 @@
 ghost use Rattle.std.specs.Prelude.{◌≡◌, ◌++◌, ◌+◌, ◌*◌, ◌^◌, ◌<◌, ◌≤◌, ◌⊎◌, ℕ, All, OnOk, IfOk, length, unsigned_abs};
 ghost use Rattle.link_model.specs.SendingPictures.{number_in, numbers_in_slice};
-ghost use Rattle.picture_encode.specs.Grids.{IsGrid, IsNarrowGrid, IsWideGrid, AreGrids, cells_of, rectangle_numbers, slice_in_grids};
+ghost use Rattle.picture_encode.specs.Grids.{IsGrid, IsNarrowGrid, IsWideGrid, AreGrids, cells_of, narrow_numbers, rectangle_numbers, slice_in_grids};
+ghost use Rattle.vc_types.specs.declared.video.Component.TheVariants.{Y, C1, C2};
 ghost use Rattle.vc_types.specs.Lifting.{line_of};
 ghost use Rattle.vc_types.specs.Rasters.{cell_at};
 ghost use Rattle.vc_types.specs.SliceCoefficients.{AreSliceCoefficients};
@@ -8,7 +9,7 @@ ghost use Rattle.vc_geometry.specs.Rectangles.{AreSliceRectangles};
 ghost use Rattle.vc_types.specs.Quantisation.{subband_count};
 ghost use Rattle.vc_types.specs.Subbands.{area, place_in, padded_width, padded_height, slice_count, slice_coefficient_count, slice_rectangle, subband_at};
 ghost use Rattle.vc_types.specs.TransformParameters.{parameters_of};
-ghost use Rattle.vc_wave.specs.Layout.{laid_out, nested_in, row_in_turn};
+ghost use Rattle.vc_wave.specs.Layout.{laid_out, row_in_turn};
 ghost use Rattle.vc_wave.specs.Planes.{plane_of};
 
 use crate::grids::{ComponentGrid, PictureGrids};
@@ -39,6 +40,121 @@ pub(crate) fn gather(
     ensures whole { IfOk result
         (λ coeffs. AreSliceCoefficients (parameters_of plan.now) slice coeffs) }
 {
+    let coeffs = gathered(alloc, plan, grids, slice)?;
+    Ok(coeffs)
+}
+
+#[tactic(auto, unfolding(crate::specs::Grids::cells_of))]
+fn gathered(
+    alloc: Global,
+    plan: &Plan,
+    grids: &PictureGrids,
+    slice: u32,
+) -> Result<SliceCoeffs, NoMemory>
+    requires slice { slice < slice_count (parameters_of plan.now) }
+    requires grids { AreGrids (parameters_of plan.now) grids.now }
+    ensures { IfOk result
+        (λ coeffs. coeffs ≡ slice_in_grids (parameters_of plan.now) grids.now slice) }
+{
+    match (&grids.y, &grids.c1, &grids.c2) {
+        (ComponentGrid::Narrow(y), ComponentGrid::Narrow(c1), ComponentGrid::Narrow(c2)) => {
+            gather_narrow(alloc, plan, slice, y, c1, c2)
+        }
+        _ => gather_any(alloc, plan, grids, slice),
+    }
+}
+
+// The same where all components are in 32 bits.
+fn gather_narrow(
+    alloc: Global,
+    plan: &Plan,
+    slice: u32,
+    y: &[i32],
+    c1: &[i32],
+    c2: &[i32],
+) -> Result<SliceCoeffs, NoMemory>
+    requires slice { slice < slice_count (parameters_of plan.now) }
+    requires y { IsNarrowGrid (parameters_of plan.now) Y y.now }
+    requires c1 { IsNarrowGrid (parameters_of plan.now) C1 c1.now }
+    requires c2 { IsNarrowGrid (parameters_of plan.now) C2 c2.now }
+    ensures { IfOk result (λ coeffs. coeffs ≡ record {
+      y = narrow_numbers (parameters_of plan.now) Y y.now slice;
+      c1 = narrow_numbers (parameters_of plan.now) C1 c1.now slice;
+      c2 = narrow_numbers (parameters_of plan.now) C2 c2.now slice;
+    }) }
+{
+    let luma = part_of(plan, Component::Y, slice);
+    let colour = part_of(plan, Component::C1, slice);
+    let (of_y, of_c) = (luma.count, colour.count);
+    let mut numbers = vec![in alloc; 0i32; of_y + of_c + of_c]?;
+    copy_components(plan, slice, y, c1, c2, &luma, &colour, &mut numbers);
+    Ok(SliceCoeffs::narrow(numbers, of_y, of_c, of_c))
+}
+
+// The parts of the subbands of a component that belong to a slice, in front of others, and how many coefficients they have.
+#[derive(Drop)]
+struct Part {
+    rects: [Rect; 16],
+    count: usize,
+}
+
+fn part_of(plan: &Plan, c: Component, slice: u32) -> Part
+    requires { slice < slice_count (parameters_of plan.now) }
+    ensures rects { AreSliceRectangles (parameters_of plan.now) c slice result.rects }
+    ensures colours { c ≡ C1 → AreSliceRectangles (parameters_of plan.now) C2 slice result.rects }
+    ensures count { result.count ≡ slice_coefficient_count (parameters_of plan.now) c slice }
+    ensures range { result.count ≤ 2 ^ 30 }
+{
+    let mut rects = [NOWHERE; 16];
+    slice_rects(plan, c, slice, &mut rects);
+    let count = count(plan, c, slice, &rects);
+    Part { rects, count }
+}
+
+// Copies the numbers of a slice, one component behind the other.
+fn copy_components(
+    plan: &Plan,
+    slice: u32,
+    y: &[i32],
+    c1: &[i32],
+    c2: &[i32],
+    luma: &Part,
+    colour: &Part,
+    numbers: &mut [i32],
+)
+    requires slice { slice < slice_count (parameters_of plan.now) }
+    requires y { IsNarrowGrid (parameters_of plan.now) Y y.now }
+    requires c1 { IsNarrowGrid (parameters_of plan.now) C1 c1.now }
+    requires c2 { IsNarrowGrid (parameters_of plan.now) C2 c2.now }
+    requires luma { AreSliceRectangles (parameters_of plan.now) Y slice luma.now.rects }
+    requires colour { AreSliceRectangles (parameters_of plan.now) C1 slice colour.now.rects }
+    requires second { AreSliceRectangles (parameters_of plan.now) C2 slice colour.now.rects }
+    requires of_y { luma.now.count ≡ slice_coefficient_count (parameters_of plan.now) Y slice }
+    requires of_c { colour.now.count ≡ slice_coefficient_count (parameters_of plan.now) C1 slice }
+    requires numbers { length numbers.old ≡ luma.now.count + colour.now.count + colour.now.count }
+    ensures { numbers.new ≡ narrow_numbers (parameters_of plan.now) Y y.now slice
+        ++ narrow_numbers (parameters_of plan.now) C1 c1.now slice
+        ++ narrow_numbers (parameters_of plan.now) C2 c2.now slice }
+{
+    let (for_y, for_colours) = numbers.split_at_mut(luma.count);
+    let (for_c1, for_c2) = for_colours.split_at_mut(colour.count);
+    copy_slice(plan, Component::Y, y, slice, &luma.rects, for_y);
+    copy_slice(plan, Component::C1, c1, slice, &colour.rects, for_c1);
+    copy_slice(plan, Component::C2, c2, slice, &colour.rects, for_c2);
+}
+
+// The same, however wide they are.
+fn gather_any(
+    alloc: Global,
+    plan: &Plan,
+    grids: &PictureGrids,
+    slice: u32,
+) -> Result<SliceCoeffs, NoMemory>
+    requires slice { slice < slice_count (parameters_of plan.now) }
+    requires grids { AreGrids (parameters_of plan.now) grids.now }
+    ensures { IfOk result
+        (λ coeffs. coeffs ≡ slice_in_grids (parameters_of plan.now) grids.now slice) }
+{
     let y = gather_component(alloc, plan, Component::Y, &grids.y, slice)?;
     let c1 = gather_component(alloc, plan, Component::C1, &grids.c1, slice)?;
     let c2 = gather_component(alloc, plan, Component::C2, &grids.c2, slice)?;
@@ -61,7 +177,7 @@ fn gather_component(
         (cells_of (parameters_of plan.now) c grid.now) slice) }
 {
     match grid {
-        ComponentGrid::Narrow(cells) => gather_narrow(alloc, plan, c, cells, slice),
+        ComponentGrid::Narrow(cells) => gather_widened(alloc, plan, c, cells, slice),
         ComponentGrid::Wide(grid) => gather_wide(alloc, plan, c, grid, slice),
     }
 }
@@ -113,7 +229,7 @@ fn push_row(coeffs: &mut Vec<i64>, cells: &[i128]) -> Result<(), NoMemory>
     Ok(())
 }
 
-fn gather_narrow(
+fn gather_widened(
     alloc: Global,
     plan: &Plan,
     c: Component,
@@ -122,16 +238,23 @@ fn gather_narrow(
 ) -> Result<Vec<i64>, NoMemory>
     requires slice { slice < slice_count (parameters_of plan.now) }
     requires grid { IsNarrowGrid (parameters_of plan.now) c cells.now }
-    ensures { IfOk result (λ coeffs. coeffs.items
-        ≡ numbers_in_slice (parameters_of plan.now) c
-        (nested_in (parameters_of plan.now) c (padded_width (parameters_of plan.now) c) cells.now)
-        slice) }
+    ensures { IfOk result
+        (λ coeffs. coeffs.items ≡ narrow_numbers (parameters_of plan.now) c cells.now slice) }
 {
-    let mut rects = [NOWHERE; 16];
-    slice_rects(plan, c, slice, &mut rects);
-    let mut coeffs = vec![in alloc; 0i64; count(plan, c, slice, &rects)]?;
-    copy_slice(plan, c, cells, slice, &rects, &mut coeffs);
-    Ok(coeffs)
+    let part = part_of(plan, c, slice);
+    let mut numbers = vec![in alloc; 0i32; part.count]?;
+    copy_slice(plan, c, cells, slice, &part.rects, &mut numbers);
+    widened(alloc, &numbers)
+}
+
+fn widened(alloc: Global, numbers: &[i32]) -> Result<Vec<i64>, NoMemory>
+    ensures { IfOk result (λ wide. wide.items ≡ numbers.now) }
+{
+    let mut wide = Vec::with_capacity(alloc, numbers.len())?;
+    for number in numbers {
+        wide.push(i64::from(*number))?;
+    }
+    Ok(wide)
 }
 
 // The part of subband number `b` that belongs to a slice.
@@ -154,7 +277,8 @@ fn count(plan: &Plan, c: Component, slice: u32, rects: &[Rect]) -> usize
     requires slice { slice < slice_count (parameters_of plan.now) }
     requires rects { AreSliceRectangles (parameters_of plan.now) c slice rects.now }
     requires all { subband_count plan.now.depth_ho plan.now.depth ≤ length rects.now }
-    ensures { result ≡ slice_coefficient_count (parameters_of plan.now) c slice }
+    ensures value { result ≡ slice_coefficient_count (parameters_of plan.now) c slice }
+    ensures range { result ≤ 2 ^ 30 }
 {
     let mut len = 0;
     for b in 0..bands(plan) {
@@ -171,16 +295,14 @@ fn copy_slice(
     cells: &[i32],
     slice: u32,
     rects: &[Rect],
-    coeffs: &mut [i64],
+    coeffs: &mut [i32],
 )
     requires slice { slice < slice_count (parameters_of plan.now) }
     requires grid { IsNarrowGrid (parameters_of plan.now) c cells.now }
     requires rects { AreSliceRectangles (parameters_of plan.now) c slice rects.now }
     requires all { subband_count plan.now.depth_ho plan.now.depth ≤ length rects.now }
     requires coeffs { length coeffs.old ≡ slice_coefficient_count (parameters_of plan.now) c slice }
-    ensures { coeffs.new ≡ numbers_in_slice (parameters_of plan.now) c
-        (nested_in (parameters_of plan.now) c (padded_width (parameters_of plan.now) c) cells.now)
-        slice }
+    ensures { coeffs.new ≡ narrow_numbers (parameters_of plan.now) c cells.now slice }
 {
     let (width, _) = padded(plan, c);
     let nesting = nesting_of(plan, c);
@@ -194,7 +316,7 @@ fn copy_slice(
 
 // Copies the numbers of a rectangle, row by row, out of cells whose rows are taken in turn.
 fn copy_rect(
-    coeffs: &mut [i64],
+    coeffs: &mut [i32],
     from: usize,
     cells: &[i32],
     stride: usize,
@@ -231,7 +353,7 @@ fn copy_rect(
 
 // Copies so many numbers, from one of them on, to those from another on.
 #[inline(always)]
-fn copy_row(coeffs: &mut [i64], at: usize, cells: &[i32], from: usize, width: usize)
+fn copy_row(coeffs: &mut [i32], at: usize, cells: &[i32], from: usize, width: usize)
     requires at { at + width ≤ length coeffs.old }
     requires from { from + width ≤ length cells.now }
     ensures on { (x : ℕ) → x < width → line_of coeffs.new (at + x) ≡ line_of cells.now (from + x) }
@@ -239,6 +361,6 @@ fn copy_row(coeffs: &mut [i64], at: usize, cells: &[i32], from: usize, width: us
         → line_of coeffs.new i ≡ line_of coeffs.old i }
 {
     for x in 0..width {
-        coeffs[at + x] = i64::from(cells[from + x]);
+        coeffs[at + x] = cells[from + x];
     }
 }

@@ -1,9 +1,10 @@
 -- Magnitudes under a sign, as the code computes them.
-use Rattle.std.proofs.Common.{◌≡◌, Bool, true, false, ℕ, ◌+◌, ◌*◌, ◌/◌, ◌^◌, ◌<◌, ◌≤◌, ℤ, pos, negsuc, neg_ℤ, unsigned_abs, ◌-ℤ◌, ◌≤ℤ◌, ◌<ℤ◌, arith, refl, sym, ap, ◌∙◌, to_z, of_z}
+use Rattle.std.proofs.Common.{◌≡◌, Bool, true, false, ℕ, ◌+◌, ◌*◌, ◌/◌, ◌^◌, ◌<◌, ◌≤◌, ℤ, pos, negsuc, neg_ℤ, unsigned_abs, ◌-ℤ◌, ◌≤ℤ◌, ◌<ℤ◌, arith, refl, sym, ap, ◌∙◌, to_z, of_z, FitsSigned}
 use Rattle.std.specs.Prelude.{◌==◌, if◌then◌else◌}
-use Rattle.std.specs.Int.{w64, w128}
+use Rattle.std.specs.Int.{w32, w64, w128}
 use Rattle.std.proofs.lemmas.Int.{ints}
 use Rattle.std.proofs.Math.Nat.{mul-le-mul_right, div-eq_of_lt-le}
+use Rattle.vc_quant.proofs.Quotients.{not_larger}
 use Rattle.vc_quant.specs.Narrow.{IsNarrow}
 use Rattle.vc_types.specs.Quantisation.{quant_factor, quant_offset, dequantised, dequantised_magnitude, quantised, with_sign_of}
 
@@ -66,3 +67,13 @@ unfolding dequantised
 narrow_coefficient z greatest q h narrow =
     let size = under_sign z (dequantised_magnitude (unsigned_abs z) (quant_factor q) (quant_offset q)) in
     omega (arith, size, narrow_magnitude (unsigned_abs z) greatest (quant_factor q) (quant_offset q) h narrow.1)
+
+-- ---- one coefficient of 32 bits
+
+pub quantised_fits : (z : ℤ) (q : ℕ) → 4 ≤ quant_factor q → FitsSigned w32 z → FitsSigned w32 (quantised z q)
+unfolding quantised
+quantised_fits (pos n) q large fits = let small = not_larger n (quant_factor q) large in omega (arith, ints, small, fits)
+quantised_fits (negsuc n) q large fits = let small = not_larger (unsigned_abs (negsuc n)) (quant_factor q) large in omega (arith, ints, small, fits)
+
+pub narrowed : (r z : ℤ) (q : ℕ) → r ≡ quantised z q → FitsSigned w32 (quantised z q) → (FitsSigned w32 (to_z w64 (of_z w64 r))) × (to_z w32 (of_z w32 (to_z w64 (of_z w64 r))) ≡ quantised z q)
+narrowed r z q is fits = rw is (omega (arith, ints, fits), omega (arith, ints, fits))

@@ -7,6 +7,7 @@ mod laws;
 mod matrix;
 mod narrow;
 mod quantiser;
+mod quantising;
 mod quotient;
 mod reciprocal;
 

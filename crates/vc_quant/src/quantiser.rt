@@ -6,6 +6,7 @@ ghost use Rattle.vc_quant.specs.Reciprocal.{IsReciprocal};
 
 use crate::factors::FACTORS;
 use crate::narrow::NarrowQuantiser;
+use crate::quantising::{NARROW, narrow_reciprocal, quantise};
 use crate::quotient::quotient;
 use crate::reciprocal::factor_reciprocal;
 
@@ -126,6 +127,42 @@ impl Quantiser {
             factor: self.factor as u32,
             offset: self.offset as u32,
         })
+    }
+
+    /// Puts in the place of coefficients the numbers that this encoder quantises them to: `greatest` is at least each
+    /// coefficient's magnitude.
+    #[inline]
+    pub fn quant_all(&self, coefficients: &mut [i32], greatest: u32)
+        requires greatest { All (λ z. unsigned_abs z ≤ greatest) coefficients.old }
+        ensures { (k : ℕ) → k < length coefficients.old
+            → line_of coefficients.new k ≡ quantised (line_of coefficients.old k) self.now.index }
+    {
+        if greatest < NARROW && self.factor < 1 << 32 {
+            let factor = self.factor as u32;
+            quantise(
+                coefficients,
+                factor,
+                narrow_reciprocal(factor, self.reciprocal),
+            );
+        } else {
+            self.quant_each(coefficients);
+        }
+    }
+
+    // The same one by one, however large they are.
+    fn quant_each(&self, coefficients: &mut [i32])
+        ensures { (k : ℕ) → k < length coefficients.old
+            → line_of coefficients.new k ≡ quantised (line_of coefficients.old k) self.now.index }
+    {
+        for coefficient in coefficients.iter_mut() {
+            *coefficient = self.quant_one(*coefficient);
+        }
+    }
+
+    fn quant_one(&self, coefficient: i32) -> i32
+        ensures { result ≡ quantised coefficient self.now.index }
+    {
+        self.quant(i64::from(coefficient)) as i32
     }
 
     #[inline]

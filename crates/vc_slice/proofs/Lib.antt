@@ -10,3 +10,4 @@ pub mod SameJobs
 pub mod NarrowRuns
 pub mod ColourParts
 pub mod WideSlices
+pub mod WrittenBlocks

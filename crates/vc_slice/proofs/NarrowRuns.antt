@@ -25,7 +25,7 @@ unfolding bounded_sints
 length-numbers zero bits = refl
 length-numbers (suc n) bits = ap suc (length-numbers n (bounded_sint bits).1)
 
-length-pairs : (xs : List ℤ) (ys : List ℕ) → length xs ≡ length ys → length (zip xs ys) ≡ length xs
+pub length-pairs : (xs : List ℤ) (ys : List ℕ) → length xs ≡ length ys → length (zip xs ys) ≡ length xs
 length-pairs [] ys e = refl
 length-pairs (x ∷ xs) [] e = absurd (omega arith)
 length-pairs (x ∷ xs) (y ∷ ys) e = ap suc (length-pairs xs ys (omega arith))
@@ -103,16 +103,16 @@ module _ (p : Parameters) (c : Component) (slice index : ℕ) where
     pub run_within : to ≤ slice_coefficient_count p c slice
     run_within = let e = run_more in let all = before_within (b + 1) in omega (arith, e, all)
 
-    pub done_more : (q : ℕ) → q ≡ index - slice_index_or p.matrix b 0
-        → ((i : ℕ) → i < from → line_of old i ≡ dequantised (line_of first i) (get_or (quantisers p c slice index) i 0))
+    pub done_more : (f : ℤ → ℕ → ℤ) (q : ℕ) → q ≡ index - slice_index_or p.matrix b 0
+        → ((i : ℕ) → i < from → line_of old i ≡ f (line_of first i) (get_or (quantisers p c slice index) i 0))
         → ((i : ℕ) → from ≤ i → line_of old i ≡ line_of first i)
-        → ((i : ℕ) → from ≤ i → i < to → line_of new i ≡ dequantised (line_of old i) q)
+        → ((i : ℕ) → from ≤ i → i < to → line_of new i ≡ f (line_of old i) q)
         → ((i : ℕ) → (i < from) ⊎ (to ≤ i) → line_of new i ≡ line_of old i)
-        → (i : ℕ) → i < to → line_of new i ≡ dequantised (line_of first i) (get_or (quantisers p c slice index) i 0)
-    done_more q is done left on off i below = elim (cases_lt i from) [
+        → (i : ℕ) → i < to → line_of new i ≡ f (line_of first i) (get_or (quantisers p c slice index) i 0)
+    done_more f q is done left on off i below = elim (cases_lt i from) [
       | inl before ↦ off i (inl before) ∙ done i before
-      | inr past ↦ on i past below ∙ ap (λ (z : ℤ). dequantised z q) (left i past)
-          ∙ ap (dequantised (line_of first i)) (is ∙ sym (index_in b i from to h at end past below))
+      | inr past ↦ on i past below ∙ ap (λ (z : ℤ). f z q) (left i past)
+          ∙ ap (f (line_of first i)) (is ∙ sym (index_in b i from to h at end past below))
     ]
 
 pub narrow_more : (from to : ℕ) (old new : List ℤ) → ((i : ℕ) → i < from → unsigned_abs (line_of old i) < 2 ^ 29)

@@ -13,6 +13,7 @@ mod falls;
 mod job;
 mod laws;
 mod narrow;
+mod narrow_codes;
 mod narrow_slice;
 mod no_places;
 mod places;

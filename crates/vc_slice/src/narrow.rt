@@ -141,7 +141,8 @@ pub(crate) fn count_in(plan: &Plan, c: Component, slice: u32, rects: &[Rect]) ->
     count
 }
 
-fn greatest(numbers: &[i32]) -> u32
+/// At least the magnitude of each number.
+pub(crate) fn greatest(numbers: &[i32]) -> u32
     ensures { All (λ z. unsigned_abs z ≤ result) numbers.now }
 {
     let mut seen = 0u32;

@@ -13,6 +13,7 @@ ghost use Rattle.vc_slice.specs.Listed.{listed};
 
 use crate::coeffs::{CoefficientList, SliceCoeffs};
 use crate::component::quantiser;
+use crate::narrow_codes::narrow_codes;
 use crate::rects::area;
 use std::alloc::Global;
 use vc_bits::BitWriter;
@@ -23,6 +24,32 @@ use vc_types::{Component, NoMemory, Plan, Rect};
 
 /// The codes of a component's numbers, up to the last that isn't 0, and ones up to whole bytes.
 pub(crate) fn codes_of(
+    alloc: Global,
+    plan: &Plan,
+    c: Component,
+    slice: u32,
+    coeffs: &SliceCoeffs,
+    index: u8,
+    rects: &[Rect],
+) -> Result<Vec<u8>, NoMemory>
+    requires slice { slice < slice_count (parameters_of plan.now) }
+    requires coefficients { AreSliceCoefficients (parameters_of plan.now) slice coeffs.now }
+    requires index { index ≤ 127 }
+    requires rects { AreSliceRectangles (parameters_of plan.now) c slice rects.now }
+    requires all { subband_count plan.now.depth_ho plan.now.depth ≤ length rects.now }
+    ensures { IfOk result (λ bytes. bits_of bytes.items
+        ≡ up_to_bytes (component_bits (parameters_of plan.now) slice index coeffs.now c)) }
+{
+    match coeffs.component(c) {
+        CoefficientList::Narrow(numbers) => {
+            narrow_codes(alloc, plan, c, slice, numbers, index, rects)
+        }
+        CoefficientList::Wide(_) => wide_codes(alloc, plan, c, slice, coeffs, index, rects),
+    }
+}
+
+// The same one by one, however wide the coefficients are.
+fn wide_codes(
     alloc: Global,
     plan: &Plan,
     c: Component,

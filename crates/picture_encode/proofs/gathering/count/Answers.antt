@@ -21,5 +21,5 @@ loop-b-preserved c =
       small = omega (arith, area, c.loop-b.invariant.small);
     }
 
-pub returns : goal.returns
-returns c = c.loop-b.invariant.so_far ∙ coefficients_before-all (parameters_of c.args.plan.now) c.args.c c.args.slice c.loop-b.b (omega arith)
+pub returns-clause-value : goal.returns-clause-value
+returns-clause-value c = c.loop-b.invariant.so_far ∙ coefficients_before-all (parameters_of c.args.plan.now) c.args.c c.args.slice c.loop-b.b (omega arith)

@@ -1,4 +1,5 @@
 use Rattle.std.proofs.Common.{rules, arith, refl, sym, subst, ◌∙◌, ap, ◌+◌, ◌≤◌, inr, unsigned_abs}
+use Rattle.vc_types.specs.Quantisation.{dequantised}
 use Rattle.vc_types.specs.TransformParameters.{parameters_of}
 use Rattle.vc_quant.specs.declared.quantiser.Quantiser.{Quantiser}
 use Rattle.vc_types.proofs.SliceRectangles.{coefficients_before-none, coefficients_before-all}
@@ -38,7 +39,7 @@ loop-b-preserved c =
       from = run_more p c.args.c c.args.slice c.args.index c.loop-b.b c.loop-b.from to c.args.numbers.now c.loop-b.numbers c.dequantise_run.new.numbers (omega arith) c.loop-b.invariant.from end;
       length = search rules;
       done = done_more p c.args.c c.args.slice c.args.index c.loop-b.b c.loop-b.from to c.args.numbers.now c.loop-b.numbers c.dequantise_run.new.numbers (omega arith) c.loop-b.invariant.from end
-          c.index-by_subband-b.result.index (ap (λ (q : Quantiser). q.index) c.index-by_subband-b.is ∙ c.requires.quantisers c.loop-b.b c.index-by_subband-b.result (omega arith)) c.loop-b.invariant.done c.loop-b.invariant.left (c.dequantise_run.ensures.on (search rules)) (c.dequantise_run.ensures.off (search rules));
+          dequantised c.index-by_subband-b.result.index (ap (λ (q : Quantiser). q.index) c.index-by_subband-b.is ∙ c.requires.quantisers c.loop-b.b c.index-by_subband-b.result (omega arith)) c.loop-b.invariant.done c.loop-b.invariant.left (c.dequantise_run.ensures.on (search rules)) (c.dequantise_run.ensures.off (search rules));
       narrow = narrow_more c.loop-b.from to c.loop-b.numbers c.dequantise_run.new.numbers c.loop-b.invariant.narrow (c.dequantise_run.ensures.narrow (search rules)) (c.dequantise_run.ensures.off (search rules));
       left = λ i h. c.dequantise_run.ensures.off (search rules) i (inr h) ∙ c.loop-b.invariant.left i (omega arith);
     }

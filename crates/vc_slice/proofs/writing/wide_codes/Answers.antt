@@ -1,7 +1,7 @@
 use Rattle.vc_types.specs.TransformParameters.{parameters_of}
 use Rattle.vc_types.specs.Encoding.{component_bits}
 use Rattle.vc_slice.proofs.PaddedBlocks.{filled_codes}
-use Rattle.vc_slice.proofs.writing.codes_of.Goals as goal
+use Rattle.vc_slice.proofs.writing.wide_codes.Goals as goal
 
 pub returns : goal.returns
 returns c =

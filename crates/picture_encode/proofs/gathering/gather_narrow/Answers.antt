@@ -1,0 +1,23 @@
+use Rattle.std.proofs.Common.{◌∙◌, sym, length, drop, arith}
+use Rattle.vc_types.specs.declared.video.Component.TheVariants.{Y, C1, C2}
+use Rattle.vc_types.specs.TransformParameters.{parameters_of}
+use Rattle.vc_wave.proofs.Grids.{written_over}
+use Rattle.vc_slice.proofs.ColourParts.{colour_counts}
+use Rattle.picture_encode.specs.Grids.{narrow_numbers}
+use Rattle.picture_encode.proofs.ThreeParts.{length-narrow, three_are}
+use Rattle.picture_encode.proofs.gathering.gather_narrow.Goals as goal
+
+pub returns : goal.returns
+returns c =
+    let p = parameters_of c.args.plan.now in
+    let slice = c.args.slice in
+    let y = c.part_of-luma.ensures.count in
+    let colour = c.part_of-colour.ensures.count in
+    let numbers = c.copy_components.new.numbers in
+    let same = written_over c.in_ok-numbers.numbers.len numbers (drop (length numbers) c.in_ok-numbers.numbers.items) (omega arith) in
+    c.narrow.ensures
+    ∙ three_are c.part_of-luma.result.count c.part_of-colour.result.count (narrow_numbers p Y c.args.y.now slice) (narrow_numbers p C1 c.args.c1.now slice) (narrow_numbers p C2 c.args.c2.now slice)
+    (length-narrow p Y c.args.y.now slice ∙ sym y)
+    (length-narrow p C1 c.args.c1.now slice ∙ sym colour)
+    (length-narrow p C2 c.args.c2.now slice ∙ colour_counts p slice ∙ sym colour)
+    _ (same ∙ c.copy_components.ensures)

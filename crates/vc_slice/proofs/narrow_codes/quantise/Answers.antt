@@ -1,0 +1,42 @@
+use Rattle.std.proofs.Common.{rules, arith, refl, sym, ◌∙◌, ap, ◌+◌, inr}
+use Rattle.vc_types.specs.Quantisation.{quantised}
+use Rattle.vc_types.specs.TransformParameters.{parameters_of}
+use Rattle.vc_types.proofs.SliceRectangles.{coefficients_before-none, coefficients_before-all}
+use Rattle.vc_slice.proofs.NarrowRuns.{run_more, run_within, done_more}
+use Rattle.vc_slice.proofs.narrow_codes.quantise.Goals as goal
+
+pub loop-b-init : goal.loop-b-init
+loop-b-init c = record {
+  from = sym (coefficients_before-none (parameters_of c.args.plan.now) c.args.c c.args.slice);
+  length = refl;
+  done = λ i h. absurd (omega arith);
+  left = λ i h. refl;
+}
+
+pub overflow_add-to : goal.overflow_add-to
+overflow_add-to c =
+    let within = run_within (parameters_of c.args.plan.now) c.args.c c.args.slice c.args.index c.loop-b.b c.loop-b.from (c.loop-b.from + c.area.result) c.args.numbers.now c.loop-b.numbers c.loop-b.numbers (omega arith) c.loop-b.invariant.from (ap (λ n. c.loop-b.from + n) c.area.ensures.value) in
+    omega (arith, within, c.requires.count, c.loop-b.invariant.length, c.loop-b.auto.numbers)
+
+pub quantise_run-requires-clause-run : goal.quantise_run-requires-clause-run
+quantise_run-requires-clause-run c =
+    let within = run_within (parameters_of c.args.plan.now) c.args.c c.args.slice c.args.index c.loop-b.b c.loop-b.from (c.loop-b.from + c.area.result) c.args.numbers.now c.loop-b.numbers c.loop-b.numbers (omega arith) c.loop-b.invariant.from (ap (λ n. c.loop-b.from + n) c.area.ensures.value) in
+    (omega arith, omega (arith, within, c.requires.count, c.loop-b.invariant.length))
+
+pub loop-b-preserved : goal.loop-b-preserved
+loop-b-preserved c =
+    let p = parameters_of c.args.plan.now in
+    let to = c.loop-b.from + c.area.result in
+    let end = ap (λ n. c.loop-b.from + n) c.area.ensures.value in
+    record {
+      from = run_more p c.args.c c.args.slice c.args.index c.loop-b.b c.loop-b.from to c.args.numbers.now c.loop-b.numbers c.quantise_run.new.numbers (omega arith) c.loop-b.invariant.from end;
+      length = search rules;
+      done = done_more p c.args.c c.args.slice c.args.index c.loop-b.b c.loop-b.from to c.args.numbers.now c.loop-b.numbers c.quantise_run.new.numbers (omega arith) c.loop-b.invariant.from end
+          quantised c.quantiser.result.index c.quantiser.ensures c.loop-b.invariant.done c.loop-b.invariant.left c.quantise_run.ensures.on c.quantise_run.ensures.off;
+      left = λ i h. c.quantise_run.ensures.off i (inr h) ∙ c.loop-b.invariant.left i (omega arith);
+    }
+
+pub returns : goal.returns
+returns c = λ i h.
+    let all = coefficients_before-all (parameters_of c.args.plan.now) c.args.c c.args.slice c.loop-b.b (omega arith) in
+    c.loop-b.invariant.done i (omega (arith, all, c.loop-b.invariant.from, c.requires.count))

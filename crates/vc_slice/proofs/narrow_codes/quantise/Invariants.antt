@@ -1,0 +1,16 @@
+use Rattle.std.proofs.Common.{◌≡◌, ◌<◌, ◌≤◌, ℕ, length}
+use Rattle.std.specs.Prelude.{slice_index_or}
+use Rattle.vc_types.specs.Lifting.{line_of}
+use Rattle.vc_types.specs.Quantisation.{quantised}
+use Rattle.vc_types.specs.Slices.{quantisers}
+use Rattle.vc_types.specs.TransformParameters.{parameters_of}
+use Rattle.vc_types.proofs.SliceRectangles.{coefficients_before}
+use Rattle.vc_slice.proofs.narrow_codes.quantise.Given as goal
+
+abbrev pub invariant-loop-b : goal.invariant-loop-b
+invariant-loop-b l = record {
+  from : l.from ≡ coefficients_before (parameters_of l.plan) l.c l.slice l.b;
+  length : length l.numbers ≡ length l.initial.numbers;
+  done : (i : ℕ) → i < l.from → line_of l.numbers i ≡ quantised (line_of l.initial.numbers i) (slice_index_or (quantisers (parameters_of l.plan) l.c l.slice l.index) i 0);
+  left : (i : ℕ) → l.from ≤ i → line_of l.numbers i ≡ line_of l.initial.numbers i;
+}
