@@ -144,6 +144,47 @@ fn more_workers_than_slices(rt: HostRuntime) -> Result<(), Fail> {
     Ok(())
 }
 
+// Whether a slice that is put after so many turns, each of which yields the processor, is decoded.
+fn is_decoded_after<P: Places>(places: &mut P, turns: u32) -> Result<bool, Fail> {
+    for _turn in 0..turns {
+        thread::yield_now();
+    }
+    let place = offer(places, 1)?;
+    Ok(is_decoded(places, place, 1))
+}
+
+// Behind a long pause the workers sleep, and behind a short one they are about to.
+fn slices_with_pauses<P: Hands>(hands: &mut P, workers: u32) -> Result<bool, Fail>
+    requires { P.is_free hands.old }
+{
+    hands.start_workers(workers)?;
+    for turns in [0, 1, 10, 100, 10_000, 0, 100_000] {
+        if !is_decoded_after(hands, turns)? {
+            return Ok(false);
+        }
+    }
+    Ok(true)
+}
+
+fn are_decoded_after_pauses<H: Threads + Wait + Copy + Send + Sync + 'static>(
+    rt: H,
+    alloc: Global,
+    workers: u32,
+) -> Result<bool, Fail> {
+    let gate = Arc::new(alloc, NoGate)?;
+    let mut crew = Crew::new(rt, alloc, |worker: Worker| worker.start(rt, &gate));
+    let decoded = slices_with_pauses(&mut crew, workers);
+    crew.stop();
+    decoded
+}
+
+#[test]
+fn idle_workers_are_called(rt: HostRuntime) -> Result<(), Fail> {
+    assert!(rt; are_decoded_after_pauses(rt, rt.alloc(), 1)?);
+    assert!(rt; are_decoded_after_pauses(rt, rt.alloc(), 3)?);
+    Ok(())
+}
+
 // Holds the first worker that comes, until it is opened, and lets all others pass.
 #[derive(Drop)]
 struct Doorkeeper {
