@@ -1,8 +1,8 @@
 ghost use Rattle.std.specs.Prelude.{◌^◌, ◌<◌, ◌≤◌};
 
 use crate::{
-    NoDefault, Quantiser, default_matrix, dequant, dequantising_never_shrinks, factor,
-    last_index_with, offset, quant, quantisation_is_near,
+    NoDefault, default_matrix, dequant, dequantising_never_shrinks, factor, last_index_with,
+    offset, quant, quantisation_is_near,
 };
 
 // Indices with their factors and offsets, by the standard's formulas in Python.
@@ -205,44 +205,5 @@ fn no_quotient_is_off_by_one(rt: HostRuntime) {
             assert!(rt; c < 1 << 60);
             assert!(rt; is_plain(c, q), "{c} at {q}");
         }
-    }
-}
-
-// The numbers of nine equal coefficients, the first and the last.
-fn quantised_at_once(coefficient: i32, q: u8) -> (i32, i32)
-    requires { q ≤ 127 }
-{
-    let mut numbers = [coefficient; 9];
-    Quantiser::new(q).quant_all(&mut numbers, coefficient.unsigned_abs());
-    (numbers[0], numbers[8])
-}
-
-// Around multiples of the factor, and around the greatest magnitude that is quantised in fewer bits.
-#[test]
-fn coefficients_at_once_are_those_one_by_one(rt: HostRuntime) {
-    for q in 0..128u8 {
-        let near = (3 * factor(q) / 4).min(1 << 30) as i32;
-        for c in [
-            0,
-            1,
-            near - 1,
-            near,
-            near + 1,
-            16382,
-            16383,
-            16384,
-            i32::MAX,
-        ] {
-            for c in [c, -c] {
-                let number = quant(i64::from(c), q);
-                let (first, last) = quantised_at_once(c, q);
-                assert_eq!(rt; i64::from(first), number, "{c} at {q}");
-                assert_eq!(rt; i64::from(last), number, "{c} at {q}");
-            }
-        }
-        assert_eq!(rt;
-            i64::from(quantised_at_once(i32::MIN, q).0),
-            quant(-1 << 31, q)
-        );
     }
 }
