@@ -1,8 +1,8 @@
 ghost use Rattle.std.specs.Prelude.{◌^◌, ◌<◌, ◌≤◌};
 
 use crate::{
-    NoDefault, default_matrix, dequant, dequantising_never_shrinks, factor, last_index_with,
-    offset, quant, quantisation_is_near,
+    NoDefault, Quantiser, default_matrix, dequant, dequantising_never_shrinks, factor,
+    last_index_with, offset, quant, quantisation_is_near,
 };
 
 // Indices with their factors and offsets, by the standard's formulas in Python.
@@ -205,5 +205,41 @@ fn no_quotient_is_off_by_one(rt: HostRuntime) {
             assert!(rt; c < 1 << 60);
             assert!(rt; is_plain(c, q), "{c} at {q}");
         }
+    }
+}
+
+// Nine equal coefficients are quantised at once as each is alone.
+fn is_same_at_once(coefficient: i32, q: u8) -> bool
+    requires { q ≤ 127 }
+{
+    let mut numbers = [coefficient; 9];
+    Quantiser::new(q).quant_all(&mut numbers, coefficient.unsigned_abs());
+    let number = quant(i64::from(coefficient), q);
+    numbers.iter().all(|n| i64::from(*n) == number)
+}
+
+// Around a multiple of the factor, around the greatest magnitude that is quantised in fewer bits, and at the ends of 32 bits.
+#[test]
+fn coefficients_at_once_are_those_one_by_one(rt: HostRuntime) {
+    for q in 0..128u8 {
+        let near = (3 * factor(q) / 4).min(1 << 30) as i32;
+        for c in [
+            0,
+            1,
+            near - 1,
+            near,
+            near + 1,
+            16382,
+            16383,
+            16384,
+            i32::MAX,
+        ] {
+            assert!(rt; c >= 0);
+            assert!(rt;
+                is_same_at_once(c, q) && is_same_at_once(-c, q),
+                "{c} at {q}"
+            );
+        }
+        assert!(rt; is_same_at_once(i32::MIN, q), "the least at {q}");
     }
 }

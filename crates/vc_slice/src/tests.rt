@@ -1,4 +1,4 @@
-ghost use Rattle.std.specs.Prelude.{◌≡◌, ◌≤◌, ◌^◌, IfOk, IsTrue, length, false};
+ghost use Rattle.std.specs.Prelude.{◌≡◌, ◌≤◌, ◌^◌, IfOk, IfSome, IsTrue, length, false};
 ghost use Rattle.std.specs.List.{list_any};
 ghost use Rattle.vc_types.specs.Slices.{coefficients_of, is_large};
 ghost use Rattle.vc_types.specs.Subbands.{slice_coefficient_count};
@@ -201,7 +201,13 @@ fn first_coeffs(alloc: Global, plan: &Plan, y: &[i64]) -> Result<SliceCoeffs, Fa
     if numbers.len() < y + c1 + c2 {
         return Err(Fail::from("too few numbers"));
     }
-    let coeffs = SliceCoeffs::wide(numbers, y, c1, c2);
+    of_first_slice(plan, SliceCoeffs::wide(numbers, y, c1, c2))
+}
+
+// The same coefficients, where a plan's first slice has as many and they are small enough.
+fn of_first_slice(plan: &Plan, coeffs: SliceCoeffs) -> Result<SliceCoeffs, Fail>
+    ensures { IfOk result (λ s. AreSliceCoefficients (parameters_of plan.now) 0 s) }
+{
     if fit(plan, &coeffs, Component::Y)
         && fit(plan, &coeffs, Component::C1)
         && fit(plan, &coeffs, Component::C2)
@@ -267,7 +273,28 @@ fn any_large(coefficients: &CoefficientList<'_>) -> bool
     false
 }
 
-// Encodes the first slice of a plan from these coefficients of Y and no others. The length is that of `encoded_len`.
+// The same coefficients in 32 bits, where they fit.
+fn first_narrow(alloc: Global, plan: &Plan, y: &[i64]) -> Result<Option<SliceCoeffs>, Fail>
+    ensures { IfOk result
+        (λ found. IfSome found (λ s. AreSliceCoefficients (parameters_of plan.now) 0 s)) }
+{
+    let mut numbers = Vec::new(alloc);
+    for place in 0..slice_len(plan, Component::Y, 0) as usize {
+        let number = y.get(place).copied().unwrap_or(0);
+        if number.unsigned_abs() >= 1 << 31 {
+            return Ok(None);
+        }
+        numbers.push(number as i32)?;
+    }
+    let of_y = numbers.len();
+    let of_c = slice_len(plan, Component::C1, 0) as usize;
+    numbers.resize(of_y + of_c + of_c, 0)?;
+    let coeffs = of_first_slice(plan, SliceCoeffs::narrow(numbers, of_y, of_c, of_c))?;
+    Ok(Some(coeffs))
+}
+
+// Encodes the first slice of a plan from these coefficients of Y and no others: in 64 bits, and in 32 where they fit, with
+// the same answer.
 fn encode_first(
     alloc: Global,
     plan: &Plan,
@@ -275,11 +302,29 @@ fn encode_first(
     q: u8,
 ) -> Result<Result<Vec<u8>, EncodeRefusal>, Fail> {
     let coeffs = first_coeffs(alloc, plan, y)?;
+    let answer = encode_coeffs(alloc, plan, &coeffs, q)?;
+    if let Some(narrow) = first_narrow(alloc, plan, y)? {
+        if encode_coeffs(alloc, plan, &narrow, q)? != answer {
+            return Err(Fail::from("another answer in 32 bits"));
+        }
+    }
+    Ok(answer)
+}
+
+// Encodes the first slice of a plan. The length is that of `encoded_len`.
+fn encode_coeffs(
+    alloc: Global,
+    plan: &Plan,
+    coeffs: &SliceCoeffs,
+    q: u8,
+) -> Result<Result<Vec<u8>, EncodeRefusal>, Fail>
+    requires { AreSliceCoefficients (parameters_of plan.now) 0 coeffs.now }
+{
     if q > 127 {
         return Err(Fail::from("no index"));
     }
-    let len = encoded_len(plan, 0, &coeffs, q);
-    let answer = encode(alloc, plan, 0, &coeffs, q);
+    let len = encoded_len(plan, 0, coeffs, q);
+    let answer = encode(alloc, plan, 0, coeffs, q);
     let told = match &answer {
         Ok(bytes) => bytes.len() as u64,
         Err(EncodeRefusal::TooLong { bytes }) => *bytes,
@@ -454,6 +499,19 @@ fn all_lengths_of_the_greatest_coefficients(rt: HostRuntime) -> Result<(), Fail>
         &one_slice(),
         &[(1 << 60) - 1, 0, 1 - (1 << 60), 3],
     )
+}
+
+// Around the greatest magnitude that is quantised in fewer bits, and at the ends of 32 bits: encoded in 64 bits and in 32.
+#[test]
+fn narrow_coefficients_are_encoded_as_wide_ones(rt: HostRuntime) -> Result<(), Fail> {
+    let alloc = rt.alloc();
+    for greatest in [1, 254, 16383, 16384, (1 << 31) - 1, 1 << 31] {
+        for q in [0, 1, 12, 63, 127] {
+            let y = [greatest, -5, 0, -greatest, 0, 3, greatest - 1, 0];
+            let _answer = encode_first(alloc, &two_slices(), &y, q)?;
+        }
+    }
+    Ok(())
 }
 
 #[test]

@@ -2,7 +2,7 @@ use Rattle.std.proofs.Common.{◌≡◌, ℕ, ◌*◌, ◌<◌, true, arith}
 use Rattle.std.proofs.lemmas.Nat.{mul-le}
 use Rattle.vc_types.specs.Limits.{slices_fit}
 use Rattle.vc_types.proofs.SliceCounts.{some_across, some_down}
-use Rattle.vc_slice.proofs.tests.encode_first.Goals as goal
+use Rattle.vc_slice.proofs.tests.encode_coeffs.Goals as goal
 
 some_slices : (across down : ℕ) → slices_fit across down ≡ true → 0 < across * down
 some_slices across down fit = omega (arith, mul-le 1 1 across down (some_across across down fit) (some_down across down fit))
