@@ -1,11 +1,11 @@
 -- The numbers of a slice that are copied out of cells whose rows are taken in turn.
-use Rattle.std.proofs.Common.{◌≡◌, ℕ, suc, ◌+◌, ◌-◌, ◌*◌, ◌/◌, ◌%◌, ◌^◌, ◌<◌, ◌≤◌, ◌⊎◌, inl, inr, List, length, map, ℤ, pos, arith, ap, sym, subst, ◌∙◌}
+use Rattle.std.proofs.Common.{◌≡◌, ℕ, zero, suc, ◌+◌, ◌-◌, ◌*◌, ◌/◌, ◌%◌, ◌^◌, ◌<◌, ◌≤◌, ◌⊎◌, inl, inr, List, length, map, ℤ, pos, arith, ap, sym, subst, ◌∙◌}
 use Rattle.std.specs.List.{range_with_len}
 use Rattle.std.proofs.lemmas.Bool.{cases_lt}
 use Rattle.std.proofs.lemmas.List.{ext_get_or}
 use Rattle.std.proofs.lemmas.List.FromFn.{length-map-range_with_len, get_or-map-range_with_len}
-use Rattle.std.proofs.lemmas.Nat.{div-mul-add, mod-mul-add}
-use Rattle.std.proofs.Math.Nat.{add-mul, div-mul-le_self, mul-le-mul, mul-le-mul_right}
+use Rattle.std.proofs.lemmas.Nat.{div-add-mod', div_below, mod_below}
+use Rattle.std.proofs.Math.Nat.{add-mul, mul-le-mul, mul-le-mul_right}
 use Rattle.link_model.specs.SendingPictures.{number_in, numbers_in_slice}
 use Rattle.vc_types.specs.declared.rect.Rect.{Rect}
 use Rattle.vc_types.specs.declared.video.Component.{Component}
@@ -13,52 +13,57 @@ use Rattle.vc_types.specs.Lifting.{line_of}
 use Rattle.vc_types.specs.Quantisation.{subband_count}
 use Rattle.vc_types.specs.Subbands.{area, place_in, subband_at, slice_rectangle, slice_coefficient_count, coefficient_place, padded_width, padded_height}
 use Rattle.vc_types.specs.TransformParameters.{Parameters}
-use Rattle.vc_types.specs.Transforms.{Cells, lowest_width, lowest_height}
+use Rattle.vc_types.specs.Transforms.{Cells}
 use Rattle.vc_types.proofs.SliceRectangles.{coefficients_before, coefficients_before-more, coefficients_before-rest, coefficients_before-all}
-use Rattle.vc_wave.specs.Layout.{row_in_turn, turned_row, laid_out}
 use Rattle.vc_wave.specs.Planes.{plane_of}
 use Rattle.vc_wave.proofs.PlaneSteps.{plane_in}
-use Rattle.vc_wave.proofs.Turns.{row_below}
+use Rattle.picture_encode.specs.Rows.{band_row, level_below}
 use Rattle.picture_encode.proofs.WalkedSlices.{walked}
 
 -- ---- a rectangle, row by row
 
-module _ (cells : List ℤ) (stride from levels w h : ℕ) (r : Rect) (across : r.x + r.width ≤ stride)
-    (together : (x y : ℕ) → r.x ≤ x → x < r.x + r.width → r.y ≤ y → y < r.y + r.height → row_in_turn levels w h x y ≡ row_in_turn levels w h r.x y) where
-  abbrev pub plane : Cells
-  plane = laid_out levels w h (plane_of stride cells)
-
-  number_at : (row x : ℕ) → row < r.height → x < r.width → line_of cells (row_in_turn levels w h r.x (r.y + row) * stride + r.x + x) ≡ number_in plane (place_in r (row * r.width + x))
-  number_at row x lt inside =
-      let column : (row * r.width + x) % r.width ≡ x = mod-mul-add row r.width x inside in
-      let line : (row * r.width + x) / r.width ≡ row = div-mul-add row r.width x inside in
-      let same = together (r.x + x) (r.y + row) (omega arith) (omega arith) (omega arith) (omega arith) in
-      let place : row_in_turn levels w h r.x (r.y + row) * stride + r.x + x ≡ row_in_turn levels w h (r.x + x) (r.y + row) * stride + (r.x + x) =
-      ap (λ n. n * stride + r.x + x) (sym same) ∙ omega arith in
-      ap (line_of cells) place
-      ∙ sym (plane_in stride cells (r.x + x) (row_in_turn levels w h (r.x + x) (r.y + row)) (omega arith))
-      ∙ (λ i. plane (r.x + sym column i) (r.y + sym line i))
+module _ (cells : List ℤ) (stride from first step : ℕ) (r : Rect) where
+  -- the cell that a row of the rectangle has in one of its columns
+  abbrev pub cell_there : ℕ → ℕ → ℤ
+  cell_there row x = line_of cells ((first + row * step) * stride + r.x + x)
 
   next_row : (row : ℕ) → (row + 1) * r.width ≡ row * r.width + r.width
   next_row row = (let one : 1 * r.width ≡ r.width = omega arith in add-mul row 1 r.width ∙ ap (λ n. row * r.width + n) one)
 
-  module _ (row : ℕ) (old new : List ℤ) (below : row < r.height)
-      (on : (x : ℕ) → x < r.width → line_of new (from + row * r.width + x) ≡ line_of cells (row_in_turn levels w h r.x (r.y + row) * stride + r.x + x))
+  module _ (row : ℕ) (old new : List ℤ)
+      (on : (x : ℕ) → x < r.width → line_of new (from + row * r.width + x) ≡ cell_there row x)
       (off : (i : ℕ) → (i < from + row * r.width) ⊎ (from + row * r.width + r.width ≤ i) → line_of new i ≡ line_of old i) where
-    pub row_copied : ((j : ℕ) → j < row * r.width → line_of old (from + j) ≡ number_in plane (place_in r j)) → (j : ℕ) → j < (row + 1) * r.width → line_of new (from + j) ≡ number_in plane (place_in r j)
-    row_copied before j h = elim (cases_lt j (row * r.width)) [
-      | inl earlier ↦ off (from + j) (inl (omega arith)) ∙ before j earlier
-      | inr here ↦ (
-          let x = j - row * r.width in
-          let inside : x < r.width = omega (arith, next_row row) in
-          let place : row * r.width + x ≡ j = omega arith in
-          let at : from + j ≡ from + row * r.width + x = omega arith in
-          ap (line_of new) at ∙ on x inside ∙ number_at row x below inside ∙ ap (λ k. number_in plane (place_in r k)) place)
+    pub row_copied : ((t x : ℕ) → t < row → x < r.width → line_of old (from + t * r.width + x) ≡ cell_there t x) → (t x : ℕ) → t < row + 1 → x < r.width → line_of new (from + t * r.width + x) ≡ cell_there t x
+    row_copied before t x h inside = elim (cases_lt t row) [
+      | inl earlier ↦ (let rows : suc t * r.width ≤ row * r.width = mul-le-mul_right r.width earlier in off (from + t * r.width + x) (inl (omega (arith, rows, inside))) ∙ before t x earlier inside)
+      | inr here ↦ (let same : row ≡ t = omega arith in subst (λ n. line_of new (from + n * r.width + x) ≡ cell_there n x) same (on x inside))
     ]
 
-    pub rest_kept : (first : List ℤ) → ((i : ℕ) → (i < from) ⊎ (from + row * r.width ≤ i) → line_of old i ≡ line_of first i) → (i : ℕ) → (i < from) ⊎ (from + (row + 1) * r.width ≤ i) → line_of new i ≡ line_of first i
-    rest_kept first before i (inl early) = off i (inl (omega arith)) ∙ before i (inl early)
-    rest_kept first before i (inr late) = (let next = next_row row in off i (inr (omega (arith, next, late))) ∙ before i (inr (omega (arith, next, late))))
+    pub rest_kept : (initial : List ℤ) → ((i : ℕ) → (i < from) ⊎ (from + row * r.width ≤ i) → line_of old i ≡ line_of initial i) → (i : ℕ) → (i < from) ⊎ (from + (row + 1) * r.width ≤ i) → line_of new i ≡ line_of initial i
+    rest_kept initial before i (inl early) = off i (inl (omega arith)) ∙ before i (inl early)
+    rest_kept initial before i (inr late) = (let next = next_row row in off i (inr (omega (arith, next, late))) ∙ before i (inr (omega (arith, next, late))))
+
+  some_columns : (width height j : ℕ) → j < width * height → 0 < width
+  some_columns zero height j h = absurd (omega arith)
+  some_columns (suc width) height j h = omega arith
+
+  -- the numbers of a rectangle, where its rows stand so
+  pub rect_numbers : (turned : ℕ → ℕ → ℕ) (new : List ℤ) → r.x + r.width ≤ stride
+      → ((x row : ℕ) → r.x ≤ x → x < r.x + r.width → row < r.height → turned x (r.y + row) ≡ first + row * step)
+      → ((row x : ℕ) → row < r.height → x < r.width → line_of new (from + row * r.width + x) ≡ cell_there row x)
+      → (j : ℕ) → j < area r → line_of new (from + j) ≡ number_in (λ x y. plane_of stride cells x (turned x y)) (place_in r j)
+  rect_numbers turned new across stands copied j h =
+      let x = j % r.width in
+      let row = j / r.width in
+      let some = some_columns r.width r.height j h in
+      let inside : x < r.width = mod_below j r.width some in
+      let below : row < r.height = div_below j r.width r.height some (omega (arith, h)) in
+      let parts : row * r.width + x ≡ j = div-add-mod' j r.width in
+      let at : from + j ≡ from + row * r.width + x = omega (arith, parts) in
+      let place : (first + row * step) * stride + r.x + x ≡ turned (r.x + x) (r.y + row) * stride + (r.x + x) =
+      ap (λ n. n * stride + r.x + x) (sym (stands (r.x + x) row (omega arith) (omega (arith, inside)) below)) ∙ omega arith in
+      ap (line_of new) at ∙ copied row x below inside ∙ ap (line_of cells) place
+      ∙ sym (plane_in stride cells (r.x + x) (turned (r.x + x) (r.y + row)) (omega (arith, inside, across)))
 
 pub row_fits : (row height width : ℕ) → row < height → row * width + width ≤ width * height
 row_fits row height width h =
@@ -114,26 +119,17 @@ module _ (p : Parameters) (c : Component) (slice : ℕ) (cells : Cells) where
 
 -- ---- a component's rows
 
-pub rows_inside : (p : Parameters) (c : Component) (levels w h stride len x y : ℕ) → levels ≡ p.depth → h ≡ lowest_height p c → stride ≡ padded_width p c → len ≡ padded_height p c * padded_width p c → y < padded_height p c
-    → row_in_turn levels w h x y * stride + stride ≤ len
-rows_inside p c levels w h stride len x y depth low wide whole under =
-    let high : h * 2 ^ levels ≤ padded_height p c = rw (depth, low) (div-mul-le_self (padded_height p c) (2 ^ p.depth)) in
-    let below : suc (row_in_turn levels w h x y) ≤ padded_height p c = row_below levels w h x y (padded_height p c) high under in
-    let rows : suc (row_in_turn levels w h x y) * stride ≤ padded_height p c * stride = mul-le-mul_right stride below in
+pub rows_inside : (p : Parameters) (c : Component) (row stride len : ℕ) → row < padded_height p c → stride ≡ padded_width p c → len ≡ padded_height p c * padded_width p c → row * stride + stride ≤ len
+rows_inside p c row stride len below wide whole =
+    let rows : suc row * stride ≤ padded_height p c * stride = mul-le-mul_right stride below in
     let all : padded_height p c * stride ≡ len = ap (λ n. padded_height p c * n) wide ∙ sym whole in
     omega (arith, rows, all)
 
--- the nested subbands of a component are those that its rows are turned by
-pub same_nesting : (p : Parameters) (c : Component) (levels w h stride : ℕ) (cells : List ℤ) → levels ≡ p.depth → w ≡ lowest_width p c * 2 ^ p.depth_ho → h ≡ lowest_height p c → stride ≡ padded_width p c
-    → laid_out levels w h (plane_of stride cells) ≡ laid_out p.depth (lowest_width p c * 2 ^ p.depth_ho) (lowest_height p c) (plane_of (padded_width p c) cells)
-same_nesting p c levels w h stride cells depth wide low across =
-    ap (λ n. laid_out n w h (plane_of stride cells)) depth
-    ∙ ap (λ n. laid_out p.depth n h (plane_of stride cells)) wide
-    ∙ ap (λ n. laid_out p.depth (lowest_width p c * 2 ^ p.depth_ho) n (plane_of stride cells)) low
-    ∙ ap (λ n. laid_out p.depth (lowest_width p c * 2 ^ p.depth_ho) (lowest_height p c) (plane_of n cells)) across
-
-pub same_turn : (p : Parameters) (c : Component) (levels w h : ℕ) → levels ≡ p.depth → w ≡ lowest_width p c * 2 ^ p.depth_ho → h ≡ lowest_height p c → (x y : ℕ) → row_in_turn levels w h x y ≡ turned_row p c x y
-same_turn p c levels w h depth wide low x y =
-    ap (λ n. row_in_turn n w h x y) depth
-    ∙ ap (λ n. row_in_turn p.depth n h x y) wide
-    ∙ ap (λ n. row_in_turn p.depth (lowest_width p c * 2 ^ p.depth_ho) n x y) low
+-- the rows of a component's nested subbands, by what is told of the nesting
+pub rows_told : (levels h depth low b y first step row : ℕ) → levels ≡ depth → h ≡ low → first ≡ band_row levels (level_below b) h y → step ≡ 2 ^ (levels - level_below b)
+    → first + row * step ≡ band_row depth (level_below b) low y + row * 2 ^ (depth - level_below b)
+rows_told levels h depth low b y first step row deep low_is first_is step_is =
+    ap (λ n. n + row * step) first_is
+    ∙ ap (λ n. band_row levels (level_below b) h y + row * n) step_is
+    ∙ ap (λ n. band_row n (level_below b) h y + row * 2 ^ (n - level_below b)) deep
+    ∙ ap (λ n. band_row depth (level_below b) n y + row * 2 ^ (depth - level_below b)) low_is

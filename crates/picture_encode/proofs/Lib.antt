@@ -9,4 +9,5 @@ mod FirstSlices
 mod PlanFacts
 mod SmallPicture
 mod WidePicture
+mod BandParts
 mod CopiedSlices

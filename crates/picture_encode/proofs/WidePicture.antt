@@ -1,5 +1,5 @@
 -- The picture of the wide test has the sizes and the samples that its settings ask for.
-use Rattle.std.proofs.Common.{◌≡◌, ℕ, ◌<◌, false, true, refl, sym, subst, ◌∙◌, ap, arith, replicate}
+use Rattle.std.proofs.Common.{◌≡◌, ◌<◌, false, true, refl, sym, subst, ◌∙◌, ap, arith, replicate}
 use Rattle.std.proofs.lemmas.List.Elements.{All-replicate}
 use Rattle.link_model.specs.SendingPictures.{sent_sequence, sent_parameters}
 use Rattle.picture_encode.specs.Shapes.{CanBeTransformed}

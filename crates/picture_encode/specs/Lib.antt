@@ -3,3 +3,4 @@ pub mod Refusals
 pub mod Grids
 pub mod Shapes
 pub mod Encoded
+pub mod Rows

@@ -1,4 +1,4 @@
-ghost use Rattle.std.specs.Prelude.{◌≡◌, ◌++◌, ◌+◌, ◌*◌, ◌^◌, ◌<◌, ◌≤◌, ◌⊎◌, ℕ, All, OnOk, IfOk, length, unsigned_abs};
+ghost use Rattle.std.specs.Prelude.{◌≡◌, ◌++◌, ◌+◌, ◌-◌, ◌*◌, ◌^◌, ◌<◌, ◌≤◌, ◌⊎◌, ℕ, All, OnOk, IfOk, length, unsigned_abs};
 ghost use Rattle.link_model.specs.SendingPictures.{number_in, numbers_in_slice};
 ghost use Rattle.picture_encode.specs.Grids.{IsGrid, IsNarrowGrid, IsWideGrid, AreGrids, cells_of, narrow_numbers, rectangle_numbers, slice_in_grids};
 ghost use Rattle.vc_types.specs.declared.video.Component.TheVariants.{Y, C1, C2};
@@ -7,17 +7,17 @@ ghost use Rattle.vc_types.specs.Rasters.{cell_at};
 ghost use Rattle.vc_types.specs.SliceCoefficients.{AreSliceCoefficients};
 ghost use Rattle.vc_geometry.specs.Rectangles.{AreSliceRectangles};
 ghost use Rattle.vc_types.specs.Quantisation.{subband_count};
-ghost use Rattle.vc_types.specs.Subbands.{area, place_in, padded_width, padded_height, slice_count, slice_coefficient_count, slice_rectangle, subband_at};
+ghost use Rattle.vc_types.specs.Subbands.{area, padded_width, padded_height, slice_count, slice_coefficient_count, slice_rectangle, subband_at};
 ghost use Rattle.vc_types.specs.TransformParameters.{parameters_of};
-ghost use Rattle.vc_wave.specs.Layout.{laid_out, row_in_turn};
-ghost use Rattle.vc_wave.specs.Planes.{plane_of};
+ghost use Rattle.vc_types.specs.Transforms.{source_of};
+ghost use Rattle.picture_encode.specs.Rows.{band_row, level_below};
 
 use crate::grids::{ComponentGrid, PictureGrids};
 use std::alloc::Global;
 use vc_geometry::{bands, padded, slice_len, slice_rect, slice_rects};
 use vc_slice::SliceCoeffs;
 use vc_types::{Component, Grid, NoMemory, Plan, Rect};
-use vc_wave::{Nesting, nesting_of, row_in_turn};
+use vc_wave::{Nesting, nesting_of};
 
 const NOWHERE: Rect = Rect {
     x: 0,
@@ -309,44 +309,83 @@ fn copy_slice(
     let mut from = 0;
     for b in 0..bands(plan) {
         let rect = rect_at(plan, c, slice, rects, b);
-        copy_rect(coeffs, from, cells, width as usize, nesting, &rect);
+        let rows = rows_from(nesting, b, rect.y as usize);
+        copy_rect(coeffs, from, cells, width as usize, rows, &rect);
         from += rect.width as usize * rect.height as usize;
     }
 }
 
-// Copies the numbers of a rectangle, row by row, out of cells whose rows are taken in turn.
+// Rows of cells, each so many behind the one before.
+#[derive(Clone, Copy)]
+struct SteppedRows {
+    first: usize,
+    step: usize,
+}
+
+// The rows of cells that hold the rows of subband number `b` from one of them on, in nested subbands that have no levels
+// across alone.
+#[inline(always)]
+fn rows_from(nesting: Nesting, b: u32, y: usize) -> SteppedRows
+    requires levels { nesting.levels ≤ 5 }
+    requires number { b < subband_count 0 nesting.levels }
+    requires some { 1 ≤ nesting.levels }
+    requires small { nesting.h * 2 ^ nesting.levels < 2 ^ 60 }
+    requires y { y ≤ 8192 }
+    ensures first { result.first ≡ band_row nesting.levels (level_below b) nesting.h y }
+    ensures step { result.step ≡ 2 ^ (nesting.levels - level_below b) }
+{
+    let level = b.saturating_sub(1) / 3;
+    let above = u32::from(nesting.levels) - (level + 1);
+    let row = row_of_level(doubled(nesting.h, level), y);
+    SteppedRows {
+        first: doubled(row, above),
+        step: doubled(2, above),
+    }
+}
+
+// The row that a level takes row y of its subbands to, where they have so many rows.
+#[inline(always)]
+fn row_of_level(rows: usize, y: usize) -> usize
+    requires y { y ≤ 8192 }
+    ensures value { result ≡ source_of rows y }
+    ensures small { result ≤ 2 * y + 1 }
+{
+    if y < rows { 2 * y } else { 2 * (y - rows) + 1 }
+}
+
+// A number so many times doubled.
+#[inline(always)]
+fn doubled(n: usize, times: u32) -> usize
+    requires times { times ≤ 5 }
+    requires fits { n * 2 ^ times < 2 ^ 64 }
+    ensures { result ≡ n * 2 ^ times }
+{
+    n << times
+}
+
+// Copies the numbers of a rectangle, row by row, out of rows of cells.
 fn copy_rect(
     coeffs: &mut [i32],
     from: usize,
     cells: &[i32],
     stride: usize,
-    nesting: Nesting,
+    rows: SteppedRows,
     rect: &Rect,
 )
-    requires levels { nesting.levels ≤ 5 }
-    requires small { (nesting.w * 2 ^ nesting.levels < 2 ^ 60)
-        × (nesting.h * 2 ^ nesting.levels < 2 ^ 60) }
+    requires some { 1 ≤ stride }
     requires across { rect.now.x + rect.now.width ≤ stride }
-    requires down { (y : ℕ) → y < rect.now.y + rect.now.height
-        → row_in_turn nesting.levels nesting.w nesting.h rect.now.x y * stride + stride
-        ≤ length cells.now }
-    requires together { (x y : ℕ) → rect.now.x ≤ x → x < rect.now.x + rect.now.width
-        → rect.now.y ≤ y → y < rect.now.y + rect.now.height
-        → row_in_turn nesting.levels nesting.w nesting.h x y
-        ≡ row_in_turn nesting.levels nesting.w nesting.h rect.now.x y }
+    requires down { (row : ℕ) → row < rect.now.height
+        → (rows.first + row * rows.step) * stride + stride ≤ length cells.now }
     requires from { from + area rect.now ≤ length coeffs.old }
-    ensures on { (j : ℕ) → j < area rect.now
-        → line_of coeffs.new (from + j)
-        ≡ number_in
-        (laid_out nesting.levels nesting.w nesting.h (plane_of stride cells.now))
-        (place_in rect.now j) }
+    ensures on { (row x : ℕ) → row < rect.now.height → x < rect.now.width
+        → line_of coeffs.new (from + row * rect.now.width + x)
+        ≡ line_of cells.now ((rows.first + row * rows.step) * stride + rect.now.x + x) }
     ensures off { (i : ℕ) → (i < from) ⊎ (from + area rect.now ≤ i)
         → line_of coeffs.new i ≡ line_of coeffs.old i }
 {
     let width = rect.width as usize;
-    let column = rect.x as usize;
     for row in 0..rect.height as usize {
-        let at = row_in_turn(nesting, column, rect.y as usize + row) * stride + column;
+        let at = (rows.first + row * rows.step) * stride + rect.x as usize;
         copy_row(coeffs, from + row * width, cells, at, width);
     }
 }

@@ -1,4 +1,4 @@
-use Rattle.std.proofs.Common.{◌+◌, ◌*◌, ◌^◌, ◌≤◌, pos, arith, sym, ◌∙◌}
+use Rattle.std.proofs.Common.{pos, arith, sym, ◌∙◌}
 use Rattle.vc_types.specs.TransformParameters.{parameters_of}
 use Rattle.vc_types.proofs.SliceRectangles.{coefficients_before-none, coefficients_before-all}
 use Rattle.picture_encode.proofs.CopiedSlices.{next_before, area_small}

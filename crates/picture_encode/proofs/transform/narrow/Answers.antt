@@ -1,5 +1,5 @@
 use Rattle.std.proofs.Common.{◌≡◌, ◌*◌, ◌^◌, ◌<◌, List, ℤ, All, length, drop, unsigned_abs, arith, ap, subst, ◌∙◌}
-use Rattle.vc_types.specs.Subbands.{padded_width, padded_height}
+use Rattle.vc_types.specs.Subbands.{padded_height}
 use Rattle.vc_types.specs.TransformParameters.{parameters_of}
 use Rattle.vc_wave.proofs.Grids.{written_over}
 use Rattle.vc_wave.proofs.TransformLaws.{no_levels}
