@@ -340,6 +340,7 @@ pub(crate) fn copy_rect(
         2 => copy_rows(coeffs, from, cells, stride, rows, rect, 2),
         4 => copy_rows(coeffs, from, cells, stride, rows, rect, 4),
         8 => copy_rows(coeffs, from, cells, stride, rows, rect, 8),
+        16 => copy_rows(coeffs, from, cells, stride, rows, rect, 16),
         width => copy_rows(coeffs, from, cells, stride, rows, rect, width as usize),
     }
 }
@@ -381,7 +382,7 @@ fn copy_row(coeffs: &mut [i32], at: usize, cells: &[i32], from: usize, width: us
     ensures off { (i : ℕ) → (i < at) ⊎ (at + width ≤ i)
         → line_of coeffs.new i ≡ line_of coeffs.old i }
 {
-    if width <= 8 {
+    if width <= 16 {
         copy_few(coeffs, at, cells, from, width);
     } else {
         copy_many(coeffs, at, cells, from, width);
@@ -391,14 +392,14 @@ fn copy_row(coeffs: &mut [i32], at: usize, cells: &[i32], from: usize, width: us
 // All cells are read before a number is written, so that they go over at once.
 #[inline(always)]
 fn copy_few(coeffs: &mut [i32], at: usize, cells: &[i32], from: usize, width: usize)
-    requires few { width ≤ 8 }
+    requires few { width ≤ 16 }
     requires at { at + width ≤ length coeffs.old }
     requires from { from + width ≤ length cells.now }
     ensures on { (x : ℕ) → x < width → line_of coeffs.new (at + x) ≡ line_of cells.now (from + x) }
     ensures off { (i : ℕ) → (i < at) ⊎ (at + width ≤ i)
         → line_of coeffs.new i ≡ line_of coeffs.old i }
 {
-    let mut few = [0; 8];
+    let mut few = [0; 16];
     for x in 0..width {
         few[x] = cells[from + x];
     }

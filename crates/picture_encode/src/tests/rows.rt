@@ -39,13 +39,13 @@ fn rows_of_subbands_stand_in_turn(rt: HostRuntime) {
 
 // Whether two rows of such a width are copied out of rows 1 and 3 of the cells, and nothing beside them is written.
 fn is_copied(width: u32) -> bool
-    requires { width ≤ 9 }
+    requires { width ≤ 17 }
 {
-    let mut cells = [0i32; 50];
-    for i in 0..50 {
+    let mut cells = [0i32; 100];
+    for i in 0..100 {
         cells[i] = i as i32;
     }
-    let mut numbers = [-1i32; 20];
+    let mut numbers = [-1i32; 40];
     let rows = SteppedRows { first: 1, step: 2 };
     let rect = Rect {
         x: 1,
@@ -53,17 +53,17 @@ fn is_copied(width: u32) -> bool
         width,
         height: 2,
     };
-    copy_rect(&mut numbers, 1, &cells, 10, rows, &rect);
+    copy_rect(&mut numbers, 1, &cells, 20, rows, &rect);
     let w = width as usize;
     numbers[0] == -1
-        && numbers[1..1 + w] == cells[11..11 + w]
-        && numbers[1 + w..1 + 2 * w] == cells[31..31 + w]
+        && numbers[1..1 + w] == cells[21..21 + w]
+        && numbers[1 + w..1 + 2 * w] == cells[61..61 + w]
         && numbers[1 + 2 * w] == -1
 }
 
 #[test]
 fn rows_of_each_width_are_copied(rt: HostRuntime) {
-    for width in 0..10u32 {
+    for width in 0..18u32 {
         assert!(rt; is_copied(width));
     }
 }

@@ -5,7 +5,7 @@ use Rattle.picture_encode.proofs.gathering.copy_few.Given as goal
 abbrev pub invariant-loop-x : goal.invariant-loop-x
 invariant-loop-x l = record {
   read : (i : ℕ) → i < l.x → line_of l.few i ≡ line_of l.cells (l.from + i);
-  long : length l.few ≡ 8;
+  long : length l.few ≡ 16;
 }
 
 abbrev pub invariant-loop-x-2 : goal.invariant-loop-x-2
