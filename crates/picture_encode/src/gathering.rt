@@ -1,4 +1,4 @@
-ghost use Rattle.std.specs.Prelude.{◌≡◌, ◌++◌, ◌+◌, ◌-◌, ◌*◌, ◌^◌, ◌<◌, ◌≤◌, ◌⊎◌, ℕ, All, OnOk, IfOk, length, unsigned_abs};
+ghost use Rattle.std.specs.Prelude.{◌≡◌, ◌++◌, ◌+◌, ◌*◌, ◌^◌, ◌<◌, ◌≤◌, ◌⊎◌, ℕ, All, OnOk, IfOk, length, unsigned_abs};
 ghost use Rattle.link_model.specs.SendingPictures.{number_in, numbers_in_slice};
 ghost use Rattle.picture_encode.specs.Grids.{IsGrid, IsNarrowGrid, IsWideGrid, AreGrids, cells_of, narrow_numbers, rectangle_numbers, slice_in_grids};
 ghost use Rattle.vc_types.specs.declared.video.Component.TheVariants.{Y, C1, C2};
@@ -9,15 +9,14 @@ ghost use Rattle.vc_geometry.specs.Rectangles.{AreSliceRectangles};
 ghost use Rattle.vc_types.specs.Quantisation.{subband_count};
 ghost use Rattle.vc_types.specs.Subbands.{area, padded_width, padded_height, slice_count, slice_coefficient_count, slice_rectangle, subband_at};
 ghost use Rattle.vc_types.specs.TransformParameters.{parameters_of};
-ghost use Rattle.vc_types.specs.Transforms.{source_of};
-ghost use Rattle.picture_encode.specs.Rows.{band_row, level_below};
 
 use crate::grids::{ComponentGrid, PictureGrids};
+use crate::rows::{SteppedRows, rows_from};
 use std::alloc::Global;
 use vc_geometry::{bands, padded, slice_len, slice_rect, slice_rects};
 use vc_slice::SliceCoeffs;
 use vc_types::{Component, Grid, NoMemory, Plan, Rect};
-use vc_wave::{Nesting, nesting_of};
+use vc_wave::nesting_of;
 
 const NOWHERE: Rect = Rect {
     x: 0,
@@ -315,56 +314,8 @@ fn copy_slice(
     }
 }
 
-// Rows of cells, each so many behind the one before.
-#[derive(Clone, Copy)]
-struct SteppedRows {
-    first: usize,
-    step: usize,
-}
-
-// The rows of cells that hold the rows of subband number `b` from one of them on, in nested subbands that have no levels
-// across alone.
-#[inline(always)]
-fn rows_from(nesting: Nesting, b: u32, y: usize) -> SteppedRows
-    requires levels { nesting.levels ≤ 5 }
-    requires number { b < subband_count 0 nesting.levels }
-    requires some { 1 ≤ nesting.levels }
-    requires small { nesting.h * 2 ^ nesting.levels < 2 ^ 60 }
-    requires y { y ≤ 8192 }
-    ensures first { result.first ≡ band_row nesting.levels (level_below b) nesting.h y }
-    ensures step { result.step ≡ 2 ^ (nesting.levels - level_below b) }
-{
-    let level = b.saturating_sub(1) / 3;
-    let above = u32::from(nesting.levels) - (level + 1);
-    let row = row_of_level(doubled(nesting.h, level), y);
-    SteppedRows {
-        first: doubled(row, above),
-        step: doubled(2, above),
-    }
-}
-
-// The row that a level takes row y of its subbands to, where they have so many rows.
-#[inline(always)]
-fn row_of_level(rows: usize, y: usize) -> usize
-    requires y { y ≤ 8192 }
-    ensures value { result ≡ source_of rows y }
-    ensures small { result ≤ 2 * y + 1 }
-{
-    if y < rows { 2 * y } else { 2 * (y - rows) + 1 }
-}
-
-// A number so many times doubled.
-#[inline(always)]
-fn doubled(n: usize, times: u32) -> usize
-    requires times { times ≤ 5 }
-    requires fits { n * 2 ^ times < 2 ^ 64 }
-    ensures { result ≡ n * 2 ^ times }
-{
-    n << times
-}
-
-// Copies the numbers of a rectangle, row by row, out of rows of cells.
-fn copy_rect(
+/// Copies the numbers of a rectangle, row by row, out of rows of cells.
+pub(crate) fn copy_rect(
     coeffs: &mut [i32],
     from: usize,
     cells: &[i32],
@@ -383,7 +334,39 @@ fn copy_rect(
     ensures off { (i : ℕ) → (i < from) ⊎ (from + area rect.now ≤ i)
         → line_of coeffs.new i ≡ line_of coeffs.old i }
 {
-    let width = rect.width as usize;
+    // Rows of these widths go over at once.
+    match rect.width {
+        1 => copy_rows(coeffs, from, cells, stride, rows, rect, 1),
+        2 => copy_rows(coeffs, from, cells, stride, rows, rect, 2),
+        4 => copy_rows(coeffs, from, cells, stride, rows, rect, 4),
+        8 => copy_rows(coeffs, from, cells, stride, rows, rect, 8),
+        16 => copy_rows(coeffs, from, cells, stride, rows, rect, 16),
+        width => copy_rows(coeffs, from, cells, stride, rows, rect, width as usize),
+    }
+}
+
+#[inline(always)]
+fn copy_rows(
+    coeffs: &mut [i32],
+    from: usize,
+    cells: &[i32],
+    stride: usize,
+    rows: SteppedRows,
+    rect: &Rect,
+    width: usize,
+)
+    requires width { width ≡ rect.now.width }
+    requires some { 1 ≤ stride }
+    requires across { rect.now.x + rect.now.width ≤ stride }
+    requires down { (row : ℕ) → row < rect.now.height
+        → (rows.first + row * rows.step) * stride + stride ≤ length cells.now }
+    requires from { from + area rect.now ≤ length coeffs.old }
+    ensures on { (row x : ℕ) → row < rect.now.height → x < rect.now.width
+        → line_of coeffs.new (from + row * rect.now.width + x)
+        ≡ line_of cells.now ((rows.first + row * rows.step) * stride + rect.now.x + x) }
+    ensures off { (i : ℕ) → (i < from) ⊎ (from + area rect.now ≤ i)
+        → line_of coeffs.new i ≡ line_of coeffs.old i }
+{
     for row in 0..rect.height as usize {
         let at = (rows.first + row * rows.step) * stride + rect.x as usize;
         copy_row(coeffs, from + row * width, cells, at, width);
@@ -393,6 +376,39 @@ fn copy_rect(
 // Copies so many numbers, from one of them on, to those from another on.
 #[inline(always)]
 fn copy_row(coeffs: &mut [i32], at: usize, cells: &[i32], from: usize, width: usize)
+    requires at { at + width ≤ length coeffs.old }
+    requires from { from + width ≤ length cells.now }
+    ensures on { (x : ℕ) → x < width → line_of coeffs.new (at + x) ≡ line_of cells.now (from + x) }
+    ensures off { (i : ℕ) → (i < at) ⊎ (at + width ≤ i)
+        → line_of coeffs.new i ≡ line_of coeffs.old i }
+{
+    if width <= 16 {
+        copy_few(coeffs, at, cells, from, width);
+    } else {
+        copy_many(coeffs, at, cells, from, width);
+    }
+}
+
+// All cells are read before a number is written, so that they go over at once.
+#[inline(always)]
+fn copy_few(coeffs: &mut [i32], at: usize, cells: &[i32], from: usize, width: usize)
+    requires few { width ≤ 16 }
+    requires at { at + width ≤ length coeffs.old }
+    requires from { from + width ≤ length cells.now }
+    ensures on { (x : ℕ) → x < width → line_of coeffs.new (at + x) ≡ line_of cells.now (from + x) }
+    ensures off { (i : ℕ) → (i < at) ⊎ (at + width ≤ i)
+        → line_of coeffs.new i ≡ line_of coeffs.old i }
+{
+    let mut few = [0; 16];
+    for x in 0..width {
+        few[x] = cells[from + x];
+    }
+    for x in 0..width {
+        coeffs[at + x] = few[x];
+    }
+}
+
+fn copy_many(coeffs: &mut [i32], at: usize, cells: &[i32], from: usize, width: usize)
     requires at { at + width ≤ length coeffs.old }
     requires from { from + width ≤ length cells.now }
     ensures on { (x : ℕ) → x < width → line_of coeffs.new (at + x) ≡ line_of cells.now (from + x) }

@@ -6,6 +6,7 @@ mod gathering;
 mod grids;
 mod plan;
 mod refusal;
+mod rows;
 mod slices;
 mod transform;
 

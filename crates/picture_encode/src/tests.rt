@@ -6,6 +6,7 @@ ghost use Rattle.vc_types.specs.SenderSettings.{sending_view};
 ghost use Rattle.vc_types.specs.declared.choice.IndexChoice.TheVariants.{Index};
 ghost use Rattle.vc_types.specs.declared.video.Sampling.TheVariants.{S444};
 
+mod rows;
 mod wide;
 
 use crate::{

@@ -3,7 +3,7 @@ use Rattle.std.proofs.Math.Nat.{mul-le-mul_left}
 use Rattle.std.proofs.Math.Pow.{pow_mono}
 use Rattle.picture_encode.specs.Rows.{level_below}
 use Rattle.picture_encode.proofs.BandParts.{power_parts}
-use Rattle.picture_encode.proofs.gathering.rows_from.Goals as goal
+use Rattle.picture_encode.proofs.rows.rows_from.Goals as goal
 
 pub doubled-requires-clause-fits : goal.doubled-requires-clause-fits
 doubled-requires-clause-fits c =

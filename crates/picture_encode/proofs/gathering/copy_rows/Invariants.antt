@@ -1,7 +1,7 @@
 use Rattle.std.proofs.Common.{◌≡◌, ◌+◌, ◌*◌, ◌<◌, ◌≤◌, ◌⊎◌, ℕ}
 use Rattle.vc_types.specs.Lifting.{line_of}
 use Rattle.picture_encode.proofs.CopiedSlices.{cell_there}
-use Rattle.picture_encode.proofs.gathering.copy_rect.Given as goal
+use Rattle.picture_encode.proofs.gathering.copy_rows.Given as goal
 
 abbrev pub invariant-loop-row : goal.invariant-loop-row
 invariant-loop-row l = record {

@@ -1,6 +1,6 @@
 use Rattle.std.proofs.Common.{◌≡◌, ◌+◌, ◌<◌, ◌≤◌, ◌⊎◌, ℕ}
 use Rattle.vc_types.specs.Lifting.{line_of}
-use Rattle.picture_encode.proofs.gathering.copy_row.Given as goal
+use Rattle.picture_encode.proofs.gathering.copy_many.Given as goal
 
 abbrev pub invariant-loop-x : goal.invariant-loop-x
 invariant-loop-x l = record {
