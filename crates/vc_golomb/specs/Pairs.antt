@@ -11,11 +11,11 @@ pub record IsPair (numbers : List ℤ) (at : ℕ) : Type 0 where
   pub second : (negsuc 7 ≤ℤ line_of numbers (at + 1)) × (line_of numbers (at + 1) <ℤ pos 8)
 
 -- the two numbers whose codes a place of the table has
-abbrev pub first_of : ℕ → ℤ
-first_of place = pos (place / 16) -ℤ pos 8
+abbrev pub first_number : ℕ → ℤ
+first_number place = pos (place / 16) -ℤ pos 8
 
-abbrev pub second_of : ℕ → ℤ
-second_of place = pos (place % 16) -ℤ pos 8
+abbrev pub second_number : ℕ → ℤ
+second_number place = pos (place % 16) -ℤ pos 8
 
 -- the last five bits of an entry say how many bits the codes of two numbers have; they stand in
 -- front

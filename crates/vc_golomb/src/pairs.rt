@@ -1,7 +1,7 @@
 ghost use Rattle.std.specs.Prelude.{◌≡◌, ◌<◌, ◌≤◌, ◌^◌, ◌++◌, true, pos, negsuc, ◌≤ℤ◌, ◌<ℤ◌};
 ghost use Rattle.vc_types.specs.Codes.{sint_bits};
 ghost use Rattle.vc_bits.specs.Bits.{word_bits};
-ghost use Rattle.vc_golomb.specs.Pairs.{HasCodes, first_of, second_of};
+ghost use Rattle.vc_golomb.specs.Pairs.{HasCodes, first_number, second_number};
 
 use crate::short::ShortCode;
 
@@ -34,8 +34,8 @@ pub(crate) fn pair_code(first: i32, second: i32) -> ShortCode
 fn place_of(first: i32, second: i32) -> usize
     requires first { (negsuc 7 ≤ℤ first) × (first <ℤ pos 8) }
     requires second { (negsuc 7 ≤ℤ second) × (second <ℤ pos 8) }
-    ensures first { first_of result ≡ first }
-    ensures second { second_of result ≡ second }
+    ensures first { first_number result ≡ first }
+    ensures second { second_number result ≡ second }
     ensures range { result < 256 }
 {
     16 * (first + 8) as usize + (second + 8) as usize
@@ -44,7 +44,7 @@ fn place_of(first: i32, second: i32) -> usize
 #[inline(always)]
 fn pair_at(place: usize) -> u32
     requires { place < 256 }
-    ensures { HasCodes (first_of place) (second_of place) result }
+    ensures { HasCodes (first_number place) (second_number place) result }
 {
     PAIRS[place]
 }

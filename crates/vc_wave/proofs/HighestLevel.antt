@@ -7,7 +7,7 @@ use Rattle.vc_types.specs.Subbands.{levels, plane_width, plane_height, padded_wi
 use Rattle.vc_types.specs.TransformParameters.{Parameters}
 use Rattle.vc_types.specs.Transforms.{Cells, levels_across, inverse_level, inverse_transform, lowest_width, lowest_height}
 use Rattle.vc_types.proofs.PaddedSides.{padded-above}
-use Rattle.vc_wave.specs.Layout.{laid_out, left_in, after_levels, row_in_turn}
+use Rattle.vc_wave.specs.Layout.{laid_out, nested_above, after_levels, row_in_turn}
 use Rattle.vc_wave.specs.Planes.{plane_of}
 use Rattle.vc_wave.specs.Remade.{level_in_turn}
 use Rattle.vc_wave.proofs.Grids.{padded_whole}
@@ -57,7 +57,7 @@ module _ (p : Parameters) (c : Component) (w h lowest_w lowest_h : ℕ) (some : 
   height_in_parts : h ≡ lowest_height p c * 2 ^ (p.depth - 1)
   height_in_parts = high ∙ ap (λ n. n * 2 ^ (p.depth - 1)) down
 
-  pub highest_made : (stride : ℕ) (cells : List ℤ) (nested : Cells) → left_in p c (p.depth - 1) stride cells ≡ after_levels p c (p.depth - 1) nested
+  pub highest_made : (stride : ℕ) (cells : List ℤ) (nested : Cells) → nested_above p c (p.depth - 1) stride cells ≡ after_levels p c (p.depth - 1) nested
       → level_in_turn p.wavelet p.wavelet_ho w h (plane_of stride cells) ≡ inverse_transform p c nested
   unfolding inverse_transform
   highest_made stride cells nested below =
@@ -72,8 +72,8 @@ module _ (p : Parameters) (c : Component) (w h lowest_w lowest_h : ℕ) (some : 
       ∙ ap (λ n. level_in_turn p.wavelet p.wavelet_ho columns n plane) height_in_parts
       ∙ in_turn p.wavelet p.wavelet_ho columns rows plane
       ∙ ap (λ n. inverse_level p.wavelet p.wavelet_ho columns rows (laid_out n columns rows plane)) one
-      ∙ next_level p.wavelet p.wavelet_ho (p.depth - 1) side (lowest_height p c) first (left_in p c (p.depth - 1) stride cells)
-      (inverse_level p.wavelet p.wavelet_ho columns rows (left_in p c (p.depth - 1) stride cells)) below refl
+      ∙ next_level p.wavelet p.wavelet_ho (p.depth - 1) side (lowest_height p c) first (nested_above p c (p.depth - 1) stride cells)
+      (inverse_level p.wavelet p.wavelet_ho columns rows (nested_above p c (p.depth - 1) stride cells)) below refl
       ∙ ap (λ n. after_levels p c n nested) all
 
   pub highest_room : (columns rows stride cells : ℕ) → 0 < lowest_w → 0 < lowest_h → padded_width p c < 2 ^ 32 → padded_height p c < 2 ^ 32 → columns ≡ plane_width p.shape c → rows ≡ plane_height p.shape c → 1 ≤ columns → 1 ≤ rows

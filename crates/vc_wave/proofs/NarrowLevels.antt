@@ -19,7 +19,7 @@ use Rattle.vc_lift.proofs.LineLaws.{synthesis_past}
 use Rattle.vc_lift.proofs.NarrowGrowth.{synthesis_after, narrow_covers}
 use Rattle.vc_wave.specs.declared.pass.Direction.TheVariants.{Synthesis}
 use Rattle.vc_wave.specs.Layout.{laid_out, row_in_turn, after_levels}
-use Rattle.vc_wave.specs.NarrowBounds.{AreWithin, Reaches, rows_bound, bound_over}
+use Rattle.vc_wave.specs.NarrowBounds.{AreWithin, CarriesTo, rows_bound, bound_over}
 use Rattle.vc_wave.specs.Planes.{HasRoom, plane_of}
 use Rattle.vc_wave.specs.Remade.{remade, merged, halves_together, level_in_turn}
 use Rattle.vc_wave.proofs.Copies.{on_samples_in}
@@ -164,13 +164,13 @@ rows_at_most wavelet half rows most after c some fits small x y = row (cases_lt 
         (synthesis_after wavelet half most m.made (halves_together half (λ k. c k y)) some m.synthesised woven x within))
 
 -- the same of cells that are kept row by row, with a bound that a pass reaches from some bound on them
-pub columns_within : (wavelet half columns pitch after : ℕ) (old new : List ℤ) → 0 < half → 0 < pitch → Reaches (narrow_bound wavelet) old after → plane_of pitch new ≡ on_columns (synthesised wavelet (2 * half)) columns (plane_of pitch old) → AreWithin after new
+pub columns_within : (wavelet half columns pitch after : ℕ) (old new : List ℤ) → 0 < half → 0 < pitch → CarriesTo (narrow_bound wavelet) old after → plane_of pitch new ≡ on_columns (synthesised wavelet (2 * half)) columns (plane_of pitch old) → AreWithin after new
 columns_within wavelet half columns pitch after old new some wide r made =
     cells_small pitch after new wide
     (subst (λ (p : Cells). AtMost after p) (sym made)
     (columns_at_most wavelet half columns r.most after (plane_of pitch old) some r.fits (plane_small pitch r.most old r.small)))
 
-pub rows_within : (wavelet half rows pitch after : ℕ) (old new : List ℤ) → 0 < half → 0 < pitch → Reaches (rows_bound wavelet) old after → plane_of pitch new ≡ on_rows (remade Synthesis wavelet (is_shifted wavelet) half) rows (plane_of pitch old) → AreWithin after new
+pub rows_within : (wavelet half rows pitch after : ℕ) (old new : List ℤ) → 0 < half → 0 < pitch → CarriesTo (rows_bound wavelet) old after → plane_of pitch new ≡ on_rows (remade Synthesis wavelet (is_shifted wavelet) half) rows (plane_of pitch old) → AreWithin after new
 rows_within wavelet half rows pitch after old new some wide r made =
     cells_small pitch after new wide
     (subst (λ (p : Cells). AtMost after p) (sym made)

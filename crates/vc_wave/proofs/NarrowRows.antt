@@ -17,7 +17,7 @@ use Rattle.vc_wave.specs.declared.lines.Lines.{Lines}
 use Rattle.vc_wave.specs.declared.pass.Direction.TheVariants.{Synthesis}
 use Rattle.vc_wave.specs.Lines.{IsMade, IsApart, line_at}
 use Rattle.vc_wave.specs.NarrowBounds.{RowHasBound, rows_bound, shifted_bound}
-use Rattle.vc_wave.specs.Remade.{remade, halves_together, merged, settled}
+use Rattle.vc_wave.specs.Remade.{remade, halves_together, merged, shifted_down}
 use Rattle.vc_wave.proofs.Copies.{places_differ, on_samples_in}
 use Rattle.vc_wave.proofs.PlaneLines.{rearranged_in}
 use Rattle.vc_wave.proofs.Weaving.{half_place_below, source_below, half_place-source_of}
@@ -151,9 +151,9 @@ module _ (start half : ℕ) (some : 0 < half) where
         (λ j lt. row_at old j ∙ sym (is (half_place half j)) ∙ sym (rearranged_in (2 * half) (half_place half) l j lt)) k h
 
     -- a sample of the row, where it stands in its half
-    pub row_value : (l : Line) → ((j : ℕ) → l j ≡ line_of old (start + j)) → (shifted : Bool) → shifted ≡ is_shifted wavelet → (k : ℕ) → k < 2 * half → settled shifted (line_of mid (start + half_place half k)) ≡ remade Synthesis wavelet (is_shifted wavelet) half l k
+    pub row_value : (l : Line) → ((j : ℕ) → l j ≡ line_of old (start + j)) → (shifted : Bool) → shifted ≡ is_shifted wavelet → (k : ℕ) → k < 2 * half → shifted_down shifted (line_of mid (start + half_place half k)) ≡ remade Synthesis wavelet (is_shifted wavelet) half l k
     row_value l is shifted same k h =
-        ap (settled shifted) (sym (row_at mid k) ∙ together_at l is k h) ∙ ap (λ t. settled t (merged wavelet half l k)) same
+        ap (shifted_down shifted) (sym (row_at mid k) ∙ together_at l is k h) ∙ ap (λ t. shifted_down t (merged wavelet half l k)) same
         ∙ sym (on_samples_in halved (is_shifted wavelet) (2 * half) (merged wavelet half l) k h)
 
     module _ (new : List ℤ) (shifted : Bool)

@@ -36,8 +36,8 @@ after_levels p c count nested =
     (levels_across p.wavelet_ho p.depth_ho (lowest_width p c) (lowest_height p c) nested)
 
 -- the nested subbands of the levels above those, in cells that are kept row by row
-abbrev pub left_in : Parameters → Component → ℕ → ℕ → List ℤ → Cells
-left_in p c count stride cells =
+abbrev pub nested_above : Parameters → Component → ℕ → ℕ → List ℤ → Cells
+nested_above p c count stride cells =
     laid_out (p.depth - count)
     (lowest_width p c * 2 ^ p.depth_ho * 2 ^ count) (lowest_height p c * 2 ^ count)
     (plane_of stride cells)

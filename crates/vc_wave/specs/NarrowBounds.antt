@@ -29,7 +29,7 @@ abbrev pub AreWithin : ℕ → List ℤ → Type 0
 AreWithin most cells = (i : ℕ) → unsigned_abs (line_of cells i) ≤ most
 
 -- some bound on cells is carried on to this one
-pub record Reaches (carry : ℕ → Option ℕ) (cells : List ℤ) (after : ℕ) : Type 0 where
+pub record CarriesTo (carry : ℕ → Option ℕ) (cells : List ℤ) (after : ℕ) : Type 0 where
   pub most : ℕ
   pub small : AreWithin most cells
   pub fits : carry most ≡ Some after

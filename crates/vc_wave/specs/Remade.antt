@@ -27,8 +27,8 @@ unfoldable pub on_samples : (ℤ → ℤ) → Bool → ℕ → Line → Line
 on_samples f wanted n l k = if wanted && nat_lt k n then f (l k) else l k
 
 -- a sample, shifted down if that is wanted
-abbrev pub settled : Bool → ℤ → ℤ
-settled shifted z = if shifted then halved z else z
+abbrev pub shifted_down : Bool → ℤ → ℤ
+shifted_down shifted z = if shifted then halved z else z
 
 -- two halves put together, and a line taken apart into two halves
 abbrev pub merged : ℕ → ℕ → Line → Line

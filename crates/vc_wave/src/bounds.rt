@@ -1,6 +1,6 @@
 ghost use Rattle.std.specs.Prelude.{◌≡◌, ◌^◌, ◌<◌, ◌≤◌, IfSome};
 ghost use Rattle.vc_lift.specs.Ranges.{narrow_bound};
-ghost use Rattle.vc_wave.specs.NarrowBounds.{shifted_bound, rows_bound, AreWithin, Reaches};
+ghost use Rattle.vc_wave.specs.NarrowBounds.{shifted_bound, rows_bound, AreWithin, CarriesTo};
 
 use crate::shift::is_shifted;
 use vc_lift::narrow_bound;
@@ -39,7 +39,7 @@ pub(crate) fn columns_reach(wavelet: u8, cells: &[i32], most: u64) -> Option<u64
     requires wavelet { wavelet ≤ 6 }
     requires most { most < 2 ^ 31 }
     requires within { AreWithin most cells.now }
-    ensures value { IfSome result (λ after. Reaches (narrow_bound wavelet) cells.now after) }
+    ensures value { IfSome result (λ after. CarriesTo (narrow_bound wavelet) cells.now after) }
     ensures small { IfSome result (λ after. after < 2 ^ 31) }
 {
     let after = narrow_bound(wavelet, most);
@@ -54,7 +54,7 @@ pub(crate) fn rows_reach(wavelet: u8, cells: &[i32], most: u64) -> Option<u64>
     requires wavelet { wavelet ≤ 6 }
     requires most { most < 2 ^ 31 }
     requires within { AreWithin most cells.now }
-    ensures value { IfSome result (λ after. Reaches (rows_bound wavelet) cells.now after) }
+    ensures value { IfSome result (λ after. CarriesTo (rows_bound wavelet) cells.now after) }
     ensures small { IfSome result (λ after. after < 2 ^ 31) }
 {
     let after = rows_bound(wavelet, most);

@@ -6,7 +6,7 @@ ghost use Rattle.vc_types.specs.Transforms.{halved, half_place, on_columns, on_r
 ghost use Rattle.vc_types.specs.Wavelets.{is_shifted, synthesised};
 ghost use Rattle.vc_lift.specs.Ranges.{narrow_bound};
 ghost use Rattle.vc_wave.specs.declared.pass.Direction.TheVariants.{Synthesis};
-ghost use Rattle.vc_wave.specs.Layout.{laid_out, nested_in, left_in, after_levels};
+ghost use Rattle.vc_wave.specs.Layout.{laid_out, nested_in, nested_above, after_levels};
 ghost use Rattle.vc_wave.specs.Lines.{IsMade};
 ghost use Rattle.vc_wave.specs.NarrowBounds.{AreWithin, HasBound, RowHasBound, rows_bound};
 ghost use Rattle.vc_wave.specs.Planes.{HasRoom, plane_of};
@@ -22,7 +22,7 @@ use vc_types::{Component, Plan};
 
 /// A sample shifted down by one bit, rounded, if that is wanted.
 #[inline(always)]
-pub(crate) fn settled(sample: i32, shifted: bool) -> i32
+pub(crate) fn shifted_down(sample: i32, shifted: bool) -> i32
     requires { shifted ≡ true → unsigned_abs sample + 1 < 2 ^ 31 }
     ensures { result ≡ (if shifted then halved sample else sample) }
 {
@@ -62,8 +62,8 @@ fn weave(cells: &mut [i32], start: usize, half: usize, shifted: bool, line: &mut
 {
     copy_row(line, cells, start, 2 * half);
     for k in 0..half {
-        cells[start + 2 * k] = settled(line[k], shifted);
-        cells[start + 2 * k + 1] = settled(line[half + k], shifted);
+        cells[start + 2 * k] = shifted_down(line[k], shifted);
+        cells[start + 2 * k + 1] = shifted_down(line[half + k], shifted);
     }
 }
 
@@ -253,7 +253,7 @@ pub(crate) fn merge_below(
     requires cells { padded_height (parameters_of plan.now) c * stride ≤ length cells.old }
     requires line { padded_width (parameters_of plan.now) c ≤ length line.old }
     ensures made { IfSome result (λ after.
-        left_in (parameters_of plan.now) c count stride cells.new
+        nested_above (parameters_of plan.now) c count stride cells.new
         ≡ after_levels (parameters_of plan.now) c count
         (nested_in (parameters_of plan.now) c stride cells.old)) }
     ensures within { IfSome result (λ after. AreWithin after cells.new) }

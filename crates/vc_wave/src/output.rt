@@ -9,11 +9,11 @@ ghost use Rattle.vc_wave.specs.declared.pass.Direction.TheVariants.{Synthesis};
 ghost use Rattle.vc_wave.specs.Layout.{nested_in};
 ghost use Rattle.vc_wave.specs.NarrowBounds.{AreWithin, HasBound, RowHasBound, rows_bound};
 ghost use Rattle.vc_wave.specs.Planes.{plane_of};
-ghost use Rattle.vc_wave.specs.Remade.{remade, settled, level_in_turn};
+ghost use Rattle.vc_wave.specs.Remade.{remade, shifted_down, level_in_turn};
 
 use crate::bounds::{columns_reach, rows_reach};
 use crate::level::Wavelets;
-use crate::narrow::{merge_below, merge_columns, settled};
+use crate::narrow::{merge_below, merge_columns, shifted_down};
 use crate::shift::is_shifted;
 use crate::sides::{lowest, side_at};
 use vc_lift::{Halves, synth_narrow};
@@ -57,17 +57,20 @@ fn weave_samples(
     requires small { shifted ≡ true → (k : ℕ) → k < 2 * half
         → unsigned_abs (line_of cells.now (start + k)) + 1 < 2 ^ 31 }
     ensures on { (k : ℕ) → k < format.columns → slice_index_or samples.new (at + k) 0
-        ≡ output_sample format.depth (settled shifted (line_of cells.now (start + half_place half k))) }
+        ≡ output_sample format.depth (shifted_down shifted (line_of cells.now (start + half_place half k))) }
     ensures off { (i : ℕ) → (i < at) ⊎ (at + format.columns ≤ i)
         → slice_index_or samples.new i 0 ≡ slice_index_or samples.old i 0 }
 {
     let pairs = format.columns / 2;
     for k in 0..pairs {
-        samples[at + 2 * k] = sample(settled(cells[start + k], shifted), format.depth);
-        samples[at + 2 * k + 1] = sample(settled(cells[start + half + k], shifted), format.depth);
+        samples[at + 2 * k] = sample(shifted_down(cells[start + k], shifted), format.depth);
+        samples[at + 2 * k + 1] = sample(
+            shifted_down(cells[start + half + k], shifted),
+            format.depth,
+        );
     }
     if format.columns % 2 == 1 {
-        samples[at + 2 * pairs] = sample(settled(cells[start + pairs], shifted), format.depth);
+        samples[at + 2 * pairs] = sample(shifted_down(cells[start + pairs], shifted), format.depth);
     }
 }
 

@@ -2,7 +2,7 @@ use Rattle.std.proofs.Common.{◌≡◌, ◌*◌, ◌^◌, ◌<◌, IfSome, arit
 use Rattle.vc_types.specs.Transforms.{levels_across, on_rows}
 use Rattle.vc_types.specs.Wavelets.{is_shifted}
 use Rattle.vc_wave.specs.declared.pass.Direction.TheVariants.{Synthesis}
-use Rattle.vc_wave.specs.NarrowBounds.{Reaches, rows_bound}
+use Rattle.vc_wave.specs.NarrowBounds.{CarriesTo, rows_bound}
 use Rattle.vc_wave.specs.Planes.{plane_of}
 use Rattle.vc_wave.specs.Remade.{remade}
 use Rattle.vc_wave.proofs.Levels.{level_fits, level_some, no_across, next_across}
@@ -34,7 +34,7 @@ merge_rows-requires-clause-line c = let fits = level_fits c.args.w c.loop-level.
 
 pub merge_rows-requires-clause-bound : goal.merge_rows-requires-clause-bound
 merge_rows-requires-clause-bound c =
-    let r = subst (λ o. IfSome o (Reaches (rows_bound c.args.wavelet) c.loop-level.cells)) c.in_ok-bound.was c.rows_reach.ensures.value in
+    let r = subst (λ o. IfSome o (CarriesTo (rows_bound c.args.wavelet) c.loop-level.cells)) c.in_ok-bound.was c.rows_reach.ensures.value in
     record { most = r.most; after = c.in_ok-bound.bound; small = r.small; fits = r.fits }
 
 pub loop-level-preserved : goal.loop-level-preserved
@@ -45,7 +45,7 @@ loop-level-preserved c =
     let now = plane_of pitch c.loop-level.cells in
     let fits = level_fits c.args.w level c.args.levels c.loop-level-test.true in
     let some = level_some c.args.w level c.requires.some in
-    let r = subst (λ o. IfSome o (Reaches (rows_bound wavelet) c.loop-level.cells)) c.in_ok-bound.was c.rows_reach.ensures.value in
+    let r = subst (λ o. IfSome o (CarriesTo (rows_bound wavelet) c.loop-level.cells)) c.in_ok-bound.was c.rows_reach.ensures.value in
     record {
       made =
           next_across wavelet level c.args.w c.args.h (plane_of pitch c.args.cells.now) now (plane_of pitch c.merge_rows.new.cells) c.loop-level.invariant.made

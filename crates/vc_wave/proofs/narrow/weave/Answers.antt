@@ -16,10 +16,10 @@ loop-k-preserved c =
     let first_fits : FitsSigned w32 first = search rules in
     let second_fits : FitsSigned w32 second = search rules in
     let within : c.args.start + 2 * k + 1 < length c.loop-k.cells = omega arith in
-    let even : to_z w32 (of_z w32 c.settled.result) ≡ (if c.args.shifted then halved first else first) =
-    to_z-of_z w32 c.settled.result (record { sfits = c.settled.type_inv }) ∙ c.settled.ensures ∙ ap (λ z. if c.args.shifted then halved z else z) (to_z-of_z w32 first first_fits) in
-    let odd : to_z w32 (of_z w32 c.settled-in-loop-k.result) ≡ (if c.args.shifted then halved second else second) =
-    to_z-of_z w32 c.settled-in-loop-k.result (record { sfits = c.settled-in-loop-k.type_inv }) ∙ c.settled-in-loop-k.ensures ∙ ap (λ z. if c.args.shifted then halved z else z) (to_z-of_z w32 second second_fits) in
+    let even : to_z w32 (of_z w32 c.shifted_down.result) ≡ (if c.args.shifted then halved first else first) =
+    to_z-of_z w32 c.shifted_down.result (record { sfits = c.shifted_down.type_inv }) ∙ c.shifted_down.ensures ∙ ap (λ z. if c.args.shifted then halved z else z) (to_z-of_z w32 first first_fits) in
+    let odd : to_z w32 (of_z w32 c.shifted_down-in-loop-k.result) ≡ (if c.args.shifted then halved second else second) =
+    to_z-of_z w32 c.shifted_down-in-loop-k.result (record { sfits = c.shifted_down-in-loop-k.type_inv }) ∙ c.shifted_down-in-loop-k.ensures ∙ ap (λ z. if c.args.shifted then halved z else z) (to_z-of_z w32 second second_fits) in
     record {
       even = even_more (pos 0) c.loop-k.cells c.args.start k _ _ within (λ i. if c.args.shifted then halved (line_of line i) else line_of line i) even c.loop-k.invariant.even;
       odd = odd_more (pos 0) c.loop-k.cells c.args.start k _ _ within (λ i. if c.args.shifted then halved (line_of line (c.args.half + i)) else line_of line (c.args.half + i)) odd c.loop-k.invariant.odd;

@@ -2,7 +2,7 @@ use Rattle.std.proofs.Common.{◌≡◌, ◌+◌, ◌-◌, ◌*◌, ◌^◌, IfS
 use Rattle.vc_types.specs.Planes.{output_sample}
 use Rattle.vc_types.specs.TransformParameters.{parameters_of}
 use Rattle.vc_types.specs.Transforms.{Cells}
-use Rattle.vc_wave.specs.Layout.{nested_in, left_in, after_levels}
+use Rattle.vc_wave.specs.Layout.{nested_in, nested_above, after_levels}
 use Rattle.vc_wave.specs.NarrowBounds.{AreWithin}
 use Rattle.vc_wave.proofs.HighestLevel.{whole_width, whole_height, highest_room, highest_made}
 use Rattle.vc_wave.proofs.output.inverse_output.Goals as goal
@@ -66,6 +66,6 @@ pub returns : goal.returns
 returns c = λ whole x y h lt.
     let p = parameters_of c.args.plan.now in
     let nested = nested_in p c.args.c c.args.stride c.args.cells.now in
-    let below = subst (λ o. IfSome o (λ b. left_in p c.args.c (p.depth - 1) c.args.stride c.merge_below.new.cells ≡ after_levels p c.args.c (p.depth - 1) nested)) c.in-Some.is c.merge_below.ensures.made in
+    let below = subst (λ o. IfSome o (λ b. nested_above p c.args.c (p.depth - 1) c.args.stride c.merge_below.new.cells ≡ after_levels p c.args.c (p.depth - 1) nested)) c.in-Some.is c.merge_below.ensures.made in
     let made = highest_made p c.args.c c.side_at-w.result c.side_at-h.result c.lowest-w.result.0 c.lowest-w.result.1 (omega arith) c.lowest-w.ensures.width c.lowest-w.ensures.height c.side_at-w.ensures c.side_at-h.ensures c.args.stride c.merge_below.new.cells nested below in
     c.put_level.ensures whole x y h lt ∙ ap (λ (f : Cells). output_sample c.args.format.depth (f x y)) made

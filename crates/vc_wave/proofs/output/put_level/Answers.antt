@@ -5,7 +5,7 @@ use Rattle.vc_types.specs.Transforms.{Cells, on_columns}
 use Rattle.vc_types.specs.Wavelets.{is_shifted, synthesised}
 use Rattle.vc_lift.specs.Ranges.{narrow_bound}
 use Rattle.vc_wave.specs.declared.pass.Direction.TheVariants.{Synthesis}
-use Rattle.vc_wave.specs.NarrowBounds.{Reaches, rows_bound}
+use Rattle.vc_wave.specs.NarrowBounds.{CarriesTo, rows_bound}
 use Rattle.vc_wave.specs.Planes.{plane_of}
 use Rattle.vc_wave.specs.Remade.{remade, level_in_turn}
 use Rattle.vc_wave.proofs.NarrowLevels.{columns_within}
@@ -14,12 +14,12 @@ use Rattle.vc_wave.proofs.output.put_level.Goals as goal
 
 pub merge_columns-requires-clause-bound : goal.merge_columns-requires-clause-bound
 merge_columns-requires-clause-bound c =
-    let r = subst (λ o. IfSome o (Reaches (narrow_bound c.args.wavelets.down) c.args.cells.now)) c.in-Some.is c.columns_reach.ensures.value in
+    let r = subst (λ o. IfSome o (CarriesTo (narrow_bound c.args.wavelets.down) c.args.cells.now)) c.in-Some.is c.columns_reach.ensures.value in
     record { most = r.most; after = c.in-Some.made; small = r.small; fits = r.fits }
 
 pub rows_reach-requires-clause-within : goal.rows_reach-requires-clause-within
 rows_reach-requires-clause-within c =
-    let r = subst (λ o. IfSome o (Reaches (narrow_bound c.args.wavelets.down) c.args.cells.now)) c.in-Some.is c.columns_reach.ensures.value in
+    let r = subst (λ o. IfSome o (CarriesTo (narrow_bound c.args.wavelets.down) c.args.cells.now)) c.in-Some.is c.columns_reach.ensures.value in
     columns_within c.args.wavelets.down c.args.h (2 * c.args.w) c.args.pitch c.in-Some.made c.args.cells.now c.merge_columns.new.cells c.requires.some.1 (omega (arith, c.requires.wide, c.requires.some.0)) r c.merge_columns.ensures
 
 pub put_rows-requires-clause-down : goal.put_rows-requires-clause-down
@@ -29,7 +29,7 @@ put_rows-requires-clause-down c =
 
 pub put_rows-requires-clause-bound : goal.put_rows-requires-clause-bound
 put_rows-requires-clause-bound c =
-    let r = subst (λ o. IfSome o (Reaches (rows_bound c.args.wavelets.across) c.merge_columns.new.cells)) c.in-Some-rows_reach.is c.rows_reach.ensures.value in
+    let r = subst (λ o. IfSome o (CarriesTo (rows_bound c.args.wavelets.across) c.merge_columns.new.cells)) c.in-Some-rows_reach.is c.rows_reach.ensures.value in
     record { most = r.most; after = c.in-Some-rows_reach._after; small = r.small; fits = r.fits }
 
 pub returns : goal.returns
