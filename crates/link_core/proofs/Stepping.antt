@@ -1,5 +1,5 @@
 -- Steps: where the event is legal, where it is refused, and what is kept behind it.
-use Rattle.std.proofs.Common.{◌≡◌, ℕ, ◌+◌, ◌≤◌, Bool, List, [], ◌∷◌, ◌++◌, Option, Some, None}
+use Rattle.std.proofs.Common.{◌≡◌, ℕ, ◌+◌, Bool, List, [], ◌∷◌, ◌++◌, Option, Some, None}
 use Rattle.std.proofs.Common.{Result, Ok, Err, refl, ap, sym, subst, ◌∙◌}
 use Rattle.std.specs.Prelude.{not, position, true, false, is_some}
 use Rattle.std.proofs.lemmas.Bool.{and_parts, not-true}
@@ -94,9 +94,6 @@ reached_by window f g p q r e legal is = subst IsReached (ap (λ (m : Machine). 
 -- by the conditions of the event
 pub legal_if : (window : ℕ) (f : Feeder) (p : List JobPlace) (e : Event) (holds : List Bool) → Ok tt ≡ verdict holds → holds ≡ conditions window (machine_of f p) e → IsLegal window (machine_of f p) e
 legal_if window f p e holds is same = legal_by (core_of window f p) e (sym (is ∙ ap verdict same))
-
-pub new_reached : (window places : ℕ) → 2 ≤ window → window ≤ 8 → IsReached (record { window = window; machine = new_machine places })
-new_reached window places least most = record { least = least; most = most; places = places; events = []; legal = tt; is = refl }
 
 -- ---- takes, puts and redone slices
 

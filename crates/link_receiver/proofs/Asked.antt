@@ -6,7 +6,7 @@ use Rattle.link_reception.specs.Receptions.{Reception}
 use Rattle.link_receiver.specs.Exchanged.{IsExchanged}
 use Rattle.link_receiver.specs.HeardLists.{AskedPlaces}
 use Rattle.link_receiver.specs.Offers.{IsOneOffer, proposed_in}
-use Rattle.slice_exchange.specs.Calls.{PlaceCall, Puts, Takes, told_of, exchanges_of, freeing}
+use Rattle.slice_exchange.specs.Calls.{PlaceCall, Puts, Takes, told_of, exchanges_of}
 use Rattle.vc_slice.specs.Asked.{Told, Grows, nothing_told, told_more, taking}
 use Rattle.vc_slice.specs.declared.done.SliceDone.{SliceDone}
 use Rattle.vc_slice.specs.declared.job.SliceJob.{SliceJob}
@@ -55,10 +55,6 @@ pub asked_take : (a b : Option Told) (place : ℕ) (answer : Option SliceDone)
     → Grows a b (taking place answer) → AskedPlaces a b
 asked_take a b place answer grew =
     record { more = taking place answer; grows = grew; started = refl }
-
-pub asked_freed : (a b : Option Told) (places : List ℕ) → Grows a b (freeing places)
-    → AskedPlaces a b
-asked_freed a b places grew = record { more = freeing places; grows = grew; started = refl }
 
 -- a job is put, or there was no memory for that
 pub asked_put : {X : Type 0} (told : X → Option Told) (x y : X) {S : Type 0} (s t : S)

@@ -4,7 +4,7 @@ use Rattle.std.proofs.lemmas.Grind.{flat_map-append}
 use Rattle.link_model.specs.Places.{Job}
 use Rattle.link_reception.specs.Exchanging.{Exchange, Proposed}
 use Rattle.vc_slice.specs.declared.job.SliceJob.{SliceJob}
-use Rattle.link_receiver.specs.Offers.{AreOffersOf, IsOfferOf, IsOneOffer, MayOffer, proposed_by, proposed_in, asked_by, asked_in}
+use Rattle.link_receiver.specs.Offers.{AreOffersOf, IsOfferOf, IsOneOffer, MayOffer, proposed_by, proposed_in}
 
 -- ---- offers
 
@@ -43,6 +43,3 @@ pub once_more : (job : Job) (back : Option SliceJob) (offers : List Exchange)
     → IsOneOffer job back offers → MayOffer job offers
 once_more job None offers one = inr (Some one.0, one.1)
 once_more job (Some back) offers one = inr (None, one)
-
-pub asked_in-append : (a b : List Exchange) → asked_in (a ++ b) ≡ asked_in a ++ asked_in b
-asked_in-append a b = flat_map-append asked_by a b

@@ -27,15 +27,6 @@ in_front x [] ys h = absurd h
 in_front x (y ∷ xs) ys (inl e) = inl e
 in_front x (y ∷ xs) ys (inr h) = inr (in_front x xs ys h)
 
-in_either : (x : SliceOut) (xs ys : List SliceOut) → IsIn x (xs ++ ys) → IsIn x xs ⊎ IsIn x ys
-in_either x [] ys h = inr h
-in_either x (y ∷ xs) ys (inl e) = inl (inl e)
-in_either x (y ∷ xs) ys (inr h) = onward (in_either x xs ys h)
-  where
-    onward : IsIn x xs ⊎ IsIn x ys → ((x ≡ y) ⊎ IsIn x xs) ⊎ IsIn x ys
-    onward (inl h) = inl (inr h)
-    onward (inr h) = inr h
-
 in_filter : (p : SliceOut → Bool) (x : SliceOut) (xs : List SliceOut) → p x ≡ true → IsIn x xs
     → IsIn x (filter p xs)
 in_filter p x [] e h = absurd h
@@ -79,14 +70,6 @@ at_test place x false e = inr (ap not e)
 asked_first : (place : ℕ) (rest : List ℕ) (x : SliceOut) → eqb place x.place ≡ true
     → is_asked (place ∷ rest) x ≡ true
 asked_first place rest x e = rw e refl
-
-asked_later : (place : ℕ) (rest : List ℕ) (x : SliceOut) → is_asked rest x ≡ true
-    → is_asked (place ∷ rest) x ≡ true
-asked_later place rest x e = by_test (eqb place x.place)
-  where
-    by_test : (b : Bool) → b || is_asked rest x ≡ true
-    by_test true = refl
-    by_test false = e
 
 pub takes_done-out : (r : Reception) (done : Answered) → (takes_done r done).out ≡ r.out
 unfolding takes_done

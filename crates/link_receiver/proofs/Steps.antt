@@ -12,7 +12,7 @@ use Rattle.link_reception.specs.WholeBooks.{IsWholeBook}
 use Rattle.link_receiver.proofs.Exchanges.{one_put, one_take}
 use Rattle.link_receiver.specs.Exchanged.{IsExchanged}
 use Rattle.link_receiver.specs.Offers.{IsOneOffer, proposed_in}
-use Rattle.slice_answers.specs.Completing.{IsWholeIfAny, IsWholeBySome}
+use Rattle.slice_answers.specs.Completing.{IsWholeBySome}
 use Rattle.slice_exchange.specs.Calls.{PlaceCall, Puts, Takes, exchanges_of, out_exchanged, handed_back}
 use Rattle.slice_jobs.specs.Jobs.{job_of, answered}
 use Rattle.link_receiver.specs.Shown.{shown_bytes, stream_behind_shown}
@@ -32,11 +32,6 @@ on_err (Err e) P p = p
 pub on_ok : {T E : Type 0} (r : Result T E) (P : Type 0) → P → OnOk r P
 on_ok (Ok x) P p = p
 on_ok (Err e) P p = tt
-
-pub whole_if_any : (s : Sequence) (o : Option (Bor Book))
-    → IfSome o (λ book. IsWholeBook s book.now) → IsWholeIfAny s (option_copied o)
-whole_if_any s None h = tt
-whole_if_any s (Some book) h = h
 
 pub whole_by_some : (s : Sequence) (o : Option (Bor Book))
     → IfSome o (λ book. IsWholeBook s book.now) → IsWholeBySome (option_copied o)

@@ -1,5 +1,5 @@
 -- The first place that passes a test, looked for one place at a time.
-use Rattle.std.proofs.Common.{◌≡◌, ℕ, ◌+◌, ◌-◌, ◌<◌, ◌≤◌, suc, zero, Bool, true, false, refl, if◌then◌else◌, arith}
+use Rattle.std.proofs.Common.{◌≡◌, ℕ, ◌+◌, ◌-◌, ◌<◌, ◌≤◌, suc, zero, Bool, refl, if◌then◌else◌, arith}
 use Rattle.link_words.specs.Grammar.{first_place}
 
 pub first_place_next : (passes : ℕ → Bool) (place bound : ℕ) → place < bound →
@@ -12,11 +12,3 @@ pub first_place_none : (passes : ℕ → Bool) (place bound : ℕ) → bound ≤
 first_place_none passes place bound h =
     let e : bound - place ≡ zero = omega arith in
     rw e refl
-
-pub first_place_bound : (passes : ℕ → Bool) (place count : ℕ) → first_place passes place count ≤ place + count
-first_place_bound passes place zero = omega arith
-first_place_bound passes place (suc count) = step (passes place) (first_place_bound passes (place + 1) count)
-  where
-    step : (found : Bool) → first_place passes (place + 1) count ≤ (place + 1) + count → (if found then place else first_place passes (place + 1) count) ≤ place + suc count
-    step true h = omega arith
-    step false h = omega arith

@@ -1,5 +1,5 @@
 -- Signed numbers that are read one after another in a block.
-use Rattle.std.proofs.Common.{◌≡◌, ℕ, zero, suc, ◌+◌, ℤ, pos, Bool, true, List, [], ◌∷◌, ◌++◌, length, replicate, refl, ap, ◌∙◌, append_assoc, add-one, zero-add, suc-add}
+use Rattle.std.proofs.Common.{◌≡◌, ℕ, zero, suc, ◌+◌, ℤ, pos, Bool, true, List, [], ◌∷◌, ◌++◌, length, replicate, refl, ap, ◌∙◌, append_assoc, zero-add, suc-add}
 use Rattle.std.specs.List.{flat_map}
 use Rattle.std.proofs.lemmas.List.Concat.{flat_map-cons}
 use Rattle.vc_types.specs.Codes.{sint_bits}
@@ -16,16 +16,6 @@ pushed : (n : ℕ) (bits : List Bool) → bounded_sints (suc n) bits ≡ bounded
 unfolding bounded_sints
 pushed zero bits = refl
 pushed (suc n) bits = ap (λ (vs : List ℤ). (bounded_sint bits).0 ∷ vs) (pushed n (bounded_sint bits).1)
-
-pub bounded_sints-push : (n : ℕ) (bits : List Bool) → bounded_sints (n + 1) bits ≡ bounded_sints n bits ++ (bounded_sint (sints_left n bits)).0 ∷ []
-bounded_sints-push n bits = rw add-one (pushed n bits)
-
-left_pushed : (n : ℕ) (bits : List Bool) → sints_left (suc n) bits ≡ (bounded_sint (sints_left n bits)).1
-left_pushed zero bits = refl
-left_pushed (suc n) bits = left_pushed n (bounded_sint bits).1
-
-pub sints_left-push : (n : ℕ) (bits : List Bool) → sints_left (n + 1) bits ≡ (bounded_sint (sints_left n bits)).1
-sints_left-push n bits = rw add-one (left_pushed n bits)
 
 pub length-bounded_sints : (n : ℕ) (bits : List Bool) → length (bounded_sints n bits) ≡ n
 unfolding bounded_sints

@@ -86,9 +86,6 @@ module _ (p : Parameters) (n : ℕ) (s : Coefficients) where
 
 -- ---- slices in raster order
 
-pub whole_none : (p : Parameters) → ArePictureCoefficients p []
-whole_none p n none h = absurd (omega arith)
-
 -- one slice more
 pub whole_push : (p : Parameters) (slices : List Coefficients) (s : Coefficients) → ArePictureCoefficients p slices → AreSliceCoefficients p (length slices) s → ArePictureCoefficients p (slices ++ s ∷ [])
 whole_push p slices s before own n none h = elim (cases_eq n (length slices)) [

@@ -3,10 +3,9 @@ use Rattle.std.proofs.Common.{◌≡◌, ℕ, ℤ, ◌<◌, ◌^◌, sym, ap, su
 use Rattle.std.specs.Prelude.{All}
 use Rattle.std.specs.Global.{Vec}
 use Rattle.link_model.specs.SendingPictures.{plane_in, sent_cells}
-use Rattle.picture_encode.specs.Grids.{IsNarrowGrid, cells_of, HasCoefficients, AreGrids, HaveCoefficients}
+use Rattle.picture_encode.specs.Grids.{IsNarrowGrid, cells_of, HasCoefficients}
 use Rattle.picture_encode.specs.declared.grids.ComponentGrid.TheVariants.{Narrow, Wide}
 use Rattle.vc_wave.specs.Layout.{nested_in}
-use Rattle.picture_encode.specs.declared.grids.PictureGrids.{PictureGrids}
 use Rattle.vc_types.specs.declared.video.Component.{Component}
 use Rattle.vc_types.specs.Planes.{Planes}
 use Rattle.vc_types.specs.Rasters.{Lattice, Raster, cell_at, sample_at}
@@ -34,6 +33,3 @@ module _ (p : Parameters) (c : Component) (planes : Planes) (plane : Raster) (ow
     grid = grid;
     cells = λ x y across down. value x y across down ∙ ap (λ (t : Raster). forward_transform p c (sample_at t) x y) own;
   }
-
-pub have_grids : (p : Parameters) (planes : Planes) (g : PictureGrids) → HaveCoefficients p planes g → AreGrids p g
-have_grids p planes g h = record { y = h.y.grid; c1 = h.c1.grid; c2 = h.c2.grid }

@@ -1,6 +1,6 @@
 -- What each kind of data unit brings.
 use Rattle.std.proofs.Common.{◌≡◌, ◌≢◌, ℕ, ◌+◌, Bool, true, false, List, [], Option, Some, None, Ok, Err, refl, sym, ap, ◌∙◌, subst, arith, append-nil}
-use Rattle.std.specs.Prelude.{Result, if◌then◌else◌, option_and_then, IfSome, OnOk}
+use Rattle.std.specs.Prelude.{Result, if◌then◌else◌, option_and_then, OnOk}
 use Rattle.std.specs.Option.{option_map}
 use Rattle.std.proofs.lemmas.Bool.{ne_eqb}
 use Rattle.vc_ports.proofs.Growing.{Grew-none}
@@ -9,7 +9,7 @@ use Rattle.vc_types.specs.declared.refusal.HeaderRefusal.{HeaderRefusal}
 use Rattle.vc_types.specs.DataUnits.{DataUnit}
 use Rattle.play_command.specs.declared.fault.TakeFault.{TakeFault}
 use Rattle.play_command.specs.declared.fault.TakeFault.TheVariants as faults
-use Rattle.play_command.specs.Steps.{PlayState, stream_state, shown, new_frames}
+use Rattle.play_command.specs.Steps.{PlayState, stream_state, shown}
 use Rattle.vc_types.specs.SameValues.{same_sequence}
 use Rattle.play_command.specs.Stream.{Stream, StreamPicture, with_header, with_picture, picture_in, shows, takes, played, paired_frames, raw_frames}
 use Rattle.play_command.specs.Taking.{agreed_state, Agrees, frame_due, Shows, Brings, Brought, HasAtMost, CountsAtMost}
@@ -135,10 +135,6 @@ brings-agreed stream u old new before (Err faults.NoMemory) code is none = absur
 
 kept_more : (n : ℕ) (k : PlayState) → HasAtMost n k → HasAtMost (n + 1) k
 kept_more n k is = record { pictures = omega (arith, is.pictures); frames = is.frames; shape = is.shape }
-
-pub within_more : (n : ℕ) (kept : Option PlayState) → CountsAtMost n kept → CountsAtMost (n + 1) kept
-within_more n None h = h
-within_more n (Some k) h = kept_more n k h
 
 none_yet : (n : ℕ) (s : Sequence) → HasAtMost n (stream_state (record { sequence = s; pictures = [] }))
 none_yet n s = subst (HasAtMost n) (begun s) (record { pictures = omega arith; frames = omega arith; shape = tt })

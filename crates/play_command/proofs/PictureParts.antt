@@ -17,9 +17,6 @@ use Rattle.frame_writer.specs.Shapes.{HaveShape}
 use Rattle.play_command.specs.Slices.{IsBuilt}
 use Rattle.frame_shapes.proofs.BuiltShapes.{built-shape}
 
-abbrev SlicesRead : Type 0
-SlicesRead = Result (List Coefficients × List ℕ) (Unit {0})
-
 ok_is : {A E : Type 0} (a b : A) → ◌≡◌ {A = Result A E} (Ok a) (Ok b) → a ≡ b
 ok_is a b same = cc
 

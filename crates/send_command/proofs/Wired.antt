@@ -1,5 +1,5 @@
 -- Frames that were sent to a wire's outlet behind the aiming of the wire.
-use Rattle.std.proofs.Common.{◌≡◌, ◌≤◌, ℕ, List, Option, Err, inl, inr, refl, subst, arith}
+use Rattle.std.proofs.Common.{◌≡◌, ◌≤◌, ℕ, List, Err, inl, subst, arith}
 use Rattle.std.specs.Prelude.{Result}
 use Rattle.datagram_outlet.specs.declared.outlet.OutletFault.{OutletFault}
 use Rattle.datagram_outlet.specs.Outlets.{SentAll, SentPart}
@@ -9,7 +9,6 @@ use Rattle.link_report.specs.declared.ending.Ending.{Ending}
 use Rattle.link_report.specs.declared.ending.Ending.TheVariants as endings
 use Rattle.link_report.specs.declared.summary.Summary.{Summary}
 use Rattle.vc_ports.specs.Changes.{InputChange, WireChange}
-use Rattle.vc_ports.specs.Faults.{Rose}
 use Rattle.vc_ports.specs.Wires.{WireTold, aiming}
 use Rattle.vc_types.specs.SenderSettings.{Sending}
 use Rattle.send_command.specs.OverWire.{SendsOver, SentBehindAim, behind_aim}
@@ -43,10 +42,3 @@ module _ (s : Sending) (most : ℕ) (to : List ℕ) (input : InputChange) (told_
           wire_failed = λ is. let ended : SendEnded s most (Err endings.WireFailed) input (SentAll (behind_aim to wire)) (SentPart (behind_aim to wire)) sends.frames sends.rest =
               subst (λ (a : Result Summary Ending). SendEnded s most a input (SentAll (behind_aim to wire)) (SentPart (behind_aim to wire)) sends.frames sends.rest) is sends.ended in ended.part_sent.rose;
         }
-
-pub not_aimed : (s : Sending) (most : ℕ) (to : List ℕ) (left : Option (List ℕ)) (count : ℕ) (told_before told_after : WireTold) (before after : ℕ) → told_after ≡ told_before → Rose before after
-    → SendsOver s most to (Err endings.WireFailed) (record { left = record { before = left; after = left }; faults = record { before = count; after = count } }) (record { told = record { before = told_before; after = told_after }; faults = record { before = before; after = after } })
-not_aimed s most to left count told_before told_after before after same rose = record {
-  did = inr (record { answer_is = refl; unread = refl; sound = refl; untouched = same });
-  wire_failed = λ is. rose;
-}

@@ -1,24 +1,21 @@
 -- A ring stays one by each of its steps.
-use Rattle.std.proofs.Common.{◌≡◌, ℕ, suc, ◌+◌, ◌<◌, ◌^◌, Bool, true, false, cond, List, [], ◌∷◌, length}
+use Rattle.std.proofs.Common.{◌≡◌, ℕ, ◌+◌, ◌<◌, ◌^◌, Bool, true, false, cond, List, length}
 use Rattle.std.proofs.Common.{Some, None, Result, Ok, Err, refl, ap, sym, subst, ◌∙◌, arith, inl, inr}
-use Rattle.std.proofs.Common.{length-set, eqb-true}
-use Rattle.std.specs.Prelude.{◌&&◌, ◌||◌, ◌==◌, not, nat_lt, OnOk, OnErr, position, slice_set, bytes_eq}
-use Rattle.std.specs.List.{list_any, position_or_len}
-use Rattle.std.proofs.lemmas.Bool.{and_parts, and_from, cases_lt, false≢true, lt-ltb}
-use Rattle.std.proofs.lemmas.Option.{none-some}
-use Rattle.std.proofs.lemmas.List.{get_or_past, set-get_or, length-replicate}
+use Rattle.std.proofs.Common.{length-set}
+use Rattle.std.specs.Prelude.{◌&&◌, ◌==◌, not, nat_lt, OnOk, OnErr, position, slice_set}
+use Rattle.std.proofs.lemmas.Bool.{and_from, cases_lt, false≢true, lt-ltb}
+use Rattle.std.proofs.lemmas.List.{get_or_past, set-get_or}
 use Rattle.std.proofs.lemmas.List.Quantifiers.{position-Some}
-use Rattle.std.proofs.lemmas.Slice.Eq.{bytes_eq-Decides}
 use Rattle.link_model.proofs.PlacesKept.{puts_apart, puts_own, claims_apart}
 use Rattle.link_model.proofs.PlacesKept.{claims_own, completes_apart, completes_own, frees_apart}
-use Rattle.link_model.proofs.PlacesKept.{frees_own, unused_apart, unused_own}
+use Rattle.link_model.proofs.PlacesKept.{frees_own}
 use Rattle.link_model.proofs.Positions.{position_none}
 use Rattle.link_model.proofs.SameJobs.{same_job}
 use Rattle.link_model.specs.Feeding.{is_same_job}
 use Rattle.link_model.specs.Places.{Job, Content, Nothing, Offered, Claimed, Decoded, JobPlace}
 use Rattle.link_model.specs.Places.{place_at, is_free, is_in, has_slice, may_put, stands_in}
 use Rattle.link_model.specs.Places.{puts_job, claims_job, claimed_by, completes_job, decoded_there}
-use Rattle.link_model.specs.Places.{frees_place, own_answer, unused_place, unused_places}
+use Rattle.link_model.specs.Places.{frees_place, own_answer, unused_place}
 use Rattle.link_model.specs.Places.{with_content, AreApart, HaveOwnAnswers}
 use Rattle.link_model.specs.declared.place_state.PlaceState.TheVariants.{Waiting}
 use Rattle.slice_ring.specs.Calls.{Completed, completing, completing_by, completing_job, IfStale}
@@ -28,10 +25,8 @@ use Rattle.slice_ring.specs.declared.answers.CompleteRefusal.TheVariants.{Other}
 use Rattle.slice_jobs.specs.Jobs.{job_of, answered}
 use Rattle.slice_ring.specs.Rings.{IsRing}
 use Rattle.vc_slice.specs.declared.done.SliceDone.{SliceDone}
-use Rattle.vc_types.specs.SameValues.{same_parameters}
 use Rattle.vc_types.specs.Slices.{Coefficients}
 use Rattle.vc_types.specs.declared.refusal.Unsound.{Unsound}
-use Rattle.vc_types.proofs.SameValues.{parameters_exactly}
 
 -- ---- put
 
@@ -223,6 +218,3 @@ module _ (places : List JobPlace) (place given : ℕ) (done : SliceDone) where
         by_answer (Err e) done same = subst IsRing (sym same) ring
 
 -- ---- a new ring
-
-pub new_ring : (n : ℕ) (places : List JobPlace) → n < 2 ^ 32 → places ≡ unused_places n → IsRing places
-new_ring n places few same = subst IsRing (sym same) (record { few = omega (arith, length-replicate n unused_place, few); apart = unused_apart n; own = unused_own n })

@@ -15,10 +15,6 @@ use Rattle.vc_types.proofs.Digits.{more_digits}
 use Rattle.vc_golomb.specs.Table.{pairs_of, IsLook}
 use Rattle.vc_golomb.proofs.SignedReading.{code_ends, code_goes_on, sint-none, sint-some}
 
-length-pairs_of : (list : List Bool) → length (pairs_of list) ≡ 2 * length list
-length-pairs_of [] = refl
-length-pairs_of (digit ∷ list) = let more = length-pairs_of list in omega arith
-
 -- what stands behind the first two bits
 two_behind : (digit : Bool) (list bits : List Bool) → BeginsWith bits (pairs_of (digit ∷ list)) → BeginsWith (drop 1 (drop 1 bits)) (pairs_of list)
 two_behind digit list bits begin place lt =

@@ -189,9 +189,6 @@ rest_of steps i s e lt = drop-cons steps i s lt ∙ ap (λ t. t ∷ drop (suc i)
 
 -- ---- a bound that is carried on is no less than it was
 
-abbrev Covers : ℕ → ℕ → ℕ → Type 0
-Covers e o m = (e ≤ m) × (o ≤ m)
-
 more_covers : (limit : ℕ) (s : CountedStep) (own other more : ℕ) → stretched_below limit s own other ≡ Some more → own ≤ more
 more_covers limit s own other more fits = (let is : stretched s own other ≡ more = (both_below (nat_lt (rounded_sum s other) limit) (nat_lt (stretched s own other) limit) (stretched s own other) more fits).2 in omega (arith, is))
 

@@ -1,5 +1,5 @@
 -- The next of the datagrams that come.
-use Rattle.std.proofs.Common.{◌≡◌, ℕ, MatchOption, zero, suc, ◌+◌, ◌-◌, ◌<◌, ◌≤◌, List, [], ◌∷◌, ◌++◌, Option, Some, None, length, take, drop, slice_get, refl, sym, ap, subst, ◌∙◌, arith}
+use Rattle.std.proofs.Common.{◌≡◌, ℕ, MatchOption, zero, suc, ◌+◌, ◌-◌, ◌≤◌, List, [], ◌∷◌, ◌++◌, Option, Some, None, length, take, drop, slice_get, refl, sym, ap, subst, ◌∙◌, arith}
 use Rattle.std.proofs.lemmas.List.{drop-drop}
 use Rattle.std.proofs.lemmas.Option.{get_or_from_slice_get, slice_get_within}
 use Rattle.std.proofs.Math.Seq.{take-add}
@@ -61,10 +61,3 @@ next_of now (Some x) all at are p = (front_at all at (now x) p, is_datagram all 
 pub next_behind : {X : Type 0} (now : X → List ℕ) (r : Option X) (front back : List (List ℕ)) (at : ℕ) → AreDatagrams back → slice_get front at ≡ None → MatchOption r (slice_get back (at - length front) ≡ None) (λ x. slice_get back (at - length front) ≡ Some (now x)) → MatchOption r (drop at (front ++ back) ≡ []) (λ x. (take 1 (drop at (front ++ back)) ≡ now x ∷ []) × (length (now x) ≤ 65535))
 next_behind now None front back at are none p = none_at (front ++ back) at (behind_front front back at none ∙ p)
 next_behind now (Some x) front back at are none p = (front_at (front ++ back) at (now x) (behind_front front back at none ∙ p), is_datagram back (at - length front) (now x) are p)
-
--- there is one more than were given
-pub one_left : (all : List (List ℕ)) (at : ℕ) (one : List ℕ) → take 1 (drop at all) ≡ one ∷ [] → at < length all
-one_left [] zero one p = absurd (nil_is_one one p)
-one_left [] (suc at) one p = absurd (nil_is_one one p)
-one_left (x ∷ all) zero one p = omega arith
-one_left (x ∷ all) (suc at) one p = omega (arith, one_left all at one p)

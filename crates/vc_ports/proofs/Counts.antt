@@ -2,10 +2,6 @@
 use Rattle.std.proofs.Common.{ℕ, ◌≤◌, arith}
 use Rattle.vc_ports.specs.Faults.{Rose}
 
--- a rise stays, whatever comes after it
-pub Rose-stays : (before now later : ℕ) → Rose before now → now ≤ later → Rose before later
-Rose-stays before now later rose up = omega arith
-
 -- a rise is one from any earlier time on
 pub Rose-earlier : (before now later : ℕ) → before ≤ now → Rose now later → Rose before later
 Rose-earlier before now later up rose = omega arith

@@ -1,6 +1,5 @@
 -- What a source gave, one piece after another.
 use Rattle.std.proofs.Common.{◌≡◌, ℕ, ◌+◌, List, [], ◌++◌, length, take, subst, Option, Some, None, refl, ap, sym, ◌∙◌, append_assoc}
-use Rattle.std.proofs.lemmas.List.{append-nil}
 use Rattle.std.specs.Option.{option_map}
 use Rattle.std.proofs.Math.Seq.{take-append-add}
 use Rattle.vc_ports.specs.Reading.{Gave, GaveAll}
@@ -24,13 +23,6 @@ GaveAll-then before mid after first second p all = record {
   gave = Gave-then before mid after first second p all.gave;
   at_end = all.at_end;
 }
-
--- where a source told what was left, all of it was given
-pub GaveAll-told : (left : List ℕ) (after : Option (List ℕ)) (bytes : List ℕ) → GaveAll (Some left) after bytes → left ≡ bytes
-GaveAll-told left None bytes all = absurd (none_is_not left all.gave) where
-  none_is_not : (left : List ℕ) → Some left ≡ None → ⊥
-  none_is_not left p = cc
-GaveAll-told left (Some rest) bytes all = some_is left (bytes ++ rest) all.gave ∙ ap (λ (end : List ℕ). bytes ++ end) all.at_end ∙ append-nil bytes
 
 -- a buffer whose front was given before, and the next bytes behind it
 pub Gave-next : (at count : ℕ) (front back : List ℕ) (before mid after : Option (List ℕ)) → length front ≡ at → Gave before mid front → Gave mid after (take count back) → Gave before after (take (at + count) (front ++ back))

@@ -62,11 +62,3 @@ module _ (y c1 c2 : ℕ) (ys us vs : List ℤ) (hy : length ys ≡ y) (h1 : leng
       (stand 0 y numbers ys (omega arith) hy (λ i h. ap (line_of numbers) (omega arith) ∙ at0 i h))
       (stand y c1 numbers us (omega arith) h1 at1)
       (stand (y + c1) c2 numbers vs (omega arith) h2 at2)
-
--- none is large in any of three lists
-pub sound_three : (ys us vs : List ℤ) → list_any is_large ys ≡ false → list_any is_large us ≡ false → list_any is_large vs ≡ false
-    → in_range (record { y = ys; c1 = us; c2 = vs }) ≡ Ok (record { y = ys; c1 = us; c2 = vs })
-sound_three ys us vs none0 none1 none2 =
-    let front : list_any is_large (ys ++ us) ≡ false = list_any-append is_large ys us ∙ rw none0 none1 in
-    let all : list_any is_large (ys ++ us ++ vs) ≡ false = list_any-append is_large (ys ++ us) vs ∙ rw front none2 in
-    rw all refl

@@ -187,18 +187,6 @@ flag_choice_codec {E = E} {A = A} {X = X} {field = field} {other = other} {bits 
 
 -- ---- the next bits or bytes
 
-pub next_codec : {T E : Type 0} (short : E) → IsCodec (next {T = T} short) (λ a. a ∷ []) (λ a. a) (λ a. Unit {0})
-next_codec {T = T} {E = E} short = record {
-  takes = next_takes;
-  again = λ a rest ok. refl;
-}
-  where
-    next_takes : (all : List T) (x : T) (rest : List T) → next short all ≡ Ok (x, rest) → (a : T) × Unit {0} × (a ≡ x) × (all ≡ a ∷ rest)
-    next_takes [] x rest h = absurd cc
-    next_takes (a ∷ all) x rest h =
-        let whole : (a, all) ≡ (x, rest) = ok_is {E = E} (a, all) (x, rest) h in
-        (a, tt, ap (λ (w : T × List T). w.0) whole, ap (λ (w : T × List T). a ∷ w.1) whole)
-
 items_takes : {T E : Type 0} (b : Bool) (y x : List T × List T) (short : E) → cond b (Err short) (done y) ≡ Ok x → (b ≡ false) × (y ≡ x)
 items_takes true y x short h = absurd cc
 items_takes {E = E} false y x short h = (refl, ok_is {E = E} y x h)

@@ -100,7 +100,3 @@ behind_flag_own {E = E} {X = X} short default field p = record { own = part }
     part (false ∷ all) x rest h =
         let both : (default, all) ≡ (x, rest) = ok_is E (default, all) (x, rest) h in
         (false ∷ [], ap (λ (r : X × List Bool). false ∷ r.1) both, λ more. ap (λ (r : X × List Bool). Ok (r.0, more)) both)
-
-pub either_own : {T E X : Type 0} (b : Bool) (field other : Field T E X) → ReadsOwn field → ReadsOwn other → ReadsOwn (λ all. cond b (field all) (other all))
-either_own true field other p q = p
-either_own false field other p q = q

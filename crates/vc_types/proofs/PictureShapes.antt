@@ -38,9 +38,6 @@ halved_twice n fits even =
     let most : n / 2 / 2 ≤ 8192 = omega (arith, s) in
     side_from (n / 2 / 2) (record { some = some; most = most })
 
-even_too : (n : ℕ) → IsTrue (n % 4 == 0) → IsTrue (n % 2 == 0)
-even_too n even = grind (arith, nat_tests)
-
 -- the heights of luma and colour, and the width of colour
 abbrev SidesFit : ℕ → ℕ → Sampling → Bool → Type 0
 SidesFit width height sampling fields = IsTrue (side_fits (picture_height fields height)) × IsTrue (side_fits (colour_width sampling width)) × IsTrue (side_fits (picture_height fields (colour_height sampling height)))

@@ -82,7 +82,3 @@ scaled_not_smaller m f o large =
 pub dequantised_not_smaller : (z : ℤ) (q : ℕ) → unsigned_abs z ≤ unsigned_abs (dequantised z q)
 unfolding dequantised
 dequantised_not_smaller z q = rw unsigned_abs-with_sign_of (scaled_not_smaller (unsigned_abs z) (quant_factor q) (quant_offset q) (quant_factor_range q))
-
-pub dequantised_zero : (q : ℕ) → dequantised (pos 0) q ≡ pos 0
-unfolding dequantised
-dequantised_zero q = ap pos (dequantised_magnitude-zero 0 (quant_factor q) (quant_offset q) refl)

@@ -11,7 +11,6 @@ pub mod Fills
 mod NarrowRows
 mod OutputRows
 mod HighestLevel
-pub mod Clipping
 mod NarrowColumns
 pub mod LayoutLaws
 pub mod Turns

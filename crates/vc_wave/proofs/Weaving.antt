@@ -43,16 +43,6 @@ half_place-source_of half k h = elim (cases_lt k half) [
   | inr second ↦ (let place : source_of half k ≡ 2 * (k - half) + 1 = second_source half k second in let odd : (2 * (k - half) + 1) % 2 ≡ 1 = omega arith in ap (half_place half) place ∙ rw odd (omega arith))
 ]
 
-woven_back : (half : ℕ) (l : ℕ → ℤ) (k : ℕ) → (k < 2 * half) ⊎ (2 * half ≤ k) → halves_together half (halves_apart half l) k ≡ l k
-woven_back half l k (inl h) =
-    rearranged_in (2 * half) (half_place half) (halves_apart half l) k h
-    ∙ rearranged_in (2 * half) (source_of half) l (half_place half k) (half_place_below half k h)
-    ∙ ap l (source_of-half_place half k h)
-woven_back half l k (inr h) = rearranged_past (2 * half) (half_place half) (halves_apart half l) k h ∙ rearranged_past (2 * half) (source_of half) l k h
-
-pub halves_together-halves_apart : (half : ℕ) (l : ℕ → ℤ) → halves_together half (halves_apart half l) ≡ l
-halves_together-halves_apart half l = fun_ext (λ k. woven_back half l k (cases_lt k (2 * half)))
-
 split_back : (half : ℕ) (l : ℕ → ℤ) (k : ℕ) → (k < 2 * half) ⊎ (2 * half ≤ k) → halves_apart half (halves_together half l) k ≡ l k
 split_back half l k (inl h) =
     rearranged_in (2 * half) (source_of half) (halves_together half l) k h
