@@ -1,5 +1,5 @@
 -- Datagrams one behind another, and sequence numbers that wrap.
-use Rattle.std.proofs.Common.{◌≡◌, ℕ, suc, ◌+◌, ◌/◌, ◌%◌, ◌^◌, ◌<◌, Bool, List, [], ◌∷◌, ◌++◌, length, Result, Ok, Err, refl, sym, ap, ◌∙◌, arith, append_assoc}
+use Rattle.std.proofs.Common.{◌≡◌, ℕ, suc, ◌+◌, ◌*◌, ◌/◌, ◌%◌, ◌^◌, ◌<◌, Bool, List, [], ◌∷◌, ◌++◌, length, map, Result, Ok, Err, refl, sym, ap, ◌∙◌, arith, append_assoc}
 use Rattle.std.specs.Prelude.{OnOk}
 use Rattle.std.proofs.lemmas.List.{append-nil, length-append}
 use Rattle.link_model.specs.Packets.{PayloadValue, Header, End, Params, FragmentHead, payload_bytes, rtp_header}
@@ -94,6 +94,11 @@ module _ (s : Sending) where
         ∙ ap (λ l. bytes_of_all x.datagrams.items ++ l) (sym (one_datagram x.number picture c));
     number_is = number;
   }
+
+-- two clauses on what is answered make a third
+pub both_ok : {A E P Q R : Type 0} (r : Result A E) → OnOk r P → OnOk r Q → (P → Q → R) → OnOk r R
+both_ok (Ok x) p q f = f p q
+both_ok (Err e) p q f = tt
 
 pub then_ok : {A E P R : Type 0} (r : Result A E) → OnOk r P → (P → R) → OnOk r R
 then_ok (Ok x) p f = f p

@@ -1,6 +1,8 @@
 -- Slices that are cut from the front of bytes.
-use Rattle.std.proofs.Common.{◌≡◌, ◌≤◌, ℕ, zero, suc, List, [], ◌∷◌, length, take, drop, Option, Some, None, Result, Ok, Err, refl, ap, sym, ◌∙◌, subst, arith}
+use Rattle.std.proofs.Common.{◌≡◌, ◌<◌, ◌≤◌, true, ℕ, zero, suc, List, [], ◌∷◌, length, take, drop, Option, Some, None, Result, Ok, Err, refl, ap, sym, ◌∙◌, subst, arith}
+use Rattle.std.specs.Prelude.{nat_lt}
 use Rattle.std.specs.Result.{IsOk}
+use Rattle.std.proofs.lemmas.Bool.Decides.{nat_tests}
 use Rattle.link_model.specs.Kept.{cut_off, next_slice, next_slices}
 use Rattle.vc_types.proofs.OwnBits.{and_then_ok}
 use Rattle.vc_types.proofs.WholeSlices.{begins}
@@ -80,6 +82,10 @@ by_length p bytes slice behind (Some len) is e =
     let some = has_some p.prefix p.scaler (take len bytes) own.coded own.alone in
     let same = ap (λ (x : List ℕ × List ℕ). x.0) (cut_is (take len bytes, _) (slice, behind) e) in
     subst (λ (l : List ℕ). 1 ≤ length l) same some
+
+pub some_bytes : (p : Parameters) (bytes slice behind : List ℕ) → next_slice p bytes ≡ Ok (slice, behind) → 1 ≤ length slice
+unfolding next_slice
+some_bytes p bytes slice behind e = by_length p bytes slice behind (slice_length p.prefix p.scaler bytes) refl e
 
 -- ---- a slice by its length
 

@@ -11,6 +11,7 @@ pub mod Fills
 mod NarrowRows
 mod OutputRows
 mod HighestLevel
+pub mod Clipping
 mod NarrowColumns
 pub mod LayoutLaws
 pub mod Turns
