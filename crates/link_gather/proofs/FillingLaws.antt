@@ -19,7 +19,7 @@ use Rattle.link_gather.specs.declared.slots.Put.TheVariants.{Same, Other}
 use Rattle.vc_types.specs.Fields.{and_then}
 use Rattle.vc_types.specs.Slices.{coded_slice, length_read, slice_length}
 use Rattle.vc_types.specs.TransformParameters.{Parameters}
-use Rattle.vc_types.proofs.OwnBits.{and_then_ok}
+use Rattle.vc_types.proofs.FieldCodecs.{and_then_ok}
 
 -- ---- cutting
 

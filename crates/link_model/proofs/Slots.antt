@@ -12,7 +12,7 @@ use Rattle.vc_types.specs.Fields.{and_then}
 use Rattle.vc_types.specs.SequenceHeader.{Sequence}
 use Rattle.vc_types.specs.Subbands.{slice_count}
 use Rattle.vc_types.specs.TransformParameters.{Parameters}
-use Rattle.vc_types.proofs.OwnBits.{and_then_ok}
+use Rattle.vc_types.proofs.FieldCodecs.{and_then_ok}
 
 pub or_none : (o : Option (List ℕ)) → option_or o None ≡ o
 or_none None = refl

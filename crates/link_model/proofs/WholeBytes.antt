@@ -19,7 +19,7 @@ use Rattle.vc_types.specs.Subbands.{slice_count}
 use Rattle.vc_types.specs.TransformParameters.{Parameters, transform_parameters}
 use Rattle.vc_types.specs.declared.refusal.ParamsRefusal.{ParamsRefusal}
 use Rattle.link_model.proofs.Slots.{okay_is, taken_is}
-use Rattle.vc_types.proofs.OwnBits.{and_then_ok}
+use Rattle.vc_types.proofs.FieldCodecs.{and_then_ok}
 use Rattle.vc_types.proofs.OwnBytes.{ReadAgain, read_again}
 use Rattle.vc_types.proofs.OwnParameters.{parameters_own}
 

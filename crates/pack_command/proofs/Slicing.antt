@@ -5,7 +5,7 @@ use Rattle.link_model.specs.Kept.{cut_off, next_slice, next_slices}
 use Rattle.link_stream.specs.Packing.{slices_in, slices_read}
 use Rattle.pack_command.specs.Steps.{EndsSlices}
 use Rattle.picture_pack.proofs.Cutting.{Cut, cut_is, cut_within}
-use Rattle.vc_types.proofs.OwnBits.{and_then_ok}
+use Rattle.vc_types.proofs.FieldCodecs.{and_then_ok}
 use Rattle.vc_types.proofs.WholeSlices.{begins, slice_before, whole_slice}
 use Rattle.vc_types.specs.Fields.{and_then}
 use Rattle.vc_types.specs.Slices.{slice_length}

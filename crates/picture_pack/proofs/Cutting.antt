@@ -4,7 +4,7 @@ use Rattle.std.specs.Prelude.{nat_lt}
 use Rattle.std.specs.Result.{IsOk}
 use Rattle.std.proofs.lemmas.Bool.Decides.{nat_tests}
 use Rattle.link_model.specs.Kept.{cut_off, next_slice, next_slices}
-use Rattle.vc_types.proofs.OwnBits.{and_then_ok}
+use Rattle.vc_types.proofs.FieldCodecs.{and_then_ok}
 use Rattle.vc_types.proofs.WholeSlices.{begins}
 use Rattle.picture_pack.proofs.Rooms.{is_more}
 use Rattle.vc_types.specs.Fields.{and_then}

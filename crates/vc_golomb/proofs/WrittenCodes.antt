@@ -3,28 +3,22 @@ use Rattle.std.proofs.Common.{◌≡◌, ℕ, zero, suc, ◌+◌, ◌*◌, ◌/�
 use Rattle.std.specs.Prelude.{unsigned_abs, pos, negsuc, Result, Ok, Err, OnOk, OnErr}
 use Rattle.std.specs.Int.{bit_at, is_negative}
 use Rattle.std.proofs.Math.Nat.{div-div-eq-div-mul, pow-suc}
-use Rattle.std.proofs.lemmas.Nat.Bits.{bit_at-lt}
 use Rattle.std.proofs.lemmas.Bool.{le-ltb}
 use Rattle.std.proofs.lemmas.Nat.{le-div, div_below, pow_pos}
 use Rattle.vc_types.specs.Bits.{digit_of}
 use Rattle.vc_types.specs.Codes.{spread_digits, uint_bits, sign_bits, sint_bits}
 use Rattle.vc_types.proofs.Codes.{spread_digits-push, none_before}
+use Rattle.vc_types.proofs.Digits.{bit_back}
 use Rattle.vc_golomb.specs.Writing.{WroteFront}
 
 -- the binary digits of a number down to a place
 abbrev upper : ℕ → ℕ → ℕ
 upper number place = number / 2 ^ place
 
-digit_is : (digit : ℕ) → digit < 2 → digit ≡ digit_of (eqb digit 1)
-digit_is zero small = refl
-digit_is (suc zero) small = refl
-digit_is (suc (suc digit)) small = absurd (omega arith)
-
 one_more : (number place : ℕ) → upper number place ≡ 2 * upper number (place + 1) + digit_of (eqb (bit_at number place) 1)
 one_more number place =
     let half : upper number place / 2 ≡ upper number (place + 1) = div-div-eq-div-mul number (2 ^ place) 2 ∙ ap (λ (n : ℕ). number / n) (sym (pow-suc 2 place)) ∙ rw add-one refl in
-    let digit : bit_at number place ≡ digit_of (eqb (bit_at number place) 1) = digit_is (bit_at number place) (bit_at-lt number place) in
-    omega (arith, half, digit)
+    omega (arith, half, bit_back number place)
 
 -- a digit and the 0 before it are written
 pub spread_more : (number place : ℕ) → 0 < number / 2 ^ (place + 1) → spread_digits (number / 2 ^ place) ≡ spread_digits (number / 2 ^ (place + 1)) ++ false ∷ eqb (bit_at number place) 1 ∷ []

@@ -1,5 +1,5 @@
 -- Bytes as bits: the next bit, and the next byte.
-use Rattle.std.proofs.Common.{◌≡◌, ℕ, zero, suc, ◌+◌, ◌-◌, ◌*◌, ◌/◌, ◌<◌, Bool, true, false, List, [], ◌∷◌, ◌++◌, length, get_or, take, drop, length-append, append-nil, refl, sym, ap, ◌∙◌, arith, eqb}
+use Rattle.std.proofs.Common.{◌≡◌, ℕ, zero, suc, ◌+◌, ◌-◌, ◌*◌, ◌<◌, Bool, true, false, List, [], ◌∷◌, ◌++◌, length, get_or, take, drop, length-append, append-nil, refl, sym, ap, ◌∙◌, arith, eqb}
 use Rattle.std.specs.Int.{bit_at}
 use Rattle.std.specs.List.{flat_map}
 use Rattle.std.proofs.lemmas.Grind.{flat_map-append}
@@ -8,6 +8,7 @@ use Rattle.std.proofs.lemmas.List.{drop-drop}
 use Rattle.std.proofs.lemmas.List.Concat.{flat_map-cons}
 use Rattle.std.proofs.lemmas.Nat.Bits.{bit_at-suc, bit_at_lowest}
 use Rattle.vc_types.specs.Bits.{byte_bits, bits_of, digit_of}
+use Rattle.vc_types.proofs.Digits.{halved}
 
 pub bits_of-nil : bits_of [] ≡ []
 unfolding bits_of
@@ -104,10 +105,6 @@ take-bits_of (suc n) (byte ∷ bytes) =
     rw more (ap (take (8 + 8 * n)) (bits_of-cons byte bytes) ∙ front_byte byte (8 * n) (bits_of bytes) ∙ ap (λ (bits : List Bool). byte_bits byte ++ bits) (take-bits_of n bytes) ∙ sym (bits_of-cons byte (take n bytes)))
 
 -- ---- a byte that is made bit by bit
-
-halved : (number : ℕ) (bit : Bool) → (2 * number + digit_of bit) / 2 ≡ number
-halved number true = omega arith
-halved number false = omega arith
 
 bit_shifted : (number i : ℕ) (bit : Bool) → bit_at (2 * number + digit_of bit) (suc i) ≡ bit_at number i
 bit_shifted number i bit = bit_at-suc (2 * number + digit_of bit) i ∙ ap (λ (n : ℕ). bit_at n i) (halved number bit)

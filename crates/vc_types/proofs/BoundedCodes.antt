@@ -5,10 +5,11 @@ use Rattle.std.proofs.lemmas.Bool.{cases_lt, ne_eqb}
 use Rattle.std.proofs.lemmas.List.{get_or_append_left, get_or-replicate, get_or_past, get_or_push, drop-drop, length-replicate}
 use Rattle.std.proofs.Math.Seq.{get_or-append_right}
 use Rattle.std.proofs.lemmas.List.Prefix.{front_from_reads}
+use Rattle.std.proofs.lemmas.Option.{same_Some}
 use Rattle.vc_types.specs.Bits.{digit_of}
 use Rattle.vc_types.specs.Codes.{spread_digits, uint_bits, uint_at, sign_bits, sint_bits, uint_after}
 use Rattle.vc_types.specs.Bounded.{BeginsWith, bounded, bounded_uint_after, bounded_uint, signed, with_sign, bounded_sint}
-use Rattle.vc_types.proofs.Codes.{spread_digits-push, uint_at-uint_bits, some_is, none_before}
+use Rattle.vc_types.proofs.Codes.{spread_digits-push, uint_at-uint_bits, none_before}
 
 -- two blocks have the same bits, with the ones behind them
 pub record SameBounded (xs ys : List Bool) : Type 0 where
@@ -132,7 +133,7 @@ one_uint bits v w first second =
     let b : whole ≡ uint_bits w ++ drop (length (uint_bits w)) whole = stands bits (uint_bits w) n (omega arith) second in
     let read_a = ap uint_at a ∙ uint_at-uint_bits v (drop (length (uint_bits v)) whole) in
     let read_b = ap uint_at b ∙ uint_at-uint_bits w (drop (length (uint_bits w)) whole) in
-    ap (λ (p : ℕ × List Bool). p.0) (some_is _ _ (sym read_a ∙ read_b))
+    ap (λ (p : ℕ × List Bool). p.0) (same_Some _ _ (sym read_a ∙ read_b))
 
 -- ---- signed numbers
 
@@ -217,7 +218,7 @@ one_sint bits v w first second =
 bounded_uint_after-of : (number : ℕ) (bits : List Bool) (x : ℕ × List Bool) → uint_after number bits ≡ Some x → bounded_uint_after number bits ≡ x
 unfolding uint_after bounded_uint_after
 bounded_uint_after-of number [] x h = absurd cc
-bounded_uint_after-of number (true ∷ bits) x h = some_is (number - 1, bits) x h
+bounded_uint_after-of number (true ∷ bits) x h = same_Some (number - 1, bits) x h
 bounded_uint_after-of number (false ∷ []) x h = absurd cc
 bounded_uint_after-of number (false ∷ bit ∷ bits) x h = bounded_uint_after-of (2 * number + digit_of bit) bits x h
 

@@ -5,7 +5,7 @@ use Rattle.std.specs.Prelude.{IsTrue, IfSome, MatchOption, unwrap_or}
 use Rattle.std.proofs.lemmas.List.{take-append-drop, length-take-le}
 use Rattle.std.proofs.Math.Seq.{drop-append_seam, take-append_seam}
 use Rattle.vc_types.specs.Codes.{uint_bits, uint_at}
-use Rattle.vc_types.specs.Fields.{Field, and_then, ◌>>=◌, give, refuse, tested, next, next_items, flag, number_from, number_up_to, behind_flag, flagged_bits, flagged_value, IsCodec}
+use Rattle.vc_types.specs.Fields.{Field, and_then, ◌>>=◌, give, refuse, tested, next_items, flag, number_from, number_up_to, behind_flag, flagged_bits, flagged_value, IsCodec}
 use Rattle.vc_types.proofs.Codes.{uint_at-is, uint_at-uint_bits}
 
 -- ---- results
@@ -120,7 +120,7 @@ number_codec short too_large max = record {
 
 -- ---- a field that passes a test
 
-passed : {A E : Type 0} (b : Bool) (y x : A) (refusal : E) → cond b (done y) (Err refusal) ≡ Ok x → (b ≡ true) × (y ≡ x)
+pub passed : {A E : Type 0} (b : Bool) (y x : A) (refusal : E) → cond b (done y) (Err refusal) ≡ Ok x → (b ≡ true) × (y ≡ x)
 passed {E = E} true y x refusal h = (refl, ok_is {E = E} y x h)
 passed false y x refusal h = absurd cc
 

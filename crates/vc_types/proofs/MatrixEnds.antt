@@ -4,6 +4,7 @@ use Rattle.std.specs.Prelude.{slice_index_or}
 use Rattle.std.specs.List.{list_all}
 use Rattle.std.proofs.lemmas.Bool.{and_parts, eqb-true}
 use Rattle.std.proofs.lemmas.List.{take-append-drop, drop-replicate, length-take, length-take-le, length-drop, drop-drop}
+use Rattle.std.proofs.lemmas.Option.{same_Some}
 use Rattle.std.proofs.Math.Seq.{drop-append-add}
 use Rattle.vc_types.specs.Quantisation.{filled_matrix, used_entries, default_matrix, default_rows}
 use Rattle.vc_types.specs.TransformParameters.{same_across, default_of}
@@ -56,12 +57,9 @@ symmetric_filled wavelet depth matrix few h = chosen (eqb depth 5) h
     ends : zeros (drop (1 + 3 * depth) (filled_matrix row)) ≡ true
     ends = filled_ends (1 + 3 * depth) row (omega (arith, length-take (1 + 3 * depth) (slice_index_or (default_rows depth) wavelet []))) (omega arith)
 
-    some_is : (x y : List ℕ) → Some x ≡ Some y → x ≡ y
-    some_is x y e = cc
-
     chosen : (b : Bool) → cond b None (Some (filled_matrix row)) ≡ Some matrix → filled_matrix (used_entries 0 depth matrix) ≡ matrix
     chosen true e = absurd cc
-    chosen false e = subst (λ (m : List ℕ). filled_matrix (used_entries 0 depth m) ≡ m) (some_is (filled_matrix row) matrix e) (filled-ends depth (filled_matrix row) few long ends)
+    chosen false e = subst (λ (m : List ℕ). filled_matrix (used_entries 0 depth m) ≡ m) (same_Some (filled_matrix row) matrix e) (filled-ends depth (filled_matrix row) few long ends)
 
 pub default_filled : (wavelet depth : ℕ) (across : ℕ × ℕ) (matrix : List ℕ) → depth ≤ 5 → default_of wavelet depth across ≡ Some matrix → filled_matrix (used_entries across.1 depth matrix) ≡ matrix
 default_filled wavelet depth across matrix few h = chosen (same_across wavelet across) refl h

@@ -4,6 +4,7 @@ use Rattle.std.specs.Prelude.{if◌then◌else◌}
 use Rattle.vc_types.specs.Codes.{uint_bits, uint_at}
 use Rattle.vc_types.specs.Fields.{Field, and_then, ◌>>=◌, give, refuse, tested, next, number_from, number_up_to, behind_flag}
 use Rattle.vc_types.proofs.Codes.{uint_at-is, uint_at-uint_bits}
+use Rattle.vc_types.proofs.FieldCodecs.{ok_is, and_then_ok, passed}
 
 -- what a field that was read depends on: the part that was used, whatever follows it
 abbrev pub OwnPart : {T E X : Type 0} → Field T E X → List T → X → List T → Type 0
@@ -12,25 +13,10 @@ OwnPart {T = T} field all x rest = (used : List T) × (all ≡ used ++ rest) × 
 pub record ReadsOwn {T E X : Type 0} (field : Field T E X) : Type 0 where
   pub own : (all : List T) (x : X) (rest : List T) → field all ≡ Ok (x, rest) → OwnPart field all x rest
 
-abbrev done : {A : Type 0} (E : Type 0) → A → Result A E
-done E x = Ok x
-
-ok_is : {A : Type 0} (E : Type 0) (x y : A) → done E x ≡ done E y → x ≡ y
-ok_is E x y h = cc
-
--- the value of a step that was not refused
-pub and_then_ok : {A B E : Type 0} (r : Result A E) (f : A → Result B E) (y : B) → and_then r f ≡ Ok y → (x : A) × (r ≡ Ok x) × (f x ≡ Ok y)
-and_then_ok (Ok x) f y h = (x, refl, h)
-and_then_ok (Err e) f y h = absurd cc
-
-chosen : {A E : Type 0} (b : Bool) (x y : A) (e : E) → cond b (Ok x) (Err e) ≡ Ok y → (b ≡ true) × (x ≡ y)
-chosen {E = E} true x y e h = (refl, ok_is E x y h)
-chosen false x y e h = absurd cc
-
 pub give_own : {T E X : Type 0} (x : X) → ReadsOwn {T = T} {E = E} (give x)
 give_own {T = T} {E = E} {X = X} x = record {
   own = λ all y rest h.
-      let both : (x, all) ≡ (y, rest) = ok_is E (x, all) (y, rest) h in
+      let both : (x, all) ≡ (y, rest) = ok_is {E = E} (x, all) (y, rest) h in
       ([], ap (λ (p : X × List T). p.1) both, λ more. ap (λ (p : X × List T). Ok (p.0, more)) both);
 }
 
@@ -53,15 +39,15 @@ pub tested_own : {T E X : Type 0} (test : X → Bool) (refusal : E) (field : Fie
 tested_own {T = T} {E = E} {X = X} test refusal field p = record {
   own = λ all x rest h.
       let one = and_then_ok (field all) (λ read. if test read.0 then Ok read else Err refusal) (x, rest) h in
-      let passed = chosen (test one.0.0) one.0 (x, rest) refusal one.2 in
+      let is = passed (test one.0.0) one.0 (x, rest) refusal one.2 in
       let a = p.own all one.0.0 one.0.1 one.1 in
-      let x-is : one.0.0 ≡ x = ap (λ (r : X × List T). r.0) passed.1 in
-      let rest-is : one.0.1 ≡ rest = ap (λ (r : X × List T). r.1) passed.1 in (
+      let x-is : one.0.0 ≡ x = ap (λ (r : X × List T). r.0) is.1 in
+      let rest-is : one.0.1 ≡ rest = ap (λ (r : X × List T). r.1) is.1 in (
         a.0,
         a.1 ∙ ap (λ (l : List T). a.0 ++ l) rest-is,
         λ more.
             ap (λ (r : Result (X × List T) E). and_then r (λ read. if test read.0 then Ok read else Err refusal)) (a.2 more)
-            ∙ ap (λ (b : Bool). cond b (Ok (one.0.0, more)) (Err refusal)) passed.0
+            ∙ ap (λ (b : Bool). cond b (Ok (one.0.0, more)) (Err refusal)) is.0
             ∙ ap (λ (y : X). Ok (y, more)) x-is,
       );
 }
@@ -69,7 +55,7 @@ tested_own {T = T} {E = E} {X = X} test refusal field p = record {
 next_part : {T E : Type 0} (short : E) (all : List T) (x : T) (rest : List T) → next short all ≡ Ok (x, rest) → OwnPart (next short) all x rest
 next_part short [] x rest h = absurd cc
 next_part {T = T} {E = E} short (item ∷ all) x rest h =
-    let both : (item, all) ≡ (x, rest) = ok_is E (item, all) (x, rest) h in
+    let both : (item, all) ≡ (x, rest) = ok_is {E = E} (item, all) (x, rest) h in
     (item ∷ [], ap (λ (p : T × List T). item ∷ p.1) both, λ more. ap (λ (p : T × List T). Ok (p.0, more)) both)
 
 pub next_own : {T E : Type 0} (short : E) → ReadsOwn {T = T} (next short)
@@ -81,7 +67,7 @@ number_part {E = E} short too_large max (Some y) x rest h = small (ltb max y.0) 
   where
     small : (b : Bool) → ltb max y.0 ≡ b → cond b (Err too_large) (Ok y) ≡ Ok (x, rest) → (Some y ≡ Some (x, rest)) × (ltb max x ≡ false)
     small true t g = absurd cc
-    small false t g = let same : y ≡ (x, rest) = ok_is E y (x, rest) g in (ap Some same, ap (λ (z : ℕ × List Bool). ltb max z.0) (sym same) ∙ t)
+    small false t g = let same : y ≡ (x, rest) = ok_is {E = E} y (x, rest) g in (ap Some same, ap (λ (z : ℕ × List Bool). ltb max z.0) (sym same) ∙ t)
 
 pub number_own : {E : Type 0} (short too_large : E) (max : ℕ) → ReadsOwn (number_up_to short too_large max)
 unfolding number_up_to
@@ -98,5 +84,5 @@ behind_flag_own {E = E} {X = X} short default field p = record { own = part }
     part [] x rest h = absurd cc
     part (true ∷ all) x rest h = let a = p.own all x rest h in (true ∷ a.0, ap (λ (l : List Bool). true ∷ l) a.1, a.2)
     part (false ∷ all) x rest h =
-        let both : (default, all) ≡ (x, rest) = ok_is E (default, all) (x, rest) h in
+        let both : (default, all) ≡ (x, rest) = ok_is {E = E} (default, all) (x, rest) h in
         (false ∷ [], ap (λ (r : X × List Bool). false ∷ r.1) both, λ more. ap (λ (r : X × List Bool). Ok (r.0, more)) both)

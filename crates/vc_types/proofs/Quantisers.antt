@@ -23,7 +23,7 @@ near_below n f o m high =
       | inr apart ↦ rw (dequantised_magnitude-other m f o apart) (omega arith)
     ]
 
-unsigned_abs-with_sign_of : (z : ℤ) (n : ℕ) → unsigned_abs (with_sign_of z n) ≡ n
+pub unsigned_abs-with_sign_of : (z : ℤ) (n : ℕ) → unsigned_abs (with_sign_of z n) ≡ n
 unsigned_abs-with_sign_of (pos k) n = refl
 unsigned_abs-with_sign_of (negsuc k) n = omega (arith, ints)
 

@@ -26,7 +26,7 @@ owner-only : (length n x k : ℕ) → 0 < n → x < length → share_start lengt
 unfolding owner
 owner-only length n x k some h from to = grind (arith, common_steps)
 
-share_start-within : (length n k : ℕ) → k < n → share_start length n (k + 1) ≤ length
+pub share_start-within : (length n k : ℕ) → k < n → share_start length n (k + 1) ≤ length
 share_start-within length n k h = grind (arith, common_steps)
 
 abbrev shared : ℕ → ℕ → ℕ → ℕ → Bool

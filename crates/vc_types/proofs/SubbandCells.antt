@@ -24,7 +24,7 @@ halves x y w h = grind (arith, nat_tests)
 lowest : (x y w h : ℕ) → 0 + cond (has_cell x y (rect 0 0 w h)) 1 0 ≡ cond (nat_lt x w && nat_lt y h) 1 0
 lowest x y w h = grind (arith, nat_tests)
 
-side_is : (w most levels level n : ℕ) → n + min most (levels + 1 - level) ≡ most → level_side (w * 2 ^ most) most levels level ≡ w * 2 ^ n
+pub side_is : (w most levels level n : ℕ) → n + min most (levels + 1 - level) ≡ most → level_side (w * 2 ^ most) most levels level ≡ w * 2 ^ n
 side_is w most levels level n e =
     let k = min most (levels + 1 - level) in
     let power : 2 ^ most ≡ 2 ^ n * 2 ^ k = ap (λ t. 2 ^ t) (sym e) ∙ pow-add 2 n k in

@@ -1,5 +1,6 @@
 -- A slice at the front of bytes: where it ends, and that it is decoded from its own bytes.
 use Rattle.std.proofs.Common.{◌≡◌, ℕ, suc, ◌+◌, ◌-◌, ◌*◌, ◌≤◌, List, [], ◌∷◌, ◌++◌, length, take, drop, Some, None, Result, Ok, Err, refl, sym, ap, ◌∙◌, arith, append-nil, length-append}
+use Rattle.std.proofs.lemmas.Option.{same_Some}
 use Rattle.std.proofs.Math.Seq.{drop-append_seam, take-append_seam, take-length}
 use Rattle.vc_types.specs.declared.refusal.Unsound.{Unsound}
 use Rattle.vc_types.specs.Fields.{and_then, next, next_items}
@@ -40,14 +41,11 @@ pub record Begins (prefix scaler : ℕ) (bytes : List ℕ) (len : ℕ) : Type 0 
   pub alone : coded_slice prefix scaler (take len bytes) ≡ Ok (coded, [])
   pub again : (more : List ℕ) → coded_slice prefix scaler (take len bytes ++ more) ≡ Ok (coded, more)
 
-same_length : (a b : ℕ) → Some a ≡ Some b → a ≡ b
-same_length a b h = cc
-
 begins_by : (prefix scaler : ℕ) (bytes : List ℕ) (len : ℕ) (r : Result (CodedSlice × List ℕ) (Unit {0})) → coded_slice prefix scaler bytes ≡ r → length_read bytes r ≡ Some len → Begins prefix scaler bytes len
 begins_by prefix scaler bytes len (Ok read) is h =
     let own = (coded_slice_own prefix scaler).own bytes read.0 read.1 is in
     let whole = ap length own.1 ∙ length-append own.0 read.1 in
-    let used : length own.0 ≡ len = omega (arith, whole, same_length (length bytes - length read.1) len h) in
+    let used : length own.0 ≡ len = omega (arith, whole, same_Some (length bytes - length read.1) len h) in
     let behind : drop len bytes ≡ read.1 = ap (λ (n : ℕ). drop n bytes) (sym used) ∙ ap (drop (length own.0)) own.1 ∙ drop-append_seam own.0 read.1 in
     let front : take len bytes ≡ own.0 = ap (λ (n : ℕ). take n bytes) (sym used) ∙ ap (take (length own.0)) own.1 ∙ take-append_seam own.0 read.1 in
     record {

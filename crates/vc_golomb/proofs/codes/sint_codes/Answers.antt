@@ -1,8 +1,8 @@
-use Rattle.std.proofs.Common.{◌≡◌, ◌++◌, ◌+◌, [], length, append-nil, get_or, ℤ, pos, to_z, of_z, w32, ap, ◌∙◌, arith, rules}
+use Rattle.std.proofs.Common.{◌≡◌, ◌++◌, ◌+◌, [], length, append-nil, get_or, pos, to_z, of_z, w32, ap, ◌∙◌, arith, rules}
 use Rattle.vc_types.specs.Bits.{bits_of}
 use Rattle.vc_types.specs.Codes.{sint_bits}
 use Rattle.vc_types.proofs.Bits.{bits_of-nil}
-use Rattle.vc_golomb.proofs.AppendedCodes.{code_more, pair_added}
+use Rattle.vc_golomb.proofs.AppendedCodes.{pair_added}
 use Rattle.vc_golomb.proofs.codes.sint_codes.Goals as goal
 
 pub numbers-init : goal.numbers-init

@@ -1,4 +1,4 @@
-use Rattle.std.proofs.Common.{◌++◌, ◌%◌, ◌/◌, ◌<◌, ◌^◌, ℕ, w32, ap, subst, sym, ◌∙◌}
+use Rattle.std.proofs.Common.{◌++◌, ◌%◌, ◌<◌, ◌^◌, ℕ, w32, ap, subst, sym, ◌∙◌}
 use Rattle.std.proofs.lemmas.Int.{to_z-of_z}
 use Rattle.vc_types.specs.Codes.{sint_bits}
 use Rattle.vc_bits.specs.Bits.{word_bits}
