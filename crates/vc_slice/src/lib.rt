@@ -29,7 +29,7 @@ pub use done::SliceDone;
 pub use encoding::{EncodeRefusal, encode, encoded_len, encoded_lens};
 pub use job::SliceJob;
 pub use laws::slices_decode_apart;
-pub use narrow::{TooWide, read_narrow, read_narrow_with, read_numbers, slice_quantisers};
+pub use narrow::{TooWide, read_numbers, slice_quantisers};
 pub use no_places::NoPlaces;
 pub use places::{Hands, Places};
 pub use vc_types::{Short, Unsound};

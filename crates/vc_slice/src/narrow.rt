@@ -10,7 +10,7 @@ ghost use Rattle.vc_slice.specs.Numbers.{AreBlockNumbers, AreUpTo};
 ghost use Rattle.vc_slice.specs.Quantisers.{AreSliceQuantisers};
 
 use crate::component::{bits_of, quantiser};
-use crate::rects::{area, rects_of};
+use crate::rects::area;
 use vc_geometry::bands;
 use vc_golomb::read_sints;
 use vc_quant::Quantiser;
@@ -22,32 +22,6 @@ const LARGE_INDEX: u8 = 80;
 /// A coefficient may be too wide for 32 bits.
 #[derive(Clone, Copy, Debug, PartialEq, Eq)]
 pub struct TooWide;
-
-/// Reads the coefficients of a component's block (ST 2042-1, high-quality slice) to the front of `out`, which has room
-/// for eight more. What is behind them isn't said. TooWide says nothing of the block but that it is to be read in 64 bits.
-pub fn read_narrow(
-    plan: &Plan,
-    c: Component,
-    slice: u32,
-    index: u8,
-    block: &[u8],
-    out: &mut [i32],
-) -> Result<(), TooWide>
-    requires slice { slice < slice_count (parameters_of plan.now) }
-    requires index { index ≤ 127 }
-    requires room { slice_coefficient_count (parameters_of plan.now) c slice + 8 ≤ length out.old }
-    ensures value { OnOk result
-        ((i : ℕ) → i < slice_coefficient_count (parameters_of plan.now) c slice
-        → line_of out.new i
-        ≡ line_of (block_coefficients (parameters_of plan.now) c slice index block.now) i) }
-    ensures sound { OnOk result (list_any is_large
-        (block_coefficients (parameters_of plan.now) c slice index block.now) ≡ false) }
-{
-    let rects = rects_of(plan, c, slice);
-    let mut by_subband = [Quantiser::new(index); 16];
-    slice_quantisers(plan, index, &mut by_subband);
-    read_narrow_with(plan, c, slice, index, block, &rects, &by_subband, out)
-}
 
 /// The quantisers of all subbands, in their order, in a slice of this index.
 pub fn slice_quantisers(plan: &Plan, index: u8, by_subband: &mut [Quantiser])
@@ -61,9 +35,11 @@ pub fn slice_quantisers(plan: &Plan, index: u8, by_subband: &mut [Quantiser])
     }
 }
 
-/// The same as `read_narrow`, where the parts of the subbands that belong to the slice are at hand, as `slice_rects` gives
-/// them, and the subbands' quantisers, as `slice_quantisers` does.
-pub fn read_narrow_with(
+/// Reads the coefficients of a component's block (ST 2042-1, high-quality slice) to the front of `out`, which has room
+/// for eight more. What is behind them isn't said. The parts of the subbands that belong to the slice are at hand, as
+/// `slice_rects` gives them, and the subbands' quantisers, as `slice_quantisers` does. TooWide says nothing of the block
+/// but that it is to be read in 64 bits.
+pub(crate) fn read_narrow(
     plan: &Plan,
     c: Component,
     slice: u32,

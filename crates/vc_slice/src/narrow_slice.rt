@@ -13,7 +13,7 @@ ghost use Rattle.vc_slice.specs.Quantisers.{AreSliceQuantisers};
 
 use crate::coded::CodedSlice;
 use crate::coeffs::SliceCoeffs;
-use crate::narrow::{TooWide, count_in, read_narrow_with, slice_quantisers};
+use crate::narrow::{TooWide, count_in, read_narrow, slice_quantisers};
 use crate::rects::rects_of;
 use std::alloc::Global;
 use vc_quant::Quantiser;
@@ -135,7 +135,7 @@ fn read_at(
     ensures sound { OnOk result (list_any is_large
         (block_coefficients (parameters_of plan.now) c slice index block.now) ≡ false) }
 {
-    read_narrow_with(
+    read_narrow(
         plan,
         c,
         slice,

@@ -54,17 +54,4 @@ impl Plane {
     {
         &self.samples
     }
-
-    /// Gives the samples back, row by row.
-    pub fn into_samples(self) -> Vec<u16>
-        ensures value { result.items ≡ self.samples }
-        ensures whole { length result.items ≡ self.width * self.height }
-    {
-        let Plane {
-            width: _,
-            height: _,
-            samples,
-        } = self;
-        samples
-    }
 }

@@ -22,7 +22,6 @@ mod turn;
 pub use analysis::forward;
 pub use forward_bounds::forward_fits_narrow;
 pub use laws::inverse_undoes_forward;
-pub use narrow::inverse_narrow;
 pub use narrow_analysis::forward_narrow;
 pub use output::{Format, inverse_output};
 pub use synthesis::inverse;

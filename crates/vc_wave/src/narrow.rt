@@ -2,7 +2,7 @@ ghost use Rattle.std.specs.Prelude.{◌≡◌, ◌+◌, ◌-◌, ◌*◌, ◌^�
 ghost use Rattle.vc_types.specs.Lifting.{line_of};
 ghost use Rattle.vc_types.specs.Subbands.{padded_width, padded_height};
 ghost use Rattle.vc_types.specs.TransformParameters.{parameters_of};
-ghost use Rattle.vc_types.specs.Transforms.{halved, half_place, on_columns, on_rows, inverse_transform, levels_across, inverse_levels};
+ghost use Rattle.vc_types.specs.Transforms.{halved, half_place, on_columns, on_rows, levels_across, inverse_levels};
 ghost use Rattle.vc_types.specs.Wavelets.{is_shifted, synthesised};
 ghost use Rattle.vc_lift.specs.Ranges.{narrow_bound};
 ghost use Rattle.vc_wave.specs.declared.pass.Direction.TheVariants.{Synthesis};
@@ -238,8 +238,10 @@ fn merge_levels(
     Some(bound)
 }
 
-/// Puts the levels across alone of a component together, and the first ones both ways. It tells a bound on all cells after
-/// that; none where 32 bits may not be enough.
+/// Puts the levels across alone of a component together, and the first ones both ways, in place and in 32 bits (ST 2042-1,
+/// inverse wavelet transform). The coefficients stand in rows of `stride` cells, whose rows are taken in turn as `nested_in`
+/// says. It tells a bound on all cells after that; none where 32 bits may not be enough, and then the cells hold nothing of
+/// use. The line is room to work in, as long as a row.
 pub(crate) fn merge_below(
     plan: &Plan,
     c: Component,
@@ -285,25 +287,4 @@ pub(crate) fn merge_below(
         h,
     };
     merge_levels(wavelets, nesting, count, cells, stride, line, most)
-}
-
-/// The samples of a component from its coefficients, in place and in 32 bits (ST 2042-1, inverse wavelet transform). The
-/// coefficients stand in rows of `stride` cells, whose rows are taken in turn as `nested_in` says; the samples then stand
-/// row by row in their order, not yet clipped. It answers whether 32 bits were enough; where they weren't, the cells hold
-/// nothing of use. The line is room to work in, as long as a row. It takes no memory.
-pub fn inverse_narrow(
-    plan: &Plan,
-    c: Component,
-    cells: &mut [i32],
-    stride: usize,
-    line: &mut [i32],
-) -> bool
-    requires stride { padded_width (parameters_of plan.now) c ≤ stride }
-    requires cells { padded_height (parameters_of plan.now) c * stride ≤ length cells.old }
-    requires line { padded_width (parameters_of plan.now) c ≤ length line.old }
-    ensures { result ≡ true → plane_of stride cells.new
-        ≡ inverse_transform (parameters_of plan.now) c
-        (nested_in (parameters_of plan.now) c stride cells.old) }
-{
-    merge_below(plan, c, plan.depth, cells, stride, line).is_some()
 }

@@ -188,8 +188,9 @@ pub(crate) fn put_level(
 }
 
 /// The samples of a component's plane from its coefficients, in 32 bits (ST 2042-1, inverse wavelet transform and picture
-/// output): those that `inverse_narrow` makes, without the padding, clipped, and with half of their range added. It answers
-/// whether 32 bits were enough; where they weren't, the samples are of no use. The cells are of none afterwards.
+/// output): without the padding, clipped, and with half of their range added. The coefficients stand in rows of `stride`
+/// cells, whose rows are taken in turn as `turn_rows` leaves them, and are of no use afterwards. The line is room to work
+/// in, as long as a row. It answers whether 32 bits were enough; where they weren't, the samples are of no use either.
 pub fn inverse_output(
     plan: &Plan,
     c: Component,

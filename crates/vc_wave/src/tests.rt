@@ -6,8 +6,9 @@ ghost use Rattle.vc_types.specs.TransformParameters.{is_symmetric, parameters_of
 
 use crate::bounds::rows_bound;
 use crate::forward_bounds::parted_bound;
+use crate::narrow::merge_below;
 use crate::{
-    Format, forward, forward_fits_narrow, forward_narrow, inverse, inverse_narrow, inverse_output,
+    Format, forward, forward_fits_narrow, forward_narrow, inverse, inverse_output,
     inverse_undoes_forward,
 };
 use std::alloc::Global;
@@ -331,7 +332,7 @@ fn narrow(plan: &Plan, cells: &mut [i32], line: &mut [i32]) -> bool {
     if cells.len() != rows * columns || line.len() < columns {
         return false;
     }
-    inverse_narrow(plan, Component::Y, cells, columns, line)
+    merge_below(plan, Component::Y, plan.depth, cells, columns, line).is_some()
 }
 
 // The row that has the cell in column x and row y of the nested subbands.

@@ -118,7 +118,7 @@ fn turn_columns(
 }
 
 /// Copies a component's coefficients, which stand row by row in nested subbands of the padded size, to cells whose rows are
-/// taken in turn, as `inverse_narrow` wants them.
+/// taken in turn, as `inverse_output` wants them.
 pub fn turn_rows(plan: &Plan, c: Component, nested: &[i32], cells: &mut [i32])
     requires nested { padded_height (parameters_of plan.now) c
         * padded_width (parameters_of plan.now) c ≤ length nested.now }

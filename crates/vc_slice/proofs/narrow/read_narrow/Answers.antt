@@ -5,7 +5,7 @@ use Rattle.vc_types.specs.Slices.{quantisers, block_coefficients}
 use Rattle.vc_types.specs.Subbands.{slice_coefficient_count}
 use Rattle.vc_types.specs.TransformParameters.{parameters_of}
 use Rattle.vc_slice.proofs.NarrowRuns.{coefficient_of, none_large, length-block}
-use Rattle.vc_slice.proofs.narrow.read_narrow_with.Goals as goal
+use Rattle.vc_slice.proofs.narrow.read_narrow.Goals as goal
 
 pub returns-then-dequantise-clause-value : goal.returns-then-dequantise-clause-value
 returns-then-dequantise-clause-value c = λ i h.
