@@ -2,8 +2,7 @@
 use Rattle.std.proofs.Common.{◌≡◌, ℕ, zero, suc, ◌+◌, ◌-◌, ◌*◌, ◌/◌, ◌^◌, ◌<◌, ◌≤◌, ◌⊎◌, inl, inr, List, ℤ, pos, negsuc, ◌+ℤ◌, unsigned_abs, arith, ap, sym, subst, refl, ◌∙◌, Bool, true, false, max, Option, Some, None, IfSome}
 use Rattle.std.specs.Prelude.{if◌then◌else◌, nat_lt}
 use Rattle.std.specs.Int.{int_shr}
-use Rattle.std.specs.Option.{is_some}
-use Rattle.std.proofs.lemmas.Bool.{cases_lt, false≢true}
+use Rattle.std.proofs.lemmas.Bool.{cases_lt}
 use Rattle.std.proofs.lemmas.Bool.Decides.{nat_tests}
 use Rattle.std.proofs.lemmas.Int.{ints}
 use Rattle.std.proofs.lemmas.Option.{option_and_then_some}
@@ -18,7 +17,7 @@ use Rattle.vc_lift.specs.Ranges.{narrow_bound}
 use Rattle.vc_lift.proofs.LineLaws.{synthesis_past}
 use Rattle.vc_lift.proofs.NarrowGrowth.{synthesis_after, narrow_covers}
 use Rattle.vc_wave.specs.declared.pass.Direction.TheVariants.{Synthesis}
-use Rattle.vc_wave.specs.Layout.{laid_out, row_in_turn, after_levels}
+use Rattle.vc_wave.specs.Layout.{laid_out, after_levels}
 use Rattle.vc_wave.specs.NarrowBounds.{AreWithin, CarriesTo, rows_bound, bound_over}
 use Rattle.vc_wave.specs.Planes.{HasRoom, plane_of}
 use Rattle.vc_wave.specs.Remade.{remade, merged, halves_together, level_in_turn}
@@ -208,11 +207,6 @@ pub bound_zero : (carry : ℕ → Option ℕ) (most b : ℕ) → bound_over carr
 unfolding bound_over
 bound_zero carry most b e = grind (arith, nat_tests)
 
--- what holds where there is a bound
-pub some_holds : (o : Option ℕ) (P : Type 0) → is_some o ≡ true → IfSome o (λ n. P) → P
-some_holds (Some n) P some holds = holds
-some_holds None P some holds = absurd (false≢true some)
-
 pub some_also : (o : Option ℕ) (P Q : Type 0) → (P → Q) → IfSome o (λ n. P) → IfSome o (λ n. Q)
 some_also (Some n) P Q f holds = f holds
 some_also None P Q f none = none
@@ -304,10 +298,6 @@ next_laid vertical horizontal levels level w h stride pitch columns rows first o
     ∙ ap (λ n. laid_out left n (h * 2 ^ (level + 1)) (plane_of stride new)) (twice w)
     ∙ ap (λ n. laid_out left (2 * (w * 2 ^ level)) n (plane_of stride new)) (twice h)
     ∙ level_laid vertical horizontal (w * 2 ^ level) (h * 2 ^ level) left stride old new (omega (arith, fits, wide)) here)
-
-pub last_laid : (levels level a b : ℕ) (plane : Cells) → level ≡ levels → plane ≡ laid_out (levels - level) a b plane
-unfolding row_in_turn
-last_laid levels level a b plane e = (let none : 0 ≡ levels - level = omega arith in ap (λ n. laid_out n a b plane) none)
 
 -- ---- a component
 
