@@ -76,7 +76,7 @@ pub kept_at : (s : CountedStep) (half : ℕ) (x : ℕ → ℤ) (n : ℕ) → s.p
 unfolding lift
 kept_at s half x n h = let other : (2 * n + (1 - s.parity)) % 2 ≢ s.parity = omega arith in grind (arith, nat_tests)
 
-abs-moved : (adds : Bool) (a c : ℤ) → unsigned_abs (changed_by adds a c) ≤ unsigned_abs a + unsigned_abs c
+pub abs-moved : (adds : Bool) (a c : ℤ) → unsigned_abs (changed_by adds a c) ≤ unsigned_abs a + unsigned_abs c
 abs-moved true a c = omega (arith, ints)
 abs-moved false a c = omega (arith, ints)
 

@@ -11,7 +11,7 @@ use Rattle.vc_lift.proofs.LineUndoing.{lift_all-undone, parities}
 even_size : (size : ℕ) → size % 2 ≡ 0 → size ≡ 2 * (size / 2)
 even_size size e = omega arith
 
-undone_lines : (w half : ℕ) (x : ℕ → ℤ) → synthesised w (2 * half) (analysed w (2 * half) x) ≡ x
+pub undone_lines : (w half : ℕ) (x : ℕ → ℤ) → synthesised w (2 * half) (analysed w (2 * half) x) ≡ x
 undone_lines w half x =
     synthesised_counted w half (analysed w (2 * half) x)
     ∙ ap (lift_all (counted_steps w) half) (analysed_counted w half x)

@@ -4,23 +4,18 @@ use Rattle.std.specs.Prelude.{if◌then◌else◌, nat_lt, ◌==◌, ◌&&◌}
 use Rattle.std.specs.Option.{option_and_then}
 use Rattle.std.proofs.lemmas.Bool.{cases_eq}
 use Rattle.std.proofs.lemmas.Bool.Decides.{nat_tests}
-use Rattle.std.proofs.lemmas.Int.{ints}
-use Rattle.std.proofs.lemmas.Option.{option_and_then_some}
+use Rattle.std.proofs.lemmas.Option.{option_and_then_some, same_Some}
 use Rattle.std.proofs.Math.Numerals.{add-one}
 use Rattle.std.proofs.Math.Seq.{drop-cons}
-use Rattle.vc_types.specs.Lifting.{half_of, changed_by}
+use Rattle.vc_types.specs.Lifting.{half_of}
 use Rattle.vc_lift.specs.CountedSteps.{CountedStep, sum_met, change_at, lift, lift_all}
 use Rattle.vc_lift.specs.Growth.{IsWithin}
 use Rattle.vc_lift.specs.Ranges.{HasRange, StaysNarrow, rounded_sum, stretched, stretched_below, bound_after, counted_synthesis, counted_analysis, narrow_bound, narrow_analysis_bound}
 use Rattle.vc_types.specs.Wavelets.{synthesised, analysed}
 use Rattle.vc_lift.proofs.CountedSteps.{counted_steps, synthesised_counted, analysed_counted}
-use Rattle.vc_lift.proofs.LineGrowth.{kept_at, lifted_at, plain_parity, plain_at, synthesis_little, analysis_little}
+use Rattle.vc_lift.proofs.LineGrowth.{abs-moved, kept_at, lifted_at, plain_parity, plain_at, synthesis_little, analysis_little}
 use Rattle.vc_lift.proofs.NarrowSums.{shr_at_most, sum_met_within}
 use Rattle.vc_lift.proofs.WeightedSums.{abs-add}
-
-abs-moved : (adds : Bool) (a c : ℤ) → unsigned_abs (changed_by adds a c) ≤ unsigned_abs a + unsigned_abs c
-abs-moved true a c = omega (arith, ints)
-abs-moved false a c = omega (arith, ints)
 
 -- what stays below the limit says that it does
 both_below : (a b : Bool) (n m : ℕ) → (if a && b then Some n else None) ≡ Some m → (a ≡ true) × (b ≡ true) × (n ≡ m)
@@ -127,14 +122,11 @@ range_at limit (s ∷ steps) e o half after x (suc i) d some p fits even odd lt 
     let next = stepped limit s steps e o half after x some (p 0 s (omega arith)) fits even odd in
     range_at limit steps next.even next.odd half after (lift s half x) i d some (λ j t h. p (suc j) t (omega arith)) next.fits next.even_within next.odd_within (omega arith)
 
-unwrapped : (n m : ℕ) → Some n ≡ Some m → n ≡ m
-unwrapped n m e = grind (arith, nat_tests)
-
 pub after_within : (limit : ℕ) (steps : List CountedStep) (e o half after : ℕ) (x : ℕ → ℤ) → 0 < half → HaveParities steps → bound_after limit steps e o ≡ Some after → IsWithin x half 0 e → IsWithin x half 1 o
     → (k : ℕ) → k < 2 * half → unsigned_abs (lift_all steps half x k) ≤ after
 unfolding lift_all bound_after
 after_within limit [] e o half after x some p fits even odd k lt =
-    let is : max e o ≡ after = unwrapped (max e o) after fits in
+    let is : max e o ≡ after = same_Some (max e o) after fits in
     elim (cases_eq (k % 2) 0) [
       | inl zeroth ↦ (let place : 2 * (k / 2) + 0 ≡ k = omega arith in let small = even.within (k / 2) (omega arith) in omega (arith, subst (λ j. unsigned_abs (x j) ≤ e) place small, is))
       | inr ne ↦ (let place : 2 * (k / 2) + 1 ≡ k = omega arith in let small = odd.within (k / 2) (omega arith) in omega (arith, subst (λ j. unsigned_abs (x j) ≤ o) place small, is))
@@ -193,7 +185,7 @@ more_covers : (limit : ℕ) (s : CountedStep) (own other more : ℕ) → stretch
 more_covers limit s own other more fits = (let is : stretched s own other ≡ more = (both_below (nat_lt (rounded_sum s other) limit) (nat_lt (stretched s own other) limit) (stretched s own other) more fits).2 in omega (arith, is))
 
 pub bound_covers : (limit : ℕ) (steps : List CountedStep) (e o m : ℕ) → bound_after limit steps e o ≡ Some m → (e ≤ m) × (o ≤ m)
-bound_covers limit [] e o m fits = (let is : max e o ≡ m = unwrapped (max e o) m (sym (bound_none limit e o) ∙ fits) in (omega (arith, is), omega (arith, is)))
+bound_covers limit [] e o m fits = (let is : max e o ≡ m = same_Some (max e o) m (sym (bound_none limit e o) ∙ fits) in (omega (arith, is), omega (arith, is)))
 bound_covers limit (s ∷ steps) e o m fits = elim (cases_eq s.parity 0) [
   | inl zeroth ↦ option_and_then_some (λ (more : ℕ). bound_after limit steps more o) (stretched_below limit s e o) m (sym (bound_even limit s steps e o zeroth) ∙ fits)
       (λ more is rest. (let first = more_covers limit s e o more is in let c = bound_covers limit steps more o m rest in (omega (arith, first, c.0), c.1)))

@@ -17,17 +17,17 @@ place_below half width k x h lt = omega (arith, mul-add-lt k width x (2 * half) 
 pub inside_place : (half width n back j x p : ℕ) → back ≤ n → n + j < half + back → (2 * (n - back) + (1 - p)) * width + x + 2 * j * width ≡ (2 * min (n + j - back) (half - 1) + (1 - p)) * width + x
 inside_place half width n back j x p h lt = let inner : min (n + j - back) (half - 1) ≡ n - back + j = omega arith in rw inner (omega arith)
 
-sample_same : (line : ℕ → ℤ) (k : ℕ) (v : ℤ) → with_sample line k v k ≡ v
+pub sample_same : (line : ℕ → ℤ) (k j : ℕ) (v : ℤ) → j ≡ k → with_sample line k v j ≡ v
 unfolding with_sample
-sample_same line k v = grind (arith, nat_tests)
+sample_same line k j v e = grind (arith, nat_tests)
 
-sample_other : (line : ℕ → ℤ) (k j : ℕ) (v : ℤ) → j ≢ k → with_sample line k v j ≡ line j
+pub sample_other : (line : ℕ → ℤ) (k j : ℕ) (v : ℤ) → j ≢ k → with_sample line k v j ≡ line j
 unfolding with_sample
 sample_other line k j v ne = grind (arith, nat_tests)
 
 module _ (width : ℕ) (cells : List ℤ) (k x : ℕ) (v : ℤ) (lt : x < width) where
   set_at : k * width + x < length cells → (j : ℕ) → (j ≡ k) ⊎ (j ≢ k) → column_of width (set cells (k * width + x) v) x j ≡ with_sample (column_of width cells x) k v j
-  set_at within j (inl e) = rw (e, sample_same (column_of width cells x) k v) (get_or-set_same cells (k * width + x) v (pos 0) within)
+  set_at within j (inl e) = rw (sample_same (column_of width cells x) k j v e, e) (get_or-set_same cells (k * width + x) v (pos 0) within)
   set_at within j (inr ne) = rw (sample_other (column_of width cells x) k j v ne) (get_or-set_other cells (k * width + x) (j * width + x) v (pos 0) (λ e. ne (same_from_place j x k x width lt lt e).0))
 
   -- a cell that is written changes its own column there, and no other

@@ -8,7 +8,8 @@ use Rattle.std.proofs.lemmas.Bool.{cases_eq}
 use Rattle.vc_types.specs.Lifting.{half_of, changed_by}
 use Rattle.vc_lift.specs.CountedSteps.{CountedStep, sum_met, change_at, lift, sum_below}
 use Rattle.vc_lift.specs.Growth.{IsWithin}
-use Rattle.vc_lift.specs.Columns.{with_sample, one_changed}
+use Rattle.vc_lift.specs.Columns.{one_changed}
+use Rattle.vc_lift.proofs.Places.{sample_same, sample_other}
 
 unfoldable pub part : CountedStep → ℕ → ℕ → (ℕ → ℤ) → ℕ → ℤ
 part s half m x k = if nat_lt (k / 2) m && (k % 2 == s.parity) then changed_by s.adds (x k) (change_at s half x (k / 2)) else x k
@@ -44,22 +45,14 @@ elsewhere : (s : CountedStep) (half m : ℕ) (x : ℕ → ℤ) (k : ℕ) → s.p
 unfolding part
 elsewhere s half m x k h ne = grind (arith, nat_tests)
 
-with_here : (line : ℕ → ℤ) (k j : ℕ) (v : ℤ) → j ≡ k → with_sample line k v j ≡ v
-unfolding with_sample
-with_here line k j v e = grind (arith, nat_tests)
-
-with_elsewhere : (line : ℕ → ℤ) (k j : ℕ) (v : ℤ) → j ≢ k → with_sample line k v j ≡ line j
-unfolding with_sample
-with_elsewhere line k j v ne = grind (arith, nat_tests)
-
 module _ (s : CountedStep) (half m : ℕ) (x : ℕ → ℤ) (h : s.parity < 2) where
   place : (k : ℕ) → (k ≡ 2 * m + s.parity) ⊎ (k ≢ 2 * m + s.parity) → one_changed s half m (part s half m x) k ≡ part s half (m + 1) x k
   place k (inl e) =
-      with_here (part s half m x) (2 * m + s.parity) k _ e
+      sample_same (part s half m x) (2 * m + s.parity) k _ e
       ∙ ap (λ z. changed_by s.adds z (change_at s half (part s half m x) m)) (at_place s half m x h)
       ∙ ap (changed_by s.adds (x (2 * m + s.parity))) (change_part s half m x m h)
       ∙ sym (ap (part s half (m + 1) x) e ∙ here s half m x h)
-  place k (inr ne) = with_elsewhere (part s half m x) (2 * m + s.parity) k _ ne ∙ sym (elsewhere s half m x k h ne)
+  place k (inr ne) = sample_other (part s half m x) (2 * m + s.parity) k _ ne ∙ sym (elsewhere s half m x k h ne)
 
   -- one sample more
   pub part_more : one_changed s half m (part s half m x) ≡ part s half (m + 1) x

@@ -68,7 +68,7 @@ one_waits n z (x ∷ xs) none =
     ∙ append_assoc (replicate n true) (true ∷ []) (flat_map sint_bits (x ∷ xs))
     ∙ ap (λ (bits : List Bool). replicate n true ++ (bits ++ flat_map sint_bits (x ∷ xs))) (zero_code z none)
 
-kept_other : (z : ℤ) (zs : List ℤ) → 0 < unsigned_abs z → kept_before zs z ≡ z ∷ zs
+pub kept_other : (z : ℤ) (zs : List ℤ) → 0 < unsigned_abs z → kept_before zs z ≡ z ∷ zs
 kept_other z [] some = rw (not_zero (unsigned_abs z) some) refl
 kept_other z (x ∷ xs) some = refl
 

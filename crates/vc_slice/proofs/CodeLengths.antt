@@ -4,11 +4,7 @@ use Rattle.std.proofs.Math.Nat.{pow-suc}
 use Rattle.vc_types.specs.Bits.{digit_of}
 use Rattle.vc_types.specs.Codes.{spread_digits, uint_bits, sign_bits, sint_bits}
 use Rattle.vc_types.proofs.Codes.{spread_digits-push, none_before}
-
-digit_is : (digit : ℕ) → digit < 2 → digit ≡ digit_of (eqb digit 1)
-digit_is zero small = refl
-digit_is (suc zero) small = refl
-digit_is (suc (suc digit)) small = absurd (omega arith)
+use Rattle.vc_types.proofs.Digits.{digit_back}
 
 -- the digits after the first, each behind a 0
 length-digits : (place n : ℕ) → 2 ^ place ≤ n → n < 2 * 2 ^ place → length (spread_digits n) ≡ 2 * place
@@ -18,8 +14,7 @@ length-digits zero n low high =
 length-digits (suc place) n low high =
     let power = pow-suc 2 place in
     let bit = eqb (n % 2) 1 in
-    let last : n % 2 ≡ digit_of bit = digit_is (n % 2) (omega arith) in
-    let parts : n ≡ 2 * (n / 2) + digit_of bit = omega (arith, last) in
+    let parts : n ≡ 2 * (n / 2) + digit_of bit = omega (arith, digit_back (n % 2) (omega arith)) in
     let half = length-digits place (n / 2) (omega (arith, power)) (omega (arith, power)) in
     let some : 0 < n / 2 = omega (arith, power) in
     let more = ap (λ (k : ℕ). length (spread_digits k)) parts ∙ ap length (spread_digits-push (n / 2) bit some) ∙ length-append (spread_digits (n / 2)) _ in

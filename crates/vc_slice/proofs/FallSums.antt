@@ -9,7 +9,8 @@ use Rattle.vc_types.specs.Slices.{is_large}
 use Rattle.std.proofs.Math.Nat.{pow-le-pow_right, pow-suc}
 use Rattle.vc_types.specs.Codes.{sint_bits}
 use Rattle.vc_types.specs.Quantisation.{quant_factor, quantised}
-use Rattle.vc_quant.proofs.Quotients.{rises, not_larger}
+use Rattle.vc_quant.proofs.Quotients.{not_larger}
+use Rattle.vc_types.proofs.Quantisers.{quant_factor_range}
 use Rattle.vc_slice.specs.Falls.{sum_from, most_from, code_steps, block_from}
 use Rattle.vc_slice.specs.Inside.{codes_behind, subband_numbers}
 use Rattle.vc_slice.proofs.BlockCodes.{behind_zero, length_other}
@@ -183,12 +184,8 @@ step_more digits n q last before now other first some exactly on off so_far =
     ])
 
 -- and no more
-four_quarters : quant_factor 0 ≡ 4
-unfolding quant_factor
-four_quarters = refl
-
 pub number_le : (magnitude q : ℕ) → q ≤ 127 → 4 * magnitude / quant_factor q ≤ magnitude
-number_le magnitude q few = not_larger magnitude (quant_factor q) (omega (arith, rises 0 q (omega arith) few, four_quarters))
+number_le magnitude q few = not_larger magnitude (quant_factor q) (quant_factor_range q)
 
 pub steps_done : (digits magnitude q : ℕ) → q ≤ 127 → 2 ≤ digits → digits ≤ 61 → magnitude + 1 < 2 ^ digits → code_steps (digits - 1) (4 * magnitude / quant_factor q + 1) ≡ code_steps 60 (4 * magnitude / quant_factor q + 1)
 steps_done digits magnitude q within some few above =

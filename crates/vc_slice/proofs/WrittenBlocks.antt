@@ -1,8 +1,6 @@
 -- The numbers of a block that are coded: all coefficients quantised, up to the last number that isn't 0.
-use Rattle.std.proofs.Common.{◌≡◌, ℕ, zero, suc, ◌+◌, ◌-◌, ◌*◌, ◌^◌, ◌<◌, ◌≤◌, List, [], ◌∷◌, length, take, get_or, ℤ, pos, negsuc, unsigned_abs, of_z, w32, arith, refl, sym, ap, ◌∙◌}
+use Rattle.std.proofs.Common.{◌≡◌, ℕ, zero, suc, ◌+◌, ◌*◌, ◌^◌, ◌<◌, ◌≤◌, List, [], ◌∷◌, length, take, get_or, ℤ, pos, negsuc, unsigned_abs, of_z, w32, arith, refl, sym, ap, ◌∙◌}
 use Rattle.std.specs.List.{zip}
-use Rattle.std.proofs.lemmas.Bool.Decides.{nat_tests}
-use Rattle.std.proofs.lemmas.Int.{ints}
 use Rattle.std.proofs.lemmas.List.{ext_get_or, get_or-map, length-map}
 use Rattle.std.proofs.lemmas.Slice.Zip.{get_or-zip}
 use Rattle.std.proofs.Math.Nat.{mul-le-mul}
@@ -16,16 +14,13 @@ use Rattle.vc_types.specs.Slices.{quantisers}
 use Rattle.vc_types.specs.Subbands.{area, slice_coefficient_count, slice_rectangle, subband_at}
 use Rattle.vc_types.specs.TransformParameters.{Parameters}
 use Rattle.vc_types.proofs.SliceRectangles.{coefficients_before, coefficients_before-none, coefficients_before-more, coefficients_before-all}
+use Rattle.vc_slice.proofs.BlockCodes.{kept_other}
 use Rattle.vc_slice.proofs.BlockCoefficients.{length-quantisers}
 use Rattle.vc_slice.proofs.NarrowRuns.{length-pairs}
 
 -- zeros at the end are left out
 zero_kept : (z : ℤ) → unsigned_abs z ≡ 0 → kept_before [] z ≡ []
 zero_kept z none = rw none refl
-
-other_kept : (z : ℤ) (zs : List ℤ) → 0 < unsigned_abs z → kept_before zs z ≡ z ∷ zs
-other_kept z [] some = grind (arith, nat_tests)
-other_kept z (x ∷ xs) some = refl
 
 pub kept_front : (n : ℕ) (zs : List ℤ) → n ≤ length zs → ((i : ℕ) → n ≤ i → i < length zs → line_of zs i ≡ pos 0) → ((m : ℕ) → n ≡ suc m → 0 < unsigned_abs (line_of zs m)) → take n zs ≡ without_last_zeros zs
 unfolding without_last_zeros
@@ -36,7 +31,7 @@ kept_front zero (z ∷ zs) within zeros last =
     sym (zero_kept z (ap unsigned_abs (zeros 0 (omega arith) (omega arith)))) ∙ ap (λ (xs : List ℤ). kept_before xs z) rest
 kept_front (suc zero) (z ∷ zs) within zeros last =
     let rest : [] ≡ without_last_zeros zs = kept_front zero zs (omega arith) (λ i low high. zeros (suc i) (omega arith) (omega arith)) (λ m e. absurd (omega (arith, e))) in
-    sym (other_kept z [] (last 0 refl)) ∙ ap (λ (xs : List ℤ). kept_before xs z) rest
+    sym (kept_other z [] (last 0 refl)) ∙ ap (λ (xs : List ℤ). kept_before xs z) rest
 kept_front (suc (suc n)) (z ∷ []) within zeros last = absurd (omega arith)
 kept_front (suc (suc n)) (z ∷ x ∷ xs) within zeros last =
     let rest : take (suc n) (x ∷ xs) ≡ without_last_zeros (x ∷ xs) = kept_front (suc n) (x ∷ xs) (omega arith) (λ i low high. zeros (suc i) (omega arith) (omega arith)) (λ m e. last (suc m) (ap suc e)) in

@@ -1,5 +1,6 @@
 -- Bytes behind a unit, and behind units: what stands stays as it is.
-use Rattle.std.proofs.Common.{◌≡◌, ◌⊎◌, ℕ, zero, suc, Bool, true, false, List, [], ◌∷◌, ◌++◌, length, Result, Ok, Err, inl, inr, refl, sym, ap, ◌∙◌, append_assoc, append-nil, arith}
+use Rattle.std.proofs.Common.{◌≡◌, ◌⊎◌, ℕ, zero, suc, true, false, List, [], ◌∷◌, ◌++◌, length, Result, Ok, Err, inl, inr, refl, sym, ap, ◌∙◌, append_assoc, append-nil, arith}
+use Rattle.std.proofs.lemmas.Bool.{cases_Bool}
 use Rattle.std.proofs.lemmas.Grind.{common_steps}
 use Rattle.vc_types.specs.Fields.{next_items}
 use Rattle.vc_types.proofs.FieldCodecs.{and_then_ok, ok_is, next_items_codec}
@@ -88,30 +89,27 @@ data_unit-bad info more fault len other is = by_length (body_length info) refl
 
 -- ---- units
 
+-- no unit, the last one, or one before others
+unit_cases : (bytes : List ℕ) (Goal : Type 0) → ((fault : UnitFault) → data_unit bytes ≡ Err fault → Goal)
+    → ((u : DataUnit) (rest : List ℕ) → data_unit bytes ≡ Ok (u, rest) → is_end_of_sequence u ≡ true → Goal)
+    → ((u : DataUnit) (rest : List ℕ) → data_unit bytes ≡ Ok (u, rest) → is_end_of_sequence u ≡ false → Goal) → Goal
+unit_cases bytes Goal none last other = by_unit (data_unit bytes) refl
+  where
+    by_unit : (found : Result (DataUnit × List ℕ) UnitFault) → data_unit bytes ≡ found → Goal
+    by_unit (Err fault) is = none fault is
+    by_unit (Ok read) is = elim (cases_Bool (is_end_of_sequence read.0)) [ inl ends ↦ last read.0 read.1 is ends | inr goes_on ↦ other read.0 read.1 is goes_on ]
+
 -- the units stand at the front of those that the bytes and more have
 pub units_within-more : (most : ℕ) (bytes more : List ℕ) → (behind : List DataUnit) × ((units_within most (bytes ++ more)).0 ≡ (units_within most bytes).0 ++ behind)
 unfolding units_within
 units_within-more zero bytes more = ([], refl)
-units_within-more (suc most) bytes more = by_unit (data_unit bytes) refl (λ rest. units_within-more most rest more)
-  where
-    Goal : Type 0
-    Goal = (behind : List DataUnit) × ((units_within (suc most) (bytes ++ more)).0 ≡ (units_within (suc most) bytes).0 ++ behind)
-
-    Deeper : Type 0
-    Deeper = (rest : List ℕ) → (behind : List DataUnit) × ((units_within most (rest ++ more)).0 ≡ (units_within most rest).0 ++ behind)
-
-    by_unit : (found : Result (DataUnit × List ℕ) UnitFault) → data_unit bytes ≡ found → Deeper → Goal
-    by_unit (Err fault) is deeper = ((units_within (suc most) (bytes ++ more)).0, rw is refl)
-    by_unit (Ok read) is deeper = by_end (is_end_of_sequence read.0) refl
-      where
-        again : data_unit (bytes ++ more) ≡ Ok (read.0, read.1 ++ more)
-        again = data_unit-more bytes more read.0 read.1 is
-
-        by_end : (ends : Bool) → is_end_of_sequence read.0 ≡ ends → Goal
-        by_end true ends = ([], rw (is, again, ends) refl)
-        by_end false goes_on =
-            let behind = deeper read.1 in
-            (behind.0, rw (is, again, goes_on) (ap (λ (units : List DataUnit). read.0 ∷ units) behind.1))
+units_within-more (suc most) bytes more =
+    unit_cases bytes ((behind : List DataUnit) × ((units_within (suc most) (bytes ++ more)).0 ≡ (units_within (suc most) bytes).0 ++ behind))
+    (λ fault is. ((units_within (suc most) (bytes ++ more)).0, rw is refl))
+    (λ u rest is ends. ([], rw (is, data_unit-more bytes more u rest is, ends) refl))
+    (λ u rest is goes_on.
+    let behind = units_within-more most rest more in
+    (behind.0, rw (is, data_unit-more bytes more u rest is, goes_on) (ap (λ (units : List DataUnit). u ∷ units) behind.1)))
 
 -- as many units as may be, or no unit behind them
 abbrev pub NoneBehind : ℕ → Units → List ℕ → Type 0
@@ -128,7 +126,11 @@ zero_is_suc n p = cc
 pub units_within-rest : (most : ℕ) (bytes more : List ℕ) → NoneBehind most (units_within most bytes) more → units_within most (bytes ++ more) ≡ ((units_within most bytes).0, (units_within most bytes).1 ++ more)
 unfolding units_within
 units_within-rest zero bytes more none = refl
-units_within-rest (suc most) bytes more none = by_unit (data_unit bytes) refl (λ rest. units_within-rest most rest more)
+units_within-rest (suc most) bytes more none =
+    unit_cases bytes Goal (λ fault is. no_unit fault is (rw is at none)) (λ u rest is ends. rw (is, data_unit-more bytes more u rest is, ends) refl)
+    (λ u rest is goes_on.
+    let behind = units_within-rest most rest more (fewer u (units_within most rest) (rw (is, goes_on) at none)) in
+    rw (is, data_unit-more bytes more u rest is, goes_on) (ap (λ (split : Units). (u ∷ split.0, split.1)) behind))
   where
     Goal : Type 0
     Goal = units_within (suc most) (bytes ++ more) ≡ ((units_within (suc most) bytes).0, (units_within (suc most) bytes).1 ++ more)
@@ -140,19 +142,3 @@ units_within-rest (suc most) bytes more none = by_unit (data_unit bytes) refl (�
     fewer : (u : DataUnit) (split : Units) → NoneBehind (suc most) (u ∷ split.0, split.1) more → NoneBehind most split more
     fewer u split (inl full) = inl (suc_is (length split.0) most full)
     fewer u split (inr behind) = inr behind
-
-    Deeper : Type 0
-    Deeper = (rest : List ℕ) → NoneBehind most (units_within most rest) more → units_within most (rest ++ more) ≡ ((units_within most rest).0, (units_within most rest).1 ++ more)
-
-    by_unit : (found : Result (DataUnit × List ℕ) UnitFault) → data_unit bytes ≡ found → Deeper → Goal
-    by_unit (Err fault) is deeper = no_unit fault is (rw is at none)
-    by_unit (Ok read) is deeper = by_end (is_end_of_sequence read.0) refl
-      where
-        again : data_unit (bytes ++ more) ≡ Ok (read.0, read.1 ++ more)
-        again = data_unit-more bytes more read.0 read.1 is
-
-        by_end : (ends : Bool) → is_end_of_sequence read.0 ≡ ends → Goal
-        by_end true ends = rw (is, again, ends) refl
-        by_end false goes_on =
-            let behind = deeper read.1 (fewer read.0 (units_within most read.1) (rw (is, goes_on) at none)) in
-            rw (is, again, goes_on) (ap (λ (split : Units). (read.0 ∷ split.0, split.1)) behind)
