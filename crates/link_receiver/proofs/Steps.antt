@@ -38,19 +38,18 @@ pub whole_by_some : (s : Sequence) (o : Option (Bor Book))
 whole_by_some s None h = tt
 whole_by_some s (Some book) h = (s, h)
 
-module _ (r : Reception) (st : StandingSession) (picture : Releasable) (planes : Option Planes)
-    (e : r.standing ≡ Some st)
-    (p : planes ≡ released_planes r.answers st.window picture.number) where
+module _ (r : Reception) (st : StandingSession) (picture : Releasable)
+    (e : r.standing ≡ Some st) where
   pub shown_output : (stream : Option WrittenStream)
-      → shown_bytes stream st r.field picture.number planes ≡ released_output stream r picture
-  shown_output None = rw (e, p) refl
-  shown_output (Some w) = rw (e, p) refl
+      → shown_bytes stream st r.answers r.field picture.number ≡ released_output stream r picture
+  shown_output None = rw e refl
+  shown_output (Some w) = rw e refl
 
   pub shown_stream : (stream : Option WrittenStream)
-      → stream_behind_shown stream st r.field picture.number planes
+      → stream_behind_shown stream st r.answers r.field picture.number
       ≡ stream_behind_picture stream r picture
   shown_stream None = refl
-  shown_stream (Some w) = rw (e, p) refl
+  shown_stream (Some w) = rw e refl
 
 -- ---- a job is put
 
