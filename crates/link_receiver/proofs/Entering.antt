@@ -147,8 +147,8 @@ fails_early stream r d held = ([], tt, GrewBySome-none held (datagram_output str
 
 -- ---- up to the releases, and behind them
 
-module _ (a b : Option Told) (old kept exchanged : Reception) (d : List ℕ)
-    (jobs : List SliceJob) (k : kept ≡ keeps_datagram old d)
+module _ {a b : Option Told} {old kept exchanged : Reception} {d : List ℕ}
+    {jobs : List SliceJob} (k : kept ≡ keeps_datagram old d)
     (x : Exchanges a b kept exchanged jobs) where
   same : HaveSameSession kept exchanged
   same = calls_session a b kept exchanged x.0 x.1
@@ -183,7 +183,7 @@ module _ (a b : Option Told) (old kept exchanged : Reception) (d : List ℕ)
     subst (GrewBySome before behind) (output_exchanged stream) some,
   )
 
-  module _ (released : Reception) (e : released ≡ releases_all exchanged) where
+  module _ {released : Reception} (e : released ≡ releases_all exchanged) where
     pub size_released : released.size ≡ old.size
     size_released = ap (λ (r : Reception). r.size) e
         ∙ (releases_open (book_count exchanged) exchanged).size ∙ size_exchanged
@@ -202,9 +202,9 @@ module _ (a b : Option Told) (old kept exchanged : Reception) (d : List ℕ)
     opened-has_ended None = refl
     opened-has_ended (Some s) = refl
 
-    pub has_ended_behind : (o : Option Session) (new : Reception)
+    pub has_ended_behind : (o : Option Session) {new : Reception}
         → new ≡ opens_session o released → new.has_ended ≡ old.has_ended
-    has_ended_behind o new n = ap (λ (r : Reception). r.has_ended) n ∙ opened-has_ended o
+    has_ended_behind o n = ap (λ (r : Reception). r.has_ended) n ∙ opened-has_ended o
         ∙ has_ended_released
 
     opens : GoesOn old → WaitsForSecond released.standing released.field
@@ -224,15 +224,16 @@ module _ (a b : Option Told) (old kept exchanged : Reception) (d : List ℕ)
     }
 
     pub goes_on_behind : GoesOn old → WaitsForSecond released.standing released.field
-        → (o : Option Opening) → (o ≡ None → IsRunning kept.standing) → (new : Reception)
+        → (o : Option Opening) → (o ≡ None → IsRunning kept.standing) → {new : Reception}
         → new ≡ opens_session (option_map session_of o) released → GoesOn new
-    goes_on_behind old_goes waits o running new n =
+    goes_on_behind old_goes waits o running n =
         subst GoesOn (sym n) (opens old_goes waits o running)
 
-    module _ (c : Option Told) (before behind : Option (List ℕ)) (outcome : Outcome)
-        (o : Option Session) (new : Reception) (first mid last : Option WrittenStream)
-        (is_first : Bool) (datagram : List ℕ) (same_first : is_first ≡ is_none old.standing)
-        (same_datagram : datagram ≡ d) (j : map job_of jobs ≡ datagram_jobs old d) (out : outcome ≡ judged old d)
+    module _ (c : Option Told) (before behind : Option (List ℕ)) {outcome : Outcome}
+        {o : Option Session} {new : Reception} (first : Option WrittenStream)
+        {mid last : Option WrittenStream} {is_first : Bool} {datagram : List ℕ}
+        (same_first : is_first ≡ is_none old.standing) (same_datagram : datagram ≡ d)
+        (j : map job_of jobs ≡ datagram_jobs old d) (out : outcome ≡ judged old d)
         (opening : o ≡ session_opened old d)
         (frees : Grows b c (freeing (all_freed_places exchanged)))
         (grew : Grew before behind (all_released_output first exchanged))
@@ -293,8 +294,8 @@ waits_over : (r : Reception) → WaitsForSecond r.standing r.field
     → WaitsForSecond (ends_input r).standing (ends_input r).field
 waits_over r h = waits_on is_over (λ st. refl) r.standing r.field h
 
-module _ (a b : Option Told) (old ended exchanged : Reception) (k : ended ≡ ends_input old)
-    (x : TakesBack a b ended exchanged) where
+module _ {a b : Option Told} (old : Reception) {ended exchanged : Reception}
+    (k : ended ≡ ends_input old) (x : TakesBack a b ended exchanged) where
   same_at_end : HaveSameSession ended exchanged
   same_at_end = calls_session a b ended exchanged x.0 x.1
 
@@ -336,16 +337,16 @@ module _ (a b : Option Told) (old ended exchanged : Reception) (k : ended ≡ en
       (stream_end (stream_behind_all stream exchanged)) some)
 
   -- at the end of the stream
-  pub fails_last : (stream mid : Option WrittenStream) (before middle behind : Option (List ℕ))
-      → mid ≡ stream_behind_all stream exchanged
+  pub fails_last : (stream : Option WrittenStream) {mid : Option WrittenStream}
+      (before middle behind : Option (List ℕ)) → mid ≡ stream_behind_all stream exchanged
       → Grew before middle (all_released_output stream exchanged)
       → GrewBySome middle behind (stream_end mid) → FailsAtEnd stream before behind
-  fails_last stream mid before middle behind s grew some = some_at_end stream before behind
+  fails_last stream before middle behind s grew some = some_at_end stream before behind
       (GrewBySome-then before middle behind (all_released_output stream exchanged)
       (stream_end (stream_behind_all stream exchanged)) grew
       (subst (λ (o : Option WrittenStream). GrewBySome middle behind (stream_end o)) s some))
 
-  module _ (released new : Reception) (e : released ≡ releases_all exchanged)
+  module _ {released new : Reception} (e : released ≡ releases_all exchanged)
       (n : new ≡ gives_up_field released) where
     pub ended_behind : new.has_ended ≡ true
     ended_behind = ap (λ (r : Reception). r.has_ended) n ∙ ap (λ (r : Reception). r.has_ended) e
@@ -353,7 +354,7 @@ module _ (a b : Option Told) (old ended exchanged : Reception) (k : ended ≡ en
         ∙ same_at_end.has_ended ∙ ap (λ (r : Reception). r.has_ended) k
 
     module _ (c : Option Told) (before middle behind : Option (List ℕ))
-        (first last : Option WrittenStream)
+        (first : Option WrittenStream) {last : Option WrittenStream}
         (frees : Grows b c (freeing (all_freed_places exchanged)))
         (grew : Grew before middle (all_released_output first exchanged))
         (s : last ≡ stream_behind_all first exchanged)
