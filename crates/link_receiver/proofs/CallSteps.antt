@@ -64,7 +64,8 @@ asked_last a b first now k e h = (
   h.1,
   h.2,
   all_asked first.out (asked_in (exchanges_of h.0))
-      (subst (λ (n : ℕ). AreAskedOrIn first.out (asked_in (exchanges_of h.0)) (take n now.out)) e h.3),
+      (subst (λ (n : ℕ). AreAskedOrIn first.out (asked_in (exchanges_of h.0)) (take n now.out)) e
+      h.3),
 )
 
 -- ---- offers
@@ -99,7 +100,8 @@ offer_calls (Ok came) a b c r s t job back same h m = (
   h.0 ++ m.0,
   calls_then a b c r s t h.0 m.0 h.1 m.1,
   subst (IsOfferOf (job_of job)) (sym (proposed_then h.0 m.0))
-      (offers_again (job_of job) (proposed_in (exchanges_of h.0)) (proposed_in (exchanges_of m.0)) h.2
+      (offers_again (job_of job) (proposed_in (exchanges_of h.0)) (proposed_in (exchanges_of m.0))
+      h.2
       (subst (λ (j : SliceJob). MayOffer (job_of j) (proposed_in (exchanges_of m.0))) same m.2)),
 )
 
@@ -117,8 +119,8 @@ offers_step a b c r s t jobs i job copy inside is same h m = (
   h.0 ++ m.0,
   calls_then a b c r s t h.0 m.0 h.1 m.1,
   subst (λ (l : List Job). AreOffersOf l (proposed_in (exchanges_of (h.0 ++ m.0)))) (sym longer)
-      (subst (AreOffersOf (map job_of (take i jobs) ++ job_of job ∷ [])) (sym (proposed_then h.0 m.0))
-      (offers_more (map job_of (take i jobs)) (proposed_in (exchanges_of h.0)) (job_of job)
+      (subst (AreOffersOf (map job_of (take i jobs) ++ job_of job ∷ []))
+      (sym (proposed_then h.0 m.0)) (offers_more (map job_of (take i jobs)) (proposed_in (exchanges_of h.0)) (job_of job)
       (proposed_in (exchanges_of m.0)) h.2
       (subst (λ (j : SliceJob). IsOfferOf (job_of j) (proposed_in (exchanges_of m.0))) same m.2))),
 )

@@ -68,7 +68,8 @@ module _ {inside old : ReceiverState} (is : inside ≡ old) where
             out = rw e.value then.out;
             writes = writes_same form _ _ size (datagrams ++ d ∷ []) e.value
                 (e.stream ∙ ap (λ (o : Option WrittenStream).
-                stream_behind_datagram o inside.reception d (exchanges_of calls)) first) then.writes;
+                stream_behind_datagram o inside.reception d (exchanges_of calls)) first)
+                then.writes;
           }
 
       new_slice : (job : Job) → is_job_among (datagram_jobs inside.reception d) job ≡ true
@@ -81,7 +82,8 @@ module _ {inside old : ReceiverState} (is : inside ≡ old) where
             kept = only.0;
             new = only.1;
             unclosed = open_jobs r size datagrams d stands (some_open h.least) h.fits job there;
-            unanswered = offered_unanswered r size h.feeder h.fits heard.stands h.goes_on d job there;
+            unanswered = offered_unanswered r size h.feeder h.fits heard.stands h.goes_on d job
+                there;
             not_out = offered_not_out r size datagrams d h.fits stands heard.out job there;
           }
 

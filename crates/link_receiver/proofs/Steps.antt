@@ -57,8 +57,8 @@ put_value : (old : Reception) (out : List SliceOut) (job : SliceJob) (answer : O
     → out ≡ out_exchanged old.out (Proposed (job_of job) answer)
     → (let new : Reception = record old { out = out } in new)
     ≡ exchanged old (Proposed (job_of job) answer)
-put_value old out job None e = ap (λ (o : List SliceOut). (let r : Reception = record old { out = o } in r)) e
-put_value old out job (Some place) e = ap (λ (o : List SliceOut). (let r : Reception = record old { out = o } in r)) e
+put_value old out job None e = rw e refl
+put_value old out job (Some place) e = rw e refl
 
 pub put_calls : (r : Result (Option SliceJob) NoMemory) (before behind : Option Told)
     (old : Reception) (out : List SliceOut) (job : SliceJob)
@@ -83,7 +83,8 @@ put_calls (Ok back) before behind old out job h = (
 -- ---- a place is asked
 
 pub take_some : (before behind : Option Told) (old : Reception) (out : List SliceOut)
-    (new : Reception) (place : ℕ) (done : SliceDone) → Grows before behind (taking place (Some done))
+    (new : Reception) (place : ℕ) (done : SliceDone)
+    → Grows before behind (taking place (Some done))
     → out ≡ filter (not_at place) old.out
     → new ≡ takes_done (record old { out = out }) (answered done)
     → IsExchanged before behind old new (Takes place (Some done) ∷ [])
