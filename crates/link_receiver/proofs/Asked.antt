@@ -1,5 +1,5 @@
 -- Calls of places one after another, none of which starts workers.
-use Rattle.std.proofs.Common.{◌≡◌, ℕ, List, [], ◌∷◌, refl, Option, None, Some, Ok, Err, sym, subst}
+use Rattle.std.proofs.Common.{◌≡◌, ℕ, List, [], ◌∷◌, refl, Option, Ok, Err, sym, subst}
 use Rattle.std.specs.Prelude.{Result, IfOk, OnErr}
 use Rattle.link_model.specs.Places.{Job}
 use Rattle.link_reception.specs.Receptions.{Reception}

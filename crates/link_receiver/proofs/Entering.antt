@@ -184,9 +184,9 @@ module _ {a b : Option Told} {old kept exchanged : Reception} {d : List ℕ}
     subst (GrewBySome before behind) (output_exchanged stream) some,
   )
 
-  module _ {c : Option Told} {before behind : Option (List ℕ)} {first mid : Option WrittenStream}
-      {released : Reception} (all : AreReleased b c before behind first mid exchanged released)
-    where
+  module _ {c : Option Told} {before behind : Option (List ℕ)}
+      {first mid : Option WrittenStream} {released : Reception}
+      (all : AreReleased b c before behind first mid exchanged released) where
     pub fails_released : (es : List Exchange) × AreDecodings (dones_in es)
         × GrewBySome before behind (datagram_output first old d es)
     fails_released = fails_in first before behind
@@ -341,9 +341,9 @@ module _ {a b : Option Told} (old : Reception) {ended exchanged : Reception}
       (GrewBySome-front before behind (all_released_output stream exchanged)
       (stream_end (stream_behind_all stream exchanged)) some)
 
-  module _ {c : Option Told} {before middle : Option (List ℕ)} {first last : Option WrittenStream}
-      {released : Reception} (all : AreReleased b c before middle first last exchanged released)
-    where
+  module _ {c : Option Told} {before middle : Option (List ℕ)}
+      {first last : Option WrittenStream} {released : Reception}
+      (all : AreReleased b c before middle first last exchanged released) where
     pub fails_released_at_end : FailsAtEnd first before middle
     fails_released_at_end = fails_at_end first before middle
         (GrewBySome-all before middle (all_released_output first exchanged) all.written)

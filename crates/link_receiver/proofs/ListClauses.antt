@@ -1,5 +1,5 @@
 -- What calls of a receiver are for a list of datagrams that it has heard.
-use Rattle.std.proofs.Common.{◌≡◌, ℕ, ◌≤◌, true, List, [], ◌∷◌, ◌++◌, Option, refl, ap, sym, ◌∙◌, arith}
+use Rattle.std.proofs.Common.{◌≡◌, ℕ, ◌≤◌, true, List, [], ◌∷◌, ◌++◌, Option, refl, ap, ◌∙◌, arith}
 use Rattle.link_model.specs.Judgement.{tally_of, outcome_behind}
 use Rattle.link_model.specs.Places.{Job}
 use Rattle.link_model.specs.declared.outcome.Outcome.{Outcome}
@@ -50,10 +50,10 @@ module _ {inside old : ReceiverState} (is : inside ≡ old) where
       enter_judged = e.judgement ∙ heard_outcome form inside size datagrams heard d
 
       pub enter_heard : outside.stream_before ≡ inside.stream → HasHeard form (record {
-          reception = new;
-          stream = outside.stream_behind;
-          has_failed = inside.has_failed;
-        }) size (datagrams ++ d ∷ [])
+        reception = new;
+        stream = outside.stream_behind;
+        has_failed = inside.has_failed;
+      }) size (datagrams ++ d ∷ [])
       enter_heard first =
           let then = heard_with form inside size datagrams heard (exchanges_of calls) e.decodings d
           (offers_are_puts (datagram_jobs inside.reception d) (exchanges_of calls) e.offered) in

@@ -7,7 +7,6 @@ use Rattle.link_model.specs.Books.{Book}
 use Rattle.link_model.specs.Windows.{Releasable}
 use Rattle.link_reception.specs.Exchanging.{Proposed, exchanged, takes_done, not_at}
 use Rattle.link_reception.specs.Receptions.{Reception, SliceOut, StandingSession}
-use Rattle.link_reception.specs.Releasing.{released_planes}
 use Rattle.link_reception.specs.WholeBooks.{IsWholeBook}
 use Rattle.link_receiver.proofs.Exchanges.{one_put, one_take}
 use Rattle.link_receiver.specs.Exchanged.{IsExchanged}
@@ -21,7 +20,6 @@ use Rattle.unit_release.specs.Writing.{WrittenStream}
 use Rattle.vc_slice.specs.Asked.{Told, Grows, one_offer, taking}
 use Rattle.vc_slice.specs.declared.done.SliceDone.{SliceDone}
 use Rattle.vc_slice.specs.declared.job.SliceJob.{SliceJob}
-use Rattle.vc_types.specs.Planes.{Planes}
 use Rattle.vc_types.specs.SequenceHeader.{Sequence}
 use Rattle.vc_types.specs.declared.memory.NoMemory.{NoMemory}
 

@@ -1,6 +1,5 @@
-use Rattle.std.proofs.Common.{◌≡◌, refl, subst}
+use Rattle.std.proofs.Common.{◌≡◌, subst}
 use Rattle.link_reception.specs.Receptions.{Reception}
-use Rattle.link_reception.specs.Releasing.{released_planes}
 use Rattle.link_receiver.proofs.Steps.{on_err, shown_output}
 use Rattle.link_window.specs.Views.{releasable_of}
 use Rattle.unit_release.specs.Outputs.{released_output}
