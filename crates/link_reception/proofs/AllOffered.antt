@@ -1,8 +1,8 @@
 -- As datagrams come each slice that a picture keeps is offered.
-use Rattle.std.proofs.Common.{◌≡◌, ℕ, ◌≤◌, Bool, true, false, refl, ap, sym, ◌∙◌}
+use Rattle.std.proofs.Common.{◌≡◌, ℕ, ◌≤◌, true, false, refl, ap, sym, ◌∙◌}
 use Rattle.std.proofs.Common.{List, [], ◌∷◌, ◌++◌, Option, Some, None}
 use Rattle.std.specs.Prelude.{◌||◌}
-use Rattle.std.proofs.lemmas.Bool.{false≢true}
+use Rattle.std.proofs.lemmas.Bool.{or_left, or_right}
 use Rattle.std.proofs.lemmas.List.Folds.{list_any-append}
 use Rattle.std.proofs.lemmas.Option.{none-some, same_Some}
 use Rattle.link_model.specs.Feeders.{kept_job}
@@ -18,14 +18,6 @@ use Rattle.link_reception.specs.Standing.{StandsForHeard}
 use Rattle.link_reception.proofs.DatagramJobs.{all_jobs}
 use Rattle.link_reception.proofs.KeptJobs.{unopened_job}
 use Rattle.link_reception.proofs.SessionPictures.{job_stays, session_none}
-
-or_left : (a b : Bool) → a ≡ true → (a || b) ≡ true
-or_left true b e = refl
-or_left false b e = absurd (false≢true e)
-
-or_right : (a b : Bool) → b ≡ true → (a || b) ≡ true
-or_right true b e = refl
-or_right false b e = e
 
 pub none_offered : (size : ℕ) (offered : List Job) → AreAllOffered size (sessions_of []) offered
 none_offered size offered n i job is = absurd (none-some job

@@ -29,6 +29,7 @@ use Rattle.link_reception.specs.Releasing.{releases_all}
 use Rattle.link_reception.specs.Standing.{StandsFor, standing_of, all_released}
 use Rattle.link_reception.specs.Standing.{last_past, field_of_sessions, counts_of_sessions}
 use Rattle.link_reception.specs.Standing.{past_fields, HasSlots}
+use Rattle.link_reception.proofs.Followed.{FollowsDatagram, opened_same}
 use Rattle.link_reception.proofs.HeardMore.{written_of}
 use Rattle.link_reception.specs.Standing.{out_without}
 use Rattle.link_model.specs.Interleavings.{AreOwnAnswers}
@@ -138,36 +139,6 @@ module _ (r : Reception) (size : ℕ) (small : size ≤ 8) (f : Feeder)
             still_idle,
           )
 
-      pub early_stands : StandsFor (takes_datagram r d xs) size (next_feeder size f (Enter d) dones)
-      unfolding next_feeder takes_datagram
-      early_stands =
-          grind (
-            arith,
-            idle_feeder,
-            idle_stands,
-            nothing_released,
-            opened_now,
-            standing_now,
-            still_idle,
-          )
-
-      pub early_writes : (next_feeder size f (Enter d) dones).written
-          ≡ f.written ++ datagram_bytes r d xs
-      unfolding next_feeder datagram_bytes
-      early_writes =
-          grind (arith, append-nil, idle_feeder, nothing_written, standing_now, still_idle)
-
-      pub early_out : (takes_datagram r d xs).out
-          ≡ out_without (releasable size (taken_back size f_now dones)) r_now.out
-      unfolding takes_datagram
-      early_out =
-          ap (λ (o : Option Session). (opens_session o (releases_all r_now)).out)
-          (opened_now ∙ none)
-          ∙ ap (λ (v : Reception). v.out) (nothing_released r_now standing_now)
-          ∙ none_go r_now.out
-          ∙ sym (ap (λ (ns : List ℕ). out_without ns r_now.out)
-          (idle_releasable size f_now still_idle dones))
-
     -- the first one opens
     module _ (s : Session) (opens : begins d ≡ Some s) where
       sessions_first : sessions_of (f.heard ++ d ∷ []) ≡ just_opened s ∷ []
@@ -232,32 +203,33 @@ module _ (r : Reception) (size : ℕ) (small : size ≤ 8) (f : Feeder)
         first_field = λ w none. absurd (none-some w none);
       }
 
-      pub first_stands : StandsFor (takes_datagram r d xs) size (next_feeder size f (Enter d) dones)
+    -- whatever opens
+    module _ (o : Option Session) (opening : begins d ≡ o) (idle : IsIdle size f_now)
+        (rests : StandsFor (opens_session o r_now) size f_now) where
+      stands_then : StandsFor (takes_datagram r d xs) size (next_feeder size f (Enter d) dones)
       unfolding next_feeder takes_datagram
-      first_stands =
-          grind (
-            arith,
-            idle_feeder,
-            idle_first,
-            nothing_released,
-            opened_now,
-            opens_first,
-            standing_now,
-          )
+      stands_then =
+          grind (arith, idle_feeder, nothing_released, opened_now, standing_now)
 
-      pub first_writes : (next_feeder size f (Enter d) dones).written
+      writes_then : (next_feeder size f (Enter d) dones).written
           ≡ f.written ++ datagram_bytes r d xs
       unfolding next_feeder datagram_bytes
-      first_writes =
-          grind (arith, append-nil, idle_feeder, idle_first, nothing_written, standing_now)
+      writes_then = grind (arith, append-nil, idle_feeder, nothing_written, standing_now)
 
-      pub first_out : (takes_datagram r d xs).out
+      out_then : (takes_datagram r d xs).out
           ≡ out_without (releasable size (taken_back size f_now dones)) r_now.out
       unfolding takes_datagram
-      first_out =
-          ap (λ (o : Option Session). (opens_session o (releases_all r_now)).out)
-          (opened_now ∙ opens)
+      out_then =
+          opened_same (session_opened r d) (releases_all r_now)
           ∙ ap (λ (v : Reception). v.out) (nothing_released r_now standing_now)
           ∙ none_go r_now.out
           ∙ sym (ap (λ (ns : List ℕ). out_without ns r_now.out)
-          (idle_releasable size f_now idle_first dones))
+          (idle_releasable size f_now idle dones))
+
+      follows_then : FollowsDatagram r size f xs d
+      follows_then = record { stands = stands_then; writes = writes_then; out = out_then }
+
+    pub early_follows : (o : Option Session) → begins d ≡ o → FollowsDatagram r size f xs d
+    early_follows None none = follows_then None none (still_idle none) (idle_stands none)
+    early_follows (Some s) opens =
+        follows_then (Some s) opens (idle_first s opens) (opens_first s opens)

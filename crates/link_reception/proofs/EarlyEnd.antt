@@ -1,14 +1,13 @@
 -- The end of the input before a session stands.
 use Rattle.std.proofs.Common.{◌≡◌, ℕ, true, false, refl, ap, sym, ◌∙◌, arith}
-use Rattle.std.proofs.Common.{List, [], ◌++◌, None, subst}
+use Rattle.std.proofs.Common.{List, [], None, subst}
 use Rattle.std.specs.Option.{option_map}
 use Rattle.std.proofs.lemmas.List.{append-nil}
 use Rattle.std.proofs.lemmas.Option.{none-some}
-use Rattle.link_model.specs.Feeders.{Feeder, heard_pictures, let_go_pictures, releasable}
+use Rattle.link_model.specs.Feeders.{Feeder, heard_pictures, let_go_pictures}
 use Rattle.link_model.specs.Feeding.{hears_end}
 use Rattle.link_model.specs.Judgement.{outcomes_in, outcome_counts, with_sessions}
-use Rattle.link_model.specs.Machine.{Finish}
-use Rattle.link_model.specs.Next.{taken_back, next_feeder}
+use Rattle.link_model.specs.Next.{next_feeder}
 use Rattle.link_model.specs.Output.{all_output, full_output}
 use Rattle.link_model.specs.Places.{Answered}
 use Rattle.link_model.specs.Session.{sessions_of}
@@ -17,6 +16,7 @@ use Rattle.link_reception.specs.Exchanging.{Exchange, all_exchanged, dones_in}
 use Rattle.link_reception.specs.Judging.{ends_input, is_over}
 use Rattle.link_reception.specs.Receptions.{Reception, PictureAnswers, answers_at, kept_answer}
 use Rattle.link_reception.specs.Standing.{StandsFor, standing_of, counts_of_sessions, HasSlots}
+use Rattle.link_reception.proofs.Followed.{FollowsEnd}
 use Rattle.link_reception.proofs.HeardMore.{written_of}
 use Rattle.link_reception.specs.Standing.{out_without}
 use Rattle.link_reception.proofs.ReleaseRuns.{none_go}
@@ -77,19 +77,14 @@ module _ (r : Reception) (size : ℕ) (f : Feeder) (stands : StandsFor r size f)
     first_field = λ w none. absurd (none-some w none);
   }
 
-  pub end_stands : StandsFor (takes_end r xs) size (next_feeder size f Finish dones)
-  unfolding next_feeder takes_end
-  end_stands = grind (arith, idle_feeder, nothing_released, over_idle, over_stands, standing_end)
-
-  pub end_writes : (next_feeder size f Finish dones).written ≡ f.written ++ end_bytes r xs
-  unfolding next_feeder end_bytes
-  end_writes = grind (arith, append-nil, idle_feeder, nothing_written, over_idle, standing_end)
-
-  pub end_out : (takes_end r xs).out
-      ≡ out_without (releasable size (taken_back size f_end dones)) r_end.out
-  unfolding takes_end
-  end_out =
-      ap (λ (v : Reception). v.out) (nothing_released r_end standing_end)
-      ∙ none_go r_end.out
-      ∙ sym (ap (λ (ns : List ℕ). out_without ns r_end.out)
-      (idle_releasable size f_end over_idle dones))
+  pub early_end : FollowsEnd r size f xs
+  unfolding next_feeder takes_end end_bytes
+  early_end = record {
+    stands = grind (arith, idle_feeder, nothing_released, over_idle, over_stands, standing_end);
+    writes = grind (arith, append-nil, idle_feeder, nothing_written, over_idle, standing_end);
+    out =
+        ap (λ (v : Reception). v.out) (nothing_released r_end standing_end)
+        ∙ none_go r_end.out
+        ∙ sym (ap (λ (ns : List ℕ). out_without ns r_end.out)
+        (idle_releasable size f_end over_idle dones));
+  }

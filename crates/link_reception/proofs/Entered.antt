@@ -15,15 +15,16 @@ use Rattle.link_model.specs.declared.tally.Tally.{Tally}
 use Rattle.link_reception.specs.Entering.{opens_session, before_releases, takes_datagram}
 use Rattle.link_reception.specs.Entering.{datagram_bytes, takes_end, end_bytes}
 use Rattle.link_reception.specs.Exchanging.{Exchange, all_exchanged, dones_in}
-use Rattle.link_reception.specs.Judging.{goes_on, is_over, keeps_datagram, ends_input}
+use Rattle.link_reception.specs.Judging.{is_over, session_opened, keeps_datagram, ends_input}
 use Rattle.link_reception.specs.Receptions.{StandingSession, Reception}
 use Rattle.link_reception.specs.Releasing.{releases_all, all_released_bytes}
 use Rattle.link_reception.specs.Standing.{StandsFor, AreDecodings, all_released, out_without}
+use Rattle.link_reception.proofs.Followed.{FollowsDatagram, FollowsEnd, opened_same}
 use Rattle.link_reception.proofs.Redone.{redone, redo_run}
 use Rattle.link_reception.proofs.ReleaseRuns.{all_run, releasable_are}
 use Rattle.link_reception.proofs.Resting.{rest_stands, next_stands, end_stands}
 use Rattle.link_reception.proofs.Starting.{datagram_works, next_works, end_works, past_at_rest}
-use Rattle.link_reception.proofs.Starting.{st_at_rest, past_now, past_over, h_now, sessions_now}
+use Rattle.link_reception.proofs.Starting.{st_at_rest, h_now, sessions_now}
 use Rattle.link_reception.proofs.Starting.{sessions_next, tally_behind, opened_is}
 use Rattle.link_reception.proofs.Working.{IsWorking, all_working}
 
@@ -130,6 +131,13 @@ module _ (r : Reception) (size : ℕ) (small : size ≤ 8) (f : Feeder) (stands 
     abbrev dones : List Answered
     dones = dones_in xs
 
+    -- all is exchanged, and all that may be released is
+    ran : {st : StandingSession} {p : WindowPast} {t : Tally} (kept : Reception) (g : Feeder)
+        → IsWorking kept size g hs p st t
+        → Done size hs t (all_exchanged kept xs) (taken_back size g dones) st p
+    ran {st} {p} {t} kept g works = all_done size hs t (all_exchanged kept xs)
+        (taken_back size g dones) st p (all_working size hs p st t xs kept g works right)
+
     module _ (d : List ℕ) where
       abbrev taken : Feeder
       taken = taken_back size (hears_datagram f d) dones
@@ -140,88 +148,62 @@ module _ (r : Reception) (size : ℕ) (small : size ≤ 8) (f : Feeder) (stands 
       taken_more : HasMoreAnswers (hears_datagram f d) taken
       taken_more = more_answers size dones (hears_datagram f d)
 
-      -- it goes on
-      module _ (none : opens_behind h (begins d) ≡ None) where
-        done_now : Done size hs tally (before_releases r d xs) taken
-            (goes_on (st_at_rest r size small f stands runs h hs at) d)
-            (past_now r size small f stands runs h hs at d none)
-        done_now = all_done size hs tally (before_releases r d xs) taken
-            (goes_on (st_at_rest r size small f stands runs h hs at) d)
-            (past_now r size small f stands runs h hs at d none)
-            (all_working size hs (past_now r size small f stands runs h hs at d none)
-            (goes_on (st_at_rest r size small f stands runs h hs at) d) tally xs
-            (keeps_datagram r d) (hears_datagram f d)
-            (datagram_works r size small f stands runs h hs at d none) right)
-
-        heard_now : (next_feeder size f (Enter d) dones).heard ≡ f.heard ++ d ∷ []
+      -- whatever opens
+      module _ {st : StandingSession} {p : WindowPast}
+          (done : Done size hs tally (before_releases r d xs) taken st p) where
+        heard_then : (next_feeder size f (Enter d) dones).heard ≡ f.heard ++ d ∷ []
         unfolding next_feeder
-        heard_now = done_now.heard ∙ taken_more.heard
+        heard_then = done.heard ∙ taken_more.heard
 
-        pub on_stands : StandsFor (takes_datagram r d xs) size (next_feeder size f (Enter d) dones)
-        unfolding next_feeder takes_datagram
-        on_stands = subst (λ (o : Option Session). StandsFor
-            (opens_session o (releases_all (before_releases r d xs))) size
-            (feeder_run size taken (all_releasing size taken)))
-            (sym (opened_is r size small f stands runs h hs at d ∙ none))
-            (rest_stands (releases_all (before_releases r d xs)) size
-            (feeder_run size taken (all_releasing size taken))
-            (h_now r size small f stands runs h hs at d none) hs false done_now.standing tally
-            done_now.works done_now.session done_now.has_ended
-            (ap (tally_behind size hs) (sym heard_now))
-            (ap sessions_of heard_now ∙ sessions_now r size small f stands runs h hs at d none)
-            refl (done_now.over ∙ taken_more.ended ∙ runs))
-
-        pub on_writes : (next_feeder size f (Enter d) dones).written
+        writes_then : (next_feeder size f (Enter d) dones).written
             ≡ f.written ++ datagram_bytes r d xs
         unfolding next_feeder datagram_bytes
-        on_writes = grind (arith, done_now, taken_more)
+        writes_then = grind (arith, taken_more)
 
-        pub on_out : (takes_datagram r d xs).out
+        out_then : (takes_datagram r d xs).out
             ≡ out_without (releasable size taken) (before_releases r d xs).out
         unfolding takes_datagram
-        on_out = grind (arith, done_now, opened_is)
+        out_then = opened_same (session_opened r d) (releases_all (before_releases r d xs))
+            ∙ done.out
 
-      -- or the next session opens
-      module _ (s : Session) (opens : opens_behind h (begins d) ≡ Some s) where
-        done_next : Done size hs tally (before_releases r d xs) taken
-            (is_over (st_at_rest r size small f stands runs h hs at))
-            (past_over r size small f stands runs h hs at d s opens)
-        done_next = all_done size hs tally (before_releases r d xs) taken
-            (is_over (st_at_rest r size small f stands runs h hs at))
-            (past_over r size small f stands runs h hs at d s opens)
-            (all_working size hs (past_over r size small f stands runs h hs at d s opens)
-            (is_over (st_at_rest r size small f stands runs h hs at)) tally xs
-            (keeps_datagram r d) (hears_datagram f d)
-            (next_works r size small f stands runs h hs at d s opens) right)
-
-        heard_next : (next_feeder size f (Enter d) dones).heard ≡ f.heard ++ d ∷ []
-        unfolding next_feeder
-        heard_next = done_next.heard ∙ taken_more.heard
-
-        pub opens_stands : StandsFor (takes_datagram r d xs) size
-            (next_feeder size f (Enter d) dones)
+        follows_then : (o : Option Session) → opens_behind h (begins d) ≡ o
+            → StandsFor (opens_session o (releases_all (before_releases r d xs))) size
+            (feeder_run size taken (all_releasing size taken)) → FollowsDatagram r size f xs d
         unfolding next_feeder takes_datagram
-        opens_stands = subst (λ (o : Option Session). StandsFor
-            (opens_session o (releases_all (before_releases r d xs))) size
-            (feeder_run size taken (all_releasing size taken)))
-            (sym (opened_is r size small f stands runs h hs at d ∙ opens))
-            (next_stands (releases_all (before_releases r d xs)) size
-            (feeder_run size taken (all_releasing size taken)) h hs true done_next.standing tally
-            done_next.works done_next.session done_next.has_ended
-            (ap (tally_behind size hs) (sym heard_next)) refl s
-            (ap sessions_of heard_next
-            ∙ sessions_next r size small f stands runs h hs at d s opens)
-            (done_next.over ∙ taken_more.ended ∙ runs))
+        follows_then o opening stands_then = record {
+          stands = subst (λ (o : Option Session). StandsFor
+              (opens_session o (releases_all (before_releases r d xs))) size
+              (feeder_run size taken (all_releasing size taken)))
+              (sym (opened_is r size small f stands runs h hs at d ∙ opening)) stands_then;
+          writes = writes_then;
+          out = out_then;
+        }
 
-        pub opens_writes : (next_feeder size f (Enter d) dones).written
-            ≡ f.written ++ datagram_bytes r d xs
-        unfolding next_feeder datagram_bytes
-        opens_writes = grind (arith, done_next, taken_more)
-
-        pub opens_out : (takes_datagram r d xs).out
-            ≡ out_without (releasable size taken) (before_releases r d xs).out
-        unfolding takes_datagram
-        opens_out = grind (arith, done_next, opened_is)
+      -- it goes on, or the next session opens
+      pub follows : (o : Option Session) → opens_behind h (begins d) ≡ o
+          → FollowsDatagram r size f xs d
+      unfolding next_feeder
+      follows None none =
+          let done = ran (keeps_datagram r d) (hears_datagram f d)
+          (datagram_works r size small f stands runs h hs at d none) in
+          follows_then done None none (rest_stands (releases_all (before_releases r d xs)) size
+          (feeder_run size taken (all_releasing size taken))
+          (h_now r size small f stands runs h hs at d none) hs false done.standing tally
+          done.works done.session done.has_ended
+          (ap (tally_behind size hs) (sym (heard_then done)))
+          (ap sessions_of (heard_then done)
+          ∙ sessions_now r size small f stands runs h hs at d none)
+          refl (done.over ∙ taken_more.ended ∙ runs))
+      follows (Some s) opens =
+          let done = ran (keeps_datagram r d) (hears_datagram f d)
+          (next_works r size small f stands runs h hs at d s opens) in
+          follows_then done (Some s) opens (next_stands (releases_all (before_releases r d xs)) size
+          (feeder_run size taken (all_releasing size taken)) h hs true done.standing tally
+          done.works done.session done.has_ended
+          (ap (tally_behind size hs) (sym (heard_then done))) refl s
+          (ap sessions_of (heard_then done)
+          ∙ sessions_next r size small f stands runs h hs at d s opens)
+          (done.over ∙ taken_more.ended ∙ runs))
 
     -- ---- the end of the input
 
@@ -234,31 +216,20 @@ module _ (r : Reception) (size : ℕ) (small : size ≤ 8) (f : Feeder) (stands 
     done_end : Done size hs (tally_behind size hs f.heard) (all_exchanged (ends_input r) xs)
         taken_end (is_over (st_at_rest r size small f stands runs h hs at))
         (record (past_at_rest r size small f stands runs h hs at) { is_ended = true })
-    done_end = all_done size hs (tally_behind size hs f.heard) (all_exchanged (ends_input r) xs)
-        taken_end (is_over (st_at_rest r size small f stands runs h hs at))
-        (record (past_at_rest r size small f stands runs h hs at) { is_ended = true })
-        (all_working size hs
-        (record (past_at_rest r size small f stands runs h hs at) { is_ended = true })
-        (is_over (st_at_rest r size small f stands runs h hs at)) (tally_behind size hs f.heard) xs
-        (ends_input r) (hears_end f) (end_works r size small f stands runs h hs at) right)
+    done_end = ran (ends_input r) (hears_end f) (end_works r size small f stands runs h hs at)
 
     heard_end : (next_feeder size f Finish dones).heard ≡ f.heard
     unfolding next_feeder
     heard_end = done_end.heard ∙ end_more.heard
 
-    pub finish_stands : StandsFor (takes_end r xs) size (next_feeder size f Finish dones)
-    unfolding next_feeder takes_end
-    finish_stands = end_stands (releases_all (all_exchanged (ends_input r) xs)) size
-        (feeder_run size taken_end (all_releasing size taken_end)) h hs true done_end.standing
-        (tally_behind size hs f.heard) done_end.works done_end.session done_end.has_ended
-        (ap (tally_behind size hs) (sym heard_end)) refl (ap sessions_of heard_end ∙ at)
-        (done_end.over ∙ end_more.ended)
-
-    pub finish_writes : (next_feeder size f Finish dones).written ≡ f.written ++ end_bytes r xs
-    unfolding next_feeder end_bytes
-    finish_writes = grind (arith, done_end, end_more)
-
-    pub finish_out : (takes_end r xs).out
-        ≡ out_without (releasable size taken_end) (all_exchanged (ends_input r) xs).out
-    unfolding takes_end
-    finish_out = done_end.out
+    pub follows_end : FollowsEnd r size f xs
+    unfolding next_feeder takes_end end_bytes
+    follows_end = record {
+      stands = end_stands (releases_all (all_exchanged (ends_input r) xs)) size
+          (feeder_run size taken_end (all_releasing size taken_end)) h hs true done_end.standing
+          (tally_behind size hs f.heard) done_end.works done_end.session done_end.has_ended
+          (ap (tally_behind size hs) (sym heard_end)) refl (ap sessions_of heard_end ∙ at)
+          (done_end.over ∙ end_more.ended);
+      writes = grind (arith, done_end, end_more);
+      out = done_end.out;
+    }

@@ -27,6 +27,7 @@ pub mod LoneFields
 pub mod HeardMore
 pub mod Starting
 pub mod Resting
+pub mod Followed
 pub mod Entered
 pub mod Idle
 pub mod EarlyDatagrams

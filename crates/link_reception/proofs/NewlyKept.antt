@@ -5,7 +5,7 @@ use Rattle.std.proofs.Common.{List, [], ◌∷◌, Option, Some, None, inl, inr}
 use Rattle.std.specs.Prelude.{◌==◌, ◌&&◌, ◌||◌}
 use Rattle.std.specs.List.{last_or}
 use Rattle.std.specs.Option.{option_and_then}
-use Rattle.std.proofs.lemmas.Bool.{cases_Bool, cases_eq, false≢true, leb-true, eq-eqb}
+use Rattle.std.proofs.lemmas.Bool.{cases_Bool, cases_eq, false≢true, leb-true, eq-eqb, or_right}
 use Rattle.std.proofs.lemmas.Option.{none-some}
 use Rattle.link_model.specs.Feeders.{is_among, job_by}
 use Rattle.link_model.specs.Kept.{own}
@@ -21,7 +21,7 @@ use Rattle.link_model.proofs.WindowStands.{enters_stands}
 use Rattle.link_reception.specs.Exchanging.{window_job, offered_jobs, is_job_among}
 use Rattle.link_reception.proofs.KeptJobs.{no_job, entered_job, is_forgotten}
 use Rattle.link_reception.proofs.KeptJobs.{window_keeps, unforgotten, forgotten}
-use Rattle.link_reception.proofs.OfferedJobs.{other_parts, closed_later, all_offered, only_offered, or_later}
+use Rattle.link_reception.proofs.OfferedJobs.{other_parts, closed_later, all_offered, only_offered}
 use Rattle.link_reception.proofs.ReleasedNumbers.{released_opened}
 
 -- ---- numbers up to the last of some
@@ -33,14 +33,14 @@ module _ (n bound : ℕ) where
   below_last k [] first rest low = omega (arith, leb-true n k low, first)
   below_last k (j ∷ ns) first rest low = below_last j ns
       (rest j (ap (λ (b : Bool). b || is_among ns j) (eq-eqb j j refl)))
-      (λ i there. rest i (or_later (j == i) there)) low
+      (λ i there. rest i (or_right (j == i) _ there)) low
 
   below_all : (ns : List ℕ) → ((j : ℕ) → is_among ns j ≡ true → j ≤ bound)
       → released_up_to (last_or None ns) n ≡ true → n ≤ bound
   below_all [] each low = absurd (false≢true low)
   below_all (k ∷ ns) each low = below_last k ns
       (each k (ap (λ (b : Bool). b || is_among ns k) (eq-eqb k k refl)))
-      (λ i there. each i (or_later (k == i) there)) low
+      (λ i there. each i (or_right (k == i) _ there)) low
 
 opened_below : (es : List Numbered) (n : ℕ) → is_opened es n ≡ true → n ≤ greatest es
 opened_below es n opened = grind (arith, parts_of-outside)

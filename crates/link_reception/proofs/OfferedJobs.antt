@@ -4,7 +4,7 @@ use Rattle.std.proofs.Common.{◌++◌, Option, Some, None, cond, inl, inr, subs
 use Rattle.std.specs.Prelude.{◌&&◌, ◌||◌, is_some, not, filter_map}
 use Rattle.std.specs.List.{cons_option, last_or}
 use Rattle.std.specs.Option.{option_and_then}
-use Rattle.std.proofs.lemmas.Bool.{cases_Bool, cases_eq, ne_eqb, false≢true}
+use Rattle.std.proofs.lemmas.Bool.{cases_Bool, cases_eq, ne_eqb, false≢true, or_right}
 use Rattle.std.proofs.lemmas.List.{append-nil}
 use Rattle.std.proofs.lemmas.Option.{none-some, slice_get_within}
 use Rattle.std.proofs.lemmas.Slice.Eq.{bytes_eq-Decides}
@@ -32,10 +32,6 @@ use Rattle.link_reception.proofs.SliceJobs.{same_job_is}
 pub same_itself : (job : Job) → is_same_job job job ≡ true
 same_itself job = grind (arith, bytes_eq-Decides, parameters_exactly)
 
-pub or_later : (b : Bool) {c : Bool} → c ≡ true → (b || c) ≡ true
-or_later true e = refl
-or_later false e = e
-
 module _ (job_by : ℕ → Option Job) (job : Job) where
   job_among : (is : List ℕ) (i : ℕ) → is_among is i ≡ true → job_by i ≡ Some job
       → is_job_among (filter_map job_by is) job ≡ true
@@ -52,7 +48,7 @@ module _ (job_by : ℕ → Option Job) (job : Job) where
       by_job : (o : Option Job) → is_job_among (filter_map job_by is) job ≡ true
           → is_job_among (cons_option o (filter_map job_by is)) job ≡ true
       by_job None rest = rest
-      by_job (Some other) rest = or_later (is_same_job job other) rest
+      by_job (Some other) rest = or_right (is_same_job job other) _ rest
 
   from_among : (is : List ℕ) → is_job_among (filter_map job_by is) job ≡ true
       → (i : ℕ) × (job_by i ≡ Some job)

@@ -6,10 +6,10 @@ use Rattle.std.specs.Prelude.{is_some, filter}
 use Rattle.std.specs.Option.{option_map_or}
 use Rattle.link_model.specs.Feeders.{kept_job}
 use Rattle.link_model.specs.Places.{Job, Answered}
-use Rattle.link_model.specs.Session.{HeardSession, Session, hears, sessions_of}
+use Rattle.link_model.specs.Session.{HeardSession, hears, sessions_of}
 use Rattle.link_model.specs.Windows.{Releasable}
 use Rattle.link_model.proofs.Hearing.{sessions_of_more}
-use Rattle.link_reception.specs.Entering.{before_releases, datagram_jobs, opens_session}
+use Rattle.link_reception.specs.Entering.{before_releases, datagram_jobs}
 use Rattle.link_reception.specs.Entering.{takes_datagram, takes_end}
 use Rattle.link_reception.specs.Exchanging.{Exchange, Proposed, Fetched, all_exchanged, out_at}
 use Rattle.link_reception.specs.Exchanging.{back_from, is_job_among, not_at, takes_done}
@@ -19,6 +19,7 @@ use Rattle.link_reception.specs.Releasing.{book_count, next_picture, releases_al
 use Rattle.link_reception.specs.Releasing.{releases_picture_of, releases_up_to}
 use Rattle.link_reception.specs.SlicesOut.{AreOutKept, ArePutsOf, is_job_out}
 use Rattle.link_reception.specs.Standing.{StandsForHeard}
+use Rattle.link_reception.proofs.Followed.{opened_same}
 use Rattle.link_reception.proofs.DatagramJobs.{only_jobs}
 use Rattle.link_reception.proofs.SessionPictures.{job_stays}
 
@@ -118,10 +119,6 @@ module _ (r : Reception) (size : ℕ) (datagrams : List (List ℕ)) (d : List �
 
   kept_longer : AreOutKept size longer r.out
   kept_longer = grind (arith, more_heard, sessions_of_more)
-
-  opened_same : (o : Option Session) (now : Reception) → (opens_session o now).out ≡ now.out
-  opened_same None now = refl
-  opened_same (Some s) now = refl
 
   pub datagram_out_kept : (exchanges : List Exchange) → ArePutsOf (datagram_jobs r d) exchanges
       → AreOutKept size longer (takes_datagram r d exchanges).out

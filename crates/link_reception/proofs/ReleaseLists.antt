@@ -4,7 +4,7 @@ use Rattle.std.proofs.Common.{List, [], ◌∷◌, ◌++◌, Option, Some, None,
 use Rattle.std.specs.Prelude.{◌==◌, ◌||◌, is_some, filter, count_by}
 use Rattle.std.specs.List.{range_with_len}
 use Rattle.std.specs.Option.{option_and_then}
-use Rattle.std.proofs.lemmas.Bool.{cases_eq, cond-true, eq-eqb, ne_eqb, false≢true}
+use Rattle.std.proofs.lemmas.Bool.{cases_eq, cond-true, eq-eqb, ne_eqb, false≢true, or_right}
 use Rattle.std.proofs.lemmas.Grind.{common_steps}
 use Rattle.std.proofs.lemmas.List.Elements.{filter-append}
 use Rattle.std.proofs.lemmas.List.Sums.{length-filter}
@@ -34,26 +34,18 @@ among_filter test (j ∷ l) k there passes = elim (cases_eq j k) [
       (sym (ap (λ (b : Bool). b || is_among l k) (ne_eqb j k other)) ∙ there) passes)
 ]
   where
-    or_later : (b : Bool) {c : Bool} → c ≡ true → (b || c) ≡ true
-    or_later true e = refl
-    or_later false e = e
-
     by_test : (b : Bool) → is_among (filter test l) k ≡ true
         → is_among (cond b (j ∷ filter test l) (filter test l)) k ≡ true
-    by_test true rest = or_later (j == k) rest
+    by_test true rest = or_right (j == k) _ rest
     by_test false rest = rest
 
 pub among_range : (k m a : ℕ) → a ≤ k → k < a + m → is_among (range_with_len a m) k ≡ true
 among_range k zero a from to = absurd (omega arith)
 among_range k (suc m) a from to = elim (cases_eq a k) [
   | inl same ↦ ap (λ (b : Bool). b || is_among (range_with_len (a + 1) m) k) (eq-eqb a k same)
-  | inr other ↦ or_later (a == k) (among_range k m (a + 1) (omega (arith, other, from))
+  | inr other ↦ or_right (a == k) _ (among_range k m (a + 1) (omega (arith, other, from))
       (omega arith))
 ]
-  where
-    or_later : (b : Bool) {c : Bool} → c ≡ true → (b || c) ≡ true
-    or_later true e = refl
-    or_later false e = e
 
 pub first_among : (ns : List ℕ) (n : ℕ) → first_of ns ≡ Some n
     → (rest : List ℕ) × (ns ≡ n ∷ rest)

@@ -1,10 +1,10 @@
 -- All pictures that may be released, one after another: the receiver and the feeder go together.
-use Rattle.std.proofs.Common.{◌≡◌, ℕ, zero, suc, ◌+◌, ◌≤◌, Bool, true, false, refl, ap, sym, arith}
+use Rattle.std.proofs.Common.{◌≡◌, ℕ, zero, suc, ◌+◌, ◌≤◌, Bool, true, refl, ap, sym, arith}
 use Rattle.std.proofs.Common.{List, [], ◌∷◌, ◌++◌, length, map, Option, Some, None, subst, ◌∙◌}
 use Rattle.std.specs.Prelude.{◌||◌, ◌==◌, is_some, filter}
 use Rattle.std.specs.List.{flat_map}
 use Rattle.std.specs.Option.{option_and_then, option_map}
-use Rattle.std.proofs.lemmas.Bool.{eq-eqb}
+use Rattle.std.proofs.lemmas.Bool.{eq-eqb, or_right}
 use Rattle.std.proofs.lemmas.List.{append_assoc, append-nil}
 use Rattle.std.proofs.lemmas.List.Sums.{fold-append}
 use Rattle.link_model.specs.Feeders.{Feeder, is_among, is_decoded, keeps_now, releasable}
@@ -74,7 +74,7 @@ module _ (size : ℕ) (hs : List HeardSession) (t : Tally) where
     pub over : g.has_ended ≡ f.has_ended
     pub out : (releases_up_to k r).out ≡ out_without ns r.out
 
-  nothing_next : (r : Reception) (f : Feeder) (p : WindowPast) (st : StandingSession)
+  pub nothing_next : (r : Reception) (f : Feeder) (p : WindowPast) (st : StandingSession)
       → IsWorking r size f hs p st t → releasable_numbers p ≡ [] → next_picture r ≡ None
   nothing_next r f p st works none =
       ap (option_and_then (λ (st : StandingSession). next_release st.window)) works.stands
@@ -115,7 +115,7 @@ module _ (size : ℕ) (hs : List HeardSession) (t : Tally) where
       (feeder_then r size f hs p st t works n next) (past_releases p n)
       (standing_then r size f hs p st t works n next)
       (works_then r size f hs p st t works n next) rest (omega (arith, enough)) first
-      (λ m there. same m (or_later (n == m) there) ∙ sym (still next m there)) in
+      (λ m there. same m (or_right (n == m) _ there) ∙ sym (still next m there)) in
       let all = flat_map (releasing size first) ns in
       let feeder : feeder_run size f (releasing size first n ++ all)
       ≡ feeder_run size (feeder_then r size f hs p st t works n next) all =
@@ -163,10 +163,6 @@ module _ (size : ℕ) (hs : List HeardSession) (t : Tally) where
         out = ap (λ (v : Reception). v.out) receiver ∙ later.out ∙ both_go n ns r.out;
       }
     where
-      or_later : (b : Bool) {c : Bool} → c ≡ true → (b || c) ≡ true
-      or_later true e = refl
-      or_later false e = e
-
       same_itself : (n : ℕ) → (n == n) ≡ true
       same_itself n = eq-eqb n n refl
 

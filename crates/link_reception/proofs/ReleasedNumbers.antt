@@ -4,7 +4,7 @@ use Rattle.std.proofs.Common.{List, [], ◌∷◌, ◌++◌, length, map, Option
 use Rattle.std.proofs.Common.{arith, cond, inl, inr}
 use Rattle.std.specs.Prelude.{◌==◌, ◌&&◌, ◌||◌, not, filter}
 use Rattle.std.specs.List.{last_or}
-use Rattle.std.proofs.lemmas.Bool.{cases_eq, cond-true, cond-false, ne_eqb, eq-eqb, false≢true}
+use Rattle.std.proofs.lemmas.Bool.{cases_eq, cond-true, cond-false, ne_eqb, eq-eqb, false≢true, or_left, or_right}
 use Rattle.std.proofs.lemmas.Bool.{le-leb, lt-leb, leb-true, both_ways, and_parts, and_from}
 use Rattle.std.proofs.lemmas.List.{append_assoc}
 use Rattle.std.proofs.lemmas.List.Elements.{filter-append}
@@ -145,14 +145,6 @@ module _ (p : WindowPast) (in_order : past_let_go p ≡ p.released ++ releasable
       ∙ ap (λ (l : List ℕ). is_among l n) (let_go_over (past p.entries + (n + 1)) (n + 1) refl)
       ∙ among_over is_gone n 0 (past p.entries + (n + 1)) (omega arith) (omega arith)
 
-  or_left : (a b : Bool) → a ≡ true → (a || b) ≡ true
-  or_left true b e = refl
-  or_left false b e = absurd (false≢true e)
-
-  or_right : (a b : Bool) → b ≡ true → (a || b) ≡ true
-  or_right true b e = refl
-  or_right false b e = e
-
   pub released_gone : (n : ℕ) → is_among p.released n ≡ true → is_let_go_by p n ≡ true
   released_gone n there = (and_parts (is_opened p.entries n) (is_let_go_by p n)
       (sym (gone_among n) ∙ or_left (is_among p.released n) (is_among (releasable_numbers p) n)
@@ -269,11 +261,7 @@ module _ (released : List ℕ) where
   all_gone (k ∷ ns) each =
       cond-false (stays k) (k ∷ filter stays ns) (filter stays ns)
       (ap not (each k (ap (λ (b : Bool). b || is_among ns k) (eq-eqb k k refl))))
-      ∙ all_gone ns (λ n there. each n (or_later (k == n) there))
-    where
-      or_later : (b : Bool) {c : Bool} → c ≡ true → (b || c) ≡ true
-      or_later true e = refl
-      or_later false e = e
+      ∙ all_gone ns (λ n there. each n (or_right (k == n) _ there))
 
   all_stay : (ns : List ℕ) → ((n : ℕ) → is_among ns n ≡ true → is_among released n ≡ false)
       → filter stays ns ≡ ns
@@ -281,11 +269,7 @@ module _ (released : List ℕ) where
   all_stay (k ∷ ns) each =
       cond-true (stays k) (k ∷ filter stays ns) (filter stays ns)
       (ap not (each k (ap (λ (b : Bool). b || is_among ns k) (eq-eqb k k refl))))
-      ∙ ap (λ (l : List ℕ). k ∷ l) (all_stay ns (λ n there. each n (or_later (k == n) there)))
-    where
-      or_later : (b : Bool) {c : Bool} → c ≡ true → (b || c) ≡ true
-      or_later true e = refl
-      or_later false e = e
+      ∙ ap (λ (l : List ℕ). k ∷ l) (all_stay ns (λ n there. each n (or_right (k == n) _ there)))
 
 -- of some that stand before them, all of which were released
 pub unreleased_are : (p : WindowPast) → past_let_go p ≡ p.released ++ releasable_numbers p

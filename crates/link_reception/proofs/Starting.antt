@@ -4,7 +4,7 @@ use Rattle.std.proofs.Common.{List, [], ◌∷◌, ◌++◌, Option, Some, None,
 use Rattle.std.specs.Prelude.{◌==◌, ◌||◌, ◌⊎◌, is_some, filter_map}
 use Rattle.std.specs.List.{flat_map}
 use Rattle.std.specs.Option.{option_map}
-use Rattle.std.proofs.lemmas.Bool.{eq-eqb}
+use Rattle.std.proofs.lemmas.Bool.{eq-eqb, or_right}
 use Rattle.std.proofs.lemmas.Grind.{common_steps}
 use Rattle.std.proofs.lemmas.List.{append-nil}
 use Rattle.link_model.specs.Feeders.{Feeder, session_opening}
@@ -213,11 +213,7 @@ module _ (r : Reception) (size : ℕ) (small : size ≤ 8) (f : Feeder) (stands 
           ap (λ (l : List ℕ). l ++ flat_map f ns)
           (same n (ap (λ (b : Bool). b || is_among ns n) (eq-eqb n n refl)))
           ∙ ap (λ (l : List ℕ). g n ++ l)
-          (pieces_same f g ns (λ m there. same m (or_later (n == m) there)))
-        where
-          or_later : (b : Bool) {c : Bool} → c ≡ true → (b || c) ≡ true
-          or_later true e = refl
-          or_later false e = e
+          (pieces_same f g ns (λ m there. same m (or_right (n == m) _ there)))
 
       let_go_now : let_go_pictures size f.has_ended (sessions_of now_heard)
           ≡ heard_pictures size hs ++ past_let_go past_now

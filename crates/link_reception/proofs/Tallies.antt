@@ -2,7 +2,7 @@
 use Rattle.std.proofs.Common.{◌≡◌, ℕ, ◌+◌, Bool, true, refl, ap, sym, ◌∙◌, cond, arith}
 use Rattle.std.proofs.Common.{List, [], ◌∷◌, Option}
 use Rattle.std.specs.Prelude.{◌==◌, ◌||◌, count_by, filter, fold, length}
-use Rattle.std.proofs.lemmas.Bool.{eq-eqb}
+use Rattle.std.proofs.lemmas.Bool.{eq-eqb, or_right}
 use Rattle.std.proofs.lemmas.Grind.{common_steps}
 use Rattle.std.proofs.lemmas.List.Sums.{length-filter}
 use Rattle.link_model.specs.Feeders.{is_among}
@@ -19,7 +19,6 @@ use Rattle.vc_types.specs.SequenceHeader.{Sequence}
 use Rattle.link_reception.specs.Releasing.{field_behind, fields_alone}
 use Rattle.link_reception.specs.Standing.{Fields, no_fields, next_field, fields_behind}
 use Rattle.link_reception.specs.Standing.{with_released}
-use Rattle.link_reception.proofs.OfferedJobs.{or_later}
 
 -- counts of pictures more
 abbrev pub added : ℕ → ℕ → ℕ → ℕ → Tally → Tally
@@ -95,7 +94,7 @@ count_same f g ns same =
         ap (λ (b : Bool). cond b (n ∷ filter f ns) (filter f ns))
         (same n (ap (λ (b : Bool). b || is_among ns n) (eq-eqb n n refl)))
         ∙ ap (λ (l : List ℕ). cond (g n) (n ∷ l) l)
-        (filter_same ns (λ m there. same m (or_later (n == m) there)))
+        (filter_same ns (λ m there. same m (or_right (n == m) _ there)))
 
 module _ (s : Sequence) (old new : List Numbered) (ns : List ℕ)
     (complete : (n : ℕ) → is_among ns n ≡ true → complete_at s old n ≡ complete_at s new n)
@@ -110,7 +109,7 @@ module _ (s : Sequence) (old new : List Numbered) (ns : List ℕ)
         waiting = field_behind s n o;
         alone = x.alone + fields_alone s x.waiting n o;
       } in next) ns) (same n (ap (λ (b : Bool). b || is_among ns n) (eq-eqb n n refl)))
-      ∙ fields_from ns (next_field s new x n) (λ m there. same m (or_later (n == m) there))
+      ∙ fields_from ns (next_field s new x n) (λ m there. same m (or_right (n == m) _ there))
 
   pub fields_same : fields_behind s old ns ≡ fields_behind s new ns
   fields_same = fields_from ns no_fields planes

@@ -1,8 +1,8 @@
 -- The first field that waits is the last picture that was released, and sound.
-use Rattle.std.proofs.Common.{◌≡◌, ℕ, ◌%◌, Bool, true, false, refl, ap}
+use Rattle.std.proofs.Common.{◌≡◌, ℕ, ◌%◌, Bool, true, refl, ap}
 use Rattle.std.proofs.Common.{List, [], ◌∷◌, Option, Some, arith}
 use Rattle.std.specs.Prelude.{◌==◌, ◌||◌, fold}
-use Rattle.std.proofs.lemmas.Bool.{eq-eqb}
+use Rattle.std.proofs.lemmas.Bool.{eq-eqb, or_right}
 use Rattle.link_model.specs.Feeders.{is_among}
 use Rattle.link_model.specs.Numbers.{Numbered}
 use Rattle.link_model.specs.Output.{planes_at}
@@ -38,11 +38,7 @@ module _ (s : Sequence) (es : List Numbered) (w : FirstField) where
         inside n (ap (λ (b : Bool). b || is_among l n) (eq-eqb n n refl)),
         first_is s n (planes_at s es n) w waits,
       ))
-      (λ m there. inside m (or_later (n == m) there)) is
-    where
-      or_later : (b : Bool) {c : Bool} → c ≡ true → (b || c) ≡ true
-      or_later true e = refl
-      or_later false e = e
+      (λ m there. inside m (or_right (n == m) _ there)) is
 
   pub waiting_is : (released : List ℕ) → (fields_behind s es released).waiting ≡ Some w
       → IsOneOf released

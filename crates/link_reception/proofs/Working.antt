@@ -5,7 +5,7 @@ use Rattle.std.proofs.Common.{length, Option, Some, None, subst, ◌∙◌, arit
 use Rattle.std.specs.Prelude.{◌&&◌, ◌||◌, ◌⊎◌, not}
 use Rattle.std.specs.List.{flat_map, last_or}
 use Rattle.std.specs.Option.{option_and_then, option_map_or}
-use Rattle.std.proofs.lemmas.Bool.{cases_eq, and_parts, or_parts, false≢true, not-true}
+use Rattle.std.proofs.lemmas.Bool.{cases_eq, and_parts, or_parts, false≢true, not-true, or_right}
 use Rattle.std.proofs.lemmas.Grind.{common_steps}
 use Rattle.link_model.specs.Books.{Book, book_of}
 use Rattle.link_model.specs.Feeders.{Feeder, EnteredSession, session_opening}
@@ -143,10 +143,6 @@ module _ (r : Reception) (size : ℕ) (f : Feeder) (hs : List HeardSession) (p :
       released_parts w.number
       ∙ or_right (is_among (heard_pictures size hs) w.number) (is_among p.released w.number)
       (ap (is_among p.released) found.2.number ∙ found.1)
-    where
-      or_right : (a b : Bool) → b ≡ true → (a || b) ≡ true
-      or_right true b e = refl
-      or_right false b e = e
 
   module _ (done : Answered) (right : done.answer ≡ decoding done.job)
       (wanted : is_wanted r done ≡ true) where

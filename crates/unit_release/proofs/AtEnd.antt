@@ -7,7 +7,6 @@ use Rattle.std.specs.Option.{option_map, option_map_or}
 use Rattle.std.proofs.lemmas.List.{append-nil, append_assoc}
 use Rattle.link_model.specs.Feeders.{Feeder}
 use Rattle.link_model.specs.Feeding.{hears_end}
-use Rattle.link_model.specs.Next.{taken_back}
 use Rattle.link_model.specs.Numbers.{Numbered, opened_numbers}
 use Rattle.link_model.specs.Output.{let_go_numbers, entered_behind}
 use Rattle.link_model.specs.Session.{HeardSession, sessions_of}
@@ -19,7 +18,7 @@ use Rattle.link_reception.specs.Releasing.{book_count}
 use Rattle.link_reception.specs.Standing.{StandsFor, AreDecodings}
 use Rattle.link_reception.proofs.Idle.{none_stands, idle_exchanged}
 use Rattle.link_reception.proofs.Starting.{past_at_rest, st_at_rest, end_works, tally_behind}
-use Rattle.link_reception.proofs.Working.{IsWorking, all_working}
+use Rattle.link_reception.proofs.Working.{IsWorking}
 use Rattle.link_stream.specs.Streams.{units_behind, last_length, behind_header, with_end, end_unit}
 use Rattle.link_stream.specs.Streams.{frame_units, first_header, first_pictures}
 use Rattle.link_stream.specs.Streams.{first_pictures_so_far, stream_of, stream_so_far}
@@ -30,10 +29,10 @@ use Rattle.vc_types.specs.SequenceHeader.{Sequence}
 use Rattle.unit_release.specs.Writing.{WrittenStream, length_behind, bytes_next, end_of_stream}
 use Rattle.unit_release.specs.Writing.{units_next}
 use Rattle.unit_release.specs.Receiving.{streams_all, all_streamed_bytes, stream_takes_end, end_units}
-use Rattle.unit_release.specs.Standing.{has_next, waiting_bytes, HasField, StreamsFor}
+use Rattle.unit_release.specs.Standing.{has_next, HasField, StreamsFor}
 use Rattle.unit_release.proofs.Datagrams.{bytes_more, length_more, drop_front}
 use Rattle.unit_release.proofs.Datagrams.{idle_stream, idle_bytes}
-use Rattle.unit_release.proofs.Runs.{Streamed, all_streamed}
+use Rattle.unit_release.proofs.Runs.{Streamed, exchanged_streamed}
 use Rattle.unit_release.proofs.Steps.{over_stays, over_writes_nothing}
 use Rattle.unit_release.proofs.UnitLists.{bytes-append}
 
@@ -134,24 +133,11 @@ module _ (r : Reception) (size : ℕ) (f : Feeder) (small : size ≤ 8) (stands 
         (is_over (st_at_rest r size small f stands runs h [] at)) (tally_behind size [] f.heard)
     ended_works = end_works r size small f stands runs h [] at
 
-    works : IsWorking last size (taken_back size (hears_end f) (dones_in xs)) [] past
-        (is_over (st_at_rest r size small f stands runs h [] at)) (tally_behind size [] f.heard)
-    works = all_working size [] past (is_over (st_at_rest r size small f stands runs h [] at))
-        (tally_behind size [] f.heard) xs (ends_input r) (hears_end f) ended_works right
-
-    field_same : last.field ≡ r.field
-    field_same = works.waiting ∙ sym ended_works.waiting
-
-    field_is : w.field ≡ waiting_bytes s es last.field
-    field_is = subst (λ (l : List HeardSession). HasField size l r.field w.field) at streams.field
-        ∙ ap (waiting_bytes s es) (sym field_same)
-
     ran : Streamed size [] (tally_behind size [] f.heard) (book_count last) last w past
         (releasable_numbers past)
-    ran = all_streamed size [] (tally_behind size [] f.heard) last
-        (taken_back size (hears_end f) (dones_in xs)) past
-        (is_over (st_at_rest r size small f stands runs h [] at)) works w
-        (streams.over ∙ ap has_next at) field_is
+    ran = exchanged_streamed size [] (tally_behind size [] f.heard) ended_works xs right w
+        (streams.over ∙ ap has_next at)
+        (subst (λ (l : List HeardSession). HasField size l r.field w.field) at streams.field)
 
     left : (rest : List ℕ)
         × (opened_numbers es ≡ let_go_numbers size s es ++ rest)

@@ -10,7 +10,6 @@ use Rattle.std.proofs.lemmas.List.{append-nil}
 use Rattle.link_model.specs.Complete.{whole_picture}
 use Rattle.link_model.specs.Feeders.{Feeder}
 use Rattle.link_model.specs.Feeding.{hears_datagram}
-use Rattle.link_model.specs.Next.{taken_back}
 use Rattle.link_model.specs.Numbers.{Numbered, base_above, parts_of, opened_numbers}
 use Rattle.link_model.specs.Output.{let_go_numbers, entered_behind, greatest_of}
 use Rattle.link_model.specs.Session.{Session, HeardSession, just_opened, with_datagram, opens_behind}
@@ -33,7 +32,7 @@ use Rattle.link_reception.proofs.Starting.{past_at_rest, st_at_rest, standing_at
 use Rattle.link_reception.proofs.Starting.{opened_is, h_now, past_now, sessions_now, datagram_works}
 use Rattle.link_reception.proofs.Starting.{past_over, sessions_next, next_works, tally_behind}
 use Rattle.link_reception.proofs.WaitingFields.{waiting_is}
-use Rattle.link_reception.proofs.Working.{IsWorking, all_working}
+use Rattle.link_reception.proofs.Working.{IsWorking}
 use Rattle.link_stream.specs.Streams.{units_behind, behind_header, frame_units}
 use Rattle.link_stream.specs.Streams.{first_header, first_pictures, first_pictures_so_far}
 use Rattle.link_stream.specs.Streams.{units_so_far, stream_so_far}
@@ -49,7 +48,7 @@ use Rattle.unit_release.specs.Receiving.{datagram_units}
 use Rattle.unit_release.specs.Standing.{has_next, waiting_bytes, HasField, StreamsFor}
 use Rattle.unit_release.proofs.Begun.{none_begun, one_begun, first_behind, no_header}
 use Rattle.unit_release.proofs.Begun.{header_of_first}
-use Rattle.unit_release.proofs.Runs.{Streamed, all_streamed}
+use Rattle.unit_release.proofs.Runs.{Streamed, exchanged_streamed}
 use Rattle.unit_release.proofs.Steps.{none_streamed, no_bytes, over_stays, over_writes_nothing}
 use Rattle.unit_release.proofs.UnitLists.{bytes-append, length-append}
 
@@ -355,17 +354,6 @@ module _ (r : Reception) (size : ℕ) (f : Feeder) (small : size ≤ 8) (stands 
           (goes_on (st_at_rest r size small f stands runs h [] at) d) (tally_behind size [] now)
       kept_works = datagram_works r size small f stands runs h [] at d none
 
-      works : IsWorking before size (taken_back size (hears_datagram f d) (dones_in xs)) []
-          past_then (goes_on (st_at_rest r size small f stands runs h [] at) d)
-          (tally_behind size [] now)
-      works = all_working size [] past_then
-          (goes_on (st_at_rest r size small f stands runs h [] at) d) (tally_behind size [] now) xs
-          (keeps_datagram r d) (hears_datagram f d) kept_works right
-
-      field_same : before.field ≡ r.field
-      unfolding keeps_datagram
-      field_same = works.waiting ∙ sym kept_works.waiting
-
       follows : Follows size old new
       follows = entered_follows (base_above (greatest_of size [])) size h.fragments
           (filter_map (fragment_in h.session) (d ∷ []))
@@ -382,15 +370,11 @@ module _ (r : Reception) (size : ℕ) (f : Feeder) (small : size ≤ 8) (stands 
           ∙ sym (whole_same size s old new follows one.0 gone)
           ∙ ap (λ k. whole_picture s (parts_of k new)) (sym one.2.number)
 
-      field_now : w.field ≡ waiting_bytes s new before.field
-      field_now = field_before ∙ bytes_stay r.field refl
-          ∙ ap (waiting_bytes s new) (sym field_same)
-
       ran : Streamed size [] (tally_behind size [] now) (book_count before) before w past_then
           (releasable_numbers past_then)
-      ran = all_streamed size [] (tally_behind size [] now) before
-          (taken_back size (hears_datagram f d) (dones_in xs)) past_then
-          (goes_on (st_at_rest r size small f stands runs h [] at) d) works w still_first field_now
+      unfolding keeps_datagram
+      ran = exchanged_streamed size [] (tally_behind size [] now) kept_works xs right w still_first
+          (field_before ∙ bytes_stay r.field refl)
 
       shown : (rest : List ℕ)
           × (let_go_numbers size s new ≡ let_go_numbers size s old ++ rest)
@@ -435,23 +419,11 @@ module _ (r : Reception) (size : ℕ) (f : Feeder) (small : size ≤ 8) (stands 
           (is_over (st_at_rest r size small f stands runs h [] at)) (tally_behind size [] now)
       kept_over = next_works r size small f stands runs h [] at d t opens
 
-      works_over : IsWorking before size (taken_back size (hears_datagram f d) (dones_in xs)) []
-          past_end (is_over (st_at_rest r size small f stands runs h [] at))
-          (tally_behind size [] now)
-      works_over = all_working size [] past_end
-          (is_over (st_at_rest r size small f stands runs h [] at)) (tally_behind size [] now) xs
-          (keeps_datagram r d) (hears_datagram f d) kept_over right
-
-      field_still : before.field ≡ r.field
-      unfolding keeps_datagram
-      field_still = works_over.waiting ∙ sym kept_over.waiting
-
       ran_over : Streamed size [] (tally_behind size [] now) (book_count before) before w past_end
           (releasable_numbers past_end)
-      ran_over = all_streamed size [] (tally_behind size [] now) before
-          (taken_back size (hears_datagram f d) (dones_in xs)) past_end
-          (is_over (st_at_rest r size small f stands runs h [] at)) works_over w still_first
-          (field_before ∙ ap (waiting_bytes s old) (sym field_still))
+      unfolding keeps_datagram
+      ran_over = exchanged_streamed size [] (tally_behind size [] now) kept_over xs right w
+          still_first field_before
 
       left : (rest : List ℕ)
           × (opened_numbers old ≡ let_go_numbers size s old ++ rest)
@@ -490,23 +462,20 @@ module _ (r : Reception) (size : ℕ) (f : Feeder) (small : size ≤ 8) (stands 
     unfolding first_pictures_so_far first_pictures
     later = by_next (opens_behind h (begins d)) refl
       where
+        by_last : (l k : HeardSession) (ls : List HeardSession) → sessions_of now ≡ l ∷ k ∷ ls
+            → first_pictures_so_far size (l ∷ k ∷ ls) ≡ first_pictures_so_far size (h ∷ g ∷ hs)
+            → (o : Option Session) → opens_behind h (begins d) ≡ o → Grown
+        by_last l k ls sessions same = behind h (g ∷ hs) at later_over
+            (ap (first_pictures_so_far size) sessions ∙ same
+            ∙ sym (ap (first_pictures_so_far size) at))
+            (ap has_next sessions)
+            (λ v. subst (λ (l : List HeardSession). HasField size l then.field v) (sym sessions) tt)
+
         by_next : (o : Option Session) → opens_behind h (begins d) ≡ o → Grown
-        by_next None is =
-            let sessions : sessions_of now ≡ with_datagram h d ∷ g ∷ hs =
-            later_heard ∙ hears_on (h ∷ g ∷ hs) d is in
-            behind h (g ∷ hs) at later_over
-            (ap (first_pictures_so_far size) sessions ∙ sym (ap (first_pictures_so_far size) at))
-            (ap has_next sessions)
-            (λ v. subst (λ (l : List HeardSession). HasField size l then.field v) (sym sessions) tt)
-            None is
-        by_next (Some s) is =
-            let sessions : sessions_of now ≡ just_opened s ∷ h ∷ g ∷ hs =
-            later_heard ∙ hears_new (h ∷ g ∷ hs) d s is in
-            behind h (g ∷ hs) at later_over
-            (ap (first_pictures_so_far size) sessions ∙ sym (ap (first_pictures_so_far size) at))
-            (ap has_next sessions)
-            (λ v. subst (λ (l : List HeardSession). HasField size l then.field v) (sym sessions) tt)
-            (Some s) is
+        by_next None is = by_last (with_datagram h d) g hs
+            (later_heard ∙ hears_on (h ∷ g ∷ hs) d is) refl None is
+        by_next (Some s) is = by_last (just_opened s) h (g ∷ hs)
+            (later_heard ∙ hears_new (h ∷ g ∷ hs) d s is) refl (Some s) is
 
   pub grows : Grown
   grows = by_sessions (sessions_of f.heard) refl

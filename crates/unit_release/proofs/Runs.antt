@@ -1,23 +1,26 @@
 -- All pictures that may be released, one after another: the stream goes on by the pictures of their
 -- frames.
 use Rattle.std.proofs.Common.{◌≡◌, ℕ, zero, suc, ◌≤◌, false, refl, ap, sym, subst, ◌∙◌}
-use Rattle.std.proofs.Common.{List, [], ◌∷◌, ◌++◌, length, None, arith}
+use Rattle.std.proofs.Common.{List, [], ◌∷◌, ◌++◌, length, arith}
 use Rattle.std.specs.List.{flat_map}
-use Rattle.std.specs.Option.{option_and_then, option_map}
 use Rattle.link_model.specs.Feeders.{Feeder}
+use Rattle.link_model.specs.Next.{taken_back}
 use Rattle.link_model.specs.Session.{HeardSession}
 use Rattle.link_model.specs.Windows.{WindowPast, past_releases, window_of}
-use Rattle.link_model.specs.Windows.{releasable_numbers, first_of, as_releasable, next_release}
+use Rattle.link_model.specs.Windows.{releasable_numbers, first_of, as_releasable}
 use Rattle.link_model.specs.declared.tally.Tally.{Tally}
-use Rattle.link_model.proofs.WindowStands.{next_is, releasable_next}
+use Rattle.link_model.proofs.WindowStands.{releasable_next}
+use Rattle.link_reception.specs.Exchanging.{Exchange, all_exchanged, dones_in}
 use Rattle.link_reception.specs.Receptions.{StandingSession, Reception}
-use Rattle.link_reception.specs.Releasing.{next_picture, releases_up_to, book_count}
+use Rattle.link_reception.specs.Releasing.{releases_up_to, book_count}
 use Rattle.link_reception.specs.Releasing.{releases_picture_of}
+use Rattle.link_reception.specs.Standing.{AreDecodings}
 use Rattle.link_reception.proofs.ReleasedNumbers.{books_enough}
+use Rattle.link_reception.proofs.ReleaseRuns.{nothing_next}
 use Rattle.link_reception.proofs.ReleaseSteps.{step_on, stops}
 use Rattle.link_reception.proofs.Releases.{receiver_then, receiver_then_is, feeder_then}
 use Rattle.link_reception.proofs.Releases.{works_then, standing_then, next_picture_is}
-use Rattle.link_reception.proofs.Working.{IsWorking}
+use Rattle.link_reception.proofs.Working.{IsWorking, all_working}
 use Rattle.link_stream.specs.Streams.{units_behind, frame_units}
 use Rattle.vc_types.specs.DataUnits.{DataUnit}
 use Rattle.unit_release.specs.Writing.{WrittenStream, units_next, length_behind, bytes_next}
@@ -51,13 +54,6 @@ module _ (size : ℕ) (hs : List HeardSession) (t : Tally) where
     pub field : (streams_up_to k r w).field
         ≡ waiting_bytes p.sequence p.entries (releases_up_to k r).field
 
-  nothing_next : (r : Reception) (f : Feeder) (p : WindowPast) (st : StandingSession)
-      → IsWorking r size f hs p st t → releasable_numbers p ≡ [] → next_picture r ≡ None
-  nothing_next r f p st works none =
-      ap (option_and_then (λ (st : StandingSession). next_release st.window)) works.stands
-      ∙ next_is st.window p works.window
-      ∙ ap (λ (l : List ℕ). option_map (as_releasable p) (first_of l)) none
-
   abbrev tail_of : List ℕ → List ℕ
   tail_of [] = []
   tail_of (n ∷ ns) = ns
@@ -67,7 +63,7 @@ module _ (size : ℕ) (hs : List HeardSession) (t : Tally) where
       → length ns ≤ k → (w : WrittenStream) → w.is_over ≡ false
       → w.field ≡ waiting_bytes p.sequence p.entries r.field → Streamed k r w p ns
   stream_run [] k r f p st works are enough w on field =
-      let none = nothing_next r f p st works are in
+      let none = nothing_next size hs t r f p st works are in
       let same = stream_stops k r w none in
       record {
         bytes = bytes_stop k r w none ∙ sym (nothing_written w);
@@ -144,3 +140,15 @@ module _ (size : ℕ) (hs : List HeardSession) (t : Tally) where
       stream_run (releasable_numbers p) (book_count r) r f p st works refl
       (omega (arith, books_are r f p st works, books_enough p works.window.in_order))
       w on field
+
+  -- and behind exchanges
+  pub exchanged_streamed : {kept : Reception} {f : Feeder} {p : WindowPast} {st : StandingSession}
+      → IsWorking kept size f hs p st t → (xs : List Exchange) → AreDecodings (dones_in xs)
+      → (w : WrittenStream) → w.is_over ≡ false
+      → w.field ≡ waiting_bytes p.sequence p.entries kept.field
+      → Streamed (book_count (all_exchanged kept xs)) (all_exchanged kept xs) w p
+      (releasable_numbers p)
+  exchanged_streamed {kept} {f} {p} {st} works xs right w on field =
+      let behind = all_working size hs p st t xs kept f works right in
+      all_streamed (all_exchanged kept xs) (taken_back size f (dones_in xs)) p st behind w on
+      (field ∙ ap (waiting_bytes p.sequence p.entries) (works.waiting ∙ sym behind.waiting))
