@@ -3,7 +3,7 @@ use Rattle.std.proofs.Common.{◌≡◌, ℕ, suc, ◌+◌, ◌<◌, ◌≤◌, 
 use Rattle.std.specs.Prelude.{slice_index_or, nat_lt, All}
 use Rattle.std.proofs.lemmas.Bool.Decides.{nat_tests}
 use Rattle.std.proofs.lemmas.List.{drop_all}
-use Rattle.std.proofs.lemmas.List.Elements.{All-nil, All-cons}
+use Rattle.std.proofs.lemmas.List.Elements.{All-nil, All-cons, All-head, All-tail}
 use Rattle.std.proofs.Math.Seq.{drop-cons}
 use Rattle.link_model.specs.SendingFaults.{first_outside}
 
@@ -44,3 +44,12 @@ all_below limit n (sample ∷ samples) h = first (nat_lt sample limit) refl h (�
     first : (b : Bool) → nat_lt sample limit ≡ b → cond b (first_outside limit (n + 1) samples) (Some (n, sample)) ≡ None → (first_outside limit (n + 1) samples ≡ None → All (λ s. s < limit) samples) → All (λ s. s < limit) (sample ∷ samples)
     first true t e rest = All-cons (λ s. s < limit) sample samples (is_below sample limit t) (rest e)
     first false t e rest = absurd cc
+
+-- where the greatest is below, there is none
+pub none_outside : (limit greatest place : ℕ) (samples : List ℕ) → greatest < limit → All (λ s. s ≤ greatest) samples → first_outside limit place samples ≡ None
+unfolding first_outside
+none_outside limit greatest place [] small all = refl
+none_outside limit greatest place (sample ∷ samples) small all =
+    let first = All-head (λ s. s ≤ greatest) sample samples all in
+    ap (λ b. cond b (first_outside limit (place + 1) samples) (Some (place, sample))) (below sample limit (omega (arith, first)))
+    ∙ none_outside limit greatest (place + 1) samples small (All-tail (λ s. s ≤ greatest) sample samples all)

@@ -1,4 +1,4 @@
-ghost use Rattle.std.specs.Prelude.{◌≡◌, ◌^◌, ◌≤◌, None, Some, MatchOption, OnOk, IfErr};
+ghost use Rattle.std.specs.Prelude.{◌≡◌, ◌^◌, ◌≤◌, All, None, Some, MatchOption, OnOk, IfErr};
 ghost use Rattle.std.specs.Option.{option_or};
 ghost use Rattle.link_model.specs.SendingFaults.{first_outside, first_sample_fault, plane_fault};
 ghost use Rattle.link_model.specs.SendingPictures.{sent_parameters};
@@ -61,10 +61,25 @@ fn check_plane(number: u8, plane: &Plane, depth: u8) -> Result<(), SendRefusal>
 fn first_outside(limit: u32, samples: &[u16]) -> Option<(u64, u16)>
     ensures { result ≡ first_outside limit 0 samples.now }
 {
+    // A frame is mostly sound, and that is known fastest without a place to stop at.
+    if u32::from(greatest(samples)) < limit {
+        return None;
+    }
     for (place, sample) in samples.iter().enumerate() {
         if u32::from(*sample) >= limit {
             return Some((place as u64, *sample));
         }
     }
     None
+}
+
+// The greatest of some samples, and 0 of none.
+fn greatest(samples: &[u16]) -> u16
+    ensures { All (λ s. s ≤ result) samples.now }
+{
+    let mut greatest = 0;
+    for sample in samples {
+        greatest = greatest.max(*sample);
+    }
+    greatest
 }

@@ -4,14 +4,15 @@ ghost use Rattle.vc_types.specs.SenderSettings.{sending_view};
 ghost use Rattle.vc_types.specs.SequenceHeader.{sequence_of};
 ghost use Rattle.vc_types.specs.TransformParameters.{parameters_of};
 
-use picture_encode::Chooser;
+use picture_encode::{Chooser, PictureGrids};
 use std::alloc::Global;
 use vc_types::{Header, Plan, SendSettings};
 
 /// The heads of the packet and of the payload in front of slices have so many bytes.
 pub(crate) const HEADS: u32 = 32;
 
-/// Sends frames: what it keeps from one to the next are three numbers of 32 bits, which wrap.
+/// Sends frames: what it keeps from one to the next are three numbers of 32 bits, which wrap, and
+/// the memory of the last picture's coefficients.
 #[derive(Drop)]
 pub struct Sender<F> {
     pub(crate) alloc: Global,
@@ -23,6 +24,7 @@ pub struct Sender<F> {
     pub(crate) number: u32,
     // That of the last datagram, and 0 before the first.
     pub(crate) timestamp: u32,
+    pub(crate) grids: PictureGrids,
     ghost header_is: { sequence_of header ≡ sent_sequence (sending_view settings) },
     ghost plan_is: { parameters_of plan ≡ sent_parameters (sending_view settings) },
 }

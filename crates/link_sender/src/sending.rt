@@ -10,14 +10,16 @@ ghost use Rattle.vc_types.specs.Planes.{planes_in};
 ghost use Rattle.vc_types.specs.SenderSettings.{sending_view};
 
 use crate::datagram::Datagram;
-use crate::encoding::FrameSlices;
+use crate::encoding::{FrameSlices, encode_frame};
 use crate::outbox::Outbox;
 use crate::place::{PicturePlace, timestamp};
 use crate::refusal::SendRefusal;
 use crate::samples::check_samples;
 use crate::sender::Sender;
 use crate::writing::{high_half, write_datagram};
-use picture_encode::{Chooser, EncodedSlice, header_of, plan_of};
+use picture_encode::{
+    AtOnce, Chooser, EncodedSlice, InTurn, PictureGrids, Transform, header_of, plan_of,
+};
 use std::alloc::Global;
 use std::thread::Threads;
 use vc_params::write_params;
@@ -44,14 +46,15 @@ impl<F: Fn(&SliceNeed) -> u8> Sender<F> {
             frame: 0,
             number: s.seq,
             timestamp: 0,
+            grids: PictureGrids::new(alloc),
         }
     }
 
     /// The datagrams of a frame, whose planes have the settings' sizes: of each of its pictures a
     /// sequence header, transform parameters and slices. The chooser may be called on every need
     /// and answers at most 127. A frame is refused whole, at its first sample that is out of range,
-    /// else at its first slice that is too large. A refusal or want of memory leaves the sender as
-    /// it was.
+    /// else at its first slice that is too large. A refusal or want of memory leaves the sender's
+    /// numbers as they were.
     pub fn send_frame(&mut self, frame: &[Plane; 3]) -> Result<Vec<Datagram>, SendRefusal>
         requires callable { F.IsAlwaysCallable self.old.chooser.choose }
         requires range { AnswersAtMost127 F.Fn self.old.chooser.choose }
@@ -62,9 +65,7 @@ impl<F: Fn(&SliceNeed) -> u8> Sender<F> {
             self.old.chooser.wants_lens (sending_view self.old.settings) (planes_in frame.now)
             (numbers_of self.old) (numbers_of self.new) result }
     {
-        check_samples(&self.plan, frame)?;
-        let slices = self.encode_frame(frame)?;
-        Ok(self.put_frame(&slices)?)
+        self.send(&InTurn, frame)
     }
 
     /// The same, where luma is transformed beside the colours, by join.
@@ -82,8 +83,34 @@ impl<F: Fn(&SliceNeed) -> u8> Sender<F> {
             self.old.chooser.wants_lens (sending_view self.old.settings) (planes_in frame.now)
             (numbers_of self.old) (numbers_of self.new) result }
     {
+        self.send(&AtOnce { rt }, frame)
+    }
+
+    // The same, by either transform.
+    fn send<T: Transform>(
+        &mut self,
+        transform: &T,
+        frame: &[Plane; 3],
+    ) -> Result<Vec<Datagram>, SendRefusal>
+        requires callable { F.IsAlwaysCallable self.old.chooser.choose }
+        requires range { AnswersAtMost127 F.Fn self.old.chooser.choose }
+        requires sizes { IsFrame (sending_view self.old.settings) (planes_in frame.now) }
+        ensures settings { self.new.settings ≡ self.old.settings }
+        ensures chooser { self.new.chooser ≡ self.old.chooser }
+        ensures value { SendsFrame (AnswersNeed F.Fn self.old.chooser.choose)
+            self.old.chooser.wants_lens (sending_view self.old.settings) (planes_in frame.now)
+            (numbers_of self.old) (numbers_of self.new) result }
+    {
         check_samples(&self.plan, frame)?;
-        let slices = self.encode_frame_joined(rt, frame)?;
+        let slices = encode_frame(
+            self.alloc,
+            &self.settings,
+            &self.plan,
+            &self.chooser,
+            transform,
+            &mut self.grids,
+            frame,
+        )?;
         Ok(self.put_frame(&slices)?)
     }
 

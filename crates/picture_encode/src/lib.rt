@@ -11,9 +11,11 @@ mod slices;
 mod transform;
 
 pub use chooser::Chooser;
+pub use grids::PictureGrids;
 pub use plan::{header_of, plan_of};
 pub use refusal::SliceRefusal;
-pub use slices::{EncodedSlice, encode_picture, encode_picture_joined};
+pub use slices::{EncodedSlice, encode_picture};
+pub use transform::{AtOnce, InTurn, Transform};
 
 #[cfg(test)]
 mod tests;

@@ -16,9 +16,9 @@ use crate::chooser::Chooser;
 use crate::gathering::gather;
 use crate::grids::PictureGrids;
 use crate::refusal::SliceRefusal;
-use crate::transform::{AtOnce, InTurn, Transform};
+use crate::transform::Transform;
 use std::alloc::Global;
-use std::thread::Threads;
+use std::mem::replace;
 use vc_slice::{EncodeRefusal, SliceCoeffs, encode, encoded_lens};
 use vc_types::{NoMemory, Plan, Plane, SendSettings, SliceNeed};
 
@@ -48,58 +48,15 @@ fn push(slices: &mut Vec<EncodedSlice>, slice: EncodedSlice) -> Result<(), NoMem
 /// planes, and each slice at the index that the chooser answers on what it is told of it, from 0 to
 /// 127. The plan is the one that the settings make, and the planes have its sizes and samples of
 /// its depths. The first slice that is too large, for its lengths or for a datagram, refuses the
-/// picture.
-pub fn encode_picture<F: Fn(&SliceNeed) -> u8>(
+/// picture. Of the grids only the memory is used.
+pub fn encode_picture<F: Fn(&SliceNeed) -> u8, T: Transform>(
     alloc: Global,
     s: &SendSettings,
     plan: &Plan,
     chooser: &Chooser<F>,
-    planes: &[Plane; 3],
-) -> Result<Vec<EncodedSlice>, SliceRefusal>
-    requires callable { F.IsAlwaysCallable chooser.now.choose }
-    requires range { AnswersAtMost127 F.Fn chooser.now.choose }
-    requires plan { parameters_of plan.now ≡ sent_parameters (sending_view s.now) }
-    requires planes { CanBeTransformed (parameters_of plan.now) (planes_in planes.now) }
-    ensures encoded { IfOk result (λ slices. AreFirstSlices
-        (AnswersNeed F.Fn chooser.now.choose) chooser.now.wants_lens (sending_view s.now)
-        (planes_in planes.now) (slice_count (parameters_of plan.now)) slices.items) }
-    ensures refused { IfErr result (λ e. IsRefusedPicture
-        (AnswersNeed F.Fn chooser.now.choose) chooser.now.wants_lens (sending_view s.now)
-        (planes_in planes.now) e) }
-{
-    encode_with(alloc, s, plan, chooser, planes, &InTurn)
-}
-
-/// The same, where luma is transformed beside the colours, by join.
-pub fn encode_picture_joined<H: Threads + Copy + Send + Sync, F: Fn(&SliceNeed) -> u8>(
-    rt: H,
-    alloc: Global,
-    s: &SendSettings,
-    plan: &Plan,
-    chooser: &Chooser<F>,
-    planes: &[Plane; 3],
-) -> Result<Vec<EncodedSlice>, SliceRefusal>
-    requires callable { F.IsAlwaysCallable chooser.now.choose }
-    requires range { AnswersAtMost127 F.Fn chooser.now.choose }
-    requires plan { parameters_of plan.now ≡ sent_parameters (sending_view s.now) }
-    requires planes { CanBeTransformed (parameters_of plan.now) (planes_in planes.now) }
-    ensures encoded { IfOk result (λ slices. AreFirstSlices
-        (AnswersNeed F.Fn chooser.now.choose) chooser.now.wants_lens (sending_view s.now)
-        (planes_in planes.now) (slice_count (parameters_of plan.now)) slices.items) }
-    ensures refused { IfErr result (λ e. IsRefusedPicture
-        (AnswersNeed F.Fn chooser.now.choose) chooser.now.wants_lens (sending_view s.now)
-        (planes_in planes.now) e) }
-{
-    encode_with(alloc, s, plan, chooser, planes, &AtOnce { rt })
-}
-
-fn encode_with<F: Fn(&SliceNeed) -> u8, T: Transform>(
-    alloc: Global,
-    s: &SendSettings,
-    plan: &Plan,
-    chooser: &Chooser<F>,
-    planes: &[Plane; 3],
     transform: &T,
+    grids: &mut PictureGrids,
+    planes: &[Plane; 3],
 ) -> Result<Vec<EncodedSlice>, SliceRefusal>
     requires callable { F.IsAlwaysCallable chooser.now.choose }
     requires range { AnswersAtMost127 F.Fn chooser.now.choose }
@@ -112,11 +69,12 @@ fn encode_with<F: Fn(&SliceNeed) -> u8, T: Transform>(
         (AnswersNeed F.Fn chooser.now.choose) chooser.now.wants_lens (sending_view s.now)
         (planes_in planes.now) e) }
 {
-    let grids = transform.transform(alloc, plan, planes)?;
+    let used = replace(grids, PictureGrids::new(alloc));
+    *grids = transform.transform(alloc, plan, planes, used)?;
     let count = plan.slices_x * plan.slices_y;
     let mut slices = Vec::with_capacity(alloc, count as usize)?;
     for slice in 0..count {
-        let encoded = encode_slice(alloc, s, plan, chooser, &grids, slice)?;
+        let encoded = encode_slice(alloc, s, plan, chooser, grids, slice)?;
         push(&mut slices, encoded)?;
     }
     Ok(slices)

@@ -10,7 +10,8 @@ mod rows;
 mod wide;
 
 use crate::{
-    Chooser, EncodedSlice, SliceRefusal, encode_picture, encode_picture_joined, header_of, plan_of,
+    AtOnce, Chooser, EncodedSlice, InTurn, PictureGrids, SliceRefusal, encode_picture, header_of,
+    plan_of,
 };
 use std::alloc::Global;
 use std::test::Fail;
@@ -95,11 +96,14 @@ fn encoded<F: Fn(&SliceNeed) -> u8>(
 {
     let s = small();
     let planes = picture(alloc)?;
+    let mut grids = PictureGrids::new(alloc);
     encode_picture(
         alloc,
         &s,
         &plan_of(&s),
         &Chooser::new(true, choose),
+        &InTurn,
+        &mut grids,
         &planes,
     )
 }
@@ -154,7 +158,17 @@ fn joined_is_the_same(rt: HostRuntime) -> Result<(), Fail> {
     let s = small();
     let planes = picture(alloc)?;
     let chooser = Chooser::new(false, |_need: &SliceNeed| 0);
-    let Ok(slices) = encode_picture_joined(rt, alloc, &s, &plan_of(&s), &chooser, &planes) else {
+    let joined = AtOnce { rt };
+    let mut grids = PictureGrids::new(alloc);
+    let Ok(slices) = encode_picture(
+        alloc,
+        &s,
+        &plan_of(&s),
+        &chooser,
+        &joined,
+        &mut grids,
+        &planes,
+    ) else {
         return Err(Fail::from("refused"));
     };
     assert_eq!(rt; slices.len(), 1);

@@ -1,4 +1,4 @@
-ghost use Rattle.std.specs.Prelude.{◌≡◌, ◌-◌, ◌^◌, ◌<◌, ℕ, All, IfOk, IsTrue, unsigned_abs};
+ghost use Rattle.std.specs.Prelude.{◌≡◌, ◌-◌, ◌^◌, ◌<◌, ℕ, All, IfOk, IsTrue, length, unsigned_abs};
 ghost use Rattle.link_model.specs.SendingPictures.{plane_in};
 ghost use Rattle.picture_encode.specs.Grids.{IsNarrowGrid, HasCoefficients, HaveCoefficients};
 ghost use Rattle.picture_encode.specs.Shapes.{IsPlane, CanBeTransformed};
@@ -19,13 +19,14 @@ use vc_types::{Component, NoMemory, Plan, Plane};
 use vc_wave::{forward, forward_fits_narrow, forward_narrow};
 
 /// How the three components of a picture are transformed.
-pub(crate) trait Transform {
-    /// The coefficients of a picture's planes.
+pub trait Transform {
+    /// The coefficients of a picture's planes, in the memory of other grids where that is as large.
     fn transform(
         &self,
         alloc: Global,
         plan: &Plan,
         planes: &[Plane; 3],
+        used: PictureGrids,
     ) -> Result<PictureGrids, NoMemory>
         requires { CanBeTransformed (parameters_of plan.now) (planes_in planes.now) }
         ensures { IfOk result
@@ -34,7 +35,7 @@ pub(crate) trait Transform {
 
 /// One component after another.
 #[derive(Drop)]
-pub(crate) struct InTurn;
+pub struct InTurn;
 
 impl Transform for InTurn {
     fn transform(
@@ -42,19 +43,20 @@ impl Transform for InTurn {
         alloc: Global,
         plan: &Plan,
         planes: &[Plane; 3],
+        used: PictureGrids,
     ) -> Result<PictureGrids, NoMemory> {
         Ok(PictureGrids {
-            y: component(alloc, plan, planes, Component::Y)?,
-            c1: component(alloc, plan, planes, Component::C1)?,
-            c2: component(alloc, plan, planes, Component::C2)?,
+            y: component(alloc, plan, planes, Component::Y, used.y)?,
+            c1: component(alloc, plan, planes, Component::C1, used.c1)?,
+            c2: component(alloc, plan, planes, Component::C2, used.c2)?,
         })
     }
 }
 
 /// Luma beside the colours, by join.
 #[derive(Drop)]
-pub(crate) struct AtOnce<H> {
-    pub(crate) rt: H,
+pub struct AtOnce<H> {
+    pub rt: H,
 }
 
 impl<H: Threads + Copy + Send + Sync> Transform for AtOnce<H> {
@@ -63,11 +65,13 @@ impl<H: Threads + Copy + Send + Sync> Transform for AtOnce<H> {
         alloc: Global,
         plan: &Plan,
         planes: &[Plane; 3],
+        used: PictureGrids,
     ) -> Result<PictureGrids, NoMemory> {
+        let PictureGrids { y, c1, c2 } = used;
         let (y, (c1, c2)) = join(
             &self.rt,
-            || component(alloc, plan, planes, Component::Y),
-            || colours(alloc, plan, planes),
+            || component(alloc, plan, planes, Component::Y, y),
+            || colours(alloc, plan, planes, c1, c2),
         );
         Ok(PictureGrids {
             y: y?,
@@ -82,6 +86,8 @@ fn colours(
     alloc: Global,
     plan: &Plan,
     planes: &[Plane; 3],
+    c1: ComponentGrid,
+    c2: ComponentGrid,
 ) -> (
     Result<ComponentGrid, NoMemory>,
     Result<ComponentGrid, NoMemory>,
@@ -93,8 +99,8 @@ fn colours(
         (λ g. HasCoefficients (parameters_of plan.now) C2 (planes_in planes.now) g) }
 {
     (
-        component(alloc, plan, planes, Component::C1),
-        component(alloc, plan, planes, Component::C2),
+        component(alloc, plan, planes, Component::C1, c1),
+        component(alloc, plan, planes, Component::C2, c2),
     )
 }
 
@@ -104,6 +110,7 @@ fn component(
     plan: &Plan,
     planes: &[Plane; 3],
     c: Component,
+    used: ComponentGrid,
 ) -> Result<ComponentGrid, NoMemory>
     requires { CanBeTransformed (parameters_of plan.now) (planes_in planes.now) }
     ensures { IfOk result
@@ -111,14 +118,20 @@ fn component(
 {
     let plane = plane_in(planes, c);
     if forward_fits_narrow(plan, c) {
-        Ok(ComponentGrid::Narrow(narrow(alloc, plan, c, plane)?))
+        Ok(ComponentGrid::Narrow(narrow(alloc, plan, c, plane, used)?))
     } else {
         Ok(ComponentGrid::Wide(forward(alloc, plan, c, plane)?))
     }
 }
 
 // The coefficients of a component in 32 bits, where they fit.
-fn narrow(alloc: Global, plan: &Plan, c: Component, plane: &Plane) -> Result<Vec<i32>, NoMemory>
+fn narrow(
+    alloc: Global,
+    plan: &Plan,
+    c: Component,
+    plane: &Plane,
+    used: ComponentGrid,
+) -> Result<Vec<i32>, NoMemory>
     requires symmetric { IsTrue (is_symmetric (parameters_of plan.now)) }
     requires plane { IsPlane (parameters_of plan.now) c plane.now }
     requires narrow { IsTrue (forward_fits_narrow (parameters_of plan.now)
@@ -132,9 +145,21 @@ fn narrow(alloc: Global, plan: &Plan, c: Component, plane: &Plane) -> Result<Vec
 {
     let (width, height) = padded(plan, c);
     let mut line = vec![in alloc; 0i32; width as usize]?;
-    let mut cells = vec![in alloc; 0i32; height as usize * width as usize]?;
+    let mut cells = reused(alloc, used, height as usize * width as usize)?;
     forward_narrow(plan, c, plane, &mut cells, &mut line);
     are_small(&cells);
+    Ok(cells)
+}
+
+// So many cells, in used memory where that is as large.
+fn reused(alloc: Global, used: ComponentGrid, len: usize) -> Result<Vec<i32>, NoMemory>
+    ensures { IfOk result (λ cells. length cells.items ≡ len) }
+{
+    let mut cells = match used {
+        ComponentGrid::Narrow(cells) => cells,
+        ComponentGrid::Wide(_grid) => Vec::new(alloc),
+    };
+    cells.resize(len, 0)?;
     Ok(cells)
 }
 

@@ -4,7 +4,7 @@ ghost use Rattle.vc_types.specs.SenderSettings.{sending_view};
 ghost use Rattle.vc_types.specs.declared.choice.IndexChoice.TheVariants.{Index};
 ghost use Rattle.vc_types.specs.declared.video.Sampling.TheVariants.{S444};
 
-use crate::{Chooser, encode_picture, plan_of};
+use crate::{Chooser, InTurn, PictureGrids, encode_picture, plan_of};
 use std::alloc::Global;
 use std::test::Fail;
 use vc_types::{IndexChoice, NoMemory, Plane, Sampling, SendSettings, SliceNeed};
@@ -88,7 +88,16 @@ fn a_wide_picture_is_encoded(rt: HostRuntime) -> Result<(), Fail> {
     let s = wide();
     let planes = picture(alloc)?;
     let chooser = Chooser::new(false, |_need: &SliceNeed| 0);
-    let Ok(slices) = encode_picture(alloc, &s, &plan_of(&s), &chooser, &planes) else {
+    let mut grids = PictureGrids::new(alloc);
+    let Ok(slices) = encode_picture(
+        alloc,
+        &s,
+        &plan_of(&s),
+        &chooser,
+        &InTurn,
+        &mut grids,
+        &planes,
+    ) else {
         return Err(Fail::from("refused"));
     };
     assert_eq!(rt; slices.len(), 1);

@@ -10,7 +10,7 @@ returns-clause-grid c =
     let p = parameters_of c.args.plan.now in
     let cells = c.forward_narrow.new.cells in
     let same = written_over c.in_ok-cells.cells.len cells (drop (length cells) c.in_ok-cells.cells.items) (omega arith) in
-    let whole : length cells ≡ c.padded-width.result.1 * c.padded-width.result.0 = omega (arith, c.in_ok-cells.ensures.len) in
+    let whole : length cells ≡ c.padded-width.result.1 * c.padded-width.result.0 = omega (arith, c.in_ok-cells.ensures) in
     record {
       none_across = no_levels p c.requires.symmetric;
       size =

@@ -7,7 +7,7 @@ use Rattle.link_sender.specs.declared.refusal.SendRefusal.TheVariants.{NoMemory}
 use Rattle.link_sender.specs.Refusals.{of_slices}
 use Rattle.link_sender.specs.State.{numbers_of}
 use Rattle.link_sender.proofs.Frames.{are_pictures, is_sent, none_for_frame, samples_refuse, slices_refuse}
-use Rattle.link_sender.proofs.sender.Sender.send_frame_joined.Goals as goal
+use Rattle.link_sender.proofs.sender.Sender.send.Goals as goal
 
 pub returns-in_err-check_samples-clause-value : goal.returns-in_err-check_samples-clause-value
 returns-in_err-check_samples-clause-value g c =
@@ -17,8 +17,8 @@ returns-in_err-check_samples-clause-value g c =
     let same : c.from_residual.result ≡ Err e = search rules in
     rw same (samples_refuse (AnswersNeed g.F.Fn sender.chooser.choose) sender.chooser.wants_lens s (planes_in c.args.frame.now) e (c.in_err-check_samples.ensures.refused s (sym sender.plan_is)), refl {a = numbers_of sender})
 
-pub encode_frame_joined-requires-clause-samples : goal.encode_frame_joined-requires-clause-samples
-encode_frame_joined-requires-clause-samples g c κs lives = c.in_ok-check_samples.ensures.sound (sending_view c.args.self.now.settings) (sym c.args.self.now.plan_is)
+pub encode_frame-requires-clause-samples : goal.encode_frame-requires-clause-samples
+encode_frame-requires-clause-samples g c = c.in_ok-check_samples.ensures.sound (sending_view c.args.self.now.settings) (sym c.args.self.now.plan_is)
 
 pub returns-in_err-slices-clause-value : goal.returns-in_err-slices-clause-value
 returns-in_err-slices-clause-value g c =

@@ -8,7 +8,7 @@ use Rattle.picture_encode.specs.Choosing.{AnswersNeed}
 use Rattle.picture_encode.specs.Encoded.{AreFirstSlices}
 use Rattle.picture_encode.specs.declared.refusal.SliceRefusal.TheVariants.{NoMemory}
 use Rattle.picture_encode.proofs.FirstSlices.{no_slices, no_memory, one_more, one_refused}
-use Rattle.picture_encode.proofs.slices.encode_with.Goals as goal
+use Rattle.picture_encode.proofs.slices.encode_picture.Goals as goal
 
 pub returns-in_err-grids-clause-refused : goal.returns-in_err-grids-clause-refused
 returns-in_err-grids-clause-refused g c =
