@@ -17,11 +17,6 @@ unfolding bounded_sints
 pushed zero bits = refl
 pushed (suc n) bits = ap (λ (vs : List ℤ). (bounded_sint bits).0 ∷ vs) (pushed n (bounded_sint bits).1)
 
-pub length-bounded_sints : (n : ℕ) (bits : List Bool) → length (bounded_sints n bits) ≡ n
-unfolding bounded_sints
-length-bounded_sints zero bits = refl
-length-bounded_sints (suc n) bits = ap suc (length-bounded_sints n (bounded_sint bits).1)
-
 -- whole codes, one after another, are read as their numbers, whatever follows them
 pub bounded_sints-written : (vs : List ℤ) (n : ℕ) (rest : List Bool) → bounded_sints (length vs + n) (flat_map sint_bits vs ++ rest) ≡ vs ++ bounded_sints n rest
 unfolding bounded_sints

@@ -1,16 +1,13 @@
 -- Cells of a grid and of a list that is kept row by row.
 use Rattle.std.proofs.Common.{◌≡◌, ℕ, ◌+◌, ◌*◌, ◌<◌, ◌≤◌, false, List, ◌++◌, take, length, pos, arith, ap, sym, ◌∙◌, ◌⊎◌, inl, inr}
 use Rattle.std.specs.Prelude.{nat_lt, ◌&&◌, slice_index_or}
-use Rattle.std.proofs.lemmas.Bool.{cases_eq, and_from, lt-ltb, cond-true, cond-false}
+use Rattle.std.proofs.lemmas.Bool.{cases_eq, cond-false}
 use Rattle.std.proofs.lemmas.Nat.{mul-add-lt}
 use Rattle.std.proofs.Math.Seq.{take-append_seam}
 use Rattle.vc_types.specs.Lifting.{line_of}
 use Rattle.vc_types.specs.Planes.{output_sample}
 use Rattle.vc_types.specs.Rasters.{Lattice, cell_at}
-
-pub cell_in : (g : Lattice) (x y : ℕ) → x < g.width → y < g.height → cell_at g x y ≡ line_of g.cells (y * g.width + x)
-unfolding cell_at
-cell_in g x y across down = cond-true (nat_lt x g.width && nat_lt y g.height) (line_of g.cells (y * g.width + x)) (pos 0) (and_from (nat_lt x g.width) (nat_lt y g.height) (lt-ltb x g.width across) (lt-ltb y g.height down))
+use Rattle.vc_wave.proofs.Grids.{cell_in}
 
 pub cell_out : (g : Lattice) (x y : ℕ) → (nat_lt x g.width && nat_lt y g.height) ≡ false → cell_at g x y ≡ pos 0
 unfolding cell_at

@@ -18,6 +18,5 @@ pub mod KeptSlices
 pub mod InCells
 pub mod SeenSlices
 pub mod DequantisedNumbers
-pub mod Entries
 pub mod FilledSlices
 pub mod NarrowPlanes

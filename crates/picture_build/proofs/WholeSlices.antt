@@ -1,39 +1,23 @@
 -- Slices that were decoded are whole, and their coefficients are small.
-use Rattle.std.proofs.Common.{◌≡◌, ℕ, suc, ◌^◌, ◌<◌, Bool, true, false, List, [], ◌∷◌, ◌++◌, length, ℤ, pos, unsigned_abs, arith, refl, ap, sym, ◌∙◌, inl, inr, length-append}
+use Rattle.std.proofs.Common.{◌≡◌, ℕ, ◌^◌, ◌<◌, Bool, true, false, List, [], ◌∷◌, ◌++◌, length, ℤ, pos, unsigned_abs, arith, refl, ap, sym, ◌∙◌, inl, inr, length-append}
 use Rattle.std.specs.Prelude.{slice_index_or, nat_le, nat_lt, if◌then◌else◌, ◌||◌, Result, Ok, Err}
-use Rattle.std.specs.List.{list_any, zip}
+use Rattle.std.specs.List.{list_any}
 use Rattle.std.proofs.lemmas.Bool.{cases_eq}
 use Rattle.std.proofs.lemmas.Bool.Decides.{nat_tests}
-use Rattle.std.proofs.lemmas.List.{length-map, get_or_append_left, get_or_push}
+use Rattle.std.proofs.lemmas.List.{get_or_append_left, get_or_push}
 use Rattle.std.proofs.lemmas.List.Folds.{list_any-append, list_any_at}
 use Rattle.vc_types.specs.declared.refusal.Unsound.{Unsound}
 use Rattle.vc_types.specs.declared.refusal.Unsound.TheVariants.{IndexRange, CoefficientRange}
 use Rattle.vc_types.specs.declared.video.Component.{Component}
 use Rattle.vc_types.specs.declared.video.Component.TheVariants.{Y, C1, C2}
-use Rattle.vc_types.specs.Bits.{bits_of}
-use Rattle.vc_types.specs.Bounded.{bounded_sints}
-use Rattle.vc_types.specs.Slices.{CodedSlice, coded_slice, Coefficients, coefficients_of, is_large, in_range, all_coefficients, decoded_slice, decoded_from, slice_coefficients, block_coefficients, quantisers}
+use Rattle.vc_types.specs.Slices.{CodedSlice, coded_slice, Coefficients, coefficients_of, is_large, in_range, all_coefficients, decoded_slice, decoded_from, slice_coefficients}
 use Rattle.vc_types.specs.Subbands.{slice_coefficient_count}
 use Rattle.vc_types.specs.TransformParameters.{Parameters}
-use Rattle.picture_build.proofs.BoundedLists.{length-bounded_sints}
-use Rattle.vc_slice.proofs.BlockCoefficients.{length-quantisers}
+use Rattle.vc_slice.proofs.NarrowRuns.{length-block}
 use Rattle.vc_types.specs.SliceCoefficients.{AreSliceCoefficients}
 use Rattle.picture_build.specs.PictureCoefficients.{ArePictureCoefficients}
 
 -- ---- how many coefficients a slice has
-
-length-pairs : (xs : List ℤ) (ys : List ℕ) → length xs ≡ length ys → length (zip xs ys) ≡ length xs
-length-pairs [] ys e = refl
-length-pairs (x ∷ xs) [] e = absurd (omega arith)
-length-pairs (x ∷ xs) (y ∷ ys) e = ap suc (length-pairs xs ys (omega arith))
-
-length-block : (p : Parameters) (c : Component) (n index : ℕ) (block : List ℕ) → length (block_coefficients p c n index block) ≡ slice_coefficient_count p c n
-unfolding block_coefficients
-length-block p c n index block =
-    let read = length-bounded_sints (slice_coefficient_count p c n) (bits_of block) in
-    let indices = length-quantisers p c n index in
-    length-map (zip (bounded_sints (slice_coefficient_count p c n) (bits_of block)) (quantisers p c n index)) _
-    ∙ length-pairs (bounded_sints (slice_coefficient_count p c n) (bits_of block)) (quantisers p c n index) (read ∙ sym indices) ∙ read
 
 length-all : (p : Parameters) (n : ℕ) (coded : CodedSlice) (c : Component) → length (coefficients_of (all_coefficients p n coded) c) ≡ slice_coefficient_count p c n
 length-all p n coded Y = length-block p Y n coded.index coded.y

@@ -1,9 +1,8 @@
 -- How long the blocks and the slices of small coefficients are.
-use Rattle.std.proofs.Common.{◌≡◌, ℕ, zero, suc, ◌+◌, ◌-◌, ◌*◌, ◌^◌, ◌<◌, ◌≤◌, ℤ, pos, negsuc, unsigned_abs, true, false, List, [], ◌∷◌, length, map, drop, refl, ap, ◌∙◌, arith}
+use Rattle.std.proofs.Common.{◌≡◌, ℕ, zero, suc, ◌+◌, ◌*◌, ◌^◌, ◌<◌, ◌≤◌, ℤ, unsigned_abs, true, false, List, [], ◌∷◌, length, map, drop, refl, ap, ◌∙◌, arith}
 use Rattle.std.specs.Prelude.{◌==◌}
 use Rattle.std.specs.Int.Digits.{digits_of}
 use Rattle.std.specs.List.{flat_map, range_with_len, zip}
-use Rattle.std.proofs.lemmas.Int.{ints}
 use Rattle.std.proofs.lemmas.Int.Digits.{length-digits_of-le}
 use Rattle.std.proofs.lemmas.List.{length-append, length-drop}
 use Rattle.std.proofs.lemmas.List.Concat.{flat_map-cons}
@@ -12,10 +11,10 @@ use Rattle.vc_types.specs.declared.video.Component.{Component}
 use Rattle.vc_types.specs.declared.video.Component.TheVariants.{Y, C1, C2}
 use Rattle.vc_types.specs.Codes.{uint_bits, spread_digits, sign_bits, sint_bits}
 use Rattle.vc_types.specs.Encoding.{block_bits, block_units, component_bits, encoded_length, kept_before, quantised_numbers, without_last_zeros}
-use Rattle.vc_types.specs.Quantisation.{quantised, with_sign_of}
+use Rattle.vc_types.specs.Quantisation.{quantised}
 use Rattle.vc_types.specs.Slices.{Coefficients, quantisers}
 use Rattle.vc_types.specs.TransformParameters.{Parameters}
-use Rattle.vc_types.proofs.Quantisers.{quant_factor_range}
+use Rattle.vc_types.proofs.Quantisers.{quant_factor_range, unsigned_abs-with_sign_of}
 
 -- ---- a code
 
@@ -44,14 +43,10 @@ code_short v small = omega (arith, uint_short 60 (unsigned_abs v) small, sign_sh
 
 -- ---- quantised numbers
 
-with_sign : (z : ℤ) (n : ℕ) → unsigned_abs (with_sign_of z n) ≡ n
-with_sign (pos k) n = refl
-with_sign (negsuc k) n = omega (arith, ints)
-
 quantised_small : (z : ℤ) (index m : ℕ) → unsigned_abs z < m → unsigned_abs (quantised z index) < m
 unfolding quantised
 quantised_small z index m small =
-    grind (arith, div-le_of_le-mul, mul-le-mul_right, quant_factor_range, with_sign)
+    grind (arith, div-le_of_le-mul, mul-le-mul_right, quant_factor_range, unsigned_abs-with_sign_of)
 
 -- ---- a block
 

@@ -1,5 +1,5 @@
 -- The bytes of a picture's sequence header and of its transform parameters.
-use Rattle.std.proofs.Common.{◌≡◌, ℕ, zero, suc, ◌+◌, ◌-◌, ◌*◌, ◌%◌, ◌^◌, ◌<◌, ◌≤◌, Bool, true, false, cond, List, [], ◌∷◌, length, take, Some, None, refl, sym, ap, subst, ◌∙◌, arith}
+use Rattle.std.proofs.Common.{◌≡◌, ℕ, ◌+◌, ◌-◌, ◌*◌, ◌%◌, ◌^◌, ◌<◌, ◌≤◌, Bool, true, false, cond, List, [], ◌∷◌, length, Some, None, refl, sym, ap, subst, ◌∙◌, arith}
 use Rattle.std.specs.Prelude.{IsTrue, nat_le, ◌&&◌, ◌==◌, replicate}
 use Rattle.std.specs.List.{list_all}
 use Rattle.std.proofs.lemmas.Bool.{and_parts, leb-true}
@@ -24,6 +24,7 @@ use Rattle.vc_types.specs.ParameterSpelling.{coded_unless, encoder_parameters, n
 use Rattle.vc_types.specs.SenderSettings.{Sending, sending_view}
 use Rattle.vc_types.specs.SequenceHeader.{Sequence}
 use Rattle.vc_types.specs.TransformParameters.{Parameters, parameters_of}
+use Rattle.vc_types.proofs.Matrices.{matrix_fits-take}
 use Rattle.vc_types.proofs.WrittenParameters.{IsPlan}
 
 -- ---- the sequence header
@@ -78,13 +79,6 @@ values_bits (value ∷ values) fits =
     let all = length-append (uint_bits value) (numbers_bits values) in
     omega (arith, first, rest, all)
 
-taken_fit : (n : ℕ) (values : List ℕ) → matrix_fits values ≡ true → matrix_fits (take n values) ≡ true
-taken_fit zero values fits = refl
-taken_fit (suc n) [] fits = refl
-taken_fit (suc n) (value ∷ values) fits =
-    let both = and_parts (nat_le value 127) (list_all (λ v. nat_le v 127) values) fits in
-    rw (both.0, taken_fit n values both.1) refl
-
 matrix_bits : (b : Bool) (values : List ℕ) → matrix_fits values ≡ true → length values ≤ 16 → length (flagged_bits numbers_bits (cond b None (Some values))) ≤ 561
 matrix_bits true values fits few = omega arith
 matrix_bits false values fits few = let bits = values_bits values fits in omega (arith, bits, few)
@@ -111,7 +105,7 @@ few_parameter_bits p small =
       joined_length,
       length-take,
       matrix_bits,
-      taken_fit,
+      matrix_fits-take,
       unless_bits,
     )
 

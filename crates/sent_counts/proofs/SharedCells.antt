@@ -1,25 +1,23 @@
 -- How many coefficients of a component the slices before one have together.
-use Rattle.std.proofs.Common.{◌≡◌, ℕ, zero, suc, ◌+◌, ◌-◌, ◌*◌, ◌/◌, ◌%◌, ◌^◌, ◌<◌, ◌≤◌, min, List, [], ◌∷◌, ◌++◌, map, refl, sym, ap, ◌∙◌, arith, inl, inr}
+use Rattle.std.proofs.Common.{◌≡◌, ℕ, zero, suc, ◌+◌, ◌-◌, ◌*◌, ◌/◌, ◌%◌, ◌^◌, ◌<◌, ◌≤◌, List, [], ◌∷◌, ◌++◌, map, refl, sym, ap, ◌∙◌, arith, inl, inr}
 use Rattle.std.specs.List.{sum_by}
 use Rattle.std.proofs.lemmas.Bool.{cases_lt}
 use Rattle.std.proofs.lemmas.Grind.{common_steps}
 use Rattle.std.proofs.lemmas.List.{map-append}
 use Rattle.std.proofs.lemmas.List.Sums.{sum_by-append, sum_by-cons}
-use Rattle.std.proofs.lemmas.Nat.{pow-add, div-mul-add, mod-mul-add}
-use Rattle.std.proofs.Math.Nat.{mul-div_cancel, mul_assoc, pow-suc, mod-add-div', mul-le-mul_left, mul-le-mul_right}
-use Rattle.std.proofs.Math.Pow.{pow_pos}
+use Rattle.std.proofs.lemmas.Nat.{div-mul-add, mod-mul-add}
+use Rattle.std.proofs.Math.Nat.{mul-div_cancel, pow-suc, mod-add-div', mul-le-mul_left, mul-le-mul_right}
 use Rattle.vc_types.specs.declared.rect.Rect.{Rect}
 use Rattle.vc_types.specs.declared.video.Component.{Component}
 use Rattle.vc_types.specs.Subbands.{Subband, H, subband, subbands_across, both_ways, subbands, levels, level_side, nested, rect, area, share, share_start, subband_rectangle, slice_rectangle, slice_count, slice_coefficient_count, padded_width, padded_height, plane_width, plane_height}
 use Rattle.vc_types.specs.TransformParameters.{Parameters}
+use Rattle.vc_types.proofs.Shares.{share_start-within}
+use Rattle.vc_types.proofs.SubbandCells.{side_is}
 
 -- ---- of one rectangle
 
 start_rises : (length n k : ℕ) → 0 < n → share_start length n k ≤ share_start length n (k + 1)
 start_rises length n k some = grind (arith, common_steps)
-
-start_within : (length n k : ℕ) → k < n → share_start length n (k + 1) ≤ length
-start_within length n k h = grind (arith, common_steps)
 
 start_whole : (length n : ℕ) → 0 < n → share_start length n n ≡ length
 start_whole length n some = mul-div_cancel length some
@@ -89,10 +87,10 @@ module _ (across down slice : ℕ) (r : Rect) (some : 0 < across) (some_down : 0
       elim (cases_lt row down) [
         | inl lt ↦ (
             let a = start_rises r.width across column some in
-            let b = start_within r.width across column (omega arith) in
+            let b = share_start-within r.width across column (omega arith) in
             let left = mul-le-mul_right (next - s) (let le : share_start r.width across column ≤ r.width = omega (arith, a, b) in le) in
             let whole = joined_left s next r.width (start_rises r.height down row some_down) in
-            let all = mul-le-mul_left r.width (start_within r.height down row lt) in
+            let all = mul-le-mul_left r.width (share_start-within r.height down row lt) in
             omega (arith, left, whole, all))
         | inr ge ↦ (
             let rows = mul-le-mul_right across ge in
@@ -125,14 +123,6 @@ all_most across down slice some some_down few (r ∷ rs) =
       sum_by-cons,
       all_most across down slice some some_down few rs,
     )
-
-side_is : (w most levels level n : ℕ) → n + min most (levels + 1 - level) ≡ most → level_side (w * 2 ^ most) most levels level ≡ w * 2 ^ n
-side_is w most levels level n e =
-    let k = min most (levels + 1 - level) in
-    let power : 2 ^ most ≡ 2 ^ n * 2 ^ k = ap (λ t. 2 ^ t) (sym e) ∙ pow-add 2 n k in
-    ap (λ t. w * t / 2 ^ k) power
-    ∙ ap (λ t. t / 2 ^ k) (sym (mul_assoc w (2 ^ n) (2 ^ k)))
-    ∙ mul-div_cancel (w * 2 ^ n) (pow_pos k)
 
 four : (a b : ℕ) → a * b + (0 + a * b + a * b + a * b) ≡ 2 * a * (2 * b)
 four a b = omega arith

@@ -1,11 +1,9 @@
 -- Bits that wait in a word until they make bytes.
 use Rattle.std.proofs.Common.{◌≡◌, ℕ, zero, suc, ◌+◌, ◌-◌, ◌*◌, ◌/◌, ◌%◌, ◌^◌, ◌<◌, ◌≤◌, Bool, true, false, List, [], ◌∷◌, ◌++◌, length, refl, sym, ap, ◌∙◌, arith, append_assoc, append-nil, length-append, replicate, eqb}
 use mir.Val.{bool_byte}
-use Rattle.std.specs.Int.{bit_at}
-use Rattle.std.specs.Prelude.{Result, Ok, Err, OnOk}
 use Rattle.std.proofs.lemmas.Nat.{pow-add, pow_pos, div-mul-add, mul-add-lt, one_shl}
 use Rattle.std.proofs.lemmas.List.{replicate-append-replicate}
-use Rattle.std.proofs.lemmas.Nat.Bits.{bit_at_cat_low, bit_at_ones, bit_at-zero}
+use Rattle.std.proofs.lemmas.Nat.Bits.{bit_at_cat_low, bit_at-zero}
 use Rattle.std.proofs.Math.Nat.{mul_comm, pow-le-pow_right, mod-eq_of_lt}
 use Rattle.vc_types.specs.Bits.{byte_bits, bits_of}
 use Rattle.vc_types.proofs.Bits.{bits_of-push, bits_of-nil, length-bits_of}
@@ -47,22 +45,11 @@ first_byte bytes count word many =
     ∙ append_assoc (bits_of bytes) (word_bits 8 upper) (word_bits (count - 8) word)
     ∙ ap (λ (bits : List Bool). bits_of bytes ++ bits) (sym (split 8 (count - 8) word) ∙ ap (λ (n : ℕ). word_bits n word) parts)
 
--- ones alone, and zeros
-ones_from : (count word : ℕ) → ((i : ℕ) → i < count → bit_at word i ≡ 1) → word_bits count word ≡ replicate count true
-unfolding word_bits
-ones_from zero word all = refl
-ones_from (suc count) word all = ap (λ (n : ℕ). eqb n 1 ∷ word_bits count word) (all count (omega arith)) ∙ ap (λ (bits : List Bool). true ∷ bits) (ones_from count word (λ i lt. all i (omega arith)))
-
-pub ones_are : (count : ℕ) → word_bits count (2 ^ count - 1) ≡ replicate count true
-ones_are count = ones_from count (2 ^ count - 1) (λ i lt. bit_at_ones count i lt)
-
-zeros_from : (count word : ℕ) → ((i : ℕ) → i < count → bit_at word i ≡ 0) → word_bits count word ≡ replicate count false
-unfolding word_bits
-zeros_from zero word all = refl
-zeros_from (suc count) word all = ap (λ (n : ℕ). eqb n 1 ∷ word_bits count word) (all count (omega arith)) ∙ ap (λ (bits : List Bool). false ∷ bits) (zeros_from count word (λ i lt. all i (omega arith)))
-
+-- zeros alone
 pub zeros_are : (count : ℕ) → word_bits count 0 ≡ replicate count false
-zeros_are count = zeros_from count 0 (λ i lt. bit_at-zero i)
+unfolding word_bits
+zeros_are zero = refl
+zeros_are (suc count) = ap (λ (n : ℕ). eqb n 1 ∷ word_bits count 0) (bit_at-zero count) ∙ ap (λ (bits : List Bool). false ∷ bits) (zeros_are count)
 
 -- a word that is moved up within 64 bits
 pub moved_up : (have word count : ℕ) → word < 2 ^ have → have + count < 64 → word * 2 ^ count % 2 ^ 64 ≡ word * 2 ^ count
@@ -112,11 +99,6 @@ pub added : (bytes before : List ℕ) (have word count number next filled : ℕ)
 added bytes before have word count number next filled old view same sum joined =
     ap (λ (n : ℕ). bits_of bytes ++ word_bits n next) sum ∙ ap (λ (bits : List ℕ). bits_of bits ++ word_bits (have + count) next) same
     ∙ ap (λ (bits : List Bool). bits_of before ++ bits) joined ∙ sym (append_assoc (bits_of before) (word_bits have word) (word_bits count number)) ∙ ap (λ (bits : List Bool). bits ++ word_bits count number) view
-
--- what an answer without an error says
-pub on_ok : {A E : Type 0} (r : Result A E) (P Q : Type 0) → OnOk r P → (P → Q) → OnOk r Q
-on_ok (Ok x) P Q p f = f p
-on_ok (Err e) P Q p f = tt
 
 -- the same bit some more times
 pub repeated_more : (times left count : ℕ) (bit : Bool) (old before word after : List Bool) → left ≤ times → count ≤ left → before ≡ old ++ replicate (times - left) bit → word ≡ replicate count bit → after ≡ before ++ word

@@ -172,7 +172,7 @@ first_ones n zero le = refl
 first_ones n (suc k) le =
     ap (λ (b : ℕ). eqb b 1 ∷ word_bits k (2 ^ n - 1)) (bit_at_ones n k (omega arith)) ∙ ap (λ (bits : List Bool). true ∷ bits) (first_ones n k (omega arith))
 
-only_ones : (n : ℕ) → word_bits n (2 ^ n - 1) ≡ replicate n true
+pub only_ones : (n : ℕ) → word_bits n (2 ^ n - 1) ≡ replicate n true
 only_ones n = first_ones n n (omega arith)
 
 -- the last bits of a word, and ones

@@ -9,37 +9,7 @@ use Rattle.vc_types.specs.Bits.{byte_bits, number_of}
 use Rattle.vc_types.specs.Bounded.{bounded}
 use Rattle.vc_golomb.specs.Table.{pairs_of, IsLook}
 use Rattle.vc_golomb.specs.declared.table.TheConstants.{TAKEN, DIGITS}
-
--- ---- a test of a whole table
-
-abbrev holds_below : (ℕ → Bool) → ℕ → Bool
-holds_below test zero = true
-holds_below test (suc n) = test n && holds_below test n
-
-at : (test : ℕ → Bool) (n k : ℕ) → holds_below test n ≡ true → k < n → test k ≡ true
-at test zero k all lt = absurd (omega arith)
-at test (suc n) k all lt =
-    let both = and_parts (test n) (holds_below test n) all in
-    elim (cases_lt k n) [
-      | inl less ↦ at test n k both.1 less
-      | inr le ↦ let same : n ≡ k = omega arith in subst (λ (m : ℕ). test m ≡ true) same both.0
-    ]
-
-abbrev same_bits : List Bool → List Bool → Bool
-same_bits [] [] = true
-same_bits (true ∷ xs) (true ∷ ys) = same_bits xs ys
-same_bits (false ∷ xs) (false ∷ ys) = same_bits xs ys
-same_bits xs ys = false
-
-same : (xs ys : List Bool) → same_bits xs ys ≡ true → xs ≡ ys
-same [] [] h = refl
-same (true ∷ xs) (true ∷ ys) h = ap (λ (bits : List Bool). true ∷ bits) (same xs ys h)
-same (false ∷ xs) (false ∷ ys) h = ap (λ (bits : List Bool). false ∷ bits) (same xs ys h)
-same [] (y ∷ ys) h = absurd cc
-same (true ∷ xs) [] h = absurd cc
-same (false ∷ xs) [] h = absurd cc
-same (true ∷ xs) (false ∷ ys) h = absurd cc
-same (false ∷ xs) (true ∷ ys) h = absurd cc
+use Rattle.vc_golomb.proofs.ByteRows.{holds_below, at, same_bits, same}
 
 -- ---- one byte
 

@@ -3,7 +3,8 @@ use Rattle.std.proofs.Common.{◌≡◌, ℕ, ◌+◌, ◌-◌, ◌*◌, ◌%◌
 use Rattle.std.proofs.Math.Nat.{pow-le-pow_right}
 use Rattle.std.proofs.lemmas.Nat.{one_shl, pow_pos}
 use Rattle.vc_bits.specs.Bits.{word_bits}
-use Rattle.vc_bits.proofs.Waiting.{joined_bits, joined_fits, moved_up, ones_are}
+use Rattle.vc_bits.proofs.Waiting.{joined_bits, joined_fits, moved_up}
+use Rattle.vc_bits.proofs.Words.{only_ones}
 
 module _ (ones count number : ℕ) (few : ones ≤ 16) (short : count ≤ 16) (small : number < 2 ^ count) where
   some : 0 < 2 ^ ones
@@ -19,7 +20,7 @@ module _ (ones count number : ℕ) (few : ones ≤ 16) (short : count ≤ 16) (s
   ones_bits =
       ap (λ (n : ℕ). word_bits (ones + count) (n + number)) moved
       ∙ joined_bits ones (2 ^ ones - 1) count number small
-      ∙ ap (λ (bits : List Bool). bits ++ word_bits count number) (ones_are ones)
+      ∙ ap (λ (bits : List Bool). bits ++ word_bits count number) (only_ones ones)
 
   pub ones_fit : (1 * 2 ^ ones % 2 ^ 64 - 1) * 2 ^ count % 2 ^ 64 + number < 2 ^ (ones + count)
   ones_fit = rw moved (joined_fits ones (2 ^ ones - 1) count number (omega (arith, some)) small)

@@ -1,6 +1,6 @@
 -- The code of a number, as it is written digit by digit.
 use Rattle.std.proofs.Common.{◌≡◌, ℕ, zero, suc, ◌+◌, ◌*◌, ◌/◌, ◌^◌, ◌<◌, ◌≤◌, ℤ, Bool, true, false, eqb, List, [], ◌∷◌, ◌++◌, refl, sym, ap, subst, ◌∙◌, arith, append_assoc, append-nil, add-one}
-use Rattle.std.specs.Prelude.{unsigned_abs, pos, negsuc, Result, Ok, Err, OnOk, OnErr}
+use Rattle.std.specs.Prelude.{unsigned_abs, pos, negsuc, Result, Ok, Err, OnErr}
 use Rattle.std.specs.Int.{bit_at, is_negative}
 use Rattle.std.proofs.Math.Nat.{div-div-eq-div-mul, pow-suc}
 use Rattle.std.proofs.lemmas.Bool.{le-ltb}
@@ -114,15 +114,7 @@ front_unsigned v magnitude old new same wrote = front_magnitude v old new (subst
 pub front_whole : (v : ℤ) (magnitude : ℕ) (old new : List Bool) → magnitude ≡ unsigned_abs v → new ≡ old ++ uint_bits magnitude → WroteFront (sint_bits v) old new
 front_whole v magnitude old new same is = front_unsigned v magnitude old new same (uint_bits magnitude, [], sym (append-nil (uint_bits magnitude)), is)
 
--- what an answer with an error says, and what only one without says
+-- what an answer with an error says
 pub on_err : {A E : Type 0} (r : Result A E) (P : Type 0) → P → OnErr r P
 on_err (Ok x) P p = tt
 on_err (Err e) P p = p
-
-pub on_ok : {A E : Type 0} (r : Result A E) (P Q : Type 0) → OnOk r P → (P → Q) → OnOk r Q
-on_ok (Ok x) P Q p f = f p
-on_ok (Err e) P Q p f = tt
-
-pub on_err_too : {A E : Type 0} (r : Result A E) (P Q : Type 0) → OnErr r P → (P → Q) → OnErr r Q
-on_err_too (Ok x) P Q p f = tt
-on_err_too (Err e) P Q p f = f p

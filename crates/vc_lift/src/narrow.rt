@@ -1,11 +1,12 @@
-ghost use Rattle.std.specs.Prelude.{◌≡◌, ◌+◌, ◌-◌, ◌*◌, ◌/◌, ◌^◌, ◌<◌, ◌≤◌, ◌⊎◌, ℕ, length, unsigned_abs, map, IsTrue, true, false};
+ghost use Rattle.std.specs.Prelude.{◌≡◌, ◌+◌, ◌-◌, ◌*◌, ◌/◌, ◌^◌, ◌<◌, ◌≤◌, ℕ, length, unsigned_abs, map, IsTrue, true, false};
 ghost use Rattle.vc_types.specs.Lifting.{line_of, half_of, changed_by};
 ghost use Rattle.vc_types.specs.Wavelets.{synthesised, analysed};
 ghost use Rattle.vc_lift.specs.CountedSteps.{sum_met, change_at, lift, lift_all, lift_between, in_order, place_met};
 ghost use Rattle.vc_lift.specs.Growth.{IsPlain, grows_little};
 ghost use Rattle.vc_lift.specs.Ranges.{HasRange, HasRangeAt, StaysNarrow, counted_synthesis, counted_analysis};
 ghost use Rattle.vc_lift.specs.Steps.{counted_of, counted_row};
-ghost use Rattle.vc_lift.specs.Halves.{halves_place, line_in, AreLines, CanRun, IsBeside};
+ghost use Rattle.vc_lift.specs.Halves.{halves_place, line_in, AreLines, IsBeside};
+ghost use Rattle.vc_lift.specs.Runs.{CanChange, IsChanged};
 
 use crate::halves::{Halves, place};
 use crate::step::{Row, Step, step_at, steps};
@@ -72,21 +73,8 @@ fn changed_by(adds: bool, sample: i32, change: i32) -> i32
 // Makes the step on so many cells that stand side by side, from sample number n of the first line on.
 #[inline(always)]
 fn change_cells(cells: &mut [i32], halves: &Halves, step: &Step, n: usize, width: usize)
-    requires plain { IsPlain (counted_of step.now) }
-    requires small { halves.now.half < 2 ^ 60 }
-    requires at { n < halves.now.half }
-    requires run { CanRun (counted_of step.now) halves.now n width (length cells.old) }
-    requires room { (x : ℕ) → x < width
-        → HasRangeAt (2 ^ 31) (counted_of step.now) halves.now.half
-        (line_in halves.now cells.old x) n }
-    ensures on { (x : ℕ) → x < width
-        → line_of cells.new (halves_place halves.now (2 * n + step.now.parity) + x)
-        ≡ changed_by step.now.adds
-        (line_of cells.old (halves_place halves.now (2 * n + step.now.parity) + x))
-        (change_at (counted_of step.now) halves.now.half (line_in halves.now cells.old x) n) }
-    ensures off { (i : ℕ) → (i < halves_place halves.now (2 * n + step.now.parity))
-        ⊎ (halves_place halves.now (2 * n + step.now.parity) + width ≤ i)
-        → line_of cells.new i ≡ line_of cells.old i }
+    requires { CanChange (counted_of step.now) halves.now n width cells.old }
+    ensures { IsChanged (counted_of step.now) halves.now n width cells.old cells.new }
 {
     let at = place(halves, step.parity, n);
     for x in 0..width {
@@ -143,21 +131,8 @@ fn taking_off<'a>(step: &Step<'a>) -> Step<'a>
 // Makes the step on so many cells, by a loop for its sign.
 #[inline(always)]
 fn change_signed(cells: &mut [i32], halves: &Halves, step: &Step, n: usize, width: usize)
-    requires plain { IsPlain (counted_of step.now) }
-    requires small { halves.now.half < 2 ^ 60 }
-    requires at { n < halves.now.half }
-    requires run { CanRun (counted_of step.now) halves.now n width (length cells.old) }
-    requires room { (x : ℕ) → x < width
-        → HasRangeAt (2 ^ 31) (counted_of step.now) halves.now.half
-        (line_in halves.now cells.old x) n }
-    ensures on { (x : ℕ) → x < width
-        → line_of cells.new (halves_place halves.now (2 * n + step.now.parity) + x)
-        ≡ changed_by step.now.adds
-        (line_of cells.old (halves_place halves.now (2 * n + step.now.parity) + x))
-        (change_at (counted_of step.now) halves.now.half (line_in halves.now cells.old x) n) }
-    ensures off { (i : ℕ) → (i < halves_place halves.now (2 * n + step.now.parity))
-        ⊎ (halves_place halves.now (2 * n + step.now.parity) + width ≤ i)
-        → line_of cells.new i ≡ line_of cells.old i }
+    requires { CanChange (counted_of step.now) halves.now n width cells.old }
+    ensures { IsChanged (counted_of step.now) halves.now n width cells.old cells.new }
 {
     if step.adds {
         change_cells(cells, halves, &adding(step), n, width);
@@ -169,21 +144,8 @@ fn change_signed(cells: &mut [i32], halves: &Halves, step: &Step, n: usize, widt
 // The same, with a loop of its own for the taps of the wavelets 5 and 6: eight of them, or one weight for two samples.
 #[inline(always)]
 fn change_weighted(cells: &mut [i32], halves: &Halves, step: &Step, n: usize, width: usize)
-    requires plain { IsPlain (counted_of step.now) }
-    requires small { halves.now.half < 2 ^ 60 }
-    requires at { n < halves.now.half }
-    requires run { CanRun (counted_of step.now) halves.now n width (length cells.old) }
-    requires room { (x : ℕ) → x < width
-        → HasRangeAt (2 ^ 31) (counted_of step.now) halves.now.half
-        (line_in halves.now cells.old x) n }
-    ensures on { (x : ℕ) → x < width
-        → line_of cells.new (halves_place halves.now (2 * n + step.now.parity) + x)
-        ≡ changed_by step.now.adds
-        (line_of cells.old (halves_place halves.now (2 * n + step.now.parity) + x))
-        (change_at (counted_of step.now) halves.now.half (line_in halves.now cells.old x) n) }
-    ensures off { (i : ℕ) → (i < halves_place halves.now (2 * n + step.now.parity))
-        ⊎ (halves_place halves.now (2 * n + step.now.parity) + width ≤ i)
-        → line_of cells.new i ≡ line_of cells.old i }
+    requires { CanChange (counted_of step.now) halves.now n width cells.old }
+    ensures { IsChanged (counted_of step.now) halves.now n width cells.old cells.new }
 {
     let first = if step.taps.is_empty() {
         0
@@ -208,21 +170,8 @@ fn change_weighted(cells: &mut [i32], halves: &Halves, step: &Step, n: usize, wi
 // in one, the compiler would ask whether any row lies over another.
 #[inline(never)]
 fn change_run(cells: &mut [i32], halves: &Halves, step: &Step, n: usize, width: usize)
-    requires plain { IsPlain (counted_of step.now) }
-    requires small { halves.now.half < 2 ^ 60 }
-    requires at { n < halves.now.half }
-    requires run { CanRun (counted_of step.now) halves.now n width (length cells.old) }
-    requires room { (x : ℕ) → x < width
-        → HasRangeAt (2 ^ 31) (counted_of step.now) halves.now.half
-        (line_in halves.now cells.old x) n }
-    ensures on { (x : ℕ) → x < width
-        → line_of cells.new (halves_place halves.now (2 * n + step.now.parity) + x)
-        ≡ changed_by step.now.adds
-        (line_of cells.old (halves_place halves.now (2 * n + step.now.parity) + x))
-        (change_at (counted_of step.now) halves.now.half (line_in halves.now cells.old x) n) }
-    ensures off { (i : ℕ) → (i < halves_place halves.now (2 * n + step.now.parity))
-        ⊎ (halves_place halves.now (2 * n + step.now.parity) + width ≤ i)
-        → line_of cells.new i ≡ line_of cells.old i }
+    requires { CanChange (counted_of step.now) halves.now n width cells.old }
+    ensures { IsChanged (counted_of step.now) halves.now n width cells.old cells.new }
 {
     // No cell lies over these numbers, so they stay in registers.
     let halves = &Halves {

@@ -5,8 +5,7 @@ use Rattle.std.proofs.lemmas.Bool.{cases_lt}
 use Rattle.std.proofs.lemmas.Bool.Decides.{nat_tests}
 use Rattle.std.proofs.lemmas.List.{get_or_past}
 use Rattle.std.proofs.lemmas.List.Elements.{All-get_or, All-from_get_or}
-use Rattle.std.proofs.lemmas.Nat.{div-mul-add}
-use Rattle.std.proofs.Math.Nat.{mul-le-mul_right}
+use Rattle.std.proofs.Math.Nat.{mul-div_cancel, mul-le-mul_right}
 use Rattle.std.proofs.Math.Pow.{pow_pos}
 use Rattle.std.proofs.Math.Seq.{take-append_seam}
 use Rattle.vc_types.specs.Limits.{padded}
@@ -19,15 +18,12 @@ use Rattle.vc_types.specs.Transforms.{Cells, levels_across, inverse_levels, lowe
 use Rattle.vc_wave.specs.Planes.{AreBelow, plane_of}
 use Rattle.vc_wave.proofs.PlaneSteps.{plane_in, plane_out}
 
-whole_times : (q u : ℕ) → 0 < u → q * u / u ≡ q
-whole_times q u some = let sum : q * u + 0 ≡ q * u = omega arith in ap (λ n. n / u) (sym sum) ∙ div-mul-add q u 0 some
-
 whole : (q u : ℕ) → 0 < u → q * u / u * u ≡ q * u
-whole q u some = ap (λ n. n * u) (whole_times q u some)
+whole q u some = ap (λ n. n * u) (mul-div_cancel q some)
 
 some : (q u : ℕ) → 0 < u → 1 ≤ q * u → 0 < q * u / u
 some zero u more h = absurd (omega arith)
-some (suc q) u more h = rw (whole_times (suc q) u more) (omega arith)
+some (suc q) u more h = rw (mul-div_cancel (suc q) more) (omega arith)
 
 -- a padded side is a multiple of 2 ^ depth
 pub padded_whole : (side depth : ℕ) → padded side depth / 2 ^ depth * 2 ^ depth ≡ padded side depth
@@ -36,7 +32,7 @@ padded_whole side depth = whole ((side + 2 ^ depth - 1) / 2 ^ depth) (2 ^ depth)
 pub padded_some : (side depth : ℕ) → 1 ≤ padded side depth → 0 < padded side depth / 2 ^ depth
 padded_some side depth h = some ((side + 2 ^ depth - 1) / 2 ^ depth) (2 ^ depth) (pow_pos depth) h
 
-cell_in : (g : Lattice) (x y : ℕ) → x < g.width → y < g.height → cell_at g x y ≡ line_of g.cells (y * g.width + x)
+pub cell_in : (g : Lattice) (x y : ℕ) → x < g.width → y < g.height → cell_at g x y ≡ line_of g.cells (y * g.width + x)
 unfolding cell_at
 cell_in g x y h lt = grind (arith, nat_tests)
 

@@ -14,7 +14,7 @@ use Rattle.vc_wave.specs.Remade.{halves_together}
 use Rattle.vc_wave.proofs.PlaneLines.{column_in, column_out, rearranged_in, rearranged_past}
 use Rattle.vc_wave.proofs.PlaneSteps.{plane_in, plane_out}
 use Rattle.vc_wave.proofs.TransformLocality.{Agree}
-use Rattle.vc_wave.proofs.Weaving.{half_place_below, source_below, source_of-half_place, half_place-source_of}
+use Rattle.vc_wave.proofs.Weaving.{half_place_below, source_below, source_of-half_place, half_place-source_of, first_source}
 
 -- the row of a level that a cell is taken to
 unfoldable pub turned : ℕ → ℕ → ℕ → ℕ → ℕ
@@ -70,9 +70,6 @@ rows_apart (suc levels) w h x y z e =
     turned_apart w h x y z (rows_apart levels (2 * w) (2 * h) x (turned w h x y) (turned w h x z) (sym (row_step levels w h x y) ∙ e ∙ row_step levels w h x z))
 
 -- the rows of the lowest level's low subbands stand as far apart as there are rows of each
-first_source : (h y : ℕ) → y < h → source_of h y ≡ 2 * y
-first_source h y lt = grind (arith, nat_tests)
-
 pub lowest_row : (levels w h x y : ℕ) → x < w → y < h → row_in_turn levels w h x y ≡ y * 2 ^ levels
 lowest_row zero w h x y a b = row_end w h x y ∙ omega arith
 lowest_row (suc levels) w h x y a b =

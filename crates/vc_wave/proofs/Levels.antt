@@ -76,16 +76,13 @@ lowest_room p c w h stride cells block scratch narrow low room =
 
 -- ---- one level more
 
-one_more : (d : ℕ) → d + 1 ≡ suc d
-one_more d = add-one d
-
 pub no_across : (wavelet w h : ℕ) (c : Cells) → c ≡ levels_across wavelet 0 w h c
 unfolding levels_across
 no_across wavelet w h c = λ i. c
 
 pub next_across : (wavelet e w h : ℕ) (c now made : Cells) → now ≡ levels_across wavelet e w h c → made ≡ level_across wavelet (w * 2 ^ e) h now → made ≡ levels_across wavelet (e + 1) w h c
 unfolding levels_across
-next_across wavelet e w h c now made so_far is = is ∙ ap (level_across wavelet (w * 2 ^ e) h) so_far ∙ ap (λ n. levels_across wavelet n w h c) (sym (one_more e))
+next_across wavelet e w h c now made so_far is = is ∙ ap (level_across wavelet (w * 2 ^ e) h) so_far ∙ ap (λ n. levels_across wavelet n w h c) (sym (add-one e))
 
 pub no_levels : (vertical horizontal w h : ℕ) (c : Cells) → c ≡ inverse_levels vertical horizontal 0 w h c
 unfolding inverse_levels
@@ -93,7 +90,7 @@ no_levels vertical horizontal w h c = λ i. c
 
 pub next_level : (vertical horizontal d w h : ℕ) (c now made : Cells) → now ≡ inverse_levels vertical horizontal d w h c → made ≡ inverse_level vertical horizontal (w * 2 ^ d) (h * 2 ^ d) now → made ≡ inverse_levels vertical horizontal (d + 1) w h c
 unfolding inverse_levels
-next_level vertical horizontal d w h c now made so_far is = is ∙ ap (inverse_level vertical horizontal (w * 2 ^ d) (h * 2 ^ d)) so_far ∙ ap (λ n. inverse_levels vertical horizontal n w h c) (sym (one_more d))
+next_level vertical horizontal d w h c now made so_far is = is ∙ ap (inverse_level vertical horizontal (w * 2 ^ d) (h * 2 ^ d)) so_far ∙ ap (λ n. inverse_levels vertical horizontal n w h c) (sym (add-one d))
 
 pub no_forward : (wavelet w h : ℕ) (c : Cells) → forward_levels wavelet 0 w h c ≡ c
 unfolding forward_levels
@@ -102,4 +99,4 @@ no_forward wavelet w h c = λ i. c
 -- where so many levels are left
 pub next_forward : (wavelet left w h : ℕ) (now made whole : Cells) → made ≡ forward_level wavelet (w * 2 ^ left) (h * 2 ^ left) now → forward_levels wavelet (left + 1) w h now ≡ whole → forward_levels wavelet left w h made ≡ whole
 unfolding forward_levels
-next_forward wavelet left w h now made whole is so_far = ap (forward_levels wavelet left w h) is ∙ ap (λ n. forward_levels wavelet n w h now) (sym (one_more left)) ∙ so_far
+next_forward wavelet left w h now made whole is so_far = ap (forward_levels wavelet left w h) is ∙ ap (λ n. forward_levels wavelet n w h now) (sym (add-one left)) ∙ so_far

@@ -59,7 +59,7 @@ pub record RowsMade (wavelet most after : ℕ) : Type 0 where
   pub room : is_shifted wavelet ≡ true → made + 1 < 2 ^ 31
   pub last : shifted_bound wavelet most made ≡ Some after
 
-room_of : (shifted below : Bool) (n m after : ℕ) → (if shifted then (if below then Some n else None) else Some m) ≡ Some after → shifted ≡ true → below ≡ true
+pub room_of : (shifted below : Bool) (n m after : ℕ) → (if shifted then (if below then Some n else None) else Some m) ≡ Some after → shifted ≡ true → below ≡ true
 room_of true true n m after e h = refl
 room_of true false n m after e h = grind (arith, nat_tests)
 room_of false below n m after e h = grind (arith, nat_tests)

@@ -1,5 +1,5 @@
 -- Rows that are doubled and taken apart in place.
-use Rattle.std.proofs.Common.{◌≡◌, ◌≢◌, ℕ, ◌+◌, ◌-◌, ◌*◌, ◌/◌, ◌%◌, ◌^◌, ◌<◌, ◌≤◌, ◌⊎◌, inl, inr, List, length, set, ℤ, pos, ◌*ℤ◌, unsigned_abs, arith, ap, sym, subst, refl, ◌∙◌, Bool, true, false, Some, None}
+use Rattle.std.proofs.Common.{◌≡◌, ◌≢◌, ℕ, ◌+◌, ◌-◌, ◌*◌, ◌/◌, ◌%◌, ◌^◌, ◌<◌, ◌≤◌, ◌⊎◌, inl, inr, List, length, set, ℤ, pos, ◌*ℤ◌, unsigned_abs, arith, ap, sym, subst, ◌∙◌, Bool, true, false, Some, None}
 use Rattle.std.specs.Prelude.{if◌then◌else◌, nat_lt}
 use Rattle.std.proofs.lemmas.Bool.{cases_lt, cases_eq}
 use Rattle.std.proofs.lemmas.Bool.Decides.{nat_tests}
@@ -19,7 +19,7 @@ use Rattle.vc_wave.specs.Lines.{IsMade, IsApart, line_at}
 use Rattle.vc_wave.specs.NarrowBounds.{RowHasBound}
 use Rattle.vc_wave.specs.Remade.{remade, parted, on_samples}
 use Rattle.vc_wave.proofs.Copies.{on_samples_in}
-use Rattle.vc_wave.proofs.NarrowRows.{row_halves, row_lines, row_place, row_at}
+use Rattle.vc_wave.proofs.NarrowRows.{room_of, row_halves, row_lines, row_place, row_at}
 use Rattle.vc_wave.proofs.PlaneLines.{rearranged_in, row_in, row_out}
 use Rattle.vc_wave.proofs.Weaving.{half_place_below, source_below, half_place-source_of, remade_past}
 
@@ -64,11 +64,6 @@ unfolding parted_rows_bound
 rows_parted wavelet most after fits =
     option_and_then_some (λ (twice : ℕ). narrow_analysis_bound wavelet twice) (doubled_bound wavelet most) after fits
     (λ twice is last. record { twice = twice; doubled = is; analysed = last })
-
-room_of : (shifted below : Bool) (n m after : ℕ) → (if shifted then (if below then Some n else None) else Some m) ≡ Some after → shifted ≡ true → below ≡ true
-room_of true true n m after e h = refl
-room_of true false n m after e h = grind (arith, nat_tests)
-room_of false below n m after e h = grind (arith, nat_tests)
 
 readied_at_most : (shifted below : Bool) (most twice : ℕ) (z : ℤ) → (if shifted then (if below then Some (2 * most) else None) else Some most) ≡ Some twice → unsigned_abs z ≤ most → unsigned_abs (if shifted then doubled z else z) ≤ twice
 readied_at_most true true most twice z e h = (let is : 2 * most ≡ twice = grind (arith, nat_tests) in omega (arith, ints, is, h))

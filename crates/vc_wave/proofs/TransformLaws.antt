@@ -11,7 +11,7 @@ use Rattle.vc_types.specs.Subbands.{plane_width, plane_height, plane_depth}
 use Rattle.vc_types.specs.TransformParameters.{Parameters, is_symmetric}
 use Rattle.vc_types.specs.Transforms.{Cells, is_within, interleaved, deinterleaved, source_of, on_columns, on_rows, on_cells, halved, doubled, inverse_level, forward_level, inverse_levels, forward_levels, levels_across, lowest_width, lowest_height, inverse_transform, padded_plane, forward_transform, half_place}
 use Rattle.vc_types.specs.Wavelets.{is_shifted, synthesised, analysed}
-use Rattle.vc_lift.proofs.LineLaws.{synthesis_undoes_analysis}
+use Rattle.vc_lift.proofs.LineLaws.{undone_lines}
 use Rattle.vc_wave.proofs.PlaneLines.{on_columns-on_columns, on_rows-on_rows, on_columns-same, on_rows-same}
 use Rattle.vc_wave.proofs.Weaving.{half_place_below, source_of-half_place}
 
@@ -77,9 +77,6 @@ cells_back : (wanted : Bool) (w h : ℕ) (c : Cells) → on_cells halved wanted 
 unfolding on_cells
 cells_back wanted w h c = fun_ext (λ x. fun_ext (λ y. cell_back (wanted && is_within w h x y) (c x y)))
 
-lines_back : (wavelet half : ℕ) (l : ℕ → ℤ) → synthesised wavelet (2 * half) (analysed wavelet (2 * half) l) ≡ l
-lines_back wavelet half l = synthesis_undoes_analysis wavelet (2 * half) l (omega arith)
-
 pub inverse_level-forward_level : (wavelet w h : ℕ) (c : Cells) → inverse_level wavelet wavelet w h (forward_level wavelet w h c) ≡ c
 unfolding inverse_level forward_level
 inverse_level-forward_level wavelet w h c =
@@ -89,8 +86,8 @@ inverse_level-forward_level wavelet w h c =
     let rows = on_rows (analysed wavelet (2 * w)) (2 * h) cells in
     let columns = on_columns (analysed wavelet (2 * h)) (2 * w) rows in
     ap (λ p. on_cells halved (is_shifted wavelet) (2 * w) (2 * h) (on_rows across (2 * h) (on_columns down (2 * w) p))) (interleaved-deinterleaved w h columns)
-    ∙ ap (λ p. on_cells halved (is_shifted wavelet) (2 * w) (2 * h) (on_rows across (2 * h) p)) (on_columns-on_columns down (analysed wavelet (2 * h)) (2 * w) rows ∙ on_columns-same _ (2 * w) rows (lines_back wavelet h))
-    ∙ ap (on_cells halved (is_shifted wavelet) (2 * w) (2 * h)) (on_rows-on_rows across (analysed wavelet (2 * w)) (2 * h) cells ∙ on_rows-same _ (2 * h) cells (lines_back wavelet w))
+    ∙ ap (λ p. on_cells halved (is_shifted wavelet) (2 * w) (2 * h) (on_rows across (2 * h) p)) (on_columns-on_columns down (analysed wavelet (2 * h)) (2 * w) rows ∙ on_columns-same _ (2 * w) rows (undone_lines wavelet h))
+    ∙ ap (on_cells halved (is_shifted wavelet) (2 * w) (2 * h)) (on_rows-on_rows across (analysed wavelet (2 * w)) (2 * h) cells ∙ on_rows-same _ (2 * h) cells (undone_lines wavelet w))
     ∙ cells_back (is_shifted wavelet) (2 * w) (2 * h) c
 
 pub inverse_levels-forward_levels : (wavelet d w h : ℕ) (c : Cells) → inverse_levels wavelet wavelet d w h (forward_levels wavelet d w h c) ≡ c

@@ -25,7 +25,7 @@ half_place_below half k h = elim (cases_eq (k % 2) 0) [
 pub source_below : (half : ℕ) → StaysBelow (2 * half) (source_of half)
 source_below half k h = grind (arith, nat_tests)
 
-first_source : (half k : ℕ) → k < half → source_of half k ≡ 2 * k
+pub first_source : (half k : ℕ) → k < half → source_of half k ≡ 2 * k
 first_source half k h = grind (arith, nat_tests)
 
 second_source : (half k : ℕ) → half ≤ k → source_of half k ≡ 2 * (k - half) + 1
@@ -107,6 +107,10 @@ analysis_reads wavelet half l m e = analysis_is_local wavelet (2 * half) l m (tw
 -- ---- four quarters, by direction
 
 module _ (n m : ℕ) (across down : ℕ → ℕ) (stays : StaysBelow n across) (c : Cells) where
+  outside : (x y : ℕ) → (n ≤ x) ⊎ (m ≤ y) → (if nat_lt x n && nat_lt y m then c (across x) (down y) else c x y) ≡ c x y
+  outside x y (inl h) = grind (arith, nat_tests)
+  outside x y (inr h) = grind (arith, nat_tests)
+
   quarters_at : (x y : ℕ) → (x < n) ⊎ (n ≤ x) → (y < m) ⊎ (m ≤ y) → (if nat_lt x n && nat_lt y m then c (across x) (down y) else c x y) ≡ on_rows (rearranged n across) m (on_columns (rearranged m down) n c) x y
   quarters_at x y (inl h) (inl lt) =
       inside ∙ sym (row_in (rearranged n across) m (on_columns (rearranged m down) n c) x y lt ∙ rearranged_in n across (λ k. on_columns (rearranged m down) n c k y) x h ∙ column_in (rearranged m down) n c (across x) y (stays x h) ∙ rearranged_in m down (λ k. c (across x) k) y lt)
@@ -114,20 +118,11 @@ module _ (n m : ℕ) (across down : ℕ → ℕ) (stays : StaysBelow n across) (
       inside : (if nat_lt x n && nat_lt y m then c (across x) (down y) else c x y) ≡ c (across x) (down y)
       inside = grind (arith, nat_tests)
   quarters_at x y (inr h) (inl lt) =
-      outside ∙ sym (row_in (rearranged n across) m (on_columns (rearranged m down) n c) x y lt ∙ rearranged_past n across (λ k. on_columns (rearranged m down) n c k y) x h ∙ column_out (rearranged m down) n c x y h)
-    where
-      outside : (if nat_lt x n && nat_lt y m then c (across x) (down y) else c x y) ≡ c x y
-      outside = grind (arith, nat_tests)
+      outside x y (inl h) ∙ sym (row_in (rearranged n across) m (on_columns (rearranged m down) n c) x y lt ∙ rearranged_past n across (λ k. on_columns (rearranged m down) n c k y) x h ∙ column_out (rearranged m down) n c x y h)
   quarters_at x y (inl h) (inr ge) =
-      outside ∙ sym (row_out (rearranged n across) m (on_columns (rearranged m down) n c) x y ge ∙ column_in (rearranged m down) n c x y h ∙ rearranged_past m down (λ k. c x k) y ge)
-    where
-      outside : (if nat_lt x n && nat_lt y m then c (across x) (down y) else c x y) ≡ c x y
-      outside = grind (arith, nat_tests)
+      outside x y (inr ge) ∙ sym (row_out (rearranged n across) m (on_columns (rearranged m down) n c) x y ge ∙ column_in (rearranged m down) n c x y h ∙ rearranged_past m down (λ k. c x k) y ge)
   quarters_at x y (inr h) (inr ge) =
-      outside ∙ sym (row_out (rearranged n across) m (on_columns (rearranged m down) n c) x y ge ∙ column_out (rearranged m down) n c x y h)
-    where
-      outside : (if nat_lt x n && nat_lt y m then c (across x) (down y) else c x y) ≡ c x y
-      outside = grind (arith, nat_tests)
+      outside x y (inr ge) ∙ sym (row_out (rearranged n across) m (on_columns (rearranged m down) n c) x y ge ∙ column_out (rearranged m down) n c x y h)
 
   quarters : (λ x y. if nat_lt x n && nat_lt y m then c (across x) (down y) else c x y) ≡ on_rows (rearranged n across) m (on_columns (rearranged m down) n c)
   quarters = fun_ext (λ x. fun_ext (λ y. quarters_at x y (cases_lt x n) (cases_lt y m)))

@@ -1,6 +1,7 @@
 use Rattle.std.proofs.Common.{◌≡◌, ◌+◌, ◌-◌, ◌/◌, ◌^◌, ◌<◌, ◌++◌, refl, ap, ◌∙◌, arith, Bool, false, List, [], ◌∷◌}
+use Rattle.std.proofs.lemmas.Result.{on_ok_weaker, on_err_weaker}
 use Rattle.vc_types.specs.Codes.{spread_digits}
-use Rattle.vc_golomb.proofs.WrittenCodes.{first, some_above, none_yet, front_at, front_within, pair_more, whole_code, on_err, on_err_too, on_ok}
+use Rattle.vc_golomb.proofs.WrittenCodes.{first, some_above, none_yet, front_at, front_within, pair_more, whole_code, on_err}
 use Rattle.vc_golomb.proofs.write.write_uint.Goals as goal
 
 pub digits-init : goal.digits-init
@@ -34,7 +35,7 @@ returns-in_err-bit-2-clause-front c =
     on_err c.from_residual-in_err-bit-2.result _ (front_within c.args.v (c.digits.place - 1) c.args.w.now c.bit-in-digits.new.self some (c.in_err-bit-2.ensures.err ∙ c.in_ok-bit.ensures.ok ∙ ap (λ (bits : List Bool). bits ++ false ∷ []) wrote))
 
 pub returns-clause-ok : goal.returns-clause-ok
-returns-clause-ok c = on_ok c.bit-2.result _ _ c.bit-2.ensures.ok (whole_code c.args.v c.digits.place c.args.w.now _ _ (omega arith) c.digits.invariant.wrote)
+returns-clause-ok c = on_ok_weaker c.bit-2.result (whole_code c.args.v c.digits.place c.args.w.now _ _ (omega arith) c.digits.invariant.wrote) c.bit-2.ensures.ok
 
 pub returns-clause-front : goal.returns-clause-front
-returns-clause-front c = on_err_too c.bit-2.result _ _ c.bit-2.ensures.err (λ same. front_at c.args.v c.digits.place c.args.w.now _ c.digits.invariant.some (same ∙ c.digits.invariant.wrote))
+returns-clause-front c = on_err_weaker c.bit-2.result (λ same. front_at c.args.v c.digits.place c.args.w.now _ c.digits.invariant.some (same ∙ c.digits.invariant.wrote)) c.bit-2.ensures.err

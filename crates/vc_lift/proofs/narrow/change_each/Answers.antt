@@ -12,15 +12,17 @@ loop-n-init c = record {
   off = λ i none j. line_of c.args.cells.now i;
 }
 
-pub change_run-requires-clause-run : goal.change_run-requires-clause-run
-change_run-requires-clause-run c =
-    subst (λ n. CanRun (counted_of c.args.step.now) c.args.halves.now c.loop-n.n c.args.width n) (sym c.loop-n.auto.cells)
-    (number_run (counted_of c.args.step.now) c.args.halves.now c.loop-n.n c.args.width (length c.args.cells.now) c.requires.plain.parity (omega arith) c.requires.lines)
-
-pub change_run-requires-clause-room : goal.change_run-requires-clause-room
-change_run-requires-clause-room c = λ x h.
-    room_left (counted_of c.args.step.now) c.args.halves.now.half c.args.lo c.loop-n.n c.args.hi (line_in c.args.halves.now c.args.cells.now x) (line_in c.args.halves.now c.loop-n.cells x) c.requires.lines.some c.requires.plain.parity c.loop-n.auto.n (omega arith)
-    (λ k lt. c.loop-n.invariant.on x k h lt) (2 ^ 31) c.loop-n.n (omega arith) (omega arith) (c.requires.room x c.loop-n.n h c.loop-n.auto.n c.loop-n-test.true)
+pub change_run-requires : goal.change_run-requires
+change_run-requires c = record {
+  plain = c.requires.plain;
+  small = c.requires.lines.small;
+  at = omega arith;
+  run = subst (λ n. CanRun (counted_of c.args.step.now) c.args.halves.now c.loop-n.n c.args.width n) (sym c.loop-n.auto.cells)
+      (number_run (counted_of c.args.step.now) c.args.halves.now c.loop-n.n c.args.width (length c.args.cells.now) c.requires.plain.parity (omega arith) c.requires.lines);
+  room = λ x h.
+      room_left (counted_of c.args.step.now) c.args.halves.now.half c.args.lo c.loop-n.n c.args.hi (line_in c.args.halves.now c.args.cells.now x) (line_in c.args.halves.now c.loop-n.cells x) c.requires.lines.some c.requires.plain.parity c.loop-n.auto.n (omega arith)
+      (λ k lt. c.loop-n.invariant.on x k h lt) (2 ^ 31) c.loop-n.n (omega arith) (omega arith) (c.requires.room x c.loop-n.n h c.loop-n.auto.n c.loop-n-test.true);
+}
 
 pub loop-n-preserved : goal.loop-n-preserved
 loop-n-preserved c =

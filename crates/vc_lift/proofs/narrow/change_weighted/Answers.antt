@@ -1,8 +1,7 @@
-use Rattle.std.proofs.Common.{◌^◌, sym, subst}
+use Rattle.std.proofs.Common.{sym, subst}
 use Rattle.std.proofs.lemmas.Bool.Decides.{Decides-int_eq}
 use Rattle.std.proofs.lemmas.Slice.Eq.{slice_eq-Decides}
-use Rattle.vc_lift.specs.Halves.{line_in}
-use Rattle.vc_lift.specs.Ranges.{HasRangeAt}
+use Rattle.vc_lift.specs.Runs.{CanChange}
 use Rattle.vc_lift.proofs.narrow.change_weighted.Goals as goal
 
 pub with_taps-requires : goal.with_taps-requires
@@ -14,11 +13,11 @@ with_taps-requires-then-eq-2 c = (slice_eq-Decides Decides-int_eq c.args.step.no
 pub with_taps-requires-then-eq-3 : goal.with_taps-requires-then-eq-3
 with_taps-requires-then-eq-3 c = (slice_eq-Decides Decides-int_eq c.args.step.now.taps.now _ c.eq-else-eq-2.result c.eq-else-eq-2.ensures).0 c.if-eq-3.true
 
-pub change_signed-requires-clause-room : goal.change_signed-requires-clause-room
-change_signed-requires-clause-room c = λ x h. subst (λ s. HasRangeAt (2 ^ 31) s c.args.halves.now.half (line_in c.args.halves.now c.args.cells.now x) c.args.n) (sym c.with_taps.ensures) (c.requires.room x h)
+pub change_signed-requires : goal.change_signed-requires
+change_signed-requires c = subst (λ s. CanChange s c.args.halves.now c.args.n c.args.width c.args.cells.now) (sym c.with_taps.ensures) c.requires
 
-pub change_signed-requires-then-eq-2-clause-room : goal.change_signed-requires-then-eq-2-clause-room
-change_signed-requires-then-eq-2-clause-room c = λ x h. subst (λ s. HasRangeAt (2 ^ 31) s c.args.halves.now.half (line_in c.args.halves.now c.args.cells.now x) c.args.n) (sym c.with_taps-then-eq-2.ensures) (c.requires.room x h)
+pub change_signed-requires-then-eq-2 : goal.change_signed-requires-then-eq-2
+change_signed-requires-then-eq-2 c = subst (λ s. CanChange s c.args.halves.now c.args.n c.args.width c.args.cells.now) (sym c.with_taps-then-eq-2.ensures) c.requires
 
-pub change_signed-requires-then-eq-3-clause-room : goal.change_signed-requires-then-eq-3-clause-room
-change_signed-requires-then-eq-3-clause-room c = λ x h. subst (λ s. HasRangeAt (2 ^ 31) s c.args.halves.now.half (line_in c.args.halves.now c.args.cells.now x) c.args.n) (sym c.with_taps-then-eq-3.ensures) (c.requires.room x h)
+pub change_signed-requires-then-eq-3 : goal.change_signed-requires-then-eq-3
+change_signed-requires-then-eq-3 c = subst (λ s. CanChange s c.args.halves.now c.args.n c.args.width c.args.cells.now) (sym c.with_taps-then-eq-3.ensures) c.requires
