@@ -1,6 +1,5 @@
 -- What went out of the frames that were generated so far.
-use Rattle.std.proofs.Common.{◌≡◌, ◌<◌, ℕ, suc, ◌+◌, ◌*◌, ◌-◌, Bool, true, false, List, [], ◌∷◌, ◌++◌, Option, Ok, Err, refl, sym, ap, subst, ◌∙◌, arith}
-use Rattle.std.specs.Prelude.{Result}
+use Rattle.std.proofs.Common.{◌≡◌, ◌<◌, ℕ, suc, ◌+◌, ◌*◌, ◌-◌, Bool, List, [], ◌∷◌, ◌++◌, Option, Err, sym, ap, subst, ◌∙◌, arith}
 use Rattle.std.proofs.lemmas.Grind.{flat_map-append}
 use Rattle.std.proofs.lemmas.List.{append-nil}
 use Rattle.gen_command.specs.Generating.{GenerateEnded, generated_bytes, raw_bytes_of_frames}
@@ -10,7 +9,6 @@ use Rattle.link_gen.specs.Defaults.{shape_of_frames}
 use Rattle.link_gen.specs.Generator.{frame_samples, generated_frame, generated_frames, state_behind}
 use Rattle.link_report.specs.declared.ending.Ending.{Ending}
 use Rattle.link_report.specs.declared.ending.Ending.TheVariants as endings
-use Rattle.link_report.specs.declared.summary.Summary.{Summary}
 use Rattle.vc_ports.proofs.Growing.{Grew-none, Grew-then, GrewBySome-then, GrewBySome-front}
 use Rattle.vc_ports.specs.Changes.{OutputChange}
 use Rattle.vc_ports.specs.Writing.{Grew, GrewBySome}
