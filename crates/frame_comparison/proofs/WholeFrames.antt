@@ -8,6 +8,7 @@ use Rattle.frame_comparison.proofs.Counting.{same_samples}
 use Rattle.frame_comparison.proofs.RawSamples.{frames_raw}
 use Rattle.frame_comparison.proofs.SampleBits.{few_luma_bits, same_depth}
 use Rattle.frame_reader.specs.FrameBytes.{samples_of_bytes}
+use Rattle.frame_writer.proofs.SampleBytes.{samples_bytes-narrow}
 use Rattle.gen_command.specs.Generating.{generated_bytes, raw_bytes_of_frames}
 use Rattle.link_gen.proofs.States.{samples_below}
 use Rattle.link_gen.specs.Defaults.{all_generated, shape_of_frames}
@@ -30,14 +31,9 @@ wide_back (sample ∷ samples) all =
     ap (λ (s : ℕ). s ∷ samples_of_bytes true (samples_bytes true samples)) (whole_again sample (All-head (λ s. s < 65536) sample samples all))
     ∙ ap (λ (rest : List ℕ). sample ∷ rest) (wide_back samples (All-tail (λ s. s < 65536) sample samples all))
 
-narrow_bytes : (samples : List ℕ) → samples_bytes false samples ≡ samples
-unfolding sample_bytes
-narrow_bytes [] = refl
-narrow_bytes (sample ∷ samples) = ap (λ (rest : List ℕ). sample ∷ rest) (narrow_bytes samples)
-
 narrow_back : (samples : List ℕ) → samples_of_bytes false (samples_bytes false samples) ≡ samples
 unfolding samples_of_bytes
-narrow_back samples = narrow_bytes samples
+narrow_back samples = samples_bytes-narrow samples
 
 back : (two : Bool) (samples : List ℕ) → All (λ sample. sample < 65536) samples → samples_of_bytes two (samples_bytes two samples) ≡ samples
 back true samples all = wide_back samples all

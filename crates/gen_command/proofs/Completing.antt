@@ -18,16 +18,7 @@ module _ (g : Generating) (output : OutputChange) (sound : HasRisen output.fault
   by_ending : (ending : Ending) → GenerateEnded g (Err ending) output → (ending ≡ endings.OutputFailed → ⊥) → Came (Err ending)
   by_ending endings.NoMemory ended wrote = inr refl
   by_ending endings.OutputFailed ended wrote = absurd (wrote refl)
-  by_ending endings.InputFailed ended wrote = absurd ended
-  by_ending (endings.RawCut number) ended wrote = absurd ended
-  by_ending (endings.SampleTooLarge place plane value) ended wrote = absurd ended
-  by_ending (endings.SliceTooLarge slice bytes) ended wrote = absurd ended
-  by_ending (endings.FrameLimit limit) ended wrote = absurd ended
-  by_ending (endings.Usage place) ended wrote = absurd ended
-  by_ending endings.WireFailed ended wrote = absurd ended
-  by_ending (endings.CaptureCut place) ended wrote = absurd ended
-  by_ending (endings.PacketLimit limit) ended wrote = absurd ended
-  by_ending (endings.StreamBad place) ended wrote = absurd ended
+  by_ending ending ended wrote = absurd ended
 
   pub generate_completes : (answer : Result Summary Ending) → Generates g answer output → IsOk answer ⊎ (answer ≡ Err endings.NoMemory)
   generate_completes (Ok summary) e = inl refl

@@ -1,7 +1,5 @@
 -- What went out of the frames that were generated so far.
-use Rattle.std.proofs.Common.{◌≡◌, ◌<◌, ℕ, suc, ◌+◌, ◌*◌, ◌-◌, Bool, true, false, List, [], ◌∷◌, ◌++◌, Option, Ok, Err, refl, sym, ap, subst, ◌∙◌, arith}
-use Rattle.std.specs.Prelude.{Result}
-use Rattle.std.specs.Result.{IsOk}
+use Rattle.std.proofs.Common.{◌≡◌, ◌<◌, ℕ, suc, ◌+◌, ◌*◌, ◌-◌, Bool, List, [], ◌∷◌, ◌++◌, Option, Err, sym, ap, subst, ◌∙◌, arith}
 use Rattle.std.proofs.lemmas.Grind.{flat_map-append}
 use Rattle.std.proofs.lemmas.List.{append-nil}
 use Rattle.gen_command.specs.Generating.{GenerateEnded, generated_bytes, raw_bytes_of_frames}
@@ -11,7 +9,6 @@ use Rattle.link_gen.specs.Defaults.{shape_of_frames}
 use Rattle.link_gen.specs.Generator.{frame_samples, generated_frame, generated_frames, state_behind}
 use Rattle.link_report.specs.declared.ending.Ending.{Ending}
 use Rattle.link_report.specs.declared.ending.Ending.TheVariants as endings
-use Rattle.link_report.specs.declared.summary.Summary.{Summary}
 use Rattle.vc_ports.proofs.Growing.{Grew-none, Grew-then, GrewBySome-then, GrewBySome-front}
 use Rattle.vc_ports.specs.Changes.{OutputChange}
 use Rattle.vc_ports.specs.Writing.{Grew, GrewBySome}
@@ -73,26 +70,6 @@ module _ (g : Generating) (k state : ℕ) (mid : Option (List ℕ)) (output : Ou
       written_part shape g.seed k g.count _ mid _ room wrote (subst (λ (z : ℕ). GrewBySome mid output.held.after (next_bytes shape z)) at part)
 
   pub stopped : (ending : Ending) → PutsFrame (shape_of_frames g.frames) state mid output.held.after (Err ending) → GenerateEnded g (Err ending) output
-  stopped (endings.Usage place) puts = absurd puts
   stopped endings.NoMemory puts = part_out puts
-  stopped endings.InputFailed puts = absurd puts
   stopped endings.OutputFailed puts = part_out puts
-  stopped endings.WireFailed puts = absurd puts
-  stopped (endings.CaptureCut place) puts = absurd puts
-  stopped (endings.PacketLimit limit) puts = absurd puts
-  stopped (endings.RawCut number) puts = absurd puts
-  stopped (endings.SampleTooLarge place plane value) puts = absurd puts
-  stopped (endings.SliceTooLarge slice bytes) puts = absurd puts
-  stopped (endings.StreamBad place) puts = absurd puts
-  stopped (endings.FrameLimit limit) puts = absurd puts
-
--- ---- answers
-
-pub same_ending : (a b : Ending) → ◌≡◌ {A = Result Summary Ending} (Err a) (Err b) → a ≡ b
-same_ending a b same = cc
-
-false_is_true : false ≡ true → ⊥
-false_is_true p = cc
-
-pub no_failure : (summary : Summary) (ending : Ending) → ◌≡◌ {A = Result Summary Ending} (Ok summary) (Err ending) → ⊥
-no_failure summary ending same = false_is_true (subst (λ (r : Result Summary Ending). IsOk r) same refl)
+  stopped ending puts = absurd puts

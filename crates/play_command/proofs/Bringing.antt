@@ -7,6 +7,7 @@ use Rattle.vc_ports.proofs.Growing.{Grew-none}
 use Rattle.vc_types.specs.SequenceHeader.{Sequence, coded_header}
 use Rattle.vc_types.specs.declared.refusal.HeaderRefusal.{HeaderRefusal}
 use Rattle.vc_types.specs.DataUnits.{DataUnit}
+use Rattle.vc_ports.proofs.Given.{some_is}
 use Rattle.play_command.specs.declared.fault.TakeFault.{TakeFault}
 use Rattle.play_command.specs.declared.fault.TakeFault.TheVariants as faults
 use Rattle.play_command.specs.Steps.{PlayState, stream_state, shown}
@@ -145,10 +146,7 @@ same_by false k next e = absurd cc
 
 kept_agreed : (n : ℕ) (kept : Option PlayState) (header : Coded) (k : PlayState) → agreed_state kept header ≡ Some k → CountsAtMost n kept → HasAtMost (n + 1) k
 kept_agreed n kept (Err refusal) k e h = absurd cc
-kept_agreed n None (Ok read) k e h = subst (HasAtMost (n + 1)) (some_is e) (none_yet (n + 1) read.0)
-  where
-    some_is : {a b : PlayState} → Some a ≡ Some b → a ≡ b
-    some_is e = cc
+kept_agreed n None (Ok read) k e h = subst (HasAtMost (n + 1)) (some_is _ _ e) (none_yet (n + 1) read.0)
 kept_agreed n (Some was) (Ok read) k e h = subst (HasAtMost (n + 1)) (same_by (same_sequence was.sequence read.0) was k e) (kept_more n was h)
 
 pub agrees-few : (old new : Option PlayState) (header : Coded) (result : Result (Unit {0}) TakeFault) → Agrees header old new result → OnOk result ((n : ℕ) → CountsAtMost n old → CountsAtMost (n + 1) new)

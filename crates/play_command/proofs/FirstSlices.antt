@@ -1,6 +1,6 @@
 -- The first slices of a picture in a builder.
-use Rattle.std.proofs.Common.{◌≡◌, ◌≢◌, ℕ, ◌+◌, ◌<◌, ◌≤◌, Bool, true, List, [], ◌∷◌, ◌++◌, length, length-append, Some, None, arith, refl, sym, ap, subst, ◌∙◌, inl, inr, slice_set, length-set}
-use Rattle.std.specs.Prelude.{map, replicate, slice_index_or, Option}
+use Rattle.std.proofs.Common.{◌≡◌, ℕ, ◌+◌, ◌<◌, List, [], ◌∷◌, ◌++◌, length, length-append, Some, None, arith, refl, sym, ap, subst, ◌∙◌, inl, inr, length-set}
+use Rattle.std.specs.Prelude.{replicate, Option}
 use Rattle.std.specs.Option.{is_some, unwrap_or}
 use Rattle.std.proofs.lemmas.Bool.{cases_eq, cases_lt}
 use Rattle.std.proofs.lemmas.List.{ext_get_or, get_or-map, length-map, get_or_past, get_or-replicate, length-replicate, get_or-set_same, get_or-set_other, get_or_push, get_or_append_left}

@@ -5,8 +5,10 @@ pub mod Showing
 pub mod Completing
 pub mod Bringing
 pub mod SoFar
+pub mod UnitSplits
 pub mod UnitsRead
 pub mod Stopping
 pub mod Players
+pub mod Rests
 pub mod Playable
 pub mod FirstSlices

@@ -1,6 +1,6 @@
 -- How much is kept, and what is counted.
 use Rattle.std.proofs.Common.{◌≡◌, ℕ, ◌≤◌, Option, Some, None, refl, arith}
-use Rattle.std.specs.Option.{option_map, option_map_or}
+use Rattle.std.specs.Option.{option_map}
 use Rattle.link_report.specs.declared.summary.Summary.TheVariants as summaries
 use Rattle.play_command.specs.Looping.{summary_of}
 use Rattle.play_command.specs.Steps.{PlayState, stream_state}

@@ -4,6 +4,7 @@ use Rattle.std.specs.Prelude.{if◌then◌else◌, ◌==◌, option_and_then}
 use Rattle.std.specs.Option.{option_map}
 use Rattle.vc_types.specs.SequenceHeader.{coded_header}
 use Rattle.vc_types.specs.DataUnits.{DataUnit}
+use Rattle.vc_ports.proofs.Given.{some_is}
 use Rattle.play_command.specs.Stream.{Stream, StreamPicture, StreamSoFar, at_start, with_header, with_picture, picture_in, shows, takes, all_taken, units_taken, after_unit, played}
 use Rattle.play_command.specs.Taking.{Brings}
 use Rattle.play_command.proofs.Bringing.{played-header}
@@ -41,9 +42,6 @@ Grows old new = (more : List ℕ) × (played new ≡ played old ++ more)
 
 abbrev nested : Option Stream → Option (Option Stream)
 nested stream = option_map (λ next. Some next) stream
-
-some_is : {A : Type 0} (a b : A) → Some a ≡ Some b → a ≡ b
-some_is a b e = cc
 
 header-grows : (stream new found : Option Stream) (u : DataUnit) → with_header stream (coded_header u.body) ≡ found → nested found ≡ Some new → Grows stream new
 header-grows stream new None u is e = absurd cc

@@ -1,12 +1,12 @@
 -- How playing ends by a fault, behind the units that were played.
-use Rattle.std.proofs.Common.{◌≡◌, ◌≢◌, ℕ, ◌-◌, ◌<◌, Bool, true, false, List, [], ◌∷◌, ◌++◌, length, take, Option, Some, None, Ok, Err, refl, sym, ap, ◌∙◌, subst, arith, append-nil, inl, inr}
+use Rattle.std.proofs.Common.{◌≡◌, ℕ, ◌-◌, ◌<◌, Bool, true, false, List, [], ◌∷◌, ◌++◌, length, take, Option, Some, None, Ok, Err, refl, sym, ap, ◌∙◌, subst, arith, append-nil, inl, inr}
 use Rattle.std.specs.Prelude.{Result, ◌⊎◌}
 use Rattle.link_report.specs.declared.ending.Ending.{Ending}
 use Rattle.link_report.specs.declared.ending.Ending.TheVariants.{NoMemory, InputFailed, OutputFailed, PacketLimit, StreamBad}
 use Rattle.link_report.specs.declared.summary.Summary.{Summary}
 use Rattle.link_report.specs.declared.summary.Summary.TheVariants as summaries
 use Rattle.vc_ports.specs.Changes.{InputChange, OutputChange, HasRisen}
-use Rattle.vc_ports.specs.Reading.{Gave, IsAtEnd}
+use Rattle.vc_ports.specs.Reading.{Gave}
 use Rattle.vc_ports.specs.Writing.{Grew, GrewBySome}
 use Rattle.vc_ports.proofs.Given.{Gave-then}
 use Rattle.vc_ports.proofs.Growing.{GrewBySome-all, GrewBySome-then, GrewBySome-front}
@@ -26,7 +26,7 @@ use Rattle.play_command.specs.Steps.{PlayState}
 use Rattle.play_command.specs.Stream.{StreamSoFar, Stream, units_taken, takes, after_unit, played, pictures_in, frames_in, unpaired_in}
 use Rattle.play_command.specs.Taking.{Brings, Brought}
 use Rattle.play_command.proofs.SoFar.{so_far-taken, so_far-refused, taken-grows}
-use Rattle.play_command.proofs.UnitsRead.{no_units, one_unit}
+use Rattle.play_command.proofs.UnitSplits.{no_units, one_unit}
 
 abbrev Units : Type 0
 Units = List DataUnit × List ℕ
@@ -45,7 +45,7 @@ module _ (packets number : ℕ) (input : InputChange) (output : OutputChange) (m
 
   -- the units as they were played, before a rest
   before_rest : (fault : UnitFault) (rest : List ℕ) → data_unit rest ≡ Err fault → units_within packets (at.given ++ rest) ≡ (at.units, rest)
-  before_rest fault rest refused = no_units packets number input.left.before mid output.held.before held_mid h at rest (units_within-refused (packets - number) rest fault refused)
+  before_rest fault rest refused = no_units packets number at.given at.units at.split rest (units_within-refused (packets - number) rest fault refused)
 
   accepted : (units_taken at.units).1 ≡ false
   accepted = ap (λ (x : StreamSoFar × Bool). x.1) at.so_far
@@ -102,7 +102,7 @@ module _ (packets number : ℕ) (input : InputChange) (output : OutputChange) (m
 
   module _ (room : number < packets) (u : DataUnit) (gave : GaveUnit mid input.left.after u) where
     with_one : (answer : Result Summary Ending) → PlayEnded packets answer input output (split (at.units ++ u ∷ [], [])) → PlayStops packets answer input output
-    with_one answer ended = stopped answer gave.bytes (at.units ++ u ∷ [], []) gave.gave (one_unit packets number input.left.before mid output.held.before held_mid h at room input.left.after u gave (is_end_of_sequence u) refl) ended
+    with_one answer ended = stopped answer gave.bytes (at.units ++ u ∷ [], []) gave.gave (one_unit packets number at.given at.units at.split room gave.bytes u gave.is (is_end_of_sequence u) refl) ended
 
     refused_unit : takes h.stream u ≡ None → output.held.after ≡ held_mid → PlayStops packets (Err (StreamBad h.place)) input output
     refused_unit none same =
@@ -180,9 +180,6 @@ module _ (packets : ℕ) (input : InputChange) (output : OutputChange) where
     given = stops.given;
     took = stops.took;
     ended = stops.ended;
-    input_failed = λ e. input_rose (ending_is ending InputFailed e);
-    output_failed = λ e. output_rose (ending_is ending OutputFailed e);
+    input_failed = λ e. input_rose (cc e);
+    output_failed = λ e. output_rose (cc e);
   }
-    where
-      ending_is : (a b : Ending) → ◌≡◌ {A = Result Summary Ending} (Err a) (Err b) → a ≡ b
-      ending_is a b same = cc

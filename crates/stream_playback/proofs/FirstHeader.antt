@@ -54,14 +54,11 @@ module _ (body : List ℕ) (s : Sequence) (used : ℕ) where
 
 -- ---- a datagram that begins a session
 
-some_is : {A : Type 0} (x y : A) → Some x ≡ Some y → x ≡ y
-some_is x y e = cc
-
 module _ (t : Session) where
   of_read : (ssrc : ℕ) (body : List ℕ) (read : Result (Sequence × ℕ) HeaderRefusal) → coded_header body ≡ read → session_with ssrc read ≡ Some t → IsHeaderOf (used_bytes body read) t.sequence
   of_read ssrc body (Ok read) is told =
       let again = used_again body read.0 read.1 is in
-      let same : record { ssrc = ssrc; sequence = read.0 } ≡ t = some_is _ t told in
+      let same : record { ssrc = ssrc; sequence = read.0 } ≡ t = cc told in
       (again.0, again.1 ∙ ap (λ (s : Session). Ok (s.sequence, again.0)) same)
   of_read ssrc body (Err refusal) is told = absurd cc
 
@@ -118,6 +115,6 @@ first_header_is (d ∷ datagrams) t is = by_first (begins d) refl (first_header_
     by_first (Some s) opens later =
         let stays : first_of (fold hears (hears [] d) datagrams) ≡ Some s =
         ap (λ (hs : List HeardSession). first_of (fold hears hs datagrams)) (hears_new [] d s opens) ∙ first_stays s datagrams (just_opened s ∷ []) refl in
-        let same : s ≡ t = some_is s t (sym stays ∙ is) in
+        let same : s ≡ t = cc (sym stays ∙ is) in
         let header = header_begins s d opens in
         (header.0, header.1 ∙ ap (λ (u : Session). Ok (u.sequence, header.0)) same)

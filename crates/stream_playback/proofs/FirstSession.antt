@@ -46,14 +46,11 @@ pub record AreOfNumbers (s : Sequence) (units : List DataUnit) (bytes : List ℕ
 pub by_number : (window : ℕ) (hs : List HeardSession) (t : Session) → first_of hs ≡ Some t → AreOfNumbers t.sequence (first_pictures window hs) (first_output window hs)
 unfolding all_frames all_output first_output first_pictures
 by_number window [] t is = absurd cc
-by_number window (h ∷ []) t is = subst (λ (u : Session). AreOfNumbers u.sequence (first_pictures window (h ∷ [])) (first_output window (h ∷ []))) (some_is h.session t is) (record {
+by_number window (h ∷ []) t is = let same : h.session ≡ t = cc is in subst (λ (u : Session). AreOfNumbers u.sequence (first_pictures window (h ∷ [])) (first_output window (h ∷ []))) same (record {
   entered = entered_behind window [] h;
   units_are = refl;
   bytes_are = refl;
 })
-  where
-    some_is : (x y : Session) → Some x ≡ Some y → x ≡ y
-    some_is x y e = cc
 by_number window (h ∷ g ∷ hs) t is = by_number window (g ∷ hs) t is
 
 -- without a session there is nothing

@@ -1,6 +1,6 @@
 use Rattle.std.proofs.Common.{◌≡◌, ◌<◌, ℕ, Err, ap, subst, ◌∙◌, arith}
 use Rattle.std.specs.Prelude.{Result}
-use Rattle.gen_command.proofs.Writing.{no_failure, none_behind, none_written, same_ending, stopped, written_more}
+use Rattle.gen_command.proofs.Writing.{none_behind, none_written, stopped, written_more}
 use Rattle.gen_command.specs.Generating.{raw_bytes_of_frames}
 use Rattle.gen_command.specs.Steps.{next_bytes}
 use Rattle.link_gen.proofs.Frames.{behind_one_frame_more}
@@ -43,7 +43,7 @@ returns-in-Err g c =
     record {
       ended = stopped (generating_view c.args.g.now) c.loop-frame._frame c.loop-frame.state (g.O.Sink.held c.loop-frame.output) output room c.loop-frame.invariant.state c.loop-frame.invariant.wrote c.in-Err.ending c.in-Err.ensures.value;
       output_failed = λ e.
-          let is : ◌≡◌ {A = Result ℕ Ending} (Err c.in-Err.ending) (Err endings.OutputFailed) = ap Err (same_ending c.in-Err.ending endings.OutputFailed e) in
+          let is : ◌≡◌ {A = Result ℕ Ending} (Err c.in-Err.ending) (Err endings.OutputFailed) = cc e in
           let rose = c.in-Err.ensures.cause.rose is in
           omega (arith, c.loop-frame.invariant.later, rose);
     }
@@ -58,5 +58,5 @@ returns g c =
         frames_are = c.from-frames.ensures;
         samples_are = c.samples_of-samples.ensures;
       };
-      output_failed = λ e. absurd (no_failure _ _ e);
+      output_failed = λ e. absurd cc;
     }

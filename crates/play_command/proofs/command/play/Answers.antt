@@ -1,4 +1,4 @@
-use Rattle.std.proofs.Common.{◌∙◌, Ok, Err, Option, ap, subst, arith, inr, refl, ◌≡◌, List, ℕ, []}
+use Rattle.std.proofs.Common.{◌∙◌, ap, subst, arith, inr, refl, List, ℕ, []}
 use Rattle.vc_ports.specs.Reading.{GaveAll, Gave}
 use Rattle.vc_units.proofs.Infos.{data_unit-stub}
 use Rattle.play_command.specs.Looping.{summary_of}

@@ -1,6 +1,6 @@
-use Rattle.std.proofs.Common.{rules, ◌≡◌, true, ap, sym, ◌∙◌}
+use Rattle.std.proofs.Common.{◌≡◌, true, ap, sym, ◌∙◌}
 use Rattle.vc_types.specs.SameValues.{same_parameters}
-use Rattle.vc_types.specs.TransformParameters.{Parameters, parameters_of}
+use Rattle.vc_types.specs.TransformParameters.{parameters_of}
 use Rattle.vc_types.proofs.SameValues.{parameters_exactly}
 use Rattle.picture_build.specs.Kept.{no_slices}
 use Rattle.play_command.proofs.picture.begun.Goals as goal

@@ -1,4 +1,4 @@
-use Rattle.std.proofs.Common.{rules, ◌≡◌, ◌<◌, Ok, Err, ◌∙◌, ap, sym, subst}
+use Rattle.std.proofs.Common.{◌<◌, ◌∙◌, ap, sym, subst}
 use Rattle.picture_build.proofs.WholeSlices.{whole_slice}
 use Rattle.vc_types.specs.Slices.{slice_coefficients}
 use Rattle.vc_types.specs.SliceCoefficients.{AreSliceCoefficients}

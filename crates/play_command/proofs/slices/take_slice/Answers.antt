@@ -1,4 +1,4 @@
-use Rattle.std.proofs.Common.{rules, ◌∙◌, ap}
+use Rattle.std.proofs.Common.{rules}
 use Rattle.vc_types.specs.TransformParameters.{parameters_of}
 use Rattle.vc_types.proofs.WholeSlices.{begins, whole_slice}
 use Rattle.play_command.proofs.SliceRuns.{gave-short, took-if}

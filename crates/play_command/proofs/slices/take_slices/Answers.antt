@@ -1,4 +1,4 @@
-use Rattle.std.proofs.Common.{rules, ◌≡◌, ◌*◌, ◌-◌, ◌+◌, ◌<◌, ◌++◌, ◌∷◌, [], List, length, Ok, ◌∙◌, arith, refl, sym, ap, subst, length-append}
+use Rattle.std.proofs.Common.{◌≡◌, ◌-◌, ◌<◌, ◌++◌, ◌∷◌, [], List, length, Ok, ◌∙◌, arith, refl, sym, ap, length-append}
 use Rattle.vc_types.specs.Pictures.{slices_from}
 use Rattle.vc_types.specs.Slices.{Coefficients}
 use Rattle.vc_types.specs.Subbands.{slice_count}

@@ -1,0 +1,58 @@
+-- Bytes of a stream that comes to its end, of which a part was given.
+use Rattle.std.proofs.Common.{◌≡◌, ◌⊎◌, ℕ, ◌+◌, List, [], ◌∷◌, ◌++◌, length, length-append, append-nil, Option, Some, None, IsSomeAnd, Err, inl, inr, refl, sym, ap, subst, ◌∙◌, arith}
+use Rattle.std.specs.Prelude.{◌≢◌, IsTrue, IsFalse}
+use Rattle.play_command.specs.Playing.{UnitSplit, unit_split, has_ended, IsLast}
+use Rattle.vc_ports.proofs.Given.{some_is}
+use Rattle.vc_ports.specs.Changes.{InputChange}
+use Rattle.vc_ports.specs.Reading.{Gave}
+use Rattle.vc_types.specs.DataUnits.{DataUnit}
+use Rattle.vc_units.proofs.Behind.{NoneBehind, data_unit-bad, units_within-rest}
+use Rattle.vc_units.specs.Units.{data_unit, units_within}
+use Rattle.vc_units.specs.declared.fault.UnitFault.{UnitFault}
+use Rattle.vc_units.specs.declared.fault.UnitFault.TheVariants as faults
+
+-- the bytes behind those that were given
+pub behind_given : (P : List ℕ → Type 0) (given : List ℕ) (before after : Option (List ℕ)) → Gave before after given
+    → IsSomeAnd before P → (more : List ℕ) × (after ≡ Some more) × P (given ++ more)
+behind_given P given None after took whole = absurd whole
+behind_given P given (Some bytes) None took whole = let none : Some bytes ≡ None = took in absurd cc
+behind_given P given (Some bytes) (Some more) took whole = (more, refl, subst P (some_is bytes (given ++ more) took) whole)
+
+module _ (packets : ℕ) (given more : List ℕ) (ended : ((unit_split packets (given ++ more)).rest ≡ []) ⊎ IsTrue (has_ended (unit_split packets (given ++ more)))) where
+  abbrev split : UnitSplit
+  split = unit_split packets given
+
+  -- where no unit is behind them, the rest is empty
+  no_rest : NoneBehind packets (units_within packets given) more → IsFalse (has_ended split) → split.rest ++ more ≡ []
+  no_rest none goes_on = by_end ended
+    where
+      same : unit_split packets (given ++ more) ≡ record { units = split.units; rest = split.rest ++ more }
+      same = ap (λ (u : List DataUnit × List ℕ). record { units = u.0; rest = u.1 }) (units_within-rest packets given more none)
+
+      by_end : ((unit_split packets (given ++ more)).rest ≡ []) ⊎ IsTrue (has_ended (unit_split packets (given ++ more))) → split.rest ++ more ≡ []
+      by_end (inl empty) = sym (ap (λ (s : UnitSplit). s.rest) same) ∙ empty
+      by_end (inr ends) = absurd (cc (sym ends ∙ ap has_ended same ∙ goes_on))
+
+  pub none_past : length split.units ≡ packets → IsFalse (has_ended split) → length split.rest ≡ 1 → ⊥
+  none_past count goes_on one_more =
+      let empty : length split.rest + length more ≡ 0 = sym (length-append split.rest more) ∙ ap length (no_rest (inl count) goes_on) in
+      omega (arith, empty, one_more)
+
+  front_empty : (front : List ℕ) → front ++ more ≡ [] → front ≡ []
+  front_empty [] e = refl
+  front_empty (byte ∷ front) e = absurd cc
+
+  -- thirteen bytes that are refused are so, whatever follows
+  no_bad : (fault : UnitFault) → (fault ≡ faults.Short → ⊥) → data_unit split.rest ≡ Err fault → length split.rest ≡ 13 → IsFalse (has_ended split) → ⊥
+  no_bad fault other is len goes_on =
+      let empty = front_empty split.rest (no_rest (inr (fault, data_unit-bad split.rest more fault len other is)) goes_on) in
+      omega (arith, sym len ∙ ap length empty)
+
+  no_short : data_unit split.rest ≡ Err faults.Short → split.rest ≢ [] → more ≡ [] → IsFalse (has_ended split) → ⊥
+  no_short is some none goes_on =
+      some (front_empty split.rest (no_rest (inr (faults.Short, rw (none, append-nil split.rest) is)) goes_on))
+
+  pub none_refused : (input : InputChange) → input.left.after ≡ Some more → IsFalse (has_ended split)
+      → (fault : UnitFault) → data_unit split.rest ≡ Err fault → IsLast input split.rest fault → ⊥
+  none_refused input tells goes_on faults.Short is last = no_short is last.0 (rw tells at last.1) goes_on
+  none_refused input tells goes_on fault is last = no_bad fault (λ e. cc) is last goes_on
