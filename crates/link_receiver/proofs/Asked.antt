@@ -1,34 +1,17 @@
 -- Calls of places one after another, none of which starts workers.
-use Rattle.std.proofs.Common.{◌≡◌, ℕ, List, [], ◌∷◌, refl, Option, None, Some, Ok, Err, ap, ◌∙◌, sym, subst, append_assoc, append-nil}
+use Rattle.std.proofs.Common.{◌≡◌, ℕ, List, [], ◌∷◌, refl, Option, Ok, Err, sym, subst}
 use Rattle.std.specs.Prelude.{Result, IfOk, OnErr}
 use Rattle.link_model.specs.Places.{Job}
 use Rattle.link_reception.specs.Receptions.{Reception}
 use Rattle.link_receiver.specs.Exchanged.{IsExchanged}
 use Rattle.link_receiver.specs.HeardLists.{AskedPlaces}
 use Rattle.link_receiver.specs.Offers.{IsOneOffer, proposed_in}
+pub use Rattle.slice_exchange.proofs.Growing.{grows_none, grows_twice}
 use Rattle.slice_exchange.specs.Calls.{PlaceCall, Puts, Takes, told_of, exchanges_of}
 use Rattle.vc_slice.specs.Asked.{Told, Grows, nothing_told, told_more, taking}
 use Rattle.vc_slice.specs.declared.done.SliceDone.{SliceDone}
 use Rattle.vc_slice.specs.declared.job.SliceJob.{SliceJob}
 use Rattle.vc_types.specs.declared.memory.NoMemory.{NoMemory}
-
-pub grows_none : (told : Option Told) → Grows told told nothing_told
-grows_none None = tt
-grows_none (Some told) = simp append-nil
-
-told_assoc : (a b c : Told) → told_more (told_more a b) c ≡ told_more a (told_more b c)
-told_assoc a b c = simp append_assoc
-
-pub grows_twice : (a b c : Option Told) (d e : Told) → Grows a b d → Grows b c e
-    → Grows a c (told_more d e)
-grows_twice None None None d e p q = tt
-grows_twice None None (Some z) d e p q = absurd q
-grows_twice None (Some y) c d e p q = absurd p
-grows_twice (Some x) None None d e p q = tt
-grows_twice (Some x) None (Some z) d e p q = absurd q
-grows_twice (Some x) (Some y) None d e p q = tt
-grows_twice (Some x) (Some y) (Some z) d e p q =
-    q ∙ (ap (λ (t : Told). told_more t e) p ∙ told_assoc x d e)
 
 pub asked_none : (told : Option Told) → AskedPlaces told told
 asked_none told = record { more = nothing_told; grows = grows_none told; started = refl }

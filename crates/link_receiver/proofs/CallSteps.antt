@@ -1,13 +1,13 @@
 -- Calls of places, by the steps that make them.
-use Rattle.std.proofs.Common.{◌≡◌, ℕ, suc, ◌+◌, ◌<◌, Bool, true, false, cond, List, [], ◌∷◌, ◌++◌, length, take, get_or, Option, Some, None, Result, Ok, Err, refl, ap, sym, ◌∙◌, subst, append-nil}
+use Rattle.std.proofs.Common.{◌≡◌, ℕ, suc, ◌+◌, ◌<◌, Bool, true, false, cond, List, [], ◌∷◌, ◌++◌, length, take, get_or, Option, Some, None, Result, Ok, Err, refl, ap, sym, ◌∙◌, subst, append-nil, rules}
 use Rattle.std.proofs.lemmas.List.{take_more, map-append}
-use Rattle.std.specs.Prelude.{map, OnOk, is_some}
+use Rattle.std.specs.Prelude.{map, filter, OnOk, is_some}
 use Rattle.std.specs.Option.{option_and_then}
 use Rattle.std.proofs.lemmas.Bool.{false≢true}
 use Rattle.link_model.specs.Windows.{Releasable, next_release}
 use Rattle.link_model.specs.Places.{Job, Answered}
-use Rattle.link_reception.specs.Exchanging.{Exchange, Proposed, Fetched, exchanged, all_exchanged, takes_done, back_from, is_wanted}
-use Rattle.link_reception.specs.Receptions.{Reception, StandingSession, keeps_answer}
+use Rattle.link_reception.specs.Exchanging.{Exchange, Proposed, Fetched, exchanged, all_exchanged, takes_done, not_at, is_wanted}
+use Rattle.link_reception.specs.Receptions.{Reception, StandingSession, SliceOut, keeps_answer}
 use Rattle.link_reception.specs.Releasing.{next_picture}
 use Rattle.link_receiver.proofs.Exchanges.{calls_then, exchanges_of-append, no_call}
 use Rattle.link_receiver.proofs.Offered.{proposed_in-append, offers_more, offers_again, once_more}
@@ -64,7 +64,8 @@ asked_last a b first now k e h = (
   h.1,
   h.2,
   all_asked first.out (asked_in (exchanges_of h.0))
-      (subst (λ (n : ℕ). AreAskedOrIn first.out (asked_in (exchanges_of h.0)) (take n now.out)) e h.3),
+      (subst (λ (n : ℕ). AreAskedOrIn first.out (asked_in (exchanges_of h.0)) (take n now.out)) e
+      h.3),
 )
 
 -- ---- offers
@@ -99,7 +100,8 @@ offer_calls (Ok came) a b c r s t job back same h m = (
   h.0 ++ m.0,
   calls_then a b c r s t h.0 m.0 h.1 m.1,
   subst (IsOfferOf (job_of job)) (sym (proposed_then h.0 m.0))
-      (offers_again (job_of job) (proposed_in (exchanges_of h.0)) (proposed_in (exchanges_of m.0)) h.2
+      (offers_again (job_of job) (proposed_in (exchanges_of h.0)) (proposed_in (exchanges_of m.0))
+      h.2
       (subst (λ (j : SliceJob). MayOffer (job_of j) (proposed_in (exchanges_of m.0))) same m.2)),
 )
 
@@ -117,8 +119,8 @@ offers_step a b c r s t jobs i job copy inside is same h m = (
   h.0 ++ m.0,
   calls_then a b c r s t h.0 m.0 h.1 m.1,
   subst (λ (l : List Job). AreOffersOf l (proposed_in (exchanges_of (h.0 ++ m.0)))) (sym longer)
-      (subst (AreOffersOf (map job_of (take i jobs) ++ job_of job ∷ [])) (sym (proposed_then h.0 m.0))
-      (offers_more (map job_of (take i jobs)) (proposed_in (exchanges_of h.0)) (job_of job)
+      (subst (AreOffersOf (map job_of (take i jobs) ++ job_of job ∷ []))
+      (sym (proposed_then h.0 m.0)) (offers_more (map job_of (take i jobs)) (proposed_in (exchanges_of h.0)) (job_of job)
       (proposed_in (exchanges_of m.0)) h.2
       (subst (λ (j : SliceJob). IsOfferOf (job_of j) (proposed_in (exchanges_of m.0))) same m.2))),
 )
@@ -130,43 +132,6 @@ offers_step a b c r s t jobs i job copy inside is same h m = (
 
 -- ---- exchanges leave the session
 
-takes_done-standing : (r : Reception) (done : Answered) → (takes_done r done).standing ≡ r.standing
-unfolding takes_done
-takes_done-standing r done = by_test (is_wanted r done)
-  where
-    by_test : (b : Bool) → (let s : Reception = cond b
-        (record r { answers = keeps_answer r.answers done }) r in s.standing) ≡ r.standing
-    by_test true = refl
-    by_test false = refl
-
-takes_done-field : (r : Reception) (done : Answered) → (takes_done r done).field ≡ r.field
-unfolding takes_done
-takes_done-field r done = by_test (is_wanted r done)
-  where
-    by_test : (b : Bool) → (let s : Reception = cond b
-        (record r { answers = keeps_answer r.answers done }) r in s.field) ≡ r.field
-    by_test true = refl
-    by_test false = refl
-
-takes_done-size : (r : Reception) (done : Answered) → (takes_done r done).size ≡ r.size
-unfolding takes_done
-takes_done-size r done = by_test (is_wanted r done)
-  where
-    by_test : (b : Bool) → (let s : Reception = cond b
-        (record r { answers = keeps_answer r.answers done }) r in s.size) ≡ r.size
-    by_test true = refl
-    by_test false = refl
-
-takes_done-has_ended : (r : Reception) (done : Answered)
-    → (takes_done r done).has_ended ≡ r.has_ended
-unfolding takes_done
-takes_done-has_ended r done = by_test (is_wanted r done)
-  where
-    by_test : (b : Bool) → (let s : Reception = cond b
-        (record r { answers = keeps_answer r.answers done }) r in s.has_ended) ≡ r.has_ended
-    by_test true = refl
-    by_test false = refl
-
 -- what exchanges leave as it is
 pub record HaveSameSession (r s : Reception) : Type 0 where
   pub standing : s.standing ≡ r.standing
@@ -174,24 +139,26 @@ pub record HaveSameSession (r s : Reception) : Type 0 where
   pub size : s.size ≡ r.size
   pub has_ended : s.has_ended ≡ r.has_ended
 
+takes_done-session : (r : Reception) (out : List SliceOut) (done : Answered)
+    → HaveSameSession r (takes_done (record r { out = out }) done)
+unfolding takes_done
+takes_done-session r out done = by_test (is_wanted (record r { out = out }) done)
+  where
+    by_test : (b : Bool) → (let s : Reception = record r { out = out } in HaveSameSession r
+        (cond b (record s { answers = keeps_answer r.answers done }) s))
+    by_test true = search rules
+    by_test false = search rules
+
 exchanged-session : (r : Reception) (e : Exchange) → HaveSameSession r (exchanged r e)
-exchanged-session r (Proposed job None) =
-    record { standing = refl; field = refl; size = refl; has_ended = refl }
-exchanged-session r (Proposed job (Some place)) =
-    record { standing = refl; field = refl; size = refl; has_ended = refl }
-exchanged-session r (Fetched place None) =
-    record { standing = refl; field = refl; size = refl; has_ended = refl }
-exchanged-session r (Fetched place (Some done)) = record {
-  standing = takes_done-standing (back_from r place) done;
-  field = takes_done-field (back_from r place) done;
-  size = takes_done-size (back_from r place) done;
-  has_ended = takes_done-has_ended (back_from r place) done;
-}
+exchanged-session r (Proposed job None) = search rules
+exchanged-session r (Proposed job (Some place)) = search rules
+exchanged-session r (Fetched place None) = search rules
+exchanged-session r (Fetched place (Some done)) =
+    takes_done-session r (filter (not_at place) r.out) done
 
 pub all_exchanged-session : (r : Reception) (es : List Exchange)
     → HaveSameSession r (all_exchanged r es)
-all_exchanged-session r [] =
-    record { standing = refl; field = refl; size = refl; has_ended = refl }
+all_exchanged-session r [] = search rules
 all_exchanged-session r (e ∷ es) =
     both (exchanged-session r e) (all_exchanged-session (exchanged r e) es)
   where

@@ -19,6 +19,7 @@ use Rattle.link_receiver.proofs.CallSteps.{Exchanges, TakesBack, HaveSameSession
 use Rattle.link_receiver.specs.Entered.{IsEntered, IsDrained}
 use Rattle.link_receiver.specs.Freeing.{all_freed_places}
 use Rattle.link_receiver.specs.Offers.{AreOffersOf, proposed_in, are_asked}
+use Rattle.link_receiver.specs.Released.{AreReleased}
 use Rattle.link_receiver.specs.States.{IsRunning, WaitsForSecond, GoesOn}
 use Rattle.slice_exchange.proofs.Growing.{grows_twice}
 use Rattle.slice_exchange.specs.Calls.{PlaceCall, told_of, exchanges_of, freeing}
@@ -26,7 +27,7 @@ use Rattle.slice_jobs.specs.Jobs.{job_of}
 use Rattle.unit_release.specs.Outputs.{all_released_output, stream_behind_all, datagram_output, stream_behind_datagram, end_output, stream_end}
 use Rattle.unit_release.specs.Receiving.{stream_takes, datagram_units, opens_stream_for, stream_takes_end, end_units}
 use Rattle.unit_release.specs.Writing.{WrittenStream}
-use Rattle.vc_ports.proofs.Growing.{Grew-then, GrewBySome-none, GrewBySome-then, GrewBySome-front}
+use Rattle.vc_ports.proofs.Growing.{Grew-then, GrewBySome-all, GrewBySome-none, GrewBySome-then, GrewBySome-front}
 use Rattle.vc_ports.specs.Writing.{Grew, GrewBySome}
 use Rattle.vc_slice.specs.Asked.{Told, told_more, Grows}
 use Rattle.vc_slice.specs.declared.job.SliceJob.{SliceJob}
@@ -147,7 +148,7 @@ fails_early stream r d held = ([], tt, GrewBySome-none held (datagram_output str
 
 -- ---- up to the releases, and behind them
 
-module _ (a b : Option Told) (old kept exchanged : Reception) (d : List ℕ)
+module _ {a b : Option Told} (old : Reception) {kept exchanged : Reception} (d : List ℕ)
     (jobs : List SliceJob) (k : kept ≡ keeps_datagram old d)
     (x : Exchanges a b kept exchanged jobs) where
   same : HaveSameSession kept exchanged
@@ -183,17 +184,24 @@ module _ (a b : Option Told) (old kept exchanged : Reception) (d : List ℕ)
     subst (GrewBySome before behind) (output_exchanged stream) some,
   )
 
-  module _ (released : Reception) (e : released ≡ releases_all exchanged) where
+  module _ {c : Option Told} {before behind : Option (List ℕ)}
+      {first mid : Option WrittenStream} {released : Reception}
+      (all : AreReleased b c before behind first mid exchanged released) where
+    pub fails_released : (es : List Exchange) × AreDecodings (dones_in es)
+        × GrewBySome before behind (datagram_output first old d es)
+    fails_released = fails_in first before behind
+        (GrewBySome-all before behind (all_released_output first exchanged) all.written)
+
     pub size_released : released.size ≡ old.size
-    size_released = ap (λ (r : Reception). r.size) e
+    size_released = ap (λ (r : Reception). r.size) all.value
         ∙ (releases_open (book_count exchanged) exchanged).size ∙ size_exchanged
 
     has_ended_released : released.has_ended ≡ old.has_ended
-    has_ended_released = ap (λ (r : Reception). r.has_ended) e
+    has_ended_released = ap (λ (r : Reception). r.has_ended) all.value
         ∙ (releases_open (book_count exchanged) exchanged).has_ended ∙ has_ended_exchanged
 
     running_released : IsRunning kept.standing → IsRunning released.standing
-    running_released h = subst (λ (r : Reception). IsRunning r.standing) (sym e)
+    running_released h = subst (λ (r : Reception). IsRunning r.standing) (sym all.value)
         ((releases_open (book_count exchanged) exchanged).running
         (subst IsRunning (sym same.standing) h))
 
@@ -202,9 +210,9 @@ module _ (a b : Option Told) (old kept exchanged : Reception) (d : List ℕ)
     opened-has_ended None = refl
     opened-has_ended (Some s) = refl
 
-    pub has_ended_behind : (o : Option Session) (new : Reception)
+    pub has_ended_behind : (o : Option Session) {new : Reception}
         → new ≡ opens_session o released → new.has_ended ≡ old.has_ended
-    has_ended_behind o new n = ap (λ (r : Reception). r.has_ended) n ∙ opened-has_ended o
+    has_ended_behind o n = ap (λ (r : Reception). r.has_ended) n ∙ opened-has_ended o
         ∙ has_ended_released
 
     opens : GoesOn old → WaitsForSecond released.standing released.field
@@ -224,37 +232,34 @@ module _ (a b : Option Told) (old kept exchanged : Reception) (d : List ℕ)
     }
 
     pub goes_on_behind : GoesOn old → WaitsForSecond released.standing released.field
-        → (o : Option Opening) → (o ≡ None → IsRunning kept.standing) → (new : Reception)
+        → (o : Option Opening) → (o ≡ None → IsRunning kept.standing) → {new : Reception}
         → new ≡ opens_session (option_map session_of o) released → GoesOn new
-    goes_on_behind old_goes waits o running new n =
+    goes_on_behind old_goes waits o running n =
         subst GoesOn (sym n) (opens old_goes waits o running)
 
-    module _ (c : Option Told) (before behind : Option (List ℕ)) (outcome : Outcome)
-        (o : Option Session) (new : Reception) (first mid last : Option WrittenStream)
-        (is_first : Bool) (datagram : List ℕ) (same_first : is_first ≡ is_none old.standing)
-        (same_datagram : datagram ≡ d) (j : map job_of jobs ≡ datagram_jobs old d) (out : outcome ≡ judged old d)
-        (opening : o ≡ session_opened old d)
-        (frees : Grows b c (freeing (all_freed_places exchanged)))
-        (grew : Grew before behind (all_released_output first exchanged))
-        (n : new ≡ opens_session o released) (s : mid ≡ stream_behind_all first exchanged)
+    module _ {outcome : Outcome} {o : Option Session} {new : Reception}
+        {last : Option WrittenStream} {is_first : Bool} {datagram : List ℕ}
+        (same_first : is_first ≡ is_none old.standing) (same_datagram : datagram ≡ d)
+        (j : map job_of jobs ≡ datagram_jobs old d) (out : outcome ≡ judged old d)
+        (opening : o ≡ session_opened old d) (n : new ≡ opens_session o released)
         (t : last ≡ option_map (opens_stream_for o is_first datagram) mid) where
       new_value : new ≡ takes_datagram old d (exchanges_of x.0)
       unfolding takes_datagram
       new_value = n ∙ ap (λ (s : Option Session). opens_session s released) opening
-          ∙ ap (opens_session (session_opened old d)) (e ∙ ap releases_all value)
+          ∙ ap (opens_session (session_opened old d)) (all.value ∙ ap releases_all value)
 
       new_written : Grew before behind (datagram_output first old d (exchanges_of x.0))
-      new_written = subst (Grew before behind) (output_exchanged first) grew
+      new_written = subst (Grew before behind) (output_exchanged first) all.written
 
       new_stream : last ≡ stream_behind_datagram first old d (exchanges_of x.0)
       new_stream = t
           ∙ ap (λ (q : Bool). option_map (opens_stream_for o q datagram) mid) same_first
           ∙ ap (λ (l : List ℕ). option_map (opens_stream_for o (is_none old.standing) l) mid)
           same_datagram
-          ∙ ap (λ (a : Option Session). option_map (opens_stream_for a (is_none old.standing) d) mid)
-          opening
+          ∙ ap (λ (a : Option Session).
+          option_map (opens_stream_for a (is_none old.standing) d) mid) opening
           ∙ ap (option_map (opens_stream_for (session_opened old d) (is_none old.standing) d))
-          (s ∙ ap (stream_behind_all first) value)
+          (all.stream ∙ ap (stream_behind_all first) value)
           ∙ stream_behind_is first old d (exchanges_of x.0)
 
       asked_for : is_some (next_picture (keeps_datagram old d)) ≡ true
@@ -276,7 +281,8 @@ module _ (a b : Option Told) (old kept exchanged : Reception) (d : List ℕ)
         record {
           told = subst (λ (r : Reception). Grows a c
               (told_more (told_of x.0) (freeing (all_freed_places r)))) value
-              (grows_twice a b c (told_of x.0) (freeing (all_freed_places exchanged)) x.1.told frees);
+              (grows_twice a b c (told_of x.0) (freeing (all_freed_places exchanged)) x.1.told
+              all.told);
           value = new_value;
           stream = new_stream;
           written = new_written;
@@ -293,8 +299,8 @@ waits_over : (r : Reception) → WaitsForSecond r.standing r.field
     → WaitsForSecond (ends_input r).standing (ends_input r).field
 waits_over r h = waits_on is_over (λ st. refl) r.standing r.field h
 
-module _ (a b : Option Told) (old ended exchanged : Reception) (k : ended ≡ ends_input old)
-    (x : TakesBack a b ended exchanged) where
+module _ {a b : Option Told} (old : Reception) {ended exchanged : Reception}
+    (k : ended ≡ ends_input old) (x : TakesBack a b ended exchanged) where
   same_at_end : HaveSameSession ended exchanged
   same_at_end = calls_session a b ended exchanged x.0 x.1
 
@@ -335,59 +341,62 @@ module _ (a b : Option Told) (old ended exchanged : Reception) (k : ended ≡ en
       (GrewBySome-front before behind (all_released_output stream exchanged)
       (stream_end (stream_behind_all stream exchanged)) some)
 
-  -- at the end of the stream
-  pub fails_last : (stream mid : Option WrittenStream) (before middle behind : Option (List ℕ))
-      → mid ≡ stream_behind_all stream exchanged
-      → Grew before middle (all_released_output stream exchanged)
-      → GrewBySome middle behind (stream_end mid) → FailsAtEnd stream before behind
-  fails_last stream mid before middle behind s grew some = some_at_end stream before behind
-      (GrewBySome-then before middle behind (all_released_output stream exchanged)
-      (stream_end (stream_behind_all stream exchanged)) grew
-      (subst (λ (o : Option WrittenStream). GrewBySome middle behind (stream_end o)) s some))
+  module _ {c : Option Told} {before middle : Option (List ℕ)}
+      {first last : Option WrittenStream} {released : Reception}
+      (all : AreReleased b c before middle first last exchanged released) where
+    pub fails_released_at_end : FailsAtEnd first before middle
+    fails_released_at_end = fails_at_end first before middle
+        (GrewBySome-all before middle (all_released_output first exchanged) all.written)
 
-  module _ (released new : Reception) (e : released ≡ releases_all exchanged)
-      (n : new ≡ gives_up_field released) where
-    pub ended_behind : new.has_ended ≡ true
-    ended_behind = ap (λ (r : Reception). r.has_ended) n ∙ ap (λ (r : Reception). r.has_ended) e
-        ∙ (releases_open (book_count exchanged) exchanged).has_ended
-        ∙ same_at_end.has_ended ∙ ap (λ (r : Reception). r.has_ended) k
+    -- at the end of the stream
+    pub fails_last : (behind : Option (List ℕ)) → GrewBySome middle behind (stream_end last)
+        → FailsAtEnd first before behind
+    fails_last behind some = some_at_end first before behind
+        (GrewBySome-then before middle behind (all_released_output first exchanged)
+        (stream_end (stream_behind_all first exchanged)) all.written
+        (subst (λ (o : Option WrittenStream). GrewBySome middle behind (stream_end o)) all.stream
+        some))
 
-    module _ (c : Option Told) (before middle behind : Option (List ℕ))
-        (first last : Option WrittenStream)
-        (frees : Grows b c (freeing (all_freed_places exchanged)))
-        (grew : Grew before middle (all_released_output first exchanged))
-        (s : last ≡ stream_behind_all first exchanged)
-        (ends : Grew middle behind (stream_end last)) where
+    module _ {new : Reception} (n : new ≡ gives_up_field released) where
+      pub ended_behind : new.has_ended ≡ true
+      ended_behind = ap (λ (r : Reception). r.has_ended) n
+          ∙ ap (λ (r : Reception). r.has_ended) all.value
+          ∙ (releases_open (book_count exchanged) exchanged).has_ended
+          ∙ same_at_end.has_ended ∙ ap (λ (r : Reception). r.has_ended) k
+
       new_end : new ≡ takes_end old (exchanges_of x.0)
       unfolding takes_end
-      new_end = n ∙ ap gives_up_field (e ∙ ap releases_all value_at_end)
+      new_end = n ∙ ap gives_up_field (all.value ∙ ap releases_all value_at_end)
 
-      written_at_end : Grew before behind (end_output first old (exchanges_of x.0))
-      written_at_end = subst (Grew before behind) (output_at_end first)
-          (Grew-then before middle behind (all_released_output first exchanged)
-          (stream_end (stream_behind_all first exchanged)) grew
-          (subst (λ (o : Option WrittenStream). Grew middle behind (stream_end o)) s ends))
+      module _ (behind : Option (List ℕ)) (ends : Grew middle behind (stream_end last)) where
+        written_at_end : Grew before behind (end_output first old (exchanges_of x.0))
+        written_at_end = subst (Grew before behind) (output_at_end first)
+            (Grew-then before middle behind (all_released_output first exchanged)
+            (stream_end (stream_behind_all first exchanged)) all.written
+            (subst (λ (o : Option WrittenStream). Grew middle behind (stream_end o)) all.stream
+            ends))
 
-      pub drains : (calls : List PlaceCall) × IsDrained (record {
-        told_before = a;
-        told_behind = c;
-        held_before = before;
-        held_behind = behind;
-        stream_before = first;
-        stream_behind = last;
-      }) old new calls
-      drains = (
-        x.0,
-        record {
-          told = subst (λ (r : Reception). Grows a c
-              (told_more (told_of x.0) (freeing (all_freed_places r)))) value_at_end
-              (grows_twice a b c (told_of x.0) (freeing (all_freed_places exchanged)) x.1.told frees);
-          value = new_end;
-          written = written_at_end;
-          decodings = x.1.decodings;
-          offered = x.2;
-          asked = λ some. subst (λ (r : List SliceOut). are_asked r (exchanges_of x.0) ≡ true)
-              (ap (λ (r : Reception). r.out) k)
-              (x.3 (ap (λ (r : Reception). is_some (next_picture r)) k ∙ some));
-        },
-      )
+        pub drains : (calls : List PlaceCall) × IsDrained (record {
+          told_before = a;
+          told_behind = c;
+          held_before = before;
+          held_behind = behind;
+          stream_before = first;
+          stream_behind = last;
+        }) old new calls
+        drains = (
+          x.0,
+          record {
+            told = subst (λ (r : Reception). Grows a c
+                (told_more (told_of x.0) (freeing (all_freed_places r)))) value_at_end
+                (grows_twice a b c (told_of x.0) (freeing (all_freed_places exchanged)) x.1.told
+                all.told);
+            value = new_end;
+            written = written_at_end;
+            decodings = x.1.decodings;
+            offered = x.2;
+            asked = λ some. subst (λ (r : List SliceOut). are_asked r (exchanges_of x.0) ≡ true)
+                (ap (λ (r : Reception). r.out) k)
+                (x.3 (ap (λ (r : Reception). is_some (next_picture r)) k ∙ some));
+          },
+        )

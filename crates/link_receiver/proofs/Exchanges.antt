@@ -1,5 +1,5 @@
 -- Calls of places, one after another.
-use Rattle.std.proofs.Common.{◌≡◌, List, [], ◌∷◌, ◌++◌, Option, Some, None, refl, ap, sym, ◌∙◌, subst, append_assoc}
+use Rattle.std.proofs.Common.{◌≡◌, List, [], ◌∷◌, ◌++◌, Option, Some, None, refl, ap, sym, ◌∙◌, subst}
 use Rattle.std.proofs.lemmas.List.{map-append}
 use Rattle.std.specs.Prelude.{ℕ}
 use Rattle.std.specs.Option.{option_map}
@@ -8,16 +8,13 @@ use Rattle.link_reception.proofs.Exchanges.{decodings_then, exchanged_then}
 use Rattle.link_reception.specs.Exchanging.{Exchange, Proposed, Fetched, exchanged, all_exchanged, dones_in}
 use Rattle.link_reception.specs.Receptions.{Reception}
 use Rattle.link_reception.specs.Standing.{AreDecodings}
-use Rattle.slice_exchange.proofs.Growing.{grows_twice, grows_none}
+use Rattle.slice_exchange.proofs.Growing.{told_assoc, grows_twice, grows_none}
 use Rattle.slice_exchange.specs.Calls.{PlaceCall, Puts, Takes, told_by, told_of, exchange_by, exchanges_of}
 use Rattle.slice_jobs.specs.Jobs.{job_of, answered}
 use Rattle.vc_slice.specs.Asked.{Told, told_more, Grows, one_offer, taking}
 use Rattle.vc_slice.specs.declared.done.SliceDone.{SliceDone}
 use Rattle.vc_slice.specs.declared.job.SliceJob.{SliceJob}
 use Rattle.link_receiver.specs.Exchanged.{IsExchanged}
-
-told_assoc : (a b c : Told) → told_more (told_more a b) c ≡ told_more a (told_more b c)
-told_assoc a b c = simp append_assoc
 
 pub told_of-append : (a b : List PlaceCall) → told_of (a ++ b) ≡ told_more (told_of a) (told_of b)
 told_of-append [] b = refl

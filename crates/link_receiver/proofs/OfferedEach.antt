@@ -1,7 +1,7 @@
 -- Each job of a datagram is among the jobs that places were told of, and each of these is one of it.
 use Rattle.std.proofs.Common.{◌≡◌, ℕ, Bool, true, false, List, [], ◌∷◌, ◌++◌, refl, ap, sym, subst, ◌∙◌, inl, inr, append-nil}
 use Rattle.std.specs.Prelude.{◌||◌}
-use Rattle.std.proofs.lemmas.Bool.{false≢true}
+use Rattle.std.proofs.lemmas.Bool.{false≢true, or_left, or_right}
 use Rattle.std.proofs.lemmas.Grind.{flat_map-append}
 use Rattle.std.proofs.lemmas.List.Folds.{list_any-append}
 use Rattle.std.specs.List.{flat_map}
@@ -16,14 +16,6 @@ use Rattle.link_receiver.specs.Offers.{AreOffersOf, IsOfferOf, proposed_in}
 use Rattle.slice_exchange.specs.Calls.{PlaceCall, Puts, Takes, told_of, exchanges_of, freeing}
 use Rattle.slice_jobs.specs.Jobs.{job_of}
 use Rattle.vc_slice.specs.Asked.{told_more}
-
-or_left : (a b : Bool) → a ≡ true → (a || b) ≡ true
-or_left true b e = refl
-or_left false b e = absurd (false≢true e)
-
-or_right : (a b : Bool) → b ≡ true → (a || b) ≡ true
-or_right true b e = refl
-or_right false b e = e
 
 -- the job of an offer
 abbrev pub job_by : Exchange → List Job

@@ -3,13 +3,14 @@ use Rattle.std.proofs.Common.{◌≡◌, ℕ, zero, suc, List, [], ◌++◌, Opt
 use Rattle.link_model.specs.Windows.{Releasable}
 use Rattle.link_reception.proofs.ReleaseSteps.{none_released}
 use Rattle.link_reception.specs.Receptions.{Reception}
-use Rattle.link_reception.specs.Releasing.{next_picture, releases_picture_of, freed_places, releases_up_to, bytes_up_to}
+use Rattle.link_reception.specs.Releasing.{next_picture, releases_picture_of, freed_places, releases_up_to, bytes_up_to, book_count}
 use Rattle.slice_exchange.proofs.Growing.{grows_twice, grows_none}
 use Rattle.slice_exchange.specs.Calls.{freeing}
 use Rattle.vc_ports.proofs.Growing.{Grew-none, Grew-then, GrewBySome-then, GrewBySome-front}
 use Rattle.vc_ports.specs.Writing.{Grew, GrewBySome}
 use Rattle.vc_slice.specs.Asked.{Told, Grows}
 use Rattle.link_receiver.specs.Freeing.{freed_up_to}
+use Rattle.link_receiver.specs.Released.{AreReleased}
 use Rattle.unit_release.specs.Outputs.{released_output, stream_behind_picture, output_up_to, stream_behind_up_to}
 use Rattle.unit_release.specs.Receiving.{streams_up_to, streamed_up_to}
 use Rattle.unit_release.specs.Writing.{WrittenStream}
@@ -91,10 +92,10 @@ last_freed : (now : Reception) → freed_up_to 0 now ≡ []
 unfolding freed_up_to
 last_freed now = refl
 
-pub releasing_begins : (n : ℕ) (r : Reception) (stream : Option WrittenStream)
+pub releasing_begins : {n left : ℕ} → left ≡ n → (r : Reception) (stream : Option WrittenStream)
     (held : Option (List ℕ)) (told : Option Told)
-    → IsReleasing n n r r stream stream held held told told
-releasing_begins n r stream held told = record {
+    → IsReleasing n left r r stream stream held held told told
+releasing_begins e r stream held told = rw e (record {
   value = refl;
   streams = refl;
   bytes = [];
@@ -103,12 +104,15 @@ releasing_begins n r stream held told = record {
   freed = [];
   grows = grows_none told;
   places = refl;
-}
+})
 
-module _ (n k : ℕ) (first now : Reception) (stream_first stream : Option WrittenStream)
-    (held_first held : Option (List ℕ)) (told_first told : Option Told)
-    (p : IsReleasing n (suc k) first now stream_first stream held_first held told_first told)
+module _ {n left k : ℕ} {first now : Reception} {stream_first stream : Option WrittenStream}
+    {held_first held : Option (List ℕ)} {told_first told : Option Told} (one_left : left ≡ suc k)
+    (so_far : IsReleasing n left first now stream_first stream held_first held told_first told)
     (picture : Releasable) (next : next_picture now ≡ Some picture) where
+  p : IsReleasing n (suc k) first now stream_first stream held_first held told_first told
+  p = rw one_left at so_far
+
   abbrev bytes : List ℕ
   bytes = released_output stream now picture
 
@@ -154,29 +158,22 @@ module _ (n k : ℕ) (first now : Reception) (stream_first stream : Option Writt
       (GrewBySome-front held held_behind bytes (output_up_to behind_it k then) some))
 
 -- the releases are done
-pub record AreReleased (n : ℕ) (first now : Reception)
-    (stream_first stream : Option WrittenStream) (held_first held : Option (List ℕ))
-    (told_first told : Option Told) : Type 0 where
-  pub value : now ≡ releases_up_to n first
-  pub streams : stream ≡ stream_behind_up_to stream_first n first
-  pub grew : Grew held_first held (output_up_to stream_first n first)
-  pub grows : Grows told_first told (freeing (freed_up_to n first))
-
-module _ (n left : ℕ) (first now : Reception) (stream_first stream : Option WrittenStream)
-    (held_first held : Option (List ℕ)) (told_first told : Option Told)
-    (p : IsReleasing n left first now stream_first stream held_first held told_first told) where
+module _ {left : ℕ} {first now : Reception} {stream_first stream : Option WrittenStream}
+    {held_first held : Option (List ℕ)} {told_first told : Option Told}
+    (p : IsReleasing (book_count first) left first now stream_first stream held_first held
+    told_first told) where
   abbrev Released : Type 0
-  Released = AreReleased n first now stream_first stream held_first held told_first told
+  Released = AreReleased told_first told held_first held stream_first stream first now
 
   done : releases_up_to left now ≡ now → stream_behind_up_to stream left now ≡ stream
       → output_up_to stream left now ≡ [] → freed_up_to left now ≡ [] → Released
   done e s b f = record {
     value = sym e ∙ p.value;
-    streams = sym s ∙ p.streams;
-    grew = subst (Grew held_first held)
-        (sym (append-nil p.bytes) ∙ ap (λ (l : List ℕ). p.bytes ++ l) (sym b) ∙ p.others) p.grew;
-    grows = subst (λ (l : List ℕ). Grows told_first told (freeing l))
+    stream = sym s ∙ p.streams;
+    told = subst (λ (l : List ℕ). Grows told_first told (freeing l))
         (sym (append-nil p.freed) ∙ ap (λ (l : List ℕ). p.freed ++ l) (sym f) ∙ p.places) p.grows;
+    written = subst (Grew held_first held)
+        (sym (append-nil p.bytes) ∙ ap (λ (l : List ℕ). p.bytes ++ l) (sym b) ∙ p.others) p.grew;
   }
 
   pub releasing_stops : next_picture now ≡ None → Released

@@ -7,7 +7,6 @@ use Rattle.link_model.specs.Books.{Book}
 use Rattle.link_model.specs.Windows.{Releasable}
 use Rattle.link_reception.specs.Exchanging.{Proposed, exchanged, takes_done, not_at}
 use Rattle.link_reception.specs.Receptions.{Reception, SliceOut, StandingSession}
-use Rattle.link_reception.specs.Releasing.{released_planes}
 use Rattle.link_reception.specs.WholeBooks.{IsWholeBook}
 use Rattle.link_receiver.proofs.Exchanges.{one_put, one_take}
 use Rattle.link_receiver.specs.Exchanged.{IsExchanged}
@@ -21,7 +20,6 @@ use Rattle.unit_release.specs.Writing.{WrittenStream}
 use Rattle.vc_slice.specs.Asked.{Told, Grows, one_offer, taking}
 use Rattle.vc_slice.specs.declared.done.SliceDone.{SliceDone}
 use Rattle.vc_slice.specs.declared.job.SliceJob.{SliceJob}
-use Rattle.vc_types.specs.Planes.{Planes}
 use Rattle.vc_types.specs.SequenceHeader.{Sequence}
 use Rattle.vc_types.specs.declared.memory.NoMemory.{NoMemory}
 
@@ -38,19 +36,18 @@ pub whole_by_some : (s : Sequence) (o : Option (Bor Book))
 whole_by_some s None h = tt
 whole_by_some s (Some book) h = (s, h)
 
-module _ (r : Reception) (st : StandingSession) (picture : Releasable) (planes : Option Planes)
-    (e : r.standing ≡ Some st)
-    (p : planes ≡ released_planes r.answers st.window picture.number) where
+module _ (r : Reception) (st : StandingSession) (picture : Releasable)
+    (e : r.standing ≡ Some st) where
   pub shown_output : (stream : Option WrittenStream)
-      → shown_bytes stream st r.field picture.number planes ≡ released_output stream r picture
-  shown_output None = rw (e, p) refl
-  shown_output (Some w) = rw (e, p) refl
+      → shown_bytes stream st r.answers r.field picture.number ≡ released_output stream r picture
+  shown_output None = rw e refl
+  shown_output (Some w) = rw e refl
 
   pub shown_stream : (stream : Option WrittenStream)
-      → stream_behind_shown stream st r.field picture.number planes
+      → stream_behind_shown stream st r.answers r.field picture.number
       ≡ stream_behind_picture stream r picture
   shown_stream None = refl
-  shown_stream (Some w) = rw (e, p) refl
+  shown_stream (Some w) = rw e refl
 
 -- ---- a job is put
 
@@ -58,8 +55,8 @@ put_value : (old : Reception) (out : List SliceOut) (job : SliceJob) (answer : O
     → out ≡ out_exchanged old.out (Proposed (job_of job) answer)
     → (let new : Reception = record old { out = out } in new)
     ≡ exchanged old (Proposed (job_of job) answer)
-put_value old out job None e = ap (λ (o : List SliceOut). (let r : Reception = record old { out = o } in r)) e
-put_value old out job (Some place) e = ap (λ (o : List SliceOut). (let r : Reception = record old { out = o } in r)) e
+put_value old out job None e = rw e refl
+put_value old out job (Some place) e = rw e refl
 
 pub put_calls : (r : Result (Option SliceJob) NoMemory) (before behind : Option Told)
     (old : Reception) (out : List SliceOut) (job : SliceJob)
@@ -84,7 +81,8 @@ put_calls (Ok back) before behind old out job h = (
 -- ---- a place is asked
 
 pub take_some : (before behind : Option Told) (old : Reception) (out : List SliceOut)
-    (new : Reception) (place : ℕ) (done : SliceDone) → Grows before behind (taking place (Some done))
+    (new : Reception) (place : ℕ) (done : SliceDone)
+    → Grows before behind (taking place (Some done))
     → out ≡ filter (not_at place) old.out
     → new ≡ takes_done (record old { out = out }) (answered done)
     → IsExchanged before behind old new (Takes place (Some done) ∷ [])

@@ -5,6 +5,7 @@ pub mod Exchanged
 pub mod Faults
 pub mod Keeping
 pub mod Freeing
+pub mod Released
 pub mod Shown
 pub mod Entered
 pub mod HeardLists

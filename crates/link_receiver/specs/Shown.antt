@@ -1,31 +1,63 @@
--- What goes out of a released picture by its planes, and what becomes of the stream.
-use Rattle.std.specs.Prelude.{ℕ, is_some, List, Option, Some, None}
+-- What goes out of a released picture by its planes, what becomes of the stream, and what the
+-- picture leaves.
+use Rattle.std.specs.Prelude.{◌≡◌, ℕ, is_some, List, Option, Some, None, IfSome}
 use Rattle.std.specs.Option.{option_map}
 use Rattle.link_model.specs.Output.{raw_bytes}
-use Rattle.link_reception.specs.Receptions.{StandingSession, FirstField}
-use Rattle.link_reception.specs.Releasing.{released_frame, field_behind}
+use Rattle.link_reception.specs.Receptions.{StandingSession, FirstField, PictureAnswers}
+use Rattle.link_reception.specs.Receptions.{answers_without}
+use Rattle.link_reception.specs.Releasing.{released_planes, released_frame, field_behind}
+use Rattle.link_reception.specs.Releasing.{fields_alone}
+use Rattle.link_reception.specs.WholeBooks.{ArePicturePlanes}
+use Rattle.link_receiver.specs.declared.showing.Seen.{Seen}
 use Rattle.unit_release.specs.Receiving.{whole_in}
 use Rattle.unit_release.specs.Writing.{WrittenStream, ReleasedPicture}
 use Rattle.unit_release.specs.Writing.{writes_picture, picture_bytes}
 use Rattle.vc_types.specs.Planes.{Planes}
 
-abbrev pub shown_picture : StandingSession → Option FirstField → ℕ → Option Planes
+-- the frame of which a picture is the last, by the answers to its slices
+abbrev pub shown_frame : StandingSession → List PictureAnswers → Option FirstField → ℕ
+    → Option Planes
+shown_frame st answers field n =
+    released_frame st.session.sequence field n (released_planes answers st.window n)
+
+abbrev pub shown_picture : StandingSession → List PictureAnswers → Option FirstField → ℕ
     → ReleasedPicture
-shown_picture st field n planes = record {
+shown_picture st answers field n = record {
   number = n;
   whole = whole_in st.window n;
-  has_frame = is_some (released_frame st.session.sequence field n planes);
-  waits = is_some (field_behind st.session.sequence n planes);
+  has_frame = is_some (shown_frame st answers field n);
+  waits = is_some (field_behind st.session.sequence n (released_planes answers st.window n));
 }
 
 -- its frame, or the units of that frame's pictures
-abbrev pub shown_bytes : Option WrittenStream → StandingSession → Option FirstField → ℕ
-    → Option Planes → List ℕ
-shown_bytes None st field n planes =
-    raw_bytes st.session.sequence (released_frame st.session.sequence field n planes)
-shown_bytes (Some w) st field n planes = picture_bytes w (shown_picture st field n planes)
+abbrev pub shown_bytes : Option WrittenStream → StandingSession → List PictureAnswers
+    → Option FirstField → ℕ → List ℕ
+shown_bytes None st answers field n =
+    raw_bytes st.session.sequence (shown_frame st answers field n)
+shown_bytes (Some w) st answers field n = picture_bytes w (shown_picture st answers field n)
 
-abbrev pub stream_behind_shown : Option WrittenStream → StandingSession → Option FirstField → ℕ
-    → Option Planes → Option WrittenStream
-stream_behind_shown stream st field n planes =
-    option_map (λ w. writes_picture w (shown_picture st field n planes)) stream
+abbrev pub stream_behind_shown : Option WrittenStream → StandingSession → List PictureAnswers
+    → Option FirstField → ℕ → Option WrittenStream
+stream_behind_shown stream st answers field n =
+    option_map (λ w. writes_picture w (shown_picture st answers field n)) stream
+
+-- ---- what it leaves
+
+-- a field that waits is a picture of the session
+abbrev pub WaitsIn : StandingSession → Option FirstField → Type 0
+WaitsIn st field = IfSome field (λ field. ArePicturePlanes st.session.sequence field.planes)
+
+-- its answers are forgotten, and it waits, or no field does; whether it is complete and sound,
+-- whether a frame is complete, and how many fields are part of none
+pub record IsSeen (st : StandingSession) (n : ℕ)
+    (old_answers : List PictureAnswers) (old_field : Option FirstField)
+    (new_answers : List PictureAnswers) (new_field : Option FirstField) (seen : Seen)
+    : Type 0 where
+  pub answers : new_answers ≡ answers_without old_answers n
+  pub field : new_field
+      ≡ field_behind st.session.sequence n (released_planes old_answers st.window n)
+  pub waiting : WaitsIn st new_field
+  pub sound : seen.is_sound ≡ is_some (released_planes old_answers st.window n)
+  pub has_frame : seen.shown.has_frame ≡ is_some (shown_frame st old_answers old_field n)
+  pub alone : seen.shown.alone
+      ≡ fields_alone st.session.sequence old_field n (released_planes old_answers st.window n)

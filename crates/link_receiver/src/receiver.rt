@@ -106,6 +106,7 @@ impl Receiver {
     /// decoded there, and writes each frame that may be written, or its units. It waits for nobody.
     /// `Ended` exactly where an earlier call failed or the input has ended; nothing changes then.
     /// After any other fault a prefix of what was to be written went out.
+    #[tactic(auto, using(crate::proofs::Asked::asked_none))]
     pub fn enter<P: Places, O: Sink>(
         &mut self,
         datagram: Bytes,
@@ -158,41 +159,6 @@ impl Receiver {
             → OnOk result (OfferedNewSlices (P.told places.old) (P.told places.new)
             self.old.reception size datagrams datagram) }
     {
-        self.take(datagram, places, sink)
-    }
-
-    #[tactic(auto, using(crate::proofs::Asked::asked_none))]
-    fn take<P: Places, O: Sink>(
-        &mut self,
-        datagram: Bytes,
-        places: &mut P,
-        sink: &mut O,
-    ) -> Result<Outcome, EnterFault>
-        requires below { PlacesAreBelow (P.bound places.old) self.old.reception.out }
-        ensures entered { IfOk result (λ outcome. (calls : List PlaceCall) × IsEntered
-            (record {
-              told_before = P.told places.old;
-              told_behind = P.told places.new;
-              held_before = O.held sink.old;
-              held_behind = O.held sink.new;
-              stream_before = self.old.stream;
-              stream_behind = self.new.stream;
-            }) self.old.reception self.new.reception datagram outcome calls) }
-        ensures ended { (result ≡ Err EnterFault.Ended) ↔ (has_stopped self.old ≡ true) }
-        ensures unchanged { result ≡ Err EnterFault.Ended → (self.new ≡ self.old)
-            × (places.new ≡ places.old) × (sink.new ≡ sink.old) }
-        ensures stops { OnErr result (has_stopped self.new ≡ true) }
-        ensures goes_on { OnOk result (has_stopped self.new ≡ false) }
-        ensures failed { OnErr result ((exchanges : List Exchange)
-            × AreDecodings (dones_in exchanges)
-            × GrewBySome (O.held sink.old) (O.held sink.new)
-            (datagram_output self.old.stream self.old.reception datagram exchanges)) }
-        ensures cause { HasCause (O.faults sink.old) (O.faults sink.new)
-            (result ≡ Err EnterFault.WriteFault) }
-        ensures asked { AskedPlaces (P.told places.old) (P.told places.new) }
-        ensures bound { P.bound places.new ≡ P.bound places.old }
-        ensures below { PlacesAreBelow (P.bound places.new) self.new.reception.out }
-    {
         if self.has_failed || self.reception.has_ended() {
             return Err(EnterFault::Ended);
         }
@@ -212,6 +178,7 @@ impl Receiver {
     /// written yet. It waits for nobody. `Ended` exactly where an earlier call failed or the input
     /// has ended; nothing changes then. After any other fault a prefix of what was to be written
     /// went out.
+    #[tactic(auto, using(crate::proofs::Asked::asked_none))]
     pub fn drain<P: Places, O: Sink>(
         &mut self,
         places: &mut P,
@@ -252,39 +219,6 @@ impl Receiver {
         ensures counts { (form : OutputForm) (size : ℕ) (datagrams : List (List ℕ))
             → HasHeard form self.old size datagrams
             → OnOk result (self.new.reception.counts ≡ tally_of size datagrams) }
-    {
-        self.take_end(places, sink)
-    }
-
-    #[tactic(auto, using(crate::proofs::Asked::asked_none))]
-    fn take_end<P: Places, O: Sink>(
-        &mut self,
-        places: &mut P,
-        sink: &mut O,
-    ) -> Result<(), EnterFault>
-        requires below { PlacesAreBelow (P.bound places.old) self.old.reception.out }
-        ensures drained { OnOk result ((calls : List PlaceCall) × IsDrained
-            (record {
-              told_before = P.told places.old;
-              told_behind = P.told places.new;
-              held_before = O.held sink.old;
-              held_behind = O.held sink.new;
-              stream_before = self.old.stream;
-              stream_behind = self.new.stream;
-            }) self.old.reception self.new.reception calls) }
-        ensures ended { (result ≡ Err EnterFault.Ended) ↔ (has_stopped self.old ≡ true) }
-        ensures unchanged { result ≡ Err EnterFault.Ended → (self.new ≡ self.old)
-            × (places.new ≡ places.old) × (sink.new ≡ sink.old) }
-        ensures stops { has_stopped self.new ≡ true }
-        ensures failed { OnErr result ((exchanges : List Exchange)
-            × AreDecodings (dones_in exchanges)
-            × GrewBySome (O.held sink.old) (O.held sink.new)
-            (end_output self.old.stream self.old.reception exchanges)) }
-        ensures cause { HasCause (O.faults sink.old) (O.faults sink.new)
-            (result ≡ Err EnterFault.WriteFault) }
-        ensures asked { AskedPlaces (P.told places.old) (P.told places.new) }
-        ensures bound { P.bound places.new ≡ P.bound places.old }
-        ensures below { PlacesAreBelow (P.bound places.new) self.new.reception.out }
     {
         if self.has_failed || self.reception.has_ended() {
             return Err(EnterFault::Ended);

@@ -1,15 +1,15 @@
 ghost use Rattle.std.specs.Prelude.{◌≡◌, OnOk, OnErr, Some, Err};
 ghost use Rattle.link_reception.specs.Releasing.{releases_picture_of};
 ghost use Rattle.link_reception.specs.Releasing.{freed_places, next_picture};
-ghost use Rattle.link_reception.specs.Releasing.{releases_all, book_count};
+ghost use Rattle.link_reception.specs.Releasing.{book_count};
 ghost use Rattle.link_receiver.specs.HeardLists.{AskedPlaces};
-ghost use Rattle.link_receiver.specs.Freeing.{all_freed_places};
+ghost use Rattle.link_receiver.specs.Released.{AreReleased};
 ghost use Rattle.link_receiver.specs.States.{WaitsForSecond};
 ghost use Rattle.link_receiver.specs.declared.fault.StepFault.{StepFault};
 ghost use Rattle.link_window.specs.Views.{releasable_of};
 ghost use Rattle.slice_exchange.specs.Calls.{PlacesAreBelow, freeing};
 ghost use Rattle.unit_release.specs.Outputs.{released_output, stream_behind_picture};
-ghost use Rattle.unit_release.specs.Outputs.{all_released_output, stream_behind_all};
+ghost use Rattle.unit_release.specs.Outputs.{all_released_output};
 ghost use Rattle.vc_ports.specs.Faults.{HasCause};
 ghost use Rattle.vc_ports.specs.Writing.{Grew, GrewBySome};
 ghost use Rattle.vc_slice.specs.Asked.{Grows};
@@ -33,12 +33,8 @@ impl Reception {
     ) -> Result<(), StepFault>
         requires waiting { WaitsForSecond self.old.standing self.old.field }
         requires below { PlacesAreBelow (P.bound places.old) self.old.out }
-        ensures value { OnOk result (self.new ≡ releases_all self.old) }
-        ensures stream { OnOk result (stream.new ≡ stream_behind_all stream.old self.old) }
-        ensures told { OnOk result (Grows (P.told places.old) (P.told places.new)
-            (freeing (all_freed_places self.old))) }
-        ensures written { OnOk result (Grew (O.held sink.old) (O.held sink.new)
-            (all_released_output stream.old self.old)) }
+        ensures released { OnOk result (AreReleased (P.told places.old) (P.told places.new)
+            (O.held sink.old) (O.held sink.new) stream.old stream.new self.old self.new) }
         ensures waiting { OnOk result (WaitsForSecond self.new.standing self.new.field) }
         ensures err { OnErr result (GrewBySome (O.held sink.old) (O.held sink.new)
             (all_released_output stream.old self.old)) }

@@ -1,14 +1,13 @@
-ghost use Rattle.std.specs.Prelude.{◌≡◌, IfOk, IfSome, OnOk, OnErr, Err, is_some, None};
+ghost use Rattle.std.specs.Prelude.{◌≡◌, IfOk, IfSome, OnOk, OnErr, Err, is_some, None, Some};
 ghost use Rattle.std.specs.Option.{option_map, option_copied, option_and_then};
 ghost use Rattle.link_model.specs.Books.{book_whole};
-ghost use Rattle.link_model.specs.Output.{raw_bytes};
 ghost use Rattle.link_reception.specs.Receptions.{answers_without};
-ghost use Rattle.link_reception.specs.Releasing.{released_planes, released_frame, field_behind};
-ghost use Rattle.link_reception.specs.Releasing.{fields_alone};
+ghost use Rattle.link_reception.specs.Releasing.{released_planes};
 ghost use Rattle.link_reception.specs.WholeBooks.{ArePicturePlanes};
-ghost use Rattle.link_receiver.specs.Shown.{shown_bytes, stream_behind_shown, shown_picture};
+ghost use Rattle.link_receiver.specs.Shown.{shown_picture, shown_bytes, stream_behind_shown};
+ghost use Rattle.link_receiver.specs.Shown.{WaitsIn, IsSeen};
 ghost use Rattle.link_receiver.specs.declared.fault.StepFault.{StepFault};
-ghost use Rattle.unit_release.specs.Writing.{picture_bytes, writes_picture};
+ghost use Rattle.unit_release.specs.Writing.{writes_picture};
 ghost use Rattle.vc_ports.specs.Faults.{HasCause};
 ghost use Rattle.vc_ports.specs.Writing.{Grew, GrewBySome};
 ghost use Rattle.vc_types.specs.Planes.{planes_in};
@@ -38,32 +37,15 @@ pub(crate) fn show<O: Sink>(
     number: u64,
     sink: &mut O,
 ) -> Result<Seen, StepFault>
-    requires waiting { let s = standing.now.session.sequence in
-        IfSome field.old (λ field. ArePicturePlanes s field.planes) }
-    ensures answers { OnOk result (answers.new ≡ answers_without answers.old number) }
-    ensures sound { let planes = released_planes answers.old standing.now.window number in
-        IfOk result (λ seen. seen.is_sound ≡ is_some planes) }
-    ensures field { let s = standing.now.session.sequence in
-        let planes = released_planes answers.old standing.now.window number in
-        OnOk result (field.new ≡ field_behind s number planes) }
-    ensures waiting { let s = standing.now.session.sequence in
-        OnOk result (IfSome field.new (λ field. ArePicturePlanes s field.planes)) }
-    ensures has_frame { let s = standing.now.session.sequence in
-        let planes = released_planes answers.old standing.now.window number in
-        IfOk result (λ seen. seen.shown.has_frame
-        ≡ is_some (released_frame s field.old number planes)) }
-    ensures alone { let s = standing.now.session.sequence in
-        let planes = released_planes answers.old standing.now.window number in
-        IfOk result (λ seen. seen.shown.alone ≡ fields_alone s field.old number planes) }
-    ensures stream { let planes = released_planes answers.old standing.now.window number in
-        OnOk result (stream.new
-        ≡ stream_behind_shown stream.old standing.now field.old number planes) }
-    ensures ok { let planes = released_planes answers.old standing.now.window number in
-        OnOk result (Grew (O.held sink.old) (O.held sink.new)
-        (shown_bytes stream.old standing.now field.old number planes)) }
-    ensures err { let planes = released_planes answers.old standing.now.window number in
-        OnErr result (GrewBySome (O.held sink.old) (O.held sink.new)
-        (shown_bytes stream.old standing.now field.old number planes)) }
+    requires waiting { WaitsIn standing.now field.old }
+    ensures seen { IfOk result
+        (IsSeen standing.now number answers.old field.old answers.new field.new) }
+    ensures stream { OnOk result (stream.new
+        ≡ stream_behind_shown stream.old standing.now answers.old field.old number) }
+    ensures ok { OnOk result (Grew (O.held sink.old) (O.held sink.new)
+        (shown_bytes stream.old standing.now answers.old field.old number)) }
+    ensures err { OnErr result (GrewBySome (O.held sink.old) (O.held sink.new)
+        (shown_bytes stream.old standing.now answers.old field.old number)) }
     ensures cause { HasCause (O.faults sink.old) (O.faults sink.new)
         (result ≡ Err StepFault.WriteFault) }
 {
@@ -80,31 +62,13 @@ fn show_frame<O: Sink>(
     number: u64,
     sink: &mut O,
 ) -> Result<Seen, StepFault>
-    requires waiting { let s = standing.now.session.sequence in
-        IfSome field.old (λ field. ArePicturePlanes s field.planes) }
-    ensures answers { OnOk result (answers.new ≡ answers_without answers.old number) }
-    ensures sound { let planes = released_planes answers.old standing.now.window number in
-        IfOk result (λ seen. seen.is_sound ≡ is_some planes) }
-    ensures field { let s = standing.now.session.sequence in
-        let planes = released_planes answers.old standing.now.window number in
-        OnOk result (field.new ≡ field_behind s number planes) }
-    ensures waiting { let s = standing.now.session.sequence in
-        OnOk result (IfSome field.new (λ field. ArePicturePlanes s field.planes)) }
-    ensures has_frame { let s = standing.now.session.sequence in
-        let planes = released_planes answers.old standing.now.window number in
-        IfOk result (λ seen. seen.shown.has_frame
-        ≡ is_some (released_frame s field.old number planes)) }
-    ensures alone { let s = standing.now.session.sequence in
-        let planes = released_planes answers.old standing.now.window number in
-        IfOk result (λ seen. seen.shown.alone ≡ fields_alone s field.old number planes) }
-    ensures ok { let planes = released_planes answers.old standing.now.window number in
-        OnOk result (Grew (O.held sink.old) (O.held sink.new)
-        (raw_bytes standing.now.session.sequence
-        (released_frame standing.now.session.sequence field.old number planes))) }
-    ensures err { let planes = released_planes answers.old standing.now.window number in
-        OnErr result (GrewBySome (O.held sink.old) (O.held sink.new)
-        (raw_bytes standing.now.session.sequence
-        (released_frame standing.now.session.sequence field.old number planes))) }
+    requires waiting { WaitsIn standing.now field.old }
+    ensures seen { IfOk result
+        (IsSeen standing.now number answers.old field.old answers.new field.new) }
+    ensures ok { OnOk result (Grew (O.held sink.old) (O.held sink.new)
+        (shown_bytes None standing.now answers.old field.old number)) }
+    ensures err { OnErr result (GrewBySome (O.held sink.old) (O.held sink.new)
+        (shown_bytes None standing.now answers.old field.old number)) }
     ensures cause { HasCause (O.faults sink.old) (O.faults sink.new)
         (result ≡ Err StepFault.WriteFault) }
 {
@@ -122,32 +86,15 @@ fn show_units<O: Sink>(
     number: u64,
     sink: &mut O,
 ) -> Result<Seen, StepFault>
-    requires waiting { let s = standing.now.session.sequence in
-        IfSome field.old (λ field. ArePicturePlanes s field.planes) }
-    ensures answers { OnOk result (answers.new ≡ answers_without answers.old number) }
-    ensures sound { let planes = released_planes answers.old standing.now.window number in
-        IfOk result (λ seen. seen.is_sound ≡ is_some planes) }
-    ensures field { let s = standing.now.session.sequence in
-        let planes = released_planes answers.old standing.now.window number in
-        OnOk result (field.new ≡ field_behind s number planes) }
-    ensures waiting { let s = standing.now.session.sequence in
-        OnOk result (IfSome field.new (λ field. ArePicturePlanes s field.planes)) }
-    ensures has_frame { let s = standing.now.session.sequence in
-        let planes = released_planes answers.old standing.now.window number in
-        IfOk result (λ seen. seen.shown.has_frame
-        ≡ is_some (released_frame s field.old number planes)) }
-    ensures alone { let s = standing.now.session.sequence in
-        let planes = released_planes answers.old standing.now.window number in
-        IfOk result (λ seen. seen.shown.alone ≡ fields_alone s field.old number planes) }
-    ensures stream { let planes = released_planes answers.old standing.now.window number in
-        OnOk result (stream.new ≡ writes_picture stream.old
-        (shown_picture standing.now field.old number planes)) }
-    ensures ok { let planes = released_planes answers.old standing.now.window number in
-        OnOk result (Grew (O.held sink.old) (O.held sink.new)
-        (picture_bytes stream.old (shown_picture standing.now field.old number planes))) }
-    ensures err { let planes = released_planes answers.old standing.now.window number in
-        OnErr result (GrewBySome (O.held sink.old) (O.held sink.new)
-        (picture_bytes stream.old (shown_picture standing.now field.old number planes))) }
+    requires waiting { WaitsIn standing.now field.old }
+    ensures seen { IfOk result
+        (IsSeen standing.now number answers.old field.old answers.new field.new) }
+    ensures stream { OnOk result (stream.new ≡ writes_picture stream.old
+        (shown_picture standing.now answers.old field.old number)) }
+    ensures ok { OnOk result (Grew (O.held sink.old) (O.held sink.new)
+        (shown_bytes (Some stream.old) standing.now answers.old field.old number)) }
+    ensures err { OnErr result (GrewBySome (O.held sink.old) (O.held sink.new)
+        (shown_bytes (Some stream.old) standing.now answers.old field.old number)) }
     ensures cause { HasCause (O.faults sink.old) (O.faults sink.new)
         (result ≡ Err StepFault.WriteFault) }
 {
@@ -171,23 +118,9 @@ fn pass(
     standing: &Standing,
     number: u64,
 ) -> Result<Seen, NoMemory>
-    requires waiting { let s = standing.now.session.sequence in
-        IfSome field.old (λ field. ArePicturePlanes s field.planes) }
-    ensures answers { OnOk result (answers.new ≡ answers_without answers.old number) }
-    ensures sound { let planes = released_planes answers.old standing.now.window number in
-        IfOk result (λ seen. seen.is_sound ≡ is_some planes) }
-    ensures field { let s = standing.now.session.sequence in
-        let planes = released_planes answers.old standing.now.window number in
-        OnOk result (field.new ≡ field_behind s number planes) }
-    ensures waiting { let s = standing.now.session.sequence in
-        OnOk result (IfSome field.new (λ field. ArePicturePlanes s field.planes)) }
-    ensures has_frame { let s = standing.now.session.sequence in
-        let planes = released_planes answers.old standing.now.window number in
-        IfOk result (λ seen. seen.shown.has_frame
-        ≡ is_some (released_frame s field.old number planes)) }
-    ensures alone { let s = standing.now.session.sequence in
-        let planes = released_planes answers.old standing.now.window number in
-        IfOk result (λ seen. seen.shown.alone ≡ fields_alone s field.old number planes) }
+    requires waiting { WaitsIn standing.now field.old }
+    ensures seen { IfOk result
+        (IsSeen standing.now number answers.old field.old answers.new field.new) }
 {
     let header = standing.header();
     if header.fields && number % 2 == 0 {

@@ -3,7 +3,7 @@ use Rattle.std.proofs.Common.{◌≡◌, append_assoc, append-nil, ap, ◌∙◌
 use Rattle.std.specs.Prelude.{Option, None, Some}
 use Rattle.vc_slice.specs.Asked.{Told, Grows, nothing_told, told_more}
 
-told_assoc : (a b c : Told) → told_more (told_more a b) c ≡ told_more a (told_more b c)
+pub told_assoc : (a b c : Told) → told_more (told_more a b) c ≡ told_more a (told_more b c)
 told_assoc a b c = simp append_assoc
 
 pub grows_twice : (a b c : Option Told) (d e : Told) → Grows a b d → Grows b c e

@@ -1,10 +1,9 @@
 use Rattle.std.proofs.Common.{◌≤◌, ℕ, sym, subst}
 use Rattle.link_receiver.proofs.Asked.{asked_twice}
-use Rattle.link_receiver.proofs.Entering.{waits_exchanged, fails_early, fails_in, size_released, goes_on_behind, has_ended_behind, enters}
+use Rattle.link_receiver.proofs.Entering.{waits_exchanged, fails_early, fails_in, fails_released, size_released, goes_on_behind, has_ended_behind, enters}
 use Rattle.link_receiver.proofs.Steps.{on_err}
 use Rattle.std.specs.Option.{option_map}
 use Rattle.link_session.specs.Openings.{session_of}
-use Rattle.vc_ports.proofs.Growing.{GrewBySome-all}
 use Rattle.link_receiver.proofs.reception.Reception.enter.Goals as goal
 
 pub returns-in_err-kept-clause-below : goal.returns-in_err-kept-clause-below
@@ -18,73 +17,56 @@ pub exchange-requires : goal.exchange-requires
 exchange-requires g c = record { below = rw c.keep.ensures.out c.requires.below }
 
 pub release_all-requires-clause-waiting : goal.release_all-requires-clause-waiting
-release_all-requires-clause-waiting g c = waits_exchanged _ _ c.args.self.now c.keep.new.self
-    c.exchange.new.self c.args.datagram.now _ c.in_ok-kept.ensures.value
+release_all-requires-clause-waiting g c = waits_exchanged _ _ _ c.in_ok-kept.ensures.value
     c.in_ok-exchange.ensures.exchanged c.requires.goes_on.waiting
 
 pub returns-in_err-release_all-clause-failed : goal.returns-in_err-release_all-clause-failed
-returns-in_err-release_all-clause-failed g c = on_err _ _ (fails_in _ _ c.args.self.now
-    c.keep.new.self c.exchange.new.self c.args.datagram.now _ c.in_ok-kept.ensures.value
+returns-in_err-release_all-clause-failed g c = on_err _ _ (fails_in _ _ _ c.in_ok-kept.ensures.value
     c.in_ok-exchange.ensures.exchanged c.args.stream.now _ _ c.in_err-release_all.ensures.err)
 
 pub open-requires-clause-least : goal.open-requires-clause-least
 open-requires-clause-least g c = subst (λ (n : ℕ). 2 ≤ n)
-    (sym (size_released _ _ c.args.self.now c.keep.new.self c.exchange.new.self
-    c.args.datagram.now _ c.in_ok-kept.ensures.value c.in_ok-exchange.ensures.exchanged
-    c.release_all.new.self c.in_ok-release_all.ensures.value)) c.requires.goes_on.least
+    (sym (size_released _ _ _ c.in_ok-kept.ensures.value c.in_ok-exchange.ensures.exchanged
+    c.in_ok-release_all.ensures.released)) c.requires.goes_on.least
 
 pub open-requires-clause-most : goal.open-requires-clause-most
 open-requires-clause-most g c = subst (λ (n : ℕ). n ≤ 8)
-    (sym (size_released _ _ c.args.self.now c.keep.new.self c.exchange.new.self
-    c.args.datagram.now _ c.in_ok-kept.ensures.value c.in_ok-exchange.ensures.exchanged
-    c.release_all.new.self c.in_ok-release_all.ensures.value)) c.requires.goes_on.most
+    (sym (size_released _ _ _ c.in_ok-kept.ensures.value c.in_ok-exchange.ensures.exchanged
+    c.in_ok-release_all.ensures.released)) c.requires.goes_on.most
 
 pub returns-in_err-open-clause-failed : goal.returns-in_err-open-clause-failed
-returns-in_err-open-clause-failed g c = on_err _ _ (fails_in _ _ c.args.self.now
-    c.keep.new.self c.exchange.new.self c.args.datagram.now _ c.in_ok-kept.ensures.value
-    c.in_ok-exchange.ensures.exchanged c.args.stream.now _ _
-    (GrewBySome-all _ _ _ c.in_ok-release_all.ensures.written))
+returns-in_err-open-clause-failed g c = on_err _ _ (fails_released _ _ _
+    c.in_ok-kept.ensures.value c.in_ok-exchange.ensures.exchanged
+    c.in_ok-release_all.ensures.released)
 
 pub returns-in_err-open-clause-below : goal.returns-in_err-open-clause-below
 returns-in_err-open-clause-below g c = rw c.open.ensures.out c.release_all.ensures.below
 
 pub returns-in_err-open_stream-clause-failed : goal.returns-in_err-open_stream-clause-failed
-returns-in_err-open_stream-clause-failed g c = on_err _ _ (fails_in _ _ c.args.self.now
-    c.keep.new.self c.exchange.new.self c.args.datagram.now _ c.in_ok-kept.ensures.value
-    c.in_ok-exchange.ensures.exchanged c.args.stream.now _ _
-    (GrewBySome-all _ _ _ c.in_ok-release_all.ensures.written))
+returns-in_err-open_stream-clause-failed g c = on_err _ _ (fails_released _ _ _
+    c.in_ok-kept.ensures.value c.in_ok-exchange.ensures.exchanged
+    c.in_ok-release_all.ensures.released)
 
 pub returns-in_err-open_stream-clause-asked : goal.returns-in_err-open_stream-clause-asked
 returns-in_err-open_stream-clause-asked g c = asked_twice _ _ _ c.in_ok-exchange.ensures.asked
     c.in_ok-release_all.ensures.asked
 
 pub returns-clause-entered : goal.returns-clause-entered
-returns-clause-entered g c = enters _ _ c.args.self.now c.keep.new.self c.exchange.new.self
-    c.args.datagram.now _ c.in_ok-kept.ensures.value c.in_ok-exchange.ensures.exchanged
-    c.release_all.new.self c.in_ok-release_all.ensures.value
-    (g.P.Places.told c.release_all.new.places) (g.O.Sink.held c.args.sink.now)
-    (g.O.Sink.held c.release_all.new.sink) c.in_ok-kept.kept.outcome
-    (option_map session_of c.in_ok-kept.kept.opening) c.open.new.self
-    c.args.stream.now c.release_all.new.stream c.open_stream.new.stream _ _ c.is_idle-is_first.ensures
-    c.deref-2.ensures
+returns-clause-entered g c = enters _ _ _ c.in_ok-kept.ensures.value c.in_ok-exchange.ensures.exchanged
+    c.in_ok-release_all.ensures.released c.is_idle-is_first.ensures c.deref-2.ensures
     (rw c.deref.ensures.value c.in_ok-kept.ensures.jobs) c.in_ok-kept.ensures.outcome
-    c.in_ok-kept.ensures.opening c.in_ok-release_all.ensures.told
-    c.in_ok-release_all.ensures.written c.in_ok-open.ensures.value
-    c.in_ok-release_all.ensures.stream
-    c.in_ok-open_stream.ensures
+    c.in_ok-kept.ensures.opening c.in_ok-open.ensures.value c.in_ok-open_stream.ensures
 
 pub returns-clause-goes_on : goal.returns-clause-goes_on
-returns-clause-goes_on g c = goes_on_behind _ _ c.args.self.now c.keep.new.self
-    c.exchange.new.self c.args.datagram.now _ c.in_ok-kept.ensures.value
-    c.in_ok-exchange.ensures.exchanged c.release_all.new.self c.in_ok-release_all.ensures.value
-    c.requires.goes_on c.in_ok-release_all.ensures.waiting c.in_ok-kept.kept.opening
-    c.in_ok-kept.ensures.running c.open.new.self c.in_ok-open.ensures.value
+returns-clause-goes_on g c = goes_on_behind _ _ _ c.in_ok-kept.ensures.value
+    c.in_ok-exchange.ensures.exchanged c.in_ok-release_all.ensures.released c.requires.goes_on
+    c.in_ok-release_all.ensures.waiting c.in_ok-kept.kept.opening c.in_ok-kept.ensures.running
+    c.in_ok-open.ensures.value
 
 pub returns-clause-has_ended : goal.returns-clause-has_ended
-returns-clause-has_ended g c = has_ended_behind _ _ c.args.self.now c.keep.new.self
-    c.exchange.new.self c.args.datagram.now _ c.in_ok-kept.ensures.value
-    c.in_ok-exchange.ensures.exchanged c.release_all.new.self c.in_ok-release_all.ensures.value
-    (option_map session_of c.in_ok-kept.kept.opening) c.open.new.self c.in_ok-open.ensures.value
+returns-clause-has_ended g c = has_ended_behind _ _ _ c.in_ok-kept.ensures.value
+    c.in_ok-exchange.ensures.exchanged c.in_ok-release_all.ensures.released
+    (option_map session_of c.in_ok-kept.kept.opening) c.in_ok-open.ensures.value
 
 pub returns-in_err-release_all-clause-asked : goal.returns-in_err-release_all-clause-asked
 returns-in_err-release_all-clause-asked g c = asked_twice _ _ _ c.in_ok-exchange.ensures.asked

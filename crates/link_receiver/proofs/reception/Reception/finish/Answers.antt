@@ -1,38 +1,34 @@
 use Rattle.link_receiver.proofs.Asked.{asked_twice}
-use Rattle.link_receiver.proofs.Entering.{waits_at_end, fails_at_end, fails_last, ended_behind, drains}
+use Rattle.link_receiver.proofs.Entering.{waits_at_end, fails_at_end, fails_released_at_end, fails_last, ended_behind, drains}
 use Rattle.link_receiver.proofs.Steps.{on_err}
-use Rattle.vc_ports.proofs.Growing.{GrewBySome-all}
 use Rattle.link_receiver.proofs.reception.Reception.finish.Goals as goal
 
 pub release_all-requires-clause-waiting : goal.release_all-requires-clause-waiting
-release_all-requires-clause-waiting g c = waits_at_end _ _ c.args.self.now c.end_input.new.self
-    c.take_back.new.self c.end_input.ensures c.in_ok-take_back.ensures.exchanged
-    c.requires.waiting
+release_all-requires-clause-waiting g c = waits_at_end c.args.self.now c.end_input.ensures
+    c.in_ok-take_back.ensures.exchanged c.requires.waiting
 
 pub returns-in_err-release_all-clause-failed : goal.returns-in_err-release_all-clause-failed
-returns-in_err-release_all-clause-failed g c = on_err _ _ (fails_at_end _ _ c.args.self.now
-    c.end_input.new.self c.take_back.new.self c.end_input.ensures
-    c.in_ok-take_back.ensures.exchanged c.args.stream.now _ _ c.in_err-release_all.ensures.err)
+returns-in_err-release_all-clause-failed g c = on_err _ _ (fails_at_end
+    c.args.self.now c.end_input.ensures c.in_ok-take_back.ensures.exchanged c.args.stream.now
+    _ _ c.in_err-release_all.ensures.err)
 
 pub returns-in_err-give_up_field-clause-failed : goal.returns-in_err-give_up_field-clause-failed
-returns-in_err-give_up_field-clause-failed g c = on_err _ _ (fails_at_end _ _ c.args.self.now
-    c.end_input.new.self c.take_back.new.self c.end_input.ensures
-    c.in_ok-take_back.ensures.exchanged c.args.stream.now _ _
-    (GrewBySome-all _ _ _ c.in_ok-release_all.ensures.written))
+returns-in_err-give_up_field-clause-failed g c = on_err _ _ (fails_released_at_end
+    c.args.self.now c.end_input.ensures c.in_ok-take_back.ensures.exchanged
+    c.in_ok-release_all.ensures.released)
 
 pub returns-in_err-give_up_field-clause-below : goal.returns-in_err-give_up_field-clause-below
 returns-in_err-give_up_field-clause-below g c =
     rw c.give_up_field.ensures.out c.release_all.ensures.below
 
 pub returns-in_err-end_stream-clause-failed : goal.returns-in_err-end_stream-clause-failed
-returns-in_err-end_stream-clause-failed g c = on_err _ _ (fails_last _ _ c.args.self.now
-    c.end_input.new.self c.take_back.new.self c.end_input.ensures
-    c.in_ok-take_back.ensures.exchanged c.args.stream.now c.release_all.new.stream _ _ _
-    c.in_ok-release_all.ensures.stream c.in_ok-release_all.ensures.written
+returns-in_err-end_stream-clause-failed g c = on_err _ _ (fails_last c.args.self.now
+    c.end_input.ensures c.in_ok-take_back.ensures.exchanged c.in_ok-release_all.ensures.released _
     c.in_err-end_stream.ensures.err)
 
 pub returns-in_err-end_stream-clause-below : goal.returns-in_err-end_stream-clause-below
-returns-in_err-end_stream-clause-below g c = rw c.give_up_field.ensures.out c.release_all.ensures.below
+returns-in_err-end_stream-clause-below g c =
+    rw c.give_up_field.ensures.out c.release_all.ensures.below
 
 pub returns-in_err-end_stream-clause-asked : goal.returns-in_err-end_stream-clause-asked
 returns-in_err-end_stream-clause-asked g c = asked_twice _ _ _ c.in_ok-take_back.ensures.asked
@@ -42,20 +38,14 @@ pub returns-clause-below : goal.returns-clause-below
 returns-clause-below g c = rw c.give_up_field.ensures.out c.release_all.ensures.below
 
 pub returns-clause-has_ended : goal.returns-clause-has_ended
-returns-clause-has_ended g c = ended_behind _ _ c.args.self.now c.end_input.new.self
-    c.take_back.new.self c.end_input.ensures c.in_ok-take_back.ensures.exchanged
-    c.release_all.new.self c.give_up_field.new.self c.in_ok-release_all.ensures.value
+returns-clause-has_ended g c = ended_behind c.args.self.now c.end_input.ensures
+    c.in_ok-take_back.ensures.exchanged c.in_ok-release_all.ensures.released
     c.in_ok-give_up_field.ensures.value
 
 pub returns-clause-drained : goal.returns-clause-drained
-returns-clause-drained g c = drains _ _ c.args.self.now c.end_input.new.self
-    c.take_back.new.self c.end_input.ensures c.in_ok-take_back.ensures.exchanged
-    c.release_all.new.self c.give_up_field.new.self c.in_ok-release_all.ensures.value
-    c.in_ok-give_up_field.ensures.value (g.P.Places.told c.release_all.new.places)
-    (g.O.Sink.held c.args.sink.now) (g.O.Sink.held c.release_all.new.sink)
-    (g.O.Sink.held c.end_stream.new.sink) c.args.stream.now c.release_all.new.stream
-    c.in_ok-release_all.ensures.told c.in_ok-release_all.ensures.written
-    c.in_ok-release_all.ensures.stream c.in_ok-end_stream.ensures.written
+returns-clause-drained g c = drains c.args.self.now c.end_input.ensures
+    c.in_ok-take_back.ensures.exchanged c.in_ok-release_all.ensures.released
+    c.in_ok-give_up_field.ensures.value _ c.in_ok-end_stream.ensures.written
 
 pub returns-in_err-release_all-clause-asked : goal.returns-in_err-release_all-clause-asked
 returns-in_err-release_all-clause-asked g c = asked_twice _ _ _ c.in_ok-take_back.ensures.asked

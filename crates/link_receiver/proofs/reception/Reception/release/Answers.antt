@@ -1,6 +1,5 @@
-use Rattle.std.proofs.Common.{◌≡◌, refl, subst}
+use Rattle.std.proofs.Common.{◌≡◌, subst}
 use Rattle.link_reception.specs.Receptions.{Reception}
-use Rattle.link_reception.specs.Releasing.{released_planes}
 use Rattle.link_receiver.proofs.Steps.{on_err, shown_output}
 use Rattle.link_window.specs.Views.{releasable_of}
 use Rattle.unit_release.specs.Outputs.{released_output}
@@ -24,6 +23,5 @@ returns-in_err-self-inside-clause-err g c =
     (g.O.Sink.held c.show.new.sink)
     (released_output c.args.stream.now s (releasable_of c.args.picture))) same
     (subst (GrewBySome (g.O.Sink.held c.args.sink.now) (g.O.Sink.held c.show.new.sink))
-    (shown_output r c.in-Some.standing (releasable_of c.args.picture)
-    (released_planes r.answers c.in-Some.standing.window c.args.picture.number) c.in-Some.is refl
+    (shown_output r c.in-Some.standing (releasable_of c.args.picture) c.in-Some.is
     c.args.stream.now) (GrewBySome-all _ _ _ c.in_ok-seen.ensures.ok)))

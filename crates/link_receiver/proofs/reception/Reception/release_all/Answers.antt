@@ -1,22 +1,17 @@
-use Rattle.std.proofs.Common.{◌≡◌, ◌-◌, ◌+◌, ◌∙◌, suc, Some, None, ap, sym, subst, refl, arith, ℕ}
+use Rattle.std.proofs.Common.{◌≡◌, ◌-◌, ◌+◌, ◌∙◌, suc, Some, None, ap, sym, refl, arith, ℕ}
 use Rattle.std.specs.Option.{option_map}
 use Rattle.link_reception.specs.Releasing.{book_count, next_picture}
 use Rattle.link_receiver.proofs.Asked.{asked_none, asked_twice}
-use Rattle.link_receiver.proofs.ReleaseLoop.{IsReleasing, releasing_begins, releasing_goes_on, releasing_fails, releasing_stops, releasing_ends}
+use Rattle.link_receiver.proofs.ReleaseLoop.{releasing_begins, releasing_goes_on, releasing_fails, releasing_stops, releasing_ends}
 use Rattle.link_receiver.proofs.Steps.{on_err}
 use Rattle.link_window.specs.Views.{releasable_of}
 use Rattle.link_receiver.proofs.reception.Reception.release_all.Goals as goal
 
 pub loop-init : goal.loop-init
 loop-init g c =
-    let n : ℕ = book_count c.args.self.now in
-    let e : n ≡ n - 0 = omega arith in
+    let e : book_count c.args.self.now - 0 ≡ book_count c.args.self.now = omega arith in
     record {
-      releasing = subst (λ (left : ℕ). IsReleasing n left c.args.self.now c.args.self.now
-          c.args.stream.now c.args.stream.now (g.O.Sink.held c.args.sink.now) (g.O.Sink.held c.args.sink.now)
-          (g.P.Places.told c.args.places.now) (g.P.Places.told c.args.places.now)) e
-          (releasing_begins n c.args.self.now c.args.stream.now (g.O.Sink.held c.args.sink.now)
-          (g.P.Places.told c.args.places.now));
+      releasing = releasing_begins e _ _ _ _;
       within = c.open_pictures-end.ensures;
       later = omega arith;
       waiting = c.requires.waiting;
@@ -25,53 +20,17 @@ loop-init g c =
       below = c.requires.below;
     }
 
-pub returns-in_default-clause-value : goal.returns-in_default-clause-value
-returns-in_default-clause-value g c =
+pub returns-in_default-clause-released : goal.returns-in_default-clause-released
+returns-in_default-clause-released g c =
     let none : next_picture c.loop.self ≡ None = sym c.next_release.ensures
     ∙ ap (option_map releasable_of) c.in_default.is in
-    (releasing_stops _ _ _ _ _ _ _ _ _ _ c.loop.invariant.releasing none).value
+    releasing_stops c.loop.invariant.releasing none
 
-pub returns-in_default-clause-stream : goal.returns-in_default-clause-stream
-returns-in_default-clause-stream g c =
-    let none : next_picture c.loop.self ≡ None = sym c.next_release.ensures
-    ∙ ap (option_map releasable_of) c.in_default.is in
-    (releasing_stops _ _ _ _ _ _ _ _ _ _ c.loop.invariant.releasing none).streams
-
-pub returns-in_default-clause-told : goal.returns-in_default-clause-told
-returns-in_default-clause-told g c =
-    let none : next_picture c.loop.self ≡ None = sym c.next_release.ensures
-    ∙ ap (option_map releasable_of) c.in_default.is in
-    (releasing_stops _ _ _ _ _ _ _ _ _ _ c.loop.invariant.releasing none).grows
-
-pub returns-in_default-clause-written : goal.returns-in_default-clause-written
-returns-in_default-clause-written g c =
-    let none : next_picture c.loop.self ≡ None = sym c.next_release.ensures
-    ∙ ap (option_map releasable_of) c.in_default.is in
-    (releasing_stops _ _ _ _ _ _ _ _ _ _ c.loop.invariant.releasing none).grew
-
-pub returns-clause-value : goal.returns-clause-value
-returns-clause-value g c =
+pub returns-clause-released : goal.returns-clause-released
+returns-clause-released g c =
     let left : book_count c.args.self.now - c.loop.counter ≡ 0 =
     omega (arith, c.loop.invariant.within, c.loop-test.false) in
-    (releasing_ends _ _ _ _ _ _ _ _ _ _ c.loop.invariant.releasing left).value
-
-pub returns-clause-stream : goal.returns-clause-stream
-returns-clause-stream g c =
-    let left : book_count c.args.self.now - c.loop.counter ≡ 0 =
-    omega (arith, c.loop.invariant.within, c.loop-test.false) in
-    (releasing_ends _ _ _ _ _ _ _ _ _ _ c.loop.invariant.releasing left).streams
-
-pub returns-clause-told : goal.returns-clause-told
-returns-clause-told g c =
-    let left : book_count c.args.self.now - c.loop.counter ≡ 0 =
-    omega (arith, c.loop.invariant.within, c.loop-test.false) in
-    (releasing_ends _ _ _ _ _ _ _ _ _ _ c.loop.invariant.releasing left).grows
-
-pub returns-clause-written : goal.returns-clause-written
-returns-clause-written g c =
-    let left : book_count c.args.self.now - c.loop.counter ≡ 0 =
-    omega (arith, c.loop.invariant.within, c.loop-test.false) in
-    (releasing_ends _ _ _ _ _ _ _ _ _ _ c.loop.invariant.releasing left).grew
+    releasing_ends c.loop.invariant.releasing left
 
 pub returns-in_err-release-clause-err : goal.returns-in_err-release-clause-err
 returns-in_err-release-clause-err g c =
@@ -80,11 +39,7 @@ returns-in_err-release-clause-err g c =
     omega (arith, c.loop.invariant.within, c.loop-test.true) in
     let next : next_picture c.loop.self ≡ Some (releasable_of c.in-Some.picture) =
     sym c.next_release.ensures ∙ ap (option_map releasable_of) c.in-Some.is in
-    let now = subst (λ (left : ℕ). IsReleasing n left c.args.self.now c.loop.self
-    c.args.stream.now c.loop.stream (g.O.Sink.held c.args.sink.now) (g.O.Sink.held c.loop.sink)
-    (g.P.Places.told c.args.places.now) (g.P.Places.told c.loop.places)) e
-    c.loop.invariant.releasing in
-    on_err _ _ (releasing_fails n (n - (c.loop.counter + 1)) _ _ _ _ _ _ _ _ now
+    on_err _ _ (releasing_fails e c.loop.invariant.releasing
     (releasable_of c.in-Some.picture) next _ c.in_err-release.ensures.err)
 
 pub loop-preserved : goal.loop-preserved
@@ -94,12 +49,8 @@ loop-preserved g c =
     omega (arith, c.loop.invariant.within, c.loop-test.true) in
     let next : next_picture c.loop.self ≡ Some (releasable_of c.in-Some.picture) =
     sym c.next_release.ensures ∙ ap (option_map releasable_of) c.in-Some.is in
-    let now = subst (λ (left : ℕ). IsReleasing n left c.args.self.now c.loop.self
-    c.args.stream.now c.loop.stream (g.O.Sink.held c.args.sink.now) (g.O.Sink.held c.loop.sink)
-    (g.P.Places.told c.args.places.now) (g.P.Places.told c.loop.places)) e
-    c.loop.invariant.releasing in
     record {
-      releasing = releasing_goes_on n (n - (c.loop.counter + 1)) _ _ _ _ _ _ _ _ now
+      releasing = releasing_goes_on e c.loop.invariant.releasing
           (releasable_of c.in-Some.picture) next _ _ _ _ c.in_ok-release.ensures.value
           c.in_ok-release.ensures.stream
           c.in_ok-release.ensures.written c.in_ok-release.ensures.told;
