@@ -68,7 +68,8 @@ module _ {inside old : ReceiverState} (is : inside ≡ old) where
                 then.stands;
             heard = then.heard;
             goes_on = then.goes_on;
-            out = subst (λ (r : Reception). AreOutKept size (sessions_of (datagrams ++ d ∷ [])) r.out)
+            out = subst (λ (r : Reception). AreOutKept size (sessions_of
+                (datagrams ++ d ∷ [])) r.out)
                 (sym e.value) then.out;
             writes = writes_same form _ _ size (datagrams ++ d ∷ []) e.value
                 (e.stream ∙ ap (λ (o : Option WrittenStream).

@@ -52,7 +52,8 @@ returns-in_err-open_stream-clause-asked g c = asked_twice _ _ _ c.in_ok-exchange
     c.in_ok-release_all.ensures.asked
 
 pub returns-clause-entered : goal.returns-clause-entered
-returns-clause-entered g c = enters _ _ _ c.in_ok-kept.ensures.value c.in_ok-exchange.ensures.exchanged
+returns-clause-entered g c = enters _ _ _ c.in_ok-kept.ensures.value
+    c.in_ok-exchange.ensures.exchanged
     c.in_ok-release_all.ensures.released c.is_idle-is_first.ensures c.deref-2.ensures
     (rw c.deref.ensures.value c.in_ok-kept.ensures.jobs) c.in_ok-kept.ensures.outcome
     c.in_ok-kept.ensures.opening c.in_ok-open.ensures.value c.in_ok-open_stream.ensures
