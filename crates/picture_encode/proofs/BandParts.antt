@@ -1,9 +1,9 @@
 -- The rows of a slice's part of a subband: cells hold them at a constant distance from one another.
-use Rattle.std.proofs.Common.{◌≡◌, ℕ, zero, suc, ◌+◌, ◌-◌, ◌*◌, ◌/◌, ◌%◌, ◌^◌, ◌<◌, ◌≤◌, ◌⊎◌, inl, inr, min, arith, ap, sym, subst, ◌∙◌}
+use Rattle.std.proofs.Common.{◌≡◌, ℕ, zero, suc, ◌+◌, ◌-◌, ◌*◌, ◌%◌, ◌^◌, ◌<◌, ◌≤◌, ◌⊎◌, inl, inr, min, arith, ap, sym, subst, ◌∙◌}
 use Rattle.std.proofs.lemmas.Bool.{cases_eq}
 use Rattle.std.proofs.lemmas.Bool.Decides.{nat_tests}
 use Rattle.std.proofs.lemmas.Nat.{mod_below, div_below, pow-add}
-use Rattle.std.proofs.Math.Nat.{div-le_of_le-mul, mul-div_cancel, mul-le-mul_left, mul-lt-mul_of_pos_right, div-mul-le_self}
+use Rattle.std.proofs.Math.Nat.{mul-lt-mul_of_pos_right, div-mul-le_self}
 use Rattle.std.proofs.Math.Pow.{pow_pos}
 use Rattle.vc_types.specs.declared.rect.Rect.{Rect}
 use Rattle.vc_types.specs.declared.video.Component.{Component}
@@ -13,28 +13,16 @@ use Rattle.vc_types.specs.TransformParameters.{Parameters}
 use Rattle.vc_types.specs.Transforms.{source_of, lowest_width, lowest_height}
 use Rattle.vc_types.proofs.SubbandOrder.{level_of, orientation_of, subband_at-level, subband_at-orientation, orientation-LL, orientation-HL, orientation-LH, orientation-HH}
 use Rattle.vc_wave.specs.Layout.{row_in_turn, turned_row}
+use Rattle.vc_wave.proofs.BandRows.{twice_once, share_upto, exact_side}
 use Rattle.vc_wave.proofs.Grids.{padded_whole}
-use Rattle.vc_wave.proofs.LayoutLaws.{turned, turned_in, turned_right, turned_below, row_step, row_end}
+use Rattle.vc_wave.proofs.LayoutLaws.{turned, turned_in, turned_right, turned_below, row_step, lowest_row}
 use Rattle.vc_wave.proofs.Turns.{twice_power}
 use Rattle.vc_wave.proofs.Weaving.{source_below}
 use Rattle.picture_encode.specs.Rows.{level_below, band_row}
 
 -- ---- a row of a subband
 
--- each level doubles the place of a row of the lowest subband
-spread : (levels w h x y : ℕ) → x < w → y < h → row_in_turn levels w h x y ≡ y * 2 ^ levels
-spread zero w h x y a b = row_end w h x y ∙ omega arith
-spread (suc levels) w h x y a b =
-    let first : source_of h y ≡ 2 * y = grind (arith, nat_tests) in
-    row_step levels w h x y
-    ∙ ap (row_in_turn levels (2 * w) (2 * h) x) (turned_in w h x y (omega arith) (omega arith) ∙ first)
-    ∙ spread levels (2 * w) (2 * h) x (2 * y) (omega arith) (omega arith)
-    ∙ twice_power y levels
-
--- a place that the lower levels leave
-twice_once : (n l k : ℕ) → n * 2 ^ suc l ≤ k → 2 * n ≤ k
-twice_once n l k h = (let more : 2 * n * 1 ≤ 2 * n * 2 ^ l = mul-le-mul_left (2 * n) (pow_pos l) in omega (arith, more, twice_power n l))
-
+-- what the lower levels leave
 left_alone : (w h l x y : ℕ) → (w * 2 ^ suc l ≤ x) ⊎ (h * 2 ^ suc l ≤ y) → turned w h x y ≡ y
 left_alone w h l x y (inl right) = turned_right w h x y (twice_once w l x right)
 left_alone w h l x y (inr low) = turned_below w h x y (twice_once h l y low)
@@ -51,7 +39,7 @@ row_is zero (suc levels) w h x y lt corner right low =
     let above : levels ≡ suc levels - (0 + 1) = omega arith in
     row_step levels w h x y
     ∙ ap (row_in_turn levels (2 * w) (2 * h) x) (turned_in w h x y (omega arith) (omega arith))
-    ∙ spread levels (2 * w) (2 * h) x (source_of h y) (omega arith) (source_below h y (omega arith))
+    ∙ lowest_row levels (2 * w) (2 * h) x (source_of h y) (omega arith) (source_below h y (omega arith))
     ∙ ap (λ n. source_of n y * 2 ^ levels) one
     ∙ ap (λ n. source_of (h * 2 ^ 0) y * 2 ^ n) above
 row_is (suc l) (suc levels) w h x y lt (inl none) right low = absurd (omega arith)
@@ -97,9 +85,6 @@ pub record IsBandPart (l w h : ℕ) (r : Rect) : Type 0 where
   pub corner : (l ≡ 0) ⊎ ((w * 2 ^ l ≤ r.x) ⊎ (h * 2 ^ l ≤ r.y))
   pub one_side : (r.y + r.height ≤ h * 2 ^ l) ⊎ (h * 2 ^ l ≤ r.y)
 
-share_upto : (length n k : ℕ) → k ≤ n → share_start length n k ≤ length
-share_upto length n k h = (let all : length * k ≤ length * n = mul-le-mul_left length h in div-le_of_le-mul n {m = length * k} {n = length} (omega (arith, all)))
-
 module _ (l w h a b across down column row : ℕ) (wide : a ≡ w * 2 ^ l) (high : b ≡ h * 2 ^ l) (inside : column < across) (under : row < down) where
   abbrev part : Orientation → Rect
   part o = share (nested o a b) across down column row
@@ -141,13 +126,6 @@ module _ (l w h a b across down column row : ℕ) (wide : a ≡ w * 2 ^ l) (high
     corner = inr (inl (omega (arith, wide)));
     one_side = inr (omega (arith, high));
   }
-
--- a side of a level's subbands, where levels halve it exactly
-exact_side : (side depth l above : ℕ) → side / 2 ^ depth * 2 ^ depth ≡ side → above + l ≡ depth → side / 2 ^ above ≡ side / 2 ^ depth * 2 ^ l
-exact_side side depth l above whole sum =
-    let low = side / 2 ^ depth in
-    let parts : side ≡ low * 2 ^ l * 2 ^ above = sym whole ∙ ap (λ n. low * 2 ^ n) (sym sum) ∙ ap (λ q. low * q) (pow-add 2 above l) ∙ omega arith in
-    ap (λ n. n / 2 ^ above) parts ∙ mul-div_cancel (low * 2 ^ l) (pow_pos above)
 
 module _ (p : Parameters) (c : Component) (b slice : ℕ) (inside : b < subband_count p.depth_ho p.depth) (some : 1 ≤ p.depth) (none : p.depth_ho ≡ 0) (columns : 0 < p.slices_x) (within : slice < slice_count p) where
   abbrev band : Subband

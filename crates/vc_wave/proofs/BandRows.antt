@@ -40,7 +40,7 @@ rows_below (suc levels) w h a b y ha hb =
 abbrev IsAbove : ℕ → ℕ → ℕ → ℕ → ℕ → ℕ → Type 0
 IsAbove l w h a b y = ((w * 2 ^ l ≤ a) × (w * 2 ^ l ≤ b)) ⊎ (h * 2 ^ l ≤ y)
 
-twice_once : (w l a : ℕ) → w * 2 ^ suc l ≤ a → 2 * w ≤ a
+pub twice_once : (w l a : ℕ) → w * 2 ^ suc l ≤ a → 2 * w ≤ a
 twice_once w l a h = (let more : 2 * w * 1 ≤ 2 * w * 2 ^ l = mul-le-mul_left (2 * w) (pow_pos l) in omega (arith, more, twice_power w l))
 
 above_left : (l w h a b y : ℕ) → IsAbove (suc l) w h a b y → (turned w h a y ≡ y) × (turned w h b y ≡ y)
@@ -66,7 +66,7 @@ rows_above (suc l) (suc levels) w h a b y (inr above) ha hb lt =
 
 -- ---- the part of a rectangle
 
-share_upto : (length n k : ℕ) → k ≤ n → share_start length n k ≤ length
+pub share_upto : (length n k : ℕ) → k ≤ n → share_start length n k ≤ length
 share_upto length n k h = (let all : length * k ≤ length * n = mul-le-mul_left length h in div-le_of_le-mul n {m = length * k} {n = length} (omega (arith, all)))
 
 pub record IsPartOf (q r : Rect) : Type 0 where
@@ -97,7 +97,7 @@ left_band : (l w h a b : ℕ) → a ≡ w * 2 ^ l → b ≡ h * 2 ^ l → IsBand
 left_band l w h a b wide high = record { right = omega (arith, wide); corner = inr (inr (omega (arith, high))) }
 
 -- a side of a level's subbands, where levels halve it exactly
-exact_side : (side depth l above : ℕ) → side / 2 ^ depth * 2 ^ depth ≡ side → above + l ≡ depth → side / 2 ^ above ≡ side / 2 ^ depth * 2 ^ l
+pub exact_side : (side depth l above : ℕ) → side / 2 ^ depth * 2 ^ depth ≡ side → above + l ≡ depth → side / 2 ^ above ≡ side / 2 ^ depth * 2 ^ l
 exact_side side depth l above whole sum =
     let low = side / 2 ^ depth in
     let parts : side ≡ low * 2 ^ l * 2 ^ above = sym whole ∙ ap (λ n. low * 2 ^ n) (sym sum) ∙ ap (λ q. low * q) (pow-add 2 above l) ∙ omega arith in
