@@ -2,6 +2,7 @@
 use Rattle.std.proofs.Common.{◌≡◌, ◌≢◌, ℕ, ◌+◌, ◌-◌, ◌*◌, ◌/◌, ◌%◌, ◌^◌, ◌<◌, ◌≤◌, List, [], ◌∷◌, ◌++◌, length, take, drop, replicate, Some, None, refl, sym, ap, ◌∙◌, arith, inl, inr, All, slice_index}
 use Rattle.std.proofs.lemmas.Bool.{cases_lt, lt-ltb, le-ltb}
 use Rattle.std.proofs.lemmas.List.{length-append, length-replicate, length-drop, length-take-le, take-append-drop, take-append-le, drop-append-le}
+use Rattle.std.proofs.lemmas.Option.{none-some}
 use Rattle.std.proofs.Math.Seq.{take-append_seam, drop-append_seam}
 use Rattle.byteorder.specs.Endian.{big_bytes, big_number}
 use Rattle.link_capture.specs.Capture.{entry, first_entry, BeginsEntry}
@@ -45,26 +46,23 @@ pub first_entry-entry : (datagram rest : List ℕ) → length datagram < 2 ^ 16 
 unfolding entry
 first_entry-entry datagram rest fits = first_entry-whole (length datagram / 256 % 256) (length datagram % 256) datagram rest (omega arith)
 
-none_is_not : {A : Type 0} (x : A) → None ≡ Some x → ⊥
-none_is_not x same = cc
-
 -- the first entry, where there is one, is as long as its length tells
 first_entry-found : (high low : ℕ) (bytes : List ℕ) (first : List ℕ × List ℕ) → first_entry (high ∷ low ∷ bytes) ≡ Some first
     → (256 * high + low ≤ length bytes) × (first ≡ (take (256 * high + low) bytes, drop (256 * high + low) bytes))
 unfolding first_entry
-first_entry-found high low bytes first is = grind (arith, first_entry-short, le-ltb, none_is_not)
+first_entry-found high low bytes first is = grind (arith, first_entry-short, le-ltb, none-some)
 
 -- what is behind the first entry is shorter than the whole
 pub first_entry-shorter : (bytes : List ℕ) (first : List ℕ × List ℕ) → first_entry bytes ≡ Some first → length first.1 < length bytes
 unfolding first_entry
-first_entry-shorter bytes first is = grind (arith, first_entry-found, length-drop, none_is_not)
+first_entry-shorter bytes first is = grind (arith, first_entry-found, length-drop, none-some)
 
 -- the first entry's bytes begin the bytes, and what it leaves is behind them
 pub first_entry-is : (bytes : List ℕ) (first : List ℕ × List ℕ) → All (λ byte. byte < 256) bytes → first_entry bytes ≡ Some first
     → (length first.0 < 2 ^ 16) × (bytes ≡ entry first.0 ++ first.1)
 unfolding first_entry
-first_entry-is [] first fit is = absurd (none_is_not first is)
-first_entry-is (high ∷ []) first fit is = absurd (none_is_not first is)
+first_entry-is [] first fit is = absurd (none-some first is)
+first_entry-is (high ∷ []) first fit is = absurd (none-some first is)
 first_entry-is (high ∷ low ∷ bytes) first fit is =
     let found = first_entry-found high low bytes first is in
     let len : length (take (256 * high + low) bytes) ≡ 256 * high + low = length-take-le (256 * high + low) bytes found.0 in
@@ -79,8 +77,8 @@ first_entry-stub bytes short = grind arith
 -- bytes behind the first entry stay behind it
 pub first_entry-append : (bytes more : List ℕ) (first : List ℕ × List ℕ) → first_entry bytes ≡ Some first → first_entry (bytes ++ more) ≡ Some (first.0, first.1 ++ more)
 unfolding first_entry
-first_entry-append [] more first is = absurd (none_is_not first is)
-first_entry-append (high ∷ []) more first is = absurd (none_is_not first is)
+first_entry-append [] more first is = absurd (none-some first is)
+first_entry-append (high ∷ []) more first is = absurd (none-some first is)
 first_entry-append (high ∷ low ∷ bytes) more first is =
     let found = first_entry-found high low bytes first is in
     let whole : 256 * high + low ≤ length (bytes ++ more) = omega (arith, length-append bytes more, found.0) in
@@ -118,5 +116,5 @@ begins_entry (high ∷ low ∷ bytes) fit none = elim (cases_lt (length bytes) (
   | inr whole ↦
       let n = 256 * high + low in
       let found : first_entry (high ∷ low ∷ take n bytes ++ drop n bytes) ≡ Some (take n bytes, drop n bytes) = first_entry-whole high low (take n bytes) (drop n bytes) (length-take-le n bytes whole) in
-      absurd (none_is_not (take n bytes, drop n bytes) (sym none ∙ rw (take-append-drop n bytes) at found))
+      absurd (none-some (take n bytes, drop n bytes) (sym none ∙ rw (take-append-drop n bytes) at found))
 ]

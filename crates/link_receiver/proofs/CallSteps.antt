@@ -120,7 +120,8 @@ offers_step a b c r s t jobs i job copy inside is same h m = (
   calls_then a b c r s t h.0 m.0 h.1 m.1,
   subst (λ (l : List Job). AreOffersOf l (proposed_in (exchanges_of (h.0 ++ m.0)))) (sym longer)
       (subst (AreOffersOf (map job_of (take i jobs) ++ job_of job ∷ []))
-      (sym (proposed_then h.0 m.0)) (offers_more (map job_of (take i jobs)) (proposed_in (exchanges_of h.0)) (job_of job)
+      (sym (proposed_then h.0 m.0))
+      (offers_more (map job_of (take i jobs)) (proposed_in (exchanges_of h.0)) (job_of job)
       (proposed_in (exchanges_of m.0)) h.2
       (subst (λ (j : SliceJob). IsOfferOf (job_of j) (proposed_in (exchanges_of m.0))) same m.2))),
 )

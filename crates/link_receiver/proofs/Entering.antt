@@ -148,8 +148,8 @@ fails_early stream r d held = ([], tt, GrewBySome-none held (datagram_output str
 
 -- ---- up to the releases, and behind them
 
-module _ {a b : Option Told} {old kept exchanged : Reception} {d : List ℕ}
-    {jobs : List SliceJob} (k : kept ≡ keeps_datagram old d)
+module _ {a b : Option Told} (old : Reception) {kept exchanged : Reception} (d : List ℕ)
+    (jobs : List SliceJob) (k : kept ≡ keeps_datagram old d)
     (x : Exchanges a b kept exchanged jobs) where
   same : HaveSameSession kept exchanged
   same = calls_session a b kept exchanged x.0 x.1

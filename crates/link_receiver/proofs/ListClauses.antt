@@ -1,12 +1,14 @@
 -- What calls of a receiver are for a list of datagrams that it has heard.
-use Rattle.std.proofs.Common.{◌≡◌, ℕ, ◌≤◌, true, List, [], ◌∷◌, ◌++◌, Option, refl, ap, ◌∙◌, arith}
+use Rattle.std.proofs.Common.{◌≡◌, ℕ, ◌≤◌, true, List, [], ◌∷◌, ◌++◌, Option, refl, ap, sym, subst, ◌∙◌, arith}
 use Rattle.link_model.specs.Judgement.{tally_of, outcome_behind}
 use Rattle.link_model.specs.Places.{Job}
+use Rattle.link_model.specs.Session.{sessions_of}
 use Rattle.link_model.specs.declared.outcome.Outcome.{Outcome}
 use Rattle.link_reception.specs.Entering.{before_releases, datagram_jobs}
 use Rattle.link_reception.specs.Exchanging.{Exchange, dones_in, is_job_among}
 use Rattle.link_reception.specs.Receptions.{Reception}
-use Rattle.link_reception.specs.Standing.{AreDecodings}
+use Rattle.link_reception.specs.SlicesOut.{AreOutKept}
+use Rattle.link_reception.specs.Standing.{StandsFor, AreDecodings}
 use Rattle.link_reception.proofs.DatagramJobs.{only_jobs, open_jobs}
 use Rattle.link_reception.proofs.OutKept.{offered_not_out}
 use Rattle.link_reception.proofs.UnansweredJobs.{offered_unanswered}
@@ -62,10 +64,13 @@ module _ {inside old : ReceiverState} (is : inside ≡ old) where
             least = h.least;
             fits = h.fits;
             feeder = then.feeder;
-            stands = rw e.value then.stands;
+            stands = subst (λ (r : Reception). StandsFor r size then.feeder) (sym e.value)
+                then.stands;
             heard = then.heard;
             goes_on = then.goes_on;
-            out = rw e.value then.out;
+            out = subst (λ (r : Reception). AreOutKept size (sessions_of
+                (datagrams ++ d ∷ [])) r.out)
+                (sym e.value) then.out;
             writes = writes_same form _ _ size (datagrams ++ d ∷ []) e.value
                 (e.stream ∙ ap (λ (o : Option WrittenStream).
                 stream_behind_datagram o inside.reception d (exchanges_of calls)) first)
@@ -82,8 +87,8 @@ module _ {inside old : ReceiverState} (is : inside ≡ old) where
             kept = only.0;
             new = only.1;
             unclosed = open_jobs r size datagrams d stands (some_open h.least) h.fits job there;
-            unanswered = offered_unanswered r size h.feeder h.fits heard.stands h.goes_on d job
-                there;
+            unanswered = offered_unanswered r size heard.feeder h.fits heard.stands heard.goes_on
+                d job there;
             not_out = offered_not_out r size datagrams d h.fits stands heard.out job there;
           }
 

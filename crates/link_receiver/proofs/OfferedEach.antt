@@ -1,4 +1,5 @@
--- Each job of a datagram is among the jobs that places were told of, and each of these is one of it.
+-- Each job of a datagram is among the jobs that places were told of, and each of these is one of
+-- it.
 use Rattle.std.proofs.Common.{◌≡◌, ℕ, Bool, true, false, List, [], ◌∷◌, ◌++◌, refl, ap, sym, subst, ◌∙◌, inl, inr, append-nil}
 use Rattle.std.specs.Prelude.{◌||◌}
 use Rattle.std.proofs.lemmas.Bool.{false≢true, or_left, or_right}

@@ -50,14 +50,14 @@ WaitsIn st field = IfSome field (λ field. ArePicturePlanes st.session.sequence 
 -- its answers are forgotten, and it waits, or no field does; whether it is complete and sound,
 -- whether a frame is complete, and how many fields are part of none
 pub record IsSeen (st : StandingSession) (n : ℕ)
-    (answers : List PictureAnswers) (field : Option FirstField)
-    (answers_left : List PictureAnswers) (field_left : Option FirstField) (seen : Seen)
+    (old_answers : List PictureAnswers) (old_field : Option FirstField)
+    (new_answers : List PictureAnswers) (new_field : Option FirstField) (seen : Seen)
     : Type 0 where
-  pub answers : answers_left ≡ answers_without answers n
-  pub field : field_left
-      ≡ field_behind st.session.sequence n (released_planes answers st.window n)
-  pub waiting : WaitsIn st field_left
-  pub sound : seen.is_sound ≡ is_some (released_planes answers st.window n)
-  pub has_frame : seen.shown.has_frame ≡ is_some (shown_frame st answers field n)
+  pub answers : new_answers ≡ answers_without old_answers n
+  pub field : new_field
+      ≡ field_behind st.session.sequence n (released_planes old_answers st.window n)
+  pub waiting : WaitsIn st new_field
+  pub sound : seen.is_sound ≡ is_some (released_planes old_answers st.window n)
+  pub has_frame : seen.shown.has_frame ≡ is_some (shown_frame st old_answers old_field n)
   pub alone : seen.shown.alone
-      ≡ fields_alone st.session.sequence field n (released_planes answers st.window n)
+      ≡ fields_alone st.session.sequence old_field n (released_planes old_answers st.window n)

@@ -21,6 +21,6 @@ pub returns-in-Ok-clause-chosen : goal.returns-in-Ok-clause-chosen
 returns-in-Ok-clause-chosen g c form size datagrams h =
     enter_chosen c.self.view_is c.in-Ok.ensures.entered.1 h
 
-pub returns-in-Err-clause-part : goal.returns-in-Err-clause-part
-returns-in-Err-clause-part g c form size datagrams h =
+pub returns-clause-part : goal.returns-clause-part
+returns-clause-part g c form size datagrams h =
     enter_part c.self.view_is _ _ h c.args.datagram c.in-Err.ensures.failed
