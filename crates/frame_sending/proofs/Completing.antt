@@ -1,6 +1,6 @@
 -- Where no fault came, whole frames that aren't refused, at most as many as were asked for, are encoded
 -- to their end, unless memory runs out.
-use Rattle.std.proofs.Common.{◌≡◌, ◌⊎◌, ℕ, ◌<◌, ◌+◌, List, [], ◌∷◌, ◌++◌, length, map, All, Option, Some, None, IsSomeAnd, Result, Ok, Err, inl, inr, refl, sym, ap, ◌∙◌, arith, append_assoc, append-nil, length-append}
+use Rattle.std.proofs.Common.{◌≡◌, ◌⊎◌, ℕ, ◌<◌, ◌+◌, List, [], ◌∷◌, ◌++◌, length, map, All, Option, Some, None, IsSomeAnd, Result, Ok, Err, inl, inr, refl, sym, ap, subst, ◌∙◌, arith, append_assoc, append-nil, length-append}
 use Rattle.std.specs.List.{concat}
 use Rattle.std.specs.Result.{IsOk}
 use Rattle.std.proofs.Math.Seq.{take-append_seam, drop-append_seam}
