@@ -14,9 +14,6 @@ use Rattle.link_sender.specs.Packing.{bytes_of_all}
 use Rattle.vc_ports.specs.Writing.{Grew}
 use Rattle.vc_types.specs.SenderSettings.{Generating}
 
-some_is : (x y : List ℕ) → Some x ≡ Some y → x ≡ y
-some_is x y same = cc
-
 pub nothing_checked : (g : Generating) (window : ℕ) (checker : Checker) → HasHeard AsFrames checker.receiver window [] → ((bytes : List ℕ) → counted_with checker.comparison bytes ≡ differences g bytes) → IsCheckedUpTo g window [] checker
 nothing_checked g window checker heard fresh = record {
   has_heard = heard;
@@ -25,7 +22,7 @@ nothing_checked g window checker heard fresh = record {
 
 -- what went out to a sink that held nothing
 pub all_written : (written bytes : List ℕ) → Grew (Some []) (Some written) bytes → written ≡ bytes
-all_written written bytes grew = some_is written bytes grew
+all_written written bytes grew = cc grew
 
 module _ (g : Generating) (window : ℕ) (heard : List (List ℕ)) (old : Checker) (is : IsCheckedUpTo g window heard old) (written : List ℕ) where
   counted_behind : (due : List ℕ) → written ≡ due → (bytes : List ℕ) → counted_with old.comparison (written ++ bytes) ≡ differences g ((output_so_far window heard ++ due) ++ bytes)

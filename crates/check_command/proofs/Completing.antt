@@ -1,12 +1,11 @@
 -- Where no generated frame is refused, checking comes to its end, unless memory runs out.
-use Rattle.std.proofs.Common.{◌≡◌, ◌⊎◌, ℕ, List, [], ◌∷◌, ◌++◌, All, Option, Some, None, Ok, Err, inl, inr, refl, subst}
+use Rattle.std.proofs.Common.{◌≡◌, ◌⊎◌, ℕ, List, [], ◌∷◌, ◌++◌, All, Option, None, Ok, Err, inl, inr, refl, subst}
 use Rattle.std.specs.Prelude.{Result}
 use Rattle.std.specs.Result.{IsOk}
 use Rattle.std.proofs.lemmas.List.Elements.{All-head, All-tail}
 use Rattle.check_command.specs.Checking.{CheckEnded, Checks, HasLargeSlice, IsCheckable}
 use Rattle.frame_sending.specs.FramesSent.{frame_fault}
 use Rattle.link_gen.specs.Defaults.{sent_by_default}
-use Rattle.link_model.specs.SendingFaults.{SendFault}
 use Rattle.link_report.specs.declared.ending.Ending.{Ending}
 use Rattle.link_report.specs.declared.ending.Ending.TheVariants as endings
 use Rattle.link_report.specs.declared.summary.Summary.{Summary}
@@ -14,9 +13,6 @@ use Rattle.vc_ports.specs.Changes.{Change}
 use Rattle.vc_slice.specs.Asked.{Told}
 use Rattle.vc_types.specs.Planes.{Planes}
 use Rattle.vc_types.specs.SenderSettings.{Generating}
-
-none_is_some : (fault : SendFault) (found : Option SendFault) → found ≡ None → found ≡ Some fault → ⊥
-none_is_some fault found none some = cc
 
 -- what holds of all holds of one in the middle
 in_middle : (P : Planes → Type 0) (others more : List Planes) (frame : Planes) → All P (others ++ frame ∷ more) → P frame
@@ -26,7 +22,7 @@ in_middle P (first ∷ others) more frame all = in_middle P others more frame (A
 no_large_slice : (g : Generating) (slice bytes : ℕ) → IsCheckable g → HasLargeSlice g slice bytes → ⊥
 no_large_slice g slice bytes checkable large =
     let P = λ (frame : Planes). frame_fault (sent_by_default g.frames) frame ≡ None in
-    none_is_some _ (frame_fault (sent_by_default g.frames) large.frame) (in_middle P large.others large.more large.frame (subst (All P) large.frames_are checkable)) large.refused
+    cc (sym (in_middle P large.others large.more large.frame (subst (All P) large.frames_are checkable)) ∙ large.refused)
 
 module _ (g : Generating) (window workers : ℕ) (hands : Change (Option Told)) (checkable : IsCheckable g) where
   abbrev Came : Result Summary Ending → Type 0
@@ -35,16 +31,7 @@ module _ (g : Generating) (window workers : ℕ) (hands : Change (Option Told)) 
   by_ending : (ending : Ending) → CheckEnded g window (Err ending) → Came (Err ending)
   by_ending endings.NoMemory ended = inr refl
   by_ending (endings.SliceTooLarge slice bytes) ended = absurd (no_large_slice g slice bytes checkable ended)
-  by_ending endings.OutputFailed ended = absurd ended
-  by_ending endings.InputFailed ended = absurd ended
-  by_ending (endings.RawCut number) ended = absurd ended
-  by_ending (endings.SampleTooLarge place plane value) ended = absurd ended
-  by_ending (endings.FrameLimit limit) ended = absurd ended
-  by_ending (endings.Usage place) ended = absurd ended
-  by_ending endings.WireFailed ended = absurd ended
-  by_ending (endings.CaptureCut place) ended = absurd ended
-  by_ending (endings.PacketLimit limit) ended = absurd ended
-  by_ending (endings.StreamBad place) ended = absurd ended
+  by_ending ending ended = absurd ended
 
   pub check_completes : (answer : Result Summary Ending) → Checks g window workers answer hands → IsOk answer ⊎ (answer ≡ Err endings.NoMemory)
   check_completes (Ok summary) c = inl refl

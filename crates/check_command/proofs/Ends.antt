@@ -1,27 +1,18 @@
 -- How checking ends, and what it asked of the workers.
-use Rattle.std.proofs.Common.{◌≡◌, ℕ, List, ◌∷◌, Option, Ok, Err, ap, inl}
+use Rattle.std.proofs.Common.{◌≡◌, ℕ, Option, Ok, Err, inl}
 use Rattle.check_command.specs.Checking.{Checks, IsCheckable, checked_stream}
 use Rattle.check_command.specs.Looping.{IsOneRefused}
-use Rattle.decode_command.specs.Decoding.{HasStarted}
+use Rattle.decode_command.proofs.Whole.{started}
 use Rattle.frame_comparison.specs.Differences.{differences}
 use Rattle.gen_command.specs.Generating.{sample_total}
 use Rattle.link_model.specs.Output.{full_output}
-use Rattle.link_receiver.proofs.Asked.{grows_twice}
 use Rattle.link_receiver.specs.HeardLists.{AskedPlaces}
 use Rattle.link_report.specs.declared.ending.Ending.{Ending}
 use Rattle.link_report.specs.declared.ending.Ending.TheVariants as endings
 use Rattle.link_report.specs.declared.summary.Summary.TheVariants.{Compared}
 use Rattle.vc_ports.specs.Changes.{Change}
-use Rattle.vc_slice.specs.Asked.{Grows, Told, starting, told_more}
+use Rattle.vc_slice.specs.Asked.{Grows, Told, starting}
 use Rattle.vc_types.specs.SenderSettings.{Generating}
-
--- workers were started, and then places were asked
-started : (workers : ℕ) (before mid after : Option Told) → Grows before mid (starting workers (Ok tt)) → AskedPlaces mid after → HasStarted workers (record { before = before; after = after })
-started workers before mid after grew asked = record {
-  more = told_more (starting workers (Ok tt)) asked.more;
-  grows = grows_twice before mid after (starting workers (Ok tt)) asked.more grew asked.grows;
-  started = ap (λ (l : List ℕ). workers ∷ l) asked.started;
-}
 
 module _ (g : Generating) (window workers : ℕ) (before mid after : Option Told) (grew : Grows before mid (starting workers (Ok tt))) (asked : AskedPlaces mid after) where
   abbrev hands : Change (Option Told)
@@ -36,13 +27,4 @@ module _ (g : Generating) (window workers : ℕ) (before mid after : Option Told
   pub stopped : (ending : Ending) → IsOneRefused g ending → Checks g window workers (Err ending) hands
   stopped endings.NoMemory refused = record { ended = tt; workers_started = inl (started workers before mid after grew asked) }
   stopped (endings.SliceTooLarge slice bytes) refused = record { ended = refused; workers_started = started workers before mid after grew asked }
-  stopped (endings.SampleTooLarge place plane value) refused = absurd refused
-  stopped (endings.Usage place) refused = absurd refused
-  stopped endings.InputFailed refused = absurd refused
-  stopped endings.OutputFailed refused = absurd refused
-  stopped endings.WireFailed refused = absurd refused
-  stopped (endings.CaptureCut place) refused = absurd refused
-  stopped (endings.PacketLimit limit) refused = absurd refused
-  stopped (endings.RawCut number) refused = absurd refused
-  stopped (endings.StreamBad place) refused = absurd refused
-  stopped (endings.FrameLimit limit) refused = absurd refused
+  stopped ending refused = absurd refused

@@ -90,15 +90,7 @@ module _ (g : Generating) (known : IsTrue (within 1 4 g.frames.range)) (k state 
   }
   one_refused (endings.SampleTooLarge place plane value) sendable refused =
       absurd (no_sample_fault g.frames state plane place value known (sym (ap (frame_fault (sent_by_default g.frames)) frame_is) ∙ refused))
-  one_refused (endings.Usage place) sendable refused = absurd refused
-  one_refused endings.InputFailed sendable refused = absurd refused
-  one_refused endings.OutputFailed sendable refused = absurd refused
-  one_refused endings.WireFailed sendable refused = absurd refused
-  one_refused (endings.CaptureCut place) sendable refused = absurd refused
-  one_refused (endings.PacketLimit limit) sendable refused = absurd refused
-  one_refused (endings.RawCut number) sendable refused = absurd refused
-  one_refused (endings.StreamBad place) sendable refused = absurd refused
-  one_refused (endings.FrameLimit limit) sendable refused = absurd refused
+  one_refused ending sendable refused = absurd refused
 
 -- ---- the end
 

@@ -1,14 +1,11 @@
 -- What is offered by calls of places one after another.
-use Rattle.std.proofs.Common.{◌≡◌, ℕ, Bool, true, false, List, [], ◌∷◌, ◌++◌, refl, Option, ◌∙◌}
-use Rattle.std.specs.Prelude.{◌||◌}
-use Rattle.std.proofs.lemmas.Bool.{false≢true}
+use Rattle.std.proofs.Common.{◌≡◌, ℕ, false, List, [], ◌∷◌, ◌++◌, refl, Option}
 use Rattle.std.proofs.lemmas.List.{map-append}
 use Rattle.std.proofs.lemmas.List.Folds.{list_any-append}
 use Rattle.link_model.specs.Feeding.{is_same_job}
 use Rattle.link_model.specs.Places.{Job}
 use Rattle.link_model.specs.Session.{HeardSession, sessions_of}
 use Rattle.link_reception.specs.Entering.{datagram_jobs}
-use Rattle.link_reception.specs.Exchanging.{is_job_among}
 use Rattle.link_reception.specs.Offered.{AreAllOffered}
 use Rattle.link_reception.specs.Standing.{StandsForHeard}
 use Rattle.link_reception.proofs.AllOffered.{none_offered, more_offered}
@@ -18,10 +15,6 @@ use Rattle.slice_jobs.specs.Jobs.{job_of}
 use Rattle.decode_command.specs.Hearing.{HandsWereOffered}
 use Rattle.vc_slice.specs.Asked.{Told, Offer, nothing_told, told_more}
 use Rattle.link_receiver.specs.HeardLists.{OutputForm, HasHeard, AskedPlaces, OfferedToPlaces, told_jobs}
-
-or_left : (a b : Bool) → a ≡ true → (a || b) ≡ true
-or_left true b e = refl
-or_left false b e = absurd (false≢true e)
 
 heard_by : {form : OutputForm} (r : ReceiverState) (window : ℕ) (datagrams : List (List ℕ))
     → HasHeard form r window datagrams → StandsForHeard r.reception window datagrams false
@@ -40,8 +33,7 @@ nothing_offered window told = record {
 all_with_more : (window : ℕ) (hs : List HeardSession) (offered more : List Job)
     → AreAllOffered window hs offered → AreAllOffered window hs (offered ++ more)
 all_with_more window hs offered more was n i job is =
-    list_any-append (is_same_job job) offered more
-    ∙ or_left (is_job_among offered job) (is_job_among more job) (was n i job is)
+    rw (list_any-append (is_same_job job) offered more, was n i job is) refl
 
 told_jobs_more : (a b : Told) → told_jobs (told_more a b) ≡ told_jobs a ++ told_jobs b
 told_jobs_more a b = map-append (λ (offer : Offer). job_of offer.job) a.offered b.offered

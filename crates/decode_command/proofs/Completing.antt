@@ -1,24 +1,18 @@
 -- Where no fault came, a capture of at most so many entries that ends at an edge is decoded to its
 -- end, or unpacked, unless memory runs out.
 use Rattle.std.proofs.Common.{◌≡◌, ◌≢◌, ℕ, zero, suc, List, [], ◌++◌, length, Option, Some, None, IsSomeAnd, refl, sym, ap, ◌∙◌, subst, arith, append-nil, length-append}
-use Rattle.std.specs.Option.{option_map}
 use Rattle.link_capture.specs.Capture.{entries_within, first_entry}
 use Rattle.link_capture.proofs.Heads.{first_entry-append}
-use Rattle.link_receiver.specs.HeardLists.{OutputForm, AsFrames, AsUnits}
+use Rattle.link_receiver.specs.HeardLists.{OutputForm}
 use Rattle.link_report.specs.declared.answer.Answer.{Answer}
 use Rattle.link_report.specs.declared.answer.Answer.TheVariants.{Done, Stopped, Drained}
 use Rattle.link_report.specs.declared.ending.Ending.TheVariants.{NoMemory, InputFailed, OutputFailed, CaptureCut, PacketLimit}
 use Rattle.vc_ports.specs.Changes.{Change, InputChange, OutputChange, HasRisen, Took}
-use Rattle.vc_ports.specs.Reading.{IsAtEnd}
+use Rattle.vc_ports.proofs.Given.{some_is}
+use Rattle.vc_ports.specs.Reading.{Gave, IsAtEnd}
 use Rattle.vc_slice.specs.Asked.{Told}
 use Rattle.decode_command.specs.Capture.{capture_split, IsPastLimit}
 use Rattle.decode_command.specs.Decoding.{TakesCapture, Decodes, Unpacks, IsDecodable}
-
-some_is : (x y : List ℕ) → Some x ≡ Some y → x ≡ y
-some_is x y same = cc
-
-some_is_none : (x : List ℕ) → Some x ≡ None → ⊥
-some_is_none x same = cc
 
 -- ---- as many entries as were asked for, and bytes behind them
 
@@ -54,28 +48,23 @@ module _ (packets : ℕ) (given more : List ℕ) (whole : IsDecodable packets (g
       let none : length (rest ++ more) ≡ 0 = ap length (sym (rest_behind packets given more past.count) ∙ whole) in
       omega (arith, length-append rest more, none, past.one_more)
 
-module _ (packets : ℕ) (given : List ℕ) where
-  cut_by : (input : InputChange) → Took input given → IsSomeAnd input.left.before (IsDecodable packets)
-      → IsAtEnd input.left.after → (capture_split packets given).rest ≢ [] → ⊥
-  cut_by input took whole ended some = by_left input.left.before input.left.after took whole ended
-    where
-      by_left : (before after : Option (List ℕ)) → before ≡ option_map (λ rest. given ++ rest) after
-          → IsSomeAnd before (IsDecodable packets) → IsAtEnd after → ⊥
-      by_left None after took whole ended = whole
-      by_left (Some bytes) None took whole ended = some_is_none bytes took
-      by_left (Some bytes) (Some more) took whole ended =
-          no_cut packets given more (subst (IsDecodable packets) (some_is bytes (given ++ more) took) whole) ended some
+-- the bytes behind those that were given
+behind_given : (P : List ℕ → Type 0) (given : List ℕ) (before after : Option (List ℕ))
+    → Gave before after given → IsSomeAnd before P → (more : List ℕ) × (after ≡ Some more) × P (given ++ more)
+behind_given P given None after took whole = absurd whole
+behind_given P given (Some bytes) None took whole = let none : Some bytes ≡ None = took in absurd cc
+behind_given P given (Some bytes) (Some more) took whole =
+    (more, refl, subst P (some_is bytes (given ++ more) took) whole)
 
-  past_by : (input : InputChange) → Took input given → IsSomeAnd input.left.before (IsDecodable packets)
-      → (limit : ℕ) → IsPastLimit packets (capture_split packets given) limit → ⊥
-  past_by input took whole limit past = by_left input.left.before input.left.after took whole
-    where
-      by_left : (before after : Option (List ℕ)) → before ≡ option_map (λ rest. given ++ rest) after
-          → IsSomeAnd before (IsDecodable packets) → ⊥
-      by_left None after took whole = whole
-      by_left (Some bytes) None took whole = some_is_none bytes took
-      by_left (Some bytes) (Some more) took whole =
-          no_more packets given more (subst (IsDecodable packets) (some_is bytes (given ++ more) took) whole) input limit past
+module _ (packets : ℕ) (given : List ℕ) (input : InputChange) (took : Took input given) (whole : IsSomeAnd input.left.before (IsDecodable packets)) where
+  behind : (more : List ℕ) × (input.left.after ≡ Some more) × IsDecodable packets (given ++ more)
+  behind = behind_given (IsDecodable packets) given input.left.before input.left.after took whole
+
+  cut_by : IsAtEnd input.left.after → (capture_split packets given).rest ≢ [] → ⊥
+  cut_by ended some = no_cut packets given behind.0 behind.2 (rw behind.1 at ended) some
+
+  past_by : (limit : ℕ) → IsPastLimit packets (capture_split packets given) limit → ⊥
+  past_by limit past = no_more packets given behind.0 behind.2 input limit past
 
 -- ---- by the answer
 

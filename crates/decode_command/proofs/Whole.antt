@@ -17,7 +17,7 @@ use Rattle.decode_command.specs.Hearing.{HandsWereOffered, HasReceived, Receives
 use Rattle.link_receiver.proofs.Asked.{grows_twice}
 
 -- workers were started, and then slices were offered
-gave_work : (window workers : ℕ) (split : CaptureSplit) (before mid after : Option Told)
+pub gave_work : (window workers : ℕ) (split : CaptureSplit) (before mid after : Option Told)
     → Grows before mid (starting workers (Ok tt))
     → HandsWereOffered window split.datagrams (record { before = mid; after = after })
     → HasGivenWork window workers (record { before = before; after = after }) split
@@ -29,31 +29,13 @@ gave_work window workers split before mid after grew told = record {
 }
 
 -- workers were started, and then places were asked
-started : (workers : ℕ) (before mid after : Option Told) → Grows before mid (starting workers (Ok tt))
+pub started : (workers : ℕ) (before mid after : Option Told) → Grows before mid (starting workers (Ok tt))
     → AskedPlaces mid after → HasStarted workers (record { before = before; after = after })
 started workers before mid after grew asked = record {
   more = told_more (starting workers (Ok tt)) asked.more;
   grows = grows_twice before mid after (starting workers (Ok tt)) asked.more grew asked.grows;
   started = ap (λ (l : List ℕ). workers ∷ l) asked.started;
 }
-
-drained_at : (tally other : Tally) (end : Ending) → Drained tally end ≡ Drained other InputFailed → end ≡ InputFailed
-drained_at tally other end same = cc
-
-drained_is_stopped : (tally : Tally) (end other : Ending) → Drained tally end ≡ Stopped other → ⊥
-drained_is_stopped tally end other same = cc
-
-done_is_drained : (tally other : Tally) → Done (Judged tally) ≡ Drained other InputFailed → ⊥
-done_is_drained tally other same = cc
-
-done_is_stopped : (tally : Tally) (other : Ending) → Done (Judged tally) ≡ Stopped other → ⊥
-done_is_stopped tally other same = cc
-
-stopped_is_drained : (end : Ending) (other : Tally) → Stopped end ≡ Drained other InputFailed → ⊥
-stopped_is_drained end other same = cc
-
-no_memory_is_fault : Stopped NoMemory ≡ Stopped OutputFailed → ⊥
-no_memory_is_fault same = cc
 
 -- no workers were started
 pub not_started : (form : OutputForm) (window workers packets : ℕ) (input : InputChange) (output : OutputChange)
@@ -64,8 +46,8 @@ not_started form window workers packets input output hands input_stays output_st
   given = [];
   took = rw input_stays (Gave-none input.left.before);
   ended = rw output_stays (GrewBySome-none output.held.before _);
-  input_failed = λ failed. absurd (stopped_is_drained NoMemory failed.0 failed.1);
-  output_failed = λ failed. absurd (no_memory_is_fault failed);
+  input_failed = λ failed. absurd (cc failed.1);
+  output_failed = λ failed. absurd cc;
   workers_started = inr hands_stay;
 }
 
@@ -81,8 +63,8 @@ module _ (form : OutputForm) (window workers packets : ℕ) (receiver : Receiver
     given = st.given;
     took = st.took;
     ended = record { reading = st.reading; wrote = st.wrote; tally_is = is ∙ st.counted };
-    input_failed = λ failed. absurd (done_is_drained tally failed.0 failed.1);
-    output_failed = λ failed. absurd (done_is_stopped tally OutputFailed failed);
+    input_failed = λ failed. absurd (cc failed.1);
+    output_failed = λ failed. absurd cc;
     workers_started = gave_work window workers (capture_split packets st.given) before mid after grew st.told;
   }
 
@@ -97,8 +79,8 @@ module _ (form : OutputForm) (window workers packets : ℕ) (receiver : Receiver
     given = st.given;
     took = st.took;
     ended = record { reading = st.reading; wrote = st.wrote; tally_is = is ∙ st.counted };
-    input_failed = λ failed. cause (drained_at tally failed.0 end failed.1);
-    output_failed = λ failed. absurd (drained_is_stopped tally end OutputFailed failed);
+    input_failed = λ failed. cause (cc failed.1);
+    output_failed = λ failed. absurd cc;
     workers_started = gave_work window workers (capture_split packets st.given) before mid after grew st.told;
   }
 
@@ -114,15 +96,15 @@ stopped form window workers packets receiver input output before mid after NoMem
   given = broke.given;
   took = broke.took;
   ended = broke.wrote;
-  input_failed = λ failed. absurd (stopped_is_drained NoMemory failed.0 failed.1);
-  output_failed = λ failed. absurd (no_memory_is_fault failed);
+  input_failed = λ failed. absurd (cc failed.1);
+  output_failed = λ failed. absurd cc;
   workers_started = inl (started workers before mid after grew asked);
 }
 stopped form window workers packets receiver input output before mid after OutputFailed grew asked broke cause = record {
   given = broke.given;
   took = broke.took;
   ended = broke.wrote;
-  input_failed = λ failed. absurd (stopped_is_drained OutputFailed failed.0 failed.1);
+  input_failed = λ failed. absurd (cc failed.1);
   output_failed = λ failed. cause refl;
   workers_started = started workers before mid after grew asked;
 }

@@ -3,8 +3,6 @@
 use Rattle.std.proofs.Common.{◌≡◌, ◌⊎◌, ℕ, IsSomeAnd, Result, Err}
 use Rattle.std.specs.Result.{IsOk}
 use Rattle.datagram_outlet.specs.Outlets.{WroteEntries, WrotePartOfEntries}
-use Rattle.datagram_outlet.specs.declared.outlet.OutletFault.{OutletFault}
-use Rattle.datagram_outlet.specs.declared.outlet.OutletFault.TheVariants as outlets
 use Rattle.encode_command.specs.Encodes.{Encodes, IsEncodable}
 use Rattle.frame_sending.proofs.Completing.{sending_completes}
 use Rattle.link_report.specs.declared.ending.Ending.{Ending}
@@ -13,11 +11,8 @@ use Rattle.link_report.specs.declared.summary.Summary.{Summary}
 use Rattle.vc_ports.specs.Changes.{InputChange, OutputChange, HasRisen}
 use Rattle.vc_types.specs.SenderSettings.{Sending}
 
-not_the_wire : ◌≡◌ {A = OutletFault} outlets.Wire outlets.Output → ⊥
-not_the_wire is = cc
-
 module _ (s : Sending) (most : ℕ) (input : InputChange) (output : OutputChange) (sound_input : HasRisen input.faults → ⊥) (sound_output : HasRisen output.faults → ⊥) (whole : IsSomeAnd input.left.before (IsEncodable s most)) where
   pub encode_completes : (answer : Result Summary Ending) → Encodes s most answer input output → IsOk answer ⊎ (answer ≡ Err endings.NoMemory)
   encode_completes answer e =
       sending_completes s most input (WroteEntries output) (WrotePartOfEntries output) sound_input
-      (λ datagrams part. sound_output part.rose) (λ datagrams part. not_the_wire part.fault_is) whole answer e.sends
+      (λ datagrams part. sound_output part.rose) (λ datagrams part. cc part.fault_is) whole answer e.sends

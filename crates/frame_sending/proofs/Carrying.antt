@@ -33,7 +33,6 @@ module _ (s : Sending) (most : ℕ) (input : InputChange) (went went_so : List (
   }
 
   ended_so : (answer : Result Summary Ending) (frames : List Planes) (rest : List ℕ) → SendEnded s most answer input went broke frames rest → SendEnded s most answer input went_so broke_so frames rest
-  ended_so (Ok (summaries.Judged tally)) frames rest e = absurd e
   ended_so (Ok (summaries.Sent count datagrams bytes)) frames rest e = record {
     sendable = e.sendable;
     few = e.few;
@@ -44,12 +43,6 @@ module _ (s : Sending) (most : ℕ) (input : InputChange) (went went_so : List (
     datagrams_are = e.datagrams_are;
     bytes_are = e.bytes_are;
   }
-  ended_so (Ok (summaries.Looped count datagrams bytes tally)) frames rest e = absurd e
-  ended_so (Ok (summaries.Packed pictures datagrams bytes)) frames rest e = absurd e
-  ended_so (Ok (summaries.Played pictures unpaired count)) frames rest e = absurd e
-  ended_so (Ok (summaries.Generated count samples)) frames rest e = absurd e
-  ended_so (Ok (summaries.Compared count samples different)) frames rest e = absurd e
-  ended_so (Err (endings.Usage place)) frames rest e = absurd e
   ended_so (Err endings.NoMemory) frames rest (inl e) = inl (record {
     few = e.few;
     others = e.others;
@@ -64,8 +57,6 @@ module _ (s : Sending) (most : ℕ) (input : InputChange) (went went_so : List (
   ended_so (Err endings.InputFailed) frames rest e = record { sendable = e.sendable; few = e.few; wanted = e.wanted; sent = carry _ e.sent }
   ended_so (Err endings.OutputFailed) frames rest e = unsent_so frames rest outlets.Output e
   ended_so (Err endings.WireFailed) frames rest e = unsent_so frames rest outlets.Wire e
-  ended_so (Err (endings.CaptureCut place)) frames rest e = absurd e
-  ended_so (Err (endings.PacketLimit limit)) frames rest e = absurd e
   ended_so (Err (endings.RawCut number)) frames rest e = record {
     sendable = e.sendable;
     few = e.few;
@@ -76,7 +67,6 @@ module _ (s : Sending) (most : ℕ) (input : InputChange) (went went_so : List (
   }
   ended_so (Err (endings.SampleTooLarge place plane value)) frames rest e = refused_so frames rest (faults.SampleRange plane place value) e
   ended_so (Err (endings.SliceTooLarge slice bytes)) frames rest e = refused_so frames rest (faults.SliceTooLarge slice bytes) e
-  ended_so (Err (endings.StreamBad place)) frames rest e = absurd e
   ended_so (Err (endings.FrameLimit limit)) frames rest e = record {
     limit_is = e.limit_is;
     count = e.count;
@@ -84,6 +74,7 @@ module _ (s : Sending) (most : ℕ) (input : InputChange) (went went_so : List (
     sendable = e.sendable;
     sent = carry _ e.sent;
   }
+  ended_so other frames rest e = absurd e
 
   pub sends_weaker : (answer : Result Summary Ending) → SendsFrames s most answer input went broke → SendsFrames s most answer input went_so broke_so
   sends_weaker answer e = record {
@@ -128,7 +119,6 @@ module _ (H : Type 0) (s : Sending) (most : ℕ) (input : InputChange) (went : H
   )
 
   ended_at : (answer : Result Summary Ending) (frames : List Planes) (rest : List ℕ) → SendEnded s most answer input went_some broke_some frames rest → EndedAt answer frames rest
-  ended_at (Ok (summaries.Judged tally)) frames rest e = absurd e
   ended_at (Ok (summaries.Sent count datagrams bytes)) frames rest e = (
     e.sent.0,
     record {
@@ -142,12 +132,6 @@ module _ (H : Type 0) (s : Sending) (most : ℕ) (input : InputChange) (went : H
       bytes_are = e.bytes_are;
     },
   )
-  ended_at (Ok (summaries.Looped count datagrams bytes tally)) frames rest e = absurd e
-  ended_at (Ok (summaries.Packed pictures datagrams bytes)) frames rest e = absurd e
-  ended_at (Ok (summaries.Played pictures unpaired count)) frames rest e = absurd e
-  ended_at (Ok (summaries.Generated count samples)) frames rest e = absurd e
-  ended_at (Ok (summaries.Compared count samples different)) frames rest e = absurd e
-  ended_at (Err (endings.Usage place)) frames rest e = absurd e
   ended_at (Err endings.NoMemory) frames rest (inl e) = (
     e.sent.0,
     inl (record {
@@ -165,8 +149,6 @@ module _ (H : Type 0) (s : Sending) (most : ℕ) (input : InputChange) (went : H
   ended_at (Err endings.InputFailed) frames rest e = (e.sent.0, record { sendable = e.sendable; few = e.few; wanted = e.wanted; sent = e.sent.1 })
   ended_at (Err endings.OutputFailed) frames rest e = unsent_at frames rest outlets.Output e
   ended_at (Err endings.WireFailed) frames rest e = unsent_at frames rest outlets.Wire e
-  ended_at (Err (endings.CaptureCut place)) frames rest e = absurd e
-  ended_at (Err (endings.PacketLimit limit)) frames rest e = absurd e
   ended_at (Err (endings.RawCut number)) frames rest e = (
     e.sent.0,
     record {
@@ -180,7 +162,6 @@ module _ (H : Type 0) (s : Sending) (most : ℕ) (input : InputChange) (went : H
   )
   ended_at (Err (endings.SampleTooLarge place plane value)) frames rest e = refused_at frames rest (faults.SampleRange plane place value) e
   ended_at (Err (endings.SliceTooLarge slice bytes)) frames rest e = refused_at frames rest (faults.SliceTooLarge slice bytes) e
-  ended_at (Err (endings.StreamBad place)) frames rest e = absurd e
   ended_at (Err (endings.FrameLimit limit)) frames rest e = (
     e.sent.0,
     record {
@@ -191,6 +172,7 @@ module _ (H : Type 0) (s : Sending) (most : ℕ) (input : InputChange) (went : H
       sent = e.sent.1;
     },
   )
+  ended_at other frames rest e = absurd e
 
   pub sends_at : (answer : Result Summary Ending) → SendsFrames s most answer input went_some broke_some → (h : H) × SendsFrames s most answer input (went h) (broke h)
   sends_at answer e =

@@ -1,14 +1,15 @@
 -- Indices that a chooser answers as the settings choose, for all slices of a frame and for the first of them.
-use Rattle.std.proofs.Common.{◌≡◌, ℕ, ◌+◌, ◌-◌, ◌<◌, ◌≤◌, Bool, true, false, List, [], ◌∷◌, ◌++◌, length, take, drop, map, Option, Some, None, refl, ap, sym, ◌∙◌, arith, inl, inr}
+use Rattle.std.proofs.Common.{◌≡◌, ℕ, ◌+◌, ◌-◌, ◌<◌, ◌≤◌, List, [], ◌∷◌, ◌++◌, length, take, drop, map, Option, Some, None, refl, ap, sym, ◌∙◌, arith, inl, inr}
 use Rattle.std.specs.List.{AllZip, flat_map, enumerate_from}
 use Rattle.std.specs.Option.{option_or}
 use Rattle.std.specs.Prelude.{◌⊎◌}
 use Rattle.std.proofs.Math.Seq.{take-append-add}
 use Rattle.std.proofs.lemmas.Bool.{cases_lt}
+use Rattle.std.proofs.lemmas.Grind.{common_steps}
 use Rattle.std.proofs.lemmas.List.{map-append, take-append-le, drop-append-le, take_all, drop_all}
 use Rattle.std.proofs.lemmas.List.Concat.{flat_map-cons}
 use Rattle.link_model.specs.Sending.{frame_needs, pictures_of}
-use Rattle.link_model.specs.SendingFaults.{SendFault, is_too_large, first_of_slices, first_slice_fault, first_sample_fault, send_fault}
+use Rattle.link_model.specs.SendingFaults.{SendFault, first_of_slices, first_slice_fault, first_sample_fault, send_fault}
 use Rattle.link_model.specs.SendingPictures.{Need, chosen_index, chosen_indices, picture_needs, sent_parameters, slices_with_indices, wants_lengths}
 use Rattle.vc_types.specs.Planes.{Planes}
 use Rattle.vc_types.specs.SenderSettings.{Sending}
@@ -17,11 +18,7 @@ use Rattle.frame_sending.specs.FramesSent.{frame_fault, frame_indices}
 
 map-flat_map : {A B : Type 0} (f : A → B) (g : Planes → List A) (xs : List Planes) → map f (flat_map g xs) ≡ flat_map (λ x. map f (g x)) xs
 map-flat_map f g [] = refl
-map-flat_map {B = B} f g (x ∷ xs) =
-    ap (map f) (flat_map-cons g x xs)
-    ∙ map-append f (g x) (flat_map g xs)
-    ∙ ap (λ (l : List B). map f (g x) ++ l) (map-flat_map f g xs)
-    ∙ sym (flat_map-cons (λ y. map f (g y)) x xs)
+map-flat_map f g (x ∷ xs) = simp (flat_map-cons, map-append, map-flat_map f g xs)
 
 -- all indices of a frame, by its needs
 indices-needs : (s : Sending) (frame : Planes) → frame_indices s frame ≡ map (chosen_index s.choice) (frame_needs s (wants_lengths s.choice) frame)
@@ -53,23 +50,13 @@ module _ (s : Sending) (answers : Need → ℕ → Type 0) (as_chosen : (need : 
 -- ---- the first fault, at the first indices alone
 
 enumerate-append : (a : ℕ) (xs ys : List ℕ) → enumerate_from a (xs ++ ys) ≡ enumerate_from a xs ++ enumerate_from (a + length xs) ys
-enumerate-append a [] ys = ap (λ (n : ℕ). enumerate_from n ys) same where
-  same : a ≡ a + 0
-  same = omega arith
-enumerate-append a (x ∷ xs) ys =
-    ap (λ (l : List (ℕ × ℕ)). (a, x) ∷ l) (enumerate-append (a + 1) xs ys)
-    ∙ ap (λ (n : ℕ). (a, x) ∷ (enumerate_from (a + 1) xs ++ enumerate_from n ys)) same
-  where
-    same : a + 1 + length xs ≡ a + length (x ∷ xs)
-    same = omega arith
+enumerate-append a [] ys = grind arith
+enumerate-append a (x ∷ xs) ys = grind (arith, common_steps, enumerate-append (a + 1) xs ys)
 
 first-front : (s : Sending) (planes : Planes) (xs ys : List (ℕ × ℕ)) (fault : SendFault) → first_of_slices s planes xs ≡ Some fault → first_of_slices s planes (xs ++ ys) ≡ Some fault
 unfolding first_of_slices
 first-front s planes [] ys fault found = absurd cc
-first-front s planes (z ∷ xs) ys fault found = cases (is_too_large s planes z.0 z.1) refl (first-front s planes xs ys fault) where
-  cases : (large : Bool) → is_too_large s planes z.0 z.1 ≡ large → (first_of_slices s planes xs ≡ Some fault → first_of_slices s planes (xs ++ ys) ≡ Some fault) → first_of_slices s planes ((z ∷ xs) ++ ys) ≡ Some fault
-  cases true is behind = rw is (rw is at found)
-  cases false is behind = rw is (behind (rw is at found))
+first-front s planes (z ∷ xs) ys fault found = grind (arith, first-front s planes xs ys fault)
 
 or-same : (a b c : Option SendFault) (fault : SendFault) → option_or a b ≡ Some fault → (b ≡ Some fault → c ≡ Some fault) → option_or a c ≡ Some fault
 or-same None b c fault found more = more found

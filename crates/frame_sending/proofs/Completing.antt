@@ -1,6 +1,6 @@
 -- Where no fault came, whole frames that aren't refused, at most as many as were asked for, are encoded
 -- to their end, unless memory runs out.
-use Rattle.std.proofs.Common.{◌≡◌, ◌⊎◌, ℕ, ◌<◌, ◌+◌, List, [], ◌∷◌, ◌++◌, length, take, drop, map, All, Option, Some, None, IsSomeAnd, Result, Ok, Err, inl, inr, refl, sym, ap, ◌∙◌, arith, append_assoc, append-nil, length-append}
+use Rattle.std.proofs.Common.{◌≡◌, ◌⊎◌, ℕ, ◌<◌, ◌+◌, List, [], ◌∷◌, ◌++◌, length, map, All, Option, Some, None, IsSomeAnd, Result, Ok, Err, inl, inr, refl, sym, ap, subst, ◌∙◌, arith, append_assoc, append-nil, length-append}
 use Rattle.std.specs.List.{concat}
 use Rattle.std.specs.Result.{IsOk}
 use Rattle.std.proofs.Math.Seq.{take-append_seam, drop-append_seam}
@@ -17,34 +17,19 @@ use Rattle.link_model.specs.SendingFaults as faults
 use Rattle.link_report.specs.declared.ending.Ending.{Ending}
 use Rattle.link_report.specs.declared.ending.Ending.TheVariants as endings
 use Rattle.link_report.specs.declared.summary.Summary.{Summary}
+use Rattle.vc_ports.proofs.Given.{some_is}
 use Rattle.vc_ports.specs.Changes.{InputChange, HasRisen, Took}
+use Rattle.vc_ports.specs.Reading.{Gave}
 use Rattle.vc_types.specs.Planes.{Planes}
 use Rattle.vc_types.specs.SenderSettings.{Sending}
-
-some_is : (x y : List ℕ) → Some x ≡ Some y → x ≡ y
-some_is x y p = cc
-
-some_is_none : (x : List ℕ) → Some x ≡ None → ⊥
-some_is_none x p = cc
-
-none_is_some : (fault : SendFault) (found : Option SendFault) → found ≡ None → found ≡ Some fault → ⊥
-none_is_some fault found none some = cc
 
 -- ---- pieces of one length
 
 same_front : (x y xs ys : List ℕ) → length x ≡ length y → x ++ xs ≡ y ++ ys → x ≡ y
-same_front x y xs ys long same =
-    sym (take-append_seam x xs)
-    ∙ ap (λ (l : List ℕ). take (length x) l) same
-    ∙ ap (λ (k : ℕ). take k (y ++ ys)) long
-    ∙ take-append_seam y ys
+same_front x y xs ys long same = cc (take-append_seam x xs, take-append_seam y ys)
 
 same_back : (x y xs ys : List ℕ) → length x ≡ length y → x ++ xs ≡ y ++ ys → xs ≡ ys
-same_back x y xs ys long same =
-    sym (drop-append_seam x xs)
-    ∙ ap (λ (l : List ℕ). drop (length x) l) same
-    ∙ ap (λ (k : ℕ). drop k (y ++ ys)) long
-    ∙ drop-append_seam y ys
+same_back x y xs ys long same = cc (drop-append_seam x xs, drop-append_seam y ys)
 
 abbrev AreLong : ℕ → List (List ℕ) → Type 0
 AreLong n pieces = All (λ piece. length piece ≡ n) pieces
@@ -117,7 +102,7 @@ module _ (s : Sending) (most : ℕ) (given more : List ℕ) (frames : List Plane
   no_refused : (went : List (List ℕ) → Type 0) (fault : SendFault) → EndsWithRefusedFrame s most went frames rest fault → ⊥
   no_refused went fault r =
       let all : AreSendable s ((r.others ++ r.last ∷ []) ++ map frame_of behind.0) = rw (sym r.frames_are, sym all_frames) whole.sendable in
-      none_is_some fault (frame_fault s r.last) (at_seam (λ frame. frame_fault s frame ≡ None) r.others r.last (map frame_of behind.0) all) r.refused
+      cc (sym (at_seam (λ frame. frame_fault s frame ≡ None) r.others r.last (map frame_of behind.0) all) ∙ r.refused)
 
   no_limit : (went : List (List ℕ) → Type 0) (limit : ℕ) → IsPastFrames s most went frames rest limit → ⊥
   no_limit went limit p =
@@ -129,11 +114,11 @@ module _ (s : Sending) (most : ℕ) (given more : List ℕ) (frames : List Plane
 -- ---- by how it ended
 
 -- the bytes behind those that were given
-behind_given : (s : Sending) (most : ℕ) (given : List ℕ) (before after : Option (List ℕ)) → Took (record { left = record { before = before; after = after }; faults = record { before = 0; after = 0 } }) given
-    → IsSomeAnd before (IsSendable s most) → (more : List ℕ) × (after ≡ Some more) × IsSendable s most (given ++ more)
-behind_given s most given None after took whole = absurd whole
-behind_given s most given (Some bytes) None took whole = absurd (some_is_none bytes took)
-behind_given s most given (Some bytes) (Some more) took whole = (more, refl, rw (some_is bytes (given ++ more) took) at whole)
+behind_given : (P : List ℕ → Type 0) (given : List ℕ) (before after : Option (List ℕ)) → Gave before after given
+    → IsSomeAnd before P → (more : List ℕ) × (after ≡ Some more) × P (given ++ more)
+behind_given P given None after took whole = absurd whole
+behind_given P given (Some bytes) None took whole = let none : Some bytes ≡ None = took in absurd cc
+behind_given P given (Some bytes) (Some more) took whole = (more, refl, subst P (some_is bytes (given ++ more) took) whole)
 
 module _ (s : Sending) (most : ℕ) (input : InputChange) (went : List (List ℕ) → Type 0) (broke : List (List ℕ) → OutletFault → Type 0)
     (sound_input : HasRisen input.faults → ⊥) (sound_output : (datagrams : List (List ℕ)) → broke datagrams outlets.Output → ⊥) (sound_wire : (datagrams : List (List ℕ)) → broke datagrams outlets.Wire → ⊥)
@@ -148,7 +133,7 @@ module _ (s : Sending) (most : ℕ) (input : InputChange) (went : List (List ℕ
   Left given = (more : List ℕ) × (input.left.after ≡ Some more) × IsSendable s most (given ++ more)
 
   left : (given : List ℕ) → Took input given → Left given
-  left given took = behind_given s most given input.left.before input.left.after took whole
+  left given took = behind_given (IsSendable s most) given input.left.before input.left.after took whole
 
   stopped : (ending : Ending) (given : List ℕ) (frames : List Planes) (rest : List ℕ) → Left given → HoldFrames (frame_shape s) given frames rest → SendEnded s most (Err ending) input went broke frames rest
       → (ending ≡ endings.InputFailed → ⊥) → Came (Err ending)
@@ -160,10 +145,7 @@ module _ (s : Sending) (most : ℕ) (input : InputChange) (went : List (List ℕ
   stopped (endings.SampleTooLarge place plane value) given frames rest l holds ended read = absurd (no_refused s most given l.0 frames rest holds l.2 went (faults.SampleRange plane place value) ended)
   stopped (endings.SliceTooLarge slice bytes) given frames rest l holds ended read = absurd (no_refused s most given l.0 frames rest holds l.2 went (faults.SliceTooLarge slice bytes) ended)
   stopped (endings.FrameLimit limit) given frames rest l holds ended read = absurd (no_limit s most given l.0 frames rest holds l.2 went limit ended)
-  stopped (endings.Usage place) given frames rest l holds ended read = absurd ended
-  stopped (endings.CaptureCut place) given frames rest l holds ended read = absurd ended
-  stopped (endings.PacketLimit limit) given frames rest l holds ended read = absurd ended
-  stopped (endings.StreamBad place) given frames rest l holds ended read = absurd ended
+  stopped ending given frames rest l holds ended read = absurd ended
 
   pub sending_completes : (answer : Result Summary Ending) → SendsFrames s most answer input went broke → IsOk answer ⊎ (answer ≡ Err endings.NoMemory)
   sending_completes (Ok summary) e = inl refl

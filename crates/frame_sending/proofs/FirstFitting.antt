@@ -1,5 +1,5 @@
 -- The first place that passes a test, or else the number of places.
-use Rattle.std.proofs.Common.{◌≡◌, ℕ, suc, ◌+◌, ◌≤◌, Bool, true, false, cond, List, [], ◌∷◌, length, refl, arith}
+use Rattle.std.proofs.Common.{◌≡◌, ℕ, ◌+◌, ◌≤◌, Bool, true, false, cond, List, [], ◌∷◌, length, refl, arith}
 use Rattle.std.specs.Prelude.{nat_lt, unwrap_or}
 use Rattle.std.specs.List.{position, position_or_len}
 use Rattle.std.proofs.lemmas.Bool.Decides.{nat_tests}
@@ -13,10 +13,7 @@ place p (x ∷ xs) = cond (p x) 0 (1 + place p xs)
 place-le : {A : Type 0} (p : A → Bool) (xs : List A) → place p xs ≤ length xs
 unfolding place
 place-le p [] = omega arith
-place-le p (x ∷ xs) = cases (p x) refl (place-le p xs) where
-  cases : (b : Bool) → p x ≡ b → place p xs ≤ length xs → cond (p x) 0 (1 + place p xs) ≤ suc (length xs)
-  cases true is most = rw is (omega arith)
-  cases false is most = rw is (omega (arith, most))
+place-le p (x ∷ xs) = grind (arith, nat_tests, place-le p xs)
 
 place_is : {A : Type 0} (p : A → Bool) (xs : List A) → place p xs ≡ position_or_len p xs
 unfolding place

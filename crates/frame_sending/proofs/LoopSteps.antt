@@ -39,19 +39,13 @@ module _ {X : Type 0} {carried : X → X → List (List ℕ) → Type 0} {broke 
   module _ (room : length frames < most) where
     -- a frame isn't sent
     pub failed_at : (frame : Planes) → GaveFrame (frame_shape s) mid input.left.after frame → (ending : Ending) → FailsAt s frames frame (carried y z) (broke y z) ending → StopsSo (Err ending)
-    failed_at frame gave (endings.Usage place) fails = absurd fails
     failed_at frame gave endings.NoMemory (inl nothing) = unsent laws s most frames input mid x y z sent frame gave room nothing
     failed_at frame gave endings.NoMemory (inr fails) = part_sent laws s most frames input mid x y z sent frame gave room outlets.NoMemory fails.0 fails.1
-    failed_at frame gave endings.InputFailed fails = absurd fails
     failed_at frame gave endings.OutputFailed fails = part_sent laws s most frames input mid x y z sent frame gave room outlets.Output fails.0 fails.1
     failed_at frame gave endings.WireFailed fails = part_sent laws s most frames input mid x y z sent frame gave room outlets.Wire fails.0 fails.1
-    failed_at frame gave (endings.CaptureCut place) fails = absurd fails
-    failed_at frame gave (endings.PacketLimit limit) fails = absurd fails
-    failed_at frame gave (endings.RawCut number) fails = absurd fails
     failed_at frame gave (endings.SampleTooLarge place plane value) fails = refused laws s most frames input mid x y z sent frame gave room (faults.SampleRange plane place value) fails.0 fails.1
     failed_at frame gave (endings.SliceTooLarge slice bytes) fails = refused laws s most frames input mid x y z sent frame gave room (faults.SliceTooLarge slice bytes) fails.0 fails.1
-    failed_at frame gave (endings.StreamBad place) fails = absurd fails
-    failed_at frame gave (endings.FrameLimit limit) fails = absurd fails
+    failed_at frame gave ending fails = absurd fails
 
     -- a frame isn't read
     pub unread_at : (fault : FrameReadFault) → ReadsFrame (frame_shape s) mid input.left.after (Err fault) → carried y z [] → StopsSo (Err (unread_ending fault (length frames)))
@@ -63,19 +57,11 @@ module _ {X : Type 0} {carried : X → X → List (List ℕ) → Type 0} {broke 
     -- the end is sent, or it isn't
     pub ends_with : (result : Result Totals Ending) → Finishes s frames (carried y z) (broke y z) result → StopsSo (sent_answer result)
     ends_with (Ok totals) ends = all_sent laws s most frames input mid x y z sent gave few totals ends
-    ends_with (Err (endings.Usage place)) ends = absurd ends
     ends_with (Err endings.NoMemory) (inl nothing) = without_memory laws s most frames input mid x y z sent nothing gave.gave few
     ends_with (Err endings.NoMemory) (inr part) = end_unsent laws s most frames input mid x y z sent gave few outlets.NoMemory part
-    ends_with (Err endings.InputFailed) ends = absurd ends
     ends_with (Err endings.OutputFailed) ends = end_unsent laws s most frames input mid x y z sent gave few outlets.Output ends
     ends_with (Err endings.WireFailed) ends = end_unsent laws s most frames input mid x y z sent gave few outlets.Wire ends
-    ends_with (Err (endings.CaptureCut place)) ends = absurd ends
-    ends_with (Err (endings.PacketLimit limit)) ends = absurd ends
-    ends_with (Err (endings.RawCut number)) ends = absurd ends
-    ends_with (Err (endings.SampleTooLarge place plane value)) ends = absurd ends
-    ends_with (Err (endings.SliceTooLarge slice bytes)) ends = absurd ends
-    ends_with (Err (endings.StreamBad place)) ends = absurd ends
-    ends_with (Err (endings.FrameLimit limit)) ends = absurd ends
+    ends_with other ends = absurd ends
 
 -- ---- a frame has more than one byte
 
@@ -104,17 +90,11 @@ more_than_one_byte shape fits =
 
 -- a frame that isn't sent isn't a failed read
 pub not_read : (s : Sending) (frames : List Planes) (frame : Planes) (went : List (List ℕ) → Type 0) (broke : List (List ℕ) → OutletFault → Type 0) (ending : Ending) → FailsAt s frames frame went broke ending → ◌≡◌ {A = Result (Unit {0}) Ending} (Err ending) (Err endings.InputFailed) → ⊥
-not_read s frames frame went broke ending fails e = subst (FailsAt s frames frame went broke) (ending_is ending endings.InputFailed e) fails
-  where
-    ending_is : (a b : Ending) → ◌≡◌ {A = Result (Unit {0}) Ending} (Err a) (Err b) → a ≡ b
-    ending_is a b same = cc
+not_read s frames frame went broke ending fails e = let is : ending ≡ endings.InputFailed = cc e in subst (FailsAt s frames frame went broke) is fails
 
 pub not_read_at_end : (s : Sending) (frames : List Planes) (went : List (List ℕ) → Type 0) (broke : List (List ℕ) → OutletFault → Type 0) (result : Result Totals Ending) → Finishes s frames went broke result → sent_answer result ≡ Err endings.InputFailed → ⊥
 not_read_at_end s frames went broke (Ok totals) ends e = cc
-not_read_at_end s frames went broke (Err ending) ends e = subst (λ (end : Ending). Finishes s frames went broke (Err end)) (ending_is ending endings.InputFailed e) ends
-  where
-    ending_is : (a b : Ending) → ◌≡◌ {A = Result Summary Ending} (Err a) (Err b) → a ≡ b
-    ending_is a b same = cc
+not_read_at_end s frames went broke (Err ending) ends e = let is : ending ≡ endings.InputFailed = cc e in subst (λ (end : Ending). Finishes s frames went broke (Err end)) is ends
 
 pub sends_so : (s : Sending) (most : ℕ) (answer : Result Summary Ending) (input : InputChange) (went : List (List ℕ) → Type 0) (broke : List (List ℕ) → OutletFault → Type 0) → StopsSending s most answer input went broke → (answer ≡ Err endings.InputFailed → HasRisen input.faults) → SendsFrames s most answer input went broke
 sends_so s most answer input went broke stops rose = record {

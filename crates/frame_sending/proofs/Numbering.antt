@@ -68,7 +68,7 @@ module _ (s : Sending) (frames : List Planes) (frame : Planes) (small : length f
 
 -- ---- totals
 
-sum-append : (xs ys : List (List ℕ)) → bytes_in (xs ++ ys) ≡ bytes_in xs + bytes_in ys
+pub sum-append : (xs ys : List (List ℕ)) → bytes_in (xs ++ ys) ≡ bytes_in xs + bytes_in ys
 sum-append xs ys = sum_by-append length xs ys
 
 pub totals-append : (t : Totals) (xs ys : List (List ℕ)) → totals_with (totals_with t xs) ys ≡ totals_with t (xs ++ ys)
@@ -81,13 +81,7 @@ totals-append t xs ys = λ i. record { frames = t.frames; datagrams = datagrams 
     bytes = let sum = sum-append xs ys in omega (arith, sum)
 
 pub totals_none : (s : Sending) → ◌≡◌ {A = Totals} (record { frames = 0; datagrams = 0; bytes = 0 }) (totals_of s [])
-totals_none s = λ i. record { frames = 0; datagrams = datagrams i; bytes = bytes i }
-  where
-    datagrams : 0 ≡ length (frames_sent s [])
-    datagrams = sym (ap length (none_sent s))
-
-    bytes : 0 ≡ bytes_in (frames_sent s [])
-    bytes = sym (ap bytes_in (none_sent s))
+totals_none s = ap (λ (sent : List (List ℕ)). record { frames = 0; datagrams = length sent; bytes = bytes_in sent }) (sym (none_sent s))
 
 -- the totals behind a frame more
 abbrev pub with_frame_more : Totals → Totals

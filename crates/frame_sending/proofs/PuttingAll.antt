@@ -12,10 +12,10 @@ use Rattle.frame_sending.proofs.Laws.{OutletLaws}
 use Rattle.frame_sending.proofs.Numbering.{totals-append}
 
 module _ (datagrams : List Datagram) (i : ℕ) (one : Datagram) (more : take (i + 1) datagrams ≡ take i datagrams ++ one ∷ []) where
-  bytes_more : bytes_of_all (take (i + 1) datagrams) ≡ bytes_of_all (take i datagrams) ++ one.bytes.items ∷ []
+  pub bytes_more : bytes_of_all (take (i + 1) datagrams) ≡ bytes_of_all (take i datagrams) ++ one.bytes.items ∷ []
   bytes_more = ap bytes_of_all more ∙ map-append (λ (d : Datagram). d.bytes.items) (take i datagrams) (one ∷ [])
 
-  whole : bytes_of_all (take (i + 1) datagrams) ++ bytes_of_all (drop (i + 1) datagrams) ≡ bytes_of_all datagrams
+  pub whole : bytes_of_all (take (i + 1) datagrams) ++ bytes_of_all (drop (i + 1) datagrams) ≡ bytes_of_all datagrams
   whole =
       sym (map-append (λ (d : Datagram). d.bytes.items) (take (i + 1) datagrams) (drop (i + 1) datagrams))
       ∙ ap bytes_of_all (take-append-drop (i + 1) datagrams)

@@ -1,7 +1,8 @@
 -- The datagrams of frames, and those of one frame more.
-use Rattle.std.proofs.Common.{◌≡◌, ℕ, suc, ◌+◌, ◌*◌, Bool, true, false, List, [], ◌∷◌, ◌++◌, length, take, drop, map, arith, refl, ap, sym, ◌∙◌, append_assoc, append-nil, length-append}
+use Rattle.std.proofs.Common.{◌≡◌, ℕ, suc, ◌+◌, ◌*◌, Bool, true, false, List, [], ◌∷◌, ◌++◌, length, take, drop, map, arith, refl, ap, sym, ◌∙◌, append_assoc, append-nil}
 use Rattle.std.specs.List.{flat_map, enumerate_from}
 use Rattle.std.proofs.Math.Seq.{take-append_seam, drop-append_seam, take-length}
+use Rattle.std.proofs.lemmas.Grind.{common_steps}
 use Rattle.std.proofs.lemmas.List.{length-map}
 use Rattle.std.proofs.lemmas.List.FromFn.{length-range_with_len}
 use Rattle.std.proofs.lemmas.List.Concat.{flat_map-cons, flat_map-append}
@@ -62,30 +63,12 @@ no-pictures s k = refl
 pub pictures-more : (s : Sending) (k : ℕ) (pictures others : List Planes) (indices : List ℕ)
     → pictures_outgoing s k (chosen s pictures ++ indices) (pictures ++ others)
     ≡ pictures_outgoing s k (chosen s pictures) pictures ++ pictures_outgoing s (k + length pictures) indices others
-pictures-more s k [] others indices =
-    ap (λ (n : ℕ). pictures_outgoing s n indices others) same
-    ∙ ap (λ (l : List Outgoing). l ++ pictures_outgoing s (k + 0) indices others) (sym (no-pictures s k))
-  where
-    same : k ≡ k + 0
-    same = omega arith
+pictures-more s k [] others indices = grind (arith, no-pictures s k)
 pictures-more s k (planes ∷ pictures) others indices =
-    ap (λ (l : List ℕ). pictures_outgoing s k (l ++ indices) (planes ∷ (pictures ++ others))) (flat_map-cons (chosen_indices s) planes pictures)
-    ∙ ap (λ (l : List ℕ). pictures_outgoing s k l (planes ∷ (pictures ++ others))) (append_assoc front behind indices)
-    ∙ first-outgoing s k planes (pictures ++ others) front (behind ++ indices) (length-chosen s planes)
-    ∙ ap (λ (l : List Outgoing). picture_outgoing s k front planes ++ l) (pictures-more s (k + 1) pictures others indices)
-    ∙ sym (append_assoc (picture_outgoing s k front planes) (pictures_outgoing s (k + 1) behind pictures) (pictures_outgoing s (k + 1 + length pictures) indices others))
-    ∙ ap (λ (l : List Outgoing). l ++ pictures_outgoing s (k + 1 + length pictures) indices others) (sym (first-outgoing s k planes pictures front behind (length-chosen s planes)))
-    ∙ ap (λ (l : List ℕ). pictures_outgoing s k l (planes ∷ pictures) ++ pictures_outgoing s (k + 1 + length pictures) indices others) (sym (flat_map-cons (chosen_indices s) planes pictures))
-    ∙ ap (λ (n : ℕ). pictures_outgoing s k (chosen s (planes ∷ pictures)) (planes ∷ pictures) ++ pictures_outgoing s n indices others) same
-  where
-    front : List ℕ
-    front = chosen_indices s planes
-
-    behind : List ℕ
-    behind = chosen s pictures
-
-    same : k + 1 + length pictures ≡ k + suc (length pictures)
-    same = omega arith
+    let front = chosen_indices s planes in
+    let behind = chosen s pictures in
+    let long = length-chosen s planes in
+    grind (arith, flat_map-cons, append_assoc, first-outgoing s k planes (pictures ++ others) front (behind ++ indices) long, first-outgoing s k planes pictures front behind long, pictures-more s (k + 1) pictures others indices)
 
 -- ---- sequence numbers
 
@@ -102,20 +85,8 @@ length-datagrams s a [] = ap length (no-datagrams s a)
 length-datagrams s a (o ∷ os) = ap length (datagrams-cons s a o os) ∙ ap suc (length-datagrams s (a + 1) os)
 
 pub datagrams-append : (s : Sending) (a : ℕ) (os others : List Outgoing) → datagrams_from s a (os ++ others) ≡ datagrams_from s a os ++ datagrams_from s (a + length os) others
-datagrams-append s a [] others =
-    ap (λ (n : ℕ). datagrams_from s n others) same
-    ∙ ap (λ (l : List (List ℕ)). l ++ datagrams_from s (a + 0) others) (sym (no-datagrams s a))
-  where
-    same : a ≡ a + 0
-    same = omega arith
-datagrams-append s a (o ∷ os) others =
-    datagrams-cons s a o (os ++ others)
-    ∙ ap (λ (l : List (List ℕ)). sent_datagram s a o ∷ l) (datagrams-append s (a + 1) os others)
-    ∙ ap (λ (n : ℕ). sent_datagram s a o ∷ (datagrams_from s (a + 1) os ++ datagrams_from s n others)) same
-    ∙ ap (λ (l : List (List ℕ)). l ++ datagrams_from s (a + suc (length os)) others) (sym (datagrams-cons s a o os))
-  where
-    same : a + 1 + length os ≡ a + suc (length os)
-    same = omega arith
+datagrams-append s a [] others = grind (arith, no-datagrams s a)
+datagrams-append s a (o ∷ os) others = grind (arith, datagrams-cons, datagrams-append s (a + 1) os others)
 
 -- ---- frames
 
@@ -126,20 +97,9 @@ length-pictures s frame = cases s.frames.fields refl where
   cases true is = rw is refl
   cases false is = rw is refl
 
-none_more : (each : ℕ) → 0 ≡ 0 * each
-none_more each = omega arith
-
-one_more : (each n : ℕ) → each + n * each ≡ suc n * each
-one_more each n = omega arith
-
 pub length-all_pictures : (s : Sending) (frames : List Planes) → length (flat_map (pictures_of s) frames) ≡ length frames * pictures_per_frame s
-length-all_pictures s [] = none_more (pictures_per_frame s)
-length-all_pictures s (frame ∷ frames) =
-    ap length (flat_map-cons (pictures_of s) frame frames)
-    ∙ length-append (pictures_of s frame) (flat_map (pictures_of s) frames)
-    ∙ ap (λ (n : ℕ). n + length (flat_map (pictures_of s) frames)) (length-pictures s frame)
-    ∙ ap (λ (n : ℕ). pictures_per_frame s + n) (length-all_pictures s frames)
-    ∙ one_more (pictures_per_frame s) (length frames)
+length-all_pictures s [] = omega arith
+length-all_pictures s (frame ∷ frames) = grind (arith, common_steps, flat_map-cons, length-pictures s frame, length-all_pictures s frames)
 
 one_frame : {A : Type 0} (f : Planes → List A) (frame : Planes) → flat_map f (frame ∷ []) ≡ f frame
 one_frame f frame = flat_map-cons f frame [] ∙ append-nil (f frame)

@@ -21,26 +21,17 @@ module _ (went : List (List ℕ) → Type 0) (broke : List (List ℕ) → Outlet
 
   module _ (s : Sending) (most : ℕ) (input : InputChange) where
     by_ending : (answer : Result Summary Ending) (frames : List Planes) (rest : List ℕ) → SendEnded s most answer input went broke frames rest → Outcome answer
-    by_ending (Ok (summaries.Judged tally)) frames rest e = absurd e
     by_ending (Ok (summaries.Sent count datagrams bytes)) frames rest e = (_, e.sent)
-    by_ending (Ok (summaries.Looped count datagrams bytes tally)) frames rest e = absurd e
-    by_ending (Ok (summaries.Packed pictures datagrams bytes)) frames rest e = absurd e
-    by_ending (Ok (summaries.Played pictures unpaired count)) frames rest e = absurd e
-    by_ending (Ok (summaries.Generated count samples)) frames rest e = absurd e
-    by_ending (Ok (summaries.Compared count samples different)) frames rest e = absurd e
-    by_ending (Err (endings.Usage place)) frames rest e = absurd e
     by_ending (Err endings.NoMemory) frames rest (inl e) = (_, inl e.sent)
     by_ending (Err endings.NoMemory) frames rest (inr e) = (_, inr e.part_sent)
-    by_ending (Err endings.InputFailed) frames rest e = (_, e.sent)
     by_ending (Err endings.OutputFailed) frames rest e = (_, e.part_sent)
     by_ending (Err endings.WireFailed) frames rest e = (_, e.part_sent)
-    by_ending (Err (endings.CaptureCut place)) frames rest e = absurd e
-    by_ending (Err (endings.PacketLimit limit)) frames rest e = absurd e
+    by_ending (Err endings.InputFailed) frames rest e = (_, e.sent)
     by_ending (Err (endings.RawCut number)) frames rest e = (_, e.sent)
     by_ending (Err (endings.SampleTooLarge place plane value)) frames rest e = (_, e.sent)
     by_ending (Err (endings.SliceTooLarge slice bytes)) frames rest e = (_, e.sent)
-    by_ending (Err (endings.StreamBad place)) frames rest e = absurd e
     by_ending (Err (endings.FrameLimit limit)) frames rest e = (_, e.sent)
+    by_ending other frames rest e = absurd e
 
     pub outcome_of : (answer : Result Summary Ending) → SendsFrames s most answer input went broke → Outcome answer
     outcome_of answer e = by_ending answer e.frames e.rest e.ended

@@ -1,5 +1,5 @@
 -- The whole command: workers are started, the wire listens and is aimed, frames are sent and heard, and the answer made.
-use Rattle.std.proofs.Common.{◌≡◌, ℕ, ◌≤◌, true, false, List, [], ◌∷◌, length, take, Option, Ok, Err, refl, sym, ap, ◌∙◌, subst, arith, inl, inr}
+use Rattle.std.proofs.Common.{◌≡◌, ℕ, ◌≤◌, true, false, List, [], length, take, Option, Ok, Err, refl, sym, ap, ◌∙◌, subst, arith, inl, inr}
 use Rattle.std.specs.Prelude.{Result, ◌⊎◌}
 use Rattle.std.proofs.lemmas.Bool.{false≢true}
 use Rattle.datagram_outlet.specs.declared.outlet.OutletFault.{OutletFault}
@@ -8,12 +8,13 @@ use Rattle.decode_command.specs.Decoding.{HasGivenWork, HasStarted}
 use Rattle.decode_command.specs.Hearing.{IsBroken}
 use Rattle.decode_command.proofs.Asking.{nothing_offered, offered_then}
 use Rattle.decode_command.proofs.Due.{due_at_end, nothing_due}
+use Rattle.decode_command.proofs.Whole.{gave_work, started}
 use Rattle.frame_sending.proofs.Carrying.{sends_at, sends_weaker}
 use Rattle.frame_sending.specs.Sends.{SendsFrames}
 use Rattle.link_model.specs.Judgement.{tally_of}
 use Rattle.link_model.specs.Output.{full_output, output_so_far}
 use Rattle.link_model.specs.declared.tally.Tally.{Tally}
-use Rattle.link_receiver.proofs.Asked.{asked_twice, grows_twice}
+use Rattle.link_receiver.proofs.Asked.{asked_twice}
 use Rattle.link_receiver.specs.HeardLists.{AsFrames, AskedPlaces, HasHeard, still_due}
 use Rattle.link_receiver.specs.States.{ReceiverState}
 use Rattle.link_report.specs.declared.ending.Ending.{Ending}
@@ -30,41 +31,9 @@ use Rattle.vc_ports.specs.Faults.{Rose}
 use Rattle.vc_ports.specs.Wires.{WireTold, aiming, listening}
 use Rattle.vc_ports.specs.Writing.{Grew, GrewBySome}
 use Rattle.vc_ports.proofs.Growing.{Grew-none, Grew-then, GrewBySome-none, GrewBySome-then}
-use Rattle.vc_slice.specs.Asked.{Told, Grows, told_more, starting}
+use Rattle.vc_slice.specs.Asked.{Told, Grows, starting}
 use Rattle.vc_types.specs.SenderSettings.{Sending}
 use Rattle.wire_calls.specs.Passing.{Passes}
-
--- ---- answers that differ
-
-ending_is : (a b : Ending) → ◌≡◌ {A = Result Summary Ending} (Err a) (Err b) → a ≡ b
-ending_is a b same = cc
-
-answers_differ : (a b : Ending) → (a ≡ b → ⊥) → ◌≡◌ {A = Result Summary Ending} (Err a) (Err b) → ⊥
-answers_differ a b differ same = differ (ending_is a b same)
-
-done_is_no_failure : (summary : Summary) (ending : Ending) → ◌≡◌ {A = Result Summary Ending} (Ok summary) (Err ending) → ⊥
-done_is_no_failure summary ending same = cc
-
-memory_is_no_input : ◌≡◌ {A = Ending} endings.NoMemory endings.InputFailed → ⊥
-memory_is_no_input same = cc
-
-memory_is_no_output : ◌≡◌ {A = Ending} endings.NoMemory endings.OutputFailed → ⊥
-memory_is_no_output same = cc
-
-memory_is_no_wire : ◌≡◌ {A = Ending} endings.NoMemory endings.WireFailed → ⊥
-memory_is_no_wire same = cc
-
-output_is_no_input : ◌≡◌ {A = Ending} endings.OutputFailed endings.InputFailed → ⊥
-output_is_no_input same = cc
-
-output_is_no_wire : ◌≡◌ {A = Ending} endings.OutputFailed endings.WireFailed → ⊥
-output_is_no_wire same = cc
-
-wire_is_no_input : ◌≡◌ {A = Ending} endings.WireFailed endings.InputFailed → ⊥
-wire_is_no_input same = cc
-
-wire_is_no_output : ◌≡◌ {A = Ending} endings.WireFailed endings.OutputFailed → ⊥
-wire_is_no_output same = cc
 
 -- ---- what was heard is fixed
 
@@ -95,15 +64,7 @@ module _ (s : Sending) (most : ℕ) (input : InputChange) (x y : LoopState) (hea
   kept endings.NoMemory is o = absurd (false≢true (sym is))
   kept endings.OutputFailed is o = absurd (false≢true (sym is))
   kept endings.WireFailed is o = (take o.1.0 o.0, o.1.2.0)
-  kept (endings.Usage place) is o = (o.0, o.1.0)
-  kept endings.InputFailed is o = (o.0, o.1.0)
-  kept (endings.CaptureCut place) is o = (o.0, o.1.0)
-  kept (endings.PacketLimit limit) is o = (o.0, o.1.0)
-  kept (endings.RawCut number) is o = (o.0, o.1.0)
-  kept (endings.SampleTooLarge place plane value) is o = (o.0, o.1.0)
-  kept (endings.SliceTooLarge slice bytes) is o = (o.0, o.1.0)
-  kept (endings.StreamBad place) is o = (o.0, o.1.0)
-  kept (endings.FrameLimit limit) is o = (o.0, o.1.0)
+  kept ending is o = (o.0, o.1.0)
 
   pub kept_at : (ending : Ending) → has_broken ending ≡ false → sending ≡ Err ending → Kept
   kept_at ending not ended = kept ending not (outcome_at (Err ending) ended)
@@ -142,13 +103,6 @@ module _ (s : Sending) (most window workers : ℕ) (at : List ℕ) (input : Inpu
   part_so_far : HasHeardSince window x.held x.asked y heard → GrewBySome x.held y.held (full_output window heard)
   part_so_far h = rw (due_at_end AsFrames window heard) at (GrewBySome-then x.held y.held y.held (output_so_far window heard) (still_due AsFrames window heard) h.wrote (GrewBySome-none y.held (still_due AsFrames window heard)))
 
-  started : (asked : Option Told) → AskedPlaces x.asked asked → HasStarted workers (record { before = hands_before; after = asked })
-  started asked more = record {
-    more = told_more (starting workers (Ok tt)) more.more;
-    grows = grows_twice hands_before x.asked asked (starting workers (Ok tt)) more.more grew more.grows;
-    started = ap (λ (l : List ℕ). workers ∷ l) more.started;
-  }
-
   abbrev output_to : Option (List ℕ) → ℕ → OutputChange
   output_to held faults = record { held = record { before = x.held; after = held }; faults = record { before = x.output_faults; after = faults } }
 
@@ -178,31 +132,22 @@ module _ (s : Sending) (most window workers : ℕ) (at : List ℕ) (input : Inpu
   broken endings.NoMemory is ended = record {
     heard = heard;
     did = inl (record { sending = sending; sends = sends; wrote = part_by_memory (outcome_is (Err endings.NoMemory) ended) });
-    input_failed = λ e. absurd (answers_differ endings.NoMemory endings.InputFailed memory_is_no_input e);
-    output_failed = λ e. absurd (answers_differ endings.NoMemory endings.OutputFailed memory_is_no_output e);
-    wire_failed = λ e. absurd (answers_differ endings.NoMemory endings.WireFailed memory_is_no_wire e);
-    workers_started = inl (started y.asked (asked_by_memory (outcome_is (Err endings.NoMemory) ended)));
+    input_failed = λ e. absurd cc;
+    output_failed = λ e. absurd cc;
+    wire_failed = λ e. absurd cc;
+    workers_started = inl (started workers hands_before x.asked y.asked grew (asked_by_memory (outcome_is (Err endings.NoMemory) ended)));
   }
   broken endings.OutputFailed is ended =
       let o = outcome_is (Err endings.OutputFailed) ended in
       record {
         heard = heard;
         did = inl (record { sending = sending; sends = sends; wrote = part_since (take o.1.0 o.0) o.1.2.0 });
-        input_failed = λ e. absurd (answers_differ endings.OutputFailed endings.InputFailed output_is_no_input e);
+        input_failed = λ e. absurd cc;
         output_failed = λ e. o.1.2.1;
-        wire_failed = λ e. absurd (answers_differ endings.OutputFailed endings.WireFailed output_is_no_wire e);
-        workers_started = started y.asked o.1.2.0.passed.asked;
+        wire_failed = λ e. absurd cc;
+        workers_started = started workers hands_before x.asked y.asked grew o.1.2.0.passed.asked;
       }
-  broken (endings.Usage place) is ended = absurd (false≢true is)
-  broken endings.InputFailed is ended = absurd (false≢true is)
-  broken (endings.CaptureCut place) is ended = absurd (false≢true is)
-  broken (endings.PacketLimit limit) is ended = absurd (false≢true is)
-  broken (endings.RawCut number) is ended = absurd (false≢true is)
-  broken (endings.SampleTooLarge place plane value) is ended = absurd (false≢true is)
-  broken (endings.SliceTooLarge slice bytes) is ended = absurd (false≢true is)
-  broken (endings.StreamBad place) is ended = absurd (false≢true is)
-  broken (endings.FrameLimit limit) is ended = absurd (false≢true is)
-  broken endings.WireFailed is ended = absurd (false≢true is)
+  broken ending is ended = absurd (false≢true is)
 
   -- ---- the receiver can go on
 
@@ -223,14 +168,7 @@ module _ (s : Sending) (most window workers : ℕ) (at : List ℕ) (input : Inpu
     part_written grows = rw (due_at_end AsFrames window heard) at (GrewBySome-then x.held y.held held (output_so_far window heard) (still_due AsFrames window heard) since.wrote grows)
 
     worked : HasGivenWork window workers (hands_to asked) (as_entries heard)
-    worked =
-        let told = offered_then window heard x.asked y.asked asked since.offered asking in
-        record {
-          more = told_more (starting workers (Ok tt)) told.more;
-          grows = grows_twice hands_before x.asked asked (starting workers (Ok tt)) told.more grew told.grows;
-          started = ap (λ (l : List ℕ). workers ∷ l) told.started;
-          offered = told.offered;
-        }
+    worked = gave_work window workers (as_entries heard) hands_before x.asked asked grew (offered_then window heard x.asked y.asked asked since.offered asking)
 
     asked_since : AskedPlaces x.asked asked
     asked_since = asked_twice x.asked y.asked asked k.1.passed.asked asking
@@ -241,46 +179,28 @@ module _ (s : Sending) (most window workers : ℕ) (at : List ℕ) (input : Inpu
     done frames datagrams bytes tally is grows counted = record {
       heard = heard;
       did = inl (record { sending = sending; sends = sends; wrote = (is, record { wrote = all_written grows; tally_is = counted }) });
-      input_failed = λ e. absurd (done_is_no_failure _ endings.InputFailed e);
-      output_failed = λ e. absurd (done_is_no_failure _ endings.OutputFailed e);
-      wire_failed = λ e. absurd (done_is_no_failure _ endings.WireFailed e);
+      input_failed = λ e. absurd cc;
+      output_failed = λ e. absurd cc;
+      wire_failed = λ e. absurd cc;
       workers_started = worked;
     }
 
     wrote_by : (ending : Ending) → has_broken ending ≡ false → sending ≡ Err ending → Grew x.held held (full_output window heard) → LoopWrote window sending (Err ending) output heard
     wrote_by endings.NoMemory not ended grows = absurd (false≢true (sym not))
     wrote_by endings.OutputFailed not ended grows = absurd (false≢true (sym not))
-    wrote_by (endings.Usage place) not ended grows = (ended, grows)
-    wrote_by endings.InputFailed not ended grows = (ended, grows)
-    wrote_by (endings.CaptureCut place) not ended grows = (ended, grows)
-    wrote_by (endings.PacketLimit limit) not ended grows = (ended, grows)
-    wrote_by (endings.RawCut number) not ended grows = (ended, grows)
-    wrote_by (endings.SampleTooLarge place plane value) not ended grows = (ended, grows)
-    wrote_by (endings.SliceTooLarge slice bytes) not ended grows = (ended, grows)
-    wrote_by (endings.StreamBad place) not ended grows = (ended, grows)
-    wrote_by (endings.FrameLimit limit) not ended grows = (ended, grows)
-    wrote_by endings.WireFailed not ended grows = (ended, grows)
+    wrote_by ending not ended grows = (ended, grows)
 
     work_by : (ending : Ending) → has_broken ending ≡ false → GivesWork window workers (Err ending) (hands_to asked) heard
     work_by endings.NoMemory not = absurd (false≢true (sym not))
     work_by endings.OutputFailed not = absurd (false≢true (sym not))
-    work_by (endings.Usage place) not = worked
-    work_by endings.InputFailed not = worked
-    work_by (endings.CaptureCut place) not = worked
-    work_by (endings.PacketLimit limit) not = worked
-    work_by (endings.RawCut number) not = worked
-    work_by (endings.SampleTooLarge place plane value) not = worked
-    work_by (endings.SliceTooLarge slice bytes) not = worked
-    work_by (endings.StreamBad place) not = worked
-    work_by (endings.FrameLimit limit) not = worked
-    work_by endings.WireFailed not = worked
+    work_by ending not = worked
 
     pub stopped : (ending : Ending) → has_broken ending ≡ false → sending ≡ Err ending → Grew y.held held (still_due AsFrames window heard) → Back (Err ending) held faults asked
     stopped ending not ended grows = record {
       heard = heard;
       did = inl (record { sending = sending; sends = sends; wrote = wrote_by ending not ended (all_written grows) });
       input_failed = λ e. did.input_failed (ended ∙ e);
-      output_failed = λ e. absurd (false≢true (sym not ∙ ap has_broken (ending_is ending endings.OutputFailed e)));
+      output_failed = λ e. let is : ending ≡ endings.OutputFailed = cc e in absurd (false≢true (sym not ∙ ap has_broken is));
       wire_failed = λ e. rose_by_wire (ended ∙ e);
       workers_started = work_by ending not;
     }
@@ -290,29 +210,20 @@ module _ (s : Sending) (most window workers : ℕ) (at : List ℕ) (input : Inpu
     drain_failed endings.NoMemory is grows rose = record {
       heard = heard;
       did = inl (record { sending = sending; sends = sends; wrote = part_written grows });
-      input_failed = λ e. absurd (answers_differ endings.NoMemory endings.InputFailed memory_is_no_input e);
-      output_failed = λ e. absurd (answers_differ endings.NoMemory endings.OutputFailed memory_is_no_output e);
-      wire_failed = λ e. absurd (answers_differ endings.NoMemory endings.WireFailed memory_is_no_wire e);
-      workers_started = inl (started asked asked_since);
+      input_failed = λ e. absurd cc;
+      output_failed = λ e. absurd cc;
+      wire_failed = λ e. absurd cc;
+      workers_started = inl (started workers hands_before x.asked asked grew asked_since);
     }
     drain_failed endings.OutputFailed is grows rose = record {
       heard = heard;
       did = inl (record { sending = sending; sends = sends; wrote = part_written grows });
-      input_failed = λ e. absurd (answers_differ endings.OutputFailed endings.InputFailed output_is_no_input e);
+      input_failed = λ e. absurd cc;
       output_failed = λ e. let r : Rose y.output_faults faults = rose refl in omega (arith, k.1.passed.output_later, r);
-      wire_failed = λ e. absurd (answers_differ endings.OutputFailed endings.WireFailed output_is_no_wire e);
-      workers_started = started asked asked_since;
+      wire_failed = λ e. absurd cc;
+      workers_started = started workers hands_before x.asked asked grew asked_since;
     }
-    drain_failed (endings.Usage place) is grows rose = absurd is
-    drain_failed endings.InputFailed is grows rose = absurd is
-    drain_failed (endings.CaptureCut place) is grows rose = absurd is
-    drain_failed (endings.PacketLimit limit) is grows rose = absurd is
-    drain_failed (endings.RawCut number) is grows rose = absurd is
-    drain_failed (endings.SampleTooLarge place plane value) is grows rose = absurd is
-    drain_failed (endings.SliceTooLarge slice bytes) is grows rose = absurd is
-    drain_failed (endings.StreamBad place) is grows rose = absurd is
-    drain_failed (endings.FrameLimit limit) is grows rose = absurd is
-    drain_failed endings.WireFailed is grows rose = absurd is
+    drain_failed ending is grows rose = absurd is
 
 -- ---- from where the wire is ready
 
@@ -417,9 +328,9 @@ module _ (s : Sending) (most window workers : ℕ) (at : List ℕ) (left : Optio
   no_memory same hands_so = record {
     heard = [];
     did = inr (record { unready = same; unread = refl; unwritten = refl; nothing = refl });
-    input_failed = λ e. absurd (answers_differ endings.NoMemory endings.InputFailed memory_is_no_input e);
-    output_failed = λ e. absurd (answers_differ endings.NoMemory endings.OutputFailed memory_is_no_output e);
-    wire_failed = λ e. absurd (answers_differ endings.NoMemory endings.WireFailed memory_is_no_wire e);
+    input_failed = λ e. absurd cc;
+    output_failed = λ e. absurd cc;
+    wire_failed = λ e. absurd cc;
     workers_started = hands_so;
   }
 
@@ -428,15 +339,8 @@ module _ (s : Sending) (most window workers : ℕ) (at : List ℕ) (left : Optio
   no_wire so rose grew = record {
     heard = [];
     did = inr (record { unready = so; unread = refl; unwritten = refl; nothing = refl });
-    input_failed = λ e. absurd (answers_differ endings.WireFailed endings.InputFailed wire_is_no_input e);
-    output_failed = λ e. absurd (answers_differ endings.WireFailed endings.OutputFailed wire_is_no_output e);
+    input_failed = λ e. absurd cc;
+    output_failed = λ e. absurd cc;
     wire_failed = λ e. rose;
-    workers_started =
-        let told = nothing_offered window hands.after in
-        record {
-          more = told_more (starting workers (Ok tt)) told.more;
-          grows = grows_twice hands.before hands.after hands.after (starting workers (Ok tt)) told.more grew told.grows;
-          started = ap (λ (l : List ℕ). workers ∷ l) told.started;
-          offered = told.offered;
-        };
+    workers_started = gave_work window workers (as_entries []) hands.before hands.after hands.after grew (nothing_offered window hands.after);
   }

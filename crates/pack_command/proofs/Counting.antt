@@ -1,16 +1,13 @@
 -- Datagrams that are counted one after another.
 use Rattle.std.proofs.Common.{◌≡◌, ℕ, ◌+◌, List, ◌∷◌, [], ◌++◌, length, take, ap, sym, ◌∙◌, arith, length-append}
-use Rattle.std.proofs.lemmas.List.{map-append}
-use Rattle.std.proofs.lemmas.List.Sums.{sum_by-append}
+use Rattle.frame_sending.proofs.Numbering.{sum-append}
+use Rattle.frame_sending.proofs.PuttingAll.{bytes_more}
 use Rattle.frame_sending.specs.FramesSent.{bytes_in}
 use Rattle.pack_command.specs.Counted.{counted_in_64}
 use Rattle.link_sender.specs.declared.datagram.Datagram.{Datagram}
 use Rattle.link_sender.specs.Packing.{bytes_of_all}
 use Rattle.pack_command.specs.declared.totals.Totals.{Totals}
 use Rattle.pack_command.specs.Counted.{packed_totals, packed_totals_with}
-
-sum-append : (xs ys : List (List ℕ)) → bytes_in (xs ++ ys) ≡ bytes_in xs + bytes_in ys
-sum-append xs ys = sum_by-append length xs ys
 
 pub totals-append : (t : Totals) (xs ys : List (List ℕ)) → packed_totals_with (packed_totals_with t xs) ys ≡ packed_totals_with t (xs ++ ys)
 totals-append t xs ys = λ i. record { datagrams = datagrams i; bytes = bytes i }
@@ -32,8 +29,7 @@ totals_are xs ys = λ i. record { datagrams = datagrams i; bytes = bytes i }
 
 pub total_more : (datagrams : List Datagram) (i : ℕ) (one : Datagram) → take (i + 1) datagrams ≡ take i datagrams ++ one ∷ [] → (old now new : Totals) → now ≡ packed_totals_with old (bytes_of_all (take i datagrams)) → new ≡ packed_totals_with now (one.bytes.items ∷ []) → new ≡ packed_totals_with old (bytes_of_all (take (i + 1) datagrams))
 total_more datagrams i one more old now new is step =
-    let bytes_more : bytes_of_all (take (i + 1) datagrams) ≡ bytes_of_all (take i datagrams) ++ one.bytes.items ∷ [] = ap bytes_of_all more ∙ map-append (λ (d : Datagram). d.bytes.items) (take i datagrams) (one ∷ []) in
     step
     ∙ ap (λ (t : Totals). packed_totals_with t (one.bytes.items ∷ [])) is
     ∙ totals-append old (bytes_of_all (take i datagrams)) (one.bytes.items ∷ [])
-    ∙ ap (packed_totals_with old) (sym bytes_more)
+    ∙ ap (packed_totals_with old) (sym (bytes_more datagrams i one more))

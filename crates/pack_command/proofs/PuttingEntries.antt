@@ -1,6 +1,6 @@
 -- Entries of datagrams that are written one after another.
-use Rattle.std.proofs.Common.{◌≡◌, ℕ, ◌+◌, List, [], ◌∷◌, ◌++◌, take, drop, Option, ap, sym, ◌∙◌, subst, take-append-drop}
-use Rattle.std.proofs.lemmas.List.{map-append}
+use Rattle.std.proofs.Common.{◌≡◌, ℕ, ◌+◌, List, [], ◌∷◌, ◌++◌, take, drop, Option, ap, sym, ◌∙◌, subst}
+use Rattle.frame_sending.proofs.PuttingAll.{bytes_more, whole as put_whole}
 use Rattle.link_capture.specs.Capture.{entry}
 use Rattle.link_sender.specs.declared.datagram.Datagram.{Datagram}
 use Rattle.link_sender.specs.Packing.{bytes_of_all}
@@ -10,12 +10,9 @@ use Rattle.vc_ports.specs.Writing.{Grew, GrewBySome}
 use Rattle.vc_ports.proofs.Growing.{Grew-then, GrewBySome-then, GrewBySome-front}
 
 module _ (datagrams : List Datagram) (i : ℕ) (one : Datagram) (more : take (i + 1) datagrams ≡ take i datagrams ++ one ∷ []) where
-  bytes_more : bytes_of_all (take (i + 1) datagrams) ≡ bytes_of_all (take i datagrams) ++ one.bytes.items ∷ []
-  bytes_more = ap bytes_of_all more ∙ map-append (λ (d : Datagram). d.bytes.items) (take i datagrams) (one ∷ [])
-
   capture_more : capture_of (bytes_of_all (take (i + 1) datagrams)) ≡ capture_of (bytes_of_all (take i datagrams)) ++ entry one.bytes.items
   capture_more =
-      ap capture_of bytes_more
+      ap capture_of (bytes_more datagrams i one more)
       ∙ capture-append (bytes_of_all (take i datagrams)) (one.bytes.items ∷ [])
       ∙ ap (λ (l : List ℕ). capture_of (bytes_of_all (take i datagrams)) ++ l) (capture-one one.bytes.items)
 
@@ -31,5 +28,4 @@ module _ (datagrams : List Datagram) (i : ℕ) (one : Datagram) (more : take (i 
         whole : capture_of (bytes_of_all (take (i + 1) datagrams)) ++ capture_of (bytes_of_all (drop (i + 1) datagrams)) ≡ capture_of (bytes_of_all datagrams)
         whole =
             sym (capture-append (bytes_of_all (take (i + 1) datagrams)) (bytes_of_all (drop (i + 1) datagrams)))
-            ∙ ap capture_of (sym (map-append (λ (d : Datagram). d.bytes.items) (take (i + 1) datagrams) (drop (i + 1) datagrams)))
-            ∙ ap (λ (l : List Datagram). capture_of (bytes_of_all l)) (take-append-drop (i + 1) datagrams)
+            ∙ ap capture_of (put_whole datagrams i one more)

@@ -1,12 +1,12 @@
 -- The slices that begin bytes, and their own bytes.
-use Rattle.std.proofs.Common.{◌≡◌, ℕ, zero, suc, ◌-◌, ◌≤◌, List, [], ◌∷◌, ◌++◌, length, take, drop, Option, Some, None, Result, Ok, Err, refl, ap, sym, ◌∙◌, subst, arith, append_assoc, append-nil, length-append, take-append-drop}
+use Rattle.std.proofs.Common.{◌≡◌, ℕ, zero, suc, ◌-◌, List, [], ◌∷◌, ◌++◌, length, take, drop, Option, Some, None, Ok, Err, refl, ap, sym, ◌∙◌, subst, arith, append_assoc, append-nil, length-append, take-append-drop}
 use Rattle.std.proofs.Math.Seq.{drop-append_seam, take-append_seam}
 use Rattle.link_model.specs.Kept.{cut_off, next_slice, next_slices}
 use Rattle.link_stream.specs.Packing.{slices_in, slices_read}
 use Rattle.pack_command.specs.Steps.{EndsSlices}
-use Rattle.picture_pack.proofs.Cutting.{Cut, cut_is, cut_within}
+use Rattle.picture_pack.proofs.Cutting.{Cut, cut_is}
 use Rattle.vc_types.proofs.FieldCodecs.{and_then_ok}
-use Rattle.vc_types.proofs.WholeSlices.{begins, slice_before, whole_slice}
+use Rattle.vc_types.proofs.WholeSlices.{slice_before, whole_slice}
 use Rattle.vc_types.specs.Fields.{and_then}
 use Rattle.vc_types.specs.Slices.{slice_length}
 use Rattle.vc_types.specs.Subbands.{slice_count}

@@ -1,8 +1,8 @@
 -- How packing ends, behind the units that were packed.
-use Rattle.std.proofs.Common.{◌≡◌, ℕ, ◌-◌, ◌<◌, List, [], ◌∷◌, ◌++◌, length, take, Option, Some, None, Ok, Err, refl, sym, ap, ◌∙◌, subst, arith, append-nil, inl, inr}
+use Rattle.std.proofs.Common.{◌≡◌, ℕ, ◌-◌, ◌<◌, List, [], ◌∷◌, ◌++◌, length, Option, Some, None, Ok, Err, refl, sym, ap, ◌∙◌, subst, arith, append-nil, inl, inr}
 use Rattle.std.specs.Prelude.{Result, ◌⊎◌}
 use Rattle.link_report.specs.declared.ending.Ending.{Ending}
-use Rattle.link_report.specs.declared.ending.Ending.TheVariants.{CaptureCut, FrameLimit, InputFailed, NoMemory, OutputFailed, PacketLimit, RawCut, SampleTooLarge, SliceTooLarge, StreamBad, Usage, WireFailed}
+use Rattle.link_report.specs.declared.ending.Ending.TheVariants.{InputFailed, NoMemory, OutputFailed, PacketLimit, SliceTooLarge, StreamBad}
 use Rattle.link_report.specs.declared.summary.Summary.{Summary}
 use Rattle.link_report.specs.declared.summary.Summary.TheVariants as summaries
 use Rattle.vc_ports.specs.Changes.{InputChange, OutputChange, HasRisen}
@@ -32,7 +32,7 @@ use Rattle.pack_command.specs.Looping.{HasComeToEnd, HasPackedSome, StopsPacking
 use Rattle.pack_command.specs.Packs.{EndsUnpacked, PackEnded, Packs}
 use Rattle.pack_command.specs.Steps.{BringsUnit, CouldNotFinish, FinishesStream, HasFinished, TakesUnit}
 use Rattle.pack_command.proofs.SoFarPacked.{packed_grows, so_far_refused, so_far_taken, whole_is, end_packed}
-use Rattle.pack_command.proofs.UnitsPacked.{no_units, one_unit}
+use Rattle.play_command.proofs.UnitSplits.{no_units, one_unit}
 use Rattle.vc_types.specs.SenderSettings.{Packing}
 
 abbrev Units : Type 0
@@ -52,7 +52,7 @@ module _ (s : Packing) (packets number : ℕ) (input : InputChange) (output : Ou
 
   -- the units as they were played, before a rest
   before_rest : (fault : UnitFault) (rest : List ℕ) → data_unit rest ≡ Err fault → units_within packets (at.given ++ rest) ≡ (at.units, rest)
-  before_rest fault rest refused = no_units s packets number input.left.before mid output.held.before held_mid h at rest (units_within-refused (packets - number) rest fault refused)
+  before_rest fault rest refused = no_units packets number at.given at.units at.split rest (units_within-refused (packets - number) rest fault refused)
 
   accepted : (units_packed s at.units).1 ≡ None
   accepted = ap (λ (x : PackedSoFar × Option PackFault). x.1) at.so_far
@@ -115,7 +115,7 @@ module _ (s : Packing) (packets number : ℕ) (input : InputChange) (output : Ou
 
   module _ (room : number < packets) (u : DataUnit) (gave : GaveUnit mid input.left.after u) where
     with_one : (answer : Result Summary Ending) → PackEnded s packets answer input output (split (at.units ++ u ∷ [], [])) → StopsPacking s packets answer input output
-    with_one answer ended = stopped answer gave.bytes (at.units ++ u ∷ [], []) gave.gave (one_unit s packets number input.left.before mid output.held.before held_mid h at room input.left.after u gave (is_end_of_sequence u) refl) ended
+    with_one answer ended = stopped answer gave.bytes (at.units ++ u ∷ [], []) gave.gave (one_unit packets number at.given at.units at.split room gave.bytes u gave.is (is_end_of_sequence u) refl) ended
 
     module _ (fault : PackFault) (refused : packs_unit s h.stream u ≡ Err fault) where
       so_far : units_packed s (at.units ++ u ∷ []) ≡ (h, Some fault)
@@ -187,12 +187,9 @@ module _ (s : Packing) (packets : ℕ) (input : InputChange) (output : OutputCha
     given = stops.given;
     took = stops.took;
     ended = stops.ended;
-    input_failed = λ e. input_rose (ending_is ending InputFailed e);
-    output_failed = λ e. output_rose (ending_is ending OutputFailed e);
+    input_failed = λ e. input_rose (cc e);
+    output_failed = λ e. output_rose (cc e);
   }
-    where
-      ending_is : (a b : Ending) → ◌≡◌ {A = Result Summary Ending} (Err a) (Err b) → a ≡ b
-      ending_is a b same = cc
 
   module _ (mid_held : Option (List ℕ)) (h : PackedSoFar) (ended : HasComeToEnd s packets input.left.before input.left.after output.held.before mid_held h) where
     ends_so : (answer : Result Summary Ending) → PackEnded s packets answer input output (split (ended.units, [])) → StopsPacking s packets answer input output
@@ -228,25 +225,10 @@ module _ (s : Packing) (packets : ℕ) (input : InputChange) (output : OutputCha
         ends_so (Err NoMemory) (subst (GrewBySome output.held.before output.held.after) (all_of (end_packed s h.stream) (whole_is s h.stream)) (GrewBySome-front output.held.before output.held.after (capture_of (stream_packed s h.stream)) (capture_of (end_packed s h.stream ∷ [])) before))
 
     stops_with : (result : Result Summary Ending) → FinishesStream s h.stream mid_held output.held.after result → StopsPacking s packets result input output
-    stops_with (Ok (summaries.Judged tally)) ends = absurd ends
-    stops_with (Ok (summaries.Sent count datagrams bytes)) ends = absurd ends
-    stops_with (Ok (summaries.Looped count datagrams bytes tally)) ends = absurd ends
     stops_with (Ok (summaries.Packed pictures datagrams bytes)) ends = finished pictures datagrams bytes ends
-    stops_with (Ok (summaries.Played pictures unpaired count)) ends = absurd ends
-    stops_with (Ok (summaries.Generated count samples)) ends = absurd ends
-    stops_with (Ok (summaries.Compared count samples different)) ends = absurd ends
-    stops_with (Err (Usage place)) ends = absurd ends
     stops_with (Err NoMemory) ends = without_end ends
-    stops_with (Err InputFailed) ends = absurd ends
     stops_with (Err OutputFailed) ends = unfinished ends
-    stops_with (Err WireFailed) ends = absurd ends
-    stops_with (Err (CaptureCut place)) ends = absurd ends
-    stops_with (Err (PacketLimit limit)) ends = absurd ends
-    stops_with (Err (RawCut number)) ends = absurd ends
-    stops_with (Err (SampleTooLarge place plane value)) ends = absurd ends
-    stops_with (Err (SliceTooLarge slice bytes)) ends = absurd ends
-    stops_with (Err (StreamBad place)) ends = absurd ends
-    stops_with (Err (FrameLimit limit)) ends = absurd ends
+    stops_with other ends = absurd ends
 
     not_input : (result : Result Summary Ending) → FinishesStream s h.stream mid_held output.held.after result → result ≡ Err InputFailed → ⊥
     not_input result ends e = subst (FinishesStream s h.stream mid_held output.held.after) e ends

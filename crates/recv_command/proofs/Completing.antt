@@ -9,15 +9,10 @@ use Rattle.link_report.specs.declared.ending.Ending.TheVariants.{NoMemory, Outpu
 use Rattle.recv_command.specs.Receiving.{HeardAt, IsPastPackets, IsReceivable, ReceivesFrom}
 use Rattle.session_count.specs.Ends.{ended_sessions}
 use Rattle.session_count.proofs.Rising.{ended_up_to}
+use Rattle.vc_ports.proofs.Given.{some_is}
 use Rattle.vc_ports.specs.Changes.{Change, OutputChange, WireChange, HasRisen}
 use Rattle.vc_slice.specs.Asked.{Told}
 use Rattle.wire_calls.specs.Passing.{grown_by, led_by, looped_back}
-
-some_is : (x y : List (List ℕ)) → Some x ≡ Some y → x ≡ y
-some_is x y same = cc
-
-some_is_none : (x : List (List ℕ)) → Some x ≡ None → ⊥
-some_is_none x same = cc
 
 nothing_back : (looped : Bool) → looped_back looped [] ≡ []
 nothing_back true = refl
@@ -40,7 +35,7 @@ module _ (window workers packets sessions : ℕ) (at : List ℕ) (wire : WireCha
       by_lists : (before after : Option (List (List ℕ))) → IsSomeAnd before (IsReceivable packets sessions)
           → grown_by before (looped_back wire.told.before.looped []) ≡ led_by heard after → ⊥
       by_lists None after whole came = whole
-      by_lists (Some coming) None whole came = some_is_none (coming ++ looped_back wire.told.before.looped []) came
+      by_lists (Some coming) None whole came = let none : Some (coming ++ looped_back wire.told.before.looped []) ≡ None = came in absurd cc
       by_lists (Some coming) (Some rest) whole came =
           let is : coming ≡ heard ++ rest = sym (append-nil coming) ∙ ap (λ (l : List (List ℕ)). coming ++ l) (sym (nothing_back wire.told.before.looped)) ∙ some_is (coming ++ looped_back wire.told.before.looped []) (heard ++ rest) came in
           too_few packets sessions limit heard rest (subst (IsReceivable packets sessions) is whole) past

@@ -1,16 +1,15 @@
 -- The whole command: workers are started, the wire listens, datagrams are received, and the answer
 -- made.
-use Rattle.std.proofs.Common.{◌≡◌, ℕ, List, [], ◌∷◌, Option, refl, ap, ◌∙◌, arith, inl, inr}
+use Rattle.std.proofs.Common.{◌≡◌, ℕ, List, [], Option, refl, ◌∙◌, arith, inl, inr}
 use Rattle.std.specs.Prelude.{Ok, Err, ◌⊎◌}
-use Rattle.decode_command.specs.Decoding.{HasStarted, HasGivenWork}
-use Rattle.decode_command.specs.Hearing.{HandsWereOffered}
+use Rattle.decode_command.specs.Decoding.{HasStarted}
 use Rattle.decode_command.proofs.Asking.{nothing_offered}
+use Rattle.decode_command.proofs.Whole.{gave_work, started}
 use Rattle.link_model.specs.Judgement.{tally_of, no_counts, with_sessions, outcomes_behind}
 use Rattle.link_model.specs.Output.{full_output, all_output}
 use Rattle.link_model.specs.declared.tally.Tally.{Tally}
 use Rattle.link_receiver.specs.HeardLists.{AskedPlaces}
 use Rattle.link_receiver.specs.States.{ReceiverState}
-use Rattle.link_receiver.proofs.Asked.{grows_twice}
 use Rattle.link_report.specs.declared.answer.Answer.TheVariants.{Done, Stopped, Drained}
 use Rattle.link_report.specs.declared.ending.Ending.{Ending}
 use Rattle.link_report.specs.declared.ending.Ending.TheVariants.{NoMemory, OutputFailed, PacketLimit, WireFailed}
@@ -21,52 +20,7 @@ use Rattle.recv_command.specs.declared.command.Stop.TheVariants.{Ended, Failed, 
 use Rattle.vc_ports.specs.Changes.{Change, OutputChange, WireChange, HasRisen, Stays}
 use Rattle.vc_ports.specs.Wires.{WireTold, listening}
 use Rattle.vc_ports.proofs.Growing.{Grew-none, GrewBySome-none}
-use Rattle.vc_slice.specs.Asked.{Told, Grows, told_more, starting}
-
--- ---- workers
-
--- workers were started, and then slices were offered
-gave_work : (window workers : ℕ) (heard : List (List ℕ)) (before mid after : Option Told) → Grows before mid (starting workers (Ok tt))
-    → HandsWereOffered window heard (record { before = mid; after = after })
-    → HasGivenWork window workers (record { before = before; after = after }) (as_entries heard)
-gave_work window workers heard before mid after grew told = record {
-  more = told_more (starting workers (Ok tt)) told.more;
-  grows = grows_twice before mid after (starting workers (Ok tt)) told.more grew told.grows;
-  started = ap (λ (l : List ℕ). workers ∷ l) told.started;
-  offered = told.offered;
-}
-
--- workers were started, and then places were asked
-started : (workers : ℕ) (before mid after : Option Told) → Grows before mid (starting workers (Ok tt)) → AskedPlaces mid after
-    → HasStarted workers (record { before = before; after = after })
-started workers before mid after grew asked = record {
-  more = told_more (starting workers (Ok tt)) asked.more;
-  grows = grows_twice before mid after (starting workers (Ok tt)) asked.more grew asked.grows;
-  started = ap (λ (l : List ℕ). workers ∷ l) asked.started;
-}
-
--- ---- answers that differ
-
-failed_at : (tally other : Tally) (end : Ending) → Drained tally end ≡ Drained other WireFailed → end ≡ WireFailed
-failed_at tally other end same = cc
-
-limit_is_failed : (limit : ℕ) → PacketLimit limit ≡ WireFailed → ⊥
-limit_is_failed limit same = cc
-
-drained_is_stopped : (tally : Tally) (end other : Ending) → Drained tally end ≡ Stopped other → ⊥
-drained_is_stopped tally end other same = cc
-
-done_is_drained : (tally other : Tally) → Done (Judged tally) ≡ Drained other WireFailed → ⊥
-done_is_drained tally other same = cc
-
-done_is_stopped : (tally : Tally) (other : Ending) → Done (Judged tally) ≡ Stopped other → ⊥
-done_is_stopped tally other same = cc
-
-stopped_is_drained : (end : Ending) (other : Tally) → Stopped end ≡ Drained other WireFailed → ⊥
-stopped_is_drained end other same = cc
-
-no_memory_is_fault : Stopped NoMemory ≡ Stopped OutputFailed → ⊥
-no_memory_is_fault same = cc
+use Rattle.vc_slice.specs.Asked.{Told, Grows, starting}
 
 -- ---- nothing was heard
 
@@ -91,8 +45,8 @@ not_begun window workers packets sessions at wire output hands wire_stays output
   heard = [];
   few = omega arith;
   ended = (inr (refl, wire_stays), rw output_stays (GrewBySome-none output.held.before _));
-  wire_failed = λ failed. absurd (stopped_is_drained NoMemory failed.0 failed.1);
-  output_failed = λ failed. absurd (no_memory_is_fault failed);
+  wire_failed = λ failed. absurd (cc failed.1);
+  output_failed = λ failed. absurd cc;
   workers_started = at_most;
 }
 
@@ -112,8 +66,8 @@ not_listening window workers packets sessions at wire output before after tally 
     },
   );
   wire_failed = λ failed. rose;
-  output_failed = λ failed. absurd (drained_is_stopped tally WireFailed OutputFailed failed);
-  workers_started = gave_work window workers [] before after after grew (nothing_offered window after);
+  output_failed = λ failed. absurd cc;
+  workers_started = gave_work window workers (as_entries []) before after after grew (nothing_offered window after);
 }
 
 -- ---- datagrams were heard
@@ -140,9 +94,9 @@ module _ (window workers packets sessions : ℕ) (at : List ℕ) (receiver : Rec
       heard = st.0;
       few = st.1.few;
       ended = (rw is at st.1.gave, st.2, record { wrote = st.1.wrote; tally_is = counted ∙ st.1.counted });
-      wire_failed = λ failed. absurd (done_is_drained tally failed.0 failed.1);
-      output_failed = λ failed. absurd (done_is_stopped tally OutputFailed failed);
-      workers_started = gave_work window workers st.0 told_before told_mid told_after grew st.1.offered;
+      wire_failed = λ failed. absurd (cc failed.1);
+      output_failed = λ failed. absurd cc;
+      workers_started = gave_work window workers (as_entries st.0) told_before told_mid told_after grew st.1.offered;
     }
 
     -- until a receive failed
@@ -153,8 +107,8 @@ module _ (window workers packets sessions : ℕ) (at : List ℕ) (receiver : Rec
       few = st.1.few;
       ended = (inl (rw is at st.1.gave), record { wrote = st.1.wrote; tally_is = counted ∙ st.1.counted });
       wire_failed = λ failed. rose;
-      output_failed = λ failed. absurd (drained_is_stopped tally WireFailed OutputFailed failed);
-      workers_started = gave_work window workers st.0 told_before told_mid told_after grew st.1.offered;
+      output_failed = λ failed. absurd cc;
+      workers_started = gave_work window workers (as_entries st.0) told_before told_mid told_after grew st.1.offered;
     }
 
     -- so many
@@ -164,9 +118,9 @@ module _ (window workers packets sessions : ℕ) (at : List ℕ) (receiver : Rec
       heard = st.0;
       few = st.1.few;
       ended = (rw is at st.1.gave, st.2, record { wrote = st.1.wrote; tally_is = counted ∙ st.1.counted });
-      wire_failed = λ failed. absurd (limit_is_failed packets (failed_at tally failed.0 (PacketLimit packets) failed.1));
-      output_failed = λ failed. absurd (drained_is_stopped tally (PacketLimit packets) OutputFailed failed);
-      workers_started = gave_work window workers st.0 told_before told_mid told_after grew st.1.offered;
+      wire_failed = λ failed. absurd (cc failed.1);
+      output_failed = λ failed. absurd cc;
+      workers_started = gave_work window workers (as_entries st.0) told_before told_mid told_after grew st.1.offered;
     }
 
   -- until memory ran out, or the output failed
@@ -177,15 +131,15 @@ module _ (window workers packets sessions : ℕ) (at : List ℕ) (receiver : Rec
     heard = st.0;
     few = st.1.few;
     ended = (inl (rw is at st.1.gave), st.1.wrote);
-    wire_failed = λ failed. absurd (stopped_is_drained NoMemory failed.0 failed.1);
-    output_failed = λ failed. absurd (no_memory_is_fault failed);
+    wire_failed = λ failed. absurd (cc failed.1);
+    output_failed = λ failed. absurd cc;
     workers_started = inl (started workers told_before told_mid told_after grew asked);
   }
   stopped OutputFailed asked st cause = record {
     heard = st.0;
     few = st.1.few;
     ended = (rw is at st.1.gave, st.1.wrote);
-    wire_failed = λ failed. absurd (stopped_is_drained OutputFailed failed.0 failed.1);
+    wire_failed = λ failed. absurd (cc failed.1);
     output_failed = λ failed. cause refl;
     workers_started = started workers told_before told_mid told_after grew asked;
   }

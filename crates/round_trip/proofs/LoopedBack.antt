@@ -17,6 +17,7 @@ use Rattle.round_trip.proofs.ComingBack.{can_be_sent}
 use Rattle.round_trip.proofs.RawBytes.{raw_is}
 use Rattle.round_trip.proofs.ZeroIndices.{all_at_zero}
 use Rattle.vc_ports.specs.Changes.{InputChange, OutputChange, WireChange, Wrote}
+use Rattle.vc_ports.proofs.Given.{some_is}
 use Rattle.vc_ports.specs.Reading.{Gave, IsAtEnd}
 use Rattle.vc_types.specs.declared.choice.IndexChoice.TheVariants.{Index}
 use Rattle.vc_types.specs.declared.settings.SendSettings.{SendSettings}
@@ -26,32 +27,26 @@ use Rattle.wire_calls.specs.Passing.{grown_by, led_by, looped_back}
 
 -- ---- lists that are told
 
-some_is : (A : Type 0) (a b : A) → Some a ≡ Some b → a ≡ b
-some_is A a b same = cc
-
-none_is_some : (A : Type 0) (a : A) → Some a ≡ None → ⊥
-none_is_some A a same = cc
-
 no_elements : (A : Type 0) (list : List A) → length list ≡ 0 → list ≡ []
 no_elements A [] none = refl
 no_elements A (one ∷ rest) none = absurd (omega (arith, none))
 
 -- all that was left was given, where the input tells it
 all_given : (before after : Option (List ℕ)) (bytes given : List ℕ) → before ≡ Some bytes → Gave before after given → IsAtEnd after → bytes ≡ given
-all_given before None bytes given told gave ended = absurd (none_is_some (List ℕ) bytes (sym told ∙ gave))
+all_given before None bytes given told gave ended = absurd (cc (sym told ∙ gave))
 all_given before (Some rest) bytes given told gave ended =
-    some_is (List ℕ) bytes (given ++ rest) (sym told ∙ gave) ∙ ap (λ (l : List ℕ). given ++ l) ended ∙ append-nil given
+    some_is bytes (given ++ rest) (sym told ∙ gave) ∙ ap (λ (l : List ℕ). given ++ l) ended ∙ append-nil given
 
 -- what came is what was sent
 module _ (sent heard : List (List ℕ)) where
   all_behind : (rest : List (List ℕ)) → sent ≡ heard ++ rest → (length heard ≡ length sent) ⊎ (Some rest ≡ Some []) → rest ≡ []
   all_behind rest is (inl same) = no_elements (List ℕ) rest (omega (arith, same, ap (λ (l : List (List ℕ)). length l) is, length-append heard rest))
-  all_behind rest is (inr none) = some_is (List (List ℕ)) rest [] none
+  all_behind rest is (inr none) = cc none
 
   by_wire : (after : Option (List (List ℕ))) → Some sent ≡ led_by heard after → (length heard ≡ length sent) ⊎ (after ≡ Some []) → heard ≡ sent
-  by_wire None came turn = absurd (none_is_some (List (List ℕ)) sent came)
+  by_wire None came turn = absurd (cc came)
   by_wire (Some rest) came turn =
-      let is : sent ≡ heard ++ rest = some_is (List (List ℕ)) sent (heard ++ rest) came in
+      let is : sent ≡ heard ++ rest = some_is sent (heard ++ rest) came in
       let none : rest ≡ [] = all_behind rest is turn in
       sym (is ∙ ap (λ (l : List (List ℕ)). heard ++ l) none ∙ append-nil heard)
 

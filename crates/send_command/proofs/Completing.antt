@@ -1,10 +1,8 @@
 -- Where no fault came, whole frames that aren't refused, at most as many as were asked for, are sent to
 -- their end, unless memory runs out.
-use Rattle.std.proofs.Common.{◌≡◌, ◌⊎◌, ℕ, List, IsSomeAnd, Result, Err, inl, inr, sym}
+use Rattle.std.proofs.Common.{◌≡◌, ◌⊎◌, ℕ, List, IsSomeAnd, Result, Err, inl, inr}
 use Rattle.std.specs.Result.{IsOk}
 use Rattle.datagram_outlet.specs.Outlets.{SentAll, SentPart}
-use Rattle.datagram_outlet.specs.declared.outlet.OutletFault.{OutletFault}
-use Rattle.datagram_outlet.specs.declared.outlet.OutletFault.TheVariants as outlets
 use Rattle.frame_sending.proofs.Completing.{sending_completes}
 use Rattle.frame_sending.specs.Sends.{IsSendable}
 use Rattle.link_report.specs.declared.ending.Ending.{Ending}
@@ -14,14 +12,11 @@ use Rattle.send_command.specs.OverWire.{CouldNotAim, SendsOver, SentBehindAim, b
 use Rattle.vc_ports.specs.Changes.{InputChange, WireChange, HasRisen}
 use Rattle.vc_types.specs.SenderSettings.{Sending}
 
-not_the_output : ◌≡◌ {A = OutletFault} outlets.Wire outlets.Output → ⊥
-not_the_output is = cc
-
 module _ (s : Sending) (most : ℕ) (to : List ℕ) (input : InputChange) (wire : WireChange) (sound_input : HasRisen input.faults → ⊥) (sound_wire : HasRisen wire.faults → ⊥) (whole : IsSomeAnd input.left.before (IsSendable s most)) where
   by_way : (answer : Result Summary Ending) → (answer ≡ Err endings.WireFailed → HasRisen wire.faults) → SentBehindAim s most to answer input wire ⊎ CouldNotAim answer input wire → IsOk answer ⊎ (answer ≡ Err endings.NoMemory)
   by_way answer failed (inl sends) =
       sending_completes s most input (SentAll (behind_aim to wire)) (SentPart (behind_aim to wire)) sound_input
-      (λ datagrams part. not_the_output (sym part.fault_is)) (λ datagrams part. sound_wire part.rose) whole answer sends
+      (λ datagrams part. cc part.fault_is) (λ datagrams part. sound_wire part.rose) whole answer sends
   by_way answer failed (inr could_not) = absurd (sound_wire (failed could_not.answer_is))
 
   pub send_completes : (answer : Result Summary Ending) → SendsOver s most to answer input wire → IsOk answer ⊎ (answer ≡ Err endings.NoMemory)

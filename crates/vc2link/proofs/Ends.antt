@@ -20,18 +20,23 @@ use Rattle.play_command.proofs.Playable.{play_completes}
 use Rattle.recv_command.proofs.Completing.{recv_completes}
 use Rattle.send_command.proofs.Completing.{send_completes}
 use Rattle.vc_ports.specs.Changes.{OutputChange, HasRisen}
-use Rattle.vc_types.specs.SenderSettings.{Generating, Sending}
-use Rattle.vc2link.specs.LinkMain.{Changes, DecodesTo, EncodesTo, SendsTo, ReceivesTo, LoopsTo, UnpacksTo, PacksTo, PlaysTo, GeneratesTo, ChecksTo, Does, Completes}
-
-false_is_true : false ≡ true → ⊥
-false_is_true p = cc
+use Rattle.vc2link.specs.LinkMain.{Changes, HasResult, HasNoFault, Did, EndsWell, Does}
 
 -- ---- the status of an answer
 
-summed_status : (answer : Result Summary Ending) → IsOk answer ⊎ (answer ≡ Err endings.NoMemory) → (answer_status (answer_of answer) ≡ 0) ⊎ (answer_status (answer_of answer) ≡ 3)
+decoded_status : (answer : Answer) → IsComplete answer → (answer_status answer ≡ 0) ⊎ (answer_status answer ≡ 3)
+decoded_status (Done summary) came = inl refl
+decoded_status (Stopped endings.NoMemory) came = inr refl
+decoded_status (Stopped end) came = absurd came
+decoded_status (Drained tally end) came = absurd came
+
+summed_status : (result : Result Summary Ending) → IsOk result ⊎ (result ≡ Err endings.NoMemory) → (answer_status (answer_of result) ≡ 0) ⊎ (answer_status (answer_of result) ≡ 3)
 summed_status (Ok summary) came = inl refl
-summed_status (Err ending) (inl ok) = absurd (false_is_true ok)
-summed_status (Err ending) (inr none) = inr (ap (λ (a : Result Summary Ending). answer_status (answer_of a)) none)
+summed_status (Err ending) (inl ok) = absurd (cc ok)
+summed_status (Err ending) (inr none) = inr (ap (λ (result : Result Summary Ending). answer_status (answer_of result)) none)
+
+result_status : (answer : Answer) (does : Result Summary Ending → Type 0) → ((result : Result Summary Ending) → does result → IsOk result ⊎ (result ≡ Err endings.NoMemory)) → HasResult answer does → (answer_status answer ≡ 0) ⊎ (answer_status answer ≡ 3)
+result_status answer does completes has = rw has.is (summed_status has.result (completes has.result has.did))
 
 due_status : (status due : ℕ) (report : OutputChange) (text : List ℕ) → (HasRisen report.faults → ⊥) → Says text due status report → status ≡ due
 due_status status due report text sound (inl said) = said.0
@@ -42,124 +47,24 @@ answered_well answer status report sound (inl done) (inl said) = inl (due_status
 answered_well answer status report sound (inr none) (inl said) = inr (due_status status (answer_status answer) report (answer_text answer) sound said ∙ none)
 answered_well answer status report sound due (inr said) = inr (due_status status 3 report (status_line endings.NoMemory) sound said)
 
--- ---- encoding, sending, looping, packing, playing, generating and checking
-
-pub encode_ends : (sender : Sending) (frames status : ℕ) (c : Changes) → EncodesTo sender frames status c → Completes (ToEncode sender frames) status c
-encode_ends sender frames status c d sound whole =
-    let came = encode_completes sender frames c.input c.output sound.input sound.output whole d.answer d.encodes in
-    answered_well (answer_of d.answer) status c.report sound.report (summed_status d.answer came) d.reports
-
-pub send_ends : (sender : Sending) (frames : ℕ) (to : List ℕ) (status : ℕ) (c : Changes) → SendsTo sender frames to status c → Completes (ToSend sender frames to) status c
-send_ends sender frames to status c d sound whole =
-    let came = send_completes sender frames to c.input c.wire sound.input sound.wire whole d.answer d.sends in
-    answered_well (answer_of d.answer) status c.report sound.report (summed_status d.answer came) d.reports
-
-pub loop_ends : (sender : Sending) (frames window workers : ℕ) (at : List ℕ) (status : ℕ) (c : Changes) → LoopsTo sender frames window workers at status c → Completes (ToLoop sender frames window workers at) status c
-loop_ends sender frames window workers at status c d sound whole =
-    let came = loop_completes sender frames window workers at c.input c.output c.wire c.hands sound.input sound.output sound.wire whole d.answer d.loops in
-    answered_well (answer_of d.answer) status c.report sound.report (summed_status d.answer came) d.reports
-
-pub pack_ends : (packets size ssrc pt seq tick status : ℕ) (c : Changes) → PacksTo packets (pack_settings size ssrc pt seq tick) status c → Completes (ToPack packets size ssrc pt seq tick) status c
-pack_ends packets size ssrc pt seq tick status c d sound whole =
-    let came = pack_completes (pack_settings size ssrc pt seq tick) packets c.input c.output sound.input sound.output whole d.answer d.packs in
-    answered_well (answer_of d.answer) status c.report sound.report (summed_status d.answer came) d.reports
-
-pub play_ends : (packets status : ℕ) (c : Changes) → PlaysTo packets status c → Completes (ToPlay packets) status c
-play_ends packets status c d sound whole =
-    let came = play_completes packets c.input c.output sound.input sound.output whole d.answer d.plays in
-    answered_well (answer_of d.answer) status c.report sound.report (summed_status d.answer came) d.reports
-
-pub gen_ends : (generator : Generating) (window workers status : ℕ) (c : Changes) → GeneratesTo generator status c → Completes (ToGen generator false window workers) status c
-gen_ends generator window workers status c d sound whole =
-    let came = generate_completes generator c.output sound.output d.answer d.generates in
-    answered_well (answer_of d.answer) status c.report sound.report (summed_status d.answer came) d.reports
-
-pub check_ends : (generator : Generating) (window workers status : ℕ) (c : Changes) → ChecksTo generator window workers status c → Completes (ToGen generator true window workers) status c
-check_ends generator window workers status c d sound whole =
-    let came = check_completes generator window workers c.hands whole d.answer d.checks in
-    answered_well (answer_of d.answer) status c.report sound.report (summed_status d.answer came) d.reports
-
--- ---- decoding, unpacking and receiving
-
-decoded_status : (answer : Answer) → IsComplete answer → (answer_status answer ≡ 0) ⊎ (answer_status answer ≡ 3)
-decoded_status (Done summary) came = inl refl
-decoded_status (Stopped endings.NoMemory) came = inr refl
-decoded_status (Stopped end) came = absurd came
-decoded_status (Drained tally end) came = absurd came
-
-pub decode_ends : (window workers packets status : ℕ) (c : Changes) → DecodesTo window workers packets status c → Completes (ToDecode window workers packets) status c
-decode_ends window workers packets status c d sound whole =
-    let came = decode_completes window workers packets c.input c.output c.hands sound.input sound.output whole d.answer d.decodes in
-    answered_well d.answer status c.report sound.report (decoded_status d.answer came) d.reports
-
-pub unpack_ends : (window workers packets status : ℕ) (c : Changes) → UnpacksTo window workers packets status c → Completes (ToUnpack window workers packets) status c
-unpack_ends window workers packets status c d sound whole =
-    let came = unpack_completes window workers packets c.input c.output c.hands sound.input sound.output whole d.answer d.unpacks in
-    answered_well d.answer status c.report sound.report (decoded_status d.answer came) d.reports
-
-pub recv_ends : (window workers packets sessions : ℕ) (at : List ℕ) (status : ℕ) (c : Changes) → ReceivesTo window workers packets sessions at status c → Completes (ToRecv window workers packets sessions at) status c
-recv_ends window workers packets sessions at status c d sound whole =
-    let came = recv_completes window workers packets sessions at c.wire c.output c.hands sound.wire sound.output whole d.answer d.receives in
-    answered_well d.answer status c.report sound.report (decoded_status d.answer came) d.reports
-
 -- ---- by the form of the words
 
-pub decode_does : (window workers packets status : ℕ) (c : Changes) → DecodesTo window workers packets status c → Does (ToDecode window workers packets) status c
-decode_does window workers packets status c did = record {
-  did = did;
-  completes = decode_ends window workers packets status c did;
-}
+did_status : (meaning : Meaning) (answer : Answer) (c : Changes) → Did meaning answer c → HasNoFault c → EndsWell meaning c → (answer_status answer ≡ 0) ⊎ (answer_status answer ≡ 3)
+did_status (ToDecode window workers packets) answer c did sound well = decoded_status answer (decode_completes window workers packets c.input c.output c.hands sound.input sound.output well answer did)
+did_status (ToEncode sender frames) answer c did sound well = result_status answer _ (encode_completes sender frames c.input c.output sound.input sound.output well) did
+did_status (ToSend sender frames to) answer c did sound well = result_status answer _ (send_completes sender frames to c.input c.wire sound.input sound.wire well) did
+did_status (ToRecv window workers packets sessions at) answer c did sound well = decoded_status answer (recv_completes window workers packets sessions at c.wire c.output c.hands sound.wire sound.output well answer did)
+did_status (ToLoop sender frames window workers at) answer c did sound well = result_status answer _ (loop_completes sender frames window workers at c.input c.output c.wire c.hands sound.input sound.output sound.wire well) did
+did_status (ToUnpack window workers packets) answer c did sound well = decoded_status answer (unpack_completes window workers packets c.input c.output c.hands sound.input sound.output well answer did)
+did_status (ToPack packets size ssrc pt seq tick) answer c did sound well = result_status answer _ (pack_completes (pack_settings size ssrc pt seq tick) packets c.input c.output sound.input sound.output well) did
+did_status (ToPlay packets) answer c did sound well = result_status answer _ (play_completes packets c.input c.output sound.input sound.output well) did
+did_status (ToGen generator false window workers) answer c did sound well = result_status answer _ (generate_completes generator c.output sound.output) did
+did_status (ToGen generator true window workers) answer c did sound well = result_status answer _ (check_completes generator window workers c.hands well) did
 
-pub encode_does : (sender : Sending) (frames status : ℕ) (c : Changes) → EncodesTo sender frames status c → Does (ToEncode sender frames) status c
-encode_does sender frames status c did = record {
+pub does : (meaning : Meaning) (answer : Answer) (status : ℕ) (c : Changes) → Did meaning answer c → Reports answer status c.report → Does meaning status c
+does meaning answer status c did reports = record {
+  answer = answer;
   did = did;
-  completes = encode_ends sender frames status c did;
-}
-
-pub send_does : (sender : Sending) (frames : ℕ) (to : List ℕ) (status : ℕ) (c : Changes) → SendsTo sender frames to status c → Does (ToSend sender frames to) status c
-send_does sender frames to status c did = record {
-  did = did;
-  completes = send_ends sender frames to status c did;
-}
-
-pub recv_does : (window workers packets sessions : ℕ) (at : List ℕ) (status : ℕ) (c : Changes) → ReceivesTo window workers packets sessions at status c → Does (ToRecv window workers packets sessions at) status c
-recv_does window workers packets sessions at status c did = record {
-  did = did;
-  completes = recv_ends window workers packets sessions at status c did;
-}
-
-pub loop_does : (sender : Sending) (frames window workers : ℕ) (at : List ℕ) (status : ℕ) (c : Changes) → LoopsTo sender frames window workers at status c → Does (ToLoop sender frames window workers at) status c
-loop_does sender frames window workers at status c did = record {
-  did = did;
-  completes = loop_ends sender frames window workers at status c did;
-}
-
-pub unpack_does : (window workers packets status : ℕ) (c : Changes) → UnpacksTo window workers packets status c → Does (ToUnpack window workers packets) status c
-unpack_does window workers packets status c did = record {
-  did = did;
-  completes = unpack_ends window workers packets status c did;
-}
-
-pub pack_does : (packets size ssrc pt seq tick status : ℕ) (c : Changes) → PacksTo packets (pack_settings size ssrc pt seq tick) status c → Does (ToPack packets size ssrc pt seq tick) status c
-pack_does packets size ssrc pt seq tick status c did = record {
-  did = did;
-  completes = pack_ends packets size ssrc pt seq tick status c did;
-}
-
-pub play_does : (packets status : ℕ) (c : Changes) → PlaysTo packets status c → Does (ToPlay packets) status c
-play_does packets status c did = record {
-  did = did;
-  completes = play_ends packets status c did;
-}
-
-pub gen_does : (generator : Generating) (window workers status : ℕ) (c : Changes) → GeneratesTo generator status c → Does (ToGen generator false window workers) status c
-gen_does generator window workers status c did = record {
-  did = did;
-  completes = gen_ends generator window workers status c did;
-}
-
-pub check_does : (generator : Generating) (window workers status : ℕ) (c : Changes) → ChecksTo generator window workers status c → Does (ToGen generator true window workers) status c
-check_does generator window workers status c did = record {
-  did = did;
-  completes = check_ends generator window workers status c did;
+  reports = reports;
+  completes = λ sound well. answered_well answer status c.report sound.report (did_status meaning answer c did sound well) reports;
 }

@@ -1,5 +1,5 @@
 -- What vc2link did, by what its words mean and by the status that it answered.
-use Rattle.std.specs.Prelude.{◌≡◌, ◌⊎◌, ℕ, Bool, true, false, not, List, Option, IsSomeAnd, Result, Ok, Err}
+use Rattle.std.specs.Prelude.{◌≡◌, ◌⊎◌, ℕ, Bool, true, false, not, Option, IsSomeAnd, Result, Ok, Err}
 use Rattle.check_command.specs.Checking.{Checks, IsCheckable}
 use Rattle.decode_command.specs.Decoding.{Decodes, Unpacks, IsDecodable}
 use Rattle.encode_command.specs.Encodes.{Encodes, IsEncodable}
@@ -19,7 +19,6 @@ use Rattle.recv_command.specs.Receiving.{ReceivesFrom, IsReceivable}
 use Rattle.send_command.specs.OverWire.{SendsOver}
 use Rattle.vc_ports.specs.Changes.{Change, InputChange, OutputChange, WireChange, HasRisen}
 use Rattle.vc_slice.specs.Asked.{Told}
-use Rattle.vc_types.specs.SenderSettings.{Generating, Packing, Sending}
 
 -- ---- what was done
 
@@ -78,86 +77,35 @@ may_call (Err place) = calls false false false false true
 
 -- ---- the commands
 
--- the capture was decoded, and the report says how that ended
-pub record DecodesTo (window workers packets status : ℕ) (c : Changes) : Type 0 where
-  pub answer : Answer
-  pub decodes : Decodes window workers packets answer c.input c.output c.hands
-  pub reports : Reports answer status c.report
+-- the answer is that of a result by which this was done
+pub record HasResult (answer : Answer) (does : Result Summary Ending → Type 0) : Type 0 where
+  pub result : Result Summary Ending
+  pub is : answer ≡ answer_of result
+  pub did : does result
 
--- at most so many raw frames were encoded, and the report says how that ended
-pub record EncodesTo (sender : Sending) (frames status : ℕ) (c : Changes) : Type 0 where
-  pub answer : Result Summary Ending
-  pub encodes : Encodes sender frames answer c.input c.output
-  pub reports : Reports (answer_of answer) status c.report
-
--- at most so many raw frames were sent to the address, and the report says how that ended
-pub record SendsTo (sender : Sending) (frames : ℕ) (to : List ℕ) (status : ℕ) (c : Changes) : Type 0
-  where
-    pub answer : Result Summary Ending
-    pub sends : SendsOver sender frames to answer c.input c.wire
-    pub reports : Reports (answer_of answer) status c.report
-
--- datagrams were received at the address, and the report says how that ended
-pub record ReceivesTo (window workers packets sessions : ℕ) (at : List ℕ) (status : ℕ) (c : Changes)
-    : Type 0 where
-  pub answer : Answer
-  pub receives : ReceivesFrom window workers packets sessions at answer c.wire c.output c.hands
-  pub reports : Reports answer status c.report
-
--- at most so many raw frames were sent to the address and received there, and the report says how
--- that ended
-pub record LoopsTo
-    (sender : Sending) (frames window workers : ℕ) (at : List ℕ) (status : ℕ) (c : Changes) : Type 0
-  where
-    pub answer : Result Summary Ending
-    pub loops : LoopsBack sender frames window workers at answer c.input c.output c.wire c.hands
-    pub reports : Reports (answer_of answer) status c.report
-
--- the capture was unpacked, and the report says how that ended
-pub record UnpacksTo (window workers packets status : ℕ) (c : Changes) : Type 0 where
-  pub answer : Answer
-  pub unpacks : Unpacks window workers packets answer c.input c.output c.hands
-  pub reports : Reports answer status c.report
-
--- the pictures of the stream were packed, and the report says how that ended
-pub record PacksTo (packets : ℕ) (packing : Packing) (status : ℕ) (c : Changes) : Type 0 where
-  pub answer : Result Summary Ending
-  pub packs : Packs packets packing answer c.input c.output
-  pub reports : Reports (answer_of answer) status c.report
-
--- the stream was played, and the report says how it ended
-pub record PlaysTo (packets status : ℕ) (c : Changes) : Type 0 where
-  pub answer : Result Summary Ending
-  pub plays : Plays packets answer c.input c.output
-  pub reports : Reports (answer_of answer) status c.report
-
--- frames were generated, and the report says how that ended
-pub record GeneratesTo (generator : Generating) (status : ℕ) (c : Changes) : Type 0 where
-  pub answer : Result Summary Ending
-  pub generates : Generates generator answer c.output
-  pub reports : Reports (answer_of answer) status c.report
-
--- generated frames were sent, received and compared, and the report says how that ended
-pub record ChecksTo (generator : Generating) (window workers status : ℕ) (c : Changes) : Type 0
-  where
-    pub answer : Result Summary Ending
-    pub checks : Checks generator window workers answer c.hands
-    pub reports : Reports (answer_of answer) status c.report
-
-abbrev pub Did : Meaning → ℕ → Changes → Type 0
-Did (ToDecode window workers packets) status c = DecodesTo window workers packets status c
-Did (ToEncode sender frames) status c = EncodesTo sender frames status c
-Did (ToSend sender frames to) status c = SendsTo sender frames to status c
-Did (ToRecv window workers packets sessions at) status c =
-    ReceivesTo window workers packets sessions at status c
-Did (ToLoop sender frames window workers at) status c =
-    LoopsTo sender frames window workers at status c
-Did (ToUnpack window workers packets) status c = UnpacksTo window workers packets status c
-Did (ToPack packets size ssrc pt seq tick) status c =
-    PacksTo packets (pack_settings size ssrc pt seq tick) status c
-Did (ToPlay packets) status c = PlaysTo packets status c
-Did (ToGen generator false window workers) status c = GeneratesTo generator status c
-Did (ToGen generator true window workers) status c = ChecksTo generator window workers status c
+-- what a command did, by its answer
+abbrev pub Did : Meaning → Answer → Changes → Type 0
+Did (ToDecode window workers packets) answer c =
+    Decodes window workers packets answer c.input c.output c.hands
+Did (ToEncode sender frames) answer c =
+    HasResult answer (λ result. Encodes sender frames result c.input c.output)
+Did (ToSend sender frames to) answer c =
+    HasResult answer (λ result. SendsOver sender frames to result c.input c.wire)
+Did (ToRecv window workers packets sessions at) answer c =
+    ReceivesFrom window workers packets sessions at answer c.wire c.output c.hands
+Did (ToLoop sender frames window workers at) answer c =
+    HasResult answer
+    (λ result. LoopsBack sender frames window workers at result c.input c.output c.wire c.hands)
+Did (ToUnpack window workers packets) answer c =
+    Unpacks window workers packets answer c.input c.output c.hands
+Did (ToPack packets size ssrc pt seq tick) answer c =
+    HasResult answer
+    (λ result. Packs packets (pack_settings size ssrc pt seq tick) result c.input c.output)
+Did (ToPlay packets) answer c = HasResult answer (λ result. Plays packets result c.input c.output)
+Did (ToGen generator false window workers) answer c =
+    HasResult answer (λ result. Generates generator result c.output)
+Did (ToGen generator true window workers) answer c =
+    HasResult answer (λ result. Checks generator window workers result c.hands)
 
 -- ---- the status
 
@@ -172,18 +120,14 @@ pub record HasNoFault (c : Changes) : Type 0 where
 -- a row for each command. What reads nothing ends well, but that generated frames may be too large
 -- to be sent.
 abbrev pub EndsWell : Meaning → Changes → Type 0
-EndsWell (ToDecode window workers packets) c =
-    IsSomeAnd c.input.left.before (IsDecodable packets)
-EndsWell (ToEncode sender frames) c =
-    IsSomeAnd c.input.left.before (IsEncodable sender frames)
-EndsWell (ToSend sender frames to) c =
-    IsSomeAnd c.input.left.before (IsSendable sender frames)
+EndsWell (ToDecode window workers packets) c = IsSomeAnd c.input.left.before (IsDecodable packets)
+EndsWell (ToEncode sender frames) c = IsSomeAnd c.input.left.before (IsEncodable sender frames)
+EndsWell (ToSend sender frames to) c = IsSomeAnd c.input.left.before (IsSendable sender frames)
 EndsWell (ToRecv window workers packets sessions at) c =
     IsSomeAnd c.wire.told.before.coming (IsReceivable packets sessions)
 EndsWell (ToLoop sender frames window workers at) c =
     IsSomeAnd c.input.left.before (IsSendable sender frames)
-EndsWell (ToUnpack window workers packets) c =
-    IsSomeAnd c.input.left.before (IsDecodable packets)
+EndsWell (ToUnpack window workers packets) c = IsSomeAnd c.input.left.before (IsDecodable packets)
 EndsWell (ToPack packets size ssrc pt seq tick) c =
     IsSomeAnd c.input.left.before (IsPackable (pack_settings size ssrc pt seq tick) packets)
 EndsWell (ToPlay packets) c = IsSomeAnd c.input.left.before (IsPlayable packets)
@@ -195,9 +139,11 @@ EndsWell (ToGen generator true window workers) c = IsCheckable generator
 abbrev pub Completes : Meaning → ℕ → Changes → Type 0
 Completes meaning status c = HasNoFault c → EndsWell meaning c → (status ≡ 0) ⊎ (status ≡ 3)
 
--- what words in the grammar did
+-- what words in the grammar did: a command came to an answer, and status and report are made of it
 pub record Does (meaning : Meaning) (status : ℕ) (c : Changes) : Type 0 where
-  pub did : Did meaning status c
+  pub answer : Answer
+  pub did : Did meaning answer c
+  pub reports : Reports answer status c.report
   pub completes : Completes meaning status c
 
 -- By what the words mean. Words outside the grammar are refused by the place of the first bad one.

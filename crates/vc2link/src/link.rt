@@ -21,7 +21,7 @@ use vc_slice::Hands;
 use vc_types::Words;
 
 /// Does what the words say, and answers the status. The words are those behind the program's name.
-#[tactic(auto, using(crate::proofs::Ends::decode_does, crate::proofs::Ends::encode_does, crate::proofs::Ends::send_does, crate::proofs::Ends::recv_does, crate::proofs::Ends::loop_does, crate::proofs::Ends::unpack_does, crate::proofs::Ends::pack_does, crate::proofs::Ends::play_does, crate::proofs::Ends::gen_does, crate::proofs::Ends::check_does))]
+#[tactic(auto, using(crate::proofs::Ends::does))]
 pub fn link_main<H: Threads + Copy + Send + Sync, S: Source, O: Sink, E: Sink, N: Wire, P: Hands>(
     rt: H,
     alloc: Global,

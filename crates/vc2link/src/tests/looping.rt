@@ -1,8 +1,10 @@
 //! Raw frames that `loop` sends and receives.
 
 use super::captures::{Run, run_on, tally};
-use super::encoding::{END, FRAME, HEADER, PARAMETERS, SLICE};
-use super::wires::{disordered, repeated, wanting};
+use super::encoding::FRAME;
+use super::wires::{
+    DISORDERED, REPEATED, SENT, WANTING, disordered, is_frame_sent, repeated, wanting,
+};
 use std::alloc::Global;
 use std::test::Fail;
 use std::thread::Threads;
@@ -11,9 +13,6 @@ use vc_slice::NoPlaces;
 
 const LINE: &str =
     "loop --at 127.0.0.1:5004 --width 2 --height 2 --sampling 444 --range 1 --wavelet 3 --depth 1 --slices 1x1 --scaler 1";
-
-// The lines of what is sent, of one frame.
-const SENT: &[u8] = b"frames 1\ndatagrams 4\nbytes 106\n";
 
 // Loops one frame over a wire.
 fn looped<H: Threads + Copy + Send + Sync>(
@@ -31,11 +30,6 @@ fn report_of(alloc: Global, counts: &[(&str, &str)]) -> Result<Vec<u8>, Fail> {
     let lines = tally(alloc, counts)?;
     text.extend_from_slice(&lines)?;
     Ok(text)
-}
-
-// Whether the datagram of an entry was sent at this place.
-fn is_sent(wire: &MemWire, place: usize, entry: &[u8]) -> bool {
-    wire.sent(place) == entry.get(2..)
 }
 
 #[test]
@@ -65,11 +59,7 @@ fn its_datagrams_are_those_of_encode(rt: HostRuntime) -> Result<(), Fail> {
     let mut wire = MemWire::new(alloc, Vec::new(alloc), true, 1000, Vec::new(alloc))?;
     let ran = looped(&rt, alloc, &mut wire)?;
     assert_eq!(rt; ran.status, 0);
-    assert!(rt; is_sent(&wire, 0, &HEADER));
-    assert!(rt; is_sent(&wire, 1, &PARAMETERS));
-    assert!(rt; is_sent(&wire, 2, &SLICE));
-    assert!(rt; is_sent(&wire, 3, &END));
-    assert_eq!(rt; wire.sent(4), None);
+    assert!(rt; is_frame_sent(&wire));
     Ok(())
 }
 
@@ -100,17 +90,12 @@ fn a_wire_that_gives_another_order(rt: HostRuntime) -> Result<(), Fail> {
     let alloc = rt.alloc();
     let mut wire = disordered(alloc)?;
     let ran = looped(&rt, alloc, &mut wire)?;
-    let counts = [
-        ("datagrams", "4"),
-        ("header-new", "1"),
-        ("end", "1"),
-        ("params-kept", "1"),
-        ("slices-pending", "1"),
-        ("frames", "1"),
-    ];
     assert_eq!(rt; ran.status, 0);
     assert_eq!(rt; ran.output.bytes(), FRAME.as_slice());
-    assert_eq!(rt; ran.report.bytes(), report_of(alloc, &counts)?.as_slice());
+    assert_eq!(rt;
+        ran.report.bytes(),
+        report_of(alloc, &DISORDERED)?.as_slice()
+    );
     Ok(())
 }
 
@@ -119,17 +104,9 @@ fn a_wire_that_gives_a_datagram_twice(rt: HostRuntime) -> Result<(), Fail> {
     let alloc = rt.alloc();
     let mut wire = repeated(alloc)?;
     let ran = looped(&rt, alloc, &mut wire)?;
-    let counts = [
-        ("datagrams", "4"),
-        ("header-new", "1"),
-        ("params-kept", "1"),
-        ("slices-kept", "1"),
-        ("slices-repeat", "1"),
-        ("frames", "1"),
-    ];
     assert_eq!(rt; ran.status, 0);
     assert_eq!(rt; ran.output.bytes(), FRAME.as_slice());
-    assert_eq!(rt; ran.report.bytes(), report_of(alloc, &counts)?.as_slice());
+    assert_eq!(rt; ran.report.bytes(), report_of(alloc, &REPEATED)?.as_slice());
     Ok(())
 }
 
@@ -138,16 +115,9 @@ fn a_wire_that_loses_the_slice(rt: HostRuntime) -> Result<(), Fail> {
     let alloc = rt.alloc();
     let mut wire = wanting(alloc)?;
     let ran = looped(&rt, alloc, &mut wire)?;
-    let counts = [
-        ("datagrams", "3"),
-        ("header-new", "1"),
-        ("end", "1"),
-        ("params-kept", "1"),
-        ("incomplete", "1"),
-    ];
     assert_eq!(rt; ran.status, 0);
     assert!(rt; ran.output.bytes().is_empty());
-    assert_eq!(rt; ran.report.bytes(), report_of(alloc, &counts)?.as_slice());
+    assert_eq!(rt; ran.report.bytes(), report_of(alloc, &WANTING)?.as_slice());
     Ok(())
 }
 

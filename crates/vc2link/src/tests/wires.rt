@@ -8,11 +8,21 @@ use std::thread::Threads;
 use vc_ports::MemWire;
 use vc_slice::NoPlaces;
 
-const SENT: &[u8] = b"frames 1\ndatagrams 4\nbytes 106\n";
+/// The lines of what is sent, of one frame.
+pub(super) const SENT: &[u8] = b"frames 1\ndatagrams 4\nbytes 106\n";
 
 // Whether the datagram of an entry was sent at this place.
 fn is_sent(wire: &MemWire, place: usize, entry: &[u8]) -> bool {
     wire.sent(place) == entry.get(2..)
+}
+
+/// Whether the datagrams of one frame were sent, and nothing else.
+pub(super) fn is_frame_sent(wire: &MemWire) -> bool {
+    is_sent(wire, 0, &HEADER)
+        && is_sent(wire, 1, &PARAMETERS)
+        && is_sent(wire, 2, &SLICE)
+        && is_sent(wire, 3, &END)
+        && wire.sent(4).is_none()
 }
 
 // A wire that gives these datagrams.
@@ -34,6 +44,16 @@ pub(super) fn disordered(alloc: Global) -> Result<MemWire, Fail> {
     )
 }
 
+/// What such datagrams are counted as.
+pub(super) const DISORDERED: [(&str, &str); 6] = [
+    ("datagrams", "4"),
+    ("header-new", "1"),
+    ("end", "1"),
+    ("params-kept", "1"),
+    ("slices-pending", "1"),
+    ("frames", "1"),
+];
+
 /// A wire that gives the slice of one frame twice, and no end.
 pub(super) fn repeated(alloc: Global) -> Result<MemWire, Fail> {
     let header = Vec::from_slice(alloc, &HEADER[2..])?;
@@ -46,6 +66,16 @@ pub(super) fn repeated(alloc: Global) -> Result<MemWire, Fail> {
     )
 }
 
+/// What such datagrams are counted as.
+pub(super) const REPEATED: [(&str, &str); 6] = [
+    ("datagrams", "4"),
+    ("header-new", "1"),
+    ("params-kept", "1"),
+    ("slices-kept", "1"),
+    ("slices-repeat", "1"),
+    ("frames", "1"),
+];
+
 /// A wire that doesn't give the slice of one frame.
 pub(super) fn wanting(alloc: Global) -> Result<MemWire, Fail> {
     let header = Vec::from_slice(alloc, &HEADER[2..])?;
@@ -53,6 +83,15 @@ pub(super) fn wanting(alloc: Global) -> Result<MemWire, Fail> {
     let end = Vec::from_slice(alloc, &END[2..])?;
     giving(alloc, Vec::from_array(alloc, [header, parameters, end])?)
 }
+
+/// What such datagrams are counted as.
+pub(super) const WANTING: [(&str, &str); 5] = [
+    ("datagrams", "3"),
+    ("header-new", "1"),
+    ("end", "1"),
+    ("params-kept", "1"),
+    ("incomplete", "1"),
+];
 
 // Whether what comes from a wire is received as these frames, with these counts.
 fn is_received<H: Threads + Copy + Send + Sync>(
@@ -73,15 +112,7 @@ fn is_received<H: Threads + Copy + Send + Sync>(
 fn datagrams_in_another_order(rt: HostRuntime) -> Result<(), Fail> {
     let alloc = rt.alloc();
     let mut wire = disordered(alloc)?;
-    let counts = [
-        ("datagrams", "4"),
-        ("header-new", "1"),
-        ("end", "1"),
-        ("params-kept", "1"),
-        ("slices-pending", "1"),
-        ("frames", "1"),
-    ];
-    assert!(rt; is_received(&rt, alloc, &mut wire, &FRAME, &counts)?);
+    assert!(rt; is_received(&rt, alloc, &mut wire, &FRAME, &DISORDERED)?);
     Ok(())
 }
 
@@ -89,15 +120,7 @@ fn datagrams_in_another_order(rt: HostRuntime) -> Result<(), Fail> {
 fn a_datagram_that_comes_twice(rt: HostRuntime) -> Result<(), Fail> {
     let alloc = rt.alloc();
     let mut wire = repeated(alloc)?;
-    let counts = [
-        ("datagrams", "4"),
-        ("header-new", "1"),
-        ("params-kept", "1"),
-        ("slices-kept", "1"),
-        ("slices-repeat", "1"),
-        ("frames", "1"),
-    ];
-    assert!(rt; is_received(&rt, alloc, &mut wire, &FRAME, &counts)?);
+    assert!(rt; is_received(&rt, alloc, &mut wire, &FRAME, &REPEATED)?);
     Ok(())
 }
 
@@ -105,14 +128,7 @@ fn a_datagram_that_comes_twice(rt: HostRuntime) -> Result<(), Fail> {
 fn a_datagram_that_does_not_come(rt: HostRuntime) -> Result<(), Fail> {
     let alloc = rt.alloc();
     let mut wire = wanting(alloc)?;
-    let counts = [
-        ("datagrams", "3"),
-        ("header-new", "1"),
-        ("end", "1"),
-        ("params-kept", "1"),
-        ("incomplete", "1"),
-    ];
-    assert!(rt; is_received(&rt, alloc, &mut wire, &[], &counts)?);
+    assert!(rt; is_received(&rt, alloc, &mut wire, &[], &WANTING)?);
     Ok(())
 }
 
@@ -129,11 +145,7 @@ fn a_frame_is_sent(rt: HostRuntime) -> Result<(), Fail> {
     assert!(rt; ran.output.bytes().is_empty());
     assert_eq!(rt; ran.report.bytes(), SENT);
     assert_eq!(rt; wire.to(0), Some(b"there".as_slice()));
-    assert!(rt; is_sent(&wire, 0, &HEADER));
-    assert!(rt; is_sent(&wire, 1, &PARAMETERS));
-    assert!(rt; is_sent(&wire, 2, &SLICE));
-    assert!(rt; is_sent(&wire, 3, &END));
-    assert_eq!(rt; wire.sent(4), None);
+    assert!(rt; is_frame_sent(&wire));
     Ok(())
 }
 

@@ -1,6 +1,5 @@
 use Rattle.std.proofs.Common.{◌∙◌, refl}
 use Rattle.link_receiver.specs.HeardLists.{AsFrames}
-use Rattle.loop_command.proofs.Exchanged.{no_memory_is_no_output}
 use Rattle.loop_command.proofs.outlet.LoopOutlet.drain.Goals as goal
 
 pub returns-in-Ok-clause-wrote : goal.returns-in-Ok-clause-wrote
@@ -24,6 +23,6 @@ returns-in-Err-NoMemory g c = record {
   part = λ window heard h. c.in-Err-NoMemory.ensures.part AsFrames window heard h;
   counts = λ window heard h. tt;
   ending = tt;
-  cause = record { later = c.in-Err-NoMemory.ensures.cause.later; rose = λ is. absurd (no_memory_is_no_output is) };
+  cause = record { later = c.in-Err-NoMemory.ensures.cause.later; rose = λ is. absurd cc };
   asked = c.in-Err-NoMemory.ensures.asked;
 }
