@@ -1,17 +1,14 @@
 -- How a datagram is exchanged: it is sent, and then one is received and heard, or not.
 use Rattle.std.proofs.Common.{◌≡◌, ℕ, ◌≤◌, List, [], ◌∷◌, ◌++◌, Option, Some, refl, sym, ap, ◌∙◌, subst, arith, inl, inr, append-nil}
-use Rattle.std.specs.Prelude.{IsTrue, Result, Err}
+use Rattle.std.specs.Prelude.{IsTrue}
 use Rattle.datagram_outlet.specs.declared.outlet.OutletFault.TheVariants as outlets
 use Rattle.decode_command.proofs.Asking.{offered_with}
 use Rattle.decode_command.proofs.Due.{due_at_end, due_with}
 use Rattle.link_model.specs.Output.{output_so_far}
-use Rattle.link_model.specs.declared.tally.Tally.{Tally}
 use Rattle.link_reception.specs.Entering.{datagram_jobs}
 use Rattle.link_receiver.proofs.Asked.{asked_none}
 use Rattle.link_receiver.specs.HeardLists.{AsFrames, AskedPlaces, HasHeard, OfferedToPlaces, newly_due, still_due}
 use Rattle.link_receiver.specs.States.{ReceiverState}
-use Rattle.link_report.specs.declared.ending.Ending.{Ending}
-use Rattle.link_report.specs.declared.ending.Ending.TheVariants as endings
 use Rattle.loop_command.specs.Exchanges.{HasHeardSince, Hears, IsReady, LoopBroke, LoopState, WereLooped, Passed, Stumbles}
 use Rattle.slice_exchange.specs.Calls.{PlacesAreBelow}
 use Rattle.vc_ports.specs.Faults.{Rose}
@@ -21,10 +18,6 @@ use Rattle.vc_ports.proofs.Growing.{Grew-then, GrewBySome-front, GrewBySome-none
 use Rattle.vc_slice.specs.Asked.{Told}
 use Rattle.wire_calls.proofs.Calls.{passes_none, passes_sent, passes_then}
 use Rattle.wire_calls.specs.Passing.{Passes}
-
--- want of memory is no failed output
-pub no_memory_is_no_output : ◌≡◌ {A = Result Tally Ending} (Err endings.NoMemory) (Err endings.OutputFailed) → ⊥
-no_memory_is_no_output same = cc
 
 pub ready_behind : (x y : LoopState) (sent : List (List ℕ)) → WereLooped x y sent → IsReady x → IsReady y
 ready_behind x y sent l ready = record {
