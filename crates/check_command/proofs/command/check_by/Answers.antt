@@ -23,7 +23,7 @@ check_frames-requires-clause-chooses g c = λ κs lives.
 pub returns-in_err-check_frames-clause-refused : goal.returns-in_err-check_frames-clause-refused
 returns-in_err-check_frames-clause-refused g c =
     let end = c.in_err-check_frames.field-0.0 in
-    let same : c.from_residual.result ≡ Err end = search rules in
+    let same : c.from_residual.result ≡ Err end = search (rules, c.from_residual.ensures) in
     subst (λ (r : Result ℕ Ending). IfErr r (IsOneRefused (generating_view c.args.g.now))) (sym same)
     (c.in_err-check_frames.ensures.value c.args.window c.new-checker.ensures.checked)
 

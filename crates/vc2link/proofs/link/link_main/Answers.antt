@@ -1,5 +1,5 @@
 use Rattle.std.proofs.Common.{◌≡◌, Bool, true, false, sym, ap, ◌∙◌}
-use Rattle.link_words.specs.Settings.{ToEncode, ToSend, ToLoop, ToPack, ToPlay, ToGen}
+use Rattle.link_words.specs.Settings.{ToDecode, ToEncode, ToSend, ToRecv, ToLoop, ToUnpack, ToPack, ToPlay, ToGen}
 use Rattle.link_words.specs.Views.{meaning_view}
 use Rattle.vc_types.specs.SenderSettings.{generating_view, sending_view}
 use Rattle.vc2link.proofs.Ends.{does}
@@ -62,3 +62,27 @@ returns-in-Ok-Loop-clause-answers g c =
     let meant : meaning_view c.in-Ok-Loop.field-0 ≡ ToLoop (sending_view came.sender) came.frames came.window came.workers came.at.now = ap meaning_view came.field-0-is in
     rw (c.read_words.ensures.exact, c.in-Ok-Loop.is, meant)
     (does _ c.from.result _ _ (record { result = c.loop_back-looped.result; is = c.from.ensures; did = c.loop_back-looped.ensures }) c.write_answer-in-Ok-Loop.ensures)
+
+-- src/link.rt:22:1
+pub returns-in-Ok-Decode-clause-answers : goal.returns-in-Ok-Decode-clause-answers
+returns-in-Ok-Decode-clause-answers g c =
+    let came = c.in-Ok-Decode in
+    let meant : meaning_view c.in-Ok-Decode.field-0 ≡ ToDecode came.window came.workers came.packets = ap meaning_view came.field-0-is in
+    rw (c.read_words.ensures.exact, c.in-Ok-Decode.is, meant)
+    (does _ c.decode-answer.result _ _ c.decode-answer.ensures c.write_answer.ensures)
+
+-- src/link.rt:22:1
+pub returns-in-Ok-Recv-clause-answers : goal.returns-in-Ok-Recv-clause-answers
+returns-in-Ok-Recv-clause-answers g c =
+    let came = c.in-Ok-Recv in
+    let meant : meaning_view c.in-Ok-Recv.field-0 ≡ ToRecv came.window came.workers came.packets came.sessions came.at.now = ap meaning_view came.field-0-is in
+    rw (c.read_words.ensures.exact, c.in-Ok-Recv.is, meant)
+    (does _ c.recv-answer.result _ _ c.recv-answer.ensures c.write_answer-in-Ok-Recv.ensures)
+
+-- src/link.rt:22:1
+pub returns-in-Ok-Unpack-clause-answers : goal.returns-in-Ok-Unpack-clause-answers
+returns-in-Ok-Unpack-clause-answers g c =
+    let came = c.in-Ok-Unpack in
+    let meant : meaning_view c.in-Ok-Unpack.field-0 ≡ ToUnpack came.window came.workers came.packets = ap meaning_view came.field-0-is in
+    rw (c.read_words.ensures.exact, c.in-Ok-Unpack.is, meant)
+    (does _ c.unpack-answer.result _ _ c.unpack-answer.ensures c.write_answer-in-Ok-Unpack.ensures)
