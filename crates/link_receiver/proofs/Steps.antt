@@ -1,6 +1,6 @@
 -- What one step on a receiver's parts is on its value.
 use Rattle.std.proofs.Common.{◌≡◌, ℕ, List, [], ◌∷◌, Option, Some, None, Result, Ok, Err, refl, ap, ◌∙◌}
-use Rattle.std.specs.Prelude.{filter, IfSome, IfOk, OnOk, OnErr}
+use Rattle.std.specs.Prelude.{filter, IfSome, IfOk, OnErr}
 use Rattle.std.specs.Option.{option_copied}
 use denote.Ref.{Bor}
 use Rattle.link_model.specs.Books.{Book}
@@ -26,10 +26,6 @@ use Rattle.vc_types.specs.declared.memory.NoMemory.{NoMemory}
 pub on_err : {T E : Type 0} (r : Result T E) (P : Type 0) → P → OnErr r P
 on_err (Ok x) P p = tt
 on_err (Err e) P p = p
-
-pub on_ok : {T E : Type 0} (r : Result T E) (P : Type 0) → P → OnOk r P
-on_ok (Ok x) P p = p
-on_ok (Err e) P p = tt
 
 pub whole_by_some : (s : Sequence) (o : Option (Bor Book))
     → IfSome o (λ book. IsWholeBook s book.now) → IsWholeBySome (option_copied o)
