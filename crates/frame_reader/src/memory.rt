@@ -1,5 +1,5 @@
-ghost use Rattle.std.specs.Prelude.{◌≡◌, ◌<◌, ◌^◌, IsTrue, IfOk};
-ghost use Rattle.frame_reader.specs.FrameBytes.{frame_of_bytes, sample_count, length_of_samples};
+ghost use Rattle.std.specs.Prelude.{◌≡◌, ◌<◌, ◌^◌, IsTrue, IfOk, length};
+ghost use Rattle.frame_reader.specs.FrameBytes.{frame_of_bytes, frame_length, sample_count, length_of_samples};
 ghost use Rattle.frame_reader.specs.Memory.{IsRoomFor};
 ghost use Rattle.vc_types.specs.declared.video.Component.TheVariants.{Y, C1};
 ghost use Rattle.vc_types.specs.Limits.{shape_fits};
@@ -11,27 +11,23 @@ use frame_writer::is_wide;
 use std::alloc::{AllocError, Global};
 use vc_types::{Plane, Shape};
 
-/// The memory that a frame is read into: its bytes, and the samples of its planes.
+/// The memory that the planes of a frame are read into: their samples.
 #[derive(Drop)]
-pub(crate) struct FrameMemory {
-    pub(crate) bytes: Vec<u8>,
+pub(crate) struct PlaneMemory {
     y: Vec<u16>,
     c1: Vec<u16>,
     c2: Vec<u16>,
 }
 
-impl FrameMemory {
-    /// Room for a frame of a shape.
-    pub(crate) fn new(alloc: Global, shape: &Shape) -> Result<FrameMemory, AllocError>
+impl PlaneMemory {
+    /// Room for the planes of a shape.
+    pub(crate) fn new(alloc: Global, shape: &Shape) -> Result<PlaneMemory, AllocError>
         requires { IsTrue (shape_fits shape.now) }
         ensures { IfOk result (IsRoomFor shape.now) }
     {
-        let luma = luma_count(shape);
         let colour = colour_count(shape);
-        let len = len_of_samples(shape, luma + (colour + colour));
-        Ok(FrameMemory {
-            bytes: vec![in alloc; 0; len]?,
-            y: vec![in alloc; 0; luma]?,
+        Ok(PlaneMemory {
+            y: vec![in alloc; 0; luma_count(shape)]?,
             c1: vec![in alloc; 0; colour]?,
             c2: vec![in alloc; 0; colour]?,
         })
@@ -39,13 +35,13 @@ impl FrameMemory {
 
     /// The planes of the frame whose bytes were read.
     #[tactic(auto, unfolding(crate::specs::FrameBytes::frame_of_bytes))]
-    pub(crate) fn into_planes(self, shape: &Shape) -> [Plane; 3]
+    pub(crate) fn into_planes(self, shape: &Shape, bytes: &[u8]) -> [Plane; 3]
         requires fits { IsTrue (shape_fits shape.now) }
         requires room { IsRoomFor shape.now self }
-        ensures { planes_in result ≡ frame_of_bytes shape.now self.bytes.items }
+        requires whole { length bytes.now ≡ frame_length shape.now }
+        ensures { planes_in result ≡ frame_of_bytes shape.now bytes.now }
     {
-        let FrameMemory {
-            bytes,
+        let PlaneMemory {
             mut y,
             mut c1,
             mut c2,
@@ -62,6 +58,15 @@ impl FrameMemory {
             Plane::new(shape.colour_width, shape.colour_height, c2),
         ]
     }
+}
+
+/// How many bytes a frame has.
+pub(crate) fn frame_len(shape: &Shape) -> usize
+    requires { IsTrue (shape_fits shape.now) }
+    ensures { result ≡ frame_length shape.now }
+{
+    let colour = colour_count(shape);
+    len_of_samples(shape, luma_count(shape) + (colour + colour))
 }
 
 fn luma_count(shape: &Shape) -> usize

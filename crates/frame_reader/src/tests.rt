@@ -32,7 +32,7 @@ fn frame_read(alloc: Global, bytes: &[u8], shape: &Shape) -> Result<[Plane; 3], 
     requires { IsTrue (shape_fits shape.now) }
 {
     let mut source = PlainSource::new(Vec::from_slice(alloc, bytes)?);
-    match read_frame(alloc, &mut source, shape) {
+    match read_frame(alloc, &mut source, shape, &mut Vec::new(alloc)) {
         Ok(Some(planes)) => Ok(planes),
         Ok(None) => Err(Fail::from("no frame")),
         Err(_) => Err(Fail::from("a fault")),
@@ -64,10 +64,11 @@ fn samples_of_more_than_8_bits_have_two(rt: HostRuntime) -> Result<(), Fail> {
 #[test]
 fn a_source_ends_at_an_edge_or_within_a_frame(rt: HostRuntime) -> Result<(), Fail> {
     let alloc = rt.alloc();
+    let mut bytes = Vec::new(alloc);
     for (length, cut) in [(4, false), (5, true), (7, true)] {
         let mut source = PlainSource::new(vec![in alloc; 9; length]?);
-        assert!(rt; read_frame(alloc, &mut source, &shape(8, 8)).is_ok());
-        match read_frame(alloc, &mut source, &shape(8, 8)) {
+        assert!(rt; read_frame(alloc, &mut source, &shape(8, 8), &mut bytes).is_ok());
+        match read_frame(alloc, &mut source, &shape(8, 8), &mut bytes) {
             Ok(None) => assert!(rt; !cut, "{length} bytes"),
             Ok(Some(_)) => return Err(Fail::from("a frame")),
             Err(fault) => assert_eq!(rt; (fault, cut), (FrameReadFault::Cut, true)),
@@ -80,11 +81,12 @@ fn a_source_ends_at_an_edge_or_within_a_frame(rt: HostRuntime) -> Result<(), Fai
 fn a_read_may_fail(rt: HostRuntime) -> Result<(), Fail> {
     let alloc = rt.alloc();
     let mut source = MemSource::new(vec![in alloc; 9; 4]?, vec![in alloc; 1]?);
-    match read_frame(alloc, &mut source, &shape(8, 8)) {
+    let mut bytes = Vec::new(alloc);
+    match read_frame(alloc, &mut source, &shape(8, 8), &mut bytes) {
         Ok(_) => return Err(Fail::from("no fault")),
         Err(fault) => assert_eq!(rt; fault, FrameReadFault::ReadFault),
     }
-    assert!(rt; read_frame(alloc, &mut source, &shape(8, 8)).is_ok());
+    assert!(rt; read_frame(alloc, &mut source, &shape(8, 8), &mut bytes).is_ok());
     Ok(())
 }
 

@@ -112,8 +112,9 @@ fn send_each<H: Threads + Copy + Send + Sync, F: Fn(&SliceNeed) -> u8, S: Source
     ensures input_cause { HasCause (S.faults input.old) (S.faults input.new)
         (result ≡ Err Ending.InputFailed) }
 {
+    let mut bytes = Vec::new(alloc);
     for frame in 0..frames {
-        match read_frame(alloc, input, shape) {
+        match read_frame(alloc, input, shape, &mut bytes) {
             Ok(Some(planes)) => match sender.take(rt, &planes, outlet) {
                 Ok(()) => {}
                 Err(ending) => return Err(ending),

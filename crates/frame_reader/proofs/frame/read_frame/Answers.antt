@@ -3,4 +3,4 @@ use Rattle.frame_reader.proofs.FrameEnds.{cut_frame}
 use Rattle.frame_reader.proofs.frame.read_frame.Goals as goal
 
 pub returns-in-End-clause-frame : goal.returns-in-End-clause-frame
-returns-in-End-clause-frame g c = cut_frame c.args.shape.now _ _ c.fill.new.buf c.in-End.field-0 (omega (arith, c.fill.auto.buf, c.deref_mut.ensures.len, c.in_ok-memory.ensures.bytes)) (c.in-End.field-0-test.1) c.in-End.ensures.bytes
+returns-in-End-clause-frame g c = cut_frame c.args.shape.now _ _ c.fill.new.buf c.in-End.field-0 (omega (arith, c.fill.auto.buf, c.deref_mut.ensures.len, c.in_ok-resize.ensures.len)) (c.in-End.field-0-test.1) c.in-End.ensures.bytes

@@ -106,8 +106,8 @@ returns-in-End-clause-value g c =
       end = subst (λ (bytes : List ℕ). GaveAll (g.S.Source.left c.loop-frame.input) (g.S.Source.left c.fill.new.source) bytes) (none_of c.fill.new.buf c.in-End.field-0 c.fill.auto.buf fills.0) fills.1;
     }
 
-pub returns-in-Failed-clause-value : goal.returns-in-Failed-clause-value
-returns-in-Failed-clause-value g c =
+pub returns-clause-value : goal.returns-clause-value
+returns-clause-value g c =
     let laws : OutletLaws g.O.Outlet.carried g.O.Outlet.broke = record { none = g.met.O.Outlet.none; more = g.met.O.Outlet.more; breaks_then = g.met.O.Outlet.breaks_then; breaks_before = g.met.O.Outlet.breaks_before } in
     let s = sending_view c.args.sender.now.sender.settings in
     let at = c.loop-frame.invariant.sent in
