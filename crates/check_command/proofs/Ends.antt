@@ -2,7 +2,7 @@
 use Rattle.std.proofs.Common.{◌≡◌, ℕ, Option, Ok, Err, inl}
 use Rattle.check_command.specs.Checking.{Checks, IsCheckable, checked_stream}
 use Rattle.check_command.specs.Looping.{IsOneRefused}
-use Rattle.decode_command.proofs.Whole.{started}
+use Rattle.decode_command.proofs.CommandAnswers.{started}
 use Rattle.frame_comparison.specs.Differences.{differences}
 use Rattle.gen_command.specs.Generating.{sample_total}
 use Rattle.link_model.specs.Output.{full_output}

@@ -2,5 +2,5 @@ pub mod Asking
 pub mod Due
 pub mod Within
 pub mod Behind
-pub mod Whole
+pub mod CommandAnswers
 pub mod Completing

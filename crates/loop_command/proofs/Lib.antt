@@ -1,4 +1,4 @@
 pub mod Completing
 pub mod Exchanged
 pub mod Outcomes
-pub mod Whole
+pub mod CommandAnswers

@@ -1,4 +1,4 @@
 pub mod Datagrams
 pub mod Ends
-pub mod Whole
+pub mod CommandAnswers
 pub mod Completing

@@ -1,6 +1,6 @@
 use Rattle.std.proofs.Common.{refl, ap, ◌∙◌}
 use Rattle.std.specs.Prelude.{Ok, Err, Some}
-use Rattle.decode_command.proofs.Whole.{not_started, done, drained, stopped}
+use Rattle.decode_command.proofs.CommandAnswers.{not_started, done, drained, stopped}
 use Rattle.decode_command.proofs.command.take_capture.Goals as goal
 
 pub returns-in-Ok-None : goal.returns-in-Ok-None

@@ -1,9 +1,9 @@
 use Rattle.std.proofs.Common.{rules, ◌∙◌, refl, ap, inl, inr}
-use Rattle.recv_command.proofs.Whole.{just_started}
+use Rattle.recv_command.proofs.CommandAnswers.{just_started}
 use Rattle.vc_ports.proofs.Counts.{Rose-earlier}
 use Rattle.vc_types.specs.SenderSettings.{sending_view}
 use Rattle.loop_command.specs.Exchanges.{loop_state}
-use Rattle.loop_command.proofs.Whole.{back_from, given_back, no_memory, no_wire}
+use Rattle.loop_command.proofs.CommandAnswers.{back_from, given_back, no_memory, no_wire}
 use Rattle.loop_command.proofs.command.loop_back.Goals as goal
 
 -- no workers

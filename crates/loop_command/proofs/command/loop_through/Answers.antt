@@ -2,7 +2,7 @@ use Rattle.std.proofs.Common.{rules, Err, refl, ap}
 use Rattle.frame_sending.proofs.Carrying.{sends_weaker}
 use Rattle.vc_types.specs.SenderSettings.{sending_view}
 use Rattle.loop_command.specs.Exchanges.{LoopBroke, WereLooped, loop_state}
-use Rattle.loop_command.proofs.Whole.{all_done, all_stopped, broke_off, sent_undrained, stopped_undrained}
+use Rattle.loop_command.proofs.CommandAnswers.{all_done, all_stopped, broke_off, sent_undrained, stopped_undrained}
 use Rattle.loop_command.proofs.command.loop_through.Goals as goal
 
 -- all was sent, and then the receiver broke off

@@ -2,7 +2,7 @@ use Rattle.std.proofs.Common.{refl, ap, ◌∙◌, inl, inr}
 use Rattle.std.specs.Prelude.{Ok, Err}
 use Rattle.link_receiver.specs.States.{ReceiverState}
 use Rattle.vc_ports.proofs.Counts.{Rose-earlier}
-use Rattle.recv_command.proofs.Whole.{not_begun, just_started, not_listening, done, failed, limited, stopped}
+use Rattle.recv_command.proofs.CommandAnswers.{not_begun, just_started, not_listening, done, failed, limited, stopped}
 use Rattle.recv_command.proofs.command.recv.Goals as goal
 
 -- no workers

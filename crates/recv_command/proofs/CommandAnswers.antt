@@ -4,7 +4,7 @@ use Rattle.std.proofs.Common.{◌≡◌, ℕ, List, [], Option, refl, ◌∙◌,
 use Rattle.std.specs.Prelude.{Ok, Err, ◌⊎◌}
 use Rattle.decode_command.specs.Decoding.{HasStarted}
 use Rattle.decode_command.proofs.Asking.{nothing_offered}
-use Rattle.decode_command.proofs.Whole.{gave_work, started}
+use Rattle.decode_command.proofs.CommandAnswers.{gave_work, started}
 use Rattle.link_model.specs.Judgement.{tally_of, no_counts, with_sessions, outcomes_behind}
 use Rattle.link_model.specs.Output.{full_output, all_output}
 use Rattle.link_model.specs.declared.tally.Tally.{Tally}

@@ -8,7 +8,7 @@ use Rattle.decode_command.specs.Decoding.{HasGivenWork, HasStarted}
 use Rattle.decode_command.specs.Hearing.{IsBroken}
 use Rattle.decode_command.proofs.Asking.{nothing_offered, offered_then}
 use Rattle.decode_command.proofs.Due.{due_at_end, nothing_due}
-use Rattle.decode_command.proofs.Whole.{gave_work, started}
+use Rattle.decode_command.proofs.CommandAnswers.{gave_work, started}
 use Rattle.frame_sending.proofs.Carrying.{sends_at, sends_weaker}
 use Rattle.frame_sending.specs.Sends.{SendsFrames}
 use Rattle.link_model.specs.Judgement.{tally_of}
