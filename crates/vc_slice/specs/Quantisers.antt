@@ -4,8 +4,8 @@ use Rattle.vc_quant.specs.declared.quantiser.Quantiser.{Quantiser}
 use Rattle.vc_types.specs.Quantisation.{subband_count}
 use Rattle.vc_types.specs.TransformParameters.{Parameters}
 
--- the first of a list are the quantisers of the first n subbands: the slice's index less the subband's matrix value, and
--- at least 0
+-- the first of a list are the quantisers of the first n subbands: the slice's index less the
+-- subband's matrix value, and at least 0
 abbrev pub AreQuantisersOf : Parameters → ℕ → ℕ → List Quantiser → Type 0
 AreQuantisersOf p index n quantisers = (b : ℕ) (none : Quantiser) → b < n
     → (slice_index_or quantisers b none).index ≡ index - slice_index_or p.matrix b 0

@@ -1,6 +1,6 @@
 use Rattle.std.proofs.Common.{ℕ, ◌≡◌, ◌+◌, ◌*◌, ◌<◌, get_or, take, ap, subst, ◌∙◌, arith}
 use Rattle.vc_types.specs.Bits.{bits_of, number_of}
-use Rattle.vc_bits.proofs.Whole.{number_none, number_more, fits_more, number_between}
+use Rattle.vc_bits.proofs.BytesNumber.{number_none, number_more, fits_more, number_between}
 use Rattle.vc_bits.proofs.ahead.number.Goals as goal
 
 pub loop-place-init : goal.loop-place-init
