@@ -1,9 +1,9 @@
 -- The table says of each twelve bits what numbers' codes they begin with.
 use Rattle.std.proofs.lemmas.Int.{to_z-of_z, fits_signed_from_abs}
 use Rattle.std.specs.Int.{w32, w64}
-use Rattle.std.proofs.Common.{◌≡◌, ◌^◌, unsigned_abs, to_z, of_z, ℕ, zero, suc, ◌+◌, ◌-◌, ◌*◌, ◌<◌, ◌≤◌, ℤ, pos, Bool, true, false, eqb, leb, List, [], ◌∷◌, ◌++◌, length, get_or, take, drop, refl, sym, ap, subst, ◌∙◌, arith, inl, inr, length-append, zero-add, suc-add}
+use Rattle.std.proofs.Common.{◌≡◌, ◌^◌, unsigned_abs, to_z, of_z, ℕ, zero, suc, ◌+◌, ◌-◌, ◌*◌, ◌<◌, ◌≤◌, ℤ, pos, Bool, true, false, eqb, leb, List, [], ◌∷◌, ◌++◌, length, get_or, take, drop, refl, sym, ap, subst, ◌∙◌, arith, length-append, zero-add, suc-add}
 use Rattle.std.specs.Prelude.{◌&&◌}
-use Rattle.std.proofs.lemmas.Bool.{and_parts, cases_lt, eqb-true, leb-true}
+use Rattle.std.proofs.lemmas.Bool.{and_parts, eqb-true, leb-true}
 use Rattle.std.proofs.lemmas.List.{take-append-drop, drop-drop, get_or-take}
 use Rattle.std.proofs.Math.Seq.{get_or-append_right}
 use Rattle.vc_bits.specs.Bits.{word_bits}
@@ -46,19 +46,6 @@ numbers_rest (v ∷ vs) bits begin k =
     ∙ ap (λ (xs : List Bool). number_at xs k) (drop-drop (length (codes vs)) n bits ∙ ap (λ (m : ℕ). drop m bits) long)
 
 -- ---- a test of a whole table
-
-abbrev pub holds_below : (ℕ → Bool) → ℕ → Bool
-holds_below test zero = true
-holds_below test (suc n) = test n && holds_below test n
-
-pub at : (test : ℕ → Bool) (n k : ℕ) → holds_below test n ≡ true → k < n → test k ≡ true
-at test zero k all lt = absurd (omega arith)
-at test (suc n) k all lt =
-    let both = and_parts (test n) (holds_below test n) all in
-    elim (cases_lt k n) [
-      | inl less ↦ at test n k both.1 less
-      | inr le ↦ let same : n ≡ k = omega arith in subst (λ (m : ℕ). test m ≡ true) same both.0
-    ]
 
 abbrev pub same_bits : List Bool → List Bool → Bool
 same_bits [] [] = true

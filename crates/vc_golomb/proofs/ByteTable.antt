@@ -9,7 +9,8 @@ use Rattle.vc_types.specs.Bits.{byte_bits, number_of}
 use Rattle.vc_types.specs.Bounded.{bounded}
 use Rattle.vc_golomb.specs.Table.{pairs_of, IsLook}
 use Rattle.vc_golomb.specs.declared.table.TheConstants.{TAKEN, DIGITS}
-use Rattle.vc_golomb.proofs.ByteRows.{holds_below, at, same_bits, same}
+use Rattle.vc_types.proofs.Tables.{holds_below, holds_at}
+use Rattle.vc_golomb.proofs.ByteRows.{same_bits, same}
 
 -- ---- one byte
 
@@ -63,7 +64,7 @@ from_test byte taken digits test =
 
 -- each byte's row
 pub looks : (byte : ℕ) → byte < 256 → IsLook byte (get_or TAKEN byte 0) (get_or DIGITS byte 0)
-looks byte small = from_test byte (get_or TAKEN byte 0) (get_or DIGITS byte 0) (at (λ byte. is_look byte (get_or TAKEN byte 0) (get_or DIGITS byte 0)) 256 byte all_looks small)
+looks byte small = from_test byte (get_or TAKEN byte 0) (get_or DIGITS byte 0) (holds_at (λ byte. is_look byte (get_or TAKEN byte 0) (get_or DIGITS byte 0)) 256 byte all_looks small)
 
 few_digits : (n number digits : ℕ) → n ≤ 4 → number < 2 ^ n → number ≡ digits → digits < 16
 few_digits n number digits small below is =

@@ -1,6 +1,5 @@
 -- A code behind ones, in one word.
 use Rattle.std.proofs.Common.{◌≡◌, ℕ, ◌+◌, ◌-◌, ◌*◌, ◌%◌, ◌^◌, ◌<◌, ◌≤◌, Bool, true, List, ◌++◌, replicate, ap, ◌∙◌, arith}
-use Rattle.std.proofs.Math.Nat.{pow-le-pow_right}
 use Rattle.std.proofs.lemmas.Nat.{one_shl, pow_pos}
 use Rattle.vc_bits.specs.Bits.{word_bits}
 use Rattle.vc_bits.proofs.Waiting.{joined_bits, joined_fits, moved_up}
@@ -24,11 +23,3 @@ module _ (ones count number : ℕ) (few : ones ≤ 16) (short : count ≤ 16) (s
 
   pub ones_fit : (1 * 2 ^ ones % 2 ^ 64 - 1) * 2 ^ count % 2 ^ 64 + number < 2 ^ (ones + count)
   ones_fit = rw moved (joined_fits ones (2 ^ ones - 1) count number (omega (arith, some)) small)
-
-  pub ones_within : (1 * 2 ^ ones % 2 ^ 64 - 1) * 2 ^ count % 2 ^ 64 + number < 2 ^ 32
-  ones_within =
-      let power : 2 ^ (ones + count) ≤ 2 ^ 32 = pow-le-pow_right (omega arith) {j = 32} (omega arith) in
-      omega (arith, power, ones_fit)
-
-  pub some_ones : 1 ≤ 1 * 2 ^ ones % 2 ^ 64
-  some_ones = omega (arith, some, one_shl ones 64 (omega arith))

@@ -6,7 +6,8 @@ use Rattle.vc_types.specs.Codes.{uint_bits, spread_digits, sint_bits}
 use Rattle.vc_bits.specs.Bits.{word_bits}
 use Rattle.vc_golomb.specs.Pairs.{HasCodes, first_number, second_number}
 use Rattle.vc_golomb.specs.declared.pairs.TheConstants.{PAIRS}
-use Rattle.vc_golomb.proofs.ByteRows.{holds_below, at, same_bits, same}
+use Rattle.vc_types.proofs.Tables.{holds_below, holds_at}
+use Rattle.vc_golomb.proofs.ByteRows.{same_bits, same}
 
 abbrev is_pair : ℕ → ℕ → Bool
 is_pair place entry =
@@ -20,7 +21,7 @@ all_pairs = refl
 pub pair_is : (place : ℕ) → place < 256 → HasCodes (first_number place) (second_number place) (get_or PAIRS place 0)
 pair_is place inside =
     let entry = get_or PAIRS place 0 in
-    let parts = and_parts _ _ (at (λ place. is_pair place (get_or PAIRS place 0)) 256 place all_pairs inside) in
+    let parts = and_parts _ _ (holds_at (λ place. is_pair place (get_or PAIRS place 0)) 256 place all_pairs inside) in
     let last = and_parts _ _ parts.1 in
     let room = leb-true (entry / 32 + 1) (2 ^ (entry % 32)) last.0 in
     record { value = same _ _ parts.0; few = leb-true (entry % 32) 16 last.1; range = omega (arith, room) }

@@ -8,7 +8,8 @@ use Rattle.vc_golomb.proofs.WrittenCodes.{sign_pos}
 use Rattle.vc_types.specs.Codes.{uint_bits, spread_digits, sint_bits}
 use Rattle.vc_bits.specs.Bits.{word_bits}
 use Rattle.vc_golomb.specs.declared.short.TheConstants.{CODES, LENGTHS}
-use Rattle.vc_golomb.proofs.ByteRows.{holds_below, at, same_bits, same}
+use Rattle.vc_types.proofs.Tables.{holds_below, holds_at}
+use Rattle.vc_golomb.proofs.ByteRows.{same_bits, same}
 
 -- the code of a magnitude as a positive number, and as a negative one
 abbrev negative_is : ℕ → ℕ → ℕ → Bool
@@ -50,5 +51,5 @@ pub short_is : (v : ℤ) (magnitude bits sign count : ℕ) → magnitude ≡ uns
 short_is v magnitude bits sign count same_magnitude small is_bits is_sign is_count =
     let here : is_code (unsigned_abs v) bits count ≡ true =
     ap (λ (k : ℕ). is_code k bits count) (sym same_magnitude) ∙ ap (λ (k : ℕ). is_code magnitude k count) is_bits ∙ ap (λ (k : ℕ). is_code magnitude (get_or CODES magnitude 0) k) is_count
-    ∙ at (λ m. is_code m (get_or CODES m 0) (get_or LENGTHS m 0)) 255 magnitude all_codes small in
+    ∙ holds_at (λ m. is_code m (get_or CODES m 0) (get_or LENGTHS m 0)) 255 magnitude all_codes small in
     from_test v bits count (bits + sign) here (ap (λ (k : ℕ). bits + k) is_sign)

@@ -1,6 +1,6 @@
 -- The code of a number, as it is written digit by digit.
 use Rattle.std.proofs.Common.{◌≡◌, ℕ, zero, suc, ◌+◌, ◌*◌, ◌/◌, ◌^◌, ◌<◌, ◌≤◌, ℤ, Bool, true, false, eqb, List, [], ◌∷◌, ◌++◌, refl, sym, ap, subst, ◌∙◌, arith, append_assoc, append-nil, add-one}
-use Rattle.std.specs.Prelude.{unsigned_abs, pos, negsuc, Result, Ok, Err, OnErr}
+use Rattle.std.specs.Prelude.{unsigned_abs, pos, negsuc}
 use Rattle.std.specs.Int.{bit_at, is_negative}
 use Rattle.std.proofs.Math.Nat.{div-div-eq-div-mul, pow-suc}
 use Rattle.std.proofs.lemmas.Bool.{le-ltb}
@@ -113,8 +113,3 @@ front_unsigned v magnitude old new same wrote = front_magnitude v old new (subst
 
 pub front_whole : (v : ℤ) (magnitude : ℕ) (old new : List Bool) → magnitude ≡ unsigned_abs v → new ≡ old ++ uint_bits magnitude → WroteFront (sint_bits v) old new
 front_whole v magnitude old new same is = front_unsigned v magnitude old new same (uint_bits magnitude, [], sym (append-nil (uint_bits magnitude)), is)
-
--- what an answer with an error says
-pub on_err : {A E : Type 0} (r : Result A E) (P : Type 0) → P → OnErr r P
-on_err (Ok x) P p = tt
-on_err (Err e) P p = p

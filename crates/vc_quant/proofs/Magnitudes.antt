@@ -4,6 +4,7 @@ use Rattle.std.specs.Prelude.{◌==◌, if◌then◌else◌}
 use Rattle.std.specs.Int.{w32, w64, w128}
 use Rattle.std.proofs.lemmas.Int.{ints}
 use Rattle.std.proofs.Math.Nat.{mul-le-mul_right, div-eq_of_lt-le}
+use Rattle.vc_types.proofs.Quantisers.{unsigned_abs-with_sign_of}
 use Rattle.vc_quant.proofs.Quotients.{not_larger}
 use Rattle.vc_quant.specs.Narrow.{IsNarrow}
 use Rattle.vc_types.specs.Quantisation.{quant_factor, quant_offset, dequantised, dequantised_magnitude, quantised, with_sign_of}
@@ -45,10 +46,6 @@ nothing z quarters factor q small is is_factor =
 
 -- ---- narrow numbers
 
-under_sign : (z : ℤ) (n : ℕ) → unsigned_abs (with_sign_of z n) ≡ n
-under_sign (pos k) n = refl
-under_sign (negsuc k) n = omega (arith, ints)
-
 narrow_magnitude : (m greatest factor offset : ℕ) → m ≤ greatest → greatest * factor + offset + 2 < 2 ^ 31 → dequantised_magnitude m factor offset < 2 ^ 29
 narrow_magnitude m greatest factor offset h room =
     let more = mul-le-mul_right factor h in
@@ -65,7 +62,7 @@ narrow_magnitude m greatest factor offset h room =
 pub narrow_coefficient : (z : ℤ) (greatest q : ℕ) → unsigned_abs z ≤ greatest → IsNarrow greatest q → unsigned_abs (dequantised z q) < 2 ^ 29
 unfolding dequantised
 narrow_coefficient z greatest q h narrow =
-    let size = under_sign z (dequantised_magnitude (unsigned_abs z) (quant_factor q) (quant_offset q)) in
+    let size = unsigned_abs-with_sign_of z (dequantised_magnitude (unsigned_abs z) (quant_factor q) (quant_offset q)) in
     omega (arith, size, narrow_magnitude (unsigned_abs z) greatest (quant_factor q) (quant_offset q) h narrow.1)
 
 -- ---- one coefficient of 32 bits

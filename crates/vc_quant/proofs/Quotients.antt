@@ -2,8 +2,9 @@
 use Rattle.std.proofs.Common.{◌≡◌, ℕ, zero, suc, ◌+◌, ◌-◌, ◌*◌, ◌/◌, ◌^◌, ◌<◌, ◌≤◌, Bool, true, eqb, leb, get_or, refl, sym, ap, subst, ◌∙◌, arith, inl, inr}
 use Rattle.std.specs.Prelude.{◌&&◌, ◌↔◌}
 use Rattle.std.proofs.lemmas.Bool.{and_parts, cases_lt, eqb-true, leb-true}
-use Rattle.std.proofs.Math.Nat.{mul-le-mul_right, mul-le-mul_left, div-mul-le_self, lt-div-mul-add, div-eq_of_lt-le, pow-le-pow_right, pow-suc, le-div_iff_mul-le}
+use Rattle.std.proofs.Math.Nat.{mul-le-mul_right, mul-le-mul_left, div-mul-le_self, lt-div-mul-add, div-eq_of_lt-le, le_of_mul-le-mul_right, lt_of_mul-lt-mul_right, pow-le-pow_right, pow-suc, le-div_iff_mul-le}
 use Rattle.vc_types.specs.Quantisation.{quant_factor}
+use Rattle.vc_types.proofs.Tables.{holds_below, holds_at}
 use Rattle.vc_quant.specs.Reciprocal.{IsReciprocal}
 use Rattle.vc_quant.specs.declared.factors.TheConstants.{FACTORS}
 use Rattle.vc_quant.specs.declared.last.TheConstants.{LASTS, RECIPROCALS}
@@ -11,23 +12,24 @@ use Rattle.vc_quant.specs.declared.reciprocal.TheConstants.{FACTOR_RECIPROCALS}
 
 -- ---- a quotient
 
-module _ (size divisor reciprocal product : ℕ) (some : 0 < divisor) (small : size < 2 ^ 32) (is : IsReciprocal divisor reciprocal) (product_is : product ≡ size * reciprocal / 2 ^ 32) where
+module _ (base size divisor reciprocal product : ℕ) (some : 0 < divisor) (small : size < base) (low : reciprocal * divisor ≤ base) (high : base ≤ (reciprocal + 1) * divisor) (product_is : product ≡ size * reciprocal / base) where
   -- it is not too large
   pub not_over : product * divisor ≤ size
   not_over =
-      let below : product * 2 ^ 32 ≤ size * reciprocal = omega (arith, product_is, div-mul-le_self (size * reciprocal) (2 ^ 32)) in
+      let below : product * base ≤ size * reciprocal = rw product_is (div-mul-le_self (size * reciprocal) base) in
       let times = mul-le-mul_right divisor below in
-      let more = mul-le-mul_left size is.0 in
-      omega (arith, times, more)
+      let more = mul-le-mul_left size low in
+      let whole : product * divisor * base ≤ size * base = omega (arith, times, more) in
+      le_of_mul-le-mul_right whole (omega (arith, small))
 
   -- and one too small at most
   nearly : size < (product + 2) * divisor
   nearly =
-      let next : size * reciprocal < product * 2 ^ 32 + 2 ^ 32 = omega (arith, product_is, lt-div-mul-add {a = size * reciprocal} {b = 2 ^ 32} (omega arith)) in
-      let sum : size * reciprocal + size + 1 ≤ (product + 2) * 2 ^ 32 = omega (arith, next) in
+      let next : size * reciprocal < product * base + base = rw product_is (lt-div-mul-add {a = size * reciprocal} (omega arith)) in
+      let sum : size * reciprocal + size + 1 ≤ (product + 2) * base = omega (arith, next, small) in
       let times = mul-le-mul_right divisor sum in
-      let more = mul-le-mul_left size is.1 in
-      omega (arith, times, more, some)
+      let more = mul-le-mul_left size high in
+      lt_of_mul-lt-mul_right base (omega (arith, times, more, some))
 
   pub one_more : divisor ≤ size - product * divisor → product + 1 ≡ size / divisor
   one_more h = sym (div-eq_of_lt-le {k = product + 1} divisor (omega (arith, h, not_over, some)) (omega (arith, nearly)))
@@ -40,19 +42,6 @@ pub not_larger : (magnitude factor : ℕ) → 4 ≤ factor → 4 * magnitude / f
 not_larger magnitude factor large = omega (arith, div-mul-le_self (4 * magnitude) factor, mul-le-mul_left (4 * magnitude / factor) large)
 
 -- ---- tables
-
-abbrev holds_below : (ℕ → Bool) → ℕ → Bool
-holds_below test zero = true
-holds_below test (suc n) = test n && holds_below test n
-
-at : (test : ℕ → Bool) (n k : ℕ) → holds_below test n ≡ true → k < n → test k ≡ true
-at test zero k all lt = absurd (omega arith)
-at test (suc n) k all lt =
-    let both = and_parts (test n) (holds_below test n) all in
-    elim (cases_lt k n) [
-      | inl less ↦ at test n k both.1 less
-      | inr le ↦ let same : n ≡ k = omega arith in subst (λ (m : ℕ). test m ≡ true) same both.0
-    ]
 
 all_factors : holds_below (λ q. eqb (get_or FACTORS q 0) (quant_factor q)) 128 ≡ true
 unfolding quant_factor
@@ -72,7 +61,7 @@ all_reciprocals = refl
 pub reciprocal_at : (k : ℕ) → 1 ≤ k → k ≤ 60 → IsReciprocal (2 ^ k - 1) (get_or RECIPROCALS k 0)
 reciprocal_at k some few =
     let same : k - 1 + 1 ≡ k = omega arith in
-    let both = and_parts _ _ (at (λ k. leb (get_or RECIPROCALS (k + 1) 0 * (2 ^ (k + 1) - 1)) (2 ^ 32) && leb (2 ^ 32) ((get_or RECIPROCALS (k + 1) 0 + 1) * (2 ^ (k + 1) - 1))) 60 (k - 1) all_reciprocals (omega arith)) in
+    let both = and_parts _ _ (holds_at (λ k. leb (get_or RECIPROCALS (k + 1) 0 * (2 ^ (k + 1) - 1)) (2 ^ 32) && leb (2 ^ 32) ((get_or RECIPROCALS (k + 1) 0 + 1) * (2 ^ (k + 1) - 1))) 60 (k - 1) all_reciprocals (omega arith)) in
     subst (λ (n : ℕ). IsReciprocal (2 ^ n - 1) (get_or RECIPROCALS n 0)) same (leb-true _ _ both.0, leb-true _ _ both.1)
 
 all_factor_reciprocals : holds_below (λ q. leb (get_or FACTOR_RECIPROCALS q 0 * quant_factor q) (2 ^ 32) && leb (2 ^ 32) ((get_or FACTOR_RECIPROCALS q 0 + 1) * quant_factor q)) 128 ≡ true
@@ -81,7 +70,7 @@ all_factor_reciprocals = refl
 
 pub factor_reciprocal_at : (q : ℕ) → q < 128 → IsReciprocal (quant_factor q) (get_or FACTOR_RECIPROCALS q 0)
 factor_reciprocal_at q small =
-    let both = and_parts _ _ (at (λ q. leb (get_or FACTOR_RECIPROCALS q 0 * quant_factor q) (2 ^ 32) && leb (2 ^ 32) ((get_or FACTOR_RECIPROCALS q 0 + 1) * quant_factor q)) 128 q all_factor_reciprocals small) in
+    let both = and_parts _ _ (holds_at (λ q. leb (get_or FACTOR_RECIPROCALS q 0 * quant_factor q) (2 ^ 32) && leb (2 ^ 32) ((get_or FACTOR_RECIPROCALS q 0 + 1) * quant_factor q)) 128 q all_factor_reciprocals small) in
     (leb-true _ _ both.0, leb-true _ _ both.1)
 
 -- ---- factors rise with the index
@@ -90,7 +79,7 @@ rises_by : (n q : ℕ) → q + n ≤ 127 → quant_factor q ≤ quant_factor (q 
 rises_by zero q within = let same : q + 0 ≡ q = omega arith in rw same (omega arith)
 rises_by (suc n) q within =
     let next : q + n + 1 ≡ q + suc n = omega arith in
-    let step = leb-true _ _ (at (λ q. leb (quant_factor q) (quant_factor (q + 1))) 127 (q + n) all_rise (omega arith)) in
+    let step = leb-true _ _ (holds_at (λ q. leb (quant_factor q) (quant_factor (q + 1))) 127 (q + n) all_rise (omega arith)) in
     let last : quant_factor (q + n) ≤ quant_factor (q + suc n) = subst (λ (k : ℕ). quant_factor (q + n) ≤ quant_factor k) next step in
     omega (arith, rises_by n q (omega arith), last)
 
@@ -143,7 +132,7 @@ last_from quarters last test =
 pub last_at : (quarters : ℕ) → 4 ≤ quarters → quarters < 512 → IsLast quarters (get_or LASTS quarters 0)
 last_at quarters some few =
     let same : quarters - 4 + 4 ≡ quarters = omega arith in
-    subst (λ (n : ℕ). IsLast n (get_or LASTS n 0)) same (last_from (quarters - 4 + 4) (get_or LASTS (quarters - 4 + 4) 0) (at (λ k. is_last (k + 4) (get_or LASTS (k + 4) 0)) 508 (quarters - 4) all_lasts (omega arith)))
+    subst (λ (n : ℕ). IsLast n (get_or LASTS n 0)) same (last_from (quarters - 4 + 4) (get_or LASTS (quarters - 4 + 4) 0) (holds_at (λ k. is_last (k + 4) (get_or LASTS (k + 4) 0)) 508 (quarters - 4) all_lasts (omega arith)))
 
 -- ---- the last index, four at a time
 
@@ -155,7 +144,7 @@ pub all_reached : (quarters : ℕ) → 2 ^ 34 ≤ quarters → (q : ℕ) → q �
 all_reached quarters many = last_is 127 quarters (omega arith) (omega (arith, greatest_factor)) (λ lt. absurd (omega arith))
 
 pub factor_at : (q : ℕ) → q < 128 → get_or FACTORS q 0 ≡ quant_factor q
-factor_at q small = eqb-true _ _ (at (λ q. eqb (get_or FACTORS q 0) (quant_factor q)) 128 q all_factors small)
+factor_at q small = eqb-true _ _ (holds_at (λ q. eqb (get_or FACTORS q 0) (quant_factor q)) 128 q all_factors small)
 
 -- the power of two that is at most so many quarters
 pub some_power : (power quarters : ℕ) → quarters < 2 * 2 ^ power → 4 ≤ quarters → 2 ≤ power
@@ -171,7 +160,7 @@ few_powers power quarters below few =
     ]
 
 power_at : (n : ℕ) → n < 32 → quant_factor (4 * n) ≡ 2 ^ (n + 2)
-power_at n small = eqb-true _ _ (at (λ n. eqb (quant_factor (4 * n)) (2 ^ (n + 2))) 32 n all_powers small)
+power_at n small = eqb-true _ _ (holds_at (λ n. eqb (quant_factor (4 * n)) (2 ^ (n + 2))) 32 n all_powers small)
 
 pub first_reached : (power quarters : ℕ) → 2 ≤ power → power < 34 → 2 ^ power ≤ quarters → quant_factor (4 * (power - 2)) ≤ quarters
 first_reached power quarters some few below =

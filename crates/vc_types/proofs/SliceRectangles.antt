@@ -3,7 +3,7 @@ use Rattle.std.proofs.Common.{◌≡◌, ℕ, suc, ◌+◌, ◌-◌, ◌<◌, �
 use Rattle.std.specs.Prelude.{nat_lt}
 use Rattle.std.specs.List.{sum_by}
 use Rattle.std.proofs.lemmas.Bool.{cond-true, cond-false, lt-ltb, le-ltb}
-use Rattle.std.proofs.lemmas.List.{get_or-map, length-map, take_all, drop_all}
+use Rattle.std.proofs.lemmas.List.{get_or-map, length-map, take_all}
 use Rattle.std.proofs.lemmas.List.Sums.{sum_by-take-drop, sum_by-cons}
 use Rattle.std.proofs.Math.Seq.{drop-cons}
 use Rattle.vc_types.specs.declared.rect.Rect.{Rect}
@@ -99,8 +99,3 @@ module _ (p : Parameters) (c : Component) (slice : ℕ) where
           place = sym (place_among-rest here (drop (b + 1) (slice_rectangles p c slice)) left past) ∙ ap (λ rs. place_among rs left) (sym (slice_rectangles-from b h)) ∙ at.place;
           below = omega (arith, more, at.below);
         }
-
-  pub IsLeft-none : (i b left : ℕ) → IsLeft i b left → b ≡ subband_count p.depth_ho p.depth → ⊥
-  IsLeft-none i b left at e =
-      let none = ap (sum_by area) (drop_all b (slice_rectangles p c slice) (let count = length-slice_rectangles in omega (arith, count))) in
-      omega (arith, none, at.below)

@@ -3,7 +3,8 @@ use mir.Val.{SFits}
 use Rattle.std.specs.Int.{is_negative}
 use Rattle.std.proofs.lemmas.Int.{to_z-of_z}
 use Rattle.std.proofs.lemmas.Result.{on_ok_weaker, on_err_weaker}
-use Rattle.vc_golomb.proofs.WrittenCodes.{no_sign, signed, front_unsigned, front_whole, on_err}
+use Rattle.vc_types.proofs.Failures.{on_err}
+use Rattle.vc_golomb.proofs.WrittenCodes.{no_sign, signed, front_unsigned, front_whole}
 use Rattle.vc_golomb.proofs.write.write_long.Goals as goal
 
 pub returns-in_err-write_uint-clause-front : goal.returns-in_err-write_uint-clause-front

@@ -1,7 +1,8 @@
 use Rattle.std.proofs.Common.{◌≡◌, ◌+◌, ◌-◌, ◌/◌, ◌^◌, ◌<◌, ◌++◌, refl, ap, ◌∙◌, arith, Bool, false, List, [], ◌∷◌}
 use Rattle.std.proofs.lemmas.Result.{on_ok_weaker, on_err_weaker}
 use Rattle.vc_types.specs.Codes.{spread_digits}
-use Rattle.vc_golomb.proofs.WrittenCodes.{first, some_above, none_yet, front_at, front_within, pair_more, whole_code, on_err}
+use Rattle.vc_types.proofs.Failures.{on_err}
+use Rattle.vc_golomb.proofs.WrittenCodes.{first, some_above, none_yet, front_at, front_within, pair_more, whole_code}
 use Rattle.vc_golomb.proofs.write.write_uint.Goals as goal
 
 pub digits-init : goal.digits-init
