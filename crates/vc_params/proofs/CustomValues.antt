@@ -41,18 +41,6 @@ pub record HoldsValues (count place : ℕ) (matrix : List ℕ) (left all : List 
   pub small : IsTrue (matrix_fits (take place matrix))
   pub long : length matrix ≡ 16
 
-nothing_before : (read : Read) → behind [] read ≡ read
-nothing_before (Ok read) = refl
-nothing_before (Err refusal) = refl
-
-pub none_held : (count : ℕ) (all : List Bool) → HoldsValues count 0 (replicate 16 0) all all
-none_held count all = record {
-  same = ap (λ (n : ℕ). behind [] (matrix_values n all)) (omega arith) ∙ nothing_before (matrix_values count all);
-  zeros = refl;
-  small = refl;
-  long = refl;
-}
-
 pub one_more_held : (count place : ℕ) (matrix : List ℕ) (left all : List Bool) (v : ℕ) (rest : List Bool) → HoldsValues count place matrix left all → place < count → count ≤ 16 → v ≤ 127 → matrix_value left ≡ Ok (v, rest) → HoldsValues count (place + 1) (set matrix place v) rest all
 one_more_held count place matrix left all v rest held more few small h =
     let len = held.long in

@@ -6,7 +6,6 @@ pub mod Dequantising
 pub mod EncodedSlices
 pub mod PaddedBlocks
 pub mod FallSums
-pub mod SameJobs
 pub mod NarrowRuns
 pub mod ColourParts
 pub mod WideSlices

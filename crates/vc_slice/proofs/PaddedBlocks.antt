@@ -2,7 +2,6 @@
 use Rattle.std.proofs.Common.{◌≡◌, ℕ, zero, suc, ◌+◌, ◌-◌, ◌*◌, ◌/◌, ◌<◌, ◌≤◌, Bool, true, false, List, [], ◌∷◌, ◌++◌, length, replicate, take, refl, sym, ap, ◌∙◌, arith, append_assoc, append-nil, length-append}
 use Rattle.std.specs.Prelude.{◌||◌, nat_lt}
 use Rattle.std.proofs.Math.Nat.{lt-div-mul-add}
-use Rattle.std.proofs.lemmas.Bool.Decides.{nat_tests}
 use Rattle.std.proofs.lemmas.List.{length-replicate, replicate-append-replicate, take_all}
 use Rattle.vc_types.specs.declared.video.Component.TheVariants.{Y, C1, C2}
 use Rattle.vc_types.specs.Bits.{byte_bits, bits_of}
@@ -116,9 +115,6 @@ module _ (p : Parameters) (slice index : ℕ) (s : Coefficients) (y c1 c2 : List
 
   pub length_up_slice : 0 < p.scaler → (bytes : List ℕ) → bits_of bytes ≡ encoded_slice p slice index s → length bytes ≡ encoded_length p slice index s
   length_up_slice some bytes is = omega (arith, length-bits_of bytes, ap length is, length_slice p slice index s some)
-
-pub each_fits : (a b c : ℕ) → (nat_lt 255 a || nat_lt 255 b || nat_lt 255 c) ≡ false → (a ≤ 255) × (b ≤ 255) × (c ≤ 255)
-each_fits a b c h = (grind (arith, nat_tests), grind (arith, nat_tests), grind (arith, nat_tests))
 
 -- the head of a slice
 pub headed : (prefix q : ℕ) (first new : List ℕ) → first ≡ replicate prefix 0 → new ≡ first ++ q ∷ [] → new ≡ replicate prefix 0 ++ q ∷ []
