@@ -1,17 +1,17 @@
 -- The rows of a subband's part, once rows are taken in turn: each cell of a row of it stands in one row.
-use Rattle.std.proofs.Common.{◌≡◌, ◌≢◌, ℕ, zero, suc, ◌+◌, ◌-◌, ◌*◌, ◌/◌, ◌%◌, ◌^◌, ◌<◌, ◌≤◌, ◌⊎◌, inl, inr, arith, ap, sym, subst, refl, ◌∙◌, min}
+use Rattle.std.proofs.Common.{◌≡◌, ℕ, zero, suc, ◌+◌, ◌-◌, ◌*◌, ◌/◌, ◌%◌, ◌^◌, ◌<◌, ◌≤◌, ◌⊎◌, inl, inr, arith, ap, sym, subst, ◌∙◌, min}
 use Rattle.std.proofs.lemmas.Bool.{cases_lt, cases_eq}
-use Rattle.std.proofs.Math.Nat.{div-mul-le_self, div-le_of_le-mul, mul-div_cancel, mul-le-mul_left, mul-le-mul_right, pow-suc}
+use Rattle.std.proofs.Math.Nat.{div-le_of_le-mul, mul-div_cancel, mul-le-mul_left}
 use Rattle.std.proofs.Math.Pow.{pow_pos}
 use Rattle.std.proofs.lemmas.Nat.{pow-add}
 use Rattle.vc_types.specs.declared.rect.Rect.{Rect}
 use Rattle.vc_types.specs.declared.video.Component.{Component}
 use Rattle.vc_types.specs.Quantisation.{subband_count}
-use Rattle.vc_types.specs.Subbands.{Orientation, LL, H, HL, LH, HH, Subband, subband_at, subband_rectangle, nested, level_side, levels, share, share_start, slice_rectangle, slice_column, slice_row, slice_count, plane_width, plane_height, padded_width, padded_height}
+use Rattle.vc_types.specs.Subbands.{Orientation, LL, HL, LH, HH, Subband, subband_at, subband_rectangle, nested, level_side, levels, share, share_start, slice_rectangle, slice_column, slice_row, plane_width, plane_height, padded_width, padded_height}
 use Rattle.vc_types.specs.TransformParameters.{Parameters}
 use Rattle.vc_types.specs.Transforms.{lowest_width, lowest_height}
 use Rattle.vc_types.proofs.SubbandOrder.{level_of, orientation_of, subband_at-level, subband_at-orientation, orientation-LL, orientation-HL, orientation-LH, orientation-HH}
-use Rattle.std.proofs.lemmas.Nat.{mod_below, div_below}
+use Rattle.std.proofs.lemmas.Nat.{mod_below}
 use Rattle.vc_wave.specs.Layout.{row_in_turn, turned_row}
 use Rattle.vc_wave.proofs.Grids.{padded_whole}
 use Rattle.vc_wave.proofs.LayoutLaws.{turned, turned_in, turned_right, turned_below, row_step, row_end}

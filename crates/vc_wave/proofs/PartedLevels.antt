@@ -1,7 +1,6 @@
 -- Levels that are taken apart in 32 bits: what each makes, how far it reaches, and the bounds that it carries on.
 use Rattle.std.proofs.Common.{◌≡◌, ℕ, suc, ◌+◌, ◌-◌, ◌*◌, ◌/◌, ◌%◌, ◌^◌, ◌<◌, ◌≤◌, ◌⊎◌, inl, inr, List, length, ℤ, pos, ◌-ℤ◌, unsigned_abs, All, arith, ap, sym, refl, ◌∙◌, true, Option, Some, None, min}
-use mathlib.Core.Path.{fun_ext}
-use Rattle.std.specs.Option.{option_and_then, is_some}
+use Rattle.std.specs.Option.{is_some}
 use Rattle.std.proofs.lemmas.Bool.{cases_lt, false≢true}
 use Rattle.std.proofs.lemmas.Int.{ints}
 use Rattle.std.proofs.lemmas.List.{get_or_past}
@@ -24,7 +23,7 @@ use Rattle.vc_wave.specs.ForwardBounds.{parted_rows_bound, parted_level_bound}
 use Rattle.vc_wave.specs.Layout.{laid_out, row_in_turn, nested_in}
 use Rattle.vc_wave.specs.NarrowBounds.{bound_over}
 use Rattle.vc_wave.specs.Planes.{HasRoom, plane_of}
-use Rattle.vc_wave.specs.Remade.{remade, parted, halves_together, halves_apart, parted_in_turn}
+use Rattle.vc_wave.specs.Remade.{remade, halves_together, halves_apart, parted_in_turn}
 use Rattle.vc_wave.proofs.Fills.{samples_below, first_agrees}
 use Rattle.vc_wave.proofs.Grids.{lattice}
 use Rattle.vc_wave.proofs.TransformLaws.{no_levels, same_side}

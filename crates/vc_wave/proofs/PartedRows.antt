@@ -1,5 +1,5 @@
 -- Rows that are doubled and taken apart in place.
-use Rattle.std.proofs.Common.{◌≡◌, ◌≢◌, ℕ, ◌+◌, ◌-◌, ◌*◌, ◌/◌, ◌%◌, ◌^◌, ◌<◌, ◌≤◌, ◌⊎◌, inl, inr, List, length, set, ℤ, pos, ◌*ℤ◌, unsigned_abs, arith, ap, sym, subst, ◌∙◌, Bool, true, false, Some, None}
+use Rattle.std.proofs.Common.{◌≡◌, ◌≢◌, ℕ, ◌+◌, ◌-◌, ◌*◌, ◌/◌, ◌%◌, ◌^◌, ◌<◌, ◌≤◌, ◌⊎◌, inl, inr, List, length, set, ℤ, pos, unsigned_abs, arith, ap, sym, subst, ◌∙◌, Bool, true, false, Some, None}
 use Rattle.std.specs.Prelude.{if◌then◌else◌, nat_lt}
 use Rattle.std.proofs.lemmas.Bool.{cases_lt, cases_eq}
 use Rattle.std.proofs.lemmas.Bool.Decides.{nat_tests}
@@ -17,7 +17,7 @@ use Rattle.vc_wave.specs.declared.pass.Direction.TheVariants.{Analysis}
 use Rattle.vc_wave.specs.ForwardBounds.{doubled_bound, parted_rows_bound}
 use Rattle.vc_wave.specs.Lines.{IsMade, IsApart, line_at}
 use Rattle.vc_wave.specs.NarrowBounds.{RowHasBound}
-use Rattle.vc_wave.specs.Remade.{remade, parted, on_samples}
+use Rattle.vc_wave.specs.Remade.{remade, on_samples}
 use Rattle.vc_wave.proofs.Copies.{on_samples_in}
 use Rattle.vc_wave.proofs.NarrowRows.{room_of, row_halves, row_lines, row_place, row_at}
 use Rattle.vc_wave.proofs.PlaneLines.{rearranged_in, row_in, row_out}

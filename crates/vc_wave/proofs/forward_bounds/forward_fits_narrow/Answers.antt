@@ -1,4 +1,4 @@
-use Rattle.std.proofs.Common.{ℕ, ◌-◌, ◌^◌, ap, ◌∙◌}
+use Rattle.std.proofs.Common.{◌-◌, ◌^◌, ap, ◌∙◌}
 use Rattle.std.specs.Option.{is_some}
 use Rattle.vc_wave.specs.ForwardBounds.{parted_level_bound}
 use Rattle.vc_wave.specs.NarrowBounds.{bound_over}

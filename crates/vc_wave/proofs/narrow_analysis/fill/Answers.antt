@@ -1,4 +1,4 @@
-use Rattle.std.proofs.Common.{◌+◌, ◌-◌, ◌*◌, ◌≤◌, length, min, pos, ◌-ℤ◌, arith, ap, ◌∙◌}
+use Rattle.std.proofs.Common.{◌-◌, min, pos, ◌-ℤ◌, arith, ap, ◌∙◌}
 use Rattle.vc_types.specs.Rasters.{sample_at}
 use Rattle.vc_wave.specs.Samples.{padded_sample}
 use Rattle.vc_wave.proofs.Copies.{gathered_more}

@@ -1,5 +1,5 @@
 use Rattle.std.proofs.Common.{◌≡◌, true, ◌-◌, ◌*◌, ◌^◌, ◌<◌, All, length, refl, arith, ap, sym, subst}
-use Rattle.vc_types.specs.Subbands.{padded_width, padded_height, plane_depth}
+use Rattle.vc_types.specs.Subbands.{padded_width, padded_height}
 use Rattle.vc_types.specs.TransformParameters.{parameters_of}
 use Rattle.std.specs.Option.{is_some}
 use Rattle.vc_wave.specs.ForwardBounds.{parted_level_bound}

@@ -1,8 +1,8 @@
-use Rattle.std.proofs.Common.{length, Bool, sym, subst, ◌∙◌}
+use Rattle.std.proofs.Common.{Bool, sym, subst, ◌∙◌}
 use Rattle.vc_wave.specs.declared.pass.Direction.TheVariants.{Analysis}
 use Rattle.vc_wave.specs.Lines.{IsMade}
 use Rattle.vc_wave.specs.Remade.{remade}
-use Rattle.vc_wave.proofs.NarrowRows.{row_lines, row_apart}
+use Rattle.vc_wave.proofs.NarrowRows.{row_lines}
 use Rattle.vc_wave.proofs.PartedRows.{row_narrow, row_room, row_parted}
 use Rattle.vc_wave.proofs.narrow_analysis.part_row.Goals as goal
 
