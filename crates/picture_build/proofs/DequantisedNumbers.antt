@@ -16,7 +16,7 @@ use Rattle.vc_quant.proofs.Magnitudes.{narrow_coefficient}
 use Rattle.vc_slice.specs.Numbers.{AreBlockNumbers}
 use Rattle.vc_slice.proofs.NarrowRuns.{index_in, coefficient_of, none_large, length-block}
 use Rattle.picture_build.specs.Kept.{kept_at, ChangesOnly, FillsSlice}
-use Rattle.picture_build.proofs.RectangleWalk.{rectangle}
+use Rattle.vc_types.proofs.RectangleWalk.{rectangle}
 
 module _ (p : Parameters) (c : Component) (slice index : ℕ) (numbers : List ℤ) where
   -- coefficient i

@@ -1,6 +1,5 @@
 pub mod Samples
 pub mod FilledRows
-pub mod PlacedSlices
 pub mod WholeSlices
 pub mod RasterLists
 pub mod PlaneSizes
@@ -10,7 +9,6 @@ pub mod BuiltPlanes
 pub mod WholePictures
 pub mod Placements
 pub mod Standing
-pub mod RectangleWalk
 pub mod BoundedLists
 pub mod TwoParts
 pub mod PlacedNumbers

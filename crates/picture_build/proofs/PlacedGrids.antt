@@ -10,7 +10,7 @@ use Rattle.vc_types.specs.Lifting.{line_of}
 use Rattle.vc_types.specs.Pictures.{component_cells}
 use Rattle.vc_types.specs.Rasters.{Lattice, cell_at}
 use Rattle.vc_types.specs.Slices.{Coefficients, coefficients_of}
-use Rattle.vc_types.specs.Subbands.{slice_count, slice_coefficient_count, padded_width, padded_height, IsMetOnce}
+use Rattle.vc_types.specs.Subbands.{slice_count, slice_coefficient_count, coefficient_place, padded_width, padded_height, IsMetOnce}
 use Rattle.vc_types.specs.TransformParameters.{Parameters}
 use Rattle.vc_types.proofs.PlacesMet.{met_once}
 use Rattle.vc_wave.proofs.Grids.{cell_in}
@@ -18,12 +18,12 @@ use Rattle.picture_build.proofs.Standing.{component_cells-met, component_cells-o
 use Rattle.picture_build.specs.Cells.{cell_number}
 use Rattle.picture_build.specs.PictureCoefficients.{ArePictureCoefficients}
 use Rattle.picture_build.proofs.GridCells.{cell_out}
-use Rattle.picture_build.proofs.PlacedSlices.{SlicesStand}
 use Rattle.picture_build.proofs.WholeSlices.{coefficient-small}
 
 module _ (p : Parameters) (c : Component) (slices : List Coefficients) (stride : ℕ) (cells : List ℤ)
     (some_across : 0 < p.slices_x) (some_down : 0 < p.slices_y) (wide : stride ≡ padded_width p c)
-    (all : length slices ≡ slice_count p) (whole : ArePictureCoefficients p slices) (stand : SlicesStand p c stride slices (length slices) cells) where
+    (all : length slices ≡ slice_count p) (whole : ArePictureCoefficients p slices)
+    (stand : (n i : ℕ) (none : Coefficients) → n < length slices → i < slice_coefficient_count p c n → line_of cells (cell_number stride (coefficient_place p c n i)) ≡ line_of (coefficients_of (slice_index_or slices n none) c) i) where
   no_coefficients : Coefficients
   no_coefficients = record { y = []; c1 = []; c2 = [] }
 

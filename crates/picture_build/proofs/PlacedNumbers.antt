@@ -10,7 +10,7 @@ use Rattle.vc_types.specs.Subbands.{area, place_in, slice_count, slice_coefficie
 use Rattle.vc_types.specs.TransformParameters.{Parameters}
 use Rattle.picture_build.proofs.Placements.{place-inside, places-apart}
 use Rattle.vc_types.proofs.RectangleCells.{same_place}
-use Rattle.picture_build.proofs.RectangleWalk.{rectangle, walked, walked-below}
+use Rattle.vc_types.proofs.RectangleWalk.{rectangle, walked, walked-below}
 use Rattle.vc_types.proofs.SliceRectangles.{coefficients_before, coefficients_before-more, coefficients_before-all}
 use Rattle.picture_build.specs.Cells.{cell_number}
 use Rattle.picture_build.specs.Kept.{kept_at}

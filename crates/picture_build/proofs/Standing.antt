@@ -88,16 +88,11 @@ module _ (p : Parameters) (c : Component) (some_across : 0 < p.slices_x) (some_d
         ∙ standing-none slices (m + 1) (omega arith) (later m s slices whole) outside
 
   module _ (slices : List Coefficients) (all : length slices ≤ slice_count p) (whole : AreWhole 0 slices) where
-    -- a coefficient stands at its own place
-    pub component_cells-at : (n i x y : ℕ) → n < length slices → i < slice_coefficient_count p c n → coefficient_place p c n i ≡ (x, y)
-        → component_cells p c slices x y ≡ get_or (coefficients_of (get_or slices n none) c) i (pos 0)
-    unfolding all_placed component_cells
-    component_cells-at n i x y h below at = standing-from x y slices 0 n n i (omega arith) whole h (omega arith) below at
-
     pub component_cells-outside : (x y : ℕ) → (nat_lt x (padded_width p c) && nat_lt y (padded_height p c)) ≡ false → component_cells p c slices x y ≡ pos 0
     unfolding all_placed component_cells
     component_cells-outside x y outside = standing-none x y slices 0 (omega arith) whole outside
 
     -- so every cell of the padded grid has the coefficient that meets it
     pub component_cells-met : (x y : ℕ) (met : IsMetOnce p c x y) → met.slice < length slices → component_cells p c slices x y ≡ get_or (coefficients_of (get_or slices met.slice none) c) met.number (pos 0)
-    component_cells-met x y met h = component_cells-at met.slice met.number x y h met.number_below met.place
+    unfolding all_placed component_cells
+    component_cells-met x y met h = standing-from x y slices 0 met.slice met.slice met.number (omega arith) whole h (omega arith) met.number_below met.place

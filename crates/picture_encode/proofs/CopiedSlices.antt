@@ -18,7 +18,7 @@ use Rattle.vc_types.proofs.SliceRectangles.{coefficients_before, coefficients_be
 use Rattle.vc_wave.specs.Planes.{plane_of}
 use Rattle.vc_wave.proofs.PlaneSteps.{plane_in}
 use Rattle.picture_encode.specs.Rows.{band_row, level_below}
-use Rattle.picture_encode.proofs.WalkedSlices.{walked}
+use Rattle.vc_types.proofs.RectangleWalk.{walked}
 
 -- ---- a rectangle, row by row
 

@@ -68,9 +68,6 @@ module _ (s : Sending) (planes : Planes) where
   more_is_large n index zs h large = behind zs ((n, index) ∷ []) h ∙ one_is_large (n, index) [] large
 
 module _ (choice : Chooses) (wanted : Bool) (s : Sending) (planes : Planes) where
-  none_answers : AreFirstAnswers choice wanted s planes 0 []
-  none_answers = tt
-
   pub no_slices : (slices : List EncodedSlice) → slices ≡ [] → AreFirstSlices choice wanted s planes 0 slices
   no_slices slices none = subst (λ (l : List EncodedSlice). AreFirstSlices choice wanted s planes 0 l) (sym none) (record {
     answers = tt;

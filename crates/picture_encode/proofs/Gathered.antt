@@ -59,9 +59,6 @@ inside a b m n h k = grind (arith, nat_tests)
 
 -- one row of a rectangle
 module _ (g : Lattice) (r : Rect) (whole : length g.cells ≡ g.width * g.height) (across : r.x + r.width ≤ g.width) (down : r.y + r.height ≤ g.height) where
-  place_of_row : ℕ → ℕ
-  place_of_row row = (r.y + row) * g.width + r.x
-
   pub row_within : (row : ℕ) → row < r.height → (r.y + row) * g.width + r.x + r.width ≤ length g.cells
   row_within row h = let e = row_end (r.y + row) g.height g.width (omega arith) in omega (arith, e, whole)
 

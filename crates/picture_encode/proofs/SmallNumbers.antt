@@ -26,9 +26,6 @@ use Rattle.vc_types.specs.Slices.{is_large}
 use Rattle.vc_types.specs.Subbands.{slice_count, slice_rectangles, slice_coefficient_count, coefficient_place, padded_width, padded_height}
 use Rattle.vc_types.specs.TransformParameters.{Parameters}
 
-Small : ℤ → Type 0
-Small z = unsigned_abs z < 2 ^ 60
-
 not_large : (z : ℤ) → unsigned_abs z < 2 ^ 60 → is_large z ≡ false
 not_large z h = grind (arith, nat_tests)
 
