@@ -1,9 +1,9 @@
 -- The number of some bits, from the bytes that hold them.
-use Rattle.std.proofs.Common.{◌≡◌, ℕ, ◌+◌, ◌-◌, ◌*◌, ◌/◌, ◌%◌, ◌^◌, ◌<◌, ◌≤◌, Bool, List, [], ◌∷◌, ◌++◌, length, get_or, take, drop, sym, ap, ◌∙◌, arith, add-one}
+use Rattle.std.proofs.Common.{◌≡◌, ℕ, ◌+◌, ◌-◌, ◌*◌, ◌/◌, ◌%◌, ◌^◌, ◌<◌, ◌≤◌, Bool, List, [], length, get_or, take, drop, sym, ap, ◌∙◌, arith, add-one}
 use Rattle.std.proofs.Math.Seq.{take-suc}
 use Rattle.std.proofs.lemmas.Nat.{one_shl, pow-add}
 use Rattle.std.proofs.lemmas.List.{drop-take, take-take, length-take-le}
-use Rattle.vc_types.specs.Bits.{byte_bits, bits_of, number_of}
+use Rattle.vc_types.specs.Bits.{bits_of, number_of}
 use Rattle.vc_types.proofs.Bits.{bits_of-nil, bits_of-push, length-byte_bits, length-bits_of, take-bits_of}
 use Rattle.vc_types.proofs.Digits.{number_of-append, number_of-byte, number_of-middle}
 
@@ -14,10 +14,7 @@ number_none = ap number_of (sym bits_of-nil)
 -- one more byte
 pub number_more : (bytes : List ℕ) (place : ℕ) → place < length bytes → get_or bytes place 0 < 256 → number_of (bits_of (take place bytes)) * 256 + get_or bytes place 0 ≡ number_of (bits_of (take (place + 1) bytes))
 number_more bytes place within small =
-    let byte = get_or bytes place 0 in
-    let next : take (place + 1) bytes ≡ take place bytes ++ byte ∷ [] = rw add-one (take-suc bytes place 0 within) in
-    sym (ap (λ (front : List ℕ). number_of (bits_of front)) next ∙ ap number_of (bits_of-push (take place bytes) byte) ∙ number_of-append (bits_of (take place bytes)) (byte_bits byte)
-    ∙ ap (λ (n : ℕ). number_of (bits_of (take place bytes)) * 2 ^ n + number_of (byte_bits byte)) (length-byte_bits byte) ∙ ap (λ (n : ℕ). number_of (bits_of (take place bytes)) * 256 + n) (number_of-byte byte small))
+    grind (arith, add-one, take-suc {A = ℕ}, bits_of-push, number_of-append, length-byte_bits, number_of-byte)
 
 pub fits_more : (number byte place : ℕ) → number < 2 ^ (8 * place) → byte < 256 → number * 256 + byte < 2 ^ (8 * (place + 1))
 fits_more number byte place fits small =

@@ -1,5 +1,5 @@
 -- The next eight bits, from the two bytes that hold them.
-use Rattle.std.proofs.Common.{◌≡◌, ℕ, ◌+◌, ◌-◌, ◌*◌, ◌/◌, ◌%◌, ◌^◌, ◌<◌, ◌≤◌, Bool, true, eqb, List, [], ◌∷◌, ◌++◌, length, get_or, drop, refl, sym, ap, ◌∙◌, arith, inl, inr, leb}
+use Rattle.std.proofs.Common.{◌≡◌, ℕ, ◌+◌, ◌-◌, ◌*◌, ◌/◌, ◌%◌, ◌^◌, ◌<◌, ◌≤◌, Bool, true, eqb, List, [], ◌∷◌, ◌++◌, length, get_or, drop, sym, ap, ◌∙◌, arith, inl, inr, leb}
 use Rattle.std.specs.Int.{bit_at}
 use Rattle.std.proofs.lemmas.Bool.{cases_lt, lt-leb, le-leb}
 use Rattle.std.proofs.lemmas.Nat.{pow-add, div-add-mod'}
@@ -41,9 +41,7 @@ pub low_bits_of : (n width place : ℕ) → place < width → bit_at (n % 2 ^ wi
 low_bits_of n width place small = sym (bit_at_cat_low (n / 2 ^ width) width (n % 2 ^ width) place small) ∙ ap (λ (m : ℕ). bit_at m place) (div-add-mod' n (2 ^ width))
 
 pub high_bits_of : (n shift place : ℕ) → bit_at (n / 2 ^ shift) place ≡ bit_at n (place + shift)
-high_bits_of n shift place =
-    let power : 2 ^ shift * 2 ^ place ≡ 2 ^ (place + shift) = mul_comm (2 ^ shift) (2 ^ place) ∙ sym (pow-add 2 place shift) in
-    ap (λ (m : ℕ). m % 2) (div-div-eq-div-mul n (2 ^ shift) (2 ^ place) ∙ ap (λ (m : ℕ). n / m) power)
+high_bits_of n shift place = grind (arith, mul_comm, pow-add, div-div-eq-div-mul)
 
 -- the place in the word of a bit that stands behind the used ones
 bit_of_word : (first second used place : ℕ) → second < 2 ^ 8 → used < 8 → place < 8 → bit_at ((first * 256 + second) / 2 ^ (8 - used) % 256) (7 - place) ≡ bit_at (first * 2 ^ 8 + second) (15 - (used + place))
@@ -63,24 +61,18 @@ bit_of_either bytes place fits small =
 -- the eight bits behind the used ones
 pub peeked : (bytes : List ℕ) (used first second : ℕ) → used < 8 → second < 256 → first ≡ get_or bytes 0 255 → second ≡ get_or bytes 1 255 → BeginsWith (drop used (bits_of bytes)) (byte_bits ((first * 256 + second) / 2 ^ (8 - used) % 256))
 peeked bytes used first second small fits is_first is_second place lt =
-    let within : place < 8 = omega (arith, length-byte_bits ((first * 256 + second) / 2 ^ (8 - used) % 256)) in
-    let fits_too : get_or bytes 1 255 < 2 ^ 8 = omega arith in
-    let here : bounded (bits_of bytes) (used + place) ≡ eqb (bit_at (first * 2 ^ 8 + second) (15 - (used + place))) 1 = rw (is_first, is_second) (bit_of_either bytes (used + place) fits_too (omega arith)) in
-    bounded-drop used place (bits_of bytes) ∙ here ∙ ap (λ (n : ℕ). eqb n 1) (sym (bit_of_word first second used place fits small within)) ∙ sym (bit_of_byte ((first * 256 + second) / 2 ^ (8 - used) % 256) place within)
+    grind (arith, length-byte_bits, bit_of_either, bounded-drop, bit_of_word, bit_of_byte)
 
 -- ---- behind some bits
 
 -- within the bytes
 pub skipped : (bytes : List ℕ) (used bits to : ℕ) → to ≡ used + bits → drop (to % 8) (bits_of (drop (to / 8) bytes)) ≡ drop bits (drop used (bits_of bytes))
-skipped bytes used bits to is =
-    let whole : 8 * (to / 8) + to % 8 ≡ used + bits = omega arith in
-    ap (drop (to % 8)) (sym (drop-bits_of (to / 8) bytes)) ∙ drop-drop (to % 8) (8 * (to / 8)) (bits_of bytes) ∙ ap (λ (n : ℕ). drop n (bits_of bytes)) whole ∙ sym (drop-drop bits used (bits_of bytes))
+skipped bytes used bits to is = grind (arith, drop-bits_of, drop-drop {A = Bool})
 
 -- behind them
 pub skipped_all : (bytes : List ℕ) (used bits to : ℕ) → to ≡ used + bits → length bytes ≤ to / 8 → drop 0 (bits_of (drop (length bytes) bytes)) ≡ drop bits (drop used (bits_of bytes))
 skipped_all bytes used bits to is le =
-    let long : length (bits_of bytes) ≤ used + bits = omega (arith, length-bits_of bytes) in
-    ap bits_of (drop-length bytes) ∙ bits_of-nil ∙ sym (drop-drop bits used (bits_of bytes) ∙ drop_of_length-le (bits_of bytes) long)
+    grind (arith, length-bits_of, drop-length, bits_of-nil, drop-drop, drop_of_length-le)
 
 pub ruleset skips = (skipped, skipped_all)
 
@@ -88,11 +80,7 @@ pub ruleset skips = (skipped, skipped_all)
 
 -- the first bit of a byte is set where its number is at least 128
 top_bit : (byte : ℕ) → byte < 256 → eqb (bit_at byte 7) 1 ≡ leb 128 byte
-top_bit byte small =
-    elim (cases_lt byte 128) [
-      | inl lt ↦ let none : bit_at byte 7 ≡ 0 = omega arith in rw (none, lt-leb 128 byte lt) refl
-      | inr le ↦ let one : bit_at byte 7 ≡ 1 = omega arith in rw (one, le-leb 128 byte le) refl
-    ]
+top_bit byte small = grind (arith, lt-leb, le-leb)
 
 pub first_bit : (bits : List Bool) (byte : ℕ) → byte < 256 → BeginsWith bits (byte_bits byte) → leb 128 byte ≡ bounded bits 0
 first_bit bits byte small begin = sym (begin 0 (omega (arith, length-byte_bits byte)) ∙ bit_of_byte byte 0 (omega arith) ∙ top_bit byte small)

@@ -25,10 +25,7 @@ pub ruleset starts = (starts_empty)
 
 -- bits behind bits
 pub joined_bits : (have word count number : ℕ) → number < 2 ^ count → word_bits (have + count) (word * 2 ^ count + number) ≡ word_bits have word ++ word_bits count number
-joined_bits have word count number small =
-    split have count (word * 2 ^ count + number)
-    ∙ ap (λ (n : ℕ). word_bits have n ++ word_bits count (word * 2 ^ count + number)) (div-mul-add word (2 ^ count) number small)
-    ∙ ap (λ (bits : List Bool). word_bits have word ++ bits) (same_word_bits count (word * 2 ^ count + number) number (λ i lt. bit_at_cat_low word count number i lt))
+joined_bits have word count number small = grind (arith, split, div-mul-add, same_word_bits, bit_at_cat_low)
 
 -- both fit
 pub joined_fits : (have word count number : ℕ) → word < 2 ^ have → number < 2 ^ count → word * 2 ^ count + number < 2 ^ (have + count)
@@ -77,9 +74,7 @@ edge_so_far bytes count word = omega (arith, length_so_far bytes count word)
 
 pub filled_up : (bytes : List ℕ) (count word missing number : ℕ) (bit : Bool) (old new : List Bool) → bits_of bytes ++ word_bits count word ≡ old → missing ≡ (8 - count % 8) % 8
     → word_bits missing number ≡ replicate missing bit → new ≡ old ++ word_bits missing number → new ≡ old ++ replicate (to_edge (length old)) bit
-filled_up bytes count word missing number bit old new view is same wrote =
-    let edge : missing ≡ to_edge (length old) = is ∙ sym (edge_so_far bytes count word) ∙ ap (λ (bits : List Bool). to_edge (length bits)) view in
-    wrote ∙ ap (λ (bits : List Bool). old ++ bits) (same ∙ ap (λ (n : ℕ). replicate n bit) edge)
+filled_up bytes count word missing number bit old new view is same wrote = grind (arith, edge_so_far)
 
 -- zeros behind the bits, up to a whole byte
 pub whole_bytes : (bytes : List ℕ) (count word missing : ℕ) (old : List Bool) → bits_of bytes ++ word_bits count word ≡ old → count < 32 → word < 2 ^ count → missing ≡ (8 - count % 8) % 8
@@ -96,14 +91,10 @@ whole_bytes bytes count word missing old view small fits is =
 -- bits behind what waits
 pub added : (bytes before : List ℕ) (have word count number next filled : ℕ) (old : List Bool) → bits_of before ++ word_bits have word ≡ old → bytes ≡ before
     → filled ≡ have + count → word_bits (have + count) next ≡ word_bits have word ++ word_bits count number → bits_of bytes ++ word_bits filled next ≡ old ++ word_bits count number
-added bytes before have word count number next filled old view same sum joined =
-    ap (λ (n : ℕ). bits_of bytes ++ word_bits n next) sum ∙ ap (λ (bits : List ℕ). bits_of bits ++ word_bits (have + count) next) same
-    ∙ ap (λ (bits : List Bool). bits_of before ++ bits) joined ∙ sym (append_assoc (bits_of before) (word_bits have word) (word_bits count number)) ∙ ap (λ (bits : List Bool). bits ++ word_bits count number) view
+added bytes before have word count number next filled old view same sum joined = grind (arith, append_assoc)
 
 -- the same bit some more times
 pub repeated_more : (times left count : ℕ) (bit : Bool) (old before word after : List Bool) → left ≤ times → count ≤ left → before ≡ old ++ replicate (times - left) bit → word ≡ replicate count bit → after ≡ before ++ word
     → after ≡ old ++ replicate (times - (left - count)) bit
 repeated_more times left count bit old before word after within some so_far is wrote =
-    let sum : times - (left - count) ≡ (times - left) + count = omega arith in
-    wrote ∙ ap (λ (bits : List Bool). bits ++ word) so_far ∙ append_assoc old (replicate (times - left) bit) word
-    ∙ ap (λ (bits : List Bool). old ++ bits) (ap (λ (bits : List Bool). replicate (times - left) bit ++ bits) is ∙ replicate-append-replicate (times - left) count bit ∙ ap (λ (n : ℕ). replicate n bit) (sym sum))
+    grind (arith, append_assoc, replicate-append-replicate)

@@ -1,5 +1,5 @@
 -- The last bits of a word.
-use Rattle.std.proofs.Common.{◌≡◌, ℕ, zero, suc, ◌+◌, ◌-◌, ◌*◌, ◌/◌, ◌%◌, ◌^◌, ◌<◌, ◌≤◌, Bool, true, eqb, List, [], ◌∷◌, ◌++◌, length, get_or, drop, refl, sym, ap, ◌∙◌, arith, mod-lt, append_assoc, append-nil, zero-add, suc-add, length-drop, replicate}
+use Rattle.std.proofs.Common.{rules, ◌≡◌, ℕ, zero, suc, ◌+◌, ◌-◌, ◌*◌, ◌/◌, ◌%◌, ◌^◌, ◌<◌, ◌≤◌, Bool, true, eqb, List, [], ◌∷◌, ◌++◌, length, get_or, drop, refl, sym, ap, ◌∙◌, arith, mod-lt, append_assoc, append-nil, zero-add, suc-add, length-drop, replicate}
 use Rattle.std.specs.Int.{bit_at}
 use Rattle.std.proofs.Math.Seq.{drop-append-add, drop-length}
 use Rattle.std.proofs.Math.ListN.{drop_of_length-le}
@@ -105,10 +105,7 @@ peeked_ones count word byte bytes small none is place lt =
 pub peeked_end : (count word : ℕ) (bytes : List ℕ) → count ≤ 0 → bytes ≡ [] → BeginsWith (word_bits count word ++ bits_of bytes) (byte_bits 255)
 unfolding word_bits
 peeked_end count word bytes small none place lt =
-    let zero : count ≡ 0 = omega arith in
-    let within : place < 8 = omega (arith, length-byte_bits 255) in
-    let here : word_bits count word ++ bits_of bytes ≡ [] = ap (λ (n : ℕ). word_bits n word ++ bits_of bytes) zero ∙ ap bits_of none ∙ bits_of-nil in
-    ap (λ (xs : List Bool). bounded xs place) here ∙ no_byte place within ∙ sym (bit_of_byte 255 place within)
+    grind (arith, length-byte_bits, bits_of-nil, no_byte, bit_of_byte)
 
 pub ruleset peeks = (peeked_word, peeked_ones, peeked_end)
 
@@ -137,15 +134,11 @@ none_yet bytes = word_none 0 (bits_of bytes)
 
 -- behind all bytes
 pub skipped_all : (bytes : List ℕ) (n : ℕ) → length bytes ≤ n / 8 → word_bits 0 0 ++ bits_of (drop (length bytes) bytes) ≡ drop n (bits_of bytes)
-skipped_all bytes n le =
-    let long : length (bits_of bytes) ≤ n = omega (arith, length-bits_of bytes) in
-    none_yet (drop (length bytes) bytes) ∙ ap bits_of (drop-length bytes) ∙ bits_of-nil ∙ sym (drop_of_length-le (bits_of bytes) long)
+skipped_all bytes n le = grind (arith, length-bits_of, none_yet, drop-length, bits_of-nil, drop_of_length-le)
 
 -- behind some bytes and bits of the next
 behind_bits : (bytes : List ℕ) (n : ℕ) → 0 < length bytes → n ≤ 8 → word_bits (8 - n) (get_or bytes 0 0) ++ bits_of (drop 1 bytes) ≡ drop n (bits_of bytes)
-behind_bits [] n some le = absurd (omega arith)
-behind_bits (byte ∷ bytes) n some le =
-    skipped_word 8 byte n (bits_of bytes) le ∙ ap (λ (bits : List Bool). drop n (bits ++ bits_of bytes)) (byte_is_word byte) ∙ ap (drop n) (sym (bits_of-cons byte bytes))
+behind_bits bytes n some few = grind (arith, skipped_word, byte_is_word, bits_of-cons)
 
 pub skipped_bytes : (bytes : List ℕ) (n : ℕ) → n / 8 < length bytes → word_bits (8 - n % 8) (get_or (drop (n / 8) bytes) 0 0) ++ bits_of (drop 1 (drop (n / 8) bytes)) ≡ drop n (bits_of bytes)
 skipped_bytes bytes n lt =
@@ -195,12 +188,7 @@ filled_below count word small =
 
 -- the word that is reckoned in the width of its parts
 pub filled_is : (count word : ℕ) → count < 12 → word % (1 * 2 ^ count % 2 ^ 64) * 2 ^ (12 - count) % 2 ^ 16 + (1 * 2 ^ (12 - count) % 2 ^ 16 - 1) ≡ word % 2 ^ count * 2 ^ (12 - count) + (2 ^ (12 - count) - 1)
-filled_is count word small =
-    let power = one_shl count 64 (omega arith) in
-    let ones = one_shl (12 - count) 16 (omega arith) in
-    let front : word % 2 ^ count * 2 ^ (12 - count) < 2 ^ 16 = omega (arith, filled_below count word small) in
-    let kept : word % 2 ^ count * 2 ^ (12 - count) % 2 ^ 16 ≡ word % 2 ^ count * 2 ^ (12 - count) = omega (arith, front) in
-    ap (λ (n : ℕ). word % n * 2 ^ (12 - count) % 2 ^ 16 + (1 * 2 ^ (12 - count) % 2 ^ 16 - 1)) power ∙ ap (λ (n : ℕ). n + (1 * 2 ^ (12 - count) % 2 ^ 16 - 1)) kept ∙ ap (λ (n : ℕ). word % 2 ^ count * 2 ^ (12 - count) + (n - 1)) ones
+filled_is count word small = search (rules, one_shl, filled_below)
 
 pub filled_small : (count word : ℕ) → count < 12 → word % (1 * 2 ^ count % 2 ^ 64) * 2 ^ (12 - count) % 2 ^ 16 + (1 * 2 ^ (12 - count) % 2 ^ 16 - 1) < 4096
 filled_small count word small = omega (arith, filled_is count word small, filled_below count word small)
@@ -247,9 +235,4 @@ four_added count word b0 b1 b2 b3 next bytes le s0 s1 s2 s3 is =
 pub four_moved : (count word next : ℕ) (bytes after : List ℕ) → count ≤ 32 → 4 ≤ length bytes → ((i : ℕ) → get_or bytes i 0 < 256)
     → next ≡ word % 2 ^ 32 * 2 ^ 32 + (((get_or bytes 0 0 * 256 + get_or bytes 1 0) * 256 + get_or bytes 2 0) * 256 + get_or bytes 3 0) → after ≡ drop 4 bytes
     → word_bits (count + 32) next ++ bits_of after ≡ word_bits count word ++ bits_of bytes
-four_moved count word next (b0 ∷ b1 ∷ b2 ∷ b3 ∷ bytes) after le some small is behind =
-    ap (λ (rest : List ℕ). word_bits (count + 32) next ++ bits_of rest) behind ∙ four_added count word b0 b1 b2 b3 next bytes le (small 0) (small 1) (small 2) (small 3) is
-four_moved count word next [] after le some small is behind = absurd (omega arith)
-four_moved count word next (b0 ∷ []) after le some small is behind = absurd (omega arith)
-four_moved count word next (b0 ∷ b1 ∷ []) after le some small is behind = absurd (omega arith)
-four_moved count word next (b0 ∷ b1 ∷ b2 ∷ []) after le some small is behind = absurd (omega arith)
+four_moved count word next bytes after few many small is rest = grind (arith, four_added)

@@ -1,6 +1,5 @@
-use Rattle.std.proofs.Common.{◌≤◌, ◌+◌, ◌^◌, ap, ◌∙◌, arith, ℕ}
+use Rattle.std.proofs.Common.{◌≤◌, ◌+◌, ◌^◌, arith}
 use Rattle.std.proofs.Math.Nat.{pow-le-pow_right}
-use Rattle.vc_bits.specs.Bits.{word_bits}
 use Rattle.vc_bits.proofs.Waiting.{joined_bits, joined_fits, moved_up}
 use Rattle.vc_bits.proofs.pending.joined.Goals as goal
 
@@ -10,9 +9,7 @@ overflow_add-result c =
     omega (arith, power, moved_up c.args.have c.args.word c.args.count c.requires.word c.requires.count, joined_fits c.args.have c.args.word c.args.count c.args.number c.requires.word c.requires.number)
 
 pub returns-clause-value : goal.returns-clause-value
-returns-clause-value c =
-    ap (λ (n : ℕ). word_bits (c.args.have + c.args.count) (n + c.args.number)) (moved_up c.args.have c.args.word c.args.count c.requires.word c.requires.count)
-    ∙ joined_bits c.args.have c.args.word c.args.count c.args.number c.requires.number
+returns-clause-value c = grind (arith, moved_up, joined_bits)
 
 pub returns-clause-range : goal.returns-clause-range
 returns-clause-range c =
