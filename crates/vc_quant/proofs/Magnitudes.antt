@@ -1,6 +1,5 @@
 -- Magnitudes under a sign, as the code computes them.
-use Rattle.std.proofs.Common.{◌≡◌, Bool, true, false, ℕ, ◌+◌, ◌*◌, ◌/◌, ◌^◌, ◌<◌, ◌≤◌, ℤ, pos, negsuc, neg_ℤ, unsigned_abs, ◌-ℤ◌, ◌≤ℤ◌, ◌<ℤ◌, arith, refl, sym, ap, ◌∙◌, to_z, of_z, FitsSigned}
-use Rattle.std.specs.Prelude.{◌==◌, if◌then◌else◌}
+use Rattle.std.proofs.Common.{◌≡◌, ℕ, ◌+◌, ◌*◌, ◌/◌, ◌^◌, ◌<◌, ◌≤◌, ℤ, pos, negsuc, neg_ℤ, unsigned_abs, ◌-ℤ◌, ◌≤ℤ◌, ◌<ℤ◌, arith, refl, sym, ap, ◌∙◌, to_z, of_z, FitsSigned}
 use Rattle.std.specs.Int.{w32, w64, w128}
 use Rattle.std.proofs.lemmas.Int.{ints}
 use Rattle.std.proofs.Math.Nat.{mul-le-mul_right, div-eq_of_lt-le}
@@ -47,23 +46,11 @@ nothing z quarters factor q small is is_factor =
 -- ---- narrow numbers
 
 narrow_magnitude : (m greatest factor offset : ℕ) → m ≤ greatest → greatest * factor + offset + 2 < 2 ^ 31 → dequantised_magnitude m factor offset < 2 ^ 29
-narrow_magnitude m greatest factor offset h room =
-    let more = mul-le-mul_right factor h in
-    let sum : m * factor + offset + 2 < 4 * 2 ^ 29 = omega (arith, more) in
-    either (m == 0) ((m * factor + offset + 2) / 4) (quarter (m * factor + offset + 2) (2 ^ 29) sum)
-  where
-    quarter : (n k : ℕ) → n < 4 * k → n / 4 < k
-    quarter n k h = omega arith
-
-    either : (none : Bool) (n : ℕ) → n < 2 ^ 29 → (if none then 0 else n) < 2 ^ 29
-    either true n h = omega arith
-    either false n h = h
+narrow_magnitude m greatest factor offset h room = grind (arith, mul-le-mul_right)
 
 pub narrow_coefficient : (z : ℤ) (greatest q : ℕ) → unsigned_abs z ≤ greatest → IsNarrow greatest q → unsigned_abs (dequantised z q) < 2 ^ 29
 unfolding dequantised
-narrow_coefficient z greatest q h narrow =
-    let size = unsigned_abs-with_sign_of z (dequantised_magnitude (unsigned_abs z) (quant_factor q) (quant_offset q)) in
-    omega (arith, size, narrow_magnitude (unsigned_abs z) greatest (quant_factor q) (quant_offset q) h narrow.1)
+narrow_coefficient z greatest q h narrow = grind (arith, unsigned_abs-with_sign_of, narrow_magnitude)
 
 -- ---- one coefficient of 32 bits
 

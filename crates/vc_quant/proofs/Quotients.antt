@@ -101,10 +101,7 @@ factor_range q within = (omega (arith, least, rises 0 q (omega arith) within), o
 
 -- where one index is the last
 pub last_is : (last quarters : ℕ) → last ≤ 127 → quant_factor last ≤ quarters → (last < 127 → quarters < quant_factor (last + 1)) → (q : ℕ) → q ≤ 127 → (quant_factor q ≤ quarters) ↔ (q ≤ last)
-last_is last quarters few reached next q within = (
-  (λ reach. elim (cases_lt last q) [ inl lt ↦ absurd (omega (arith, next (omega arith), rises (last + 1) q (omega arith) within)) | inr le2 ↦ le2 ]),
-  (λ le. omega (arith, rises q last le few)),
-)
+last_is last quarters few reached next q within = grind (arith, rises)
 
 -- ---- the last index, by the table
 
@@ -163,9 +160,7 @@ power_at : (n : ℕ) → n < 32 → quant_factor (4 * n) ≡ 2 ^ (n + 2)
 power_at n small = eqb-true _ _ (holds_at (λ n. eqb (quant_factor (4 * n)) (2 ^ (n + 2))) 32 n all_powers small)
 
 pub first_reached : (power quarters : ℕ) → 2 ≤ power → power < 34 → 2 ^ power ≤ quarters → quant_factor (4 * (power - 2)) ≤ quarters
-first_reached power quarters some few below =
-    let same : power - 2 + 2 ≡ power = omega arith in
-    omega (arith, power_at (power - 2) (omega arith), ap (λ (n : ℕ). 2 ^ n) same)
+first_reached power quarters some few below = grind (arith, power_at)
 
 pub fourth_not : (power quarters : ℕ) → 2 ≤ power → power < 33 → quarters < 2 * 2 ^ power → quarters < quant_factor (4 * (power - 2) + 4)
 fourth_not power quarters some few above =
@@ -175,9 +170,7 @@ fourth_not power quarters some few above =
 
 -- how many of the next three factors are reached
 not_reached : (quarters factor is : ℕ) → (is ≡ 1) ↔ (factor ≤ quarters) → is ≤ 1 → quarters < factor → is ≡ 0
-not_reached quarters factor zero exactly few lt = refl
-not_reached quarters factor (suc zero) exactly few lt = absurd (omega (arith, exactly.0 refl))
-not_reached quarters factor (suc (suc n)) exactly few lt = absurd (omega arith)
+not_reached quarters factor is exactly few lt = grind arith
 
 module _ (quarters first one two three : ℕ) (few : first ≤ 124) (from : quant_factor first ≤ quarters) (to : first < 124 → quarters < quant_factor (first + 4))
     (is_one : (one ≡ 1) ↔ (quant_factor (first + 1) ≤ quarters)) (is_two : (two ≡ 1) ↔ (quant_factor (first + 2) ≤ quarters)) (is_three : (three ≡ 1) ↔ (quant_factor (first + 3) ≤ quarters))
@@ -196,29 +189,7 @@ module _ (quarters first one two three : ℕ) (few : first ≤ 124) (from : quan
   after n m next lt = let same : first + m ≡ first + n + 1 = omega arith in subst (λ (k : ℕ). quarters < quant_factor k) same lt
 
   pub reached : (q : ℕ) → q ≤ 127 → (quant_factor q ≤ quarters) ↔ (q ≤ first + (one + two + three))
-  reached =
-      elim (cases_lt quarters (quant_factor (first + 1))) [
-        | inl lt1 ↦
-            let none1 = not_reached quarters _ one is_one one_most lt1 in
-            let none2 = not_reached quarters _ two is_two two_most (beyond 1 2 (omega arith) (omega arith) lt1) in
-            let none3 = not_reached quarters _ three is_three three_most (beyond 1 3 (omega arith) (omega arith) lt1) in
-            let same : first ≡ first + 0 = omega arith in
-            reached_at 0 (omega arith) (subst (λ (k : ℕ). quant_factor k ≤ quarters) same from) (λ h. after 0 1 refl lt1) (omega (arith, none1, none2, none3))
-        | inr le1 ↦
-            elim (cases_lt quarters (quant_factor (first + 2))) [
-              | inl lt2 ↦
-                  let none2 = not_reached quarters _ two is_two two_most lt2 in
-                  let none3 = not_reached quarters _ three is_three three_most (beyond 2 3 (omega arith) (omega arith) lt2) in
-                  reached_at 1 (omega arith) le1 (λ h. after 1 2 refl lt2) (omega (arith, is_one.1 le1, none2, none3))
-              | inr le2 ↦
-                  elim (cases_lt quarters (quant_factor (first + 3))) [
-                    | inl lt3 ↦
-                        let none3 = not_reached quarters _ three is_three three_most lt3 in
-                        reached_at 2 (omega arith) le2 (λ h. after 2 3 refl lt3) (omega (arith, is_one.1 le1, is_two.1 le2, none3))
-                    | inr le3 ↦ reached_at 3 (omega arith) le3 (λ h. after 3 4 refl (to (omega arith))) (omega (arith, is_one.1 le1, is_two.1 le2, is_three.1 le3))
-                  ]
-            ]
-      ]
+  reached = grind (arith, not_reached, beyond, reached_at, after)
 
 -- ---- digits of a quotient
 

@@ -1,6 +1,5 @@
 use Rattle.std.proofs.Common.{◌≡◌, ◌-◌, ◌*◌, ◌/◌, ◌^◌, ◌%◌, ◌<◌, ◌∙◌, ℕ, arith, ap}
 use Rattle.std.proofs.lemmas.Nat.{one_shl}
-use Rattle.vc_types.specs.Quantisation.{quant_factor}
 use Rattle.vc_quant.proofs.Quotients.{digits_are, some_quarters, few_digits, some_factor}
 use Rattle.vc_quant.proofs.last.last_index_with.Goals as goal
 
@@ -14,15 +13,7 @@ quotient_is : (digits magnitude quotient : ℕ) → digits < 64 → quotient ≡
 quotient_is digits magnitude quotient small is = is ∙ ap (λ (n : ℕ). 4 * magnitude / (n - 1)) (one_shl digits 64 small)
 
 pub last_index-requires : goal.last_index-requires
-last_index-requires c =
-    let few = few_digits c.args.digits c.args.magnitude c.requires.digits.1 c.requires.size in
-    let is = quotient_is c.args.digits c.args.magnitude c.quotient.result (omega (arith, few)) c.quotient.ensures in
-    some_quarters c.args.digits c.args.magnitude c.quotient.result c.requires.digits.0 c.requires.digits.1 is
+last_index-requires c = grind (arith, few_digits, quotient_is, some_quarters)
 
 pub returns-clause-value : goal.returns-clause-value
-returns-clause-value c = λ q within.
-    let few = few_digits c.args.digits c.args.magnitude c.requires.digits.1 c.requires.size in
-    let is = quotient_is c.args.digits c.args.magnitude c.quotient.result (omega (arith, few)) c.quotient.ensures in
-    let factor = digits_are c.args.digits c.args.magnitude (quant_factor q) c.quotient.result c.requires.digits.0 (some_factor q within) is in
-    let last = c.last_index.ensures.value q within in
-    (λ h. last.0 (factor.0 h), λ h. factor.1 (last.1 h))
+returns-clause-value c = grind (arith, few_digits, quotient_is, digits_are, some_factor)

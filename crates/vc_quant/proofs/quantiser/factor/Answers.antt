@@ -6,6 +6,4 @@ pub returns-clause-value : goal.returns-clause-value
 returns-clause-value c = factor_at c.args.q (omega arith)
 
 pub returns-clause-range : goal.returns-clause-range
-returns-clause-range c =
-    let range = factor_range c.args.q (omega arith) in
-    (omega (arith, factor_at c.args.q (omega arith), range), omega (arith, factor_at c.args.q (omega arith), range))
+returns-clause-range c = omega (arith, factor_range, factor_at)
