@@ -6,7 +6,7 @@ use Rattle.vc_types.specs.declared.rect.Rect.{Rect}
 use Rattle.vc_types.specs.declared.video.Component.{Component}
 use Rattle.vc_types.specs.Limits.{padded}
 use Rattle.vc_types.specs.Quantisation.{subband_count}
-use Rattle.vc_types.specs.Subbands.{Orientation, levels, nested, rect, share_start, subband_at, subband_rectangle, level_side, slice_column, slice_row, padded_width, padded_height}
+use Rattle.vc_types.specs.Subbands.{Orientation, levels, nested, rect, share_start, slice_column, slice_row, padded_width, padded_height}
 use Rattle.vc_types.specs.TransformParameters.{Parameters}
 use Rattle.vc_types.proofs.SubbandOrder.{level_of, orientation_of, subband_at-level, subband_at-orientation}
 use Rattle.vc_geometry.specs.Rectangles.{ArePartsOf}
@@ -53,17 +53,4 @@ module _ (p : Parameters) (c : Component) (slice b : ℕ) (rects : List Rect) (n
       → n ≡ b + 1 → r ≡ rect (x + left) (y + top) (right - left) (bottom - top) → nested o w h ≡ rect x y w h → x + w ≤ padded_width p c → y + h ≤ padded_height p c → (padded_width p c ≤ 8192) × (padded_height p c ≤ 8192)
       → ArePartsOf p c slice n (set rects b r)
   add_part before inside below orientation times_across times_down columns rows count value corner fits_across fits_down small =
-      let is : rect x y w h ≡ subband_rectangle p c (subband_at p.depth_ho p.depth b) =
-      sym corner ∙ ap (λ s. nested o s h) columns.side_is ∙ ap (nested o (padded_width p c / 2 ^ across)) rows.side_is
-      ∙ ap (λ n. nested o (padded_width p c / 2 ^ n) (padded_height p c / 2 ^ down)) (sym times_across) ∙ ap (λ n. nested o (padded_width p c / 2 ^ min (levels p) (levels p + 1 - level_of p.depth_ho b)) (padded_height p c / 2 ^ n)) (sym times_down)
-      ∙ ap (λ l. nested o (level_side (padded_width p c) (levels p) (levels p) l) (level_side (padded_height p c) p.depth (levels p) l)) (sym (subband_at-level p.depth_ho p.depth b below))
-      ∙ ap (λ q. nested q (level_side (padded_width p c) (levels p) (levels p) (subband_at p.depth_ho p.depth b).level) (level_side (padded_height p c) p.depth (levels p) (subband_at p.depth_ho p.depth b).level)) (sym orientation ∙ sym (subband_at-orientation p.depth_ho p.depth b below)) in
-      let column = slice_column p slice in
-      let row = slice_row p slice in
-      let from_across : left ≡ share_start w p.slices_x column = columns.from_is ∙ ap (λ s. share_start s p.slices_x column) (sym columns.side_is) in
-      let from_down : top ≡ share_start h p.slices_y row = rows.from_is ∙ ap (λ s. share_start s p.slices_y row) (sym rows.side_is) in
-      let to_across : right ≡ share_start w p.slices_x (column + 1) = columns.to_is ∙ ap (λ s. share_start s p.slices_x (column + 1)) (sym columns.side_is) in
-      let to_down : bottom ≡ share_start h p.slices_y (row + 1) = rows.to_is ∙ ap (λ s. share_start s p.slices_y (row + 1)) (sym rows.side_is) in
-      rw (count, value) (part_more p c slice b rects (rect x y w h) (rect (x + left) (y + top) (right - left) (bottom - top)) inside is
-      (spanned (rect x y w h) p.slices_x p.slices_y column row left right top bottom from_across to_across from_down to_down)
-      (omega (arith, columns.ordered)) (omega (arith, rows.ordered)) (omega (arith, columns.ordered, small), omega (arith, rows.ordered, small)) before)
+      grind (arith, level_of, subband_at-level, subband_at-orientation, part_more, spanned)

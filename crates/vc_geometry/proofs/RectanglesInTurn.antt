@@ -1,7 +1,6 @@
 -- A slice's rectangles, one after another.
-use Rattle.std.proofs.Common.{◌≡◌, ℕ, ◌+◌, ◌-◌, ◌<◌, ◌≤◌, List, length, set, arith, ap, refl, sym, subst, ◌∙◌, inl, inr}
+use Rattle.std.proofs.Common.{◌≡◌, ℕ, ◌+◌, ◌-◌, ◌<◌, ◌≤◌, List, length, set, arith, ap, ◌∙◌}
 use Rattle.std.specs.Prelude.{slice_index_or}
-use Rattle.std.proofs.lemmas.Bool.{cases_eq}
 use Rattle.std.proofs.lemmas.List.{get_or-set_same, get_or-set_other}
 use Rattle.vc_types.specs.declared.rect.Rect.{Rect}
 use Rattle.vc_types.specs.declared.video.Component.{Component}
@@ -17,9 +16,7 @@ part_at r across down column row k t same also = ap (λ n. share r across down n
 pub spanned : (r : Rect) (across down column row left right top bottom : ℕ) → left ≡ share_start r.width across column → right ≡ share_start r.width across (column + 1)
     → top ≡ share_start r.height down row → bottom ≡ share_start r.height down (row + 1)
     → rect (r.x + left) (r.y + top) (right - left) (bottom - top) ≡ share r across down column row
-spanned r across down column row left right top bottom first last above below =
-    share-computed r r across down column row left top (right - left) (bottom - top) refl first above (ap (λ n. n - left) last ∙ ap (λ n. share_start r.width across (column + 1) - n) first)
-    (ap (λ n. n - top) below ∙ ap (λ n. share_start r.height down (row + 1) - n) above)
+spanned r across down column row left right top bottom first last above below = grind (arith, share-computed)
 
 module _ (p : Parameters) (c : Component) (slice b : ℕ) (rects : List Rect) (band r : Rect) (inside : b < length rects)
     (is : band ≡ subband_rectangle p c (subband_at p.depth_ho p.depth b)) (value : r ≡ share band p.slices_x p.slices_y (slice_column p slice) (slice_row p slice))
@@ -29,10 +26,7 @@ module _ (p : Parameters) (c : Component) (slice b : ℕ) (rects : List Rect) (b
   own = value ∙ ap (λ (q : Rect). share q p.slices_x p.slices_y (slice_column p slice) (slice_row p slice)) is
 
   at : (P : ℕ → Rect → Type 0) → P b r → ((k : ℕ) (none : Rect) → k < b → P k (slice_index_or rects k none)) → (k : ℕ) (none : Rect) → k < b + 1 → P k (slice_index_or (set rects b r) k none)
-  at P here earlier k none h = elim (cases_eq k b) [
-    | inl e ↦ rw e (subst (P b) (sym (get_or-set_same rects b r none inside)) here)
-    | inr ne ↦ subst (P k) (sym (get_or-set_other rects b k r none ne)) (earlier k none (omega arith))
-  ]
+  at P here earlier k none h = grind (arith, get_or-set_same, get_or-set_other)
 
   pub part_more : ArePartsOf p c slice (b + 1) (set rects b r)
   part_more = record {
@@ -44,9 +38,4 @@ module _ (p : Parameters) (c : Component) (slice b : ℕ) (rects : List Rect) (b
 
 -- of none
 pub no_parts : (p : Parameters) (c : Component) (slice : ℕ) (rects : List Rect) → ArePartsOf p c slice 0 rects
-no_parts p c slice rects = record {
-  parts = λ b none lt. absurd (omega (arith, lt));
-  right = λ b none lt. absurd (omega (arith, lt));
-  bottom = λ b none lt. absurd (omega (arith, lt));
-  small = λ b none lt. absurd (omega (arith, lt));
-}
+no_parts p c slice rects = grind arith

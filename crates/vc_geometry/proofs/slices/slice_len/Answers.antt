@@ -1,6 +1,5 @@
-use Rattle.std.proofs.Common.{arith, ◌∙◌, sym, ap}
+use Rattle.std.proofs.Common.{arith, ◌∙◌, sym}
 use Rattle.std.proofs.lemmas.Nat.{mul-le}
-use Rattle.vc_types.specs.Subbands.{area}
 use Rattle.vc_types.specs.TransformParameters.{parameters_of}
 use Rattle.vc_types.proofs.SliceRectangles.{coefficients_before-none, coefficients_before-more, coefficients_before-all}
 use Rattle.vc_geometry.proofs.slices.slice_len.Goals as goal
@@ -9,11 +8,7 @@ pub loop-b-init : goal.loop-b-init
 loop-b-init c = record { sum = sym (coefficients_before-none (parameters_of c.args.plan.now) c.args.c c.args.slice); bound = omega arith }
 
 pub loop-b-preserved : goal.loop-b-preserved
-loop-b-preserved c =
-    let more = coefficients_before-more (parameters_of c.args.plan.now) c.args.c c.args.slice c.loop-b.b (omega arith) in
-    let cells = ap area c.slice_rect-rect.ensures.value in
-    let few = mul-le c.slice_rect-rect.result.width c.slice_rect-rect.result.height 8192 8192 (omega (arith, c.slice_rect-rect.ensures.range)) (omega (arith, c.slice_rect-rect.ensures.range)) in
-    record { sum = omega (arith, more, cells); bound = omega (arith, few) }
+loop-b-preserved c = grind (arith, coefficients_before-more, mul-le)
 
 pub returns-clause-value : goal.returns-clause-value
 returns-clause-value c = c.loop-b.invariant.sum ∙ coefficients_before-all (parameters_of c.args.plan.now) c.args.c c.args.slice c.loop-b.b (omega arith)
