@@ -60,8 +60,8 @@ rows_apart : (start step width p q x : ℕ) → x < width → width ≤ step →
 rows_apart start step width p q x h wide (inl lt) = let below : suc p * step ≤ q * step = mul-le-mul_right step lt in inl (omega (arith, below))
 rows_apart start step width p q x h wide (inr lt) = let above : suc q * step ≤ p * step = mul-le-mul_right step lt in inr (omega (arith, above))
 
-either_way : (p q : ℕ) → p ≢ q → (p < q) ⊎ (q < p)
-either_way p q ne = elim (cases_lt p q) [ inl lt ↦ inl lt | inr ge ↦ (let more : q < p = omega arith in inr more) ]
+pub either_way : (p q : ℕ) → p ≢ q → (p < q) ⊎ (q < p)
+either_way p q ne = elim (cases_lt p q) [ inl lt ↦ inl lt | inr ge ↦ inr (omega arith) ]
 
 module _ (start step width half : ℕ) (apart : Bool) (wide : width ≤ step) (k : ℕ) (below : k < 2 * half) (old new block : List ℤ)
     (on : (x : ℕ) → x < width → line_of new (start + sample_place apart half k * step + x) ≡ line_of block (k * width + x))

@@ -83,6 +83,15 @@ row_halves start half = record { even = start; odd = start + half; pitch = 1; ha
 abbrev pub row_lines : ℕ → ℕ → Lines
 row_lines start half = record { start = start; step = 1; width = 1; half = half }
 
+-- a cell that is apart from the row stands before or behind it
+pub row_outside : (start half i : ℕ) → IsApart (row_lines start half) i → (i < start) ⊎ (start + 2 * half ≤ i)
+row_outside start half i none = outside (cases_lt i start) (cases_lt i (start + 2 * half))
+  where
+    outside : (i < start) ⊎ (start ≤ i) → (i < start + 2 * half) ⊎ (start + 2 * half ≤ i) → (i < start) ⊎ (start + 2 * half ≤ i)
+    outside (inl before) any = inl before
+    outside (inr from) (inr past) = inr past
+    outside (inr from) (inl within) = absurd (none 0 (i - start) (omega arith) (omega arith) (omega arith))
+
 start_of : (start half q : ℕ) → q < 2 → (if q == 0 then start else start + half) ≡ start + q * half
 start_of start half zero h = omega arith
 start_of start half (suc zero) h = omega arith
@@ -183,11 +192,6 @@ module _ (start half : ℕ) (some : 0 < half) where
       row_made = record {
         on = λ x k one h. (let first : 0 ≡ x = omega arith in subst (λ u. line_at new (row_lines start half) u k ≡ remade Synthesis wavelet shifted half (line_at old (row_lines start half) u) k) first (made_at k h));
         off = λ i none.
-            kept i (outside i none (cases_lt i start) (cases_lt i (start + 2 * half)))
+            kept i (row_outside start half i none)
             ∙ beside i (λ x k one h e. (let place = row_place start half k in none x (half_place half k) one (half_place_below half k h) (omega (arith, e, place))));
       }
-        where
-          outside : (i : ℕ) → IsApart (row_lines start half) i → (i < start) ⊎ (start ≤ i) → (i < start + 2 * half) ⊎ (start + 2 * half ≤ i) → (i < start) ⊎ (start + 2 * half ≤ i)
-          outside i none (inl before) any = inl before
-          outside i none (inr from) (inr past) = inr past
-          outside i none (inr from) (inl within) = absurd (none 0 (i - start) (omega arith) (omega arith) (omega arith))

@@ -1,5 +1,5 @@
 -- Rows that are doubled and taken apart in place.
-use Rattle.std.proofs.Common.{◌≡◌, ◌≢◌, ℕ, ◌+◌, ◌-◌, ◌*◌, ◌/◌, ◌%◌, ◌^◌, ◌<◌, ◌≤◌, ◌⊎◌, inl, inr, List, length, set, ℤ, pos, unsigned_abs, arith, ap, sym, subst, ◌∙◌, Bool, true, false, Some, None}
+use Rattle.std.proofs.Common.{◌≡◌, ◌≢◌, ℕ, ◌+◌, ◌*◌, ◌/◌, ◌%◌, ◌^◌, ◌<◌, ◌≤◌, ◌⊎◌, inl, inr, List, length, set, ℤ, pos, unsigned_abs, arith, ap, sym, subst, ◌∙◌, Bool, true, false, Some, None}
 use Rattle.std.specs.Prelude.{if◌then◌else◌, nat_lt}
 use Rattle.std.proofs.lemmas.Bool.{cases_lt, cases_eq}
 use Rattle.std.proofs.lemmas.Bool.Decides.{nat_tests}
@@ -15,11 +15,11 @@ use Rattle.vc_lift.proofs.LineLaws.{analysis_is_local}
 use Rattle.vc_lift.proofs.NarrowGrowth.{analysis_after, narrow_analysis_covers}
 use Rattle.vc_wave.specs.declared.pass.Direction.TheVariants.{Analysis}
 use Rattle.vc_wave.specs.ForwardBounds.{doubled_bound, parted_rows_bound}
-use Rattle.vc_wave.specs.Lines.{IsMade, IsApart, line_at}
+use Rattle.vc_wave.specs.Lines.{IsMade, line_at}
 use Rattle.vc_wave.specs.NarrowBounds.{RowHasBound}
 use Rattle.vc_wave.specs.Remade.{remade, on_samples}
 use Rattle.vc_wave.proofs.Copies.{on_samples_in}
-use Rattle.vc_wave.proofs.NarrowRows.{room_of, row_halves, row_lines, row_place, row_at}
+use Rattle.vc_wave.proofs.NarrowRows.{room_of, row_outside, row_halves, row_lines, row_place, row_at}
 use Rattle.vc_wave.proofs.PlaneLines.{rearranged_in, row_in, row_out}
 use Rattle.vc_wave.proofs.Weaving.{half_place_below, source_below, half_place-source_of, remade_past}
 
@@ -141,13 +141,8 @@ module _ (start half : ℕ) (some : 0 < half) (wavelet : ℕ) (old : List ℤ) (
         on = λ x k one h. (let first : 0 ≡ x = omega arith in subst (λ u. line_at new (row_lines start half) u k ≡ remade Analysis wavelet shifted half (line_at old (row_lines start half) u) k) first (made_at k h));
         off = λ i none.
             beside i (λ x k one h e. (let place = row_place start half k in none x (half_place half k) one (half_place_below half k h) (omega (arith, e, place))))
-            ∙ kept i (outside i none (cases_lt i start) (cases_lt i (start + 2 * half)));
+            ∙ kept i (row_outside start half i none);
       }
-        where
-          outside : (i : ℕ) → IsApart (row_lines start half) i → (i < start) ⊎ (start ≤ i) → (i < start + 2 * half) ⊎ (start + 2 * half ≤ i) → (i < start) ⊎ (start + 2 * half ≤ i)
-          outside i none (inl before) any = inl before
-          outside i none (inr from) (inr past) = inr past
-          outside i none (inr from) (inl within) = absurd (none 0 (i - start) (omega arith) (omega arith) (omega arith))
 
 -- ---- how large the cells are after rows
 

@@ -1,5 +1,5 @@
 -- Nested subbands that are copied to rows in turn, a run of columns after another.
-use Rattle.std.proofs.Common.{◌≡◌, ◌≢◌, ℕ, zero, suc, ◌+◌, ◌-◌, ◌*◌, ◌^◌, ◌<◌, ◌≤◌, ◌⊎◌, inl, inr, List, ℤ, arith, ap, sym, ◌∙◌}
+use Rattle.std.proofs.Common.{◌≡◌, ℕ, zero, suc, ◌+◌, ◌-◌, ◌*◌, ◌^◌, ◌<◌, ◌≤◌, ◌⊎◌, inl, inr, List, ℤ, arith, ap, sym, ◌∙◌}
 use Rattle.std.specs.Prelude.{if◌then◌else◌}
 use Rattle.std.proofs.lemmas.Bool.{cases_lt, cases_eq}
 use Rattle.std.proofs.lemmas.Nat.{mul-add-lt}
@@ -14,6 +14,7 @@ use Rattle.vc_types.specs.declared.video.Component.{Component}
 use Rattle.vc_types.specs.Subbands.{plane_width, padded_width, padded_height}
 use Rattle.vc_wave.specs.Layout.{row_in_turn, turned_row, nested_in}
 use Rattle.vc_wave.specs.Planes.{plane_of}
+use Rattle.vc_wave.proofs.Copies.{either_way}
 use Rattle.vc_wave.proofs.Grids.{padded_whole}
 use Rattle.vc_wave.proofs.Levels.{level_fits}
 use Rattle.vc_wave.proofs.PlaneSteps.{plane_in}
@@ -127,14 +128,11 @@ module _ (levels w h width height from to y row : ℕ) (nested old new : List �
   apart x r b a (inl lt) = (let before = mul-add-lt r width x row lt (omega arith) in off (r * width + x) (inl (omega (arith, before))))
   apart x r b a (inr gt) = (let past : suc row * width ≤ r * width = mul-le-mul_right width gt in off (r * width + x) (inr (omega (arith, past))))
 
-  different : (m n : ℕ) → m ≢ n → (m < n) ⊎ (n < m)
-  different m n ne = elim (cases_lt m n) [ inl lt ↦ inl lt | inr ge ↦ inr (omega arith) ]
-
   pub turned_more : Turned y old → Turned (y + 1) new
   turned_more before x t a b lt = elim (cases_eq t y) [
     | inl e ↦ rw e (here x a b)
     | inr ne ↦ apart x (row_in_turn levels w h x t) b a
-        (different (row_in_turn levels w h x t) row (λ same. ne (rows_apart levels w h from t y (sym (together x t a b) ∙ same ∙ is))))
+        (either_way (row_in_turn levels w h x t) row (λ same. ne (rows_apart levels w h from t y (sym (together x t a b) ∙ same ∙ is))))
         ∙ before x t a b (omega arith)
   ]
 
