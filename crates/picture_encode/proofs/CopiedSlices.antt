@@ -65,12 +65,6 @@ module _ (cells : List ℤ) (stride from first step : ℕ) (r : Rect) where
       ap (line_of new) at ∙ copied row x below inside ∙ ap (line_of cells) place
       ∙ sym (plane_in stride cells (r.x + x) (turned (r.x + x) (r.y + row)) (omega (arith, inside, across)))
 
-pub row_fits : (row height width : ℕ) → row < height → row * width + width ≤ width * height
-row_fits row height width h =
-    let rows : suc row * width ≤ height * width = mul-le-mul_right width h in
-    let turned : height * width ≡ width * height = omega arith in
-    omega (arith, rows, turned)
-
 pub area_small : (r : Rect) → r.width ≤ 8192 → r.height ≤ 8192 → r.width * r.height ≤ 2 ^ 26
 area_small r across down =
     let all : r.width * r.height ≤ 8192 * 8192 = mul-le-mul across down in

@@ -1,5 +1,6 @@
 -- The numbers of a slice as its rectangles are walked, subband by subband and row by row.
 use Rattle.std.proofs.Common.{◌≡◌, ℕ, ℤ, pos, zero, suc, ◌+◌, ◌-◌, ◌*◌, ◌/◌, ◌%◌, ◌<◌, ◌≤◌, Bool, true, cond, List, [], ◌∷◌, ◌++◌, length, map, take, drop, sym, ap, ◌∙◌, append_assoc, append-nil, arith}
+use Rattle.std.proofs.Math.Nat.{mul-le-mul_right}
 use Rattle.std.specs.Prelude.{slice_index_or, slice_range, nat_lt, ◌&&◌}
 use Rattle.std.specs.List.{range_with_len}
 use Rattle.std.proofs.lemmas.Bool.Decides.{nat_tests}
@@ -47,12 +48,7 @@ part_is d xs a n h =
     get_or-take n (drop a xs) i d inside ∙ get_or-drop a xs i d ∙ sym (get_or-map-range_with_len (λ j. slice_index_or xs (a + j) d) 0 n i i d inside (omega arith)))
 
 pub row_end : (row rows width : ℕ) → row < rows → row * width + width ≤ width * rows
-row_end row rows width h =
-    let rest = rows - (row + 1) in
-    let all : rows ≡ row + 1 + rest = omega arith in
-    let parts : rows * width ≡ row * width + 1 * width + rest * width = ap (λ n. n * width) all ∙ add-mul (row + 1) rest width ∙ ap (λ n. n + rest * width) (add-mul row 1 width) in
-    let turned : width * rows ≡ rows * width = grind arith in
-    omega (arith, parts, turned)
+row_end row rows width h = omega (arith, mul-le-mul_right width h)
 
 inside : (a b m n : ℕ) → a < m → b < n → (nat_lt a m && nat_lt b n) ≡ true
 inside a b m n h k = grind (arith, nat_tests)

@@ -1,6 +1,7 @@
 use Rattle.std.proofs.Common.{◌≡◌, ◌+◌, ◌*◌, ◌<◌, ◌≤◌, ◌⊎◌, ℕ, arith, refl, ap, subst}
 use Rattle.vc_types.specs.Lifting.{line_of}
-use Rattle.picture_encode.proofs.CopiedSlices.{row_copied, rest_kept, row_fits}
+use Rattle.picture_encode.proofs.Gathered.{row_end}
+use Rattle.picture_encode.proofs.CopiedSlices.{row_copied, rest_kept}
 use Rattle.picture_encode.proofs.gathering.copy_rows.Goals as goal
 
 pub loop-row-init : goal.loop-row-init
@@ -9,7 +10,7 @@ loop-row-init c = record { on = λ t x h inside. absurd (omega arith); off = λ 
 pub copy_row-requires-clause-at : goal.copy_row-requires-clause-at
 copy_row-requires-clause-at c =
     let row = c.loop-row.row in
-    let fits = row_fits row c.args.rect.now.height c.args.rect.now.width c.loop-row-test.true in
+    let fits = row_end row c.args.rect.now.height c.args.rect.now.width c.loop-row-test.true in
     omega (arith, fits, ap (λ w. row * w) c.requires.width, c.requires.width, c.requires.from, c.loop-row.auto.coeffs)
 
 pub loop-row-preserved : goal.loop-row-preserved
