@@ -1,13 +1,12 @@
 -- Steps over samples that are counted in each parity are the standard's steps.
-use Rattle.std.proofs.Common.{◌≡◌, ℕ, zero, suc, ◌+◌, ◌-◌, ◌*◌, ◌/◌, ◌%◌, ◌<◌, ◌≤◌, List, [], ◌∷◌, length, ℤ, pos, negsuc, ◌+ℤ◌, ◌-ℤ◌, ◌*ℤ◌, arith, sym, ap, refl, ◌∙◌, ◌⊎◌, inl, inr, true, min, max, map, fold, slice_index_or}
-use Rattle.std.specs.Prelude.{if◌then◌else◌, nat_lt, ◌==◌, ◌&&◌}
+use Rattle.std.proofs.Common.{◌≡◌, ℕ, suc, ◌+◌, ◌-◌, ◌*◌, ◌/◌, ◌<◌, ◌≤◌, List, [], ◌∷◌, length, ℤ, pos, negsuc, ◌+ℤ◌, ◌-ℤ◌, ◌*ℤ◌, arith, sym, ap, refl, ◌∙◌, ◌⊎◌, inl, inr, true, min, max, map, fold, slice_index_or}
+use Rattle.std.specs.Prelude.{nat_lt}
 use Rattle.std.specs.List.{list_all}
-use Rattle.std.specs.Int.{int_shr}
 use mathlib.Core.Path.{fun_ext}
 use Rattle.std.proofs.lemmas.Int.{ints}
 use Rattle.std.proofs.lemmas.Bool.{cases_lt, false≢true}
 use Rattle.std.proofs.lemmas.Bool.Decides.{nat_tests}
-use Rattle.vc_types.specs.Lifting.{Parity, even, odd, offset_of, LiftingStep, held, met, weighted, half_of, change, changed_by, lifted}
+use Rattle.vc_types.specs.Lifting.{Parity, even, odd, offset_of, LiftingStep, held, met, weighted, change, lifted}
 use Rattle.vc_types.specs.Wavelets.{synthesis_steps, analysis_steps, lifted_by, synthesised, analysed}
 use Rattle.vc_lift.specs.CountedSteps.{sum_below}
 use Rattle.vc_lift.proofs.WeightedSums.{sum_below_none, sum_below_first}
@@ -27,15 +26,10 @@ held_below : (low high n : ℕ) (z : ℤ) → z ≡ negsuc n → held low high z
 held_below low high n z e = ap (held low high) e
 
 back_even : (first : ℤ) → is_behind even first ≡ true → first ≡ pos 1 -ℤ pos (back_of even first)
-back_even (pos zero) h = refl
-back_even (pos (suc zero)) h = refl
-back_even (pos (suc (suc n))) h = absurd (false≢true h)
-back_even (negsuc n) h = omega (arith, ints)
+back_even first h = grind (arith, false≢true)
 
 back_odd : (first : ℤ) → is_behind odd first ≡ true → first ≡ pos 0 -ℤ pos (back_of odd first)
-back_odd (pos zero) h = refl
-back_odd (pos (suc n)) h = absurd (false≢true h)
-back_odd (negsuc n) h = omega (arith, ints)
+back_odd first h = grind (arith, false≢true)
 
 module _ (half n j back : ℕ) (some : 0 < half) where
   even_place : (z : ℤ) → z ≡ pos 2 *ℤ (pos n +ℤ ((pos 1 -ℤ pos back) +ℤ pos j)) -ℤ pos 1 → (n + j < back) ⊎ (back ≤ n + j) → held 1 (2 * half - 1) z ≡ 2 * min (n + j - back) (half - 1) + 1
@@ -75,20 +69,14 @@ weighted_sum parity size x n (tap ∷ taps) i =
 
 pub change_counted : (s : LiftingStep) (half : ℕ) (x : ℕ → ℤ) (n : ℕ) → can_be_counted s ≡ true → 0 < half → change s (2 * half) x n ≡ change_at (counted_step s) half x n
 unfolding change change_at sum_met
-change_counted s half x n h some =
-    ap (λ z. int_shr (z +ℤ pos (half_of s.shift)) s.shift)
-    (weighted_sum s.parity (2 * half) x n s.taps s.first
-    ∙ ap (sum_below (length s.taps)) (fun_ext (λ j. ap (λ k. slice_index_or s.taps j (pos 0) *ℤ x k) (met_counted s.parity s.first half n j h some))))
+change_counted s half x n h some = grind (arith, weighted_sum, met_counted)
 
 same_test : (half k : ℕ) → nat_lt k (2 * half) ≡ nat_lt (k / 2) half
 same_test half k = grind (arith, nat_tests)
 
 lifted_at : (s : LiftingStep) (half : ℕ) (x : ℕ → ℤ) (k : ℕ) → can_be_counted s ≡ true → (half < 1) ⊎ (1 ≤ half) → lifted s (2 * half) x k ≡ lift (counted_step s) half x k
 unfolding lifted lift
-lifted_at s half x k h (inl none) = grind (arith, nat_tests)
-lifted_at s half x k h (inr some) =
-    ap (λ t. if t && (k % 2 == offset_of s.parity) then changed_by s.adds (x k) (change s (2 * half) x (k / 2)) else x k) (same_test half k)
-    ∙ ap (λ z. if nat_lt (k / 2) half && (k % 2 == offset_of s.parity) then changed_by s.adds (x k) z else x k) (change_counted s half x (k / 2) h some)
+lifted_at s half x k h g = grind (arith, same_test, change_counted)
 
 -- a step of the standard is the counted_step step
 pub lifted_counted : (s : LiftingStep) (half : ℕ) (x : ℕ → ℤ) → can_be_counted s ≡ true → lifted s (2 * half) x ≡ lift (counted_step s) half x
@@ -105,36 +93,15 @@ lifted_by_counted (s ∷ steps) half x h =
 
 synthesis_can : (w : ℕ) → list_all can_be_counted (synthesis_steps w) ≡ true
 unfolding synthesis_steps
-synthesis_can zero = refl
-synthesis_can (suc zero) = refl
-synthesis_can (suc (suc zero)) = refl
-synthesis_can (suc (suc (suc zero))) = refl
-synthesis_can (suc (suc (suc (suc zero)))) = refl
-synthesis_can (suc (suc (suc (suc (suc zero))))) = refl
-synthesis_can (suc (suc (suc (suc (suc (suc zero)))))) = refl
-synthesis_can (suc (suc (suc (suc (suc (suc (suc w))))))) = refl
+synthesis_can w = grind arith
 
 analysis_can : (w : ℕ) → list_all can_be_counted (analysis_steps w) ≡ true
 unfolding synthesis_steps
-analysis_can zero = refl
-analysis_can (suc zero) = refl
-analysis_can (suc (suc zero)) = refl
-analysis_can (suc (suc (suc zero))) = refl
-analysis_can (suc (suc (suc (suc zero)))) = refl
-analysis_can (suc (suc (suc (suc (suc zero))))) = refl
-analysis_can (suc (suc (suc (suc (suc (suc zero)))))) = refl
-analysis_can (suc (suc (suc (suc (suc (suc (suc w))))))) = refl
+analysis_can w = grind arith
 
 analysis_undone : (w : ℕ) → map counted_step (analysis_steps w) ≡ undone (counted_steps w)
 unfolding synthesis_steps counted_steps
-analysis_undone zero = refl
-analysis_undone (suc zero) = refl
-analysis_undone (suc (suc zero)) = refl
-analysis_undone (suc (suc (suc zero))) = refl
-analysis_undone (suc (suc (suc (suc zero)))) = refl
-analysis_undone (suc (suc (suc (suc (suc zero))))) = refl
-analysis_undone (suc (suc (suc (suc (suc (suc zero)))))) = refl
-analysis_undone (suc (suc (suc (suc (suc (suc (suc w))))))) = refl
+analysis_undone w = grind arith
 
 pub synthesised_counted : (w half : ℕ) (x : ℕ → ℤ) → synthesised w (2 * half) x ≡ lift_all (counted_steps w) half x
 unfolding synthesised counted_steps

@@ -1,15 +1,12 @@
 -- Where lines in two halves have their samples.
-use Rattle.std.proofs.Common.{◌≡◌, ◌≢◌, ℕ, ◌+◌, ◌-◌, ◌*◌, ◌/◌, ◌%◌, ◌<◌, ◌≤◌, arith, ap, ◌∙◌, min, sym, ◌⊎◌, inl, inr}
+use Rattle.std.proofs.Common.{◌≡◌, ◌≢◌, ℕ, ◌+◌, ◌-◌, ◌*◌, ◌<◌, ◌≤◌, arith, ap, ◌∙◌, min, sym, ◌⊎◌, inl, inr}
 use Rattle.vc_lift.specs.declared.halves.Halves.{Halves}
 use Rattle.vc_lift.specs.CountedSteps.{CountedStep, place_met}
 use Rattle.vc_lift.specs.Halves.{half_start, halves_place}
 
 -- sample number n of a parity
 pub place_at : (h : Halves) (n parity : ℕ) → parity < 2 → halves_place h (2 * n + parity) ≡ half_start h parity + n * h.pitch
-place_at h n parity lt =
-    let same : (2 * n + parity) % 2 ≡ parity = omega arith in
-    let number : (2 * n + parity) / 2 ≡ n = omega arith in
-    ap (λ p. half_start h p + (2 * n + parity) / 2 * h.pitch) same ∙ ap (λ m. half_start h parity + m * h.pitch) number
+place_at h n parity lt = grind arith
 
 -- the sample that tap j of a step meets
 pub met_at : (s : CountedStep) (h : Halves) (n j met place : ℕ) → s.parity < 2 → met ≡ min (n + j - s.back) (h.half - 1) → place ≡ half_start h (1 - s.parity) + met * h.pitch → place ≡ halves_place h (place_met s h.half n j)

@@ -67,10 +67,7 @@ change_rises g d a v m some large shifted sum =
 -- a sample of the changed parity after the step
 pub lifted_at : (s : CountedStep) (half : ℕ) (x : ℕ → ℤ) (n : ℕ) → s.parity < 2 → n < half → lift s half x (2 * n + s.parity) ≡ changed_by s.adds (x (2 * n + s.parity)) (change_at s half x n)
 unfolding lift
-lifted_at s half x n h k =
-    let below : (2 * n + s.parity) / 2 ≡ n = omega arith in
-    let same : (2 * n + s.parity) % 2 ≡ s.parity = omega arith in
-    rw (below, same) (grind (arith, nat_tests))
+lifted_at s half x n h k = grind arith
 
 pub kept_at : (s : CountedStep) (half : ℕ) (x : ℕ → ℤ) (n : ℕ) → s.parity < 2 → lift s half x (2 * n + (1 - s.parity)) ≡ x (2 * n + (1 - s.parity))
 unfolding lift
@@ -190,10 +187,7 @@ pub by_other : (y : ℕ → ℤ) (half b p : ℕ) → p < 2 → IsLittle y half 
 by_other y half b p h l = by_parity y half b (1 - p) (omega arith) l
 
 below_times : (most m a : ℕ) → 0 < most → 0 < m → a ≤ most * (m - 1) → a < most * m
-below_times most m a some more h =
-    let one : m ≡ m - 1 + 1 = omega arith in
-    let all : most * m ≡ most * (m - 1) + most = ap (λ n. most * n) one ∙ omega arith in
-    omega (arith, all)
+below_times most m a some more h = grind arith
 
 pub grows : (most : ℕ) (steps : List CountedStep) → 0 < most → IsTrue (grows_little most steps) → (half m : ℕ) (x : ℕ → ℤ) → 0 < half → 2 ^ 16 ≤ m → ((k : ℕ) → k < 2 * half → unsigned_abs (x k) < m) → (k : ℕ) → k < 2 * half → unsigned_abs (lift_all steps half x k) < most * m
 grows most steps more little half m x some large below k h =
@@ -205,34 +199,13 @@ grows most steps more little half m x some large below k h =
 
 pub synthesis_little : (w : ℕ) → grows_little 16 (counted_steps w) ≡ true
 unfolding synthesis_steps counted_steps
-synthesis_little zero = refl
-synthesis_little (suc zero) = refl
-synthesis_little (suc (suc zero)) = refl
-synthesis_little (suc (suc (suc zero))) = refl
-synthesis_little (suc (suc (suc (suc zero)))) = refl
-synthesis_little (suc (suc (suc (suc (suc zero))))) = refl
-synthesis_little (suc (suc (suc (suc (suc (suc zero)))))) = refl
-synthesis_little (suc (suc (suc (suc (suc (suc (suc w))))))) = refl
+synthesis_little w = grind arith
 
 pub analysis_little : (w : ℕ) → grows_little 16 (undone (counted_steps w)) ≡ true
 unfolding synthesis_steps counted_steps
-analysis_little zero = refl
-analysis_little (suc zero) = refl
-analysis_little (suc (suc zero)) = refl
-analysis_little (suc (suc (suc zero))) = refl
-analysis_little (suc (suc (suc (suc zero)))) = refl
-analysis_little (suc (suc (suc (suc (suc zero))))) = refl
-analysis_little (suc (suc (suc (suc (suc (suc zero)))))) = refl
-analysis_little (suc (suc (suc (suc (suc (suc (suc w))))))) = refl
+analysis_little w = grind arith
 
 -- analysis stays within 8 times
 pub analysis_lower : (w : ℕ) → grows_little 8 (undone (counted_steps w)) ≡ true
 unfolding synthesis_steps counted_steps
-analysis_lower zero = refl
-analysis_lower (suc zero) = refl
-analysis_lower (suc (suc zero)) = refl
-analysis_lower (suc (suc (suc zero))) = refl
-analysis_lower (suc (suc (suc (suc zero)))) = refl
-analysis_lower (suc (suc (suc (suc (suc zero))))) = refl
-analysis_lower (suc (suc (suc (suc (suc (suc zero)))))) = refl
-analysis_lower (suc (suc (suc (suc (suc (suc (suc w))))))) = refl
+analysis_lower w = grind arith

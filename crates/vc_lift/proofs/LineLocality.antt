@@ -1,10 +1,9 @@
 -- What steps make of a line depends on the line's own samples alone, and past its end they leave it as it is.
-use Rattle.std.proofs.Common.{◌≡◌, ℕ, ◌*◌, ◌/◌, ◌%◌, ◌<◌, ◌≤◌, List, [], ◌∷◌, length, ℤ, pos, ◌+ℤ◌, ◌*ℤ◌, arith, ap, refl, ◌∙◌, slice_index_or}
-use Rattle.std.specs.Prelude.{if◌then◌else◌, nat_lt, ◌==◌, ◌&&◌}
+use Rattle.std.proofs.Common.{◌≡◌, ℕ, ◌*◌, ◌/◌, ◌<◌, ◌≤◌, List, [], ◌∷◌, length, ℤ, pos, ◌+ℤ◌, ◌*ℤ◌, arith, ap, refl, ◌∙◌, slice_index_or}
 use Rattle.std.specs.Int.{int_shr}
 use mathlib.Core.Path.{fun_ext}
 use Rattle.std.proofs.lemmas.Bool.Decides.{nat_tests}
-use Rattle.vc_types.specs.Lifting.{half_of, changed_by}
+use Rattle.vc_types.specs.Lifting.{half_of}
 use Rattle.vc_lift.specs.CountedSteps.{CountedStep, place_met, sum_met, change_at, lift, lift_all, sum_below}
 
 module _ (half : ℕ) (some : 0 < half) where
@@ -15,9 +14,7 @@ module _ (half : ℕ) (some : 0 < half) where
 
   pub same_lift : (s : CountedStep) (x y : ℕ → ℤ) → ((k : ℕ) → k < 2 * half → x k ≡ y k) → (k : ℕ) → k < 2 * half → lift s half x k ≡ lift s half y k
   unfolding lift
-  same_lift s x y e k h =
-      ap (λ z. if nat_lt (k / 2) half && (k % 2 == s.parity) then changed_by s.adds z (change_at s half x (k / 2)) else z) (e k h)
-      ∙ ap (λ z. if nat_lt (k / 2) half && (k % 2 == s.parity) then changed_by s.adds (y k) z else y k) (same_change s x y e (k / 2))
+  same_lift s x y e k h = grind (arith, same_change)
 
   pub same_lift_all : (steps : List CountedStep) (x y : ℕ → ℤ) → ((k : ℕ) → k < 2 * half → x k ≡ y k) → (k : ℕ) → k < 2 * half → lift_all steps half x k ≡ lift_all steps half y k
   unfolding lift_all

@@ -1,16 +1,15 @@
 -- Steps undo the opposite steps in the opposite order.
-use Rattle.std.proofs.Common.{◌≡◌, ℕ, zero, suc, get_or, ◌+◌, ◌-◌, ◌*◌, ◌/◌, ◌%◌, ◌<◌, List, [], ◌∷◌, ◌++◌, length, ℤ, pos, ◌+ℤ◌, ◌*ℤ◌, arith, sym, ap, refl, ◌∙◌, Bool, true, false, not, map, reverse, fold, slice_index_or}
+use Rattle.std.proofs.Common.{◌≡◌, ℕ, get_or, ◌-◌, ◌/◌, ◌%◌, ◌<◌, List, [], ◌∷◌, ◌++◌, length, ℤ, arith, sym, ap, refl, ◌∙◌, Bool, true, false, not, map, reverse, fold}
 use Rattle.std.specs.Prelude.{if◌then◌else◌, nat_lt, ◌==◌, ◌&&◌}
 use Rattle.std.specs.List.{list_all}
-use Rattle.std.specs.Int.{int_shr}
 use mathlib.Core.Path.{fun_ext}
 use Rattle.std.proofs.lemmas.Int.{ints}
 use Rattle.std.proofs.lemmas.Bool.Decides.{nat_tests}
 use Rattle.std.proofs.lemmas.List.Sums.{fold-append}
 use Rattle.std.proofs.lemmas.List.{map-append, reverse-append, get_or-map, get_or-reverse, length-reverse, length-map}
-use Rattle.vc_types.specs.Lifting.{half_of, changed_by}
+use Rattle.vc_types.specs.Lifting.{changed_by}
 use Rattle.vc_types.specs.Wavelets.{synthesis_steps}
-use Rattle.vc_lift.specs.CountedSteps.{CountedStep, sum_met, change_at, lift, lift_all, opposite_counted, undone, sum_below}
+use Rattle.vc_lift.specs.CountedSteps.{CountedStep, sum_met, change_at, lift, lift_all, opposite_counted, undone}
 use Rattle.vc_lift.proofs.CountedSteps.{counted_steps}
 use Rattle.vc_lift.proofs.LineGrowth.{kept_at}
 
@@ -21,11 +20,7 @@ back_again false a c = omega (arith, ints)
 -- the change does not see the samples that the step changes
 same_change : (s t : CountedStep) (half : ℕ) (x : ℕ → ℤ) (n : ℕ) → s.parity < 2 → t.parity ≡ s.parity → change_at s half (lift t half x) n ≡ change_at s half x n
 unfolding change_at sum_met
-same_change s t half x n h e =
-    ap (λ z. int_shr (z +ℤ pos (half_of s.shift)) s.shift) (ap (sum_below (length s.taps)) (fun_ext (λ j. ap (λ z. slice_index_or s.taps j (pos 0) *ℤ z) (kept t half x _ h e))))
-  where
-    kept : (t : CountedStep) (half : ℕ) (x : ℕ → ℤ) (k : ℕ) → s.parity < 2 → t.parity ≡ s.parity → lift t half x (2 * k + (1 - s.parity)) ≡ x (2 * k + (1 - s.parity))
-    kept t half x k h e = rw (← e) (kept_at t half x k (rw e h))
+same_change s t half x n h e = grind (arith, kept_at)
 
 same_change_opposite : (s : CountedStep) (half : ℕ) (x : ℕ → ℤ) (n : ℕ) → change_at (opposite_counted s) half x n ≡ change_at s half x n
 unfolding change_at sum_met
@@ -58,9 +53,7 @@ lift_all-undone (s ∷ steps) half x h =
     ap (λ y. fold (λ z t. lift t half z) y steps) mended ∙ lift_all-undone steps half x (grind (arith, nat_tests))
 
 pub get_or-undone : (steps : List CountedStep) (i : ℕ) (d e : CountedStep) → i < length steps → get_or (undone steps) i e ≡ opposite_counted (get_or steps (length steps - 1 - i) d)
-get_or-undone steps i d e h =
-    let within : i < length (reverse steps) = rw length-reverse h in
-    get_or-map opposite_counted (reverse steps) i d e within ∙ ap opposite_counted (get_or-reverse steps i d h)
+get_or-undone steps i d e h = grind (arith, length-reverse, get_or-map, get_or-reverse)
 
 pub order_at : {X : Type 0} (f : X → CountedStep) (xs : List X) (i : ℕ) (d : X) (e : CountedStep) → i < length xs → get_or (undone (map f xs)) i e ≡ opposite_counted (f (get_or xs (length xs - 1 - i) d))
 order_at f xs i d e h =
@@ -72,11 +65,4 @@ order_at f xs i d e h =
 
 pub parities : (w : ℕ) → list_all (λ s. nat_lt s.parity 2) (counted_steps w) ≡ true
 unfolding synthesis_steps counted_steps
-parities zero = refl
-parities (suc zero) = refl
-parities (suc (suc zero)) = refl
-parities (suc (suc (suc zero))) = refl
-parities (suc (suc (suc (suc zero)))) = refl
-parities (suc (suc (suc (suc (suc zero))))) = refl
-parities (suc (suc (suc (suc (suc (suc zero)))))) = refl
-parities (suc (suc (suc (suc (suc (suc (suc w))))))) = refl
+parities w = grind arith

@@ -1,8 +1,8 @@
 -- Changes in 32 bits: what a step with room reckons fits, and depends on the samples met alone.
-use Rattle.std.proofs.Common.{◌≡◌, ℕ, zero, suc, ◌+◌, ◌*◌, ◌/◌, ◌%◌, ◌^◌, ◌<◌, ◌≤◌, List, length, take, get_or, ℤ, pos, negsuc, ◌+ℤ◌, ◌*ℤ◌, arith, ap, sym, ◌∙◌, refl, subst, unsigned_abs, slice_index_or, FitsSigned, to_z, of_z, Bool}
+use Rattle.std.proofs.Common.{◌≡◌, ℕ, zero, suc, ◌+◌, ◌*◌, ◌/◌, ◌%◌, ◌^◌, ◌<◌, ◌≤◌, List, length, take, get_or, ℤ, pos, negsuc, ◌+ℤ◌, ◌*ℤ◌, arith, ap, ◌∙◌, refl, subst, unsigned_abs, slice_index_or, FitsSigned, to_z, of_z, Bool}
 use Rattle.std.specs.Int.{w32, int_shr}
 use Rattle.std.specs.List.{sum_by}
-use Rattle.std.proofs.lemmas.Int.{to_z-of_z, to_z_pos, fits_signed_from_abs}
+use Rattle.std.proofs.lemmas.Int.{ints, to_z-of_z, to_z_pos, fits_signed_from_abs}
 use Rattle.std.proofs.lemmas.Nat.{one_shl, le-div}
 use Rattle.std.proofs.lemmas.List.Sums.{sum_by-take-le}
 use Rattle.std.proofs.Math.Nat.{div-le_self, div-mul-le_self, mul-le-mul_right}
@@ -11,7 +11,7 @@ use Rattle.std.proofs.Math.Pow.{pow_mono, pow_pos}
 use Rattle.vc_types.specs.Lifting.{half_of, changed_by}
 use Rattle.vc_lift.specs.CountedSteps.{CountedStep, sum_below, place_met, sum_met, change_at}
 use Rattle.vc_lift.specs.Growth.{weight}
-use Rattle.vc_lift.specs.Ranges.{HasRangeAt, rounded_sum, stretched}
+use Rattle.vc_lift.specs.Ranges.{HasRangeAt}
 use Rattle.vc_lift.proofs.WeightedSums.{abs-add}
 use Rattle.vc_lift.proofs.Sums.{sum_more}
 
@@ -42,10 +42,7 @@ sum_met_within s half x n m small =
 -- the change of a sample that has room
 pub change_within : (s : CountedStep) (half : ℕ) (x : ℕ → ℤ) (n limit : ℕ) → HasRangeAt limit s half x n → unsigned_abs (x (2 * n + s.parity)) + unsigned_abs (change_at s half x n) < limit
 unfolding change_at
-change_within s half x n limit room =
-    let sum = sum_met_within s half x n room.other room.met in
-    let change = shr_at_most (sum_met s half x n +ℤ pos (half_of s.shift)) s.shift (rounded_sum s room.other) (omega (arith, abs-add (sum_met s half x n) (pos (half_of s.shift)), sum)) in
-    omega (arith, change, room.result)
+change_within s half x n limit room = grind (arith, sum_met_within, shr_at_most, abs-add)
 
 same_below : (n : ℕ) (f g : ℕ → ℤ) → ((j : ℕ) → j < n → f j ≡ g j) → sum_below n f ≡ sum_below n g
 unfolding sum_below
@@ -58,12 +55,7 @@ unfolding change_at sum_met
 same_change s half x y n m same = ap (λ z. int_shr (z +ℤ pos (half_of s.shift)) s.shift) (same_below (length s.taps) _ _ (λ j h. ap (λ z. slice_index_or s.taps j (pos 0) *ℤ z) (same j h)))
 
 pub same_room : (s : CountedStep) (half : ℕ) (x y : ℕ → ℤ) (n m limit : ℕ) → ((j : ℕ) → j < length s.taps → x (place_met s half n j) ≡ y (place_met s half m j)) → x (2 * n + s.parity) ≡ y (2 * m + s.parity) → HasRangeAt limit s half y m → HasRangeAt limit s half x n
-same_room s half x y n m limit same own room = record {
-  other = room.other;
-  met = λ j h. subst (λ z. unsigned_abs z ≤ room.other) (sym (same j h)) (room.met j h);
-  sum = room.sum;
-  result = subst (λ z. stretched s (unsigned_abs z) room.other < limit) (sym own) room.result;
-}
+same_room s half x y n m limit same own room = grind arith
 
 -- ---- 32 bits
 
@@ -71,21 +63,10 @@ read : (x : ℤ) → unsigned_abs x < 2 ^ 31 → to_z w32 (of_z w32 x) ≡ x
 read x h = to_z-of_z w32 x (fits_signed_from_abs w32 x h)
 
 pub narrow_rounding : (k : ℕ) → k ≤ 12 → to_z w32 (1 * 2 ^ k % 2 ^ 32 / 2) ≡ pos (half_of k)
-narrow_rounding k h =
-    let is : 1 * 2 ^ k % 2 ^ 32 / 2 ≡ 2 ^ k / 2 = ap (λ n. n / 2) (one_shl k 32 (omega arith)) in
-    ap (to_z w32) is ∙ to_z_pos w32 (2 ^ k / 2) (omega (arith, pow_mono h))
+narrow_rounding k h = omega (arith, ints, one_shl, to_z_pos, pow_mono)
 
 pub narrow_shift : (w r : ℤ) (k : ℕ) → r ≡ pos (half_of k) → unsigned_abs w + half_of k < 2 ^ 31 → to_z w32 (of_z w32 (int_shr (to_z w32 (of_z w32 (to_z w32 (of_z w32 w) +ℤ r))) k)) ≡ int_shr (w +ℤ pos (half_of k)) k
-narrow_shift w r k e h =
-    rw (e, read w (omega arith), read (w +ℤ pos (half_of k)) (omega (arith, abs-add w (pos (half_of k)))))
-    (shifted (w +ℤ pos (half_of k)) (omega (arith, abs-add w (pos (half_of k)))))
-  where
-    shr_down : (z : ℤ) → unsigned_abs (int_shr z k) ≤ unsigned_abs z
-    shr_down (pos n) = omega (arith, div-le_self n (2 ^ k))
-    shr_down (negsuc n) = omega (arith, div-le_self n (2 ^ k))
-
-    shifted : (z : ℤ) → unsigned_abs z < 2 ^ 31 → to_z w32 (of_z w32 (int_shr z k)) ≡ int_shr z k
-    shifted z lt = read (int_shr z k) (omega (arith, shr_down z))
+narrow_shift w r k e h = grind (arith, read, abs-add, div-le_self)
 
 pub narrow_changed : (adds : Bool) (a b : ℤ) → FitsSigned w32 a → FitsSigned w32 b → changed_by adds (to_z w32 (of_z w32 a)) (to_z w32 (of_z w32 b)) ≡ changed_by adds a b
 narrow_changed adds a b h k = rw (to_z-of_z w32 a h, to_z-of_z w32 b k) refl

@@ -88,9 +88,7 @@ shr_bound (pos n) k m h = omega (arith, div-le_self n (2 ^ k))
 shr_bound (negsuc n) k m h = omega (arith, div-le_self n (2 ^ k))
 
 pub shift_read : (w r : ℤ) (k : ℕ) → unsigned_abs w < 2 ^ 126 → unsigned_abs r ≤ 2 ^ 12 → to_z w128 (of_z w128 (int_shr (to_z w128 (of_z w128 (to_z w128 (of_z w128 w) +ℤ to_z w128 (of_z w128 r)))) k)) ≡ int_shr (w +ℤ r) k
-shift_read w r k h g =
-    rw (read_back w (omega arith), read_back r (omega arith), read_back (w +ℤ r) (omega (arith, abs-add w r)))
-    (read_back (int_shr (w +ℤ r) k) (omega (arith, abs-add w r, shr_bound (w +ℤ r) k (2 ^ 126 + 2 ^ 12 + 1))))
+shift_read w r k h g = grind (arith, read_back, abs-add, shr_bound)
 
 pub shift_small : (w r : ℤ) (k : ℕ) → unsigned_abs w < 2 ^ 126 → unsigned_abs r ≤ 2 ^ 12 → unsigned_abs (to_z w128 (of_z w128 (int_shr (to_z w128 (of_z w128 (to_z w128 (of_z w128 w) +ℤ to_z w128 (of_z w128 r)))) k))) ≤ 2 ^ 126 + 2 ^ 12
 shift_small w r k h g = rw (shift_read w r k h g) (shr_bound (w +ℤ r) k (2 ^ 126 + 2 ^ 12) (omega (arith, abs-add w r)))

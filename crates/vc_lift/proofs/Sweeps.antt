@@ -36,10 +36,7 @@ at_place s half m x h = let below : (2 * m + s.parity) / 2 ≡ m = omega arith i
 
 here : (s : CountedStep) (half m : ℕ) (x : ℕ → ℤ) → s.parity < 2 → part s half (m + 1) x (2 * m + s.parity) ≡ changed_by s.adds (x (2 * m + s.parity)) (change_at s half x m)
 unfolding part
-here s half m x h =
-    let below : (2 * m + s.parity) / 2 ≡ m = omega arith in
-    let same : (2 * m + s.parity) % 2 ≡ s.parity = omega arith in
-    rw (below, same) (grind (arith, nat_tests))
+here s half m x h = grind arith
 
 elsewhere : (s : CountedStep) (half m : ℕ) (x : ℕ → ℤ) (k : ℕ) → s.parity < 2 → k ≢ 2 * m + s.parity → part s half (m + 1) x k ≡ part s half m x k
 unfolding part

@@ -23,9 +23,7 @@ overflow_mul-sum-in-loop-j-2 c =
 
 pub overflow_add-sum-in-loop-j : goal.overflow_add-sum-in-loop-j
 overflow_add-sum-in-loop-j c =
-    let k = (2 * (c.args.n - c.args.step.now.back) + (1 - c.args.step.now.parity)) * c.args.width + c.args.x + 2 * c.loop-j.j * c.args.width in
-    let small = inside_small c.args.half c.args.width c.args.n c.args.step.now.back c.loop-j.j c.args.x c.args.step.now.parity c.requires.at c.requires.left (omega arith) c.args.cells.now (2 ^ 112) c.requires.met in
-    sum_fits w128 c.args.step.now.taps.now (2 ^ 112) c.loop-j.j c.from.result (slice_index_or c.args.cells.now k (pos 0)) (to_z w128 c.loop-j.sum-bits) (tap_read c.args.step.now.taps.now c.loop-j.j c.from.result c.from.ensures c.loop-j-test.true c.requires.plain.light) c.loop-j-test.true (light_fits c.requires.plain.light) (sample_fits small) (light_room c.requires.plain.light) small c.loop-j.invariant.bound
+    grind (arith, inside_small, sum_fits, tap_read, light_fits, sample_fits, light_room)
 
 pub loop-j-preserved : goal.loop-j-preserved
 loop-j-preserved c =

@@ -1,4 +1,4 @@
-use Rattle.std.proofs.Common.{◌^◌, ◌<◌, ◌+◌, ◌*◌, pos, unsigned_abs, ap, sym, subst, ◌∙◌, ℤ, ◌+ℤ◌}
+use Rattle.std.proofs.Common.{arith, ◌^◌, ◌<◌, ◌+◌, ◌*◌, pos, unsigned_abs, ap, sym, subst, ◌∙◌, ℤ, ◌+ℤ◌}
 use Rattle.std.specs.Int.{int_shr}
 use Rattle.vc_types.specs.Lifting.{half_of}
 use Rattle.vc_lift.specs.CountedSteps.{change_at}
@@ -9,10 +9,7 @@ use Rattle.vc_lift.proofs.narrow.change_at.Goals as goal
 
 pub returns-clause-value : goal.returns-clause-value
 unfolding change_at
-returns-clause-value c =
-    let k = c.args.step.now.shift in
-    narrow_shift c.weigh.result _ k (narrow_rounding k c.requires.plain.shift) c.weigh.ensures.bound
-    ∙ ap (λ z. int_shr (z +ℤ pos (half_of k)) k) c.weigh.ensures.value
+returns-clause-value c = grind (arith, narrow_shift, narrow_rounding)
 
 pub returns-clause-bound : goal.returns-clause-bound
 unfolding change_at

@@ -1,6 +1,7 @@
-use Rattle.std.proofs.Common.{rules, ◌≡◌, ◌+◌, ◌^◌, ◌≤◌, ℕ, length, unsigned_abs, pos, ◌+ℤ◌, ◌*ℤ◌, slice_index_or, FitsSigned, to_z, arith, sym, ap, subst, ◌∙◌}
+use Rattle.std.proofs.lemmas.Grind.{common_steps}
+use Rattle.std.proofs.Common.{rules, ◌≡◌, ◌+◌, ◌≤◌, ℕ, length, unsigned_abs, pos, ◌+ℤ◌, ◌*ℤ◌, slice_index_or, FitsSigned, to_z, arith, sym, ap, subst, ◌∙◌}
 use Rattle.std.specs.Int.{w32}
-use Rattle.vc_types.specs.Lifting.{line_of, half_of}
+use Rattle.vc_types.specs.Lifting.{line_of}
 use Rattle.vc_lift.specs.CountedSteps.{sum_met, place_met, sum_below}
 use Rattle.vc_lift.specs.Steps.{counted_of}
 use Rattle.vc_lift.specs.Halves.{halves_place, line_in}
@@ -61,6 +62,4 @@ unfolding sum_met
 returns-clause-value c = let end : c.loop-j.j ≡ length c.args.step.now.taps.now = omega arith in rw (← end) c.loop-j.invariant.value
 
 pub returns-clause-bound : goal.returns-clause-bound
-returns-clause-bound c =
-    let end : c.loop-j.j ≡ length c.args.step.now.taps.now = omega arith in
-    whole_sum c.args.step.now.taps.now c.loop-j.j c.requires.room.other (half_of c.args.step.now.shift) (2 ^ 31) (to_z w32 c.loop-j.sum-bits) c.requires.room.sum (c.loop-j.invariant.bound c.requires.room.other c.requires.room.met)
+returns-clause-bound c = grind (arith, common_steps, whole_sum)

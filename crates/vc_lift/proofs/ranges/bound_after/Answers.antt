@@ -1,6 +1,5 @@
-use Rattle.std.proofs.Common.{Some, ◌^◌, ◌<◌, ◌+◌, ◌≤◌, ℕ, length, map, drop, arith, ap, sym, ◌∙◌}
+use Rattle.std.proofs.Common.{Some, ◌^◌, ◌<◌, ◌≤◌, length, map, arith, ap, sym, ◌∙◌}
 use Rattle.std.proofs.lemmas.List.{length-map, drop_all}
-use Rattle.std.specs.Option.{option_and_then}
 use Rattle.vc_lift.specs.CountedSteps.{in_order}
 use Rattle.vc_lift.specs.Ranges.{bound_after}
 use Rattle.vc_lift.specs.Steps.{counted_of, counted_row}
@@ -16,15 +15,7 @@ pub next-requires-clause-plain : goal.next-requires-clause-plain
 next-requires-clause-plain c = plain (counted_of c.step_at-step.result) (plain_now 16 (in_order c.args.undo (map counted_row c.args.rows.now)) c.requires.steps c.loop-i.i (counted_of c.step_at-step.result) c.step_at-step.ensures (in_list c))
 
 pub returns-in_err-bounds-clause-value : goal.returns-in_err-bounds-clause-value
-returns-in_err-bounds-clause-value c =
-    let ss = in_order c.args.undo (map counted_row c.args.rows.now) in
-    let s = counted_of c.step_at-step.result in
-    let within : c.loop-i.i < length ss = simp (length-in_order, length-map) c.loop-i-test.true in
-    c.from_residual.ensures
-    ∙ sym (c.loop-i.invariant.same
-    ∙ ap (λ ts. bound_after (2 ^ 31) ts c.loop-i.bounds.0 c.loop-i.bounds.1) (rest_of ss c.loop-i.i s c.step_at-step.ensures within)
-    ∙ c.next.ensures.value (drop (c.loop-i.i + 1) ss)
-    ∙ ap (option_and_then (λ (b : ℕ × ℕ). bound_after (2 ^ 31) (drop (c.loop-i.i + 1) ss) b.0 b.1)) c.in_err-bounds.was)
+returns-in_err-bounds-clause-value c = grind (arith, length-in_order, length-map, rest_of)
 
 pub returns-clause-value : goal.returns-clause-value
 returns-clause-value c =

@@ -1,6 +1,4 @@
-use Rattle.std.proofs.Common.{List, ◌^◌, ap, ◌∙◌}
-use Rattle.vc_lift.specs.CountedSteps.{CountedStep}
-use Rattle.vc_lift.specs.Ranges.{bound_after}
+use Rattle.std.proofs.Common.{arith}
 use Rattle.vc_lift.proofs.CountedSteps.{counted_steps, same_rows}
 use Rattle.vc_lift.proofs.LineGrowth.{synthesis_little}
 use Rattle.vc_lift.proofs.ranges.narrow_bound.Goals as goal
@@ -10,6 +8,4 @@ bound_after-requires-clause-steps c = rw (same_rows c.args.wavelet c.steps.resul
 
 pub returns-clause-value : goal.returns-clause-value
 unfolding counted_steps
-returns-clause-value c =
-    c.bound_after.ensures.value
-    ∙ ap (λ (ss : List CountedStep). bound_after (2 ^ 31) ss c.args.most c.args.most) (same_rows c.args.wavelet c.steps.result.now c.steps.ensures)
+returns-clause-value c = grind (arith, same_rows)
