@@ -1,5 +1,5 @@
 -- Codes of numbers that are added to bits, digit by digit and one behind the other.
-use Rattle.std.proofs.Common.{◌≡◌, ℕ, zero, suc, ◌+◌, ◌/◌, ◌^◌, ◌<◌, ℤ, pos, Bool, true, false, eqb, List, [], ◌∷◌, ◌++◌, length, take, get_or, refl, sym, ap, ◌∙◌, arith, append_assoc, append-nil}
+use Rattle.std.proofs.Common.{◌≡◌, ℕ, ◌+◌, ◌/◌, ◌^◌, ◌<◌, ℤ, pos, Bool, true, false, eqb, List, [], ◌∷◌, ◌++◌, length, take, get_or, refl, sym, ap, ◌∙◌, arith, append_assoc, append-nil}
 use Rattle.std.specs.Prelude.{unsigned_abs}
 use Rattle.std.specs.Int.{bit_at, is_negative}
 use Rattle.std.specs.List.{flat_map}
@@ -7,23 +7,18 @@ use mir.Val.{bool_byte}
 use Rattle.std.proofs.lemmas.List.{take_more}
 use Rattle.std.proofs.lemmas.List.Concat.{flat_map-append}
 use Rattle.std.proofs.lemmas.Nat.Bits.{bit_at-lt}
-use Rattle.vc_types.specs.Codes.{spread_digits, uint_bits, sint_bits}
+use Rattle.vc_types.specs.Codes.{spread_digits, sint_bits}
 use Rattle.vc_bits.specs.Bits.{word_bits}
 use Rattle.vc_golomb.proofs.WrittenCodes.{pair_more, whole_code, signed}
 
 -- a digit and the 0 before it, as the last two bits of a word
 digit_bits : (digit : ℕ) → digit < 2 → word_bits 2 digit ≡ false ∷ eqb digit 1 ∷ []
 unfolding word_bits
-digit_bits zero small = refl
-digit_bits (suc zero) small = refl
-digit_bits (suc (suc digit)) small = absurd (omega arith)
+digit_bits digit small = grind arith
 
 pub digit_added : (v place digit : ℕ) (old before after : List Bool) → 0 < (v + 1) / 2 ^ (place + 1) → before ≡ old ++ spread_digits ((v + 1) / 2 ^ (place + 1)) → digit ≡ bit_at (v + 1) place → after ≡ before ++ word_bits 2 digit → after ≡ old ++ spread_digits ((v + 1) / 2 ^ place)
 digit_added v place digit old before after some so_far is added =
-    let bit = eqb (bit_at (v + 1) place) 1 in
-    let bits : word_bits 2 digit ≡ false ∷ bit ∷ [] = ap (word_bits 2) is ∙ digit_bits (bit_at (v + 1) place) (bit_at-lt (v + 1) place) in
-    pair_more v place old before (before ++ false ∷ []) after some so_far refl
-    (added ∙ ap (λ (more : List Bool). before ++ more) bits ∙ sym (append_assoc before (false ∷ []) (bit ∷ [])))
+    grind (arith, digit_bits, bit_at-lt, pair_more, append_assoc)
 
 -- the end of the digits and a sign
 end_bits : (sign : Bool) → word_bits 2 (2 + bool_byte sign) ≡ true ∷ sign ∷ []
@@ -33,10 +28,7 @@ end_bits false = refl
 
 pub sign_added : (v : ℤ) (place sign : ℕ) (old before after : List Bool) → place ≡ 0 → 0 < unsigned_abs v → before ≡ old ++ spread_digits ((unsigned_abs v + 1) / 2 ^ place) → sign ≡ bool_byte (is_negative v) → after ≡ before ++ word_bits 2 (2 + sign) → after ≡ old ++ sint_bits v
 sign_added v place sign old before after none some so_far is added =
-    let bits : word_bits 2 (2 + sign) ≡ true ∷ is_negative v ∷ [] = ap (λ (n : ℕ). word_bits 2 (2 + n)) is ∙ end_bits (is_negative v) in
-    let digits : before ++ true ∷ [] ≡ old ++ uint_bits (unsigned_abs v) = whole_code (unsigned_abs v) place old before (before ++ true ∷ []) none so_far refl in
-    signed v (unsigned_abs v) old (before ++ true ∷ []) after refl (λ zero_is. omega (arith, zero_is, some)) digits
-    (added ∙ ap (λ (more : List Bool). before ++ more) bits ∙ sym (append_assoc before (true ∷ []) (is_negative v ∷ [])))
+    grind (arith, end_bits, whole_code, signed, append_assoc)
 
 -- one more code behind those of the first numbers
 pub code_more : (numbers : List ℤ) (i : ℕ) (before after : List Bool) → i < length numbers → before ≡ flat_map sint_bits (take i numbers) → after ≡ before ++ sint_bits (get_or numbers i (pos 0)) → after ≡ flat_map sint_bits (take (i + 1) numbers)

@@ -1,7 +1,7 @@
 -- The table says of each byte what its bits say.
-use Rattle.std.proofs.Common.{◌≡◌, ℕ, zero, suc, ◌-◌, ◌*◌, ◌/◌, ◌%◌, ◌^◌, ◌<◌, ◌≤◌, Bool, true, false, eqb, leb, List, [], ◌∷◌, ◌++◌, length, get_or, take, drop, refl, sym, ap, subst, ◌∙◌, arith, inl, inr}
+use Rattle.std.proofs.Common.{rules, ◌≡◌, ℕ, ◌-◌, ◌*◌, ◌/◌, ◌%◌, ◌^◌, ◌<◌, ◌≤◌, Bool, true, false, eqb, leb, List, ◌++◌, length, get_or, take, drop, refl, sym, ap, ◌∙◌, arith}
 use Rattle.std.specs.Prelude.{◌&&◌, ◌||◌}
-use Rattle.std.proofs.lemmas.Bool.{and_parts, cases_lt, eqb-true, leb-true}
+use Rattle.std.proofs.lemmas.Bool.{and_parts, eqb-true, leb-true}
 use Rattle.std.proofs.lemmas.Nat.{pow_below}
 use Rattle.std.proofs.lemmas.List.{take-append-drop}
 use Rattle.vc_types.proofs.Digits.{number_of-lt}
@@ -29,9 +29,7 @@ all_looks = refl
 
 -- a 1 that is surely there stands among the bits, whatever is read past them
 set_bit : (bits : List Bool) (place : ℕ) → get_or bits place false ≡ true → bounded bits place ≡ true
-set_bit [] place h = refl
-set_bit (bit ∷ bits) zero h = h
-set_bit (bit ∷ bits) (suc place) h = set_bit bits place h
+set_bit bits place h = search rules
 
 from_test : (byte taken digits : ℕ) → is_look byte taken digits ≡ true → IsLook byte taken digits
 from_test byte taken digits test =
@@ -67,11 +65,7 @@ pub looks : (byte : ℕ) → byte < 256 → IsLook byte (get_or TAKEN byte 0) (g
 looks byte small = from_test byte (get_or TAKEN byte 0) (get_or DIGITS byte 0) (holds_at (λ byte. is_look byte (get_or TAKEN byte 0) (get_or DIGITS byte 0)) 256 byte all_looks small)
 
 few_digits : (n number digits : ℕ) → n ≤ 4 → number < 2 ^ n → number ≡ digits → digits < 16
-few_digits n number digits small below is =
-    elim (cases_lt n 4) [
-      | inl lt ↦ omega (arith, pow_below n 4 lt)
-      | inr le ↦ let four : n ≡ 4 = omega arith in let under : number < 16 = subst (λ (k : ℕ). number < 2 ^ k) four below in omega arith
-    ]
+few_digits n number digits small below is = search (rules, pow_below)
 
 pub looks_small : (byte : ℕ) → byte < 256 → (get_or TAKEN byte 0 ≤ 8) × (get_or DIGITS byte 0 < 16)
 looks_small byte small =

@@ -1,5 +1,5 @@
 -- Numbers that are read one after another, by their places and as a list.
-use Rattle.std.proofs.Common.{◌≡◌, ℕ, zero, suc, ◌<◌, ◌≤◌, ◌^◌, ◌-◌, ℤ, unsigned_abs, List, Bool, arith, refl, sym, subst, ◌∙◌}
+use Rattle.std.proofs.Common.{◌≡◌, ℕ, zero, suc, ◌<◌, ◌≤◌, ◌^◌, ◌-◌, ℤ, unsigned_abs, List, Bool, arith, refl, sym, ◌∙◌}
 use Rattle.std.specs.Prelude.{Result, Ok, Err, OnOk, OnErr, IsErr, ◌↔◌}
 use Rattle.vc_types.specs.Bounded.{bounded_sint, bounded_sints}
 use Rattle.vc_types.specs.Lifting.{line_of}
@@ -19,12 +19,7 @@ module _ {E : Type 0} (n : ℕ) (bits : List Bool) where
 
   pub large_listed : (read : Result ℕ E) → OnErr read ((i : ℕ) × (i < n) × (2 ^ 30 ≤ unsigned_abs (number_at bits i)))
       → OnErr read (HasLarge n bits)
-  large_listed (Ok done) read = read
-  large_listed (Err large) read = record {
-    place = read.0;
-    below = read.1;
-    large = subst (λ (z : ℤ). 2 ^ 30 ≤ unsigned_abs z) (sym (number_listed n read.0 bits read.1)) read.2;
-  }
+  large_listed read i = grind (arith, number_listed)
 
 -- the first number is refused
 pub large_first : {E : Type 0} (bits : List Bool) (read : Result ℤ E) → IsErr read ↔ (2 ^ 30 - 1 < unsigned_abs (bounded_sint bits).0) → OnErr read (2 ^ 30 ≤ unsigned_abs (number_at bits 0))

@@ -1,5 +1,5 @@
 -- A code behind ones, in one word.
-use Rattle.std.proofs.Common.{◌≡◌, ℕ, ◌+◌, ◌-◌, ◌*◌, ◌%◌, ◌^◌, ◌<◌, ◌≤◌, Bool, true, List, ◌++◌, replicate, ap, ◌∙◌, arith}
+use Rattle.std.proofs.Common.{◌≡◌, ℕ, ◌+◌, ◌-◌, ◌*◌, ◌%◌, ◌^◌, ◌<◌, ◌≤◌, true, ◌++◌, replicate, arith}
 use Rattle.std.proofs.lemmas.Nat.{one_shl, pow_pos}
 use Rattle.vc_bits.specs.Bits.{word_bits}
 use Rattle.vc_bits.proofs.Waiting.{joined_bits, joined_fits, moved_up}
@@ -11,15 +11,10 @@ module _ (ones count number : ℕ) (few : ones ≤ 16) (short : count ≤ 16) (s
 
   -- as the code computes it
   pub moved : (1 * 2 ^ ones % 2 ^ 64 - 1) * 2 ^ count % 2 ^ 64 ≡ (2 ^ ones - 1) * 2 ^ count
-  moved =
-      ap (λ (n : ℕ). (n - 1) * 2 ^ count % 2 ^ 64) (one_shl ones 64 (omega arith))
-      ∙ moved_up ones (2 ^ ones - 1) count (omega (arith, some)) (omega arith)
+  moved = grind (arith, one_shl, moved_up, some)
 
   pub ones_bits : word_bits (ones + count) ((1 * 2 ^ ones % 2 ^ 64 - 1) * 2 ^ count % 2 ^ 64 + number) ≡ replicate ones true ++ word_bits count number
-  ones_bits =
-      ap (λ (n : ℕ). word_bits (ones + count) (n + number)) moved
-      ∙ joined_bits ones (2 ^ ones - 1) count number small
-      ∙ ap (λ (bits : List Bool). bits ++ word_bits count number) (only_ones ones)
+  ones_bits = grind (arith, moved, joined_bits, only_ones)
 
   pub ones_fit : (1 * 2 ^ ones % 2 ^ 64 - 1) * 2 ^ count % 2 ^ 64 + number < 2 ^ (ones + count)
   ones_fit = rw moved (joined_fits ones (2 ^ ones - 1) count number (omega (arith, some)) small)

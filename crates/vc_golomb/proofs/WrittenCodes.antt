@@ -1,6 +1,6 @@
 -- The code of a number, as it is written digit by digit.
 use Rattle.std.proofs.Common.{◌≡◌, ℕ, zero, suc, ◌+◌, ◌*◌, ◌/◌, ◌^◌, ◌<◌, ◌≤◌, ℤ, Bool, true, false, eqb, List, [], ◌∷◌, ◌++◌, refl, sym, ap, subst, ◌∙◌, arith, append_assoc, append-nil, add-one}
-use Rattle.std.specs.Prelude.{unsigned_abs, pos, negsuc}
+use Rattle.std.specs.Prelude.{unsigned_abs, pos}
 use Rattle.std.specs.Int.{bit_at, is_negative}
 use Rattle.std.proofs.Math.Nat.{div-div-eq-div-mul, pow-suc}
 use Rattle.std.proofs.lemmas.Bool.{le-ltb}
@@ -45,9 +45,7 @@ front_digits v place some =
     (all.0 ++ true ∷ [], ap (λ (bits : List Bool). bits ++ true ∷ []) all.1 ∙ append_assoc (spread_digits ((v + 1) / 2 ^ place)) all.0 (true ∷ []))
 
 pub front_at : (v place : ℕ) (old new : List Bool) → 0 < (v + 1) / 2 ^ place → new ≡ old ++ spread_digits ((v + 1) / 2 ^ place) → WroteFront (uint_bits v) old new
-front_at v place old new some is =
-    let all = front_digits v place some in
-    (spread_digits ((v + 1) / 2 ^ place), all.0, all.1, is)
+front_at v place old new some is = grind (arith, front_digits)
 
 -- and the 0 before the next digit
 pub front_within : (v place : ℕ) (old new : List Bool) → 0 < (v + 1) / 2 ^ (place + 1) → new ≡ (old ++ spread_digits ((v + 1) / 2 ^ (place + 1))) ++ false ∷ [] → WroteFront (uint_bits v) old new
@@ -61,9 +59,7 @@ front_within v place old new some is =
 -- all digits and the 1
 pub whole_code : (v place : ℕ) (old bits new : List Bool) → place ≡ 0 → bits ≡ old ++ spread_digits ((v + 1) / 2 ^ place) → new ≡ bits ++ true ∷ [] → new ≡ old ++ uint_bits v
 unfolding uint_bits
-whole_code v place old bits new none so_far is =
-    let all : (v + 1) / 2 ^ place ≡ v + 1 = rw none (omega arith) in
-    is ∙ ap (λ (xs : List Bool). xs ++ true ∷ []) (so_far ∙ ap (λ (n : ℕ). old ++ spread_digits n) all) ∙ append_assoc old (spread_digits (v + 1)) (true ∷ [])
+whole_code v place old bits new none so_far is = grind (arith, append_assoc)
 
 -- no digit but the first
 pub first : (v place : ℕ) → 2 ^ place ≤ v + 1 → 0 < (v + 1) / 2 ^ place
@@ -79,10 +75,7 @@ none_yet v place old low high =
 pub pair_more : (v place : ℕ) (old before first second : List Bool) → 0 < (v + 1) / 2 ^ (place + 1) → before ≡ old ++ spread_digits ((v + 1) / 2 ^ (place + 1)) → first ≡ before ++ false ∷ []
     → second ≡ first ++ eqb (bit_at (v + 1) place) 1 ∷ [] → second ≡ old ++ spread_digits ((v + 1) / 2 ^ place)
 pair_more v place old before first second some so_far is_first is_second =
-    let digits = spread_digits ((v + 1) / 2 ^ (place + 1)) in
-    let bit = eqb (bit_at (v + 1) place) 1 in
-    is_second ∙ ap (λ (xs : List Bool). xs ++ bit ∷ []) (is_first ∙ ap (λ (xs : List Bool). xs ++ false ∷ []) so_far ∙ append_assoc old digits (false ∷ []))
-    ∙ append_assoc old (digits ++ false ∷ []) (bit ∷ []) ∙ ap (λ (xs : List Bool). old ++ xs) (append_assoc digits (false ∷ []) (bit ∷ []) ∙ sym (spread_more (v + 1) place some))
+    grind (arith, append_assoc, spread_more)
 
 -- ---- signed numbers
 
@@ -97,15 +90,11 @@ sign_pos n = le-ltb n 0 (omega arith)
 -- no sign, and a sign
 pub no_sign : (v : ℤ) (magnitude : ℕ) (old new : List Bool) → magnitude ≡ unsigned_abs v → magnitude ≡ 0 → new ≡ old ++ uint_bits magnitude → new ≡ old ++ sint_bits v
 unfolding sint_bits
-no_sign (pos zero) magnitude old new same none is = is ∙ ap (λ (n : ℕ). old ++ uint_bits n) same ∙ ap (λ (bits : List Bool). old ++ bits) (sym (append-nil (uint_bits 0)))
-no_sign (pos (suc n)) magnitude old new same none is = absurd (omega arith)
-no_sign (negsuc n) magnitude old new same none is = absurd (omega arith)
+no_sign v magnitude old new same none is = grind (arith, append-nil)
 
 pub signed : (v : ℤ) (magnitude : ℕ) (old mid new : List Bool) → magnitude ≡ unsigned_abs v → (magnitude ≡ 0 → ⊥) → mid ≡ old ++ uint_bits magnitude → new ≡ mid ++ is_negative v ∷ [] → new ≡ old ++ sint_bits v
 unfolding sint_bits
-signed (pos zero) magnitude old mid new same some so_far is = absurd (some same)
-signed (pos (suc n)) magnitude old mid new same some so_far is = is ∙ ap (λ (b : Bool). mid ++ b ∷ []) (sign_pos (suc n)) ∙ ap (λ (bits : List Bool). bits ++ false ∷ []) (so_far ∙ ap (λ (m : ℕ). old ++ uint_bits m) same) ∙ append_assoc old (uint_bits (suc n)) (false ∷ [])
-signed (negsuc n) magnitude old mid new same some so_far is = is ∙ ap (λ (bits : List Bool). bits ++ true ∷ []) (so_far ∙ ap (λ (m : ℕ). old ++ uint_bits m) same) ∙ append_assoc old (uint_bits (suc n)) (true ∷ [])
+signed v magnitude old mid new same some so_far is = grind (arith, sign_pos, append_assoc)
 
 -- a magnitude alone is a front
 pub front_unsigned : (v : ℤ) (magnitude : ℕ) (old new : List Bool) → magnitude ≡ unsigned_abs v → WroteFront (uint_bits magnitude) old new → WroteFront (sint_bits v) old new

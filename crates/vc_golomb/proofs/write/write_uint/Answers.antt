@@ -1,4 +1,4 @@
-use Rattle.std.proofs.Common.{◌≡◌, ◌+◌, ◌-◌, ◌/◌, ◌^◌, ◌<◌, ◌++◌, refl, ap, ◌∙◌, arith, Bool, false, List, [], ◌∷◌}
+use Rattle.std.proofs.Common.{◌≡◌, ◌+◌, ◌-◌, ◌/◌, ◌^◌, ◌<◌, ◌++◌, ap, ◌∙◌, arith, Bool, false, List, [], ◌∷◌}
 use Rattle.std.proofs.lemmas.Result.{on_ok_weaker, on_err_weaker}
 use Rattle.vc_types.specs.Codes.{spread_digits}
 use Rattle.vc_types.proofs.Failures.{on_err}
@@ -6,27 +6,13 @@ use Rattle.vc_golomb.proofs.WrittenCodes.{first, some_above, none_yet, front_at,
 use Rattle.vc_golomb.proofs.write.write_uint.Goals as goal
 
 pub digits-init : goal.digits-init
-digits-init c = record {
-  number = refl;
-  place = c.ilog2-place.ensures.bound;
-  some = first c.args.v c.ilog2-place.result c.ilog2-place.ensures.power_le;
-  wrote = none_yet c.args.v c.ilog2-place.result c.args.w.now c.ilog2-place.ensures.power_le c.ilog2-place.ensures.next_power_gt;
-}
+digits-init c = grind (arith, first, none_yet)
 
 pub returns-in_err-bit-clause-front : goal.returns-in_err-bit-clause-front
 returns-in_err-bit-clause-front c = on_err c.from_residual.result _ (front_at c.args.v c.digits.place c.args.w.now c.bit.new.self c.digits.invariant.some (c.in_err-bit.ensures.err ∙ c.digits.invariant.wrote))
 
 pub digits-preserved : goal.digits-preserved
-digits-preserved c =
-    let back : c.digits.place - 1 + 1 ≡ c.digits.place = omega arith in
-    let some : 0 < (c.args.v + 1) / 2 ^ (c.digits.place - 1 + 1) = rw back c.digits.invariant.some in
-    let wrote : c.digits.w ≡ c.args.w.now ++ spread_digits ((c.args.v + 1) / 2 ^ (c.digits.place - 1 + 1)) = rw back c.digits.invariant.wrote in
-    record {
-      number = refl;
-      place = omega arith;
-      some = some_above (c.args.v + 1) (c.digits.place - 1) some;
-      wrote = pair_more c.args.v (c.digits.place - 1) c.args.w.now c.digits.w c.bit.new.self c.bit-in-digits.new.self some wrote c.in_ok-bit.ensures.ok c.in_ok-bit-2.ensures.ok;
-    }
+digits-preserved c = grind (arith, some_above, pair_more)
 
 pub returns-in_err-bit-2-clause-front : goal.returns-in_err-bit-2-clause-front
 returns-in_err-bit-2-clause-front c =
