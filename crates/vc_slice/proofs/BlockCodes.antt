@@ -1,5 +1,5 @@
 -- The codes of a block, number after number and subband after subband.
-use Rattle.std.proofs.Common.{◌≡◌, ℕ, zero, suc, ◌+◌, ◌-◌, ◌<◌, ◌≤◌, ℤ, pos, negsuc, unsigned_abs, Bool, true, false, eqb, List, [], ◌∷◌, ◌++◌, length, take, drop, replicate, refl, sym, ap, ◌∙◌, arith, append_assoc, length-append, length-drop, inl, inr}
+use Rattle.std.proofs.Common.{◌≡◌, ℕ, zero, suc, ◌+◌, ◌-◌, ◌<◌, ◌≤◌, ℤ, unsigned_abs, Bool, true, false, eqb, List, [], ◌∷◌, ◌++◌, length, take, drop, replicate, refl, sym, ap, ◌∙◌, arith, append_assoc, length-append, length-drop, inl, inr}
 use Rattle.std.specs.Prelude.{slice_index_or, map, ◌||◌}
 use Rattle.std.specs.List.{flat_map, list_any, zip}
 use Rattle.std.proofs.lemmas.List.{length-replicate, take-append-drop}
@@ -32,19 +32,11 @@ unfolding codes_behind
 behind_other n z zs some = rw (not_zero (unsigned_abs z) some) refl
 
 pub length_other : (n : ℕ) (z : ℤ) (zs : List ℤ) → 0 < unsigned_abs z → length (codes_behind n (z ∷ zs)) ≡ n + (length (sint_bits z) + length (codes_behind 0 zs))
-length_other n z zs some =
-    let whole = length-append (replicate n true ++ sint_bits z) (codes_behind 0 zs) in
-    let front = length-append (replicate n true) (sint_bits z) in
-    let long = length-replicate n true in
-    omega (arith, ap length (behind_other n z zs some), whole, front, long)
+length_other n z zs some = grind (arith, length-append, length-replicate, behind_other)
 
 -- the zeros that waited and a number that isn't 0 are written
 pub written_number : (n : ℕ) (z : ℤ) (zs : List ℤ) (old ones new : List Bool) → 0 < unsigned_abs z → ones ≡ old ++ replicate n true → new ≡ ones ++ sint_bits z → new ++ codes_behind 0 zs ≡ old ++ codes_behind n (z ∷ zs)
-written_number n z zs old ones new some is_ones is_new =
-    ap (λ (xs : List Bool). xs ++ codes_behind 0 zs) (is_new ∙ ap (λ (xs : List Bool). xs ++ sint_bits z) is_ones)
-    ∙ ap (λ (xs : List Bool). xs ++ codes_behind 0 zs) (append_assoc old (replicate n true) (sint_bits z))
-    ∙ append_assoc old (replicate n true ++ sint_bits z) (codes_behind 0 zs)
-    ∙ ap (λ (xs : List Bool). old ++ xs) (sym (behind_other n z zs some))
+written_number n z zs old ones new some is_ones is_new = grind (arith, append_assoc, behind_other)
 
 -- the codes of the numbers that are kept, where n zeros came just before
 abbrev after_zeros : ℕ → List ℤ → List Bool
@@ -57,9 +49,7 @@ none_waits (z ∷ zs) = refl
 
 zero_code : (z : ℤ) → unsigned_abs z ≡ 0 → true ∷ [] ≡ sint_bits z
 unfolding sint_bits uint_bits spread_digits
-zero_code (pos zero) none = refl
-zero_code (pos (suc k)) none = absurd (omega arith)
-zero_code (negsuc k) none = absurd (omega arith)
+zero_code z none = grind arith
 
 one_waits : (n : ℕ) (z : ℤ) (zs : List ℤ) → unsigned_abs z ≡ 0 → after_zeros (n + 1) zs ≡ after_zeros n (kept_before zs z)
 one_waits n z [] none = rw none refl
@@ -73,10 +63,7 @@ kept_other z [] some = rw (not_zero (unsigned_abs z) some) refl
 kept_other z (x ∷ xs) some = refl
 
 other_waits : (n : ℕ) (z : ℤ) (zs : List ℤ) → 0 < unsigned_abs z → replicate n true ++ sint_bits z ++ after_zeros 0 zs ≡ after_zeros n (kept_before zs z)
-other_waits n z zs some =
-    ap (λ (bits : List Bool). replicate n true ++ sint_bits z ++ bits) (none_waits zs)
-    ∙ append_assoc (replicate n true) (sint_bits z) (flat_map sint_bits zs)
-    ∙ ap (after_zeros n) (sym (kept_other z zs some))
+other_waits n z zs some = grind (arith, none_waits, append_assoc, kept_other)
 
 behind_is : (n : ℕ) (zs : List ℤ) → codes_behind n zs ≡ after_zeros n (without_last_zeros zs)
 unfolding codes_behind without_last_zeros
@@ -106,9 +93,7 @@ subband_first (suc n) index indices [] within = absurd (omega arith)
 subband_first (suc n) index indices (z ∷ zs) within = ap (λ (xs : List ℤ). quantised z index ∷ xs) (subband_first n index indices zs (omega arith))
 
 none_large : (a b : Bool) (zs : List ℤ) → list_any is_large zs ≡ (a || b) → list_any is_large zs ≡ false → (a ≡ false) × (b ≡ false)
-none_large true b zs is none = absurd cc
-none_large false true zs is none = absurd cc
-none_large false false zs is none = (refl, refl)
+none_large a b zs is none = grind arith
 
 pub none_large-parts : (n : ℕ) (zs : List ℤ) → list_any is_large zs ≡ false → (list_any is_large (take n zs) ≡ false) × (list_any is_large (drop n zs) ≡ false)
 none_large-parts n zs none = none_large (list_any is_large (take n zs)) (list_any is_large (drop n zs)) zs (ap (list_any is_large) (sym (take-append-drop n zs)) ∙ list_any-append is_large (take n zs) (drop n zs)) none
@@ -152,9 +137,4 @@ module _ (p : Parameters) (slice index : ℕ) (c : Component) where
       → numbers_from b zs ≡ subband_numbers q band ++ numbers_from (b + 1) behind
   unfolding numbers_from
   subband_from b n q zs band behind h count quantiser front back are =
-      ap (λ (qs : List ℕ). numbers_by qs zs) (quantisers_from-more p c slice index b h)
-      ∙ ap (λ (k : ℕ). numbers_by (replicate k (index - slice_index_or p.matrix b 0) ++ quantisers_from p c slice index (b + 1)) zs) (sym count)
-      ∙ ap (λ (k : ℕ). numbers_by (replicate n k ++ quantisers_from p c slice index (b + 1)) zs) (sym quantiser)
-      ∙ subband_first n q (quantisers_from p c slice index (b + 1)) zs (enough b n zs h count are)
-      ∙ ap (λ (xs : List ℤ). subband_numbers q xs ++ numbers_by (quantisers_from p c slice index (b + 1)) (drop n zs)) (sym front)
-      ∙ ap (λ (xs : List ℤ). subband_numbers q band ++ numbers_by (quantisers_from p c slice index (b + 1)) xs) (sym back)
+      grind (arith, quantisers_from-more, quantisers_from, subband_first, enough)

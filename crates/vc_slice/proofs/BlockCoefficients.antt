@@ -33,12 +33,7 @@ pub read_more : (out whole : List ℤ) (n left index : ℕ) (indices : List ℕ)
     → z ≡ dequantised (bounded_sint bits).0 index → after ≡ (bounded_sint bits).1
     → out ++ coefficients_by (replicate n index ++ indices) bits ≡ whole
     → (out ++ z ∷ []) ++ coefficients_by (replicate left index ++ indices) after ≡ whole
-read_more out whole n left index indices bits after z e is behind read =
-    append_assoc out (z ∷ []) (coefficients_by (replicate left index ++ indices) after)
-    ∙ ap (λ (x : ℤ). out ++ (x ∷ coefficients_by (replicate left index ++ indices) after)) is
-    ∙ ap (λ (bs : List Bool). out ++ (dequantised (bounded_sint bits).0 index ∷ coefficients_by (replicate left index ++ indices) bs)) behind
-    ∙ sym (more_of out n left index indices bits e)
-    ∙ read
+read_more out whole n left index indices bits after z e is behind read = grind (arith, append_assoc, more_of)
 
 any_at : (out rest : List ℤ) (z : ℤ) → is_large z ≡ true → list_any is_large (out ++ (z ∷ rest)) ≡ true
 any_at out rest z h = list_any-append is_large out (z ∷ rest) ∙ (rw h (or-true (list_any is_large out)))
@@ -78,9 +73,7 @@ module _ (p : Parameters) (c : Component) (slice index : ℕ) where
 
   pub block_coefficients-by : (block : List ℕ) → block_coefficients p c slice index block ≡ coefficients_by (quantisers p c slice index) (bits_of block)
   unfolding block_coefficients
-  block_coefficients-by block =
-      ap (λ (n : ℕ). map (λ (z : ℤ × ℕ). dequantised z.0 z.1) (zip (bounded_sints n (bits_of block)) (quantisers p c slice index))) (sym length-quantisers)
-      ∙ by_indices (quantisers p c slice index) (bits_of block)
+  block_coefficients-by block = grind (arith, length-quantisers, by_indices)
 
   -- the indices of the subbands from number b on
   unfoldable pub quantisers_from : ℕ → List ℕ
@@ -112,11 +105,7 @@ module _ (p : Parameters) (c : Component) (slice index : ℕ) where
       → ((indices : List ℕ) → after ++ coefficients_by indices behind ≡ out ++ coefficients_by (replicate n q ++ indices) bits)
       → after ++ coefficients_by (quantisers_from (b + 1)) behind ≡ whole
   subband_read out after whole b n q bits behind h count quantiser before read =
-      read (quantisers_from (b + 1))
-      ∙ ap (λ (k : ℕ). out ++ coefficients_by (replicate k q ++ quantisers_from (b + 1)) bits) count
-      ∙ ap (λ (k : ℕ). out ++ coefficients_by (replicate (area (slice_rectangle p c (subband_at p.depth_ho p.depth b) slice)) k ++ quantisers_from (b + 1)) bits) quantiser
-      ∙ ap (λ (qs : List ℕ). out ++ coefficients_by qs bits) (sym (quantisers_from-more b h))
-      ∙ before
+      grind (arith, quantisers_from-more)
 
   -- a subband with a large coefficient
   pub subband_large : (out whole : List ℤ) (b n q : ℕ) (bits : List Bool) → b < subband_count p.depth_ho p.depth
@@ -124,20 +113,11 @@ module _ (p : Parameters) (c : Component) (slice index : ℕ) where
       → out ++ coefficients_by (quantisers_from b) bits ≡ whole
       → ((indices : List ℕ) → list_any is_large (out ++ coefficients_by (replicate n q ++ indices) bits) ≡ true)
       → list_any is_large whole ≡ true
-  subband_large out whole b n q bits h count quantiser before large =
-      ap (list_any is_large) (sym (
-      ap (λ (k : ℕ). out ++ coefficients_by (replicate k q ++ quantisers_from (b + 1)) bits) count
-      ∙ ap (λ (k : ℕ). out ++ coefficients_by (replicate (area (slice_rectangle p c (subband_at p.depth_ho p.depth b) slice)) k ++ quantisers_from (b + 1)) bits) quantiser
-      ∙ ap (λ (qs : List ℕ). out ++ coefficients_by qs bits) (sym (quantisers_from-more b h))
-      ∙ before))
-      ∙ large (quantisers_from (b + 1))
+  subband_large out whole b n q bits h count quantiser before large = grind (arith, quantisers_from-more)
 
   -- no subband was read
   pub none_read : (out : List ℤ) (bits : List Bool) (block : List ℕ) → bits ≡ bits_of block → out ++ coefficients_by (quantisers_from 0) bits ≡ out ++ block_coefficients p c slice index block
-  none_read out bits block whole = ap (λ (zs : List ℤ). out ++ zs) (
-      ap (λ (bs : List Bool). coefficients_by (quantisers_from 0) bs) whole
-      ∙ ap (λ (qs : List ℕ). coefficients_by qs (bits_of block)) quantisers_from-all
-      ∙ sym (block_coefficients-by block))
+  none_read out bits block whole = grind (arith, quantisers_from-all, block_coefficients-by)
 
   -- every subband was read
   pub all_read : (out whole : List ℤ) (b : ℕ) (bits : List Bool) → b ≡ subband_count p.depth_ho p.depth → out ++ coefficients_by (quantisers_from b) bits ≡ whole → out ≡ whole

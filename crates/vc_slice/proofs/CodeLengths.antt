@@ -1,5 +1,5 @@
 -- How long the code of a number is.
-use Rattle.std.proofs.Common.{◌≡◌, ℕ, zero, suc, ◌+◌, ◌*◌, ◌/◌, ◌%◌, ◌^◌, ◌<◌, ◌≤◌, ℤ, pos, negsuc, unsigned_abs, true, eqb, [], ◌∷◌, ◌++◌, length, refl, sym, ap, ◌∙◌, arith, append-nil, length-append}
+use Rattle.std.proofs.Common.{◌≡◌, ℕ, zero, suc, ◌+◌, ◌*◌, ◌/◌, ◌%◌, ◌^◌, ◌<◌, ◌≤◌, ℤ, unsigned_abs, eqb, [], length, sym, ap, ◌∙◌, arith, append-nil, length-append}
 use Rattle.std.proofs.Math.Nat.{pow-suc}
 use Rattle.vc_types.specs.Bits.{digit_of}
 use Rattle.vc_types.specs.Codes.{spread_digits, uint_bits, sign_bits, sint_bits}
@@ -21,14 +21,9 @@ length-digits (suc place) n low high =
     omega (arith, more, half)
 
 length-sign : (v : ℤ) → 0 < unsigned_abs v → length (sign_bits v) ≡ 1
-length-sign (pos zero) some = absurd (omega arith)
-length-sign (pos (suc n)) some = refl
-length-sign (negsuc n) some = refl
+length-sign v some = grind arith
 
 -- a number that isn't 0: by the place of the first digit of its magnitude and one
 pub length-code : (v : ℤ) (place : ℕ) → 0 < unsigned_abs v → 2 ^ place ≤ unsigned_abs v + 1 → unsigned_abs v + 1 < 2 * 2 ^ place → length (sint_bits v) ≡ 2 * place + 2
 unfolding sint_bits uint_bits
-length-code v place some low high =
-    let whole = length-append (spread_digits (unsigned_abs v + 1) ++ true ∷ []) (sign_bits v) in
-    let magnitude = length-append (spread_digits (unsigned_abs v + 1)) (true ∷ []) in
-    omega (arith, whole, magnitude, length-digits place (unsigned_abs v + 1) low high, length-sign v some)
+length-code v place some low high = grind (arith, length-append, length-digits, length-sign)

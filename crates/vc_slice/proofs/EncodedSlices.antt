@@ -1,10 +1,9 @@
 -- The bits of an encoded slice, block after block, and how many they are.
-use Rattle.std.proofs.Common.{◌≡◌, ℕ, ◌+◌, ◌-◌, ◌*◌, ◌/◌, ◌^◌, ◌<◌, ◌≤◌, Bool, true, List, [], ◌∷◌, ◌++◌, length, replicate, refl, arith, length-append}
+use Rattle.std.proofs.Common.{◌≡◌, ℕ, ◌+◌, ◌-◌, ◌*◌, ◌/◌, ◌^◌, ◌<◌, ◌≤◌, Bool, true, List, length, refl, arith, length-append}
 use Rattle.std.proofs.Math.Nat.{div-mul-le_self, lt-div-mul-add}
 use Rattle.std.proofs.lemmas.Bool.Decides.{nat_tests}
 use Rattle.std.proofs.lemmas.List.{length-replicate}
 use Rattle.vc_types.specs.declared.video.Component.TheVariants.{Y, C1, C2}
-use Rattle.vc_types.specs.Bits.{byte_bits, bits_of}
 use Rattle.vc_types.specs.Limits.{slice_bytes_fit}
 use Rattle.vc_types.specs.Slices.{Coefficients}
 use Rattle.vc_types.specs.TransformParameters.{Parameters}
@@ -20,9 +19,7 @@ few_units prefix scaler h = grind (arith, nat_tests)
 -- ---- units of the slice size scaler
 
 enough_units : (bits scaler : ℕ) → 0 < scaler → bits ≤ 8 * (block_units scaler bits * scaler)
-enough_units bits scaler some =
-    let above = lt-div-mul-add {a = (bits + 7) / 8 + scaler - 1} some in
-    omega (arith, above)
+enough_units bits scaler some = omega (arith, lt-div-mul-add)
 
 units_fit : (bits scaler : ℕ) → block_units scaler bits * scaler ≤ (bits + 7) / 8 + scaler - 1
 units_fit bits scaler = div-mul-le_self ((bits + 7) / 8 + scaler - 1) scaler
@@ -35,26 +32,12 @@ fit_at bits scaler k is few small = rw is (omega (arith, units_fit bits scaler))
 
 length_block : (scaler : ℕ) (bits : List Bool) → 0 < scaler → length (encoded_block scaler bits) ≡ 8 + 8 * (block_units scaler (length bits) * scaler)
 unfolding encoded_block
-length_block scaler bits some =
-    let fill = replicate (8 * (block_units scaler (length bits) * scaler) - length bits) true in
-    let whole = length-append (byte_bits (block_units scaler (length bits)) ++ bits) fill in
-    let front = length-append (byte_bits (block_units scaler (length bits))) bits in
-    omega (arith, whole, front, length-byte_bits (block_units scaler (length bits)), length-replicate (8 * (block_units scaler (length bits) * scaler) - length bits) true, enough_units (length bits) scaler some)
+length_block scaler bits some = grind (arith, length-append, length-byte_bits, length-replicate, enough_units)
 
 pub length_slice : (p : Parameters) (slice index : ℕ) (s : Coefficients) → 0 < p.scaler → length (encoded_slice p slice index s) ≡ 8 * encoded_length p slice index s
 unfolding encoded_slice encoded_length
 length_slice p slice index s some =
-    let y = encoded_block p.scaler (component_bits p slice index s Y) in
-    let c1 = encoded_block p.scaler (component_bits p slice index s C1) in
-    let c2 = encoded_block p.scaler (component_bits p slice index s C2) in
-    let head = bits_of (replicate p.prefix 0 ++ index ∷ []) in
-    let a = length-append (head ++ y ++ c1) c2 in
-    let b = length-append (head ++ y) c1 in
-    let c = length-append head y in
-    let zeros = length-replicate {A = ℕ} p.prefix 0 in
-    let h = length-bits_of (replicate p.prefix 0 ++ index ∷ []) in
-    let n = length-append (replicate p.prefix 0) (index ∷ []) in
-    omega (arith, a, b, c, h, n, zeros, length_block p.scaler (component_bits p slice index s Y) some, length_block p.scaler (component_bits p slice index s C1) some, length_block p.scaler (component_bits p slice index s C2) some)
+    grind (arith, length-append, length-replicate, length-bits_of, length_block)
 
 -- ---- by the numbers of bits
 

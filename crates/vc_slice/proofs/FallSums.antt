@@ -61,11 +61,7 @@ most_set_above (suc q) zero (x ∷ xs) v lt = refl
 most_set_above (suc q) (suc j) (x ∷ xs) v lt = most_set_above q j xs v (omega arith)
 
 pub most_set_le : (j : ℕ) (xs : List ℕ) (v : ℕ) → j < length xs → ((r : ℕ) → most_from r xs ≤ v) → (q : ℕ) → most_from q (slice_set xs j v) ≤ v
-most_set_le j xs v lt all q =
-    elim (cases_lt j q) [
-      | inl above ↦ omega (arith, most_set_above q j xs v above, all q)
-      | inr le ↦ omega (arith, most_set q j xs v lt all le)
-    ]
+most_set_le j xs v lt all q = grind (arith, most_set_above, most_set)
 
 pub entry_le : (j : ℕ) (xs : List ℕ) → get_or xs j 0 ≤ sum_from 0 xs
 unfolding sum_from
@@ -188,10 +184,7 @@ pub number_le : (magnitude q : ℕ) → q ≤ 127 → 4 * magnitude / quant_fact
 number_le magnitude q few = not_larger magnitude (quant_factor q) (quant_factor_range q)
 
 pub steps_done : (digits magnitude q : ℕ) → q ≤ 127 → 2 ≤ digits → digits ≤ 61 → magnitude + 1 < 2 ^ digits → code_steps (digits - 1) (4 * magnitude / quant_factor q + 1) ≡ code_steps 60 (4 * magnitude / quant_factor q + 1)
-steps_done digits magnitude q within some few above =
-    let same : digits - 1 + 1 ≡ digits = omega arith in
-    let small : 4 * magnitude / quant_factor q + 1 < 2 ^ (digits - 1 + 1) = rw same (omega (arith, number_le magnitude q within)) in
-    sym (steps_up (digits - 1) (4 * magnitude / quant_factor q + 1) (omega arith) (omega arith) small)
+steps_done digits magnitude q within some few above = grind (arith, number_le, steps_up)
 
 -- the first digit too
 pub first_more : (n q last before now after : ℕ) → ((2 ^ 1 ≤ n) ↔ (q ≤ last)) → (q ≤ last → now ≡ before + 3) → (last < q → now ≡ before) → after + code_steps 1 n ≡ now + code_steps 60 n → after ≡ before + code_steps 60 n
@@ -244,15 +237,11 @@ fallen q least magnitude count now bits kept bits2 kept2 z more within is small 
     ]
 
 pub next_number : (index k : ℕ) (coefficients more : List ℤ) → k < length coefficients → subband_numbers index (drop k coefficients) ++ more ≡ quantised (get_or coefficients k (pos 0)) index ∷ (subband_numbers index (drop (k + 1) coefficients) ++ more)
-next_number index k coefficients more lt =
-    let same : suc k ≡ k + 1 = omega arith in
-    ap (λ (zs : List ℤ). subband_numbers index zs ++ more) (drop-cons coefficients k (pos 0) lt ∙ ap (λ (n : ℕ). get_or coefficients k (pos 0) ∷ drop n coefficients) same)
+next_number index k coefficients more lt = grind (arith, drop-cons)
 
 -- nothing has come yet, and nothing comes any more
 pub begins : (q count : ℕ) (bits kept : List ℕ) (more : List ℤ) → count ≡ 0 → sum_from q bits ≡ 0 → most_from q kept ≡ 0 → block_from q count bits kept more ≡ length (codes_behind 0 more)
-begins q count bits kept more none no_bits no_place =
-    let places : count - most_from q kept ≡ 0 = omega arith in
-    omega (arith, ap (λ (n : ℕ). length (codes_behind n more)) places)
+begins q count bits kept more none no_bits no_place = grind arith
 
 pub ends : (q count : ℕ) (bits kept : List ℕ) (more : List ℤ) → more ≡ [] → block_from q count bits kept more ≡ sum_from q bits + most_from q kept
 unfolding codes_behind
@@ -268,19 +257,10 @@ pub index_more : (index : ℕ) (bits kept lens : List ℕ) (now_bits now_kept : 
     → ((q : ℕ) → index ≤ q → q ≤ 127 → get_or lens q 0 ≡ sum_from q bits + most_from q kept)
     → (q : ℕ) → index - 1 ≤ q → q ≤ 127 → get_or (slice_set lens (index - 1) (now_bits + now_kept)) q 0 ≡ sum_from q bits + most_from q kept
 index_more index bits kept lens now_bits now_kept some few long_bits long_kept long_lens is_bits is_kept done q from to =
-    elim (cases_lt (index - 1) q) [
-      | inl lt ↦ get_or-set_other lens (index - 1) q (now_bits + now_kept) 0 (omega arith) ∙ done q (omega arith) to
-      | inr le ↦
-          let same : q ≡ index - 1 = omega arith in
-          rw same (get_or-set_same lens (index - 1) (now_bits + now_kept) 0 (omega arith) ∙ omega (arith, is_bits, is_kept))
-    ]
+    grind (arith, get_or-set_other, get_or-set_same)
 
 pub bits_more : (index : ℕ) (bits : List ℕ) (so_far : ℕ) → 0 < index → index ≤ 128 → length bits ≡ 128 → so_far ≡ sum_from index bits → so_far + get_or bits (index - 1) 0 ≡ sum_from (index - 1) bits
-bits_more index bits so_far some few long is =
-    let same : index - 1 + 1 ≡ index = omega arith in
-    omega (arith, is, sum_step (index - 1) bits (omega arith), ap (λ (n : ℕ). sum_from n bits) same)
+bits_more index bits so_far some few long is = grind (arith, sum_step)
 
 pub kept_more : (index : ℕ) (kept : List ℕ) (so_far : ℕ) → 0 < index → index ≤ 128 → length kept ≡ 128 → so_far ≡ most_from index kept → max (get_or kept (index - 1) 0) so_far ≡ most_from (index - 1) kept
-kept_more index kept so_far some few long is =
-    let same : index - 1 + 1 ≡ index = omega arith in
-    omega (arith, is, most_step (index - 1) kept (omega arith), ap (λ (n : ℕ). most_from n kept) same)
+kept_more index kept so_far some few long is = grind (arith, most_step)

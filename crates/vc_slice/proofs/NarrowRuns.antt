@@ -31,11 +31,7 @@ length-pairs xs ys e = omega (arith, length-zip xs ys)
 -- a block has as many coefficients as the slice
 pub length-block : (p : Parameters) (c : Component) (n index : ℕ) (block : List ℕ) → length (block_coefficients p c n index block) ≡ slice_coefficient_count p c n
 unfolding block_coefficients
-length-block p c n index block =
-    let read = length-numbers (slice_coefficient_count p c n) (bits_of block) in
-    let indices = length-quantisers p c n index in
-    length-map (zip (bounded_sints (slice_coefficient_count p c n) (bits_of block)) (quantisers p c n index)) _
-    ∙ length-pairs (bounded_sints (slice_coefficient_count p c n) (bits_of block)) (quantisers p c n index) (read ∙ sym indices) ∙ read
+length-block p c n index block = grind (arith, length-numbers, length-quantisers, length-map, length-pairs)
 
 module _ (p : Parameters) (c : Component) (slice index : ℕ) where
   -- coefficients up to this subband are at most all of them
@@ -116,10 +112,7 @@ module _ (p : Parameters) (c : Component) (slice index : ℕ) where
 pub narrow_more : (from to : ℕ) (old new : List ℤ) → ((i : ℕ) → i < from → unsigned_abs (line_of old i) < 2 ^ 29)
     → ((i : ℕ) → from ≤ i → i < to → unsigned_abs (line_of new i) < 2 ^ 29) → ((i : ℕ) → (i < from) ⊎ (to ≤ i) → line_of new i ≡ line_of old i)
     → (i : ℕ) → i < to → unsigned_abs (line_of new i) < 2 ^ 29
-narrow_more from to old new before on off i h = elim (cases_lt i from) [
-  | inl lt ↦ subst (λ (z : ℤ). unsigned_abs z < 2 ^ 29) (sym (off i (inl lt))) (before i lt)
-  | inr ge ↦ on i ge h
-]
+narrow_more from to old new before on off i h = grind arith
 
 -- ---- what is narrow isn't large
 

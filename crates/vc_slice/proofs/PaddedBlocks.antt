@@ -1,5 +1,5 @@
 -- Blocks of whole bytes, behind their lengths.
-use Rattle.std.proofs.Common.{◌≡◌, ℕ, zero, suc, ◌+◌, ◌-◌, ◌*◌, ◌/◌, ◌<◌, ◌≤◌, Bool, true, false, List, [], ◌∷◌, ◌++◌, length, replicate, take, refl, sym, ap, ◌∙◌, arith, append_assoc, append-nil, length-append}
+use Rattle.std.proofs.Common.{◌≡◌, ℕ, zero, suc, ◌+◌, ◌-◌, ◌*◌, ◌/◌, ◌<◌, ◌≤◌, Bool, true, false, List, [], ◌∷◌, ◌++◌, length, replicate, take, refl, ap, ◌∙◌, arith, append_assoc, append-nil, length-append}
 use Rattle.std.specs.Prelude.{◌||◌, nat_lt}
 use Rattle.std.proofs.Math.Nat.{lt-div-mul-add}
 use Rattle.std.proofs.lemmas.List.{length-replicate, replicate-append-replicate, take_all}
@@ -39,30 +39,17 @@ pub put : (scaler units ones : ℕ) (old pushed more new block : List ℕ) → u
     → bits_of new ≡ bits_of old ++ padded_block scaler block
 unfolding padded_block
 put scaler units ones old pushed more new block is_units is_ones is_pushed is_more is_new =
-    let fill = replicate (8 * ones) true in
-    ap bits_of is_new ∙ bits_of-append more (replicate ones 255)
-    ∙ ap (λ (bits : List Bool). bits_of more ++ bits) (bits_of-ones ones)
-    ∙ ap (λ (bits : List Bool). bits ++ fill) (ap bits_of is_more ∙ bits_of-append pushed block ∙ ap (λ (bits : List Bool). bits ++ bits_of block) (ap bits_of is_pushed ∙ bits_of-push old units))
-    ∙ ap (λ (bits : List Bool). bits ++ fill) (append_assoc (bits_of old) (byte_bits units) (bits_of block))
-    ∙ append_assoc (bits_of old) (byte_bits units ++ bits_of block) fill
-    ∙ ap (λ (n : ℕ). bits_of old ++ (byte_bits n ++ bits_of block ++ fill)) is_units
-    ∙ ap (λ (n : ℕ). bits_of old ++ (byte_bits (units_for scaler (length block)) ++ bits_of block ++ replicate (8 * n) true)) is_ones
+    grind (arith, bits_of-append, bits_of-ones, bits_of-push, append_assoc)
 
 -- bytes that grow by more of the same
 pub grown : (size n ones byte : ℕ) (old new : List ℕ) → size ≡ length old → n ≡ size + ones → new ≡ take n old ++ replicate (n - size) byte → new ≡ old ++ replicate ones byte
-grown size n ones byte old new is_size is_n is =
-    let left : n - size ≡ ones = omega (arith, is_n) in
-    is ∙ ap (λ (xs : List ℕ). xs ++ replicate (n - size) byte) (take_all n old (omega (arith, is_size, is_n)))
-    ∙ ap (λ (k : ℕ). old ++ replicate k byte) left
+grown size n ones byte old new is_size is_n is = grind (arith, take_all)
 
 -- codes that are filled up with ones
 pub filled_codes : (codes start written new : List Bool) (bytes : List ℕ) → start ≡ [] → written ≡ start ++ codes → new ≡ written ++ replicate (to_edge (length written)) true
     → bits_of bytes ≡ new ++ replicate (to_edge (length new)) false → bits_of bytes ≡ up_to_bytes codes
 filled_codes codes start written new bytes empty is_written is_new is =
-    let first : written ≡ codes = is_written ∙ ap (λ (bits : List Bool). bits ++ codes) empty in
-    let all : new ≡ up_to_bytes codes = is_new ∙ ap (λ (bits : List Bool). bits ++ replicate (to_edge (length bits)) true) first in
-    let whole : to_edge (length new) ≡ 0 = omega (arith, ap length all, length-append codes (replicate (to_edge (length codes)) true), length-replicate (to_edge (length codes)) true) in
-    is ∙ ap (λ (k : ℕ). new ++ replicate k false) whole ∙ append-nil new ∙ all
+    grind (arith, length-append, length-replicate, append-nil)
 
 -- the blocks of codes
 module _ (scaler : ℕ) (block : List ℕ) (bits : List Bool) (is : bits_of block ≡ up_to_bytes bits) where
@@ -73,22 +60,11 @@ module _ (scaler : ℕ) (block : List ℕ) (bits : List Bool) (is : bits_of bloc
   units_up = ap (λ (n : ℕ). units_for scaler n) length_up
 
   ones_up : 0 < scaler → to_edge (length bits) + 8 * (units_for scaler (length block) * scaler - length block) ≡ 8 * (block_units scaler (length bits) * scaler) - length bits
-  ones_up some =
-      let same : units_for scaler (length block) * scaler ≡ block_units scaler (length bits) * scaler = ap (λ (n : ℕ). n * scaler) units_up in
-      omega (arith, length_up, same, enough_bytes (length block) scaler scaler refl some)
+  ones_up some = grind (arith, units_up, length_up, enough_bytes)
 
   pub block_up : 0 < scaler → padded_block scaler block ≡ encoded_block scaler bits
   unfolding padded_block encoded_block
-  block_up some =
-      let units = units_for scaler (length block) in
-      let edge = replicate (to_edge (length bits)) true in
-      let fill = replicate (8 * (units * scaler - length block)) true in
-      ap (λ (bs : List Bool). byte_bits units ++ bs ++ fill) is
-      ∙ ap (λ (bs : List Bool). bs ++ fill) (sym (append_assoc (byte_bits units) bits edge))
-      ∙ append_assoc (byte_bits units ++ bits) edge fill
-      ∙ ap (λ (bs : List Bool). byte_bits units ++ bits ++ bs) (replicate-append-replicate (to_edge (length bits)) (8 * (units * scaler - length block)) true)
-      ∙ ap (λ (n : ℕ). byte_bits units ++ bits ++ replicate n true) (ones_up some)
-      ∙ ap (λ (n : ℕ). byte_bits n ++ bits ++ replicate (8 * (block_units scaler (length bits) * scaler) - length bits) true) units_up
+  block_up some = grind (arith, append_assoc, replicate-append-replicate, ones_up, units_up)
 
 -- a whole slice
 module _ (p : Parameters) (slice index : ℕ) (s : Coefficients) (y c1 c2 : List ℕ)
@@ -97,21 +73,12 @@ module _ (p : Parameters) (slice index : ℕ) (s : Coefficients) (y c1 c2 : List
     (is_c2 : bits_of c2 ≡ up_to_bytes (component_bits p slice index s C2)) where
   pub too_long_up : (nat_lt 255 (units_for p.scaler (length y)) || nat_lt 255 (units_for p.scaler (length c1)) || nat_lt 255 (units_for p.scaler (length c2))) ≡ is_too_long p slice index s
   unfolding is_too_long
-  too_long_up =
-      let a = units_up p.scaler y _ is_y in
-      let b = units_up p.scaler c1 _ is_c1 in
-      let c = units_up p.scaler c2 _ is_c2 in
-      λ i. nat_lt 255 (a i) || nat_lt 255 (b i) || nat_lt 255 (c i)
+  too_long_up = grind (arith, units_up)
 
   pub slice_up : 0 < p.scaler → (bytes : List ℕ) → bits_of bytes ≡ bits_of (replicate p.prefix 0 ++ index ∷ []) ++ padded_block p.scaler y ++ padded_block p.scaler c1 ++ padded_block p.scaler c2
       → bits_of bytes ≡ encoded_slice p slice index s
   unfolding encoded_slice
-  slice_up some bytes is =
-      let head = bits_of (replicate p.prefix 0 ++ index ∷ []) in
-      let a = block_up p.scaler y _ is_y some in
-      let b = block_up p.scaler c1 _ is_c1 some in
-      let c = block_up p.scaler c2 _ is_c2 some in
-      is ∙ (λ i. head ++ a i ++ b i ++ c i)
+  slice_up some bytes is = grind (arith, block_up)
 
   pub length_up_slice : 0 < p.scaler → (bytes : List ℕ) → bits_of bytes ≡ encoded_slice p slice index s → length bytes ≡ encoded_length p slice index s
   length_up_slice some bytes is = omega (arith, length-bits_of bytes, ap length is, length_slice p slice index s some)

@@ -20,28 +20,19 @@ same_three y c1 c2 ys us vs e0 e1 e2 = rw e0 (rw e1 (rw e2 refl))
 module _ (y c1 c2 : ℕ) (ys us vs : List ℤ) (hy : length ys ≡ y) (h1 : length us ≡ c1) (h2 : length vs ≡ c2) where
   -- in lists one behind the other
   pub parts_of_three : three_parts y c1 c2 (ys ++ (us ++ vs)) ≡ record { y = ys; c1 = us; c2 = vs }
-  parts_of_three = same_three (take y (ys ++ (us ++ vs))) (take c1 (drop y (ys ++ (us ++ vs)))) (take c2 (drop (y + c1) (ys ++ (us ++ vs)))) ys us vs
-      (ap (λ (n : ℕ). take n (ys ++ (us ++ vs))) (sym hy) ∙ take-append_seam ys (us ++ vs))
-      (ap (λ (n : ℕ). take c1 (drop n (ys ++ (us ++ vs)))) (sym hy) ∙ ap (take c1) (drop-append_seam ys (us ++ vs)) ∙ ap (λ (n : ℕ). take n (us ++ vs)) (sym h1) ∙ take-append_seam us vs)
-      (ap (λ (n : ℕ). take c2 (drop (n + c1) (ys ++ (us ++ vs)))) (sym hy) ∙ ap (take c2) (drop-append-add ys (us ++ vs) c1) ∙ ap (λ (n : ℕ). take c2 (drop n (us ++ vs))) (sym h1) ∙ ap (take c2) (drop-append_seam us vs) ∙ ap (λ (n : ℕ). take n vs) (sym h2) ∙ take-length vs)
+  parts_of_three = grind (arith, same_three, take-append_seam, drop-append_seam, drop-append-add, take-length)
 
   all_three : (none first second third : List ℤ) → none ≡ [] → first ≡ none ++ ys → second ≡ first ++ us → third ≡ second ++ vs → third ≡ ys ++ (us ++ vs)
   all_three none first second third e0 e1 e2 e3 = e3 ∙ ap (λ (zs : List ℤ). zs ++ vs) (e2 ∙ ap (λ (zs : List ℤ). zs ++ us) (e1 ∙ ap (λ (zs : List ℤ). zs ++ ys) e0)) ∙ append_assoc ys us vs
 
   pub long_three : (none first second third : List ℤ) → none ≡ [] → first ≡ none ++ ys → second ≡ first ++ us → third ≡ second ++ vs → y + c1 + c2 ≤ length third
-  long_three none first second third e0 e1 e2 e3 =
-      let all = ap length (all_three none first second third e0 e1 e2 e3) in
-      let front = length-append ys (us ++ vs) in
-      let back = length-append us vs in
-      omega (arith, all, front, back, hy, h1, h2)
+  long_three none first second third e0 e1 e2 e3 = grind (arith, all_three, length-append)
 
   -- read one behind the other, and none is large
   pub read_three : (none first second third : List ℤ) → none ≡ [] → first ≡ none ++ ys → second ≡ first ++ us → third ≡ second ++ vs → list_any is_large third ≡ false
       → Ok (three_parts y c1 c2 third) ≡ in_range (record { y = ys; c1 = us; c2 = vs })
   read_three none first second third e0 e1 e2 e3 small =
-      let all = all_three none first second third e0 e1 e2 e3 in
-      let sound : list_any is_large (ys ++ us ++ vs) ≡ false = sym (ap (list_any is_large) (all ∙ sym (append_assoc ys us vs))) ∙ small in
-      ap (λ (zs : List ℤ). Ok (three_parts y c1 c2 zs)) all ∙ ap Ok parts_of_three ∙ sym (rw sound refl)
+      grind (arith, all_three, append_assoc, parts_of_three)
 
   -- so many numbers stand there
   stand : (from n : ℕ) (numbers xs : List ℤ) → from + n ≤ length numbers → length xs ≡ n → ((i : ℕ) → i < n → line_of numbers (from + i) ≡ line_of xs i) → take n (drop from numbers) ≡ xs

@@ -1,5 +1,5 @@
 -- The numbers of a block that are coded: all coefficients quantised, up to the last number that isn't 0.
-use Rattle.std.proofs.Common.{◌≡◌, ℕ, zero, suc, ◌+◌, ◌*◌, ◌^◌, ◌<◌, ◌≤◌, List, [], ◌∷◌, length, take, get_or, ℤ, pos, negsuc, unsigned_abs, of_z, w32, arith, refl, sym, ap, ◌∙◌}
+use Rattle.std.proofs.Common.{◌≡◌, ℕ, zero, suc, ◌+◌, ◌*◌, ◌^◌, ◌<◌, ◌≤◌, List, [], ◌∷◌, length, take, get_or, ℤ, pos, unsigned_abs, of_z, w32, arith, refl, sym, ap, ◌∙◌}
 use Rattle.std.specs.List.{zip}
 use Rattle.std.proofs.lemmas.List.{ext_get_or, get_or-map, length-map}
 use Rattle.std.proofs.lemmas.Slice.Zip.{get_or-zip}
@@ -39,9 +39,7 @@ kept_front (suc (suc n)) (z ∷ x ∷ xs) within zeros last =
 
 -- a number whose bits aren't 0
 pub some_bits : (z : ℤ) → (of_z w32 z ≡ 0 → ⊥) → 0 < unsigned_abs z
-some_bits (pos zero) other = absurd (other refl)
-some_bits (pos (suc n)) other = omega arith
-some_bits (negsuc n) other = omega arith
+some_bits z other = grind arith
 
 -- the numbers of a component, place by place
 pub all_quantised : (p : Parameters) (c : Component) (slice index : ℕ) (coefficients numbers : List ℤ) → length coefficients ≡ slice_coefficient_count p c slice → length numbers ≡ length coefficients

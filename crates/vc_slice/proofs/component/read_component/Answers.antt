@@ -7,10 +7,7 @@ use Rattle.vc_slice.proofs.WideSlices.{large_behind}
 use Rattle.vc_slice.proofs.component.read_component.Goals as goal
 
 pub loop-b-init : goal.loop-b-init
-loop-b-init c = record {
-  read = none_read (parameters_of c.args.plan.now) c.args.c c.args.slice c.args.index c.args.coeffs.now.items c.bits_of-bits.result c.args.block.now c.bits_of-bits.ensures;
-  sound = c.requires.sound;
-}
+loop-b-init c = grind (arith, none_read)
 
 pub returns-in_err-read_subband-clause-large : goal.returns-in_err-read_subband-clause-large
 returns-in_err-read_subband-clause-large c = λ e.

@@ -1,4 +1,4 @@
-use Rattle.std.proofs.Common.{◌∙◌, sym}
+use Rattle.std.proofs.Common.{arith, ◌∙◌, sym}
 use Rattle.vc_types.specs.TransformParameters.{parameters_of}
 use Rattle.vc_slice.proofs.EncodedSlices.{some_scaler}
 use Rattle.vc_slice.proofs.PaddedBlocks.{length_up_slice, slice_up, too_long_up}
@@ -12,10 +12,7 @@ returns-then-are_too_long-clause-too_long c =
     )
 
 pub returns-in-Ok-joined-clause-value : goal.returns-in-Ok-joined-clause-value
-returns-in-Ok-joined-clause-value c =
-    let b = c.in-Ok.blocks in
-    slice_up (parameters_of c.args.plan.now) c.args.index c.args.q c.args.coeffs.now b.y.items b.c1.items b.c2.items c.in-Ok.ensures.y c.in-Ok.ensures.c1 c.in-Ok.ensures.c2
-    (some_scaler c.args.plan.now.prefix c.args.plan.now.scaler c.args.plan.now.slice_bytes) c.in-Ok-joined.bytes.items c.in-Ok-joined.ensures
+returns-in-Ok-joined-clause-value c = grind (arith, slice_up, some_scaler)
 
 pub returns-in-Ok-joined-clause-len : goal.returns-in-Ok-joined-clause-len
 returns-in-Ok-joined-clause-len c =

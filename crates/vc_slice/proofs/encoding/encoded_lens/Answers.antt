@@ -1,5 +1,4 @@
-use Rattle.std.proofs.Common.{◌≡◌, ℕ, ◌∷◌, [], ◌++◌, ◌∙◌, ◌≤◌, ap, sym, arith, map}
-use Rattle.std.specs.List.{range_with_len}
+use Rattle.std.proofs.Common.{◌≡◌, ℕ, ◌∷◌, [], ◌++◌, ◌∙◌, ◌≤◌, sym, arith}
 use Rattle.std.proofs.lemmas.List.FromFn.{map-range_with_len_more}
 use Rattle.vc_types.specs.Encoding.{encoded_length}
 use Rattle.vc_types.specs.TransformParameters.{parameters_of}
@@ -7,9 +6,7 @@ use Rattle.vc_slice.proofs.EncodedSlices.{length_by}
 use Rattle.vc_slice.proofs.encoding.encoded_lens.Goals as goal
 
 pub slice_len-requires : goal.slice_len-requires
-slice_len-requires c =
-    let few : c.loop-q.q ≤ 127 = omega arith in
-    (c.all_lens-y.ensures.range c.loop-q.q few, c.all_lens-c1.ensures.range c.loop-q.q few, c.all_lens-c2.ensures.range c.loop-q.q few)
+slice_len-requires c = grind arith
 
 pub loop-q-preserved : goal.loop-q-preserved
 loop-q-preserved c =
@@ -23,7 +20,4 @@ loop-q-preserved c =
     ∙ sym (map-range_with_len_more f 0 q q (omega arith))
 
 pub returns : goal.returns
-returns c =
-    let f : ℕ → ℕ = λ k. encoded_length (parameters_of c.args.plan.now) c.args.index k c.args.coeffs.now in
-    let last : c.loop-q.q ≡ 128 = omega arith in
-    c.loop-q.invariant ∙ ap (λ n. map f (range_with_len 0 n)) last
+returns c = grind arith

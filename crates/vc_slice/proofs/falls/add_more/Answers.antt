@@ -1,4 +1,4 @@
-use Rattle.std.proofs.Common.{◌≡◌, ◌+◌, ◌-◌, ◌*◌, ◌/◌, ◌^◌, ◌<◌, ◌≤◌, arith, ◌∙◌, ap, ℕ}
+use Rattle.std.proofs.Common.{◌≡◌, ◌+◌, ◌-◌, ◌*◌, ◌/◌, ◌^◌, ◌<◌, ◌≤◌, arith, ℕ}
 use Rattle.std.proofs.lemmas.Nat.{one_shl}
 use Rattle.vc_types.specs.Quantisation.{quant_factor}
 use Rattle.vc_quant.proofs.Quotients.{few_digits}
@@ -26,8 +26,4 @@ digits-preserved c =
     }
 
 pub returns-clause-bits : goal.returns-clause-bits
-returns-clause-bits c = λ q within.
-    let digits = c.digits.digits in
-    let above : c.args.magnitude + 1 < 2 ^ digits = omega (arith, one_shl digits 64 (omega (arith, c.digits.invariant.to)), c.digits-test.false) in
-    c.digits.invariant.bits q within
-    ∙ ap (λ (n : ℕ). sum_from q c.args.bits.now + n) (steps_done digits c.args.magnitude (q - c.args.least) (omega arith) c.digits.invariant.from c.digits.invariant.to above)
+returns-clause-bits c = omega (arith, one_shl, steps_done)

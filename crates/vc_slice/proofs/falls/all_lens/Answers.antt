@@ -1,6 +1,5 @@
-use Rattle.std.proofs.Common.{◌+◌, ◌-◌, ◌<◌, length, refl, sym, ap, ◌∙◌, arith, slice_index_or}
+use Rattle.std.proofs.Common.{◌+◌, ◌-◌, ◌<◌, refl, sym, ap, ◌∙◌, arith, slice_index_or}
 use Rattle.vc_types.specs.Quantisation.{subband_count}
-use Rattle.vc_types.specs.Slices.{coefficients_of}
 use Rattle.vc_types.specs.TransformParameters.{parameters_of}
 use Rattle.vc_slice.specs.Falls.{block_from}
 use Rattle.vc_slice.specs.Listed.{listed}
@@ -9,15 +8,7 @@ use Rattle.vc_slice.proofs.FallSums.{begins, ends, sum_falls}
 use Rattle.vc_slice.proofs.falls.all_lens.Goals as goal
 
 pub loop-b-init : goal.loop-b-init
-loop-b-init c =
-    let p = parameters_of c.args.plan.now in
-    record {
-      rest = λ q. rw c.component-rest.ensures.value (all_from p c.args.slice q c.args.c c.args.coeffs.now c.requires.coefficients);
-      count = omega (arith, c.new-falls.ensures.count);
-      room = omega (arith, c.new-falls.ensures.bits 0);
-      places = λ q. omega (arith, c.new-falls.ensures.kept q);
-      bits = λ q within. rw c.component-rest.ensures.value (begins q c.new-falls.result.count c.new-falls.result.bits c.new-falls.result.kept (numbers_from p c.args.slice q c.args.c 0 (coefficients_of c.args.coeffs.now c.args.c)) c.new-falls.ensures.count (c.new-falls.ensures.bits q) (c.new-falls.ensures.kept q) ∙ ap length (all_bits p c.args.slice q c.args.c c.args.coeffs.now));
-    }
+loop-b-init c = grind (arith, all_from, begins, numbers_from, all_bits)
 
 pub split_at-requires : goal.split_at-requires
 split_at-requires c = enough (parameters_of c.args.plan.now) c.args.slice 0 c.args.c c.loop-b.b c.area.result (listed c.loop-b.rest) (omega arith) c.area.ensures.value (c.loop-b.invariant.rest 0)
@@ -43,10 +34,7 @@ loop-b-preserved c =
     }
 
 pub returns-clause-value : goal.returns-clause-value
-returns-clause-value c = λ q within.
-    let p = parameters_of c.args.plan.now in
-    let none = none_from p c.args.slice q c.args.c c.loop-b.b (listed c.loop-b.rest) (omega arith) (c.loop-b.invariant.rest q) in
-    c.lens.ensures q within ∙ sym (ends q c.loop-b.falls.count c.loop-b.falls.bits c.loop-b.falls.kept (numbers_from p c.args.slice q c.args.c c.loop-b.b (listed c.loop-b.rest)) none) ∙ c.loop-b.invariant.bits q within
+returns-clause-value c = grind (arith, none_from, ends, numbers_from)
 
 pub returns-clause-range : goal.returns-clause-range
 returns-clause-range c = λ q within. omega (arith, c.lens.ensures q within, sum_falls q c.loop-b.falls.bits, c.loop-b.invariant.room, c.loop-b.invariant.places q, c.loop-b.invariant.count)

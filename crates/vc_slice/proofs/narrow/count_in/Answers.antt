@@ -7,9 +7,7 @@ pub loop-b-init : goal.loop-b-init
 loop-b-init c = record { sum = sym (coefficients_before-none (parameters_of c.args.plan.now) c.args.c c.args.slice); bound = omega arith }
 
 pub loop-b-preserved : goal.loop-b-preserved
-loop-b-preserved c =
-    let more = coefficients_before-more (parameters_of c.args.plan.now) c.args.c c.args.slice c.loop-b.b (omega arith) in
-    record { sum = omega (arith, more, c.area-count.ensures.value); bound = omega (arith, c.area-count.ensures.range) }
+loop-b-preserved c = omega (arith, coefficients_before-more)
 
 pub returns : goal.returns
 returns c = record { value = c.loop-b.invariant.sum ∙ coefficients_before-all (parameters_of c.args.plan.now) c.args.c c.args.slice c.loop-b.b (omega arith) }

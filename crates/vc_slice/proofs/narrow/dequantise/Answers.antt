@@ -1,4 +1,4 @@
-use Rattle.std.proofs.Common.{rules, arith, refl, sym, subst, ◌∙◌, ap, ◌+◌, ◌≤◌, inr, unsigned_abs}
+use Rattle.std.proofs.Common.{rules, arith, sym, subst, ◌∙◌, ap, ◌+◌, ◌≤◌, inr, unsigned_abs}
 use Rattle.vc_types.specs.Quantisation.{dequantised}
 use Rattle.vc_types.specs.TransformParameters.{parameters_of}
 use Rattle.vc_quant.specs.declared.quantiser.Quantiser.{Quantiser}
@@ -7,13 +7,7 @@ use Rattle.vc_slice.proofs.NarrowRuns.{run_more, run_within, done_more, narrow_m
 use Rattle.vc_slice.proofs.narrow.dequantise.Goals as goal
 
 pub loop-b-init : goal.loop-b-init
-loop-b-init c = record {
-  from = sym (coefficients_before-none (parameters_of c.args.plan.now) c.args.c c.args.slice);
-  length = refl;
-  done = λ i h. absurd (omega arith);
-  narrow = λ i h. absurd (omega arith);
-  left = λ i h. refl;
-}
+loop-b-init c = grind (arith, coefficients_before-none)
 
 pub overflow_add-to : goal.overflow_add-to
 overflow_add-to c =
@@ -45,11 +39,4 @@ loop-b-preserved c =
     }
 
 pub returns : goal.returns
-returns c = record {
-  value = λ e i h.
-      let all = coefficients_before-all (parameters_of c.args.plan.now) c.args.c c.args.slice c.loop-b.b (omega arith) in
-      c.loop-b.invariant.done i (omega (arith, all, c.loop-b.invariant.from));
-  narrow = λ e i h.
-      let all = coefficients_before-all (parameters_of c.args.plan.now) c.args.c c.args.slice c.loop-b.b (omega arith) in
-      c.loop-b.invariant.narrow i (omega (arith, all, c.loop-b.invariant.from));
-}
+returns c = omega (arith, coefficients_before-all)

@@ -1,4 +1,4 @@
-use Rattle.std.proofs.Common.{rules, arith, refl, sym, ◌∙◌, ap, ◌+◌, inr}
+use Rattle.std.proofs.Common.{rules, arith, ◌∙◌, ap, ◌+◌, inr}
 use Rattle.vc_types.specs.Quantisation.{quantised}
 use Rattle.vc_types.specs.TransformParameters.{parameters_of}
 use Rattle.vc_types.proofs.SliceRectangles.{coefficients_before-none, coefficients_before-all}
@@ -6,12 +6,7 @@ use Rattle.vc_slice.proofs.NarrowRuns.{run_more, run_within, done_more}
 use Rattle.vc_slice.proofs.narrow_codes.quantise.Goals as goal
 
 pub loop-b-init : goal.loop-b-init
-loop-b-init c = record {
-  from = sym (coefficients_before-none (parameters_of c.args.plan.now) c.args.c c.args.slice);
-  length = refl;
-  done = λ i h. absurd (omega arith);
-  left = λ i h. refl;
-}
+loop-b-init c = grind (arith, coefficients_before-none)
 
 pub overflow_add-to : goal.overflow_add-to
 overflow_add-to c =
@@ -37,6 +32,4 @@ loop-b-preserved c =
     }
 
 pub returns : goal.returns
-returns c = λ i h.
-    let all = coefficients_before-all (parameters_of c.args.plan.now) c.args.c c.args.slice c.loop-b.b (omega arith) in
-    c.loop-b.invariant.done i (omega (arith, all, c.loop-b.invariant.from, c.requires.count))
+returns c = omega (arith, coefficients_before-all)

@@ -12,10 +12,7 @@ pub read_at-requires-3-clause-rects : goal.read_at-requires-3-clause-rects
 read_at-requires-3-clause-rects c = colours_alike (parameters_of c.args.plan.now) c.args.slice c.args.colour.now c.requires.colour
 
 pub read_at-requires-3-clause-room : goal.read_at-requires-3-clause-room
-read_at-requires-3-clause-room c =
-    let both = colour_counts (parameters_of c.args.plan.now) c.args.slice in
-    let long : length c.read_at-2.new.numbers ≡ length c.args.numbers.now = search rules in
-    omega (arith, both, long, c.requires.c, c.requires.room)
+read_at-requires-3-clause-room c = omega (arith, colour_counts)
 
 pub returns-clause-value : goal.returns-clause-value
 returns-clause-value c =
