@@ -1,6 +1,6 @@
 -- The rows of a subband's part, once rows are taken in turn: each cell of a row of it stands in one row.
 use Rattle.std.proofs.Common.{◌≡◌, ℕ, zero, suc, ◌+◌, ◌-◌, ◌*◌, ◌/◌, ◌%◌, ◌^◌, ◌<◌, ◌≤◌, ◌⊎◌, inl, inr, arith, ap, sym, subst, ◌∙◌, min}
-use Rattle.std.proofs.lemmas.Bool.{cases_lt, cases_eq}
+use Rattle.std.proofs.lemmas.Bool.{cases_eq}
 use Rattle.std.proofs.Math.Nat.{div-le_of_le-mul, mul-div_cancel, mul-le-mul_left}
 use Rattle.std.proofs.Math.Pow.{pow_pos}
 use Rattle.std.proofs.lemmas.Nat.{pow-add}
@@ -23,10 +23,7 @@ less_together : (w a b : ℕ) → a < w → b < w → AreTogether w a b
 less_together w a b ha hb k = (let more : w * 1 ≤ w * 2 ^ k = mul-le-mul_left w (pow_pos k) in inl (omega (arith, more), omega (arith, more)))
 
 same_source : (w h a b y : ℕ) → a < 2 * w → b < 2 * w → turned w h a y ≡ turned w h b y
-same_source w h a b y ha hb = elim (cases_lt y (2 * h)) [
-  | inl up ↦ turned_in w h a y ha up ∙ sym (turned_in w h b y hb up)
-  | inr low ↦ turned_below w h a y low ∙ sym (turned_below w h b y low)
-]
+same_source w h a b y ha hb = grind (arith, turned_in, turned_below)
 
 rows_below : (levels w h a b y : ℕ) → a < 2 * w → b < 2 * w → row_in_turn levels w h a y ≡ row_in_turn levels w h b y
 rows_below zero w h a b y ha hb = row_end w h a y ∙ sym (row_end w h b y)

@@ -1,5 +1,5 @@
 -- Output samples: how a number is clipped.
-use Rattle.std.proofs.Common.{◌≡◌, ℕ, ◌-◌, ◌^◌, ◌<◌, ℤ, pos, negsuc, ◌+ℤ◌, ◌-ℤ◌, neg_ℤ, unsigned_abs, arith, ap, ◌∙◌}
+use Rattle.std.proofs.Common.{◌≡◌, ℕ, ◌-◌, ◌^◌, ◌<◌, ℤ, pos, negsuc, ◌+ℤ◌, ◌-ℤ◌, neg_ℤ, unsigned_abs, arith}
 use Rattle.std.specs.Int.{int_max, int_min}
 use Rattle.std.proofs.lemmas.Int.{ints, clamps}
 use Rattle.std.proofs.Math.Pow.{pow_pos}
@@ -12,8 +12,4 @@ clipped-is half (negsuc n) low high some l h = omega (arith, ints, clamps)
 -- the number that code clips
 pub output_sample-is : (depth : ℕ) (z given r half low high : ℤ) → half ≡ pos (2 ^ (depth - 1)) → given ≡ z → low ≡ neg_ℤ half → high ≡ half -ℤ pos 1 → r ≡ int_max low (int_min given high) → unsigned_abs (r +ℤ half) ≡ output_sample depth z
 unfolding output_sample
-output_sample-is depth z given r half low high is own l h clip =
-    let below : low ≡ neg_ℤ (pos (2 ^ (depth - 1))) = l ∙ ap neg_ℤ is in
-    let above : high ≡ pos (2 ^ (depth - 1)) -ℤ pos 1 = h ∙ ap (λ x. x -ℤ pos 1) is in
-    let same = clip ∙ ap (λ x. int_max low (int_min x high)) own ∙ clipped-is (2 ^ (depth - 1)) z low high (pow_pos (depth - 1)) below above in
-    ap (λ x. unsigned_abs (x +ℤ half)) same ∙ ap (λ x. unsigned_abs (clipped (2 ^ (depth - 1)) z +ℤ x)) is
+output_sample-is depth z given r half low high is own l h clip = grind (arith, clipped-is, pow_pos)

@@ -2,7 +2,6 @@
 use Rattle.std.proofs.Common.{◌≡◌, ◌≢◌, ℕ, suc, ◌+◌, ◌-◌, ◌*◌, ◌/◌, ◌%◌, ◌^◌, ◌<◌, ◌≤◌, List, length, ℤ, pos, arith, ap, sym, ◌∙◌, ◌⊎◌, inl, inr, unsigned_abs, All, Bool, true, false, subst}
 use Rattle.std.specs.Prelude.{if◌then◌else◌}
 use Rattle.std.proofs.lemmas.Bool.{cases_lt, cases_eq}
-use Rattle.std.proofs.lemmas.Bool.Decides.{nat_tests}
 use Rattle.std.proofs.lemmas.List.Elements.{All-from_get_or}
 use Rattle.std.proofs.lemmas.Nat.{mul-add-lt, div_below}
 use Rattle.std.proofs.Math.Nat.{mul-le-mul_left, mul-le-mul_right}
@@ -95,11 +94,7 @@ all_of_block m half width block whole small = All-from_get_or (λ z. unsigned_ab
 
 pub on_samples_in : (f : ℤ → ℤ) (wanted : Bool) (n : ℕ) (l : ℕ → ℤ) (k : ℕ) → k < n → on_samples f wanted n l k ≡ (if wanted then f (l k) else l k)
 unfolding on_samples
-on_samples_in f true n l k h = grind (arith, nat_tests)
-on_samples_in f false n l k h = refl'
-  where
-    refl' : l k ≡ l k
-    refl' = λ i. l k
+on_samples_in f wanted n l k h = grind arith
 
 module _ (wavelet half width : ℕ) (line : ℕ → ℤ) (gathered made : List ℤ) (x : ℕ)
     (from : (k : ℕ) → k < 2 * half → column_of width gathered x k ≡ line (half_place half k))
@@ -120,11 +115,7 @@ module _ (half width : ℕ) (shifted : Bool) (line : ℕ → ℤ) (gathered twic
       double (k * width + x) (omega (arith, inside)) ∙ ap (λ z. if shifted then doubled z else z) (from k h) ∙ sym (on_samples_in doubled shifted (2 * half) line k h)
 
   pub doubled_small : (m : ℕ) → ((k : ℕ) → k < 2 * half → unsigned_abs (line k) < m) → (k : ℕ) → k < 2 * half → unsigned_abs (column_of width twice x k) < 2 * m
-  doubled_small m small k h = rw (doubled_column k h ∙ on_samples_in doubled shifted (2 * half) line k h) (either shifted)
-    where
-      either : (test : Bool) → unsigned_abs (if test then doubled (line k) else line k) < 2 * m
-      either true = doubled_below m (line k) (small k h)
-      either false = (let a = small k h in omega (arith, a))
+  doubled_small m small k h = grind (arith, doubled_column, on_samples_in, doubled_below)
 
   -- and then taken apart
   pub parted_column : (wavelet : ℕ) (taken : List ℤ) → column_of width taken x ≡ analysed wavelet (2 * half) (column_of width twice x) → (k : ℕ) → k < 2 * half → column_of width taken x k ≡ analysed wavelet (2 * half) (on_samples doubled shifted (2 * half) line) k

@@ -1,7 +1,6 @@
 -- Rows of cells that are filled with a plane's samples, and what the forward transform makes of them.
-use Rattle.std.proofs.Common.{◌≡◌, ◌≢◌, ℕ, suc, sym, ◌+◌, ◌-◌, ◌*◌, ◌^◌, ◌<◌, ◌≤◌, List, length, set, take, drop, refl, ℤ, pos, ◌-ℤ◌, unsigned_abs, All, arith, ap, ◌∙◌, ◌⊎◌, inl, inr, slice_index_or, min}
+use Rattle.std.proofs.Common.{◌≡◌, ℕ, ◌+◌, ◌-◌, ◌*◌, ◌^◌, ◌<◌, ◌≤◌, List, length, set, ℤ, pos, ◌-ℤ◌, unsigned_abs, All, arith, ap, ◌∙◌, ◌⊎◌, inl, inr, slice_index_or, min}
 use Rattle.std.proofs.lemmas.Bool.{cases_lt, cases_eq}
-use Rattle.std.proofs.lemmas.Int.{ints}
 use Rattle.std.specs.Prelude.{slice_range}
 use Rattle.std.proofs.lemmas.List.{get_or-set_same, get_or-set_other, get_or_past, get_or-take, get_or-drop, length-take-le, length-drop}
 use Rattle.std.proofs.lemmas.List.Elements.{All-get_or}
@@ -27,10 +26,7 @@ module _ (columns x y : ℕ) (cells : List ℤ) (v : ℤ) (value : ℕ → ℕ �
   above_kept above u t h lt = get_or-set_other cells (y * columns + x) (t * columns + u) v (pos 0) (λ e. (let same = same_from_place t u y x columns h inside e in omega (arith, same))) ∙ above u t h lt
 
   pub row_more : ((u : ℕ) → u < x → line_of cells (y * columns + u) ≡ value u y) → (u : ℕ) → u < x + 1 → line_of (set cells (y * columns + x) v) (y * columns + u) ≡ value u y
-  row_more row u h = elim (cases_eq u x) [
-    | inl e ↦ rw e (get_or-set_same cells (y * columns + x) v (pos 0) within ∙ is)
-    | inr ne ↦ (let apart : y * columns + u ≢ y * columns + x = omega arith in get_or-set_other cells (y * columns + x) (y * columns + u) v (pos 0) apart ∙ row u (omega arith))
-  ]
+  row_more row u h = grind (arith, get_or-set_same, within, get_or-set_other)
 
 pub rows_filled : (columns y : ℕ) (cells : List ℤ) (value : ℕ → ℕ → ℤ) → ((u t : ℕ) → u < columns → t < y → line_of cells (t * columns + u) ≡ value u t) → ((u : ℕ) → u < columns → line_of cells (y * columns + u) ≡ value u y) → (u t : ℕ) → u < columns → t < y + 1 → line_of cells (t * columns + u) ≡ value u t
 rows_filled columns y cells value above row u t h lt = elim (cases_eq t y) [ inl e ↦ rw e (row u h) | inr ne ↦ above u t h (omega arith) ]
@@ -38,41 +34,22 @@ rows_filled columns y cells value above row u t h lt = elim (cases_eq t y) [ inl
 -- the sample that is read
 pub sample_read : (p : Raster) (samples : List ℕ) (w h x y row column : ℕ) → samples ≡ p.samples → w ≡ p.width → h ≡ p.height → row ≡ min y (h - 1) → column ≡ min x (w - 1) → slice_index_or samples (row * w + column) 0 ≡ sample_at p (min x (p.width - 1)) (min y (p.height - 1))
 unfolding sample_at
-sample_read p samples w h x y row column list wide high down across =
-    ap (λ xs. slice_index_or xs (row * w + column) 0) list
-    ∙ ap (λ n. slice_index_or p.samples (n * w + column) 0) (down ∙ ap (λ n. min y (n - 1)) high)
-    ∙ ap (λ n. slice_index_or p.samples (min y (p.height - 1) * w + n) 0) (across ∙ ap (λ n. min x (n - 1)) wide)
-    ∙ ap (λ n. slice_index_or p.samples (min y (p.height - 1) * n + min x (p.width - 1)) 0) wide
+sample_read p samples w h x y row column list wide high down across = grind arith
 
 -- the samples of a row, the last of which is met again past it
 pub row_read : (p : Raster) (samples : List ℕ) (w h x y row : ℕ) → samples ≡ p.samples → w ≡ p.width → h ≡ p.height → row ≡ min y (h - 1) → 0 < w → row * w + w ≤ length samples
     → slice_index_or (slice_range samples (row * w) (row * w + w)) (min x (length (slice_range samples (row * w) (row * w + w)) - 1)) 0 ≡ sample_at p (min x (p.width - 1)) (min y (p.height - 1))
 row_read p samples w h x y row list wide high down some inside =
-    let n = row * w + w - row * w in
-    let many : n ≡ w = omega arith in
-    let rest = drop (row * w) samples in
-    let long : length (take n rest) ≡ w = length-take-le n rest (omega (arith, length-drop (row * w) samples)) ∙ many in
-    let k = min x (length (take n rest) - 1) in
-    let same : k ≡ min x (w - 1) = ap (λ m. min x (m - 1)) long in
-    let below : k < n = omega (arith, same, many, some) in
-    get_or-take n rest k 0 below ∙ get_or-drop (row * w) samples k 0 ∙ ap (λ j. slice_index_or samples (row * w + j) 0) same
-    ∙ sample_read p samples w h x y row (min x (w - 1)) list wide high down refl
+    grind (arith, length-take-le, length-drop, get_or-take, get_or-drop, sample_read)
 
 -- a row that is read lies in the plane
 pub row_inside : (p : Raster) (samples : List ℕ) (w h y row : ℕ) → length samples ≡ p.width * p.height → w ≡ p.width → h ≡ p.height → row ≡ min y (h - 1) → 1 ≤ p.height → row * w + w ≤ length samples
-row_inside p samples w h y row whole wide high down some =
-    let below : suc row ≤ h = omega (arith, down, high, some) in
-    let rows : suc row * w ≤ h * w = mul-le-mul_right w below in
-    let all : length samples ≡ w * h = whole ∙ ap (λ n. n * p.height) (sym wide) ∙ ap (λ n. w * n) (sym high) in
-    omega (arith, rows, all)
+row_inside p samples w h y row whole wide high down some = grind (arith, mul-le-mul_right)
 
 -- ---- the forward transform of the filled cells
 
 centred_small : (s d : ℕ) → s < 2 ^ d → 1 ≤ d → d ≤ 16 → unsigned_abs (pos s -ℤ pos (2 ^ (d - 1))) < 2 ^ 16
-centred_small s d h some few =
-    let all : 2 ^ d ≤ 2 ^ 16 = pow_mono few in
-    let half : 2 ^ (d - 1) ≤ 2 ^ 15 = pow_mono {i = d - 1} {j = 15} (omega arith) in
-    omega (arith, ints, all, half)
+centred_small s d h some few = grind (arith, pow_mono)
 
 pub samples_below : (m : ℕ) (p : Raster) → 0 < m → All (λ s. s < m) p.samples → (x y : ℕ) → sample_at p x y < m
 unfolding sample_at
@@ -88,10 +65,7 @@ module _ (p : Parameters) (c : Component) (plane : Raster) (made : Lattice) (wid
     (whole : length first ≡ height * width) (kept : length cells ≡ length first) (is : made ≡ lattice width height cells) where
   same_sample : (x y : ℕ) → padded_sample plane depth x y ≡ padded_plane p c (sample_at plane) x y
   unfolding padded_plane
-  same_sample x y =
-      ap (λ n. pos (sample_at plane (min x (n - 1)) (min y (plane.height - 1))) -ℤ pos (2 ^ (depth - 1))) own_width
-      ∙ ap (λ n. pos (sample_at plane (min x (plane_width p.shape c - 1)) (min y (n - 1))) -ℤ pos (2 ^ (depth - 1))) own_height
-      ∙ ap (λ n. pos (sample_at plane (min x (plane_width p.shape c - 1)) (min y (plane_height p.shape c - 1))) -ℤ pos (2 ^ (n - 1))) own_depth
+  same_sample x y = grind arith
 
   pub first_agrees : (x y : ℕ) → x < padded_width p c → y < padded_height p c → plane_of width first x y ≡ padded_plane p c (sample_at plane) x y
   first_agrees x y h lt = plane_in width first x y (omega (arith, across)) ∙ filled x y (omega (arith, across)) (omega (arith, down)) ∙ same_sample x y

@@ -57,10 +57,7 @@ line_below m cells some small i (inl h) = All-get_or (λ z. unsigned_abs z < m) 
 line_below m cells some small i (inr h) = rw (get_or_past cells i (pos 0) h) some
 
 pub plane_below : (m stride : ℕ) (cells : List ℤ) → 0 < m → All (λ z. unsigned_abs z < m) cells → AreBelow m (plane_of stride cells)
-plane_below m stride cells some small x y = elim (cases_lt x stride) [
-  | inl h ↦ rw (plane_in stride cells x y h) (line_below m cells some small (y * stride + x) (cases_lt (y * stride + x) (length cells)))
-  | inr h ↦ rw (plane_out stride cells x y h) some
-]
+plane_below m stride cells some small x y = grind (arith, plane_in, line_below, plane_out)
 
 pub cells_below_all : (m stride : ℕ) (cells : List ℤ) → 0 < stride → AreBelow m (plane_of stride cells) → All (λ z. unsigned_abs z < m) cells
 cells_below_all m stride cells some small = All-from_get_or (λ z. unsigned_abs z < m) cells (pos 0) (λ i h.
@@ -113,9 +110,4 @@ module _ (p : Parameters) (c : Component) (w side h : ℕ) (first second last : 
 
   pub all_levels : second ≡ across_alone w h first → last ≡ both_ways side h second → last ≡ inverse_transform p c first
   unfolding inverse_transform
-  all_levels before levels =
-      levels
-      ∙ ap (λ n. both_ways n h second) above
-      ∙ ap (both_ways (w * 2 ^ p.depth_ho) h) before
-      ∙ ap (λ n. both_ways (n * 2 ^ p.depth_ho) h (across_alone n h first)) lowest_across
-      ∙ ap (λ m. both_ways (lowest_width p c * 2 ^ p.depth_ho) m (across_alone (lowest_width p c) m first)) lowest_down
+  all_levels before levels = grind arith

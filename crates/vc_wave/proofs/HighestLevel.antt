@@ -1,5 +1,5 @@
 -- The highest level both ways: its sides, and what it makes of the subbands that are left below it.
-use Rattle.std.proofs.Common.{◌≡◌, ℕ, suc, ◌+◌, ◌-◌, ◌*◌, ◌^◌, ◌<◌, ◌≤◌, List, ℤ, arith, refl, ap, sym, ◌∙◌}
+use Rattle.std.proofs.Common.{◌≡◌, ℕ, suc, ◌+◌, ◌-◌, ◌*◌, ◌^◌, ◌<◌, ◌≤◌, List, ℤ, arith, refl, ap, ◌∙◌}
 use Rattle.std.proofs.Math.Nat.{pow-suc}
 use Rattle.std.proofs.lemmas.Nat.{pow-add}
 use Rattle.vc_types.specs.declared.video.Component.{Component}
@@ -16,10 +16,7 @@ use Rattle.vc_wave.proofs.Levels.{level_some, next_level}
 use Rattle.vc_wave.proofs.NarrowLevels.{in_turn_level}
 
 double : (n m u : ℕ) → suc n ≡ m → 2 * (u * 2 ^ n) ≡ u * 2 ^ m
-double n m u e =
-    let twice : 2 * 2 ^ n ≡ 2 ^ suc n = sym (pow-suc 2 n ∙ omega arith) in
-    let group : 2 * (u * 2 ^ n) ≡ u * (2 * 2 ^ n) = omega arith in
-    group ∙ ap (λ k. u * k) twice ∙ ap (λ k. u * 2 ^ k) e
+double n m u e = grind (arith, pow-suc)
 
 -- a level whose rows are the only ones that are still in turn
 in_turn : (vertical horizontal w h : ℕ) (plane : Cells) → level_in_turn vertical horizontal w h plane ≡ inverse_level vertical horizontal w h (laid_out 1 w h plane)
@@ -48,11 +45,7 @@ module _ (p : Parameters) (c : Component) (w h lowest_w lowest_h : ℕ) (some : 
       ∙ padded_whole (plane_height p.shape c) p.depth
 
   width_in_parts : w ≡ lowest_width p c * 2 ^ p.depth_ho * 2 ^ (p.depth - 1)
-  width_in_parts =
-      let group : (a b n : ℕ) → n * (a * b) ≡ n * a * b = λ a b n. omega arith in
-      wide ∙ ap (λ n. n * 2 ^ (p.depth_ho + (p.depth - 1))) across
-      ∙ ap (λ k. lowest_width p c * k) (pow-add 2 p.depth_ho (p.depth - 1))
-      ∙ group (2 ^ p.depth_ho) (2 ^ (p.depth - 1)) (lowest_width p c)
+  width_in_parts = grind (arith, across, pow-add)
 
   height_in_parts : h ≡ lowest_height p c * 2 ^ (p.depth - 1)
   height_in_parts = high ∙ ap (λ n. n * 2 ^ (p.depth - 1)) down

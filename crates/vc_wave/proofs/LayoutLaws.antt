@@ -1,13 +1,12 @@
 -- Rows that are taken in turn: where they stand, and what a level makes of the nested subbands that they hold.
-use Rattle.std.proofs.Common.{◌≡◌, ℕ, zero, suc, ◌+◌, ◌*◌, ◌/◌, ◌%◌, ◌^◌, ◌<◌, ◌≤◌, ◌⊎◌, inl, inr, List, ℤ, arith, ap, sym, refl, ◌∙◌, Bool, true, false}
-use Rattle.std.specs.Prelude.{if◌then◌else◌, nat_lt, ◌&&◌}
+use Rattle.std.proofs.Common.{◌≡◌, ℕ, zero, suc, ◌+◌, ◌*◌, ◌/◌, ◌%◌, ◌^◌, ◌<◌, ◌≤◌, ◌⊎◌, inl, inr, List, ℤ, arith, ap, sym, refl, ◌∙◌}
+use Rattle.std.specs.Prelude.{if◌then◌else◌}
 use mathlib.Core.Path.{fun_ext}
 use Rattle.std.proofs.lemmas.Bool.{cases_lt}
-use Rattle.std.proofs.lemmas.Bool.Decides.{nat_tests}
 use Rattle.std.proofs.Math.Nat.{mul-le-mul_right, pow-suc, mod-eq-sub-div-mul, div-mul-le_self, mod-lt}
 use Rattle.std.proofs.Math.Pow.{pow_pos}
 use Rattle.vc_types.specs.Lifting.{line_of}
-use Rattle.vc_types.specs.Transforms.{Cells, is_within, half_place, source_of, on_columns}
+use Rattle.vc_types.specs.Transforms.{Cells, is_within, source_of, on_columns}
 use Rattle.vc_wave.specs.Layout.{row_in_turn, laid_out}
 use Rattle.vc_wave.specs.Planes.{plane_of}
 use Rattle.vc_wave.specs.Remade.{halves_together}
@@ -22,25 +21,15 @@ turned w h x y = if is_within (2 * w) (2 * h) x y then source_of h y else y
 
 pub turned_in : (w h x y : ℕ) → x < 2 * w → y < 2 * h → turned w h x y ≡ source_of h y
 unfolding turned
-turned_in w h x y a b = inside (nat_lt x (2 * w)) (nat_lt y (2 * h)) (source_of h y) y (grind (arith, nat_tests)) (grind (arith, nat_tests))
-  where
-    inside : (p q : Bool) (m n : ℕ) → p ≡ true → q ≡ true → (if p && q then m else n) ≡ m
-    inside p q m n a b = rw (a, b) refl
+turned_in w h x y a b = grind arith
 
 pub turned_right : (w h x y : ℕ) → 2 * w ≤ x → turned w h x y ≡ y
 unfolding turned
-turned_right w h x y a = outside (nat_lt x (2 * w)) (nat_lt y (2 * h)) (source_of h y) y (grind (arith, nat_tests))
-  where
-    outside : (p q : Bool) (m n : ℕ) → p ≡ false → (if p && q then m else n) ≡ n
-    outside p q m n a = rw a refl
+turned_right w h x y a = grind arith
 
 pub turned_below : (w h x y : ℕ) → 2 * h ≤ y → turned w h x y ≡ y
 unfolding turned
-turned_below w h x y a = outside (nat_lt x (2 * w)) (nat_lt y (2 * h)) (source_of h y) y (grind (arith, nat_tests))
-  where
-    outside : (p q : Bool) (m n : ℕ) → q ≡ false → (if p && q then m else n) ≡ n
-    outside true q m n a = rw a refl
-    outside false q m n a = refl
+turned_below w h x y a = grind arith
 
 pub row_step : (levels w h x y : ℕ) → row_in_turn (suc levels) w h x y ≡ row_in_turn levels (2 * w) (2 * h) x (turned w h x y)
 unfolding row_in_turn turned
@@ -53,16 +42,8 @@ row_end w h x y = refl
 -- ---- no two rows fall together
 
 turned_apart : (w h x y z : ℕ) → turned w h x y ≡ turned w h x z → y ≡ z
-turned_apart w h x y z e = elim (cases_lt x (2 * w)) [
-  | inr right ↦ sym (turned_right w h x y right) ∙ e ∙ turned_right w h x z right
-  | inl within ↦ both within (cases_lt y (2 * h)) (cases_lt z (2 * h))
-]
-  where
-    both : x < 2 * w → (y < 2 * h) ⊎ (2 * h ≤ y) → (z < 2 * h) ⊎ (2 * h ≤ z) → y ≡ z
-    both a (inl b) (inl d) = sym (half_place-source_of h y b) ∙ ap (half_place h) (sym (turned_in w h x y a b) ∙ e ∙ turned_in w h x z a d) ∙ half_place-source_of h z d
-    both a (inr b) (inr d) = sym (turned_below w h x y b) ∙ e ∙ turned_below w h x z d
-    both a (inl b) (inr d) = (let below = source_below h y b in let same : source_of h y ≡ z = sym (turned_in w h x y a b) ∙ e ∙ turned_below w h x z d in absurd (omega (arith, below, same)))
-    both a (inr b) (inl d) = (let below = source_below h z d in let same : y ≡ source_of h z = sym (turned_below w h x y b) ∙ e ∙ turned_in w h x z a d in absurd (omega (arith, below, same)))
+turned_apart w h x y z e =
+    grind (arith, turned_right, half_place-source_of, turned_in, turned_below, source_below)
 
 pub rows_apart : (levels w h x y z : ℕ) → row_in_turn levels w h x y ≡ row_in_turn levels w h x z → y ≡ z
 rows_apart zero w h x y z e = sym (row_end w h x y) ∙ e ∙ row_end w h x z
@@ -81,24 +62,8 @@ lowest_row (suc levels) w h x y a b =
 -- ---- a level's rows are its subbands' rows in turn
 
 pub laid_together : (levels w h : ℕ) (plane : Cells) → laid_out levels (2 * w) (2 * h) plane ≡ on_columns (halves_together h) (2 * w) (laid_out (suc levels) w h plane)
-laid_together levels w h plane = fun_ext (λ x. fun_ext (λ y. at x y (cases_lt x (2 * w)) (cases_lt y (2 * h))))
-  where
-    nested : Cells
-    nested = laid_out (suc levels) w h plane
-
-    whole : (x y : ℕ) → turned w h x y ≡ y → laid_out levels (2 * w) (2 * h) plane x y ≡ laid_out (suc levels) w h plane x y
-    whole x y e = ap (plane x) (sym (row_step levels w h x y ∙ ap (row_in_turn levels (2 * w) (2 * h) x) e))
-
-    at : (x y : ℕ) → (x < 2 * w) ⊎ (2 * w ≤ x) → (y < 2 * h) ⊎ (2 * h ≤ y) → laid_out levels (2 * w) (2 * h) plane x y ≡ on_columns (halves_together h) (2 * w) (laid_out (suc levels) w h plane) x y
-    at x y (inr right) any = whole x y (turned_right w h x y right) ∙ sym (column_out (halves_together h) (2 * w) (laid_out (suc levels) w h plane) x y right)
-    at x y (inl a) (inr below) =
-        whole x y (turned_below w h x y below)
-        ∙ sym (column_in (halves_together h) (2 * w) (laid_out (suc levels) w h plane) x y a ∙ rearranged_past (2 * h) (half_place h) (λ k. laid_out (suc levels) w h plane x k) y below)
-    at x y (inl a) (inl b) =
-        ap (plane x)
-        (sym (row_step levels w h x (half_place h y)
-        ∙ ap (row_in_turn levels (2 * w) (2 * h) x) (turned_in w h x (half_place h y) a (half_place_below h y b) ∙ source_of-half_place h y b)))
-        ∙ sym (column_in (halves_together h) (2 * w) (laid_out (suc levels) w h plane) x y a ∙ rearranged_in (2 * h) (half_place h) (λ k. laid_out (suc levels) w h plane x k) y b)
+laid_together levels w h plane =
+    grind (arith, row_step, turned_right, column_out, turned_below, column_in, rearranged_past, turned_in, half_place_below, source_of-half_place, rearranged_in)
 
 quotient_parts : (n m : ℕ) → n ≡ n / m * m + n % m
 quotient_parts n m = omega (arith, mod-eq-sub-div-mul n m, div-mul-le_self n m)

@@ -26,38 +26,18 @@ level_some w level h = omega (arith, mul-le-mul h (pow_pos level))
 pub level_room : (w h level levels columns rows stride cells cells_now block scratch scratch_now : ℕ) → level < levels → columns ≡ w * 2 ^ level → rows ≡ h * 2 ^ level → cells_now ≡ cells → scratch_now ≡ scratch
     → HasRoom (w * 2 ^ levels) (h * 2 ^ levels) stride cells block scratch → HasRoom (2 * columns) (2 * rows) stride cells_now block scratch_now
 level_room w h level levels columns rows stride cells cells_now block scratch scratch_now lt across down same kept room =
-    let wide = level_fits w level levels lt in
-    let high : 2 * rows ≤ h * 2 ^ levels = omega (arith, level_fits h level levels lt, down) in
-    record {
-      across = omega (arith, wide, across, room.across);
-      down = (let all = mul-le-mul_right stride high in omega (arith, all, same, room.down));
-      row = omega (arith, wide, across, kept, room.row);
-      side_by_side = (let all = mul-le-mul_right block high in omega (arith, all, kept, room.side_by_side));
-    }
+    grind (arith, level_fits, mul-le-mul_right)
 
 pub across_room : (w h level levels columns stride cells cells_now block scratch scratch_now : ℕ) → level < levels → columns ≡ w * 2 ^ level → cells_now ≡ cells → scratch_now ≡ scratch
     → HasRoom (w * 2 ^ levels) h stride cells block scratch → HasRoom (2 * columns) h stride cells_now block scratch_now
 across_room w h level levels columns stride cells cells_now block scratch scratch_now lt across same kept room =
-    let wide = level_fits w level levels lt in
-    record {
-      across = omega (arith, wide, across, room.across);
-      down = omega (arith, same, room.down);
-      row = omega (arith, wide, across, kept, room.row);
-      side_by_side = omega (arith, kept, room.side_by_side);
-    }
+    grind (arith, level_fits)
 
 -- room for all levels of a component, where the lists are still as long as they were, and for the lowest levels alone
 pub whole_room : (p : Parameters) (c : Component) (w side h stride cells cells_now block scratch scratch_now : ℕ) → w ≡ lowest_width p c → side ≡ w * 2 ^ p.depth_ho → h ≡ lowest_height p c → cells_now ≡ cells → scratch_now ≡ scratch
     → HasRoom (padded_width p c) (padded_height p c) stride cells block scratch → HasRoom (side * 2 ^ p.depth) (h * 2 ^ p.depth) stride cells_now block scratch_now
 whole_room p c w side h stride cells cells_now block scratch scratch_now narrow above low same kept room =
-    let across : side * 2 ^ p.depth ≤ padded_width p c = rw (above, narrow) (side_whole (padded_width p c) p.depth p.depth_ho) in
-    let down : h * 2 ^ p.depth ≤ padded_height p c = rw low (div-mul-le_self (padded_height p c) (2 ^ p.depth)) in
-    record {
-      across = omega (arith, across, room.across);
-      down = (let fits = mul-le-mul_right stride down in omega (arith, fits, same, room.down));
-      row = omega (arith, across, kept, room.row);
-      side_by_side = (let fits = mul-le-mul_right block down in omega (arith, fits, kept, room.side_by_side));
-    }
+    grind (arith, side_whole, div-mul-le_self, mul-le-mul_right)
 
 lower_room : (w h d stride cells block scratch : ℕ) → HasRoom (w * 2 ^ d) (h * 2 ^ d) stride cells block scratch → HasRoom w h stride cells block scratch
 lower_room w h d stride cells block scratch room =

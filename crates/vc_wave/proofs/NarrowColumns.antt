@@ -1,5 +1,5 @@
 -- Columns that are synthesised or analysed in place, and how large a plane's cells are after each pass.
-use Rattle.std.proofs.Common.{◌≡◌, ◌≢◌, ℕ, zero, suc, ◌+◌, ◌*◌, ◌/◌, ◌%◌, ◌^◌, ◌<◌, ◌≤◌, ◌⊎◌, inl, inr, List, ℤ, unsigned_abs, arith, ap, sym, subst, ◌∙◌}
+use Rattle.std.proofs.Common.{rules, ◌≡◌, ◌≢◌, ℕ, zero, suc, ◌+◌, ◌*◌, ◌/◌, ◌%◌, ◌^◌, ◌<◌, ◌≤◌, ◌⊎◌, inl, inr, List, ℤ, unsigned_abs, arith, ap, sym, subst, ◌∙◌}
 use Rattle.std.specs.Prelude.{if◌then◌else◌, ◌==◌}
 use mathlib.Core.Path.{fun_ext}
 use Rattle.std.proofs.lemmas.Bool.{cases_lt}
@@ -31,10 +31,7 @@ column_place pitch half k =
     omega (arith, first, parts)
 
 rows_apart : (pitch width j k : ℕ) → width ≤ pitch → j ≢ k → StandApart width (j * pitch) (k * pitch)
-rows_apart pitch width j k wide ne = elim (cases_lt j k) [
-  | inl lt ↦ (let above : suc j * pitch ≤ k * pitch = mul-le-mul_right pitch lt in inl (omega (arith, above)))
-  | inr ge ↦ (let more : suc k ≤ j = omega arith in let above : suc k * pitch ≤ j * pitch = mul-le-mul_right pitch more in inr (omega (arith, above)))
-]
+rows_apart pitch width j k wide ne = search (rules, mul-le-mul_right)
 
 pub column_lines : (pitch width half len : ℕ) → 0 < half → half < 2 ^ 60 → width ≤ pitch → 2 * half * pitch ≤ len → AreLines (column_halves pitch half) width len
 column_lines pitch width half len some small wide inside = record {
@@ -48,10 +45,7 @@ column_lines pitch width half len some small wide inside = record {
 
 -- a plane's cells, by their places
 pub plane_small : (pitch m : ℕ) (cells : List ℤ) → ((i : ℕ) → unsigned_abs (line_of cells i) ≤ m) → (x y : ℕ) → unsigned_abs (plane_of pitch cells x y) ≤ m
-plane_small pitch m cells small x y = elim (cases_lt x pitch) [
-  | inl h ↦ rw (plane_in pitch cells x y h) (small (y * pitch + x))
-  | inr h ↦ rw (plane_out pitch cells x y h) (omega arith)
-]
+plane_small pitch m cells small x y = grind (arith, plane_in, plane_out)
 
 pub cells_small : (pitch m : ℕ) (cells : List ℤ) → 0 < pitch → ((x y : ℕ) → unsigned_abs (plane_of pitch cells x y) ≤ m) → (i : ℕ) → unsigned_abs (line_of cells i) ≤ m
 cells_small pitch m cells some small i =
@@ -60,12 +54,7 @@ cells_small pitch m cells some small i =
     subst (λ j. unsigned_abs (line_of cells j) ≤ m) place (subst (λ z. unsigned_abs z ≤ m) (plane_in pitch cells (i % pitch) (i / pitch) column) (small (i % pitch) (i / pitch)))
 
 pub column_narrow : (steps : List CountedStep) (pitch half : ℕ) (cells : List ℤ) (x : ℕ) → HasBound (λ m. bound_after (2 ^ 31) steps m m) cells → StaysNarrow steps half (line_in (column_halves pitch half) cells x)
-column_narrow steps pitch half cells x bound = record {
-  most = bound.most;
-  after = bound.after;
-  small = λ k h. bound.small (halves_place (column_halves pitch half) k + x);
-  fits = bound.fits;
-}
+column_narrow steps pitch half cells x bound = grind arith
 
 module _ (make : Line → Line) (pitch columns half : ℕ) (past : LeavesPast (2 * half) make) (old new : List ℤ) (wide : columns ≤ pitch)
     (on : (x k : ℕ) → x < columns → k < 2 * half → line_in (column_halves pitch half) new x k ≡ make (line_in (column_halves pitch half) old x) k)

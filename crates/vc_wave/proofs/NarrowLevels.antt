@@ -112,13 +112,8 @@ abbrev pub AtMost : ℕ → Cells → Type 0
 AtMost m c = (x y : ℕ) → unsigned_abs (c x y) ≤ m
 
 pub columns_at_most : (wavelet half columns most made : ℕ) (c : Cells) → 0 < half → narrow_bound wavelet most ≡ Some made → AtMost most c → AtMost made (on_columns (synthesised wavelet (2 * half)) columns c)
-columns_at_most wavelet half columns most made c some fits small x y = elim (cases_lt x columns) [
-  | inr out ↦ rw (column_out (synthesised wavelet (2 * half)) columns c x y out) (let more = narrow_covers wavelet most made fits in omega (arith, small x y, more))
-  | inl inside ↦ rw (column_in (synthesised wavelet (2 * half)) columns c x y inside) (elim (cases_lt y (2 * half)) [
-    | inl h ↦ synthesis_after wavelet half most made (λ k. c x k) some fits (λ k lt. small x k) y h
-    | inr past ↦ rw (synthesis_past wavelet half (λ k. c x k) y past) (let more = narrow_covers wavelet most made fits in omega (arith, small x y, more))
-  ])
-]
+columns_at_most wavelet half columns most made c some fits small x y =
+    grind (arith, column_out, narrow_covers, column_in, synthesis_after, synthesis_past)
 
 shr_once : (n : ℕ) (z : ℤ) → unsigned_abs z + 1 ≤ n → unsigned_abs (int_shr z 1) ≤ (n + 1) / 2
 shr_once n (pos j) h = omega arith
@@ -217,10 +212,7 @@ pub rest_at : (levels level : ℕ) → level < levels → suc (levels - 1 - leve
 rest_at levels level h = omega arith
 
 two_powers : (levels level : ℕ) → level < levels → 2 * 2 ^ level * 2 ^ (levels - 1 - level) ≡ 2 ^ levels
-two_powers levels level h =
-    let sum : suc level + (levels - 1 - level) ≡ levels = omega arith in
-    let twice : 2 * 2 ^ level ≡ 2 ^ suc level = sym (pow-suc 2 level ∙ omega arith) in
-    ap (λ p. p * 2 ^ (levels - 1 - level)) twice ∙ sym (pow-add 2 (suc level) (levels - 1 - level)) ∙ ap (λ n. 2 ^ n) sum
+two_powers levels level h = grind (arith, pow-suc, pow-add)
 
 power_less : (levels left : ℕ) → left ≤ levels → 2 ^ left ≤ 2 ^ levels
 power_less levels left h = pow_mono h
@@ -271,12 +263,7 @@ apart_room w h e d stride pitch cells line apart room =
 -- ---- the layout, level by level
 
 pub first_laid : (vertical horizontal levels w h : ℕ) (plane : Cells) → laid_out (levels - 0) (w * 2 ^ 0) (h * 2 ^ 0) plane ≡ inverse_levels vertical horizontal 0 w h (laid_out levels w h plane)
-first_laid vertical horizontal levels w h plane =
-    let all : levels - 0 ≡ levels = omega arith in
-    let wide : w * 2 ^ 0 ≡ w = omega arith in
-    let high : h * 2 ^ 0 ≡ h = omega arith in
-    ap (λ n. laid_out n (w * 2 ^ 0) (h * 2 ^ 0) plane) all ∙ ap (λ n. laid_out levels n (h * 2 ^ 0) plane) wide ∙ ap (λ n. laid_out levels w n plane) high
-    ∙ no_levels vertical horizontal w h (laid_out levels w h plane)
+first_laid vertical horizontal levels w h plane = grind (arith, no_levels)
 
 pub next_laid : (vertical horizontal levels level w h stride pitch columns rows : ℕ) (first : Cells) (old new : List ℤ) → level < levels → w * 2 ^ levels ≤ stride → pitch ≡ stride * 2 ^ (levels - 1 - level) → columns ≡ w * 2 ^ level → rows ≡ h * 2 ^ level
     → laid_out (levels - level) (w * 2 ^ level) (h * 2 ^ level) (plane_of stride old) ≡ inverse_levels vertical horizontal level w h first
@@ -316,14 +303,7 @@ module _ (p : Parameters) (c : Component) (count w side h : ℕ) (nested mid las
       → laid_out (p.depth - count) (side * 2 ^ count) (h * 2 ^ count) last ≡ inverse_levels p.wavelet p.wavelet_ho count side h (laid_out p.depth side h mid)
       → laid_out (p.depth - count) (lowest_width p c * 2 ^ p.depth_ho * 2 ^ count) (lowest_height p c * 2 ^ count) last ≡ after_levels p c count nested
   unfolding both_ways across_alone
-  after_made before levels =
-      ap (λ n. laid_out (p.depth - count) (n * 2 ^ count) (lowest_height p c * 2 ^ count) last) (sym whole_side)
-      ∙ ap (λ n. laid_out (p.depth - count) (side * 2 ^ count) (n * 2 ^ count) last) (sym lowest_down)
-      ∙ levels
-      ∙ ap (both_ways side h) before
-      ∙ ap (λ n. both_ways n h (across_alone w h)) whole_side
-      ∙ ap (λ n. both_ways (lowest_width p c * 2 ^ p.depth_ho) n (across_alone w n)) lowest_down
-      ∙ ap (λ n. both_ways (lowest_width p c * 2 ^ p.depth_ho) (lowest_height p c) (across_alone n (lowest_height p c))) lowest_across
+  after_made before levels = grind (arith, whole_side, across_alone)
 
 pub all_rooms : (p : Parameters) (c : Component) (w h stride cells line : ℕ) → w ≡ lowest_width p c → h ≡ lowest_height p c → padded_width p c ≤ stride → padded_height p c * stride ≤ cells → padded_width p c ≤ line
     → HasRoom (w * 2 ^ p.depth_ho * 2 ^ p.depth) (h * 2 ^ p.depth) stride cells 0 line

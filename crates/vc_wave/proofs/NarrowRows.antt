@@ -1,5 +1,5 @@
 -- Rows that are put together in place.
-use Rattle.std.proofs.Common.{◌≡◌, ◌≢◌, ℕ, zero, suc, ◌+◌, ◌-◌, ◌*◌, ◌/◌, ◌%◌, ◌^◌, ◌<◌, ◌≤◌, ◌⊎◌, inl, inr, List, length, set, slice_index_or, ℤ, unsigned_abs, arith, ap, sym, subst, refl, ◌∙◌, Bool, true, false, Some, None}
+use Rattle.std.proofs.Common.{rules, ◌≡◌, ◌≢◌, ℕ, zero, suc, ◌+◌, ◌-◌, ◌*◌, ◌%◌, ◌^◌, ◌<◌, ◌≤◌, ◌⊎◌, inl, inr, List, length, set, slice_index_or, ℤ, unsigned_abs, arith, ap, sym, subst, refl, ◌∙◌, Bool, true, false, Some, None}
 use Rattle.std.specs.Prelude.{if◌then◌else◌, nat_lt, ◌==◌}
 use Rattle.std.proofs.lemmas.Bool.{cases_lt, cases_eq}
 use Rattle.std.proofs.lemmas.Bool.Decides.{nat_tests}
@@ -17,7 +17,7 @@ use Rattle.vc_wave.specs.declared.lines.Lines.{Lines}
 use Rattle.vc_wave.specs.declared.pass.Direction.TheVariants.{Synthesis}
 use Rattle.vc_wave.specs.Lines.{IsMade, IsApart, line_at}
 use Rattle.vc_wave.specs.NarrowBounds.{RowHasBound, rows_bound, shifted_bound}
-use Rattle.vc_wave.specs.Remade.{remade, halves_together, merged, shifted_down}
+use Rattle.vc_wave.specs.Remade.{remade, merged, shifted_down}
 use Rattle.vc_wave.proofs.Copies.{places_differ, on_samples_in}
 use Rattle.vc_wave.proofs.PlaneLines.{rearranged_in}
 use Rattle.vc_wave.proofs.Weaving.{half_place_below, source_below, half_place-source_of}
@@ -35,16 +35,10 @@ module _ {A : Type 0} (none : A) (cells : List A) (start k : ℕ) (v w : A) (wit
   last_within = simp length-set within
 
   pub even_more : (g : ℕ → A) → v ≡ g k → ((i : ℕ) → i < k → slice_index_or cells (start + 2 * i) none ≡ g i) → (i : ℕ) → i < k + 1 → slice_index_or both_set (start + 2 * i) none ≡ g i
-  even_more g is before i h = elim (cases_eq i k) [
-    | inl e ↦ subst (λ j. slice_index_or both_set (start + 2 * j) none ≡ g j) (sym e) (get_or-set_other one_set (start + 2 * k + 1) (start + 2 * k) w none (λ p. omega arith) ∙ get_or-set_same cells (start + 2 * k) v none (omega arith) ∙ is)
-    | inr ne ↦ get_or-set_other one_set (start + 2 * k + 1) (start + 2 * i) w none (λ p. omega arith) ∙ get_or-set_other cells (start + 2 * k) (start + 2 * i) v none (λ p. omega arith) ∙ before i (omega arith)
-  ]
+  even_more g is before i h = grind (arith, get_or-set_other, get_or-set_same)
 
   pub odd_more : (g : ℕ → A) → w ≡ g k → ((i : ℕ) → i < k → slice_index_or cells (start + (2 * i + 1)) none ≡ g i) → (i : ℕ) → i < k + 1 → slice_index_or both_set (start + (2 * i + 1)) none ≡ g i
-  odd_more g is before i h = elim (cases_eq i k) [
-    | inl e ↦ subst (λ j. slice_index_or both_set (start + (2 * j + 1)) none ≡ g j) (sym e) ((let place : start + (2 * k + 1) ≡ start + 2 * k + 1 = omega arith in ap (λ p. slice_index_or both_set p none) place) ∙ get_or-set_same one_set (start + 2 * k + 1) w none last_within ∙ is)
-    | inr ne ↦ get_or-set_other one_set (start + 2 * k + 1) (start + (2 * i + 1)) w none (λ p. omega arith) ∙ get_or-set_other cells (start + 2 * k) (start + (2 * i + 1)) v none (λ p. omega arith) ∙ before i (omega arith)
-  ]
+  odd_more g is before i h = grind (arith, get_or-set_same, last_within, get_or-set_other)
 
   pub off_more : (first : List A) → ((i : ℕ) → (i < start) ⊎ (start + 2 * k ≤ i) → slice_index_or cells i none ≡ slice_index_or first i none) → (i : ℕ) → (i < start) ⊎ (start + 2 * (k + 1) ≤ i) → slice_index_or both_set i none ≡ slice_index_or first i none
   off_more first before i (inl h) = get_or-set_other one_set (start + 2 * k + 1) i w none (λ p. omega arith) ∙ get_or-set_other cells (start + 2 * k) i v none (λ p. omega arith) ∙ before i (inl h)
@@ -105,26 +99,14 @@ apart_one i j ne = elim (cases_lt i j) [ inl lt ↦ inl (omega arith) | inr ge �
 
 module _ (start half : ℕ) (some : 0 < half) where
   pub row_apart : (len : ℕ) → half < 2 ^ 60 → start + 2 * half ≤ len → AreLines (row_halves start half) 1 len
-  row_apart len small inside = record {
-    some = some;
-    small = small;
-    inside = λ k h. (let below = half_place_below half k h in let place = row_place start half k in omega (arith, below, place));
-    apart = λ j k h lt ne.
-        subst (λ i. StandApart 1 i (halves_place (row_halves start half) k)) (sym (row_place start half j))
-        (subst (λ i. StandApart 1 (start + half_place half j) i) (sym (row_place start half k))
-        (apart_one (start + half_place half j) (start + half_place half k) (λ e. places_differ true half j k h lt ne (omega arith))));
-  }
+  row_apart len small inside = grind (arith, half_place_below, row_place, apart_one, places_differ)
 
   pub row_at : (cells : List ℤ) (k : ℕ) → line_in (row_halves start half) cells 0 k ≡ line_of cells (start + half_place half k)
   row_at cells k = (let place = row_place start half k in ap (line_of cells) (omega (arith, place)))
 
   -- a cell outside the row
   pub row_beside : (old mid : List ℤ) → ((i : ℕ) → IsBeside (row_halves start half) 1 i → line_of mid i ≡ line_of old i) → (i : ℕ) → (i < start) ⊎ (start + 2 * half ≤ i) → line_of mid i ≡ line_of old i
-  row_beside old mid beside i out = beside i (λ x k one h e. (let place = row_place start half k in let below = half_place_below half k h in not_inside i (half_place half k) below out (omega (arith, e, one, place))))
-    where
-      not_inside : (i n : ℕ) → n < 2 * half → (i < start) ⊎ (start + 2 * half ≤ i) → i ≢ start + n
-      not_inside i n h (inl before) e = omega (arith, e)
-      not_inside i n h (inr past) e = omega (arith, e)
+  row_beside old mid beside i out = grind (arith, row_place, half_place_below)
 
   module _ (wavelet : ℕ) (old : List ℤ) (bound : RowHasBound (rows_bound wavelet) old start (2 * half)) where
     made_of : RowsMade wavelet bound.most bound.after
@@ -154,10 +136,7 @@ module _ (start half : ℕ) (some : 0 < half) where
 
     -- the line with its halves together
     together_at : (l : Line) → ((j : ℕ) → l j ≡ line_of old (start + j)) → (k : ℕ) → k < 2 * half → line_in (row_halves start half) mid 0 k ≡ merged wavelet half l k
-    together_at l is k h =
-        synth 0 k (omega arith) h
-        ∙ synthesis_is_local wavelet (2 * half) (line_in (row_halves start half) old 0) (halves_together half l) (omega arith)
-        (λ j lt. row_at old j ∙ sym (is (half_place half j)) ∙ sym (rearranged_in (2 * half) (half_place half) l j lt)) k h
+    together_at l is k h = grind (arith, synthesis_is_local, row_at, rearranged_in)
 
     -- a sample of the row, where it stands in its half
     pub row_value : (l : Line) → ((j : ℕ) → l j ≡ line_of old (start + j)) → (shifted : Bool) → shifted ≡ is_shifted wavelet → (k : ℕ) → k < 2 * half → shifted_down shifted (line_of mid (start + half_place half k)) ≡ remade Synthesis wavelet (is_shifted wavelet) half l k
@@ -171,15 +150,7 @@ module _ (start half : ℕ) (some : 0 < half) where
         (kept : (i : ℕ) → (i < start) ⊎ (start + 2 * half ≤ i) → line_of new i ≡ line_of mid i)
         (beside : (i : ℕ) → IsBeside (row_halves start half) 1 i → line_of mid i ≡ line_of old i) where
       woven_at : (k : ℕ) → k < 2 * half → (k % 2 ≡ 0) ⊎ (k % 2 ≢ 0) → line_of new (start + k) ≡ (if shifted then halved (line_in (row_halves start half) mid 0 k) else line_in (row_halves start half) mid 0 k)
-      woven_at k h (inl e) =
-          let place : start + k ≡ start + 2 * (k / 2) = omega arith in
-          let half_at : start + k / 2 ≡ start + half_place half k = (let none : k % 2 * half ≡ 0 = rw e (omega arith) in omega (arith, none)) in
-          ap (line_of new) place ∙ even (k / 2) (omega arith) ∙ ap (λ z. if shifted then halved z else z) (ap (line_of mid) half_at ∙ sym (row_at mid k))
-      woven_at k h (inr ne) =
-          let one : k % 2 ≡ 1 = omega arith in
-          let place : start + k ≡ start + (2 * (k / 2) + 1) = omega arith in
-          let half_at : start + (half + k / 2) ≡ start + half_place half k = (let all : k % 2 * half ≡ half = rw one (omega arith) in omega (arith, all)) in
-          ap (line_of new) place ∙ odd (k / 2) (omega arith) ∙ ap (λ z. if shifted then halved z else z) (ap (line_of mid) half_at ∙ sym (row_at mid k))
+      woven_at k h g = search (rules, row_at)
 
       made_at : (k : ℕ) → k < 2 * half → line_at new (row_lines start half) 0 k ≡ remade Synthesis wavelet shifted half (line_at old (row_lines start half) 0) k
       made_at k h =

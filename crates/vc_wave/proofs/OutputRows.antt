@@ -1,5 +1,5 @@
 -- Rows of samples that are put out: two samples more, one row more.
-use Rattle.std.proofs.Common.{◌≡◌, ◌≢◌, ℕ, ◌+◌, ◌*◌, ◌/◌, ◌%◌, ◌<◌, ◌≤◌, ◌⊎◌, inl, inr, List, length, set, ℤ, arith, ap, sym, ◌∙◌, slice_index_or}
+use Rattle.std.proofs.Common.{◌≡◌, ℕ, ◌+◌, ◌*◌, ◌/◌, ◌%◌, ◌<◌, ◌≤◌, ◌⊎◌, inl, inr, List, length, set, ℤ, arith, ap, sym, ◌∙◌, slice_index_or}
 use Rattle.std.proofs.lemmas.Bool.{cases_eq}
 use Rattle.std.proofs.lemmas.List.{get_or-set_same, get_or-set_other}
 use Rattle.std.proofs.lemmas.Nat.{mul-add-lt}
@@ -17,29 +17,12 @@ module _ (at start half width : ℕ) (f : ℤ → ℕ) (cells : List ℤ) (sampl
     (odd : (i : ℕ) → i < width / 2 → slice_index_or samples (at + (2 * i + 1)) 0 ≡ f (line_of cells (start + (half + i)))) where
   -- all but the last of an odd number
   pub row_whole : (k : ℕ) → k < 2 * (width / 2) → slice_index_or samples (at + k) 0 ≡ f (line_of cells (start + half_place half k))
-  row_whole k h = parity (cases_eq (k % 2) 0)
-    where
-      parity : (k % 2 ≡ 0) ⊎ (k % 2 ≢ 0) → slice_index_or samples (at + k) 0 ≡ f (line_of cells (start + half_place half k))
-      parity (inl e) =
-          let place : at + k ≡ at + 2 * (k / 2) = omega arith in
-          let half_at : start + k / 2 ≡ start + half_place half k = (let none : k % 2 * half ≡ 0 = rw e (omega arith) in omega (arith, none)) in
-          ap (λ i. slice_index_or samples i 0) place ∙ even (k / 2) (omega arith) ∙ ap (λ i. f (line_of cells i)) half_at
-      parity (inr ne) =
-          let one : k % 2 ≡ 1 = omega arith in
-          let place : at + k ≡ at + (2 * (k / 2) + 1) = omega arith in
-          let half_at : start + (half + k / 2) ≡ start + half_place half k = (let all : k % 2 * half ≡ half = rw one (omega arith) in omega (arith, all)) in
-          ap (λ i. slice_index_or samples i 0) place ∙ odd (k / 2) (omega arith) ∙ ap (λ i. f (line_of cells i)) half_at
+  row_whole k h = grind arith
 
   -- and the last of them
   pub row_odd : (v : ℕ) → width % 2 ≡ 1 → at + width ≤ length samples → v ≡ f (line_of cells (start + width / 2)) → (k : ℕ) → k < width
       → slice_index_or (set samples (at + 2 * (width / 2)) v) (at + k) 0 ≡ f (line_of cells (start + half_place half k))
-  row_odd v one fits is k h = elim (cases_eq k (2 * (width / 2))) [
-    | inl e ↦ (
-        let place : at + 2 * (width / 2) ≡ at + k = omega arith in
-        let half_at : start + width / 2 ≡ start + half_place half k = (let none : k % 2 * half ≡ 0 = (let even : k % 2 ≡ 0 = omega arith in rw even (omega arith)) in omega (arith, none)) in
-        ap (λ i. slice_index_or (set samples (at + 2 * (width / 2)) v) i 0) (sym place) ∙ get_or-set_same samples (at + 2 * (width / 2)) v 0 (omega arith) ∙ is ∙ ap (λ i. f (line_of cells i)) half_at)
-    | inr ne ↦ get_or-set_other samples (at + 2 * (width / 2)) (at + k) v 0 (λ p. omega arith) ∙ row_whole k (omega arith)
-  ]
+  row_odd v one fits is k h = grind (arith, get_or-set_same, get_or-set_other, row_whole)
 
 -- ---- one row more of a plane whose rows are left as they were until they are put together
 

@@ -119,16 +119,7 @@ next_parted wavelet levels level w h stride pitch columns rows whole old new lt 
     ∙ so_far)
 
 pub last_parted : (wavelet levels level w h : ℕ) (plane whole : Cells) → level ≡ levels → forward_levels wavelet (levels - level) w h (laid_out level (w * 2 ^ (levels - level)) (h * 2 ^ (levels - level)) plane) ≡ whole → laid_out levels w h plane ≡ whole
-last_parted wavelet levels level w h plane whole e so_far =
-    let none : 0 ≡ levels - level = omega arith in
-    let wide : w ≡ w * 2 ^ 0 = omega arith in
-    let high : h ≡ h * 2 ^ 0 = omega arith in
-    ap (λ n. laid_out n w h plane) (sym e)
-    ∙ ap (λ n. laid_out level n h plane) wide
-    ∙ ap (λ n. laid_out level (w * 2 ^ 0) n plane) high
-    ∙ sym (no_forward wavelet w h (laid_out level (w * 2 ^ 0) (h * 2 ^ 0) plane))
-    ∙ ap (λ n. forward_levels wavelet n w h (laid_out level (w * 2 ^ n) (h * 2 ^ n) plane)) none
-    ∙ so_far
+last_parted wavelet levels level w h plane whole e so_far = grind (arith, no_forward)
 
 -- a level has room among all of them
 pub parted_room : (w h levels level columns rows stride pitch cells now line line_now : ℕ) → level < levels → columns ≡ w * 2 ^ (levels - 1 - level) → rows ≡ h * 2 ^ (levels - 1 - level) → pitch ≡ stride * 2 ^ level → now ≡ cells → line_now ≡ line
@@ -140,13 +131,8 @@ parted_room w h levels level columns rows stride pitch cells now line line_now l
 -- ---- bounds
 
 pub columns_after : (wavelet half columns most made : ℕ) (c : Cells) → 0 < half → narrow_analysis_bound wavelet most ≡ Some made → AtMost most c → AtMost made (on_columns (analysed wavelet (2 * half)) columns c)
-columns_after wavelet half columns most made c some fits small x y = elim (cases_lt x columns) [
-  | inr out ↦ rw (column_out (analysed wavelet (2 * half)) columns c x y out) (let more = narrow_analysis_covers wavelet most made fits in omega (arith, small x y, more))
-  | inl inside ↦ rw (column_in (analysed wavelet (2 * half)) columns c x y inside) (elim (cases_lt y (2 * half)) [
-    | inl h ↦ analysis_after wavelet half most made (λ k. c x k) some fits (λ k lt. small x k) y h
-    | inr past ↦ rw (analysis_past wavelet half (λ k. c x k) y past) (let more = narrow_analysis_covers wavelet most made fits in omega (arith, small x y, more))
-  ])
-]
+columns_after wavelet half columns most made c some fits small x y =
+    grind (arith, column_out, narrow_analysis_covers, column_in, analysis_after, analysis_past)
 
 -- a bound over a level, in its two parts
 pub record LevelParted (wavelet most after : ℕ) : Type 0 where

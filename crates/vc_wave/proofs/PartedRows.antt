@@ -1,5 +1,5 @@
 -- Rows that are doubled and taken apart in place.
-use Rattle.std.proofs.Common.{◌≡◌, ◌≢◌, ℕ, ◌+◌, ◌*◌, ◌/◌, ◌%◌, ◌^◌, ◌<◌, ◌≤◌, ◌⊎◌, inl, inr, List, length, set, ℤ, pos, unsigned_abs, arith, ap, sym, subst, ◌∙◌, Bool, true, false, Some, None}
+use Rattle.std.proofs.Common.{◌≡◌, ◌≢◌, ℕ, ◌+◌, ◌*◌, ◌%◌, ◌^◌, ◌<◌, ◌≤◌, ◌⊎◌, inl, inr, List, length, set, ℤ, pos, unsigned_abs, arith, ap, sym, subst, ◌∙◌, Bool, true, false, Some, None}
 use Rattle.std.specs.Prelude.{if◌then◌else◌, nat_lt}
 use Rattle.std.proofs.lemmas.Bool.{cases_lt, cases_eq}
 use Rattle.std.proofs.lemmas.Bool.Decides.{nat_tests}
@@ -36,16 +36,10 @@ module _ (cells : List ℤ) (start half k : ℕ) (v w : ℤ) (below : k < half) 
   last_within = simp length-set (omega arith)
 
   pub even_more : (g : ℕ → ℤ) → v ≡ g k → ((i : ℕ) → i < k → line_of cells (start + i) ≡ g i) → (i : ℕ) → i < k + 1 → line_of both_set (start + i) ≡ g i
-  even_more g is before i h = elim (cases_eq i k) [
-    | inl e ↦ subst (λ j. line_of both_set (start + j) ≡ g j) (sym e) (get_or-set_other one_set (start + half + k) (start + k) w (pos 0) (λ p. omega arith) ∙ get_or-set_same cells (start + k) v (pos 0) (omega arith) ∙ is)
-    | inr ne ↦ get_or-set_other one_set (start + half + k) (start + i) w (pos 0) (λ p. omega arith) ∙ get_or-set_other cells (start + k) (start + i) v (pos 0) (λ p. omega arith) ∙ before i (omega arith)
-  ]
+  even_more g is before i h = grind (arith, get_or-set_other, get_or-set_same)
 
   pub odd_more : (g : ℕ → ℤ) → w ≡ g k → ((i : ℕ) → i < k → line_of cells (start + (half + i)) ≡ g i) → (i : ℕ) → i < k + 1 → line_of both_set (start + (half + i)) ≡ g i
-  odd_more g is before i h = elim (cases_eq i k) [
-    | inl e ↦ subst (λ j. line_of both_set (start + (half + j)) ≡ g j) (sym e) ((let place : start + (half + k) ≡ start + half + k = omega arith in ap (line_of both_set) place) ∙ get_or-set_same one_set (start + half + k) w (pos 0) last_within ∙ is)
-    | inr ne ↦ get_or-set_other one_set (start + half + k) (start + (half + i)) w (pos 0) (λ p. omega arith) ∙ get_or-set_other cells (start + k) (start + (half + i)) v (pos 0) (λ p. omega arith) ∙ before i (omega arith)
-  ]
+  odd_more g is before i h = grind (arith, get_or-set_same, last_within, get_or-set_other)
 
   pub off_more : (first : List ℤ) → ((i : ℕ) → (i < start) ⊎ (start + 2 * half ≤ i) → line_of cells i ≡ line_of first i) → (i : ℕ) → (i < start) ⊎ (start + 2 * half ≤ i) → line_of both_set i ≡ line_of first i
   off_more first before i (inl h) = get_or-set_other one_set (start + half + k) i w (pos 0) (λ p. omega arith) ∙ get_or-set_other cells (start + k) i v (pos 0) (λ p. omega arith) ∙ before i (inl h)
@@ -92,15 +86,7 @@ module _ (start half : ℕ) (some : 0 < half) (wavelet : ℕ) (old : List ℤ) (
       (odd : (k : ℕ) → k < half → line_of mid (start + (half + k)) ≡ (if shifted then doubled (line_of old (start + (2 * k + 1))) else line_of old (start + (2 * k + 1)))) where
     -- the samples as they are doubled
     readied_at : (k : ℕ) → k < 2 * half → (k % 2 ≡ 0) ⊎ (k % 2 ≢ 0) → line_in (row_halves start half) mid 0 k ≡ (if shifted then doubled (line_of old (start + k)) else line_of old (start + k))
-    readied_at k h (inl e) =
-        let place : start + half_place half k ≡ start + k / 2 = (let none : k % 2 * half ≡ 0 = rw e (omega arith) in omega (arith, none)) in
-        let source : start + 2 * (k / 2) ≡ start + k = omega arith in
-        row_at start half some mid k ∙ ap (line_of mid) place ∙ even (k / 2) (omega arith) ∙ ap (λ i. if shifted then doubled (line_of old i) else line_of old i) source
-    readied_at k h (inr ne) =
-        let one : k % 2 ≡ 1 = omega arith in
-        let place : start + half_place half k ≡ start + (half + k / 2) = (let all : k % 2 * half ≡ half = rw one (omega arith) in omega (arith, all)) in
-        let source : start + (2 * (k / 2) + 1) ≡ start + k = omega arith in
-        row_at start half some mid k ∙ ap (line_of mid) place ∙ odd (k / 2) (omega arith) ∙ ap (λ i. if shifted then doubled (line_of old i) else line_of old i) source
+    readied_at k h g = grind (arith, row_at, doubled)
 
     readied_in : (k : ℕ) → k < 2 * half → line_in (row_halves start half) mid 0 k ≡ (if shifted then doubled (line_of old (start + k)) else line_of old (start + k))
     readied_in k h = readied_at k h (cases_eq (k % 2) 0)

@@ -1,8 +1,6 @@
 -- How much the transform of a plane may raise its magnitudes.
-use Rattle.std.proofs.Common.{◌≡◌, ℕ, zero, suc, ◌+◌, ◌-◌, ◌*◌, ◌^◌, ◌<◌, ◌≤◌, ℤ, pos, negsuc, ◌+ℤ◌, unsigned_abs, arith, refl, subst, sym, ◌∙◌, inl, inr, Bool, true, false}
-use Rattle.std.specs.Prelude.{if◌then◌else◌, nat_lt, ◌&&◌}
+use Rattle.std.proofs.Common.{◌≡◌, ℕ, zero, suc, ◌+◌, ◌-◌, ◌*◌, ◌^◌, ◌<◌, ◌≤◌, ℤ, pos, negsuc, ◌+ℤ◌, unsigned_abs, arith, refl, subst, sym, ◌∙◌, Bool, false}
 use Rattle.std.specs.Int.{int_shr}
-use Rattle.std.proofs.lemmas.Bool.{cases_lt}
 use Rattle.std.proofs.lemmas.Int.{ints}
 use Rattle.std.proofs.lemmas.Nat.{pow-add}
 use Rattle.std.proofs.Math.Nat.{mul-le-mul_left}
@@ -31,16 +29,10 @@ raised : (m most a : ℕ) → 0 < most → a < m → a < most * m
 raised m most a more h = let k = mul-le-mul_left m more in omega (arith, k)
 
 line_raises : (make : ℕ → Line → Line) (most half m : ℕ) → 0 < most → GrowsAtMost most make → LeavesPast (2 * half) (make (2 * half)) → 2 ^ 16 ≤ m → Raises m (most * m) (make (2 * half))
-line_raises make most half m more grow past large l small k = elim (cases_lt k (2 * half)) [
-  | inl h ↦ grow (2 * half) m l (omega arith) large (λ j lt. small j) k h
-  | inr h ↦ rw (past l k h) (raised m most (unsigned_abs (l k)) more (small k))
-]
+line_raises make most half m more grow past large l small k = grind (arith, raised)
 
 rearranged_raises : (n : ℕ) (source : ℕ → ℕ) (m : ℕ) → Raises m m (rearranged n source)
-rearranged_raises n source m l small k = elim (cases_lt k n) [
-  | inl h ↦ rw (rearranged_in n source l k h) (small (source k))
-  | inr h ↦ rw (rearranged_past n source l k h) (small k)
-]
+rearranged_raises n source m l small k = grind (arith, rearranged_in, rearranged_past)
 
 merged_raises : (wavelet half m : ℕ) → 2 ^ 16 ≤ m → Raises m (16 * m) (merged wavelet half)
 merged_raises wavelet half m large l small =
@@ -71,11 +63,7 @@ doubled_below m z h = omega (arith, ints)
 
 on_samples_raises : (f : ℤ → ℤ) (wanted : Bool) (n m b : ℕ) → ((z : ℤ) → unsigned_abs z < m → unsigned_abs (f z) < b) → m ≤ b → Raises m b (on_samples f wanted n)
 unfolding on_samples
-on_samples_raises f wanted n m b grow le l small k = either (wanted && nat_lt k n)
-  where
-    either : (test : Bool) → unsigned_abs (if test then f (l k) else l k) < b
-    either true = grow (l k) (small k)
-    either false = (let a = small k in omega (arith, a))
+on_samples_raises f wanted n m b grow le l small k = grind arith
 
 remade_raises : (d : Direction) (wavelet : ℕ) (shifted : Bool) (half m : ℕ) → 2 ^ 16 ≤ m → Raises m (16 * m) (remade d wavelet shifted half)
 remade_raises Synthesis wavelet shifted half m large l small k = on_samples_raises halved shifted (2 * half) (16 * m) (16 * m) (halved_below (16 * m)) (omega arith) (merged wavelet half l) (merged_raises wavelet half m large l small) k
@@ -96,16 +84,10 @@ module _ (d : Direction) (wavelet : ℕ) (shifted : Bool) (half lines n : ℕ) (
   kept = below_more n (n + 4) c (omega arith) small
 
   pub columns_grow : AreBelow (2 ^ (n + 4)) (on_columns (remade d wavelet shifted half) lines c)
-  columns_grow x y = elim (cases_lt x lines) [
-    | inl h ↦ rw (column_in (remade d wavelet shifted half) lines c x y h) (raises (λ k. c x k) (small x) y)
-    | inr h ↦ rw (column_out (remade d wavelet shifted half) lines c x y h) (kept x y)
-  ]
+  columns_grow x y = grind (arith, column_in, raises, column_out, kept)
 
   pub rows_grow : AreBelow (2 ^ (n + 4)) (on_rows (remade d wavelet shifted half) lines c)
-  rows_grow x y = elim (cases_lt y lines) [
-    | inl h ↦ rw (row_in (remade d wavelet shifted half) lines c x y h) (raises (λ k. c k y) (λ k. small k y) x)
-    | inr h ↦ rw (row_out (remade d wavelet shifted half) lines c x y h) (kept x y)
-  ]
+  rows_grow x y = grind (arith, row_in, raises, row_out, kept)
 
 abbrev At : ℕ → Cells → Type 0
 At n c = AreBelow (2 ^ n) c

@@ -1,5 +1,5 @@
 -- Functions of lines on the columns and rows of a plane: at a place, one after another, and in either order.
-use Rattle.std.proofs.Common.{◌≡◌, ℕ, ◌<◌, ◌≤◌, ℤ, sym, ap, refl, ◌∙◌, ◌⊎◌, inl, inr, Bool, true, false, arith}
+use Rattle.std.proofs.Common.{◌≡◌, ℕ, ◌<◌, ◌≤◌, ℤ, sym, ap, refl, ◌∙◌, ◌⊎◌, Bool, true, false, arith}
 use Rattle.std.specs.Prelude.{if◌then◌else◌, nat_lt, ◌&&◌}
 use mathlib.Core.Path.{fun_ext}
 use Rattle.std.proofs.lemmas.Bool.{cases_lt}
@@ -88,26 +88,12 @@ module _ (f : Line → Line) (m n : ℕ) (source : ℕ → ℕ) (past : LeavesPa
 
   moved_past : (x k : ℕ) → n ≤ x → rows_first x k ≡ c x k
   unfolding rows_first
-  moved_past x k h = elim (cases_lt k m) [
-    | inl lt ↦ row_in (rearranged n source) m c x k lt ∙ rearranged_past n source (λ j. c j k) x h
-    | inr ge ↦ row_out (rearranged n source) m c x k ge
-  ]
+  moved_past x k h = grind (arith, row_in, rearranged_past, row_out)
 
   at_place : (x y : ℕ) → (x < n) ⊎ (n ≤ x) → (y < m) ⊎ (m ≤ y) → on_columns f n rows_first x y ≡ on_rows (rearranged n source) m (on_columns f n c) x y
   unfolding rows_first
-  at_place x y (inl h) (inl lt) =
-      column_in f n rows_first x y h
-      ∙ reads (λ k. rows_first x k) (λ k. c (source x) k) (λ k below. moved_in x k h below) y lt
-      ∙ sym (row_in (rearranged n source) m (on_columns f n c) x y lt ∙ rearranged_in n source (λ j. on_columns f n c j y) x h ∙ column_in f n c (source x) y (stays x h))
-  at_place x y (inl h) (inr ge) =
-      column_in f n rows_first x y h ∙ past (λ k. rows_first x k) y ge ∙ row_out (rearranged n source) m c x y ge
-      ∙ sym (row_out (rearranged n source) m (on_columns f n c) x y ge ∙ column_in f n c x y h ∙ past (λ k. c x k) y ge)
-  at_place x y (inr h) (inl lt) =
-      column_out f n rows_first x y h ∙ moved_past x y h
-      ∙ sym (row_in (rearranged n source) m (on_columns f n c) x y lt ∙ rearranged_past n source (λ j. on_columns f n c j y) x h ∙ column_out f n c x y h)
-  at_place x y (inr h) (inr ge) =
-      column_out f n rows_first x y h ∙ moved_past x y h
-      ∙ sym (row_out (rearranged n source) m (on_columns f n c) x y ge ∙ column_out f n c x y h)
+  at_place x y h g =
+      grind (arith, column_in, rows_first, moved_in, row_in, rearranged_in, past, row_out, column_out, moved_past, rearranged_past)
 
   -- rows may be rearranged before the columns or after them
   pub on_columns-rearranged : on_columns f n (on_rows (rearranged n source) m c) ≡ on_rows (rearranged n source) m (on_columns f n c)
@@ -116,19 +102,10 @@ module _ (f : Line → Line) (m n : ℕ) (source : ℕ → ℕ) (past : LeavesPa
 
 pub on_samples_past : (f : ℤ → ℤ) (wanted : Bool) (n : ℕ) → LeavesPast n (on_samples f wanted n)
 unfolding on_samples
-on_samples_past f wanted n l k h = past wanted
-  where
-    past : (w : Bool) → (if w && nat_lt k n then f (l k) else l k) ≡ l k
-    past true = grind (arith, nat_tests)
-    past false = refl
+on_samples_past f wanted n l k h = grind arith
 
 rows_changed : (f : ℤ → ℤ) (wanted inside above : Bool) (a : ℤ) → (if wanted && (inside && above) then f a else a) ≡ (if above then (if wanted && inside then f a else a) else a)
-rows_changed f true true true a = refl
-rows_changed f true true false a = refl
-rows_changed f true false true a = refl
-rows_changed f true false false a = refl
-rows_changed f false inside true a = refl
-rows_changed f false inside false a = refl
+rows_changed f wanted inside above a = grind arith
 
 -- the cells of a part of the plane, row by row
 pub on_cells_rows : (f : ℤ → ℤ) (wanted : Bool) (width height : ℕ) (c : Cells) → on_cells f wanted width height c ≡ on_rows (on_samples f wanted width) height c

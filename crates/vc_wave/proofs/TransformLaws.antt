@@ -1,5 +1,5 @@
 -- The inverse of a symmetric transform undoes the forward transform.
-use Rattle.std.proofs.Common.{◌≡◌, ℕ, zero, suc, ◌+◌, ◌-◌, ◌*◌, ◌/◌, ◌^◌, ◌<◌, ◌≤◌, ℤ, pos, negsuc, ◌+ℤ◌, ◌-ℤ◌, arith, ap, refl, ◌∙◌, ◌⊎◌, inl, inr, Bool, IsTrue, true, false, min}
+use Rattle.std.proofs.Common.{rules, ◌≡◌, ℕ, zero, suc, ◌+◌, ◌-◌, ◌*◌, ◌/◌, ◌^◌, ◌<◌, ◌≤◌, ℤ, pos, negsuc, ◌+ℤ◌, ◌-ℤ◌, arith, ap, refl, ◌∙◌, ◌⊎◌, inl, inr, Bool, IsTrue, true, false}
 use Rattle.std.specs.Prelude.{if◌then◌else◌, ◌&&◌}
 use Rattle.std.specs.Int.{int_shr}
 use mathlib.Core.Path.{fun_ext}
@@ -9,8 +9,7 @@ use Rattle.std.proofs.lemmas.Int.{ints}
 use Rattle.vc_types.specs.declared.video.Component.{Component}
 use Rattle.vc_types.specs.Subbands.{plane_width, plane_height, plane_depth}
 use Rattle.vc_types.specs.TransformParameters.{Parameters, is_symmetric}
-use Rattle.vc_types.specs.Transforms.{Cells, is_within, interleaved, deinterleaved, source_of, on_columns, on_rows, on_cells, halved, doubled, inverse_level, forward_level, inverse_levels, forward_levels, levels_across, lowest_width, lowest_height, inverse_transform, padded_plane, forward_transform, half_place}
-use Rattle.vc_types.specs.Wavelets.{is_shifted, synthesised, analysed}
+use Rattle.vc_types.specs.Transforms.{Cells, is_within, interleaved, deinterleaved, source_of, on_cells, halved, doubled, inverse_level, forward_level, inverse_levels, forward_levels, levels_across, lowest_width, lowest_height, inverse_transform, padded_plane, forward_transform, half_place}
 use Rattle.vc_lift.proofs.LineLaws.{undone_lines}
 use Rattle.vc_wave.proofs.PlaneLines.{on_columns-on_columns, on_rows-on_rows, on_columns-same, on_rows-same}
 use Rattle.vc_wave.proofs.Weaving.{half_place_below, source_of-half_place}
@@ -28,27 +27,15 @@ interleaved_out w h c x y (inr b) = grind (arith, nat_tests)
 
 deinterleaved_in : (w h : ℕ) (c : Cells) (x y : ℕ) → x < 2 * w → y < 2 * h → deinterleaved w h c x y ≡ c (source_of w x) (source_of h y)
 unfolding deinterleaved
-deinterleaved_in w h c x y a b = in_both w h c x y (source_of w x) (source_of h y) a b
-  where
-    in_both : (w h : ℕ) (c : Cells) (x y u v : ℕ) → x < 2 * w → y < 2 * h → (if is_within (2 * w) (2 * h) x y then c u v else c x y) ≡ c u v
-    in_both w h c x y u v a b = grind (arith, nat_tests)
+deinterleaved_in w h c x y a b = grind arith
 
 deinterleaved_out : (w h : ℕ) (c : Cells) (x y : ℕ) → (2 * w ≤ x) ⊎ (2 * h ≤ y) → deinterleaved w h c x y ≡ c x y
 unfolding deinterleaved
-deinterleaved_out w h c x y out = in_none w h c x y (source_of w x) (source_of h y) out
-  where
-    in_none : (w h : ℕ) (c : Cells) (x y u v : ℕ) → (2 * w ≤ x) ⊎ (2 * h ≤ y) → (if is_within (2 * w) (2 * h) x y then c u v else c x y) ≡ c x y
-    in_none w h c x y u v (inl a) = grind (arith, nat_tests)
-    in_none w h c x y u v (inr b) = grind (arith, nat_tests)
+deinterleaved_out w h c x y out = grind arith
 
 together : (w h : ℕ) (c : Cells) (x y : ℕ) → (x < 2 * w) ⊎ (2 * w ≤ x) → (y < 2 * h) ⊎ (2 * h ≤ y) → interleaved w h (deinterleaved w h c) x y ≡ c x y
-together w h c x y (inl a) (inl b) =
-    interleaved_in w h (deinterleaved w h c) x y a b
-    ∙ deinterleaved_in w h c (half_place w x) (half_place h y) (half_place_below w x a) (half_place_below h y b)
-    ∙ ap (λ k. c k (source_of h (half_place h y))) (source_of-half_place w x a)
-    ∙ ap (c x) (source_of-half_place h y b)
-together w h c x y (inl a) (inr b) = interleaved_out w h (deinterleaved w h c) x y (inr b) ∙ deinterleaved_out w h c x y (inr b)
-together w h c x y (inr a) b = interleaved_out w h (deinterleaved w h c) x y (inl a) ∙ deinterleaved_out w h c x y (inl a)
+together w h c x y g b =
+    grind (arith, interleaved_in, deinterleaved_in, half_place_below, source_of-half_place, interleaved_out, deinterleaved_out)
 
 pub interleaved-deinterleaved : (w h : ℕ) (c : Cells) → interleaved w h (deinterleaved w h c) ≡ c
 interleaved-deinterleaved w h c = fun_ext (λ x. fun_ext (λ y. together w h c x y (cases_lt x (2 * w)) (cases_lt y (2 * h))))
@@ -60,10 +47,7 @@ halved_pos : (z : ℤ) (n : ℕ) → z +ℤ pos 1 ≡ pos (2 * n + 1) → halved
 halved_pos z n e = ap (λ a. int_shr a 1) e ∙ ap pos (half_of_double n)
 
 halved_neg : (z : ℤ) (n : ℕ) → z +ℤ pos 1 ≡ negsuc (2 * n) → halved z ≡ negsuc n
-halved_neg z n e = ap (λ a. int_shr a 1) e ∙ ap negsuc half
-  where
-    half : 2 * n / 2 ≡ n
-    half = omega arith
+halved_neg z n e = grind arith
 
 halved-doubled : (z : ℤ) → halved (doubled z) ≡ z
 halved-doubled (pos n) = halved_pos (doubled (pos n)) n (omega (arith, ints))
@@ -80,15 +64,7 @@ cells_back wanted w h c = fun_ext (λ x. fun_ext (λ y. cell_back (wanted && is_
 pub inverse_level-forward_level : (wavelet w h : ℕ) (c : Cells) → inverse_level wavelet wavelet w h (forward_level wavelet w h c) ≡ c
 unfolding inverse_level forward_level
 inverse_level-forward_level wavelet w h c =
-    let across = synthesised wavelet (2 * w) in
-    let down = synthesised wavelet (2 * h) in
-    let cells = on_cells doubled (is_shifted wavelet) (2 * w) (2 * h) c in
-    let rows = on_rows (analysed wavelet (2 * w)) (2 * h) cells in
-    let columns = on_columns (analysed wavelet (2 * h)) (2 * w) rows in
-    ap (λ p. on_cells halved (is_shifted wavelet) (2 * w) (2 * h) (on_rows across (2 * h) (on_columns down (2 * w) p))) (interleaved-deinterleaved w h columns)
-    ∙ ap (λ p. on_cells halved (is_shifted wavelet) (2 * w) (2 * h) (on_rows across (2 * h) p)) (on_columns-on_columns down (analysed wavelet (2 * h)) (2 * w) rows ∙ on_columns-same _ (2 * w) rows (undone_lines wavelet h))
-    ∙ ap (on_cells halved (is_shifted wavelet) (2 * w) (2 * h)) (on_rows-on_rows across (analysed wavelet (2 * w)) (2 * h) cells ∙ on_rows-same _ (2 * h) cells (undone_lines wavelet w))
-    ∙ cells_back (is_shifted wavelet) (2 * w) (2 * h) c
+    search (rules, interleaved-deinterleaved, on_columns-on_columns, on_columns-same, undone_lines, on_rows-on_rows, on_rows-same, cells_back)
 
 pub inverse_levels-forward_levels : (wavelet d w h : ℕ) (c : Cells) → inverse_levels wavelet wavelet d w h (forward_levels wavelet d w h c) ≡ c
 unfolding inverse_levels forward_levels
@@ -116,13 +92,7 @@ no_levels p symmetric = grind (arith, nat_tests)
 -- the symmetric transform: levels both ways by one wavelet
 pub symmetric_transform : (p : Parameters) (c : Component) (cells : Cells) → IsTrue (is_symmetric p) → inverse_transform p c cells ≡ inverse_levels p.wavelet p.wavelet p.depth (lowest_width p c) (lowest_height p c) cells
 unfolding inverse_transform
-symmetric_transform p c cells symmetric =
-    let none = no_levels p symmetric in
-    let w = lowest_width p c in
-    let h = lowest_height p c in
-    ap (inverse_levels p.wavelet p.wavelet_ho p.depth (w * 2 ^ p.depth_ho) h) (no_levels_across p.wavelet_ho p.depth_ho w h cells none)
-    ∙ ap (λ n. inverse_levels p.wavelet p.wavelet_ho p.depth n h cells) (same_side w p.depth_ho none)
-    ∙ ap (λ n. inverse_levels p.wavelet n p.depth w h cells) (same_wavelet p symmetric)
+symmetric_transform p c cells symmetric = grind (arith, no_levels, no_levels_across, same_side, same_wavelet)
 
 pub inverse_transform-forward_transform : (p : Parameters) (c : Component) (samples : ℕ → ℕ → ℕ) → IsTrue (is_symmetric p) → inverse_transform p c (forward_transform p c samples) ≡ padded_plane p c samples
 unfolding forward_transform
@@ -132,7 +102,4 @@ inverse_transform-forward_transform p c samples symmetric =
 
 pub padded_own : (p : Parameters) (c : Component) (samples : ℕ → ℕ → ℕ) (x y : ℕ) → x < plane_width p.shape c → y < plane_height p.shape c → padded_plane p c samples x y ≡ pos (samples x y) -ℤ pos (2 ^ (plane_depth p.shape c - 1))
 unfolding padded_plane
-padded_own p c samples x y a b =
-    let column : min x (plane_width p.shape c - 1) ≡ x = omega arith in
-    let row : min y (plane_height p.shape c - 1) ≡ y = omega arith in
-    ap (λ z. pos z -ℤ pos (2 ^ (plane_depth p.shape c - 1))) (ap (λ k. samples k (min y (plane_height p.shape c - 1))) column ∙ ap (samples x) row)
+padded_own p c samples x y a b = grind arith

@@ -1,6 +1,5 @@
 -- The transforms of a part of the plane read that part alone.
-use Rattle.std.proofs.Common.{◌≡◌, ℕ, zero, suc, ◌*◌, ◌^◌, ◌<◌, ◌≤◌, arith, sym, ap, ◌∙◌, inl, inr, false, Bool, ◌+◌, ◌/◌}
-use Rattle.std.proofs.lemmas.Bool.{cases_lt}
+use Rattle.std.proofs.Common.{rules, ◌≡◌, ℕ, zero, suc, ◌*◌, ◌^◌, ◌<◌, ◌≤◌, arith, sym, ap, ◌∙◌, false, Bool, ◌+◌, ◌/◌}
 use Rattle.std.proofs.lemmas.Nat.{pow-add}
 use Rattle.std.proofs.Math.Nat.{div-mul-le_self, mul-le-mul_left, mul-le-mul_right, pow-suc}
 use Rattle.std.proofs.Math.Pow.{pow_pos}
@@ -22,28 +21,10 @@ Agree width height c d = (x y : ℕ) → x < width → y < height → c x y ≡ 
 
 module _ (f : Line → Line) (n m width height : ℕ) (past : LeavesPast m f) (reads : ReadsBelow m f) (c d : Cells) (same : Agree width height c d) where
   pub columns_agree : n ≤ width → m ≤ height → Agree width height (on_columns f n c) (on_columns f n d)
-  columns_agree wide high x y h lt = elim (cases_lt x n) [
-    | inl inside ↦ column_in f n c x y inside ∙ column x y h lt ∙ sym (column_in f n d x y inside)
-    | inr outside ↦ column_out f n c x y outside ∙ same x y h lt ∙ sym (column_out f n d x y outside)
-  ]
-    where
-      column : (x y : ℕ) → x < width → y < height → f (λ k. c x k) y ≡ f (λ k. d x k) y
-      column x y h lt = elim (cases_lt y m) [
-        | inl inside ↦ reads (λ k. c x k) (λ k. d x k) (λ k below. same x k h (omega arith)) y inside
-        | inr outside ↦ past (λ k. c x k) y outside ∙ same x y h lt ∙ sym (past (λ k. d x k) y outside)
-      ]
+  columns_agree wide high x y h lt = grind (arith, column_in, column_out)
 
   pub rows_agree : m ≤ width → n ≤ height → Agree width height (on_rows f n c) (on_rows f n d)
-  rows_agree wide high x y h lt = elim (cases_lt y n) [
-    | inl inside ↦ row_in f n c x y inside ∙ row x y h lt ∙ sym (row_in f n d x y inside)
-    | inr outside ↦ row_out f n c x y outside ∙ same x y h lt ∙ sym (row_out f n d x y outside)
-  ]
-    where
-      row : (x y : ℕ) → x < width → y < height → f (λ k. c k y) x ≡ f (λ k. d k y) x
-      row x y h lt = elim (cases_lt x m) [
-        | inl inside ↦ reads (λ k. c k y) (λ k. d k y) (λ k below. same k y (omega arith) lt) x inside
-        | inr outside ↦ past (λ k. c k y) x outside ∙ same x y h lt ∙ sym (past (λ k. d k y) x outside)
-      ]
+  rows_agree wide high x y h lt = grind (arith, row_in, row_out)
 
 -- what either direction makes of lines
 module _ (f : Direction) (wavelet half : ℕ) (shifted : Bool) (n width height : ℕ) (c d : Cells) (same : Agree width height c d) where
@@ -111,10 +92,7 @@ pub less : (w d n : ℕ) → w * 2 ^ d ≤ n → w ≤ n
 less w d n h = let more : w * 1 ≤ w * 2 ^ d = mul-le-mul_left w (pow_pos d) in omega (arith, more)
 
 pub without : (w e d n : ℕ) → w * 2 ^ e * 2 ^ d ≤ n → w * 2 ^ d ≤ n
-without w e d n h =
-    let more : w * 1 ≤ w * 2 ^ e = mul-le-mul_left w (pow_pos e) in
-    let times : w * 1 * 2 ^ d ≤ w * 2 ^ e * 2 ^ d = mul-le-mul_right (2 ^ d) more in
-    omega (arith, times)
+without w e d n h = grind (arith, mul-le-mul_left, pow_pos, mul-le-mul_right)
 
 -- in the padded size
 module _ (p : Parameters) (c : Component) (a b : Cells) (same : Agree (padded_width p c) (padded_height p c) a b) where
@@ -126,11 +104,7 @@ module _ (p : Parameters) (c : Component) (a b : Cells) (same : Agree (padded_wi
 
   pub inverse_transform_agrees : Agree (padded_width p c) (padded_height p c) (inverse_transform p c a) (inverse_transform p c b)
   unfolding inverse_transform
-  inverse_transform_agrees =
-      let w = lowest_width p c in
-      let h = lowest_height p c in
-      inverse_levels_agree p.wavelet p.wavelet_ho p.depth (w * 2 ^ p.depth_ho) h (padded_width p c) (padded_height p c) (levels_across p.wavelet_ho p.depth_ho w h a) (levels_across p.wavelet_ho p.depth_ho w h b) wide high
-      (levels_across_agree p.wavelet_ho p.depth_ho w h (padded_width p c) (padded_height p c) a b (less (w * 2 ^ p.depth_ho) p.depth (padded_width p c) wide) (less h p.depth (padded_height p c) high) same)
+  inverse_transform_agrees = search (rules, inverse_levels_agree, wide, high, levels_across_agree, less)
 
   pub forward_levels_agrees : Agree (padded_width p c) (padded_height p c) (forward_levels p.wavelet p.depth (lowest_width p c) (lowest_height p c) a) (forward_levels p.wavelet p.depth (lowest_width p c) (lowest_height p c) b)
   forward_levels_agrees = forward_levels_agree p.wavelet p.depth (lowest_width p c) (lowest_height p c) (padded_width p c) (padded_height p c) a b (without (lowest_width p c) p.depth_ho p.depth (padded_width p c) wide) high same

@@ -11,8 +11,8 @@ use Rattle.vc_types.specs.Transforms.{is_within, source_of}
 use Rattle.vc_types.specs.Transforms.{lowest_width, lowest_height}
 use Rattle.vc_types.specs.TransformParameters.{Parameters}
 use Rattle.vc_types.specs.declared.video.Component.{Component}
-use Rattle.vc_types.specs.Subbands.{plane_width, padded_width, padded_height}
-use Rattle.vc_wave.specs.Layout.{row_in_turn, turned_row, nested_in}
+use Rattle.vc_types.specs.Subbands.{padded_width, padded_height}
+use Rattle.vc_wave.specs.Layout.{row_in_turn, nested_in}
 use Rattle.vc_wave.specs.Planes.{plane_of}
 use Rattle.vc_wave.proofs.Copies.{either_way}
 use Rattle.vc_wave.proofs.Grids.{padded_whole}
@@ -164,12 +164,7 @@ module _ (levels w h width height level from : ℕ) (nested old new : List ℤ) 
 
 module _ (p : Parameters) (c : Component) (w h side width height : ℕ) (narrow : w ≡ lowest_width p c) (low : h ≡ lowest_height p c) (is : side ≡ w * 2 ^ p.depth_ho) (across : width ≡ padded_width p c) (down : height ≡ padded_height p c) where
   pub whole_width : side * 2 ^ p.depth ≡ width
-  whole_width =
-      ap (λ n. n * 2 ^ p.depth) is
-      ∙ ap (λ n. n * 2 ^ p.depth_ho * 2 ^ p.depth) narrow
-      ∙ side_parts (lowest_width p c) p.depth p.depth_ho
-      ∙ padded_whole (plane_width p.shape c) (p.depth + p.depth_ho)
-      ∙ sym across
+  whole_width = grind (arith, side_parts, padded_whole)
 
   pub whole_height : h * 2 ^ p.depth ≤ height
   whole_height = rw (low, down) (div-mul-le_self (padded_height p c) (2 ^ p.depth))
@@ -182,13 +177,4 @@ module _ (p : Parameters) (c : Component) (w h side width height : ℕ) (narrow 
 
   pub rows_turned : (nested cells : List ℤ) → ((x y : ℕ) → x < side * 2 ^ p.depth → y < height → line_of cells (row_in_turn p.depth side h x y * width + x) ≡ line_of nested (y * width + x))
       → (x y : ℕ) → x < padded_width p c → y < padded_height p c → nested_in p c (padded_width p c) cells x y ≡ plane_of (padded_width p c) nested x y
-  rows_turned nested cells turned x y a b =
-      let whole = whole_width in
-      let row : turned_row p c x y ≡ row_in_turn p.depth side h x y =
-      sym (ap (λ n. row_in_turn p.depth n h x y) (is ∙ ap (λ n. n * 2 ^ p.depth_ho) narrow) ∙ ap (λ n. row_in_turn p.depth (lowest_width p c * 2 ^ p.depth_ho) n x y) low) in
-      plane_in (padded_width p c) cells x (turned_row p c x y) a
-      ∙ ap (λ n. line_of cells (n * padded_width p c + x)) row
-      ∙ ap (λ n. line_of cells (row_in_turn p.depth side h x y * n + x)) (sym across)
-      ∙ turned x y (omega (arith, whole, across)) (omega (arith, down))
-      ∙ ap (λ n. line_of nested (y * n + x)) across
-      ∙ sym (plane_in (padded_width p c) nested x y a)
+  rows_turned nested cells turned x y a b = grind (arith, whole_width, plane_in)

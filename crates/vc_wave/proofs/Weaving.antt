@@ -1,5 +1,5 @@
 -- A level of the transform, with its subbands put together and taken apart column by column and row by row.
-use Rattle.std.proofs.Common.{◌≡◌, ℕ, ◌+◌, ◌-◌, ◌*◌, ◌/◌, ◌%◌, ◌<◌, ◌≤◌, ℤ, arith, sym, ap, ◌∙◌, ◌⊎◌, inl, inr, Bool, true, false, refl}
+use Rattle.std.proofs.Common.{◌≡◌, ℕ, ◌+◌, ◌-◌, ◌*◌, ◌/◌, ◌%◌, ◌<◌, ◌≤◌, ℤ, arith, sym, ap, ◌∙◌, ◌⊎◌, inl, inr, Bool, false, refl}
 use Rattle.std.specs.Prelude.{if◌then◌else◌, nat_lt, ◌&&◌}
 use mathlib.Core.Path.{fun_ext}
 use Rattle.std.proofs.lemmas.Bool.{cases_lt, cases_eq}
@@ -17,10 +17,7 @@ use Rattle.vc_wave.specs.Remade.{rearranged, halves_together, halves_apart, on_s
 -- ---- a line of two halves
 
 pub half_place_below : (half : ℕ) → StaysBelow (2 * half) (half_place half)
-half_place_below half k h = elim (cases_eq (k % 2) 0) [
-  | inl e ↦ (let none : k % 2 * half ≡ 0 = rw e (omega arith) in omega (arith, none))
-  | inr ne ↦ (let one : k % 2 ≡ 1 = omega arith in let all : k % 2 * half ≡ half = rw one (omega arith) in omega (arith, all))
-]
+half_place_below half k h = grind arith
 
 pub source_below : (half : ℕ) → StaysBelow (2 * half) (source_of half)
 source_below half k h = grind (arith, nat_tests)
@@ -38,17 +35,10 @@ source_of-half_place half k h = elim (cases_eq (k % 2) 0) [
 ]
 
 pub half_place-source_of : (half k : ℕ) → k < 2 * half → half_place half (source_of half k) ≡ k
-half_place-source_of half k h = elim (cases_lt k half) [
-  | inl first ↦ (let place : source_of half k ≡ 2 * k = first_source half k first in let even : 2 * k % 2 ≡ 0 = omega arith in ap (half_place half) place ∙ rw even (omega arith))
-  | inr second ↦ (let place : source_of half k ≡ 2 * (k - half) + 1 = second_source half k second in let odd : (2 * (k - half) + 1) % 2 ≡ 1 = omega arith in ap (half_place half) place ∙ rw odd (omega arith))
-]
+half_place-source_of half k h = grind (arith, first_source, second_source)
 
 split_back : (half : ℕ) (l : ℕ → ℤ) (k : ℕ) → (k < 2 * half) ⊎ (2 * half ≤ k) → halves_apart half (halves_together half l) k ≡ l k
-split_back half l k (inl h) =
-    rearranged_in (2 * half) (source_of half) (halves_together half l) k h
-    ∙ rearranged_in (2 * half) (half_place half) l (source_of half k) (source_below half k h)
-    ∙ ap l (half_place-source_of half k h)
-split_back half l k (inr h) = rearranged_past (2 * half) (source_of half) (halves_together half l) k h ∙ rearranged_past (2 * half) (half_place half) l k h
+split_back half l k h = grind (arith, rearranged_in, source_below, half_place-source_of, rearranged_past)
 
 pub halves_apart-halves_together : (half : ℕ) (l : ℕ → ℤ) → halves_apart half (halves_together half l) ≡ l
 halves_apart-halves_together half l = fun_ext (λ k. split_back half l k (cases_lt k (2 * half)))
@@ -112,17 +102,8 @@ module _ (n m : ℕ) (across down : ℕ → ℕ) (stays : StaysBelow n across) (
   outside x y (inr h) = grind (arith, nat_tests)
 
   quarters_at : (x y : ℕ) → (x < n) ⊎ (n ≤ x) → (y < m) ⊎ (m ≤ y) → (if nat_lt x n && nat_lt y m then c (across x) (down y) else c x y) ≡ on_rows (rearranged n across) m (on_columns (rearranged m down) n c) x y
-  quarters_at x y (inl h) (inl lt) =
-      inside ∙ sym (row_in (rearranged n across) m (on_columns (rearranged m down) n c) x y lt ∙ rearranged_in n across (λ k. on_columns (rearranged m down) n c k y) x h ∙ column_in (rearranged m down) n c (across x) y (stays x h) ∙ rearranged_in m down (λ k. c (across x) k) y lt)
-    where
-      inside : (if nat_lt x n && nat_lt y m then c (across x) (down y) else c x y) ≡ c (across x) (down y)
-      inside = grind (arith, nat_tests)
-  quarters_at x y (inr h) (inl lt) =
-      outside x y (inl h) ∙ sym (row_in (rearranged n across) m (on_columns (rearranged m down) n c) x y lt ∙ rearranged_past n across (λ k. on_columns (rearranged m down) n c k y) x h ∙ column_out (rearranged m down) n c x y h)
-  quarters_at x y (inl h) (inr ge) =
-      outside x y (inr ge) ∙ sym (row_out (rearranged n across) m (on_columns (rearranged m down) n c) x y ge ∙ column_in (rearranged m down) n c x y h ∙ rearranged_past m down (λ k. c x k) y ge)
-  quarters_at x y (inr h) (inr ge) =
-      outside x y (inr ge) ∙ sym (row_out (rearranged n across) m (on_columns (rearranged m down) n c) x y ge ∙ column_out (rearranged m down) n c x y h)
+  quarters_at x y h g =
+      grind (arith, row_in, rearranged_in, column_in, outside, rearranged_past, column_out, row_out)
 
   quarters : (λ x y. if nat_lt x n && nat_lt y m then c (across x) (down y) else c x y) ≡ on_rows (rearranged n across) m (on_columns (rearranged m down) n c)
   quarters = fun_ext (λ x. fun_ext (λ y. quarters_at x y (cases_lt x n) (cases_lt y m)))
@@ -146,16 +127,10 @@ rows_by p half rows c = on_rows (remade p.direction p.wavelet p.shifted half) ro
 
 -- rows that are put together, and then shifted
 rows_remade : (wavelet w rows : ℕ) (c : Cells) → on_cells halved (is_shifted wavelet) (2 * w) rows (on_rows (synthesised wavelet (2 * w)) rows (on_rows (halves_together w) rows c)) ≡ on_rows (remade Synthesis wavelet (is_shifted wavelet) w) rows c
-rows_remade wavelet w rows c =
-    ap (on_cells halved (is_shifted wavelet) (2 * w) rows) (on_rows-on_rows (synthesised wavelet (2 * w)) (halves_together w) rows c)
-    ∙ on_cells_rows halved (is_shifted wavelet) (2 * w) rows (on_rows (merged wavelet w) rows c)
-    ∙ on_rows-on_rows (on_samples halved (is_shifted wavelet) (2 * w)) (merged wavelet w) rows c
+rows_remade wavelet w rows c = grind (arith, on_rows-on_rows, on_cells_rows)
 
 both_tests : (inside above : Bool) (a b : ℤ) → (if inside && above then a else b) ≡ (if above then (if inside then a else b) else b)
-both_tests true true a b = refl
-both_tests true false a b = refl
-both_tests false true a b = refl
-both_tests false false a b = refl
+both_tests inside above a b = grind arith
 
 across_together : (w h : ℕ) (c : Cells) → interleaved_across w h c ≡ on_rows (halves_together w) h c
 unfolding interleaved_across on_rows rearranged

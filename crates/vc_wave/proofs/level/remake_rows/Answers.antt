@@ -1,4 +1,4 @@
-use Rattle.std.proofs.Common.{◌≡◌, ◌+◌, ◌*◌, ◌^◌, ◌<◌, unsigned_abs, arith, sym, subst}
+use Rattle.std.proofs.Common.{rules, ◌≡◌, ◌+◌, ◌*◌, ◌^◌, ◌<◌, unsigned_abs, arith, sym, subst}
 use Rattle.vc_types.specs.Lifting.{line_of}
 use Rattle.vc_wave.specs.Remade.{remade}
 use Rattle.vc_wave.specs.Planes.{plane_of}
@@ -17,7 +17,4 @@ remake-requires-clause-small c = λ x k h lt.
     subst (λ u. unsigned_abs (line_of c.loop-y.cells (c.loop-y.y * c.args.stride + k * 1 + u)) < 2 ^ 107) (sym first) small
 
 pub loop-y-preserved : goal.loop-y-preserved
-loop-y-preserved c =
-    let f = remade c.args.pass.direction c.args.pass.wavelet c.args.pass.shifted c.args.half in
-    rows_more f c.args.stride c.loop-y.y (2 * c.args.half) (plane_of c.args.stride c.args.cells.now) c.loop-y.cells c.requires.room.across c.loop-y.invariant c.remake.new.cells
-    (remade_past c.args.pass.direction c.args.pass.wavelet c.args.pass.shifted c.args.half) (remade_reads c.args.pass.direction c.args.pass.wavelet c.args.pass.shifted c.args.half) c.remake.ensures.on c.remake.ensures.off
+loop-y-preserved c = search (rules, rows_more, remade_past, remade_reads)

@@ -1,4 +1,4 @@
-use Rattle.std.proofs.Common.{◌≡◌, ◌*◌, ◌^◌, ◌≤◌, IfSome, length, arith, ap, sym, subst, ◌∙◌}
+use Rattle.std.proofs.Common.{rules, ◌≡◌, ◌*◌, ◌^◌, ◌≤◌, IfSome, length, arith, ap, sym, subst, ◌∙◌}
 use Rattle.vc_types.specs.TransformParameters.{parameters_of}
 use Rattle.vc_types.specs.Transforms.{levels_across, lowest_width}
 use Rattle.vc_wave.specs.Layout.{laid_out, nested_in}
@@ -20,10 +20,7 @@ merge_across-requires-clause-room c =
     (all_rooms p c.args.c c.lowest-w.result.0 c.lowest-w.result.1 c.args.stride (length c.args.cells.now) (length c.args.line.now) c.lowest-w.ensures.width c.lowest-w.ensures.height c.requires.stride c.requires.cells c.requires.line)
 
 pub side_at-requires-clause-fits : goal.side_at-requires-clause-fits
-side_at-requires-clause-fits c =
-    let p = parameters_of c.args.plan.now in
-    let small = sides_small p c.args.c c.lowest-w.result.0 c.lowest-w.result.1 c.lowest-w.ensures.width c.lowest-w.ensures.height c.lowest-w.ensures.small.0 c.lowest-w.ensures.small.1 in
-    omega (arith, small.0)
+side_at-requires-clause-fits c = search (rules, sides_small)
 
 pub merge_levels-requires-clause-small : goal.merge_levels-requires-clause-small
 merge_levels-requires-clause-small c =

@@ -1,4 +1,4 @@
-use Rattle.std.proofs.Common.{◌≡◌, ◌+◌, ◌*◌, ◌≤◌, unsigned_abs, arith, ap, sym, subst, ◌∙◌}
+use Rattle.std.proofs.Common.{rules, ◌≡◌, ◌+◌, ◌*◌, ◌≤◌, unsigned_abs, arith, ap, sym, subst, ◌∙◌}
 use Rattle.vc_types.specs.Lifting.{line_of}
 use Rattle.vc_types.specs.Wavelets.{is_shifted}
 use Rattle.vc_wave.specs.declared.pass.Direction.TheVariants.{Synthesis}
@@ -28,8 +28,4 @@ merge_row-requires-clause-bound c =
     }
 
 pub loop-y-preserved : goal.loop-y-preserved
-loop-y-preserved c =
-    let w = c.args.wavelet in
-    let f = remade Synthesis w (is_shifted w) c.args.half in
-    rows_more f c.args.pitch c.loop-y.y (2 * c.args.half) (plane_of c.args.pitch c.args.cells.now) c.loop-y.cells c.requires.across c.loop-y.invariant c.merge_row.new.cells
-    (remade_past Synthesis w (is_shifted w) c.args.half) (remade_reads Synthesis w (is_shifted w) c.args.half) c.merge_row.ensures.on c.merge_row.ensures.off
+loop-y-preserved c = search (rules, rows_more, remade_past, remade_reads)

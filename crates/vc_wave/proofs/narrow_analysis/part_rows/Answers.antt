@@ -1,4 +1,4 @@
-use Rattle.std.proofs.Common.{◌≡◌, ◌+◌, ◌*◌, ◌≤◌, unsigned_abs, arith, ap, sym, subst, ◌∙◌}
+use Rattle.std.proofs.Common.{rules, ◌≡◌, ◌+◌, ◌*◌, ◌≤◌, unsigned_abs, arith, ap, sym, subst, ◌∙◌}
 use Rattle.vc_types.specs.Lifting.{line_of}
 use Rattle.vc_types.specs.Wavelets.{is_shifted}
 use Rattle.vc_wave.specs.declared.pass.Direction.TheVariants.{Analysis}
@@ -28,8 +28,4 @@ part_row-requires-clause-bound c =
     }
 
 pub loop-y-preserved : goal.loop-y-preserved
-loop-y-preserved c =
-    let w = c.args.wavelet in
-    let f = remade Analysis w (is_shifted w) c.args.half in
-    rows_more f c.args.pitch c.loop-y.y (2 * c.args.half) (plane_of c.args.pitch c.args.cells.now) c.loop-y.cells c.requires.across c.loop-y.invariant c.part_row.new.cells
-    (remade_past Analysis w (is_shifted w) c.args.half) (remade_reads Analysis w (is_shifted w) c.args.half) c.part_row.ensures.on c.part_row.ensures.off
+loop-y-preserved c = search (rules, rows_more, remade_past, remade_reads)

@@ -1,4 +1,5 @@
-use Rattle.std.proofs.Common.{◌≡◌, ◌+◌, ◌-◌, ◌*◌, ◌^◌, IfSome, length, arith, refl, ap, subst, ◌∙◌}
+use Rattle.std.proofs.lemmas.Grind.{common_steps}
+use Rattle.std.proofs.Common.{rules, ◌≡◌, ◌-◌, IfSome, length, arith, ap, subst, ◌∙◌}
 use Rattle.vc_types.specs.Planes.{output_sample}
 use Rattle.vc_types.specs.TransformParameters.{parameters_of}
 use Rattle.vc_types.specs.Transforms.{Cells}
@@ -8,20 +9,10 @@ use Rattle.vc_wave.proofs.HighestLevel.{whole_width, whole_height, highest_room,
 use Rattle.vc_wave.proofs.output.inverse_output.Goals as goal
 
 pub side_at-w-requires-clause-fits : goal.side_at-w-requires-clause-fits
-side_at-w-requires-clause-fits c =
-    let p = parameters_of c.args.plan.now in
-    let w = c.lowest-w.result.0 in
-    let h = c.lowest-w.result.1 in
-    let whole = whole_width p c.args.c (w * 2 ^ (p.depth_ho + (p.depth - 1))) (h * 2 ^ (p.depth - 1)) w h (omega arith) c.lowest-w.ensures.width c.lowest-w.ensures.height refl refl in
-    omega (arith, whole, c.lowest-w.ensures.small.0)
+side_at-w-requires-clause-fits c = search (rules, whole_width)
 
 pub side_at-h-requires-clause-fits : goal.side_at-h-requires-clause-fits
-side_at-h-requires-clause-fits c =
-    let p = parameters_of c.args.plan.now in
-    let w = c.lowest-w.result.0 in
-    let h = c.lowest-w.result.1 in
-    let whole = whole_height p c.args.c (w * 2 ^ (p.depth_ho + (p.depth - 1))) (h * 2 ^ (p.depth - 1)) w h (omega arith) c.lowest-w.ensures.width c.lowest-w.ensures.height refl refl in
-    omega (arith, whole, c.lowest-w.ensures.small.1)
+side_at-h-requires-clause-fits c = grind (arith, common_steps, whole_height)
 
 pub put_level-requires-clause-some : goal.put_level-requires-clause-some
 put_level-requires-clause-some c =

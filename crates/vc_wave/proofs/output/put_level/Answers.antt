@@ -1,13 +1,8 @@
-use Rattle.std.proofs.Common.{◌*◌, ◌≤◌, IfSome, arith, ap, sym, subst, ◌∙◌}
+use Rattle.std.proofs.Common.{◌*◌, ◌≤◌, IfSome, arith, subst}
 use Rattle.std.proofs.Math.Nat.{mul-le-mul_right}
-use Rattle.vc_types.specs.Planes.{output_sample}
-use Rattle.vc_types.specs.Transforms.{Cells, on_columns}
-use Rattle.vc_types.specs.Wavelets.{is_shifted, synthesised}
 use Rattle.vc_lift.specs.Ranges.{narrow_bound}
-use Rattle.vc_wave.specs.declared.pass.Direction.TheVariants.{Synthesis}
 use Rattle.vc_wave.specs.NarrowBounds.{CarriesTo, rows_bound}
-use Rattle.vc_wave.specs.Planes.{plane_of}
-use Rattle.vc_wave.specs.Remade.{remade, level_in_turn}
+use Rattle.vc_wave.specs.Remade.{level_in_turn}
 use Rattle.vc_wave.proofs.NarrowLevels.{columns_within}
 use Rattle.vc_wave.proofs.PlaneLines.{row_in}
 use Rattle.vc_wave.proofs.output.put_level.Goals as goal
@@ -34,8 +29,4 @@ put_rows-requires-clause-bound c =
 
 pub returns : goal.returns
 unfolding level_in_turn
-returns c = λ whole x y h lt.
-    let f = remade Synthesis c.args.wavelets.across (is_shifted c.args.wavelets.across) c.args.w in
-    let made = on_columns (synthesised c.args.wavelets.down (2 * c.args.h)) (2 * c.args.w) (plane_of c.args.pitch c.args.cells.now) in
-    c.put_rows.ensures x y h lt
-    ∙ ap (output_sample c.args.format.depth) (ap (λ (p : Cells). f (λ k. p k y) x) c.merge_columns.ensures ∙ sym (row_in f (2 * c.args.h) made x y (omega (arith, lt, c.requires.height))))
+returns c = grind (arith, row_in)

@@ -1,4 +1,4 @@
-use Rattle.std.proofs.Common.{◌+◌, ◌*◌, ◌≤◌, suc, unsigned_abs, inr, arith, sym, subst, ◌∙◌}
+use Rattle.std.proofs.Common.{◌*◌, ◌≤◌, suc, inr, arith, ◌∙◌}
 use Rattle.std.proofs.Math.Nat.{mul-le-mul_right}
 use Rattle.vc_types.specs.Wavelets.{is_shifted}
 use Rattle.vc_wave.specs.declared.pass.Direction.TheVariants.{Synthesis}
@@ -18,14 +18,7 @@ put_row-requires-clause-inside c =
     omega (arith, past, c.requires.across, c.requires.down, c.loop-y.auto.cells)
 
 pub put_row-requires-clause-bound : goal.put_row-requires-clause-bound
-put_row-requires-clause-bound c =
-    let b = c.requires.bound in
-    record {
-      most = b.most;
-      after = b.after;
-      small = λ k lt. subst (λ z. unsigned_abs z ≤ b.most) (sym (c.loop-y.invariant.left (c.loop-y.y * c.args.pitch + k) (omega arith))) (b.small (c.loop-y.y * c.args.pitch + k));
-      fits = b.fits;
-    }
+put_row-requires-clause-bound c = grind arith
 
 pub loop-y-preserved : goal.loop-y-preserved
 loop-y-preserved c =

@@ -1,21 +1,10 @@
-use Rattle.std.proofs.Common.{◌≡◌, ◌*◌, ◌^◌, ◌<◌, length, drop, All, unsigned_abs, arith, ap, sym, subst, ◌∙◌}
+use Rattle.std.proofs.Common.{◌≡◌, ◌^◌, ◌<◌, length, drop, All, unsigned_abs, arith, ap, sym, subst, ◌∙◌}
 use Rattle.vc_types.specs.TransformParameters.{parameters_of}
-use Rattle.vc_wave.specs.declared.level.TheConstants.{BLOCK}
 use Rattle.vc_wave.proofs.Grids.{lattice, written_over, plane_below, lattice_below, inverse_made}
 use Rattle.vc_wave.proofs.synthesis.inverse.Goals as goal
 
 pub merge-requires-clause-room : goal.merge-requires-clause-room
-merge-requires-clause-room c =
-    let across : c.args.coeffs.width ≡ c.padded-width.result.0 = c.requires.width ∙ sym c.padded-width.ensures.width in
-    let down : c.args.coeffs.height ≡ c.padded-width.result.1 = c.requires.height ∙ sym c.padded-width.ensures.height in
-    let whole = ap length c.deref_mut.ensures.value ∙ c.into_cells-cells.ensures.whole ∙ ap (λ n. n * c.args.coeffs.height) across ∙ ap (λ n. c.padded-width.result.0 * n) down in
-    let rows = sym c.padded-width.ensures.height in
-    record {
-      across = omega (arith, c.padded-width.ensures.width);
-      down = (let fits = ap (λ n. n * c.padded-width.result.0) rows in omega (arith, whole, fits));
-      row = omega (arith, c.padded-width.ensures.width, c.in_ok-scratch.ensures.len);
-      side_by_side = (let fits = ap (λ n. n * BLOCK) rows in omega (arith, fits, c.in_ok-scratch.ensures.len));
-    }
+merge-requires-clause-room c = grind arith
 
 pub merge-requires-clause-small : goal.merge-requires-clause-small
 merge-requires-clause-small c =

@@ -24,17 +24,7 @@ merge_levels-requires-clause-small c =
     across_below plan.wavelet_ho plan.depth_ho plan.depth c.lowest-w.result.0 c.lowest-w.result.1 (plane_of c.args.stride c.args.cells.now) (plane_of c.args.stride c.merge_across.new.cells) (omega arith) c.merge_across.ensures c.requires.small
 
 pub returns-clause-value : goal.returns-clause-value
-returns-clause-value c =
-    let stride = c.args.stride in
-    all_levels (parameters_of c.args.plan.now) c.args.c c.lowest-w.result.0 c.side_at-w.result c.lowest-w.result.1 (plane_of stride c.args.cells.now) (plane_of stride c.merge_across.new.cells) (plane_of stride c.merge_levels.new.cells)
-    c.lowest-w.ensures.width c.lowest-w.ensures.height c.side_at-w.ensures c.merge_across.ensures c.merge_levels.ensures
+returns-clause-value c = grind (arith, all_levels)
 
 pub returns-clause-small : goal.returns-clause-small
-returns-clause-small c =
-    let plan = c.args.plan.now in
-    let w = c.lowest-w.result.0 in
-    let h = c.lowest-w.result.1 in
-    let first = plane_of c.args.stride c.args.cells.now in
-    let second = plane_of c.args.stride c.merge_across.new.cells in
-    all_below plan.wavelet plan.wavelet_ho plan.depth c.side_at-w.result h second (plane_of c.args.stride c.merge_levels.new.cells) (omega arith) c.merge_levels.ensures
-    (across_below plan.wavelet_ho plan.depth_ho plan.depth w h first second (omega arith) c.merge_across.ensures c.requires.small)
+returns-clause-small c = grind (arith, all_below, across_below)

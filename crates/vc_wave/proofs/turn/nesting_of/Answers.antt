@@ -1,13 +1,10 @@
-use Rattle.std.proofs.Common.{◌*◌, ◌^◌, arith, ap, ◌∙◌}
+use Rattle.std.proofs.Common.{rules, ◌*◌, ◌^◌, arith, ap, ◌∙◌}
 use Rattle.vc_types.specs.TransformParameters.{parameters_of}
 use Rattle.vc_wave.proofs.NarrowLevels.{sides_small}
 use Rattle.vc_wave.proofs.turn.nesting_of.Goals as goal
 
 pub side_at-requires-clause-fits : goal.side_at-requires-clause-fits
-side_at-requires-clause-fits c =
-    let p = parameters_of c.args.plan.now in
-    let small = sides_small p c.args.c c.lowest-w.result.0 c.lowest-w.result.1 c.lowest-w.ensures.width c.lowest-w.ensures.height c.lowest-w.ensures.small.0 c.lowest-w.ensures.small.1 in
-    omega (arith, small.0)
+side_at-requires-clause-fits c = search (rules, sides_small)
 
 pub returns-clause-w : goal.returns-clause-w
 returns-clause-w c = c.side_at.ensures ∙ ap (λ n. n * 2 ^ c.args.plan.now.depth_ho) c.lowest-w.ensures.width
