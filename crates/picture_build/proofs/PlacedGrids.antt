@@ -23,7 +23,9 @@ use Rattle.picture_build.proofs.WholeSlices.{coefficient-small}
 module _ (p : Parameters) (c : Component) (slices : List Coefficients) (stride : ℕ) (cells : List ℤ)
     (some_across : 0 < p.slices_x) (some_down : 0 < p.slices_y) (wide : stride ≡ padded_width p c)
     (all : length slices ≡ slice_count p) (whole : ArePictureCoefficients p slices)
-    (stand : (n i : ℕ) (none : Coefficients) → n < length slices → i < slice_coefficient_count p c n → line_of cells (cell_number stride (coefficient_place p c n i)) ≡ line_of (coefficients_of (slice_index_or slices n none) c) i) where
+    (stand : (n i : ℕ) (none : Coefficients) → n < length slices → i < slice_coefficient_count p c n
+    → line_of cells (cell_number stride (coefficient_place p c n i))
+    ≡ line_of (coefficients_of (slice_index_or slices n none) c) i) where
   no_coefficients : Coefficients
   no_coefficients = record { y = []; c1 = []; c2 = [] }
 

@@ -12,7 +12,9 @@ use Rattle.vc_quant.specs.declared.reciprocal.TheConstants.{FACTOR_RECIPROCALS}
 
 -- ---- a quotient
 
-module _ (base size divisor reciprocal product : ℕ) (some : 0 < divisor) (small : size < base) (low : reciprocal * divisor ≤ base) (high : base ≤ (reciprocal + 1) * divisor) (product_is : product ≡ size * reciprocal / base) where
+module _ (base size divisor reciprocal product : ℕ) (some : 0 < divisor) (small : size < base)
+    (low : reciprocal * divisor ≤ base) (high : base ≤ (reciprocal + 1) * divisor)
+    (product_is : product ≡ size * reciprocal / base) where
   -- it is not too large
   pub not_over : product * divisor ≤ size
   not_over =

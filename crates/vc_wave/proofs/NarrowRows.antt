@@ -81,7 +81,8 @@ row_lines start half = record { start = start; step = 1; width = 1; half = half 
 pub row_outside : (start half i : ℕ) → IsApart (row_lines start half) i → (i < start) ⊎ (start + 2 * half ≤ i)
 row_outside start half i none = outside (cases_lt i start) (cases_lt i (start + 2 * half))
   where
-    outside : (i < start) ⊎ (start ≤ i) → (i < start + 2 * half) ⊎ (start + 2 * half ≤ i) → (i < start) ⊎ (start + 2 * half ≤ i)
+    outside : (i < start) ⊎ (start ≤ i) → (i < start + 2 * half) ⊎ (start + 2 * half ≤ i)
+        → (i < start) ⊎ (start + 2 * half ≤ i)
     outside (inl before) any = inl before
     outside (inr from) (inr past) = inr past
     outside (inr from) (inl within) = absurd (none 0 (i - start) (omega arith) (omega arith) (omega arith))
