@@ -1,5 +1,5 @@
 -- The unit that begins some bytes, by its parse info and what follows it.
-use Rattle.std.proofs.Common.{◌≡◌, ℕ, ◌+◌, ◌<◌, List, ◌++◌, length, Result, Ok, Err, refl, ap, ◌∙◌}
+use Rattle.std.proofs.Common.{◌≡◌, ℕ, ◌<◌, List, ◌++◌, length, Result, Ok, Err, refl, ap, ◌∙◌}
 use Rattle.std.proofs.lemmas.Bool.{lt-ltb}
 use Rattle.vc_types.specs.Fields.{Field, and_then, ◌>>=◌, give, next_items}
 use Rattle.vc_types.proofs.FieldCodecs.{next_items_codec}

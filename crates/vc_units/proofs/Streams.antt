@@ -1,5 +1,5 @@
 -- The units of bytes that are read one unit after another.
-use Rattle.std.proofs.Common.{◌≡◌, ℕ, zero, suc, ◌+◌, true, false, List, [], ◌∷◌, ◌++◌, Ok, Err, refl, arith}
+use Rattle.std.proofs.Common.{◌≡◌, ℕ, zero, suc, true, false, List, [], ◌∷◌, ◌++◌, Ok, Err, refl, arith}
 use Rattle.vc_types.specs.DataUnits.{DataUnit, is_end_of_sequence}
 use Rattle.vc_units.specs.Units.{data_unit, units_within}
 use Rattle.vc_units.specs.declared.fault.UnitFault.{UnitFault}
