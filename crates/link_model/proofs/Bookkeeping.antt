@@ -125,7 +125,7 @@ module _ (s : Sequence) (parts : List Part) where
 
   -- ---- its slices
 
-  slot_is : (kept : Own) → own s parts ≡ Some kept → (i : ℕ) → slot_at (gathered_of kept).slots i ≡ own_slice kept i
+  pub slot_is : (kept : Own) → own s parts ≡ Some kept → (i : ℕ) → slot_at (gathered_of kept).slots i ≡ own_slice kept i
   slot_is kept some i = grind (arith, own_slice_inside, slot_inside, slot_outside)
 
   pub book_slice_is : (i : ℕ) → book_slice (book_of s parts) i ≡ option_and_then (λ kept. own_slice kept i) (own s parts)

@@ -1,10 +1,10 @@
 -- What every legal event of the machine keeps.
 use Rattle.std.proofs.Common.{◌≡◌, ℕ, ◌-◌, ◌%◌, ◌≤◌, Bool, true, false, cond, List, [], ◌∷◌, ◌++◌}
 use Rattle.std.proofs.Common.{Option, Some, None, refl, ap, sym, subst, ◌∙◌, arith, eq-eqb}
-use Rattle.std.specs.Prelude.{◌==◌, ◌&&◌, ◌||◌, not, is_some}
+use Rattle.std.specs.Prelude.{◌||◌, not, is_some}
 use Rattle.std.specs.List.{flat_map, list_all}
 use Rattle.std.specs.Option.{option_map_or}
-use Rattle.std.proofs.lemmas.Bool.{and_parts, and_from, false≢true, both_ways}
+use Rattle.std.proofs.lemmas.Bool.{false≢true, both_ways}
 use Rattle.std.proofs.lemmas.List.{append_assoc, append-nil}
 use Rattle.std.proofs.lemmas.List.Concat.{flat_map-append}
 use Rattle.std.proofs.lemmas.Option.{same_Some, none-some}
@@ -116,13 +116,7 @@ new_holds window = record { answers = tt; rest = []; order = refl; ready = tt; b
 module _ (x : SliceAnswer) (decoded : List SliceAnswer) (n : ℕ) where
   still_answered : (is : List ℕ) → list_all (λ i. is_some (answer_in decoded n i)) is ≡ true → list_all (λ i. is_some (answer_in (x ∷ decoded) n i)) is ≡ true
   still_answered [] e = refl
-  still_answered (i ∷ is) e =
-      let both = and_parts (is_some (answer_in decoded n i)) (list_all (λ i. is_some (answer_in decoded n i)) is) e in
-      and_from (is_some (answer_in (x ∷ decoded) n i)) (list_all (λ i. is_some (answer_in (x ∷ decoded) n i)) is) (here (x.number == n && x.index == i) both.0) (still_answered is both.1)
-    where
-      here : (b : Bool) → is_some (answer_in decoded n i) ≡ true → is_some (cond b (Some x.answer) (answer_in decoded n i)) ≡ true
-      here true e = refl
-      here false e = e
+  still_answered (i ∷ is) e = grind (arith, still_answered is)
 
   still_ready : (o : Option Own) → is_ready decoded n o ≡ true → is_ready (x ∷ decoded) n o ≡ true
   still_ready None e = refl
