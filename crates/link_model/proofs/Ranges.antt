@@ -15,7 +15,8 @@ pub flat_map-filter : {X A : Type 0} (g : X → List A) (p : X → Bool) (xs : L
 flat_map-filter g p [] = refl
 flat_map-filter {A = A} g p (x ∷ xs) = grind (arith, flat_map-filter g p xs)
 
-pub same_pieces : {X A : Type 0} (g h : X → List A) → ((n : X) → g n ≡ h n) → (xs : List X) → flat_map g xs ≡ flat_map h xs
+pub same_pieces : {X A : Type 0} (g h : X → List A) → ((n : X) → g n ≡ h n) → (xs : List X)
+    → flat_map g xs ≡ flat_map h xs
 same_pieces g h same [] = refl
 same_pieces {A = A} g h same (x ∷ xs) =
     ap (λ (l : List A). l ++ flat_map g xs) (same x) ∙ ap (λ (l : List A). h x ++ l) (same_pieces g h same xs)

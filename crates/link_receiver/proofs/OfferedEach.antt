@@ -11,7 +11,7 @@ use Rattle.link_model.specs.Places.{Job}
 use Rattle.link_reception.specs.Exchanging.{Exchange, Proposed, Fetched, is_job_among}
 use Rattle.link_reception.specs.Offered.{HasJobs}
 use Rattle.link_reception.specs.SlicesOut.{ArePutsOf}
-use Rattle.link_reception.proofs.OfferedJobs.{same_itself}
+use Rattle.link_model.proofs.SameJobs.{same_itself}
 use Rattle.link_receiver.specs.HeardLists.{told_jobs}
 use Rattle.link_receiver.specs.Offers.{AreOffersOf, IsOfferOf, proposed_in}
 use Rattle.slice_exchange.specs.Calls.{PlaceCall, Puts, Takes, told_of, exchanges_of, freeing}

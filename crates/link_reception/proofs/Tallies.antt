@@ -1,6 +1,6 @@
 -- Counts: those of outcomes and those of pictures don't touch each other.
 use Rattle.std.proofs.Common.{◌≡◌, ℕ, ◌+◌, Bool, true, refl, ap, sym, ◌∙◌, cond, arith}
-use Rattle.std.proofs.Common.{List, [], ◌∷◌, Option}
+use Rattle.std.proofs.Common.{List, [], ◌∷◌}
 use Rattle.std.specs.Prelude.{◌==◌, ◌||◌, count_by, filter, fold, length}
 use Rattle.std.proofs.lemmas.Bool.{eq-eqb, or_right}
 use Rattle.std.proofs.lemmas.Grind.{common_steps}
@@ -14,9 +14,7 @@ use Rattle.link_model.specs.Session.{HeardSession}
 use Rattle.link_model.specs.declared.outcome.Outcome.{Outcome}
 use Rattle.link_model.specs.declared.outcome.Outcome.TheVariants as outcomes
 use Rattle.link_model.specs.declared.tally.Tally.{Tally}
-use Rattle.vc_types.specs.Planes.{Planes}
 use Rattle.vc_types.specs.SequenceHeader.{Sequence}
-use Rattle.link_reception.specs.Releasing.{field_behind, fields_alone}
 use Rattle.link_reception.specs.Standing.{Fields, no_fields, next_field, fields_behind}
 use Rattle.link_reception.specs.Standing.{with_released}
 
@@ -104,12 +102,7 @@ module _ (s : Sequence) (old new : List Numbered) (ns : List ℕ)
       → ((n : ℕ) → is_among ns n ≡ true → planes_at s old n ≡ planes_at s new n)
       → fold (next_field s old) x ns ≡ fold (next_field s new) x ns
   fields_from [] x same = refl
-  fields_from (n ∷ ns) x same =
-      ap (λ (o : Option Planes). fold (next_field s old) (let next : Fields = record {
-        waiting = field_behind s n o;
-        alone = x.alone + fields_alone s x.waiting n o;
-      } in next) ns) (same n (ap (λ (b : Bool). b || is_among ns n) (eq-eqb n n refl)))
-      ∙ fields_from ns (next_field s new x n) (λ m there. same m (or_right (n == m) _ there))
+  fields_from (n ∷ ns) x same = grind (arith, fields_from ns (next_field s new x n))
 
   pub fields_same : fields_behind s old ns ≡ fields_behind s new ns
   fields_same = fields_from ns no_fields planes
