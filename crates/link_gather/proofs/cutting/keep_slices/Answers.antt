@@ -1,8 +1,7 @@
-use Rattle.std.proofs.Common.{◌≡◌, ◌+◌, ◌-◌, ◌<◌, ◌≤◌, ℕ, suc, Bool, List, Option, Some, None, length, take, drop, refl, ap, sym, ◌∙◌, arith, rules}
+use Rattle.std.proofs.Common.{◌≡◌, ◌+◌, ◌-◌, ◌<◌, ◌≤◌, ℕ, suc, Bool, List, Some, None, length, take, drop, ap, sym, ◌∙◌, arith, rules}
 use Rattle.std.specs.Prelude.{◌||◌}
 use Rattle.link_model.specs.Books.{Slots, slot_at, with_run}
 use Rattle.link_gather.specs.Filling.{run_cut, has_conflict, has_new, put_in, put_result, is_put_other, is_put_new}
-use Rattle.link_gather.specs.declared.slots.Put.{Put}
 use Rattle.link_gather.proofs.FillingLaws.{cut_within, put_length, run_step, conflict_step, new_step, other_is, fresh_is, run_none, conflict_none, new_none, none_left, none_cut}
 use Rattle.vc_types.specs.Slices.{slice_length}
 use Rattle.vc_types.specs.TransformParameters.{parameters_of}
