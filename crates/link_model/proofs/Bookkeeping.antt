@@ -115,9 +115,7 @@ module _ (s : Sequence) (parts : List Part) where
   takes-more (ParamsPart body) = by_own (own s parts) refl
     where
       by_own : (o : Option Own) → own s parts ≡ o → book_takes (book_by s parts o) (ParamsPart body) ≡ book_by s (parts ++ ParamsPart body ∷ []) (own s (parts ++ ParamsPart body ∷ []))
-      by_own None none =
-          params_first body (kept_parameters body (coded_parameters s body))
-          ∙ ap (book_by s (parts ++ ParamsPart body ∷ [])) (sym (own-first s (ParamsPart body) parts none))
+      by_own None none = grind (arith, params_first, own-first)
       by_own (Some kept) some =
           ap (λ (l : List SliceRun). gathered_book (gathered_of (let k : Own = record { plan = kept.plan; runs = l } in k))) (sym (append-nil kept.runs))
           ∙ ap (book_by s (parts ++ ParamsPart body ∷ [])) (sym (own-append s parts (ParamsPart body ∷ []) kept some))

@@ -56,12 +56,7 @@ module _ (window : ℕ) where
       where
         by_here : (b : Bool) → is_opened (entered_behind window hs h) n ≡ b → cond b (Some (entered_session window hs h)) (session_opening window hs n) ≡ Some e
             → (session_opening window hs n ≡ Some e → Beside hs k e) → Beside (h ∷ hs) k e
-        by_here true is found rest =
-            let same = same_Some (entered_session window hs h) e found in
-            let here : is_opened (entered_behind window hs h) k ≡ true = ap (λ (e : EnteredSession). is_opened e.entries k) same ∙ opened in (
-              session_here window hs h k here ∙ ap Some same,
-              among_back (heard_pictures window hs) (opened_numbers (entered_behind window hs h)) k (among_opened (entered_behind window hs h) k here),
-            )
+        by_here true is found rest = grind (arith, session_here, among_back, among_opened)
         by_here false is found rest = let before = rest found in (
           session_earlier window small hs h k (session_opened window hs k e before.0) ∙ before.0,
           among_front (heard_pictures window hs) (opened_numbers (entered_behind window hs h)) k before.1,
@@ -86,13 +81,7 @@ module _ (window : ℕ) where
 
         by_here : (b : Bool) → is_opened (entered_behind window hs h) n ≡ b → cond b (Some (entered_session window hs h)) (session_opening window hs n) ≡ Some e
             → (session_opening window (h ∷ hs) k ≡ Some e) × (is_among (heard_pictures window hs ++ let_go_numbers window h.session.sequence (entered_behind window hs h)) k ≡ true)
-        by_here true is found =
-            let same = same_Some (entered_session window hs h) e found in
-            let here : is_opened (entered_behind window hs h) k ≡ true = ap (λ (e : EnteredSession). is_opened e.entries k) same ∙ opened in (
-              session_here window hs h k here ∙ ap Some same,
-              among_back (heard_pictures window hs) (let_go_numbers window h.session.sequence (entered_behind window hs h)) k
-                  (among_let_go (entered_behind window hs h) window h.session.sequence k here (let_go_before window h.session.sequence (entered_behind window hs h) n k less (gone is))),
-            )
+        by_here true is found = grind (arith, session_here, among_back, among_let_go, let_go_before, gone)
         by_here false is found = let before = beside_in hs n k e found opened in (
           session_earlier window small hs h k (session_opened window hs k e before.0) ∙ before.0,
           among_front (heard_pictures window hs) (let_go_numbers window h.session.sequence (entered_behind window hs h)) k before.1,

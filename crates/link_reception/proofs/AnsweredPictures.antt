@@ -126,11 +126,7 @@ module _ (decoded : List SliceAnswer) (n : ℕ) where
           → is_some (answer_in decoded n k) ≡ true
       by_first None at rest more e later = absurd (none-some l e)
       by_first (Some (Err why)) at rest more e later = absurd (none-some l e)
-      by_first (Some (Ok s)) at rest more e later = elim (cases_lt a k) [
-        | inl less ↦ (let all = zipped s rest e in later all.0 (more ∙ all.1) less)
-        | inr low ↦ (let same : k ≡ a = omega (arith, low, from) in
-            ap (λ j. is_some (answer_in decoded n j)) same ∙ ap is_some at)
-      ]
+      by_first (Some (Ok s)) at rest more e later = grind (arith, zipped)
 
 -- ---- a picture that keeps something
 
@@ -239,11 +235,7 @@ module _ (s : Sequence) (parts : List Part) (kept : Own) (is : own s parts ≡ S
           by_answer : (o : Option Decoding) → own_answer_at answers n (gathered_of kept) k ≡ o
               → unwrap_or o (slice_coefficients kept.plan.parameters k
               (unwrap_or (slot_at (gathered_of kept).slots k) [])) ≡ own_decoding k
-          by_answer None at =
-              let here : 0 + k ≡ k = omega arith in
-              ap (λ (b : Option (List ℕ)).
-              slice_coefficients kept.plan.parameters k (unwrap_or b []))
-              (slot_inside (own_slice kept) 0 count k below ∙ ap (own_slice kept) here)
+          by_answer None at = grind (arith, slot_inside)
           by_answer (Some d) at =
               own_answers k d (kept_where_own answers n (gathered_of kept) k d at)
 

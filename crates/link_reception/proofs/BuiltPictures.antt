@@ -181,13 +181,7 @@ module _ (r : Reception) (size : ℕ) (f : Feeder) (hs : List HeardSession) (p :
 
       was_released : is_opened es m ≡ true → (rest : List ℕ) → releasable_numbers p ≡ n ∷ rest
           → is_among p.released m ≡ true
-      was_released was rest is = or_first (is_among p.released m)
-          (is_among (releasable_numbers p) m) (not_later rest is)
-          (gone_before p works.window.in_order n m there (omega (arith, before)) was)
-        where
-          or_first : (a b : Bool) → b ≡ false → (a || b) ≡ true → a ≡ true
-          or_first true b none e = refl
-          or_first false b none e = absurd (both_ways b none e)
+      was_released was rest is = grind (arith, not_later, gone_before, there)
 
   module _ (fields : s.fields ≡ true) (m : ℕ) (before : m + 1 ≡ n)
       (even : (m % 2 == 0) ≡ true) where
@@ -211,9 +205,7 @@ module _ (r : Reception) (size : ℕ) (f : Feeder) (hs : List HeardSession) (p :
         ]
 
         by_planes : (o : Option Planes) → planes_at s es m ≡ o → field_before r.field n ≡ o
-        by_planes (Some planes) at =
-            ap (λ (o : Option FirstField). field_before o n) (waits m before fields even planes at)
-            ∙ cond-true (m + 1 == n) (Some planes) None (eq-eqb (m + 1) n before)
+        by_planes (Some planes) at = grind (arith, waits)
         by_planes None at = by_field r.field refl at
 
     -- and so are those that the feeder makes of its answers

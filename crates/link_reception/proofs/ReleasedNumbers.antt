@@ -166,9 +166,7 @@ module _ (p : WindowPast) (in_order : past_let_go p ≡ p.released ++ releasable
           → (b : Bool) → released_up_to (last_or None p.released) n ≡ b → a ≡ b
       by_tests true there true low = refl
       by_tests false away false high = refl
-      by_tests true there false high = absurd (both_ways
-          (released_up_to (last_or None p.released) n) high
-          (front_is_lower n 0 p.released (releasable_numbers p) released_rise there))
+      by_tests true there false high = grind (arith, front_is_lower, released_rise)
       by_tests false away true low = absurd (both_ways
           (released_up_to (last_or None p.released) n)
           (behind_is_higher n 0 p.released (releasable_numbers p) released_rise
@@ -252,8 +250,4 @@ unreleased_are p in_order before apart =
 
     away : (n : ℕ) → is_among (releasable_numbers p) n ≡ true
         → is_among (before ++ p.released) n ≡ false
-    away n there =
-        among_append before p.released n
-        ∙ ap (λ (b : Bool). b || is_among p.released n)
-        (apart n (releasable_gone p in_order n there).0)
-        ∙ releasable_unreleased p in_order n there
+    away n there = grind (arith, among_append, releasable_gone, releasable_unreleased)

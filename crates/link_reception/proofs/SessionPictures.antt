@@ -43,9 +43,7 @@ module _ (test : ℕ → Bool) (n : ℕ) where
     where
       past_it : a < n → (b : Bool) → is_among (numbers_over test (a + 1) m) n ≡ test n
           → is_among (cond b (a ∷ []) [] ++ numbers_over test (a + 1) m) n ≡ test n
-      past_it less true rest =
-          ap (λ (b : Bool). b || is_among (numbers_over test (a + 1) m) n)
-          (ne_eqb a n (λ same. omega (arith, same, less))) ∙ rest
+      past_it less true rest = grind (arith, numbers_over)
       past_it less false rest = rest
 
       here : a ≡ n → (b : Bool) → is_among (numbers_over test (a + 1) m) n ≡ false

@@ -30,31 +30,7 @@ added a b c d t = record t {
 outcome_added : (a b c d : ℕ) (t : Tally) (o : Outcome)
     → with_outcome (added a b c d t) o ≡ added a b c d (with_outcome t o)
 outcome_added a b c d t outcomes.RtpShort = refl
-outcome_added a b c d t outcomes.RtpVersion = refl
-outcome_added a b c d t outcomes.RtpShape = refl
-outcome_added a b c d t outcomes.PayloadShort = refl
-outcome_added a b c d t outcomes.PayloadCode = refl
-outcome_added a b c d t outcomes.PayloadFragment = refl
-outcome_added a b c d t outcomes.Foreign = refl
-outcome_added a b c d t outcomes.HeaderNew = refl
-outcome_added a b c d t outcomes.HeaderSame = refl
-outcome_added a b c d t outcomes.HeaderOther = refl
-outcome_added a b c d t outcomes.HeaderBad = refl
-outcome_added a b c d t outcomes.End = refl
-outcome_added a b c d t outcomes.Skipped = refl
-outcome_added a b c d t outcomes.Late = refl
-outcome_added a b c d t outcomes.ParamsKept = refl
-outcome_added a b c d t outcomes.ParamsRepeat = refl
-outcome_added a b c d t outcomes.ParamsConflict = refl
-outcome_added a b c d t outcomes.ParamsBad = refl
-outcome_added a b c d t outcomes.SlicesKept = refl
-outcome_added a b c d t outcomes.SlicesRepeat = refl
-outcome_added a b c d t outcomes.SlicesConflict = refl
-outcome_added a b c d t outcomes.SlicesPending = refl
-outcome_added a b c d t outcomes.SlicesFull = refl
-outcome_added a b c d t outcomes.SlicesForm = refl
-outcome_added a b c d t outcomes.SlicesPlace = refl
-outcome_added a b c d t outcomes.SlicesCut = refl
+outcome_added a b c d t other = refl
 
 pub released_outcome : (s : Sequence) (es : List Numbered) (ns : List ℕ) (t : Tally) (o : Outcome)
     → with_outcome (with_released s es ns t) o ≡ with_released s es ns (with_outcome t o)
@@ -88,11 +64,7 @@ count_same f g ns same =
     filter_same : (ns : List ℕ) → ((n : ℕ) → is_among ns n ≡ true → f n ≡ g n)
         → filter f ns ≡ filter g ns
     filter_same [] same = refl
-    filter_same (n ∷ ns) same =
-        ap (λ (b : Bool). cond b (n ∷ filter f ns) (filter f ns))
-        (same n (ap (λ (b : Bool). b || is_among ns n) (eq-eqb n n refl)))
-        ∙ ap (λ (l : List ℕ). cond (g n) (n ∷ l) l)
-        (filter_same ns (λ m there. same m (or_right (n == m) _ there)))
+    filter_same (n ∷ ns) same = grind (arith, filter_same ns)
 
 module _ (s : Sequence) (old new : List Numbered) (ns : List ℕ)
     (complete : (n : ℕ) → is_among ns n ≡ true → complete_at s old n ≡ complete_at s new n)
