@@ -40,13 +40,7 @@ stays old new (d ∷ ds) is = by_next (opens_next (old ∷ []) (begins d)) refl 
         let long = all_longer (just_opened s ∷ old ∷ []) ds in
         let same = ap length (ap (λ (hs : List HeardSession). fold hears hs ds) (sym (hears_new (old ∷ []) d s opens)) ∙ is) in
         absurd (omega (arith, long, same))
-    by_next None opens again =
-        let later = again (ap (λ (hs : List HeardSession). fold hears hs ds) (sym (hears_on (old ∷ []) d opens)) ∙ is) in
-        record {
-          session = later.session;
-          fragments = later.fragments ∙ append_assoc old.fragments (filter_map (fragment_in old.session) (d ∷ [])) (filter_map (fragment_in old.session) ds)
-              ∙ ap (λ (l : List Fragment). old.fragments ++ l) (sym (filter_map-append (fragment_in old.session) (d ∷ []) ds));
-        }
+    by_next None opens again = grind (arith, hears_on, append_assoc, filter_map-append)
 
 -- ---- where it opens
 

@@ -34,7 +34,8 @@ none_mapped f (Some x) none = absurd (none-some (f x) (sym none))
 outside_found : (limit place sample : ℕ) (samples : List ℕ) → nat_lt sample limit ≡ false → first_outside limit place (sample ∷ samples) ≡ None → ⊥
 unfolding first_outside
 outside_found limit place sample samples outside none =
-    none-some (place, sample) (sym none ∙ cond-false (nat_lt sample limit) (first_outside limit (place + 1) samples) (Some (place, sample)) outside)
+    none-some (place, sample) (sym none ∙ cond-false (nat_lt sample limit)
+    (first_outside limit (place + 1) samples) (Some (place, sample)) outside)
 
 outside_later : (limit place sample : ℕ) (samples : List ℕ) → nat_lt sample limit ≡ true → first_outside limit place (sample ∷ samples) ≡ None → first_outside limit (place + 1) samples ≡ None
 unfolding first_outside
@@ -54,7 +55,9 @@ module _ (s : Sending) (planes : Planes) where
 
   large_found : (z : ℕ × ℕ) (zs : List (ℕ × ℕ)) → is_too_large s planes z.0 z.1 ≡ true → first_of_slices s planes (z ∷ zs) ≡ None → ⊥
   unfolding first_of_slices
-  large_found z zs large none = none-some (slice_fault s planes z.0 z.1) (sym none ∙ cond-true (is_too_large s planes z.0 z.1) (Some (slice_fault s planes z.0 z.1)) (first_of_slices s planes zs) large)
+  large_found z zs large none =
+      none-some (slice_fault s planes z.0 z.1) (sym none ∙ cond-true (is_too_large s planes z.0 z.1)
+      (Some (slice_fault s planes z.0 z.1)) (first_of_slices s planes zs) large)
 
   none_later : (z : ℕ × ℕ) (zs : List (ℕ × ℕ)) → is_too_large s planes z.0 z.1 ≡ false → first_of_slices s planes (z ∷ zs) ≡ None → first_of_slices s planes zs ≡ None
   unfolding first_of_slices

@@ -74,7 +74,14 @@ module _ (s : Sending) where
       (All-cons (IsContent runs) ParametersContent (map SlicesContent runs) tt (All-map (IsContent runs) SlicesContent runs (all_among runs)))
 
   first_of : (first : ℕ) (indices : List ℕ) (planes : Planes) (pictures : List Planes) (c : DatagramContent) → IsContent (picture_runs s indices planes) c → IsOfPicture first indices (planes ∷ pictures) (outgoing first c)
-  first_of first indices planes pictures c is = record { number = 0; planes = planes; at = refl; picture = sym (add-zero first); content = subst (λ (l : List ℕ). IsContent (picture_runs s l planes) c) (ap (λ (n : ℕ). drop n indices) (no_product count)) is }
+  first_of first indices planes pictures c is = record {
+    number = 0;
+    planes = planes;
+    at = refl;
+    picture = sym (add-zero first);
+    content = subst (λ (l : List ℕ). IsContent (picture_runs s l planes) c)
+        (ap (λ (n : ℕ). drop n indices) (no_product count)) is;
+  }
     where
       no_product : (n : ℕ) → 0 ≡ 0 * n
       no_product n = omega arith
@@ -108,7 +115,8 @@ module _ (s : Sending) where
       subst (λ (l : List Outgoing). IsAmong l (outgoing (first + 0) c)) (sym (more_outgoing first indices own pictures))
       (among_before (outgoing (first + 0) c) (picture_outgoing s first indices own) (pictures_outgoing s (first + 1) (drop count indices) pictures)
       (subst (λ (l : List Outgoing). IsAmong l (outgoing (first + 0) c)) (sym (picture_contents first indices own))
-      (subst (λ (n : ℕ). IsAmong (map (outgoing first) (contents (picture_runs s indices own))) (outgoing n c)) (sym (add-zero first)) (among_map (outgoing first) c (contents (picture_runs s indices own)) here))))
+      (subst (λ (n : ℕ). IsAmong (map (outgoing first) (contents (picture_runs s indices own))) (outgoing n c))
+      (sym (add-zero first)) (among_map (outgoing first) c (contents (picture_runs s indices own)) here))))
     where
       no_product : (n : ℕ) → 0 * n ≡ 0
       no_product n = omega arith

@@ -167,9 +167,7 @@ module _ (settings : SendSettings) (small : settings.ssrc < 2 ^ 32) (window : �
   stream_back = by_frames frames refl
     where
       by_frames : (l : List Planes) → frames ≡ l → full_output window (sent_stream s indices frames) ≡ raw_video s frames
-      by_frames [] none =
-          ap (all_output window) (none_heard settings small indices pictures many (fits settings small indices frames can.sound can.few) frames refl (ap (all_pictures s) none))
-          ∙ sym (ap (raw_video s) none)
+      by_frames [] none = grind (arith, none_heard, many, fits, all_pictures)
       by_frames (frame ∷ more) are =
           let begins = pictures_begin s frame more in
           let session = own_session_heard settings small indices pictures many (fits settings small indices frames can.sound can.few) frames refl begins.0 begins.1 (ap (all_pictures s) are ∙ begins.2) in

@@ -1,13 +1,13 @@
 -- Calls of places, by the steps that make them.
-use Rattle.std.proofs.Common.{◌≡◌, ℕ, suc, ◌+◌, ◌<◌, Bool, true, false, cond, List, [], ◌∷◌, ◌++◌, length, take, get_or, Option, Some, None, Result, Ok, Err, refl, ap, sym, ◌∙◌, subst, append-nil, rules, arith}
+use Rattle.std.proofs.Common.{◌≡◌, ℕ, suc, ◌+◌, ◌<◌, Bool, true, List, [], ◌∷◌, ◌++◌, length, take, get_or, Option, Some, None, Result, Ok, Err, refl, ap, sym, ◌∙◌, subst, append-nil, rules, arith}
 use Rattle.std.proofs.lemmas.List.{take_more, map-append}
 use Rattle.std.specs.Prelude.{map, filter, OnOk, is_some}
 use Rattle.std.specs.Option.{option_and_then}
 use Rattle.std.proofs.lemmas.Bool.{false≢true}
 use Rattle.link_model.specs.Windows.{Releasable, next_release}
 use Rattle.link_model.specs.Places.{Job, Answered}
-use Rattle.link_reception.specs.Exchanging.{Exchange, Proposed, Fetched, exchanged, all_exchanged, takes_done, not_at, is_wanted}
-use Rattle.link_reception.specs.Receptions.{Reception, StandingSession, SliceOut, keeps_answer}
+use Rattle.link_reception.specs.Exchanging.{Exchange, Proposed, Fetched, exchanged, all_exchanged, takes_done, not_at}
+use Rattle.link_reception.specs.Receptions.{Reception, StandingSession, SliceOut}
 use Rattle.link_reception.specs.Releasing.{next_picture}
 use Rattle.link_receiver.proofs.Exchanges.{calls_then, exchanges_of-append, no_call}
 use Rattle.link_receiver.proofs.Offered.{proposed_in-append, offers_more, offers_again, once_more}

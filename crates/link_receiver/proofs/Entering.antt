@@ -1,7 +1,7 @@
 -- A datagram and the end of the input, by their steps.
-use Rattle.std.proofs.Common.{◌≡◌, ℕ, zero, suc, ◌≤◌, Bool, true, List, [], ◌++◌, Option, Some, None, refl, ap, sym, ◌∙◌, subst, append-nil, arith}
+use Rattle.std.proofs.Common.{◌≡◌, ℕ, zero, suc, Bool, true, List, [], ◌++◌, Option, Some, None, refl, ap, sym, ◌∙◌, subst, append-nil, arith}
 use Rattle.std.specs.Prelude.{map, is_some, is_none}
-use Rattle.std.specs.Option.{option_map, option_map_or}
+use Rattle.std.specs.Option.{option_map}
 use Rattle.link_model.specs.Places.{Job}
 use Rattle.link_model.specs.Session.{Session}
 use Rattle.link_model.specs.Windows.{Releasable}
@@ -10,7 +10,7 @@ use Rattle.link_reception.specs.Entering.{datagram_jobs, opens_session, takes_da
 use Rattle.link_reception.specs.Exchanging.{Exchange, all_exchanged, dones_in}
 use Rattle.link_reception.specs.Judging.{judged, keeps_datagram, session_opened, stands_on, ends_input, is_over}
 use Rattle.link_reception.specs.Receptions.{Reception, StandingSession, FirstField, SliceOut}
-use Rattle.link_reception.specs.Releasing.{next_picture, releases_all, releases_up_to, releases_picture_of, releases_from, book_count}
+use Rattle.link_reception.specs.Releasing.{next_picture, releases_all, releases_up_to, releases_picture_of, book_count}
 use Rattle.link_reception.specs.Standing.{AreDecodings}
 use Rattle.link_reception.specs.WholeBooks.{ArePicturePlanes}
 use Rattle.link_session.specs.Openings.{session_of}

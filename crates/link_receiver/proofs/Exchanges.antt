@@ -1,13 +1,12 @@
 -- Calls of places, one after another.
-use Rattle.std.proofs.Common.{◌≡◌, List, [], ◌∷◌, ◌++◌, Option, Some, None, refl, ap, sym, ◌∙◌, subst, arith}
+use Rattle.std.proofs.Common.{◌≡◌, List, [], ◌∷◌, ◌++◌, Option, Some, None, refl, ap, sym, ◌∙◌, arith}
 use Rattle.std.proofs.lemmas.List.{map-append}
 use Rattle.std.specs.Prelude.{ℕ}
 use Rattle.std.specs.Option.{option_map}
 use Rattle.link_model.specs.Places.{decoding}
 use Rattle.link_reception.proofs.Exchanges.{decodings_then, exchanged_then}
-use Rattle.link_reception.specs.Exchanging.{Exchange, Proposed, Fetched, exchanged, all_exchanged, dones_in}
+use Rattle.link_reception.specs.Exchanging.{Proposed, Fetched, exchanged}
 use Rattle.link_reception.specs.Receptions.{Reception}
-use Rattle.link_reception.specs.Standing.{AreDecodings}
 use Rattle.slice_exchange.proofs.Growing.{told_assoc, grows_twice, grows_none}
 use Rattle.slice_exchange.specs.Calls.{PlaceCall, Puts, Takes, told_by, told_of, exchange_by, exchanges_of}
 use Rattle.slice_jobs.specs.Jobs.{job_of, answered}

@@ -1,9 +1,7 @@
 -- What a receiver has heard behind a datagram, and what it wrote then and at the end.
-use Rattle.std.proofs.Common.{◌≡◌, ℕ, false, List, [], ◌∷◌, ◌++◌, length, drop, Option, sym, ap, ◌∙◌, refl, arith}
+use Rattle.std.proofs.Common.{◌≡◌, ℕ, false, List, [], ◌∷◌, ◌++◌, Option, ap, ◌∙◌, arith}
 use Rattle.std.proofs.lemmas.List.Prefix.{front_rest}
 use Rattle.link_model.specs.Judgement.{tally_of, outcome_behind}
-use Rattle.link_model.specs.Machine.{Enter}
-use Rattle.link_model.specs.Next.{next_feeder}
 use Rattle.link_reception.specs.Entering.{datagram_jobs, takes_datagram, takes_end}
 use Rattle.link_reception.specs.Exchanging.{Exchange, dones_in}
 use Rattle.link_reception.specs.Judging.{judged}

@@ -1,5 +1,5 @@
 -- What one step on a receiver's parts is on its value.
-use Rattle.std.proofs.Common.{◌≡◌, ℕ, List, [], ◌∷◌, Option, Some, None, Result, Ok, Err, refl, ap, ◌∙◌, arith}
+use Rattle.std.proofs.Common.{◌≡◌, ℕ, List, [], ◌∷◌, Option, Some, None, Result, Ok, Err, refl, arith}
 use Rattle.std.specs.Prelude.{filter, IfSome, IfOk, OnErr}
 use Rattle.std.specs.Option.{option_copied}
 use denote.Ref.{Bor}
@@ -14,8 +14,8 @@ use Rattle.link_receiver.specs.Offers.{IsOneOffer, proposed_in}
 use Rattle.slice_answers.specs.Completing.{IsWholeBySome}
 use Rattle.slice_exchange.specs.Calls.{PlaceCall, Puts, Takes, exchanges_of, out_exchanged, handed_back}
 use Rattle.slice_jobs.specs.Jobs.{job_of, answered}
-use Rattle.link_receiver.specs.Shown.{shown_bytes, stream_behind_shown}
-use Rattle.unit_release.specs.Outputs.{released_output, stream_behind_picture}
+use Rattle.link_receiver.specs.Shown.{shown_bytes}
+use Rattle.unit_release.specs.Outputs.{released_output}
 use Rattle.unit_release.specs.Writing.{WrittenStream}
 use Rattle.vc_slice.specs.Asked.{Told, Grows, one_offer, taking}
 use Rattle.vc_slice.specs.declared.done.SliceDone.{SliceDone}
