@@ -1,25 +1,22 @@
 -- Frames by the windows of the sessions are those that the feeder builds.
 use Rattle.std.proofs.Common.{◌≡◌, ℕ, ◌≤◌, Bool, true, false, cond, List, [], ◌∷◌, Option, Some, None, arith}
 use Rattle.std.proofs.Common.{Result, Ok, Err, refl, ap, sym, subst, ◌∙◌}
-use Rattle.std.specs.Prelude.{◌==◌, ◌&&◌, take}
-use Rattle.std.specs.Option.{option_and_then, option_map, option_map_or}
-use Rattle.std.proofs.lemmas.Bool.{false≢true, and_parts}
-use Rattle.std.proofs.Common.{eqb-true}
+use Rattle.std.specs.Prelude.{take}
+use Rattle.std.specs.Option.{option_and_then, option_map_or}
 use Rattle.std.proofs.lemmas.Option.{same_Some, none-some}
-use Rattle.link_core.specs.Frames.{plan_planes, answered_book_planes, window_planes, window_bytes}
+use Rattle.link_core.specs.Frames.{answered_book_planes, window_planes, window_bytes}
 use Rattle.link_core.specs.Frames.{sessions_bytes, IsAnswered, HasAnsweredBooks}
 use Rattle.link_core.specs.Hearing.{SessionWindow, session_windows, session_among}
 use Rattle.link_core.proofs.HeardSessions.{IsSessionOf, IsFound, session_found}
 use Rattle.link_core.proofs.KeptBooks.{plan_of_kept, plan_of_none}
 use Rattle.link_model.specs.Books.{book_of, book_plan}
 use Rattle.link_model.specs.Feeders.{SliceAnswer, EnteredSession, session_opening, keeps_of, kept_job}
-use Rattle.link_model.specs.Feeders.{answer_in, entered_session}
-use Rattle.link_model.specs.Feeding.{built_bytes, built_planes, planes_by, frame_of}
+use Rattle.link_model.specs.Feeders.{answer_in}
+use Rattle.link_model.specs.Feeding.{built_bytes, built_planes, planes_by}
 use Rattle.link_model.specs.Interleavings.{AreOwnAnswers}
-use Rattle.link_model.specs.Kept.{KeptParameters, kept_parameters, parameters_in, SplitParts, split_by}
-use Rattle.link_model.specs.Kept.{also_before, split_parts, Own, own_of, own}
-use Rattle.link_model.specs.Numbers.{is_opened, parts_of, has_parts}
-use Rattle.link_model.specs.Output.{entered_behind, raw_bytes}
+use Rattle.link_model.specs.Kept.{KeptParameters, kept_parameters, parameters_in, SplitParts}
+use Rattle.link_model.specs.Kept.{split_parts, Own, own}
+use Rattle.link_model.specs.Numbers.{is_opened, parts_of}
 use Rattle.link_model.specs.Places.{Job, decoding}
 use Rattle.link_model.specs.Session.{HeardSession, Part, ParamsPart, SlicesPart}
 use Rattle.link_model.proofs.Leaving.{no_parts}

@@ -1,21 +1,13 @@
 -- A completion with the job that is held isn't refused.
-use Rattle.std.proofs.Common.{◌≡◌, ℕ, Bool, true, false, cond, List, Some, None, Ok, Err, arith}
-use Rattle.std.proofs.Common.{refl, ap, sym, ◌∙◌, eq-eqb}
-use Rattle.std.specs.Prelude.{◌&&◌, ◌==◌, bytes_eq}
-use Rattle.std.proofs.lemmas.Bool.{and_from}
-use Rattle.std.proofs.lemmas.Option.{same_Some, none-some}
-use Rattle.std.proofs.lemmas.Slice.Eq.{bytes_eq-Decides}
-use Rattle.link_model.specs.Feeding.{is_same_job}
-use Rattle.link_model.specs.Places.{Job, Content, Nothing, Offered, Claimed, Decoded, JobPlace, place_at}
+use Rattle.std.proofs.Common.{◌≡◌, ℕ, List, Some, Ok, Err, arith}
+use Rattle.std.proofs.Common.{sym, ◌∙◌}
+use Rattle.link_model.specs.Places.{Job, JobPlace, place_at}
 use Rattle.link_model.proofs.SameJobs.{same_itself}
-use Rattle.slice_ring.specs.Calls.{Completed, completing_by, completing_job, complete_answer, stale}
-use Rattle.slice_ring.specs.Calls.{held_in, held_with}
+use Rattle.slice_ring.specs.Calls.{Completed, complete_answer}
+use Rattle.slice_ring.specs.Calls.{held_with}
 use Rattle.slice_ring.specs.declared.answers.CompleteRefusal.{CompleteRefusal}
-use Rattle.slice_ring.specs.declared.answers.CompleteRefusal.TheVariants.{Other}
 use Rattle.slice_jobs.specs.Jobs.{job_of}
 use Rattle.vc_slice.specs.declared.done.SliceDone.{SliceDone}
-use Rattle.vc_types.specs.SameValues.{same_parameters}
-use Rattle.vc_types.proofs.SameValues.{parameters_exactly}
 
 module _ (places : List JobPlace) (place serial : ℕ) (done : SliceDone) (job : Job) where
   abbrev there : JobPlace

@@ -1,19 +1,19 @@
 -- Windows of sessions go on as sessions do, and have the book of each picture that is opened.
 use Rattle.std.proofs.Common.{◌≡◌, ℕ, ◌+◌, ◌-◌, ◌^◌, ◌<◌, Bool, true, false, cond, List, [], ◌∷◌, ◌++◌}
-use Rattle.std.proofs.Common.{length, Option, Some, None, refl, ap, sym, subst, ◌∙◌, arith, inl, inr}
+use Rattle.std.proofs.Common.{length, Option, Some, None, refl, ap, sym, subst, ◌∙◌, arith}
 use Rattle.std.specs.Prelude.{◌&&◌, ◌||◌, not, nat_le, fold, is_some, slice_index_or, take}
 use Rattle.std.specs.Option.{option_map_or}
-use Rattle.std.proofs.lemmas.Bool.{cases_Bool, false≢true, leb-false, or_parts}
+use Rattle.std.proofs.lemmas.Bool.{leb-false, or_parts}
 use Rattle.std.proofs.lemmas.List.{take_more}
 use Rattle.link_model.specs.Books.{Book, book_of}
 use Rattle.link_model.specs.Feeders.{EnteredSession, entered_session, session_opening}
-use Rattle.link_model.specs.Numbers.{Numbered, greatest, base_above, enters, is_closed}
-use Rattle.link_model.specs.Numbers.{is_late, is_opened, parts_of, picture_number}
+use Rattle.link_model.specs.Numbers.{Numbered, greatest, enters, is_closed}
+use Rattle.link_model.specs.Numbers.{is_late, is_opened, parts_of}
 use Rattle.link_model.specs.Output.{greatest_of, entered_behind}
 use Rattle.link_model.specs.Session.{Session, Fragment, HeardSession, just_opened, opens_next}
 use Rattle.link_model.specs.Session.{with_datagram, last_with, hears, begins, ends, fragment_in}
 use Rattle.link_model.specs.Session.{sessions_of}
-use Rattle.link_model.specs.Windows.{Window, StandsForPast, session_past, window_of, new_window}
+use Rattle.link_model.specs.Windows.{Window, StandsForPast, session_past, window_of}
 use Rattle.link_model.specs.Windows.{book_at}
 use Rattle.link_model.proofs.Hearing.{sessions_of_more}
 use Rattle.link_model.proofs.Numbering.{late_changes_nothing, early_enters, greatest-append}

@@ -1,16 +1,14 @@
 -- The books of pictures have what the pictures keep.
-use Rattle.std.proofs.Common.{◌≡◌, ℕ, ◌<◌, Bool, true, false, cond, List, [], ◌∷◌, length, Option, Some, arith}
-use Rattle.std.proofs.Common.{None, Result, Ok, Err, refl, ap, sym, subst, ◌∙◌, inl, inr}
+use Rattle.std.proofs.Common.{◌≡◌, ℕ, ◌<◌, Bool, true, cond, List, [], ◌∷◌, length, Option, Some, arith}
+use Rattle.std.proofs.Common.{None, Result, Ok, Err, refl, ap, sym, subst, ◌∙◌}
 use Rattle.std.specs.Prelude.{IfOk}
 use Rattle.std.specs.Option.{option_and_then, option_map}
-use Rattle.std.proofs.lemmas.Bool.{cases_lt}
 use Rattle.std.proofs.lemmas.Option.{same_Some, none-some}
 use Rattle.link_model.specs.Books.{Book, book_of, book_by, book_plan, book_slice}
-use Rattle.link_model.specs.Feeders.{EnteredSession, entered_session, session_opening, keeps_of}
+use Rattle.link_model.specs.Feeders.{EnteredSession, session_opening}
 use Rattle.link_model.specs.Feeders.{job_by, kept_job}
 use Rattle.link_model.specs.Kept.{KeptParameters, Own, own, own_slice}
 use Rattle.link_model.specs.Numbers.{is_opened, parts_of}
-use Rattle.link_model.specs.Output.{entered_behind}
 use Rattle.link_model.specs.Session.{HeardSession, Part}
 use Rattle.link_model.specs.Windows.{book_at}
 use Rattle.link_model.proofs.Bookkeeping.{book_slice_is}
@@ -18,7 +16,7 @@ use Rattle.link_model.proofs.Slots.{own_slice_inside}
 use Rattle.link_model.proofs.WholeBytes.{own_slice_whole}
 use Rattle.link_core.proofs.HeardSessions.{IsFound, session_found}
 use Rattle.link_core.specs.Hearing.{SessionWindow, session_windows, AreHeard, session_among, book_among}
-use Rattle.link_core.specs.Pictures.{IsPictureBook, job_of_slice, job_in_book}
+use Rattle.link_core.specs.Pictures.{IsPictureBook, job_in_book}
 use Rattle.vc_types.specs.PictureBytes.{IsWholeSlice}
 use Rattle.vc_types.specs.SequenceHeader.{Sequence}
 use Rattle.vc_types.specs.Slices.{slice_length}

@@ -3,15 +3,15 @@ use Rattle.std.proofs.Common.{◌≡◌, ℕ, ◌-◌, ◌^◌, ◌<◌, Bool, t
 use Rattle.std.proofs.Common.{Option, Some, None, refl, ap, sym, subst, ◌∙◌, arith}
 use Rattle.std.specs.Prelude.{not, slice_get, slice_index_or, length}
 use Rattle.std.specs.List.{remove}
-use Rattle.std.specs.Option.{option_and_then, option_map, option_or}
+use Rattle.std.specs.Option.{option_map, option_or}
 use Rattle.std.proofs.lemmas.Bool.{leb-false}
-use Rattle.std.proofs.lemmas.Option.{same_Some, none-some}
+use Rattle.std.proofs.lemmas.Option.{none-some}
 use Rattle.link_model.specs.Feeders.{is_among, not_released, heard_pictures, let_go_pictures}
 use Rattle.link_model.specs.Session.{HeardSession}
 use Rattle.link_model.specs.Windows.{NumberedBook, Window, Releasable, WindowPast, StandsForPast}
-use Rattle.link_model.specs.Windows.{released_up_to, first_unreleased, if_let_go, next_release}
+use Rattle.link_model.specs.Windows.{released_up_to, first_unreleased, next_release}
 use Rattle.link_model.specs.Windows.{as_releasable, first_of, releasable_numbers, past_releases}
-use Rattle.link_model.specs.Windows.{session_past, window_of, let_go_in, releasable_by}
+use Rattle.link_model.specs.Windows.{session_past, window_of}
 use Rattle.link_model.proofs.WindowStands.{next_is, releasable_next}
 use Rattle.link_core.proofs.HeardSessions.{unreleased_stands}
 use Rattle.link_core.specs.Hearing.{SessionWindow, session_windows}

@@ -1,24 +1,24 @@
 -- Whether a picture is closed, and whether it is ready, by the windows of the sessions.
-use Rattle.std.proofs.Common.{◌≡◌, ℕ, ◌+◌, Bool, true, false, cond, List, [], ◌∷◌, Option, Some, None, arith}
+use Rattle.std.proofs.Common.{◌≡◌, ℕ, ◌+◌, Bool, true, false, List, [], ◌∷◌, Option, Some, None, arith}
 use Rattle.std.proofs.Common.{refl, ap, sym, ◌∙◌}
-use Rattle.std.specs.Prelude.{◌||◌, not, nat_le, is_some}
-use Rattle.std.specs.Option.{option_and_then, option_map, option_map_or}
-use Rattle.link_model.specs.Books.{Book, book_of, book_plan}
-use Rattle.link_model.specs.Complete.{has_all_slices, all_bytes, whole_of, whole_picture}
-use Rattle.link_model.specs.Feeders.{SliceAnswer, EnteredSession, entered_session, session_opening}
-use Rattle.link_model.specs.Feeders.{keeps_of, picture_keeps, kept_job, is_ready}
-use Rattle.link_model.specs.Kept.{Own, own}
-use Rattle.link_model.specs.Numbers.{Numbered, greatest, is_closed, is_opened, parts_of}
-use Rattle.link_model.specs.Output.{entered_behind, greatest_of, is_opened_in, is_closed_in}
+use Rattle.std.specs.Prelude.{◌||◌, nat_le, is_some}
+use Rattle.std.specs.Option.{option_map, option_map_or}
+use Rattle.link_model.specs.Books.{Book, book_of}
+use Rattle.link_model.specs.Complete.{whole_picture}
+use Rattle.link_model.specs.Feeders.{SliceAnswer, EnteredSession, session_opening}
+use Rattle.link_model.specs.Feeders.{picture_keeps, kept_job, is_ready}
+use Rattle.link_model.specs.Kept.{own}
+use Rattle.link_model.specs.Numbers.{Numbered, is_closed, is_opened, parts_of}
+use Rattle.link_model.specs.Output.{entered_behind, is_opened_in, is_closed_in}
 use Rattle.link_model.specs.Places.{Job}
 use Rattle.link_model.specs.Session.{HeardSession, Part}
-use Rattle.link_model.specs.Windows.{greatest_behind, session_past, window_of}
+use Rattle.link_model.specs.Windows.{session_past, window_of}
 use Rattle.link_model.proofs.Bookkeeping.{book_whole_is}
 use Rattle.link_model.proofs.PicturesHeard.{session_before, session_opened}
 use Rattle.link_model.proofs.PicturesStay.{kept_slice}
 use Rattle.link_core.proofs.KeptBooks.{entered_book, book_among_is, plan_of_kept}
 use Rattle.link_core.specs.Hearing.{SessionWindow, session_windows, book_among, closed_among}
-use Rattle.link_core.specs.Pictures.{book_ready, answers_plan}
+use Rattle.link_core.specs.Pictures.{book_ready}
 use Rattle.vc_types.specs.SequenceHeader.{Sequence}
 
 -- ---- closed

@@ -1,6 +1,5 @@
 -- A loop over numbers that asks whether all of them pass.
-use Rattle.std.proofs.Common.{◌≡◌, ℕ, suc, ◌+◌, ◌-◌, ◌<◌, Bool, true, false, ◌∷◌, ap, sym, ◌∙◌, arith}
-use Rattle.std.specs.Prelude.{◌&&◌}
+use Rattle.std.proofs.Common.{◌≡◌, ℕ, ◌+◌, ◌-◌, ◌<◌, Bool, true, arith}
 use Rattle.std.specs.List.{list_all, range_with_len}
 use Rattle.link_model.proofs.Ranges.{range_step}
 

@@ -3,19 +3,17 @@ use Rattle.std.proofs.Common.{◌≡◌, ℕ, zero, suc, ◌+◌, ◌-◌, ◌<�
 use Rattle.std.proofs.Common.{Result, Ok, Err, refl, ap, sym, subst, ◌∙◌, arith}
 use Rattle.std.specs.Prelude.{slice_index_or}
 use Rattle.std.specs.List.{range_with_len}
-use Rattle.std.specs.Option.{option_and_then, option_map}
-use Rattle.std.proofs.lemmas.List.{append_assoc, append-nil}
+use Rattle.std.specs.Option.{option_map}
+use Rattle.std.proofs.lemmas.List.{append_assoc}
 use Rattle.std.proofs.lemmas.Option.{same_Some, none-some}
 use Rattle.link_model.proofs.Ranges.{range_step}
-use Rattle.link_core.specs.Frames.{plan_planes, answered_book_planes, IsAnswered, IsAnsweredBook}
+use Rattle.link_core.specs.Frames.{IsAnswered, IsAnsweredBook}
 use Rattle.link_model.specs.Books.{Book, book_plan}
 use Rattle.link_model.specs.Feeders.{SliceAnswer, answer_in}
 use Rattle.link_model.specs.Feeding.{sound_answer, sound_answers, with_first}
 use Rattle.link_model.specs.Kept.{KeptParameters}
 use Rattle.picture_build.specs.PictureCoefficients.{ArePictureCoefficients}
-use Rattle.vc_types.specs.Planes.{Planes, planes_of}
 use Rattle.vc_types.specs.SequenceHeader.{Sequence, picture_shape}
-use Rattle.vc_types.specs.SliceCoefficients.{AreSliceCoefficients}
 use Rattle.vc_types.specs.Slices.{Coefficients}
 use Rattle.vc_types.specs.Subbands.{slice_count}
 use Rattle.vc_types.specs.TransformParameters.{Parameters}

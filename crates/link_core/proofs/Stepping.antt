@@ -10,7 +10,7 @@ use Rattle.link_model.specs.Feeding.{takes_answer, with_answer}
 use Rattle.link_model.specs.Interleavings.{AreOwnAnswers}
 use Rattle.link_model.specs.Machine.{Machine, Event, IsLegal, AreLegal, conditions}
 use Rattle.link_model.specs.Machine.{happens, run, new_machine}
-use Rattle.link_model.specs.Machine.{Put, Take, Redo, takes_from}
+use Rattle.link_model.specs.Machine.{Put, Take, Redo}
 use Rattle.link_model.specs.Places.{Job, Answered, own_answer, Content, Nothing, Offered, Claimed}
 use Rattle.link_model.specs.Places.{Decoded, JobPlace, place_at, may_put, stands_in, puts_job}
 use Rattle.link_model.specs.Places.{frees_place}
