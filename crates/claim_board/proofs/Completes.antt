@@ -1,29 +1,23 @@
 -- A worker's completion keeps the rule.
-use Rattle.std.proofs.Common.{◌≡◌, ◌≢◌, ℕ, zero, suc, ◌+◌, ◌*◌, ◌/◌, ◌%◌, ◌^◌, ◌<◌, ◌≤◌, Bool, true, false, cond, List, [], ◌∷◌, ◌⊎◌, length, get_or, set, sym, refl, ap, ◌∙◌, subst, inl, inr, ⊎_elim, arith, length-set, get_or-set_other, get_or-set_same, eqb, eq-eqb, ne_eqb, ◌&&◌}
-use Rattle.std.specs.Prelude.{IfSome, Option, None, Some}
+use Rattle.std.proofs.Common.{◌≡◌, ℕ, ◌+◌, ◌*◌, ◌<◌, true, false, cond, List, [], ◌∷◌, length, get_or, set, sym, refl, ap, ◌∙◌, subst, arith, length-set, get_or-set_other, get_or-set_same, eqb, eq-eqb, ne_eqb, ◌&&◌}
+use Rattle.std.specs.Prelude.{Some}
 use mathlib.Core.Logic.{dite}
-use mathlib.Core.Option.{some, none, some-injective, some-ne-none}
-use mathlib.Core.Option as maybe
+use mathlib.Core.Option.{some, none}
 use native.Mathlib.Decide.{ℕ_discrete}
 use lib.ListN.{get_elem?}
-use lib.Seq.{set-get_or}
-use prog.Atomic.{either}
-use Rattle.atomic_table.specs.Table.{State, step, Act, keeps, takes, gives, Valid, carried_after, homes_after, stepped, Allows}
-use Rattle.atomic_table.proofs.Lists.{at_set, set_here, set_else, exchanged}
-use Rattle.vc_slice.specs.declared.job.SliceJob.{SliceJob}
+use Rattle.atomic_table.specs.Table.{step, gives, Allows}
+use Rattle.atomic_table.proofs.Lists.{set_here, set_else}
 use Rattle.claim_board.proofs.Sums.{holds_of-cons, term-le-sum_by}
 use Rattle.vc_slice.specs.declared.done.SliceDone.{SliceDone}
-use Rattle.claim_board.proofs.Keeps.{past_more, goes, first_in, still_feeds, looks, unclaimed, waiting_phase, held_phase, finished_phase}
+use Rattle.claim_board.proofs.Keeps.{past_more, goes, still_feeds, held_phase}
 use Rattle.claim_board.specs.Views.{SeatView}
 use Rattle.link_model.specs.declared.board.Lane.{Lane}
-use Rattle.link_model.specs.declared.board.Seen.{Seen}
 use Rattle.link_model.specs.declared.board.Hold.{Hold}
-use Rattle.claim_board.specs.declared.cargo.Cargo.TheVariants.{Waiting, Finished}
+use Rattle.claim_board.specs.declared.cargo.Cargo.TheVariants.{Finished}
 use Rattle.claim_board.specs.Counts.{holds_of}
-use Rattle.std.specs.List.{sum_by}
-use Rattle.claim_board.specs.Rule.{Slot, BoardState, Phase, fresh, empty, waiting, held, finished, phase_number, lane_of, home_of, IsAt, HasPhase, IsNotAhead, holders, BoardRule}
-use Rattle.link_model.specs.Board.{lane, lane_at, hold, seen, after_load, after_put, after_claim, after_complete, after_return, without}
-use Rattle.claim_board.specs.Plays.{SeatState, tells_load, tells_put, tells_claim, tells_complete, tells_take, tells_withdraw}
+use Rattle.claim_board.specs.Rule.{Slot, BoardState, finished, lane_of, holders, BoardRule}
+use Rattle.link_model.specs.Board.{lane, after_complete, without}
+use Rattle.claim_board.specs.Plays.{SeatState, tells_complete}
 
 -- taking one pair away
 without_counts : (p t : ℕ) (hs : List Hold) → 0 < holds_of p t hs → (q u : ℕ) → holds_of q u (without p t hs) + cond ((eqb p q) && (eqb t u)) 1 0 ≡ holds_of q u hs

@@ -1,7 +1,7 @@
 -- The slots of a seat, as they turn.
-use Rattle.std.proofs.Common.{◌≡◌, ℕ, zero, suc, ◌+◌, ◌<◌, ◌≤◌, List, [], ◌∷◌, ◌++◌, length, get_or, take, drop, refl, sym, ap, ◌∙◌, arith, append_assoc, append-nil, add-one, ◌≢◌, ne_eqb, eqb, cond}
+use Rattle.std.proofs.Common.{◌≡◌, ℕ, suc, ◌+◌, ◌<◌, List, [], ◌∷◌, ◌++◌, length, get_or, take, drop, refl, sym, ap, ◌∙◌, arith, append_assoc, ◌≢◌, ne_eqb, eqb, cond}
 use Rattle.std.specs.Prelude.{None}
-use Rattle.std.proofs.lemmas.List.{drop_more, take_more}
+use Rattle.std.proofs.lemmas.List.{drop_more, take-append-drop, take_more}
 use Rattle.atomic_table.specs.Table.{turned}
 use Rattle.std.proofs.lemmas.List.Sums.{sum_by-append}
 use Rattle.claim_board.proofs.Sums.{occurrences-cons}
@@ -32,12 +32,7 @@ pub occurs_none : (p : ℕ) (xs : List ℕ) → ((k : ℕ) → k < length xs →
 occurs_none p [] h = refl
 occurs_none p (x ∷ xs) h = rw (occurrences-cons p x xs, ne_eqb x p (h 0 (omega arith))) (omega (arith, occurs_none p xs (λ k l. h (suc k) (omega arith))))
 
-take_drop : (k : ℕ) (xs : List ℕ) → take k xs ++ drop k xs ≡ xs
-take_drop zero xs = refl
-take_drop (suc k) [] = refl
-take_drop (suc k) (x ∷ xs) = ap (λ l. x ∷ l) (take_drop k xs)
-
 pub occurs_turned : (q k : ℕ) (xs : List ℕ) → occurrences q (drop k xs ++ take k xs) ≡ occurrences q xs
 occurs_turned q k xs =
     let f : ℕ → ℕ = λ x. cond (eqb x q) 1 0 in
-    omega (arith, sum_by-append f (drop k xs) (take k xs), sum_by-append f (take k xs) (drop k xs), ap (sum_by f) (take_drop k xs))
+    omega (arith, sum_by-append f (drop k xs) (take k xs), sum_by-append f (take k xs) (drop k xs), ap (sum_by f) (take-append-drop k xs))

@@ -1,5 +1,5 @@
 -- Different numbers below n are at most n.
-use Rattle.std.proofs.Common.{◌≡◌, ◌≢◌, ℕ, zero, suc, ◌+◌, ◌<◌, ◌≤◌, Bool, true, false, cond, List, [], ◌∷◌, length, sym, refl, ap, ◌∙◌, subst, arith, get_or, eqb, eq-eqb, ne_eqb}
+use Rattle.std.proofs.Common.{◌≡◌, ◌≢◌, ℕ, zero, suc, ◌+◌, ◌<◌, ◌≤◌, Bool, true, false, cond, List, [], ◌∷◌, length, sym, refl, ap, ◌∙◌, arith, eqb, eq-eqb, ne_eqb}
 use mathlib.Core.Logic.{dite}
 use native.Mathlib.Decide.{ℕ_discrete}
 use Rattle.link_model.specs.Board.{lane, lane_at}
@@ -7,6 +7,8 @@ use Rattle.claim_board.specs.Counts.{idle_count}
 use Rattle.claim_board.specs.Views.{SeatView}
 use Rattle.link_model.specs.declared.board.Lane.{Lane}
 use Rattle.claim_board.specs.Counts.{occurrences}
+use Rattle.std.proofs.lemmas.List.{get_or_past}
+use Rattle.claim_board.proofs.Idle.{out_is_not_idle}
 use Rattle.claim_board.proofs.Sums.{occurrences-cons}
 
 abbrev but : ℕ → List ℕ → List ℕ
@@ -27,9 +29,7 @@ occurs-but n p (x ∷ xs) ne = dite (ℕ_discrete x n)
 
 occurs-but_same : (n : ℕ) (xs : List ℕ) → occurrences n (but n xs) ≡ 0
 occurs-but_same n [] = refl
-occurs-but_same n (x ∷ xs) = dite (ℕ_discrete x n)
-    (λ e. rw (eq-eqb x n e) (occurs-but_same n xs))
-    (λ nf. rw (ne_eqb x n nf, occurrences-cons n x (but n xs), ne_eqb x n nf) (omega (arith, occurs-but_same n xs)))
+occurs-but_same n (x ∷ xs) = grind (arith, occurs-but_same n xs)
 
 none_at_all : (xs : List ℕ) → ((p : ℕ) → occurrences p xs ≡ 0) → length xs ≡ 0
 none_at_all [] h = refl
@@ -49,7 +49,7 @@ room_left v xs n most p wide idle room out h =
     let l = few n (p ∷ xs)
     (λ q above. let none : idle_count (lane_at v q) ≡ 0 = past q above in let e = idle q in rw (occurrences-cons q p xs, ne_eqb p q (λ x. omega arith)) (omega arith))
     (λ q. dite (ℕ_discrete p q)
-    (λ e. let z : occurrences q xs ≡ 0 = idle q ∙ (ap (λ k. idle_count (lane_at v k)) (sym e) ∙ gone (lane_at v p) out) in rw (occurrences-cons q p xs, eq-eqb p q e) (omega arith))
+    (λ e. let z : occurrences q xs ≡ 0 = idle q ∙ (ap (λ k. idle_count (lane_at v k)) (sym e) ∙ out_is_not_idle (lane_at v p) out) in rw (occurrences-cons q p xs, eq-eqb p q e) (omega arith))
     (λ ne. let o = at_most (lane_at v q) in let e = idle q in rw (occurrences-cons q p xs, ne_eqb p q ne) (omega arith))) in
     omega arith
   where
@@ -61,17 +61,5 @@ room_left v xs n most p wide idle room out h =
         fetched true false = omega arith
         fetched false c = omega arith
 
-    gone : (l : Lane) → l.is_out ≡ true → idle_count l ≡ 0
-    gone l e = let P : Bool → Type 0 = λ b. cond {A = ℕ} l.is_fetched (cond {A = ℕ} b 0 1) 0 ≡ 0 in subst P (sym e) (flat l.is_fetched)
-      where
-        flat : (b : Bool) → cond {A = ℕ} b 0 0 ≡ 0
-        flat true = refl
-        flat false = refl
-
     past : (q : ℕ) → n ≤ q → idle_count (lane_at v q) ≡ 0
-    past q above = ap idle_count (beyond v.lanes q (omega arith))
-      where
-        beyond : (ls : List Lane) (q : ℕ) → length ls ≤ q → get_or ls q (lane 0 false false) ≡ lane 0 false false
-        beyond [] q h = refl
-        beyond (x ∷ ls) zero h = absurd (omega arith)
-        beyond (x ∷ ls) (suc q) h = beyond ls q (omega arith)
+    past q above = ap idle_count (get_or_past v.lanes q (lane 0 false false) (omega arith))

@@ -1,5 +1,5 @@
 -- The empty places, whose slots are with the feeder.
-use Rattle.std.proofs.Common.{◌≡◌, refl, ◌≢◌, ℕ, ◌+◌, ◌<◌, cond, true, false, Bool, List, ◌∷◌, length, get_or, set, sym, ap, ◌∙◌, subst, arith, eqb, eq-eqb, ne_eqb, get_or-set_other, get_or-set_same, drop}
+use Rattle.std.proofs.Common.{◌≡◌, refl, ℕ, ◌+◌, ◌<◌, cond, true, false, List, ◌∷◌, length, get_or, set, sym, ap, ◌∙◌, arith, eqb, eq-eqb, ne_eqb, get_or-set_other, get_or-set_same, drop}
 use mathlib.Core.Logic.{dite}
 use native.Mathlib.Decide.{ℕ_discrete}
 use Rattle.link_model.specs.Board.{lane, lane_at, after_put, after_return}
@@ -13,27 +13,13 @@ pub popped : (q p : ℕ) (old front new : List ℕ) → ((rest : List ℕ) × (f
     → occurrences q old ≡ cond (eqb p q) 1 0 + occurrences q new
 popped q p old front new f e same = sym same ∙ (ap (occurrences q) f.1 ∙ (occurrences-cons q p f.0 ∙ ap (λ (l : List ℕ). cond (eqb p q) 1 0 + occurrences q l) (sym (e ∙ ap (drop 1) f.1))))
 
-out_is_not_idle : (l : Lane) → l.is_out ≡ true → idle_count l ≡ 0
-out_is_not_idle l e = subst (λ (b : Bool). cond {A = ℕ} l.is_fetched (cond {A = ℕ} b 0 1) 0 ≡ 0) (sym e) (flat l.is_fetched)
-  where
-    flat : (b : Bool) → cond {A = ℕ} b 0 0 ≡ 0
-    flat true = refl
-    flat false = refl
-
-in_is_idle : (l : Lane) → l.is_fetched ≡ true → l.is_out ≡ false → idle_count l ≡ 1
-in_is_idle l f e = rw (f, e) refl
+pub out_is_not_idle : (l : Lane) → l.is_out ≡ true → idle_count l ≡ 0
+out_is_not_idle l e = grind arith
 
 pub idle_put : (v : SeatView) (p q : ℕ) (xs ys : List ℕ) → p < length v.lanes → (lane_at v p).is_fetched ≡ true → (lane_at v p).is_out ≡ false
     → ((k : ℕ) → occurrences k xs ≡ idle_count (lane_at v k)) → occurrences q xs ≡ cond (eqb p q) 1 0 + occurrences q ys
     → occurrences q ys ≡ idle_count (lane_at (after_put v p) q)
-idle_put v p q xs ys h fetched empty idle less =
-    let new : Lane = lane ((lane_at v p).serial + 1) true true in
-    dite (ℕ_discrete p q)
-    (λ e. let now : idle_count (lane_at (after_put v p) q) ≡ 0 = ap (λ (k : ℕ). idle_count (lane_at (after_put v p) k)) (sym e) ∙ ap idle_count (get_or-set_same v.lanes p new (lane 0 false false) h) in
-    let was : occurrences q xs ≡ 1 = idle q ∙ (ap (λ (k : ℕ). idle_count (lane_at v k)) (sym e) ∙ in_is_idle (lane_at v p) fetched empty) in
-    let one : cond {A = ℕ} (eqb p q) 1 0 ≡ 1 = (rw (eq-eqb p q e) refl) in omega arith)
-    (λ ne. let now : idle_count (lane_at (after_put v p) q) ≡ idle_count (lane_at v q) = ap idle_count (get_or-set_other v.lanes p q new (lane 0 false false) (λ x. ne (sym x))) in
-    let was = idle q in let none : cond {A = ℕ} (eqb p q) 1 0 ≡ 0 = (rw (ne_eqb p q ne) refl) in omega arith)
+idle_put v p q xs ys h fetched empty idle less = grind (arith, get_or-set_same, get_or-set_other)
 
 pub idle_returned : (v : SeatView) (p q : ℕ) (xs : List ℕ) → p < length v.lanes → (lane_at v p).is_out ≡ true
     → ((k : ℕ) → occurrences k xs ≡ idle_count (lane_at v k)) → occurrences q (p ∷ xs) ≡ idle_count (lane_at (after_return v p) q)
@@ -57,9 +43,7 @@ idle_after_return v w p xs ys e more h out idle q = ap (occurrences q) more ∙ 
 
 -- a fact about each lane, where one lane was replaced
 pub lane_after : (v w : SeatView) (p q : ℕ) (new : Lane) (P : Lane → Type 0) → w.lanes ≡ set v.lanes p new → p < length v.lanes → P new → P (lane_at v q) → P (lane_at w q)
-lane_after v w p q new P e h here there = subst (λ (ls : List Lane). P (get_or ls q (lane 0 false false))) (sym e) (dite (ℕ_discrete p q)
-    (λ same. subst (λ (k : ℕ). P (get_or (set v.lanes p new) k (lane 0 false false))) same (subst P (sym (get_or-set_same v.lanes p new (lane 0 false false) h)) here))
-    (λ ne. subst P (sym (get_or-set_other v.lanes p q new (lane 0 false false) (λ x. ne (sym x)))) there))
+lane_after v w p q new P e h here there = grind (arith, get_or-set_same, get_or-set_other)
 
 pub lane_here : (v : SeatView) (p : ℕ) (new : Lane) (w : SeatView) → w.lanes ≡ set v.lanes p new → p < length v.lanes → lane_at w p ≡ new
 lane_here v p new w e h = ap (λ (ls : List Lane). get_or ls p (lane 0 false false)) e ∙ get_or-set_same v.lanes p new (lane 0 false false) h

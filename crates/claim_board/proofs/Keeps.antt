@@ -1,6 +1,6 @@
 -- Each step keeps the rule.
-use Rattle.std.proofs.Common.{◌≡◌, ◌≢◌, ℕ, zero, suc, ◌+◌, ◌-◌, ◌*◌, ◌/◌, ◌^◌, ◌<◌, ◌≤◌, Bool, true, false, cond, List, [], ◌∷◌, ◌⊎◌, length, get_or, set, sym, refl, ap, ◌∙◌, subst, inl, inr, ⊎_elim, arith, length-set, get_or-set_other, get_or-set_same, eqb, eq-eqb, ne_eqb}
-use Rattle.std.specs.Prelude.{IfSome, Option, None, Some}
+use Rattle.std.proofs.Common.{◌≡◌, ◌≢◌, ℕ, ◌+◌, ◌-◌, ◌*◌, ◌/◌, ◌^◌, ◌<◌, ◌≤◌, true, false, cond, List, [], ◌∷◌, length, get_or, set, sym, refl, ap, ◌∙◌, subst, ⊎_elim, arith, length-set, get_or-set_other, get_or-set_same, eqb, eq-eqb, ne_eqb}
+use Rattle.std.specs.Prelude.{Option, None, Some}
 use mathlib.Core.Logic.{dite}
 use mathlib.Core.Option.{some, none, some-injective, some-ne-none}
 use mathlib.Core.Option as maybe
@@ -8,7 +8,7 @@ use native.Mathlib.Decide.{ℕ_discrete}
 use lib.ListN.{get_elem?}
 use lib.Seq.{set-get_or}
 use prog.Atomic.{either}
-use Rattle.atomic_table.specs.Table.{State, step, Act, keeps, takes, gives, Valid, carried_after, homes_after, stepped, Allows}
+use Rattle.atomic_table.specs.Table.{step, Act, keeps, takes, gives, Valid, carried_after, stepped, Allows}
 use Rattle.atomic_table.proofs.Lists.{at_set, set_here, set_else, exchanged}
 use Rattle.vc_slice.specs.declared.job.SliceJob.{SliceJob}
 use Rattle.claim_board.proofs.Sums.{sum_by-set_at, holds_of-cons, term-le-sum_by}
@@ -17,22 +17,16 @@ use Rattle.claim_board.specs.Views.{SeatView, after_job}
 use Rattle.link_model.specs.declared.board.Lane.{Lane}
 use Rattle.link_model.specs.declared.board.Seen.{Seen}
 use Rattle.link_model.specs.declared.board.Hold.{Hold}
-use Rattle.claim_board.specs.declared.cargo.Cargo.TheVariants.{Waiting, Finished}
+use Rattle.claim_board.specs.declared.cargo.Cargo.TheVariants.{Waiting}
 use Rattle.claim_board.specs.Counts.{holds_of}
-use Rattle.std.specs.List.{sum_by}
-use Rattle.claim_board.specs.Rule.{Slot, BoardState, Phase, fresh, empty, waiting, held, finished, phase_number, lane_of, home_of, IsAt, HasPhase, IsNotAhead, holders, BoardRule}
-use Rattle.link_model.specs.Board.{lane, lane_at, hold, seen, after_load, after_put, after_claim, after_complete, after_return, without}
-use Rattle.claim_board.specs.Plays.{SeatState, tells_load, tells_put, tells_claim, tells_complete, tells_take}
+use Rattle.claim_board.specs.Rule.{Slot, BoardState, Phase, fresh, empty, waiting, held, finished, phase_number, lane_of, home_of, IsAt, IsNotAhead, holders, BoardRule}
+use Rattle.link_model.specs.Board.{lane, lane_at, hold, seen, after_load, after_put}
+use Rattle.claim_board.specs.Plays.{SeatState, tells_load, tells_put, tells_claim}
 
 -- what was after_load last stays no later than the word, where the word's serial rises
 pub past_more : (words : List ℕ) (p n : ℕ) → p < length words → get_or words p 0 / 4 ≤ n / 4 → (last : Option Seen) → IsNotAhead words last → IsNotAhead (set words p n) last
 past_more words p n h up None k = tt
-past_more words p n h up (Some l) k = dite (ℕ_discrete l.place p)
-    (λ e. let here = get_or-set_same words p n 0 h in
-    let same : get_or words l.place 0 ≡ get_or words p 0 = ap (λ i. get_or words i 0) e in
-    let now : get_or (set words p n) l.place 0 ≡ n = ap (λ i. get_or (set words p n) i 0) e ∙ here in
-    rw now (let k' : l.word / 4 ≤ get_or words p 0 / 4 = rw same at k in omega arith))
-    (λ ne. rw (get_or-set_other words p l.place n 0 ne) k)
+past_more words p n h up (Some l) k = grind (arith, get_or-set_same, get_or-set_other)
 
 -- the rule after a step of the seat id on the word p
 pub goes : (s : BoardState) (o : BoardRule s) (id : ℕ) (v w f : SeatView) (p n : ℕ) (hs : List (maybe.Option Slot))
@@ -72,14 +66,7 @@ first_in (x ∷ xs) f e = omega arith
 -- the feeder after a seat's step that changes no lane
 pub still_feeds : (s : BoardState) (o : BoardRule s) (id : ℕ) (v w : SeatView) → get_elem? s.views id ≡ some v → w.feeds ≡ v.feeds → w.lanes ≡ v.lanes
     → (f : SeatView) × (get_elem? (set s.views id w) 0 ≡ some f) × (f.feeds ≡ true) × (f.lanes ≡ o.feeder.lanes)
-still_feeds s o id v w me feeds lanes = dite (ℕ_discrete id 0)
-    (λ e. let same : v ≡ o.feeder = some-injective v o.feeder (sym me ∙ (ap (get_elem? s.views) e ∙ o.first)) in (
-      w,
-      subst (λ (k : ℕ). get_elem? (set s.views k w) 0 ≡ some w) (sym e) (set_here s.views 0 w (first_in s.views o.feeder o.first)),
-      feeds ∙ (ap (λ (x : SeatView). x.feeds) same ∙ o.feeds),
-      lanes ∙ ap (λ (x : SeatView). x.lanes) same,
-    ))
-    (λ ne. (o.feeder, set_else s.views id 0 w (λ e. ne (sym e)) ∙ o.first, o.feeds, refl))
+still_feeds s o id v w me feeds lanes = grind (arith, set_here, first_in, set_else)
 
 -- where a step leaves the word as it is, and the slots
 pub looks : (s : BoardState) (o : BoardRule s) (id i : ℕ) (m : SeatState) → get_elem? s.views id ≡ some m.0 → i < length s.words

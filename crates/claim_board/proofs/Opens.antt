@@ -1,31 +1,21 @@
 -- A new board, its fetches and its new seats.
-use Rattle.std.proofs.Common.{◌≡◌, ◌≢◌, ℕ, zero, suc, ◌+◌, ◌*◌, ◌/◌, ◌%◌, ◌^◌, ◌<◌, ◌≤◌, Bool, true, false, cond, List, [], ◌∷◌, ◌⊎◌, length, get_or, set, sym, refl, ap, ◌∙◌, subst, inl, inr, ⊎_elim, arith, length-set, get_or-set_other, get_or-set_same, ◌++◌, map, eqb, eq-eqb, ne_eqb}
-use Rattle.std.specs.Prelude.{IfSome, Option, None, Some, replicate}
+use Rattle.std.proofs.Common.{◌≡◌, ℕ, zero, suc, ◌+◌, ◌*◌, ◌<◌, true, false, List, [], ◌∷◌, length, get_or, set, sym, refl, ap, ◌∙◌, subst, ⊎_elim, arith, length-set, get_or-set_other, get_or-set_same, map, ne_eqb}
+use Rattle.std.specs.Prelude.{None, replicate}
 use Rattle.std.proofs.lemmas.List.{length-replicate}
 use Rattle.std.proofs.lemmas.List.Sums.{sum_by-append}
-use mathlib.Core.Logic.{dite}
 use mathlib.Core.Option.{some, none, some-injective, some-ne-none}
-use mathlib.Core.Option as maybe
-use native.Mathlib.Decide.{ℕ_discrete}
 use lib.ListN.{get_elem?}
 use lib.Seq.{set-get_or}
-use prog.Atomic.{either}
-use Rattle.atomic_table.specs.Table.{State, step, Act, keeps, takes, gives, Valid, carried_after, homes_after, stepped, opening, Allows, Splits}
-use Rattle.atomic_table.proofs.Lists.{at_longer, at_snoc, at_set, set_here, set_else, exchanged}
-use Rattle.vc_slice.specs.declared.job.SliceJob.{SliceJob}
+use Rattle.atomic_table.specs.Table.{step, takes, opening, Allows, Splits}
+use Rattle.atomic_table.proofs.Lists.{at_longer, at_snoc, at_set, set_here, set_else}
 use Rattle.claim_board.proofs.Sums.{sum_by-set_at}
-use Rattle.vc_slice.specs.declared.done.SliceDone.{SliceDone}
-use Rattle.claim_board.proofs.Keeps.{past_more, goes, first_in, still_feeds, looks, unclaimed, waiting_phase, held_phase, finished_phase}
+use Rattle.claim_board.proofs.Keeps.{past_more, goes, first_in}
 use Rattle.claim_board.specs.Views.{SeatView}
 use Rattle.link_model.specs.declared.board.Lane.{Lane}
-use Rattle.link_model.specs.declared.board.Seen.{Seen}
-use Rattle.link_model.specs.declared.board.Hold.{Hold}
-use Rattle.claim_board.specs.declared.cargo.Cargo.TheVariants.{Waiting, Finished}
 use Rattle.claim_board.specs.Counts.{holds_of}
-use Rattle.std.specs.List.{sum_by}
-use Rattle.claim_board.specs.Rule.{Slot, BoardState, Phase, fresh, empty, waiting, held, finished, phase_number, lane_of, home_of, IsAt, HasPhase, IsNotAhead, holders, BoardRule}
-use Rattle.link_model.specs.Board.{lane, lane_at, hold, seen, after_load, after_put, after_claim, after_complete, after_return, without, first_view, worker_view, after_step}
-use Rattle.claim_board.specs.Plays.{SeatState, tells_load, tells_put, tells_claim, tells_complete, tells_take, tells_withdraw, tells_fetch}
+use Rattle.claim_board.specs.Rule.{Slot, Phase, fresh, empty, waiting, held, finished, phase_number, lane_of, home_of, IsNotAhead, holders, BoardRule}
+use Rattle.link_model.specs.Board.{lane, lane_at, after_return, first_view, worker_view, after_step}
+use Rattle.claim_board.specs.Plays.{SeatState, tells_fetch}
 
 -- past the end, too
 get_replicate : {A : Type 0} (n p : ℕ) (x : A) → get_or (replicate n x) p x ≡ x

@@ -1,5 +1,5 @@
 -- What a call changes of its seat's view.
-use Rattle.std.specs.Prelude.{◌≡◌, ◌≢◌, ℕ, ◌<◌, ◌%◌, ◌∷◌, Some, false, true, List}
+use Rattle.std.specs.Prelude.{◌≡◌, ◌≢◌, ℕ, ◌<◌, ◌%◌, ◌∷◌, Some, false, true}
 use Rattle.link_model.specs.Board.{hold, lane, lane_at, seen, worker_view}
 use Rattle.vc_slice.specs.declared.job.SliceJob.{SliceJob}
 use Rattle.claim_board.specs.Views.{SeatView}

@@ -1,6 +1,6 @@
 -- What each step tells its caller: of the step, the seat before it, the word that was found, and
 -- the seat behind it.
-use Rattle.std.specs.Prelude.{◌≡◌, ◌≢◌, ◌⊎◌, ℕ, ◌+◌, ◌/◌, ◌%◌, ◌*◌, ◌≤◌, ◌^◌, List, [], ◌∷◌, true}
+use Rattle.std.specs.Prelude.{◌≡◌, ◌≢◌, ℕ, ◌+◌, ◌/◌, ◌%◌, ◌*◌, ◌≤◌, ◌^◌, List, [], ◌∷◌, true}
 use Rattle.std.specs.Prelude.{Some, None}
 use Rattle.atomic_table.specs.Table.{Me, Step, rest}
 use Rattle.vc_slice.specs.declared.job.SliceJob.{SliceJob}

@@ -1,7 +1,7 @@
 -- The numbers that a receiver gives the pictures of a sender: each is as far from the first as it was sent.
 use Rattle.std.proofs.Common.{◌≡◌, ◌<◌, ◌≤◌, ℕ, ◌+◌, ◌-◌, ◌%◌, ◌^◌, max, Bool, true, false, cond, List, [], ◌∷◌, ◌++◌, map, refl, sym, ap, ◌∙◌, subst, arith, All, inl, inr}
 use Rattle.std.specs.Prelude.{fold, filter, nat_le, ◌==◌}
-use Rattle.std.proofs.lemmas.Bool.{cases_Bool, cases_eq, cases_lt, both_ways, or_from, lt-leb, eq-eqb, ne_eqb}
+use Rattle.std.proofs.lemmas.Bool.{cases_Bool, cases_lt, both_ways, or_from, lt-leb, eq-eqb, ne_eqb}
 use Rattle.std.proofs.lemmas.List.{append_assoc, append-nil}
 use Rattle.std.proofs.lemmas.List.Elements.{All-head, All-tail, All-cons, All-nil, All-push}
 use Rattle.std.proofs.lemmas.List.Sums.{fold-append}
@@ -151,10 +151,8 @@ module _ (s : Sending) (IsPart : ℕ → Part → Type 0) where
     -- a number that is opened is that of a picture
     opened_is : (es : List Numbered) (number : ℕ) → All (IsEntry first) es → has_parts (parts_of number es) ≡ true → (j : ℕ) × (j < 2 ^ 31) × (number ≡ first + j)
     opened_is [] number all opened = absurd (both_ways (has_parts (parts_of number [])) (ap has_parts (unopened number)) opened)
-    opened_is (e ∷ es) number all opened = elim (cases_eq e.number number) [
-      | inl same ↦ (let own = All-head (IsEntry first) e es all in (own.picture, own.few, sym same ∙ own.number))
-      | inr other ↦ opened_is es number (All-tail (IsEntry first) e es all) (ap has_parts (sym (other_part number e es other)) ∙ opened)
-    ]
+    opened_is (e ∷ es) number all opened =
+        grind (arith, All-head, other_part, opened_is es number (All-tail (IsEntry first) e es all))
 
     pub opened_number : (es : List Numbered) (number j : ℕ) → All (IsEntry first) es → is_opened es number ≡ true → j < 2 ^ 31 → number % 2 ^ 32 ≡ number_bits s j → number ≡ first + j
     opened_number es number j all opened few same = grind (arith, numbers_apart, opened_is)
@@ -162,13 +160,7 @@ module _ (s : Sending) (IsPart : ℕ → Part → Type 0) where
     pub parts_are : (es : List Numbered) (j : ℕ) → All (IsEntry first) es → All (IsPart j) (parts_of (first + j) es)
     parts_are [] j all = subst (λ (l : List Part). All (IsPart j) l) (sym (unopened (first + j))) (All-nil (IsPart j))
     parts_are (e ∷ es) j all =
-        let own = All-head (IsEntry first) e es all in
-        let rest = parts_are es j (All-tail (IsEntry first) e es all) in
-        elim (cases_eq e.number (first + j)) [
-          | inl same ↦ (let picture : own.picture ≡ j = omega (arith, own.number, same) in
-              subst (λ (l : List Part). All (IsPart j) l) (sym (own_part (first + j) e es same)) (All-cons (IsPart j) e.part (parts_of (first + j) es) (subst (λ (n : ℕ). IsPart n e.part) picture own.part) rest))
-          | inr other ↦ subst (λ (l : List Part). All (IsPart j) l) (sym (other_part (first + j) e es other)) rest
-        ]
+        grind (arith, All-head, own_part, other_part, parts_are es j (All-tail (IsEntry first) e es all))
 
   -- ---- a fragment that comes before its picture closes
 
@@ -184,19 +176,12 @@ module _ (s : Sending) (IsPart : ℕ → Part → Type 0) where
 
     -- it isn't late
     early_in : (es : List Numbered) → first ≤ 2 ^ 33 → All (IsEntry first) es → is_closed window es own_number ≡ false → is_late window es (picture_number (2 ^ 32) es f.number) ≡ false
-    early_in [] low all unclosed =
-        let is = first_number (2 ^ 32) f.number in
-        not_late window [] (picture_number (2 ^ 32) [] f.number) (none_closed window (picture_number (2 ^ 32) [] f.number) some) (omega (arith, is, sent.number))
-    early_in (e ∷ es) low all unclosed =
-        let is = number_in e es all in
-        not_late window (e ∷ es) (picture_number (2 ^ 32) (e ∷ es) f.number) (ap (is_closed window (e ∷ es)) is ∙ unclosed) (omega (arith, is, low, sent.few))
+    early_in [] low all unclosed = grind (arith, first_number, not_late, none_closed)
+    early_in (e ∷ es) low all unclosed = grind (arith, number_in, not_late)
 
     -- its number is its picture's
     pub number_by : (es : List Numbered) → All (IsEntry first) es → IsEntry first (entry_in es) → picture_number (2 ^ 32) es f.number ≡ own_number
-    number_by [] all own =
-        let is = first_number (2 ^ 32) f.number in
-        let same : own.picture ≡ sent.picture = numbers_apart s own.picture sent.picture own.few sent.few (omega (arith, is, sent.number, own.number, bits)) in
-        own.number ∙ ap (λ (n : ℕ). first + n) same
+    number_by [] all own = grind (arith, first_number)
     number_by (e ∷ es) all own = number_in e es all
 
     module _ (low : first ≤ 2 ^ 33) (old more : List Fragment) where

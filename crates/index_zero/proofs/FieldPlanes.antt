@@ -80,9 +80,6 @@ module _ (s : Sending) (frame : Planes) (first : ℕ) where
   pub field_whole : AreWhole field
   field_whole = record { y = rows_whole first frame.y; c1 = rows_whole first frame.c1; c2 = rows_whole first frame.c2 }
 
-  HasShape : Planes → Type 0
-  HasShape planes = (c : Component) → HasSides (plane_width (sent_parameters s).shape c) (plane_height (sent_parameters s).shape c) (plane_in planes c)
-
   sides_as : (across down high : ℕ) (plane : Raster) → high ≡ down → HasSides across high plane → HasSides across down plane
   sides_as across down high plane same is = record { width = is.width; height = is.height ∙ same }
 

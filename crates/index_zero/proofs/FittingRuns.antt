@@ -41,10 +41,7 @@ run_slices P room slices run all is =
 few_joined : (xs : List (List ℕ)) → All (λ x. 1 ≤ length x) xs → length xs ≤ length (joined xs)
 few_joined [] all = omega arith
 few_joined (x ∷ xs) all =
-    let own = All-head (λ x. 1 ≤ length x) x xs all in
-    let rest = few_joined xs (All-tail (λ x. 1 ≤ length x) x xs all) in
-    let long = length-append x (joined xs) in
-    omega (arith, own, rest, long)
+    grind (arith, All-head, length-append, few_joined xs (All-tail (λ x. 1 ≤ length x) x xs all))
 
 scaler_some : (scaler : ℕ) → within 1 255 scaler ≡ true → 0 < scaler
 scaler_some scaler h = grind (arith, nat_tests)

@@ -44,8 +44,7 @@ others_parts n m (part ∷ parts) apart = other_part n (record { number = m; par
 later_parts : (n m : ℕ) (pictures : List (List Part)) → n < m → parts_of n (entries_from m pictures) ≡ []
 later_parts n m [] below = unopened n
 later_parts n m (parts ∷ pictures) below =
-    parts_of-append n (entries_of m parts) (entries_from (m + 1) pictures)
-    ∙ (λ i. others_parts n m parts (λ same. omega (arith, same, below)) i ++ later_parts n (m + 1) pictures (omega (arith, below)) i)
+    grind (arith, parts_of-append, others_parts, later_parts n (m + 1) pictures (omega (arith, below)))
 
 -- the parts of a picture
 pub parts_in : (n : ℕ) (pictures : List (List Part)) (j : ℕ) (parts : List Part) → slice_get pictures j ≡ Some parts → parts_of (n + j) (entries_from n pictures) ≡ parts
@@ -58,18 +57,14 @@ parts_in n (own ∷ pictures) zero parts at =
     ∙ append-nil own
     ∙ same_Some own parts at
 parts_in n (own ∷ pictures) (suc j) parts at =
-    let there : n + suc j ≡ n + 1 + j = omega arith in
-    ap (λ (k : ℕ). parts_of k (entries_from n (own ∷ pictures))) there
-    ∙ parts_of-append (n + 1 + j) (entries_of n own) (entries_from (n + 1) pictures)
-    ∙ (λ i. others_parts (n + 1 + j) n own (λ same. omega (arith, same)) i ++ parts_in (n + 1) pictures j parts at i)
+    grind (arith, parts_of-append, others_parts, parts_in (n + 1) pictures j parts at)
 
 -- ---- the pictures that are opened
 
 parts_beyond : (k n : ℕ) (pictures : List (List Part)) → n + length pictures ≤ k → parts_of k (entries_from n pictures) ≡ []
 parts_beyond k n [] beyond = unopened k
 parts_beyond k n (parts ∷ pictures) beyond =
-    parts_of-append k (entries_of n parts) (entries_from (n + 1) pictures)
-    ∙ (λ i. others_parts k n parts (λ same. omega (arith, same, beyond)) i ++ parts_beyond k (n + 1) pictures (omega (arith, beyond)) i)
+    grind (arith, parts_of-append, others_parts, parts_beyond k (n + 1) pictures (omega (arith, beyond)))
 
 module _ (n : ℕ) (pictures : List (List Part)) (some : All HasParts pictures) where
   abbrev entries : List Numbered
@@ -145,11 +140,7 @@ module _ (s : Sending) where
 
   module _ (window : ℕ) (some : 1 ≤ window) where
     number_now : (j : ℕ) (es : List Numbered) → j < 2 ^ 31 → IsBefore j es → picture_number (2 ^ 32) es (number_bits s j) ≡ first + j
-    number_now j [] few before = first_number (2 ^ 32) (number_bits s j) ∙ by_start before.starts
-      where
-        by_start : (1 ≤ length {A = Numbered} []) ⊎ (j ≡ 0) → 2 ^ 32 + number_bits s j ≡ first + j
-        by_start (inl more) = absurd (omega (arith, more))
-        by_start (inr none) = omega (arith, none)
+    number_now j [] few before = grind (arith, first_number)
     number_now j (e ∷ es) few before = number_behind s AnyPart (2 ^ 32) first j e es first_bits before.all few
 
     early : (j : ℕ) (es : List Numbered) → j < 2 ^ 31 → IsBefore j es → is_late window es (first + j) ≡ false
@@ -177,12 +168,12 @@ module _ (s : Sending) where
     one_enters : (j : ℕ) (es : List Numbered) (parts : List Part) → j < 2 ^ 31 → IsBefore j es → HasEntered j es parts
     one_enters j es [] few before = record { is = sym (append-nil es); before = subst (IsBefore j) (sym (append-nil es)) before }
     one_enters j es (part ∷ parts) few before =
-        let rest = one_enters j (es ++ entry j part ∷ []) parts few (before_more j es part few before) in
-        let same = append_assoc es (entry j part ∷ []) (entries_of (first + j) parts) in
-        record {
-          is = ap (λ (l : List Numbered). fold (enters (2 ^ 32) window) l (fragments_of j parts)) (enters_now j es part few before) ∙ rest.is ∙ same;
-          before = subst (IsBefore j) same rest.before;
-        }
+        grind (
+          arith,
+          append_assoc,
+          enters_now,
+          one_enters j (es ++ entry j part ∷ []) parts few (before_more j es part few before),
+        )
 
     with_some : (es : List Numbered) (n : ℕ) (parts : List Part) → HasParts parts → 1 ≤ length (es ++ entries_of n parts)
     with_some es n parts are = grind (arith, common_steps)

@@ -18,7 +18,7 @@ use Rattle.vc_types.specs.TransformParameters.{Parameters}
 use Rattle.vc_types.specs.declared.video.Component.{Component}
 use Rattle.vc_types.specs.declared.video.Component.TheVariants.{Y, C1, C2}
 use Rattle.picture_build.proofs.BoundedLists.{bounded_sints-written, bounded_sints-ones}
-use Rattle.index_zero.proofs.CodedSlices.{units_of, block_bytes, bits_of-block_bytes, coded, read}
+use Rattle.index_zero.proofs.CodedSlices.{units_of, block_bytes, bits_of-block_bytes, coded}
 use Rattle.vc_types.proofs.Quantisers.{comes_back}
 
 -- what can be encoded: lists of the lengths that the slice has, and magnitudes below 2 ^ 60

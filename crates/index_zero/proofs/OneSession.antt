@@ -5,6 +5,7 @@ use Rattle.std.proofs.lemmas.Grind.{common_steps}
 use Rattle.std.proofs.lemmas.List.{append_assoc, append-nil}
 use Rattle.std.proofs.lemmas.List.Elements.{filter_map-append}
 use Rattle.std.proofs.lemmas.List.Sums.{fold-append}
+use Rattle.std.proofs.Common.{add-one}
 use Rattle.link_model.specs.Session.{Session, Fragment, HeardSession, just_opened, opens_next, with_datagram, hears, sessions_of, begins, fragment_in}
 use Rattle.link_model.proofs.Hearing.{hears_new, hears_on}
 
@@ -39,13 +40,7 @@ stays old new (d ∷ ds) is = by_next (opens_next (old ∷ []) (begins d)) refl 
         let long = all_longer (just_opened s ∷ old ∷ []) ds in
         let same = ap length (ap (λ (hs : List HeardSession). fold hears hs ds) (sym (hears_new (old ∷ []) d s opens)) ∙ is) in
         absurd (omega (arith, long, same))
-    by_next None opens again =
-        let later = again (ap (λ (hs : List HeardSession). fold hears hs ds) (sym (hears_on (old ∷ []) d opens)) ∙ is) in
-        record {
-          session = later.session;
-          fragments = later.fragments ∙ append_assoc old.fragments (filter_map (fragment_in old.session) (d ∷ [])) (filter_map (fragment_in old.session) ds)
-              ∙ ap (λ (l : List Fragment). old.fragments ++ l) (sym (filter_map-append (fragment_in old.session) (d ∷ []) ds));
-        }
+    by_next None opens again = grind (arith, hears_on, append_assoc, filter_map-append)
 
 -- ---- where it opens
 
@@ -100,11 +95,9 @@ pub record HeardAt (h : HeardSession) (ds : List (List ℕ)) (place : ℕ) (d : 
   pub fragments : h.fragments ≡ (with_datagram old d).fragments ++ more
 
 taken : (ds : List (List ℕ)) (d : List ℕ) (place : ℕ) → slice_get ds place ≡ Some d → (rest : List (List ℕ)) × (ds ≡ take place ds ++ d ∷ rest) × (take (place + 1) ds ≡ take place ds ++ d ∷ [])
-taken ds d place is = (let cut = at_front ds place is in (cut.0, cut.1, ap (λ (n : ℕ). take n ds) (as_next place) ∙ cut.2))
+taken ds d place is =
+    (let cut = at_front ds place is in (cut.0, cut.1, ap (λ (n : ℕ). take n ds) (add-one place) ∙ cut.2))
   where
-    as_next : (n : ℕ) → n + 1 ≡ suc n
-    as_next n = omega arith
-
     at_front : (ds : List (List ℕ)) (place : ℕ) → slice_get ds place ≡ Some d → (rest : List (List ℕ)) × (ds ≡ take place ds ++ d ∷ rest) × (take (suc place) ds ≡ take place ds ++ d ∷ [])
     at_front [] place is = absurd cc
     at_front (e ∷ ds) zero is = (let same : e ≡ d = cc in (ds, ap (λ x. x ∷ ds) same, ap (λ (x : List ℕ). x ∷ []) same))

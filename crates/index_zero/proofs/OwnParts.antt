@@ -6,7 +6,6 @@ use Rattle.std.specs.Option.{option_map, option_map_or, option_or, option_and_th
 use Rattle.std.proofs.lemmas.List.{append-nil, take_all}
 use Rattle.std.proofs.lemmas.List.Elements.{All-head, All-tail, All-cons, All-nil, filter_map-append}
 use Rattle.std.proofs.lemmas.Option.{none-some, slice_get_cases}
-use Rattle.std.proofs.lemmas.Bool.{true≢false}
 use Rattle.link_model.specs.Complete.{slice_numbers, has_all_slices, all_bytes, whole_of, whole_picture}
 use Rattle.link_model.specs.Kept.{KeptParameters, kept_parameters, parameters_in, ReadParameters, SplitParts, split_by, also_before, split_parts, Own, own_of, own, own_slice, SliceRun, runs_of, run_taken, slice_run, slice_in, first_copy, part_slices, waiting_limit}
 use Rattle.link_model.specs.Sending.{runs_of_slices}
@@ -58,9 +57,6 @@ all_joined f a (x ∷ xs) gives =
   where
     next : (a k : ℕ) → a + 1 + k ≡ a + suc k
     next a k = omega arith
-
-some_is : (o : Option (List ℕ)) (x : List ℕ) → o ≡ Some x → is_some o ≡ true
-some_is o x is = ap is_some is
 
 -- ---- parts
 
@@ -116,11 +112,7 @@ module _ (sequence : Sequence) (p : Parameters) (bytes : List ℕ) (read : (more
 
   is_split : (front rest : List Part) → All IsOwn (front ++ ParamsPart bytes ∷ rest) → AreSplit front (front ++ ParamsPart bytes ∷ rest)
   is_split [] rest all = at_first [] (ParamsPart bytes) rest refl
-  is_split (ParamsPart body ∷ front) rest all = by_own (All-head IsOwn (ParamsPart body) (front ++ ParamsPart bytes ∷ rest) all)
-    where
-      by_own : IsOwn (ParamsPart body) → AreSplit (ParamsPart body ∷ front) (ParamsPart body ∷ (front ++ ParamsPart bytes ∷ rest))
-      by_own (inl same) = at_first (ParamsPart body ∷ front) (ParamsPart body) (front ++ ParamsPart bytes ∷ rest) same
-      by_own (inr other) = absurd (true≢false (ap is_params other.2))
+  is_split (ParamsPart body ∷ front) rest all = grind (arith, All-head, at_first)
   is_split (SlicesPart slices ∷ front) rest all =
       let more = is_split front rest (All-tail IsOwn (SlicesPart slices) (front ++ ParamsPart bytes ∷ rest) all) in
       record {
@@ -199,7 +191,7 @@ module _ (sequence : Sequence) (p : Parameters) (bytes : List ℕ) (read : (more
 
         there : (i : ℕ) → 0 ≤ i → i < slice_count p → is_some (first_copy (runs_in parts) i) ≡ true
         there i from below = elim ((slice_get_cases slices i).1) [
-          | inl found ↦ some_is (first_copy (runs_in parts) i) found.0 (slice_there i found.0 found.2)
+          | inl found ↦ ap is_some (slice_there i found.0 found.2)
           | inr past ↦ absurd (omega (arith, past.0, below, count))
         ]
 

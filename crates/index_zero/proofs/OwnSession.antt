@@ -83,10 +83,14 @@ module _ (s : Sending) where
   pub told_pictures : (j : ℕ) (indices : List ℕ) (pictures : List Planes) → filter_map told (pictures_outgoing s j indices pictures) ≡ fragments_from s j (parts_from indices pictures)
   told_pictures j indices [] = ap (filter_map told) (none_outgoing s j indices)
   told_pictures j indices (planes ∷ pictures) =
-      let later : List ℕ = drop (count s) indices in
-      ap (filter_map told) (more_outgoing s j indices planes pictures ∙ ap (λ (l : List Outgoing). l ++ pictures_outgoing s (j + 1) later pictures) (picture_contents s j indices planes))
-      ∙ filter_map-append told (map (outgoing j) (contents s (picture_runs s indices planes))) (pictures_outgoing s (j + 1) later pictures)
-      ∙ (λ i. told_contents j (picture_runs s indices planes) i ++ told_pictures (j + 1) later pictures i)
+      grind (
+        arith,
+        more_outgoing,
+        picture_contents,
+        filter_map-append,
+        told_contents,
+        told_pictures (j + 1) (drop (count s) indices) pictures,
+      )
 
 -- ---- the session
 
@@ -118,8 +122,7 @@ module _ (settings : SendSettings) (small : settings.ssrc < 2 ^ 32) (indices : L
   goes_on : (h : HeardSession) (ds : List (List ℕ)) → h.session ≡ own → All BeginsOwn ds → (new : HeardSession) × (fold hears (h ∷ []) ds ≡ new ∷ [])
   goes_on h [] same all = (h, refl)
   goes_on h (d ∷ ds) same all =
-      let rest = goes_on (with_datagram h d) ds same (All-tail BeginsOwn d ds all) in
-      (rest.0, ap (λ (hs : List HeardSession). fold hears hs ds) (hears_own h d same (All-head BeginsOwn d ds all)) ∙ rest.1)
+      grind (arith, hears_own, All-head, goes_on (with_datagram h d) ds same (All-tail BeginsOwn d ds all))
 
   -- ---- its fragments
 

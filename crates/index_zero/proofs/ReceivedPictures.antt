@@ -12,7 +12,7 @@ use Rattle.index_zero.proofs.HeardFragments.{IsPartOf, own_session, session_is, 
 use Rattle.index_zero.proofs.InTime.{entered_is, in_time}
 use Rattle.index_zero.proofs.OwnParts.{IsOwnPart, whole_picture-own}
 use Rattle.index_zero.proofs.SentFaults.{AreSoundPictures, are_sound}
-use Rattle.index_zero.proofs.SentRuns.{plus_zero}
+use Rattle.std.proofs.Math.Nat.{zero-add}
 use Rattle.index_zero.proofs.SentFragments.{parameters_heard, slices_heard}
 use Rattle.index_zero.proofs.SentSlices.{sent_part}
 use Rattle.index_zero.proofs.SentStream.{IsOfPicture, IsContent, among_pictures, count, runs_at}
@@ -94,7 +94,9 @@ module _ (settings : SendSettings) (small : settings.ssrc < 2 ^ 32) (indices : L
 
     sent_place : (c : DatagramContent) → IsAmong (HeaderContent ∷ ParametersContent ∷ map SlicesContent runs) c → (k : ℕ) × (slice_get (frames_outgoing s indices frames) k ≡ Some (outgoing j c))
     sent_place c is =
-        let among : IsAmong (frames_outgoing s indices frames) (outgoing j c) = subst (λ (n : ℕ). IsAmong (frames_outgoing s indices frames) (outgoing n c)) (plus_zero j) (among_pictures s 0 indices pictures j planes at c is) in
+        let among : IsAmong (frames_outgoing s indices frames) (outgoing j c) =
+        subst (λ (n : ℕ). IsAmong (frames_outgoing s indices frames) (outgoing n c)) (zero-add j)
+        (among_pictures s 0 indices pictures j planes at c is) in
         (length among.0, among_at (outgoing j c) (frames_outgoing s indices frames) among)
 
     parameters_place : (k : ℕ) × (slice_get (frames_outgoing s indices frames) k ≡ Some (outgoing j ParametersContent))

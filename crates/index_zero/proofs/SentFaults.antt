@@ -1,10 +1,10 @@
 -- What it means that a frame has no fault: its samples have their bits, and its slices fit.
-use Rattle.std.proofs.Common.{◌≡◌, ◌<◌, ◌≤◌, ℕ, zero, suc, ◌+◌, ◌*◌, true, false, List, [], ◌∷◌, ◌++◌, length, drop, take, get_or, Option, Some, None, refl, sym, ap, ◌∙◌, arith, All, inl, inr}
+use Rattle.std.proofs.Common.{◌≡◌, ◌<◌, ◌≤◌, ℕ, zero, suc, ◌+◌, ◌*◌, true, false, List, [], ◌∷◌, ◌++◌, length, drop, take, get_or, Option, Some, None, refl, sym, ap, ◌∙◌, arith, All}
 use Rattle.std.specs.Prelude.{nat_lt, slice_get}
 use Rattle.std.specs.Option.{option_map, option_or}
-use Rattle.std.proofs.lemmas.Bool.{cases_Bool, or_parts, ltb-false, cond-true, cond-false}
+use Rattle.std.proofs.lemmas.Bool.{or_parts, ltb-false, cond-true, cond-false}
 use Rattle.std.proofs.lemmas.List.{drop-drop, length-map}
-use Rattle.std.proofs.lemmas.List.Elements.{All-cons, All-nil, All-map, All-weaker}
+use Rattle.std.proofs.lemmas.List.Elements.{All-nil, All-map, All-weaker}
 use Rattle.std.proofs.lemmas.List.FromFn.{length-enumerate_from}
 use Rattle.std.proofs.lemmas.Option.{none-some}
 use Rattle.std.proofs.Math.Nat.{suc-mul}
@@ -21,22 +21,21 @@ use Rattle.vc_types.specs.Subbands.{slice_count}
 
 -- ---- neither of two
 
-some_is_not : {A : Type 0} (x : A) → Some x ≡ None → ⊥
-some_is_not x same = cc
-
 pub neither : {A : Type 0} (a b : Option A) → option_or a b ≡ None → (a ≡ None) × (b ≡ None)
 neither None b none = (refl, none)
-neither (Some x) b none = absurd (some_is_not x none)
+neither (Some x) b none = absurd (none-some x (sym none))
 
 pub none_mapped : {A B : Type 0} (f : A → B) (o : Option A) → option_map f o ≡ None → o ≡ None
 none_mapped f None none = refl
-none_mapped f (Some x) none = absurd (some_is_not (f x) none)
+none_mapped f (Some x) none = absurd (none-some (f x) (sym none))
 
 -- ---- samples
 
 outside_found : (limit place sample : ℕ) (samples : List ℕ) → nat_lt sample limit ≡ false → first_outside limit place (sample ∷ samples) ≡ None → ⊥
 unfolding first_outside
-outside_found limit place sample samples outside none = some_is_not (place, sample) (sym (cond-false (nat_lt sample limit) (first_outside limit (place + 1) samples) (Some (place, sample)) outside) ∙ none)
+outside_found limit place sample samples outside none =
+    none-some (place, sample) (sym none ∙ cond-false (nat_lt sample limit)
+    (first_outside limit (place + 1) samples) (Some (place, sample)) outside)
 
 outside_later : (limit place sample : ℕ) (samples : List ℕ) → nat_lt sample limit ≡ true → first_outside limit place (sample ∷ samples) ≡ None → first_outside limit (place + 1) samples ≡ None
 unfolding first_outside
@@ -45,10 +44,8 @@ outside_later limit place sample samples inside none = sym (cond-true (nat_lt sa
 pub all_inside : (limit place : ℕ) (samples : List ℕ) → 0 < limit → first_outside limit place samples ≡ None → (k : ℕ) → get_or samples k 0 < limit
 all_inside limit place [] some none k = some
 all_inside limit place (sample ∷ samples) some none zero = grind (arith, outside_found)
-all_inside limit place (sample ∷ samples) some none (suc k) = elim (cases_Bool (nat_lt sample limit)) [
-  | inl inside ↦ all_inside limit (place + 1) samples some (outside_later limit place sample samples inside none) k
-  | inr outside ↦ absurd (outside_found limit place sample samples outside none)
-]
+all_inside limit place (sample ∷ samples) some none (suc k) =
+    grind (arith, outside_later, outside_found, all_inside limit (place + 1) samples some)
 
 -- ---- slices
 
@@ -58,7 +55,9 @@ module _ (s : Sending) (planes : Planes) where
 
   large_found : (z : ℕ × ℕ) (zs : List (ℕ × ℕ)) → is_too_large s planes z.0 z.1 ≡ true → first_of_slices s planes (z ∷ zs) ≡ None → ⊥
   unfolding first_of_slices
-  large_found z zs large none = some_is_not (slice_fault s planes z.0 z.1) (sym (cond-true (is_too_large s planes z.0 z.1) (Some (slice_fault s planes z.0 z.1)) (first_of_slices s planes zs) large) ∙ none)
+  large_found z zs large none =
+      none-some (slice_fault s planes z.0 z.1) (sym none ∙ cond-true (is_too_large s planes z.0 z.1)
+      (Some (slice_fault s planes z.0 z.1)) (first_of_slices s planes zs) large)
 
   none_later : (z : ℕ × ℕ) (zs : List (ℕ × ℕ)) → is_too_large s planes z.0 z.1 ≡ false → first_of_slices s planes (z ∷ zs) ≡ None → first_of_slices s planes zs ≡ None
   unfolding first_of_slices
@@ -66,10 +65,7 @@ module _ (s : Sending) (planes : Planes) where
 
   pub none_too_large : (zs : List (ℕ × ℕ)) → first_of_slices s planes zs ≡ None → All IsSmall zs
   none_too_large [] none = All-nil IsSmall
-  none_too_large (z ∷ zs) none = elim (cases_Bool (is_too_large s planes z.0 z.1)) [
-    | inl large ↦ absurd (large_found z zs large none)
-    | inr fits ↦ All-cons IsSmall z zs fits (none_too_large zs (none_later z zs fits none))
-  ]
+  none_too_large (z ∷ zs) none = grind (arith, large_found, none_later, none_too_large zs)
 
   pub not_too_long : (slice index : ℕ) → is_too_large s planes slice index ≡ false → is_too_long (sent_parameters s) slice index (sent_coefficients (sent_parameters s) planes slice) ≡ false
   unfolding is_too_large
@@ -131,10 +127,7 @@ module _ (s : Sending) where
   pub both_sound : (indices : List ℕ) (first second : List Planes) → first_slice_fault s indices first ≡ None → first_slice_fault s (drop (length first * count s) indices) second ≡ None → first_slice_fault s indices (first ++ second) ≡ None
   both_sound indices [] second none also = grind (arith, count)
   both_sound indices (planes ∷ first) second none also =
-      let both = neither _ _ (sym (fault_more indices planes first) ∙ none) in
-      fault_more indices planes (first ++ second)
-      ∙ ap (λ o. option_or o (first_slice_fault s (drop (count s) indices) (first ++ second))) both.0
-      ∙ both_sound (drop (count s) indices) first second both.1 (ap (λ (l : List ℕ). first_slice_fault s l second) (later (length first) indices) ∙ also)
+      grind (arith, fault_more, later, both_sound (drop (count s) indices) first second)
 
   pub faultless : (indices : List ℕ) (frame : Planes) → send_fault s indices frame ≡ None → (first_sample_fault s frame ≡ None) × (first_slice_fault s indices (pictures_of s frame) ≡ None)
   unfolding send_fault

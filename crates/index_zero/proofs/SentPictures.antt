@@ -1,5 +1,5 @@
 -- A picture that was sent at index 0 decodes to its planes.
-use Rattle.std.proofs.Common.{◌≡◌, ◌<◌, ◌≤◌, ℕ, zero, suc, ◌+◌, ◌-◌, ◌^◌, ℤ, pos, ◌-ℤ◌, unsigned_abs, Bool, false, List, [], ◌∷◌, ◌++◌, length, map, drop, Some, Result, Ok, refl, ap, ◌∙◌, arith, append_assoc}
+use Rattle.std.proofs.Common.{◌≡◌, ◌<◌, ◌≤◌, ℕ, zero, suc, ◌+◌, ◌^◌, ℤ, pos, ◌-ℤ◌, unsigned_abs, Bool, false, List, [], ◌∷◌, ◌++◌, length, map, drop, Some, Result, Ok, refl, arith, append_assoc}
 use Rattle.std.specs.Prelude.{IsTrue, slice_get, take}
 use Rattle.std.specs.List.{enumerate_from, range_with_len, list_any}
 use Rattle.std.proofs.lemmas.Option.{none-some, same_Some}
@@ -7,22 +7,22 @@ use Rattle.std.proofs.lemmas.Int.{ints}
 use Rattle.std.proofs.Math.Pow.{pow_mono}
 use Rattle.std.proofs.Math.Seq.{drop-append_seam}
 use Rattle.field_pairs.specs.Sizes.{IsWhole}
-use Rattle.link_model.specs.SendingPictures.{plane_in, sent_cells, number_in, numbers_in_slice, HasSides, packed_bits, sent_coefficients, sent_slice, sent_slices}
+use Rattle.link_model.specs.SendingPictures.{plane_in, sent_cells, number_in, numbers_in_slice, HasSides, sent_coefficients, sent_slice, sent_slices}
 use Rattle.index_zero.proofs.SentPlanes.{length-own, plane_back}
 use Rattle.vc_types.specs.declared.refusal.ParamsRefusal.{ParamsRefusal}
 use Rattle.vc_types.specs.declared.video.Component.{Component}
 use Rattle.vc_types.specs.declared.video.Component.TheVariants.{Y, C1, C2}
-use Rattle.vc_types.specs.Encoding.{encoded_slice, is_too_long}
+use Rattle.vc_types.specs.Encoding.{is_too_long}
 use Rattle.vc_types.specs.Fields.{joined}
 use Rattle.vc_types.specs.Pictures.{slices_from, decoded_picture, with_parameters, with_slices}
 use Rattle.vc_types.specs.Planes.{Planes, planes_of, decoded_planes}
 use Rattle.vc_types.specs.Rasters.{sample_at}
 use Rattle.vc_types.specs.SequenceHeader.{Sequence, with_bytes_used}
-use Rattle.vc_types.specs.Slices.{Coefficients, coefficients_of, coded_slice, is_large}
+use Rattle.vc_types.specs.Slices.{coefficients_of, is_large}
 use Rattle.vc_types.specs.Subbands.{slice_count, slice_coefficient_count, coefficient_place, plane_width, plane_height, plane_depth}
 use Rattle.vc_types.specs.TransformParameters.{Parameters, is_symmetric, coded_parameters}
 use Rattle.vc_types.specs.Transforms.{forward_transform, padded_plane, lowest_width, lowest_height}
-use Rattle.index_zero.proofs.CodedSlices.{coded, coded_slice-encoded}
+use Rattle.index_zero.proofs.CodedSlices.{coded_slice-encoded}
 use Rattle.vc_types.proofs.FieldCodecs.{ok_is}
 use Rattle.index_zero.proofs.LosslessSlices.{AreCoefficients, decoded_slice-coded}
 use Rattle.vc_wave.specs.Planes.{AreBelow}
@@ -34,22 +34,18 @@ use Rattle.vc_wave.proofs.PlaneGrowth.{forward_below}
 abbrev pub at_zero : Parameters → Planes → ℕ → List ℕ
 at_zero p planes n = sent_slice p planes n 0
 
-zero_small : 0 < 256
-zero_small = omega arith
-
 module _ (p : Parameters) (planes : Planes) (some : 0 < p.scaler) (fits : (n : ℕ) → n < slice_count p → is_too_long p n 0 (sent_coefficients p planes n) ≡ false) (are : (n : ℕ) → AreCoefficients p n (sent_coefficients p planes n)) where
   slices_back : (i n : ℕ) (behind : List ℕ) → i + n ≤ slice_count p → slices_from p i n (joined (map (at_zero p planes) (range_with_len i n)) ++ behind) ≡ Ok (map (sent_coefficients p planes) (range_with_len i n), behind)
   unfolding slices_from sent_slice
   slices_back i zero behind within = refl
   slices_back i (suc n) behind within =
-      let fit = fits i (omega (arith, within)) in
-      let s : Coefficients = sent_coefficients p planes i in
-      let own : List ℕ = packed_bits (encoded_slice p i 0 s) in
-      let rest : List ℕ = joined (map (at_zero p planes) (range_with_len (i + 1) n)) in
-      let first : coded_slice p.prefix p.scaler ((own ++ rest) ++ behind) ≡ Ok (coded p i 0 s some zero_small fit, rest ++ behind) = ap (coded_slice p.prefix p.scaler) (append_assoc own rest behind) ∙ coded_slice-encoded p i 0 s some zero_small fit (rest ++ behind) in
-      let is = decoded_slice-coded p i s some zero_small fit (are i) in
-      let others = slices_back (i + 1) n behind (omega (arith, within)) in
-      rw first (rw is (rw others refl))
+      grind (
+        arith,
+        append_assoc,
+        coded_slice-encoded,
+        decoded_slice-coded,
+        slices_back (i + 1) n behind (omega (arith, within)),
+      )
 
 -- ---- a whole picture
 

@@ -6,6 +6,7 @@ use Rattle.std.proofs.lemmas.List.{drop-drop}
 use Rattle.std.proofs.Math.Nat.{suc-mul}
 use Rattle.std.proofs.lemmas.List.Elements.{All-append, All-cons, All-nil, All-head, All-tail, All-map, All-weaker}
 use Rattle.std.proofs.lemmas.Option.{none-some, same_Some}
+use Rattle.std.proofs.Math.Nat.{add-zero}
 use Rattle.link_model.specs.Kept.{SliceRun}
 use Rattle.link_model.specs.Sending.{Outgoing, outgoing, DatagramContent, HeaderContent, ParametersContent, SlicesContent, EndContent, picture_runs, picture_outgoing, pictures_outgoing, pictures_of, pictures_per_frame, datagrams_from, frames_outgoing, sent_datagram, sent_datagrams, end_datagram, last_datagram, sent_stream}
 use Rattle.link_model.specs.SendingPictures.{sent_parameters}
@@ -72,11 +73,15 @@ module _ (s : Sending) where
   all_contents runs = All-cons (IsContent runs) HeaderContent (ParametersContent ∷ map SlicesContent runs) tt
       (All-cons (IsContent runs) ParametersContent (map SlicesContent runs) tt (All-map (IsContent runs) SlicesContent runs (all_among runs)))
 
-  no_sum : (n : ℕ) → n ≡ n + 0
-  no_sum n = omega arith
-
   first_of : (first : ℕ) (indices : List ℕ) (planes : Planes) (pictures : List Planes) (c : DatagramContent) → IsContent (picture_runs s indices planes) c → IsOfPicture first indices (planes ∷ pictures) (outgoing first c)
-  first_of first indices planes pictures c is = record { number = 0; planes = planes; at = refl; picture = no_sum first; content = subst (λ (l : List ℕ). IsContent (picture_runs s l planes) c) (ap (λ (n : ℕ). drop n indices) (no_product count)) is }
+  first_of first indices planes pictures c is = record {
+    number = 0;
+    planes = planes;
+    at = refl;
+    picture = sym (add-zero first);
+    content = subst (λ (l : List ℕ). IsContent (picture_runs s l planes) c)
+        (ap (λ (n : ℕ). drop n indices) (no_product count)) is;
+  }
     where
       no_product : (n : ℕ) → 0 ≡ 0 * n
       no_product n = omega arith
@@ -110,7 +115,8 @@ module _ (s : Sending) where
       subst (λ (l : List Outgoing). IsAmong l (outgoing (first + 0) c)) (sym (more_outgoing first indices own pictures))
       (among_before (outgoing (first + 0) c) (picture_outgoing s first indices own) (pictures_outgoing s (first + 1) (drop count indices) pictures)
       (subst (λ (l : List Outgoing). IsAmong l (outgoing (first + 0) c)) (sym (picture_contents first indices own))
-      (subst (λ (n : ℕ). IsAmong (map (outgoing first) (contents (picture_runs s indices own))) (outgoing n c)) (no_sum first) (among_map (outgoing first) c (contents (picture_runs s indices own)) here))))
+      (subst (λ (n : ℕ). IsAmong (map (outgoing first) (contents (picture_runs s indices own))) (outgoing n c))
+      (sym (add-zero first)) (among_map (outgoing first) c (contents (picture_runs s indices own)) here))))
     where
       no_product : (n : ℕ) → 0 * n ≡ 0
       no_product n = omega arith

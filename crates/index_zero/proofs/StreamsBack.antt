@@ -18,6 +18,7 @@ use Rattle.index_zero.proofs.OwnSession.{IsOwnSession, all_have_parts, length-pa
 use Rattle.index_zero.proofs.ReceivedPictures.{few_pictures, fits, whole_from_parts}
 use Rattle.index_zero.proofs.SentStream.{all_among, runs_at}
 use Rattle.index_zero.proofs.WholeFrames.{AreWholePictures, bytes_back, coded_fields, even_start, none_at_even, one_each, sent_bytes, two_each}
+use Rattle.std.proofs.Math.Nat.{add-zero}
 use Rattle.link_model.specs.Complete.{whole_picture}
 use Rattle.link_model.specs.Kept.{SliceRun}
 use Rattle.link_model.specs.Numbers.{Numbered, parts_of}
@@ -32,14 +33,11 @@ use Rattle.vc_types.specs.SequenceHeader.{Sequence}
 
 -- ---- what is written of frames, number by number
 
-at_first : (n : ℕ) → n + 0 ≡ n
-at_first n = omega arith
-
 over_ones : (g : ℕ → List ℕ) (raw : Planes → List ℕ) (n : ℕ) (frames : List Planes) → ((f : ℕ) (frame : Planes) → slice_get frames f ≡ Some frame → g (n + f) ≡ raw frame)
     → flat_map g (range_with_len n (length frames)) ≡ flat_map raw frames
 over_ones g raw n [] each = refl
 over_ones g raw n (frame ∷ frames) each =
-    let here : g n ≡ raw frame = ap g (sym (at_first n)) ∙ each 0 frame refl in
+    let here : g n ≡ raw frame = ap g (sym (add-zero n)) ∙ each 0 frame refl in
     (λ i. here i ++ over_ones g raw (n + 1) frames (λ f own at. ap g (next n f) ∙ each (suc f) own at) i)
   where
     next : (n f : ℕ) → n + 1 + f ≡ n + suc f
@@ -169,9 +167,7 @@ module _ (settings : SendSettings) (small : settings.ssrc < 2 ^ 32) (window : �
   stream_back = by_frames frames refl
     where
       by_frames : (l : List Planes) → frames ≡ l → full_output window (sent_stream s indices frames) ≡ raw_video s frames
-      by_frames [] none =
-          ap (all_output window) (none_heard settings small indices pictures many (fits settings small indices frames can.sound can.few) frames refl (ap (all_pictures s) none))
-          ∙ sym (ap (raw_video s) none)
+      by_frames [] none = grind (arith, none_heard, many, fits, all_pictures)
       by_frames (frame ∷ more) are =
           let begins = pictures_begin s frame more in
           let session = own_session_heard settings small indices pictures many (fits settings small indices frames can.sound can.few) frames refl begins.0 begins.1 (ap (all_pictures s) are ∙ begins.2) in

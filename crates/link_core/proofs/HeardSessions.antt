@@ -1,19 +1,19 @@
 -- Windows of sessions go on as sessions do, and have the book of each picture that is opened.
 use Rattle.std.proofs.Common.{◌≡◌, ℕ, ◌+◌, ◌-◌, ◌^◌, ◌<◌, Bool, true, false, cond, List, [], ◌∷◌, ◌++◌}
-use Rattle.std.proofs.Common.{length, Option, Some, None, refl, ap, sym, subst, ◌∙◌, arith, inl, inr}
+use Rattle.std.proofs.Common.{length, Option, Some, None, refl, ap, sym, subst, ◌∙◌, arith}
 use Rattle.std.specs.Prelude.{◌&&◌, ◌||◌, not, nat_le, fold, is_some, slice_index_or, take}
 use Rattle.std.specs.Option.{option_map_or}
-use Rattle.std.proofs.lemmas.Bool.{cases_Bool, false≢true, leb-false}
+use Rattle.std.proofs.lemmas.Bool.{leb-false, or_parts}
 use Rattle.std.proofs.lemmas.List.{take_more}
 use Rattle.link_model.specs.Books.{Book, book_of}
 use Rattle.link_model.specs.Feeders.{EnteredSession, entered_session, session_opening}
-use Rattle.link_model.specs.Numbers.{Numbered, greatest, base_above, enters, is_closed}
-use Rattle.link_model.specs.Numbers.{is_late, is_opened, parts_of, picture_number}
+use Rattle.link_model.specs.Numbers.{Numbered, greatest, enters, is_closed}
+use Rattle.link_model.specs.Numbers.{is_late, is_opened, parts_of}
 use Rattle.link_model.specs.Output.{greatest_of, entered_behind}
 use Rattle.link_model.specs.Session.{Session, Fragment, HeardSession, just_opened, opens_next}
 use Rattle.link_model.specs.Session.{with_datagram, last_with, hears, begins, ends, fragment_in}
 use Rattle.link_model.specs.Session.{sessions_of}
-use Rattle.link_model.specs.Windows.{Window, StandsForPast, session_past, window_of, new_window}
+use Rattle.link_model.specs.Windows.{Window, StandsForPast, session_past, window_of}
 use Rattle.link_model.specs.Windows.{book_at}
 use Rattle.link_model.proofs.Hearing.{sessions_of_more}
 use Rattle.link_model.proofs.Numbering.{late_changes_nothing, early_enters, greatest-append}
@@ -28,26 +28,18 @@ use Rattle.link_core.specs.Hearing.{sessions_hear, AreHeard, session_among}
 abbrev bound : ℕ
 bound = 2 ^ 64 - 16
 
-either_false : (a b : Bool) → a || b ≡ false → b ≡ false
-either_false true b e = absurd (false≢true (sym e))
-either_false false b e = e
-
 module _ (base window : ℕ) where
   late_is : (es : List Numbered) (n : ℕ) → is_late window es n ≡ false → n < bound
   unfolding is_late
-  late_is es n early = leb-false bound n (either_false (is_closed window es n) (nat_le bound n) early)
+  late_is es n early = leb-false bound n (or_parts (is_closed window es n) (nat_le bound n) early).1
 
   one_is : (e : Numbered) → greatest (e ∷ []) ≡ e.number
   unfolding greatest
   one_is e = omega arith
 
   enters_small : (es : List Numbered) (f : Fragment) → greatest es < bound → greatest (enters base window es f) < bound
-  enters_small es f small = elim (cases_Bool (is_late window es (picture_number base es f.number))) [
-    | inl late ↦ subst (λ (l : List Numbered). greatest l < bound) (sym (late_changes_nothing base window es f late)) small
-    | inr early ↦ subst (λ (l : List Numbered). greatest l < bound) (sym (early_enters base window es f early))
-        (let e : Numbered = record { number = picture_number base es f.number; part = f.part } in
-        omega (arith, small, late_is es (picture_number base es f.number) early, greatest-append es (e ∷ []), one_is e))
-  ]
+  enters_small es f small =
+      grind (arith, late_changes_nothing, early_enters, late_is, greatest-append, one_is)
 
   all_small : (es : List Numbered) (fragments : List Fragment) → greatest es < bound → greatest (fold (enters base window) es fragments) < bound
   all_small es [] small = small
@@ -60,11 +52,7 @@ nothing_small = omega arith
 pub greatest_small : (size : ℕ) (hs : List HeardSession) → greatest_of size hs < bound
 unfolding greatest_of
 greatest_small size [] = omega arith
-greatest_small size (h ∷ hs) = omega (
-  arith,
-  greatest_small size hs,
-  all_small (base_above (greatest_of size hs)) size [] h.fragments nothing_small,
-)
+greatest_small size (h ∷ hs) = grind (arith, all_small, nothing_small, greatest_small size hs)
 
 pub greatest_is : (size : ℕ) (hs : List HeardSession) → greatest_among (session_windows size hs) ≡ greatest_of size hs
 unfolding greatest_of
@@ -92,9 +80,7 @@ module _ (size : ℕ) where
       by_heard (h ∷ hs) e = (let same : s ≡ record { session = h.session; has_ended = h.has_ended; window = window_of (session_past size hs h []) } = cc in ap (λ (s : SessionWindow). s.window.is_ended) same ∙ runs_there hs h)
 
   begun_is : (hs : List HeardSession) (t : Session) → begun_behind size (session_windows size hs) t ∷ session_windows size hs ≡ session_windows size (just_opened t ∷ hs)
-  begun_is hs t =
-      ap (λ (g : ℕ). record { session = t; has_ended = false; window = new_window t.sequence size g } ∷ session_windows size hs) (greatest_is size hs)
-      ∙ ap (λ (w : Window). record { session = t; has_ended = false; window = w } ∷ session_windows size hs) (new_stands t.sequence size (greatest_of size hs)).value
+  begun_is hs t = grind (arith, greatest_is, new_stands)
 
   module _ (h : HeardSession) (hs : List HeardSession) (d : List ℕ) where
     enters_window : (o : Option Fragment) → fragment_in h.session d ≡ o
@@ -114,11 +100,7 @@ module _ (size : ℕ) where
 
   pub sessions_hear_is : (hs : List HeardSession) (d : List ℕ) → sessions_hear size (session_windows size hs) d ≡ session_windows size (hears hs d)
   unfolding hears
-  sessions_hear_is [] d = by_begun (begins d)
-    where
-      by_begun : (o : Option Session) → option_map_or (λ t. begun_behind size [] t ∷ []) o [] ≡ session_windows size (option_map_or (λ s. just_opened s ∷ []) o [])
-      by_begun None = refl
-      by_begun (Some t) = begun_is [] t
+  sessions_hear_is [] d = grind (arith, begun_is)
   sessions_hear_is (h ∷ hs) d =
       ap (λ (o : Option Session). option_map_or (λ t. begun_behind size (session_windows size (h ∷ hs)) t ∷ session_windows size (h ∷ hs)) o (last_hears (session_windows size (h ∷ hs)) d)) (opens_is h hs d (begins d))
       ∙ ap (option_map_or (λ t. begun_behind size (session_windows size (h ∷ hs)) t ∷ session_windows size (h ∷ hs)) (opens_next (h ∷ hs) (begins d))) (last_is h hs d)
@@ -129,9 +111,6 @@ module _ (size : ℕ) where
           ≡ session_windows size (option_map_or (λ s. just_opened s ∷ h ∷ hs) o (last_with (h ∷ hs) d))
       by_opened None = refl
       by_opened (Some t) = begun_is (h ∷ hs) t
-
-  pub heard_more : (ss : List SessionWindow) (d : List ℕ) → AreHeard size ss → AreHeard size (sessions_hear size ss d)
-  heard_more ss d heard = (hears heard.0 d, ap (λ (l : List SessionWindow). sessions_hear size l d) heard.1 ∙ sessions_hear_is heard.0 d)
 
 -- ---- the session of a picture
 

@@ -1,16 +1,14 @@
 -- The books of pictures have what the pictures keep.
-use Rattle.std.proofs.Common.{◌≡◌, ℕ, ◌<◌, Bool, true, false, cond, List, [], ◌∷◌, length, Option, Some}
-use Rattle.std.proofs.Common.{None, Result, Ok, Err, refl, ap, sym, subst, ◌∙◌, inl, inr}
+use Rattle.std.proofs.Common.{◌≡◌, ℕ, ◌<◌, Bool, true, cond, List, [], ◌∷◌, length, Option, Some, arith}
+use Rattle.std.proofs.Common.{None, Result, Ok, Err, refl, ap, sym, subst, ◌∙◌}
 use Rattle.std.specs.Prelude.{IfOk}
 use Rattle.std.specs.Option.{option_and_then, option_map}
-use Rattle.std.proofs.lemmas.Bool.{cases_lt}
 use Rattle.std.proofs.lemmas.Option.{same_Some, none-some}
 use Rattle.link_model.specs.Books.{Book, book_of, book_by, book_plan, book_slice}
-use Rattle.link_model.specs.Feeders.{EnteredSession, entered_session, session_opening, keeps_of}
+use Rattle.link_model.specs.Feeders.{EnteredSession, session_opening}
 use Rattle.link_model.specs.Feeders.{job_by, kept_job}
 use Rattle.link_model.specs.Kept.{KeptParameters, Own, own, own_slice}
 use Rattle.link_model.specs.Numbers.{is_opened, parts_of}
-use Rattle.link_model.specs.Output.{entered_behind}
 use Rattle.link_model.specs.Session.{HeardSession, Part}
 use Rattle.link_model.specs.Windows.{book_at}
 use Rattle.link_model.proofs.Bookkeeping.{book_slice_is}
@@ -18,7 +16,7 @@ use Rattle.link_model.proofs.Slots.{own_slice_inside}
 use Rattle.link_model.proofs.WholeBytes.{own_slice_whole}
 use Rattle.link_core.proofs.HeardSessions.{IsFound, session_found}
 use Rattle.link_core.specs.Hearing.{SessionWindow, session_windows, AreHeard, session_among, book_among}
-use Rattle.link_core.specs.Pictures.{IsPictureBook, job_of_slice, job_in_book}
+use Rattle.link_core.specs.Pictures.{IsPictureBook, job_in_book}
 use Rattle.vc_types.specs.PictureBytes.{IsWholeSlice}
 use Rattle.vc_types.specs.SequenceHeader.{Sequence}
 use Rattle.vc_types.specs.Slices.{slice_length}
@@ -35,12 +33,7 @@ module _ (size : ℕ) where
   pub opening_opens : (hs : List HeardSession) (n : ℕ) (e : EnteredSession) → session_opening size hs n ≡ Some e → is_opened e.entries n ≡ true
   unfolding session_opening
   opening_opens [] n e found = absurd (none-some e found)
-  opening_opens (h ∷ hs) n e found = by_opened (is_opened (entered_behind size hs h) n) refl found (opening_opens hs n e)
-    where
-      by_opened : (b : Bool) → is_opened (entered_behind size hs h) n ≡ b → cond b (Some (entered_session size hs h)) (session_opening size hs n) ≡ Some e
-          → (session_opening size hs n ≡ Some e → is_opened e.entries n ≡ true) → is_opened e.entries n ≡ true
-      by_opened true is found rest = ap (λ (e : EnteredSession). is_opened e.entries n) (sym (same_Some (entered_session size hs h) e found)) ∙ is
-      by_opened false is found rest = rest found
+  opening_opens (h ∷ hs) n e found = grind (arith, opening_opens hs n e)
 
   pub book_among_is : (hs : List HeardSession) (n : ℕ) → book_among (session_windows size hs) n ≡ option_map (entered_book n) (session_opening size hs n)
   book_among_is hs n = by_found (session_among (session_windows size hs) n) (session_opening size hs n) (session_found size hs n) (opening_opens hs n)
@@ -53,11 +46,7 @@ module _ (size : ℕ) where
       by_found (Some s) None found opens = absurd found
 
   pub among_is_book : (hs : List HeardSession) (n : ℕ) (book : Book) → book_among (session_windows size hs) n ≡ Some book → IsPictureBook book
-  among_is_book hs n book is = by_opening (session_opening size hs n) (sym (book_among_is hs n) ∙ is)
-    where
-      by_opening : (o : Option EnteredSession) → option_map (entered_book n) o ≡ Some book → IsPictureBook book
-      by_opening None e = absurd (none-some book e)
-      by_opening (Some e) same = record { sequence = e.sequence; parts = parts_of n e.entries; is = sym (same_Some (entered_book n e) book same) }
+  among_is_book hs n book is = grind (arith, book_among_is)
 
 -- what is found among sessions that were heard
 pub found_is_book : (ss : List SessionWindow) (n : ℕ) (book : Book) → (size : ℕ) × AreHeard size ss → book_among ss n ≡ Some book → IsPictureBook book
@@ -78,26 +67,14 @@ module _ (s : Sequence) (parts : List Part) where
   plan_of_none is = ap (λ (o : Option Own). book_plan (book_by s parts o)) is
 
   pub book_job_is : (n i : ℕ) → job_in_book (book_of s parts) n i ≡ option_and_then (λ (kept : Own). job_by kept n i) (own s parts)
-  book_job_is n i = by_own (own s parts) refl
-    where
-      by_own : (o : Option Own) → own s parts ≡ o → job_in_book (book_of s parts) n i ≡ option_and_then (λ (kept : Own). job_by kept n i) o
-      by_own None is = ap (option_and_then (λ plan. option_map (job_of_slice plan n i) (book_slice (book_of s parts) i))) (plan_of_none is)
-      by_own (Some kept) is =
-          ap (option_and_then (λ plan. option_map (job_of_slice plan n i) (book_slice (book_of s parts) i))) (plan_of_kept kept is)
-          ∙ ap (option_map (job_of_slice kept.plan n i)) (slice_of_kept kept is i)
+  book_job_is n i = grind (arith, plan_of_none, plan_of_kept, slice_of_kept)
 
   -- a slice that is kept is whole, and one of the picture's
   abbrev IsOfPlan : KeptParameters → ℕ → List ℕ → Type 0
   IsOfPlan plan i bytes = IsWholeSlice plan.parameters bytes × (i < slice_count plan.parameters)
 
   kept_of_plan : (kept : Own) → own s parts ≡ Some kept → (i : ℕ) (bytes : List ℕ) → own_slice kept i ≡ Some bytes → IsOfPlan kept.plan i bytes
-  kept_of_plan kept is i bytes slice = (
-    own_slice_whole s parts kept is (λ b len e. whole_slice kept.plan.parameters.prefix kept.plan.parameters.scaler b len e) i bytes slice,
-    elim (cases_lt i (slice_count kept.plan.parameters)) [
-      | inl within ↦ within
-      | inr past ↦ absurd (none-some bytes (sym (own_slice_inside s parts kept is i past) ∙ slice))
-    ],
-  )
+  kept_of_plan kept is i bytes slice = grind (arith, own_slice_whole, whole_slice, own_slice_inside)
 
   slice_of_plan : (plan : KeptParameters) (i : ℕ) (bytes : List ℕ) → book_plan (book_of s parts) ≡ Some plan → book_slice (book_of s parts) i ≡ Some bytes → IsOfPlan plan i bytes
   slice_of_plan plan i bytes planned slice = by_own (own s parts) refl
@@ -121,32 +98,15 @@ module _ (book : Book) (p : Parameters) (n i : ℕ) (bytes : List ℕ)
           subst (λ (p : Parameters). (slice_length p.prefix p.scaler bytes ≡ Some (length bytes)) × (i < slice_count p)) same
           (slice_of_plan is.sequence is.parts plan i bytes (sym (ap book_plan is.is) ∙ at) (sym (ap (λ (b : Book). book_slice b i) is.is) ∙ sym slice))
 
-  pub given_job : Some (record { plan = p; number = n; index = i; bytes = bytes }) ≡ job_in_book book n i
-  given_job = by_plan (book_plan book) planned ∙ ap (λ (o : Option (List ℕ)). option_and_then (λ plan. option_map (job_of_slice plan n i) o) (book_plan book)) slice
-    where
-      by_plan : (o : Option KeptParameters) → Some p ≡ option_map (λ (plan : KeptParameters). plan.parameters) o
-          → Some (record { plan = p; number = n; index = i; bytes = bytes }) ≡ option_and_then (λ plan. option_map (job_of_slice plan n i) (Some bytes)) o
-      by_plan None e = absurd (none-some p (sym e))
-      by_plan (Some plan) e = ap (λ (q : Parameters). Some (record { plan = q; number = n; index = i; bytes = bytes })) (same_Some p plan.parameters e)
-
 pub kept_job_is : (size : ℕ) (hs : List HeardSession) (n i : ℕ)
     → option_and_then (λ (b : Book). job_in_book b n i) (book_among (session_windows size hs) n) ≡ kept_job size hs n i
 unfolding kept_job
-kept_job_is size hs n i =
-    ap (option_and_then (λ (b : Book). job_in_book b n i)) (book_among_is size hs n)
-    ∙ by_opening (session_opening size hs n)
-  where
-    by_opening : (o : Option EnteredSession) → option_and_then (λ (b : Book). job_in_book b n i) (option_map (entered_book n) o)
-        ≡ option_and_then (λ (kept : Own). job_by kept n i) (option_and_then (λ (e : EnteredSession). keeps_of e n) o)
-    by_opening None = refl
-    by_opening (Some e) = book_job_is e.sequence (parts_of n e.entries) n i
+kept_job_is size hs n i = grind (arith, book_among_is, book_job_is)
 
 -- what was found in the sessions
 pub job_found : (size : ℕ) (hs : List HeardSession) (n i : ℕ) (ss : List SessionWindow) (o : Option Book)
     → o ≡ book_among ss n → ss ≡ session_windows size hs → option_and_then (λ (b : Book). job_in_book b n i) o ≡ kept_job size hs n i
-job_found size hs n i ss o is same =
-    ap (option_and_then (λ (b : Book). job_in_book b n i)) (is ∙ ap (λ (l : List SessionWindow). book_among l n) same)
-    ∙ kept_job_is size hs n i
+job_found size hs n i ss o is same = grind (arith, kept_job_is)
 
 -- a result that is told in other words
 pub if_ok_is : {X E Y : Type 0} (f : X → Y) (r : Result X E) (a b : Y) → IfOk r (λ x. f x ≡ a) → a ≡ b → IfOk r (λ x. f x ≡ b)

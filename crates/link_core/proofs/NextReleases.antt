@@ -3,15 +3,15 @@ use Rattle.std.proofs.Common.{◌≡◌, ℕ, ◌-◌, ◌^◌, ◌<◌, Bool, t
 use Rattle.std.proofs.Common.{Option, Some, None, refl, ap, sym, subst, ◌∙◌, arith}
 use Rattle.std.specs.Prelude.{not, slice_get, slice_index_or, length}
 use Rattle.std.specs.List.{remove}
-use Rattle.std.specs.Option.{option_and_then, option_map, option_or}
+use Rattle.std.specs.Option.{option_map, option_or}
 use Rattle.std.proofs.lemmas.Bool.{leb-false}
-use Rattle.std.proofs.lemmas.Option.{same_Some, none-some}
+use Rattle.std.proofs.lemmas.Option.{none-some}
 use Rattle.link_model.specs.Feeders.{is_among, not_released, heard_pictures, let_go_pictures}
 use Rattle.link_model.specs.Session.{HeardSession}
 use Rattle.link_model.specs.Windows.{NumberedBook, Window, Releasable, WindowPast, StandsForPast}
-use Rattle.link_model.specs.Windows.{released_up_to, first_unreleased, if_let_go, next_release}
+use Rattle.link_model.specs.Windows.{released_up_to, first_unreleased, next_release}
 use Rattle.link_model.specs.Windows.{as_releasable, first_of, releasable_numbers, past_releases}
-use Rattle.link_model.specs.Windows.{session_past, window_of, let_go_in, releasable_by}
+use Rattle.link_model.specs.Windows.{session_past, window_of}
 use Rattle.link_model.proofs.WindowStands.{next_is, releasable_next}
 use Rattle.link_core.proofs.HeardSessions.{unreleased_stands}
 use Rattle.link_core.specs.Hearing.{SessionWindow, session_windows}
@@ -26,13 +26,7 @@ module _ (released : List ℕ) where
   pub first_split : (front back : List ℕ) → slice_get (not_released released (front ++ back)) 0
       ≡ option_or (slice_get (not_released released front) 0) (first_of (not_released released back))
   first_split [] back = first_is (not_released released back)
-  first_split (n ∷ front) back = by_test (not (is_among released n)) (first_split front back)
-    where
-      by_test : (b : Bool) → slice_get (not_released released (front ++ back)) 0 ≡ option_or (slice_get (not_released released front) 0) (first_of (not_released released back))
-          → slice_get (cond b (n ∷ not_released released (front ++ back)) (not_released released (front ++ back))) 0
-          ≡ option_or (slice_get (cond b (n ∷ not_released released front) (not_released released front)) 0) (first_of (not_released released back))
-      by_test true rest = refl
-      by_test false rest = rest
+  first_split (n ∷ front) back = grind (arith, first_split front back)
 
   -- ---- one window
 
@@ -44,20 +38,9 @@ module _ (released : List ℕ) where
         by_first None e = absurd (none-some n e)
         by_first (Some k) e = e
 
-    pub none_left : next_release w ≡ None → first_of (not_released released (releasable_numbers q)) ≡ None
-    none_left none = by_first (releasable_numbers q) (sym (next_is w q stands) ∙ none)
-      where
-        by_first : (ns : List ℕ) → option_map (as_releasable q) (first_of ns) ≡ None → first_of (not_released released ns) ≡ None
-        by_first [] e = refl
-        by_first (n ∷ ns) e = absurd (none-some (as_releasable q n) (sym e))
-
     module _ (n : ℕ) (is : option_map (λ (r : Releasable). r.number) (next_release w) ≡ Some n) where
       rest_is : releasable_numbers q ≡ n ∷ releasable_numbers (past_releases q n)
       rest_is = releasable_next w q stands n (next_first n is)
-
-      pub next_here : is_among released n ≡ false → first_of (not_released released (releasable_numbers q)) ≡ Some n
-      next_here new = ap (λ (l : List ℕ). first_of (not_released released l)) rest_is
-          ∙ ap (λ (b : Bool). first_of (cond (not b) (n ∷ not_released released (releasable_numbers (past_releases q n))) (not_released released (releasable_numbers (past_releases q n))))) new
 
       pub next_behind : is_among released n ≡ true → not_released released (releasable_numbers q) ≡ not_released released (releasable_numbers (past_releases q n))
       next_behind old = ap (not_released released) rest_is
@@ -73,25 +56,11 @@ room (Some last) = 2 ^ 64 - 1 - last
 module _ (w : Window) where
   first_new : (books : List NumberedBook) (b : NumberedBook) → first_unreleased w.last_released books ≡ Some b → released_up_to w.last_released b.number ≡ false
   first_new [] b e = absurd (none-some b e)
-  first_new (a ∷ books) b e = by_test (released_up_to w.last_released a.number) refl e (first_new books b)
-    where
-      by_test : (t : Bool) → released_up_to w.last_released a.number ≡ t → cond t (first_unreleased w.last_released books) (Some a) ≡ Some b
-          → (first_unreleased w.last_released books ≡ Some b → released_up_to w.last_released b.number ≡ false) → released_up_to w.last_released b.number ≡ false
-      by_test true is e rest = rest e
-      by_test false is e rest = subst (λ (b : NumberedBook). released_up_to w.last_released b.number ≡ false) (same_Some a b e) is
+  first_new (a ∷ books) b e = grind (arith, first_new books b)
 
   pub next_new : (n : ℕ) → option_map (λ (r : Releasable). r.number) (next_release w) ≡ Some n → released_up_to w.last_released n ≡ false
   unfolding next_release
-  next_new n is = by_first (first_unreleased w.last_released w.books) refl is
-    where
-      by_go : (b : NumberedBook) (t : Bool) → option_map (λ (r : Releasable). r.number) (cond t (Some (releasable_by b)) None) ≡ Some n → b.number ≡ n
-      by_go b true e = same_Some b.number n e
-      by_go b false e = absurd (none-some n e)
-
-      by_first : (o : Option NumberedBook) → first_unreleased w.last_released w.books ≡ o
-          → option_map (λ (r : Releasable). r.number) (option_and_then (if_let_go w) o) ≡ Some n → released_up_to w.last_released n ≡ false
-      by_first None at e = absurd (none-some n e)
-      by_first (Some b) at e = subst (λ n. released_up_to w.last_released n ≡ false) (by_go b (let_go_in w b.number) e) (first_new w.books b at)
+  next_new n is = grind (arith, first_new)
 
   pub room_falls : (n : ℕ) → n < 2 ^ 64 → option_map (λ (r : Releasable). r.number) (next_release w) ≡ Some n → room (Some n) < room w.last_released
   room_falls n fits is = by_last w.last_released (next_new n is)
@@ -113,9 +82,7 @@ module _ (size : ℕ) where
       → slice_get (not_released released (let_go_pictures size ended (h ∷ hs))) 0
       ≡ option_or (slice_get (not_released released (let_go_pictures size true hs)) 0)
       (first_of (not_released released (releasable_numbers (record (session_past size hs h []) { is_ended = ended }))))
-  next_split released ended h hs =
-      ap (λ (l : List ℕ). slice_get (not_released released l) 0) (let_go_split ended h hs)
-      ∙ first_split released (let_go_pictures size true hs) (releasable_numbers (record (session_past size hs h []) { is_ended = ended }))
+  next_split released ended h hs = grind (arith, let_go_split, first_split)
 
   pub nothing_next : (released : List ℕ) (ended : Bool) → slice_get (not_released released (let_go_pictures size ended [])) 0 ≡ None
   unfolding let_go_pictures heard_pictures

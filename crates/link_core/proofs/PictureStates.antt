@@ -1,24 +1,24 @@
 -- Whether a picture is closed, and whether it is ready, by the windows of the sessions.
-use Rattle.std.proofs.Common.{◌≡◌, ℕ, ◌+◌, Bool, true, false, cond, List, [], ◌∷◌, Option, Some, None}
+use Rattle.std.proofs.Common.{◌≡◌, ℕ, ◌+◌, Bool, true, false, List, [], ◌∷◌, Option, Some, None, arith}
 use Rattle.std.proofs.Common.{refl, ap, sym, ◌∙◌}
-use Rattle.std.specs.Prelude.{◌||◌, not, nat_le, is_some}
-use Rattle.std.specs.Option.{option_and_then, option_map, option_map_or}
-use Rattle.link_model.specs.Books.{Book, book_of, book_plan}
-use Rattle.link_model.specs.Complete.{has_all_slices, all_bytes, whole_of, whole_picture}
-use Rattle.link_model.specs.Feeders.{SliceAnswer, EnteredSession, entered_session, session_opening}
-use Rattle.link_model.specs.Feeders.{keeps_of, picture_keeps, kept_job, is_ready}
-use Rattle.link_model.specs.Kept.{Own, own}
-use Rattle.link_model.specs.Numbers.{Numbered, greatest, is_closed, is_opened, parts_of}
-use Rattle.link_model.specs.Output.{entered_behind, greatest_of, is_opened_in, is_closed_in}
+use Rattle.std.specs.Prelude.{◌||◌, nat_le, is_some}
+use Rattle.std.specs.Option.{option_map, option_map_or}
+use Rattle.link_model.specs.Books.{Book, book_of}
+use Rattle.link_model.specs.Complete.{whole_picture}
+use Rattle.link_model.specs.Feeders.{SliceAnswer, EnteredSession, session_opening}
+use Rattle.link_model.specs.Feeders.{picture_keeps, kept_job, is_ready}
+use Rattle.link_model.specs.Kept.{own}
+use Rattle.link_model.specs.Numbers.{Numbered, is_closed, is_opened, parts_of}
+use Rattle.link_model.specs.Output.{entered_behind, is_opened_in, is_closed_in}
 use Rattle.link_model.specs.Places.{Job}
 use Rattle.link_model.specs.Session.{HeardSession, Part}
-use Rattle.link_model.specs.Windows.{greatest_behind, session_past, window_of}
+use Rattle.link_model.specs.Windows.{session_past, window_of}
 use Rattle.link_model.proofs.Bookkeeping.{book_whole_is}
 use Rattle.link_model.proofs.PicturesHeard.{session_before, session_opened}
 use Rattle.link_model.proofs.PicturesStay.{kept_slice}
 use Rattle.link_core.proofs.KeptBooks.{entered_book, book_among_is, plan_of_kept}
 use Rattle.link_core.specs.Hearing.{SessionWindow, session_windows, book_among, closed_among}
-use Rattle.link_core.specs.Pictures.{book_ready, answers_plan}
+use Rattle.link_core.specs.Pictures.{book_ready}
 use Rattle.vc_types.specs.SequenceHeader.{Sequence}
 
 -- ---- closed
@@ -27,12 +27,7 @@ module _ (size : ℕ) where
   some_opening : (hs : List HeardSession) (n : ℕ) → is_some (session_opening size hs n) ≡ is_opened_in size hs n
   unfolding session_opening
   some_opening [] n = refl
-  some_opening (h ∷ hs) n = by_opened (is_opened (entered_behind size hs h) n) (some_opening hs n)
-    where
-      by_opened : (b : Bool) → is_some (session_opening size hs n) ≡ is_opened_in size hs n
-          → is_some (cond b (Some (entered_session size hs h)) (session_opening size hs n)) ≡ b || is_opened_in size hs n
-      by_opened true rest = refl
-      by_opened false rest = rest
+  some_opening (h ∷ hs) n = grind (arith, some_opening hs n)
 
   some_book : (hs : List HeardSession) (n : ℕ) → is_some (book_among (session_windows size hs) n) ≡ is_opened_in size hs n
   some_book hs n = ap is_some (book_among_is size hs n) ∙ by_opening (session_opening size hs n) ∙ some_opening hs n
@@ -51,16 +46,7 @@ module _ (size : ℕ) where
 
     closed_here : is_opened_in size hs n || nat_le (n + size) (window_of (session_past size hs h [])).top ≡ is_opened_in size hs n || is_closed size (entered_behind size hs h) n
     unfolding window_of is_closed
-    closed_here = by_entries (entered_behind size hs h) refl
-      where
-        by_entries : (es : List Numbered) → entered_behind size hs h ≡ es
-            → is_opened_in size hs n || nat_le (n + size) (greatest_behind (greatest_of size hs) (entered_behind size hs h)) ≡ is_opened_in size hs n || nat_le (n + size) (greatest (entered_behind size hs h))
-        by_entries [] none =
-            ap (λ (b : Bool). b || nat_le (n + size) (greatest_behind (greatest_of size hs) (entered_behind size hs h))) (opened_before none)
-            ∙ sym (ap (λ (b : Bool). b || nat_le (n + size) (greatest (entered_behind size hs h))) (opened_before none))
-        by_entries (e ∷ es) some =
-            ap (λ (es : List Numbered). is_opened_in size hs n || nat_le (n + size) (greatest_behind (greatest_of size hs) es)) some
-            ∙ sym (ap (λ (es : List Numbered). is_opened_in size hs n || nat_le (n + size) (greatest es)) some)
+    closed_here = grind (arith, opened_before)
 
   pub closed_is : (hs : List HeardSession) (n i : ℕ) (job : Job) → kept_job size hs n i ≡ Some job → closed_among size (session_windows size hs) n ≡ is_closed_in size hs n
   closed_is [] n i job kept = refl
@@ -74,31 +60,11 @@ module _ (size : ℕ) where
 module _ (decoded : List SliceAnswer) (n : ℕ) where
   pub book_ready_is : (s : Sequence) (parts : List Part) → book_ready decoded n (book_of s parts) ≡ is_ready decoded n (own s parts)
   unfolding whole_picture
-  book_ready_is s parts =
-      ap (λ (o : Option (List ℕ)). not (is_some o) || answers_plan decoded n (book_plan (book_of s parts))) (book_whole_is s parts)
-      ∙ by_own (own s parts) refl
-    where
-      by_all : (kept : Own) (b : Bool) → not (is_some (cond b (Some (all_bytes kept)) None)) || answers_plan decoded n (Some kept.plan) ≡ not b || answers_plan decoded n (Some kept.plan)
-      by_all kept true = refl
-      by_all kept false = refl
-
-      by_own : (o : Option Own) → own s parts ≡ o
-          → not (is_some (option_and_then whole_of o)) || answers_plan decoded n (book_plan (book_of s parts)) ≡ is_ready decoded n o
-      by_own None is = refl
-      by_own (Some kept) is =
-          ap (λ p. not (is_some (whole_of kept)) || answers_plan decoded n p) (plan_of_kept s parts kept is)
-          ∙ by_all kept (has_all_slices kept)
+  book_ready_is s parts = grind (arith, book_whole_is, plan_of_kept)
 
   pub ready_is : (size : ℕ) (hs : List HeardSession)
       → option_map_or (book_ready decoded n) (book_among (session_windows size hs) n) true ≡ is_ready decoded n (picture_keeps size hs n)
-  ready_is size hs =
-      ap (λ (o : Option Book). option_map_or (book_ready decoded n) o true) (book_among_is size hs n)
-      ∙ by_opening (session_opening size hs n)
-    where
-      by_opening : (o : Option EnteredSession) → option_map_or (book_ready decoded n) (option_map (entered_book n) o) true
-          ≡ is_ready decoded n (option_and_then (λ (e : EnteredSession). keeps_of e n) o)
-      by_opening None = refl
-      by_opening (Some e) = book_ready_is e.sequence (parts_of n e.entries)
+  ready_is size hs = grind (arith, book_among_is, entered_book, book_ready_is)
 
 pub closed_found : (size : ℕ) (hs : List HeardSession) (n i : ℕ) (job : Job) (ss : List SessionWindow) (b : Bool)
     → b ≡ closed_among size ss n → ss ≡ session_windows size hs → kept_job size hs n i ≡ Some job → b ≡ is_closed_in size hs n
@@ -106,6 +72,4 @@ closed_found size hs n i job ss b is same kept = is ∙ ap (λ (l : List Session
 
 pub ready_found : (decoded : List SliceAnswer) (n size : ℕ) (hs : List HeardSession) (ss : List SessionWindow) (o : Option Book)
     → o ≡ book_among ss n → ss ≡ session_windows size hs → option_map_or (book_ready decoded n) o true ≡ is_ready decoded n (picture_keeps size hs n)
-ready_found decoded n size hs ss o is same =
-    ap (λ (o : Option Book). option_map_or (book_ready decoded n) o true) (is ∙ ap (λ (l : List SessionWindow). book_among l n) same)
-    ∙ ready_is decoded n size hs
+ready_found decoded n size hs ss o is same = grind (arith, ready_is)

@@ -3,19 +3,17 @@ use Rattle.std.proofs.Common.{◌≡◌, ℕ, zero, suc, ◌+◌, ◌-◌, ◌<�
 use Rattle.std.proofs.Common.{Result, Ok, Err, refl, ap, sym, subst, ◌∙◌, arith}
 use Rattle.std.specs.Prelude.{slice_index_or}
 use Rattle.std.specs.List.{range_with_len}
-use Rattle.std.specs.Option.{option_and_then, option_map}
-use Rattle.std.proofs.lemmas.List.{append_assoc, append-nil}
+use Rattle.std.specs.Option.{option_map}
+use Rattle.std.proofs.lemmas.List.{append_assoc}
 use Rattle.std.proofs.lemmas.Option.{same_Some, none-some}
-use Rattle.link_core.proofs.Ranges.{range_step}
-use Rattle.link_core.specs.Frames.{plan_planes, answered_book_planes, IsAnswered, IsAnsweredBook}
+use Rattle.link_model.proofs.Ranges.{range_step}
+use Rattle.link_core.specs.Frames.{IsAnswered, IsAnsweredBook}
 use Rattle.link_model.specs.Books.{Book, book_plan}
 use Rattle.link_model.specs.Feeders.{SliceAnswer, answer_in}
 use Rattle.link_model.specs.Feeding.{sound_answer, sound_answers, with_first}
 use Rattle.link_model.specs.Kept.{KeptParameters}
 use Rattle.picture_build.specs.PictureCoefficients.{ArePictureCoefficients}
-use Rattle.vc_types.specs.Planes.{Planes, planes_of}
 use Rattle.vc_types.specs.SequenceHeader.{Sequence, picture_shape}
-use Rattle.vc_types.specs.SliceCoefficients.{AreSliceCoefficients}
 use Rattle.vc_types.specs.Slices.{Coefficients}
 use Rattle.vc_types.specs.Subbands.{slice_count}
 use Rattle.vc_types.specs.TransformParameters.{Parameters}
@@ -28,32 +26,12 @@ module _ (decoded : List SliceAnswer) (n : ℕ) where
   abbrev pub Left : List Coefficients → ℕ → ℕ → Option (List Coefficients) → Type 0
   Left items i count all = option_map (λ rest. items ++ rest) (sound_answers decoded n (range_with_len i (count - i))) ≡ all
 
-  pub left_all : (count : ℕ) → Left [] 0 count (sound_answers decoded n (range_with_len 0 count))
-  left_all count = (let same : count - 0 ≡ count = omega arith in ap (λ k. option_map (λ (rest : List Coefficients). [] ++ rest) (sound_answers decoded n (range_with_len 0 k))) same)
-      ∙ by_all (sound_answers decoded n (range_with_len 0 count))
-    where
-      by_all : (o : Option (List Coefficients)) → option_map (λ (rest : List Coefficients). [] ++ rest) o ≡ o
-      by_all None = refl
-      by_all (Some rest) = refl
-
   module _ (items : List Coefficients) (i count : ℕ) (all : Option (List Coefficients)) (left : Left items i count all) where
     stepped : i < count → option_map (λ rest. items ++ rest) (with_first (sound_answer (answer_in decoded n i)) (sound_answers decoded n (range_with_len (i + 1) (count - (i + 1))))) ≡ all
     stepped less = sym (ap (λ (l : List ℕ). option_map (λ rest. items ++ rest) (sound_answers decoded n l)) (range_step i count less)) ∙ left
 
-    pub left_none : i < count → sound_answer (answer_in decoded n i) ≡ None → None ≡ all
-    left_none less none = sym (ap (λ (o : Option Coefficients). option_map (λ rest. items ++ rest) (with_first o (sound_answers decoded n (range_with_len (i + 1) (count - (i + 1)))))) none) ∙ stepped less
-
     pub left_more : i < count → (c : Coefficients) → sound_answer (answer_in decoded n i) ≡ Some c → Left (items ++ c ∷ []) (i + 1) count all
-    left_more less c some =
-        by_rest (sound_answers decoded n (range_with_len (i + 1) (count - (i + 1))))
-        ∙ sym (ap (λ (o : Option Coefficients). option_map (λ rest. items ++ rest) (with_first o (sound_answers decoded n (range_with_len (i + 1) (count - (i + 1)))))) some) ∙ stepped less
-      where
-        by_rest : (o : Option (List Coefficients)) → option_map (λ rest. (items ++ c ∷ []) ++ rest) o ≡ option_map (λ rest. items ++ rest) (with_first (Some c) o)
-        by_rest None = refl
-        by_rest (Some rest) = ap Some (append_assoc items (c ∷ []) rest)
-
-    pub left_nothing : count ≡ i → Some items ≡ all
-    left_nothing ends = (let none : count - i ≡ 0 = omega (arith, ends) in sym (ap Some (append-nil items)) ∙ sym (ap (λ k. option_map (λ rest. items ++ rest) (sound_answers decoded n (range_with_len i k))) none) ∙ left)
+    left_more less c some = grind (arith, stepped, append_assoc)
 
   -- ---- each of them
 
@@ -86,24 +64,9 @@ module _ (decoded : List SliceAnswer) (n : ℕ) where
 
   module _ (book : Book) (p : Parameters) (planned : Some p ≡ option_map (λ (plan : KeptParameters). plan.parameters) (book_plan book)) where
     plan_there : (plan : KeptParameters) × (book_plan book ≡ Some plan) × (plan.parameters ≡ p)
-    plan_there = by_plan (book_plan book) refl planned
-      where
-        by_plan : (o : Option KeptParameters) → book_plan book ≡ o → Some p ≡ option_map (λ (plan : KeptParameters). plan.parameters) o → (plan : KeptParameters) × (book_plan book ≡ Some plan) × (plan.parameters ≡ p)
-        by_plan None at e = absurd (none-some p (sym e))
-        by_plan (Some plan) at e = (plan, at, sym (same_Some p plan.parameters e))
-
-    planes_are : answered_book_planes decoded n book ≡ option_map (planes_of p) (sound_answers decoded n (range_with_len 0 (slice_count p)))
-    planes_are =
-        ap (option_and_then (plan_planes decoded n)) plan_there.1
-        ∙ ap (λ (q : Parameters). option_map (planes_of q) (sound_answers decoded n (range_with_len 0 (slice_count q)))) plan_there.2
-
-    pub no_planes : None ≡ sound_answers decoded n (range_with_len 0 (slice_count p)) → None ≡ answered_book_planes decoded n book
-    no_planes none = ap (option_map (planes_of p)) none ∙ sym planes_are
+    plan_there = grind arith
 
     module _ (items : List Coefficients) (sound : Some items ≡ sound_answers decoded n (range_with_len 0 (slice_count p))) where
-      pub these_planes : (planes : Planes) → planes ≡ planes_of p items → Some planes ≡ answered_book_planes decoded n book
-      these_planes planes is = ap Some is ∙ ap (option_map (planes_of p)) sound ∙ sym planes_are
-
       pub slices_count : length items ≡ slice_count p
       slices_count = (answers_at 0 (slice_count p) items (sym sound)).0
 
@@ -115,9 +78,4 @@ module _ (decoded : List SliceAnswer) (n : ℕ) where
         plan_shape = ap (λ (q : Parameters). q.shape) (sym plan_there.2) ∙ is_answered.shape
 
         pub slices_whole : ArePictureCoefficients p items
-        slices_whole k none below = subst (λ (q : Parameters). AreSliceCoefficients q k (slice_index_or items k none)) plan_there.2
-            (is_answered.sound k (slice_index_or items k none)
-            ((let same : 0 + k ≡ k = omega arith in ap (answer_in decoded n) (sym same)) ∙ (answers_at 0 (slice_count p) items (sym sound)).1 k none (omega (arith, below, slices_count))))
-
-    pub planned_none : book_plan book ≡ None → None ≡ answered_book_planes decoded n book
-    planned_none none = sym (ap (option_and_then (plan_planes decoded n)) none)
+        slices_whole k none below = grind (arith, plan_there, answers_at, slices_count)

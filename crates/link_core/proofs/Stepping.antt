@@ -1,5 +1,5 @@
 -- Steps: where the event is legal, where it is refused, and what is kept behind it.
-use Rattle.std.proofs.Common.{◌≡◌, ℕ, ◌+◌, Bool, List, [], ◌∷◌, ◌++◌, Option, Some, None}
+use Rattle.std.proofs.Common.{◌≡◌, ℕ, ◌+◌, Bool, List, [], ◌∷◌, ◌++◌, Option, Some, None, arith}
 use Rattle.std.proofs.Common.{Result, Ok, Err, refl, ap, sym, subst, ◌∙◌}
 use Rattle.std.specs.Prelude.{not, position, true, false, is_some}
 use Rattle.std.proofs.lemmas.Bool.{and_parts, not-true}
@@ -10,7 +10,7 @@ use Rattle.link_model.specs.Feeding.{takes_answer, with_answer}
 use Rattle.link_model.specs.Interleavings.{AreOwnAnswers}
 use Rattle.link_model.specs.Machine.{Machine, Event, IsLegal, AreLegal, conditions}
 use Rattle.link_model.specs.Machine.{happens, run, new_machine}
-use Rattle.link_model.specs.Machine.{Put, Take, Redo, takes_from}
+use Rattle.link_model.specs.Machine.{Put, Take, Redo}
 use Rattle.link_model.specs.Places.{Job, Answered, own_answer, Content, Nothing, Offered, Claimed}
 use Rattle.link_model.specs.Places.{Decoded, JobPlace, place_at, may_put, stands_in, puts_job}
 use Rattle.link_model.specs.Places.{frees_place}
@@ -38,9 +38,6 @@ refusal r = Err r
 ok_err : (r : StepRefusal) → refusal r ≡ okay → ⊥
 ok_err r h = cc
 
-err_same : (r s : StepRefusal) → refusal r ≡ refusal s → r ≡ s
-err_same r s h = cc
-
 none_broken : (o : Option ℕ) → refused_by o ≡ okay → option_map (λ k. k + 1) o ≡ None
 none_broken None e = refl
 none_broken (Some k) e = absurd (ok_err (NotLegal (k + 1)) e)
@@ -48,14 +45,6 @@ none_broken (Some k) e = absurd (ok_err (NotLegal (k + 1)) e)
 module _ (c : CoreState) (e : Event) where
   pub legal_by : verdict (conditions c.window c.machine e) ≡ Ok tt → IsLegal c.window c.machine e
   legal_by is = none_broken (position not (conditions c.window c.machine e)) is
-
-  pub refused : (r : StepRefusal) → verdict (conditions c.window c.machine e) ≡ Err r → (new : CoreState) → new ≡ c → Steps c e (Err r) new
-  refused r is new same = by_broken (position not (conditions c.window c.machine e)) refl is
-    where
-      by_broken : (o : Option ℕ) → position not (conditions c.window c.machine e) ≡ o → refused_by o ≡ refusal r → Steps c e (Err r) new
-      by_broken None at is = absurd (ok_err r (sym is))
-      by_broken (Some k) at is = subst (λ (r : StepRefusal). Steps c e (Err r) new) (err_same (NotLegal (k + 1)) r is)
-          (ap (option_map (λ k. k + 1)) at, same)
 
 -- ---- runs that are one event longer
 
@@ -105,9 +94,7 @@ done_there (Decoded d) done e = ap Decoded (same_Some d done (sym e))
 
 pub taken_is : (window : ℕ) (f g : Feeder) (p q : List JobPlace) (place : ℕ) (done : Answered) → Some done ≡ done_in (place_at p place).content
     → g ≡ takes_answer window f done → q ≡ frees_place p place → machine_of g q ≡ happens window (machine_of f p) (Take place)
-taken_is window f g p q place done there taken freed =
-    ap (λ (f : Feeder). machine_of f q) (taken ∙ sym (ap (takes_from window f) (done_there (place_at p place).content done there)))
-    ∙ ap (machine_of (takes_from window f (place_at p place).content)) freed
+taken_is window f g p q place done there taken freed = grind (arith, done_there)
 
 pub put_is : (window : ℕ) (f : Feeder) (p q : List JobPlace) (place n i : ℕ) (job : Job) → Some job ≡ slice_job window f n i
     → q ≡ puts_job p place job → machine_of f q ≡ happens window (machine_of f p) (Put place n i)
@@ -129,9 +116,7 @@ module _ (window : ℕ) (f : Feeder) (p : List JobPlace) (place n i : ℕ) (free
     (may : free ≡ may_put p place) (there : kept ≡ is_kept window f n i) (still : kept ≡ true → stays ≡ not (is_closed_now window f n))
     (nowhere : apart ≡ not (stands_in p n i)) (undecoded : new ≡ not (is_decoded f n i)) where
   pub put_verdict : verdict (free ∷ kept ∷ stays ∷ apart ∷ new ∷ []) ≡ verdict (conditions window (machine_of f p) (Put place n i))
-  put_verdict =
-      third_only free kept stays (not (is_closed_now window f n)) apart new still
-      ∙ (λ j. verdict (may j ∷ there j ∷ not (is_closed_now window f n) ∷ nowhere j ∷ undecoded j ∷ []))
+  put_verdict = grind (arith, third_only)
 
 pub some_mapped : {X Y : Type 0} (f : X → Y) (o : Option X) (p : Option Y) → option_map f o ≡ p → is_some o ≡ is_some p
 some_mapped f None p e = ap is_some e
@@ -154,9 +139,7 @@ module _ (window : ℕ) (f : Feeder) (p : List JobPlace) (place n i : ℕ) (lega
 -- what a step answers, by a core's parts
 pub stepped_by : (old : CoreState) (window : ℕ) (f g : Feeder) (p q : List JobPlace) → core_of window f p ≡ old → (e : Event) → IsLegal window (machine_of f p) e
     → machine_of g q ≡ happens window (machine_of f p) e → Steps old e (Ok tt) (core_of window g q)
-stepped_by old window f g p q view e legal is =
-    subst (λ (old : CoreState). Steps old e (Ok tt) (core_of window g q)) view
-    (legal, ap (λ (m : Machine). record { window = window; machine = m }) is)
+stepped_by old window f g p q view e legal is = grind arith
 
 -- the answers of a core are its slices' own
 pub reached_answers : (c : CoreState) → IsReached c → AreOwnAnswers c.window (sessions_of c.machine.feeder.heard) c.machine.feeder.decoded

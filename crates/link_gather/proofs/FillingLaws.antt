@@ -1,25 +1,25 @@
 -- Slots filled slice by slice hold what a whole run leaves in them, and how many slices were cut.
-use Rattle.std.proofs.Common.{◌≡◌, ℕ, zero, suc, ◌+◌, ◌-◌, ◌<◌, ◌≤◌, Bool, true, false, List, [], ◌∷◌, ◌++◌, length, take, drop, set, replicate, nat_eq, Option, Some, None, Result, Ok, Err, refl, ap, sym, subst, ◌∙◌, inl, inr, arith, cond}
-use Rattle.std.specs.Prelude.{is_ok, is_some, is_none, not, ◌||◌, ◌==◌, slice_get, unwrap_or}
+use Rattle.std.proofs.Common.{◌≡◌, ℕ, zero, suc, ◌+◌, ◌-◌, ◌<◌, ◌≤◌, Bool, true, false, List, [], ◌∷◌, ◌++◌, length, take, drop, set, replicate, nat_eq, Option, Some, None, Result, Ok, Err, refl, ap, sym, ◌∙◌, arith, cond}
+use Rattle.std.specs.Prelude.{is_ok, is_some, is_none, not, ◌||◌, unwrap_or}
 use Rattle.std.specs.List.{flat_map, list_any, list_all, count_by, enumerate_from}
-use Rattle.std.specs.Option.{option_or, option_map_or}
+use Rattle.std.specs.Option.{option_map_or}
 use Rattle.std.specs.Str.{bytes_eq}
-use Rattle.std.proofs.lemmas.Bool.{false≢true, eq-eqb, eqb-true, false_from_ne_true}
+use Rattle.std.proofs.lemmas.Bool.{false≢true}
+use Rattle.std.proofs.Math.Bool.{or-false, or_assoc}
+use Rattle.std.proofs.lemmas.List.{take-append-drop}
 use Rattle.std.proofs.lemmas.List.Sums.{sum_by-cons, count_by-le-length}
 use Rattle.std.proofs.lemmas.Option.{none-some, same_Some}
 use Rattle.link_model.specs.Books.{Slots, slot_at, filled_with, with_run}
-use Rattle.link_model.specs.Judgement.{is_conflict, is_new, numbered_slices}
+use Rattle.link_model.specs.Judgement.{is_conflict, is_new}
 use Rattle.link_model.specs.Kept.{SliceRun, cut_off, next_slice, next_slices, has_form, has_place, first_slice, run_from, slice_run}
 use Rattle.link_model.specs.Session.{SlicePart}
 use Rattle.link_model.specs.declared.outcome.Outcome.{Outcome}
 use Rattle.link_model.specs.declared.outcome.Outcome.TheVariants.{SlicesForm, SlicesPlace, SlicesCut}
+use Rattle.link_model.proofs.Slots.{okay_is}
 use Rattle.link_gather.specs.Filling.{cut_by, slices_cut, run_cut, has_conflict, has_new, put_in, put_result, is_put_other, is_put_new}
-use Rattle.link_gather.specs.declared.slots.Put.{Put}
-use Rattle.link_gather.specs.declared.slots.Put.TheVariants.{Same, Other}
 use Rattle.vc_types.specs.Fields.{and_then}
 use Rattle.vc_types.specs.Slices.{coded_slice, length_read, slice_length}
 use Rattle.vc_types.specs.TransformParameters.{Parameters}
-use Rattle.vc_types.proofs.FieldCodecs.{and_then_ok}
 
 -- ---- cutting
 
@@ -41,16 +41,10 @@ module _ (p : Parameters) where
   abbrev with_first : ℕ → Result (List ℕ × List ℕ) (Unit {0}) → Cut
   with_first n r = and_then r (λ read. with_rest read.0 (next_slices p n read.1))
 
-  rest_fits : (slice : List ℕ) (r : Cut) → is_ok (with_rest slice r) ≡ is_ok r
-  rest_fits slice (Ok read) = refl
-  rest_fits slice (Err short) = refl
-
   -- a slice more
   pub one_fits : (n len : ℕ) (bytes : List ℕ) → slice_length p.prefix p.scaler bytes ≡ Some len → is_ok (next_slices p (suc n) bytes) ≡ is_ok (next_slices p n (drop len bytes))
   unfolding next_slices next_slice
-  one_fits n len bytes e =
-      ap (λ (o : Option ℕ). is_ok (with_first n (cut_off bytes o))) e
-      ∙ rest_fits (take len bytes) (next_slices p n (drop len bytes))
+  one_fits n len bytes e = grind arith
 
   pub none_fits : (n : ℕ) (bytes : List ℕ) → slice_length p.prefix p.scaler bytes ≡ None → is_ok (next_slices p (suc n) bytes) ≡ false
   unfolding next_slices next_slice
@@ -60,25 +54,10 @@ module _ (p : Parameters) where
   unfolding next_slices
   no_more bytes = refl
 
-  abbrev okay : {A : Type 0} → A → Result A (Unit {0})
-  okay x = Ok x
-
-  okay_is : {A : Type 0} (x y : A) → okay x ≡ okay y → x ≡ y
-  okay_is x y h = cc
-
-  cut_first : (n : ℕ) (bytes : List ℕ) (o : Option ℕ) (x : List ℕ × List ℕ) → cut_off bytes o ≡ Ok x → cut_by (slices_cut p n) bytes o ≡ x.0 ∷ slices_cut p n x.1
-  cut_first n bytes None x e = absurd cc
-  cut_first n bytes (Some len) x e = ap (λ (x : List ℕ × List ℕ). x.0 ∷ slices_cut p n x.1) (okay_is (take len bytes, drop len bytes) x e)
-
   pub slices_are_cut : (n : ℕ) (bytes : List ℕ) (x : List (List ℕ) × List ℕ) → next_slices p n bytes ≡ Ok x → slices_cut p n bytes ≡ x.0
   unfolding next_slices next_slice
   slices_are_cut zero bytes x e = ap (λ (x : List (List ℕ) × List ℕ). x.0) (okay_is ([], bytes) x e)
-  slices_are_cut (suc n) bytes x e =
-      let first = and_then_ok (next_slice p bytes) (λ read. and_then (next_slices p n read.1) (λ more. Ok (read.0 ∷ more.0, more.1))) x e in
-      let second = and_then_ok (next_slices p n first.0.1) (λ more. Ok (first.0.0 ∷ more.0, more.1)) x first.2 in
-      cut_first n bytes (slice_length p.prefix p.scaler bytes) first.0 first.1
-      ∙ ap (λ (l : List (List ℕ)). first.0.0 ∷ l) (slices_are_cut n first.0.1 second.0 second.1)
-      ∙ ap (λ (x : List (List ℕ) × List ℕ). x.0) (okay_is (first.0.0 ∷ second.0.0, second.0.1) x second.2)
+  slices_are_cut (suc n) bytes x e = grind (arith, slices_are_cut n)
 
   -- the same, of a number that is counted down
   pub fits_more : (n len : ℕ) (bytes : List ℕ) → 0 < n → slice_length p.prefix p.scaler bytes ≡ Some len → is_ok (next_slices p (n - 1) (drop len bytes)) ≡ is_ok (next_slices p n bytes)
@@ -108,19 +87,11 @@ module _ (p : Parameters) where
 
     pub not_whole : has_form p part ≡ true → has_place p part ≡ true → is_ok (next_slices p part.count part.body) ≡ false → slice_run p part ≡ Err SlicesCut
     unfolding slice_run
-    not_whole form place cut = ap (λ (b : Bool). run_by b (has_place p part)) form ∙ ap (run_by true) place ∙ by_read (next_slices p part.count part.body) cut
-      where
-        by_read : (r : Cut) → is_ok r ≡ false → run_from (first_slice p part) r ≡ Err SlicesCut
-        by_read (Ok read) e = absurd (false≢true (sym e))
-        by_read (Err short) e = refl
+    not_whole form place cut = grind arith
 
     pub run_taken : has_form p part ≡ true → has_place p part ≡ true → is_ok (next_slices p part.count part.body) ≡ true → slice_run p part ≡ Ok (run_cut p (first_slice p part) part.count part.body)
     unfolding slice_run
-    run_taken form place whole = ap (λ (b : Bool). run_by b (has_place p part)) form ∙ ap (run_by true) place ∙ by_read (next_slices p part.count part.body) refl whole
-      where
-        by_read : (r : Cut) → next_slices p part.count part.body ≡ r → is_ok r ≡ true → run_from (first_slice p part) r ≡ Ok (run_cut p (first_slice p part) part.count part.body)
-        by_read (Ok read) is e = ap (λ (l : List (List ℕ)). Ok (let run : SliceRun = record { first = first_slice p part; slices = l } in run)) (sym (slices_are_cut part.count part.body read is))
-        by_read (Err short) is e = absurd (false≢true e)
+    run_taken form place whole = grind (arith, slices_are_cut)
 
 -- ---- one slice
 
@@ -149,14 +120,12 @@ module _ (old : Slots) (i : ℕ) (slice : List ℕ) where
   conflicts_later : (first : ℕ) (slices : List (List ℕ)) → i < first → list_any (is_conflict (slot_at now)) (enumerate_from first slices) ≡ list_any (is_conflict (slot_at old)) (enumerate_from first slices)
   conflicts_later first [] later = refl
   conflicts_later first (s ∷ slices) later =
-      ap (λ (o : Option (List ℕ)). option_map_or (λ bytes. not (bytes_eq bytes s)) o false || list_any (is_conflict (slot_at now)) (enumerate_from (first + 1) slices)) (put_elsewhere old i first slice later)
-      ∙ ap (λ (b : Bool). is_conflict (slot_at old) (first, s) || b) (conflicts_later (first + 1) slices (omega arith))
+      grind (arith, put_elsewhere, conflicts_later (first + 1) slices (omega arith))
 
   new_later : (first : ℕ) (slices : List (List ℕ)) → i < first → list_any (is_new (slot_at now)) (enumerate_from first slices) ≡ list_any (is_new (slot_at old)) (enumerate_from first slices)
   new_later first [] later = refl
   new_later first (s ∷ slices) later =
-      ap (λ (o : Option (List ℕ)). is_none o || list_any (is_new (slot_at now)) (enumerate_from (first + 1) slices)) (put_elsewhere old i first slice later)
-      ∙ ap (λ (b : Bool). is_new (slot_at old) (first, s) || b) (new_later (first + 1) slices (omega arith))
+      grind (arith, put_elsewhere, new_later (first + 1) slices (omega arith))
 
   pub conflict_first : (slices : List (List ℕ)) → has_conflict old (record { first = i; slices = slice ∷ slices }) ≡ (is_conflict (slot_at old) (i, slice) || has_conflict now (record { first = i + 1; slices = slices }))
   conflict_first slices = ap (λ (b : Bool). is_conflict (slot_at old) (i, slice) || b) (sym (conflicts_later (i + 1) slices (omega arith)))
@@ -191,11 +160,7 @@ put_kept (slot ∷ slots) (suc i) slice bytes some = ap (λ (l : Slots). slot �
 
 pub all_kept : (slots : Slots) → count_by is_some slots ≡ length slots → list_all is_some slots ≡ true
 all_kept [] e = refl
-all_kept (None ∷ slots) e =
-    let one : count_by is_some (None ∷ slots) ≡ 0 + count_by is_some slots = kept_cons None slots in
-    let all : count_by is_some (None ∷ slots) ≡ suc (length slots) = e in
-    let most : count_by is_some slots ≤ length slots = count_by-le-length is_some slots in
-    absurd (omega (arith, one, all, most))
+all_kept (None ∷ slots) e = grind (arith, count_by-le-length)
 all_kept (Some bytes ∷ slots) e =
     let one : count_by is_some (Some bytes ∷ slots) ≡ 1 + count_by is_some slots = kept_cons (Some bytes) slots in
     let all : count_by is_some (Some bytes ∷ slots) ≡ suc (length slots) = e in
@@ -211,24 +176,11 @@ kept_all (Some bytes ∷ slots) e =
     kept_cons (Some bytes) slots ∙ more
 
 pub full_is : (slots : Slots) (kept len : ℕ) → kept ≡ count_by is_some slots → len ≡ length slots → nat_eq kept len ≡ list_all is_some slots
-full_is slots kept len is long = by_test (nat_eq kept len) refl
-  where
-    by_test : (b : Bool) → nat_eq kept len ≡ b → b ≡ list_all is_some slots
-    by_test true e =
-        let same : kept ≡ len = eqb-true kept len e in
-        let all : count_by is_some slots ≡ length slots = omega (arith, is, long, same) in
-        sym (all_kept slots all)
-    by_test false e = sym (false_from_ne_true (list_all is_some slots) (λ all.
-        (let whole : count_by is_some slots ≡ length slots = kept_all slots all in
-        let same : kept ≡ len = omega (arith, is, long, whole) in
-        false≢true (sym e ∙ eq-eqb kept len same))))
+full_is slots kept len is long = grind (arith, all_kept, kept_all)
 
 pub none_kept : (T : Type 0) (n : ℕ) → count_by (is_some {T = T}) (replicate n None) ≡ 0
 none_kept T zero = refl
-none_kept T (suc n) =
-    let rest : count_by (is_some {T = T}) (replicate n None) ≡ 0 = none_kept T n in
-    let more : 0 + count_by (is_some {T = T}) (replicate n None) ≡ 0 = omega (arith, rest) in
-    sum_by-cons (λ x. cond (is_some {T = T} x) 1 0) None (replicate n None) ∙ more
+none_kept T (suc n) = grind (arith, none_kept T n)
 
 -- ---- the bytes of the slices that came
 
@@ -238,36 +190,21 @@ slots_bytes slots = flat_map (λ slot. unwrap_or slot []) slots
 pub bytes_from : (slots : Slots) (i : ℕ) → i < length slots → slots_bytes (drop i slots) ≡ unwrap_or (slot_at slots i) [] ++ slots_bytes (drop (i + 1) slots)
 bytes_from [] i below = absurd (omega arith)
 bytes_from (slot ∷ slots) zero below = refl
-bytes_from (slot ∷ slots) (suc i) below =
-    let next : suc i + 1 ≡ suc (i + 1) = omega arith in
-    bytes_from slots i (omega arith) ∙ ap (λ k. unwrap_or (slot_at slots i) [] ++ slots_bytes (drop k (slot ∷ slots))) (sym next)
+bytes_from (slot ∷ slots) (suc i) below = grind (arith, bytes_from slots i (omega arith))
 
 -- ---- a whole run, slice by slice
-
-or_false : (b : Bool) → (b || false) ≡ b
-or_false true = refl
-or_false false = refl
-
-or_or : (a b c : Bool) → ((a || b) || c) ≡ (a || (b || c))
-or_or true b c = refl
-or_or false b c = refl
-
-pub take_drop : (i : ℕ) (slots : Slots) → take i slots ++ drop i slots ≡ slots
-take_drop zero slots = refl
-take_drop (suc i) [] = refl
-take_drop (suc i) (slot ∷ slots) = ap (λ (l : Slots). slot ∷ l) (take_drop i slots)
 
 module _ (p : Parameters) (slots : Slots) (i : ℕ) (rest : List ℕ) where
   -- nothing is left to do
   module _ (n : ℕ) (none : slices_cut p n rest ≡ []) where
     pub run_none : with_run slots (run_cut p i n rest) ≡ slots
-    run_none = ap (λ (l : List (List ℕ)). take i slots ++ filled_with (drop i slots) l) none ∙ take_drop i slots
+    run_none = ap (λ (l : List (List ℕ)). take i slots ++ filled_with (drop i slots) l) none ∙ take-append-drop i slots
 
     pub conflict_none : (b : Bool) → (b || has_conflict slots (run_cut p i n rest)) ≡ b
-    conflict_none b = ap (λ (l : List (List ℕ)). b || list_any (is_conflict (slot_at slots)) (enumerate_from i l)) none ∙ or_false b
+    conflict_none b = ap (λ (l : List (List ℕ)). b || list_any (is_conflict (slot_at slots)) (enumerate_from i l)) none ∙ or-false b
 
     pub new_none : (b : Bool) → (b || has_new slots (run_cut p i n rest)) ≡ b
-    new_none b = ap (λ (l : List (List ℕ)). b || list_any (is_new (slot_at slots)) (enumerate_from i l)) none ∙ or_false b
+    new_none b = ap (λ (l : List (List ℕ)). b || list_any (is_new (slot_at slots)) (enumerate_from i l)) none ∙ or-false b
 
   pub none_left : (n : ℕ) → n ≡ 0 → slices_cut p n rest ≡ []
   none_left n e = ap (λ k. slices_cut p k rest) e
@@ -288,38 +225,24 @@ module _ (p : Parameters) (slots : Slots) (i : ℕ) (rest : List ℕ) where
     cut_is = sym (ap (cut_by (slices_cut p m) rest) cut) ∙ ap (λ k. slices_cut p k rest) size
 
     pub run_step : with_run (put_in slots i one) (run_cut p (i + 1) m (drop len rest)) ≡ with_run slots (run_cut p i n rest)
-    run_step =
-        let next : i + 1 ≡ suc i = omega arith in
-        ap (λ k. with_run (put_in slots i one) (run_cut p k m (drop len rest))) next
-        ∙ sym (put_first slots i one behind inside)
-        ∙ ap (λ (l : List (List ℕ)). take i slots ++ filled_with (drop i slots) l) cut_is
+    run_step = grind (arith, put_first)
 
     pub conflict_step : (b : Bool) → ((b || is_conflict (slot_at slots) (i, one)) || has_conflict (put_in slots i one) (run_cut p (i + 1) m (drop len rest))) ≡ (b || has_conflict slots (run_cut p i n rest))
-    conflict_step b =
-        or_or b (is_conflict (slot_at slots) (i, one)) (has_conflict (put_in slots i one) (run_cut p (i + 1) m (drop len rest)))
-        ∙ ap (λ (c : Bool). b || c) (sym (conflict_first slots i one behind) ∙ ap (λ (l : List (List ℕ)). list_any (is_conflict (slot_at slots)) (enumerate_from i l)) cut_is)
+    conflict_step b = grind (arith, conflict_first)
 
     pub new_step : (b : Bool) → ((b || is_new (slot_at slots) (i, one)) || has_new (put_in slots i one) (run_cut p (i + 1) m (drop len rest))) ≡ (b || has_new slots (run_cut p i n rest))
     new_step b =
-        or_or b (is_new (slot_at slots) (i, one)) (has_new (put_in slots i one) (run_cut p (i + 1) m (drop len rest)))
+        or_assoc b (is_new (slot_at slots) (i, one)) (has_new (put_in slots i one) (run_cut p (i + 1) m (drop len rest)))
         ∙ ap (λ (c : Bool). b || c) (sym (new_first slots i one behind) ∙ ap (λ (l : List (List ℕ)). list_any (is_new (slot_at slots)) (enumerate_from i l)) cut_is)
 
 -- what becomes of a slice, in words
 pub other_is : (o : Option (List ℕ)) (i : ℕ) (slice : List ℕ) → is_put_other (put_result o slice) ≡ option_map_or (λ bytes. not (bytes_eq bytes slice)) o false
 other_is None i slice = refl
-other_is (Some bytes) i slice = by_test (bytes_eq bytes slice)
-  where
-    by_test : (b : Bool) → is_put_other (cond b Same Other) ≡ not b
-    by_test true = refl
-    by_test false = refl
+other_is (Some bytes) i slice = grind arith
 
 pub fresh_is : (o : Option (List ℕ)) (i : ℕ) (slice : List ℕ) → is_put_new (put_result o slice) ≡ is_none o
 fresh_is None i slice = refl
-fresh_is (Some bytes) i slice = by_test (bytes_eq bytes slice)
-  where
-    by_test : (b : Bool) → is_put_new (cond b Same Other) ≡ false
-    by_test true = refl
-    by_test false = refl
+fresh_is (Some bytes) i slice = grind arith
 
 pub ruleset cutting = (cut_within, fits_more, fits_none, no_more)
 

@@ -1,7 +1,7 @@
 -- The numbers of a session are above all of the earlier ones.
-use Rattle.std.proofs.Common.{◌≡◌, ℕ, ◌+◌, ◌%◌, ◌^◌, ◌<◌, ◌≤◌, Bool, true, false, List, [], ◌∷◌, ◌++◌, refl, ap, sym, subst, ◌∙◌, inl, inr, arith}
-use Rattle.std.specs.Prelude.{◌⊎◌, ◌||◌, fold}
-use Rattle.link_model.specs.Numbers.{Numbered, greatest, base_above, picture_number, is_opened, has_parts, enters, entered, parts_of}
+use Rattle.std.proofs.Common.{◌≡◌, ℕ, ◌+◌, ◌%◌, ◌^◌, ◌<◌, ◌≤◌, true, false, List, [], ◌∷◌, ◌++◌, refl, sym, subst, inl, inr, arith}
+use Rattle.std.specs.Prelude.{◌⊎◌, fold}
+use Rattle.link_model.specs.Numbers.{Numbered, greatest, base_above, picture_number, is_opened, enters, entered, parts_of}
 use Rattle.link_model.specs.Output.{greatest_of, entered_behind, is_opened_in}
 use Rattle.link_model.specs.Session.{Fragment, HeardSession}
 use Rattle.link_model.proofs.Numbering.{greatest-append, parts_of-append, parts_of-other, parts_of-outside, early_is, late_changes_nothing, early_enters}
@@ -72,8 +72,7 @@ module _ (window : ℕ) where
   unfolding greatest_of
   unopened_above [] n above = refl
   unopened_above (h ∷ hs) n above =
-      ap (λ (b : Bool). b || is_opened_in window hs n) (ap has_parts (parts_of-outside n (entered_behind window hs h) (inr (omega (arith, above)))))
-      ∙ unopened_above hs n (omega (arith, above))
+      grind (arith, parts_of-outside, unopened_above hs n (omega (arith, above)))
 
 pub sessions_apart : (window : ℕ) (hs : List HeardSession) (h : HeardSession) (n : ℕ) → window ≤ 8 → is_opened_in window hs n ≡ true → is_opened (entered_behind window hs h) n ≡ false
 sessions_apart window hs h n small was = grind (arith, nothing_below, unopened_above)

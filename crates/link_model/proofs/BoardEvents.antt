@@ -1,36 +1,26 @@
 -- The claim board's steps are the machine's events.
 use Rattle.std.proofs.Common.{◌≡◌, ◌≢◌, refl, ℕ, ◌+◌, ◌/◌, ◌^◌, ◌<◌, Bool, true, false}
-use Rattle.std.proofs.Common.{◌&&◌, ◌||◌, List, [], ◌∷◌, length, get_or, set, sym, ap, ◌∙◌, subst}
+use Rattle.std.proofs.Common.{◌||◌, List, [], ◌∷◌, length, get_or, set, sym, ap, ◌∙◌, subst}
 use Rattle.std.proofs.Common.{arith, length-set, get_or-set_other, get_or-set_same, eq-eqb}
-use Rattle.std.proofs.lemmas.Bool.{lt-ltb}
+use Rattle.std.proofs.lemmas.Bool.{and_from, lt-ltb, or_right}
 use Rattle.std.specs.List.{list_any}
 use Rattle.std.specs.Option.{option_map_or}
 use Rattle.std.proofs.lemmas.List.{get_or-replicate, length-replicate}
 use Rattle.std.specs.Prelude.{Option, replicate}
-use mathlib.Core.Logic.{dite}
-use native.Mathlib.Decide.{ℕ_discrete}
 use Rattle.link_model.specs.Board.{after_claim, after_complete, after_put, after_return, hold}
 use Rattle.link_model.specs.Board.{is_hold, without, worker_view}
-use Rattle.link_model.specs.BoardEvents.{BoardData, IsEvent, IsHeldAt, MayDo, ShowsPlace}
+use Rattle.link_model.specs.BoardEvents.{BoardData, IsEvent, MayDo, ShowsPlace}
 use Rattle.link_model.specs.BoardEvents.{ShowsPlaces, StepsFrom, board_after, event_of, view_at}
 use Rattle.link_model.specs.Machine.{Machine}
 use Rattle.link_model.specs.Places.{Content, Nothing, Offered, Claimed, Decoded, Job, JobPlace}
 use Rattle.link_model.specs.Places.{claimed_by, decoded_there, own_answer, place_at, puts_job}
-use Rattle.link_model.specs.Places.{state_number, state_of, unused_place, unused_places}
+use Rattle.link_model.specs.Places.{state_number, state_of, unused_places}
 use Rattle.link_model.specs.Rounds.{BoardStep, PutStep, ClaimStep, CompleteStep, TakeStep}
 use Rattle.link_model.specs.Rounds.{WithdrawStep, StepAt, Turns}
 use Rattle.link_model.specs.declared.board.Hold.{Hold}
 use Rattle.link_model.specs.declared.board.View.{View}
 
 -- ---- truth
-
-both : (a b : Bool) → a ≡ true → b ≡ true → (a && b) ≡ true
-both true b e f = f
-both false b e f = e
-
-or_right : (a b : Bool) → b ≡ true → (a || b) ≡ true
-or_right true b e = refl
-or_right false b e = e
 
 or_grows : (a b c : Bool) → (b ≡ true → c ≡ true) → (a || b) ≡ true → (a || c) ≡ true
 or_grows true b c f e = refl
@@ -59,25 +49,6 @@ stays_without p t q s (h ∷ hs) ne e = grind (arith, or_grows, stays_without p 
 pair_here : (p t : ℕ) (hs : List Hold) → list_any (is_hold p t) (hold p t ∷ hs) ≡ true
 pair_here p t hs = rw (eq-eqb p p refl, eq-eqb t t refl) refl
 
--- one view changed; the pairs of this place that its seat held are there still
-held_else : {C : Type 0} (views : List (View C)) (seat q s : ℕ) (w : View C) (c : Content)
-    → seat < length views
-    → (list_any (is_hold q s) (view_at views seat).held ≡ true
-    → list_any (is_hold q s) w.held ≡ true)
-    → IsHeldAt views q s c → IsHeldAt (set views seat w) q s c
-held_else views seat q s w Nothing h stays e = tt
-held_else views seat q s w (Offered job) h stays e = tt
-held_else views seat q s w (Decoded done) h stays e = tt
-held_else {C = C} views seat q s w (Claimed worker job) h stays e =
-    let Holds : View C → Type 0 = λ v. list_any (is_hold q s) v.held ≡ true in
-    dite (ℕ_discrete worker seat)
-    (λ same.
-    let at : view_at (set views seat w) worker ≡ w =
-    ap (view_at (set views seat w)) same ∙ get_or-set_same views seat w worker_view h in
-    let was : Holds (view_at views seat) = subst (λ (k : ℕ). Holds (view_at views k)) same e in
-    subst Holds (sym at) (stays was))
-    (λ ne. subst Holds (sym (get_or-set_other views seat worker w worker_view ne)) e)
-
 -- ---- a step
 
 -- one word, one view and one place changed
@@ -90,34 +61,7 @@ keeps_shown : {C : Type 0} (b : BoardData C) (places : List JobPlace) (seat p wo
     → ShowsPlaces (record { words = set b.words p word; views = set b.views seat w })
     (set places p x)
 keeps_shown b places seat p word w x shown within seated stays here =
-    let views = set b.views seat w in
-    let words = set b.words p word in
-    record {
-      many = length-set places p x ∙ (shown.many ∙ sym (length-set b.words p word));
-      each = λ q h. dite (ℕ_discrete q p)
-          (λ same.
-          let word_at : get_or words q 0 ≡ word =
-          ap (λ (k : ℕ). get_or words k 0) same ∙ get_or-set_same b.words p word 0 within in
-          let at : place_at (set places p x) q ≡ x =
-          ap (place_at (set places p x)) same
-          ∙ get_or-set_same places p x unused_place (let m = shown.many in omega arith) in
-          let moved : ShowsPlace word views q x =
-          subst (λ (k : ℕ). ShowsPlace word views k x) (sym same) here in
-          subst (λ (k : ℕ). ShowsPlace k views q (place_at (set places p x) q)) (sym word_at)
-          (subst (λ (y : JobPlace). ShowsPlace word views q y) (sym at) moved))
-          (λ ne.
-          let old = shown.each q (let l = length-set b.words p word in omega arith) in
-          let y = place_at places q in
-          let moved : ShowsPlace (get_or b.words q 0) views q y = record {
-            state = old.state;
-            holder = held_else b.views seat q y.serial w y.content seated (stays q y.serial ne)
-                old.holder;
-          } in
-          subst (λ (k : ℕ). ShowsPlace k views q (place_at (set places p x) q))
-          (sym (get_or-set_other b.words p q word 0 ne))
-          (subst (λ (z : JobPlace). ShowsPlace (get_or b.words q 0) views q z)
-          (sym (get_or-set_other places p q x unused_place ne)) moved));
-    }
+    grind (arith, length-set, get_or-set_same, get_or-set_other)
 
 steps : {C : Type 0} (window : ℕ) (m : Machine) (b : BoardData C) (seat p : ℕ)
     (step : BoardStep) (word n i : ℕ)
@@ -137,8 +81,8 @@ steps window m b seat p PutStep word n i shown within seated turns may =
     let serial : x.serial < 2 ^ 61 = omega arith in
     let w = after_put (view_at b.views seat) p in
     record {
-      legal = both _ _ (lt-ltb p (length m.places) (omega arith))
-          (both _ _ (eq-eqb (state_number (state_of x.content)) 0 none)
+      legal = and_from _ _ (lt-ltb p (length m.places) (omega arith))
+          (and_from _ _ (eq-eqb (state_number (state_of x.content)) 0 none)
           (lt-ltb x.serial (2 ^ 61) serial));
       shown = subst
           (λ (o : Option Job). ShowsPlaces

@@ -115,9 +115,7 @@ module _ (s : Sequence) (parts : List Part) where
   takes-more (ParamsPart body) = by_own (own s parts) refl
     where
       by_own : (o : Option Own) → own s parts ≡ o → book_takes (book_by s parts o) (ParamsPart body) ≡ book_by s (parts ++ ParamsPart body ∷ []) (own s (parts ++ ParamsPart body ∷ []))
-      by_own None none =
-          params_first body (kept_parameters body (coded_parameters s body))
-          ∙ ap (book_by s (parts ++ ParamsPart body ∷ [])) (sym (own-first s (ParamsPart body) parts none))
+      by_own None none = grind (arith, params_first, own-first)
       by_own (Some kept) some =
           ap (λ (l : List SliceRun). gathered_book (gathered_of (let k : Own = record { plan = kept.plan; runs = l } in k))) (sym (append-nil kept.runs))
           ∙ ap (book_by s (parts ++ ParamsPart body ∷ [])) (sym (own-append s parts (ParamsPart body ∷ []) kept some))
@@ -125,7 +123,7 @@ module _ (s : Sequence) (parts : List Part) where
 
   -- ---- its slices
 
-  slot_is : (kept : Own) → own s parts ≡ Some kept → (i : ℕ) → slot_at (gathered_of kept).slots i ≡ own_slice kept i
+  pub slot_is : (kept : Own) → own s parts ≡ Some kept → (i : ℕ) → slot_at (gathered_of kept).slots i ≡ own_slice kept i
   slot_is kept some i = grind (arith, own_slice_inside, slot_inside, slot_outside)
 
   pub book_slice_is : (i : ℕ) → book_slice (book_of s parts) i ≡ option_and_then (λ kept. own_slice kept i) (own s parts)

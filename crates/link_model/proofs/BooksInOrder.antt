@@ -25,20 +25,13 @@ module _ (k : ℕ) (book : Book) (books : List NumberedBook) (n : ℕ) where
   at_here : k ≡ n → book_at (with_number k book ∷ books) n ≡ Some book
   at_here here = grind (arith, le-ltb)
 
-  at_earlier : n < k → book_at (with_number k book ∷ books) n ≡ None
-  at_earlier earlier = grind (arith, le-ltb)
-
 module _ (test : ℕ → Bool) (book : ℕ → Book) (n : ℕ) where
   abbrev front : Bool → ℕ → List NumberedBook → List NumberedBook
   front b a books = cond b (with_number a (book a) ∷ []) [] ++ books
 
   pub none_below : (a m : ℕ) → n < a → book_at (books_over test book a m) n ≡ None
   none_below a zero below = refl
-  none_below a (suc m) below = by_test (test a) (none_below (a + 1) m (omega arith))
-    where
-      by_test : (b : Bool) → book_at (books_over test book (a + 1) m) n ≡ None → book_at (front b a (books_over test book (a + 1) m)) n ≡ None
-      by_test true rest = at_earlier a (book a) (books_over test book (a + 1) m) n below
-      by_test false rest = rest
+  none_below a (suc m) below = grind (arith, none_below (a + 1) m (omega arith))
 
   pub book_inside : (a m : ℕ) → a ≤ n → n < a + m → book_at (books_over test book a m) n ≡ cond (test n) (Some (book n)) None
   book_inside a zero from to = absurd (omega arith)
@@ -60,9 +53,7 @@ pub same_books : (test other : ℕ → Bool) (book later : ℕ → Book) (a m : 
     → ((k : ℕ) → a ≤ k → k < a + m → picked test book k ≡ picked other later k)
     → books_over test book a m ≡ books_over other later a m
 same_books test other book later a zero each = refl
-same_books test other book later a (suc m) each =
-    ap (λ (l : List NumberedBook). l ++ books_over test book (a + 1) m) (each a (omega arith) (omega arith))
-    ∙ ap (λ (l : List NumberedBook). picked other later a ++ l) (same_books test other book later (a + 1) m (λ k from to. each k (omega arith) (omega arith)))
+same_books test other book later a (suc m) each = grind (arith, same_books test other book later (a + 1) m)
 
 pub fewer_books : (test keep : ℕ → Bool) (book : ℕ → Book) (a m : ℕ)
     → filter (λ (b : NumberedBook). keep b.number) (books_over test book a m) ≡ books_over (λ k. test k && keep k) book a m
@@ -83,18 +74,10 @@ module _ (s : Sequence) (n : ℕ) (part : Part) where
     part_here : k ≡ n → with_part s (with_number k book ∷ books) n part ≡ with_number n (book_takes book part) ∷ books
     part_here here = grind (arith, le-ltb)
 
-    part_earlier : n < k → with_part s (with_number k book ∷ books) n part ≡ fresh ∷ with_number k book ∷ books
-    part_earlier earlier = grind (arith, le-ltb)
-
   module _ (test : ℕ → Bool) (book : ℕ → Book) where
     opens_first : (a m : ℕ) → n < a → with_part s (books_over test book a m) n part ≡ fresh ∷ books_over test book a m
     opens_first a zero below = refl
-    opens_first a (suc m) below = by_test (test a) (opens_first (a + 1) m (omega arith))
-      where
-        by_test : (b : Bool) → with_part s (books_over test book (a + 1) m) n part ≡ fresh ∷ books_over test book (a + 1) m
-            → with_part s (cond b (with_number a (book a) ∷ []) [] ++ books_over test book (a + 1) m) n part ≡ fresh ∷ (cond b (with_number a (book a) ∷ []) [] ++ books_over test book (a + 1) m)
-        by_test true rest = part_earlier a (book a) (books_over test book (a + 1) m) below
-        by_test false rest = rest
+    opens_first a (suc m) below = grind (arith, opens_first (a + 1) m (omega arith))
 
     -- the book of n takes the part, and nothing else changes
     module _ (other : ℕ → Bool) (later : ℕ → Book) (is_open : other n ≡ true)

@@ -1,5 +1,5 @@
 -- A picture closes behind its closing place, and behind no place before it.
-use Rattle.std.proofs.Common.{◌≡◌, ℕ, zero, suc, ◌+◌, ◌<◌, ◌≤◌, Bool, true, false, List, [], ◌∷◌, length, refl, ap, subst, arith, cond}
+use Rattle.std.proofs.Common.{◌≡◌, ℕ, zero, suc, ◌+◌, ◌<◌, ◌≤◌, Bool, true, false, List, [], ◌∷◌, length, ap, arith, cond}
 use Rattle.std.specs.Prelude.{not, take_while}
 use Rattle.std.specs.List.{range_with_len}
 use Rattle.std.proofs.lemmas.Bool.{not-false, not-true}
@@ -16,11 +16,7 @@ module _ (test : ℕ → Bool) where
   -- all before it pass
   before_reached : (a m k : ℕ) → a ≤ k → k < a + reached a m → test k ≡ true
   before_reached a zero k from to = absurd (omega arith)
-  before_reached a (suc m) k from to = by_test (test a) refl (subst (λ n. k < a + n) (step a m) to) (λ above below. before_reached (a + 1) m k above below)
-    where
-      by_test : (b : Bool) → test a ≡ b → k < a + length (cond b (a ∷ take_while test (range_with_len (a + 1) m)) [])
-          → (a + 1 ≤ k → k < a + 1 + reached (a + 1) m → test k ≡ true) → test k ≡ true
-      by_test o is below later = grind arith
+  before_reached a (suc m) k from to = grind (arith, step, before_reached (a + 1) m k)
 
   -- and it doesn't
   at_reached : (a m : ℕ) → reached a m < m → test (a + reached a m) ≡ false

@@ -6,7 +6,7 @@ use Rattle.std.proofs.Common.{ne_eqb}
 use Rattle.std.specs.Prelude.{◌==◌, ◌&&◌, ◌||◌, not, is_some, slice_get, filter}
 use Rattle.std.specs.List.{flat_map, list_all}
 use Rattle.std.specs.Option.{option_map_or}
-use Rattle.std.proofs.lemmas.Bool.{and_parts, and_from, false≢true}
+use Rattle.std.proofs.lemmas.Bool.{and_parts, and_from, false≢true, not-true}
 use Rattle.std.proofs.lemmas.List.Sums.{fold-append}
 use Rattle.link_model.specs.Complete.{has_all_slices, slice_numbers}
 use Rattle.link_model.specs.Feeders.{SliceAnswer, Feeder, EnteredSession, session_opening, keeps_of}
@@ -43,11 +43,7 @@ each_all p (x ∷ xs) all = and_from (p x) (list_all p xs) all.0 (each_all p xs 
 -- what holds of those that pass and of those that don't holds of all
 each_covered : (p : ℕ → Bool) (P : ℕ → Type 0) (xs : List ℕ) → Each P (filter p xs) → ((n : ℕ) → p n ≡ false → P n) → Each P xs
 each_covered p P [] passed failed = tt
-each_covered p P (x ∷ xs) passed failed = by_test (p x) refl passed (λ rest. each_covered p P xs rest failed)
-  where
-    by_test : (b : Bool) → p x ≡ b → Each P (cond b (x ∷ filter p xs) (filter p xs)) → (Each P (filter p xs) → Each P xs) → Each P (x ∷ xs)
-    by_test true is passed rest = (passed.0, rest passed.1)
-    by_test false is passed rest = (failed x is, rest passed)
+each_covered p P (x ∷ xs) passed failed = grind (arith, each_covered p P xs)
 
 -- a number more is released
 among_one_more : (xs : List ℕ) (n m : ℕ) → is_among (xs ++ n ∷ []) m ≡ is_among xs m || n == m
@@ -158,17 +154,13 @@ module _ (window : ℕ) (small : window ≤ 8) (heard : List (List ℕ)) (ended 
     todo_facts n (Some kept) is =
         let test : ℕ → Bool = λ i. has_all_slices kept && not (has D n i) in
         each_map (λ i both. (let passed = and_parts (has_all_slices kept) (not (has D n i)) both.0 in
-        (is_kept_now i (own_slice kept i) refl (both.1 passed.0), by_not (has D n i) passed.1)))
+        (is_kept_now i (own_slice kept i) refl (both.1 passed.0), not-true (has D n i) passed.1)))
         (filter test (slice_numbers kept))
         (each_and (λ i. test i ≡ true) (λ i. has_all_slices kept ≡ true → is_some (own_slice kept i) ≡ true) (filter test (slice_numbers kept))
         (each_passes test (slice_numbers kept))
         (each_filter (λ i. has_all_slices kept ≡ true → is_some (own_slice kept i) ≡ true) test (slice_numbers kept)
         (each_if (has_all_slices kept ≡ true) (λ i. is_some (own_slice kept i) ≡ true) (slice_numbers kept) (λ all. all_each (λ i. is_some (own_slice kept i)) (slice_numbers kept) all))))
       where
-        by_not : (b : Bool) → not b ≡ true → b ≡ false
-        by_not true e = absurd (false≢true e)
-        by_not false e = refl
-
         is_kept_now : (i : ℕ) (o : Option (List ℕ)) → own_slice kept i ≡ o → is_some o ≡ true → IsKept n i
         is_kept_now i None slice e = absurd (false≢true e)
         is_kept_now i (Some bytes) slice e =

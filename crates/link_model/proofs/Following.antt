@@ -1,9 +1,10 @@
 -- Sessions follow each other: where each opens and ends, and what belongs to it.
+use Rattle.std.proofs.Common.{arith}
 use Rattle.std.proofs.Common.{◌≡◌, ℕ, Bool, true, false, List, [], ◌∷◌, ◌++◌, Option, Some, None, refl, ap, sym, ◌∙◌, cond}
 use Rattle.std.specs.Prelude.{◌&&◌, is_some, filter_map, fold}
 use Rattle.std.specs.List.{list_any}
 use Rattle.std.specs.Option.{option_map_or}
-use Rattle.std.proofs.lemmas.Bool.{or_parts, false≢true}
+use Rattle.std.proofs.lemmas.Bool.{or_parts}
 use Rattle.std.proofs.lemmas.List.{append_assoc, append-nil}
 use Rattle.std.proofs.lemmas.List.Elements.{filter_map-append}
 use Rattle.std.proofs.lemmas.List.Sums.{fold-append}
@@ -14,13 +15,7 @@ use Rattle.link_model.proofs.Hearing.{hears_new, hears_on}
 
 pub no_session : (datagrams : List (List ℕ)) → list_any (λ d. is_some (begins d)) datagrams ≡ false → sessions_of datagrams ≡ []
 no_session [] none = refl
-no_session (d ∷ datagrams) none =
-    let parts = or_parts (is_some (begins d)) (list_any (λ d. is_some (begins d)) datagrams) none in
-    ap (λ (hs : List HeardSession). fold hears hs datagrams) (hears_on [] d (is_none_from (begins d) parts.0)) ∙ no_session datagrams parts.1
-  where
-    is_none_from : (o : Option Session) → is_some o ≡ false → o ≡ None
-    is_none_from None e = refl
-    is_none_from (Some s) e = absurd (false≢true (sym e))
+no_session (d ∷ datagrams) none = grind (arith, hears_on, no_session datagrams)
 
 pub first_session : (before : List (List ℕ)) (d : List ℕ) (s : Session) → list_any (λ d. is_some (begins d)) before ≡ false → begins d ≡ Some s → sessions_of (before ++ d ∷ []) ≡ just_opened s ∷ []
 first_session before d s none is =

@@ -1,12 +1,12 @@
 -- What a picture keeps stays kept as parts come: its parameters, each slice, and its whole bytes.
-use Rattle.std.proofs.Common.{◌≡◌, ℕ, Bool, true, false, List, [], ◌∷◌, ◌++◌, Option, Some, None, refl, ap, sym, ◌∙◌, cond, arith}
+use Rattle.std.proofs.Common.{◌≡◌, ℕ, Bool, true, List, [], ◌∷◌, ◌++◌, Option, Some, None, refl, ap, sym, ◌∙◌, cond, arith}
 use Rattle.std.specs.Prelude.{is_some, unwrap_or, filter_map}
 use Rattle.std.specs.List.{flat_map, list_all}
 use Rattle.std.specs.Option.{option_map, option_or, option_and_then}
 use Rattle.std.proofs.lemmas.Bool.{and_parts, and_from, false≢true}
 use Rattle.std.proofs.lemmas.List.{append_assoc}
 use Rattle.std.proofs.lemmas.List.Elements.{filter_map-append}
-use Rattle.std.proofs.lemmas.Option.{same_Some, none-some}
+use Rattle.std.proofs.lemmas.Option.{cond_some, same_Some, none-some}
 use Rattle.link_model.specs.Complete.{slice_numbers, has_all_slices, all_bytes, whole_of, whole_picture}
 use Rattle.link_model.specs.Kept.{SplitParts, split_parts, SliceRun, Own, runs_of, own_of, own, part_slices, first_copy, slice_in, own_slice}
 use Rattle.link_model.specs.Session.{Part}
@@ -73,14 +73,10 @@ module _ (f g : ℕ → Option (List ℕ)) (stays : (i : ℕ) (bytes : List ℕ)
         ap (λ (b : List ℕ). b ++ flat_map (λ i. unwrap_or (f i) []) is) here.1 ∙ ap (λ (b : List ℕ). unwrap_or (g i) [] ++ b) rest.1,
       )
 
-cond_is : {A : Type 0} (b : Bool) (x y : A) → cond b (Some x) None ≡ Some y → (b ≡ true) × (x ≡ y)
-cond_is true x y e = (refl, same_Some x y e)
-cond_is false x y e = absurd (none-some y e)
-
 whole_stays : (more : List Part) (kept : Own) (bytes : List ℕ) → whole_of kept ≡ Some bytes → whole_of (grown more kept) ≡ Some bytes
 unfolding has_all_slices all_bytes
 whole_stays more kept bytes e =
-    let parts = cond_is (has_all_slices kept) (all_bytes kept) bytes e in
+    let parts = cond_some (has_all_slices kept) (all_bytes kept) bytes e in
     let all = all_stay (own_slice kept) (own_slice (grown more kept)) (slice_stays more kept) (slice_numbers kept) parts.0 in
     ap (λ (b : Bool). cond b (Some (all_bytes (grown more kept))) None) all.0
     ∙ ap Some (ap (λ (b : List ℕ). kept.plan.bytes ++ b) (sym all.1) ∙ parts.1)

@@ -25,6 +25,10 @@ module _ (s : Sequence) (es : List Numbered) where
   unfolding complete_at whole_picture own split_parts
   complete_opened n e = grind arith
 
+pub no_parts : (parts : List Part) → has_parts parts ≡ false → parts ≡ []
+no_parts [] e = refl
+no_parts (part ∷ parts) e = absurd (false≢true (sym e))
+
 pub has_more : (parts more : List Part) → has_parts parts ≡ true → has_parts (parts ++ more) ≡ true
 has_more [] more e = absurd (false≢true e)
 has_more (part ∷ parts) more e = refl

@@ -66,7 +66,7 @@ all_pass [] = refl
 all_pass (n ∷ ns) = ap (λ (l : List ℕ). n ∷ l) (all_pass ns)
 
 module _ (p : WindowPast) where
-  let_go_filtered : past_let_go p ≡ filter (is_let_go_by p) (opened_numbers p.entries)
+  pub let_go_filtered : past_let_go p ≡ filter (is_let_go_by p) (opened_numbers p.entries)
   unfolding let_go_numbers
   let_go_filtered = by_end p.is_ended
     where

@@ -1,10 +1,10 @@
 -- What every legal event of the machine keeps.
 use Rattle.std.proofs.Common.{◌≡◌, ℕ, ◌-◌, ◌%◌, ◌≤◌, Bool, true, false, cond, List, [], ◌∷◌, ◌++◌}
 use Rattle.std.proofs.Common.{Option, Some, None, refl, ap, sym, subst, ◌∙◌, arith, eq-eqb}
-use Rattle.std.specs.Prelude.{◌==◌, ◌&&◌, ◌||◌, not, is_some}
+use Rattle.std.specs.Prelude.{◌||◌, not, is_some}
 use Rattle.std.specs.List.{flat_map, list_all}
 use Rattle.std.specs.Option.{option_map_or}
-use Rattle.std.proofs.lemmas.Bool.{and_parts, and_from, false≢true, both_ways}
+use Rattle.std.proofs.lemmas.Bool.{false≢true, both_ways}
 use Rattle.std.proofs.lemmas.List.{append_assoc, append-nil}
 use Rattle.std.proofs.lemmas.List.Concat.{flat_map-append}
 use Rattle.std.proofs.lemmas.Option.{same_Some, none-some}
@@ -56,12 +56,7 @@ module _ (window : ℕ) where
       where
         by_here : (b : Bool) → is_opened (entered_behind window hs h) n ≡ b → cond b (Some (entered_session window hs h)) (session_opening window hs n) ≡ Some e
             → (session_opening window hs n ≡ Some e → Beside hs k e) → Beside (h ∷ hs) k e
-        by_here true is found rest =
-            let same = same_Some (entered_session window hs h) e found in
-            let here : is_opened (entered_behind window hs h) k ≡ true = ap (λ (e : EnteredSession). is_opened e.entries k) same ∙ opened in (
-              session_here window hs h k here ∙ ap Some same,
-              among_back (heard_pictures window hs) (opened_numbers (entered_behind window hs h)) k (among_opened (entered_behind window hs h) k here),
-            )
+        by_here true is found rest = grind (arith, session_here, among_back, among_opened)
         by_here false is found rest = let before = rest found in (
           session_earlier window small hs h k (session_opened window hs k e before.0) ∙ before.0,
           among_front (heard_pictures window hs) (opened_numbers (entered_behind window hs h)) k before.1,
@@ -86,13 +81,7 @@ module _ (window : ℕ) where
 
         by_here : (b : Bool) → is_opened (entered_behind window hs h) n ≡ b → cond b (Some (entered_session window hs h)) (session_opening window hs n) ≡ Some e
             → (session_opening window (h ∷ hs) k ≡ Some e) × (is_among (heard_pictures window hs ++ let_go_numbers window h.session.sequence (entered_behind window hs h)) k ≡ true)
-        by_here true is found =
-            let same = same_Some (entered_session window hs h) e found in
-            let here : is_opened (entered_behind window hs h) k ≡ true = ap (λ (e : EnteredSession). is_opened e.entries k) same ∙ opened in (
-              session_here window hs h k here ∙ ap Some same,
-              among_back (heard_pictures window hs) (let_go_numbers window h.session.sequence (entered_behind window hs h)) k
-                  (among_let_go (entered_behind window hs h) window h.session.sequence k here (let_go_before window h.session.sequence (entered_behind window hs h) n k less (gone is))),
-            )
+        by_here true is found = grind (arith, session_here, among_back, among_let_go, let_go_before, gone)
         by_here false is found = let before = beside_in hs n k e found opened in (
           session_earlier window small hs h k (session_opened window hs k e before.0) ∙ before.0,
           among_front (heard_pictures window hs) (let_go_numbers window h.session.sequence (entered_behind window hs h)) k before.1,
@@ -116,13 +105,7 @@ new_holds window = record { answers = tt; rest = []; order = refl; ready = tt; b
 module _ (x : SliceAnswer) (decoded : List SliceAnswer) (n : ℕ) where
   still_answered : (is : List ℕ) → list_all (λ i. is_some (answer_in decoded n i)) is ≡ true → list_all (λ i. is_some (answer_in (x ∷ decoded) n i)) is ≡ true
   still_answered [] e = refl
-  still_answered (i ∷ is) e =
-      let both = and_parts (is_some (answer_in decoded n i)) (list_all (λ i. is_some (answer_in decoded n i)) is) e in
-      and_from (is_some (answer_in (x ∷ decoded) n i)) (list_all (λ i. is_some (answer_in (x ∷ decoded) n i)) is) (here (x.number == n && x.index == i) both.0) (still_answered is both.1)
-    where
-      here : (b : Bool) → is_some (answer_in decoded n i) ≡ true → is_some (cond b (Some x.answer) (answer_in decoded n i)) ≡ true
-      here true e = refl
-      here false e = e
+  still_answered (i ∷ is) e = grind (arith, still_answered is)
 
   still_ready : (o : Option Own) → is_ready decoded n o ≡ true → is_ready (x ∷ decoded) n o ≡ true
   still_ready None e = refl

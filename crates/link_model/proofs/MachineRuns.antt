@@ -4,7 +4,7 @@ use Rattle.std.proofs.Common.{Some, None, refl, ap, sym, ◌∙◌, arith, eqb-t
 use Rattle.std.specs.Prelude.{◌⊎◌, ◌↔◌, ◌==◌, ◌&&◌, ◌||◌, not, is_some, slice_get, fold}
 use Rattle.std.specs.List.{flat_map, list_all}
 use Rattle.std.specs.Option.{option_map_or}
-use Rattle.std.proofs.lemmas.Bool.{and_parts, and_from, false≢true}
+use Rattle.std.proofs.lemmas.Bool.{and_parts, and_from, false≢true, not-true}
 use Rattle.std.proofs.lemmas.List.{append-nil}
 use Rattle.std.proofs.lemmas.List.Concat.{flat_map-append}
 use Rattle.std.proofs.lemmas.Option.{none-some}
@@ -45,10 +45,6 @@ pub record KeptBy (window : ℕ) (m : Machine) : Type 0 where
   pub feeder : HoldsFor window m.feeder
   pub own : HaveOwnAnswers m.places
   pub apart : AreApart m.places
-
-not_true : (b : Bool) → not b ≡ true → b ≡ false
-not_true true e = absurd (false≢true e)
-not_true false e = refl
 
 -- ---- one event
 
@@ -119,7 +115,7 @@ module _ (window : ℕ) (small : window ≤ 8) where
       put_apart None is = kept.apart
       put_apart (Some job) is =
           let same = job_slice (sessions_of m.feeder.heard) n i job is in
-          let nowhere = not_true (stands_in m.places n i) (and_parts (may_put m.places place) (not (stands_in m.places n i)) (legal_halves window m (Put place n i) legal).0).1 in
+          let nowhere = not-true (stands_in m.places n i) (and_parts (may_put m.places place) (not (stands_in m.places n i)) (legal_halves window m (Put place n i) legal).0).1 in
           puts_apart m.places place job
           (ap (λ (k : ℕ). stands_in m.places k job.index) same.0 ∙ ap (stands_in m.places n) same.1 ∙ nowhere)
           kept.apart

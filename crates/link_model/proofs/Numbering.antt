@@ -2,7 +2,7 @@
 use Rattle.std.proofs.Common.{◌≡◌, ℕ, ◌+◌, ◌-◌, ◌<◌, ◌≤◌, ◌^◌, max, Bool, true, false, List, [], ◌∷◌, ◌++◌, map, refl, ap, sym, subst, ◌∙◌, inl, inr, arith, cond}
 use Rattle.std.specs.Prelude.{◌⊎◌, fold, filter, ◌==◌, nat_le}
 use Rattle.std.proofs.lemmas.Bool.{cases_Bool, cond-true, cond-false, or_parts, leb-true, leb-false, ne_eqb}
-use Rattle.std.proofs.lemmas.List.{append_assoc, append-nil}
+use Rattle.std.proofs.lemmas.List.{append_assoc, append-nil, map-append}
 use Rattle.std.proofs.lemmas.List.Elements.{filter-append}
 use Rattle.std.proofs.lemmas.List.Sums.{fold-append}
 use Rattle.link_model.specs.Numbers.{Numbered, greatest, least, least_up_to, picture_number, is_closed, is_late, enters, entered, parts_of}
@@ -12,10 +12,6 @@ pub greatest-append : (es more : List Numbered) → greatest (es ++ more) ≡ ma
 unfolding greatest
 greatest-append [] more = omega arith
 greatest-append (e ∷ es) more = omega (arith, greatest-append es more)
-
-map-append : {A B : Type 0} (f : A → B) (xs ys : List A) → map f (xs ++ ys) ≡ map f xs ++ map f ys
-map-append f [] ys = refl
-map-append f (x ∷ xs) ys = ap (λ l. f x ∷ l) (map-append f xs ys)
 
 pub parts_of-append : (n : ℕ) (es more : List Numbered) → parts_of n (es ++ more) ≡ parts_of n es ++ parts_of n more
 unfolding parts_of
@@ -85,16 +81,12 @@ module _ (base window : ℕ) where
 parts_of-above : (n : ℕ) (es : List Numbered) → greatest es < n → parts_of n es ≡ []
 unfolding parts_of greatest
 parts_of-above n [] above = refl
-parts_of-above n (e ∷ es) above =
-    ap (λ (b : Bool). map (λ (e : Numbered). e.part) (cond b (e ∷ filter (λ (e : Numbered). e.number == n) es) (filter (λ (e : Numbered). e.number == n) es))) (ne_eqb e.number n (λ same. omega (arith, same, above)))
-    ∙ parts_of-above n es (omega (arith, above))
+parts_of-above n (e ∷ es) above = grind (arith, parts_of-above n es (omega (arith, above)))
 
 parts_of-below : (n bound : ℕ) (es : List Numbered) → n < least_up_to bound es → parts_of n es ≡ []
 unfolding parts_of
 parts_of-below n bound [] below = refl
-parts_of-below n bound (e ∷ es) below =
-    ap (λ (b : Bool). map (λ (e : Numbered). e.part) (cond b (e ∷ filter (λ (e : Numbered). e.number == n) es) (filter (λ (e : Numbered). e.number == n) es))) (ne_eqb e.number n (λ same. omega (arith, same, below)))
-    ∙ parts_of-below n bound es (omega (arith, below))
+parts_of-below n bound (e ∷ es) below = grind (arith, parts_of-below n bound es (omega (arith, below)))
 
 pub parts_of-outside : (n : ℕ) (es : List Numbered) → (n < least es) ⊎ (greatest es < n) → parts_of n es ≡ []
 unfolding least

@@ -3,10 +3,11 @@ use Rattle.std.proofs.Common.{◌≡◌, ℕ, ◌≤◌, Bool, true, false, List
 use Rattle.std.proofs.Common.{None, refl, ap, sym, ◌∙◌, arith, inl, inr}
 use Rattle.std.specs.Prelude.{◌⊎◌, ◌||◌, not, filter_map}
 use Rattle.std.specs.Option.{option_map_or, option_and_then, option_map}
+use Rattle.std.proofs.Math.Bool.{or-true}
 use Rattle.std.proofs.lemmas.List.{append_assoc}
 use Rattle.std.proofs.lemmas.Option.{same_Some, none-some}
 use Rattle.link_model.specs.Complete.{has_all_slices, whole_picture}
-use Rattle.link_model.specs.Feeders.{EnteredSession, entered_session, session_opening, keeps_of}
+use Rattle.link_model.specs.Feeders.{EnteredSession, session_opening, keeps_of}
 use Rattle.link_model.specs.Feeders.{picture_keeps, SliceAnswer, has_every_answer, is_ready}
 use Rattle.link_model.specs.Feeders.{kept_job, job_with, heard_pictures, let_go_pictures}
 use Rattle.link_model.specs.Kept.{Own, own, own_slice}
@@ -83,9 +84,6 @@ module _ (window : ℕ) where
 
     follows : Follows window before behind
     follows = entered_follows (base_above (greatest_of window hs)) window h.fragments (filter_map (fragment_in h.session) (d ∷ []))
-
-    here : EnteredSession
-    here = entered_session window hs h
 
     -- a picture of this session
     here_goes_on : (n : ℕ) → is_opened before n ≡ true → GoesOn (h ∷ hs) (with_datagram h d ∷ hs) n
@@ -192,10 +190,6 @@ complete_own : (s : Sequence) (es : List Numbered) (n : ℕ) → complete_at s e
 unfolding complete_at whole_picture
 complete_own s es n e = grind arith
 
-or_true : (b : Bool) → b || true ≡ true
-or_true true = refl
-or_true false = refl
-
 module _ (window : ℕ) (decoded : List SliceAnswer) where
   keeps_found : (hs : List HeardSession) (n : ℕ) (e : EnteredSession) → session_opening window hs n ≡ Some e → picture_keeps window hs n ≡ keeps_of e n
   keeps_found hs n e found = ap (option_and_then (λ (e : EnteredSession). keeps_of e n)) found
@@ -213,4 +207,4 @@ module _ (window : ℕ) (decoded : List SliceAnswer) where
           let all : has_every_answer decoded n k.0 ≡ true = ap (λ (b : Bool). not b || has_every_answer decoded n k.0) (sym k.2) ∙ ap (is_ready decoded n) (sym (was ∙ k.1)) ∙ ready in
           let more = gone.follows.adds n in
           let longer : keeps_of (with_entries e gone.entries) n ≡ Some (grown more.0 k.0) = ap (own e.sequence) more.1 ∙ own-append e.sequence (parts_of n e.entries) more.0 k.0 k.1 in
-          ap (is_ready decoded n) (is ∙ longer) ∙ ap (λ (b : Bool). not (has_all_slices (grown more.0 k.0)) || b) all ∙ or_true (not (has_all_slices (grown more.0 k.0)))
+          ap (is_ready decoded n) (is ∙ longer) ∙ ap (λ (b : Bool). not (has_all_slices (grown more.0 k.0)) || b) all ∙ or-true (not (has_all_slices (grown more.0 k.0)))

@@ -1,5 +1,5 @@
 -- Lists joined over a range of numbers: what is outside a longer range, and where one such list begins another.
-use Rattle.std.proofs.Common.{◌≡◌, ℕ, zero, suc, ◌+◌, ◌<◌, ◌≤◌, Bool, true, List, [], ◌∷◌, ◌++◌, refl, ap, sym, ◌∙◌, inl, inr, arith, cond}
+use Rattle.std.proofs.Common.{◌≡◌, ℕ, zero, suc, ◌+◌, ◌-◌, ◌<◌, ◌≤◌, Bool, true, List, [], ◌∷◌, ◌++◌, refl, ap, sym, ◌∙◌, inl, inr, arith, cond}
 use Rattle.std.specs.Prelude.{◌⊎◌, filter}
 use Rattle.std.specs.List.{flat_map, range_with_len}
 use Rattle.std.proofs.lemmas.Bool.{cases_Bool, both_ways, false_from_ne_true, cond-true, cond-false}
@@ -15,9 +15,14 @@ pub flat_map-filter : {X A : Type 0} (g : X → List A) (p : X → Bool) (xs : L
 flat_map-filter g p [] = refl
 flat_map-filter {A = A} g p (x ∷ xs) = grind (arith, flat_map-filter g p xs)
 
-pub same_pieces : (g h : ℕ → List ℕ) → ((n : ℕ) → g n ≡ h n) → (xs : List ℕ) → flat_map g xs ≡ flat_map h xs
+pub same_pieces : {X A : Type 0} (g h : X → List A) → ((n : X) → g n ≡ h n) → (xs : List X)
+    → flat_map g xs ≡ flat_map h xs
 same_pieces g h same [] = refl
-same_pieces g h same (x ∷ xs) = ap (λ (l : List ℕ). l ++ flat_map g xs) (same x) ∙ ap (λ (l : List ℕ). h x ++ l) (same_pieces g h same xs)
+same_pieces {A = A} g h same (x ∷ xs) =
+    ap (λ (l : List A). l ++ flat_map g xs) (same x) ∙ ap (λ (l : List A). h x ++ l) (same_pieces g h same xs)
+
+pub range_step : (i n : ℕ) → i < n → range_with_len i (n - i) ≡ i ∷ range_with_len (i + 1) (n - (i + 1))
+range_step i n less = let same : n - i ≡ suc (n - (i + 1)) = omega (arith, less) in ap (range_with_len i) same
 
 range-append : (a m n : ℕ) → range_with_len a (m + n) ≡ range_with_len a m ++ range_with_len (a + m) n
 range-append a zero n = grind arith

@@ -1,9 +1,9 @@
 -- A picture that is let go stays so, and nothing of it changes then.
-use Rattle.std.proofs.Common.{◌≡◌, ℕ, zero, suc, ◌+◌, ◌-◌, ◌<◌, ◌≤◌, Bool, true, false, List, ◌++◌, Some, refl, ap, subst, ◌∙◌, inl, inr, arith}
+use Rattle.std.proofs.Common.{◌≡◌, ℕ, zero, suc, ◌+◌, ◌-◌, ◌<◌, ◌≤◌, Bool, true, false, List, ◌++◌, Some, refl, ap, ◌∙◌, arith}
 use Rattle.std.specs.Prelude.{is_some}
 use Rattle.std.specs.List.{list_all, range_with_len}
 use Rattle.std.specs.Option.{option_and_then}
-use Rattle.std.proofs.lemmas.Bool.{and_parts, and_from, cases_lt}
+use Rattle.std.proofs.lemmas.Bool.{and_from}
 use Rattle.link_model.specs.Complete.{whole_picture}
 use Rattle.link_model.specs.Numbers.{Numbered, greatest, parts_of, entered}
 use Rattle.link_model.specs.Output.{complete_at, planes_at, frame_at, frame_bytes_at, is_let_go}
@@ -18,12 +18,7 @@ use Rattle.vc_types.specs.SequenceHeader.{Sequence}
 module _ (test : ℕ → Bool) where
   pub all_at : (a n k : ℕ) → list_all test (range_with_len a n) ≡ true → a ≤ k → k < a + n → test k ≡ true
   all_at a zero k all above below = absurd (omega arith)
-  all_at a (suc n) k all above below =
-      let parts = and_parts (test a) (list_all test (range_with_len (a + 1) n)) all in
-      elim (cases_lt a k) [
-        | inl past ↦ all_at (a + 1) n k parts.1 (omega arith) (omega arith)
-        | inr here ↦ (let same : a ≡ k = omega arith in subst (λ i. test i ≡ true) same parts.0)
-      ]
+  all_at a (suc n) k all above below = grind (arith, all_at (a + 1) n k)
 
   pub all_from : (a n : ℕ) → ((k : ℕ) → a ≤ k → k < a + n → test k ≡ true) → list_all test (range_with_len a n) ≡ true
   all_from a zero each = refl

@@ -1,10 +1,12 @@
 -- Numbers in rising order: what holds of each, which of them are in a list, and what a list begins
 -- with.
-use Rattle.std.proofs.Common.{◌≡◌, ◌≢◌, ℕ, zero, suc, ◌+◌, ◌<◌, ◌≤◌, Bool, true, false, cond, List}
+use Rattle.std.proofs.Common.{◌≡◌, ℕ, zero, suc, ◌+◌, ◌<◌, ◌≤◌, Bool, true, false, cond, List}
 use Rattle.std.proofs.Common.{[], ◌∷◌, ◌++◌, refl, ap, subst, ◌∙◌, eq-eqb, arith}
-use Rattle.std.specs.Prelude.{◌==◌, ◌||◌, not, filter}
+use Rattle.std.specs.Prelude.{◌||◌, not, filter}
 use Rattle.std.specs.List.{flat_map, range_with_len}
-use Rattle.std.proofs.lemmas.Bool.{false≢true, both_ways}
+use Rattle.std.proofs.lemmas.Bool.{false≢true}
+use Rattle.std.proofs.lemmas.List.{append_assoc}
+use Rattle.std.proofs.lemmas.List.Elements.{filter-append}
 use Rattle.link_model.specs.Feeders.{is_among, not_released}
 
 -- P holds of each of them
@@ -71,11 +73,7 @@ among_each P (x ∷ xs) n all e = grind (arith, among_each P xs n all.1)
 
 pub among_range : (a len n : ℕ) → a ≤ n → n < a + len → is_among (range_with_len a len) n ≡ true
 among_range a zero n low high = absurd (omega (arith, low, high))
-among_range a (suc len) n low high = by_here (a == n) refl (λ more. among_range (a + 1) len n more (omega (arith, high)))
-  where
-    by_here : (b : Bool) → a == n ≡ b → (a + 1 ≤ n → is_among (range_with_len (a + 1) len) n ≡ true) → b || is_among (range_with_len (a + 1) len) n ≡ true
-    by_here true is rest = refl
-    by_here false is rest = rest (let ne : a ≢ n = (λ same. both_ways (a == n) is (eq-eqb a n same)) in omega (arith, ne, low))
+among_range a (suc len) n low high = grind (arith, among_range (a + 1) len n)
 
 pub among_filter : (p : ℕ → Bool) (xs : List ℕ) (n : ℕ) → p n ≡ true → is_among xs n ≡ true → is_among (filter p xs) n ≡ true
 among_filter p [] n passes e = e
@@ -125,21 +123,13 @@ each_among : (front xs : List ℕ) → Each (λ n. is_among (front ++ xs) n ≡ 
 each_among front [] = tt
 each_among front (x ∷ xs) = (
   among_back front (x ∷ xs) x (ap (λ (b : Bool). b || is_among xs x) (eq-eqb x x refl)),
-  subst (λ (l : List ℕ). Each (λ n. is_among l n ≡ true) xs) (one_on front x xs) (each_among (front ++ x ∷ []) xs),
+  subst (λ (l : List ℕ). Each (λ n. is_among l n ≡ true) xs) (append_assoc front (x ∷ []) xs) (each_among (front ++ x ∷ []) xs),
 )
-  where
-    one_on : (front : List ℕ) (x : ℕ) (xs : List ℕ) → (front ++ x ∷ []) ++ xs ≡ front ++ x ∷ xs
-    one_on [] x xs = refl
-    one_on (y ∷ front) x xs = ap (λ (l : List ℕ). y ∷ l) (one_on front x xs)
-
-filter_apart : (p : ℕ → Bool) (xs ys : List ℕ) → filter p (xs ++ ys) ≡ filter p xs ++ filter p ys
-filter_apart p [] ys = refl
-filter_apart p (x ∷ xs) ys = grind (arith, filter_apart p xs ys)
 
 -- what isn't among the first is what follows them
 pub not_released_is : (released rest : List ℕ) → IsRising (released ++ rest) → not_released released (released ++ rest) ≡ rest
 not_released_is released rest rising =
-    filter_apart (λ n. not (is_among released n)) released rest
+    filter-append (λ n. not (is_among released n)) released rest
     ∙ ap (λ (l : List ℕ). l ++ not_released released rest) (nothing_passes released released (each_among [] released))
     ∙ all_pass released rest (each_map (λ n below. above_front released n below) rest (below_rest released rest rising))
 

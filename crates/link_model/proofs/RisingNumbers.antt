@@ -1,13 +1,13 @@
 -- The numbers of a range that pass a test, in rising order: the first of them, and those that stand behind some of them.
 use Rattle.std.proofs.Common.{◌≡◌, ℕ, zero, suc, ◌+◌, ◌<◌, ◌≤◌, Bool, true, false, List, [], ◌∷◌, ◌++◌, length, drop, Option, Some, None, refl, ap, sym, subst, ◌∙◌, arith, cond}
-use Rattle.std.specs.Prelude.{nat_le, not, ◌&&◌, filter}
+use Rattle.std.specs.Prelude.{not, ◌&&◌, filter}
 use Rattle.std.specs.List.{flat_map, range_with_len, last_or}
 use Rattle.std.specs.Option.{option_and_then}
-use Rattle.std.proofs.Math.Seq.{drop-append_seam}
-use Rattle.std.proofs.lemmas.Bool.{cond-true, cond-false, le-leb, lt-leb, and_right}
+use Rattle.std.proofs.lemmas.Bool.{cond-false, le-leb, and_right}
 use Rattle.link_model.specs.Numbers.{Numbered, is_opened, opened_numbers}
 use Rattle.link_model.specs.Windows.{first_of, released_up_to}
 use Rattle.link_model.proofs.Leaving.{past, passing, passing-over}
+use Rattle.std.proofs.lemmas.List.Prefix.{front_rest}
 use Rattle.link_model.proofs.Ranges.{nothing_in}
 
 -- ---- numbers over a range
@@ -68,8 +68,7 @@ is_behind last k = not (released_up_to last k)
 all_behind : (last bound : ℕ) (ns : List ℕ) → last < bound → Rises bound ns → filter (is_behind (Some last)) ns ≡ ns
 all_behind last bound [] less rises = refl
 all_behind last bound (n ∷ ns) less rises =
-    cond-true (not (nat_le n last)) (n ∷ filter (is_behind (Some last)) ns) (filter (is_behind (Some last)) ns) (ap not (lt-leb n last (omega (arith, less, rises.0))))
-    ∙ ap (λ (l : List ℕ). n ∷ l) (all_behind last (n + 1) ns (omega (arith, less, rises.0)) rises.1)
+    grind (arith, all_behind last (n + 1) ns (omega (arith, less, rises.0)) rises.1)
 
 all_unreleased : (ns : List ℕ) → filter (is_behind None) ns ≡ ns
 all_unreleased [] = refl
@@ -102,8 +101,5 @@ behind_front test a m front more is = ap (filter (is_behind (last_or None front)
 
 -- ---- a list that begins another
 
-pub rest_of : (l front more : List ℕ) → l ≡ front ++ more → drop (length front) l ≡ more
-rest_of l front more is = ap (drop (length front)) is ∙ drop-append_seam front more
-
 pub begins_with : (l front more : List ℕ) → l ≡ front ++ more → l ≡ front ++ drop (length front) l
-begins_with l front more is = is ∙ ap (λ (k : List ℕ). front ++ k) (sym (rest_of l front more is))
+begins_with l front more is = is ∙ ap (λ (k : List ℕ). front ++ k) (sym (front_rest l front more is))

@@ -7,3 +7,6 @@ use Rattle.vc_types.proofs.SameValues.{parameters_exactly}
 
 pub same_job : (a b : Job) → is_same_job a b ≡ true → a ≡ b
 same_job a b e = grind (arith, bytes_eq-Decides, parameters_exactly)
+
+pub same_itself : (job : Job) → is_same_job job job ≡ true
+same_itself job = grind (arith, bytes_eq-Decides, parameters_exactly)

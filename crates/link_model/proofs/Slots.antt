@@ -1,18 +1,16 @@
 -- The slots of a picture's slices: a run of slices fills those that it covers, and lies within the picture.
-use Rattle.std.proofs.Common.{◌≡◌, ℕ, zero, suc, ◌+◌, ◌<◌, ◌≤◌, List, [], ◌∷◌, ◌++◌, length, map, take, drop, replicate, Option, Some, None, Result, Ok, refl, ap, sym, ◌∙◌, arith}
-use Rattle.std.specs.Prelude.{slice_get}
+use Rattle.std.proofs.Common.{◌≡◌, ℕ, zero, suc, ◌+◌, ◌<◌, ◌≤◌, List, [], ◌∷◌, ◌++◌, length, map, take, drop, replicate, Option, Some, None, Result, Ok, refl, ap, sym, arith}
 use Rattle.std.specs.List.{range_with_len}
 use Rattle.std.specs.Option.{option_or}
 use Rattle.std.proofs.lemmas.Bool.{le-leb}
+use Rattle.std.proofs.lemmas.Option.{slice_get_past}
 use Rattle.link_model.specs.Books.{Slots, slot_at, filled_with, with_run}
-use Rattle.link_model.specs.Kept.{Own, own, own_slice, SliceRun, runs_of, slice_run, slice_in, first_copy, next_slice, next_slices}
+use Rattle.link_model.specs.Kept.{Own, own, own_slice, SliceRun, runs_of, slice_run, slice_in, first_copy, next_slices}
 use Rattle.link_model.specs.Session.{Part, SlicePart}
 use Rattle.link_model.specs.declared.outcome.Outcome.{Outcome}
-use Rattle.vc_types.specs.Fields.{and_then}
 use Rattle.vc_types.specs.SequenceHeader.{Sequence}
 use Rattle.vc_types.specs.Subbands.{slice_count}
 use Rattle.vc_types.specs.TransformParameters.{Parameters}
-use Rattle.vc_types.proofs.FieldCodecs.{and_then_ok}
 
 pub or_none : (o : Option (List ℕ)) → option_or o None ≡ o
 or_none None = refl
@@ -22,9 +20,7 @@ or_none (Some bytes) = refl
 
 map_same : {X : Type 0} (f g : ℕ → X) (a n : ℕ) → ((i : ℕ) → a ≤ i → i < a + n → f i ≡ g i) → map f (range_with_len a n) ≡ map g (range_with_len a n)
 map_same f g a zero same = refl
-map_same {X = X} f g a (suc n) same =
-    ap (λ x. x ∷ map f (range_with_len (a + 1) n)) (same a (omega arith) (omega arith))
-    ∙ ap (λ (l : List X). g a ∷ l) (map_same f g (a + 1) n (λ i above below. same i (omega arith) (omega arith)))
+map_same {X = X} f g a (suc n) same = grind (arith, map_same f g (a + 1) n)
 
 pub no_slots : (a n : ℕ) → map (λ i. None) (range_with_len a n) ≡ replicate {A = Option (List ℕ)} n None
 no_slots a zero = refl
@@ -37,9 +33,7 @@ module _ (g : ℕ → Option (List ℕ)) where
   pub slot_inside : (a n i : ℕ) → i < n → slot_at (slots a n) i ≡ g (a + i)
   slot_inside a zero i below = absurd (omega arith)
   slot_inside a (suc n) zero below = let same : a ≡ a + 0 = omega arith in ap g same
-  slot_inside a (suc n) (suc i) below =
-      let same : a + 1 + i ≡ a + suc i = omega arith in
-      slot_inside (a + 1) n i (omega arith) ∙ ap g same
+  slot_inside a (suc n) (suc i) below = grind (arith, slot_inside (a + 1) n i (omega arith))
 
   pub slot_outside : (a n i : ℕ) → n ≤ i → slot_at (slots a n) i ≡ None
   slot_outside a zero i above = refl
@@ -88,25 +82,16 @@ module _ (p : Parameters) where
   pub next_slices-count : (n : ℕ) (bytes : List ℕ) (x : List (List ℕ) × List ℕ) → next_slices p n bytes ≡ Ok x → length x.0 ≡ n
   unfolding next_slices
   next_slices-count zero bytes x e = ap (λ (x : List (List ℕ) × List ℕ). length x.0) (sym (okay_is ([], bytes) x e))
-  next_slices-count (suc n) bytes x e =
-      let first = and_then_ok (next_slice p bytes) (λ read. and_then (next_slices p n read.1) (λ more. Ok (read.0 ∷ more.0, more.1))) x e in
-      let second = and_then_ok (next_slices p n first.0.1) (λ more. Ok (first.0.0 ∷ more.0, more.1)) x first.2 in
-      ap (λ (x : List (List ℕ) × List ℕ). length x.0) (sym (okay_is (first.0.0 ∷ second.0.0, second.0.1) x second.2))
-      ∙ ap (λ k. suc k) (next_slices-count n first.0.1 second.0 second.1)
+  next_slices-count (suc n) bytes x e = grind (arith, next_slices-count n)
 
   run_inside : (part : SlicePart) (run : SliceRun) → slice_run p part ≡ Ok run → run.first + length run.slices ≤ slice_count p
   unfolding slice_run
   run_inside part run e = grind (arith, next_slices-count, taken_is)
 
-  get_past : (slices : List (List ℕ)) (k : ℕ) → length slices ≤ k → slice_get slices k ≡ None
-  get_past [] k past = refl
-  get_past (slice ∷ slices) zero past = absurd (omega arith)
-  get_past (slice ∷ slices) (suc k) past = get_past slices k (omega arith)
-
   no_copy : (parts : List SlicePart) (i : ℕ) → slice_count p ≤ i → first_copy (runs_of p parts) i ≡ None
   unfolding first_copy
   no_copy [] i past = refl
-  no_copy (part ∷ parts) i past = grind (arith, get_past, run_inside, no_copy parts i past)
+  no_copy (part ∷ parts) i past = grind (arith, slice_get_past, run_inside, no_copy parts i past)
 
 module _ (s : Sequence) where
   -- no slice is kept past the picture's last

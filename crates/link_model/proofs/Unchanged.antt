@@ -1,9 +1,10 @@
 -- A part that isn't kept leaves its picture's book as it was.
-use Rattle.std.proofs.Common.{◌≡◌, ℕ, zero, suc, ◌+◌, false, List, [], ◌∷◌, ◌++◌, take, drop, Option, Some, None, Result, refl, ap, sym, ◌∙◌, arith}
+use Rattle.std.proofs.Common.{◌≡◌, ℕ, zero, suc, ◌+◌, false, List, [], ◌∷◌, drop, Option, Some, None, Result, refl, ap, sym, ◌∙◌, arith}
 use Rattle.std.specs.Prelude.{is_none}
 use Rattle.std.specs.List.{list_any, enumerate_from}
 use Rattle.std.specs.Option.{option_or}
 use Rattle.std.proofs.lemmas.Bool.{false≢true, or_parts}
+use Rattle.std.proofs.lemmas.List.{take-append-drop}
 use Rattle.link_model.specs.Books.{Slots, slot_at, Gathered, Book, filled_with, with_run, gathers_run, takes_params, takes_slices, book_plan, book_takes, book_slices_outcome, book_outcome}
 use Rattle.link_model.specs.Judgement.{parameters_outcome, run_outcome, numbered_slices, is_new, keeps}
 use Rattle.link_model.specs.Kept.{SliceRun}
@@ -33,13 +34,8 @@ slot_behind [] (suc first) k = refl
 slot_behind (slot ∷ slots) (suc first) k =
     slot_behind slots first k ∙ (let same : suc (first + k) ≡ suc first + k = omega arith in ap (slot_at (slot ∷ slots)) same)
 
-take_drop : (n : ℕ) (slots : Slots) → take n slots ++ drop n slots ≡ slots
-take_drop zero slots = refl
-take_drop (suc n) [] = refl
-take_drop (suc n) (slot ∷ slots) = ap (λ (l : Slots). slot ∷ l) (take_drop n slots)
-
 repeat_same : (slots : Slots) (run : SliceRun) → list_any (is_new (slot_at slots)) (numbered_slices run) ≡ false → with_run slots run ≡ slots
-repeat_same slots run none = grind (arith, same_from, slot_behind, take_drop)
+repeat_same slots run none = grind (arith, same_from, slot_behind, take-append-drop)
 
 module _ (book : Book) where
   params_unchanged : (o : Option Gathered) (body : List ℕ) (r : Result (Parameters × ℕ) ParamsRefusal) → coded_parameters book.sequence body ≡ r

@@ -7,10 +7,10 @@ use Rattle.std.specs.Option.{option_map, option_map_or}
 use Rattle.std.proofs.Math.Seq.{drop-append_seam}
 use Rattle.std.proofs.lemmas.Option.{same_Some, none-some}
 use Rattle.link_model.specs.Complete.{slice_numbers, all_bytes}
-use Rattle.link_model.specs.Kept.{KeptParameters, kept_parameters, parameters_in, SplitParts, split_by, also_before, split_parts, Own, own_of, own, own_slice, SliceRun, runs_of, slice_run, first_copy, cut_off, next_slice, next_slices, waiting_limit}
+use Rattle.link_model.specs.Kept.{KeptParameters, kept_parameters, parameters_in, SplitParts, split_by, also_before, split_parts, Own, own_of, own, own_slice, SliceRun, runs_of, slice_run, first_copy, next_slice, next_slices, waiting_limit}
 use Rattle.link_model.specs.Session.{Part, ParamsPart, SlicesPart, SlicePart}
 use Rattle.vc_types.specs.Bits.{bits_of}
-use Rattle.vc_types.specs.Fields.{joined, and_then}
+use Rattle.vc_types.specs.Fields.{joined}
 use Rattle.vc_types.specs.PictureBytes.{IsWholeSlice}
 use Rattle.vc_types.specs.Pictures.{decoded_picture, with_parameters, with_slices, slices_from}
 use Rattle.vc_types.specs.SequenceHeader.{Sequence, bytes_used, with_bytes_used}
@@ -19,7 +19,6 @@ use Rattle.vc_types.specs.Subbands.{slice_count}
 use Rattle.vc_types.specs.TransformParameters.{Parameters, transform_parameters}
 use Rattle.vc_types.specs.declared.refusal.ParamsRefusal.{ParamsRefusal}
 use Rattle.link_model.proofs.Slots.{okay_is, taken_is}
-use Rattle.vc_types.proofs.FieldCodecs.{and_then_ok}
 use Rattle.vc_types.proofs.OwnBytes.{ReadAgain, read_again}
 use Rattle.vc_types.proofs.OwnParameters.{parameters_own}
 
@@ -69,22 +68,10 @@ module _ (p : Parameters) (alone : SlicesStandAlone p) where
   abbrev AreWhole : List (List ℕ) → Type 0
   AreWhole slices = (k : ℕ) (bytes : List ℕ) → slice_get slices k ≡ Some bytes → IsWholeSlice p bytes
 
-  cut_whole : (bytes : List ℕ) (x : List ℕ × List ℕ) (o : Option ℕ) → slice_length p.prefix p.scaler bytes ≡ o → cut_off bytes o ≡ Ok x → IsWholeSlice p x.0
-  cut_whole bytes x None is e = absurd cc
-  cut_whole bytes x (Some len) is e = subst (λ (x : List ℕ × List ℕ). IsWholeSlice p x.0) (okay_is (take len bytes, drop len bytes) x e) (alone bytes len is)
-
   next_whole : (n : ℕ) (bytes : List ℕ) (x : List (List ℕ) × List ℕ) → next_slices p n bytes ≡ Ok x → AreWhole x.0
   unfolding next_slices next_slice
   next_whole zero bytes x e = subst (λ (x : List (List ℕ) × List ℕ). AreWhole x.0) (okay_is ([], bytes) x e) (λ k b none. absurd (none-some b none))
-  next_whole (suc n) bytes x e =
-      let first = and_then_ok (next_slice p bytes) (λ read. and_then (next_slices p n read.1) (λ more. Ok (read.0 ∷ more.0, more.1))) x e in
-      let second = and_then_ok (next_slices p n first.0.1) (λ more. Ok (first.0.0 ∷ more.0, more.1)) x first.2 in
-      subst (λ (x : List (List ℕ) × List ℕ). AreWhole x.0) (okay_is (first.0.0 ∷ second.0.0, second.0.1) x second.2)
-      (consed first.0.0 second.0.0 (cut_whole bytes first.0 (slice_length p.prefix p.scaler bytes) refl first.1) (next_whole n first.0.1 second.0 second.1))
-    where
-      consed : (b : List ℕ) (bs : List (List ℕ)) → IsWholeSlice p b → AreWhole bs → AreWhole (b ∷ bs)
-      consed b bs here rest zero bytes e = subst (IsWholeSlice p) (same_Some b bytes e) here
-      consed b bs here rest (suc k) bytes e = rest k bytes e
+  next_whole (suc n) bytes x e = grind (arith, next_whole n)
 
   run_whole : (part : SlicePart) (run : SliceRun) → slice_run p part ≡ Ok run → AreWhole run.slices
   unfolding slice_run

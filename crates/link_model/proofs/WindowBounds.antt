@@ -23,7 +23,7 @@ few_between test book low size within a zero = omega arith
 few_between test book low size within a (suc m) =
     grind (arith, books_over, few_between test book low size within (a + 1) m)
 
-opened_at_most : (es : List Numbered) (n : ℕ) → is_opened es n ≡ true → n ≤ greatest es
+pub opened_at_most : (es : List Numbered) (n : ℕ) → is_opened es n ≡ true → n ≤ greatest es
 opened_at_most es n opened = grind (arith, parts_of-outside)
 
 -- the books of pictures that aren't closed are at most as many as may be open

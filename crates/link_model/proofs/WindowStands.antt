@@ -4,6 +4,7 @@ use Rattle.std.specs.List.{last_or}
 use Rattle.std.specs.Option.{option_map}
 use Rattle.std.proofs.lemmas.Bool.{cond-true, cond-false, not-true, not_from_false, leb-false}
 use Rattle.std.proofs.lemmas.List.{append_assoc}
+use Rattle.std.proofs.lemmas.List.Prefix.{front_rest}
 use Rattle.std.proofs.lemmas.Option.{none-some}
 use Rattle.link_model.specs.Books.{book_of}
 use Rattle.link_model.specs.Judgement.{fragment_outcome}
@@ -14,7 +15,7 @@ use Rattle.link_model.specs.Windows.{book_at, Window, new_window, number_by, lat
 use Rattle.link_model.proofs.Leaving.{past, let_go_numbers_grow, last_releases}
 use Rattle.link_model.proofs.LettingGo.{is_let_go_by, releasable_over, next_some}
 use Rattle.link_model.proofs.Numbering.{enters_follows}
-use Rattle.link_model.proofs.RisingNumbers.{numbers_over, begins_with, rest_of}
+use Rattle.link_model.proofs.RisingNumbers.{numbers_over, begins_with}
 use Rattle.link_model.proofs.Windowing.{gone_in, needed_by, books_by, book_of_window, enters_is, outcome_is, finishes_is, releases_is}
 use Rattle.vc_types.specs.SequenceHeader.{Sequence}
 
@@ -27,7 +28,7 @@ drop_none : (n : ℕ) → drop n no_number ≡ []
 drop_none zero = refl
 drop_none (suc n) = refl
 
-first_and_rest : (ns : List ℕ) (n : ℕ) → first_of ns ≡ Some n → (rest : List ℕ) × (ns ≡ n ∷ rest)
+pub first_and_rest : (ns : List ℕ) (n : ℕ) → first_of ns ≡ Some n → (rest : List ℕ) × (ns ≡ n ∷ rest)
 first_and_rest [] n is = absurd (none-some n is)
 first_and_rest (m ∷ ns) n is = (ns, (let same : m ≡ n = cc in ap (λ k. k ∷ ns) same))
 
@@ -101,7 +102,7 @@ module _ (w : Window) (p : WindowPast) (stands : StandsForPast w p) where
 
     -- the others are still to be released
     pub releasable_next : releasable_numbers p ≡ n ∷ releasable_numbers (past_releases p n)
-    releasable_next = grind (arith, first_and_rest, rest_of, split)
+    releasable_next = grind (arith, first_and_rest, front_rest, split)
 
     -- its book is there
     pub book_of_next : book_at w.books n ≡ Some (book_of p.sequence (parts_of n p.entries))

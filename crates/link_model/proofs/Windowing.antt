@@ -2,7 +2,7 @@
 use Rattle.std.proofs.Common.{◌≡◌, ℕ, ◌+◌, ◌-◌, ◌^◌, ◌<◌, ◌≤◌, max, Bool, true, false, List, [], ◌∷◌, ◌++◌, map, Option, Some, None, refl, ap, sym, ◌∙◌, inl, inr, arith, cond}
 use Rattle.std.specs.Prelude.{nat_lt, nat_le, not, ◌&&◌, ◌||◌, filter}
 use Rattle.std.specs.List.{flat_map, range_with_len, last_or}
-use Rattle.std.proofs.lemmas.Bool.{cases_lt, and_from, and_left, cond-true, le-ltb, lt-ltb, leb-false, false≢true, not_from_false, or_parts, or_from}
+use Rattle.std.proofs.lemmas.Bool.{cases_lt, and_from, and_left, and_parts, cond-true, le-ltb, lt-ltb, leb-false, not_from_false, or_parts, or_from}
 use Rattle.std.proofs.lemmas.List.{append-nil, map-append}
 use Rattle.link_model.specs.Books.{Book, book_of, book_takes}
 use Rattle.link_model.specs.Judgement.{fragment_outcome}
@@ -12,7 +12,8 @@ use Rattle.link_model.specs.Windows.{NumberedBook, with_number, book_at, with_pa
 use Rattle.link_model.proofs.Apart.{base_is_above}
 use Rattle.link_model.proofs.Bookkeeping.{takes-more, book_outcome_is}
 use Rattle.link_model.proofs.BooksInOrder.{picked, books_over, book_inside, same_books, fewer_books, part_inside}
-use Rattle.link_model.proofs.Leaving.{past, passing, passing-over}
+use Rattle.link_model.proofs.Leaving.{no_parts, past, passing, passing-over}
+use Rattle.link_model.proofs.Ranges.{same_pieces}
 use Rattle.link_model.proofs.Numbering.{greatest-append, parts_of-append, parts_of-other, late_changes_nothing, early_enters}
 use Rattle.vc_types.specs.SequenceHeader.{Sequence}
 
@@ -21,10 +22,6 @@ use Rattle.vc_types.specs.SequenceHeader.{Sequence}
 map_flat : {A B C : Type 0} (g : B → C) (f : A → List B) (xs : List A) → map g (flat_map f xs) ≡ flat_map (λ x. map g (f x)) xs
 map_flat g f [] = refl
 map_flat {C = C} g f (x ∷ xs) = map-append g (f x) (flat_map f xs) ∙ ap (λ (l : List C). map g (f x) ++ l) (map_flat g f xs)
-
-same_flat : {A B : Type 0} (f g : A → List B) → ((x : A) → f x ≡ g x) → (xs : List A) → flat_map f xs ≡ flat_map g xs
-same_flat f g same [] = refl
-same_flat {B = B} f g same (x ∷ xs) = ap (λ (l : List B). l ++ flat_map f xs) (same x) ∙ ap (λ (l : List B). g x ++ l) (same_flat f g same xs)
 
 -- books that are needed, by which pictures are opened and which are gone
 abbrev pub needed_by : List Numbered → (ℕ → Bool) → ℕ → Bool
@@ -42,7 +39,7 @@ module _ (p : WindowPast) where
   books_range n rest size =
       ap (map (past_book p)) (passing-over p.entries (is_needed p) n rest size)
       ∙ map_flat (past_book p) (passing p.entries (is_needed p)) (range_with_len 0 n)
-      ∙ same_flat (λ k. map (past_book p) (passing p.entries (is_needed p) k)) (picked (needed_by p.entries gone_in) (books_by p.sequence p.entries)) each (range_with_len 0 n)
+      ∙ same_pieces (λ k. map (past_book p) (passing p.entries (is_needed p) k)) (picked (needed_by p.entries gone_in) (books_by p.sequence p.entries)) each (range_with_len 0 n)
     where
       by_tests : (k : ℕ) (needed was : Bool) → map (past_book p) (cond needed (cond was (k ∷ []) []) []) ≡ cond (was && needed) (past_book p k ∷ []) []
       by_tests k o b = grind arith
@@ -96,10 +93,6 @@ module _ (p : WindowPast) (runs : p.is_ended ≡ false) where
 
     not_gone : gone_in p n ≡ false
     not_gone = and_left (p.is_ended || is_closed p.size p.entries n) (released_up_to (last_or None p.released) n) unclosed
-
-    no_parts : (parts : List Part) → has_parts parts ≡ false → parts ≡ []
-    no_parts [] e = refl
-    no_parts (part ∷ parts) e = absurd (false≢true (sym e))
 
     -- the book of a picture that isn't closed, or a new one
     open_book : cond (needed_by p.entries (gone_in p) n) (books_by p.sequence p.entries n) (book_of p.sequence []) ≡ books_by p.sequence p.entries n
@@ -250,13 +243,10 @@ module _ (p : WindowPast) where
     is_ended = true;
     books = (ap (filter (stays_in (record (window_of p) { is_ended = true }))) (books_range p all 0 refl)
         ∙ fewer p.entries (books_by p.sequence p.entries) (gone_in p) (gone_in (past_finishes p)) all
-        (λ k. by_tests (p.is_ended || nat_le (k + p.size) (greatest p.entries)) (released_up_to (last_or None p.released) k))
+        (λ k gone. (and_parts (p.is_ended || nat_le (k + p.size) (greatest p.entries))
+        (released_up_to (last_or None p.released) k) gone).1)
         ∙ sym (books_range (past_finishes p) all 0 refl)) j;
   }
-    where
-      by_tests : (closed low : Bool) → (closed && low) ≡ true → low ≡ true
-      by_tests true low e = e
-      by_tests false low e = absurd (false≢true e)
 
 last_is : (o : Option ℕ) (ns : List ℕ) (n : ℕ) → last_or o (ns ++ n ∷ []) ≡ Some n
 last_is o [] n = refl

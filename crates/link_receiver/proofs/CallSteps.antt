@@ -1,13 +1,13 @@
 -- Calls of places, by the steps that make them.
-use Rattle.std.proofs.Common.{◌≡◌, ℕ, suc, ◌+◌, ◌<◌, Bool, true, false, cond, List, [], ◌∷◌, ◌++◌, length, take, get_or, Option, Some, None, Result, Ok, Err, refl, ap, sym, ◌∙◌, subst, append-nil, rules}
+use Rattle.std.proofs.Common.{◌≡◌, ℕ, suc, ◌+◌, ◌<◌, Bool, true, List, [], ◌∷◌, ◌++◌, length, take, get_or, Option, Some, None, Result, Ok, Err, refl, ap, sym, ◌∙◌, subst, append-nil, rules, arith}
 use Rattle.std.proofs.lemmas.List.{take_more, map-append}
 use Rattle.std.specs.Prelude.{map, filter, OnOk, is_some}
 use Rattle.std.specs.Option.{option_and_then}
 use Rattle.std.proofs.lemmas.Bool.{false≢true}
 use Rattle.link_model.specs.Windows.{Releasable, next_release}
 use Rattle.link_model.specs.Places.{Job, Answered}
-use Rattle.link_reception.specs.Exchanging.{Exchange, Proposed, Fetched, exchanged, all_exchanged, takes_done, not_at, is_wanted}
-use Rattle.link_reception.specs.Receptions.{Reception, StandingSession, SliceOut, keeps_answer}
+use Rattle.link_reception.specs.Exchanging.{Exchange, Proposed, Fetched, exchanged, all_exchanged, takes_done, not_at}
+use Rattle.link_reception.specs.Receptions.{Reception, StandingSession, SliceOut}
 use Rattle.link_reception.specs.Releasing.{next_picture}
 use Rattle.link_receiver.proofs.Exchanges.{calls_then, exchanges_of-append, no_call}
 use Rattle.link_receiver.proofs.Offered.{proposed_in-append, offers_more, offers_again, once_more}
@@ -59,14 +59,7 @@ pub asked_last : (a b : Option Told) (first now : Reception) (k : ℕ) → k ≡
     × IsExchanged a b first now calls
     × (proposed_in (exchanges_of calls) ≡ [])
     × (are_asked first.out (exchanges_of calls) ≡ true)
-asked_last a b first now k e h = (
-  h.0,
-  h.1,
-  h.2,
-  all_asked first.out (asked_in (exchanges_of h.0))
-      (subst (λ (n : ℕ). AreAskedOrIn first.out (asked_in (exchanges_of h.0)) (take n now.out)) e
-      h.3),
-)
+asked_last a b first now k e h = grind (arith, all_asked, AreAskedOrIn)
 
 -- ---- offers
 
@@ -143,12 +136,7 @@ pub record HaveSameSession (r s : Reception) : Type 0 where
 takes_done-session : (r : Reception) (out : List SliceOut) (done : Answered)
     → HaveSameSession r (takes_done (record r { out = out }) done)
 unfolding takes_done
-takes_done-session r out done = by_test (is_wanted (record r { out = out }) done)
-  where
-    by_test : (b : Bool) → (let s : Reception = record r { out = out } in HaveSameSession r
-        (cond b (record s { answers = keeps_answer r.answers done }) s))
-    by_test true = search rules
-    by_test false = search rules
+takes_done-session r out done = grind arith
 
 exchanged-session : (r : Reception) (e : Exchange) → HaveSameSession r (exchanged r e)
 exchanged-session r (Proposed job None) = search rules
@@ -160,18 +148,7 @@ exchanged-session r (Fetched place (Some done)) =
 pub all_exchanged-session : (r : Reception) (es : List Exchange)
     → HaveSameSession r (all_exchanged r es)
 all_exchanged-session r [] = search rules
-all_exchanged-session r (e ∷ es) =
-    both (exchanged-session r e) (all_exchanged-session (exchanged r e) es)
-  where
-    both : HaveSameSession r (exchanged r e)
-        → HaveSameSession (exchanged r e) (all_exchanged (exchanged r e) es)
-        → HaveSameSession r (all_exchanged (exchanged r e) es)
-    both p q = record {
-      standing = q.standing ∙ p.standing;
-      field = q.field ∙ p.field;
-      size = q.size ∙ p.size;
-      has_ended = q.has_ended ∙ p.has_ended;
-    }
+all_exchanged-session r (e ∷ es) = grind (arith, exchanged-session, all_exchanged-session (exchanged r e) es)
 
 pub calls_session : (a b : Option Told) (r s : Reception) (calls : List PlaceCall)
     → IsExchanged a b r s calls → HaveSameSession r s

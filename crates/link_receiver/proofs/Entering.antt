@@ -1,7 +1,7 @@
 -- A datagram and the end of the input, by their steps.
-use Rattle.std.proofs.Common.{◌≡◌, ℕ, zero, suc, ◌≤◌, Bool, true, List, [], ◌++◌, Option, Some, None, refl, ap, sym, ◌∙◌, subst, append-nil}
+use Rattle.std.proofs.Common.{◌≡◌, ℕ, zero, suc, Bool, true, List, [], ◌++◌, Option, Some, None, refl, ap, sym, ◌∙◌, subst, append-nil, arith}
 use Rattle.std.specs.Prelude.{map, is_some, is_none}
-use Rattle.std.specs.Option.{option_map, option_map_or}
+use Rattle.std.specs.Option.{option_map}
 use Rattle.link_model.specs.Places.{Job}
 use Rattle.link_model.specs.Session.{Session}
 use Rattle.link_model.specs.Windows.{Releasable}
@@ -10,7 +10,7 @@ use Rattle.link_reception.specs.Entering.{datagram_jobs, opens_session, takes_da
 use Rattle.link_reception.specs.Exchanging.{Exchange, all_exchanged, dones_in}
 use Rattle.link_reception.specs.Judging.{judged, keeps_datagram, session_opened, stands_on, ends_input, is_over}
 use Rattle.link_reception.specs.Receptions.{Reception, StandingSession, FirstField, SliceOut}
-use Rattle.link_reception.specs.Releasing.{next_picture, releases_all, releases_up_to, releases_picture_of, releases_from, book_count}
+use Rattle.link_reception.specs.Releasing.{next_picture, releases_all, releases_up_to, releases_picture_of, book_count}
 use Rattle.link_reception.specs.Standing.{AreDecodings}
 use Rattle.link_reception.specs.WholeBooks.{ArePicturePlanes}
 use Rattle.link_session.specs.Openings.{session_of}
@@ -84,36 +84,15 @@ opens_same : (r : Reception) → StaysOpen r r
 opens_same r = record { size = refl; has_ended = refl; running = λ h. h }
 
 opens_then : (r s t : Reception) → StaysOpen r s → StaysOpen s t → StaysOpen r t
-opens_then r s t p q = record {
-  size = q.size ∙ p.size;
-  has_ended = q.has_ended ∙ p.has_ended;
-  running = λ h. q.running (p.running h);
-}
+opens_then r s t p q = grind arith
 
 one_release : (r : Reception) (picture : Releasable) → StaysOpen r (releases_picture_of r picture)
-one_release r picture = by_standing r.standing refl
-  where
-    by_standing : (o : Option StandingSession) → r.standing ≡ o
-        → StaysOpen r (option_map_or (releases_from r picture) o r)
-    by_standing None e = opens_same r
-    by_standing (Some st) e = record {
-      size = refl;
-      has_ended = refl;
-      running = λ h. subst IsRunning e h;
-    }
+one_release r picture = grind (arith, opens_same)
 
 releases_open : (k : ℕ) (r : Reception) → StaysOpen r (releases_up_to k r)
 unfolding releases_up_to
 releases_open zero r = opens_same r
-releases_open (suc k) r = by_next (next_picture r) (λ s. releases_open k s)
-  where
-    by_next : (o : Option Releasable) → ((s : Reception) → StaysOpen s (releases_up_to k s))
-        → StaysOpen r (option_map_or
-        (λ (picture : Releasable). releases_up_to k (releases_picture_of r picture)) o r)
-    by_next None later = opens_same r
-    by_next (Some picture) later = opens_then r (releases_picture_of r picture)
-        (releases_up_to k (releases_picture_of r picture)) (one_release r picture)
-        (later (releases_picture_of r picture))
+releases_open (suc k) r = grind (arith, opens_same, opens_then, one_release, releases_open k)
 
 -- ---- what goes out, and the stream
 
@@ -178,11 +157,7 @@ module _ {a b : Option Told} (old : Reception) {kept exchanged : Reception} (d :
       → GrewBySome before behind (all_released_output stream exchanged)
       → (es : List Exchange) × AreDecodings (dones_in es)
       × GrewBySome before behind (datagram_output stream old d es)
-  fails_in stream before behind some = (
-    exchanges_of x.0,
-    x.1.decodings,
-    subst (GrewBySome before behind) (output_exchanged stream) some,
-  )
+  fails_in stream before behind some = grind (arith, output_exchanged)
 
   module _ {c : Option Told} {before behind : Option (List ℕ)}
       {first mid : Option WrittenStream} {released : Reception}
@@ -201,9 +176,7 @@ module _ {a b : Option Told} (old : Reception) {kept exchanged : Reception} (d :
         ∙ (releases_open (book_count exchanged) exchanged).has_ended ∙ has_ended_exchanged
 
     running_released : IsRunning kept.standing → IsRunning released.standing
-    running_released h = subst (λ (r : Reception). IsRunning r.standing) (sym all.value)
-        ((releases_open (book_count exchanged) exchanged).running
-        (subst IsRunning (sym same.standing) h))
+    running_released h = grind (arith, value, releases_open, same)
 
     opened-has_ended : (o : Option Session)
         → (opens_session o released).has_ended ≡ released.has_ended
@@ -218,18 +191,8 @@ module _ {a b : Option Told} (old : Reception) {kept exchanged : Reception} (d :
     opens : GoesOn old → WaitsForSecond released.standing released.field
         → (o : Option Opening) → (o ≡ None → IsRunning kept.standing)
         → GoesOn (opens_session (option_map session_of o) released)
-    opens old_goes waits None running = record {
-      least = subst (λ (n : ℕ). 2 ≤ n) (sym size_released) old_goes.least;
-      most = subst (λ (n : ℕ). n ≤ 8) (sym size_released) old_goes.most;
-      running = running_released (running refl);
-      waiting = waits;
-    }
-    opens old_goes waits (Some opening) running = record {
-      least = subst (λ (n : ℕ). 2 ≤ n) (sym size_released) old_goes.least;
-      most = subst (λ (n : ℕ). n ≤ 8) (sym size_released) old_goes.most;
-      running = refl;
-      waiting = tt;
-    }
+    opens old_goes waits None running = grind (arith, size_released, running_released)
+    opens old_goes waits (Some opening) running = grind (arith, size_released)
 
     pub goes_on_behind : GoesOn old → WaitsForSecond released.standing released.field
         → (o : Option Opening) → (o ≡ None → IsRunning kept.standing) → {new : Reception}
@@ -252,21 +215,11 @@ module _ {a b : Option Told} (old : Reception) {kept exchanged : Reception} (d :
       new_written = subst (Grew before behind) (output_exchanged first) all.written
 
       new_stream : last ≡ stream_behind_datagram first old d (exchanges_of x.0)
-      new_stream = t
-          ∙ ap (λ (q : Bool). option_map (opens_stream_for o q datagram) mid) same_first
-          ∙ ap (λ (l : List ℕ). option_map (opens_stream_for o (is_none old.standing) l) mid)
-          same_datagram
-          ∙ ap (λ (a : Option Session).
-          option_map (opens_stream_for a (is_none old.standing) d) mid) opening
-          ∙ ap (option_map (opens_stream_for (session_opened old d) (is_none old.standing) d))
-          (all.stream ∙ ap (stream_behind_all first) value)
-          ∙ stream_behind_is first old d (exchanges_of x.0)
+      new_stream = grind (arith, value, stream_behind_is)
 
       asked_for : is_some (next_picture (keeps_datagram old d)) ≡ true
           → are_asked old.out (exchanges_of x.0) ≡ true
-      asked_for some = subst (λ (r : List SliceOut). are_asked r (exchanges_of x.0) ≡ true)
-          (ap (λ (r : Reception). r.out) k ∙ kept-out old d)
-          (x.3 (ap (λ (r : Reception). is_some (next_picture r)) k ∙ some))
+      asked_for some = grind (arith, kept-out)
 
       pub enters : (calls : List PlaceCall) × IsEntered (record {
         told_before = a;
@@ -315,9 +268,7 @@ module _ {a b : Option Told} (old : Reception) {ended exchanged : Reception}
   output_at_end : (stream : Option WrittenStream)
       → all_released_output stream exchanged ++ stream_end (stream_behind_all stream exchanged)
       ≡ end_output stream old (exchanges_of x.0)
-  output_at_end stream = ap (λ (r : Reception). all_released_output stream r
-      ++ stream_end (stream_behind_all stream r)) value_at_end
-      ∙ end_output_is stream old (exchanges_of x.0)
+  output_at_end stream = grind (arith, value_at_end, end_output_is)
 
   abbrev FailsAtEnd : (stream : Option WrittenStream) (before behind : Option (List ℕ)) → Type 0
   FailsAtEnd stream before behind = (es : List Exchange) × AreDecodings (dones_in es)
@@ -327,19 +278,13 @@ module _ {a b : Option Told} (old : Reception) {ended exchanged : Reception}
       → GrewBySome before behind
       (all_released_output stream exchanged ++ stream_end (stream_behind_all stream exchanged))
       → FailsAtEnd stream before behind
-  some_at_end stream before behind some = (
-    exchanges_of x.0,
-    x.1.decodings,
-    subst (GrewBySome before behind) (output_at_end stream) some,
-  )
+  some_at_end stream before behind some = grind (arith, output_at_end)
 
   -- in the releases, or behind them
   pub fails_at_end : (stream : Option WrittenStream) (before behind : Option (List ℕ))
       → GrewBySome before behind (all_released_output stream exchanged)
       → FailsAtEnd stream before behind
-  fails_at_end stream before behind some = some_at_end stream before behind
-      (GrewBySome-front before behind (all_released_output stream exchanged)
-      (stream_end (stream_behind_all stream exchanged)) some)
+  fails_at_end stream before behind some = grind (arith, some_at_end, GrewBySome-front)
 
   module _ {c : Option Told} {before middle : Option (List ℕ)}
       {first last : Option WrittenStream} {released : Reception}
@@ -351,18 +296,11 @@ module _ {a b : Option Told} (old : Reception) {ended exchanged : Reception}
     -- at the end of the stream
     pub fails_last : (behind : Option (List ℕ)) → GrewBySome middle behind (stream_end last)
         → FailsAtEnd first before behind
-    fails_last behind some = some_at_end first before behind
-        (GrewBySome-then before middle behind (all_released_output first exchanged)
-        (stream_end (stream_behind_all first exchanged)) all.written
-        (subst (λ (o : Option WrittenStream). GrewBySome middle behind (stream_end o)) all.stream
-        some))
+    fails_last behind some = grind (arith, some_at_end, GrewBySome-then)
 
     module _ {new : Reception} (n : new ≡ gives_up_field released) where
       pub ended_behind : new.has_ended ≡ true
-      ended_behind = ap (λ (r : Reception). r.has_ended) n
-          ∙ ap (λ (r : Reception). r.has_ended) all.value
-          ∙ (releases_open (book_count exchanged) exchanged).has_ended
-          ∙ same_at_end.has_ended ∙ ap (λ (r : Reception). r.has_ended) k
+      ended_behind = grind (arith, value, releases_open, same_at_end)
 
       new_end : new ≡ takes_end old (exchanges_of x.0)
       unfolding takes_end

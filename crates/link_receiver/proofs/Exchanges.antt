@@ -1,13 +1,12 @@
 -- Calls of places, one after another.
-use Rattle.std.proofs.Common.{◌≡◌, List, [], ◌∷◌, ◌++◌, Option, Some, None, refl, ap, sym, ◌∙◌, subst}
+use Rattle.std.proofs.Common.{◌≡◌, List, [], ◌∷◌, ◌++◌, Option, Some, None, refl, ap, sym, ◌∙◌, arith}
 use Rattle.std.proofs.lemmas.List.{map-append}
 use Rattle.std.specs.Prelude.{ℕ}
 use Rattle.std.specs.Option.{option_map}
 use Rattle.link_model.specs.Places.{decoding}
 use Rattle.link_reception.proofs.Exchanges.{decodings_then, exchanged_then}
-use Rattle.link_reception.specs.Exchanging.{Exchange, Proposed, Fetched, exchanged, all_exchanged, dones_in}
+use Rattle.link_reception.specs.Exchanging.{Proposed, Fetched, exchanged}
 use Rattle.link_reception.specs.Receptions.{Reception}
-use Rattle.link_reception.specs.Standing.{AreDecodings}
 use Rattle.slice_exchange.proofs.Growing.{told_assoc, grows_twice, grows_none}
 use Rattle.slice_exchange.specs.Calls.{PlaceCall, Puts, Takes, told_by, told_of, exchange_by, exchanges_of}
 use Rattle.slice_jobs.specs.Jobs.{job_of, answered}
@@ -34,14 +33,7 @@ pub one_put : (before behind : Option Told) (old new : Reception) (job : SliceJo
     (answer : Option ℕ) → Grows before behind (one_offer job answer)
     → new ≡ exchanged old (Proposed (job_of job) answer)
     → IsExchanged before behind old new (Puts job answer ∷ [])
-one_put before behind old new job answer told value = record {
-  told = rw told_none told;
-  value = value;
-  decodings = tt;
-}
-  where
-    told_none : told_more (one_offer job answer) (told_of []) ≡ one_offer job answer
-    told_none = refl
+one_put before behind old new job answer told value = grind arith
 
 own_done : (done : SliceDone) → (answered done).answer ≡ decoding (answered done).job
 own_done done = done.decoded
@@ -50,27 +42,11 @@ pub one_take : (before behind : Option Told) (old new : Reception) (place : ℕ)
     (done : Option SliceDone) → Grows before behind (taking place done)
     → new ≡ exchanged old (Fetched place (option_map answered done))
     → IsExchanged before behind old new (Takes place done ∷ [])
-one_take before behind old new place None told value = record {
-  told = told;
-  value = value;
-  decodings = tt;
-}
-one_take before behind old new place (Some done) told value = record {
-  told = told;
-  value = value;
-  decodings = (own_done done, tt);
-}
+one_take before behind old new place None told value = grind arith
+one_take before behind old new place (Some done) told value = grind (arith, own_done)
 
 pub calls_then : (a b c : Option Told) (r s t : Reception) (first second : List PlaceCall)
     → IsExchanged a b r s first → IsExchanged b c s t second
     → IsExchanged a c r t (first ++ second)
-calls_then a b c r s t first second p q = record {
-  told = subst (Grows a c) (sym (told_of-append first second))
-      (grows_twice a b c (told_of first) (told_of second) p.told q.told);
-  value = q.value ∙ ap (λ (x : Reception). all_exchanged x (exchanges_of second)) p.value
-      ∙ sym (exchanged_then r (exchanges_of first) (exchanges_of second))
-      ∙ ap (all_exchanged r) (sym (exchanges_of-append first second));
-  decodings = subst (λ (xs : List Exchange). AreDecodings (dones_in xs))
-      (sym (exchanges_of-append first second))
-      (decodings_then (exchanges_of first) (exchanges_of second) p.decodings q.decodings);
-}
+calls_then a b c r s t first second p q =
+    grind (arith, told_of-append, grows_twice, exchanged_then, exchanges_of-append, decodings_then)

@@ -1,9 +1,7 @@
 -- What a receiver has heard behind a datagram, and what it wrote then and at the end.
-use Rattle.std.proofs.Common.{◌≡◌, ℕ, false, List, [], ◌∷◌, ◌++◌, length, drop, Option, sym, ap, ◌∙◌, refl}
-use Rattle.std.proofs.Math.Seq.{drop-append_seam}
+use Rattle.std.proofs.Common.{◌≡◌, ℕ, false, List, [], ◌∷◌, ◌++◌, Option, ap, ◌∙◌, arith}
+use Rattle.std.proofs.lemmas.List.Prefix.{front_rest}
 use Rattle.link_model.specs.Judgement.{tally_of, outcome_behind}
-use Rattle.link_model.specs.Machine.{Enter}
-use Rattle.link_model.specs.Next.{next_feeder}
 use Rattle.link_reception.specs.Entering.{datagram_jobs, takes_datagram, takes_end}
 use Rattle.link_reception.specs.Exchanging.{Exchange, dones_in}
 use Rattle.link_reception.specs.Judging.{judged}
@@ -20,10 +18,6 @@ use Rattle.unit_release.proofs.Following.{stream_follows, stream_grows, stream_e
 use Rattle.unit_release.specs.Outputs.{datagram_output, stream_behind_datagram, end_output}
 use Rattle.unit_release.specs.Receiving.{stream_takes}
 use Rattle.unit_release.specs.Writing.{WrittenStream}
-
--- what stands behind a list
-rest_of : (front rest all : List ℕ) → all ≡ front ++ rest → drop (length front) all ≡ rest
-rest_of front rest all is = ap (drop (length front)) is ∙ drop-append_seam front rest
 
 -- what is written speaks of what a receiver has and its stream alone
 pub writes_same : (form : OutputForm) (r s : ReceiverState) (size : ℕ)
@@ -62,19 +56,7 @@ module _ (form : OutputForm) (r : ReceiverState) (size : ℕ) (datagrams : List 
     pub heard_with : (d : List ℕ) → ArePutsOf (datagram_jobs r.reception d) exchanges
         → HasHeard form (then d) size (datagrams ++ d ∷ [])
     heard_with d offers =
-        let again = heard_again size h.feeder d exchanges in
-        record {
-          sound = refl;
-          least = h.least;
-          fits = h.fits;
-          feeder = next_feeder size h.feeder (Enter d) (dones_in exchanges);
-          stands = datagram_stands r.reception size h.feeder h.fits h.stands h.goes_on exchanges right d;
-          heard = again.0 ∙ ap (λ (l : List (List ℕ)). l ++ d ∷ []) h.heard;
-          goes_on = again.1 ∙ h.goes_on;
-          out = datagram_out_kept r.reception size datagrams d h.fits heard_stands h.out exchanges
-              offers;
-          writes = writes_with d form h.writes;
-        }
+        grind (arith, heard_again, datagram_stands, datagram_out_kept, heard_stands, writes_with)
 
     due_with : (d : List ℕ) → (kind : OutputForm) → WritesAs kind r size datagrams
         → due_so_far kind size (datagrams ++ d ∷ [])
@@ -94,14 +76,10 @@ module _ (form : OutputForm) (r : ReceiverState) (size : ℕ) (datagrams : List 
 
     pub heard_writes : (d : List ℕ) → datagram_output r.stream r.reception d exchanges
         ≡ newly_due form size datagrams d
-    heard_writes d = sym (rest_of (due_so_far form size datagrams)
-        (datagram_output r.stream r.reception d exchanges)
-        (due_so_far form size (datagrams ++ d ∷ [])) (due_with d form h.writes))
+    heard_writes d = grind (arith, front_rest, due_with)
 
     pub end_writes : end_output r.stream r.reception exchanges ≡ still_due form size datagrams
-    end_writes = sym (rest_of (due_so_far form size datagrams)
-        (end_output r.stream r.reception exchanges) (due_in_all form size datagrams)
-        (due_at_end form h.writes))
+    end_writes = grind (arith, front_rest, due_at_end)
 
     pub end_counts : (takes_end r.reception exchanges).counts ≡ tally_of size datagrams
     end_counts = rw h.heard at (finished_counts r.reception size h.feeder h.fits h.stands h.goes_on exchanges right)

@@ -104,9 +104,7 @@ module _ {inside old : ReceiverState} (is : inside ≡ old) where
 
       pub enter_wrote : outside.stream_before ≡ inside.stream
           → Grew outside.held_before outside.held_behind (newly_due form size datagrams d)
-      enter_wrote first =
-          rw (heard_writes form inside size datagrams heard (exchanges_of calls) e.decodings d) at
-          (rw first at e.written)
+      enter_wrote first = grind (arith, heard_writes)
 
   module _ {outside : Outside} {new : Reception} {calls : List PlaceCall}
       (e : IsDrained outside inside.reception new calls)
@@ -114,9 +112,7 @@ module _ {inside old : ReceiverState} (is : inside ≡ old) where
       (h : HasHeard form old size datagrams) where
     pub drain_wrote : outside.stream_before ≡ inside.stream
         → Grew outside.held_before outside.held_behind (still_due form size datagrams)
-    drain_wrote first =
-        rw (end_writes form inside size datagrams (rw is h) (exchanges_of calls) e.decodings) at
-        (rw first at e.written)
+    drain_wrote first = grind (arith, end_writes)
 
     pub drain_counts : new.counts ≡ tally_of size datagrams
     drain_counts =

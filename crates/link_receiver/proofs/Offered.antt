@@ -1,5 +1,5 @@
 -- Offers and places that were asked, over more calls than one.
-use Rattle.std.proofs.Common.{◌≡◌, List, [], ◌∷◌, ◌++◌, Option, Some, None, refl, ap, sym, ◌∙◌, inl, inr, append_assoc, append-nil}
+use Rattle.std.proofs.Common.{◌≡◌, List, [], ◌∷◌, ◌++◌, Option, Some, None, refl, ap, sym, ◌∙◌, inl, inr, append_assoc, append-nil, arith}
 use Rattle.std.proofs.lemmas.Grind.{flat_map-append}
 use Rattle.link_model.specs.Places.{Job}
 use Rattle.link_reception.specs.Exchanging.{Exchange, Proposed}
@@ -17,27 +17,14 @@ pub offers_more : (jobs : List Job) (offers : List Exchange) (job : Job) (last :
     → AreOffersOf (jobs ++ job ∷ []) (offers ++ last)
 offers_more [] offers job last p l =
     (last, [], l, refl, ap (λ (o : List Exchange). o ++ last) p ∙ sym (append-nil last))
-offers_more (first ∷ jobs) offers job last p l = (
-  p.0,
-  p.1 ++ last,
-  p.2,
-  offers_more jobs p.1 job last p.3 l,
-  ap (λ (o : List Exchange). o ++ last) p.4 ∙ append_assoc p.0 p.1 last,
-)
+offers_more (first ∷ jobs) offers job last p l =
+    grind (arith, append_assoc, offers_more jobs p.1 job last p.3 l)
 
 -- an offer of a job that is handed back, and maybe one more of it
 pub offers_again : (job : Job) (offers more : List Exchange) → offers ≡ Proposed job None ∷ []
     → MayOffer job more → IsOfferOf job (offers ++ more)
-offers_again job offers more e (inl none) = inl (
-  None,
-  ap (λ (o : List Exchange). o ++ more) e
-      ∙ ap (λ (m : List Exchange). Proposed job None ∷ m) none,
-)
-offers_again job offers more e (inr one) = inr (
-  one.0,
-  ap (λ (o : List Exchange). o ++ more) e
-      ∙ ap (λ (m : List Exchange). Proposed job None ∷ m) one.1,
-)
+offers_again job offers more e (inl none) = grind arith
+offers_again job offers more e (inr one) = grind arith
 
 pub once_more : (job : Job) (back : Option SliceJob) (offers : List Exchange)
     → IsOneOffer job back offers → MayOffer job offers

@@ -1,8 +1,8 @@
 -- Each job of a datagram is among the jobs that places were told of, and each of these is one of
 -- it.
-use Rattle.std.proofs.Common.{◌≡◌, ℕ, Bool, true, false, List, [], ◌∷◌, ◌++◌, refl, ap, sym, subst, ◌∙◌, inl, inr, append-nil}
+use Rattle.std.proofs.Common.{◌≡◌, ℕ, Bool, true, false, List, [], ◌∷◌, ◌++◌, refl, ap, sym, ◌∙◌, inl, inr, append-nil, arith}
 use Rattle.std.specs.Prelude.{◌||◌}
-use Rattle.std.proofs.lemmas.Bool.{false≢true, or_left, or_right}
+use Rattle.std.proofs.lemmas.Bool.{false≢true, or_left}
 use Rattle.std.proofs.lemmas.Grind.{flat_map-append}
 use Rattle.std.proofs.lemmas.List.Folds.{list_any-append}
 use Rattle.std.specs.List.{flat_map}
@@ -11,7 +11,7 @@ use Rattle.link_model.specs.Places.{Job}
 use Rattle.link_reception.specs.Exchanging.{Exchange, Proposed, Fetched, is_job_among}
 use Rattle.link_reception.specs.Offered.{HasJobs}
 use Rattle.link_reception.specs.SlicesOut.{ArePutsOf}
-use Rattle.link_reception.proofs.OfferedJobs.{same_itself}
+use Rattle.link_model.proofs.SameJobs.{same_itself}
 use Rattle.link_receiver.specs.HeardLists.{told_jobs}
 use Rattle.link_receiver.specs.Offers.{AreOffersOf, IsOfferOf, proposed_in}
 use Rattle.slice_exchange.specs.Calls.{PlaceCall, Puts, Takes, told_of, exchanges_of, freeing}
@@ -52,17 +52,7 @@ offer_has first job offers (inr twice) same =
 pub offers_have : (jobs : List Job) (offers : List Exchange) → AreOffersOf jobs offers
     → HasJobs (jobs_in offers) jobs
 offers_have [] offers p job is = absurd (false≢true is)
-offers_have (first ∷ jobs) offers p job is =
-    ap (λ (l : List Exchange). is_offered l job) p.4
-    ∙ offered_split p.0 p.1 job
-    ∙ by_first (is_same_job job first) refl is (offers_have jobs p.1 p.3)
-  where
-    by_first : (b : Bool) → is_same_job job first ≡ b → (b || is_job_among jobs job) ≡ true
-        → HasJobs (jobs_in p.1) jobs → (is_offered p.0 job || is_offered p.1 job) ≡ true
-    by_first true same is rest = or_left (is_offered p.0 job) (is_offered p.1 job)
-        (offer_has first job p.0 p.2 same)
-    by_first false same is rest = or_right (is_offered p.0 job) (is_offered p.1 job)
-        (rest job is)
+offers_have (first ∷ jobs) offers p job is = grind (arith, offered_split, offer_has, offers_have jobs p.1 p.3)
 
 -- what places were told of are the offers
 told_are_proposed : (calls : List PlaceCall)
@@ -76,70 +66,35 @@ told_are_proposed (Takes place answer ∷ rest) = told_are_proposed rest
 pub told_have : (calls : List PlaceCall) (freed : List ℕ) (jobs : List Job)
     → AreOffersOf jobs (proposed_in (exchanges_of calls))
     → HasJobs (told_jobs (told_more (told_of calls) (freeing freed))) jobs
-told_have calls freed jobs p =
-    rw (
-      append-nil (told_of calls).offered,
-      told_are_proposed calls,
-      ← jobs_proposed (exchanges_of calls),
-    )
-    (offers_have jobs (proposed_in (exchanges_of calls)) p)
+told_have calls freed jobs p = grind (arith, append-nil, told_are_proposed, jobs_proposed, offers_have)
 
 -- ---- nothing else is offered
 
 offer_is : (first job : Job) (offers : List Exchange) → IsOfferOf first offers
     → is_offered offers job ≡ true → is_same_job job first ≡ true
-offer_is first job offers (inl once) is = by_test (is_same_job job first) (rw once.1 at is)
-  where
-    by_test : (b : Bool) → (b || false) ≡ true → b ≡ true
-    by_test true e = refl
-    by_test false e = e
-offer_is first job offers (inr twice) is = by_test (is_same_job job first) (rw twice.1 at is)
-  where
-    by_test : (b : Bool) → (b || (b || false)) ≡ true → b ≡ true
-    by_test true e = refl
-    by_test false e = e
+offer_is first job offers (inl once) is = grind arith
+offer_is first job offers (inr twice) is = grind arith
 
 -- the offers of jobs have no other
 pub offers_are : (jobs : List Job) (offers : List Exchange) → AreOffersOf jobs offers
     → HasJobs jobs (jobs_in offers)
 offers_are [] offers p job is =
     absurd (false≢true (sym (ap (λ (l : List Exchange). is_offered l job) p) ∙ is))
-offers_are (first ∷ jobs) offers p job is =
-    by_part (is_offered p.0 job) refl (sym (offered_split p.0 p.1 job)
-    ∙ sym (ap (λ (l : List Exchange). is_offered l job) p.4) ∙ is) (offers_are jobs p.1 p.3)
-  where
-    by_part : (b : Bool) → is_offered p.0 job ≡ b → (b || is_offered p.1 job) ≡ true
-        → HasJobs jobs (jobs_in p.1) → (is_same_job job first || is_job_among jobs job) ≡ true
-    by_part true there e rest = or_left (is_same_job job first) (is_job_among jobs job)
-        (offer_is first job p.0 p.2 there)
-    by_part false there e rest = or_right (is_same_job job first) (is_job_among jobs job)
-        (rest job e)
+offers_are (first ∷ jobs) offers p job is = grind (arith, offered_split, offer_is, offers_are jobs p.1 p.3)
 
 -- what places were told of are these jobs alone
 pub told_are : (calls : List PlaceCall) (freed : List ℕ) (jobs : List Job)
     → AreOffersOf jobs (proposed_in (exchanges_of calls))
     → HasJobs jobs (told_jobs (told_more (told_of calls) (freeing freed)))
-told_are calls freed jobs p =
-    rw (
-      append-nil (told_of calls).offered,
-      told_are_proposed calls,
-      ← jobs_proposed (exchanges_of calls),
-    )
-    (offers_are jobs (proposed_in (exchanges_of calls)) p)
+told_are calls freed jobs p = grind (arith, append-nil, told_are_proposed, jobs_proposed, offers_are)
 
 puts_among : (jobs : List Job) (exchanges : List Exchange) → HasJobs jobs (jobs_in exchanges)
     → ArePutsOf jobs exchanges
 puts_among jobs [] each = tt
-puts_among jobs (Proposed job place ∷ rest) each = (
-  each job (or_left (is_same_job job job) (is_offered rest job) (same_itself job)),
-  puts_among jobs rest (λ other is. each other
-      (or_right (is_same_job other job) (is_offered rest other) is)),
-)
+puts_among jobs (Proposed job place ∷ rest) each = grind (arith, same_itself, puts_among jobs rest)
 puts_among jobs (Fetched place given ∷ rest) each = puts_among jobs rest each
 
 -- what was put into places are these jobs
 pub offers_are_puts : (jobs : List Job) (exchanges : List Exchange)
     → AreOffersOf jobs (proposed_in exchanges) → ArePutsOf jobs exchanges
-offers_are_puts jobs exchanges p =
-    puts_among jobs exchanges (subst (λ (l : List Job). HasJobs jobs l) (jobs_proposed exchanges)
-    (offers_are jobs (proposed_in exchanges) p))
+offers_are_puts jobs exchanges p = grind (arith, puts_among, jobs_proposed, offers_are)

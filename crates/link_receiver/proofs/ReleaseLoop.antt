@@ -1,5 +1,5 @@
 -- The releases of a call, one after another.
-use Rattle.std.proofs.Common.{◌≡◌, ℕ, zero, suc, List, [], ◌++◌, Option, Some, None, refl, ap, sym, ◌∙◌, subst, append_assoc, append-nil}
+use Rattle.std.proofs.Common.{◌≡◌, ℕ, zero, suc, List, [], ◌++◌, Option, Some, None, refl, ap, sym, ◌∙◌, subst, append_assoc, append-nil, arith}
 use Rattle.link_model.specs.Windows.{Releasable}
 use Rattle.link_reception.proofs.ReleaseSteps.{none_released}
 use Rattle.link_reception.specs.Receptions.{Reception}
@@ -167,21 +167,11 @@ module _ {left : ℕ} {first now : Reception} {stream_first stream : Option Writ
 
   done : releases_up_to left now ≡ now → stream_behind_up_to stream left now ≡ stream
       → output_up_to stream left now ≡ [] → freed_up_to left now ≡ [] → Released
-  done e s b f = record {
-    value = sym e ∙ p.value;
-    stream = sym s ∙ p.streams;
-    told = subst (λ (l : List ℕ). Grows told_first told (freeing l))
-        (sym (append-nil p.freed) ∙ ap (λ (l : List ℕ). p.freed ++ l) (sym f) ∙ p.places) p.grows;
-    written = subst (Grew held_first held)
-        (sym (append-nil p.bytes) ∙ ap (λ (l : List ℕ). p.bytes ++ l) (sym b) ∙ p.others) p.grew;
-  }
+  done e s b f = grind (arith, append-nil)
 
   pub releasing_stops : next_picture now ≡ None → Released
   releasing_stops none = done (none_value now none left) (none_stream now none stream left)
       (none_bytes now none stream left) (none_freed now none left)
 
   pub releasing_ends : left ≡ 0 → Released
-  releasing_ends e = done (ap (λ (k : ℕ). releases_up_to k now) e ∙ none_released now)
-      (ap (λ (k : ℕ). stream_behind_up_to stream k now) e ∙ last_stream stream now)
-      (ap (λ (k : ℕ). output_up_to stream k now) e ∙ last_bytes stream now)
-      (ap (λ (k : ℕ). freed_up_to k now) e ∙ last_freed now)
+  releasing_ends e = grind (arith, done, none_released, last_stream, last_bytes, last_freed)

@@ -1,17 +1,17 @@
 -- A slice that is out stays out, unless its place is asked.
-use Rattle.std.proofs.Common.{◌≡◌, ◌⊎◌, ℕ, zero, suc, ◌<◌, ◌≤◌, Bool, true, false, cond, List, [], ◌∷◌, ◌++◌, length, take, refl, ap, sym, ◌∙◌, subst, inl, inr, eqb, eq-eqb, eqb-true}
+use Rattle.std.proofs.Common.{◌≡◌, ◌⊎◌, ℕ, zero, suc, ◌<◌, ◌≤◌, Bool, true, false, cond, List, [], ◌∷◌, ◌++◌, length, take, refl, ap, sym, ◌∙◌, subst, inl, inr, eqb, eq-eqb, eqb-true, arith}
 use Rattle.std.proofs.lemmas.Grind.{flat_map-append}
 use Rattle.std.proofs.Math.Seq.{take-length}
 use Rattle.std.proofs.lemmas.Bool.{and_parts}
 use Rattle.std.proofs.lemmas.List.Folds.{list_any-append}
-use Rattle.std.specs.Prelude.{filter, ◌||◌, ◌==◌, not, Option, Some, None}
+use Rattle.std.specs.Prelude.{filter, ◌||◌, ◌==◌, not, Some, None}
 use Rattle.std.specs.List.{list_all}
 use Rattle.link_model.specs.Places.{Answered}
-use Rattle.link_reception.specs.Exchanging.{Exchange, Proposed, Fetched, exchanged, all_exchanged, not_at, out_at, takes_done, back_from, is_wanted}
-use Rattle.link_reception.specs.Receptions.{SliceOut, Reception, keeps_answer}
+use Rattle.link_reception.specs.Exchanging.{Exchange, Proposed, Fetched, exchanged, all_exchanged, not_at, out_at, takes_done, back_from}
+use Rattle.link_reception.specs.Receptions.{SliceOut, Reception}
 use Rattle.slice_exchange.specs.Calls.{out_exchanged}
 use Rattle.std.proofs.lemmas.Option.{slice_get_past}
-use Rattle.std.specs.Option.{option_map, option_map_or}
+use Rattle.std.specs.Option.{option_map}
 use Rattle.slice_exchange.specs.Calls.{PlacesAreBelow}
 use Rattle.std.specs.Prelude.{slice_get}
 use Rattle.link_receiver.specs.Offers.{asked_by, asked_in, asked_at, is_asked, are_asked, proposed_in}
@@ -31,11 +31,7 @@ in_filter : (p : SliceOut → Bool) (x : SliceOut) (xs : List SliceOut) → p x 
     → IsIn x (filter p xs)
 in_filter p x [] e h = absurd h
 in_filter p x (y ∷ xs) e (inl same) = rw (ap p (sym same) ∙ e) (inl same)
-in_filter p x (y ∷ xs) e (inr h) = deeper (p y) (in_filter p x xs e h)
-  where
-    deeper : (b : Bool) → IsIn x (filter p xs) → IsIn x (cond b (y ∷ filter p xs) (filter p xs))
-    deeper true h = inr h
-    deeper false h = h
+in_filter p x (y ∷ xs) e (inr h) = grind (arith, in_filter p x xs e h)
 
 in_take_more : (x : SliceOut) (k : ℕ) (xs : List SliceOut) → IsIn x (take k xs)
     → IsIn x (take (suc k) xs)
@@ -73,12 +69,7 @@ asked_first place rest x e = rw e refl
 
 pub takes_done-out : (r : Reception) (done : Answered) → (takes_done r done).out ≡ r.out
 unfolding takes_done
-takes_done-out r done = by_test (is_wanted r done)
-  where
-    by_test : (b : Bool) → (let s : Reception = cond b
-        (record r { answers = keeps_answer r.answers done }) r in s.out) ≡ r.out
-    by_test true = refl
-    by_test false = refl
+takes_done-out r done = grind arith
 
 pub exchanged-out : (r : Reception) (e : Exchange) → (exchanged r e).out ≡ out_exchanged r.out e
 exchanged-out r (Proposed job None) = refl
@@ -95,13 +86,7 @@ out_stays : (out : List SliceOut) (e : Exchange) (x : SliceOut) → IsIn x out
 out_stays out (Proposed job None) x h = inr h
 out_stays out (Proposed job (Some place)) x h = inr (in_front x out (out_at job place ∷ []) h)
 out_stays out (Fetched place None) x h = inr h
-out_stays out (Fetched place (Some done)) x h =
-    by_place (at_test place x (eqb x.place place) refl)
-  where
-    by_place : (eqb place x.place ≡ true) ⊎ (not_at place x ≡ true)
-        → AskedOrIn x (place ∷ []) (filter (not_at place) out)
-    by_place (inl here) = inl (asked_first place [] x here)
-    by_place (inr there) = inr (in_filter (not_at place) x out there h)
+out_stays out (Fetched place (Some done)) x h = grind (arith, at_test, asked_first, in_filter)
 
 is_asked-append : (a b : List ℕ) (x : SliceOut) → is_asked (a ++ b) x
     ≡ (is_asked a x || is_asked b x)
@@ -111,29 +96,13 @@ asked_front : (a b : List ℕ) (x : SliceOut) → is_asked a x ≡ true → is_a
 asked_front a b x e = is_asked-append a b x ∙ ap (λ (t : Bool). t || is_asked b x) e
 
 asked_back : (a b : List ℕ) (x : SliceOut) → is_asked b x ≡ true → is_asked (a ++ b) x ≡ true
-asked_back a b x e = is_asked-append a b x ∙ by_test (is_asked a x) ∙ e
-  where
-    by_test : (t : Bool) → (t || is_asked b x) ≡ is_asked b x
-    by_test true = sym e
-    by_test false = refl
+asked_back a b x e = grind (arith, is_asked-append)
 
 pub stays : (r : Reception) (es : List Exchange) (x : SliceOut) → IsIn x r.out
     → AskedOrIn x (asked_in es) (all_exchanged r es).out
 stays r [] x h = inr h
-stays r (e ∷ es) x h = onward (out_stays r.out e x h) (stays (exchanged r e) es x)
-  where
-    behind : AskedOrIn x (asked_in es) (all_exchanged (exchanged r e) es).out
-        → AskedOrIn x (asked_by e ++ asked_in es) (all_exchanged (exchanged r e) es).out
-    behind (inl asked) = inl (asked_back (asked_by e) (asked_in es) x asked)
-    behind (inr out) = inr out
-
-    onward : AskedOrIn x (asked_by e) (out_exchanged r.out e)
-        → (IsIn x (exchanged r e).out
-        → AskedOrIn x (asked_in es) (all_exchanged (exchanged r e) es).out)
-        → AskedOrIn x (asked_by e ++ asked_in es) (all_exchanged (exchanged r e) es).out
-    onward (inl asked) later = inl (asked_front (asked_by e) (asked_in es) x asked)
-    onward (inr out) later =
-        behind (later (subst (IsIn x) (sym (exchanged-out r e)) out))
+stays r (e ∷ es) x h =
+    grind (arith, out_stays, asked_back, asked_front, exchanged-out, stays (exchanged r e) es x)
 
 -- ---- one place after another, from the last to the first
 
@@ -160,22 +129,16 @@ pub fronts_stay : (r : Reception) (es : List Exchange) (k : ℕ) (x : SliceOut)
     → proposed_in es ≡ [] → IsIn x (take k r.out)
     → AskedOrIn x (asked_in es) (take k (all_exchanged r es).out)
 fronts_stay r [] k x none h = inr h
-fronts_stay r (e ∷ es) k x none h = onward
-    (front_stays r.out e k x (no_proposal e es none).0 h)
-    (fronts_stay (exchanged r e) es k x (no_proposal e es none).1)
-  where
-    behind : AskedOrIn x (asked_in es) (take k (all_exchanged (exchanged r e) es).out)
-        → AskedOrIn x (asked_by e ++ asked_in es) (take k (all_exchanged (exchanged r e) es).out)
-    behind (inl asked) = inl (asked_back (asked_by e) (asked_in es) x asked)
-    behind (inr out) = inr out
-
-    onward : AskedOrIn x (asked_by e) (take k (out_exchanged r.out e))
-        → (IsIn x (take k (exchanged r e).out)
-        → AskedOrIn x (asked_in es) (take k (all_exchanged (exchanged r e) es).out))
-        → AskedOrIn x (asked_by e ++ asked_in es) (take k (all_exchanged (exchanged r e) es).out)
-    onward (inl asked) later = inl (asked_front (asked_by e) (asked_in es) x asked)
-    onward (inr out) later = behind (later
-        (subst (λ (o : List SliceOut). IsIn x (take k o)) (sym (exchanged-out r e)) out))
+fronts_stay r (e ∷ es) k x none h =
+    grind (
+      arith,
+      front_stays,
+      no_proposal,
+      asked_back,
+      asked_front,
+      exchanged-out,
+      fronts_stay (exchanged r e) es k x (no_proposal e es none).1,
+    )
 
 before_or_at : (out : List SliceOut) (i : ℕ) (x : SliceOut) → IsIn x (take (suc i) out)
     → IsIn x (take i out) ⊎ (asked_at out i ≡ x.place ∷ [])
@@ -183,12 +146,7 @@ before_or_at [] i x h = absurd h
 before_or_at (y ∷ out) zero x (inl e) = inr (ap (λ (s : SliceOut). s.place ∷ []) (sym e))
 before_or_at (y ∷ out) zero x (inr h) = absurd h
 before_or_at (y ∷ out) (suc i) x (inl e) = inl (inl e)
-before_or_at (y ∷ out) (suc i) x (inr h) = onward (before_or_at out i x h)
-  where
-    onward : IsIn x (take i out) ⊎ (asked_at out i ≡ x.place ∷ [])
-        → IsIn x (take (suc i) (y ∷ out)) ⊎ (asked_at (y ∷ out) (suc i) ≡ x.place ∷ [])
-    onward (inl h) = inl (inr h)
-    onward (inr e) = inr e
+before_or_at (y ∷ out) (suc i) x (inr h) = grind (arith, before_or_at out i x h)
 
 own_asked : (x : SliceOut) (asked : List ℕ) → asked ≡ x.place ∷ [] → is_asked asked x ≡ true
 own_asked x asked e = rw e (asked_first x.place [] x (eq-eqb x.place x.place refl))
@@ -203,27 +161,7 @@ pub one_asked : (old : List SliceOut) (r : Reception) (es more : List Exchange) 
     → asked_in more ≡ asked_at r.out i
     → AreAskedOrIn old (asked_in (es ++ more)) (take i (all_exchanged r more).out)
 one_asked old r es more k i e h none asked x inside =
-    by_case (subst (λ (n : ℕ). AskedOrIn x (asked_in es) (take n r.out)) e (h x inside))
-  where
-    joined : asked_in (es ++ more) ≡ asked_in es ++ asked_in more
-    joined = flat_map-append asked_by es more
-
-    kept : AskedOrIn x (asked_in more) (take i (all_exchanged r more).out)
-        → AskedOrIn x (asked_in (es ++ more)) (take i (all_exchanged r more).out)
-    kept (inl a) = inl (ap (λ (l : List ℕ). is_asked l x) joined
-        ∙ asked_back (asked_in es) (asked_in more) x a)
-    kept (inr o) = inr o
-
-    at_place : IsIn x (take i r.out) ⊎ (asked_at r.out i ≡ x.place ∷ [])
-        → AskedOrIn x (asked_in (es ++ more)) (take i (all_exchanged r more).out)
-    at_place (inl front) = kept (fronts_stay r more i x none front)
-    at_place (inr here) = kept (inl (own_asked x (asked_in more) (asked ∙ here)))
-
-    by_case : AskedOrIn x (asked_in es) (take (suc i) r.out)
-        → AskedOrIn x (asked_in (es ++ more)) (take i (all_exchanged r more).out)
-    by_case (inl a) = inl (ap (λ (l : List ℕ). is_asked l x) joined
-        ∙ asked_front (asked_in es) (asked_in more) x a)
-    by_case (inr o) = at_place (before_or_at r.out i x o)
+    grind (arith, flat_map-append, asked_back, fronts_stay, own_asked, asked_front, before_or_at)
 
 pub none_asked : (out : List SliceOut) → AreAskedOrIn out [] (take (length out) out)
 none_asked out x inside = inr (subst (IsIn x) (sym (take-length out)) inside)
@@ -231,11 +169,7 @@ none_asked out x inside = inr (subst (IsIn x) (sym (take-length out)) inside)
 pub all_asked : (old : List SliceOut) (asked : List ℕ) → AreAskedOrIn old asked []
     → list_all (is_asked asked) old ≡ true
 all_asked [] asked h = refl
-all_asked (y ∷ old) asked h = rw (here (h y (inl refl))) (all_asked old asked (λ x i. h x (inr i)))
-  where
-    here : AskedOrIn y asked [] → is_asked asked y ≡ true
-    here (inl e) = e
-    here (inr h) = absurd h
+all_asked (y ∷ old) asked h = grind (arith, all_asked old asked)
 
 each_passes : (p : SliceOut → Bool) (out : List SliceOut) → list_all p out ≡ true
     → (x : SliceOut) → IsIn x out → p x ≡ true
@@ -248,22 +182,8 @@ each_passes p (y ∷ out) e x (inr h) =
 pub asked_then : (r : Reception) (first second : List Exchange)
     → are_asked (all_exchanged r first).out second ≡ true
     → are_asked r.out (first ++ second) ≡ true
-asked_then r first second h = all_asked r.out (asked_in (first ++ second))
-    (λ x inside. by_case x (stays r first x inside))
-  where
-    joined : asked_in (first ++ second) ≡ asked_in first ++ asked_in second
-    joined = flat_map-append asked_by first second
-
-    later : (out : List SliceOut) → list_all (is_asked (asked_in second)) out ≡ true
-        → (x : SliceOut) → IsIn x out → is_asked (asked_in second) x ≡ true
-    later out e x i = each_passes (is_asked (asked_in second)) out e x i
-
-    by_case : (x : SliceOut) → AskedOrIn x (asked_in first) (all_exchanged r first).out
-        → AskedOrIn x (asked_in (first ++ second)) []
-    by_case x (inl a) = inl (ap (λ (l : List ℕ). is_asked l x) joined
-        ∙ asked_front (asked_in first) (asked_in second) x a)
-    by_case x (inr o) = inl (ap (λ (l : List ℕ). is_asked l x) joined
-        ∙ asked_back (asked_in first) (asked_in second) x (later (all_exchanged r first).out h x o))
+asked_then r first second h =
+    grind (arith, all_asked, stays, flat_map-append, each_passes, asked_front, asked_back)
 
 -- ---- the slice at a position
 
@@ -273,12 +193,7 @@ asked_past out i past = rw (slice_get_past out i past) refl
 pub asked_got : (out : List SliceOut) (i place : ℕ)
     → option_map (λ (slice : SliceOut). slice.place) (slice_get out i) ≡ Some place
     → place ∷ [] ≡ asked_at out i
-asked_got out i place e = by_item (slice_get out i) e
-  where
-    by_item : (o : Option SliceOut) → option_map (λ (slice : SliceOut). slice.place) o ≡ Some place
-        → place ∷ [] ≡ option_map_or (λ (slice : SliceOut). slice.place ∷ []) o []
-    by_item None e = absurd (cc)
-    by_item (Some x) e = ap (λ (p : ℕ). p ∷ []) (cc)
+asked_got out i place e = grind arith
 
 pub below_got : (bound : ℕ) (out : List SliceOut) (i place : ℕ) → PlacesAreBelow bound out
     → option_map (λ (slice : SliceOut). slice.place) (slice_get out i) ≡ Some place

@@ -1,5 +1,5 @@
 -- What one step on a receiver's parts is on its value.
-use Rattle.std.proofs.Common.{◌≡◌, ℕ, List, [], ◌∷◌, Option, Some, None, Result, Ok, Err, refl, ap, ◌∙◌}
+use Rattle.std.proofs.Common.{◌≡◌, ℕ, List, [], ◌∷◌, Option, Some, None, Result, Ok, Err, refl, arith}
 use Rattle.std.specs.Prelude.{filter, IfSome, IfOk, OnErr}
 use Rattle.std.specs.Option.{option_copied}
 use denote.Ref.{Bor}
@@ -14,8 +14,8 @@ use Rattle.link_receiver.specs.Offers.{IsOneOffer, proposed_in}
 use Rattle.slice_answers.specs.Completing.{IsWholeBySome}
 use Rattle.slice_exchange.specs.Calls.{PlaceCall, Puts, Takes, exchanges_of, out_exchanged, handed_back}
 use Rattle.slice_jobs.specs.Jobs.{job_of, answered}
-use Rattle.link_receiver.specs.Shown.{shown_bytes, stream_behind_shown}
-use Rattle.unit_release.specs.Outputs.{released_output, stream_behind_picture}
+use Rattle.link_receiver.specs.Shown.{shown_bytes}
+use Rattle.unit_release.specs.Outputs.{released_output}
 use Rattle.unit_release.specs.Writing.{WrittenStream}
 use Rattle.vc_slice.specs.Asked.{Told, Grows, one_offer, taking}
 use Rattle.vc_slice.specs.declared.done.SliceDone.{SliceDone}
@@ -38,12 +38,6 @@ module _ (r : Reception) (st : StandingSession) (picture : Releasable)
       → shown_bytes stream st r.answers r.field picture.number ≡ released_output stream r picture
   shown_output None = rw e refl
   shown_output (Some w) = rw e refl
-
-  pub shown_stream : (stream : Option WrittenStream)
-      → stream_behind_shown stream st r.answers r.field picture.number
-      ≡ stream_behind_picture stream r picture
-  shown_stream None = refl
-  shown_stream (Some w) = rw e refl
 
 -- ---- a job is put
 
@@ -82,13 +76,9 @@ pub take_some : (before behind : Option Told) (old : Reception) (out : List Slic
     → out ≡ filter (not_at place) old.out
     → new ≡ takes_done (record old { out = out }) (answered done)
     → IsExchanged before behind old new (Takes place (Some done) ∷ [])
-take_some before behind old out new place done told e value =
-    one_take before behind old new place (Some done) told
-    (value ∙ ap (λ (o : List SliceOut). takes_done (record old { out = o }) (answered done)) e)
+take_some before behind old out new place done told e value = grind (arith, one_take)
 
 pub take_none : (before behind : Option Told) (old : Reception) (out : List SliceOut) (place : ℕ)
     → Grows before behind (taking place None) → out ≡ old.out
     → IsExchanged before behind old (record old { out = out }) (Takes place None ∷ [])
-take_none before behind old out place told e =
-    one_take before behind old (record old { out = out }) place None told
-    (ap (λ (o : List SliceOut). (let r : Reception = record old { out = o } in r)) e)
+take_none before behind old out place told e = grind (arith, one_take)

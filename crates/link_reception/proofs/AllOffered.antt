@@ -1,5 +1,5 @@
 -- As datagrams come each slice that a picture keeps is offered.
-use Rattle.std.proofs.Common.{◌≡◌, ℕ, ◌≤◌, true, false, refl, ap, sym, ◌∙◌}
+use Rattle.std.proofs.Common.{◌≡◌, ℕ, ◌≤◌, true, false, refl, ap, sym, ◌∙◌, arith}
 use Rattle.std.proofs.Common.{List, [], ◌∷◌, ◌++◌, Option, Some, None}
 use Rattle.std.specs.Prelude.{◌||◌}
 use Rattle.std.proofs.lemmas.Bool.{or_left, or_right}
@@ -36,10 +36,4 @@ module _ (r : Reception) (size : ℕ) (datagrams : List (List ℕ)) (d : List �
           → (is_job_among offered job || is_job_among more job) ≡ true
       by_job None at = or_right (is_job_among offered job) (is_job_among more job)
           (has job (all_jobs r size datagrams d stands n i job at is))
-      by_job (Some old) at =
-          let still : kept_job size (sessions_of (datagrams ++ d ∷ [])) n i ≡ Some old =
-          ap (λ (l : List HeardSession). kept_job size l n i) (sessions_of_more datagrams d)
-          ∙ job_stays n i size small (sessions_of datagrams) d old at in
-          let same : old ≡ job = same_Some old job (sym still ∙ is) in
-          or_left (is_job_among offered job) (is_job_among more job)
-          (sym (ap (is_job_among offered) same) ∙ was n i old at)
+      by_job (Some old) at = grind (arith, sessions_of_more, job_stays)

@@ -66,9 +66,6 @@ module _ (p : Parameters) (bytes_of : ℕ → List ℕ) where
       by_answer (each_decoded i) refl
       (slices_are n (i + 1) (λ k from to. whole k (omega arith) (omega arith)))
     where
-      behind : List ℕ
-      behind = joined (map bytes_of (range_with_len (i + 1) n))
-
       by_answer : (r : Decoding) → each_decoded i ≡ r
           → read_slices (slices_from p (i + 1) n (joined (map bytes_of (range_with_len (i + 1) n))))
           ≡ sound_slices each_decoded (range_with_len (i + 1) n)
@@ -96,28 +93,14 @@ module _ (p : Parameters) (bytes_of : ℕ → List ℕ) where
 sound_same : (f g : ℕ → Decoding) (m a : ℕ) → ((k : ℕ) → a ≤ k → k < a + m → f k ≡ g k)
     → sound_slices f (range_with_len a m) ≡ sound_slices g (range_with_len a m)
 sound_same f g zero a each = refl
-sound_same f g (suc m) a each =
-    ap (λ (d : Decoding). with_first (if_sound d) (sound_slices f (range_with_len (a + 1) m)))
-    (each a (omega arith) (omega arith))
-    ∙ ap (with_first (if_sound (g a)))
-    (sound_same f g m (a + 1) (λ k from to. each k (omega arith) (omega arith)))
+sound_same f g (suc m) a each = grind (arith, sound_same f g m (a + 1))
 
 module _ (decoded : List SliceAnswer) (n : ℕ) where
   answers_sound : (f : ℕ → Decoding) (m a : ℕ)
       → ((k : ℕ) → a ≤ k → k < a + m → answer_in decoded n k ≡ Some (f k))
       → sound_answers decoded n (range_with_len a m) ≡ sound_slices f (range_with_len a m)
   answers_sound f zero a each = refl
-  answers_sound f (suc m) a each =
-      ap (λ (o : Option Decoding). with_first (sound_answer o)
-      (sound_answers decoded n (range_with_len (a + 1) m))) (each a (omega arith) (omega arith))
-      ∙ one (f a) (answers_sound f m (a + 1) (λ k from to. each k (omega arith) (omega arith)))
-    where
-      one : (d : Decoding) → sound_answers decoded n (range_with_len (a + 1) m)
-          ≡ sound_slices f (range_with_len (a + 1) m)
-          → with_first (sound_answer (Some d)) (sound_answers decoded n (range_with_len (a + 1) m))
-          ≡ with_first (if_sound d) (sound_slices f (range_with_len (a + 1) m))
-      one (Ok s) more = ap (with_first (Some s)) more
-      one (Err why) more = refl
+  answers_sound f (suc m) a each = grind (arith, answers_sound f m (a + 1))
 
   -- where each is sound, each is there
   all_there : (m a : ℕ) (l : List Coefficients)
@@ -143,11 +126,7 @@ module _ (decoded : List SliceAnswer) (n : ℕ) where
           → is_some (answer_in decoded n k) ≡ true
       by_first None at rest more e later = absurd (none-some l e)
       by_first (Some (Err why)) at rest more e later = absurd (none-some l e)
-      by_first (Some (Ok s)) at rest more e later = elim (cases_lt a k) [
-        | inl less ↦ (let all = zipped s rest e in later all.0 (more ∙ all.1) less)
-        | inr low ↦ (let same : k ≡ a = omega (arith, low, from) in
-            ap (λ j. is_some (answer_in decoded n j)) same ∙ ap is_some at)
-      ]
+      by_first (Some (Ok s)) at rest more e later = grind (arith, zipped)
 
 -- ---- a picture that keeps something
 
@@ -256,11 +235,7 @@ module _ (s : Sequence) (parts : List Part) (kept : Own) (is : own s parts ≡ S
           by_answer : (o : Option Decoding) → own_answer_at answers n (gathered_of kept) k ≡ o
               → unwrap_or o (slice_coefficients kept.plan.parameters k
               (unwrap_or (slot_at (gathered_of kept).slots k) [])) ≡ own_decoding k
-          by_answer None at =
-              let here : 0 + k ≡ k = omega arith in
-              ap (λ (b : Option (List ℕ)).
-              slice_coefficients kept.plan.parameters k (unwrap_or b []))
-              (slot_inside (own_slice kept) 0 count k below ∙ ap (own_slice kept) here)
+          by_answer None at = grind (arith, slot_inside)
           by_answer (Some d) at =
               own_answers k d (kept_where_own answers n (gathered_of kept) k d at)
 

@@ -28,6 +28,7 @@ use Rattle.link_reception.specs.Receptions.{StandingSession, Reception, FirstFie
 use Rattle.link_reception.specs.Releasing.{as_first, field_before, field_behind}
 use Rattle.link_model.specs.Interleavings.{AreOwnAnswers}
 use Rattle.link_reception.specs.Standing.{Fields, no_fields, next_field, fields_behind}
+use Rattle.link_model.proofs.WindowStands.{first_and_rest}
 use Rattle.link_reception.proofs.AnsweredPictures.{AreOfKept, incomplete_planes, no_own_planes}
 use Rattle.link_reception.proofs.AnsweredPictures.{answered_planes_hold, answered_planes_ready}
 use Rattle.link_reception.proofs.AnsweredPictures.{answered_planes_missing}
@@ -39,7 +40,7 @@ use Rattle.link_reception.proofs.ReleasedNumbers.{released_rise, gone_before}
 use Rattle.link_reception.proofs.SliceJobs.{same_planes_by}
 use Rattle.link_reception.proofs.WaitingFields.{waiting_is}
 use Rattle.link_reception.proofs.Working.{IsWorking, entered_of, released_parts}
-use Rattle.link_reception.proofs.ReleaseLists.{among_filter, among_range, first_among}
+use Rattle.link_reception.proofs.ReleaseLists.{among_filter, among_range}
 use Rattle.link_reception.proofs.ReleaseLists.{planes_opened, keeps_opened}
 
 module _ (r : Reception) (size : ℕ) (f : Feeder) (hs : List HeardSession) (p : WindowPast)
@@ -57,7 +58,7 @@ module _ (r : Reception) (size : ℕ) (f : Feeder) (hs : List HeardSession) (p :
   -- ---- the picture
 
   there : is_among (releasable_numbers p) n ≡ true
-  there = grind (arith, first_among)
+  there = grind (arith, first_and_rest)
 
   pub next_opened : is_opened es n ≡ true
   next_opened = (releasable_gone p works.window.in_order n there).0
@@ -148,7 +149,7 @@ module _ (r : Reception) (size : ℕ) (f : Feeder) (hs : List HeardSession) (p :
   waits : (m : ℕ) → m + 1 ≡ n → s.fields ≡ true → (m % 2 == 0) ≡ true → (planes : Planes)
       → planes_at s es m ≡ Some planes → r.field ≡ Some (as_first m planes)
   waits m before fields even planes is =
-      let rest = first_among (releasable_numbers p) n next in
+      let rest = first_and_rest (releasable_numbers p) n next in
       let was = planes_opened s es m planes is in
       let rises : AreRising 0 (p.released ++ (m + 1) ∷ rest.0) =
       subst (λ k. AreRising 0 (p.released ++ k ∷ rest.0)) (sym before)
@@ -180,13 +181,7 @@ module _ (r : Reception) (size : ℕ) (f : Feeder) (hs : List HeardSession) (p :
 
       was_released : is_opened es m ≡ true → (rest : List ℕ) → releasable_numbers p ≡ n ∷ rest
           → is_among p.released m ≡ true
-      was_released was rest is = or_first (is_among p.released m)
-          (is_among (releasable_numbers p) m) (not_later rest is)
-          (gone_before p works.window.in_order n m there (omega (arith, before)) was)
-        where
-          or_first : (a b : Bool) → b ≡ false → (a || b) ≡ true → a ≡ true
-          or_first true b none e = refl
-          or_first false b none e = absurd (both_ways b none e)
+      was_released was rest is = grind (arith, not_later, gone_before, there)
 
   module _ (fields : s.fields ≡ true) (m : ℕ) (before : m + 1 ≡ n)
       (even : (m % 2 == 0) ≡ true) where
@@ -210,9 +205,7 @@ module _ (r : Reception) (size : ℕ) (f : Feeder) (hs : List HeardSession) (p :
         ]
 
         by_planes : (o : Option Planes) → planes_at s es m ≡ o → field_before r.field n ≡ o
-        by_planes (Some planes) at =
-            ap (λ (o : Option FirstField). field_before o n) (waits m before fields even planes at)
-            ∙ cond-true (m + 1 == n) (Some planes) None (eq-eqb (m + 1) n before)
+        by_planes (Some planes) at = grind (arith, waits)
         by_planes None at = by_field r.field refl at
 
     -- and so are those that the feeder makes of its answers

@@ -61,10 +61,7 @@ module _ (size : ℕ) (h : HeardSession) (hs : List HeardSession) (d : List ℕ)
     where
       by_fragment : (o : Option Fragment) → fragment_in h.session d ≡ o
           → is_job_among (jobs_of_fragment st o) job ≡ true
-      by_fragment None at = absurd (none-some job (sym none
-          ∙ ap (λ (p : WindowPast). entered_job h.session.sequence p.entries n i)
-          (sym (session_stays size hs h past.released d at))
-          ∙ is))
+      by_fragment None at = grind (arith, entered_job, session_stays)
       by_fragment (Some f) at = newly_offered st.window past
           (resting_stands (last_past size false hs h)) refl f n i job none
           (ap (λ (p : WindowPast). entered_job h.session.sequence p.entries n i)
@@ -122,10 +119,7 @@ module _ (size : ℕ) (h : HeardSession) (hs : List HeardSession) (d : List ℕ)
     where
       by_fragment : (o : Option Fragment) → fragment_in h.session d ≡ o
           → is_closed size new n ≡ false
-      by_fragment None at = absurd (none-some job (sym none
-          ∙ ap (λ (p : WindowPast). entered_job h.session.sequence p.entries n i)
-          (sym (session_stays size hs h past.released d at))
-          ∙ is))
+      by_fragment None at = grind (arith, entered_job, session_stays)
       by_fragment (Some f) at =
           let enters = session_enters size hs h past.released d f at in
           ap (λ (p : WindowPast). is_closed size p.entries n) (sym enters)
@@ -191,11 +185,7 @@ module _ (r : Reception) (size : ℕ) (datagrams : List (List ℕ)) (d : List �
             ∙ all_offer size h hs d n i job
             (sym (ap (λ (l : List HeardSession). kept_job size l n i) at) ∙ none)
             (sym (ap (λ (l : List HeardSession). kept_job size l n i) (longer_on on)) ∙ is)
-        by_next (Some s) opens = absurd (none-some job (sym none
-            ∙ ap (λ (l : List HeardSession). kept_job size l n i) at
-            ∙ sym (same_next s n i)
-            ∙ sym (ap (λ (l : List HeardSession). kept_job size l n i) (longer_next s opens))
-            ∙ is))
+        by_next (Some s) opens = grind (arith, same_next, longer_next)
 
     only_there : size ≤ 8 → (job : Job) → is_job_among (datagram_jobs r d) job ≡ true
         → (kept_job size longer job.number job.index ≡ Some job)

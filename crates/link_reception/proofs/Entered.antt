@@ -6,7 +6,7 @@ use Rattle.std.specs.List.{flat_map}
 use Rattle.std.proofs.lemmas.List.Sums.{fold-append}
 use Rattle.link_model.specs.Feeders.{Feeder, releasable}
 use Rattle.link_model.specs.Feeding.{hears_datagram, hears_end, takes_answer}
-use Rattle.link_model.specs.Machine.{Enter, Finish, feeder_after}
+use Rattle.link_model.specs.Machine.{Enter, Finish}
 use Rattle.link_model.specs.Next.{feeder_run, all_releasing, taken_back, next_feeder, releasing}
 use Rattle.link_model.specs.Places.{Answered}
 use Rattle.link_model.specs.Session.{Session, HeardSession, sessions_of, opens_behind, begins}
@@ -15,17 +15,17 @@ use Rattle.link_model.specs.declared.tally.Tally.{Tally}
 use Rattle.link_reception.specs.Entering.{opens_session, before_releases, takes_datagram}
 use Rattle.link_reception.specs.Entering.{datagram_bytes, takes_end, end_bytes}
 use Rattle.link_reception.specs.Exchanging.{Exchange, all_exchanged, dones_in}
-use Rattle.link_reception.specs.Judging.{is_over, session_opened, keeps_datagram, ends_input}
+use Rattle.link_reception.specs.Judging.{is_over, keeps_datagram, ends_input}
 use Rattle.link_reception.specs.Receptions.{StandingSession, Reception}
 use Rattle.link_reception.specs.Releasing.{releases_all, all_released_bytes}
 use Rattle.link_reception.specs.Standing.{StandsFor, AreDecodings, all_released, out_without}
-use Rattle.link_reception.proofs.Followed.{FollowsDatagram, FollowsEnd, opened_same}
+use Rattle.link_reception.proofs.Followed.{FollowsDatagram, FollowsEnd}
 use Rattle.link_reception.proofs.Redone.{redone, redo_run}
 use Rattle.link_reception.proofs.ReleaseRuns.{all_run, releasable_are}
 use Rattle.link_reception.proofs.Resting.{rest_stands, next_stands, end_stands}
 use Rattle.link_reception.proofs.Starting.{datagram_works, next_works, end_works, past_at_rest}
 use Rattle.link_reception.proofs.Starting.{st_at_rest, h_now, sessions_now}
-use Rattle.link_reception.proofs.Starting.{sessions_next, tally_behind, opened_is}
+use Rattle.link_reception.proofs.Starting.{sessions_next, tally_behind}
 use Rattle.link_reception.proofs.Working.{IsWorking, all_working}
 
 -- ---- answers change nothing else
@@ -35,21 +35,10 @@ pub record HasMoreAnswers (f g : Feeder) : Type 0 where
   pub ended : g.has_ended ≡ f.has_ended
   pub written : g.written ≡ f.written
 
-one_answer : (size : ℕ) (f : Feeder) (done : Answered)
-    → HasMoreAnswers f (takes_answer size f done)
-one_answer size f done = grind arith
-
 more_answers : (size : ℕ) (dones : List Answered) (f : Feeder)
     → HasMoreAnswers f (taken_back size f dones)
 more_answers size [] f = record { heard = refl; ended = refl; written = refl }
-more_answers size (done ∷ dones) f =
-    let one = one_answer size f done in
-    let rest = more_answers size dones (takes_answer size f done) in
-    record {
-      heard = rest.heard ∙ one.heard;
-      ended = rest.ended ∙ one.ended;
-      written = rest.written ∙ one.written;
-    }
+more_answers size (done ∷ dones) f = grind (arith, more_answers size dones (takes_answer size f done))
 
 -- ---- what was heard
 
@@ -64,15 +53,7 @@ module _ (size : ℕ) (f : Feeder) where
       × ((feeder_run size g (flat_map (releasing size f) ns)).has_ended ≡ g.has_ended)
   releases_heard [] g = (refl, refl)
   releases_heard (n ∷ ns) g =
-      let later = flat_map (releasing size f) ns in
-      let run : feeder_run size g (releasing size f n ++ later)
-      ≡ feeder_run size (feeder_run size g (releasing size f n)) later =
-      fold-append (feeder_after size) g (releasing size f n) later in
-      let rest = releases_heard ns (feeder_run size g (releasing size f n)) in
-      let one = one_release g n in (
-        ap (λ (v : Feeder). v.heard) run ∙ rest.0 ∙ one.0,
-        ap (λ (v : Feeder). v.has_ended) run ∙ rest.1 ∙ one.1,
-      )
+      grind (arith, fold-append, one_release, releases_heard ns (feeder_run size g (releasing size f n)))
 
 module _ (size : ℕ) (f : Feeder) where
   pub heard_again : (d : List ℕ) (xs : List Exchange)
@@ -160,24 +141,11 @@ module _ (r : Reception) (size : ℕ) (small : size ≤ 8) (f : Feeder) (stands 
         unfolding next_feeder datagram_bytes
         writes_then = grind (arith, taken_more)
 
-        out_then : (takes_datagram r d xs).out
-            ≡ out_without (releasable size taken) (before_releases r d xs).out
-        unfolding takes_datagram
-        out_then = opened_same (session_opened r d) (releases_all (before_releases r d xs))
-            ∙ done.out
-
         follows_then : (o : Option Session) → opens_behind h (begins d) ≡ o
             → StandsFor (opens_session o (releases_all (before_releases r d xs))) size
             (feeder_run size taken (all_releasing size taken)) → FollowsDatagram r size f xs d
         unfolding next_feeder takes_datagram
-        follows_then o opening stands_then = record {
-          stands = subst (λ (o : Option Session). StandsFor
-              (opens_session o (releases_all (before_releases r d xs))) size
-              (feeder_run size taken (all_releasing size taken)))
-              (sym (opened_is r size small f stands runs h hs at d ∙ opening)) stands_then;
-          writes = writes_then;
-          out = out_then;
-        }
+        follows_then o opening stands_then = grind (arith, writes_then)
 
       -- it goes on, or the next session opens
       pub follows : (o : Option Session) → opens_behind h (begins d) ≡ o

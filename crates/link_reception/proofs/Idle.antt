@@ -1,6 +1,6 @@
 -- Before a session stands a receiver has nothing to do but to judge.
-use Rattle.std.proofs.Common.{◌≡◌, ℕ, false, refl, ap, sym, ◌∙◌}
-use Rattle.std.proofs.Common.{List, [], ◌∷◌, ◌++◌, length, Option, Some, None, subst, arith}
+use Rattle.std.proofs.Common.{◌≡◌, ℕ, false, refl, ap, ◌∙◌}
+use Rattle.std.proofs.Common.{List, [], ◌∷◌, ◌++◌, length, Option, Some, None, arith}
 use Rattle.std.specs.List.{flat_map}
 use Rattle.std.specs.Option.{option_map_or}
 use Rattle.link_model.specs.Feeders.{Feeder, session_opening, kept_job, let_go_pictures}
@@ -40,28 +40,10 @@ pub idle_exchanged : (xs : List Exchange) (r : Reception) → r.standing ≡ Non
 idle_exchanged [] r none = grind arith
 idle_exchanged (Proposed job None ∷ xs) r none = idle_exchanged xs r none
 idle_exchanged (Proposed job (Some place) ∷ xs) r none =
-    let rest = idle_exchanged xs (record r { out = r.out ++ out_at job place ∷ [] }) none in
-    record {
-      size = rest.size;
-      standing = rest.standing;
-      counts = rest.counts;
-      answers = rest.answers;
-      field = rest.field;
-      ended = rest.ended;
-    }
+    grind (arith, idle_exchanged xs (record r { out = r.out ++ out_at job place ∷ [] }) none)
 idle_exchanged (Fetched place None ∷ xs) r none = idle_exchanged xs r none
 idle_exchanged (Fetched place (Some done) ∷ xs) r none =
-    let rest = idle_exchanged xs (back_from r place) none in
-    subst (λ (v : Reception). IsSame r (all_exchanged v xs))
-    (sym (unwanted (back_from r place) done none))
-    (record {
-      size = rest.size;
-      standing = rest.standing;
-      counts = rest.counts;
-      answers = rest.answers;
-      field = rest.field;
-      ended = rest.ended;
-    })
+    grind (arith, unwanted, idle_exchanged xs (back_from r place) none)
 
 pub nothing_released : (r : Reception) → r.standing ≡ None → releases_all r ≡ r
 unfolding releases_up_to

@@ -40,22 +40,11 @@ module _ (s : Sequence) (es : List Numbered) where
     none_waits n planes =
         ap (λ (b : Bool). cond (b && n % 2 == 0) (option_map (as_first n) planes) None) frames
 
-    none_alone : (n : ℕ) (planes : Option Planes) → fields_alone s None n planes ≡ 0
-    none_alone n planes = grind arith
-
     frames_after : (ns : List ℕ) (x : Fields) → x.waiting ≡ None
         → ((after x ns).alone ≡ x.alone) × ((after x ns).waiting ≡ None)
     frames_after [] x none = (refl, none)
     frames_after (n ∷ ns) x none =
-        let rest = frames_after ns (next_field s es x n) (none_waits n (planes_at s es n)) in (
-          rest.0 ∙ alone_same,
-          rest.1,
-        )
-      where
-        alone_same : x.alone + fields_alone s x.waiting n (planes_at s es n) ≡ x.alone
-        alone_same =
-            ap (λ (w : Option FirstField). x.alone + fields_alone s w n (planes_at s es n)) none
-            ∙ omega (arith, none_alone n (planes_at s es n))
+        grind (arith, frames_after ns (next_field s es x n) (none_waits n (planes_at s es n)))
 
     none_unpaired : (ns : List ℕ) → count_by (is_unpaired s es) ns ≡ 0
     none_unpaired [] = omega (arith, length-filter (is_unpaired s es) [])

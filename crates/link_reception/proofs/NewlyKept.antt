@@ -4,19 +4,18 @@ use Rattle.std.proofs.Common.{◌≡◌, ℕ, ◌≤◌, Bool, true, false, refl
 use Rattle.std.proofs.Common.{List, [], ◌∷◌, Option, Some, None, inl, inr}
 use Rattle.std.specs.Prelude.{◌==◌, ◌&&◌, ◌||◌}
 use Rattle.std.specs.List.{last_or}
-use Rattle.std.specs.Option.{option_and_then}
-use Rattle.std.proofs.lemmas.Bool.{cases_Bool, cases_eq, false≢true, leb-true, eq-eqb, or_right}
+use Rattle.std.proofs.lemmas.Bool.{cases_Bool, false≢true, leb-true, eq-eqb, or_right}
 use Rattle.std.proofs.lemmas.Option.{none-some}
-use Rattle.link_model.specs.Feeders.{is_among, job_by}
-use Rattle.link_model.specs.Kept.{own}
-use Rattle.link_model.specs.Numbers.{Numbered, base_above, greatest, is_closed, is_late}
-use Rattle.link_model.specs.Numbers.{is_opened, picture_number}
+use Rattle.link_model.specs.Feeders.{is_among}
+use Rattle.link_model.specs.Numbers.{base_above, greatest, is_closed, is_late}
+use Rattle.link_model.specs.Numbers.{picture_number}
 use Rattle.link_model.specs.Places.{Job}
-use Rattle.link_model.specs.Session.{Part, Fragment}
+use Rattle.link_model.specs.Session.{Fragment}
 use Rattle.link_model.specs.Windows.{Window, WindowPast, StandsForPast, window_enters, past_enters}
 use Rattle.link_model.specs.Windows.{released_up_to}
 use Rattle.link_model.proofs.Numbering.{early_enters, early_is, greatest-append}
-use Rattle.link_model.proofs.Numbering.{late_changes_nothing, parts_of-outside}
+use Rattle.link_model.proofs.Numbering.{late_changes_nothing}
+use Rattle.link_model.proofs.WindowBounds.{opened_at_most}
 use Rattle.link_model.proofs.WindowStands.{enters_stands}
 use Rattle.link_reception.specs.Exchanging.{window_job, offered_jobs, is_job_among}
 use Rattle.link_reception.proofs.KeptJobs.{no_job, entered_job, is_forgotten}
@@ -42,9 +41,6 @@ module _ (n bound : ℕ) where
       (each k (ap (λ (b : Bool). b || is_among ns k) (eq-eqb k k refl)))
       (λ i there. each i (or_right (k == i) _ there)) low
 
-opened_below : (es : List Numbered) (n : ℕ) → is_opened es n ≡ true → n ≤ greatest es
-opened_below es n opened = grind (arith, parts_of-outside)
-
 -- ---- a fragment more
 
 module _ (w : Window) (p : WindowPast) (stands : StandsForPast w p) (runs : p.is_ended ≡ false)
@@ -61,7 +57,7 @@ module _ (w : Window) (p : WindowPast) (stands : StandsForPast w p) (runs : p.is
   low_is_small : (n : ℕ) → released_up_to (last_or None p.released) n ≡ true
       → n ≤ greatest p.entries
   low_is_small n low = below_all n (greatest p.entries) p.released
-      (λ j there. opened_below p.entries j (released_opened p stands.in_order j there)) low
+      (λ j there. opened_at_most p.entries j (released_opened p stands.in_order j there)) low
 
   -- the window has the picture of a fragment that isn't late
   stays_here : is_late p.size p.entries m ≡ false → is_forgotten (window_enters w f) later
@@ -78,19 +74,7 @@ module _ (w : Window) (p : WindowPast) (stands : StandsForPast w p) (runs : p.is
   -- a slice that is newly kept is of the fragment's picture, which isn't late
   newly_here : (n i : ℕ) (job : Job) → job_before n i ≡ None → job_behind n i ≡ Some job
       → (n ≡ m) × (is_late p.size p.entries m ≡ false)
-  newly_here n i job none is = elim (cases_eq n m) [
-    | inr other ↦ absurd (none-some job (sym none
-        ∙ ap (λ (l : List Part). option_and_then (λ kept. job_by kept n i) (own p.sequence l))
-        (sym (other_parts w p stands runs f n other))
-        ∙ is))
-    | inl same ↦ elim (cases_Bool (is_late p.size p.entries m)) [
-      | inl late ↦ absurd (none-some job (sym none
-          ∙ ap (λ (es : List Numbered). entered_job p.sequence es n i)
-          (sym (late_changes_nothing (base_above p.before) p.size p.entries f late))
-          ∙ is))
-      | inr early ↦ (same, early)
-    ]
-  ]
+  newly_here n i job none is = grind (arith, other_parts, late_changes_nothing)
 
   -- it is offered
   pub newly_offered : (n i : ℕ) (job : Job) → job_before n i ≡ None → job_behind n i ≡ Some job

@@ -1,54 +1,37 @@
 -- The jobs that a fragment offers are those of the slices that it brings.
 use Rattle.std.proofs.Common.{◌≡◌, ℕ, Bool, true, false, refl, ap, sym, ◌∙◌, arith, List, [], ◌∷◌}
-use Rattle.std.proofs.Common.{◌++◌, Option, Some, None, cond, inl, inr, subst}
+use Rattle.std.proofs.Common.{Option, Some, None, cond, subst}
 use Rattle.std.specs.Prelude.{◌&&◌, ◌||◌, is_some, not, filter_map}
 use Rattle.std.specs.List.{cons_option, last_or}
 use Rattle.std.specs.Option.{option_and_then}
-use Rattle.std.proofs.lemmas.Bool.{cases_Bool, cases_eq, ne_eqb, false≢true, or_right}
+use Rattle.std.proofs.lemmas.Bool.{false≢true}
 use Rattle.std.proofs.lemmas.List.{append-nil}
 use Rattle.std.proofs.lemmas.Option.{none-some, slice_get_within}
-use Rattle.std.proofs.lemmas.Slice.Eq.{bytes_eq-Decides}
 use Rattle.link_model.specs.Books.{Book, book_of}
 use Rattle.link_model.specs.Feeders.{is_among}
 use Rattle.link_model.specs.Feeding.{is_same_job}
-use Rattle.link_model.specs.Numbers.{Numbered, base_above, has_parts, is_closed}
-use Rattle.link_model.specs.Numbers.{is_late, is_opened, parts_of, picture_number}
+use Rattle.link_model.specs.Numbers.{base_above, has_parts, is_closed}
+use Rattle.link_model.specs.Numbers.{is_opened, parts_of, picture_number}
 use Rattle.link_model.specs.Places.{Job}
 use Rattle.link_model.specs.Session.{Part, Fragment}
 use Rattle.link_model.specs.Windows.{Window, WindowPast, StandsForPast, number_by}
 use Rattle.link_model.specs.Windows.{window_enters, past_enters, released_up_to}
 use Rattle.link_model.proofs.Numbering.{early_enters, enters_follows, late_changes_nothing}
 use Rattle.link_model.proofs.Numbering.{parts_of-append, parts_of-other}
+use Rattle.link_model.proofs.SameJobs.{same_itself, same_job}
 use Rattle.link_model.proofs.Windowing.{number_of_window}
 use Rattle.link_model.proofs.WindowStands.{book_is, enters_stands}
-use Rattle.vc_types.proofs.SameValues.{parameters_exactly}
 use Rattle.link_reception.specs.Exchanging.{book_job, window_job, has_slice_in, numbers_in}
 use Rattle.link_reception.specs.Exchanging.{new_jobs_of, offered_jobs, is_job_among}
 use Rattle.link_reception.proofs.ReleaseLists.{among_range}
-use Rattle.link_reception.proofs.SliceJobs.{same_job_is}
 
 -- ---- jobs among others
-
-pub same_itself : (job : Job) → is_same_job job job ≡ true
-same_itself job = grind (arith, bytes_eq-Decides, parameters_exactly)
 
 module _ (job_by : ℕ → Option Job) (job : Job) where
   job_among : (is : List ℕ) (i : ℕ) → is_among is i ≡ true → job_by i ≡ Some job
       → is_job_among (filter_map job_by is) job ≡ true
   job_among [] i there at = absurd (false≢true there)
-  job_among (k ∷ is) i there at = elim (cases_eq k i) [
-    | inl same ↦
-        ap (λ (o : Option Job). is_job_among (cons_option o (filter_map job_by is)) job)
-        (ap job_by same ∙ at)
-        ∙ ap (λ (b : Bool). b || is_job_among (filter_map job_by is) job) (same_itself job)
-    | inr other ↦ by_job (job_by k) (job_among is i
-        (sym (ap (λ (b : Bool). b || is_among is i) (ne_eqb k i other)) ∙ there) at)
-  ]
-    where
-      by_job : (o : Option Job) → is_job_among (filter_map job_by is) job ≡ true
-          → is_job_among (cons_option o (filter_map job_by is)) job ≡ true
-      by_job None rest = rest
-      by_job (Some other) rest = or_right (is_same_job job other) _ rest
+  job_among (k ∷ is) i there at = grind (arith, same_itself, job_among is i)
 
   from_among : (is : List ℕ) → is_job_among (filter_map job_by is) job ≡ true
       → (i : ℕ) × (job_by i ≡ Some job)
@@ -60,7 +43,7 @@ module _ (job_by : ℕ → Option Job) (job : Job) where
           → (is_job_among (filter_map job_by is) job ≡ true → (i : ℕ) × (job_by i ≡ Some job))
           → (i : ℕ) × (job_by i ≡ Some job)
       by_test other at true same there later =
-          (k, at ∙ ap Some (sym (same_job_is job other same)))
+          (k, at ∙ ap Some (sym (same_job job other same)))
       by_test other at false differs there later = later there
 
       by_job : (o : Option Job) → job_by k ≡ o
@@ -121,16 +104,8 @@ module _ (w : Window) (p : WindowPast) (stands : StandsForPast w p) (runs : p.is
   later = past_enters p f
 
   pub other_parts : (n : ℕ) → (n ≡ m → ⊥) → parts_of n later.entries ≡ parts_of n p.entries
-  other_parts n other = elim (cases_Bool (is_late p.size p.entries m)) [
-    | inl late ↦ ap (parts_of n)
-        (late_changes_nothing (base_above p.before) p.size p.entries f late)
-    | inr early ↦ (let e : Numbered = record { number = m; part = f.part } in
-        ap (parts_of n) (early_enters (base_above p.before) p.size p.entries f early)
-        ∙ parts_of-append n p.entries (e ∷ [])
-        ∙ ap (λ (l : List Part). parts_of n p.entries ++ l)
-        (parts_of-other n e (λ same. other (sym same)))
-        ∙ append-nil (parts_of n p.entries))
-  ]
+  other_parts n other =
+      grind (arith, late_changes_nothing, early_enters, parts_of-append, parts_of-other, append-nil)
 
   pub closed_later : (n : ℕ) → is_closed p.size p.entries n ≡ true
       → is_closed p.size later.entries n ≡ true

@@ -3,7 +3,6 @@
 use Rattle.std.proofs.Common.{◌≡◌, ℕ, zero, suc, ◌≤◌, Bool, true, false, refl, ap, sym, subst}
 use Rattle.std.proofs.Common.{List, [], ◌∷◌, ◌++◌, Option, Some, None, arith}
 use Rattle.std.specs.Prelude.{is_some, filter}
-use Rattle.std.specs.Option.{option_map_or}
 use Rattle.link_model.specs.Feeders.{kept_job}
 use Rattle.link_model.specs.Places.{Job, Answered}
 use Rattle.link_model.specs.Session.{HeardSession, hears, sessions_of}
@@ -15,7 +14,7 @@ use Rattle.link_reception.specs.Exchanging.{Exchange, Proposed, Fetched, all_exc
 use Rattle.link_reception.specs.Exchanging.{back_from, is_job_among, not_at, takes_done}
 use Rattle.link_reception.specs.Judging.{keeps_datagram, session_opened}
 use Rattle.link_reception.specs.Receptions.{Reception, SliceOut}
-use Rattle.link_reception.specs.Releasing.{book_count, next_picture, releases_all}
+use Rattle.link_reception.specs.Releasing.{book_count, releases_all}
 use Rattle.link_reception.specs.Releasing.{releases_picture_of, releases_up_to}
 use Rattle.link_reception.specs.SlicesOut.{AreOutKept, ArePutsOf, is_job_out}
 use Rattle.link_reception.specs.Standing.{StandsForHeard}
@@ -72,16 +71,7 @@ module _ (size : ℕ) (hs : List HeardSession) where
       → AreOutKept size hs (releases_up_to k r).out
   unfolding releases_up_to
   releases_kept zero r kept = kept
-  releases_kept (suc k) r kept = by_next (next_picture r)
-      (λ picture. releases_kept k (releases_picture_of r picture) (release_kept r picture kept))
-    where
-      by_next : (o : Option Releasable)
-          → ((picture : Releasable)
-          → AreOutKept size hs (releases_up_to k (releases_picture_of r picture)).out)
-          → AreOutKept size hs (option_map_or
-          (λ picture. releases_up_to k (releases_picture_of r picture)) o r).out
-      by_next None each = kept
-      by_next (Some picture) each = each picture
+  releases_kept (suc k) r kept = grind (arith, release_kept, releases_kept k)
 
   -- ---- the end of the input, where nothing is offered
 

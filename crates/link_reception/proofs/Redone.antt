@@ -1,17 +1,16 @@
 -- The feeder decodes slices of a picture by itself.
-use Rattle.std.proofs.Common.{◌≡◌, ℕ, Bool, true, false, refl, ap, sym, ◌∙◌, cond, map}
-use Rattle.std.proofs.Common.{List, [], ◌∷◌, Option, Some, None, inl, inr, arith}
-use Rattle.std.specs.Prelude.{◌==◌, ◌&&◌, ◌||◌, is_some, unwrap_or}
+use Rattle.std.proofs.Common.{◌≡◌, ℕ, true, refl, ap, sym, ◌∙◌, map}
+use Rattle.std.proofs.Common.{List, [], ◌∷◌, Option, Some, None, arith}
+use Rattle.std.specs.Prelude.{is_some, unwrap_or}
 use Rattle.std.specs.Option.{option_and_then, option_map_or}
-use Rattle.std.proofs.lemmas.Bool.{cases_eq, and_parts, eqb-true, ne_eqb, false≢true}
-use Rattle.std.proofs.lemmas.Option.{none-some, same_Some}
+use Rattle.std.proofs.lemmas.Bool.{false≢true}
+use Rattle.std.proofs.lemmas.Option.{none-some}
 use Rattle.link_model.specs.Feeders.{Feeder, SliceAnswer, answer_in, kept_job, picture_keeps}
 use Rattle.link_model.specs.Feeders.{job_by, job_with, is_among}
-use Rattle.link_model.specs.Feeding.{with_answer}
 use Rattle.link_model.specs.Kept.{Own, own_slice}
 use Rattle.link_model.specs.Machine.{Redo}
 use Rattle.link_model.specs.Next.{feeder_run}
-use Rattle.link_model.specs.Places.{Job, own_answer, decoding}
+use Rattle.link_model.specs.Places.{Job, decoding}
 use Rattle.link_model.specs.Session.{HeardSession, sessions_of}
 use Rattle.vc_types.specs.Slices.{slice_coefficients}
 use Rattle.link_reception.specs.Receptions.{Decoding}
@@ -55,23 +54,7 @@ module _ (size : ℕ) (hs : List HeardSession) where
       (d : Decoding) → answer_in decoded n k ≡ Some d
       → (job : Job) × (kept_job size hs n k ≡ Some job) × (d ≡ decoding job)
   own_answer_of [] own n k d is = absurd (none-some d is)
-  own_answer_of (a ∷ rest) own n k d is =
-      by_test (a.number == n && a.index == k) refl is (λ e. own_answer_of rest own.1 n k d e)
-    where
-      by_test : (b : Bool) → (a.number == n && a.index == k) ≡ b
-          → cond b (Some a.answer) (answer_in rest n k) ≡ Some d
-          → (answer_in rest n k ≡ Some d
-          → (job : Job) × (kept_job size hs n k ≡ Some job) × (d ≡ decoding job))
-          → (job : Job) × (kept_job size hs n k ≡ Some job) × (d ≡ decoding job)
-      by_test false at e later = later e
-      by_test true at e later =
-          let same = and_parts (a.number == n) (a.index == k) at in (
-            own.0.0,
-            ap (λ m. kept_job size hs m k) (sym (eqb-true a.number n same.0))
-                ∙ ap (kept_job size hs a.number) (sym (eqb-true a.index k same.1))
-                ∙ own.0.1,
-            sym (same_Some a.answer d e) ∙ own.0.2,
-          )
+  own_answer_of (a ∷ rest) own n k d is = grind (arith, own_answer_of rest own.1 n k d)
 
   -- each is the decoding of a slice that its picture keeps
   pub answers_of_kept : (decoded : List SliceAnswer) → AreOwnAnswers size hs decoded → (n : ℕ)
@@ -112,8 +95,7 @@ module _ (size : ℕ) (hs : List HeardSession) where
         → (k : ℕ) → answer_in (redone is decoded) m k ≡ answer_in decoded m k
     redone_others [] decoded m other k = refl
     redone_others (i ∷ is) decoded m other k =
-        redone_others is (with_own decoded (kept_job size hs n i)) m other k
-        ∙ one_other i m k decoded other
+        grind (arith, one_other, redone_others is (with_own decoded (kept_job size hs n i)) m other k)
 
     one_stays : (k : ℕ) (decoded : List SliceAnswer) (o : Option Job)
         → is_some (answer_in decoded n k) ≡ true
@@ -137,30 +119,12 @@ module _ (size : ℕ) (hs : List HeardSession) where
         → is_some (kept_job size hs n k) ≡ true → is_among is k ≡ true
         → is_some (answer_in (redone is decoded) n k) ≡ true
     redone_there [] decoded k there among = absurd (false≢true among)
-    redone_there (i ∷ is) decoded k there among = elim (cases_eq i k) [
-      | inl same ↦ redone_stays is (with_own decoded (kept_job size hs n i)) k
-          (ap (λ j. is_some (answer_in (with_own decoded (kept_job size hs n j)) n k)) same
-          ∙ one_there k decoded there)
-      | inr other ↦ redone_there is (with_own decoded (kept_job size hs n i)) k there
-          (sym (ap (λ (b : Bool). b || is_among is k) (ne_eqb i k other)) ∙ among)
-    ]
+    redone_there (i ∷ is) decoded k there among =
+        grind (arith, redone_stays, one_there, redone_there is (with_own decoded (kept_job size hs n i)) k there)
 
 -- the feeder's events
 pub redo_run : (size n : ℕ) (is : List ℕ) (f : Feeder)
     → feeder_run size f (map (Redo n) is)
     ≡ record f { decoded = redone size (sessions_of f.heard) n is f.decoded }
 redo_run size n [] f = refl
-redo_run size n (i ∷ is) f =
-    by_job (kept_job size (sessions_of f.heard) n i) (λ g. redo_run size n is g)
-  where
-    by_job : (o : Option Job)
-        → ((g : Feeder) → feeder_run size g (map (Redo n) is)
-        ≡ record g { decoded = redone size (sessions_of g.heard) n is g.decoded })
-        → feeder_run size (option_map_or (λ job. with_answer f (own_answer job)) o f)
-        (map (Redo n) is)
-        ≡ record f {
-          decoded = redone size (sessions_of f.heard) n is
-              (with_own size (sessions_of f.heard) n f.decoded o);
-        }
-    by_job None later = later f
-    by_job (Some job) later = later (with_answer f (own_answer job))
+redo_run size n (i ∷ is) f = grind (arith, redo_run size n is)

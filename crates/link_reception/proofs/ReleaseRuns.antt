@@ -6,6 +6,7 @@ use Rattle.std.specs.List.{flat_map}
 use Rattle.std.specs.Option.{option_and_then, option_map}
 use Rattle.std.proofs.lemmas.Bool.{eq-eqb, or_right}
 use Rattle.std.proofs.lemmas.List.{append_assoc, append-nil}
+use Rattle.std.proofs.lemmas.List.Elements.{filter_agree}
 use Rattle.std.proofs.lemmas.List.Sums.{fold-append}
 use Rattle.link_model.specs.Feeders.{Feeder, is_among, is_decoded, keeps_now, releasable}
 use Rattle.link_model.specs.Kept.{Own}
@@ -32,14 +33,10 @@ use Rattle.link_reception.proofs.Working.{IsWorking}
 
 -- ---- what is to be done for a picture
 
-filter_same : (f g : ℕ → Bool) → ((i : ℕ) → f i ≡ g i) → (l : List ℕ) → filter f l ≡ filter g l
-filter_same f g same [] = refl
-filter_same f g same (i ∷ l) = grind (arith, filter_same f g same l)
-
 unanswered_same : (f g : Feeder) (m : ℕ) → ((i : ℕ) → is_decoded g m i ≡ is_decoded f m i)
     → (o : Option Own) → unanswered g m o ≡ unanswered f m o
 unanswered_same f g m same None = refl
-unanswered_same f g m same (Some kept) = grind (arith, filter_same)
+unanswered_same f g m same (Some kept) = grind (arith, filter_agree)
 
 -- ---- slices that are out
 
@@ -121,7 +118,7 @@ module _ (size : ℕ) (hs : List HeardSession) (t : Tally) where
       ≡ feeder_run size (feeder_then r size f hs p st t works n next) all =
       fold-append (feeder_after size) f (releasing size first n) all
       ∙ ap (λ (es : List Event). feeder_run size (feeder_run size f es) all)
-      (same n (ap (λ (b : Bool). b || is_among ns n) (same_itself n)))
+      (same n (ap (λ (b : Bool). b || is_among ns n) (eq-eqb n n refl)))
       ∙ ap (λ (g : Feeder). feeder_run size g all)
       (feeder_then_is r size f hs p st t works n next) in
       let receiver : releases_up_to (suc k) r
@@ -163,9 +160,6 @@ module _ (size : ℕ) (hs : List HeardSession) (t : Tally) where
         out = ap (λ (v : Reception). v.out) receiver ∙ later.out ∙ both_go n ns r.out;
       }
     where
-      same_itself : (n : ℕ) → (n == n) ≡ true
-      same_itself n = eq-eqb n n refl
-
       -- what is done for this one leaves the others
       still : (next : first_of (releasable_numbers p) ≡ Some n) (m : ℕ) → is_among ns m ≡ true
           → releasing size (feeder_then r size f hs p st t works n next) m ≡ releasing size f m

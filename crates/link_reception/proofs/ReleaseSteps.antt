@@ -12,10 +12,6 @@ pub none_released : (r : Reception) → releases_up_to 0 r ≡ r
 unfolding releases_up_to
 none_released r = refl
 
-pub none_written : (r : Reception) → bytes_up_to 0 r ≡ []
-unfolding bytes_up_to
-none_written r = refl
-
 -- ---- the next one, and then the rest
 
 module _ (k : ℕ) (r : Reception) (picture : Releasable) (is : next_picture r ≡ Some picture) where

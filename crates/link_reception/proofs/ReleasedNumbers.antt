@@ -1,20 +1,19 @@
 -- Which pictures of a window are released, and which may be: those that stand behind the last one.
 use Rattle.std.proofs.Common.{◌≡◌, ℕ, zero, suc, ◌+◌, ◌<◌, ◌≤◌, Bool, true, false, refl, ap, sym}
-use Rattle.std.proofs.Common.{List, [], ◌∷◌, ◌++◌, length, map, Option, Some, None, subst, ◌∙◌}
-use Rattle.std.proofs.Common.{arith, cond, inl, inr}
-use Rattle.std.specs.Prelude.{◌==◌, ◌&&◌, ◌||◌, not, filter}
+use Rattle.std.proofs.Common.{List, [], ◌∷◌, ◌++◌, length, Option, Some, None, subst, ◌∙◌}
+use Rattle.std.proofs.Common.{arith, inl, inr}
+use Rattle.std.specs.Prelude.{◌&&◌, ◌||◌, not, filter}
 use Rattle.std.specs.List.{last_or}
-use Rattle.std.proofs.lemmas.Bool.{cases_eq, cond-true, cond-false, ne_eqb, eq-eqb, false≢true, or_left, or_right}
+use Rattle.std.proofs.lemmas.Bool.{cases_eq, ne_eqb, eq-eqb, false≢true, or_left, or_right}
 use Rattle.std.proofs.lemmas.Bool.{le-leb, lt-leb, leb-true, both_ways, and_parts, and_from}
-use Rattle.std.proofs.lemmas.List.{append_assoc}
+use Rattle.std.proofs.lemmas.List.{append_assoc, length-map}
 use Rattle.std.proofs.lemmas.List.Elements.{filter-append}
 use Rattle.link_model.specs.Feeders.{is_among, not_released}
-use Rattle.link_model.specs.Numbers.{is_opened, opened_numbers}
-use Rattle.link_model.specs.Output.{is_let_go, let_go_numbers}
+use Rattle.link_model.specs.Numbers.{is_opened}
 use Rattle.link_model.specs.Windows.{WindowPast, past_let_go, past_book, releasable_numbers}
 use Rattle.link_model.specs.Windows.{released_up_to, is_needed, window_of, needed_numbers}
 use Rattle.link_model.proofs.Leaving.{past}
-use Rattle.link_model.proofs.LettingGo.{is_let_go_by, releasable_over}
+use Rattle.link_model.proofs.LettingGo.{is_let_go_by, let_go_filtered, releasable_over}
 use Rattle.link_model.proofs.Releasing.{let_go_before}
 use Rattle.link_model.proofs.RisingNumbers.{numbers_over, opened_over, is_behind}
 use Rattle.link_reception.proofs.SessionPictures.{among_append, among_over}
@@ -38,12 +37,7 @@ module _ (n : ℕ) where
   pub among_rising : (bound : ℕ) (ns : List ℕ) → AreRising bound ns → is_among ns n ≡ true
       → bound ≤ n
   among_rising bound [] rises there = absurd (false≢true there)
-  among_rising bound (k ∷ ns) rises there = elim (cases_eq k n) [
-    | inl same ↦ omega (arith, same, rises.0)
-    | inr other ↦ (let rest = among_rising (k + 1) ns rises.1
-        (sym (ap (λ (b : Bool). b || is_among ns n) (ne_eqb k n other)) ∙ there) in
-        omega (arith, rest, rises.0))
-  ]
+  among_rising bound (k ∷ ns) rises there = grind (arith, among_rising (k + 1) ns rises.1)
 
   -- those behind some are greater than the last of these
   higher : (k bound : ℕ) (ns more : List ℕ) → k < bound → AreRising bound (ns ++ more)
@@ -64,13 +58,7 @@ last_of : (k bound : ℕ) (ns more : List ℕ) → k < bound → AreRising bound
     → (last : ℕ) × (last_or (Some k) ns ≡ Some last) × (k ≤ last) × (is_among (k ∷ ns) last ≡ true)
 last_of k bound [] more less rises =
     (k, refl, omega arith, ap (λ (b : Bool). b || false) (eq-eqb k k refl))
-last_of k bound (m ∷ ns) more less rises =
-    let rest = last_of m (m + 1) ns more (omega arith) rises.1 in
-    (rest.0, rest.1, omega (arith, rest.2, less, rises.0), or_there (k == rest.0) rest.3)
-  where
-    or_there : (b : Bool) {c : Bool} → c ≡ true → (b || c) ≡ true
-    or_there true e = refl
-    or_there false e = e
+last_of k bound (m ∷ ns) more less rises = grind (arith, last_of m (m + 1) ns more (omega arith) rises.1)
 
 -- some aren't greater than the last of them
 lower : (n k bound : ℕ) (ns more : List ℕ) → k < bound → AreRising bound (ns ++ more)
@@ -115,25 +103,10 @@ module _ (p : WindowPast) (in_order : past_let_go p ≡ p.released ++ releasable
   abbrev is_gone : ℕ → Bool
   is_gone k = is_opened p.entries k && is_let_go_by p k
 
-  all_pass : (ns : List ℕ) → ns ≡ filter (λ n. true) ns
-  all_pass [] = refl
-  all_pass (n ∷ ns) = ap (λ (l : List ℕ). n ∷ l) (all_pass ns)
-
-  let_go_filtered : past_let_go p ≡ filter (is_let_go_by p) (opened_numbers p.entries)
-  unfolding let_go_numbers
-  let_go_filtered = by_end p.is_ended
-    where
-      by_end : (over : Bool) → cond over (opened_numbers p.entries)
-          (filter (is_let_go p.size p.sequence p.entries) (opened_numbers p.entries))
-          ≡ filter (λ n. over || is_let_go p.size p.sequence p.entries n)
-          (opened_numbers p.entries)
-      by_end true = all_pass (opened_numbers p.entries)
-      by_end false = refl
-
   let_go_over : (n rest : ℕ) → past p.entries + rest ≡ n
       → p.released ++ releasable_numbers p ≡ numbers_over is_gone 0 n
   let_go_over n rest size =
-      sym in_order ∙ let_go_filtered ∙ opened_over p.entries (is_let_go_by p) n rest size
+      sym in_order ∙ let_go_filtered p ∙ opened_over p.entries (is_let_go_by p) n rest size
 
   pub released_rise : AreRising 0 (p.released ++ releasable_numbers p)
   released_rise = subst (AreRising 0) (sym (let_go_over (past p.entries + 0) 0 refl))
@@ -193,9 +166,7 @@ module _ (p : WindowPast) (in_order : past_let_go p ≡ p.released ++ releasable
           → (b : Bool) → released_up_to (last_or None p.released) n ≡ b → a ≡ b
       by_tests true there true low = refl
       by_tests false away false high = refl
-      by_tests true there false high = absurd (both_ways
-          (released_up_to (last_or None p.released) n) high
-          (front_is_lower n 0 p.released (releasable_numbers p) released_rise there))
+      by_tests true there false high = grind (arith, front_is_lower, released_rise)
       by_tests false away true low = absurd (both_ways
           (released_up_to (last_or None p.released) n)
           (behind_is_higher n 0 p.released (releasable_numbers p) released_rise
@@ -229,10 +200,6 @@ module _ (p : WindowPast) (in_order : past_let_go p ≡ p.released ++ releasable
       ≡ true → (is_opened p.entries k && is_needed p k) ≡ true
   needed_there k passes = grind (arith, is_behind, is_let_go_by)
 
-  length_map : {A B : Type 0} (f : A → B) (xs : List A) → length (map f xs) ≡ length xs
-  length_map f [] = refl
-  length_map f (x ∷ xs) = omega (arith, length_map f xs)
-
   pub books_enough : length (releasable_numbers p) ≤ length (window_of p).books
   unfolding window_of
   books_enough =
@@ -247,7 +214,7 @@ module _ (p : WindowPast) (in_order : past_let_go p ≡ p.released ++ releasable
       let many : length (needed_numbers p)
       ≡ length (numbers_over (λ k. is_opened p.entries k && is_needed p k) 0 all) =
       ap length (opened_over p.entries (is_needed p) all 0 refl) in
-      omega (arith, fewer_numbers, few, many, length_map (past_book p) (needed_numbers p))
+      omega (arith, fewer_numbers, few, many, length-map (needed_numbers p) (past_book p))
 
 -- ---- pictures that are let go and weren't released
 
@@ -258,18 +225,12 @@ module _ (released : List ℕ) where
   all_gone : (ns : List ℕ) → ((n : ℕ) → is_among ns n ≡ true → is_among released n ≡ true)
       → filter stays ns ≡ []
   all_gone [] each = refl
-  all_gone (k ∷ ns) each =
-      cond-false (stays k) (k ∷ filter stays ns) (filter stays ns)
-      (ap not (each k (ap (λ (b : Bool). b || is_among ns k) (eq-eqb k k refl))))
-      ∙ all_gone ns (λ n there. each n (or_right (k == n) _ there))
+  all_gone (k ∷ ns) each = grind (arith, all_gone ns)
 
   all_stay : (ns : List ℕ) → ((n : ℕ) → is_among ns n ≡ true → is_among released n ≡ false)
       → filter stays ns ≡ ns
   all_stay [] each = refl
-  all_stay (k ∷ ns) each =
-      cond-true (stays k) (k ∷ filter stays ns) (filter stays ns)
-      (ap not (each k (ap (λ (b : Bool). b || is_among ns k) (eq-eqb k k refl))))
-      ∙ ap (λ (l : List ℕ). k ∷ l) (all_stay ns (λ n there. each n (or_right (k == n) _ there)))
+  all_stay (k ∷ ns) each = grind (arith, all_stay ns)
 
 -- of some that stand before them, all of which were released
 pub unreleased_are : (p : WindowPast) → past_let_go p ≡ p.released ++ releasable_numbers p
@@ -289,8 +250,4 @@ unreleased_are p in_order before apart =
 
     away : (n : ℕ) → is_among (releasable_numbers p) n ≡ true
         → is_among (before ++ p.released) n ≡ false
-    away n there =
-        among_append before p.released n
-        ∙ ap (λ (b : Bool). b || is_among p.released n)
-        (apart n (releasable_gone p in_order n there).0)
-        ∙ releasable_unreleased p in_order n there
+    away n there = grind (arith, among_append, releasable_gone, releasable_unreleased)

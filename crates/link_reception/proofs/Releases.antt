@@ -25,7 +25,7 @@ use Rattle.vc_types.specs.SequenceHeader.{Sequence}
 use Rattle.link_reception.specs.Receptions.{StandingSession, Reception, FirstField}
 use Rattle.link_reception.specs.Receptions.{answers_at, kept_answer, answers_without}
 use Rattle.link_reception.specs.Releasing.{released_planes, book_planes, released_frame}
-use Rattle.link_reception.specs.Releasing.{field_before, field_behind, counts_released}
+use Rattle.link_reception.specs.Releasing.{field_behind, counts_released}
 use Rattle.link_reception.specs.Releasing.{forgets_picture, releases_from, releases_picture_of}
 use Rattle.link_reception.specs.Releasing.{released_bytes, next_picture}
 use Rattle.link_reception.specs.Standing.{HasSlots, answered_planes, with_released, past_fields}
@@ -81,19 +81,7 @@ module _ (r : Reception) (size : ℕ) (f : Feeder) (hs : List HeardSession) (p :
   -- of the receiver's planes
   released_frame_is : released_frame s r.field n (planes_at s es n) ≡ frame_at s es n
   unfolding frame_at
-  released_frame_is = by_mode s.fields refl (n % 2 == 1) refl
-    where
-      by_mode : (fields : Bool) → s.fields ≡ fields → (odd : Bool) → (n % 2 == 1) ≡ odd
-          → cond fields (cond odd (frame_with (field_before r.field n)) None) (planes_at s es n)
-          ≡ cond fields (cond odd (frame_with (planes_at s es (n - 1))) None) (planes_at s es n)
-      by_mode false coding odd is = refl
-      by_mode true coding false is = refl
-      by_mode true coding true is =
-          let found = even_before is in
-          let here : found.0 ≡ n - 1 = omega (arith, found.1) in
-          ap frame_with
-          (before_is r size f hs p st t works n next coding found.0 found.1 found.2
-          ∙ ap (planes_at s es) here)
+  released_frame_is = grind (arith, before_is)
 
   -- and of the feeder's answers
   built_frame_is : frame_of (built_planes now_decoded (entered_of p)) s n ≡ frame_at s es n

@@ -1,12 +1,11 @@
 -- A receiver that released all that it may stands for what was heard again.
 use Rattle.std.proofs.Common.{◌≡◌, ℕ, ◌+◌, Bool, true, false, refl, ap, sym, ◌∙◌, arith}
-use Rattle.std.proofs.Common.{List, [], ◌∷◌, ◌++◌, Option, Some, None, subst}
-use Rattle.std.specs.Prelude.{is_some, count_by}
+use Rattle.std.proofs.Common.{List, [], ◌∷◌, ◌++◌, Some, subst}
+use Rattle.std.specs.Prelude.{is_some}
 use Rattle.std.specs.List.{flat_map}
 use Rattle.std.proofs.lemmas.List.{append-nil}
 use Rattle.link_model.specs.Feeders.{Feeder, let_go_pictures, is_among}
 use Rattle.link_model.specs.Judgement.{outcomes_in, outcome_counts, with_pictures, with_sessions}
-use Rattle.link_model.specs.Judgement.{is_incomplete, is_unsound, is_unpaired, has_frame}
 use Rattle.link_model.specs.Numbers.{Numbered, greatest, least, parts_of, opened_numbers}
 use Rattle.link_model.specs.Output.{frame_bytes_at, planes_at, let_go_numbers, frames_so_far}
 use Rattle.link_model.specs.Output.{all_frames, all_output, last_so_far, output_so_far, full_output}
@@ -18,13 +17,12 @@ use Rattle.link_model.specs.declared.tally.Tally.{Tally}
 use Rattle.link_model.proofs.SessionOutput.{opening_writes_nothing}
 use Rattle.link_model.proofs.WindowNumbers.{session_greatest}
 use Rattle.link_model.proofs.WindowStands.{new_stands}
-use Rattle.vc_types.specs.Planes.{Planes}
 use Rattle.vc_types.specs.SequenceHeader.{Sequence}
 use Rattle.link_reception.specs.Entering.{gives_up_field, greatest_in, opens_session}
-use Rattle.link_reception.specs.Receptions.{StandingSession, Reception, FirstField}
+use Rattle.link_reception.specs.Receptions.{StandingSession, Reception}
 use Rattle.link_reception.specs.Releasing.{one_if}
 use Rattle.link_reception.specs.Standing.{StandsFor, standing_of, standing_with, all_released}
-use Rattle.link_reception.specs.Standing.{last_past, fields_behind, counts_of_sessions, past_counts}
+use Rattle.link_reception.specs.Standing.{last_past, counts_of_sessions}
 use Rattle.link_reception.proofs.HeardMore.{written_of}
 use Rattle.link_reception.specs.Standing.{with_released}
 use Rattle.link_reception.proofs.LoneFields.{all_fields}
@@ -93,40 +91,13 @@ module _ (r : Reception) (size : ℕ) (f : Feeder) (h : HeardSession) (hs : List
 
     planes_there : (k : ℕ) → is_some (planes_at s es k) ≡ true
         → is_among (opened_numbers es) k ≡ true
-    planes_there k is = by_planes (planes_at s es k) refl is
-      where
-        by_planes : (o : Option Planes) → planes_at s es k ≡ o → is_some o ≡ true
-            → is_among (opened_numbers es) k ≡ true
-        by_planes None at e = absurd cc
-        by_planes (Some planes) at e =
-            opened_among es k ∙ planes_opened s es k planes at
+    planes_there k is = grind (arith, opened_among, planes_opened)
 
     -- the field that still waits is alone, and the counts are those of all its pictures
     counts_over : record r.counts { unpaired = r.counts.unpaired + one_if (is_some r.field) }
         ≡ with_sessions size (h ∷ hs) (outcome_counts (outcomes_in size f.heard))
     unfolding with_sessions with_pictures with_released
-    counts_over =
-        ap (λ (c : Tally). record c { unpaired = c.unpaired + one_if (is_some r.field) })
-        works.counted
-        ∙ ap (λ (w : Option FirstField). record (past_counts p t) {
-          unpaired = (past_counts p t).unpaired + one_if (is_some w);
-        }) works.waiting
-        ∙ ap (λ (l : List ℕ). record (with_released s es l t) {
-          unpaired = (with_released s es l t).unpaired
-              + one_if (is_some (fields_behind s es l).waiting);
-        }) all_opened
-        ∙ ap (λ c. record t {
-          incomplete = t.incomplete + count_by (is_incomplete s es) (opened_numbers es);
-          unsound = t.unsound + count_by (is_unsound s es) (opened_numbers es);
-          unpaired = c;
-          frames = t.frames + count_by (has_frame s es) (opened_numbers es);
-        }) unpaired
-        ∙ ap (with_pictures s es) tally
-      where
-        unpaired : t.unpaired + (fields_behind s es (opened_numbers es)).alone
-            + one_if (is_some (fields_behind s es (opened_numbers es)).waiting)
-            ≡ t.unpaired + count_by (is_unpaired s es) (opened_numbers es)
-        unpaired = omega (arith, all_fields s es (opened_numbers es) rise planes_there)
+    counts_over = grind (arith, all_fields, rise, planes_there)
 
     written_over : f.written ≡ all_output size (h ∷ hs)
     unfolding all_output all_frames

@@ -3,8 +3,9 @@ use Rattle.std.proofs.Common.{◌≡◌, ℕ, zero, suc, ◌+◌, ◌<◌, ◌�
 use Rattle.std.proofs.Common.{List, [], ◌∷◌, ◌++◌, Option, Some, None, ◌∙◌, arith, cond, inl, inr}
 use Rattle.std.specs.Prelude.{◌==◌, ◌||◌, filter_map}
 use Rattle.std.specs.Option.{option_and_then, option_map_or}
-use Rattle.std.proofs.lemmas.Bool.{cases_Bool, cond-false, ne_eqb, eq-eqb, or_parts}
-use Rattle.std.proofs.lemmas.Bool.{false≢true, cases_lt}
+use Rattle.std.proofs.lemmas.Bool.{cases_Bool, ne_eqb, eq-eqb}
+use Rattle.std.proofs.lemmas.Bool.{cases_lt}
+use Rattle.std.proofs.Math.Bool.{or_comm}
 use Rattle.std.proofs.lemmas.List.Folds.{list_any-append}
 use Rattle.std.proofs.lemmas.Option.{none-some}
 use Rattle.link_model.specs.Feeders.{EnteredSession, entered_session, session_opening, keeps_of}
@@ -18,7 +19,7 @@ use Rattle.link_model.specs.Session.{Part, Session, HeardSession, just_opened, w
 use Rattle.link_model.specs.Session.{last_with, hears, opens_next, begins, fragment_in}
 use Rattle.link_model.proofs.Apart.{sessions_apart}
 use Rattle.link_model.proofs.Keeping.{keeps}
-use Rattle.link_model.proofs.Leaving.{past, opened-over}
+use Rattle.link_model.proofs.Leaving.{has_more, past, opened-over}
 use Rattle.link_model.proofs.Numbering.{entered_follows}
 use Rattle.link_model.proofs.RisingNumbers.{numbers_over}
 
@@ -30,14 +31,7 @@ among_append a b n = list_any-append (λ m. m == n) a b
 module _ (test : ℕ → Bool) (n : ℕ) where
   pub among_below : (a m : ℕ) → n < a → is_among (numbers_over test a m) n ≡ false
   among_below a zero below = refl
-  among_below a (suc m) below = by_test (test a) (among_below (a + 1) m (omega arith))
-    where
-      by_test : (b : Bool) → is_among (numbers_over test (a + 1) m) n ≡ false
-          → is_among (cond b (a ∷ []) [] ++ numbers_over test (a + 1) m) n ≡ false
-      by_test true rest =
-          ap (λ (b : Bool). b || is_among (numbers_over test (a + 1) m) n)
-          (ne_eqb a n (λ same. omega (arith, same, below))) ∙ rest
-      by_test false rest = rest
+  among_below a (suc m) below = grind (arith, among_below (a + 1) m (omega arith))
 
   pub among_over : (a m : ℕ) → a ≤ n → n < a + m → is_among (numbers_over test a m) n ≡ test n
   among_over a zero from to = absurd (omega arith)
@@ -49,9 +43,7 @@ module _ (test : ℕ → Bool) (n : ℕ) where
     where
       past_it : a < n → (b : Bool) → is_among (numbers_over test (a + 1) m) n ≡ test n
           → is_among (cond b (a ∷ []) [] ++ numbers_over test (a + 1) m) n ≡ test n
-      past_it less true rest =
-          ap (λ (b : Bool). b || is_among (numbers_over test (a + 1) m) n)
-          (ne_eqb a n (λ same. omega (arith, same, less))) ∙ rest
+      past_it less true rest = grind (arith, numbers_over)
       past_it less false rest = rest
 
       here : a ≡ n → (b : Bool) → is_among (numbers_over test (a + 1) m) n ≡ false
@@ -66,21 +58,11 @@ opened_among es n =
     ap (λ (l : List ℕ). is_among l n) (opened-over es (past es + (n + 1)) (n + 1) refl)
     ∙ among_over (is_opened es) n 0 (past es + (n + 1)) (omega arith) (omega arith)
 
-or_turned : (a b : Bool) → (a || b) ≡ (b || a)
-or_turned true true = refl
-or_turned true false = refl
-or_turned false true = refl
-or_turned false false = refl
-
 -- ---- the session of a picture
 
 nothing_opened : (n : ℕ) → is_opened [] n ≡ false
 unfolding parts_of
 nothing_opened n = refl
-
-has_more : (parts more : List Part) → has_parts parts ≡ true → has_parts (parts ++ more) ≡ true
-has_more [] more e = absurd (false≢true e)
-has_more (part ∷ parts) more e = refl
 
 module _ (window : ℕ) where
   pub pictures_among : (hs : List HeardSession) (n : ℕ)
@@ -88,18 +70,13 @@ module _ (window : ℕ) where
   unfolding heard_pictures
   pictures_among [] n = refl
   pictures_among (h ∷ hs) n =
-      grind (arith, among_append, opened_among, or_turned, pictures_among hs n)
+      grind (arith, among_append, opened_among, or_comm, pictures_among hs n)
 
   pub session_none : (hs : List HeardSession) (n : ℕ) → is_opened_in window hs n ≡ false
       → session_opening window hs n ≡ None
   unfolding session_opening
   session_none [] n none = refl
-  session_none (h ∷ hs) n none =
-      let parts = or_parts (is_opened (entered_behind window hs h) n) (is_opened_in window hs n)
-      none in
-      cond-false (is_opened (entered_behind window hs h) n) (Some (entered_session window hs h))
-      (session_opening window hs n) parts.0
-      ∙ session_none hs n parts.1
+  session_none (h ∷ hs) n none = grind (arith, session_none hs n)
 
   module _ (h : HeardSession) (hs : List HeardSession) (n : ℕ) where
     pub session_last : is_opened (entered_behind window hs h) n ≡ true

@@ -1,12 +1,11 @@
 -- The jobs of slices, by the book of a picture and by what the feeder heard, and answers of other
 -- pictures.
-use Rattle.std.proofs.Common.{◌≡◌, ℕ, ◌<◌, true, refl, ap, List, [], ◌∷◌, Option, Some, None, arith}
+use Rattle.std.proofs.Common.{◌≡◌, ℕ, ◌<◌, refl, ap, List, [], ◌∷◌, Option, Some, None, arith}
 use Rattle.std.specs.Option.{option_and_then, option_map}
-use Rattle.std.proofs.lemmas.Slice.Eq.{bytes_eq-Decides}
 use Rattle.link_model.specs.Books.{book_of}
 use Rattle.link_model.specs.Complete.{slice_numbers}
 use Rattle.link_model.specs.Feeders.{job_by, kept_job, picture_keeps, answer_in, SliceAnswer}
-use Rattle.link_model.specs.Feeding.{is_same_job, planes_by, sound_answers}
+use Rattle.link_model.specs.Feeding.{planes_by, sound_answers}
 use Rattle.link_model.specs.Kept.{Own, own}
 use Rattle.link_model.specs.Places.{Job}
 use Rattle.link_model.specs.Session.{Part, HeardSession}
@@ -14,7 +13,6 @@ use Rattle.link_model.proofs.Slots.{slot_inside, slot_outside, own_slice_inside}
 use Rattle.vc_types.specs.Planes.{planes_of}
 use Rattle.vc_types.specs.SequenceHeader.{Sequence}
 use Rattle.vc_types.specs.Subbands.{slice_count}
-use Rattle.vc_types.proofs.SameValues.{parameters_exactly}
 use Rattle.link_reception.specs.Exchanging.{book_job}
 
 -- ---- answers of another picture
@@ -42,9 +40,6 @@ pub book_job_is : (s : Sequence) (parts : List Part) (n i : ℕ)
     → book_job (book_of s parts) n i ≡ option_and_then (λ kept. job_by kept n i) (own s parts)
 unfolding book_of
 book_job_is s parts n i = grind (arith, own_slice_inside, slot_inside, slot_outside)
-
-pub same_job_is : (a b : Job) → is_same_job a b ≡ true → a ≡ b
-same_job_is a b same = grind (arith, bytes_eq-Decides, parameters_exactly)
 
 -- a job that is kept is of that slice, and in the plan
 pub kept_job_is : (size : ℕ) (hs : List HeardSession) (n i : ℕ) (job : Job)

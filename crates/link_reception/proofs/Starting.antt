@@ -1,10 +1,9 @@
 -- A receiver that stands for what was heard goes to work as a datagram or the end comes.
-use Rattle.std.proofs.Common.{◌≡◌, ℕ, ◌-◌, ◌%◌, ◌≤◌, Bool, true, false, refl, ap, sym}
+use Rattle.std.proofs.Common.{◌≡◌, ℕ, ◌-◌, ◌%◌, ◌≤◌, true, false, refl, ap, sym}
 use Rattle.std.proofs.Common.{List, [], ◌∷◌, ◌++◌, Option, Some, None, subst, ◌∙◌, arith, cond}
-use Rattle.std.specs.Prelude.{◌==◌, ◌||◌, ◌⊎◌, is_some, filter_map}
+use Rattle.std.specs.Prelude.{◌==◌, ◌⊎◌, is_some, filter_map}
 use Rattle.std.specs.List.{flat_map}
 use Rattle.std.specs.Option.{option_map}
-use Rattle.std.proofs.lemmas.Bool.{eq-eqb, or_right}
 use Rattle.std.proofs.lemmas.Grind.{common_steps}
 use Rattle.std.proofs.lemmas.List.{append-nil}
 use Rattle.link_model.specs.Feeders.{Feeder, session_opening}
@@ -209,11 +208,7 @@ module _ (r : Reception) (size : ℕ) (small : size ≤ 8) (f : Feeder) (stands 
       pieces_same : (f g : ℕ → List ℕ) (ns : List ℕ)
           → ((n : ℕ) → is_among ns n ≡ true → f n ≡ g n) → flat_map f ns ≡ flat_map g ns
       pieces_same f g [] same = refl
-      pieces_same f g (n ∷ ns) same =
-          ap (λ (l : List ℕ). l ++ flat_map f ns)
-          (same n (ap (λ (b : Bool). b || is_among ns n) (eq-eqb n n refl)))
-          ∙ ap (λ (l : List ℕ). g n ++ l)
-          (pieces_same f g ns (λ m there. same m (or_right (n == m) _ there)))
+      pieces_same f g (n ∷ ns) same = grind (arith, pieces_same f g ns)
 
       let_go_now : let_go_pictures size f.has_ended (sessions_of now_heard)
           ≡ heard_pictures size hs ++ past_let_go past_now

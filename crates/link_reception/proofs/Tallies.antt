@@ -1,6 +1,6 @@
 -- Counts: those of outcomes and those of pictures don't touch each other.
 use Rattle.std.proofs.Common.{◌≡◌, ℕ, ◌+◌, Bool, true, refl, ap, sym, ◌∙◌, cond, arith}
-use Rattle.std.proofs.Common.{List, [], ◌∷◌, Option}
+use Rattle.std.proofs.Common.{List, [], ◌∷◌}
 use Rattle.std.specs.Prelude.{◌==◌, ◌||◌, count_by, filter, fold, length}
 use Rattle.std.proofs.lemmas.Bool.{eq-eqb, or_right}
 use Rattle.std.proofs.lemmas.Grind.{common_steps}
@@ -14,9 +14,7 @@ use Rattle.link_model.specs.Session.{HeardSession}
 use Rattle.link_model.specs.declared.outcome.Outcome.{Outcome}
 use Rattle.link_model.specs.declared.outcome.Outcome.TheVariants as outcomes
 use Rattle.link_model.specs.declared.tally.Tally.{Tally}
-use Rattle.vc_types.specs.Planes.{Planes}
 use Rattle.vc_types.specs.SequenceHeader.{Sequence}
-use Rattle.link_reception.specs.Releasing.{field_behind, fields_alone}
 use Rattle.link_reception.specs.Standing.{Fields, no_fields, next_field, fields_behind}
 use Rattle.link_reception.specs.Standing.{with_released}
 
@@ -32,31 +30,7 @@ added a b c d t = record t {
 outcome_added : (a b c d : ℕ) (t : Tally) (o : Outcome)
     → with_outcome (added a b c d t) o ≡ added a b c d (with_outcome t o)
 outcome_added a b c d t outcomes.RtpShort = refl
-outcome_added a b c d t outcomes.RtpVersion = refl
-outcome_added a b c d t outcomes.RtpShape = refl
-outcome_added a b c d t outcomes.PayloadShort = refl
-outcome_added a b c d t outcomes.PayloadCode = refl
-outcome_added a b c d t outcomes.PayloadFragment = refl
-outcome_added a b c d t outcomes.Foreign = refl
-outcome_added a b c d t outcomes.HeaderNew = refl
-outcome_added a b c d t outcomes.HeaderSame = refl
-outcome_added a b c d t outcomes.HeaderOther = refl
-outcome_added a b c d t outcomes.HeaderBad = refl
-outcome_added a b c d t outcomes.End = refl
-outcome_added a b c d t outcomes.Skipped = refl
-outcome_added a b c d t outcomes.Late = refl
-outcome_added a b c d t outcomes.ParamsKept = refl
-outcome_added a b c d t outcomes.ParamsRepeat = refl
-outcome_added a b c d t outcomes.ParamsConflict = refl
-outcome_added a b c d t outcomes.ParamsBad = refl
-outcome_added a b c d t outcomes.SlicesKept = refl
-outcome_added a b c d t outcomes.SlicesRepeat = refl
-outcome_added a b c d t outcomes.SlicesConflict = refl
-outcome_added a b c d t outcomes.SlicesPending = refl
-outcome_added a b c d t outcomes.SlicesFull = refl
-outcome_added a b c d t outcomes.SlicesForm = refl
-outcome_added a b c d t outcomes.SlicesPlace = refl
-outcome_added a b c d t outcomes.SlicesCut = refl
+outcome_added a b c d t other = refl
 
 pub released_outcome : (s : Sequence) (es : List Numbered) (ns : List ℕ) (t : Tally) (o : Outcome)
     → with_outcome (with_released s es ns t) o ≡ with_released s es ns (with_outcome t o)
@@ -90,11 +64,7 @@ count_same f g ns same =
     filter_same : (ns : List ℕ) → ((n : ℕ) → is_among ns n ≡ true → f n ≡ g n)
         → filter f ns ≡ filter g ns
     filter_same [] same = refl
-    filter_same (n ∷ ns) same =
-        ap (λ (b : Bool). cond b (n ∷ filter f ns) (filter f ns))
-        (same n (ap (λ (b : Bool). b || is_among ns n) (eq-eqb n n refl)))
-        ∙ ap (λ (l : List ℕ). cond (g n) (n ∷ l) l)
-        (filter_same ns (λ m there. same m (or_right (n == m) _ there)))
+    filter_same (n ∷ ns) same = grind (arith, filter_same ns)
 
 module _ (s : Sequence) (old new : List Numbered) (ns : List ℕ)
     (complete : (n : ℕ) → is_among ns n ≡ true → complete_at s old n ≡ complete_at s new n)
@@ -104,12 +74,7 @@ module _ (s : Sequence) (old new : List Numbered) (ns : List ℕ)
       → ((n : ℕ) → is_among ns n ≡ true → planes_at s old n ≡ planes_at s new n)
       → fold (next_field s old) x ns ≡ fold (next_field s new) x ns
   fields_from [] x same = refl
-  fields_from (n ∷ ns) x same =
-      ap (λ (o : Option Planes). fold (next_field s old) (let next : Fields = record {
-        waiting = field_behind s n o;
-        alone = x.alone + fields_alone s x.waiting n o;
-      } in next) ns) (same n (ap (λ (b : Bool). b || is_among ns n) (eq-eqb n n refl)))
-      ∙ fields_from ns (next_field s new x n) (λ m there. same m (or_right (n == m) _ there))
+  fields_from (n ∷ ns) x same = grind (arith, fields_from ns (next_field s new x n))
 
   pub fields_same : fields_behind s old ns ≡ fields_behind s new ns
   fields_same = fields_from ns no_fields planes

@@ -1,13 +1,14 @@
 -- A datagram that isn't kept leaves the session that stands, and what its pictures keep.
 use Rattle.std.proofs.Common.{◌≡◌, ℕ, Bool, true, false, refl, ap, sym, ◌∙◌, arith}
-use Rattle.std.proofs.Common.{List, [], ◌∷◌, ◌++◌, Option, Some, None, cond, inl, inr, subst, map}
+use Rattle.std.proofs.Common.{List, [], ◌∷◌, ◌++◌, Option, Some, None, cond, inl, inr, map}
 use Rattle.std.specs.Prelude.{◌&&◌, ◌||◌, ◌⊎◌, not}
 use Rattle.std.specs.List.{last_or}
-use Rattle.std.proofs.lemmas.Bool.{cases_Bool, cases_eq, cond-false, eq-eqb, false≢true, both_ways}
+use Rattle.std.proofs.lemmas.Bool.{cond-false, eq-eqb, false≢true, both_ways}
+use Rattle.std.proofs.Math.Bool.{or-false}
 use Rattle.std.proofs.lemmas.Option.{none-some, same_Some}
 use Rattle.link_model.specs.Books.{Book, book_of}
 use Rattle.link_model.specs.Judgement.{keeps, part_outcome, fragment_outcome, outcome_behind}
-use Rattle.link_model.specs.Numbers.{Numbered, base_above, has_parts, is_closed, is_late, is_opened}
+use Rattle.link_model.specs.Numbers.{Numbered, base_above, is_closed, is_late, is_opened}
 use Rattle.link_model.specs.Numbers.{parts_of, picture_number}
 use Rattle.link_model.specs.Session.{Part, Session, Fragment, HeardSession, sessions_of, begins}
 use Rattle.link_model.specs.Session.{ends, fragment_in, opens_behind, opens_next}
@@ -16,6 +17,7 @@ use Rattle.link_model.specs.Windows.{window_outcome, is_needed, released_up_to}
 use Rattle.link_model.specs.declared.outcome.Outcome.{Outcome}
 use Rattle.link_model.specs.declared.outcome.Outcome.TheVariants as outcomes
 use Rattle.link_model.proofs.Bookkeeping.{takes-more, book_outcome_is}
+use Rattle.link_model.proofs.Leaving.{no_parts}
 use Rattle.link_model.proofs.Numbering.{early_enters, late_changes_nothing, parts_of-append}
 use Rattle.link_model.proofs.SessionOutcomes.{opening_is_new, fragment_is_judged, end_is_end}
 use Rattle.link_model.proofs.Unchanged.{unkept_changes_nothing}
@@ -68,15 +70,7 @@ module _ (w : Window) (p : WindowPast) (stands : StandsForPast w p) (runs : p.is
 
   same_books : (n : ℕ)
       → book_of p.sequence (parts_of n now) ≡ book_of p.sequence (parts_of n p.entries)
-  same_books n = elim (cases_eq n m) [
-    | inr other ↦ ap (book_of p.sequence) (other_parts w p stands runs f n other)
-    | inl same ↦ elim (cases_Bool (is_late p.size p.entries m)) [
-      | inl late ↦ ap (λ (es : List Numbered). book_of p.sequence (parts_of n es))
-          (late_changes_nothing (base_above p.before) p.size p.entries f late)
-      | inr early ↦ subst (λ k. book_of p.sequence (parts_of k now)
-          ≡ book_of p.sequence (parts_of k p.entries)) (sym same) (same_there early)
-    ]
-  ]
+  same_books n = grind (arith, other_parts, late_changes_nothing, same_there)
 
   abbrev is_low : ℕ → Bool
   is_low n = released_up_to (last_or None p.released) n
@@ -114,10 +108,6 @@ module _ (w : Window) (p : WindowPast) (stands : StandsForPast w p) (runs : p.is
       some_is true x y e = same_Some x y e
       some_is false x y e = absurd (none-some y e)
 
-      empty : (parts : List Part) → has_parts parts ≡ false → parts ≡ []
-      empty [] e = refl
-      empty (part ∷ parts) e = absurd (false≢true (sym e))
-
       by_opened : (was : Bool) → is_opened p.entries n ≡ was
           → cond (not ((p.is_ended || is_closed p.size p.entries n) && is_low n))
           (Some (book_of p.sequence (parts_of n p.entries))) None ≡ Some book
@@ -132,7 +122,7 @@ module _ (w : Window) (p : WindowPast) (stands : StandsForPast w p) (runs : p.is
         book_is w p stands n
             ∙ ap (λ (b : Bool). cond (b && is_needed p n)
             (Some (book_of p.sequence (parts_of n p.entries))) None) at,
-        sym same ∙ ap (book_of p.sequence) (empty (parts_of n p.entries) at),
+        sym same ∙ ap (book_of p.sequence) (no_parts (parts_of n p.entries) at),
       )
 
 -- ---- the session that stands
@@ -173,10 +163,6 @@ module _ (r : Reception) (size : ℕ) (datagrams : List (List ℕ)) (d : List �
         by_end false is = refl
         by_end true is = absurd (not_outcome outcomes.End refl
             (end_is_end size h hs datagrams at d is))
-
-    or-false : (b : Bool) → (b || false) ≡ b
-    or-false true = refl
-    or-false false = refl
 
     its_books : LeavesBooks h.session.sequence st.window (goes_on st d).window
     its_books = by_fragment (fragment_in h.session d) refl

@@ -1,20 +1,18 @@
 -- The book of a list of parts has whole slices, and is of a picture of its sequence.
-use Rattle.std.proofs.Common.{◌≡◌, ◌+◌, Bool, List, [], ◌∷◌, Option, Some, None, Result, Ok, Err}
-use Rattle.std.proofs.Common.{refl, sym, ap, subst, ◌∙◌, arith, inl, inr}
-use Rattle.std.specs.Option.{option_map, option_map_or}
-use Rattle.std.proofs.lemmas.Bool.{cases_lt}
+use Rattle.std.proofs.Common.{◌≡◌, Bool, List, [], ◌∷◌, Option, Some, None, Result, Ok, Err}
+use Rattle.std.proofs.Common.{refl, sym, ap, subst, ◌∙◌, arith}
+use Rattle.std.specs.Option.{option_map}
 use Rattle.std.proofs.lemmas.List.FromFn.{length-map-range_with_len}
 use Rattle.std.proofs.lemmas.Option.{none-some, same_Some}
 use Rattle.link_model.specs.Books.{Book, book_of, gathered_of}
-use Rattle.link_model.specs.Kept.{KeptParameters, kept_parameters, parameters_in, SplitParts, split_by}
-use Rattle.link_model.specs.Kept.{also_before, split_parts, Own, own_of, own, own_slice}
+use Rattle.link_model.specs.Kept.{KeptParameters, kept_parameters, parameters_in, SplitParts}
+use Rattle.link_model.specs.Kept.{split_parts, Own, own}
 use Rattle.link_model.specs.Session.{Part, ParamsPart, SlicesPart}
 use Rattle.link_model.proofs.Slots.{slot_inside, slot_outside}
 use Rattle.link_model.proofs.WholeBytes.{own_slice_whole}
 use Rattle.link_reception.specs.WholeBooks.{IsWholeGathered, IsWholeBook}
 use Rattle.vc_types.specs.Bits.{bits_of}
 use Rattle.vc_types.specs.SequenceHeader.{Sequence, picture_shape, with_bytes_used}
-use Rattle.vc_types.specs.Subbands.{slice_count}
 use Rattle.vc_types.specs.TransformParameters.{Parameters, transform_parameters}
 use Rattle.vc_types.specs.declared.refusal.ParamsRefusal.{ParamsRefusal}
 use Rattle.vc_types.proofs.ParameterCodecs.{parameters_are}
@@ -43,51 +41,16 @@ module _ (s : Sequence) where
       → HasShape p.plan.parameters
   unfolding split_parts
   parted_shape [] p e = absurd (none-some p e)
-  parted_shape (part ∷ parts) p e =
-      by_plan (parameters_in s part) refl (split_parts s parts) e (parted_shape parts)
-    where
-      also : (part : Part) (q : SplitParts) → HasShape q.plan.parameters
-          → HasShape (also_before part q).plan.parameters
-      also (ParamsPart body) q shape = shape
-      also (SlicesPart slices) q shape = shape
-
-      by_plan : (o : Option KeptParameters) → parameters_in s part ≡ o → (old : Option SplitParts)
-          → option_map_or (λ plan. Some (split_by parts plan)) o (option_map (also_before part) old)
-          ≡ Some p
-          → ((q : SplitParts) → old ≡ Some q → HasShape q.plan.parameters)
-          → HasShape p.plan.parameters
-      by_plan (Some plan) is old e rest =
-          subst (λ (p : SplitParts). HasShape p.plan.parameters)
-          (same_Some (split_by parts plan) p e) (planned_shape part plan is)
-      by_plan None is None e rest = absurd (none-some p e)
-      by_plan None is (Some q) e rest =
-          subst (λ (p : SplitParts). HasShape p.plan.parameters)
-          (same_Some (also_before part q) p e) (also part q (rest q refl))
+  parted_shape (part ∷ parts) p e = grind (arith, planned_shape, parted_shape parts)
 
   module _ (parts : List Part) where
     own_shape : (kept : Own) → own s parts ≡ Some kept → HasShape kept.plan.parameters
     unfolding own
-    own_shape kept e = by_parted (split_parts s parts) refl e
-      where
-        by_parted : (o : Option SplitParts) → split_parts s parts ≡ o
-            → option_map own_of o ≡ Some kept → HasShape kept.plan.parameters
-        by_parted None at e = absurd (none-some kept e)
-        by_parted (Some p) at e = subst (λ (k : Own). HasShape k.plan.parameters)
-            (same_Some (own_of p) kept e) (parted_shape parts p at)
+    own_shape kept e = grind (arith, parted_shape)
 
     gathered_whole : (kept : Own) → own s parts ≡ Some kept → IsWholeGathered s (gathered_of kept)
-    gathered_whole kept is = record {
-      shape = own_shape kept is;
-      slots = length-map-range_with_len (own_slice kept) 0 (slice_count kept.plan.parameters);
-      slices = λ i bytes e. elim (cases_lt i (slice_count kept.plan.parameters)) [
-        | inl lt ↦ own_slice_whole s parts kept is
-            (λ b len h. whole_slice kept.plan.parameters.prefix kept.plan.parameters.scaler b len h)
-            i bytes (sym (slot_inside (own_slice kept) 0 (slice_count kept.plan.parameters) i lt
-            ∙ ap (own_slice kept) (let same : 0 + i ≡ i = omega arith in same)) ∙ e)
-        | inr ge ↦ absurd (none-some bytes
-            (sym (slot_outside (own_slice kept) 0 (slice_count kept.plan.parameters) i ge) ∙ e))
-      ];
-    }
+    gathered_whole kept is =
+        grind (arith, own_shape, length-map-range_with_len, own_slice_whole, whole_slice, slot_inside, slot_outside)
 
     pub book_is_whole : (book : Book) → book ≡ book_of s parts → IsWholeBook s book
     unfolding book_of

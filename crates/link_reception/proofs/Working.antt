@@ -1,11 +1,11 @@
 -- A receiver at work: its window isn't done with all pictures that are let go. It uses an answer
 -- where the feeder does.
 use Rattle.std.proofs.Common.{◌≡◌, ℕ, ◌<◌, Bool, true, false, refl, ap, sym, List, [], ◌∷◌, ◌++◌}
-use Rattle.std.proofs.Common.{length, Option, Some, None, subst, ◌∙◌, arith, cond, inl, inr}
+use Rattle.std.proofs.Common.{length, Option, Some, None, ◌∙◌, arith, cond}
 use Rattle.std.specs.Prelude.{◌&&◌, ◌||◌, ◌⊎◌, not}
 use Rattle.std.specs.List.{flat_map, last_or}
 use Rattle.std.specs.Option.{option_and_then, option_map_or}
-use Rattle.std.proofs.lemmas.Bool.{cases_eq, and_parts, or_parts, false≢true, not-true, or_right}
+use Rattle.std.proofs.lemmas.Bool.{and_parts, or_parts, false≢true, not-true, or_right}
 use Rattle.std.proofs.lemmas.Grind.{common_steps}
 use Rattle.link_model.specs.Books.{Book, book_of}
 use Rattle.link_model.specs.Feeders.{Feeder, EnteredSession, session_opening}
@@ -31,12 +31,13 @@ use Rattle.link_reception.specs.Receptions.{answers_at, kept_answer, keeps_answe
 use Rattle.link_reception.specs.Standing.{past_fields, past_counts}
 use Rattle.link_model.specs.Interleavings.{AreOwnAnswers}
 use Rattle.link_reception.specs.Standing.{HasSlots, answered_planes, AreDecodings}
-use Rattle.link_reception.proofs.KeptAnswers.{answers_before, answers_by_same, keeps_own}
+use Rattle.link_model.proofs.SameJobs.{same_job}
+use Rattle.link_reception.proofs.KeptAnswers.{answers_before, keeps_own}
 use Rattle.link_reception.proofs.KeptAnswers.{keeps_others, keeps_found, room_of_none, room_stays}
 use Rattle.link_reception.proofs.ReleasedNumbers.{released_is}
 use Rattle.link_reception.proofs.SessionPictures.{among_append}
 use Rattle.link_reception.proofs.SliceJobs.{other_answer, same_planes_by, book_job_is}
-use Rattle.link_reception.proofs.SliceJobs.{same_job_is, kept_job_is}
+use Rattle.link_reception.proofs.SliceJobs.{kept_job_is}
 use Rattle.link_reception.proofs.WaitingFields.{waiting_is}
 
 abbrev pub entered_of : WindowPast → EnteredSession
@@ -171,7 +172,7 @@ module _ (r : Reception) (size : ℕ) (f : Feeder) (hs : List HeardSession) (p :
             → option_map_or (is_same_job done.job) o false ≡ true
             → slice_job size f n i ≡ Some done.job
         by_job None at e = absurd (false≢true e)
-        by_job (Some job) at e = at ∙ sym (ap Some (same_job_is done.job job e))
+        by_job (Some job) at e = at ∙ sym (ap Some (same_job done.job job e))
 
     kept_there : (kept : Own) × (picture_keeps size (sessions_of f.heard) n ≡ Some kept)
         × (done.job.plan ≡ kept.plan.parameters) × (i < slice_count kept.plan.parameters)
@@ -187,19 +188,7 @@ module _ (r : Reception) (size : ℕ) (f : Feeder) (hs : List HeardSession) (p :
 
     room_behind : (m : ℕ) → HasSlots size (sessions_of f.heard) m
         (answers_at (keeps_answer r.answers done) m)
-    room_behind m = elim (cases_eq n m) [
-      | inl same ↦ subst (λ k. HasSlots size (sessions_of f.heard) k
-          (answers_at (keeps_answer r.answers done) k)) same
-          (subst (HasSlots size (sessions_of f.heard) n) (sym (keeps_own done r.answers
-          ∙ ap Some (answers_by_same done (answers_before done r.answers) slots.0))) (
-            kept_there.0,
-            kept_there.1,
-            slots.0 ∙ kept_there.2,
-            room_stays (answers_before done r.answers).slices i done.answer ∙ slots.1,
-          ))
-      | inr other ↦ subst (HasSlots size (sessions_of f.heard) m)
-          (sym (keeps_others done m other r.answers)) (works.room m)
-    ]
+    room_behind m = grind (arith, keeps_own, slots, room_stays, keeps_others)
 
     pub with_one_answer : IsWorking (record r { answers = keeps_answer r.answers done }) size
         (with_answer f done) hs p st t

@@ -1,10 +1,10 @@
 -- What a datagram is to a session, by what was read of it.
-use Rattle.std.proofs.Common.{◌≡◌, ℕ, ◌+◌, ◌-◌, ◌≤◌, Bool, true, false, List, length, drop, Option, Some, None, length-take-le, length-drop}
+use Rattle.std.proofs.Common.{◌≡◌, ℕ, ◌+◌, ◌≤◌, Bool, true, false, List, length, Option, Some, None, length-take-le, length-drop}
 use Rattle.std.proofs.Common.{Ok, Err, ap, ◌∙◌, arith, cond}
 use Rattle.std.specs.Prelude.{◌==◌, ◌&&◌, is_some, slice_range}
 use Rattle.std.proofs.lemmas.Bool.{cond-true, eq-eqb}
 use Rattle.link_model.specs.Judgement.{early_outcome, refusal_outcome}
-use Rattle.link_model.specs.Packets.{PayloadValue, End, RtpPacket, rtp_packet, payload}
+use Rattle.link_model.specs.Packets.{PayloadValue, RtpPacket, rtp_packet, payload}
 use Rattle.link_model.specs.Session.{Received, received, DatagramRefusal, OfRtp, OfPayload, of_packet}
 use Rattle.link_model.specs.Session.{of_payload, Session, session_by, session_from, begins}
 use Rattle.link_model.specs.Session.{fragment_by, fragment_from, fragment_in, is_end, end_from, ends}
@@ -35,10 +35,7 @@ module _ (d : List ℕ) where
   no_payload packet refusal is none = ap (of_packet d) is ∙ ap (of_payload packet.ssrc) none
 
 body_within : (d : List ℕ) (from to place : ℕ) (body : List ℕ) → from ≤ to → to ≤ length d → StandsAt (slice_range d from to) place body → from + (place + length body) ≤ to
-body_within d from to place body ordered within stands =
-    let inside : place + length body ≤ length (slice_range d from to) = stands.0 in
-    let long : length (slice_range d from to) ≡ to - from = length-take-le (to - from) (drop from d) (let rest = length-drop from d in omega (arith, rest)) in
-    omega (arith, inside, long)
+body_within d from to place body ordered within stands = grind (arith, length-take-le, length-drop)
 
 -- a body of the payload that stands from one place up to another
 pub body_is : (d : List ℕ) (from to place : ℕ) (body : List ℕ) → from ≤ to → to ≤ length d → StandsAt (slice_range d from to) place body

@@ -16,6 +16,7 @@ use Rattle.link_model.specs.Session.{Part, ParamsPart, SlicesPart, SlicePart}
 use Rattle.link_model.specs.Windows.{Window, book_at}
 use Rattle.link_reception.specs.Exchanging.{book_job, gathered_job, slot_job, numbers_in, new_jobs_of}
 use Rattle.link_reception.specs.WholeBooks.{IsWholeBook}
+use Rattle.link_model.proofs.Ranges.{range_step}
 use Rattle.link_session.specs.Missing.{missing_of, missing_in, jobs_by, numbers_between, part_range}
 use Rattle.vc_types.specs.SequenceHeader.{Sequence}
 use Rattle.vc_types.specs.Slices.{slice_length}
@@ -25,9 +26,6 @@ use Rattle.vc_types.specs.declared.plan.Plan.{Plan}
 
 -- ---- one number after another
 
-range_more : (i n : ℕ) → i < n → range_with_len i (n - i) ≡ i ∷ range_with_len (i + 1) (n - (i + 1))
-range_more i n below = let more : n - i ≡ suc (n - (i + 1)) = omega arith in ap (range_with_len i) more
-
 one_filtered : (test : Bool) (x : ℕ) (rest : List ℕ) → cond test (x ∷ rest) rest ≡ cond test (x ∷ []) [] ++ rest
 one_filtered true x rest = refl
 one_filtered false x rest = refl
@@ -35,7 +33,7 @@ one_filtered false x rest = refl
 -- numbers that pass a test, from one on
 pub passes_more : (test : ℕ → Bool) (items : List ℕ) (i n : ℕ) → i < n
     → (items ++ cond (test i) (i ∷ []) []) ++ filter test (range_with_len (i + 1) (n - (i + 1))) ≡ items ++ filter test (range_with_len i (n - i))
-passes_more test items i n below = grind (arith, append_assoc, one_filtered, range_more)
+passes_more test items i n below = grind (arith, append_assoc, one_filtered, range_step)
 
 -- whether a slice is missing, by what a look-up answered
 pub missing_is : {X : Type 0} (r : Option (Bor X)) (o : Option X) → option_copied r ≡ o → (none : Bool) → is_some r ≡ not none → is_none o ≡ none
@@ -52,7 +50,7 @@ module _ (h : ℕ → Option Job) where
   -- the jobs of numbers, from one on
   pub jobs_more : (jobs : List Job) (i n : ℕ) → i < n
       → (jobs ++ cons_option (h i) []) ++ filter_map h (range_with_len (i + 1) (n - (i + 1))) ≡ jobs ++ filter_map h (range_with_len i (n - i))
-  jobs_more jobs i n below = grind (arith, more_of, range_more)
+  jobs_more jobs i n below = grind (arith, more_of, range_step)
 
   -- of those that don't have something yet
   passed : (had : ℕ → Option (List ℕ)) (is : List ℕ) → filter_map h (filter (λ i. is_none (had i)) is) ≡ filter_map (λ i. cond (is_some (had i)) None (h i)) is
@@ -88,9 +86,7 @@ module _ (h : ℕ → Option Job) where
   -- numbers that give no job
   none_there : (a n : ℕ) → ((k : ℕ) → a ≤ k → k < a + n → h k ≡ None) → filter_map h (range_with_len a n) ≡ []
   none_there a zero none = refl
-  none_there a (suc n) none =
-      ap (λ (o : Option Job). cons_option o (filter_map h (range_with_len (a + 1) n))) (none a (omega arith) (omega arith))
-      ∙ none_there (a + 1) n (λ k above below. none k (omega arith) (omega arith))
+  none_there a (suc n) none = grind (arith, none_there (a + 1) n)
 
   none_before : (a m n : ℕ) → ((k : ℕ) → a ≤ k → k < a + m → h k ≡ None) → filter_map h (range_with_len a (m + n)) ≡ filter_map h (range_with_len (a + m) n)
   none_before a zero n none = grind arith

@@ -1,13 +1,13 @@
 -- The books of a session's window are whole, and a picture that has its parameters keeps them.
-use Rattle.std.proofs.Common.{◌≡◌, ℕ, zero, suc, ◌+◌, ◌-◌, ◌≤◌, min, Bool, true, false, List, []}
+use Rattle.std.proofs.Common.{◌≡◌, ℕ, ◌+◌, ◌≤◌, min, Bool, true, false, List, []}
 use Rattle.std.proofs.Common.{◌∷◌, ◌++◌, length, map, Option, Some, None, Result, Ok, Err, refl, ap}
 use Rattle.std.proofs.Common.{sym, subst, ◌∙◌, inl, inr, arith, cond, append-nil}
-use Rattle.std.specs.Prelude.{◌⊎◌, ◌&&◌, not, nat_le, nat_lt, slice_get}
+use Rattle.std.specs.Prelude.{◌⊎◌, ◌&&◌, not, nat_le, nat_lt}
 use Rattle.std.specs.List.{cons_option}
 use Rattle.std.specs.Option.{option_or}
 use Rattle.std.proofs.lemmas.Bool.{cases_Bool, eq-eqb, leb-true}
-use Rattle.std.proofs.lemmas.Option.{same_Some, none-some}
-use Rattle.link_model.specs.Books.{Gathered, Book, book_of, book_by, gathered_of, slot_at}
+use Rattle.std.proofs.lemmas.Option.{same_Some, none-some, slice_get_past}
+use Rattle.link_model.specs.Books.{Gathered, Book, book_of, book_by, gathered_of}
 use Rattle.link_model.specs.Kept.{Own, own, own_slice, SliceRun, first_copy, first_slice, has_form}
 use Rattle.link_model.specs.Kept.{next_slices, run_from, run_taken, slice_in, slice_run}
 use Rattle.link_model.specs.Numbers.{Numbered, base_above, enters, is_late, parts_of, picture_number}
@@ -15,10 +15,10 @@ use Rattle.link_model.specs.Session.{Part, ParamsPart, SlicesPart, SlicePart, Fr
 use Rattle.link_model.specs.Windows.{Window, WindowPast, StandsForPast, book_at, number_by}
 use Rattle.link_model.specs.Windows.{window_enters, past_enters}
 use Rattle.link_model.specs.declared.outcome.Outcome.TheVariants.{SlicesForm, SlicesPlace}
+use Rattle.link_model.proofs.Bookkeeping.{slot_is}
 use Rattle.link_model.proofs.Keeping.{grown, own-append, first_copy-append}
 use Rattle.link_model.proofs.Numbering.{late_changes_nothing, early_enters, parts_of-append}
-use Rattle.link_model.proofs.Slots.{or_none, slot_inside, slot_outside, next_slices-count}
-use Rattle.link_model.proofs.Slots.{own_slice_inside}
+use Rattle.link_model.proofs.Slots.{or_none, next_slices-count}
 use Rattle.link_model.proofs.Windowing.{number_of_window}
 use Rattle.link_model.proofs.WindowStands.{running_is, enters_stands, book_is}
 use Rattle.link_reception.specs.WholeBooks.{IsWholeBook}
@@ -32,9 +32,6 @@ use Rattle.vc_types.specs.TransformParameters.{Parameters}
 module _ (s : Sequence) where
   module _ (parts : List Part) where
     -- ---- the book of parts is whole
-
-    slot_is : (kept : Own) → own s parts ≡ Some kept → (i : ℕ) → slot_at (gathered_of kept).slots i ≡ own_slice kept i
-    slot_is kept some i = grind (arith, own_slice_inside, slot_inside, slot_outside)
 
     -- what the book gathered is of what the parts keep
     pub gathered_is : (g : Gathered) → (book_of s parts).gathered ≡ Some g → (kept : Own) × (own s parts ≡ Some kept) × (gathered_of kept ≡ g)
@@ -61,11 +58,6 @@ module _ (w : Window) (p : WindowPast) (stands : StandsForPast w p) where
 
 -- ---- a part more leaves the slices that it doesn't touch
 
-get_past : (slices : List (List ℕ)) (k : ℕ) → length slices ≤ k → slice_get slices k ≡ None
-get_past [] k past = refl
-get_past (slice ∷ slices) zero past = absurd (omega arith)
-get_past (slice ∷ slices) (suc k) past = get_past slices k (omega arith)
-
 module _ (kept : Own) (part : SlicePart) (i : ℕ) where
   abbrev p : Parameters
   p = kept.plan.parameters
@@ -76,7 +68,7 @@ module _ (kept : Own) (part : SlicePart) (i : ℕ) where
   -- a run of the part has no such slice
   not_in_run : (run : SliceRun) → run.first ≡ first_slice p part → length run.slices ≡ part.count → first_slice p part + part.count ≤ slice_count p
       → IsOutside (range true) i → slice_in run i ≡ None
-  not_in_run run first count fits out = grind (arith, get_past)
+  not_in_run run first count fits out = grind (arith, slice_get_past)
 
   no_run : IsOutside (part_range p (SlicesPart part)) i → first_copy (cons_option (run_taken (slice_run p part)) []) i ≡ None
   unfolding slice_run first_copy

@@ -1,7 +1,7 @@
 -- A stream so far begins the later ones.
 use Rattle.std.proofs.Common.{◌≡◌, ℕ, Bool, true, false, refl, ap, sym, subst, ◌∙◌}
-use Rattle.std.proofs.Common.{List, [], ◌∷◌, ◌++◌, Option, Some, None, cond, arith}
-use Rattle.std.specs.Prelude.{is_some, fold, ◌||◌}
+use Rattle.std.proofs.Common.{List, [], ◌∷◌, ◌++◌, Option, Some, None, arith}
+use Rattle.std.specs.Prelude.{is_some, fold}
 use Rattle.std.specs.List.{flat_map, list_any}
 use Rattle.std.specs.Option.{option_map_or}
 use Rattle.std.proofs.lemmas.Bool.{false≢true}
@@ -13,7 +13,7 @@ use Rattle.link_model.proofs.Growing.{sessions_of-append}
 use Rattle.link_model.proofs.Following.{no_session}
 use Rattle.vc_types.specs.DataUnits.{DataUnit}
 use Rattle.link_stream.specs.Streams.{units_behind, last_length, behind_header, with_end, frame_units}
-use Rattle.link_stream.specs.Streams.{header_in, first_header, first_pictures, first_pictures_so_far}
+use Rattle.link_stream.specs.Streams.{first_header, first_pictures, first_pictures_so_far}
 use Rattle.link_stream.specs.Streams.{stream_units, units_so_far, stream_of, stream_so_far}
 use Rattle.link_stream.proofs.FirstPictures.{datagram_shows, end_shows}
 use Rattle.link_stream.proofs.Units.{units_behind-append, behind_header-append, with_end-is}
@@ -82,16 +82,7 @@ pub header_stays : (datagrams more : List (List ℕ))
     → first_header (datagrams ++ more) ≡ first_header datagrams
 unfolding first_header
 header_stays [] more has = absurd (false≢true has)
-header_stays (d ∷ datagrams) more has =
-    by_first (is_some (begins d)) has (λ later. header_stays datagrams more later)
-  where
-    by_first : (b : Bool) → (b || list_any (λ d. is_some (begins d)) datagrams) ≡ true
-        → (list_any (λ d. is_some (begins d)) datagrams ≡ true
-        → first_header (datagrams ++ more) ≡ first_header datagrams)
-        → cond b (header_in d) (first_header (datagrams ++ more))
-        ≡ cond b (header_in d) (first_header datagrams)
-    by_first true has rest = refl
-    by_first false has rest = rest has
+header_stays (d ∷ datagrams) more has = grind (arith, header_stays datagrams more)
 
 -- pictures grow behind the first header
 module _ (datagrams more : List (List ℕ)) (now later : List DataUnit) (grow : Begins now later)

@@ -1,5 +1,5 @@
 -- A picture more at the end of the pictures that are packed.
-use Rattle.std.proofs.Common.{◌≡◌, ℕ, suc, ◌+◌, List, [], ◌∷◌, ◌++◌, length, refl, sym, ap, ◌∙◌, arith, append_assoc, append-nil, length-append}
+use Rattle.std.proofs.Common.{◌≡◌, ℕ, ◌+◌, List, [], ◌∷◌, ◌++◌, length, refl, ap, arith, append_assoc, append-nil, length-append}
 use Rattle.link_stream.specs.Packing.{PackedPicture, packed_contents, packed_datagrams, packed_from, packed_picture, packed_timestamp, timestamp_behind}
 use Rattle.link_stream.proofs.Contents.{how_many}
 use Rattle.vc_types.specs.SenderSettings.{Packing}
@@ -14,23 +14,13 @@ module _ (s : Packing) where
   unfolding packed_from
   from_more before sequence [] p = grind (arith, one_more)
   from_more before sequence (q ∷ pictures) p =
-      let first = packed_picture s before sequence q in
-      let n = length (packed_contents s q) in
-      let rest = packed_from s (before + 1) (sequence + n) pictures in
-      let many : length first ≡ n = how_many s (packed_timestamp s before q.number) q sequence (packed_contents s q) in
-      let all = length-append first rest in
-      let at : before + 1 + length pictures ≡ before + suc (length pictures) = omega arith in
-      let number : sequence + n + length rest ≡ sequence + length (first ++ rest) = omega (arith, many, all) in
-      ap (λ l. first ++ l) (from_more (before + 1) (sequence + n) pictures p)
-      ∙ sym (append_assoc first rest (packed_picture s (before + 1 + length pictures) (sequence + n + length rest) p))
-      ∙ (λ i. (first ++ rest) ++ packed_picture s (at i) (number i) p)
+      grind (arith, how_many, length-append, append_assoc, from_more (before + 1) (sequence + length (packed_contents s q)) pictures)
 
   behind_more : (before t : ℕ) (pictures : List PackedPicture) (p : PackedPicture) → timestamp_behind s before t (pictures ++ p ∷ []) ≡ packed_timestamp s (before + length pictures) p.number
   unfolding timestamp_behind
   behind_more before t [] p = let here : before ≡ before + 0 = omega arith in ap (λ n. packed_timestamp s n p.number) here
   behind_more before t (q ∷ pictures) p =
-      let at : before + 1 + length pictures ≡ before + suc (length pictures) = omega arith in
-      behind_more (before + 1) (packed_timestamp s before q.number) pictures p ∙ ap (λ n. packed_timestamp s n p.number) at
+      grind (arith, behind_more (before + 1) (packed_timestamp s before q.number) pictures p)
 
 -- the datagrams of a picture more come behind the others
 pub packed_more : (s : Packing) (pictures : List PackedPicture) (p : PackedPicture) → packed_datagrams s (pictures ++ p ∷ []) ≡ packed_datagrams s pictures ++ packed_picture s (length pictures) (s.seq + length (packed_datagrams s pictures)) p

@@ -1,7 +1,7 @@
 -- Units one after another: those of two lists, and a header before them.
-use Rattle.std.proofs.Common.{◌≡◌, ℕ, List, [], ◌∷◌, ◌++◌, refl, ap, sym, ◌∙◌}
+use Rattle.std.proofs.Common.{arith, ◌≡◌, ℕ, List, [], ◌∷◌, ◌++◌, refl}
 use Rattle.std.proofs.lemmas.List.{append_assoc}
-use Rattle.vc_types.specs.DataUnits.{DataUnit, unit_length, unit_bytes}
+use Rattle.vc_types.specs.DataUnits.{DataUnit, unit_length}
 use Rattle.link_stream.specs.Streams.{units_behind, last_length, behind_header}
 use Rattle.link_stream.specs.Streams.{with_end, end_unit}
 
@@ -11,10 +11,7 @@ pub units_behind-append : (previous : ℕ) (units more : List DataUnit)
 unfolding units_behind last_length
 units_behind-append previous [] more = refl
 units_behind-append previous (u ∷ units) more =
-    ap (λ (l : List ℕ). unit_bytes u.code u.body previous ++ l)
-    (units_behind-append (unit_length u) units more)
-    ∙ sym (append_assoc (unit_bytes u.code u.body previous) (units_behind (unit_length u) units)
-    (units_behind (last_length (unit_length u) units) more))
+    grind (arith, append_assoc, units_behind-append (unit_length u) units more)
 
 pub last_length-append : (previous : ℕ) (units more : List DataUnit)
     → last_length previous (units ++ more) ≡ last_length (last_length previous units) more

@@ -1,5 +1,5 @@
 -- The count of ended sessions behind one datagram more, by what became of it.
-use Rattle.std.proofs.Common.{◌≡◌, ℕ, ◌+◌, ◌-◌, ◌<◌, Bool, true, false, cond, List, [], ◌∷◌, ◌++◌, Option, Some, None, refl, ap, sym, ◌∙◌, arith}
+use Rattle.std.proofs.Common.{◌≡◌, ℕ, ◌+◌, ◌-◌, ◌<◌, Bool, true, false, cond, List, [], ◌∷◌, ◌++◌, Some, refl, ap, sym, ◌∙◌, arith}
 use Rattle.std.specs.Prelude.{not, ◌||◌}
 use Rattle.std.proofs.lemmas.Bool.{false≢true}
 use Rattle.std.proofs.lemmas.List.Sums.{sum_by-cons}
@@ -33,10 +33,6 @@ or-true : (b : Bool) → (b || true) ≡ true
 or-true true = refl
 or-true false = refl
 
-or-none : (a b : Bool) → b ≡ false → (a || b) ≡ a
-or-none true b none = refl
-or-none false b none = none
-
 -- ---- what a datagram does to sessions
 
 -- the counts of sessions, so many ended, and whether the last is open
@@ -45,14 +41,6 @@ IsSo hs ended is_open = (ended_in hs ≡ ended) × (is_last_open hs ≡ is_open)
 
 opened : (hs : List HeardSession) (d : List ℕ) (s : Session) → opens_next hs (begins d) ≡ Some s → IsSo (hears hs d) (ended_in hs) true
 opened hs d s is = rw (hears_new hs d s is) (ended-cons (just_opened s) hs ∙ none-more (ended_in hs), refl)
-
-is_ended : (h : HeardSession) (d : List ℕ) (e : Bool) → ends h.session d ≡ e → (with_datagram h d).has_ended ≡ (h.has_ended || e)
-is_ended h d e is = ap (λ (b : Bool). h.has_ended || b) is
-
-open_of : (h : HeardSession) (hs : List HeardSession) (d : List ℕ) → ends h.session d ≡ false → IsSo (last_with (h ∷ hs) d) (ended_in (h ∷ hs)) (is_last_open (h ∷ hs))
-open_of h hs d none =
-    let same : (with_datagram h d).has_ended ≡ h.has_ended = or-none h.has_ended (ends h.session d) none in
-    (ended-cons (with_datagram h d) hs ∙ ap (λ (b : Bool). cond b 1 0 + ended_in hs) same ∙ sym (ended-cons h hs), ap not same)
 
 end_of : (h : HeardSession) (hs : List HeardSession) (d : List ℕ) → ends h.session d ≡ true
     → IsSo (last_with (h ∷ hs) d) (cond (is_last_open (h ∷ hs)) 1 0 + ended_in (h ∷ hs)) false
@@ -85,11 +73,7 @@ module _ (window : ℕ) (before : List (List ℕ)) (d : List ℕ) where
   NotEnd = became ≡ outcomes.End → ⊥
 
   goes_on : NotNew → hears hs d ≡ last_with hs d
-  goes_on not_new = by_opening (opens_next hs (begins d)) refl
-    where
-      by_opening : (o : Option Session) → opens_next hs (begins d) ≡ o → hears hs d ≡ last_with hs d
-      by_opening None is = hears_on hs d is
-      by_opening (Some s) is = absurd (not_new (opening_is_new window before d s is))
+  goes_on not_new = grind (arith, hears_on, opening_is_new)
 
   new_one : became ≡ outcomes.HeaderNew → IsSo (hears hs d) (ended_in hs) true
   new_one is = let o = new_is_opening window before d is in opened hs d o.0 o.1
@@ -100,16 +84,7 @@ module _ (window : ℕ) (before : List (List ℕ)) (d : List ℕ) where
       rw (goes_on not_new) (rw last.2 (end_of last.0 last.1 d last.3))
 
   other_one : NotNew → NotEnd → IsSo (hears hs d) (ended_in hs) (is_last_open hs)
-  other_one not_new not_end = rw (goes_on not_new) (by_sessions hs refl)
-    where
-      by_end : (h : HeardSession) (more : List HeardSession) → sessions_of before ≡ h ∷ more → (e : Bool) → ends h.session d ≡ e
-          → IsSo (last_with (h ∷ more) d) (ended_in (h ∷ more)) (is_last_open (h ∷ more))
-      by_end h more are true is = absurd (not_end (end_is_end window h more before are d is))
-      by_end h more are false is = open_of h more d is
-
-      by_sessions : (s : List HeardSession) → sessions_of before ≡ s → IsSo (last_with s d) (ended_in s) (is_last_open s)
-      by_sessions [] are = (refl, refl)
-      by_sessions (h ∷ more) are = by_end h more are (ends h.session d) refl
+  other_one not_new not_end = grind (arith, goes_on, end_is_end)
 
   -- ---- the count
 
@@ -118,10 +93,7 @@ module _ (window : ℕ) (before : List (List ℕ)) (d : List ℕ) where
     Next new = Counts new sessions (before ++ d ∷ [])
 
     next : (new : SessionCount) (ended : ℕ) → IsSo (hears hs d) ended new.is_open → new.left + ended ≡ sessions → Next new
-    next new ended is sum = record {
-      left_are = ap (λ (l : List HeardSession). new.left + ended_in l) (sessions_of_more before d) ∙ ap (λ (n : ℕ). new.left + n) is.0 ∙ sum;
-      open_is = sym is.1 ∙ ap is_last_open (sym (sessions_of_more before d));
-    }
+    next new ended is sum = grind (arith, sessions_of_more)
 
     same : IsSo (hears hs d) (ended_in hs) (is_last_open hs) → Next c
     same is = next c (ended_in hs) (is.0, is.1 ∙ sym counts.open_is) counts.left_are
@@ -143,34 +115,8 @@ module _ (window : ℕ) (before : List (List ℕ)) (d : List ℕ) where
 
     by_outcome : (outcome : Outcome) → became ≡ outcome → Next (count_behind c outcome)
     by_outcome outcomes.HeaderNew is = next (record { left = c.left; is_open = true }) (ended_in hs) (new_one is) counts.left_are
-    by_outcome outcomes.End is = by_open c.is_open refl (end_one is (λ new. not_both (sym is ∙ new)))
-      where
-        not_both : outcomes.End ≡ outcomes.HeaderNew → ⊥
-        not_both e = cc
-    by_outcome outcomes.RtpShort is = same (neither is refl)
-    by_outcome outcomes.RtpVersion is = same (neither is refl)
-    by_outcome outcomes.RtpShape is = same (neither is refl)
-    by_outcome outcomes.PayloadShort is = same (neither is refl)
-    by_outcome outcomes.PayloadCode is = same (neither is refl)
-    by_outcome outcomes.PayloadFragment is = same (neither is refl)
-    by_outcome outcomes.Foreign is = same (neither is refl)
-    by_outcome outcomes.HeaderSame is = same (neither is refl)
-    by_outcome outcomes.HeaderOther is = same (neither is refl)
-    by_outcome outcomes.HeaderBad is = same (neither is refl)
-    by_outcome outcomes.Skipped is = same (neither is refl)
-    by_outcome outcomes.Late is = same (neither is refl)
-    by_outcome outcomes.ParamsKept is = same (neither is refl)
-    by_outcome outcomes.ParamsRepeat is = same (neither is refl)
-    by_outcome outcomes.ParamsConflict is = same (neither is refl)
-    by_outcome outcomes.ParamsBad is = same (neither is refl)
-    by_outcome outcomes.SlicesKept is = same (neither is refl)
-    by_outcome outcomes.SlicesRepeat is = same (neither is refl)
-    by_outcome outcomes.SlicesConflict is = same (neither is refl)
-    by_outcome outcomes.SlicesPending is = same (neither is refl)
-    by_outcome outcomes.SlicesFull is = same (neither is refl)
-    by_outcome outcomes.SlicesForm is = same (neither is refl)
-    by_outcome outcomes.SlicesPlace is = same (neither is refl)
-    by_outcome outcomes.SlicesCut is = same (neither is refl)
+    by_outcome outcomes.End is = grind (arith, by_open, end_one)
+    by_outcome other is = same (neither is refl)
 
     pub counted : (outcome : Outcome) → outcome ≡ became → Next (count_behind c outcome)
     counted outcome is = by_outcome outcome (sym is)

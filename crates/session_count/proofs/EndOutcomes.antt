@@ -1,23 +1,12 @@
 -- End comes exactly where a datagram is an end of the last session.
-use Rattle.std.proofs.Common.{◌≡◌, ℕ, Bool, true, false, List, [], ◌∷◌, Option, Some, None, Result, Ok, Err, refl, ap, sym, ◌∙◌, arith}
-use Rattle.std.specs.Prelude.{◌==◌, ◌&&◌, is_some, not, nat_lt, length, filter_map}
-use Rattle.std.specs.List.{list_any}
+use Rattle.std.proofs.Common.{◌≡◌, ℕ, Bool, true, false, List, [], ◌∷◌, Result, Ok, Err, refl, ap, sym, ◌∙◌, arith}
 use Rattle.std.proofs.lemmas.Bool.{false≢true}
-use Rattle.vc_types.specs.SameValues.{same_sequence, same_parameters}
-use Rattle.link_model.specs.Judgement.{parameters_outcome, run_outcome, slices_outcome, part_outcome, fragment_outcome, refusal_outcome, header_outcome, later_outcome, outcome_of, outcome_behind, early_outcome, opening_outcome, is_conflict, is_new, numbered_slices}
-use Rattle.link_model.specs.Kept.{KeptParameters, ReadParameters, Own, own, own_parameters, own_slice, part_slices, waiting_limit, SliceRun, run_from, slice_run, has_form, has_place, first_slice, next_slices}
-use Rattle.link_model.specs.Numbers.{Numbered, entered, is_late, parts_of, picture_number}
-use Rattle.link_model.specs.Output.{base_behind}
-use Rattle.link_model.specs.Packets.{PayloadValue, Header, End, Skip, Params, Slices}
-use Rattle.link_model.specs.Session.{Received, received, DatagramRefusal, OfRtp, OfPayload, Part, ParamsPart, SlicesPart, SlicePart, Fragment, params_fragment, slices_fragment, HeardSession, opens_behind, sessions_of, session_by, is_end, end_from, ends}
+use Rattle.link_model.specs.Judgement.{refusal_outcome, later_outcome, outcome_of, outcome_behind, early_outcome}
+use Rattle.link_model.specs.Packets.{PayloadValue}
+use Rattle.link_model.specs.Session.{Received, received, DatagramRefusal, HeardSession, sessions_of, is_end, end_from, ends}
 use Rattle.link_model.proofs.OpeningOutcomes.{turns, fragment_outcomes, header_outcomes, refusal_outcomes}
 use Rattle.link_model.specs.declared.outcome.Outcome.{Outcome}
 use Rattle.link_model.specs.declared.outcome.Outcome.TheVariants as outcomes
-use Rattle.link_model.specs.declared.refusal.PayloadRefusal.TheVariants as payload_refusals
-use Rattle.link_model.specs.declared.refusal.RtpRefusal.TheVariants as rtp_refusals
-use Rattle.vc_types.specs.SequenceHeader.{Sequence, coded_header}
-use Rattle.vc_types.specs.TransformParameters.{Parameters, coded_parameters}
-use Rattle.vc_types.specs.declared.refusal.HeaderRefusal.{HeaderRefusal}
 
 abbrev is_end_outcome : Outcome → Bool
 is_end_outcome outcomes.End = true

@@ -1,11 +1,11 @@
 -- More datagrams leave no fewer sessions ended.
-use Rattle.std.proofs.Common.{◌≡◌, ℕ, ◌+◌, ◌≤◌, Bool, true, false, cond, List, [], ◌∷◌, ◌++◌, Option, Some, None, refl, ap, ◌∙◌, subst, arith, take, drop, take-append-drop}
+use Rattle.std.proofs.Common.{◌≡◌, ℕ, ◌+◌, ◌≤◌, Bool, true, false, cond, List, [], ◌∷◌, ◌++◌, refl, ap, subst, arith, take, drop, take-append-drop}
 use Rattle.std.specs.Prelude.{◌||◌, fold}
-use Rattle.link_model.specs.Session.{Session, HeardSession, just_opened, opens_next, with_datagram, last_with, hears, sessions_of, begins, ends}
+use Rattle.link_model.specs.Session.{HeardSession, with_datagram, last_with, hears, sessions_of, ends}
 use Rattle.link_model.proofs.Growing.{sessions_of-append}
 use Rattle.link_model.proofs.Hearing.{hears_new, hears_on}
 use Rattle.session_count.specs.Ends.{ended_in, ended_sessions}
-use Rattle.session_count.proofs.Counting.{ended-cons, none-more}
+use Rattle.session_count.proofs.Counting.{ended-cons}
 
 step : (ended more : Bool) (n : ℕ) → cond {A = ℕ} ended 1 0 + n ≤ cond {A = ℕ} (ended || more) 1 0 + n
 step true more n = omega arith
@@ -23,12 +23,7 @@ last_rises [] d = omega arith
 last_rises (h ∷ hs) d = same_order _ _ _ _ (ended-cons h hs) (ended-cons (with_datagram h d) hs) (step h.has_ended (ends h.session d) (ended_in hs))
 
 one_rises : (hs : List HeardSession) (d : List ℕ) → ended_in hs ≤ ended_in (hears hs d)
-one_rises hs d = by_opening (opens_next hs (begins d)) refl
-  where
-    by_opening : (o : Option Session) → opens_next hs (begins d) ≡ o → ended_in hs ≤ ended_in (hears hs d)
-    by_opening None is = same_order (ended_in hs) (ended_in (hears hs d)) (ended_in hs) (ended_in (last_with hs d)) refl (ap ended_in (hears_on hs d is)) (last_rises hs d)
-    by_opening (Some s) is = same_order (ended_in hs) (ended_in (hears hs d)) (ended_in hs) (ended_in hs) refl
-        (ap ended_in (hears_new hs d s is) ∙ ended-cons (just_opened s) hs ∙ none-more (ended_in hs)) (omega arith)
+one_rises hs d = grind (arith, hears_on, last_rises, hears_new)
 
 all_rise : (hs : List HeardSession) (more : List (List ℕ)) → ended_in hs ≤ ended_in (fold hears hs more)
 all_rise hs [] = omega arith

@@ -106,21 +106,10 @@ module _ (decoding : ℕ → Decoding) where
       ∙ ap (λ (d : Decoding). Some (unwrap_or (if_sound d) no_coefficients
       ∷ map sound_at (range_with_len (from + 1) count))) (sym first.1)
 
-  none_behind : (o : Option Coefficients) (rest : Option (List Coefficients)) → rest ≡ None
-      → with_first o rest ≡ None
-  none_behind None rest e = refl
-  none_behind (Some s) rest e = rw e refl
-
   unsound_any : (from count i : ℕ) (why : Unsound) → from ≤ i → i < from + count
       → decoding i ≡ Err why → sound_slices decoding (range_with_len from count) ≡ None
   unsound_any from zero i why low high e = absurd (omega (arith, low, high))
-  unsound_any from (suc count) i why low high e = elim (cases_eq i from) [
-    | inl same ↦ ap (λ (d : Decoding). with_first (if_sound d)
-        (sound_slices decoding (range_with_len (from + 1) count))) (ap decoding (sym same) ∙ e)
-    | inr ne ↦ none_behind (if_sound (decoding from))
-        (sound_slices decoding (range_with_len (from + 1) count))
-        (unsound_any (from + 1) count i why (omega (arith, low, ne)) (omega (arith, high)) e)
-  ]
+  unsound_any from (suc count) i why low high e = grind (arith, unsound_any (from + 1) count i why)
 
   module _ (p : Parameters) (first : PartPicture) (own : first.parameters ≡ p)
       (entries : length first.slices ≡ slice_count p) where

@@ -1,6 +1,6 @@
 -- A picture among others: where it stands, and what the list is without it and with one answer more.
 use Rattle.std.proofs.Common.{◌≡◌, ℕ, zero, suc, ◌<◌, true, false, List, [], ◌∷◌, ◌++◌, length}
-use Rattle.std.proofs.Common.{Some, None, refl, sym, ap, ◌∙◌, arith, cond, get_or, set}
+use Rattle.std.proofs.Common.{Some, None, refl, sym, ap, arith, cond, get_or, set}
 use Rattle.std.specs.Prelude.{not, filter, position, ◌==◌}
 use Rattle.std.specs.List.{remove, list_any}
 use Rattle.std.proofs.lemmas.Grind.{common_steps}
@@ -42,26 +42,17 @@ module _ (n : ℕ) where
   found_there [] place d at = absurd (omega (arith, at.within))
   found_there (a ∷ rest) zero d at = ap (λ b. cond b (Some a) (answers_at rest n)) at.here
   found_there (a ∷ rest) (suc place) d at =
-      ap (λ b. cond b (Some a) (answers_at rest n)) (first_other a rest place d at)
-      ∙ found_there rest place d (behind a rest place d at)
+      grind (arith, first_other, found_there rest place d (behind a rest place d at))
 
   abbrev others_of : List PictureAnswers → List PictureAnswers
   others_of pictures = filter (λ a. not (is_of_number n a)) pictures
-
-  kept_if : (a : PictureAnswers) (rest : List PictureAnswers) → is_of_number n a ≡ false
-      → others_of (a ∷ rest) ≡ a ∷ others_of rest
-  kept_if a rest e = ap (λ b. cond (not b) (a ∷ others_of rest) (others_of rest)) e
 
   pub removed : (pictures : List PictureAnswers) (place : ℕ) (d : PictureAnswers)
       → StandsAt pictures place d → others_of (remove pictures place) ≡ answers_without pictures n
   removed [] place d at = absurd (omega (arith, at.within))
   removed (a ∷ rest) zero d at =
       sym (ap (λ b. cond (not b) (a ∷ others_of rest) (others_of rest)) at.here)
-  removed (a ∷ rest) (suc place) d at =
-      let other = first_other a rest place d at in
-      kept_if a (remove rest place) other
-      ∙ ap (λ (l : List PictureAnswers). a ∷ l) (removed rest place d (behind a rest place d at))
-      ∙ sym (kept_if a rest other)
+  removed (a ∷ rest) (suc place) d at = grind (arith, removed rest place d (behind a rest place d at))
 
   -- ---- one answer more
 
@@ -76,17 +67,9 @@ module _ (n : ℕ) where
     keeps_there [] place d at = absurd (omega (arith, at.within))
     keeps_there (a ∷ rest) zero d at = grind (arith, by_number)
     keeps_there (a ∷ rest) (suc place) d at =
-        ap (λ (l : List PictureAnswers). a ∷ l)
-        (keeps_there rest place d (behind a rest place d at))
-        ∙ sym (ap (λ b. cond b (answers_with a done ∷ rest) (a ∷ keeps_answer rest done))
-        (by_number a ∙ first_other a rest place d at))
+        grind (arith, first_other, keeps_there rest place d (behind a rest place d at))
 
   -- ---- no picture of this number
-
-  none_first : (a : PictureAnswers) (rest : List PictureAnswers)
-      → list_any (is_of_number n) (a ∷ rest) ≡ false
-      → (is_of_number n a ≡ false) × (list_any (is_of_number n) rest ≡ false)
-  none_first a rest e = grind arith
 
   nowhere : (pictures : List PictureAnswers) → position (is_of_number n) pictures ≡ None
       → list_any (is_of_number n) pictures ≡ false
@@ -95,28 +78,19 @@ module _ (n : ℕ) where
   not_found : (pictures : List PictureAnswers) → list_any (is_of_number n) pictures ≡ false
       → answers_at pictures n ≡ None
   not_found [] e = refl
-  not_found (a ∷ rest) e =
-      let parts = none_first a rest e in
-      ap (λ b. cond b (Some a) (answers_at rest n)) parts.0 ∙ not_found rest parts.1
+  not_found (a ∷ rest) e = grind (arith, not_found rest)
 
   none_left_out : (pictures : List PictureAnswers) → list_any (is_of_number n) pictures ≡ false
       → pictures ≡ answers_without pictures n
   none_left_out [] e = refl
-  none_left_out (a ∷ rest) e =
-      let parts = none_first a rest e in
-      ap (λ (l : List PictureAnswers). a ∷ l) (none_left_out rest parts.1)
-      ∙ sym (kept_if a rest parts.0)
+  none_left_out (a ∷ rest) e = grind (arith, none_left_out rest)
 
   one_more : (done : Answered) → done.job.number ≡ n → (pictures : List PictureAnswers)
       → list_any (is_of_number n) pictures ≡ false
       → pictures ++ answers_with (no_answers done.job.number done.job.plan) done ∷ []
       ≡ keeps_answer pictures done
   one_more done same [] e = refl
-  one_more done same (a ∷ rest) e =
-      let parts = none_first a rest e in
-      ap (λ (l : List PictureAnswers). a ∷ l) (one_more done same rest parts.1)
-      ∙ sym (ap (λ b. cond b (answers_with a done ∷ rest) (a ∷ keeps_answer rest done))
-      (by_number done same a ∙ parts.0))
+  one_more done same (a ∷ rest) e = grind (arith, one_more done same rest)
 
   module _ (pictures : List PictureAnswers)
       (none : position (is_of_number n) pictures ≡ None) where

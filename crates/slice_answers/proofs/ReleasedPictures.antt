@@ -16,7 +16,7 @@ use Rattle.picture_build.specs.Kept.{PartPicture}
 use Rattle.slice_answers.specs.Completing.{comes_to, HasWholeSlices}
 use Rattle.slice_answers.specs.SeenAnswers.{part_answer, answers_of_plan}
 use Rattle.slice_answers.proofs.CompletedSlices.{same_sound}
-use Rattle.slice_answers.proofs.SeenSlots.{none_at}
+use Rattle.link_reception.proofs.KeptAnswers.{none_at}
 use Rattle.vc_types.specs.Planes.{planes_of}
 use Rattle.vc_types.specs.SequenceHeader.{Sequence}
 use Rattle.vc_types.specs.Subbands.{slice_count}

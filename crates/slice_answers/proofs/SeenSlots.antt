@@ -31,9 +31,6 @@ pub at_or : (slices : List (Option Decoding)) (i : ℕ)
     → answer_at slices i ≡ slice_index_or slices i None
 at_or slices i = flat (slice_get slices i) ∙ unwrap_or-slice_get slices i None
 
-pub none_at : (count i : ℕ) → answer_at (replicate count None) i ≡ None
-none_at count i = grind (arith, at_or, get_or-replicate, get_or_past, length-replicate)
-
 -- ---- a slice's answer
 
 by_came : (o : Option Coefficients) (why : Option Unsound)

@@ -5,6 +5,7 @@ use Rattle.std.specs.Prelude.{drop}
 use Rattle.std.specs.List.{flat_map}
 use Rattle.std.specs.Option.{option_map, option_map_or}
 use Rattle.std.proofs.lemmas.List.{append-nil, append_assoc}
+use Rattle.std.proofs.Math.Seq.{drop-append_seam}
 use Rattle.link_model.specs.Feeders.{Feeder}
 use Rattle.link_model.specs.Feeding.{hears_end}
 use Rattle.link_model.specs.Numbers.{Numbered, opened_numbers}
@@ -30,7 +31,7 @@ use Rattle.unit_release.specs.Writing.{WrittenStream, length_behind, bytes_next,
 use Rattle.unit_release.specs.Writing.{units_next}
 use Rattle.unit_release.specs.Receiving.{streams_all, all_streamed_bytes, stream_takes_end, end_units}
 use Rattle.unit_release.specs.Standing.{has_next, HasField, StreamsFor}
-use Rattle.unit_release.proofs.Datagrams.{bytes_more, length_more, drop_front}
+use Rattle.unit_release.proofs.Datagrams.{bytes_more, length_more}
 use Rattle.unit_release.proofs.Datagrams.{idle_stream, idle_bytes}
 use Rattle.unit_release.proofs.Runs.{Streamed, exchanged_streamed}
 use Rattle.unit_release.proofs.Steps.{over_stays, over_writes_nothing}
@@ -147,7 +148,7 @@ module _ (r : Reception) (size : ℕ) (f : Feeder) (small : size ≤ 8) (stands 
 
     released : releasable_numbers past ≡ left.0
     released = ap (drop (length (let_go_numbers size s es))) left.1
-        ∙ drop_front (let_go_numbers size s es) left.0
+        ∙ drop-append_seam (let_go_numbers size s es) left.0
 
     abbrev more : List DataUnit
     more = flat_map (frame_units s es) (releasable_numbers past)

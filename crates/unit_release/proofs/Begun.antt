@@ -3,11 +3,10 @@ use Rattle.std.proofs.Common.{◌≡◌, ℕ, Bool, true, false, refl, ap, sym, 
 use Rattle.std.proofs.Common.{List, [], ◌∷◌, ◌++◌, Option, Some, None, cond, arith}
 use Rattle.std.specs.Prelude.{◌||◌, is_some, fold}
 use Rattle.std.specs.List.{list_any}
-use Rattle.std.specs.Option.{option_map_or}
-use Rattle.std.proofs.lemmas.Bool.{false≢true, or_parts}
+use Rattle.std.proofs.lemmas.Bool.{false≢true}
 use Rattle.std.proofs.lemmas.List.{append-nil}
-use Rattle.link_model.specs.Session.{Session, HeardSession, just_opened, opens_behind}
-use Rattle.link_model.specs.Session.{with_datagram, hears, sessions_of, begins}
+use Rattle.link_model.specs.Session.{Session, HeardSession, just_opened}
+use Rattle.link_model.specs.Session.{hears, sessions_of, begins}
 use Rattle.link_model.proofs.Following.{no_session}
 use Rattle.link_model.proofs.Hearing.{hears_nothing, hears_new}
 use Rattle.link_stream.specs.Streams.{header_in, first_header}
@@ -23,18 +22,7 @@ stand_on : (datagrams : List (List ℕ)) (h : HeardSession) (hs : List HeardSess
     → fold hears (h ∷ hs) datagrams ≡ [] → ⊥
 unfolding hears
 stand_on [] h hs e = some_stand h hs (sym e)
-stand_on (d ∷ datagrams) h hs e =
-    by_next (opens_behind h (begins d)) refl (λ g gs. stand_on datagrams g gs)
-  where
-    by_next : (o : Option Session) → opens_behind h (begins d) ≡ o
-        → ((g : HeardSession) (gs : List HeardSession) → fold hears (g ∷ gs) datagrams ≡ [] → ⊥)
-        → ⊥
-    by_next None is rest = rest (with_datagram h d) hs
-        (sym (ap (λ (o : Option Session). fold hears (option_map_or
-        (λ s. just_opened s ∷ h ∷ hs) o (with_datagram h d ∷ hs)) datagrams) is) ∙ e)
-    by_next (Some s) is rest = rest (just_opened s) (h ∷ hs)
-        (sym (ap (λ (o : Option Session). fold hears (option_map_or
-        (λ s. just_opened s ∷ h ∷ hs) o (with_datagram h d ∷ hs)) datagrams) is) ∙ e)
+stand_on (d ∷ datagrams) h hs e = grind (arith, stand_on datagrams)
 
 -- without sessions no datagram begins one
 begun_stand : (datagrams : List (List ℕ)) → has_begun datagrams ≡ true
@@ -66,10 +54,7 @@ pub first_behind : (datagrams more : List (List ℕ)) → has_begun datagrams �
     → first_header (datagrams ++ more) ≡ first_header more
 unfolding first_header
 first_behind [] more none = refl
-first_behind (d ∷ datagrams) more none =
-    let parts = or_parts (is_some (begins d)) (has_begun datagrams) none in
-    ap (λ (b : Bool). cond b (header_in d) (first_header (datagrams ++ more))) parts.0
-    ∙ first_behind datagrams more parts.1
+first_behind (d ∷ datagrams) more none = grind (arith, first_behind datagrams more)
 
 pub no_header : (datagrams : List (List ℕ)) → has_begun datagrams ≡ false
     → first_header datagrams ≡ []

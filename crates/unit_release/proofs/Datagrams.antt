@@ -7,6 +7,7 @@ use Rattle.std.specs.List.{flat_map}
 use Rattle.std.specs.Option.{option_map_or}
 use Rattle.std.proofs.lemmas.Grind.{common_steps}
 use Rattle.std.proofs.lemmas.List.{append-nil}
+use Rattle.std.proofs.Math.Seq.{drop-append_seam}
 use Rattle.link_model.specs.Complete.{whole_picture}
 use Rattle.link_model.specs.Feeders.{Feeder}
 use Rattle.link_model.specs.Feeding.{hears_datagram}
@@ -79,10 +80,6 @@ module _ (header : List ℕ) (w : WrittenStream) (pictures more : List DataUnit)
   pub length_more : length_behind None (behind_header header (pictures ++ more))
       ≡ length_behind w.previous (units_next w more)
   length_more = grind (arith, common_steps, length-append, units_more)
-
-pub drop_front : (a b : List ℕ) → drop (length a) (a ++ b) ≡ b
-drop_front [] b = refl
-drop_front (x ∷ a) b = drop_front a b
 
 -- nothing is written while no session stands
 pub idle_stream : (r : Reception) (w : WrittenStream) → r.standing ≡ None → streams_all r w ≡ w
@@ -259,9 +256,6 @@ module _ (r : Reception) (size : ℕ) (f : Feeder) (small : size ≤ 8) (stands 
     header_same : first_header now ≡ first_header f.heard
     header_same = header_stays f.heard (d ∷ []) (one_begun f.heard h hs at)
 
-    opened_by : session_opened r d ≡ opens_behind h (begins d)
-    opened_by = opened_is r size small f stands runs h hs at d
-
     standing_is : is_none r.standing ≡ false
     standing_is = ap (λ (o : Option StandingSession). is_none o)
         (standing_at_rest r size small f stands runs h hs at)
@@ -270,7 +264,8 @@ module _ (r : Reception) (size : ℕ) (f : Feeder) (small : size ≤ 8) (stands 
         → stream_takes r d xs w ≡ opens_stream_for o (is_none r.standing) d (streams_all before w)
     unfolding stream_takes
     takes_by o is = ap (λ (o : Option Session).
-        opens_stream_for o (is_none r.standing) d (streams_all before w)) (opened_by ∙ is)
+        opens_stream_for o (is_none r.standing) d (streams_all before w))
+        (opened_is r size small f stands runs h hs at d ∙ is)
 
     takes_next : (s : Session) → opens_behind h (begins d) ≡ Some s
         → stream_takes r d xs w ≡ opens_stream (streams_all before w) false d
@@ -384,7 +379,7 @@ module _ (r : Reception) (size : ℕ) (f : Feeder) (small : size ≤ 8) (stands 
 
       released : releasable_numbers past_then ≡ shown.0
       released = ap (drop (length (let_go_numbers size s old))) shown.1
-          ∙ drop_front (let_go_numbers size s old) shown.0
+          ∙ drop-append_seam (let_go_numbers size s old) shown.0
 
       abbrev more : List DataUnit
       more = flat_map (frame_units s new) (releasable_numbers past_then)
@@ -395,7 +390,7 @@ module _ (r : Reception) (size : ℕ) (f : Feeder) (small : size ≤ 8) (stands 
       then_is : then.field ≡ (releases_all before).field
       unfolding takes_datagram
       then_is = ap (λ (o : Option Session). (opens_session o (releases_all before)).field)
-          (opened_by h [] at ∙ none)
+          (opened_is r size small f stands runs h [] at d ∙ none)
 
       goes : StreamsFor then (streams_all before w) size now
       goes = grind (arith, grown, header_same, length_is, ran, sessions_then, still_first, then_is)
@@ -433,7 +428,7 @@ module _ (r : Reception) (size : ℕ) (f : Feeder) (small : size ≤ 8) (stands 
 
       released_over : releasable_numbers past_end ≡ left.0
       released_over = ap (drop (length (let_go_numbers size s old))) left.1
-          ∙ drop_front (let_go_numbers size s old) left.0
+          ∙ drop-append_seam (let_go_numbers size s old) left.0
 
       abbrev more_over : List DataUnit
       more_over = flat_map (frame_units s old) (releasable_numbers past_end)

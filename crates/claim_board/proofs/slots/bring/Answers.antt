@@ -1,4 +1,4 @@
-use Rattle.std.proofs.Common.{rules, refl, arith, ◌∙◌, ◌≡◌, ◌<◌, length, sym, ap, append-nil, ◌++◌, drop, take}
+use Rattle.std.proofs.Common.{refl, arith, ◌∙◌, ◌≡◌, sym, ap, append-nil, ◌++◌, drop, take}
 use Rattle.claim_board.specs.Plays.{empty_slots}
 use Rattle.claim_board.specs.Counts.{occurrences}
 use Rattle.claim_board.proofs.Decks.{turned_once, front_of, occurs_turned}

@@ -1,4 +1,4 @@
-use Rattle.std.proofs.Common.{◌≡◌, ◌<◌, ◌≤◌, ℕ, List, Some, true, refl, ap, sym, ◌∙◌, arith, rules, length}
+use Rattle.std.proofs.Common.{◌≡◌, ap, sym, ◌∙◌, rules}
 use Rattle.std.specs.Prelude.{is_ok}
 use Rattle.link_model.specs.Kept.{next_slices}
 use Rattle.link_gather.proofs.FillingLaws.{cut_within, no_more}

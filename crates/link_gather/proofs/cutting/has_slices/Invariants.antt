@@ -1,4 +1,4 @@
-use Rattle.std.proofs.Common.{◌≡◌, ℕ}
+use Rattle.std.proofs.Common.{◌≡◌}
 use Rattle.std.specs.Prelude.{is_ok}
 use Rattle.link_model.specs.Kept.{next_slices}
 use Rattle.vc_types.specs.TransformParameters.{parameters_of}

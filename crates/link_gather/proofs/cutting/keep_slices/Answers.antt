@@ -1,8 +1,7 @@
-use Rattle.std.proofs.Common.{◌≡◌, ◌+◌, ◌-◌, ◌<◌, ◌≤◌, ℕ, suc, Bool, List, Option, Some, None, length, take, drop, refl, ap, sym, ◌∙◌, arith, rules}
+use Rattle.std.proofs.Common.{◌≡◌, ◌+◌, ◌-◌, ◌<◌, ◌≤◌, ℕ, suc, Bool, List, Some, None, length, take, drop, ap, sym, ◌∙◌, arith, rules}
 use Rattle.std.specs.Prelude.{◌||◌}
 use Rattle.link_model.specs.Books.{Slots, slot_at, with_run}
 use Rattle.link_gather.specs.Filling.{run_cut, has_conflict, has_new, put_in, put_result, is_put_other, is_put_new}
-use Rattle.link_gather.specs.declared.slots.Put.{Put}
 use Rattle.link_gather.proofs.FillingLaws.{cut_within, put_length, run_step, conflict_step, new_step, other_is, fresh_is, run_none, conflict_none, new_none, none_left, none_cut}
 use Rattle.vc_types.specs.Slices.{slice_length}
 use Rattle.vc_types.specs.TransformParameters.{parameters_of}
@@ -55,51 +54,21 @@ loop-i-preserved c =
 -- the bytes end, which has_slices rules out
 pub returns-in_default-clause-value : goal.returns-in_default-clause-value
 returns-in_default-clause-value c =
-    let p = parameters_of c.args.plan.now in
-    let below : c.loop-i.i < c.args.first + c.args.count = search rules in
-    let some : 0 < c.args.first + c.args.count - c.loop-i.i = omega (arith, below) in
-    let short : slice_length p.prefix p.scaler c.as_slice.result.now ≡ None = search rules in
-    let none = none_cut p c.loop-i.slots c.loop-i.i c.loop-i.rest (c.args.first + c.args.count - c.loop-i.i) some (ap (slice_length p.prefix p.scaler) (sym c.as_slice.ensures) ∙ short) in
-    sym (run_none p c.loop-i.slots c.loop-i.i c.loop-i.rest (c.args.first + c.args.count - c.loop-i.i) none) ∙ c.loop-i.invariant.value
+    grind (arith, none_cut, run_none, c.as_slice.ensures, c.loop-i.invariant.value)
 
 pub returns-in_default-clause-conflict : goal.returns-in_default-clause-conflict
 returns-in_default-clause-conflict c =
-    let p = parameters_of c.args.plan.now in
-    let below : c.loop-i.i < c.args.first + c.args.count = search rules in
-    let some : 0 < c.args.first + c.args.count - c.loop-i.i = omega (arith, below) in
-    let short : slice_length p.prefix p.scaler c.as_slice.result.now ≡ None = search rules in
-    let none = none_cut p c.loop-i.slots c.loop-i.i c.loop-i.rest (c.args.first + c.args.count - c.loop-i.i) some (ap (slice_length p.prefix p.scaler) (sym c.as_slice.ensures) ∙ short) in
-    sym (conflict_none p c.loop-i.slots c.loop-i.i c.loop-i.rest (c.args.first + c.args.count - c.loop-i.i) none c.loop-i.seen.conflict) ∙ c.loop-i.invariant.conflict
+    grind (arith, none_cut, conflict_none, c.as_slice.ensures, c.loop-i.invariant.conflict)
 
 pub returns-in_default-clause-new : goal.returns-in_default-clause-new
 returns-in_default-clause-new c =
-    let p = parameters_of c.args.plan.now in
-    let below : c.loop-i.i < c.args.first + c.args.count = search rules in
-    let some : 0 < c.args.first + c.args.count - c.loop-i.i = omega (arith, below) in
-    let short : slice_length p.prefix p.scaler c.as_slice.result.now ≡ None = search rules in
-    let none = none_cut p c.loop-i.slots c.loop-i.i c.loop-i.rest (c.args.first + c.args.count - c.loop-i.i) some (ap (slice_length p.prefix p.scaler) (sym c.as_slice.ensures) ∙ short) in
-    sym (new_none p c.loop-i.slots c.loop-i.i c.loop-i.rest (c.args.first + c.args.count - c.loop-i.i) none c.loop-i.seen.new) ∙ c.loop-i.invariant.new
+    grind (arith, none_cut, new_none, c.as_slice.ensures, c.loop-i.invariant.new)
 
 pub returns-clause-value : goal.returns-clause-value
-returns-clause-value c =
-    let p = parameters_of c.args.plan.now in
-    let past : c.args.first + c.args.count ≤ c.loop-i.i = search rules in
-    let done : c.args.first + c.args.count - c.loop-i.i ≡ 0 = omega (arith, past) in
-    let none = none_left p c.loop-i.slots c.loop-i.i c.loop-i.rest (c.args.first + c.args.count - c.loop-i.i) done in
-    sym (run_none p c.loop-i.slots c.loop-i.i c.loop-i.rest (c.args.first + c.args.count - c.loop-i.i) none) ∙ c.loop-i.invariant.value
+returns-clause-value c = grind (arith, none_left, run_none, c.loop-i.invariant.value)
 
 pub returns-clause-conflict : goal.returns-clause-conflict
-returns-clause-conflict c =
-    let p = parameters_of c.args.plan.now in
-    let past : c.args.first + c.args.count ≤ c.loop-i.i = search rules in
-    let done : c.args.first + c.args.count - c.loop-i.i ≡ 0 = omega (arith, past) in
-    let none = none_left p c.loop-i.slots c.loop-i.i c.loop-i.rest (c.args.first + c.args.count - c.loop-i.i) done in
-    sym (conflict_none p c.loop-i.slots c.loop-i.i c.loop-i.rest (c.args.first + c.args.count - c.loop-i.i) none c.loop-i.seen.conflict) ∙ c.loop-i.invariant.conflict
+returns-clause-conflict c = grind (arith, none_left, conflict_none, c.loop-i.invariant.conflict)
 
 pub returns-clause-new : goal.returns-clause-new
-returns-clause-new c =
-    let p = parameters_of c.args.plan.now in
-    let past : c.args.first + c.args.count ≤ c.loop-i.i = search rules in
-    let done : c.args.first + c.args.count - c.loop-i.i ≡ 0 = omega (arith, past) in
-    let none = none_left p c.loop-i.slots c.loop-i.i c.loop-i.rest (c.args.first + c.args.count - c.loop-i.i) done in
-    sym (new_none p c.loop-i.slots c.loop-i.i c.loop-i.rest (c.args.first + c.args.count - c.loop-i.i) none c.loop-i.seen.new) ∙ c.loop-i.invariant.new
+returns-clause-new c = grind (arith, none_left, new_none, c.loop-i.invariant.new)

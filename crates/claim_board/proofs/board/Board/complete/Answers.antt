@@ -1,7 +1,7 @@
-use Rattle.std.proofs.Common.{arith, ap, sym, subst, ◌∙◌, ◌≡◌, ◌≤◌, ◌<◌, ℕ}
+use Rattle.std.proofs.Common.{arith, ap, sym, subst, ◌∙◌, ◌≡◌}
 use Rattle.atomic_table.specs.Seated.{TableId}
 use Rattle.claim_board.specs.Views.{SeatView}
-use Rattle.claim_board.specs.Counts.{holds_at, holds_of, occurrences}
+use Rattle.claim_board.specs.Counts.{holds_at, holds_of}
 use Rattle.claim_board.proofs.Holds.{below_less, held_no_more, held_with_serial, less_held, once_less}
 use Rattle.claim_board.proofs.board.Board.complete.Goals as goal
 

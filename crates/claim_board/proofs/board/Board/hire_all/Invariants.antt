@@ -1,4 +1,4 @@
-use Rattle.std.proofs.Common.{◌≡◌, ℕ, vec_len}
+use Rattle.std.proofs.Common.{◌≡◌, vec_len}
 use Rattle.std.specs.Prelude.{All}
 use Rattle.claim_board.specs.Calls.{AreEmpty, IsNewWorker}
 use Rattle.claim_board.specs.Seats.{IsFeederOf, feeder_sees, place_count}

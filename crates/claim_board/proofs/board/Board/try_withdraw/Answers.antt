@@ -1,4 +1,4 @@
-use Rattle.std.proofs.Common.{rules, arith, refl}
+use Rattle.std.proofs.Common.{rules, arith}
 use mathlib.Core.Option.{none}
 use Rattle.claim_board.proofs.Backs.{withdraws_back}
 use Rattle.claim_board.proofs.board.Board.try_withdraw.Goals as goal

@@ -2,8 +2,7 @@ use Rattle.std.proofs.Common.{◌≡◌, ap, ◌∙◌}
 use Rattle.std.proofs.lemmas.Result.{on_ok_weaker, IfOk-weaker}
 use Rattle.link_model.specs.Books.{Book, book_takes, book_outcome}
 use Rattle.link_model.specs.Judgement.{part_outcome}
-use Rattle.link_model.specs.Session.{ParamsPart, SlicesPart}
-use Rattle.link_model.specs.declared.outcome.Outcome.{Outcome}
+use Rattle.link_model.specs.Session.{SlicesPart}
 use Rattle.link_model.proofs.Bookkeeping.{takes-more, book_outcome_is}
 use Rattle.link_gather.specs.Views.{slice_part_of}
 use Rattle.link_gather.proofs.book.PictureBook.take_slices.Goals as goal

@@ -1,7 +1,6 @@
-use Rattle.std.proofs.Common.{◌≡◌, List, Bool, ap, sym, ◌∙◌}
-use Rattle.link_model.specs.Books.{Gathered, Slots, slot_at, gathers_run, gathers, gathered_outcome}
+use Rattle.std.proofs.Common.{ap, sym, ◌∙◌}
+use Rattle.link_model.specs.Books.{Gathered, slot_at, gathers_run, gathers, gathered_outcome}
 use Rattle.link_model.specs.Judgement.{run_outcome}
-use Rattle.link_gather.specs.Filling.{run_cut, has_conflict, seen_outcome}
 use Rattle.link_gather.specs.Views.{slice_part_of}
 use Rattle.vc_types.specs.TransformParameters.{parameters_of}
 use Rattle.link_gather.proofs.gathering.Gathering.take.Goals as goal

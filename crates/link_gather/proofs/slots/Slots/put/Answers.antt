@@ -1,7 +1,7 @@
-use Rattle.std.proofs.Common.{◌≡◌, ℕ, List, Option, Some, None, ◌+◌, ◌<◌, length, sym, ap, subst, ◌∙◌, set}
+use Rattle.std.proofs.Common.{ℕ, List, Option, Some, ◌+◌, ◌<◌, length, sym, ap, subst, ◌∙◌, set}
 use Rattle.std.specs.Option.{option_copied, option_or}
 use Rattle.link_model.specs.Books.{Slots, slot_at}
-use Rattle.link_gather.specs.Filling.{put_in, put_result}
+use Rattle.link_gather.specs.Filling.{put_result}
 use Rattle.link_gather.proofs.FillingLaws.{put_kept, kept_more}
 use Rattle.link_gather.proofs.slots.Slots.put.Goals as goal
 

@@ -1,4 +1,4 @@
-use Rattle.std.proofs.Common.{◌≡◌, ◌-◌, ◌+◌, ◌∙◌, suc, Some, None, ap, sym, refl, arith, ℕ}
+use Rattle.std.proofs.Common.{◌≡◌, ◌-◌, ◌+◌, ◌∙◌, suc, Some, None, ap, sym, arith, ℕ}
 use Rattle.std.specs.Option.{option_map}
 use Rattle.link_reception.specs.Releasing.{book_count, next_picture}
 use Rattle.link_receiver.proofs.Asked.{asked_none, asked_twice}
@@ -9,16 +9,7 @@ use Rattle.link_receiver.proofs.reception.Reception.release_all.Goals as goal
 
 pub loop-init : goal.loop-init
 loop-init g c =
-    let e : book_count c.args.self.now - 0 ≡ book_count c.args.self.now = omega arith in
-    record {
-      releasing = releasing_begins e _ _ _ _;
-      within = c.open_pictures-end.ensures;
-      later = omega arith;
-      waiting = c.requires.waiting;
-      asked = asked_none _;
-      bound = refl;
-      below = c.requires.below;
-    }
+    grind (arith, releasing_begins, asked_none, c.open_pictures-end.ensures, c.requires.waiting, c.requires.below)
 
 pub returns-in_default-clause-released : goal.returns-in_default-clause-released
 returns-in_default-clause-released g c =

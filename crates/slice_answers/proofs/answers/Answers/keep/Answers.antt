@@ -6,7 +6,7 @@ use Rattle.link_reception.specs.Receptions.{PictureAnswers, answer_at, answers_w
 use Rattle.slice_jobs.specs.Jobs.{answered}
 use Rattle.slice_answers.specs.SeenAnswers.{is_of_number}
 use Rattle.slice_answers.proofs.PictureLists.{stands, found_there, keeps_there, keeps_first}
-use Rattle.slice_answers.proofs.SeenSlots.{none_at}
+use Rattle.link_reception.proofs.KeptAnswers.{none_at}
 use Rattle.slice_answers.proofs.answers.Answers.keep.Goals as goal
 
 pub keep-requires : goal.keep-requires
