@@ -23,7 +23,8 @@ pub struct NotYet {
 }
 
 impl Board {
-    /// Hands a job to an empty place, raises its serial by 1 and rings the bell.
+    /// Hands a job to an empty place, and raises its serial by 1. The bell rings for each job while
+    /// up to 16 places are out, and then for one in 16.
     pub fn put(&self, f: &mut FeederSeat, place: u32, job: SliceJob)
         requires seat { IsFeederOf self.now f.old }
         requires place { place < place_count self.now }
@@ -48,7 +49,8 @@ impl Board {
             is_fetched: true,
             is_out: true,
         };
-        self.bell.ring(bell);
+        let out = lanes.len().saturating_sub(order.len());
+        self.bell.ring_for(bell, out);
     }
 
     fn put_at(

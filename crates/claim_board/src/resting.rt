@@ -5,7 +5,7 @@ use crate::board::Board;
 use crate::seats::{BellSeat, WorkerSeat};
 use std::sync::Wait;
 
-/// The number of the bell, which each put and each `wake` raises by 1, wrapping.
+/// The number of the bell, which each ring raises by 1, wrapping.
 pub fn bell(board: &Board, s: &mut WorkerSeat) -> u64
     requires seat { IsWorkerOf board.now s.old }
     ensures seat { s.new ≡ s.old }
@@ -14,7 +14,7 @@ pub fn bell(board: &Board, s: &mut WorkerSeat) -> u64
     board.bell.number()
 }
 
-/// Rests while the bell has the number `seen`. A put or a `wake` ends the rest of one worker.
+/// Rests while the bell has the number `seen`. A ring ends the rest of one worker.
 pub fn rest<H: Wait + Drop>(rt: H, board: &Board, s: &mut WorkerSeat, seen: u64)
     requires seat { IsWorkerOf board.now s.old }
     ensures seat { s.new ≡ s.old }

@@ -6,6 +6,10 @@ use std::alloc::{AllocError, Global};
 use std::sync::Wait;
 use std::sync::atomic::{AtomicU64, Ordering};
 
+// To wake a thread is dearer than a slice, and who works looks at every place before it rests. So
+// where more jobs than these are out, the bell rings for one in so many.
+const FEW: usize = 16;
+
 /// The rule of the bell's table, which holds of every word: no claim rests on it.
 pub(crate) struct Anything;
 
@@ -71,6 +75,16 @@ impl Bell {
         self.table.shared.fetch_add::<Anything>(pass, 0, 1);
         if self.resting.load(Ordering::SeqCst) != 0 {
             self.table.shared.wake_one(0);
+        }
+    }
+
+    /// Rings for a job that makes so many places out, if there are few of them, or for one in many.
+    pub(crate) fn ring_for(&self, pass: &mut BellPass, out: usize)
+        requires { pass.old.table_id ≡ self.now.table.shared.table_id }
+        ensures { pass.new.table_id ≡ pass.old.table_id }
+    {
+        if out <= FEW || out % FEW == 0 {
+            self.ring(pass);
         }
     }
 }

@@ -22,16 +22,19 @@ pub(crate) fn work<H: Wait + Copy, G: Gate>(rt: H, gate: &G, worker: Worker) {
         board,
         is_over,
     } = worker;
+    let mut first = number;
     for _ in rt.forever() {
-        // The bell is read first, so that what is put or set from here on ends the rest.
+        // The bell is read first, so that a ring from here on ends the rest.
         let seen = bell(&board, &mut seat);
         if is_over.load(Ordering::SeqCst) {
             return;
         }
-        let Some(held) = claim_next(&board, &mut seat, number) else {
+        let Some(held) = claim_next(&board, &mut seat, first) else {
             rest(rt, &board, &mut seat, seen);
             continue;
         };
+        // The feeder puts into one place behind another.
+        first = held.place;
         gate.pass(number, held.job.index);
         if answer(alloc, &board, &mut seat, held).is_err() {
             return;
@@ -39,15 +42,15 @@ pub(crate) fn work<H: Wait + Copy, G: Gate>(rt: H, gate: &G, worker: Worker) {
     }
 }
 
-/// Claims the first place that waits, from the worker's own number on.
-pub(crate) fn claim_next(board: &Board, seat: &mut WorkerSeat, number: u32) -> Option<HeldPlace>
+/// Claims a place that waits: the next one from `first` on, and around.
+pub(crate) fn claim_next(board: &Board, seat: &mut WorkerSeat, first: u32) -> Option<HeldPlace>
     requires some_place { 0 < place_count board.now }
     requires seat { IsWorkerOf board.now seat.old }
     ensures seat { IsWorkerOf board.now seat.new }
     ensures held { IfSome result (IsHeldBy board.now seat.new) }
 {
     let places = board.places();
-    let own = number % places;
+    let own = first % places;
     match claim_between(board, seat, own, places) {
         Some(held) => Some(held),
         None => claim_between(board, seat, 0, own),
