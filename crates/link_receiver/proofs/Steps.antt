@@ -23,10 +23,6 @@ use Rattle.vc_slice.specs.declared.job.SliceJob.{SliceJob}
 use Rattle.vc_types.specs.SequenceHeader.{Sequence}
 use Rattle.vc_types.specs.declared.memory.NoMemory.{NoMemory}
 
-pub on_err : {T E : Type 0} (r : Result T E) (P : Type 0) → P → OnErr r P
-on_err (Ok x) P p = tt
-on_err (Err e) P p = p
-
 pub whole_by_some : (s : Sequence) (o : Option (Bor Book))
     → IfSome o (λ book. IsWholeBook s book.now) → IsWholeBySome (option_copied o)
 whole_by_some s None h = tt

@@ -67,10 +67,6 @@ module _ (places : List JobPlace) (place : ℕ) where
 pub place_is : (p : JobPlace) (serial : ℕ) (content : Content) → serial ≡ p.serial → p.content ≡ content → p ≡ record { serial = serial; content = content }
 place_is p serial content number there = λ i. record { serial = (sym number) i; content = there i }
 
-pub on_err : {X E : Type 0} (r : Result X E) (P : Type 0) → P → OnErr r P
-on_err (Ok x) P here = tt
-on_err (Err e) P here = here
-
 module _ (places : List JobPlace) (ring : IsRing places) where
   ring_with : (p : ℕ) (x : JobPlace) → AreApart (slice_set places p x) → HaveOwnAnswers (slice_set places p x) → IsRing (slice_set places p x)
   ring_with p x apart own = record { few = omega (arith, length-set places p x, ring.few); apart = apart; own = own }

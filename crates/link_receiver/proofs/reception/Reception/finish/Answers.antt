@@ -1,6 +1,6 @@
 use Rattle.link_receiver.proofs.Asked.{asked_twice}
 use Rattle.link_receiver.proofs.Entering.{waits_at_end, fails_at_end, fails_released_at_end, fails_last, ended_behind, drains}
-use Rattle.link_receiver.proofs.Steps.{on_err}
+use Rattle.vc_types.proofs.Failures.{on_err}
 use Rattle.link_receiver.proofs.reception.Reception.finish.Goals as goal
 
 pub release_all-requires-clause-waiting : goal.release_all-requires-clause-waiting

@@ -1,5 +1,6 @@
 use Rattle.std.proofs.Common.{arith}
-use Rattle.link_receiver.proofs.Steps.{on_err, shown_output}
+use Rattle.vc_types.proofs.Failures.{on_err}
+use Rattle.link_receiver.proofs.Steps.{shown_output}
 use Rattle.vc_ports.proofs.Growing.{GrewBySome-all}
 use Rattle.link_receiver.proofs.reception.Reception.release.Goals as goal
 

@@ -3,7 +3,7 @@ use Rattle.std.specs.Option.{option_map}
 use Rattle.link_reception.specs.Releasing.{book_count, next_picture}
 use Rattle.link_receiver.proofs.Asked.{asked_none, asked_twice}
 use Rattle.link_receiver.proofs.ReleaseLoop.{releasing_begins, releasing_goes_on, releasing_fails, releasing_stops, releasing_ends}
-use Rattle.link_receiver.proofs.Steps.{on_err}
+use Rattle.vc_types.proofs.Failures.{on_err}
 use Rattle.link_window.specs.Views.{releasable_of}
 use Rattle.link_receiver.proofs.reception.Reception.release_all.Goals as goal
 
