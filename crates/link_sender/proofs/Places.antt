@@ -1,8 +1,8 @@
 -- The timestamps of pictures, by their frame and their field.
-use Rattle.std.proofs.Common.{◌≡◌, ℕ, ◌+◌, ◌*◌, ◌/◌, ◌%◌, ◌^◌, ◌<◌, Bool, true, false, cond, refl, sym, ap, subst, ◌∙◌, arith}
-use Rattle.link_model.specs.Sending.{timestamp_of, pictures_per_frame}
+use Rattle.std.proofs.Common.{◌≡◌, ℕ, ◌+◌, ◌*◌, ◌/◌, ◌%◌, ◌^◌, ◌<◌, Bool, true, false, cond, sym, ap, ◌∙◌, arith}
+use Rattle.link_model.specs.Sending.{timestamp_of}
 use Rattle.link_sender.specs.declared.place.PicturePlace.{PicturePlace}
-use Rattle.link_sender.specs.Packing.{picture_at, IsPlace}
+use Rattle.link_sender.specs.Packing.{picture_at}
 use Rattle.vc_types.specs.Bits.{digit_of}
 use Rattle.vc_types.specs.SenderSettings.{Sending}
 

@@ -1,5 +1,5 @@
 -- The datagrams of a picture and of a frame, put one behind another.
-use Rattle.std.proofs.Common.{◌≡◌, ℕ, suc, ◌+◌, ◌-◌, ◌*◌, ◌%◌, ◌^◌, ◌<◌, ◌≤◌, Bool, true, false, List, [], ◌∷◌, ◌++◌, length, map, take, get_or, Option, Some, None, refl, sym, ap, subst, ◌∙◌, arith}
+use Rattle.std.proofs.Common.{◌≡◌, ℕ, suc, ◌+◌, ◌-◌, ◌*◌, ◌%◌, ◌^◌, ◌<◌, ◌≤◌, Bool, true, false, List, [], ◌∷◌, ◌++◌, length, take, get_or, Option, Some, None, refl, sym, ap, subst, ◌∙◌, arith}
 use Rattle.std.specs.Prelude.{All, if◌then◌else◌}
 use Rattle.std.specs.Global.{Vec}
 use Rattle.std.specs.List.{enumerate_from}
@@ -9,14 +9,13 @@ use Rattle.std.proofs.lemmas.List.Elements.{All-head, All-tail}
 use Rattle.std.proofs.lemmas.List.FromFn.{length-enumerate_from}
 use Rattle.std.proofs.Math.Nat.{mul-pos}
 use Rattle.std.proofs.Math.Seq.{take-suc}
-use Rattle.link_model.specs.Kept.{SliceRun}
 use Rattle.link_model.specs.Sending.{Outgoing, datagrams_from, pictures_per_frame, runs_of_slices, sent_datagram, timestamp_of}
 use Rattle.link_model.specs.SendingPictures.{slice_room}
 use Rattle.link_sender.specs.declared.datagram.Datagram.{Datagram}
 use Rattle.link_sender.specs.declared.encoding.FrameSlices.{FrameSlices}
 use Rattle.link_sender.specs.declared.outbox.Outbox.{Outbox}
 use Rattle.link_sender.specs.declared.runs.OpenRun.{OpenRun}
-use Rattle.link_sender.specs.Packing.{ArePacked, HasSlices, Sends, bytes_of_all, picture_at, run_of, runs_outgoing}
+use Rattle.link_sender.specs.Packing.{ArePacked, HasSlices, Sends, bytes_of_all, run_of, runs_outgoing}
 use Rattle.link_sender.specs.Sent.{IsPicture, coded_frame_outgoing, coded_outgoing, coded_pictures_outgoing, slices_by_picture, second_pictures}
 use Rattle.link_sender.proofs.Numbered.{sends_more}
 use Rattle.link_sender.proofs.Packed.{all_packed}
@@ -25,12 +24,8 @@ use Rattle.picture_encode.specs.Encoded.{IsSized, slice_bytes}
 use Rattle.vc_types.specs.Bits.{digit_of}
 use Rattle.vc_types.specs.Limits.{slices_fit}
 use Rattle.vc_types.specs.SenderSettings.{Sending}
-use Rattle.vc_types.specs.Settings.{within}
 
 -- ---- slices
-
-pub some_room : (size : ℕ) → within 64 65507 size ≡ true → 32 ≤ size
-some_room size fits = grind (arith, nat_tests)
 
 pub some_slices : (across down : ℕ) → slices_fit across down ≡ true → 1 ≤ across * down
 some_slices across down fits =

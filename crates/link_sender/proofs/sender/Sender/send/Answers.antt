@@ -1,5 +1,4 @@
-use Rattle.std.proofs.Common.{◌≡◌, Err, None, refl, rules, sym}
-use Rattle.link_model.specs.SendingFaults.{first_sample_fault}
+use Rattle.std.proofs.Common.{◌≡◌, Err, refl, rules, sym}
 use Rattle.picture_encode.specs.Choosing.{AnswersNeed}
 use Rattle.vc_types.specs.Planes.{planes_in}
 use Rattle.vc_types.specs.SenderSettings.{sending_view}
