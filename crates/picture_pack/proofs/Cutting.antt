@@ -1,12 +1,10 @@
 -- Slices that are cut from the front of bytes.
-use Rattle.std.proofs.Common.{◌≡◌, ◌<◌, ◌≤◌, true, ℕ, zero, suc, List, [], ◌∷◌, length, take, drop, Option, Some, None, Result, Ok, Err, refl, ap, sym, ◌∙◌, subst, arith}
-use Rattle.std.specs.Prelude.{nat_lt}
+use Rattle.std.proofs.Common.{◌≡◌, ◌≤◌, ℕ, zero, suc, List, [], ◌∷◌, length, take, drop, Option, Some, None, Result, Ok, Err, refl, ap, sym, ◌∙◌, subst, arith}
 use Rattle.std.specs.Result.{IsOk}
-use Rattle.std.proofs.lemmas.Bool.Decides.{nat_tests}
+use Rattle.std.proofs.lemmas.Bool.{lt-ltb}
 use Rattle.link_model.specs.Kept.{cut_off, next_slice, next_slices}
 use Rattle.vc_types.proofs.FieldCodecs.{and_then_ok}
 use Rattle.vc_types.proofs.WholeSlices.{begins}
-use Rattle.picture_pack.proofs.Rooms.{is_more}
 use Rattle.vc_types.specs.Fields.{and_then}
 use Rattle.vc_types.specs.Slices.{CodedSlice, coded_slice, slice_length}
 use Rattle.vc_types.specs.TransformParameters.{Parameters}
@@ -69,7 +67,7 @@ module _ (p : Parameters) where
 no_slice : (prefix scaler : ℕ) → coded_slice prefix scaler [] ≡ Err tt
 unfolding coded_slice
 no_slice zero scaler = refl
-no_slice (suc n) scaler = rw (is_more 0 (suc n) (omega arith)) refl
+no_slice (suc n) scaler = rw (lt-ltb 0 (suc n) (omega arith)) refl
 
 has_some : (prefix scaler : ℕ) (slice : List ℕ) (coded : CodedSlice) → coded_slice prefix scaler slice ≡ Ok (coded, []) → 1 ≤ length slice
 has_some prefix scaler [] coded e = absurd (let none = sym (no_slice prefix scaler) ∙ e in cc)

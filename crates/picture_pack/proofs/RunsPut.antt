@@ -1,10 +1,8 @@
 -- Slices that are packed into runs one after another.
-use Rattle.std.proofs.Common.{◌≡◌, ℕ, zero, suc, ◌+◌, ◌^◌, ◌<◌, ◌≤◌, Bool, true, false, cond, List, [], ◌∷◌, ◌++◌, length, map, None, refl, sym, ap, subst, ◌∙◌, arith, append_assoc}
-use Rattle.std.specs.Prelude.{nat_le}
-use Rattle.std.proofs.lemmas.Bool.Decides.{nat_tests}
+use Rattle.std.proofs.Common.{◌≡◌, ℕ, zero, suc, ◌+◌, ◌^◌, ◌<◌, ◌≤◌, List, [], ◌∷◌, ◌++◌, length, map, None, refl, sym, ap, subst, ◌∙◌, arith, append_assoc}
 use Rattle.std.proofs.lemmas.List.{append-nil, length-append, map-append}
 use Rattle.link_model.specs.Kept.{SliceRun}
-use Rattle.link_model.specs.Sending.{DatagramContent, SlicesContent, has_room, run_end, run_of_one, run_with, runs_from, runs_of_slices}
+use Rattle.link_model.specs.Sending.{DatagramContent, SlicesContent, run_end, run_of_one, runs_from, runs_of_slices}
 use Rattle.link_sender.proofs.Packed.{begun, ended, joined_more, runs_are, taken}
 use Rattle.link_stream.specs.Packing.{first_large_slice, slices_room}
 use Rattle.picture_pack.specs.declared.outbox.Outbox.{Outbox}

@@ -3,8 +3,7 @@ use Rattle.link_model.specs.Packets.{Header}
 use Rattle.link_model.specs.Sending.{HeaderContent}
 use Rattle.link_sender.proofs.Numbered.{both_ok}
 use Rattle.picture_pack.proofs.Putting.{puts_one}
-use Rattle.link_sender.proofs.PayloadLengths.{header_length, most_room}
-use Rattle.picture_pack.proofs.Lengths.{some_room}
+use Rattle.link_sender.proofs.PayloadLengths.{header_length, most_room, some_room}
 use Rattle.picture_pack.proofs.outbox.Outbox.put_header.Goals as goal
 
 pub put-requires-clause-fits : goal.put-requires-clause-fits

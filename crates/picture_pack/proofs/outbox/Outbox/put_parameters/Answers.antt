@@ -4,8 +4,7 @@ use Rattle.link_model.specs.Sending.{ParametersContent}
 use Rattle.vc2_payload.specs.Views.{head_of}
 use Rattle.link_sender.proofs.Numbered.{both_ok}
 use Rattle.picture_pack.proofs.Putting.{puts_one}
-use Rattle.link_sender.proofs.PayloadLengths.{parameters_length, most_room}
-use Rattle.picture_pack.proofs.Lengths.{some_room}
+use Rattle.link_sender.proofs.PayloadLengths.{parameters_length, most_room, some_room}
 use Rattle.picture_pack.proofs.outbox.Outbox.put_parameters.Goals as goal
 
 pub put-requires-clause-payload : goal.put-requires-clause-payload

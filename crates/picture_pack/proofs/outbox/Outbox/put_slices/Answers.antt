@@ -5,8 +5,9 @@ use Rattle.link_model.proofs.Slots.{next_slices-count}
 use Rattle.link_stream.specs.Packing.{first_large_slice, slices_in, slices_room}
 use Rattle.picture_pack.specs.Runs.{EndsRun, PacksSlices}
 use Rattle.picture_pack.proofs.Cutting.{cut_off_front, none_is_left, one_is_there, some_bytes}
-use Rattle.picture_pack.proofs.Lengths.{some_room, some_slices}
 use Rattle.link_sender.proofs.Numbered.{then_ok}
+use Rattle.link_sender.proofs.PutPictures.{some_slices}
+use Rattle.link_sender.proofs.PayloadLengths.{some_room}
 use Rattle.picture_pack.proofs.Rooms.{first_fits}
 use Rattle.picture_pack.proofs.RunsPut.{none_packed, whole_packed}
 use Rattle.vc_types.specs.SenderSettings.{packing_view}
