@@ -3,6 +3,7 @@ use Rattle.std.proofs.Common.{◌≡◌, ℕ, ◌+◌, ◌*◌, ◌/◌, ◌%◌
 use Rattle.std.specs.Prelude.{All, IsTrue}
 use Rattle.std.proofs.lemmas.Bool.Decides.{nat_tests}
 use Rattle.std.proofs.Math.Pow.{pow_pos}
+use Rattle.std.proofs.lemmas.Grind.{common_steps}
 use Rattle.field_pairs.specs.Sizes.{HaveEvenHeights}
 use Rattle.link_model.specs.Sending.{pictures_of}
 use Rattle.link_model.specs.SendingFaults.{first_sample_fault, plane_fault}
@@ -48,13 +49,7 @@ even_frame width height sampling fields are fits =
     grind (arith, nat_tests, even_sides)
 
 pub even_heights : (settings : SendSettings) (frame : Planes) → IsFrame (sending_view settings) frame → settings.fields ≡ true → HaveEvenHeights frame
-even_heights settings frame is fields =
-    let even = even_frame settings.width settings.height settings.sampling settings.fields fields settings.dimensions in
-    record {
-      y = ap (λ n. n % 2) is.y.height ∙ even.luma;
-      c1 = ap (λ n. n % 2) is.c1.height ∙ even.colour;
-      c2 = ap (λ n. n % 2) is.c2.height ∙ even.colour;
-    }
+even_heights settings frame is fields = grind (arith, common_steps, even_frame)
 
 -- ---- pictures
 
@@ -90,16 +85,7 @@ module _ (s : Sending) (frame : Planes) (is : IsFrame s frame) (sound : first_sa
 
   pub whole_frame : s.frames.fields ≡ false → CanBeTransformed p frame
   unfolding sent_parameters sent_sequence picture_shape
-  whole_frame fields =
-      let range = are_in_range in
-      record {
-        symmetric = symmetric;
-        each = elim [
-          | Y ↦ record { width = is.y.width; height = is.y.height ∙ ap (λ b. cond b (s.frames.height / 2) s.frames.height) (sym fields); samples = range.y }
-          | C1 ↦ record { width = is.c1.width; height = is.c1.height ∙ ap (λ b. cond b (colour_height s.frames.sampling s.frames.height / 2) (colour_height s.frames.sampling s.frames.height)) (sym fields); samples = range.c1 }
-          | C2 ↦ record { width = is.c2.width; height = is.c2.height ∙ ap (λ b. cond b (colour_height s.frames.sampling s.frames.height / 2) (colour_height s.frames.sampling s.frames.height)) (sym fields); samples = range.c2 }
-        ];
-      }
+  whole_frame fields = grind (arith, common_steps, are_in_range, symmetric)
 
   one_field : (first : ℕ) → s.frames.fields ≡ true → CanBeTransformed p (on_each (every_other_row first) frame)
   unfolding sent_parameters sent_sequence picture_shape every_other_row

@@ -2,6 +2,7 @@
 use Rattle.std.proofs.Common.{◌≡◌, ℕ, zero, suc, ◌+◌, ◌^◌, ◌<◌, ◌≤◌, List, [], ◌∷◌, ◌++◌, length, map, refl, sym, ap, subst, ◌∙◌, arith, append_assoc}
 use Rattle.std.proofs.lemmas.Bool.Decides.{nat_tests}
 use Rattle.std.proofs.lemmas.List.{append-nil, length-append, map-append}
+use Rattle.std.proofs.lemmas.Grind.{common_steps}
 use Rattle.link_model.specs.Kept.{SliceRun}
 use Rattle.link_model.specs.Sending.{Outgoing, SlicesContent, outgoing, run_end, run_of_one, run_with, runs_from, runs_of_slices}
 use Rattle.link_model.specs.SendingPictures.{slice_room}
@@ -67,20 +68,7 @@ module _ (s : Sending) (picture : ℕ) where
       -- there was room in the run
       pub one_more : length run.body.items + length slice ≤ slice_room s → next.first ≡ run.first → next.count ≡ run.count + 1 → next.body.items ≡ run.body.items ++ slice → ArePacked s picture (slices ++ slice ∷ []) first x next
       one_more fits same_first count body =
-          let many = length-append packed.left (slice ∷ []) in
-          record {
-            put = packed.put;
-            left = packed.left ++ slice ∷ [];
-            has = record {
-              count = omega (arith, count, many, packed.has.count);
-              body = body ∙ ap (λ l. l ++ slice) packed.has.body ∙ sym (joined_more packed.left slice);
-            };
-            sends = packed.sends;
-            goes_on = λ more.
-                on more
-                ∙ ap (λ l. packed.put ++ l) (taken (slice_room s) (run_of run packed.left) slice more (omega (arith, fits, length_is)))
-                ∙ ap (λ (f : ℕ). packed.put ++ runs_from (slice_room s) (record { first = f; slices = packed.left ++ slice ∷ [] }) more) (sym same_first);
-          }
+          grind (arith, common_steps, length-append, joined_more, on, taken, length_is)
 
       -- there was none, and the run was put
       pub another_run : (y : Outbox) → slice_room s < length run.body.items + length slice → ((left : List (List ℕ)) → HasSlices run left → Sends s (runs_outgoing picture (run_of run left ∷ [])) x y)
