@@ -166,7 +166,8 @@ module _ {X : Type 0} {carried : X → X → List (List ℕ) → Type 0} {broke 
         ended = ended;
       }
 
-      ends_refused : (fault : SendFault) → frame_fault s frame ≡ Some fault → carried y z [] → EndsWithRefusedFrame s most (carried x z) with_last [] fault
+      ends_refused : (fault : SendFault) → frame_fault s frame ≡ Some fault → carried y z []
+          → EndsWithRefusedFrame s most (carried x z) with_last [] fault
       ends_refused fault is nothing = record {
         others = frames;
         last = frame;
@@ -180,8 +181,12 @@ module _ {X : Type 0} {carried : X → X → List (List ℕ) → Type 0} {broke 
 
       -- it is refused
       pub refused : (fault : SendFault) → frame_fault s frame ≡ Some fault → carried y z [] → Stops (Err (refused_ending fault))
-      refused (faults.SampleRange plane place value) is nothing = stopped_after (Err (SampleTooLarge place plane value)) (ends_refused (faults.SampleRange plane place value) is nothing)
-      refused (faults.SliceTooLarge slice bytes) is nothing = stopped_after (Err (SliceTooLarge slice bytes)) (ends_refused (faults.SliceTooLarge slice bytes) is nothing)
+      refused (faults.SampleRange plane place value) is nothing =
+          stopped_after (Err (SampleTooLarge place plane value))
+          (ends_refused (faults.SampleRange plane place value) is nothing)
+      refused (faults.SliceTooLarge slice bytes) is nothing =
+          stopped_after (Err (SliceTooLarge slice bytes))
+          (ends_refused (faults.SliceTooLarge slice bytes) is nothing)
 
       -- there is no memory for it
       pub unsent : carried y z [] → Stops (Err NoMemory)
