@@ -33,7 +33,8 @@ module _ (limit : ℕ) (some : 0 < limit) where
   unfolding every_other_row sample_at
   field_small first plane small =
       raster_below limit (λ x y. sample_at plane x (2 * y + first))
-      (λ x y. item_below limit plane.samples ((2 * y + first) * plane.width + x) some small) plane.width (plane.height / 2)
+      (λ x y. item_below limit plane.samples ((2 * y + first) * plane.width + x) some small)
+      plane.width (plane.height / 2)
 
 -- ---- heights
 

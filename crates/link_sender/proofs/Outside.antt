@@ -24,7 +24,8 @@ unfolding first_outside
 ended limit i samples h = ap (first_outside limit i) (drop_all i samples h)
 
 -- where all are below, there is none
-pub none_outside : (limit place : ℕ) (samples : List ℕ) → All (λ s. s < limit) samples → first_outside limit place samples ≡ None
+pub none_outside : (limit place : ℕ) (samples : List ℕ) → All (λ s. s < limit) samples
+    → first_outside limit place samples ≡ None
 unfolding first_outside
 none_outside limit place [] all = refl
 none_outside limit place (sample ∷ samples) all =

@@ -50,12 +50,14 @@ pub unmapped : {A B : Type 0} (f : A → B) (o : Option A) → option_map f o �
 unmapped f None h = refl
 unmapped f (Some x) h = absurd (none-some (f x) (sym h))
 
-pub all_below : (limit place : ℕ) (xs : List ℕ) → first_outside limit place xs ≡ None → All (λ v. v < limit) xs
+pub all_below : (limit place : ℕ) (xs : List ℕ) → first_outside limit place xs ≡ None
+    → All (λ v. v < limit) xs
 unfolding first_outside
 all_below limit place [] none = All-nil (λ v. v < limit)
 all_below limit place (x ∷ xs) none = grind (arith, nat_tests, All-cons, all_below limit (place + 1) xs)
 
-pub item_below : (limit : ℕ) (xs : List ℕ) (i : ℕ) → 0 < limit → All (λ v. v < limit) xs → get_or xs i 0 < limit
+pub item_below : (limit : ℕ) (xs : List ℕ) (i : ℕ) → 0 < limit → All (λ v. v < limit) xs
+    → get_or xs i 0 < limit
 item_below limit xs i some all = grind (arith, All-get_or, get_or_past)
 
 plane_small : (depth number : ℕ) (plane : Raster) → depth ≤ 17 → plane_fault depth number plane ≡ None → HasSmallSamples plane
@@ -84,14 +86,18 @@ module _ (m : ℕ) (f : ℕ → ℕ → ℕ) (small : (x y : ℕ) → f x y < m)
 
   row_below : (y a n : ℕ) → Small (map (λ x. f x y) (range_with_len a n))
   row_below y a zero = All-nil (λ v. v < m)
-  row_below y a (suc n) = All-cons (λ v. v < m) (f a y) (map (λ x. f x y) (range_with_len (a + 1) n)) (small a y) (row_below y (a + 1) n)
+  row_below y a (suc n) =
+      All-cons (λ v. v < m) (f a y) (map (λ x. f x y) (range_with_len (a + 1) n))
+      (small a y) (row_below y (a + 1) n)
 
-  rows_below : (width a n : ℕ) → Small (flat_map (λ y. map (λ x. f x y) (range_with_len 0 width)) (range_with_len a n))
+  rows_below : (width a n : ℕ)
+      → Small (flat_map (λ y. map (λ x. f x y) (range_with_len 0 width)) (range_with_len a n))
   rows_below width a zero = All-nil (λ v. v < m)
   rows_below width a (suc n) =
       let row : ℕ → List ℕ = λ y. map (λ x. f x y) (range_with_len 0 width) in
       subst Small (sym (flat_map-cons row a (range_with_len (a + 1) n)))
-      (All-append (λ v. v < m) (row a) (flat_map row (range_with_len (a + 1) n)) (row_below a 0 width) (rows_below width (a + 1) n))
+      (All-append (λ v. v < m) (row a) (flat_map row (range_with_len (a + 1) n))
+      (row_below a 0 width) (rows_below width (a + 1) n))
 
   pub raster_below : (width height : ℕ) → Small (raster width height f)
   unfolding raster
