@@ -1,15 +1,15 @@
 -- Generated frames have no sample that is too large.
-use Rattle.std.proofs.Common.{◌≡◌, ◌≤◌, ◌<◌, ℕ, ◌+◌, ◌^◌, Bool, true, false, List, [], ◌∷◌, All, Option, Some, None, refl, sym, ap, ◌∙◌, arith}
-use Rattle.std.specs.Prelude.{IsTrue, drop, if◌then◌else◌, nat_lt}
+use Rattle.std.proofs.Common.{◌≡◌, ◌≤◌, ℕ, ◌^◌, Bool, true, false, List, [], ◌∷◌, Option, Some, None, refl, sym, ap, ◌∙◌, arith}
+use Rattle.std.specs.Prelude.{IsTrue, drop, if◌then◌else◌}
 use Rattle.std.specs.Option.{option_or}
-use Rattle.std.proofs.lemmas.List.Elements.{All-head, All-tail}
 use Rattle.frame_sending.specs.FramesSent.{frame_fault, frame_indices}
 use Rattle.link_gen.proofs.States.{samples_below}
 use Rattle.link_gen.specs.Defaults.{sent_by_default, shape_of_frames}
 use Rattle.link_gen.specs.Generator.{generated_frame, plane_samples, samples_before, state_behind}
 use Rattle.link_model.specs.Sending.{pictures_of}
-use Rattle.link_model.specs.SendingFaults.{SendFault, SampleRange, first_of_slices, first_outside, first_sample_fault, first_slice_fault, is_too_large, send_fault, slice_fault}
+use Rattle.link_model.specs.SendingFaults.{SendFault, SampleRange, first_of_slices, first_sample_fault, first_slice_fault, is_too_large, send_fault, slice_fault}
 use Rattle.link_model.specs.SendingPictures.{sent_parameters, sent_sequence, slices_with_indices}
+use Rattle.link_sender.proofs.Outside.{none_outside}
 use Rattle.vc_types.specs.declared.video.Component.TheVariants.{Y, C1, C2}
 use Rattle.vc_types.specs.Planes.{Planes}
 use Rattle.vc_types.specs.SenderSettings.{Frames, Sending}
@@ -17,16 +17,6 @@ use Rattle.vc_types.specs.SequenceHeader.{picture_shape}
 use Rattle.vc_types.specs.Settings.{within}
 use Rattle.vc_types.specs.Subbands.{slice_count}
 use Rattle.frame_comparison.proofs.SampleBits.{few_luma_bits, same_depth}
-
-below_is : (m n : ℕ) → m < n → nat_lt m n ≡ true
-below_is m n below = grind arith
-
-none_outside : (limit place : ℕ) (samples : List ℕ) → All (λ sample. sample < limit) samples → first_outside limit place samples ≡ None
-unfolding first_outside
-none_outside limit place [] all = refl
-none_outside limit place (sample ∷ samples) all =
-    rw (below_is sample limit (All-head (λ s. s < limit) sample samples all))
-    (none_outside limit (place + 1) samples (All-tail (λ s. s < limit) sample samples all))
 
 sound_samples : (f : Frames) (z : ℕ) → IsTrue (within 1 4 f.range) → first_sample_fault (sent_by_default f) (generated_frame (shape_of_frames f) z) ≡ None
 unfolding first_sample_fault generated_frame picture_shape sent_sequence sent_parameters

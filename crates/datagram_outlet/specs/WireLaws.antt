@@ -6,7 +6,6 @@ use Rattle.vc_ports.specs.Changes.{WireChange}
 use Rattle.vc_ports.specs.Wires.{WireTold}
 use Rattle.wire_calls.proofs.Calls.{passes_none, passes_then}
 use Rattle.datagram_outlet.specs.declared.outlet.OutletFault.{OutletFault}
-use Rattle.datagram_outlet.specs.declared.outlet.OutletFault.TheVariants as faults
 use Rattle.datagram_outlet.specs.Outlets.{SentAll, SentPart}
 
 -- a wire that told so much, and had counted so many faults, before and after

@@ -1,6 +1,7 @@
 -- What a loop over the entries of a source knows: at its start, behind each entry, and at each of its
 -- ends.
 use Rattle.std.proofs.Common.{◌≡◌, ◌≢◌, ◌⊎◌, ℕ, suc, ◌+◌, ◌-◌, ◌^◌, ◌<◌, List, [], ◌∷◌, ◌++◌, length, take, Option, Some, None, Err, refl, sym, ap, ◌∙◌, subst, arith, append_assoc, append-nil, length-append}
+use Rattle.std.proofs.lemmas.Grind.{common_steps}
 use Rattle.link_capture.specs.Capture.{entry, first_entry, entries_within}
 use Rattle.link_capture.specs.Reading.{GavePartOfEntry}
 use Rattle.link_capture.proofs.Heads.{first_entry-stub, length-entry}
@@ -22,7 +23,8 @@ use Rattle.decode_command.specs.Capture.{CaptureSplit, capture_split, ReadingEnd
 use Rattle.decode_command.specs.Hearing.{then_entries, IsBehind, HandsWereOffered, HasStopped, HasBroken, HasReceived, LoopEnded, HeardAll, ReceivesCapture, IsBroken, ending_of}
 use Rattle.decode_command.proofs.Asking.{offered_then}
 use Rattle.decode_command.proofs.Due.{due_with, due_at_end, nothing_due}
-use Rattle.decode_command.proofs.Within.{within_entry, within_part, within_nothing}
+use Rattle.decode_command.proofs.Within.{within_entry, within_nothing}
+use Rattle.link_capture.proofs.Entries.{within-part}
 
 abbrev Entries : Type 0
 Entries = List (List ℕ) × List ℕ
@@ -54,7 +56,7 @@ module _ (form : OutputForm) (window packets number place : ℕ) (before mid hel
   no_entries : (more : List ℕ) → first_entry more ≡ None
       → entries_within packets (at.given ++ more) ≡ (datagrams, more)
   no_entries more part =
-      with_entries more ([], more) (within_part (packets - number) more part)
+      with_entries more ([], more) (within-part (packets - number) more part)
       ∙ ap (λ (l : List (List ℕ)). (l, more)) (append-nil datagrams)
 
   -- ---- an entry more
@@ -277,7 +279,4 @@ module _ (form : OutputForm) (window packets : ℕ) (receiver : ReceiverState) (
 
 -- no bytes were given
 pub none_of : (bytes : List ℕ) (count : ℕ) → length bytes ≡ 1 → count < length bytes → take count bytes ≡ []
-none_of bytes count one short = ap (λ (n : ℕ). take n bytes) none
-  where
-    none : count ≡ 0
-    none = omega arith
+none_of bytes count one short = grind (arith, common_steps)

@@ -1,10 +1,9 @@
 -- Whole frames one behind the other: none, one more, and that bytes hold one list of them alone.
-use Rattle.std.proofs.Common.{◌≡◌, ℕ, ◌+◌, ◌<◌, ◌≤◌, List, [], ◌∷◌, ◌++◌, length, take, drop, map, All, arith, refl, ap, sym, ◌∙◌, append_assoc, append-nil, length-append}
+use Rattle.std.proofs.Common.{◌≡◌, ℕ, ◌<◌, List, [], ◌∷◌, ◌++◌, length, refl, ap, sym, ◌∙◌, append-nil}
 use Rattle.std.specs.List.{concat}
-use Rattle.std.proofs.Math.Seq.{take-append_seam, drop-append_seam}
 use Rattle.std.proofs.lemmas.List.{map-append}
 use Rattle.std.proofs.lemmas.List.Folds.{concat-append}
-use Rattle.std.proofs.lemmas.List.Elements.{All-nil, All-cons, All-head, All-tail, All-append}
+use Rattle.std.proofs.lemmas.List.Elements.{All-nil, All-cons, All-append}
 use Rattle.vc_types.specs.declared.shape.Shape.{Shape}
 use Rattle.vc_types.specs.Planes.{Planes}
 use Rattle.frame_reader.specs.FrameBytes.{frame_of_bytes, frame_length}
@@ -21,7 +20,7 @@ hold_none shape some = record {
 }
 
 module _ (shape : Shape) (bytes : List ℕ) (frames : List Planes) (holds : HoldFrames shape bytes frames []) where
-  bytes_are : bytes ≡ concat holds.pieces
+  pub bytes_are : bytes ≡ concat holds.pieces
   bytes_are = holds.bytes_are ∙ append-nil (concat holds.pieces)
 
   -- one more behind them

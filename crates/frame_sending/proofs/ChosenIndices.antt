@@ -42,10 +42,7 @@ module _ (s : Sending) (answers : Need → ℕ → Type 0) (as_chosen : (need : 
   pub first_indices : (frame : Planes) (asked rest : List Need) (indices : List ℕ) → frame_needs s (wants_lengths s.choice) frame ≡ asked ++ rest → AllZip answers asked indices
       → frame_indices s frame ≡ indices ++ map (chosen_index s.choice) rest
   first_indices frame asked rest indices are all =
-      indices-needs s frame
-      ∙ ap (map (chosen_index s.choice)) are
-      ∙ map-append (chosen_index s.choice) asked rest
-      ∙ ap (λ (l : List ℕ). l ++ map (chosen_index s.choice) rest) (sym (chosen_all asked indices all))
+      grind (arith, common_steps, indices-needs, map-append, chosen_all)
 
 -- ---- the first fault, at the first indices alone
 

@@ -1,11 +1,12 @@
 -- Where no fault came, whole frames that aren't refused, at most as many as were asked for, are encoded
 -- to their end, unless memory runs out.
-use Rattle.std.proofs.Common.{◌≡◌, ◌⊎◌, ℕ, ◌<◌, ◌+◌, List, [], ◌∷◌, ◌++◌, length, map, All, Option, Some, None, IsSomeAnd, Result, Ok, Err, inl, inr, refl, sym, ap, subst, ◌∙◌, arith, append_assoc, append-nil, length-append}
+use Rattle.std.proofs.Common.{◌≡◌, ◌⊎◌, ℕ, ◌<◌, List, [], ◌∷◌, ◌++◌, length, map, All, Option, Some, None, IsSomeAnd, Result, Ok, Err, inl, inr, refl, sym, ap, subst, ◌∙◌, arith, append_assoc, append-nil, length-append}
 use Rattle.std.specs.List.{concat}
 use Rattle.std.specs.Result.{IsOk}
 use Rattle.std.proofs.Math.Seq.{take-append_seam, drop-append_seam}
 use Rattle.std.proofs.lemmas.List.{length-map, map-append}
 use Rattle.std.proofs.lemmas.List.Elements.{All-head, All-tail}
+use Rattle.std.proofs.lemmas.Grind.{common_steps}
 use Rattle.datagram_outlet.specs.declared.outlet.OutletFault.{OutletFault}
 use Rattle.datagram_outlet.specs.declared.outlet.OutletFault.TheVariants as outlets
 use Rattle.frame_sending.specs.Sends.{SendEnded, SendsFrames, EndsWithRefusedFrame, IsCutWithin, IsSendable, IsPastFrames}
@@ -78,21 +79,13 @@ module _ (s : Sending) (most : ℕ) (given more : List ℕ) (frames : List Plane
   frame_of bytes = frame_of_bytes (frame_shape s) bytes
 
   joined : concat whole.holds.pieces ≡ concat holds.pieces ++ (rest ++ more)
-  joined =
-      sym (append-nil (concat whole.holds.pieces))
-      ∙ sym whole.holds.bytes_are
-      ∙ ap (λ (l : List ℕ). l ++ more) holds.bytes_are
-      ∙ append_assoc (concat holds.pieces) rest more
+  joined = grind (arith, common_steps)
 
   behind : Behind n whole.holds.pieces holds.pieces (rest ++ more)
   behind = pieces_behind n whole.holds.short holds.pieces whole.holds.pieces (rest ++ more) holds.whole whole.holds.whole joined
 
   all_frames : whole.frames ≡ frames ++ map frame_of behind.0
-  all_frames =
-      whole.holds.frames_are
-      ∙ ap (λ (l : List (List ℕ)). map frame_of l) behind.1
-      ∙ map-append frame_of holds.pieces behind.0
-      ∙ ap (λ (l : List Planes). l ++ map frame_of behind.0) (sym holds.frames_are)
+  all_frames = grind (arith, common_steps, behind, map-append)
 
   no_cut : (input : InputChange) (went : List (List ℕ) → Type 0) (number : ℕ) → input.left.after ≡ Some more → IsCutWithin s most input went frames rest number → ⊥
   no_cut input went number tells cut =
@@ -105,11 +98,7 @@ module _ (s : Sending) (most : ℕ) (given more : List ℕ) (frames : List Plane
       cc (sym (at_seam (λ frame. frame_fault s frame ≡ None) r.others r.last (map frame_of behind.0) all) ∙ r.refused)
 
   no_limit : (went : List (List ℕ) → Type 0) (limit : ℕ) → IsPastFrames s most went frames rest limit → ⊥
-  no_limit went limit p =
-      let counted : length whole.frames ≡ length frames + length behind.0 = ap length all_frames ∙ length-append frames (map frame_of behind.0) ∙ ap (λ (k : ℕ). length frames + k) (length-map behind.0 frame_of) in
-      let none : length behind.0 ≡ 0 = omega (arith, counted, whole.few, p.count) in
-      let empty : length (rest ++ more) ≡ 0 = ap length (sym behind.2 ∙ none_more behind.0 none) in
-      omega (arith, empty, length-append rest more, p.one_more)
+  no_limit went limit p = grind (arith, common_steps, behind, all_frames, length-map, none_more)
 
 -- ---- by how it ended
 

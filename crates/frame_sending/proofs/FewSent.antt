@@ -2,6 +2,7 @@
 use Rattle.std.proofs.Common.{◌≡◌, ℕ, ◌+◌, ◌^◌, ◌<◌, List, [], ◌∷◌, ◌++◌, length, None, ap, sym, ◌∙◌, arith, length-append}
 use Rattle.std.proofs.lemmas.List.Elements.{All-weaker}
 use Rattle.std.proofs.lemmas.List.Sums.{sum_by-append}
+use Rattle.std.proofs.lemmas.Grind.{common_steps}
 use Rattle.frame_sending.specs.Counted.{HasRoomFor, totals_of}
 use Rattle.frame_sending.specs.FramesSent.{AreSendable, bytes_in, frame_fault, frame_indices, frames_sent}
 use Rattle.frame_sending.specs.Looping.{end_sent, next_sent}
@@ -48,12 +49,4 @@ module _ (settings : SendSettings) (frames : List Planes) (sendable : AreSendabl
       }
 
   pub room_for_end : length frames < 2 ^ 32 → (end : List ℕ) → end ≡ end_sent s frames → HasRoomFor old (end ∷ [])
-  room_for_end small end due =
-      let few = are_few settings (frames_indices s frames) frames (sound_samples s frames sendable) in
-      let old_count : old.datagrams ≡ length (frames_sent s frames) = ap (λ (t : Totals). t.datagrams) is in
-      let old_bytes : old.bytes ≡ bytes_in (frames_sent s frames) = ap (λ (t : Totals). t.bytes) is in
-      let short : length end ≡ 16 = ap length due ∙ end_length s frames in
-      record {
-        count = omega (arith, few.count, old_count, small);
-        bytes = omega (arith, few.bytes, old_bytes, short, small);
-      }
+  room_for_end small end due = grind (arith, common_steps, are_few, sound_samples, end_length)

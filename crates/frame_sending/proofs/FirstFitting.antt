@@ -2,6 +2,7 @@
 use Rattle.std.proofs.Common.{◌≡◌, ℕ, ◌+◌, ◌≤◌, Bool, true, false, cond, List, [], ◌∷◌, length, refl, arith}
 use Rattle.std.specs.Prelude.{nat_lt, unwrap_or}
 use Rattle.std.specs.List.{position, position_or_len}
+use Rattle.std.proofs.lemmas.Bool.{ltb-false}
 use Rattle.std.proofs.lemmas.Bool.Decides.{nat_tests}
 use Rattle.std.proofs.lemmas.List.Recursion.{is_position_or_len}
 
@@ -19,11 +20,8 @@ place_is : {A : Type 0} (p : A → Bool) (xs : List A) → place p xs ≡ positi
 unfolding place
 place_is p xs = is_position_or_len (place p) p refl (λ y ys. refl) xs
 
-not_below : (m n : ℕ) → nat_lt m n ≡ false → n ≤ m
-not_below m n is = grind (arith, nat_tests)
-
 pub place_or_count : {A : Type 0} (p : A → Bool) (xs : List A) → unwrap_or (position p xs) (length xs) ≡ position_or_len p xs
 place_or_count p xs = cases (nat_lt (position_or_len p xs) (length xs)) refl where
   cases : (below : Bool) → nat_lt (position_or_len p xs) (length xs) ≡ below → unwrap_or (position p xs) (length xs) ≡ position_or_len p xs
   cases true is = rw is refl
-  cases false is = rw is (let most = place-le p xs in let own = place_is p xs in let least = not_below (position_or_len p xs) (length xs) is in omega (arith, most, own, least))
+  cases false is = rw is (let most = place-le p xs in let own = place_is p xs in let least = ltb-false (position_or_len p xs) (length xs) is in omega (arith, most, own, least))

@@ -1,5 +1,6 @@
 -- Frames that are read have the sizes of the settings, and a frame has some bytes.
-use Rattle.std.proofs.Common.{◌≡◌, ℕ, List, Option, refl, sym, ap, ◌∙◌, subst}
+use Rattle.std.proofs.Common.{◌≡◌, ℕ, List, Option, sym, ap, ◌∙◌, subst, arith}
+use Rattle.std.proofs.lemmas.Grind.{common_steps}
 use Rattle.frame_sending.specs.FramesSent.{frame_shape}
 use Rattle.frame_reader.specs.FrameBytes.{frame_of_bytes}
 use Rattle.frame_reader.specs.Reading.{GaveFrame}
@@ -11,11 +12,7 @@ use Rattle.vc_types.specs.SequenceHeader.{picture_shape}
 
 of_bytes : (s : Sending) (bytes : List ℕ) → IsFrame s (frame_of_bytes (frame_shape s) bytes)
 unfolding frame_of_bytes picture_shape sent_sequence
-of_bytes s bytes = record {
-  y = record { width = refl; height = refl };
-  c1 = record { width = refl; height = refl };
-  c2 = record { width = refl; height = refl };
-}
+of_bytes s bytes = grind (arith, common_steps)
 
 pub sized : (s : Sending) (shape : Shape) (frame : Planes) (before after : Option (List ℕ)) → shape ≡ frame_shape s → GaveFrame shape before after frame → IsFrame s frame
 sized s shape frame before after is gave = subst (IsFrame s) (sym (gave.frame_is ∙ ap (λ (sh : Shape). frame_of_bytes sh gave.bytes) is)) (of_bytes s gave.bytes)

@@ -1,7 +1,8 @@
 -- How a loop over frames ends where a frame isn't read or isn't sent.
-use Rattle.std.proofs.Common.{◌≡◌, ℕ, ◌+◌, ◌*◌, ◌<◌, ◌≤◌, Bool, true, false, List, [], length, take, Option, Ok, Err, refl, sym, subst, arith, inl, inr}
-use Rattle.std.specs.Prelude.{IsTrue, ◌&&◌, nat_le, Result, if◌then◌else◌}
+use Rattle.std.proofs.Common.{◌≡◌, ℕ, ◌*◌, ◌<◌, ◌≤◌, Bool, true, false, List, [], length, take, Option, Ok, Err, sym, subst, arith, inl, inr}
+use Rattle.std.specs.Prelude.{IsTrue, nat_le, Result, if◌then◌else◌}
 use Rattle.std.proofs.lemmas.Bool.{and_parts, leb-true}
+use Rattle.std.proofs.lemmas.Grind.{common_steps}
 use Rattle.std.proofs.Math.Nat.{le-mul_of_pos_right}
 use Rattle.datagram_outlet.specs.declared.outlet.OutletFault.{OutletFault}
 use Rattle.datagram_outlet.specs.declared.outlet.OutletFault.TheVariants as outlets
@@ -13,7 +14,7 @@ use Rattle.frame_sending.specs.Steps.{FailsAt, Finishes, unread_ending}
 use Rattle.frame_sending.specs.declared.totals.Totals.{Totals}
 use Rattle.frame_sending.proofs.Laws.{OutletLaws}
 use Rattle.frame_sending.proofs.Stopping.{could_not_read, without_memory, cut, refused, unsent, part_sent, all_sent, end_unsent}
-use Rattle.frame_reader.specs.FrameBytes.{frame_length, sample_count}
+use Rattle.frame_reader.specs.FrameBytes.{frame_length}
 use Rattle.frame_reader.specs.Reading.{GaveFrame, ReadsFrame}
 use Rattle.frame_reader.specs.declared.fault.FrameReadFault.{FrameReadFault}
 use Rattle.frame_reader.specs.declared.fault.FrameReadFault.TheVariants as reading
@@ -25,10 +26,8 @@ use Rattle.vc_ports.specs.Changes.{InputChange, HasRisen}
 use Rattle.vc_ports.specs.Reading.{Gave, GaveAll}
 use Rattle.vc_ports.proofs.Given.{Gave-none}
 use Rattle.vc_types.specs.declared.shape.Shape.{Shape}
-use Rattle.vc_types.specs.declared.video.Component.TheVariants.{Y, C1}
-use Rattle.vc_types.specs.Limits.{depth_fits, shape_fits}
+use Rattle.vc_types.specs.Limits.{shape_fits}
 use Rattle.vc_types.specs.Planes.{Planes}
-use Rattle.vc_types.specs.RawFrames.{is_wide}
 use Rattle.vc_types.specs.SenderSettings.{Sending}
 use Rattle.vc_types.specs.Video.{side_fits}
 
@@ -76,15 +75,7 @@ longer true n h = omega (arith, h)
 longer false n h = omega (arith, h)
 
 pub more_than_one_byte : (shape : Shape) → IsTrue (shape_fits shape) → 1 < frame_length shape
-more_than_one_byte shape fits =
-    let five = and_parts (side_fits shape.luma_width && side_fits shape.luma_height && side_fits shape.colour_width && side_fits shape.colour_height && depth_fits shape.luma_depth) (depth_fits shape.colour_depth) fits in
-    let four = and_parts (side_fits shape.luma_width && side_fits shape.luma_height && side_fits shape.colour_width && side_fits shape.colour_height) (depth_fits shape.luma_depth) five.0 in
-    let three = and_parts (side_fits shape.luma_width && side_fits shape.luma_height && side_fits shape.colour_width) (side_fits shape.colour_height) four.0 in
-    let two = and_parts (side_fits shape.luma_width && side_fits shape.luma_height) (side_fits shape.colour_width) three.0 in
-    let one = and_parts (side_fits shape.luma_width) (side_fits shape.luma_height) two.0 in
-    let luma = product shape.luma_width shape.luma_height (some_side shape.luma_width one.0) (some_side shape.luma_height one.1) in
-    let colour = product shape.colour_width shape.colour_height (some_side shape.colour_width two.1) (some_side shape.colour_height three.1) in
-    longer (is_wide shape) (sample_count shape Y + (sample_count shape C1 + sample_count shape C1)) (omega (arith, luma, colour))
+more_than_one_byte shape fits = grind (arith, common_steps, and_parts, product, some_side, longer)
 
 -- ---- causes
 
@@ -97,19 +88,8 @@ not_read_at_end s frames went broke (Ok totals) ends e = cc
 not_read_at_end s frames went broke (Err ending) ends e = let is : ending ≡ endings.InputFailed = cc e in subst (λ (end : Ending). Finishes s frames went broke (Err end)) is ends
 
 pub sends_so : (s : Sending) (most : ℕ) (answer : Result Summary Ending) (input : InputChange) (went : List (List ℕ) → Type 0) (broke : List (List ℕ) → OutletFault → Type 0) → StopsSending s most answer input went broke → (answer ≡ Err endings.InputFailed → HasRisen input.faults) → SendsFrames s most answer input went broke
-sends_so s most answer input went broke stops rose = record {
-  given = stops.given;
-  frames = stops.frames;
-  rest = stops.rest;
-  took = stops.took;
-  holds = stops.holds;
-  ended = stops.ended;
-  input_failed = rose;
-}
+sends_so s most answer input went broke stops rose = grind (arith, common_steps)
 
 -- a byte was asked for, and none came
 pub none_of : (bytes : List ℕ) (n : ℕ) → length bytes ≡ 1 → n < length bytes → take n bytes ≡ []
-none_of bytes n one less = subst (λ (k : ℕ). take k bytes ≡ []) none refl
-  where
-    none : 0 ≡ n
-    none = omega (arith, one, less)
+none_of bytes n one less = grind (arith, common_steps)

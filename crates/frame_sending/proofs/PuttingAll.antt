@@ -1,12 +1,12 @@
 -- Datagrams that are put one after another, and counted.
-use Rattle.std.proofs.Common.{◌≡◌, ℕ, ◌+◌, ◌^◌, ◌<◌, List, [], ◌∷◌, ◌++◌, length, take, drop, ap, sym, ◌∙◌, subst, arith, length-append, take-append-drop}
+use Rattle.std.proofs.Common.{◌≡◌, ℕ, ◌+◌, ◌^◌, ◌<◌, List, [], ◌∷◌, ◌++◌, length, take, drop, ap, sym, ◌∙◌, subst, arith, take-append-drop}
 use Rattle.std.proofs.lemmas.List.{map-append}
 use Rattle.std.proofs.lemmas.List.Sums.{sum_by-append}
+use Rattle.std.proofs.lemmas.Grind.{common_steps}
 use Rattle.datagram_outlet.specs.declared.outlet.OutletFault.{OutletFault}
 use Rattle.link_sender.specs.declared.datagram.Datagram.{Datagram}
 use Rattle.link_sender.specs.Packing.{bytes_of_all}
 use Rattle.frame_sending.specs.Counted.{HasRoomFor, totals_with}
-use Rattle.frame_sending.specs.FramesSent.{bytes_in}
 use Rattle.frame_sending.specs.declared.totals.Totals.{Totals}
 use Rattle.frame_sending.proofs.Laws.{OutletLaws}
 use Rattle.frame_sending.proofs.Numbering.{totals-append}
@@ -27,36 +27,19 @@ module _ (datagrams : List Datagram) (i : ℕ) (one : Datagram) (more : take (i 
     put_more next = subst (carried x z) (sym bytes_more) (laws.more x y z (bytes_of_all (take i datagrams)) (one.bytes.items ∷ []) went next)
 
     pub put_part : (fault : OutletFault) → broke y z (one.bytes.items ∷ []) fault → broke x z (bytes_of_all datagrams) fault
-    put_part fault part =
-        subst (λ (l : List (List ℕ)). broke x z l fault) whole
-        (laws.breaks_before x z (bytes_of_all (take (i + 1) datagrams)) (bytes_of_all (drop (i + 1) datagrams)) fault
-        (subst (λ (l : List (List ℕ)). broke x z l fault) (sym bytes_more) (laws.breaks_then x y z (bytes_of_all (take i datagrams)) (one.bytes.items ∷ []) fault went part)))
+    put_part fault part = grind (arith, common_steps, whole, bytes_more)
 
   -- ---- their counts
 
   pub total_more : (old now new : Totals) → now ≡ totals_with old (bytes_of_all (take i datagrams)) → new ≡ totals_with now (one.bytes.items ∷ []) → new ≡ totals_with old (bytes_of_all (take (i + 1) datagrams))
-  total_more old now new is step =
-      step
-      ∙ ap (λ (t : Totals). totals_with t (one.bytes.items ∷ [])) is
-      ∙ totals-append old (bytes_of_all (take i datagrams)) (one.bytes.items ∷ [])
-      ∙ ap (totals_with old) (sym bytes_more)
+  total_more old now new is step = grind (arith, common_steps, totals-append, bytes_more)
 
   parted : bytes_of_all datagrams ≡ (bytes_of_all (take i datagrams) ++ one.bytes.items ∷ []) ++ bytes_of_all (drop (i + 1) datagrams)
   parted = sym whole ∙ ap (λ (l : List (List ℕ)). l ++ bytes_of_all (drop (i + 1) datagrams)) bytes_more
 
   module _ (old now : Totals) (is : now ≡ totals_with old (bytes_of_all (take i datagrams))) (room : HasRoomFor old (bytes_of_all datagrams)) where
     pub room_for_count : now.datagrams + 1 < 2 ^ 64
-    room_for_count =
-        let front = bytes_of_all (take i datagrams) in
-        let back = bytes_of_all (drop (i + 1) datagrams) in
-        let counted : now.datagrams ≡ old.datagrams + length front = ap (λ (t : Totals). t.datagrams) is in
-        let long : length (bytes_of_all datagrams) ≡ length ((front ++ one.bytes.items ∷ []) ++ back) = ap length parted in
-        omega (arith, counted, long, length-append (front ++ one.bytes.items ∷ []) back, length-append front (one.bytes.items ∷ []), room.count)
+    room_for_count = grind (arith, common_steps, parted)
 
     pub room_for_bytes : now.bytes + length one.bytes.items < 2 ^ 64
-    room_for_bytes =
-        let front = bytes_of_all (take i datagrams) in
-        let back = bytes_of_all (drop (i + 1) datagrams) in
-        let counted : now.bytes ≡ old.bytes + bytes_in front = ap (λ (t : Totals). t.bytes) is in
-        let sum : bytes_in (bytes_of_all datagrams) ≡ bytes_in ((front ++ one.bytes.items ∷ []) ++ back) = ap bytes_in parted in
-        omega (arith, counted, sum, sum_by-append length (front ++ one.bytes.items ∷ []) back, sum_by-append length front (one.bytes.items ∷ []), room.bytes)
+    room_for_bytes = grind (arith, common_steps, parted, sum_by-append)

@@ -1,5 +1,5 @@
 -- The datagrams of frames, and those of one frame more.
-use Rattle.std.proofs.Common.{◌≡◌, ℕ, suc, ◌+◌, ◌*◌, Bool, true, false, List, [], ◌∷◌, ◌++◌, length, take, drop, map, arith, refl, ap, sym, ◌∙◌, append_assoc, append-nil}
+use Rattle.std.proofs.Common.{◌≡◌, ℕ, suc, ◌+◌, ◌*◌, List, [], ◌∷◌, ◌++◌, length, take, drop, map, arith, refl, ap, sym, ◌∙◌, append_assoc, append-nil}
 use Rattle.std.specs.List.{flat_map, enumerate_from}
 use Rattle.std.proofs.Math.Seq.{take-append_seam, drop-append_seam, take-length}
 use Rattle.std.proofs.lemmas.Grind.{common_steps}
@@ -92,10 +92,7 @@ datagrams-append s a (o ∷ os) others = grind (arith, datagrams-cons, datagrams
 
 length-pictures : (s : Sending) (frame : Planes) → length (pictures_of s frame) ≡ pictures_per_frame s
 unfolding pictures_of
-length-pictures s frame = cases s.frames.fields refl where
-  cases : (fields : Bool) → s.frames.fields ≡ fields → length (pictures_of s frame) ≡ pictures_per_frame s
-  cases true is = rw is refl
-  cases false is = rw is refl
+length-pictures s frame = grind (arith, common_steps)
 
 pub length-all_pictures : (s : Sending) (frames : List Planes) → length (flat_map (pictures_of s) frames) ≡ length frames * pictures_per_frame s
 length-all_pictures s [] = omega arith
@@ -119,13 +116,7 @@ outgoing-more : (s : Sending) (frames : List Planes) (frame : Planes)
     ++ pictures_outgoing s (length frames * pictures_per_frame s) (frame_indices s frame) (pictures_of s frame)
 unfolding frames_indices
 outgoing-more s frames frame =
-    ap (λ (l : List Planes). pictures_outgoing s 0 (chosen s l) l) (pictures-append s frames frame)
-    ∙ ap (λ (l : List ℕ). pictures_outgoing s 0 l (all_pictures s frames ++ pictures_of s frame)) (flat_map-append (chosen_indices s) (all_pictures s frames) (pictures_of s frame))
-    ∙ pictures-more s 0 (all_pictures s frames) (pictures_of s frame) (frame_indices s frame)
-    ∙ ap (λ (n : ℕ). pictures_outgoing s 0 (chosen s (all_pictures s frames)) (all_pictures s frames) ++ pictures_outgoing s n (frame_indices s frame) (pictures_of s frame)) same
-  where
-    same : 0 + length (all_pictures s frames) ≡ length frames * pictures_per_frame s
-    same = omega (arith, length-all_pictures s frames)
+    grind (arith, common_steps, pictures-append, flat_map-append, pictures-more, length-all_pictures)
 
 -- how many datagrams frames have
 pub length-frames_sent : (s : Sending) (frames : List Planes) → length (frames_sent s frames) ≡ length (frames_outgoing s (frames_indices s frames) frames)
@@ -137,6 +128,4 @@ pub frames_sent-more : (s : Sending) (frames : List Planes) (frame : Planes)
     → frames_sent s (frames ++ frame ∷ []) ≡ frames_sent s frames ++ frame_datagrams s (length frames) (s.seq + length (frames_sent s frames)) (frame_indices s frame) frame
 unfolding sent_datagrams frame_datagrams
 frames_sent-more s frames frame =
-    ap (datagrams_from s s.seq) (outgoing-more s frames frame)
-    ∙ datagrams-append s s.seq (frames_outgoing s (frames_indices s frames) frames) (pictures_outgoing s (length frames * pictures_per_frame s) (frame_indices s frame) (pictures_of s frame))
-    ∙ ap (λ (n : ℕ). datagrams_from s s.seq (frames_outgoing s (frames_indices s frames) frames) ++ datagrams_from s (s.seq + n) (pictures_outgoing s (length frames * pictures_per_frame s) (frame_indices s frame) (pictures_of s frame))) (sym (length-frames_sent s frames))
+    grind (arith, common_steps, outgoing-more, datagrams-append, length-frames_sent)

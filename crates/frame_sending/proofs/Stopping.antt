@@ -2,6 +2,7 @@
 use Rattle.std.proofs.Common.{◌≡◌, ℕ, ◌<◌, ◌≤◌, List, [], ◌∷◌, ◌++◌, length, Option, Some, None, Ok, Err, refl, sym, subst, arith, inl, inr, append-nil, length-append}
 use Rattle.std.specs.Prelude.{Result, ◌⊎◌}
 use Rattle.std.proofs.lemmas.List.Elements.{All-nil, All-cons, All-append}
+use Rattle.std.proofs.lemmas.Grind.{common_steps}
 use Rattle.datagram_outlet.specs.declared.outlet.OutletFault.{OutletFault}
 use Rattle.datagram_outlet.specs.declared.outlet.OutletFault.TheVariants as outlets
 use Rattle.frame_reader.specs.FrameBytes.{frame_length}
@@ -11,7 +12,7 @@ use Rattle.frame_reader.proofs.Holding.{hold_none, hold_more, hold_rest}
 use Rattle.frame_sending.specs.Counted.{sent_answer}
 use Rattle.frame_sending.specs.FramesSent.{AreSendable, frame_fault, frame_shape, frames_sent, stream_sent}
 use Rattle.frame_sending.specs.Looping.{HasSent, end_sent, StopsSending, next_sent, refused_ending}
-use Rattle.frame_sending.specs.Sends.{CouldNotSendAll, SendEnded}
+use Rattle.frame_sending.specs.Sends.{CouldNotSendAll, SendEnded, EndsWithRefusedFrame}
 use Rattle.frame_sending.specs.Steps.{IsFinished, put_ending}
 use Rattle.frame_sending.specs.declared.totals.Totals.{Totals}
 use Rattle.frame_sending.proofs.Laws.{OutletLaws, still_carried}
@@ -24,7 +25,7 @@ use Rattle.link_report.specs.declared.ending.Ending.TheVariants.{InputFailed, No
 use Rattle.link_report.specs.declared.summary.Summary.{Summary}
 use Rattle.vc_ports.specs.Changes.{InputChange}
 use Rattle.vc_ports.specs.Reading.{Gave, GaveAll}
-use Rattle.vc_ports.proofs.Given.{Gave-none, Gave-then}
+use Rattle.vc_ports.proofs.Given.{Gave-then}
 use Rattle.vc_types.specs.Planes.{Planes}
 use Rattle.vc_types.specs.SenderSettings.{Sending}
 
@@ -44,13 +45,7 @@ sendable_with s frames frame sendable sound =
 
 module _ {X : Type 0} {carried : X → X → List (List ℕ) → Type 0} {broke : X → X → List (List ℕ) → OutletFault → Type 0} (laws : OutletLaws carried broke) (s : Sending) where
   pub begun : (left : Option (List ℕ)) (x : X) → 0 < frame_length (frame_shape s) → HasSent s [] left left (carried x x)
-  begun left x some = record {
-    given = [];
-    gave = Gave-none left;
-    holds = hold_none (frame_shape s) some;
-    sendable = All-nil (λ frame. frame_fault s frame ≡ None);
-    sent = subst (carried x x) (sym (none_sent s)) (laws.none x);
-  }
+  begun left x some = grind (arith, common_steps, hold_none, All-nil, none_sent)
 
   module _ (frames : List Planes) (before mid : Option (List ℕ)) (x y : X) (sent : HasSent s frames before mid (carried x y)) where
     -- ---- a frame more
@@ -66,13 +61,8 @@ module _ {X : Type 0} {carried : X → X → List (List ℕ) → Type 0} {broke 
       holds_more = subst (λ (f : Planes). HoldFrames (frame_shape s) (sent.given ++ gave.bytes) (frames ++ f ∷ []) []) (sym gave.frame_is) (hold_more (frame_shape s) sent.given frames sent.holds gave.bytes gave.whole)
 
       pub with_frame : (z : X) → frame_fault s frame ≡ None → carried y z (next_sent s frames frame) → HasSent s longer before after (carried x z)
-      with_frame z sound went = record {
-        given = sent.given ++ gave.bytes;
-        gave = all_given;
-        holds = holds_more;
-        sendable = sendable_with s frames frame sent.sendable sound;
-        sent = subst (carried x z) (sym (frames_sent-more s frames frame)) (laws.more x y z (frames_sent s frames) (next_sent s frames frame) sent.sent went);
-      }
+      with_frame z sound went =
+          grind (arith, common_steps, all_given, holds_more, sendable_with, frames_sent-more)
 
   -- ---- the ends
 
@@ -146,16 +136,7 @@ module _ {X : Type 0} {carried : X → X → List (List ℕ) → Type 0} {broke 
     module _ (gave : GaveAll mid input.left.after []) (few : length frames ≤ most) where
       -- all went out
       pub all_sent : (totals : Totals) → IsFinished s frames (carried y z) totals → Stops (sent_answer (Ok totals))
-      all_sent totals finished = stopped (sent_answer (Ok totals)) [] some_length gave.gave (record {
-        sendable = sent.sendable;
-        few = few;
-        no_rest = refl;
-        ended = gave.at_end;
-        sent = subst (carried x z) (sym (stream_is s frames)) (laws.more x y z (frames_sent s frames) (end_sent s frames ∷ []) sent.sent finished.sent);
-        frames_are = finished.frames_are;
-        datagrams_are = finished.datagrams_are;
-        bytes_are = finished.bytes_are;
-      })
+      all_sent totals finished = grind (arith, common_steps, stopped, some_length, stream_is)
 
       -- the end didn't
       pub end_unsent : (fault : OutletFault) → broke y z (end_sent s frames ∷ []) fault → Stops (Err (put_ending fault))
@@ -185,51 +166,33 @@ module _ {X : Type 0} {carried : X → X → List (List ℕ) → Type 0} {broke 
         ended = ended;
       }
 
+      ends_refused : (fault : SendFault) → frame_fault s frame ≡ Some fault → carried y z []
+          → EndsWithRefusedFrame s most (carried x z) with_last [] fault
+      ends_refused fault is nothing = record {
+        others = frames;
+        last = frame;
+        frames_are = refl;
+        few = few_more;
+        sendable = sent.sendable;
+        refused = is;
+        no_rest = refl;
+        sent = all_went nothing;
+      }
+
       -- it is refused
       pub refused : (fault : SendFault) → frame_fault s frame ≡ Some fault → carried y z [] → Stops (Err (refused_ending fault))
-      refused (faults.SampleRange plane place value) is nothing = stopped_after (Err (SampleTooLarge place plane value)) (record {
-        others = frames;
-        last = frame;
-        frames_are = refl;
-        few = few_more;
-        sendable = sent.sendable;
-        refused = is;
-        no_rest = refl;
-        sent = all_went nothing;
-      })
-      refused (faults.SliceTooLarge slice bytes) is nothing = stopped_after (Err (SliceTooLarge slice bytes)) (record {
-        others = frames;
-        last = frame;
-        frames_are = refl;
-        few = few_more;
-        sendable = sent.sendable;
-        refused = is;
-        no_rest = refl;
-        sent = all_went nothing;
-      })
+      refused (faults.SampleRange plane place value) is nothing =
+          stopped_after (Err (SampleTooLarge place plane value))
+          (ends_refused (faults.SampleRange plane place value) is nothing)
+      refused (faults.SliceTooLarge slice bytes) is nothing =
+          stopped_after (Err (SliceTooLarge slice bytes))
+          (ends_refused (faults.SliceTooLarge slice bytes) is nothing)
 
       -- there is no memory for it
       pub unsent : carried y z [] → Stops (Err NoMemory)
-      unsent nothing = stopped_after (Err NoMemory) (inl (record {
-        few = few_more;
-        others = frames;
-        unsent = frame ∷ [];
-        frames_are = refl;
-        last = omega arith;
-        sendable = sent.sendable;
-        no_rest = refl;
-        sent = all_went nothing;
-      }))
+      unsent nothing = grind (arith, common_steps, stopped_after, few_more, all_went)
 
       -- a datagram of it didn't go out
       pub part_sent : (fault : OutletFault) → frame_fault s frame ≡ None → broke y z (next_sent s frames frame) fault → Stops (Err (put_ending fault))
-      part_sent fault sound part = stopped_after (Err (put_ending fault)) (broken fault with_last (record {
-        sendable = sendable_with s frames frame sent.sendable sound;
-        few = few_more;
-        no_rest = refl;
-        part_sent =
-            subst (λ (l : List (List ℕ)). broke x z l fault) (sym (stream_is s with_last))
-            (laws.breaks_before x z (frames_sent s with_last) (end_sent s with_last ∷ []) fault
-            (subst (λ (l : List (List ℕ)). broke x z l fault) (sym (frames_sent-more s frames frame))
-            (laws.breaks_then x y z (frames_sent s frames) (next_sent s frames frame) fault sent.sent part)));
-      }))
+      part_sent fault sound part =
+          grind (arith, common_steps, stopped_after, broken, sendable_with, few_more, stream_is, frames_sent-more)

@@ -1,10 +1,11 @@
 -- What a sender answers on a frame, and at the end, as what is due behind the frames before.
-use Rattle.std.proofs.Common.{◌≡◌, ℕ, ◌+◌, ◌-◌, ◌*◌, ◌%◌, ◌^◌, ◌<◌, false, List, [], ◌∷◌, ◌++◌, length, get_or, None, Err, refl, ap, sym, ◌∙◌, inl, inr, subst, arith, length-append}
+use Rattle.std.proofs.Common.{◌≡◌, ℕ, ◌+◌, ◌-◌, ◌*◌, ◌%◌, ◌^◌, ◌<◌, false, List, [], ◌∷◌, ◌++◌, length, get_or, None, Err, refl, ap, sym, ◌∙◌, inl, inr, arith}
 use Rattle.std.proofs.lemmas.List.Sums.{sum_by-append}
 use Rattle.std.proofs.lemmas.List.{length-map}
+use Rattle.std.proofs.lemmas.Grind.{common_steps}
 use Rattle.datagram_outlet.specs.declared.outlet.OutletFault.{OutletFault}
 use Rattle.datagram_outlet.specs.declared.outlet.OutletFault.TheVariants as outlets
-use Rattle.frame_sending.specs.FramesSent.{bytes_in, frame_fault, frame_indices, frames_sent, stream_sent}
+use Rattle.frame_sending.specs.FramesSent.{frame_fault, frame_indices, frames_sent}
 use Rattle.frame_sending.specs.Looping.{end_sent, next_sent}
 use Rattle.frame_sending.specs.Counted.{totals_of, totals_with}
 use Rattle.frame_sending.specs.Steps.{FailsAt, Finishes, IsFinished, numbers_after, put_ending, refusal_ending}
@@ -14,7 +15,7 @@ use Rattle.frame_sending.proofs.Numbering.{numbers_more}
 use Rattle.frame_sending.proofs.SentMore.{length-frames_sent}
 use Rattle.frame_sending.proofs.Stopping.{stream_is}
 use Rattle.link_model.specs.Packets.{End, rtp_header}
-use Rattle.link_model.specs.Sending.{EndContent, datagrams_from, end_datagram, frame_datagrams, frames_indices, frames_outgoing, high_half, last_datagram, outgoing, pictures_outgoing, pictures_of, pictures_per_frame, sent_datagram, sent_packet, sent_value, timestamp_of}
+use Rattle.link_model.specs.Sending.{EndContent, datagrams_from, end_datagram, frame_datagrams, frames_indices, frames_outgoing, high_half, last_datagram, outgoing, pictures_per_frame, sent_datagram, sent_packet, sent_value, timestamp_of}
 use Rattle.link_model.specs.SendingFaults.{send_fault}
 use Rattle.link_model.specs.SendingPictures.{Need, chosen_index, wants_lengths}
 use Rattle.link_sender.proofs.Numbered.{wrapped}
@@ -38,19 +39,10 @@ module _ (s : Sending) (answers : Need → ℕ → Type 0) (as_chosen : (need : 
 
     same_numbers : frame_datagrams s (numbers_after s frames).frame (numbers_after s frames).number (frame_indices s frame) frame ≡ next_sent s frames frame
     unfolding frame_datagrams
-    same_numbers =
-        let own : length frames % 2 ^ 32 ≡ length frames = omega (arith, small) in
-        let number = s.seq + length (frames_sent s frames) in
-        let wraps : number % 2 ^ 32 % 2 ^ 32 ≡ number % 2 ^ 32 = omega arith in
-        ap (λ (f : ℕ). datagrams_from s (number % 2 ^ 32) (pictures_outgoing s (f * pictures_per_frame s) (frame_indices s frame) (pictures_of s frame))) own
-        ∙ wrapped s (number % 2 ^ 32) number (pictures_outgoing s (length frames * pictures_per_frame s) (frame_indices s frame) (pictures_of s frame)) wraps
+    same_numbers = grind (arith, common_steps, wrapped)
 
     pub datagrams_are : bytes_of_all datagrams ≡ next_sent s frames frame
-    datagrams_are =
-        sent.datagrams_are
-        ∙ ap (λ (l : List ℕ). frame_datagrams s old.frame old.number l frame) indices_are
-        ∙ ap (λ (n : Numbers). frame_datagrams s n.frame n.number (frame_indices s frame) frame) is
-        ∙ same_numbers
+    datagrams_are = grind (arith, common_steps, indices_are, same_numbers)
 
     pub numbers_are : new ≡ numbers_after s (frames ++ frame ∷ [])
     numbers_are =
@@ -106,24 +98,9 @@ end_is s frames old is =
 
 -- the end went out, and the totals are those of all
 pub finished_with : (s : Sending) (frames : List Planes) (went : List (List ℕ) → Type 0) (old new : Totals) (end : List ℕ) → old ≡ totals_of s frames → new ≡ totals_with old (end ∷ []) → end ≡ end_sent s frames → went (end ∷ []) → IsFinished s frames went new
-finished_with s frames went old new end is step same sent = record {
-  sent = subst (λ (e : List ℕ). went (e ∷ [])) same sent;
-  frames_are = ap (λ (t : Totals). t.frames) all;
-  datagrams_are = ap (λ (t : Totals). t.datagrams) all ∙ sym (ap length whole ∙ length-append (frames_sent s frames) (end ∷ []));
-  bytes_are = ap (λ (t : Totals). t.bytes) all ∙ sym (ap bytes_in whole ∙ sum_by-append length (frames_sent s frames) (end ∷ []));
-}
-  where
-    all : new ≡ totals_with (totals_of s frames) (end ∷ [])
-    all = step ∙ ap (λ (t : Totals). totals_with t (end ∷ [])) is
-
-    whole : stream_sent s frames ≡ frames_sent s frames ++ end ∷ []
-    whole = stream_is s frames ∙ ap (λ (e : List ℕ). frames_sent s frames ++ e ∷ []) (sym same)
+finished_with s frames went old new end is step same sent =
+    grind (arith, common_steps, datagrams_are, sum_by-append, stream_is)
 
 -- or it didn't
 pub finished_in_part : (s : Sending) (frames : List Planes) (went : List (List ℕ) → Type 0) (broke : List (List ℕ) → OutletFault → Type 0) (fault : OutletFault) (end : List ℕ) → end ≡ end_sent s frames → broke (end ∷ []) fault → Finishes s frames went broke (Err (put_ending fault))
-finished_in_part s frames went broke fault end same part = by_fault fault (subst (λ (e : List ℕ). broke (e ∷ []) fault) same part)
-  where
-    by_fault : (f : OutletFault) → broke (end_sent s frames ∷ []) f → Finishes s frames went broke (Err (put_ending f))
-    by_fault outlets.NoMemory p = inr p
-    by_fault outlets.Output p = p
-    by_fault outlets.Wire p = p
+finished_in_part s frames went broke fault end same part = grind (arith, common_steps)

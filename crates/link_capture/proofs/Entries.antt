@@ -13,7 +13,7 @@ abbrev then : List ℕ → List (List ℕ) × List ℕ → List (List ℕ) × Li
 then datagram behind = (datagram ∷ behind.0, behind.1)
 
 -- bytes that begin with no whole entry have none
-within-part : (most : ℕ) (bytes : List ℕ) → first_entry bytes ≡ None → entries_within most bytes ≡ ([], bytes)
+pub within-part : (most : ℕ) (bytes : List ℕ) → first_entry bytes ≡ None → entries_within most bytes ≡ ([], bytes)
 unfolding entries_within
 within-part zero bytes part = refl
 within-part (suc most) bytes part = rw part refl

@@ -1,5 +1,5 @@
 -- Generated frames, one behind the other.
-use Rattle.std.proofs.Common.{◌≡◌, ℕ, zero, suc, ◌+◌, ◌*◌, ◌-◌, List, [], ◌∷◌, ◌++◌, length, refl, sym, ap, subst, ◌∙◌, add-one, arith}
+use Rattle.std.proofs.Common.{◌≡◌, ℕ, zero, suc, ◌+◌, ◌*◌, List, [], ◌∷◌, ◌++◌, length, refl, sym, ap, ◌∙◌, add-one, arith}
 use Rattle.std.proofs.Math.Nat.{suc-mul}
 use Rattle.link_gen.proofs.States.{behind_more}
 use Rattle.link_gen.specs.Generator.{state_behind, frame_samples, generated_frame, generated_frames, generated_plane, plane_behind, plane_samples}

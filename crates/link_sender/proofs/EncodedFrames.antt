@@ -1,6 +1,5 @@
 -- What encoding the pictures of a frame needs and gives.
-use Rattle.std.proofs.Common.{◌≡◌, ℕ, Bool, true, false, List, [], ◌∷◌, None, sym, ap, subst}
-use Rattle.field_pairs.specs.Sizes.{HaveEvenHeights}
+use Rattle.std.proofs.Common.{◌≡◌, Bool, true, false, List, [], ◌∷◌, None, sym, subst}
 use Rattle.link_model.specs.Sending.{pictures_of}
 use Rattle.link_model.specs.SendingFaults.{first_sample_fault}
 use Rattle.link_model.specs.SendingPictures.{IsFrame, sent_parameters}

@@ -1,5 +1,5 @@
 -- The pictures of a frame, encoded one after another, and what is sent of them.
-use Rattle.std.proofs.Common.{◌≡◌, ℕ, ◌+◌, ◌*◌, ◌<◌, ◌≤◌, Bool, true, false, List, [], ◌∷◌, ◌++◌, length, map, take, drop, Option, Some, None, refl, sym, ap, subst, ◌∙◌, arith, append_assoc}
+use Rattle.std.proofs.Common.{◌≡◌, ℕ, ◌+◌, ◌*◌, ◌≤◌, Bool, List, [], ◌∷◌, ◌++◌, length, map, take, drop, Option, None, refl, sym, ap, subst, ◌∙◌, arith, append_assoc}
 use Rattle.std.specs.Prelude.{All}
 use Rattle.std.specs.List.{AllZip, enumerate_from, flat_map, range_with_len}
 use Rattle.std.specs.Option.{option_or}
@@ -9,8 +9,8 @@ use Rattle.std.proofs.lemmas.List.Elements.{All-nil, All-cons}
 use Rattle.std.proofs.lemmas.List.FromFn.{length-map-range_with_len, take-map-range_with_len}
 use Rattle.std.proofs.lemmas.Slice.Zip.{AllZip-long}
 use Rattle.std.proofs.Math.Seq.{take-append_seam, drop-append_seam}
+use Rattle.std.proofs.lemmas.Grind.{common_steps}
 use Rattle.link_model.specs.Sending.{Outgoing, datagrams_from, frame_datagrams, frame_needs, picture_outgoing, pictures_of, pictures_outgoing, pictures_per_frame}
-use Rattle.link_model.specs.SendingFaults as faults
 use Rattle.link_model.specs.SendingFaults.{SendFault, first_of_slices, first_sample_fault, first_slice_fault, send_fault}
 use Rattle.link_model.specs.SendingPictures.{Need, need_of, picture_needs, sent_parameters, sent_slice, sent_slices}
 use Rattle.link_sender.specs.declared.datagram.Datagram.{Datagram}
@@ -162,10 +162,7 @@ module _ (choice : Chooses) (wanted : Bool) (s : Sending) where
   count_is = refl
 
   pub is_picture : (planes : Planes) (slices : List EncodedSlice) → AreFirstSlices choice wanted s planes count slices → IsPicture s slices
-  is_picture planes slices first = record {
-    count = sym (length-map slices (λ (e : EncodedSlice). e.index)) ∙ how_many planes count (indices_of slices) first.answers ∙ count_is;
-    sized = first.sized;
-  }
+  is_picture planes slices first = grind (arith, common_steps, length-map, how_many, count_is)
 
   each_picture : (pictures : List Planes) (coded : List (List EncodedSlice)) → AreEncoded choice wanted s pictures coded → All (IsPicture s) coded
   each_picture [] [] are = All-nil (IsPicture s)
@@ -175,11 +172,7 @@ module _ (choice : Chooses) (wanted : Bool) (s : Sending) where
 
   how_many_pictures : (frame : Planes) → length (pictures_of s frame) ≡ pictures_per_frame s
   unfolding pictures_of
-  how_many_pictures frame = by_fields s.frames.fields refl
-    where
-      by_fields : (b : Bool) → s.frames.fields ≡ b → length (pictures_of s frame) ≡ pictures_per_frame s
-      by_fields true is = rw is refl
-      by_fields false is = rw is refl
+  how_many_pictures frame = grind (arith, common_steps)
 
   module _ (frame : Planes) (coded : FrameSlices) (are : AreEncoded choice wanted s (pictures_of s frame) (slices_by_picture coded)) where
     pub are_pictures : ArePictures s coded
@@ -192,15 +185,7 @@ module _ (choice : Chooses) (wanted : Bool) (s : Sending) where
         → bytes_of_all datagrams ≡ datagrams_from s old.number (coded_frame_outgoing s old.frame coded)
         → new ≡ numbers_behind s old (length datagrams) → IsSent choice wanted s frame old new datagrams
     unfolding frame_needs frame_datagrams send_fault
-    is_sent old new datagrams samples sent behind =
-        let all = all_answered (pictures_of s frame) (slices_by_picture coded) are in
-        record {
-          indices = all.indices;
-          answers = all.answers;
-          sound = none_rest (first_sample_fault s frame) (first_slice_fault s all.indices (pictures_of s frame)) samples all.fit;
-          datagrams_are = sent ∙ ap (datagrams_from s old.number) (all.outgoing_are (old.frame * pictures_per_frame s));
-          numbers_are = behind;
-        }
+    is_sent old new datagrams samples sent behind = grind (arith, common_steps, all_answered, none_rest)
 
   -- ---- a frame that is refused
 
@@ -210,16 +195,7 @@ module _ (choice : Chooses) (wanted : Bool) (s : Sending) where
 
   pub slices_refuse : (frame : Planes) (e : SliceRefusal) → first_sample_fault s frame ≡ None → OneIsTooLarge choice wanted s (pictures_of s frame) e → IsRefused choice wanted s frame (of_slices e)
   unfolding frame_needs send_fault
-  slices_refuse frame e samples is =
-      let slices = first_slice_fault s is.indices (pictures_of s frame) in
-      record {
-        asked = is.asked;
-        rest = is.rest;
-        indices = is.indices;
-        needs = is.needs;
-        answers = is.answers;
-        fault = says_rest (first_sample_fault s frame) slices (of_slices e) samples (said slices e is.fault);
-      }
+  slices_refuse frame e samples is = grind (arith, common_steps, says_rest, said)
 
   pub samples_refuse : (frame : Planes) (e : SendRefusal) → SaysFault (first_sample_fault s frame) e → IsRefused choice wanted s frame e
   unfolding send_fault

@@ -1,10 +1,10 @@
 mod Places
-mod Outside
+pub mod Outside
 mod SampleFaults
 pub mod Numbered
 pub mod Packed
 mod Frames
 mod FramePictures
 mod EncodedFrames
-mod PutPictures
+pub mod PutPictures
 pub mod PayloadLengths

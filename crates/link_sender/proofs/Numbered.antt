@@ -1,7 +1,8 @@
 -- Datagrams one behind another, and sequence numbers that wrap.
-use Rattle.std.proofs.Common.{◌≡◌, ℕ, suc, ◌+◌, ◌*◌, ◌/◌, ◌%◌, ◌^◌, ◌<◌, Bool, List, [], ◌∷◌, ◌++◌, length, map, Result, Ok, Err, refl, sym, ap, ◌∙◌, arith, append_assoc}
+use Rattle.std.proofs.Common.{◌≡◌, ℕ, suc, ◌+◌, ◌/◌, ◌%◌, ◌^◌, ◌<◌, Bool, List, [], ◌∷◌, ◌++◌, length, Result, Ok, Err, refl, sym, ap, ◌∙◌, arith}
 use Rattle.std.specs.Prelude.{OnOk}
 use Rattle.std.proofs.lemmas.List.{append-nil, length-append}
+use Rattle.std.proofs.lemmas.Grind.{common_steps}
 use Rattle.link_model.specs.Packets.{PayloadValue, Header, End, Params, FragmentHead, payload_bytes, rtp_header}
 use Rattle.link_model.specs.Sending.{Outgoing, DatagramContent, HeaderContent, ParametersContent, SlicesContent, EndContent, outgoing, content_value, datagrams_from, flags_byte, has_marker, high_half, number_bits, run_value, sent_datagram, sent_packet, sent_value, timestamp_of}
 use Rattle.link_model.specs.SendingPictures.{sent_header, sent_parameter_bytes}
@@ -67,18 +68,7 @@ module _ (s : Sending) where
   sends_none x small = record { datagrams_are = sym (append-nil (bytes_of_all x.datagrams.items)); number_is = omega (arith, small) }
 
   pub sends_more : (a b : List Outgoing) (x y z : Outbox) → Sends s a x y → Sends s b y z → Sends s (a ++ b) x z
-  sends_more a b x y z first second =
-      let long = length-append a b in
-      let number : y.number % 2 ^ 32 ≡ (x.number + length a) % 2 ^ 32 = omega (arith, first.number_is) in
-      record {
-        datagrams_are =
-            second.datagrams_are
-            ∙ ap (λ l. l ++ datagrams_from s y.number b) first.datagrams_are
-            ∙ append_assoc (bytes_of_all x.datagrams.items) (datagrams_from s x.number a) (datagrams_from s y.number b)
-            ∙ ap (λ l. bytes_of_all x.datagrams.items ++ (datagrams_from s x.number a ++ l)) (wrapped y.number (x.number + length a) b number)
-            ∙ ap (λ l. bytes_of_all x.datagrams.items ++ l) (sym (appended x.number a b));
-        number_is = omega (arith, first.number_is, second.number_is, long);
-      }
+  sends_more a b x y z first second = grind (arith, common_steps, length-append, wrapped, appended)
 
   one_datagram : (n picture : ℕ) (c : DatagramContent) → datagrams_from s n (outgoing picture c ∷ []) ≡ datagram_with s n (timestamp_of s picture) (has_marker s c) (content_value s n picture c) ∷ []
   unfolding datagrams_from sent_datagram sent_packet sent_value rtp_header
@@ -87,13 +77,7 @@ module _ (s : Sending) where
   pub sends_one : (picture : ℕ) (c : DatagramContent) (x y : Outbox) (marker : Bool) (value : PayloadValue) → marker ≡ has_marker s c → value ≡ content_value s x.number picture c
       → bytes_of_all y.datagrams.items ≡ bytes_of_all x.datagrams.items ++ datagram_with s x.number (timestamp_of s picture) marker value ∷ []
       → y.number ≡ (x.number + 1) % 2 ^ 32 → Sends s (outgoing picture c ∷ []) x y
-  sends_one picture c x y marker value marked carried put number = record {
-    datagrams_are =
-        put
-        ∙ (λ i. bytes_of_all x.datagrams.items ++ datagram_with s x.number (timestamp_of s picture) (marked i) (carried i) ∷ [])
-        ∙ ap (λ l. bytes_of_all x.datagrams.items ++ l) (sym (one_datagram x.number picture c));
-    number_is = number;
-  }
+  sends_one picture c x y marker value marked carried put number = grind (arith, common_steps, one_datagram)
 
 -- two clauses on what is answered make a third
 pub both_ok : {A E P Q R : Type 0} (r : Result A E) → OnOk r P → OnOk r Q → (P → Q → R) → OnOk r R

@@ -1,10 +1,10 @@
 -- Slices that are packed into runs one after another.
-use Rattle.std.proofs.Common.{◌≡◌, ℕ, zero, suc, ◌+◌, ◌-◌, ◌*◌, ◌%◌, ◌^◌, ◌<◌, ◌≤◌, Bool, true, false, cond, List, [], ◌∷◌, ◌++◌, length, map, refl, sym, ap, subst, ◌∙◌, arith, append_assoc}
-use Rattle.std.specs.Prelude.{nat_le}
+use Rattle.std.proofs.Common.{◌≡◌, ℕ, zero, suc, ◌+◌, ◌^◌, ◌<◌, ◌≤◌, List, [], ◌∷◌, ◌++◌, length, map, refl, sym, ap, subst, ◌∙◌, arith, append_assoc}
 use Rattle.std.proofs.lemmas.Bool.Decides.{nat_tests}
 use Rattle.std.proofs.lemmas.List.{append-nil, length-append, map-append}
+use Rattle.std.proofs.lemmas.Grind.{common_steps}
 use Rattle.link_model.specs.Kept.{SliceRun}
-use Rattle.link_model.specs.Sending.{Outgoing, SlicesContent, has_room, outgoing, run_end, run_of_one, run_with, runs_from, runs_of_slices}
+use Rattle.link_model.specs.Sending.{Outgoing, SlicesContent, outgoing, run_end, run_of_one, run_with, runs_from, runs_of_slices}
 use Rattle.link_model.specs.SendingPictures.{slice_room}
 use Rattle.link_sender.specs.declared.outbox.Outbox.{Outbox}
 use Rattle.link_sender.specs.declared.runs.OpenRun.{OpenRun}
@@ -19,22 +19,14 @@ pub joined_more : (parts : List (List ℕ)) (part : List ℕ) → joined (parts 
 joined_more [] part = append-nil part
 joined_more (first ∷ parts) part = ap (λ l. first ++ l) (joined_more parts part) ∙ sym (append_assoc first (joined parts) part)
 
-at_most : (a b : ℕ) → a ≤ b → nat_le a b ≡ true
-at_most a b h = grind (arith, nat_tests)
-
-more_than : (a b : ℕ) → b < a → nat_le a b ≡ false
-more_than a b h = grind (arith, nat_tests)
-
 module _ (room : ℕ) (run : SliceRun) (slice : List ℕ) (slices : List (List ℕ)) where
-  chosen : (b : Bool) → has_room room run slice ≡ b → runs_from room run (slice ∷ slices) ≡ cond b (runs_from room (run_with run slice) slices) (run ∷ runs_from room (run_of_one (run_end run) slice) slices)
-  unfolding runs_from
-  chosen b is = ap (λ c. cond c (runs_from room (run_with run slice) slices) (run ∷ runs_from room (run_of_one (run_end run) slice) slices)) is
-
   pub taken : length (joined run.slices) + length slice ≤ room → runs_from room run (slice ∷ slices) ≡ runs_from room (run_with run slice) slices
-  taken fits = chosen true (at_most (length (joined run.slices) + length slice) room fits)
+  unfolding runs_from
+  taken fits = grind (arith, nat_tests)
 
   pub begun : room < length (joined run.slices) + length slice → runs_from room run (slice ∷ slices) ≡ run ∷ runs_from room (run_of_one (run_end run) slice) slices
-  begun large = chosen false (more_than (length (joined run.slices) + length slice) room large)
+  unfolding runs_from
+  begun large = grind (arith, nat_tests)
 
 pub ended : (room : ℕ) (run : SliceRun) → runs_from room run [] ≡ run ∷ []
 unfolding runs_from
@@ -76,20 +68,7 @@ module _ (s : Sending) (picture : ℕ) where
       -- there was room in the run
       pub one_more : length run.body.items + length slice ≤ slice_room s → next.first ≡ run.first → next.count ≡ run.count + 1 → next.body.items ≡ run.body.items ++ slice → ArePacked s picture (slices ++ slice ∷ []) first x next
       one_more fits same_first count body =
-          let many = length-append packed.left (slice ∷ []) in
-          record {
-            put = packed.put;
-            left = packed.left ++ slice ∷ [];
-            has = record {
-              count = omega (arith, count, many, packed.has.count);
-              body = body ∙ ap (λ l. l ++ slice) packed.has.body ∙ sym (joined_more packed.left slice);
-            };
-            sends = packed.sends;
-            goes_on = λ more.
-                on more
-                ∙ ap (λ l. packed.put ++ l) (taken (slice_room s) (run_of run packed.left) slice more (omega (arith, fits, length_is)))
-                ∙ ap (λ (f : ℕ). packed.put ++ runs_from (slice_room s) (record { first = f; slices = packed.left ++ slice ∷ [] }) more) (sym same_first);
-          }
+          grind (arith, common_steps, length-append, joined_more, on, taken, length_is)
 
       -- there was none, and the run was put
       pub another_run : (y : Outbox) → slice_room s < length run.body.items + length slice → ((left : List (List ℕ)) → HasSlices run left → Sends s (runs_outgoing picture (run_of run left ∷ [])) x y)

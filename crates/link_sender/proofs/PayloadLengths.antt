@@ -20,5 +20,8 @@ pub slices_length : (head : FragmentHead) (count x y from : ℕ) (body : List �
 unfolding payload_bytes fragment_bytes payload_head
 slices_length head count x y from body = omega arith
 
+pub some_room : (size : ℕ) → within 64 65507 size ≡ true → 64 ≤ size
+some_room size fits = grind (arith, nat_tests)
+
 pub most_room : (size : ℕ) → within 64 65507 size ≡ true → size ≤ 65507
 most_room size fits = grind (arith, nat_tests)

@@ -1,8 +1,9 @@
 -- The timestamps of pictures, by their frame and their field.
-use Rattle.std.proofs.Common.{◌≡◌, ℕ, ◌+◌, ◌*◌, ◌/◌, ◌%◌, ◌^◌, ◌<◌, Bool, true, false, cond, refl, sym, ap, subst, ◌∙◌, arith}
-use Rattle.link_model.specs.Sending.{timestamp_of, pictures_per_frame}
+use Rattle.std.proofs.Common.{◌≡◌, ℕ, ◌+◌, ◌*◌, ◌/◌, ◌%◌, ◌^◌, Bool, true, false, cond, sym, ap, ◌∙◌, arith}
+use Rattle.std.proofs.lemmas.Grind.{common_steps}
+use Rattle.link_model.specs.Sending.{timestamp_of}
 use Rattle.link_sender.specs.declared.place.PicturePlace.{PicturePlace}
-use Rattle.link_sender.specs.Packing.{picture_at, IsPlace}
+use Rattle.link_sender.specs.Packing.{picture_at}
 use Rattle.vc_types.specs.Bits.{digit_of}
 use Rattle.vc_types.specs.SenderSettings.{Sending}
 
@@ -12,27 +13,11 @@ ticks fields tick picture = cond fields ((picture / 2 * tick + picture % 2 * (ti
 abbrev place : Bool → ℕ → ℕ → ℕ
 place fields f second = f * cond fields 2 1 + second
 
-half : (f b : ℕ) → b < 2 → (f * 2 + b) / 2 ≡ f
-half f b small = omega arith
-
-rest : (f b : ℕ) → b < 2 → (f * 2 + b) % 2 ≡ b
-rest f b small = omega arith
-
-wrapped : (a b : ℕ) → (a + b) % 2 ^ 32 ≡ (a % 2 ^ 32 + b) % 2 ^ 32
-wrapped a b = omega arith
-
 second_ticks : (tick f : ℕ) → (f * tick % 2 ^ 32 + tick / 2) % 2 ^ 32 ≡ ticks true tick (place true f 1)
-second_ticks tick f =
-    let one : 1 * (tick / 2) ≡ tick / 2 = omega arith in
-    sym (wrapped (f * tick) (tick / 2))
-    ∙ ap (λ n. (f * tick + n) % 2 ^ 32) (sym one)
-    ∙ (λ i. (sym (half f 1 (omega arith)) i * tick + sym (rest f 1 (omega arith)) i * (tick / 2)) % 2 ^ 32)
+second_ticks tick f = grind (arith, common_steps)
 
 first_ticks : (fields : Bool) (tick f : ℕ) → f * tick % 2 ^ 32 ≡ ticks fields tick (place fields f 0)
-first_ticks true tick f =
-    let none : f * tick ≡ f * tick + 0 * (tick / 2) = omega arith in
-    ap (λ n. n % 2 ^ 32) none
-    ∙ (λ i. (sym (half f 0 (omega arith)) i * tick + sym (rest f 0 (omega arith)) i * (tick / 2)) % 2 ^ 32)
+first_ticks true tick f = grind (arith, common_steps)
 first_ticks false tick f = ap (λ n. n * tick % 2 ^ 32) (omega arith)
 
 pub second_field : (s : Sending) (p : PicturePlace) → p.second ≡ true → s.frames.fields ≡ true

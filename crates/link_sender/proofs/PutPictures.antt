@@ -1,6 +1,6 @@
 -- The datagrams of a picture and of a frame, put one behind another.
-use Rattle.std.proofs.Common.{◌≡◌, ℕ, suc, ◌+◌, ◌-◌, ◌*◌, ◌%◌, ◌^◌, ◌<◌, ◌≤◌, Bool, true, false, List, [], ◌∷◌, ◌++◌, length, map, take, get_or, Option, Some, None, refl, sym, ap, subst, ◌∙◌, arith}
-use Rattle.std.specs.Prelude.{All, if◌then◌else◌}
+use Rattle.std.proofs.Common.{◌≡◌, ℕ, suc, ◌+◌, ◌-◌, ◌*◌, ◌%◌, ◌^◌, ◌<◌, ◌≤◌, true, List, [], ◌∷◌, ◌++◌, length, take, get_or, Option, Some, None, refl, sym, ap, subst, ◌∙◌, arith}
+use Rattle.std.specs.Prelude.{All}
 use Rattle.std.specs.Global.{Vec}
 use Rattle.std.specs.List.{enumerate_from}
 use Rattle.std.proofs.lemmas.Bool.Decides.{nat_tests}
@@ -9,14 +9,13 @@ use Rattle.std.proofs.lemmas.List.Elements.{All-head, All-tail}
 use Rattle.std.proofs.lemmas.List.FromFn.{length-enumerate_from}
 use Rattle.std.proofs.Math.Nat.{mul-pos}
 use Rattle.std.proofs.Math.Seq.{take-suc}
-use Rattle.link_model.specs.Kept.{SliceRun}
+use Rattle.std.proofs.lemmas.Grind.{common_steps}
 use Rattle.link_model.specs.Sending.{Outgoing, datagrams_from, pictures_per_frame, runs_of_slices, sent_datagram, timestamp_of}
 use Rattle.link_model.specs.SendingPictures.{slice_room}
-use Rattle.link_sender.specs.declared.datagram.Datagram.{Datagram}
 use Rattle.link_sender.specs.declared.encoding.FrameSlices.{FrameSlices}
 use Rattle.link_sender.specs.declared.outbox.Outbox.{Outbox}
 use Rattle.link_sender.specs.declared.runs.OpenRun.{OpenRun}
-use Rattle.link_sender.specs.Packing.{ArePacked, HasSlices, Sends, bytes_of_all, picture_at, run_of, runs_outgoing}
+use Rattle.link_sender.specs.Packing.{ArePacked, HasSlices, Sends, run_of, runs_outgoing}
 use Rattle.link_sender.specs.Sent.{IsPicture, coded_frame_outgoing, coded_outgoing, coded_pictures_outgoing, slices_by_picture, second_pictures}
 use Rattle.link_sender.proofs.Numbered.{sends_more}
 use Rattle.link_sender.proofs.Packed.{all_packed}
@@ -25,18 +24,11 @@ use Rattle.picture_encode.specs.Encoded.{IsSized, slice_bytes}
 use Rattle.vc_types.specs.Bits.{digit_of}
 use Rattle.vc_types.specs.Limits.{slices_fit}
 use Rattle.vc_types.specs.SenderSettings.{Sending}
-use Rattle.vc_types.specs.Settings.{within}
 
 -- ---- slices
 
-pub some_room : (size : ℕ) → within 64 65507 size ≡ true → 32 ≤ size
-some_room size fits = grind (arith, nat_tests)
-
 pub some_slices : (across down : ℕ) → slices_fit across down ≡ true → 1 ≤ across * down
-some_slices across down fits =
-    let columns : 0 < across = grind (arith, nat_tests) in
-    let rows : 0 < down = grind (arith, nat_tests) in
-    mul-pos columns rows
+some_slices across down fits = grind (arith, common_steps, nat_tests, mul-pos)
 
 abbrev bytes_of : EncodedSlice → List ℕ
 bytes_of e = e.bytes.items
@@ -77,13 +69,7 @@ module _ (s : Sending) (coded : FrameSlices) where
 
   pub one_sent : (f : ℕ) (slices : List EncodedSlice) (x y : Outbox) → slices ≡ coded.first.items → coded.second ≡ None
       → Sends s (coded_outgoing s (at f + 0) (slice_bytes slices)) x y → Sends s (coded_frame_outgoing s f coded) x y
-  one_sent f slices x y is none sends =
-      let here : at f + 0 ≡ at f = omega arith in
-      let outgoing : coded_outgoing s (at f + 0) (slice_bytes slices) ≡ coded_frame_outgoing s f coded =
-      (λ i. coded_outgoing s (here i) (slice_bytes (is i)))
-      ∙ sym (append-nil (coded_outgoing s (at f) (slice_bytes coded.first.items)))
-      ∙ ap (λ (o : Option (Vec EncodedSlice)). coded_outgoing s (at f) (slice_bytes coded.first.items) ++ coded_pictures_outgoing s (at f + 1) (second_pictures o)) (sym none) in
-      subst (λ (l : List Outgoing). Sends s l x y) outgoing sends
+  one_sent f slices x y is none sends = grind (arith, common_steps, append-nil)
 
   pub two_sent : (f : ℕ) (slices others : List EncodedSlice) (second : Vec EncodedSlice) (x y z : Outbox) → slices ≡ coded.first.items → coded.second ≡ Some second → others ≡ second.items
       → Sends s (coded_outgoing s (at f + 0) (slice_bytes slices)) x y → Sends s (coded_outgoing s (at f + 1) (slice_bytes others)) y z → Sends s (coded_frame_outgoing s f coded) x z
@@ -105,17 +91,7 @@ module _ (s : Sending) where
   how_many n more = length-map (enumerate_from n more) (λ z. sent_datagram s z.0 z.1) ∙ length-enumerate_from n more
 
   pub number_behind : (more : List Outgoing) (x y : Outbox) → x.datagrams.items ≡ [] → Sends s more x y → y.number ≡ (x.number + length y.datagrams.items) % 2 ^ 32
-  number_behind more x y none sends =
-      let all : length y.datagrams.items ≡ length more =
-      sym (length-map y.datagrams.items (λ (d : Datagram). d.bytes.items))
-      ∙ ap length sends.datagrams_are
-      ∙ ap (λ (l : List Datagram). length (bytes_of_all l ++ datagrams_from s x.number more)) none
-      ∙ how_many x.number more in
-      sends.number_is ∙ ap (λ n. (x.number + n) % 2 ^ 32) (sym all)
+  number_behind more x y none sends = grind (arith, common_steps, length-map, how_many)
 
   pub last_timestamp : (f time : ℕ) → time ≡ timestamp_of s (f * pictures_per_frame s + digit_of s.frames.fields) → time ≡ timestamp_of s (f * pictures_per_frame s + (pictures_per_frame s - 1))
-  last_timestamp f time is = is ∙ ap (λ n. timestamp_of s (f * pictures_per_frame s + n)) (by_fields s.frames.fields)
-    where
-      by_fields : (b : Bool) → digit_of b ≡ (if b then 2 else 1) - 1
-      by_fields true = refl
-      by_fields false = refl
+  last_timestamp f time is = grind (arith, common_steps)

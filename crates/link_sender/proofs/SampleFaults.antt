@@ -1,9 +1,8 @@
 -- The first fault of a frame's samples, by those of its planes.
-use Rattle.std.proofs.Common.{◌≡◌, ℕ, Option, Some, None, Result, Ok, Err, ap, sym, ◌∙◌}
+use Rattle.std.proofs.Common.{◌≡◌, Option, None, Result, Ok, Err, ap, sym, ◌∙◌}
 use Rattle.std.specs.Prelude.{OnOk, IfErr}
 use Rattle.vc_types.specs.Rasters.{Raster}
 use Rattle.std.specs.Option.{option_or}
-use Rattle.link_model.specs.SendingFaults as faults
 use Rattle.link_model.specs.SendingFaults.{SendFault, plane_fault, first_sample_fault}
 use Rattle.link_model.specs.SendingPictures.{sent_parameters}
 use Rattle.link_sender.specs.Refusals.{SaysFault}
@@ -12,7 +11,6 @@ use Rattle.link_sender.specs.declared.refusal.SendRefusal.TheVariants.{SampleRan
 use Rattle.vc_types.specs.declared.shape.Shape.{Shape}
 use Rattle.vc_types.specs.Planes.{Planes}
 use Rattle.vc_types.specs.SenderSettings.{Sending}
-use Rattle.vc_types.specs.Subbands.{plane_depth}
 use Rattle.vc_types.specs.TransformParameters.{Parameters}
 
 -- a fault that is told stays the first

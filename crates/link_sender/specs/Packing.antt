@@ -1,8 +1,8 @@
 -- Datagrams that are put one behind another.
-use Rattle.std.specs.Prelude.{◌≡◌, ◌≤◌, ◌<◌, ◌+◌, ◌*◌, ◌%◌, ◌^◌, ℕ, Bool, true, false, List, [], ◌++◌, length, map}
+use Rattle.std.specs.Prelude.{◌≡◌, ◌≤◌, ◌+◌, ◌*◌, ◌%◌, ◌^◌, ℕ, Bool, true, List, [], ◌++◌, length, map}
 use Rattle.link_model.specs.Kept.{SliceRun}
 use Rattle.link_model.specs.Packets.{RtpPacket, rtp_header, PayloadValue, payload_bytes}
-use Rattle.link_model.specs.Sending.{Outgoing, SlicesContent, outgoing, pictures_per_frame, datagrams_from, runs_from, timestamp_of}
+use Rattle.link_model.specs.Sending.{Outgoing, SlicesContent, outgoing, pictures_per_frame, datagrams_from, runs_from}
 use Rattle.link_model.specs.SendingPictures.{slice_room}
 use Rattle.link_sender.specs.declared.datagram.Datagram.{Datagram}
 use Rattle.link_sender.specs.declared.outbox.Outbox.{Outbox}

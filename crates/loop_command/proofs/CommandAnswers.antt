@@ -46,9 +46,8 @@ Broke x y heard sent fault = (count : ℕ) × (count ≤ length sent) × BrokeBe
 module _ (s : Sending) (most : ℕ) (input : InputChange) (x y : LoopState) (sending : Result Summary Ending) where
   pub heard_of : SendsFrames s most sending input (WereLooped x y) (LoopBroke x y) → (heard : List (List ℕ)) × SendsFrames s most sending input (Went x y heard) (Broke x y heard)
   heard_of did =
-      sends_at (List (List ℕ)) s most input (Went x y) (Broke x y) sending
-      (sends_weaker s most input (WereLooped x y) (λ sent. (heard : List (List ℕ)) × Went x y heard sent) (LoopBroke x y) (λ sent fault. (heard : List (List ℕ)) × Broke x y heard sent fault)
-      (λ sent w. (w.0, (w.1, w.2))) (λ sent fault w. (w.given, (w.count, w.within, w.broke))) sending did)
+      sends_at (List (List ℕ)) s most input (WereLooped x y) (Went x y) (LoopBroke x y) (Broke x y)
+      (λ sent w. (w.0, (w.1, w.2))) (λ sent fault w. (w.given, (w.count, w.within, w.broke))) sending did
 
 -- ---- what sending came to
 

@@ -11,7 +11,7 @@ use Rattle.link_stream.proofs.PackedMore.{packed_more, timestamp_more}
 use Rattle.pack_command.specs.declared.opened.Opened.{Opened}
 use Rattle.link_sender.specs.declared.refusal.SendRefusal.{SendRefusal}
 use Rattle.link_sender.specs.declared.refusal.SendRefusal.TheVariants as sending
-use Rattle.picture_pack.proofs.Rooms.{is_more, no_more}
+use Rattle.std.proofs.lemmas.Bool.{le-ltb, lt-ltb}
 use Rattle.picture_pack.specs.Refusals.{SaysLarge}
 use Rattle.pack_command.specs.Steps.{EndsSlices, IsPackedBehind, PacksBody, of_refusal}
 use Rattle.pack_command.specs.Views.{IsBehindPictures, counts_after}
@@ -29,11 +29,11 @@ use Rattle.vc_types.specs.declared.refusal.ParamsRefusal.{ParamsRefusal}
 module _ (t : PackStream) (body : List ℕ) where
   pub short_body : length body < 4 → picture_to_pack t body ≡ None
   unfolding picture_to_pack
-  short_body short = rw (is_more (length body) 4 short) refl
+  short_body short = rw (lt-ltb (length body) 4 short) refl
 
   read_so : 4 ≤ length body → (r : Result (Parameters × ℕ) ParamsRefusal) → coded_parameters t.sequence (drop 4 body) ≡ r → picture_to_pack t body ≡ with_read_parameters t.header (big_number 4 body) (drop 4 body) r
   unfolding picture_to_pack
-  read_so long r is = rw (no_more (length body) 4 long) (ap (with_read_parameters t.header (big_number 4 body) (drop 4 body)) is)
+  read_so long r is = rw (le-ltb (length body) 4 long) (ap (with_read_parameters t.header (big_number 4 body) (drop 4 body)) is)
 
   pub no_parameters : 4 ≤ length body → (refusal : ParamsRefusal) → coded_parameters t.sequence (drop 4 body) ≡ Err refusal → picture_to_pack t body ≡ None
   no_parameters long refusal is = read_so long (Err refusal) is

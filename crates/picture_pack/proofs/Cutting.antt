@@ -1,13 +1,11 @@
 -- Slices that are cut from the front of bytes.
-use Rattle.std.proofs.Common.{◌≡◌, ◌<◌, ◌≤◌, true, ℕ, zero, suc, List, [], ◌∷◌, length, take, drop, Option, Some, None, Result, Ok, Err, refl, ap, sym, ◌∙◌, subst, arith}
-use Rattle.std.specs.Prelude.{nat_lt}
+use Rattle.std.proofs.Common.{◌≡◌, ◌≤◌, ℕ, zero, suc, List, [], ◌∷◌, length, take, drop, Option, Some, None, Result, Ok, Err, refl, ap, sym, ◌∙◌, subst, arith}
 use Rattle.std.specs.Result.{IsOk}
-use Rattle.std.proofs.lemmas.Bool.Decides.{nat_tests}
+use Rattle.std.proofs.lemmas.Bool.{lt-ltb}
+use Rattle.std.proofs.lemmas.Grind.{common_steps}
 use Rattle.link_model.specs.Kept.{cut_off, next_slice, next_slices}
 use Rattle.vc_types.proofs.FieldCodecs.{and_then_ok}
 use Rattle.vc_types.proofs.WholeSlices.{begins}
-use Rattle.picture_pack.proofs.Rooms.{is_more}
-use Rattle.vc_types.specs.Fields.{and_then}
 use Rattle.vc_types.specs.Slices.{CodedSlice, coded_slice, slice_length}
 use Rattle.vc_types.specs.TransformParameters.{Parameters}
 
@@ -29,18 +27,7 @@ pub record CutsOne (p : Parameters) (n : ℕ) (bytes : List ℕ) (slices : List 
 module _ (p : Parameters) where
   cuts_one : (n : ℕ) (bytes : List ℕ) (slices : List (List ℕ)) → next_slices p (suc n) bytes ≡ Ok (slices, []) → CutsOne p n bytes slices
   unfolding next_slices
-  cuts_one n bytes slices e =
-      let first = and_then_ok (next_slice p bytes) (λ read. and_then (next_slices p n read.1) (λ more. Ok (read.0 ∷ more.0, more.1))) (slices, []) e in
-      let second = and_then_ok (next_slices p n first.0.1) (λ more. Ok (first.0.0 ∷ more.0, more.1)) (slices, []) first.2 in
-      let same = cut_is (first.0.0 ∷ second.0.0, second.0.1) (slices, []) second.2 in
-      record {
-        slice = first.0.0;
-        behind = first.0.1;
-        others = second.0.0;
-        first = first.1;
-        rest = second.1 ∙ ap (λ (l : List ℕ). Ok (second.0.0, l)) (ap (λ (x : List (List ℕ) × List ℕ). x.1) same);
-        are = sym (ap (λ (x : List (List ℕ) × List ℕ). x.0) same);
-      }
+  cuts_one n bytes slices e = grind (arith, common_steps, and_then_ok, cut_is)
 
   pub one_is_there : (n m : ℕ) (bytes : List ℕ) (slices : List (List ℕ)) → n ≡ suc m → next_slices p n bytes ≡ Ok (slices, []) → IsOk (next_slice p bytes)
   one_is_there n m bytes slices some e =
@@ -69,7 +56,7 @@ module _ (p : Parameters) where
 no_slice : (prefix scaler : ℕ) → coded_slice prefix scaler [] ≡ Err tt
 unfolding coded_slice
 no_slice zero scaler = refl
-no_slice (suc n) scaler = rw (is_more 0 (suc n) (omega arith)) refl
+no_slice (suc n) scaler = rw (lt-ltb 0 (suc n) (omega arith)) refl
 
 has_some : (prefix scaler : ℕ) (slice : List ℕ) (coded : CodedSlice) → coded_slice prefix scaler slice ≡ Ok (coded, []) → 1 ≤ length slice
 has_some prefix scaler [] coded e = absurd (let none = sym (no_slice prefix scaler) ∙ e in cc)

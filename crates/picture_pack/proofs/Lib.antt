@@ -2,6 +2,5 @@ pub mod Cutting
 mod Putting
 pub mod Rooms
 mod RunsPut
-mod Lengths
 mod Stamps
 mod Packers

@@ -1,8 +1,6 @@
 -- What a packer has packed of a picture, and what it goes on with.
-use Rattle.std.proofs.Common.{◌≡◌, ℕ, ◌+◌, ◌%◌, ◌^◌, List, [], ◌++◌, length, None, sym, ap, ◌∙◌}
+use Rattle.std.proofs.Common.{◌≡◌, ℕ, ◌+◌, ◌%◌, ◌^◌, List, [], None, arith}
 use Rattle.std.proofs.lemmas.List.{length-map}
-use Rattle.link_sender.specs.Packing.{bytes_of_all}
-use Rattle.link_sender.specs.declared.datagram.Datagram.{Datagram}
 use Rattle.link_stream.specs.Packing.{contents_from, first_large_part, packed_contents, packed_timestamp}
 use Rattle.link_stream.proofs.Contents.{how_many}
 use Rattle.picture_pack.specs.declared.outbox.Outbox.{Outbox}
@@ -26,15 +24,4 @@ module _ (p : Picture) (x y : Outbox) (pictures time : ℕ) where
   new = record { pictures = (pictures + 1) % 2 ^ 64; sequence = y.sequence; timestamp = p.timestamp }
 
   pub is_packed : first_large_part s (packed_view p) ≡ None → PutsDatagrams p (packed_contents s (packed_view p)) x y → x.datagrams.items ≡ [] → p.timestamp ≡ packed_timestamp s pictures p.number → IsPacked s (packed_view p) old new y.datagrams
-  is_packed fits puts none stamped =
-      let are : bytes_of_all y.datagrams.items ≡ contents p.timestamp = puts.datagrams_are ∙ ap (λ (l : List Datagram). bytes_of_all l ++ contents p.timestamp) none in
-      let many : length y.datagrams.items ≡ length (packed_contents s (packed_view p)) =
-      sym (length-map y.datagrams.items (λ (d : Datagram). d.bytes.items))
-      ∙ ap length are
-      ∙ how_many s p.timestamp (packed_view p) x.sequence (packed_contents s (packed_view p)) in
-      let sequence = puts.sequence_is ∙ ap (λ n. (x.sequence + n) % 2 ^ 32) (sym many) in
-      record {
-        fits = fits;
-        datagrams_are = are ∙ ap contents stamped;
-        counts_are = λ i. record { pictures = (pictures + 1) % 2 ^ 64; sequence = sequence i; timestamp = stamped i };
-      }
+  is_packed fits puts none stamped = grind (arith, length-map, how_many)

@@ -1,6 +1,7 @@
 -- Datagrams of a picture that are put one behind another.
-use Rattle.std.proofs.Common.{◌≡◌, ℕ, ◌+◌, ◌%◌, ◌^◌, ◌<◌, Bool, List, [], ◌∷◌, ◌++◌, length, sym, ap, ◌∙◌, arith, append_assoc}
+use Rattle.std.proofs.Common.{◌≡◌, ℕ, ◌+◌, ◌%◌, ◌^◌, ◌<◌, Bool, List, [], ◌∷◌, ◌++◌, arith}
 use Rattle.std.proofs.lemmas.List.{append-nil, length-append}
+use Rattle.std.proofs.lemmas.Grind.{common_steps}
 use Rattle.link_model.specs.Packets.{PayloadValue}
 use Rattle.link_model.specs.Sending.{DatagramContent}
 use Rattle.link_stream.specs.Packing.{contents_from, datagram_around, ends_picture, packed_value}
@@ -17,32 +18,12 @@ module _ (p : Picture) where
   from n cs = contents_from (packing_view p.settings) p.timestamp (packed_view p) n cs
 
   pub puts_none : (x : Outbox) → x.sequence < 2 ^ 32 → PutsDatagrams p [] x x
-  puts_none x small = record {
-    datagrams_are = sym (append-nil (bytes_of_all x.datagrams.items)) ∙ ap (λ l. bytes_of_all x.datagrams.items ++ l) (sym (no_datagram (packing_view p.settings) p.timestamp (packed_view p) x.sequence));
-    sequence_is = omega (arith, small);
-  }
+  puts_none x small = grind (arith, common_steps, append-nil, no_datagram)
 
   pub puts_more : (a b : List DatagramContent) (x y z : Outbox) → PutsDatagrams p a x y → PutsDatagrams p b y z → PutsDatagrams p (a ++ b) x z
-  puts_more a b x y z first second =
-      let long = length-append a b in
-      let sequence : y.sequence % 2 ^ 32 ≡ (x.sequence + length a) % 2 ^ 32 = omega (arith, first.sequence_is) in
-      record {
-        datagrams_are =
-            second.datagrams_are
-            ∙ ap (λ l. l ++ from y.sequence b) first.datagrams_are
-            ∙ append_assoc (bytes_of_all x.datagrams.items) (from x.sequence a) (from y.sequence b)
-            ∙ ap (λ l. bytes_of_all x.datagrams.items ++ (from x.sequence a ++ l)) (wrapped (packing_view p.settings) p.timestamp (packed_view p) y.sequence (x.sequence + length a) b sequence)
-            ∙ ap (λ l. bytes_of_all x.datagrams.items ++ l) (sym (appended (packing_view p.settings) p.timestamp (packed_view p) x.sequence a b));
-        sequence_is = omega (arith, first.sequence_is, second.sequence_is, long);
-      }
+  puts_more a b x y z first second = grind (arith, common_steps, length-append, wrapped, appended)
 
   pub puts_one : (c : DatagramContent) (x y : Outbox) (marker : Bool) (value : PayloadValue) → marker ≡ ends_picture (packed_view p).parameters c → value ≡ packed_value (packing_view p.settings) (packed_view p) x.sequence c
       → bytes_of_all y.datagrams.items ≡ bytes_of_all x.datagrams.items ++ datagram_around (packing_view p.settings) x.sequence p.timestamp marker value ∷ []
       → y.sequence ≡ (x.sequence + 1) % 2 ^ 32 → PutsDatagrams p (c ∷ []) x y
-  puts_one c x y marker value marked carried put sequence = record {
-    datagrams_are =
-        put
-        ∙ (λ i. bytes_of_all x.datagrams.items ++ datagram_around (packing_view p.settings) x.sequence p.timestamp (marked i) (carried i) ∷ [])
-        ∙ ap (λ l. bytes_of_all x.datagrams.items ++ l) (sym (one_datagram (packing_view p.settings) p.timestamp (packed_view p) x.sequence c));
-    sequence_is = sequence;
-  }
+  puts_one c x y marker value marked carried put sequence = grind (arith, common_steps, one_datagram)

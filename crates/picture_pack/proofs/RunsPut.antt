@@ -1,10 +1,9 @@
 -- Slices that are packed into runs one after another.
-use Rattle.std.proofs.Common.{◌≡◌, ℕ, zero, suc, ◌+◌, ◌^◌, ◌<◌, ◌≤◌, Bool, true, false, cond, List, [], ◌∷◌, ◌++◌, length, map, None, refl, sym, ap, subst, ◌∙◌, arith, append_assoc}
-use Rattle.std.specs.Prelude.{nat_le}
-use Rattle.std.proofs.lemmas.Bool.Decides.{nat_tests}
+use Rattle.std.proofs.Common.{◌≡◌, ℕ, zero, suc, ◌+◌, ◌^◌, ◌<◌, ◌≤◌, List, [], ◌∷◌, ◌++◌, length, map, None, refl, sym, ap, subst, ◌∙◌, arith, append_assoc}
 use Rattle.std.proofs.lemmas.List.{append-nil, length-append, map-append}
+use Rattle.std.proofs.lemmas.Grind.{common_steps}
 use Rattle.link_model.specs.Kept.{SliceRun}
-use Rattle.link_model.specs.Sending.{DatagramContent, SlicesContent, has_room, run_end, run_of_one, run_with, runs_from, runs_of_slices}
+use Rattle.link_model.specs.Sending.{DatagramContent, SlicesContent, run_end, run_of_one, runs_from, runs_of_slices}
 use Rattle.link_sender.proofs.Packed.{begun, ended, joined_more, runs_are, taken}
 use Rattle.link_stream.specs.Packing.{first_large_slice, slices_room}
 use Rattle.picture_pack.specs.declared.outbox.Outbox.{Outbox}
@@ -45,20 +44,7 @@ module _ (p : Picture) where
       -- there was room in the run
       pub one_more : length run.body.items + length slice ≤ room → next.first ≡ run.first → next.count ≡ run.count + 1 → next.body.items ≡ run.body.items ++ slice → PacksSlices p (slices ++ slice ∷ []) first x next
       one_more fits same_first count body =
-          let many = length-append packed.left (slice ∷ []) in
-          record {
-            put = packed.put;
-            left = packed.left ++ slice ∷ [];
-            holds = record {
-              count = omega (arith, count, many, packed.holds.count);
-              body = body ∙ ap (λ l. l ++ slice) packed.holds.body ∙ sym (joined_more packed.left slice);
-            };
-            puts = packed.puts;
-            goes_on = λ more.
-                on more
-                ∙ ap (λ l. packed.put ++ l) (taken room (run_with_slices run packed.left) slice more (omega (arith, fits, length_is)))
-                ∙ ap (λ (f : ℕ). packed.put ++ runs_from room (record { first = f; slices = packed.left ++ slice ∷ [] }) more) (sym same_first);
-          }
+          grind (arith, common_steps, length-append, joined_more, on, taken, length_is)
 
       -- there was none, and the run was put
       pub another_run : (y : Outbox) → room < length run.body.items + length slice → ((left : List (List ℕ)) → HoldsSlices run left → PutsDatagrams p (SlicesContent (run_with_slices run left) ∷ []) x y)

@@ -1,9 +1,10 @@
 -- The first slices of a picture in a builder.
-use Rattle.std.proofs.Common.{◌≡◌, ℕ, ◌+◌, ◌<◌, List, [], ◌∷◌, ◌++◌, length, length-append, Some, None, arith, refl, sym, ap, subst, ◌∙◌, inl, inr, length-set}
-use Rattle.std.specs.Prelude.{replicate, Option}
+use Rattle.std.proofs.Common.{◌≡◌, ℕ, ◌<◌, List, [], ◌∷◌, ◌++◌, length, None, arith, sym, ap, subst, ◌∙◌}
+use Rattle.std.specs.Prelude.{Option}
 use Rattle.std.specs.Option.{is_some, unwrap_or}
 use Rattle.std.proofs.lemmas.Bool.{cases_eq, cases_lt}
 use Rattle.std.proofs.lemmas.List.{ext_get_or, get_or-map, length-map, get_or_past, get_or-replicate, length-replicate, get_or-set_same, get_or-set_other, get_or_push, get_or_append_left}
+use Rattle.std.proofs.lemmas.Grind.{common_steps}
 use Rattle.vc_types.specs.Slices.{Coefficients}
 use Rattle.vc_types.specs.Subbands.{slice_count}
 use Rattle.vc_types.specs.TransformParameters.{Parameters}
@@ -12,18 +13,10 @@ use Rattle.play_command.specs.Slices.{HasFirst}
 
 module _ (p : Parameters) where
   pub first_none : (picture : PartPicture) → picture ≡ no_slices p → HasFirst p [] picture
-  first_none picture is = subst (HasFirst p []) (sym is) (record {
-    parameters = refl;
-    entries = length-replicate (slice_count p) None;
-    came = λ n none h. absurd (omega arith);
-    awaited = λ n h. nothing n;
-  })
+  first_none picture is = grind (arith, common_steps, length-replicate, nothing)
     where
       nothing : (n : ℕ) → slice_that_came (no_slices p) n ≡ None
-      nothing n = elim (cases_lt n (slice_count p)) [
-        | inl lt ↦ get_or-replicate (slice_count p) n None None lt
-        | inr ge ↦ (let long = length-replicate {A = Option Coefficients} (slice_count p) None in get_or_past (replicate (slice_count p) None) n None (omega (arith, long)))
-      ]
+      nothing n = grind (arith, common_steps, cases_lt, get_or-replicate, length-replicate, get_or_past)
 
   module _ (first : List Coefficients) (before : PartPicture) (has : HasFirst p first before) where
     pub next_awaited : (n : ℕ) → length first ≡ n → slice_that_came before n ≡ None
@@ -32,18 +25,7 @@ module _ (p : Parameters) where
     -- one more
     pub first_more : (n : ℕ) (s : Coefficients) (after : PartPicture) → length first ≡ n → n < slice_count p → after ≡ with_slice before n s → HasFirst p (first ++ s ∷ []) after
     first_more n s after e h is =
-        let long : length (first ++ s ∷ []) ≡ n + 1 = (let count = length-append first (s ∷ []) in omega (arith, count, e)) in
-        subst (HasFirst p (first ++ s ∷ [])) (sym is) (record {
-          parameters = has.parameters;
-          entries = length-set before.slices n (Some s) ∙ has.entries;
-          came = λ m none g. elim (cases_eq m n) [
-            | inl same ↦ rw same (get_or-set_same before.slices n (Some s) None (omega (arith, has.entries)) ∙ sym (ap Some (get_or_push first s none n e)))
-            | inr ne ↦ (
-                let earlier : m < length first = omega (arith, long, e) in
-                get_or-set_other before.slices n m (Some s) None ne ∙ has.came m none earlier ∙ ap Some (sym (get_or_append_left first (s ∷ []) none m earlier)))
-          ];
-          awaited = λ m g. get_or-set_other before.slices n m (Some s) None (λ same. omega (arith, same, long)) ∙ has.awaited m (omega (arith, long, e));
-        })
+        grind (arith, common_steps, cases_eq, get_or-set_same, get_or_push, get_or-set_other, get_or_append_left)
 
     -- all of them
     module _ (all : length first ≡ slice_count p) where

@@ -1,7 +1,7 @@
 -- A picture more at the end of a stream's pictures: the frames that it brings, and the field that waits then.
-use Rattle.std.proofs.Common.{◌≡◌, ◌%◌, List, [], ◌∷◌, ◌++◌, refl, ap, inl, inr}
-use Rattle.std.specs.Prelude.{◌==◌}
+use Rattle.std.proofs.Common.{◌≡◌, List, [], ◌∷◌, ◌++◌, refl, ap, inl, inr, arith}
 use Rattle.std.proofs.lemmas.Bool.{cases_Bool}
+use Rattle.std.proofs.lemmas.Grind.{common_steps}
 use Rattle.vc_types.specs.FieldPairs.{woven}
 use Rattle.vc_types.specs.Planes.{Planes}
 use Rattle.vc_types.specs.SequenceHeader.{Sequence}
@@ -21,10 +21,7 @@ module _ (s : Sequence) (p : StreamPicture) where
   pub paired-more : (pictures : List StreamPicture) → BringsFrames pictures
   unfolding paired_frames waiting_in
   paired-more [] = refl
-  paired-more (a ∷ []) = elim (cases_Bool (a.number % 2 == 0)) [
-    | inl even ↦ rw (even, even) refl
-    | inr odd ↦ rw odd refl
-  ]
+  paired-more (a ∷ []) = grind (arith, common_steps, cases_Bool)
   paired-more (a ∷ b ∷ rest) = elim (cases_Bool (is_pair a b)) [
     | inl pair ↦ rw pair (ap (λ (behind : List Planes). woven s.top_first a.planes b.planes ∷ behind) (paired-more rest))
     | inr apart ↦ rw apart (paired-more (b ∷ rest))
@@ -33,10 +30,7 @@ module _ (s : Sequence) (p : StreamPicture) where
   pub waiting-more : (pictures : List StreamPicture) → LeavesWaiting pictures
   unfolding waiting_in
   waiting-more [] = refl
-  waiting-more (a ∷ []) = elim (cases_Bool (a.number % 2 == 0)) [
-    | inl even ↦ rw (even, even) refl
-    | inr odd ↦ rw odd refl
-  ]
+  waiting-more (a ∷ []) = grind (arith, common_steps, cases_Bool)
   waiting-more (a ∷ b ∷ rest) = elim (cases_Bool (is_pair a b)) [
     | inl pair ↦ rw pair (waiting-more rest)
     | inr apart ↦ rw apart (waiting-more (b ∷ rest))

@@ -2,6 +2,7 @@
 use Rattle.std.proofs.Common.{◌≡◌, ℕ, ◌≤◌, List, length, drop, Ok, Err, Some, None, refl, sym, ap, ◌∙◌, subst, arith}
 use Rattle.std.specs.Prelude.{Result, Bool, Option, IfOk, IfSome, IsTrue}
 use Rattle.std.specs.Option.{option_map}
+use Rattle.std.proofs.lemmas.Grind.{common_steps}
 use Rattle.vc_types.specs.declared.refusal.ParamsRefusal.{ParamsRefusal}
 use Rattle.vc_types.specs.Bits.{bits_of}
 use Rattle.vc_types.specs.Pictures.{decoded_picture, slices_from, with_parameters, with_slices}
@@ -9,7 +10,7 @@ use Rattle.vc_types.specs.Planes.{planes_in, planes_of, decoded_planes}
 use Rattle.vc_types.specs.Rasters.{Raster}
 use Rattle.vc_types.specs.Limits.{shape_fits}
 use Rattle.vc_types.specs.declared.shape.Shape.{Shape}
-use Rattle.vc_types.specs.SequenceHeader.{Sequence, bytes_used, with_bytes_used}
+use Rattle.vc_types.specs.SequenceHeader.{Sequence, with_bytes_used}
 use Rattle.vc_types.specs.Slices.{Coefficients}
 use Rattle.vc_types.specs.Subbands.{slice_count}
 use Rattle.vc_types.specs.TransformParameters.{Parameters, transform_parameters, coded_parameters}
@@ -29,14 +30,7 @@ module _ (s : Sequence) (bytes : List ℕ) where
   reads : (p : Parameters) (used : ℕ) (read : Result (Parameters × List Bool) ParamsRefusal) → transform_parameters s (bits_of bytes) ≡ read → with_bytes_used bytes read ≡ Ok (p, used) → Reads p used
   unfolding decoded_picture
   reads p used (Err refusal) is e = absurd cc
-  reads p used (Ok read) is e =
-      let same = ok_is (read.0, bytes_used bytes read.1) (p, used) e in
-      let parameters : read.0 ≡ p = ap (λ (x : Parameters × ℕ). x.0) same in
-      let count : bytes_used bytes read.1 ≡ used = ap (λ (x : Parameters × ℕ). x.1) same in
-      record {
-        within = subst (λ (n : ℕ). n ≤ length bytes) count (omega arith);
-        picture = ap (with_parameters bytes) is ∙ ap (λ (q : Parameters). with_slices q (slices_from q 0 (slice_count q) (drop (bytes_used bytes read.1) bytes))) parameters ∙ ap (λ (n : ℕ). with_slices p (slices_from p 0 (slice_count p) (drop n bytes))) count;
-      }
+  reads p used (Ok read) is e = grind (arith, common_steps, ok_is)
 
   refused : (refusal : ParamsRefusal) (read : Result (Parameters × List Bool) ParamsRefusal) → transform_parameters s (bits_of bytes) ≡ read → with_bytes_used bytes read ≡ Err refusal → decoded_picture s bytes ≡ None
   unfolding decoded_picture

@@ -1,6 +1,7 @@
 -- Where no fault came, a stream that is playable is played to its end, unless memory runs out.
-use Rattle.std.proofs.Common.{◌≡◌, ◌⊎◌, ℕ, Bool, true, false, List, [], ◌∷◌, ◌++◌, Option, Some, None, IsSomeAnd, Result, Ok, Err, inl, inr, refl, sym, ap, ◌∙◌}
+use Rattle.std.proofs.Common.{◌≡◌, ◌⊎◌, ℕ, false, List, [], ◌∷◌, ◌++◌, Option, Some, None, IsSomeAnd, Result, Ok, Err, inl, inr, refl, sym, ap, ◌∙◌, arith}
 use Rattle.std.specs.Result.{IsOk}
+use Rattle.std.proofs.lemmas.Grind.{common_steps}
 use Rattle.link_report.specs.declared.ending.Ending.{Ending}
 use Rattle.link_report.specs.declared.ending.Ending.TheVariants as endings
 use Rattle.link_report.specs.declared.summary.Summary.{Summary}
@@ -8,7 +9,7 @@ use Rattle.vc_ports.specs.Changes.{InputChange, OutputChange, HasRisen, Took}
 use Rattle.vc_types.specs.DataUnits.{DataUnit}
 use Rattle.vc_units.proofs.Behind.{units_within-more}
 use Rattle.play_command.specs.Stream.{Stream, StreamSoFar, all_taken, after_unit, takes, units_taken}
-use Rattle.play_command.specs.Playing.{UnitSplit, unit_split, AreAccepted, UnitIsPastLimit, EndsWithRefused, HasRefusedRest, IsBad, Plays, PlayEnded, IsPlayable}
+use Rattle.play_command.specs.Playing.{UnitSplit, unit_split, AreAccepted, UnitIsPastLimit, EndsWithRefused, IsBad, Plays, PlayEnded, IsPlayable}
 use Rattle.play_command.proofs.Rests.{behind_given, none_past, none_refused}
 use Rattle.play_command.proofs.SoFar.{so_far-refused}
 
@@ -29,10 +30,7 @@ front_accepted : (units behind : List DataUnit) → AreAccepted (units ++ behind
 front_accepted units behind e = front_taken _ units behind e
 
 last_refused : (s : UnitSplit) → EndsWithRefused s → AreAccepted s.units → ⊥
-last_refused s r accepted = cc (sym refused ∙ (rw r.units at accepted))
-  where
-    refused : (units_taken (r.others ++ r.last ∷ [])).1 ≡ true
-    refused = ap (λ (h : StreamSoFar × Bool). h.1) (so_far-refused r.others r.last (units_taken r.others).0 (ap (λ (b : Bool). ((units_taken r.others).0, b)) r.accepted) r.refused)
+last_refused s r accepted = grind (arith, common_steps, so_far-refused)
 
 -- ---- bytes of which a part was given
 
@@ -49,11 +47,7 @@ module _ (packets : ℕ) (given more : List ℕ) (whole : IsPlayable packets (gi
   no_limit output limit p = none_past packets given more whole.ended p.count p.goes_on p.one_more
 
   no_bad_unit : (input : InputChange) (output : OutputChange) (place : ℕ) → input.left.after ≡ Some more → IsBad packets input output split place → ⊥
-  no_bad_unit input output place tells bad = by_refusal bad.refused
-    where
-      by_refusal : EndsWithRefused split ⊎ HasRefusedRest packets input split → ⊥
-      by_refusal (inl r) = no_refused r
-      by_refusal (inr r) = none_refused packets given more whole.ended input tells r.goes_on r.fault r.refused r.last
+  no_bad_unit input output place tells bad = grind (arith, common_steps, no_refused, none_refused)
 
 -- ---- by how it ended
 

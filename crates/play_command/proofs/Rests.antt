@@ -1,11 +1,11 @@
 -- Bytes of a stream that comes to its end, of which a part was given.
 use Rattle.std.proofs.Common.{◌≡◌, ◌⊎◌, ℕ, ◌+◌, List, [], ◌∷◌, ◌++◌, length, length-append, append-nil, Option, Some, None, IsSomeAnd, Err, inl, inr, refl, sym, ap, subst, ◌∙◌, arith}
 use Rattle.std.specs.Prelude.{◌≢◌, IsTrue, IsFalse}
+use Rattle.std.proofs.lemmas.Grind.{common_steps}
 use Rattle.play_command.specs.Playing.{UnitSplit, unit_split, has_ended, IsLast}
 use Rattle.vc_ports.proofs.Given.{some_is}
 use Rattle.vc_ports.specs.Changes.{InputChange}
 use Rattle.vc_ports.specs.Reading.{Gave}
-use Rattle.vc_types.specs.DataUnits.{DataUnit}
 use Rattle.vc_units.proofs.Behind.{NoneBehind, data_unit-bad, units_within-rest}
 use Rattle.vc_units.specs.Units.{data_unit, units_within}
 use Rattle.vc_units.specs.declared.fault.UnitFault.{UnitFault}
@@ -24,14 +24,7 @@ module _ (packets : ℕ) (given more : List ℕ) (ended : ((unit_split packets (
 
   -- where no unit is behind them, the rest is empty
   no_rest : NoneBehind packets (units_within packets given) more → IsFalse (has_ended split) → split.rest ++ more ≡ []
-  no_rest none goes_on = by_end ended
-    where
-      same : unit_split packets (given ++ more) ≡ record { units = split.units; rest = split.rest ++ more }
-      same = ap (λ (u : List DataUnit × List ℕ). record { units = u.0; rest = u.1 }) (units_within-rest packets given more none)
-
-      by_end : ((unit_split packets (given ++ more)).rest ≡ []) ⊎ IsTrue (has_ended (unit_split packets (given ++ more))) → split.rest ++ more ≡ []
-      by_end (inl empty) = sym (ap (λ (s : UnitSplit). s.rest) same) ∙ empty
-      by_end (inr ends) = absurd (cc (sym ends ∙ ap has_ended same ∙ goes_on))
+  no_rest none goes_on = grind (arith, common_steps, units_within-rest)
 
   pub none_past : length split.units ≡ packets → IsFalse (has_ended split) → length split.rest ≡ 1 → ⊥
   none_past count goes_on one_more =

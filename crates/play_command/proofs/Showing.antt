@@ -1,8 +1,9 @@
 -- A picture more: what is kept, and what is written.
-use Rattle.std.proofs.Common.{◌≡◌, ℕ, Bool, true, false, List, [], ◌∷◌, ◌++◌, length, map, Option, Some, None, refl, sym, ap, ◌∙◌, arith, length-append}
+use Rattle.std.proofs.Common.{◌≡◌, ℕ, Bool, true, false, List, [], ◌∷◌, ◌++◌, length, map, Option, Some, None, refl, sym, ap, ◌∙◌, arith}
 use Rattle.std.proofs.lemmas.List.{map-append}
 use Rattle.std.specs.Prelude.{if◌then◌else◌}
 use Rattle.std.proofs.lemmas.List.Concat.{flat_map-append}
+use Rattle.std.proofs.lemmas.Grind.{common_steps}
 use Rattle.vc_types.specs.RawFrames.{is_wide, frame_bytes}
 use Rattle.vc_types.specs.Planes.{Planes}
 use Rattle.vc_types.specs.SequenceHeader.{Sequence, picture_shape}
@@ -38,10 +39,7 @@ module _ (stream : Stream) (p : StreamPicture) where
   same_kept s w v n m f g e h i = rw (e, h, i) refl
 
   pub shown-kept : shown (stream_state stream) p ≡ stream_state (with_picture stream p)
-  shown-kept =
-      let count = length-append stream.pictures (p ∷ []) in
-      let frames = ap (λ (frames : List Planes). length frames) frames-more ∙ length-append (stream_frames stream) (new_frames stream.sequence (stream_state stream).waiting p) in
-      same_kept stream.sequence (shown (stream_state stream) p).waiting (stream_state (with_picture stream p)).waiting _ _ _ _ (waiting-by stream.sequence p stream.sequence.fields stream.pictures) (omega (arith, count)) (sym frames)
+  shown-kept = grind (arith, common_steps, frames-more, same_kept, waiting-by)
 
   -- and their bytes
   pub played-more : played (Some (with_picture stream p)) ≡ played (Some stream) ++ raw_frames stream.sequence (new_frames stream.sequence (stream_state stream).waiting p)

@@ -3,6 +3,7 @@ use Rattle.std.proofs.Common.{◌≡◌, ℕ, suc, ◌+◌, ◌-◌, ◌<◌, �
 use Rattle.std.specs.Prelude.{Result, Bool, true, false, IfOk}
 use Rattle.picture_build.specs.Kept.{PartPicture}
 use Rattle.std.specs.Result.{result_ok}
+use Rattle.std.proofs.lemmas.Grind.{common_steps}
 use Rattle.picture_build.proofs.WholeSlices.{whole_slice}
 use Rattle.vc_types.specs.Fields.{and_then}
 use Rattle.vc_types.specs.Pictures.{slices_from}
@@ -51,10 +52,7 @@ module _ (p : Parameters) where
   -- a slice more, of n
   pub behind-slice : (i n : ℕ) (old new : List ℕ) (done : List Coefficients) (s : Coefficients) → i < n → GaveSlice p i old new (Some s)
       → slices_behind done (slices_from p i (n - i) old) ≡ slices_behind (done ++ s ∷ []) (slices_from p (i + 1) (n - (i + 1)) new)
-  behind-slice i n old new done s h gave =
-      let next : n - i ≡ suc (n - (i + 1)) = omega arith in
-      ap (λ (count : ℕ). slices_behind done (slices_from p i count old)) next
-      ∙ ap (slices_behind done) (gave.1 (n - (i + 1))) ∙ behind-and done s (slices_from p (i + 1) (n - (i + 1)) new)
+  behind-slice i n old new done s h gave = grind (arith, common_steps, behind-and)
 
   -- a slice that is refused
   pub behind-refused : (i n : ℕ) (old new : List ℕ) (done : List Coefficients) → i < n → GaveSlice p i old new None → slices_behind done (slices_from p i (n - i) old) ≡ Err tt

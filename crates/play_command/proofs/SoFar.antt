@@ -1,7 +1,8 @@
 -- What units bring, a unit more.
-use Rattle.std.proofs.Common.{◌≡◌, ℕ, Bool, true, false, List, [], ◌∷◌, ◌++◌, Option, Some, None, refl, sym, ap, ◌∙◌, append-nil}
-use Rattle.std.specs.Prelude.{if◌then◌else◌, ◌==◌, option_and_then}
+use Rattle.std.proofs.Common.{◌≡◌, ℕ, Bool, true, false, List, [], ◌∷◌, ◌++◌, Option, Some, None, refl, sym, ap, ◌∙◌, append-nil, arith}
+use Rattle.std.specs.Prelude.{option_and_then}
 use Rattle.std.specs.Option.{option_map}
+use Rattle.std.proofs.lemmas.Grind.{common_steps}
 use Rattle.vc_types.specs.SequenceHeader.{coded_header}
 use Rattle.vc_types.specs.DataUnits.{DataUnit}
 use Rattle.vc_ports.proofs.Given.{some_is}
@@ -60,9 +61,4 @@ shown-grows (Some s) new u e = picture-grows s new (picture_in s.sequence u.body
 -- a unit that is taken, and what is due for it
 pub taken-grows : (stream new : Option Stream) (u : DataUnit) → takes stream u ≡ Some new → Brings stream u
 unfolding takes
-taken-grows stream new u e = (let grown = by (u.code == 0) (u.code == 0xE8) e in record { next = new; due = grown.0; taken = e; grows = grown.1 })
-  where
-    by : (header picture : Bool) → (if header then nested (with_header stream (coded_header u.body)) else if picture then nested (option_and_then (shows u.body) stream) else Some stream) ≡ Some new → Grows stream new
-    by true picture e = header-grows stream new (with_header stream (coded_header u.body)) u refl e
-    by false true e = shown-grows stream new u e
-    by false false e = ([], ap played (sym (some_is stream new e)) ∙ sym (append-nil (played stream)))
+taken-grows stream new u e = grind (arith, common_steps, header-grows, shown-grows, some_is)

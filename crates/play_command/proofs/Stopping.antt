@@ -1,6 +1,7 @@
 -- How playing ends by a fault, behind the units that were played.
 use Rattle.std.proofs.Common.{◌≡◌, ℕ, ◌-◌, ◌<◌, Bool, true, false, List, [], ◌∷◌, ◌++◌, length, take, Option, Some, None, Ok, Err, refl, sym, ap, ◌∙◌, subst, arith, append-nil, inl, inr}
 use Rattle.std.specs.Prelude.{Result, ◌⊎◌}
+use Rattle.std.proofs.lemmas.Grind.{common_steps}
 use Rattle.link_report.specs.declared.ending.Ending.{Ending}
 use Rattle.link_report.specs.declared.ending.Ending.TheVariants.{NoMemory, InputFailed, OutputFailed, PacketLimit, StreamBad}
 use Rattle.link_report.specs.declared.summary.Summary.{Summary}
@@ -8,7 +9,6 @@ use Rattle.link_report.specs.declared.summary.Summary.TheVariants as summaries
 use Rattle.vc_ports.specs.Changes.{InputChange, OutputChange, HasRisen}
 use Rattle.vc_ports.specs.Reading.{Gave}
 use Rattle.vc_ports.specs.Writing.{Grew, GrewBySome}
-use Rattle.vc_ports.proofs.Given.{Gave-then}
 use Rattle.vc_ports.proofs.Growing.{GrewBySome-all, GrewBySome-then, GrewBySome-front}
 use Rattle.vc_types.specs.DataUnits.{DataUnit, is_end_of_sequence}
 use Rattle.vc_units.specs.Reading.{GaveUnit, GaveRefused, GavePartOfUnit, ReadsUnit}
@@ -37,11 +37,7 @@ split all = record { units = all.0; rest = all.1 }
 module _ (packets number : ℕ) (input : InputChange) (output : OutputChange) (mid held_mid : Option (List ℕ)) (h : StreamSoFar) (at : PlayIsBehind packets number input.left.before mid output.held.before held_mid h) where
   -- an end with these units and this rest
   stopped : (answer : Result Summary Ending) (more : List ℕ) (all : Units) → Gave mid input.left.after more → units_within packets (at.given ++ more) ≡ all → PlayEnded packets answer input output (split all) → PlayStops packets answer input output
-  stopped answer more all gave is ended = record {
-    given = at.given ++ more;
-    took = Gave-then input.left.before mid input.left.after at.given more at.gave gave;
-    ended = subst (λ (units : Units). PlayEnded packets answer input output (split units)) (sym is) ended;
-  }
+  stopped answer more all gave is ended = grind (arith, common_steps)
 
   -- the units as they were played, before a rest
   before_rest : (fault : UnitFault) (rest : List ℕ) → data_unit rest ≡ Err fault → units_within packets (at.given ++ rest) ≡ (at.units, rest)
@@ -106,19 +102,7 @@ module _ (packets number : ℕ) (input : InputChange) (output : OutputChange) (m
 
     refused_unit : takes h.stream u ≡ None → output.held.after ≡ held_mid → PlayStops packets (Err (StreamBad h.place)) input output
     refused_unit none same =
-        let so_far = so_far-refused at.units u h at.so_far none in
-        with_one (Err (StreamBad h.place)) (record {
-          refused = inl (record {
-            others = at.units;
-            last = u;
-            units = refl;
-            accepted = accepted;
-            refused = subst (λ (x : StreamSoFar × Bool). takes x.0.stream u ≡ None) (sym at.so_far) none;
-            no_rest = refl;
-          });
-          place_is = ap (λ (x : StreamSoFar × Bool). x.0.place) (sym so_far);
-          wrote = wrote_of (at.units ++ u ∷ []) h true so_far (all_written same);
-        })
+        grind (arith, common_steps, so_far-refused, with_one, accepted, wrote, wrote_of, all_written)
 
     module _ (b : Brings h.stream u) where
       taken : units_taken (at.units ++ u ∷ []) ≡ (after_unit h u b.next, false)
@@ -149,37 +133,14 @@ module _ (packets number : ℕ) (input : InputChange) (output : OutputChange) (m
 
 -- a byte was asked for, and none came
 pub none_of : (bytes : List ℕ) (n : ℕ) → length bytes ≡ 1 → n < length bytes → take n bytes ≡ []
-none_of bytes n one less = subst (λ (k : ℕ). take k bytes ≡ []) none refl
-  where
-    none : 0 ≡ n
-    none = omega arith
+none_of bytes n one less = grind (arith, common_steps)
 
 module _ (packets : ℕ) (input : InputChange) (output : OutputChange) where
   -- the stream ended
   pub plays_whole : (h : StreamSoFar) (summary : Summary) → UnitsHaveEnded packets input.left.before input.left.after output.held.before output.held.after h
       → summary ≡ summaries.Played (pictures_in h.stream) (unpaired_in h.stream) (frames_in h.stream) → Plays packets (Ok summary) input output
-  plays_whole h summary ended is = record {
-    given = ended.given;
-    took = ended.gave;
-    ended = rw is (subst (λ (all : Units). PlayEnded packets (Ok (summaries.Played (pictures_in h.stream) (unpaired_in h.stream) (frames_in h.stream))) input output (split all)) (sym ended.split) (record {
-      accepted = ap (λ (x : StreamSoFar × Bool). x.1) ended.so_far;
-      no_rest = refl;
-      ended = ended.ends;
-      wrote = subst (λ (x : StreamSoFar × Bool). Grew output.held.before output.held.after (played x.0.stream)) (sym ended.so_far) ended.wrote;
-      pictures_are = ap (λ (x : StreamSoFar × Bool). pictures_in x.0.stream) (sym ended.so_far);
-      unpaired_are = ap (λ (x : StreamSoFar × Bool). unpaired_in x.0.stream) (sym ended.so_far);
-      frames_are = ap (λ (x : StreamSoFar × Bool). frames_in x.0.stream) (sym ended.so_far);
-    }));
-    input_failed = λ e. cc;
-    output_failed = λ e. cc;
-  }
+  plays_whole h summary ended is = grind (arith, common_steps, accepted, wrote, input_failed)
 
   -- it stopped by a fault
   pub plays_part : (ending : Ending) → PlayStops packets (Err ending) input output → (ending ≡ InputFailed → HasRisen input.faults) → (ending ≡ OutputFailed → HasRisen output.faults) → Plays packets (Err ending) input output
-  plays_part ending stops input_rose output_rose = record {
-    given = stops.given;
-    took = stops.took;
-    ended = stops.ended;
-    input_failed = λ e. input_rose (cc e);
-    output_failed = λ e. output_rose (cc e);
-  }
+  plays_part ending stops input_rose output_rose = grind (arith, common_steps, input_failed)

@@ -1,5 +1,6 @@
 -- The units that bytes begin with, whatever follows, and a unit more behind them.
-use Rattle.std.proofs.Common.{◌≡◌, ℕ, suc, ◌+◌, ◌-◌, ◌<◌, Bool, true, false, List, [], ◌∷◌, ◌++◌, Ok, sym, ap, ◌∙◌, arith, append_assoc, append-nil}
+use Rattle.std.proofs.Common.{◌≡◌, ℕ, suc, ◌+◌, ◌-◌, ◌<◌, Bool, true, false, List, [], ◌∷◌, ◌++◌, Ok, ap, ◌∙◌, arith, append-nil}
+use Rattle.std.proofs.lemmas.Grind.{common_steps}
 use Rattle.play_command.specs.Looping.{then_units}
 use Rattle.vc_types.specs.DataUnits.{DataUnit, is_end_of_sequence}
 use Rattle.vc_units.proofs.Streams.{units_within-unit, units_within-end, units_within-nothing}
@@ -9,10 +10,7 @@ abbrev Units : Type 0
 Units = List DataUnit × List ℕ
 
 pub none_split : (packets : ℕ) (more : List ℕ) → units_within packets more ≡ then_units [] (units_within (packets - 0) more)
-none_split packets more = ap (λ (most : ℕ). units_within most more) same
-  where
-    same : packets ≡ packets - 0
-    same = omega arith
+none_split packets more = grind (arith, common_steps)
 
 module _ (packets number : ℕ) (given : List ℕ) (units : List DataUnit) (split : (more : List ℕ) → units_within packets (given ++ more) ≡ then_units units (units_within (packets - number) more)) where
   -- bytes behind the units, and the units that these have
@@ -42,7 +40,4 @@ module _ (packets number : ℕ) (given : List ℕ) (units : List DataUnit) (spli
     one_unit false goes_on = with_units bytes (u ∷ [], []) (rw (append-nil, units_within-nothing (packets - (number + 1))) at (unit_within goes_on []))
 
     pub split_more : is_end_of_sequence u ≡ false → (more : List ℕ) → units_within packets ((given ++ bytes) ++ more) ≡ then_units (units ++ u ∷ []) (following more)
-    split_more goes_on more =
-        ap (units_within packets) (append_assoc given bytes more)
-        ∙ with_units (bytes ++ more) (then_units (u ∷ []) (following more)) (unit_within goes_on more)
-        ∙ ap (λ (us : List DataUnit). (us, (following more).1)) (sym (append_assoc units (u ∷ []) (following more).0))
+    split_more goes_on more = grind (arith, common_steps, with_units, unit_within)

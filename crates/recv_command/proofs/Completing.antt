@@ -1,6 +1,6 @@
 -- Where no fault came, and what comes ends the session that was asked for within so many datagrams or
 -- has fewer, receiving comes to its end, unless memory runs out.
-use Rattle.std.proofs.Common.{◌≡◌, ℕ, ◌≤◌, Bool, true, false, List, [], ◌++◌, length, take, Option, Some, None, IsSomeAnd, inl, inr, refl, sym, ap, ◌∙◌, subst, arith, append-nil, length-append}
+use Rattle.std.proofs.Common.{◌≡◌, ℕ, ◌≤◌, List, [], ◌++◌, length, take, Option, Some, None, IsSomeAnd, inl, inr, refl, sym, ap, ◌∙◌, subst, arith, append-nil, length-append}
 use Rattle.std.proofs.lemmas.List.{take-append-le}
 use Rattle.decode_command.proofs.Completing.{IsComplete}
 use Rattle.link_report.specs.declared.answer.Answer.{Answer}
@@ -12,11 +12,8 @@ use Rattle.session_count.proofs.Rising.{ended_up_to}
 use Rattle.vc_ports.proofs.Given.{some_is}
 use Rattle.vc_ports.specs.Changes.{Change, OutputChange, WireChange, HasRisen}
 use Rattle.vc_slice.specs.Asked.{Told}
+use Rattle.wire_calls.proofs.Calls.{looped-none}
 use Rattle.wire_calls.specs.Passing.{grown_by, led_by, looped_back}
-
-nothing_back : (looped : Bool) → looped_back looped [] ≡ []
-nothing_back true = refl
-nothing_back false = refl
 
 -- what will come begins with what was heard, which is so many and ends too few sessions
 too_few : (packets sessions limit : ℕ) (heard rest : List (List ℕ)) → IsReceivable packets sessions (heard ++ rest) → IsPastPackets packets sessions limit heard → ⊥
@@ -37,7 +34,7 @@ module _ (window workers packets sessions : ℕ) (at : List ℕ) (wire : WireCha
       by_lists None after whole came = whole
       by_lists (Some coming) None whole came = let none : Some (coming ++ looped_back wire.told.before.looped []) ≡ None = came in absurd cc
       by_lists (Some coming) (Some rest) whole came =
-          let is : coming ≡ heard ++ rest = sym (append-nil coming) ∙ ap (λ (l : List (List ℕ)). coming ++ l) (sym (nothing_back wire.told.before.looped)) ∙ some_is (coming ++ looped_back wire.told.before.looped []) (heard ++ rest) came in
+          let is : coming ≡ heard ++ rest = sym (append-nil coming) ∙ ap (λ (l : List (List ℕ)). coming ++ l) (sym (looped-none wire.told.before.looped)) ∙ some_is (coming ++ looped_back wire.told.before.looped []) (heard ++ rest) came in
           too_few packets sessions limit heard rest (subst (IsReceivable packets sessions) is whole) past
 
   pub recv_completes : (answer : Answer) → ReceivesFrom window workers packets sessions at answer wire output hands → IsComplete answer

@@ -1,5 +1,5 @@
 -- The frames that raw bytes hold have the settings' sizes, and their raw bytes are these bytes.
-use Rattle.std.proofs.Common.{◌≡◌, ◌<◌, ℕ, ◌+◌, ◌-◌, ◌*◌, Bool, true, false, cond, List, [], ◌∷◌, ◌++◌, length, take, drop, map, None, refl, sym, ap, subst, ◌∙◌, arith, All, append-nil}
+use Rattle.std.proofs.Common.{◌≡◌, ◌<◌, ℕ, ◌+◌, ◌-◌, ◌*◌, Bool, true, false, cond, List, [], ◌∷◌, ◌++◌, length, take, drop, map, None, refl, sym, ap, subst, ◌∙◌, arith, All}
 use Rattle.std.specs.List.{concat}
 use Rattle.std.proofs.lemmas.List.{length-drop, length-take-le}
 use Rattle.std.proofs.lemmas.List.Concat.{flat_map-cons}
@@ -9,6 +9,7 @@ use Rattle.frame_sending.proofs.FrameSizes.{sized}
 use Rattle.field_pairs.specs.Sizes.{AreWhole}
 use Rattle.frame_reader.specs.FrameBytes.{frame_length, frame_of_bytes, plane_length, sample_count, samples_of_bytes}
 use Rattle.frame_reader.specs.WholeFrames.{HoldFrames}
+use Rattle.frame_reader.proofs.Holding.{bytes_are}
 use Rattle.frame_reader.proofs.ReadBack.{frame_back}
 use Rattle.index_zero.specs.IndexZero.{raw_frame, raw_video}
 use Rattle.index_zero.proofs.Among.{All-back, All-front}
@@ -109,11 +110,7 @@ module _ (s : Sending) where
     all_whole = subst (λ (l : List Planes). All AreWhole l) (sym holds.frames_are)
         (All-map AreWhole frame_of holds.pieces (All-weaker IsLong (λ piece. AreWhole (frame_of piece)) (are_whole shape) holds.pieces holds.whole))
 
-    all_bytes : bytes ≡ concat holds.pieces
-    all_bytes = holds.bytes_are ∙ append-nil (concat holds.pieces)
-
     pub raw_is : AreBytes bytes → raw_video s frames ≡ bytes
     raw_is are =
-        ap (raw_video s) holds.frames_are
-        ∙ raw_back holds.pieces holds.whole (subst AreBytes all_bytes are)
-        ∙ sym all_bytes
+        let is = bytes_are shape bytes frames holds in
+        ap (raw_video s) holds.frames_are ∙ raw_back holds.pieces holds.whole (subst AreBytes is are) ∙ sym is

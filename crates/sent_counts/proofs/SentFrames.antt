@@ -1,14 +1,14 @@
 -- How many datagrams, and how many bytes, frames are sent in whose samples are within their limits.
 use Rattle.std.proofs.Common.{◌≡◌, ℕ, zero, suc, ◌+◌, ◌-◌, ◌*◌, ◌/◌, ◌^◌, ◌<◌, ◌≤◌, Bool, true, false, cond, List, [], ◌∷◌, ◌++◌, length, map, get_or, Option, Some, None, refl, sym, subst, arith}
-use Rattle.std.specs.Prelude.{nat_le, not}
+use Rattle.std.specs.Prelude.{All, nat_le, not}
 use Rattle.std.specs.List.{flat_map, range_with_len, sum_by}
 use Rattle.std.specs.Option.{option_map, option_or}
 use Rattle.std.proofs.lemmas.Bool.{leb-true}
 use Rattle.std.proofs.lemmas.Bool.Decides.{nat_tests}
 use Rattle.std.proofs.lemmas.Grind.{common_steps}
-use Rattle.std.proofs.lemmas.List.{length-append}
+use Rattle.std.proofs.lemmas.List.{get_or_past, length-append}
 use Rattle.std.proofs.lemmas.List.Concat.{flat_map-cons}
-use Rattle.std.proofs.lemmas.List.Elements.{All-head, All-tail}
+use Rattle.std.proofs.lemmas.List.Elements.{All-append, All-cons, All-get_or, All-head, All-nil, All-tail}
 use Rattle.std.proofs.lemmas.List.Sums.{prefix_len-le-length}
 use Rattle.std.proofs.lemmas.Nat.{le-div}
 use Rattle.std.proofs.lemmas.Option.{none-some}
@@ -42,26 +42,27 @@ pub none_first : (a b : Option SendFault) → option_or a b ≡ None → a ≡ N
 none_first None b h = refl
 none_first (Some x) b h = h
 
-none_second : (a b : Option SendFault) → option_or a b ≡ None → b ≡ None
+pub none_second : (a b : Option SendFault) → option_or a b ≡ None → b ≡ None
 none_second None b h = h
 none_second (Some x) b h = absurd (none-some x (sym h))
 
-unmapped : {A B : Type 0} (f : A → B) (o : Option A) → option_map f o ≡ None → o ≡ None
+pub unmapped : {A B : Type 0} (f : A → B) (o : Option A) → option_map f o ≡ None → o ≡ None
 unmapped f None h = refl
 unmapped f (Some x) h = absurd (none-some (f x) (sym h))
 
-first_inside : (limit place x : ℕ) (xs : List ℕ) → first_outside limit place (x ∷ xs) ≡ None → (x < limit) × (first_outside limit (place + 1) xs ≡ None)
+pub all_below : (limit place : ℕ) (xs : List ℕ) → first_outside limit place xs ≡ None
+    → All (λ v. v < limit) xs
 unfolding first_outside
-first_inside limit place x xs none = grind arith
+all_below limit place [] none = All-nil (λ v. v < limit)
+all_below limit place (x ∷ xs) none = grind (arith, nat_tests, All-cons, all_below limit (place + 1) xs)
 
-all_inside : (limit place : ℕ) (xs : List ℕ) (i : ℕ) → 0 < limit → first_outside limit place xs ≡ None → get_or xs i 0 < limit
-all_inside limit place [] i some none = some
-all_inside limit place (x ∷ xs) zero some none = (first_inside limit place x xs none).0
-all_inside limit place (x ∷ xs) (suc i) some none = all_inside limit (place + 1) xs i some (first_inside limit place x xs none).1
+pub item_below : (limit : ℕ) (xs : List ℕ) (i : ℕ) → 0 < limit → All (λ v. v < limit) xs
+    → get_or xs i 0 < limit
+item_below limit xs i some all = grind (arith, All-get_or, get_or_past)
 
 plane_small : (depth number : ℕ) (plane : Raster) → depth ≤ 17 → plane_fault depth number plane ≡ None → HasSmallSamples plane
 unfolding sample_at
-plane_small depth number plane few none = grind (arith, all_inside, pow_mono, pow_pos, unmapped)
+plane_small depth number plane few none = grind (arith, all_below, item_below, pow_mono, pow_pos, unmapped)
 
 frame_small : (s : Sending) (frame : Planes) → ((c : Component) → plane_depth (sent_parameters s).shape c ≤ 17) → first_sample_fault s frame ≡ None → HaveSmallSamples frame
 unfolding first_sample_fault
@@ -79,30 +80,26 @@ frame_small s frame few none =
 
 -- ---- the fields of a frame
 
-abbrev AllBelow : ℕ → List ℕ → Type 0
-AllBelow m [] = Unit {0}
-AllBelow m (x ∷ xs) = (x < m) × AllBelow m xs
-
-item_below : (m : ℕ) (xs : List ℕ) (i : ℕ) → 0 < m → AllBelow m xs → get_or xs i 0 < m
-item_below m [] i some all = some
-item_below m (x ∷ xs) zero some all = all.0
-item_below m (x ∷ xs) (suc i) some all = item_below m xs i some all.1
-
-below_append : (m : ℕ) (xs ys : List ℕ) → AllBelow m xs → AllBelow m ys → AllBelow m (xs ++ ys)
-below_append m [] ys a b = b
-below_append m (x ∷ xs) ys a b = (a.0, below_append m xs ys a.1 b)
-
 module _ (m : ℕ) (f : ℕ → ℕ → ℕ) (small : (x y : ℕ) → f x y < m) where
-  row_below : (y a n : ℕ) → AllBelow m (map (λ x. f x y) (range_with_len a n))
-  row_below y a zero = tt
-  row_below y a (suc n) = (small a y, row_below y (a + 1) n)
+  abbrev Small : List ℕ → Type 0
+  Small samples = All (λ v. v < m) samples
 
-  rows_below : (width a n : ℕ) → AllBelow m (flat_map (λ y. map (λ x. f x y) (range_with_len 0 width)) (range_with_len a n))
-  rows_below width a zero = tt
+  row_below : (y a n : ℕ) → Small (map (λ x. f x y) (range_with_len a n))
+  row_below y a zero = All-nil (λ v. v < m)
+  row_below y a (suc n) =
+      All-cons (λ v. v < m) (f a y) (map (λ x. f x y) (range_with_len (a + 1) n))
+      (small a y) (row_below y (a + 1) n)
+
+  rows_below : (width a n : ℕ)
+      → Small (flat_map (λ y. map (λ x. f x y) (range_with_len 0 width)) (range_with_len a n))
+  rows_below width a zero = All-nil (λ v. v < m)
   rows_below width a (suc n) =
-      grind (arith, below_append, flat_map-cons, row_below, rows_below width (a + 1) n)
+      let row : ℕ → List ℕ = λ y. map (λ x. f x y) (range_with_len 0 width) in
+      subst Small (sym (flat_map-cons row a (range_with_len (a + 1) n)))
+      (All-append (λ v. v < m) (row a) (flat_map row (range_with_len (a + 1) n))
+      (row_below a 0 width) (rows_below width (a + 1) n))
 
-  raster_below : (width height : ℕ) → AllBelow m (raster width height f)
+  pub raster_below : (width height : ℕ) → Small (raster width height f)
   unfolding raster
   raster_below width height = rows_below width 0 height
 

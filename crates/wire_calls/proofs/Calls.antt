@@ -1,9 +1,9 @@
 -- What one call of a wire makes of what it tells, and calls one after another.
-use Rattle.std.proofs.Common.{◌≡◌, ℕ, Bool, true, false, List, [], ◌∷◌, ◌++◌, length, take, drop, Option, Some, None, refl, sym, ap, ◌∙◌, append_assoc, append-nil, subst, arith, take-append-drop}
+use Rattle.std.proofs.Common.{◌≡◌, ℕ, Bool, true, false, List, [], ◌∷◌, ◌++◌, take, drop, Option, Some, None, refl, sym, ap, ◌∙◌, append_assoc, append-nil, take-append-drop}
 use Rattle.std.specs.Option.{option_map}
 use Rattle.std.specs.Prelude.{IfSome, if◌then◌else◌, Result, Ok, Err}
 use Rattle.std.specs.Result.{IsErr}
-use Rattle.vc_ports.specs.Wires.{WireTold, Receives, grown, sending, receiving}
+use Rattle.vc_ports.specs.Wires.{WireTold, Receives, grown, sending}
 use Rattle.vc_types.specs.declared.memory.NoMemory.{NoMemory}
 use Rattle.wire_calls.specs.declared.inbox.Arrived.{Arrived}
 use Rattle.wire_calls.specs.Passing.{Arrives, Passes, grown_by, led_by, looped_back}
@@ -37,7 +37,7 @@ led-none : (list : Told) → led_by [] list ≡ list
 led-none None = refl
 led-none (Some rest) = refl
 
-looped-none : (looped : Bool) → looped_back looped [] ≡ []
+pub looped-none : (looped : Bool) → looped_back looped [] ≡ []
 looped-none true = refl
 looped-none false = refl
 

@@ -1,4 +1,5 @@
 use Rattle.std.proofs.Common.{ℕ, ◌+◌, ◌∙◌, ◌++◌, ◌∷◌, ◌^◌, [], List, length, Err, subst, sym, refl, arith, inr, length-append, ◌<◌}
+use Rattle.std.proofs.lemmas.Grind.{common_steps}
 use Rattle.frame_reader.specs.FrameBytes.{frame_length}
 use Rattle.frame_reader.specs.Reading.{GaveFrame, ReadsFrame}
 use Rattle.frame_sending.specs.Steps.{FailsAt, IsBehindFrames, FrameIsTaken}
@@ -48,14 +49,7 @@ returns-in-Err-take-clause-value g c =
     failed_at laws s c.args.frames at.0 _ _ _ _ _ at.3 room frame gave c.in-Err-take.ending (value at.0 (omega (arith, at.1, c.loop-frame-test.true, c.ranges.frames.fits)) at.2)
 
 pub returns-in-Err-take-clause-input_cause : goal.returns-in-Err-take-clause-input_cause
-returns-in-Err-take-clause-input_cause g c =
-    let s = sending_view c.args.sender.now.sender.settings in
-    let at = c.loop-frame.invariant.sent in
-    let value = subst (λ (st : SendSettings). (sent : List Planes) → length sent + 1 < 2 ^ 32 → IsBehindFrames (sending_view st) sent c.loop-frame.sender → FailsAt (sending_view st) sent (planes_in c.in-Ok-Some.planes) (g.O.Outlet.carried c.loop-frame.outlet c.take.new.outlet) (g.O.Outlet.broke c.loop-frame.outlet c.take.new.outlet) c.in-Err-take.ending) c.loop-frame.invariant.settings c.in-Err-take.ensures.value in
-    record {
-      later = omega (arith, c.loop-frame.invariant.input_later, c.in-Ok-Some.ensures.cause.later);
-      rose = λ e. absurd (not_read s at.0 (planes_in c.in-Ok-Some.planes) (g.O.Outlet.carried c.loop-frame.outlet c.take.new.outlet) (g.O.Outlet.broke c.loop-frame.outlet c.take.new.outlet) c.in-Err-take.ending (value at.0 (omega (arith, at.1, c.loop-frame-test.true, c.ranges.frames.fits)) at.2) e);
-    }
+returns-in-Err-take-clause-input_cause g c = grind (arith, common_steps, not_read)
 
 pub returns-in-Err-clause-value : goal.returns-in-Err-clause-value
 returns-in-Err-clause-value g c =

@@ -1,4 +1,5 @@
-use Rattle.std.proofs.Common.{◌≡◌, Err, false, true, rules}
+use Rattle.std.proofs.Common.{◌≡◌, Err, false, true, rules, arith}
+use Rattle.std.proofs.lemmas.Grind.{common_steps}
 use Rattle.picture_encode.specs.Choosing.{AnswersNeed}
 use Rattle.picture_encode.specs.declared.refusal.SliceRefusal.TheVariants.{NoMemory}
 use Rattle.vc_types.specs.Planes.{planes_in}
@@ -14,11 +15,7 @@ encode_picture-requires-clause-planes g c =
     whole_can (AnswersNeed g.F.Fn c.args.chooser.now.choose) c.args.chooser.now.wants_lens (sending_view c.args.s.now) (planes_in c.args.frame.now) c.requires.sizes c.requires.samples (parameters_of c.args.plan.now) c.requires.plan single
 
 pub returns-in_err-first : goal.returns-in_err-first
-returns-in_err-first g c =
-    let single : c.args.s.now.fields ≡ false = search rules in
-    let e = c.in_err-first.field-0.0 in
-    let same : c.from_residual.result ≡ Err e = search rules in
-    rw same (whole_refused (AnswersNeed g.F.Fn c.args.chooser.now.choose) c.args.chooser.now.wants_lens (sending_view c.args.s.now) (planes_in c.args.frame.now) c.requires.sizes c.requires.samples (parameters_of c.args.plan.now) c.requires.plan single e c.in_err-first.ensures.refused)
+returns-in_err-first g c = grind (arith, common_steps, whole_refused)
 
 pub returns-then-not-s : goal.returns-then-not-s
 returns-then-not-s g c =

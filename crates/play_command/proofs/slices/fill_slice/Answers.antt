@@ -1,7 +1,7 @@
-use Rattle.std.proofs.Common.{◌<◌, ◌∙◌, ap, sym, subst}
+use Rattle.std.proofs.Common.{◌<◌, ◌∙◌, ap, sym, subst, arith}
+use Rattle.std.proofs.lemmas.Grind.{common_steps}
 use Rattle.picture_build.proofs.WholeSlices.{whole_slice}
 use Rattle.vc_types.specs.Slices.{slice_coefficients}
-use Rattle.vc_types.specs.SliceCoefficients.{AreSliceCoefficients}
 use Rattle.vc_types.specs.Subbands.{slice_count}
 use Rattle.vc_types.specs.TransformParameters.{Parameters, parameters_of}
 use Rattle.vc_slice.specs.declared.job.SliceJob.{SliceJob}
@@ -11,11 +11,7 @@ pub fill-requires-clause-in_plan : goal.fill-requires-clause-in_plan
 fill-requires-clause-in_plan c = subst (λ (p : Parameters). c.args.job.index < slice_count p) (sym c.requires.plan) c.args.job.in_plan
 
 pub fill-requires-clause-whole : goal.fill-requires-clause-whole
-fill-requires-clause-whole c =
-    let p = parameters_of c.args.job.plan in
-    let same = ap (λ (j : SliceJob). slice_coefficients (parameters_of j.plan) j.index j.bytes) c.in_ok-answer.ensures.job in
-    subst (λ (p : Parameters). AreSliceCoefficients p c.args.job.index c.in-Ok.coeffs) (sym c.requires.plan)
-    (whole_slice p c.args.job.index c.in-Ok.coeffs c.args.job.bytes (sym (c.in_ok-answer.field-0.decoded ∙ same) ∙ c.in-Ok.is))
+fill-requires-clause-whole c = grind (arith, common_steps, whole_slice)
 
 pub returns-in-Ok : goal.returns-in-Ok
 returns-in-Ok c =

@@ -1,4 +1,5 @@
-use Rattle.std.proofs.Common.{◌≡◌, length, false, refl, sym, ap, ◌∙◌, arith}
+use Rattle.std.proofs.Common.{◌≡◌, false, refl, sym, ◌∙◌, arith}
+use Rattle.std.proofs.lemmas.Grind.{common_steps}
 use Rattle.link_model.specs.Packets.{Header}
 use Rattle.link_model.specs.Sending.{HeaderContent}
 use Rattle.link_model.specs.SendingPictures.{sent_header}
@@ -10,11 +11,7 @@ use Rattle.link_sender.proofs.PayloadLengths.{header_length}
 use Rattle.link_sender.proofs.outbox.Outbox.put_header.Goals as goal
 
 pub put-requires-clause-fits : goal.put-requires-clause-fits
-put-requires-clause-fits c =
-    let own : c.args.body.now ≡ sent_header (sending_view c.args.s.now) = sym (packed_back c.args.body.now (λ i h. omega (arith, c.type_inv.body i))) ∙ c.requires.body in
-    let same = ap length own in
-    let long = header_length c.high_half.result 4 c.args.body.now in
-    omega (arith, same, long, c.requires.short)
+put-requires-clause-fits c = grind (arith, common_steps, packed_back, header_length)
 
 pub returns : goal.returns
 returns c =

@@ -1,4 +1,5 @@
-use Rattle.std.proofs.Common.{◌≡◌, length, false, refl, sym, ap, ◌∙◌, arith}
+use Rattle.std.proofs.Common.{◌≡◌, false, refl, sym, ◌∙◌, arith}
+use Rattle.std.proofs.lemmas.Grind.{common_steps}
 use Rattle.link_model.specs.Packets.{Params}
 use Rattle.link_model.specs.Sending.{ParametersContent}
 use Rattle.link_model.specs.SendingPictures.{sent_parameter_bytes}
@@ -11,17 +12,10 @@ use Rattle.link_sender.proofs.PayloadLengths.{parameters_length}
 use Rattle.link_sender.proofs.outbox.Outbox.put_parameters.Goals as goal
 
 pub put-requires-clause-payload : goal.put-requires-clause-payload
-put-requires-clause-payload c =
-    let own : c.args.body.now ≡ sent_parameter_bytes (sending_view c.args.s.now) = sym (packed_back c.args.body.now (λ i h. omega (arith, c.type_inv.body i))) ∙ c.requires.body in
-    let same = ap length own in
-    omega (arith, same, c.requires.short)
+put-requires-clause-payload c = grind (arith, common_steps, packed_back)
 
 pub put-requires-clause-fits : goal.put-requires-clause-fits
-put-requires-clause-fits c =
-    let own : c.args.body.now ≡ sent_parameter_bytes (sending_view c.args.s.now) = sym (packed_back c.args.body.now (λ i h. omega (arith, c.type_inv.body i))) ∙ c.requires.body in
-    let same = ap length own in
-    let long = parameters_length (head_of c.fragment_head.result) 16 c.args.body.now in
-    omega (arith, same, long, c.requires.short)
+put-requires-clause-fits c = grind (arith, common_steps, packed_back, parameters_length)
 
 pub returns : goal.returns
 returns c =

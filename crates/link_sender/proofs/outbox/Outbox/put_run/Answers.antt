@@ -1,4 +1,5 @@
-use Rattle.std.proofs.Common.{◌+◌, ◌*◌, ◌%◌, ◌/◌, length, nat_eq, ap, ◌∙◌, arith}
+use Rattle.std.proofs.Common.{◌+◌, ◌*◌, ◌%◌, ◌/◌, nat_eq, ap, ◌∙◌, arith}
+use Rattle.std.proofs.lemmas.Grind.{common_steps}
 use Rattle.link_model.specs.Packets.{Slices}
 use Rattle.link_model.specs.Sending.{SlicesContent}
 use Rattle.vc2_payload.specs.Views.{head_of}
@@ -9,13 +10,7 @@ use Rattle.link_sender.proofs.PayloadLengths.{most_room, slices_length}
 use Rattle.link_sender.proofs.outbox.Outbox.put_run.Goals as goal
 
 pub put-requires-clause-fits : goal.put-requires-clause-fits
-put-requires-clause-fits c =
-    let run = c.args.run.now in
-    let s = c.args.s.now in
-    let most = most_room s.size s.size_fits in
-    let same = ap length c.deref.ensures.value in
-    let long = slices_length (head_of c.fragment_head.result) run.count (run.first % s.slices_x) (run.first / s.slices_x) 20 c.deref.result.now in
-    omega (arith, most, same, long, c.requires.fits)
+put-requires-clause-fits c = grind (arith, common_steps, most_room, slices_length)
 
 pub returns : goal.returns
 returns c =

@@ -1,4 +1,4 @@
-use Rattle.std.proofs.Common.{◌≡◌, ◌+◌, ◌<◌, ◌≤◌, ◌^◌, ◌++◌, [], ◌∷◌, List, ℕ, length, take, refl, sym, ap, subst, arith}
+use Rattle.std.proofs.Common.{◌+◌, ◌<◌, ◌≤◌, ◌^◌, List, ℕ, length, take, refl, sym, ap, subst, arith}
 use Rattle.std.proofs.lemmas.List.{length-map, take_all}
 use Rattle.std.proofs.lemmas.List.Elements.{All-get_or}
 use Rattle.picture_encode.specs.declared.slices.EncodedSlice.{EncodedSlice}
@@ -7,7 +7,8 @@ use Rattle.vc_types.specs.SenderSettings.{sending_view}
 use Rattle.link_sender.specs.Packing.{ArePacked, EndsBefore, picture_at}
 use Rattle.link_sender.proofs.Numbered.{then_ok}
 use Rattle.link_sender.proofs.Packed.{none_packed}
-use Rattle.link_sender.proofs.PutPictures.{next_slice, own_bytes, some_room, whole_packed}
+use Rattle.link_sender.proofs.PutPictures.{next_slice, own_bytes, whole_packed}
+use Rattle.link_sender.proofs.PayloadLengths.{some_room}
 use Rattle.link_sender.proofs.outbox.Outbox.put_slices.Goals as goal
 
 pub loop-slice-init : goal.loop-slice-init
@@ -56,4 +57,4 @@ returns c =
     let all : ArePacked s picture slices c.args.self.now c.loop-slice.self c.loop-slice.run =
     subst (λ (l : List (List ℕ)). ArePacked s picture l c.args.self.now c.loop-slice.self c.loop-slice.run) (take_all c.loop-slice.slice-index slices (omega (arith, last, long))) c.loop-slice.invariant.packed in
     then_ok c.put_run.result c.put_run.ensures
-    (whole_packed s picture slices c.args.self.now c.loop-slice.self c.put_run.new.self c.loop-slice.run (omega (arith, long, c.requires.some)) (some_room c.args.s.now.size c.args.s.now.size_fits) c.requires.sized all)
+    (whole_packed s picture slices c.args.self.now c.loop-slice.self c.put_run.new.self c.loop-slice.run (omega (arith, long, c.requires.some)) (omega (arith, some_room c.args.s.now.size c.args.s.now.size_fits)) c.requires.sized all)

@@ -1,4 +1,5 @@
 use Rattle.std.proofs.Common.{[], ◌∷◌, arith}
+use Rattle.std.proofs.lemmas.Grind.{common_steps}
 use Rattle.link_model.specs.Sending.{HeaderContent, ParametersContent, outgoing, runs_of_slices}
 use Rattle.link_model.specs.SendingPictures.{slice_room}
 use Rattle.picture_encode.specs.Encoded.{slice_bytes}
@@ -9,10 +10,7 @@ use Rattle.link_sender.proofs.PutPictures.{some_slices}
 use Rattle.link_sender.proofs.sender.Sender.put_picture.Goals as goal
 
 pub put_slices-requires-clause-some : goal.put_slices-requires-clause-some
-put_slices-requires-clause-some g c =
-    let settings = c.args.self.now.settings in
-    let some = some_slices settings.slices_x settings.slices_y settings.slices in
-    omega (arith, some, c.requires.whole.count)
+put_slices-requires-clause-some g c = grind (arith, common_steps, some_slices)
 
 pub returns : goal.returns
 returns g c =

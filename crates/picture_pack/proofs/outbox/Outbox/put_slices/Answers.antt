@@ -1,12 +1,14 @@
 use Rattle.std.proofs.Common.{◌≡◌, ◌+◌, ◌-◌, ◌<◌, ◌≤◌, ◌^◌, ◌++◌, [], ◌∷◌, List, ℕ, length, refl, sym, ap, subst, ◌∙◌, arith, rules, append_assoc}
 use Rattle.std.proofs.lemmas.List.{append-nil}
+use Rattle.std.proofs.lemmas.Grind.{common_steps}
 use Rattle.link_model.specs.Kept.{next_slices}
 use Rattle.link_model.proofs.Slots.{next_slices-count}
 use Rattle.link_stream.specs.Packing.{first_large_slice, slices_in, slices_room}
 use Rattle.picture_pack.specs.Runs.{EndsRun, PacksSlices}
 use Rattle.picture_pack.proofs.Cutting.{cut_off_front, none_is_left, one_is_there, some_bytes}
-use Rattle.picture_pack.proofs.Lengths.{some_room, some_slices}
 use Rattle.link_sender.proofs.Numbered.{then_ok}
+use Rattle.link_sender.proofs.PutPictures.{some_slices}
+use Rattle.link_sender.proofs.PayloadLengths.{some_room}
 use Rattle.picture_pack.proofs.Rooms.{first_fits}
 use Rattle.picture_pack.proofs.RunsPut.{none_packed, whole_packed}
 use Rattle.vc_types.specs.SenderSettings.{packing_view}
@@ -39,10 +41,7 @@ next_slice-requires c =
     one_is_there p (n - c.loop-slice._slice) (n - (c.loop-slice._slice + 1)) c.loop-slice.rest.now at.1 (omega (arith, c.loop-slice-test.true)) at.3
 
 pub pack-requires-clause-run : goal.pack-requires-clause-run
-pack-requires-clause-run c =
-    let at = c.loop-slice.invariant in
-    let ends = at.5 in
-    subst (λ (n : ℕ). EndsRun (packing_view c.args.p.now.settings) n c.loop-slice.run) (sym ends.end) ends
+pack-requires-clause-run c = grind (arith, common_steps)
 
 pub pack-requires-clause-behind : goal.pack-requires-clause-behind
 pack-requires-clause-behind c = omega (arith, c.loop-slice.invariant.5.end, c.loop-slice-test.true)
@@ -81,12 +80,7 @@ loop-slice-preserved c =
     )
 
 pub put_run-requires-clause-some : goal.put_run-requires-clause-some
-put_run-requires-clause-some c =
-    let plan = c.args.p.now.plan.now in
-    let some = some_slices plan.slices_x plan.slices_y plan.slices in
-    let ends = c.loop-slice.invariant.5 in
-    let past : slice_count (parameters_of plan) ≤ c.loop-slice._slice = search rules in
-    ends.some (omega (arith, some, past))
+put_run-requires-clause-some c = grind (arith, common_steps, some_slices)
 
 pub put_run-requires-clause-end : goal.put_run-requires-clause-end
 put_run-requires-clause-end c =
