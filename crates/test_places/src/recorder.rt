@@ -8,8 +8,8 @@ struct Stored {
     place: u32,
 }
 
-/// Hands that tell what they are asked, while they have room for that, and decode nothing. A slice's place is the number
-/// of slices before it.
+/// Hands that tell what they are asked, while they have room for that, and decode nothing. A slice's
+/// place is the number of slices before it.
 #[derive(Drop)]
 pub struct Recorder {
     offered: Vec<Stored>,
@@ -30,7 +30,7 @@ impl Recorder {
         })
     }
 
-    /// Whether there was room for all, and the slices of these numbers and indices were offered in this order.
+    /// Whether there was room for all, and slices of these numbers and indices were offered in turn.
     pub fn was_offered(&self, slices: &[(u64, u32)]) -> bool {
         if self.is_full || self.offered.len() != slices.len() {
             return false;

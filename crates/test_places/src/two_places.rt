@@ -18,7 +18,8 @@ pub enum Given {
     InOppositeOrder,
 }
 
-/// Two places, where a slice is decoded at once. They give what they have, whichever is asked, and tell nothing.
+/// Two places, where a slice is decoded at once. They give what they have, whichever is asked, and
+/// tell nothing.
 #[derive(Drop)]
 pub struct TwoPlaces {
     alloc: Global,

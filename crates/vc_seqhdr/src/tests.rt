@@ -159,7 +159,8 @@ fn refuses_at_the_first_fault(rt: HostRuntime) {
     }
 }
 
-// The bytes of a header, and its width, height and sampling, whether it is interlaced, and whether the top field is first.
+// The bytes of a header, and its width, height and sampling, whether it is interlaced, and whether the
+// top field is first.
 type BaseFormat = ([u8; 4], u32, u32, Sampling, bool, bool);
 
 fn is_read(format: &BaseFormat, range: &SignalRange) -> Result<bool, Fail> {
