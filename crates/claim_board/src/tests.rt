@@ -1,6 +1,5 @@
-ghost use Rattle.std.specs.Prelude.{◌≡◌, ◌<◌, All, IfOk, OnOk, false, length, Some};
+ghost use Rattle.std.specs.Prelude.{◌≡◌, ◌<◌, All, IfOk, OnOk, false};
 ghost use Rattle.link_model.specs.Board.{lane, lane_at};
-ghost use Rattle.vc_types.specs.Slices.{slice_length};
 ghost use Rattle.claim_board.specs.Calls.{AreEmpty, IsNewWorker};
 ghost use Rattle.claim_board.specs.Seats.{IsBellSeatOf, IsFeederOf, IsWorkerOf, feeder_sees};
 ghost use Rattle.claim_board.specs.Seats.{place_count};
@@ -14,42 +13,14 @@ use link_model::{board_steps_are_events, each_place_goes_in_rounds};
 use std::alloc::Global;
 use std::sync::Arc;
 use std::test::Fail;
-use vc_slice::{Places, SliceJob, cut, decode};
-use vc_types::{NoMemory, Plan, Shape};
-
-// A picture of 8 by 4 samples whose slices, two side by side, are empty.
-const PLAN: Plan = Plan {
-    shape: Shape {
-        luma_width: 8,
-        luma_height: 4,
-        colour_width: 8,
-        colour_height: 4,
-        luma_depth: 8,
-        colour_depth: 8,
-    },
-    wavelet: 3,
-    wavelet_ho: 3,
-    depth: 1,
-    depth_ho: 0,
-    slices_x: 2,
-    slices_y: 1,
-    prefix: 0,
-    scaler: 1,
-    matrix: [8, 4, 4, 0, 0, 0, 0, 0, 0, 0, 0, 0, 0, 0, 0, 0],
-};
+use test_places::job_of;
+use test_values::TWO_SLICES;
+use vc_slice::{Places, SliceJob, decode};
+use vc_types::NoMemory;
 
 // The job of an empty slice.
 fn job(number: u64) -> Result<SliceJob, NoMemory> {
-    let bytes = Bytes::from_static(&[0, 0, 0, 0]);
-    match cut(PLAN.prefix, PLAN.scaler, bytes.as_slice()) {
-        Ok(len) if len == bytes.len() => Ok(SliceJob {
-            plan: PLAN,
-            number,
-            index: 0,
-            bytes,
-        }),
-        _ => Err(NoMemory),
-    }
+    job_of(TWO_SLICES, number, 0, Bytes::from_static(&[0; 4])).ok_or(NoMemory)
 }
 
 // A board of so many places, with its seats.

@@ -7,9 +7,10 @@ use super::*;
 use picture_build::PictureBuilder;
 use std::alloc::Global;
 use std::test::Fail;
+use test_values::{FULL_RANGE_FRAMES, UNWEIGHTED_SLICE};
 use vc_ports::MemSink;
 use vc_slice::cut;
-use vc_types::{Header, Plan, Plane, Sampling, Shape, SignalRange};
+use vc_types::{Header, Plan, Plane};
 
 // The slice of a picture whose luma samples are all 0x87, and of one that is grey: all samples are 0x80.
 const BRIGHT: &'static [u8] = &[4, 1, 0x0b, 0, 0];
@@ -27,70 +28,28 @@ const BRIGHT_BELOW: [u8; 24] = [
     0x80, 0x80, 0x80, 0x80, 0x80, 0x80, 0x80, 0x80,
 ];
 
-const RANGE: SignalRange = SignalRange {
-    luma_offset: 0,
-    luma_excursion: 255,
-    colour_offset: 128,
-    colour_excursion: 255,
-};
-
 // Frames of 2 by 2, 4:4:4, 8 bits.
 fn frames() -> Header {
-    Header {
-        major: 2,
-        minor: 0,
-        level: 0,
-        base: 0,
-        width: 2,
-        height: 2,
-        sampling: Sampling::S444,
-        interlaced: false,
-        top_first: false,
-        range: RANGE,
-        fields: false,
-    }
+    let mut header = FULL_RANGE_FRAMES;
+    header.width = 2;
+    header.height = 2;
+    header
 }
 
 // Frames of 2 by 4 in two fields.
 fn fields(top_first: bool) -> Header {
-    Header {
-        major: 2,
-        minor: 0,
-        level: 0,
-        base: 0,
-        width: 2,
-        height: 4,
-        sampling: Sampling::S444,
-        interlaced: true,
-        top_first,
-        range: RANGE,
-        fields: true,
-    }
+    let mut header = FULL_RANGE_FRAMES;
+    header.width = 2;
+    header.interlaced = true;
+    header.top_first = top_first;
+    header.fields = true;
+    header
 }
 
-// One slice of wavelet 3 at depth 1, with a matrix of zeros.
 fn one_slice() -> Plan
     ensures { (result.slices_x ≡ 1) × (result.slices_y ≡ 1) }
 {
-    Plan {
-        shape: Shape {
-            luma_width: 2,
-            luma_height: 2,
-            colour_width: 2,
-            colour_height: 2,
-            luma_depth: 8,
-            colour_depth: 8,
-        },
-        wavelet: 3,
-        wavelet_ho: 3,
-        depth: 1,
-        depth_ho: 0,
-        slices_x: 1,
-        slices_y: 1,
-        prefix: 0,
-        scaler: 1,
-        matrix: [0; 16],
-    }
+    UNWEIGHTED_SLICE
 }
 
 // The planes of a picture by the bytes of its slice.

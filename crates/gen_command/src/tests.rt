@@ -2,31 +2,9 @@ use super::*;
 use link_report::{Ending, Summary};
 use std::alloc::Global;
 use std::test::Fail;
+use test_values::{ONE_NOISE_SAMPLE, TWO_NOISE_FRAMES};
 use vc_ports::MemSink;
-use vc_types::{GenSettings, NoMemory, Sampling};
-
-const ONE_SAMPLE: GenSettings = GenSettings {
-    width: 1,
-    height: 1,
-    sampling: Sampling::S444,
-    range: 1,
-    fields: false,
-    top: true,
-    seed: 0,
-    frames: 1,
-};
-
-// Two frames of four samples of 10 bits.
-const TWO_FRAMES: GenSettings = GenSettings {
-    width: 2,
-    height: 1,
-    sampling: Sampling::S422,
-    range: 3,
-    fields: false,
-    top: true,
-    seed: 7,
-    frames: 2,
-};
+use vc_types::NoMemory;
 
 // 505, 978, 928, 279, 272, 141, 412 and 329, the lowest byte first: the upper 10 bits of z, after each
 // z = (6364136223846793005 * z + 1442695040888963407) mod 2^64 from 7 on.
@@ -41,7 +19,7 @@ fn sink(alloc: Global, fails: &[u64]) -> Result<MemSink, NoMemory> {
 #[test]
 fn three_planes_of_a_sample(rt: HostRuntime) -> Result<(), Fail> {
     let mut output = sink(rt.alloc(), &[])?;
-    let answer = generate(rt.alloc(), &ONE_SAMPLE, &mut output);
+    let answer = generate(rt.alloc(), &ONE_NOISE_SAMPLE, &mut output);
     assert_eq!(rt;
         answer,
         Ok(Summary::Generated {
@@ -56,7 +34,7 @@ fn three_planes_of_a_sample(rt: HostRuntime) -> Result<(), Fail> {
 #[test]
 fn frames_of_two_bytes_a_sample(rt: HostRuntime) -> Result<(), Fail> {
     let mut output = sink(rt.alloc(), &[])?;
-    let answer = generate(rt.alloc(), &TWO_FRAMES, &mut output);
+    let answer = generate(rt.alloc(), &TWO_NOISE_FRAMES, &mut output);
     assert_eq!(rt;
         answer,
         Ok(Summary::Generated {
@@ -73,7 +51,7 @@ fn frames_of_two_bytes_a_sample(rt: HostRuntime) -> Result<(), Fail> {
 fn a_failed_write_ends_it(rt: HostRuntime) -> Result<(), Fail> {
     for (call, bytes) in [(1, 0), (4, 8), (5, 12)] {
         let mut output = sink(rt.alloc(), &[call])?;
-        let answer = generate(rt.alloc(), &TWO_FRAMES, &mut output);
+        let answer = generate(rt.alloc(), &TWO_NOISE_FRAMES, &mut output);
         assert_eq!(rt; answer, Err(Ending::OutputFailed));
         assert_eq!(rt; output.bytes().len(), bytes);
     }

@@ -10,72 +10,11 @@ use crate::{EnterFault, Outcome, Receiver};
 use bytes::Bytes;
 use std::alloc::Global;
 use std::test::Fail;
+use test_places::AtOnce;
+use test_values::{HEADER_PAYLOAD, params_payload, slice_payload};
 use vc_ports::MemSink;
-use vc_slice::{NoPlaces, Places, SliceDone, SliceJob, decode};
+use vc_slice::{NoPlaces, Places};
 use vc_types::NoMemory;
-
-// 8 by 4, 4:4:4, frames of 8 bits.
-const HEADER: [u8; 9] = [0, 0, 0, 0, 0x70, 0xf0, 0x63, 0xc0, 0x80];
-
-// Wavelet 3, depth 1, two slices across and one down, of picture 0.
-const PARAMS: [u8; 19] = [
-    0, 0, 0, 0xec, 0, 0, 0, 0, 0, 0, 0, 1, 0, 3, 0, 0, 0x09, 0x66, 0x40,
-];
-
-const FIRST_SLICE: [u8; 24] = [
-    0, 0, 0, 0xec, 0, 0, 0, 0, 0, 0, 0, 1, 0, 4, 0, 1, 0, 0, 0, 0, 0, 0, 0, 0,
-];
-
-const SECOND_SLICE: [u8; 24] = [
-    0, 0, 0, 0xec, 0, 0, 0, 0, 0, 0, 0, 1, 0, 4, 0, 1, 0, 1, 0, 0, 0, 0, 0, 0,
-];
-
-// One place, where a slice is decoded at once. It tells nothing.
-#[derive(Drop)]
-struct AtOnce {
-    alloc: Global,
-    done: Option<SliceDone>,
-    taken: u32,
-}
-
-impl Places for AtOnce {
-    ghost use Rattle.std.specs.Prelude.{None};
-
-    ghost bound = { λ _. 1 };
-
-    ghost told = { λ _. None };
-
-    fn put(&mut self, job: SliceJob) -> Result<u32, SliceJob> {
-        if self.done.is_some() {
-            return Err(job);
-        }
-        let Some(done) = decoded(self.alloc, &job) else {
-            return Err(job);
-        };
-        self.done = Some(done);
-        Ok(0)
-    }
-
-    fn take(&mut self, _place: u32) -> Option<SliceDone> {
-        self.taken = self.taken.saturating_add(1);
-        self.done.take()
-    }
-
-    fn withdraw(&mut self, _place: u32) -> Option<SliceJob> {
-        None
-    }
-
-    fn leave(&mut self, _place: u32) {
-        self.done = None;
-    }
-}
-
-fn decoded(alloc: Global, job: &SliceJob) -> Option<SliceDone> {
-    let Ok(copy) = job.copy() else {
-        return None;
-    };
-    decode(alloc, copy).ok()
-}
 
 // A datagram of one source.
 fn datagram(alloc: Global, payload: &[u8]) -> Result<Bytes, NoMemory> {
@@ -101,10 +40,10 @@ fn has_outcome<P: Places>(
 
 // Whether a session with one picture of zeros gives one frame, all of it grey.
 fn is_one_picture<P: Places>(alloc: Global, places: &mut P) -> Result<bool, Fail> {
-    let header = datagram(alloc, &HEADER)?;
-    let params = datagram(alloc, &PARAMS)?;
-    let first = datagram(alloc, &FIRST_SLICE)?;
-    let second = datagram(alloc, &SECOND_SLICE)?;
+    let header = datagram(alloc, &HEADER_PAYLOAD)?;
+    let params = datagram(alloc, &params_payload(0))?;
+    let first = datagram(alloc, &slice_payload(0, 0))?;
+    let second = datagram(alloc, &slice_payload(0, 1))?;
     let mut sink = MemSink::new(alloc, 96, Vec::new(alloc))?;
     let mut receiver = Receiver::new(alloc, 2);
     let begins = has_outcome(header, &mut receiver, places, &mut sink, Outcome::HeaderNew);
@@ -148,13 +87,9 @@ fn a_picture_is_written_without_places(rt: HostRuntime) -> Result<(), Fail> {
 
 #[test]
 fn a_picture_is_written_by_answers(rt: HostRuntime) -> Result<(), Fail> {
-    let mut places = AtOnce {
-        alloc: rt.alloc(),
-        done: None,
-        taken: 0,
-    };
+    let mut places = AtOnce::new(rt.alloc());
     assert!(rt; is_one_picture(rt.alloc(), &mut places)?);
-    assert_eq!(rt; places.taken, 2);
+    assert_eq!(rt; places.taken(), 2);
     Ok(())
 }
 
@@ -168,10 +103,10 @@ const STREAM: [u8; 59] = [
 #[test]
 fn a_picture_is_unpacked(rt: HostRuntime) -> Result<(), Fail> {
     let alloc = rt.alloc();
-    let header = datagram(alloc, &HEADER)?;
-    let params = datagram(alloc, &PARAMS)?;
-    let first = datagram(alloc, &FIRST_SLICE)?;
-    let second = datagram(alloc, &SECOND_SLICE)?;
+    let header = datagram(alloc, &HEADER_PAYLOAD)?;
+    let params = datagram(alloc, &params_payload(0))?;
+    let first = datagram(alloc, &slice_payload(0, 0))?;
+    let second = datagram(alloc, &slice_payload(0, 1))?;
     let mut places = NoPlaces;
     let mut sink = MemSink::new(alloc, 59, Vec::new(alloc))?;
     let mut receiver = Receiver::units(alloc, 2);

@@ -3,13 +3,13 @@ ghost use Rattle.link_model.specs.SendingPictures.{IsFrame};
 ghost use Rattle.picture_encode.specs.Choosing.{AnswersAtMost127};
 ghost use Rattle.vc_types.specs.Planes.{planes_in};
 ghost use Rattle.vc_types.specs.SenderSettings.{sending_view};
-ghost use Rattle.vc_types.specs.declared.settings.SendSettings.{SendSettings};
 ghost use Rattle.vc_types.specs.declared.video.Sampling.TheVariants.{S444};
 
 use crate::{Chooser, Datagram, SendRefusal, Sender};
 use std::alloc::Global;
 use std::test::Fail;
-use vc_types::{IndexChoice, NoMemory, Plane, Sampling, SendSettings, SliceNeed};
+use test_values::ONE_SLICE_SETTINGS;
+use vc_types::{NoMemory, Plane, SendSettings, SliceNeed};
 
 const BRIGHT: u16 = 0x80;
 
@@ -35,31 +35,13 @@ const SLICE: [u8; 38] = [
 
 const END: [u8; 16] = [0x80, 0x60, 0, 3, 0, 0, 0, 0, 0, 0, 0, 1, 0, 0, 0, 0x10];
 
-// 2 by 2, 4:4:4, 8 bits, wavelet 3 at depth 1, one slice. The first datagram has this number.
+// 2 by 2, one slice. The first datagram has this number.
 fn small(seq: u32) -> SendSettings
     ensures size { (result.width ≡ 2) × (result.height ≡ 2) × (result.sampling ≡ S444) }
 {
-    SendSettings {
-        width: 2,
-        height: 2,
-        sampling: Sampling::S444,
-        range: 1,
-        fields: false,
-        top: true,
-        wavelet: 3,
-        depth: 1,
-        slices_x: 1,
-        slices_y: 1,
-        prefix: 0,
-        scaler: 1,
-        size: 1400,
-        choice: IndexChoice::Index(0),
-        ssrc: 1,
-        seq,
-        picture: 0,
-        tick: 3600,
-        pt: 96,
-    }
+    let mut settings = ONE_SLICE_SETTINGS;
+    settings.seq = seq;
+    settings
 }
 
 // 2 by 4, two fields. Numbers of datagrams and of pictures soon wrap.
@@ -68,27 +50,16 @@ fn small_fields(top: bool, prefix: u32, size: u32) -> SendSettings
     requires size { (64 ≤ size) × (size ≤ 1400) }
     ensures size { (result.width ≡ 2) × (result.height ≡ 4) × (result.sampling ≡ S444) }
 {
-    SendSettings {
-        width: 2,
-        height: 4,
-        sampling: Sampling::S444,
-        range: 1,
-        fields: true,
-        top,
-        wavelet: 3,
-        depth: 1,
-        slices_x: 1,
-        slices_y: 1,
-        prefix,
-        scaler: 1,
-        size,
-        choice: IndexChoice::Index(0),
-        ssrc: 1,
-        seq: 0xffff_fffd,
-        picture: 0xffff_fffe,
-        tick: 3601,
-        pt: 96,
-    }
+    let mut settings = ONE_SLICE_SETTINGS;
+    settings.height = 4;
+    settings.fields = true;
+    settings.top = top;
+    settings.prefix = prefix;
+    settings.size = size;
+    settings.seq = 0xffff_fffd;
+    settings.picture = 0xffff_fffe;
+    settings.tick = 3601;
+    settings
 }
 
 // 8 by 4, two slices, and room for 32 bytes of them in a datagram.
@@ -96,27 +67,13 @@ fn two_slices(prefix: u32) -> SendSettings
     requires { prefix ≤ 255 }
     ensures size { (result.width ≡ 8) × (result.height ≡ 4) × (result.sampling ≡ S444) }
 {
-    SendSettings {
-        width: 8,
-        height: 4,
-        sampling: Sampling::S444,
-        range: 1,
-        fields: false,
-        top: true,
-        wavelet: 3,
-        depth: 1,
-        slices_x: 2,
-        slices_y: 1,
-        prefix,
-        scaler: 1,
-        size: 64,
-        choice: IndexChoice::Index(0),
-        ssrc: 1,
-        seq: 0,
-        picture: 0,
-        tick: 3600,
-        pt: 96,
-    }
+    let mut settings = ONE_SLICE_SETTINGS;
+    settings.width = 8;
+    settings.height = 4;
+    settings.slices_x = 2;
+    settings.prefix = prefix;
+    settings.size = 64;
+    settings
 }
 
 fn grey(alloc: Global, width: u32, height: u32) -> Result<Plane, NoMemory>
@@ -127,13 +84,14 @@ fn grey(alloc: Global, width: u32, height: u32) -> Result<Plane, NoMemory>
     Ok(Plane::new(width, height, samples))
 }
 
-// A frame whose luma has these samples, and whose colours are grey.
-fn frame(alloc: Global, width: u32, height: u32, luma: &[u16]) -> Result<[Plane; 3], NoMemory>
-    requires size { (width ≤ 8) × (height ≤ 8) }
-    requires luma { length luma.now ≡ width * height }
-    ensures frame { IfOk result (λ f. (s : SendSettings) → s.width ≡ width → s.height ≡ height
-        → s.sampling ≡ S444 → IsFrame (sending_view s) (planes_in f)) }
+// A frame that is sent so, whose luma has these samples, and whose colours are grey.
+fn frame(alloc: Global, settings: &SendSettings, luma: &[u16]) -> Result<[Plane; 3], NoMemory>
+    requires size { (settings.now.width ≤ 8) × (settings.now.height ≤ 8) }
+    requires sampling { settings.now.sampling ≡ S444 }
+    requires luma { length luma.now ≡ settings.now.width * settings.now.height }
+    ensures { IfOk result (λ f. IsFrame (sending_view settings.now) (planes_in f)) }
 {
+    let (width, height) = (settings.width, settings.height);
     let y = Plane::new(width, height, Vec::from_slice(alloc, luma)?);
     let c1 = grey(alloc, width, height)?;
     let c2 = grey(alloc, width, height)?;
@@ -190,8 +148,9 @@ fn refused<F: Fn(&SliceNeed) -> u8>(
 #[test]
 fn a_frame_is_three_datagrams(rt: HostRuntime) -> Result<(), Fail> {
     let alloc = rt.alloc();
-    let edged = frame(alloc, 2, 2, &EDGED)?;
-    let mut sender = Sender::new(alloc, small(0), Chooser::new(false, |_need: &SliceNeed| 0));
+    let settings = small(0);
+    let edged = frame(alloc, &settings, &EDGED)?;
+    let mut sender = Sender::new(alloc, settings, Chooser::new(false, |_need: &SliceNeed| 0));
     let datagrams = sent(&mut sender, &edged)?;
     assert!(rt; are(&datagrams, &[&HEADER, &PARAMETERS, &SLICE]));
     assert_eq!(rt; sender.finish()?.bytes.as_slice(), END.as_slice());
@@ -201,8 +160,9 @@ fn a_frame_is_three_datagrams(rt: HostRuntime) -> Result<(), Fail> {
 #[test]
 fn a_joined_frame_is_the_same(rt: HostRuntime) -> Result<(), Fail> {
     let alloc = rt.alloc();
-    let edged = frame(alloc, 2, 2, &EDGED)?;
-    let mut sender = Sender::new(alloc, small(0), Chooser::new(false, |_need: &SliceNeed| 0));
+    let settings = small(0);
+    let edged = frame(alloc, &settings, &EDGED)?;
+    let mut sender = Sender::new(alloc, settings, Chooser::new(false, |_need: &SliceNeed| 0));
     match sender.send_frame_joined(rt, &edged) {
         Ok(datagrams) => assert!(rt; are(&datagrams, &[&HEADER, &PARAMETERS, &SLICE])),
         Err(_) => panic!(rt),
@@ -214,8 +174,9 @@ fn a_joined_frame_is_the_same(rt: HostRuntime) -> Result<(), Fail> {
 #[test]
 fn a_second_frame_goes_on(rt: HostRuntime) -> Result<(), Fail> {
     let alloc = rt.alloc();
-    let edged = frame(alloc, 2, 2, &EDGED)?;
-    let mut sender = Sender::new(alloc, small(0), Chooser::new(false, |_need: &SliceNeed| 0));
+    let settings = small(0);
+    let edged = frame(alloc, &settings, &EDGED)?;
+    let mut sender = Sender::new(alloc, settings, Chooser::new(false, |_need: &SliceNeed| 0));
     sent(&mut sender, &edged)?;
     let datagrams = sent(&mut sender, &edged)?;
     let header = [
@@ -273,9 +234,10 @@ const SECOND_END: [u8; 16] = [
 #[test]
 fn a_frame_of_two_fields_is_two_pictures(rt: HostRuntime) -> Result<(), Fail> {
     let alloc = rt.alloc();
-    let fields = frame(alloc, 2, 4, &LATER_EDGED)?;
+    let settings = small_fields(false, 0, 1400);
+    let fields = frame(alloc, &settings, &LATER_EDGED)?;
     let chooser = Chooser::new(false, |_need: &SliceNeed| 0);
-    let mut sender = Sender::new(alloc, small_fields(false, 0, 1400), chooser);
+    let mut sender = Sender::new(alloc, settings, chooser);
     let datagrams = sent(&mut sender, &fields)?;
     assert!(rt;
         are(
@@ -299,9 +261,10 @@ fn a_frame_of_two_fields_is_two_pictures(rt: HostRuntime) -> Result<(), Fail> {
 fn the_top_field_may_be_the_earlier_one(rt: HostRuntime) -> Result<(), Fail> {
     let alloc = rt.alloc();
     let edged_top = [0x80, 0x80, 0x80, 0x80, 0x7f, 0x80, 0x80, 0x80];
-    let fields = frame(alloc, 2, 4, &edged_top)?;
+    let settings = small_fields(true, 0, 1400);
+    let fields = frame(alloc, &settings, &edged_top)?;
     let chooser = Chooser::new(false, |_need: &SliceNeed| 0);
-    let mut sender = Sender::new(alloc, small_fields(true, 0, 1400), chooser);
+    let mut sender = Sender::new(alloc, settings, chooser);
     let datagrams = sent(&mut sender, &fields)?;
     let header = [
         0x80, 0x60, 0xff, 0xfd, 0, 0, 0, 0, 0, 0, 0, 1, 0xff, 0xff, 0, 0, 0x0c, 0x35, 0x76, 0x3e,
@@ -318,15 +281,16 @@ fn the_top_field_may_be_the_earlier_one(rt: HostRuntime) -> Result<(), Fail> {
 #[test]
 fn a_sample_of_nine_bits_is_refused(rt: HostRuntime) -> Result<(), Fail> {
     let alloc = rt.alloc();
-    let mut sender = Sender::new(alloc, small(0), Chooser::new(false, |_need: &SliceNeed| 0));
-    let bright = frame(alloc, 2, 2, &[0xff, 0x100, 0x1ff, 0])?;
+    let settings = small(0);
+    let mut sender = Sender::new(alloc, settings, Chooser::new(false, |_need: &SliceNeed| 0));
+    let bright = frame(alloc, &settings, &[0xff, 0x100, 0x1ff, 0])?;
     let place = SendRefusal::SampleRange {
         plane: 0,
         place: 1,
         value: 0x100,
     };
     assert_eq!(rt; refused(&mut sender, &bright), Some(place));
-    let edged = frame(alloc, 2, 2, &EDGED)?;
+    let edged = frame(alloc, &settings, &EDGED)?;
     let datagrams = sent(&mut sender, &edged)?;
     assert!(rt; are(&datagrams, &[&HEADER, &PARAMETERS, &SLICE]));
     Ok(())
@@ -353,8 +317,9 @@ fn a_colour_sample_is_named_by_its_plane(rt: HostRuntime) -> Result<(), Fail> {
 fn a_slice_without_room_is_refused(rt: HostRuntime) -> Result<(), Fail> {
     let alloc = rt.alloc();
     let chooser = Chooser::new(false, |_need: &SliceNeed| 0);
-    let mut sender = Sender::new(alloc, two_slices(29), chooser);
-    let grey = frame(alloc, 8, 4, &[BRIGHT; 32])?;
+    let settings = two_slices(29);
+    let grey = frame(alloc, &settings, &[BRIGHT; 32])?;
+    let mut sender = Sender::new(alloc, settings, chooser);
     let first = SendRefusal::SliceTooLarge {
         slice: 0,
         bytes: 33,
@@ -370,9 +335,10 @@ fn a_slice_without_room_is_refused(rt: HostRuntime) -> Result<(), Fail> {
 fn a_field_is_refused_for_the_whole_frame(rt: HostRuntime) -> Result<(), Fail> {
     let alloc = rt.alloc();
     let chooser = Chooser::new(false, |_need: &SliceNeed| 0);
-    let mut sender = Sender::new(alloc, small_fields(false, 27, 64), chooser);
+    let settings = small_fields(false, 27, 64);
+    let mut sender = Sender::new(alloc, settings, chooser);
     let later = [0x80, 0x80, 0x80, 0x80, 0x7f, 0x80, 0x80, 0x80];
-    let fields = frame(alloc, 2, 4, &later)?;
+    let fields = frame(alloc, &settings, &later)?;
     let first = SendRefusal::SliceTooLarge {
         slice: 0,
         bytes: 33,
@@ -389,9 +355,10 @@ fn a_field_is_refused_for_the_whole_frame(rt: HostRuntime) -> Result<(), Fail> {
 #[test]
 fn a_datagram_has_as_many_slices_as_fit(rt: HostRuntime) -> Result<(), Fail> {
     let alloc = rt.alloc();
-    let grey = frame(alloc, 8, 4, &[BRIGHT; 32])?;
+    let settings = two_slices(12);
+    let grey = frame(alloc, &settings, &[BRIGHT; 32])?;
     let chooser = Chooser::new(false, |need: &SliceNeed| (need.index % 2) as u8);
-    let mut sender = Sender::new(alloc, two_slices(12), chooser);
+    let mut sender = Sender::new(alloc, settings, chooser);
     let datagrams = sent(&mut sender, &grey)?;
     assert_eq!(rt; datagrams.len(), 3);
     let slices = [
@@ -407,9 +374,10 @@ fn a_datagram_has_as_many_slices_as_fit(rt: HostRuntime) -> Result<(), Fail> {
 #[test]
 fn a_slice_without_room_begins_another_datagram(rt: HostRuntime) -> Result<(), Fail> {
     let alloc = rt.alloc();
-    let grey = frame(alloc, 8, 4, &[BRIGHT; 32])?;
+    let settings = two_slices(13);
+    let grey = frame(alloc, &settings, &[BRIGHT; 32])?;
     let chooser = Chooser::new(false, |_need: &SliceNeed| 0);
-    let mut sender = Sender::new(alloc, two_slices(13), chooser);
+    let mut sender = Sender::new(alloc, settings, chooser);
     let datagrams = sent(&mut sender, &grey)?;
     assert_eq!(rt; datagrams.len(), 4);
     let first = [

@@ -4,28 +4,14 @@ use super::*;
 use bytes::Bytes;
 use std::alloc::Global;
 use std::test::Fail;
-use vc_types::{Header, NoMemory, Sampling, SignalRange};
+use test_values::FULL_RANGE_FRAMES;
+use vc_types::{Header, NoMemory};
 
-// 8 by 4, 4:4:4, 8 bits full.
+// Frames of 8 by 4, or of two fields.
 fn header(fields: bool) -> Header {
-    Header {
-        major: 2,
-        minor: 0,
-        level: 0,
-        base: 0,
-        width: 8,
-        height: 4,
-        sampling: Sampling::S444,
-        interlaced: false,
-        top_first: false,
-        range: SignalRange {
-            luma_offset: 0,
-            luma_excursion: 255,
-            colour_offset: 128,
-            colour_excursion: 255,
-        },
-        fields,
-    }
+    let mut header = FULL_RANGE_FRAMES;
+    header.fields = fields;
+    header
 }
 
 const FIRST: u64 = 1 << 32;

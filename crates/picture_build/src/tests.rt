@@ -8,212 +8,60 @@ use crate::{build, build_joined};
 use bytes::Bytes;
 use std::alloc::Global;
 use std::test::Fail;
-use vc_slice::{SliceCoeffs, SliceDone, SliceJob, cut, decode};
+use test_places::job_of;
+use test_values::{ONE_SAMPLE, ONE_SLICE, TWO_SLICES, UNWEIGHTED_SLICE};
+use vc_slice::{SliceCoeffs, SliceDone, decode};
 use vc_types::{Plan, Plane, Shape};
 
 mod builders;
 
-// The default quantisation matrix of wavelet 3 at depth 1.
-const MATRIX: [u8; 16] = [8, 4, 4, 0, 0, 0, 0, 0, 0, 0, 0, 0, 0, 0, 0, 0];
-
-// 8 by 4, two slices side by side.
-fn two_slices() -> Plan
-    ensures { (result.slices_x ≡ 2) × (result.slices_y ≡ 1) }
-{
-    Plan {
-        shape: Shape {
-            luma_width: 8,
-            luma_height: 4,
-            colour_width: 8,
-            colour_height: 4,
-            luma_depth: 8,
-            colour_depth: 8,
-        },
-        wavelet: 3,
-        wavelet_ho: 3,
-        depth: 1,
-        depth_ho: 0,
-        slices_x: 2,
-        slices_y: 1,
-        prefix: 0,
-        scaler: 1,
-        matrix: MATRIX,
-    }
-}
-
-// 2 by 2, one slice.
-fn one_slice() -> Plan
-    ensures { (result.slices_x ≡ 1) × (result.slices_y ≡ 1) }
-{
-    Plan {
-        shape: Shape {
-            luma_width: 2,
-            luma_height: 2,
-            colour_width: 2,
-            colour_height: 2,
-            luma_depth: 8,
-            colour_depth: 8,
-        },
-        wavelet: 3,
-        wavelet_ho: 3,
-        depth: 1,
-        depth_ho: 0,
-        slices_x: 1,
-        slices_y: 1,
-        prefix: 0,
-        scaler: 1,
-        matrix: MATRIX,
-    }
-}
-
-// The same with a matrix of zeros.
-fn without_matrix() -> Plan
-    ensures { (result.slices_x ≡ 1) × (result.slices_y ≡ 1) }
-{
-    Plan {
-        shape: Shape {
-            luma_width: 2,
-            luma_height: 2,
-            colour_width: 2,
-            colour_height: 2,
-            luma_depth: 8,
-            colour_depth: 8,
-        },
-        wavelet: 3,
-        wavelet_ho: 3,
-        depth: 1,
-        depth_ho: 0,
-        slices_x: 1,
-        slices_y: 1,
-        prefix: 0,
-        scaler: 1,
-        matrix: [0; 16],
-    }
-}
-
-// The same with 10 bits of colour.
+// 2 by 2 with 10 bits of colour, one slice.
 fn deep_colour() -> Plan
     ensures { (result.slices_x ≡ 1) × (result.slices_y ≡ 1) }
 {
-    Plan {
-        shape: Shape {
-            luma_width: 2,
-            luma_height: 2,
-            colour_width: 2,
-            colour_height: 2,
-            luma_depth: 8,
-            colour_depth: 10,
-        },
-        wavelet: 3,
-        wavelet_ho: 3,
-        depth: 1,
-        depth_ho: 0,
-        slices_x: 1,
-        slices_y: 1,
-        prefix: 0,
-        scaler: 1,
-        matrix: [0; 16],
-    }
+    let mut plan = UNWEIGHTED_SLICE;
+    plan.shape.colour_depth = 10;
+    plan
 }
 
-// One sample.
-fn one_sample() -> Plan
-    ensures { (result.slices_x ≡ 1) × (result.slices_y ≡ 1) }
-{
-    Plan {
-        shape: Shape {
-            luma_width: 1,
-            luma_height: 1,
-            colour_width: 1,
-            colour_height: 1,
-            luma_depth: 8,
-            colour_depth: 8,
-        },
-        wavelet: 3,
-        wavelet_ho: 3,
-        depth: 1,
-        depth_ho: 0,
-        slices_x: 1,
-        slices_y: 1,
-        prefix: 0,
-        scaler: 1,
-        matrix: MATRIX,
-    }
-}
-
-// The same in six slices, of which only the last has coefficients.
+// One sample in six slices, of which only the last has coefficients.
 fn six_slices() -> Plan
     ensures { (result.slices_x ≡ 3) × (result.slices_y ≡ 2) }
 {
-    Plan {
-        shape: Shape {
-            luma_width: 1,
-            luma_height: 1,
-            colour_width: 1,
-            colour_height: 1,
-            luma_depth: 8,
-            colour_depth: 8,
-        },
-        wavelet: 3,
-        wavelet_ho: 3,
-        depth: 1,
-        depth_ho: 0,
-        slices_x: 3,
-        slices_y: 2,
-        prefix: 0,
-        scaler: 1,
-        matrix: MATRIX,
-    }
+    let mut plan = ONE_SAMPLE;
+    plan.slices_x = 3;
+    plan.slices_y = 2;
+    plan
 }
 
 // 4 by 2, one level across alone and one both ways, one slice.
 fn level_across() -> Plan
     ensures { (result.slices_x ≡ 1) × (result.slices_y ≡ 1) }
 {
-    Plan {
-        shape: Shape {
-            luma_width: 4,
-            luma_height: 2,
-            colour_width: 4,
-            colour_height: 2,
-            luma_depth: 8,
-            colour_depth: 8,
-        },
-        wavelet: 3,
-        wavelet_ho: 3,
-        depth: 1,
-        depth_ho: 1,
-        slices_x: 1,
-        slices_y: 1,
-        prefix: 0,
-        scaler: 1,
-        matrix: [0; 16],
-    }
+    let mut plan = UNWEIGHTED_SLICE;
+    plan.shape.luma_width = 4;
+    plan.shape.colour_width = 4;
+    plan.depth_ho = 1;
+    plan
 }
 
-// 8 by 8 with two levels both ways, one slice.
+// 8 by 8, and one sample of each colour, with two levels both ways, one slice.
 fn two_levels() -> Plan
     ensures { (result.slices_x ≡ 1) × (result.slices_y ≡ 1) }
 {
-    Plan {
-        shape: Shape {
-            luma_width: 8,
-            luma_height: 8,
-            colour_width: 1,
-            colour_height: 1,
-            luma_depth: 8,
-            colour_depth: 8,
-        },
-        wavelet: 1,
-        wavelet_ho: 1,
-        depth: 2,
-        depth_ho: 0,
-        slices_x: 1,
-        slices_y: 1,
-        prefix: 0,
-        scaler: 1,
-        matrix: [0; 16],
-    }
+    let mut plan = UNWEIGHTED_SLICE;
+    plan.shape = Shape {
+        luma_width: 8,
+        luma_height: 8,
+        colour_width: 1,
+        colour_height: 1,
+        luma_depth: 8,
+        colour_depth: 8,
+    };
+    plan.wavelet = 1;
+    plan.wavelet_ho = 1;
+    plan.depth = 2;
+    plan
 }
 
 // The coefficients of a slice, by its number and its bytes.
@@ -221,26 +69,13 @@ fn decoded(alloc: Global, plan: Plan, index: u32, bytes: &'static [u8]) -> Resul
     requires { index < slice_count (parameters_of plan) }
     ensures { IfOk result (λ coeffs. AreSliceCoefficients (parameters_of plan) index coeffs) }
 {
-    let job = job(plan, index, Bytes::from_static(bytes))?;
+    let Some(job) = job_of(plan, 0, index, Bytes::from_static(bytes)) else {
+        return Err(Fail::from("not one whole slice"));
+    };
     let Ok(done) = decode(alloc, job) else {
         return Err(Fail::from("no memory"));
     };
     coefficients(done)
-}
-
-fn job(plan: Plan, index: u32, bytes: Bytes) -> Result<SliceJob, Fail>
-    requires { index < slice_count (parameters_of plan) }
-    ensures { IfOk result (λ job. (job.plan ≡ plan) × (job.index ≡ index)) }
-{
-    match cut(plan.prefix, plan.scaler, bytes.as_slice()) {
-        Ok(len) if len == bytes.len() => Ok(SliceJob {
-            plan,
-            number: 0,
-            index,
-            bytes,
-        }),
-        _ => Err(Fail::from("not one whole slice")),
-    }
 }
 
 fn coefficients(done: SliceDone) -> Result<SliceCoeffs, Fail>
@@ -285,7 +120,7 @@ const LUMA: [u16; 32] = [
 
 #[test]
 fn each_slice_has_its_own_columns(rt: HostRuntime) -> Result<(), Fail> {
-    let planes = built(rt.alloc(), two_slices(), &[&[0, 1, 0, 0, 0], &[0, 0, 0, 0]])?;
+    let planes = built(rt.alloc(), TWO_SLICES, &[&[0, 1, 0, 0, 0], &[0, 0, 0, 0]])?;
     assert_eq!(rt; planes[0].samples(), LUMA.as_slice());
     assert_eq!(rt; planes[1].samples(), [0x80; 32].as_slice());
     assert_eq!(rt; planes[2].samples(), [0x80; 32].as_slice());
@@ -294,7 +129,7 @@ fn each_slice_has_its_own_columns(rt: HostRuntime) -> Result<(), Fail> {
 
 #[test]
 fn components_are_built_at_once(rt: HostRuntime) -> Result<(), Fail> {
-    let plan = two_slices();
+    let plan = TWO_SLICES;
     let slices = slices(rt.alloc(), plan, &[&[0, 1, 0, 0, 0], &[0, 0, 0, 0]])?;
     let planes = build_joined(&rt, rt.alloc(), &plan, slices)?;
     assert_eq!(rt; planes[0].samples(), LUMA.as_slice());
@@ -305,7 +140,7 @@ fn components_are_built_at_once(rt: HostRuntime) -> Result<(), Fail> {
 
 #[test]
 fn columns_come_before_rows(rt: HostRuntime) -> Result<(), Fail> {
-    let planes = built(rt.alloc(), one_slice(), &[&[0, 2, 0x94, 0x80, 0, 0]])?;
+    let planes = built(rt.alloc(), ONE_SLICE, &[&[0, 2, 0x94, 0x80, 0, 0]])?;
     assert_eq!(rt; planes[0].samples(), [0x80, 0x80, 0x7f, 0x80].as_slice());
     assert_eq!(rt; planes[1].samples(), [0x80; 4].as_slice());
     assert_eq!(rt; planes[2].samples(), [0x80; 4].as_slice());
@@ -314,7 +149,7 @@ fn columns_come_before_rows(rt: HostRuntime) -> Result<(), Fail> {
 
 #[test]
 fn a_custom_matrix_counts(rt: HostRuntime) -> Result<(), Fail> {
-    let planes = built(rt.alloc(), without_matrix(), &[&[4, 1, 0x0b, 0, 0]])?;
+    let planes = built(rt.alloc(), UNWEIGHTED_SLICE, &[&[4, 1, 0x0b, 0, 0]])?;
     assert_eq!(rt; planes[0].samples(), [0x87; 4].as_slice());
     assert_eq!(rt; planes[1].samples(), [0x80; 4].as_slice());
     assert_eq!(rt; planes[2].samples(), [0x80; 4].as_slice());
@@ -352,7 +187,7 @@ fn slices_may_be_more_than_samples(rt: HostRuntime) -> Result<(), Fail> {
 
 #[test]
 fn a_picture_may_have_one_sample(rt: HostRuntime) -> Result<(), Fail> {
-    let planes = built(rt.alloc(), one_sample(), &[&[0, 1, 0x3f, 0, 0]])?;
+    let planes = built(rt.alloc(), ONE_SAMPLE, &[&[0, 1, 0x3f, 0, 0]])?;
     assert_eq!(rt; planes[0].samples(), [0x7f].as_slice());
     assert_eq!(rt; planes[1].samples(), [0x80].as_slice());
     assert_eq!(rt; planes[2].samples(), [0x80].as_slice());

@@ -1,10 +1,7 @@
-ghost use Rattle.std.specs.Prelude.{◌≡◌, [], ◌∷◌, false, true, IfOk};
+ghost use Rattle.std.specs.Prelude.{◌≡◌, [], ◌∷◌, IfOk};
 ghost use Rattle.std.specs.Fn.{FnReturnsAt};
 ghost use Rattle.picture_encode.specs.Choosing.{AnswersAtMost127};
 ghost use Rattle.vc_types.specs.Planes.{planes_in};
-ghost use Rattle.vc_types.specs.SenderSettings.{sending_view};
-ghost use Rattle.vc_types.specs.declared.choice.IndexChoice.TheVariants.{Index};
-ghost use Rattle.vc_types.specs.declared.video.Sampling.TheVariants.{S444};
 
 mod rows;
 mod wide;
@@ -15,56 +12,8 @@ use crate::{
 };
 use std::alloc::Global;
 use std::test::Fail;
-use vc_types::{IndexChoice, NoMemory, Plane, Sampling, SendSettings, SliceNeed};
-
-// 2 by 2, 4:4:4, 8 bits, wavelet 3 at depth 1, one slice.
-fn small() -> SendSettings
-    ensures { sending_view result ≡ record {
-      frames = record {
-        width = 2;
-        height = 2;
-        sampling = S444;
-        range = 1;
-        fields = false;
-        top = true;
-      };
-      wavelet = 3;
-      depth = 1;
-      across = 1;
-      down = 1;
-      prefix = 0;
-      scaler = 1;
-      size = 1400;
-      choice = Index 0;
-      ssrc = 1;
-      seq = 0;
-      picture = 0;
-      tick = 3600;
-      pt = 96;
-    } }
-{
-    SendSettings {
-        width: 2,
-        height: 2,
-        sampling: Sampling::S444,
-        range: 1,
-        fields: false,
-        top: true,
-        wavelet: 3,
-        depth: 1,
-        slices_x: 1,
-        slices_y: 1,
-        prefix: 0,
-        scaler: 1,
-        size: 1400,
-        choice: IndexChoice::Index(0),
-        ssrc: 1,
-        seq: 0,
-        picture: 0,
-        tick: 3600,
-        pt: 96,
-    }
-}
+use test_values::ONE_SLICE_SETTINGS;
+use vc_types::{NoMemory, Plane, SliceNeed};
 
 fn plane(alloc: Global, samples: [u16; 4]) -> Result<Plane, NoMemory>
     ensures { IfOk result (λ p. p ≡ record { width = 2; height = 2; samples = samples }) }
@@ -94,7 +43,7 @@ fn encoded<F: Fn(&SliceNeed) -> u8>(
     requires callable { F.IsAlwaysCallable choose }
     requires range { AnswersAtMost127 F.Fn choose }
 {
-    let s = small();
+    let s = ONE_SLICE_SETTINGS;
     let planes = picture(alloc)?;
     let mut grids = PictureGrids::new(alloc);
     encode_picture(
@@ -155,7 +104,7 @@ fn lengths_are_told_at_each_index(rt: HostRuntime) -> Result<(), Fail> {
 #[test]
 fn joined_is_the_same(rt: HostRuntime) -> Result<(), Fail> {
     let alloc = rt.alloc();
-    let s = small();
+    let s = ONE_SLICE_SETTINGS;
     let planes = picture(alloc)?;
     let chooser = Chooser::new(false, |_need: &SliceNeed| 0);
     let joined = AtOnce { rt };
@@ -181,7 +130,7 @@ fn joined_is_the_same(rt: HostRuntime) -> Result<(), Fail> {
 
 #[test]
 fn the_header_is_the_encoders(rt: HostRuntime) {
-    let header = header_of(&small());
+    let header = header_of(&ONE_SLICE_SETTINGS);
     assert_eq!(rt; header.base, 14);
     assert_eq!(rt; header.range.luma_excursion, 255);
 }

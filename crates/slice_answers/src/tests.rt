@@ -1,73 +1,25 @@
-ghost use Rattle.std.specs.Prelude.{◌≡◌, ◌<◌, IfOk};
-ghost use Rattle.vc_types.specs.Subbands.{slice_count};
-ghost use Rattle.vc_types.specs.TransformParameters.{parameters_of};
+ghost use Rattle.std.specs.Prelude.{IfOk, Some};
+ghost use Rattle.slice_answers.specs.Completing.{IsWholeBySome};
 
 use super::Answers;
 use bytes::Bytes;
 use link_gather::{PictureBook, SlicePart};
 use std::alloc::Global;
 use std::test::Fail;
-use vc_slice::{SliceDone, SliceJob, cut, decode};
-use vc_types::{Header, Plan, Plane, Sampling, Shape, SignalRange};
+use test_places::job_of;
+use test_values::{FULL_RANGE_FRAMES, TWO_SLICES};
+use vc_slice::{SliceDone, decode};
+use vc_types::{Header, Plan, Plane};
 
 // The picture of every test.
 const NUMBER: u64 = 7;
 
-// 8 by 4, 4:4:4, 8 bits full, frames.
-fn header() -> Header {
-    Header {
-        major: 2,
-        minor: 0,
-        level: 0,
-        base: 0,
-        width: 8,
-        height: 4,
-        sampling: Sampling::S444,
-        interlaced: false,
-        top_first: false,
-        range: SignalRange {
-            luma_offset: 0,
-            luma_excursion: 255,
-            colour_offset: 128,
-            colour_excursion: 255,
-        },
-        fields: false,
-    }
-}
-
 // Wavelet 3, depth 1, 2 by 1 slices, prefix 0, scaler 1, default matrix.
 const PARAMS: &'static [u8] = &[0x09, 0x66, 0x40];
 
-// What these bytes code, for a picture of the header.
-fn plan() -> Plan
-    ensures { (result.slices_x ≡ 2) × (result.slices_y ≡ 1) }
-{
-    Plan {
-        shape: Shape {
-            luma_width: 8,
-            luma_height: 4,
-            colour_width: 8,
-            colour_height: 4,
-            luma_depth: 8,
-            colour_depth: 8,
-        },
-        wavelet: 3,
-        wavelet_ho: 3,
-        depth: 1,
-        depth_ho: 0,
-        slices_x: 2,
-        slices_y: 1,
-        prefix: 0,
-        scaler: 1,
-        matrix: [8, 4, 4, 0, 0, 0, 0, 0, 0, 0, 0, 0, 0, 0, 0, 0],
-    }
-}
-
-// The same with another wavelet.
-fn other_plan() -> Plan
-    ensures { (result.slices_x ≡ 2) × (result.slices_y ≡ 1) }
-{
-    let mut plan = plan();
+// What these bytes code is TWO_SLICES. This is the same with another wavelet.
+fn other_plan() -> Plan {
+    let mut plan = TWO_SLICES;
     plan.wavelet = 1;
     plan.wavelet_ho = 1;
     plan
@@ -82,20 +34,6 @@ const GREY: &'static [u8] = &[0, 0, 0, 0];
 // Its quantisation index is 128.
 const UNSOUND: &'static [u8] = &[0x80, 0, 0, 0];
 
-fn job(plan: Plan, index: u32, bytes: Bytes) -> Result<SliceJob, Fail>
-    requires { index < slice_count (parameters_of plan) }
-{
-    match cut(plan.prefix, plan.scaler, bytes.as_slice()) {
-        Ok(len) if len == bytes.len() => Ok(SliceJob {
-            plan,
-            number: NUMBER,
-            index,
-            bytes,
-        }),
-        _ => Err(Fail::from("not one whole slice")),
-    }
-}
-
 // Keeps what the bytes of a slice decode to.
 fn keep(
     alloc: Global,
@@ -103,11 +41,9 @@ fn keep(
     plan: Plan,
     index: u32,
     bytes: &'static [u8],
-) -> Result<(), Fail>
-    requires { index < slice_count (parameters_of plan) }
-{
-    let done = decode(alloc, job(plan, index, Bytes::from_static(bytes))?)?;
-    keep_done(answers, done)
+) -> Result<(), Fail> {
+    let job = job_of(plan, NUMBER, index, Bytes::from_static(bytes));
+    keep_done(answers, decode(alloc, job.ok_or("not one whole slice")?)?)
 }
 
 fn keep_done(answers: &mut Answers, done: SliceDone) -> Result<(), Fail> {
@@ -129,6 +65,21 @@ fn part(count: u16, slices: &'static [u8]) -> SlicePart {
     }
 }
 
+// The book of a picture of the header, with its parameters and so many slices.
+fn book(
+    alloc: Global,
+    header: Header,
+    count: u16,
+    slices: &'static [u8],
+) -> Result<PictureBook, Fail>
+    ensures { IfOk result (λ book. IsWholeBySome (Some book)) }
+{
+    let mut book = PictureBook::new(alloc, header);
+    let _kept = book.take_params(Bytes::from_static(PARAMS))?;
+    let _kept = book.take_slices(part(count, slices))?;
+    Ok(book)
+}
+
 // The planes by the answers, and by so many slices in the picture's book.
 fn take(
     alloc: Global,
@@ -136,24 +87,20 @@ fn take(
     count: u16,
     slices: &'static [u8],
 ) -> Result<Option<[Plane; 3]>, Fail> {
-    let mut book = PictureBook::new(alloc, header());
-    let _kept = book.take_params(Bytes::from_static(PARAMS))?;
-    let _kept = book.take_slices(part(count, slices))?;
+    let book = book(alloc, FULL_RANGE_FRAMES, count, slices)?;
     Ok(answers.take_planes(NUMBER, Some(&book))?)
 }
 
 // Whether there are such planes, of both slices.
 fn is_sound(alloc: Global, answers: &mut Answers, slices: &'static [u8]) -> Result<bool, Fail> {
-    let mut book = PictureBook::new(alloc, header());
-    let _kept = book.take_params(Bytes::from_static(PARAMS))?;
-    let _kept = book.take_slices(part(2, slices))?;
+    let book = book(alloc, FULL_RANGE_FRAMES, 2, slices)?;
     Ok(answers.take_soundness(NUMBER, Some(&book))?)
 }
 
 #[test]
 fn an_answer_is_kept(rt: HostRuntime) -> Result<(), Fail> {
     let mut answers = Answers::new(rt.alloc());
-    keep(rt.alloc(), &mut answers, plan(), 0, DARK)?;
+    keep(rt.alloc(), &mut answers, TWO_SLICES, 0, DARK)?;
     assert!(rt; answers.has(NUMBER, 0));
     assert!(rt; !answers.has(NUMBER, 1));
     assert!(rt; !answers.has(NUMBER + 1, 0));
@@ -163,7 +110,7 @@ fn an_answer_is_kept(rt: HostRuntime) -> Result<(), Fail> {
 #[test]
 fn an_unsound_answer_is_kept(rt: HostRuntime) -> Result<(), Fail> {
     let mut answers = Answers::new(rt.alloc());
-    keep(rt.alloc(), &mut answers, plan(), 1, UNSOUND)?;
+    keep(rt.alloc(), &mut answers, TWO_SLICES, 1, UNSOUND)?;
     assert!(rt; answers.has(NUMBER, 1));
     assert!(rt; !answers.has(NUMBER, 0));
     Ok(())
@@ -172,7 +119,7 @@ fn an_unsound_answer_is_kept(rt: HostRuntime) -> Result<(), Fail> {
 #[test]
 fn an_answer_by_other_parameters_is_not_kept(rt: HostRuntime) -> Result<(), Fail> {
     let mut answers = Answers::new(rt.alloc());
-    keep(rt.alloc(), &mut answers, plan(), 0, GREY)?;
+    keep(rt.alloc(), &mut answers, TWO_SLICES, 0, GREY)?;
     keep(rt.alloc(), &mut answers, other_plan(), 1, GREY)?;
     assert!(rt; !answers.has(NUMBER, 1));
     Ok(())
@@ -182,7 +129,7 @@ fn an_answer_by_other_parameters_is_not_kept(rt: HostRuntime) -> Result<(), Fail
 #[test]
 fn planes_of_an_answer_and_of_bytes(rt: HostRuntime) -> Result<(), Fail> {
     let mut answers = Answers::new(rt.alloc());
-    keep(rt.alloc(), &mut answers, plan(), 0, DARK)?;
+    keep(rt.alloc(), &mut answers, TWO_SLICES, 0, DARK)?;
     let Some(planes) = take(rt.alloc(), &mut answers, 2, &[0; 8])? else {
         return Err(Fail::from("no planes"));
     };
@@ -202,7 +149,7 @@ fn planes_of_an_answer_and_of_bytes(rt: HostRuntime) -> Result<(), Fail> {
 #[test]
 fn planes_of_bytes_alone(rt: HostRuntime) -> Result<(), Fail> {
     let mut answers = Answers::new(rt.alloc());
-    keep(rt.alloc(), &mut answers, plan(), 0, DARK)?;
+    keep(rt.alloc(), &mut answers, TWO_SLICES, 0, DARK)?;
     assert!(rt; take(rt.alloc(), &mut answers, 1, GREY)?.is_none());
     assert!(rt; !answers.has(NUMBER, 0));
     let Some(planes) = take(rt.alloc(), &mut answers, 2, &[0; 8])? else {
@@ -223,7 +170,7 @@ fn an_unsound_slice_gives_no_planes(rt: HostRuntime) -> Result<(), Fail> {
 #[test]
 fn an_unsound_answer_gives_no_planes(rt: HostRuntime) -> Result<(), Fail> {
     let mut answers = Answers::new(rt.alloc());
-    keep(rt.alloc(), &mut answers, plan(), 1, UNSOUND)?;
+    keep(rt.alloc(), &mut answers, TWO_SLICES, 1, UNSOUND)?;
     let planes = take(rt.alloc(), &mut answers, 2, &[0; 8])?;
     assert!(rt; planes.is_none());
     Ok(())
@@ -234,7 +181,7 @@ fn an_unsound_answer_gives_no_planes(rt: HostRuntime) -> Result<(), Fail> {
 fn soundness_by_answers_and_bytes(rt: HostRuntime) -> Result<(), Fail> {
     let alloc = rt.alloc();
     let mut answers = Answers::new(alloc);
-    keep(alloc, &mut answers, plan(), 1, UNSOUND)?;
+    keep(alloc, &mut answers, TWO_SLICES, 1, UNSOUND)?;
     assert!(rt; !is_sound(alloc, &mut answers, &[0; 8])?);
     assert!(rt; !answers.has(NUMBER, 1));
     assert!(rt; is_sound(alloc, &mut answers, &[0; 8])?);
@@ -246,7 +193,7 @@ fn soundness_by_answers_and_bytes(rt: HostRuntime) -> Result<(), Fail> {
 #[test]
 fn without_a_book_there_are_no_planes(rt: HostRuntime) -> Result<(), Fail> {
     let mut answers = Answers::new(rt.alloc());
-    keep(rt.alloc(), &mut answers, plan(), 0, GREY)?;
+    keep(rt.alloc(), &mut answers, TWO_SLICES, 0, GREY)?;
     let planes = answers.take_planes(NUMBER, None)?;
     assert!(rt; planes.is_none());
     assert!(rt; !answers.has(NUMBER, 0));

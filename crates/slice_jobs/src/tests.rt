@@ -1,47 +1,14 @@
-ghost use Rattle.std.specs.Prelude.{◌<◌};
-ghost use Rattle.vc_types.specs.Slices.{slice_length};
-
 use crate::same_job;
 use bytes::Bytes;
 use std::test::Fail;
-use vc_slice::{SliceJob, cut};
-use vc_types::{NoMemory, Plan, Shape};
-
-// A picture of 8 by 4 samples with two slices side by side.
-const PLAN: Plan = Plan {
-    shape: Shape {
-        luma_width: 8,
-        luma_height: 4,
-        colour_width: 8,
-        colour_height: 4,
-        luma_depth: 8,
-        colour_depth: 8,
-    },
-    wavelet: 3,
-    wavelet_ho: 3,
-    depth: 1,
-    depth_ho: 0,
-    slices_x: 2,
-    slices_y: 1,
-    prefix: 0,
-    scaler: 1,
-    matrix: [8, 4, 4, 0, 0, 0, 0, 0, 0, 0, 0, 0, 0, 0, 0, 0],
-};
+use test_places::job_of;
+use test_values::TWO_SLICES;
+use vc_slice::SliceJob;
+use vc_types::NoMemory;
 
 // The job of a whole slice of the picture.
-fn job(number: u64, index: u32, slice: &'static [u8]) -> Result<SliceJob, NoMemory>
-    requires { index < 2 }
-{
-    let bytes = Bytes::from_static(slice);
-    match cut(PLAN.prefix, PLAN.scaler, bytes.as_slice()) {
-        Ok(len) if len == bytes.len() => Ok(SliceJob {
-            plan: PLAN,
-            number,
-            index,
-            bytes,
-        }),
-        _ => Err(NoMemory),
-    }
+fn job(number: u64, index: u32, slice: &'static [u8]) -> Result<SliceJob, NoMemory> {
+    job_of(TWO_SLICES, number, index, Bytes::from_static(slice)).ok_or(NoMemory)
 }
 
 const EMPTY: &[u8] = &[0, 0, 0, 0];

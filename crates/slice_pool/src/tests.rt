@@ -9,36 +9,15 @@ use crate::{Crew, Worker};
 use bytes::Bytes;
 use claim_board::{Board, BoardFeeder, WorkerSeat};
 use std::alloc::Global;
-use std::sync::atomic::{AtomicBool, AtomicU64, Ordering};
 use std::sync::{Arc, Wait};
 use std::test::Fail;
 use std::thread;
 use std::thread::Threads;
-use vc_ports::{Gate, NoGate};
-use vc_slice::{CoefficientList, Hands, Places, SliceDone, SliceJob, cut};
-use vc_types::{Component, NoMemory, Plan, Shape};
-
-// A picture of 6 by 2 samples with three slices side by side, each with one coefficient of each
-// subband.
-const PLAN: Plan = Plan {
-    shape: Shape {
-        luma_width: 6,
-        luma_height: 2,
-        colour_width: 6,
-        colour_height: 2,
-        luma_depth: 8,
-        colour_depth: 8,
-    },
-    wavelet: 3,
-    wavelet_ho: 3,
-    depth: 1,
-    depth_ho: 0,
-    slices_x: 3,
-    slices_y: 1,
-    prefix: 0,
-    scaler: 1,
-    matrix: [8, 4, 4, 0, 0, 0, 0, 0, 0, 0, 0, 0, 0, 0, 0, 0],
-};
+use test_places::{Doorkeeper, job_of};
+use test_values::THREE_SLICES;
+use vc_ports::NoGate;
+use vc_slice::{CoefficientList, Hands, Places, SliceDone, SliceJob};
+use vc_types::{Component, NoMemory};
 
 // A slice whose luma coefficients are LL 0, HL 1, LH 0, HH 1.
 const SLICE: [u8; 6] = [0x00, 0x02, 0x94, 0x80, 0x00, 0x00];
@@ -48,23 +27,11 @@ const LUMA: [i32; 4] = [0, 1, 0, 1];
 // How often a test asks before it fails. Each turn yields the processor.
 const TURNS: u64 = 10_000_000;
 
-fn job(number: u64, index: u32) -> Result<SliceJob, NoMemory>
-    requires { index < 3 }
-{
-    let bytes = Bytes::from_static(&SLICE);
-    match cut(PLAN.prefix, PLAN.scaler, bytes.as_slice()) {
-        Ok(len) if len == bytes.len() => Ok(SliceJob {
-            plan: PLAN,
-            number,
-            index,
-            bytes,
-        }),
-        _ => Err(NoMemory),
-    }
+fn job(number: u64, index: u32) -> Result<SliceJob, NoMemory> {
+    job_of(THREE_SLICES, number, index, Bytes::from_static(&SLICE)).ok_or(NoMemory)
 }
 
 fn offer<P: Places>(places: &mut P, index: u32) -> Result<u32, Fail>
-    requires { index < 3 }
     ensures bound { P.bound places.new ≡ P.bound places.old }
     ensures place { IfOk result (λ place. place < P.bound places.new) }
 {
@@ -185,47 +152,6 @@ fn idle_workers_are_called(rt: HostRuntime) -> Result<(), Fail> {
     Ok(())
 }
 
-// Holds the first worker that comes, until it is opened, and lets all others pass.
-#[derive(Drop)]
-struct Doorkeeper {
-    // The slice of the worker that is held, and the one that passed last, each plus 1.
-    held: AtomicU64,
-    passed: AtomicU64,
-    is_open: AtomicBool,
-}
-
-impl Gate for Doorkeeper {
-    fn pass(&self, _worker: u32, slice: u32) {
-        let slice = slice as u64 + 1;
-        let first = self
-            .held
-            .compare_exchange(0, slice, Ordering::SeqCst, Ordering::SeqCst);
-        if first.is_err() {
-            self.passed.store(slice, Ordering::SeqCst);
-            return;
-        }
-        for _turn in 0..TURNS {
-            if self.is_open.load(Ordering::SeqCst) {
-                return;
-            }
-            thread::yield_now();
-        }
-    }
-}
-
-// Whether the word comes to have this slice, plus 1.
-fn comes(word: &AtomicU64, slice: u64) -> bool
-    requires { slice < 3 }
-{
-    for _turn in 0..TURNS {
-        if word.load(Ordering::SeqCst) == slice + 1 {
-            return true;
-        }
-        thread::yield_now();
-    }
-    false
-}
-
 // The second slice is put once a worker is held with the first, and the third once the other worker
 // passed with the second; then the held worker goes on.
 fn slices_past<P: Hands>(hands: &mut P, door: &Doorkeeper) -> Result<bool, Fail>
@@ -233,11 +159,11 @@ fn slices_past<P: Hands>(hands: &mut P, door: &Doorkeeper) -> Result<bool, Fail>
 {
     hands.start_workers(2)?;
     let first = offer(hands, 0)?;
-    let is_held = comes(&door.held, 0);
+    let is_held = door.comes_to_hold(0);
     let second = offer(hands, 1)?;
-    let is_past = comes(&door.passed, 1);
+    let is_past = door.comes_to_let_pass(1);
     let early = is_decoded(hands, second, 1);
-    door.is_open.store(true, Ordering::SeqCst);
+    door.open();
     let third = offer(hands, 2)?;
     let late = is_decoded(hands, first, 0) && is_decoded(hands, third, 2);
     Ok(is_held && is_past && early && late)
@@ -246,14 +172,7 @@ fn slices_past<P: Hands>(hands: &mut P, door: &Doorkeeper) -> Result<bool, Fail>
 #[test]
 fn a_held_worker_holds_up_no_other(rt: HostRuntime) -> Result<(), Fail> {
     let alloc = rt.alloc();
-    let door = Arc::new(
-        alloc,
-        Doorkeeper {
-            held: AtomicU64::new(0),
-            passed: AtomicU64::new(0),
-            is_open: AtomicBool::new(false),
-        },
-    )?;
+    let door = Arc::new(alloc, Doorkeeper::new())?;
     let mut crew = Crew::new(rt, alloc, |worker: Worker| worker.start(rt, &door));
     let passed = slices_past(&mut crew, &door);
     crew.stop();

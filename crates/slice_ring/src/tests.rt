@@ -1,46 +1,15 @@
-ghost use Rattle.std.specs.Prelude.{◌≡◌, ◌<◌, IfOk, length, Some};
-ghost use Rattle.vc_types.specs.Slices.{slice_length};
-
 use crate::{Claim, CompleteRefusal, NotHeld, NotWaiting, NotYet, PlaceState, PutRefusal, Ring};
 use bytes::Bytes;
 use std::alloc::Global;
 use std::test::Fail;
-use vc_slice::{SliceDone, SliceJob, cut, decode};
-use vc_types::{NoMemory, Plan, Shape};
-
-// A picture of 8 by 4 samples whose slices, two side by side, are empty.
-const PLAN: Plan = Plan {
-    shape: Shape {
-        luma_width: 8,
-        luma_height: 4,
-        colour_width: 8,
-        colour_height: 4,
-        luma_depth: 8,
-        colour_depth: 8,
-    },
-    wavelet: 3,
-    wavelet_ho: 3,
-    depth: 1,
-    depth_ho: 0,
-    slices_x: 2,
-    slices_y: 1,
-    prefix: 0,
-    scaler: 1,
-    matrix: [8, 4, 4, 0, 0, 0, 0, 0, 0, 0, 0, 0, 0, 0, 0, 0],
-};
+use test_places::job_of;
+use test_values::TWO_SLICES;
+use vc_slice::{SliceDone, SliceJob, decode};
+use vc_types::NoMemory;
 
 // The job of an empty first slice.
 fn job(number: u64) -> Result<SliceJob, NoMemory> {
-    let bytes = Bytes::from_static(&[0, 0, 0, 0]);
-    match cut(PLAN.prefix, PLAN.scaler, bytes.as_slice()) {
-        Ok(len) if len == bytes.len() => Ok(SliceJob {
-            plan: PLAN,
-            number,
-            index: 0,
-            bytes,
-        }),
-        _ => Err(NoMemory),
-    }
+    job_of(TWO_SLICES, number, 0, Bytes::from_static(&[0; 4])).ok_or(NoMemory)
 }
 
 // What a put answers.

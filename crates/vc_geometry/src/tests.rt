@@ -3,81 +3,38 @@ ghost use Rattle.std.specs.Prelude.{◌≡◌, ◌*◌, ◌<◌};
 use crate::{
     Rect, band, bands, each_cell_is_met_once, padded, place_of, slice_len, slice_rect, slice_rects,
 };
-use vc_types::{Component, Plan, Shape};
+use test_values::{ONE_SAMPLE, TWO_SLICES};
+use vc_types::{Component, Plan};
 
 // 8 by 4 luma, 4 by 4 colour, one level, two slices side by side.
 fn two_slices() -> Plan
     ensures { (result.depth ≡ 1) × (result.slices_x ≡ 2) × (result.slices_y ≡ 1) }
 {
-    Plan {
-        shape: Shape {
-            luma_width: 8,
-            luma_height: 4,
-            colour_width: 4,
-            colour_height: 4,
-            luma_depth: 8,
-            colour_depth: 8,
-        },
-        wavelet: 3,
-        wavelet_ho: 3,
-        depth: 1,
-        depth_ho: 0,
-        slices_x: 2,
-        slices_y: 1,
-        prefix: 0,
-        scaler: 1,
-        matrix: [0; 16],
-    }
+    let mut plan = TWO_SLICES;
+    plan.shape.colour_width = 4;
+    plan
 }
 
 // 7 by 5 luma and one sample of each colour, two levels, three slices across and two down.
 fn odd_sizes() -> Plan
     ensures { (result.depth ≡ 2) × (result.slices_x ≡ 3) × (result.slices_y ≡ 2) }
 {
-    Plan {
-        shape: Shape {
-            luma_width: 7,
-            luma_height: 5,
-            colour_width: 1,
-            colour_height: 1,
-            luma_depth: 8,
-            colour_depth: 8,
-        },
-        wavelet: 1,
-        wavelet_ho: 1,
-        depth: 2,
-        depth_ho: 0,
-        slices_x: 3,
-        slices_y: 2,
-        prefix: 0,
-        scaler: 1,
-        matrix: [0; 16],
-    }
+    let mut plan = ONE_SAMPLE;
+    plan.shape.luma_width = 7;
+    plan.shape.luma_height = 5;
+    plan.depth = 2;
+    plan.slices_x = 3;
+    plan.slices_y = 2;
+    plan
 }
 
 // One sample, five levels, one slice.
 fn one_sample() -> Plan
     ensures { (result.depth ≡ 5) × (result.slices_x ≡ 1) × (result.slices_y ≡ 1) }
 {
-    Plan {
-        shape: Shape {
-            luma_width: 1,
-            luma_height: 1,
-            colour_width: 1,
-            colour_height: 1,
-            luma_depth: 8,
-            colour_depth: 8,
-        },
-        wavelet: 1,
-        wavelet_ho: 1,
-        depth: 5,
-        depth_ho: 0,
-        slices_x: 1,
-        slices_y: 1,
-        prefix: 0,
-        scaler: 1,
-        matrix: [0; 16],
-    }
+    let mut plan = ONE_SAMPLE;
+    plan.depth = 5;
+    plan
 }
 
 // 5 by 3 luma and one sample of each colour, two levels across alone and one both ways, two slices side by side.
@@ -85,25 +42,12 @@ fn levels_across() -> Plan
     ensures { (result.depth ≡ 1) × (result.depth_ho ≡ 2) × (result.slices_x ≡ 2)
         × (result.slices_y ≡ 1) }
 {
-    Plan {
-        shape: Shape {
-            luma_width: 5,
-            luma_height: 3,
-            colour_width: 1,
-            colour_height: 1,
-            luma_depth: 8,
-            colour_depth: 8,
-        },
-        wavelet: 1,
-        wavelet_ho: 4,
-        depth: 1,
-        depth_ho: 2,
-        slices_x: 2,
-        slices_y: 1,
-        prefix: 0,
-        scaler: 1,
-        matrix: [0; 16],
-    }
+    let mut plan = ONE_SAMPLE;
+    plan.shape.luma_width = 5;
+    plan.shape.luma_height = 3;
+    plan.depth_ho = 2;
+    plan.slices_x = 2;
+    plan
 }
 
 fn rect(x: u32, y: u32, width: u32, height: u32) -> Rect {

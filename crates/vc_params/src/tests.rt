@@ -4,7 +4,8 @@ ghost use Rattle.vc_types.specs.declared.video.Sampling.TheVariants.{S444};
 
 use super::*;
 use std::test::Fail;
-use vc_types::{Header, Sampling, SignalRange};
+use test_values::FULL_RANGE_FRAMES;
+use vc_types::Header;
 
 mod asymmetric;
 mod limits;
@@ -14,24 +15,11 @@ fn header(major: u32, width: u32, height: u32) -> Header
     requires { IsTrue (dimensions_fit width height S444 false) }
     ensures { result.major ≡ major }
 {
-    Header {
-        major,
-        minor: 0,
-        level: 0,
-        base: 0,
-        width,
-        height,
-        sampling: Sampling::S444,
-        interlaced: false,
-        top_first: false,
-        range: SignalRange {
-            luma_offset: 0,
-            luma_excursion: 255,
-            colour_offset: 128,
-            colour_excursion: 255,
-        },
-        fields: false,
-    }
+    let mut header = FULL_RANGE_FRAMES;
+    header.major = major;
+    header.width = width;
+    header.height = height;
+    header
 }
 
 #[test]

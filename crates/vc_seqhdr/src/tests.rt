@@ -1,6 +1,7 @@
 use super::*;
 use std::test::Fail;
-use vc_types::{Header, Sampling, SignalRange};
+use test_values::FULL_RANGE_FRAMES;
+use vc_types::{Sampling, SignalRange};
 
 // The four preset signal ranges, in the order of their indices.
 const FULL_8_BIT: SignalRange = SignalRange {
@@ -158,174 +159,53 @@ fn refuses_at_the_first_fault(rt: HostRuntime) {
     }
 }
 
+// The bytes of a header, and its width, height and sampling, whether it is interlaced, and whether the
+// top field is first.
+type BaseFormat = ([u8; 4], u32, u32, Sampling, bool, bool);
+
+fn is_read(format: &BaseFormat, range: &SignalRange) -> Result<bool, Fail> {
+    let (bytes, width, height, sampling, interlaced, top_first) = *format;
+    let (header, _) = read_header(&bytes)?;
+    let has_size = header.width == width && header.height == height;
+    let is_scanned_so = header.interlaced == interlaced && header.top_first == top_first;
+    Ok(has_size && header.sampling == sampling && is_scanned_so && header.range == *range)
+}
+
 // The tables of base video formats and of signal ranges, whole.
 #[test]
 fn reads_every_base_format(rt: HostRuntime) -> Result<(), Fail> {
     use Sampling::{S420, S422, S444};
-    let cases = [
-        (
-            [0x70, 0xE0, 0x10, 0x00],
-            640,
-            480,
-            S420,
-            false,
-            false,
-            FULL_8_BIT,
-        ),
-        (
-            [0x70, 0xC8, 0x04, 0x00],
-            176,
-            120,
-            S420,
-            false,
-            false,
-            FULL_8_BIT,
-        ),
-        (
-            [0x70, 0xD8, 0x04, 0x00],
-            176,
-            144,
-            S420,
-            false,
-            true,
-            FULL_8_BIT,
-        ),
-        (
-            [0x70, 0xC2, 0x01, 0x00],
-            352,
-            240,
-            S420,
-            false,
-            false,
-            FULL_8_BIT,
-        ),
-        (
-            [0x70, 0xC6, 0x01, 0x00],
-            352,
-            288,
-            S420,
-            false,
-            true,
-            FULL_8_BIT,
-        ),
-        (
-            [0x70, 0xD2, 0x01, 0x00],
-            704,
-            480,
-            S420,
-            false,
-            false,
-            FULL_8_BIT,
-        ),
-        (
-            [0x70, 0xD6, 0x01, 0x00],
-            704,
-            576,
-            S420,
-            false,
-            true,
-            FULL_8_BIT,
-        ),
-        (
-            [0x70, 0xC0, 0x80, 0x40],
-            720,
-            480,
-            S422,
-            true,
-            false,
-            VIDEO_10_BIT,
-        ),
-        (
-            [0x70, 0xC1, 0x80, 0x40],
-            720,
-            576,
-            S422,
-            true,
-            true,
-            VIDEO_10_BIT,
-        ),
-        (
-            [0x70, 0xC4, 0x80, 0x40],
-            1280,
-            720,
-            S422,
-            false,
-            true,
-            VIDEO_10_BIT,
-        ),
-        (
-            [0x70, 0xC5, 0x80, 0x40],
-            1280,
-            720,
-            S422,
-            false,
-            true,
-            VIDEO_10_BIT,
-        ),
-        (
-            [0x70, 0xD0, 0x80, 0x40],
-            1920,
-            1080,
-            S422,
-            true,
-            true,
-            VIDEO_10_BIT,
-        ),
-        (
-            [0x70, 0xD1, 0x80, 0x40],
-            1920,
-            1080,
-            S422,
-            true,
-            true,
-            VIDEO_10_BIT,
-        ),
-        (
-            [0x70, 0xD4, 0x80, 0x40],
-            1920,
-            1080,
-            S422,
-            false,
-            true,
-            VIDEO_10_BIT,
-        ),
-        (
-            [0x70, 0xD5, 0x80, 0x40],
-            1920,
-            1080,
-            S422,
-            false,
-            true,
-            VIDEO_10_BIT,
-        ),
-        (
-            [0x70, 0xC0, 0x20, 0x10],
-            2048,
-            1080,
-            S444,
-            false,
-            true,
-            VIDEO_12_BIT,
-        ),
-        (
-            [0x70, 0xC0, 0x60, 0x10],
-            4096,
-            2160,
-            S444,
-            false,
-            true,
-            VIDEO_12_BIT,
-        ),
+    let full_8_bit = [
+        ([0x70, 0xE0, 0x10, 0x00], 640, 480, S420, false, false),
+        ([0x70, 0xC8, 0x04, 0x00], 176, 120, S420, false, false),
+        ([0x70, 0xD8, 0x04, 0x00], 176, 144, S420, false, true),
+        ([0x70, 0xC2, 0x01, 0x00], 352, 240, S420, false, false),
+        ([0x70, 0xC6, 0x01, 0x00], 352, 288, S420, false, true),
+        ([0x70, 0xD2, 0x01, 0x00], 704, 480, S420, false, false),
+        ([0x70, 0xD6, 0x01, 0x00], 704, 576, S420, false, true),
     ];
-    for (bytes, width, height, sampling, interlaced, top_first, range) in cases {
-        let (header, _) = read_header(&bytes)?;
-        assert_eq!(rt; (header.width, header.height), (width, height));
-        assert_eq!(rt; header.sampling, sampling);
-        assert_eq!(rt;
-            (header.interlaced, header.top_first),
-            (interlaced, top_first)
-        );
-        assert_eq!(rt; header.range, range);
+    let video_10_bit = [
+        ([0x70, 0xC0, 0x80, 0x40], 720, 480, S422, true, false),
+        ([0x70, 0xC1, 0x80, 0x40], 720, 576, S422, true, true),
+        ([0x70, 0xC4, 0x80, 0x40], 1280, 720, S422, false, true),
+        ([0x70, 0xC5, 0x80, 0x40], 1280, 720, S422, false, true),
+        ([0x70, 0xD0, 0x80, 0x40], 1920, 1080, S422, true, true),
+        ([0x70, 0xD1, 0x80, 0x40], 1920, 1080, S422, true, true),
+        ([0x70, 0xD4, 0x80, 0x40], 1920, 1080, S422, false, true),
+        ([0x70, 0xD5, 0x80, 0x40], 1920, 1080, S422, false, true),
+    ];
+    let video_12_bit = [
+        ([0x70, 0xC0, 0x20, 0x10], 2048, 1080, S444, false, true),
+        ([0x70, 0xC0, 0x60, 0x10], 4096, 2160, S444, false, true),
+    ];
+    for format in full_8_bit {
+        assert!(rt; is_read(&format, &FULL_8_BIT)?);
+    }
+    for format in video_10_bit {
+        assert!(rt; is_read(&format, &VIDEO_10_BIT)?);
+    }
+    for format in video_12_bit {
+        assert!(rt; is_read(&format, &VIDEO_12_BIT)?);
     }
     Ok(())
 }
@@ -393,24 +273,9 @@ fn depths(excursion: u32) -> (u8, u8) {
     if excursion < 1 || excursion > 65535 {
         return (0, 0);
     }
-    let header = Header {
-        major: 2,
-        minor: 0,
-        level: 0,
-        base: 0,
-        width: 2,
-        height: 2,
-        sampling: Sampling::S444,
-        interlaced: false,
-        top_first: false,
-        range: SignalRange {
-            luma_offset: 0,
-            luma_excursion: excursion,
-            colour_offset: 0,
-            colour_excursion: excursion,
-        },
-        fields: false,
-    };
+    let mut header = FULL_RANGE_FRAMES;
+    header.range.luma_excursion = excursion;
+    header.range.colour_excursion = excursion;
     let shape = header.shape();
     (shape.luma_depth, shape.colour_depth)
 }
@@ -462,19 +327,12 @@ fn needs_every_byte(rt: HostRuntime) -> Result<(), Fail> {
 
 #[test]
 fn writes_what_the_encoder_sends(rt: HostRuntime) -> Result<(), Fail> {
-    let header = Header {
-        major: 3,
-        minor: 0,
-        level: 0,
-        base: 14,
-        width: 2,
-        height: 2,
-        sampling: Sampling::S444,
-        interlaced: false,
-        top_first: true,
-        range: FULL_8_BIT,
-        fields: false,
-    };
+    let mut header = FULL_RANGE_FRAMES;
+    header.major = 3;
+    header.base = 14;
+    header.width = 2;
+    header.height = 2;
+    header.top_first = true;
     let bytes = write_header(rt.alloc(), &header)?;
     assert_eq!(rt; bytes.as_slice(), [0x0C, 0x35, 0x76, 0xFC, 0x4A].as_slice());
     Ok(())

@@ -13,148 +13,35 @@ use crate::{
 use bytes::Bytes;
 use std::alloc::Global;
 use std::test::Fail;
+use test_values::{ONE_SAMPLE, ONE_SLICE, TWO_SLICES, UNWEIGHTED_SLICE};
 use vc_geometry::slice_len;
-use vc_types::{Component, Plan, Shape};
+use vc_types::{Component, Plan};
 
 mod asymmetric;
 mod worked;
 
-// 8 by 4, two slices side by side.
-fn two_slices() -> Plan {
-    Plan {
-        shape: Shape {
-            luma_width: 8,
-            luma_height: 4,
-            colour_width: 8,
-            colour_height: 4,
-            luma_depth: 8,
-            colour_depth: 8,
-        },
-        wavelet: 3,
-        wavelet_ho: 3,
-        depth: 1,
-        depth_ho: 0,
-        slices_x: 2,
-        slices_y: 1,
-        prefix: 0,
-        scaler: 1,
-        matrix: [8, 4, 4, 0, 0, 0, 0, 0, 0, 0, 0, 0, 0, 0, 0, 0],
-    }
-}
-
-// 2 by 2, one slice.
-fn one_slice() -> Plan {
-    Plan {
-        shape: Shape {
-            luma_width: 2,
-            luma_height: 2,
-            colour_width: 2,
-            colour_height: 2,
-            luma_depth: 8,
-            colour_depth: 8,
-        },
-        wavelet: 3,
-        wavelet_ho: 3,
-        depth: 1,
-        depth_ho: 0,
-        slices_x: 1,
-        slices_y: 1,
-        prefix: 0,
-        scaler: 1,
-        matrix: [8, 4, 4, 0, 0, 0, 0, 0, 0, 0, 0, 0, 0, 0, 0, 0],
-    }
-}
-
-// The same with a matrix of zeros.
-fn without_matrix() -> Plan {
-    Plan {
-        shape: Shape {
-            luma_width: 2,
-            luma_height: 2,
-            colour_width: 2,
-            colour_height: 2,
-            luma_depth: 8,
-            colour_depth: 8,
-        },
-        wavelet: 3,
-        wavelet_ho: 3,
-        depth: 1,
-        depth_ho: 0,
-        slices_x: 1,
-        slices_y: 1,
-        prefix: 0,
-        scaler: 1,
-        matrix: [0; 16],
-    }
-}
-
 // One slice of a picture of 1 by 1, with two prefix bytes.
 fn one_sample() -> Plan {
-    Plan {
-        shape: Shape {
-            luma_width: 1,
-            luma_height: 1,
-            colour_width: 1,
-            colour_height: 1,
-            luma_depth: 8,
-            colour_depth: 8,
-        },
-        wavelet: 3,
-        wavelet_ho: 3,
-        depth: 1,
-        depth_ho: 0,
-        slices_x: 1,
-        slices_y: 1,
-        prefix: 2,
-        scaler: 1,
-        matrix: [8, 4, 4, 0, 0, 0, 0, 0, 0, 0, 0, 0, 0, 0, 0, 0],
-    }
+    let mut plan = ONE_SAMPLE;
+    plan.prefix = 2;
+    plan
 }
 
 // 2 by 2, nine slices.
 fn more_slices_than_samples() -> Plan {
-    Plan {
-        shape: Shape {
-            luma_width: 2,
-            luma_height: 2,
-            colour_width: 2,
-            colour_height: 2,
-            luma_depth: 8,
-            colour_depth: 8,
-        },
-        wavelet: 3,
-        wavelet_ho: 3,
-        depth: 1,
-        depth_ho: 0,
-        slices_x: 3,
-        slices_y: 3,
-        prefix: 0,
-        scaler: 1,
-        matrix: [8, 4, 4, 0, 0, 0, 0, 0, 0, 0, 0, 0, 0, 0, 0, 0],
-    }
+    let mut plan = ONE_SLICE;
+    plan.slices_x = 3;
+    plan.slices_y = 3;
+    plan
 }
 
 // 128 by 64, and 2 by 2 in colour, one slice.
 fn large_slice() -> Plan {
-    Plan {
-        shape: Shape {
-            luma_width: 128,
-            luma_height: 64,
-            colour_width: 2,
-            colour_height: 2,
-            luma_depth: 8,
-            colour_depth: 8,
-        },
-        wavelet: 3,
-        wavelet_ho: 3,
-        depth: 1,
-        depth_ho: 0,
-        slices_x: 1,
-        slices_y: 1,
-        prefix: 0,
-        scaler: 255,
-        matrix: [0; 16],
-    }
+    let mut plan = UNWEIGHTED_SLICE;
+    plan.shape.luma_width = 128;
+    plan.shape.luma_height = 64;
+    plan.scaler = 255;
+    plan
 }
 
 // The first slice of a plan, as a job.
@@ -353,7 +240,7 @@ fn a_slice_ends_with_its_last_block(rt: HostRuntime) {
 
 #[test]
 fn ones_follow_a_block(rt: HostRuntime) -> Result<(), Fail> {
-    let coeffs = coefficients(decoded(rt.alloc(), two_slices(), &[0, 1, 0, 0, 0])?)?;
+    let coeffs = coefficients(decoded(rt.alloc(), TWO_SLICES, &[0, 1, 0, 0, 0])?)?;
     assert!(rt;
         has(
             &coeffs,
@@ -367,14 +254,14 @@ fn ones_follow_a_block(rt: HostRuntime) -> Result<(), Fail> {
 
 #[test]
 fn subbands_follow_one_another(rt: HostRuntime) -> Result<(), Fail> {
-    let coeffs = coefficients(decoded(rt.alloc(), one_slice(), &[0, 2, 0x94, 0x80, 0, 0])?)?;
+    let coeffs = coefficients(decoded(rt.alloc(), ONE_SLICE, &[0, 2, 0x94, 0x80, 0, 0])?)?;
     assert!(rt; has(&coeffs, Component::Y, &[0, 1, 0, 1]));
     Ok(())
 }
 
 #[test]
 fn a_custom_matrix_counts(rt: HostRuntime) -> Result<(), Fail> {
-    let coeffs = coefficients(decoded(rt.alloc(), without_matrix(), &[4, 1, 0x0b, 0, 0])?)?;
+    let coeffs = coefficients(decoded(rt.alloc(), UNWEIGHTED_SLICE, &[4, 1, 0x0b, 0, 0])?)?;
     assert!(rt; has(&coeffs, Component::Y, &[7, 0, 0, 0]));
     assert!(rt; has(&coeffs, Component::C1, &[0; 4]));
     Ok(())
@@ -382,7 +269,7 @@ fn a_custom_matrix_counts(rt: HostRuntime) -> Result<(), Fail> {
 
 #[test]
 fn an_index_of_128_is_unsound(rt: HostRuntime) -> Result<(), Fail> {
-    let done = decoded(rt.alloc(), two_slices(), &[128, 0, 0, 0])?;
+    let done = decoded(rt.alloc(), TWO_SLICES, &[128, 0, 0, 0])?;
     assert!(rt; matches!(answer(done), Err(Unsound::IndexRange)));
     Ok(())
 }
@@ -391,7 +278,7 @@ fn an_index_of_128_is_unsound(rt: HostRuntime) -> Result<(), Fail> {
 fn a_coefficient_of_2_to_60_is_unsound(rt: HostRuntime) -> Result<(), Fail> {
     let most = decoded(
         rt.alloc(),
-        one_slice(),
+        ONE_SLICE,
         &[
             0, 16, 0, 0, 0, 0, 0, 0, 0, 0, 0, 0, 0, 0, 0, 0, 0, 0xbf, 0, 0,
         ],
@@ -405,7 +292,7 @@ fn a_coefficient_of_2_to_60_is_unsound(rt: HostRuntime) -> Result<(), Fail> {
     );
     let above = decoded(
         rt.alloc(),
-        one_slice(),
+        ONE_SLICE,
         &[
             0, 16, 0, 0, 0, 0, 0, 0, 0, 0, 0, 0, 0, 0, 0, 0, 1, 0xbf, 0, 0,
         ],
@@ -418,15 +305,15 @@ fn a_coefficient_of_2_to_60_is_unsound(rt: HostRuntime) -> Result<(), Fail> {
 fn a_slice_is_encoded_up_to_its_last_number(rt: HostRuntime) -> Result<(), Fail> {
     let alloc = rt.alloc();
     assert_eq!(rt;
-        encoded(alloc, one_slice(), &[0, 1, 0, 1], 0)?.as_slice(),
+        encoded(alloc, ONE_SLICE, &[0, 1, 0, 1], 0)?.as_slice(),
         [0, 2, 0x94, 0xbf, 0, 0].as_slice()
     );
     assert_eq!(rt;
-        encoded(alloc, one_slice(), &[-1], 0)?.as_slice(),
+        encoded(alloc, ONE_SLICE, &[-1], 0)?.as_slice(),
         [0, 1, 0x3f, 0, 0].as_slice()
     );
     assert_eq!(rt;
-        encoded(alloc, one_slice(), &[], 9)?.as_slice(),
+        encoded(alloc, ONE_SLICE, &[], 9)?.as_slice(),
         [9, 0, 0, 0].as_slice()
     );
     assert_eq!(rt;
@@ -444,11 +331,11 @@ fn a_slice_is_encoded_up_to_its_last_number(rt: HostRuntime) -> Result<(), Fail>
 fn the_matrix_counts_when_a_slice_is_encoded(rt: HostRuntime) -> Result<(), Fail> {
     let alloc = rt.alloc();
     assert_eq!(rt;
-        encoded(alloc, without_matrix(), &[7], 4)?.as_slice(),
+        encoded(alloc, UNWEIGHTED_SLICE, &[7], 4)?.as_slice(),
         [4, 1, 0x0b, 0, 0].as_slice()
     );
     assert_eq!(rt;
-        encoded(alloc, one_slice(), &[7], 4)?.as_slice(),
+        encoded(alloc, ONE_SLICE, &[7], 4)?.as_slice(),
         [4, 1, 0x02, 0, 0].as_slice()
     );
     Ok(())
@@ -485,18 +372,18 @@ fn lens_agree(alloc: Global, plan: &Plan, y: &[i64]) -> Result<(), Fail> {
 fn all_lengths_are_those_of_each_index(rt: HostRuntime) -> Result<(), Fail> {
     lens_agree(
         rt.alloc(),
-        &two_slices(),
+        &TWO_SLICES,
         &[1000, -517, 30, 4, 0, 1, 0, 0, -2, 255, -256],
     )?;
-    lens_agree(rt.alloc(), &two_slices(), &[])?;
-    lens_agree(rt.alloc(), &without_matrix(), &[(1 << 30) - 1, 1 << 30, 7])
+    lens_agree(rt.alloc(), &TWO_SLICES, &[])?;
+    lens_agree(rt.alloc(), &UNWEIGHTED_SLICE, &[(1 << 30) - 1, 1 << 30, 7])
 }
 
 #[test]
 fn all_lengths_of_the_greatest_coefficients(rt: HostRuntime) -> Result<(), Fail> {
     lens_agree(
         rt.alloc(),
-        &one_slice(),
+        &ONE_SLICE,
         &[(1 << 60) - 1, 0, 1 - (1 << 60), 3],
     )
 }
@@ -508,7 +395,7 @@ fn narrow_coefficients_are_encoded_as_wide_ones(rt: HostRuntime) -> Result<(), F
     for greatest in [1, 254, 16383, 16384, (1 << 31) - 1, 1 << 31] {
         for q in [0, 1, 12, 63, 127] {
             let y = [greatest, -5, 0, -greatest, 0, 3, greatest - 1, 0];
-            let _answer = encode_first(alloc, &two_slices(), &y, q)?;
+            let _answer = encode_first(alloc, &TWO_SLICES, &y, q)?;
         }
     }
     Ok(())
@@ -521,7 +408,7 @@ fn slices_are_decoded_apart() {
 
 #[test]
 fn no_places_hand_a_job_back(rt: HostRuntime) -> Result<(), Fail> {
-    let job = first_job(two_slices(), Bytes::from_static(&[0, 0, 0, 0]))?;
+    let job = first_job(TWO_SLICES, Bytes::from_static(&[0, 0, 0, 0]))?;
     let Ok(copy) = job.copy() else {
         return Err(Fail::from("no memory"));
     };

@@ -42,14 +42,15 @@ fn plan(shape: Shape, wavelets: (u8, u8), levels: (u8, u8)) -> Plan
     }
 }
 
-fn size(width: u32, height: u32) -> Shape
+// So many columns and rows of each component, of so many bits.
+fn shape(width: u32, height: u32, bits: u8) -> Shape
     ensures { result ≡ record {
       luma_width = width;
       luma_height = height;
       colour_width = width;
       colour_height = height;
-      luma_depth = 8;
-      colour_depth = 8;
+      luma_depth = bits;
+      colour_depth = bits;
     } }
 {
     Shape {
@@ -57,8 +58,8 @@ fn size(width: u32, height: u32) -> Shape
         luma_height: height,
         colour_width: width,
         colour_height: height,
-        luma_depth: 8,
-        colour_depth: 8,
+        luma_depth: bits,
+        colour_depth: bits,
     }
 }
 
@@ -74,7 +75,7 @@ fn digest(cells: &[i128]) -> i128 {
 // Columns come before rows: rows first would give -1 0 and -2 0.
 #[test]
 fn a_level_goes_down_and_then_across(rt: HostRuntime) -> Result<(), Fail> {
-    let plan = plan(size(2, 2), (3, 3), (1, 0));
+    let plan = plan(shape(2, 2, 8), (3, 3), (1, 0));
     let coefficients = Grid::new(2, 2, vec![in rt.alloc(); 0, 1, 0, 1]?);
     let samples = inverse(rt.alloc(), &plan, Component::Y, coefficients)?;
     assert_eq!(rt; samples.cells(), [0, 0, -1, 0].as_slice());
@@ -83,7 +84,7 @@ fn a_level_goes_down_and_then_across(rt: HostRuntime) -> Result<(), Fail> {
 
 #[test]
 fn zeros_are_grey(rt: HostRuntime) -> Result<(), Fail> {
-    let plan = plan(size(8, 4), (1, 1), (1, 0));
+    let plan = plan(shape(8, 4, 8), (1, 1), (1, 0));
     let coefficients = Grid::new(8, 4, vec![in rt.alloc(); 0; 32]?);
     let samples = inverse(rt.alloc(), &plan, Component::Y, coefficients)?;
     assert_eq!(rt; samples.cells(), [0; 32].as_slice());
@@ -92,7 +93,7 @@ fn zeros_are_grey(rt: HostRuntime) -> Result<(), Fail> {
 
 #[test]
 fn a_plane_of_one_sample_is_one_coefficient(rt: HostRuntime) -> Result<(), Fail> {
-    let plan = plan(size(1, 1), (3, 3), (1, 0));
+    let plan = plan(shape(1, 1, 8), (3, 3), (1, 0));
     let plane = Plane::new(1, 1, vec![in rt.alloc(); 0x7F]?);
     let coefficients = forward(rt.alloc(), &plan, Component::C1, &plane)?;
     assert_eq!(rt; coefficients.cells(), [-1, 0, 0, 0].as_slice());
@@ -117,7 +118,7 @@ static COEFFICIENTS: [i128; 7] = [
 #[test]
 fn five_by_three_samples_go_there_and_back(rt: HostRuntime) -> Result<(), Fail> {
     for wavelet in 0..7 {
-        let plan = plan(size(5, 3), (wavelet, wavelet), (2, 0));
+        let plan = plan(shape(5, 3, 8), (wavelet, wavelet), (2, 0));
         let samples = vec![in rt.alloc();
             3, 250, 17, 99, 128, 200, 1, 77, 254, 0, 64, 65, 66, 255, 31,
         ]?;
@@ -138,7 +139,7 @@ fn five_by_three_samples_go_there_and_back(rt: HostRuntime) -> Result<(), Fail> 
 // H alone has a coefficient. A level across alone makes -1 0 of its row, which is LL of a level both ways.
 #[test]
 fn levels_across_come_first(rt: HostRuntime) -> Result<(), Fail> {
-    let plan = plan(size(4, 2), (3, 3), (1, 1));
+    let plan = plan(shape(4, 2, 8), (3, 3), (1, 1));
     let coefficients = Grid::new(4, 2, vec![in rt.alloc(); 0, 1, 0, 0, 0, 0, 0, 0]?);
     let samples = inverse(rt.alloc(), &plan, Component::Y, coefficients)?;
     assert_eq!(rt; samples.cells(), [-1, -1, 0, 0, -1, -1, 0, 0].as_slice());
@@ -148,7 +149,7 @@ fn levels_across_come_first(rt: HostRuntime) -> Result<(), Fail> {
 // LL alone has a coefficient. Wavelet 3 would leave its value; wavelet 4, of the rows, halves it.
 #[test]
 fn rows_say_whether_samples_are_shifted(rt: HostRuntime) -> Result<(), Fail> {
-    let plan = plan(size(2, 2), (3, 4), (1, 0));
+    let plan = plan(shape(2, 2, 8), (3, 4), (1, 0));
     let coefficients = Grid::new(2, 2, vec![in rt.alloc(); 3, 0, 0, 0]?);
     let samples = inverse(rt.alloc(), &plan, Component::Y, coefficients)?;
     assert_eq!(rt; samples.cells(), [2; 4].as_slice());
@@ -205,7 +206,7 @@ static PAIRS: [[i128; 7]; 7] = [
 fn each_pair_of_wavelets(rt: HostRuntime) -> Result<(), Fail> {
     for down in 0..7 {
         for across in 0..7 {
-            let plan = plan(size(6, 4), (down, across), (1, 1));
+            let plan = plan(shape(6, 4, 8), (down, across), (1, 1));
             let wanted = PAIRS[down as usize][across as usize];
             assert_eq!(rt; sum(rt.alloc(), &plan)?, wanted, "{down} {across}");
         }
@@ -216,7 +217,7 @@ fn each_pair_of_wavelets(rt: HostRuntime) -> Result<(), Fail> {
 // Each split of up to five levels, with wavelet 1 down and 5 across, on 5 by 3 samples.
 #[test]
 fn one_level_both_ways(rt: HostRuntime) -> Result<(), Fail> {
-    let shape = size(5, 3);
+    let shape = shape(5, 3, 8);
     assert_eq!(rt; sum(rt.alloc(), &plan(shape, (1, 5), (1, 0)))?, 681);
     assert_eq!(rt; sum(rt.alloc(), &plan(shape, (1, 5), (1, 1)))?, -3232);
     assert_eq!(rt; sum(rt.alloc(), &plan(shape, (1, 5), (1, 2)))?, -2330);
@@ -227,7 +228,7 @@ fn one_level_both_ways(rt: HostRuntime) -> Result<(), Fail> {
 
 #[test]
 fn two_levels_both_ways(rt: HostRuntime) -> Result<(), Fail> {
-    let shape = size(5, 3);
+    let shape = shape(5, 3, 8);
     assert_eq!(rt; sum(rt.alloc(), &plan(shape, (1, 5), (2, 0)))?, -4974);
     assert_eq!(rt; sum(rt.alloc(), &plan(shape, (1, 5), (2, 1)))?, -5251);
     assert_eq!(rt; sum(rt.alloc(), &plan(shape, (1, 5), (2, 2)))?, -10197);
@@ -237,7 +238,7 @@ fn two_levels_both_ways(rt: HostRuntime) -> Result<(), Fail> {
 
 #[test]
 fn three_levels_both_ways(rt: HostRuntime) -> Result<(), Fail> {
-    let shape = size(5, 3);
+    let shape = shape(5, 3, 8);
     assert_eq!(rt; sum(rt.alloc(), &plan(shape, (1, 5), (3, 0)))?, -18947);
     assert_eq!(rt; sum(rt.alloc(), &plan(shape, (1, 5), (3, 1)))?, -33570);
     assert_eq!(rt; sum(rt.alloc(), &plan(shape, (1, 5), (3, 2)))?, -53085);
@@ -246,7 +247,7 @@ fn three_levels_both_ways(rt: HostRuntime) -> Result<(), Fail> {
 
 #[test]
 fn four_and_five_levels_both_ways(rt: HostRuntime) -> Result<(), Fail> {
-    let shape = size(5, 3);
+    let shape = shape(5, 3, 8);
     assert_eq!(rt; sum(rt.alloc(), &plan(shape, (1, 5), (4, 0)))?, -111990);
     assert_eq!(rt; sum(rt.alloc(), &plan(shape, (1, 5), (4, 1)))?, -224715);
     assert_eq!(rt; sum(rt.alloc(), &plan(shape, (1, 5), (5, 0)))?, -1383817);
@@ -256,14 +257,12 @@ fn four_and_five_levels_both_ways(rt: HostRuntime) -> Result<(), Fail> {
 // Wavelet 2 down and 6 across, a level across alone and two both ways.
 #[test]
 fn small_and_odd_sizes(rt: HostRuntime) -> Result<(), Fail> {
-    assert_eq!(rt; sum(rt.alloc(), &plan(size(1, 1), (2, 6), (2, 1)))?, -2412);
-    assert_eq!(rt; sum(rt.alloc(), &plan(size(1, 5), (2, 6), (2, 1)))?, 155);
-    assert_eq!(rt; sum(rt.alloc(), &plan(size(2, 9), (2, 6), (2, 1)))?, -9931);
-    assert_eq!(rt; sum(rt.alloc(), &plan(size(13, 6), (2, 6), (2, 1)))?, 4717);
-    assert_eq!(rt;
-        sum(rt.alloc(), &plan(size(40, 9), (2, 6), (2, 1)))?,
-        -37751
-    );
+    let alloc = rt.alloc();
+    assert_eq!(rt; sum(alloc, &plan(shape(1, 1, 8), (2, 6), (2, 1)))?, -2412);
+    assert_eq!(rt; sum(alloc, &plan(shape(1, 5, 8), (2, 6), (2, 1)))?, 155);
+    assert_eq!(rt; sum(alloc, &plan(shape(2, 9, 8), (2, 6), (2, 1)))?, -9931);
+    assert_eq!(rt; sum(alloc, &plan(shape(13, 6, 8), (2, 6), (2, 1)))?, 4717);
+    assert_eq!(rt; sum(alloc, &plan(shape(40, 9, 8), (2, 6), (2, 1)))?, -37751);
     Ok(())
 }
 
@@ -313,7 +312,7 @@ fn ends_at(plan: &Plan, most: i64) -> bool {
 
 #[test]
 fn bounds_end_where_32_bits_do(rt: HostRuntime) {
-    let shape = size(5, 3);
+    let shape = shape(5, 3, 8);
     for wavelet in 0..7 {
         let most = GREATEST[wavelet as usize];
         let pair = (wavelet, wavelet);
@@ -442,30 +441,16 @@ fn gives_up(alloc: Global, plan: &Plan, most: i32) -> Result<bool, Fail> {
 
 #[test]
 fn widths_agree_at_the_limit(rt: HostRuntime) -> Result<(), Fail> {
-    let shape = size(13, 6);
+    let (alloc, shape) = (rt.alloc(), shape(13, 6, 8));
     for wavelet in 0..7 {
         let most = GREATEST[wavelet as usize];
         let pair = (wavelet, wavelet);
-        assert!(rt;
-            agree(rt.alloc(), &plan(shape, pair, (1, 0)), most[0])?,
-            "{wavelet}"
-        );
-        assert!(rt;
-            agree(rt.alloc(), &plan(shape, pair, (2, 0)), most[1])?,
-            "{wavelet}"
-        );
-        assert!(rt;
-            agree(rt.alloc(), &plan(shape, pair, (3, 0)), most[2])?,
-            "{wavelet}"
-        );
-        assert!(rt;
-            agree(rt.alloc(), &plan(shape, pair, (4, 0)), most[3])?,
-            "{wavelet}"
-        );
-        assert!(rt;
-            agree(rt.alloc(), &plan(shape, pair, (5, 0)), most[4])?,
-            "{wavelet}"
-        );
+        let agrees = agree(alloc, &plan(shape, pair, (1, 0)), most[0])?
+            && agree(alloc, &plan(shape, pair, (2, 0)), most[1])?
+            && agree(alloc, &plan(shape, pair, (3, 0)), most[2])?
+            && agree(alloc, &plan(shape, pair, (4, 0)), most[3])?
+            && agree(alloc, &plan(shape, pair, (5, 0)), most[4])?;
+        assert!(rt; agrees, "{wavelet}");
     }
     Ok(())
 }
@@ -486,7 +471,7 @@ static GREATEST_MEASURED: [i32; 7] = [
 #[test]
 fn widths_agree_where_cells_are_measured(rt: HostRuntime) -> Result<(), Fail> {
     for wavelet in 0..7 {
-        let plan = plan(size(13, 6), (wavelet, wavelet), (3, 0));
+        let plan = plan(shape(13, 6, 8), (wavelet, wavelet), (3, 0));
         let most = GREATEST_MEASURED[wavelet as usize];
         assert!(rt; agree(rt.alloc(), &plan, i64::from(most))?, "{wavelet}");
         assert!(rt;
@@ -501,11 +486,11 @@ fn widths_agree_where_cells_are_measured(rt: HostRuntime) -> Result<(), Fail> {
 fn widths_agree_on_each_size(rt: HostRuntime) -> Result<(), Fail> {
     for wavelet in 0..5 {
         let pair = (wavelet, 4 - wavelet);
-        assert!(rt; agree(rt.alloc(), &plan(size(1, 1), pair, (1, 0)), 1000)?);
-        assert!(rt; agree(rt.alloc(), &plan(size(8, 1), pair, (2, 1)), 1000)?);
-        assert!(rt; agree(rt.alloc(), &plan(size(1, 9), pair, (3, 1)), 1000)?);
-        assert!(rt; agree(rt.alloc(), &plan(size(23, 7), pair, (1, 3)), 1000)?);
-        assert!(rt; agree(rt.alloc(), &plan(size(40, 17), pair, (3, 0)), 1000)?);
+        assert!(rt; agree(rt.alloc(), &plan(shape(1, 1, 8), pair, (1, 0)), 1000)?);
+        assert!(rt; agree(rt.alloc(), &plan(shape(8, 1, 8), pair, (2, 1)), 1000)?);
+        assert!(rt; agree(rt.alloc(), &plan(shape(1, 9, 8), pair, (3, 1)), 1000)?);
+        assert!(rt; agree(rt.alloc(), &plan(shape(23, 7, 8), pair, (1, 3)), 1000)?);
+        assert!(rt; agree(rt.alloc(), &plan(shape(40, 17, 8), pair, (3, 0)), 1000)?);
     }
     Ok(())
 }
@@ -564,11 +549,11 @@ fn outputs_agree_on_each_size(rt: HostRuntime) -> Result<(), Fail> {
     for wavelet in 0..7 {
         let pair = (wavelet, 6 - wavelet);
         let alloc = rt.alloc();
-        assert!(rt; outputs_agree(alloc, &plan(deep(1, 1, 8), pair, (1, 0)), 150)?);
-        assert!(rt; outputs_agree(alloc, &plan(deep(8, 1, 10), pair, (2, 1)), 700)?);
-        assert!(rt; outputs_agree(alloc, &plan(deep(1, 9, 1), pair, (1, 1)), 2)?);
-        assert!(rt; outputs_agree(alloc, &plan(deep(23, 7, 12), pair, (1, 3)), 2_000)?);
-        assert!(rt; outputs_agree(alloc, &plan(deep(40, 17, 16), pair, (3, 0)), 20_000)?);
+        assert!(rt; outputs_agree(alloc, &plan(shape(1, 1, 8), pair, (1, 0)), 150)?);
+        assert!(rt; outputs_agree(alloc, &plan(shape(8, 1, 10), pair, (2, 1)), 700)?);
+        assert!(rt; outputs_agree(alloc, &plan(shape(1, 9, 1), pair, (1, 1)), 2)?);
+        assert!(rt; outputs_agree(alloc, &plan(shape(23, 7, 12), pair, (1, 3)), 2_000)?);
+        assert!(rt; outputs_agree(alloc, &plan(shape(40, 17, 16), pair, (3, 0)), 20_000)?);
     }
     Ok(())
 }
@@ -607,27 +592,6 @@ fn bounds_of_samples_end_where_32_bits_do(rt: HostRuntime) {
                 "{wavelet} {levels}"
             );
         }
-    }
-}
-
-// So many columns and rows of luma, of so many bits.
-fn deep(width: u32, height: u32, bits: u8) -> Shape
-    ensures { result ≡ record {
-      luma_width = width;
-      luma_height = height;
-      colour_width = width;
-      colour_height = height;
-      luma_depth = bits;
-      colour_depth = bits;
-    } }
-{
-    Shape {
-        luma_width: width,
-        luma_height: height,
-        colour_width: width,
-        colour_height: height,
-        luma_depth: bits,
-        colour_depth: bits,
     }
 }
 
@@ -678,21 +642,13 @@ fn forward_agrees(alloc: Global, plan: &Plan) -> Result<bool, Fail>
 
 #[test]
 fn forward_widths_agree_on_16_bits(rt: HostRuntime) -> Result<(), Fail> {
+    let (alloc, shape) = (rt.alloc(), shape(13, 6, 16));
     for wavelet in 0..5 {
         let pair = (wavelet, wavelet);
-        let shape = deep(13, 6, 16);
-        assert!(rt;
-            forward_agrees(rt.alloc(), &plan(shape, pair, (1, 0)))?,
-            "{wavelet}"
-        );
-        assert!(rt;
-            forward_agrees(rt.alloc(), &plan(shape, pair, (2, 0)))?,
-            "{wavelet}"
-        );
-        assert!(rt;
-            forward_agrees(rt.alloc(), &plan(shape, pair, (3, 0)))?,
-            "{wavelet}"
-        );
+        let agrees = forward_agrees(alloc, &plan(shape, pair, (1, 0)))?
+            && forward_agrees(alloc, &plan(shape, pair, (2, 0)))?
+            && forward_agrees(alloc, &plan(shape, pair, (3, 0)))?;
+        assert!(rt; agrees, "{wavelet}");
     }
     Ok(())
 }
@@ -701,27 +657,27 @@ fn forward_widths_agree_on_16_bits(rt: HostRuntime) -> Result<(), Fail> {
 #[test]
 fn forward_widths_agree_up_to_the_limit(rt: HostRuntime) -> Result<(), Fail> {
     let levels = (4, 0);
-    assert!(rt; forward_agrees(rt.alloc(), &plan(deep(13, 6, 14), (0, 0), levels))?);
-    assert!(rt; forward_agrees(rt.alloc(), &plan(deep(13, 6, 15), (0, 0), levels))?);
-    assert!(rt; !forward_agrees(rt.alloc(), &plan(deep(13, 6, 16), (0, 0), levels))?);
-    assert!(rt; forward_agrees(rt.alloc(), &plan(deep(13, 6, 16), (1, 1), levels))?);
-    assert!(rt; forward_agrees(rt.alloc(), &plan(deep(13, 6, 12), (2, 2), levels))?);
-    assert!(rt; forward_agrees(rt.alloc(), &plan(deep(13, 6, 13), (2, 2), levels))?);
-    assert!(rt; !forward_agrees(rt.alloc(), &plan(deep(13, 6, 14), (2, 2), levels))?);
-    assert!(rt; forward_agrees(rt.alloc(), &plan(deep(13, 6, 16), (3, 3), levels))?);
-    assert!(rt; forward_agrees(rt.alloc(), &plan(deep(13, 6, 16), (4, 4), levels))?);
+    assert!(rt; forward_agrees(rt.alloc(), &plan(shape(13, 6, 14), (0, 0), levels))?);
+    assert!(rt; forward_agrees(rt.alloc(), &plan(shape(13, 6, 15), (0, 0), levels))?);
+    assert!(rt; !forward_agrees(rt.alloc(), &plan(shape(13, 6, 16), (0, 0), levels))?);
+    assert!(rt; forward_agrees(rt.alloc(), &plan(shape(13, 6, 16), (1, 1), levels))?);
+    assert!(rt; forward_agrees(rt.alloc(), &plan(shape(13, 6, 12), (2, 2), levels))?);
+    assert!(rt; forward_agrees(rt.alloc(), &plan(shape(13, 6, 13), (2, 2), levels))?);
+    assert!(rt; !forward_agrees(rt.alloc(), &plan(shape(13, 6, 14), (2, 2), levels))?);
+    assert!(rt; forward_agrees(rt.alloc(), &plan(shape(13, 6, 16), (3, 3), levels))?);
+    assert!(rt; forward_agrees(rt.alloc(), &plan(shape(13, 6, 16), (4, 4), levels))?);
     Ok(())
 }
 
 #[test]
 fn forward_widths_agree_up_to_the_limits_of_long_wavelets(rt: HostRuntime) -> Result<(), Fail> {
-    assert!(rt; forward_agrees(rt.alloc(), &plan(deep(13, 6, 12), (5, 5), (3, 0)))?);
-    assert!(rt; forward_agrees(rt.alloc(), &plan(deep(13, 6, 13), (5, 5), (3, 0)))?);
-    assert!(rt; !forward_agrees(rt.alloc(), &plan(deep(13, 6, 14), (5, 5), (3, 0)))?);
-    assert!(rt; forward_agrees(rt.alloc(), &plan(deep(13, 6, 9), (5, 5), (4, 0)))?);
-    assert!(rt; !forward_agrees(rt.alloc(), &plan(deep(13, 6, 10), (5, 5), (4, 0)))?);
-    assert!(rt; forward_agrees(rt.alloc(), &plan(deep(13, 6, 13), (6, 6), (1, 0)))?);
-    assert!(rt; !forward_agrees(rt.alloc(), &plan(deep(13, 6, 14), (6, 6), (1, 0)))?);
+    assert!(rt; forward_agrees(rt.alloc(), &plan(shape(13, 6, 12), (5, 5), (3, 0)))?);
+    assert!(rt; forward_agrees(rt.alloc(), &plan(shape(13, 6, 13), (5, 5), (3, 0)))?);
+    assert!(rt; !forward_agrees(rt.alloc(), &plan(shape(13, 6, 14), (5, 5), (3, 0)))?);
+    assert!(rt; forward_agrees(rt.alloc(), &plan(shape(13, 6, 9), (5, 5), (4, 0)))?);
+    assert!(rt; !forward_agrees(rt.alloc(), &plan(shape(13, 6, 10), (5, 5), (4, 0)))?);
+    assert!(rt; forward_agrees(rt.alloc(), &plan(shape(13, 6, 13), (6, 6), (1, 0)))?);
+    assert!(rt; !forward_agrees(rt.alloc(), &plan(shape(13, 6, 14), (6, 6), (1, 0)))?);
     Ok(())
 }
 
@@ -729,10 +685,10 @@ fn forward_widths_agree_up_to_the_limits_of_long_wavelets(rt: HostRuntime) -> Re
 fn forward_widths_agree_on_each_size(rt: HostRuntime) -> Result<(), Fail> {
     for wavelet in 0..5 {
         let pair = (wavelet, wavelet);
-        assert!(rt; forward_agrees(rt.alloc(), &plan(deep(1, 1, 8), pair, (1, 0)))?);
-        assert!(rt; forward_agrees(rt.alloc(), &plan(deep(40, 1, 8), pair, (2, 0)))?);
-        assert!(rt; forward_agrees(rt.alloc(), &plan(deep(1, 9, 10), pair, (3, 0)))?);
-        assert!(rt; forward_agrees(rt.alloc(), &plan(deep(23, 7, 12), pair, (3, 0)))?);
+        assert!(rt; forward_agrees(rt.alloc(), &plan(shape(1, 1, 8), pair, (1, 0)))?);
+        assert!(rt; forward_agrees(rt.alloc(), &plan(shape(40, 1, 8), pair, (2, 0)))?);
+        assert!(rt; forward_agrees(rt.alloc(), &plan(shape(1, 9, 10), pair, (3, 0)))?);
+        assert!(rt; forward_agrees(rt.alloc(), &plan(shape(23, 7, 12), pair, (3, 0)))?);
     }
     Ok(())
 }

@@ -1,11 +1,11 @@
 ghost use Rattle.std.specs.Prelude.{IfOk};
 ghost use Rattle.slice_exchange.specs.Calls.{PlacesAreBelow};
 
-use super::entering::{params, slice};
-use super::{HEADER, datagram};
+use super::datagram;
 use crate::{EnterFault, Outcome, Receiver};
 use std::alloc::Global;
 use std::test::Fail;
+use test_values::{HEADER_PAYLOAD, params_payload, slice_payload};
 use vc_ports::MemSink;
 use vc_slice::{Places, SliceDone, SliceJob};
 
@@ -53,9 +53,9 @@ fn begun(alloc: Global, places: &mut Counting, sink: &mut MemSink) -> Result<Rec
     ensures { IfOk result (λ receiver. PlacesAreBelow 1 receiver.reception.out) }
 {
     let mut receiver = Receiver::new(alloc, 2);
-    let header = receiver.enter(datagram(alloc, &HEADER)?, places, sink);
-    let params = receiver.enter(datagram(alloc, &params(0))?, places, sink);
-    let first = receiver.enter(datagram(alloc, &slice(0, 0))?, places, sink);
+    let header = receiver.enter(datagram(alloc, &HEADER_PAYLOAD)?, places, sink);
+    let params = receiver.enter(datagram(alloc, &params_payload(0))?, places, sink);
+    let first = receiver.enter(datagram(alloc, &slice_payload(0, 0))?, places, sink);
     if header == Ok(Outcome::HeaderNew)
         && params == Ok(Outcome::ParamsKept)
         && first == Ok(Outcome::SlicesKept)
@@ -73,11 +73,11 @@ fn nothing_is_called_after_a_fault(rt: HostRuntime) -> Result<(), Fail> {
     let mut places = Counting { calls: 0 };
     let mut sink = MemSink::new(alloc, 96, vec![in alloc; 1]?)?;
     let mut receiver = begun(alloc, &mut places, &mut sink)?;
-    let second = datagram(alloc, &slice(0, 1))?;
+    let second = datagram(alloc, &slice_payload(0, 1))?;
     let kept = receiver.enter(second, &mut places, &mut sink);
     let fault = receiver.drain(&mut places, &mut sink);
     let calls = places.calls;
-    let after = receiver.enter(datagram(alloc, &params(1))?, &mut places, &mut sink);
+    let after = receiver.enter(datagram(alloc, &params_payload(1))?, &mut places, &mut sink);
     let end = receiver.drain(&mut places, &mut sink);
     assert!(rt; kept == Ok(Outcome::SlicesKept) && fault == Err(EnterFault::WriteFault));
     assert!(rt; after == Err(EnterFault::Ended) && end == Err(EnterFault::Ended));

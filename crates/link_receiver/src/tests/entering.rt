@@ -9,20 +9,6 @@ use std::test::Fail;
 use vc_ports::MemSink;
 use vc_slice::Places;
 
-/// The payload of the transform parameters of a picture: wavelet 3, depth 1, 2 by 1 slices.
-pub(super) fn params(number: u8) -> [u8; 19] {
-    [
-        0, 0, 0, 0xec, 0, 0, 0, number, 0, 0, 0, 1, 0, 3, 0, 0, 0x09, 0x66, 0x40,
-    ]
-}
-
-/// The payload of one slice of a picture, all zeros, in column `x`.
-pub(super) fn slice(number: u8, x: u8) -> [u8; 24] {
-    [
-        0, 0, 0, 0xec, 0, 0, 0, number, 0, 0, 0, 1, 0, 4, 0, 1, 0, x, 0, 0, 0, 0, 0, 0,
-    ]
-}
-
 /// Takes datagrams of one source with these payloads, and then the end of the input.
 pub(super) fn enter_all<P: Places>(
     alloc: Global,

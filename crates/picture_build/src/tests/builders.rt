@@ -1,14 +1,14 @@
-ghost use Rattle.std.specs.Prelude.{◌≡◌, ◌<◌, true, IsTrue};
-ghost use Rattle.vc_types.specs.Limits.{shape_fits, padded_luma_fits};
+ghost use Rattle.std.specs.Prelude.{◌≡◌, ◌<◌, ◌≤◌, true};
 ghost use Rattle.vc_types.specs.SliceCoefficients.{AreSliceCoefficients};
 ghost use Rattle.vc_types.specs.Subbands.{slice_count};
 ghost use Rattle.vc_types.specs.TransformParameters.{parameters_of};
 ghost use Rattle.picture_build.specs.Kept.{HasAllSlices};
 
-use super::{built, decoded, one_slice, two_levels, two_slices};
+use super::{built, decoded, two_levels};
 use crate::{NotPut, PictureBuilder};
 use std::alloc::Global;
 use std::test::Fail;
+use test_values::{ONE_SLICE, TWO_SLICES, UNWEIGHTED_SLICE};
 use vc_slice::{SliceCoeffs, cut};
 use vc_types::{Plan, Plane, Shape, Unsound};
 
@@ -85,7 +85,7 @@ fn finished(builder: PictureBuilder, plan: &Plan) -> Result<[Plane; 3], Fail>
 
 #[test]
 fn a_slice_is_filled_in(rt: HostRuntime) -> Result<(), Fail> {
-    let plan = one_slice();
+    let plan = ONE_SLICE;
     let mut builder = PictureBuilder::new(rt.alloc(), plan)?;
     assert!(rt; builder.has_plan(&plan));
     assert!(rt; !builder.has(0));
@@ -125,7 +125,7 @@ fn both_filled(
 // Samples that are too bright are clipped. In the third picture nothing is left of the two before.
 #[test]
 fn a_wide_slice_is_filled_in_beside_a_narrow_one(rt: HostRuntime) -> Result<(), Fail> {
-    let plan = two_slices();
+    let plan = TWO_SLICES;
     let mut builder = PictureBuilder::new(rt.alloc(), plan)?;
     let bright = [113, 113, 128, 128, 255, 255, 128, 128];
     let last = both_filled(rt.alloc(), &mut builder, &plan, WIDE, false)?;
@@ -140,7 +140,7 @@ fn a_wide_slice_is_filled_in_beside_a_narrow_one(rt: HostRuntime) -> Result<(), 
 
 #[test]
 fn an_unsound_slice_leaves_the_picture(rt: HostRuntime) -> Result<(), Fail> {
-    let plan = two_slices();
+    let plan = TWO_SLICES;
     let mut builder = PictureBuilder::new(rt.alloc(), plan)?;
     let answer = put(&mut builder, &plan, 0, &[128, 1, 0x56, 0, 0])?;
     assert_eq!(rt; answer, Err(NotPut::Unsound(Unsound::IndexRange)));
@@ -150,7 +150,7 @@ fn an_unsound_slice_leaves_the_picture(rt: HostRuntime) -> Result<(), Fail> {
 
 #[test]
 fn a_wide_slice_is_not_put(rt: HostRuntime) -> Result<(), Fail> {
-    let plan = two_slices();
+    let plan = TWO_SLICES;
     let mut builder = PictureBuilder::new(rt.alloc(), plan)?;
     let answer = put(&mut builder, &plan, 1, WIDE)?;
     assert_eq!(rt; answer, Err(NotPut::Wide));
@@ -162,7 +162,7 @@ fn a_wide_slice_is_not_put(rt: HostRuntime) -> Result<(), Fail> {
 
 #[test]
 fn a_picture_of_put_slices(rt: HostRuntime) -> Result<(), Fail> {
-    let plan = one_slice();
+    let plan = ONE_SLICE;
     let mut builder = PictureBuilder::new(rt.alloc(), plan)?;
     let answer = put(&mut builder, &plan, 0, &[0, 2, 0x94, 0x80, 0, 0])?;
     assert_eq!(rt; answer, Ok(()));
@@ -231,45 +231,21 @@ fn larger_coefficients_are_transformed_in_more(rt: HostRuntime) -> Result<(), Fa
     Ok(())
 }
 
-// So many columns and 4 rows of each component.
-fn columns(width: u32) -> Shape
-    ensures { result ≡ record {
-      luma_width = width;
-      luma_height = 4;
-      colour_width = width;
-      colour_height = 4;
-      luma_depth = 8;
-      colour_depth = 8;
-    } }
+// UNWEIGHTED_SLICE with so many columns and 4 rows of each component.
+fn columns(width: u32) -> Plan
+    requires { (1 ≤ width) × (width ≤ 64) }
+    ensures { (result.slices_x ≡ 1) × (result.slices_y ≡ 1) }
 {
-    Shape {
+    let mut plan = UNWEIGHTED_SLICE;
+    plan.shape = Shape {
         luma_width: width,
         luma_height: 4,
         colour_width: width,
         colour_height: 4,
         luma_depth: 8,
         colour_depth: 8,
-    }
-}
-
-// One slice of wavelet 3 at depth 1.
-fn one_slice_of(shape: Shape) -> Plan
-    requires shape { IsTrue (shape_fits shape) }
-    requires padded { IsTrue (padded_luma_fits shape 0 1) }
-    ensures { (result.slices_x ≡ 1) × (result.slices_y ≡ 1) }
-{
-    Plan {
-        shape,
-        wavelet: 3,
-        wavelet_ho: 3,
-        depth: 1,
-        depth_ho: 0,
-        slices_x: 1,
-        slices_y: 1,
-        prefix: 0,
-        scaler: 1,
-        matrix: [0; 16],
-    }
+    };
+    plan
 }
 
 // Codes of all lengths up to 20 bits.
@@ -294,9 +270,9 @@ fn is_put_as_filled(alloc: Global, plan: Plan) -> Result<bool, Fail>
 // The rows of a subband have half as many cells: one at a time, a few at once, and more than eight.
 #[test]
 fn coefficients_are_put_where_they_are_filled_in(rt: HostRuntime) -> Result<(), Fail> {
-    assert!(rt; is_put_as_filled(rt.alloc(), one_slice_of(columns(2)))?);
-    assert!(rt; is_put_as_filled(rt.alloc(), one_slice_of(columns(6)))?);
-    assert!(rt; is_put_as_filled(rt.alloc(), one_slice_of(columns(16)))?);
-    assert!(rt; is_put_as_filled(rt.alloc(), one_slice_of(columns(40)))?);
+    assert!(rt; is_put_as_filled(rt.alloc(), columns(2))?);
+    assert!(rt; is_put_as_filled(rt.alloc(), columns(6))?);
+    assert!(rt; is_put_as_filled(rt.alloc(), columns(16))?);
+    assert!(rt; is_put_as_filled(rt.alloc(), columns(40))?);
     Ok(())
 }

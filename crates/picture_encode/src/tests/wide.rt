@@ -1,62 +1,11 @@
-ghost use Rattle.std.specs.Prelude.{◌≡◌, replicate, false, true, IfOk};
+ghost use Rattle.std.specs.Prelude.{◌≡◌, replicate, IfOk};
 ghost use Rattle.vc_types.specs.Planes.{planes_in};
-ghost use Rattle.vc_types.specs.SenderSettings.{sending_view};
-ghost use Rattle.vc_types.specs.declared.choice.IndexChoice.TheVariants.{Index};
-ghost use Rattle.vc_types.specs.declared.video.Sampling.TheVariants.{S444};
 
 use crate::{Chooser, InTurn, PictureGrids, encode_picture, plan_of};
 use std::alloc::Global;
 use std::test::Fail;
-use vc_types::{IndexChoice, NoMemory, Plane, Sampling, SendSettings, SliceNeed};
-
-// 4 by 4, 4:4:4, 8 bits, wavelet 6 at depth 2, one slice: in 32 bits a sum of its transform may not fit.
-fn wide() -> SendSettings
-    ensures { sending_view result ≡ record {
-      frames = record {
-        width = 4;
-        height = 4;
-        sampling = S444;
-        range = 1;
-        fields = false;
-        top = true;
-      };
-      wavelet = 6;
-      depth = 2;
-      across = 1;
-      down = 1;
-      prefix = 0;
-      scaler = 1;
-      size = 1400;
-      choice = Index 0;
-      ssrc = 1;
-      seq = 0;
-      picture = 0;
-      tick = 3600;
-      pt = 96;
-    } }
-{
-    SendSettings {
-        width: 4,
-        height: 4,
-        sampling: Sampling::S444,
-        range: 1,
-        fields: false,
-        top: true,
-        wavelet: 6,
-        depth: 2,
-        slices_x: 1,
-        slices_y: 1,
-        prefix: 0,
-        scaler: 1,
-        size: 1400,
-        choice: IndexChoice::Index(0),
-        ssrc: 1,
-        seq: 0,
-        picture: 0,
-        tick: 3600,
-        pt: 96,
-    }
-}
+use test_values::ONE_SLICE_SETTINGS;
+use vc_types::{NoMemory, Plane, SliceNeed};
 
 fn flat(alloc: Global, sample: u16) -> Result<Plane, NoMemory>
     ensures { IfOk result
@@ -78,6 +27,8 @@ fn picture(alloc: Global) -> Result<[Plane; 3], NoMemory>
     Ok([y, c1, c2])
 }
 
+// By wavelet 6 at depth 2, where a sum of the transform may not fit in 32 bits.
+//
 // Luma is 1 above the middle, and 2 where it is doubled. Of a row that is 2 everywhere, the odd samples become
 // 2 - ((2 * 6497 * 2 + 2048) >> 12) = -4, the even ones 2 - ((2 * 217 * -4 + 2048) >> 12) = 2, the odd ones then
 // -4 + ((2 * 113 * 2 + 64) >> 7) = 0, and the even ones 2 + ((2 * 1817 * 0 + 2048) >> 12) = 2. Columns do the same. The
@@ -85,7 +36,11 @@ fn picture(alloc: Global) -> Result<[Plane; 3], NoMemory>
 #[test]
 fn a_wide_picture_is_encoded(rt: HostRuntime) -> Result<(), Fail> {
     let alloc = rt.alloc();
-    let s = wide();
+    let mut s = ONE_SLICE_SETTINGS;
+    s.width = 4;
+    s.height = 4;
+    s.wavelet = 6;
+    s.depth = 2;
     let planes = picture(alloc)?;
     let chooser = Chooser::new(false, |_need: &SliceNeed| 0);
     let mut grids = PictureGrids::new(alloc);

@@ -1,28 +1,18 @@
 use super::{coefficients, decoded, encoded, has};
 use std::test::Fail;
-use vc_types::{Component, Plan, Shape};
+use test_values::ONE_SLICE;
+use vc_types::{Component, Plan};
 
 // 8 by 2, one slice, two levels across alone and one both ways, and another matrix value for each subband.
 fn levels_across() -> Plan {
-    Plan {
-        shape: Shape {
-            luma_width: 8,
-            luma_height: 2,
-            colour_width: 8,
-            colour_height: 2,
-            luma_depth: 8,
-            colour_depth: 8,
-        },
-        wavelet: 1,
-        wavelet_ho: 4,
-        depth: 1,
-        depth_ho: 2,
-        slices_x: 1,
-        slices_y: 1,
-        prefix: 0,
-        scaler: 1,
-        matrix: [9, 5, 2, 0, 7, 12, 0, 0, 0, 0, 0, 0, 0, 0, 0, 0],
-    }
+    let mut plan = ONE_SLICE;
+    plan.shape.luma_width = 8;
+    plan.shape.colour_width = 8;
+    plan.wavelet = 1;
+    plan.wavelet_ho = 4;
+    plan.depth_ho = 2;
+    plan.matrix = [9, 5, 2, 0, 7, 12, 0, 0, 0, 0, 0, 0, 0, 0, 0, 0];
+    plan
 }
 
 // The numbers are 3 in LL, -2 in H of level 1, 1 and 4 in that of level 2, -5, 2, 0 and 1 in HL, 6 and -1 in LH, and 3, -7

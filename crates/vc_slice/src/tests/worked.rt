@@ -1,28 +1,16 @@
-use super::{coefficients, decoded, encoded, has, is_narrow, without_matrix};
+use super::{coefficients, decoded, encoded, has, is_narrow};
 use std::test::Fail;
-use vc_types::{Component, Plan, Shape};
+use test_values::{ONE_SLICE, UNWEIGHTED_SLICE};
+use vc_types::{Component, Plan};
 
 // 4 by 2 in luma and 2 by 2 in colour, one slice, and another matrix value for each subband.
 fn four_values() -> Plan {
-    Plan {
-        shape: Shape {
-            luma_width: 4,
-            luma_height: 2,
-            colour_width: 2,
-            colour_height: 2,
-            luma_depth: 8,
-            colour_depth: 8,
-        },
-        wavelet: 1,
-        wavelet_ho: 1,
-        depth: 1,
-        depth_ho: 0,
-        slices_x: 1,
-        slices_y: 1,
-        prefix: 0,
-        scaler: 1,
-        matrix: [9, 5, 2, 0, 0, 0, 0, 0, 0, 0, 0, 0, 0, 0, 0, 0],
-    }
+    let mut plan = ONE_SLICE;
+    plan.shape.luma_width = 4;
+    plan.wavelet = 1;
+    plan.wavelet_ho = 1;
+    plan.matrix = [9, 5, 2, 0, 0, 0, 0, 0, 0, 0, 0, 0, 0, 0, 0, 0];
+    plan
 }
 
 // The numbers are 3 and -2 in LL, 1 and 4 in HL, -5 and 2 in LH, 6 and -1 in HH. In C1 they are 1, -1, 2 and -2, in C2 -3
@@ -54,7 +42,7 @@ fn each_subband_has_a_quantiser_of_its_own(rt: HostRuntime) -> Result<(), Fail> 
 // The code of 0, and that of 8 up to its sign. The ones behind the block are the sign, and zeros.
 #[test]
 fn a_block_ends_before_a_sign(rt: HostRuntime) -> Result<(), Fail> {
-    let coeffs = coefficients(decoded(rt.alloc(), without_matrix(), &[0, 1, 0b1000_0011, 0, 0])?)?;
+    let coeffs = coefficients(decoded(rt.alloc(), UNWEIGHTED_SLICE, &[0, 1, 0b1000_0011, 0, 0])?)?;
     assert!(rt; has(&coeffs, Component::Y, &[0, -8, 0, 0]));
     Ok(())
 }
@@ -64,7 +52,7 @@ fn a_block_ends_before_a_sign(rt: HostRuntime) -> Result<(), Fail> {
 fn an_index_of_127_is_the_highest(rt: HostRuntime) -> Result<(), Fail> {
     let coeffs = coefficients(decoded(
         rt.alloc(),
-        without_matrix(),
+        UNWEIGHTED_SLICE,
         &[127, 1, 0b0010_1111, 0, 0],
     )?)?;
     assert!(rt; has(&coeffs, Component::Y, &[5417433904, 0, 0, 0]));
@@ -77,12 +65,12 @@ fn an_index_of_127_is_the_highest(rt: HostRuntime) -> Result<(), Fail> {
 fn a_slice_is_kept_in_32_bits_where_it_fits(rt: HostRuntime) -> Result<(), Fail> {
     let alloc = rt.alloc();
     let most = &[0, 8, 0, 0, 0, 0, 0, 0, 0, 0x2f, 0, 0];
-    let coeffs = coefficients(decoded(alloc, without_matrix(), most)?)?;
+    let coeffs = coefficients(decoded(alloc, UNWEIGHTED_SLICE, most)?)?;
     assert!(rt; is_narrow(&coeffs));
     assert!(rt; has(&coeffs, Component::Y, &[536870911, 0, 0, 0]));
     assert!(rt; has(&coeffs, Component::C2, &[0; 4]));
     let above = &[0, 8, 0, 0, 0, 0, 0, 0, 0, 0x6f, 0, 0];
-    let coeffs = coefficients(decoded(alloc, without_matrix(), above)?)?;
+    let coeffs = coefficients(decoded(alloc, UNWEIGHTED_SLICE, above)?)?;
     assert!(rt; !is_narrow(&coeffs));
     assert!(rt; has(&coeffs, Component::Y, &[536870912, 0, 0, 0]));
     Ok(())
@@ -93,7 +81,7 @@ fn a_slice_is_kept_in_32_bits_where_it_fits(rt: HostRuntime) -> Result<(), Fail>
 fn a_wide_component_behind_narrow_ones(rt: HostRuntime) -> Result<(), Fail> {
     let alloc = rt.alloc();
     let bytes = &[0, 2, 0x94, 0x80, 1, 0x3f, 8, 0, 0, 0, 0, 0, 0, 0, 0x6f];
-    let coeffs = coefficients(decoded(alloc, without_matrix(), bytes)?)?;
+    let coeffs = coefficients(decoded(alloc, UNWEIGHTED_SLICE, bytes)?)?;
     assert!(rt; !is_narrow(&coeffs));
     let copy = coeffs.copy(alloc)?;
     assert!(rt; has(&copy, Component::Y, &[0, 1, 0, 1]));

@@ -1,0 +1,117 @@
+use std::alloc::{AllocError, Global};
+use vc_slice::{Hands, Places, SliceDone, SliceJob};
+use vc_types::NoMemory;
+
+#[derive(Drop)]
+struct Stored {
+    job: SliceJob,
+    place: u32,
+}
+
+/// Hands that tell what they are asked, while they have room for that, and decode nothing. A slice's
+/// place is the number of slices before it.
+#[derive(Drop)]
+pub struct Recorder {
+    offered: Vec<Stored>,
+    asked: Vec<u32>,
+    freed: Vec<u32>,
+    started: Vec<u32>,
+    is_full: bool,
+}
+
+impl Recorder {
+    pub fn new(alloc: Global, room: usize) -> Result<Recorder, AllocError> {
+        Ok(Recorder {
+            offered: Vec::with_capacity(alloc, room)?,
+            asked: Vec::with_capacity(alloc, room)?,
+            freed: Vec::with_capacity(alloc, room)?,
+            started: Vec::with_capacity(alloc, room)?,
+            is_full: false,
+        })
+    }
+
+    /// Whether there was room for all, and slices of these numbers and indices were offered in turn.
+    pub fn was_offered(&self, slices: &[(u64, u32)]) -> bool {
+        if self.is_full || self.offered.len() != slices.len() {
+            return false;
+        }
+        for i in 0..slices.len() {
+            let job = &self.offered[i].job;
+            if (job.number, job.index) != slices[i] {
+                return false;
+            }
+        }
+        true
+    }
+
+    /// The places that were freed, in this order.
+    pub fn freed(&self) -> &[u32] {
+        self.freed.as_slice()
+    }
+
+    /// How many workers were started each time.
+    pub fn started(&self) -> &[u32] {
+        self.started.as_slice()
+    }
+}
+
+impl Places for Recorder {
+    ghost use Rattle.std.specs.Prelude.{◌^◌, [], None, Some, map, if◌then◌else◌};
+
+    ghost bound = { λ _. 2 ^ 32 };
+
+    ghost told = { λ r. if r.is_full then None else Some (record {
+      offered = map (λ o. record { job = o.job; place = Some o.place }) r.offered.items;
+      asked = r.asked.items;
+      given = [];
+      freed = r.freed.items;
+      started = r.started.items;
+    }) };
+
+    fn put(&mut self, job: SliceJob) -> Result<u32, SliceJob> {
+        let place = self.offered.len();
+        if place >= self.offered.capacity() || place > 1000 {
+            self.is_full = true;
+            return Err(job);
+        }
+        let place = place as u32;
+        self.offered.push_reserved(Stored { job, place });
+        Ok(place)
+    }
+
+    fn take(&mut self, place: u32) -> Option<SliceDone> {
+        if self.asked.len() >= self.asked.capacity() {
+            self.is_full = true;
+        } else {
+            self.asked.push_reserved(place);
+        }
+        None
+    }
+
+    fn withdraw(&mut self, _place: u32) -> Option<SliceJob> {
+        None
+    }
+
+    fn leave(&mut self, place: u32) {
+        if self.freed.len() >= self.freed.capacity() {
+            self.is_full = true;
+        } else {
+            self.freed.push_reserved(place);
+        }
+    }
+}
+
+impl Hands for Recorder {
+    ghost use Rattle.std.specs.Prelude.{⊤};
+
+    ghost is_free = { λ _. ⊤ };
+
+    fn start_workers(&mut self, workers: u32) -> Result<(), NoMemory> {
+        if self.started.len() >= self.started.capacity() {
+            self.is_full = true;
+        } else {
+            self.started.push_reserved(workers);
+        }
+        Ok(())
+    }
+}
