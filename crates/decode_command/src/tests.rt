@@ -4,30 +4,15 @@ use crate::unpack;
 use link_report::Answer;
 use std::alloc::Global;
 use std::test::Fail;
+use test_values::{HEADER_PAYLOAD, params_payload, slice_payload};
 use vc_ports::{MemSink, PlainSource};
 use vc_slice::NoPlaces;
 
-// Payloads of datagrams: the sequence header of 8 by 4 samples of 8 bits, 4:4:4, with frames and with fields.
-const HEADER: [u8; 9] = [0, 0, 0, 0, 0x70, 0xF0, 0x63, 0xC0, 0x80];
-
+// The payload of the same header, but with fields.
 const FIELDS: [u8; 9] = [0, 0, 0, 0, 0x70, 0xF0, 0x63, 0xC0, 0x20];
 
 // The end of a sequence.
 const END: [u8; 4] = [0, 0, 0, 0x10];
-
-// Wavelet 3, depth 1, 2 by 1 slices.
-fn params(number: u8) -> [u8; 19] {
-    [
-        0, 0, 0, 0xEC, 0, 0, 0, number, 0, 0, 0, 1, 0, 3, 0, 0, 0x09, 0x66, 0x40,
-    ]
-}
-
-// One slice of zeros, from column `x` on.
-fn slice(number: u8, x: u8) -> [u8; 24] {
-    [
-        0, 0, 0, 0xEC, 0, 0, 0, number, 0, 0, 0, 1, 0, 4, 0, 1, 0, x, 0, 0, 0, 0, 0, 0,
-    ]
-}
 
 // Both slices, the first one with this index.
 fn slices(number: u8, index: u8) -> [u8; 28] {
@@ -94,7 +79,7 @@ fn joined(alloc: Global, units: &[&[u8]]) -> Result<Vec<u8>, Fail> {
 #[test]
 fn a_picture_is_unpacked(rt: HostRuntime) -> Result<(), Fail> {
     let alloc = rt.alloc();
-    let input = capture(alloc, &[&HEADER, &params(0), &slices(0, 0)])?;
+    let input = capture(alloc, &[&HEADER_PAYLOAD, &params_payload(0), &slices(0, 0)])?;
     let stream = joined(
         alloc,
         &[&header_unit(0x80), &picture_unit(0, 18), &END_UNIT],
@@ -110,17 +95,17 @@ fn pictures_out_of_order(rt: HostRuntime) -> Result<(), Fail> {
     let input = capture(
         alloc,
         &[
-            &HEADER,
-            &params(0),
-            &slice(0, 0),
-            &slice(0, 1),
-            &params(1),
-            &slice(1, 0),
-            &params(3),
-            &slice(3, 0),
-            &slice(3, 1),
-            &slice(1, 1),
-            &slice(0, 1),
+            &HEADER_PAYLOAD,
+            &params_payload(0),
+            &slice_payload(0, 0),
+            &slice_payload(0, 1),
+            &params_payload(1),
+            &slice_payload(1, 0),
+            &params_payload(3),
+            &slice_payload(3, 0),
+            &slice_payload(3, 1),
+            &slice_payload(1, 1),
+            &slice_payload(0, 1),
         ],
     )?;
     let stream = joined(
@@ -143,10 +128,10 @@ fn an_unsound_picture_is_left_out(rt: HostRuntime) -> Result<(), Fail> {
     let input = capture(
         alloc,
         &[
-            &HEADER,
-            &params(0),
+            &HEADER_PAYLOAD,
+            &params_payload(0),
             &slices(0, 128),
-            &params(1),
+            &params_payload(1),
             &slices(1, 0),
         ],
     )?;
@@ -165,11 +150,11 @@ fn a_field_alone_is_left_out(rt: HostRuntime) -> Result<(), Fail> {
         alloc,
         &[
             &FIELDS,
-            &params(6),
+            &params_payload(6),
             &slices(6, 0),
-            &params(7),
+            &params_payload(7),
             &slices(7, 0),
-            &params(8),
+            &params_payload(8),
             &slices(8, 0),
         ],
     )?;
@@ -192,14 +177,14 @@ fn the_first_session_alone(rt: HostRuntime) -> Result<(), Fail> {
     let input = capture(
         alloc,
         &[
-            &HEADER,
-            &params(0),
+            &HEADER_PAYLOAD,
+            &params_payload(0),
             &slices(0, 0),
             &END,
             &FIELDS,
-            &params(0),
+            &params_payload(0),
             &slices(0, 0),
-            &params(1),
+            &params_payload(1),
             &slices(1, 0),
         ],
     )?;

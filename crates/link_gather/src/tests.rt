@@ -1,32 +1,9 @@
-ghost use Rattle.std.specs.Prelude.{◌≡◌};
-
 use super::*;
 use bytes::Bytes;
 use std::alloc::Global;
 use std::test::Fail;
-use vc_types::{Header, NoMemory, Sampling, SignalRange};
-
-// 8 by 4, 4:4:4, 8 bits full, frames.
-fn header() -> Header {
-    Header {
-        major: 2,
-        minor: 0,
-        level: 0,
-        base: 0,
-        width: 8,
-        height: 4,
-        sampling: Sampling::S444,
-        interlaced: false,
-        top_first: false,
-        range: SignalRange {
-            luma_offset: 0,
-            luma_excursion: 255,
-            colour_offset: 128,
-            colour_excursion: 255,
-        },
-        fields: false,
-    }
-}
+use test_values::FULL_RANGE_FRAMES;
+use vc_types::NoMemory;
 
 // Wavelet 3, depth 1, 2 by 1 slices, prefix 0, scaler 1, default matrix.
 const PARAMS: [u8; 3] = [0x09, 0x66, 0x40];
@@ -64,7 +41,7 @@ fn is_whole(book: &PictureBook) -> Result<bool, NoMemory> {
 #[test]
 fn slices_wait_for_their_parameters(rt: HostRuntime) -> Result<(), Fail> {
     let alloc = rt.alloc();
-    let mut book = PictureBook::new(alloc, header());
+    let mut book = PictureBook::new(alloc, FULL_RANGE_FRAMES);
     assert_eq!(rt;
         book.take_slices(part(alloc, 0, 2, &PAIR)?)?,
         Outcome::SlicesPending
@@ -78,7 +55,7 @@ fn slices_wait_for_their_parameters(rt: HostRuntime) -> Result<(), Fail> {
 #[test]
 fn keeps_the_first_copy(rt: HostRuntime) -> Result<(), Fail> {
     let alloc = rt.alloc();
-    let mut book = PictureBook::new(alloc, header());
+    let mut book = PictureBook::new(alloc, FULL_RANGE_FRAMES);
     assert_eq!(rt; book.take_params(params(alloc)?)?, Outcome::ParamsKept);
     assert_eq!(rt; book.take_params(params(alloc)?)?, Outcome::ParamsRepeat);
     let other = Bytes::copy_from_slice(alloc, &[0x25, 0x99, 0x00])?;
@@ -112,7 +89,7 @@ fn keeps_the_first_copy(rt: HostRuntime) -> Result<(), Fail> {
 #[test]
 fn takes_what_waited_in_its_order(rt: HostRuntime) -> Result<(), Fail> {
     let alloc = rt.alloc();
-    let mut book = PictureBook::new(alloc, header());
+    let mut book = PictureBook::new(alloc, FULL_RANGE_FRAMES);
     assert_eq!(rt;
         book.take_slices(part(alloc, 0, 2, &PAIR)?)?,
         Outcome::SlicesPending
@@ -130,7 +107,7 @@ fn takes_what_waited_in_its_order(rt: HostRuntime) -> Result<(), Fail> {
 #[test]
 fn refuses_hostile_slices(rt: HostRuntime) -> Result<(), Fail> {
     let alloc = rt.alloc();
-    let mut book = PictureBook::new(alloc, header());
+    let mut book = PictureBook::new(alloc, FULL_RANGE_FRAMES);
     assert_eq!(rt; book.take_params(params(alloc)?)?, Outcome::ParamsKept);
     let mut wrong = part(alloc, 0, 2, &PAIR)?;
     wrong.prefix = 1;
@@ -170,7 +147,7 @@ fn refuses_hostile_slices(rt: HostRuntime) -> Result<(), Fail> {
 #[test]
 fn lets_so_many_parts_wait(rt: HostRuntime) -> Result<(), Fail> {
     let alloc = rt.alloc();
-    let mut book = PictureBook::new(alloc, header());
+    let mut book = PictureBook::new(alloc, FULL_RANGE_FRAMES);
     for _ in 0..16384 {
         assert_eq!(rt;
             book.take_slices(part(alloc, 0, 2, &PAIR)?)?,

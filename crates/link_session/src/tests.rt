@@ -4,11 +4,9 @@ use super::*;
 use bytes::Bytes;
 use std::alloc::Global;
 use std::test::Fail;
+use test_values::{HEADER_PAYLOAD, params_payload, slice_payload};
 use vc_slice::SliceJob;
 use vc_types::NoMemory;
-
-// 8 by 4, 4:4:4, frames.
-const HEADER: [u8; 9] = [0, 0, 0, 0, 0x70, 0xf0, 0x63, 0xc0, 0x80];
 
 // Of base format 1.
 const OTHER_HEADER: [u8; 9] = [0, 0, 0, 0, 0x70, 0xf6, 0xf0, 0x20, 0];
@@ -16,24 +14,6 @@ const OTHER_HEADER: [u8; 9] = [0, 0, 0, 0, 0x70, 0xf6, 0xf0, 0x20, 0];
 const END: [u8; 4] = [0, 0, 0, 0x10];
 
 const PADDING: [u8; 4] = [0, 0, 0, 0x30];
-
-// Wavelet 3, depth 1, two slices across and one down, of picture 0.
-const PARAMS: [u8; 19] = [
-    0, 0, 0, 0xec, 0, 0, 0, 0, 0, 0, 0, 1, 0, 3, 0, 0, 0x09, 0x66, 0x40,
-];
-
-const FIRST_SLICE: [u8; 24] = [
-    0, 0, 0, 0xec, 0, 0, 0, 0, 0, 0, 0, 1, 0, 4, 0, 1, 0, 0, 0, 0, 0, 0, 0, 0,
-];
-
-const SECOND_SLICE: [u8; 24] = [
-    0, 0, 0, 0xec, 0, 0, 0, 0, 0, 0, 0, 1, 0, 4, 0, 1, 0, 1, 0, 0, 0, 0, 0, 0,
-];
-
-// The parameters of picture 2, which close picture 0 where two pictures may be open.
-const LATER_PARAMS: [u8; 19] = [
-    0, 0, 0, 0xec, 0, 0, 0, 2, 0, 0, 0, 1, 0, 3, 0, 0, 0x09, 0x66, 0x40,
-];
 
 // A datagram of this source.
 fn datagram(alloc: Global, source: u8, payload: &[u8]) -> Result<Bytes, NoMemory> {
@@ -81,7 +61,7 @@ fn new_session(alloc: Global) -> Result<Option<Standing>, NoMemory>
     ensures { IfOk result (λ session. IfSome session
         (λ standing. standing.window.is_ended ≡ false)) }
 {
-    match opening(alloc, None, 1, &HEADER)? {
+    match opening(alloc, None, 1, &HEADER_PAYLOAD)? {
         Some(opening) => Ok(Some(Standing::new(alloc, opening, 2, 0))),
         None => Ok(None),
     }
@@ -95,13 +75,13 @@ fn headers_open_sessions(rt: HostRuntime) -> Result<(), Fail> {
         assert!(rt; false);
         return Ok(());
     };
-    assert!(rt; outcome(alloc, &standing, 1, &HEADER)? == Some(Outcome::HeaderSame));
+    assert!(rt; outcome(alloc, &standing, 1, &HEADER_PAYLOAD)? == Some(Outcome::HeaderSame));
     assert!(rt; outcome(alloc, &standing, 1, &OTHER_HEADER)? == Some(Outcome::HeaderOther));
-    assert!(rt; outcome(alloc, &standing, 2, &HEADER)? == Some(Outcome::Foreign));
+    assert!(rt; outcome(alloc, &standing, 2, &HEADER_PAYLOAD)? == Some(Outcome::Foreign));
     standing.end();
-    assert!(rt; outcome(alloc, &standing, 1, &HEADER)? == Some(Outcome::HeaderSame));
+    assert!(rt; outcome(alloc, &standing, 1, &HEADER_PAYLOAD)? == Some(Outcome::HeaderSame));
     assert!(rt; opening(alloc, Some(&standing), 1, &OTHER_HEADER)?.is_some());
-    assert!(rt; opening(alloc, Some(&standing), 2, &HEADER)?.is_some());
+    assert!(rt; opening(alloc, Some(&standing), 2, &HEADER_PAYLOAD)?.is_some());
     Ok(())
 }
 
@@ -114,7 +94,7 @@ fn other_datagrams_change_nothing(rt: HostRuntime) -> Result<(), Fail> {
     };
     assert!(rt; ends(alloc, &standing, 1)?);
     assert!(rt; outcome(alloc, &standing, 2, &END)? == Some(Outcome::Foreign));
-    assert!(rt; outcome(alloc, &standing, 2, &PARAMS)? == Some(Outcome::Foreign));
+    assert!(rt; outcome(alloc, &standing, 2, &params_payload(0))? == Some(Outcome::Foreign));
     assert!(rt; outcome(alloc, &standing, 1, &PADDING)? == Some(Outcome::Skipped));
     assert!(rt; outcome(alloc, &standing, 1, &[0])? == Some(Outcome::PayloadShort));
     Ok(())
@@ -151,11 +131,11 @@ fn first_index(jobs: &[SliceJob]) -> Option<u32> {
 fn brings_jobs(alloc: Global, standing: &mut Standing) -> Result<bool, NoMemory>
     requires { standing.old.window.is_ended ≡ false }
 {
-    let early = step(alloc, standing, &FIRST_SLICE)?;
-    let params = step(alloc, standing, &PARAMS)?;
-    let again = step(alloc, standing, &FIRST_SLICE)?;
-    let second = step(alloc, standing, &SECOND_SLICE)?;
-    let repeat = step(alloc, standing, &PARAMS)?;
+    let early = step(alloc, standing, &slice_payload(0, 0))?;
+    let params = step(alloc, standing, &params_payload(0))?;
+    let again = step(alloc, standing, &slice_payload(0, 0))?;
+    let second = step(alloc, standing, &slice_payload(0, 1))?;
+    let repeat = step(alloc, standing, &params_payload(0))?;
     Ok(
         early == Some((Outcome::SlicesPending, 0, None))
             && params == Some((Outcome::ParamsKept, 1, Some(0)))
@@ -169,8 +149,9 @@ fn brings_jobs(alloc: Global, standing: &mut Standing) -> Result<bool, NoMemory>
 fn comes_late(alloc: Global, standing: &mut Standing) -> Result<bool, NoMemory>
     requires { standing.old.window.is_ended ≡ false }
 {
-    let later = step(alloc, standing, &LATER_PARAMS)?;
-    let late = step(alloc, standing, &SECOND_SLICE)?;
+    // Picture 2 closes picture 0 where two pictures may be open.
+    let later = step(alloc, standing, &params_payload(2))?;
+    let late = step(alloc, standing, &slice_payload(0, 1))?;
     Ok(
         later == Some((Outcome::ParamsKept, 0, None))
             && late == Some((Outcome::Late, 0, None))

@@ -3,36 +3,9 @@ use link_report::{Ending, Summary};
 use std::alloc::Global;
 use std::test::Fail;
 use std::thread::Threads;
+use test_values::{EDGED_FRAME, ONE_SLICE_SETTINGS};
 use vc_ports::{MemSink, MemWire, PlainSource};
 use vc_slice::NoPlaces;
-use vc_types::{IndexChoice, Sampling, SendSettings};
-
-// 2 by 2, 4:4:4, 8 bits, one luma sample darker than the others.
-const FRAME: [u8; 12] = [
-    0x80, 0x80, 0x7f, 0x80, 0x80, 0x80, 0x80, 0x80, 0x80, 0x80, 0x80, 0x80,
-];
-
-const SETTINGS: SendSettings = SendSettings {
-    width: 2,
-    height: 2,
-    sampling: Sampling::S444,
-    range: 1,
-    fields: false,
-    top: true,
-    wavelet: 3,
-    depth: 1,
-    slices_x: 1,
-    slices_y: 1,
-    prefix: 0,
-    scaler: 1,
-    size: 1400,
-    choice: IndexChoice::Index(0),
-    ssrc: 1,
-    seq: 0,
-    picture: 0,
-    tick: 3600,
-    pt: 96,
-};
 
 // What looping the frame over a wire came to, and what was written.
 fn looped_over<H: Threads + Copy + Send + Sync>(
@@ -40,12 +13,12 @@ fn looped_over<H: Threads + Copy + Send + Sync>(
     alloc: Global,
     wire: &mut MemWire,
 ) -> Result<(Result<Summary, Ending>, MemSink), Fail> {
-    let mut source = PlainSource::new(Vec::from_slice(alloc, &FRAME)?);
+    let mut source = PlainSource::new(Vec::from_slice(alloc, &EDGED_FRAME)?);
     let mut sink = MemSink::new(alloc, 1000, Vec::new(alloc))?;
     let answer = loop_back(
         rt,
         alloc,
-        &SETTINGS,
+        &ONE_SLICE_SETTINGS,
         9,
         4,
         0,
@@ -74,7 +47,7 @@ fn a_looped_wire_gives_the_frame_back(rt: HostRuntime) -> Result<(), Fail> {
             })
         )
     );
-    assert_eq!(rt; sink.bytes(), FRAME.as_slice());
+    assert_eq!(rt; sink.bytes(), EDGED_FRAME.as_slice());
     assert_eq!(rt; wire.at(0), Some(b"127.0.0.1:5004".as_slice()));
     assert_eq!(rt; wire.to(0), Some(b"127.0.0.1:5004".as_slice()));
     Ok(())
@@ -98,7 +71,7 @@ fn a_call_of_the_wire_fails(rt: HostRuntime) -> Result<(), Fail> {
     let mut wire = MemWire::new(alloc, Vec::new(alloc), true, 1000, vec![in alloc; 9]?)?;
     let (answer, sink) = looped_over(&rt, alloc, &mut wire)?;
     assert_eq!(rt; answer, Err(Ending::WireFailed));
-    assert_eq!(rt; sink.bytes(), FRAME.as_slice());
+    assert_eq!(rt; sink.bytes(), EDGED_FRAME.as_slice());
     assert!(rt; wire.sent(2).is_some());
     assert!(rt; wire.sent(3).is_none());
     Ok(())

@@ -5,7 +5,8 @@ ghost use Rattle.vc_types.specs.TransformParameters.{parameters_of};
 use crate::Packer;
 use link_sender::SendRefusal;
 use std::test::Fail;
-use vc_types::{PackSettings, Plan, Shape};
+use test_values::TWO_SLICES;
+use vc_types::{PackSettings, Plan};
 
 // A sequence header of frames of 8 by 4 in 4:4:4 with 8 bits, and parameters of wavelet 3 at depth 1 with two slices.
 const HEADER: [u8; 5] = [0x70, 0xf0, 0x63, 0xc0, 0x80];
@@ -15,39 +16,22 @@ const PARAMETERS: [u8; 3] = [0x09, 0x66, 0x40];
 fn plan() -> Plan
     ensures { AreAllSlices (parameters_of result) (replicate 8 0) }
 {
-    Plan {
-        shape: Shape {
-            luma_width: 8,
-            luma_height: 4,
-            colour_width: 8,
-            colour_height: 4,
-            luma_depth: 8,
-            colour_depth: 8,
-        },
-        wavelet: 3,
-        wavelet_ho: 3,
-        depth: 1,
-        depth_ho: 0,
-        slices_x: 2,
-        slices_y: 1,
-        prefix: 0,
-        scaler: 1,
-        matrix: [8, 4, 4, 0, 0, 0, 0, 0, 0, 0, 0, 0, 0, 0, 0, 0],
-    }
+    TWO_SLICES
 }
+
+const SETTINGS: PackSettings = PackSettings {
+    size: 64,
+    ssrc: 1,
+    pt: 96,
+    seq: 0,
+    tick: 3600,
+    fields: false,
+};
 
 // Two empty slices, by RFC 3550 and RFC 8450.
 #[test]
 fn a_picture_is_three_datagrams(rt: HostRuntime) -> Result<(), Fail> {
-    let settings = PackSettings {
-        size: 64,
-        ssrc: 1,
-        pt: 96,
-        seq: 0,
-        tick: 3600,
-        fields: false,
-    };
-    let mut packer = Packer::new(rt.alloc(), settings);
+    let mut packer = Packer::new(rt.alloc(), SETTINGS);
     let datagrams = packer.send_picture(5, &plan(), &HEADER, &PARAMETERS, &[0; 8])?;
     let header = [
         0x80, 0x60, 0, 0, 0, 0, 0, 0, 0, 0, 0, 1, 0, 0, 0, 0x00, 0x70, 0xf0, 0x63, 0xc0, 0x80,
@@ -73,15 +57,7 @@ fn a_picture_is_three_datagrams(rt: HostRuntime) -> Result<(), Fail> {
 // A header of 49 bytes has no room in datagrams of 64, and leaves the packer as it was.
 #[test]
 fn a_header_without_room_is_refused(rt: HostRuntime) -> Result<(), Fail> {
-    let settings = PackSettings {
-        size: 64,
-        ssrc: 1,
-        pt: 96,
-        seq: 0,
-        tick: 3600,
-        fields: false,
-    };
-    let mut packer = Packer::new(rt.alloc(), settings);
+    let mut packer = Packer::new(rt.alloc(), SETTINGS);
     let answer = packer.send_picture(5, &plan(), &[0; 49], &PARAMETERS, &[0; 8]);
     let refusal = SendRefusal::SliceTooLarge {
         slice: 0,

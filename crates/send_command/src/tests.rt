@@ -3,15 +3,10 @@ use link_report::{Ending, Summary};
 use std::alloc::Global;
 use std::test::Fail;
 use std::thread::Threads;
+use test_values::{EDGED_FRAME, ONE_SLICE_SETTINGS};
 use vc_ports::{MemSource, MemWire, PlainSource};
-use vc_types::{IndexChoice, Sampling, SendSettings};
 
 const TO: &str = "127.0.0.1:5004";
-
-// 2 by 2, 4:4:4, 8 bits, one luma sample darker than the others.
-const FRAME: [u8; 12] = [
-    0x80, 0x80, 0x7f, 0x80, 0x80, 0x80, 0x80, 0x80, 0x80, 0x80, 0x80, 0x80,
-];
 
 // That frame's third datagram, with its one slice.
 const SLICE: [u8; 38] = [
@@ -23,28 +18,6 @@ const SLICE: [u8; 38] = [
 // The end of the sequence behind it.
 const LAST: [u8; 16] = [0x80, 0x60, 0, 3, 0, 0, 0, 0, 0, 0, 0, 1, 0, 0, 0, 0x10];
 
-const SETTINGS: SendSettings = SendSettings {
-    width: 2,
-    height: 2,
-    sampling: Sampling::S444,
-    range: 1,
-    fields: false,
-    top: true,
-    wavelet: 3,
-    depth: 1,
-    slices_x: 1,
-    slices_y: 1,
-    prefix: 0,
-    scaler: 1,
-    size: 1400,
-    choice: IndexChoice::Index(0),
-    ssrc: 1,
-    seq: 0,
-    picture: 0,
-    tick: 3600,
-    pt: 96,
-};
-
 // What sending bytes came to over a wire of which one call fails, and the wire.
 fn sent<H: Threads + Copy + Send + Sync>(
     rt: H,
@@ -54,7 +27,15 @@ fn sent<H: Threads + Copy + Send + Sync>(
 ) -> Result<(Result<Summary, Ending>, MemWire), Fail> {
     let mut source = PlainSource::new(Vec::from_slice(alloc, bytes)?);
     let mut wire = MemWire::new(alloc, Vec::new(alloc), false, 1000, vec![in alloc; fails]?)?;
-    let answer = send(rt, alloc, &SETTINGS, 9, TO, &mut source, &mut wire);
+    let answer = send(
+        rt,
+        alloc,
+        &ONE_SLICE_SETTINGS,
+        9,
+        TO,
+        &mut source,
+        &mut wire,
+    );
     Ok((answer, wire))
 }
 
@@ -70,7 +51,7 @@ fn is_aimed(wire: &MemWire, to: &str) -> bool {
 
 #[test]
 fn a_frame_is_sent(rt: HostRuntime) -> Result<(), Fail> {
-    let (answer, wire) = sent(&rt, rt.alloc(), 99, &FRAME)?;
+    let (answer, wire) = sent(&rt, rt.alloc(), 99, &EDGED_FRAME)?;
     let counts = Summary::Sent {
         frames: 1,
         datagrams: 4,
@@ -88,7 +69,7 @@ fn a_frame_is_sent(rt: HostRuntime) -> Result<(), Fail> {
 // The first call aims, and each of the next four sends a datagram.
 #[test]
 fn a_call_of_the_wire_fails(rt: HostRuntime) -> Result<(), Fail> {
-    let (answer, wire) = sent(&rt, rt.alloc(), 4, &FRAME)?;
+    let (answer, wire) = sent(&rt, rt.alloc(), 4, &EDGED_FRAME)?;
     assert_eq!(rt; answer, Err(Ending::WireFailed));
     assert!(rt; wire.sent(1).is_some());
     assert!(rt; wire.sent(2).is_none());
@@ -100,14 +81,22 @@ fn nothing_is_read_where_the_wire_is_not_aimed(rt: HostRuntime) -> Result<(), Fa
     let alloc = rt.alloc();
     let mut source = MemSource::new(Vec::new(alloc), vec![in alloc; 1]?);
     let mut wire = MemWire::new(alloc, Vec::new(alloc), false, 1000, vec![in alloc; 1]?)?;
-    let answer = send(&rt, alloc, &SETTINGS, 9, TO, &mut source, &mut wire);
+    let answer = send(
+        &rt,
+        alloc,
+        &ONE_SLICE_SETTINGS,
+        9,
+        TO,
+        &mut source,
+        &mut wire,
+    );
     assert_eq!(rt; answer, Err(Ending::WireFailed));
     Ok(())
 }
 
 #[test]
 fn a_frame_that_is_cut_is_not_sent(rt: HostRuntime) -> Result<(), Fail> {
-    let (answer, wire) = sent(&rt, rt.alloc(), 99, &FRAME[..11])?;
+    let (answer, wire) = sent(&rt, rt.alloc(), 99, &EDGED_FRAME[..11])?;
     assert_eq!(rt; answer, Err(Ending::RawCut { frame: 0 }));
     assert!(rt; wire.sent(0).is_none());
     Ok(())

@@ -1,11 +1,12 @@
 ghost use Rattle.std.specs.Prelude.{◌≤◌};
 
-use super::frames::{FRAME, ROOM, ROW, counts, encoded, row, settings};
+use super::frames::{ROOM, ROW, counts, encoded};
 use crate::encode;
 use link_report::Ending;
 use std::test::Fail;
+use test_values::{EDGED_FRAME, ONE_SLICE_SETTINGS};
 use vc_ports::{MemSink, MemSource, PlainSource};
-use vc_types::{IndexChoice, Sampling, SendSettings};
+use vc_types::SendSettings;
 
 // The frame takes one read, and one more sees the end.
 #[test]
@@ -17,10 +18,10 @@ fn each_read_may_fail(rt: HostRuntime) -> Result<(), Fail> {
         (2, 96, Err(Ending::InputFailed)),
         (3, 114, Ok(counts(1, 4, 106))),
     ] {
-        let bytes = Vec::from_slice(alloc, &FRAME)?;
+        let bytes = Vec::from_slice(alloc, &EDGED_FRAME)?;
         let mut source = MemSource::new(bytes, vec![in alloc; call]?);
         let mut sink = MemSink::new(alloc, ROOM, Vec::new(alloc))?;
-        let found = encode(&rt, alloc, &row(), 9, &mut source, &mut sink);
+        let found = encode(&rt, alloc, &ONE_SLICE_SETTINGS, 9, &mut source, &mut sink);
         assert_eq!(rt; found, answer, "read {call}");
         assert_eq!(rt; Some(sink.bytes()), whole.get(..count), "read {call}");
     }
@@ -42,9 +43,9 @@ fn each_write_may_fail(rt: HostRuntime) -> Result<(), Fail> {
         (7, 96),
         (8, 98),
     ] {
-        let mut source = PlainSource::new(Vec::from_slice(alloc, &FRAME)?);
+        let mut source = PlainSource::new(Vec::from_slice(alloc, &EDGED_FRAME)?);
         let mut sink = MemSink::new(alloc, ROOM, vec![in alloc; call]?)?;
-        let found = encode(&rt, alloc, &row(), 9, &mut source, &mut sink);
+        let found = encode(&rt, alloc, &ONE_SLICE_SETTINGS, 9, &mut source, &mut sink);
         assert_eq!(rt; found, Err(Ending::OutputFailed), "write {call}");
         assert_eq!(rt; Some(sink.bytes()), whole.get(..count), "write {call}");
     }
@@ -54,7 +55,8 @@ fn each_write_may_fail(rt: HostRuntime) -> Result<(), Fail> {
 // 10 bits, the first sample of which is 1024.
 #[test]
 fn a_sample_has_too_many_bits(rt: HostRuntime) -> Result<(), Fail> {
-    let ten_bits = settings(3, IndexChoice::Index(0));
+    let mut ten_bits = ONE_SLICE_SETTINGS;
+    ten_bits.range = 3;
     let mut bytes = [0; 24];
     bytes[1] = 4;
     let (answer, written) = encoded(&rt, rt.alloc(), &ten_bits, 9, &bytes)?;
@@ -72,27 +74,13 @@ fn a_sample_has_too_many_bits(rt: HostRuntime) -> Result<(), Fail> {
 fn tight(prefix: u32) -> SendSettings
     requires { prefix ≤ 255 }
 {
-    SendSettings {
-        width: 8,
-        height: 4,
-        sampling: Sampling::S444,
-        range: 1,
-        fields: false,
-        top: true,
-        wavelet: 3,
-        depth: 1,
-        slices_x: 2,
-        slices_y: 1,
-        prefix,
-        scaler: 1,
-        size: 64,
-        choice: IndexChoice::Index(0),
-        ssrc: 1,
-        seq: 0,
-        picture: 0,
-        tick: 3600,
-        pt: 96,
-    }
+    let mut settings = ONE_SLICE_SETTINGS;
+    settings.width = 8;
+    settings.height = 4;
+    settings.slices_x = 2;
+    settings.prefix = prefix;
+    settings.size = 64;
+    settings
 }
 
 #[test]

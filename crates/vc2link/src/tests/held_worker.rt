@@ -5,55 +5,12 @@ use crate::link::link_main;
 use slice_pool::{Crew, Worker};
 use std::alloc::Global;
 use std::sync::Arc;
-use std::sync::atomic::{AtomicBool, AtomicU64, Ordering};
 use std::test::Fail;
-use std::thread;
 use std::thread::Threads;
-use vc_ports::{Gate, Got, MemSink, MemWire, PlainSource, Source};
+use test_places::Doorkeeper;
+use vc_ports::{Got, MemSink, MemWire, PlainSource, Source};
 use vc_slice::Hands;
 use vc_types::Words;
-
-// How often one that waits asks before it gives up. Each turn yields the processor.
-const TURNS: u64 = 10_000_000;
-
-// Holds the first worker that comes, until it is opened, and lets all others pass.
-#[derive(Drop)]
-struct Doorkeeper {
-    // The slice of the worker that is held, and the one that passed last, each plus 1.
-    held: AtomicU64,
-    passed: AtomicU64,
-    is_open: AtomicBool,
-}
-
-impl Gate for Doorkeeper {
-    fn pass(&self, _worker: u32, slice: u32) {
-        let slice = slice as u64 + 1;
-        let first = self
-            .held
-            .compare_exchange(0, slice, Ordering::SeqCst, Ordering::SeqCst);
-        if first.is_err() {
-            self.passed.store(slice, Ordering::SeqCst);
-            return;
-        }
-        for _turn in 0..TURNS {
-            if self.is_open.load(Ordering::SeqCst) {
-                return;
-            }
-            thread::yield_now();
-        }
-    }
-}
-
-// Whether the word comes to have this value.
-fn comes(word: &AtomicU64, value: u64) -> bool {
-    for _turn in 0..TURNS {
-        if word.load(Ordering::SeqCst) == value {
-            return true;
-        }
-        thread::yield_now();
-    }
-    false
-}
 
 // A source of five entries, each of which takes two reads. It gives the fourth only once a worker is
 // held with the slice of the third, and the fifth only once another worker passed with that of the
@@ -75,11 +32,11 @@ impl<S: Source> Source for Paced<S> {
     fn read(&mut self, buf: &mut [u8]) -> Got {
         self.reads = self.reads.saturating_add(1);
         if self.reads == 7 {
-            self.in_time = comes(&self.door.held, 1);
+            self.in_time = self.door.comes_to_hold(0);
         }
         if self.reads == 9 {
-            self.in_time = comes(&self.door.passed, 2) && self.in_time;
-            self.door.is_open.store(true, Ordering::SeqCst);
+            self.in_time = self.door.comes_to_let_pass(1) && self.in_time;
+            self.door.open();
         }
         self.inner.read(buf)
     }
@@ -136,14 +93,7 @@ fn is_frame_written<H: Threads + Copy + Send + Sync, P: Hands>(
 #[test]
 fn a_held_worker_holds_up_no_frame(rt: HostRuntime) -> Result<(), Fail> {
     let alloc = rt.alloc();
-    let door = Arc::new(
-        alloc,
-        Doorkeeper {
-            held: AtomicU64::new(0),
-            passed: AtomicU64::new(0),
-            is_open: AtomicBool::new(false),
-        },
-    )?;
+    let door = Arc::new(alloc, Doorkeeper::new())?;
     let mut crew = Crew::new(rt, alloc, |worker: Worker| worker.start(rt, &door));
     let written = is_frame_written(rt, alloc, &door, &mut crew);
     crew.stop();
