@@ -265,12 +265,6 @@ module _ (form : OutputForm) (window packets : ℕ) (receiver : ReceiverState) (
   hearing_broke OutputFailed broke = broke
   hearing_broke end broke = absurd broke
 
-  pub receiving_broke : (end : Ending) → HeardAll form window packets (Err end) receiver input output hands
-      → ReceivesCapture form window packets (Err end) receiver input output hands
-  receiving_broke NoMemory broke = broke
-  receiving_broke OutputFailed broke = broke
-  receiving_broke end broke = absurd broke
-
   pub drain_broke : (fault : EnterFault) → HasBroken form window packets input output
       → ReceivesCapture form window packets (Err (ending_of fault)) receiver input output hands
   drain_broke faults.NoMemory broke = broke

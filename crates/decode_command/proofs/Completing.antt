@@ -8,7 +8,7 @@ use Rattle.link_report.specs.declared.answer.Answer.{Answer}
 use Rattle.link_report.specs.declared.answer.Answer.TheVariants.{Done, Stopped, Drained}
 use Rattle.link_report.specs.declared.ending.Ending.TheVariants.{NoMemory, InputFailed, OutputFailed, CaptureCut, PacketLimit}
 use Rattle.vc_ports.specs.Changes.{Change, InputChange, OutputChange, HasRisen, Took}
-use Rattle.vc_ports.proofs.Given.{some_is}
+use Rattle.vc_ports.proofs.Given.{behind_given}
 use Rattle.vc_ports.specs.Reading.{Gave, IsAtEnd}
 use Rattle.vc_slice.specs.Asked.{Told}
 use Rattle.decode_command.specs.Capture.{capture_split, IsPastLimit}
@@ -47,14 +47,6 @@ module _ (packets : ℕ) (given more : List ℕ) (whole : IsDecodable packets (g
       let rest = (entries_within packets given).1 in
       let none : length (rest ++ more) ≡ 0 = ap length (sym (rest_behind packets given more past.count) ∙ whole) in
       omega (arith, length-append rest more, none, past.one_more)
-
--- the bytes behind those that were given
-behind_given : (P : List ℕ → Type 0) (given : List ℕ) (before after : Option (List ℕ))
-    → Gave before after given → IsSomeAnd before P → (more : List ℕ) × (after ≡ Some more) × P (given ++ more)
-behind_given P given None after took whole = absurd whole
-behind_given P given (Some bytes) None took whole = let none : Some bytes ≡ None = took in absurd cc
-behind_given P given (Some bytes) (Some more) took whole =
-    (more, refl, subst P (some_is bytes (given ++ more) took) whole)
 
 module _ (packets : ℕ) (given : List ℕ) (input : InputChange) (took : Took input given) (whole : IsSomeAnd input.left.before (IsDecodable packets)) where
   behind : (more : List ℕ) × (input.left.after ≡ Some more) × IsDecodable packets (given ++ more)

@@ -18,7 +18,7 @@ use Rattle.link_model.specs.SendingFaults as faults
 use Rattle.link_report.specs.declared.ending.Ending.{Ending}
 use Rattle.link_report.specs.declared.ending.Ending.TheVariants as endings
 use Rattle.link_report.specs.declared.summary.Summary.{Summary}
-use Rattle.vc_ports.proofs.Given.{some_is}
+use Rattle.vc_ports.proofs.Given.{behind_given}
 use Rattle.vc_ports.specs.Changes.{InputChange, HasRisen, Took}
 use Rattle.vc_ports.specs.Reading.{Gave}
 use Rattle.vc_types.specs.Planes.{Planes}
@@ -101,13 +101,6 @@ module _ (s : Sending) (most : ℕ) (given more : List ℕ) (frames : List Plane
   no_limit went limit p = grind (arith, common_steps, behind, all_frames, length-map, none_more)
 
 -- ---- by how it ended
-
--- the bytes behind those that were given
-behind_given : (P : List ℕ → Type 0) (given : List ℕ) (before after : Option (List ℕ)) → Gave before after given
-    → IsSomeAnd before P → (more : List ℕ) × (after ≡ Some more) × P (given ++ more)
-behind_given P given None after took whole = absurd whole
-behind_given P given (Some bytes) None took whole = let none : Some bytes ≡ None = took in absurd cc
-behind_given P given (Some bytes) (Some more) took whole = (more, refl, subst P (some_is bytes (given ++ more) took) whole)
 
 module _ (s : Sending) (most : ℕ) (input : InputChange) (went : List (List ℕ) → Type 0) (broke : List (List ℕ) → OutletFault → Type 0)
     (sound_input : HasRisen input.faults → ⊥) (sound_output : (datagrams : List (List ℕ)) → broke datagrams outlets.Output → ⊥) (sound_wire : (datagrams : List (List ℕ)) → broke datagrams outlets.Wire → ⊥)

@@ -45,9 +45,6 @@ module _ (s : Sending) (frames : List Planes) (frame : Planes) (small : length f
 pub sum-append : (xs ys : List (List ℕ)) → bytes_in (xs ++ ys) ≡ bytes_in xs + bytes_in ys
 sum-append xs ys = sum_by-append length xs ys
 
-pub totals-append : (t : Totals) (xs ys : List (List ℕ)) → totals_with (totals_with t xs) ys ≡ totals_with t (xs ++ ys)
-totals-append t xs ys = grind (arith, common_steps, sum-append)
-
 pub totals_none : (s : Sending) → ◌≡◌ {A = Totals} (record { frames = 0; datagrams = 0; bytes = 0 }) (totals_of s [])
 totals_none s = ap (λ (sent : List (List ℕ)). record { frames = 0; datagrams = length sent; bytes = bytes_in sent }) (sym (none_sent s))
 

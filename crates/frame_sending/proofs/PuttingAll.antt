@@ -23,16 +23,10 @@ module _ (datagrams : List Datagram) (i : ℕ) (one : Datagram) (more : take (i 
   -- ---- where they went
 
   module _ {X : Type 0} {carried : X → X → List (List ℕ) → Type 0} {broke : X → X → List (List ℕ) → OutletFault → Type 0} (laws : OutletLaws carried broke) (x y z : X) (went : carried x y (bytes_of_all (take i datagrams))) where
-    pub put_more : carried y z (one.bytes.items ∷ []) → carried x z (bytes_of_all (take (i + 1) datagrams))
-    put_more next = subst (carried x z) (sym bytes_more) (laws.more x y z (bytes_of_all (take i datagrams)) (one.bytes.items ∷ []) went next)
-
     pub put_part : (fault : OutletFault) → broke y z (one.bytes.items ∷ []) fault → broke x z (bytes_of_all datagrams) fault
     put_part fault part = grind (arith, common_steps, whole, bytes_more)
 
   -- ---- their counts
-
-  pub total_more : (old now new : Totals) → now ≡ totals_with old (bytes_of_all (take i datagrams)) → new ≡ totals_with now (one.bytes.items ∷ []) → new ≡ totals_with old (bytes_of_all (take (i + 1) datagrams))
-  total_more old now new is step = grind (arith, common_steps, totals-append, bytes_more)
 
   parted : bytes_of_all datagrams ≡ (bytes_of_all (take i datagrams) ++ one.bytes.items ∷ []) ++ bytes_of_all (drop (i + 1) datagrams)
   parted = sym whole ∙ ap (λ (l : List (List ℕ)). l ++ bytes_of_all (drop (i + 1) datagrams)) bytes_more

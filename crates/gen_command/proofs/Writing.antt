@@ -1,5 +1,5 @@
 -- What went out of the frames that were generated so far.
-use Rattle.std.proofs.Common.{◌≡◌, ◌<◌, ℕ, suc, ◌+◌, ◌*◌, ◌-◌, Bool, List, [], ◌∷◌, ◌++◌, Option, Err, sym, ap, subst, ◌∙◌, arith}
+use Rattle.std.proofs.Common.{◌≡◌, ◌<◌, ℕ, suc, ◌+◌, ◌*◌, ◌-◌, List, [], ◌∷◌, ◌++◌, Option, Err, sym, ap, subst, ◌∙◌, arith}
 use Rattle.std.proofs.lemmas.Grind.{flat_map-append}
 use Rattle.std.proofs.lemmas.List.{append-nil}
 use Rattle.gen_command.specs.Generating.{GenerateEnded, generated_bytes, raw_bytes_of_frames}
@@ -28,10 +28,6 @@ unfolding state_behind
 none_behind shape z = let none : 0 ≡ 0 * frame_samples shape = omega arith in ap (state_behind z) none
 
 -- ---- a frame more
-
--- the bytes of a frame that is the one behind a state
-pub as_next : (shape : Shape) (state : ℕ) (frame : Planes) (two : Bool) → frame ≡ generated_frame shape state → two ≡ is_wide shape → frame_bytes frame two ≡ next_bytes shape state
-as_next shape state frame two frame_is two_is = ap (λ (f : Planes). frame_bytes f two) frame_is ∙ ap (frame_bytes (generated_frame shape state)) two_is
 
 raw_more : (shape : Shape) (frames more : List Planes) → raw_bytes_of_frames shape (frames ++ more) ≡ raw_bytes_of_frames shape frames ++ raw_bytes_of_frames shape more
 raw_more shape frames more = flat_map-append (λ (frame : Planes). frame_bytes frame (is_wide shape)) frames more

@@ -9,7 +9,8 @@ use Rattle.std.proofs.lemmas.Bool.Decides.{nat_tests}
 use Rattle.std.proofs.lemmas.List.Elements.{All-append, All-nil, All-head, All-tail, All-map}
 use Rattle.field_pairs.specs.Sizes.{IsWhole, AreWhole, HaveEvenHeights}
 use Rattle.field_pairs.proofs.RowsOfRasters.{length-raster}
-use Rattle.index_zero.proofs.SentFaults.{neither, none_mapped, all_inside}
+use Rattle.sent_counts.proofs.SentFrames.{unmapped}
+use Rattle.index_zero.proofs.SentFaults.{neither, all_inside}
 use Rattle.link_model.specs.SendingFaults.{first_outside, plane_fault, sample_fault, first_sample_fault}
 use Rattle.link_model.specs.SendingPictures.{HasSides, IsFrame, plane_in, sent_sequence, sent_parameters}
 use Rattle.vc_types.specs.declared.settings.SendSettings.{SendSettings}
@@ -62,7 +63,7 @@ unfolding every_other_row
 rows_sides first across down plane is = record { width = is.width; height = ap (λ (n : ℕ). n / 2) is.height }
 
 plane_rows_sound : (depth plane first : ℕ) (r : Raster) → plane_fault depth plane r ≡ None → plane_fault depth plane (every_other_row first r) ≡ None
-plane_rows_sound depth plane first r none = ap (option_map (sample_fault plane)) (rows_sound (2 ^ depth) first r (pow_pos depth) (none_mapped (sample_fault plane) (first_outside (2 ^ depth) 0 r.samples) none))
+plane_rows_sound depth plane first r none = ap (option_map (sample_fault plane)) (rows_sound (2 ^ depth) first r (pow_pos depth) (unmapped (sample_fault plane) (first_outside (2 ^ depth) 0 r.samples) none))
 
 -- ---- a field
 

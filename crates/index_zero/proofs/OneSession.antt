@@ -24,10 +24,6 @@ pub record Stays (old new : HeardSession) (ds : List (List ℕ)) : Type 0 where
   pub session : new.session ≡ old.session
   pub fragments : new.fragments ≡ old.fragments ++ filter_map (fragment_in old.session) ds
 
-abbrev first_of : HeardSession → List HeardSession → HeardSession
-first_of other [] = other
-first_of other (h ∷ hs) = h
-
 stays_itself : (old new : HeardSession) → old ∷ [] ≡ new ∷ [] → Stays old new []
 stays_itself old new is = grind (arith, common_steps, append-nil)
 

@@ -64,10 +64,6 @@ all_joined f a (x ∷ xs) gives =
 abbrev pub IsOwnPart : Parameters → List ℕ → List SliceRun → Part → Type 0
 IsOwnPart p bytes runs part = (part ≡ ParamsPart bytes) ⊎ ((run : SliceRun) × (IsAmong runs run) × (part ≡ SlicesPart (sent_part p run)))
 
-abbrev is_params : Part → Bool
-is_params (ParamsPart body) = true
-is_params (SlicesPart slices) = false
-
 module _ (sequence : Sequence) (p : Parameters) (bytes : List ℕ) (read : (more : List ℕ) → coded_parameters sequence (bytes ++ more) ≡ Ok (p, length bytes)) (runs : List SliceRun) where
   abbrev plan : KeptParameters
   plan = record { parameters = p; bytes = bytes }

@@ -10,7 +10,8 @@ use Rattle.std.proofs.lemmas.Option.{get_or_from_slice_get}
 use Rattle.field_pairs.specs.Sizes.{IsWhole}
 use Rattle.index_zero.specs.FramesToSend.{IsPictureToSend}
 use Rattle.index_zero.proofs.FittingRuns.{scaler_is_some, all_slices}
-use Rattle.index_zero.proofs.SentFaults.{neither, none_mapped, all_inside, none_too_large, not_too_long, length-sent_slices}
+use Rattle.sent_counts.proofs.SentFrames.{unmapped}
+use Rattle.index_zero.proofs.SentFaults.{neither, all_inside, none_too_large, not_too_long, length-sent_slices}
 use Rattle.index_zero.proofs.SentPictures.{IsSendable, decoded_planes-sent, sent_slices-zero, slices_at_zero}
 use Rattle.link_model.specs.SendingFaults.{plane_fault, sample_fault, first_outside, first_sample_fault, is_too_large}
 use Rattle.link_model.specs.SendingPictures.{sent_sequence, sent_parameters, sent_parameter_bytes, sent_coefficients, sent_slices, slices_with_indices, plane_in}
@@ -66,7 +67,7 @@ module _ (settings : SendSettings) (planes : Planes) (indices : List ℕ) (is : 
   bits c = grind (arith, colour_bits, luma_bits, range_between)
 
   plane_sound : (plane : ℕ) (c : Component) → plane_fault (depth c) plane (plane_in planes c) ≡ None → first_outside (2 ^ depth c) 0 (plane_in planes c).samples ≡ None
-  plane_sound plane c none = none_mapped (sample_fault plane) (first_outside (2 ^ depth c) 0 (plane_in planes c).samples) none
+  plane_sound plane c none = unmapped (sample_fault plane) (first_outside (2 ^ depth c) 0 (plane_in planes c).samples) none
 
   no_sample : (plane_fault (depth Y) 0 planes.y ≡ None) × (plane_fault (depth C1) 1 planes.c1 ≡ None) × (plane_fault (depth C2) 2 planes.c2 ≡ None)
   unfolding first_sample_fault

@@ -25,10 +25,6 @@ pub neither : {A : Type 0} (a b : Option A) → option_or a b ≡ None → (a �
 neither None b none = (refl, none)
 neither (Some x) b none = absurd (none-some x (sym none))
 
-pub none_mapped : {A B : Type 0} (f : A → B) (o : Option A) → option_map f o ≡ None → o ≡ None
-none_mapped f None none = refl
-none_mapped f (Some x) none = absurd (none-some (f x) (sym none))
-
 -- ---- samples
 
 outside_found : (limit place sample : ℕ) (samples : List ℕ) → nat_lt sample limit ≡ false → first_outside limit place (sample ∷ samples) ≡ None → ⊥

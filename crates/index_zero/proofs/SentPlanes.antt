@@ -82,9 +82,6 @@ module _ (p : Parameters) (planes : Planes) (across : 0 < p.slices_x) (down : 0 
     sample_is : (x y : ℕ) → x < plane_width p.shape c → y < plane_height p.shape c → output_sample (plane_depth p.shape c) (inverse_transform p c (component_cells p c all) x y) ≡ sample_at (plane_in planes c) x y
     sample_is x y a b = ap (output_sample (plane_depth p.shape c)) (cell_is x y a b) ∙ sample_back (plane_depth p.shape c) (sample_at (plane_in planes c) x y) depth (small x y)
 
-    abbrev made : ℕ → ℕ → ℕ
-    made x y = output_sample (plane_depth p.shape c) (inverse_transform p c (component_cells p c all) x y)
-
     -- a component's plane comes back
     pub plane_back : component_plane p c all ≡ plane_in planes c
     unfolding component_plane

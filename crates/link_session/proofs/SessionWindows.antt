@@ -3,7 +3,7 @@ use Rattle.std.proofs.Common.{◌≡◌, ℕ, ◌-◌, ◌^◌, ◌<◌, false, 
 use Rattle.std.specs.Prelude.{◌&&◌}
 use Rattle.std.proofs.lemmas.Bool.{or_parts, leb-false}
 use Rattle.link_model.specs.Session.{Fragment}
-use Rattle.link_model.specs.Windows.{Window, number_by, late_in, opens_picture, window_enters}
+use Rattle.link_model.specs.Windows.{Window, number_by, late_in, window_enters}
 use Rattle.link_model.specs.Windows.{past_enters}
 use Rattle.link_model.proofs.WindowStands.{running_is, enters_stands}
 use Rattle.link_session.specs.Pasts.{IsSessionWindow}
@@ -12,9 +12,6 @@ use Rattle.vc_types.specs.SequenceHeader.{Sequence}
 module _ (w : Window) (f : Fragment) where
   abbrev number : ℕ
   number = number_by w f.number
-
-  abbrev opened : Window
-  opened = opens_picture w number f.part
 
   pub enters_size : (window_enters w f).size ≡ w.size
   unfolding window_enters

@@ -12,17 +12,6 @@ module _ (s : Packing) (t : ℕ) (p : PackedPicture) where
   low_half : (a b : ℕ) → a % 2 ^ 32 ≡ b % 2 ^ 32 → a % 2 ^ 16 ≡ b % 2 ^ 16
   low_half a b same = omega (arith, same)
 
-  abbrev around : ℕ → Bool → PayloadValue → List ℕ
-  around sequence marker value = rtp_header (record {
-    marker = marker;
-    payload_type = s.pt;
-    sequence = sequence;
-    timestamp = t;
-    ssrc = s.ssrc;
-    from = 12;
-    to = 12;
-  }) ++ payload_bytes value
-
   abbrev datagram : ℕ → DatagramContent → List ℕ
   datagram n c = datagram_around s n t (ends_picture p.parameters c) (packed_value s p n c)
 

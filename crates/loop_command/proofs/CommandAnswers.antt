@@ -239,13 +239,6 @@ module _ (s : Sending) (most : ℕ) (input : InputChange) (x y : LoopState) (sen
   kept_stopped : (ending : Ending) → has_broken ending ≡ false → sending ≡ Err ending → Kept s most input x y heard sending did
   kept_stopped = kept_at s most input x y heard sending did
 
-  -- slices are out at places that there are
-  pub below_sent : (frames datagrams bytes : ℕ) → sending ≡ Ok (summaries.Sent frames datagrams bytes) → PlacesAreBelow x.bound x.receiver.reception.out → PlacesAreBelow y.bound y.receiver.reception.out
-  below_sent frames datagrams bytes is below = (kept_sent frames datagrams bytes is).1.passed.below below
-
-  pub below_stopped : (ending : Ending) → has_broken ending ≡ false → sending ≡ Err ending → PlacesAreBelow x.bound x.receiver.reception.out → PlacesAreBelow y.bound y.receiver.reception.out
-  below_stopped ending not ended below = (kept_stopped ending not ended).1.passed.below below
-
   pub broke_off : (ending : Ending) → has_broken ending ≡ true → sending ≡ Err ending → LoopsBetween s most (Err ending) input x y
   broke_off ending is ended = λ window workers at told faults asked b.
       broken s most window workers at input told faults asked x y b.ready b.later b.started b.new heard sending did ending is ended

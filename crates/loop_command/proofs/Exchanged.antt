@@ -19,13 +19,6 @@ use Rattle.vc_slice.specs.Asked.{Told}
 use Rattle.wire_calls.proofs.Calls.{passes_none, passes_sent, passes_then}
 use Rattle.wire_calls.specs.Passing.{Passes}
 
-pub ready_behind : (x y : LoopState) (sent : List (List ℕ)) → WereLooped x y sent → IsReady x → IsReady y
-ready_behind x y sent l ready = record {
-  listens = subst IsTrue (sym l.1.passed.passes.listens_stays) ready.listens;
-  aimed = subst IsTrue (sym l.1.passed.passes.aimed_stays) ready.aimed;
-  below = l.1.passed.below ready.below;
-}
-
 module _ (receiver : ReceiverState) (told : WireTold) (wire_faults : ℕ) (held : Option (List ℕ)) (output_faults : ℕ) (asked : Option Told) (bound : ℕ) (datagram : List ℕ) where
   abbrev x : LoopState
   x = record { receiver = receiver; told = told; wire_faults = wire_faults; held = held; output_faults = output_faults; asked = asked; bound = bound }

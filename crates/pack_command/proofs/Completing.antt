@@ -10,7 +10,8 @@ use Rattle.vc_units.proofs.Behind.{units_within-more}
 use Rattle.link_stream.specs.Packed.{BadUnit, PackFault, PackStream, PackedSoFar, PartTooLarge, packed_behind, packed_of, packs_unit, units_packed}
 use Rattle.pack_command.specs.Packs.{AreAllPacked, EndsUnpacked, HasUnreadRest, IsBadStream, IsPackable, IsPastUnits, PackEnded, Packs}
 use Rattle.pack_command.proofs.SoFarPacked.{so_far_refused}
-use Rattle.play_command.proofs.Rests.{behind_given, none_past, none_refused}
+use Rattle.play_command.proofs.Rests.{none_past, none_refused}
+use Rattle.vc_ports.proofs.Given.{behind_given}
 use Rattle.play_command.specs.Playing.{UnitSplit, unit_split}
 use Rattle.vc_types.specs.SenderSettings.{Packing}
 

@@ -26,10 +26,3 @@ totals_are xs ys = λ i. record { datagrams = datagrams i; bytes = bytes i }
 
     bytes : counted_in_64 (counted_in_64 (bytes_in xs) + bytes_in ys) ≡ counted_in_64 (bytes_in (xs ++ ys))
     bytes = let sum = sum-append xs ys in omega (arith, sum)
-
-pub total_more : (datagrams : List Datagram) (i : ℕ) (one : Datagram) → take (i + 1) datagrams ≡ take i datagrams ++ one ∷ [] → (old now new : Totals) → now ≡ packed_totals_with old (bytes_of_all (take i datagrams)) → new ≡ packed_totals_with now (one.bytes.items ∷ []) → new ≡ packed_totals_with old (bytes_of_all (take (i + 1) datagrams))
-total_more datagrams i one more old now new is step =
-    step
-    ∙ ap (λ (t : Totals). packed_totals_with t (one.bytes.items ∷ [])) is
-    ∙ totals-append old (bytes_of_all (take i datagrams)) (one.bytes.items ∷ [])
-    ∙ ap (packed_totals_with old) (sym (bytes_more datagrams i one more))

@@ -17,9 +17,6 @@ module _ (datagrams : List Datagram) (i : ℕ) (one : Datagram) (more : take (i 
       ∙ ap (λ (l : List ℕ). capture_of (bytes_of_all (take i datagrams)) ++ l) (capture-one one.bytes.items)
 
   module _ (before mid after : Option (List ℕ)) (grew : Grew before mid (capture_of (bytes_of_all (take i datagrams)))) where
-    pub entry_more : Grew mid after (entry one.bytes.items) → Grew before after (capture_of (bytes_of_all (take (i + 1) datagrams)))
-    entry_more next = subst (Grew before after) (sym capture_more) (Grew-then before mid after (capture_of (bytes_of_all (take i datagrams))) (entry one.bytes.items) grew next)
-
     pub entry_some : GrewBySome mid after (entry one.bytes.items) → GrewBySome before after (capture_of (bytes_of_all datagrams))
     entry_some some = subst (GrewBySome before after) whole
         (GrewBySome-front before after (capture_of (bytes_of_all (take (i + 1) datagrams))) (capture_of (bytes_of_all (drop (i + 1) datagrams)))

@@ -6,17 +6,6 @@ use Rattle.vc_types.specs.Codes.{sint_bits}
 use Rattle.vc_types.specs.Bounded.{bounded_uint_after, bounded_uint, bounded_sint, bounded_sints}
 use Rattle.vc_types.proofs.BoundedCodes.{bounded_sint-sint_bits}
 
--- what is left behind n numbers
-abbrev pub sints_left : ℕ → List Bool → List Bool
-sints_left zero bits = bits
-sints_left (suc n) bits = sints_left n (bounded_sint bits).1
-
--- one more number
-pushed : (n : ℕ) (bits : List Bool) → bounded_sints (suc n) bits ≡ bounded_sints n bits ++ (bounded_sint (sints_left n bits)).0 ∷ []
-unfolding bounded_sints
-pushed zero bits = refl
-pushed (suc n) bits = ap (λ (vs : List ℤ). (bounded_sint bits).0 ∷ vs) (pushed n (bounded_sint bits).1)
-
 -- whole codes, one after another, are read as their numbers, whatever follows them
 pub bounded_sints-written : (vs : List ℤ) (n : ℕ) (rest : List Bool) → bounded_sints (length vs + n) (flat_map sint_bits vs ++ rest) ≡ vs ++ bounded_sints n rest
 unfolding bounded_sints

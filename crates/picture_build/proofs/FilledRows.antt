@@ -2,24 +2,10 @@
 use Rattle.std.proofs.Common.{◌≡◌, ◌≢◌, ℕ, ◌+◌, ◌-◌, ◌*◌, ◌/◌, ◌%◌, ◌<◌, ◌≤◌, List, ℤ, arith, ap, ◌∙◌, ◌⊎◌, inl, inr}
 use Rattle.std.proofs.lemmas.Bool.{cases_lt, cases_eq}
 use Rattle.std.proofs.lemmas.Nat.{mul-add-lt, div-mul-add, mod-mul-add, mod_below, div_below}
-use Rattle.std.proofs.Math.Nat.{mul-le-mul_right}
 use Rattle.vc_types.specs.declared.rect.Rect.{Rect}
 use Rattle.vc_types.specs.Lifting.{line_of}
 use Rattle.vc_types.specs.Subbands.{area, place_in}
 use Rattle.picture_build.specs.Cells.{cell_number}
-
--- a row is inside a grid, and inside a list of so many cells
-pub row_inside : (y height stride row x width len : ℕ) → row < height → x + width ≤ stride → (y + height) * stride ≤ len → (y + row) * stride + x + width ≤ len
-row_inside y height stride row x width len h wide inside =
-    let next : y + row + 1 ≤ y + height = omega arith in
-    let below = mul-le-mul_right stride next in
-    omega (arith, below)
-
-pub row_within : (row height width from len : ℕ) → row < height → from + width * height ≤ len → from + row * width + width ≤ len
-row_within row height width from len h inside =
-    let next : row + 1 ≤ height = omega arith in
-    let below = mul-le-mul_right width next in
-    omega (arith, below)
 
 module _ (r : Rect) (stride from : ℕ) (coeffs : ℕ → ℤ) where
   -- the first rows have their coefficients

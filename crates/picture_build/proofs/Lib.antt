@@ -6,7 +6,6 @@ pub mod PlaneSizes
 pub mod GridCells
 pub mod PlacedGrids
 pub mod BuiltPlanes
-pub mod WholePictures
 pub mod Placements
 pub mod Standing
 pub mod BoundedLists

@@ -1,5 +1,5 @@
 -- The planes of a picture have the sizes of its shape, and their samples have its bits.
-use Rattle.std.proofs.Common.{◌≡◌, ℕ, ◌*◌, ◌^◌, ◌<◌, ◌≤◌, List, length, All, refl, arith}
+use Rattle.std.proofs.Common.{◌≡◌, ℕ, ◌^◌, ◌<◌, ◌≤◌, List, All, refl, arith}
 use Rattle.std.specs.Prelude.{IsTrue}
 use Rattle.std.proofs.lemmas.Bool.Decides.{nat_tests}
 use Rattle.vc_types.specs.declared.video.Component.{Component}
@@ -12,7 +12,7 @@ use Rattle.vc_types.specs.Slices.{Coefficients}
 use Rattle.vc_types.specs.Subbands.{plane_width, plane_height, plane_depth}
 use Rattle.vc_types.specs.TransformParameters.{Parameters}
 use Rattle.vc_types.specs.Transforms.{inverse_transform}
-use Rattle.picture_build.proofs.RasterLists.{length-raster, raster-all}
+use Rattle.picture_build.proofs.RasterLists.{raster-all}
 use Rattle.picture_build.proofs.Samples.{output_sample-below}
 
 module _ (p : Parameters) (c : Component) (slices : List Coefficients) where
@@ -23,10 +23,6 @@ module _ (p : Parameters) (c : Component) (slices : List Coefficients) where
   pub component_plane-height : (component_plane p c slices).height ≡ plane_height p.shape c
   unfolding component_plane
   component_plane-height = refl
-
-  pub component_plane-length : length (component_plane p c slices).samples ≡ (component_plane p c slices).height * (component_plane p c slices).width
-  unfolding component_plane
-  component_plane-length = length-raster (plane_width p.shape c) (λ x y. output_sample (plane_depth p.shape c) (inverse_transform p c (component_cells p c slices) x y)) (plane_height p.shape c)
 
   samples-below : 1 ≤ plane_depth p.shape c → All (λ s. s < 2 ^ plane_depth p.shape c) (component_plane p c slices).samples
   unfolding component_plane

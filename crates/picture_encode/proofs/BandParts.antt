@@ -13,7 +13,7 @@ use Rattle.vc_types.specs.TransformParameters.{Parameters}
 use Rattle.vc_types.specs.Transforms.{source_of, lowest_width, lowest_height}
 use Rattle.vc_types.proofs.SubbandOrder.{level_of, orientation_of, subband_at-level, subband_at-orientation, orientation-LL, orientation-HL, orientation-LH, orientation-HH}
 use Rattle.vc_wave.specs.Layout.{row_in_turn, turned_row}
-use Rattle.vc_wave.proofs.BandRows.{twice_once, share_upto, exact_side}
+use Rattle.vc_wave.proofs.ExactSides.{twice_once, share_upto, exact_side}
 use Rattle.vc_wave.proofs.Grids.{padded_whole}
 use Rattle.vc_wave.proofs.LayoutLaws.{turned, turned_in, turned_right, turned_below, row_step, lowest_row}
 use Rattle.vc_wave.proofs.Turns.{twice_power}

@@ -1,7 +1,7 @@
 -- What a packer has packed of a picture, and what it goes on with.
-use Rattle.std.proofs.Common.{◌≡◌, ℕ, ◌+◌, ◌%◌, ◌^◌, List, [], None, arith}
+use Rattle.std.proofs.Common.{◌≡◌, ℕ, ◌+◌, ◌%◌, ◌^◌, [], None, arith}
 use Rattle.std.proofs.lemmas.List.{length-map}
-use Rattle.link_stream.specs.Packing.{contents_from, first_large_part, packed_contents, packed_timestamp}
+use Rattle.link_stream.specs.Packing.{first_large_part, packed_contents, packed_timestamp}
 use Rattle.link_stream.proofs.Contents.{how_many}
 use Rattle.picture_pack.specs.declared.outbox.Outbox.{Outbox}
 use Rattle.picture_pack.specs.declared.picture.Picture.{Picture}
@@ -13,9 +13,6 @@ use Rattle.vc_types.specs.SenderSettings.{Packing, packing_view}
 module _ (p : Picture) (x y : Outbox) (pictures time : ℕ) where
   abbrev s : Packing
   s = packing_view p.settings
-
-  abbrev contents : ℕ → List (List ℕ)
-  contents t = contents_from s t (packed_view p) x.sequence (packed_contents s (packed_view p))
 
   abbrev old : PackCounts
   old = record { pictures = pictures; sequence = x.sequence; timestamp = time }

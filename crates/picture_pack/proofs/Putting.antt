@@ -1,10 +1,10 @@
 -- Datagrams of a picture that are put one behind another.
-use Rattle.std.proofs.Common.{◌≡◌, ℕ, ◌+◌, ◌%◌, ◌^◌, ◌<◌, Bool, List, [], ◌∷◌, ◌++◌, arith}
+use Rattle.std.proofs.Common.{◌≡◌, ◌+◌, ◌%◌, ◌^◌, ◌<◌, Bool, List, [], ◌∷◌, ◌++◌, arith}
 use Rattle.std.proofs.lemmas.List.{append-nil, length-append}
 use Rattle.std.proofs.lemmas.Grind.{common_steps}
 use Rattle.link_model.specs.Packets.{PayloadValue}
 use Rattle.link_model.specs.Sending.{DatagramContent}
-use Rattle.link_stream.specs.Packing.{contents_from, datagram_around, ends_picture, packed_value}
+use Rattle.link_stream.specs.Packing.{datagram_around, ends_picture, packed_value}
 use Rattle.link_stream.proofs.Contents.{appended, no_datagram, one_datagram, wrapped}
 use Rattle.picture_pack.specs.declared.outbox.Outbox.{Outbox}
 use Rattle.picture_pack.specs.declared.picture.Picture.{Picture}
@@ -14,9 +14,6 @@ use Rattle.picture_pack.specs.Views.{packed_view}
 use Rattle.vc_types.specs.SenderSettings.{packing_view}
 
 module _ (p : Picture) where
-  abbrev from : ℕ → List DatagramContent → List (List ℕ)
-  from n cs = contents_from (packing_view p.settings) p.timestamp (packed_view p) n cs
-
   pub puts_none : (x : Outbox) → x.sequence < 2 ^ 32 → PutsDatagrams p [] x x
   puts_none x small = grind (arith, common_steps, append-nil, no_datagram)
 

@@ -10,7 +10,8 @@ use Rattle.vc_types.specs.DataUnits.{DataUnit}
 use Rattle.vc_units.proofs.Behind.{units_within-more}
 use Rattle.play_command.specs.Stream.{Stream, StreamSoFar, all_taken, after_unit, takes, units_taken}
 use Rattle.play_command.specs.Playing.{UnitSplit, unit_split, AreAccepted, UnitIsPastLimit, EndsWithRefused, IsBad, Plays, PlayEnded, IsPlayable}
-use Rattle.play_command.proofs.Rests.{behind_given, none_past, none_refused}
+use Rattle.play_command.proofs.Rests.{none_past, none_refused}
+use Rattle.vc_ports.proofs.Given.{behind_given}
 use Rattle.play_command.proofs.SoFar.{so_far-refused}
 
 -- ---- units that are accepted

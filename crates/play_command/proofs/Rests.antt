@@ -11,13 +11,6 @@ use Rattle.vc_units.specs.Units.{data_unit, units_within}
 use Rattle.vc_units.specs.declared.fault.UnitFault.{UnitFault}
 use Rattle.vc_units.specs.declared.fault.UnitFault.TheVariants as faults
 
--- the bytes behind those that were given
-pub behind_given : (P : List ℕ → Type 0) (given : List ℕ) (before after : Option (List ℕ)) → Gave before after given
-    → IsSomeAnd before P → (more : List ℕ) × (after ≡ Some more) × P (given ++ more)
-behind_given P given None after took whole = absurd whole
-behind_given P given (Some bytes) None took whole = let none : Some bytes ≡ None = took in absurd cc
-behind_given P given (Some bytes) (Some more) took whole = (more, refl, subst P (some_is bytes (given ++ more) took) whole)
-
 module _ (packets : ℕ) (given more : List ℕ) (ended : ((unit_split packets (given ++ more)).rest ≡ []) ⊎ IsTrue (has_ended (unit_split packets (given ++ more)))) where
   abbrev split : UnitSplit
   split = unit_split packets given

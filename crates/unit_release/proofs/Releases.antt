@@ -25,7 +25,6 @@ use Rattle.link_reception.proofs.Releases.{works_then}
 use Rattle.link_reception.proofs.WaitingFields.{first_is, waiting_is}
 use Rattle.link_reception.proofs.Working.{IsWorking, book_of_unreleased}
 use Rattle.link_stream.specs.Streams.{picture_unit, picture_unit_at, frame_units}
-use Rattle.vc_types.specs.DataUnits.{DataUnit}
 use Rattle.vc_types.specs.Planes.{Planes}
 use Rattle.vc_types.specs.SequenceHeader.{Sequence}
 use Rattle.unit_release.specs.Writing.{WrittenStream, ReleasedPicture, released_pictures}
@@ -104,9 +103,6 @@ module _ (r : Reception) (size : ℕ) (f : Feeder) (hs : List HeardSession) (p :
           absurd (false≢true (sym frames ∙ one.2.fields))
 
   module _ (w : WrittenStream) (stands : w.field ≡ waiting_bytes s es r.field) where
-    abbrev own : DataUnit
-    own = picture_unit n (unwrap_or (whole_picture s (parts_of n es)) [])
-
     -- the first field of a frame
     first_units : s.fields ≡ true → is_some (frame_at s es n) ≡ true
         → field_unit (n - 1) w.field ≡ picture_unit_at s es (n - 1) ∷ []

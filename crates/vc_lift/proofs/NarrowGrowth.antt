@@ -21,9 +21,6 @@ both_below : (a b : Bool) (n m : ℕ) → (if a && b then Some n else None) ≡ 
 both_below a b n m e = grind arith
 
 module _ (limit : ℕ) (s : CountedStep) (half own other more : ℕ) (x : ℕ → ℤ) (p : s.parity < 2) (some : 0 < half) (fits : stretched_below limit s own other ≡ Some more) (mine : IsWithin x half s.parity own) (met : IsWithin x half (1 - s.parity) other) where
-  known : (nat_lt (rounded_sum s other) limit ≡ true) × (nat_lt (stretched s own other) limit ≡ true) × (stretched s own other ≡ more)
-  known = both_below _ _ _ _ fits
-
   pub range : HasRange limit s half x
   range = grind arith
 

@@ -5,8 +5,7 @@ use Rattle.std.proofs.lemmas.Option.{get_or_from_slice_get, slice_get_within}
 use Rattle.std.proofs.Math.Seq.{take-add}
 use native.Mathlib.Numerals.{unary_clauses}
 use Rattle.vc_ports.proofs.Given.{some_is}
-use Rattle.vc_ports.specs.MemoryWires.{AreDatagrams, came_of}
-use Rattle.vc_ports.specs.declared.wire.Came.TheVariants as came
+use Rattle.vc_ports.specs.MemoryWires.{AreDatagrams}
 
 none_is_some : {A : Type 0} (x : A) → None ≡ Some x → ⊥
 none_is_some x p = cc
@@ -34,16 +33,6 @@ pub behind_front : (front back : List (List ℕ)) (at : ℕ) → slice_get front
 behind_front [] back at p = simp unary_clauses refl
 behind_front (x ∷ front) back zero p = absurd (none_is_some x (sym p))
 behind_front (x ∷ front) back (suc at) p = behind_front front back at p ∙ ap (slice_get back) (omega arith)
-
-nil_is_one : (one : List ℕ) → [] ≡ one ∷ [] → ⊥
-nil_is_one one p = cc
-
--- what a call answers that gives the next one
-pub comes : (coming : List (List ℕ)) (one : List ℕ) → take 1 coming ≡ one ∷ [] → came_of coming ≡ came.Datagram (length one)
-comes [] one p = absurd (nil_is_one one p)
-comes (x ∷ coming) one p = ap (λ (d : List ℕ). came.Datagram (length d)) (first_is p) where
-  first_is : x ∷ [] ≡ one ∷ [] → x ≡ one
-  first_is q = cc
 
 -- one more was given
 pub one_gone : (at : ℕ) (all : List (List ℕ)) → drop (at + 1) all ≡ drop 1 (drop at all)

@@ -1,11 +1,18 @@
 -- What a source gave, one piece after another.
-use Rattle.std.proofs.Common.{◌≡◌, ℕ, ◌+◌, List, [], ◌++◌, length, take, subst, Option, Some, None, refl, ap, sym, ◌∙◌, append_assoc}
+use Rattle.std.proofs.Common.{◌≡◌, ℕ, ◌+◌, List, [], ◌++◌, length, take, subst, Option, Some, None, IsSomeAnd, refl, ap, sym, ◌∙◌, append_assoc}
 use Rattle.std.specs.Option.{option_map}
 use Rattle.std.proofs.Math.Seq.{take-append-add}
 use Rattle.vc_ports.specs.Reading.{Gave, GaveAll}
 
 pub some_is : {A : Type 0} (x y : A) → Some x ≡ Some y → x ≡ y
 some_is x y p = cc
+
+-- what is said of all that was left is said of what was given and what is left now
+pub behind_given : (P : List ℕ → Type 0) (given : List ℕ) (before after : Option (List ℕ)) → Gave before after given
+    → IsSomeAnd before P → (more : List ℕ) × (after ≡ Some more) × P (given ++ more)
+behind_given P given None after took whole = absurd whole
+behind_given P given (Some bytes) None took whole = let none : Some bytes ≡ None = took in absurd cc
+behind_given P given (Some bytes) (Some more) took whole = (more, refl, subst P (some_is bytes (given ++ more) took) whole)
 
 -- nothing was given where what is left stays
 pub Gave-none : (before : Option (List ℕ)) → Gave before before []

@@ -74,9 +74,6 @@ module _ (f : Cells → Cells) (a b levels w h stride : ℕ) (wide : a ≤ w) (h
     (past : (c : Cells) (x y : ℕ) → (a ≤ x) ⊎ (b ≤ y) → f c x y ≡ c x y)
     (agrees : (c d : Cells) → Agree a b c d → Agree a b (f c) (f d))
     (old new : List ℤ) (made : plane_of (stride * 2 ^ levels) new ≡ f (plane_of (stride * 2 ^ levels) old)) where
-  abbrev pitch : ℕ
-  pitch = stride * 2 ^ levels
-
   -- cell (x, k * 2 ^ levels + r) is cell (r * stride + x, k) of the rows that stand apart
   same_place : (x k r : ℕ) → (k * 2 ^ levels + r) * stride + x ≡ k * (stride * 2 ^ levels) + (r * stride + x)
   same_place x k r = omega arith

@@ -19,4 +19,4 @@ pub mod NarrowLevels
 mod NarrowCarry
 mod PartedRows
 mod PartedLevels
-pub mod BandRows
+pub mod ExactSides

@@ -9,7 +9,7 @@ use Rattle.vc_types.specs.Lifting.{Line, line_of}
 use Rattle.vc_types.specs.Transforms.{halved, half_place, source_of}
 use Rattle.vc_types.specs.Wavelets.{is_shifted, synthesised}
 use Rattle.vc_lift.specs.declared.halves.Halves.{Halves}
-use Rattle.vc_lift.specs.Halves.{halves_place, line_in, AreLines, StandApart, IsBeside}
+use Rattle.vc_lift.specs.Halves.{halves_place, line_in, IsBeside}
 use Rattle.vc_lift.specs.Ranges.{StaysNarrow, narrow_bound, counted_synthesis}
 use Rattle.vc_lift.proofs.LineLaws.{synthesis_is_local}
 use Rattle.vc_lift.proofs.NarrowGrowth.{synthesis_after}
@@ -18,7 +18,7 @@ use Rattle.vc_wave.specs.declared.pass.Direction.TheVariants.{Synthesis}
 use Rattle.vc_wave.specs.Lines.{IsMade, IsApart, line_at}
 use Rattle.vc_wave.specs.NarrowBounds.{RowHasBound, rows_bound, shifted_bound}
 use Rattle.vc_wave.specs.Remade.{remade, merged, shifted_down}
-use Rattle.vc_wave.proofs.Copies.{places_differ, on_samples_in}
+use Rattle.vc_wave.proofs.Copies.{on_samples_in}
 use Rattle.vc_wave.proofs.PlaneLines.{rearranged_in}
 use Rattle.vc_wave.proofs.Weaving.{half_place_below, source_below, half_place-source_of}
 
@@ -95,13 +95,7 @@ start_of start half (suc (suc q)) h = absurd (omega arith)
 pub row_place : (start half k : ℕ) → halves_place (row_halves start half) k ≡ start + half_place half k
 row_place start half k = (let parity : k % 2 < 2 = omega arith in let first = start_of start half (k % 2) parity in omega (arith, first))
 
-apart_one : (i j : ℕ) → i ≢ j → StandApart 1 i j
-apart_one i j ne = elim (cases_lt i j) [ inl lt ↦ inl (omega arith) | inr ge ↦ (let more : j + 1 ≤ i = omega arith in inr more) ]
-
 module _ (start half : ℕ) (some : 0 < half) where
-  pub row_apart : (len : ℕ) → half < 2 ^ 60 → start + 2 * half ≤ len → AreLines (row_halves start half) 1 len
-  row_apart len small inside = grind (arith, half_place_below, row_place, apart_one, places_differ)
-
   pub row_at : (cells : List ℤ) (k : ℕ) → line_in (row_halves start half) cells 0 k ≡ line_of cells (start + half_place half k)
   row_at cells k = (let place = row_place start half k in ap (line_of cells) (omega (arith, place)))
 
