@@ -1,6 +1,6 @@
 -- Where no fault came, a capture of at most so many entries that ends at an edge is decoded to its
 -- end, or unpacked, unless memory runs out.
-use Rattle.std.proofs.Common.{◌≡◌, ◌≢◌, ℕ, zero, suc, List, [], ◌++◌, length, Option, Some, None, IsSomeAnd, refl, sym, ap, ◌∙◌, subst, arith, append-nil, length-append}
+use Rattle.std.proofs.Common.{◌≡◌, ◌≢◌, ℕ, zero, suc, List, [], ◌++◌, length, Option, Some, None, IsSomeAnd, refl, sym, ap, ◌∙◌, arith, append-nil, length-append}
 use Rattle.link_capture.specs.Capture.{entries_within, first_entry}
 use Rattle.link_capture.proofs.Heads.{first_entry-append}
 use Rattle.link_receiver.specs.HeardLists.{OutputForm}
@@ -9,7 +9,7 @@ use Rattle.link_report.specs.declared.answer.Answer.TheVariants.{Done, Stopped, 
 use Rattle.link_report.specs.declared.ending.Ending.TheVariants.{NoMemory, InputFailed, OutputFailed, CaptureCut, PacketLimit}
 use Rattle.vc_ports.specs.Changes.{Change, InputChange, OutputChange, HasRisen, Took}
 use Rattle.vc_ports.proofs.Given.{behind_given}
-use Rattle.vc_ports.specs.Reading.{Gave, IsAtEnd}
+use Rattle.vc_ports.specs.Reading.{IsAtEnd}
 use Rattle.vc_slice.specs.Asked.{Told}
 use Rattle.decode_command.specs.Capture.{capture_split, IsPastLimit}
 use Rattle.decode_command.specs.Decoding.{TakesCapture, Decodes, Unpacks, IsDecodable}

@@ -1,5 +1,5 @@
 -- Datagrams that are put one after another, and counted.
-use Rattle.std.proofs.Common.{◌≡◌, ℕ, ◌+◌, ◌^◌, ◌<◌, List, [], ◌∷◌, ◌++◌, length, take, drop, ap, sym, ◌∙◌, subst, arith, take-append-drop}
+use Rattle.std.proofs.Common.{◌≡◌, ℕ, ◌+◌, ◌^◌, ◌<◌, List, [], ◌∷◌, ◌++◌, length, take, drop, ap, sym, ◌∙◌, arith, take-append-drop}
 use Rattle.std.proofs.lemmas.List.{map-append}
 use Rattle.std.proofs.lemmas.List.Sums.{sum_by-append}
 use Rattle.std.proofs.lemmas.Grind.{common_steps}
@@ -9,7 +9,6 @@ use Rattle.link_sender.specs.Packing.{bytes_of_all}
 use Rattle.frame_sending.specs.Counted.{HasRoomFor, totals_with}
 use Rattle.frame_sending.specs.declared.totals.Totals.{Totals}
 use Rattle.frame_sending.proofs.Laws.{OutletLaws}
-use Rattle.frame_sending.proofs.Numbering.{totals-append}
 
 module _ (datagrams : List Datagram) (i : ℕ) (one : Datagram) (more : take (i + 1) datagrams ≡ take i datagrams ++ one ∷ []) where
   pub bytes_more : bytes_of_all (take (i + 1) datagrams) ≡ bytes_of_all (take i datagrams) ++ one.bytes.items ∷ []

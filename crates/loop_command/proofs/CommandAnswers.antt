@@ -25,7 +25,6 @@ use Rattle.loop_command.specs.Exchanges.{AreInTurn, BrokeBehind, HasHeardSince, 
 use Rattle.loop_command.specs.Looping.{GivesWork, LoopWrote, LoopsBack, LoopsBetween, SentInTurn, SentSome, has_broken, looping_at}
 use Rattle.loop_command.proofs.Outcomes.{Outcome, outcome_of}
 use Rattle.recv_command.specs.Receiving.{as_entries}
-use Rattle.slice_exchange.specs.Calls.{PlacesAreBelow}
 use Rattle.vc_ports.specs.Changes.{Change, InputChange, OutputChange, WireChange, changed, output_of, wire_of}
 use Rattle.vc_ports.specs.Faults.{Rose}
 use Rattle.vc_ports.specs.Wires.{WireTold, aiming, listening}

@@ -1,6 +1,5 @@
 -- How a datagram is exchanged: it is sent, and then one is received and heard, or not.
 use Rattle.std.proofs.Common.{◌≡◌, ℕ, ◌≤◌, List, [], ◌∷◌, ◌++◌, Option, Some, refl, sym, ap, ◌∙◌, subst, arith, inl, inr, append-nil}
-use Rattle.std.specs.Prelude.{IsTrue}
 use Rattle.datagram_outlet.specs.declared.outlet.OutletFault.TheVariants as outlets
 use Rattle.decode_command.proofs.Asking.{offered_with}
 use Rattle.decode_command.proofs.Due.{due_at_end, due_with}
@@ -9,7 +8,7 @@ use Rattle.link_reception.specs.Entering.{datagram_jobs}
 use Rattle.link_receiver.proofs.Asked.{asked_none}
 use Rattle.link_receiver.specs.HeardLists.{AsFrames, AskedPlaces, HasHeard, OfferedToPlaces, newly_due, still_due}
 use Rattle.link_receiver.specs.States.{ReceiverState}
-use Rattle.loop_command.specs.Exchanges.{HasHeardSince, Hears, IsReady, LoopBroke, LoopState, WereLooped, Passed, Stumbles}
+use Rattle.loop_command.specs.Exchanges.{HasHeardSince, Hears, LoopBroke, LoopState, WereLooped, Passed, Stumbles}
 use Rattle.slice_exchange.specs.Calls.{PlacesAreBelow}
 use Rattle.vc_ports.specs.Faults.{Rose}
 use Rattle.vc_ports.specs.Wires.{WireTold, sending}
