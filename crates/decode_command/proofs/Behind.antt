@@ -270,7 +270,3 @@ module _ (form : OutputForm) (window packets : ℕ) (receiver : ReceiverState) (
   drain_broke faults.NoMemory broke = broke
   drain_broke faults.WriteFault broke = broke
   drain_broke faults.Ended broke = broke
-
--- no bytes were given
-pub none_of : (bytes : List ℕ) (count : ℕ) → length bytes ≡ 1 → count < length bytes → take count bytes ≡ []
-none_of bytes count one short = grind (arith, common_steps)

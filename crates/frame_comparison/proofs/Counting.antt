@@ -1,6 +1,7 @@
 -- What a comparison counts, sample by sample and byte by byte.
 use mir.Val.{bool_byte}
 use Rattle.std.proofs.Common.{◌≡◌, ℕ, zero, suc, ◌+◌, ◌*◌, ◌-◌, ◌≤◌, Bool, true, false, List, [], ◌∷◌, ◌++◌, Option, Some, None, length, refl, sym, ap, ◌∙◌, arith}
+use Rattle.std.proofs.lemmas.Bool.{eq-eqb}
 use Rattle.std.specs.Prelude.{◌==◌, not}
 use Rattle.frame_comparison.specs.Counting.{counted_with_samples, counted_with, held_back}
 use Rattle.frame_comparison.specs.declared.comparison.Comparison.{Comparison}
@@ -53,13 +54,10 @@ unfolding different_samples
 all_missing [] = refl
 all_missing (x ∷ xs) = ap suc (all_missing xs)
 
-is_itself : (x : ℕ) → (x == x) ≡ true
-is_itself x = grind arith
-
 pub same_samples : (xs : List ℕ) → different_samples xs xs ≡ 0
 unfolding different_samples
 same_samples [] = refl
-same_samples (x ∷ xs) = rw (is_itself x) (let rest = same_samples xs in omega (arith, rest))
+same_samples (x ∷ xs) = rw (eq-eqb x x refl) (let rest = same_samples xs in omega (arith, rest))
 
 -- ---- bytes
 

@@ -89,7 +89,3 @@ not_read_at_end s frames went broke (Err ending) ends e = let is : ending ≡ en
 
 pub sends_so : (s : Sending) (most : ℕ) (answer : Result Summary Ending) (input : InputChange) (went : List (List ℕ) → Type 0) (broke : List (List ℕ) → OutletFault → Type 0) → StopsSending s most answer input went broke → (answer ≡ Err endings.InputFailed → HasRisen input.faults) → SendsFrames s most answer input went broke
 sends_so s most answer input went broke stops rose = grind (arith, common_steps)
-
--- a byte was asked for, and none came
-pub none_of : (bytes : List ℕ) (n : ℕ) → length bytes ≡ 1 → n < length bytes → take n bytes ≡ []
-none_of bytes n one less = grind (arith, common_steps)

@@ -9,7 +9,7 @@ use Rattle.std.proofs.lemmas.Bool.Decides.{nat_tests}
 use Rattle.std.proofs.lemmas.List.Elements.{All-append, All-nil, All-head, All-tail, All-map}
 use Rattle.field_pairs.specs.Sizes.{IsWhole, AreWhole, HaveEvenHeights}
 use Rattle.field_pairs.proofs.RowsOfRasters.{length-raster}
-use Rattle.sent_counts.proofs.SentFrames.{unmapped}
+use Rattle.sent_counts.proofs.SentFrames.{none_outside, unmapped}
 use Rattle.index_zero.proofs.SentFaults.{neither, all_inside}
 use Rattle.link_model.specs.SendingFaults.{first_outside, plane_fault, sample_fault, first_sample_fault}
 use Rattle.link_model.specs.SendingPictures.{HasSides, IsFrame, plane_in, sent_sequence, sent_parameters}
@@ -26,13 +26,6 @@ use Rattle.vc_types.specs.Subbands.{plane_width, plane_height}
 use Rattle.vc_types.specs.Video.{colour_width, colour_height, dimensions_fit, picture_height}
 
 -- ---- samples
-
-none_outside : (limit place : ℕ) (samples : List ℕ) → All (λ k. k < limit) samples → first_outside limit place samples ≡ None
-unfolding first_outside
-none_outside limit place [] all = refl
-none_outside limit place (sample ∷ samples) all =
-    cond-true (nat_lt sample limit) (first_outside limit (place + 1) samples) (Some (place, sample)) (lt-ltb sample limit (All-head (λ k. k < limit) sample samples all))
-    ∙ none_outside limit (place + 1) samples (All-tail (λ k. k < limit) sample samples all)
 
 all_mapped : (P : ℕ → Type 0) (f : ℕ → ℕ) (xs : List ℕ) → ((x : ℕ) → P (f x)) → All P (map f xs)
 all_mapped P f xs each = All-map P f xs (λ k d h. each (get_or xs k d))

@@ -17,6 +17,7 @@ use Rattle.link_model.specs.Kept.{SliceRun, slice_run}
 use Rattle.link_model.specs.Sending.{runs_of_slices, picture_runs, IsRunOf}
 use Rattle.link_model.specs.SendingFaults.{first_of_slices}
 use Rattle.link_model.specs.SendingPictures.{sent_parameters, sent_coefficients, sent_slice, sent_slices, slices_with_indices, slice_room}
+use Rattle.link_model.proofs.SentHeads.{between}
 use Rattle.vc_types.specs.declared.settings.SendSettings.{SendSettings}
 use Rattle.vc_types.specs.Fields.{joined}
 use Rattle.vc_types.specs.Planes.{Planes}
@@ -43,12 +44,6 @@ few_joined [] all = omega arith
 few_joined (x ∷ xs) all =
     grind (arith, All-head, length-append, few_joined xs (All-tail (λ x. 1 ≤ length x) x xs all))
 
-scaler_some : (scaler : ℕ) → within 1 255 scaler ≡ true → 0 < scaler
-scaler_some scaler h = grind (arith, nat_tests)
-
-most_size : (size : ℕ) → within 64 65507 size ≡ true → size ≤ 65507
-most_size size h = grind (arith, nat_tests)
-
 module _ (settings : SendSettings) where
   abbrev s : Sending
   s = sending_view settings
@@ -58,7 +53,7 @@ module _ (settings : SendSettings) where
 
   pub scaler_is_some : 0 < (sent_parameters (sending_view settings)).scaler
   unfolding sent_parameters
-  scaler_is_some = scaler_some settings.scaler settings.scaler_fits
+  scaler_is_some = (between 1 255 settings.scaler settings.scaler_fits).least
 
   pub across_some : 1 ≤ (sent_parameters (sending_view settings)).slices_x
   unfolding sent_parameters
@@ -69,7 +64,7 @@ module _ (settings : SendSettings) where
   count_is = refl
 
   pub room_few : slice_room (sending_view settings) ≤ 65475
-  room_few = (let most = most_size settings.size settings.size_fits in omega (arith, most))
+  room_few = (let fits = between 64 65507 settings.size settings.size_fits in omega (arith, fits.most))
 
   module _ (planes : Planes) (indices : List ℕ) (none : first_of_slices s planes (slices_with_indices p indices) ≡ None) where
     abbrev slices : List (List ℕ)

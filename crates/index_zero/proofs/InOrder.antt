@@ -15,7 +15,7 @@ use Rattle.link_model.specs.Sending.{number_bits}
 use Rattle.link_model.specs.Session.{Part, Fragment}
 use Rattle.link_model.proofs.Leaving.{one, opened-over, past}
 use Rattle.link_model.proofs.Ranges.{in_longer}
-use Rattle.link_model.proofs.Numbering.{early_enters, greatest-append, parts_of-append}
+use Rattle.link_model.proofs.Numbering.{early_enters, greatest_one, greatest-append, parts_of-append}
 use Rattle.vc_types.specs.SenderSettings.{Sending}
 
 -- ---- entries of pictures
@@ -100,10 +100,6 @@ module _ (n : ℕ) (pictures : List (List Part)) (some : All HasParts pictures) 
       ∙ each_of n (length pictures) (omega arith) (omega arith)
 
 -- ---- what is entered
-
-greatest_one : (e : Numbered) → greatest (e ∷ []) ≡ e.number
-unfolding greatest
-greatest_one e = omega arith
 
 module _ (s : Sending) where
   abbrev pub fragment_of : ℕ → Part → Fragment

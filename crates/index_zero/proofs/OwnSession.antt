@@ -28,11 +28,8 @@ use Rattle.vc_types.specs.SenderSettings.{Sending, sending_view}
 use Rattle.vc_types.specs.SequenceHeader.{Sequence}
 use Rattle.vc_types.specs.TransformParameters.{Parameters}
 
-same_itself : (a : Sequence) → same_sequence a a ≡ true
-same_itself a = (sequences_exactly a a).1 refl
-
 no_other : (t : Session) → is_other t t ≡ false
-no_other t = rw (itself t.ssrc, same_itself t.sequence) refl
+no_other t = rw (itself t.ssrc, (sequences_exactly t.sequence t.sequence).1 refl) refl
 
 -- ---- the parts that are sent of pictures
 

@@ -49,9 +49,6 @@ record IsRange (range : ℕ) : Type 0 where
 range_between : (range : ℕ) → (nat_le 1 range && nat_le range 4) ≡ true → IsRange range
 range_between range known = (let both = and_parts (nat_le 1 range) (nat_le range 4) known in record { low = leb-true 1 range both.0; high = leb-true range 4 both.1 })
 
-same_wavelet : (wavelet : ℕ) → same_across wavelet (wavelet, 0) ≡ true
-same_wavelet wavelet = grind arith
-
 module _ (settings : SendSettings) (planes : Planes) (indices : List ℕ) (is : IsPictureToSend (sending_view settings) indices planes) (zeros : (k : ℕ) → k < slice_count (sent_parameters (sending_view settings)) → slice_get indices k ≡ Some 0) where
   abbrev s : Sending
   s = sending_view settings
@@ -111,7 +108,7 @@ module _ (settings : SendSettings) (planes : Planes) (indices : List ℕ) (is : 
 
   symmetric : IsTrue (is_symmetric (sent_parameters (sending_view settings)))
   unfolding sent_parameters
-  symmetric = same_wavelet settings.wavelet
+  symmetric = grind arith
 
   is_sendable : IsSendable p planes
   is_sendable =

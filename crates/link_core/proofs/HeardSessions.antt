@@ -16,7 +16,7 @@ use Rattle.link_model.specs.Session.{sessions_of}
 use Rattle.link_model.specs.Windows.{Window, StandsForPast, session_past, window_of}
 use Rattle.link_model.specs.Windows.{book_at}
 use Rattle.link_model.proofs.Hearing.{sessions_of_more}
-use Rattle.link_model.proofs.Numbering.{late_changes_nothing, early_enters, greatest-append}
+use Rattle.link_model.proofs.Numbering.{late_changes_nothing, early_enters, greatest_one, greatest-append}
 use Rattle.link_model.proofs.WindowNumbers.{session_greatest, session_enters, session_stays}
 use Rattle.link_model.proofs.WindowStands.{new_stands, enters_stands, book_is}
 use Rattle.link_core.specs.Hearing.{SessionWindow, session_windows, window_with}
@@ -33,13 +33,9 @@ module _ (base window : ℕ) where
   unfolding is_late
   late_is es n early = leb-false bound n (or_parts (is_closed window es n) (nat_le bound n) early).1
 
-  one_is : (e : Numbered) → greatest (e ∷ []) ≡ e.number
-  unfolding greatest
-  one_is e = omega arith
-
   enters_small : (es : List Numbered) (f : Fragment) → greatest es < bound → greatest (enters base window es f) < bound
   enters_small es f small =
-      grind (arith, late_changes_nothing, early_enters, late_is, greatest-append, one_is)
+      grind (arith, late_changes_nothing, early_enters, late_is, greatest_one, greatest-append)
 
   all_small : (es : List Numbered) (fragments : List Fragment) → greatest es < bound → greatest (fold (enters base window) es fragments) < bound
   all_small es [] small = small

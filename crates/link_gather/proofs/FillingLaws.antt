@@ -20,16 +20,12 @@ use Rattle.link_gather.specs.Filling.{cut_by, slices_cut, run_cut, has_conflict,
 use Rattle.vc_types.specs.Fields.{and_then}
 use Rattle.vc_types.specs.Slices.{coded_slice, length_read, slice_length}
 use Rattle.vc_types.specs.TransformParameters.{Parameters}
+use Rattle.vc_types.proofs.WholeSlices.{begins}
 
 -- ---- cutting
 
-within_read : {X : Type 0} (bytes : List ℕ) (r : Result (X × List ℕ) (Unit {0})) (len : ℕ) → length_read bytes r ≡ Some len → len ≤ length bytes
-within_read bytes (Err short) len e = absurd (none-some len e)
-within_read bytes (Ok read) len e = let same : length bytes - length read.1 ≡ len = same_Some (length bytes - length read.1) len e in omega (arith, same)
-
 pub cut_within : (prefix scaler len : ℕ) (bytes : List ℕ) → slice_length prefix scaler bytes ≡ Some len → len ≤ length bytes
-unfolding slice_length
-cut_within prefix scaler len bytes e = within_read bytes (coded_slice prefix scaler bytes) len e
+cut_within prefix scaler len bytes e = (begins prefix scaler bytes len e).within
 
 module _ (p : Parameters) where
   abbrev Cut : Type 0

@@ -4,7 +4,7 @@ use Rattle.std.specs.Prelude.{◌⊎◌, fold}
 use Rattle.link_model.specs.Numbers.{Numbered, greatest, base_above, picture_number, is_opened, enters, entered, parts_of}
 use Rattle.link_model.specs.Output.{greatest_of, entered_behind, is_opened_in}
 use Rattle.link_model.specs.Session.{Fragment, HeardSession}
-use Rattle.link_model.proofs.Numbering.{greatest-append, parts_of-append, parts_of-other, parts_of-outside, early_is, late_changes_nothing, early_enters}
+use Rattle.link_model.proofs.Numbering.{greatest_one, greatest-append, parts_of-append, parts_of-other, parts_of-outside, early_is, late_changes_nothing, early_enters}
 
 -- ---- where numbers begin: the least multiple of 2 ^ 32 that is more than 8 above
 
@@ -38,10 +38,6 @@ module _ (number window n : ℕ) (small : window ≤ 8) (low : n ≤ number) whe
   unfolding picture_number
   first_number bits = refl
 
-  one_number : (e : Numbered) → e.number ≤ greatest (e ∷ [])
-  unfolding greatest
-  one_number e = omega arith
-
   adds : (es : List Numbered) (f : Fragment) → IsAbove es → greatest es < picture_number (base_above number) es f.number + window
       → (base_above number ≤ greatest (es ++ record { number = picture_number (base_above number) es f.number; part = f.part } ∷ []))
       × (parts_of n (es ++ record { number = picture_number (base_above number) es f.number; part = f.part } ∷ []) ≡ [])
@@ -50,7 +46,7 @@ module _ (number window n : ℕ) (small : window ≤ 8) (low : n ≤ number) whe
       × (parts_of n (es ++ record { number = picture_number (base_above number) es f.number; part = f.part } ∷ []) ≡ []))
       (sym none)
       (let e : Numbered = record { number = picture_number (base_above number) [] f.number; part = f.part } in
-      one_more [] e (omega (arith, one_number e, first_number f.number)) no_parts (omega (arith, first_number f.number, base_is_above number)))
+      one_more [] e (omega (arith, greatest_one e, first_number f.number)) no_parts (omega (arith, first_number f.number, base_is_above number)))
   adds es f (inr above) early =
       let e : Numbered = record { number = picture_number (base_above number) es f.number; part = f.part } in
       one_more es e (omega (arith, greatest-append es (e ∷ []), above.0)) above.1 (omega (arith, above.0, early, small, base_is_above number))

@@ -55,9 +55,6 @@ slice_stays more kept i bytes e = first_copy-append kept.runs (runs_of kept.plan
 -- ---- whole pictures
 
 module _ (f g : ℕ → Option (List ℕ)) (stays : (i : ℕ) (bytes : List ℕ) → f i ≡ Some bytes → g i ≡ Some bytes) where
-  abbrev Keeps : ℕ → Type 0
-  Keeps i = (is_some (g i) ≡ true) × (unwrap_or (f i) [] ≡ unwrap_or (g i) [])
-
   one_stays : (i : ℕ) (o : Option (List ℕ)) → f i ≡ o → is_some o ≡ true → (is_some (g i) ≡ true) × (unwrap_or o [] ≡ unwrap_or (g i) [])
   one_stays i None is e = absurd (false≢true e)
   one_stays i (Some bytes) is e = (ap is_some (stays i bytes is), sym (ap (λ (o : Option (List ℕ)). unwrap_or o []) (stays i bytes is)))

@@ -8,6 +8,10 @@ use Rattle.std.proofs.lemmas.List.Sums.{fold-append}
 use Rattle.link_model.specs.Numbers.{Numbered, greatest, least, least_up_to, picture_number, is_closed, is_late, enters, entered, parts_of}
 use Rattle.link_model.specs.Session.{Part, Fragment}
 
+pub greatest_one : (e : Numbered) → greatest (e ∷ []) ≡ e.number
+unfolding greatest
+greatest_one e = omega arith
+
 pub greatest-append : (es more : List Numbered) → greatest (es ++ more) ≡ max (greatest es) (greatest more)
 unfolding greatest
 greatest-append [] more = omega arith

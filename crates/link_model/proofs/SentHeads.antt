@@ -69,19 +69,19 @@ has_default (suc (suc (suc (suc (suc (suc (suc wavelet))))))) depth known some f
 symmetric : (wavelet : ℕ) → same_across wavelet (wavelet, 0) ≡ true
 symmetric wavelet = grind arith
 
-by_symmetry : (wavelet depth : ℕ) → default_of wavelet depth (wavelet, 0) ≡ default_matrix wavelet depth
+pub by_symmetry : (wavelet depth : ℕ) → default_of wavelet depth (wavelet, 0) ≡ default_matrix wavelet depth
 by_symmetry wavelet depth = ap (λ (b : Bool). cond b (default_matrix wavelet depth) None) (symmetric wavelet)
+
+pub record IsBetween (low high number : ℕ) : Type 0 where
+  pub least : low ≤ number
+  pub most : number ≤ high
+
+pub between : (low high number : ℕ) → IsTrue (nat_le low number && nat_le number high) → IsBetween low high number
+between low high number fits = grind arith
 
 module _ (settings : SendSettings) where
   abbrev s : Sending
   s = sending_view settings
-
-  record IsBetween (low high number : ℕ) : Type 0 where
-    least : low ≤ number
-    most : number ≤ high
-
-  between : (low high number : ℕ) → IsTrue (nat_le low number && nat_le number high) → IsBetween low high number
-  between low high number fits = grind arith
 
   form : IsEncoderHeader (sent_sequence s)
   unfolding sent_sequence

@@ -11,7 +11,7 @@ use Rattle.link_model.specs.Session.{Part, Fragment, HeardSession, with_datagram
 use Rattle.link_model.specs.Windows.{Window, book_at, released_up_to, window_enters, WindowPast, past_enters, greatest_behind, is_nothing, window_of, StandsForPast, session_past}
 use Rattle.link_model.proofs.Apart.{base_is_above, base_is_multiple}
 use Rattle.link_model.proofs.Hearing.{with_fragment, without_fragment}
-use Rattle.link_model.proofs.Numbering.{early_enters, early_is, late_changes_nothing, greatest-append, parts_of-append}
+use Rattle.link_model.proofs.Numbering.{early_enters, early_is, late_changes_nothing, greatest_one, greatest-append, parts_of-append}
 use Rattle.link_model.proofs.Windowing.{gone_in, needed_by}
 use Rattle.link_model.proofs.WindowStands.{enters_stands, book_is}
 use Rattle.link_model.proofs.Wrapping.{nearest-bits}
@@ -26,13 +26,9 @@ module _ (before window : ℕ) where
   unfolding picture_number
   first_is_high bits = omega arith
 
-  one_number : (e : Numbered) → e.number ≤ greatest (e ∷ [])
-  unfolding greatest
-  one_number e = omega arith
-
   enters_high : (es : List Numbered) (f : Fragment) → IsHigh es → IsHigh (enters (base_above before) window es f)
   enters_high es f high =
-      grind (arith, early_enters, first_is_high, greatest-append, late_changes_nothing, one_number)
+      grind (arith, early_enters, first_is_high, greatest-append, late_changes_nothing, greatest_one)
 
   all_high : (es : List Numbered) (fragments : List Fragment) → IsHigh es → IsHigh (fold (enters (base_above before) window) es fragments)
   all_high es [] high = high
@@ -63,19 +59,15 @@ module _ (before window : ℕ) (f : Fragment) (small : f.number < 2 ^ 32) where
     | inr stays ↦ (let top : max g (nearest g f.number) ≡ g = omega (arith, stays) in ap (λ k. nearest k f.number) top)
   ]
 
-  one_greatest : (e : Numbered) → greatest (e ∷ []) ≡ e.number
-  unfolding greatest
-  one_greatest e = omega arith
-
   nearest_of : (es : List Numbered) → IsHigh before window es
       → nearest (greatest (es ++ record { number = picture_number (base_above before) es f.number; part = f.part } ∷ [])) f.number ≡ picture_number (base_above before) es f.number
   unfolding picture_number
   nearest_of [] high =
-      ap (λ k. nearest k f.number) (one_greatest (record { number = base_above before + f.number; part = f.part }))
+      ap (λ k. nearest k f.number) (greatest_one (record { number = base_above before + f.number; part = f.part }))
       ∙ nearest_itself (base_above before + f.number) f.number (omega (arith, base_is_multiple before, small))
   nearest_of (e ∷ es) high =
       let n = nearest (greatest (e ∷ es)) f.number in
-      let top : greatest (e ∷ (es ++ record { number = n; part = f.part } ∷ [])) ≡ max (greatest (e ∷ es)) n = omega (arith, greatest-append (e ∷ es) (record { number = n; part = f.part } ∷ []), one_greatest (record { number = n; part = f.part })) in
+      let top : greatest (e ∷ (es ++ record { number = n; part = f.part } ∷ [])) ≡ max (greatest (e ∷ es)) n = omega (arith, greatest-append (e ∷ es) (record { number = n; part = f.part } ∷ []), greatest_one (record { number = n; part = f.part })) in
       ap (λ k. nearest k f.number) top ∙ nearest_top (greatest (e ∷ es)) (high refl)
 
 -- ---- what a fragment that isn't late leaves

@@ -9,6 +9,7 @@ use Rattle.std.specs.List.{list_all}
 use Rattle.link_model.specs.Places.{Answered}
 use Rattle.link_reception.specs.Exchanging.{Exchange, Proposed, Fetched, exchanged, all_exchanged, not_at, out_at, takes_done, back_from}
 use Rattle.link_reception.specs.Receptions.{SliceOut, Reception}
+use Rattle.link_reception.proofs.OutKept.{takes_done-out}
 use Rattle.slice_exchange.specs.Calls.{out_exchanged}
 use Rattle.std.proofs.lemmas.Option.{slice_get_past}
 use Rattle.std.specs.Option.{option_map}
@@ -66,10 +67,6 @@ at_test place x false e = inr (ap not e)
 asked_first : (place : ℕ) (rest : List ℕ) (x : SliceOut) → eqb place x.place ≡ true
     → is_asked (place ∷ rest) x ≡ true
 asked_first place rest x e = rw e refl
-
-pub takes_done-out : (r : Reception) (done : Answered) → (takes_done r done).out ≡ r.out
-unfolding takes_done
-takes_done-out r done = grind arith
 
 pub exchanged-out : (r : Reception) (e : Exchange) → (exchanged r e).out ≡ out_exchanged r.out e
 exchanged-out r (Proposed job None) = refl

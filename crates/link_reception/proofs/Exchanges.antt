@@ -26,12 +26,3 @@ both_decodings (d ∷ ds) es all more = (all.0, both_decodings ds es all.1 more)
 pub decodings_then : (xs ys : List Exchange) → AreDecodings (dones_in xs)
     → AreDecodings (dones_in ys) → AreDecodings (dones_in (xs ++ ys))
 decodings_then xs ys all more = grind (arith, both_decodings, dones_then)
-
--- ---- what they leave
-
-pub record IsLeft (old new : Reception) : Type 0 where
-  pub size : new.size ≡ old.size
-  pub standing : new.standing ≡ old.standing
-  pub counts : new.counts ≡ old.counts
-  pub field : new.field ≡ old.field
-  pub ended : new.has_ended ≡ old.has_ended

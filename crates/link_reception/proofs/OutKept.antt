@@ -22,6 +22,11 @@ use Rattle.link_reception.proofs.Followed.{opened_same}
 use Rattle.link_reception.proofs.DatagramJobs.{only_jobs}
 use Rattle.link_reception.proofs.SessionPictures.{job_stays}
 
+-- an answer that is taken leaves what is out
+pub takes_done-out : (r : Reception) (done : Answered) → (takes_done r done).out ≡ r.out
+unfolding takes_done
+takes_done-out r done = grind arith
+
 module _ (size : ℕ) (hs : List HeardSession) where
   abbrev IsKeptSlice : ℕ → ℕ → Type 0
   IsKeptSlice n i = is_some (kept_job size hs n i) ≡ true
@@ -40,10 +45,6 @@ module _ (size : ℕ) (hs : List HeardSession) where
 
   -- ---- calls to the places
 
-  done_out : (r : Reception) (done : Answered) → (takes_done r done).out ≡ r.out
-  unfolding takes_done
-  done_out r done = grind arith
-
   pub exchanges_kept : (jobs : List Job)
       → ((job : Job) → is_job_among jobs job ≡ true → IsKeptSlice job.number job.index)
       → (xs : List Exchange) (r : Reception) → AreOutKept size hs r.out → ArePutsOf jobs xs
@@ -58,7 +59,7 @@ module _ (size : ℕ) (hs : List HeardSession) where
       exchanges_kept jobs each xs r kept offers
   exchanges_kept jobs each (Fetched place (Some done) ∷ xs) r kept offers =
       exchanges_kept jobs each xs (takes_done (back_from r place) done)
-      (subst (AreOutKept size hs) (sym (done_out (back_from r place) done))
+      (subst (AreOutKept size hs) (sym (takes_done-out (back_from r place) done))
       (kept_filter (not_at place) r.out kept)) offers
 
   -- ---- releases

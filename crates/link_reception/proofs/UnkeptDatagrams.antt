@@ -30,7 +30,7 @@ use Rattle.link_reception.specs.Standing.{last_past, leaves_pictures, LeavesBook
 use Rattle.link_reception.proofs.JudgedOutcomes.{resting_stands, opens_same, judged_is}
 use Rattle.link_reception.proofs.OfferedJobs.{other_parts, closed_later, later}
 
-its_part : (n : ℕ) (part : Part)
+pub its_part : (n : ℕ) (part : Part)
     → parts_of n (record { number = n; part = part } ∷ []) ≡ part ∷ []
 unfolding parts_of
 its_part n part = ap (λ (b : Bool). map (λ (e : Numbered). e.part)
@@ -102,12 +102,8 @@ module _ (w : Window) (p : WindowPast) (stands : StandsForPast w p) (runs : p.is
       sym (ap (λ (b : Book). cond (not ((p.is_ended || is_closed p.size p.entries n)
       && is_low n)) (Some b) None) (same_books n)) ∙ e in
       by_opened (is_opened p.entries n) refl kept
-      (some_is (not ((p.is_ended || is_closed p.size p.entries n) && is_low n)) before book kept)
+      (cond_some (not ((p.is_ended || is_closed p.size p.entries n) && is_low n)) before book kept).1
     where
-      some_is : (b : Bool) (x y : Book) → cond b (Some x) None ≡ Some y → x ≡ y
-      some_is true x y e = same_Some x y e
-      some_is false x y e = absurd (none-some y e)
-
       by_opened : (was : Bool) → is_opened p.entries n ≡ was
           → cond (not ((p.is_ended || is_closed p.size p.entries n) && is_low n))
           (Some (book_of p.sequence (parts_of n p.entries))) None ≡ Some book

@@ -28,9 +28,6 @@ module _ (s : Sending) where
   same_content a b picture (SlicesContent run) same = ap (λ h. run_value s (head_with picture h) run) same
   same_content a b picture EndContent same = ap (λ h. End h) same
 
-  low_half : (a b : ℕ) → a % 2 ^ 32 ≡ b % 2 ^ 32 → a % 2 ^ 16 ≡ b % 2 ^ 16
-  low_half a b same = omega (arith, same)
-
   abbrev datagram_of : Outgoing → ℕ → PayloadValue → List ℕ
   datagram_of o sequence value = rtp_header (record {
     marker = has_marker s o.content;
@@ -46,7 +43,8 @@ module _ (s : Sending) where
   unfolding sent_datagram sent_packet sent_value
   same_datagram a b o same =
       let value = same_content a b o.picture o.content (ap (λ n. n / 2 ^ 16) same) in
-      λ i. datagram_of o (low_half a b same i) (value i)
+      let low : a % 2 ^ 16 ≡ b % 2 ^ 16 = omega (arith, same) in
+      λ i. datagram_of o (low i) (value i)
 
   -- numbers that are the same modulo 2 ^ 32 give the same datagrams
   pub wrapped : (a b : ℕ) (os : List Outgoing) → a % 2 ^ 32 ≡ b % 2 ^ 32 → datagrams_from s a os ≡ datagrams_from s b os

@@ -22,12 +22,3 @@ passed limit i samples h small = grind (arith, nat_tests, at_place)
 pub ended : (limit i : ℕ) (samples : List ℕ) → length samples ≤ i → first_outside limit i (drop i samples) ≡ None
 unfolding first_outside
 ended limit i samples h = ap (first_outside limit i) (drop_all i samples h)
-
--- where all are below, there is none
-pub none_outside : (limit place : ℕ) (samples : List ℕ) → All (λ s. s < limit) samples
-    → first_outside limit place samples ≡ None
-unfolding first_outside
-none_outside limit place [] all = refl
-none_outside limit place (sample ∷ samples) all =
-    rw (lt-ltb sample limit (All-head (λ s. s < limit) sample samples all))
-    (none_outside limit (place + 1) samples (All-tail (λ s. s < limit) sample samples all))

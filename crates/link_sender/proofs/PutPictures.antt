@@ -19,6 +19,7 @@ use Rattle.link_sender.specs.Packing.{ArePacked, HasSlices, Sends, run_of, runs_
 use Rattle.link_sender.specs.Sent.{IsPicture, coded_frame_outgoing, coded_outgoing, coded_pictures_outgoing, slices_by_picture, second_pictures}
 use Rattle.link_sender.proofs.Numbered.{sends_more}
 use Rattle.link_sender.proofs.Packed.{all_packed}
+use Rattle.sent_counts.proofs.SentBytes.{datagrams_count}
 use Rattle.picture_encode.specs.declared.slices.EncodedSlice.{EncodedSlice}
 use Rattle.picture_encode.specs.Encoded.{IsSized, slice_bytes}
 use Rattle.vc_types.specs.Bits.{digit_of}
@@ -86,12 +87,8 @@ module _ (s : Sending) (coded : FrameSlices) where
 -- ---- the numbers behind a frame
 
 module _ (s : Sending) where
-  how_many : (n : ℕ) (more : List Outgoing) → length (datagrams_from s n more) ≡ length more
-  unfolding datagrams_from
-  how_many n more = length-map (enumerate_from n more) (λ z. sent_datagram s z.0 z.1) ∙ length-enumerate_from n more
-
   pub number_behind : (more : List Outgoing) (x y : Outbox) → x.datagrams.items ≡ [] → Sends s more x y → y.number ≡ (x.number + length y.datagrams.items) % 2 ^ 32
-  number_behind more x y none sends = grind (arith, common_steps, length-map, how_many)
+  number_behind more x y none sends = grind (arith, common_steps, length-map, datagrams_count)
 
   pub last_timestamp : (f time : ℕ) → time ≡ timestamp_of s (f * pictures_per_frame s + digit_of s.frames.fields) → time ≡ timestamp_of s (f * pictures_per_frame s + (pictures_per_frame s - 1))
   last_timestamp f time is = grind (arith, common_steps)

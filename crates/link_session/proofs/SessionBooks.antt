@@ -6,7 +6,7 @@ use Rattle.std.specs.Prelude.{◌⊎◌, ◌&&◌, not, nat_le, nat_lt}
 use Rattle.std.specs.List.{cons_option}
 use Rattle.std.specs.Option.{option_or}
 use Rattle.std.proofs.lemmas.Bool.{cases_Bool, eq-eqb, leb-true}
-use Rattle.std.proofs.lemmas.Option.{same_Some, none-some, slice_get_past}
+use Rattle.std.proofs.lemmas.Option.{cond_some, same_Some, none-some, slice_get_past}
 use Rattle.link_model.specs.Books.{Gathered, Book, book_of, book_by, gathered_of}
 use Rattle.link_model.specs.Kept.{Own, own, own_slice, SliceRun, first_copy, first_slice, has_form}
 use Rattle.link_model.specs.Kept.{next_slices, run_from, run_taken, slice_in, slice_run}
@@ -22,6 +22,7 @@ use Rattle.link_model.proofs.Slots.{or_none, next_slices-count}
 use Rattle.link_model.proofs.Windowing.{number_of_window}
 use Rattle.link_model.proofs.WindowStands.{running_is, enters_stands, book_is}
 use Rattle.link_reception.specs.WholeBooks.{IsWholeBook}
+use Rattle.link_reception.proofs.UnkeptDatagrams.{its_part}
 use Rattle.link_reception.proofs.WholeBooks.{book_is_whole}
 use Rattle.link_session.specs.Missing.{part_range}
 use Rattle.link_session.proofs.OfferedJobs.{IsOutside, StaysBut, Stays}
@@ -44,14 +45,10 @@ module _ (s : Sequence) where
 
 -- ---- the books of a window
 
-if_needed : (needed : Bool) (x b : Book) → cond needed (Some x) None ≡ Some b → x ≡ b
-if_needed true x b e = same_Some x b e
-if_needed false x b e = absurd (none-some b e)
-
 module _ (w : Window) (p : WindowPast) (stands : StandsForPast w p) where
   -- it is the book of the picture's parts
   book_parts : (n : ℕ) (b : Book) → book_at w.books n ≡ Some b → book_of p.sequence (parts_of n p.entries) ≡ b
-  book_parts n b is = if_needed _ (book_of p.sequence (parts_of n p.entries)) b (sym (book_is w p stands n) ∙ is)
+  book_parts n b is = (cond_some _ (book_of p.sequence (parts_of n p.entries)) b (sym (book_is w p stands n) ∙ is)).1
 
   pub window_book_whole : (n : ℕ) (b : Book) → book_at w.books n ≡ Some b → IsWholeBook p.sequence b
   window_book_whole n b is = subst (IsWholeBook p.sequence) (book_parts n b is) (book_is_whole p.sequence (parts_of n p.entries) (book_of p.sequence (parts_of n p.entries)) refl)
@@ -112,11 +109,6 @@ module _ (kept : Own) (i : ℕ) where
 
 -- ---- a fragment more
 
--- the parts of a picture, and of those that come the one that comes
-part_of : (n : ℕ) (part : Part) → parts_of n (record { number = n; part = part } ∷ []) ≡ part ∷ []
-unfolding parts_of
-part_of n part = ap (λ (b : Bool). map (λ (e : Numbered). e.part) (cond b (record { number = n; part = part } ∷ []) [])) (eq-eqb n n refl)
-
 module _ (base size : ℕ) (es : List Numbered) (f : Fragment) where
   one_more : (n : ℕ) → picture_number base es f.number ≡ n → (more : List Part) × (parts_of n (enters base size es f) ≡ parts_of n es ++ more) × IsPart f.part more
   one_more n is = elim (cases_Bool (is_late size es (picture_number base es f.number))) [
@@ -124,7 +116,7 @@ module _ (base size : ℕ) (es : List Numbered) (f : Fragment) where
     | inr early ↦ (
       parts_of n (record { number = picture_number base es f.number; part = f.part } ∷ []),
       ap (parts_of n) (early_enters base size es f early) ∙ parts_of-append n es (record { number = picture_number base es f.number; part = f.part } ∷ []),
-      inr (ap (λ k. parts_of n (record { number = k; part = f.part } ∷ [])) is ∙ part_of n f.part),
+      inr (ap (λ k. parts_of n (record { number = k; part = f.part } ∷ [])) is ∙ its_part n f.part),
     )
   ]
 

@@ -8,7 +8,8 @@ use Rattle.vc_types.specs.Lifting.{line_of}
 use Rattle.vc_types.specs.Quantisation.{subband_count}
 use Rattle.vc_types.specs.Subbands.{area, place_in, slice_count, slice_coefficient_count, coefficient_place, padded_width, padded_height}
 use Rattle.vc_types.specs.TransformParameters.{Parameters}
-use Rattle.picture_build.proofs.Placements.{place-inside, places-apart}
+use Rattle.vc_geometry.proofs.CoefficientPlaces.{place-inside}
+use Rattle.picture_build.proofs.Placements.{places-apart}
 use Rattle.vc_types.proofs.RectangleCells.{same_place}
 use Rattle.vc_types.proofs.RectangleWalk.{rectangle, walked, walked-below}
 use Rattle.vc_types.proofs.SliceRectangles.{coefficients_before, coefficients_before-more, coefficients_before-all}
@@ -31,15 +32,15 @@ module _ (p : Parameters) (c : Component) where
     kept_apart s i t j hs hi ht hj e =
         let a = coefficient_place p c s i in
         let b = coefficient_place p c t j in
-        let first = place-inside p c some_across some_down s i hs hi in
-        let second = place-inside p c some_across some_down t j ht hj in
+        let first = place-inside p c some_across s i hs hi in
+        let second = place-inside p c some_across t j ht hj in
         let same = same_from_place a.1 a.0 b.1 b.0 (padded_width p c) first.0 second.0 e in
         places-apart p c some_across some_down s i t j hs hi ht hj (same_place a.0 a.1 b.0 b.1 same.1 same.0)
 
     -- each coefficient has a cell
     pub kept_inside : (s i : ℕ) → s < slice_count p → i < slice_coefficient_count p c s → kept_at p c s i < padded_height p c * padded_width p c
     kept_inside s i hs hi =
-        let inside = place-inside p c some_across some_down s i hs hi in
+        let inside = place-inside p c some_across s i hs hi in
         let below = mul-add-lt (coefficient_place p c s i).1 (padded_width p c) (coefficient_place p c s i).0 (padded_height p c) inside.1 inside.0 in
         omega (arith, below)
 

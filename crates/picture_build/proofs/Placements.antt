@@ -5,30 +5,19 @@ use Rattle.std.proofs.lemmas.Bool.{cases_Bool, and_parts, ltb-true}
 use Rattle.vc_types.specs.declared.video.Component.{Component}
 use Rattle.vc_types.specs.Subbands.{slice_count, slice_rectangles, slice_coefficient_count, coefficient_place, padded_width, padded_height}
 use Rattle.vc_types.specs.TransformParameters.{Parameters}
-use Rattle.vc_types.proofs.PlacesMet.{met_once, count-outside}
-use Rattle.vc_types.proofs.RectangleLists.{none_numbered}
+use Rattle.vc_types.proofs.PlacesMet.{met_once}
+use Rattle.vc_geometry.proofs.CoefficientPlaces.{place-inside}
 
 -- ---- places
 
 module _ (p : Parameters) (c : Component) (some_across : 0 < p.slices_x) (some_down : 0 < p.slices_y) where
-  -- a slice's coefficient stands inside the padded grid
-  pub place-inside : (s i : ℕ) → s < slice_count p → i < slice_coefficient_count p c s → ((coefficient_place p c s i).0 < padded_width p c) × ((coefficient_place p c s i).1 < padded_height p c)
-  unfolding slice_coefficient_count coefficient_place
-  place-inside s i h below =
-      let x = (coefficient_place p c s i).0 in
-      let y = (coefficient_place p c s i).1 in
-      elim (cases_Bool (nat_lt x (padded_width p c) && nat_lt y (padded_height p c))) [
-        | inl t ↦ (let parts = and_parts (nat_lt x (padded_width p c)) (nat_lt y (padded_height p c)) t in (ltb-true x (padded_width p c) parts.0, ltb-true y (padded_height p c) parts.1))
-        | inr f ↦ absurd (none_numbered (slice_rectangles p c s) x y (count-outside p c x y some_across s h f) i below refl)
-      ]
-
   -- no two coefficients have one place
   pub places-apart : (s i t j : ℕ) → s < slice_count p → i < slice_coefficient_count p c s → t < slice_count p → j < slice_coefficient_count p c t
       → coefficient_place p c s i ≡ coefficient_place p c t j → (s ≡ t) × (i ≡ j)
   places-apart s i t j hs hi ht hj e =
       let x = (coefficient_place p c t j).0 in
       let y = (coefficient_place p c t j).1 in
-      let inside = place-inside t j ht hj in
+      let inside = place-inside p c some_across t j ht hj in
       let once = met_once p c x y some_across some_down inside.0 inside.1 in
       let first = once.only s i hs hi e in
       let second = once.only t j ht hj refl in

@@ -8,7 +8,8 @@ use Rattle.vc_types.specs.Pictures.{placed, all_placed, standing_at, component_c
 use Rattle.vc_types.specs.Slices.{Coefficients, coefficients_of}
 use Rattle.vc_types.specs.Subbands.{Place, slice_count, slice_coefficient_count, coefficient_place, padded_width, padded_height, IsMetOnce}
 use Rattle.vc_types.specs.TransformParameters.{Parameters}
-use Rattle.picture_build.proofs.Placements.{place-inside, places-apart}
+use Rattle.vc_geometry.proofs.CoefficientPlaces.{place-inside}
+use Rattle.picture_build.proofs.Placements.{places-apart}
 use Rattle.vc_types.proofs.RectangleCells.{same_place}
 
 -- ---- items in a list
@@ -80,7 +81,7 @@ module _ (p : Parameters) (c : Component) (some_across : 0 < p.slices_x) (some_d
     standing-none (s ∷ slices) m room whole outside =
         let own : length (coefficients_of s c) ≡ slice_coefficient_count p c m = whole 0 (omega arith) ∙ ap (slice_coefficient_count p c) (omega arith) in
         passed (coefficient_place p c m) x y (coefficients_of s c) 0 (placed_from (m + 1) slices)
-        (λ k g other. (let inside = place-inside p c some_across some_down m k (omega arith) (omega (arith, own)) in
+        (λ k g other. (let inside = place-inside p c some_across m k (omega arith) (omega (arith, own)) in
         let column = ap (λ (q : Place). q.0) other in
         let row = ap (λ (q : Place). q.1) other in
         both_ways (nat_lt x (padded_width p c) && nat_lt y (padded_height p c)) outside

@@ -138,8 +138,8 @@ impl PictureBuilder {
     pub fn put(&mut self, index: u32, bytes: &[u8]) -> Result<(), NotPut>
         requires in_plan { index < slice_count self.old.parameters }
         requires once { slice_that_came self.old index ≡ None }
-        requires whole { slice_length self.old.parameters.prefix self.old.parameters.scaler bytes.now
-            ≡ Some (length bytes.now) }
+        requires whole { slice_length self.old.parameters.prefix self.old.parameters.scaler
+            bytes.now ≡ Some (length bytes.now) }
         ensures value { Puts (slice_coefficients self.old.parameters index bytes.now) index
             self.old self.new result }
     {

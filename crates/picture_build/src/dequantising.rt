@@ -99,61 +99,17 @@ fn put_row(
     ensures length { length cells.new ≡ length cells.old }
 {
     if width <= 8 {
-        put_few(cells, at, numbers, from, width, quantiser);
+        // All numbers are read before a coefficient is written, so that they go over at once.
+        let mut few = [0; 8];
+        for x in 0..width {
+            few[x] = quantiser.dequant(numbers[from + x]);
+        }
+        for x in 0..width {
+            cells[at + x] = few[x];
+        }
     } else {
-        put_many(cells, at, numbers, from, width, quantiser);
-    }
-}
-
-// All numbers are read before a coefficient is written, so that they go over at once.
-#[inline(always)]
-fn put_few(
-    cells: &mut [i32],
-    at: usize,
-    numbers: &[i32],
-    from: usize,
-    width: usize,
-    quantiser: &NarrowQuantiser,
-)
-    requires few { width ≤ 8 }
-    requires at { at + width ≤ length cells.old }
-    requires from { from + width ≤ length numbers.now }
-    requires small { (x : ℕ) → x < width
-        → unsigned_abs (line_of numbers.now (from + x)) ≤ quantiser.now.greatest }
-    ensures on { (x : ℕ) → x < width → line_of cells.new (at + x)
-        ≡ dequantised (line_of numbers.now (from + x)) quantiser.now.index }
-    ensures off { (k : ℕ) → (k < at) ⊎ (at + width ≤ k)
-        → line_of cells.new k ≡ line_of cells.old k }
-    ensures length { length cells.new ≡ length cells.old }
-{
-    let mut few = [0; 8];
-    for x in 0..width {
-        few[x] = quantiser.dequant(numbers[from + x]);
-    }
-    for x in 0..width {
-        cells[at + x] = few[x];
-    }
-}
-
-fn put_many(
-    cells: &mut [i32],
-    at: usize,
-    numbers: &[i32],
-    from: usize,
-    width: usize,
-    quantiser: &NarrowQuantiser,
-)
-    requires at { at + width ≤ length cells.old }
-    requires from { from + width ≤ length numbers.now }
-    requires small { (x : ℕ) → x < width
-        → unsigned_abs (line_of numbers.now (from + x)) ≤ quantiser.now.greatest }
-    ensures on { (x : ℕ) → x < width → line_of cells.new (at + x)
-        ≡ dequantised (line_of numbers.now (from + x)) quantiser.now.index }
-    ensures off { (k : ℕ) → (k < at) ⊎ (at + width ≤ k)
-        → line_of cells.new k ≡ line_of cells.old k }
-    ensures length { length cells.new ≡ length cells.old }
-{
-    for x in 0..width {
-        cells[at + x] = quantiser.dequant(numbers[from + x]);
+        for x in 0..width {
+            cells[at + x] = quantiser.dequant(numbers[from + x]);
+        }
     }
 }

@@ -5,8 +5,7 @@ use Rattle.std.specs.List.{range_with_len, list_any}
 use Rattle.std.proofs.lemmas.Bool.{cases_lt, cases_Bool, and_parts, ltb-true}
 use Rattle.std.proofs.lemmas.Bool.Decides.{nat_tests}
 use Rattle.std.proofs.Math.ListN.{get_or-eq_default}
-use Rattle.vc_types.proofs.PlacesMet.{count-outside}
-use Rattle.vc_types.proofs.RectangleLists.{none_numbered}
+use Rattle.vc_geometry.proofs.CoefficientPlaces.{place-inside}
 use Rattle.std.proofs.lemmas.List.Elements.{All-get_or}
 use Rattle.std.proofs.lemmas.List.FromFn.{length-map-range_with_len}
 use Rattle.link_model.specs.SendingPictures.{number_in, numbers_in_slice, sent_coefficients, sent_cells}
@@ -82,21 +81,11 @@ are_coefficients p slice g h = record {
 -- ---- the same of the coefficients of planes
 
 module _ (p : Parameters) (c : Component) (some_across : 0 < p.slices_x) where
-  inside : (s i : ℕ) → s < slice_count p → i < slice_coefficient_count p c s → ((coefficient_place p c s i).0 < padded_width p c) × ((coefficient_place p c s i).1 < padded_height p c)
-  unfolding slice_coefficient_count coefficient_place
-  inside s i h below =
-      let x = (coefficient_place p c s i).0 in
-      let y = (coefficient_place p c s i).1 in
-      elim (cases_Bool (nat_lt x (padded_width p c) && nat_lt y (padded_height p c))) [
-        | inl t ↦ (let parts = and_parts (nat_lt x (padded_width p c)) (nat_lt y (padded_height p c)) t in (ltb-true x (padded_width p c) parts.0, ltb-true y (padded_height p c) parts.1))
-        | inr f ↦ absurd (none_numbered (slice_rectangles p c s) x y (count-outside p c x y some_across s h f) i below refl)
-      ]
-
   numbers_are : (planes : Planes) (g : ComponentGrid) (slice : ℕ) → slice < slice_count p → HasCoefficients p c planes g → numbers_in_slice p c (cells_of p c g) slice ≡ numbers_in_slice p c (sent_cells p planes c) slice
   unfolding numbers_in_slice
   numbers_are planes g slice h has =
       range_same (pos 0) (λ i. number_in (cells_of p c g) (coefficient_place p c slice i)) (λ i. number_in (sent_cells p planes c) (coefficient_place p c slice i)) (slice_coefficient_count p c slice)
-      (λ i below. let within = inside slice i h below in has.cells (coefficient_place p c slice i).0 (coefficient_place p c slice i).1 within.0 within.1)
+      (λ i below. let within = place-inside p c some_across slice i h below in has.cells (coefficient_place p c slice i).0 (coefficient_place p c slice i).1 within.0 within.1)
 
 pub coefficients_are : (p : Parameters) (planes : Planes) (g : PictureGrids) (slice : ℕ) → 0 < p.slices_x → slice < slice_count p → HaveCoefficients p planes g → slice_in_grids p g slice ≡ sent_coefficients p planes slice
 unfolding sent_coefficients

@@ -130,11 +130,6 @@ module _ (packets number : ℕ) (input : InputChange) (output : OutputChange) (m
     unit_untaken taking.NoMemory new same = without_memory (takes h.stream u) refl same
 
 -- ---- the answer
-
--- a byte was asked for, and none came
-pub none_of : (bytes : List ℕ) (n : ℕ) → length bytes ≡ 1 → n < length bytes → take n bytes ≡ []
-none_of bytes n one less = grind (arith, common_steps)
-
 module _ (packets : ℕ) (input : InputChange) (output : OutputChange) where
   -- the stream ended
   pub plays_whole : (h : StreamSoFar) (summary : Summary) → UnitsHaveEnded packets input.left.before input.left.after output.held.before output.held.after h

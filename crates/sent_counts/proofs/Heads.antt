@@ -24,17 +24,11 @@ use Rattle.vc_types.specs.ParameterSpelling.{coded_unless, encoder_parameters, n
 use Rattle.vc_types.specs.SenderSettings.{Sending, sending_view}
 use Rattle.vc_types.specs.SequenceHeader.{Sequence}
 use Rattle.vc_types.specs.TransformParameters.{Parameters, parameters_of}
+use Rattle.link_model.proofs.SentHeads.{between}
 use Rattle.vc_types.proofs.Matrices.{matrix_fits-take}
 use Rattle.vc_types.proofs.WrittenParameters.{IsPlan}
 
 -- ---- the sequence header
-
-pub record IsBetween (low high number : ℕ) : Type 0 where
-  pub least : low ≤ number
-  pub most : number ≤ high
-
-pub between : (low high number : ℕ) → IsTrue (nat_le low number && nat_le number high) → IsBetween low high number
-between low high number fits = grind arith
 
 encoder_form : (settings : SendSettings) → IsEncoderHeader (sent_sequence (sending_view settings))
 unfolding sent_sequence

@@ -3,7 +3,7 @@ use Rattle.std.proofs.Common.{◌≡◌, ℕ, zero, suc, ◌+◌, ◌-◌, ◌*�
 use Rattle.std.specs.Prelude.{All, nat_le, not}
 use Rattle.std.specs.List.{flat_map, range_with_len, sum_by}
 use Rattle.std.specs.Option.{option_map, option_or}
-use Rattle.std.proofs.lemmas.Bool.{leb-true}
+use Rattle.std.proofs.lemmas.Bool.{leb-true, lt-ltb}
 use Rattle.std.proofs.lemmas.Bool.Decides.{nat_tests}
 use Rattle.std.proofs.lemmas.Grind.{common_steps}
 use Rattle.std.proofs.lemmas.List.{get_or_past, length-append}
@@ -45,6 +45,15 @@ none_first (Some x) b h = h
 pub none_second : (a b : Option SendFault) → option_or a b ≡ None → b ≡ None
 none_second None b h = h
 none_second (Some x) b h = absurd (none-some x (sym h))
+
+-- where all samples are below the limit, none is outside
+pub none_outside : (limit place : ℕ) (samples : List ℕ) → All (λ s. s < limit) samples
+    → first_outside limit place samples ≡ None
+unfolding first_outside
+none_outside limit place [] all = refl
+none_outside limit place (sample ∷ samples) all =
+    rw (lt-ltb sample limit (All-head (λ s. s < limit) sample samples all))
+    (none_outside limit (place + 1) samples (All-tail (λ s. s < limit) sample samples all))
 
 pub unmapped : {A B : Type 0} (f : A → B) (o : Option A) → option_map f o ≡ None → o ≡ None
 unmapped f None h = refl

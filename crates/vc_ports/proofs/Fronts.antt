@@ -1,5 +1,6 @@
 -- The front of a list and what is behind it.
-use Rattle.std.proofs.Common.{◌≡◌, ℕ, ◌+◌, List, ◌++◌, length, take, drop, sym, ap, ◌∙◌, take-append-drop}
+use Rattle.std.proofs.Common.{◌≡◌, ℕ, ◌+◌, ◌<◌, List, [], ◌++◌, length, take, drop, sym, ap, ◌∙◌, arith, take-append-drop}
+use Rattle.std.proofs.lemmas.Grind.{common_steps}
 use Rattle.std.proofs.lemmas.List.{drop-drop}
 use Rattle.std.proofs.Math.Seq.{take-length}
 
@@ -10,3 +11,7 @@ front_and_rest {A = A} at n xs = ap (λ (rest : List A). take n (drop at xs) ++ 
 -- the front as long as the list is the list
 pub take_whole : {A : Type 0} (xs : List A) → take (length xs) xs ≡ xs
 take_whole xs = take-length xs
+
+-- a front that is shorter than the one element of a list is nothing
+pub none_of_one : {A : Type 0} (xs : List A) (n : ℕ) → length xs ≡ 1 → n < length xs → take n xs ≡ []
+none_of_one xs n one short = grind (arith, common_steps)

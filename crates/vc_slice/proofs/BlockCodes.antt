@@ -4,7 +4,7 @@ use Rattle.std.specs.Prelude.{slice_index_or, map, ◌||◌}
 use Rattle.std.specs.List.{flat_map, list_any, zip}
 use Rattle.std.proofs.lemmas.List.{length-replicate, take-append-drop}
 use Rattle.std.proofs.lemmas.List.Folds.{list_any-append}
-use Rattle.std.proofs.lemmas.Bool.{cases_eq}
+use Rattle.std.proofs.lemmas.Bool.{cases_eq, ne_eqb}
 use Rattle.std.proofs.lemmas.Bool.Decides.{nat_tests}
 use Rattle.std.proofs.lemmas.Grind.{replicate_next}
 use Rattle.vc_types.specs.declared.video.Component.{Component}
@@ -20,16 +20,13 @@ use Rattle.vc_slice.proofs.BlockCoefficients.{quantisers_from, quantisers_from-a
 
 -- ---- zeros wait for a number that isn't 0
 
-not_zero : (n : ℕ) → 0 < n → eqb n 0 ≡ false
-not_zero n some = grind (arith, nat_tests)
-
 pub behind_zero : (n : ℕ) (z : ℤ) (zs : List ℤ) → unsigned_abs z ≡ 0 → codes_behind n (z ∷ zs) ≡ codes_behind (n + 1) zs
 unfolding codes_behind
 behind_zero n z zs none = rw none refl
 
 pub behind_other : (n : ℕ) (z : ℤ) (zs : List ℤ) → 0 < unsigned_abs z → codes_behind n (z ∷ zs) ≡ replicate n true ++ sint_bits z ++ codes_behind 0 zs
 unfolding codes_behind
-behind_other n z zs some = rw (not_zero (unsigned_abs z) some) refl
+behind_other n z zs some = rw (ne_eqb (unsigned_abs z) 0 (omega (arith, some))) refl
 
 pub length_other : (n : ℕ) (z : ℤ) (zs : List ℤ) → 0 < unsigned_abs z → length (codes_behind n (z ∷ zs)) ≡ n + (length (sint_bits z) + length (codes_behind 0 zs))
 length_other n z zs some = grind (arith, length-append, length-replicate, behind_other)
@@ -59,7 +56,7 @@ one_waits n z (x ∷ xs) none =
     ∙ ap (λ (bits : List Bool). replicate n true ++ (bits ++ flat_map sint_bits (x ∷ xs))) (zero_code z none)
 
 pub kept_other : (z : ℤ) (zs : List ℤ) → 0 < unsigned_abs z → kept_before zs z ≡ z ∷ zs
-kept_other z [] some = rw (not_zero (unsigned_abs z) some) refl
+kept_other z [] some = rw (ne_eqb (unsigned_abs z) 0 (omega (arith, some))) refl
 kept_other z (x ∷ xs) some = refl
 
 other_waits : (n : ℕ) (z : ℤ) (zs : List ℤ) → 0 < unsigned_abs z → replicate n true ++ sint_bits z ++ after_zeros 0 zs ≡ after_zeros n (kept_before zs z)

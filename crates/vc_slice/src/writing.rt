@@ -44,33 +44,14 @@ pub(crate) fn codes_of(
         CoefficientList::Narrow(numbers) => {
             narrow_codes(alloc, plan, c, slice, numbers, index, rects)
         }
-        CoefficientList::Wide(_) => wide_codes(alloc, plan, c, slice, coeffs, index, rects),
+        CoefficientList::Wide(_) => {
+            // Most codes have fewer bits than a byte.
+            let mut w = BitWriter::with_room(alloc, coeffs.component(c).len())?;
+            write_codes(&mut w, plan, c, slice, coeffs, index, rects)?;
+            w.align(true)?;
+            Ok(w.finish())
+        }
     }
-}
-
-// The same one by one, however wide the coefficients are.
-fn wide_codes(
-    alloc: Global,
-    plan: &Plan,
-    c: Component,
-    slice: u32,
-    coeffs: &SliceCoeffs,
-    index: u8,
-    rects: &[Rect],
-) -> Result<Vec<u8>, NoMemory>
-    requires slice { slice < slice_count (parameters_of plan.now) }
-    requires coefficients { AreSliceCoefficients (parameters_of plan.now) slice coeffs.now }
-    requires index { index ≤ 127 }
-    requires rects { AreSliceRectangles (parameters_of plan.now) c slice rects.now }
-    requires all { subband_count plan.now.depth_ho plan.now.depth ≤ length rects.now }
-    ensures { IfOk result (λ bytes. bits_of bytes.items
-        ≡ up_to_bytes (component_bits (parameters_of plan.now) slice index coeffs.now c)) }
-{
-    // Most codes have fewer bits than a byte.
-    let mut w = BitWriter::with_room(alloc, coeffs.component(c).len())?;
-    write_codes(&mut w, plan, c, slice, coeffs, index, rects)?;
-    w.align(true)?;
-    Ok(w.finish())
 }
 
 // Adds the codes of a component's numbers, up to the last that isn't 0.

@@ -57,7 +57,8 @@ fn weave_samples(
     requires small { shifted ≡ true → (k : ℕ) → k < 2 * half
         → unsigned_abs (line_of cells.now (start + k)) + 1 < 2 ^ 31 }
     ensures on { (k : ℕ) → k < format.columns → slice_index_or samples.new (at + k) 0
-        ≡ output_sample format.depth (shifted_down shifted (line_of cells.now (start + half_place half k))) }
+        ≡ output_sample format.depth
+        (shifted_down shifted (line_of cells.now (start + half_place half k))) }
     ensures off { (i : ℕ) → (i < at) ⊎ (at + format.columns ≤ i)
         → slice_index_or samples.new i 0 ≡ slice_index_or samples.old i 0 }
 {

@@ -5,7 +5,8 @@ use Rattle.link_report.specs.declared.ending.Ending.{Ending}
 use Rattle.vc_ports.specs.Changes.{changed, input_of, output_of}
 use Rattle.vc_ports.specs.Reading.{Gave, GaveAll}
 use Rattle.decode_command.specs.Hearing.{HeardAll}
-use Rattle.decode_command.proofs.Behind.{at_edge, could_not_read, past_limit, hearing_broke, none_of}
+use Rattle.vc_ports.proofs.Fronts.{none_of_one}
+use Rattle.decode_command.proofs.Behind.{at_edge, could_not_read, past_limit, hearing_broke}
 use Rattle.decode_command.proofs.command.hear.Goals as goal
 
 pub returns-in_err-hear_entries-clause-heard : goal.returns-in_err-hear_entries-clause-heard
@@ -35,7 +36,7 @@ pub returns-in-End-clause-heard : goal.returns-in-End-clause-heard
 returns-in-End-clause-heard g c = λ form window heard.
     let st = rw c.in-AtLimit.is at (c.in_ok-hear_entries.ensures.heard form window heard) in
     let fills = c.in-End.ensures.bytes in
-    let gave = subst (λ (bytes : List ℕ). GaveAll (g.S.Source.left c.hear_entries.new.input) (g.S.Source.left c.fill.new.source) bytes) (none_of c.fill.new.buf c.in-End.field-0 c.fill.auto.buf fills.0) fills.1 in
+    let gave = subst (λ (bytes : List ℕ). GaveAll (g.S.Source.left c.hear_entries.new.input) (g.S.Source.left c.fill.new.source) bytes) (none_of_one c.fill.new.buf c.in-End.field-0 c.fill.auto.buf fills.0) fills.1 in
     at_edge form window c.args.packets c.args.packets st.0 _ _ _ _ _ st.1 st.2 _ st.3 refl gave
 
 -- a failed read
@@ -43,5 +44,5 @@ pub returns-in-Failed-fill-clause-heard : goal.returns-in-Failed-fill-clause-hea
 returns-in-Failed-fill-clause-heard g c = λ form window heard.
     let st = rw c.in-AtLimit.is at (c.in_ok-hear_entries.ensures.heard form window heard) in
     let fills = c.in-Failed-fill.ensures.bytes in
-    let gave = subst (λ (bytes : List ℕ). Gave (g.S.Source.left c.hear_entries.new.input) (g.S.Source.left c.fill.new.source) bytes) (none_of c.fill.new.buf c.in-Failed-fill.field-0 c.fill.auto.buf fills.0) fills.1 in
+    let gave = subst (λ (bytes : List ℕ). Gave (g.S.Source.left c.hear_entries.new.input) (g.S.Source.left c.fill.new.source) bytes) (none_of_one c.fill.new.buf c.in-Failed-fill.field-0 c.fill.auto.buf fills.0) fills.1 in
     could_not_read form window c.args.packets c.args.packets st.0 _ _ _ _ _ st.1 st.2 _ st.3 refl [] gave (first_entry-stub [] (omega arith)) (inr refl)

@@ -5,7 +5,8 @@ use Rattle.frame_reader.specs.Reading.{GaveFrame, ReadsFrame}
 use Rattle.frame_sending.specs.Steps.{FailsAt, IsBehindFrames, FrameIsTaken}
 use Rattle.frame_sending.proofs.FrameSizes.{sized}
 use Rattle.frame_sending.proofs.Laws.{OutletLaws}
-use Rattle.frame_sending.proofs.LoopSteps.{failed_at, unread_at, more_than_one_byte, none_of, not_read}
+use Rattle.vc_ports.proofs.Fronts.{none_of_one}
+use Rattle.frame_sending.proofs.LoopSteps.{failed_at, unread_at, more_than_one_byte, not_read}
 use Rattle.frame_sending.proofs.Stopping.{begun, with_frame, could_not_read, past_limit}
 use Rattle.vc_ports.specs.Reading.{Gave, GaveAll}
 use Rattle.vc_types.specs.declared.shape.Shape.{Shape}
@@ -97,7 +98,7 @@ returns-in-End-clause-value g c =
       few = omega (arith, at.1, c.loop-frame-test.false, c.loop-frame.auto.frame-end);
       behind = at.2;
       sent = at.3;
-      end = subst (λ (bytes : List ℕ). GaveAll (g.S.Source.left c.loop-frame.input) (g.S.Source.left c.fill.new.source) bytes) (none_of c.fill.new.buf c.in-End.field-0 c.fill.auto.buf fills.0) fills.1;
+      end = subst (λ (bytes : List ℕ). GaveAll (g.S.Source.left c.loop-frame.input) (g.S.Source.left c.fill.new.source) bytes) (none_of_one c.fill.new.buf c.in-End.field-0 c.fill.auto.buf fills.0) fills.1;
     }
 
 pub returns-clause-value : goal.returns-clause-value
@@ -107,5 +108,5 @@ returns-clause-value g c =
     let at = c.loop-frame.invariant.sent in
     let fills = c.in-Failed.ensures.bytes in
     let long = subst (λ (shape : Shape). 1 < frame_length shape) c.requires.shape (more_than_one_byte c.args.shape.now c.requires.fits) in
-    let gave = subst (λ (bytes : List ℕ). Gave (g.S.Source.left c.loop-frame.input) (g.S.Source.left c.fill.new.source) bytes) (none_of c.fill.new.buf c.in-Failed.field-0 c.fill.auto.buf fills.0) fills.1 in
+    let gave = subst (λ (bytes : List ℕ). Gave (g.S.Source.left c.loop-frame.input) (g.S.Source.left c.fill.new.source) bytes) (none_of_one c.fill.new.buf c.in-Failed.field-0 c.fill.auto.buf fills.0) fills.1 in
     could_not_read laws s c.args.frames at.0 _ _ _ _ _ at.3 (g.met.O.Outlet.none _) [] (omega (arith, long)) gave (omega (arith, at.1, c.loop-frame.auto.frame-end)) (inr refl)

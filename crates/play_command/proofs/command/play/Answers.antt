@@ -4,7 +4,8 @@ use Rattle.vc_units.proofs.Infos.{data_unit-stub}
 use Rattle.play_command.specs.Looping.{summary_of}
 use Rattle.play_command.proofs.UnitsRead.{at_edge}
 use Rattle.play_command.proofs.Players.{summary_is}
-use Rattle.play_command.proofs.Stopping.{none_of, input_failed, past_limit, plays_whole, plays_part}
+use Rattle.vc_ports.proofs.Fronts.{none_of_one}
+use Rattle.play_command.proofs.Stopping.{input_failed, past_limit, plays_whole, plays_part}
 use Rattle.play_command.proofs.command.play.Goals as goal
 
 -- the units ended
@@ -24,7 +25,7 @@ pub returns-in-End : goal.returns-in-End
 returns-in-End g c =
     let played = rw c.in-AtLimit.is at c.in_ok-play_units.ensures.ended in
     let fills = c.in-End.ensures.bytes in
-    let gave = subst (λ (bytes : List ℕ). GaveAll (g.S.Source.left c.play_units.new.input) (g.S.Source.left c.fill.new.source) bytes) (none_of c.fill.new.buf c.in-End.field-0 c.fill.auto.buf fills.0) fills.1 in
+    let gave = subst (λ (bytes : List ℕ). GaveAll (g.S.Source.left c.play_units.new.input) (g.S.Source.left c.fill.new.source) bytes) (none_of_one c.fill.new.buf c.in-End.field-0 c.fill.auto.buf fills.0) fills.1 in
     plays_whole c.args.packets _ _ played.so_far c.summary-in-End.result (at_edge c.args.packets c.args.packets _ _ _ _ played.so_far played.units _ gave) (c.summary-in-End.ensures ∙ ap summary_of played.keeps ∙ summary_is played.so_far.stream)
 
 -- a failed read
@@ -32,6 +33,6 @@ pub returns : goal.returns
 returns g c =
     let played = rw c.in-AtLimit.is at c.in_ok-play_units.ensures.ended in
     let fills = c.in-Failed.ensures.bytes in
-    let gave = subst (λ (bytes : List ℕ). Gave (g.S.Source.left c.play_units.new.input) (g.S.Source.left c.fill.new.source) bytes) (none_of c.fill.new.buf c.in-Failed.field-0 c.fill.auto.buf fills.0) fills.1 in
+    let gave = subst (λ (bytes : List ℕ). Gave (g.S.Source.left c.play_units.new.input) (g.S.Source.left c.fill.new.source) bytes) (none_of_one c.fill.new.buf c.in-Failed.field-0 c.fill.auto.buf fills.0) fills.1 in
     plays_part c.args.packets _ _ _ (input_failed c.args.packets c.args.packets _ _ (g.S.Source.left c.play_units.new.input) _ played.so_far played.units refl [] gave (data_unit-stub [] (omega arith)) (inr refl))
     (λ e. omega (arith, c.in_ok-play_units.ensures.input_cause.later, c.in-Failed.ensures.cause.rose tt)) (λ e. cc)

@@ -1,7 +1,7 @@
 use Rattle.std.proofs.Common.{◌≡◌, ◌+◌, ◌<◌, ◌≤◌, ◌⊎◌, ℕ, length}
 use Rattle.vc_types.specs.Lifting.{line_of}
 use Rattle.vc_types.specs.Quantisation.{dequantised}
-use Rattle.picture_build.proofs.dequantising.put_few.Given as goal
+use Rattle.picture_build.proofs.dequantising.put_row.Given as goal
 
 abbrev pub invariant-loop-x : goal.invariant-loop-x
 invariant-loop-x l = record {
@@ -12,5 +12,11 @@ invariant-loop-x l = record {
 abbrev pub invariant-loop-x-2 : goal.invariant-loop-x-2
 invariant-loop-x-2 l = record {
   on : (i : ℕ) → i < l.x → line_of l.cells (l.at + i) ≡ dequantised (line_of l.fn.numbers (l.fn.from + i)) l.fn.quantiser.index;
+  off : (i : ℕ) → (i < l.at) ⊎ (l.at + l.width ≤ i) → line_of l.cells i ≡ line_of l.initial.cells i;
+}
+
+abbrev pub invariant-loop-x-3 : goal.invariant-loop-x-3
+invariant-loop-x-3 l = record {
+  on : (i : ℕ) → i < l.x → line_of l.cells (l.at + i) ≡ dequantised (line_of l.numbers (l.from + i)) l.quantiser.index;
   off : (i : ℕ) → (i < l.at) ⊎ (l.at + l.width ≤ i) → line_of l.cells i ≡ line_of l.initial.cells i;
 }
