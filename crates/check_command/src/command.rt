@@ -3,7 +3,6 @@ ghost use Rattle.check_command.specs.Checking.{Checks, IsCheckable, checked_stre
 ghost use Rattle.check_command.specs.Comparing.{IsCheckedUpTo};
 ghost use Rattle.frame_comparison.specs.Differences.{differences};
 ghost use Rattle.check_command.specs.Looping.{ChecksFrame, ChecksFrames, HasChecked, HasSentFrames, IsOneRefused};
-ghost use Rattle.frame_sending.specs.Steps.{refusal_ending};
 ghost use Rattle.link_gen.specs.Defaults.{all_generated, sent_by_default};
 ghost use Rattle.link_model.specs.Output.{full_output};
 ghost use Rattle.link_model.specs.SendingPictures.{IsFrame, wants_lengths};
@@ -15,10 +14,11 @@ ghost use Rattle.vc_types.specs.Planes.{Planes, planes_in};
 ghost use Rattle.vc_types.specs.SenderSettings.{Generating, generating_view, sending_view};
 
 use crate::checker::Checker;
+use frame_sending::refusal_ending;
 use gen_command::samples_of;
 use link_gen::{default_settings, gen_frame};
 use link_report::{Ending, Summary};
-use link_sender::{Chooser, SendRefusal, Sender};
+use link_sender::{Chooser, Sender};
 use std::alloc::Global;
 use std::thread::Threads;
 use vc_slice::{Hands, Places};
@@ -145,7 +145,7 @@ fn check_frame<H: Threads + Copy + Send + Sync, F: Fn(&SliceNeed) -> u8, P: Plac
             Ok(()) => Ok(()),
             Err(NoMemory) => Err(Ending::NoMemory),
         },
-        Err(refusal) => Err(refused(refusal)),
+        Err(refusal) => Err(refusal_ending(refusal)),
     }
 }
 
@@ -165,23 +165,4 @@ fn finish<F: Fn(&SliceNeed) -> u8, P: Places>(
     let end = sender.finish()?;
     checker.take(&end.bytes, places)?;
     checker.finish(places)
-}
-
-// How checking ends where a frame is refused.
-fn refused(refusal: SendRefusal) -> Ending
-    ensures { result ≡ refusal_ending refusal }
-{
-    match refusal {
-        SendRefusal::SampleRange {
-            plane,
-            place,
-            value,
-        } => Ending::SampleTooLarge {
-            place,
-            plane,
-            value,
-        },
-        SendRefusal::SliceTooLarge { slice, bytes } => Ending::SliceTooLarge { slice, bytes },
-        SendRefusal::NoMemory => Ending::NoMemory,
-    }
 }

@@ -70,7 +70,7 @@ impl<F: Fn(&SliceNeed) -> u8> FrameSender<F> {
                 }
                 Err(fault) => Err(put_ending(fault)),
             },
-            Err(refusal) => Err(refused(refusal)),
+            Err(refusal) => Err(refusal_ending(refusal)),
         }
     }
 
@@ -94,8 +94,8 @@ impl<F: Fn(&SliceNeed) -> u8> FrameSender<F> {
     }
 }
 
-// How sending ends where a frame is refused.
-fn refused(refusal: SendRefusal) -> Ending
+/// How sending, or checking, ends where a frame is refused.
+pub fn refusal_ending(refusal: SendRefusal) -> Ending
     ensures { result ≡ refusal_ending refusal }
 {
     match refusal {
@@ -113,7 +113,7 @@ fn refused(refusal: SendRefusal) -> Ending
     }
 }
 
-// How it ends where a datagram didn't go out.
+// How sending ends where a datagram didn't go out.
 fn put_ending(fault: OutletFault) -> Ending
     ensures { result ≡ put_ending fault }
 {

@@ -7,6 +7,7 @@ mod sending;
 mod shape;
 mod totals;
 
+pub use frame_sender::refusal_ending;
 pub use sending::send_frames;
 pub use totals::Totals;
 

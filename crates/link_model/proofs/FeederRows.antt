@@ -44,31 +44,7 @@ use Rattle.vc_types.specs.Slices.{slice_coefficients}
 use Rattle.std.specs.Prelude.{fold, length}
 use Rattle.link_model.specs.Feeders.{Feeder, new_feeder}
 use Rattle.link_model.specs.Next.{next_feeder}
-
-abbrev rtp : List ℕ
-rtp = 0x80 ∷ 0x60 ∷ 0 ∷ 0 ∷ 0 ∷ 0 ∷ 0 ∷ 0 ∷ 0 ∷ 0 ∷ 0 ∷ 1 ∷ []
-
-abbrev header_with : List ℕ → List ℕ
-header_with coded = rtp ++ 0 ∷ 0 ∷ 0 ∷ 0 ∷ coded
-
-abbrev fragment_of : ℕ → ℕ → List ℕ
-fragment_of n bytes = rtp ++ 0 ∷ 0 ∷ 0 ∷ 0xec ∷ 0 ∷ 0 ∷ 0 ∷ n ∷ 0 ∷ 0 ∷ 0 ∷ 1 ∷ 0 ∷ bytes ∷ []
-
-abbrev parameters_of_picture : ℕ → List ℕ
-parameters_of_picture n = fragment_of n 3 ++ 0 ∷ 0 ∷ 0x09 ∷ 0x66 ∷ 0x40 ∷ []
-
-abbrev slices_of_picture : ℕ → ℕ → ℕ → List ℕ → List ℕ
-slices_of_picture n x count bytes =
-    fragment_of n (length bytes) ++ 0 ∷ count ∷ 0 ∷ x ∷ 0 ∷ 0 ∷ bytes
-
-abbrev z_slice : List ℕ
-z_slice = 0 ∷ 0 ∷ 0 ∷ 0 ∷ []
-
-abbrev n_slice : List ℕ
-n_slice = 0 ∷ 1 ∷ 0 ∷ 0 ∷ 0 ∷ []
-
-abbrev grey : List ℕ
-grey = replicate 96 0x80
+use Rattle.link_model.proofs.WorkedDatagrams.{parameters_datagram, grey, dark_frame, first_picture, late_slices, fields, end_datagram, first_session, small_picture, two_sessions}
 
 -- the bytes that are written after these datagrams, and then after the end
 abbrev own_way : ℕ → List (List ℕ) → Feeder
@@ -78,90 +54,27 @@ own_way window datagrams =
 abbrev ended_way : ℕ → List (List ℕ) → Feeder
 ended_way window datagrams = next_feeder window (own_way window datagrams) Finish []
 
--- ---- a window of two: picture 1 stays incomplete, and the last two datagrams come too late
-
-abbrev frame_header : List ℕ
-frame_header = header_with (0x70 ∷ 0xf0 ∷ 0x63 ∷ 0xc0 ∷ 0x80 ∷ [])
-
-abbrev up_to_one : List (List ℕ)
-up_to_one =
-    frame_header
-    ∷ parameters_of_picture 0
-    ∷ slices_of_picture 0 0 1 z_slice
-    ∷ slices_of_picture 0 1 1 z_slice
-    ∷ parameters_of_picture 1
-    ∷ []
-
-abbrev lossy : List (List ℕ)
-lossy = up_to_one ++
-    slices_of_picture 1 0 1 z_slice
-    ∷ parameters_of_picture 3
-    ∷ slices_of_picture 3 0 1 z_slice
-    ∷ slices_of_picture 3 1 1 z_slice
-    ∷ slices_of_picture 1 1 1 z_slice
-    ∷ slices_of_picture 0 1 1 z_slice
-    ∷ []
-
--- ---- fields: 6 and 7 are a frame, of which the odd rows come first; 8 has no partner
-
-abbrev fields : List (List ℕ)
-fields =
-    header_with (0x70 ∷ 0xf0 ∷ 0x63 ∷ 0xc0 ∷ 0x20 ∷ [])
-    ∷ parameters_of_picture 6
-    ∷ slices_of_picture 6 0 2 (n_slice ++ z_slice)
-    ∷ parameters_of_picture 7
-    ∷ slices_of_picture 7 0 2 (z_slice ++ z_slice)
-    ∷ parameters_of_picture 8
-    ∷ slices_of_picture 8 0 2 (z_slice ++ z_slice)
-    ∷ []
-
-abbrev dark_row : List ℕ
-dark_row = 0x71 ∷ 0x71 ∷ replicate 6 0x80
-
-abbrev woven_frame : List ℕ
-woven_frame = replicate 8 0x80 ++ (dark_row ++ (replicate 8 0x80 ++ (dark_row ++ replicate 64 0x80)))
-
--- ---- two sessions
-
-abbrev end_datagram : List ℕ
-end_datagram = rtp ++ 0 ∷ 0 ∷ 0 ∷ 0x10 ∷ []
-
-abbrev first_session : List (List ℕ)
-first_session =
-    frame_header
-    ∷ parameters_of_picture 0
-    ∷ slices_of_picture 0 0 2 (z_slice ++ z_slice)
-    ∷ end_datagram
-    ∷ []
-
-abbrev second_session : List (List ℕ)
-second_session =
-    header_with (0x70 ∷ 0xf6 ∷ 0xf0 ∷ 0x20 ∷ [])
-    ∷ (fragment_of 0 3 ++ 0 ∷ 0 ∷ 0x09 ∷ 0x26 ∷ 0x40 ∷ [])
-    ∷ slices_of_picture 0 0 1 (0 ∷ 2 ∷ 0x94 ∷ 0x80 ∷ 0 ∷ 0 ∷ [])
-    ∷ []
-
-abbrev small_picture : List ℕ
-small_picture = 0x80 ∷ 0x80 ∷ 0x7f ∷ 0x80 ∷ replicate 8 0x80
-
+-- a window of two: picture 1 stays incomplete, and the last two datagrams come too late
 pub lossy_way :
-    ((own_way 2 up_to_one).written ≡ grey)
-    × ((own_way 2 lossy).written ≡ grey)
-    × ((ended_way 2 lossy).written ≡ grey ++ grey)
-    × ((ended_way 2 lossy).released ≡ 2 ^ 32 ∷ (2 ^ 32 + 1) ∷ (2 ^ 32 + 3) ∷ [])
+    ((own_way 2 (first_picture ++ (parameters_datagram 1 ∷ []))).written ≡ grey)
+    × ((own_way 2 late_slices).written ≡ grey)
+    × ((ended_way 2 late_slices).written ≡ grey ++ grey)
+    × ((ended_way 2 late_slices).released ≡ 2 ^ 32 ∷ (2 ^ 32 + 1) ∷ (2 ^ 32 + 3) ∷ [])
 unfolding opened_numbers base_above greatest_of all_output last_so_far has_all_slices all_bytes whole_picture sample_bytes frame_bytes interleaved_rows same_sequence same_parameters parameters_in split_parts next_slice next_slices slice_run own first_copy greatest least nearest picture_number is_closed is_late enters parts_of complete_at planes_at frame_at frame_bytes_at let_go_numbers is_let_go all_frames frames_so_far full_output output_so_far closing_place header_end is_shaped payload_end packet_fields rtp_packet fragment_fits fragment_value payload received begins ends fragment_in hears bits_of byte_bits uint_at uint_after bounded_uint_after bounded_uint bounded_sint bounded_sints number_up_to weighted change lifted slices_from decoded_picture all_placed standing_at component_cells output_sample component_plane decoded_planes sample_at quant_factor quant_offset dequantised default_matrix raster sequence_header block coded_slice slice_length quantisers block_coefficients decoded_slice slice_rectangle place_among slice_coefficient_count coefficient_place transform_parameters interleaved on_columns on_rows on_cells inverse_level levels_across inverse_levels inverse_transform format_of range_of video_depth synthesis_steps lifted_by synthesised header.header_number header.major_version header.profile header.base_video_format header.frame_size header.colour_difference_sampling header.scan_format header.ratio header.clean_area header.excursion header.custom_signal_range header.signal_range_of header.colour_part header.colour_specification header.picture_coding_mode header.picture_shape parameters.number parameters.wavelet_index parameters.wavelet_depth parameters.extended_parameters parameters.slice_counts parameters.prefix_bytes parameters.size_scaler parameters.matrix_value parameters.matrix_values parameters.quantisation_matrix kept_job session_opening heard_pictures let_go_pictures slice_coefficients next_feeder
 lossy_way = (refl, refl, refl, refl)
 
+-- fields: 6 and 7 are a frame, of which the odd rows come first; 8 has no partner
 pub fields_way :
-    ((ended_way 4 fields).written ≡ woven_frame)
+    ((ended_way 4 fields).written ≡ dark_frame)
     × ((ended_way 4 fields).released ≡ (2 ^ 32 + 6) ∷ (2 ^ 32 + 7) ∷ (2 ^ 32 + 8) ∷ [])
 unfolding opened_numbers base_above greatest_of all_output last_so_far has_all_slices all_bytes whole_picture sample_bytes frame_bytes interleaved_rows same_sequence same_parameters parameters_in split_parts next_slice next_slices slice_run own first_copy greatest least nearest picture_number is_closed is_late enters parts_of complete_at planes_at frame_at frame_bytes_at let_go_numbers is_let_go all_frames frames_so_far full_output output_so_far closing_place header_end is_shaped payload_end packet_fields rtp_packet fragment_fits fragment_value payload received begins ends fragment_in hears bits_of byte_bits uint_at uint_after bounded_uint_after bounded_uint bounded_sint bounded_sints number_up_to weighted change lifted slices_from decoded_picture all_placed standing_at component_cells output_sample component_plane decoded_planes sample_at quant_factor quant_offset dequantised default_matrix raster sequence_header block coded_slice slice_length quantisers block_coefficients decoded_slice slice_rectangle place_among slice_coefficient_count coefficient_place transform_parameters interleaved on_columns on_rows on_cells inverse_level levels_across inverse_levels inverse_transform format_of range_of video_depth synthesis_steps lifted_by synthesised header.header_number header.major_version header.profile header.base_video_format header.frame_size header.colour_difference_sampling header.scan_format header.ratio header.clean_area header.excursion header.custom_signal_range header.signal_range_of header.colour_part header.colour_specification header.picture_coding_mode header.picture_shape parameters.number parameters.wavelet_index parameters.wavelet_depth parameters.extended_parameters parameters.slice_counts parameters.prefix_bytes parameters.size_scaler parameters.matrix_value parameters.matrix_values parameters.quantisation_matrix kept_job session_opening heard_pictures let_go_pictures slice_coefficients next_feeder
 fields_way = (refl, refl)
 
+-- two sessions
 pub sessions_way :
-    ((own_way 4 first_session).written ≡ [])
-    × ((own_way 4 (first_session ++ second_session)).written ≡ grey)
-    × ((ended_way 4 (first_session ++ second_session)).written ≡ grey ++ small_picture)
-    × ((ended_way 4 (first_session ++ second_session)).released ≡ 2 ^ 32 ∷ 2 ^ 33 ∷ [])
+    ((own_way 4 (first_session ++ (end_datagram ∷ []))).written ≡ [])
+    × ((own_way 4 two_sessions).written ≡ grey)
+    × ((ended_way 4 two_sessions).written ≡ grey ++ small_picture)
+    × ((ended_way 4 two_sessions).released ≡ 2 ^ 32 ∷ 2 ^ 33 ∷ [])
 unfolding opened_numbers base_above greatest_of all_output last_so_far has_all_slices all_bytes whole_picture sample_bytes frame_bytes interleaved_rows same_sequence same_parameters parameters_in split_parts next_slice next_slices slice_run own first_copy greatest least nearest picture_number is_closed is_late enters parts_of complete_at planes_at frame_at frame_bytes_at let_go_numbers is_let_go all_frames frames_so_far full_output output_so_far closing_place header_end is_shaped payload_end packet_fields rtp_packet fragment_fits fragment_value payload received begins ends fragment_in hears bits_of byte_bits uint_at uint_after bounded_uint_after bounded_uint bounded_sint bounded_sints number_up_to weighted change lifted slices_from decoded_picture all_placed standing_at component_cells output_sample component_plane decoded_planes sample_at quant_factor quant_offset dequantised default_matrix raster sequence_header block coded_slice slice_length quantisers block_coefficients decoded_slice slice_rectangle place_among slice_coefficient_count coefficient_place transform_parameters interleaved on_columns on_rows on_cells inverse_level levels_across inverse_levels inverse_transform format_of range_of video_depth synthesis_steps lifted_by synthesised header.header_number header.major_version header.profile header.base_video_format header.frame_size header.colour_difference_sampling header.scan_format header.ratio header.clean_area header.excursion header.custom_signal_range header.signal_range_of header.colour_part header.colour_specification header.picture_coding_mode header.picture_shape parameters.number parameters.wavelet_index parameters.wavelet_depth parameters.extended_parameters parameters.slice_counts parameters.prefix_bytes parameters.size_scaler parameters.matrix_value parameters.matrix_values parameters.quantisation_matrix kept_job session_opening heard_pictures let_go_pictures slice_coefficients next_feeder
 sessions_way = (refl, refl, refl, refl)

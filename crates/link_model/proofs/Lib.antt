@@ -1,5 +1,6 @@
 pub mod WrittenPackets
 pub mod WrittenPayloads
+pub mod WorkedDatagrams
 pub mod LinkRows
 pub mod Keeping
 pub mod Slots

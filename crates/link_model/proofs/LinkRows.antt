@@ -30,45 +30,9 @@ use Rattle.vc_types.specs.TransformParameters.{transform_parameters}
 use Rattle.vc_types.specs.Transforms.{interleaved, on_columns, on_rows, on_cells, inverse_level, levels_across, inverse_levels, inverse_transform}
 use Rattle.vc_types.specs.Video.{format_of, range_of, video_depth}
 use Rattle.vc_types.specs.Wavelets.{synthesis_steps, lifted_by, synthesised}
+use Rattle.link_model.proofs.WorkedDatagrams.{rtp, four, two, header_datagram, fragment_start, parameters_datagram, slices_datagram, zeros, n_block, grey, dark, dark_frame, whole_at, first_picture, late_slices, fields, of_payload}
 
 -- ---- datagrams
-
-abbrev rtp : List ℕ
-rtp = 0x80 ∷ 0x60 ∷ 0 ∷ 0 ∷ 0 ∷ 0 ∷ 0 ∷ 0 ∷ 0 ∷ 0 ∷ 0 ∷ 1 ∷ []
-
--- a sequence header: version 2.0, base format 0, 8 by 4, 4:4:4, frames
-abbrev header_datagram : List ℕ
-header_datagram = rtp ++ 0 ∷ 0 ∷ 0 ∷ 0 ∷ 0x70 ∷ 0xf0 ∷ 0x63 ∷ 0xc0 ∷ 0x80 ∷ []
-
-abbrev four : ℕ → List ℕ
-four n = to_be_bytes w32 n
-
-abbrev two : ℕ → List ℕ
-two n = to_be_bytes w16 n
-
-abbrev fragment_start : ℕ → ℕ → List ℕ
-fragment_start n bytes = rtp ++ (0 ∷ 0 ∷ 0 ∷ 0xec ∷ (four n ++ (0 ∷ 0 ∷ 0 ∷ 1 ∷ two bytes)))
-
--- parameters: wavelet 3, depth 1, two slices across and one down
-abbrev parameters_datagram : ℕ → List ℕ
-parameters_datagram n = fragment_start n 3 ++ (0 ∷ 0 ∷ 0x09 ∷ 0x66 ∷ 0x40 ∷ [])
-
--- so many slices from column x on
-abbrev slices_datagram : ℕ → ℕ → ℕ → List ℕ → List ℕ
-slices_datagram n x count bytes = fragment_start n (length bytes) ++ (two count ++ (two x ++ (0 ∷ 0 ∷ bytes)))
-
-abbrev zeros : List ℕ
-zeros = 0 ∷ 0 ∷ 0 ∷ 0 ∷ []
-
-abbrev grey : List ℕ
-grey = replicate 96 0x80
-
-abbrev n_block : List ℕ
-n_block = 0 ∷ 1 ∷ 0 ∷ 0 ∷ 0 ∷ []
-
--- a frame whose first two rows are darker on the left
-abbrev dark : List ℕ
-dark = (0x71 ∷ 0x71 ∷ replicate 6 0x80) ++ ((0x71 ∷ 0x71 ∷ replicate 6 0x80) ++ replicate 80 0x80)
 
 -- parameters behind their slices
 abbrev slices_first : List (List ℕ)
@@ -82,16 +46,6 @@ repeats = header_datagram ∷ header_datagram ∷ parameters_datagram 0 ∷ para
 abbrev half_a_picture : List (List ℕ)
 half_a_picture = header_datagram ∷ parameters_datagram 0 ∷ slices_datagram 0 0 1 zeros ∷ []
 
--- in a window of two: picture 1 isn't whole when picture 3 closes it, and what comes of it and of picture 0 then is late
-abbrev first_picture : List (List ℕ)
-first_picture = header_datagram ∷ parameters_datagram 0 ∷ slices_datagram 0 0 1 zeros ∷ slices_datagram 0 1 1 zeros ∷ []
-
-abbrev closing : List (List ℕ)
-closing = slices_datagram 1 0 1 zeros ∷ parameters_datagram 3 ∷ slices_datagram 3 0 1 zeros ∷ slices_datagram 3 1 1 zeros ∷ slices_datagram 1 1 1 zeros ∷ slices_datagram 0 1 1 zeros ∷ []
-
-abbrev late_slices : List (List ℕ)
-late_slices = first_picture ++ (parameters_datagram 1 ∷ closing)
-
 -- numbers wrap
 abbrev wrapping : List (List ℕ)
 wrapping = header_datagram ∷ parameters_datagram 0xffffffff ∷ slices_datagram 0xffffffff 0 2 (n_block ++ zeros) ∷ parameters_datagram 0 ∷ slices_datagram 0 0 2 (zeros ++ zeros) ∷ []
@@ -102,27 +56,13 @@ unsound = header_datagram ∷ parameters_datagram 0 ∷ slices_datagram 0 0 2 (0
 
 -- ---- the usual order
 
-abbrev whole_at : ℕ → List (List ℕ)
-whole_at n = parameters_datagram n ∷ slices_datagram n 0 2 (zeros ++ zeros) ∷ []
-
 -- the parameters of another wavelet
 abbrev other_parameters : List ℕ
 other_parameters = fragment_start 0 3 ++ (0 ∷ 0 ∷ 0x25 ∷ 0x99 ∷ 0x00 ∷ [])
 
 -- ---- fields: pictures 6 and 7 are a frame, and 8 has no partner; the bottom field is the earlier
 
-abbrev fields : List (List ℕ)
-fields =
-    (rtp ++ (0 ∷ 0 ∷ 0 ∷ 0 ∷ 0x70 ∷ 0xf0 ∷ 0x63 ∷ 0xc0 ∷ 0x20 ∷ []))
-    ∷ parameters_datagram 6 ∷ slices_datagram 6 0 2 (n_block ++ zeros) ∷ (whole_at 7 ++ whole_at 8)
-
-abbrev dark_line : List ℕ
-dark_line = 0x71 ∷ 0x71 ∷ replicate 6 0x80
-
 -- ---- each outcome
-
-abbrev of_payload : List ℕ → List ℕ
-of_payload bytes = rtp ++ (0 ∷ 0 ∷ 0 ∷ bytes)
 
 abbrev refused : List (List ℕ)
 refused =
@@ -224,7 +164,7 @@ pub outputs :
     × (full_output 4 (header_datagram ∷ whole_at 0) ≡ grey)
     × (full_output 4 (header_datagram ∷ other_parameters ∷ slices_datagram 0 0 2 (zeros ++ zeros) ∷ []) ≡ grey)
     × (full_output 4 (header_datagram ∷ parameters_datagram 0 ∷ slices_datagram 0 0 2 (n_block ++ zeros) ∷ []) ≡ dark)
-    × (full_output 4 fields ≡ replicate 8 0x80 ++ (dark_line ++ (replicate 8 0x80 ++ (dark_line ++ replicate 64 0x80))))
+    × (full_output 4 fields ≡ dark_frame)
     × (full_output 4 of_picture ≡ grey)
     × (full_output 4 (header_datagram ∷ parameters_datagram 0 ∷ (n_slice ++ zero_slices)) ≡ dark)
     × (full_output 4 (header_datagram ∷ (n_slice ++ (parameters_datagram 0 ∷ zero_slices))) ≡ dark)

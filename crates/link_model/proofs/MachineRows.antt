@@ -47,34 +47,16 @@ use Rattle.vc_types.specs.Slices.{slice_coefficients}
 use Rattle.std.specs.Prelude.{map}
 use Rattle.std.specs.List.{flat_map}
 use Rattle.link_model.specs.Places.{JobPlace}
-
-abbrev rtp : List ℕ
-rtp = 0x80 ∷ 0x60 ∷ 0 ∷ 0 ∷ 0 ∷ 0 ∷ 0 ∷ 0 ∷ 0 ∷ 0 ∷ 0 ∷ 1 ∷ []
-
-abbrev header_datagram : List ℕ
-header_datagram = rtp ++ 0 ∷ 0 ∷ 0 ∷ 0 ∷ 0x70 ∷ 0xf0 ∷ 0x63 ∷ 0xc0 ∷ 0x80 ∷ []
-
-abbrev fragment_start : ℕ → List ℕ
-fragment_start bytes = rtp ++ 0 ∷ 0 ∷ 0 ∷ 0xec ∷ 0 ∷ 0 ∷ 0 ∷ 0 ∷ 0 ∷ 0 ∷ 0 ∷ 1 ∷ 0 ∷ bytes ∷ []
-
-abbrev parameters_datagram : List ℕ
-parameters_datagram = fragment_start 3 ++ 0 ∷ 0 ∷ 0x09 ∷ 0x66 ∷ 0x40 ∷ []
-
-abbrev slices_datagram : List ℕ
-slices_datagram =
-    fragment_start 8 ++ 0 ∷ 2 ∷ 0 ∷ 0 ∷ 0 ∷ 0 ∷ 0 ∷ 0 ∷ 0 ∷ 0 ∷ 0 ∷ 0 ∷ 0 ∷ 0 ∷ []
+use Rattle.link_model.proofs.WorkedDatagrams.{header_datagram, parameters_datagram, slices_datagram, zeros, grey}
 
 abbrev picture : ℕ
 picture = 2 ^ 32
 
 abbrev heard : List Event
-heard = Enter header_datagram ∷ Enter parameters_datagram ∷ Enter slices_datagram ∷ []
+heard = Enter header_datagram ∷ Enter (parameters_datagram 0) ∷ Enter (slices_datagram 0 0 2 (zeros ++ zeros)) ∷ []
 
 abbrev worked : List Event
 worked = Put 0 picture 0 ∷ Claim 1 0 ∷ Leave 0 ∷ Complete 0 1 ∷ Redo picture 0 ∷ []
-
-abbrev grey : List ℕ
-grey = replicate 96 0x80
 
 abbrev start : Machine
 start = new_machine 1

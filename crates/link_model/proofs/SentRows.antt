@@ -24,7 +24,7 @@ use Rattle.vc_types.specs.declared.video.Sampling.TheVariants.{S444}
 
 -- ---- frames of 2 by 2 in one slice, wavelet 3 at depth 1
 
-abbrev small_frames : Frames
+abbrev pub small_frames : Frames
 small_frames = record {
   width = 2;
   height = 2;
@@ -34,7 +34,7 @@ small_frames = record {
   top = true;
 }
 
-abbrev settings : Sending
+abbrev pub settings : Sending
 settings = record {
   frames = small_frames;
   wavelet = 3;

@@ -30,80 +30,16 @@ use Rattle.vc_types.specs.TransformParameters.{transform_parameters}
 use Rattle.vc_types.specs.Transforms.{interleaved, on_columns, on_rows, on_cells, inverse_level, levels_across, inverse_levels, inverse_transform}
 use Rattle.vc_types.specs.Video.{format_of, range_of, video_depth}
 use Rattle.vc_types.specs.Wavelets.{synthesis_steps, lifted_by, synthesised}
+use Rattle.link_model.proofs.WorkedDatagrams.{four, two, header_datagram, parameters_datagram, zeros, grey, whole_at, of_payload, end_datagram, first_session, small_header, small_session, small_picture, two_sessions}
 
 -- ---- datagrams
 
-abbrev rtp : List ℕ
-rtp = 0x80 ∷ 0x60 ∷ 0 ∷ 0 ∷ 0 ∷ 0 ∷ 0 ∷ 0 ∷ 0 ∷ 0 ∷ 0 ∷ 1 ∷ []
-
-abbrev header_datagram : List ℕ
-header_datagram = rtp ++ 0 ∷ 0 ∷ 0 ∷ 0 ∷ 0x70 ∷ 0xf0 ∷ 0x63 ∷ 0xc0 ∷ 0x80 ∷ []
-
-abbrev four : ℕ → List ℕ
-four n = to_be_bytes w32 n
-
-abbrev two : ℕ → List ℕ
-two n = to_be_bytes w16 n
-
-abbrev fragment_start : ℕ → ℕ → List ℕ
-fragment_start n bytes = rtp ++ (0 ∷ 0 ∷ 0 ∷ 0xec ∷ (four n ++ (0 ∷ 0 ∷ 0 ∷ 1 ∷ two bytes)))
-
-abbrev parameters_datagram : ℕ → List ℕ
-parameters_datagram n = fragment_start n 3 ++ (0 ∷ 0 ∷ 0x09 ∷ 0x66 ∷ 0x40 ∷ [])
-
-abbrev slices_datagram : ℕ → ℕ → ℕ → List ℕ → List ℕ
-slices_datagram n x count bytes = fragment_start n (length bytes) ++ (two count ++ (two x ++ (0 ∷ 0 ∷ bytes)))
-
-abbrev zeros : List ℕ
-zeros = 0 ∷ 0 ∷ 0 ∷ 0 ∷ []
-
-abbrev grey : List ℕ
-grey = replicate 96 0x80
-
-abbrev n_block : List ℕ
-n_block = 0 ∷ 1 ∷ 0 ∷ 0 ∷ 0 ∷ []
-
-abbrev dark : List ℕ
-dark = (0x71 ∷ 0x71 ∷ replicate 6 0x80) ++ ((0x71 ∷ 0x71 ∷ replicate 6 0x80) ++ replicate 80 0x80)
-
-abbrev of_payload : List ℕ → List ℕ
-of_payload bytes = rtp ++ (0 ∷ 0 ∷ 0 ∷ bytes)
-
--- the same, of a source
+-- a header of another source
 abbrev source : ℕ → List ℕ
 source n = 0x80 ∷ 0x60 ∷ 0 ∷ 0 ∷ 0 ∷ 0 ∷ 0 ∷ 0 ∷ 0 ∷ 0 ∷ 0 ∷ n ∷ []
 
 abbrev payload_of : ℕ → List ℕ → List ℕ
 payload_of n bytes = source n ++ (0 ∷ 0 ∷ 0 ∷ bytes)
-
-abbrev end_datagram : List ℕ
-end_datagram = of_payload (0x10 ∷ [])
-
-abbrev whole_at : ℕ → List (List ℕ)
-whole_at n = parameters_datagram n ∷ slices_datagram n 0 2 (zeros ++ zeros) ∷ []
-
--- a session of 8 by 4, and one of 2 by 2, 4:4:4
-abbrev first_session : List (List ℕ)
-first_session = header_datagram ∷ whole_at 0
-
-abbrev small_header : List ℕ
-small_header = of_payload (0 ∷ 0x70 ∷ 0xf6 ∷ 0xf0 ∷ 0x20 ∷ [])
-
-abbrev small_parameters : List ℕ
-small_parameters = fragment_start 0 3 ++ (0 ∷ 0 ∷ 0x09 ∷ 0x26 ∷ 0x40 ∷ [])
-
-abbrev small_slice : List ℕ
-small_slice = slices_datagram 0 0 1 (0 ∷ 2 ∷ 0x94 ∷ 0x80 ∷ 0 ∷ 0 ∷ [])
-
-abbrev small_session : List (List ℕ)
-small_session = small_header ∷ small_parameters ∷ small_slice ∷ []
-
-abbrev small_picture : List ℕ
-small_picture = 0x80 ∷ 0x80 ∷ 0x7f ∷ 0x80 ∷ replicate 8 0x80
-
--- with an end between them, and without
-abbrev two_sessions : List (List ℕ)
-two_sessions = first_session ++ (end_datagram ∷ small_session)
 
 abbrev unended : List (List ℕ)
 unended = first_session ++ small_session

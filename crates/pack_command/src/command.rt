@@ -5,17 +5,17 @@ ghost use Rattle.pack_command.specs.Endings.{unpacked_ended};
 ghost use Rattle.pack_command.specs.Looping.{PackLoopEnded};
 ghost use Rattle.pack_command.specs.Packs.{Packs, pack_settings};
 ghost use Rattle.pack_command.specs.Views.{CountsFew, IsBehindUnits};
-ghost use Rattle.play_command.specs.Endings.{reading_ended};
 ghost use Rattle.vc_types.specs.SenderSettings.{packing_view};
 ghost use Rattle.vc_types.specs.Settings.{within};
 
 use crate::fault::UnitRefusal;
 use crate::stream::StreamPacker;
 use link_report::{Ending, Summary};
+use play_command::reading_ended;
 use std::alloc::Global;
 use vc_ports::{Filled, Sink, Source, fill};
 use vc_types::{END_OF_SEQUENCE, PackSettings};
-use vc_units::{UnitFault, UnitReader, next_unit};
+use vc_units::{UnitReader, next_unit};
 
 /// Why no unit more is read.
 #[derive(Clone, Copy)]
@@ -125,20 +125,7 @@ fn pack_with<S: Source, O: Sink>(
     Ok(Stop::AtLimit)
 }
 
-// How packing ends where a unit that begins at a place isn't read.
-fn reading_ended(fault: UnitFault, place: u64) -> Ending
-    ensures { result ≡ reading_ended fault place }
-{
-    match fault {
-        UnitFault::ReadFault => Ending::InputFailed,
-        UnitFault::NoMemory => Ending::NoMemory,
-        UnitFault::Prefix | UnitFault::Code | UnitFault::Offset | UnitFault::Short => {
-            Ending::StreamBad { place }
-        }
-    }
-}
-
-// How it ends where the unit isn't packed.
+// How packing ends where a unit isn't packed.
 fn unpacked_ended(refusal: UnitRefusal, place: u64) -> Ending
     ensures { result ≡ unpacked_ended refusal place }
 {

@@ -3,33 +3,14 @@ use Rattle.std.proofs.Common.{◌≡◌, ℕ, ◌<◌, false, true, [], ◌∷�
 use Rattle.std.specs.Prelude.{All}
 use Rattle.std.proofs.lemmas.List.Elements.{All-nil, All-cons}
 use Rattle.link_model.specs.SendingPictures.{sent_sequence, sent_parameters}
+use Rattle.link_model.proofs.SentRows.{settings}
 use Rattle.picture_encode.specs.Shapes.{CanBeTransformed}
-use Rattle.vc_types.specs.declared.choice.IndexChoice.TheVariants.{Index}
 use Rattle.vc_types.specs.declared.video.Component.TheVariants.{Y, C1, C2}
-use Rattle.vc_types.specs.declared.video.Sampling.TheVariants.{S444}
 use Rattle.vc_types.specs.Planes.{Planes}
 use Rattle.vc_types.specs.SenderSettings.{Sending}
 use Rattle.vc_types.specs.SequenceHeader.{picture_shape}
 use Rattle.vc_types.specs.TransformParameters.{Parameters}
 use Rattle.vc_types.specs.Video.{range_of, video_depth}
-
-abbrev small : Sending
-small = record {
-  frames = record { width = 2; height = 2; sampling = S444; range = 1; fields = false; top = true };
-  wavelet = 3;
-  depth = 1;
-  across = 1;
-  down = 1;
-  prefix = 0;
-  scaler = 1;
-  size = 1400;
-  choice = Index 0;
-  ssrc = 1;
-  seq = 0;
-  picture = 0;
-  tick = 3600;
-  pt = 96;
-}
 
 abbrev small_planes : Planes
 small_planes = record {
@@ -51,7 +32,7 @@ grey = four_below 128 128 128 128 (omega arith) (omega arith) (omega arith) (ome
 edged : All (λ s. s < 256) (128 ∷ 128 ∷ 127 ∷ 128 ∷ [])
 edged = four_below 128 128 127 128 (omega arith) (omega arith) (omega arith) (omega arith)
 
-fits : CanBeTransformed (sent_parameters small) small_planes
+fits : CanBeTransformed (sent_parameters settings) small_planes
 unfolding sent_parameters sent_sequence picture_shape range_of video_depth
 fits = record {
   symmetric = refl;
@@ -62,7 +43,7 @@ fits = record {
   ];
 }
 
-pub small_fits : (p : Parameters) (planes : Planes) (s : Sending) → p ≡ sent_parameters s → s ≡ small → planes ≡ small_planes → CanBeTransformed p planes
+pub small_fits : (p : Parameters) (planes : Planes) (s : Sending) → p ≡ sent_parameters s → s ≡ settings → planes ≡ small_planes → CanBeTransformed p planes
 small_fits p planes s own is shown =
     subst (λ (q : Parameters). CanBeTransformed q planes) (sym (own ∙ ap sent_parameters is))
-    (subst (λ (a : Planes). CanBeTransformed (sent_parameters small) a) (sym shown) fits)
+    (subst (λ (a : Planes). CanBeTransformed (sent_parameters settings) a) (sym shown) fits)

@@ -111,8 +111,8 @@ fn play_with<H: Threads + Copy + Send + Sync, S: Source, O: Sink>(
     Ok(Stop::AtLimit)
 }
 
-// How playing ends where a unit that begins at a place isn't read.
-fn reading_ended(fault: UnitFault, place: u64) -> Ending
+/// How playing or packing ends where a unit that begins at a place isn't read.
+pub fn reading_ended(fault: UnitFault, place: u64) -> Ending
     ensures { result ≡ reading_ended fault place }
 {
     match fault {
@@ -124,7 +124,7 @@ fn reading_ended(fault: UnitFault, place: u64) -> Ending
     }
 }
 
-// How it ends where the unit isn't taken.
+// How playing ends where the unit isn't taken.
 fn taking_ended(fault: TakeFault, place: u64) -> Ending
     ensures { result ≡ taking_ended fault place }
 {

@@ -9,7 +9,7 @@ mod playback;
 mod player;
 mod slices;
 
-pub use command::play;
+pub use command::{play, reading_ended};
 
 #[cfg(test)]
 mod tests;

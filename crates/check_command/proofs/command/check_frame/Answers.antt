@@ -32,7 +32,7 @@ returns-clause-value g c = λ generating window sent small behind.
     let as_chosen : (need : Need) (index : ℕ) → answers need index → index ≡ chosen_index s.choice need = λ need index a. c.requires.chooses a.0 index a.2 ∙ ap (chosen_index settings.choice) a.1 ∙ ap (λ (t : Sending). chosen_index t.choice need) behind.sent.settings_are in
     let frame = planes_in c.args.frame.now in
     let value = subst (λ (t : Sending). IsRefused answers (wants_lengths t.choice) t frame c.in-Err.refusal) behind.sent.settings_are ((rw c.requires.wants at c.in-Err.ensures.value).0) in
-    subst (IsFrameRefused generating frame) (sym c.refused.ensures)
+    subst (IsFrameRefused generating frame) (sym c.refusal_ending.ensures)
     (frame_refused generating window sent frame c.args.sender.now c.args.checker.now behind answers as_chosen c.in-Err.refusal value)
 
 pub returns-clause-told : goal.returns-clause-told

@@ -71,5 +71,5 @@ returns-clause-value g c = λ sent small behind.
     let outlet = c.args.outlet.now in
     let went = g.O.Outlet.carried outlet outlet in
     let broke = g.O.Outlet.broke outlet outlet in
-    subst (λ (e : Ending). FailsAt s sent (planes_in c.args.frame.now) went broke e) (sym c.refused.ensures)
+    subst (λ (e : Ending). FailsAt s sent (planes_in c.args.frame.now) went broke e) (sym c.refusal_ending.ensures)
     (fails_by s answers as_chosen sent (planes_in c.args.frame.now) went broke c.in-Err.refusal value.0 (g.met.O.Outlet.none outlet))
