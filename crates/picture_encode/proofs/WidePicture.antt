@@ -1,11 +1,10 @@
 -- The picture of the wide test has the sizes and the samples that its settings ask for.
-use Rattle.std.proofs.Common.{◌≡◌, ◌<◌, false, true, refl, sym, subst, ◌∙◌, ap, arith, replicate}
+use Rattle.std.proofs.Common.{◌≡◌, ◌<◌, refl, sym, subst, ◌∙◌, ap, arith, replicate}
 use Rattle.std.proofs.lemmas.List.Elements.{All-replicate}
 use Rattle.link_model.specs.SendingPictures.{sent_sequence, sent_parameters}
+use Rattle.link_model.proofs.SentRows.{settings, small_frames}
 use Rattle.picture_encode.specs.Shapes.{CanBeTransformed}
-use Rattle.vc_types.specs.declared.choice.IndexChoice.TheVariants.{Index}
 use Rattle.vc_types.specs.declared.video.Component.TheVariants.{Y, C1, C2}
-use Rattle.vc_types.specs.declared.video.Sampling.TheVariants.{S444}
 use Rattle.vc_types.specs.Planes.{Planes}
 use Rattle.vc_types.specs.SenderSettings.{Sending}
 use Rattle.vc_types.specs.SequenceHeader.{picture_shape}
@@ -13,21 +12,10 @@ use Rattle.vc_types.specs.TransformParameters.{Parameters}
 use Rattle.vc_types.specs.Video.{range_of, video_depth}
 
 abbrev wide : Sending
-wide = record {
-  frames = record { width = 4; height = 4; sampling = S444; range = 1; fields = false; top = true };
+wide = record settings {
+  frames = record small_frames { width = 4; height = 4 };
   wavelet = 6;
   depth = 2;
-  across = 1;
-  down = 1;
-  prefix = 0;
-  scaler = 1;
-  size = 1400;
-  choice = Index 0;
-  ssrc = 1;
-  seq = 0;
-  picture = 0;
-  tick = 3600;
-  pt = 96;
 }
 
 abbrev flat : Planes
