@@ -5,7 +5,7 @@ use Rattle.std.specs.Prelude.{◌&&◌, ◌||◌, ◌⊎◌, not}
 use Rattle.std.specs.List.{last_or}
 use Rattle.std.proofs.lemmas.Bool.{cond-false, eq-eqb, false≢true, both_ways}
 use Rattle.std.proofs.Math.Bool.{or-false}
-use Rattle.std.proofs.lemmas.Option.{none-some, same_Some}
+use Rattle.std.proofs.lemmas.Option.{cond_some, none-some}
 use Rattle.link_model.specs.Books.{Book, book_of}
 use Rattle.link_model.specs.Judgement.{keeps, part_outcome, fragment_outcome, outcome_behind}
 use Rattle.link_model.specs.Numbers.{Numbered, base_above, is_closed, is_late, is_opened}

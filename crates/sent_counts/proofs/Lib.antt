@@ -2,5 +2,5 @@ mod SharedCells
 mod CodedLengths
 mod SmallCells
 pub mod Heads
-mod SentBytes
+pub mod SentBytes
 pub mod SentFrames
