@@ -2,5 +2,5 @@ use Rattle.std.proofs.Common.{arith}
 use Rattle.vc_slice.proofs.PaddedBlocks.{filled_codes}
 use Rattle.vc_slice.proofs.writing.codes_of.Goals as goal
 
-pub returns : goal.returns
-returns c = grind (arith, filled_codes)
+pub returns-in_ok-align-in-Wide : goal.returns-in_ok-align-in-Wide
+returns-in_ok-align-in-Wide c = grind (arith, filled_codes)
