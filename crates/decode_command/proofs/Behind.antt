@@ -1,7 +1,6 @@
 -- What a loop over the entries of a source knows: at its start, behind each entry, and at each of its
 -- ends.
-use Rattle.std.proofs.Common.{◌≡◌, ◌≢◌, ◌⊎◌, ℕ, suc, ◌+◌, ◌-◌, ◌^◌, ◌<◌, List, [], ◌∷◌, ◌++◌, length, take, Option, Some, None, Err, refl, sym, ap, ◌∙◌, subst, arith, append_assoc, append-nil, length-append}
-use Rattle.std.proofs.lemmas.Grind.{common_steps}
+use Rattle.std.proofs.Common.{◌≡◌, ◌≢◌, ◌⊎◌, ℕ, suc, ◌+◌, ◌-◌, ◌^◌, ◌<◌, List, [], ◌∷◌, ◌++◌, length, Option, Some, None, Err, refl, sym, ap, ◌∙◌, subst, arith, append_assoc, append-nil, length-append}
 use Rattle.link_capture.specs.Capture.{entry, first_entry, entries_within}
 use Rattle.link_capture.specs.Reading.{GavePartOfEntry}
 use Rattle.link_capture.proofs.Heads.{first_entry-stub, length-entry}

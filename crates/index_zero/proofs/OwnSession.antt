@@ -1,5 +1,5 @@
 -- Of the sender's own list one session is heard, the sender's, with the fragments of all pictures in their order.
-use Rattle.std.proofs.Common.{◌≡◌, ◌<◌, ℕ, zero, suc, ◌+◌, ◌-◌, ◌*◌, ◌^◌, true, false, List, [], ◌∷◌, ◌++◌, length, drop, map, Option, Some, None, refl, sym, ap, ◌∙◌, subst, arith, All, inl, inr}
+use Rattle.std.proofs.Common.{◌≡◌, ◌<◌, ℕ, zero, suc, ◌+◌, ◌-◌, ◌*◌, ◌^◌, false, List, [], ◌∷◌, ◌++◌, length, drop, map, Option, Some, None, refl, sym, ap, ◌∙◌, subst, arith, All, inl, inr}
 use Rattle.std.specs.Prelude.{◌⊎◌, filter_map, fold, slice_get}
 use Rattle.std.specs.List.{cons_option, enumerate_from, flat_map}
 use Rattle.std.proofs.lemmas.Bool.{and_right}
@@ -22,10 +22,8 @@ use Rattle.link_model.proofs.Hearing.{hears_new, hears_on}
 use Rattle.link_model.proofs.SentDatagrams.{are_settings}
 use Rattle.vc_types.specs.declared.settings.SendSettings.{SendSettings}
 use Rattle.vc_types.specs.Planes.{Planes}
-use Rattle.vc_types.specs.SameValues.{same_sequence}
 use Rattle.vc_types.proofs.SameValues.{sequences_exactly}
 use Rattle.vc_types.specs.SenderSettings.{Sending, sending_view}
-use Rattle.vc_types.specs.SequenceHeader.{Sequence}
 use Rattle.vc_types.specs.TransformParameters.{Parameters}
 
 no_other : (t : Session) → is_other t t ≡ false

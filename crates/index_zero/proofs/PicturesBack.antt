@@ -26,7 +26,7 @@ use Rattle.vc_types.specs.Rasters.{sample_at}
 use Rattle.vc_types.specs.SenderSettings.{Sending, sending_view}
 use Rattle.vc_types.specs.SequenceHeader.{picture_shape}
 use Rattle.vc_types.specs.Subbands.{slice_count, plane_depth}
-use Rattle.vc_types.specs.TransformParameters.{Parameters, is_symmetric, same_across}
+use Rattle.vc_types.specs.TransformParameters.{Parameters, is_symmetric}
 use Rattle.vc_types.specs.Video.{range_of, video_depth}
 use Rattle.vc_types.proofs.SliceCounts.{some_across, some_down}
 

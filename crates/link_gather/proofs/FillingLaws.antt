@@ -8,7 +8,7 @@ use Rattle.std.proofs.lemmas.Bool.{false≢true}
 use Rattle.std.proofs.Math.Bool.{or-false, or_assoc}
 use Rattle.std.proofs.lemmas.List.{take-append-drop}
 use Rattle.std.proofs.lemmas.List.Sums.{sum_by-cons, count_by-le-length}
-use Rattle.std.proofs.lemmas.Option.{none-some, same_Some}
+use Rattle.std.proofs.lemmas.Option.{none-some}
 use Rattle.link_model.specs.Books.{Slots, slot_at, filled_with, with_run}
 use Rattle.link_model.specs.Judgement.{is_conflict, is_new}
 use Rattle.link_model.specs.Kept.{SliceRun, cut_off, next_slice, next_slices, has_form, has_place, first_slice, run_from, slice_run}
@@ -18,7 +18,7 @@ use Rattle.link_model.specs.declared.outcome.Outcome.TheVariants.{SlicesForm, Sl
 use Rattle.link_model.proofs.Slots.{okay_is}
 use Rattle.link_gather.specs.Filling.{cut_by, slices_cut, run_cut, has_conflict, has_new, put_in, put_result, is_put_other, is_put_new}
 use Rattle.vc_types.specs.Fields.{and_then}
-use Rattle.vc_types.specs.Slices.{coded_slice, length_read, slice_length}
+use Rattle.vc_types.specs.Slices.{slice_length}
 use Rattle.vc_types.specs.TransformParameters.{Parameters}
 use Rattle.vc_types.proofs.WholeSlices.{begins}
 

@@ -1,5 +1,5 @@
 -- The feeder's own way worked by hand, without workers: loss and late repeats, fields, and sessions one after another.
-use Rattle.std.proofs.Common.{◌≡◌, ℕ, ◌+◌, ◌^◌, List, [], ◌∷◌, ◌++◌, refl, replicate}
+use Rattle.std.proofs.Common.{◌≡◌, ℕ, ◌+◌, ◌^◌, List, [], ◌∷◌, ◌++◌, refl}
 use Rattle.link_model.specs.Complete.{has_all_slices, all_bytes, whole_picture}
 use Rattle.vc_types.specs.FieldPairs.{interleaved_rows}
 use Rattle.vc_types.specs.RawFrames.{sample_bytes, frame_bytes}
@@ -41,7 +41,7 @@ use Rattle.link_model.specs.Feeders.{session_opening, kept_job, heard_pictures, 
 use Rattle.link_model.specs.Machine.{Enter}
 use Rattle.link_model.specs.Machine.{Finish}
 use Rattle.vc_types.specs.Slices.{slice_coefficients}
-use Rattle.std.specs.Prelude.{fold, length}
+use Rattle.std.specs.Prelude.{fold}
 use Rattle.link_model.specs.Feeders.{Feeder, new_feeder}
 use Rattle.link_model.specs.Next.{next_feeder}
 use Rattle.link_model.proofs.WorkedDatagrams.{parameters_datagram, grey, dark_frame, first_picture, late_slices, fields, end_datagram, first_session, small_picture, two_sessions}

@@ -1,6 +1,5 @@
 -- Sessions one after another, worked by hand.
-use Rattle.std.proofs.Common.{◌≡◌, ℕ, ◌+◌, ◌-◌, ◌^◌, true, List, [], ◌∷◌, ◌++◌, refl, replicate, length}
-use Rattle.std.specs.Int.{w16, w32, to_be_bytes}
+use Rattle.std.proofs.Common.{◌≡◌, ℕ, ◌+◌, ◌-◌, ◌^◌, true, List, [], ◌∷◌, ◌++◌, refl}
 use Rattle.link_model.specs.Complete.{has_all_slices, all_bytes, whole_picture}
 use Rattle.vc_types.specs.FieldPairs.{interleaved_rows}
 use Rattle.vc_types.specs.RawFrames.{sample_bytes, frame_bytes}

@@ -6,8 +6,7 @@ use Rattle.std.proofs.lemmas.Bool.{and_parts}
 use Rattle.std.proofs.lemmas.List.Folds.{list_any-append}
 use Rattle.std.specs.Prelude.{filter, ◌||◌, ◌==◌, not, Some, None}
 use Rattle.std.specs.List.{list_all}
-use Rattle.link_model.specs.Places.{Answered}
-use Rattle.link_reception.specs.Exchanging.{Exchange, Proposed, Fetched, exchanged, all_exchanged, not_at, out_at, takes_done, back_from}
+use Rattle.link_reception.specs.Exchanging.{Exchange, Proposed, Fetched, exchanged, all_exchanged, not_at, out_at, back_from}
 use Rattle.link_reception.specs.Receptions.{SliceOut, Reception}
 use Rattle.link_reception.proofs.OutKept.{takes_done-out}
 use Rattle.slice_exchange.specs.Calls.{out_exchanged}

@@ -1,6 +1,6 @@
 -- A receiver worked by hand, without places: what it offers, what it writes as each datagram comes
 -- and at the end, and its counts; a window of two, fields, and two sessions.
-use Rattle.std.proofs.Common.{◌≡◌, ℕ, ◌+◌, ◌^◌, List, [], ◌∷◌, ◌++◌, refl, replicate}
+use Rattle.std.proofs.Common.{◌≡◌, ℕ, ◌+◌, ◌^◌, List, [], ◌∷◌, ◌++◌, refl}
 use Rattle.link_model.specs.Complete.{has_all_slices, all_bytes, whole_picture}
 use Rattle.vc_types.specs.FieldPairs.{interleaved_rows}
 use Rattle.vc_types.specs.RawFrames.{sample_bytes, frame_bytes}
@@ -41,8 +41,6 @@ use Rattle.vc_types.specs.Video.{format_of, range_of, video_depth}
 use Rattle.vc_types.specs.Wavelets.{synthesis_steps, lifted_by, synthesised}
 use Rattle.vc_types.specs.Slices.{slice_coefficients}
 use Rattle.std.specs.Prelude.{map}
-use Rattle.std.specs.Int.{w16, w32, to_be_bytes}
-use Rattle.std.proofs.Common.{length}
 use Rattle.std.specs.Prelude.{fold, map}
 use Rattle.link_model.specs.Books.{book_takes, book_of, book_outcome}
 use Rattle.link_model.specs.Judgement.{no_counts}

@@ -2,15 +2,13 @@
 use Rattle.std.proofs.Common.{◌≡◌, ℕ, suc, ◌+◌, ◌-◌, ◌*◌, ◌%◌, ◌^◌, ◌<◌, ◌≤◌, true, List, [], ◌∷◌, ◌++◌, length, take, get_or, Option, Some, None, refl, sym, ap, subst, ◌∙◌, arith}
 use Rattle.std.specs.Prelude.{All}
 use Rattle.std.specs.Global.{Vec}
-use Rattle.std.specs.List.{enumerate_from}
 use Rattle.std.proofs.lemmas.Bool.Decides.{nat_tests}
 use Rattle.std.proofs.lemmas.List.{append-nil, get_or-map, length-map}
 use Rattle.std.proofs.lemmas.List.Elements.{All-head, All-tail}
-use Rattle.std.proofs.lemmas.List.FromFn.{length-enumerate_from}
 use Rattle.std.proofs.Math.Nat.{mul-pos}
 use Rattle.std.proofs.Math.Seq.{take-suc}
 use Rattle.std.proofs.lemmas.Grind.{common_steps}
-use Rattle.link_model.specs.Sending.{Outgoing, datagrams_from, pictures_per_frame, runs_of_slices, sent_datagram, timestamp_of}
+use Rattle.link_model.specs.Sending.{Outgoing, pictures_per_frame, runs_of_slices, timestamp_of}
 use Rattle.link_model.specs.SendingPictures.{slice_room}
 use Rattle.link_sender.specs.declared.encoding.FrameSlices.{FrameSlices}
 use Rattle.link_sender.specs.declared.outbox.Outbox.{Outbox}

@@ -1,12 +1,12 @@
 -- The books of a session's window are whole, and a picture that has its parameters keeps them.
 use Rattle.std.proofs.Common.{◌≡◌, ℕ, ◌+◌, ◌≤◌, min, Bool, true, false, List, []}
-use Rattle.std.proofs.Common.{◌∷◌, ◌++◌, length, map, Option, Some, None, Result, Ok, Err, refl, ap}
+use Rattle.std.proofs.Common.{◌∷◌, ◌++◌, length, Option, Some, None, Result, Ok, Err, refl, ap}
 use Rattle.std.proofs.Common.{sym, subst, ◌∙◌, inl, inr, arith, cond, append-nil}
 use Rattle.std.specs.Prelude.{◌⊎◌, ◌&&◌, not, nat_le, nat_lt}
 use Rattle.std.specs.List.{cons_option}
 use Rattle.std.specs.Option.{option_or}
-use Rattle.std.proofs.lemmas.Bool.{cases_Bool, eq-eqb, leb-true}
-use Rattle.std.proofs.lemmas.Option.{cond_some, same_Some, none-some, slice_get_past}
+use Rattle.std.proofs.lemmas.Bool.{cases_Bool, leb-true}
+use Rattle.std.proofs.lemmas.Option.{cond_some, slice_get_past}
 use Rattle.link_model.specs.Books.{Gathered, Book, book_of, book_by, gathered_of}
 use Rattle.link_model.specs.Kept.{Own, own, own_slice, SliceRun, first_copy, first_slice, has_form}
 use Rattle.link_model.specs.Kept.{next_slices, run_from, run_taken, slice_in, slice_run}

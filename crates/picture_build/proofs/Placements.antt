@@ -1,9 +1,7 @@
 -- Where the coefficients of all slices stand: no two at one place, none outside the padded grid, each at its own place.
-use Rattle.std.proofs.Common.{◌≡◌, ℕ, ◌<◌, refl, sym, ◌∙◌, inl, inr}
-use Rattle.std.specs.Prelude.{nat_lt, ◌&&◌}
-use Rattle.std.proofs.lemmas.Bool.{cases_Bool, and_parts, ltb-true}
+use Rattle.std.proofs.Common.{◌≡◌, ℕ, ◌<◌, refl, sym, ◌∙◌}
 use Rattle.vc_types.specs.declared.video.Component.{Component}
-use Rattle.vc_types.specs.Subbands.{slice_count, slice_rectangles, slice_coefficient_count, coefficient_place, padded_width, padded_height}
+use Rattle.vc_types.specs.Subbands.{slice_count, slice_coefficient_count, coefficient_place}
 use Rattle.vc_types.specs.TransformParameters.{Parameters}
 use Rattle.vc_types.proofs.PlacesMet.{met_once}
 use Rattle.vc_geometry.proofs.CoefficientPlaces.{place-inside}

@@ -2,7 +2,7 @@
 use Rattle.std.proofs.Common.{◌≡◌, ℕ, zero, suc, ◌+◌, ◌*◌, ◌<◌, ◌^◌, ℤ, pos, unsigned_abs, Bool, true, false, cond, List, length, map, get_or, refl, sym, subst, arith, inl, inr}
 use Rattle.std.specs.Prelude.{All, nat_lt, ◌&&◌, ◌||◌}
 use Rattle.std.specs.List.{range_with_len, list_any}
-use Rattle.std.proofs.lemmas.Bool.{cases_lt, cases_Bool, and_parts, ltb-true}
+use Rattle.std.proofs.lemmas.Bool.{cases_lt}
 use Rattle.std.proofs.lemmas.Bool.Decides.{nat_tests}
 use Rattle.std.proofs.Math.ListN.{get_or-eq_default}
 use Rattle.vc_geometry.proofs.CoefficientPlaces.{place-inside}
@@ -22,7 +22,7 @@ use Rattle.vc_types.specs.Planes.{Planes}
 use Rattle.vc_types.specs.Rasters.{Lattice, cell_at}
 use Rattle.vc_types.specs.SliceCoefficients.{AreSliceCoefficients}
 use Rattle.vc_types.specs.Slices.{is_large}
-use Rattle.vc_types.specs.Subbands.{slice_count, slice_rectangles, slice_coefficient_count, coefficient_place, padded_width, padded_height}
+use Rattle.vc_types.specs.Subbands.{slice_count, slice_coefficient_count, coefficient_place, padded_width}
 use Rattle.vc_types.specs.TransformParameters.{Parameters}
 
 not_large : (z : ℤ) → unsigned_abs z < 2 ^ 60 → is_large z ≡ false

@@ -1,5 +1,5 @@
 -- The picture of the tests has the sizes and the samples that its settings ask for.
-use Rattle.std.proofs.Common.{◌≡◌, ℕ, ◌<◌, false, true, [], ◌∷◌, refl, sym, subst, ◌∙◌, ap, arith}
+use Rattle.std.proofs.Common.{◌≡◌, ℕ, ◌<◌, [], ◌∷◌, refl, sym, subst, ◌∙◌, ap, arith}
 use Rattle.std.specs.Prelude.{All}
 use Rattle.std.proofs.lemmas.List.Elements.{All-nil, All-cons}
 use Rattle.link_model.specs.SendingPictures.{sent_sequence, sent_parameters}

@@ -1,11 +1,10 @@
 -- The codes of a block, number after number and subband after subband.
-use Rattle.std.proofs.Common.{◌≡◌, ℕ, zero, suc, ◌+◌, ◌-◌, ◌<◌, ◌≤◌, ℤ, unsigned_abs, Bool, true, false, eqb, List, [], ◌∷◌, ◌++◌, length, take, drop, replicate, refl, sym, ap, ◌∙◌, arith, append_assoc, length-append, length-drop, inl, inr}
+use Rattle.std.proofs.Common.{◌≡◌, ℕ, zero, suc, ◌+◌, ◌-◌, ◌<◌, ◌≤◌, ℤ, unsigned_abs, Bool, true, false, List, [], ◌∷◌, ◌++◌, length, take, drop, replicate, refl, sym, ap, ◌∙◌, arith, append_assoc, length-append, length-drop, inl, inr}
 use Rattle.std.specs.Prelude.{slice_index_or, map, ◌||◌}
 use Rattle.std.specs.List.{flat_map, list_any, zip}
 use Rattle.std.proofs.lemmas.List.{length-replicate, take-append-drop}
 use Rattle.std.proofs.lemmas.List.Folds.{list_any-append}
 use Rattle.std.proofs.lemmas.Bool.{cases_eq, ne_eqb}
-use Rattle.std.proofs.lemmas.Bool.Decides.{nat_tests}
 use Rattle.std.proofs.lemmas.Grind.{replicate_next}
 use Rattle.vc_types.specs.declared.video.Component.{Component}
 use Rattle.vc_types.specs.Codes.{uint_bits, spread_digits, sint_bits}

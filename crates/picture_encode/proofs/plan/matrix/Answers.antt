@@ -1,5 +1,4 @@
-use Rattle.std.proofs.Common.{◌≡◌, ℕ, Bool, true, cond, None, ap, ◌∙◌, arith}
-use Rattle.vc_types.specs.Quantisation.{default_matrix}
+use Rattle.std.proofs.Common.{◌∙◌, arith}
 use Rattle.link_model.proofs.SentHeads.{by_symmetry}
 use Rattle.vc_types.proofs.MatrixEnds.{default_filled}
 use Rattle.picture_encode.proofs.plan.matrix.Goals as goal
