@@ -9,7 +9,7 @@ use Rattle.link_gen.specs.Generator.{generated_frame, plane_samples, samples_bef
 use Rattle.link_model.specs.Sending.{pictures_of}
 use Rattle.link_model.specs.SendingFaults.{SendFault, SampleRange, first_of_slices, first_sample_fault, first_slice_fault, is_too_large, send_fault, slice_fault}
 use Rattle.link_model.specs.SendingPictures.{sent_parameters, sent_sequence, slices_with_indices}
-use Rattle.link_sender.proofs.Outside.{none_outside}
+use Rattle.sent_counts.proofs.SentFrames.{none_outside}
 use Rattle.vc_types.specs.declared.video.Component.TheVariants.{Y, C1, C2}
 use Rattle.vc_types.specs.Planes.{Planes}
 use Rattle.vc_types.specs.SenderSettings.{Frames, Sending}

@@ -17,7 +17,7 @@ use Rattle.std.proofs.Math.Pow.{pow_mono, pow_pos}
 use Rattle.link_model.specs.Sending.{both_fields, end_datagram, outgoing, EndContent, pictures_of, pictures_per_frame, sent_datagrams}
 use Rattle.link_model.specs.SendingFaults.{SendFault, first_outside, first_sample_fault, plane_fault}
 use Rattle.link_model.specs.SendingPictures.{plane_in, sent_parameters, sent_sequence}
-use Rattle.link_model.proofs.SentHeads.{plan}
+use Rattle.link_model.proofs.SentHeads.{between, plan}
 use Rattle.vc_types.specs.declared.settings.SendSettings.{SendSettings}
 use Rattle.vc_types.specs.declared.video.Component.{Component}
 use Rattle.vc_types.specs.declared.video.Component.TheVariants.{Y, C1, C2}
@@ -32,7 +32,7 @@ use Rattle.vc_types.specs.Subbands.{levels, padded_height, padded_width, plane_d
 use Rattle.vc_types.specs.Video.{colour_height, colour_width, picture_height, video_depth}
 use Rattle.vc_types.proofs.SliceCounts.{some_across, some_down}
 use Rattle.sent_counts.specs.Counts.{AreFew, HaveSoundSamples}
-use Rattle.sent_counts.proofs.Heads.{between, short_header, short_parameters_of}
+use Rattle.sent_counts.proofs.Heads.{short_header, short_parameters_of}
 use Rattle.sent_counts.proofs.SentBytes.{AreAllSmall, HaveSmallSamples, KeepsSmall, datagram_length, datagrams_bytes, datagrams_count, pictures_bytes, pictures_few}
 use Rattle.sent_counts.proofs.SmallCells.{HasSmallSamples}
 

@@ -3,7 +3,7 @@ use Rattle.vc_ports.specs.Reading.{GaveAll, Gave}
 use Rattle.vc_units.proofs.Infos.{data_unit-stub}
 use Rattle.pack_command.specs.Packs.{pack_settings}
 use Rattle.pack_command.proofs.UnitsPacked.{at_edge}
-use Rattle.play_command.proofs.Stopping.{none_of}
+use Rattle.vc_ports.proofs.Fronts.{none_of_one}
 use Rattle.pack_command.proofs.Stopping.{input_failed, past_limit, packs_whole, packs_part}
 use Rattle.pack_command.proofs.command.pack.Goals as goal
 
@@ -27,7 +27,7 @@ returns-in-End g c =
     let s = pack_settings c.args.size c.args.ssrc c.args.pt c.args.seq c.args.tick in
     let packed = rw (c.new-packer.ensures.settings, c.in-AtLimit.is) at c.in_ok-pack_units.ensures.ended in
     let fills = c.in-End.ensures.bytes in
-    let gave = subst (λ (bytes : List ℕ). GaveAll (g.S.Source.left c.pack_units.new.input) (g.S.Source.left c.fill.new.source) bytes) (none_of c.fill.new.buf c.in-End.field-0 c.fill.auto.buf fills.0) fills.1 in
+    let gave = subst (λ (bytes : List ℕ). GaveAll (g.S.Source.left c.pack_units.new.input) (g.S.Source.left c.fill.new.source) bytes) (none_of_one c.fill.new.buf c.in-End.field-0 c.fill.auto.buf fills.0) fills.1 in
     packs_whole s c.args.packets _ _ _ packed.so_far (at_edge s c.args.packets c.args.packets _ _ _ _ packed.so_far packed.units _ gave) c.finish-in-End.result (c.finish-in-End.ensures.value s packed.so_far.stream packed.keeps) (λ e. omega (arith, c.in_ok-pack_units.ensures.output_cause.later, c.finish-in-End.ensures.cause.rose e))
 
 -- a failed read
@@ -36,6 +36,6 @@ returns g c =
     let s = pack_settings c.args.size c.args.ssrc c.args.pt c.args.seq c.args.tick in
     let packed = rw (c.new-packer.ensures.settings, c.in-AtLimit.is) at c.in_ok-pack_units.ensures.ended in
     let fills = c.in-Failed.ensures.bytes in
-    let gave = subst (λ (bytes : List ℕ). Gave (g.S.Source.left c.pack_units.new.input) (g.S.Source.left c.fill.new.source) bytes) (none_of c.fill.new.buf c.in-Failed.field-0 c.fill.auto.buf fills.0) fills.1 in
+    let gave = subst (λ (bytes : List ℕ). Gave (g.S.Source.left c.pack_units.new.input) (g.S.Source.left c.fill.new.source) bytes) (none_of_one c.fill.new.buf c.in-Failed.field-0 c.fill.auto.buf fills.0) fills.1 in
     packs_part s c.args.packets _ _ _ (input_failed s c.args.packets c.args.packets _ _ (g.S.Source.left c.pack_units.new.input) _ packed.so_far packed.units refl [] gave (data_unit-stub [] (omega arith)) (inr refl))
     (λ e. omega (arith, c.in_ok-pack_units.ensures.input_cause.later, c.in-Failed.ensures.cause.rose tt)) (λ e. cc)
