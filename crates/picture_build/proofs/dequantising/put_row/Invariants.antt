@@ -9,14 +9,14 @@ invariant-loop-x l = record {
   long : length l.few ≡ 8;
 }
 
-abbrev pub invariant-loop-x-2 : goal.invariant-loop-x-2
-invariant-loop-x-2 l = record {
+abbrev pub invariant-loop-x-then-width-le8 : goal.invariant-loop-x-then-width-le8
+invariant-loop-x-then-width-le8 l = record {
   on : (i : ℕ) → i < l.x → line_of l.cells (l.at + i) ≡ dequantised (line_of l.fn.numbers (l.fn.from + i)) l.fn.quantiser.index;
   off : (i : ℕ) → (i < l.at) ⊎ (l.at + l.width ≤ i) → line_of l.cells i ≡ line_of l.initial.cells i;
 }
 
-abbrev pub invariant-loop-x-3 : goal.invariant-loop-x-3
-invariant-loop-x-3 l = record {
+abbrev pub invariant-loop-x-else-width-le8 : goal.invariant-loop-x-else-width-le8
+invariant-loop-x-else-width-le8 l = record {
   on : (i : ℕ) → i < l.x → line_of l.cells (l.at + i) ≡ dequantised (line_of l.numbers (l.from + i)) l.quantiser.index;
   off : (i : ℕ) → (i < l.at) ⊎ (l.at + l.width ≤ i) → line_of l.cells i ≡ line_of l.initial.cells i;
 }
