@@ -2,10 +2,10 @@
 use Rattle.std.proofs.Common.{◌≡◌, ◌≢◌, ℕ, zero, suc, ◌+◌, ◌<◌, ◌≤◌, Bool, true, false, cond, List, [], ◌∷◌, length, sym, refl, ap, ◌∙◌, arith, eqb, eq-eqb, ne_eqb}
 use mathlib.Core.Logic.{dite}
 use native.Mathlib.Decide.{ℕ_discrete}
-use Rattle.link_model.specs.Board.{lane, lane_at}
+use Rattle.claim_board.specs.Views.{lane}
 use Rattle.claim_board.specs.Counts.{idle_count}
-use Rattle.claim_board.specs.Views.{SeatView}
-use Rattle.link_model.specs.declared.board.Lane.{Lane}
+use Rattle.claim_board.specs.Views.{SeatView, lane_at}
+use Rattle.claim_board.specs.declared.view.Lane.{Lane}
 use Rattle.claim_board.specs.Counts.{occurrences}
 use Rattle.std.proofs.lemmas.List.{get_or_past}
 use Rattle.claim_board.proofs.Idle.{out_is_not_idle}

@@ -2,9 +2,9 @@
 use Rattle.std.proofs.Common.{◌≡◌, refl, ℕ, ◌+◌, ◌<◌, cond, true, false, List, ◌∷◌, length, get_or, set, sym, ap, ◌∙◌, arith, eqb, eq-eqb, ne_eqb, get_or-set_other, get_or-set_same, drop}
 use mathlib.Core.Logic.{dite}
 use native.Mathlib.Decide.{ℕ_discrete}
-use Rattle.link_model.specs.Board.{lane, lane_at, after_put, after_return}
-use Rattle.link_model.specs.declared.board.Lane.{Lane}
-use Rattle.claim_board.specs.Views.{SeatView}
+use Rattle.claim_board.specs.Views.{lane}
+use Rattle.claim_board.specs.declared.view.Lane.{Lane}
+use Rattle.claim_board.specs.Views.{SeatView, lane_in, lane_at, lanes_put, lanes_back}
 use Rattle.claim_board.specs.Counts.{idle_count, occurrences}
 use Rattle.claim_board.proofs.Sums.{occurrences-cons}
 
@@ -18,26 +18,26 @@ out_is_not_idle l e = grind arith
 
 pub idle_put : (v : SeatView) (p q : ℕ) (xs ys : List ℕ) → p < length v.lanes → (lane_at v p).is_fetched ≡ true → (lane_at v p).is_out ≡ false
     → ((k : ℕ) → occurrences k xs ≡ idle_count (lane_at v k)) → occurrences q xs ≡ cond (eqb p q) 1 0 + occurrences q ys
-    → occurrences q ys ≡ idle_count (lane_at (after_put v p) q)
+    → occurrences q ys ≡ idle_count (lane_in (lanes_put v.lanes p) q)
 idle_put v p q xs ys h fetched empty idle less = grind (arith, get_or-set_same, get_or-set_other)
 
 pub idle_returned : (v : SeatView) (p q : ℕ) (xs : List ℕ) → p < length v.lanes → (lane_at v p).is_out ≡ true
-    → ((k : ℕ) → occurrences k xs ≡ idle_count (lane_at v k)) → occurrences q (p ∷ xs) ≡ idle_count (lane_at (after_return v p) q)
+    → ((k : ℕ) → occurrences k xs ≡ idle_count (lane_at v k)) → occurrences q (p ∷ xs) ≡ idle_count (lane_in (lanes_back v.lanes p) q)
 idle_returned v p q xs h out idle =
     let new : Lane = lane (lane_at v p).serial true false in
     rw (occurrences-cons q p xs) (dite (ℕ_discrete p q)
-    (λ e. let now : idle_count (lane_at (after_return v p) q) ≡ 1 = ap (λ (k : ℕ). idle_count (lane_at (after_return v p) k)) (sym e) ∙ ap idle_count (get_or-set_same v.lanes p new (lane 0 false false) h) in
+    (λ e. let now : idle_count (lane_in (lanes_back v.lanes p) q) ≡ 1 = ap (λ (k : ℕ). idle_count (lane_in (lanes_back v.lanes p) k)) (sym e) ∙ ap idle_count (get_or-set_same v.lanes p new (lane 0 false false) h) in
     let was : occurrences q xs ≡ 0 = idle q ∙ (ap (λ (k : ℕ). idle_count (lane_at v k)) (sym e) ∙ out_is_not_idle (lane_at v p) out) in
     let one : cond {A = ℕ} (eqb p q) 1 0 ≡ 1 = (rw (eq-eqb p q e) refl) in omega arith)
-    (λ ne. let now : idle_count (lane_at (after_return v p) q) ≡ idle_count (lane_at v q) = ap idle_count (get_or-set_other v.lanes p q new (lane 0 false false) (λ x. ne (sym x))) in
+    (λ ne. let now : idle_count (lane_in (lanes_back v.lanes p) q) ≡ idle_count (lane_at v q) = ap idle_count (get_or-set_other v.lanes p q new (lane 0 false false) (λ x. ne (sym x))) in
     let was = idle q in let none : cond {A = ℕ} (eqb p q) 1 0 ≡ 0 = (rw (ne_eqb p q ne) refl) in omega arith))
 
-pub idle_after_put : (v w : SeatView) (p : ℕ) (xs ys : List ℕ) → w ≡ after_put v p → ((q : ℕ) → occurrences q xs ≡ cond (eqb p q) 1 0 + occurrences q ys)
+pub idle_after_put : (v w : SeatView) (p : ℕ) (xs ys : List ℕ) → w.lanes ≡ lanes_put v.lanes p → ((q : ℕ) → occurrences q xs ≡ cond (eqb p q) 1 0 + occurrences q ys)
     → p < length v.lanes → (lane_at v p).is_fetched ≡ true → (lane_at v p).is_out ≡ false → ((k : ℕ) → occurrences k xs ≡ idle_count (lane_at v k))
     → (q : ℕ) → occurrences q ys ≡ idle_count (lane_at w q)
-idle_after_put v w p xs ys e less h fetched empty idle q = idle_put v p q xs ys h fetched empty idle (less q) ∙ ap (λ (x : SeatView). idle_count (lane_at x q)) (sym e)
+idle_after_put v w p xs ys e less h fetched empty idle q = idle_put v p q xs ys h fetched empty idle (less q) ∙ ap (λ (ls : List Lane). idle_count (lane_in ls q)) (sym e)
 
-pub idle_after_return : (v w : SeatView) (p : ℕ) (xs ys : List ℕ) → w.lanes ≡ (after_return v p).lanes → ys ≡ p ∷ xs → p < length v.lanes → (lane_at v p).is_out ≡ true
+pub idle_after_return : (v w : SeatView) (p : ℕ) (xs ys : List ℕ) → w.lanes ≡ lanes_back v.lanes p → ys ≡ p ∷ xs → p < length v.lanes → (lane_at v p).is_out ≡ true
     → ((k : ℕ) → occurrences k xs ≡ idle_count (lane_at v k)) → (q : ℕ) → occurrences q ys ≡ idle_count (lane_at w q)
 idle_after_return v w p xs ys e more h out idle q = ap (occurrences q) more ∙ (idle_returned v p q xs h out idle ∙ ap (λ (ls : List Lane). idle_count (get_or ls q (lane 0 false false))) (sym e))
 

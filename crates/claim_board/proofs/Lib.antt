@@ -1,9 +1,14 @@
 pub mod Sums
+pub mod Histories
 pub mod Keeps
+pub mod Workers
+pub mod Feeds
 pub mod Decks
 pub mod Few
-pub mod Backs
-pub mod Completes
 pub mod Opens
 pub mod Holds
 pub mod Idle
+pub mod Sweeps
+pub mod Tight
+pub mod Progress
+pub mod Events

@@ -1,17 +1,8 @@
--- How often a claim, or a place, stands in a list.
+-- How often a place stands in a list, and whether a seat holds it.
 use Rattle.std.specs.Prelude.{ℕ, List, ◌==◌, cond}
 use Rattle.std.specs.List.{count_by}
-use Rattle.link_model.specs.Board.{is_hold}
-use Rattle.link_model.specs.declared.board.Hold.{Hold}
-use Rattle.link_model.specs.declared.board.Lane.{Lane}
-
--- how often a place with this serial is held
-abbrev pub holds_of : ℕ → ℕ → List Hold → ℕ
-holds_of place serial held = count_by (is_hold place serial) held
-
--- how often a place is held, whatever the serial
-abbrev pub holds_at : ℕ → List Hold → ℕ
-holds_at place held = count_by (λ h. h.place == place) held
+use Rattle.link_model.specs.Places.{Content, Claimed}
+use Rattle.claim_board.specs.declared.view.Lane.{Lane}
 
 -- how often a number stands in a list
 abbrev pub occurrences : ℕ → List ℕ → ℕ
@@ -20,3 +11,8 @@ occurrences number numbers = count_by (λ n. n == number) numbers
 -- how often an empty place stands among those whose slots the feeder has
 abbrev pub idle_count : Lane → ℕ
 idle_count l = cond l.is_fetched (cond l.is_out 0 1) 0
+
+-- how often a place with this content stands among those whose slots the seat has
+abbrev pub held_count : ℕ → Content → ℕ
+held_count seat (Claimed worker job) = cond (worker == seat) 1 0
+held_count seat content = 0

@@ -1,13 +1,13 @@
 -- The feeder's form of a board.
-use Rattle.std.specs.Prelude.{◌≡◌, ◌≢◌, ℕ, ◌+◌, ◌%◌, ◌≤◌, ◌<◌, Bool, true, false}
+use Rattle.std.specs.Prelude.{◌≡◌, ◌≢◌, ℕ, zero, suc, ◌%◌, ◌<◌, Bool, true, false}
 use Rattle.std.specs.Prelude.{if◌then◌else◌, List, slice_index_or, slice_set, Option}
 use Rattle.std.specs.Prelude.{Result, IfOk, IfErr, OnSome, IfSome, IfNone}
-use Rattle.std.specs.List.{count_by}
 use Rattle.std.specs.Arc.{arc_value}
-use Rattle.link_model.specs.Board.{lane_at, after_load, after_put}
-use Rattle.claim_board.specs.Views.{SeatView, after_take, after_withdraw, may_take_a_job}
+use Rattle.claim_board.specs.Views.{SeatView, Did, lane_at, may_take_a_job}
 use Rattle.claim_board.specs.Seats.{feeder_sees, place_count}
 use Rattle.claim_board.specs.declared.feeder.BoardFeeder.{BoardFeeder}
+use Rattle.claim_board.specs.declared.view.Deed.TheVariants.{WasRead, WasPut, WasTaken}
+use Rattle.claim_board.specs.declared.view.Deed.TheVariants.{WasWithdrawn}
 use Rattle.vc_slice.specs.declared.done.SliceDone.{SliceDone}
 use Rattle.vc_slice.specs.declared.job.SliceJob.{SliceJob}
 
@@ -35,30 +35,18 @@ pub record IsLowestFree (places : ℕ) (v : SeatView) (place : ℕ) : Type 0 whe
 abbrev pub HasNoFree : ℕ → SeatView → Type 0
 HasNoFree places v = (place : ℕ) → place < places → may_take_a_job v place ≡ false
 
--- a put: before it the place was the lowest free one
-pub record HasPut (f : BoardFeeder) (place : ℕ) : Type 0 where
-  pub asked : SeatView
-  pub lowest : IsLowestFree (feeder_bound f) asked place
-  pub put : form_sees f ≡ after_put asked place
-
 -- the call's own step read a word that isn't in this state
 pub record FoundNot (state place : ℕ) (old new : SeatView) : Type 0 where
   pub word : ℕ
   pub other : word % 4 ≢ state
-  pub read : new ≡ after_load old place word
+  pub read : Did old new (WasRead place word)
 
 -- ---- what the calls of places do
 
--- a put: each place that was left was asked; then the lowest free place has the job, if there is
--- one
-pub record HasOffered (old new : BoardFeeder) (answer : Result ℕ SliceJob) : Type 0 where
-  pub asked : (form_sees old).steps + count_by (λ left. left) (left_in old) ≤ (form_sees new).steps
-  pub lowest : IfOk answer (HasPut new)
-  pub full : IfErr answer (λ job. HasNoFree (feeder_bound new) (form_sees new))
-
 -- a take: the place is empty again and marked no more, or its own step read a word that isn't done
 pub record HasAsked (old new : BoardFeeder) (place : ℕ) (answer : Option SliceDone) : Type 0 where
-  pub took : IfSome answer (λ done. form_sees new ≡ after_take (form_sees old) place done)
+  pub took : IfSome answer (λ done. Did (form_sees old) (form_sees new)
+      (WasTaken place (lane_at (form_sees old) place).serial done))
   pub mark : OnSome answer (left_in new ≡ slice_set (left_in old) place false)
   pub not_yet : IfNone answer (FoundNot 3 place (form_sees old) (form_sees new))
   pub stays : IfNone answer (left_in new ≡ left_in old)
@@ -66,10 +54,39 @@ pub record HasAsked (old new : BoardFeeder) (place : ℕ) (answer : Option Slice
 -- the same for a withdrawal
 pub record HasAskedBack (old new : BoardFeeder) (place : ℕ) (answer : Option SliceJob)
     : Type 0 where
-  pub took : IfSome answer (λ job. form_sees new ≡ after_withdraw (form_sees old) place job)
+  pub took : IfSome answer (λ job. Did (form_sees old) (form_sees new)
+      (WasWithdrawn place (lane_at (form_sees old) place).serial job))
   pub mark : OnSome answer (left_in new ≡ slice_set (left_in old) place false)
   pub not_waiting : IfNone answer (FoundNot 1 place (form_sees old) (form_sees new))
   pub stays : IfNone answer (left_in new ≡ left_in old)
+
+-- a take where the place was left, and nothing where it wasn't
+pub record HasAskedIfLeft (old new : BoardFeeder) (place : ℕ) : Type 0 where
+  pub asked : is_left old place ≡ true
+      → (answer : Option SliceDone) × HasAsked old new place answer
+  pub same : is_left old place ≡ false → new ≡ old
+
+-- the same for each place below this one, in turn
+abbrev pub HasAskedBelow : ℕ → BoardFeeder → BoardFeeder → Type 0
+HasAskedBelow zero old new = new ≡ old
+HasAskedBelow (suc place) old new =
+    (between : BoardFeeder) × HasAskedBelow place old between × HasAskedIfLeft between new place
+
+-- a put: the place was the lowest free one, and has the job
+pub record HasPut (asked new : BoardFeeder) (place : ℕ) (job : SliceJob) : Type 0 where
+  pub lowest : IsLowestFree (feeder_bound asked) (form_sees asked) place
+  pub put : Did (form_sees asked) (form_sees new) (WasPut place job)
+  pub left : left_in new ≡ left_in asked
+
+-- an offer: each place that was left was asked; then the lowest free place has the job, if there is
+-- one
+pub record HasOffered (old new : BoardFeeder) (job : SliceJob) (answer : Result ℕ SliceJob)
+    : Type 0 where
+  pub asked : BoardFeeder
+  pub sweep : HasAskedBelow (feeder_bound old) old asked
+  pub put : IfOk answer (λ place. HasPut asked new place job)
+  pub full : IfErr answer (λ back. (new ≡ asked)
+      × HasNoFree (feeder_bound new) (form_sees new))
 
 -- a place that is out is marked as left
 pub record HasLeft (old new : BoardFeeder) (place : ℕ) : Type 0 where

@@ -1,4 +1,5 @@
 pub mod Counts
+pub mod History
 pub mod Views
 pub mod Rule
 pub mod Plays
@@ -6,3 +7,4 @@ pub mod Seats
 pub mod Steps
 pub mod Calls
 pub mod Feeders
+pub mod Laws

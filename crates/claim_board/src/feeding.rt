@@ -1,18 +1,20 @@
 ghost use Rattle.std.specs.Prelude.{◌≡◌, ◌≢◌, ℕ, ◌+◌, ◌-◌, ◌%◌, ◌<◌, ◌≤◌, ◌^◌, ◌∷◌, true, false};
 ghost use Rattle.std.specs.Prelude.{OnOk, OnErr, IfOk, IfErr, cond, ◌==◌, slice_set, vec_len};
 ghost use Rattle.std.specs.VecDeque.{deque_len, deque_capacity};
-ghost use Rattle.link_model.specs.Board.{lane, lane_at, after_load, after_put};
+ghost use Rattle.claim_board.specs.Views.{lane};
 ghost use Rattle.claim_board.specs.Counts.{occurrences};
 ghost use Rattle.claim_board.specs.Plays.{empty_slots};
 ghost use Rattle.claim_board.specs.Seats.{IsFeederOf, feeder_sees, place_count};
-ghost use Rattle.claim_board.specs.Views.{after_take, after_withdraw};
+ghost use Rattle.claim_board.specs.Views.{Did, lane_at};
 ghost use Rattle.claim_board.specs.Steps.{MayStep, IsSameSeat};
+ghost use Rattle.claim_board.specs.declared.view.Deed.TheVariants.{WasRead, WasPut, WasTaken};
+ghost use Rattle.claim_board.specs.declared.view.Deed.TheVariants.{WasWithdrawn};
 
 use crate::board::Board;
 use crate::seats::{FeederSeat, Seat};
 use crate::slots::bring;
+use crate::view::Lane;
 use crate::working::NotWaiting;
-use link_model::Lane;
 use std::collections::VecDeque;
 use vc_slice::{SliceDone, SliceJob};
 
@@ -31,7 +33,7 @@ impl Board {
         requires empty { (lane_at (feeder_sees f.old) place).is_out ≡ false }
         requires serial { (lane_at (feeder_sees f.old) place).serial < 2 ^ 61 }
         ensures seat { IsFeederOf self.now f.new }
-        ensures view { feeder_sees f.new ≡ after_put (feeder_sees f.old) place }
+        ensures did { Did (feeder_sees f.old) (feeder_sees f.new) (WasPut place job) }
         ensures out { lane_at (feeder_sees f.new) place
             ≡ lane ((lane_at (feeder_sees f.old) place).serial + 1) true true }
     {
@@ -62,13 +64,13 @@ impl Board {
         job: SliceJob,
     )
         requires table { MayStep self.now seat.old place }
-        requires feeder { seat.old.me.0.feeds ≡ true }
+        requires feeder { seat.old.me.0.number ≡ 0 }
         requires idle { (lane_at seat.old.me.0 place ≡ lane (serial - 1) true false)
             × (0 < serial) × (serial ≤ 2 ^ 61) }
         requires slots { (seat.old.me.1 ≡ empty_slots order.old.items)
             × (0 < occurrences place order.old.items) }
         ensures id { IsSameSeat seat.old seat.new }
-        ensures view { seat.new.me.0 ≡ after_put seat.old.me.0 place }
+        ensures did { Did seat.old.me.0 seat.new.me.0 (WasPut place job) }
         ensures slots { seat.new.me.1 ≡ empty_slots order.new.items }
         ensures order { (q : ℕ)
             → occurrences q order.old.items
@@ -86,13 +88,13 @@ impl Board {
         requires seat { IsFeederOf self.now f.old }
         requires place { place < place_count self.now }
         ensures seat { IsFeederOf self.now f.new }
-        ensures took { IfOk result (λ done. feeder_sees f.new
-            ≡ after_take (feeder_sees f.old) place done) }
+        ensures took { IfOk result (λ done. Did (feeder_sees f.old) (feeder_sees f.new)
+            (WasTaken place (lane_at (feeder_sees f.old) place).serial done)) }
         ensures empty { OnOk result (lane_at (feeder_sees f.new) place
             ≡ lane (lane_at (feeder_sees f.old) place).serial true false) }
         ensures was_out { OnOk result ((lane_at (feeder_sees f.old) place).is_out ≡ true) }
-        ensures not_yet { IfErr result (λ e. (feeder_sees f.new
-            ≡ after_load (feeder_sees f.old) place e.word) × (e.word % 4 ≢ 3)) }
+        ensures not_yet { IfErr result (λ e. Did (feeder_sees f.old) (feeder_sees f.new)
+            (WasRead place e.word) × (e.word % 4 ≢ 3)) }
     {
         let FeederSeat {
             seat,
@@ -117,13 +119,13 @@ impl Board {
         requires seat { IsFeederOf self.now f.old }
         requires place { place < place_count self.now }
         ensures seat { IsFeederOf self.now f.new }
-        ensures took { IfOk result (λ job. feeder_sees f.new
-            ≡ after_withdraw (feeder_sees f.old) place job) }
+        ensures took { IfOk result (λ job. Did (feeder_sees f.old) (feeder_sees f.new)
+            (WasWithdrawn place (lane_at (feeder_sees f.old) place).serial job)) }
         ensures empty { OnOk result (lane_at (feeder_sees f.new) place
             ≡ lane (lane_at (feeder_sees f.old) place).serial true false) }
         ensures was_out { OnOk result ((lane_at (feeder_sees f.old) place).is_out ≡ true) }
-        ensures not_waiting { IfErr result (λ e. (feeder_sees f.new
-            ≡ after_load (feeder_sees f.old) place e.word) × (e.word % 4 ≢ 1)) }
+        ensures not_waiting { IfErr result (λ e. Did (feeder_sees f.old) (feeder_sees f.new)
+            (WasRead place e.word) × (e.word % 4 ≢ 1)) }
     {
         let FeederSeat {
             seat,

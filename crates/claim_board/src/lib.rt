@@ -6,6 +6,7 @@ mod board;
 mod cargo;
 mod feeder;
 mod feeding;
+mod laws;
 mod made;
 mod marks;
 mod places;
@@ -15,14 +16,14 @@ mod ring;
 mod seats;
 mod slots;
 mod steps;
+mod view;
 mod working;
 
 pub use board::Board;
 pub use feeder::BoardFeeder;
 pub use feeding::NotYet;
+pub use laws::{each_deed_is_its_event, each_round_has_one_claim, each_step_is_the_last};
 pub use resting::{bell, rest, wake};
 pub use seats::{BellSeat, FeederSeat, WorkerSeat};
+pub use view::{Deed, Entry, Lane, View};
 pub use working::{HeldPlace, NotWaiting};
-
-#[cfg(test)]
-mod tests;

@@ -1,16 +1,17 @@
 ghost use Rattle.std.specs.Prelude.{◌≡◌, ◌<◌, ◌≤◌, ◌^◌, ℕ, [], IfOk, All, true, false, vec_len};
 ghost use Rattle.std.specs.VecDeque.{deque_capacity};
-ghost use Rattle.link_model.specs.Board.{first_view, lane, lane_at, worker_view};
+ghost use Rattle.claim_board.specs.Views.{lane};
 ghost use Rattle.claim_board.specs.Calls.{AreEmpty, IsNewWorker};
 ghost use Rattle.claim_board.specs.Counts.{idle_count, occurrences};
 ghost use Rattle.claim_board.specs.Plays.{empty_slots};
 ghost use Rattle.claim_board.specs.Seats.{IsBellSeatOf, IsFeederOf, feeder_sees, place_count};
+ghost use Rattle.claim_board.specs.Views.{first_view, lane_at};
 
 use crate::board::Board;
 use crate::ring::Bell;
 use crate::seats::{BellPass, BellSeat, FeederSeat, Seat, WorkerSeat};
+use crate::view::Lane;
 use atomic_table::Table;
-use link_model::Lane;
 use std::alloc::{AllocError, Global};
 use std::collections::VecDeque;
 use vc_types::NoMemory;
@@ -132,7 +133,7 @@ fn board_of(alloc: Global, places: usize) -> Result<(Board, Seat, BellPass), All
 
 // The feeder's seat, once each place is fetched.
 fn seated(seat: Seat, bell: BellPass, lanes: Vec<Lane>, order: VecDeque<usize>) -> FeederSeat
-    requires view { (seat.me.0.feeds ≡ true) × (seat.me.0.lanes ≡ lanes.items)
+    requires view { (seat.me.0.number ≡ 0) × (seat.me.0.lanes ≡ lanes.items)
         × (vec_len lanes ≡ seat.table_id.words) }
     requires slots { seat.me.1 ≡ empty_slots order.items }
     requires idle { (place : ℕ)

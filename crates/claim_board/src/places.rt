@@ -1,10 +1,9 @@
-ghost use Rattle.std.specs.Prelude.{◌≡◌, ◌≢◌, ◌+◌, ◌≤◌, ◌<◌, ◌^◌, ℕ, IfOk, IfErr, IfSome, IfNone};
-ghost use Rattle.std.specs.Prelude.{None, false, replicate, if◌then◌else◌};
-ghost use Rattle.std.specs.List.{count_by};
+ghost use Rattle.std.specs.Prelude.{◌≡◌, ◌<◌, ◌^◌, ℕ, IfOk, IfErr, IfSome, IfNone};
+ghost use Rattle.std.specs.Prelude.{None, false, replicate};
 ghost use Rattle.std.specs.Arc.{arc_value};
-ghost use Rattle.claim_board.specs.Feeders.{feeder_bound, form_sees, left_in, is_left};
+ghost use Rattle.claim_board.specs.Feeders.{feeder_bound, form_sees, left_in};
 ghost use Rattle.claim_board.specs.Feeders.{IsLowestFree, HasNoFree, HasOffered, HasAsked};
-ghost use Rattle.claim_board.specs.Feeders.{HasAskedBack, HasLeft};
+ghost use Rattle.claim_board.specs.Feeders.{HasAskedIfLeft, HasAskedBelow, HasAskedBack, HasLeft};
 ghost use Rattle.claim_board.specs.Seats.{IsFeederOf, feeder_sees, place_count};
 
 use crate::board::Board;
@@ -41,8 +40,7 @@ impl BoardFeeder {
     // Asks each place that was left, and drops what is there.
     fn sweep(&mut self)
         ensures bound { feeder_bound self.new ≡ feeder_bound self.old }
-        ensures asked { (form_sees self.old).steps + count_by (λ left. left) (left_in self.old) ≤
-            (form_sees self.new).steps }
+        ensures asked { HasAskedBelow (feeder_bound self.old) self.old self.new }
     {
         if self.left.are_none() {
             return;
@@ -55,10 +53,7 @@ impl BoardFeeder {
     fn ask_if_left(&mut self, place: u32)
         requires place { place < feeder_bound self.old }
         ensures bound { feeder_bound self.new ≡ feeder_bound self.old }
-        ensures asked { (form_sees self.new).steps
-            ≡ (form_sees self.old).steps + (if is_left self.old place then 1 else 0) }
-        ensures others { (other : ℕ) → other ≢ place
-            → is_left self.new other ≡ is_left self.old other }
+        ensures asked { HasAskedIfLeft self.old self.new place }
     {
         if self.left.get(place as usize) {
             let _answer = self.take(place);
@@ -89,7 +84,7 @@ impl Places for BoardFeeder {
         ensures bound { feeder_bound self.new ≡ feeder_bound self.old }
         ensures place { IfOk result (λ place. place < feeder_bound self.old) }
         ensures back { IfErr result (λ same. same ≡ job) }
-        ensures board { HasOffered self.old self.new result }
+        ensures board { HasOffered self.old self.new job result }
     {
         self.sweep();
         match self.free_place() {

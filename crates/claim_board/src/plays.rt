@@ -1,16 +1,16 @@
-ghost use Rattle.link_model.specs.Board.{first_view, worker_view, after_step};
+ghost use Rattle.claim_board.specs.Views.{first_view, with_seat, worker_view};
 ghost use Rattle.claim_board.specs.Rule.{BoardRule};
 ghost use Rattle.claim_board.specs.Plays.{tells_load, tells_put, tells_claim, tells_complete};
 ghost use Rattle.claim_board.specs.Plays.{tells_take, tells_withdraw, tells_fetch};
 
 use crate::cargo::Cargo;
+use crate::view::View;
 use atomic_table::{Play, Split, TableRule};
-use link_model::View;
 
 /// The rule of the board's table.
 pub(crate) struct Rounds;
 
-impl TableRule<Option<Cargo>, View<Cargo>, usize> for Rounds {
+impl TableRule<Option<Cargo>, View, usize> for Rounds {
     ghost holds = { λ _. BoardRule };
 
     ghost first = { first_view };
@@ -18,51 +18,51 @@ impl TableRule<Option<Cargo>, View<Cargo>, usize> for Rounds {
 
 pub(crate) struct Load;
 
-impl Play<Option<Cargo>, View<Cargo>> for Load {
+impl Play<Option<Cargo>, View> for Load {
     ghost then = { tells_load };
 }
 
 pub(crate) struct Put;
 
-impl Play<Option<Cargo>, View<Cargo>> for Put {
+impl Play<Option<Cargo>, View> for Put {
     ghost then = { tells_put };
 }
 
 pub(crate) struct Claim;
 
-impl Play<Option<Cargo>, View<Cargo>> for Claim {
+impl Play<Option<Cargo>, View> for Claim {
     ghost then = { tells_claim };
 }
 
 pub(crate) struct Complete;
 
-impl Play<Option<Cargo>, View<Cargo>> for Complete {
+impl Play<Option<Cargo>, View> for Complete {
     ghost then = { tells_complete };
 }
 
 pub(crate) struct Take;
 
-impl Play<Option<Cargo>, View<Cargo>> for Take {
+impl Play<Option<Cargo>, View> for Take {
     ghost then = { tells_take };
 }
 
 pub(crate) struct Withdraw;
 
-impl Play<Option<Cargo>, View<Cargo>> for Withdraw {
+impl Play<Option<Cargo>, View> for Withdraw {
     ghost then = { tells_withdraw };
 }
 
 pub(crate) struct Fetch;
 
-impl Play<Option<Cargo>, View<Cargo>> for Fetch {
+impl Play<Option<Cargo>, View> for Fetch {
     ghost then = { tells_fetch };
 }
 
 /// Makes a worker's seat.
 pub(crate) struct Hire;
 
-impl Split<View<Cargo>> for Hire {
-    ghost left = { after_step };
+impl Split<View> for Hire {
+    ghost left = { with_seat };
 
-    ghost right = { λ _. worker_view };
+    ghost right = { worker_view };
 }

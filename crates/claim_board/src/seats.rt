@@ -1,14 +1,14 @@
-ghost use Rattle.std.specs.Prelude.{◌≡◌, ℕ, ◌<◌, ◌≤◌, ◌^◌, true, false, vec_len};
+ghost use Rattle.std.specs.Prelude.{◌≡◌, ℕ, ◌<◌, ◌≤◌, ◌^◌, true, vec_len};
 ghost use Rattle.std.specs.VecDeque.{deque_capacity};
-ghost use Rattle.link_model.specs.Board.{lane_at};
-ghost use Rattle.claim_board.specs.Counts.{holds_at, idle_count, occurrences};
+ghost use Rattle.claim_board.specs.Counts.{held_count, idle_count, occurrences};
 ghost use Rattle.claim_board.specs.Plays.{empty_slots};
+ghost use Rattle.claim_board.specs.Views.{content_at, lane_at};
 
 use crate::cargo::Cargo;
-use link_model::{Lane, View};
+use crate::view::{Lane, View};
 use std::collections::VecDeque;
 
-pub(crate) type Seat = atomic_table::Seat<Option<Cargo>, View<Cargo>>;
+pub(crate) type Seat = atomic_table::Seat<Option<Cargo>, View>;
 
 pub(crate) type BellPass = atomic_table::Seat<u8, ()>;
 
@@ -22,7 +22,7 @@ pub struct FeederSeat {
     pub(crate) lanes: Vec<Lane>,
     // The places whose slots are with the seat, in the seat's order.
     pub(crate) order: VecDeque<usize>,
-    ghost feeds: { seat.me.0.feeds ≡ true },
+    ghost feeds: { seat.me.0.number ≡ 0 },
     ghost mirrors: { seat.me.0.lanes ≡ lanes.items },
     ghost wide: { vec_len lanes ≡ seat.table_id.words },
     ghost slots: { seat.me.1 ≡ empty_slots order.items },
@@ -41,10 +41,9 @@ pub struct WorkerSeat {
     pub(crate) bell: BellPass,
     // The places that it holds, in the seat's order.
     pub(crate) order: VecDeque<usize>,
-    ghost works: { seat.me.0.feeds ≡ false },
     ghost slots: { seat.me.1 ≡ empty_slots order.items },
-    ghost holds: { (place : ℕ) → occurrences place order.items ≡ holds_at place seat.me.0.held },
-    ghost once: { (place : ℕ) → occurrences place order.items ≤ 1 },
+    ghost holds: { (place : ℕ) → occurrences place order.items
+        ≡ held_count seat.me.0.number (content_at seat.me.0 place) },
     ghost below: { (place : ℕ) → seat.table_id.words ≤ place → occurrences place order.items ≡ 0 },
     ghost room: { seat.table_id.words ≤ deque_capacity order },
 }

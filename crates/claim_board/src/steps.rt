@@ -1,14 +1,15 @@
-ghost use Rattle.std.specs.Prelude.{◌≡◌, ◌≢◌, ℕ, ◌+◌, ◌-◌, ◌*◌, ◌%◌, ◌/◌, ◌<◌, ◌≤◌, ◌^◌, true};
+ghost use Rattle.std.specs.Prelude.{◌≡◌, ◌≢◌, ◌+◌, ◌-◌, ◌*◌, ◌%◌, ◌/◌, ◌<◌, ◌≤◌, ◌^◌, true};
 ghost use Rattle.std.specs.Prelude.{false, [], ◌∷◌, Some, None};
 ghost use Rattle.atomic_table.specs.Table.{rest};
-ghost use Rattle.link_model.specs.Board.{lane, lane_at, after_load, after_put, after_complete};
-ghost use Rattle.link_model.specs.Board.{after_return, after_step, worker_view};
+ghost use Rattle.claim_board.specs.Views.{lane};
 ghost use Rattle.vc_slice.specs.declared.done.SliceDone.{SliceDone};
 ghost use Rattle.vc_slice.specs.declared.job.SliceJob.{SliceJob};
-ghost use Rattle.claim_board.specs.Counts.{holds_of};
-ghost use Rattle.claim_board.specs.Plays.{HasClaimed, HasMissed, HasTaken, HasWithdrawn};
+ghost use Rattle.claim_board.specs.Plays.{Steps, HasClaimed, HasTaken, HasWithdrawn};
 ghost use Rattle.claim_board.specs.declared.cargo.Cargo.TheVariants.{Waiting, Finished};
+ghost use Rattle.claim_board.specs.declared.view.Deed.TheVariants.{WasRead, WasFetched, WasPut};
+ghost use Rattle.claim_board.specs.declared.view.Deed.TheVariants.{WasCompleted};
 ghost use Rattle.claim_board.specs.Steps.{MayStep, IsSameSeat};
+ghost use Rattle.claim_board.specs.Views.{Holds, lane_at, with_seat, worker_view};
 
 use crate::board::Board;
 use crate::cargo::Cargo;
@@ -21,7 +22,7 @@ impl Board {
     pub(crate) fn look(&self, seat: &mut Seat, place: usize) -> u64
         requires { MayStep self.now seat.old place }
         ensures id { IsSameSeat seat.old seat.new }
-        ensures view { seat.new.me ≡ (after_load seat.old.me.0 place result, seat.old.me.1) }
+        ensures view { Steps seat.old.me seat.new.me (WasRead place result) seat.old.me.1 }
     {
         self.table.shared.load::<Load>(seat, place)
     }
@@ -29,10 +30,10 @@ impl Board {
     pub(crate) fn try_claim(&self, seat: &mut Seat, place: usize, word: u64) -> u64
         requires table { MayStep self.now seat.old place }
         requires waiting { word % 4 ≡ 1 }
-        requires worker { seat.old.me.0.feeds ≡ false }
         ensures id { IsSameSeat seat.old seat.new }
         ensures won { result ≡ word → HasClaimed place (word / 4) seat.old.me seat.new.me }
-        ensures lost { result ≢ word → HasMissed place word result seat.old.me seat.new.me }
+        ensures lost { result ≢ word
+            → Steps seat.old.me seat.new.me (WasRead place result) seat.old.me.1 }
     {
         self.table
             .shared
@@ -41,12 +42,12 @@ impl Board {
 
     pub(crate) fn try_take(&self, seat: &mut Seat, place: usize, serial: u64) -> u64
         requires table { MayStep self.now seat.old place }
-        requires feeder { (seat.old.me.0.feeds ≡ true)
+        requires feeder { (seat.old.me.0.number ≡ 0)
             × ((lane_at seat.old.me.0 place).serial ≡ serial) × (serial ≤ 2 ^ 61) }
         ensures id { IsSameSeat seat.old seat.new }
         ensures won { result ≡ 4 * serial + 3 → HasTaken place serial seat.old.me seat.new.me }
         ensures lost { result ≢ 4 * serial + 3
-            → (seat.new.me ≡ (after_load seat.old.me.0 place result, seat.old.me.1))
+            → Steps seat.old.me seat.new.me (WasRead place result) seat.old.me.1
             × (result % 4 ≢ 3) }
     {
         self.table
@@ -56,12 +57,12 @@ impl Board {
 
     pub(crate) fn try_withdraw(&self, seat: &mut Seat, place: usize, serial: u64) -> u64
         requires table { MayStep self.now seat.old place }
-        requires feeder { (seat.old.me.0.feeds ≡ true)
+        requires feeder { (seat.old.me.0.number ≡ 0)
             × ((lane_at seat.old.me.0 place).serial ≡ serial) × (serial ≤ 2 ^ 61) }
         ensures id { IsSameSeat seat.old seat.new }
         ensures won { result ≡ 4 * serial + 1 → HasWithdrawn place serial seat.old.me seat.new.me }
         ensures lost { result ≢ 4 * serial + 1
-            → (seat.new.me ≡ (after_load seat.old.me.0 place result, seat.old.me.1))
+            → Steps seat.old.me seat.new.me (WasRead place result) seat.old.me.1
             × (result % 4 ≢ 1) }
     {
         self.table
@@ -104,12 +105,12 @@ impl Board {
     // Puts a job into the slot in front, and gives the slot back.
     pub(crate) fn give_job(&self, seat: &mut Seat, place: usize, serial: u64, job: SliceJob)
         requires table { MayStep self.now seat.old place }
-        requires feeder { seat.old.me.0.feeds ≡ true }
+        requires feeder { seat.old.me.0.number ≡ 0 }
         requires idle { (lane_at seat.old.me.0 place ≡ lane (serial - 1) true false)
             × (0 < serial) × (serial ≤ 2 ^ 61) }
         requires slot { seat.old.me.1 ≡ (place, None) ∷ rest seat.old.me.1 }
         ensures id { IsSameSeat seat.old seat.new }
-        ensures view { seat.new.me ≡ (after_put seat.old.me.0 place, rest seat.old.me.1) }
+        ensures view { Steps seat.old.me seat.new.me (WasPut place job) (rest seat.old.me.1) }
     {
         let _none = self
             .table
@@ -121,12 +122,11 @@ impl Board {
     // Puts an answer into the slot in front, and gives the slot back.
     pub(crate) fn give_done(&self, seat: &mut Seat, place: usize, serial: u64, done: SliceDone)
         requires table { MayStep self.now seat.old place }
-        requires worker { (seat.old.me.0.feeds ≡ false)
-            × (0 < holds_of place serial seat.old.me.0.held) × (serial ≤ 2 ^ 61) }
+        requires holds { Holds seat.old.me.0 place serial done.job × (serial ≤ 2 ^ 61) }
         requires slot { seat.old.me.1 ≡ (place, None) ∷ rest seat.old.me.1 }
         ensures id { IsSameSeat seat.old seat.new }
-        ensures view { seat.new.me
-            ≡ (after_complete seat.old.me.0 place serial, rest seat.old.me.1) }
+        ensures view { Steps seat.old.me seat.new.me (WasCompleted place serial done)
+            (rest seat.old.me.1) }
     {
         let _none = self
             .table
@@ -139,11 +139,11 @@ impl Board {
 
     pub(crate) fn fetch(&self, seat: &mut Seat, place: usize)
         requires table { MayStep self.now seat.old place }
-        requires feeder { (seat.old.me.0.feeds ≡ true)
+        requires feeder { (seat.old.me.0.number ≡ 0)
             × (lane_at seat.old.me.0 place ≡ lane 0 false false) }
         ensures id { IsSameSeat seat.old seat.new }
-        ensures view { seat.new.me
-            ≡ (after_return seat.old.me.0 place, (place, None) ∷ seat.old.me.1) }
+        ensures view { Steps seat.old.me seat.new.me (WasFetched place)
+            ((place, None) ∷ seat.old.me.1) }
     {
         self.table.shared.load::<Fetch>(seat, place);
     }
@@ -151,10 +151,11 @@ impl Board {
     pub(crate) fn hire(&self, seat: &mut Seat) -> Seat
         requires table { seat.old.table_id ≡ self.now.table.shared.table_id }
         requires some_place { 0 < self.now.table.shared.table_id.words }
-        requires feeder { seat.old.me.0.feeds ≡ true }
+        requires feeder { seat.old.me.0.number ≡ 0 }
         ensures feeder { IsSameSeat seat.old seat.new }
-        ensures view { seat.new.me ≡ (after_step seat.old.me.0, seat.old.me.1) }
-        ensures worker { (result.table_id ≡ seat.old.table_id) × (result.me ≡ (worker_view, [])) }
+        ensures view { seat.new.me ≡ (with_seat seat.old.me.0, seat.old.me.1) }
+        ensures worker { (result.table_id ≡ seat.old.table_id)
+            × (result.me ≡ (worker_view seat.old.me.0, [])) }
     {
         self.table.shared.split_seat::<Hire>(seat)
     }

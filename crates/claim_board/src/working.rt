@@ -1,12 +1,13 @@
 ghost use Rattle.std.specs.Prelude.{◌≡◌, ◌≢◌, ℕ, ◌+◌, ◌%◌, ◌<◌, ◌≤◌, ◌^◌, false, ◌∷◌, None, IfOk};
 ghost use Rattle.std.specs.Prelude.{IfErr, cond, ◌==◌};
 ghost use Rattle.std.specs.VecDeque.{deque_capacity};
-ghost use Rattle.link_model.specs.Board.{after_complete};
-ghost use Rattle.claim_board.specs.Calls.{HoldsOneMore, FoundOther};
-ghost use Rattle.claim_board.specs.Counts.{holds_of, occurrences};
+ghost use Rattle.claim_board.specs.Counts.{occurrences};
 ghost use Rattle.claim_board.specs.Plays.{empty_slots};
 ghost use Rattle.claim_board.specs.Seats.{IsWorkerOf, place_count, worker_sees};
 ghost use Rattle.claim_board.specs.Steps.{MayStep, IsSameSeat};
+ghost use Rattle.claim_board.specs.Views.{Did, DidAtLast, Holds};
+ghost use Rattle.claim_board.specs.declared.view.Deed.TheVariants.{WasRead, WasClaimed};
+ghost use Rattle.claim_board.specs.declared.view.Deed.TheVariants.{WasCompleted};
 
 use crate::board::Board;
 use crate::seats::{Seat, WorkerSeat};
@@ -41,11 +42,11 @@ impl Board {
         requires seat { IsWorkerOf self.now s.old }
         requires place { place < place_count self.now }
         ensures seat { IsWorkerOf self.now s.new }
-        ensures held { IfOk result (λ h. (h.place ≡ place)
-            × HoldsOneMore place h.serial h.job (worker_sees s.old) (worker_sees s.new)) }
-        ensures mine { IfOk result (λ h. 0 < holds_of place h.serial (worker_sees s.new).held) }
-        ensures refused { IfErr result (λ e. FoundOther place e.word (worker_sees s.old)
-            (worker_sees s.new)) }
+        ensures claimed { IfOk result (λ h. (h.place ≡ place) × DidAtLast place (worker_sees s.old)
+            (worker_sees s.new) (WasClaimed place h.serial h.job)) }
+        ensures mine { IfOk result (λ h. Holds (worker_sees s.new) place h.serial h.job) }
+        ensures refused { IfErr result (λ e. DidAtLast place (worker_sees s.old)
+            (worker_sees s.new) (WasRead place e.word) × (e.word % 4 ≢ 1)) }
     {
         let WorkerSeat {
             seat,
@@ -63,16 +64,13 @@ impl Board {
     // Each turn of the loop finds a word of a greater serial.
     fn claim_at(&self, seat: &mut Seat, place: usize) -> Result<Claimed, u64>
         requires table { MayStep self.now seat.old place }
-        requires worker { seat.old.me.0.feeds ≡ false }
         ensures id { IsSameSeat seat.old seat.new }
-        ensures held { IfOk result (λ c. HoldsOneMore place c.serial c.job
-            seat.old.me.0 seat.new.me.0) }
+        ensures claimed { IfOk result (λ c. DidAtLast place seat.old.me.0 seat.new.me.0
+            (WasClaimed place c.serial c.job)) }
         ensures slot { IfOk result (λ c. seat.new.me.1 ≡ (place, None) ∷ seat.old.me.1) }
         ensures small { IfOk result (λ c. c.serial ≤ 2 ^ 61) }
-        ensures free { IfOk result (λ c. (other : ℕ)
-            → holds_of place other seat.old.me.0.held ≡ 0) }
-        ensures refused { IfErr result (λ word. FoundOther place word seat.old.me.0 seat.new.me.0
-            × (seat.new.me.1 ≡ seat.old.me.1)) }
+        ensures refused { IfErr result (λ word. DidAtLast place seat.old.me.0 seat.new.me.0
+            (WasRead place word) × (word % 4 ≢ 1) × (seat.new.me.1 ≡ seat.old.me.1)) }
     {
         let mut word = self.look(seat, place);
         while word % 4 == 1 {
@@ -94,11 +92,11 @@ impl Board {
     pub fn complete(&self, s: &mut WorkerSeat, h: HeldPlace, done: SliceDone)
         requires seat { IsWorkerOf self.now s.old }
         requires place { h.place < place_count self.now }
-        requires held { 0 < holds_of h.place h.serial (worker_sees s.old).held }
+        requires held { Holds (worker_sees s.old) h.place h.serial h.job }
         requires job { done.job ≡ h.job }
         ensures seat { IsWorkerOf self.now s.new }
-        ensures view { worker_sees s.new ≡ after_complete (worker_sees s.old) h.place h.serial }
-        ensures gone { holds_of h.place h.serial (worker_sees s.new).held ≡ 0 }
+        ensures did { Did (worker_sees s.old) (worker_sees s.new)
+            (WasCompleted h.place h.serial done) }
     {
         let HeldPlace {
             place,
@@ -122,12 +120,11 @@ impl Board {
         done: SliceDone,
     )
         requires table { MayStep self.now seat.old place }
-        requires worker { (seat.old.me.0.feeds ≡ false)
-            × (0 < holds_of place serial seat.old.me.0.held) × (serial ≤ 2 ^ 61) }
+        requires holds { Holds seat.old.me.0 place serial done.job × (serial ≤ 2 ^ 61) }
         requires slots { (seat.old.me.1 ≡ empty_slots order.old.items)
             × (0 < occurrences place order.old.items) }
         ensures id { IsSameSeat seat.old seat.new }
-        ensures view { seat.new.me.0 ≡ after_complete seat.old.me.0 place serial }
+        ensures did { Did seat.old.me.0 seat.new.me.0 (WasCompleted place serial done) }
         ensures slots { seat.new.me.1 ≡ empty_slots order.new.items }
         ensures order { (q : ℕ)
             → occurrences q order.old.items

@@ -1,6 +1,7 @@
 -- An item that stands in a list, with what stands before and behind it.
-use Rattle.std.proofs.Common.{◌≡◌, ℕ, zero, suc, List, [], ◌∷◌, ◌++◌, map, length, Some, refl, sym, ap, ◌∙◌, subst, arith, All}
+use Rattle.std.proofs.Common.{◌≡◌, ℕ, zero, suc, List, [], ◌∷◌, ◌++◌, map, length, take, Some, refl, sym, ap, ◌∙◌, subst, arith, All}
 use Rattle.std.specs.Prelude.{slice_get}
+use Rattle.std.proofs.Math.Seq.{take-append_seam}
 use Rattle.std.proofs.lemmas.List.{append_assoc, map-append}
 use Rattle.std.proofs.lemmas.List.Elements.{All-head, All-tail, All-cons}
 use Rattle.std.proofs.lemmas.Option.{none-some, same_Some}
@@ -30,6 +31,10 @@ at_place (y ∷ front) x rest = at_place front x rest
 
 pub among_at : {A : Type 0} (x : A) (xs : List A) (is : IsAmong xs x) → slice_get xs (length is.0) ≡ Some x
 among_at x xs is = ap (λ l. slice_get l (length is.0)) is.2 ∙ at_place is.0 x is.1
+
+-- what stands in front of it
+pub front_of : {A : Type 0} (x : A) (xs : List A) (is : IsAmong xs x) → take (length is.0) xs ≡ is.0
+front_of x xs is = ap (take (length is.0)) is.2 ∙ take-append_seam is.0 (x ∷ is.1)
 
 pub among_from : {A : Type 0} (x : A) (xs : List A) (k : ℕ) → slice_get xs k ≡ Some x → IsAmong xs x
 among_from x [] k is = absurd (none-some x is)

@@ -1,12 +1,13 @@
 -- Every fragment that is heard of a sender's stream is one of a picture that was sent.
-use Rattle.std.proofs.Common.{◌≡◌, ◌<◌, ℕ, ◌^◌, Bool, true, false, List, [], ◌∷◌, length, Option, Some, None, Ok, refl, sym, ap, ◌∙◌, subst, arith, All, inl, inr}
+use Rattle.std.proofs.Common.{◌≡◌, ◌<◌, ◌≤◌, ℕ, ◌^◌, Bool, true, false, List, [], ◌∷◌, ◌++◌, length, take, Option, Some, None, Ok, refl, sym, ap, ◌∙◌, subst, arith, All, inl, inr}
 use Rattle.std.specs.Prelude.{◌⊎◌, slice_get, filter_map}
-use Rattle.std.specs.List.{Contains, flat_map, cons_option}
+use Rattle.std.specs.List.{flat_map, cons_option}
 use Rattle.std.proofs.lemmas.Bool.{false≢true}
-use Rattle.std.proofs.lemmas.List.Elements.{All-cons, All-nil, All-contains, Contains-append_right}
+use Rattle.std.proofs.lemmas.List.{append_assoc}
+use Rattle.std.proofs.lemmas.List.Elements.{All-cons, All-nil, All-contains}
 use Rattle.std.proofs.lemmas.Option.{none-some, slice_get_within}
 use Rattle.index_zero.specs.HeardStreams.{IsHeardOf}
-use Rattle.index_zero.proofs.Among.{IsAmong, among_first, among_later, among_behind}
+use Rattle.index_zero.proofs.Among.{IsAmong, among_at, among_first, among_later, front_of}
 use Rattle.index_zero.proofs.EnteredNumbers.{IsSentFragment}
 use Rattle.index_zero.proofs.OneSession.{opens_once}
 use Rattle.index_zero.proofs.OwnParts.{IsOwnPart}
@@ -15,7 +16,7 @@ use Rattle.index_zero.proofs.SentSlices.{sent_part}
 use Rattle.index_zero.proofs.SentStream.{IsOfPicture, IsSent, all_sent, runs_at}
 use Rattle.link_model.specs.Sending.{Outgoing, outgoing, DatagramContent, HeaderContent, ParametersContent, SlicesContent, EndContent, number_bits, pictures_of, sent_datagram, sent_stream, FitsDatagram}
 use Rattle.link_model.specs.SendingPictures.{sent_sequence, sent_parameters, sent_parameter_bytes}
-use Rattle.link_model.specs.Session.{Received, received, Session, Part, ParamsPart, SlicesPart, Fragment, HeardSession, fragment_in}
+use Rattle.link_model.specs.Session.{Received, received, Session, Part, ParamsPart, SlicesPart, Fragment, HeardSession, fragment_in, sessions_of}
 use Rattle.link_model.proofs.SentDatagrams.{are_settings}
 use Rattle.vc_types.specs.declared.settings.SendSettings.{SendSettings}
 use Rattle.vc_types.specs.Planes.{Planes}
@@ -25,9 +26,6 @@ use Rattle.vc_types.specs.SenderSettings.{Sending, sending_view}
 pub received_of : (session : Session) (d : List ℕ) (f : Fragment) → fragment_in session d ≡ Some f → (r : Received) × (received d ≡ Ok r) × (r.ssrc ≡ session.ssrc)
 unfolding fragment_in
 received_of session d f is = grind arith
-
-contains_among : {A : Type 0} (x : A) (xs : List A) → IsAmong xs x → Contains xs x
-contains_among x xs is = subst (λ l. Contains l x) (sym is.2) (Contains-append_right is.0 (x ∷ is.1) x (0, omega arith, refl))
 
 all_found : {A B : Type 0} (P : B → Type 0) (h : A → Option B) (xs : List A) → ((x : A) (y : B) → IsAmong xs x → h x ≡ Some y → P y) → All P (filter_map h xs)
 all_found P h [] each = All-nil P
@@ -76,10 +74,11 @@ module _ (settings : SendSettings) (small : settings.ssrc < 2 ^ 32) (indices : L
     pub session_is : h.session ≡ own_session
     session_is = λ i. record { ssrc = heard.ssrc i; sequence = heard.sequence i }
 
-    each_heard : (d : List ℕ) (f : Fragment) → IsAmong datagrams d → fragment_in h.session d ≡ Some f → IsSentFragment s IsPartOf f
-    each_heard d f among is =
+    each_heard : (d : List ℕ) (f : Fragment) (among : IsAmong datagrams d) → 1 ≤ length (sessions_of among.0) → fragment_in h.session d ≡ Some f → IsSentFragment s IsPartOf f
+    each_heard d f among opened is =
         let read = received_of h.session d f is in
-        let there = heard.sent d read.0 (contains_among d datagrams among) read.1 (read.2 ∙ heard.ssrc) in
+        let behind : 1 ≤ length (sessions_of (take (length among.0) datagrams)) = rw (front_of d datagrams among) opened in
+        let there = heard.sent (length among.0) d read.0 (among_at d datagrams among) behind read.1 (read.2 ∙ heard.ssrc) in
         sent_fragment d f (All-contains (IsSent s indices pictures) (sent_stream s indices frames) d (all_sent s indices frames pictures are) there) (ap (λ (t : Session). fragment_in t d) (sym session_is) ∙ is)
 
     pub all_heard : All (IsSentFragment s IsPartOf) h.fragments
@@ -87,4 +86,10 @@ module _ (settings : SendSettings) (small : settings.ssrc < 2 ^ 32) (indices : L
         let opens = opens_once h datagrams heard.one in
         subst (λ (l : List Fragment). All (IsSentFragment s IsPartOf) l) (sym opens.fragments)
         (all_found (IsSentFragment s IsPartOf) (fragment_in h.session) opens.behind
-        (λ d f among is. each_heard d f (subst (λ (l : List (List ℕ)). IsAmong l d) (sym opens.is) (among_behind d opens.before (opens.header ∷ opens.behind) (among_later opens.header d opens.behind among))) is))
+        (λ d f among is. each_heard d f (
+          opens.before ++ opens.header ∷ among.0,
+          among.1,
+          opens.is
+              ∙ ap (λ (l : List (List ℕ)). opens.before ++ opens.header ∷ l) among.2
+              ∙ sym (append_assoc opens.before (opens.header ∷ among.0) (d ∷ among.1)),
+        ) (opens.opened among.0) is))

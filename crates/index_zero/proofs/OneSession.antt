@@ -45,6 +45,7 @@ pub record Opens (h : HeardSession) (ds : List (List ℕ)) : Type 0 where
   pub header : List ℕ
   pub behind : List (List ℕ)
   pub is : ds ≡ before ++ header ∷ behind
+  pub opened : (front : List (List ℕ)) → 1 ≤ length (sessions_of (before ++ header ∷ front))
   pub fragments : h.fragments ≡ filter_map (fragment_in h.session) behind
 
 none_open : (h : HeardSession) → [] ≡ h ∷ [] → ⊥
@@ -62,6 +63,7 @@ opens_once h (d ∷ ds) is = by_next (opens_next [] (begins d)) refl (opens_once
           header = d;
           behind = ds;
           is = refl;
+          opened = λ front. (let same = ap (λ (hs : List HeardSession). length (fold hears hs front)) (hears_new [] d s opens) in omega (arith, same, all_longer (just_opened s ∷ []) front));
           fragments = later.fragments ∙ ap (λ (t : Session). filter_map (fragment_in t) ds) (sym later.session);
         }
     by_next None opens again =
@@ -71,6 +73,7 @@ opens_once h (d ∷ ds) is = by_next (opens_next [] (begins d)) refl (opens_once
           header = later.header;
           behind = later.behind;
           is = ap (λ (l : List (List ℕ)). d ∷ l) later.is;
+          opened = λ front. (let same = ap (λ (hs : List HeardSession). length (fold hears hs (later.before ++ later.header ∷ front))) (hears_on [] d opens) in omega (arith, same, later.opened front));
           fragments = later.fragments;
         }
 

@@ -12,15 +12,16 @@ use Rattle.vc_types.specs.SenderSettings.{Sending}
 
 -- ---- whose datagrams they are
 
--- One session is heard of datagrams. It is the sender's, and each datagram that is read and is of
--- its source is one of the stream that was sent. So much is known where each datagram that is read
--- and isn't foreign is one of the stream.
+-- One session is heard of datagrams. It is the sender's, and after the header that opens it each
+-- datagram that is read and is of its source is one of the stream that was sent. Before that header
+-- anything may come that opens no session, as a stray fragment of the same source.
 pub record IsHeardOf (s : Sending) (stream datagrams : List (List ℕ)) (h : HeardSession)
     : Type 0 where
   pub one : sessions_of datagrams ≡ h ∷ []
   pub ssrc : h.session.ssrc ≡ s.ssrc
   pub sequence : h.session.sequence ≡ sent_sequence s
-  pub sent : (datagram : List ℕ) (r : Received) → Contains datagrams datagram
+  pub sent : (place : ℕ) (datagram : List ℕ) (r : Received)
+      → slice_get datagrams place ≡ Some datagram → 1 ≤ length (sessions_of (take place datagrams))
       → received datagram ≡ Ok r → r.ssrc ≡ s.ssrc → Contains stream datagram
 
 -- what was entered of the only session

@@ -7,6 +7,3 @@ mod laws;
 pub use laws::{
     index_zero_is_lossless, pictures_are_received, pictures_come_back, sent_streams_come_back,
 };
-
-#[cfg(test)]
-mod tests;

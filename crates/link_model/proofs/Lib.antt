@@ -29,8 +29,6 @@ pub mod OpeningOutcomes
 pub mod SessionOutcomes
 pub mod Closing
 pub mod SessionOutput
-pub mod Rounds
-pub mod BoardEvents
 pub mod MachineRows
 pub mod PlacesKept
 pub mod RisingLists

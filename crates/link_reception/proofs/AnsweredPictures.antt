@@ -1,12 +1,12 @@
 -- The planes of a picture by the answers to its slices are those of its own whole bytes.
 use Rattle.std.proofs.Common.{◌≡◌, ℕ, zero, suc, ◌+◌, ◌<◌, ◌≤◌, true, false, refl, ap, sym}
 use Rattle.std.proofs.Common.{List, [], ◌∷◌, ◌++◌, length, map, Option, Some, None}
-use Rattle.std.proofs.Common.{Result, Ok, Err, ◌∙◌, arith, inl, inr}
+use Rattle.std.proofs.Common.{Result, Ok, Err, ◌∙◌, arith}
 use Rattle.std.specs.Prelude.{is_some, unwrap_or}
 use Rattle.std.specs.List.{range_with_len}
 use Rattle.std.specs.Option.{option_and_then, option_map}
 use Rattle.std.proofs.Math.Seq.{drop-append_seam, take-append_seam}
-use Rattle.std.proofs.lemmas.Bool.{false≢true, cases_lt}
+use Rattle.std.proofs.lemmas.Bool.{false≢true}
 use Rattle.std.proofs.lemmas.List.FromFn.{length-map-range_with_len}
 use Rattle.std.proofs.lemmas.Option.{none-some}
 use Rattle.link_model.specs.Books.{book_of, gathered_of, slot_at}
@@ -161,7 +161,7 @@ module _ (s : Sequence) (parts : List Part) (kept : Own) (is : own s parts ≡ S
     one_kept k below =
         all_at (λ i. is_some (own_slice kept i)) 0 count k complete (omega arith) (omega arith)
 
-    one_whole : (k : ℕ) → k < count
+    pub one_whole : (k : ℕ) → k < count
         → IsWholeSlice kept.plan.parameters (unwrap_or (own_slice kept k) [])
     one_whole k below = by_slice (own_slice kept k) refl (one_kept k below)
       where

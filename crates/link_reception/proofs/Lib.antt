@@ -36,3 +36,4 @@ pub mod Following
 pub mod Exchanges
 pub mod ReceiverRows
 pub mod WholeBooks
+pub mod WholePictures

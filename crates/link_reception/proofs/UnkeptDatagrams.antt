@@ -1,19 +1,20 @@
 -- A datagram that isn't kept leaves the session that stands, and what its pictures keep.
 use Rattle.std.proofs.Common.{◌≡◌, ℕ, Bool, true, false, refl, ap, sym, ◌∙◌, arith}
-use Rattle.std.proofs.Common.{List, [], ◌∷◌, ◌++◌, Option, Some, None, cond, inl, inr, map}
-use Rattle.std.specs.Prelude.{◌&&◌, ◌||◌, ◌⊎◌, not}
+use Rattle.std.proofs.Common.{List, [], ◌∷◌, ◌++◌, Option, Some, None, cond, inl, inr, map, ◌+◌, ◌≤◌}
+use Rattle.std.specs.Prelude.{◌&&◌, ◌||◌, ◌⊎◌, not, nat_le}
 use Rattle.std.specs.List.{last_or}
-use Rattle.std.proofs.lemmas.Bool.{cond-false, eq-eqb, false≢true, both_ways}
+use Rattle.std.proofs.lemmas.Bool.{cond-false, eq-eqb, false≢true, both_ways, le-leb, leb-true, or_right}
 use Rattle.std.proofs.Math.Bool.{or-false}
 use Rattle.std.proofs.lemmas.Option.{cond_some, none-some}
 use Rattle.link_model.specs.Books.{Book, book_of}
 use Rattle.link_model.specs.Judgement.{keeps, part_outcome, fragment_outcome, outcome_behind}
-use Rattle.link_model.specs.Numbers.{Numbered, base_above, is_closed, is_late, is_opened}
+use Rattle.link_model.specs.Numbers.{Numbered, base_above, greatest, has_parts, is_closed, is_late, is_opened}
 use Rattle.link_model.specs.Numbers.{parts_of, picture_number}
 use Rattle.link_model.specs.Session.{Part, Session, Fragment, HeardSession, sessions_of, begins}
 use Rattle.link_model.specs.Session.{ends, fragment_in, opens_behind, opens_next}
 use Rattle.link_model.specs.Windows.{Window, WindowPast, StandsForPast, book_at, window_enters}
-use Rattle.link_model.specs.Windows.{window_outcome, is_needed, released_up_to}
+use Rattle.link_model.specs.Windows.{window_outcome, window_of, is_needed, released_up_to}
+use Rattle.link_model.specs.Windows.{closed_in, greatest_behind, stays_in, with_number}
 use Rattle.link_model.specs.declared.outcome.Outcome.{Outcome}
 use Rattle.link_model.specs.declared.outcome.Outcome.TheVariants as outcomes
 use Rattle.link_model.proofs.Bookkeeping.{takes-more, book_outcome_is}
@@ -37,6 +38,15 @@ its_part n part = ap (λ (b : Bool). map (λ (e : Numbered). e.part)
     (cond b (record { number = n; part = part } ∷ []) [])) (eq-eqb n n refl)
 
 -- ---- a window
+
+parts_stay : (parts more : List Part) → has_parts parts ≡ true → has_parts (parts ++ more) ≡ true
+parts_stay [] more some = absurd (false≢true some)
+parts_stay (part ∷ parts) more some = refl
+
+most_behind : (before : ℕ) (es : List Numbered) → greatest es ≤ greatest_behind before es
+unfolding greatest
+most_behind before [] = omega arith
+most_behind before (e ∷ es) = omega arith
 
 module _ (w : Window) (p : WindowPast) (stands : StandsForPast w p) (runs : p.is_ended ≡ false)
     (f : Fragment) (unkept : keeps (window_outcome w f) ≡ false) where
@@ -89,8 +99,10 @@ module _ (w : Window) (p : WindowPast) (stands : StandsForPast w p) (runs : p.is
   by_tests true false low false false grows then book e = e
 
   -- each book was there before, or is of a picture that the fragment opens
-  pub books_left : LeavesBooks p.sequence w (window_enters w f)
-  books_left n book is =
+  no_other_book : (n : ℕ) (book : Book) → book_at (window_enters w f).books n ≡ Some book
+      → (book_at w.books n ≡ Some book)
+      ⊎ ((book_at w.books n ≡ None) × (book ≡ book_of p.sequence []))
+  no_other_book n book is =
       let then = book_of p.sequence (parts_of n now) in
       let before = book_of p.sequence (parts_of n p.entries) in
       let e = by_tests (is_opened now n) p.is_ended (is_low n) (is_closed p.size p.entries n)
@@ -120,6 +132,45 @@ module _ (w : Window) (p : WindowPast) (stands : StandsForPast w p) (runs : p.is
             (Some (book_of p.sequence (parts_of n p.entries))) None) at,
         sym same ∙ ap (book_of p.sequence) (no_parts (parts_of n p.entries) at),
       )
+
+  opened_later : (n : ℕ) → is_opened p.entries n ≡ true → is_opened now n ≡ true
+  opened_later n opened =
+      grind (arith, late_changes_nothing, early_enters, parts_of-append, parts_stay)
+
+  -- a picture that the later fragments close is one that the window says is closed
+  closed_there : (n : ℕ) → is_closed p.size now n ≡ true
+      → closed_in (window_enters w f) n ≡ true
+  unfolding is_closed window_of
+  closed_there n closed =
+      ap (λ (v : Window). closed_in v n) (enters_stands w p stands runs f).value
+      ∙ or_right p.is_ended (nat_le (n + p.size) (greatest_behind p.before now))
+      (le-leb (n + p.size) (greatest_behind p.before now)
+      (omega (arith, most_behind p.before now, leb-true (n + p.size) (greatest now) closed)))
+
+  low_there : (n : ℕ) → released_up_to (window_enters w f).last_released n ≡ is_low n
+  unfolding window_of
+  low_there n = ap (λ (v : Window). released_up_to v.last_released n)
+      (enters_stands w p stands runs f).value
+
+  book_before : (n : ℕ) → book_at w.books n
+      ≡ cond (is_opened p.entries n && not ((p.is_ended || is_closed p.size p.entries n) && is_low n))
+      (Some (book_of p.sequence (parts_of n p.entries))) None
+  book_before = book_is w p stands
+
+  book_there : (n : ℕ) → book_at (window_enters w f).books n
+      ≡ cond (is_opened now n && not ((p.is_ended || is_closed p.size now n) && is_low n))
+      (Some (book_of p.sequence (parts_of n now))) None
+  book_there = book_is (window_enters w f) (later w p stands runs f) (enters_stands w p stands runs f)
+
+  -- no book goes but that of a picture which is closed and was released
+  none_goes : (n : ℕ) (book : Book) → book_at w.books n ≡ Some book
+      → stays_in (window_enters w f) (with_number n book) ≡ true
+      → book_at (window_enters w f).books n ≡ Some book
+  none_goes n book is stays =
+      grind (arith, book_before, book_there, opened_later, closed_there, low_there, same_books, runs)
+
+  pub books_left : LeavesBooks p.sequence w (window_enters w f)
+  books_left = record { no_other = no_other_book; none_goes = none_goes }
 
 -- ---- the session that stands
 
@@ -174,7 +225,7 @@ module _ (r : Reception) (size : ℕ) (datagrams : List (List ℕ)) (d : List �
 
         by_fragment : (o : Option Fragment) → fragment_in h.session d ≡ o
             → LeavesBooks h.session.sequence st.window (enters_window st.window o)
-        by_fragment None is = λ n book e. inl e
+        by_fragment None is = record { no_other = λ n book e. inl e; none_goes = λ n book e stays. e }
         by_fragment (Some f) is = books_left st.window (all_released (last_past size false hs h))
             (resting_stands (last_past size false hs h)) refl f
             (ap keeps (window_outcome_is st.window (all_released (last_past size false hs h))

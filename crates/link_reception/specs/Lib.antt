@@ -7,3 +7,4 @@ pub mod Standing
 pub mod WholeBooks
 pub mod Offered
 pub mod SlicesOut
+pub mod WholePictures

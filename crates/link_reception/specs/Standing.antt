@@ -16,7 +16,7 @@ use Rattle.link_model.specs.Output.{planes_at, entered_behind, let_go_numbers}
 use Rattle.link_model.specs.Places.{Answered, decoding}
 use Rattle.link_model.specs.Session.{HeardSession, sessions_of}
 use Rattle.link_model.specs.Windows.{WindowPast, session_past, past_let_go, window_of}
-use Rattle.link_model.specs.Windows.{Window, book_at}
+use Rattle.link_model.specs.Windows.{Window, book_at, stays_in, with_number}
 use Rattle.link_model.specs.declared.outcome.Outcome.{Outcome}
 use Rattle.link_model.specs.declared.outcome.Outcome.TheVariants.{HeaderNew, End}
 use Rattle.link_model.specs.declared.tally.Tally.{Tally}
@@ -142,11 +142,14 @@ leaves_pictures HeaderNew = false
 leaves_pictures End = false
 leaves_pictures other = not (keeps other)
 
--- each book was there before, or is that of a picture that keeps nothing yet
-abbrev pub LeavesBooks : Sequence → Window → Window → Type 0
-LeavesBooks s old new = (n : ℕ) (book : Book) → book_at new.books n ≡ Some book
-    → (book_at old.books n ≡ Some book)
-    ⊎ ((book_at old.books n ≡ None) × (book ≡ book_of s []))
+-- The books are the same: each was there before, or is that of a picture that keeps nothing yet; and
+-- none goes but those of pictures that are closed and were released.
+pub record LeavesBooks (s : Sequence) (old new : Window) : Type 0 where
+  pub no_other : (n : ℕ) (book : Book) → book_at new.books n ≡ Some book
+      → (book_at old.books n ≡ Some book)
+      ⊎ ((book_at old.books n ≡ None) × (book ≡ book_of s []))
+  pub none_goes : (n : ℕ) (book : Book) → book_at old.books n ≡ Some book
+      → stays_in new (with_number n book) ≡ true → book_at new.books n ≡ Some book
 
 abbrev pub LeavesSession : Option StandingSession → Option StandingSession → Type 0
 LeavesSession None None = Unit {0}

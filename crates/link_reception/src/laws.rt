@@ -1,12 +1,14 @@
 ghost use Rattle.std.specs.Prelude.{◌≡◌, ℕ, ◌≤◌, true, false, List, [], ◌∷◌, ◌++◌, Some, None};
+ghost use Rattle.link_model.specs.Complete.{has_all_slices};
 ghost use Rattle.link_model.specs.Feeders.{Feeder, new_feeder, has_released, releasable, kept_job};
 ghost use Rattle.link_model.specs.Feeding.{hears_datagram, hears_end};
 ghost use Rattle.link_model.specs.Judgement.{outcome_behind, tally_of};
+ghost use Rattle.link_model.specs.Kept.{Own, own};
 ghost use Rattle.link_model.specs.Machine.{Enter, Finish};
 ghost use Rattle.link_model.specs.Next.{next_feeder, taken_back};
 ghost use Rattle.link_model.specs.Output.{output_so_far, full_output, is_closed_in};
 ghost use Rattle.link_model.specs.Places.{Job};
-ghost use Rattle.link_model.specs.Session.{Fragment, sessions_of};
+ghost use Rattle.link_model.specs.Session.{Fragment, Part, sessions_of};
 ghost use Rattle.link_model.specs.Windows.{Window, WindowPast, StandsForPast, window_enters};
 ghost use Rattle.link_reception.specs.Entering.{before_releases, datagram_jobs, takes_datagram};
 ghost use Rattle.link_reception.specs.Entering.{datagram_bytes, takes_end, end_bytes};
@@ -19,6 +21,8 @@ ghost use Rattle.link_reception.specs.SlicesOut.{AreOutKept, ArePutsOf, is_job_o
 ghost use Rattle.link_reception.specs.Standing.{StandsFor, StandsForHeard, AreDecodings};
 ghost use Rattle.link_reception.specs.Standing.{out_without, with_picture_counts};
 ghost use Rattle.link_reception.specs.Standing.{leaves_pictures, LeavesSession, frames_written};
+ghost use Rattle.link_reception.specs.WholePictures.{IsOwnPicture};
+ghost use Rattle.vc_types.specs.SequenceHeader.{Sequence};
 
 /// A new receiver stands for a feeder that heard nothing.
 pub fn a_new_receiver_stands_for_nothing()
@@ -51,12 +55,21 @@ pub fn receivers_follow_datagrams()
 {}
 
 /// A datagram with an outcome other than HeaderNew, End and those by which a picture keeps
-/// something leaves the session that stands, and what its pictures keep. It may open a picture, and
-/// close others, so that they are forgotten.
+/// something leaves the session that stands, and what its pictures keep: the books are the same. It
+/// may open a picture, which keeps nothing yet, and close others, of which those that were released
+/// are forgotten.
 pub fn unkept_datagrams_change_nothing()
     ensures { (r : Reception) (size : ℕ) (datagrams : List (List ℕ)) (d : List ℕ)
         → StandsForHeard r size datagrams false → leaves_pictures (judged r d) ≡ true
         → LeavesSession r.standing (keeps_datagram r d).standing }
+{}
+
+/// What is kept of a picture all of whose slices are there is a picture of its sequence: the coded
+/// parameters, and behind them the slices that are kept, as many whole ones as it has, are its bytes.
+/// So the law on slices that decode apart speaks of the pictures that are written.
+pub fn complete_pictures_are_their_slices()
+    ensures { (s : Sequence) (parts : List Part) (kept : Own) → own s parts ≡ Some kept
+        → has_all_slices kept ≡ true → IsOwnPicture s parts kept }
 {}
 
 /// The jobs that a fragment offers are those of the slices that it brings: their pictures keep them

@@ -122,8 +122,12 @@ module _ (window sessions number : ℕ) (count : SessionCount) (receiver : Recei
     sessions_ended none = (heard, stopped, inl (record { reached = omega (arith, none, at.counts.left_are); no_sooner = at.no_sooner }))
 
     -- nothing more will come
-    pub wire_ended : told_mid.coming ≡ Some [] → LoopEnds window packets sessions (Ok Ended) receiver wire output hands
-    wire_ended none = (heard, stopped, inr (ap (λ (t : WireTold). t.coming) same ∙ none))
+    pub wire_ended : number < packets → told_mid.coming ≡ Some [] → LoopEnds window packets sessions (Ok Ended) receiver wire output hands
+    wire_ended room none = (
+      heard,
+      stopped,
+      inr (record { fewer = omega (arith, at.number_is, room); nothing_more = ap (λ (t : WireTold). t.coming) same ∙ none }),
+    )
 
     pub wire_failed : LoopEnds window packets sessions (Ok Failed) receiver wire output hands
     wire_failed = (heard, stopped, tt)

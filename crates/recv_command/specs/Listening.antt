@@ -53,7 +53,7 @@ pub record StopsBehind
   pub is_heard : HasListened window receiver output.held.before output.held.after hands heard
 
 abbrev pub EndsSo : (packets sessions : ℕ) → Stop → WireChange → List (List ℕ) → Type 0
-EndsSo packets sessions Ended wire heard = HeardToEnd sessions wire heard
+EndsSo packets sessions Ended wire heard = HeardToEnd packets sessions wire heard
 EndsSo packets sessions Failed wire heard = Unit {0}
 EndsSo packets sessions AtLimit wire heard = IsPastPackets packets sessions packets heard
 

@@ -32,10 +32,16 @@ pub record EndsSessions (sessions : ℕ) (heard : List (List ℕ)) : Type 0 wher
   pub reached : ended_sessions heard ≡ sessions
   pub no_sooner : (k : ℕ) → k < length heard → ended_sessions (take k heard) < sessions
 
+-- fewer datagrams came than were asked for, and nothing more will come
+pub record EndsEarly (packets : ℕ) (coming : Option (List (List ℕ))) (heard : List (List ℕ))
+    : Type 0 where
+  pub fewer : length heard < packets
+  pub nothing_more : coming ≡ Some []
+
 -- the end of the session that was asked for came, or nothing more will come
-abbrev pub HeardToEnd : ℕ → WireChange → List (List ℕ) → Type 0
-HeardToEnd sessions wire heard =
-    EndsSessions sessions heard ⊎ (wire.told.after.coming ≡ Some [])
+abbrev pub HeardToEnd : (packets sessions : ℕ) → WireChange → List (List ℕ) → Type 0
+HeardToEnd packets sessions wire heard =
+    EndsSessions sessions heard ⊎ EndsEarly packets wire.told.after.coming heard
 
 -- so many datagrams came, and that session goes on
 pub record IsPastPackets (packets sessions limit : ℕ) (heard : List (List ℕ)) : Type 0 where
@@ -54,7 +60,8 @@ pub record IsJudged (window : ℕ) (tally : Tally) (output : OutputChange) (hear
 abbrev pub RecvEnded : (window packets sessions : ℕ) → List ℕ → Answer → WireChange → OutputChange
     → List (List ℕ) → Type 0
 RecvEnded window packets sessions at (Done (Judged tally)) wire output heard =
-    HeardAt at wire heard × HeardToEnd sessions wire heard × IsJudged window tally output heard
+    HeardAt at wire heard × HeardToEnd packets sessions wire heard
+    × IsJudged window tally output heard
 RecvEnded window packets sessions at (Drained tally (PacketLimit limit)) wire output heard =
     HeardAt at wire heard × IsPastPackets packets sessions limit heard
     × IsJudged window tally output heard

@@ -1,12 +1,12 @@
 -- What a worker holds.
-use Rattle.std.specs.Prelude.{ℕ, ◌<◌}
-use Rattle.claim_board.specs.Counts.{holds_of}
+use Rattle.std.specs.Prelude.{◌<◌}
 use Rattle.claim_board.specs.Seats.{place_count, worker_sees}
+use Rattle.claim_board.specs.Views.{Holds}
 use Rattle.claim_board.specs.declared.board.Board.{Board}
 use Rattle.claim_board.specs.declared.seats.WorkerSeat.{WorkerSeat}
 use Rattle.claim_board.specs.declared.working.HeldPlace.{HeldPlace}
 
--- the seat claimed the place, which is the board's
+-- the seat claimed the place, which is the board's, with the job that was put there
 pub record IsHeldBy (board : Board) (seat : WorkerSeat) (h : HeldPlace) : Type 0 where
   pub within : h.place < place_count board
-  pub held : 0 < holds_of h.place h.serial (worker_sees seat).held
+  pub held : Holds (worker_sees seat) h.place h.serial h.job

@@ -11,6 +11,3 @@ mod worker;
 
 pub use crew::Crew;
 pub use worker::Worker;
-
-#[cfg(test)]
-mod tests;

@@ -18,7 +18,7 @@ impl<H, F> Places for Crew<H, F> {
         ensures bound { bound_at (crew_at self.new) ≡ bound_at (crew_at self.old) }
         ensures place { IfOk result (λ place. place < bound_at (crew_at self.old)) }
         ensures back { IfErr result (λ same. same ≡ job) }
-        ensures board { HandsOn (λ old new. HasOffered old new result) (result ≡ Err job)
+        ensures board { HandsOn (λ old new. HasOffered old new job result) (result ≡ Err job)
             (crew_at self.old) (crew_at self.new) }
     {
         match &mut self.stage {

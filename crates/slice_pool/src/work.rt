@@ -1,6 +1,8 @@
 ghost use Rattle.std.specs.Prelude.{◌≡◌, ◌<◌, ◌≤◌, IfSome, OnOk};
 ghost use Rattle.claim_board.specs.Seats.{IsWorkerOf, place_count, worker_sees};
-ghost use Rattle.link_model.specs.Board.{after_complete};
+ghost use Rattle.claim_board.specs.Views.{Did};
+ghost use Rattle.claim_board.specs.declared.view.Deed.TheVariants.{WasCompleted};
+ghost use Rattle.vc_slice.specs.declared.done.SliceDone.{SliceDone};
 ghost use Rattle.slice_pool.specs.Holding.{IsHeldBy};
 
 use crate::worker::Worker;
@@ -82,8 +84,9 @@ fn answer(
     requires seat { IsWorkerOf board.now seat.old }
     requires held { IsHeldBy board.now seat.old held }
     ensures seat { IsWorkerOf board.now seat.new }
-    ensures completed { OnOk result (worker_sees seat.new
-        ≡ after_complete (worker_sees seat.old) held.place held.serial) }
+    ensures completed { OnOk result ((done : SliceDone) × (done.job ≡ held.job)
+        × Did (worker_sees seat.old) (worker_sees seat.new)
+        (WasCompleted held.place held.serial done)) }
 {
     let done = decode(alloc, held.job.copy()?)?;
     board.complete(seat, held, done);

@@ -1,7 +1,7 @@
 use Rattle.std.proofs.Common.{rules, ◌≡◌, ◌∙◌, ℕ, List, sym, subst}
 use Rattle.std.specs.Prelude.{replicate, None}
 use Rattle.atomic_table.specs.Table.{opening}
-use Rattle.link_model.specs.Board.{first_view}
+use Rattle.claim_board.specs.Views.{first_view}
 use Rattle.claim_board.specs.Rule.{BoardRule, Slot}
 use Rattle.claim_board.proofs.Opens.{opens}
 use Rattle.claim_board.proofs.made.board_of.Goals as goal

@@ -40,7 +40,7 @@ pub returns-in-Ok-End-clause-heard : goal.returns-in-Ok-End-clause-heard
 returns-in-Ok-End-clause-heard g c = λ window heard.
     let at = c.loop-place.invariant.behind window heard in
     let told = rw c.in-Ok-End.field-0-is at c.in-Ok-End.ensures.told in
-    wire_ended _ _ _ _ _ _ _ _ _ _ _ _ at.1 c.args.packets (omega (arith, c.loop-place-test.true)) _ _ _ told.1 told.0
+    wire_ended _ _ _ _ _ _ _ _ _ _ _ _ at.1 c.args.packets (omega (arith, c.loop-place-test.true)) _ _ _ told.1 c.loop-place-test.true told.0
 
 -- a failed receive
 pub returns-in-Ok-Failed-clause-heard : goal.returns-in-Ok-Failed-clause-heard

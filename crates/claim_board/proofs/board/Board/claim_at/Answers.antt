@@ -1,20 +1,50 @@
-use Rattle.std.proofs.Common.{ap, sym, ◌∙◌, ◌∷◌, ◌/◌, List, ℕ}
+use Rattle.std.proofs.Common.{ap, arith, sym, ◌∙◌, ◌≤◌, ◌∷◌, ◌/◌, List, ℕ}
 use Rattle.std.specs.Prelude.{Some}
 use Rattle.atomic_table.specs.Table.{rest}
-use Rattle.link_model.specs.declared.board.Hold.{Hold}
-use Rattle.claim_board.specs.Counts.{holds_of}
 use Rattle.claim_board.specs.Plays.{SeatState}
 use Rattle.claim_board.specs.Rule.{Slot}
 use Rattle.claim_board.specs.declared.cargo.Cargo.TheVariants.{Waiting}
+use Rattle.claim_board.specs.declared.view.Deed.TheVariants.{WasRead}
+use Rattle.claim_board.proofs.Holds.{claims_then, no_earlier, read_last, reads_then}
 use Rattle.claim_board.proofs.board.Board.claim_at.Goals as goal
 
 pub open_job-job-requires-clause-slot : goal.open_job-job-requires-clause-slot
 open_job-job-requires-clause-slot c =
     let won = c.try_claim-found.ensures.won c.if-found-word.true in
-    let e = ap (λ (m : SeatState). m.1) won.seat in
+    let e = won.did.1 in
     (won.job, e ∙ ap (λ (r : List (ℕ × Slot)). (c.args.place, Some (Waiting (c.loop-word.word / 4) won.job)) ∷ r) (sym (ap rest e)))
 
-pub returns-then-found-word-clause-free : goal.returns-then-found-word-clause-free
-returns-then-found-word-clause-free c = λ other.
-    ap (λ (hs : List Hold). holds_of c.args.place other hs) (sym c.loop-word.invariant.held)
-    ∙ (c.try_claim-found.ensures.won c.if-found-word.true).free other
+pub returns-then-found-word-clause-claimed : goal.returns-then-found-word-clause-claimed
+returns-then-found-word-clause-claimed c =
+    let won = c.try_claim-found.ensures.won c.if-found-word.true in
+    claims_then c.args.place c.loop-word.word (c.loop-word.word / 4) c.open_job-job.result won.job c.args.seat.now.me.0 c.loop-word.seat.me.0 c.try_claim-found.new.seat.me.0 c.open_job-job.new.seat.me.0 c.loop-word.seat.me.1 c.try_claim-found.new.seat.me.1
+    c.loop-word.invariant.reads won.did.0 won.did.1 c.open_job-job.ensures.stamped (ap (λ (m : SeatState). m.0) c.open_job-job.ensures.slot)
+
+pub returns-then-found-ne1-clause-refused : goal.returns-then-found-ne1-clause-refused
+returns-then-found-ne1-clause-refused c =
+    let lost = c.try_claim-found.ensures.lost c.if-found-word.false in (
+      reads_then c.args.place c.loop-word.word c.args.seat.now.me.0 c.loop-word.seat.me.0 c.try_claim-found.new.seat.me.0 (WasRead c.args.place c.try_claim-found.result) c.loop-word.invariant.reads lost.0,
+      c.if-found-ne1.true,
+      lost.1 ∙ c.loop-word.invariant.slots,
+    )
+
+pub loop-word-smaller : goal.loop-word-smaller
+loop-word-smaller c =
+    let lost = c.try_claim-found.ensures.lost c.if-found-word.false in
+    let up : c.loop-word.word / 4 ≤ c.try_claim-found.result / 4 = no_earlier c.args.place c.loop-word.word c.try_claim-found.result c.loop-word.seat.me.0 c.try_claim-found.new.seat.me.0
+    (read_last c.args.place c.loop-word.word c.args.seat.now.me.0 c.loop-word.seat.me.0 c.loop-word.invariant.reads) lost.0 in
+    let a = c.loop-word-test.true in
+    let b = c.if-found-ne1.false in
+    let ne = c.if-found-word.false in
+    let fits = c.loop-word.auto.word-fits in
+    grind arith
+
+pub loop-word-preserved : goal.loop-word-preserved
+loop-word-preserved c =
+    let lost = c.try_claim-found.ensures.lost c.if-found-word.false in
+    let same = c.try_claim-found.ensures.id in record {
+      table = same.table ∙ c.loop-word.invariant.table;
+      id = same.number ∙ c.loop-word.invariant.id;
+      slots = lost.1 ∙ c.loop-word.invariant.slots;
+      reads = reads_then c.args.place c.loop-word.word c.args.seat.now.me.0 c.loop-word.seat.me.0 c.try_claim-found.new.seat.me.0 (WasRead c.args.place c.try_claim-found.result) c.loop-word.invariant.reads lost.0;
+    }

@@ -1,6 +1,6 @@
-use Rattle.std.proofs.Common.{◌≡◌, ◌-◌, ◌<◌, ◌^◌}
-use Rattle.std.specs.Prelude.{Some}
-use Rattle.link_model.specs.Board.{seen}
+use Rattle.std.proofs.Common.{◌≡◌, ◌-◌, ◌^◌}
+use Rattle.claim_board.specs.Views.{DidAtLast}
+use Rattle.claim_board.specs.declared.view.Deed.TheVariants.{WasRead}
 use Rattle.claim_board.proofs.board.Board.claim_at.Given as goal
 
 abbrev pub invariant-loop-word : goal.invariant-loop-word
@@ -8,12 +8,7 @@ invariant-loop-word l = record {
   table : l.seat.table_id ≡ l.fn.seat.table_id;
   id : l.seat.id ≡ l.fn.seat.id;
   slots : l.seat.me.1 ≡ l.fn.seat.me.1;
-  held : l.seat.me.0.held ≡ l.fn.seat.me.0.held;
-  feeds : l.seat.me.0.feeds ≡ l.fn.seat.me.0.feeds;
-  lanes : l.seat.me.0.lanes ≡ l.fn.seat.me.0.lanes;
-  opened : l.seat.me.0.opened ≡ l.fn.seat.me.0.opened;
-  last : l.seat.me.0.last ≡ Some (seen l.place l.word);
-  steps : l.fn.seat.me.0.steps < l.seat.me.0.steps;
+  reads : DidAtLast l.place l.fn.seat.me.0 l.seat.me.0 (WasRead l.place l.word);
 }
 
 abbrev pub decreases-loop-word : goal.decreases-loop-word

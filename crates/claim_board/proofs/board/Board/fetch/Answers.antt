@@ -1,5 +1,5 @@
 use Rattle.std.proofs.Common.{rules, arith}
-use Rattle.claim_board.proofs.Opens.{fetches}
+use Rattle.claim_board.proofs.Feeds.{fetches}
 use Rattle.claim_board.proofs.board.Board.fetch.Goals as goal
 
 pub load-requires : goal.load-requires

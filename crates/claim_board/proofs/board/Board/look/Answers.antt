@@ -1,5 +1,5 @@
 use Rattle.std.proofs.Common.{rules, arith}
-use Rattle.claim_board.proofs.Keeps.{loads}
+use Rattle.claim_board.proofs.Workers.{loads}
 use Rattle.claim_board.proofs.board.Board.look.Goals as goal
 
 pub load-requires : goal.load-requires

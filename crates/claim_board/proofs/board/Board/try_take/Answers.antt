@@ -1,6 +1,6 @@
 use Rattle.std.proofs.Common.{rules, arith, refl}
 use mathlib.Core.Option.{none}
-use Rattle.claim_board.proofs.Backs.{takes_back}
+use Rattle.claim_board.proofs.Feeds.{takes_back}
 use Rattle.claim_board.proofs.board.Board.try_take.Goals as goal
 
 pub compare_exchange-requires : goal.compare_exchange-requires

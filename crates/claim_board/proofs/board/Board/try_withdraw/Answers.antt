@@ -1,6 +1,6 @@
 use Rattle.std.proofs.Common.{rules, arith}
 use mathlib.Core.Option.{none}
-use Rattle.claim_board.proofs.Backs.{withdraws_back}
+use Rattle.claim_board.proofs.Feeds.{withdraws_back}
 use Rattle.claim_board.proofs.board.Board.try_withdraw.Goals as goal
 
 pub compare_exchange-requires : goal.compare_exchange-requires

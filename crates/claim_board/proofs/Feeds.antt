@@ -1,0 +1,204 @@
+-- Each step of the feeder keeps the rule.
+use Rattle.std.proofs.Common.{◌≡◌, ℕ, ◌+◌, ◌-◌, ◌*◌, ◌/◌, ◌^◌, ◌<◌, ◌≤◌, true, false, List, ◌∷◌, length, get_or, set, sym, refl, ap, ◌∙◌, subst, arith, length-set, eqb}
+use Rattle.std.specs.Prelude.{None, Some}
+use mathlib.Core.Option.{some, none}
+use mathlib.Core.Option as maybe
+use lib.ListN.{get_elem?}
+use prog.Atomic.{either}
+use Rattle.atomic_table.specs.Table.{step, Act, keeps, takes, gives, Valid, carried_after, stepped, Allows}
+use Rattle.atomic_table.proofs.Lists.{set_here, set_else, exchanged}
+use Rattle.vc_slice.specs.declared.job.SliceJob.{SliceJob}
+use Rattle.slice_jobs.specs.Jobs.{job_of}
+use Rattle.claim_board.specs.Views.{lane}
+use Rattle.claim_board.specs.declared.view.Lane.{Lane}
+use Rattle.link_model.specs.Places.{Content, Nothing, Offered, Claimed, Decoded, JobPlace, place_at}
+use Rattle.claim_board.specs.declared.cargo.Cargo.TheVariants.{Waiting, Finished}
+use Rattle.claim_board.specs.declared.view.Deed.{Deed}
+use Rattle.claim_board.specs.declared.view.Deed.TheVariants.{WasRead, WasFetched, WasPut, WasTaken, WasWithdrawn}
+use Rattle.claim_board.specs.History.{after_deed, standing, places_after, word_of}
+use Rattle.claim_board.specs.Views.{SeatView, Did, did, lane_at}
+use Rattle.claim_board.specs.Rule.{Slot, BoardState, Shows, BoardRule}
+use Rattle.claim_board.specs.Plays.{SeatState, tells_put, tells_take, tells_withdraw, tells_fetch}
+use Rattle.claim_board.proofs.Histories.{free_here, may_put_at, put_here}
+use Rattle.claim_board.proofs.Keeps.{changes, decoded, goes, has_done, idle, offered, places_long, the_feeder}
+use Rattle.claim_board.proofs.Workers.{looks}
+
+pub puts : (n id : ℕ) (v : SeatView) (r : List (ℕ × Slot)) (i t : ℕ) (job : SliceJob) → i < n → v.number ≡ 0 → lane_at v i ≡ lane t true false → t < 2 ^ 61
+    → Allows BoardRule n id (v, (i, Some (Waiting (t + 1) job)) ∷ r) i (λ _. 4 * (t + 1) + 1) (λ _. tells_put (step n i (4 * (t + 1) + 1) 0 none) (v, (i, Some (Waiting (t + 1) job)) ∷ r) (4 * (t + 1) + 1))
+puts n id v r i t job h feeds is_idle small s o wide me fits =
+    let in_words : i < length s.words = (let e = o.wide in omega arith) in
+    let long = places_long s o in
+    let ps : List JobPlace = places_after o.places o.history in
+    let is = the_feeder s o id v me feeds in
+    let old = idle (get_or s.words i 0) t true (get_elem? s.homes i) (lane_at o.feeder i) (place_at ps i) (o.each i in_words) (ap (λ (x : SeatView). lane_at x i) (sym is.1) ∙ is_idle) in
+    let d : Deed = WasPut i job in
+    let w : SeatView = did v o.history d in
+    let new : Lane = lane ((lane_at v i).serial + 1) true true in
+    let f = changes s o id i v w new me feeds refl refl in_words in
+    let may = may_put_at ps i t (omega arith) old.stands small in
+    let home = some (Some (Waiting (t + 1) job)) in
+    let now = put_here ps i t Nothing (job_of job) (omega arith) old.stands in (
+      w,
+      gives,
+      tt,
+      goes s o id v (4 * (t + 1) + 1) (set s.homes i home) d me in_words may (length-set s.homes i home) (λ q ne. set_else s.homes i q home ne) f.0
+          (subst (Shows (4 * (t + 1) + 1) (get_elem? (set s.homes i home) i) (lane_at f.0.feeder i)) (sym now)
+          (record {
+            shows = refl;
+            small = omega arith;
+            is_fetched = true;
+            is_known = f.1 ∙ ap (λ (l : Lane). lane (l.serial + 1) true true) is_idle;
+            lies = (job, set_here s.homes i home (let e = o.wide in omega arith), refl);
+          })),
+      (has_done s o id v d me may, refl),
+    )
+
+pub puts_at : (n id : ℕ) (m : SeatState) (i serial : ℕ) (job : SliceJob) (r : List (ℕ × Slot)) → i < n → m.0.number ≡ 0 → lane_at m.0 i ≡ lane (serial - 1) true false → 0 < serial → serial ≤ 2 ^ 61
+    → m.1 ≡ (i, Some (Waiting serial job)) ∷ r
+    → Allows BoardRule n id m i (λ _. 4 * serial + 1) (λ _. tells_put (step n i (4 * serial + 1) 0 none) m (4 * serial + 1))
+puts_at n id m i serial job r h feeds is_idle some_serial small slots =
+    let P : List (ℕ × Slot) → Type 0 = λ l. Allows BoardRule n id (m.0, l) i (λ _. 4 * serial + 1) (λ _. tells_put (step n i (4 * serial + 1) 0 none) (m.0, l) (4 * serial + 1)) in
+    let Q : ℕ → Type 0 = λ k. Allows BoardRule n id (m.0, (i, Some (Waiting k job)) ∷ r) i (λ _. 4 * k + 1) (λ _. tells_put (step n i (4 * k + 1) 0 none) (m.0, (i, Some (Waiting k job)) ∷ r) (4 * k + 1)) in
+    let e : serial - 1 + 1 ≡ serial = omega arith in
+    subst P (sym slots) (subst Q e (puts n id m.0 r i (serial - 1) job h feeds is_idle (omega arith)))
+
+-- a place that was out is empty now, and its slot is with the feeder
+came_back : (s : BoardState) (o : BoardRule s) (i t : ℕ) (known : Lane) (p : JobPlace) → i < length s.words → t ≤ 2 ^ 61 → known ≡ lane t true false → p ≡ standing t Nothing
+    → Shows (4 * t) (get_elem? (set s.homes i none) i) known p
+came_back s o i t known p h small is now = subst (Shows (4 * t) (get_elem? (set s.homes i none) i) known) (sym now) (record {
+  shows = omega arith;
+  small = small;
+  is_fetched = true;
+  is_known = is;
+  lies = set_here s.homes i none (let e = o.wide in omega arith);
+})
+
+-- what the feeder's lane says of the word's serial
+serial_of : (w : ℕ) (home : maybe.Option (maybe.Option Slot)) (known : Lane) (p : JobPlace) → Shows w home known p → w / 4 ≡ known.serial
+serial_of w home known p at = cases p.serial p.content at.shows (ap (λ (l : Lane). l.serial) at.is_known)
+  where
+    cases : (serial : ℕ) (c : Content) → w ≡ word_of (standing serial c) → known.serial ≡ serial → w / 4 ≡ known.serial
+    cases serial Nothing e k = omega arith
+    cases serial (Offered job) e k = omega arith
+    cases serial (Claimed seat job) e k = omega arith
+    cases serial (Decoded done) e k = omega arith
+
+pub takes_back : (n id : ℕ) (m : SeatState) (i t : ℕ) (said : maybe.Option Slot) → i < n → m.0.number ≡ 0 → (lane_at m.0 i).serial ≡ t
+    → Allows BoardRule n id m i (λ y. either (eqb y (4 * t + 3)) (4 * t) y) (tells_take (step n i (4 * t + 3) (4 * t) said) m)
+takes_back n id m i t said h feeds serial s o wide me fits =
+    let in_words : i < length s.words = (let e = o.wide in omega arith) in
+    let long = places_long s o in
+    let ps : List JobPlace = places_after o.places o.history in
+    let old = o.each i in_words in
+    let is = the_feeder s o id m.0 me feeds in
+    let G : ℕ → Type 0 = λ k. (w : SeatView) × (a : Act Slot) × Valid s.homes m.1 a × BoardRule (stepped s i k id m.1 w a) × tells_take (step n i (4 * t + 3) (4 * t) said) m (get_or s.words i 0) (w, carried_after m.1 a) in
+    exchanged (get_or s.words i 0) (4 * t + 3) (4 * t) G
+    (λ hit.
+    let at = decoded (get_or s.words i 0) t (get_elem? s.homes i) (lane_at o.feeder i) (place_at ps i) old hit in
+    let d : Deed = WasTaken i t at.own in
+    let w : SeatView = did m.0 o.history d in
+    let out : lane_at m.0 i ≡ lane t true true = ap (λ (x : SeatView). lane_at x i) is.1 ∙ at.is_known in
+    let new : Lane = lane (lane_at m.0 i).serial true false in
+    let f = changes s o id i m.0 w new me feeds refl refl in_words in (
+      w,
+      takes i (Some (Finished t at.own)),
+      at.lies,
+      goes s o id m.0 (4 * t) (set s.homes i none) d me in_words at.stands (length-set s.homes i none) (λ q ne. set_else s.homes i q none ne) f.0
+          (came_back s o i t (lane_at f.0.feeder i) (place_at (after_deed ps m.0.number d) i) in_words at.small (f.1 ∙ ap (λ (k : ℕ). lane k true false) serial) (free_here ps i t _ (omega arith) at.stands)),
+      (
+        (λ r u e. let eq : t ≡ u = omega arith in record {
+          done = at.own;
+          did = (
+            subst (λ (k : ℕ). Did m.0 w (WasTaken i k at.own)) eq (has_done s o id m.0 d me at.stands),
+            ap (λ (k : ℕ). (i, Some (Finished k at.own)) ∷ m.1) eq,
+          );
+          out = ap (λ (l : Lane). l.is_out) out;
+        }),
+        λ miss. absurd (miss hit),
+      ),
+    ))
+    (λ miss. (
+      did m.0 o.history (WasRead i (get_or s.words i 0)),
+      keeps,
+      tt,
+      looks s o id i m me in_words,
+      (
+        (λ hit. absurd (miss hit)),
+        λ _. record {
+          did = (has_done s o id m.0 (WasRead i (get_or s.words i 0)) me old.shows, refl);
+          other = λ differs state.
+              let at : get_or s.words i 0 / 4 ≡ (lane_at m.0 i).serial = serial_of (get_or s.words i 0) (get_elem? s.homes i) (lane_at o.feeder i) (place_at ps i) old ∙ ap (λ (x : SeatView). (lane_at x i).serial) (sym is.1) in
+              differs (omega arith);
+        },
+      ),
+    ))
+
+pub withdraws_back : (n id : ℕ) (m : SeatState) (i t : ℕ) (said : maybe.Option Slot) → i < n → m.0.number ≡ 0 → (lane_at m.0 i).serial ≡ t
+    → Allows BoardRule n id m i (λ y. either (eqb y (4 * t + 1)) (4 * t) y) (tells_withdraw (step n i (4 * t + 1) (4 * t) said) m)
+withdraws_back n id m i t said h feeds serial s o wide me fits =
+    let in_words : i < length s.words = (let e = o.wide in omega arith) in
+    let long = places_long s o in
+    let ps : List JobPlace = places_after o.places o.history in
+    let old = o.each i in_words in
+    let is = the_feeder s o id m.0 me feeds in
+    let G : ℕ → Type 0 = λ k. (w : SeatView) × (a : Act Slot) × Valid s.homes m.1 a × BoardRule (stepped s i k id m.1 w a) × tells_withdraw (step n i (4 * t + 1) (4 * t) said) m (get_or s.words i 0) (w, carried_after m.1 a) in
+    exchanged (get_or s.words i 0) (4 * t + 1) (4 * t) G
+    (λ hit.
+    let at = offered (get_or s.words i 0) t (get_elem? s.homes i) (lane_at o.feeder i) (place_at ps i) old hit in
+    let d : Deed = WasWithdrawn i t at.own in
+    let w : SeatView = did m.0 o.history d in
+    let out : lane_at m.0 i ≡ lane t true true = ap (λ (x : SeatView). lane_at x i) is.1 ∙ at.is_known in
+    let new : Lane = lane (lane_at m.0 i).serial true false in
+    let f = changes s o id i m.0 w new me feeds refl refl in_words in (
+      w,
+      takes i (Some (Waiting t at.own)),
+      at.lies,
+      goes s o id m.0 (4 * t) (set s.homes i none) d me in_words at.stands (length-set s.homes i none) (λ q ne. set_else s.homes i q none ne) f.0
+          (came_back s o i t (lane_at f.0.feeder i) (place_at (after_deed ps m.0.number d) i) in_words at.small (f.1 ∙ ap (λ (k : ℕ). lane k true false) serial) (free_here ps i t _ (omega arith) at.stands)),
+      (
+        (λ r u e. let eq : t ≡ u = omega arith in record {
+          job = at.own;
+          did = (
+            subst (λ (k : ℕ). Did m.0 w (WasWithdrawn i k at.own)) eq (has_done s o id m.0 d me at.stands),
+            ap (λ (k : ℕ). (i, Some (Waiting k at.own)) ∷ m.1) eq,
+          );
+          out = ap (λ (l : Lane). l.is_out) out;
+        }),
+        λ miss. absurd (miss hit),
+      ),
+    ))
+    (λ miss. (
+      did m.0 o.history (WasRead i (get_or s.words i 0)),
+      keeps,
+      tt,
+      looks s o id i m me in_words,
+      (
+        (λ hit. absurd (miss hit)),
+        λ _. record {
+          did = (has_done s o id m.0 (WasRead i (get_or s.words i 0)) me old.shows, refl);
+          other = λ differs state.
+              let at : get_or s.words i 0 / 4 ≡ (lane_at m.0 i).serial = serial_of (get_or s.words i 0) (get_elem? s.homes i) (lane_at o.feeder i) (place_at ps i) old ∙ ap (λ (x : SeatView). (lane_at x i).serial) (sym is.1) in
+              differs (omega arith);
+        },
+      ),
+    ))
+
+pub fetches : (n id : ℕ) (m : SeatState) (i t : ℕ) → i < n → m.0.number ≡ 0 → lane_at m.0 i ≡ lane t false false
+    → Allows BoardRule n id m i (λ y. y) (tells_fetch (step n i 0 0 none) m)
+fetches n id m i t h feeds is_idle s o wide me fits =
+    let in_words : i < length s.words = (let e = o.wide in omega arith) in
+    let ps : List JobPlace = places_after o.places o.history in
+    let is = the_feeder s o id m.0 me feeds in
+    let old = idle (get_or s.words i 0) t false (get_elem? s.homes i) (lane_at o.feeder i) (place_at ps i) (o.each i in_words) (ap (λ (x : SeatView). lane_at x i) (sym is.1) ∙ is_idle) in
+    let d : Deed = WasFetched i in
+    let w : SeatView = did m.0 o.history d in
+    let new : Lane = lane (lane_at m.0 i).serial true false in
+    let f = changes s o id i m.0 w new me feeds refl refl in_words in (
+      w,
+      takes i None,
+      old.lies,
+      goes s o id m.0 (get_or s.words i 0) (set s.homes i none) d me in_words tt (length-set s.homes i none) (λ q ne. set_else s.homes i q none ne) f.0
+          (subst (λ (k : ℕ). Shows k (get_elem? (set s.homes i none) i) (lane_at f.0.feeder i) (place_at ps i)) (sym old.shows)
+          (came_back s o i t (lane_at f.0.feeder i) (place_at ps i) in_words old.small (f.1 ∙ ap (λ (l : Lane). lane l.serial true false) is_idle) old.stands)),
+      (has_done s o id m.0 d me tt, refl),
+    )

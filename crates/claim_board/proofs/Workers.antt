@@ -1,0 +1,150 @@
+-- Each step of a worker, and each load, keeps the rule.
+use Rattle.std.proofs.Common.{◌≡◌, ℕ, ◌+◌, ◌*◌, ◌^◌, ◌<◌, ◌≤◌, Bool, true, false, List, ◌∷◌, ◌++◌, length, get_or, set, sym, refl, ap, ◌∙◌, subst, arith, length-set, eqb}
+use Rattle.std.specs.Prelude.{Some}
+use mathlib.Core.Option.{some, none}
+use mathlib.Core.Option as maybe
+use lib.ListN.{get_elem?}
+use prog.Atomic.{either}
+use Rattle.atomic_table.specs.Table.{step, Act, keeps, takes, gives, Valid, carried_after, stepped, Allows}
+use Rattle.atomic_table.proofs.Lists.{set_here, set_else, exchanged}
+use Rattle.vc_slice.specs.declared.job.SliceJob.{SliceJob}
+use Rattle.vc_slice.specs.declared.done.SliceDone.{SliceDone}
+use Rattle.slice_jobs.specs.Jobs.{answered, job_of}
+use Rattle.claim_board.specs.Views.{lane}
+use Rattle.claim_board.specs.declared.view.Lane.{Lane}
+use Rattle.link_model.specs.Places.{Claimed, Decoded, JobPlace, place_at, own_answer}
+use Rattle.claim_board.specs.declared.cargo.Cargo.TheVariants.{Waiting, Finished}
+use Rattle.claim_board.specs.declared.view.Entry.{Entry}
+use Rattle.claim_board.specs.declared.view.Deed.TheVariants.{WasRead, WasClaimed, WasCompleted}
+use Rattle.claim_board.specs.History.{standing, places_after, IsRun}
+use Rattle.claim_board.specs.Views.{SeatView, Did, did, Holds, lane_at}
+use Rattle.claim_board.specs.Rule.{Slot, BoardState, Shows, BoardRule, Lies}
+use Rattle.claim_board.specs.Plays.{SeatState, tells_load, tells_claim, tells_complete}
+use Rattle.claim_board.proofs.Histories.{claim_here, complete_here, stays_held}
+use Rattle.claim_board.proofs.Keeps.{goes, quiet, has_done, offered, places_long}
+
+-- where a step leaves the word as it is, and the slots
+pub looks : (s : BoardState) (o : BoardRule s) (id i : ℕ) (m : SeatState) → get_elem? s.views id ≡ some m.0 → i < length s.words
+    → BoardRule (stepped s i (get_or s.words i 0) id m.1 (did m.0 o.history (WasRead i (get_or s.words i 0))) keeps)
+looks s o id i m me h =
+    let r : ℕ = get_or s.words i 0 in
+    let f = quiet s o id i m.0 (did m.0 o.history (WasRead i r)) me refl refl in
+    let here = o.each i h in
+    goes s o id m.0 r s.homes (WasRead i r) me h here.shows refl (λ q ne. refl) f.0
+    (subst (λ (k : Lane). Shows r (get_elem? s.homes i) k (place_at (places_after o.places o.history) i)) (sym (ap (λ (ls : List Lane). get_or ls i (lane 0 false false)) f.1)) here)
+
+pub loads : (n id : ℕ) (m : SeatState) (i : ℕ) → i < n → Allows BoardRule n id m i (λ y. y) (tells_load (step n i 0 0 none) m)
+loads n id m i h s o wide me small =
+    let in_words : i < length s.words = (let e = o.wide in omega arith) in
+    let r : ℕ = get_or s.words i 0 in
+    (did m.0 o.history (WasRead i r), keeps, tt, looks s o id i m me in_words, (has_done s o id m.0 (WasRead i r) me (o.each i in_words).shows, refl))
+
+pub claims : (n id : ℕ) (m : SeatState) (i t : ℕ) (said : maybe.Option Slot) → i < n
+    → Allows BoardRule n id m i (λ y. either (eqb y (4 * t + 1)) (4 * t + 2) y) (tells_claim (step n i (4 * t + 1) (4 * t + 2) said) m)
+claims n id m i t said h s o wide me fits =
+    let in_words : i < length s.words = (let e = o.wide in omega arith) in
+    let long = places_long s o in
+    let old = o.each i in_words in
+    let ps : List JobPlace = places_after o.places o.history in
+    let G : ℕ → Type 0 = λ k. (w : SeatView) × (a : Act Slot) × Valid s.homes m.1 a × BoardRule (stepped s i k id m.1 w a) × tells_claim (step n i (4 * t + 1) (4 * t + 2) said) m (get_or s.words i 0) (w, carried_after m.1 a) in
+    exchanged (get_or s.words i 0) (4 * t + 1) (4 * t + 2) G
+    (λ hit.
+    let is = offered (get_or s.words i 0) t (get_elem? s.homes i) (lane_at o.feeder i) (place_at ps i) old hit in
+    let w : SeatView = did m.0 o.history (WasClaimed i t is.own) in
+    let f = quiet s o id i m.0 w me refl refl in
+    let now = claim_here ps i t m.0.number (job_of is.own) (omega arith) is.stands in (
+      w,
+      takes i (Some (Waiting t is.own)),
+      is.lies,
+      goes s o id m.0 (4 * t + 2) (set s.homes i none) (WasClaimed i t is.own) me in_words is.stands (length-set s.homes i none) (λ q ne. set_else s.homes i q none ne) f.0
+          (subst (Shows (4 * t + 2) (get_elem? (set s.homes i none) i) (lane_at f.0.feeder i)) (sym now)
+          (record {
+            shows = refl;
+            small = is.small;
+            is_fetched = true;
+            is_known = ap (λ (ls : List Lane). get_or ls i (lane 0 false false)) f.1 ∙ is.is_known;
+            lies = set_here s.homes i none (let e = o.wide in omega arith);
+          })),
+      (
+        (λ r u e. let same : t ≡ u = omega arith in record {
+          job = is.own;
+          did = (
+            subst (λ (k : ℕ). Did m.0 w (WasClaimed i k is.own)) same (has_done s o id m.0 (WasClaimed i t is.own) me is.stands),
+            ap (λ (k : ℕ). (i, Some (Waiting k is.own)) ∷ m.1) same,
+          );
+          small = let k = is.small in omega arith;
+        }),
+        λ miss. absurd (miss hit),
+      ),
+    ))
+    (λ miss. (
+      did m.0 o.history (WasRead i (get_or s.words i 0)),
+      keeps,
+      tt,
+      looks s o id i m me in_words,
+      ((λ hit. absurd (miss hit)), λ _. (has_done s o id m.0 (WasRead i (get_or s.words i 0)) me old.shows, refl)),
+    ))
+
+pub claims_at : (n id : ℕ) (m : SeatState) (i old new t : ℕ) (said : maybe.Option Slot) → i < n → old ≡ 4 * t + 1 → new ≡ 4 * t + 2
+    → Allows BoardRule n id m i (λ y. either (eqb y old) new y) (tells_claim (step n i old new said) m)
+claims_at n id m i old new t said h a b =
+    let P : ℕ → Type 0 = λ k. Allows BoardRule n id m i (λ y. either (eqb y k) new y) (tells_claim (step n i k new said) m) in
+    let Q : ℕ → Type 0 = λ k. Allows BoardRule n id m i (λ y. either (eqb y (4 * t + 1)) k y) (tells_claim (step n i (4 * t + 1) k said) m) in
+    subst P (sym a) (subst Q (sym b) (claims n id m i t said h))
+
+-- ---- a completion
+
+-- what the seat holds by its own view it holds now
+pub held_now : (s : BoardState) (o : BoardRule s) (id : ℕ) (v : SeatView) (i t : ℕ) (job : SliceJob) → get_elem? s.views id ≡ some v → Holds v i t job
+    → place_at (places_after o.places o.history) i ≡ standing t (Claimed v.number (job_of job))
+held_now s o id v i t job me holds =
+    let k = o.known id v me in
+    let then : place_at (places_after o.places v.history) i ≡ standing t (Claimed id (job_of job)) = rw (sym k.places, sym k.number) holds in
+    let run : IsRun o.places (k.since.0 ++ v.history) = subst (IsRun o.places) k.since.1 o.run in
+    ap (λ (l : List Entry). place_at (places_after o.places l) i) k.since.1 ∙ (stays_held o.places id k.since.0 v.history i t (job_of job) run k.since.2 then ∙ ap (λ (j : ℕ). standing t (Claimed j (job_of job))) (sym k.number))
+
+-- its slot isn't at home, and the feeder's lane shows it as out
+held_at : (w t seat : ℕ) (job : SliceJob) (home : maybe.Option (maybe.Option Slot)) (known : Lane) (p : JobPlace) → Shows w home known p → p ≡ standing t (Claimed seat (job_of job)) → (known ≡ lane t true true) × (t ≤ 2 ^ 61)
+held_at w t seat job home known p at is =
+    let q = subst (Shows w home known) is at in
+    cases q.is_fetched q.is_known q.lies q.small
+  where
+    cases : (b : Bool) → known ≡ lane t b true → Lies home b t (Claimed seat (job_of job)) → t ≤ 2 ^ 61 → (known ≡ lane t true true) × (t ≤ 2 ^ 61)
+    cases true k l small = (k, small)
+    cases false k l small = absurd l
+
+pub completes : (n id : ℕ) (v : SeatView) (r : List (ℕ × Slot)) (i t : ℕ) (done : SliceDone) → i < n → Holds v i t done.job
+    → Allows BoardRule n id (v, (i, Some (Finished t done)) ∷ r) i (λ _. 4 * t + 3) (λ _. tells_complete (step n i (4 * t + 3) 0 none) (v, (i, Some (Finished t done)) ∷ r) (4 * t + 3))
+completes n id v r i t done h holds s o wide me fits =
+    let in_words : i < length s.words = (let e = o.wide in omega arith) in
+    let long = places_long s o in
+    let old = o.each i in_words in
+    let ps : List JobPlace = places_after o.places o.history in
+    let stands = held_now s o id v i t done.job me holds in
+    let was = held_at (get_or s.words i 0) t v.number done.job (get_elem? s.homes i) (lane_at o.feeder i) (place_at ps i) old stands in
+    let d = WasCompleted i t done in
+    let w : SeatView = did v o.history d in
+    let f = quiet s o id i v w me refl refl in
+    let home = some (Some (Finished t done)) in
+    let own : own_answer (job_of done.job) ≡ answered done = ap (λ a. record { job = job_of done.job; answer = a }) (sym done.decoded) in
+    let now = complete_here ps i t v.number (job_of done.job) (omega arith) stands ∙ ap (λ a. standing t (Decoded a)) own in (
+      w,
+      gives,
+      tt,
+      goes s o id v (4 * t + 3) (set s.homes i home) d me in_words stands (length-set s.homes i home) (λ q ne. set_else s.homes i q home ne) f.0
+          (subst (Shows (4 * t + 3) (get_elem? (set s.homes i home) i) (lane_at f.0.feeder i)) (sym now)
+          (record {
+            shows = refl;
+            small = was.1;
+            is_fetched = true;
+            is_known = ap (λ (ls : List Lane). get_or ls i (lane 0 false false)) f.1 ∙ was.0;
+            lies = (done, set_here s.homes i home (let e = o.wide in omega arith), refl);
+          })),
+      (has_done s o id v d me stands, refl),
+    )
+
+pub completes_at : (n id : ℕ) (m : SeatState) (i t : ℕ) (done : SliceDone) (r : List (ℕ × Slot)) → i < n → Holds m.0 i t done.job → m.1 ≡ (i, Some (Finished t done)) ∷ r
+    → Allows BoardRule n id m i (λ _. 4 * t + 3) (λ _. tells_complete (step n i (4 * t + 3) 0 none) m (4 * t + 3))
+completes_at n id m i t done r h holds slots =
+    let P : List (ℕ × Slot) → Type 0 = λ l. Allows BoardRule n id (m.0, l) i (λ _. 4 * t + 3) (λ _. tells_complete (step n i (4 * t + 3) 0 none) (m.0, l) (4 * t + 3)) in
+    subst P (sym slots) (completes n id m.0 r i t done h holds)

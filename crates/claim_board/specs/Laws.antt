@@ -1,0 +1,48 @@
+-- What the laws of histories speak of.
+use Rattle.std.specs.Prelude.{◌≡◌, ℕ, Bool, true, false, ◌&&◌, ◌==◌, List, Some, IfSome, slice_set}
+use Rattle.std.specs.List.{count_by}
+use mathlib.Core.Option.{some}
+use lib.ListN.{get_elem?}
+use Rattle.link_model.specs.Feeders.{slice_job}
+use Rattle.link_model.specs.Machine.{Event, Put, Machine, happens, is_legal_on_places}
+use Rattle.link_model.specs.Places.{JobPlace, may_put}
+use Rattle.slice_jobs.specs.Jobs.{job_of}
+use Rattle.claim_board.specs.declared.view.Entry.{Entry}
+use Rattle.claim_board.specs.declared.view.Deed.{Deed}
+use Rattle.claim_board.specs.declared.view.Deed.TheVariants.{WasPut, WasClaimed}
+use Rattle.claim_board.specs.History.{after_deed, event_of}
+use Rattle.claim_board.specs.Rule.{BoardState}
+use Rattle.claim_board.specs.Views.{SeatView, Did}
+
+-- one seat has made a step; each other view is as it was
+pub record IsStepOf (s t : BoardState) (seat : ℕ) (v : SeatView) (deed : Deed) : Type 0 where
+  pub new : SeatView
+  pub before : get_elem? s.views seat ≡ some v
+  pub behind : t.views ≡ slice_set s.views seat new
+  pub did : Did v new deed
+
+-- the claims of a place in the round with this serial
+abbrev pub is_claim : ℕ → ℕ → Deed → Bool
+is_claim place serial (WasClaimed p t job) = p == place && t == serial
+is_claim place serial deed = false
+
+abbrev pub claims_in : ℕ → ℕ → List Entry → ℕ
+claims_in place serial history = count_by (λ e. is_claim place serial e.deed) history
+
+-- what is asked of the places, but for one thing that a board can't see: that a slice that is put
+-- is in no place
+abbrev pub is_legal_on_board : List JobPlace → Event → Bool
+is_legal_on_board places (Put place number index) = may_put places place
+is_legal_on_board places other = is_legal_on_places places other
+
+-- what is put is the job of a slice that the feeder has
+abbrev pub IsOfFeeder : ℕ → Machine → Deed → Type 0
+IsOfFeeder window m (WasPut place job) =
+    slice_job window m.feeder job.number job.index ≡ Some (job_of job)
+IsOfFeeder window m deed = Unit {0}
+
+-- the event of its name is legal on the machine's places, and leads where the deed leads
+abbrev pub IsItsEvent : ℕ → Machine → ℕ → Deed → Type 0
+IsItsEvent window m seat deed = IfSome (event_of seat deed) (λ e.
+    (is_legal_on_board m.places e ≡ true)
+    × ((happens window m e).places ≡ after_deed m.places seat deed))

@@ -1,0 +1,52 @@
+ghost use Rattle.std.specs.Prelude.{◌≡◌, ℕ, ◌∷◌, ◌<◌, ◌≤◌, List, length, slice_index, Some};
+ghost use mathlib.Core.Option.{some};
+ghost use lib.ListN.{get_elem?};
+ghost use Rattle.claim_board.specs.declared.cargo.Cargo.TheVariants.{Finished};
+ghost use Rattle.claim_board.specs.declared.view.Deed.{Deed};
+ghost use Rattle.claim_board.specs.declared.view.Deed.TheVariants.{WasRead, WasTaken};
+ghost use Rattle.claim_board.specs.declared.view.Entry.{Entry};
+ghost use Rattle.claim_board.specs.History.{after_deed, entry, places_after, word_of, IsRun, MayDo};
+ghost use Rattle.claim_board.specs.Laws.{claims_in, IsItsEvent, IsOfFeeder, IsStepOf};
+ghost use Rattle.claim_board.specs.Rule.{BoardRule, BoardState};
+ghost use Rattle.claim_board.specs.Views.{SeatView};
+ghost use Rattle.link_model.specs.Machine.{Machine};
+ghost use Rattle.link_model.specs.Places.{place_at};
+ghost use Rattle.slice_jobs.specs.Jobs.{answered};
+ghost use Rattle.vc_slice.specs.declared.done.SliceDone.{SliceDone};
+
+/// The rule leaves a step no choice: after it the history is the one before it, and the step as the
+/// last one. Its deed may stand there, and the words after it are what the deed leads to; a word
+/// that it read was there, and an answer that it took lay in the slot.
+pub fn each_step_is_the_last()
+    ensures last { (s t : BoardState) (old : BoardRule s) (new : BoardRule t) (seat : ℕ)
+        (v : SeatView) (deed : Deed) → IsStepOf s t seat v deed
+        → new.history ≡ entry v.number deed ∷ old.history }
+    ensures may { (s t : BoardState) (old : BoardRule s) (new : BoardRule t) (seat : ℕ)
+        (v : SeatView) (deed : Deed) → IsStepOf s t seat v deed
+        → MayDo (places_after old.places old.history) v.number deed }
+    ensures leads { (s t : BoardState) (old : BoardRule s) (new : BoardRule t) (seat : ℕ)
+        (v : SeatView) (deed : Deed) (place : ℕ) → IsStepOf s t seat v deed
+        → place < length t.words → slice_index t.words place
+        ≡ word_of (place_at (after_deed (places_after old.places old.history) v.number deed) place) }
+    ensures read { (s t : BoardState) (old : BoardRule s) (new : BoardRule t) (seat : ℕ)
+        (v : SeatView) (place word : ℕ) → IsStepOf s t seat v (WasRead place word)
+        → place < length s.words → word ≡ slice_index s.words place }
+    ensures taken { (s t : BoardState) (old : BoardRule s) (new : BoardRule t) (seat : ℕ)
+        (v : SeatView) (place serial : ℕ) (done : SliceDone)
+        → IsStepOf s t seat v (WasTaken place serial done) → place < length s.words
+        → (own : SliceDone) × (answered own ≡ answered done)
+        × (get_elem? s.homes place ≡ some (some (Some (Finished serial own)))) }
+{}
+
+/// In a history each round of a place has one claim at most.
+pub fn each_round_has_one_claim()
+    ensures { (places place serial : ℕ) (history : List Entry) → IsRun places history
+        → claims_in place serial history ≤ 1 }
+{}
+
+/// A step is the event of its name of the machine: legal on its places, and what it leads to is what
+/// the event makes of them.
+pub fn each_deed_is_its_event()
+    ensures { (window : ℕ) (m : Machine) (seat : ℕ) (deed : Deed) → MayDo m.places seat deed
+        → IsOfFeeder window m deed → IsItsEvent window m seat deed }
+{}
