@@ -6,6 +6,3 @@ mod command;
 mod written;
 
 pub use command::check;
-
-#[cfg(test)]
-mod tests;

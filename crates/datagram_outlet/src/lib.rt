@@ -8,6 +8,3 @@ mod wire;
 pub use capture::CaptureOutlet;
 pub use outlet::{Outlet, OutletFault};
 pub use wire::WireOutlet;
-
-#[cfg(test)]
-mod tests;

@@ -4,6 +4,3 @@
 mod command;
 
 pub use command::{decode, unpack};
-
-#[cfg(test)]
-mod tests;

@@ -4,6 +4,3 @@
 mod command;
 
 pub use command::encode;
-
-#[cfg(test)]
-mod tests;

@@ -9,6 +9,3 @@ mod weaving;
 pub use laws::{split_undoes_weave, weave_undoes_split};
 pub use splitting::split;
 pub use weaving::weave;
-
-#[cfg(test)]
-mod tests;

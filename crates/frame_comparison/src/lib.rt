@@ -7,6 +7,3 @@ mod laws;
 
 pub use comparison::Comparison;
 pub use laws::whole_frames_have_no_differences;
-
-#[cfg(test)]
-mod tests;

@@ -11,6 +11,3 @@ mod samples;
 pub use fault::FrameReadFault;
 pub use frame::read_frame;
 pub use laws::frames_are_their_bytes;
-
-#[cfg(test)]
-mod tests;

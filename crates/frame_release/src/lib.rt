@@ -7,6 +7,3 @@ mod pairing;
 
 pub use frame_writer::FrameFault;
 pub use output::{FrameOutput, Shown};
-
-#[cfg(test)]
-mod tests;

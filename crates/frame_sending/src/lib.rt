@@ -10,6 +10,3 @@ mod totals;
 pub use frame_sender::refusal_ending;
 pub use sending::send_frames;
 pub use totals::Totals;
-
-#[cfg(test)]
-mod tests;

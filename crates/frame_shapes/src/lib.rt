@@ -5,6 +5,3 @@
 mod laws;
 
 pub use laws::{fields_can_be_woven, planes_have_their_shape};
-
-#[cfg(test)]
-mod tests;

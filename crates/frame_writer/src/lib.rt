@@ -10,6 +10,3 @@ mod width;
 pub use fault::FrameFault;
 pub use frame::write_frame;
 pub use width::is_wide;
-
-#[cfg(test)]
-mod tests;

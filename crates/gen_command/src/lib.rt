@@ -6,6 +6,3 @@ mod count;
 
 pub use command::generate;
 pub use count::samples_of;
-
-#[cfg(test)]
-mod tests;

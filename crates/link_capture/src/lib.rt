@@ -10,6 +10,3 @@ pub use fault::EntryFault;
 pub use laws::entries_are_read_back;
 pub use reader::{CaptureReader, next_entry};
 pub use writer::put_entry;
-
-#[cfg(test)]
-mod tests;

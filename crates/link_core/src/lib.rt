@@ -13,6 +13,3 @@ mod verdict;
 
 pub use event::{Event, StepRefusal};
 pub use machine::{Core, step};
-
-#[cfg(test)]
-mod tests;

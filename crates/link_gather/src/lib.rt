@@ -10,6 +10,3 @@ mod slots;
 pub use book::PictureBook;
 pub use link_model::Outcome;
 pub use part::SlicePart;
-
-#[cfg(test)]
-mod tests;

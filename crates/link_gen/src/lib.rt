@@ -12,6 +12,3 @@ pub use laws::{samples_have_their_bits, seed_0_begins_so};
 pub use samples::{next_state, sample_of};
 pub use settings::default_settings;
 pub use shape::frame_shape;
-
-#[cfg(test)]
-mod tests;

@@ -4,6 +4,3 @@
 mod udp_wire;
 
 pub use udp_wire::UdpWire;
-
-#[cfg(test)]
-mod tests;

@@ -18,6 +18,3 @@ pub use fault::EnterFault;
 pub use laws::{draining_follows_the_list, entering_follows_the_list};
 pub use link_model::{Outcome, Tally};
 pub use receiver::Receiver;
-
-#[cfg(test)]
-mod tests;

@@ -13,6 +13,3 @@ pub use ending::Ending;
 pub use fault::ReportFault;
 pub use summary::Summary;
 pub use writing::write_tally;
-
-#[cfg(test)]
-mod tests;

@@ -17,6 +17,3 @@ pub use datagram::Datagram;
 pub use picture_encode::Chooser;
 pub use refusal::SendRefusal;
 pub use sender::Sender;
-
-#[cfg(test)]
-mod tests;

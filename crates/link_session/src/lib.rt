@@ -13,6 +13,3 @@ pub use link_gather::PictureBook;
 pub use link_model::Outcome;
 pub use link_window::{Fragment, Part, Released};
 pub use standing::{Entered, Standing};
-
-#[cfg(test)]
-mod tests;

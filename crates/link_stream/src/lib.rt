@@ -7,6 +7,3 @@ mod packing_laws;
 
 pub use laws::streams_only_grow;
 pub use packing_laws::pictures_are_packed_one_by_one;
-
-#[cfg(test)]
-mod tests;

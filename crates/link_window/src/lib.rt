@@ -13,6 +13,3 @@ pub use link_gather::{PictureBook, SlicePart};
 pub use link_model::Outcome;
 pub use numbering::{base_above, nearest};
 pub use window::{Released, Window};
-
-#[cfg(test)]
-mod tests;

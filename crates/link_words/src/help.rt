@@ -57,8 +57,8 @@ const EXAMPLES: [&str; 7] = [
 ];
 
 /// The page that a reader asks for by `--help`: each command with its options, each option with the values that it takes,
-/// its default and what it means, and the statuses. Names and values are those of the grammar, by a test; no clause says
-/// so.
+/// its default and what it means, and the statuses. Names and values are those of the grammar, by worked rows; no
+/// clause says so.
 pub fn help_page(alloc: Global) -> Result<String, NoMemory> {
     let mut page = String::new(alloc);
     push_lines(&mut page, &HEAD)?;

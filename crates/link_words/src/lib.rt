@@ -17,6 +17,3 @@ pub use help::help_page;
 pub use read::read_words;
 pub use settings::Settings;
 pub use usage::Usage;
-
-#[cfg(test)]
-mod tests;

@@ -85,7 +85,7 @@ pub(crate) fn meaning_of(name: Name) -> &'static str {
         Name::Scaler => "a slice's lengths count so many bytes",
         Name::Index => "the quantisation index of all slices; 0 loses nothing; not with --fit",
         Name::Fit =>
-            "each slice has the least index at which it has at most so many bytes; not with --index",
+            "the least index at which a slice has so many bytes at most, else 127; not with --index",
         Name::Size => "bytes of a datagram at most: RTP, without the headers of IP and UDP",
         Name::Ssrc => "the source's number in RTP",
         Name::Seq => "the first sequence number, of 32 bits",

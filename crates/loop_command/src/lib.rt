@@ -5,6 +5,3 @@ mod command;
 mod outlet;
 
 pub use command::loop_back;
-
-#[cfg(test)]
-mod tests;

@@ -9,6 +9,3 @@ mod stream;
 mod totals;
 
 pub use command::pack;
-
-#[cfg(test)]
-mod tests;

@@ -13,6 +13,3 @@ mod sizes;
 
 pub use builder::{NotPut, PictureBuilder};
 pub use building::{build, build_joined};
-
-#[cfg(test)]
-mod tests;

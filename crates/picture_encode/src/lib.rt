@@ -16,6 +16,3 @@ pub use plan::{header_of, plan_of};
 pub use refusal::SliceRefusal;
 pub use slices::{EncodedSlice, encode_picture};
 pub use transform::{AtOnce, InTurn, Transform};
-
-#[cfg(test)]
-mod tests;

@@ -10,6 +10,3 @@ mod runs;
 mod writing;
 
 pub use packer::Packer;
-
-#[cfg(test)]
-mod tests;

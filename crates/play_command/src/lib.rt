@@ -10,6 +10,3 @@ mod player;
 mod slices;
 
 pub use command::{play, reading_ended};
-
-#[cfg(test)]
-mod tests;

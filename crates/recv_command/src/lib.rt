@@ -4,6 +4,3 @@
 mod command;
 
 pub use command::recv;
-
-#[cfg(test)]
-mod tests;

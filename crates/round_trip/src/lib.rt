@@ -6,6 +6,3 @@
 mod laws;
 
 pub use laws::{encoded_frames_come_back, generated_frames_come_back, looped_frames_come_back};
-
-#[cfg(test)]
-mod tests;

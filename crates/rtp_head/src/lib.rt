@@ -9,6 +9,3 @@ pub use link_model::RtpRefusal;
 pub use read::read_rtp;
 pub use view::RtpView;
 pub use write::write_rtp;
-
-#[cfg(test)]
-mod tests;

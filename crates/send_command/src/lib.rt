@@ -4,6 +4,3 @@
 mod command;
 
 pub use command::send;
-
-#[cfg(test)]
-mod tests;

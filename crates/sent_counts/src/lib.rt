@@ -4,6 +4,3 @@
 mod laws;
 
 pub use laws::frames_are_few_bytes;
-
-#[cfg(test)]
-mod tests;

@@ -4,6 +4,3 @@
 mod count;
 
 pub use count::SessionCount;
-
-#[cfg(test)]
-mod tests;

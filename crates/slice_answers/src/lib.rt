@@ -7,6 +7,3 @@ mod completing;
 mod picture;
 
 pub use answers::Answers;
-
-#[cfg(test)]
-mod tests;

@@ -5,6 +5,3 @@ mod slice_out;
 mod slices_out;
 
 pub use slices_out::SlicesOut;
-
-#[cfg(test)]
-mod tests;

@@ -4,6 +4,3 @@
 mod comparing;
 
 pub use comparing::same_job;
-
-#[cfg(test)]
-mod tests;

@@ -9,6 +9,3 @@ mod ring;
 pub use answers::{Claim, CompleteRefusal, NotHeld, NotWaiting, NotYet, PutRefusal};
 pub use link_model::PlaceState;
 pub use ring::Ring;
-
-#[cfg(test)]
-mod tests;

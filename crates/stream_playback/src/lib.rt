@@ -5,6 +5,3 @@
 mod laws;
 
 pub use laws::{first_sessions_begin_output, streams_are_played_back};
-
-#[cfg(test)]
-mod tests;

@@ -1,5 +1,6 @@
 use std::alloc::Global;
-use vc_slice::{Places, SliceDone, SliceJob, decode};
+use vc_slice::{Hands, Places, SliceDone, SliceJob, decode};
+use vc_types::NoMemory;
 
 /// One place, where a slice is decoded at once. It tells nothing.
 #[derive(Drop)]
@@ -53,6 +54,16 @@ impl Places for AtOnce {
 
     fn leave(&mut self, _place: u32) {
         self.done = None;
+    }
+}
+
+impl Hands for AtOnce {
+    ghost use Rattle.std.specs.Prelude.{⊤};
+
+    ghost is_free = { λ _. ⊤ };
+
+    fn start_workers(&mut self, _workers: u32) -> Result<(), NoMemory> {
+        Ok(())
     }
 }
 

@@ -1,7 +1,7 @@
 use crate::jobs::job_of;
+use crate::plans::UNWEIGHTED_SLICES;
 use bytes::Bytes;
 use std::alloc::Global;
-use test_values::UNWEIGHTED_SLICES;
 use vc_slice::{Hands, Places, SliceDone, SliceJob, decode};
 use vc_types::NoMemory;
 

@@ -10,6 +10,3 @@ mod units;
 pub use fault::StreamFault;
 pub use laws::written_streams_follow_datagrams;
 pub use stream::{ReleasedPicture, StreamOutput};
-
-#[cfg(test)]
-mod tests;

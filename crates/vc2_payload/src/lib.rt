@@ -9,6 +9,3 @@ pub use link_model::PayloadRefusal;
 pub use payload::{FragmentHead, Payload};
 pub use read::read_payload;
 pub use write::write_payload;
-
-#[cfg(test)]
-mod tests;

@@ -1,15 +1,9 @@
 //! vc2link: a studio link for VC-2 pictures.
 #![tactic(auto)]
 
-mod link;
-mod page;
-#[cfg(test)]
-mod tests;
-
-use link::link_main;
 use link_net::UdpWire;
+use link_program::run_words;
 use link_report::Ending;
-use page::print_page;
 use slice_pool::{Crew, Worker};
 use std::alloc::Global;
 use std::net::Net;
@@ -52,7 +46,7 @@ fn run<H: Threads + Wait + Net + Copy + Send + Sync + 'static, S: Source, O: Sin
     };
     let mut wire = UdpWire::new(rt);
     let mut crew = Crew::new(rt, alloc, |worker: Worker| worker.start(rt, &gate));
-    let status = link_main(
+    let status = run_words(
         rt, alloc, words, input, output, report, &mut wire, &mut crew,
     );
     crew.stop();
@@ -60,19 +54,15 @@ fn run<H: Threads + Wait + Net + Copy + Send + Sync + 'static, S: Source, O: Sin
 }
 
 fn main(rt: HostRuntime) -> ExitCode {
-    let mut output = StdSink::new(rt.stdout());
     let status = match words_of(&rt) {
-        Ok(words) => match print_page(rt.alloc(), &words, &mut output) {
-            Some(status) => status,
-            None => run(
-                rt,
-                rt.alloc(),
-                &words,
-                &mut StdSource::new(rt.stdin()),
-                &mut output,
-                &mut StdSink::new(rt.stderr()),
-            ),
-        },
+        Ok(words) => run(
+            rt,
+            rt.alloc(),
+            &words,
+            &mut StdSource::new(rt.stdin()),
+            &mut StdSink::new(rt.stdout()),
+            &mut StdSink::new(rt.stderr()),
+        ),
         Err(status) => status,
     };
     ExitCode::from(status)

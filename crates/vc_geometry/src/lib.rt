@@ -16,6 +16,3 @@ pub use places::place_of;
 pub use slices::{slice_len, slice_rect};
 pub use subbands::{band, bands};
 pub use vc_types::Rect;
-
-#[cfg(test)]
-mod tests;

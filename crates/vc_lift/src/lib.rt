@@ -8,8 +8,6 @@ mod line;
 mod narrow;
 mod ranges;
 mod step;
-#[cfg(test)]
-mod tests;
 
 pub use columns::{analyse_columns, synth_columns};
 pub use halves::Halves;

@@ -12,6 +12,3 @@ mod writer;
 pub use reader::read_params;
 pub use vc_types::ParamsRefusal;
 pub use writer::write_params;
-
-#[cfg(test)]
-mod tests;

@@ -33,6 +33,3 @@ pub use std_sink::StdSink;
 pub use std_source::StdSource;
 pub use whole::{Filled, fill, write_all};
 pub use wire::{Came, Reached, Wire};
-
-#[cfg(test)]
-mod tests;

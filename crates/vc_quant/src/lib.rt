@@ -16,6 +16,3 @@ pub use laws::{dequantising_never_shrinks, quantisation_is_near};
 pub use matrix::{NoDefault, default_matrix};
 pub use narrow::NarrowQuantiser;
 pub use quantiser::{Quantiser, dequant, factor, offset, quant};
-
-#[cfg(test)]
-mod tests;

@@ -10,6 +10,3 @@ mod writer;
 pub use reader::read_header;
 pub use vc_types::HeaderRefusal;
 pub use writer::write_header;
-
-#[cfg(test)]
-mod tests;

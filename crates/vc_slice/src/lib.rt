@@ -33,6 +33,3 @@ pub use narrow::{TooWide, read_numbers, slice_quantisers};
 pub use no_places::NoPlaces;
 pub use places::{Hands, Places};
 pub use vc_types::{Short, Unsound};
-
-#[cfg(test)]
-mod tests;

@@ -39,6 +39,3 @@ pub use settings::{GenSettings, PackSettings, SendSettings};
 pub use shape::Shape;
 pub use video::{Component, Sampling, SignalRange};
 pub use words::Words;
-
-#[cfg(test)]
-mod tests;

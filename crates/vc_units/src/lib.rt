@@ -14,6 +14,3 @@ pub use laws::written_unit_is_read;
 pub use reader::{UnitReader, next_unit};
 pub use unit::Unit;
 pub use writer::write_unit;
-
-#[cfg(test)]
-mod tests;

@@ -15,8 +15,6 @@ mod pass;
 mod shift;
 mod sides;
 mod synthesis;
-#[cfg(test)]
-mod tests;
 mod turn;
 
 pub use analysis::forward;

@@ -4,6 +4,3 @@
 mod inbox;
 
 pub use inbox::{Arrived, Inbox};
-
-#[cfg(test)]
-mod tests;

@@ -1,0 +1,9 @@
+//! What the program does, over an input, an output, a report, a wire and hands.
+#![tactic(auto)]
+
+mod link;
+mod page;
+mod words;
+
+pub use link::link_main;
+pub use words::run_words;

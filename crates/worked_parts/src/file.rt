@@ -1,0 +1,78 @@
+use crate::kinds::came;
+use crate::words::spread;
+use std::alloc::Global;
+use worked_text::{Bad, Part, put};
+
+// What was made of a file's lines so far.
+#[derive(Drop)]
+struct Read {
+    parts: Vec<Part>,
+    rows: u64,
+    differ: u64,
+    said: String,
+}
+
+fn add_part(alloc: Global, parts: &mut Vec<Part>, text: &str) -> Result<(), Bad> {
+    let Some((name, rest)) = text.trim().split_once(' ') else {
+        return Err(Bad::NoRow);
+    };
+    let mut bytes = Vec::new(alloc);
+    put(alloc, parts.as_slice(), rest, &mut bytes)?;
+    parts.push(Part {
+        name: String::from_str(alloc, name)?,
+        bytes,
+    })?;
+    Ok(())
+}
+
+fn try_row(alloc: Global, read: &mut Read, kind: &str, rest: &str) -> Result<(), Bad> {
+    let Some((given, wanted)) = rest.split_once('=') else {
+        return Err(Bad::NoRow);
+    };
+    let parts = read.parts.as_slice();
+    let came = came(alloc, parts, kind, given)?;
+    let came = spread(alloc, parts, came.as_str())?;
+    let wanted = spread(alloc, parts, wanted)?;
+    let came = came.as_str();
+    if came != wanted.as_str() {
+        let said = format!(in alloc; "{kind} {given}= {came}, which isn't what is wanted\n")?;
+        read.said.push_str(said.as_str())?;
+        read.differ = read.differ.saturating_add(1);
+    }
+    read.rows = read.rows.saturating_add(1);
+    Ok(())
+}
+
+fn take_line(alloc: Global, read: &mut Read, line: &str) -> Result<(), Bad> {
+    let line = line.split('#').next().unwrap_or("").trim();
+    let (kind, rest) = line.split_once(' ').unwrap_or((line, ""));
+    match kind {
+        "" => Ok(()),
+        "part" => add_part(alloc, &mut read.parts, rest),
+        _ => try_row(alloc, read, kind, rest),
+    }
+}
+
+/// Tries the rows of a file, and says what it came to.
+pub(crate) fn run_file(alloc: Global, name: &str, text: &str) -> Result<String, Bad> {
+    let mut read = Read {
+        parts: Vec::new(alloc),
+        rows: 0,
+        differ: 0,
+        said: String::new(alloc),
+    };
+    for (place, line) in text.lines().enumerate() {
+        if take_line(alloc, &mut read, line).is_err() {
+            let said = read.said.as_str();
+            let said = format!(in alloc;
+                "{said}{name}: can't try this line, after {place} others: {line}"
+            )?;
+            return Ok(said);
+        }
+    }
+    let rows = read.rows;
+    let differ = read.differ;
+    let said = read.said.as_str();
+    let said = format!(in alloc; "{said}{name}: {rows} rows, {differ} differ")?;
+    Ok(said)
+}

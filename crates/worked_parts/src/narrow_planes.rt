@@ -1,0 +1,181 @@
+//! Rows of planes that are transformed in 32 bits.
+ghost use Rattle.std.specs.Prelude.{◌≡◌, ◌^◌, ◌<◌, All, IfOk};
+ghost use Rattle.vc_types.specs.Subbands.{plane_width, plane_height, plane_depth};
+
+use crate::planes::{format_of, is_alike, plane_of};
+use crate::plans::{PlannedPlane, planned};
+use crate::words::{
+    add_number, add_samples, natural, parted, samples, short_numbers, text, weighed,
+};
+use std::alloc::Global;
+use vc_geometry::padded;
+use vc_types::Plane;
+use vc_wave::{
+    Nesting, forward_fits_narrow, forward_narrow, inverse_output, nesting_of, row_in_turn,
+    turn_rows,
+};
+use worked_text::Bad;
+
+// The samples of coefficients, whose rows are taken in turn, if 32 bits are enough.
+fn put_out(alloc: Global, of: &PlannedPlane, cells: &mut [i32]) -> Result<Option<Vec<u16>>, Bad> {
+    let (width, height) = padded(&of.plan, of.component);
+    let (columns, rows) = (width as usize, height as usize);
+    if cells.len() != rows * columns {
+        return Err(Bad::NoRow);
+    }
+    let format = format_of(&of.plan, of.component);
+    let mut line = vec![in alloc; 0i32; columns]?;
+    let mut made = vec![in alloc; 7u16; format.rows * format.columns]?;
+    let fits = inverse_output(
+        &of.plan,
+        of.component,
+        cells,
+        columns,
+        line.as_mut_slice(),
+        made.as_mut_slice(),
+        format,
+    );
+    Ok(if fits { Some(made) } else { None })
+}
+
+// The same coefficients, which stand row by row in nested subbands, with their rows taken in turn.
+fn turned(alloc: Global, of: &PlannedPlane, nested: &[i32]) -> Result<Vec<i32>, Bad> {
+    let (width, height) = padded(&of.plan, of.component);
+    let count = width as usize * height as usize;
+    if nested.len() != count {
+        return Err(Bad::NoRow);
+    }
+    let mut cells = vec![in alloc; 0i32; count]?;
+    turn_rows(&of.plan, of.component, nested, cells.as_mut_slice());
+    Ok(cells)
+}
+
+/// The samples of coefficients, clipped, in 32 bits, or that these aren't enough.
+pub(crate) fn outputs(alloc: Global, given: &str) -> Result<String, Bad> {
+    let (planned, cells) = planned(alloc, given)?;
+    let nested = short_numbers(alloc, cells)?;
+    let mut cells = turned(alloc, &planned, nested.as_slice())?;
+    match put_out(alloc, &planned, cells.as_mut_slice())? {
+        Some(made) => {
+            let mut all = String::new(alloc);
+            add_samples(alloc, &mut all, made.as_slice())?;
+            Ok(all)
+        }
+        None => text(alloc, "wide"),
+    }
+}
+
+// The next of the numbers that say which sign, or which end, comes.
+fn after(number: u32) -> u32 {
+    number.wrapping_mul(1_664_525).wrapping_add(1_013_904_223)
+}
+
+// So many cells, which are a number or its opposite, as they come.
+fn extreme_cells(alloc: Global, count: u32, most: i32) -> Result<Vec<i32>, Bad> {
+    let mut cells = Vec::new(alloc);
+    let mut next = 1u32;
+    for _ in 0..count {
+        next = after(next);
+        cells.push(if next >> 31 == 0 {
+            most
+        } else {
+            most.wrapping_neg()
+        })?;
+    }
+    Ok(cells)
+}
+
+fn sum_of_samples(alloc: Global, samples: &[u16]) -> Result<String, Bad> {
+    let mut wide = Vec::new(alloc);
+    for sample in samples {
+        wide.push(i128::from(*sample))?;
+    }
+    let mut all = String::new(alloc);
+    add_number(alloc, &mut all, weighed(wide.as_slice()))?;
+    Ok(all)
+}
+
+/// The sum of each sample times its place where all coefficients, whose rows are taken in turn, are so large, or that 32
+/// bits aren't enough.
+pub(crate) fn extreme_outputs(alloc: Global, given: &str) -> Result<String, Bad> {
+    let (planned, most) = planned(alloc, given)?;
+    let Ok(most) = i32::try_from(natural(most)?) else {
+        return Err(Bad::NoRow);
+    };
+    let (width, height) = padded(&planned.plan, planned.component);
+    let mut cells = extreme_cells(alloc, width * height, most)?;
+    match put_out(alloc, &planned, cells.as_mut_slice())? {
+        Some(made) => sum_of_samples(alloc, made.as_slice()),
+        None => text(alloc, "wide"),
+    }
+}
+
+fn cell_at(cells: &[i32], columns: usize, x: usize, row: usize) -> Result<i128, Bad> {
+    match cells.get(row.wrapping_mul(columns).wrapping_add(x)) {
+        Some(cell) => Ok(i128::from(*cell)),
+        None => Err(Bad::NoRow),
+    }
+}
+
+// The coefficients of a plane row by row in nested subbands, if 32 bits are enough.
+fn parted_plane(alloc: Global, of: &PlannedPlane, plane: &Plane) -> Result<Option<Vec<i128>>, Bad>
+    requires width { plane.now.width ≡ plane_width of.now.plan.shape of.now.component }
+    requires height { plane.now.height ≡ plane_height of.now.plan.shape of.now.component }
+    requires samples { All
+        (λ s. s < 2 ^ plane_depth of.now.plan.shape of.now.component) plane.now.samples }
+{
+    if !is_alike(&of.plan) {
+        return Err(Bad::NoRow);
+    }
+    if !forward_fits_narrow(&of.plan, of.component) {
+        return Ok(None);
+    }
+    let (width, height) = padded(&of.plan, of.component);
+    let (columns, rows) = (width as usize, height as usize);
+    let mut cells = vec![in alloc; 7i32; rows * columns]?;
+    let mut line = vec![in alloc; 7i32; columns]?;
+    forward_narrow(
+        &of.plan,
+        of.component,
+        plane,
+        cells.as_mut_slice(),
+        line.as_mut_slice(),
+    );
+    let mut nested = Vec::new(alloc);
+    for y in 0..rows {
+        for x in 0..columns {
+            let row = row_in_turn(nesting_of(&of.plan, of.component), x, y);
+            nested.push(cell_at(cells.as_slice(), columns, x, row)?)?;
+        }
+    }
+    Ok(Some(nested))
+}
+
+// So many samples, which are 0 or the greatest, as they come.
+fn extreme_samples(alloc: Global, count: usize, most: u16) -> Result<Vec<u16>, Bad> {
+    let mut samples = Vec::new(alloc);
+    let mut next = 1u32;
+    for _ in 0..count {
+        next = after(next);
+        samples.push(if next >> 31 == 0 { most } else { 0 })?;
+    }
+    Ok(samples)
+}
+
+/// The sum of each coefficient times its place where the samples are as far apart as they may be, or that 32 bits aren't
+/// enough.
+pub(crate) fn extreme_forwards(alloc: Global, given: &str) -> Result<String, Bad> {
+    let (planned, _) = planned(alloc, given)?;
+    let format = format_of(&planned.plan, planned.component);
+    let most = u16::MAX >> (16 - format.depth);
+    let extreme = extreme_samples(alloc, format.columns * format.rows, most)?;
+    let plane = plane_of(&planned, extreme)?;
+    match parted_plane(alloc, &planned, &plane)? {
+        Some(cells) => {
+            let mut all = String::new(alloc);
+            add_number(alloc, &mut all, weighed(cells.as_slice()))?;
+            Ok(all)
+        }
+        None => text(alloc, "wide"),
+    }
+}

@@ -1,0 +1,106 @@
+//! Rows of padded planes, subbands, slices and places of coefficients.
+ghost use Rattle.std.specs.Prelude.{◌<◌, IfOk};
+ghost use Rattle.vc_types.specs.Subbands.{slice_count};
+ghost use Rattle.vc_types.specs.TransformParameters.{parameters_of};
+
+use crate::plans::{PlannedPlane, planned};
+use crate::words::{add_word, natural};
+use std::alloc::Global;
+use vc_geometry::{Rect, band, bands, padded, place_of, slice_len, slice_rect, slice_rects};
+use worked_text::Bad;
+
+/// A component's padded width and height.
+pub(crate) fn padding(alloc: Global, given: &str) -> Result<String, Bad> {
+    let (planned, _) = planned(alloc, given)?;
+    let (width, height) = padded(&planned.plan, planned.component);
+    let text = format!(in alloc; "{width} {height}")?;
+    Ok(text)
+}
+
+fn add_rect(alloc: Global, rect: Rect, into: &mut String) -> Result<(), Bad> {
+    let Rect {
+        x,
+        y,
+        width,
+        height,
+    } = rect;
+    let word = format!(in alloc; "{x},{y},{width}x{height}")?;
+    add_word(into, word.as_str())
+}
+
+/// Where a component's subbands stand, in their order.
+pub(crate) fn subbands(alloc: Global, given: &str) -> Result<String, Bad> {
+    let (planned, _) = planned(alloc, given)?;
+    let mut all = String::new(alloc);
+    for b in 0..bands(&planned.plan) {
+        let rect = band(&planned.plan, planned.component, b);
+        add_rect(alloc, rect, &mut all)?;
+    }
+    Ok(all)
+}
+
+// A slice by its number.
+fn slice_of(planned: &PlannedPlane, word: &str) -> Result<u32, Bad>
+    ensures { IfOk result (λ s. s < slice_count (parameters_of planned.now.plan)) }
+{
+    let slice = natural(word)?;
+    if slice >= planned.plan.slices_x * planned.plan.slices_y {
+        return Err(Bad::NoRow);
+    }
+    Ok(slice)
+}
+
+/// The part of each subband that belongs to a slice.
+pub(crate) fn rectangles(alloc: Global, given: &str) -> Result<String, Bad> {
+    let (planned, word) = planned(alloc, given)?;
+    let slice = slice_of(&planned, word)?;
+    let mut all = String::new(alloc);
+    for b in 0..bands(&planned.plan) {
+        let rect = slice_rect(&planned.plan, planned.component, b, slice);
+        add_rect(alloc, rect, &mut all)?;
+    }
+    Ok(all)
+}
+
+/// The same at once, and none for numbers above the last subband's.
+pub(crate) fn rectangles_at_once(alloc: Global, given: &str) -> Result<String, Bad> {
+    let (planned, word) = planned(alloc, given)?;
+    let slice = slice_of(&planned, word)?;
+    let mut rects = [Rect {
+        x: 0,
+        y: 0,
+        width: 0,
+        height: 0,
+    }; 16];
+    slice_rects(&planned.plan, planned.component, slice, &mut rects);
+    let mut all = String::new(alloc);
+    for b in 0..bands(&planned.plan) {
+        add_rect(alloc, rects[b as usize], &mut all)?;
+    }
+    Ok(all)
+}
+
+/// How many coefficients each slice has.
+pub(crate) fn lengths(alloc: Global, given: &str) -> Result<String, Bad> {
+    let (planned, _) = planned(alloc, given)?;
+    let mut all = String::new(alloc);
+    for slice in 0..planned.plan.slices_x * planned.plan.slices_y {
+        let len = slice_len(&planned.plan, planned.component, slice);
+        let word = format!(in alloc; "{len}")?;
+        add_word(&mut all, word.as_str())?;
+    }
+    Ok(all)
+}
+
+/// The column and row of each coefficient of a slice.
+pub(crate) fn places(alloc: Global, given: &str) -> Result<String, Bad> {
+    let (planned, word) = planned(alloc, given)?;
+    let slice = slice_of(&planned, word)?;
+    let mut all = String::new(alloc);
+    for i in 0..slice_len(&planned.plan, planned.component, slice) {
+        let (x, y) = place_of(&planned.plan, planned.component, slice, i);
+        let word = format!(in alloc; "{x},{y}")?;
+        add_word(&mut all, word.as_str())?;
+    }
+    Ok(all)
+}

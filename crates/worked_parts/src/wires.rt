@@ -1,0 +1,156 @@
+//! Rows of wires in memory.
+ghost use Rattle.std.specs.Prelude.{◌≡◌, ◌≤◌, IfOk, IsTrue, OnOk, length};
+ghost use Rattle.vc_ports.specs.MemoryWires.{AreDatagrams, datagrams_in};
+
+use crate::ports::{add_front, fails};
+use crate::words::{add_bytes, add_word, bytes_of, natural, parted};
+use std::alloc::Global;
+use vc_ports::{Came, MemWire, PlainWire, Reached, Wire};
+use worked_text::{Bad, Part};
+
+fn listen<N: Wire>(wire: &mut N) -> bool
+    ensures { IsTrue result → IsTrue (N.told wire.new).listens }
+{
+    match wire.listen("here") {
+        Reached::Yes => true,
+        Reached::Failed => false,
+    }
+}
+
+fn aim<N: Wire>(wire: &mut N) -> bool
+    requires { IsTrue (N.told wire.old).listens }
+    ensures { IsTrue result
+        → IsTrue (N.told wire.new).listens × IsTrue (N.told wire.new).aimed }
+{
+    match wire.aim("there") {
+        Reached::Yes => true,
+        Reached::Failed => false,
+    }
+}
+
+fn add_sent<N: Wire>(wire: &mut N, datagram: &[u8], into: &mut String) -> Result<(), Bad>
+    requires { IsTrue (N.told wire.old).listens × IsTrue (N.told wire.old).aimed }
+    ensures { OnOk result (IsTrue (N.told wire.new).listens) }
+{
+    if datagram.len() > 65507 {
+        return Err(Bad::NoRow);
+    }
+    match wire.send(datagram) {
+        Reached::Yes => add_word(into, "sent"),
+        Reached::Failed => add_word(into, "failed"),
+    }
+}
+
+// A buffer that has room for any datagram.
+fn buffer(alloc: Global) -> Result<Vec<u8>, Bad>
+    ensures { IfOk result (λ buffer. length buffer.items ≡ 65535) }
+{
+    let buffer = vec![in alloc; 9u8; 65535]?;
+    Ok(buffer)
+}
+
+fn add_received<N: Wire>(alloc: Global, wire: &mut N, into: &mut String) -> Result<(), Bad>
+    requires { IsTrue (N.told wire.old).listens }
+    ensures { OnOk result (IsTrue (N.told wire.new).listens) }
+{
+    let mut buffer = buffer(alloc)?;
+    match wire.recv(buffer.as_mut_slice()) {
+        Came::Datagram(count) => {
+            add_word(into, "came")?;
+            add_front(alloc, buffer.as_slice(), count, into)
+        }
+        Came::End => add_word(into, "end"),
+        Came::Failed => add_word(into, "failed"),
+    }
+}
+
+// Opens a wire, sends one datagram over it, and receives thrice.
+fn exchange<N: Wire>(
+    alloc: Global,
+    wire: &mut N,
+    datagram: &[u8],
+    into: &mut String,
+) -> Result<(), Bad> {
+    if !listen(wire) {
+        return add_word(into, "doesn't-listen");
+    }
+    if !aim(wire) {
+        return add_word(into, "isn't-aimed");
+    }
+    add_sent(wire, datagram, into)?;
+    add_received(alloc, wire, into)?;
+    add_received(alloc, wire, into)?;
+    add_received(alloc, wire, into)
+}
+
+fn add_datagram(all: &mut Vec<Vec<u8>>, one: Vec<u8>) -> Result<(), Bad>
+    requires { AreDatagrams (datagrams_in all.old.items) }
+    ensures { AreDatagrams (datagrams_in all.new.items) }
+{
+    if one.len() > 65535 {
+        return Err(Bad::NoRow);
+    }
+    all.push(one)?;
+    Ok(())
+}
+
+// Datagrams with a stroke between each two.
+fn datagrams(alloc: Global, parts: &[Part], text: &str) -> Result<Vec<Vec<u8>>, Bad>
+    ensures { IfOk result (λ all. AreDatagrams (datagrams_in all.items)) }
+{
+    let mut all = Vec::new(alloc);
+    if text.trim().is_empty() {
+        return Ok(all);
+    }
+    for one in text.split('/') {
+        add_datagram(&mut all, bytes_of(alloc, parts, one)?)?;
+    }
+    Ok(all)
+}
+
+// A wire that has room for so many bytes and may be looped, whose calls of these numbers fail, and from which these
+// datagrams come.
+fn memory(alloc: Global, parts: &[Part], front: &str, coming: &str) -> Result<MemWire, Bad> {
+    let mut words = front.split_whitespace();
+    let room = natural(words.next().unwrap_or(""))? as usize;
+    let looped = words.next() == Some("looped");
+    let numbers = fails(alloc, words.next().unwrap_or(""))?;
+    let coming = datagrams(alloc, parts, coming)?;
+    Ok(MemWire::new(alloc, coming, looped, room, numbers)?)
+}
+
+// Adds what is kept at the first place of a list, if there is anything.
+fn add_kept(alloc: Global, what: &str, kept: Option<&[u8]>, into: &mut String) -> Result<(), Bad> {
+    match kept {
+        Some(bytes) => {
+            add_word(into, what)?;
+            add_bytes(alloc, into, bytes)
+        }
+        None => Ok(()),
+    }
+}
+
+/// What an exchange over a wire in memory comes to, and what the wire keeps of it.
+pub(crate) fn memory_wire(alloc: Global, parts: &[Part], given: &str) -> Result<String, Bad> {
+    let (front, rest) = parted(given)?;
+    let (coming, sent) = parted(rest)?;
+    let mut wire = memory(alloc, parts, front, coming)?;
+    let sent = bytes_of(alloc, parts, sent)?;
+    let mut all = String::new(alloc);
+    exchange(alloc, &mut wire, sent.as_slice(), &mut all)?;
+    add_kept(alloc, "at", wire.at(0), &mut all)?;
+    add_kept(alloc, "to", wire.to(0), &mut all)?;
+    add_kept(alloc, "kept", wire.sent(0), &mut all)?;
+    add_kept(alloc, "more", wire.sent(1), &mut all)?;
+    Ok(all)
+}
+
+/// What an exchange over a wire that never fails comes to.
+pub(crate) fn plain_wire(alloc: Global, parts: &[Part], given: &str) -> Result<String, Bad> {
+    let (coming, sent) = parted(given)?;
+    let mut wire = PlainWire::new(datagrams(alloc, parts, coming)?);
+    let sent = bytes_of(alloc, parts, sent)?;
+    let mut all = String::new(alloc);
+    exchange(alloc, &mut wire, sent.as_slice(), &mut all)?;
+    Ok(all)
+}

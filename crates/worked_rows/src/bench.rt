@@ -1,0 +1,90 @@
+use crate::datagrams::datagrams;
+use crate::numbers::{Each, Number};
+use crate::setup::Setup;
+use link_program::run_words;
+use std::alloc::Global;
+use std::thread::Threads;
+use vc_ports::{Got, MemSink, MemSource, MemWire, Source};
+use vc_slice::Hands;
+use worked_text::Bad;
+
+/// What the program reads, writes and calls in one run.
+#[derive(Drop)]
+pub(crate) struct Bench {
+    input: MemSource,
+    pub(crate) output: MemSink,
+    pub(crate) report: MemSink,
+    pub(crate) wire: MemWire,
+}
+
+/// What a run came to.
+#[derive(Drop)]
+pub(crate) struct Ran {
+    pub(crate) status: u8,
+    /// How many bytes of the input weren't read.
+    pub(crate) left: usize,
+    /// Hands that give wrong answers gave some, and kept none.
+    pub(crate) gave_back: bool,
+    pub(crate) bench: Bench,
+}
+
+impl Bench {
+    fn new(alloc: Global, setup: &Setup, number: Number) -> Result<Bench, Bad> {
+        let all = setup.input.as_slice();
+        let length = number.bytes(Each::Cut).unwrap_or(all.len());
+        let input = Vec::from_slice(alloc, all.get(..length).unwrap_or(all))?;
+        let room = number.bytes(Each::Room).unwrap_or(setup.room);
+        let coming = datagrams(alloc, setup.comes.as_slice())?;
+        let calls = number.fails(alloc, Each::Wire)?;
+        Ok(Bench {
+            input: MemSource::new(input, number.fails(alloc, Each::Read)?),
+            output: MemSink::new(alloc, room, number.fails(alloc, Each::Write)?)?,
+            report: MemSink::new(alloc, 2_000, number.fails(alloc, Each::Report)?)?,
+            wire: MemWire::new(alloc, coming, setup.looped, setup.room, calls)?,
+        })
+    }
+
+    // How many bytes of the input are left, of which there are no more than that. They are read.
+    fn left(&mut self, most: usize) -> usize {
+        let mut left = 0usize;
+        let mut piece = [0u8; 256];
+        for _ in 0..=most.saturating_add(1) {
+            match self.input.read(&mut piece) {
+                Got::Bytes(count) => left = left.saturating_add(count),
+                // The call that is to fail was still to come.
+                Got::Failed => {}
+                Got::End => break,
+            }
+        }
+        left
+    }
+}
+
+/// Runs the program on a setup, at a number, with these hands.
+pub(crate) fn run_with<H: Threads + Copy + Send + Sync, P: Hands>(
+    rt: H,
+    alloc: Global,
+    setup: &Setup,
+    number: Number,
+    hands: &mut P,
+) -> Result<Ran, Bad>
+    requires { P.is_free hands.old }
+{
+    let mut bench = Bench::new(alloc, setup, number)?;
+    let status = run_words(
+        rt,
+        alloc,
+        &setup.words,
+        &mut bench.input,
+        &mut bench.output,
+        &mut bench.report,
+        &mut bench.wire,
+        hands,
+    );
+    Ok(Ran {
+        status,
+        left: bench.left(setup.input.len()),
+        gave_back: true,
+        bench,
+    })
+}

@@ -1,0 +1,112 @@
+//! A receiver that has failed: it calls nothing any more.
+
+ghost use Rattle.std.specs.Prelude.{◌≡◌};
+ghost use Rattle.slice_exchange.specs.Calls.{PlacesAreBelow};
+
+use bytes::Bytes;
+use link_receiver::{EnterFault, Outcome, Receiver};
+use std::alloc::Global;
+use std::test::Fail;
+use test_places::{HEADER_PAYLOAD, params_payload, slice_payload};
+use vc_ports::MemSink;
+use vc_slice::{Places, SliceDone, SliceJob};
+use vc_types::NoMemory;
+
+// One place, which counts its calls and gives nothing back.
+#[derive(Drop)]
+struct Counting {
+    calls: u64,
+}
+
+impl Counting {
+    fn count(&mut self) {
+        self.calls = self.calls.saturating_add(1);
+    }
+}
+
+impl Places for Counting {
+    ghost use Rattle.std.specs.Prelude.{None};
+
+    ghost bound = { λ _. 1 };
+
+    ghost told = { λ _. None };
+
+    fn put(&mut self, job: SliceJob) -> Result<u32, SliceJob> {
+        self.count();
+        Err(job)
+    }
+
+    fn take(&mut self, _place: u32) -> Option<SliceDone> {
+        self.count();
+        None
+    }
+
+    fn withdraw(&mut self, _place: u32) -> Option<SliceJob> {
+        self.count();
+        None
+    }
+
+    fn leave(&mut self, _place: u32) {
+        self.count();
+    }
+}
+
+// A datagram of one source.
+fn datagram(alloc: Global, payload: &[u8]) -> Result<Bytes, NoMemory> {
+    let mut bytes = Vec::new(alloc);
+    bytes.extend_from_slice(&[0x80, 0x60, 0, 0, 0, 0, 0, 0, 0, 0, 0, 1])?;
+    bytes.extend_from_slice(payload)?;
+    Ok(Bytes::copy_from_slice(alloc, &bytes)?)
+}
+
+// Takes a datagram with each payload, up to the first that doesn't come to its outcome. Whether there is none.
+fn enter_all(
+    alloc: Global,
+    payloads: &[(&[u8], Result<Outcome, EnterFault>)],
+    receiver: &mut Receiver,
+    places: &mut Counting,
+    sink: &mut MemSink,
+) -> Result<bool, NoMemory>
+    requires { PlacesAreBelow 1 receiver.old.reception.out }
+    ensures { PlacesAreBelow 1 receiver.new.reception.out }
+{
+    for (payload, outcome) in payloads {
+        if receiver.enter(datagram(alloc, payload)?, places, sink) != *outcome {
+            return Ok(false);
+        }
+    }
+    Ok(true)
+}
+
+// The first write fails, that of the picture's frame, and a second one would not.
+#[test]
+fn nothing_is_called_after_a_fault(rt: HostRuntime) -> Result<(), Fail> {
+    let alloc = rt.alloc();
+    let mut places = Counting { calls: 0 };
+    let mut sink = MemSink::new(alloc, 96, vec![in alloc; 1]?)?;
+    let mut receiver = Receiver::new(alloc, 2);
+    let before: [(&[u8], Result<Outcome, EnterFault>); 4] = [
+        (&HEADER_PAYLOAD, Ok(Outcome::HeaderNew)),
+        (&params_payload(0), Ok(Outcome::ParamsKept)),
+        (&slice_payload(0, 0), Ok(Outcome::SlicesKept)),
+        (&slice_payload(0, 1), Ok(Outcome::SlicesKept)),
+    ];
+    assert!(rt; enter_all(alloc, &before, &mut receiver, &mut places, &mut sink)?);
+    assert_eq!(rt;
+        receiver.drain(&mut places, &mut sink),
+        Err(EnterFault::WriteFault)
+    );
+    let calls = places.calls;
+    let after: [(&[u8], Result<Outcome, EnterFault>); 1] = [(
+        &params_payload(1),
+        Err(EnterFault::Ended),
+    )];
+    assert!(rt; enter_all(alloc, &after, &mut receiver, &mut places, &mut sink)?);
+    assert_eq!(rt;
+        receiver.drain(&mut places, &mut sink),
+        Err(EnterFault::Ended)
+    );
+    assert_eq!(rt; (calls, places.calls), (2, 2));
+    assert!(rt; sink.bytes().is_empty());
+    Ok(())
+}

@@ -1,0 +1,158 @@
+//! A board as places: the lowest one that is empty is used, and what was left isn't until its worker is done.
+
+ghost use Rattle.std.specs.Prelude.{◌≡◌, All, IfOk};
+ghost use Rattle.std.specs.Arc.{arc_value};
+ghost use Rattle.claim_board.specs.Calls.{IsNewWorker};
+ghost use Rattle.claim_board.specs.Feeders.{feeder_bound};
+ghost use Rattle.claim_board.specs.Seats.{IsWorkerOf, place_count};
+
+use crate::jobs::empty_slice;
+use claim_board::{Board, BoardFeeder, WorkerSeat};
+use std::alloc::Global;
+use std::sync::Arc;
+use std::test::Fail;
+use vc_slice::Places;
+use vc_types::NoMemory;
+
+// A call of one of the two places, 0 and 1.
+#[derive(Clone, Copy, Debug)]
+enum Call {
+    /// A picture's number.
+    Put(u64),
+    Take(Place),
+    Withdraw(Place),
+    Leave(Place),
+    /// A worker claims it, and ends.
+    Claim(Place),
+}
+
+#[derive(Clone, Copy, Debug)]
+enum Place {
+    First,
+    Second,
+}
+
+#[derive(Clone, Copy, Debug, PartialEq, Eq)]
+enum Answer {
+    At(u32),
+    /// The number of what comes back, or is claimed.
+    Job(u64),
+    Nothing,
+}
+
+#[derive(Drop)]
+struct Fresh {
+    board: Arc<Board>,
+    form: BoardFeeder,
+    worker: WorkerSeat,
+    ghost two: { place_count (arc_value board) ≡ 2 },
+    ghost both: { feeder_bound form ≡ 2 },
+    ghost of_worker: { IsWorkerOf (arc_value board) worker },
+}
+
+fn number_of(place: Place) -> u32
+    ensures { result < 2 }
+{
+    match place {
+        Place::First => 0,
+        Place::Second => 1,
+    }
+}
+
+fn only_one(board: &Board, workers: &mut Vec<WorkerSeat>) -> Result<WorkerSeat, NoMemory>
+    requires { All (IsNewWorker board.now) workers.old.items }
+    ensures { IfOk result (IsWorkerOf board.now) }
+{
+    match workers.pop() {
+        Some(worker) => Ok(worker),
+        None => Err(NoMemory),
+    }
+}
+
+fn new_form(alloc: Global) -> Result<Fresh, NoMemory> {
+    let (board, feeder, workers, _bells) = Board::new(alloc, 2, 1)?;
+    let mut workers = workers;
+    let worker = only_one(&board, &mut workers)?;
+    let board = Arc::new(alloc, board)?;
+    let form = BoardFeeder::new(alloc, Arc::try_clone(&board)?, feeder)?;
+    Ok(Fresh {
+        board,
+        form,
+        worker,
+    })
+}
+
+fn job_or_nothing(number: Option<u64>) -> Answer {
+    match number {
+        Some(number) => Answer::Job(number),
+        None => Answer::Nothing,
+    }
+}
+
+impl Fresh {
+    fn put(&mut self, number: u64) -> Result<Answer, NoMemory> {
+        Ok(match self.form.put(empty_slice(number)?) {
+            Ok(place) => Answer::At(place),
+            Err(job) => Answer::Job(job.number),
+        })
+    }
+
+    fn claim(&mut self, place: Place) -> Answer {
+        match self.board.claim(&mut self.worker, number_of(place)) {
+            Ok(held) => Answer::Job(held.job.number),
+            Err(_) => Answer::Nothing,
+        }
+    }
+
+    fn turn(&mut self, call: Call) -> Result<Answer, NoMemory> {
+        match call {
+            Call::Put(number) => self.put(number),
+            Call::Take(place) => {
+                let done = self.form.take(number_of(place));
+                Ok(job_or_nothing(done.map(|done| done.job.number)))
+            }
+            Call::Withdraw(place) => {
+                let job = self.form.withdraw(number_of(place));
+                Ok(job_or_nothing(job.map(|job| job.number)))
+            }
+            Call::Leave(place) => {
+                self.form.leave(number_of(place));
+                Ok(Answer::Nothing)
+            }
+            Call::Claim(place) => Ok(self.claim(place)),
+        }
+    }
+}
+
+const LOWEST: [(Call, Answer); 7] = [
+    (Call::Put(1), Answer::At(0)),
+    (Call::Put(2), Answer::At(1)),
+    (Call::Put(3), Answer::Job(3)),
+    (Call::Take(Place::Second), Answer::Nothing),
+    (Call::Withdraw(Place::Second), Answer::Job(2)),
+    (Call::Leave(Place::First), Answer::Nothing),
+    // A place that was left isn't empty yet.
+    (Call::Put(4), Answer::At(1)),
+];
+
+const ENDED: [(Call, Answer); 7] = [
+    (Call::Put(7), Answer::At(0)),
+    (Call::Claim(Place::First), Answer::Job(7)),
+    (Call::Take(Place::First), Answer::Nothing),
+    (Call::Withdraw(Place::First), Answer::Nothing),
+    (Call::Leave(Place::First), Answer::Nothing),
+    (Call::Put(8), Answer::At(1)),
+    // The worker ended, and keeps its place.
+    (Call::Put(9), Answer::Job(9)),
+];
+
+#[test]
+fn the_lowest_empty_place_is_used(rt: HostRuntime) -> Result<(), Fail> {
+    for calls in [LOWEST.as_slice(), ENDED.as_slice()] {
+        let mut fresh = new_form(rt.alloc())?;
+        for (call, answer) in calls {
+            assert_eq!(rt; fresh.turn(*call)?, *answer, "{call:?} of {calls:?}");
+        }
+    }
+    Ok(())
+}

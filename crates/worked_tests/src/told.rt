@@ -1,0 +1,75 @@
+//! Hands that tell what they are asked, and decode nothing.
+
+use crate::captures::{capture, words_of};
+use link_program::link_main;
+use std::alloc::Global;
+use std::test::Fail;
+use std::thread::Threads;
+use test_places::{HEADER_PAYLOAD, Recorder, params_payload, slice_payload};
+use vc_ports::{MemSink, MemSource, MemWire};
+
+// The number of picture 0.
+const FIRST: u64 = 1 << 32;
+
+// Pictures 0, 1 and 3, in a window of two. The last slices of pictures 1 and 0 are late.
+fn loss_and_disorder(alloc: Global) -> Result<Vec<u8>, Fail> {
+    capture(
+        alloc,
+        &[
+            &HEADER_PAYLOAD,
+            &params_payload(0),
+            &slice_payload(0, 0),
+            &slice_payload(0, 1),
+            &params_payload(1),
+            &slice_payload(1, 0),
+            &params_payload(3),
+            &slice_payload(3, 0),
+            &slice_payload(3, 1),
+            &slice_payload(1, 1),
+            &slice_payload(0, 1),
+        ],
+    )
+}
+
+// Whether pictures 0 and 3 are written.
+fn are_two_frames<H: Threads + Copy + Send + Sync>(
+    rt: H,
+    alloc: Global,
+    hands: &mut Recorder,
+) -> Result<bool, Fail> {
+    let words = words_of(alloc, "decode --window 2 --workers 3")?;
+    let mut input = MemSource::new(loss_and_disorder(alloc)?, Vec::new(alloc));
+    let mut output = MemSink::new(alloc, 192, Vec::new(alloc))?;
+    let mut report = MemSink::new(alloc, 1000, Vec::new(alloc))?;
+    let mut wire = MemWire::new(alloc, Vec::new(alloc), false, 0, Vec::new(alloc))?;
+    let status = link_main(
+        rt,
+        alloc,
+        &words,
+        &mut input,
+        &mut output,
+        &mut report,
+        &mut wire,
+        hands,
+    );
+    Ok(status == 0 && output.bytes() == [0x80; 192].as_slice())
+}
+
+// They are released one after another, and none of their slices came back.
+#[test]
+fn each_slice_is_offered_as_it_comes_and_its_place_freed(rt: HostRuntime) -> Result<(), Fail> {
+    let alloc = rt.alloc();
+    let mut hands = Recorder::new(alloc, 100)?;
+    assert!(rt; are_two_frames(&rt, alloc, &mut hands)?);
+    let offered = [
+        (FIRST, 0),
+        (FIRST, 1),
+        (FIRST + 1, 0),
+        (FIRST + 3, 0),
+        (FIRST + 3, 1),
+    ];
+    assert!(rt; hands.was_offered(&offered));
+    assert_eq!(rt; hands.started(), [3].as_slice());
+    assert_eq!(rt; hands.freed(), [0, 1, 2, 3, 4].as_slice());
+    Ok(())
+}
