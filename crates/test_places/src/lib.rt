@@ -15,6 +15,6 @@ pub use doorkeeper::Doorkeeper;
 pub use jobs::job_of;
 pub use no_workers::NoWorkers;
 pub use payloads::{HEADER_PAYLOAD, params_payload, slice_payload};
-pub use plans::{THREE_SLICES, TWO_SLICES, UNWEIGHTED_SLICES};
+pub use plans::{ONE_SLICE, THREE_SLICES, TWO_SLICES, UNWEIGHTED_SLICES};
 pub use recorder::Recorder;
 pub use two_places::{Given, TwoPlaces};

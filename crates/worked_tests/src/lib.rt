@@ -5,7 +5,11 @@
 #[cfg(test)]
 mod board;
 #[cfg(test)]
+mod building;
+#[cfg(test)]
 mod captures;
+#[cfg(test)]
+mod chooser;
 #[cfg(test)]
 mod crew;
 #[cfg(test)]
@@ -24,6 +28,8 @@ mod ports;
 mod ring;
 #[cfg(test)]
 mod stress;
+#[cfg(test)]
+mod tally;
 #[cfg(test)]
 mod told;
 #[cfg(test)]

@@ -1,0 +1,83 @@
+//! A chooser of indices that no words ask for.
+
+ghost use Rattle.std.specs.Prelude.{◌≡◌, ◌≤◌, ◌*◌, IfOk, length};
+ghost use Rattle.link_model.specs.SendingPictures.{IsFrame};
+ghost use Rattle.picture_encode.specs.Choosing.{AnswersAtMost127};
+ghost use Rattle.vc_types.specs.Planes.{planes_in};
+ghost use Rattle.vc_types.specs.SenderSettings.{sending_view};
+ghost use Rattle.vc_types.specs.declared.video.Sampling.TheVariants.{S444};
+
+use link_sender::{Chooser, Datagram, Sender};
+use std::alloc::Global;
+use std::test::Fail;
+use vc_types::{IndexChoice, NoMemory, Plane, Sampling, SendSettings, SliceNeed};
+
+// Frames of 8 by 4 samples, 4:4:4, 8 bits, by wavelet 3 at depth 1 in two slices side by side, each with 12 bytes before it.
+// A datagram has room for 32 bytes of them.
+const SETTINGS: SendSettings = SendSettings {
+    width: 8,
+    height: 4,
+    sampling: Sampling::S444,
+    range: 1,
+    fields: false,
+    top: true,
+    wavelet: 3,
+    depth: 1,
+    slices_x: 2,
+    slices_y: 1,
+    prefix: 12,
+    scaler: 1,
+    size: 64,
+    choice: IndexChoice::Index(0),
+    ssrc: 1,
+    seq: 0,
+    picture: 0,
+    tick: 3600,
+    pt: 96,
+};
+
+// The datagram of both slices: the first has index 0, the second index 1, and neither has a coefficient.
+const SLICES: [u8; 64] = [
+    0x80, 0xe0, 0, 2, 0, 0, 0, 0, 0, 0, 0, 1, 0, 0, 0, 0xec, 0, 0, 0, 0, 0, 12, 0, 1, 0, 32, 0, 2,
+    0, 0, 0, 0, 0, 0, 0, 0, 0, 0, 0, 0, 0, 0, 0, 0, 0, 0, 0, 0, 0, 0, 0, 0, 0, 0, 0, 0, 0, 0, 0, 0,
+    1, 0, 0, 0,
+];
+
+fn grey(alloc: Global) -> Result<Plane, NoMemory>
+    ensures { IfOk result (λ p. (p.width ≡ 8) × (p.height ≡ 4)) }
+{
+    Ok(Plane::new(8, 4, vec![in alloc; 0x80; 32]?))
+}
+
+fn grey_frame(alloc: Global) -> Result<[Plane; 3], NoMemory>
+    ensures { IfOk result (λ f. IsFrame (sending_view SETTINGS) (planes_in f)) }
+{
+    Ok([grey(alloc)?, grey(alloc)?, grey(alloc)?])
+}
+
+// Sends a frame that isn't refused.
+fn sent<F: Fn(&SliceNeed) -> u8>(
+    sender: &mut Sender<F>,
+    frame: &[Plane; 3],
+) -> Result<Vec<Datagram>, Fail>
+    requires callable { F.IsAlwaysCallable sender.old.chooser.choose }
+    requires range { AnswersAtMost127 F.Fn sender.old.chooser.choose }
+    requires sizes { IsFrame (sending_view sender.old.settings) (planes_in frame.now) }
+{
+    match sender.send_frame(frame) {
+        Ok(datagrams) => Ok(datagrams),
+        Err(_) => Err(Fail::from("refused")),
+    }
+}
+
+#[test]
+fn a_slice_has_the_index_that_a_chooser_answers_on_its_number(rt: HostRuntime) -> Result<(), Fail> {
+    let alloc = rt.alloc();
+    let frame = grey_frame(alloc)?;
+    let chooser = Chooser::new(false, |need: &SliceNeed| (need.index % 2) as u8);
+    let mut sender = Sender::new(alloc, SETTINGS, chooser);
+    let datagrams = sent(&mut sender, &frame)?;
+    assert_eq!(rt; datagrams.len(), 3);
+    assert_eq!(rt; datagrams[2].bytes.as_slice(), SLICES.as_slice());
+    Ok(())
+}
