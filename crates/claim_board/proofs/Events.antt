@@ -2,8 +2,8 @@
 use Rattle.std.proofs.Common.{ℕ, refl, ap, eq-eqb}
 use Rattle.std.specs.Prelude.{Option}
 use Rattle.std.specs.Option.{option_map_or}
-use Rattle.link_model.specs.Machine.{Machine}
-use Rattle.link_model.specs.Places.{Job, puts_job}
+use Rattle.machine_model.specs.Machine.{Machine}
+use Rattle.machine_model.specs.Places.{Job, puts_job}
 use Rattle.claim_board.specs.declared.view.Deed.{Deed}
 use Rattle.claim_board.specs.declared.view.Deed.TheVariants.{WasRead, WasFetched, WasPut, WasClaimed, WasCompleted, WasTaken, WasWithdrawn}
 use Rattle.claim_board.specs.History.{MayDo}

@@ -8,10 +8,10 @@ use prog.Atomic.{either}
 use Rattle.atomic_table.specs.Table.{step, Act, keeps, takes, gives, Valid, carried_after, stepped, Allows}
 use Rattle.atomic_table.proofs.Lists.{set_here, set_else, exchanged}
 use Rattle.vc_slice.specs.declared.job.SliceJob.{SliceJob}
-use Rattle.slice_jobs.specs.Jobs.{job_of}
+use Rattle.link_slices.specs.Jobs.{job_of}
 use Rattle.claim_board.specs.Views.{lane}
 use Rattle.claim_board.specs.declared.view.Lane.{Lane}
-use Rattle.link_model.specs.Places.{Content, Nothing, Offered, Claimed, Decoded, JobPlace, place_at}
+use Rattle.machine_model.specs.Places.{Content, Nothing, Offered, Claimed, Decoded, JobPlace, place_at}
 use Rattle.claim_board.specs.declared.cargo.Cargo.TheVariants.{Waiting, Finished}
 use Rattle.claim_board.specs.declared.view.Deed.{Deed}
 use Rattle.claim_board.specs.declared.view.Deed.TheVariants.{WasRead, WasFetched, WasPut, WasTaken, WasWithdrawn}

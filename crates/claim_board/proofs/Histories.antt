@@ -1,12 +1,12 @@
 -- Histories of a board, and where they lead.
 use Rattle.std.proofs.Common.{◌≡◌, ◌≢◌, ℕ, zero, suc, ◌+◌, ◌^◌, ◌<◌, ◌≤◌, true, List, [], ◌∷◌, ◌++◌, length, set, sym, refl, ap, ◌∙◌, subst, arith, length-set, get_or-set_other, get_or-set_same, ltb, eq-eqb, ne_eqb}
-use Rattle.link_model.specs.declared.place_state.PlaceState.TheVariants.{Empty}
+use Rattle.machine_model.specs.declared.place_state.PlaceState.TheVariants.{Empty}
 use Rattle.std.proofs.lemmas.Bool.{and_parts, and_from, eqb-true, ltb-true, lt-ltb}
 use Rattle.std.proofs.lemmas.List.{length-replicate}
 use mathlib.Core.Logic.{dite}
 use native.Mathlib.Decide.{ℕ_discrete}
-use Rattle.link_model.specs.Places.{Content, Nothing, Offered, Claimed, Decoded, Job, JobPlace, place_at, state_number, state_of, unused_place, may_put, puts_job, claims_job, claimed_by, completes_job, decoded_there, own_answer, frees_place, is_free, is_in}
-use Rattle.slice_jobs.specs.Jobs.{job_of}
+use Rattle.machine_model.specs.Places.{Content, Nothing, Offered, Claimed, Decoded, Job, JobPlace, place_at, state_number, state_of, unused_place, may_put, puts_job, claims_job, claimed_by, completes_job, decoded_there, own_answer, frees_place, is_free, is_in}
+use Rattle.link_slices.specs.Jobs.{job_of}
 use Rattle.claim_board.specs.declared.view.Entry.{Entry}
 use Rattle.claim_board.specs.declared.view.Deed.{Deed}
 use Rattle.claim_board.specs.declared.view.Deed.TheVariants.{WasRead, WasFetched, WasPut, WasClaimed, WasCompleted, WasTaken, WasWithdrawn}

@@ -4,8 +4,8 @@ use mathlib.Core.Logic.{dite}
 use native.Mathlib.Decide.{ℕ_discrete}
 use Rattle.vc_slice.specs.declared.done.SliceDone.{SliceDone}
 use Rattle.vc_slice.specs.declared.job.SliceJob.{SliceJob}
-use Rattle.slice_jobs.specs.Jobs.{job_of}
-use Rattle.link_model.specs.Places.{Content, Nothing, Offered, Claimed, Decoded, JobPlace, place_at, state_number, state_of}
+use Rattle.link_slices.specs.Jobs.{job_of}
+use Rattle.machine_model.specs.Places.{Content, Nothing, Offered, Claimed, Decoded, JobPlace, place_at, state_number, state_of}
 use Rattle.claim_board.specs.Counts.{held_count, occurrences}
 use Rattle.claim_board.specs.History.{entry, word_of, places_after, IsRun, GoesOn, IsOtherOrRead}
 use Rattle.claim_board.specs.Views.{SeatView, Did, DidAtLast, Holds, content_at}

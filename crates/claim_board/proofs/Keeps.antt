@@ -9,10 +9,10 @@ use lib.ListN.{get_elem?}
 use Rattle.atomic_table.proofs.Lists.{at_set, set_here, set_else}
 use Rattle.vc_slice.specs.declared.job.SliceJob.{SliceJob}
 use Rattle.vc_slice.specs.declared.done.SliceDone.{SliceDone}
-use Rattle.slice_jobs.specs.Jobs.{answered, job_of}
+use Rattle.link_slices.specs.Jobs.{answered, job_of}
 use Rattle.claim_board.specs.Views.{lane}
 use Rattle.claim_board.specs.declared.view.Lane.{Lane}
-use Rattle.link_model.specs.Places.{Content, Nothing, Offered, Claimed, Decoded, JobPlace, place_at}
+use Rattle.machine_model.specs.Places.{Content, Nothing, Offered, Claimed, Decoded, JobPlace, place_at}
 use Rattle.claim_board.specs.declared.cargo.Cargo.TheVariants.{Waiting, Finished}
 use Rattle.claim_board.specs.declared.view.Entry.{Entry}
 use Rattle.claim_board.specs.declared.view.Deed.{Deed}

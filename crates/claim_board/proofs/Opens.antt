@@ -7,7 +7,7 @@ use lib.ListN.{get_elem?}
 use Rattle.atomic_table.specs.Table.{opening, Splits}
 use Rattle.atomic_table.proofs.Lists.{at_longer, at_set, set_here}
 use Rattle.claim_board.specs.Views.{lane}
-use Rattle.link_model.specs.Places.{unused_place}
+use Rattle.machine_model.specs.Places.{unused_place}
 use Rattle.claim_board.specs.declared.view.Entry.{Entry}
 use Rattle.claim_board.specs.History.{GoesOn, IsOther, IsBelow}
 use Rattle.claim_board.specs.Views.{SeatView, first_view, lane_at, with_seat, worker_view}

@@ -4,8 +4,8 @@ use Rattle.std.proofs.lemmas.Bool.{and_parts, eqb-true, ltb-true, false≢true}
 use Rattle.std.proofs.lemmas.List.Sums.{sum_by-cons}
 use mathlib.Core.Logic.{dite}
 use native.Mathlib.Decide.{ℕ_discrete}
-use Rattle.slice_jobs.specs.Jobs.{job_of}
-use Rattle.link_model.specs.Places.{Content, Nothing, Offered, Claimed, Decoded, JobPlace, place_at, is_free, state_number, state_of}
+use Rattle.link_slices.specs.Jobs.{job_of}
+use Rattle.machine_model.specs.Places.{Content, Nothing, Offered, Claimed, Decoded, JobPlace, place_at, is_free, state_number, state_of}
 use Rattle.claim_board.specs.declared.view.Entry.{Entry}
 use Rattle.claim_board.specs.declared.view.Deed.{Deed}
 use Rattle.claim_board.specs.declared.view.Deed.TheVariants.{WasRead, WasFetched, WasPut, WasClaimed, WasCompleted, WasTaken, WasWithdrawn}

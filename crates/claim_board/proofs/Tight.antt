@@ -9,8 +9,8 @@ use Rattle.atomic_table.proofs.Lists.{set_here, set_else}
 use Rattle.claim_board.specs.declared.view.Entry.{Entry}
 use Rattle.claim_board.specs.declared.view.Deed.{Deed}
 use Rattle.std.specs.Prelude.{Some}
-use Rattle.link_model.specs.Places.{Answered, Content, Decoded, JobPlace, place_at}
-use Rattle.slice_jobs.specs.Jobs.{answered}
+use Rattle.machine_model.specs.Places.{Answered, Content, Decoded, JobPlace, place_at}
+use Rattle.link_slices.specs.Jobs.{answered}
 use Rattle.vc_slice.specs.declared.done.SliceDone.{SliceDone}
 use Rattle.claim_board.specs.declared.cargo.Cargo.TheVariants.{Finished}
 use Rattle.claim_board.specs.declared.view.Deed.TheVariants.{WasTaken}

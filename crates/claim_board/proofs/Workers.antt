@@ -9,10 +9,10 @@ use Rattle.atomic_table.specs.Table.{step, Act, keeps, takes, gives, Valid, carr
 use Rattle.atomic_table.proofs.Lists.{set_here, set_else, exchanged}
 use Rattle.vc_slice.specs.declared.job.SliceJob.{SliceJob}
 use Rattle.vc_slice.specs.declared.done.SliceDone.{SliceDone}
-use Rattle.slice_jobs.specs.Jobs.{answered, job_of}
+use Rattle.link_slices.specs.Jobs.{answered, job_of}
 use Rattle.claim_board.specs.Views.{lane}
 use Rattle.claim_board.specs.declared.view.Lane.{Lane}
-use Rattle.link_model.specs.Places.{Claimed, Decoded, JobPlace, place_at, own_answer}
+use Rattle.machine_model.specs.Places.{Claimed, Decoded, JobPlace, place_at, own_answer}
 use Rattle.claim_board.specs.declared.cargo.Cargo.TheVariants.{Waiting, Finished}
 use Rattle.claim_board.specs.declared.view.Entry.{Entry}
 use Rattle.claim_board.specs.declared.view.Deed.TheVariants.{WasRead, WasClaimed, WasCompleted}

@@ -1,7 +1,7 @@
 -- How often a place stands in a list, and whether a seat holds it.
 use Rattle.std.specs.Prelude.{ℕ, List, ◌==◌, cond}
 use Rattle.std.specs.List.{count_by}
-use Rattle.link_model.specs.Places.{Content, Claimed}
+use Rattle.machine_model.specs.Places.{Content, Claimed}
 use Rattle.claim_board.specs.declared.view.Lane.{Lane}
 
 -- how often a number stands in a list

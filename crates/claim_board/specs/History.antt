@@ -1,12 +1,12 @@
 -- The history of a board, the last step first, and where it leads the places of the machine.
 use Rattle.std.specs.Prelude.{◌≡◌, ◌≢◌, ℕ, ◌+◌, ◌*◌, ◌<◌, true, List, [], ◌∷◌, ◌++◌}
 use Rattle.std.specs.Prelude.{Option, Some, None}
-use Rattle.link_model.specs.Machine as machine
-use Rattle.link_model.specs.Machine.{Event}
-use Rattle.link_model.specs.Places.{Content, Offered, Claimed, Decoded, JobPlace}
-use Rattle.link_model.specs.Places.{claims_job, completes_job, frees_place, may_put, place_at}
-use Rattle.link_model.specs.Places.{puts_job, state_number, state_of, unused_places}
-use Rattle.slice_jobs.specs.Jobs.{answered, job_of}
+use Rattle.machine_model.specs.Machine as machine
+use Rattle.machine_model.specs.Machine.{Event}
+use Rattle.machine_model.specs.Places.{Content, Offered, Claimed, Decoded, JobPlace}
+use Rattle.machine_model.specs.Places.{claims_job, completes_job, frees_place, may_put, place_at}
+use Rattle.machine_model.specs.Places.{puts_job, state_number, state_of, unused_places}
+use Rattle.link_slices.specs.Jobs.{answered, job_of}
 use Rattle.claim_board.specs.declared.view.Entry.{Entry}
 use Rattle.claim_board.specs.declared.view.Deed.{Deed}
 use Rattle.claim_board.specs.declared.view.Deed.TheVariants.{WasRead, WasFetched, WasPut, WasClaimed}

@@ -3,10 +3,10 @@ use Rattle.std.specs.Prelude.{◌≡◌, ℕ, Bool, true, false, ◌&&◌, ◌==
 use Rattle.std.specs.List.{count_by}
 use mathlib.Core.Option.{some}
 use lib.ListN.{get_elem?}
-use Rattle.link_model.specs.Feeders.{slice_job}
-use Rattle.link_model.specs.Machine.{Event, Put, Machine, happens, is_legal_on_places}
-use Rattle.link_model.specs.Places.{JobPlace, may_put}
-use Rattle.slice_jobs.specs.Jobs.{job_of}
+use Rattle.machine_model.specs.Feeders.{slice_job}
+use Rattle.machine_model.specs.Machine.{Event, Put, Machine, happens, is_legal_on_places}
+use Rattle.machine_model.specs.Places.{JobPlace, may_put}
+use Rattle.link_slices.specs.Jobs.{job_of}
 use Rattle.claim_board.specs.declared.view.Entry.{Entry}
 use Rattle.claim_board.specs.declared.view.Deed.{Deed}
 use Rattle.claim_board.specs.declared.view.Deed.TheVariants.{WasPut, WasClaimed}

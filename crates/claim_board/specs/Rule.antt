@@ -9,8 +9,8 @@ use Rattle.vc_slice.specs.declared.job.SliceJob.{SliceJob}
 use Rattle.vc_slice.specs.declared.done.SliceDone.{SliceDone}
 use Rattle.claim_board.specs.Views.{lane}
 use Rattle.claim_board.specs.declared.view.Lane.{Lane}
-use Rattle.link_model.specs.Places.{Content, Nothing, Offered, Claimed, Decoded, JobPlace, place_at}
-use Rattle.slice_jobs.specs.Jobs.{answered, job_of}
+use Rattle.machine_model.specs.Places.{Content, Nothing, Offered, Claimed, Decoded, JobPlace, place_at}
+use Rattle.link_slices.specs.Jobs.{answered, job_of}
 use Rattle.claim_board.specs.Views.{SeatView, lane_at}
 use Rattle.claim_board.specs.History.{word_of, places_after, IsRun, Each, GoesOn, IsOther, IsBelow}
 use Rattle.claim_board.specs.declared.cargo.Cargo.{Cargo}

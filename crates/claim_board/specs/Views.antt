@@ -2,9 +2,9 @@
 use Rattle.std.specs.Prelude.{◌≡◌, ℕ, ◌+◌, ◌^◌, ◌&&◌, Bool, true, false, nat_lt, not, List, [], ◌∷◌}
 use Rattle.std.specs.Prelude.{slice_index_or, slice_set, replicate}
 use Rattle.claim_board.specs.declared.view.Lane.{Lane}
-use Rattle.link_model.specs.Places.{Content, place_at}
-use Rattle.link_model.specs.Places as places
-use Rattle.slice_jobs.specs.Jobs.{job_of}
+use Rattle.machine_model.specs.Places.{Content, place_at}
+use Rattle.machine_model.specs.Places as places
+use Rattle.link_slices.specs.Jobs.{job_of}
 use Rattle.vc_slice.specs.declared.job.SliceJob.{SliceJob}
 use Rattle.claim_board.specs.declared.view.Entry.{Entry}
 use Rattle.claim_board.specs.declared.view.View.{View}

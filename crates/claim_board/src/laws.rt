@@ -9,9 +9,9 @@ ghost use Rattle.claim_board.specs.History.{after_deed, entry, places_after, wor
 ghost use Rattle.claim_board.specs.Laws.{claims_in, IsItsEvent, IsOfFeeder, IsStepOf};
 ghost use Rattle.claim_board.specs.Rule.{BoardRule, BoardState};
 ghost use Rattle.claim_board.specs.Views.{SeatView};
-ghost use Rattle.link_model.specs.Machine.{Machine};
-ghost use Rattle.link_model.specs.Places.{place_at};
-ghost use Rattle.slice_jobs.specs.Jobs.{answered};
+ghost use Rattle.machine_model.specs.Machine.{Machine};
+ghost use Rattle.machine_model.specs.Places.{place_at};
+ghost use Rattle.link_slices.specs.Jobs.{answered};
 ghost use Rattle.vc_slice.specs.declared.done.SliceDone.{SliceDone};
 
 /// The rule leaves a step no choice: after it the history is the one before it, and the step as the

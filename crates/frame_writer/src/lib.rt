@@ -1,12 +1,21 @@
-//! Raw frames (this project's own): the samples of the planes Y, C1 and C2 go out one plane after another, row by row.
+//! Raw frames (this project's own), written and read: the samples of the planes Y, C1 and C2, one plane after another, row by
+//! row.
 #![tactic(auto)]
 
 mod bytes;
 mod fault;
 mod frame;
+mod laws;
+mod memory;
 mod pieces;
+mod read_fault;
+mod reading;
+mod samples;
 mod width;
 
 pub use fault::FrameFault;
 pub use frame::write_frame;
+pub use laws::frames_are_their_bytes;
+pub use read_fault::FrameReadFault;
+pub use reading::read_frame;
 pub use width::is_wide;

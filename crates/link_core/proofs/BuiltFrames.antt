@@ -10,18 +10,18 @@ use Rattle.link_core.specs.Hearing.{SessionWindow, session_windows, session_amon
 use Rattle.link_core.proofs.HeardSessions.{IsSessionOf, IsFound, session_found}
 use Rattle.link_core.proofs.KeptBooks.{plan_of_kept, plan_of_none}
 use Rattle.link_model.specs.Books.{book_of, book_plan}
-use Rattle.link_model.specs.Feeders.{SliceAnswer, EnteredSession, session_opening, keeps_of, kept_job}
-use Rattle.link_model.specs.Feeders.{answer_in}
-use Rattle.link_model.specs.Feeding.{built_bytes, built_planes, planes_by}
-use Rattle.link_model.specs.Interleavings.{AreOwnAnswers}
+use Rattle.machine_model.specs.Feeders.{SliceAnswer, EnteredSession, session_opening, keeps_of, kept_job}
+use Rattle.machine_model.specs.Feeders.{answer_in}
+use Rattle.machine_model.specs.Feeding.{built_bytes, built_planes, planes_by}
+use Rattle.machine_model.specs.Interleavings.{AreOwnAnswers}
 use Rattle.link_model.specs.Kept.{KeptParameters, kept_parameters, parameters_in, SplitParts}
 use Rattle.link_model.specs.Kept.{split_parts, Own, own}
 use Rattle.link_model.specs.Numbers.{is_opened, parts_of}
-use Rattle.link_model.specs.Places.{Job, decoding}
+use Rattle.machine_model.specs.Places.{Job, decoding}
 use Rattle.link_model.specs.Session.{HeardSession, Part, ParamsPart, SlicesPart}
 use Rattle.link_model.proofs.Leaving.{no_parts}
-use Rattle.link_model.proofs.PicturesHeard.{session_here, session_earlier, session_opened}
-use Rattle.link_model.proofs.PicturesStay.{kept_slice}
+use Rattle.machine_model.proofs.PicturesHeard.{session_here, session_earlier, session_opened}
+use Rattle.machine_model.proofs.PicturesStay.{kept_slice}
 use Rattle.picture_build.proofs.WholeSlices.{whole_slice}
 use Rattle.vc_types.specs.SequenceHeader.{Sequence, picture_shape}
 use Rattle.vc_types.specs.SliceCoefficients.{AreSliceCoefficients}

@@ -1,12 +1,12 @@
 -- A completion with the job that is held isn't refused.
 use Rattle.std.proofs.Common.{◌≡◌, ℕ, List, Some, Ok, Err, arith}
 use Rattle.std.proofs.Common.{sym, ◌∙◌}
-use Rattle.link_model.specs.Places.{Job, JobPlace, place_at}
-use Rattle.link_model.proofs.SameJobs.{same_itself}
+use Rattle.machine_model.specs.Places.{Job, JobPlace, place_at}
+use Rattle.machine_model.proofs.SameJobs.{same_itself}
 use Rattle.slice_ring.specs.Calls.{Completed, complete_answer}
 use Rattle.slice_ring.specs.Calls.{held_with}
 use Rattle.slice_ring.specs.declared.answers.CompleteRefusal.{CompleteRefusal}
-use Rattle.slice_jobs.specs.Jobs.{job_of}
+use Rattle.link_slices.specs.Jobs.{job_of}
 use Rattle.vc_slice.specs.declared.done.SliceDone.{SliceDone}
 
 module _ (places : List JobPlace) (place serial : ℕ) (done : SliceDone) (job : Job) where

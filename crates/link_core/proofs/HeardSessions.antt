@@ -6,7 +6,7 @@ use Rattle.std.specs.Option.{option_map_or}
 use Rattle.std.proofs.lemmas.Bool.{leb-false, or_parts}
 use Rattle.std.proofs.lemmas.List.{take_more}
 use Rattle.link_model.specs.Books.{Book, book_of}
-use Rattle.link_model.specs.Feeders.{EnteredSession, entered_session, session_opening}
+use Rattle.machine_model.specs.Feeders.{EnteredSession, entered_session, session_opening}
 use Rattle.link_model.specs.Numbers.{Numbered, greatest, enters, is_closed}
 use Rattle.link_model.specs.Numbers.{is_late, is_opened, parts_of}
 use Rattle.link_model.specs.Output.{greatest_of, entered_behind}

@@ -5,8 +5,8 @@ use Rattle.std.specs.Prelude.{IfOk}
 use Rattle.std.specs.Option.{option_and_then, option_map}
 use Rattle.std.proofs.lemmas.Option.{same_Some, none-some}
 use Rattle.link_model.specs.Books.{Book, book_of, book_by, book_plan, book_slice}
-use Rattle.link_model.specs.Feeders.{EnteredSession, session_opening}
-use Rattle.link_model.specs.Feeders.{job_by, kept_job}
+use Rattle.machine_model.specs.Feeders.{EnteredSession, session_opening}
+use Rattle.machine_model.specs.Feeders.{job_by, kept_job}
 use Rattle.link_model.specs.Kept.{KeptParameters, Own, own, own_slice}
 use Rattle.link_model.specs.Numbers.{is_opened, parts_of}
 use Rattle.link_model.specs.Session.{HeardSession, Part}

@@ -6,7 +6,7 @@ use Rattle.std.specs.List.{remove}
 use Rattle.std.specs.Option.{option_map, option_or}
 use Rattle.std.proofs.lemmas.Bool.{leb-false}
 use Rattle.std.proofs.lemmas.Option.{none-some}
-use Rattle.link_model.specs.Feeders.{is_among, not_released, heard_pictures, let_go_pictures}
+use Rattle.machine_model.specs.Feeders.{is_among, not_released, heard_pictures, let_go_pictures}
 use Rattle.link_model.specs.Session.{HeardSession}
 use Rattle.link_model.specs.Windows.{NumberedBook, Window, Releasable, WindowPast, StandsForPast}
 use Rattle.link_model.specs.Windows.{released_up_to, first_unreleased, next_release}

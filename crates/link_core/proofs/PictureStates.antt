@@ -5,17 +5,17 @@ use Rattle.std.specs.Prelude.{◌||◌, nat_le, is_some}
 use Rattle.std.specs.Option.{option_map, option_map_or}
 use Rattle.link_model.specs.Books.{Book, book_of}
 use Rattle.link_model.specs.Complete.{whole_picture}
-use Rattle.link_model.specs.Feeders.{SliceAnswer, EnteredSession, session_opening}
-use Rattle.link_model.specs.Feeders.{picture_keeps, kept_job, is_ready}
+use Rattle.machine_model.specs.Feeders.{SliceAnswer, EnteredSession, session_opening}
+use Rattle.machine_model.specs.Feeders.{picture_keeps, kept_job, is_ready}
 use Rattle.link_model.specs.Kept.{own}
 use Rattle.link_model.specs.Numbers.{Numbered, is_closed, is_opened, parts_of}
 use Rattle.link_model.specs.Output.{entered_behind, is_opened_in, is_closed_in}
-use Rattle.link_model.specs.Places.{Job}
+use Rattle.machine_model.specs.Places.{Job}
 use Rattle.link_model.specs.Session.{HeardSession, Part}
 use Rattle.link_model.specs.Windows.{session_past, window_of}
 use Rattle.link_model.proofs.Bookkeeping.{book_whole_is}
-use Rattle.link_model.proofs.PicturesHeard.{session_before, session_opened}
-use Rattle.link_model.proofs.PicturesStay.{kept_slice}
+use Rattle.machine_model.proofs.PicturesHeard.{session_before, session_opened}
+use Rattle.machine_model.proofs.PicturesStay.{kept_slice}
 use Rattle.link_core.proofs.KeptBooks.{entered_book, book_among_is, plan_of_kept}
 use Rattle.link_core.specs.Hearing.{SessionWindow, session_windows, book_among, closed_among}
 use Rattle.link_core.specs.Pictures.{book_ready}

@@ -9,8 +9,8 @@ use Rattle.std.proofs.lemmas.Option.{same_Some, none-some}
 use Rattle.link_model.proofs.Ranges.{range_step}
 use Rattle.link_core.specs.Frames.{IsAnswered, IsAnsweredBook}
 use Rattle.link_model.specs.Books.{Book, book_plan}
-use Rattle.link_model.specs.Feeders.{SliceAnswer, answer_in}
-use Rattle.link_model.specs.Feeding.{sound_answer, sound_answers, with_first}
+use Rattle.machine_model.specs.Feeders.{SliceAnswer, answer_in}
+use Rattle.machine_model.specs.Feeding.{sound_answer, sound_answers, with_first}
 use Rattle.link_model.specs.Kept.{KeptParameters}
 use Rattle.picture_build.specs.PictureCoefficients.{ArePictureCoefficients}
 use Rattle.vc_types.specs.SequenceHeader.{Sequence, picture_shape}

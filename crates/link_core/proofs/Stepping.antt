@@ -5,20 +5,20 @@ use Rattle.std.specs.Prelude.{not, position, true, false, is_some}
 use Rattle.std.proofs.lemmas.Bool.{and_parts, not-true}
 use Rattle.std.proofs.lemmas.Option.{same_Some, none-some}
 use Rattle.std.specs.Option.{option_map, option_map_or}
-use Rattle.link_model.specs.Feeders.{Feeder, is_closed_now, is_decoded, is_kept, slice_job}
-use Rattle.link_model.specs.Feeding.{takes_answer, with_answer}
-use Rattle.link_model.specs.Interleavings.{AreOwnAnswers}
-use Rattle.link_model.specs.Machine.{Machine, Event, IsLegal, AreLegal, conditions}
-use Rattle.link_model.specs.Machine.{happens, run, new_machine}
-use Rattle.link_model.specs.Machine.{Put, Take, Redo}
-use Rattle.link_model.specs.Places.{Job, Answered, own_answer, Content, Nothing, Offered, Claimed}
-use Rattle.link_model.specs.Places.{Decoded, JobPlace, place_at, may_put, stands_in, puts_job}
-use Rattle.link_model.specs.Places.{frees_place}
+use Rattle.machine_model.specs.Feeders.{Feeder, is_closed_now, is_decoded, is_kept, slice_job}
+use Rattle.machine_model.specs.Feeding.{takes_answer, with_answer}
+use Rattle.machine_model.specs.Interleavings.{AreOwnAnswers}
+use Rattle.machine_model.specs.Machine.{Machine, Event, IsLegal, AreLegal, conditions}
+use Rattle.machine_model.specs.Machine.{happens, run, new_machine}
+use Rattle.machine_model.specs.Machine.{Put, Take, Redo}
+use Rattle.machine_model.specs.Places.{Job, Answered, own_answer, Content, Nothing, Offered, Claimed}
+use Rattle.machine_model.specs.Places.{Decoded, JobPlace, place_at, may_put, stands_in, puts_job}
+use Rattle.machine_model.specs.Places.{frees_place}
 use Rattle.slice_ring.specs.Calls.{done_in}
 use Rattle.link_model.specs.Session.{sessions_of}
-use Rattle.link_model.proofs.MachineHalves.{legal_halves}
-use Rattle.link_model.proofs.MachineRuns.{own_decoded}
-use Rattle.link_model.proofs.PicturesStay.{kept_slice}
+use Rattle.machine_model.proofs.MachineHalves.{legal_halves}
+use Rattle.machine_model.proofs.MachineRuns.{own_decoded}
+use Rattle.machine_model.proofs.PicturesStay.{kept_slice}
 use Rattle.link_core.specs.Cores.{CoreState, IsReached, core_after, Steps}
 use Rattle.link_core.specs.Events.{refused_by, verdict}
 use Rattle.link_core.specs.declared.event.StepRefusal.{StepRefusal}

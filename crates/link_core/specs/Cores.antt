@@ -1,7 +1,7 @@
 -- What a core keeps, and what a step does to it.
 use Rattle.std.specs.Prelude.{◌≡◌, ℕ, ◌≤◌, List, Some, Result, Ok, Err}
-use Rattle.link_model.specs.Interleavings.{machine_after, IsRun}
-use Rattle.link_model.specs.Machine.{Machine, Event, IsLegal, first_broken, happens}
+use Rattle.machine_model.specs.Interleavings.{machine_after, IsRun}
+use Rattle.machine_model.specs.Machine.{Machine, Event, IsLegal, first_broken, happens}
 use Rattle.link_core.specs.declared.event.StepRefusal.{StepRefusal}
 use Rattle.link_core.specs.declared.event.StepRefusal.TheVariants.{NotLegal, NoMemory}
 

@@ -1,7 +1,7 @@
 -- Events and refusals as the machine has them.
 use Rattle.std.specs.Prelude.{ℕ, ◌+◌, Bool, not, List, position, Option, Some, None}
 use Rattle.std.specs.Prelude.{Result, Ok, Err}
-use Rattle.link_model.specs.Machine as machine
+use Rattle.machine_model.specs.Machine as machine
 use Rattle.link_core.specs.declared.event.Event.{Event}
 use Rattle.link_core.specs.declared.event.Event.TheVariants.{Enter, Put, Claim, Complete, Take}
 use Rattle.link_core.specs.declared.event.Event.TheVariants.{Withdraw, Leave, Redo, Release, Finish}

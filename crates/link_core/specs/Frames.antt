@@ -4,8 +4,8 @@ use Rattle.std.specs.List.{range_with_len}
 use Rattle.std.specs.Option.{option_and_then, option_map, option_map_or}
 use Rattle.link_core.specs.Hearing.{SessionWindow}
 use Rattle.link_model.specs.Books.{Book, book_plan}
-use Rattle.link_model.specs.Feeders.{SliceAnswer, answer_in}
-use Rattle.link_model.specs.Feeding.{frame_of, sound_answers}
+use Rattle.machine_model.specs.Feeders.{SliceAnswer, answer_in}
+use Rattle.machine_model.specs.Feeding.{frame_of, sound_answers}
 use Rattle.link_model.specs.Kept.{KeptParameters}
 use Rattle.link_model.specs.Output.{raw_bytes}
 use Rattle.link_model.specs.Windows.{Window, book_at}

@@ -3,9 +3,9 @@ use Rattle.std.specs.Prelude.{◌≡◌, ℕ, Bool, true, not, ◌||◌, is_some
 use Rattle.std.specs.List.{list_all, range_with_len}
 use Rattle.std.specs.Option.{option_and_then, option_map}
 use Rattle.link_model.specs.Books.{Book, book_of, book_plan, book_slice, book_whole}
-use Rattle.link_model.specs.Feeders.{SliceAnswer, answer_in}
+use Rattle.machine_model.specs.Feeders.{SliceAnswer, answer_in}
 use Rattle.link_model.specs.Kept.{KeptParameters}
-use Rattle.link_model.specs.Places.{Answered, Job}
+use Rattle.machine_model.specs.Places.{Answered, Job}
 use Rattle.link_model.specs.Session.{Part}
 use Rattle.vc_types.specs.SequenceHeader.{Sequence}
 use Rattle.vc_types.specs.Subbands.{slice_count}

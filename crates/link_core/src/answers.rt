@@ -2,9 +2,9 @@ ghost use Rattle.std.specs.Prelude.{◌≡◌, ◌==◌, ◌&&◌, is_some, IfOk
 ghost use Rattle.std.specs.List.{list_all, range_with_len};
 ghost use Rattle.std.specs.Option.{option_copied, option_map};
 ghost use Rattle.link_core.specs.Pictures.{slice_answer, book_ready};
-ghost use Rattle.link_model.specs.Feeders.{answer_in};
-ghost use Rattle.link_model.specs.Feeding.{sound_answer};
-ghost use Rattle.slice_jobs.specs.Jobs.{answered};
+ghost use Rattle.machine_model.specs.Feeders.{answer_in};
+ghost use Rattle.machine_model.specs.Feeding.{sound_answer};
+ghost use Rattle.link_slices.specs.Jobs.{answered};
 
 use link_window::PictureBook;
 use std::alloc::Global;
@@ -21,7 +21,7 @@ pub(crate) struct KeptAnswer {
 }
 
 impl Model for KeptAnswer {
-    ghost use Rattle.link_model.specs.Feeders.{SliceAnswer};
+    ghost use Rattle.machine_model.specs.Feeders.{SliceAnswer};
 
     ghost Value = { SliceAnswer };
 

@@ -1,22 +1,22 @@
 ghost use Rattle.std.specs.Prelude.{◌≡◌, ◌≤◌, ℕ, [], IfOk, OnOk, OnErr, Some};
 ghost use Rattle.std.specs.Option.{option_map, option_map_or};
 ghost use Rattle.link_core.specs.Hearing.{session_windows};
-ghost use Rattle.link_model.specs.Feeders.{new_feeder, is_decoded, has_released, is_closed_now};
-ghost use Rattle.link_model.specs.Feeders.{next_to_release, slice_job};
-ghost use Rattle.link_model.specs.Feeding.{hears_datagram, hears_end, has_job, takes_answer};
-ghost use Rattle.link_model.specs.Feeding.{with_answer, built_bytes, releases_picture, session_now};
-ghost use Rattle.link_model.specs.Interleavings.{AreOwnAnswers};
-ghost use Rattle.link_model.specs.Machine.{has_answers};
-ghost use Rattle.link_model.specs.Places.{Job, own_answer};
+ghost use Rattle.machine_model.specs.Feeders.{new_feeder, is_decoded, has_released, is_closed_now};
+ghost use Rattle.machine_model.specs.Feeders.{next_to_release, slice_job};
+ghost use Rattle.machine_model.specs.Feeding.{hears_datagram, hears_end, has_job, takes_answer};
+ghost use Rattle.machine_model.specs.Feeding.{with_answer, built_bytes, releases_picture, session_now};
+ghost use Rattle.machine_model.specs.Interleavings.{AreOwnAnswers};
+ghost use Rattle.machine_model.specs.Machine.{has_answers};
+ghost use Rattle.machine_model.specs.Places.{Job, own_answer};
 ghost use Rattle.link_model.specs.Session.{sessions_of};
-ghost use Rattle.slice_jobs.specs.Jobs.{job_of, answered};
+ghost use Rattle.link_slices.specs.Jobs.{job_of, answered};
 
 use crate::answers::{KeptAnswer, answer_in, is_ready};
 use crate::frames::frame_bytes;
 use crate::pictures::{book_of_picture, is_closed_in, kept_job, next_in};
 use crate::session::{OpenSession, heard_sessions, session_of_picture};
 use bytes::Bytes;
-use slice_jobs::same_job;
+use link_slices::same_job;
 use std::alloc::Global;
 use std::marker::Model;
 use vc_slice::{SliceDone, SliceJob, decode};
@@ -34,7 +34,7 @@ pub(crate) struct FeederPart {
 }
 
 impl Model for FeederPart {
-    ghost use Rattle.link_model.specs.Feeders.{Feeder};
+    ghost use Rattle.machine_model.specs.Feeders.{Feeder};
 
     ghost Value = { Feeder };
 

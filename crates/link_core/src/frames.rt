@@ -5,7 +5,7 @@ ghost use Rattle.frame_writer.specs.Samples.{HaveByteSamples};
 ghost use Rattle.link_core.specs.Frames.{answered_book_planes, window_planes, window_frame};
 ghost use Rattle.link_core.specs.Frames.{window_bytes, IsAnsweredBook, HasAnsweredBooks};
 ghost use Rattle.frame_writer.specs.Shapes.{HaveShape};
-ghost use Rattle.link_model.specs.Feeding as feeding;
+ghost use Rattle.machine_model.specs.Feeding as feeding;
 ghost use Rattle.vc_types.specs.Planes.{planes_in};
 ghost use Rattle.vc_types.specs.RawFrames.{frame_bytes, is_wide};
 ghost use Rattle.vc_types.specs.SequenceHeader.{Sequence, picture_shape};

@@ -4,12 +4,12 @@ ghost use Rattle.std.specs.Option.{option_map, option_map_or};
 ghost use Rattle.link_core.specs.Cores.{IsReached, Steps};
 ghost use Rattle.link_core.specs.Events.{verdict};
 ghost use Rattle.link_core.specs.Events.{machine_event};
-ghost use Rattle.link_model.specs.Feeders.{is_closed_now, slice_job};
-ghost use Rattle.link_model.specs.Machine as machine;
-ghost use Rattle.link_model.specs.Machine.{new_machine};
-ghost use Rattle.link_model.specs.Places.{completes_job, frees_place, is_in, place_at};
-ghost use Rattle.link_model.specs.declared.place_state.PlaceState.TheVariants as states;
-ghost use Rattle.slice_jobs.specs.Jobs.{job_of};
+ghost use Rattle.machine_model.specs.Feeders.{is_closed_now, slice_job};
+ghost use Rattle.machine_model.specs.Machine as machine;
+ghost use Rattle.machine_model.specs.Machine.{new_machine};
+ghost use Rattle.machine_model.specs.Places.{completes_job, frees_place, is_in, place_at};
+ghost use Rattle.machine_model.specs.declared.place_state.PlaceState.TheVariants as states;
+ghost use Rattle.link_slices.specs.Jobs.{job_of};
 
 use crate::event::{Event, StepRefusal};
 use crate::feeder::FeederPart;

@@ -2,12 +2,12 @@ ghost use Rattle.std.specs.Prelude.{◌≡◌, ◌≤◌, ℕ, Bool, List, IfOk,
 ghost use Rattle.std.specs.Option.{option_copied, option_map};
 ghost use Rattle.link_core.specs.Hearing.{session_windows, book_among, closed_among, AreHeard};
 ghost use Rattle.link_core.specs.Pictures.{IsPictureBook, job_in_book};
-ghost use Rattle.link_model.specs.Feeders as feeders;
-ghost use Rattle.link_model.specs.Feeders.{let_go_pictures, not_released};
+ghost use Rattle.machine_model.specs.Feeders as feeders;
+ghost use Rattle.machine_model.specs.Feeders.{let_go_pictures, not_released};
 ghost use Rattle.link_model.specs.Output as output;
-ghost use Rattle.link_model.specs.Places.{Job};
+ghost use Rattle.machine_model.specs.Places.{Job};
 ghost use Rattle.link_model.specs.Session.{HeardSession};
-ghost use Rattle.slice_jobs.specs.Jobs.{job_of};
+ghost use Rattle.link_slices.specs.Jobs.{job_of};
 
 use crate::session::{OpenSession, session_of_picture};
 use link_window::PictureBook;

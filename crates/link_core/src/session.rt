@@ -4,7 +4,7 @@ ghost use Rattle.link_core.specs.Hearing.{opened_session, session_windows, sessi
 ghost use Rattle.link_core.specs.Hearing.{opens_beside, greatest_among, sessions_hear};
 ghost use Rattle.link_core.specs.Hearing.{AreHeard, session_among};
 ghost use Rattle.link_model.specs.Session.{begins, is_other, sessions_of};
-ghost use Rattle.link_model.specs.Feeders.{not_released};
+ghost use Rattle.machine_model.specs.Feeders.{not_released};
 ghost use Rattle.link_model.specs.Windows.{WindowPast, StandsForPast, book_at, new_window};
 ghost use Rattle.link_model.specs.Windows.{first_of, releasable_numbers};
 ghost use Rattle.vc_types.specs.SequenceHeader.{sequence_of};

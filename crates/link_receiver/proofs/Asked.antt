@@ -1,13 +1,13 @@
 -- Calls of places one after another, none of which starts workers.
 use Rattle.std.proofs.Common.{◌≡◌, ℕ, List, [], ◌∷◌, refl, Option, Ok, Err, sym, subst}
 use Rattle.std.specs.Prelude.{Result, IfOk, OnErr}
-use Rattle.link_model.specs.Places.{Job}
-use Rattle.link_reception.specs.Receptions.{Reception}
+use Rattle.machine_model.specs.Places.{Job}
+use Rattle.receiver_model.specs.Receptions.{Reception}
 use Rattle.link_receiver.specs.Exchanged.{IsExchanged}
 use Rattle.link_receiver.specs.HeardLists.{AskedPlaces}
 use Rattle.link_receiver.specs.Offers.{IsOneOffer, proposed_in}
-pub use Rattle.slice_exchange.proofs.Growing.{grows_none, grows_twice}
-use Rattle.slice_exchange.specs.Calls.{PlaceCall, Puts, Takes, told_of, exchanges_of}
+pub use Rattle.link_slices.proofs.Growing.{grows_none, grows_twice}
+use Rattle.link_slices.specs.Calls.{PlaceCall, Puts, Takes, told_of, exchanges_of}
 use Rattle.vc_slice.specs.Asked.{Told, Grows, nothing_told, told_more, taking}
 use Rattle.vc_slice.specs.declared.done.SliceDone.{SliceDone}
 use Rattle.vc_slice.specs.declared.job.SliceJob.{SliceJob}

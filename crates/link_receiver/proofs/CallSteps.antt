@@ -5,17 +5,17 @@ use Rattle.std.specs.Prelude.{map, filter, OnOk, is_some}
 use Rattle.std.specs.Option.{option_and_then}
 use Rattle.std.proofs.lemmas.Bool.{false≢true}
 use Rattle.link_model.specs.Windows.{Releasable, next_release}
-use Rattle.link_model.specs.Places.{Job, Answered}
-use Rattle.link_reception.specs.Exchanging.{Exchange, Proposed, Fetched, exchanged, all_exchanged, takes_done, not_at}
-use Rattle.link_reception.specs.Receptions.{Reception, StandingSession, SliceOut}
-use Rattle.link_reception.specs.Releasing.{next_picture}
+use Rattle.machine_model.specs.Places.{Job, Answered}
+use Rattle.receiver_model.specs.Exchanging.{Exchange, Proposed, Fetched, exchanged, all_exchanged, takes_done, not_at}
+use Rattle.receiver_model.specs.Receptions.{Reception, StandingSession, SliceOut}
+use Rattle.receiver_model.specs.Releasing.{next_picture}
 use Rattle.link_receiver.proofs.Exchanges.{calls_then, exchanges_of-append, no_call}
 use Rattle.link_receiver.proofs.Offered.{proposed_in-append, offers_more, offers_again, once_more}
 use Rattle.link_receiver.proofs.Stays.{AreAskedOrIn, one_asked, all_asked, asked_then}
 use Rattle.link_receiver.specs.Exchanged.{IsExchanged}
 use Rattle.link_receiver.specs.Offers.{AreOffersOf, IsOfferOf, IsOneOffer, MayOffer, proposed_in, asked_in, asked_at, are_asked}
-use Rattle.slice_exchange.specs.Calls.{PlaceCall, exchanges_of}
-use Rattle.slice_jobs.specs.Jobs.{job_of}
+use Rattle.link_slices.specs.Calls.{PlaceCall, exchanges_of}
+use Rattle.link_slices.specs.Jobs.{job_of}
 use Rattle.vc_slice.specs.Asked.{Told}
 use Rattle.vc_slice.specs.declared.job.SliceJob.{SliceJob}
 use Rattle.vc_types.specs.declared.memory.NoMemory.{NoMemory}

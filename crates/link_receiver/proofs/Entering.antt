@@ -2,31 +2,31 @@
 use Rattle.std.proofs.Common.{◌≡◌, ℕ, zero, suc, Bool, true, List, [], ◌++◌, Option, Some, None, refl, ap, sym, ◌∙◌, subst, append-nil, arith}
 use Rattle.std.specs.Prelude.{map, is_some, is_none}
 use Rattle.std.specs.Option.{option_map}
-use Rattle.link_model.specs.Places.{Job}
+use Rattle.machine_model.specs.Places.{Job}
 use Rattle.link_model.specs.Session.{Session}
 use Rattle.link_model.specs.Windows.{Releasable}
 use Rattle.link_model.specs.declared.outcome.Outcome.{Outcome}
-use Rattle.link_reception.specs.Entering.{datagram_jobs, opens_session, takes_datagram, datagram_bytes, before_releases, takes_end, end_bytes, gives_up_field}
-use Rattle.link_reception.specs.Exchanging.{Exchange, all_exchanged, dones_in}
-use Rattle.link_reception.specs.Judging.{judged, keeps_datagram, session_opened, stands_on, ends_input, is_over}
-use Rattle.link_reception.specs.Receptions.{Reception, StandingSession, FirstField, SliceOut}
-use Rattle.link_reception.specs.Releasing.{next_picture, releases_all, releases_up_to, releases_picture_of, book_count}
-use Rattle.link_reception.specs.Standing.{AreDecodings}
-use Rattle.link_reception.specs.WholeBooks.{ArePicturePlanes}
-use Rattle.link_session.specs.Openings.{session_of}
-use Rattle.link_session.specs.declared.heard.Opening.{Opening}
+use Rattle.receiver_model.specs.Entering.{datagram_jobs, opens_session, takes_datagram, datagram_bytes, before_releases, takes_end, end_bytes, gives_up_field}
+use Rattle.receiver_model.specs.Exchanging.{Exchange, all_exchanged, dones_in}
+use Rattle.receiver_model.specs.Judging.{judged, keeps_datagram, session_opened, stands_on, ends_input, is_over}
+use Rattle.receiver_model.specs.Receptions.{Reception, StandingSession, FirstField, SliceOut}
+use Rattle.receiver_model.specs.Releasing.{next_picture, releases_all, releases_up_to, releases_picture_of, book_count}
+use Rattle.receiver_model.specs.Standing.{AreDecodings}
+use Rattle.receiver_model.specs.WholeBooks.{ArePicturePlanes}
+use Rattle.link_window.specs.Openings.{session_of}
+use Rattle.link_window.specs.declared.heard.Opening.{Opening}
 use Rattle.link_receiver.proofs.CallSteps.{Exchanges, TakesBack, HaveSameSession, calls_session}
 use Rattle.link_receiver.specs.Entered.{IsEntered, IsDrained}
 use Rattle.link_receiver.specs.Freeing.{all_freed_places}
 use Rattle.link_receiver.specs.Offers.{AreOffersOf, proposed_in, are_asked}
 use Rattle.link_receiver.specs.Released.{AreReleased}
 use Rattle.link_receiver.specs.States.{IsRunning, WaitsForSecond, GoesOn}
-use Rattle.slice_exchange.proofs.Growing.{grows_twice}
-use Rattle.slice_exchange.specs.Calls.{PlaceCall, told_of, exchanges_of, freeing}
-use Rattle.slice_jobs.specs.Jobs.{job_of}
-use Rattle.unit_release.specs.Outputs.{all_released_output, stream_behind_all, datagram_output, stream_behind_datagram, end_output, stream_end}
-use Rattle.unit_release.specs.Receiving.{stream_takes, datagram_units, opens_stream_for, stream_takes_end, end_units}
-use Rattle.unit_release.specs.Writing.{WrittenStream}
+use Rattle.link_slices.proofs.Growing.{grows_twice}
+use Rattle.link_slices.specs.Calls.{PlaceCall, told_of, exchanges_of, freeing}
+use Rattle.link_slices.specs.Jobs.{job_of}
+use Rattle.link_pictures.specs.Outputs.{all_released_output, stream_behind_all, datagram_output, stream_behind_datagram, end_output, stream_end}
+use Rattle.link_pictures.specs.Receiving.{stream_takes, datagram_units, opens_stream_for, stream_takes_end, end_units}
+use Rattle.link_pictures.specs.Writing.{WrittenStream}
 use Rattle.vc_ports.proofs.Growing.{Grew-then, GrewBySome-all, GrewBySome-none, GrewBySome-then, GrewBySome-front}
 use Rattle.vc_ports.specs.Writing.{Grew, GrewBySome}
 use Rattle.vc_slice.specs.Asked.{Told, told_more, Grows}

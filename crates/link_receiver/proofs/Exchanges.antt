@@ -3,13 +3,13 @@ use Rattle.std.proofs.Common.{◌≡◌, List, [], ◌∷◌, ◌++◌, Option, 
 use Rattle.std.proofs.lemmas.List.{map-append}
 use Rattle.std.specs.Prelude.{ℕ}
 use Rattle.std.specs.Option.{option_map}
-use Rattle.link_model.specs.Places.{decoding}
-use Rattle.link_reception.proofs.Exchanges.{decodings_then, exchanged_then}
-use Rattle.link_reception.specs.Exchanging.{Proposed, Fetched, exchanged}
-use Rattle.link_reception.specs.Receptions.{Reception}
-use Rattle.slice_exchange.proofs.Growing.{told_assoc, grows_twice, grows_none}
-use Rattle.slice_exchange.specs.Calls.{PlaceCall, Puts, Takes, told_by, told_of, exchange_by, exchanges_of}
-use Rattle.slice_jobs.specs.Jobs.{job_of, answered}
+use Rattle.machine_model.specs.Places.{decoding}
+use Rattle.receiver_model.proofs.Exchanges.{decodings_then, exchanged_then}
+use Rattle.receiver_model.specs.Exchanging.{Proposed, Fetched, exchanged}
+use Rattle.receiver_model.specs.Receptions.{Reception}
+use Rattle.link_slices.proofs.Growing.{told_assoc, grows_twice, grows_none}
+use Rattle.link_slices.specs.Calls.{PlaceCall, Puts, Takes, told_by, told_of, exchange_by, exchanges_of}
+use Rattle.link_slices.specs.Jobs.{job_of, answered}
 use Rattle.vc_slice.specs.Asked.{Told, told_more, Grows, one_offer, taking}
 use Rattle.vc_slice.specs.declared.done.SliceDone.{SliceDone}
 use Rattle.vc_slice.specs.declared.job.SliceJob.{SliceJob}

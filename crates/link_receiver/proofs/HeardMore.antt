@@ -2,22 +2,22 @@
 use Rattle.std.proofs.Common.{◌≡◌, ℕ, false, List, [], ◌∷◌, ◌++◌, Option, ap, ◌∙◌, arith}
 use Rattle.std.proofs.lemmas.List.Prefix.{front_rest}
 use Rattle.link_model.specs.Judgement.{tally_of, outcome_behind}
-use Rattle.link_reception.specs.Entering.{datagram_jobs, takes_datagram, takes_end}
-use Rattle.link_reception.specs.Exchanging.{Exchange, dones_in}
-use Rattle.link_reception.specs.Judging.{judged}
-use Rattle.link_reception.specs.Receptions.{Reception}
-use Rattle.link_reception.specs.SlicesOut.{ArePutsOf}
-use Rattle.link_reception.specs.Standing.{StandsForHeard, AreDecodings}
-use Rattle.link_reception.proofs.Entered.{heard_again}
-use Rattle.link_reception.proofs.Following.{outcome_is, datagram_stands, datagram_writes, finished_writes, finished_counts}
-use Rattle.link_reception.proofs.OutKept.{datagram_out_kept}
+use Rattle.receiver_model.specs.Entering.{datagram_jobs, takes_datagram, takes_end}
+use Rattle.receiver_model.specs.Exchanging.{Exchange, dones_in}
+use Rattle.receiver_model.specs.Judging.{judged}
+use Rattle.receiver_model.specs.Receptions.{Reception}
+use Rattle.receiver_model.specs.SlicesOut.{ArePutsOf}
+use Rattle.receiver_model.specs.Standing.{StandsForHeard, AreDecodings}
+use Rattle.receiver_model.proofs.Entered.{heard_again}
+use Rattle.receiver_model.proofs.Following.{outcome_is, datagram_stands, datagram_writes, finished_writes, finished_counts}
+use Rattle.receiver_model.proofs.OutKept.{datagram_out_kept}
 use Rattle.link_receiver.specs.States.{ReceiverState}
 use Rattle.link_receiver.specs.HeardLists.{OutputForm, AsFrames, AsUnits, HasHeard, WritesAs}
 use Rattle.link_receiver.specs.HeardLists.{due_so_far, due_in_all, newly_due, still_due}
-use Rattle.unit_release.proofs.Following.{stream_follows, stream_grows, stream_ends}
-use Rattle.unit_release.specs.Outputs.{datagram_output, stream_behind_datagram, end_output}
-use Rattle.unit_release.specs.Receiving.{stream_takes}
-use Rattle.unit_release.specs.Writing.{WrittenStream}
+use Rattle.link_pictures.proofs.Following.{stream_follows, stream_grows, stream_ends}
+use Rattle.link_pictures.specs.Outputs.{datagram_output, stream_behind_datagram, end_output}
+use Rattle.link_pictures.specs.Receiving.{stream_takes}
+use Rattle.link_pictures.specs.Writing.{WrittenStream}
 
 -- what is written speaks of what a receiver has and its stream alone
 pub writes_same : (form : OutputForm) (r s : ReceiverState) (size : ℕ)

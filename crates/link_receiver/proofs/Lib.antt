@@ -9,3 +9,5 @@ pub mod ReleaseLoop
 pub mod HeardMore
 pub mod OfferedEach
 pub mod ListClauses
+pub mod Due
+pub mod Hired

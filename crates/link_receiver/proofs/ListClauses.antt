@@ -1,17 +1,17 @@
 -- What calls of a receiver are for a list of datagrams that it has heard.
 use Rattle.std.proofs.Common.{◌≡◌, ℕ, ◌≤◌, true, List, [], ◌∷◌, ◌++◌, Option, refl, ap, sym, subst, ◌∙◌, arith}
 use Rattle.link_model.specs.Judgement.{tally_of, outcome_behind}
-use Rattle.link_model.specs.Places.{Job}
+use Rattle.machine_model.specs.Places.{Job}
 use Rattle.link_model.specs.Session.{sessions_of}
 use Rattle.link_model.specs.declared.outcome.Outcome.{Outcome}
-use Rattle.link_reception.specs.Entering.{before_releases, datagram_jobs}
-use Rattle.link_reception.specs.Exchanging.{Exchange, dones_in, is_job_among}
-use Rattle.link_reception.specs.Receptions.{Reception}
-use Rattle.link_reception.specs.SlicesOut.{AreOutKept}
-use Rattle.link_reception.specs.Standing.{StandsFor, AreDecodings}
-use Rattle.link_reception.proofs.DatagramJobs.{only_jobs, open_jobs}
-use Rattle.link_reception.proofs.OutKept.{offered_not_out}
-use Rattle.link_reception.proofs.UnansweredJobs.{offered_unanswered}
+use Rattle.receiver_model.specs.Entering.{before_releases, datagram_jobs}
+use Rattle.receiver_model.specs.Exchanging.{Exchange, dones_in, is_job_among}
+use Rattle.receiver_model.specs.Receptions.{Reception}
+use Rattle.receiver_model.specs.SlicesOut.{AreOutKept}
+use Rattle.receiver_model.specs.Standing.{StandsFor, AreDecodings}
+use Rattle.receiver_model.proofs.DatagramJobs.{only_jobs, open_jobs}
+use Rattle.receiver_model.proofs.OutKept.{offered_not_out}
+use Rattle.receiver_model.proofs.UnansweredJobs.{offered_unanswered}
 use Rattle.link_receiver.proofs.HeardMore.{heard_stands, heard_outcome, heard_with, heard_writes, end_writes, end_counts, writes_same}
 use Rattle.link_receiver.proofs.Asked.{none_started}
 use Rattle.link_receiver.proofs.OfferedEach.{told_have, told_are, offers_are_puts}
@@ -20,9 +20,9 @@ use Rattle.link_receiver.specs.Freeing.{all_freed_places}
 use Rattle.link_receiver.specs.HeardLists.{OutputForm, HasHeard, OfferedToPlaces, newly_due, still_due}
 use Rattle.link_receiver.specs.HeardLists.{IsNewSlice, OfferedNewSlices}
 use Rattle.link_receiver.specs.States.{ReceiverState}
-use Rattle.slice_exchange.specs.Calls.{PlaceCall, exchanges_of}
-use Rattle.unit_release.specs.Outputs.{datagram_output, stream_behind_datagram, end_output}
-use Rattle.unit_release.specs.Writing.{WrittenStream}
+use Rattle.link_slices.specs.Calls.{PlaceCall, exchanges_of}
+use Rattle.link_pictures.specs.Outputs.{datagram_output, stream_behind_datagram, end_output}
+use Rattle.link_pictures.specs.Writing.{WrittenStream}
 use Rattle.vc_ports.specs.Writing.{Grew, GrewBySome}
 
 some_open : {size : ℕ} → 2 ≤ size → 1 ≤ size

@@ -1,8 +1,8 @@
 -- Offers and places that were asked, over more calls than one.
 use Rattle.std.proofs.Common.{◌≡◌, List, [], ◌∷◌, ◌++◌, Option, Some, None, refl, ap, sym, ◌∙◌, inl, inr, append_assoc, append-nil, arith}
 use Rattle.std.proofs.lemmas.Grind.{flat_map-append}
-use Rattle.link_model.specs.Places.{Job}
-use Rattle.link_reception.specs.Exchanging.{Exchange, Proposed}
+use Rattle.machine_model.specs.Places.{Job}
+use Rattle.receiver_model.specs.Exchanging.{Exchange, Proposed}
 use Rattle.vc_slice.specs.declared.job.SliceJob.{SliceJob}
 use Rattle.link_receiver.specs.Offers.{AreOffersOf, IsOfferOf, IsOneOffer, MayOffer, proposed_by, proposed_in}
 

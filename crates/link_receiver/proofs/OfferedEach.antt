@@ -6,16 +6,16 @@ use Rattle.std.proofs.lemmas.Bool.{false≢true, or_left}
 use Rattle.std.proofs.lemmas.Grind.{flat_map-append}
 use Rattle.std.proofs.lemmas.List.Folds.{list_any-append}
 use Rattle.std.specs.List.{flat_map}
-use Rattle.link_model.specs.Feeding.{is_same_job}
-use Rattle.link_model.specs.Places.{Job}
-use Rattle.link_reception.specs.Exchanging.{Exchange, Proposed, Fetched, is_job_among}
-use Rattle.link_reception.specs.Offered.{HasJobs}
-use Rattle.link_reception.specs.SlicesOut.{ArePutsOf}
-use Rattle.link_model.proofs.SameJobs.{same_itself}
+use Rattle.machine_model.specs.Feeding.{is_same_job}
+use Rattle.machine_model.specs.Places.{Job}
+use Rattle.receiver_model.specs.Exchanging.{Exchange, Proposed, Fetched, is_job_among}
+use Rattle.receiver_model.specs.Offered.{HasJobs}
+use Rattle.receiver_model.specs.SlicesOut.{ArePutsOf}
+use Rattle.machine_model.proofs.SameJobs.{same_itself}
 use Rattle.link_receiver.specs.HeardLists.{told_jobs}
 use Rattle.link_receiver.specs.Offers.{AreOffersOf, IsOfferOf, proposed_in}
-use Rattle.slice_exchange.specs.Calls.{PlaceCall, Puts, Takes, told_of, exchanges_of, freeing}
-use Rattle.slice_jobs.specs.Jobs.{job_of}
+use Rattle.link_slices.specs.Calls.{PlaceCall, Puts, Takes, told_of, exchanges_of, freeing}
+use Rattle.link_slices.specs.Jobs.{job_of}
 use Rattle.vc_slice.specs.Asked.{told_more}
 
 -- the job of an offer

@@ -1,19 +1,19 @@
 -- The releases of a call, one after another.
 use Rattle.std.proofs.Common.{◌≡◌, ℕ, zero, suc, List, [], ◌++◌, Option, Some, None, refl, ap, sym, ◌∙◌, subst, append_assoc, append-nil, arith}
 use Rattle.link_model.specs.Windows.{Releasable}
-use Rattle.link_reception.proofs.ReleaseSteps.{none_released}
-use Rattle.link_reception.specs.Receptions.{Reception}
-use Rattle.link_reception.specs.Releasing.{next_picture, releases_picture_of, freed_places, releases_up_to, bytes_up_to, book_count}
-use Rattle.slice_exchange.proofs.Growing.{grows_twice, grows_none}
-use Rattle.slice_exchange.specs.Calls.{freeing}
+use Rattle.receiver_model.proofs.ReleaseSteps.{none_released}
+use Rattle.receiver_model.specs.Receptions.{Reception}
+use Rattle.receiver_model.specs.Releasing.{next_picture, releases_picture_of, freed_places, releases_up_to, bytes_up_to, book_count}
+use Rattle.link_slices.proofs.Growing.{grows_twice, grows_none}
+use Rattle.link_slices.specs.Calls.{freeing}
 use Rattle.vc_ports.proofs.Growing.{Grew-none, Grew-then, GrewBySome-then, GrewBySome-front}
 use Rattle.vc_ports.specs.Writing.{Grew, GrewBySome}
 use Rattle.vc_slice.specs.Asked.{Told, Grows}
 use Rattle.link_receiver.specs.Freeing.{freed_up_to}
 use Rattle.link_receiver.specs.Released.{AreReleased}
-use Rattle.unit_release.specs.Outputs.{released_output, stream_behind_picture, output_up_to, stream_behind_up_to}
-use Rattle.unit_release.specs.Receiving.{streams_up_to, streamed_up_to}
-use Rattle.unit_release.specs.Writing.{WrittenStream}
+use Rattle.link_pictures.specs.Outputs.{released_output, stream_behind_picture, output_up_to, stream_behind_up_to}
+use Rattle.link_pictures.specs.Receiving.{streams_up_to, streamed_up_to}
+use Rattle.link_pictures.specs.Writing.{WrittenStream}
 
 -- so many releases are left of a call, of which some were made
 pub record IsReleasing (n left : ℕ) (first now : Reception)

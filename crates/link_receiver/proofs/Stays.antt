@@ -6,13 +6,13 @@ use Rattle.std.proofs.lemmas.Bool.{and_parts}
 use Rattle.std.proofs.lemmas.List.Folds.{list_any-append}
 use Rattle.std.specs.Prelude.{filter, ◌||◌, ◌==◌, not, Some, None}
 use Rattle.std.specs.List.{list_all}
-use Rattle.link_reception.specs.Exchanging.{Exchange, Proposed, Fetched, exchanged, all_exchanged, not_at, out_at, back_from}
-use Rattle.link_reception.specs.Receptions.{SliceOut, Reception}
-use Rattle.link_reception.proofs.OutKept.{takes_done-out}
-use Rattle.slice_exchange.specs.Calls.{out_exchanged}
+use Rattle.receiver_model.specs.Exchanging.{Exchange, Proposed, Fetched, exchanged, all_exchanged, not_at, out_at, back_from}
+use Rattle.receiver_model.specs.Receptions.{SliceOut, Reception}
+use Rattle.receiver_model.proofs.OutKept.{takes_done-out}
+use Rattle.link_slices.specs.Calls.{out_exchanged}
 use Rattle.std.proofs.lemmas.Option.{slice_get_past}
 use Rattle.std.specs.Option.{option_map}
-use Rattle.slice_exchange.specs.Calls.{PlacesAreBelow}
+use Rattle.link_slices.specs.Calls.{PlacesAreBelow}
 use Rattle.std.specs.Prelude.{slice_get}
 use Rattle.link_receiver.specs.Offers.{asked_by, asked_in, asked_at, is_asked, are_asked, proposed_in}
 

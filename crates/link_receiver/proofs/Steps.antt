@@ -5,18 +5,18 @@ use Rattle.std.specs.Option.{option_copied}
 use denote.Ref.{Bor}
 use Rattle.link_model.specs.Books.{Book}
 use Rattle.link_model.specs.Windows.{Releasable}
-use Rattle.link_reception.specs.Exchanging.{Proposed, exchanged, takes_done, not_at}
-use Rattle.link_reception.specs.Receptions.{Reception, SliceOut, StandingSession}
-use Rattle.link_reception.specs.WholeBooks.{IsWholeBook}
+use Rattle.receiver_model.specs.Exchanging.{Proposed, exchanged, takes_done, not_at}
+use Rattle.receiver_model.specs.Receptions.{Reception, SliceOut, StandingSession}
+use Rattle.receiver_model.specs.WholeBooks.{IsWholeBook}
 use Rattle.link_receiver.proofs.Exchanges.{one_put, one_take}
 use Rattle.link_receiver.specs.Exchanged.{IsExchanged}
 use Rattle.link_receiver.specs.Offers.{IsOneOffer, proposed_in}
-use Rattle.slice_answers.specs.Completing.{IsWholeBySome}
-use Rattle.slice_exchange.specs.Calls.{PlaceCall, Puts, Takes, exchanges_of, out_exchanged, handed_back}
-use Rattle.slice_jobs.specs.Jobs.{job_of, answered}
+use Rattle.link_pictures.specs.Completing.{IsWholeBySome}
+use Rattle.link_slices.specs.Calls.{PlaceCall, Puts, Takes, exchanges_of, out_exchanged, handed_back}
+use Rattle.link_slices.specs.Jobs.{job_of, answered}
 use Rattle.link_receiver.specs.Shown.{shown_bytes}
-use Rattle.unit_release.specs.Outputs.{released_output}
-use Rattle.unit_release.specs.Writing.{WrittenStream}
+use Rattle.link_pictures.specs.Outputs.{released_output}
+use Rattle.link_pictures.specs.Writing.{WrittenStream}
 use Rattle.vc_slice.specs.Asked.{Told, Grows, one_offer, taking}
 use Rattle.vc_slice.specs.declared.done.SliceDone.{SliceDone}
 use Rattle.vc_slice.specs.declared.job.SliceJob.{SliceJob}

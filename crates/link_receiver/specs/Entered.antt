@@ -1,16 +1,16 @@
 -- What a datagram and the end of the input do to a receiver, to places and to a sink.
 use Rattle.std.specs.Prelude.{◌≡◌, ℕ, true, is_some, List, [], Option}
 use Rattle.link_model.specs.declared.outcome.Outcome.{Outcome}
-use Rattle.link_reception.specs.Entering.{before_releases, datagram_jobs, takes_datagram}
-use Rattle.link_reception.specs.Entering.{takes_end}
-use Rattle.link_reception.specs.Exchanging.{all_exchanged, dones_in}
-use Rattle.link_reception.specs.Judging.{judged, keeps_datagram, ends_input}
-use Rattle.link_reception.specs.Receptions.{Reception}
-use Rattle.link_reception.specs.Releasing.{next_picture}
-use Rattle.link_reception.specs.Standing.{AreDecodings}
-use Rattle.slice_exchange.specs.Calls.{PlaceCall, told_of, exchanges_of, freeing}
-use Rattle.unit_release.specs.Outputs.{datagram_output, stream_behind_datagram, end_output}
-use Rattle.unit_release.specs.Writing.{WrittenStream}
+use Rattle.receiver_model.specs.Entering.{before_releases, datagram_jobs, takes_datagram}
+use Rattle.receiver_model.specs.Entering.{takes_end}
+use Rattle.receiver_model.specs.Exchanging.{all_exchanged, dones_in}
+use Rattle.receiver_model.specs.Judging.{judged, keeps_datagram, ends_input}
+use Rattle.receiver_model.specs.Receptions.{Reception}
+use Rattle.receiver_model.specs.Releasing.{next_picture}
+use Rattle.receiver_model.specs.Standing.{AreDecodings}
+use Rattle.link_slices.specs.Calls.{PlaceCall, told_of, exchanges_of, freeing}
+use Rattle.link_pictures.specs.Outputs.{datagram_output, stream_behind_datagram, end_output}
+use Rattle.link_pictures.specs.Writing.{WrittenStream}
 use Rattle.vc_ports.specs.Writing.{Grew}
 use Rattle.vc_slice.specs.Asked.{Told, told_more, Grows}
 use Rattle.link_receiver.specs.Freeing.{all_freed_places}

@@ -1,9 +1,9 @@
 -- Calls of places in which slices go out and come back.
 use Rattle.std.specs.Prelude.{◌≡◌, List, Option}
-use Rattle.link_reception.specs.Exchanging.{all_exchanged, dones_in}
-use Rattle.link_reception.specs.Receptions.{Reception}
-use Rattle.link_reception.specs.Standing.{AreDecodings}
-use Rattle.slice_exchange.specs.Calls.{PlaceCall, told_of, exchanges_of}
+use Rattle.receiver_model.specs.Exchanging.{all_exchanged, dones_in}
+use Rattle.receiver_model.specs.Receptions.{Reception}
+use Rattle.receiver_model.specs.Standing.{AreDecodings}
+use Rattle.link_slices.specs.Calls.{PlaceCall, told_of, exchanges_of}
 use Rattle.vc_slice.specs.Asked.{Told, Grows}
 
 -- The places tell of these calls and no others, and the receiver is as they leave it. Whatever was

@@ -5,8 +5,8 @@ use Rattle.link_receiver.specs.declared.fault.EnterFault.{EnterFault}
 use Rattle.link_receiver.specs.declared.fault.EnterFault.TheVariants as enter
 use Rattle.link_receiver.specs.declared.fault.StepFault.{StepFault}
 use Rattle.link_receiver.specs.declared.fault.StepFault.TheVariants as step
-use Rattle.unit_release.specs.declared.fault.StreamFault.{StreamFault}
-use Rattle.unit_release.specs.declared.fault.StreamFault.TheVariants as stream
+use Rattle.link_pictures.specs.declared.fault.StreamFault.{StreamFault}
+use Rattle.link_pictures.specs.declared.fault.StreamFault.TheVariants as stream
 
 abbrev pub step_fault : FrameFault → StepFault
 step_fault frame.WriteFault = step.WriteFault

@@ -1,9 +1,9 @@
 -- The places that a receiver frees where it releases pictures.
 use Rattle.std.specs.Prelude.{ℕ, zero, suc, List, [], ◌++◌}
 use Rattle.std.specs.Option.{option_map_or}
-use Rattle.link_reception.specs.Receptions.{Reception}
-use Rattle.link_reception.specs.Releasing.{freed_places, next_picture, releases_picture_of}
-use Rattle.link_reception.specs.Releasing.{book_count}
+use Rattle.receiver_model.specs.Receptions.{Reception}
+use Rattle.receiver_model.specs.Releasing.{freed_places, next_picture, releases_picture_of}
+use Rattle.receiver_model.specs.Releasing.{book_count}
 
 -- while a picture may be released, at most so many
 unfoldable pub freed_up_to : ℕ → Reception → List ℕ

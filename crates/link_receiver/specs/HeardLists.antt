@@ -2,20 +2,20 @@
 -- places told.
 use Rattle.std.specs.Prelude.{◌≡◌, ℕ, ◌≤◌, true, false, List, [], ◌∷◌, ◌++◌, length, drop, map}
 use Rattle.std.specs.Prelude.{Option, Some, None}
-use Rattle.link_model.specs.Feeders.{Feeder, kept_job}
+use Rattle.machine_model.specs.Feeders.{Feeder, kept_job}
 use Rattle.link_model.specs.Output.{output_so_far, full_output, is_closed_in}
-use Rattle.link_model.specs.Places.{Job}
+use Rattle.machine_model.specs.Places.{Job}
 use Rattle.link_model.specs.Session.{sessions_of}
-use Rattle.link_reception.specs.Exchanging.{is_job_among}
-use Rattle.link_reception.specs.Offered.{HasJobs}
-use Rattle.link_reception.specs.Receptions.{Reception, kept_answer}
-use Rattle.link_reception.specs.SlicesOut.{AreOutKept, is_job_out}
-use Rattle.link_reception.specs.Standing.{StandsFor}
+use Rattle.receiver_model.specs.Exchanging.{is_job_among}
+use Rattle.receiver_model.specs.Offered.{HasJobs}
+use Rattle.receiver_model.specs.Receptions.{Reception, kept_answer}
+use Rattle.receiver_model.specs.SlicesOut.{AreOutKept, is_job_out}
+use Rattle.receiver_model.specs.Standing.{StandsFor}
 use Rattle.link_receiver.specs.States.{ReceiverState}
-use Rattle.link_stream.specs.Streams.{stream_so_far, stream_of}
-use Rattle.slice_jobs.specs.Jobs.{job_of}
-use Rattle.unit_release.specs.Standing.{StreamsFor}
-use Rattle.unit_release.specs.Writing.{WrittenStream}
+use Rattle.stream_model.specs.Streams.{stream_so_far, stream_of}
+use Rattle.link_slices.specs.Jobs.{job_of}
+use Rattle.link_pictures.specs.Standing.{StreamsFor}
+use Rattle.link_pictures.specs.Writing.{WrittenStream}
 use Rattle.vc_slice.specs.Asked.{Told, Grows}
 
 -- ---- what is due

@@ -2,11 +2,11 @@
 use Rattle.std.specs.Prelude.{◌≡◌, ℕ, List, [], map, Option, None}
 use Rattle.std.specs.Option.{option_map, option_map_or}
 use Rattle.link_model.specs.Session.{received, begins}
-use Rattle.link_reception.specs.Entering.{jobs_before}
-use Rattle.link_reception.specs.Judging.{opens_after, outcome_by, stands_on}
-use Rattle.link_reception.specs.Receptions.{StandingSession}
-use Rattle.link_session.specs.Openings.{session_of}
-use Rattle.slice_jobs.specs.Jobs.{job_of}
+use Rattle.receiver_model.specs.Entering.{jobs_before}
+use Rattle.receiver_model.specs.Judging.{opens_after, outcome_by, stands_on}
+use Rattle.receiver_model.specs.Receptions.{StandingSession}
+use Rattle.link_window.specs.Openings.{session_of}
+use Rattle.link_slices.specs.Jobs.{job_of}
 use Rattle.link_receiver.specs.States.{IsRunning}
 use Rattle.link_receiver.specs.declared.kept.Kept.{Kept}
 

@@ -9,3 +9,4 @@ pub mod Released
 pub mod Shown
 pub mod Entered
 pub mod HeardLists
+pub mod StartedWorkers

@@ -3,9 +3,9 @@ use Rattle.std.specs.Prelude.{◌≡◌, ◌⊎◌, ℕ, ◌==◌, Bool, List, [
 use Rattle.std.specs.Prelude.{Option, Some, None}
 use Rattle.std.specs.List.{flat_map, list_any, list_all}
 use Rattle.std.specs.Option.{option_map_or}
-use Rattle.link_model.specs.Places.{Job}
-use Rattle.link_reception.specs.Exchanging.{Exchange, Proposed, Fetched}
-use Rattle.link_reception.specs.Receptions.{SliceOut}
+use Rattle.machine_model.specs.Places.{Job}
+use Rattle.receiver_model.specs.Exchanging.{Exchange, Proposed, Fetched}
+use Rattle.receiver_model.specs.Receptions.{SliceOut}
 use Rattle.vc_slice.specs.declared.job.SliceJob.{SliceJob}
 
 abbrev pub proposed_by : Exchange → List Exchange

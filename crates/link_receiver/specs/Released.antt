@@ -1,11 +1,11 @@
 -- What the releases of a call do to a receiver, to places, to a sink and to the stream.
 use Rattle.std.specs.Prelude.{◌≡◌, ℕ, List, Option}
-use Rattle.link_reception.specs.Receptions.{Reception}
-use Rattle.link_reception.specs.Releasing.{releases_all}
+use Rattle.receiver_model.specs.Receptions.{Reception}
+use Rattle.receiver_model.specs.Releasing.{releases_all}
 use Rattle.link_receiver.specs.Freeing.{all_freed_places}
-use Rattle.slice_exchange.specs.Calls.{freeing}
-use Rattle.unit_release.specs.Outputs.{all_released_output, stream_behind_all}
-use Rattle.unit_release.specs.Writing.{WrittenStream}
+use Rattle.link_slices.specs.Calls.{freeing}
+use Rattle.link_pictures.specs.Outputs.{all_released_output, stream_behind_all}
+use Rattle.link_pictures.specs.Writing.{WrittenStream}
 use Rattle.vc_ports.specs.Writing.{Grew}
 use Rattle.vc_slice.specs.Asked.{Told, Grows}
 

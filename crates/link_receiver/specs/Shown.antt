@@ -3,15 +3,15 @@
 use Rattle.std.specs.Prelude.{◌≡◌, ℕ, is_some, List, Option, Some, None, IfSome}
 use Rattle.std.specs.Option.{option_map}
 use Rattle.link_model.specs.Output.{raw_bytes}
-use Rattle.link_reception.specs.Receptions.{StandingSession, FirstField, PictureAnswers}
-use Rattle.link_reception.specs.Receptions.{answers_without}
-use Rattle.link_reception.specs.Releasing.{released_planes, released_frame, field_behind}
-use Rattle.link_reception.specs.Releasing.{fields_alone}
-use Rattle.link_reception.specs.WholeBooks.{ArePicturePlanes}
+use Rattle.receiver_model.specs.Receptions.{StandingSession, FirstField, PictureAnswers}
+use Rattle.receiver_model.specs.Receptions.{answers_without}
+use Rattle.receiver_model.specs.Releasing.{released_planes, released_frame, field_behind}
+use Rattle.receiver_model.specs.Releasing.{fields_alone}
+use Rattle.receiver_model.specs.WholeBooks.{ArePicturePlanes}
 use Rattle.link_receiver.specs.declared.showing.Seen.{Seen}
-use Rattle.unit_release.specs.Receiving.{whole_in}
-use Rattle.unit_release.specs.Writing.{WrittenStream, ReleasedPicture}
-use Rattle.unit_release.specs.Writing.{writes_picture, picture_bytes}
+use Rattle.link_pictures.specs.Receiving.{whole_in}
+use Rattle.link_pictures.specs.Writing.{WrittenStream, ReleasedPicture}
+use Rattle.link_pictures.specs.Writing.{writes_picture, picture_bytes}
 use Rattle.vc_types.specs.Planes.{Planes}
 
 -- the frame of which a picture is the last, by the answers to its slices

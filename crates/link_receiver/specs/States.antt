@@ -1,9 +1,9 @@
 -- A receiver as contracts see it: what it has, the stream that it writes, and whether it has
 -- failed.
 use Rattle.std.specs.Prelude.{◌≡◌, ◌≤◌, Bool, false, ◌||◌, Option, Some, None}
-use Rattle.link_reception.specs.Receptions.{StandingSession, FirstField, Reception}
-use Rattle.link_reception.specs.WholeBooks.{ArePicturePlanes}
-use Rattle.unit_release.specs.Writing.{WrittenStream}
+use Rattle.receiver_model.specs.Receptions.{StandingSession, FirstField, Reception}
+use Rattle.receiver_model.specs.WholeBooks.{ArePicturePlanes}
+use Rattle.link_pictures.specs.Writing.{WrittenStream}
 
 -- a receiver of units has a stream, and one of frames has none
 pub record ReceiverState : Type 0 where

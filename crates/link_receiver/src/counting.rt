@@ -1,7 +1,7 @@
 ghost use Rattle.std.specs.Prelude.{◌≡◌, ◌+◌, ◌<◌, ◌&&◌, not, IfOk};
 ghost use Rattle.link_model.specs.Judgement.{one_more, with_outcome};
 ghost use Rattle.link_receiver.specs.Counts.{count_of};
-ghost use Rattle.link_reception.specs.Releasing.{one_if};
+ghost use Rattle.receiver_model.specs.Releasing.{one_if};
 
 use link_model::{Outcome, Tally};
 use vc_types::NoMemory;

@@ -1,19 +1,19 @@
 ghost use Rattle.std.specs.Prelude.{◌≡◌, ◌<◌, ℕ, List, [], ◌∷◌, true, IfOk, OnOk, is_some};
 ghost use Rattle.std.specs.Prelude.{length, map, IfSome};
 ghost use Rattle.std.specs.Option.{option_map};
-ghost use Rattle.link_reception.specs.Exchanging.{is_wanted, takes_done};
-ghost use Rattle.link_reception.specs.Releasing.{next_picture};
+ghost use Rattle.receiver_model.specs.Exchanging.{is_wanted, takes_done};
+ghost use Rattle.receiver_model.specs.Releasing.{next_picture};
 ghost use Rattle.link_receiver.specs.Exchanged.{IsExchanged};
 ghost use Rattle.link_receiver.specs.HeardLists.{AskedPlaces};
 ghost use Rattle.link_receiver.specs.Offers.{AreOffersOf, IsOfferOf, IsOneOffer, MayOffer, proposed_in};
 ghost use Rattle.link_receiver.specs.Offers.{are_asked};
 ghost use Rattle.link_receiver.specs.Offers.{asked_in, asked_at};
-ghost use Rattle.slice_exchange.specs.Calls.{PlaceCall, PlacesAreBelow, exchanges_of};
-ghost use Rattle.slice_jobs.specs.Jobs.{job_of, answered};
+ghost use Rattle.link_slices.specs.Calls.{PlaceCall, PlacesAreBelow, exchanges_of};
+ghost use Rattle.link_slices.specs.Jobs.{job_of, answered};
 ghost use Rattle.link_window.specs.Views.{releasable_of};
 
 use crate::reception::Reception;
-use link_session::Released;
+use link_window::Released;
 use vc_slice::{Places, SliceDone, SliceJob};
 use vc_types::NoMemory;
 
@@ -185,7 +185,7 @@ impl Reception {
     }
 
     // Keeps the answer to a slice, if it is the receiver's own and has none.
-    #[tactic(auto, unfolding(link_reception::specs::Exchanging::takes_done))]
+    #[tactic(auto, unfolding(receiver_model::specs::Exchanging::takes_done))]
     fn accept(&mut self, done: SliceDone) -> Result<(), NoMemory>
         ensures value { OnOk result (self.new ≡ takes_done self.old (answered done)) }
         ensures out { self.new.out ≡ self.old.out }

@@ -5,7 +5,7 @@ ghost use Rattle.link_receiver.specs.Faults.{step_fault, units_fault, enter_faul
 ghost use Rattle.link_receiver.specs.declared.fault.StepFault.TheVariants as step;
 
 use frame_writer::FrameFault;
-use unit_release::StreamFault;
+use link_pictures::StreamFault;
 use vc_types::NoMemory;
 
 /// Why a call isn't done whole.

@@ -1,14 +1,14 @@
 ghost use Rattle.std.specs.Prelude.{◌≡◌, ◌<◌, ◌-◌, ◌^◌, ℕ, List, [], IfOk, Some, None};
 ghost use Rattle.std.specs.Option.{option_map};
-ghost use Rattle.link_reception.specs.Entering.{greatest_in};
-ghost use Rattle.link_reception.specs.Judging.{is_over};
+ghost use Rattle.receiver_model.specs.Entering.{greatest_in};
+ghost use Rattle.receiver_model.specs.Judging.{is_over};
 ghost use Rattle.link_receiver.specs.Keeping.{DatagramIsKept};
 ghost use Rattle.link_receiver.specs.States.{IsRunning};
-ghost use Rattle.link_session.specs.Hearing.{IsHeard, OpensSession, BringsFragment, EndsSession};
-ghost use Rattle.link_session.specs.Hearing.{ChangesNothing};
+ghost use Rattle.link_window.specs.Hearing.{IsHeard, OpensSession, BringsFragment, EndsSession};
+ghost use Rattle.link_window.specs.Hearing.{ChangesNothing};
 
 use crate::kept::Kept;
-use link_session::{Fragment, Heard, Opening, Outcome, Standing};
+use link_window::{Fragment, Heard, Opening, Outcome, Standing};
 use std::alloc::Global;
 use vc_types::NoMemory;
 

@@ -1,4 +1,4 @@
-use link_session::{Opening, Outcome};
+use link_window::{Opening, Outcome};
 use vc_slice::SliceJob;
 
 /// What became of a datagram: its outcome, the jobs of the slices that it brought, and the session

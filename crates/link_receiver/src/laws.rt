@@ -1,18 +1,18 @@
 ghost use Rattle.std.specs.Prelude.{◌≡◌, ◌≤◌, ◌++◌, ◌∷◌, ℕ, [], List, false};
-ghost use Rattle.link_model.specs.Feeders.{Feeder};
+ghost use Rattle.machine_model.specs.Feeders.{Feeder};
 ghost use Rattle.link_model.specs.Judgement.{outcome_behind, tally_of};
-ghost use Rattle.link_model.specs.Machine.{Enter, Finish};
-ghost use Rattle.link_model.specs.Next.{next_feeder};
+ghost use Rattle.machine_model.specs.Machine.{Enter, Finish};
+ghost use Rattle.machine_model.specs.Next.{next_feeder};
 ghost use Rattle.link_model.specs.Output.{output_so_far, full_output};
 ghost use Rattle.link_model.specs.declared.outcome.Outcome.{Outcome};
-ghost use Rattle.link_reception.specs.Entering.{datagram_bytes, end_bytes};
-ghost use Rattle.link_reception.specs.Exchanging.{dones_in};
-ghost use Rattle.link_reception.specs.Receptions.{Reception};
-ghost use Rattle.link_reception.specs.Standing.{StandsFor, StandsForHeard};
+ghost use Rattle.receiver_model.specs.Entering.{datagram_bytes, end_bytes};
+ghost use Rattle.receiver_model.specs.Exchanging.{dones_in};
+ghost use Rattle.receiver_model.specs.Receptions.{Reception};
+ghost use Rattle.receiver_model.specs.Standing.{StandsFor, StandsForHeard};
 ghost use Rattle.link_receiver.specs.Entered.{Outside, IsEntered, IsDrained};
-ghost use Rattle.slice_exchange.specs.Calls.{PlaceCall, exchanges_of};
+ghost use Rattle.link_slices.specs.Calls.{PlaceCall, exchanges_of};
 
-use link_reception::{receivers_follow_datagrams, receivers_follow_the_end};
+use receiver_model::{receivers_follow_datagrams, receivers_follow_the_end};
 
 /// A call of `enter` that answers an outcome, for every list of datagrams that the receiver stood
 /// for: the outcome is the list's, the receiver stands for the longer list and for the feeder that

@@ -1,9 +1,9 @@
 ghost use Rattle.std.specs.Prelude.{◌≡◌, ◌≤◌, ◌↔◌, List, true, false, Some, None, IfOk, OnOk, OnErr, Err, ℕ, [], ◌∷◌, ◌++◌};
 ghost use Rattle.link_model.specs.Judgement.{outcome_behind, tally_of};
-ghost use Rattle.link_reception.specs.Entering.{datagram_jobs};
-ghost use Rattle.link_reception.specs.Exchanging.{Exchange, dones_in};
-ghost use Rattle.link_reception.specs.Receptions.{new_reception};
-ghost use Rattle.link_reception.specs.Standing.{AreDecodings};
+ghost use Rattle.receiver_model.specs.Entering.{datagram_jobs};
+ghost use Rattle.receiver_model.specs.Exchanging.{Exchange, dones_in};
+ghost use Rattle.receiver_model.specs.Receptions.{new_reception};
+ghost use Rattle.receiver_model.specs.Standing.{AreDecodings};
 ghost use Rattle.link_receiver.specs.Entered.{IsEntered, IsDrained};
 ghost use Rattle.link_receiver.specs.HeardLists.{HasHeard, AskedPlaces, OfferedToPlaces};
 ghost use Rattle.link_receiver.specs.HeardLists.{OfferedNewSlices};
@@ -11,9 +11,9 @@ ghost use Rattle.link_receiver.specs.HeardLists.{OutputForm, AsFrames, AsUnits};
 ghost use Rattle.link_receiver.specs.HeardLists.{newly_due, still_due};
 ghost use Rattle.link_receiver.specs.States.{has_stopped};
 ghost use Rattle.link_receiver.specs.declared.fault.EnterFault.{EnterFault};
-ghost use Rattle.slice_exchange.specs.Calls.{PlaceCall, PlacesAreBelow};
-ghost use Rattle.unit_release.specs.Outputs.{datagram_output, end_output};
-ghost use Rattle.unit_release.specs.Writing.{nothing_written};
+ghost use Rattle.link_slices.specs.Calls.{PlaceCall, PlacesAreBelow};
+ghost use Rattle.link_pictures.specs.Outputs.{datagram_output, end_output};
+ghost use Rattle.link_pictures.specs.Writing.{nothing_written};
 ghost use Rattle.vc_ports.specs.Faults.{HasCause};
 ghost use Rattle.vc_ports.specs.Writing.{Grew, GrewBySome};
 
@@ -21,9 +21,9 @@ use crate::fault::EnterFault;
 use crate::reception::Reception;
 use bytes::Bytes;
 use link_model::{Outcome, Tally};
+use link_pictures::StreamOutput;
 use std::alloc::Global;
 use std::marker::Model;
-use unit_release::StreamOutput;
 use vc_ports::Sink;
 use vc_slice::Places;
 

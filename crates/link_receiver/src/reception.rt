@@ -1,21 +1,20 @@
 ghost use Rattle.std.specs.Prelude.{◌≡◌, ◌≤◌, IfOk, OnOk, map, None, is_none};
 ghost use Rattle.std.specs.Option.{option_map};
-ghost use Rattle.link_reception.specs.Entering.{datagram_jobs, gives_up_field, opens_session};
-ghost use Rattle.link_reception.specs.Judging.{judged, keeps_datagram, session_opened, ends_input};
-ghost use Rattle.link_reception.specs.Receptions.{new_reception};
+ghost use Rattle.receiver_model.specs.Entering.{datagram_jobs, gives_up_field, opens_session};
+ghost use Rattle.receiver_model.specs.Judging.{judged, keeps_datagram, session_opened, ends_input};
+ghost use Rattle.receiver_model.specs.Receptions.{new_reception};
 ghost use Rattle.link_receiver.specs.States.{IsRunning};
-ghost use Rattle.link_session.specs.Openings.{session_of};
-ghost use Rattle.slice_jobs.specs.Jobs.{job_of};
+ghost use Rattle.link_window.specs.Openings.{session_of};
+ghost use Rattle.link_slices.specs.Jobs.{job_of};
 
 use crate::counting::{with_outcome, with_unpaired};
 use crate::keeping::{close, greatest, keep_heard};
 use crate::kept::Kept;
 use bytes::Bytes;
-use frame_release::FrameOutput;
 use link_model::Tally;
-use link_session::{Opening, Standing, hear};
-use slice_answers::Answers;
-use slice_exchange::SlicesOut;
+use link_pictures::{Answers, FrameOutput};
+use link_slices::SlicesOut;
+use link_window::{Opening, Standing, hear};
 use std::alloc::Global;
 use std::marker::Model;
 use vc_types::NoMemory;
@@ -34,7 +33,7 @@ pub(crate) struct Reception {
 }
 
 impl Model for Reception {
-    ghost use Rattle.link_reception.specs.Receptions as receptions;
+    ghost use Rattle.receiver_model.specs.Receptions as receptions;
 
     ghost Value = { receptions.Reception };
 
@@ -85,7 +84,7 @@ impl Reception {
     }
 
     /// Keeps what a datagram brings, and counts it.
-    #[tactic(auto, unfolding(link_reception::specs::Judging::keeps_datagram, link_reception::specs::Judging::judged, link_reception::specs::Entering::datagram_jobs))]
+    #[tactic(auto, unfolding(receiver_model::specs::Judging::keeps_datagram, receiver_model::specs::Judging::judged, receiver_model::specs::Entering::datagram_jobs))]
     pub(crate) fn keep(&mut self, datagram: &Bytes) -> Result<Kept, NoMemory>
         requires { IsRunning self.old.standing }
         ensures value { OnOk result (self.new ≡ keeps_datagram self.old datagram.now) }

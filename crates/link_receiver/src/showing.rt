@@ -1,22 +1,20 @@
 ghost use Rattle.std.specs.Prelude.{◌≡◌, IfOk, IfSome, OnOk, OnErr, Err, is_some, None, Some};
 ghost use Rattle.std.specs.Option.{option_map, option_copied, option_and_then};
 ghost use Rattle.link_model.specs.Books.{book_whole};
-ghost use Rattle.link_reception.specs.Receptions.{answers_without};
-ghost use Rattle.link_reception.specs.Releasing.{released_planes};
-ghost use Rattle.link_reception.specs.WholeBooks.{ArePicturePlanes};
+ghost use Rattle.receiver_model.specs.Receptions.{answers_without};
+ghost use Rattle.receiver_model.specs.Releasing.{released_planes};
+ghost use Rattle.receiver_model.specs.WholeBooks.{ArePicturePlanes};
 ghost use Rattle.link_receiver.specs.Shown.{shown_picture, shown_bytes, stream_behind_shown};
 ghost use Rattle.link_receiver.specs.Shown.{WaitsIn, IsSeen};
 ghost use Rattle.link_receiver.specs.declared.fault.StepFault.{StepFault};
-ghost use Rattle.unit_release.specs.Writing.{writes_picture};
+ghost use Rattle.link_pictures.specs.Writing.{writes_picture};
 ghost use Rattle.vc_ports.specs.Faults.{HasCause};
 ghost use Rattle.vc_ports.specs.Writing.{Grew, GrewBySome};
 ghost use Rattle.vc_types.specs.Planes.{planes_in};
 
 use crate::fault::StepFault;
-use frame_release::{FrameOutput, Shown};
-use link_session::{PictureBook, Standing};
-use slice_answers::Answers;
-use unit_release::{ReleasedPicture, StreamOutput};
+use link_pictures::{Answers, FrameOutput, ReleasedPicture, Shown, StreamOutput};
+use link_window::{PictureBook, Standing};
 use vc_ports::Sink;
 use vc_types::{NoMemory, Plane};
 

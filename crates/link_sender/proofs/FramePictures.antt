@@ -8,7 +8,7 @@ use Rattle.field_pairs.specs.Sizes.{HaveEvenHeights}
 use Rattle.link_model.specs.Sending.{pictures_of}
 use Rattle.link_model.specs.SendingFaults.{first_sample_fault, plane_fault}
 use Rattle.link_model.specs.SendingPictures.{IsFrame, sent_parameters, sent_sequence}
-use Rattle.sent_counts.proofs.SentFrames.{all_below, item_below, none_first, none_second, raster_below, unmapped}
+use Rattle.link_sender.proofs.SentFrames.{all_below, item_below, none_first, none_second, raster_below, unmapped}
 use Rattle.picture_encode.specs.Shapes.{CanBeTransformed}
 use Rattle.vc_types.specs.declared.settings.SendSettings.{SendSettings}
 use Rattle.vc_types.specs.declared.video.Component.{Component}

@@ -8,3 +8,15 @@ mod FramePictures
 mod EncodedFrames
 pub mod PutPictures
 pub mod PayloadLengths
+pub mod Cutting
+mod Putting
+pub mod Rooms
+mod RunsPut
+mod Stamps
+mod Packers
+mod SharedCells
+mod CodedLengths
+mod SmallCells
+pub mod Heads
+pub mod SentBytes
+pub mod SentFrames

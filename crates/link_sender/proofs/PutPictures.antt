@@ -17,7 +17,7 @@ use Rattle.link_sender.specs.Packing.{ArePacked, HasSlices, Sends, run_of, runs_
 use Rattle.link_sender.specs.Sent.{IsPicture, coded_frame_outgoing, coded_outgoing, coded_pictures_outgoing, slices_by_picture, second_pictures}
 use Rattle.link_sender.proofs.Numbered.{sends_more}
 use Rattle.link_sender.proofs.Packed.{all_packed}
-use Rattle.sent_counts.proofs.SentBytes.{datagrams_count}
+use Rattle.link_sender.proofs.SentBytes.{datagrams_count}
 use Rattle.picture_encode.specs.declared.slices.EncodedSlice.{EncodedSlice}
 use Rattle.picture_encode.specs.Encoded.{IsSized, slice_bytes}
 use Rattle.vc_types.specs.Bits.{digit_of}

@@ -2,3 +2,9 @@ pub mod Refusals
 pub mod Packing
 pub mod Sent
 pub mod State
+pub mod Views
+pub mod PackRefusals
+pub mod Puts
+pub mod Runs
+pub mod PackerState
+pub mod Counts

@@ -1,10 +1,18 @@
-//! Frames sent as VC-2 pictures: each a sequence header, transform parameters and slices in RTP
-//! datagrams (RFC 8450).
+//! Pictures in RTP datagrams (RFC 8450): frames sent as a sequence header, transform parameters and slices each, and pictures
+//! of an elementary stream packed in their own bytes.
 #![tactic(auto)]
 
 mod datagram;
 mod encoding;
+mod fields;
+mod laws;
 mod outbox;
+mod pack_outbox;
+mod pack_runs;
+mod pack_writing;
+mod packer;
+mod parts;
+mod picture;
 mod place;
 mod refusal;
 mod runs;
@@ -14,6 +22,8 @@ mod sending;
 mod writing;
 
 pub use datagram::Datagram;
+pub use laws::frames_are_few_bytes;
+pub use packer::Packer;
 pub use picture_encode::Chooser;
 pub use refusal::SendRefusal;
 pub use sender::Sender;

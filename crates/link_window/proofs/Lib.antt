@@ -1,1 +1,6 @@
+pub mod SessionBooks
+pub mod SessionWindows
+pub mod DatagramSteps
+pub mod OfferedJobs
+pub mod WindowJobs
 pub mod BookPlaces

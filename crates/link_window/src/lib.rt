@@ -1,15 +1,24 @@
-//! The window of open pictures: which fragments are late, and which picture may be released next.
+//! The session that stands and its window of open pictures: what a datagram is to it, which fragments are late, which slices
+//! one brings, and which picture may be released next.
 #![tactic(auto)]
 
 mod books;
+mod datagram;
 mod fragment;
+mod heard;
+mod hearing;
 mod numbering;
+mod offering;
 mod picture;
 mod progress;
+mod standing;
 mod window;
 
 pub use fragment::{Fragment, Part};
+pub use heard::{Heard, Opening};
+pub use hearing::hear;
 pub use link_gather::{PictureBook, SlicePart};
 pub use link_model::Outcome;
 pub use numbering::{base_above, nearest};
+pub use standing::{Entered, Standing};
 pub use window::{Released, Window};

@@ -1,3 +1,5 @@
+pub mod BuiltShapes
+pub mod Weaving
 pub mod Samples
 pub mod FilledRows
 pub mod WholeSlices

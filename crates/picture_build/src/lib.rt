@@ -1,4 +1,4 @@
-//! A picture's planes from the coefficients of its slices (ST 2042-1, picture decoding).
+//! A picture's planes from the coefficients of its slices (ST 2042-1, picture decoding), and what shapes they have.
 #![tactic(auto)]
 
 mod builder;
@@ -7,9 +7,11 @@ mod cells;
 mod dequantising;
 mod filling;
 mod finishing;
+mod laws;
 mod narrow;
 mod output;
 mod sizes;
 
 pub use builder::{NotPut, PictureBuilder};
 pub use building::{build, build_joined};
+pub use laws::{fields_can_be_woven, planes_have_their_shape};

@@ -1,10 +1,10 @@
 -- Completions that are refused at a place that is held.
 use Rattle.std.proofs.Common.{◌≡◌, ◌≢◌, ℕ, false, Err, refl, sym, subst, ne_eqb, eq-eqb}
-use Rattle.link_model.specs.Feeding.{is_same_job}
-use Rattle.link_model.specs.Places.{JobPlace}
+use Rattle.machine_model.specs.Feeding.{is_same_job}
+use Rattle.machine_model.specs.Places.{JobPlace}
 use Rattle.slice_ring.specs.Calls.{completing, stale}
 use Rattle.slice_ring.specs.Stages.{content_of}
-use Rattle.slice_jobs.specs.Jobs.{job_of}
+use Rattle.link_slices.specs.Jobs.{job_of}
 use Rattle.slice_ring.specs.declared.answers.CompleteRefusal.TheVariants.{Other}
 use Rattle.slice_ring.specs.declared.place.Stage.{Stage}
 use Rattle.slice_ring.specs.declared.place.Stage.TheVariants.{Held}

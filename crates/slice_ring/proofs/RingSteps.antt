@@ -6,23 +6,23 @@ use Rattle.std.specs.Prelude.{◌&&◌, ◌==◌, not, nat_lt, OnOk, OnErr, posi
 use Rattle.std.proofs.lemmas.Bool.{and_from, cases_lt, false≢true, lt-ltb}
 use Rattle.std.proofs.lemmas.List.{get_or_past, set-get_or}
 use Rattle.std.proofs.lemmas.List.Quantifiers.{position-Some}
-use Rattle.link_model.proofs.PlacesKept.{puts_apart, puts_own, claims_apart}
-use Rattle.link_model.proofs.PlacesKept.{claims_own, completes_apart, completes_own, frees_apart}
-use Rattle.link_model.proofs.PlacesKept.{frees_own}
-use Rattle.link_model.proofs.Positions.{position_none}
-use Rattle.link_model.proofs.SameJobs.{same_job}
-use Rattle.link_model.specs.Feeding.{is_same_job}
-use Rattle.link_model.specs.Places.{Job, Content, Nothing, Offered, Claimed, Decoded, JobPlace}
-use Rattle.link_model.specs.Places.{place_at, is_free, is_in, has_slice, may_put, stands_in}
-use Rattle.link_model.specs.Places.{puts_job, claims_job, claimed_by, completes_job, decoded_there}
-use Rattle.link_model.specs.Places.{frees_place, own_answer, unused_place}
-use Rattle.link_model.specs.Places.{with_content, AreApart, HaveOwnAnswers}
-use Rattle.link_model.specs.declared.place_state.PlaceState.TheVariants.{Waiting}
+use Rattle.machine_model.proofs.PlacesKept.{puts_apart, puts_own, claims_apart}
+use Rattle.machine_model.proofs.PlacesKept.{claims_own, completes_apart, completes_own, frees_apart}
+use Rattle.machine_model.proofs.PlacesKept.{frees_own}
+use Rattle.machine_model.proofs.Positions.{position_none}
+use Rattle.machine_model.proofs.SameJobs.{same_job}
+use Rattle.machine_model.specs.Feeding.{is_same_job}
+use Rattle.machine_model.specs.Places.{Job, Content, Nothing, Offered, Claimed, Decoded, JobPlace}
+use Rattle.machine_model.specs.Places.{place_at, is_free, is_in, has_slice, may_put, stands_in}
+use Rattle.machine_model.specs.Places.{puts_job, claims_job, claimed_by, completes_job, decoded_there}
+use Rattle.machine_model.specs.Places.{frees_place, own_answer, unused_place}
+use Rattle.machine_model.specs.Places.{with_content, AreApart, HaveOwnAnswers}
+use Rattle.machine_model.specs.declared.place_state.PlaceState.TheVariants.{Waiting}
 use Rattle.slice_ring.specs.Calls.{Completed, completing, completing_by, completing_job, IfStale}
 use Rattle.slice_ring.specs.Calls.{stale}
 use Rattle.slice_ring.specs.declared.answers.CompleteRefusal.{CompleteRefusal}
 use Rattle.slice_ring.specs.declared.answers.CompleteRefusal.TheVariants.{Other}
-use Rattle.slice_jobs.specs.Jobs.{job_of, answered}
+use Rattle.link_slices.specs.Jobs.{job_of, answered}
 use Rattle.slice_ring.specs.Rings.{IsRing}
 use Rattle.vc_slice.specs.declared.done.SliceDone.{SliceDone}
 use Rattle.vc_types.specs.Slices.{Coefficients}

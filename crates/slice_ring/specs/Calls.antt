@@ -1,10 +1,10 @@
 -- What each call of the ring answers, by the places before it.
 use Rattle.std.specs.Prelude.{ℕ, ◌==◌, if◌then◌else◌, List, position, Option, Some, None, Result}
 use Rattle.std.specs.Prelude.{Ok, Err}
-use Rattle.link_model.specs.Feeding.{is_same_job}
-use Rattle.link_model.specs.Places.{Job, Answered, Content, Offered, Claimed, Decoded, JobPlace}
-use Rattle.link_model.specs.Places.{state_of, place_at, is_free, has_slice}
-use Rattle.slice_jobs.specs.Jobs.{job_of}
+use Rattle.machine_model.specs.Feeding.{is_same_job}
+use Rattle.machine_model.specs.Places.{Job, Answered, Content, Offered, Claimed, Decoded, JobPlace}
+use Rattle.machine_model.specs.Places.{state_of, place_at, is_free, has_slice}
+use Rattle.link_slices.specs.Jobs.{job_of}
 use Rattle.slice_ring.specs.declared.answers.CompleteRefusal.{CompleteRefusal}
 use Rattle.slice_ring.specs.declared.answers.CompleteRefusal.TheVariants.{Stale, Other}
 use Rattle.slice_ring.specs.declared.answers.NotHeld.{NotHeld}

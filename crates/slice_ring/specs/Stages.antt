@@ -1,6 +1,6 @@
 -- The stage of a place in the ring, as plain data.
-use Rattle.link_model.specs.Places.{Content, Nothing, Offered, Claimed, Decoded}
-use Rattle.slice_jobs.specs.Jobs.{job_of, answered}
+use Rattle.machine_model.specs.Places.{Content, Nothing, Offered, Claimed, Decoded}
+use Rattle.link_slices.specs.Jobs.{job_of, answered}
 use Rattle.slice_ring.specs.declared.place.Stage.{Stage}
 use Rattle.slice_ring.specs.declared.place.Stage.TheVariants.{Empty, Waiting, Held, Done}
 

@@ -1,4 +1,4 @@
-use link_model::PlaceState;
+use machine_model::PlaceState;
 use vc_slice::{SliceDone, SliceJob};
 
 /// A job that was claimed: its place, the place's serial, and a copy of it.

@@ -7,5 +7,5 @@ mod place;
 mod ring;
 
 pub use answers::{Claim, CompleteRefusal, NotHeld, NotWaiting, NotYet, PutRefusal};
-pub use link_model::PlaceState;
+pub use machine_model::PlaceState;
 pub use ring::Ring;

@@ -1,17 +1,17 @@
 ghost use Rattle.std.specs.Prelude.{◌≡◌, ◌+◌, IfOk, OnOk, OnErr, Err, true};
 ghost use Rattle.std.specs.Option.{option_copied, option_map};
 ghost use Rattle.std.specs.Result.{result_map_both};
-ghost use Rattle.link_model.specs.Places.{Nothing, Offered, Decoded, unused_place, state_of, is_in};
-ghost use Rattle.link_model.specs.Places.{is_free, has_slice, is_of_slice, claimed_by};
-ghost use Rattle.link_model.specs.declared.place_state.PlaceState.TheVariants.{Waiting};
+ghost use Rattle.machine_model.specs.Places.{Nothing, Offered, Decoded, unused_place, state_of, is_in};
+ghost use Rattle.machine_model.specs.Places.{is_free, has_slice, is_of_slice, claimed_by};
+ghost use Rattle.machine_model.specs.declared.place_state.PlaceState.TheVariants.{Waiting};
 ghost use Rattle.slice_ring.specs.Calls.{completing, stale, taking_from, withdrawing_from};
 ghost use Rattle.slice_ring.specs.Calls.{leaving_from, held_with, done_in};
 ghost use Rattle.slice_ring.specs.Stages.{content_of};
-ghost use Rattle.slice_jobs.specs.Jobs.{job_of, answered};
+ghost use Rattle.link_slices.specs.Jobs.{job_of, answered};
 
 use crate::answers::{CompleteRefusal, NotHeld, NotWaiting, NotYet};
-use link_model::PlaceState;
-use slice_jobs::same_job;
+use link_slices::same_job;
+use machine_model::PlaceState;
 use std::marker::Model;
 use std::mem;
 use vc_slice::{SliceDone, SliceJob};
@@ -37,7 +37,7 @@ pub(crate) struct RingPlace {
 }
 
 impl Model for RingPlace {
-    ghost use Rattle.link_model.specs.Places.{JobPlace};
+    ghost use Rattle.machine_model.specs.Places.{JobPlace};
 
     ghost Value = { JobPlace };
 

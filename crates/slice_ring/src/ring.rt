@@ -2,20 +2,20 @@ ghost use Rattle.std.specs.Prelude.{◌≡◌, IfOk, IfSome, IsNone, OnOk, OnErr
 ghost use Rattle.std.specs.Prelude.{position};
 ghost use Rattle.std.specs.Option.{option_copied, option_map, option_map_or};
 ghost use Rattle.std.specs.Result.{result_map_both};
-ghost use Rattle.link_model.specs.Machine as machine;
-ghost use Rattle.link_model.specs.Machine.{is_legal_on_places};
-ghost use Rattle.link_model.specs.Places.{Offered, unused_places, place_at, is_in, is_free};
-ghost use Rattle.link_model.specs.Places.{has_slice, may_put, stands_in, state_of, puts_job};
-ghost use Rattle.link_model.specs.Places.{claims_job, completes_job, frees_place};
-ghost use Rattle.link_model.specs.Places.{AreApart, HaveOwnAnswers};
-ghost use Rattle.link_model.specs.declared.place_state.PlaceState.TheVariants.{Waiting};
+ghost use Rattle.machine_model.specs.Machine as machine;
+ghost use Rattle.machine_model.specs.Machine.{is_legal_on_places};
+ghost use Rattle.machine_model.specs.Places.{Offered, unused_places, place_at, is_in, is_free};
+ghost use Rattle.machine_model.specs.Places.{has_slice, may_put, stands_in, state_of, puts_job};
+ghost use Rattle.machine_model.specs.Places.{claims_job, completes_job, frees_place};
+ghost use Rattle.machine_model.specs.Places.{AreApart, HaveOwnAnswers};
+ghost use Rattle.machine_model.specs.declared.place_state.PlaceState.TheVariants.{Waiting};
 ghost use Rattle.slice_ring.specs.Calls.{put_answer, complete_answer, IfStale, taking_from};
 ghost use Rattle.slice_ring.specs.Calls.{withdrawing_from, leaving_from, held_with, done_in};
-ghost use Rattle.slice_jobs.specs.Jobs.{job_of, answered};
+ghost use Rattle.link_slices.specs.Jobs.{job_of, answered};
 
 use crate::answers::{Claim, CompleteRefusal, NotHeld, NotWaiting, NotYet, PutRefusal};
 use crate::place::RingPlace;
-use link_model::PlaceState;
+use machine_model::PlaceState;
 use std::alloc::Global;
 use std::marker::Model;
 use vc_slice::{SliceDone, SliceJob};
@@ -30,7 +30,7 @@ pub struct Ring {
 
 impl Model for Ring {
     ghost use Rattle.std.specs.Prelude.{List};
-    ghost use Rattle.link_model.specs.Places.{JobPlace};
+    ghost use Rattle.machine_model.specs.Places.{JobPlace};
 
     ghost Value = { List JobPlace };
 

@@ -2,7 +2,7 @@
 use crate::words::{add_bytes, add_number, add_word, bytes_of, natural, parted};
 use std::alloc::Global;
 use vc_bits::{BitReader, BitWriter, Block};
-use worked_text::{Bad, Part};
+use worked_common::{Bad, Part};
 
 // What a read is called and how many bits it is of, as in bits:3.
 fn read_of(word: &str) -> Result<(&str, u32), Bad> {

@@ -9,7 +9,7 @@ use vc_golomb::{
     UintRefusal, read_sint_bounded, read_sints, read_uint, sint_codes, write_behind_zeros,
     write_sint, write_uint,
 };
-use worked_text::{Bad, Part};
+use worked_common::{Bad, Part};
 
 fn finished(alloc: Global, w: BitWriter) -> Result<String, Bad> {
     let mut w = w;

@@ -6,7 +6,7 @@ use crate::words::{add_bytes, bytes_of, parted};
 use rtp_head::{RtpView, read_rtp, write_rtp};
 use std::alloc::Global;
 use vc2_payload::{FragmentHead, Payload, read_payload, write_payload};
-use worked_text::{Bad, Part};
+use worked_common::{Bad, Part};
 
 fn view_text(alloc: Global, view: &RtpView) -> Result<String, Bad> {
     let (marker, kind, sequence) = (u8::from(view.marker), view.payload_type, view.sequence);

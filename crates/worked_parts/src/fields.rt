@@ -7,7 +7,7 @@ use crate::words::{add_samples, add_word, parted, samples, two};
 use field_pairs::{split, weave};
 use std::alloc::Global;
 use vc_types::Plane;
-use worked_text::Bad;
+use worked_common::Bad;
 
 // Which field is first, and the sizes of luma and colour.
 #[derive(Clone, Copy)]

@@ -1,7 +1,7 @@
 use crate::kinds::came;
 use crate::words::spread;
 use std::alloc::Global;
-use worked_text::{Bad, Part, put};
+use worked_common::{Bad, Part, put};
 
 // What was made of a file's lines so far.
 #[derive(Drop)]

@@ -9,7 +9,7 @@ use crate::words::{add_bytes, bytes_of};
 use std::alloc::Global;
 use vc_seqhdr::{read_header, write_header};
 use vc_types::{Header, Sampling, Shape, SignalRange, dimensions_fit};
-use worked_text::{Bad, Part};
+use worked_common::{Bad, Part};
 
 fn sampling_word(sampling: Sampling) -> &'static str {
     match sampling {

@@ -3,7 +3,7 @@ use crate::{
     ports, quantisers, sizes, slices, wires,
 };
 use std::alloc::Global;
-use worked_text::{Bad, Part};
+use worked_common::{Bad, Part};
 
 /// What a call came to, as text: the kind of a row says which call, and what it is given stands behind that.
 pub(crate) fn came(alloc: Global, parts: &[Part], kind: &str, given: &str) -> Result<String, Bad> {

@@ -6,7 +6,7 @@ use std::alloc::Global;
 use vc_lift::{
     analyse, analyse_columns, narrow_analysis_bound, narrow_bound, synth, synth_columns,
 };
-use worked_text::Bad;
+use worked_common::Bad;
 
 // Whether they are such samples as lines may have.
 fn are_small(samples: &[i128]) -> bool

@@ -1,6 +1,6 @@
 //! What is given by name.
 use crate::words::natural;
-use worked_text::Bad;
+use worked_common::Bad;
 
 fn named<'a>(text: &'a str, name: &str) -> Option<&'a str> {
     for field in text.split(',') {

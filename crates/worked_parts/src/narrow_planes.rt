@@ -14,7 +14,7 @@ use vc_wave::{
     Nesting, forward_fits_narrow, forward_narrow, inverse_output, nesting_of, row_in_turn,
     turn_rows,
 };
-use worked_text::Bad;
+use worked_common::Bad;
 
 // The samples of coefficients, whose rows are taken in turn, if 32 bits are enough.
 fn put_out(alloc: Global, of: &PlannedPlane, cells: &mut [i32]) -> Result<Option<Vec<u16>>, Bad> {

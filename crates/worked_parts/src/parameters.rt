@@ -7,7 +7,7 @@ use std::alloc::Global;
 use vc_params::{ParamsRefusal, read_params, write_params};
 use vc_seqhdr::read_header;
 use vc_types::{Header, Plan};
-use worked_text::{Bad, Part};
+use worked_common::{Bad, Part};
 
 // A sequence header, and the bytes behind it.
 fn behind_header(bytes: &[u8]) -> Result<(Header, &[u8]), Bad> {

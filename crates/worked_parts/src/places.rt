@@ -7,7 +7,7 @@ use crate::plans::{PlannedPlane, planned};
 use crate::words::{add_word, natural};
 use std::alloc::Global;
 use vc_geometry::{Rect, band, bands, padded, place_of, slice_len, slice_rect, slice_rects};
-use worked_text::Bad;
+use worked_common::Bad;
 
 /// A component's padded width and height.
 pub(crate) fn padding(alloc: Global, given: &str) -> Result<String, Bad> {

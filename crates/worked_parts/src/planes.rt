@@ -10,7 +10,7 @@ use std::alloc::Global;
 use vc_geometry::padded;
 use vc_types::{Component, Grid, Plan, Plane};
 use vc_wave::{Format, forward, inverse};
-use worked_text::Bad;
+use worked_common::Bad;
 
 /// The size of a component's plane, and the bits of its samples.
 pub(crate) fn format_of(plan: &Plan, c: Component) -> Format

@@ -5,7 +5,7 @@ use vc_bits::BitWriter;
 use vc_golomb::write_uint;
 use vc_params::read_params;
 use vc_types::{Component, Header, Plan, Sampling, SignalRange, dimensions_fit};
-use worked_text::Bad;
+use worked_common::Bad;
 
 /// A plan, and one of its components.
 #[derive(Clone, Copy)]

@@ -4,7 +4,7 @@ use std::alloc::Global;
 use vc_ports::{
     Filled, Got, MemSink, MemSource, PlainSink, PlainSource, Sink, Source, Took, fill, write_all,
 };
-use worked_text::{Bad, Part};
+use worked_common::{Bad, Part};
 
 /// The numbers of the calls that fail.
 pub(crate) fn fails(alloc: Global, text: &str) -> Result<Vec<u64>, Bad> {

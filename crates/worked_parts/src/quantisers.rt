@@ -6,7 +6,7 @@ use crate::words::{
 };
 use std::alloc::Global;
 use vc_quant::{Quantiser, default_matrix, dequant, factor, last_index_with, offset, quant};
-use worked_text::Bad;
+use worked_common::Bad;
 
 /// The factors of a range of indices.
 pub(crate) fn factors(alloc: Global, given: &str) -> Result<String, Bad> {

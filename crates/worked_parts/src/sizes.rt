@@ -5,7 +5,7 @@ use crate::plans::sampling;
 use crate::words::{natural, text, two};
 use std::alloc::Global;
 use vc_types::{Header, Sampling, SignalRange, dimensions_fit, padded, picture_height, slices_fit};
-use worked_text::Bad;
+use worked_common::Bad;
 
 fn has_fields(word: &str) -> Result<bool, Bad> {
     match word {

@@ -17,7 +17,7 @@ use vc_slice::{
     encoded_len, encoded_lens,
 };
 use vc_types::{Component, Plan};
-use worked_text::{Bad, Part};
+use worked_common::{Bad, Part};
 
 /// The length of the slice that begins bytes: prefix bytes : size scaler : the bytes.
 pub(crate) fn cut_slice(alloc: Global, parts: &[Part], given: &str) -> Result<String, Bad> {

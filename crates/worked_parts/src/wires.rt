@@ -6,7 +6,7 @@ use crate::ports::{add_front, fails};
 use crate::words::{add_bytes, add_word, bytes_of, natural, parted};
 use std::alloc::Global;
 use vc_ports::{Came, MemWire, PlainWire, Reached, Wire};
-use worked_text::{Bad, Part};
+use worked_common::{Bad, Part};
 
 fn listen<N: Wire>(wire: &mut N) -> bool
     ensures { IsTrue result → IsTrue (N.told wire.new).listens }

@@ -1,6 +1,6 @@
 //! The words of rows: numbers, and bytes as pairs of digits.
 use std::alloc::Global;
-use worked_text::{Bad, Part, put};
+use worked_common::{Bad, Part, put};
 
 /// A word, and how many of it, as in 0*64.
 pub(crate) fn times(word: &str) -> Result<(&str, u32), Bad> {

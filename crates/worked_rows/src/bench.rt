@@ -6,7 +6,7 @@ use std::alloc::Global;
 use std::thread::Threads;
 use vc_ports::{Got, MemSink, MemSource, MemWire, Source};
 use vc_slice::Hands;
-use worked_text::Bad;
+use worked_common::Bad;
 
 /// What the program reads, writes and calls in one run.
 #[derive(Drop)]

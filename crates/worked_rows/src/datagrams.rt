@@ -4,7 +4,7 @@ ghost use Rattle.vc_ports.specs.MemoryWires.{AreDatagrams, datagrams_in};
 use std::alloc::Global;
 use vc_ports::MemWire;
 use vc_types::Words;
-use worked_text::{Bad, split_entry};
+use worked_common::{Bad, split_entry};
 
 fn add(all: &mut Vec<Vec<u8>>, one: Vec<u8>) -> Result<(), Bad>
     requires old { AreDatagrams (datagrams_in all.old.items) }

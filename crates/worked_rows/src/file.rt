@@ -5,7 +5,7 @@ use crate::row::Row;
 use std::alloc::Global;
 use std::sync::Wait;
 use std::thread::Threads;
-use worked_text::Bad;
+use worked_common::Bad;
 
 // What was made of a file's lines so far.
 #[derive(Drop)]

@@ -5,10 +5,9 @@ use slice_pool::{Crew, Worker};
 use std::alloc::Global;
 use std::sync::{Arc, Wait};
 use std::thread::Threads;
-use test_places::{AtOnce, Given, NoWorkers, TwoPlaces};
 use vc_ports::NoGate;
 use vc_slice::NoPlaces;
-use worked_text::Bad;
+use worked_common::{AtOnce, Bad, Given, NoWorkers, TwoPlaces};
 
 /// Who decodes slices.
 #[derive(Drop, Clone, Copy)]

@@ -1,5 +1,5 @@
 use std::alloc::Global;
-use worked_text::{Bad, Part, put};
+use worked_common::{Bad, Part, put};
 
 /// What the lines of a file named so far.
 #[derive(Drop)]

@@ -1,5 +1,5 @@
 use std::alloc::Global;
-use worked_text::{Bad, range_of};
+use worked_common::{Bad, range_of};
 
 /// What a row's number is: that of the call that fails, or how many bytes there are of the input, or may
 /// be of the output.

@@ -28,7 +28,7 @@ use crate::numbers::Numbers;
 use crate::setup::Setup;
 use crate::wants::Wants;
 use std::alloc::Global;
-use worked_text::Bad;
+use worked_common::Bad;
 
 /// A worked row.
 #[derive(Drop)]

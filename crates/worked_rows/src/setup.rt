@@ -2,7 +2,7 @@ use crate::hands::Kind;
 use crate::names::Names;
 use std::alloc::Global;
 use vc_types::Words;
-use worked_text::{Bad, put};
+use worked_common::{Bad, put};
 
 /// What the program is run on.
 #[derive(Drop)]

@@ -4,7 +4,7 @@ use crate::names::Names;
 use std::alloc::Global;
 use vc_ports::MemWire;
 use vc_types::Words;
-use worked_text::{Bad, put};
+use worked_common::{Bad, put};
 
 /// What is wanted of a run.
 #[derive(Drop)]

@@ -1,10 +1,11 @@
 //! The words of a board's place, as its seats find them: four times the serial and the state, which is 0 empty, 1 waiting,
 //! 2 held, 3 done.
 
-ghost use Rattle.std.specs.Prelude.{◌≡◌, All, IfOk};
+ghost use Rattle.std.specs.Prelude.{◌≡◌, All, IfOk, true, false};
 ghost use Rattle.claim_board.specs.Calls.{AreEmpty, IsNewWorker};
 ghost use Rattle.claim_board.specs.Seats.{IsBellSeatOf, IsFeederOf, IsWorkerOf, feeder_sees};
 ghost use Rattle.claim_board.specs.Seats.{place_count};
+ghost use Rattle.claim_board.specs.Views.{lane, lane_at};
 
 use crate::jobs::empty_slice;
 use claim_board::{BellSeat, Board, FeederSeat, NotWaiting, NotYet, WorkerSeat, bell, rest, wake};
@@ -119,27 +120,39 @@ impl Fresh {
         bell(&self.board, &mut self.first) == rung.wrapping_add(2)
     }
 
-    // Whether the place goes round with one job, and then with another one up to where it is withdrawn.
+    // Whether the place goes round with a job.
     fn goes_round(&mut self, alloc: Global) -> Result<bool, NoMemory>
         requires { AreEmpty 1 (feeder_sees self.old.feeder) }
+        ensures { IfOk result (λ done. done ≡ true
+            → lane_at (feeder_sees self.new.feeder) 0 ≡ lane 1 true false) }
     {
         self.board.put(&mut self.feeder, 0, empty_slice(7)?);
         let worked = work(alloc, &self.board, &mut self.first)?;
         let Ok(done) = self.board.take(&mut self.feeder, 0) else {
             return Ok(false);
         };
-        self.board.put(&mut self.feeder, 0, empty_slice(9)?);
+        Ok(worked == Answer::Completed && done.job.number == 7)
+    }
+
+    // Puts a job in the second round.
+    fn put_again(&mut self, job: SliceJob)
+        requires { lane_at (feeder_sees self.old.feeder) 0 ≡ lane 1 true false }
+    {
+        self.board.put(&mut self.feeder, 0, job);
+    }
+
+    // Whether it goes round, and another job is withdrawn in the next round.
+    fn goes_on(&mut self, alloc: Global) -> Result<bool, NoMemory>
+        requires { AreEmpty 1 (feeder_sees self.old.feeder) }
+    {
+        if !self.goes_round(alloc)? {
+            return Ok(false);
+        }
+        self.put_again(empty_slice(9)?);
         let waits = self.turn(alloc, Call::Take)?;
         let back = self.turn(alloc, Call::Withdraw)?;
         let empty = self.turn(alloc, Call::ClaimToo)?;
-        let answers = [worked, waits, back, empty];
-        let wanted = [
-            Answer::Completed,
-            Answer::Word(9),
-            Answer::Job(9),
-            Answer::Word(8),
-        ];
-        Ok(done.job.number == 7 && answers == wanted)
+        Ok([waits, back, empty] == [Answer::Word(9), Answer::Job(9), Answer::Word(8)])
     }
 
     fn turn(&mut self, alloc: Global, call: Call) -> Result<Answer, NoMemory> {
@@ -184,19 +197,33 @@ const WITHDRAWN: [(Call, Answer); 4] = [
     (Call::Withdraw, Answer::Word(4)),
 ];
 
+// Whether the only place of a new board answers these calls so, once a job was put there.
+fn answers<H: Wait + Copy + Drop>(
+    rt: H,
+    alloc: Global,
+    calls: &[(Call, Answer)],
+) -> Result<bool, NoMemory> {
+    let mut fresh = new_board(alloc)?;
+    if !fresh.put(rt, empty_slice(7)?) {
+        return Ok(false);
+    }
+    for (call, answer) in calls {
+        if fresh.turn(alloc, *call)? != *answer {
+            return Ok(false);
+        }
+    }
+    Ok(true)
+}
+
 #[test]
 fn a_place_goes_round(rt: HostRuntime) -> Result<(), Fail> {
     let alloc = rt.alloc();
-    for calls in [HELD.as_slice(), COMPLETED.as_slice(), WITHDRAWN.as_slice()] {
-        let mut fresh = new_board(alloc)?;
-        assert!(rt; fresh.put(rt, empty_slice(7)?));
-        for (call, answer) in calls {
-            assert_eq!(rt; fresh.turn(alloc, *call)?, *answer, "{call:?} of {calls:?}");
-        }
-    }
+    assert!(rt; answers(rt, alloc, &HELD)?);
+    assert!(rt; answers(rt, alloc, &COMPLETED)?);
+    assert!(rt; answers(rt, alloc, &WITHDRAWN)?);
     let mut fresh = new_board(alloc)?;
     assert_eq!(rt; fresh.turn(alloc, Call::ClaimToo)?, Answer::Word(0));
     assert_eq!(rt; fresh.turn(alloc, Call::Take)?, Answer::Word(0));
-    assert!(rt; new_board(alloc)?.goes_round(alloc)?);
+    assert!(rt; new_board(alloc)?.goes_on(alloc)?);
     Ok(())
 }

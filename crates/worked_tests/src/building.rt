@@ -11,9 +11,9 @@ use bytes::Bytes;
 use picture_build::{PictureBuilder, build_joined};
 use std::alloc::Global;
 use std::test::Fail;
-use test_places::{ONE_SLICE, job_of};
 use vc_slice::{SliceCoeffs, SliceDone, decode};
 use vc_types::{Plan, Plane};
+use worked_common::{ONE_SLICE, job_of};
 
 // A picture of one slice, and its luma: columns are put together before rows.
 const SLICES: [&'static [u8]; 1] = [&[0, 2, 0x94, 0x80, 0, 0]];

@@ -1,6 +1,6 @@
 //! A chooser of indices that no words ask for.
 
-ghost use Rattle.std.specs.Prelude.{◌≡◌, ◌≤◌, ◌*◌, IfOk, length};
+ghost use Rattle.std.specs.Prelude.{◌≡◌, ◌≤◌, IfOk};
 ghost use Rattle.link_model.specs.SendingPictures.{IsFrame};
 ghost use Rattle.picture_encode.specs.Choosing.{AnswersAtMost127};
 ghost use Rattle.vc_types.specs.Planes.{planes_in};
@@ -14,27 +14,31 @@ use vc_types::{IndexChoice, NoMemory, Plane, Sampling, SendSettings, SliceNeed};
 
 // Frames of 8 by 4 samples, 4:4:4, 8 bits, by wavelet 3 at depth 1 in two slices side by side, each with 12 bytes before it.
 // A datagram has room for 32 bytes of them.
-const SETTINGS: SendSettings = SendSettings {
-    width: 8,
-    height: 4,
-    sampling: Sampling::S444,
-    range: 1,
-    fields: false,
-    top: true,
-    wavelet: 3,
-    depth: 1,
-    slices_x: 2,
-    slices_y: 1,
-    prefix: 12,
-    scaler: 1,
-    size: 64,
-    choice: IndexChoice::Index(0),
-    ssrc: 1,
-    seq: 0,
-    picture: 0,
-    tick: 3600,
-    pt: 96,
-};
+fn two_slices() -> SendSettings
+    ensures size { (result.width ≡ 8) × (result.height ≡ 4) × (result.sampling ≡ S444) }
+{
+    SendSettings {
+        width: 8,
+        height: 4,
+        sampling: Sampling::S444,
+        range: 1,
+        fields: false,
+        top: true,
+        wavelet: 3,
+        depth: 1,
+        slices_x: 2,
+        slices_y: 1,
+        prefix: 12,
+        scaler: 1,
+        size: 64,
+        choice: IndexChoice::Index(0),
+        ssrc: 1,
+        seq: 0,
+        picture: 0,
+        tick: 3600,
+        pt: 96,
+    }
+}
 
 // The datagram of both slices: the first has index 0, the second index 1, and neither has a coefficient.
 const SLICES: [u8; 64] = [
@@ -43,16 +47,25 @@ const SLICES: [u8; 64] = [
     1, 0, 0, 0,
 ];
 
-fn grey(alloc: Global) -> Result<Plane, NoMemory>
-    ensures { IfOk result (λ p. (p.width ≡ 8) × (p.height ≡ 4)) }
+fn grey(alloc: Global, width: u32, height: u32) -> Result<Plane, NoMemory>
+    requires { (width ≤ 8) × (height ≤ 8) }
+    ensures { IfOk result (λ p. (p.width ≡ width) × (p.height ≡ height)) }
 {
-    Ok(Plane::new(8, 4, vec![in alloc; 0x80; 32]?))
+    let samples = vec![in alloc; 0x80u16; (width * height) as usize]?;
+    Ok(Plane::new(width, height, samples))
 }
 
-fn grey_frame(alloc: Global) -> Result<[Plane; 3], NoMemory>
-    ensures { IfOk result (λ f. IsFrame (sending_view SETTINGS) (planes_in f)) }
+// A frame that is sent so, all of it grey.
+fn grey_frame(alloc: Global, settings: &SendSettings) -> Result<[Plane; 3], NoMemory>
+    requires size { (settings.now.width ≤ 8) × (settings.now.height ≤ 8) }
+    requires sampling { settings.now.sampling ≡ S444 }
+    ensures { IfOk result (λ f. IsFrame (sending_view settings.now) (planes_in f)) }
 {
-    Ok([grey(alloc)?, grey(alloc)?, grey(alloc)?])
+    let (width, height) = (settings.width, settings.height);
+    let y = grey(alloc, width, height)?;
+    let c1 = grey(alloc, width, height)?;
+    let c2 = grey(alloc, width, height)?;
+    Ok([y, c1, c2])
 }
 
 // Sends a frame that isn't refused.
@@ -73,9 +86,10 @@ fn sent<F: Fn(&SliceNeed) -> u8>(
 #[test]
 fn a_slice_has_the_index_that_a_chooser_answers_on_its_number(rt: HostRuntime) -> Result<(), Fail> {
     let alloc = rt.alloc();
-    let frame = grey_frame(alloc)?;
+    let settings = two_slices();
+    let frame = grey_frame(alloc, &settings)?;
     let chooser = Chooser::new(false, |need: &SliceNeed| (need.index % 2) as u8);
-    let mut sender = Sender::new(alloc, SETTINGS, chooser);
+    let mut sender = Sender::new(alloc, settings, chooser);
     let datagrams = sent(&mut sender, &frame)?;
     assert_eq!(rt; datagrams.len(), 3);
     assert_eq!(rt; datagrams[2].bytes.as_slice(), SLICES.as_slice());

@@ -9,9 +9,9 @@ use std::sync::{Arc, Wait};
 use std::test::Fail;
 use std::thread;
 use std::thread::Threads;
-use test_places::Doorkeeper;
 use vc_ports::NoGate;
 use vc_slice::{Hands, Places, SliceDone};
+use worked_common::Doorkeeper;
 
 // How often a test asks before it fails. Each turn yields the processor.
 const TURNS: u64 = 10_000_000;

@@ -1,16 +1,16 @@
 //! A receiver that has failed: it calls nothing any more.
 
 ghost use Rattle.std.specs.Prelude.{◌≡◌};
-ghost use Rattle.slice_exchange.specs.Calls.{PlacesAreBelow};
+ghost use Rattle.link_slices.specs.Calls.{PlacesAreBelow};
 
 use bytes::Bytes;
 use link_receiver::{EnterFault, Outcome, Receiver};
 use std::alloc::Global;
 use std::test::Fail;
-use test_places::{HEADER_PAYLOAD, params_payload, slice_payload};
 use vc_ports::MemSink;
 use vc_slice::{Places, SliceDone, SliceJob};
 use vc_types::NoMemory;
+use worked_common::{HEADER_PAYLOAD, params_payload, slice_payload};
 
 // One place, which counts its calls and gives nothing back.
 #[derive(Drop)]

@@ -1,6 +1,6 @@
 //! A board as places: the lowest one that is empty is used, and what was left isn't until its worker is done.
 
-ghost use Rattle.std.specs.Prelude.{◌≡◌, All, IfOk};
+ghost use Rattle.std.specs.Prelude.{◌≡◌, ◌<◌, All, IfOk};
 ghost use Rattle.std.specs.Arc.{arc_value};
 ghost use Rattle.claim_board.specs.Calls.{IsNewWorker};
 ghost use Rattle.claim_board.specs.Feeders.{feeder_bound};

@@ -1,9 +1,9 @@
 //! Slices to be decoded.
 
 use bytes::Bytes;
-use test_places::{THREE_SLICES, TWO_SLICES, job_of};
 use vc_slice::{CoefficientList, SliceDone, SliceJob};
 use vc_types::{Component, NoMemory};
+use worked_common::{THREE_SLICES, TWO_SLICES, job_of};
 
 // A slice whose luma coefficients are LL 0, HL 1, LH 0, HH 1.
 const SLICE: [u8; 6] = [0x00, 0x02, 0x94, 0x80, 0x00, 0x00];

@@ -7,9 +7,9 @@ use std::alloc::Global;
 use std::sync::Arc;
 use std::test::Fail;
 use std::thread::Threads;
-use test_places::{Doorkeeper, HEADER_PAYLOAD, slice_payload};
 use vc_ports::{Got, MemSink, MemWire, PlainSource, Source};
 use vc_slice::Hands;
+use worked_common::{Doorkeeper, HEADER_PAYLOAD, slice_payload};
 
 // A source of five entries, each of which takes two reads. It gives the fourth only once a worker is
 // held with the slice of the third, and the fifth only once another worker passed with that of the

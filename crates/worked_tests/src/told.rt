@@ -5,8 +5,8 @@ use link_program::link_main;
 use std::alloc::Global;
 use std::test::Fail;
 use std::thread::Threads;
-use test_places::{HEADER_PAYLOAD, Recorder, params_payload, slice_payload};
 use vc_ports::{MemSink, MemSource, MemWire};
+use worked_common::{HEADER_PAYLOAD, Recorder, params_payload, slice_payload};
 
 // The number of picture 0.
 const FIRST: u64 = 1 << 32;

@@ -1,5 +1,5 @@
 use Rattle.std.proofs.Common.{◌≡◌, drop}
-use Rattle.link_model.specs.Feeders.{answer_in}
+use Rattle.machine_model.specs.Feeders.{answer_in}
 use Rattle.link_core.proofs.answers.answer_in.Given as goal
 
 -- those that were seen are answers to other slices

@@ -1,7 +1,7 @@
 use Rattle.std.proofs.Common.{rules, ◌≡◌, ◌<◌, true}
 use Rattle.std.specs.Prelude.{is_some}
 use Rattle.std.specs.List.{list_all, range_with_len}
-use Rattle.link_model.specs.Feeders.{answer_in}
+use Rattle.machine_model.specs.Feeders.{answer_in}
 use Rattle.link_core.proofs.Ranges.{one_passes}
 use Rattle.link_core.proofs.answers.has_answers.Goals as goal
 

@@ -1,7 +1,7 @@
 use Rattle.std.proofs.Common.{◌≡◌, ◌-◌}
 use Rattle.std.specs.Prelude.{is_some}
 use Rattle.std.specs.List.{list_all, range_with_len}
-use Rattle.link_model.specs.Feeders.{answer_in}
+use Rattle.machine_model.specs.Feeders.{answer_in}
 use Rattle.link_core.proofs.answers.has_answers.Given as goal
 
 -- those that were seen have answers

@@ -1,11 +1,11 @@
 use Rattle.std.proofs.Common.{rules, ◌≡◌, Some, sym, subst}
 use Rattle.std.specs.List.{range_with_len}
-use Rattle.link_model.specs.Feeding.{sound_answers}
+use Rattle.machine_model.specs.Feeding.{sound_answers}
 use Rattle.vc_types.specs.SequenceHeader.{picture_shape}
 use Rattle.vc_types.specs.Subbands.{slice_count}
 use Rattle.vc_types.specs.TransformParameters.{parameters_of}
 use Rattle.frame_writer.specs.Shapes.{HaveShape}
-use Rattle.frame_shapes.proofs.BuiltShapes.{built-shape}
+use Rattle.picture_build.proofs.BuiltShapes.{built-shape}
 use Rattle.link_core.proofs.SoundAnswers.{slices_count, slices_whole, plan_shape}
 use Rattle.link_core.proofs.frames.book_planes.Goals as goal
 

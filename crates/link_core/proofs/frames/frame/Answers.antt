@@ -5,7 +5,7 @@ use Rattle.vc_types.specs.Planes.{planes_in}
 use Rattle.vc_types.specs.Rasters.{Raster}
 use Rattle.vc_types.specs.SequenceHeader.{Sequence, picture_shape, sequence_of}
 use Rattle.frame_writer.specs.Shapes.{HaveShape}
-use Rattle.frame_shapes.proofs.Weaving.{field_heights, woven_fits}
+use Rattle.picture_build.proofs.Weaving.{field_heights, woven_fits}
 use Rattle.link_core.proofs.frames.frame.Goals as goal
 
 pub weave-requires-clause-heights : goal.weave-requires-clause-heights

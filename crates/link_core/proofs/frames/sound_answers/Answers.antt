@@ -1,7 +1,7 @@
 use Rattle.std.proofs.Common.{rules, ◌≡◌, ◌<◌, ◌+◌, ◌∙◌, List, Some, ap, sym, subst}
 use Rattle.std.specs.List.{range_with_len}
-use Rattle.link_model.specs.Feeders.{answer_in}
-use Rattle.link_model.specs.Feeding.{sound_answer, sound_answers}
+use Rattle.machine_model.specs.Feeders.{answer_in}
+use Rattle.machine_model.specs.Feeding.{sound_answer, sound_answers}
 use Rattle.vc_types.specs.Slices.{Coefficients}
 use Rattle.link_core.proofs.SoundAnswers.{Left, left_more}
 use Rattle.link_core.proofs.frames.sound_answers.Goals as goal

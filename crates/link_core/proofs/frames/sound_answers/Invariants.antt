@@ -1,4 +1,4 @@
-use Rattle.link_model.specs.Feeding.{sound_answers}
+use Rattle.machine_model.specs.Feeding.{sound_answers}
 use Rattle.std.specs.List.{range_with_len}
 use Rattle.link_core.proofs.SoundAnswers.{Left}
 use Rattle.link_core.proofs.frames.sound_answers.Given as goal

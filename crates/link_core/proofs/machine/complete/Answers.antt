@@ -1,6 +1,6 @@
 use Rattle.std.proofs.Common.{ap, ◌∙◌}
 use Rattle.link_core.proofs.Completions.{accepts, not_refused}
-use Rattle.slice_jobs.specs.Jobs.{job_of}
+use Rattle.link_slices.specs.Jobs.{job_of}
 use Rattle.link_core.proofs.machine.complete.Goals as goal
 
 pub unreachable-requires : goal.unreachable-requires

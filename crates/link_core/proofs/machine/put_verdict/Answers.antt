@@ -1,7 +1,7 @@
 use Rattle.std.proofs.Common.{ap, sym, ◌∙◌}
 use Rattle.std.specs.Prelude.{not}
-use Rattle.link_model.specs.Feeders.{slice_job}
-use Rattle.slice_jobs.specs.Jobs.{job_of}
+use Rattle.machine_model.specs.Feeders.{slice_job}
+use Rattle.link_slices.specs.Jobs.{job_of}
 use Rattle.link_core.proofs.Stepping.{put_verdict, some_mapped}
 use Rattle.link_core.proofs.machine.put_verdict.Goals as goal
 

@@ -1,7 +1,7 @@
 use Rattle.std.proofs.Common.{sym, Some, None}
 use Rattle.std.specs.Option.{option_map}
-use Rattle.link_model.specs.Feeders as feeders
-use Rattle.slice_jobs.specs.Jobs.{job_of}
+use Rattle.machine_model.specs.Feeders as feeders
+use Rattle.link_slices.specs.Jobs.{job_of}
 use Rattle.link_core.specs.Pictures.{job_in_book}
 use Rattle.link_core.proofs.KeptBooks.{found_is_book, job_found, if_ok_is}
 use Rattle.link_core.proofs.pictures.kept_job.Goals as goal

@@ -1,6 +1,6 @@
 use Rattle.std.proofs.Common.{rules, ◌≡◌, ◌<◌, ◌^◌, ◌∙◌, Some, true, ap, sym, subst}
 use Rattle.std.specs.Option.{option_map}
-use Rattle.link_model.specs.Feeders.{is_among}
+use Rattle.machine_model.specs.Feeders.{is_among}
 use Rattle.link_model.specs.Windows.{Window, Releasable, next_release, past_releases}
 use Rattle.link_core.proofs.NextReleases.{room, room_falls, next_behind}
 use Rattle.link_core.proofs.session.next_release.Goals as goal

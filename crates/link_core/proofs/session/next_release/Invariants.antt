@@ -1,5 +1,5 @@
 use Rattle.std.proofs.Common.{◌≡◌}
-use Rattle.link_model.specs.Feeders.{not_released}
+use Rattle.machine_model.specs.Feeders.{not_released}
 use Rattle.link_model.specs.Windows.{WindowPast, StandsForPast, releasable_numbers}
 use Rattle.link_core.proofs.NextReleases.{room}
 use Rattle.link_core.proofs.session.next_release.Given as goal

@@ -1,10 +1,10 @@
 use Rattle.std.proofs.Common.{◌∙◌, ap, sym, subst}
-use Rattle.link_model.specs.Machine.{Finish}
-use Rattle.link_model.specs.Next.{next_feeder}
-use Rattle.link_reception.specs.Exchanging.{dones_in}
-use Rattle.link_reception.specs.Receptions.{Reception}
-use Rattle.link_reception.specs.Standing.{StandsFor}
-use Rattle.slice_exchange.specs.Calls.{exchanges_of}
+use Rattle.machine_model.specs.Machine.{Finish}
+use Rattle.machine_model.specs.Next.{next_feeder}
+use Rattle.receiver_model.specs.Exchanging.{dones_in}
+use Rattle.receiver_model.specs.Receptions.{Reception}
+use Rattle.receiver_model.specs.Standing.{StandsFor}
+use Rattle.link_slices.specs.Calls.{exchanges_of}
 use Rattle.link_receiver.proofs.laws.draining_follows_the_list.Goals as goal
 
 pub returns-clause-stands : goal.returns-clause-stands

@@ -1,7 +1,7 @@
 use Rattle.std.proofs.Common.{◌<◌, ◌≤◌, sym, ◌∙◌, arith}
 use Rattle.std.proofs.lemmas.List.Elements.{All-weaker}
 use Rattle.link_sender.proofs.Outside.{found, passed, ended}
-use Rattle.sent_counts.proofs.SentFrames.{none_outside}
+use Rattle.link_sender.proofs.SentFrames.{none_outside}
 use Rattle.link_sender.proofs.samples.first_outside.Goals as goal
 
 pub returns-then-from-limit : goal.returns-then-from-limit

@@ -1,7 +1,7 @@
 use Rattle.std.proofs.Common.{◌≡◌, ◌∙◌, List, [], Some, None, ap, sym, subst}
 use Rattle.std.specs.Option.{option_map_or}
-use Rattle.link_model.specs.Feeders.{Feeder, SliceAnswer}
-use Rattle.link_model.specs.Feeding.{built_bytes, session_now}
+use Rattle.machine_model.specs.Feeders.{Feeder, SliceAnswer}
+use Rattle.machine_model.specs.Feeding.{built_bytes, session_now}
 use Rattle.link_model.specs.Session.{sessions_of}
 use Rattle.link_core.specs.Frames.{window_bytes, HasAnsweredBooks}
 use Rattle.link_core.specs.Hearing.{SessionWindow, session_among}

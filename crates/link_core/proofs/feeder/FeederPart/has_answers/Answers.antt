@@ -1,5 +1,5 @@
 use Rattle.std.proofs.Common.{◌≡◌, ◌∙◌, List, Some, None, ap}
-use Rattle.link_model.specs.Feeders.{Feeder, SliceAnswer}
+use Rattle.machine_model.specs.Feeders.{Feeder, SliceAnswer}
 use Rattle.link_model.specs.Session.{sessions_of}
 use Rattle.link_core.specs.Pictures.{book_ready}
 use Rattle.link_core.proofs.PictureStates.{ready_found}

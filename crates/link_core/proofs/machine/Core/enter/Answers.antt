@@ -1,7 +1,7 @@
 use Rattle.std.proofs.Common.{ap, Bool, [], ◌∷◌}
 use Rattle.std.specs.Prelude.{not}
-use Rattle.link_model.specs.Feeders.{Feeder}
-use Rattle.link_model.specs.Machine as machine
+use Rattle.machine_model.specs.Feeders.{Feeder}
+use Rattle.machine_model.specs.Machine as machine
 use Rattle.link_core.proofs.Stepping.{machine_of, reached_by, legal_if}
 use Rattle.link_core.proofs.machine.Core.enter.Goals as goal
 

@@ -1,6 +1,6 @@
 use Rattle.std.proofs.Common.{refl, ap}
-use Rattle.link_model.specs.Feeders.{Feeder}
-use Rattle.link_model.specs.Machine as machine
+use Rattle.machine_model.specs.Feeders.{Feeder}
+use Rattle.machine_model.specs.Machine as machine
 use Rattle.link_core.proofs.Stepping.{machine_of, reached_by}
 use Rattle.link_core.proofs.machine.Core.finish.Goals as goal
 

@@ -1,5 +1,5 @@
 use Rattle.std.proofs.Common.{ap, Bool, [], ◌∷◌}
-use Rattle.link_model.specs.Machine as machine
+use Rattle.machine_model.specs.Machine as machine
 use Rattle.link_core.proofs.Stepping.{machine_of, reached_by, legal_if}
 use Rattle.link_core.proofs.machine.Core.leave.Goals as goal
 

@@ -1,8 +1,8 @@
 use Rattle.std.proofs.Common.{◌≡◌, ◌∙◌, Some, ap, sym}
 use Rattle.std.specs.Option.{option_map}
-use Rattle.link_model.specs.Feeders.{slice_job}
-use Rattle.link_model.specs.Machine as machine
-use Rattle.slice_jobs.specs.Jobs.{job_of}
+use Rattle.machine_model.specs.Feeders.{slice_job}
+use Rattle.machine_model.specs.Machine as machine
+use Rattle.link_slices.specs.Jobs.{job_of}
 use Rattle.link_core.proofs.Stepping.{core_of, legal_by, reached_by, put_free, put_apart}
 use Rattle.link_core.proofs.Stepping.{put_is, stepped_by}
 use Rattle.link_core.proofs.machine.Core.put.Goals as goal

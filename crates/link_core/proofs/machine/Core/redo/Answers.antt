@@ -1,9 +1,9 @@
 use Rattle.std.proofs.Common.{◌≡◌, ◌∙◌, Some, [], ◌∷◌, ap, sym}
 use Rattle.std.specs.Prelude.{not}
 use Rattle.std.specs.Option.{option_map}
-use Rattle.link_model.specs.Feeders.{is_kept, slice_job}
-use Rattle.link_model.specs.Machine as machine
-use Rattle.slice_jobs.specs.Jobs.{job_of}
+use Rattle.machine_model.specs.Feeders.{is_kept, slice_job}
+use Rattle.machine_model.specs.Machine as machine
+use Rattle.link_slices.specs.Jobs.{job_of}
 use Rattle.link_core.proofs.Stepping.{reached_by, legal_if, redone_is, some_mapped}
 use Rattle.link_core.proofs.machine.Core.redo.Goals as goal
 

@@ -1,8 +1,8 @@
 use Rattle.std.proofs.Common.{◌≡◌, ◌∙◌, ℕ, false, Option, [], ◌∷◌, ap}
 use Rattle.std.specs.Prelude.{◌==◌}
 use Rattle.std.specs.Option.{option_map_or}
-use Rattle.link_model.specs.Feeders.{Feeder}
-use Rattle.link_model.specs.Machine as machine
+use Rattle.machine_model.specs.Feeders.{Feeder}
+use Rattle.machine_model.specs.Machine as machine
 use Rattle.link_core.proofs.Stepping.{machine_of, core_of, reached_by, legal_if, reached_answers}
 use Rattle.link_core.proofs.machine.Core.release.Goals as goal
 

@@ -1,6 +1,6 @@
 use Rattle.std.proofs.Common.{ap, Bool, [], ◌∷◌}
-use Rattle.link_model.specs.Machine as machine
-use Rattle.slice_jobs.specs.Jobs.{answered}
+use Rattle.machine_model.specs.Machine as machine
+use Rattle.link_slices.specs.Jobs.{answered}
 use Rattle.link_core.proofs.Stepping.{reached_by, legal_if, taken_is}
 use Rattle.link_core.proofs.machine.Core.take.Goals as goal
 

@@ -1,6 +1,6 @@
 use Rattle.std.proofs.Common.{refl}
-use Rattle.link_model.specs.Feeders.{new_feeder}
-use Rattle.link_reception.proofs.NewReception.{new_stands}
+use Rattle.machine_model.specs.Feeders.{new_feeder}
+use Rattle.receiver_model.proofs.NewReception.{new_stands}
 use Rattle.link_receiver.proofs.receiver.Receiver.new.Goals as goal
 
 pub returns-clause-heard : goal.returns-clause-heard

@@ -1,8 +1,8 @@
 use Rattle.std.proofs.Common.{Some, refl, ap}
-use Rattle.link_model.specs.Feeders.{new_feeder}
-use Rattle.link_reception.proofs.NewReception.{new_stands}
-use Rattle.unit_release.proofs.Following.{new_streams}
-use Rattle.unit_release.specs.Writing.{nothing_written}
+use Rattle.machine_model.specs.Feeders.{new_feeder}
+use Rattle.receiver_model.proofs.NewReception.{new_stands}
+use Rattle.link_pictures.proofs.Following.{new_streams}
+use Rattle.link_pictures.specs.Writing.{nothing_written}
 use Rattle.link_receiver.proofs.receiver.Receiver.units.Goals as goal
 
 pub returns-clause-heard : goal.returns-clause-heard

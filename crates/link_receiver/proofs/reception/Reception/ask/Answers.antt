@@ -1,10 +1,10 @@
 use Rattle.std.proofs.Common.{◌≡◌, ◌≤◌, subst, sym, ap, [], ◌∷◌, refl, length, Some, None, arith}
-use Rattle.link_reception.specs.Receptions.{Reception}
+use Rattle.receiver_model.specs.Receptions.{Reception}
 use Rattle.link_receiver.proofs.Asked.{asked_none, asked_take}
 use Rattle.link_receiver.proofs.Exchanges.{no_call}
 use Rattle.link_receiver.proofs.Stays.{asked_past, asked_got, below_got}
 use Rattle.link_receiver.proofs.Steps.{take_some, take_none}
-use Rattle.slice_exchange.specs.Calls.{Takes, PlacesAreBelow}
+use Rattle.link_slices.specs.Calls.{Takes, PlacesAreBelow}
 use Rattle.link_receiver.proofs.reception.Reception.ask.Goals as goal
 
 pub returns-then-i-count-clause-exchanged : goal.returns-then-i-count-clause-exchanged

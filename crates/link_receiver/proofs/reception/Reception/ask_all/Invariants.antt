@@ -3,7 +3,7 @@ use Rattle.link_receiver.proofs.Stays.{AreAskedOrIn}
 use Rattle.link_receiver.specs.Exchanged.{IsExchanged}
 use Rattle.link_receiver.specs.Offers.{asked_in, proposed_in}
 use Rattle.link_receiver.specs.HeardLists.{AskedPlaces}
-use Rattle.slice_exchange.specs.Calls.{PlaceCall, PlacesAreBelow, exchanges_of}
+use Rattle.link_slices.specs.Calls.{PlaceCall, PlacesAreBelow, exchanges_of}
 use Rattle.link_receiver.proofs.reception.Reception.ask_all.Given as goal
 
 abbrev pub invariant-loop-i : goal.invariant-loop-i

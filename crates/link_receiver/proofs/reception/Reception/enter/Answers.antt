@@ -3,7 +3,7 @@ use Rattle.link_receiver.proofs.Asked.{asked_twice}
 use Rattle.link_receiver.proofs.Entering.{waits_exchanged, fails_early, fails_in, fails_released, size_released, goes_on_behind, has_ended_behind, enters}
 use Rattle.vc_types.proofs.Failures.{on_err}
 use Rattle.std.specs.Option.{option_map}
-use Rattle.link_session.specs.Openings.{session_of}
+use Rattle.link_window.specs.Openings.{session_of}
 use Rattle.link_receiver.proofs.reception.Reception.enter.Goals as goal
 
 pub returns-in_err-kept-clause-below : goal.returns-in_err-kept-clause-below

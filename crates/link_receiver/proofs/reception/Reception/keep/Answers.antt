@@ -1,7 +1,7 @@
 use Rattle.std.proofs.Common.{subst, Option, arith}
-use Rattle.link_reception.specs.Entering.{datagram_jobs}
-use Rattle.link_reception.specs.Receptions.{StandingSession}
-use Rattle.link_session.specs.Hearing.{IsHeard}
+use Rattle.receiver_model.specs.Entering.{datagram_jobs}
+use Rattle.receiver_model.specs.Receptions.{StandingSession}
+use Rattle.link_window.specs.Hearing.{IsHeard}
 use Rattle.link_receiver.proofs.reception.Reception.keep.Goals as goal
 
 pub keep_heard-requires-clause-heard : goal.keep_heard-requires-clause-heard

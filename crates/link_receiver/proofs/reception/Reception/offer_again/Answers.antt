@@ -1,6 +1,6 @@
 use Rattle.link_receiver.proofs.Asked.{asked_twice}
 use Rattle.link_receiver.proofs.CallSteps.{again_calls}
-use Rattle.slice_jobs.specs.Jobs.{job_of}
+use Rattle.link_slices.specs.Jobs.{job_of}
 use Rattle.link_receiver.proofs.reception.Reception.offer_again.Goals as goal
 
 pub returns-clause-exchanged : goal.returns-clause-exchanged

@@ -1,7 +1,7 @@
 use Rattle.std.proofs.Common.{◌≡◌, take}
 use Rattle.link_receiver.proofs.CallSteps.{Offers}
 use Rattle.link_receiver.specs.HeardLists.{AskedPlaces}
-use Rattle.slice_exchange.specs.Calls.{PlacesAreBelow}
+use Rattle.link_slices.specs.Calls.{PlacesAreBelow}
 use Rattle.link_receiver.proofs.reception.Reception.offer_all.Given as goal
 
 abbrev pub invariant-loop-job : goal.invariant-loop-job

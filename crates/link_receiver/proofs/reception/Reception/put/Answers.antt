@@ -1,7 +1,7 @@
-use Rattle.link_reception.specs.Receptions.{Reception}
+use Rattle.receiver_model.specs.Receptions.{Reception}
 use Rattle.link_receiver.proofs.Asked.{asked_put}
 use Rattle.link_receiver.proofs.Steps.{put_calls}
-use Rattle.slice_jobs.specs.Jobs.{job_of}
+use Rattle.link_slices.specs.Jobs.{job_of}
 use Rattle.link_receiver.proofs.reception.Reception.put.Goals as goal
 
 pub returns-clause-exchanged : goal.returns-clause-exchanged

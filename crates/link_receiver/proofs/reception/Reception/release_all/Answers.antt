@@ -1,6 +1,6 @@
 use Rattle.std.proofs.Common.{◌≡◌, ◌-◌, ◌+◌, ◌∙◌, suc, Some, None, ap, sym, arith, ℕ}
 use Rattle.std.specs.Option.{option_map}
-use Rattle.link_reception.specs.Releasing.{book_count, next_picture}
+use Rattle.receiver_model.specs.Releasing.{book_count, next_picture}
 use Rattle.link_receiver.proofs.Asked.{asked_none, asked_twice}
 use Rattle.link_receiver.proofs.ReleaseLoop.{releasing_begins, releasing_goes_on, releasing_fails, releasing_stops, releasing_ends}
 use Rattle.vc_types.proofs.Failures.{on_err}

@@ -1,9 +1,9 @@
 use Rattle.std.proofs.Common.{◌≡◌, ◌-◌, ◌≤◌}
-use Rattle.link_reception.specs.Releasing.{book_count}
+use Rattle.receiver_model.specs.Releasing.{book_count}
 use Rattle.link_receiver.proofs.ReleaseLoop.{IsReleasing}
 use Rattle.link_receiver.specs.HeardLists.{AskedPlaces}
 use Rattle.link_receiver.specs.States.{WaitsForSecond}
-use Rattle.slice_exchange.specs.Calls.{PlacesAreBelow}
+use Rattle.link_slices.specs.Calls.{PlacesAreBelow}
 use Rattle.link_receiver.proofs.reception.Reception.release_all.Given as goal
 
 abbrev pub invariant-loop : goal.invariant-loop

@@ -1,6 +1,6 @@
 use Rattle.std.proofs.Common.{◌≡◌, ◌∙◌, None, ap, sym}
 use Rattle.std.specs.Option.{option_map}
-use Rattle.link_reception.specs.Releasing.{next_picture}
+use Rattle.receiver_model.specs.Releasing.{next_picture}
 use Rattle.link_receiver.proofs.CallSteps.{takes_nothing}
 use Rattle.link_window.specs.Views.{releasable_of}
 use Rattle.link_receiver.proofs.reception.Reception.take_back.Goals as goal

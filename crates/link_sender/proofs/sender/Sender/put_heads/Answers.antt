@@ -5,7 +5,7 @@ use Rattle.vc_types.specs.SenderSettings.{sending_view}
 use Rattle.vc_types.specs.SequenceHeader.{sequence_of}
 use Rattle.vc_types.specs.TransformParameters.{parameters_of}
 use Rattle.link_sender.specs.Packing.{picture_at}
-use Rattle.sent_counts.proofs.Heads.{header_bytes, is_encoder_header, parameter_bytes, short_header, short_parameters}
+use Rattle.link_sender.proofs.Heads.{header_bytes, is_encoder_header, parameter_bytes, short_header, short_parameters}
 use Rattle.link_sender.proofs.Numbered.{sends_more, then_ok}
 use Rattle.link_sender.proofs.sender.Sender.put_heads.Goals as goal
 

@@ -1,10 +1,10 @@
 use Rattle.std.proofs.Common.{rules, ◌≡◌, ◌∙◌, ap, sym, subst, slice_set, position, Some}
 use Rattle.std.proofs.lemmas.List.{get_or_read}
-use Rattle.link_model.specs.Places.{JobPlace, Offered, place_at, is_in, claimed_by, unused_place}
-use Rattle.link_model.specs.declared.place_state.PlaceState.TheVariants.{Waiting}
+use Rattle.machine_model.specs.Places.{JobPlace, Offered, place_at, is_in, claimed_by, unused_place}
+use Rattle.machine_model.specs.declared.place_state.PlaceState.TheVariants.{Waiting}
 use Rattle.slice_ring.proofs.RingSteps.{waiting_inside, waiting_there, same_places, place_is, claim_ring}
 use Rattle.vc_types.proofs.Failures.{on_err}
-use Rattle.slice_jobs.specs.Jobs.{job_of}
+use Rattle.link_slices.specs.Jobs.{job_of}
 use Rattle.slice_ring.specs.Rings.{IsRing}
 use Rattle.slice_ring.proofs.ring.Ring.claim.Goals as goal
 

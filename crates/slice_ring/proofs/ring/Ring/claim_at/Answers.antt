@@ -1,7 +1,7 @@
 use Rattle.std.proofs.Common.{◌≡◌, ◌∙◌, ap, true, List}
 use Rattle.std.proofs.lemmas.List.{get_or_read}
-use Rattle.link_model.specs.Places.{JobPlace, is_in, place_at, unused_place}
-use Rattle.link_model.specs.declared.place_state.PlaceState.TheVariants.{Waiting}
+use Rattle.machine_model.specs.Places.{JobPlace, is_in, place_at, unused_place}
+use Rattle.machine_model.specs.declared.place_state.PlaceState.TheVariants.{Waiting}
 use Rattle.slice_ring.proofs.RingSteps.{claimed_ring, waiting_within}
 use Rattle.slice_ring.proofs.ring.Ring.claim_at.Goals as goal
 

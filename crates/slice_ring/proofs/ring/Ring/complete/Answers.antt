@@ -1,6 +1,6 @@
 use Rattle.std.proofs.Common.{rules, ◌<◌, length, sym}
 use Rattle.std.proofs.lemmas.List.{get_or_read}
-use Rattle.link_model.specs.Places.{unused_place}
+use Rattle.machine_model.specs.Places.{unused_place}
 use Rattle.slice_ring.proofs.RingSteps.{complete_done, complete_same, complete_stale, completed_ring}
 use Rattle.slice_ring.proofs.ring.Ring.complete.Goals as goal
 

@@ -1,5 +1,5 @@
 use Rattle.std.proofs.Common.{◌≡◌}
-use Rattle.link_model.specs.Places.{unused_places}
+use Rattle.machine_model.specs.Places.{unused_places}
 use Rattle.slice_ring.proofs.ring.Ring.new.Given as goal
 
 abbrev pub invariant-loop : goal.invariant-loop

@@ -1,8 +1,8 @@
 use Rattle.std.proofs.Common.{rules, ◌+◌, ◌≡◌, ◌∙◌, ap, sym, subst, slice_set, position, Some, None}
 use Rattle.std.proofs.lemmas.List.{get_or_read}
-use Rattle.link_model.specs.Places.{Offered, JobPlace, is_free, has_slice, unused_place}
+use Rattle.machine_model.specs.Places.{Offered, JobPlace, is_free, has_slice, unused_place}
 use Rattle.slice_ring.proofs.RingSteps.{put_free, put_ring, put_legal, free_inside}
-use Rattle.slice_jobs.specs.Jobs.{job_of}
+use Rattle.link_slices.specs.Jobs.{job_of}
 use Rattle.slice_ring.specs.Rings.{IsRing}
 use Rattle.slice_ring.proofs.ring.Ring.put.Goals as goal
 

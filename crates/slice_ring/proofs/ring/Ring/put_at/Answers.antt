@@ -1,8 +1,8 @@
 use Rattle.std.proofs.Common.{rules, ◌≡◌, ◌<◌, ◌+◌, ◌∙◌, ap, sym, subst, false, length, slice_set}
 use Rattle.std.proofs.lemmas.List.{get_or_read}
-use Rattle.link_model.specs.Places.{JobPlace, Offered, stands_in, unused_place}
+use Rattle.machine_model.specs.Places.{JobPlace, Offered, stands_in, unused_place}
 use Rattle.slice_ring.proofs.RingSteps.{put_ring_at}
-use Rattle.slice_jobs.specs.Jobs.{job_of}
+use Rattle.link_slices.specs.Jobs.{job_of}
 use Rattle.slice_ring.specs.Rings.{IsRing}
 use Rattle.slice_ring.proofs.ring.Ring.put_at.Goals as goal
 

@@ -1,6 +1,6 @@
 use Rattle.std.proofs.Common.{rules, ◌<◌, length}
 use Rattle.std.proofs.lemmas.List.{get_or_read}
-use Rattle.link_model.specs.Places.{unused_place}
+use Rattle.machine_model.specs.Places.{unused_place}
 use Rattle.slice_ring.proofs.RingSteps.{freed_ring}
 use Rattle.slice_ring.proofs.ring.Ring.take.Goals as goal
 

@@ -1,0 +1,12 @@
+pub mod Checked
+pub mod CheckCompletes
+pub mod Ends
+pub mod FrameSteps
+pub mod GeneratedFrames
+pub mod Counting
+pub mod RawSamples
+pub mod SampleBits
+pub mod WholeFrames
+pub mod ByteSamples
+pub mod GenCompletes
+pub mod Writing

@@ -1,0 +1,20 @@
+use Rattle.std.proofs.Common.{◌≡◌, ◌*◌, ℕ, []}
+use Rattle.cmd_gen.specs.Comparing.{IsCheckedUpTo}
+use Rattle.cmd_gen.specs.Looping.{HasChecked}
+use Rattle.link_gen.specs.Defaults.{shape_of_frames}
+use Rattle.link_gen.specs.Generator.{frame_samples, generated_frames, state_behind}
+use Rattle.link_receiver.specs.HeardLists.{AskedPlaces}
+use Rattle.link_slices.specs.Calls.{PlacesAreBelow}
+use Rattle.vc_types.specs.SenderSettings.{generating_view}
+use Rattle.cmd_gen.proofs.checking.check_frames.Given as goal
+
+abbrev pub invariant-loop-frame : goal.invariant-loop-frame
+invariant-loop-frame g l = record {
+  state : l.state ≡ state_behind l.g.seed (l._frame * frame_samples (shape_of_frames (generating_view l.g).frames));
+  settings : l.sender.settings ≡ l.fn.sender.settings;
+  chooser : l.sender.chooser ≡ l.fn.sender.chooser;
+  checked : (window : ℕ) → IsCheckedUpTo (generating_view l.g) window [] l.fn.checker
+      → HasChecked (generating_view l.g) window (generated_frames (shape_of_frames (generating_view l.g).frames) l.g.seed l._frame) l.sender l.checker;
+  told : AskedPlaces (g.P.Places.told l.fn.places) (g.P.Places.told l.places);
+  below : PlacesAreBelow (g.P.Places.bound l.places) l.checker.receiver.reception.out;
+}

@@ -1,0 +1,16 @@
+pub mod Asking
+pub mod Within
+pub mod Behind
+pub mod DecodeAnswers
+pub mod DecodeCompletes
+pub mod LoopCompletes
+pub mod Exchanged
+pub mod Outcomes
+pub mod LoopAnswers
+pub mod Datagrams
+pub mod Ends
+pub mod RecvAnswers
+pub mod RecvCompletes
+pub mod EndOutcomes
+pub mod Counting
+pub mod Rising

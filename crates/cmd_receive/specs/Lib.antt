@@ -1,0 +1,9 @@
+pub mod Capture
+pub mod Decoding
+pub mod Hearing
+pub mod Exchanges
+pub mod LoopLaws
+pub mod Looping
+pub mod Receiving
+pub mod Listening
+pub mod Ends

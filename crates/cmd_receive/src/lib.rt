@@ -1,0 +1,13 @@
+//! `decode`, `unpack`, `recv` and `loop`: datagrams of a capture or a wire to raw frames or to an elementary stream.
+#![tactic(auto)]
+
+mod count;
+mod decoding;
+mod looping;
+mod outlet;
+mod receiving;
+
+pub use count::SessionCount;
+pub use decoding::{decode, unpack};
+pub use looping::loop_back;
+pub use receiving::recv;

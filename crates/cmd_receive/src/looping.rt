@@ -1,0 +1,120 @@
+ghost use Rattle.std.specs.Prelude.{◌≡◌, ◌≤◌};
+ghost use Rattle.link_report.specs.declared.summary.Summary.{Summary};
+ghost use Rattle.cmd_receive.specs.Exchanges.{IsReady, loop_state};
+ghost use Rattle.cmd_receive.specs.Looping.{LoopsBack, LoopsBetween, has_broken};
+ghost use Rattle.vc_ports.specs.Changes.{changed, input_of, output_of, wire_of};
+ghost use Rattle.vc_types.specs.SenderSettings.{sending_view};
+
+use crate::outlet::LoopOutlet;
+use cmd_send::{Totals, send_frames};
+use link_model::Tally;
+use link_outside::Inbox;
+use link_receiver::Receiver;
+use link_report::{Ending, Summary};
+use std::alloc::Global;
+use std::thread::Threads;
+use vc_ports::{Reached, Sink, Source, Wire};
+use vc_slice::{Hands, Places};
+use vc_types::SendSettings;
+
+/// Loops at most so many raw frames over a wire: listens at an address and aims there, and then reads
+/// frames one after another, sends each datagram that carries one, and that of the end of the sequence
+/// (RFC 8450), and receives once after each. What comes is heard with so many pictures open at a time
+/// (2 to 8), and its raw frames are written. Each slice that a picture keeps is offered to so many
+/// workers. Where sending stops, the frames of what was heard are written all the same, unless the
+/// output failed or memory ran out. Where the wire doesn't come to listen or to be aimed, nothing is
+/// read. Raw frames are this project's own.
+pub fn loop_back<H: Threads + Copy + Send + Sync, S: Source, O: Sink, N: Wire, P: Hands>(
+    rt: H,
+    alloc: Global,
+    s: &SendSettings,
+    frames: u32,
+    window: u8,
+    workers: u32,
+    at: &str,
+    input: &mut S,
+    output: &mut O,
+    wire: &mut N,
+    hands: &mut P,
+) -> Result<Summary, Ending>
+    requires least { 2 ≤ window }
+    requires most { window ≤ 8 }
+    requires free { P.is_free hands.old }
+    ensures { LoopsBack (sending_view s.now) frames window workers at.now result
+        (input_of S.left S.faults input.old input.new)
+        (output_of O.held O.faults output.old output.new)
+        (wire_of N.told N.faults wire.old wire.new)
+        (changed P.Places.told hands.old hands.new) }
+{
+    let Ok(()) = hands.start_workers(workers) else {
+        return Err(Ending::NoMemory);
+    };
+    let Ok(mut inbox) = Inbox::new(alloc) else {
+        return Err(Ending::NoMemory);
+    };
+    let Reached::Yes = wire.listen(at) else {
+        return Err(Ending::WireFailed);
+    };
+    let Reached::Yes = wire.aim(at) else {
+        return Err(Ending::WireFailed);
+    };
+    let mut receiver = Receiver::new(alloc, window);
+    let mut outlet = LoopOutlet::new(&mut inbox, &mut receiver, wire, output, hands);
+    loop_through(rt, alloc, s, frames, input, &mut outlet)
+}
+
+// Sends frames, hears what comes, and then ends the receiver's input, unless it broke off.
+fn loop_through<H: Threads + Copy + Send + Sync, S: Source, O: Sink, N: Wire, P: Places>(
+    rt: H,
+    alloc: Global,
+    s: &SendSettings,
+    frames: u32,
+    input: &mut S,
+    outlet: &mut LoopOutlet<N, O, P>,
+) -> Result<Summary, Ending>
+    requires ready { IsReady (loop_state N.told N.faults O.held O.faults P.told P.bound
+        outlet.old.receiver.now outlet.old.wire.now outlet.old.output.now outlet.old.places.now) }
+    ensures borrows_inbox { outlet.new.inbox.ghost_name ≡ outlet.old.inbox.ghost_name }
+    ensures borrows_receiver { outlet.new.receiver.ghost_name ≡ outlet.old.receiver.ghost_name }
+    ensures borrows_wire { outlet.new.wire.ghost_name ≡ outlet.old.wire.ghost_name }
+    ensures borrows_output { outlet.new.output.ghost_name ≡ outlet.old.output.ghost_name }
+    ensures borrows_places { outlet.new.places.ghost_name ≡ outlet.old.places.ghost_name }
+    ensures loops { LoopsBetween (sending_view s.now) frames result
+        (input_of S.left S.faults input.old input.new)
+        (loop_state N.told N.faults O.held O.faults P.told P.bound
+        outlet.old.receiver.now outlet.old.wire.now outlet.old.output.now outlet.old.places.now)
+        (loop_state N.told N.faults O.held O.faults P.told P.bound
+        outlet.new.receiver.now outlet.new.wire.now outlet.new.output.now outlet.new.places.now) }
+{
+    match send_frames(rt, alloc, s, frames, input, outlet) {
+        Ok(totals) => {
+            let tally = outlet.drain()?;
+            Ok(looped(&totals, tally))
+        }
+        Err(ending) if has_broken(&ending) => Err(ending),
+        Err(ending) => {
+            outlet.drain()?;
+            Err(ending)
+        }
+    }
+}
+
+// Whether the receiver broke off, so that it can hear nothing more.
+fn has_broken(ending: &Ending) -> bool
+    ensures { result ≡ has_broken ending.now }
+{
+    matches!(ending, Ending::NoMemory | Ending::OutputFailed)
+}
+
+// What is said of frames that were sent and heard.
+fn looped(totals: &Totals, tally: Tally) -> Summary
+    ensures { result ≡
+        Summary.Looped totals.now.frames totals.now.datagrams totals.now.bytes tally }
+{
+    Summary::Looped {
+        frames: totals.frames,
+        datagrams: totals.datagrams,
+        bytes: totals.bytes,
+        tally,
+    }
+}

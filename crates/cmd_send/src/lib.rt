@@ -1,0 +1,16 @@
+//! `encode` and `send`: raw frames sent as the datagrams that carry them, frame by frame, to wherever datagrams go.
+#![tactic(auto)]
+
+mod fitting;
+mod frame_sender;
+mod into_capture;
+mod over_wire;
+mod sending;
+mod shape;
+mod totals;
+
+pub use frame_sender::refusal_ending;
+pub use into_capture::encode;
+pub use over_wire::send;
+pub use sending::send_frames;
+pub use totals::Totals;

@@ -1,0 +1,68 @@
+ghost use Rattle.std.specs.Prelude.{◌≡◌, IsTrue};
+ghost use Rattle.link_outside.specs.Outlets.{SentAll, SentPart};
+ghost use Rattle.cmd_send.specs.Counted.{sent_answer};
+ghost use Rattle.cmd_send.specs.Sends.{SendsFrames};
+ghost use Rattle.cmd_send.specs.OverWire.{SendsOver};
+ghost use Rattle.vc_ports.specs.Changes.{input_of, wire_of};
+ghost use Rattle.vc_types.specs.SenderSettings.{sending_view};
+
+use crate::{Totals, send_frames};
+use link_outside::WireOutlet;
+use link_report::{Ending, Summary};
+use std::alloc::Global;
+use std::thread::Threads;
+use vc_ports::{Reached, Source, Wire};
+use vc_types::SendSettings;
+
+/// Sends at most so many raw frames to an address: aims the wire, and then reads frames one after another, up to one that is
+/// refused or the end of the input, and sends the datagrams that carry each, and at the end of the input that of the end of
+/// the sequence (RFC 8450). Raw frames are this project's own. Where the wire can't be aimed, nothing is read.
+pub fn send<H: Threads + Copy + Send + Sync, S: Source, N: Wire>(
+    rt: H,
+    alloc: Global,
+    s: &SendSettings,
+    frames: u32,
+    to: &str,
+    input: &mut S,
+    wire: &mut N,
+) -> Result<Summary, Ending>
+    ensures { SendsOver (sending_view s.now) frames to.now result
+        (input_of S.left S.faults input.old input.new)
+        (wire_of N.told N.faults wire.old wire.new) }
+{
+    let Reached::Yes = wire.aim(to) else {
+        return Err(Ending::WireFailed);
+    };
+    let mut outlet = WireOutlet::new(wire);
+    send_through(rt, alloc, s, frames, input, &mut outlet)
+}
+
+// Sends frames to a wire that is aimed.
+fn send_through<H: Threads + Copy + Send + Sync, S: Source, N: Wire>(
+    rt: H,
+    alloc: Global,
+    s: &SendSettings,
+    frames: u32,
+    input: &mut S,
+    outlet: &mut WireOutlet<N>,
+) -> Result<Summary, Ending>
+    requires aimed { IsTrue (N.told outlet.old.wire.now).aimed }
+    ensures borrows { outlet.new.wire.ghost_name ≡ outlet.old.wire.ghost_name }
+    ensures sends { SendsFrames (sending_view s.now) frames result
+        (input_of S.left S.faults input.old input.new)
+        (SentAll (wire_of N.told N.faults outlet.old.wire.now outlet.new.wire.now))
+        (SentPart (wire_of N.told N.faults outlet.old.wire.now outlet.new.wire.now)) }
+{
+    let sent = send_frames(rt, alloc, s, frames, input, outlet);
+    answer(sent)
+}
+
+// What the command says of frames that were sent.
+fn answer(sent: Result<Totals, Ending>) -> Result<Summary, Ending>
+    ensures { result ≡ sent_answer sent }
+{
+    match sent {
+        Ok(totals) => Ok(totals.summary()),
+        Err(ending) => Err(ending),
+    }
+}

@@ -1,0 +1,144 @@
+ghost use Rattle.std.specs.Prelude.{◌≡◌, [], Err, IsTrue, OnOk};
+ghost use Rattle.cmd_send.specs.Counted.{sent_answer};
+ghost use Rattle.cmd_send.specs.FramesSent.{frame_shape};
+ghost use Rattle.cmd_send.specs.Sends.{SendsFrames};
+ghost use Rattle.cmd_send.specs.Steps.{IsBehindFrames, ReadsFrames, unread_ending};
+ghost use Rattle.link_model.specs.SendingPictures.{wants_lengths};
+ghost use Rattle.picture_encode.specs.Choosing.{AnswersAtMost127, ChoosesAs};
+ghost use Rattle.vc_ports.specs.Changes.{input_of};
+ghost use Rattle.vc_ports.specs.Faults.{HasCause};
+ghost use Rattle.vc_types.specs.Limits.{shape_fits};
+ghost use Rattle.vc_types.specs.SenderSettings.{sending_view};
+
+use crate::fitting::least_fitting;
+use crate::frame_sender::FrameSender;
+use crate::shape::frame_shape;
+use crate::totals::Totals;
+use frame_writer::{FrameReadFault, read_frame};
+use link_outside::Outlet;
+use link_report::Ending;
+use link_sender::Chooser;
+use std::alloc::Global;
+use std::thread::Threads;
+use vc_ports::{Filled, Source, fill};
+use vc_types::{IndexChoice, SendSettings, Shape, SliceNeed};
+
+/// Sends at most so many raw frames: reads them one after another, up to one that is refused or the end of the input, and
+/// puts the datagrams that carry each, and at the end of the input that of the end of the sequence. Raw frames are this
+/// project's own. The datagrams of a frame go out before the next is read, and one frame and its datagrams are kept, and
+/// luma is transformed beside the colours, which no clause says.
+pub fn send_frames<H: Threads + Copy + Send + Sync, S: Source, O: Outlet>(
+    rt: H,
+    alloc: Global,
+    s: &SendSettings,
+    frames: u32,
+    input: &mut S,
+    outlet: &mut O,
+) -> Result<Totals, Ending>
+    requires ready { O.is_ready outlet.old }
+    ensures { SendsFrames (sending_view s.now) frames (sent_answer result)
+        (input_of S.left S.faults input.old input.new)
+        (O.carried outlet.old outlet.new) (O.broke outlet.old outlet.new) }
+{
+    match s.choice {
+        IndexChoice::Index(index) => {
+            let chooser = Chooser::new(false, |_need: &SliceNeed| index);
+            send_by(rt, alloc, s, frames, chooser, input, outlet)
+        }
+        IndexChoice::Fit(bytes) => {
+            let chooser = Chooser::new(true, |need: &SliceNeed| least_fitting(&need.lens, bytes));
+            send_by(rt, alloc, s, frames, chooser, input, outlet)
+        }
+    }
+}
+
+// The same by a chooser that chooses as the settings do.
+fn send_by<H: Threads + Copy + Send + Sync, F: Fn(&SliceNeed) -> u8, S: Source, O: Outlet>(
+    rt: H,
+    alloc: Global,
+    s: &SendSettings,
+    frames: u32,
+    chooser: Chooser<F>,
+    input: &mut S,
+    outlet: &mut O,
+) -> Result<Totals, Ending>
+    requires callable { F.IsAlwaysCallable chooser.choose }
+    requires range { AnswersAtMost127 F.Fn chooser.choose }
+    requires chooses { ChoosesAs F.Fn chooser.choose s.now.choice }
+    requires wants { chooser.wants_lens ≡ wants_lengths s.now.choice }
+    requires ready { O.is_ready outlet.old }
+    ensures { SendsFrames (sending_view s.now) frames (sent_answer result)
+        (input_of S.left S.faults input.old input.new)
+        (O.carried outlet.old outlet.new) (O.broke outlet.old outlet.new) }
+{
+    let mut sender = FrameSender::new(alloc, *s, chooser);
+    send_each(
+        rt,
+        alloc,
+        frames,
+        &frame_shape(s),
+        &mut sender,
+        input,
+        outlet,
+    )?;
+    sender.finish(outlet)
+}
+
+// Sends the frames of an input, at most so many. It is well where the input ended behind them.
+fn send_each<H: Threads + Copy + Send + Sync, F: Fn(&SliceNeed) -> u8, S: Source, O: Outlet>(
+    rt: H,
+    alloc: Global,
+    frames: u32,
+    shape: &Shape,
+    sender: &mut FrameSender<F>,
+    input: &mut S,
+    outlet: &mut O,
+) -> Result<(), Ending>
+    requires callable { F.IsAlwaysCallable sender.old.sender.chooser.choose }
+    requires range { AnswersAtMost127 F.Fn sender.old.sender.chooser.choose }
+    requires chooses { ChoosesAs F.Fn sender.old.sender.chooser.choose
+        sender.old.sender.settings.choice }
+    requires wants { sender.old.sender.chooser.wants_lens
+        ≡ wants_lengths sender.old.sender.settings.choice }
+    requires behind { IsBehindFrames (sending_view sender.old.sender.settings) [] sender.old }
+    requires shape { shape.now ≡ frame_shape (sending_view sender.old.sender.settings) }
+    requires fits { IsTrue (shape_fits shape.now) }
+    requires ready { O.is_ready outlet.old }
+    ensures ready { OnOk result (O.is_ready outlet.new) }
+    ensures settings { sender.new.sender.settings ≡ sender.old.sender.settings }
+    ensures value { ReadsFrames (sending_view sender.old.sender.settings) frames sender.new
+        (input_of S.left S.faults input.old input.new)
+        (O.carried outlet.old outlet.new) (O.broke outlet.old outlet.new) result }
+    ensures input_cause { HasCause (S.faults input.old) (S.faults input.new)
+        (result ≡ Err Ending.InputFailed) }
+{
+    let mut bytes = Vec::new(alloc);
+    for frame in 0..frames {
+        match read_frame(alloc, input, shape, &mut bytes) {
+            Ok(Some(planes)) => match sender.take(rt, &planes, outlet) {
+                Ok(()) => {}
+                Err(ending) => return Err(ending),
+            },
+            Ok(None) => return Ok(()),
+            Err(fault) => return Err(unread(fault, frame)),
+        }
+    }
+    match fill(input, &mut [0; 1]) {
+        Filled::Whole => Err(Ending::FrameLimit { limit: frames }),
+        Filled::End(_) => Ok(()),
+        Filled::Failed(_) => Err(Ending::InputFailed),
+    }
+}
+
+// How sending ends where a frame isn't read, by its number.
+fn unread(fault: FrameReadFault, frame: u32) -> Ending
+    ensures { result ≡ unread_ending fault frame }
+{
+    match fault {
+        FrameReadFault::Cut => Ending::RawCut {
+            frame: u64::from(frame),
+        },
+        FrameReadFault::ReadFault => Ending::InputFailed,
+        FrameReadFault::NoMemory => Ending::NoMemory,
+    }
+}

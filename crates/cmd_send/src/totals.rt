@@ -1,0 +1,57 @@
+ghost use Rattle.std.specs.Prelude.{◌≡◌, IfErr, OnOk};
+ghost use Rattle.cmd_send.specs.Counted.{HasRoomFor, totals_with};
+ghost use Rattle.link_report.specs.declared.summary.Summary.{Summary};
+ghost use Rattle.link_sender.specs.Packing.{bytes_of_all};
+
+use link_outside::{Outlet, OutletFault};
+use link_report::Summary;
+use link_sender::Datagram;
+
+/// How many frames went out, and how many datagrams, and how many bytes these have.
+#[derive(Clone, Copy, Debug, PartialEq, Eq)]
+pub struct Totals {
+    pub frames: u64,
+    pub datagrams: u64,
+    pub bytes: u64,
+}
+
+impl Totals {
+    /// What a command says of them.
+    pub fn summary(&self) -> Summary
+        ensures { result ≡ Summary.Sent self.now.frames self.now.datagrams self.now.bytes }
+    {
+        Summary::Sent {
+            frames: self.frames,
+            datagrams: self.datagrams,
+            bytes: self.bytes,
+        }
+    }
+
+    /// Puts datagrams, and counts them.
+    pub(crate) fn put_all<O: Outlet>(
+        &mut self,
+        datagrams: &[Datagram],
+        outlet: &mut O,
+    ) -> Result<(), OutletFault>
+        requires ready { O.is_ready outlet.old }
+        requires room { HasRoomFor self.old (bytes_of_all datagrams.now) }
+        ensures ready { OnOk result (O.is_ready outlet.new) }
+        ensures carried { OnOk result (O.carried outlet.old outlet.new
+            (bytes_of_all datagrams.now)) }
+        ensures broke { IfErr result (λ fault. O.broke outlet.old outlet.new
+            (bytes_of_all datagrams.now) fault) }
+        ensures totals { OnOk result
+            (self.new ≡ totals_with self.old (bytes_of_all datagrams.now)) }
+    {
+        for datagram in datagrams {
+            match outlet.put(&datagram.bytes) {
+                Ok(()) => {
+                    self.datagrams += 1;
+                    self.bytes += datagram.bytes.len() as u64;
+                }
+                Err(fault) => return Err(fault),
+            }
+        }
+        Ok(())
+    }
+}

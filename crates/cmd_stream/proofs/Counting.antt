@@ -1,0 +1,28 @@
+-- Datagrams that are counted one after another.
+use Rattle.std.proofs.Common.{◌≡◌, ℕ, ◌+◌, List, ◌∷◌, [], ◌++◌, length, take, ap, sym, ◌∙◌, arith, length-append}
+use Rattle.cmd_send.proofs.Numbering.{sum-append}
+use Rattle.cmd_send.proofs.PuttingAll.{bytes_more}
+use Rattle.cmd_send.specs.FramesSent.{bytes_in}
+use Rattle.cmd_stream.specs.Counted.{counted_in_64}
+use Rattle.link_sender.specs.declared.datagram.Datagram.{Datagram}
+use Rattle.link_sender.specs.Packing.{bytes_of_all}
+use Rattle.cmd_stream.specs.declared.totals.Totals.{Totals}
+use Rattle.cmd_stream.specs.Counted.{packed_totals, packed_totals_with}
+
+pub totals-append : (t : Totals) (xs ys : List (List ℕ)) → packed_totals_with (packed_totals_with t xs) ys ≡ packed_totals_with t (xs ++ ys)
+totals-append t xs ys = λ i. record { datagrams = datagrams i; bytes = bytes i }
+  where
+    datagrams : counted_in_64 (counted_in_64 (t.datagrams + length xs) + length ys) ≡ counted_in_64 (t.datagrams + length (xs ++ ys))
+    datagrams = let long = length-append xs ys in omega (arith, long)
+
+    bytes : counted_in_64 (counted_in_64 (t.bytes + bytes_in xs) + bytes_in ys) ≡ counted_in_64 (t.bytes + bytes_in (xs ++ ys))
+    bytes = let sum = sum-append xs ys in omega (arith, sum)
+
+pub totals_are : (xs ys : List (List ℕ)) → packed_totals_with (packed_totals xs) ys ≡ packed_totals (xs ++ ys)
+totals_are xs ys = λ i. record { datagrams = datagrams i; bytes = bytes i }
+  where
+    datagrams : counted_in_64 (counted_in_64 (length xs) + length ys) ≡ counted_in_64 (length (xs ++ ys))
+    datagrams = let long = length-append xs ys in omega (arith, long)
+
+    bytes : counted_in_64 (counted_in_64 (bytes_in xs) + bytes_in ys) ≡ counted_in_64 (bytes_in (xs ++ ys))
+    bytes = let sum = sum-append xs ys in omega (arith, sum)

@@ -1,0 +1,14 @@
+pub mod Counted
+pub mod Packs
+pub mod PackViews
+pub mod PackSteps
+pub mod PackEndings
+pub mod PackLooping
+pub mod Stream
+pub mod Playing
+pub mod PlaySteps
+pub mod Slices
+pub mod PlayViews
+pub mod Taking
+pub mod PlayLooping
+pub mod PlayEndings

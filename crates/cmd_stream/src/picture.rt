@@ -1,0 +1,117 @@
+ghost use Rattle.std.specs.Prelude.{◌≡◌, IfOk, IfSome};
+ghost use Rattle.std.specs.Option.{option_map};
+ghost use Rattle.vc_types.specs.Planes.{planes_in, decoded_planes};
+ghost use Rattle.vc_types.specs.SequenceHeader.{sequence_of, picture_shape};
+ghost use Rattle.vc_types.specs.TransformParameters.{parameters_of};
+ghost use Rattle.picture_build.specs.Kept.{no_slices};
+ghost use Rattle.frame_writer.specs.Shapes.{HaveShape};
+ghost use Rattle.cmd_stream.specs.Slices.{IsBuilt};
+ghost use Rattle.cmd_stream.specs.Stream.{picture_in};
+ghost use Rattle.cmd_stream.specs.PlayViews.{picture_of};
+
+use crate::play_slices::take_slices;
+use byteorder::{BigEndian, ByteOrder};
+use bytes::Bytes;
+use picture_build::PictureBuilder;
+use std::alloc::Global;
+use std::thread::Threads;
+use vc_params::read_params;
+use vc_types::{Header, NoMemory, Plan, Plane};
+
+// A picture's number has so many bytes.
+const NUMBER_BYTES: usize = 4;
+
+/// A picture of the stream.
+#[derive(Drop)]
+pub(crate) struct Picture {
+    pub(crate) number: u32,
+    pub(crate) planes: [Plane; 3],
+}
+
+/// The picture of a data unit's body; none where it is refused. A builder is kept from picture to picture.
+#[tactic(auto, unfolding(crate::specs::Stream::picture_in))]
+pub(crate) fn read_picture<H: Threads + Copy + Send + Sync>(
+    rt: H,
+    alloc: Global,
+    header: &Header,
+    kept: &mut Option<PictureBuilder>,
+    body: Vec<u8>,
+) -> Result<Option<Picture>, NoMemory>
+    ensures value { IfOk result (λ picture.
+        option_map picture_of picture ≡ picture_in (sequence_of header.now) body.items) }
+    ensures shape { IfOk result (λ picture. IfSome picture (λ p.
+        HaveShape (picture_shape (sequence_of header.now)) (planes_in p.planes))) }
+{
+    if body.len() < NUMBER_BYTES {
+        return Ok(None);
+    }
+    let number = BigEndian::read_u32(&body);
+    let Ok(mut bytes) = Bytes::from_vec(body) else {
+        return Err(NoMemory);
+    };
+    bytes.advance(NUMBER_BYTES);
+    match read_planes(rt, alloc, header, kept, number, bytes)? {
+        Some(planes) => Ok(Some(Picture { number, planes })),
+        None => Ok(None),
+    }
+}
+
+// The planes of a picture's own bytes: its transform parameters and its slices.
+fn read_planes<H: Threads + Copy + Send + Sync>(
+    rt: H,
+    alloc: Global,
+    header: &Header,
+    kept: &mut Option<PictureBuilder>,
+    number: u32,
+    bytes: Bytes,
+) -> Result<Option<[Plane; 3]>, NoMemory>
+    ensures value { IfOk result (λ planes.
+        option_map planes_in planes ≡ decoded_planes (sequence_of header.now) bytes) }
+    ensures shape { IfOk result (λ planes. IfSome planes (λ p.
+        HaveShape (picture_shape (sequence_of header.now)) (planes_in p))) }
+{
+    let Ok((plan, used)) = read_params(header, bytes.as_slice()) else {
+        return Ok(None);
+    };
+    let mut slices = bytes;
+    slices.advance(used);
+    built(rt, alloc, &plan, kept, number, slices)
+}
+
+// The planes of a picture's slices.
+fn built<H: Threads + Copy + Send + Sync>(
+    rt: H,
+    alloc: Global,
+    plan: &Plan,
+    kept: &mut Option<PictureBuilder>,
+    number: u32,
+    slices: Bytes,
+) -> Result<Option<[Plane; 3]>, NoMemory>
+    ensures value { IfOk result (IsBuilt (parameters_of plan.now) slices) }
+{
+    let mut builder = begun(alloc, *plan, kept.take())?;
+    let all = take_slices(alloc, plan, number, slices, &mut builder)?;
+    if !all {
+        return Ok(None);
+    }
+    let planes = builder.planes_joined(rt)?;
+    *kept = Some(builder);
+    Ok(Some(planes))
+}
+
+// A builder that no slice of the plan came to: the one that was kept, if it is of the same plan.
+fn begun(
+    alloc: Global,
+    plan: Plan,
+    kept: Option<PictureBuilder>,
+) -> Result<PictureBuilder, NoMemory>
+    ensures value { IfOk result (λ builder. builder ≡ no_slices (parameters_of plan)) }
+{
+    if let Some(mut builder) = kept {
+        if builder.has_plan(&plan) {
+            builder.restart();
+            return Ok(builder);
+        }
+    }
+    PictureBuilder::new(alloc, plan)
+}

@@ -1,0 +1,116 @@
+ghost use Rattle.std.specs.Prelude.{◌≡◌, ◌<◌, ◌≤◌, ◌+◌, ◌^◌, [], Err, OnOk, IfOk};
+ghost use Rattle.std.specs.Option.{option_map};
+ghost use Rattle.vc_ports.specs.Faults.{HasCause};
+ghost use Rattle.vc_types.specs.Planes.{planes_in};
+ghost use Rattle.vc_types.specs.SequenceHeader.{sequence_of, picture_shape};
+ghost use Rattle.frame_writer.specs.Shapes.{HaveShape};
+ghost use Rattle.cmd_stream.specs.PlayLooping.{unpaired_of};
+ghost use Rattle.cmd_stream.specs.PlaySteps.{stream_state, next_waiting, new_frames};
+ghost use Rattle.cmd_stream.specs.Taking.{HasShape, CompletesFrame, Shows};
+ghost use Rattle.cmd_stream.specs.PlayViews.{playback_state, picture_of};
+
+use crate::pairs::{is_pair, waits};
+use crate::picture::{Picture, read_picture};
+use crate::play_fault::TakeFault;
+use field_pairs::weave;
+use frame_writer::{is_wide, write_frame};
+use picture_build::PictureBuilder;
+use std::alloc::Global;
+use std::thread::Threads;
+use vc_ports::Sink;
+use vc_types::{Header, NoMemory, Plane};
+
+/// What is kept of a stream behind its first header: at most one field.
+#[derive(Drop)]
+pub(crate) struct Playback {
+    pub(crate) header: Header,
+    // With field coding, the earlier field of a frame, which waits for the very next picture.
+    pub(crate) waiting: Option<Picture>,
+    pub(crate) pictures: u64,
+    pub(crate) frames: u64,
+    // The memory that the last picture was built in.
+    builder: Option<PictureBuilder>,
+}
+
+impl Playback {
+    /// A stream without pictures.
+    pub(crate) fn new(header: Header) -> Playback
+        ensures { playback_state result
+            ≡ stream_state (record { sequence = sequence_of header; pictures = [] }) }
+    {
+        Playback {
+            header,
+            waiting: None,
+            pictures: 0,
+            frames: 0,
+            builder: None,
+        }
+    }
+
+    /// Takes the picture of a data unit's body, and writes the frame that it completes.
+    pub(crate) fn show<H: Threads + Copy + Send + Sync, O: Sink>(
+        &mut self,
+        rt: H,
+        alloc: Global,
+        body: Vec<u8>,
+        output: &mut O,
+    ) -> Result<(), TakeFault>
+        requires few { (self.old.pictures < 2 ^ 32) × (self.old.frames ≤ self.old.pictures) }
+        requires shape { HasShape (playback_state self.old) }
+        ensures value { Shows body.items (playback_state self.old) (playback_state self.new)
+            (O.held output.old) (O.held output.new) result }
+        ensures cause { HasCause (O.faults output.old) (O.faults output.new)
+            (result ≡ Err TakeFault.WriteFault) }
+        ensures few { OnOk result ((self.new.pictures ≡ self.old.pictures + 1)
+            × (self.new.frames ≤ self.new.pictures)) }
+        ensures shape { OnOk result (HasShape (playback_state self.new)) }
+    {
+        let Some(picture) = read_picture(rt, alloc, &self.header, &mut self.builder, body)? else {
+            return Err(TakeFault::Refused);
+        };
+        let frame = self.completed(alloc, picture)?;
+        self.pictures += 1;
+        if let Some(planes) = frame {
+            let two = is_wide(&self.header.shape());
+            write_frame(alloc, output, &planes, two)?;
+            self.frames += 1;
+        }
+        Ok(())
+    }
+
+    /// How many fields are part of no frame.
+    pub(crate) fn unpaired(&self) -> u64
+        requires { self.now.frames < 2 ^ 32 }
+        ensures { result ≡ unpaired_of (playback_state self.now) }
+    {
+        if self.header.fields {
+            self.pictures.saturating_sub(2 * self.frames)
+        } else {
+            0
+        }
+    }
+
+    // The frame that a picture completes: itself or, with field coding, the field that waits and it.
+    fn completed(&mut self, alloc: Global, picture: Picture) -> Result<Option<[Plane; 3]>, NoMemory>
+        requires shape { HasShape (playback_state self.old) }
+        requires picture { HaveShape (picture_shape (sequence_of self.old.header))
+            (planes_in picture.planes) }
+        ensures value { IfOk result (CompletesFrame
+            (playback_state self.old) (picture_of picture) (playback_state self.new)) }
+        ensures shape { OnOk result (HasShape (playback_state self.new)) }
+    {
+        if !self.header.fields {
+            return Ok(Some(picture.planes));
+        }
+        match self.waiting.take() {
+            Some(earlier) if is_pair(&earlier, &picture) => {
+                let frame = weave(alloc, earlier.planes, picture.planes, self.header.top_first)?;
+                Ok(Some(frame))
+            }
+            _ => {
+                self.waiting = waits(picture);
+                Ok(None)
+            }
+        }
+    }
+}

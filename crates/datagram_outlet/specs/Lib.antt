@@ -1,3 +1,0 @@
-pub mod Outlets
-pub mod CaptureLaws
-pub mod WireLaws

@@ -1,3 +1,0 @@
-pub mod Capture
-pub mod Decoding
-pub mod Hearing

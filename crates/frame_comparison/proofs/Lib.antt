@@ -1,4 +1,0 @@
-pub mod Counting
-pub mod RawSamples
-pub mod SampleBits
-pub mod WholeFrames

@@ -1,8 +1,0 @@
-use Rattle.std.proofs.Common.{ℕ, ◌+◌, ap, sym}
-use Rattle.frame_comparison.proofs.Counting.{rest_missing}
-use Rattle.frame_comparison.proofs.comparison.Comparison.different.Goals as goal
-
-pub returns : goal.returns
-returns c =
-    let self = c.args.self.now in
-    ap (λ (n : ℕ). self.different + n) (sym (rest_missing self.depth self.state self.left self.wide self.low))

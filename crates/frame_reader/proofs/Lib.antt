@@ -1,4 +1,0 @@
-pub mod SampleRuns
-pub mod ReadBack
-pub mod FrameEnds
-pub mod Holding

@@ -1,5 +1,0 @@
-use Rattle.frame_reader.proofs.ReadBack.{frame_back}
-use Rattle.frame_reader.proofs.laws.frames_are_their_bytes.Goals as goal
-
-pub returns : goal.returns
-returns c = frame_back

@@ -1,4 +1,0 @@
-pub mod FrameBytes
-pub mod Memory
-pub mod Reading
-pub mod WholeFrames

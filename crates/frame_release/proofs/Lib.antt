@@ -1,2 +1,0 @@
-pub mod PicturePlanes
-pub mod Frames

@@ -1,2 +1,0 @@
-pub mod BuiltShapes
-pub mod Weaving

@@ -1,3 +1,0 @@
-pub mod ByteSamples
-pub mod Completing
-pub mod Writing

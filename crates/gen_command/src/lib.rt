@@ -1,8 +1,0 @@
-//! `gen`: generated raw frames, frame by frame.
-#![tactic(auto)]
-
-mod command;
-mod count;
-
-pub use command::generate;
-pub use count::samples_of;

@@ -1,0 +1,132 @@
+-- A picture that was sent at index 0 decodes to its planes.
+use Rattle.std.proofs.Common.{◌≡◌, ◌<◌, ◌≤◌, ℕ, zero, suc, ◌+◌, ◌^◌, ℤ, pos, ◌-ℤ◌, unsigned_abs, Bool, false, List, [], ◌∷◌, ◌++◌, length, map, drop, Some, Result, Ok, refl, arith, append_assoc}
+use Rattle.std.specs.Prelude.{IsTrue, slice_get, take}
+use Rattle.std.specs.List.{enumerate_from, range_with_len, list_any}
+use Rattle.std.proofs.lemmas.Option.{none-some, same_Some}
+use Rattle.std.proofs.lemmas.Int.{ints}
+use Rattle.std.proofs.Math.Pow.{pow_mono}
+use Rattle.std.proofs.Math.Seq.{drop-append_seam}
+use Rattle.field_pairs.specs.Sizes.{IsWhole}
+use Rattle.link_model.specs.SendingPictures.{plane_in, sent_cells, number_in, numbers_in_slice, HasSides, sent_coefficients, sent_slice, sent_slices}
+use Rattle.law_index_zero.proofs.SentPlanes.{length-own, plane_back}
+use Rattle.vc_types.specs.declared.refusal.ParamsRefusal.{ParamsRefusal}
+use Rattle.vc_types.specs.declared.video.Component.{Component}
+use Rattle.vc_types.specs.declared.video.Component.TheVariants.{Y, C1, C2}
+use Rattle.vc_types.specs.Encoding.{is_too_long}
+use Rattle.vc_types.specs.Fields.{joined}
+use Rattle.vc_types.specs.Pictures.{slices_from, decoded_picture, with_parameters, with_slices}
+use Rattle.vc_types.specs.Planes.{Planes, planes_of, decoded_planes}
+use Rattle.vc_types.specs.Rasters.{sample_at}
+use Rattle.vc_types.specs.SequenceHeader.{Sequence, with_bytes_used}
+use Rattle.vc_types.specs.Slices.{coefficients_of, is_large}
+use Rattle.vc_types.specs.Subbands.{slice_count, slice_coefficient_count, coefficient_place, plane_width, plane_height, plane_depth}
+use Rattle.vc_types.specs.TransformParameters.{Parameters, is_symmetric, coded_parameters}
+use Rattle.vc_types.specs.Transforms.{forward_transform, padded_plane, lowest_width, lowest_height}
+use Rattle.law_index_zero.proofs.CodedSlices.{coded_slice-encoded}
+use Rattle.vc_types.proofs.FieldCodecs.{ok_is}
+use Rattle.law_index_zero.proofs.LosslessSlices.{AreCoefficients, decoded_slice-coded}
+use Rattle.vc_wave.specs.Planes.{AreBelow}
+use Rattle.vc_wave.proofs.PlaneGrowth.{forward_below}
+
+-- ---- slices one after another
+
+-- a slice at index 0
+abbrev pub at_zero : Parameters → Planes → ℕ → List ℕ
+at_zero p planes n = sent_slice p planes n 0
+
+module _ (p : Parameters) (planes : Planes) (some : 0 < p.scaler) (fits : (n : ℕ) → n < slice_count p → is_too_long p n 0 (sent_coefficients p planes n) ≡ false) (are : (n : ℕ) → AreCoefficients p n (sent_coefficients p planes n)) where
+  slices_back : (i n : ℕ) (behind : List ℕ) → i + n ≤ slice_count p → slices_from p i n (joined (map (at_zero p planes) (range_with_len i n)) ++ behind) ≡ Ok (map (sent_coefficients p planes) (range_with_len i n), behind)
+  unfolding slices_from sent_slice
+  slices_back i zero behind within = refl
+  slices_back i (suc n) behind within =
+      grind (
+        arith,
+        append_assoc,
+        coded_slice-encoded,
+        decoded_slice-coded,
+        slices_back (i + 1) n behind (omega (arith, within)),
+      )
+
+-- ---- a whole picture
+
+with_params : (bytes : List ℕ) (n : ℕ) (p : Parameters) (read : Result (Parameters × List Bool) ParamsRefusal) → with_bytes_used bytes read ≡ Ok (p, n) → with_parameters bytes read ≡ with_slices p (slices_from p 0 (slice_count p) (drop n bytes))
+with_params bytes n p read is = grind (arith, ok_is)
+
+-- what a plane of a picture has to be
+pub record IsSound (p : Parameters) (planes : Planes) (c : Component) : Type 0 where
+  pub size : HasSides (plane_width p.shape c) (plane_height p.shape c) (plane_in planes c)
+  pub all_there : IsWhole (plane_in planes c)
+  pub some_bits : 1 ≤ plane_depth p.shape c
+  pub few_bits : plane_depth p.shape c ≤ 16
+  pub samples : (x y : ℕ) → sample_at (plane_in planes c) x y < 2 ^ plane_depth p.shape c
+
+-- ---- coefficients are small
+
+less_half : (s half : ℕ) → s < 2 ^ 16 → half ≤ 2 ^ 15 → unsigned_abs (pos s -ℤ pos half) < 2 ^ 16
+less_half s half a b = omega (arith, ints, a, b)
+
+module _ (p : Parameters) (planes : Planes) (c : Component) (sound_plane : IsSound p planes c) (levels : p.depth ≤ 5) where
+  plane_below : AreBelow (2 ^ 16) (padded_plane p c (sample_at (plane_in planes c)))
+  unfolding padded_plane
+  plane_below x y = grind (arith, less_half, pow_mono)
+
+  pub cells_below : (x y : ℕ) → unsigned_abs (sent_cells p planes c x y) < 2 ^ 60
+  unfolding sent_cells forward_transform
+  cells_below = forward_below p.wavelet p.depth (lowest_width p c) (lowest_height p c) (padded_plane p c (sample_at (plane_in planes c))) (sent_cells p planes c) levels refl plane_below
+
+none_large : (f : ℕ → ℤ) → ((i : ℕ) → unsigned_abs (f i) < 2 ^ 60) → (l : List ℕ) → list_any is_large (map f l) ≡ false
+none_large f small [] = refl
+none_large f small (i ∷ l) = grind (arith, none_large f small l)
+
+-- ---- the picture
+
+pub record IsSendable (p : Parameters) (planes : Planes) : Type 0 where
+  pub scaler : 0 < p.scaler
+  pub symmetric : IsTrue (is_symmetric p)
+  pub across : 0 < p.slices_x
+  pub down : 0 < p.slices_y
+  pub levels : p.depth ≤ 5
+  pub each : (c : Component) → IsSound p planes c
+  pub slices : (n : ℕ) → n < slice_count p → is_too_long p n 0 (sent_coefficients p planes n) ≡ false
+
+module _ (p : Parameters) (planes : Planes) (is : IsSendable p planes) where
+  small_in : (c : Component) (n : ℕ) → list_any is_large (numbers_in_slice p c (sent_cells p planes c) n) ≡ false
+  unfolding numbers_in_slice
+  small_in c n = none_large (λ i. number_in (sent_cells p planes c) (coefficient_place p c n i)) (λ i. cells_below p planes c (is.each c) is.levels (coefficient_place p c n i).0 (coefficient_place p c n i).1) (range_with_len 0 (slice_coefficient_count p c n))
+
+  small_of : (n : ℕ) (c : Component) → list_any is_large (coefficients_of (sent_coefficients p planes n) c) ≡ false
+  unfolding sent_coefficients
+  small_of n c = grind (arith, small_in)
+
+  pub are_coefficients : (n : ℕ) → AreCoefficients p n (sent_coefficients p planes n)
+  are_coefficients n = record { lengths = λ c. length-own p planes is.across is.down c n; small = small_of n }
+
+  -- the slices of a picture at index 0
+  abbrev pub slices_at_zero : List (List ℕ)
+  slices_at_zero = map (at_zero p planes) (range_with_len 0 (slice_count p))
+
+  planes_back : planes_of p (map (sent_coefficients p planes) (range_with_len 0 (slice_count p))) ≡ planes
+  planes_back = λ i. record {
+    y = plane_back p planes is.across is.down Y (is.each Y).size (is.each Y).all_there is.symmetric (is.each Y).some_bits (is.each Y).samples i;
+    c1 = plane_back p planes is.across is.down C1 (is.each C1).size (is.each C1).all_there is.symmetric (is.each C1).some_bits (is.each C1).samples i;
+    c2 = plane_back p planes is.across is.down C2 (is.each C2).size (is.each C2).all_there is.symmetric (is.each C2).some_bits (is.each C2).samples i;
+  }
+
+  -- parameters that are read as these, and behind them the slices, decode to the planes
+  pub decoded_planes-sent : (sequence : Sequence) (bytes behind : List ℕ) → ((more : List ℕ) → coded_parameters sequence (bytes ++ more) ≡ Ok (p, length bytes)) → decoded_planes sequence (bytes ++ (joined slices_at_zero ++ behind)) ≡ Some planes
+  unfolding decoded_planes decoded_picture
+  decoded_planes-sent sequence bytes behind read =
+      grind (arith, are_coefficients, drop-append_seam, planes_back, slices_back, with_params)
+
+-- at indices that are all 0 the slices are these
+zeros_at : (p : Parameters) (planes : Planes) (i n : ℕ) (indices : List ℕ) → ((k : ℕ) → k < n → slice_get indices k ≡ Some 0)
+    → map (λ z. sent_slice p planes z.0 z.1) (enumerate_from i (take n indices)) ≡ map (at_zero p planes) (range_with_len i n)
+zeros_at p planes i zero indices zeros = refl
+zeros_at p planes i (suc n) [] zeros = absurd (none-some 0 (zeros 0 (omega arith)))
+zeros_at p planes i (suc n) (index ∷ indices) zeros =
+    let own : index ≡ 0 = same_Some index 0 (zeros 0 (omega arith)) in
+    (λ j. sent_slice p planes i (own j) ∷ zeros_at p planes (i + 1) n indices (λ k h. zeros (suc k) (omega (arith, h))) j)
+
+pub sent_slices-zero : (p : Parameters) (planes : Planes) (is : IsSendable p planes) (indices : List ℕ) → ((k : ℕ) → k < slice_count p → slice_get indices k ≡ Some 0) → sent_slices p planes indices ≡ slices_at_zero p planes is
+unfolding sent_slices
+sent_slices-zero p planes is indices zeros = zeros_at p planes 0 (slice_count p) indices zeros

@@ -1,0 +1,12 @@
+pub mod ZeroIndices
+pub mod RawBytes
+pub mod ShortDatagrams
+pub mod ComingBack
+pub mod GeneratedBack
+pub mod LoopedBack
+pub mod FirstHeader
+pub mod FirstSession
+pub mod ReadUnits
+pub mod TakenPictures
+pub mod ShownFrames
+pub mod PlayedBack

@@ -1,0 +1,21 @@
+//! The pictures of a receiver, from the answers to their slices to what goes out of them once they are released: frames and,
+//! with field coding, frames that are woven of two fields, or the units of an elementary stream.
+#![tactic(auto)]
+
+mod answers;
+mod completing;
+mod fault;
+mod header;
+mod laws;
+mod output;
+mod pairing;
+mod picture;
+mod stream;
+mod units;
+
+pub use answers::Answers;
+pub use fault::StreamFault;
+pub use frame_writer::FrameFault;
+pub use laws::written_streams_follow_datagrams;
+pub use output::{FrameOutput, Shown};
+pub use stream::{ReleasedPicture, StreamOutput};

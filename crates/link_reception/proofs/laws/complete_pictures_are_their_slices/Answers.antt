@@ -1,5 +1,0 @@
-use Rattle.link_reception.proofs.WholePictures.{own_picture}
-use Rattle.link_reception.proofs.laws.complete_pictures_are_their_slices.Goals as goal
-
-pub returns : goal.returns
-returns c = own_picture

@@ -1,8 +1,0 @@
-use Rattle.link_reception.proofs.OfferedJobs.{all_offered, only_offered}
-use Rattle.link_reception.proofs.laws.new_slices_are_offered.Goals as goal
-
-pub returns-clause-every : goal.returns-clause-every
-returns-clause-every c = all_offered
-
-pub returns-clause-only : goal.returns-clause-only
-returns-clause-only c = only_offered

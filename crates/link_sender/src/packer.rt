@@ -1,0 +1,102 @@
+ghost use Rattle.std.specs.Prelude.{◌≡◌, IfOk, OnErr};
+ghost use Rattle.stream_model.specs.Packing.{AreAllSlices};
+ghost use Rattle.link_sender.specs.PackerState.{EndsPacking, PacksPicture, counts_of};
+ghost use Rattle.link_sender.specs.Views.{packed_picture_of};
+ghost use Rattle.vc_types.specs.SenderSettings.{packing_view};
+ghost use Rattle.vc_types.specs.TransformParameters.{parameters_of};
+
+use crate::fields::{high_half, timestamp};
+use crate::pack_outbox::Outbox;
+use crate::pack_writing::write_datagram;
+use crate::parts::check_parts;
+use crate::picture::Picture;
+use crate::{Datagram, SendRefusal};
+use std::alloc::Global;
+use vc_types::{NoMemory, PackSettings, Plan};
+use vc2_payload::Payload;
+
+/// Packs the pictures of an elementary stream: what it keeps from one to the next are how many there were, modulo 2^64,
+/// the extended sequence number of the next datagram, and the timestamp of the last.
+#[derive(Drop)]
+pub struct Packer {
+    pub(crate) alloc: Global,
+    pub(crate) settings: PackSettings,
+    pub(crate) pictures: u64,
+    pub(crate) sequence: u32,
+    // 0 before the first datagram.
+    pub(crate) timestamp: u32,
+}
+
+impl Packer {
+    /// A packer that has packed nothing.
+    pub fn new(alloc: Global, s: PackSettings) -> Packer
+        ensures settings { result.settings ≡ s }
+        ensures counts { counts_of result
+            ≡ record { pictures = 0; sequence = s.seq; timestamp = 0 } }
+    {
+        Packer {
+            alloc,
+            settings: s,
+            pictures: 0,
+            sequence: s.seq,
+            timestamp: 0,
+        }
+    }
+
+    /// The datagrams of a picture by its own number: its sequence header, its transform parameters and its slices, whose
+    /// bytes are given as they are coded. The bytes of the slices are exactly the plan's slices. A picture is refused
+    /// whole, at its first part in order of sending that has no room in a datagram; for a sequence header or transform
+    /// parameters the refusal says slice 0. A refusal or want of memory leaves the packer as it was.
+    pub fn send_picture(
+        &mut self,
+        number: u32,
+        plan: &Plan,
+        header: &[u8],
+        params: &[u8],
+        slices: &[u8],
+    ) -> Result<Vec<Datagram>, SendRefusal>
+        requires whole { AreAllSlices (parameters_of plan.now) slices.now }
+        ensures settings { self.new.settings ≡ self.old.settings }
+        ensures value { PacksPicture (packing_view self.old.settings)
+            (packed_picture_of number (parameters_of plan.now) header.now params.now slices.now)
+            (counts_of self.old) (counts_of self.new) result }
+    {
+        let picture = Picture {
+            settings: self.settings,
+            timestamp: timestamp(&self.settings, self.pictures, number),
+            number,
+            plan,
+            header,
+            params,
+            slices,
+        };
+        check_parts(&picture)?;
+        let mut outbox = Outbox {
+            alloc: self.alloc,
+            datagrams: Vec::new(self.alloc),
+            sequence: self.sequence,
+        };
+        outbox.put_picture(&picture)?;
+        self.timestamp = picture.timestamp;
+        self.pictures = self.pictures.wrapping_add(1);
+        self.sequence = outbox.sequence;
+        Ok(outbox.datagrams)
+    }
+
+    /// The end of the sequence, with the timestamp of the last datagram, 0 if there was none.
+    #[tactic(auto, using(crate::proofs::PayloadLengths::end_length), unfolding(stream_model::specs::Packing::end_around))]
+    pub fn finish(&mut self) -> Result<Datagram, NoMemory>
+        ensures settings { self.new.settings ≡ self.old.settings }
+        ensures value { IfOk result (EndsPacking (packing_view self.old.settings)
+            (counts_of self.old) (counts_of self.new)) }
+        ensures unchanged { OnErr result (counts_of self.new ≡ counts_of self.old) }
+    {
+        let end = Payload::End {
+            high: high_half(self.sequence),
+        };
+        let (alloc, sequence) = (self.alloc, self.sequence);
+        let last = write_datagram(alloc, &self.settings, sequence, self.timestamp, false, &end)?;
+        self.sequence = sequence.wrapping_add(1);
+        Ok(last)
+    }
+}

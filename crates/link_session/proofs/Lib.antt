@@ -1,5 +1,0 @@
-pub mod SessionBooks
-pub mod SessionWindows
-pub mod DatagramSteps
-pub mod OfferedJobs
-pub mod WindowJobs

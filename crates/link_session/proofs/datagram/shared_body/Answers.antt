@@ -1,6 +1,0 @@
-use Rattle.std.proofs.Common.{arith}
-use Rattle.link_session.proofs.DatagramSteps.{body_is}
-use Rattle.link_session.proofs.datagram.shared_body.Goals as goal
-
-pub returns : goal.returns
-returns c = grind (arith, body_is)

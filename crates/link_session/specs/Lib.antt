@@ -1,4 +1,0 @@
-pub mod Openings
-pub mod Hearing
-pub mod Pasts
-pub mod Missing

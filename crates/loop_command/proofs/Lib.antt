@@ -1,4 +1,0 @@
-pub mod Completing
-pub mod Exchanged
-pub mod Outcomes
-pub mod CommandAnswers

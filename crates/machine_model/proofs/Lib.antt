@@ -1,0 +1,14 @@
+pub mod MachineRows
+pub mod PlacesKept
+pub mod RisingLists
+pub mod Positions
+pub mod SameJobs
+pub mod PicturesHeard
+pub mod PicturesStay
+pub mod BuiltFrames
+pub mod MachineHalves
+pub mod MachineKept
+pub mod MachineRuns
+pub mod FeederWay
+pub mod FeederRows
+pub mod PlaceSteps

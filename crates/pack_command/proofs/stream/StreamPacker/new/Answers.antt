@@ -1,7 +1,0 @@
-use Rattle.std.proofs.Common.{refl, arith}
-use Rattle.vc_types.specs.SenderSettings.{packing_view}
-use Rattle.pack_command.proofs.Starting.{totals_none}
-use Rattle.pack_command.proofs.stream.StreamPacker.new.Goals as goal
-
-pub returns-clause-behind : goal.returns-clause-behind
-returns-clause-behind c = record { settings_are = refl; seq_fits = omega arith; opened = tt; totals_are = totals_none (packing_view c.args.settings) }

@@ -1,5 +1,0 @@
-use Rattle.picture_pack.proofs.Cutting.{cut_within}
-use Rattle.picture_pack.proofs.parts.next_slice.Goals as goal
-
-pub split_at-requires : goal.split_at-requires
-split_at-requires c = cut_within c.args.plan.now.prefix c.args.plan.now.scaler c.in-Ok.len c.args.bytes.now c.in-Ok.ensures.value

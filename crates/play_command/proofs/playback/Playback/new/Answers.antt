@@ -1,6 +1,0 @@
-use Rattle.vc_types.specs.SequenceHeader.{sequence_of}
-use Rattle.play_command.proofs.Showing.{begun}
-use Rattle.play_command.proofs.playback.Playback.new.Goals as goal
-
-pub returns : goal.returns
-returns c = begun (sequence_of c.args.header)

@@ -1,4 +1,0 @@
-pub mod Datagrams
-pub mod Ends
-pub mod CommandAnswers
-pub mod Completing

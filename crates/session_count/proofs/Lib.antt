@@ -1,3 +1,0 @@
-pub mod EndOutcomes
-pub mod Counting
-pub mod Rising

@@ -1,4 +1,0 @@
-mod SeenSlots
-mod PictureLists
-mod CompletedSlices
-mod ReleasedPictures

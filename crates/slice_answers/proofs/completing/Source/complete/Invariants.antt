@@ -1,6 +1,0 @@
-use Rattle.slice_answers.specs.Completing.{HaveCome, comes_to}
-use Rattle.slice_answers.proofs.completing.Source.complete.Given as goal
-
-abbrev pub invariant-loop-index : goal.invariant-loop-index
-invariant-loop-index l =
-    HaveCome (comes_to l.fn.builder l.fn.unsound l.fn.self.book.now) l.index l.fn.builder l.builder

@@ -1,2 +1,0 @@
-pub mod SeenAnswers
-pub mod Completing

@@ -1,6 +1,0 @@
-use Rattle.slice_exchange.proofs.OutSlices.{below_filter}
-use Rattle.slice_exchange.proofs.slices_out.SlicesOut.ask.Goals as goal
-
-pub returns-clause-below : goal.returns-clause-below
-returns-clause-below g c =
-    rw (c.forget.ensures, c.take.ensures.bound) (below_filter _ _ _ c.requires.below)

@@ -1,8 +1,0 @@
-pub mod UnitLists
-pub mod Steps
-pub mod Releases
-pub mod Runs
-pub mod Begun
-pub mod Datagrams
-pub mod AtEnd
-pub mod Following

@@ -1,0 +1,49 @@
+ghost use Rattle.std.specs.Prelude.{◌≡◌, Err, None};
+
+use vc_slice::{Hands, Places, SliceDone, SliceJob};
+use vc_types::NoMemory;
+
+/// No place at all, and no memory for workers.
+#[derive(Clone, Copy, Debug)]
+pub struct NoWorkers;
+
+impl Places for NoWorkers {
+    ghost use Rattle.std.specs.Prelude.{None};
+
+    ghost bound = { λ _. 0 };
+
+    ghost told = { λ _. None };
+
+    fn put(&mut self, job: SliceJob) -> Result<u32, SliceJob>
+        ensures value { result ≡ Err job }
+    {
+        Err(job)
+    }
+
+    // There is no place to ask of, so none is asked for here.
+    fn take(&mut self, _place: u32) -> Option<SliceDone>
+        ensures value { result ≡ None }
+    {
+        None
+    }
+
+    fn withdraw(&mut self, _place: u32) -> Option<SliceJob>
+        ensures value { result ≡ None }
+    {
+        None
+    }
+
+    fn leave(&mut self, _place: u32)
+        ensures unchanged { self.new ≡ self.old }
+    {}
+}
+
+impl Hands for NoWorkers {
+    ghost use Rattle.std.specs.Prelude.{⊤};
+
+    ghost is_free = { λ _. ⊤ };
+
+    fn start_workers(&mut self, _workers: u32) -> Result<(), NoMemory> {
+        Err(NoMemory)
+    }
+}
