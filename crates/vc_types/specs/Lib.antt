@@ -27,3 +27,4 @@ pub mod RawFrames
 pub mod FieldPairs
 pub mod SliceCoefficients
 pub mod Encoding
+pub mod OfPlan
