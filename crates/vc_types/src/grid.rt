@@ -2,8 +2,8 @@ ghost use Rattle.std.specs.Prelude.{◌≡◌, ◌*◌, length};
 
 use std::marker::Model;
 
-/// Whole numbers in rows, such as the coefficients of a component or the lines between two levels of a transform.
-/// Contracts see its width, its height and the list of its cells.
+/// Whole numbers in rows, such as the coefficients of a component or the lines between two levels of a
+/// transform. Contracts see its width, its height and the list of its cells.
 #[derive(Drop)]
 pub struct Grid {
     width: u32,

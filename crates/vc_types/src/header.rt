@@ -1,5 +1,6 @@
 ghost use Rattle.std.specs.Prelude.{◌≡◌, ◌≤◌, IsTrue};
-ghost use Rattle.vc_types.specs.Video.{dimensions_fit, excursion_fits, colour_width, colour_height, picture_height, video_depth};
+ghost use Rattle.vc_types.specs.Video.{dimensions_fit, excursion_fits, colour_width, colour_height};
+ghost use Rattle.vc_types.specs.Video.{picture_height, video_depth};
 
 use crate::limits::picture_height;
 use crate::shape::Shape;

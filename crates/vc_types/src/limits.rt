@@ -4,8 +4,8 @@ ghost use Rattle.vc_types.specs.Video.{dimensions_fit, picture_height};
 
 use crate::video::Sampling;
 
-/// Whether frames of this size can be coded: both sides are 1 to 8,192, and planes and fields have whole columns and
-/// rows.
+/// Whether frames of this size can be coded: both sides are 1 to 8,192, and planes and fields have whole
+/// columns and rows.
 pub fn dimensions_fit(width: u32, height: u32, sampling: Sampling, fields: bool) -> bool
     ensures { result ≡ dimensions_fit width height sampling fields }
 {

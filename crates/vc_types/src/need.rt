@@ -5,6 +5,7 @@ pub struct SliceNeed {
     pub index: u32,
     /// How many bytes of slices one datagram has room for.
     pub room: u32,
-    /// The slice's length in bytes at each quantisation index from 0 to 127, where the chooser wants lengths; else nothing.
+    /// The slice's length in bytes at each quantisation index from 0 to 127, where the chooser wants lengths;
+    /// else nothing.
     pub lens: Vec<u64>,
 }

@@ -1,12 +1,13 @@
 ghost use Rattle.std.specs.Prelude.{◌≡◌, ◌+◌, ◌*◌, ◌≤◌, IsTrue};
-ghost use Rattle.vc_types.specs.Limits.{shape_fits, slices_fit, slice_bytes_fit, padded_luma_fits, matrix_fits};
+ghost use Rattle.vc_types.specs.Limits.{shape_fits, slices_fit, slice_bytes_fit, padded_luma_fits};
+ghost use Rattle.vc_types.specs.Limits.{matrix_fits};
 ghost use Rattle.vc_types.specs.Quantisation.{filled_matrix, used_entries};
 
 use crate::shape::Shape;
 
 /// How a picture was transformed and cut into slices: the transform parameters that were accepted (ST 2042-1,
-/// transform parameters), with the picture's shape. The matrix has a value for each subband in order; entries that no
-/// subband uses are 0.
+/// transform parameters), with the picture's shape. The matrix has a value for each subband in order; entries
+/// that no subband uses are 0.
 #[derive(Clone, Copy, Debug)]
 pub struct Plan {
     pub shape: Shape,

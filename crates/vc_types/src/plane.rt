@@ -2,8 +2,8 @@ ghost use Rattle.std.specs.Prelude.{◌≡◌, ◌*◌, length};
 
 use std::marker::Model;
 
-/// The samples of one component of a picture or a frame, row by row. Contracts see its width, its height and the
-/// list of its samples.
+/// The samples of one component of a picture or a frame, row by row. Contracts see its width, its height and
+/// the list of its samples.
 #[derive(Drop)]
 pub struct Plane {
     width: u32,

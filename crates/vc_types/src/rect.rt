@@ -1,5 +1,5 @@
-/// A rectangle of cells: the cell at its upper left corner, and how many cells it has across and down. It may be
-/// empty.
+/// A rectangle of cells: the cell at its upper left corner, and how many cells it has across and down. It may
+/// be empty.
 #[derive(Clone, Copy, Debug, PartialEq, Eq)]
 pub struct Rect {
     pub x: u32,

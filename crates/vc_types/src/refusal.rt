@@ -38,8 +38,8 @@ pub enum ParamsRefusal {
     NoDefault,
     /// A number is above 4,294,967,295, or the padded luma has too many samples.
     TooLarge,
-    /// The transform isn't the same across as down: refused in low-delay pictures alone, never by the parameters of
-    /// high-quality ones.
+    /// The transform isn't the same across as down: refused in low-delay pictures alone, never by the
+    /// parameters of high-quality ones.
     Asymmetric,
 }
 

@@ -6,9 +6,9 @@ ghost use Rattle.vc_types.specs.Settings.{within, choice_fits, luma_fits, first_
 use crate::choice::IndexChoice;
 use crate::video::Sampling;
 
-/// How frames are coded and sent. Width and height are those of a frame, `range` the number of its signal range.
-/// `size` is the length of a whole datagram of RTP, without the headers of IP and UDP: its slices get `size - 32`, for
-/// the RTP header has 12 bytes and the payload header 20.
+/// How frames are coded and sent. Width and height are those of a frame, `range` the number of its signal
+/// range. `size` is the length of a whole datagram of RTP, without the headers of IP and UDP: its slices get
+/// `size - 32`, for the RTP header has 12 bytes and the payload header 20.
 #[derive(Clone, Copy, Debug)]
 pub struct SendSettings {
     pub width: u32,
@@ -67,8 +67,8 @@ pub struct GenSettings {
     pub ghost sendable: { IsTrue (can_be_sent width height fields) },
 }
 
-/// How the pictures of an elementary stream are sent. `size` is the length of a whole datagram of RTP, without the
-/// headers of IP and UDP; `fields` says whether the stream's pictures are fields.
+/// How the pictures of an elementary stream are sent. `size` is the length of a whole datagram of RTP,
+/// without the headers of IP and UDP; `fields` says whether the stream's pictures are fields.
 #[derive(Clone, Copy, Debug)]
 pub struct PackSettings {
     pub size: u32,
