@@ -1,4 +1,5 @@
-ghost use Rattle.std.specs.Prelude.{◌≡◌, ◌+◌, ◌*◌, ◌<◌, ◌≤◌, ◌++◌, ◌-◌, ◌^◌, [], drop, length, replicate, true};
+ghost use Rattle.std.specs.Prelude.{◌≡◌, ◌+◌, ◌*◌, ◌<◌, ◌≤◌, ◌++◌, ◌-◌, ◌^◌, [], drop, length, replicate};
+ghost use Rattle.std.specs.Prelude.{true};
 ghost use Rattle.vc_types.specs.Bits.{byte_bits, bits_of};
 ghost use Rattle.vc_types.specs.Bounded.{bounded, BeginsWith};
 ghost use Rattle.vc_bits.specs.Bits.{word_bits};
@@ -6,12 +7,12 @@ ghost use Rattle.vc_bits.specs.Bits.{word_bits};
 use crate::byte::filled;
 use std::marker::Model;
 
-/// A bounded block (ST 2042-1, data coding): the bits of some bytes, and ones without end behind them. It is seen as
-/// the bits that are left of the bytes.
+/// A bounded block (ST 2042-1, data coding): the bits of some bytes, and ones without end behind them. It is
+/// seen as the bits that are left of the bytes.
 #[derive(Drop)]
 pub struct Block<'a> {
-    // The bits that come next are the last bits of a word, and this many. The bytes behind them are read into it before
-    // fewer than twelve bits are left there.
+    // The bits that come next are the last bits of a word, and this many. The bytes behind them are read into
+    // it before fewer than twelve bits are left there.
     word: u64,
     count: u32,
     rest: &'a [u8],

@@ -1,4 +1,5 @@
-ghost use Rattle.std.specs.Prelude.{◌≡◌, ◌+◌, ◌-◌, ◌*◌, ◌%◌, ◌<◌, ◌≤◌, ◌^◌, ◌++◌, [], length, replicate, vec_len, vec_capacity};
+ghost use Rattle.std.specs.Prelude.{◌≡◌, ◌+◌, ◌-◌, ◌*◌, ◌%◌, ◌<◌, ◌≤◌, ◌^◌, ◌++◌, [], length, replicate};
+ghost use Rattle.std.specs.Prelude.{vec_len, vec_capacity};
 ghost use Rattle.vc_types.specs.Bits.{bits_of};
 ghost use Rattle.vc_bits.specs.Bits.{to_edge, word_bits};
 
@@ -31,8 +32,8 @@ impl BitTail {
         BitTail { word: 0, count: 0 }
     }
 
-    /// Adds the last bits of a number, up to 32 of them, the most significant first. The number has no others. The bytes
-    /// have room for four more.
+    /// Adds the last bits of a number, up to 32 of them, the most significant first. The number has no
+    /// others. The bytes have room for four more.
     #[inline(always)]
     pub fn add(&mut self, bytes: &mut Vec<u8>, number: u64, count: u32)
         requires count { count ≤ 32 }
@@ -56,7 +57,8 @@ impl BitTail {
         }
     }
 
-    /// Puts the bits behind the bytes, and the same bit up to a whole byte. The bytes have room for four more.
+    /// Puts the bits behind the bytes, and the same bit up to a whole byte. The bytes have room for four
+    /// more.
     pub fn finish(self, bytes: &mut Vec<u8>, fill: bool)
         requires room { vec_len bytes.old + 4 ≤ vec_capacity bytes.old }
         ensures { bits_of bytes.new.items ≡ (bits_of bytes.old.items ++ self)

@@ -1,4 +1,5 @@
-ghost use Rattle.std.specs.Prelude.{◌≡◌, ◌+◌, ◌-◌, ◌*◌, ◌%◌, ◌<◌, ◌≤◌, ◌^◌, ◌++◌, ◌∷◌, [], false, length, replicate, vec_len, vec_capacity, IfOk, OnOk, OnErr, IsOk};
+ghost use Rattle.std.specs.Prelude.{◌≡◌, ◌+◌, ◌-◌, ◌*◌, ◌%◌, ◌<◌, ◌≤◌, ◌^◌, ◌++◌, ◌∷◌, [], false, length};
+ghost use Rattle.std.specs.Prelude.{replicate, vec_len, vec_capacity, IfOk, OnOk, OnErr, IsOk};
 ghost use Rattle.vc_types.specs.Bits.{bits_of, byte_bits};
 ghost use Rattle.vc_bits.specs.Bits.{to_edge, word_bits};
 
@@ -11,7 +12,8 @@ use vc_types::NoMemory;
 #[derive(Drop)]
 pub struct BitWriter {
     bytes: Vec<u8>,
-    // The last bits are those of a word, and this many. Where there are some, the vector has room for their bytes.
+    // The last bits are those of a word, and this many. Where there are some, the vector has room for their
+    // bytes.
     word: u64,
     count: u32,
 }
@@ -62,7 +64,8 @@ impl BitWriter {
         self.bits(u64::from(bit), 1)
     }
 
-    /// Adds the last bits of a number, up to 32 of them, the most significant first. The number has no others.
+    /// Adds the last bits of a number, up to 32 of them, the most significant first. The number has no
+    /// others.
     #[inline]
     pub fn bits(&mut self, number: u64, count: u32) -> Result<(), NoMemory>
         requires count { count ≤ 32 }
