@@ -1,5 +1,5 @@
--- Whole pictures worked by hand, of 8 bits, wavelet 3 at depth 1, and two whose transforms are asymmetric.
-use Rattle.std.proofs.Common.{◌≡◌, ℕ, false, List, [], ◌∷◌, ◌++◌, Some, Ok, refl, replicate, ◌*◌}
+-- Two pictures worked by hand, from their header's bits to their planes, by computation; all other rows are data, on which the code runs.
+use Rattle.std.proofs.Common.{◌≡◌, ℕ, false, List, [], ◌∷◌, Some, Ok, refl, replicate}
 use Rattle.vc_types.specs.Bits.{bits_of, byte_bits}
 use Rattle.vc_types.specs.Codes.{uint_at, uint_after}
 use Rattle.vc_types.specs.Bounded.{bounded_uint_after, bounded_uint, bounded_sint, bounded_sints}
@@ -49,28 +49,6 @@ pub planes_are : decoded_planes sequence (0x09 ∷ 0x26 ∷ 0x40 ∷ 0x00 ∷ 0x
 unfolding decoded_planes decoded_picture transform_parameters parameters.number parameters.wavelet_index parameters.wavelet_depth parameters.extended_parameters parameters.slice_counts parameters.prefix_bytes parameters.size_scaler parameters.matrix_value parameters.matrix_values parameters.quantisation_matrix default_matrix header.picture_shape video_depth number_up_to uint_at uint_after bits_of byte_bits slices_from coded_slice block decoded_slice block_coefficients quantisers slice_rectangle slice_coefficient_count bounded_sints bounded_sint bounded_uint bounded_uint_after dequantised quant_factor quant_offset component_plane raster output_sample inverse_transform levels_across inverse_levels inverse_level on_cells on_rows on_columns interleaved synthesised lifted_by synthesis_steps lifted change weighted component_cells standing_at all_placed coefficient_place place_among
 planes_are = refl
 
--- a custom matrix of four zeros, so that at index 4 an LL of 3 stands for 7
-pub custom_matrix : decoded_planes sequence (0x09 ∷ 0x26 ∷ 0x7e ∷ 0x04 ∷ 0x01 ∷ 0x0b ∷ 0x00 ∷ 0x00 ∷ []) ≡ Some (record { y = two_by_two (0x87 ∷ 0x87 ∷ 0x87 ∷ 0x87 ∷ []); c1 = two_by_two (0x80 ∷ 0x80 ∷ 0x80 ∷ 0x80 ∷ []); c2 = two_by_two (0x80 ∷ 0x80 ∷ 0x80 ∷ 0x80 ∷ []) })
-unfolding decoded_planes decoded_picture transform_parameters parameters.number parameters.wavelet_index parameters.wavelet_depth parameters.extended_parameters parameters.slice_counts parameters.prefix_bytes parameters.size_scaler parameters.matrix_value parameters.matrix_values parameters.quantisation_matrix default_matrix header.picture_shape video_depth number_up_to uint_at uint_after bits_of byte_bits slices_from coded_slice block decoded_slice block_coefficients quantisers slice_rectangle slice_coefficient_count bounded_sints bounded_sint bounded_uint bounded_uint_after dequantised quant_factor quant_offset component_plane raster output_sample inverse_transform levels_across inverse_levels inverse_level on_cells on_rows on_columns interleaved synthesised lifted_by synthesis_steps lifted change weighted component_cells standing_at all_placed coefficient_place place_among
-custom_matrix = refl
-
--- the first of two slices has a luma block that ends within a number: the bits past its end finish -15
-abbrev pub eight_by_four : Sequence
-eight_by_four = record sequence { width = 8; height = 4 }
-
-abbrev pub grey_rows : ℕ → List ℕ
-grey_rows rows = replicate (8 * rows) 0x80
-
-abbrev pub dark_row : List ℕ
-dark_row = 0x71 ∷ 0x71 ∷ replicate 6 0x80
-
-abbrev pub eight_by_four_of : List ℕ → Raster
-eight_by_four_of samples = record { width = 8; height = 4; samples = samples }
-
-pub bounded_block : decoded_planes eight_by_four (0x09 ∷ 0x66 ∷ 0x40 ∷ 0x00 ∷ 0x01 ∷ 0x00 ∷ 0x00 ∷ 0x00 ∷ 0x00 ∷ 0x00 ∷ 0x00 ∷ 0x00 ∷ []) ≡ Some (record { y = eight_by_four_of (dark_row ++ (dark_row ++ grey_rows 2)); c1 = eight_by_four_of (grey_rows 4); c2 = eight_by_four_of (grey_rows 4) })
-unfolding decoded_planes decoded_picture transform_parameters parameters.number parameters.wavelet_index parameters.wavelet_depth parameters.extended_parameters parameters.slice_counts parameters.prefix_bytes parameters.size_scaler parameters.matrix_value parameters.matrix_values parameters.quantisation_matrix default_matrix header.picture_shape video_depth number_up_to uint_at uint_after bits_of byte_bits slices_from coded_slice block decoded_slice block_coefficients quantisers slice_rectangle slice_coefficient_count bounded_sints bounded_sint bounded_uint bounded_uint_after dequantised quant_factor quant_offset component_plane raster output_sample inverse_transform levels_across inverse_levels inverse_level on_cells on_rows on_columns interleaved synthesised lifted_by synthesis_steps lifted change weighted component_cells standing_at all_placed coefficient_place place_among
-bounded_block = refl
-
 -- one level across alone below one both ways, and H is 1
 abbrev four_by_two : List ℕ → Raster
 four_by_two samples = record { width = 4; height = 2; samples = samples }
@@ -78,8 +56,3 @@ four_by_two samples = record { width = 4; height = 2; samples = samples }
 pub level_across_alone : decoded_planes (record sequence { major = 3; width = 4 }) (0x09 ∷ 0x49 ∷ 0x33 ∷ 0xf8 ∷ 0x00 ∷ 0x01 ∷ 0x97 ∷ 0x00 ∷ 0x00 ∷ []) ≡ Some (record { y = four_by_two (0x7f ∷ 0x7f ∷ 0x80 ∷ 0x80 ∷ 0x7f ∷ 0x7f ∷ 0x80 ∷ 0x80 ∷ []); c1 = four_by_two (replicate 8 0x80); c2 = four_by_two (replicate 8 0x80) })
 unfolding decoded_planes decoded_picture transform_parameters parameters.number parameters.wavelet_index parameters.wavelet_depth parameters.extended_parameters parameters.slice_counts parameters.prefix_bytes parameters.size_scaler parameters.matrix_value parameters.matrix_values parameters.quantisation_matrix default_matrix header.picture_shape video_depth number_up_to uint_at uint_after bits_of byte_bits slices_from coded_slice block decoded_slice block_coefficients quantisers slice_rectangle slice_coefficient_count bounded_sints bounded_sint bounded_uint bounded_uint_after dequantised quant_factor quant_offset component_plane raster output_sample inverse_transform levels_across level_across interleaved_across inverse_levels inverse_level on_cells on_rows on_columns interleaved synthesised lifted_by synthesis_steps lifted change weighted component_cells standing_at all_placed coefficient_place place_among
 level_across_alone = refl
-
--- wavelet 4 across and 3 down, of which the one across decides the shift; LL is 3
-pub wavelet_across : decoded_planes (record sequence { major = 3 }) (0x09 ∷ 0x8c ∷ 0x4c ∷ 0xfc ∷ 0x00 ∷ 0x01 ∷ 0x0b ∷ 0x00 ∷ 0x00 ∷ []) ≡ Some (record { y = two_by_two (replicate 4 0x82); c1 = two_by_two (replicate 4 0x80); c2 = two_by_two (replicate 4 0x80) })
-unfolding decoded_planes decoded_picture transform_parameters parameters.number parameters.wavelet_index parameters.wavelet_depth parameters.extended_parameters parameters.slice_counts parameters.prefix_bytes parameters.size_scaler parameters.matrix_value parameters.matrix_values parameters.quantisation_matrix default_matrix header.picture_shape video_depth number_up_to uint_at uint_after bits_of byte_bits slices_from coded_slice block decoded_slice block_coefficients quantisers slice_rectangle slice_coefficient_count bounded_sints bounded_sint bounded_uint bounded_uint_after dequantised quant_factor quant_offset component_plane raster output_sample inverse_transform levels_across level_across interleaved_across inverse_levels inverse_level on_cells on_rows on_columns interleaved synthesised lifted_by synthesis_steps lifted change weighted component_cells standing_at all_placed coefficient_place place_among
-wavelet_across = refl
