@@ -11,7 +11,7 @@ use Rattle.claim_board.specs.declared.view.Entry.{Entry}
 use Rattle.claim_board.specs.declared.view.Deed.{Deed}
 use Rattle.claim_board.specs.declared.view.Deed.TheVariants.{WasRead, WasFetched, WasPut, WasClaimed, WasCompleted, WasTaken, WasWithdrawn}
 use Rattle.claim_board.specs.Counts.{held_count}
-use Rattle.claim_board.specs.History.{place_of, after_deed, standing, MayDo, places_after, IsRun, Each, IsOther, IsOtherOrRead}
+use Rattle.claim_board.specs.History.{deed_place, after_deed, standing, MayDo, places_after, IsHistory, Each, IsOther, IsOtherOrRead}
 
 -- ---- one deed
 
@@ -29,7 +29,7 @@ length_after n [] = length-replicate n unused_place
 length_after n (e ∷ h) = length_deed (places_after n h) e.seat e.deed ∙ length_after n h
 
 -- another place stays as it is
-pub elsewhere : (ps : List JobPlace) (seat : ℕ) (d : Deed) (q : ℕ) → q ≢ place_of d → place_at (after_deed ps seat d) q ≡ place_at ps q
+pub elsewhere : (ps : List JobPlace) (seat : ℕ) (d : Deed) (q : ℕ) → q ≢ deed_place d → place_at (after_deed ps seat d) q ≡ place_at ps q
 elsewhere ps seat (WasRead p w) q ne = refl
 elsewhere ps seat (WasFetched p) q ne = refl
 elsewhere ps seat (WasPut p job) q ne = get_or-set_other ps p q _ unused_place ne
@@ -75,8 +75,8 @@ holder (Claimed seat job) = seat
 holder c = 0
 
 -- a place that a seat holds isn't what another seat's deed says of its place
-not_held : (ps : List JobPlace) (seat me : ℕ) (d : Deed) (t : ℕ) (j : Job) → MayDo ps seat d → seat ≢ me → place_at ps (place_of d) ≡ standing t (Claimed me j)
-    → place_at (after_deed ps seat d) (place_of d) ≡ standing t (Claimed me j)
+not_held : (ps : List JobPlace) (seat me : ℕ) (d : Deed) (t : ℕ) (j : Job) → MayDo ps seat d → seat ≢ me → place_at ps (deed_place d) ≡ standing t (Claimed me j)
+    → place_at (after_deed ps seat d) (deed_place d) ≡ standing t (Claimed me j)
 not_held ps seat me (WasRead p w) t j may ne e = e
 not_held ps seat me (WasFetched p) t j may ne e = e
 not_held ps seat me (WasPut p job) t j may ne e = absurd (let a = state_is ps p t _ e in let b = empty_of_put ps p may in omega arith)
@@ -87,12 +87,12 @@ not_held ps seat me (WasWithdrawn p u job) t j may ne e = absurd (let a = state_
 
 stays : (ps : List JobPlace) (seat me : ℕ) (d : Deed) (q t : ℕ) (j : Job) → MayDo ps seat d → seat ≢ me → place_at ps q ≡ standing t (Claimed me j)
     → place_at (after_deed ps seat d) q ≡ standing t (Claimed me j)
-stays ps seat me d q t j may ne e = dite (ℕ_discrete q (place_of d))
+stays ps seat me d q t j may ne e = dite (ℕ_discrete q (deed_place d))
     (λ eq. subst (λ (k : ℕ). place_at (after_deed ps seat d) k ≡ standing t (Claimed me j)) (sym eq) (not_held ps seat me d t j may ne (subst (λ (k : ℕ). place_at ps k ≡ standing t (Claimed me j)) eq e)))
     (λ n. elsewhere ps seat d q n ∙ e)
 
 -- what a seat holds stays while others step
-pub stays_held : (n me : ℕ) (more known : List Entry) (q t : ℕ) (j : Job) → IsRun n (more ++ known) → Each (IsOther me) more → place_at (places_after n known) q ≡ standing t (Claimed me j)
+pub stays_held : (n me : ℕ) (more known : List Entry) (q t : ℕ) (j : Job) → IsHistory n (more ++ known) → Each (IsOther me) more → place_at (places_after n known) q ≡ standing t (Claimed me j)
     → place_at (places_after n (more ++ known)) q ≡ standing t (Claimed me j)
 stays_held n me [] known q t j run others e = e
 stays_held n me (x ∷ more) known q t j run others e = stays (places_after n (more ++ known)) x.seat me x.deed q t j run.0 others.0 (stays_held n me more known q t j run.1 others.1 e)
@@ -119,7 +119,7 @@ within (x ∷ xs) zero h = omega arith
 within (x ∷ xs) (suc p) h = let k = within xs p h in omega arith
 
 count_here : (ps : List JobPlace) (seat me : ℕ) (d : Deed) → MayDo ps seat d → (0 < tag d → seat ≢ me)
-    → held_count me (place_at (after_deed ps seat d) (place_of d)).content ≡ held_count me (place_at ps (place_of d)).content
+    → held_count me (place_at (after_deed ps seat d) (deed_place d)).content ≡ held_count me (place_at ps (deed_place d)).content
 count_here ps seat me (WasRead p w) may ne = refl
 count_here ps seat me (WasFetched p) may ne = refl
 count_here ps seat me (WasPut p job) may ne =
@@ -145,11 +145,11 @@ count_here ps seat me (WasWithdrawn p t job) may ne =
 
 count_deed : (ps : List JobPlace) (seat me : ℕ) (d : Deed) (q : ℕ) → MayDo ps seat d → (0 < tag d → seat ≢ me)
     → held_count me (place_at (after_deed ps seat d) q).content ≡ held_count me (place_at ps q).content
-count_deed ps seat me d q may ne = dite (ℕ_discrete q (place_of d))
+count_deed ps seat me d q may ne = dite (ℕ_discrete q (deed_place d))
     (λ eq. subst (λ (k : ℕ). held_count me (place_at (after_deed ps seat d) k).content ≡ held_count me (place_at ps k).content) (sym eq) (count_here ps seat me d may ne))
     (λ n. ap (λ (x : JobPlace). held_count me x.content) (elsewhere ps seat d q n))
 
-pub count_same : (n me p : ℕ) (more known : List Entry) (q : ℕ) → IsRun n (more ++ known) → Each (IsOtherOrRead me p) more
+pub count_same : (n me p : ℕ) (more known : List Entry) (q : ℕ) → IsHistory n (more ++ known) → Each (IsOtherOrRead me p) more
     → held_count me (place_at (places_after n (more ++ known)) q).content ≡ held_count me (place_at (places_after n known) q).content
 count_same n me p [] known q run others = refl
 count_same n me p (x ∷ more) known q run others =

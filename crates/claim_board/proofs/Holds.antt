@@ -7,8 +7,8 @@ use Rattle.vc_slice.specs.declared.job.SliceJob.{SliceJob}
 use Rattle.link_slices.specs.Jobs.{job_of}
 use Rattle.machine_model.specs.Places.{Content, Nothing, Offered, Claimed, Decoded, JobPlace, place_at, state_number, state_of}
 use Rattle.claim_board.specs.Counts.{held_count, occurrences}
-use Rattle.claim_board.specs.History.{entry, word_of, places_after, IsRun, GoesOn, IsOtherOrRead}
-use Rattle.claim_board.specs.Views.{SeatView, Did, DidAtLast, Holds, content_at}
+use Rattle.claim_board.specs.History.{entry_of, word_of, places_after, IsHistory, Continues, IsOtherOrRead}
+use Rattle.claim_board.specs.Views.{SeatView, DidOnce, DidAtLast, Holds, content_at}
 use Rattle.claim_board.specs.declared.view.Entry.{Entry}
 use Rattle.claim_board.specs.declared.view.Deed.{Deed}
 use Rattle.claim_board.specs.declared.view.Deed.TheVariants.{WasRead, WasClaimed, WasCompleted}
@@ -29,19 +29,19 @@ held_once me (Decoded d) = omega arith
 -- ---- steps in a row
 
 -- one step makes the last one
-pub at_last : (p : ℕ) (v w : SeatView) (d : Deed) → Did v w d → DidAtLast p v w d
+pub at_last : (p : ℕ) (v w : SeatView) (d : Deed) → DidOnce v w d → DidAtLast p v w d
 at_last p v w d h = record { log = h.log; since = (h.since.0, h.since.1, other_or_read v.number p h.since.0 h.since.2); run = h.run; view = h.view }
 
 -- a step after a word was read
-pub reads_then : (p word : ℕ) (u v w : SeatView) (d : Deed) → DidAtLast p u v (WasRead p word) → Did v w d → DidAtLast p u w d
+pub reads_then : (p word : ℕ) (u v w : SeatView) (d : Deed) → DidAtLast p u v (WasRead p word) → DidOnce v w d → DidAtLast p u w d
 reads_then p word u v w d a b =
-    let P : SeatView → Type 0 = λ x. Did x w d → DidAtLast p u w d in
+    let P : SeatView → Type 0 = λ x. DidOnce x w d → DidAtLast p u w d in
     subst P (sym a.view) (λ h. record {
       log = h.log;
       since = (
-        h.since.0 ++ entry u.number (WasRead p word) ∷ a.since.0,
-        h.since.1 ∙ (ap (λ l. h.since.0 ++ entry u.number (WasRead p word) ∷ l) a.since.1 ∙ sym (append_assoc h.since.0 (entry u.number (WasRead p word) ∷ a.since.0) u.history)),
-        each_append (IsOtherOrRead u.number p) h.since.0 (entry u.number (WasRead p word) ∷ a.since.0) (other_or_read u.number p h.since.0 h.since.2) ((λ same. (word, refl)), a.since.2),
+        h.since.0 ++ entry_of u.number (WasRead p word) ∷ a.since.0,
+        h.since.1 ∙ (ap (λ l. h.since.0 ++ entry_of u.number (WasRead p word) ∷ l) a.since.1 ∙ sym (append_assoc h.since.0 (entry_of u.number (WasRead p word) ∷ a.since.0) u.history)),
+        each_append (IsOtherOrRead u.number p) h.since.0 (entry_of u.number (WasRead p word) ∷ a.since.0) (other_or_read u.number p h.since.0 h.since.2) ((λ same. (word, refl)), a.since.2),
       );
       run = h.run;
       view = h.view;
@@ -52,7 +52,7 @@ job_in other ((p, Some (Waiting t job)) ∷ r) = job
 job_in other r = other
 
 -- a claim after a word was read, whose job the slot has
-pub claims_then : (p word t : ℕ) (job own : SliceJob) (u v w x : SeatView) (r slots : List (ℕ × Slot)) → DidAtLast p u v (WasRead p word) → Did v w (WasClaimed p t own)
+pub claims_then : (p word t : ℕ) (job own : SliceJob) (u v w x : SeatView) (r slots : List (ℕ × Slot)) → DidAtLast p u v (WasRead p word) → DidOnce v w (WasClaimed p t own)
     → slots ≡ (p, Some (Waiting t own)) ∷ r → slots ≡ (p, Some (Waiting t job)) ∷ rest slots → x ≡ w → DidAtLast p u x (WasClaimed p t job)
 claims_then p word t job own u v w x r slots a b mine its same =
     let e : own ≡ job = ap (job_in own) (sym mine ∙ its) in
@@ -63,7 +63,7 @@ pub read_last : (p word : ℕ) (v w : SeatView) → DidAtLast p v w (WasRead p w
 read_last p word v w a = subst (λ (x : SeatView). word_of (place_at (places_after x.places x.history) p) ≡ word) (sym a.view) (sym a.run.0)
 
 -- no later word has a lower serial
-pub no_earlier : (p tried found : ℕ) (v w : SeatView) → word_of (place_at (places_after v.places v.history) p) ≡ tried → Did v w (WasRead p found) → tried / 4 ≤ found / 4
+pub no_earlier : (p tried found : ℕ) (v w : SeatView) → word_of (place_at (places_after v.places v.history) p) ≡ tried → DidOnce v w (WasRead p found) → tried / 4 ≤ found / 4
 no_earlier p tried found v w was a =
     let more = up v.places a.since.0 v.history p in
     let now : found ≡ word_of (place_at (places_after v.places (a.since.0 ++ v.history)) p) = a.run.0 ∙ ap (λ (l : List Entry). word_of (place_at (places_after v.places l) p)) a.since.1 in
@@ -81,11 +81,11 @@ no_earlier p tried found v w was a =
 -- ---- what is held
 
 -- the seat's counts, upon what it knew
-upon : (p : ℕ) (v : SeatView) (log : List Entry) (q : ℕ) → GoesOn (IsOtherOrRead v.number p) log v.history → IsRun v.places log
+upon : (p : ℕ) (v : SeatView) (log : List Entry) (q : ℕ) → Continues (IsOtherOrRead v.number p) log v.history → IsHistory v.places log
     → held_count v.number (place_at (places_after v.places log) q).content ≡ held_count v.number (content_at v q)
 upon p v log q since run =
     ap (λ (l : List Entry). held_count v.number (place_at (places_after v.places l) q).content) since.1
-    ∙ count_same v.places v.number p since.0 v.history q (subst (IsRun v.places) since.1 run) since.2
+    ∙ count_same v.places v.number p since.0 v.history q (subst (IsHistory v.places) since.1 run) since.2
 
 -- a word that was read: all is held as it was
 pub held_read : (p word : ℕ) (v w : SeatView) (q : ℕ) → DidAtLast p v w (WasRead p word) → held_count w.number (content_at w q) ≡ held_count v.number (content_at v q)
@@ -109,21 +109,21 @@ held_claimed p t job v w q xs a same = rw (occurrences-cons q p xs) (dite (ℕ_d
     subst (λ (k : ℕ). cond (eqb p k) 1 0 + occurrences k xs ≡ held_count w.number (content_at w k)) e (rw (eq-eqb p p refl, none) (sym mine)))
     (λ ne. let chain = same q ∙ (sym (upon p v a.log q a.since a.run.1)
     ∙ (sym (ap (λ (x : JobPlace). held_count v.number x.content) (elsewhere (places_after v.places a.log) v.number (WasClaimed p t job) q (λ e. ne (sym e))))
-    ∙ subst (λ (x : SeatView). held_count v.number (place_at (places_after v.places (entry v.number (WasClaimed p t job) ∷ a.log)) q).content ≡ held_count x.number (content_at x q)) (sym a.view) refl)) in rw (ne_eqb p q ne) (omega arith)))
+    ∙ subst (λ (x : SeatView). held_count v.number (place_at (places_after v.places (entry_of v.number (WasClaimed p t job) ∷ a.log)) q).content ≡ held_count x.number (content_at x q)) (sym a.view) refl)) in rw (ne_eqb p q ne) (omega arith)))
 
 -- a completion: the place is held no more
-pub held_completed : (p t : ℕ) (done : SliceDone) (v w : SeatView) (q : ℕ) (xs ys : List ℕ) → Did v w (WasCompleted p t done) → occurrences q xs ≡ cond (eqb p q) 1 0 + occurrences q ys
+pub held_completed : (p t : ℕ) (done : SliceDone) (v w : SeatView) (q : ℕ) (xs ys : List ℕ) → DidOnce v w (WasCompleted p t done) → occurrences q xs ≡ cond (eqb p q) 1 0 + occurrences q ys
     → ((k : ℕ) → occurrences k xs ≡ held_count v.number (content_at v k)) → occurrences q ys ≡ held_count w.number (content_at w q)
 held_completed p t done v w q xs ys b less same =
     let a = at_last p v w (WasCompleted p t done) b in
     let ps = places_after v.places a.log in
     let two : number_at ps p ≡ 2 = ap (λ (x : JobPlace). state_number (state_of x.content)) a.run.0 in
-    let now : held_count v.number (place_at (places_after v.places (entry v.number (WasCompleted p t done) ∷ a.log)) q).content ≡ held_count w.number (content_at w q) =
-    subst (λ (x : SeatView). held_count v.number (place_at (places_after v.places (entry v.number (WasCompleted p t done) ∷ a.log)) q).content ≡ held_count x.number (content_at x q)) (sym a.view) refl in
+    let now : held_count v.number (place_at (places_after v.places (entry_of v.number (WasCompleted p t done) ∷ a.log)) q).content ≡ held_count w.number (content_at w q) =
+    subst (λ (x : SeatView). held_count v.number (place_at (places_after v.places (entry_of v.number (WasCompleted p t done) ∷ a.log)) q).content ≡ held_count x.number (content_at x q)) (sym a.view) refl in
     dite (ℕ_discrete p q)
     (λ e. let here = complete_here ps p t v.number (job_of done.job) (within ps p (omega arith)) a.run.0 in
-    let none : held_count v.number (place_at (places_after v.places (entry v.number (WasCompleted p t done) ∷ a.log)) q).content ≡ 0 =
-    subst (λ (k : ℕ). held_count v.number (place_at (places_after v.places (entry v.number (WasCompleted p t done) ∷ a.log)) k).content ≡ 0) e (ap (λ (x : JobPlace). held_count v.number x.content) here) in
+    let none : held_count v.number (place_at (places_after v.places (entry_of v.number (WasCompleted p t done) ∷ a.log)) q).content ≡ 0 =
+    subst (λ (k : ℕ). held_count v.number (place_at (places_after v.places (entry_of v.number (WasCompleted p t done) ∷ a.log)) k).content ≡ 0) e (ap (λ (x : JobPlace). held_count v.number x.content) here) in
     let most = held_once v.number (content_at v q) in
     let all = same q in
     let one : cond {A = ℕ} (eqb p q) 1 0 ≡ 1 = (rw (eq-eqb p q e) refl) in

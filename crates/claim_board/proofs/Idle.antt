@@ -1,8 +1,9 @@
 -- The empty places, whose slots are with the feeder.
-use Rattle.std.proofs.Common.{◌≡◌, refl, ℕ, ◌+◌, ◌<◌, cond, true, false, List, ◌∷◌, length, get_or, set, sym, ap, ◌∙◌, arith, eqb, eq-eqb, ne_eqb, get_or-set_other, get_or-set_same, drop}
+use Rattle.std.proofs.Common.{◌≡◌, refl, ℕ, ◌+◌, ◌<◌, ◌≤◌, ◌^◌, vec_len, cond, true, false, List, ◌∷◌, length, get_or, set, sym, ap, ◌∙◌, arith, eqb, eq-eqb, ne_eqb, get_or-set_other, get_or-set_same, drop}
 use mathlib.Core.Logic.{dite}
 use native.Mathlib.Decide.{ℕ_discrete}
 use Rattle.claim_board.specs.Views.{lane}
+use Rattle.claim_board.specs.declared.seats.FeederSeat.{FeederSeat}
 use Rattle.claim_board.specs.declared.view.Lane.{Lane}
 use Rattle.claim_board.specs.Views.{SeatView, lane_in, lane_at, lanes_put, lanes_back}
 use Rattle.claim_board.specs.Counts.{idle_count, occurrences}
@@ -47,3 +48,17 @@ lane_after v w p q new P e h here there = grind (arith, get_or-set_same, get_or-
 
 pub lane_here : (v : SeatView) (p : ℕ) (new : Lane) (w : SeatView) → w.lanes ≡ set v.lanes p new → p < length v.lanes → lane_at w p ≡ new
 lane_here v p new w e h = ap (λ (ls : List Lane). get_or ls p (lane 0 false false)) e ∙ get_or-set_same v.lanes p new (lane 0 false false) h
+
+-- the feeder's places after one was taken back
+module _ (f : FeederSeat) (p : ℕ) (inside : p < vec_len f.lanes) (w : SeatView) (back : w.lanes ≡ lanes_back f.seat.me.0.lanes p) where
+  in_lanes : p < length f.seat.me.0.lanes
+  in_lanes = omega (arith, ap length f.mirrors, inside)
+
+  pub idle_back : (ys : List ℕ) → ys ≡ p ∷ f.order.items → (lane_at f.seat.me.0 p).is_out ≡ true → (q : ℕ) → occurrences q ys ≡ idle_count (lane_at w q)
+  idle_back ys more out = idle_after_return f.seat.me.0 w p f.order.items ys back more in_lanes out f.idle
+
+  pub fetched_back : (q : ℕ) → q < vec_len f.lanes → (lane_at w q).is_fetched ≡ true
+  fetched_back q below = lane_after f.seat.me.0 w p q _ (λ (l : Lane). l.is_fetched ≡ true) back in_lanes refl (f.fetched q below)
+
+  pub small_back : (q : ℕ) → (lane_at w q).serial ≤ 2 ^ 61
+  small_back q = lane_after f.seat.me.0 w p q _ (λ (l : Lane). l.serial ≤ 2 ^ 61) back in_lanes (f.small p) (f.small q)

@@ -16,9 +16,9 @@ use Rattle.machine_model.specs.Places.{Content, Nothing, Offered, Claimed, Decod
 use Rattle.claim_board.specs.declared.cargo.Cargo.TheVariants.{Waiting, Finished}
 use Rattle.claim_board.specs.declared.view.Entry.{Entry}
 use Rattle.claim_board.specs.declared.view.Deed.{Deed}
-use Rattle.claim_board.specs.History.{entry, place_of, after_deed, standing, word_of, MayDo, places_after, IsRun, Each, GoesOn, IsOther, IsBelow}
-use Rattle.claim_board.specs.Views.{SeatView, lane_at, did, Did}
-use Rattle.claim_board.specs.Rule.{Slot, BoardState, Lies, Shows, BoardRule, is_out}
+use Rattle.claim_board.specs.History.{entry_of, deed_place, after_deed, standing, word_of, MayDo, places_after, IsHistory, Each, Continues, IsOther, IsBelow}
+use Rattle.claim_board.specs.Views.{SeatView, lane_at, did, DidOnce}
+use Rattle.claim_board.specs.Rule.{Slot, BoardState, Lies, ShowsPlace, BoardRule, is_out}
 use Rattle.claim_board.proofs.Histories.{elsewhere, length_after}
 
 pub index_below : (l : List SeatView) (i : ℕ) (v : SeatView) → get_elem? l i ≡ some v → i < length l
@@ -41,20 +41,20 @@ places_long s o = length_after o.places o.history ∙ sym o.many
 -- the rule after a step of the seat id on the word of the deed's place
 pub goes : (s : BoardState) (o : BoardRule s) (id : ℕ) (v : SeatView) (n : ℕ) (hs : List (maybe.Option Slot)) (d : Deed)
     → get_elem? s.views id ≡ some v
-    → place_of d < length s.words
+    → deed_place d < length s.words
     → MayDo (places_after o.places o.history) v.number d
     → length hs ≡ length s.homes
-    → ((q : ℕ) → q ≢ place_of d → get_elem? hs q ≡ get_elem? s.homes q)
-    → (f : Feeds s o id (place_of d) (did v o.history d))
-    → Shows n (get_elem? hs (place_of d)) (lane_at f.feeder (place_of d)) (place_at (after_deed (places_after o.places o.history) v.number d) (place_of d))
-    → BoardRule (record { words = set s.words (place_of d) n; homes = hs; views = set s.views id (did v o.history d) })
+    → ((q : ℕ) → q ≢ deed_place d → get_elem? hs q ≡ get_elem? s.homes q)
+    → (f : Feeds s o id (deed_place d) (did v o.history d))
+    → ShowsPlace n (get_elem? hs (deed_place d)) (lane_at f.feeder (deed_place d)) (place_at (after_deed (places_after o.places o.history) v.number d) (deed_place d))
+    → BoardRule (record { words = set s.words (deed_place d) n; homes = hs; views = set s.views id (did v o.history d) })
 goes s o id v n hs d me in_range may long homes f here =
     let w : SeatView = did v o.history d in
-    let p : ℕ = place_of d in
+    let p : ℕ = deed_place d in
     let old = o.known id v me in
     let seats : length (set s.views id w) ≡ length s.views = length-set s.views id w in record {
       places = o.places;
-      history = entry v.number d ∷ o.history;
+      history = entry_of v.number d ∷ o.history;
       run = (may, o.run);
       seated = (
         (let k = index_below s.views id v me in let e = old.number in omega arith),
@@ -64,12 +64,12 @@ goes s o id v n hs d me in_range may long homes f here =
           (λ c. record {
             places = ap (λ (x : SeatView). x.places) (sym c.1) ∙ old.places;
             number = ap (λ (x : SeatView). x.number) (sym c.1) ∙ (old.number ∙ sym c.0);
-            since = subst (λ (x : SeatView). GoesOn (IsOther j) (entry v.number d ∷ o.history) x.history) c.1 ([], refl, tt);
+            since = subst (λ (x : SeatView). Continues (IsOther j) (entry_of v.number d ∷ o.history) x.history) c.1 ([], refl, tt);
           })
           (λ c. let k = o.known j u c.1 in record {
             places = k.places;
             number = k.number;
-            since = (entry v.number d ∷ k.since.0, ap (λ (l : List Entry). entry v.number d ∷ l) k.since.1, ((λ e. c.0 (sym e ∙ old.number)), k.since.2));
+            since = (entry_of v.number d ∷ k.since.0, ap (λ (l : List Entry). entry_of v.number d ∷ l) k.since.1, ((λ e. c.0 (sym e ∙ old.number)), k.since.2));
           })
           (at_set s.views id j w u e);
       feeder = f.feeder;
@@ -79,8 +79,8 @@ goes s o id v n hs d me in_range may long homes f here =
       wide = long ∙ (o.wide ∙ sym (length-set s.words p n));
       many = length-set s.words p n ∙ o.many;
       each = λ q h. dite (ℕ_discrete q p)
-          (λ e. subst (λ (i : ℕ). Shows (get_or (set s.words p n) i 0) (get_elem? hs i) (lane_at f.feeder i) (place_at (after_deed (places_after o.places o.history) v.number d) i)) (sym e)
-          (subst (λ (k : ℕ). Shows k (get_elem? hs p) (lane_at f.feeder p) (place_at (after_deed (places_after o.places o.history) v.number d) p)) (sym (get_or-set_same s.words p n 0 in_range)) here))
+          (λ e. subst (λ (i : ℕ). ShowsPlace (get_or (set s.words p n) i 0) (get_elem? hs i) (lane_at f.feeder i) (place_at (after_deed (places_after o.places o.history) v.number d) i)) (sym e)
+          (subst (λ (k : ℕ). ShowsPlace k (get_elem? hs p) (lane_at f.feeder p) (place_at (after_deed (places_after o.places o.history) v.number d) p)) (sym (get_or-set_same s.words p n 0 in_range)) here))
           (λ ne. let at = o.each q (subst (λ (k : ℕ). q < k) (length-set s.words p n) h) in
           rw (get_or-set_other s.words p q n 0 ne, homes q ne, f.others q ne, elsewhere (places_after o.places o.history) v.number d q ne) at);
     }
@@ -140,11 +140,11 @@ changes s o id p v w new me feeds seats lanes h =
     )
 
 -- what a seat has done, in sight of the rule
-pub has_done : (s : BoardState) (o : BoardRule s) (id : ℕ) (v : SeatView) (d : Deed) → get_elem? s.views id ≡ some v → MayDo (places_after o.places o.history) v.number d → Did v (did v o.history d) d
+pub has_done : (s : BoardState) (o : BoardRule s) (id : ℕ) (v : SeatView) (d : Deed) → get_elem? s.views id ≡ some v → MayDo (places_after o.places o.history) v.number d → DidOnce v (did v o.history d) d
 has_done s o id v d me may = let k = o.known id v me in record {
   log = o.history;
-  since = subst (λ (j : ℕ). GoesOn (IsOther j) o.history v.history) (sym k.number) k.since;
-  run = subst (λ (m : ℕ). MayDo (places_after m o.history) v.number d × IsRun m o.history) (sym k.places) (may, o.run);
+  since = subst (λ (j : ℕ). Continues (IsOther j) o.history v.history) (sym k.number) k.since;
+  run = subst (λ (m : ℕ). MayDo (places_after m o.history) v.number d × IsHistory m o.history) (sym k.places) (may, o.run);
   view = refl;
 }
 
@@ -157,7 +157,7 @@ pub record IsOffered (t : ℕ) (home : maybe.Option (maybe.Option Slot)) (known 
   pub is_known : known ≡ lane t true true
   pub small : t ≤ 2 ^ 61
 
-pub offered : (w t : ℕ) (home : maybe.Option (maybe.Option Slot)) (known : Lane) (p : JobPlace) → Shows w home known p → w ≡ 4 * t + 1 → IsOffered t home known p
+pub offered : (w t : ℕ) (home : maybe.Option (maybe.Option Slot)) (known : Lane) (p : JobPlace) → ShowsPlace w home known p → w ≡ 4 * t + 1 → IsOffered t home known p
 offered w t home known p at is = cases p.serial p.content at.is_fetched at.shows at.small at.is_known at.lies
   where
     cases : (serial : ℕ) (c : Content) (fetched : Bool) → w ≡ word_of (standing serial c) → serial ≤ 2 ^ 61 → known ≡ lane serial fetched (is_out c) → Lies home fetched serial c
@@ -182,7 +182,7 @@ pub record IsDecoded (t : ℕ) (home : maybe.Option (maybe.Option Slot)) (known 
   pub is_known : known ≡ lane t true true
   pub small : t ≤ 2 ^ 61
 
-pub decoded : (w t : ℕ) (home : maybe.Option (maybe.Option Slot)) (known : Lane) (p : JobPlace) → Shows w home known p → w ≡ 4 * t + 3 → IsDecoded t home known p
+pub decoded : (w t : ℕ) (home : maybe.Option (maybe.Option Slot)) (known : Lane) (p : JobPlace) → ShowsPlace w home known p → w ≡ 4 * t + 3 → IsDecoded t home known p
 decoded w t home known p at is = cases p.serial p.content at.is_fetched at.shows at.small at.is_known at.lies
   where
     cases : (serial : ℕ) (c : Content) (fetched : Bool) → w ≡ word_of (standing serial c) → serial ≤ 2 ^ 61 → known ≡ lane serial fetched (is_out c) → Lies home fetched serial c
@@ -207,7 +207,7 @@ pub record IsIdle (t : ℕ) (fetched : Bool) (w : ℕ) (home : maybe.Option (may
   pub small : t ≤ 2 ^ 61
   pub lies : Lies home fetched t Nothing
 
-pub idle : (w t : ℕ) (f : Bool) (home : maybe.Option (maybe.Option Slot)) (known : Lane) (p : JobPlace) → Shows w home known p → known ≡ lane t f false → IsIdle t f w home p
+pub idle : (w t : ℕ) (f : Bool) (home : maybe.Option (maybe.Option Slot)) (known : Lane) (p : JobPlace) → ShowsPlace w home known p → known ≡ lane t f false → IsIdle t f w home p
 idle w t f home known p at is = cases p.serial p.content at.is_fetched at.shows at.small at.is_known at.lies
   where
     cases : (serial : ℕ) (c : Content) (fetched : Bool) → w ≡ word_of (standing serial c) → serial ≤ 2 ^ 61 → known ≡ lane serial fetched (is_out c) → Lies home fetched serial c

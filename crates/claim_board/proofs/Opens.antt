@@ -9,7 +9,7 @@ use Rattle.atomic_table.proofs.Lists.{at_longer, at_set, set_here}
 use Rattle.claim_board.specs.Views.{lane}
 use Rattle.machine_model.specs.Places.{unused_place}
 use Rattle.claim_board.specs.declared.view.Entry.{Entry}
-use Rattle.claim_board.specs.History.{GoesOn, IsOther, IsBelow}
+use Rattle.claim_board.specs.History.{Continues, IsOther, IsBelow}
 use Rattle.claim_board.specs.Views.{SeatView, first_view, lane_at, with_seat, worker_view}
 use Rattle.claim_board.specs.Rule.{Slot, BoardRule}
 use Rattle.claim_board.proofs.Histories.{each_more}
@@ -43,7 +43,7 @@ opens n = record {
   known = λ j u e. let same = only_first (first_view n) u j e in record {
     places = ap (λ (x : SeatView). x.places) (sym same.1);
     number = ap (λ (x : SeatView). x.number) (sym same.1) ∙ sym same.0;
-    since = subst (λ (x : SeatView). GoesOn (IsOther j) [] x.history) same.1 ([], refl, tt);
+    since = subst (λ (x : SeatView). Continues (IsOther j) [] x.history) same.1 ([], refl, tt);
   };
   feeder = first_view n;
   first = refl;
@@ -86,14 +86,14 @@ splits id v feeds s o me =
           (λ c. record {
             places = ap (λ (x : SeatView). x.places) (sym c.1) ∙ old.places;
             number = ap (λ (x : SeatView). x.number) (sym c.1) ∙ (old.number ∙ sym c.0);
-            since = subst (λ (x : SeatView). GoesOn (IsOther j) o.history x.history) c.1 (subst (λ (k : ℕ). GoesOn (IsOther k) o.history v.history) (sym c.0) old.since);
+            since = subst (λ (x : SeatView). Continues (IsOther j) o.history x.history) c.1 (subst (λ (k : ℕ). Continues (IsOther k) o.history v.history) (sym c.0) old.since);
           })
           (λ c. o.known j u c.1)
           (at_set s.views id j w u h))
           (λ h. record {
             places = ap (λ (x : SeatView). x.places) (sym h.1) ∙ old.places;
             number = ap (λ (x : SeatView). x.number) (sym h.1) ∙ (number ∙ (sym long ∙ sym h.0));
-            since = subst (λ (x : SeatView). GoesOn (IsOther j) o.history x.history) h.1 (
+            since = subst (λ (x : SeatView). Continues (IsOther j) o.history x.history) h.1 (
               o.history,
               sym (append-nil o.history),
               each_more (IsBelow (length s.views)) (IsOther j) o.history (λ (x : Entry) b same. let k : x.seat < length s.views = b in let at = h.0 in omega arith) o.seated,

@@ -9,7 +9,7 @@ use Rattle.machine_model.specs.Places.{Content, Nothing, Offered, Claimed, Decod
 use Rattle.claim_board.specs.declared.view.Entry.{Entry}
 use Rattle.claim_board.specs.declared.view.Deed.{Deed}
 use Rattle.claim_board.specs.declared.view.Deed.TheVariants.{WasRead, WasFetched, WasPut, WasClaimed, WasCompleted, WasTaken, WasWithdrawn}
-use Rattle.claim_board.specs.History.{after_deed, place_of, places_after, IsRun, MayDo}
+use Rattle.claim_board.specs.History.{after_deed, deed_place, places_after, IsHistory, MayDo}
 use Rattle.claim_board.specs.Laws.{claims_in, is_claim}
 use Rattle.claim_board.proofs.Histories.{claim_here, complete_here, elsewhere, empty_of_put, free_here, put_here, state_is, within}
 
@@ -29,7 +29,7 @@ stage_empty (Offered job) e = absurd (omega arith)
 stage_empty (Claimed seat job) e = absurd (omega arith)
 stage_empty (Decoded done) e = absurd (omega arith)
 
-up_here : (ps : List JobPlace) (seat : ℕ) (d : Deed) → MayDo ps seat d → progress (place_at ps (place_of d)) ≤ progress (place_at (after_deed ps seat d) (place_of d))
+up_here : (ps : List JobPlace) (seat : ℕ) (d : Deed) → MayDo ps seat d → progress (place_at ps (deed_place d)) ≤ progress (place_at (after_deed ps seat d) (deed_place d))
 up_here ps seat (WasRead p w) may = omega arith
 up_here ps seat (WasFetched p) may = omega arith
 up_here ps seat (WasPut p job) may =
@@ -59,7 +59,7 @@ up_here ps seat (WasWithdrawn p t job) may =
     omega arith
 
 up_deed : (ps : List JobPlace) (seat : ℕ) (d : Deed) (q : ℕ) → MayDo ps seat d → progress (place_at ps q) ≤ progress (place_at (after_deed ps seat d) q)
-up_deed ps seat d q may = dite (ℕ_discrete q (place_of d))
+up_deed ps seat d q may = dite (ℕ_discrete q (deed_place d))
     (λ e. subst (λ (k : ℕ). progress (place_at ps k) ≤ progress (place_at (after_deed ps seat d) k)) (sym e) (up_here ps seat d may))
     (λ ne. let same = ap progress (elsewhere ps seat d q ne) in omega arith)
 
@@ -81,7 +81,7 @@ claim_step ps seat (WasTaken q u done) p t is may = absurd (false≢true is)
 claim_step ps seat (WasWithdrawn q u job) p t is may = absurd (false≢true is)
 
 -- none yet, or one and the place is past it
-once : (n p t : ℕ) (h : List Entry) → IsRun n h → (claims_in p t h ≡ 0) ⊎ ((claims_in p t h ≡ 1) × (4 * t + 2 ≤ progress (place_at (places_after n h) p)))
+once : (n p t : ℕ) (h : List Entry) → IsHistory n h → (claims_in p t h ≡ 0) ⊎ ((claims_in p t h ≡ 1) × (4 * t + 2 ≤ progress (place_at (places_after n h) p)))
 once n p t [] run = inl refl
 once n p t (e ∷ h) run = by_test (once n p t h run.1) (is_claim p t e.deed) refl
   where
@@ -98,5 +98,5 @@ once n p t (e ∷ h) run = by_test (once n p t h run.1) (is_claim p t e.deed) re
         let k = up_deed (places_after n h) e.seat e.deed p run.0 in
         ⊎_elim (λ none. inl (omega arith)) (λ one. let past = one.1 in let i = one.0 in inr (omega arith, omega arith)) before
 
-pub one_claim : (n p t : ℕ) (h : List Entry) → IsRun n h → claims_in p t h ≤ 1
+pub one_claim : (n p t : ℕ) (h : List Entry) → IsHistory n h → claims_in p t h ≤ 1
 one_claim n p t h run = ⊎_elim (λ none. omega arith) (λ one. let i = one.0 in omega arith) (once n p t h run)

@@ -14,7 +14,7 @@ use Rattle.link_slices.specs.Jobs.{answered}
 use Rattle.vc_slice.specs.declared.done.SliceDone.{SliceDone}
 use Rattle.claim_board.specs.declared.cargo.Cargo.TheVariants.{Finished}
 use Rattle.claim_board.specs.declared.view.Deed.TheVariants.{WasTaken}
-use Rattle.claim_board.specs.History.{after_deed, entry, places_after, word_of, Each, GoesOn, IsBelow, IsOther, IsRun, MayDo}
+use Rattle.claim_board.specs.History.{after_deed, entry_of, places_after, word_of, Each, Continues, IsBelow, IsOther, IsHistory, MayDo}
 use Rattle.claim_board.specs.Laws.{IsStepOf}
 use Rattle.claim_board.specs.Rule.{BoardRule, BoardState, Knows}
 use Rattle.claim_board.specs.Views.{SeatView, lane_at}
@@ -58,7 +58,7 @@ one_own me e (x ∷ (y ∷ own)) older [] between o a b is c eq =
     absurd (p.0 o.1.0)
 
 -- where the last step of a history is a seat's, the seat's view has the whole history
-whole : (h known : List Entry) (x : Entry) (j : ℕ) → x.seat ≡ j → GoesOn (IsOther j) (x ∷ h) known → known ≡ x ∷ h
+whole : (h known : List Entry) (x : Entry) (j : ℕ) → x.seat ≡ j → Continues (IsOther j) (x ∷ h) known → known ≡ x ∷ h
 whole h known x j is ([], e, others) = sym e
 whole h known x j is (y ∷ more, e, others) = absurd (others.0 (ap (λ l. (head_is x l).seat) (sym e) ∙ is))
 
@@ -83,11 +83,11 @@ module _ (s t : BoardState) (old : BoardRule s) (new : BoardRule t) (seat : ℕ)
   long : length t.views ≡ length s.views
   long = ap length step.behind ∙ length-set s.views seat step.new
 
-  is_now : GoesOn (IsOther seat) new.history step.new.history
+  is_now : Continues (IsOther seat) new.history step.new.history
   is_now = (new.known seat step.new (ap (λ l. get_elem? l seat) step.behind ∙ set_here s.views seat step.new within)).since
 
   -- another seat's view is the same
-  another : (j : ℕ) → j < length s.views → j ≢ seat → (u : SeatView) × GoesOn (IsOther j) old.history u.history × GoesOn (IsOther j) new.history u.history
+  another : (j : ℕ) → j < length s.views → j ≢ seat → (u : SeatView) × Continues (IsOther j) old.history u.history × Continues (IsOther j) new.history u.history
   another j h ne =
       let u = view_there s.views j h in (
         u.0,
@@ -96,10 +96,10 @@ module _ (s t : BoardState) (old : BoardRule s) (new : BoardRule t) (seat : ℕ)
       )
 
   -- the history of the step's view: between are steps of others
-  upon : (between : List Entry) × (step.new.history ≡ entry v.number d ∷ (between ++ v.history)) × Each (IsOther seat) between
+  upon : (between : List Entry) × (step.new.history ≡ entry_of v.number d ∷ (between ++ v.history)) × Each (IsOther seat) between
   upon = (
     step.did.since.0,
-    ap (λ (x : SeatView). x.history) step.did.view ∙ ap (λ l. entry v.number d ∷ l) step.did.since.1,
+    ap (λ (x : SeatView). x.history) step.did.view ∙ ap (λ l. entry_of v.number d ∷ l) step.did.since.1,
     subst (λ (k : ℕ). Each (IsOther k) step.did.since.0) was.number step.did.since.2,
   )
 
@@ -110,24 +110,24 @@ module _ (s t : BoardState) (old : BoardRule s) (new : BoardRule t) (seat : ℕ)
       let below : Each (IsBelow (length s.views)) (x ∷ h) = subst (Each (IsBelow (length s.views))) (sym e) old.seated in
       dite (ℕ_discrete x.seat seat)
       (λ is.
-      let all : v.history ≡ x ∷ h = whole h v.history x seat is (subst (λ l. GoesOn (IsOther seat) l v.history) (sym e) was.since) in
-      let last = entry v.number d in (
+      let all : v.history ≡ x ∷ h = whole h v.history x seat is (subst (λ l. Continues (IsOther seat) l v.history) (sym e) was.since) in
+      let last = entry_of v.number d in (
         is_now.0 ++ last ∷ upon.0,
         is_now.1 ∙ (ap (λ l. is_now.0 ++ l) (upon.1 ∙ ap (λ l. last ∷ (upon.0 ++ l)) all) ∙ sym (append_assoc is_now.0 (last ∷ upon.0) (x ∷ h))),
       ))
       (λ ne.
       let u = another x.seat below.0 ne in
-      let all : u.0.history ≡ x ∷ h = whole h u.0.history x x.seat refl (subst (λ l. GoesOn (IsOther x.seat) l u.0.history) (sym e) u.1) in
+      let all : u.0.history ≡ x ∷ h = whole h u.0.history x x.seat refl (subst (λ l. Continues (IsOther x.seat) l u.0.history) (sym e) u.1) in
       (u.2.0, u.2.1 ∙ ap (λ l. u.2.0 ++ l) all))
 
-  pub one_more : new.history ≡ entry v.number d ∷ old.history
+  pub one_more : new.history ≡ entry_of v.number d ∷ old.history
   one_more =
       let own = goes_on old.history refl in
       let below = each_front (IsBelow (length s.views)) own.0 old.history (subst (Each (IsBelow (length s.views))) own.1 (subst (λ (k : ℕ). Each (IsBelow k) new.history) long new.seated)) in
       let mine = all_of (length s.views) seat own.0 below (λ j h ne.
       let u = another j h ne in
       same_rest (IsOther j) own.0 u.1.0 u.2.0 u.0.history (ap (λ l. own.0 ++ l) (sym u.1.1) ∙ (sym own.1 ∙ u.2.1)) u.2.2) in
-      let last = entry v.number d in
+      let last = entry_of v.number d in
       let same : own.0 ++ was.since.0 ≡ is_now.0 ++ last ∷ upon.0 = append_cancel_right (own.0 ++ was.since.0) (is_now.0 ++ last ∷ upon.0) v.history
       (append_assoc own.0 was.since.0 v.history ∙ (ap (λ l. own.0 ++ l) (sym was.since.1) ∙ (sym own.1 ∙ (is_now.1 ∙ (ap (λ l. is_now.0 ++ l) upon.1 ∙ sym (append_assoc is_now.0 (last ∷ upon.0) v.history)))))) in
       own.1 ∙ ap (λ l. l ++ old.history) (one_own seat last own.0 was.since.0 is_now.0 upon.0 mine was.since.2 is_now.2 was.number upon.2 same)
@@ -138,12 +138,12 @@ module _ (s t : BoardState) (old : BoardRule s) (new : BoardRule t) (seat : ℕ)
   -- what the deed says was so
   pub is_true : MayDo (places_after old.places old.history) v.number d
   is_true =
-      let run : IsRun old.places (entry v.number d ∷ old.history) = subst (λ (k : ℕ). IsRun k (entry v.number d ∷ old.history)) same_places (subst (IsRun new.places) one_more new.run) in
+      let run : IsHistory old.places (entry_of v.number d ∷ old.history) = subst (λ (k : ℕ). IsHistory k (entry_of v.number d ∷ old.history)) same_places (subst (IsHistory new.places) one_more new.run) in
       run.0
 
   -- the words behind the step are what the deed leads to
   pub leads : (p : ℕ) → p < length t.words → get_or t.words p 0 ≡ word_of (place_at (after_deed (places_after old.places old.history) v.number d) p)
-  leads p h = (new.each p h).shows ∙ (ap (λ l. word_of (place_at (places_after new.places l) p)) one_more ∙ ap (λ (k : ℕ). word_of (place_at (places_after k (entry v.number d ∷ old.history)) p)) same_places)
+  leads p h = (new.each p h).shows ∙ (ap (λ l. word_of (place_at (places_after new.places l) p)) one_more ∙ ap (λ (k : ℕ). word_of (place_at (places_after k (entry_of v.number d ∷ old.history)) p)) same_places)
 
 abbrev answer_in : Answered → Content → Answered
 answer_in other (Decoded done) = done

@@ -16,9 +16,9 @@ use Rattle.machine_model.specs.Places.{Claimed, Decoded, JobPlace, place_at, own
 use Rattle.claim_board.specs.declared.cargo.Cargo.TheVariants.{Waiting, Finished}
 use Rattle.claim_board.specs.declared.view.Entry.{Entry}
 use Rattle.claim_board.specs.declared.view.Deed.TheVariants.{WasRead, WasClaimed, WasCompleted}
-use Rattle.claim_board.specs.History.{standing, places_after, IsRun}
-use Rattle.claim_board.specs.Views.{SeatView, Did, did, Holds, lane_at}
-use Rattle.claim_board.specs.Rule.{Slot, BoardState, Shows, BoardRule, Lies}
+use Rattle.claim_board.specs.History.{standing, places_after, IsHistory}
+use Rattle.claim_board.specs.Views.{SeatView, DidOnce, did, Holds, lane_at}
+use Rattle.claim_board.specs.Rule.{Slot, BoardState, ShowsPlace, BoardRule, Lies}
 use Rattle.claim_board.specs.Plays.{SeatState, tells_load, tells_claim, tells_complete}
 use Rattle.claim_board.proofs.Histories.{claim_here, complete_here, stays_held}
 use Rattle.claim_board.proofs.Keeps.{goes, quiet, has_done, offered, places_long}
@@ -31,7 +31,7 @@ looks s o id i m me h =
     let f = quiet s o id i m.0 (did m.0 o.history (WasRead i r)) me refl refl in
     let here = o.each i h in
     goes s o id m.0 r s.homes (WasRead i r) me h here.shows refl (λ q ne. refl) f.0
-    (subst (λ (k : Lane). Shows r (get_elem? s.homes i) k (place_at (places_after o.places o.history) i)) (sym (ap (λ (ls : List Lane). get_or ls i (lane 0 false false)) f.1)) here)
+    (subst (λ (k : Lane). ShowsPlace r (get_elem? s.homes i) k (place_at (places_after o.places o.history) i)) (sym (ap (λ (ls : List Lane). get_or ls i (lane 0 false false)) f.1)) here)
 
 pub loads : (n id : ℕ) (m : SeatState) (i : ℕ) → i < n → Allows BoardRule n id m i (λ y. y) (tells_load (step n i 0 0 none) m)
 loads n id m i h s o wide me small =
@@ -57,7 +57,7 @@ claims n id m i t said h s o wide me fits =
       takes i (Some (Waiting t is.own)),
       is.lies,
       goes s o id m.0 (4 * t + 2) (set s.homes i none) (WasClaimed i t is.own) me in_words is.stands (length-set s.homes i none) (λ q ne. set_else s.homes i q none ne) f.0
-          (subst (Shows (4 * t + 2) (get_elem? (set s.homes i none) i) (lane_at f.0.feeder i)) (sym now)
+          (subst (ShowsPlace (4 * t + 2) (get_elem? (set s.homes i none) i) (lane_at f.0.feeder i)) (sym now)
           (record {
             shows = refl;
             small = is.small;
@@ -69,7 +69,7 @@ claims n id m i t said h s o wide me fits =
         (λ r u e. let same : t ≡ u = omega arith in record {
           job = is.own;
           did = (
-            subst (λ (k : ℕ). Did m.0 w (WasClaimed i k is.own)) same (has_done s o id m.0 (WasClaimed i t is.own) me is.stands),
+            subst (λ (k : ℕ). DidOnce m.0 w (WasClaimed i k is.own)) same (has_done s o id m.0 (WasClaimed i t is.own) me is.stands),
             ap (λ (k : ℕ). (i, Some (Waiting k is.own)) ∷ m.1) same,
           );
           small = let k = is.small in omega arith;
@@ -100,13 +100,13 @@ pub held_now : (s : BoardState) (o : BoardRule s) (id : ℕ) (v : SeatView) (i t
 held_now s o id v i t job me holds =
     let k = o.known id v me in
     let then : place_at (places_after o.places v.history) i ≡ standing t (Claimed id (job_of job)) = rw (sym k.places, sym k.number) holds in
-    let run : IsRun o.places (k.since.0 ++ v.history) = subst (IsRun o.places) k.since.1 o.run in
+    let run : IsHistory o.places (k.since.0 ++ v.history) = subst (IsHistory o.places) k.since.1 o.run in
     ap (λ (l : List Entry). place_at (places_after o.places l) i) k.since.1 ∙ (stays_held o.places id k.since.0 v.history i t (job_of job) run k.since.2 then ∙ ap (λ (j : ℕ). standing t (Claimed j (job_of job))) (sym k.number))
 
 -- its slot isn't at home, and the feeder's lane shows it as out
-held_at : (w t seat : ℕ) (job : SliceJob) (home : maybe.Option (maybe.Option Slot)) (known : Lane) (p : JobPlace) → Shows w home known p → p ≡ standing t (Claimed seat (job_of job)) → (known ≡ lane t true true) × (t ≤ 2 ^ 61)
+held_at : (w t seat : ℕ) (job : SliceJob) (home : maybe.Option (maybe.Option Slot)) (known : Lane) (p : JobPlace) → ShowsPlace w home known p → p ≡ standing t (Claimed seat (job_of job)) → (known ≡ lane t true true) × (t ≤ 2 ^ 61)
 held_at w t seat job home known p at is =
-    let q = subst (Shows w home known) is at in
+    let q = subst (ShowsPlace w home known) is at in
     cases q.is_fetched q.is_known q.lies q.small
   where
     cases : (b : Bool) → known ≡ lane t b true → Lies home b t (Claimed seat (job_of job)) → t ≤ 2 ^ 61 → (known ≡ lane t true true) × (t ≤ 2 ^ 61)
@@ -132,7 +132,7 @@ completes n id v r i t done h holds s o wide me fits =
       gives,
       tt,
       goes s o id v (4 * t + 3) (set s.homes i home) d me in_words stands (length-set s.homes i home) (λ q ne. set_else s.homes i q home ne) f.0
-          (subst (Shows (4 * t + 3) (get_elem? (set s.homes i home) i) (lane_at f.0.feeder i)) (sym now)
+          (subst (ShowsPlace (4 * t + 3) (get_elem? (set s.homes i home) i) (lane_at f.0.feeder i)) (sym now)
           (record {
             shows = refl;
             small = was.1;

@@ -3,7 +3,7 @@ use Rattle.std.specs.Prelude.{◌≡◌, ◌≢◌, ℕ, zero, suc, ◌%◌, ◌
 use Rattle.std.specs.Prelude.{if◌then◌else◌, List, slice_index_or, slice_set, Option}
 use Rattle.std.specs.Prelude.{Result, IfOk, IfErr, OnSome, IfSome, IfNone}
 use Rattle.std.specs.Arc.{arc_value}
-use Rattle.claim_board.specs.Views.{SeatView, Did, lane_at, may_take_a_job}
+use Rattle.claim_board.specs.Views.{SeatView, DidOnce, lane_at, may_take_a_job}
 use Rattle.claim_board.specs.Seats.{feeder_sees, place_count}
 use Rattle.claim_board.specs.declared.feeder.BoardFeeder.{BoardFeeder}
 use Rattle.claim_board.specs.declared.view.Deed.TheVariants.{WasRead, WasPut, WasTaken}
@@ -39,13 +39,13 @@ HasNoFree places v = (place : ℕ) → place < places → may_take_a_job v place
 pub record FoundNot (state place : ℕ) (old new : SeatView) : Type 0 where
   pub word : ℕ
   pub other : word % 4 ≢ state
-  pub read : Did old new (WasRead place word)
+  pub read : DidOnce old new (WasRead place word)
 
 -- ---- what the calls of places do
 
 -- a take: the place is empty again and marked no more, or its own step read a word that isn't done
 pub record HasAsked (old new : BoardFeeder) (place : ℕ) (answer : Option SliceDone) : Type 0 where
-  pub took : IfSome answer (λ done. Did (form_sees old) (form_sees new)
+  pub took : IfSome answer (λ done. DidOnce (form_sees old) (form_sees new)
       (WasTaken place (lane_at (form_sees old) place).serial done))
   pub mark : OnSome answer (left_in new ≡ slice_set (left_in old) place false)
   pub not_yet : IfNone answer (FoundNot 3 place (form_sees old) (form_sees new))
@@ -54,7 +54,7 @@ pub record HasAsked (old new : BoardFeeder) (place : ℕ) (answer : Option Slice
 -- the same for a withdrawal
 pub record HasAskedBack (old new : BoardFeeder) (place : ℕ) (answer : Option SliceJob)
     : Type 0 where
-  pub took : IfSome answer (λ job. Did (form_sees old) (form_sees new)
+  pub took : IfSome answer (λ job. DidOnce (form_sees old) (form_sees new)
       (WasWithdrawn place (lane_at (form_sees old) place).serial job))
   pub mark : OnSome answer (left_in new ≡ slice_set (left_in old) place false)
   pub not_waiting : IfNone answer (FoundNot 1 place (form_sees old) (form_sees new))
@@ -75,7 +75,7 @@ HasAskedBelow (suc place) old new =
 -- a put: the place was the lowest free one, and has the job
 pub record HasPut (asked new : BoardFeeder) (place : ℕ) (job : SliceJob) : Type 0 where
   pub lowest : IsLowestFree (feeder_bound asked) (form_sees asked) place
-  pub put : Did (form_sees asked) (form_sees new) (WasPut place job)
+  pub put : DidOnce (form_sees asked) (form_sees new) (WasPut place job)
   pub left : left_in new ≡ left_in asked
 
 -- an offer: each place that was left was asked; then the lowest free place has the job, if there is

@@ -12,17 +12,17 @@ use Rattle.claim_board.specs.declared.view.Deed.{Deed}
 use Rattle.claim_board.specs.declared.view.Deed.TheVariants.{WasRead, WasFetched, WasPut, WasClaimed}
 use Rattle.claim_board.specs.declared.view.Deed.TheVariants.{WasCompleted, WasTaken, WasWithdrawn}
 
-abbrev pub entry : ℕ → Deed → Entry
-entry seat deed = record { seat = seat; deed = deed }
+abbrev pub entry_of : ℕ → Deed → Entry
+entry_of seat deed = record { seat = seat; deed = deed }
 
-abbrev pub place_of : Deed → ℕ
-place_of (WasRead place word) = place
-place_of (WasFetched place) = place
-place_of (WasPut place job) = place
-place_of (WasClaimed place serial job) = place
-place_of (WasCompleted place serial done) = place
-place_of (WasTaken place serial done) = place
-place_of (WasWithdrawn place serial job) = place
+abbrev pub deed_place : Deed → ℕ
+deed_place (WasRead place word) = place
+deed_place (WasFetched place) = place
+deed_place (WasPut place job) = place
+deed_place (WasClaimed place serial job) = place
+deed_place (WasCompleted place serial done) = place
+deed_place (WasTaken place serial done) = place
+deed_place (WasWithdrawn place serial job) = place
 
 -- ---- a deed as the event of its name
 
@@ -84,17 +84,17 @@ places_after places [] = unused_places places
 places_after places (e ∷ es) = after_deed (places_after places es) e.seat e.deed
 
 -- each of its steps may stand where it does
-abbrev pub IsRun : ℕ → List Entry → Type 0
-IsRun places [] = Unit {0}
-IsRun places (e ∷ es) = MayDo (places_after places es) e.seat e.deed × IsRun places es
+abbrev pub IsHistory : ℕ → List Entry → Type 0
+IsHistory places [] = Unit {0}
+IsHistory places (e ∷ es) = MayDo (places_after places es) e.seat e.deed × IsHistory places es
 
 abbrev pub Each : (Entry → Type 0) → List Entry → Type 0
 Each P [] = Unit {0}
 Each P (e ∷ es) = P e × Each P es
 
 -- a history that goes on from another one, by such steps
-abbrev pub GoesOn : (Entry → Type 0) → List Entry → List Entry → Type 0
-GoesOn P now known = (more : List Entry) × (now ≡ more ++ known) × Each P more
+abbrev pub Continues : (Entry → Type 0) → List Entry → List Entry → Type 0
+Continues P now known = (more : List Entry) × (now ≡ more ++ known) × Each P more
 
 -- another seat's step
 abbrev pub IsOther : ℕ → Entry → Type 0

@@ -12,14 +12,14 @@ use Rattle.claim_board.specs.declared.view.Deed.{Deed}
 use Rattle.claim_board.specs.declared.view.Deed.TheVariants.{WasPut, WasClaimed}
 use Rattle.claim_board.specs.History.{after_deed, event_of}
 use Rattle.claim_board.specs.Rule.{BoardState}
-use Rattle.claim_board.specs.Views.{SeatView, Did}
+use Rattle.claim_board.specs.Views.{SeatView, DidOnce}
 
 -- one seat has made a step; each other view is as it was
 pub record IsStepOf (s t : BoardState) (seat : ℕ) (v : SeatView) (deed : Deed) : Type 0 where
   pub new : SeatView
   pub before : get_elem? s.views seat ≡ some v
   pub behind : t.views ≡ slice_set s.views seat new
-  pub did : Did v new deed
+  pub did : DidOnce v new deed
 
 -- the claims of a place in the round with this serial
 abbrev pub is_claim : ℕ → ℕ → Deed → Bool

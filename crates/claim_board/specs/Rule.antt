@@ -12,7 +12,7 @@ use Rattle.claim_board.specs.declared.view.Lane.{Lane}
 use Rattle.machine_model.specs.Places.{Content, Nothing, Offered, Claimed, Decoded, JobPlace, place_at}
 use Rattle.link_slices.specs.Jobs.{answered, job_of}
 use Rattle.claim_board.specs.Views.{SeatView, lane_at}
-use Rattle.claim_board.specs.History.{word_of, places_after, IsRun, Each, GoesOn, IsOther, IsBelow}
+use Rattle.claim_board.specs.History.{word_of, places_after, IsHistory, Each, Continues, IsOther, IsBelow}
 use Rattle.claim_board.specs.declared.cargo.Cargo.{Cargo}
 use Rattle.claim_board.specs.declared.cargo.Cargo.TheVariants.{Waiting, Finished}
 use Rattle.claim_board.specs.declared.view.Entry.{Entry}
@@ -42,7 +42,7 @@ Lies home false serial Nothing = home ≡ some (some None)
 Lies home false serial content = ⊥
 
 -- a word, a slot and the feeder's lane show a place of the machine
-pub record Shows (word : ℕ) (home : maybe.Option (maybe.Option Slot)) (known : Lane) (p : JobPlace)
+pub record ShowsPlace (word : ℕ) (home : maybe.Option (maybe.Option Slot)) (known : Lane) (p : JobPlace)
     : Type 0 where
   pub shows : word ≡ word_of p
   pub small : p.serial ≤ 2 ^ 61
@@ -54,13 +54,13 @@ pub record Shows (word : ℕ) (home : maybe.Option (maybe.Option Slot)) (known :
 pub record Knows (many seat : ℕ) (history : List Entry) (v : SeatView) : Type 0 where
   pub places : v.places ≡ many
   pub number : v.number ≡ seat
-  pub since : GoesOn (IsOther seat) history v.history
+  pub since : Continues (IsOther seat) history v.history
 
 -- There is one history of all steps. It is a run of the machine, and the table is what it leads to.
 pub record BoardRule (s : BoardState) : Type 0 where
   pub places : ℕ
   pub history : List Entry
-  pub run : IsRun places history
+  pub run : IsHistory places history
   pub seated : Each (IsBelow (length s.views)) history
   pub known : (seat : ℕ) (v : SeatView) → get_elem? s.views seat ≡ some v
       → Knows places seat history v
@@ -71,5 +71,5 @@ pub record BoardRule (s : BoardState) : Type 0 where
   pub wide : length s.homes ≡ length s.words
   pub many : length s.words ≡ places
   pub each : (place : ℕ) → place < length s.words
-      → Shows (slice_index s.words place) (get_elem? s.homes place) (lane_at feeder place)
+      → ShowsPlace (slice_index s.words place) (get_elem? s.homes place) (lane_at feeder place)
       (place_at (places_after places history) place)

@@ -11,7 +11,7 @@ use Rattle.claim_board.specs.declared.view.View.{View}
 use Rattle.claim_board.specs.declared.view.Deed.{Deed}
 use Rattle.claim_board.specs.declared.view.Deed.TheVariants.{WasRead, WasFetched, WasPut, WasClaimed}
 use Rattle.claim_board.specs.declared.view.Deed.TheVariants.{WasCompleted, WasTaken, WasWithdrawn}
-use Rattle.claim_board.specs.History.{entry, places_after, IsRun, GoesOn, IsOther, IsOtherOrRead}
+use Rattle.claim_board.specs.History.{entry_of, places_after, IsHistory, Continues, IsOther, IsOtherOrRead}
 use Rattle.claim_board.specs.History.{standing}
 
 abbrev pub SeatView : Type 0
@@ -79,19 +79,19 @@ worker_view feeder = record {
 -- the view after the seat's step upon a history
 abbrev pub did : SeatView → List Entry → Deed → SeatView
 did v log deed =
-    record v { lanes = lanes_after deed v.lanes; history = entry v.number deed ∷ log }
+    record v { lanes = lanes_after deed v.lanes; history = entry_of v.number deed ∷ log }
 
 -- The seat made this step. The history up to it is a run of the machine, which goes on from the one
 -- that the seat knew by such steps.
 pub record HasDone (between : Entry → Type 0) (old new : SeatView) (deed : Deed) : Type 0 where
   pub log : List Entry
-  pub since : GoesOn between log old.history
-  pub run : IsRun old.places (entry old.number deed ∷ log)
+  pub since : Continues between log old.history
+  pub run : IsHistory old.places (entry_of old.number deed ∷ log)
   pub view : new ≡ did old log deed
 
 -- one step, upon steps of others
-abbrev pub Did : SeatView → SeatView → Deed → Type 0
-Did old new deed = HasDone (IsOther old.number) old new deed
+abbrev pub DidOnce : SeatView → SeatView → Deed → Type 0
+DidOnce old new deed = HasDone (IsOther old.number) old new deed
 
 -- the last step, upon steps of others and words of the place that the seat read
 abbrev pub DidAtLast : ℕ → SeatView → SeatView → Deed → Type 0

@@ -6,3 +6,9 @@ pub(crate) enum Cargo {
     Waiting(u64, SliceJob),
     Finished(u64, SliceDone),
 }
+
+/// The state of a place where a job lies.
+pub(crate) const WAITING: u64 = 1;
+
+/// Where an answer lies.
+pub(crate) const DONE: u64 = 3;

@@ -1,16 +1,17 @@
-ghost use Rattle.std.specs.Prelude.{◌≡◌, ◌≢◌, ℕ, ◌+◌, ◌-◌, ◌%◌, ◌<◌, ◌≤◌, ◌^◌, ◌∷◌, true, false};
+ghost use Rattle.std.specs.Prelude.{◌≡◌, ◌≢◌, ℕ, ◌+◌, ◌-◌, ◌%◌, ◌<◌, ◌≤◌, ◌^◌, ◌∷◌, ◌⊎◌, true, false};
 ghost use Rattle.std.specs.Prelude.{OnOk, OnErr, IfOk, IfErr, cond, ◌==◌, slice_set, vec_len};
 ghost use Rattle.std.specs.VecDeque.{deque_len, deque_capacity};
 ghost use Rattle.claim_board.specs.Views.{lane};
 ghost use Rattle.claim_board.specs.Counts.{occurrences};
-ghost use Rattle.claim_board.specs.Plays.{empty_slots};
+ghost use Rattle.claim_board.specs.Plays.{back_of, empty_slots, lying_state};
 ghost use Rattle.claim_board.specs.Seats.{IsFeederOf, feeder_sees, place_count};
-ghost use Rattle.claim_board.specs.Views.{Did, lane_at};
+ghost use Rattle.claim_board.specs.Views.{DidOnce, lane_at};
 ghost use Rattle.claim_board.specs.Steps.{MayStep, IsSameSeat};
 ghost use Rattle.claim_board.specs.declared.view.Deed.TheVariants.{WasRead, WasPut, WasTaken};
 ghost use Rattle.claim_board.specs.declared.view.Deed.TheVariants.{WasWithdrawn};
 
 use crate::board::Board;
+use crate::cargo::{Cargo, DONE, WAITING};
 use crate::seats::{FeederSeat, Seat};
 use crate::slots::bring;
 use crate::view::Lane;
@@ -33,7 +34,7 @@ impl Board {
         requires empty { (lane_at (feeder_sees f.old) place).is_out ≡ false }
         requires serial { (lane_at (feeder_sees f.old) place).serial < 2 ^ 61 }
         ensures seat { IsFeederOf self.now f.new }
-        ensures did { Did (feeder_sees f.old) (feeder_sees f.new) (WasPut place job) }
+        ensures did { DidOnce (feeder_sees f.old) (feeder_sees f.new) (WasPut place job) }
         ensures out { lane_at (feeder_sees f.new) place
             ≡ lane ((lane_at (feeder_sees f.old) place).serial + 1) true true }
     {
@@ -70,7 +71,7 @@ impl Board {
         requires slots { (seat.old.me.1 ≡ empty_slots order.old.items)
             × (0 < occurrences place order.old.items) }
         ensures id { IsSameSeat seat.old seat.new }
-        ensures did { Did seat.old.me.0 seat.new.me.0 (WasPut place job) }
+        ensures did { DidOnce seat.old.me.0 seat.new.me.0 (WasPut place job) }
         ensures slots { seat.new.me.1 ≡ empty_slots order.new.items }
         ensures order { (q : ℕ)
             → occurrences q order.old.items
@@ -88,29 +89,19 @@ impl Board {
         requires seat { IsFeederOf self.now f.old }
         requires place { place < place_count self.now }
         ensures seat { IsFeederOf self.now f.new }
-        ensures took { IfOk result (λ done. Did (feeder_sees f.old) (feeder_sees f.new)
+        ensures took { IfOk result (λ done. DidOnce (feeder_sees f.old) (feeder_sees f.new)
             (WasTaken place (lane_at (feeder_sees f.old) place).serial done)) }
         ensures empty { OnOk result (lane_at (feeder_sees f.new) place
             ≡ lane (lane_at (feeder_sees f.old) place).serial true false) }
         ensures was_out { OnOk result ((lane_at (feeder_sees f.old) place).is_out ≡ true) }
-        ensures not_yet { IfErr result (λ e. Did (feeder_sees f.old) (feeder_sees f.new)
+        ensures not_yet { IfErr result (λ e. DidOnce (feeder_sees f.old) (feeder_sees f.new)
             (WasRead place e.word) × (e.word % 4 ≢ 3)) }
     {
-        let FeederSeat {
-            seat,
-            bell: _,
-            lanes,
-            order,
-        } = f;
-        let place = place as usize;
-        let serial = lanes[place].serial;
-        let word = self.try_take(seat, place, serial);
-        if word != 4 * serial + 3 {
-            return Err(NotYet { word });
+        match self.take_back(f, place, DONE) {
+            Ok(Cargo::Finished(_, done)) => Ok(done),
+            Ok(Cargo::Waiting(_, _)) => unreachable!(),
+            Err(word) => Err(NotYet { word }),
         }
-        let done = self.open_done(seat, place, serial);
-        returned(lanes, order, place, serial);
-        Ok(done)
     }
 
     /// Takes the job back of a place that waits, which is empty then. The job was stamped with the
@@ -119,13 +110,35 @@ impl Board {
         requires seat { IsFeederOf self.now f.old }
         requires place { place < place_count self.now }
         ensures seat { IsFeederOf self.now f.new }
-        ensures took { IfOk result (λ job. Did (feeder_sees f.old) (feeder_sees f.new)
+        ensures took { IfOk result (λ job. DidOnce (feeder_sees f.old) (feeder_sees f.new)
             (WasWithdrawn place (lane_at (feeder_sees f.old) place).serial job)) }
         ensures empty { OnOk result (lane_at (feeder_sees f.new) place
             ≡ lane (lane_at (feeder_sees f.old) place).serial true false) }
         ensures was_out { OnOk result ((lane_at (feeder_sees f.old) place).is_out ≡ true) }
-        ensures not_waiting { IfErr result (λ e. Did (feeder_sees f.old) (feeder_sees f.new)
+        ensures not_waiting { IfErr result (λ e. DidOnce (feeder_sees f.old) (feeder_sees f.new)
             (WasRead place e.word) × (e.word % 4 ≢ 1)) }
+    {
+        match self.take_back(f, place, WAITING) {
+            Ok(Cargo::Waiting(_, job)) => Ok(job),
+            Ok(Cargo::Finished(_, _)) => unreachable!(),
+            Err(word) => Err(NotWaiting { word }),
+        }
+    }
+
+    // Takes back what lies at a place in this state, which is empty then, or tells its word.
+    fn take_back(&self, f: &mut FeederSeat, place: u32, state: u64) -> Result<Cargo, u64>
+        requires seat { IsFeederOf self.now f.old }
+        requires place { place < place_count self.now }
+        requires lies { (state ≡ 1) ⊎ (state ≡ 3) }
+        ensures seat { IsFeederOf self.now f.new }
+        ensures lay { IfOk result (λ cargo. lying_state cargo ≡ state) }
+        ensures took { IfOk result (λ cargo. DidOnce (feeder_sees f.old) (feeder_sees f.new)
+            (back_of place (lane_at (feeder_sees f.old) place).serial cargo)) }
+        ensures empty { OnOk result (lane_at (feeder_sees f.new) place
+            ≡ lane (lane_at (feeder_sees f.old) place).serial true false) }
+        ensures was_out { OnOk result ((lane_at (feeder_sees f.old) place).is_out ≡ true) }
+        ensures refused { IfErr result (λ word. DidOnce (feeder_sees f.old) (feeder_sees f.new)
+            (WasRead place word) × (word % 4 ≢ state)) }
     {
         let FeederSeat {
             seat,
@@ -135,13 +148,13 @@ impl Board {
         } = f;
         let place = place as usize;
         let serial = lanes[place].serial;
-        let word = self.try_withdraw(seat, place, serial);
-        if word != 4 * serial + 1 {
-            return Err(NotWaiting { word });
+        let word = self.try_take_back(seat, place, serial, state);
+        if word != 4 * serial + state {
+            return Err(word);
         }
-        let job = self.open_job(seat, place, serial);
+        let cargo = self.open(seat, place);
         returned(lanes, order, place, serial);
-        Ok(job)
+        Ok(cargo)
     }
 }
 

@@ -5,7 +5,7 @@ ghost use Rattle.claim_board.specs.declared.cargo.Cargo.TheVariants.{Finished};
 ghost use Rattle.claim_board.specs.declared.view.Deed.{Deed};
 ghost use Rattle.claim_board.specs.declared.view.Deed.TheVariants.{WasRead, WasTaken};
 ghost use Rattle.claim_board.specs.declared.view.Entry.{Entry};
-ghost use Rattle.claim_board.specs.History.{after_deed, entry, places_after, word_of, IsRun, MayDo};
+ghost use Rattle.claim_board.specs.History.{after_deed, entry_of, places_after, word_of, IsHistory, MayDo};
 ghost use Rattle.claim_board.specs.Laws.{claims_in, IsItsEvent, IsOfFeeder, IsStepOf};
 ghost use Rattle.claim_board.specs.Rule.{BoardRule, BoardState};
 ghost use Rattle.claim_board.specs.Views.{SeatView};
@@ -20,7 +20,7 @@ ghost use Rattle.vc_slice.specs.declared.done.SliceDone.{SliceDone};
 pub fn each_step_is_the_last()
     ensures last { (s t : BoardState) (old : BoardRule s) (new : BoardRule t) (seat : ℕ)
         (v : SeatView) (deed : Deed) → IsStepOf s t seat v deed
-        → new.history ≡ entry v.number deed ∷ old.history }
+        → new.history ≡ entry_of v.number deed ∷ old.history }
     ensures may { (s t : BoardState) (old : BoardRule s) (new : BoardRule t) (seat : ℕ)
         (v : SeatView) (deed : Deed) → IsStepOf s t seat v deed
         → MayDo (places_after old.places old.history) v.number deed }
@@ -40,7 +40,7 @@ pub fn each_step_is_the_last()
 
 /// In a history each round of a place has one claim at most.
 pub fn each_round_has_one_claim()
-    ensures { (places place serial : ℕ) (history : List Entry) → IsRun places history
+    ensures { (places place serial : ℕ) (history : List Entry) → IsHistory places history
         → claims_in place serial history ≤ 1 }
 {}
 

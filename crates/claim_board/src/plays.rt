@@ -1,7 +1,7 @@
 ghost use Rattle.claim_board.specs.Views.{first_view, with_seat, worker_view};
 ghost use Rattle.claim_board.specs.Rule.{BoardRule};
 ghost use Rattle.claim_board.specs.Plays.{tells_load, tells_put, tells_claim, tells_complete};
-ghost use Rattle.claim_board.specs.Plays.{tells_take, tells_withdraw, tells_fetch};
+ghost use Rattle.claim_board.specs.Plays.{tells_back, tells_fetch};
 
 use crate::cargo::Cargo;
 use crate::view::View;
@@ -40,16 +40,10 @@ impl Play<Option<Cargo>, View> for Complete {
     ghost then = { tells_complete };
 }
 
-pub(crate) struct Take;
+pub(crate) struct TakeBack;
 
-impl Play<Option<Cargo>, View> for Take {
-    ghost then = { tells_take };
-}
-
-pub(crate) struct Withdraw;
-
-impl Play<Option<Cargo>, View> for Withdraw {
-    ghost then = { tells_withdraw };
+impl Play<Option<Cargo>, View> for TakeBack {
+    ghost then = { tells_back };
 }
 
 pub(crate) struct Fetch;

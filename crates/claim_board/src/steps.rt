@@ -1,10 +1,10 @@
 ghost use Rattle.std.specs.Prelude.{◌≡◌, ◌≢◌, ◌+◌, ◌-◌, ◌*◌, ◌%◌, ◌/◌, ◌<◌, ◌≤◌, ◌^◌, true};
-ghost use Rattle.std.specs.Prelude.{false, [], ◌∷◌, Some, None};
+ghost use Rattle.std.specs.Prelude.{false, [], ◌∷◌, ◌⊎◌, Some, None};
 ghost use Rattle.atomic_table.specs.Table.{rest};
 ghost use Rattle.claim_board.specs.Views.{lane};
-ghost use Rattle.vc_slice.specs.declared.done.SliceDone.{SliceDone};
 ghost use Rattle.vc_slice.specs.declared.job.SliceJob.{SliceJob};
-ghost use Rattle.claim_board.specs.Plays.{Steps, HasClaimed, HasTaken, HasWithdrawn};
+ghost use Rattle.claim_board.specs.Plays.{StepsLeaving, HasClaimed, HasTakenBack};
+ghost use Rattle.claim_board.specs.declared.cargo.Cargo.{Cargo};
 ghost use Rattle.claim_board.specs.declared.cargo.Cargo.TheVariants.{Waiting, Finished};
 ghost use Rattle.claim_board.specs.declared.view.Deed.TheVariants.{WasRead, WasFetched, WasPut};
 ghost use Rattle.claim_board.specs.declared.view.Deed.TheVariants.{WasCompleted};
@@ -13,7 +13,7 @@ ghost use Rattle.claim_board.specs.Views.{Holds, lane_at, with_seat, worker_view
 
 use crate::board::Board;
 use crate::cargo::Cargo;
-use crate::plays::{Claim, Complete, Fetch, Hire, Load, Put, Take, Withdraw};
+use crate::plays::{Claim, Complete, Fetch, Hire, Load, Put, TakeBack};
 use crate::seats::Seat;
 use vc_slice::{SliceDone, SliceJob};
 
@@ -22,7 +22,7 @@ impl Board {
     pub(crate) fn look(&self, seat: &mut Seat, place: usize) -> u64
         requires { MayStep self.now seat.old place }
         ensures id { IsSameSeat seat.old seat.new }
-        ensures view { Steps seat.old.me seat.new.me (WasRead place result) seat.old.me.1 }
+        ensures view { StepsLeaving seat.old.me seat.new.me (WasRead place result) seat.old.me.1 }
     {
         self.table.shared.load::<Load>(seat, place)
     }
@@ -33,41 +33,35 @@ impl Board {
         ensures id { IsSameSeat seat.old seat.new }
         ensures won { result ≡ word → HasClaimed place (word / 4) seat.old.me seat.new.me }
         ensures lost { result ≢ word
-            → Steps seat.old.me seat.new.me (WasRead place result) seat.old.me.1 }
+            → StepsLeaving seat.old.me seat.new.me (WasRead place result) seat.old.me.1 }
     {
         self.table
             .shared
             .compare_exchange::<Claim>(seat, place, word, word + 1)
     }
 
-    pub(crate) fn try_take(&self, seat: &mut Seat, place: usize, serial: u64) -> u64
+    // Takes back what lies at a place in this state. The word that was found is this one then.
+    pub(crate) fn try_take_back(
+        &self,
+        seat: &mut Seat,
+        place: usize,
+        serial: u64,
+        state: u64,
+    ) -> u64
         requires table { MayStep self.now seat.old place }
         requires feeder { (seat.old.me.0.number ≡ 0)
             × ((lane_at seat.old.me.0 place).serial ≡ serial) × (serial ≤ 2 ^ 61) }
+        requires lies { (state ≡ 1) ⊎ (state ≡ 3) }
         ensures id { IsSameSeat seat.old seat.new }
-        ensures won { result ≡ 4 * serial + 3 → HasTaken place serial seat.old.me seat.new.me }
-        ensures lost { result ≢ 4 * serial + 3
-            → Steps seat.old.me seat.new.me (WasRead place result) seat.old.me.1
-            × (result % 4 ≢ 3) }
+        ensures won { result ≡ 4 * serial + state
+            → HasTakenBack place serial state seat.old.me seat.new.me }
+        ensures lost { result ≢ 4 * serial + state
+            → StepsLeaving seat.old.me seat.new.me (WasRead place result) seat.old.me.1
+            × (result % 4 ≢ state) }
     {
         self.table
             .shared
-            .compare_exchange::<Take>(seat, place, 4 * serial + 3, 4 * serial)
-    }
-
-    pub(crate) fn try_withdraw(&self, seat: &mut Seat, place: usize, serial: u64) -> u64
-        requires table { MayStep self.now seat.old place }
-        requires feeder { (seat.old.me.0.number ≡ 0)
-            × ((lane_at seat.old.me.0 place).serial ≡ serial) × (serial ≤ 2 ^ 61) }
-        ensures id { IsSameSeat seat.old seat.new }
-        ensures won { result ≡ 4 * serial + 1 → HasWithdrawn place serial seat.old.me seat.new.me }
-        ensures lost { result ≢ 4 * serial + 1
-            → Steps seat.old.me seat.new.me (WasRead place result) seat.old.me.1
-            × (result % 4 ≢ 1) }
-    {
-        self.table
-            .shared
-            .compare_exchange::<Withdraw>(seat, place, 4 * serial + 1, 4 * serial)
+            .compare_exchange::<TakeBack>(seat, place, 4 * serial + state, 4 * serial)
     }
 
     // The slot taken last has a job.
@@ -86,19 +80,18 @@ impl Board {
         }
     }
 
-    // The slot taken last has an answer.
-    pub(crate) fn open_done(&self, seat: &mut Seat, place: usize, serial: u64) -> SliceDone
+    // What the slot taken last has.
+    pub(crate) fn open(&self, seat: &mut Seat, place: usize) -> Cargo
         requires table { seat.old.table_id ≡ self.now.table.shared.table_id }
-        requires slot { (done : SliceDone)
-            × (seat.old.me.1 ≡ (place, Some (Finished serial done)) ∷ rest seat.old.me.1) }
+        requires slot { (cargo : Cargo)
+            × (seat.old.me.1 ≡ (place, Some cargo) ∷ rest seat.old.me.1) }
         ensures id { IsSameSeat seat.old seat.new }
-        ensures stamped { seat.old.me.1
-            ≡ (place, Some (Finished serial result)) ∷ rest seat.old.me.1 }
+        ensures cargo { seat.old.me.1 ≡ (place, Some result) ∷ rest seat.old.me.1 }
         ensures slot { seat.new.me ≡ (seat.old.me.0, (place, None) ∷ rest seat.old.me.1) }
     {
         match self.table.shared.exchange(seat, place, None) {
-            Some(Cargo::Finished(_, done)) => done,
-            _ => unreachable!(),
+            Some(cargo) => cargo,
+            None => unreachable!(),
         }
     }
 
@@ -110,7 +103,7 @@ impl Board {
             × (0 < serial) × (serial ≤ 2 ^ 61) }
         requires slot { seat.old.me.1 ≡ (place, None) ∷ rest seat.old.me.1 }
         ensures id { IsSameSeat seat.old seat.new }
-        ensures view { Steps seat.old.me seat.new.me (WasPut place job) (rest seat.old.me.1) }
+        ensures view { StepsLeaving seat.old.me seat.new.me (WasPut place job) (rest seat.old.me.1) }
     {
         let _none = self
             .table
@@ -125,7 +118,7 @@ impl Board {
         requires holds { Holds seat.old.me.0 place serial done.job × (serial ≤ 2 ^ 61) }
         requires slot { seat.old.me.1 ≡ (place, None) ∷ rest seat.old.me.1 }
         ensures id { IsSameSeat seat.old seat.new }
-        ensures view { Steps seat.old.me seat.new.me (WasCompleted place serial done)
+        ensures view { StepsLeaving seat.old.me seat.new.me (WasCompleted place serial done)
             (rest seat.old.me.1) }
     {
         let _none = self
@@ -142,7 +135,7 @@ impl Board {
         requires feeder { (seat.old.me.0.number ≡ 0)
             × (lane_at seat.old.me.0 place ≡ lane 0 false false) }
         ensures id { IsSameSeat seat.old seat.new }
-        ensures view { Steps seat.old.me seat.new.me (WasFetched place)
+        ensures view { StepsLeaving seat.old.me seat.new.me (WasFetched place)
             ((place, None) ∷ seat.old.me.1) }
     {
         self.table.shared.load::<Fetch>(seat, place);

@@ -5,7 +5,7 @@ ghost use Rattle.claim_board.specs.Counts.{occurrences};
 ghost use Rattle.claim_board.specs.Plays.{empty_slots};
 ghost use Rattle.claim_board.specs.Seats.{IsWorkerOf, place_count, worker_sees};
 ghost use Rattle.claim_board.specs.Steps.{MayStep, IsSameSeat};
-ghost use Rattle.claim_board.specs.Views.{Did, DidAtLast, Holds};
+ghost use Rattle.claim_board.specs.Views.{DidOnce, DidAtLast, Holds};
 ghost use Rattle.claim_board.specs.declared.view.Deed.TheVariants.{WasRead, WasClaimed};
 ghost use Rattle.claim_board.specs.declared.view.Deed.TheVariants.{WasCompleted};
 
@@ -95,7 +95,7 @@ impl Board {
         requires held { Holds (worker_sees s.old) h.place h.serial h.job }
         requires job { done.job ≡ h.job }
         ensures seat { IsWorkerOf self.now s.new }
-        ensures did { Did (worker_sees s.old) (worker_sees s.new)
+        ensures did { DidOnce (worker_sees s.old) (worker_sees s.new)
             (WasCompleted h.place h.serial done) }
     {
         let HeldPlace {
@@ -124,7 +124,7 @@ impl Board {
         requires slots { (seat.old.me.1 ≡ empty_slots order.old.items)
             × (0 < occurrences place order.old.items) }
         ensures id { IsSameSeat seat.old seat.new }
-        ensures did { Did seat.old.me.0 seat.new.me.0 (WasCompleted place serial done) }
+        ensures did { DidOnce seat.old.me.0 seat.new.me.0 (WasCompleted place serial done) }
         ensures slots { seat.new.me.1 ≡ empty_slots order.new.items }
         ensures order { (q : ℕ)
             → occurrences q order.old.items

@@ -1,17 +1,17 @@
-ghost use Rattle.std.specs.Prelude.{◌≡◌, ◌≤◌, ◌<◌, ◌+◌, ◌*◌, [], ◌∷◌, ◌++◌, All, OnOk, length, ℕ, List};
-ghost use Rattle.link_model.specs.Sending.{runs_of_slices};
-ghost use Rattle.link_model.specs.SendingPictures.{slice_room};
-ghost use Rattle.link_sender.specs.declared.outbox.Outbox.{Outbox};
-ghost use Rattle.link_sender.specs.Packing.{ArePacked, EndsBefore, HasSlices, IsPlace, Sends, picture_at, run_of, runs_outgoing};
-ghost use Rattle.picture_encode.specs.Encoded.{IsSized, slice_bytes};
-ghost use Rattle.vc_types.specs.SenderSettings.{sending_view};
+ghost use Rattle.std.specs.Prelude.{◌≡◌, ◌≤◌, ◌<◌, ◌+◌, ◌*◌, [], ◌∷◌, ◌++◌, None, OnOk, length, map, ℕ, List};
+ghost use Rattle.link_model.specs.Sending.{SlicesContent, runs_of_slices};
+ghost use Rattle.stream_model.specs.Packing.{AreAllSlices, first_large_slice, slices_in, slices_room};
+ghost use Rattle.link_sender.specs.declared.pack_outbox.Outbox.{Outbox};
+ghost use Rattle.link_sender.specs.Puts.{PutsDatagrams};
+ghost use Rattle.link_sender.specs.Runs.{EndsRun, HoldsSlices, PacksSlices, run_with_slices};
+ghost use Rattle.vc_types.specs.SenderSettings.{packing_view};
+ghost use Rattle.vc_types.specs.Subbands.{slice_count};
+ghost use Rattle.vc_types.specs.TransformParameters.{parameters_of};
 
-use crate::outbox::Outbox;
-use crate::place::PicturePlace;
-use crate::sender::HEADS;
-use picture_encode::EncodedSlice;
-use std::alloc::Global;
-use vc_types::{NoMemory, SendSettings};
+use crate::pack_outbox::Outbox;
+use crate::parts::{SLICES_HEADS, next_slice};
+use crate::picture::Picture;
+use vc_types::NoMemory;
 use vc2_payload::Payload;
 
 /// Whole slices one behind another, which go into one datagram: the number of the first, how many,
@@ -24,97 +24,77 @@ pub(crate) struct OpenRun {
 }
 
 impl Outbox {
-    /// Puts a picture's slices, of which each fits a datagram: into each datagram as many whole
-    /// ones as it has room for.
-    pub(crate) fn put_slices(
-        &mut self,
-        alloc: Global,
-        s: &SendSettings,
-        place: &PicturePlace,
-        slices: &[EncodedSlice],
-    ) -> Result<(), NoMemory>
-        requires place { IsPlace (sending_view s.now) place.now }
-        requires some { 1 ≤ length slices.now }
-        requires count { length slices.now ≡ s.now.slices_x * s.now.slices_y }
-        requires sized { All (IsSized (sending_view s.now)) (slice_bytes slices.now) }
-        ensures { OnOk result (Sends (sending_view s.now)
-            (runs_outgoing (picture_at (sending_view s.now) place.now)
-            (runs_of_slices (slice_room (sending_view s.now)) (slice_bytes slices.now)))
+    /// Puts a picture's slices, of which each has room in a datagram: into each datagram as many
+    /// whole ones as it has room for.
+    pub(crate) fn put_slices(&mut self, p: &Picture<'_>) -> Result<(), NoMemory>
+        requires whole { AreAllSlices (parameters_of p.now.plan.now) p.now.slices.now }
+        requires fits { first_large_slice (slices_room (packing_view p.now.settings)) 0
+            (slices_in (parameters_of p.now.plan.now) p.now.slices.now) ≡ None }
+        ensures { OnOk result (PutsDatagrams p.now
+            (map SlicesContent (runs_of_slices (slices_room (packing_view p.now.settings))
+            (slices_in (parameters_of p.now.plan.now) p.now.slices.now)))
             self.old self.new) }
     {
         let mut run = OpenRun {
             first: 0,
             count: 0,
-            body: Vec::new(alloc),
+            body: Vec::new(self.alloc),
         };
-        for slice in slices {
-            self.pack(alloc, s, place, &mut run, slice)?;
+        let mut rest = p.slices;
+        for _slice in 0..p.plan.slices_x * p.plan.slices_y {
+            let (slice, behind) = next_slice(p.plan, rest);
+            self.pack(p, &mut run, slice)?;
+            rest = behind;
         }
-        self.put_run(alloc, s, place, &run)
+        self.put_run(p, &run)
     }
 
     // Adds a slice to the open run. If there is no room for it, the run is put, and the slice
     // begins another.
-    fn pack(
-        &mut self,
-        alloc: Global,
-        s: &SendSettings,
-        place: &PicturePlace,
-        run: &mut OpenRun,
-        slice: &EncodedSlice,
-    ) -> Result<(), NoMemory>
-        requires place { IsPlace (sending_view s.now) place.now }
-        requires run { EndsBefore (sending_view s.now) (run.old.first + run.old.count) run.old }
-        requires behind { run.old.first + run.old.count < s.now.slices_x * s.now.slices_y }
-        requires sized { IsSized (sending_view s.now) slice.now.bytes.items }
-        ensures run { OnOk result (EndsBefore (sending_view s.now)
+    fn pack(&mut self, p: &Picture<'_>, run: &mut OpenRun, slice: &[u8]) -> Result<(), NoMemory>
+        requires run { EndsRun (packing_view p.now.settings) (run.old.first + run.old.count)
+            run.old }
+        requires behind { run.old.first + run.old.count
+            < slice_count (parameters_of p.now.plan.now) }
+        requires some { 1 ≤ length slice.now }
+        requires fits { length slice.now ≤ slices_room (packing_view p.now.settings) }
+        ensures run { OnOk result (EndsRun (packing_view p.now.settings)
             (run.old.first + run.old.count + 1) run.new) }
         ensures packed { OnOk result ((slices : List (List ℕ)) (first : Outbox)
-            → ArePacked (sending_view s.now) (picture_at (sending_view s.now) place.now)
-            slices first self.old run.old
-            → ArePacked (sending_view s.now) (picture_at (sending_view s.now) place.now)
-            (slices ++ slice.now.bytes.items ∷ []) first self.new run.new) }
+            → PacksSlices p.now slices first self.old run.old
+            → PacksSlices p.now (slices ++ slice.now ∷ []) first self.new run.new) }
     {
-        let room = (s.size - HEADS) as usize;
-        if run.body.len() + slice.bytes.len() > room {
-            self.put_run(alloc, s, place, run)?;
+        let room = p.settings.size as usize - SLICES_HEADS;
+        if run.body.len() + slice.len() > room {
+            self.put_run(p, run)?;
             run.first += run.count;
             run.count = 0;
             run.body.clear();
         }
-        run.body.extend_from_slice(&slice.bytes)?;
+        run.body.extend_from_slice(slice)?;
         run.count += 1;
         Ok(())
     }
 
     // Puts a run of slices. The marker is set exactly where the picture's last slice is in it.
-    fn put_run(
-        &mut self,
-        alloc: Global,
-        s: &SendSettings,
-        place: &PicturePlace,
-        run: &OpenRun,
-    ) -> Result<(), NoMemory>
-        requires place { IsPlace (sending_view s.now) place.now }
+    fn put_run(&mut self, p: &Picture<'_>, run: &OpenRun) -> Result<(), NoMemory>
         requires some { 1 ≤ run.now.count }
-        requires end { run.now.first + run.now.count ≤ s.now.slices_x * s.now.slices_y }
-        requires body { 4 * run.now.count ≤ length run.now.body.items }
-        requires fits { length run.now.body.items + 32 ≤ s.now.size }
-        ensures { OnOk result ((slices : List (List ℕ)) → HasSlices run.now slices
-            → Sends (sending_view s.now)
-            (runs_outgoing (picture_at (sending_view s.now) place.now)
-            (run_of run.now slices ∷ []))
+        requires end { run.now.first + run.now.count ≤ slice_count (parameters_of p.now.plan.now) }
+        requires body { run.now.count ≤ length run.now.body.items }
+        requires fits { length run.now.body.items + 32 ≤ p.now.settings.size }
+        ensures { OnOk result ((slices : List (List ℕ)) → HoldsSlices run.now slices
+            → PutsDatagrams p.now (SlicesContent (run_with_slices run.now slices) ∷ [])
             self.old self.new) }
     {
         let payload = Payload::Slices {
-            head: self.fragment_head(s, place),
+            head: self.fragment_head(p),
             count: run.count as u16,
-            x: (run.first % s.slices_x) as u16,
-            y: (run.first / s.slices_x) as u16,
+            x: (run.first % p.plan.slices_x) as u16,
+            y: (run.first / p.plan.slices_x) as u16,
             from: 20,
             body: &run.body,
         };
-        let is_last = run.first + run.count == s.slices_x * s.slices_y;
-        self.put(alloc, s, place, is_last, &payload)
+        let is_last = run.first + run.count == p.plan.slices_x * p.plan.slices_y;
+        self.put(p, is_last, &payload)
     }
 }

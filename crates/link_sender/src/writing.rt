@@ -1,34 +1,34 @@
 ghost use Rattle.std.specs.Prelude.{◌≡◌, ◌≤◌, ◌+◌, IfOk, length};
 ghost use Rattle.link_model.specs.Packets.{payload_bytes};
-ghost use Rattle.link_model.specs.Sending.{high_half};
+ghost use Rattle.stream_model.specs.Packing.{datagram_around};
 ghost use Rattle.vc2_payload.specs.Views.{CanBeWritten, payload_value};
-ghost use Rattle.link_sender.specs.Packing.{datagram_with};
-ghost use Rattle.vc_types.specs.SenderSettings.{sending_view};
+ghost use Rattle.vc_types.specs.SenderSettings.{packing_view};
 
-use crate::datagram::Datagram;
+use crate::Datagram;
 use rtp_head::{RtpView, write_rtp};
 use std::alloc::Global;
-use vc_types::{NoMemory, SendSettings};
+use vc_types::{NoMemory, PackSettings};
 use vc2_payload::{Payload, write_payload};
 
 /// The datagram of a payload, by its extended sequence number.
+#[tactic(auto, unfolding(stream_model::specs::Packing::datagram_around))]
 pub(crate) fn write_datagram(
     alloc: Global,
-    s: &SendSettings,
-    number: u32,
+    s: &PackSettings,
+    sequence: u32,
     timestamp: u32,
     marker: bool,
     payload: &Payload<'_>,
 ) -> Result<Datagram, NoMemory>
     requires payload { CanBeWritten payload.now }
     requires fits { length (payload_bytes (payload_value payload.now)) + 12 ≤ 65507 }
-    ensures { IfOk result (λ d. d.bytes.items ≡ datagram_with (sending_view s.now) number timestamp
-        marker (payload_value payload.now)) }
+    ensures { IfOk result (λ d. d.bytes.items ≡ datagram_around (packing_view s.now) sequence
+        timestamp marker (payload_value payload.now)) }
 {
     let view = RtpView {
         marker,
         payload_type: s.pt,
-        sequence: (number & 0xffff) as u16,
+        sequence: (sequence & 0xffff) as u16,
         timestamp,
         ssrc: s.ssrc,
         from: 12,
@@ -39,11 +39,4 @@ pub(crate) fn write_datagram(
     let mut bytes = Vec::from_slice(alloc, &head)?;
     write_payload(&mut bytes, payload)?;
     Ok(Datagram { bytes })
-}
-
-/// The upper half of an extended sequence number.
-pub(crate) fn high_half(number: u32) -> u16
-    ensures { result ≡ high_half number }
-{
-    (number >> 16) as u16
 }

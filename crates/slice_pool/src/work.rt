@@ -1,6 +1,6 @@
 ghost use Rattle.std.specs.Prelude.{◌≡◌, ◌<◌, ◌≤◌, IfSome, OnOk};
 ghost use Rattle.claim_board.specs.Seats.{IsWorkerOf, place_count, worker_sees};
-ghost use Rattle.claim_board.specs.Views.{Did};
+ghost use Rattle.claim_board.specs.Views.{DidOnce};
 ghost use Rattle.claim_board.specs.declared.view.Deed.TheVariants.{WasCompleted};
 ghost use Rattle.vc_slice.specs.declared.done.SliceDone.{SliceDone};
 ghost use Rattle.slice_pool.specs.Holding.{IsHeldBy};
@@ -85,7 +85,7 @@ fn answer(
     requires held { IsHeldBy board.now seat.old held }
     ensures seat { IsWorkerOf board.now seat.new }
     ensures completed { OnOk result ((done : SliceDone) × (done.job ≡ held.job)
-        × Did (worker_sees seat.old) (worker_sees seat.new)
+        × DidOnce (worker_sees seat.old) (worker_sees seat.new)
         (WasCompleted held.place held.serial done)) }
 {
     let done = decode(alloc, held.job.copy()?)?;

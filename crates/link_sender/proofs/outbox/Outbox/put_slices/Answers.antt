@@ -1,60 +1,108 @@
-use Rattle.std.proofs.Common.{◌+◌, ◌<◌, ◌≤◌, ◌^◌, List, ℕ, length, take, refl, sym, ap, subst, arith}
-use Rattle.std.proofs.lemmas.List.{length-map, take_all}
-use Rattle.std.proofs.lemmas.List.Elements.{All-get_or}
-use Rattle.picture_encode.specs.declared.slices.EncodedSlice.{EncodedSlice}
-use Rattle.picture_encode.specs.Encoded.{IsSized, slice_bytes}
-use Rattle.vc_types.specs.SenderSettings.{sending_view}
-use Rattle.link_sender.specs.Packing.{ArePacked, EndsBefore, picture_at}
+use Rattle.std.proofs.Common.{◌≡◌, ◌+◌, ◌-◌, ◌<◌, ◌≤◌, ◌^◌, ◌++◌, [], ◌∷◌, List, ℕ, length, refl, sym, ap, subst, ◌∙◌, arith, rules, append_assoc}
+use Rattle.std.proofs.lemmas.List.{append-nil}
+use Rattle.std.proofs.lemmas.Grind.{common_steps}
+use Rattle.link_model.specs.Kept.{next_slices}
+use Rattle.link_model.proofs.Slots.{next_slices-count}
+use Rattle.stream_model.specs.Packing.{first_large_slice, slices_in, slices_room}
+use Rattle.link_sender.specs.Runs.{EndsRun, PacksSlices}
+use Rattle.link_sender.proofs.Cutting.{cut_off_front, none_is_left, one_is_there, some_bytes}
 use Rattle.link_sender.proofs.Numbered.{then_ok}
-use Rattle.link_sender.proofs.Packed.{none_packed}
-use Rattle.link_sender.proofs.PutPictures.{next_slice, own_bytes, whole_packed}
+use Rattle.link_sender.proofs.PutPictures.{some_slices}
 use Rattle.link_sender.proofs.PayloadLengths.{some_room}
-use Rattle.link_sender.proofs.outbox.Outbox.put_slices.Goals as goal
+use Rattle.link_sender.proofs.Rooms.{first_fits}
+use Rattle.link_sender.proofs.RunsPut.{none_packed, whole_packed}
+use Rattle.vc_types.specs.SenderSettings.{packing_view}
+use Rattle.vc_types.specs.Subbands.{slice_count}
+use Rattle.vc_types.specs.TransformParameters.{parameters_of}
+use Rattle.link_sender.proofs.pack_outbox.Outbox.put_slices.Goals as goal
 
 pub loop-slice-init : goal.loop-slice-init
 loop-slice-init c =
-    let s = sending_view c.args.s.now in
-    let room = some_room c.args.s.now.size c.args.s.now.size_fits in
+    let picture = c.args.p.now in
+    let p = parameters_of picture.plan.now in
+    let same : slice_count p - 0 ≡ slice_count p = omega arith in
+    let room = some_room picture.settings.size picture.settings.size_fits in
     let none = ap (λ (l : List ℕ). length l) c.new.ensures.items in
-    let small : c.args.self.now.number < 2 ^ 32 = omega arith in
-    record {
-      run = record { end = refl; some = λ h. absurd (omega (arith, h)); empty = λ h. none; body = omega arith; fits = omega (arith, room, none) };
-      packed = none_packed s (picture_at s c.args.place.now) c.args.self.now (record { first = 0; count = 0; body = c.new.result }) small refl refl c.new.ensures.items;
-    }
+    let small : c.args.self.now.sequence < 2 ^ 32 = omega arith in (
+      [],
+      slices_in p picture.slices.now,
+      refl,
+      ap (λ n. next_slices p n picture.slices.now) same ∙ c.requires.whole,
+      c.requires.fits,
+      record { end = refl; some = λ h. absurd (omega (arith, h)); empty = λ h. none; body = omega arith; fits = omega (arith, room, none) },
+      none_packed picture c.args.self.now (record { first = 0; count = 0; body = c.new.result }) small refl refl c.new.ensures.items,
+    )
 
-pub pack-requires-clause-sized : goal.pack-requires-clause-sized
-pack-requires-clause-sized c =
-    let s = sending_view c.args.s.now in
-    let slices = c.args.slices.now in
-    let item = c.slice-item.result in
-    let inside : c.loop-slice.slice-index < length slices = omega arith in
-    let long = length-map slices (λ (e : EncodedSlice). e.bytes.items) in
-    subst (λ (l : List ℕ). IsSized s l) (own_bytes slices c.loop-slice.slice-index item inside c.slice-item.is)
-    (All-get_or (IsSized s) (slice_bytes slices) c.loop-slice.slice-index item.bytes.items (omega (arith, inside, long)) c.requires.sized)
+pub next_slice-requires : goal.next_slice-requires
+next_slice-requires c =
+    let p = parameters_of c.args.p.now.plan.now in
+    let n = slice_count p in
+    let at = c.loop-slice.invariant in
+    one_is_there p (n - c.loop-slice._slice) (n - (c.loop-slice._slice + 1)) c.loop-slice.rest.now at.1 (omega (arith, c.loop-slice-test.true)) at.3
+
+pub pack-requires-clause-run : goal.pack-requires-clause-run
+pack-requires-clause-run c = grind (arith, common_steps)
+
+pub pack-requires-clause-behind : goal.pack-requires-clause-behind
+pack-requires-clause-behind c = omega (arith, c.loop-slice.invariant.5.end, c.loop-slice-test.true)
+
+pub pack-requires-clause-some : goal.pack-requires-clause-some
+pack-requires-clause-some c = some_bytes (parameters_of c.args.p.now.plan.now) c.loop-slice.rest.now c.next_slice.result.0.now c.next_slice.result.1.now c.next_slice.ensures
+
+pub pack-requires-clause-fits : goal.pack-requires-clause-fits
+pack-requires-clause-fits c =
+    let p = parameters_of c.args.p.now.plan.now in
+    let n = slice_count p in
+    let i = c.loop-slice._slice in
+    let at = c.loop-slice.invariant in
+    let one = cut_off_front p (n - i) (n - (i + 1)) c.loop-slice.rest.now c.next_slice.result.0.now c.next_slice.result.1.now at.1 (omega (arith, c.loop-slice-test.true)) at.3 c.next_slice.ensures in
+    let room = slices_room (packing_view c.args.p.now.settings) in
+    (first_fits room i c.next_slice.result.0.now one.0 (ap (first_large_slice room i) (sym one.2) ∙ at.4)).0
 
 pub loop-slice-preserved : goal.loop-slice-preserved
 loop-slice-preserved c =
-    let s = sending_view c.args.s.now in
-    let picture = picture_at s c.args.place.now in
-    let slices = c.args.slices.now in
-    let i = c.loop-slice.slice-index in
-    let item = c.slice-item.result in
-    let inside : i < length slices = omega arith in
-    record {
-      run = subst (λ (n : ℕ). EndsBefore s n c.pack.new.run) (ap (λ n. n + 1) c.loop-slice.invariant.run.end) c.in_ok-pack.ensures.run;
-      packed =
-          subst (λ (l : List (List ℕ)). ArePacked s picture l c.args.self.now c.pack.new.self c.pack.new.run) (sym (next_slice slices i item inside c.slice-item.is))
-          (c.in_ok-pack.ensures.packed (take i (slice_bytes slices)) c.args.self.now c.loop-slice.invariant.packed);
-    }
+    let picture = c.args.p.now in
+    let p = parameters_of picture.plan.now in
+    let n = slice_count p in
+    let i = c.loop-slice._slice in
+    let at = c.loop-slice.invariant in
+    let slice = c.next_slice.result.0.now in
+    let one = cut_off_front p (n - i) (n - (i + 1)) c.loop-slice.rest.now slice c.next_slice.result.1.now at.1 (omega (arith, c.loop-slice-test.true)) at.3 c.next_slice.ensures in
+    let room = slices_room (packing_view picture.settings) in
+    let ends = at.5 in (
+      at.0 ++ slice ∷ [],
+      one.0,
+      at.2 ∙ ap (λ l. at.0 ++ l) one.2 ∙ sym (append_assoc at.0 (slice ∷ []) one.0),
+      one.1,
+      (first_fits room i slice one.0 (ap (first_large_slice room i) (sym one.2) ∙ at.4)).1,
+      subst (λ (k : ℕ). EndsRun (packing_view picture.settings) k c.pack.new.run) (ap (λ k. k + 1) ends.end) c.in_ok-pack.ensures.run,
+      c.in_ok-pack.ensures.packed at.0 c.args.self.now at.6,
+    )
+
+pub put_run-requires-clause-some : goal.put_run-requires-clause-some
+put_run-requires-clause-some c = grind (arith, common_steps, some_slices)
+
+pub put_run-requires-clause-end : goal.put_run-requires-clause-end
+put_run-requires-clause-end c =
+    let ends = c.loop-slice.invariant.5 in
+    omega (arith, ends.end)
+
+pub put_run-requires-clause-body : goal.put_run-requires-clause-body
+put_run-requires-clause-body c = c.loop-slice.invariant.5.body
+
+pub put_run-requires-clause-fits : goal.put_run-requires-clause-fits
+put_run-requires-clause-fits c = c.loop-slice.invariant.5.fits
 
 pub returns : goal.returns
 returns c =
-    let s = sending_view c.args.s.now in
-    let picture = picture_at s c.args.place.now in
-    let slices = slice_bytes c.args.slices.now in
-    let long = length-map c.args.slices.now (λ (e : EncodedSlice). e.bytes.items) in
-    let last : length c.args.slices.now ≤ c.loop-slice.slice-index = omega arith in
-    let all : ArePacked s picture slices c.args.self.now c.loop-slice.self c.loop-slice.run =
-    subst (λ (l : List (List ℕ)). ArePacked s picture l c.args.self.now c.loop-slice.self c.loop-slice.run) (take_all c.loop-slice.slice-index slices (omega (arith, last, long))) c.loop-slice.invariant.packed in
+    let picture = c.args.p.now in
+    let p = parameters_of picture.plan.now in
+    let n = slice_count p in
+    let i = c.loop-slice._slice in
+    let at = c.loop-slice.invariant in
+    let past : n ≤ i = search rules in
+    let none = none_is_left p (n - i) c.loop-slice.rest.now at.1 (omega (arith, past)) at.3 in
+    let all : slices_in p picture.slices.now ≡ at.0 = at.2 ∙ ap (λ l. at.0 ++ l) none ∙ append-nil at.0 in
+    let packed : PacksSlices picture (slices_in p picture.slices.now) c.args.self.now c.loop-slice.self c.loop-slice.run = subst (λ (l : List (List ℕ)). PacksSlices picture l c.args.self.now c.loop-slice.self c.loop-slice.run) (sym all) at.6 in
     then_ok c.put_run.result c.put_run.ensures
-    (whole_packed s picture slices c.args.self.now c.loop-slice.self c.put_run.new.self c.loop-slice.run (omega (arith, long, c.requires.some)) (omega (arith, some_room c.args.s.now.size c.args.s.now.size_fits)) c.requires.sized all)
+    (whole_packed picture (slices_in p picture.slices.now) c.args.self.now c.loop-slice.self c.put_run.new.self c.loop-slice.run n (some_slices picture.plan.now.slices_x picture.plan.now.slices_y picture.plan.now.slices) (next_slices-count p n picture.slices.now (slices_in p picture.slices.now, []) c.requires.whole) c.requires.fits packed)

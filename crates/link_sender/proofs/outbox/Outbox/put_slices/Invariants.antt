@@ -1,11 +1,18 @@
-use Rattle.std.proofs.Common.{take}
-use Rattle.picture_encode.specs.Encoded.{slice_bytes}
-use Rattle.vc_types.specs.SenderSettings.{sending_view}
-use Rattle.link_sender.specs.Packing.{ArePacked, EndsBefore, picture_at}
-use Rattle.link_sender.proofs.outbox.Outbox.put_slices.Given as goal
+use Rattle.std.proofs.Common.{◌≡◌, ◌-◌, ◌++◌, [], List, ℕ, None, Ok}
+use Rattle.link_model.specs.Kept.{next_slices}
+use Rattle.stream_model.specs.Packing.{first_large_slice, slices_in, slices_room}
+use Rattle.link_sender.specs.Runs.{EndsRun, PacksSlices}
+use Rattle.vc_types.specs.SenderSettings.{packing_view}
+use Rattle.vc_types.specs.Subbands.{slice_count}
+use Rattle.vc_types.specs.TransformParameters.{parameters_of}
+use Rattle.link_sender.proofs.pack_outbox.Outbox.put_slices.Given as goal
 
+-- the slices that were packed, and those that are left
 abbrev pub invariant-loop-slice : goal.invariant-loop-slice
-invariant-loop-slice l = record {
-  run : EndsBefore (sending_view l.s) l.slice-index l.run;
-  packed : ArePacked (sending_view l.s) (picture_at (sending_view l.s) l.place) (take l.slice-index (slice_bytes l.slices)) l.fn.self l.self l.run;
-}
+invariant-loop-slice l =
+    (packed : List (List ℕ)) × (left : List (List ℕ))
+    × (slices_in (parameters_of l.p.plan.now) l.p.slices.now ≡ packed ++ left)
+    × (next_slices (parameters_of l.p.plan.now) (slice_count (parameters_of l.p.plan.now) - l._slice) l.rest ≡ Ok (left, []))
+    × (first_large_slice (slices_room (packing_view l.p.settings)) l._slice left ≡ None)
+    × EndsRun (packing_view l.p.settings) l._slice l.run
+    × PacksSlices l.p packed l.fn.self l.self l.run
