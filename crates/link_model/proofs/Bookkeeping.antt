@@ -11,8 +11,8 @@ use Rattle.std.proofs.lemmas.List.Folds.{list_all-map}
 use Rattle.std.proofs.lemmas.Option.{none-some}
 use Rattle.link_model.specs.Complete.{has_all_slices, all_bytes, whole_picture}
 use Rattle.link_model.specs.Books.{Slots, slot_at, Gathered, Book, nothing_gathered, gathers_run, gathers, takes_plan, waits_too, book_takes, book_outcome, gathered_of, book_by, book_of, book_slice, book_whole}
-use Rattle.link_model.specs.Judgement.{part_outcome, parameters_outcome, slices_outcome, run_outcome, waiting_outcome}
-use Rattle.link_model.specs.Kept.{KeptParameters, parameters_in, kept_parameters, SplitParts, split_parts, Own, own_of, own, own_slice, runs_of, run_taken, part_slices, slice_in, SliceRun, first_copy, slice_run, waiting_limit}
+use Rattle.link_model.specs.Judgement.{known_by_parts, part_outcome, parameters_outcome, slices_outcome, run_outcome, waiting_outcome}
+use Rattle.link_model.specs.Kept.{KeptParameters, parameters_in, SplitParts, split_parts, Own, own_of, own, own_slice, runs_of, run_taken, part_slices, slice_in, SliceRun, first_copy, slice_run, waiting_limit}
 use Rattle.link_model.specs.Session.{Part, ParamsPart, SlicesPart, SlicePart}
 use Rattle.link_model.specs.declared.outcome.Outcome.{Outcome}
 use Rattle.link_model.specs.declared.outcome.Outcome.TheVariants.{SlicesPending, SlicesFull}
@@ -146,7 +146,7 @@ module _ (s : Sequence) (parts : List Part) where
   book_outcome_is (ParamsPart body) = ap (λ (p : Option KeptParameters). parameters_outcome p (coded_parameters s body)) (plan_is (own s parts))
   book_outcome_is (SlicesPart slices) = by_own (own s parts) refl
     where
-      by_own : (o : Option Own) → own s parts ≡ o → book_outcome (book_by s parts o) (SlicesPart slices) ≡ slices_outcome (length (filter_map part_slices parts)) o slices
+      by_own : (o : Option Own) → own s parts ≡ o → book_outcome (book_by s parts o) (SlicesPart slices) ≡ slices_outcome (record (known_by_parts s parts) { slice = λ i. option_and_then (λ kept. own_slice kept i) o }) (option_map (λ (kept : Own). kept.plan) o) slices
       by_own None none =
           ap waiting_outcome (length-take waiting_limit (filter_map part_slices parts))
           ∙ ap (λ (b : Bool). cond b SlicesPending SlicesFull) (few_is (length (filter_map part_slices parts)) waiting_limit)

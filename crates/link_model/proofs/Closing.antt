@@ -1,4 +1,4 @@
--- A picture closes behind its closing place, and behind no place before it.
+-- A picture closes after its closing place, and after no place before it.
 use Rattle.std.proofs.Common.{◌≡◌, ℕ, zero, suc, ◌+◌, ◌<◌, ◌≤◌, Bool, true, false, List, [], ◌∷◌, length, ap, arith, cond}
 use Rattle.std.specs.Prelude.{not, take_while}
 use Rattle.std.specs.List.{range_with_len}

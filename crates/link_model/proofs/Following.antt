@@ -59,7 +59,7 @@ module _ (hs : List HeardSession) (s : Session) where
       ∙ open_run (fragments ++ found (d ∷ [])) datagrams parts.1
       ∙ joined false fragments d datagrams
 
-  -- and behind it
+  -- and after it
   ended_run : (fragments : List Fragment) (datagrams : List (List ℕ)) → list_any (opens_other s) datagrams ≡ false
       → fold hears (heard true fragments ∷ hs) datagrams ≡ heard true (fragments ++ found datagrams) ∷ hs
   ended_run fragments [] none = nothing_more true fragments
@@ -74,7 +74,7 @@ module _ (hs : List HeardSession) (s : Session) where
   session_open datagrams none = open_run [] datagrams none
 
   module _ (before : List (List ℕ)) (last : List ℕ) (behind : List (List ℕ)) (none : list_any (ends s) before ≡ false) (end_is : ends s last ≡ true) (same : list_any (opens_other s) behind ≡ false) where
-    -- and so has one that has ended, behind which no other one opens
+    -- and so has one that has ended, after which no other one opens
     pub session_ended : fold hears (just_opened s ∷ hs) (before ++ last ∷ behind) ≡ heard true (found (before ++ last ∷ behind)) ∷ hs
     session_ended =
         fold-append hears (just_opened s ∷ hs) before (last ∷ behind)

@@ -1,4 +1,4 @@
--- Pictures are let go in rising order: those that are let go later stand behind those that are let go now, and so does
+-- Pictures are let go in rising order: those that are let go later stand after those that are let go now, and so does
 -- what they write.
 use Rattle.std.proofs.Common.{◌≡◌, ℕ, ◌+◌, ◌-◌, ◌<◌, ◌≤◌, Bool, true, false, List, [], ◌∷◌, ◌++◌, refl, ap, sym, ◌∙◌, inl, inr, arith, cond}
 use Rattle.std.specs.Prelude.{◌⊎◌, filter}
@@ -94,7 +94,7 @@ module _ (window : ℕ) (s : Sequence) (old new : List Numbered) (later : Follow
   abbrev both : ℕ
   both = past old + past new
 
-  -- what is let go later stands behind what is let go now
+  -- what is let go later stands after what is let go now
   pub let_go_numbers_grow : IsPrefixOf (let_go_numbers window s old) (let_go_numbers window s new)
   unfolding let_go_numbers
   let_go_numbers_grow =

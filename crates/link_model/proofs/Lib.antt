@@ -1,6 +1,5 @@
 pub mod WrittenPackets
 pub mod WrittenPayloads
-pub mod WorkedDatagrams
 pub mod LinkRows
 pub mod Keeping
 pub mod Slots
@@ -22,7 +21,6 @@ pub mod WindowStands
 pub mod WindowBounds
 pub mod WindowNumbers
 pub mod Hearing
-pub mod SessionRows
 pub mod Apart
 pub mod Following
 pub mod OpeningOutcomes

@@ -28,7 +28,7 @@ parts_of-other n e apart = ap (λ (b : Bool). map (λ (e : Numbered). e.part) (c
 
 -- ---- what later entries leave
 
--- entries behind others, in a window
+-- entries after others, in a window
 pub record Follows (window : ℕ) (old new : List Numbered) : Type 0 where
   pub grows : greatest old ≤ greatest new
   pub adds : (n : ℕ) → (more : List Part) × (parts_of n new ≡ parts_of n old ++ more)

@@ -1,10 +1,10 @@
 -- HeaderNew comes only where a datagram opens a session, and neither it nor End of a part or a refusal.
 use Rattle.std.proofs.Common.{◌≡◌, ℕ, Bool, true, false, List, [], ◌∷◌, Option, Some, None, Result, Ok, Err, refl, ap, sym, ◌∙◌, cond, arith}
-use Rattle.std.specs.Prelude.{nat_lt, length, filter_map}
+use Rattle.std.specs.Prelude.{nat_lt}
 use Rattle.std.proofs.lemmas.Bool.{false≢true}
 use Rattle.vc_types.specs.SameValues.{same_sequence}
-use Rattle.link_model.specs.Judgement.{parameters_outcome, run_outcome, slices_outcome, part_outcome, fragment_outcome, refusal_outcome, header_outcome, later_outcome, outcome_of, outcome_behind, early_outcome, opening_outcome}
-use Rattle.link_model.specs.Kept.{KeptParameters, ReadParameters, Own, own, own_parameters, own_slice, part_slices, waiting_limit, SliceRun, slice_run}
+use Rattle.link_model.specs.Judgement.{parameters_outcome, run_outcome, slices_outcome, part_outcome, fragment_outcome, refusal_outcome, header_outcome, later_outcome, outcome_of, KnownPicture, known_by_parts, outcome_behind, early_outcome, opening_outcome}
+use Rattle.link_model.specs.Kept.{KeptParameters, ReadParameters, own_parameters, waiting_limit, SliceRun, slice_run}
 use Rattle.link_model.specs.Numbers.{Numbered, is_late, parts_of, picture_number}
 use Rattle.link_model.specs.Packets.{PayloadValue, Header, End, Skip, Params, Slices}
 use Rattle.link_model.specs.Session.{Received, received, DatagramRefusal, Session, Part, ParamsPart, SlicesPart, SlicePart, Fragment, HeardSession, opens_next, sessions_of, session_with, session_by, session_from, begins}
@@ -40,14 +40,14 @@ run_outcomes kept r none = grind (arith, neither)
 parameters_outcomes : (plan : Option KeptParameters) (r : ReadParameters) → turns (parameters_outcome plan r) ≡ false
 parameters_outcomes plan r = grind (arith, neither)
 
-slices_outcomes : (waiting : ℕ) (o : Option Own) (s : SlicePart) → turns (slices_outcome waiting o s) ≡ false
-slices_outcomes waiting None s = neither (nat_lt waiting waiting_limit) outcomes.SlicesPending outcomes.SlicesFull refl refl
-slices_outcomes waiting (Some kept) s = run_outcomes (own_slice kept) (slice_run kept.plan.parameters s) (runs_turn_nothing kept.plan.parameters s)
+slices_outcomes : (known : KnownPicture) (plan : Option KeptParameters) (s : SlicePart) → turns (slices_outcome known plan s) ≡ false
+slices_outcomes known None s = neither (nat_lt known.waiting waiting_limit) outcomes.SlicesPending outcomes.SlicesFull refl refl
+slices_outcomes known (Some plan) s = run_outcomes known.slice (slice_run plan.parameters s) (runs_turn_nothing plan.parameters s)
 
 part_outcomes : (s : Sequence) (before : List Part) (part : Part) → turns (part_outcome s before part) ≡ false
 unfolding part_outcome
 part_outcomes s before (ParamsPart body) = parameters_outcomes (own_parameters s before) (coded_parameters s body)
-part_outcomes s before (SlicesPart slices) = slices_outcomes (length (filter_map part_slices before)) (own s before) slices
+part_outcomes s before (SlicesPart slices) = slices_outcomes (known_by_parts s before) (own_parameters s before) slices
 
 pub fragment_outcomes : (base window : ℕ) (s : Sequence) (es : List Numbered) (f : Fragment) → turns (fragment_outcome base window s es f) ≡ false
 unfolding fragment_outcome

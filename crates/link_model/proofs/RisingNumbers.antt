@@ -1,4 +1,4 @@
--- The numbers of a range that pass a test, in rising order: the first of them, and those that stand behind some of them.
+-- The numbers of a range that pass a test, in rising order: the first of them, and those that stand after some of them.
 use Rattle.std.proofs.Common.{◌≡◌, ℕ, zero, suc, ◌+◌, ◌<◌, ◌≤◌, Bool, true, false, List, [], ◌∷◌, ◌++◌, length, drop, Option, Some, None, refl, ap, sym, subst, ◌∙◌, arith, cond}
 use Rattle.std.specs.Prelude.{not, ◌&&◌, filter}
 use Rattle.std.specs.List.{flat_map, range_with_len, last_or}
@@ -87,7 +87,7 @@ behind_last n bound (m ∷ ns) more less rises =
     (ap (λ (o : Option ℕ). not (released_up_to o m)) last.1 ∙ ap not (le-leb m last.0 last.2))
     ∙ behind_last m (m + 1) ns more (omega arith) rises.1
 
--- those behind the last of some that stand first
+-- those after the last of some that stand first
 pub behind_front : (test : ℕ → Bool) (a m : ℕ) (front more : List ℕ) → numbers_over test a m ≡ front ++ more → filter (is_behind (last_or None front)) (numbers_over test a m) ≡ more
 behind_front test a m front more is = ap (filter (is_behind (last_or None front))) is ∙ by_front front (subst (Rises a) is (numbers_rise test a m))
   where

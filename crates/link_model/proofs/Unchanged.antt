@@ -5,9 +5,9 @@ use Rattle.std.specs.List.{list_any, enumerate_from}
 use Rattle.std.specs.Option.{option_or}
 use Rattle.std.proofs.lemmas.Bool.{false≢true, or_parts}
 use Rattle.std.proofs.lemmas.List.{take-append-drop}
-use Rattle.link_model.specs.Books.{Slots, slot_at, Gathered, Book, filled_with, with_run, gathers_run, takes_params, takes_slices, book_plan, book_takes, book_slices_outcome, book_outcome}
-use Rattle.link_model.specs.Judgement.{parameters_outcome, run_outcome, numbered_slices, is_new, keeps}
-use Rattle.link_model.specs.Kept.{SliceRun}
+use Rattle.link_model.specs.Books.{Slots, slot_at, Gathered, Book, filled_with, with_run, gathers_run, takes_params, takes_slices, book_plan, known_by_book, book_takes, book_outcome}
+use Rattle.link_model.specs.Judgement.{parameters_outcome, slices_outcome, run_outcome, numbered_slices, is_new, keeps}
+use Rattle.link_model.specs.Kept.{SliceRun, slice_run}
 use Rattle.link_model.specs.Session.{Part, ParamsPart, SlicesPart, SlicePart}
 use Rattle.link_model.specs.declared.outcome.Outcome.{Outcome}
 use Rattle.vc_types.specs.TransformParameters.{Parameters, coded_parameters}
@@ -45,8 +45,11 @@ module _ (book : Book) where
   run_unchanged : (g : Gathered) (r : Result SliceRun Outcome) → keeps (run_outcome (slot_at g.slots) r) ≡ false → gathers_run g r ≡ g
   run_unchanged g o e = grind (arith, repeat_same)
 
-  slices_unchanged : (slices : SlicePart) (o : Option Gathered) → book.gathered ≡ o → keeps (book_slices_outcome o book slices) ≡ false → takes_slices o book slices ≡ book
-  slices_unchanged slices o is e = grind (arith, run_unchanged)
+  slices_unchanged : (slices : SlicePart) (o : Option Gathered) → book.gathered ≡ o → keeps (let b : Book = record book { gathered = o } in slices_outcome (known_by_book b) (book_plan b) slices) ≡ false → takes_slices o book slices ≡ book
+  slices_unchanged slices None is e = grind arith
+  slices_unchanged slices (Some g) is e =
+      ap (λ (k : Gathered). let b : Book = record book { gathered = Some k } in b) (run_unchanged g (slice_run g.plan.parameters slices) e)
+      ∙ ap (λ (o : Option Gathered). let b : Book = record book { gathered = o } in b) (sym is)
 
   pub unkept_changes_nothing : (part : Part) → keeps (book_outcome book part) ≡ false → book_takes book part ≡ book
   unfolding book_outcome book_takes

@@ -1,4 +1,4 @@
--- The whole bytes of a picture are decoded as its parameters and, behind them, its own slices, each of which is one whole
+-- The whole bytes of a picture are decoded as its parameters and, after them, its own slices, each of which is one whole
 -- slice.
 use Rattle.std.proofs.Common.{◌≡◌, ℕ, zero, suc, Bool, List, [], ◌∷◌, ◌++◌, map, take, drop, Option, Some, None, Result, Ok, Err, refl, ap, sym, subst, ◌∙◌, arith}
 use Rattle.std.specs.Prelude.{slice_get, unwrap_or}

@@ -41,7 +41,7 @@ module _ (before window : ℕ) where
   unfolding greatest
   greatest_of_all fragments = grind (arith, base_is_above, entered_high)
 
--- ---- the number of a picture that a fragment opened, by the greatest number behind it
+-- ---- the number of a picture that a fragment opened, by the greatest number after it
 
 nearest_itself : (n bits : ℕ) → n % 2 ^ 32 ≡ bits → nearest n bits ≡ n
 unfolding nearest

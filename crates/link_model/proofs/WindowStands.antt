@@ -90,7 +90,7 @@ module _ (w : Window) (p : WindowPast) (stands : StandsForPast w p) where
     pub releasable_opened : is_opened p.entries n ≡ true
     releasable_opened = next_passes.0
 
-    -- it is behind all that were released
+    -- it is after all that were released
     pub next_is_greater : (m : ℕ) → released_up_to (last_or None p.released) m ≡ true → m < n
     next_is_greater m = grind (arith, leb-false, next_passes)
 

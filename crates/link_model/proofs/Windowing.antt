@@ -252,7 +252,7 @@ last_is : (o : Option ℕ) (ns : List ℕ) (n : ℕ) → last_or o (ns ++ n ∷ 
 last_is o [] n = refl
 last_is o (m ∷ ns) n = last_is (Some m) ns n
 
--- of a picture behind those that were released
+-- of a picture after those that were released
 module _ (n : ℕ) where
   module _ (p : WindowPast) (behind : released_up_to (last_or None p.released) n ≡ false) (top : greatest_behind p.before p.entries ≡ greatest p.entries) where
     abbrev closed_at : ℕ → ℕ → Bool

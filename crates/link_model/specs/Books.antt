@@ -4,7 +4,7 @@ use Rattle.std.specs.Prelude.{ℕ, nat_lt, if◌then◌else◌, List, [], ◌∷
 use Rattle.std.specs.List.{flat_map, list_all}
 use Rattle.std.specs.Option.{option_and_then, option_map, option_or}
 use Rattle.link_model.specs.Complete.{slice_numbers}
-use Rattle.link_model.specs.Judgement.{parameters_outcome, run_outcome, waiting_outcome}
+use Rattle.link_model.specs.Judgement.{KnownPicture, run_outcome, judged_part}
 use Rattle.link_model.specs.Kept.{KeptParameters, kept_parameters, Own, own, own_slice, part_slices, SliceRun, slice_run, waiting_limit}
 use Rattle.link_model.specs.Session.{Part, ParamsPart, SlicesPart, SlicePart}
 use Rattle.link_model.specs.declared.outcome.Outcome.{Outcome}
@@ -78,21 +78,28 @@ unfoldable pub book_takes : Book → Part → Book
 book_takes book (ParamsPart body) = takes_params book.gathered book body
 book_takes book (SlicesPart slices) = takes_slices book.gathered book slices
 
--- its outcome
-abbrev pub gathered_outcome : Gathered → SlicePart → Outcome
-gathered_outcome g slices = run_outcome (slot_at g.slots) (slice_run g.plan.parameters slices)
+-- ---- what it knows of its picture
 
 abbrev pub book_plan : Book → Option KeptParameters
 book_plan book = option_map (λ (g : Gathered). g.plan) book.gathered
 
-abbrev pub book_slices_outcome : Option Gathered → Book → SlicePart → Outcome
-book_slices_outcome None book slices = waiting_outcome (length book.waiting)
-book_slices_outcome (Some g) book slices = gathered_outcome g slices
+abbrev pub book_slice : Book → ℕ → Option (List ℕ)
+book_slice book i = option_and_then (λ (g : Gathered). slot_at g.slots i) book.gathered
+
+abbrev pub known_by_book : Book → KnownPicture
+known_by_book book = record {
+  sequence = book.sequence;
+  plan = book_plan book;
+  waiting = length book.waiting;
+  slice = book_slice book;
+}
 
 unfoldable pub book_outcome : Book → Part → Outcome
-book_outcome book (ParamsPart body) =
-    parameters_outcome (book_plan book) (coded_parameters book.sequence body)
-book_outcome book (SlicesPart slices) = book_slices_outcome book.gathered book slices
+book_outcome book part = judged_part (known_by_book book) part
+
+-- a slice part's, once there are parameters
+abbrev pub gathered_outcome : Gathered → SlicePart → Outcome
+gathered_outcome g slices = run_outcome (slot_at g.slots) (slice_run g.plan.parameters slices)
 
 -- ---- the book of a list of parts
 
@@ -113,10 +120,7 @@ book_by sequence parts kept = record {
 unfoldable pub book_of : Sequence → List Part → Book
 book_of sequence parts = book_by sequence parts (own sequence parts)
 
--- ---- its slices, and whole pictures
-
-abbrev pub book_slice : Book → ℕ → Option (List ℕ)
-book_slice book i = option_and_then (λ (g : Gathered). slot_at g.slots i) book.gathered
+-- ---- whole pictures
 
 abbrev pub gathered_bytes : Gathered → List ℕ
 gathered_bytes g = g.plan.bytes ++ flat_map (λ slot. unwrap_or slot []) g.slots

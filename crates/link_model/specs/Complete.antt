@@ -17,7 +17,7 @@ slice_numbers kept = range_with_len 0 (slice_count kept.plan.parameters)
 unfoldable pub has_all_slices : Own → Bool
 has_all_slices kept = list_all (λ i. is_some (own_slice kept i)) (slice_numbers kept)
 
--- the bytes of the parameters, and behind them the slices in raster order
+-- the bytes of the parameters, and after them the slices in raster order
 unfoldable pub all_bytes : Own → List ℕ
 all_bytes kept =
     kept.plan.bytes ++ flat_map (λ i. unwrap_or (own_slice kept i) []) (slice_numbers kept)

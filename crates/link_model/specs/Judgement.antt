@@ -1,14 +1,17 @@
 -- What becomes of each datagram of a list, and the counts of it (this project's profile).
+--
+-- Ten rules judge a datagram, and the first that applies decides. They stand here once, and go by
+-- what is known when it comes; lists, books, windows and receivers say what they know.
 use Rattle.std.specs.Prelude.{ℕ, ◌+◌, ◌-◌, ◌%◌, Bool, true, false, ◌&&◌, not, is_some, is_none, nat_lt, ◌==◌, if◌then◌else◌, List, [], ◌∷◌, ◌++◌, length, filter_map, fold, count_by, Option, Some, None, Result, Ok, Err}
 use Rattle.std.specs.List.{list_any, enumerate_from}
-use Rattle.std.specs.Option.{option_map_or}
+use Rattle.std.specs.Option.{option_map_or, option_and_then}
 use Rattle.std.specs.Str.{bytes_eq}
 use Rattle.vc_types.specs.SameValues.{same_sequence, same_parameters}
-use Rattle.link_model.specs.Kept.{KeptParameters, ReadParameters, Own, own, own_parameters, own_slice, part_slices, waiting_limit, SliceRun, slice_run}
+use Rattle.link_model.specs.Kept.{KeptParameters, ReadParameters, own, own_parameters, own_slice, part_slices, waiting_limit, SliceRun, slice_run}
 use Rattle.link_model.specs.Numbers.{Numbered, entered, picture_number, is_late, parts_of, opened_numbers}
 use Rattle.link_model.specs.Output.{complete_at, planes_at, frame_at, base_behind, entered_behind}
 use Rattle.link_model.specs.Packets.{PayloadValue, Header, End, Skip, Params, Slices}
-use Rattle.link_model.specs.Session.{Received, received, DatagramRefusal, OfRtp, OfPayload, HeardSession, opens_behind, session_by, sessions_of, Part, ParamsPart, SlicesPart, SlicePart, Fragment, params_fragment, slices_fragment}
+use Rattle.link_model.specs.Session.{Received, received, DatagramRefusal, OfRtp, OfPayload, Session, HeardSession, opens_over, session_by, sessions_of, Part, ParamsPart, SlicesPart, SlicePart, Fragment, params_fragment, slices_fragment}
 use Rattle.link_model.specs.declared.outcome.Outcome.{Outcome}
 use Rattle.link_model.specs.declared.outcome.Outcome.TheVariants as outcomes
 use Rattle.link_model.specs.declared.refusal.PayloadRefusal.{PayloadRefusal}
@@ -20,14 +23,24 @@ use Rattle.vc_types.specs.SequenceHeader.{Sequence, coded_header}
 use Rattle.vc_types.specs.TransformParameters.{coded_parameters}
 use Rattle.vc_types.specs.declared.refusal.HeaderRefusal.{HeaderRefusal}
 
--- ---- a part of a picture, by the parts before it
+-- ---- what is known when a datagram comes
 
-abbrev pub parameters_outcome : Option KeptParameters → ReadParameters → Outcome
-parameters_outcome plan (Err refusal) = outcomes.ParamsBad
-parameters_outcome None (Ok read) = outcomes.ParamsKept
-parameters_outcome (Some plan) (Ok read) =
-    if same_parameters plan.parameters read.0 then outcomes.ParamsRepeat
-    else outcomes.ParamsConflict
+-- of a picture: the parameters that it keeps, how many slice parts came before them, and the bytes
+-- that it keeps of each slice
+pub record KnownPicture : Type 0 where
+  pub sequence : Sequence
+  pub plan : Option KeptParameters
+  pub waiting : ℕ
+  pub slice : ℕ → Option (List ℕ)
+
+-- of the session that stands: whether it has had its end, and what becomes of a fragment, by rules
+-- 7 to 10
+pub record KnownSession : Type 0 where
+  pub session : Session
+  pub has_ended : Bool
+  pub fragment : Fragment → Outcome
+
+-- ---- the rules, from the last to the first
 
 -- a slice is kept with other bytes
 abbrev pub is_conflict : (ℕ → Option (List ℕ)) → ℕ × List ℕ → Bool
@@ -40,7 +53,8 @@ is_new kept slice = is_none (kept slice.0)
 abbrev pub numbered_slices : SliceRun → List (ℕ × List ℕ)
 numbered_slices run = enumerate_from run.first run.slices
 
--- by the slices that are kept
+-- 10. Slices of a picture with parameters: of another form, out of place, or cut off, as `slice_run`
+-- says; then one of them is kept with other bytes, or one is new, or none is.
 abbrev pub run_outcome : (ℕ → Option (List ℕ)) → Result SliceRun Outcome → Outcome
 run_outcome kept (Err outcome) = outcome
 run_outcome kept (Ok run) =
@@ -48,44 +62,74 @@ run_outcome kept (Ok run) =
     else (if list_any (is_new kept) (numbered_slices run) then outcomes.SlicesKept
     else outcomes.SlicesRepeat)
 
--- slices of a picture without parameters wait, up to a limit
+-- 9. Slices of a picture without parameters wait, up to a limit.
 abbrev pub waiting_outcome : ℕ → Outcome
 waiting_outcome waiting =
     if nat_lt waiting waiting_limit then outcomes.SlicesPending else outcomes.SlicesFull
 
-abbrev pub slices_outcome : ℕ → Option Own → SlicePart → Outcome
-slices_outcome waiting None slices = waiting_outcome waiting
-slices_outcome waiting (Some kept) slices =
-    run_outcome (own_slice kept) (slice_run kept.plan.parameters slices)
+abbrev pub slices_outcome : KnownPicture → Option KeptParameters → SlicePart → Outcome
+slices_outcome known None slices = waiting_outcome known.waiting
+slices_outcome known (Some plan) slices =
+    run_outcome known.slice (slice_run plan.parameters slices)
 
-unfoldable pub part_outcome : Sequence → List Part → Part → Outcome
-part_outcome sequence before (ParamsPart body) =
-    parameters_outcome (own_parameters sequence before) (coded_parameters sequence body)
-part_outcome sequence before (SlicesPart slices) =
-    slices_outcome (length (filter_map part_slices before)) (own sequence before) slices
+-- 8. Parameters: refused, or the first, or equal to those that are kept, or others.
+abbrev pub parameters_outcome : Option KeptParameters → ReadParameters → Outcome
+parameters_outcome plan (Err refusal) = outcomes.ParamsBad
+parameters_outcome None (Ok read) = outcomes.ParamsKept
+parameters_outcome (Some plan) (Ok read) =
+    if same_parameters plan.parameters read.0 then outcomes.ParamsRepeat
+    else outcomes.ParamsConflict
 
--- whether a part with this outcome changes what its picture keeps
-abbrev pub keeps : Outcome → Bool
-keeps outcomes.ParamsKept = true
-keeps outcomes.SlicesKept = true
-keeps outcomes.SlicesConflict = true
-keeps outcomes.SlicesPending = true
-keeps other = false
+abbrev pub judged_part : KnownPicture → Part → Outcome
+judged_part known (ParamsPart body) =
+    parameters_outcome known.plan (coded_parameters known.sequence body)
+judged_part known (SlicesPart slices) = slices_outcome known known.plan slices
 
--- ---- a fragment, by what was entered before it
+-- 7. A fragment whose number is late.
+abbrev pub unless_late : Bool → Outcome → Outcome
+unless_late late outcome = if late then outcomes.Late else outcome
 
-unfoldable pub fragment_outcome : ℕ → ℕ → Sequence → List Numbered → Fragment → Outcome
-fragment_outcome base window sequence before f =
-    if is_late window before (picture_number base before f.number) then outcomes.Late
-    else part_outcome sequence (parts_of (picture_number base before f.number) before) f.part
+-- 5. A header: refused, or equal to the session's, or another.
+abbrev pub header_outcome : Sequence → Result (Sequence × ℕ) HeaderRefusal → Outcome
+header_outcome sequence (Err refusal) = outcomes.HeaderBad
+header_outcome sequence (Ok read) =
+    if same_sequence sequence read.0 then outcomes.HeaderSame else outcomes.HeaderOther
 
--- ---- a datagram, by those before it
+-- 6. The end of the sequence, auxiliary data and padding.
+abbrev pub judged_value : KnownSession → PayloadValue → Outcome
+judged_value known (Header high from body) =
+    header_outcome known.session.sequence (coded_header body)
+judged_value known (End high) = outcomes.End
+judged_value known (Skip high code) = outcomes.Skipped
+judged_value known (Params head from body) = known.fragment (params_fragment head body)
+judged_value known (Slices head count x y from body) =
+    known.fragment (slices_fragment head count x y body)
 
+-- 3. No session stands: a header begins the first, if it is accepted.
+abbrev pub opening_outcome : Result (Sequence × ℕ) HeaderRefusal → Outcome
+opening_outcome (Ok read) = outcomes.HeaderNew
+opening_outcome (Err refusal) = outcomes.HeaderBad
+
+abbrev pub early_outcome : PayloadValue → Outcome
+early_outcome (Header high from body) = opening_outcome (coded_header body)
+early_outcome other = outcomes.Foreign
+
+-- 4. A session stands: a header of another source or value begins the next, if the session has had
+-- its end; all else of another source is foreign.
+abbrev pub judged_received : Option KnownSession → Received → Outcome
+judged_received None r = early_outcome r.value
+judged_received (Some known) r =
+    if is_some (opens_over known.session known.has_ended (session_by r.ssrc r.value))
+    then outcomes.HeaderNew
+    else (if r.ssrc == known.session.ssrc then judged_value known r.value else outcomes.Foreign)
+
+-- 1. It is no RTP packet.
 abbrev pub rtp_outcome : RtpRefusal → Outcome
 rtp_outcome rtp_refusals.Short = outcomes.RtpShort
 rtp_outcome rtp_refusals.Version = outcomes.RtpVersion
 rtp_outcome rtp_refusals.Shape = outcomes.RtpShape
 
+-- 2. Its payload is refused.
 abbrev pub payload_outcome : PayloadRefusal → Outcome
 payload_outcome payload_refusals.Short = outcomes.PayloadShort
 payload_outcome payload_refusals.Code = outcomes.PayloadCode
@@ -95,49 +139,60 @@ abbrev pub refusal_outcome : DatagramRefusal → Outcome
 refusal_outcome (OfRtp refusal) = rtp_outcome refusal
 refusal_outcome (OfPayload refusal) = payload_outcome refusal
 
-abbrev pub opening_outcome : Result (Sequence × ℕ) HeaderRefusal → Outcome
-opening_outcome (Ok read) = outcomes.HeaderNew
-opening_outcome (Err refusal) = outcomes.HeaderBad
+-- the judgement, by the session that stands
+abbrev pub judgement : Option KnownSession → Result Received DatagramRefusal → Outcome
+judgement standing (Err refusal) = refusal_outcome refusal
+judgement standing (Ok r) = judged_received standing r
 
--- before a session stands
-abbrev pub early_outcome : PayloadValue → Outcome
-early_outcome (Header high from body) = opening_outcome (coded_header body)
-early_outcome other = outcomes.Foreign
+-- whether a part with this outcome changes what its picture keeps
+abbrev pub keeps : Outcome → Bool
+keeps outcomes.ParamsKept = true
+keeps outcomes.SlicesKept = true
+keeps outcomes.SlicesConflict = true
+keeps outcomes.SlicesPending = true
+keeps other = false
 
-abbrev pub header_outcome : Sequence → Result (Sequence × ℕ) HeaderRefusal → Outcome
-header_outcome sequence (Ok read) =
-    if same_sequence sequence read.0 then outcomes.HeaderSame else outcomes.HeaderOther
-header_outcome sequence (Err refusal) = outcomes.HeaderBad
+-- ---- what a list of datagrams knows
 
--- a fragment of the last session, whose numbers begin at the base
-abbrev pub heard_outcome : ℕ → ℕ → HeardSession → Fragment → Outcome
-heard_outcome base window h f =
-    fragment_outcome base window h.session.sequence (entered base window h.fragments) f
+-- of a picture, by its parts
+abbrev pub known_by_parts : Sequence → List Part → KnownPicture
+known_by_parts sequence before = record {
+  sequence = sequence;
+  plan = own_parameters sequence before;
+  waiting = length (filter_map part_slices before);
+  slice = λ i. option_and_then (λ kept. own_slice kept i) (own sequence before);
+}
 
--- within the last session, from its source
+unfoldable pub part_outcome : Sequence → List Part → Part → Outcome
+part_outcome sequence before part = judged_part (known_by_parts sequence before) part
+
+-- a fragment, by what was entered before it
+unfoldable pub fragment_outcome : ℕ → ℕ → Sequence → List Numbered → Fragment → Outcome
+fragment_outcome base window sequence before f =
+    let n = picture_number base before f.number in
+    unless_late (is_late window before n) (part_outcome sequence (parts_of n before) f.part)
+
+-- of a session whose numbers begin at the base
+abbrev pub known_session : ℕ → ℕ → HeardSession → KnownSession
+known_session base window h = record {
+  session = h.session;
+  has_ended = h.has_ended;
+  fragment = fragment_outcome base window h.session.sequence (entered base window h.fragments);
+}
+
+-- of sessions, the last one first
+abbrev pub known_sessions : ℕ → List HeardSession → Option KnownSession
+known_sessions window [] = None
+known_sessions window (h ∷ hs) = Some (known_session (base_behind window hs) window h)
+
+-- what becomes of a payload from the source of the last session
 abbrev pub later_outcome : ℕ → ℕ → HeardSession → PayloadValue → Outcome
-later_outcome base window h (Header high from body) =
-    header_outcome h.session.sequence (coded_header body)
-later_outcome base window h (End high) = outcomes.End
-later_outcome base window h (Skip high code) = outcomes.Skipped
-later_outcome base window h (Params head from body) =
-    heard_outcome base window h (params_fragment head body)
-later_outcome base window h (Slices head count x y from body) =
-    heard_outcome base window h (slices_fragment head count x y body)
-
--- behind sessions, the last one first
-abbrev pub received_outcome : ℕ → List HeardSession → Received → Outcome
-received_outcome window [] r = early_outcome r.value
-received_outcome window (h ∷ hs) r =
-    if is_some (opens_behind h (session_by r.ssrc r.value)) then outcomes.HeaderNew
-    else (if r.ssrc == h.session.ssrc then later_outcome (base_behind window hs) window h r.value
-    else outcomes.Foreign)
+later_outcome base window h value = judged_value (known_session base window h) value
 
 abbrev pub outcome_of : ℕ → List HeardSession → Result Received DatagramRefusal → Outcome
-outcome_of window hs (Ok r) = received_outcome window hs r
-outcome_of window hs (Err refusal) = refusal_outcome refusal
+outcome_of window hs r = judgement (known_sessions window hs) r
 
--- what becomes of a datagram behind others
+-- what becomes of a datagram after others
 unfoldable pub outcome_behind : ℕ → List (List ℕ) → List ℕ → Outcome
 outcome_behind window before datagram = outcome_of window (sessions_of before) (received datagram)
 

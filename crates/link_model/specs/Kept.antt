@@ -36,7 +36,7 @@ abbrev pub part_slices : Part → Option SlicePart
 part_slices (ParamsPart body) = None
 part_slices (SlicesPart slices) = Some slices
 
--- the first parameters that are accepted, and the slices that came before and behind them
+-- the first parameters that are accepted, and the slices that came before and after them
 pub record SplitParts : Type 0 where
   pub plan : KeptParameters
   pub before : List SlicePart

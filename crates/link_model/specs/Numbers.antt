@@ -37,7 +37,7 @@ nearest number bits =
 unfoldable pub base_above : ℕ → ℕ
 base_above number = (number + 8) / 2 ^ 32 * 2 ^ 32 + 2 ^ 32
 
--- the number of a fragment behind those of its session that were entered; the first one's is its 32
+-- the number of a fragment after those of its session that were entered; the first one's is its 32
 -- bits plus the base
 unfoldable pub picture_number : ℕ → List Numbered → ℕ → ℕ
 picture_number base [] bits = base + bits

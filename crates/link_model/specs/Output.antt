@@ -79,7 +79,7 @@ greatest_of window (h ∷ hs) =
 abbrev pub base_behind : ℕ → List HeardSession → ℕ
 base_behind window hs = base_above (greatest_of window hs)
 
--- what was entered of a session behind others
+-- what was entered of a session after others
 abbrev pub entered_behind : ℕ → List HeardSession → HeardSession → List Numbered
 entered_behind window hs h = entered (base_behind window hs) window h.fragments
 
@@ -123,7 +123,7 @@ is_closed_behind window datagrams n k = is_closed_in window (sessions_of (take (
 abbrev pub datagram_places : List (List ℕ) → List ℕ
 datagram_places datagrams = range_with_len 0 (length datagrams)
 
--- the first place behind which a picture is closed, or the length of the list
+-- the first place after which a picture is closed, or the length of the list
 unfoldable pub closing_place : ℕ → List (List ℕ) → ℕ → ℕ
 closing_place window datagrams n =
     length (take_while

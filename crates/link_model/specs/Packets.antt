@@ -233,7 +233,7 @@ IsWritable (Params head from body) = HeadFits head × (length body < 2 ^ 16)
 IsWritable (Slices head count x y from body) =
     HeadFits head × RunFits count x y × (length body < 2 ^ 16)
 
--- what is read where a payload is written and other bytes follow: its body stands behind its head,
+-- what is read where a payload is written and other bytes follow: its body stands after its head,
 -- and a sequence header, whose length isn't told, goes on to the end
 abbrev pub read_back : PayloadValue → List ℕ → PayloadValue
 read_back (Header high from body) behind = Header high 4 (body ++ behind)

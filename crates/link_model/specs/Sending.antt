@@ -1,5 +1,5 @@
 -- The datagrams that this project's sender sends: for each picture a sequence header, transform
--- parameters and slices, and an end of sequence behind the last (RFC 3550, 5.1; RFC 8450, 4). Each
+-- parameters and slices, and an end of sequence after the last (RFC 3550, 5.1; RFC 8450, 4). Each
 -- field of a datagram is a function of the datagram's number, of its picture's number, and of what
 -- it carries.
 use Rattle.std.specs.Prelude.{◌<◌, ◌≤◌, ℕ, ◌+◌, ◌-◌, ◌*◌, ◌/◌, ◌%◌, ◌^◌, Bool, false, ◌==◌, nat_le, if◌then◌else◌, List, [], ◌∷◌, ◌++◌, length, drop, map}
@@ -18,7 +18,7 @@ use Rattle.vc_types.specs.Subbands.{slice_count}
 abbrev pub run_bytes : SliceRun → List ℕ
 run_bytes run = joined run.slices
 
--- the number of the slice behind a run
+-- the number of the slice after a run
 abbrev pub run_end : SliceRun → ℕ
 run_end run = run.first + length run.slices
 
@@ -31,7 +31,7 @@ run_of_one first slice = record { first = first; slices = slice ∷ [] }
 abbrev pub has_room : ℕ → SliceRun → List ℕ → Bool
 has_room room run slice = nat_le (length (run_bytes run) + length slice) room
 
--- a run, and those behind it: it takes the next slice if there is room, else that one begins
+-- a run, and those after it: it takes the next slice if there is room, else that one begins
 -- another run
 unfoldable pub runs_from : ℕ → SliceRun → List (List ℕ) → List SliceRun
 runs_from room run [] = run ∷ []
@@ -202,13 +202,13 @@ frames_outgoing s indices frames =
 unfoldable pub sent_datagrams : Sending → List ℕ → List Planes → List (List ℕ)
 sent_datagrams s indices frames = datagrams_from s s.seq (frames_outgoing s indices frames)
 
--- behind so many frames, the timestamp before it again: picture 0 has timestamp 0, and so has the
+-- after so many frames, the timestamp before it again: picture 0 has timestamp 0, and so has the
 -- end where no frame was
 unfoldable pub end_datagram : Sending → ℕ → ℕ → List ℕ
 end_datagram s number frames =
     sent_datagram s number (outgoing (frames * pictures_per_frame s - 1) EndContent)
 
--- the end of sequence behind all datagrams of frames
+-- the end of sequence after all datagrams of frames
 unfoldable pub last_datagram : Sending → List ℕ → List Planes → List ℕ
 last_datagram s indices frames =
     end_datagram s (s.seq + length (frames_outgoing s indices frames)) (length frames)

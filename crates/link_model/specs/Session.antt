@@ -128,7 +128,7 @@ ends s datagram = end_from s (received datagram)
 
 -- ---- the whole list
 
--- a session, whether it has had its end, and the fragments that count: those behind the datagram
+-- a session, whether it has had its end, and the fragments that count: those after the datagram
 -- that opens it, up to the one that opens the next
 pub record HeardSession : Type 0 where
   pub session : Session
@@ -146,11 +146,15 @@ is_other s t = not (s.ssrc == t.ssrc && same_sequence s.sequence t.sequence)
 abbrev pub opens_other : Session → List ℕ → Bool
 opens_other s datagram = option_map_or (is_other s) (begins datagram) false
 
-abbrev pub opens_behind : HeardSession → Option Session → Option Session
-opens_behind h None = None
-opens_behind h (Some t) = if h.has_ended && is_other h.session t then Some t else None
+-- the session that a header opens while one stands: another, once the one that stands has ended
+abbrev pub opens_over : Session → Bool → Option Session → Option Session
+opens_over s has_ended None = None
+opens_over s has_ended (Some t) = if has_ended && is_other s t then Some t else None
 
--- the session that a header opens behind others, the last of them first: the first one any, a later
+abbrev pub opens_behind : HeardSession → Option Session → Option Session
+opens_behind h o = opens_over h.session h.has_ended o
+
+-- the session that a header opens after others, the last of them first: the first one any, a later
 -- one where the last has ended and it is another
 abbrev pub opens_next : List HeardSession → Option Session → Option Session
 opens_next [] o = o

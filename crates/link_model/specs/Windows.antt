@@ -3,11 +3,11 @@ use Rattle.std.specs.Prelude.{◌≡◌, ℕ, ◌+◌, ◌-◌, ◌^◌, Bool, t
 use Rattle.std.specs.List.{list_all, last_or}
 use Rattle.std.specs.Option.{option_map_or, option_and_then}
 use Rattle.link_model.specs.Books.{book_whole, Book, book_of, book_takes, book_outcome}
+use Rattle.link_model.specs.Judgement.{unless_late}
 use Rattle.link_model.specs.Numbers.{Numbered, greatest, nearest, base_above, enters, is_closed, opened_numbers, parts_of, span}
 use Rattle.link_model.specs.Output.{complete_at, let_go_numbers, greatest_of, entered_behind}
 use Rattle.link_model.specs.Session.{Fragment, Part, HeardSession}
 use Rattle.link_model.specs.declared.outcome.Outcome.{Outcome}
-use Rattle.link_model.specs.declared.outcome.Outcome.TheVariants.{Late}
 use Rattle.vc_types.specs.SequenceHeader.{Sequence}
 
 -- ---- books by number
@@ -48,7 +48,7 @@ pub record Window : Type 0 where
   pub is_ended : Bool
   pub books : List NumberedBook
 
--- behind sessions with this greatest number
+-- after sessions with this greatest number
 abbrev pub new_window : Sequence → ℕ → ℕ → Window
 new_window s size before = record {
   sequence = s;
@@ -104,7 +104,7 @@ book_in w n = unwrap_or (book_at w.books n) (book_of w.sequence [])
 unfoldable pub window_outcome : Window → Fragment → Outcome
 window_outcome w f =
     let n = number_by w f.number in
-    if late_in w n then Late else book_outcome (book_in w n) f.part
+    unless_late (late_in w n) (book_outcome (book_in w n) f.part)
 
 -- ---- letting go
 
@@ -225,7 +225,7 @@ pub record StandsForPast (w : Window) (p : WindowPast) : Type 0 where
   pub value : w ≡ window_of p
   pub in_order : past_let_go p ≡ p.released ++ releasable_numbers p
 
--- the past of the last session's window, behind other sessions
+-- the past of the last session's window, after other sessions
 abbrev pub session_past : ℕ → List HeardSession → HeardSession → List ℕ → WindowPast
 session_past size hs h released = record {
   sequence = h.session.sequence;

@@ -97,7 +97,7 @@ pub fn what_is_not_kept_changes_nothing()
         → book_takes book part ≡ book }
 {}
 
-/// A picture isn't closed behind any place before its closing place, and behind that one it is.
+/// A picture isn't closed after any place before its closing place, and after that one it is.
 #[tactic(auto, using(crate::proofs::Closing::laws))]
 pub fn pictures_close_at_their_place()
     ensures before { (window : ℕ) (datagrams : List (List ℕ)) (n k : ℕ)
@@ -145,7 +145,7 @@ pub fn sessions_have_numbers_apart()
 {}
 
 /// The first session opens at the first header that is accepted. A session ends at the first end of its source; it has all
-/// fragments of its source up to the first datagram behind that end that opens another session, and that one opens the next.
+/// fragments of its source up to the first datagram after that end that opens another session, and that one opens the next.
 #[tactic(auto, using(crate::proofs::Following::laws))]
 pub fn sessions_follow_each_other()
     ensures none { (datagrams : List (List ℕ)) → list_any (λ d. is_some (begins d)) datagrams
@@ -209,7 +209,7 @@ pub fn outcomes_say_what_datagrams_do()
         ≡ false → hears (h ∷ hs) d ≡ h ∷ hs }
 {}
 
-/// What is written behind earlier sessions: of a session that opens nothing, of its datagrams each picture as it is let go,
+/// What is written after earlier sessions: of a session that opens nothing, of its datagrams each picture as it is let go,
 /// and where it is over those that are left.
 #[tactic(auto, using(crate::proofs::SessionOutput::laws))]
 pub fn sessions_are_written_in_order()
@@ -230,7 +230,7 @@ pub fn sessions_are_written_in_order()
 {}
 
 /// What a packet or a payload is written as is read back as the same value, the places aside. What follows an RTP header
-/// is its payload; bytes behind a payload join the body of a sequence header, and are ignored elsewhere.
+/// is its payload; bytes after a payload join the body of a sequence header, and are ignored elsewhere.
 #[tactic(auto, using(crate::proofs::WrittenPackets::laws, crate::proofs::WrittenPayloads::laws))]
 pub fn what_is_written_is_read()
     ensures rtp { (p : RtpPacket) (rest : List ℕ) → RtpFits p → rtp_packet (rtp_header p ++ rest)

@@ -64,7 +64,7 @@ pub fn windows_stay_small()
 
 /// The window of a list's last session: its past goes on with each datagram, and its greatest number
 /// is that of all sessions so far. The picture of a fragment that isn't late is the nearest one to
-/// the greatest number behind it, and has its book.
+/// the greatest number after it, and has its book.
 pub fn windows_follow_sessions()
     ensures greatest { (size : ℕ) (hs : List HeardSession) (h : HeardSession)
         → (released : List ℕ) (w : Window)
