@@ -108,7 +108,7 @@ module _ (s : Sending) (IsPart : ℕ → Part → Type 0) where
         | inr above ↦ (own.picture, own.few, one_greatest e (g ∷ es) ∙ omega (arith, own.number, rest.2, above))
       ]
 
-  -- the number of a picture behind others
+  -- the number of a picture after others
   pub number_behind : (base first j : ℕ) (e : Numbered) (es : List Numbered) → first % 2 ^ 32 ≡ s.picture % 2 ^ 32 → All (IsEntry first) (e ∷ es) → j < 2 ^ 31 → picture_number base (e ∷ es) (number_bits s j) ≡ first + j
   number_behind base first j e es bits all few =
       grind (arith, greatest_is, later_number, number_found)
@@ -219,7 +219,7 @@ module _ (s : Sending) (IsPart : ℕ → Part → Type 0) where
         parts_now : parts_of own_number after ≡ parts_of own_number before ++ f.part ∷ []
         parts_now = grind (arith, entered_now, number_is, own_part, parts_of-append, unopened)
 
-        -- so its part is one of its picture's, behind those that came before it
+        -- so its part is one of its picture's, after those that came before it
         pub part_entered : (rest : List Part) × (parts_of own_number last ≡ parts_of own_number before ++ f.part ∷ rest)
         part_entered =
             let later = (entered_follows (2 ^ 32) window (old ++ f ∷ []) more).adds own_number in

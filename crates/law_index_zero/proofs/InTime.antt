@@ -25,7 +25,7 @@ pub entered_is : (window : ℕ) (h : HeardSession) → entered_of window h ≡ e
 entered_is window h = ap (λ (base : ℕ). entered base window h.fragments) (first_base window)
 
 module _ (s : Sending) (IsPart : ℕ → Part → Type 0) (window : ℕ) (some : 1 ≤ window) (datagrams : List (List ℕ)) (h : HeardSession) (one : sessions_of datagrams ≡ h ∷ []) (sent : All (IsSentFragment s IsPart) h.fragments) (first : ℕ) (bits : first % 2 ^ 32 ≡ s.picture % 2 ^ 32) (low : first ≤ 2 ^ 33) (entries : All (IsEntry s IsPart first) (entered (2 ^ 32) window h.fragments)) where
-  -- the part of a datagram behind the parts of those before it
+  -- the part of a datagram after the parts of those before it
   pub record IsEntered (j : ℕ) (d : List ℕ) (place : ℕ) (part : Part) : Type 0 where
     pub front : List Part
     pub rest : List Part

@@ -77,7 +77,7 @@ opens_once h (d ∷ ds) is = by_next (opens_next [] (begins d)) refl (opens_once
           fragments = later.fragments;
         }
 
--- ---- at a place behind its header
+-- ---- at a place after its header
 
 single : (hs : List HeardSession) → 1 ≤ length hs → length hs ≤ 1 → (h : HeardSession) × (hs ≡ h ∷ [])
 single [] some few = absurd (omega (arith, some))

@@ -191,7 +191,7 @@ module _ (sequence : Sequence) (p : Parameters) (bytes : List ℕ) (read : (more
           | inr past ↦ absurd (omega (arith, past.0, below, count))
         ]
 
-        -- the whole bytes are the parameters that were sent, and behind them the slices
+        -- the whole bytes are the parameters that were sent, and after them the slices
         pub whole_picture-own : whole_picture sequence parts ≡ Some (bytes ++ joined slices)
         unfolding whole_picture has_all_slices all_bytes
         whole_picture-own =

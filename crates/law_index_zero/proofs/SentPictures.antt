@@ -112,7 +112,7 @@ module _ (p : Parameters) (planes : Planes) (is : IsSendable p planes) where
     c2 = plane_back p planes is.across is.down C2 (is.each C2).size (is.each C2).all_there is.symmetric (is.each C2).some_bits (is.each C2).samples i;
   }
 
-  -- parameters that are read as these, and behind them the slices, decode to the planes
+  -- parameters that are read as these, and after them the slices, decode to the planes
   pub decoded_planes-sent : (sequence : Sequence) (bytes behind : List ℕ) → ((more : List ℕ) → coded_parameters sequence (bytes ++ more) ≡ Ok (p, length bytes)) → decoded_planes sequence (bytes ++ (joined slices_at_zero ++ behind)) ≡ Some planes
   unfolding decoded_planes decoded_picture
   decoded_planes-sent sequence bytes behind read =

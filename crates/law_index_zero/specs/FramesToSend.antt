@@ -38,7 +38,7 @@ pub record IsPictureToSend (s : Sending) (indices : List ℕ) (planes : Planes) 
   pub samples : first_sample_fault s planes ≡ None
   pub slices : first_of_slices s planes (slices_with_indices (sent_parameters s) indices) ≡ None
 
--- the indices of the slices of a picture, counted from the first, and of those behind it
+-- the indices of the slices of a picture, counted from the first, and of those after it
 abbrev pub indices_from : Sending → ℕ → List ℕ → List ℕ
 indices_from s picture indices = drop (picture * slices_per_picture s) indices
 

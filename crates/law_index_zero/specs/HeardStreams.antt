@@ -35,7 +35,7 @@ pub record IsNumberOf (s : Sending) (es : List Numbered) (picture number : ℕ) 
 
 -- ---- what is there in time
 
--- a datagram stands behind the one that opens the session, and before the close of a picture
+-- a datagram stands after the one that opens the session, and before the close of a picture
 pub record IsInTime (window : ℕ) (datagrams : List (List ℕ)) (number : ℕ) (datagram : List ℕ)
     (place : ℕ) : Type 0 where
   pub at : slice_get datagrams place ≡ Some datagram
@@ -55,7 +55,7 @@ abbrev pub slice_datagrams : Session → ℕ → List (List ℕ) → ℕ
 slice_datagrams session bits datagrams =
     count_by (λ d. has_slices_of bits (fragment_in session d)) datagrams
 
--- All datagrams with a picture's parameters or slices are there in time, the parameters behind at
+-- All datagrams with a picture's parameters or slices are there in time, the parameters after at
 -- most as many datagrams of its slices as wait for them.
 pub record IsHeardInTime (window : ℕ) (s : Sending) (indices : List ℕ) (frames : List Planes)
     (datagrams : List (List ℕ)) (session : Session) (picture number : ℕ) : Type 0 where

@@ -17,7 +17,7 @@ use Rattle.vc_types.specs.RawFrames.{frame_bytes, is_wide}
 use Rattle.vc_types.specs.SenderSettings.{Sending, sending_view}
 use Rattle.vc_types.specs.SequenceHeader.{picture_shape}
 
--- the whole bytes of a picture as it is sent: its parameters, and behind them its slices
+-- the whole bytes of a picture as it is sent: its parameters, and after them its slices
 abbrev pub sent_picture_bytes : Sending → List ℕ → ℕ → Planes → List ℕ
 sent_picture_bytes s indices picture planes = sent_parameter_bytes s
     ++ joined (sent_slices (sent_parameters s) planes (indices_from s picture indices))

@@ -136,7 +136,7 @@ module _ (window : ℕ) where
   last_let_go (h ∷ hs) d = begins_behind (heard_pictures window hs) (let_go_numbers window h.session.sequence (entered_behind window hs h)) (let_go_numbers window h.session.sequence (entered_behind window hs (with_datagram h d)))
       (let_go_numbers_grow window h.session.sequence (entered_behind window hs h) (entered_behind window hs (with_datagram h d)) (entered_follows (base_above (greatest_of window hs)) window h.fragments (filter_map (fragment_in h.session) (d ∷ []))))
 
-  -- what is let go later stands behind what is let go now
+  -- what is let go later stands after what is let go now
   pub let_go_grows : (hs : List HeardSession) (d : List ℕ) → IsPrefixOf (let_go_pictures window false hs) (let_go_pictures window false (hears hs d))
   unfolding hears let_go_pictures
   let_go_grows hs d = by_next (opens_next hs (begins d))

@@ -58,7 +58,7 @@ pub range_rising : (a n : ℕ) → IsRising (range_with_len a n)
 range_rising a zero = tt
 range_rising a (suc n) = (range_above (a + 1) a n (omega arith), range_rising (a + 1) n)
 
--- ---- lists one behind the other
+-- ---- lists one after the other
 
 pub append_rising : (bound : ℕ) (xs ys : List ℕ) → IsRising xs → IsRising ys → Each (λ x. x ≤ bound) xs → Each (λ y. bound < y) ys → IsRising (xs ++ ys)
 append_rising bound [] ys a b below above = b
@@ -87,7 +87,7 @@ pub among_back : (xs ys : List ℕ) (n : ℕ) → is_among ys n ≡ true → is_
 among_back [] ys n e = e
 among_back (x ∷ xs) ys n e = grind (arith, among_back xs ys n e)
 
--- what isn't behind a number of a rising list, and is in the list, is before it
+-- what isn't after a number of a rising list, and is in the list, is before it
 pub among_before : (front rest : List ℕ) (n k : ℕ) → IsRising (front ++ n ∷ rest) → k < n → is_among (front ++ n ∷ rest) k ≡ true → is_among front k ≡ true
 among_before [] rest n k rising less e = grind (arith, among_each)
 among_before (x ∷ front) rest n k rising less e =

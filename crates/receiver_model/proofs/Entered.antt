@@ -70,7 +70,7 @@ module _ (size : ℕ) (f : Feeder) where
 
 -- ---- all that may be released is
 
--- the receiver and the feeder behind the releases
+-- the receiver and the feeder after the releases
 record Done (size : ℕ) (hs : List HeardSession) (t : Tally) (r : Reception) (f : Feeder)
     (st : StandingSession) (p : WindowPast) : Type 0 where
   pub standing : StandingSession

@@ -74,7 +74,7 @@ module _ (size : ℕ) (h : HeardSession) (hs : List HeardSession) (n i : ℕ) wh
       → kept_job size (h ∷ hs) n i ≡ kept_job size hs n i
   earlier_job shut = same_session_job size n i (h ∷ hs) hs (session_before size h hs n shut)
 
-  -- one that isn't opened behind a datagram wasn't before
+  -- one that isn't opened after a datagram wasn't before
   pub shut_before : (d : List ℕ) → is_opened (entered_behind size hs (with_datagram h d)) n ≡ false
       → is_opened (entered_behind size hs h) n ≡ false
   shut_before d shut =

@@ -82,7 +82,7 @@ module _ (s : Sequence) (es : List Numbered) where
     a_frame b first None = refl
     a_frame b first (Some planes) = refl
 
-    -- behind the pictures before a number, of which these are left
+    -- after the pictures before a number, of which these are left
     record IsReady (bound : ℕ) (ns : List ℕ) (w : Option FirstField) : Type 0 where
       pub rises : AreRising bound ns
       pub left : (k : ℕ) → bound ≤ k → found k ≡ true → is_among ns k ≡ true

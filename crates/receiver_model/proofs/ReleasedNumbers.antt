@@ -1,4 +1,4 @@
--- Which pictures of a window are released, and which may be: those that stand behind the last one.
+-- Which pictures of a window are released, and which may be: those that stand after the last one.
 use Rattle.std.proofs.Common.{◌≡◌, ℕ, zero, suc, ◌+◌, ◌<◌, ◌≤◌, Bool, true, false, refl, ap, sym}
 use Rattle.std.proofs.Common.{List, [], ◌∷◌, ◌++◌, length, Option, Some, None, subst, ◌∙◌}
 use Rattle.std.proofs.Common.{arith, inl, inr}
@@ -39,7 +39,7 @@ module _ (n : ℕ) where
   among_rising bound [] rises there = absurd (false≢true there)
   among_rising bound (k ∷ ns) rises there = grind (arith, among_rising (k + 1) ns rises.1)
 
-  -- those behind some are greater than the last of these
+  -- those after some are greater than the last of these
   higher : (k bound : ℕ) (ns more : List ℕ) → k < bound → AreRising bound (ns ++ more)
       → is_among more n ≡ true → released_up_to (last_or (Some k) ns) n ≡ false
   higher k bound [] more less rises there =
@@ -156,7 +156,7 @@ module _ (p : WindowPast) (in_order : past_let_go p ≡ p.released ++ releasable
           down n last.0
           (leb-true n last.0 (sym (ap (λ (o : Option ℕ). released_up_to o n) last.1) ∙ low)) gone.1
 
-  -- a picture that is opened was released where it isn't behind the last one
+  -- a picture that is opened was released where it isn't after the last one
   pub released_is : (n : ℕ) → is_opened p.entries n ≡ true
       → is_among p.released n ≡ released_up_to (last_or None p.released) n
   released_is n opened =

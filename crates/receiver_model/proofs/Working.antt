@@ -43,7 +43,7 @@ use Rattle.receiver_model.proofs.WaitingFields.{waiting_is}
 abbrev pub entered_of : WindowPast → EnteredSession
 entered_of p = record { sequence = p.sequence; entries = p.entries }
 
--- The window's past is that of the session on which the receiver works, behind these sessions, all
+-- The window's past is that of the session on which the receiver works, after these sessions, all
 -- of whose pictures were released. The tally is that of what came before the session's pictures.
 pub record IsWorking (r : Reception) (size : ℕ) (f : Feeder) (hs : List HeardSession)
     (p : WindowPast) (st : StandingSession) (t : Tally) : Type 0 where

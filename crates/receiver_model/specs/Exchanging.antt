@@ -49,7 +49,7 @@ abbrev pub new_jobs_of : Window → Window → ℕ → List Job
 new_jobs_of old new n = option_map_or
     (λ book. filter_map (new_job old new n) (numbers_in book)) (book_at new.books n) []
 
--- by the window before and behind the fragment
+-- by the window before and after the fragment
 unfoldable pub offered_jobs : Window → Window → Fragment → List Job
 offered_jobs old new f = new_jobs_of old new (number_by old f.number)
 

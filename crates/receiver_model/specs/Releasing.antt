@@ -79,7 +79,7 @@ released_frame s field n planes =
 abbrev pub as_first : ℕ → Planes → FirstField
 as_first n planes = record { number = n; planes = planes }
 
--- the field that waits behind it
+-- the field that waits after it
 abbrev pub field_behind : Sequence → ℕ → Option Planes → Option FirstField
 field_behind s n planes =
     if s.fields && n % 2 == 0 then option_map (as_first n) planes else None

@@ -65,7 +65,7 @@ next_field s es fields n = record {
   alone = fields.alone + fields_alone s fields.waiting n (planes_at s es n);
 }
 
--- behind pictures that were released, in this order
+-- after pictures that were released, in this order
 abbrev pub fields_behind : Sequence → List Numbered → List ℕ → Fields
 fields_behind s es released = fold (next_field s es) no_fields released
 

@@ -65,7 +65,7 @@ pub fn unkept_datagrams_change_nothing()
 {}
 
 /// What is kept of a picture all of whose slices are there is a picture of its sequence: the coded
-/// parameters, and behind them the slices that are kept, as many whole ones as it has, are its bytes.
+/// parameters, and after them the slices that are kept, as many whole ones as it has, are its bytes.
 /// So the law on slices that decode apart speaks of the pictures that are written.
 pub fn complete_pictures_are_their_slices()
     ensures { (s : Sequence) (parts : List Part) (kept : Own) → own s parts ≡ Some kept
@@ -73,7 +73,7 @@ pub fn complete_pictures_are_their_slices()
 {}
 
 /// The jobs that a fragment offers are those of the slices that it brings: their pictures keep them
-/// behind it, and didn't before.
+/// after it, and didn't before.
 pub fn new_slices_are_offered()
     ensures every { (w : Window) (p : WindowPast) → StandsForPast w p → p.is_ended ≡ false
         → (f : Fragment) (n i : ℕ) (job : Job) → window_job w n i ≡ None
@@ -106,7 +106,7 @@ pub fn every_kept_slice_was_offered()
 {}
 
 /// A datagram offers nothing else: each of its jobs is that of a slice which a picture of the
-/// datagrams keeps with it, and didn't keep before. The picture is still open behind the datagram,
+/// datagrams keeps with it, and didn't keep before. The picture is still open after the datagram,
 /// it wasn't released, and the slice has no answer.
 pub fn only_new_slices_are_offered()
     ensures kept { (r : Reception) (size : ℕ) (datagrams : List (List ℕ)) (d : List ℕ)
@@ -149,7 +149,7 @@ pub fn offered_slices_are_not_out()
         → AreOutKept size (sessions_of datagrams) (takes_end r exchanges).out }
 {}
 
-/// The slices of the pictures that a call releases aren't out any more behind it, and all others
+/// The slices of the pictures that a call releases aren't out any more after it, and all others
 /// are that were out before its releases.
 pub fn released_slices_are_not_out()
     ensures datagram { (r : Reception) (size : ℕ) (f : Feeder) → size ≤ 8 → StandsFor r size f

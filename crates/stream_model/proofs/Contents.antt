@@ -1,4 +1,4 @@
--- The datagrams of a picture, one behind another.
+-- The datagrams of a picture, one after another.
 use Rattle.std.proofs.Common.{◌≡◌, ℕ, suc, ◌+◌, ◌%◌, ◌^◌, Bool, List, [], ◌∷◌, ◌++◌, length, refl, ap, arith}
 use Rattle.link_model.specs.Packets.{PayloadValue, payload_bytes, rtp_header}
 use Rattle.link_model.specs.Sending.{DatagramContent, high_half}

@@ -84,7 +84,7 @@ unfolding first_header
 header_stays [] more has = absurd (false≢true has)
 header_stays (d ∷ datagrams) more has = grind (arith, header_stays datagrams more)
 
--- pictures grow behind the first header
+-- pictures grow after the first header
 module _ (datagrams more : List (List ℕ)) (now later : List DataUnit) (grow : Begins now later)
     (none : list_any (λ d. is_some (begins d)) datagrams ≡ false → now ≡ []) where
   pub behind_grow : Begins (behind_header (first_header datagrams) now)

@@ -22,7 +22,7 @@ module _ (s : Packing) where
   behind_more before t (q ∷ pictures) p =
       grind (arith, behind_more (before + 1) (packed_timestamp s before q.number) pictures p)
 
--- the datagrams of a picture more come behind the others
+-- the datagrams of a picture more come after the others
 pub packed_more : (s : Packing) (pictures : List PackedPicture) (p : PackedPicture) → packed_datagrams s (pictures ++ p ∷ []) ≡ packed_datagrams s pictures ++ packed_picture s (length pictures) (s.seq + length (packed_datagrams s pictures)) p
 unfolding packed_datagrams
 packed_more s pictures p = grind (arith, from_more)

@@ -30,7 +30,7 @@ pub behind_header-append : (header : List ℕ) (pictures more : List DataUnit)
 behind_header-append header [] more = refl
 behind_header-append header (u ∷ pictures) more = refl
 
--- what is behind a stream's units
+-- what is after a stream's units
 abbrev pub ending : List DataUnit → List DataUnit
 ending [] = []
 ending (u ∷ units) = end_unit ∷ []

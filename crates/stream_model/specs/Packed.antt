@@ -35,7 +35,7 @@ settings_for s stream =
     record s { fields = option_map_or (λ t. t.sequence.fields) stream false }
 
 -- the first header begins the stream, and others have its value; the bytes that are used of one
--- stand for the pictures behind it
+-- stand for the pictures after it
 abbrev pub packs_header : Option PackStream → List ℕ → Result (Sequence × ℕ) HeaderRefusal
     → Result (Option PackStream) PackFault
 packs_header stream body (Err refusal) = Err BadUnit
@@ -45,7 +45,7 @@ packs_header (Some t) body (Ok read) =
     if same_sequence t.sequence read.0 then Ok (Some (record t { header = take read.1 body }))
     else Err BadUnit
 
--- a picture whose slices were read, if they are all there; bytes behind them are ignored
+-- a picture whose slices were read, if they are all there; bytes after them are ignored
 abbrev pub with_all_slices : List ℕ → ℕ → List ℕ → Parameters
     → Result (List (List ℕ) × List ℕ) (Unit {0}) → Option PackedPicture
 with_all_slices header number coded p (Err short) = None
@@ -90,7 +90,7 @@ abbrev pub packs_picture : Packing → Option PackStream → List ℕ
 packs_picture s None body = Err BadUnit
 packs_picture s (Some t) body = if_it_is_whole s t (picture_to_pack t body)
 
--- A unit more: a sequence header of the first one's value, or a picture behind a header, which has
+-- A unit more: a sequence header of the first one's value, or a picture after a header, which has
 -- all its slices and whose parts have room in datagrams. Other units bring nothing.
 unfoldable pub packs_unit : Packing → Option PackStream → DataUnit
     → Result (Option PackStream) PackFault
@@ -133,6 +133,6 @@ pictures_packed stream = option_map_or (λ t. t.pictures) stream []
 abbrev pub stream_packed : Packing → Option PackStream → List (List ℕ)
 stream_packed s stream = packed_datagrams (settings_for s stream) (pictures_packed stream)
 
--- the same, and behind them the end of the sequence
+-- the same, and after them the end of the sequence
 abbrev pub whole_packed : Packing → Option PackStream → List (List ℕ)
 whole_packed s stream = packed_stream (settings_for s stream) (pictures_packed stream)

@@ -1,6 +1,6 @@
 -- The datagrams that this project's packer makes of the pictures of an elementary stream (RFC 3550,
 -- 5.1; RFC 8450, 4): for each picture its sequence header, its transform parameters and its slices
--- in the stream's own bytes, and an end of sequence behind the last.
+-- in the stream's own bytes, and an end of sequence after the last.
 use Rattle.std.specs.Prelude.{◌≡◌, ℕ, ◌+◌, ◌-◌, ◌*◌, ◌/◌, ◌%◌, ◌^◌, Bool, false, ◌==◌, nat_lt, if◌then◌else◌, List, [], ◌∷◌, ◌++◌, length, map, Option, Some, None, Result, Ok, Err}
 use Rattle.link_model.specs.Kept.{next_slices}
 use Rattle.link_model.specs.Packets.{RtpPacket, rtp_header, FragmentHead, PayloadValue, Header, End, Params, Slices, payload_bytes}
@@ -34,15 +34,15 @@ AreAllSlices p bytes = next_slices p (slice_count p) bytes ≡ Ok (slices_in p b
 
 -- ---- which part of a picture is too large
 
--- how many bytes a datagram has for a sequence header, behind 12 of the packet and 4 of the payload
+-- how many bytes a datagram has for a sequence header, after 12 of the packet and 4 of the payload
 abbrev pub header_room : Packing → ℕ
 header_room s = s.size - 16
 
--- for transform parameters, behind 12 and 16
+-- for transform parameters, after 12 and 16
 abbrev pub parameters_room : Packing → ℕ
 parameters_room s = s.size - 28
 
--- for slices, behind 12 and 20
+-- for slices, after 12 and 20
 abbrev pub slices_room : Packing → ℕ
 slices_room s = s.size - 32
 
@@ -138,7 +138,7 @@ contents_from s timestamp p sequence (content ∷ contents) =
     (packed_value s p sequence content)
     ∷ contents_from s timestamp p (sequence + 1) contents
 
--- those of a picture behind so many pictures
+-- those of a picture after so many pictures
 abbrev pub packed_picture : Packing → ℕ → ℕ → PackedPicture → List (List ℕ)
 packed_picture s before sequence p =
     contents_from s (packed_timestamp s before p.number) p sequence (packed_contents s p)
@@ -168,7 +168,7 @@ unfoldable pub end_around : Packing → ℕ → ℕ → List ℕ
 end_around s sequence timestamp =
     datagram_around s sequence timestamp false (End (high_half sequence))
 
--- the end behind all pictures, with the timestamp before it, 0 if there was none
+-- the end after all pictures, with the timestamp before it, 0 if there was none
 unfoldable pub packed_end : Packing → List PackedPicture → List ℕ
 packed_end s pictures =
     end_around s (s.seq + length (packed_datagrams s pictures)) (timestamp_behind s 0 0 pictures)

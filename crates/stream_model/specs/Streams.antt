@@ -17,7 +17,7 @@ use Rattle.vc_types.specs.declared.refusal.HeaderRefusal.{HeaderRefusal}
 
 -- ---- units one after another
 
--- their bytes, behind a unit of so many bytes, 0 where the first of them is the first of all
+-- their bytes, after a unit of so many bytes, 0 where the first of them is the first of all
 unfoldable pub units_behind : ℕ → List DataUnit → List ℕ
 units_behind previous [] = []
 units_behind previous (u ∷ units) =
@@ -40,12 +40,12 @@ end_unit = record { code = end_code; body = [] }
 abbrev pub picture_unit : ℕ → List ℕ → DataUnit
 picture_unit n whole = record { code = picture_code; body = big_bytes 4 n ++ whole }
 
--- pictures behind their header; without pictures there is nothing
+-- pictures after their header; without pictures there is nothing
 abbrev pub behind_header : List ℕ → List DataUnit → List DataUnit
 behind_header header [] = []
 behind_header header (u ∷ pictures) = header_unit header ∷ u ∷ pictures
 
--- an end of sequence behind a stream's units, if there are any
+-- an end of sequence after a stream's units, if there are any
 abbrev pub with_end : List DataUnit → List DataUnit
 with_end [] = []
 with_end (u ∷ units) = (u ∷ units) ++ end_unit ∷ []

@@ -2,7 +2,7 @@ ghost use Rattle.std.specs.Prelude.{◌≡◌, ◌+◌, [], ◌∷◌, ◌++◌,
 ghost use Rattle.stream_model.specs.Packing.{PackedPicture, packed_datagrams, packed_picture, packed_timestamp, timestamp_behind};
 ghost use Rattle.vc_types.specs.SenderSettings.{Packing};
 
-/// A picture more is packed behind the others, with the next sequence number and a timestamp that counts them.
+/// A picture more is packed after the others, with the next sequence number and a timestamp that counts them.
 #[tactic(auto, using(crate::proofs::PackedMore::packed_more, crate::proofs::PackedMore::timestamp_more))]
 pub fn pictures_are_packed_one_by_one()
     ensures datagrams { (s : Packing) (pictures : List PackedPicture) (p : PackedPicture)
