@@ -1,4 +1,3 @@
-pub mod MachineRows
 pub mod PlacesKept
 pub mod RisingLists
 pub mod Positions
@@ -10,5 +9,4 @@ pub mod MachineHalves
 pub mod MachineKept
 pub mod MachineRuns
 pub mod FeederWay
-pub mod FeederRows
 pub mod PlaceSteps
