@@ -2,7 +2,6 @@ mod Places
 pub mod Outside
 mod SampleFaults
 pub mod Numbered
-pub mod Packed
 mod Frames
 mod FramePictures
 mod EncodedFrames
@@ -10,6 +9,7 @@ pub mod PutPictures
 pub mod PayloadLengths
 pub mod Cutting
 mod Putting
+mod SentAsPacked
 pub mod Rooms
 mod RunsPut
 mod Stamps

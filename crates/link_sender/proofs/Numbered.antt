@@ -1,13 +1,13 @@
 -- Datagrams one behind another, and sequence numbers that wrap.
-use Rattle.std.proofs.Common.{◌≡◌, ℕ, suc, ◌+◌, ◌/◌, ◌%◌, ◌^◌, ◌<◌, Bool, List, [], ◌∷◌, ◌++◌, length, Result, Ok, Err, refl, sym, ap, ◌∙◌, arith}
+use Rattle.std.proofs.Common.{◌≡◌, ℕ, suc, ◌+◌, ◌/◌, ◌%◌, ◌^◌, List, [], ◌∷◌, ◌++◌, length, Result, Ok, Err, refl, ap, ◌∙◌, arith}
 use Rattle.std.specs.Prelude.{OnOk}
-use Rattle.std.proofs.lemmas.List.{append-nil, length-append}
+use Rattle.std.proofs.lemmas.List.{length-append}
 use Rattle.std.proofs.lemmas.Grind.{common_steps}
 use Rattle.link_model.specs.Packets.{PayloadValue, Header, End, Params, FragmentHead, payload_bytes, rtp_header}
-use Rattle.link_model.specs.Sending.{Outgoing, DatagramContent, HeaderContent, ParametersContent, SlicesContent, EndContent, outgoing, content_value, datagrams_from, flags_byte, has_marker, high_half, number_bits, run_value, sent_datagram, sent_packet, sent_value, timestamp_of}
+use Rattle.link_model.specs.Sending.{Outgoing, DatagramContent, HeaderContent, ParametersContent, SlicesContent, EndContent, content_value, datagrams_from, flags_byte, has_marker, high_half, number_bits, run_value, sent_datagram, sent_packet, sent_value, timestamp_of}
 use Rattle.link_model.specs.SendingPictures.{sent_header, sent_parameter_bytes}
 use Rattle.link_sender.specs.declared.outbox.Outbox.{Outbox}
-use Rattle.link_sender.specs.Packing.{Sends, bytes_of_all, datagram_with}
+use Rattle.link_sender.specs.Packing.{Sends}
 use Rattle.vc_types.specs.SenderSettings.{Sending}
 
 -- ---- numbers of 32 bits
@@ -61,21 +61,8 @@ module _ (s : Sending) where
 
   -- ---- what is put
 
-  pub sends_none : (x : Outbox) → x.number < 2 ^ 32 → Sends s [] x x
-  unfolding datagrams_from
-  sends_none x small = record { datagrams_are = sym (append-nil (bytes_of_all x.datagrams.items)); number_is = omega (arith, small) }
-
   pub sends_more : (a b : List Outgoing) (x y z : Outbox) → Sends s a x y → Sends s b y z → Sends s (a ++ b) x z
   sends_more a b x y z first second = grind (arith, common_steps, length-append, wrapped, appended)
-
-  one_datagram : (n picture : ℕ) (c : DatagramContent) → datagrams_from s n (outgoing picture c ∷ []) ≡ datagram_with s n (timestamp_of s picture) (has_marker s c) (content_value s n picture c) ∷ []
-  unfolding datagrams_from sent_datagram sent_packet sent_value rtp_header
-  one_datagram n picture c = refl
-
-  pub sends_one : (picture : ℕ) (c : DatagramContent) (x y : Outbox) (marker : Bool) (value : PayloadValue) → marker ≡ has_marker s c → value ≡ content_value s x.number picture c
-      → bytes_of_all y.datagrams.items ≡ bytes_of_all x.datagrams.items ++ datagram_with s x.number (timestamp_of s picture) marker value ∷ []
-      → y.number ≡ (x.number + 1) % 2 ^ 32 → Sends s (outgoing picture c ∷ []) x y
-  sends_one picture c x y marker value marked carried put number = grind (arith, common_steps, one_datagram)
 
 -- two clauses on what is answered make a third
 pub both_ok : {A E P Q R : Type 0} (r : Result A E) → OnOk r P → OnOk r Q → (P → Q → R) → OnOk r R

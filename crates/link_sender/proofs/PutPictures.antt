@@ -1,28 +1,30 @@
 -- The datagrams of a picture and of a frame, put one behind another.
-use Rattle.std.proofs.Common.{◌≡◌, ℕ, suc, ◌+◌, ◌-◌, ◌*◌, ◌%◌, ◌^◌, ◌<◌, ◌≤◌, true, List, [], ◌∷◌, ◌++◌, length, take, get_or, Option, Some, None, refl, sym, ap, subst, ◌∙◌, arith}
+use Rattle.std.proofs.Common.{◌≡◌, ℕ, suc, ◌+◌, ◌-◌, ◌*◌, ◌%◌, ◌^◌, ◌<◌, ◌≤◌, true, List, [], ◌∷◌, ◌++◌, length, take, get_or, Option, Some, None, sym, ap, subst, ◌∙◌, arith}
 use Rattle.std.specs.Prelude.{All}
 use Rattle.std.specs.Global.{Vec}
 use Rattle.std.proofs.lemmas.Bool.Decides.{nat_tests}
 use Rattle.std.proofs.lemmas.List.{append-nil, get_or-map, length-map}
-use Rattle.std.proofs.lemmas.List.Elements.{All-head, All-tail}
+use Rattle.std.proofs.lemmas.List.Elements.{All-head, All-tail, All-weaker}
 use Rattle.std.proofs.Math.Nat.{mul-pos}
 use Rattle.std.proofs.Math.Seq.{take-suc}
 use Rattle.std.proofs.lemmas.Grind.{common_steps}
-use Rattle.link_model.specs.Sending.{Outgoing, pictures_per_frame, runs_of_slices, timestamp_of}
-use Rattle.link_model.specs.SendingPictures.{slice_room}
+use Rattle.link_model.specs.Sending.{Outgoing, pictures_per_frame, timestamp_of}
+use Rattle.link_model.specs.SendingPictures.{sent_parameters}
 use Rattle.link_sender.specs.declared.encoding.FrameSlices.{FrameSlices}
 use Rattle.link_sender.specs.declared.outbox.Outbox.{Outbox}
-use Rattle.link_sender.specs.declared.runs.OpenRun.{OpenRun}
-use Rattle.link_sender.specs.Packing.{ArePacked, HasSlices, Sends, run_of, runs_outgoing}
+use Rattle.link_sender.specs.Packing.{Sends, packing_of}
+use Rattle.link_sender.specs.Runs.{FitsRun}
+use Rattle.link_sender.specs.declared.picture.Picture.{Picture}
 use Rattle.link_sender.specs.Sent.{IsPicture, coded_frame_outgoing, coded_outgoing, coded_pictures_outgoing, slices_by_picture, second_pictures}
 use Rattle.link_sender.proofs.Numbered.{sends_more}
-use Rattle.link_sender.proofs.Packed.{all_packed}
 use Rattle.link_sender.proofs.SentBytes.{datagrams_count}
 use Rattle.picture_encode.specs.declared.slices.EncodedSlice.{EncodedSlice}
 use Rattle.picture_encode.specs.Encoded.{IsSized, slice_bytes}
 use Rattle.vc_types.specs.Bits.{digit_of}
 use Rattle.vc_types.specs.Limits.{slices_fit}
-use Rattle.vc_types.specs.SenderSettings.{Sending}
+use Rattle.vc_types.specs.SenderSettings.{Packing, Sending, packing_view}
+use Rattle.vc_types.specs.Subbands.{slice_count}
+use Rattle.vc_types.specs.TransformParameters.{Parameters}
 
 -- ---- slices
 
@@ -43,13 +45,14 @@ next_slice slices i item inside is =
     ∙ take-suc (slice_bytes slices) i item.bytes.items (omega (arith, inside, long))
     ∙ ap (λ b. take i (slice_bytes slices) ++ b ∷ []) (own_bytes slices i item inside is)
 
-pub whole_packed : (s : Sending) (picture : ℕ) (slices : List (List ℕ)) (first x y : Outbox) (run : OpenRun) → 1 ≤ length slices → 32 ≤ s.size → All (IsSized s) slices → ArePacked s picture slices first x run
-    → ((left : List (List ℕ)) → HasSlices run left → Sends s (runs_outgoing picture (run_of run left ∷ [])) x y)
-    → Sends s (runs_outgoing picture (runs_of_slices (slice_room s) slices)) first y
-whole_packed s picture [] first x y run some room sized packed sends = absurd (omega (arith, some))
-whole_packed s picture (slice ∷ behind) first x y run some room sized packed sends =
-    let one = All-head (IsSized s) slice behind sized in
-    all_packed s picture (slice ∷ behind) first x run packed y slice behind refl (omega (arith, one.room, room)) sends
+pub all_fit : (s : Sending) (p : Picture) (slices : List (List ℕ)) → packing_view p.settings ≡ packing_of s → All (IsSized s) slices → All (FitsRun (packing_view p.settings)) slices
+all_fit s p slices is sized =
+    let size : p.settings.size ≡ s.size = ap (λ (t : Packing). t.size) is in
+    All-weaker (IsSized s) (FitsRun (packing_view p.settings)) (λ slice one. record { some = omega (arith, one.some); room = omega (arith, one.room, size) }) slices sized
+
+pub sent_slice_count : (s : Sending) (p : Parameters) → p ≡ sent_parameters s → s.across * s.down ≡ slice_count p
+unfolding sent_parameters
+sent_slice_count s p is = ap slice_count (sym is)
 
 -- ---- pictures
 
@@ -85,7 +88,7 @@ module _ (s : Sending) (coded : FrameSlices) where
 -- ---- the numbers behind a frame
 
 module _ (s : Sending) where
-  pub number_behind : (more : List Outgoing) (x y : Outbox) → x.datagrams.items ≡ [] → Sends s more x y → y.number ≡ (x.number + length y.datagrams.items) % 2 ^ 32
+  pub number_behind : (more : List Outgoing) (x y : Outbox) → x.datagrams.items ≡ [] → Sends s more x y → y.sequence ≡ (x.sequence + length y.datagrams.items) % 2 ^ 32
   number_behind more x y none sends = grind (arith, common_steps, length-map, datagrams_count)
 
   pub last_timestamp : (f time : ℕ) → time ≡ timestamp_of s (f * pictures_per_frame s + digit_of s.frames.fields) → time ≡ timestamp_of s (f * pictures_per_frame s + (pictures_per_frame s - 1))

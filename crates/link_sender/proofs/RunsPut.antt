@@ -1,20 +1,49 @@
 -- Slices that are packed into runs one after another.
-use Rattle.std.proofs.Common.{◌≡◌, ℕ, zero, suc, ◌+◌, ◌^◌, ◌<◌, ◌≤◌, List, [], ◌∷◌, ◌++◌, length, map, None, refl, sym, ap, subst, ◌∙◌, arith, append_assoc}
+use Rattle.std.proofs.Common.{◌≡◌, ℕ, zero, suc, ◌+◌, ◌^◌, ◌<◌, ◌≤◌, List, [], ◌∷◌, ◌++◌, length, map, refl, sym, ap, subst, ◌∙◌, arith, append_assoc}
+use Rattle.std.proofs.lemmas.Bool.Decides.{nat_tests}
 use Rattle.std.proofs.lemmas.List.{append-nil, length-append, map-append}
 use Rattle.std.proofs.lemmas.Grind.{common_steps}
 use Rattle.link_model.specs.Kept.{SliceRun}
-use Rattle.link_model.specs.Sending.{DatagramContent, SlicesContent, run_end, run_of_one, runs_from, runs_of_slices}
-use Rattle.link_sender.proofs.Packed.{begun, ended, joined_more, runs_are, taken}
-use Rattle.stream_model.specs.Packing.{first_large_slice, slices_room}
-use Rattle.link_sender.specs.declared.pack_outbox.Outbox.{Outbox}
+use Rattle.link_model.specs.Sending.{DatagramContent, SlicesContent, run_end, run_of_one, run_with, runs_from, runs_of_slices}
+use Rattle.stream_model.specs.Packing.{slices_room}
+use Rattle.link_sender.specs.declared.outbox.Outbox.{Outbox}
 use Rattle.link_sender.specs.declared.picture.Picture.{Picture}
-use Rattle.link_sender.specs.declared.pack_runs.OpenRun.{OpenRun}
+use Rattle.link_sender.specs.declared.runs.OpenRun.{OpenRun}
 use Rattle.link_sender.specs.Puts.{PutsDatagrams}
 use Rattle.link_sender.specs.Runs.{EndsRun, HoldsSlices, PacksSlices, first_run, run_with_slices}
 use Rattle.link_sender.proofs.Putting.{puts_none, puts_more}
-use Rattle.link_sender.proofs.Rooms.{first_fits}
 use Rattle.vc_types.specs.Fields.{joined}
 use Rattle.vc_types.specs.SenderSettings.{Packing, packing_view}
+
+-- ---- runs
+
+pub joined_more : (parts : List (List ℕ)) (part : List ℕ) → joined (parts ++ part ∷ []) ≡ joined parts ++ part
+joined_more [] part = append-nil part
+joined_more (first ∷ parts) part = ap (λ l. first ++ l) (joined_more parts part) ∙ sym (append_assoc first (joined parts) part)
+
+module _ (room : ℕ) (run : SliceRun) (slice : List ℕ) (slices : List (List ℕ)) where
+  pub taken : length (joined run.slices) + length slice ≤ room → runs_from room run (slice ∷ slices) ≡ runs_from room (run_with run slice) slices
+  unfolding runs_from
+  taken fits = grind (arith, nat_tests)
+
+  pub begun : room < length (joined run.slices) + length slice → runs_from room run (slice ∷ slices) ≡ run ∷ runs_from room (run_of_one (run_end run) slice) slices
+  unfolding runs_from
+  begun large = grind (arith, nat_tests)
+
+pub ended : (room : ℕ) (run : SliceRun) → runs_from room run [] ≡ run ∷ []
+unfolding runs_from
+ended room run = refl
+
+pub runs_are : (room : ℕ) (slice : List ℕ) (slices : List (List ℕ)) → length slice ≤ room → runs_from room first_run (slice ∷ slices) ≡ runs_of_slices room (slice ∷ slices)
+unfolding runs_of_slices
+runs_are room slice slices fits = taken room first_run slice slices (omega (arith, fits))
+
+-- ---- what is packed
+
+pub starts : (s : Packing) (run : OpenRun) → 64 ≤ s.size → run.first ≡ 0 → run.count ≡ 0 → run.body.items ≡ [] → EndsRun s 0 run
+starts s run room first count body =
+    let none = ap (λ (l : List ℕ). length l) body in
+    record { end = omega (arith, first, count); some = λ h. absurd (omega (arith, h)); empty = λ h. none; body = omega (arith, count); fits = omega (arith, room, none) }
 
 pub has_some : (s : Packing) (n : ℕ) (run : OpenRun) → EndsRun s n run → 0 < length run.body.items → 1 ≤ run.count
 has_some s zero run ends some = absurd (let none = ends.empty refl in omega (arith, none, some))
@@ -80,9 +109,9 @@ module _ (p : Picture) where
         (subst (λ (l : List DatagramContent). PutsDatagrams p l first y) (sym (map-append SlicesContent packed.put (r ∷ []))) (puts_more p (map SlicesContent packed.put) (SlicesContent r ∷ []) first x y packed.puts (puts packed.left packed.holds)))
 
 -- the slices of a picture, of which there is at least one
-pub whole_packed : (p : Picture) (slices : List (List ℕ)) (first x y : Outbox) (run : OpenRun) (n : ℕ) → 1 ≤ n → length slices ≡ n → first_large_slice (slices_room (packing_view p.settings)) 0 slices ≡ None → PacksSlices p slices first x run
+pub whole_packed : (p : Picture) (slices : List (List ℕ)) (first x y : Outbox) (run : OpenRun) → 1 ≤ length slices
+    → ((slice : List ℕ) (behind : List (List ℕ)) → slices ≡ slice ∷ behind → length slice ≤ slices_room (packing_view p.settings)) → PacksSlices p slices first x run
     → ((left : List (List ℕ)) → HoldsSlices run left → PutsDatagrams p (SlicesContent (run_with_slices run left) ∷ []) x y)
     → PutsDatagrams p (map SlicesContent (runs_of_slices (slices_room (packing_view p.settings)) slices)) first y
-whole_packed p [] first x y run n some count fits packed puts = absurd (omega (arith, some, count))
-whole_packed p (slice ∷ behind) first x y run n some count fits packed puts =
-    all_packed p (slice ∷ behind) first x run packed y slice behind refl (first_fits (slices_room (packing_view p.settings)) 0 slice behind fits).0 puts
+whole_packed p [] first x y run some fits packed puts = absurd (omega (arith, some))
+whole_packed p (slice ∷ behind) first x y run some fits packed puts = all_packed p (slice ∷ behind) first x run packed y slice behind refl (fits slice behind refl) puts

@@ -3,9 +3,9 @@ use Rattle.std.specs.Prelude.{◌≡◌, ◌≤◌, ◌+◌, ℕ, List, [], ◌+
 use Rattle.link_model.specs.Kept.{SliceRun}
 use Rattle.link_model.specs.Sending.{SlicesContent, runs_from}
 use Rattle.stream_model.specs.Packing.{slices_room}
-use Rattle.link_sender.specs.declared.pack_outbox.Outbox.{Outbox}
+use Rattle.link_sender.specs.declared.outbox.Outbox.{Outbox}
 use Rattle.link_sender.specs.declared.picture.Picture.{Picture}
-use Rattle.link_sender.specs.declared.pack_runs.OpenRun.{OpenRun}
+use Rattle.link_sender.specs.declared.runs.OpenRun.{OpenRun}
 use Rattle.link_sender.specs.Puts.{PutsDatagrams}
 use Rattle.vc_types.specs.Fields.{joined}
 use Rattle.vc_types.specs.SenderSettings.{Packing, packing_view}
@@ -21,6 +21,11 @@ run_with_slices run slices = record { first = run.first; slices = slices }
 -- a run with no slice yet, the first of a picture
 abbrev pub first_run : SliceRun
 first_run = record { first = 0; slices = [] }
+
+-- a slice of some bytes has room in a datagram
+pub record FitsRun (s : Packing) (slice : List ℕ) : Type 0 where
+  pub some : 1 ≤ length slice
+  pub room : length slice + 32 ≤ s.size
 
 -- a run ends before a slice, is empty before the first alone, and has room in a datagram
 pub record EndsRun (s : Packing) (slice : ℕ) (run : OpenRun) : Type 0 where

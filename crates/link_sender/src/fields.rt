@@ -1,5 +1,4 @@
 ghost use Rattle.std.specs.Prelude.{◌≡◌, ◌%◌, ◌^◌};
-ghost use Rattle.link_model.specs.Sending.{high_half};
 ghost use Rattle.stream_model.specs.Packing.{packed_flags, packed_timestamp};
 ghost use Rattle.vc_types.specs.SenderSettings.{packing_view};
 
@@ -32,11 +31,4 @@ pub(crate) fn flags(s: &PackSettings, number: u32) -> u8
     ensures { result ≡ packed_flags (packing_view s.now) number }
 {
     if s.fields { 2 + (number % 2) as u8 } else { 0 }
-}
-
-/// The upper half of an extended sequence number.
-pub(crate) fn high_half(sequence: u32) -> u16
-    ensures { result ≡ high_half sequence }
-{
-    (sequence >> 16) as u16
 }

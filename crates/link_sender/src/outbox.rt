@@ -1,18 +1,17 @@
-ghost use Rattle.std.specs.Prelude.{◌≡◌, ◌+◌, ◌%◌, ◌^◌, ◌≤◌, [], ◌∷◌, ◌++◌, None, OnOk, length};
+ghost use Rattle.std.specs.Prelude.{◌≡◌, ◌+◌, ◌%◌, ◌^◌, ◌≤◌, [], ◌∷◌, ◌++◌, OnOk, length};
 ghost use Rattle.link_model.specs.Packets.{payload_bytes};
 ghost use Rattle.link_model.specs.Sending.{HeaderContent, ParametersContent};
-ghost use Rattle.stream_model.specs.Packing.{AreAllSlices, datagram_around, first_large_part, header_room, packed_contents, packed_head, parameters_room};
+ghost use Rattle.stream_model.specs.Packing.{datagram_around, packed_head};
 ghost use Rattle.link_sender.specs.Packing.{bytes_of_all};
 ghost use Rattle.link_sender.specs.Puts.{PutsDatagrams};
-ghost use Rattle.link_sender.specs.Views.{packed_view};
+ghost use Rattle.link_sender.specs.Views.{heads_of};
 ghost use Rattle.vc2_payload.specs.Views.{CanBeWritten, head_of, payload_value};
 ghost use Rattle.vc_types.specs.SenderSettings.{packing_view};
-ghost use Rattle.vc_types.specs.TransformParameters.{parameters_of};
 
 use crate::Datagram;
-use crate::fields::{flags, high_half};
-use crate::pack_writing::write_datagram;
+use crate::fields::flags;
 use crate::picture::Picture;
+use crate::writing::{Stamp, high_half, write_datagram};
 use std::alloc::Global;
 use vc_types::NoMemory;
 use vc2_payload::{FragmentHead, Payload};
@@ -26,23 +25,20 @@ pub(crate) struct Outbox {
 }
 
 impl Outbox {
-    /// Puts the datagrams of a picture whose parts have room.
-    pub(crate) fn put_picture(&mut self, p: &Picture<'_>) -> Result<(), NoMemory>
-        requires whole { AreAllSlices (parameters_of p.now.plan.now) p.now.slices.now }
-        requires fits { first_large_part (packing_view p.now.settings) (packed_view p.now)
-            ≡ None }
-        ensures { OnOk result (PutsDatagrams p.now
-            (packed_contents (packing_view p.now.settings) (packed_view p.now))
+    /// Puts a picture's sequence header and transform parameters.
+    pub(crate) fn put_heads(&mut self, p: &Picture<'_>) -> Result<(), NoMemory>
+        requires header { length p.now.header.now + 16 ≤ 65507 }
+        requires parameters { length p.now.params.now + 28 ≤ 65507 }
+        ensures { OnOk result (PutsDatagrams p.now (HeaderContent ∷ ParametersContent ∷ [])
             self.old self.new) }
     {
         self.put_header(p)?;
-        self.put_parameters(p)?;
-        self.put_slices(p)
+        self.put_parameters(p)
     }
 
     // Puts a picture's sequence header.
     fn put_header(&mut self, p: &Picture<'_>) -> Result<(), NoMemory>
-        requires { length p.now.header.now ≤ header_room (packing_view p.now.settings) }
+        requires { length p.now.header.now + 16 ≤ 65507 }
         ensures { OnOk result (PutsDatagrams p.now (HeaderContent ∷ []) self.old self.new) }
     {
         let payload = Payload::Header {
@@ -55,7 +51,7 @@ impl Outbox {
 
     // Puts a picture's transform parameters.
     fn put_parameters(&mut self, p: &Picture<'_>) -> Result<(), NoMemory>
-        requires { length p.now.params.now ≤ parameters_room (packing_view p.now.settings) }
+        requires { length p.now.params.now + 28 ≤ 65507 }
         ensures { OnOk result (PutsDatagrams p.now (ParametersContent ∷ []) self.old self.new) }
     {
         let payload = Payload::Params {
@@ -69,7 +65,7 @@ impl Outbox {
     /// What the next fragment of a picture begins with.
     pub(crate) fn fragment_head(&self, p: &Picture<'_>) -> FragmentHead
         ensures { head_of result
-            ≡ packed_head (packing_view p.now.settings) (packed_view p.now) self.now.sequence }
+            ≡ packed_head (packing_view p.now.settings) (heads_of p.now) self.now.sequence }
     {
         FragmentHead {
             high: high_half(self.sequence),
@@ -95,17 +91,14 @@ impl Outbox {
             marker (payload_value payload.now) ∷ []) }
         ensures sequence { OnOk result (self.new.sequence ≡ (self.old.sequence + 1) % 2 ^ 32) }
     {
-        let (sequence, timestamp) = (self.sequence, p.timestamp);
-        let datagram = write_datagram(
-            self.alloc,
-            &p.settings,
-            sequence,
-            timestamp,
+        let stamp = Stamp {
+            sequence: self.sequence,
+            timestamp: p.timestamp,
             marker,
-            payload,
-        )?;
+        };
+        let datagram = write_datagram(self.alloc, &p.settings, stamp, payload)?;
         self.datagrams.push(datagram)?;
-        self.sequence = sequence.wrapping_add(1);
+        self.sequence = self.sequence.wrapping_add(1);
         Ok(())
     }
 }

@@ -5,15 +5,14 @@ ghost use Rattle.link_sender.specs.Views.{packed_picture_of};
 ghost use Rattle.vc_types.specs.SenderSettings.{packing_view};
 ghost use Rattle.vc_types.specs.TransformParameters.{parameters_of};
 
-use crate::fields::{high_half, timestamp};
-use crate::pack_outbox::Outbox;
-use crate::pack_writing::write_datagram;
+use crate::fields::timestamp;
+use crate::outbox::Outbox;
 use crate::parts::check_parts;
 use crate::picture::Picture;
+use crate::writing::write_end;
 use crate::{Datagram, SendRefusal};
 use std::alloc::Global;
 use vc_types::{NoMemory, PackSettings, Plan};
-use vc2_payload::Payload;
 
 /// Packs the pictures of an elementary stream: what it keeps from one to the next are how many there were, modulo 2^64,
 /// the extended sequence number of the next datagram, and the timestamp of the last.
@@ -68,15 +67,15 @@ impl Packer {
             plan,
             header,
             params,
-            slices,
         };
-        check_parts(&picture)?;
+        check_parts(&picture, slices)?;
         let mut outbox = Outbox {
             alloc: self.alloc,
             datagrams: Vec::new(self.alloc),
             sequence: self.sequence,
         };
-        outbox.put_picture(&picture)?;
+        outbox.put_heads(&picture)?;
+        outbox.put_slices(&picture, slices)?;
         self.timestamp = picture.timestamp;
         self.pictures = self.pictures.wrapping_add(1);
         self.sequence = outbox.sequence;
@@ -84,19 +83,14 @@ impl Packer {
     }
 
     /// The end of the sequence, with the timestamp of the last datagram, 0 if there was none.
-    #[tactic(auto, using(crate::proofs::PayloadLengths::end_length), unfolding(stream_model::specs::Packing::end_around))]
     pub fn finish(&mut self) -> Result<Datagram, NoMemory>
         ensures settings { self.new.settings ≡ self.old.settings }
         ensures value { IfOk result (EndsPacking (packing_view self.old.settings)
             (counts_of self.old) (counts_of self.new)) }
         ensures unchanged { OnErr result (counts_of self.new ≡ counts_of self.old) }
     {
-        let end = Payload::End {
-            high: high_half(self.sequence),
-        };
-        let (alloc, sequence) = (self.alloc, self.sequence);
-        let last = write_datagram(alloc, &self.settings, sequence, self.timestamp, false, &end)?;
-        self.sequence = sequence.wrapping_add(1);
+        let last = write_end(self.alloc, &self.settings, self.sequence, self.timestamp)?;
+        self.sequence = self.sequence.wrapping_add(1);
         Ok(last)
     }
 }

@@ -22,12 +22,12 @@ pub(crate) const SLICES_HEADS: usize = 32;
 
 /// Refuses the first part of a picture, in order of sending, that has no room in a datagram.
 #[tactic(auto, unfolding(stream_model::specs::Packing::first_large_part))]
-pub(crate) fn check_parts(p: &Picture<'_>) -> Result<(), SendRefusal>
-    requires whole { AreAllSlices (parameters_of p.now.plan.now) p.now.slices.now }
-    ensures fits { OnOk result
-        (first_large_part (packing_view p.now.settings) (packed_view p.now) ≡ None) }
-    ensures refused { IfErr result
-        (SaysLarge (first_large_part (packing_view p.now.settings) (packed_view p.now))) }
+pub(crate) fn check_parts(p: &Picture<'_>, slices: &[u8]) -> Result<(), SendRefusal>
+    requires whole { AreAllSlices (parameters_of p.now.plan.now) slices.now }
+    ensures fits { OnOk result (first_large_part (packing_view p.now.settings)
+        (packed_view p.now slices.now) ≡ None) }
+    ensures refused { IfErr result (SaysLarge (first_large_part (packing_view p.now.settings)
+        (packed_view p.now slices.now))) }
 {
     let size = p.settings.size as usize;
     if p.header.len() > size - HEADER_HEADS {
@@ -36,7 +36,7 @@ pub(crate) fn check_parts(p: &Picture<'_>) -> Result<(), SendRefusal>
     if p.params.len() > size - PARAMETERS_HEADS {
         return Err(too_large(0, p.params));
     }
-    check_slices(p.plan, size - SLICES_HEADS, p.slices)
+    check_slices(p.plan, size - SLICES_HEADS, slices)
 }
 
 // Refuses the first slice that has more bytes than there is room for.

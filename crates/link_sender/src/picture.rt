@@ -1,6 +1,6 @@
 use vc_types::{PackSettings, Plan};
 
-/// A picture that is packed, and the timestamp of its datagrams.
+/// A picture that is sent, but for its slices, and the timestamp of its datagrams.
 #[derive(Clone, Copy)]
 pub(crate) struct Picture<'a> {
     pub(crate) settings: PackSettings,
@@ -11,5 +11,4 @@ pub(crate) struct Picture<'a> {
     pub(crate) header: &'a [u8],
     /// The coded transform parameters.
     pub(crate) params: &'a [u8],
-    pub(crate) slices: &'a [u8],
 }

@@ -1,5 +1,5 @@
 ghost use Rattle.std.specs.Prelude.{◌≡◌};
-ghost use Rattle.link_model.specs.Sending.{timestamp_of, flags_byte, number_bits};
+ghost use Rattle.link_model.specs.Sending.{timestamp_of, number_bits};
 ghost use Rattle.link_sender.specs.Packing.{IsPlace, picture_at};
 ghost use Rattle.vc_types.specs.SenderSettings.{sending_view};
 
@@ -25,19 +25,6 @@ pub(crate) fn timestamp(s: &SendSettings, place: &PicturePlace) -> u32
         frame.wrapping_add(s.tick / 2)
     } else {
         frame
-    }
-}
-
-/// The flags of a picture's fragments: I with field coding, F in a second field (RFC 8450, 4).
-pub(crate) fn flags(s: &SendSettings, place: &PicturePlace) -> u8
-    requires { IsPlace (sending_view s.now) place.now }
-    ensures { result
-        ≡ flags_byte (sending_view s.now) (picture_at (sending_view s.now) place.now) }
-{
-    if s.fields {
-        2 + u8::from(place.second)
-    } else {
-        0
     }
 }
 

@@ -1,16 +1,19 @@
-ghost use Rattle.std.specs.Prelude.{◌≡◌, ◌≤◌, ◌<◌, ◌+◌, ◌*◌, [], ◌∷◌, ◌++◌, None, OnOk, length, map, ℕ, List};
+ghost use Rattle.std.specs.Prelude.{◌≡◌, ◌≤◌, ◌<◌, ◌+◌, ◌*◌, [], ◌∷◌, ◌++◌, All, None, OnOk, length, map, ℕ, List};
 ghost use Rattle.link_model.specs.Sending.{SlicesContent, runs_of_slices};
 ghost use Rattle.stream_model.specs.Packing.{AreAllSlices, first_large_slice, slices_in, slices_room};
-ghost use Rattle.link_sender.specs.declared.pack_outbox.Outbox.{Outbox};
+ghost use Rattle.link_sender.specs.declared.outbox.Outbox.{Outbox};
 ghost use Rattle.link_sender.specs.Puts.{PutsDatagrams};
-ghost use Rattle.link_sender.specs.Runs.{EndsRun, HoldsSlices, PacksSlices, run_with_slices};
+ghost use Rattle.link_sender.specs.Runs.{EndsRun, FitsRun, HoldsSlices, PacksSlices, run_with_slices};
+ghost use Rattle.picture_encode.specs.Encoded.{slice_bytes};
 ghost use Rattle.vc_types.specs.SenderSettings.{packing_view};
 ghost use Rattle.vc_types.specs.Subbands.{slice_count};
 ghost use Rattle.vc_types.specs.TransformParameters.{parameters_of};
 
-use crate::pack_outbox::Outbox;
+use crate::outbox::Outbox;
 use crate::parts::{SLICES_HEADS, next_slice};
 use crate::picture::Picture;
+use picture_encode::EncodedSlice;
+use std::alloc::Global;
 use vc_types::NoMemory;
 use vc2_payload::Payload;
 
@@ -23,28 +26,57 @@ pub(crate) struct OpenRun {
     pub(crate) body: Vec<u8>,
 }
 
+impl OpenRun {
+    fn new(alloc: Global) -> OpenRun
+        ensures numbers { (result.first ≡ 0) × (result.count ≡ 0) }
+        ensures body { result.body.items ≡ [] }
+    {
+        OpenRun {
+            first: 0,
+            count: 0,
+            body: Vec::new(alloc),
+        }
+    }
+}
+
 impl Outbox {
     /// Puts a picture's slices, of which each has room in a datagram: into each datagram as many
     /// whole ones as it has room for.
-    pub(crate) fn put_slices(&mut self, p: &Picture<'_>) -> Result<(), NoMemory>
-        requires whole { AreAllSlices (parameters_of p.now.plan.now) p.now.slices.now }
+    pub(crate) fn put_slices(&mut self, p: &Picture<'_>, slices: &[u8]) -> Result<(), NoMemory>
+        requires whole { AreAllSlices (parameters_of p.now.plan.now) slices.now }
         requires fits { first_large_slice (slices_room (packing_view p.now.settings)) 0
-            (slices_in (parameters_of p.now.plan.now) p.now.slices.now) ≡ None }
+            (slices_in (parameters_of p.now.plan.now) slices.now) ≡ None }
         ensures { OnOk result (PutsDatagrams p.now
             (map SlicesContent (runs_of_slices (slices_room (packing_view p.now.settings))
-            (slices_in (parameters_of p.now.plan.now) p.now.slices.now)))
+            (slices_in (parameters_of p.now.plan.now) slices.now)))
             self.old self.new) }
     {
-        let mut run = OpenRun {
-            first: 0,
-            count: 0,
-            body: Vec::new(self.alloc),
-        };
-        let mut rest = p.slices;
+        let mut run = OpenRun::new(self.alloc);
+        let mut rest = slices;
         for _slice in 0..p.plan.slices_x * p.plan.slices_y {
             let (slice, behind) = next_slice(p.plan, rest);
             self.pack(p, &mut run, slice)?;
             rest = behind;
+        }
+        self.put_run(p, &run)
+    }
+
+    /// The same of slices that were encoded.
+    pub(crate) fn put_encoded(
+        &mut self,
+        p: &Picture<'_>,
+        slices: &[EncodedSlice],
+    ) -> Result<(), NoMemory>
+        requires count { length slices.now ≡ slice_count (parameters_of p.now.plan.now) }
+        requires fit { All (FitsRun (packing_view p.now.settings)) (slice_bytes slices.now) }
+        ensures { OnOk result (PutsDatagrams p.now
+            (map SlicesContent (runs_of_slices (slices_room (packing_view p.now.settings))
+            (slice_bytes slices.now)))
+            self.old self.new) }
+    {
+        let mut run = OpenRun::new(self.alloc);
+        for slice in slices {
+            self.pack(p, &mut run, &slice.bytes)?;
         }
         self.put_run(p, &run)
     }
@@ -56,8 +88,7 @@ impl Outbox {
             run.old }
         requires behind { run.old.first + run.old.count
             < slice_count (parameters_of p.now.plan.now) }
-        requires some { 1 ≤ length slice.now }
-        requires fits { length slice.now ≤ slices_room (packing_view p.now.settings) }
+        requires fits { FitsRun (packing_view p.now.settings) slice.now }
         ensures run { OnOk result (EndsRun (packing_view p.now.settings)
             (run.old.first + run.old.count + 1) run.new) }
         ensures packed { OnOk result ((slices : List (List ℕ)) (first : Outbox)

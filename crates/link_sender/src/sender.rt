@@ -8,9 +8,6 @@ use picture_encode::{Chooser, PictureGrids};
 use std::alloc::Global;
 use vc_types::{Header, Plan, SendSettings};
 
-/// The heads of the packet and of the payload in front of slices have so many bytes.
-pub(crate) const HEADS: u32 = 32;
-
 /// Sends frames: what it keeps from one to the next are three numbers of 32 bits, which wrap, and
 /// the memory of the last picture's coefficients.
 #[derive(Drop)]

@@ -1,22 +1,24 @@
-ghost use Rattle.std.specs.Prelude.{◌≡◌, [], ◌∷◌, IfOk, OnErr, OnOk, length};
-ghost use Rattle.link_model.specs.Sending.{HeaderContent, ParametersContent, datagrams_from, outgoing};
-ghost use Rattle.link_model.specs.SendingPictures.{IsFrame};
-ghost use Rattle.link_sender.specs.Packing.{IsPlace, Sends, bytes_of_all, picture_at};
+ghost use Rattle.std.specs.Prelude.{◌≡◌, IfOk, OnErr, OnOk, length};
+ghost use Rattle.link_model.specs.Sending.{datagrams_from};
+ghost use Rattle.link_model.specs.SendingPictures.{IsFrame, packed_bits, sent_header, sent_parameter_bytes};
+ghost use Rattle.link_sender.specs.Packing.{IsPictureAt, IsPlace, Sends, bytes_of_all, packing_of, picture_at};
 ghost use Rattle.link_sender.specs.Sent.{ArePictures, IsPicture, SendsFrame, coded_frame_outgoing, coded_outgoing, numbers_behind};
 ghost use Rattle.link_sender.specs.State.{numbers_of, EndsSequence};
 ghost use Rattle.picture_encode.specs.Choosing.{AnswersAtMost127, AnswersNeed};
 ghost use Rattle.picture_encode.specs.Encoded.{slice_bytes};
+ghost use Rattle.vc_types.specs.Bits.{bits_of};
 ghost use Rattle.vc_types.specs.Planes.{planes_in};
-ghost use Rattle.vc_types.specs.SenderSettings.{sending_view};
+ghost use Rattle.vc_types.specs.SenderSettings.{packing_view, sending_view};
 
 use crate::datagram::Datagram;
 use crate::encoding::{FrameSlices, encode_frame};
 use crate::outbox::Outbox;
-use crate::place::{PicturePlace, timestamp};
+use crate::picture::Picture;
+use crate::place::{PicturePlace, picture_number, timestamp};
 use crate::refusal::SendRefusal;
 use crate::samples::check_samples;
 use crate::sender::Sender;
-use crate::writing::{high_half, write_datagram};
+use crate::writing::write_end;
 use picture_encode::{
     AtOnce, Chooser, EncodedSlice, InTurn, PictureGrids, Transform, header_of, plan_of,
 };
@@ -24,8 +26,7 @@ use std::alloc::Global;
 use std::thread::Threads;
 use vc_params::write_params;
 use vc_seqhdr::write_header;
-use vc_types::{NoMemory, Plane, SendSettings, SliceNeed};
-use vc2_payload::Payload;
+use vc_types::{NoMemory, PackSettings, Plane, SendSettings, SliceNeed};
 
 impl<F: Fn(&SliceNeed) -> u8> Sender<F> {
     /// A sender that has sent nothing.
@@ -122,17 +123,8 @@ impl<F: Fn(&SliceNeed) -> u8> Sender<F> {
             (numbers_of self.old) (numbers_of self.new) d) }
         ensures unchanged { OnErr result (numbers_of self.new ≡ numbers_of self.old) }
     {
-        let end = Payload::End {
-            high: high_half(self.number),
-        };
-        let last = write_datagram(
-            self.alloc,
-            &self.settings,
-            self.number,
-            self.timestamp,
-            false,
-            &end,
-        )?;
+        let s = packing(&self.settings);
+        let last = write_end(self.alloc, &s, self.number, self.timestamp)?;
         self.number = self.number.wrapping_add(1);
         Ok(last)
     }
@@ -151,8 +143,9 @@ impl<F: Fn(&SliceNeed) -> u8> Sender<F> {
         ensures unchanged { OnErr result (numbers_of self.new ≡ numbers_of self.old) }
     {
         let mut outbox = Outbox {
+            alloc: self.alloc,
             datagrams: Vec::new(self.alloc),
-            number: self.number,
+            sequence: self.number,
         };
         self.put_pictures(&mut outbox, slices)?;
         let last = PicturePlace {
@@ -161,7 +154,7 @@ impl<F: Fn(&SliceNeed) -> u8> Sender<F> {
         };
         self.timestamp = timestamp(&self.settings, &last);
         self.frame = self.frame.wrapping_add(1);
-        self.number = outbox.number;
+        self.number = outbox.sequence;
         Ok(outbox.datagrams)
     }
 
@@ -203,22 +196,50 @@ impl<F: Fn(&SliceNeed) -> u8> Sender<F> {
             (picture_at (sending_view self.now.settings) place.now) (slice_bytes slices.now))
             outbox.old outbox.new) }
     {
-        self.put_heads(outbox, place)?;
-        outbox.put_slices(self.alloc, &self.settings, place, slices)
+        let header = write_header(self.alloc, &self.header)?;
+        let params = write_params(self.alloc, 3, &self.plan)?;
+        let picture = self.picture(place, &header, &params);
+        outbox.put_heads(&picture)?;
+        outbox.put_encoded(&picture, slices)
     }
 
-    // Puts a picture's sequence header and transform parameters.
-    fn put_heads(&self, outbox: &mut Outbox, place: &PicturePlace) -> Result<(), NoMemory>
+    // A picture as the packer's, by its coded sequence header and transform parameters.
+    fn picture<'a>(
+        &'a self,
+        place: &PicturePlace,
+        header: &'a [u8],
+        params: &'a [u8],
+    ) -> Picture<'a>
         requires place { IsPlace (sending_view self.now.settings) place.now }
-        ensures { OnOk result (Sends (sending_view self.now.settings)
-            (outgoing (picture_at (sending_view self.now.settings) place.now) HeaderContent
-            ∷ outgoing (picture_at (sending_view self.now.settings) place.now) ParametersContent
-            ∷ []) outbox.old outbox.new) }
+        requires header { packed_bits (bits_of header.now)
+            ≡ sent_header (sending_view self.now.settings) }
+        requires params { packed_bits (bits_of params.now)
+            ≡ sent_parameter_bytes (sending_view self.now.settings) }
+        ensures { IsPictureAt (sending_view self.now.settings)
+            (picture_at (sending_view self.now.settings) place.now) result }
     {
-        let (alloc, s) = (self.alloc, &self.settings);
-        let header = write_header(alloc, &self.header)?;
-        outbox.put_header(alloc, s, place, &header)?;
-        let parameters = write_params(alloc, 3, &self.plan)?;
-        outbox.put_parameters(alloc, s, place, &parameters)
+        let s = &self.settings;
+        Picture {
+            settings: packing(s),
+            timestamp: timestamp(s, place),
+            number: picture_number(s, place),
+            plan: &self.plan,
+            header,
+            params,
+        }
+    }
+}
+
+// What the packer is told of the settings.
+fn packing(s: &SendSettings) -> PackSettings
+    ensures { packing_view result ≡ packing_of (sending_view s.now) }
+{
+    PackSettings {
+        size: s.size,
+        ssrc: s.ssrc,
+        pt: s.pt,
+        seq: s.seq,
+        tick: s.tick,
+        fields: s.fields,
     }
 }

@@ -1,16 +1,16 @@
 use Rattle.std.proofs.Common.{◌≡◌, ◌+◌, ◌++◌, [], ◌∷◌, ℕ, List, ap, subst, sym, ◌∙◌, arith, rules}
 use Rattle.link_model.specs.Sending.{SlicesContent}
 use Rattle.vc_types.specs.SenderSettings.{packing_view}
-use Rattle.link_sender.specs.declared.pack_outbox.Outbox.{Outbox}
-use Rattle.link_sender.specs.declared.pack_runs.OpenRun.{OpenRun}
+use Rattle.link_sender.specs.declared.outbox.Outbox.{Outbox}
+use Rattle.link_sender.specs.declared.runs.OpenRun.{OpenRun}
 use Rattle.link_sender.specs.Puts.{PutsDatagrams}
 use Rattle.link_sender.specs.Runs.{PacksSlices, HoldsSlices, run_with_slices}
 use Rattle.link_sender.proofs.RunsPut.{another_run, has_some, one_more}
-use Rattle.link_sender.proofs.pack_outbox.Outbox.pack.Goals as goal
-use Rattle.link_sender.proofs.pack_outbox.Outbox.pack.Goals.{then-len-slice+in_ok-put_run, else-len-slice}
+use Rattle.link_sender.proofs.outbox.Outbox.pack.Goals as goal
+use Rattle.link_sender.proofs.outbox.Outbox.pack.Goals.{then-len-slice+in_ok-put_run, else-len-slice}
 
 pub put_run-requires-clause-some : goal.put_run-requires-clause-some
-put_run-requires-clause-some c = has_some (packing_view c.args.p.now.settings) (c.args.run.now.first + c.args.run.now.count) c.args.run.now c.requires.run (omega (arith, c.if-len-slice.true, c.requires.fits, c.len.ensures))
+put_run-requires-clause-some c = has_some (packing_view c.args.p.now.settings) (c.args.run.now.first + c.args.run.now.count) c.args.run.now c.requires.run (omega (arith, c.if-len-slice.true, c.requires.fits.room, c.len.ensures))
 
 pub returns-clause-packed : goal.returns-clause-packed
 returns-clause-packed c = λ slices first packed.

@@ -3,7 +3,7 @@ use Rattle.std.proofs.lemmas.Grind.{common_steps}
 use Rattle.link_sender.proofs.Numbered.{both_ok}
 use Rattle.link_sender.proofs.Putting.{puts_one}
 use Rattle.link_sender.proofs.PayloadLengths.{most_room, slices_length}
-use Rattle.link_sender.proofs.pack_outbox.Outbox.put_run.Goals as goal
+use Rattle.link_sender.proofs.outbox.Outbox.put_run.Goals as goal
 
 pub put-requires-clause-fits : goal.put-requires-clause-fits
 put-requires-clause-fits c = grind (arith, common_steps, most_room, slices_length)

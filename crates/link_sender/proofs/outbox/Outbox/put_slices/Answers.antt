@@ -1,4 +1,4 @@
-use Rattle.std.proofs.Common.{◌≡◌, ◌+◌, ◌-◌, ◌<◌, ◌≤◌, ◌^◌, ◌++◌, [], ◌∷◌, List, ℕ, length, refl, sym, ap, subst, ◌∙◌, arith, rules, append_assoc}
+use Rattle.std.proofs.Common.{◌≡◌, ◌+◌, ◌-◌, ◌<◌, ◌≤◌, ◌^◌, ◌++◌, [], ◌∷◌, List, ℕ, refl, sym, ap, subst, ◌∙◌, arith, rules, append_assoc}
 use Rattle.std.proofs.lemmas.List.{append-nil}
 use Rattle.std.proofs.lemmas.Grind.{common_steps}
 use Rattle.link_model.specs.Kept.{next_slices}
@@ -10,11 +10,11 @@ use Rattle.link_sender.proofs.Numbered.{then_ok}
 use Rattle.link_sender.proofs.PutPictures.{some_slices}
 use Rattle.link_sender.proofs.PayloadLengths.{some_room}
 use Rattle.link_sender.proofs.Rooms.{first_fits}
-use Rattle.link_sender.proofs.RunsPut.{none_packed, whole_packed}
+use Rattle.link_sender.proofs.RunsPut.{none_packed, starts, whole_packed}
 use Rattle.vc_types.specs.SenderSettings.{packing_view}
 use Rattle.vc_types.specs.Subbands.{slice_count}
 use Rattle.vc_types.specs.TransformParameters.{parameters_of}
-use Rattle.link_sender.proofs.pack_outbox.Outbox.put_slices.Goals as goal
+use Rattle.link_sender.proofs.outbox.Outbox.put_slices.Goals as goal
 
 pub loop-slice-init : goal.loop-slice-init
 loop-slice-init c =
@@ -22,15 +22,15 @@ loop-slice-init c =
     let p = parameters_of picture.plan.now in
     let same : slice_count p - 0 ≡ slice_count p = omega arith in
     let room = some_room picture.settings.size picture.settings.size_fits in
-    let none = ap (λ (l : List ℕ). length l) c.new.ensures.items in
+    let zero = c.new-run.ensures.numbers in
     let small : c.args.self.now.sequence < 2 ^ 32 = omega arith in (
       [],
-      slices_in p picture.slices.now,
+      slices_in p c.args.slices.now,
       refl,
-      ap (λ n. next_slices p n picture.slices.now) same ∙ c.requires.whole,
+      ap (λ n. next_slices p n c.args.slices.now) same ∙ c.requires.whole,
       c.requires.fits,
-      record { end = refl; some = λ h. absurd (omega (arith, h)); empty = λ h. none; body = omega arith; fits = omega (arith, room, none) },
-      none_packed picture c.args.self.now (record { first = 0; count = 0; body = c.new.result }) small refl refl c.new.ensures.items,
+      starts (packing_view picture.settings) c.new-run.result room zero.0 zero.1 c.new-run.ensures.body,
+      none_packed picture c.args.self.now c.new-run.result small zero.0 zero.1 c.new-run.ensures.body,
     )
 
 pub next_slice-requires : goal.next_slice-requires
@@ -46,18 +46,18 @@ pack-requires-clause-run c = grind (arith, common_steps)
 pub pack-requires-clause-behind : goal.pack-requires-clause-behind
 pack-requires-clause-behind c = omega (arith, c.loop-slice.invariant.5.end, c.loop-slice-test.true)
 
-pub pack-requires-clause-some : goal.pack-requires-clause-some
-pack-requires-clause-some c = some_bytes (parameters_of c.args.p.now.plan.now) c.loop-slice.rest.now c.next_slice.result.0.now c.next_slice.result.1.now c.next_slice.ensures
-
 pub pack-requires-clause-fits : goal.pack-requires-clause-fits
 pack-requires-clause-fits c =
     let p = parameters_of c.args.p.now.plan.now in
     let n = slice_count p in
     let i = c.loop-slice._slice in
     let at = c.loop-slice.invariant in
-    let one = cut_off_front p (n - i) (n - (i + 1)) c.loop-slice.rest.now c.next_slice.result.0.now c.next_slice.result.1.now at.1 (omega (arith, c.loop-slice-test.true)) at.3 c.next_slice.ensures in
+    let slice = c.next_slice.result.0.now in
+    let one = cut_off_front p (n - i) (n - (i + 1)) c.loop-slice.rest.now slice c.next_slice.result.1.now at.1 (omega (arith, c.loop-slice-test.true)) at.3 c.next_slice.ensures in
     let room = slices_room (packing_view c.args.p.now.settings) in
-    (first_fits room i c.next_slice.result.0.now one.0 (ap (first_large_slice room i) (sym one.2) ∙ at.4)).0
+    let fits = (first_fits room i slice one.0 (ap (first_large_slice room i) (sym one.2) ∙ at.4)).0 in
+    let wide = some_room c.args.p.now.settings.size c.args.p.now.settings.size_fits in
+    record { some = some_bytes p c.loop-slice.rest.now slice c.next_slice.result.1.now c.next_slice.ensures; room = omega (arith, fits, wide) }
 
 pub loop-slice-preserved : goal.loop-slice-preserved
 loop-slice-preserved c =
@@ -102,7 +102,10 @@ returns c =
     let at = c.loop-slice.invariant in
     let past : n ≤ i = search rules in
     let none = none_is_left p (n - i) c.loop-slice.rest.now at.1 (omega (arith, past)) at.3 in
-    let all : slices_in p picture.slices.now ≡ at.0 = at.2 ∙ ap (λ l. at.0 ++ l) none ∙ append-nil at.0 in
-    let packed : PacksSlices picture (slices_in p picture.slices.now) c.args.self.now c.loop-slice.self c.loop-slice.run = subst (λ (l : List (List ℕ)). PacksSlices picture l c.args.self.now c.loop-slice.self c.loop-slice.run) (sym all) at.6 in
+    let all : slices_in p c.args.slices.now ≡ at.0 = at.2 ∙ ap (λ l. at.0 ++ l) none ∙ append-nil at.0 in
+    let packed : PacksSlices picture (slices_in p c.args.slices.now) c.args.self.now c.loop-slice.self c.loop-slice.run = subst (λ (l : List (List ℕ)). PacksSlices picture l c.args.self.now c.loop-slice.self c.loop-slice.run) (sym all) at.6 in
+    let many = next_slices-count p n c.args.slices.now (slices_in p c.args.slices.now, []) c.requires.whole in
+    let some = some_slices picture.plan.now.slices_x picture.plan.now.slices_y picture.plan.now.slices in
     then_ok c.put_run.result c.put_run.ensures
-    (whole_packed picture (slices_in p picture.slices.now) c.args.self.now c.loop-slice.self c.put_run.new.self c.loop-slice.run n (some_slices picture.plan.now.slices_x picture.plan.now.slices_y picture.plan.now.slices) (next_slices-count p n picture.slices.now (slices_in p picture.slices.now, []) c.requires.whole) c.requires.fits packed)
+    (whole_packed picture (slices_in p c.args.slices.now) c.args.self.now c.loop-slice.self c.put_run.new.self c.loop-slice.run (omega (arith, some, many))
+    (λ slice behind is. (first_fits (slices_room (packing_view picture.settings)) 0 slice behind (ap (first_large_slice (slices_room (packing_view picture.settings)) 0) (sym is) ∙ c.requires.fits)).0) packed)
