@@ -33,8 +33,8 @@ fn field(alloc: Global, frame: &[Plane; 3], first: u32) -> Result<[Plane; 3], No
     ])
 }
 
-/// Splits a frame, whose planes have even heights, into its two fields, the earlier first. With the top field first the
-/// earlier field's rows are rows 0, 2, 4 and so on, else rows 1, 3, 5 and so on.
+/// Splits a frame, whose planes have even heights, into its two fields, the earlier first. With the top field
+/// first the earlier field's rows are rows 0, 2, 4 and so on, else rows 1, 3, 5 and so on.
 pub fn split(
     alloc: Global,
     frame: &[Plane; 3],

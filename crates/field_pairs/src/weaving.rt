@@ -39,9 +39,9 @@ fn interleave_each(
     ])
 }
 
-/// Weaves two fields, of which the first is the earlier, into their frame. With the top field first the earlier field's
-/// rows are rows 0, 2, 4 and so on, else rows 1, 3, 5 and so on. Each plane needs the size of its partner, and at most
-/// 4,096 rows.
+/// Weaves two fields, of which the first is the earlier, into their frame. With the top field first the
+/// earlier field's rows are rows 0, 2, 4 and so on, else rows 1, 3, 5 and so on. Each plane needs the size of
+/// its partner, and at most 4,096 rows.
 pub fn weave(
     alloc: Global,
     first: [Plane; 3],

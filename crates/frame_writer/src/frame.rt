@@ -39,9 +39,9 @@ fn write_planes<O: Sink>(
     write_samples(sink, buffer, c2.samples(), two)
 }
 
-/// Writes a raw frame: its planes Y, C1 and C2, each row by row. A sample has one byte or, where `two`, two bytes, the
-/// lowest first. Samples of one byte have to be below 256. Without memory nothing goes out, and after a fault of the
-/// sink a prefix of the frame went out.
+/// Writes a raw frame: its planes Y, C1 and C2, each row by row. A sample has one byte or, where `two`, two
+/// bytes, the lowest first. Samples of one byte have to be below 256. Without memory nothing goes out, and
+/// after a fault of the sink a prefix of the frame went out.
 pub fn write_frame<O: Sink>(
     alloc: Global,
     sink: &mut O,

@@ -1,5 +1,5 @@
-//! Raw frames (this project's own), written and read: the samples of the planes Y, C1 and C2, one plane after another, row by
-//! row.
+//! Raw frames (this project's own), written and read: the samples of the planes Y, C1 and C2, one plane after
+//! another, row by row.
 #![tactic(auto)]
 
 mod bytes;

@@ -1,5 +1,6 @@
 ghost use Rattle.std.specs.Prelude.{◌≡◌, ◌<◌, ◌^◌, IsTrue, IfOk, length};
-ghost use Rattle.frame_writer.specs.FrameBytes.{frame_of_bytes, frame_length, sample_count, length_of_samples};
+ghost use Rattle.frame_writer.specs.FrameBytes.{frame_of_bytes, frame_length, sample_count};
+ghost use Rattle.frame_writer.specs.FrameBytes.{length_of_samples};
 ghost use Rattle.frame_writer.specs.Memory.{IsRoomFor};
 ghost use Rattle.vc_types.specs.declared.video.Component.TheVariants.{Y, C1};
 ghost use Rattle.vc_types.specs.Limits.{shape_fits};

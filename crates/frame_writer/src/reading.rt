@@ -9,9 +9,10 @@ use std::alloc::Global;
 use vc_ports::{Filled, Source, fill};
 use vc_types::{Plane, Shape};
 
-/// Reads a raw frame: its planes Y, C1 and C2 of the shape's sizes, each row by row, a sample in two bytes, the lowest
-/// first, where luma or colour has more than 8 bits, and else in one. None where the source ended at a frame's edge.
-/// Without memory nothing is read. The bytes are room to work in: their memory serves the next frame.
+/// Reads a raw frame: its planes Y, C1 and C2 of the shape's sizes, each row by row, a sample in two bytes,
+/// the lowest first, where luma or colour has more than 8 bits, and else in one. None where the source ended
+/// at a frame's edge. Without memory nothing is read. The bytes are room to work in: their memory serves the
+/// next frame.
 pub fn read_frame<S: Source>(
     alloc: Global,
     source: &mut S,

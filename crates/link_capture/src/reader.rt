@@ -8,7 +8,8 @@ use byteorder::{BigEndian, ByteOrder};
 use std::alloc::Global;
 use vc_ports::{Filled, Source, fill};
 
-/// A source that is read entry by entry. It keeps the source borrowed, and contracts see what the source is now.
+/// A source that is read entry by entry. It keeps the source borrowed, and contracts see what the source is
+/// now.
 #[derive(Drop)]
 pub struct CaptureReader<'a, S> {
     alloc: Global,
@@ -36,8 +37,8 @@ impl<'a, S: Source> CaptureReader<'a, S> {
     }
 }
 
-/// Reads the next entry: its datagram, or None where the source ended at an entry's edge. After a fault the same
-/// fault is answered without reading.
+/// Reads the next entry: its datagram, or None where the source ended at an entry's edge. After a fault the
+/// same fault is answered without reading.
 pub fn next_entry<S: Source>(r: &mut CaptureReader<S>) -> Result<Option<Vec<u8>>, EntryFault>
     requires { r.old.place < 2 ^ 63 }
     ensures borrows { r.new.source.ghost_name ≡ r.old.source.ghost_name }

@@ -6,8 +6,8 @@ ghost use Rattle.link_capture.specs.Capture.{entry};
 use byteorder::{BigEndian, ByteOrder};
 use vc_ports::{Sink, WriteFault, write_all};
 
-/// Writes one entry: the datagram's length in 2 bytes, high first, and the datagram, which has at most 65,535 bytes.
-/// After a fault a prefix of the entry went out.
+/// Writes one entry: the datagram's length in 2 bytes, high first, and the datagram, which has at most 65,535
+/// bytes. After a fault a prefix of the entry went out.
 pub fn put_entry<O: Sink>(sink: &mut O, datagram: &[u8]) -> Result<(), WriteFault>
     requires { length datagram.now < 2 ^ 16 }
     ensures ok { OnOk result (Grew (O.held sink.old) (O.held sink.new) (entry datagram.now)) }

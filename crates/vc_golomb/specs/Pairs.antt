@@ -1,5 +1,6 @@
 -- Two small numbers, whose codes are written at once.
-use Rattle.std.specs.Prelude.{◌≡◌, ℕ, ◌+◌, ◌/◌, ◌%◌, ◌^◌, ◌<◌, ◌≤◌, ℤ, pos, negsuc, ◌-ℤ◌, ◌≤ℤ◌, ◌<ℤ◌, List, ◌++◌, length}
+use Rattle.std.specs.Prelude.{◌≡◌, ℕ, ◌+◌, ◌/◌, ◌%◌, ◌^◌, ◌<◌, ◌≤◌, ℤ, pos, negsuc, ◌-ℤ◌, ◌≤ℤ◌, ◌<ℤ◌, List}
+use Rattle.std.specs.Prelude.{◌++◌, length}
 use Rattle.vc_types.specs.Codes.{sint_bits}
 use Rattle.vc_types.specs.Lifting.{line_of}
 use Rattle.vc_bits.specs.Bits.{word_bits}

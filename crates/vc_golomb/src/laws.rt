@@ -11,7 +11,8 @@ pub fn no_code_begins_another()
     ensures signed { (v w : ℤ) (rest : List Bool) → sint_bits w ≡ sint_bits v ++ rest → v ≡ w }
 {}
 
-/// A number that is written is read back, whatever follows it. In a block, any bits that begin with its code will do.
+/// A number that is written is read back, whatever follows it. In a block, any bits that begin with its code
+/// will do.
 #[tactic(auto, using(crate::proofs::CodeLaws::back))]
 pub fn what_is_written_is_read()
     ensures unsigned { (v max : ℕ) (rest : List Bool) → v ≤ max

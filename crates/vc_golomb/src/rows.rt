@@ -4,8 +4,8 @@ ghost use Rattle.vc_types.specs.Lifting.{line_of};
 ghost use Rattle.vc_bits.specs.Bits.{word_bits};
 ghost use Rattle.vc_golomb.specs.Numbers.{number_at};
 
-/// The numbers whose signed codes are whole within twelve bits, one after another and at most eight: the numbers and
-/// others behind them, how many they are, and how many bits their codes take.
+/// The numbers whose signed codes are whole within twelve bits, one after another and at most eight: the
+/// numbers and others behind them, how many they are, and how many bits their codes take.
 #[derive(Clone, Copy)]
 pub(crate) struct Row {
     pub(crate) values: &'static [i8],

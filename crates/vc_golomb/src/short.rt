@@ -3,7 +3,8 @@ ghost use Rattle.std.specs.Int.{is_negative};
 ghost use Rattle.vc_types.specs.Codes.{sint_bits};
 ghost use Rattle.vc_bits.specs.Bits.{word_bits};
 
-/// The signed code of a number whose magnitude is below SHORT: the number that its bits make, and how many they are.
+/// The signed code of a number whose magnitude is below SHORT: the number that its bits make, and how many
+/// they are.
 #[derive(Clone, Copy)]
 pub(crate) struct ShortCode {
     pub(crate) bits: u64,

@@ -1,4 +1,5 @@
-ghost use Rattle.std.specs.Prelude.{◌≡◌, ◌+◌, ◌^◌, ◌<◌, ◌≤◌, ℕ, length, pos, slice_index_or, unsigned_abs, IfOk, OnOk, OnErr};
+ghost use Rattle.std.specs.Prelude.{◌≡◌, ◌+◌, ◌^◌, ◌<◌, ◌≤◌, ℕ, length, pos, slice_index_or, unsigned_abs};
+ghost use Rattle.std.specs.Prelude.{IfOk, OnOk, OnErr};
 ghost use Rattle.vc_types.specs.Bounded.{bounded_sint, bounded_sints};
 ghost use Rattle.vc_types.specs.Lifting.{line_of};
 ghost use Rattle.vc_golomb.specs.Numbers.{number_at, HasLarge};
@@ -13,9 +14,9 @@ const MOST: u64 = (1 << 30) - 1;
 // None in a row of the table has a greater magnitude.
 const MOST_OF_ROW: u32 = 128;
 
-/// Reads the next numbers of a block, so many, to the front of `out`, which has room for eight more: a bound of their
-/// magnitudes, or TooLarge where one of them has a magnitude of 2^30 or more. What is behind the numbers in `out` isn't
-/// said: many are read at once.
+/// Reads the next numbers of a block, so many, to the front of `out`, which has room for eight more: a bound
+/// of their magnitudes, or TooLarge where one of them has a magnitude of 2^30 or more. What is behind the
+/// numbers in `out` isn't said: many are read at once.
 pub fn read_sints(block: &Block, count: usize, out: &mut [i32]) -> Result<u32, TooLarge>
     requires room { count + 8 ≤ length out.old }
     ensures numbers { OnOk result ((i : ℕ) → i < count
@@ -52,8 +53,8 @@ fn sints(block: &Block, count: usize, out: &mut [i32]) -> Result<u32, TooLarge>
     Ok(most)
 }
 
-// Puts the next numbers of a block that have short codes into a slice from a place on, and says how many: none where the
-// next one has a long code.
+// Puts the next numbers of a block that have short codes into a slice from a place on, and says how many:
+// none where the next one has a long code.
 #[inline(always)]
 fn read_row(block: &mut Block, out: &mut [i32], at: usize) -> usize
     requires { at + 8 ≤ length out.old }

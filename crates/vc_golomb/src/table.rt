@@ -4,8 +4,8 @@ ghost use Rattle.vc_golomb.specs.Table.{IsLook};
 /// More than any number that is accepted.
 pub(crate) const CAP: u64 = (1 << 62) + 1;
 
-/// What eight bits say of the code that they go on with: how many of them belong to it, and the number of the digits
-/// among them. Where it is fewer than eight bits, the code ends with them.
+/// What eight bits say of the code that they go on with: how many of them belong to it, and the number of the
+/// digits among them. Where it is fewer than eight bits, the code ends with them.
 #[derive(Clone, Copy)]
 pub(crate) struct Look {
     pub(crate) taken: u32,

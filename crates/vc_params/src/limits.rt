@@ -14,7 +14,8 @@ pub fn picture_shape(h: &Header) -> Shape
     h.shape()
 }
 
-/// Whether the luma of a picture, padded for so many levels across alone and both ways, has few enough samples.
+/// Whether the luma of a picture, padded for so many levels across alone and both ways, has few enough
+/// samples.
 pub fn padded_luma_fits(shape: &Shape, depth_ho: u8, depth: u8) -> bool
     requires width { shape.now.luma_width ≤ 8192 }
     requires height { shape.now.luma_height ≤ 8192 }

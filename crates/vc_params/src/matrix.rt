@@ -2,7 +2,8 @@ ghost use Rattle.std.specs.Prelude.{◌≡◌, ◌≤◌, ◌+◌, ◌*◌, IfOk
 ghost use Rattle.vc_types.specs.Fields.{Gives};
 ghost use Rattle.vc_types.specs.Limits.{matrix_fits};
 ghost use Rattle.vc_types.specs.Quantisation.{filled_matrix, used_entries};
-ghost use Rattle.vc_types.specs.TransformParameters.{matrix_value, custom_matrix, default_of, quantisation_matrix};
+ghost use Rattle.vc_types.specs.TransformParameters.{matrix_value, custom_matrix, default_of};
+ghost use Rattle.vc_types.specs.TransformParameters.{quantisation_matrix};
 
 use crate::fields::{flag, number};
 use vc_bits::BitReader;

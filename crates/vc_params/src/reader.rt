@@ -1,9 +1,11 @@
 ghost use Rattle.std.specs.Prelude.{◌≡◌, ◌++◌, ℕ, Bool, List, length, Ok, IfOk};
 ghost use Rattle.vc_types.specs.Bits.{bits_of};
 ghost use Rattle.vc_types.specs.Fields.{Gives, Answers, bytes_for};
-ghost use Rattle.vc_types.specs.ParameterSpelling.{ParameterSpelling, parameter_bits, spelled_parameters, AreParameters, BeginsWithParameters};
+ghost use Rattle.vc_types.specs.ParameterSpelling.{ParameterSpelling, parameter_bits, spelled_parameters};
+ghost use Rattle.vc_types.specs.ParameterSpelling.{AreParameters, BeginsWithParameters};
 ghost use Rattle.vc_types.specs.SequenceHeader.{sequence_of};
-ghost use Rattle.vc_types.specs.TransformParameters.{Parameters, parameters_of, transform_parameters, coded_parameters};
+ghost use Rattle.vc_types.specs.TransformParameters.{Parameters, parameters_of, transform_parameters};
+ghost use Rattle.vc_types.specs.TransformParameters.{coded_parameters};
 
 use crate::limits::{padded_luma_fits, picture_shape};
 use crate::matrix::quantisation_matrix;
@@ -12,9 +14,9 @@ use crate::transform::{extended_parameters, wavelet_depth, wavelet_index};
 use vc_bits::BitReader;
 use vc_types::{Header, ParamsRefusal, Plan};
 
-/// The transform parameters at the front of the bytes (ST 2042-1, transform parameters), of a picture of this header's
-/// sequence, and how many bytes they take. The fields are read in order, and the first that is missing or out of range
-/// decides the refusal; the size of the padded luma is tested last.
+/// The transform parameters at the front of the bytes (ST 2042-1, transform parameters), of a picture of this
+/// header's sequence, and how many bytes they take. The fields are read in order, and the first that is
+/// missing or out of range decides the refusal; the size of the padded luma is tested last.
 pub fn read_params(h: &Header, bytes: &[u8]) -> Result<(Plan, usize), ParamsRefusal>
     // What is read is spelled so.
     ensures found { IfOk result

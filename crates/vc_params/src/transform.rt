@@ -1,6 +1,7 @@
 ghost use Rattle.std.specs.Prelude.{◌≡◌, ◌≤◌, ◌+◌, ◌&&◌, nat_le, IfOk};
 ghost use Rattle.vc_types.specs.Fields.{Gives, tested, behind_flag};
-ghost use Rattle.vc_types.specs.TransformParameters.{number, wavelet_index, wavelet_depth, extended_parameters};
+ghost use Rattle.vc_types.specs.TransformParameters.{number, wavelet_index, wavelet_depth};
+ghost use Rattle.vc_types.specs.TransformParameters.{extended_parameters};
 
 use crate::fields::{flag, number};
 use vc_bits::BitReader;

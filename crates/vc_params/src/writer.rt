@@ -1,8 +1,10 @@
-ghost use Rattle.std.specs.Prelude.{◌≡◌, ◌+◌, ◌*◌, ◌≤◌, ◌<◌, ◌^◌, ◌++◌, ◌∷◌, [], true, false, ℕ, List, length, take, IfOk, OnOk, Ok};
+ghost use Rattle.std.specs.Prelude.{◌≡◌, ◌+◌, ◌*◌, ◌≤◌, ◌<◌, ◌^◌, ◌++◌, ◌∷◌, [], true, false, ℕ, List};
+ghost use Rattle.std.specs.Prelude.{length, take, IfOk, OnOk, Ok};
 ghost use Rattle.vc_types.specs.Bits.{bits_of};
 ghost use Rattle.vc_types.specs.Codes.{uint_bits};
 ghost use Rattle.vc_types.specs.Fields.{joined, pair_bits, filled_up, flagged_bits};
-ghost use Rattle.vc_types.specs.ParameterSpelling.{parameter_bits, extension_bits, numbers_bits, encoder_parameters, coded_unless, default_for, is_default};
+ghost use Rattle.vc_types.specs.ParameterSpelling.{parameter_bits, extension_bits, numbers_bits};
+ghost use Rattle.vc_types.specs.ParameterSpelling.{encoder_parameters, coded_unless, default_for, is_default};
 ghost use Rattle.vc_types.specs.SequenceHeader.{Sequence, picture_shape};
 ghost use Rattle.vc_types.specs.TransformParameters.{parameters_of, is_symmetric, coded_parameters};
 
@@ -12,9 +14,9 @@ use vc_bits::BitWriter;
 use vc_golomb::write_uint;
 use vc_types::{NoMemory, Plan};
 
-/// The bytes of a plan's transform parameters (ST 2042-1, transform parameters), for a sequence header of a major
-/// version, which is 3 for a transform that isn't the same across as down. The parts across are coded where they
-/// differ, and the matrix where it isn't the default one.
+/// The bytes of a plan's transform parameters (ST 2042-1, transform parameters), for a sequence header of a
+/// major version, which is 3 for a transform that isn't the same across as down. The parts across are coded
+/// where they differ, and the matrix where it isn't the default one.
 pub fn write_params(alloc: Global, major: u32, plan: &Plan) -> Result<Vec<u8>, NoMemory>
     requires version { is_symmetric (parameters_of plan.now) ≡ false → major ≡ 3 }
     ensures value { IfOk result

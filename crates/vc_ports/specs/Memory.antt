@@ -1,5 +1,6 @@
 -- A source and a sink in memory: what they show, what each call answers, and what they are then.
-use Rattle.std.specs.Prelude.{ℕ, ◌-◌, min, List, [], ◌∷◌, ◌++◌, Bool, nat_eq, nat_lt, ◌||◌, length, drop, if◌then◌else◌}
+use Rattle.std.specs.Prelude.{ℕ, ◌-◌, min, List, [], ◌∷◌, ◌++◌, Bool, nat_eq, nat_lt, ◌||◌, length, drop}
+use Rattle.std.specs.Prelude.{if◌then◌else◌}
 use Rattle.std.specs.List.{list_any}
 use Rattle.vc_ports.specs.Faults.{counted}
 use Rattle.vc_ports.specs.declared.source.Got.{Got}

@@ -1,5 +1,6 @@
 -- Wires in memory: what they show, what each call answers, and what they are then.
-use Rattle.std.specs.Prelude.{ℕ, ◌+◌, ◌-◌, ◌≤◌, List, [], ◌∷◌, ◌++◌, All, Bool, true, false, nat_lt, ◌||◌, map, length, take, drop, if◌then◌else◌, Some, None, Vec, vec_items}
+use Rattle.std.specs.Prelude.{ℕ, ◌+◌, ◌-◌, ◌≤◌, List, [], ◌∷◌, ◌++◌, All, Bool, true, false, nat_lt, ◌||◌}
+use Rattle.std.specs.Prelude.{map, length, take, drop, if◌then◌else◌, Some, None, Vec, vec_items}
 use Rattle.vc_ports.specs.Faults.{counted}
 use Rattle.vc_ports.specs.Memory.{fails_next}
 use Rattle.vc_ports.specs.Wires.{WireTold}

@@ -1,5 +1,6 @@
 -- What a wire tells, and what each of its calls makes of that.
-use Rattle.std.specs.Prelude.{◌≡◌, ℕ, ◌≤◌, Bool, true, if◌then◌else◌, List, [], ◌∷◌, ◌++◌, length, take, drop, Option, Some, IfSome}
+use Rattle.std.specs.Prelude.{◌≡◌, ℕ, ◌≤◌, Bool, true, if◌then◌else◌, List, [], ◌∷◌, ◌++◌, length, take, drop}
+use Rattle.std.specs.Prelude.{Option, Some, IfSome}
 use Rattle.std.specs.Option.{option_map}
 use Rattle.vc_ports.specs.declared.wire.Came.{Came}
 use Rattle.vc_ports.specs.declared.wire.Came.TheVariants as came

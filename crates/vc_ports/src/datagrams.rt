@@ -1,4 +1,5 @@
-ghost use Rattle.std.specs.Prelude.{◌≡◌, ◌≤◌, length, take, ◌<◌, ◌^◌, OnSome, MatchOption, slice_get, None, Some};
+ghost use Rattle.std.specs.Prelude.{◌≡◌, ◌≤◌, length, take, ◌<◌, ◌^◌, OnSome, MatchOption, slice_get, None};
+ghost use Rattle.std.specs.Prelude.{Some};
 ghost use Rattle.vc_ports.specs.MemoryWires.{datagrams_in};
 
 // The datagram at a place.

@@ -8,8 +8,8 @@ use std::alloc::Global;
 use std::marker::Model;
 use vc_types::NoMemory;
 
-/// A sink in memory that fails at the calls of the given numbers, counted from 1, and at each call that would pass
-/// its room. It tells the bytes that it holds.
+/// A sink in memory that fails at the calls of the given numbers, counted from 1, and at each call that would
+/// pass its room. It tells the bytes that it holds.
 #[derive(Drop)]
 pub struct MemSink {
     bytes: Vec<u8>,

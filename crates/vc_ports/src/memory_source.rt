@@ -7,7 +7,8 @@ use crate::plain_source::PlainSource;
 use crate::source::{Got, Source};
 use std::marker::Model;
 
-/// A source in memory that fails at the calls of the given numbers, counted from 1. It tells the bytes that are left.
+/// A source in memory that fails at the calls of the given numbers, counted from 1. It tells the bytes that
+/// are left.
 #[derive(Drop)]
 pub struct MemSource {
     inner: PlainSource,

@@ -1,6 +1,8 @@
-ghost use Rattle.std.specs.Prelude.{◌≡◌, ◌≤◌, ◌∷◌, [], length, take, IfOk, ◌+◌, ◌<◌, ◌^◌, OnSome, MatchOption, slice_get, None, Some};
+ghost use Rattle.std.specs.Prelude.{◌≡◌, ◌≤◌, ◌∷◌, [], length, take, IfOk, ◌+◌, ◌<◌, ◌^◌, OnSome};
+ghost use Rattle.std.specs.Prelude.{MatchOption, slice_get, None, Some};
 ghost use Rattle.vc_ports.specs.Faults.{HasCause};
-ghost use Rattle.vc_ports.specs.MemoryWires.{AreDatagrams, memory_told, reach_answer, listen_after, aim_after, send_after, recv_answer, recv_after};
+ghost use Rattle.vc_ports.specs.MemoryWires.{AreDatagrams, memory_told, reach_answer, listen_after};
+ghost use Rattle.vc_ports.specs.MemoryWires.{aim_after, send_after, recv_answer, recv_after};
 ghost use Rattle.vc_ports.specs.Wires.{Reaches, Comes, listening, aiming, sending};
 
 use crate::datagrams::{datagram_at, give};
@@ -11,8 +13,9 @@ use std::alloc::Global;
 use std::marker::Model;
 use vc_types::NoMemory;
 
-/// A wire in memory that fails at the calls of the given numbers, counted from 1, and at each call that would pass its
-/// room, where a datagram that is sent and an address take their length and 2. It tells all its lists.
+/// A wire in memory that fails at the calls of the given numbers, counted from 1, and at each call that would
+/// pass its room, where a datagram that is sent and an address take their length and 2. It tells all its
+/// lists.
 #[derive(Drop)]
 pub struct MemWire {
     datagrams: Vec<Vec<u8>>,
@@ -50,8 +53,8 @@ impl Model for MemWire {
 impl MemWire {
     ghost use Rattle.vc_ports.specs.MemoryWires.{datagrams_in};
 
-    /// A wire from which these datagrams come and, where it is looped, those that are sent. Memory for `room` bytes is
-    /// taken here. The calls of the numbers in `fails` fail.
+    /// A wire from which these datagrams come and, where it is looped, those that are sent. Memory for `room`
+    /// bytes is taken here. The calls of the numbers in `fails` fail.
     pub fn new(
         alloc: Global,
         coming: Vec<Vec<u8>>,

@@ -7,8 +7,8 @@ use crate::datagrams::{datagram_at, give};
 use crate::wire::{Came, Reached, Wire};
 use std::marker::Model;
 
-/// A wire in memory that never fails, and always listens and is aimed. It tells the datagrams that will come and those
-/// that were given, and drops what is sent.
+/// A wire in memory that never fails, and always listens and is aimed. It tells the datagrams that will come
+/// and those that were given, and drops what is sent.
 #[derive(Drop)]
 pub struct PlainWire {
     datagrams: Vec<Vec<u8>>,

@@ -1,4 +1,5 @@
-ghost use Rattle.std.specs.Prelude.{◌≡◌, ◌≤◌, ◌-◌, ◌++◌, ◌∷◌, [], ℕ, List, length, IfOk, OnSome, ◌<◌, ◌^◌, None, Some, MatchOption, slice_get};
+ghost use Rattle.std.specs.Prelude.{◌≡◌, ◌≤◌, ◌-◌, ◌++◌, ◌∷◌, [], ℕ, List, length, IfOk, OnSome, ◌<◌, ◌^◌};
+ghost use Rattle.std.specs.Prelude.{None, Some, MatchOption, slice_get};
 ghost use Rattle.vc_ports.specs.MemoryWires.{room_of};
 
 use std::alloc::Global;

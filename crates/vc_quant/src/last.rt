@@ -5,8 +5,9 @@ ghost use Rattle.vc_quant.specs.Reciprocal.{IsReciprocal};
 use crate::factors::FACTORS;
 use crate::quotient::quotient;
 
-/// The last index from 0 to 127 at which this encoder quantises a magnitude to a number that has more than so many binary
-/// digits where 1 is added to it: one digit or more, and fewer than the magnitude has where 1 is added.
+/// The last index from 0 to 127 at which this encoder quantises a magnitude to a number that has more than so
+/// many binary digits where 1 is added to it: one digit or more, and fewer than the magnitude has where 1 is
+/// added.
 #[inline]
 pub fn last_index_with(digits: u32, magnitude: u64) -> u8
     requires digits { (1 ≤ digits) × (2 ^ digits ≤ magnitude + 1) }

@@ -1,4 +1,5 @@
-ghost use Rattle.std.specs.Prelude.{◌≡◌, ◌+◌, ◌*◌, ◌≤◌, IsErr, IfOk, IsTrue, MatchResult, Some, None, ◌↔◌, List, [], take, slice_index_or};
+ghost use Rattle.std.specs.Prelude.{◌≡◌, ◌+◌, ◌*◌, ◌≤◌, IsErr, IfOk, IsTrue, MatchResult, Some, None, ◌↔◌};
+ghost use Rattle.std.specs.Prelude.{List, [], take, slice_index_or};
 ghost use Rattle.vc_types.specs.Limits.{matrix_fits};
 ghost use Rattle.vc_types.specs.Quantisation.{default_matrix, default_rows, haar_entries, filled_matrix};
 
@@ -6,8 +7,9 @@ ghost use Rattle.vc_types.specs.Quantisation.{default_matrix, default_rows, haar
 #[derive(Clone, Copy, Debug, PartialEq, Eq)]
 pub struct NoDefault;
 
-/// The default quantisation matrix of a wavelet from 0 to 6 at a depth from 1 to 5: LL, then HL, LH and HH of each level
-/// from the lowest on, and 0 behind the last (ST 2042-1, quantisation matrices). There is none exactly at depth 5.
+/// The default quantisation matrix of a wavelet from 0 to 6 at a depth from 1 to 5: LL, then HL, LH and HH of
+/// each level from the lowest on, and 0 behind the last (ST 2042-1, quantisation matrices). There is none
+/// exactly at depth 5.
 pub fn default_matrix(wavelet: u8, depth: u8) -> Result<[u8; 16], NoDefault>
     requires wavelet { wavelet ≤ 6 }
     requires levels { (1 ≤ depth) × (depth ≤ 5) }

@@ -1,8 +1,10 @@
 ghost use Rattle.std.specs.Prelude.{◌≡◌, ◌+◌, ◌*◌, ◌^◌, ◌<◌, ◌≤◌, unsigned_abs};
-ghost use Rattle.vc_types.specs.Quantisation.{quant_factor, quant_offset, dequantised, dequantised_magnitude, with_sign_of};
+ghost use Rattle.vc_types.specs.Quantisation.{quant_factor, quant_offset, dequantised, dequantised_magnitude};
+ghost use Rattle.vc_types.specs.Quantisation.{with_sign_of};
 ghost use Rattle.vc_quant.specs.Narrow.{IsNarrow};
 
-/// An index, with its factor and its offset, at which numbers up to a magnitude stand for coefficients that fit 32 bits.
+/// An index, with its factor and its offset, at which numbers up to a magnitude stand for coefficients that
+/// fit 32 bits.
 #[derive(Clone, Copy)]
 pub struct NarrowQuantiser {
     pub index: u8,

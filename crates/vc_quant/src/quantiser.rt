@@ -1,6 +1,8 @@
-ghost use Rattle.std.specs.Prelude.{◌≡◌, ◌+◌, ◌*◌, ◌/◌, ◌^◌, ◌<◌, ◌≤◌, ◌↔◌, All, IfSome, IsSome, length, unsigned_abs, true, false, ℕ, ℤ};
+ghost use Rattle.std.specs.Prelude.{◌≡◌, ◌+◌, ◌*◌, ◌/◌, ◌^◌, ◌<◌, ◌≤◌, ◌↔◌, All, IfSome, IsSome, length};
+ghost use Rattle.std.specs.Prelude.{unsigned_abs, true, false, ℕ, ℤ};
 ghost use Rattle.vc_types.specs.Lifting.{line_of};
-ghost use Rattle.vc_types.specs.Quantisation.{quant_factor, quant_offset, dequantised, dequantised_magnitude, quantised, with_sign_of};
+ghost use Rattle.vc_types.specs.Quantisation.{quant_factor, quant_offset, dequantised, dequantised_magnitude};
+ghost use Rattle.vc_types.specs.Quantisation.{quantised, with_sign_of};
 ghost use Rattle.vc_quant.specs.Narrow.{IsNarrow};
 ghost use Rattle.vc_quant.specs.Reciprocal.{IsReciprocal};
 
@@ -90,8 +92,8 @@ impl Quantiser {
         if c < 0 { -value } else { value }
     }
 
-    /// Puts in the place of numbers the coefficients that they stand for, where those surely fit 32 bits: `greatest` is at
-    /// least each number's magnitude. Else they stay, and it is false.
+    /// Puts in the place of numbers the coefficients that they stand for, where those surely fit 32 bits:
+    /// `greatest` is at least each number's magnitude. Else they stay, and it is false.
     #[inline]
     pub fn dequant_all(&self, numbers: &mut [i32], greatest: u32) -> bool
         requires greatest { All (λ z. unsigned_abs z ≤ greatest) numbers.old }
@@ -129,8 +131,8 @@ impl Quantiser {
         })
     }
 
-    /// Puts in the place of coefficients the numbers that this encoder quantises them to: `greatest` is at least each
-    /// coefficient's magnitude.
+    /// Puts in the place of coefficients the numbers that this encoder quantises them to: `greatest` is at
+    /// least each coefficient's magnitude.
     #[inline]
     pub fn quant_all(&self, coefficients: &mut [i32], greatest: u32)
         requires greatest { All (λ z. unsigned_abs z ≤ greatest) coefficients.old }

@@ -1,4 +1,5 @@
-//! Sequence headers: what a stream says of its pictures before the first of them (ST 2042-1, sequence header).
+//! Sequence headers: what a stream says of its pictures before the first of them (ST 2042-1, sequence
+//! header).
 #![tactic(auto)]
 
 mod fields;

@@ -1,6 +1,9 @@
 ghost use Rattle.std.specs.Prelude.{◌≡◌, ◌≤◌, IfOk, IsTrue};
 ghost use Rattle.vc_types.specs.Fields.{Gives};
-ghost use Rattle.vc_types.specs.SequenceHeader.{major_version, profile, frame_size, colour_difference_sampling, scan_format, ratio, clean_area, excursion, custom_signal_range, signal_range_of, colour_part, colour_specification};
+ghost use Rattle.vc_types.specs.SequenceHeader.{major_version, profile, frame_size};
+ghost use Rattle.vc_types.specs.SequenceHeader.{colour_difference_sampling, scan_format, ratio, clean_area};
+ghost use Rattle.vc_types.specs.SequenceHeader.{excursion, custom_signal_range, signal_range_of, colour_part};
+ghost use Rattle.vc_types.specs.SequenceHeader.{colour_specification};
 ghost use Rattle.vc_types.specs.Video.{excursion_fits};
 ghost use Rattle.vc_seqhdr.specs.Formats.{format_view};
 

@@ -1,7 +1,8 @@
 ghost use Rattle.std.specs.Prelude.{◌≡◌, ◌++◌, ℕ, Bool, List, length, Ok, IfOk};
 ghost use Rattle.vc_types.specs.Bits.{bits_of};
 ghost use Rattle.vc_types.specs.Fields.{Gives, Answers, bytes_for};
-ghost use Rattle.vc_types.specs.HeaderSpelling.{HeaderSpelling, header_bits, spelled_header, IsHeader, BeginsWithHeader};
+ghost use Rattle.vc_types.specs.HeaderSpelling.{HeaderSpelling, header_bits, spelled_header, IsHeader};
+ghost use Rattle.vc_types.specs.HeaderSpelling.{BeginsWithHeader};
 ghost use Rattle.vc_types.specs.SequenceHeader.{Sequence, sequence_of, sequence_header, coded_header};
 
 use crate::fields::{index, number};
@@ -13,9 +14,10 @@ use crate::parts::{
 use vc_bits::BitReader;
 use vc_types::{Header, HeaderRefusal, dimensions_fit};
 
-/// The sequence header at the front of the bytes (ST 2042-1, sequence header), and how many bytes it takes. The fields
-/// are read in order, and the first that is missing or out of range decides the refusal; the dimensions are tested last.
-/// Frame rate, pixel aspect ratio, clean area and colour specification are read and not kept.
+/// The sequence header at the front of the bytes (ST 2042-1, sequence header), and how many bytes it takes.
+/// The fields are read in order, and the first that is missing or out of range decides the refusal; the
+/// dimensions are tested last. Frame rate, pixel aspect ratio, clean area and colour specification are read
+/// and not kept.
 pub fn read_header(bytes: &[u8]) -> Result<(Header, usize), HeaderRefusal>
     // What is read is spelled so.
     ensures found { IfOk result (λ x. BeginsWithHeader bytes.now (sequence_of x.0) x.1) }

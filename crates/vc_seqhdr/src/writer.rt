@@ -1,8 +1,10 @@
-ghost use Rattle.std.specs.Prelude.{◌≡◌, ◌≤◌, ◌++◌, ◌∷◌, [], true, false, None, Some, ℕ, List, length, IfOk, OnOk, Ok};
+ghost use Rattle.std.specs.Prelude.{◌≡◌, ◌≤◌, ◌++◌, ◌∷◌, [], true, false, None, Some, ℕ, List, length, IfOk};
+ghost use Rattle.std.specs.Prelude.{OnOk, Ok};
 ghost use Rattle.vc_types.specs.Bits.{bits_of, digit_of};
 ghost use Rattle.vc_types.specs.Codes.{uint_bits};
 ghost use Rattle.vc_types.specs.Fields.{joined, pair_bits, filled_up};
-ghost use Rattle.vc_types.specs.HeaderSpelling.{header_bits, IsEncoderHeader, encoder_header, encoder_base, sampling_index, preset_of};
+ghost use Rattle.vc_types.specs.HeaderSpelling.{header_bits, IsEncoderHeader, encoder_header, encoder_base};
+ghost use Rattle.vc_types.specs.HeaderSpelling.{sampling_index, preset_of};
 ghost use Rattle.vc_types.specs.SequenceHeader.{sequence_of, coded_header};
 
 use std::alloc::Global;
@@ -10,9 +12,9 @@ use vc_bits::BitWriter;
 use vc_golomb::write_uint;
 use vc_types::{Header, NoMemory, Sampling, SignalRange};
 
-/// The bytes of a sequence header (ST 2042-1, sequence header) of the encoder's form: version 3.0, high quality, base
-/// video format 14 with the top field first and else 0, size, sampling, scan and a preset signal range coded, and
-/// nothing else.
+/// The bytes of a sequence header (ST 2042-1, sequence header) of the encoder's form: version 3.0, high
+/// quality, base video format 14 with the top field first and else 0, size, sampling, scan and a preset
+/// signal range coded, and nothing else.
 pub fn write_header(alloc: Global, h: &Header) -> Result<Vec<u8>, NoMemory>
     requires { IsEncoderHeader (sequence_of h.now) }
     ensures value { IfOk result
@@ -65,7 +67,8 @@ fn write_picture(w: &mut BitWriter, h: &Header) -> Result<(), NoMemory>
     write_uint(w, digit_of(h.fields))
 }
 
-// No frame rate, pixel aspect ratio or clean area; the signal range; no colour specification; the coding mode.
+// No frame rate, pixel aspect ratio or clean area; the signal range; no colour specification; the coding
+// mode.
 fn write_colour(w: &mut BitWriter, h: &Header) -> Result<(), NoMemory>
     ensures { OnOk result (w.new ≡ w.old ++ joined
         ((false ∷ []) ∷ (false ∷ []) ∷ (false ∷ [])

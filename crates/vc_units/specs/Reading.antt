@@ -4,7 +4,8 @@ use Rattle.vc_ports.specs.Reading.{Gave, GaveAll}
 use Rattle.vc_types.specs.DataUnits.{DataUnit, unit_length}
 use Rattle.vc_units.specs.Units.{data_unit}
 use Rattle.vc_units.specs.declared.fault.UnitFault.{UnitFault}
-use Rattle.vc_units.specs.declared.fault.UnitFault.TheVariants.{Prefix, Offset, Code, Short, ReadFault, NoMemory}
+use Rattle.vc_units.specs.declared.fault.UnitFault.TheVariants.{Prefix, Offset, Code, Short, ReadFault}
+use Rattle.vc_units.specs.declared.fault.UnitFault.TheVariants.{NoMemory}
 use Rattle.vc_units.specs.declared.unit.Unit as unit
 
 -- what code keeps of a data unit

@@ -1,6 +1,7 @@
 -- An elementary stream, read: data units one after another, each a parse info header of 13 bytes
 -- and a body (ST 2042-1, data unit; parse info header).
-use Rattle.std.specs.Prelude.{ℕ, zero, suc, ◌-◌, ◌||◌, not, List, [], ◌∷◌, drop, slice_index, Result, Ok, Err, nat_lt, ◌==◌, if◌then◌else◌}
+use Rattle.std.specs.Prelude.{ℕ, zero, suc, ◌-◌, ◌||◌, not, List, [], ◌∷◌, drop, slice_index, Result, Ok, Err}
+use Rattle.std.specs.Prelude.{nat_lt, ◌==◌, if◌then◌else◌}
 use Rattle.byteorder.specs.Endian.{big_number}
 use Rattle.vc_types.specs.DataUnits.{DataUnit, is_end_of_sequence, is_unit_code, parse_info_prefix}
 use Rattle.vc_types.specs.ParseCodes.{end_code}

@@ -1,4 +1,5 @@
-//! Elementary streams: data units, each behind a parse info header of 13 bytes, read and written unit by unit.
+//! Elementary streams: data units, each behind a parse info header of 13 bytes, read and written unit by
+//! unit.
 #![tactic(auto)]
 
 mod fault;

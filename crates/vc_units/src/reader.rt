@@ -16,7 +16,8 @@ use vc_types::{
 // The most bytes that a unit may have.
 const LONGEST_UNIT: u32 = 268_435_456;
 
-/// A source that is read unit by unit. It keeps the source borrowed, and contracts see what the source is now.
+/// A source that is read unit by unit. It keeps the source borrowed, and contracts see what the source is
+/// now.
 #[derive(Drop)]
 pub struct UnitReader<'a, S> {
     alloc: Global,
@@ -51,10 +52,10 @@ impl<'a, S: Source> UnitReader<'a, S> {
     }
 }
 
-/// Reads the next unit (ST 2042-1, data unit), or None where the source ended at a unit's edge. It is refused for the
-/// first of these: `Short` where the source ended within the 13 bytes before the body, `Prefix`, `Code`, `Offset`, and
-/// `Short` where it ended within the body. No byte behind a parse info that is refused, or behind an end of sequence, is
-/// taken. After a fault the same fault is answered without reading.
+/// Reads the next unit (ST 2042-1, data unit), or None where the source ended at a unit's edge. It is refused
+/// for the first of these: `Short` where the source ended within the 13 bytes before the body, `Prefix`,
+/// `Code`, `Offset`, and `Short` where it ended within the body. No byte behind a parse info that is refused,
+/// or behind an end of sequence, is taken. After a fault the same fault is answered without reading.
 pub fn next_unit<S: Source>(r: &mut UnitReader<S>) -> Result<Option<Unit>, UnitFault>
     requires { r.old.place < 2 ^ 63 }
     ensures borrows { r.new.source.ghost_name ≡ r.old.source.ghost_name }

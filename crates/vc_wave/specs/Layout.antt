@@ -3,7 +3,8 @@
 use Rattle.std.specs.Prelude.{ℕ, zero, suc, ◌-◌, ◌*◌, ◌^◌, if◌then◌else◌, List, ℤ}
 use Rattle.vc_types.specs.declared.video.Component.{Component}
 use Rattle.vc_types.specs.TransformParameters.{Parameters}
-use Rattle.vc_types.specs.Transforms.{Cells, is_within, source_of, lowest_width, lowest_height, levels_across, inverse_levels}
+use Rattle.vc_types.specs.Transforms.{Cells, is_within, source_of, lowest_width, lowest_height, levels_across}
+use Rattle.vc_types.specs.Transforms.{inverse_levels}
 use Rattle.vc_wave.specs.Planes.{plane_of}
 
 -- Which row has the cell in column x and row y of the nested subbands, the lowest of which have w

@@ -1,7 +1,9 @@
-ghost use Rattle.std.specs.Prelude.{◌≡◌, ◌+◌, ◌-◌, ◌*◌, ◌^◌, ◌<◌, ◌≤◌, ℕ, All, IfOk, IsTrue, length, unsigned_abs, min, ℤ, pos, ◌-ℤ◌, slice_index_or};
+ghost use Rattle.std.specs.Prelude.{◌≡◌, ◌+◌, ◌-◌, ◌*◌, ◌^◌, ◌<◌, ◌≤◌, ℕ, All, IfOk, IsTrue, length};
+ghost use Rattle.std.specs.Prelude.{unsigned_abs, min, ℤ, pos, ◌-ℤ◌, slice_index_or};
 ghost use Rattle.vc_types.specs.Lifting.{line_of};
 ghost use Rattle.vc_types.specs.Rasters.{cell_at, sample_at};
-ghost use Rattle.vc_types.specs.Subbands.{plane_width, plane_height, plane_depth, padded_width, padded_height};
+ghost use Rattle.vc_types.specs.Subbands.{plane_width, plane_height, plane_depth, padded_width};
+ghost use Rattle.vc_types.specs.Subbands.{padded_height};
 ghost use Rattle.vc_types.specs.TransformParameters.{is_symmetric, parameters_of};
 ghost use Rattle.vc_types.specs.Transforms.{forward_transform};
 ghost use Rattle.vc_wave.specs.Samples.{padded_sample};
@@ -12,9 +14,9 @@ use std::alloc::Global;
 use vc_geometry::padded;
 use vc_types::{Component, Grid, NoMemory, Plan, Plane};
 
-/// The coefficients of a component's plane, in the padded size, by a symmetric transform: the plane's last column and
-/// row are repeated, half of the samples' range is taken away, and the forward transform is applied. It fails only where
-/// memory runs out.
+/// The coefficients of a component's plane, in the padded size, by a symmetric transform: the plane's last
+/// column and row are repeated, half of the samples' range is taken away, and the forward transform is
+/// applied. It fails only where memory runs out.
 pub fn forward(alloc: Global, plan: &Plan, c: Component, plane: &Plane) -> Result<Grid, NoMemory>
     requires symmetric { IsTrue (is_symmetric (parameters_of plan.now)) }
     requires width { plane.now.width ≡ plane_width plan.now.shape c }
@@ -49,7 +51,8 @@ pub(crate) fn sample_depth(plan: &Plan, c: Component) -> u8
     }
 }
 
-// Fills rows of cells with a plane's samples less half of their range; past the last column and row, those of the last.
+// Fills rows of cells with a plane's samples less half of their range; past the last column and row, those of
+// the last.
 fn fill(cells: &mut [i128], columns: usize, rows: usize, plane: &Plane, depth: u8)
     requires depth { (1 ≤ depth) × (depth ≤ 16) }
     requires some { (1 ≤ plane.now.width) × (1 ≤ plane.now.height) }

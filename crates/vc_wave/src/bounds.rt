@@ -33,8 +33,8 @@ pub(crate) fn rows_bound(wavelet: u8, most: u64) -> Option<u64>
     shifted_bound(wavelet, most, made)
 }
 
-/// A bound on all cells after columns are synthesised in 32 bits, from one before it. Where that is too high, the greatest
-/// magnitude among the cells takes its place; where that is too high, there is none.
+/// A bound on all cells after columns are synthesised in 32 bits, from one before it. Where that is too high,
+/// the greatest magnitude among the cells takes its place; where that is too high, there is none.
 pub(crate) fn columns_reach(wavelet: u8, cells: &[i32], most: u64) -> Option<u64>
     requires wavelet { wavelet ≤ 6 }
     requires most { most < 2 ^ 31 }

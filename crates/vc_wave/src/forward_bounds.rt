@@ -1,7 +1,8 @@
 ghost use Rattle.std.specs.Prelude.{◌≡◌, ◌-◌, ◌^◌, ◌<◌, ◌≤◌, IfSome};
 ghost use Rattle.vc_types.specs.Subbands.{plane_depth};
 ghost use Rattle.vc_types.specs.TransformParameters.{parameters_of};
-ghost use Rattle.vc_wave.specs.ForwardBounds.{doubled_bound, parted_rows_bound, parted_level_bound, forward_fits_narrow};
+ghost use Rattle.vc_wave.specs.ForwardBounds.{doubled_bound, parted_rows_bound, parted_level_bound};
+ghost use Rattle.vc_wave.specs.ForwardBounds.{forward_fits_narrow};
 ghost use Rattle.vc_wave.specs.NarrowBounds.{bound_over};
 
 use crate::analysis::sample_depth;
@@ -61,8 +62,8 @@ pub(crate) fn parted_bound(wavelet: u8, levels: u8, most: u64) -> Option<u64>
     Some(bound)
 }
 
-/// Whether a component's planes can be transformed by `forward_narrow`: a bound on their samples, less half of the range, is
-/// carried through each step of each level.
+/// Whether a component's planes can be transformed by `forward_narrow`: a bound on their samples, less half
+/// of the range, is carried through each step of each level.
 pub fn forward_fits_narrow(plan: &Plan, c: Component) -> bool
     ensures { result ≡ forward_fits_narrow (parameters_of plan.now)
         (2 ^ (plane_depth plan.now.shape c - 1)) }

@@ -1,5 +1,6 @@
 ghost use Rattle.std.specs.Prelude.{◌≡◌, ◌+◌, ◌-◌, ◌*◌, ◌^◌, ◌<◌, ◌≤◌, length, unsigned_abs, All, false};
-ghost use Rattle.vc_types.specs.Transforms.{on_columns, on_rows, inverse_level, forward_level, levels_across, inverse_levels, forward_levels};
+ghost use Rattle.vc_types.specs.Transforms.{on_columns, on_rows, inverse_level, forward_level, levels_across};
+ghost use Rattle.vc_types.specs.Transforms.{inverse_levels, forward_levels};
 ghost use Rattle.vc_types.specs.Wavelets.{is_shifted};
 ghost use Rattle.vc_wave.specs.Planes.{AreBelow, HasRoom, plane_of};
 ghost use Rattle.vc_wave.specs.Remade.{remade};
@@ -8,7 +9,8 @@ use crate::lines::{Lines, remake};
 use crate::pass::{Direction, Pass, over_columns, over_rows};
 use crate::sides::side_at;
 
-/// So many columns are worked on side by side: whole cache lines of a row are read, and tall columns still fit the cache.
+/// So many columns are worked on side by side: whole cache lines of a row are read, and tall columns still
+/// fit the cache.
 pub(crate) const BLOCK: usize = 32;
 
 // Puts the first columns together, or takes them apart.
@@ -79,7 +81,8 @@ pub(crate) struct Wavelets {
     pub across: u8,
 }
 
-// The inverse of one level both ways, whose subbands have w columns and h rows: it goes over columns and then rows.
+// The inverse of one level both ways, whose subbands have w columns and h rows: it goes over columns and then
+// rows.
 fn merge_level(
     wavelets: Wavelets,
     cells: &mut [i128],
@@ -102,7 +105,8 @@ fn merge_level(
     remake_rows(across, cells, stride, 2 * h, w, scratch);
 }
 
-// One level of the forward transform, whose subbands have w columns and h rows: it goes over rows and then columns.
+// One level of the forward transform, whose subbands have w columns and h rows: it goes over rows and then
+// columns.
 fn part_level(
     wavelet: u8,
     cells: &mut [i128],

@@ -1,5 +1,5 @@
-//! The wavelet transform of a component's plane, level by level, in the grid of nested subbands (ST 2042-1, inverse
-//! wavelet transform).
+//! The wavelet transform of a component's plane, level by level, in the grid of nested subbands (ST 2042-1,
+//! inverse wavelet transform).
 #![tactic(auto)]
 
 mod analysis;

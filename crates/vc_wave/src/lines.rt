@@ -1,4 +1,5 @@
-ghost use Rattle.std.specs.Prelude.{◌≡◌, ◌≢◌, ◌+◌, ◌*◌, ◌^◌, ◌<◌, ◌≤◌, ℕ, length, unsigned_abs, slice_index_or, ◌⊎◌};
+ghost use Rattle.std.specs.Prelude.{◌≡◌, ◌≢◌, ◌+◌, ◌*◌, ◌^◌, ◌<◌, ◌≤◌, ℕ, length, unsigned_abs};
+ghost use Rattle.std.specs.Prelude.{slice_index_or, ◌⊎◌};
 ghost use Rattle.vc_types.specs.Lifting.{line_of};
 ghost use Rattle.vc_lift.specs.Columns.{column_of};
 ghost use Rattle.vc_wave.specs.declared.pass.Direction.TheVariants.{Synthesis, Analysis};
@@ -8,8 +9,8 @@ ghost use Rattle.vc_wave.specs.Lines.{line_at, IsInside, IsApart, AreSmall, IsMa
 use crate::pass::{Direction, Pass};
 use crate::shift::{double, halve};
 
-/// Lines of a grid that stand side by side: the place of the first one's first cell, how far each cell is from the next
-/// in its line, how many lines there are, and half of the cells that each has.
+/// Lines of a grid that stand side by side: the place of the first one's first cell, how far each cell is
+/// from the next in its line, how many lines there are, and half of the cells that each has.
 #[derive(Clone, Copy)]
 pub(crate) struct Lines {
     pub start: usize,
@@ -18,7 +19,8 @@ pub(crate) struct Lines {
     pub half: usize,
 }
 
-// Where a line has sample k: at k or, while its even and odd samples stand in two halves, in the half of its parity.
+// Where a line has sample k: at k or, while its even and odd samples stand in two halves, in the half of its
+// parity.
 #[inline(always)]
 fn sample_place(apart: bool, half: usize, k: usize) -> usize
     requires place { k < 2 * half }

@@ -1,8 +1,10 @@
-ghost use Rattle.std.specs.Prelude.{◌≡◌, ◌+◌, ◌-◌, ◌*◌, ◌^◌, ◌<◌, ◌≤◌, ◌⊎◌, ℕ, IfSome, true, if◌then◌else◌, length, unsigned_abs};
+ghost use Rattle.std.specs.Prelude.{◌≡◌, ◌+◌, ◌-◌, ◌*◌, ◌^◌, ◌<◌, ◌≤◌, ◌⊎◌, ℕ, IfSome, true, if◌then◌else◌};
+ghost use Rattle.std.specs.Prelude.{length, unsigned_abs};
 ghost use Rattle.vc_types.specs.Lifting.{line_of};
 ghost use Rattle.vc_types.specs.Subbands.{padded_width, padded_height};
 ghost use Rattle.vc_types.specs.TransformParameters.{parameters_of};
-ghost use Rattle.vc_types.specs.Transforms.{halved, half_place, on_columns, on_rows, levels_across, inverse_levels};
+ghost use Rattle.vc_types.specs.Transforms.{halved, half_place, on_columns, on_rows, levels_across};
+ghost use Rattle.vc_types.specs.Transforms.{inverse_levels};
 ghost use Rattle.vc_types.specs.Wavelets.{is_shifted, synthesised};
 ghost use Rattle.vc_lift.specs.Ranges.{narrow_bound};
 ghost use Rattle.vc_wave.specs.declared.pass.Direction.TheVariants.{Synthesis};
@@ -67,8 +69,8 @@ fn weave(cells: &mut [i32], start: usize, half: usize, shifted: bool, line: &mut
     }
 }
 
-// Puts the two halves of a row together, in place (ST 2042-1, horizontal synthesis), and shifts its samples if the wavelet
-// wants that.
+// Puts the two halves of a row together, in place (ST 2042-1, horizontal synthesis), and shifts its samples
+// if the wavelet wants that.
 #[inline(always)]
 fn merge_row(wavelet: u8, cells: &mut [i32], start: usize, half: usize, line: &mut [i32])
     requires wavelet { wavelet ≤ 6 }
@@ -138,8 +140,9 @@ pub(crate) fn merge_columns(
     synth_narrow(wavelet, cells, &halves, columns);
 }
 
-// Puts a level together whose rows stand `pitch` cells apart, the low and the high ones in turn, and whose subbands have w
-// columns and h rows. From a bound on all cells it tells one on them after it; none where 32 bits may not be enough.
+// Puts a level together whose rows stand `pitch` cells apart, the low and the high ones in turn, and whose
+// subbands have w columns and h rows. From a bound on all cells it tells one on them after it; none where 32
+// bits may not be enough.
 fn merge_level(
     wavelets: Wavelets,
     cells: &mut [i32],
@@ -168,7 +171,8 @@ fn merge_level(
     Some(after)
 }
 
-// Puts levels across alone together, the lowest of which has subbands of w columns and h rows. Bounds as above.
+// Puts levels across alone together, the lowest of which has subbands of w columns and h rows. Bounds as
+// above.
 fn merge_across(
     wavelet: u8,
     levels: u8,
@@ -238,10 +242,10 @@ fn merge_levels(
     Some(bound)
 }
 
-/// Puts the levels across alone of a component together, and the first ones both ways, in place and in 32 bits (ST 2042-1,
-/// inverse wavelet transform). The coefficients stand in rows of `stride` cells, whose rows are taken in turn as `nested_in`
-/// says. It tells a bound on all cells after that; none where 32 bits may not be enough, and then the cells hold nothing of
-/// use. The line is room to work in, as long as a row.
+/// Puts the levels across alone of a component together, and the first ones both ways, in place and in 32
+/// bits (ST 2042-1, inverse wavelet transform). The coefficients stand in rows of `stride` cells, whose rows
+/// are taken in turn as `nested_in` says. It tells a bound on all cells after that; none where 32 bits may
+/// not be enough, and then the cells hold nothing of use. The line is room to work in, as long as a row.
 pub(crate) fn merge_below(
     plan: &Plan,
     c: Component,

@@ -1,7 +1,9 @@
-ghost use Rattle.std.specs.Prelude.{◌≡◌, ◌+◌, ◌-◌, ◌*◌, ◌^◌, ◌<◌, ◌≤◌, ◌⊎◌, ℕ, All, IsTrue, true, if◌then◌else◌, length, min, slice_index_or, unsigned_abs, pos, ◌-ℤ◌};
+ghost use Rattle.std.specs.Prelude.{◌≡◌, ◌+◌, ◌-◌, ◌*◌, ◌^◌, ◌<◌, ◌≤◌, ◌⊎◌, ℕ, All, IsTrue, true};
+ghost use Rattle.std.specs.Prelude.{if◌then◌else◌, length, min, slice_index_or, unsigned_abs, pos, ◌-ℤ◌};
 ghost use Rattle.vc_types.specs.Lifting.{line_of};
 ghost use Rattle.vc_types.specs.Rasters.{sample_at};
-ghost use Rattle.vc_types.specs.Subbands.{plane_width, plane_height, plane_depth, padded_width, padded_height};
+ghost use Rattle.vc_types.specs.Subbands.{plane_width, plane_height, plane_depth, padded_width};
+ghost use Rattle.vc_types.specs.Subbands.{padded_height};
 ghost use Rattle.vc_types.specs.TransformParameters.{is_symmetric, parameters_of};
 ghost use Rattle.vc_types.specs.Transforms.{doubled, on_columns, on_rows, forward_levels, forward_transform};
 ghost use Rattle.vc_types.specs.Wavelets.{is_shifted, analysed};
@@ -32,8 +34,8 @@ fn readied(sample: i32, shifted: bool) -> i32
     if shifted { 2 * sample } else { sample }
 }
 
-// Takes the even and the odd samples of a row apart into two halves, and doubles them if that is wanted. The line is room
-// to work in.
+// Takes the even and the odd samples of a row apart into two halves, and doubles them if that is wanted. The
+// line is room to work in.
 #[inline(always)]
 fn unweave(cells: &mut [i32], start: usize, half: usize, shifted: bool, line: &mut [i32])
     requires half { half < 2 ^ 60 }
@@ -123,8 +125,8 @@ fn part_columns(wavelet: u8, cells: &mut [i32], pitch: usize, columns: usize, ha
     analyse_narrow(wavelet, cells, &halves, columns);
 }
 
-// Takes a level apart whose rows stand `pitch` cells apart, and whose subbands have w columns and h rows: first rows and
-// then columns. Its low and high rows then stand in turn.
+// Takes a level apart whose rows stand `pitch` cells apart, and whose subbands have w columns and h rows:
+// first rows and then columns. Its low and high rows then stand in turn.
 fn part_level(wavelet: u8, cells: &mut [i32], pitch: usize, w: usize, h: usize, line: &mut [i32])
     requires wavelet { wavelet ≤ 6 }
     requires some { (0 < w) × (0 < h) }
@@ -137,8 +139,8 @@ fn part_level(wavelet: u8, cells: &mut [i32], pitch: usize, w: usize, h: usize, 
     part_columns(wavelet, cells, pitch, 2 * w, h);
 }
 
-// Takes levels apart, from the highest on, whose rows then are in turn, and the lowest of which has subbands of w columns
-// and h rows.
+// Takes levels apart, from the highest on, whose rows then are in turn, and the lowest of which has subbands
+// of w columns and h rows.
 fn part_levels(
     wavelet: u8,
     levels: u8,
@@ -182,7 +184,8 @@ fn centred(sample: u16, middle: u16) -> i32
     i32::from(sample) - i32::from(middle)
 }
 
-// Fills so many cells, from one of them on, with samples less half of their range; past the last, with that one.
+// Fills so many cells, from one of them on, with samples less half of their range; past the last, with that
+// one.
 #[inline(always)]
 fn fill_row(cells: &mut [i32], at: usize, columns: usize, samples: &[u16], middle: u16)
     requires some { 0 < length samples.now }
@@ -204,7 +207,8 @@ fn fill_row(cells: &mut [i32], at: usize, columns: usize, samples: &[u16], middl
     }
 }
 
-// Fills rows of cells with a plane's samples less half of their range; past the last column and row, those of the last.
+// Fills rows of cells with a plane's samples less half of their range; past the last column and row, those of
+// the last.
 fn fill(cells: &mut [i32], columns: usize, rows: usize, plane: &Plane, depth: u8)
     requires depth { (1 ≤ depth) × (depth ≤ 16) }
     requires some { (1 ≤ plane.now.width) × (1 ≤ plane.now.height) }
@@ -228,11 +232,11 @@ fn fill(cells: &mut [i32], columns: usize, rows: usize, plane: &Plane, depth: u8
     }
 }
 
-/// The coefficients of a component's plane by a symmetric transform, in 32 bits, as `forward` makes them; whether they fit
-/// is what `forward_fits_narrow` says. The plane's last column and row are repeated, half of the samples' range is taken
-/// away, and the forward transform is applied. The coefficients stand in rows of the padded width, whose rows are taken in
-/// turn as `nested_in` says; nothing of the cells as they were is read. The line is room to work in, as long as a row. It
-/// takes no memory.
+/// The coefficients of a component's plane by a symmetric transform, in 32 bits, as `forward` makes them;
+/// whether they fit is what `forward_fits_narrow` says. The plane's last column and row are repeated, half of
+/// the samples' range is taken away, and the forward transform is applied. The coefficients stand in rows of
+/// the padded width, whose rows are taken in turn as `nested_in` says; nothing of the cells as they were is
+/// read. The line is room to work in, as long as a row. It takes no memory.
 pub fn forward_narrow(plan: &Plan, c: Component, plane: &Plane, cells: &mut [i32], line: &mut [i32])
     requires symmetric { IsTrue (is_symmetric (parameters_of plan.now)) }
     requires width { plane.now.width ≡ plane_width plan.now.shape c }

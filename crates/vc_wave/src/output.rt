@@ -1,7 +1,9 @@
-ghost use Rattle.std.specs.Prelude.{◌≡◌, ◌+◌, ◌-◌, ◌*◌, ◌^◌, ◌<◌, ◌≤◌, ◌⊎◌, ℕ, true, length, slice_index_or, unsigned_abs};
+ghost use Rattle.std.specs.Prelude.{◌≡◌, ◌+◌, ◌-◌, ◌*◌, ◌^◌, ◌<◌, ◌≤◌, ◌⊎◌, ℕ, true, length, slice_index_or};
+ghost use Rattle.std.specs.Prelude.{unsigned_abs};
 ghost use Rattle.vc_types.specs.Lifting.{line_of};
 ghost use Rattle.vc_types.specs.Planes.{output_sample};
-ghost use Rattle.vc_types.specs.Subbands.{plane_width, plane_height, plane_depth, padded_width, padded_height};
+ghost use Rattle.vc_types.specs.Subbands.{plane_width, plane_height, plane_depth, padded_width};
+ghost use Rattle.vc_types.specs.Subbands.{padded_height};
 ghost use Rattle.vc_types.specs.TransformParameters.{parameters_of};
 ghost use Rattle.vc_types.specs.Transforms.{half_place, inverse_transform};
 ghost use Rattle.vc_types.specs.Wavelets.{is_shifted};
@@ -27,7 +29,8 @@ pub struct Format {
     pub depth: u8,
 }
 
-// The sample of so many bits: a number clipped to half of their range on either side of 0, and that half added.
+// The sample of so many bits: a number clipped to half of their range on either side of 0, and that half
+// added.
 #[inline(always)]
 fn sample(cell: i32, depth: u8) -> u16
     requires { (1 ≤ depth) × (depth ≤ 16) }
@@ -37,8 +40,8 @@ fn sample(cell: i32, depth: u8) -> u16
     (cell.clamp(-half, half - 1) + half) as u16
 }
 
-// Puts two halves of a row in turn, as far as a row of the plane reaches, shifts the samples if that is wanted, and clips
-// them.
+// Puts two halves of a row in turn, as far as a row of the plane reaches, shifts the samples if that is
+// wanted, and clips them.
 #[inline(always)]
 fn weave_samples(
     samples: &mut [u16],
@@ -75,8 +78,8 @@ fn weave_samples(
     }
 }
 
-// Puts the two halves of a row together (ST 2042-1, horizontal synthesis), and clips its samples to a row of the plane. The
-// halves are left synthesised where they stand.
+// Puts the two halves of a row together (ST 2042-1, horizontal synthesis), and clips its samples to a row of
+// the plane. The halves are left synthesised where they stand.
 #[inline(always)]
 fn put_row(
     wavelet: u8,
@@ -112,7 +115,8 @@ fn put_row(
     weave_samples(samples, at, cells, start, half, is_shifted(wavelet), format);
 }
 
-// Puts the halves of the first rows together, which begin `pitch` cells apart, and fills the plane with their samples.
+// Puts the halves of the first rows together, which begin `pitch` cells apart, and fills the plane with their
+// samples.
 fn put_rows(
     wavelet: u8,
     cells: &mut [i32],
@@ -147,9 +151,9 @@ fn put_rows(
     }
 }
 
-/// Puts the highest level together, whose rows stand `pitch` cells apart, the low and the high ones in turn, and whose
-/// subbands have w columns and h rows, and fills the plane with the samples, which are clipped. From a bound on all cells it
-/// tells whether 32 bits were enough.
+/// Puts the highest level together, whose rows stand `pitch` cells apart, the low and the high ones in turn,
+/// and whose subbands have w columns and h rows, and fills the plane with the samples, which are clipped.
+/// From a bound on all cells it tells whether 32 bits were enough.
 pub(crate) fn put_level(
     wavelets: Wavelets,
     cells: &mut [i32],
@@ -188,10 +192,11 @@ pub(crate) fn put_level(
     true
 }
 
-/// The samples of a component's plane from its coefficients, in 32 bits (ST 2042-1, inverse wavelet transform and picture
-/// output): without the padding, clipped, and with half of their range added. The coefficients stand in rows of `stride`
-/// cells, whose rows are taken in turn as `turn_rows` leaves them, and are of no use afterwards. The line is room to work
-/// in, as long as a row. It answers whether 32 bits were enough; where they weren't, the samples are of no use either.
+/// The samples of a component's plane from its coefficients, in 32 bits (ST 2042-1, inverse wavelet transform
+/// and picture output): without the padding, clipped, and with half of their range added. The coefficients
+/// stand in rows of `stride` cells, whose rows are taken in turn as `turn_rows` leaves them, and are of no
+/// use afterwards. The line is room to work in, as long as a row. It answers whether 32 bits were enough;
+/// where they weren't, the samples are of no use either.
 pub fn inverse_output(
     plan: &Plan,
     c: Component,

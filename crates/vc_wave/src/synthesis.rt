@@ -11,8 +11,8 @@ use std::alloc::Global;
 use vc_geometry::padded;
 use vc_types::{Component, Grid, NoMemory, Plan};
 
-/// The samples of a component from its coefficients, both in the padded size (ST 2042-1, inverse wavelet transform).
-/// Coefficients have magnitudes below 2^60. It fails only where memory runs out.
+/// The samples of a component from its coefficients, both in the padded size (ST 2042-1, inverse wavelet
+/// transform). Coefficients have magnitudes below 2^60. It fails only where memory runs out.
 pub fn inverse(alloc: Global, plan: &Plan, c: Component, coeffs: Grid) -> Result<Grid, NoMemory>
     requires width { coeffs.width ≡ padded_width (parameters_of plan.now) c }
     requires height { coeffs.height ≡ padded_height (parameters_of plan.now) c }

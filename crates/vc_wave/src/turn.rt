@@ -35,7 +35,8 @@ pub fn nesting_of(plan: &Plan, c: Component) -> Nesting
     }
 }
 
-// The row that a level takes the cell in column x and row y to, where the level's subbands have w columns and h rows.
+// The row that a level takes the cell in column x and row y to, where the level's subbands have w columns and
+// h rows.
 fn row_of_level(w: usize, h: usize, x: usize, y: usize) -> usize
     requires { (w < 2 ^ 60) × (h < 2 ^ 60) }
     ensures { result ≡ (if is_within (2 * w) (2 * h) x y then source_of h y else y) }
@@ -117,8 +118,8 @@ fn turn_columns(
     }
 }
 
-/// Copies a component's coefficients, which stand row by row in nested subbands of the padded size, to cells whose rows are
-/// taken in turn, as `inverse_output` wants them.
+/// Copies a component's coefficients, which stand row by row in nested subbands of the padded size, to cells
+/// whose rows are taken in turn, as `inverse_output` wants them.
 pub fn turn_rows(plan: &Plan, c: Component, nested: &[i32], cells: &mut [i32])
     requires nested { padded_height (parameters_of plan.now) c
         * padded_width (parameters_of plan.now) c ≤ length nested.now }
