@@ -1,3 +1,2 @@
 pub mod RowsOfRasters
 pub mod Fields
-pub mod FieldRows

@@ -2,6 +2,5 @@ pub mod SampleRuns
 pub mod ReadBack
 pub mod FrameEnds
 pub mod Holding
-pub mod FrameRows
 pub mod SampleBytes
 pub mod PartsOut

@@ -2,5 +2,4 @@ pub mod Infos
 pub mod Streams
 pub mod Written
 pub mod UnitSteps
-pub mod Rows
 pub mod Behind
