@@ -2,11 +2,13 @@
 use Rattle.std.proofs.Common.{◌≡◌, ◌≢◌, ℕ, ◌+◌, ◌-◌, ◌*◌, ◌/◌, ◌%◌, ◌<◌, ◌≤◌, ◌⊎◌, inl, inr, List, ℤ, arith, ap, sym, ◌∙◌, min}
 use Rattle.std.proofs.lemmas.Bool.{cases_eq, cases_lt}
 use Rattle.std.proofs.lemmas.Bool.Decides.{nat_tests}
-use Rattle.vc_types.specs.Lifting.{line_of, changed_by}
+use Rattle.vc_types.specs.Lifting.{changed_by}
 use Rattle.vc_lift.specs.declared.halves.Halves.{Halves}
 use Rattle.vc_lift.specs.CountedSteps.{CountedStep, place_met, change_at, lift, lift_between}
-use Rattle.vc_lift.specs.Halves.{halves_place, line_in, AreLines, StandApart, IsBeside, CanRun}
+use Rattle.vc_lift.specs.Halves.{halves_place, line_in, AreLines, AreMade, CanRun}
 use Rattle.vc_lift.specs.Ranges.{HasRangeAt, HasRange}
+use Rattle.vc_lift.specs.Runs.{IsChanged}
+use Rattle.vc_lift.proofs.HalfPlaces.{outside_run}
 use Rattle.vc_lift.proofs.NarrowSums.{same_change, same_room}
 
 -- ---- at a sample
@@ -56,14 +58,14 @@ module _ (s : CountedStep) (half lo mid hi : ℕ) (x y : ℕ → ℤ) (some : 0 
       ∙ sym (between_in s half lo hi x k (omega arith) within e)
   at_parity k h e (inr after) any (inr past) = between_past s half mid hi y k past ∙ same k h ∙ between_past s half lo mid x k after ∙ sym (between_past s half lo hi x k past)
 
-  pub between_more : (k : ℕ) → k < 2 * half → lift_between s half mid hi y k ≡ lift_between s half lo hi x k
+  between_more : (k : ℕ) → k < 2 * half → lift_between s half mid hi y k ≡ lift_between s half lo hi x k
   between_more k h = elim (cases_eq (k % 2) s.parity) [
     | inl e ↦ at_parity k h e (cases_lt (k / 2) mid) (cases_lt (k / 2) lo) (cases_lt (k / 2) hi)
     | inr ne ↦ between_other s half mid hi y k ne ∙ same k h ∙ between_other s half lo mid x k ne ∙ sym (between_other s half lo hi x k ne)
   ]
 
   -- the samples that are left have the same room
-  pub room_left : (limit n : ℕ) → mid ≤ n → n < half → HasRangeAt limit s half x n → HasRangeAt limit s half y n
+  room_left : (limit n : ℕ) → mid ≤ n → n < half → HasRangeAt limit s half x n → HasRangeAt limit s half y n
   room_left limit n from lt room =
       let number : (2 * n + s.parity) / 2 ≡ n = omega arith in
       same_room s half y x n n limit (λ j h. met_same n j)
@@ -88,22 +90,16 @@ module _ (s : CountedStep) (h : Halves) (n width len : ℕ) (p : s.parity < 2) (
     apart = λ j lt. lines.apart (place_met s h.half n j) (2 * n + s.parity) (met_below s h.half n j lines.some p) (omega arith) (λ e. met_parity s h.half n j p (ap (λ k. k % 2) e ∙ omega arith));
   }
 
-  module _ (old new : List ℤ)
-      (on : (x : ℕ) → x < width → line_of new (halves_place h (2 * n + s.parity) + x) ≡ changed_by s.adds (line_of old (halves_place h (2 * n + s.parity) + x)) (change_at s h.half (line_in h old x) n))
-      (off : (i : ℕ) → (i < halves_place h (2 * n + s.parity)) ⊎ (halves_place h (2 * n + s.parity) + width ≤ i) → line_of new i ≡ line_of old i) where
+  module _ (old new : List ℤ) (changed : IsChanged s h n width old new) where
     number_kept : (x k : ℕ) → x < width → k < 2 * h.half → k ≢ 2 * n + s.parity → line_in h new x k ≡ line_in h old x k
-    number_kept x k lt below ne = off (halves_place h k + x) (outside (lines.apart k (2 * n + s.parity) below (omega arith) ne))
-      where
-        outside : StandApart width (halves_place h k) (halves_place h (2 * n + s.parity)) → (halves_place h k + x < halves_place h (2 * n + s.parity)) ⊎ (halves_place h (2 * n + s.parity) + width ≤ halves_place h k + x)
-        outside (inl before) = inl (omega arith)
-        outside (inr past) = inr (omega arith)
+    number_kept x k lt below ne = changed.off (halves_place h k + x) (elim (lines.apart k (2 * n + s.parity) below (omega arith) ne) [ inl before ↦ inl (omega arith) | inr past ↦ inr (omega arith) ])
 
     number_at : (x k : ℕ) → x < width → k < 2 * h.half → (k ≡ 2 * n + s.parity) ⊎ (k ≢ 2 * n + s.parity) → line_in h new x k ≡ lift_between s h.half n (n + 1) (line_in h old x) k
     number_at x k lt below (inl e) =
         let parity : (2 * n + s.parity) % 2 ≡ s.parity = omega arith in
         let number : (2 * n + s.parity) / 2 ≡ n = omega arith in
         rw e
-        (on x lt ∙ ap (λ m. changed_by s.adds (line_in h old x (2 * n + s.parity)) (change_at s h.half (line_in h old x) m)) (sym number)
+        (changed.on x lt ∙ ap (λ m. changed_by s.adds (line_in h old x (2 * n + s.parity)) (change_at s h.half (line_in h old x) m)) (sym number)
         ∙ sym (between_in s h.half n (n + 1) (line_in h old x) (2 * n + s.parity) (omega (arith, number)) (omega (arith, number)) parity))
     number_at x k lt below (inr ne) = number_kept x k lt below ne ∙ sym (elsewhere (cases_eq (k % 2) s.parity) (cases_lt (k / 2) n))
       where
@@ -112,13 +108,27 @@ module _ (s : CountedStep) (h : Halves) (n width len : ℕ) (p : s.parity < 2) (
         elsewhere (inl e) (inl before) = between_below s h.half n (n + 1) (line_in h old x) k before
         elsewhere (inl e) (inr from) = between_past s h.half n (n + 1) (line_in h old x) k (omega arith)
 
-    pub number_changed : (x k : ℕ) → x < width → k < 2 * h.half → line_in h new x k ≡ lift_between s h.half n (n + 1) (line_in h old x) k
-    number_changed x k lt below = number_at x k lt below (cases_eq k (2 * n + s.parity))
+    pub number_made : AreMade (lift_between s h.half n (n + 1)) h width old new
+    number_made = record {
+      on = λ x k lt below. number_at x k lt below (cases_eq k (2 * n + s.parity));
+      off = λ i none. changed.off i (outside_run i (halves_place h (2 * n + s.parity)) width (λ x lt. none x (2 * n + s.parity) lt (omega arith)));
+    }
 
-    pub number_beside : (i : ℕ) → IsBeside h width i → line_of new i ≡ line_of old i
-    number_beside i none = off i (outside (cases_lt i (halves_place h (2 * n + s.parity))) (cases_lt i (halves_place h (2 * n + s.parity) + width)))
-      where
-        outside : (i < halves_place h (2 * n + s.parity)) ⊎ (halves_place h (2 * n + s.parity) ≤ i) → (i < halves_place h (2 * n + s.parity) + width) ⊎ (halves_place h (2 * n + s.parity) + width ≤ i) → (i < halves_place h (2 * n + s.parity)) ⊎ (halves_place h (2 * n + s.parity) + width ≤ i)
-        outside (inl before) any = inl before
-        outside (inr from) (inr past) = inr past
-        outside (inr from) (inl within) = absurd (none (i - halves_place h (2 * n + s.parity)) (2 * n + s.parity) (omega arith) (omega arith) (omega arith))
+-- ---- one number after another
+
+module _ (s : CountedStep) (h : Halves) (lo mid width : ℕ) (old new : List ℤ) (some : 0 < h.half) (p : s.parity < 2) (low : lo ≤ mid) (made : AreMade (lift_between s h.half lo mid) h width old new) where
+  pub made_more : (hi : ℕ) (last : List ℤ) → mid ≤ hi → AreMade (lift_between s h.half mid hi) h width new last → AreMade (lift_between s h.half lo hi) h width old last
+  made_more hi last high more = record {
+    on = λ x k lt below. more.on x k lt below ∙ between_more s h.half lo mid hi (line_in h old x) (line_in h new x) some p low high (λ j under. made.on x j lt under) k below;
+    off = λ i none. more.off i none ∙ made.off i none;
+  }
+
+  -- the samples that are left have the same room
+  pub room_after : (limit x n : ℕ) → x < width → mid ≤ n → n < h.half → HasRangeAt limit s h.half (line_in h old x) n → HasRangeAt limit s h.half (line_in h new x) n
+  room_after limit x n lt = room_left s h.half lo mid mid (line_in h old x) (line_in h new x) some p low (omega arith) (λ k below. made.on x k lt below) limit n
+
+pub whole_made : (s : CountedStep) (h : Halves) (width : ℕ) (old new : List ℤ) → AreMade (lift_between s h.half 0 h.half) h width old new → AreMade (lift s h.half) h width old new
+whole_made s h width old new made = record {
+  on = λ x k lt below. made.on x k lt below ∙ between_all s h.half (line_in h old x) k below;
+  off = made.off;
+}

@@ -11,7 +11,8 @@ use Rattle.vc_types.specs.Wavelets.{synthesis_steps, analysis_steps, lifted_by, 
 use Rattle.vc_lift.specs.CountedSteps.{sum_below}
 use Rattle.vc_lift.proofs.WeightedSums.{sum_below_none, sum_below_first}
 use Rattle.vc_lift.specs.CountedSteps.{CountedStep, back_of, is_behind, can_be_counted, counted_step, sum_below, sum_met, change_at, lift, lift_all, undone}
-use Rattle.vc_lift.specs.declared.step.Row.{Row}
+use Rattle.vc_lift.specs.Ranges.{counted_synthesis, counted_analysis}
+use Rattle.vc_lift.specs.declared.table.Row.{Row}
 use Rattle.vc_lift.specs.Steps.{lifting_step, counted_row}
 
 unfoldable pub counted_steps : ℕ → List CountedStep
@@ -110,6 +111,15 @@ synthesised_counted w half x = lifted_by_counted (synthesis_steps w) half x (syn
 pub analysed_counted : (w half : ℕ) (x : ℕ → ℤ) → analysed w (2 * half) x ≡ lift_all (undone (counted_steps w)) half x
 unfolding analysed
 analysed_counted w half x = lifted_by_counted (analysis_steps w) half x (analysis_can w) ∙ ap (λ ss. lift_all ss half x) (analysis_undone w)
+
+-- the same of steps that are those of a wavelet
+pub synthesised_by : (w half : ℕ) (x : ℕ → ℤ) (steps : List CountedStep) → steps ≡ counted_synthesis w → lift_all steps half x ≡ synthesised w (2 * half) x
+unfolding counted_steps
+synthesised_by w half x steps e = ap (λ ss. lift_all ss half x) e ∙ sym (synthesised_counted w half x)
+
+pub analysed_by : (w half : ℕ) (x : ℕ → ℤ) (steps : List CountedStep) → steps ≡ counted_analysis w → lift_all steps half x ≡ analysed w (2 * half) x
+unfolding counted_steps
+analysed_by w half x steps e = ap (λ ss. lift_all ss half x) e ∙ sym (analysed_counted w half x)
 
 -- rows of the code's table that mean the steps of a wavelet
 rows_counted : (rows : List Row) → map counted_row rows ≡ map counted_step (map lifting_step rows)

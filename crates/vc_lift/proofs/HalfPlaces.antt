@@ -1,5 +1,6 @@
 -- Where lines in two halves have their samples.
 use Rattle.std.proofs.Common.{◌≡◌, ◌≢◌, ℕ, ◌+◌, ◌-◌, ◌*◌, ◌<◌, ◌≤◌, arith, ap, ◌∙◌, min, sym, ◌⊎◌, inl, inr}
+use Rattle.std.proofs.lemmas.Bool.{cases_lt}
 use Rattle.vc_lift.specs.declared.halves.Halves.{Halves}
 use Rattle.vc_lift.specs.CountedSteps.{CountedStep, place_met}
 use Rattle.vc_lift.specs.Halves.{half_start, halves_place}
@@ -25,3 +26,13 @@ past_run i at x (inr past) e = omega arith
 pub less_reached : (i at x : ℕ) → (i < at) ⊎ (at + (x + 1) ≤ i) → (i < at) ⊎ (at + x ≤ i)
 less_reached i at x (inl before) = inl before
 less_reached i at x (inr past) = inr (omega arith)
+
+-- a place that is none of a run's lies before or past it
+pub outside_run : (i at width : ℕ) → ((x : ℕ) → x < width → i ≢ at + x) → (i < at) ⊎ (at + width ≤ i)
+outside_run i at width none = elim (cases_lt i at) [
+  | inl before ↦ inl before
+  | inr from ↦ elim (cases_lt i (at + width)) [
+    | inl within ↦ absurd (none (i - at) (omega arith) (omega arith))
+    | inr past ↦ inr past
+  ]
+]

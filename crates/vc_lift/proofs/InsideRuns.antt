@@ -4,9 +4,10 @@ use Rattle.std.proofs.lemmas.Bool.{cases_eq, cases_lt}
 use Rattle.vc_types.specs.Lifting.{line_of, changed_by}
 use Rattle.vc_lift.specs.declared.halves.Halves.{Halves}
 use Rattle.vc_lift.specs.CountedSteps.{CountedStep, place_met, change_at, lift_between}
-use Rattle.vc_lift.specs.Halves.{half_start, halves_place, line_in, AreLines, StandApart, IsBeside, CanRun}
+use Rattle.vc_lift.specs.Halves.{half_start, halves_place, line_in, AreLines, AreMade, StandApart, CanRun}
 use Rattle.vc_lift.specs.Ranges.{HasRangeAt}
-use Rattle.vc_lift.proofs.HalfPlaces.{place_at}
+use Rattle.vc_lift.specs.Runs.{IsChanged}
+use Rattle.vc_lift.proofs.HalfPlaces.{place_at, outside_run}
 use Rattle.vc_lift.proofs.NarrowSums.{same_change, same_room}
 use Rattle.vc_lift.proofs.Betweens.{between_in, between_below, between_past, between_other}
 
@@ -81,17 +82,10 @@ module _ (s : CountedStep) (h : Halves) (lo hi len : ℕ) (p : s.parity < 2) (wh
   pub inside_room : (limit : ℕ) (cells : List ℤ) (x : ℕ) → x < hi - lo → HasRangeAt limit s h.half (line_in h cells 0) (lo + x) → HasRangeAt limit s h.half (line_in h cells x) lo
   inside_room limit cells x below room = same_room s h.half (line_in h cells x) (line_in h cells 0) lo (lo + x) limit (λ j lt. line_along cells j x lt below) (sample_along cells x) room
 
-  module _ (old new : List ℤ)
-      (on : (x : ℕ) → x < hi - lo → line_of new (halves_place h (2 * lo + s.parity) + x) ≡ changed_by s.adds (line_of old (halves_place h (2 * lo + s.parity) + x)) (change_at s h.half (line_in h old x) lo))
-      (off : (i : ℕ) → (i < halves_place h (2 * lo + s.parity)) ⊎ (halves_place h (2 * lo + s.parity) + (hi - lo) ≤ i) → line_of new i ≡ line_of old i) where
+  module _ (old new : List ℤ) (run : IsChanged s h lo (hi - lo) old new) where
     -- a cell outside the run
     outside : (i : ℕ) → ((x : ℕ) → x < hi - lo → i ≢ halves_place h (2 * lo + s.parity) + x) → line_of new i ≡ line_of old i
-    outside i none = off i (either (cases_lt i (halves_place h (2 * lo + s.parity))) (cases_lt i (halves_place h (2 * lo + s.parity) + (hi - lo))))
-      where
-        either : (i < halves_place h (2 * lo + s.parity)) ⊎ (halves_place h (2 * lo + s.parity) ≤ i) → (i < halves_place h (2 * lo + s.parity) + (hi - lo)) ⊎ (halves_place h (2 * lo + s.parity) + (hi - lo) ≤ i) → (i < halves_place h (2 * lo + s.parity)) ⊎ (halves_place h (2 * lo + s.parity) + (hi - lo) ≤ i)
-        either (inl before) any = inl before
-        either (inr from) (inr past) = inr past
-        either (inr from) (inl inside) = absurd (none (i - halves_place h (2 * lo + s.parity)) (omega arith) (omega arith))
+    outside i none = run.off i (outside_run i (halves_place h (2 * lo + s.parity)) (hi - lo) none)
 
     run_place : (x : ℕ) → halves_place h (2 * lo + s.parity) + x ≡ halves_place h (2 * (lo + x) + s.parity) + 0
     run_place x = (let number : lo + x - lo ≡ x = omega arith in let place = own_along (lo + x) (omega arith) in omega (arith, place, number))
@@ -104,7 +98,7 @@ module _ (s : CountedStep) (h : Halves) (lo hi len : ℕ) (p : s.parity < 2) (wh
     changed x lt =
         let parity : (2 * (lo + x) + s.parity) % 2 ≡ s.parity = omega arith in
         let number : (2 * (lo + x) + s.parity) / 2 ≡ lo + x = omega arith in
-        ap (line_of new) (sym (run_place x)) ∙ on x lt
+        ap (line_of new) (sym (run_place x)) ∙ run.on x lt
         ∙ ap (λ z. changed_by s.adds z (change_at s h.half (line_in h old x) lo)) (sample_along old x)
         ∙ ap (changed_by s.adds (line_in h old 0 (2 * (lo + x) + s.parity))) (same_change s h.half (line_in h old x) (line_in h old 0) lo (lo + x) (λ j below. line_along old j x below lt))
         ∙ ap (λ m. changed_by s.adds (line_in h old 0 (2 * (lo + x) + s.parity)) (change_at s h.half (line_in h old 0) m)) (sym number)
@@ -118,8 +112,9 @@ module _ (s : CountedStep) (h : Halves) (lo hi len : ℕ) (p : s.parity < 2) (wh
         let place : 2 * (lo + (k / 2 - lo)) + s.parity ≡ k = omega arith in
         subst (λ n. line_in h new 0 n ≡ lift_between s h.half lo hi (line_in h old 0) n) place (changed (k / 2 - lo) (omega arith))
 
-    pub inside_changed : (k : ℕ) → k < 2 * h.half → line_in h new 0 k ≡ lift_between s h.half lo hi (line_in h old 0) k
-    inside_changed k below = at_sample k below (cases_eq (k % 2) s.parity) (cases_lt (k / 2) lo) (cases_lt (k / 2) hi)
-
-    pub inside_beside : (i : ℕ) → IsBeside h 1 i → line_of new i ≡ line_of old i
-    inside_beside i none = outside i (λ x lt e. none 0 (2 * (lo + x) + s.parity) (omega arith) (omega arith) (e ∙ run_place x))
+    pub inside_made : AreMade (lift_between s h.half lo hi) h 1 old new
+    inside_made = record {
+      on = λ x k one below. (let first : 0 ≡ x = omega arith in
+          subst (λ u. line_in h new u k ≡ lift_between s h.half lo hi (line_in h old u) k) first (at_sample k below (cases_eq (k % 2) s.parity) (cases_lt (k / 2) lo) (cases_lt (k / 2) hi)));
+      off = λ i none. outside i (λ x lt e. none 0 (2 * (lo + x) + s.parity) (omega arith) (omega arith) (e ∙ run_place x));
+    }

@@ -1,5 +1,5 @@
 -- Bounds on a line's samples are carried through steps, as `bound_after` reckons them.
-use Rattle.std.proofs.Common.{◌≡◌, ◌≢◌, ℕ, zero, suc, ◌+◌, ◌-◌, ◌*◌, ◌/◌, ◌%◌, ◌^◌, ◌<◌, ◌≤◌, inl, inr, List, [], ◌∷◌, length, take, get_or, drop, ℤ, arith, ap, sym, ◌∙◌, refl, subst, max, unsigned_abs, Bool, true, Option, Some, None}
+use Rattle.std.proofs.Common.{◌≡◌, ◌≢◌, ℕ, zero, suc, ◌+◌, ◌-◌, ◌*◌, ◌/◌, ◌%◌, ◌^◌, ◌<◌, ◌≤◌, inl, inr, List, [], ◌∷◌, length, take, get_or, drop, ℤ, arith, ap, sym, ◌∙◌, refl, subst, max, unsigned_abs, Bool, true, IsTrue, Option, Some, None}
 use Rattle.std.specs.Prelude.{if◌then◌else◌, nat_lt, ◌==◌, ◌&&◌}
 use Rattle.std.specs.Option.{option_and_then}
 use Rattle.std.proofs.lemmas.Bool.{cases_eq}
@@ -8,7 +8,7 @@ use Rattle.std.proofs.lemmas.Option.{option_and_then_some, same_Some}
 use Rattle.std.proofs.Math.Numerals.{add-one}
 use Rattle.std.proofs.Math.Seq.{drop-cons}
 use Rattle.vc_lift.specs.CountedSteps.{CountedStep, change_at, lift, lift_all}
-use Rattle.vc_lift.specs.Growth.{IsWithin}
+use Rattle.vc_lift.specs.Growth.{IsWithin, grows_little}
 use Rattle.vc_lift.specs.Ranges.{HasRange, StaysNarrow, rounded_sum, stretched, stretched_below, bound_after, counted_synthesis, counted_analysis, narrow_bound, narrow_analysis_bound}
 use Rattle.vc_types.specs.Wavelets.{synthesised, analysed}
 use Rattle.vc_lift.proofs.CountedSteps.{counted_steps, synthesised_counted, analysed_counted}
@@ -92,6 +92,9 @@ module _ (limit : ℕ) (s : CountedStep) (steps : List CountedStep) (e o half af
 
 abbrev pub HaveParities : List CountedStep → Type 0
 HaveParities steps = (j : ℕ) (d : CountedStep) → j < length steps → (get_or steps j d).parity < 2
+
+pub parities_of : (steps : List CountedStep) → IsTrue (grows_little 16 steps) → HaveParities steps
+parities_of steps little j d h = plain_parity (get_or steps j d) (plain_at 16 steps 4096 4096 j d little h)
 
 pub range_at : (limit : ℕ) (steps : List CountedStep) (e o half after : ℕ) (x : ℕ → ℤ) (i : ℕ) (d : CountedStep) → 0 < half → HaveParities steps → bound_after limit steps e o ≡ Some after → IsWithin x half 0 e → IsWithin x half 1 o → i < length steps
     → HasRange limit (get_or steps i d) half (lift_all (take i steps) half x)
@@ -181,7 +184,7 @@ pub synthesis_after : (wavelet half most after : ℕ) (x : ℕ → ℤ) → 0 < 
 unfolding counted_steps
 synthesis_after wavelet half most after x some fits small k h =
     subst (λ (z : ℤ). unsigned_abs z ≤ after) (sym (ap (λ f. f k) (synthesised_counted wavelet half x)))
-    (narrow_after (counted_synthesis wavelet) half most after x some (λ j d lt. plain_parity (get_or (counted_synthesis wavelet) j d) (plain_at 16 (counted_synthesis wavelet) 4096 4096 j d (synthesis_little wavelet) lt)) fits small k h)
+    (narrow_after (counted_synthesis wavelet) half most after x some (parities_of (counted_synthesis wavelet) (synthesis_little wavelet)) fits small k h)
 
 pub narrow_analysis_covers : (wavelet most after : ℕ) → narrow_analysis_bound wavelet most ≡ Some after → most ≤ after
 narrow_analysis_covers wavelet most after fits = (bound_covers (2 ^ 31) (counted_analysis wavelet) most most after fits).0
@@ -191,4 +194,4 @@ pub analysis_after : (wavelet half most after : ℕ) (x : ℕ → ℤ) → 0 < h
 unfolding counted_steps
 analysis_after wavelet half most after x some fits small k h =
     subst (λ (z : ℤ). unsigned_abs z ≤ after) (sym (ap (λ f. f k) (analysed_counted wavelet half x)))
-    (narrow_after (counted_analysis wavelet) half most after x some (λ j d lt. plain_parity (get_or (counted_analysis wavelet) j d) (plain_at 16 (counted_analysis wavelet) 4096 4096 j d (analysis_little wavelet) lt)) fits small k h)
+    (narrow_after (counted_analysis wavelet) half most after x some (parities_of (counted_analysis wavelet) (analysis_little wavelet)) fits small k h)

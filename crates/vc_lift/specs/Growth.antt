@@ -1,5 +1,6 @@
 -- How much steps may raise the magnitudes of a line's samples.
-use Rattle.std.specs.Prelude.{ℕ, ◌+◌, ◌*◌, ◌/◌, ◌^◌, ◌<◌, ◌≤◌, Bool, ◌&&◌, nat_lt, nat_le, ◌==◌, if◌then◌else◌, List, [], ◌∷◌, length, unsigned_abs}
+use Rattle.std.specs.Prelude.{ℕ, ◌+◌, ◌*◌, ◌/◌, ◌^◌, ◌<◌, ◌≤◌, Bool, ◌&&◌, nat_lt, nat_le, ◌==◌}
+use Rattle.std.specs.Prelude.{if◌then◌else◌, List, [], ◌∷◌, length, unsigned_abs}
 use Rattle.std.specs.List.{sum_by}
 use Rattle.vc_types.specs.Lifting.{Line}
 use Rattle.vc_lift.specs.CountedSteps.{CountedStep}

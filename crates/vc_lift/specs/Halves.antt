@@ -1,5 +1,6 @@
 -- Lines whose even and odd samples stand in two halves, side by side with other lines.
-use Rattle.std.specs.Prelude.{ℕ, ◌+◌, ◌*◌, ◌/◌, ◌%◌, ◌^◌, ◌<◌, ◌≤◌, ◌≢◌, ◌==◌, if◌then◌else◌, ◌⊎◌, List, ℤ, length}
+use Rattle.std.specs.Prelude.{ℕ, ◌+◌, ◌*◌, ◌/◌, ◌%◌, ◌^◌, ◌<◌, ◌≤◌, ◌≡◌, ◌≢◌, ◌==◌, if◌then◌else◌}
+use Rattle.std.specs.Prelude.{◌⊎◌, List, length, ℤ}
 use Rattle.vc_types.specs.Lifting.{Line, line_of}
 use Rattle.vc_lift.specs.declared.halves.Halves.{Halves}
 use Rattle.vc_lift.specs.CountedSteps.{CountedStep, place_met}
@@ -30,6 +31,13 @@ pub record AreLines (h : Halves) (width cells : ℕ) : Type 0 where
 -- a cell that is in none of them
 abbrev pub IsBeside : Halves → ℕ → ℕ → Type 0
 IsBeside h width i = (x k : ℕ) → x < width → k < 2 * h.half → i ≢ halves_place h k + x
+
+-- each line is what a function makes of it, and all other cells are as they were
+pub record AreMade (f : Line → Line) (h : Halves) (width : ℕ) (old new : List ℤ) : Type 0 where
+  pub on :
+      (x k : ℕ) → x < width → k < 2 * h.half →
+      line_in h new x k ≡ f (line_in h old x) k
+  pub off : (i : ℕ) → IsBeside h width i → line_of new i ≡ line_of old i
 
 -- A step can change as many cells as a run has, from its sample number n on, and reads none of
 -- these.

@@ -5,3 +5,5 @@ pub mod Halves
 pub mod Runs
 pub mod Columns
 pub mod Steps
+pub mod StepLists
+pub mod ColumnSums

@@ -1,5 +1,6 @@
 -- Whether steps stay in a width: bounds on magnitudes, carried through one step after another.
-use Rattle.std.specs.Prelude.{ℕ, ◌+◌, ◌-◌, ◌*◌, ◌/◌, ◌^◌, ◌<◌, ◌≤◌, ◌≡◌, ◌&&◌, nat_lt, ◌==◌, if◌then◌else◌, max, List, [], ◌∷◌, length, map, unsigned_abs, Option, Some, None}
+use Rattle.std.specs.Prelude.{ℕ, ◌+◌, ◌-◌, ◌*◌, ◌/◌, ◌^◌, ◌<◌, ◌≤◌, ◌≡◌, ◌&&◌, nat_lt, ◌==◌, if◌then◌else◌}
+use Rattle.std.specs.Prelude.{max, List, [], ◌∷◌, length, map, unsigned_abs, Option, Some, None}
 use Rattle.std.specs.Option.{option_and_then}
 use Rattle.vc_types.specs.Lifting.{Line, half_of}
 use Rattle.vc_types.specs.Wavelets.{synthesis_steps}

@@ -1,9 +1,9 @@
 -- The steps of the code.
 use Rattle.vc_types.specs.Lifting as standard
 use Rattle.vc_types.specs.Lifting.{LiftingStep}
-use Rattle.vc_lift.specs.declared.step.Parity.{Parity}
-use Rattle.vc_lift.specs.declared.step.Parity.TheVariants.{Even, Odd}
-use Rattle.vc_lift.specs.declared.step.Row.{Row}
+use Rattle.vc_lift.specs.declared.table.Parity.{Parity}
+use Rattle.vc_lift.specs.declared.table.Parity.TheVariants.{Even, Odd}
+use Rattle.vc_lift.specs.declared.table.Row.{Row}
 use Rattle.vc_lift.specs.declared.step.Step.{Step}
 use Rattle.vc_lift.specs.CountedSteps.{CountedStep, counted_step}
 

@@ -1,8 +1,8 @@
 ghost use Rattle.std.specs.Prelude.{◌≡◌, ◌+◌, ◌*◌, ◌^◌, ◌<◌};
 ghost use Rattle.vc_lift.specs.Halves.{half_start};
 
-/// Lines that stand side by side among cells: where the first of them has its first even and its first odd sample, how far
-/// each sample is from the next of its parity, and how many there are of each.
+/// Lines that stand side by side among cells: where the first of them has its first even and its first odd
+/// sample, how far each sample is from the next of its parity, and how many there are of each.
 #[derive(Clone, Copy)]
 pub struct Halves {
     pub even: usize,

@@ -6,8 +6,11 @@ mod halves;
 mod laws;
 mod line;
 mod narrow;
+mod order;
 mod ranges;
 mod step;
+mod steps;
+mod table;
 
 pub use columns::{analyse_columns, synth_columns};
 pub use halves::Halves;

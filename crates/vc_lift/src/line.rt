@@ -2,11 +2,11 @@ ghost use Rattle.std.specs.Prelude.{◌≡◌, ◌*◌, ◌%◌, ◌^◌, ◌<�
 ghost use Rattle.vc_types.specs.Lifting.{line_of};
 ghost use Rattle.vc_types.specs.Wavelets.{synthesised, analysed};
 
-use crate::columns::run;
-use crate::step::steps;
+use crate::columns::{Columns, run};
+use crate::order::{analysis, synthesis};
 
-/// Synthesises a line of an even number of samples (ST 2042-1, one-dimensional synthesis). Samples have magnitudes
-/// below 2 ^ 108.
+/// Synthesises a line of an even number of samples (ST 2042-1, one-dimensional synthesis). Samples have
+/// magnitudes below 2 ^ 108.
 pub fn synth(wavelet: u8, line: &mut [i128])
     requires wavelet { wavelet ≤ 6 }
     requires even { length line.old % 2 ≡ 0 }
@@ -15,7 +15,7 @@ pub fn synth(wavelet: u8, line: &mut [i128])
     ensures value { line_of line.new ≡ synthesised wavelet (length line.old) (line_of line.old) }
 {
     let half = line.len() / 2;
-    run(line, 1, half, steps(wavelet), false)
+    run(line, Columns { width: 1, half }, &synthesis(wavelet))
 }
 
 /// Analyses a line of an even number of samples. Samples have magnitudes below 2 ^ 108.
@@ -27,5 +27,5 @@ pub fn analyse(wavelet: u8, line: &mut [i128])
     ensures value { line_of line.new ≡ analysed wavelet (length line.old) (line_of line.old) }
 {
     let half = line.len() / 2;
-    run(line, 1, half, steps(wavelet), true)
+    run(line, Columns { width: 1, half }, &analysis(wavelet))
 }

@@ -1,29 +1,24 @@
-ghost use Rattle.std.specs.Prelude.{◌≡◌, ◌+◌, ◌-◌, ◌*◌, ◌/◌, ◌^◌, ◌<◌, ◌≤◌, ℕ, length, unsigned_abs, map, IsTrue, true, false};
+ghost use Rattle.std.specs.Prelude.{◌≡◌, ◌+◌, ◌-◌, ◌*◌, ◌/◌, ◌^◌, ◌<◌, ◌≤◌, ℕ, length, unsigned_abs};
 ghost use Rattle.vc_types.specs.Lifting.{line_of, half_of, changed_by};
 ghost use Rattle.vc_types.specs.Wavelets.{synthesised, analysed};
-ghost use Rattle.vc_lift.specs.CountedSteps.{sum_met, change_at, lift, lift_all, lift_between, in_order, place_met};
-ghost use Rattle.vc_lift.specs.Growth.{IsPlain, grows_little};
-ghost use Rattle.vc_lift.specs.Ranges.{HasRange, HasRangeAt, StaysNarrow, counted_synthesis, counted_analysis};
-ghost use Rattle.vc_lift.specs.Steps.{counted_of, counted_row};
-ghost use Rattle.vc_lift.specs.Halves.{halves_place, line_in, AreLines, IsBeside};
-ghost use Rattle.vc_lift.specs.Runs.{CanChange, IsChanged};
+ghost use Rattle.vc_lift.specs.CountedSteps.{sum_met, change_at, lift, lift_all, lift_between};
+ghost use Rattle.vc_lift.specs.Ranges.{HasRange, StaysNarrow, counted_synthesis};
+ghost use Rattle.vc_lift.specs.Ranges.{counted_analysis};
+ghost use Rattle.vc_lift.specs.Steps.{counted_of};
+ghost use Rattle.vc_lift.specs.StepLists.{steps_of};
+ghost use Rattle.vc_lift.specs.Halves.{line_in, AreLines, IsBeside, AreMade};
+ghost use Rattle.vc_lift.specs.Runs.{CanWeigh, CanChange, CanChangeEach, IsChanged};
 
 use crate::halves::{Halves, place};
-use crate::step::{Row, Step, step_at, steps};
+use crate::order::{analysis, step_at, step_count, synthesis};
+use crate::step::Step;
+use crate::steps::Steps;
 
-// The sum of the taps, each times the sample that it meets beside sample number n of line x. What is the same for all
-// lines is reckoned once by the compiler.
+// The sum of the taps, each times the sample that it meets beside sample number n of line x. What is the same
+// for all lines is reckoned once by the compiler.
 #[inline(always)]
 fn weigh(cells: &[i32], halves: &Halves, step: &Step, n: usize, x: usize) -> i32
-    requires plain { IsPlain (counted_of step.now) }
-    requires some { 0 < halves.now.half }
-    requires small { halves.now.half < 2 ^ 60 }
-    requires at { n < halves.now.half }
-    requires inside { (j : ℕ) → j < length step.now.taps.now
-        → halves_place halves.now (place_met (counted_of step.now) halves.now.half n j) + x
-        < length cells.now }
-    requires room { HasRangeAt (2 ^ 31) (counted_of step.now) halves.now.half
-        (line_in halves.now cells.now x) n }
+    requires { CanWeigh (counted_of step.now) halves.now n x cells.now }
     ensures value { result ≡ sum_met (counted_of step.now) halves.now.half
         (line_in halves.now cells.now x) n }
     ensures bound { unsigned_abs result + half_of step.now.shift < 2 ^ 31 }
@@ -40,15 +35,7 @@ fn weigh(cells: &[i32], halves: &Halves, step: &Step, n: usize, x: usize) -> i32
 // By how much the step changes sample number n of line x.
 #[inline(always)]
 fn change_at(cells: &[i32], halves: &Halves, step: &Step, n: usize, x: usize) -> i32
-    requires plain { IsPlain (counted_of step.now) }
-    requires some { 0 < halves.now.half }
-    requires small { halves.now.half < 2 ^ 60 }
-    requires at { n < halves.now.half }
-    requires inside { (j : ℕ) → j < length step.now.taps.now
-        → halves_place halves.now (place_met (counted_of step.now) halves.now.half n j) + x
-        < length cells.now }
-    requires room { HasRangeAt (2 ^ 31) (counted_of step.now) halves.now.half
-        (line_in halves.now cells.now x) n }
+    requires { CanWeigh (counted_of step.now) halves.now n x cells.now }
     ensures value { result ≡ change_at (counted_of step.now) halves.now.half
         (line_in halves.now cells.now x) n }
     ensures bound { unsigned_abs
@@ -98,30 +85,15 @@ fn with_taps<'a>(step: &Step, taps: &'a [i32]) -> Step<'a>
     }
 }
 
-// The step, where its changes are added, so that the compiler sees it.
+// The step with its sign as the compiler sees it.
 #[inline(always)]
-fn adding<'a>(step: &Step<'a>) -> Step<'a>
-    requires { step.now.adds ≡ true }
+fn with_sign<'a>(step: &Step<'a>, adds: bool) -> Step<'a>
+    requires { step.now.adds ≡ adds }
     ensures { counted_of result ≡ counted_of step.now }
 {
     Step {
         parity: step.parity,
-        adds: true,
-        taps: step.taps,
-        back: step.back,
-        shift: step.shift,
-    }
-}
-
-// The step, where its changes are taken off.
-#[inline(always)]
-fn taking_off<'a>(step: &Step<'a>) -> Step<'a>
-    requires { step.now.adds ≡ false }
-    ensures { counted_of result ≡ counted_of step.now }
-{
-    Step {
-        parity: step.parity,
-        adds: false,
+        adds,
         taps: step.taps,
         back: step.back,
         shift: step.shift,
@@ -135,13 +107,14 @@ fn change_signed(cells: &mut [i32], halves: &Halves, step: &Step, n: usize, widt
     ensures { IsChanged (counted_of step.now) halves.now n width cells.old cells.new }
 {
     if step.adds {
-        change_cells(cells, halves, &adding(step), n, width);
+        change_cells(cells, halves, &with_sign(step, true), n, width);
     } else {
-        change_cells(cells, halves, &taking_off(step), n, width);
+        change_cells(cells, halves, &with_sign(step, false), n, width);
     }
 }
 
-// The same, with a loop of its own for the taps of the wavelets 5 and 6: eight of them, or one weight for two samples.
+// The same, with a loop of its own for the taps of the wavelets 5 and 6: eight of them, or one weight for two
+// samples.
 #[inline(always)]
 fn change_weighted(cells: &mut [i32], halves: &Halves, step: &Step, n: usize, width: usize)
     requires { CanChange (counted_of step.now) halves.now n width cells.old }
@@ -166,8 +139,8 @@ fn change_weighted(cells: &mut [i32], halves: &Halves, step: &Step, n: usize, wi
     }
 }
 
-// The same, with a loop of its own for taps that are small enough for 32 bits to serve. It is no part of a loop over rows:
-// in one, the compiler would ask whether any row lies over another.
+// The same, with a loop of its own for taps that are small enough for 32 bits to serve. It is no part of a
+// loop over rows: in one, the compiler would ask whether any row lies over another.
 #[inline(never)]
 fn change_run(cells: &mut [i32], halves: &Halves, step: &Step, n: usize, width: usize)
     requires { CanChange (counted_of step.now) halves.now n width cells.old }
@@ -197,104 +170,58 @@ fn change_run(cells: &mut [i32], halves: &Halves, step: &Step, n: usize, width: 
 // Makes the step on samples number lo to hi - 1 of each line, one number after another.
 #[inline(always)]
 fn change_each(cells: &mut [i32], halves: &Halves, step: &Step, lo: usize, hi: usize, width: usize)
-    requires plain { IsPlain (counted_of step.now) }
-    requires lines { AreLines halves.now width (length cells.old) }
-    requires ordered { lo ≤ hi }
-    requires within { hi ≤ halves.now.half }
-    requires room { (x n : ℕ) → x < width → lo ≤ n → n < hi
-        → HasRangeAt (2 ^ 31) (counted_of step.now) halves.now.half
-        (line_in halves.now cells.old x) n }
-    ensures on { (x k : ℕ) → x < width → k < 2 * halves.now.half
-        → line_in halves.now cells.new x k
-        ≡ lift_between (counted_of step.now) halves.now.half lo hi
-        (line_in halves.now cells.old x) k }
-    ensures off { (i : ℕ) → IsBeside halves.now width i
-        → line_of cells.new i ≡ line_of cells.old i }
+    requires { CanChangeEach (counted_of step.now) halves.now lo hi width cells.old }
+    ensures { AreMade (lift_between (counted_of step.now) halves.now.half lo hi)
+        halves.now width cells.old cells.new }
 {
     for n in lo..hi {
         change_run(cells, halves, step, n, width);
     }
 }
 
-// Makes the step on samples number lo to hi - 1 of a line whose halves are whole, all of which have all their taps inside it.
+// Makes the step on samples number lo to hi - 1 of a line whose halves are whole, if there are any. All of
+// them have all their taps inside the line.
 #[inline(always)]
 fn change_inside(cells: &mut [i32], halves: &Halves, step: &Step, lo: usize, hi: usize)
-    requires plain { IsPlain (counted_of step.now) }
-    requires lines { AreLines halves.now 1 (length cells.old) }
+    requires each { CanChangeEach (counted_of step.now) halves.now lo hi 1 cells.old }
     requires whole { halves.now.pitch ≡ 1 }
-    requires some { lo < hi }
-    requires within { hi ≤ halves.now.half }
-    requires left { step.now.back ≤ lo }
-    requires right { hi + length step.now.taps.now ≤ halves.now.half + step.now.back + 1 }
-    requires room { (n : ℕ) → lo ≤ n → n < hi
-        → HasRangeAt (2 ^ 31) (counted_of step.now) halves.now.half
-        (line_in halves.now cells.old 0) n }
-    ensures on { (k : ℕ) → k < 2 * halves.now.half
-        → line_in halves.now cells.new 0 k
-        ≡ lift_between (counted_of step.now) halves.now.half lo hi
-        (line_in halves.now cells.old 0) k }
-    ensures off { (i : ℕ) → IsBeside halves.now 1 i → line_of cells.new i ≡ line_of cells.old i }
-{
-    change_run(cells, halves, step, lo, hi - lo);
-}
-
-// The same, where there may be no such samples.
-#[inline(always)]
-fn change_middle(cells: &mut [i32], halves: &Halves, step: &Step, lo: usize, hi: usize)
-    requires plain { IsPlain (counted_of step.now) }
-    requires lines { AreLines halves.now 1 (length cells.old) }
-    requires whole { halves.now.pitch ≡ 1 }
-    requires ordered { lo ≤ hi }
-    requires within { hi ≤ halves.now.half }
     requires left { lo < hi → step.now.back ≤ lo }
     requires right { lo < hi → hi + length step.now.taps.now ≤ halves.now.half + step.now.back + 1 }
-    requires room { (n : ℕ) → lo ≤ n → n < hi
-        → HasRangeAt (2 ^ 31) (counted_of step.now) halves.now.half
-        (line_in halves.now cells.old 0) n }
-    ensures on { (k : ℕ) → k < 2 * halves.now.half
-        → line_in halves.now cells.new 0 k
-        ≡ lift_between (counted_of step.now) halves.now.half lo hi
-        (line_in halves.now cells.old 0) k }
-    ensures off { (i : ℕ) → IsBeside halves.now 1 i → line_of cells.new i ≡ line_of cells.old i }
+    ensures { AreMade (lift_between (counted_of step.now) halves.now.half lo hi)
+        halves.now 1 cells.old cells.new }
 {
     if lo < hi {
-        change_inside(cells, halves, step, lo, hi);
+        change_run(cells, halves, step, lo, hi - lo);
     }
 }
 
-// Makes the step on a line whose halves are whole: on the samples at its ends one by one, and on those between them at once.
+// Makes the step on a line whose halves are whole: on the samples at its ends one by one, and on those
+// between them at once.
 #[inline(always)]
 fn change_line(cells: &mut [i32], halves: &Halves, step: &Step)
-    requires plain { IsPlain (counted_of step.now) }
     requires lines { AreLines halves.now 1 (length cells.old) }
     requires whole { halves.now.pitch ≡ 1 }
-    requires range { HasRange (2 ^ 31) (counted_of step.now) halves.now.half
-        (line_in halves.now cells.old 0) }
-    ensures on { (k : ℕ) → k < 2 * halves.now.half
-        → line_in halves.now cells.new 0 k
-        ≡ lift (counted_of step.now) halves.now.half (line_in halves.now cells.old 0) k }
-    ensures off { (i : ℕ) → IsBeside halves.now 1 i → line_of cells.new i ≡ line_of cells.old i }
+    requires range { (x : ℕ) → x < 1
+        → HasRange (2 ^ 31) (counted_of step.now) halves.now.half (line_in halves.now cells.old x) }
+    ensures { AreMade (lift (counted_of step.now) halves.now.half) halves.now 1 cells.old cells.new }
 {
     let half = halves.half;
     let first = step.back.min(half);
     let ahead = step.taps.len().saturating_sub(step.back).saturating_sub(1);
     let last = half.saturating_sub(ahead).max(first);
     change_each(cells, halves, step, 0, first, 1);
-    change_middle(cells, halves, step, first, last);
+    change_inside(cells, halves, step, first, last);
     change_each(cells, halves, step, last, half, 1);
 }
 
-// Makes the step on each line: along it where its halves are whole, and else on the same sample of all lines at once.
+// Makes the step on each line: along it where its halves are whole, and else on the same sample of all lines
+// at once.
 fn lift(cells: &mut [i32], halves: &Halves, step: &Step, width: usize)
-    requires plain { IsPlain (counted_of step.now) }
     requires lines { AreLines halves.now width (length cells.old) }
     requires range { (x : ℕ) → x < width
         → HasRange (2 ^ 31) (counted_of step.now) halves.now.half (line_in halves.now cells.old x) }
-    ensures on { (x k : ℕ) → x < width → k < 2 * halves.now.half
-        → line_in halves.now cells.new x k
-        ≡ lift (counted_of step.now) halves.now.half (line_in halves.now cells.old x) k }
-    ensures off { (i : ℕ) → IsBeside halves.now width i
-        → line_of cells.new i ≡ line_of cells.old i }
+    ensures { AreMade (lift (counted_of step.now) halves.now.half)
+        halves.now width cells.old cells.new }
 {
     if halves.pitch == 1 && width == 1 {
         change_line(cells, halves, step);
@@ -303,28 +230,22 @@ fn lift(cells: &mut [i32], halves: &Halves, step: &Step, width: usize)
     }
 }
 
-// Makes the steps in turn or, where they are to be undone, the opposite steps from the last to the first.
-fn run(cells: &mut [i32], halves: &Halves, width: usize, rows: &[Row], undo: bool)
+// Makes steps on each line, one after another.
+fn run(cells: &mut [i32], halves: &Halves, width: usize, steps: &Steps)
     requires lines { AreLines halves.now width (length cells.old) }
-    requires steps { IsTrue (grows_little 16 (in_order undo (map counted_row rows.now))) }
     requires narrow { (x : ℕ) → x < width
-        → StaysNarrow (in_order undo (map counted_row rows.now)) halves.now.half
-        (line_in halves.now cells.old x) }
-    ensures on { (x k : ℕ) → x < width → k < 2 * halves.now.half
-        → line_in halves.now cells.new x k
-        ≡ lift_all (in_order undo (map counted_row rows.now)) halves.now.half
-        (line_in halves.now cells.old x) k }
-    ensures off { (i : ℕ) → IsBeside halves.now width i
-        → line_of cells.new i ≡ line_of cells.old i }
+        → StaysNarrow (steps_of steps.now) halves.now.half (line_in halves.now cells.old x) }
+    ensures { AreMade (lift_all (steps_of steps.now) halves.now.half)
+        halves.now width cells.old cells.new }
 {
-    for i in 0..rows.len() {
-        let step = step_at(rows, undo, i);
+    for i in 0..step_count(steps) {
+        let step = step_at(steps, i);
         lift(cells, halves, &step, width);
     }
 }
 
-/// Synthesises lines that stand side by side, in 32 bits (ST 2042-1, one-dimensional synthesis). Magnitudes are such that
-/// no step leaves 32 bits, as `narrow_bound` tells.
+/// Synthesises lines that stand side by side, in 32 bits (ST 2042-1, one-dimensional synthesis). Magnitudes
+/// are such that no step leaves 32 bits, as `narrow_bound` tells.
 pub fn synth_narrow(wavelet: u8, cells: &mut [i32], halves: &Halves, width: usize)
     requires wavelet { wavelet ≤ 6 }
     requires lines { AreLines halves.now width (length cells.old) }
@@ -336,7 +257,7 @@ pub fn synth_narrow(wavelet: u8, cells: &mut [i32], halves: &Halves, width: usiz
     ensures off { (i : ℕ) → IsBeside halves.now width i
         → line_of cells.new i ≡ line_of cells.old i }
 {
-    run(cells, halves, width, steps(wavelet), false)
+    run(cells, halves, width, &synthesis(wavelet))
 }
 
 /// Analyses lines that stand side by side, in 32 bits. Magnitudes are such that no step leaves 32 bits, as
@@ -352,5 +273,5 @@ pub fn analyse_narrow(wavelet: u8, cells: &mut [i32], halves: &Halves, width: us
     ensures off { (i : ℕ) → IsBeside halves.now width i
         → line_of cells.new i ≡ line_of cells.old i }
 {
-    run(cells, halves, width, steps(wavelet), true)
+    run(cells, halves, width, &analysis(wavelet))
 }

@@ -1,15 +1,17 @@
-ghost use Rattle.std.specs.Prelude.{◌≡◌, ◌+◌, ◌*◌, ◌^◌, ◌<◌, ◌≤◌, ◌∷◌, List, IfSome, IsTrue, map, unsigned_abs};
+ghost use Rattle.std.specs.Prelude.{◌≡◌, ◌+◌, ◌*◌, ◌^◌, ◌<◌, ◌≤◌, ◌∷◌, List, IfSome, unsigned_abs};
 ghost use Rattle.std.specs.Option.{option_and_then};
-ghost use Rattle.vc_lift.specs.CountedSteps.{CountedStep, in_order};
-ghost use Rattle.vc_lift.specs.Growth.{IsPlain, weight, grows_little};
+ghost use Rattle.vc_lift.specs.CountedSteps.{CountedStep};
+ghost use Rattle.vc_lift.specs.Growth.{weight};
 ghost use Rattle.vc_lift.specs.Ranges.{stretched_below, bound_after, narrow_bound, narrow_analysis_bound};
-ghost use Rattle.vc_lift.specs.Steps.{counted_of, counted_row};
+ghost use Rattle.vc_lift.specs.Steps.{counted_of};
+ghost use Rattle.vc_lift.specs.StepLists.{steps_of};
 
-use crate::step::{Row, Step, step_at, steps};
+use crate::order::{analysis, step_at, step_count, synthesis};
+use crate::step::Step;
+use crate::steps::Steps;
 
 // The taps' magnitudes in sum.
 fn weight(step: &Step) -> u64
-    requires { IsPlain (counted_of step.now) }
     ensures { result ≡ weight (counted_of step.now) }
 {
     let mut sum = 0;
@@ -21,7 +23,6 @@ fn weight(step: &Step) -> u64
 
 // A bound on the samples that a step changes, after it, where all that it reckons fits 32 bits.
 fn stretched(step: &Step, own: u64, other: u64) -> Option<u64>
-    requires plain { IsPlain (counted_of step.now) }
     requires own { own < 2 ^ 32 }
     requires other { other < 2 ^ 32 }
     ensures { result ≡ stretched_below (2 ^ 31) (counted_of step.now) own other }
@@ -38,7 +39,6 @@ fn stretched(step: &Step, own: u64, other: u64) -> Option<u64>
 
 // Bounds on the even and on the odd samples after a step, from those before it.
 fn next(step: &Step, even: u64, odd: u64) -> Option<(u64, u64)>
-    requires plain { IsPlain (counted_of step.now) }
     requires even { even < 2 ^ 31 }
     requires odd { odd < 2 ^ 31 }
     ensures value { (steps : List CountedStep)
@@ -53,31 +53,29 @@ fn next(step: &Step, even: u64, odd: u64) -> Option<(u64, u64)>
     }
 }
 
-// A bound on the samples of lines after steps in 32 bits, in turn or undone, from a bound before them.
-fn bound_after(rows: &[Row], undo: bool, most: u64) -> Option<u64>
-    requires steps { IsTrue (grows_little 16 (in_order undo (map counted_row rows.now))) }
+// A bound on the samples of lines after steps in 32 bits, from a bound before them.
+fn bound_after(steps: &Steps, most: u64) -> Option<u64>
     requires most { most < 2 ^ 31 }
-    ensures value { result
-        ≡ bound_after (2 ^ 31) (in_order undo (map counted_row rows.now)) most most }
+    ensures value { result ≡ bound_after (2 ^ 31) (steps_of steps.now) most most }
     ensures small { IfSome result (λ bound. bound < 2 ^ 31) }
 {
     let mut bounds = (most, most);
-    for i in 0..rows.len() {
-        let step = step_at(rows, undo, i);
+    for i in 0..step_count(steps) {
+        let step = step_at(steps, i);
         bounds = next(&step, bounds.0, bounds.1)?;
     }
     Some(bounds.0.max(bounds.1))
 }
 
-/// A bound on the samples of lines that are synthesised in 32 bits, from a bound before that; none where a step could
-/// leave 32 bits.
+/// A bound on the samples of lines that are synthesised in 32 bits, from a bound before that; none where a
+/// step could leave 32 bits.
 pub fn narrow_bound(wavelet: u8, most: u64) -> Option<u64>
     requires wavelet { wavelet ≤ 6 }
     requires most { most < 2 ^ 31 }
     ensures value { result ≡ narrow_bound wavelet most }
     ensures small { IfSome result (λ bound. bound < 2 ^ 31) }
 {
-    bound_after(steps(wavelet), false, most)
+    bound_after(&synthesis(wavelet), most)
 }
 
 /// The same of lines that are analysed.
@@ -87,5 +85,5 @@ pub fn narrow_analysis_bound(wavelet: u8, most: u64) -> Option<u64>
     ensures value { result ≡ narrow_analysis_bound wavelet most }
     ensures small { IfSome result (λ bound. bound < 2 ^ 31) }
 {
-    bound_after(steps(wavelet), true, most)
+    bound_after(&analysis(wavelet), most)
 }

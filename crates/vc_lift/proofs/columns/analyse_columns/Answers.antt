@@ -1,10 +1,6 @@
-use Rattle.std.proofs.Common.{arith}
-use Rattle.vc_lift.proofs.CountedSteps.{same_rows, analysed_counted}
-use Rattle.vc_lift.proofs.LineGrowth.{analysis_little}
+use Rattle.std.proofs.Common.{◌∙◌}
+use Rattle.vc_lift.proofs.CountedSteps.{analysed_by}
 use Rattle.vc_lift.proofs.columns.analyse_columns.Goals as goal
 
-pub run-requires-clause-steps : goal.run-requires-clause-steps
-run-requires-clause-steps c = rw (same_rows c.args.wavelet c.steps.result.now c.steps.ensures) (analysis_little c.args.wavelet)
-
 pub returns : goal.returns
-returns c = grind (arith, same_rows, analysed_counted)
+returns c = record { value = λ x h. c.run.ensures x h ∙ analysed_by c.args.wavelet c.args.half _ _ c.analysis.ensures }

@@ -11,16 +11,19 @@ use Rattle.vc_lift.proofs.Places.{place_below, column_of-set_same, column_of-set
 use Rattle.vc_lift.proofs.Sums.{read_back, changed_read}
 use Rattle.vc_lift.proofs.columns.change_row.Goals as goal
 
-pub change_at-change-requires-clause-met : goal.change_at-change-requires-clause-met
-change_at-change-requires-clause-met c =
-    let same : column_of c.args.width c.loop-x.cells c.loop-x.x ≡ column_of c.args.width c.args.cells.now c.loop-x.x = c.loop-x.invariant.left c.loop-x.x (omega arith) (omega arith) in
-    subst (λ (f : ℕ → ℤ). IsWithin f c.args.half (1 - c.args.step.now.parity) (2 ^ 112)) (sym same) (c.requires.met c.loop-x.x (omega arith))
+pub change_at-change-requires : goal.change_at-change-requires
+change_at-change-requires c = record {
+  whole = omega arith;
+  at = c.requires.at;
+  column = omega arith;
+  met = subst (λ (f : ℕ → ℤ). IsWithin f c.args.columns.half (1 - c.args.step.now.parity) (2 ^ 112)) (sym (c.loop-x.invariant.left c.loop-x.x (omega arith) (omega arith))) (c.requires.met c.loop-x.x (omega arith));
+}
 
 pub changed_by-requires-clause-sample : goal.changed_by-requires-clause-sample
 changed_by-requires-clause-sample c =
     let k = 2 * c.args.n + c.args.step.now.parity in
-    let sample = column_of c.args.width c.loop-x.cells c.loop-x.x k in
-    let same : column_of c.args.width c.loop-x.cells c.loop-x.x ≡ column_of c.args.width c.args.cells.now c.loop-x.x = c.loop-x.invariant.left c.loop-x.x (omega arith) (omega arith) in
+    let sample = column_of c.args.columns.width c.loop-x.cells c.loop-x.x k in
+    let same : column_of c.args.columns.width c.loop-x.cells c.loop-x.x ≡ column_of c.args.columns.width c.args.cells.now c.loop-x.x = c.loop-x.invariant.left c.loop-x.x (omega arith) (omega arith) in
     let small : unsigned_abs sample ≤ 2 ^ 112 = subst (λ (f : ℕ → ℤ). unsigned_abs (f k) ≤ 2 ^ 112) (sym same) (c.requires.changed c.loop-x.x (omega arith)) in
     rw (read_back sample (omega arith)) small
 
@@ -29,19 +32,19 @@ loop-x-preserved c =
     let s = counted_of c.args.step.now in
     let x = c.loop-x.x in
     let k = 2 * c.args.n + c.args.step.now.parity in
-    let lt : x < c.args.width = omega arith in
+    let lt : x < c.args.columns.width = omega arith in
     let cells = c.loop-x.cells in
-    let sample = column_of c.args.width cells x k in
-    let same : column_of c.args.width cells x ≡ column_of c.args.width c.args.cells.now x = c.loop-x.invariant.left x (omega arith) lt in
+    let sample = column_of c.args.columns.width cells x k in
+    let same : column_of c.args.columns.width cells x ≡ column_of c.args.columns.width c.args.cells.now x = c.loop-x.invariant.left x (omega arith) lt in
     let small : unsigned_abs sample ≤ 2 ^ 112 = subst (λ (f : ℕ → ℤ). unsigned_abs (f k) ≤ 2 ^ 112) (sym same) (c.requires.changed x lt) in
     let v = to_z w128 (of_z w128 c.changed_by.result) in
-    let within : k * c.args.width + x < length cells = (let b = place_below c.args.half c.args.width k x (omega arith) lt in omega (arith, b)) in
-    let made : v ≡ changed_by s.adds sample (change_at s c.args.half (column_of c.args.width cells x) c.args.n) =
+    let within : k * c.args.columns.width + x < length cells = (let b = place_below c.args.columns.half c.args.columns.width k x (omega arith) lt in omega (arith, b)) in
+    let made : v ≡ changed_by s.adds sample (change_at s c.args.columns.half (column_of c.args.columns.width cells x) c.args.n) =
     to_z-of_z w128 c.changed_by.result (record { sfits = c.changed_by.type_inv }) ∙ c.changed_by.ensures ∙ changed_read s.adds sample c.change_at-change.result (omega arith) (omega (arith, c.change_at-change.ensures.bound)) ∙ ap (changed_by s.adds sample) c.change_at-change.ensures.value in
     record {
       done = λ i h. elim (cases_eq i x) [
-        | inl e ↦ rw e (column_of-set_same c.args.width cells k x v lt within ∙ one_written s c.args.half c.args.n (column_of c.args.width cells x) (column_of c.args.width c.args.cells.now x) v same made)
-        | inr ne ↦ column_of-set_other c.args.width cells k x v lt i (omega arith) ne ∙ c.loop-x.invariant.done i (omega arith)
+        | inl e ↦ rw e (column_of-set_same c.args.columns.width cells k x v lt within ∙ one_written s c.args.columns.half c.args.n (column_of c.args.columns.width cells x) (column_of c.args.columns.width c.args.cells.now x) v same made)
+        | inr ne ↦ column_of-set_other c.args.columns.width cells k x v lt i (omega arith) ne ∙ c.loop-x.invariant.done i (omega arith)
       ];
-      left = λ i from h. (let ne : i ≢ x = omega arith in column_of-set_other c.args.width cells k x v lt i h ne ∙ c.loop-x.invariant.left i (omega arith) h);
+      left = λ i from h. (let ne : i ≢ x = omega arith in column_of-set_other c.args.columns.width cells k x v lt i h ne ∙ c.loop-x.invariant.left i (omega arith) h);
     }

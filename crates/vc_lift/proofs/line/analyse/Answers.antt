@@ -1,15 +1,11 @@
-use Rattle.std.proofs.Common.{◌≡◌, ◌*◌, ◌/◌, ap, sym, ◌∙◌, List, length, arith}
+use Rattle.std.proofs.Common.{◌≡◌, ◌*◌, ◌/◌, ap, sym, ◌∙◌, length, arith}
 use Rattle.vc_types.specs.Lifting.{line_of}
 use Rattle.vc_types.specs.Wavelets.{analysed}
-use Rattle.vc_lift.specs.CountedSteps.{CountedStep, lift_all, undone}
-use Rattle.vc_lift.proofs.CountedSteps.{same_rows, counted_steps, analysed_counted}
-use Rattle.vc_lift.proofs.LineGrowth.{analysis_little}
-use Rattle.vc_lift.specs.Columns.{column_of}
+use Rattle.vc_lift.specs.CountedSteps.{lift_all}
+use Rattle.vc_lift.specs.StepLists.{steps_of}
+use Rattle.vc_lift.proofs.CountedSteps.{analysed_by}
 use Rattle.vc_lift.proofs.Places.{column_of-one}
 use Rattle.vc_lift.proofs.line.analyse.Goals as goal
-
-pub run-requires-clause-steps : goal.run-requires-clause-steps
-run-requires-clause-steps c = rw (same_rows c.args.wavelet c.steps.result.now c.steps.ensures) (analysis_little c.args.wavelet)
 
 pub returns : goal.returns
 returns c =
@@ -19,8 +15,7 @@ returns c =
       value =
           sym (column_of-one c.run.new.cells)
           ∙ c.run.ensures 0 (omega arith)
-          ∙ ap (λ (ss : List CountedStep). lift_all (undone ss) half (column_of 1 c.args.line.now 0)) (same_rows c.args.wavelet c.steps.result.now c.steps.ensures)
-          ∙ ap (lift_all (undone (counted_steps c.args.wavelet)) half) (column_of-one c.args.line.now)
-          ∙ sym (analysed_counted c.args.wavelet half (line_of c.args.line.now))
+          ∙ ap (lift_all (steps_of c.analysis.result) half) (column_of-one c.args.line.now)
+          ∙ analysed_by c.args.wavelet half _ _ c.analysis.ensures
           ∙ ap (λ n. analysed c.args.wavelet n (line_of c.args.line.now)) size;
     }

@@ -18,10 +18,15 @@ met_left c j h = c.loop-x.invariant.off _ (beside_run _ (halves_place c.args.hal
 own_left : (c : goal.In-loop-x) → line_of c.loop-x.cells (halves_place c.args.halves.now (2 * c.args.n + c.args.step.now.parity) + c.loop-x.x) ≡ line_of c.args.cells.now (halves_place c.args.halves.now (2 * c.args.n + c.args.step.now.parity) + c.loop-x.x)
 own_left c = c.loop-x.invariant.off _ (inr (omega arith))
 
-pub change_at-change-requires-clause-room : goal.change_at-change-requires-clause-room
-change_at-change-requires-clause-room c =
-    same_room (counted_of c.args.step.now) c.args.halves.now.half (line_in c.args.halves.now c.loop-x.cells c.loop-x.x) (line_in c.args.halves.now c.args.cells.now c.loop-x.x) c.args.n c.args.n (2 ^ 31)
-    (met_left c) (own_left c) (c.requires.room c.loop-x.x c.loop-x-test.true)
+pub change_at-change-requires : goal.change_at-change-requires
+change_at-change-requires c = record {
+  small = c.requires.small;
+  at = c.requires.at;
+  inside = λ j lt. (let met = c.requires.run.met j lt in omega (arith, met));
+  room =
+      same_room (counted_of c.args.step.now) c.args.halves.now.half (line_in c.args.halves.now c.loop-x.cells c.loop-x.x) (line_in c.args.halves.now c.args.cells.now c.loop-x.x) c.args.n c.args.n (2 ^ 31)
+      (met_left c) (own_left c) (c.requires.room c.loop-x.x c.loop-x-test.true);
+}
 
 pub loop-x-preserved : goal.loop-x-preserved
 loop-x-preserved c =
@@ -32,7 +37,7 @@ loop-x-preserved c =
     let first = c.args.cells.now in
     let at = halves_place h (2 * c.args.n + s.parity) in
     let v = to_z w32 (of_z w32 c.changed_by.result) in
-    let is : c.place-at.result ≡ at = c.place-at.ensures ∙ sym (place_at h c.args.n s.parity c.requires.plain.parity) in
+    let is : c.place-at.result ≡ at = c.place-at.ensures ∙ sym (place_at h c.args.n s.parity c.args.step.now.plain.parity) in
     let within : at + x < length cells = omega (arith, c.requires.run.at) in
     let own : line_of cells (at + x) ≡ line_of first (at + x) = c.loop-x.invariant.off (at + x) (inr (omega arith)) in
     let same : change_at s h.half (line_in h cells x) c.args.n ≡ change_at s h.half (line_in h first x) c.args.n =

@@ -15,7 +15,7 @@ loop-j-init c = record { value = sym (sum_below_none _); bound = λ m small. sea
 
 -- the cell that tap j meets
 met_place : (c : goal.After-sum-in-loop-j-1) → c.place.result ≡ halves_place c.args.halves.now (place_met (counted_of c.args.step.now) c.args.halves.now.half c.args.n c.loop-j.j)
-met_place c = met_at (counted_of c.args.step.now) c.args.halves.now c.args.n c.loop-j.j c.min-met.result c.place.result c.requires.plain.parity (omega arith) c.place.ensures
+met_place c = met_at (counted_of c.args.step.now) c.args.halves.now c.args.n c.loop-j.j c.min-met.result c.place.result c.args.step.now.plain.parity (omega arith) c.place.ensures
 
 met_small : (c : goal.After-sum-in-loop-j-1) → unsigned_abs (slice_index_or c.args.cells.now (c.place.result + c.args.x) (pos 0)) ≤ c.requires.room.other
 met_small c = subst (λ i. unsigned_abs (line_of c.args.cells.now (i + c.args.x)) ≤ c.requires.room.other) (sym (met_place c)) (c.requires.room.met c.loop-j.j c.loop-j-test.true)
@@ -25,14 +25,14 @@ overflow_mul-sum c =
     let x = slice_index_or c.args.cells.now (c.place.result + c.args.x) (pos 0) in
     let own : FitsSigned w32 x = search rules in
     let taps = c.args.step.now.taps.now in
-    term_fits w32 taps c.requires.room.other c.loop-j.j (slice_index_or taps c.loop-j.j (pos 0)) x (to_z w32 c.loop-j.sum-bits) (λ i. slice_index_or taps c.loop-j.j (pos 0)) c.loop-j-test.true (narrow_taps c.requires.plain.light) own (narrow_room _ c.requires.room.other _ c.requires.room.sum) (met_small c) (c.loop-j.invariant.bound c.requires.room.other c.requires.room.met)
+    term_fits w32 taps c.requires.room.other c.loop-j.j (slice_index_or taps c.loop-j.j (pos 0)) x (to_z w32 c.loop-j.sum-bits) (λ i. slice_index_or taps c.loop-j.j (pos 0)) c.loop-j-test.true (narrow_taps c.args.step.now.plain.light) own (narrow_room _ c.requires.room.other _ c.requires.room.sum) (met_small c) (c.loop-j.invariant.bound c.requires.room.other c.requires.room.met)
 
 pub overflow_add-sum-in-loop-j : goal.overflow_add-sum-in-loop-j
 overflow_add-sum-in-loop-j c =
     let x = slice_index_or c.args.cells.now (c.place.result + c.args.x) (pos 0) in
     let own : FitsSigned w32 x = search rules in
     let taps = c.args.step.now.taps.now in
-    sum_fits w32 taps c.requires.room.other c.loop-j.j (slice_index_or taps c.loop-j.j (pos 0)) x (to_z w32 c.loop-j.sum-bits) (λ i. slice_index_or taps c.loop-j.j (pos 0)) c.loop-j-test.true (narrow_taps c.requires.plain.light) own (narrow_room _ c.requires.room.other _ c.requires.room.sum) (met_small c) (c.loop-j.invariant.bound c.requires.room.other c.requires.room.met)
+    sum_fits w32 taps c.requires.room.other c.loop-j.j (slice_index_or taps c.loop-j.j (pos 0)) x (to_z w32 c.loop-j.sum-bits) (λ i. slice_index_or taps c.loop-j.j (pos 0)) c.loop-j-test.true (narrow_taps c.args.step.now.plain.light) own (narrow_room _ c.requires.room.other _ c.requires.room.sum) (met_small c) (c.loop-j.invariant.bound c.requires.room.other c.requires.room.met)
 
 pub loop-j-preserved : goal.loop-j-preserved
 loop-j-preserved c =
@@ -42,9 +42,9 @@ loop-j-preserved c =
     let j = c.loop-j.j in
     let tap = slice_index_or taps j (pos 0) in
     let sum = to_z w32 c.loop-j.sum-bits in
-    let met : c.place.result ≡ halves_place c.args.halves.now (place_met (counted_of c.args.step.now) c.args.halves.now.half c.args.n j) = met_at (counted_of c.args.step.now) c.args.halves.now c.args.n j c.min-met.result c.place.result c.requires.plain.parity (omega arith) c.place.ensures in
+    let met : c.place.result ≡ halves_place c.args.halves.now (place_met (counted_of c.args.step.now) c.args.halves.now.half c.args.n j) = met_at (counted_of c.args.step.now) c.args.halves.now c.args.n j c.min-met.result c.place.result c.args.step.now.plain.parity (omega arith) c.place.ensures in
     let small_here : unsigned_abs x ≤ c.requires.room.other = subst (λ i. unsigned_abs (line_of c.args.cells.now (i + c.args.x)) ≤ c.requires.room.other) (sym met) (c.requires.room.met j c.loop-j-test.true) in
-    let read = sum_read w32 taps c.requires.room.other j tap x sum (λ i. tap) c.loop-j-test.true (narrow_taps c.requires.plain.light) own (narrow_room _ c.requires.room.other _ c.requires.room.sum) small_here (c.loop-j.invariant.bound c.requires.room.other c.requires.room.met) in
+    let read = sum_read w32 taps c.requires.room.other j tap x sum (λ i. tap) c.loop-j-test.true (narrow_taps c.args.step.now.plain.light) own (narrow_room _ c.requires.room.other _ c.requires.room.sum) small_here (c.loop-j.invariant.bound c.requires.room.other c.requires.room.met) in
     let f = λ (j : ℕ). slice_index_or taps j (pos 0) *ℤ line_in c.args.halves.now c.args.cells.now c.args.x (place_met (counted_of c.args.step.now) c.args.halves.now.half c.args.n j) in
     record {
       value =
