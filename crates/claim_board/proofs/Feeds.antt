@@ -9,7 +9,7 @@ use Rattle.atomic_table.specs.Table.{step, Act, keeps, takes, gives, Valid, carr
 use Rattle.atomic_table.proofs.Lists.{set_here, set_else, exchanged}
 use Rattle.vc_slice.specs.declared.job.SliceJob.{SliceJob}
 use Rattle.link_slices.specs.Jobs.{job_of}
-use Rattle.claim_board.specs.Views.{lane}
+use Rattle.claim_board.specs.Views.{lane, SeatView, DidOnce, did, lane_at, lanes_after, lanes_back}
 use Rattle.claim_board.specs.declared.view.Lane.{Lane}
 use Rattle.machine_model.specs.Places.{Content, Nothing, Offered, Claimed, Decoded, JobPlace, frees_place, place_at}
 use Rattle.claim_board.specs.declared.cargo.Cargo.{Cargo}
@@ -17,7 +17,6 @@ use Rattle.claim_board.specs.declared.cargo.Cargo.TheVariants.{Waiting, Finished
 use Rattle.claim_board.specs.declared.view.Deed.{Deed}
 use Rattle.claim_board.specs.declared.view.Deed.TheVariants.{WasRead, WasFetched, WasPut, WasTaken, WasWithdrawn}
 use Rattle.claim_board.specs.History.{MayDo, after_deed, deed_place, standing, places_after, word_of}
-use Rattle.claim_board.specs.Views.{SeatView, DidOnce, did, lane_at, lanes_after, lanes_back}
 use Rattle.claim_board.specs.Rule.{Slot, BoardState, ShowsPlace, BoardRule}
 use Rattle.claim_board.specs.Plays.{SeatState, back_of, lying_state, tells_back, tells_put, tells_fetch}
 use Rattle.claim_board.proofs.Histories.{free_here, may_put_at, put_here}

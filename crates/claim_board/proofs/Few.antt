@@ -2,11 +2,9 @@
 use Rattle.std.proofs.Common.{◌≡◌, ◌≢◌, ℕ, zero, suc, ◌+◌, ◌<◌, ◌≤◌, Bool, true, false, cond, List, [], ◌∷◌, length, sym, refl, ap, ◌∙◌, arith, eqb, eq-eqb, ne_eqb}
 use mathlib.Core.Logic.{dite}
 use native.Mathlib.Decide.{ℕ_discrete}
-use Rattle.claim_board.specs.Views.{lane}
-use Rattle.claim_board.specs.Counts.{idle_count}
-use Rattle.claim_board.specs.Views.{SeatView, lane_at}
+use Rattle.claim_board.specs.Views.{lane, SeatView, lane_at}
+use Rattle.claim_board.specs.Counts.{idle_count, occurrences}
 use Rattle.claim_board.specs.declared.view.Lane.{Lane}
-use Rattle.claim_board.specs.Counts.{occurrences}
 use Rattle.std.proofs.lemmas.List.{get_or_past}
 use Rattle.claim_board.proofs.Idle.{out_is_not_idle}
 use Rattle.claim_board.proofs.Sums.{occurrences-cons}

@@ -118,6 +118,9 @@ within [] p h = absurd (omega arith)
 within (x ∷ xs) zero h = omega arith
 within (x ∷ xs) (suc p) h = let k = within xs p h in omega arith
 
+pub there : (ps : List JobPlace) (p t : ℕ) (c : Content) → place_at ps p ≡ standing t c → 0 < state_number (state_of c) → p < length ps
+there ps p t c e some = within ps p (omega (arith, state_is ps p t c e, some))
+
 count_here : (ps : List JobPlace) (seat me : ℕ) (d : Deed) → MayDo ps seat d → (0 < tag d → seat ≢ me)
     → held_count me (place_at (after_deed ps seat d) (deed_place d)).content ≡ held_count me (place_at ps (deed_place d)).content
 count_here ps seat me (WasRead p w) may ne = refl
@@ -127,21 +130,13 @@ count_here ps seat me (WasPut p job) may ne =
     let a = empty_of_put ps p may in
     ap (λ (x : JobPlace). held_count me x.content) (put_here ps p (place_at ps p).serial (place_at ps p).content (job_of job) h refl) ∙ sym (held_none me (place_at ps p).content (λ e. omega arith))
 count_here ps seat me (WasClaimed p t job) may ne =
-    let a = state_is ps p t _ may in
-    let h = within ps p (omega arith) in
-    held_other me seat t (job_of job) _ (claim_here ps p t seat (job_of job) h may) (ne (omega arith)) ∙ sym (held_none me (place_at ps p).content (λ e. omega arith))
+    held_other me seat t (job_of job) _ (claim_here ps p t seat (job_of job) (there ps p t _ may (omega arith)) may) (ne (omega arith)) ∙ sym (held_none me (place_at ps p).content (λ e. omega (arith, state_is ps p t _ may, e)))
 count_here ps seat me (WasCompleted p t done) may ne =
-    let a = state_is ps p t _ may in
-    let h = within ps p (omega arith) in
-    ap (λ (x : JobPlace). held_count me x.content) (complete_here ps p t seat (job_of done.job) h may) ∙ sym (held_other me seat t (job_of done.job) _ may (ne (omega arith)))
+    ap (λ (x : JobPlace). held_count me x.content) (complete_here ps p t seat (job_of done.job) (there ps p t _ may (omega arith)) may) ∙ sym (held_other me seat t (job_of done.job) _ may (ne (omega arith)))
 count_here ps seat me (WasTaken p t done) may ne =
-    let a = state_is ps p t _ may in
-    let h = within ps p (omega arith) in
-    ap (λ (x : JobPlace). held_count me x.content) (free_here ps p t _ h may) ∙ sym (held_none me (place_at ps p).content (λ e. omega arith))
+    ap (λ (x : JobPlace). held_count me x.content) (free_here ps p t _ (there ps p t _ may (omega arith)) may) ∙ sym (held_none me (place_at ps p).content (λ e. omega (arith, state_is ps p t _ may, e)))
 count_here ps seat me (WasWithdrawn p t job) may ne =
-    let a = state_is ps p t _ may in
-    let h = within ps p (omega arith) in
-    ap (λ (x : JobPlace). held_count me x.content) (free_here ps p t _ h may) ∙ sym (held_none me (place_at ps p).content (λ e. omega arith))
+    ap (λ (x : JobPlace). held_count me x.content) (free_here ps p t _ (there ps p t _ may (omega arith)) may) ∙ sym (held_none me (place_at ps p).content (λ e. omega (arith, state_is ps p t _ may, e)))
 
 count_deed : (ps : List JobPlace) (seat me : ℕ) (d : Deed) (q : ℕ) → MayDo ps seat d → (0 < tag d → seat ≢ me)
     → held_count me (place_at (after_deed ps seat d) q).content ≡ held_count me (place_at ps q).content

@@ -2,10 +2,12 @@
 use Rattle.std.proofs.Common.{◌≡◌, refl, ℕ, ◌+◌, ◌<◌, ◌≤◌, ◌^◌, vec_len, cond, true, false, List, ◌∷◌, length, get_or, set, sym, ap, ◌∙◌, arith, eqb, eq-eqb, ne_eqb, get_or-set_other, get_or-set_same, drop}
 use mathlib.Core.Logic.{dite}
 use native.Mathlib.Decide.{ℕ_discrete}
-use Rattle.claim_board.specs.Views.{lane}
+use Rattle.claim_board.specs.Views.{lane, SeatView, lane_in, lane_at, lanes_put, lanes_back}
+use Rattle.atomic_table.specs.Seated.{TableId}
+use Rattle.claim_board.specs.Seats.{IsFeederOf, place_count}
+use Rattle.claim_board.specs.declared.board.Board.{Board}
 use Rattle.claim_board.specs.declared.seats.FeederSeat.{FeederSeat}
 use Rattle.claim_board.specs.declared.view.Lane.{Lane}
-use Rattle.claim_board.specs.Views.{SeatView, lane_in, lane_at, lanes_put, lanes_back}
 use Rattle.claim_board.specs.Counts.{idle_count, occurrences}
 use Rattle.claim_board.proofs.Sums.{occurrences-cons}
 
@@ -17,12 +19,12 @@ popped q p old front new f e same = sym same ∙ (ap (occurrences q) f.1 ∙ (oc
 pub out_is_not_idle : (l : Lane) → l.is_out ≡ true → idle_count l ≡ 0
 out_is_not_idle l e = grind arith
 
-pub idle_put : (v : SeatView) (p q : ℕ) (xs ys : List ℕ) → p < length v.lanes → (lane_at v p).is_fetched ≡ true → (lane_at v p).is_out ≡ false
+idle_put : (v : SeatView) (p q : ℕ) (xs ys : List ℕ) → p < length v.lanes → (lane_at v p).is_fetched ≡ true → (lane_at v p).is_out ≡ false
     → ((k : ℕ) → occurrences k xs ≡ idle_count (lane_at v k)) → occurrences q xs ≡ cond (eqb p q) 1 0 + occurrences q ys
     → occurrences q ys ≡ idle_count (lane_in (lanes_put v.lanes p) q)
 idle_put v p q xs ys h fetched empty idle less = grind (arith, get_or-set_same, get_or-set_other)
 
-pub idle_returned : (v : SeatView) (p q : ℕ) (xs : List ℕ) → p < length v.lanes → (lane_at v p).is_out ≡ true
+idle_returned : (v : SeatView) (p q : ℕ) (xs : List ℕ) → p < length v.lanes → (lane_at v p).is_out ≡ true
     → ((k : ℕ) → occurrences k xs ≡ idle_count (lane_at v k)) → occurrences q (p ∷ xs) ≡ idle_count (lane_in (lanes_back v.lanes p) q)
 idle_returned v p q xs h out idle =
     let new : Lane = lane (lane_at v p).serial true false in
@@ -33,32 +35,44 @@ idle_returned v p q xs h out idle =
     (λ ne. let now : idle_count (lane_in (lanes_back v.lanes p) q) ≡ idle_count (lane_at v q) = ap idle_count (get_or-set_other v.lanes p q new (lane 0 false false) (λ x. ne (sym x))) in
     let was = idle q in let none : cond {A = ℕ} (eqb p q) 1 0 ≡ 0 = (rw (ne_eqb p q ne) refl) in omega arith))
 
-pub idle_after_put : (v w : SeatView) (p : ℕ) (xs ys : List ℕ) → w.lanes ≡ lanes_put v.lanes p → ((q : ℕ) → occurrences q xs ≡ cond (eqb p q) 1 0 + occurrences q ys)
+idle_after_put : (v w : SeatView) (p : ℕ) (xs ys : List ℕ) → w.lanes ≡ lanes_put v.lanes p → ((q : ℕ) → occurrences q xs ≡ cond (eqb p q) 1 0 + occurrences q ys)
     → p < length v.lanes → (lane_at v p).is_fetched ≡ true → (lane_at v p).is_out ≡ false → ((k : ℕ) → occurrences k xs ≡ idle_count (lane_at v k))
     → (q : ℕ) → occurrences q ys ≡ idle_count (lane_at w q)
 idle_after_put v w p xs ys e less h fetched empty idle q = idle_put v p q xs ys h fetched empty idle (less q) ∙ ap (λ (ls : List Lane). idle_count (lane_in ls q)) (sym e)
 
-pub idle_after_return : (v w : SeatView) (p : ℕ) (xs ys : List ℕ) → w.lanes ≡ lanes_back v.lanes p → ys ≡ p ∷ xs → p < length v.lanes → (lane_at v p).is_out ≡ true
+idle_after_return : (v w : SeatView) (p : ℕ) (xs ys : List ℕ) → w.lanes ≡ lanes_back v.lanes p → ys ≡ p ∷ xs → p < length v.lanes → (lane_at v p).is_out ≡ true
     → ((k : ℕ) → occurrences k xs ≡ idle_count (lane_at v k)) → (q : ℕ) → occurrences q ys ≡ idle_count (lane_at w q)
 idle_after_return v w p xs ys e more h out idle q = ap (occurrences q) more ∙ (idle_returned v p q xs h out idle ∙ ap (λ (ls : List Lane). idle_count (get_or ls q (lane 0 false false))) (sym e))
 
 -- a fact about each lane, where one lane was replaced
-pub lane_after : (v w : SeatView) (p q : ℕ) (new : Lane) (P : Lane → Type 0) → w.lanes ≡ set v.lanes p new → p < length v.lanes → P new → P (lane_at v q) → P (lane_at w q)
+lane_after : (v w : SeatView) (p q : ℕ) (new : Lane) (P : Lane → Type 0) → w.lanes ≡ set v.lanes p new → p < length v.lanes → P new → P (lane_at v q) → P (lane_at w q)
 lane_after v w p q new P e h here there = grind (arith, get_or-set_same, get_or-set_other)
 
-pub lane_here : (v : SeatView) (p : ℕ) (new : Lane) (w : SeatView) → w.lanes ≡ set v.lanes p new → p < length v.lanes → lane_at w p ≡ new
+lane_here : (v : SeatView) (p : ℕ) (new : Lane) (w : SeatView) → w.lanes ≡ set v.lanes p new → p < length v.lanes → lane_at w p ≡ new
 lane_here v p new w e h = ap (λ (ls : List Lane). get_or ls p (lane 0 false false)) e ∙ get_or-set_same v.lanes p new (lane 0 false false) h
 
--- the feeder's places after one was taken back
-module _ (f : FeederSeat) (p : ℕ) (inside : p < vec_len f.lanes) (w : SeatView) (back : w.lanes ≡ lanes_back f.seat.me.0.lanes p) where
+-- the feeder's places after a step on one of them
+module _ (b : Board) (f : FeederSeat) (p : ℕ) (is_of : IsFeederOf b f) (place : p < place_count b) where
+  pub inside : p < vec_len f.lanes
+  inside = omega (arith, f.wide, ap (λ (t : TableId). t.words) is_of.0, place)
+
   in_lanes : p < length f.seat.me.0.lanes
   in_lanes = omega (arith, ap length f.mirrors, inside)
 
-  pub idle_back : (ys : List ℕ) → ys ≡ p ∷ f.order.items → (lane_at f.seat.me.0 p).is_out ≡ true → (q : ℕ) → occurrences q ys ≡ idle_count (lane_at w q)
-  idle_back ys more out = idle_after_return f.seat.me.0 w p f.order.items ys back more in_lanes out f.idle
+  module _ (w : SeatView) (ys : List ℕ) where
+    pub idle_then : w.lanes ≡ lanes_put f.seat.me.0.lanes p → ((q : ℕ) → occurrences q f.order.items ≡ cond (eqb p q) 1 0 + occurrences q ys) → (lane_at f.seat.me.0 p).is_out ≡ false
+        → (q : ℕ) → occurrences q ys ≡ idle_count (lane_at w q)
+    idle_then to less empty = idle_after_put f.seat.me.0 w p f.order.items ys to less in_lanes (f.fetched p inside) empty f.idle
 
-  pub fetched_back : (q : ℕ) → q < vec_len f.lanes → (lane_at w q).is_fetched ≡ true
-  fetched_back q below = lane_after f.seat.me.0 w p q _ (λ (l : Lane). l.is_fetched ≡ true) back in_lanes refl (f.fetched q below)
+    pub idle_back : w.lanes ≡ lanes_back f.seat.me.0.lanes p → ys ≡ p ∷ f.order.items → (lane_at f.seat.me.0 p).is_out ≡ true → (q : ℕ) → occurrences q ys ≡ idle_count (lane_at w q)
+    idle_back to more out = idle_after_return f.seat.me.0 w p f.order.items ys to more in_lanes out f.idle
 
-  pub small_back : (q : ℕ) → (lane_at w q).serial ≤ 2 ^ 61
-  small_back q = lane_after f.seat.me.0 w p q _ (λ (l : Lane). l.serial ≤ 2 ^ 61) back in_lanes (f.small p) (f.small q)
+  module _ (w : SeatView) (new : Lane) (to : w.lanes ≡ set f.seat.me.0.lanes p new) where
+    pub fetched_then : new.is_fetched ≡ true → (q : ℕ) → q < vec_len f.lanes → (lane_at w q).is_fetched ≡ true
+    fetched_then is q below = lane_after f.seat.me.0 w p q new (λ (l : Lane). l.is_fetched ≡ true) to in_lanes is (f.fetched q below)
+
+    pub small_then : new.serial ≤ 2 ^ 61 → (q : ℕ) → (lane_at w q).serial ≤ 2 ^ 61
+    small_then is q = lane_after f.seat.me.0 w p q new (λ (l : Lane). l.serial ≤ 2 ^ 61) to in_lanes is (f.small q)
+
+    pub here_then : lane_at w p ≡ new
+    here_then = lane_here f.seat.me.0 p new w to in_lanes

@@ -10,14 +10,13 @@ use Rattle.atomic_table.proofs.Lists.{at_set, set_here, set_else}
 use Rattle.vc_slice.specs.declared.job.SliceJob.{SliceJob}
 use Rattle.vc_slice.specs.declared.done.SliceDone.{SliceDone}
 use Rattle.link_slices.specs.Jobs.{answered, job_of}
-use Rattle.claim_board.specs.Views.{lane}
+use Rattle.claim_board.specs.Views.{lane, SeatView, lane_at, did, DidOnce}
 use Rattle.claim_board.specs.declared.view.Lane.{Lane}
 use Rattle.machine_model.specs.Places.{Content, Nothing, Offered, Claimed, Decoded, JobPlace, place_at}
 use Rattle.claim_board.specs.declared.cargo.Cargo.TheVariants.{Waiting, Finished}
 use Rattle.claim_board.specs.declared.view.Entry.{Entry}
 use Rattle.claim_board.specs.declared.view.Deed.{Deed}
 use Rattle.claim_board.specs.History.{entry_of, deed_place, after_deed, standing, word_of, MayDo, places_after, IsHistory, Each, Continues, IsOther, IsBelow}
-use Rattle.claim_board.specs.Views.{SeatView, lane_at, did, DidOnce}
 use Rattle.claim_board.specs.Rule.{Slot, BoardState, Lies, ShowsPlace, BoardRule, is_out}
 use Rattle.claim_board.proofs.Histories.{elsewhere, length_after}
 

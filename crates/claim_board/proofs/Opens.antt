@@ -6,11 +6,10 @@ use mathlib.Core.Option.{some, some-injective, some-ne-none}
 use lib.ListN.{get_elem?}
 use Rattle.atomic_table.specs.Table.{opening, Splits}
 use Rattle.atomic_table.proofs.Lists.{at_longer, at_set, set_here}
-use Rattle.claim_board.specs.Views.{lane}
+use Rattle.claim_board.specs.Views.{lane, SeatView, first_view, lane_at, with_seat, worker_view}
 use Rattle.machine_model.specs.Places.{unused_place}
 use Rattle.claim_board.specs.declared.view.Entry.{Entry}
 use Rattle.claim_board.specs.History.{Continues, IsOther, IsBelow}
-use Rattle.claim_board.specs.Views.{SeatView, first_view, lane_at, with_seat, worker_view}
 use Rattle.claim_board.specs.Rule.{Slot, BoardRule}
 use Rattle.claim_board.proofs.Histories.{each_more}
 use Rattle.claim_board.proofs.Keeps.{first_in, the_feeder}

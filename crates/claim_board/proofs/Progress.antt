@@ -11,7 +11,7 @@ use Rattle.claim_board.specs.declared.view.Deed.{Deed}
 use Rattle.claim_board.specs.declared.view.Deed.TheVariants.{WasRead, WasFetched, WasPut, WasClaimed, WasCompleted, WasTaken, WasWithdrawn}
 use Rattle.claim_board.specs.History.{after_deed, deed_place, places_after, IsHistory, MayDo}
 use Rattle.claim_board.specs.Laws.{claims_in, is_claim}
-use Rattle.claim_board.proofs.Histories.{claim_here, complete_here, elsewhere, empty_of_put, free_here, put_here, state_is, within}
+use Rattle.claim_board.proofs.Histories.{claim_here, complete_here, elsewhere, empty_of_put, free_here, put_here, there}
 
 -- how far a place came: an empty one is past its round
 abbrev stage : Content → ℕ
@@ -37,26 +37,10 @@ up_here ps seat (WasPut p job) may =
     let was = stage_empty (place_at ps p).content (empty_of_put ps p may) in
     let now = ap progress (put_here ps p (place_at ps p).serial (place_at ps p).content (job_of job) h refl) in
     omega arith
-up_here ps seat (WasClaimed p t job) may =
-    let a = state_is ps p t _ may in
-    let was = ap progress may in
-    let now = ap progress (claim_here ps p t seat (job_of job) (within ps p (omega arith)) may) in
-    omega arith
-up_here ps seat (WasCompleted p t done) may =
-    let a = state_is ps p t _ may in
-    let was = ap progress may in
-    let now = ap progress (complete_here ps p t seat (job_of done.job) (within ps p (omega arith)) may) in
-    omega arith
-up_here ps seat (WasTaken p t done) may =
-    let a = state_is ps p t _ may in
-    let was = ap progress may in
-    let now = ap progress (free_here ps p t _ (within ps p (omega arith)) may) in
-    omega arith
-up_here ps seat (WasWithdrawn p t job) may =
-    let a = state_is ps p t _ may in
-    let was = ap progress may in
-    let now = ap progress (free_here ps p t _ (within ps p (omega arith)) may) in
-    omega arith
+up_here ps seat (WasClaimed p t job) may = omega (arith, ap progress may, ap progress (claim_here ps p t seat (job_of job) (there ps p t _ may (omega arith)) may))
+up_here ps seat (WasCompleted p t done) may = omega (arith, ap progress may, ap progress (complete_here ps p t seat (job_of done.job) (there ps p t _ may (omega arith)) may))
+up_here ps seat (WasTaken p t done) may = omega (arith, ap progress may, ap progress (free_here ps p t _ (there ps p t _ may (omega arith)) may))
+up_here ps seat (WasWithdrawn p t job) may = omega (arith, ap progress may, ap progress (free_here ps p t _ (there ps p t _ may (omega arith)) may))
 
 up_deed : (ps : List JobPlace) (seat : ℕ) (d : Deed) (q : ℕ) → MayDo ps seat d → progress (place_at ps q) ≤ progress (place_at (after_deed ps seat d) q)
 up_deed ps seat d q may = dite (ℕ_discrete q (deed_place d))
@@ -69,9 +53,8 @@ claim_step ps seat (WasClaimed q u job) p t is may =
     let same = and_parts (eqb q p) (eqb u t) is in
     let e = eqb-true q p same.0 in
     let f = eqb-true u t same.1 in
-    let a = state_is ps q u _ may in
     let was = ap progress may in
-    let now = ap progress (claim_here ps q u seat (job_of job) (within ps q (omega arith)) may) in
+    let now = ap progress (claim_here ps q u seat (job_of job) (there ps q u _ may (omega arith)) may) in
     subst (λ (k : ℕ). (progress (place_at ps k) ≡ 4 * t + 1) × (progress (place_at (after_deed ps seat (WasClaimed q u job)) k) ≡ 4 * t + 2)) e (omega arith, omega arith)
 claim_step ps seat (WasRead q w) p t is may = absurd (false≢true is)
 claim_step ps seat (WasFetched q) p t is may = absurd (false≢true is)

@@ -10,14 +10,13 @@ use Rattle.atomic_table.proofs.Lists.{set_here, set_else, exchanged}
 use Rattle.vc_slice.specs.declared.job.SliceJob.{SliceJob}
 use Rattle.vc_slice.specs.declared.done.SliceDone.{SliceDone}
 use Rattle.link_slices.specs.Jobs.{answered, job_of}
-use Rattle.claim_board.specs.Views.{lane}
+use Rattle.claim_board.specs.Views.{lane, SeatView, DidOnce, did, Holds, lane_at}
 use Rattle.claim_board.specs.declared.view.Lane.{Lane}
 use Rattle.machine_model.specs.Places.{Claimed, Decoded, JobPlace, place_at, own_answer}
 use Rattle.claim_board.specs.declared.cargo.Cargo.TheVariants.{Waiting, Finished}
 use Rattle.claim_board.specs.declared.view.Entry.{Entry}
 use Rattle.claim_board.specs.declared.view.Deed.TheVariants.{WasRead, WasClaimed, WasCompleted}
 use Rattle.claim_board.specs.History.{standing, places_after, IsHistory}
-use Rattle.claim_board.specs.Views.{SeatView, DidOnce, did, Holds, lane_at}
 use Rattle.claim_board.specs.Rule.{Slot, BoardState, ShowsPlace, BoardRule, Lies}
 use Rattle.claim_board.specs.Plays.{SeatState, tells_load, tells_claim, tells_complete}
 use Rattle.claim_board.proofs.Histories.{claim_here, complete_here, stays_held}

@@ -1,7 +1,6 @@
 -- What new seats know.
 use Rattle.std.specs.Prelude.{◌≡◌, ℕ, ◌<◌, [], false, true}
-use Rattle.claim_board.specs.Views.{lane}
-use Rattle.claim_board.specs.Views.{SeatView, lane_at}
+use Rattle.claim_board.specs.Views.{lane, SeatView, lane_at}
 use Rattle.claim_board.specs.Seats.{IsWorkerOf, worker_sees}
 use Rattle.claim_board.specs.declared.board.Board.{Board}
 use Rattle.claim_board.specs.declared.seats.WorkerSeat.{WorkerSeat}

@@ -4,7 +4,6 @@ use Rattle.std.specs.Prelude.{◌≡◌, ◌≢◌, ℕ, ◌+◌, ◌*◌, ◌%�
 use Rattle.std.specs.Prelude.{Some, None}
 use Rattle.atomic_table.specs.Table.{Me, Step}
 use Rattle.vc_slice.specs.declared.job.SliceJob.{SliceJob}
-use Rattle.vc_slice.specs.declared.done.SliceDone.{SliceDone}
 use Rattle.claim_board.specs.History.{waiting_word}
 use Rattle.claim_board.specs.Views.{SeatView, DidOnce, lane_at, lanes_back}
 use Rattle.claim_board.specs.declared.cargo.Cargo.{Cargo}

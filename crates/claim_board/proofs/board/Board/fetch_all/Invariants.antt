@@ -1,9 +1,8 @@
 use Rattle.std.proofs.Common.{◌≡◌, ◌<◌, ◌≤◌, ℕ, true, false, vec_len}
 use Rattle.std.specs.VecDeque.{deque_len, deque_capacity}
-use Rattle.claim_board.specs.Views.{lane}
+use Rattle.claim_board.specs.Views.{lane, lane_at}
 use Rattle.claim_board.specs.Counts.{idle_count, occurrences}
 use Rattle.claim_board.specs.Plays.{empty_slots}
-use Rattle.claim_board.specs.Views.{lane_at}
 use Rattle.claim_board.proofs.board.Board.fetch_all.Given as goal
 
 abbrev pub invariant-loop-place : goal.invariant-loop-place
