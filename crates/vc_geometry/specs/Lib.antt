@@ -1,1 +1,2 @@
+pub mod OfPlan
 pub mod Rectangles

@@ -1,14 +1,14 @@
 ghost use Rattle.std.specs.Prelude.{◌≡◌, ◌≤◌};
-ghost use Rattle.vc_types.specs.Subbands.{plane_width, plane_height, padded_width, padded_height};
-ghost use Rattle.vc_types.specs.TransformParameters.{parameters_of};
+ghost use Rattle.vc_types.specs.Subbands.{plane_width, plane_height};
+ghost use Rattle.vc_types.specs.OfPlan.{padded_height, padded_width};
 
 use vc_types::{Component, Plan, padded as padded_side};
 
 /// The width and height of a component's plane, padded up to multiples of 2^(depth + depth_ho) and 2^depth (ST
 /// 2042-1, subband data dimensions).
 pub fn padded(plan: &Plan, c: Component) -> (u32, u32)
-    ensures width { result.0 ≡ padded_width (parameters_of plan.now) c }
-    ensures height { result.1 ≡ padded_height (parameters_of plan.now) c }
+    ensures width { result.0 ≡ padded_width plan.now c }
+    ensures height { result.1 ≡ padded_height plan.now c }
     ensures range { (1 ≤ result.0) × (result.0 ≤ 8192) × (1 ≤ result.1) × (result.1 ≤ 8192) }
 {
     let (width, height) = size(plan, c);

@@ -1,8 +1,6 @@
 ghost use Rattle.std.specs.Prelude.{◌≤◌, ◌<◌, length};
-ghost use Rattle.vc_types.specs.Quantisation.{subband_count};
-ghost use Rattle.vc_types.specs.Subbands.{slice_count};
-ghost use Rattle.vc_types.specs.TransformParameters.{parameters_of};
-ghost use Rattle.vc_geometry.specs.Rectangles.{AreSliceRectangles};
+ghost use Rattle.vc_geometry.specs.OfPlan.{AreSliceRectangles};
+ghost use Rattle.vc_types.specs.OfPlan.{band_count, slice_count};
 
 use crate::padding::padded;
 use crate::slices::place_of_slice;
@@ -11,9 +9,9 @@ use vc_types::{Component, Plan, Rect};
 
 /// The parts of all subbands, in their order, that belong to a slice: each as `slice_rect` gives it.
 pub fn slice_rects(plan: &Plan, c: Component, slice: u32, rects: &mut [Rect])
-    requires slice { slice < slice_count (parameters_of plan.now) }
-    requires room { subband_count plan.now.depth_ho plan.now.depth ≤ length rects.old }
-    ensures { AreSliceRectangles (parameters_of plan.now) c slice rects.new }
+    requires slice { slice < slice_count plan.now }
+    requires room { band_count plan.now ≤ length rects.old }
+    ensures { AreSliceRectangles plan.now c slice rects.new }
 {
     let (width, height) = padded(plan, c);
     let (column, row) = place_of_slice(plan, slice);

@@ -1,6 +1,5 @@
 ghost use Rattle.std.specs.Prelude.{◌≡◌, ◌+◌, ◌*◌, ◌^◌, ◌<◌, ◌≤◌};
-ghost use Rattle.vc_types.specs.Subbands.{slice_count, slice_coefficient_count, coefficient_place, padded_width, padded_height};
-ghost use Rattle.vc_types.specs.TransformParameters.{parameters_of};
+ghost use Rattle.vc_types.specs.OfPlan.{coefficient_place, padded_height, padded_width, slice_coefficient_count, slice_count};
 
 use crate::slices::slice_rect;
 use crate::subbands::bands;
@@ -9,11 +8,11 @@ use vc_types::{Component, Plan};
 /// The column and row in a component's padded grid of coefficient number `i` of a slice: the subbands in order, and in each
 /// the slice's rectangle row by row. To visit them all, walk the rectangles of `slice_rect`.
 pub fn place_of(plan: &Plan, c: Component, slice: u32, i: u32) -> (u32, u32)
-    requires slice { slice < slice_count (parameters_of plan.now) }
-    requires number { i < slice_coefficient_count (parameters_of plan.now) c slice }
-    ensures value { result ≡ coefficient_place (parameters_of plan.now) c slice i }
-    ensures column { result.0 < padded_width (parameters_of plan.now) c }
-    ensures row { result.1 < padded_height (parameters_of plan.now) c }
+    requires slice { slice < slice_count plan.now }
+    requires number { i < slice_coefficient_count plan.now c slice }
+    ensures value { result ≡ coefficient_place plan.now c slice i }
+    ensures column { result.0 < padded_width plan.now c }
+    ensures row { result.1 < padded_height plan.now c }
     ensures range { (result.0 < 8192) × (result.1 < 8192) }
 {
     let mut left = i;

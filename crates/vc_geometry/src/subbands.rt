@@ -1,7 +1,7 @@
 ghost use Rattle.std.specs.Prelude.{◌≡◌, ℕ, ◌+◌, ◌-◌, ◌*◌, ◌/◌, ◌^◌, ◌<◌, ◌≤◌, length};
 ghost use Rattle.vc_types.specs.Quantisation.{subband_count};
-ghost use Rattle.vc_types.specs.Subbands.{subbands, subband_at, subband_rectangle, level_side, rect, nested, padded_width, padded_height};
-ghost use Rattle.vc_types.specs.TransformParameters.{parameters_of};
+ghost use Rattle.vc_types.specs.Subbands.{subbands, subband_at, level_side, rect, nested};
+ghost use Rattle.vc_types.specs.OfPlan.{band_count, padded_height, padded_width, subband_rectangle};
 
 use crate::padding::padded;
 use vc_types::{Component, Plan, Rect};
@@ -9,7 +9,7 @@ use vc_types::{Component, Plan, Rect};
 /// How many subbands a component has: LL, then H of each level across alone, then HL, LH and HH of each level both ways.
 pub fn bands(plan: &Plan) -> u32
     ensures value { result ≡ length (subbands plan.now.depth_ho plan.now.depth) }
-    ensures count { result ≡ subband_count plan.now.depth_ho plan.now.depth }
+    ensures count { result ≡ band_count plan.now }
     ensures range { (4 ≤ result) × (result ≤ 16) }
 {
     1 + u32::from(plan.depth_ho) + 3 * u32::from(plan.depth)
@@ -17,11 +17,10 @@ pub fn bands(plan: &Plan) -> u32
 
 /// Where subband number `b` stands in a component's padded grid (ST 2042-1, subband data dimensions).
 pub fn band(plan: &Plan, c: Component, b: u32) -> Rect
-    requires number { b < subband_count plan.now.depth_ho plan.now.depth }
-    ensures value { result ≡ subband_rectangle (parameters_of plan.now) c
-        (subband_at plan.now.depth_ho plan.now.depth b) }
-    ensures right { result.x + result.width ≤ padded_width (parameters_of plan.now) c }
-    ensures bottom { result.y + result.height ≤ padded_height (parameters_of plan.now) c }
+    requires number { b < band_count plan.now }
+    ensures value { result ≡ subband_rectangle plan.now c b }
+    ensures right { result.x + result.width ≤ padded_width plan.now c }
+    ensures bottom { result.y + result.height ≤ padded_height plan.now c }
     ensures range { (result.x + result.width ≤ 8192) × (result.y + result.height ≤ 8192) }
 {
     let (width, height) = padded(plan, c);
@@ -30,14 +29,13 @@ pub fn band(plan: &Plan, c: Component, b: u32) -> Rect
 
 // The same, where the size of the padded grid is at hand.
 pub(crate) fn band_in(plan: &Plan, c: Component, width: u32, height: u32, b: u32) -> Rect
-    requires number { b < subband_count plan.now.depth_ho plan.now.depth }
-    requires width { width ≡ padded_width (parameters_of plan.now) c }
-    requires height { height ≡ padded_height (parameters_of plan.now) c }
+    requires number { b < band_count plan.now }
+    requires width { width ≡ padded_width plan.now c }
+    requires height { height ≡ padded_height plan.now c }
     requires range { (width ≤ 8192) × (height ≤ 8192) }
-    ensures value { result ≡ subband_rectangle (parameters_of plan.now) c
-        (subband_at plan.now.depth_ho plan.now.depth b) }
-    ensures right { result.x + result.width ≤ padded_width (parameters_of plan.now) c }
-    ensures bottom { result.y + result.height ≤ padded_height (parameters_of plan.now) c }
+    ensures value { result ≡ subband_rectangle plan.now c b }
+    ensures right { result.x + result.width ≤ padded_width plan.now c }
+    ensures bottom { result.y + result.height ≤ padded_height plan.now c }
     ensures range { (result.x + result.width ≤ 8192) × (result.y + result.height ≤ 8192) }
 {
     let (across, depth) = (u32::from(plan.depth_ho), u32::from(plan.depth));
