@@ -34,6 +34,5 @@ pub mod EarlyDatagrams
 pub mod EarlyEnd
 pub mod Following
 pub mod Exchanges
-pub mod ReceiverRows
 pub mod WholeBooks
 pub mod WholePictures

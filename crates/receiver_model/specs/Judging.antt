@@ -1,23 +1,18 @@
 -- How a receiver judges a datagram, and what it keeps of it (this project's profile of RFC 8450).
-use Rattle.std.specs.Prelude.{ℕ, ◌==◌, ◌&&◌, ◌||◌, if◌then◌else◌, is_some, List}
-use Rattle.std.specs.Prelude.{true, Option, Some, None, Result, Ok, Err}
+use Rattle.std.specs.Prelude.{ℕ, ◌||◌, List, true, Option, Some, None, Result}
 use Rattle.std.specs.Option.{option_map}
-use Rattle.link_model.specs.Judgement.{refusal_outcome, early_outcome, header_outcome, with_outcome}
-use Rattle.link_model.specs.Packets.{PayloadValue, Header, End, Skip, Params, Slices}
-use Rattle.link_model.specs.Session.{Received, received, DatagramRefusal, Session, is_other}
-use Rattle.link_model.specs.Session.{session_by, begins, ends, Fragment, fragment_in}
-use Rattle.link_model.specs.Session.{params_fragment, slices_fragment}
+use Rattle.link_model.specs.Judgement.{KnownSession, judged_value, judged_received, judgement, with_outcome}
+use Rattle.link_model.specs.Packets.{PayloadValue}
+use Rattle.link_model.specs.Session.{Received, received, DatagramRefusal, Session, opens_over}
+use Rattle.link_model.specs.Session.{begins, ends, Fragment, fragment_in}
 use Rattle.link_model.specs.Windows.{Window, window_enters, window_outcome, finishes}
 use Rattle.link_model.specs.declared.outcome.Outcome.{Outcome}
-use Rattle.link_model.specs.declared.outcome.Outcome.TheVariants as outcomes
-use Rattle.vc_types.specs.SequenceHeader.{coded_header}
 use Rattle.receiver_model.specs.Receptions.{StandingSession, Reception}
 
 -- ---- the session that a datagram opens
 
 abbrev pub opens_from : StandingSession → Option Session → Option Session
-opens_from st None = None
-opens_from st (Some t) = if st.has_ended && is_other st.session t then Some t else None
+opens_from st o = opens_over st.session st.has_ended o
 
 -- the first one any, a later one where the one that stands has ended and it is another
 abbrev pub opens_after : Option StandingSession → Option Session → Option Session
@@ -29,26 +24,23 @@ session_opened r datagram = opens_after r.standing (begins datagram)
 
 -- ---- its outcome
 
+-- what a window knows of its session
+abbrev pub known_by_window : StandingSession → KnownSession
+known_by_window st = record {
+  session = st.session;
+  has_ended = st.has_ended;
+  fragment = window_outcome st.window;
+}
+
 -- from the source of the session that stands
 abbrev pub standing_outcome : StandingSession → PayloadValue → Outcome
-standing_outcome st (Header high from body) =
-    header_outcome st.session.sequence (coded_header body)
-standing_outcome st (End high) = outcomes.End
-standing_outcome st (Skip high code) = outcomes.Skipped
-standing_outcome st (Params head from body) =
-    window_outcome st.window (params_fragment head body)
-standing_outcome st (Slices head count x y from body) =
-    window_outcome st.window (slices_fragment head count x y body)
+standing_outcome st value = judged_value (known_by_window st) value
 
 abbrev pub outcome_from : Option StandingSession → Received → Outcome
-outcome_from None d = early_outcome d.value
-outcome_from (Some st) d =
-    if is_some (opens_from st (session_by d.ssrc d.value)) then outcomes.HeaderNew
-    else (if d.ssrc == st.session.ssrc then standing_outcome st d.value else outcomes.Foreign)
+outcome_from standing d = judged_received (option_map known_by_window standing) d
 
 abbrev pub outcome_by : Option StandingSession → Result Received DatagramRefusal → Outcome
-outcome_by standing (Ok d) = outcome_from standing d
-outcome_by standing (Err refusal) = refusal_outcome refusal
+outcome_by standing r = judgement (option_map known_by_window standing) r
 
 unfoldable pub judged : Reception → List ℕ → Outcome
 judged r datagram = outcome_by r.standing (received datagram)
