@@ -7,7 +7,5 @@ mod ThreeParts
 mod Judged
 mod FirstSlices
 mod PlanFacts
-mod SmallPicture
-mod WidePicture
 mod BandParts
 mod CopiedSlices
