@@ -1,13 +1,13 @@
 -- Calls of places one after another, none of which starts workers.
-use Rattle.std.proofs.Common.{◌≡◌, ℕ, List, [], ◌∷◌, refl, Option, Ok, Err, sym, subst}
+use Rattle.std.proofs.Common.{◌≡◌, ℕ, List, [], ◌∷◌, refl, Option, Ok, Err, sym, subst, ◌∙◌}
 use Rattle.std.specs.Prelude.{Result, IfOk, OnErr}
 use Rattle.machine_model.specs.Places.{Job}
-use Rattle.receiver_model.specs.Receptions.{Reception}
-use Rattle.link_receiver.specs.Exchanged.{IsExchanged}
+use Rattle.receiver_model.specs.Receptions.{Reception, SliceOut}
+use Rattle.link_receiver.specs.Exchanged.{IsExchanged, KeepsPlaces}
 use Rattle.link_receiver.specs.HeardLists.{AskedPlaces}
 use Rattle.link_receiver.specs.Offers.{IsOneOffer, proposed_in}
 pub use Rattle.link_slices.proofs.Growing.{grows_none, grows_twice}
-use Rattle.link_slices.specs.Calls.{PlaceCall, Puts, Takes, told_of, exchanges_of}
+use Rattle.link_slices.specs.Calls.{PlaceCall, PlacesAreBelow, Puts, Takes, told_of, exchanges_of}
 use Rattle.vc_slice.specs.Asked.{Told, Grows, nothing_told, told_more, taking}
 use Rattle.vc_slice.specs.declared.done.SliceDone.{SliceDone}
 use Rattle.vc_slice.specs.declared.job.SliceJob.{SliceJob}
@@ -48,3 +48,17 @@ pub asked_put : {X : Type 0} (told : X → Option Told) (x y : X) {S : Type 0} (
 asked_put told x y s t (Ok back) old new job h e = asked_calls (told x) (told y) old new h.0 h.1
 asked_put told x y s t (Err fault) old new job h e =
     subst (λ z. AskedPlaces (told x) (told z)) (sym e.1) (asked_none (told x))
+
+-- ---- with the bound, and what is out
+
+module _ {P : Type 0} {told : P → Option Told} {bound : P → ℕ} {a : P} {out : List SliceOut} where
+  pub keeps_none : PlacesAreBelow (bound a) out → KeepsPlaces told bound a a out
+  keeps_none below = record { asked = asked_none (told a); same_bound = refl; below = below }
+
+  pub keeps_twice : {b c : P} {later : List SliceOut} → KeepsPlaces told bound a b out
+      → KeepsPlaces told bound b c later → KeepsPlaces told bound a c later
+  keeps_twice {b} {c} first second = record {
+    asked = asked_twice (told a) (told b) (told c) first.asked second.asked;
+    same_bound = second.same_bound ∙ first.same_bound;
+    below = second.below;
+  }

@@ -1,6 +1,6 @@
 -- Calls of places, by the steps that make them.
-use Rattle.std.proofs.Common.{◌≡◌, ℕ, suc, ◌+◌, ◌<◌, Bool, true, List, [], ◌∷◌, ◌++◌, length, take, get_or, Option, Some, None, Result, Ok, Err, refl, ap, sym, ◌∙◌, subst, append-nil, rules, arith}
-use Rattle.std.proofs.lemmas.List.{take_more, map-append}
+use Rattle.std.proofs.Common.{◌≡◌, ℕ, suc, Bool, true, List, [], ◌∷◌, ◌++◌, take, Option, Some, None, Result, Ok, Err, refl, ap, sym, ◌∙◌, subst, append-nil, rules, arith}
+use Rattle.std.proofs.lemmas.List.{map-append}
 use Rattle.std.specs.Prelude.{map, filter, OnOk, is_some}
 use Rattle.std.specs.Option.{option_and_then}
 use Rattle.std.proofs.lemmas.Bool.{false≢true}
@@ -102,27 +102,20 @@ abbrev pub Offers : Option Told → Option Told → Reception → Reception → 
 Offers a b old new jobs = (calls : List PlaceCall) × IsExchanged a b old new calls
     × AreOffersOf (map job_of jobs) (proposed_in (exchanges_of calls))
 
-pub offers_step : (a b c : Option Told) (r s t : Reception) (jobs : List SliceJob) (i : ℕ)
-    (job copy : SliceJob) → i < length jobs → job ≡ get_or jobs i job → copy ≡ job
-    → Offers a b r s (take i jobs)
+pub offers_step : (a b c : Option Told) (r s t : Reception) (jobs : List SliceJob) (job : SliceJob)
+    → Offers a b r s jobs
     → ((calls : List PlaceCall) × IsExchanged b c s t calls
-    × IsOfferOf (job_of copy) (proposed_in (exchanges_of calls)))
-    → Offers a c r t (take (i + 1) jobs)
-offers_step a b c r s t jobs i job copy inside is same h m = (
+    × IsOfferOf (job_of job) (proposed_in (exchanges_of calls)))
+    → Offers a c r t (jobs ++ job ∷ [])
+offers_step a b c r s t jobs job h m = (
   h.0 ++ m.0,
   calls_then a b c r s t h.0 m.0 h.1 m.1,
-  subst (λ (l : List Job). AreOffersOf l (proposed_in (exchanges_of (h.0 ++ m.0)))) (sym longer)
-      (subst (AreOffersOf (map job_of (take i jobs) ++ job_of job ∷ []))
-      (sym (proposed_then h.0 m.0))
-      (offers_more (map job_of (take i jobs)) (proposed_in (exchanges_of h.0)) (job_of job)
-      (proposed_in (exchanges_of m.0)) h.2
-      (subst (λ (j : SliceJob). IsOfferOf (job_of j) (proposed_in (exchanges_of m.0))) same m.2))),
+  subst (λ (l : List Job). AreOffersOf l (proposed_in (exchanges_of (h.0 ++ m.0))))
+      (sym (map-append job_of jobs (job ∷ [])))
+      (subst (AreOffersOf (map job_of jobs ++ job_of job ∷ [])) (sym (proposed_then h.0 m.0))
+      (offers_more (map job_of jobs) (proposed_in (exchanges_of h.0)) (job_of job)
+      (proposed_in (exchanges_of m.0)) h.2 m.2)),
 )
-  where
-    longer : map job_of (take (i + 1) jobs) ≡ map job_of (take i jobs) ++ job_of job ∷ []
-    longer = ap (map job_of) (take_more jobs i job inside
-        ∙ ap (λ (j : SliceJob). take i jobs ++ j ∷ []) (sym is))
-        ∙ map-append job_of (take i jobs) (job ∷ [])
 
 -- ---- exchanges leave the session
 

@@ -25,6 +25,17 @@ pub record Outside : Type 0 where
   pub stream_before : Option WrittenStream
   pub stream_behind : Option WrittenStream
 
+abbrev pub outside_of : {P O : Type 0} → (P → Option Told) → (O → Option (List ℕ)) → P → P → O → O
+    → Option WrittenStream → Option WrittenStream → Outside
+outside_of told held places places_behind sink sink_behind stream stream_behind = record {
+  told_before = told places;
+  told_behind = told places_behind;
+  held_before = held sink;
+  held_behind = held sink_behind;
+  stream_before = stream;
+  stream_behind = stream_behind;
+}
+
 -- A datagram was taken, with these calls of places. Each slice that it brings was offered, and a
 -- second time only where it was handed back; where it lets a picture be released, the places of all
 -- slices that were out were asked; then the places of the released pictures were freed.

@@ -1,9 +1,10 @@
 -- Calls of places in which slices go out and come back.
-use Rattle.std.specs.Prelude.{◌≡◌, List, Option}
+use Rattle.std.specs.Prelude.{◌≡◌, ℕ, List, Option}
 use Rattle.receiver_model.specs.Exchanging.{all_exchanged, dones_in}
-use Rattle.receiver_model.specs.Receptions.{Reception}
+use Rattle.receiver_model.specs.Receptions.{Reception, SliceOut}
 use Rattle.receiver_model.specs.Standing.{AreDecodings}
-use Rattle.link_slices.specs.Calls.{PlaceCall, told_of, exchanges_of}
+use Rattle.link_receiver.specs.HeardLists.{AskedPlaces}
+use Rattle.link_slices.specs.Calls.{PlaceCall, PlacesAreBelow, told_of, exchanges_of}
 use Rattle.vc_slice.specs.Asked.{Told, Grows}
 
 -- The places tell of these calls and no others, and the receiver is as they leave it. Whatever was
@@ -13,3 +14,11 @@ pub record IsExchanged (before after : Option Told) (old new : Reception) (calls
   pub told : Grows before after (told_of calls)
   pub value : new ≡ all_exchanged old (exchanges_of calls)
   pub decodings : AreDecodings (dones_in (exchanges_of calls))
+
+-- Places, by what they tell and their bound, after calls that start no workers: the bound is as it
+-- was, and these slices are out, at places below it.
+pub record KeepsPlaces {P : Type 0} (told : P → Option Told) (bound : P → ℕ) (before after : P)
+    (out : List SliceOut) : Type 0 where
+  pub asked : AskedPlaces (told before) (told after)
+  pub same_bound : bound after ≡ bound before
+  pub below : PlacesAreBelow (bound after) out

@@ -3,8 +3,7 @@ ghost use Rattle.std.specs.Prelude.{length, map, IfSome};
 ghost use Rattle.std.specs.Option.{option_map};
 ghost use Rattle.receiver_model.specs.Exchanging.{is_wanted, takes_done};
 ghost use Rattle.receiver_model.specs.Releasing.{next_picture};
-ghost use Rattle.link_receiver.specs.Exchanged.{IsExchanged};
-ghost use Rattle.link_receiver.specs.HeardLists.{AskedPlaces};
+ghost use Rattle.link_receiver.specs.Exchanged.{IsExchanged, KeepsPlaces};
 ghost use Rattle.link_receiver.specs.Offers.{AreOffersOf, IsOfferOf, IsOneOffer, MayOffer, proposed_in};
 ghost use Rattle.link_receiver.specs.Offers.{are_asked};
 ghost use Rattle.link_receiver.specs.Offers.{asked_in, asked_at};
@@ -17,30 +16,28 @@ use link_window::Released;
 use vc_slice::{Places, SliceDone, SliceJob};
 use vc_types::NoMemory;
 
+#[tactic(auto, using(crate::proofs::Asked::keeps_none, crate::proofs::Asked::keeps_twice))]
 impl Reception {
     /// Offers jobs to places, and takes back what is decoded: where a job is handed back, and where
     /// a picture may be released.
     pub(crate) fn exchange<P: Places>(
         &mut self,
-        jobs: &[SliceJob],
+        jobs: Vec<SliceJob>,
         places: &mut P,
     ) -> Result<(), NoMemory>
         requires below { PlacesAreBelow (P.bound places.old) self.old.out }
         ensures exchanged { OnOk result ((calls : List PlaceCall)
             × IsExchanged (P.told places.old) (P.told places.new) self.old self.new calls
-            × AreOffersOf (map job_of jobs.now) (proposed_in (exchanges_of calls))
+            × AreOffersOf (map job_of jobs.items) (proposed_in (exchanges_of calls))
             × (is_some (next_picture self.old) ≡ true
             → are_asked self.old.out (exchanges_of calls) ≡ true)) }
-        ensures asked { AskedPlaces (P.told places.old) (P.told places.new) }
-        ensures bound { P.bound places.new ≡ P.bound places.old }
-        ensures below { PlacesAreBelow (P.bound places.new) self.new.out }
+        ensures places { KeepsPlaces P.told P.bound places.old places.new self.new.out }
     {
         self.offer_all(jobs, places)?;
         self.take_back(places)
     }
 
     /// Takes back what is decoded, if a picture may be released.
-    #[tactic(auto, using(crate::proofs::Asked::asked_none))]
     pub(crate) fn take_back<P: Places>(&mut self, places: &mut P) -> Result<(), NoMemory>
         requires below { PlacesAreBelow (P.bound places.old) self.old.out }
         ensures exchanged { OnOk result ((calls : List PlaceCall)
@@ -48,9 +45,7 @@ impl Reception {
             × (proposed_in (exchanges_of calls) ≡ [])
             × (is_some (next_picture self.old) ≡ true
             → are_asked self.old.out (exchanges_of calls) ≡ true)) }
-        ensures asked { AskedPlaces (P.told places.old) (P.told places.new) }
-        ensures bound { P.bound places.new ≡ P.bound places.old }
-        ensures below { PlacesAreBelow (P.bound places.new) self.new.out }
+        ensures places { KeepsPlaces P.told P.bound places.old places.new self.new.out }
     {
         let Some(_next) = self.next_release() else {
             return Ok(());
@@ -59,19 +54,16 @@ impl Reception {
         Ok(())
     }
 
-    fn offer_all<P: Places>(&mut self, jobs: &[SliceJob], places: &mut P) -> Result<(), NoMemory>
+    fn offer_all<P: Places>(&mut self, jobs: Vec<SliceJob>, places: &mut P) -> Result<(), NoMemory>
         requires below { PlacesAreBelow (P.bound places.old) self.old.out }
         ensures exchanged { OnOk result ((calls : List PlaceCall)
             × IsExchanged (P.told places.old) (P.told places.new) self.old self.new calls
-            × AreOffersOf (map job_of jobs.now) (proposed_in (exchanges_of calls))) }
-        ensures asked { AskedPlaces (P.told places.old) (P.told places.new) }
-        ensures bound { P.bound places.new ≡ P.bound places.old }
-        ensures below { PlacesAreBelow (P.bound places.new) self.new.out }
+            × AreOffersOf (map job_of jobs.items) (proposed_in (exchanges_of calls))) }
+        ensures places { KeepsPlaces P.told P.bound places.old places.new self.new.out }
     {
         let mut may_come = true;
         for job in jobs {
-            let copy = job.copy()?;
-            may_come = self.offer(copy, may_come, places)?;
+            may_come = self.offer(job, may_come, places)?;
         }
         Ok(())
     }
@@ -88,9 +80,7 @@ impl Reception {
         ensures exchanged { OnOk result ((calls : List PlaceCall)
             × IsExchanged (P.told places.old) (P.told places.new) self.old self.new calls
             × IsOfferOf (job_of job) (proposed_in (exchanges_of calls))) }
-        ensures asked { AskedPlaces (P.told places.old) (P.told places.new) }
-        ensures bound { P.bound places.new ≡ P.bound places.old }
-        ensures below { PlacesAreBelow (P.bound places.new) self.new.out }
+        ensures places { KeepsPlaces P.told P.bound places.old places.new self.new.out }
     {
         let Some(job) = self.put(job, places)? else {
             return Ok(may_come);
@@ -107,9 +97,7 @@ impl Reception {
         ensures exchanged { OnOk result ((calls : List PlaceCall)
             × IsExchanged (P.told places.old) (P.told places.new) self.old self.new calls
             × MayOffer (job_of job) (proposed_in (exchanges_of calls))) }
-        ensures asked { AskedPlaces (P.told places.old) (P.told places.new) }
-        ensures bound { P.bound places.new ≡ P.bound places.old }
-        ensures below { PlacesAreBelow (P.bound places.new) self.new.out }
+        ensures places { KeepsPlaces P.told P.bound places.old places.new self.new.out }
     {
         if !self.ask_all(places)? {
             return Ok(false);
@@ -129,9 +117,7 @@ impl Reception {
             × IsExchanged (P.told places.old) (P.told places.new) self.old self.new calls
             × IsOneOffer (job_of job) back (proposed_in (exchanges_of calls))) }
         ensures back { IfOk result (λ back. IfSome back (λ same. same ≡ job)) }
-        ensures asked { AskedPlaces (P.told places.old) (P.told places.new) }
-        ensures bound { P.bound places.new ≡ P.bound places.old }
-        ensures below { PlacesAreBelow (P.bound places.new) self.new.out }
+        ensures places { KeepsPlaces P.told P.bound places.old places.new self.new.out }
     {
         self.out.offer(job, places)
     }
@@ -143,9 +129,7 @@ impl Reception {
             × IsExchanged (P.told places.old) (P.told places.new) self.old self.new calls
             × (proposed_in (exchanges_of calls) ≡ [])
             × (are_asked self.old.out (exchanges_of calls) ≡ true)) }
-        ensures asked { AskedPlaces (P.told places.old) (P.told places.new) }
-        ensures bound { P.bound places.new ≡ P.bound places.old }
-        ensures below { PlacesAreBelow (P.bound places.new) self.new.out }
+        ensures places { KeepsPlaces P.told P.bound places.old places.new self.new.out }
     {
         let mut came = false;
         for i in (0..self.out_count()).rev() {
@@ -167,9 +151,7 @@ impl Reception {
             × IsExchanged (P.told places.old) (P.told places.new) self.old self.new calls
             × (proposed_in (exchanges_of calls) ≡ [])
             × (asked_in (exchanges_of calls) ≡ asked_at self.old.out i)) }
-        ensures asked { AskedPlaces (P.told places.old) (P.told places.new) }
-        ensures bound { P.bound places.new ≡ P.bound places.old }
-        ensures below { PlacesAreBelow (P.bound places.new) self.new.out }
+        ensures places { KeepsPlaces P.told P.bound places.old places.new self.new.out }
     {
         if i >= self.out.count() {
             return Ok(false);

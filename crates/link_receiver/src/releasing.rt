@@ -2,7 +2,7 @@ ghost use Rattle.std.specs.Prelude.{◌≡◌, OnOk, OnErr, Some, Err};
 ghost use Rattle.receiver_model.specs.Releasing.{releases_picture_of};
 ghost use Rattle.receiver_model.specs.Releasing.{freed_places, next_picture};
 ghost use Rattle.receiver_model.specs.Releasing.{book_count};
-ghost use Rattle.link_receiver.specs.HeardLists.{AskedPlaces};
+ghost use Rattle.link_receiver.specs.Exchanged.{KeepsPlaces};
 ghost use Rattle.link_receiver.specs.Released.{AreReleased};
 ghost use Rattle.link_receiver.specs.States.{WaitsForSecond};
 ghost use Rattle.link_receiver.specs.declared.fault.StepFault.{StepFault};
@@ -23,6 +23,7 @@ use link_window::Released;
 use vc_ports::Sink;
 use vc_slice::Places;
 
+#[tactic(auto, using(crate::proofs::Asked::keeps_none, crate::proofs::Asked::keeps_twice))]
 impl Reception {
     /// Releases each picture that may be released.
     pub(crate) fn release_all<P: Places, O: Sink>(
@@ -40,9 +41,7 @@ impl Reception {
             (all_released_output stream.old self.old)) }
         ensures cause { HasCause (O.faults sink.old) (O.faults sink.new)
             (result ≡ Err StepFault.WriteFault) }
-        ensures asked { AskedPlaces (P.told places.old) (P.told places.new) }
-        ensures bound { P.bound places.new ≡ P.bound places.old }
-        ensures below { PlacesAreBelow (P.bound places.new) self.new.out }
+        ensures places { KeepsPlaces P.told P.bound places.old places.new self.new.out }
     {
         for _ in 0..self.open_pictures() {
             let Some(picture) = self.next_release() else {
@@ -86,9 +85,7 @@ impl Reception {
             (released_output stream.old self.old (releasable_of picture))) }
         ensures cause { HasCause (O.faults sink.old) (O.faults sink.new)
             (result ≡ Err StepFault.WriteFault) }
-        ensures asked { AskedPlaces (P.told places.old) (P.told places.new) }
-        ensures bound { P.bound places.new ≡ P.bound places.old }
-        ensures below { PlacesAreBelow (P.bound places.new) self.new.out }
+        ensures places { KeepsPlaces P.told P.bound places.old places.new self.new.out }
     {
         let Some(standing) = &mut self.standing else {
             unreachable!()

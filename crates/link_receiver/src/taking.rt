@@ -2,8 +2,8 @@ ghost use Rattle.std.specs.Prelude.{◌≡◌, List, true, IfOk, OnOk, OnErr, Er
 ghost use Rattle.std.specs.Option.{option_map};
 ghost use Rattle.receiver_model.specs.Exchanging.{Exchange, dones_in};
 ghost use Rattle.receiver_model.specs.Standing.{AreDecodings};
-ghost use Rattle.link_receiver.specs.Entered.{IsEntered, IsDrained};
-ghost use Rattle.link_receiver.specs.HeardLists.{AskedPlaces};
+ghost use Rattle.link_receiver.specs.Entered.{IsEntered, IsDrained, outside_of};
+ghost use Rattle.link_receiver.specs.Exchanged.{KeepsPlaces};
 ghost use Rattle.link_receiver.specs.States.{GoesOn, WaitsForSecond};
 ghost use Rattle.link_receiver.specs.declared.fault.StepFault.{StepFault};
 ghost use Rattle.link_window.specs.Openings.{session_of};
@@ -23,9 +23,9 @@ use vc_ports::Sink;
 use vc_slice::Places;
 use vc_types::NoMemory;
 
+#[tactic(auto, using(crate::proofs::Asked::keeps_none, crate::proofs::Asked::keeps_twice))]
 impl Reception {
     /// Takes a datagram: keeps it, exchanges slices, releases pictures, and opens a session.
-    #[tactic(auto, using(crate::proofs::Asked::asked_none))]
     pub(crate) fn enter<P: Places, O: Sink>(
         &mut self,
         stream: &mut Option<StreamOutput>,
@@ -36,14 +36,8 @@ impl Reception {
         requires goes_on { GoesOn self.old }
         requires below { PlacesAreBelow (P.bound places.old) self.old.out }
         ensures entered { IfOk result (λ outcome. (calls : List PlaceCall) × IsEntered
-            (record {
-              told_before = P.told places.old;
-              told_behind = P.told places.new;
-              held_before = O.held sink.old;
-              held_behind = O.held sink.new;
-              stream_before = stream.old;
-              stream_behind = stream.new;
-            }) self.old self.new datagram.now outcome calls) }
+            (outside_of P.told O.held places.old places.new sink.old sink.new stream.old stream.new)
+            self.old self.new datagram.now outcome calls) }
         ensures goes_on { OnOk result (GoesOn self.new) }
         ensures has_ended { OnOk result (self.new.has_ended ≡ self.old.has_ended) }
         ensures failed { OnErr result ((exchanges : List Exchange)
@@ -52,13 +46,11 @@ impl Reception {
             (datagram_output stream.old self.old datagram.now exchanges)) }
         ensures cause { HasCause (O.faults sink.old) (O.faults sink.new)
             (result ≡ Err StepFault.WriteFault) }
-        ensures asked { AskedPlaces (P.told places.old) (P.told places.new) }
-        ensures bound { P.bound places.new ≡ P.bound places.old }
-        ensures below { PlacesAreBelow (P.bound places.new) self.new.out }
+        ensures places { KeepsPlaces P.told P.bound places.old places.new self.new.out }
     {
         let is_first = self.is_idle();
         let kept = self.keep(datagram)?;
-        self.exchange(&kept.jobs, places)?;
+        self.exchange(kept.jobs, places)?;
         self.release_all(stream, places, sink)?;
         open_stream(stream, &kept.opening, is_first, datagram)?;
         self.open(kept.opening)?;
@@ -75,14 +67,8 @@ impl Reception {
         requires waiting { WaitsForSecond self.old.standing self.old.field }
         requires below { PlacesAreBelow (P.bound places.old) self.old.out }
         ensures drained { OnOk result ((calls : List PlaceCall) × IsDrained
-            (record {
-              told_before = P.told places.old;
-              told_behind = P.told places.new;
-              held_before = O.held sink.old;
-              held_behind = O.held sink.new;
-              stream_before = stream.old;
-              stream_behind = stream.new;
-            }) self.old self.new calls) }
+            (outside_of P.told O.held places.old places.new sink.old sink.new stream.old stream.new)
+            self.old self.new calls) }
         ensures has_ended { OnOk result (self.new.has_ended ≡ true) }
         ensures failed { OnErr result ((exchanges : List Exchange)
             × AreDecodings (dones_in exchanges)
@@ -90,9 +76,7 @@ impl Reception {
             (end_output stream.old self.old exchanges)) }
         ensures cause { HasCause (O.faults sink.old) (O.faults sink.new)
             (result ≡ Err StepFault.WriteFault) }
-        ensures asked { AskedPlaces (P.told places.old) (P.told places.new) }
-        ensures bound { P.bound places.new ≡ P.bound places.old }
-        ensures below { PlacesAreBelow (P.bound places.new) self.new.out }
+        ensures places { KeepsPlaces P.told P.bound places.old places.new self.new.out }
     {
         self.end_input();
         self.take_back(places)?;

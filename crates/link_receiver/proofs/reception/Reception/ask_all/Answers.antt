@@ -1,5 +1,5 @@
-use Rattle.std.proofs.Common.{◌≡◌, ◌-◌, ◌∙◌, ℕ, suc, [], take, refl, subst, sym, arith}
-use Rattle.link_receiver.proofs.Asked.{asked_none, asked_twice}
+use Rattle.std.proofs.Common.{◌≡◌, ◌-◌, ℕ, suc, [], take, refl, subst, sym, arith}
+use Rattle.link_receiver.proofs.Asked.{keeps_none, keeps_twice}
 use Rattle.link_receiver.proofs.CallSteps.{ask_step, asked_last}
 use Rattle.link_receiver.proofs.Exchanges.{no_call}
 use Rattle.link_receiver.proofs.Stays.{AreAskedOrIn, none_asked}
@@ -14,9 +14,7 @@ loop-i-init g c = record {
     subst (λ (n : ℕ). AreAskedOrIn c.args.self.now.out [] (take n c.args.self.now.out))
         (sym c.out_count-i.ensures) (none_asked c.args.self.now.out),
   );
-  asked = asked_none _;
-  bound = refl;
-  below = c.requires.below;
+  places = keeps_none c.requires.below;
 }
 
 pub loop-i-preserved-then-branch : goal.loop-i-preserved-then-branch
@@ -25,9 +23,7 @@ loop-i-preserved-then-branch g c =
     record {
       exchanged = ask_step _ _ _ _ _ _ c.loop-i.i (c.loop-i.i - 1) e
           c.loop-i.invariant.exchanged c.in_ok-came.ensures.exchanged;
-      asked = asked_twice _ _ _ c.loop-i.invariant.asked c.ask.ensures.asked;
-      bound = c.ask.ensures.bound ∙ c.loop-i.invariant.bound;
-      below = c.ask.ensures.below;
+      places = keeps_twice c.loop-i.invariant.places c.ask.ensures.places;
     }
 
 pub loop-i-preserved : goal.loop-i-preserved
@@ -36,16 +32,10 @@ loop-i-preserved g c =
     record {
       exchanged = ask_step _ _ _ _ _ _ c.loop-i.i (c.loop-i.i - 1) e
           c.loop-i.invariant.exchanged c.in_ok-came.ensures.exchanged;
-      asked = asked_twice _ _ _ c.loop-i.invariant.asked c.ask.ensures.asked;
-      bound = c.ask.ensures.bound ∙ c.loop-i.invariant.bound;
-      below = c.ask.ensures.below;
+      places = keeps_twice c.loop-i.invariant.places c.ask.ensures.places;
     }
 
 pub returns-clause-exchanged : goal.returns-clause-exchanged
 returns-clause-exchanged g c =
     let e : c.loop-i.i ≡ 0 = omega arith in
     asked_last _ _ _ _ c.loop-i.i e c.loop-i.invariant.exchanged
-
-pub returns-in_err-came-clause-asked : goal.returns-in_err-came-clause-asked
-returns-in_err-came-clause-asked g c = asked_twice _ _ _ c.loop-i.invariant.asked
-    c.in_err-came.ensures.asked

@@ -1,9 +1,8 @@
 use Rattle.std.proofs.Common.{◌≡◌, [], List, take}
 use Rattle.link_receiver.proofs.Stays.{AreAskedOrIn}
-use Rattle.link_receiver.specs.Exchanged.{IsExchanged}
+use Rattle.link_receiver.specs.Exchanged.{IsExchanged, KeepsPlaces}
 use Rattle.link_receiver.specs.Offers.{asked_in, proposed_in}
-use Rattle.link_receiver.specs.HeardLists.{AskedPlaces}
-use Rattle.link_slices.specs.Calls.{PlaceCall, PlacesAreBelow, exchanges_of}
+use Rattle.link_slices.specs.Calls.{PlaceCall, exchanges_of}
 use Rattle.link_receiver.proofs.reception.Reception.ask_all.Given as goal
 
 abbrev pub invariant-loop-i : goal.invariant-loop-i
@@ -12,7 +11,5 @@ invariant-loop-i g l = record {
       × IsExchanged (g.P.Places.told l.fn.places) (g.P.Places.told l.places) l.fn.self l.self calls
       × (proposed_in (exchanges_of calls) ≡ [])
       × AreAskedOrIn l.fn.self.out (asked_in (exchanges_of calls)) (take l.i l.self.out);
-  asked : AskedPlaces (g.P.Places.told l.fn.places) (g.P.Places.told l.places);
-  bound : g.P.Places.bound l.places ≡ g.P.Places.bound l.fn.places;
-  below : PlacesAreBelow (g.P.Places.bound l.places) l.self.out;
+  places : KeepsPlaces g.P.Places.told g.P.Places.bound l.fn.places l.places l.self.out;
 }

@@ -1,13 +1,9 @@
 use Rattle.std.proofs.Common.{◌≤◌, ℕ, sym, subst}
-use Rattle.link_receiver.proofs.Asked.{asked_twice}
 use Rattle.link_receiver.proofs.Entering.{waits_exchanged, fails_early, fails_in, fails_released, size_released, goes_on_behind, has_ended_behind, enters}
 use Rattle.vc_types.proofs.Failures.{on_err}
 use Rattle.std.specs.Option.{option_map}
 use Rattle.link_window.specs.Openings.{session_of}
 use Rattle.link_receiver.proofs.reception.Reception.enter.Goals as goal
-
-pub returns-in_err-kept-clause-below : goal.returns-in_err-kept-clause-below
-returns-in_err-kept-clause-below g c = rw c.keep.ensures.out c.requires.below
 
 pub returns-in_err-kept-clause-failed : goal.returns-in_err-kept-clause-failed
 returns-in_err-kept-clause-failed g c = on_err _ _
@@ -39,23 +35,16 @@ returns-in_err-open-clause-failed g c = on_err _ _ (fails_released _ _ _
     c.in_ok-kept.ensures.value c.in_ok-exchange.ensures.exchanged
     c.in_ok-release_all.ensures.released)
 
-pub returns-in_err-open-clause-below : goal.returns-in_err-open-clause-below
-returns-in_err-open-clause-below g c = rw c.open.ensures.out c.release_all.ensures.below
-
 pub returns-in_err-open_stream-clause-failed : goal.returns-in_err-open_stream-clause-failed
 returns-in_err-open_stream-clause-failed g c = on_err _ _ (fails_released _ _ _
     c.in_ok-kept.ensures.value c.in_ok-exchange.ensures.exchanged
     c.in_ok-release_all.ensures.released)
 
-pub returns-in_err-open_stream-clause-asked : goal.returns-in_err-open_stream-clause-asked
-returns-in_err-open_stream-clause-asked g c = asked_twice _ _ _ c.in_ok-exchange.ensures.asked
-    c.in_ok-release_all.ensures.asked
-
 pub returns-clause-entered : goal.returns-clause-entered
 returns-clause-entered g c = enters _ _ _ c.in_ok-kept.ensures.value
     c.in_ok-exchange.ensures.exchanged
-    c.in_ok-release_all.ensures.released c.is_idle-is_first.ensures c.deref-2.ensures
-    (rw c.deref.ensures.value c.in_ok-kept.ensures.jobs) c.in_ok-kept.ensures.outcome
+    c.in_ok-release_all.ensures.released c.is_idle-is_first.ensures c.deref.ensures
+    c.in_ok-kept.ensures.jobs c.in_ok-kept.ensures.outcome
     c.in_ok-kept.ensures.opening c.in_ok-open.ensures.value c.in_ok-open_stream.ensures
 
 pub returns-clause-goes_on : goal.returns-clause-goes_on
@@ -68,15 +57,3 @@ pub returns-clause-has_ended : goal.returns-clause-has_ended
 returns-clause-has_ended g c = has_ended_behind _ _ _ c.in_ok-kept.ensures.value
     c.in_ok-exchange.ensures.exchanged c.in_ok-release_all.ensures.released
     (option_map session_of c.in_ok-kept.kept.opening) c.in_ok-open.ensures.value
-
-pub returns-in_err-release_all-clause-asked : goal.returns-in_err-release_all-clause-asked
-returns-in_err-release_all-clause-asked g c = asked_twice _ _ _ c.in_ok-exchange.ensures.asked
-    c.in_err-release_all.ensures.asked
-
-pub returns-in_err-open-clause-asked : goal.returns-in_err-open-clause-asked
-returns-in_err-open-clause-asked g c = asked_twice _ _ _ c.in_ok-exchange.ensures.asked
-    c.in_ok-release_all.ensures.asked
-
-pub returns-clause-asked : goal.returns-clause-asked
-returns-clause-asked g c = asked_twice _ _ _ c.in_ok-exchange.ensures.asked
-    c.in_ok-release_all.ensures.asked

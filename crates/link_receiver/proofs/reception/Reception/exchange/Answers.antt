@@ -1,11 +1,6 @@
-use Rattle.link_receiver.proofs.Asked.{asked_twice}
 use Rattle.link_receiver.proofs.CallSteps.{exchanges_then}
 use Rattle.link_receiver.proofs.reception.Reception.exchange.Goals as goal
 
 pub returns-clause-exchanged : goal.returns-clause-exchanged
-returns-clause-exchanged g c = exchanges_then c.take_back.result _ _ _ _ _ _ c.args.jobs.now
+returns-clause-exchanged g c = exchanges_then c.take_back.result _ _ _ _ _ _ c.args.jobs.items
     c.in_ok-offer_all.ensures.exchanged c.take_back.ensures.exchanged
-
-pub returns-clause-asked : goal.returns-clause-asked
-returns-clause-asked g c = asked_twice _ _ _ c.in_ok-offer_all.ensures.asked
-    c.take_back.ensures.asked

@@ -1,4 +1,3 @@
-use Rattle.link_receiver.proofs.Asked.{asked_twice}
 use Rattle.link_receiver.proofs.Entering.{waits_at_end, fails_at_end, fails_released_at_end, fails_last, ended_behind, drains}
 use Rattle.vc_types.proofs.Failures.{on_err}
 use Rattle.link_receiver.proofs.reception.Reception.finish.Goals as goal
@@ -17,25 +16,10 @@ returns-in_err-give_up_field-clause-failed g c = on_err _ _ (fails_released_at_e
     c.args.self.now c.end_input.ensures c.in_ok-take_back.ensures.exchanged
     c.in_ok-release_all.ensures.released)
 
-pub returns-in_err-give_up_field-clause-below : goal.returns-in_err-give_up_field-clause-below
-returns-in_err-give_up_field-clause-below g c =
-    rw c.give_up_field.ensures.out c.release_all.ensures.below
-
 pub returns-in_err-end_stream-clause-failed : goal.returns-in_err-end_stream-clause-failed
 returns-in_err-end_stream-clause-failed g c = on_err _ _ (fails_last c.args.self.now
     c.end_input.ensures c.in_ok-take_back.ensures.exchanged c.in_ok-release_all.ensures.released _
     c.in_err-end_stream.ensures.err)
-
-pub returns-in_err-end_stream-clause-below : goal.returns-in_err-end_stream-clause-below
-returns-in_err-end_stream-clause-below g c =
-    rw c.give_up_field.ensures.out c.release_all.ensures.below
-
-pub returns-in_err-end_stream-clause-asked : goal.returns-in_err-end_stream-clause-asked
-returns-in_err-end_stream-clause-asked g c = asked_twice _ _ _ c.in_ok-take_back.ensures.asked
-    c.in_ok-release_all.ensures.asked
-
-pub returns-clause-below : goal.returns-clause-below
-returns-clause-below g c = rw c.give_up_field.ensures.out c.release_all.ensures.below
 
 pub returns-clause-has_ended : goal.returns-clause-has_ended
 returns-clause-has_ended g c = ended_behind c.args.self.now c.end_input.ensures
@@ -46,15 +30,3 @@ pub returns-clause-drained : goal.returns-clause-drained
 returns-clause-drained g c = drains c.args.self.now c.end_input.ensures
     c.in_ok-take_back.ensures.exchanged c.in_ok-release_all.ensures.released
     c.in_ok-give_up_field.ensures.value _ c.in_ok-end_stream.ensures.written
-
-pub returns-in_err-release_all-clause-asked : goal.returns-in_err-release_all-clause-asked
-returns-in_err-release_all-clause-asked g c = asked_twice _ _ _ c.in_ok-take_back.ensures.asked
-    c.in_err-release_all.ensures.asked
-
-pub returns-in_err-give_up_field-clause-asked : goal.returns-in_err-give_up_field-clause-asked
-returns-in_err-give_up_field-clause-asked g c = asked_twice _ _ _ c.in_ok-take_back.ensures.asked
-    c.in_ok-release_all.ensures.asked
-
-pub returns-clause-asked : goal.returns-clause-asked
-returns-clause-asked g c = asked_twice _ _ _ c.in_ok-take_back.ensures.asked
-    c.in_ok-release_all.ensures.asked

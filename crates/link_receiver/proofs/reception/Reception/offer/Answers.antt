@@ -1,5 +1,4 @@
 use Rattle.std.proofs.Common.{arith}
-use Rattle.link_receiver.proofs.Asked.{asked_twice}
 use Rattle.link_receiver.proofs.CallSteps.{offer_calls}
 use Rattle.link_receiver.proofs.reception.Reception.offer.Goals as goal
 
@@ -13,7 +12,3 @@ returns-clause-exchanged g c =
       c.in_ok-job.ensures.exchanged,
       c.offer_again.ensures.exchanged,
     )
-
-pub returns-clause-asked : goal.returns-clause-asked
-returns-clause-asked g c = asked_twice _ _ _ c.in_ok-job.ensures.asked
-    c.offer_again.ensures.asked

@@ -1,5 +1,7 @@
-use Rattle.std.proofs.Common.{◌∙◌, [], refl}
-use Rattle.link_receiver.proofs.Asked.{asked_none, asked_twice}
+use Rattle.std.proofs.Common.{[], refl, rules, map-id}
+use Rattle.std.proofs.lemmas.Iterator.Adapters.{YieldsList-from_vec}
+use Rattle.std.proofs.lemmas.Iterator.Consumers.{YieldsList-end}
+use Rattle.link_receiver.proofs.Asked.{keeps_none, keeps_twice}
 use Rattle.link_receiver.proofs.CallSteps.{offers_step}
 use Rattle.link_receiver.proofs.Exchanges.{no_call}
 use Rattle.link_receiver.proofs.reception.Reception.offer_all.Goals as goal
@@ -7,21 +9,19 @@ use Rattle.link_receiver.proofs.reception.Reception.offer_all.Goals as goal
 pub loop-job-init : goal.loop-job-init
 loop-job-init g c = record {
   exchanged = ([], no_call _ _, refl);
-  asked = asked_none _;
-  bound = refl;
-  below = c.requires.below;
+  places = keeps_none c.requires.below;
 }
 
 pub loop-job-preserved : goal.loop-job-preserved
 loop-job-preserved g c = record {
-  exchanged = offers_step _ _ _ _ _ _ c.args.jobs.now c.loop-job.job-index c.job-item.result
-      c.in_ok-copy.copy c.loop-job-test.true c.job-item.is c.in_ok-copy.ensures.value
+  exchanged = offers_step _ _ _ _ _ _ c.loop-job.yielded c.in-Some.job
       c.loop-job.invariant.exchanged c.in_ok-may_come.ensures.exchanged;
-  asked = asked_twice _ _ _ c.loop-job.invariant.asked c.offer.ensures.asked;
-  bound = c.offer.ensures.bound ∙ c.loop-job.invariant.bound;
-  below = c.offer.ensures.below;
+  places = keeps_twice c.loop-job.invariant.places c.offer.ensures.places;
 }
 
-pub returns-in_err-may_come-clause-asked : goal.returns-in_err-may_come-clause-asked
-returns-in_err-may_come-clause-asked g c = asked_twice _ _ _ c.loop-job.invariant.asked
-    c.in_err-may_come.ensures.asked
+pub returns-clause-exchanged : goal.returns-clause-exchanged
+returns-clause-exchanged g c =
+    let end = YieldsList-end (YieldsList-from_vec {s = c.into_iter-job-iterator.result} c.args.jobs.items
+    (search rules) (search rules)) c.loop-job.yielded c.loop-job.job-iterator c.loop-job.yielded_by
+    c.next.result c.next.new.self c.in-None.is c.next.ensures.steps in
+    rw (← end.0, map-id) c.loop-job.invariant.exchanged

@@ -1,7 +1,7 @@
 use Rattle.std.proofs.Common.{◌≡◌, ◌-◌, ◌+◌, ◌∙◌, suc, Some, None, ap, sym, arith, ℕ}
 use Rattle.std.specs.Option.{option_map}
 use Rattle.receiver_model.specs.Releasing.{book_count, next_picture}
-use Rattle.link_receiver.proofs.Asked.{asked_none, asked_twice}
+use Rattle.link_receiver.proofs.Asked.{keeps_none, keeps_twice}
 use Rattle.link_receiver.proofs.ReleaseLoop.{releasing_begins, releasing_goes_on, releasing_fails, releasing_stops, releasing_ends}
 use Rattle.vc_types.proofs.Failures.{on_err}
 use Rattle.link_window.specs.Views.{releasable_of}
@@ -9,7 +9,7 @@ use Rattle.link_receiver.proofs.reception.Reception.release_all.Goals as goal
 
 pub loop-init : goal.loop-init
 loop-init g c =
-    grind (arith, releasing_begins, asked_none, c.open_pictures-end.ensures, c.requires.waiting, c.requires.below)
+    grind (arith, releasing_begins, keeps_none, c.open_pictures-end.ensures, c.requires.waiting, c.requires.below)
 
 pub returns-in_default-clause-released : goal.returns-in_default-clause-released
 returns-in_default-clause-released g c =
@@ -48,11 +48,5 @@ loop-preserved g c =
       within = c.loop.invariant.within;
       later = omega (arith, c.loop.invariant.later, c.release.ensures.cause.later);
       waiting = c.in_ok-release.ensures.waiting;
-      asked = asked_twice _ _ _ c.loop.invariant.asked c.release.ensures.asked;
-      bound = c.release.ensures.bound ∙ c.loop.invariant.bound;
-      below = c.release.ensures.below;
+      places = keeps_twice c.loop.invariant.places c.release.ensures.places;
     }
-
-pub returns-in_err-release-clause-asked : goal.returns-in_err-release-clause-asked
-returns-in_err-release-clause-asked g c = asked_twice _ _ _ c.loop.invariant.asked
-    c.in_err-release.ensures.asked

@@ -1,9 +1,8 @@
 use Rattle.std.proofs.Common.{◌≡◌, ◌-◌, ◌≤◌}
 use Rattle.receiver_model.specs.Releasing.{book_count}
 use Rattle.link_receiver.proofs.ReleaseLoop.{IsReleasing}
-use Rattle.link_receiver.specs.HeardLists.{AskedPlaces}
 use Rattle.link_receiver.specs.States.{WaitsForSecond}
-use Rattle.link_slices.specs.Calls.{PlacesAreBelow}
+use Rattle.link_receiver.specs.Exchanged.{KeepsPlaces}
 use Rattle.link_receiver.proofs.reception.Reception.release_all.Given as goal
 
 abbrev pub invariant-loop : goal.invariant-loop
@@ -14,7 +13,5 @@ invariant-loop g l = record {
   within : l.end ≡ book_count l.fn.self;
   later : g.O.Sink.faults l.fn.sink ≤ g.O.Sink.faults l.sink;
   waiting : WaitsForSecond l.self.standing l.self.field;
-  asked : AskedPlaces (g.P.Places.told l.fn.places) (g.P.Places.told l.places);
-  bound : g.P.Places.bound l.places ≡ g.P.Places.bound l.fn.places;
-  below : PlacesAreBelow (g.P.Places.bound l.places) l.self.out;
+  places : KeepsPlaces g.P.Places.told g.P.Places.bound l.fn.places l.places l.self.out;
 }
