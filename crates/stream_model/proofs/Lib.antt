@@ -1,6 +1,5 @@
 pub mod Units
 pub mod FirstPictures
 pub mod Growing
-pub mod Rows
 pub mod Contents
 pub mod PackedMore
