@@ -1,41 +1,48 @@
 -- What a fragment leaves of a session's window.
-use Rattle.std.proofs.Common.{◌≡◌, ℕ, ◌-◌, ◌^◌, ◌<◌, false, arith}
-use Rattle.std.specs.Prelude.{◌&&◌}
+use Rattle.std.proofs.Common.{◌≡◌, ◌-◌, ◌^◌, ◌<◌, false, refl, sym, subst, ◌∙◌, arith}
 use Rattle.std.proofs.lemmas.Bool.{or_parts, leb-false}
 use Rattle.link_model.specs.Session.{Fragment}
-use Rattle.link_model.specs.Windows.{Window, number_by, late_in, window_enters}
-use Rattle.link_model.specs.Windows.{past_enters}
-use Rattle.link_model.proofs.WindowStands.{running_is, enters_stands}
+use Rattle.link_model.specs.Windows.{Window, new_window, new_past, number_by, late_in, opens_picture, rises_to}
+use Rattle.link_model.specs.Windows.{window_enters, past_enters}
+use Rattle.link_model.proofs.WindowStands.{new_stands, running_is, enters_stands}
 use Rattle.link_window.specs.Pasts.{IsSessionWindow}
-use Rattle.vc_types.specs.SequenceHeader.{Sequence}
 
 module _ (w : Window) (f : Fragment) where
-  abbrev number : ℕ
-  number = number_by w f.number
-
-  pub enters_size : (window_enters w f).size ≡ w.size
+  enters_size : (window_enters w f).size ≡ w.size
   unfolding window_enters
   enters_size = grind arith
-
-  pub enters_released : (window_enters w f).last_released ≡ w.last_released
-  unfolding window_enters
-  enters_released = grind arith
-
-  -- it is new as long as only late ones come
-  pub enters_new : (window_enters w f).is_new ≡ (w.is_new && late_in w number)
-  unfolding window_enters
-  enters_new = grind arith
 
   enters_top : w.top < 2 ^ 64 - 16 → (window_enters w f).top < 2 ^ 64 - 16
   unfolding window_enters
   enters_top fits = grind (arith, leb-false, or_parts)
 
-  pub enters_sound : (s : Sequence) → IsSessionWindow s w → w.is_ended ≡ false → IsSessionWindow s (window_enters w f)
-  enters_sound s sound runs = record {
+  pub enters_sequence : (window_enters w f).sequence ≡ w.sequence
+  unfolding window_enters
+  enters_sequence = grind arith
+
+  pub enters_sound : IsSessionWindow w.sequence w → w.is_ended ≡ false → IsSessionWindow (window_enters w f).sequence (window_enters w f)
+  enters_sound sound runs = record {
     past = past_enters sound.past f;
     stands = enters_stands w sound.past sound.stands (running_is w sound.past sound.stands runs) f;
-    sequence = sound.sequence;
+    sequence = sound.sequence ∙ sym enters_sequence;
     least = omega (arith, sound.least, enters_size);
     most = omega (arith, sound.most, enters_size);
     top = enters_top sound.top;
   }
+
+  -- one that isn't late enters its picture
+  pub enters_early : late_in w (number_by w f.number) ≡ false
+      → window_enters w f ≡ rises_to (opens_picture w (number_by w f.number) f.part) (number_by w f.number)
+  unfolding window_enters
+  enters_early early = rw early refl
+
+-- a window that begins anew
+pub anew_sound : (w : Window) → IsSessionWindow w.sequence w → (anew : Window) → anew ≡ new_window w.sequence w.size w.top → IsSessionWindow anew.sequence anew
+anew_sound w sound anew is = subst (λ (v : Window). IsSessionWindow v.sequence v) (sym is) (record {
+  past = new_past w.sequence w.size w.top;
+  stands = new_stands w.sequence w.size w.top;
+  sequence = refl;
+  least = sound.least;
+  most = sound.most;
+  top = sound.top;
+})

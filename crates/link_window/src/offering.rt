@@ -1,4 +1,4 @@
-ghost use Rattle.std.specs.Prelude.{◌≡◌, ◌≤◌, ◌++◌, [], List, ℕ, IfOk, OnOk, false};
+ghost use Rattle.std.specs.Prelude.{◌≡◌, ◌≤◌, ◌++◌, [], IfOk, OnOk, false};
 ghost use Rattle.std.specs.Prelude.{filter, filter_map, map};
 ghost use Rattle.std.specs.List.{cons_option, range_with_len};
 ghost use Rattle.std.specs.Option.{option_copied, option_map, option_map_or};

@@ -1,5 +1,5 @@
 ghost use Rattle.std.specs.Prelude.{◌≡◌, ◌≤◌, ◌<◌, ◌-◌, ◌^◌, ◌&&◌, ℕ, List, IfOk, IfSome, OnOk};
-ghost use Rattle.std.specs.Prelude.{Some, None, true, false, if◌then◌else◌, length, map};
+ghost use Rattle.std.specs.Prelude.{Some, None, true, false, length, map};
 ghost use Rattle.std.specs.Option.{option_copied, option_map, option_map_or};
 ghost use Rattle.machine_model.specs.Feeding.{is_same_job};
 ghost use Rattle.link_model.specs.Judgement.{header_outcome};
@@ -17,7 +17,7 @@ ghost use Rattle.vc_types.specs.SequenceHeader.{coded_header, sequence_of};
 
 use crate::heard::Opening;
 use crate::offering::{all_jobs, has_job, jobs_of, missing_slices};
-use crate::{Fragment, Released, Window, base_above, nearest};
+use crate::{Fragment, Released, Window};
 use link_gather::PictureBook;
 use link_model::Outcome;
 use std::alloc::Global;
@@ -25,47 +25,32 @@ use std::marker::Model;
 use vc_slice::SliceJob;
 use vc_types::{Header, NoMemory};
 
-// Numbers from here on are late.
-const LIMIT: u128 = (1 << 64) - 16;
-
 /// The session that stands: its source and its sequence, whether it has had its end, and its
 /// window.
 #[derive(Drop)]
 pub struct Standing {
     alloc: Global,
     ssrc: u32,
-    header: Header,
     has_ended: bool,
-    /// How many pictures of the window may be open at a time.
-    size: u8,
-    /// Whether no fragment has entered the window yet.
-    is_new: bool,
-    /// The last picture that was released.
-    last_released: Option<u64>,
     window: Window,
 }
 
 impl Model for Standing {
-    ghost use Rattle.std.specs.Prelude.{◌≡◌};
     ghost use Rattle.receiver_model.specs.Receptions.{StandingSession};
     ghost use Rattle.link_window.specs.Pasts.{IsSessionWindow};
-    ghost use Rattle.vc_types.specs.SequenceHeader.{sequence_of};
 
     ghost Value = { StandingSession };
 
     ghost view = { λ s. record {
       session = record {
         ssrc = s.ssrc;
-        sequence = sequence_of s.header;
+        sequence = s.window.sequence;
       };
       has_ended = s.has_ended;
       window = s.window;
     } };
 
-    ghost invariant = { λ s. IsSessionWindow (sequence_of s.header) s.window
-        × (s.size ≡ s.window.size)
-        × (s.is_new ≡ s.window.is_new)
-        × (s.last_released ≡ s.window.last_released) };
+    ghost invariant = { λ s. IsSessionWindow s.window.sequence s.window };
 }
 
 /// What became of a fragment, and the jobs of the slices that it brought, in raster order.
@@ -91,11 +76,7 @@ impl Standing {
         Standing {
             alloc,
             ssrc: opening.ssrc,
-            header: opening.header,
             has_ended: false,
-            size,
-            is_new: true,
-            last_released: None,
             window: Window::after(alloc, opening.header, size, greatest),
         }
     }
@@ -104,7 +85,7 @@ impl Standing {
     pub fn header(&self) -> &Header
         ensures { sequence_of result.now ≡ self.now.session.sequence }
     {
-        &self.header
+        self.window.header()
     }
 
     pub(crate) fn ssrc(&self) -> u32
@@ -133,7 +114,7 @@ impl Standing {
         ensures { result ≡ (self.now.has_ended
             && is_other self.now.session (session_of opening.now)) }
     {
-        self.has_ended && !(self.ssrc == opening.ssrc && self.header.is_same(&opening.header))
+        self.has_ended && !(self.ssrc == opening.ssrc && self.header().is_same(&opening.header))
     }
 
     /// The outcome of a sequence header of the session's source that opens no session.
@@ -143,7 +124,7 @@ impl Standing {
             → result ≡ header_outcome self.now.session.sequence (coded_header body) }
     {
         match opening {
-            Some(opening) if self.header.is_same(&opening.header) => Outcome::HeaderSame,
+            Some(opening) if self.header().is_same(&opening.header) => Outcome::HeaderSame,
             Some(_) => Outcome::HeaderOther,
             None => Outcome::HeaderBad,
         }
@@ -163,78 +144,16 @@ impl Standing {
             ≡ offered_jobs w (window_enters w (sent_fragment f)) (sent_fragment f)) }
         ensures running { OnOk result (self.new.window.is_ended ≡ false) }
     {
-        match self.number_of(f.number) {
-            Some(number) => self.enter_picture(number, f),
-            None => Ok(Entered {
-                outcome: self.enter_window(f, true)?,
+        let Some(number) = self.window.number_of(f.number) else {
+            return Ok(Entered {
+                outcome: Outcome::Late,
                 jobs: Vec::new(self.alloc),
-            }),
-        }
-    }
-
-    // The number of the picture with these 32 bits, unless it is late.
-    fn number_of(&self, bits: u32) -> Option<u64>
-        ensures { let n = windows.number_by self.now.window bits in
-            result ≡ (if windows.late_in self.now.window n then None else Some n) }
-    {
-        let top = self.window.greatest();
-        let number = if self.is_new {
-            base_above(top) + u128::from(bits)
-        } else {
-            nearest(top, bits)
+            });
         };
-        let is_passed = number + u128::from(self.size) <= u128::from(top);
-        if is_passed || number >= LIMIT {
-            None
-        } else {
-            Some(number as u64)
-        }
-    }
-
-    fn enter_picture(&mut self, number: u64, f: Fragment) -> Result<Entered, NoMemory>
-        requires running { self.old.window.is_ended ≡ false }
-        requires number { number ≡ windows.number_by self.old.window f.number }
-        requires early { windows.late_in self.old.window number ≡ false }
-        ensures value { OnOk result (self.new ≡ record self.old {
-          window = window_enters self.old.window (sent_fragment f);
-        }) }
-        ensures outcome { IfOk result (λ entered. entered.outcome
-            ≡ windows.window_outcome self.old.window (sent_fragment f)) }
-        ensures jobs { let w = self.old.window in IfOk result (λ entered.
-            map job_of entered.jobs.items
-            ≡ offered_jobs w (window_enters w (sent_fragment f)) (sent_fragment f)) }
-    {
         let missing = missing_slices(self.alloc, self.window.book(number), &f.part)?;
-        let outcome = self.enter_window(f, false)?;
+        let outcome = self.window.keep(number, f.part)?;
         let jobs = self.jobs(number, missing)?;
         Ok(Entered { outcome, jobs })
-    }
-
-    // Takes a fragment into the window, which forgets its pictures where there is no memory.
-    fn enter_window(&mut self, f: Fragment, is_late: bool) -> Result<Outcome, NoMemory>
-        requires running { self.old.window.is_ended ≡ false }
-        requires late { let w = self.old.window in
-            is_late ≡ windows.late_in w (windows.number_by w f.number) }
-        ensures value { OnOk result (self.new ≡ record self.old {
-          window = window_enters self.old.window (sent_fragment f);
-        }) }
-        ensures outcome { IfOk result (λ outcome. outcome
-            ≡ windows.window_outcome self.old.window (sent_fragment f)) }
-        ensures running { OnOk result (self.new.window.is_ended ≡ false) }
-    {
-        let top = self.window.greatest();
-        match self.window.enter(f) {
-            Ok(outcome) => {
-                self.is_new = self.is_new && is_late;
-                Ok(outcome)
-            }
-            Err(e) => {
-                self.is_new = true;
-                self.last_released = None;
-                self.window = Window::after(self.alloc, self.header, self.size, top);
-                Err(e)
-            }
-        }
     }
 
     // The jobs of the slices that a picture has, of those that weren't there before, or of all.
@@ -282,7 +201,6 @@ impl Standing {
         } }
     {
         self.window.release(number);
-        self.last_released = Some(number);
     }
 
     /// The book of a picture that the window keeps.
@@ -299,20 +217,11 @@ impl Standing {
         ensures { result ≡ option_map_or (is_same_job (job_of job.now))
             (unreleased_job self.now job.now.number job.now.index) false }
     {
-        if self.is_released(job.number) {
+        if self.window.is_released(job.number) {
             return false;
         }
         match self.window.book(job.number) {
             Some(book) => has_job(book, job),
-            None => false,
-        }
-    }
-
-    fn is_released(&self, number: u64) -> bool
-        ensures { result ≡ windows.released_up_to self.now.window.last_released number }
-    {
-        match self.last_released {
-            Some(last) => number <= last,
             None => false,
         }
     }

@@ -1,6 +1,6 @@
-ghost use Rattle.std.specs.Prelude.{◌≡◌, ◌+◌, ◌-◌, ◌^◌, ◌<◌, ◌≤◌, ◌&&◌, if◌then◌else◌, IfOk, OnOk, Ok, Some, None, true, false, length};
+ghost use Rattle.std.specs.Prelude.{◌≡◌, ◌+◌, ◌-◌, ◌^◌, ◌<◌, ◌≤◌, ◌&&◌, if◌then◌else◌, IfOk, OnOk, OnErr, Ok, Some, None, true, false, length};
 ghost use Rattle.std.specs.Option.{option_copied, option_map};
-ghost use Rattle.link_model.specs.Books.{book_of};
+ghost use Rattle.link_model.specs.Books.{book_of, book_outcome};
 ghost use Rattle.link_model.specs.Judgement.{fragment_outcome};
 ghost use Rattle.link_model.specs.Numbers as numbers;
 ghost use Rattle.link_model.specs.Numbers.{is_opened, parts_of};
@@ -127,14 +127,44 @@ impl Window {
         let Some(number) = self.number_of(f.number) else {
             return Ok(Outcome::Late);
         };
-        let outcome = take_part(self.alloc, self.header, &mut self.pictures, number, f.part)?;
-        self.is_new = false;
-        self.rise_to(number);
-        Ok(outcome)
+        self.keep(number, f.part)
     }
 
-    // The number of the picture with these 32 bits, unless it is late.
-    fn number_of(&self, bits: u32) -> Option<u64>
+    /// Takes a part into the book of a picture whose number isn't late. Without memory for it the
+    /// window begins anew.
+    pub(crate) fn keep(&mut self, number: u64, part: Part) -> Result<Outcome, NoMemory>
+        requires { number < 2 ^ 64 - 16 }
+        ensures outcome { IfOk result (λ outcome. outcome
+            ≡ book_outcome (windows.book_in self.old number) (sent_part part)) }
+        ensures value { OnOk result (self.new ≡ windows.rises_to
+            (windows.opens_picture self.old number (sent_part part)) number) }
+        ensures lost { OnErr result (self.new
+            ≡ windows.new_window self.old.sequence self.old.size self.old.top) }
+    {
+        match take_part(self.alloc, self.header, &mut self.pictures, number, part) {
+            Ok(outcome) => {
+                self.is_new = false;
+                self.rise_to(number);
+                Ok(outcome)
+            }
+            Err(e) => {
+                self.begin_anew();
+                Err(e)
+            }
+        }
+    }
+
+    fn begin_anew(&mut self)
+        ensures { self.new ≡ windows.new_window self.old.sequence self.old.size self.old.top }
+    {
+        self.is_new = true;
+        self.progress.last_released = None;
+        self.progress.is_ended = false;
+        self.pictures = Vec::new(self.alloc);
+    }
+
+    /// The number of the picture with these 32 bits, unless it is late.
+    pub(crate) fn number_of(&self, bits: u32) -> Option<u64>
         ensures { let n = windows.number_by self.now bits in
             result ≡ (if windows.late_in self.now n then None else Some n) }
     {
@@ -168,6 +198,13 @@ impl Window {
         let progress = self.progress;
         self.pictures
             .retain(|picture| !progress.is_gone(picture.number()));
+    }
+
+    /// The header of the session's sequence.
+    pub(crate) fn header(&self) -> &Header
+        ensures { sequence_of result.now ≡ self.now.sequence }
+    {
+        &self.header
     }
 
     /// The book of a picture that is opened, until the picture is both closed and released.
@@ -215,6 +252,12 @@ impl Window {
             }
         }
         None
+    }
+
+    pub(crate) fn is_released(&self, number: u64) -> bool
+        ensures { result ≡ windows.released_up_to self.now.last_released number }
+    {
+        self.progress.is_released(number)
     }
 
     fn is_let_go(&self, number: u64) -> bool

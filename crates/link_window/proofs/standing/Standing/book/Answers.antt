@@ -13,7 +13,7 @@ if_some (Some b) s whole = whole b.now refl
 
 pub returns-clause-whole : goal.returns-clause-whole
 returns-clause-whole c =
-    let sound = c.self.invariant.0 in
+    let sound = c.self.invariant in
     let w = c.self.inside.window in
     if_some c.book.result c.args.self.now.session.sequence
     (λ b is. subst (λ (s : Sequence). IsWholeBook s b) (sound.sequence ∙ ap (λ (st : StandingSession). st.session.sequence) c.self.view_is)
