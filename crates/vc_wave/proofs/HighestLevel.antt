@@ -1,5 +1,5 @@
 -- The highest level both ways: its sides, and what it makes of the subbands that are left below it.
-use Rattle.std.proofs.Common.{◌≡◌, ℕ, suc, ◌+◌, ◌-◌, ◌*◌, ◌^◌, ◌<◌, ◌≤◌, List, ℤ, arith, refl, ap, ◌∙◌}
+use Rattle.std.proofs.Common.{◌≡◌, ℕ, suc, ◌+◌, ◌-◌, ◌*◌, ◌^◌, ◌≤◌, List, ℤ, arith, refl, ap, ◌∙◌}
 use Rattle.std.proofs.Math.Nat.{pow-suc}
 use Rattle.std.proofs.lemmas.Nat.{pow-add}
 use Rattle.vc_types.specs.declared.video.Component.{Component}
@@ -8,11 +8,11 @@ use Rattle.vc_types.specs.TransformParameters.{Parameters}
 use Rattle.vc_types.specs.Transforms.{Cells, levels_across, inverse_level, inverse_transform, lowest_width, lowest_height}
 use Rattle.vc_types.proofs.PaddedSides.{padded-above}
 use Rattle.vc_wave.specs.Layout.{laid_out, nested_above, after_levels, row_in_turn}
-use Rattle.vc_wave.specs.Planes.{plane_of}
+use Rattle.vc_wave.specs.Planes.{FillsPlane, plane_of}
 use Rattle.vc_wave.specs.Remade.{level_in_turn}
 use Rattle.vc_wave.proofs.Grids.{padded_whole}
 use Rattle.vc_wave.proofs.LayoutLaws.{laid_together}
-use Rattle.vc_wave.proofs.Levels.{level_some, next_level}
+use Rattle.vc_wave.proofs.Levels.{next_level}
 use Rattle.vc_wave.proofs.NarrowLevels.{in_turn_level}
 
 double : (n m u : ℕ) → suc n ≡ m → 2 * (u * 2 ^ n) ≡ u * 2 ^ m
@@ -23,32 +23,15 @@ in_turn : (vertical horizontal w h : ℕ) (plane : Cells) → level_in_turn vert
 unfolding row_in_turn
 in_turn vertical horizontal w h plane = ap (level_in_turn vertical horizontal w h) (laid_together 0 w h plane) ∙ in_turn_level vertical horizontal w h (laid_out 1 w h plane)
 
--- room for it, and for the plane that it makes
-pub record HighestRoom (w h width height stride cells : ℕ) : Type 0 where
-  pub some : (0 < w) × (0 < h)
-  pub small : (w < 2 ^ 60) × (h < 2 ^ 60)
-  pub columns : width ≤ 2 * w
-  pub rows : height ≤ 2 * h
-  pub across : 2 * w ≤ stride
-  pub down : 2 * h * stride ≤ cells
+module _ (p : Parameters) (c : Component) (w h : ℕ) (some : 1 ≤ p.depth) (wide : w ≡ lowest_width p c * 2 ^ p.depth_ho * 2 ^ (p.depth - 1)) (high : h ≡ lowest_height p c * 2 ^ (p.depth - 1)) where
+  together : lowest_width p c * 2 ^ p.depth_ho * 2 ^ (p.depth - 1) ≡ lowest_width p c * 2 ^ (p.depth_ho + (p.depth - 1))
+  together = grind (arith, pow-add)
 
-module _ (p : Parameters) (c : Component) (w h lowest_w lowest_h : ℕ) (some : 1 ≤ p.depth) (across : lowest_w ≡ lowest_width p c) (down : lowest_h ≡ lowest_height p c)
-    (wide : w ≡ lowest_w * 2 ^ (p.depth_ho + (p.depth - 1))) (high : h ≡ lowest_h * 2 ^ (p.depth - 1)) where
-  pub whole_width : 2 * w ≡ padded_width p c
-  whole_width =
-      ap (λ n. 2 * n) wide ∙ double (p.depth_ho + (p.depth - 1)) (levels p) lowest_w (omega arith) ∙ ap (λ n. n * 2 ^ levels p) across
-      ∙ padded_whole (plane_width p.shape c) (levels p)
+  whole_width : 2 * w ≡ padded_width p c
+  whole_width = ap (λ n. 2 * n) (wide ∙ together) ∙ double (p.depth_ho + (p.depth - 1)) (levels p) (lowest_width p c) (omega arith) ∙ padded_whole (plane_width p.shape c) (levels p)
 
-  pub whole_height : 2 * h ≡ padded_height p c
-  whole_height =
-      ap (λ n. 2 * n) high ∙ double (p.depth - 1) p.depth lowest_h (omega arith) ∙ ap (λ n. n * 2 ^ p.depth) down
-      ∙ padded_whole (plane_height p.shape c) p.depth
-
-  width_in_parts : w ≡ lowest_width p c * 2 ^ p.depth_ho * 2 ^ (p.depth - 1)
-  width_in_parts = grind (arith, across, pow-add)
-
-  height_in_parts : h ≡ lowest_height p c * 2 ^ (p.depth - 1)
-  height_in_parts = high ∙ ap (λ n. n * 2 ^ (p.depth - 1)) down
+  whole_height : 2 * h ≡ padded_height p c
+  whole_height = ap (λ n. 2 * n) high ∙ double (p.depth - 1) p.depth (lowest_height p c) (omega arith) ∙ padded_whole (plane_height p.shape c) p.depth
 
   pub highest_made : (stride : ℕ) (cells : List ℤ) (nested : Cells) → nested_above p c (p.depth - 1) stride cells ≡ after_levels p c (p.depth - 1) nested
       → level_in_turn p.wavelet p.wavelet_ho w h (plane_of stride cells) ≡ inverse_transform p c nested
@@ -61,27 +44,24 @@ module _ (p : Parameters) (c : Component) (w h lowest_w lowest_h : ℕ) (some : 
       let rows = lowest_height p c * 2 ^ (p.depth - 1) in
       let one : 1 ≡ p.depth - (p.depth - 1) = omega arith in
       let all : p.depth - 1 + 1 ≡ p.depth = omega arith in
-      ap (λ n. level_in_turn p.wavelet p.wavelet_ho n h plane) width_in_parts
-      ∙ ap (λ n. level_in_turn p.wavelet p.wavelet_ho columns n plane) height_in_parts
+      ap (λ n. level_in_turn p.wavelet p.wavelet_ho n h plane) wide
+      ∙ ap (λ n. level_in_turn p.wavelet p.wavelet_ho columns n plane) high
       ∙ in_turn p.wavelet p.wavelet_ho columns rows plane
       ∙ ap (λ n. inverse_level p.wavelet p.wavelet_ho columns rows (laid_out n columns rows plane)) one
       ∙ next_level p.wavelet p.wavelet_ho (p.depth - 1) side (lowest_height p c) first (nested_above p c (p.depth - 1) stride cells)
       (inverse_level p.wavelet p.wavelet_ho columns rows (nested_above p c (p.depth - 1) stride cells)) below refl
       ∙ ap (λ n. after_levels p c n nested) all
 
-  pub highest_room : (columns rows stride cells : ℕ) → 0 < lowest_w → 0 < lowest_h → padded_width p c < 2 ^ 32 → padded_height p c < 2 ^ 32 → columns ≡ plane_width p.shape c → rows ≡ plane_height p.shape c → 1 ≤ columns → 1 ≤ rows
-      → padded_width p c ≤ stride → padded_height p c * stride ≤ cells → HighestRoom w h columns rows stride cells
-  highest_room columns rows stride cells some_columns some_rows narrow low is is_high first top inside room =
+  pub highest_room : (columns rows stride cells : ℕ) → columns ≡ plane_width p.shape c → rows ≡ plane_height p.shape c → 1 ≤ columns → 1 ≤ rows → padded_width p c ≤ stride → padded_height p c * stride ≤ cells → FillsPlane w h columns rows stride cells
+  highest_room columns rows stride cells is is_high first top inside room =
       let width = whole_width in
       let height = whole_height in
       let within : columns ≤ padded_width p c = rw is (padded-above (plane_width p.shape c) (levels p) (omega (arith, is, first))) in
       let under : rows ≤ padded_height p c = rw is_high (padded-above (plane_height p.shape c) p.depth (omega (arith, is_high, top))) in
       let all : 2 * h * stride ≡ padded_height p c * stride = ap (λ n. n * stride) height in
       record {
-        some = (omega (arith, level_some lowest_w (p.depth_ho + (p.depth - 1)) some_columns, wide), omega (arith, level_some lowest_h (p.depth - 1) some_rows, high));
-        small = (omega (arith, width, narrow), omega (arith, height, low));
-        columns = omega (arith, within, width);
-        rows = omega (arith, under, height);
+        wide = omega (arith, within, width);
+        high = omega (arith, under, height);
         across = omega (arith, width, inside);
         down = omega (arith, all, room);
       }

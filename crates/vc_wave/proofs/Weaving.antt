@@ -11,7 +11,6 @@ use Rattle.vc_lift.proofs.LineLaws.{synthesis_is_local, analysis_is_local, synth
 use Rattle.vc_wave.proofs.PlaneLines.{LeavesPast, ReadsBelow, StaysBelow, column_in, column_out, row_in, row_out, on_columns-on_columns, on_rows-on_rows, rearranged_in, rearranged_past, rearranged_reads, on_columns-rearranged, on_samples_past, on_cells_rows}
 use Rattle.vc_wave.specs.declared.pass.Direction.{Direction}
 use Rattle.vc_wave.specs.declared.pass.Direction.TheVariants.{Synthesis, Analysis}
-use Rattle.vc_wave.specs.declared.pass.Pass.{Pass}
 use Rattle.vc_wave.specs.Remade.{rearranged, halves_together, halves_apart, on_samples, merged, parted, remade}
 
 -- ---- a line of two halves
@@ -117,13 +116,6 @@ unfolding deinterleaved
 deinterleaved_unwoven w h c = quarters (2 * w) (2 * h) (source_of w) (source_of h) (source_below w) c
 
 -- ---- one level, by direction
-
--- what a pass over columns and one over rows make of a plane
-abbrev pub columns_by : Pass → ℕ → ℕ → Cells → Cells
-columns_by p half columns c = on_columns (remade p.direction p.wavelet p.shifted half) columns c
-
-abbrev pub rows_by : Pass → ℕ → ℕ → Cells → Cells
-rows_by p half rows c = on_rows (remade p.direction p.wavelet p.shifted half) rows c
 
 -- rows that are put together, and then shifted
 rows_remade : (wavelet w rows : ℕ) (c : Cells) → on_cells halved (is_shifted wavelet) (2 * w) rows (on_rows (synthesised wavelet (2 * w)) rows (on_rows (halves_together w) rows c)) ≡ on_rows (remade Synthesis wavelet (is_shifted wavelet) w) rows c

@@ -8,8 +8,8 @@ ghost use Rattle.vc_types.specs.TransformParameters.{is_symmetric, parameters_of
 ghost use Rattle.vc_types.specs.Transforms.{forward_transform};
 ghost use Rattle.vc_wave.specs.Samples.{padded_sample};
 
+use crate::extents::levels_of;
 use crate::level::{BLOCK, part_levels};
-use crate::sides::lowest;
 use std::alloc::Global;
 use vc_geometry::padded;
 use vc_types::{Component, Grid, NoMemory, Plan, Plane};
@@ -35,8 +35,7 @@ pub fn forward(alloc: Global, plan: &Plan, c: Component, plane: &Plane) -> Resul
     let mut cells = vec![in alloc; 0i128; rows * columns]?;
     let sheet: &mut [i128] = &mut cells;
     fill(sheet, columns, rows, plane, sample_depth(plan, c));
-    let (w, h) = lowest(plan, c);
-    part_levels(plan.wavelet, plan.depth, sheet, columns, w, h, &mut scratch);
+    part_levels(levels_of(plan, c, columns), sheet, &mut scratch);
     Ok(Grid::new(width, height, cells))
 }
 

@@ -4,6 +4,7 @@
 
 mod analysis;
 mod bounds;
+mod extents;
 mod forward_bounds;
 mod laws;
 mod level;

@@ -15,10 +15,9 @@ ghost use Rattle.vc_wave.specs.Planes.{HasRoom, plane_of};
 ghost use Rattle.vc_wave.specs.Remade.{remade, level_in_turn};
 
 use crate::bounds::{columns_reach, greatest, rows_reach};
-use crate::level::Wavelets;
+use crate::extents::{Level, Levels, Rows, levels_of};
 use crate::shift::is_shifted;
 use crate::sides::{lowest, side_at};
-use crate::turn::Nesting;
 use vc_lift::{Halves, synth_narrow};
 use vc_types::{Component, Plan};
 
@@ -91,176 +90,157 @@ fn merge_row(wavelet: u8, cells: &mut [i32], start: usize, half: usize, line: &m
     weave(cells, start, half, is_shifted(wavelet), line);
 }
 
-// Puts the halves of the first rows together, which begin `pitch` cells apart.
-fn merge_rows(
-    wavelet: u8,
-    cells: &mut [i32],
-    pitch: usize,
-    rows: usize,
-    half: usize,
-    line: &mut [i32],
-)
-    requires wavelet { wavelet ≤ 6 }
-    requires some { (0 < half) × (half < 2 ^ 60) }
-    requires across { 2 * half ≤ pitch }
-    requires down { rows * pitch ≤ length cells.old }
-    requires line { 2 * half ≤ length line.old }
-    requires bound { HasBound (rows_bound wavelet) cells.old }
-    ensures { plane_of pitch cells.new
-        ≡ on_rows (remade Synthesis wavelet (is_shifted wavelet) half) rows
-        (plane_of pitch cells.old) }
+// Puts the halves of rows together.
+fn merge_rows(rows: Rows, cells: &mut [i32], line: &mut [i32])
+    requires across { 2 * rows.half ≤ rows.pitch }
+    requires down { rows.count * rows.pitch ≤ length cells.old }
+    requires line { 2 * rows.half ≤ length line.old }
+    requires bound { HasBound (rows_bound rows.wavelet) cells.old }
+    ensures { plane_of rows.pitch cells.new
+        ≡ on_rows (remade Synthesis rows.wavelet (is_shifted rows.wavelet) rows.half) rows.count
+        (plane_of rows.pitch cells.old) }
 {
-    for y in 0..rows {
-        merge_row(wavelet, cells, y * pitch, half, line);
+    for y in 0..rows.count {
+        merge_row(rows.wavelet, cells, y * rows.pitch, rows.half, line);
     }
 }
 
-/// Synthesises the first columns, whose samples stand `pitch` cells apart (ST 2042-1, vertical synthesis).
-pub(crate) fn merge_columns(
-    wavelet: u8,
-    cells: &mut [i32],
-    pitch: usize,
-    columns: usize,
-    half: usize,
-)
-    requires wavelet { wavelet ≤ 6 }
-    requires some { (0 < half) × (half < 2 ^ 60) }
-    requires across { columns ≤ pitch }
-    requires down { 2 * half * pitch ≤ length cells.old }
-    requires bound { HasBound (narrow_bound wavelet) cells.old }
-    ensures { plane_of pitch cells.new
-        ≡ on_columns (synthesised wavelet (2 * half)) columns (plane_of pitch cells.old) }
+/// Synthesises a level's columns, whose low and high samples stand in turn (ST 2042-1, vertical synthesis).
+pub(crate) fn merge_columns(level: Level, cells: &mut [i32])
+    requires across { 2 * level.w ≤ level.pitch }
+    requires down { 2 * level.h * level.pitch ≤ length cells.old }
+    requires bound { HasBound (narrow_bound level.wavelets.down) cells.old }
+    ensures { plane_of level.pitch cells.new
+        ≡ on_columns (synthesised level.wavelets.down (2 * level.h)) (2 * level.w)
+        (plane_of level.pitch cells.old) }
 {
     let halves = Halves {
         even: 0,
-        odd: pitch,
-        pitch: 2 * pitch,
-        half,
+        odd: level.pitch,
+        pitch: 2 * level.pitch,
+        half: level.h,
     };
-    synth_narrow(wavelet, cells, &halves, columns);
+    synth_narrow(level.wavelets.down, cells, &halves, 2 * level.w);
 }
 
-// Puts a level together whose rows stand `pitch` cells apart, the low and the high ones in turn, and whose
-// subbands have w columns and h rows. From a bound on all cells it tells one on them after it; none where 32
-// bits may not be enough.
-fn merge_level(
-    wavelets: Wavelets,
-    cells: &mut [i32],
-    pitch: usize,
-    w: usize,
-    h: usize,
-    line: &mut [i32],
-    most: u64,
-) -> Option<u64>
-    requires down { wavelets.down ≤ 6 }
-    requires across { wavelets.across ≤ 6 }
-    requires some { (0 < w) × (0 < h) }
-    requires small { (w < 2 ^ 60) × (h < 2 ^ 60) }
-    requires room { HasRoom (2 * w) (2 * h) pitch (length cells.old) 0 (length line.old) }
+// Puts a level together whose low and high rows stand in turn. From a bound on all cells it tells one on them
+// after it; none where 32 bits may not be enough.
+fn merge_level(level: Level, cells: &mut [i32], line: &mut [i32], most: u64) -> Option<u64>
+    requires room { HasRoom (2 * level.w) (2 * level.h) level.pitch (length cells.old) 0
+        (length line.old) }
     requires most { most < 2 ^ 31 }
     requires within { AreWithin most cells.old }
-    ensures made { IfSome result (λ after. plane_of pitch cells.new
-        ≡ level_in_turn wavelets.down wavelets.across w h (plane_of pitch cells.old)) }
+    ensures made { IfSome result (λ after. plane_of level.pitch cells.new
+        ≡ level_in_turn level.wavelets.down level.wavelets.across level.w level.h
+        (plane_of level.pitch cells.old)) }
     ensures within { IfSome result (λ after. AreWithin after cells.new) }
     ensures small { IfSome result (λ after. after < 2 ^ 31) }
 {
-    let made = columns_reach(wavelets.down, cells, most)?;
-    merge_columns(wavelets.down, cells, pitch, 2 * w, h);
-    let after = rows_reach(wavelets.across, cells, made)?;
-    merge_rows(wavelets.across, cells, pitch, 2 * h, w, line);
+    let made = columns_reach(level.wavelets.down, cells, most)?;
+    merge_columns(level, cells);
+    let after = rows_reach(level.wavelets.across, cells, made)?;
+    let rows = Rows {
+        wavelet: level.wavelets.across,
+        pitch: level.pitch,
+        count: 2 * level.h,
+        half: level.w,
+    };
+    merge_rows(rows, cells, line);
     Some(after)
 }
 
-// Puts levels across alone together, the lowest of which has subbands of w columns and h rows. Bounds as
-// above.
+// Puts so many levels across alone together, the lowest of which has these rows. Bounds as above.
+#[tactic(auto, using(crate::proofs::Levels::level_fits, crate::proofs::Levels::level_some))]
 fn merge_across(
-    wavelet: u8,
+    rows: Rows,
     levels: u8,
     cells: &mut [i32],
-    pitch: usize,
-    w: usize,
-    h: usize,
     line: &mut [i32],
     most: u64,
 ) -> Option<u64>
-    requires wavelet { wavelet ≤ 6 }
     requires levels { levels ≤ 5 }
-    requires some { 0 < w }
-    requires small { w * 2 ^ levels < 2 ^ 60 }
-    requires room { HasRoom (w * 2 ^ levels) h pitch (length cells.old) 0 (length line.old) }
+    requires narrow { rows.half * 2 ^ levels < 2 ^ 60 }
+    requires room { HasRoom (rows.half * 2 ^ levels) rows.count rows.pitch (length cells.old) 0
+        (length line.old) }
     requires most { most < 2 ^ 31 }
     requires within { AreWithin most cells.old }
-    ensures made { IfSome result (λ after. plane_of pitch cells.new
-        ≡ levels_across wavelet levels w h (plane_of pitch cells.old)) }
+    ensures made { IfSome result (λ after. plane_of rows.pitch cells.new
+        ≡ levels_across rows.wavelet levels rows.half rows.count (plane_of rows.pitch cells.old)) }
     ensures within { IfSome result (λ after. AreWithin after cells.new) }
     ensures small { IfSome result (λ after. after < 2 ^ 31) }
 {
     let mut bound = most;
     for level in 0..levels {
-        let half = side_at(w, level);
-        bound = rows_reach(wavelet, cells, bound)?;
-        merge_rows(wavelet, cells, pitch, h, half, line);
+        let half = side_at(rows.half, level);
+        let here = Rows {
+            wavelet: rows.wavelet,
+            pitch: rows.pitch,
+            count: rows.count,
+            half,
+        };
+        bound = rows_reach(rows.wavelet, cells, bound)?;
+        merge_rows(here, cells, line);
     }
     Some(bound)
 }
 
 // Puts the first levels both ways together of nested subbands whose rows are taken in turn. Bounds as above.
+#[tactic(auto, using(crate::proofs::Levels::level_fits, crate::proofs::Levels::level_some))]
 fn merge_levels(
-    wavelets: Wavelets,
-    nesting: Nesting,
+    levels: Levels,
     count: u8,
     cells: &mut [i32],
-    stride: usize,
     line: &mut [i32],
     most: u64,
 ) -> Option<u64>
-    requires down { wavelets.down ≤ 6 }
-    requires across { wavelets.across ≤ 6 }
-    requires levels { nesting.levels ≤ 5 }
-    requires count { count ≤ nesting.levels }
-    requires some { (0 < nesting.w) × (0 < nesting.h) }
-    requires small { (nesting.w * 2 ^ nesting.levels < 2 ^ 60)
-        × (nesting.h * 2 ^ nesting.levels < 2 ^ 60) }
-    requires room { HasRoom (nesting.w * 2 ^ nesting.levels) (nesting.h * 2 ^ nesting.levels) stride
-        (length cells.old) 0 (length line.old) }
+    requires count { count ≤ levels.nesting.levels }
+    requires room { HasRoom (levels.nesting.w * 2 ^ levels.nesting.levels)
+        (levels.nesting.h * 2 ^ levels.nesting.levels) levels.pitch (length cells.old) 0
+        (length line.old) }
     requires most { most < 2 ^ 31 }
     requires within { AreWithin most cells.old }
     ensures made { IfSome result (λ after.
-        laid_out (nesting.levels - count) (nesting.w * 2 ^ count) (nesting.h * 2 ^ count)
-        (plane_of stride cells.new)
-        ≡ inverse_levels wavelets.down wavelets.across count nesting.w nesting.h
-        (laid_out nesting.levels nesting.w nesting.h (plane_of stride cells.old))) }
+        laid_out (levels.nesting.levels - count) (levels.nesting.w * 2 ^ count)
+        (levels.nesting.h * 2 ^ count) (plane_of levels.pitch cells.new)
+        ≡ inverse_levels levels.wavelets.down levels.wavelets.across count levels.nesting.w
+        levels.nesting.h
+        (laid_out levels.nesting.levels levels.nesting.w levels.nesting.h
+        (plane_of levels.pitch cells.old))) }
     ensures within { IfSome result (λ after. AreWithin after cells.new) }
     ensures small { IfSome result (λ after. after < 2 ^ 31) }
 {
     let mut bound = most;
-    for level in 0..count {
-        let pitch = side_at(stride, nesting.levels - 1 - level);
-        let (w, h) = (side_at(nesting.w, level), side_at(nesting.h, level));
-        bound = merge_level(wavelets, cells, pitch, w, h, line, bound)?;
+    for n in 0..count {
+        let pitch = side_at(levels.pitch, levels.nesting.levels - 1 - n);
+        let (w, h) = (side_at(levels.nesting.w, n), side_at(levels.nesting.h, n));
+        let level = Level {
+            wavelets: levels.wavelets,
+            pitch,
+            w,
+            h,
+        };
+        bound = merge_level(level, cells, line, bound)?;
     }
     Some(bound)
 }
 
-/// Puts the levels across alone of a component together, and the first ones both ways, in place and in 32
-/// bits (ST 2042-1, inverse wavelet transform). The coefficients stand in rows of `stride` cells, whose rows
-/// are taken in turn as `nested_in` says. It tells a bound on all cells after that; none where 32 bits may
-/// not be enough, and then the cells hold nothing of use. The line is room to work in, as long as a row.
+/// Puts the levels across alone of a component together, and all both ways but the highest, in place and in
+/// 32 bits (ST 2042-1, inverse wavelet transform). The coefficients stand in rows of `stride` cells, whose
+/// rows are taken in turn as `nested_in` says. It tells a bound on all cells after that; none where 32 bits
+/// may not be enough, and then the cells hold nothing of use. The line is room to work in, as long as a row.
 pub(crate) fn merge_below(
     plan: &Plan,
     c: Component,
-    count: u8,
     cells: &mut [i32],
     stride: usize,
     line: &mut [i32],
 ) -> Option<u64>
-    requires count { count ≤ plan.now.depth }
     requires stride { padded_width (parameters_of plan.now) c ≤ stride }
     requires cells { padded_height (parameters_of plan.now) c * stride ≤ length cells.old }
     requires line { padded_width (parameters_of plan.now) c ≤ length line.old }
     ensures made { IfSome result (λ after.
-        nested_above (parameters_of plan.now) c count stride cells.new
-        ≡ after_levels (parameters_of plan.now) c count
+        nested_above (parameters_of plan.now) c (plan.now.depth - 1) stride cells.new
+        ≡ after_levels (parameters_of plan.now) c (plan.now.depth - 1)
         (nested_in (parameters_of plan.now) c stride cells.old)) }
     ensures within { IfSome result (λ after. AreWithin after cells.new) }
     ensures small { IfSome result (λ after. after < 2 ^ 31) }
@@ -269,26 +249,15 @@ pub(crate) fn merge_below(
     if most >= 1 << 31 {
         return None;
     }
+    let levels = levels_of(plan, c, stride);
     let (w, h) = lowest(plan, c);
-    let wavelets = Wavelets {
-        down: plan.wavelet,
-        across: plan.wavelet_ho,
-    };
     let pitch = side_at(stride, plan.depth);
-    let most = merge_across(
-        wavelets.across,
-        plan.depth_ho,
-        cells,
+    let rows = Rows {
+        wavelet: plan.wavelet_ho,
         pitch,
-        w,
-        h,
-        line,
-        most,
-    )?;
-    let nesting = Nesting {
-        levels: plan.depth,
-        w: side_at(w, plan.depth_ho),
-        h,
+        count: h,
+        half: w,
     };
-    merge_levels(wavelets, nesting, count, cells, stride, line, most)
+    let most = merge_across(rows, plan.depth_ho, cells, line, most)?;
+    merge_levels(levels, plan.depth - 1, cells, line, most)
 }

@@ -18,9 +18,10 @@ ghost use Rattle.vc_wave.specs.Remade.{remade, parted_in_turn};
 ghost use Rattle.vc_wave.specs.Samples.{padded_sample};
 
 use crate::analysis::sample_depth;
+use crate::extents::{Level, Levels, Rows, levels_of};
 use crate::narrow::copy_row;
 use crate::shift::is_shifted;
-use crate::sides::{lowest, side_at};
+use crate::sides::side_at;
 use vc_geometry::padded;
 use vc_lift::{Halves, analyse_narrow};
 use vc_types::{Component, Plan, Plane};
@@ -82,89 +83,85 @@ fn part_row(wavelet: u8, cells: &mut [i32], start: usize, half: usize, line: &mu
     analyse_narrow(wavelet, cells, &halves, 1);
 }
 
-// Takes the first rows apart into halves, which begin `pitch` cells apart.
-fn part_rows(
-    wavelet: u8,
-    cells: &mut [i32],
-    pitch: usize,
-    rows: usize,
-    half: usize,
-    line: &mut [i32],
-)
-    requires wavelet { wavelet ≤ 6 }
-    requires some { (0 < half) × (half < 2 ^ 60) }
-    requires across { 2 * half ≤ pitch }
-    requires down { rows * pitch ≤ length cells.old }
-    requires line { 2 * half ≤ length line.old }
-    requires bound { HasBound (parted_rows_bound wavelet) cells.old }
-    ensures { plane_of pitch cells.new
-        ≡ on_rows (remade Analysis wavelet (is_shifted wavelet) half) rows
-        (plane_of pitch cells.old) }
+// Takes rows apart into halves.
+fn part_rows(rows: Rows, cells: &mut [i32], line: &mut [i32])
+    requires across { 2 * rows.half ≤ rows.pitch }
+    requires down { rows.count * rows.pitch ≤ length cells.old }
+    requires line { 2 * rows.half ≤ length line.old }
+    requires bound { HasBound (parted_rows_bound rows.wavelet) cells.old }
+    ensures { plane_of rows.pitch cells.new
+        ≡ on_rows (remade Analysis rows.wavelet (is_shifted rows.wavelet) rows.half) rows.count
+        (plane_of rows.pitch cells.old) }
 {
-    for y in 0..rows {
-        part_row(wavelet, cells, y * pitch, half, line);
+    for y in 0..rows.count {
+        part_row(rows.wavelet, cells, y * rows.pitch, rows.half, line);
     }
 }
 
-// Analyses the first columns, whose samples stand `pitch` cells apart and stay there.
-fn part_columns(wavelet: u8, cells: &mut [i32], pitch: usize, columns: usize, half: usize)
-    requires wavelet { wavelet ≤ 6 }
-    requires some { (0 < half) × (half < 2 ^ 60) }
-    requires across { columns ≤ pitch }
-    requires down { 2 * half * pitch ≤ length cells.old }
-    requires bound { HasBound (narrow_analysis_bound wavelet) cells.old }
-    ensures { plane_of pitch cells.new
-        ≡ on_columns (analysed wavelet (2 * half)) columns (plane_of pitch cells.old) }
+// Analyses a level's columns, whose samples stay where they stand.
+fn part_columns(level: Level, cells: &mut [i32])
+    requires across { 2 * level.w ≤ level.pitch }
+    requires down { 2 * level.h * level.pitch ≤ length cells.old }
+    requires bound { HasBound (narrow_analysis_bound level.wavelets.down) cells.old }
+    ensures { plane_of level.pitch cells.new
+        ≡ on_columns (analysed level.wavelets.down (2 * level.h)) (2 * level.w)
+        (plane_of level.pitch cells.old) }
 {
     let halves = Halves {
         even: 0,
-        odd: pitch,
-        pitch: 2 * pitch,
-        half,
+        odd: level.pitch,
+        pitch: 2 * level.pitch,
+        half: level.h,
     };
-    analyse_narrow(wavelet, cells, &halves, columns);
+    analyse_narrow(level.wavelets.down, cells, &halves, 2 * level.w);
 }
 
-// Takes a level apart whose rows stand `pitch` cells apart, and whose subbands have w columns and h rows:
-// first rows and then columns. Its low and high rows then stand in turn.
-fn part_level(wavelet: u8, cells: &mut [i32], pitch: usize, w: usize, h: usize, line: &mut [i32])
-    requires wavelet { wavelet ≤ 6 }
-    requires some { (0 < w) × (0 < h) }
-    requires small { (w < 2 ^ 60) × (h < 2 ^ 60) }
-    requires room { HasRoom (2 * w) (2 * h) pitch (length cells.old) 0 (length line.old) }
-    requires bound { HasBound (parted_level_bound wavelet) cells.old }
-    ensures { plane_of pitch cells.new ≡ parted_in_turn wavelet w h (plane_of pitch cells.old) }
-{
-    part_rows(wavelet, cells, pitch, 2 * h, w, line);
-    part_columns(wavelet, cells, pitch, 2 * w, h);
-}
-
-// Takes levels apart, from the highest on, whose rows then are in turn, and the lowest of which has subbands
-// of w columns and h rows.
-fn part_levels(
-    wavelet: u8,
-    levels: u8,
-    cells: &mut [i32],
-    stride: usize,
-    w: usize,
-    h: usize,
-    line: &mut [i32],
-)
-    requires wavelet { wavelet ≤ 6 }
-    requires levels { levels ≤ 5 }
-    requires some { (0 < w) × (0 < h) }
-    requires small { (w * 2 ^ levels < 2 ^ 60) × (h * 2 ^ levels < 2 ^ 60) }
-    requires room { HasRoom (w * 2 ^ levels) (h * 2 ^ levels) stride (length cells.old) 0
+// Takes a level of a symmetric transform apart: first rows and then columns. Its low and high rows then stand
+// in turn.
+fn part_level(level: Level, cells: &mut [i32], line: &mut [i32])
+    requires room { HasRoom (2 * level.w) (2 * level.h) level.pitch (length cells.old) 0
         (length line.old) }
-    requires bound { HasBound (bound_over (parted_level_bound wavelet) levels) cells.old }
-    ensures { laid_out levels w h (plane_of stride cells.new)
-        ≡ forward_levels wavelet levels w h (plane_of stride cells.old) }
+    requires bound { HasBound (parted_level_bound level.wavelets.down) cells.old }
+    ensures { plane_of level.pitch cells.new
+        ≡ parted_in_turn level.wavelets.down level.w level.h (plane_of level.pitch cells.old) }
 {
-    for level in 0..levels {
-        let left = levels - 1 - level;
-        let pitch = side_at(stride, level);
-        let (columns, rows) = (side_at(w, left), side_at(h, left));
-        part_level(wavelet, cells, pitch, columns, rows, line);
+    let rows = Rows {
+        wavelet: level.wavelets.down,
+        pitch: level.pitch,
+        count: 2 * level.h,
+        half: level.w,
+    };
+    part_rows(rows, cells, line);
+    part_columns(level, cells);
+}
+
+// Takes the levels of a symmetric transform apart, from the highest on, whose rows then are in turn.
+#[tactic(auto, using(crate::proofs::Levels::level_fits, crate::proofs::Levels::level_some))]
+fn part_levels(levels: Levels, cells: &mut [i32], line: &mut [i32])
+    requires room { HasRoom (levels.nesting.w * 2 ^ levels.nesting.levels)
+        (levels.nesting.h * 2 ^ levels.nesting.levels) levels.pitch (length cells.old) 0
+        (length line.old) }
+    requires bound { HasBound
+        (bound_over (parted_level_bound levels.wavelets.down) levels.nesting.levels) cells.old }
+    ensures { laid_out levels.nesting.levels levels.nesting.w levels.nesting.h
+        (plane_of levels.pitch cells.new)
+        ≡ forward_levels levels.wavelets.down levels.nesting.levels levels.nesting.w
+        levels.nesting.h (plane_of levels.pitch cells.old) }
+{
+    for n in 0..levels.nesting.levels {
+        let left = levels.nesting.levels - 1 - n;
+        let pitch = side_at(levels.pitch, n);
+        let (w, h) = (
+            side_at(levels.nesting.w, left),
+            side_at(levels.nesting.h, left),
+        );
+        let level = Level {
+            wavelets: levels.wavelets,
+            pitch,
+            w,
+            h,
+        };
+        part_level(level, cells, line);
     }
 }
 
@@ -255,6 +252,5 @@ pub fn forward_narrow(plan: &Plan, c: Component, plane: &Plane, cells: &mut [i32
     let (width, height) = padded(plan, c);
     let (columns, rows) = (width as usize, height as usize);
     fill(cells, columns, rows, plane, sample_depth(plan, c));
-    let (w, h) = lowest(plan, c);
-    part_levels(plan.wavelet, plan.depth, cells, columns, w, h, line);
+    part_levels(levels_of(plan, c, columns), cells, line);
 }

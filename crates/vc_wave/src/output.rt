@@ -10,14 +10,14 @@ ghost use Rattle.vc_types.specs.Wavelets.{is_shifted};
 ghost use Rattle.vc_wave.specs.declared.pass.Direction.TheVariants.{Synthesis};
 ghost use Rattle.vc_wave.specs.Layout.{nested_in};
 ghost use Rattle.vc_wave.specs.NarrowBounds.{AreWithin, HasBound, RowHasBound, rows_bound};
-ghost use Rattle.vc_wave.specs.Planes.{plane_of};
+ghost use Rattle.vc_wave.specs.Planes.{FillsPlane, plane_of};
 ghost use Rattle.vc_wave.specs.Remade.{remade, shifted_down, level_in_turn};
 
 use crate::bounds::{columns_reach, rows_reach};
-use crate::level::Wavelets;
+use crate::extents::{Level, Rows, levels_of};
 use crate::narrow::{merge_below, merge_columns, shifted_down};
 use crate::shift::is_shifted;
-use crate::sides::{lowest, side_at};
+use crate::sides::side_at;
 use vc_lift::{Halves, synth_narrow};
 use vc_types::{Component, Plan};
 
@@ -115,35 +115,26 @@ fn put_row(
     weave_samples(samples, at, cells, start, half, is_shifted(wavelet), format);
 }
 
-// Puts the halves of the first rows together, which begin `pitch` cells apart, and fills the plane with their
-// samples.
-fn put_rows(
-    wavelet: u8,
-    cells: &mut [i32],
-    pitch: usize,
-    half: usize,
-    samples: &mut [u16],
-    format: Format,
-)
-    requires wavelet { wavelet ≤ 6 }
+// Puts the halves of rows together, as many as the plane has, and fills the plane with their samples.
+fn put_rows(rows: Rows, cells: &mut [i32], samples: &mut [u16], format: Format)
     requires depth { (1 ≤ format.depth) × (format.depth ≤ 16) }
-    requires some { (0 < half) × (half < 2 ^ 60) }
-    requires width { format.columns ≤ 2 * half }
-    requires across { 2 * half ≤ pitch }
-    requires down { format.rows * pitch ≤ length cells.old }
+    requires width { format.columns ≤ 2 * rows.half }
+    requires height { format.rows ≤ rows.count }
+    requires across { 2 * rows.half ≤ rows.pitch }
+    requires down { rows.count * rows.pitch ≤ length cells.old }
     requires samples { length samples.old ≡ format.rows * format.columns }
-    requires bound { HasBound (rows_bound wavelet) cells.old }
+    requires bound { HasBound (rows_bound rows.wavelet) cells.old }
     ensures { (x y : ℕ) → x < format.columns → y < format.rows
         → slice_index_or samples.new (y * format.columns + x) 0
-        ≡ output_sample format.depth (remade Synthesis wavelet (is_shifted wavelet) half
-        (λ k. plane_of pitch cells.old k y) x) }
+        ≡ output_sample format.depth (remade Synthesis rows.wavelet (is_shifted rows.wavelet)
+        rows.half (λ k. plane_of rows.pitch cells.old k y) x) }
 {
     for y in 0..format.rows {
         put_row(
-            wavelet,
+            rows.wavelet,
             cells,
-            y * pitch,
-            half,
+            y * rows.pitch,
+            rows.half,
             samples,
             y * format.columns,
             format,
@@ -151,44 +142,41 @@ fn put_rows(
     }
 }
 
-/// Puts the highest level together, whose rows stand `pitch` cells apart, the low and the high ones in turn,
-/// and whose subbands have w columns and h rows, and fills the plane with the samples, which are clipped.
-/// From a bound on all cells it tells whether 32 bits were enough.
-pub(crate) fn put_level(
-    wavelets: Wavelets,
+// Puts the highest level together, whose low and high rows stand in turn, and fills the plane with the
+// samples, which are clipped. From a bound on all cells it tells whether 32 bits were enough.
+fn put_level(
+    level: Level,
     cells: &mut [i32],
-    pitch: usize,
-    w: usize,
-    h: usize,
     most: u64,
     samples: &mut [u16],
     format: Format,
 ) -> bool
-    requires down { wavelets.down ≤ 6 }
-    requires across { wavelets.across ≤ 6 }
     requires depth { (1 ≤ format.depth) × (format.depth ≤ 16) }
-    requires some { (0 < w) × (0 < h) }
-    requires small { (w < 2 ^ 60) × (h < 2 ^ 60) }
-    requires width { format.columns ≤ 2 * w }
-    requires height { format.rows ≤ 2 * h }
-    requires wide { 2 * w ≤ pitch }
-    requires high { 2 * h * pitch ≤ length cells.old }
+    requires plane { FillsPlane level.w level.h format.columns format.rows level.pitch
+        (length cells.old) }
     requires samples { length samples.old ≡ format.rows * format.columns }
     requires most { most < 2 ^ 31 }
     requires within { AreWithin most cells.old }
     ensures { result ≡ true → (x y : ℕ) → x < format.columns → y < format.rows
         → slice_index_or samples.new (y * format.columns + x) 0
         ≡ output_sample format.depth
-        (level_in_turn wavelets.down wavelets.across w h (plane_of pitch cells.old) x y) }
+        (level_in_turn level.wavelets.down level.wavelets.across level.w level.h
+        (plane_of level.pitch cells.old) x y) }
 {
-    let Some(made) = columns_reach(wavelets.down, cells, most) else {
+    let Some(made) = columns_reach(level.wavelets.down, cells, most) else {
         return false;
     };
-    merge_columns(wavelets.down, cells, pitch, 2 * w, h);
-    let Some(_after) = rows_reach(wavelets.across, cells, made) else {
+    merge_columns(level, cells);
+    let Some(_after) = rows_reach(level.wavelets.across, cells, made) else {
         return false;
     };
-    put_rows(wavelets.across, cells, pitch, w, samples, format);
+    let rows = Rows {
+        wavelet: level.wavelets.across,
+        pitch: level.pitch,
+        count: 2 * level.h,
+        half: level.w,
+    };
+    put_rows(rows, cells, samples, format);
     true
 }
 
@@ -220,16 +208,20 @@ pub fn inverse_output(
         ≡ output_sample format.depth (inverse_transform (parameters_of plan.now) c
         (nested_in (parameters_of plan.now) c stride cells.old) x y) }
 {
-    let below = plan.depth - 1;
-    let Some(most) = merge_below(plan, c, below, cells, stride, line) else {
+    let Some(most) = merge_below(plan, c, cells, stride, line) else {
         return false;
     };
-    let (w, h) = lowest(plan, c);
-    let w = side_at(w, plan.depth_ho + below);
-    let h = side_at(h, below);
-    let wavelets = Wavelets {
-        down: plan.wavelet,
-        across: plan.wavelet_ho,
+    let levels = levels_of(plan, c, stride);
+    let below = plan.depth - 1;
+    let (w, h) = (
+        side_at(levels.nesting.w, below),
+        side_at(levels.nesting.h, below),
+    );
+    let level = Level {
+        wavelets: levels.wavelets,
+        pitch: stride,
+        w,
+        h,
     };
-    put_level(wavelets, cells, stride, w, h, most, samples, format)
+    put_level(level, cells, most, samples, format)
 }

@@ -11,6 +11,7 @@ pub(crate) fn lowest(plan: &Plan, c: Component) -> (usize, usize)
     ensures width { result.0 ≡ lowest_width (parameters_of plan.now) c }
     ensures height { result.1 ≡ lowest_height (parameters_of plan.now) c }
     ensures some { (0 < result.0) × (0 < result.1) }
+    ensures narrow { result.0 < 2 ^ 32 }
     ensures small { (padded_width (parameters_of plan.now) c < 2 ^ 32)
         × (padded_height (parameters_of plan.now) c < 2 ^ 32) }
 {

@@ -5,8 +5,9 @@ ghost use Rattle.vc_types.specs.TransformParameters.{parameters_of};
 ghost use Rattle.vc_types.specs.Transforms.{inverse_transform};
 ghost use Rattle.vc_wave.specs.Planes.{AreBelow, HasRoom, plane_of};
 
-use crate::level::{BLOCK, Wavelets, merge_across, merge_levels};
-use crate::sides::{lowest, side_at};
+use crate::extents::{Rows, levels_of};
+use crate::level::{BLOCK, merge_across, merge_levels};
+use crate::sides::lowest;
 use std::alloc::Global;
 use vc_geometry::padded;
 use vc_types::{Component, Grid, NoMemory, Plan};
@@ -42,11 +43,12 @@ fn merge(plan: &Plan, c: Component, cells: &mut [i128], stride: usize, scratch: 
     ensures small { AreBelow (2 ^ 100) (plane_of stride cells.new) }
 {
     let (w, h) = lowest(plan, c);
-    let wavelets = Wavelets {
-        down: plan.wavelet,
-        across: plan.wavelet_ho,
+    let rows = Rows {
+        wavelet: plan.wavelet_ho,
+        pitch: stride,
+        count: h,
+        half: w,
     };
-    merge_across(wavelets.across, plan.depth_ho, cells, stride, w, h, scratch);
-    let w = side_at(w, plan.depth_ho);
-    merge_levels(wavelets, plan.depth, cells, stride, w, h, scratch);
+    merge_across(rows, plan.depth_ho, cells, scratch);
+    merge_levels(levels_of(plan, c, stride), cells, scratch);
 }

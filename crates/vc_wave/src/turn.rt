@@ -24,6 +24,7 @@ pub fn nesting_of(plan: &Plan, c: Component) -> Nesting
     ensures w { result.w
         ≡ lowest_width (parameters_of plan.now) c * 2 ^ (parameters_of plan.now).depth_ho }
     ensures h { result.h ≡ lowest_height (parameters_of plan.now) c }
+    ensures some { (0 < result.w) × (0 < result.h) }
     ensures small { (result.w * 2 ^ result.levels < 2 ^ 60)
         × (result.h * 2 ^ result.levels < 2 ^ 60) }
 {

@@ -1,4 +1,4 @@
-use Rattle.std.proofs.Common.{◌≡◌, ◌-◌, ◌≤◌}
+use Rattle.std.proofs.Common.{◌≡◌, ◌-◌, ◌*◌, ◌≤◌, false}
 use Rattle.vc_types.specs.Transforms.{on_columns}
 use Rattle.vc_wave.specs.Remade.{remade}
 use Rattle.vc_wave.specs.Planes.{plane_of}
@@ -6,9 +6,9 @@ use Rattle.vc_wave.proofs.level.remake_columns.Given as goal
 
 abbrev pub invariant-loop-start : goal.invariant-loop-start
 invariant-loop-start l = record {
-  done : plane_of l.stride l.cells ≡ on_columns (remade l.pass.direction l.pass.wavelet l.pass.shifted l.half) l.start (plane_of l.stride l.initial.cells);
-  within : l.start ≤ l.columns;
+  done : plane_of l.level.pitch l.cells ≡ on_columns (remade l.fn.direction l.level.wavelets.down false l.level.h) l.start (plane_of l.level.pitch l.initial.cells);
+  within : l.start ≤ 2 * l.level.w;
 }
 
 abbrev pub decreases-loop-start : goal.decreases-loop-start
-decreases-loop-start l = l.columns - l.start
+decreases-loop-start l = 2 * l.level.w - l.start

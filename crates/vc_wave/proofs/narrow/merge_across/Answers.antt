@@ -12,49 +12,34 @@ use Rattle.vc_wave.proofs.narrow.merge_across.Goals as goal
 
 pub loop-level-init : goal.loop-level-init
 loop-level-init c = record {
-  made = no_across c.args.wavelet c.args.w c.args.h (plane_of c.args.pitch c.args.cells.now);
+  made = no_across c.args.rows.wavelet c.args.rows.half c.args.rows.count (plane_of c.args.rows.pitch c.args.cells.now);
   within = c.requires.within;
   small = c.requires.most;
 }
 
-pub side_at-half-requires-clause-fits : goal.side_at-half-requires-clause-fits
-side_at-half-requires-clause-fits c = let fits = level_fits c.args.w c.loop-level.level c.args.levels c.loop-level-test.true in omega (arith, fits, c.requires.small)
-
-pub merge_rows-requires-clause-some : goal.merge_rows-requires-clause-some
-merge_rows-requires-clause-some c =
-    let fits = level_fits c.args.w c.loop-level.level c.args.levels c.loop-level-test.true in
-    let some = level_some c.args.w c.loop-level.level c.requires.some in
-    (omega (arith, some, c.side_at-half.ensures), omega (arith, fits, c.side_at-half.ensures, c.requires.small))
-
-pub merge_rows-requires-clause-across : goal.merge_rows-requires-clause-across
-merge_rows-requires-clause-across c = let fits = level_fits c.args.w c.loop-level.level c.args.levels c.loop-level-test.true in omega (arith, fits, c.side_at-half.ensures, c.requires.room.across)
-
-pub merge_rows-requires-clause-line : goal.merge_rows-requires-clause-line
-merge_rows-requires-clause-line c = let fits = level_fits c.args.w c.loop-level.level c.args.levels c.loop-level-test.true in omega (arith, fits, c.side_at-half.ensures, c.requires.room.row, c.loop-level.auto.line)
-
 pub merge_rows-requires-clause-bound : goal.merge_rows-requires-clause-bound
 merge_rows-requires-clause-bound c =
-    let r = subst (λ o. IfSome o (CarriesTo (rows_bound c.args.wavelet) c.loop-level.cells)) c.in_ok-bound.was c.rows_reach.ensures.value in
+    let r = subst (λ o. IfSome o (CarriesTo (rows_bound c.args.rows.wavelet) c.loop-level.cells)) c.in_ok-bound.was c.rows_reach.ensures.value in
     record { most = r.most; after = c.in_ok-bound.bound; small = r.small; fits = r.fits }
 
 pub loop-level-preserved : goal.loop-level-preserved
 loop-level-preserved c =
-    let wavelet = c.args.wavelet in
+    let wavelet = c.args.rows.wavelet in
     let level = c.loop-level.level in
-    let pitch = c.args.pitch in
+    let pitch = c.args.rows.pitch in
     let now = plane_of pitch c.loop-level.cells in
-    let fits = level_fits c.args.w level c.args.levels c.loop-level-test.true in
-    let some = level_some c.args.w level c.requires.some in
+    let fits = level_fits c.args.rows.half level c.args.levels c.loop-level-test.true in
+    let some = level_some c.args.rows.half level c.args.rows.some in
     let r = subst (λ o. IfSome o (CarriesTo (rows_bound wavelet) c.loop-level.cells)) c.in_ok-bound.was c.rows_reach.ensures.value in
     record {
       made =
-          next_across wavelet level c.args.w c.args.h (plane_of pitch c.args.cells.now) now (plane_of pitch c.merge_rows.new.cells) c.loop-level.invariant.made
-          (c.merge_rows.ensures ∙ ap (λ n. on_rows (remade Synthesis wavelet (is_shifted wavelet) n) c.args.h now) c.side_at-half.ensures ∙ sym (level_across_remade wavelet (c.args.w * 2 ^ level) c.args.h now));
-      within = rows_within wavelet c.side_at-half.result c.args.h pitch c.in_ok-bound.bound c.loop-level.cells c.merge_rows.new.cells (omega (arith, some, c.side_at-half.ensures)) (omega (arith, some, fits, c.requires.room.across)) r c.merge_rows.ensures;
+          next_across wavelet level c.args.rows.half c.args.rows.count (plane_of pitch c.args.cells.now) now (plane_of pitch c.merge_rows.new.cells) c.loop-level.invariant.made
+          (c.merge_rows.ensures ∙ ap (λ n. on_rows (remade Synthesis wavelet (is_shifted wavelet) n) c.args.rows.count now) c.side_at-half.ensures ∙ sym (level_across_remade wavelet (c.args.rows.half * 2 ^ level) c.args.rows.count now));
+      within = rows_within wavelet c.side_at-half.result c.args.rows.count pitch c.in_ok-bound.bound c.loop-level.cells c.merge_rows.new.cells (omega (arith, some, c.side_at-half.ensures)) (omega (arith, some, fits, c.requires.room.across)) r c.merge_rows.ensures;
       small = subst (λ o. IfSome o (λ b. b < 2 ^ 31)) c.in_ok-bound.was c.rows_reach.ensures.small;
     }
 
 pub returns-clause-made : goal.returns-clause-made
 returns-clause-made c =
     let end : c.loop-level.level ≡ c.args.levels = omega arith in
-    c.loop-level.invariant.made ∙ ap (λ n. levels_across c.args.wavelet n c.args.w c.args.h (plane_of c.args.pitch c.args.cells.now)) end
+    c.loop-level.invariant.made ∙ ap (λ n. levels_across c.args.rows.wavelet n c.args.rows.half c.args.rows.count (plane_of c.args.rows.pitch c.args.cells.now)) end

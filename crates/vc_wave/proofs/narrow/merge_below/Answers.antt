@@ -1,6 +1,6 @@
-use Rattle.std.proofs.Common.{rules, ◌≡◌, ◌*◌, ◌^◌, ◌≤◌, IfSome, length, arith, ap, sym, subst, ◌∙◌}
+use Rattle.std.proofs.Common.{rules, ◌≡◌, ◌-◌, ◌*◌, ◌^◌, ◌≤◌, IfSome, length, arith, refl, ap, sym, subst, ◌∙◌}
 use Rattle.vc_types.specs.TransformParameters.{parameters_of}
-use Rattle.vc_types.specs.Transforms.{levels_across, lowest_width}
+use Rattle.vc_types.specs.Transforms.{levels_across, lowest_width, lowest_height}
 use Rattle.vc_wave.specs.Layout.{laid_out, nested_in}
 use Rattle.vc_wave.specs.Planes.{plane_of}
 use Rattle.vc_wave.proofs.NarrowLevels.{pitch_fits, apart_room, across_laid, all_rooms, sides_small, some_also, after_made}
@@ -19,34 +19,25 @@ merge_across-requires-clause-room c =
     apart_room c.lowest-w.result.0 c.lowest-w.result.1 p.depth_ho p.depth c.args.stride c.side_at-pitch.result (length c.args.cells.now) (length c.args.line.now) c.side_at-pitch.ensures
     (all_rooms p c.args.c c.lowest-w.result.0 c.lowest-w.result.1 c.args.stride (length c.args.cells.now) (length c.args.line.now) c.lowest-w.ensures.width c.lowest-w.ensures.height c.requires.stride c.requires.cells c.requires.line)
 
-pub side_at-requires-clause-fits : goal.side_at-requires-clause-fits
-side_at-requires-clause-fits c = search (rules, sides_small)
-
-pub merge_levels-requires-clause-small : goal.merge_levels-requires-clause-small
-merge_levels-requires-clause-small c =
-    let p = parameters_of c.args.plan.now in
-    let small = sides_small p c.args.c c.lowest-w.result.0 c.lowest-w.result.1 c.lowest-w.ensures.width c.lowest-w.ensures.height c.lowest-w.ensures.small.0 c.lowest-w.ensures.small.1 in
-    let side = ap (λ n. n * 2 ^ p.depth) c.side_at.ensures in
-    (omega (arith, small.1, side), omega (arith, small.2))
+pub merge_across-requires-clause-narrow : goal.merge_across-requires-clause-narrow
+merge_across-requires-clause-narrow c = search (rules, sides_small)
 
 pub merge_levels-requires-clause-room : goal.merge_levels-requires-clause-room
 merge_levels-requires-clause-room c =
     let p = parameters_of c.args.plan.now in
-    let room = all_rooms p c.args.c c.lowest-w.result.0 c.lowest-w.result.1 c.args.stride (length c.args.cells.now) (length c.args.line.now) c.lowest-w.ensures.width c.lowest-w.ensures.height c.requires.stride c.requires.cells c.requires.line in
-    let side = ap (λ n. n * 2 ^ p.depth) c.side_at.ensures in
-    record {
-      across = omega (arith, side, room.across);
-      down = omega (arith, room.down, c.merge_across.auto.cells);
-      row = omega (arith, side, room.row, c.merge_across.auto.line);
-      side_by_side = omega arith;
-    }
+    let l = c.levels_of-levels in
+    let room = all_rooms p c.args.c (lowest_width p c.args.c) (lowest_height p c.args.c) c.args.stride (length c.args.cells.now) (length c.args.line.now) refl refl c.requires.stride c.requires.cells c.requires.line in
+    rw (l.ensures.levels, l.ensures.pitch, l.ensures.w, l.ensures.h, c.merge_across.auto.cells, c.merge_across.auto.line) room
 
 pub returns-clause-made : goal.returns-clause-made
 returns-clause-made c =
     let p = parameters_of c.args.plan.now in
     let w = c.lowest-w.result.0 in
     let h = c.lowest-w.result.1 in
-    let side = c.side_at.result in
+    let l = c.levels_of-levels in
+    let side = l.result.nesting.w in
+    let side_is : side ≡ w * 2 ^ p.depth_ho = l.ensures.w ∙ ap (λ n. n * 2 ^ p.depth_ho) (sym c.lowest-w.ensures.width) in
+    let high : l.result.nesting.h ≡ h = l.ensures.h ∙ sym c.lowest-w.ensures.height in
     let stride = c.args.stride in
     let before = plane_of stride c.args.cells.now in
     let after = plane_of stride c.merge_across.new.cells in
@@ -59,8 +50,8 @@ returns-clause-made c =
     let first : laid_out p.depth (w * 2 ^ p.depth_ho) h before ≡ nested_in p c.args.c stride c.args.cells.now =
     ap (λ n. laid_out p.depth (n * 2 ^ p.depth_ho) h before) c.lowest-w.ensures.width ∙ ap (λ n. laid_out p.depth (lowest_width p c.args.c * 2 ^ p.depth_ho) n before) c.lowest-w.ensures.height in
     some_also c.merge_levels.result _ _
-    (after_made p c.args.c c.args.count w side h (nested_in p c.args.c stride c.args.cells.now) after (plane_of stride c.merge_levels.new.cells) c.lowest-w.ensures.width c.lowest-w.ensures.height c.side_at.ensures
-    (ap (λ n. laid_out p.depth n h after) c.side_at.ensures
+    (after_made p c.args.c (p.depth - 1) w side h (nested_in p c.args.c stride c.args.cells.now) after (plane_of stride c.merge_levels.new.cells) c.lowest-w.ensures.width c.lowest-w.ensures.height side_is
+    (ap (λ n. laid_out p.depth n h after) side_is
     ∙ across_laid p.wavelet_ho p.depth_ho p.depth w h stride c.args.cells.now c.merge_across.new.cells narrow made
     ∙ ap (levels_across p.wavelet_ho p.depth_ho w h) first))
-    c.merge_levels.ensures.made
+    (rw (l.ensures.levels, l.ensures.pitch, l.ensures.down, l.ensures.across, high) at c.merge_levels.ensures.made)

@@ -5,9 +5,9 @@ use Rattle.vc_wave.specs.NarrowBounds.{AreWithin}
 use Rattle.vc_wave.specs.Planes.{plane_of}
 use Rattle.vc_wave.proofs.narrow.merge_levels.Given as goal
 
-abbrev pub invariant-loop-level : goal.invariant-loop-level
-invariant-loop-level l = record {
-  made : laid_out (l.nesting.levels - l.level) (l.nesting.w * 2 ^ l.level) (l.nesting.h * 2 ^ l.level) (plane_of l.stride l.cells) ≡ inverse_levels l.wavelets.down l.wavelets.across l.level l.nesting.w l.nesting.h (laid_out l.nesting.levels l.nesting.w l.nesting.h (plane_of l.stride l.initial.cells));
+abbrev pub invariant-loop-n : goal.invariant-loop-n
+invariant-loop-n l = record {
+  made : laid_out (l.levels.nesting.levels - l.n) (l.levels.nesting.w * 2 ^ l.n) (l.levels.nesting.h * 2 ^ l.n) (plane_of l.levels.pitch l.cells) ≡ inverse_levels l.levels.wavelets.down l.levels.wavelets.across l.n l.levels.nesting.w l.levels.nesting.h (laid_out l.levels.nesting.levels l.levels.nesting.w l.levels.nesting.h (plane_of l.levels.pitch l.initial.cells));
   within : AreWithin l.bound l.cells;
   small : l.bound < 2 ^ 31;
 }

@@ -10,20 +10,20 @@ use Rattle.vc_wave.proofs.Weaving.{remade_past, remade_reads}
 use Rattle.vc_wave.proofs.narrow_analysis.part_rows.Goals as goal
 
 pub loop-y-init : goal.loop-y-init
-loop-y-init c = rows_none (remade Analysis c.args.wavelet (is_shifted c.args.wavelet) c.args.half) (plane_of c.args.pitch c.args.cells.now)
+loop-y-init c = rows_none (remade Analysis c.args.rows.wavelet (is_shifted c.args.rows.wavelet) c.args.rows.half) (plane_of c.args.rows.pitch c.args.cells.now)
 
 pub part_row-requires-clause-bound : goal.part_row-requires-clause-bound
 part_row-requires-clause-bound c =
-    let f = remade Analysis c.args.wavelet (is_shifted c.args.wavelet) c.args.half in
-    let first = plane_of c.args.pitch c.args.cells.now in
+    let f = remade Analysis c.args.rows.wavelet (is_shifted c.args.rows.wavelet) c.args.rows.half in
+    let first = plane_of c.args.rows.pitch c.args.cells.now in
     let y = c.loop-y.y in
     record {
       most = c.requires.bound.most;
       after = c.requires.bound.after;
       small = λ k lt.
-          (let left = row_left f c.args.pitch y (2 * c.args.half) first c.loop-y.cells c.requires.across c.loop-y.invariant k lt in
-          let place : y * c.args.pitch + k ≡ y * c.args.pitch + k * 1 + 0 = omega arith in
-          subst (λ z. unsigned_abs z ≤ c.requires.bound.most) (sym (ap (line_of c.loop-y.cells) place ∙ left)) (plane_small c.args.pitch c.requires.bound.most c.args.cells.now c.requires.bound.small k y));
+          (let left = row_left f c.args.rows.pitch y (2 * c.args.rows.half) first c.loop-y.cells c.requires.across c.loop-y.invariant k lt in
+          let place : y * c.args.rows.pitch + k ≡ y * c.args.rows.pitch + k * 1 + 0 = omega arith in
+          subst (λ z. unsigned_abs z ≤ c.requires.bound.most) (sym (ap (line_of c.loop-y.cells) place ∙ left)) (plane_small c.args.rows.pitch c.requires.bound.most c.args.cells.now c.requires.bound.small k y));
       fits = c.requires.bound.fits;
     }
 

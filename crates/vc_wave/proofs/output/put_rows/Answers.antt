@@ -14,7 +14,7 @@ put_row-requires-clause-at c =
 
 pub put_row-requires-clause-inside : goal.put_row-requires-clause-inside
 put_row-requires-clause-inside c =
-    let past : suc c.loop-y.y * c.args.pitch ≤ c.args.format.rows * c.args.pitch = mul-le-mul_right c.args.pitch c.loop-y-test.true in
+    let past : suc c.loop-y.y * c.args.rows.pitch ≤ c.args.rows.count * c.args.rows.pitch = mul-le-mul_right c.args.rows.pitch (omega (arith, c.loop-y-test.true, c.requires.height)) in
     omega (arith, past, c.requires.across, c.requires.down, c.loop-y.auto.cells)
 
 pub put_row-requires-clause-bound : goal.put_row-requires-clause-bound
@@ -22,11 +22,11 @@ put_row-requires-clause-bound c = grind arith
 
 pub loop-y-preserved : goal.loop-y-preserved
 loop-y-preserved c =
-    let f = remade Synthesis c.args.wavelet (is_shifted c.args.wavelet) c.args.half in
+    let f = remade Synthesis c.args.rows.wavelet (is_shifted c.args.rows.wavelet) c.args.rows.half in
     let y = c.loop-y.y in
     record {
       put =
-          rows_put f c.args.pitch (2 * c.args.half) c.args.format.columns c.args.format.depth y (remade_reads Synthesis c.args.wavelet (is_shifted c.args.wavelet) c.args.half) c.requires.width c.requires.across c.args.cells.now c.loop-y.cells c.loop-y.samples c.put_row.new.samples
+          rows_put f c.args.rows.pitch (2 * c.args.rows.half) c.args.format.columns c.args.format.depth y (remade_reads Synthesis c.args.rows.wavelet (is_shifted c.args.rows.wavelet) c.args.rows.half) c.requires.width c.requires.across c.args.cells.now c.loop-y.cells c.loop-y.samples c.put_row.new.samples
           c.loop-y.invariant.left c.put_row.ensures.on c.put_row.ensures.off c.loop-y.invariant.put;
       left = λ i h. c.put_row.ensures.beside i (inr (omega (arith, h, c.requires.across))) ∙ c.loop-y.invariant.left i (omega (arith, h));
     }

@@ -9,6 +9,6 @@ use Rattle.vc_wave.proofs.output.put_rows.Given as goal
 
 abbrev pub invariant-loop-y : goal.invariant-loop-y
 invariant-loop-y l = record {
-  put : (x t : ℕ) → x < l.format.columns → t < l.y → slice_index_or l.samples (t * l.format.columns + x) 0 ≡ output_sample l.format.depth (remade Synthesis l.wavelet (is_shifted l.wavelet) l.half (λ k. plane_of l.pitch l.initial.cells k t) x);
-  left : (i : ℕ) → l.y * l.pitch ≤ i → line_of l.cells i ≡ line_of l.initial.cells i;
+  put : (x t : ℕ) → x < l.format.columns → t < l.y → slice_index_or l.samples (t * l.format.columns + x) 0 ≡ output_sample l.format.depth (remade Synthesis l.rows.wavelet (is_shifted l.rows.wavelet) l.rows.half (λ k. plane_of l.rows.pitch l.initial.cells k t) x);
+  left : (i : ℕ) → l.y * l.rows.pitch ≤ i → line_of l.cells i ≡ line_of l.initial.cells i;
 }

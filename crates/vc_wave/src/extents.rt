@@ -1,0 +1,74 @@
+ghost use Rattle.std.specs.Prelude.{◌≡◌, ◌*◌, ◌^◌, ◌<◌, ◌≤◌};
+ghost use Rattle.vc_types.specs.TransformParameters.{parameters_of};
+ghost use Rattle.vc_types.specs.Transforms.{lowest_width, lowest_height};
+
+use crate::turn::{Nesting, nesting_of};
+use vc_types::{Component, Plan};
+
+/// The wavelets of columns and rows.
+#[derive(Clone, Copy)]
+pub(crate) struct Wavelets {
+    pub down: u8,
+    pub across: u8,
+    pub ghost down_is_known: { down ≤ 6 },
+    pub ghost across_is_known: { across ≤ 6 },
+}
+
+/// Levels both ways, one above another, and how far apart the rows stand that hold them.
+#[derive(Clone, Copy)]
+pub(crate) struct Levels {
+    pub wavelets: Wavelets,
+    pub nesting: Nesting,
+    pub pitch: usize,
+    pub ghost few: { nesting.levels ≤ 5 },
+    pub ghost some_columns: { 0 < nesting.w },
+    pub ghost some_rows: { 0 < nesting.h },
+    pub ghost narrow: { nesting.w * 2 ^ nesting.levels < 2 ^ 60 },
+    pub ghost low: { nesting.h * 2 ^ nesting.levels < 2 ^ 60 },
+}
+
+/// A level both ways: how far apart its rows stand, and how many columns and rows its subbands have.
+#[derive(Clone, Copy)]
+pub(crate) struct Level {
+    pub wavelets: Wavelets,
+    pub pitch: usize,
+    pub w: usize,
+    pub h: usize,
+    pub ghost some_columns: { 0 < w },
+    pub ghost some_rows: { 0 < h },
+    pub ghost narrow: { w < 2 ^ 60 },
+    pub ghost low: { h < 2 ^ 60 },
+}
+
+/// Rows that are put together or taken apart: their wavelet, how far apart they stand, how many there are,
+/// and half of the cells of each.
+#[derive(Clone, Copy)]
+pub(crate) struct Rows {
+    pub wavelet: u8,
+    pub pitch: usize,
+    pub count: usize,
+    pub half: usize,
+    pub ghost wavelet_is_known: { wavelet ≤ 6 },
+    pub ghost some: { 0 < half },
+    pub ghost narrow: { half < 2 ^ 60 },
+}
+
+/// The levels both ways of a component, in rows that stand so far apart.
+pub(crate) fn levels_of(plan: &Plan, c: Component, pitch: usize) -> Levels
+    ensures down { result.wavelets.down ≡ plan.now.wavelet }
+    ensures across { result.wavelets.across ≡ plan.now.wavelet_ho }
+    ensures levels { result.nesting.levels ≡ plan.now.depth }
+    ensures w { result.nesting.w
+        ≡ lowest_width (parameters_of plan.now) c * 2 ^ (parameters_of plan.now).depth_ho }
+    ensures h { result.nesting.h ≡ lowest_height (parameters_of plan.now) c }
+    ensures pitch { result.pitch ≡ pitch }
+{
+    Levels {
+        wavelets: Wavelets {
+            down: plan.wavelet,
+            across: plan.wavelet_ho,
+        },
+        nesting: nesting_of(plan, c),
+        pitch,
+    }
+}
