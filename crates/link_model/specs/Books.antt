@@ -1,11 +1,14 @@
 -- A picture's book: what stands for its parts, without the parts themselves, and what one part more
 -- changes.
-use Rattle.std.specs.Prelude.{ℕ, nat_lt, if◌then◌else◌, List, [], ◌∷◌, ◌++◌, length, map, take, drop, replicate, slice_get, fold, filter_map, is_some, unwrap_or, Option, Some, None, Result, Ok, Err}
+use Rattle.std.specs.Prelude.{ℕ, nat_lt, if◌then◌else◌, List, [], ◌∷◌, ◌++◌, length, map, take}
+use Rattle.std.specs.Prelude.{drop, replicate, slice_get, fold, filter_map, is_some, unwrap_or}
+use Rattle.std.specs.Prelude.{Option, Some, None, Result, Ok, Err}
 use Rattle.std.specs.List.{flat_map, list_all}
 use Rattle.std.specs.Option.{option_and_then, option_map, option_or}
 use Rattle.link_model.specs.Complete.{slice_numbers}
 use Rattle.link_model.specs.Judgement.{KnownPicture, run_outcome, judged_part}
-use Rattle.link_model.specs.Kept.{KeptParameters, kept_parameters, Own, own, own_slice, part_slices, SliceRun, slice_run, waiting_limit}
+use Rattle.link_model.specs.Kept.{KeptParameters, kept_parameters, Own, own, own_slice, part_slices}
+use Rattle.link_model.specs.Kept.{SliceRun, slice_run, waiting_limit}
 use Rattle.link_model.specs.Session.{Part, ParamsPart, SlicesPart, SlicePart}
 use Rattle.link_model.specs.declared.outcome.Outcome.{Outcome}
 use Rattle.vc_types.specs.SequenceHeader.{Sequence}

@@ -2,16 +2,22 @@
 --
 -- Ten rules judge a datagram, and the first that applies decides. They stand here once, and go by
 -- what is known when it comes; lists, books, windows and receivers say what they know.
-use Rattle.std.specs.Prelude.{ℕ, ◌+◌, ◌-◌, ◌%◌, Bool, true, false, ◌&&◌, not, is_some, is_none, nat_lt, ◌==◌, if◌then◌else◌, List, [], ◌∷◌, ◌++◌, length, filter_map, fold, count_by, Option, Some, None, Result, Ok, Err}
+use Rattle.std.specs.Prelude.{ℕ, ◌+◌, ◌-◌, ◌%◌, Bool, true, false, ◌&&◌, not, is_some, is_none}
+use Rattle.std.specs.Prelude.{nat_lt, ◌==◌, if◌then◌else◌, List, [], ◌∷◌, ◌++◌, length, filter_map}
+use Rattle.std.specs.Prelude.{fold, count_by, Option, Some, None, Result, Ok, Err}
 use Rattle.std.specs.List.{list_any, enumerate_from}
 use Rattle.std.specs.Option.{option_map_or, option_and_then}
 use Rattle.std.specs.Str.{bytes_eq}
 use Rattle.vc_types.specs.SameValues.{same_sequence, same_parameters}
-use Rattle.link_model.specs.Kept.{KeptParameters, ReadParameters, own, own_parameters, own_slice, part_slices, waiting_limit, SliceRun, slice_run}
+use Rattle.link_model.specs.Kept.{KeptParameters, ReadParameters, own, own_parameters, own_slice}
+use Rattle.link_model.specs.Kept.{part_slices, waiting_limit, SliceRun, slice_run}
 use Rattle.link_model.specs.Numbers.{Numbered, entered, picture_number, is_late, parts_of, opened_numbers}
 use Rattle.link_model.specs.Output.{complete_at, planes_at, frame_at, base_behind, entered_behind}
 use Rattle.link_model.specs.Packets.{PayloadValue, Header, End, Skip, Params, Slices}
-use Rattle.link_model.specs.Session.{Received, received, DatagramRefusal, OfRtp, OfPayload, Session, HeardSession, opens_over, session_by, sessions_of, Part, ParamsPart, SlicesPart, SlicePart, Fragment, params_fragment, slices_fragment}
+use Rattle.link_model.specs.Session.{Received, received, DatagramRefusal, OfRtp, OfPayload, Session}
+use Rattle.link_model.specs.Session.{HeardSession, opens_over, session_by, sessions_of, Part}
+use Rattle.link_model.specs.Session.{ParamsPart, SlicesPart, SlicePart, Fragment, params_fragment}
+use Rattle.link_model.specs.Session.{slices_fragment}
 use Rattle.link_model.specs.declared.outcome.Outcome.{Outcome}
 use Rattle.link_model.specs.declared.outcome.Outcome.TheVariants as outcomes
 use Rattle.link_model.specs.declared.refusal.PayloadRefusal.{PayloadRefusal}

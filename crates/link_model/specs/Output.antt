@@ -1,11 +1,14 @@
 -- What is written of a list of datagrams: the frames of its pictures, in rising order.
-use Rattle.std.specs.Prelude.{◌≡◌, ℕ, ◌+◌, ◌-◌, ◌%◌, ◌==◌, max, Bool, false, ◌||◌, not, if◌then◌else◌, List, [], ◌∷◌, ◌++◌, length, take, take_while, filter, Option, None}
+use Rattle.std.specs.Prelude.{◌≡◌, ℕ, ◌+◌, ◌-◌, ◌%◌, ◌==◌, max, Bool, false, ◌||◌, not}
+use Rattle.std.specs.Prelude.{if◌then◌else◌, List, [], ◌∷◌, ◌++◌, length, take, take_while, filter}
+use Rattle.std.specs.Prelude.{Option, None}
 use Rattle.std.specs.List.{flat_map, list_all, range_with_len}
 use Rattle.std.specs.Option.{option_map, option_map_or, option_zip}
 use Rattle.link_model.specs.Complete.{is_complete, picture_planes}
 use Rattle.vc_types.specs.FieldPairs.{woven}
 use Rattle.vc_types.specs.RawFrames.{is_wide, frame_bytes}
-use Rattle.link_model.specs.Numbers.{Numbered, greatest, base_above, parts_of, entered, is_closed, is_opened, opened_numbers, span}
+use Rattle.link_model.specs.Numbers.{Numbered, greatest, base_above, parts_of, entered, is_closed}
+use Rattle.link_model.specs.Numbers.{is_opened, opened_numbers, span}
 use Rattle.link_model.specs.Session.{HeardSession, sessions_of}
 use Rattle.vc_types.specs.Planes.{Planes}
 use Rattle.vc_types.specs.SequenceHeader.{Sequence, picture_shape}

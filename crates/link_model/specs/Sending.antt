@@ -2,11 +2,15 @@
 -- parameters and slices, and an end of sequence after the last (RFC 3550, 5.1; RFC 8450, 4). Each
 -- field of a datagram is a function of the datagram's number, of its picture's number, and of what
 -- it carries.
-use Rattle.std.specs.Prelude.{◌<◌, ◌≤◌, ℕ, ◌+◌, ◌-◌, ◌*◌, ◌/◌, ◌%◌, ◌^◌, Bool, false, ◌==◌, nat_le, if◌then◌else◌, List, [], ◌∷◌, ◌++◌, length, drop, map}
+use Rattle.std.specs.Prelude.{◌<◌, ◌≤◌, ℕ, ◌+◌, ◌-◌, ◌*◌, ◌/◌, ◌%◌, ◌^◌, Bool, false, ◌==◌, nat_le}
+use Rattle.std.specs.Prelude.{if◌then◌else◌, List, [], ◌∷◌, ◌++◌, length, drop, map}
 use Rattle.std.specs.List.{flat_map, enumerate_from}
 use Rattle.link_model.specs.Kept.{SliceRun}
-use Rattle.link_model.specs.Packets.{RtpPacket, rtp_header, FragmentHead, PayloadValue, Header, End, Params, Slices, payload_bytes}
-use Rattle.link_model.specs.SendingPictures.{sent_header, sent_parameters, sent_parameter_bytes, sent_slices, slice_room, Need, picture_needs, chosen_indices}
+use Rattle.link_model.specs.Packets.{RtpPacket, rtp_header, FragmentHead, PayloadValue, Header, End}
+use Rattle.link_model.specs.Packets.{Params, Slices, payload_bytes}
+use Rattle.link_model.specs.SendingPictures.{sent_header, sent_parameters, sent_parameter_bytes}
+use Rattle.link_model.specs.SendingPictures.{sent_slices, slice_room, Need, picture_needs}
+use Rattle.link_model.specs.SendingPictures.{chosen_indices}
 use Rattle.vc_types.specs.FieldPairs.{fields_of}
 use Rattle.vc_types.specs.Fields.{joined}
 use Rattle.vc_types.specs.Planes.{Planes}

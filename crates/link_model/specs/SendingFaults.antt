@@ -1,9 +1,11 @@
 -- Why a frame isn't sent: the first sample that is too large, else the first slice that is (this
 -- project's own).
-use Rattle.std.specs.Prelude.{ℕ, ◌+◌, ◌^◌, Bool, ◌||◌, nat_lt, if◌then◌else◌, List, [], ◌∷◌, drop, Option, Some, None}
+use Rattle.std.specs.Prelude.{ℕ, ◌+◌, ◌^◌, Bool, ◌||◌, nat_lt, if◌then◌else◌, List, [], ◌∷◌, drop}
+use Rattle.std.specs.Prelude.{Option, Some, None}
 use Rattle.std.specs.Option.{option_map, option_or}
 use Rattle.link_model.specs.Sending.{pictures_of}
-use Rattle.link_model.specs.SendingPictures.{sent_parameters, sent_coefficients, sent_length, slices_with_indices, slice_room}
+use Rattle.link_model.specs.SendingPictures.{sent_parameters, sent_coefficients, sent_length}
+use Rattle.link_model.specs.SendingPictures.{slices_with_indices, slice_room}
 use Rattle.vc_types.specs.declared.video.Component.TheVariants.{Y, C1}
 use Rattle.vc_types.specs.Encoding.{is_too_long}
 use Rattle.vc_types.specs.Planes.{Planes}

@@ -1,7 +1,8 @@
 -- What this project's sender makes of a picture: the bytes of its sequence header and of its
 -- transform parameters, its coefficients, and each slice at its quantisation index; and how the
 -- index of a slice is chosen.
-use Rattle.std.specs.Prelude.{◌≡◌, ℕ, ◌-◌, Bool, true, false, nat_le, min, List, [], ◌∷◌, map, take, unwrap_or, ℤ}
+use Rattle.std.specs.Prelude.{◌≡◌, ℕ, ◌-◌, Bool, true, false, nat_le, min, List, [], ◌∷◌, map, take}
+use Rattle.std.specs.Prelude.{unwrap_or, ℤ}
 use Rattle.std.specs.List.{range_with_len, enumerate_from, position_or_len}
 use Rattle.vc_types.specs.declared.choice.IndexChoice.{IndexChoice}
 use Rattle.vc_types.specs.declared.choice.IndexChoice.TheVariants.{Index, Fit}

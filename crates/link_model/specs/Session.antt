@@ -1,10 +1,13 @@
 -- A list of datagrams taken apart: what each datagram is, the sessions that sequence headers open
 -- one after another, and the fragments of pictures that belong to each (this project's profile of
 -- RFC 8450).
-use Rattle.std.specs.Prelude.{ℕ, Bool, true, false, ◌&&◌, ◌||◌, not, ◌==◌, if◌then◌else◌, List, [], ◌∷◌, ◌++◌, slice_range, filter_map, fold, Option, Some, None, Result, Ok, Err}
+use Rattle.std.specs.Prelude.{ℕ, Bool, true, false, ◌&&◌, ◌||◌, not, ◌==◌, if◌then◌else◌, List, []}
+use Rattle.std.specs.Prelude.{◌∷◌, ◌++◌, slice_range, filter_map, fold, Option, Some, None, Result}
+use Rattle.std.specs.Prelude.{Ok, Err}
 use Rattle.std.specs.Option.{option_map_or}
 use Rattle.vc_types.specs.SameValues.{same_sequence}
-use Rattle.link_model.specs.Packets.{PayloadValue, Header, End, Params, Slices, FragmentHead, RtpPacket, rtp_packet, payload}
+use Rattle.link_model.specs.Packets.{PayloadValue, Header, End, Params, Slices, FragmentHead}
+use Rattle.link_model.specs.Packets.{RtpPacket, rtp_packet, payload}
 use Rattle.link_model.specs.declared.refusal.PayloadRefusal.{PayloadRefusal}
 use Rattle.link_model.specs.declared.refusal.RtpRefusal.{RtpRefusal}
 use Rattle.vc_types.specs.SequenceHeader.{Sequence, coded_header}

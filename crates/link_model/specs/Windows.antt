@@ -1,10 +1,13 @@
 -- A window: what stands for the fragments of a session, without the fragments themselves.
-use Rattle.std.specs.Prelude.{◌≡◌, ℕ, ◌+◌, ◌-◌, ◌^◌, Bool, true, false, ◌&&◌, ◌||◌, not, nat_lt, nat_le, ◌==◌, if◌then◌else◌, List, [], ◌∷◌, ◌++◌, length, map, filter, drop, Option, Some, None, is_some, unwrap_or}
+use Rattle.std.specs.Prelude.{◌≡◌, ℕ, ◌+◌, ◌-◌, ◌^◌, Bool, true, false, ◌&&◌, ◌||◌, not, nat_lt}
+use Rattle.std.specs.Prelude.{nat_le, ◌==◌, if◌then◌else◌, List, [], ◌∷◌, ◌++◌, length, map, filter}
+use Rattle.std.specs.Prelude.{drop, Option, Some, None, is_some, unwrap_or}
 use Rattle.std.specs.List.{list_all, last_or}
 use Rattle.std.specs.Option.{option_map_or, option_and_then}
 use Rattle.link_model.specs.Books.{book_whole, Book, book_of, book_takes, book_outcome}
 use Rattle.link_model.specs.Judgement.{unless_late}
-use Rattle.link_model.specs.Numbers.{Numbered, greatest, nearest, base_above, enters, is_closed, opened_numbers, parts_of, span}
+use Rattle.link_model.specs.Numbers.{Numbered, greatest, nearest, base_above, enters, is_closed}
+use Rattle.link_model.specs.Numbers.{opened_numbers, parts_of, span}
 use Rattle.link_model.specs.Output.{complete_at, let_go_numbers, greatest_of, entered_behind}
 use Rattle.link_model.specs.Session.{Fragment, Part, HeardSession}
 use Rattle.link_model.specs.declared.outcome.Outcome.{Outcome}

@@ -1,18 +1,31 @@
-ghost use Rattle.std.specs.Prelude.{◌≡◌, ℕ, ◌+◌, ◌%◌, ◌^◌, ◌-◌, ◌<◌, ◌≤◌, true, false, List, [], ◌∷◌, ◌++◌, fold, filter_map, is_some, Some, None, Ok, length};
+ghost use Rattle.std.specs.Prelude.{◌≡◌, ℕ, ◌+◌, ◌%◌, ◌^◌, ◌-◌, ◌<◌, ◌≤◌, true, false, List, []};
+ghost use Rattle.std.specs.Prelude.{◌∷◌, ◌++◌, fold, filter_map, is_some, Some, None, Ok, length};
 ghost use Rattle.std.specs.List.{flat_map, list_any};
 ghost use Rattle.std.specs.Option.{option_and_then};
 ghost use Rattle.link_model.specs.Books.{Book, book_of, book_takes, book_outcome, book_slice, book_whole};
 ghost use Rattle.link_model.specs.Complete.{whole_picture};
-ghost use Rattle.link_model.specs.Judgement.{part_outcome, keeps, fragment_outcome, outcome_behind, outcomes_in, with_outcome, outcome_counts};
+ghost use Rattle.link_model.specs.Judgement.{part_outcome, keeps, fragment_outcome, outcome_behind};
+ghost use Rattle.link_model.specs.Judgement.{outcomes_in, with_outcome, outcome_counts};
 ghost use Rattle.link_model.specs.Kept.{Own, own, own_slice};
-ghost use Rattle.link_model.specs.Numbers.{Numbered, base_above, is_opened, greatest, nearest, picture_number, is_closed, is_late, enters, entered, parts_of, opened_numbers};
-ghost use Rattle.link_model.specs.Output.{is_let_go, let_go_numbers, frame_bytes_at, frames_so_far, all_frames, output_so_far, full_output, greatest_of, entered_behind, is_opened_in, is_closed_behind, closing_place, all_output, last_so_far, IsPrefixOf};
-ghost use Rattle.link_model.specs.Packets.{RtpPacket, RtpFits, rtp_packet, rtp_header, PayloadValue, IsWritable, payload, payload_bytes, read_back};
-ghost use Rattle.link_model.specs.Session.{Part, Fragment, Session, HeardSession, just_opened, is_other, opens_other, opens_behind, opens_next, with_datagram, hears, sessions_of, begins, ends, fragment_in};
+ghost use Rattle.link_model.specs.Numbers.{Numbered, base_above, is_opened, greatest, nearest};
+ghost use Rattle.link_model.specs.Numbers.{picture_number, is_closed, is_late, enters, entered};
+ghost use Rattle.link_model.specs.Numbers.{parts_of, opened_numbers};
+ghost use Rattle.link_model.specs.Output.{is_let_go, let_go_numbers, frame_bytes_at, frames_so_far};
+ghost use Rattle.link_model.specs.Output.{all_frames, output_so_far, full_output, greatest_of};
+ghost use Rattle.link_model.specs.Output.{entered_behind, is_opened_in, is_closed_behind};
+ghost use Rattle.link_model.specs.Output.{closing_place, all_output, last_so_far, IsPrefixOf};
+ghost use Rattle.link_model.specs.Packets.{RtpPacket, RtpFits, rtp_packet, rtp_header};
+ghost use Rattle.link_model.specs.Packets.{PayloadValue, IsWritable, payload, payload_bytes};
+ghost use Rattle.link_model.specs.Packets.{read_back};
+ghost use Rattle.link_model.specs.Session.{Part, Fragment, Session, HeardSession, just_opened};
+ghost use Rattle.link_model.specs.Session.{is_other, opens_other, opens_behind, opens_next};
+ghost use Rattle.link_model.specs.Session.{with_datagram, hears, sessions_of, begins, ends};
+ghost use Rattle.link_model.specs.Session.{fragment_in};
 ghost use Rattle.link_model.specs.declared.outcome.Outcome.TheVariants.{HeaderNew, End};
 ghost use Rattle.vc_types.specs.SequenceHeader.{Sequence};
 
-/// What a picture keeps stays as parts come: its parameters, each slice, and, once it is complete, its whole bytes.
+/// What a picture keeps stays as parts come: its parameters, each slice, and, once it is complete,
+/// its whole bytes.
 #[tactic(auto, using(crate::proofs::Keeping::laws))]
 pub fn what_is_kept_stays()
     ensures kept { (s : Sequence) (parts more : List Part) (kept : Own) → own s parts ≡ Some kept
@@ -52,7 +65,8 @@ pub fn let_go_pictures_stay()
         → is_let_go window s es n ≡ true → is_let_go window s es m ≡ false → n < m }
 {}
 
-/// What is written of a list of datagrams begins what is written of any longer one, and all that is written in the end.
+/// What is written of a list of datagrams begins what is written of any longer one, and all that is
+/// written in the end.
 #[tactic(auto, using(crate::proofs::Growing::laws))]
 pub fn output_only_grows()
     ensures so_far { (window : ℕ) (datagrams more : List (List ℕ))
@@ -61,7 +75,8 @@ pub fn output_only_grows()
         → IsPrefixOf (output_so_far window datagrams) (full_output window (datagrams ++ more)) }
 {}
 
-/// Each picture is written as it is let go, in rising order, and those that are left when the input has ended.
+/// Each picture is written as it is let go, in rising order, and those that are left when the input
+/// has ended.
 #[tactic(auto, using(crate::proofs::Leaving::laws))]
 pub fn pictures_leave_in_order()
     ensures so_far { (base window : ℕ) (s : Sequence) (fragments more : List Fragment)
@@ -75,8 +90,8 @@ pub fn pictures_leave_in_order()
         ≡ frames_so_far window s es ++ flat_map (frame_bytes_at s es) rest) }
 {}
 
-/// The book of a list of parts is with a part more the book of the longer list. It answers the part's outcome, has the
-/// slices that are kept, and the picture's whole bytes.
+/// The book of a list of parts is with a part more the book of the longer list. It answers the
+/// part's outcome, has the slices that are kept, and the picture's whole bytes.
 #[tactic(auto, using(crate::proofs::Bookkeeping::laws))]
 pub fn books_stand_for_parts()
     ensures more { (s : Sequence) (parts : List Part) (part : Part)
@@ -107,8 +122,8 @@ pub fn pictures_close_at_their_place()
         → is_closed_behind window datagrams n (closing_place window datagrams n) ≡ true }
 {}
 
-/// A picture's number has the 32 bits that were sent, is at most half of their range away from the greatest one, and fits
-/// 64 bits.
+/// A picture's number has the 32 bits that were sent, is at most half of their range away from the
+/// greatest one, and fits 64 bits.
 #[tactic(auto, using(crate::proofs::Wrapping::laws))]
 pub fn numbers_wrap()
     ensures bits { (number bits : ℕ) → 2 ^ 32 ≤ number → bits < 2 ^ 32
@@ -133,8 +148,9 @@ pub fn outcomes_are_counted()
         (outcome_behind window datagrams datagram) }
 {}
 
-/// The numbers of a session begin at the least multiple of 2^32 that is more than 8 above all earlier ones, so in a
-/// window of at most 8 no picture of it has the number of an earlier session's.
+/// The numbers of a session begin at the least multiple of 2^32 that is more than 8 above all
+/// earlier ones, so in a window of at most 8 no picture of it has the number of an earlier
+/// session's.
 #[tactic(auto, using(crate::proofs::Apart::laws))]
 pub fn sessions_have_numbers_apart()
     ensures above { (number : ℕ) → number + 8 < base_above number }
@@ -144,8 +160,9 @@ pub fn sessions_have_numbers_apart()
         → is_opened_in window hs n ≡ true → is_opened (entered_behind window hs h) n ≡ false }
 {}
 
-/// The first session opens at the first header that is accepted. A session ends at the first end of its source; it has all
-/// fragments of its source up to the first datagram after that end that opens another session, and that one opens the next.
+/// The first session opens at the first header that is accepted. A session ends at the first end of
+/// its source; it has all fragments of its source up to the first datagram after that end that
+/// opens another session, and that one opens the next.
 #[tactic(auto, using(crate::proofs::Following::laws))]
 pub fn sessions_follow_each_other()
     ensures none { (datagrams : List (List ℕ)) → list_any (λ d. is_some (begins d)) datagrams
@@ -209,8 +226,8 @@ pub fn outcomes_say_what_datagrams_do()
         ≡ false → hears (h ∷ hs) d ≡ h ∷ hs }
 {}
 
-/// What is written after earlier sessions: of a session that opens nothing, of its datagrams each picture as it is let go,
-/// and where it is over those that are left.
+/// What is written after earlier sessions: of a session that opens nothing, of its datagrams each
+/// picture as it is let go, and where it is over those that are left.
 #[tactic(auto, using(crate::proofs::SessionOutput::laws))]
 pub fn sessions_are_written_in_order()
     ensures opening { (window : ℕ) (hs : List HeardSession) (s : Session)
@@ -229,8 +246,9 @@ pub fn sessions_are_written_in_order()
         ++ flat_map (frame_bytes_at h.session.sequence (entered_behind window hs h)) rest) }
 {}
 
-/// What a packet or a payload is written as is read back as the same value, the places aside. What follows an RTP header
-/// is its payload; bytes after a payload join the body of a sequence header, and are ignored elsewhere.
+/// What a packet or a payload is written as is read back as the same value, the places aside. What
+/// follows an RTP header is its payload; bytes after a payload join the body of a sequence header,
+/// and are ignored elsewhere.
 #[tactic(auto, using(crate::proofs::WrittenPackets::laws, crate::proofs::WrittenPayloads::laws))]
 pub fn what_is_written_is_read()
     ensures rtp { (p : RtpPacket) (rest : List ℕ) → RtpFits p → rtp_packet (rtp_header p ++ rest)

@@ -1,6 +1,7 @@
 ghost use Rattle.std.specs.Prelude.{◌≡◌, ℕ, ◌^◌, ◌<◌, List, ◌++◌, Ok, length};
 ghost use Rattle.link_model.specs.Sending.{Outgoing, FitsDatagram, sent_datagram, sent_value};
-ghost use Rattle.link_model.specs.SendingPictures.{sent_header, sent_sequence, sent_parameters, sent_parameter_bytes};
+ghost use Rattle.link_model.specs.SendingPictures.{sent_header, sent_sequence, sent_parameters};
+ghost use Rattle.link_model.specs.SendingPictures.{sent_parameter_bytes};
 ghost use Rattle.link_model.specs.Session.{received};
 ghost use Rattle.vc_types.specs.declared.settings.SendSettings.{SendSettings};
 ghost use Rattle.vc_types.specs.SenderSettings.{sending_view};

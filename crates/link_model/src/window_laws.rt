@@ -1,12 +1,19 @@
-ghost use Rattle.std.specs.Prelude.{◌≡◌, ℕ, ◌<◌, ◌≤◌, ◌^◌, true, false, ◌&&◌, ◌||◌, not, if◌then◌else◌, List, [], ◌∷◌, filter, length, Some, None};
+ghost use Rattle.std.specs.Prelude.{◌≡◌, ℕ, ◌<◌, ◌≤◌, ◌^◌, true, false, ◌&&◌, ◌||◌, not};
+ghost use Rattle.std.specs.Prelude.{if◌then◌else◌, List, [], ◌∷◌, filter, length, Some, None};
 ghost use Rattle.std.specs.List.{last_or};
 ghost use Rattle.std.specs.Option.{option_map};
 ghost use Rattle.link_model.specs.Books.{book_of};
 ghost use Rattle.link_model.specs.Judgement.{fragment_outcome};
-ghost use Rattle.link_model.specs.Numbers.{base_above, enters, entered, greatest, is_late, is_opened, nearest, parts_of, picture_number};
+ghost use Rattle.link_model.specs.Numbers.{base_above, enters, entered, greatest, is_late};
+ghost use Rattle.link_model.specs.Numbers.{is_opened, nearest, parts_of, picture_number};
 ghost use Rattle.link_model.specs.Output.{greatest_of};
 ghost use Rattle.link_model.specs.Session.{Fragment, HeardSession, with_datagram, fragment_in};
-ghost use Rattle.link_model.specs.Windows.{NumberedBook, Window, WindowPast, StandsForPast, new_window, new_past, late_in, number_by, closed_in, released_up_to, window_enters, window_outcome, past_enters, next_release, as_releasable, first_of, releasable_numbers, releases, past_releases, finishes, past_finishes, book_at, is_needed, session_past};
+ghost use Rattle.link_model.specs.Windows.{NumberedBook, Window, WindowPast, StandsForPast};
+ghost use Rattle.link_model.specs.Windows.{new_window, new_past, late_in, number_by, closed_in};
+ghost use Rattle.link_model.specs.Windows.{released_up_to, window_enters, window_outcome};
+ghost use Rattle.link_model.specs.Windows.{past_enters, next_release, as_releasable, first_of};
+ghost use Rattle.link_model.specs.Windows.{releasable_numbers, releases, past_releases, finishes};
+ghost use Rattle.link_model.specs.Windows.{past_finishes, book_at, is_needed, session_past};
 ghost use Rattle.vc_types.specs.SequenceHeader.{Sequence};
 
 /// A window stands for its past: a new one for the empty one, and so on with a fragment more, a
