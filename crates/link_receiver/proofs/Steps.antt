@@ -1,6 +1,6 @@
 -- What one step on a receiver's parts is on its value.
 use Rattle.std.proofs.Common.{◌≡◌, ℕ, List, [], ◌∷◌, Option, Some, None, Result, Ok, Err, refl, arith}
-use Rattle.std.specs.Prelude.{filter, IfSome, IfOk, OnErr}
+use Rattle.std.specs.Prelude.{filter, IfSome, IfOk}
 use Rattle.std.specs.Option.{option_copied}
 use denote.Ref.{Bor}
 use Rattle.link_model.specs.Books.{Book}

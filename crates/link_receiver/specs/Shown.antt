@@ -1,6 +1,7 @@
 -- What goes out of a released picture by its planes, what becomes of the stream, and what the
 -- picture leaves.
 use Rattle.std.specs.Prelude.{◌≡◌, ℕ, is_some, List, Option, Some, None, IfSome}
+use Rattle.std.specs.Prelude.{Result, Err, OnOk, OnErr}
 use Rattle.std.specs.Option.{option_map}
 use Rattle.link_model.specs.Output.{raw_bytes}
 use Rattle.receiver_model.specs.Receptions.{StandingSession, FirstField, PictureAnswers}
@@ -8,10 +9,14 @@ use Rattle.receiver_model.specs.Receptions.{answers_without}
 use Rattle.receiver_model.specs.Releasing.{released_planes, released_frame, field_behind}
 use Rattle.receiver_model.specs.Releasing.{fields_alone}
 use Rattle.receiver_model.specs.WholeBooks.{ArePicturePlanes}
+use Rattle.link_receiver.specs.declared.fault.StepFault.{StepFault}
+use Rattle.link_receiver.specs.declared.fault.StepFault.TheVariants as step
 use Rattle.link_receiver.specs.declared.showing.Seen.{Seen}
 use Rattle.link_pictures.specs.Receiving.{whole_in}
 use Rattle.link_pictures.specs.Writing.{WrittenStream, ReleasedPicture}
 use Rattle.link_pictures.specs.Writing.{writes_picture, picture_bytes}
+use Rattle.vc_ports.specs.Faults.{HasCause}
+use Rattle.vc_ports.specs.Writing.{Grew, GrewBySome}
 use Rattle.vc_types.specs.Planes.{Planes}
 
 -- the frame of which a picture is the last, by the answers to its slices
@@ -61,3 +66,12 @@ pub record IsSeen (st : StandingSession) (n : ℕ)
   pub has_frame : seen.shown.has_frame ≡ is_some (shown_frame st old_answers old_field n)
   pub alone : seen.shown.alone
       ≡ fields_alone st.session.sequence old_field n (released_planes old_answers st.window n)
+
+-- ---- what goes out
+
+-- these bytes, or, where the step fails, a part of them
+pub record Writes {O A : Type 0} (held : O → Option (List ℕ)) (faults : O → ℕ) (before after : O)
+    (result : Result A StepFault) (bytes : List ℕ) : Type 0 where
+  pub ok : OnOk result (Grew (held before) (held after) bytes)
+  pub err : OnErr result (GrewBySome (held before) (held after) bytes)
+  pub cause : HasCause (faults before) (faults after) (result ≡ Err step.WriteFault)

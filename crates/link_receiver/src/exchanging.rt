@@ -1,4 +1,4 @@
-ghost use Rattle.std.specs.Prelude.{◌≡◌, ◌<◌, ℕ, List, [], ◌∷◌, true, IfOk, OnOk, is_some};
+ghost use Rattle.std.specs.Prelude.{◌≡◌, ◌<◌, List, [], true, IfOk, OnOk, is_some};
 ghost use Rattle.std.specs.Prelude.{length, map, IfSome};
 ghost use Rattle.std.specs.Option.{option_map};
 ghost use Rattle.receiver_model.specs.Exchanging.{is_wanted, takes_done};

@@ -1,15 +1,12 @@
-ghost use Rattle.std.specs.Prelude.{◌≡◌, IfOk, IfSome, OnOk, OnErr, Err, is_some, None, Some};
+ghost use Rattle.std.specs.Prelude.{◌≡◌, IfOk, IfSome, OnOk, is_some, None, Some};
 ghost use Rattle.std.specs.Option.{option_map, option_copied, option_and_then};
 ghost use Rattle.link_model.specs.Books.{book_whole};
 ghost use Rattle.receiver_model.specs.Receptions.{answers_without};
 ghost use Rattle.receiver_model.specs.Releasing.{released_planes};
 ghost use Rattle.receiver_model.specs.WholeBooks.{ArePicturePlanes};
 ghost use Rattle.link_receiver.specs.Shown.{shown_picture, shown_bytes, stream_behind_shown};
-ghost use Rattle.link_receiver.specs.Shown.{WaitsIn, IsSeen};
-ghost use Rattle.link_receiver.specs.declared.fault.StepFault.{StepFault};
+ghost use Rattle.link_receiver.specs.Shown.{WaitsIn, IsSeen, Writes};
 ghost use Rattle.link_pictures.specs.Writing.{writes_picture};
-ghost use Rattle.vc_ports.specs.Faults.{HasCause};
-ghost use Rattle.vc_ports.specs.Writing.{Grew, GrewBySome};
 ghost use Rattle.vc_types.specs.Planes.{planes_in};
 
 use crate::fault::StepFault;
@@ -40,12 +37,8 @@ pub(crate) fn show<O: Sink>(
         (IsSeen standing.now number answers.old field.old answers.new field.new) }
     ensures stream { OnOk result (stream.new
         ≡ stream_behind_shown stream.old standing.now answers.old field.old number) }
-    ensures ok { OnOk result (Grew (O.held sink.old) (O.held sink.new)
-        (shown_bytes stream.old standing.now answers.old field.old number)) }
-    ensures err { OnErr result (GrewBySome (O.held sink.old) (O.held sink.new)
-        (shown_bytes stream.old standing.now answers.old field.old number)) }
-    ensures cause { HasCause (O.faults sink.old) (O.faults sink.new)
-        (result ≡ Err StepFault.WriteFault) }
+    ensures wrote { Writes O.held O.faults sink.old sink.new result
+        (shown_bytes stream.old standing.now answers.old field.old number) }
 {
     match stream {
         Some(stream) => show_units(answers, field, stream, standing, number, sink),
@@ -63,12 +56,8 @@ fn show_frame<O: Sink>(
     requires waiting { WaitsIn standing.now field.old }
     ensures seen { IfOk result
         (IsSeen standing.now number answers.old field.old answers.new field.new) }
-    ensures ok { OnOk result (Grew (O.held sink.old) (O.held sink.new)
-        (shown_bytes None standing.now answers.old field.old number)) }
-    ensures err { OnErr result (GrewBySome (O.held sink.old) (O.held sink.new)
-        (shown_bytes None standing.now answers.old field.old number)) }
-    ensures cause { HasCause (O.faults sink.old) (O.faults sink.new)
-        (result ≡ Err StepFault.WriteFault) }
+    ensures wrote { Writes O.held O.faults sink.old sink.new result
+        (shown_bytes None standing.now answers.old field.old number) }
 {
     let planes = take_planes(answers, standing, number)?;
     let is_sound = planes.is_some();
@@ -89,12 +78,8 @@ fn show_units<O: Sink>(
         (IsSeen standing.now number answers.old field.old answers.new field.new) }
     ensures stream { OnOk result (stream.new ≡ writes_picture stream.old
         (shown_picture standing.now answers.old field.old number)) }
-    ensures ok { OnOk result (Grew (O.held sink.old) (O.held sink.new)
-        (shown_bytes (Some stream.old) standing.now answers.old field.old number)) }
-    ensures err { OnErr result (GrewBySome (O.held sink.old) (O.held sink.new)
-        (shown_bytes (Some stream.old) standing.now answers.old field.old number)) }
-    ensures cause { HasCause (O.faults sink.old) (O.faults sink.new)
-        (result ≡ Err StepFault.WriteFault) }
+    ensures wrote { Writes O.held O.faults sink.old sink.new result
+        (shown_bytes (Some stream.old) standing.now answers.old field.old number) }
 {
     let whole = whole_bytes(standing.book(number))?;
     let seen = pass(answers, field, standing, number)?;
