@@ -1,5 +1,8 @@
+pub mod PartsKept
 pub mod PictureCoefficients
 pub mod Cells
 pub mod Kept
 pub mod Puts
 pub mod Output
+pub mod OfPlan
+pub mod Writes

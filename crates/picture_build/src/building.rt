@@ -1,9 +1,9 @@
 ghost use Rattle.std.specs.Prelude.{◌≡◌, IfOk, length};
 ghost use Rattle.vc_types.specs.Planes.{planes_in, planes_of};
-ghost use Rattle.vc_types.specs.Subbands.{slice_count};
 ghost use Rattle.vc_types.specs.TransformParameters.{parameters_of};
 ghost use Rattle.picture_build.specs.Kept.{all_slices};
 ghost use Rattle.picture_build.specs.PictureCoefficients.{ArePictureCoefficients};
+ghost use Rattle.vc_types.specs.OfPlan.{slice_count};
 
 use crate::builder::PictureBuilder;
 use std::alloc::Global;
@@ -16,7 +16,7 @@ use vc_types::{NoMemory, Plan, Plane};
 /// the plan gives it, with magnitudes below 2^60. It takes the memory of a `PictureBuilder`, and fails only where memory
 /// runs out.
 pub fn build(alloc: Global, plan: &Plan, slices: Vec<SliceCoeffs>) -> Result<[Plane; 3], NoMemory>
-    requires count { length slices.items ≡ slice_count (parameters_of plan.now) }
+    requires count { length slices.items ≡ slice_count plan.now }
     requires whole { ArePictureCoefficients (parameters_of plan.now) slices.items }
     ensures value { IfOk result
         (λ planes. planes_in planes ≡ planes_of (parameters_of plan.now) slices.items) }
@@ -32,7 +32,7 @@ pub fn build_joined<H: Threads + Copy + Send + Sync>(
     plan: &Plan,
     slices: Vec<SliceCoeffs>,
 ) -> Result<[Plane; 3], NoMemory>
-    requires count { length slices.items ≡ slice_count (parameters_of plan.now) }
+    requires count { length slices.items ≡ slice_count plan.now }
     requires whole { ArePictureCoefficients (parameters_of plan.now) slices.items }
     ensures value { IfOk result
         (λ planes. planes_in planes ≡ planes_of (parameters_of plan.now) slices.items) }
@@ -43,7 +43,7 @@ pub fn build_joined<H: Threads + Copy + Send + Sync>(
 
 // A builder that all slices of a picture came to.
 fn filled(alloc: Global, plan: &Plan, slices: &[SliceCoeffs]) -> Result<PictureBuilder, NoMemory>
-    requires count { length slices.now ≡ slice_count (parameters_of plan.now) }
+    requires count { length slices.now ≡ slice_count plan.now }
     requires whole { ArePictureCoefficients (parameters_of plan.now) slices.now }
     ensures { IfOk result
         (λ builder. builder ≡ all_slices (parameters_of plan.now) slices.now) }

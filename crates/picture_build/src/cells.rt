@@ -1,8 +1,9 @@
-ghost use Rattle.std.specs.Prelude.{◌≡◌, ◌≢◌, ◌+◌, ◌*◌, ◌^◌, ◌<◌, ◌≤◌, ◌⊎◌, ℕ, ℤ, pos, IfOk, IfSome, length, unsigned_abs};
+ghost use Rattle.std.specs.Prelude.{◌≡◌, ◌≢◌, ◌+◌, ◌*◌, ◌^◌, ◌<◌, ◌≤◌, ℕ, ℤ, pos, IfOk, IfSome, length, unsigned_abs};
 ghost use Rattle.vc_types.specs.Lifting.{line_of};
 ghost use Rattle.vc_types.specs.Quantisation.{dequantised};
 ghost use Rattle.vc_types.specs.Subbands.{area, place_in};
 ghost use Rattle.picture_build.specs.Cells.{cell_number, whole_number};
+ghost use Rattle.picture_build.specs.Writes.{ChangesRow, HasRow};
 
 use crate::dequantising::dequantise_rect;
 use std::alloc::Global;
@@ -67,10 +68,8 @@ impl CoefficientCells {
     pub(crate) fn put_row(&mut self, at: usize, numbers: &[i32], from: usize, width: usize)
         requires at { at + width ≤ length self.old }
         requires from { from + width ≤ length numbers.now }
-        ensures on { (x : ℕ) → x < width
-            → line_of self.new (at + x) ≡ line_of numbers.now (from + x) }
-        ensures off { (k : ℕ) → (k < at) ⊎ (at + width ≤ k)
-            → line_of self.new k ≡ line_of self.old k }
+        ensures on { HasRow width at self.new from numbers.now }
+        ensures off { ChangesRow width at self.old self.new }
         ensures length { length self.new ≡ length self.old }
     {
         copy_row(&mut self.low, at, numbers, from, width);
@@ -159,9 +158,8 @@ fn parts(number: i64) -> (i32, i32)
 fn copy_row(cells: &mut [i32], at: usize, numbers: &[i32], from: usize, width: usize)
     requires at { at + width ≤ length cells.old }
     requires from { from + width ≤ length numbers.now }
-    ensures on { (x : ℕ) → x < width → line_of cells.new (at + x) ≡ line_of numbers.now (from + x) }
-    ensures off { (k : ℕ) → (k < at) ⊎ (at + width ≤ k)
-        → line_of cells.new k ≡ line_of cells.old k }
+    ensures on { HasRow width at cells.new from numbers.now }
+    ensures off { ChangesRow width at cells.old cells.new }
     ensures length { length cells.new ≡ length cells.old }
 {
     match width {
@@ -179,9 +177,8 @@ fn copy_few(cells: &mut [i32], at: usize, numbers: &[i32], from: usize, width: u
     requires few { width ≤ 8 }
     requires at { at + width ≤ length cells.old }
     requires from { from + width ≤ length numbers.now }
-    ensures on { (x : ℕ) → x < width → line_of cells.new (at + x) ≡ line_of numbers.now (from + x) }
-    ensures off { (k : ℕ) → (k < at) ⊎ (at + width ≤ k)
-        → line_of cells.new k ≡ line_of cells.old k }
+    ensures on { HasRow width at cells.new from numbers.now }
+    ensures off { ChangesRow width at cells.old cells.new }
     ensures length { length cells.new ≡ length cells.old }
 {
     let mut few = [0; 8];
@@ -196,9 +193,8 @@ fn copy_few(cells: &mut [i32], at: usize, numbers: &[i32], from: usize, width: u
 fn copy_many(cells: &mut [i32], at: usize, numbers: &[i32], from: usize, width: usize)
     requires at { at + width ≤ length cells.old }
     requires from { from + width ≤ length numbers.now }
-    ensures on { (x : ℕ) → x < width → line_of cells.new (at + x) ≡ line_of numbers.now (from + x) }
-    ensures off { (k : ℕ) → (k < at) ⊎ (at + width ≤ k)
-        → line_of cells.new k ≡ line_of cells.old k }
+    ensures on { HasRow width at cells.new from numbers.now }
+    ensures off { ChangesRow width at cells.old cells.new }
     ensures length { length cells.new ≡ length cells.old }
 {
     for x in 0..width {
@@ -209,8 +205,7 @@ fn copy_many(cells: &mut [i32], at: usize, numbers: &[i32], from: usize, width: 
 fn clear_row(cells: &mut [i32], at: usize, width: usize)
     requires at { at + width ≤ length cells.old }
     ensures on { (x : ℕ) → x < width → line_of cells.new (at + x) ≡ pos 0 }
-    ensures off { (k : ℕ) → (k < at) ⊎ (at + width ≤ k)
-        → line_of cells.new k ≡ line_of cells.old k }
+    ensures off { ChangesRow width at cells.old cells.new }
     ensures length { length cells.new ≡ length cells.old }
 {
     for x in 0..width {

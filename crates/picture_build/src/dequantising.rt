@@ -1,8 +1,9 @@
-ghost use Rattle.std.specs.Prelude.{◌≡◌, ◌≢◌, ◌+◌, ◌*◌, ◌<◌, ◌≤◌, ◌⊎◌, ℕ, length, unsigned_abs};
+ghost use Rattle.std.specs.Prelude.{◌≡◌, ◌≢◌, ◌+◌, ◌*◌, ◌<◌, ◌≤◌, ℕ, length, unsigned_abs};
 ghost use Rattle.vc_types.specs.Lifting.{line_of};
 ghost use Rattle.vc_types.specs.Quantisation.{dequantised};
 ghost use Rattle.vc_types.specs.Subbands.{area, place_in};
 ghost use Rattle.picture_build.specs.Cells.{cell_number};
+ghost use Rattle.picture_build.specs.Writes.{ChangesRow};
 
 use vc_quant::NarrowQuantiser;
 use vc_types::Rect;
@@ -94,8 +95,7 @@ fn put_row(
         → unsigned_abs (line_of numbers.now (from + x)) ≤ quantiser.now.greatest }
     ensures on { (x : ℕ) → x < width → line_of cells.new (at + x)
         ≡ dequantised (line_of numbers.now (from + x)) quantiser.now.index }
-    ensures off { (k : ℕ) → (k < at) ⊎ (at + width ≤ k)
-        → line_of cells.new k ≡ line_of cells.old k }
+    ensures off { ChangesRow width at cells.old cells.new }
     ensures length { length cells.new ≡ length cells.old }
 {
     if width <= 8 {

@@ -1,10 +1,11 @@
 ghost use Rattle.std.specs.Prelude.{◌≡◌, ◌*◌, ◌^◌, ◌<◌, All, IfOk, List, length, unsigned_abs};
 ghost use Rattle.vc_types.specs.declared.video.Component.TheVariants.{Y, C1, C2};
-ghost use Rattle.vc_types.specs.Planes.{component_plane, planes_in, planes_of};
+ghost use Rattle.vc_types.specs.Planes.{planes_in};
 ghost use Rattle.vc_types.specs.Slices.{Coefficients};
-ghost use Rattle.vc_types.specs.Subbands.{padded_width, padded_height};
 ghost use Rattle.vc_types.specs.TransformParameters.{parameters_of};
 ghost use Rattle.picture_build.specs.Kept.{AllAreIn, AreIn};
+ghost use Rattle.picture_build.specs.OfPlan.{ArePlanesOf, HoldsComponent, IsPlaneOf};
+ghost use Rattle.vc_types.specs.OfPlan.{padded_height, padded_width};
 
 use crate::cells::CoefficientCells;
 use crate::narrow::narrow_plane;
@@ -37,10 +38,8 @@ pub(crate) trait Transform {
     ) -> Result<[Plane; 3], NoMemory>
         requires { (slices : List Coefficients) × AllAreIn (parameters_of plan.now) slices
             cells.now.y.now cells.now.c1.now cells.now.c2.now }
-        ensures { IfOk result (λ planes. (slices : List Coefficients)
-            → AllAreIn (parameters_of plan.now) slices
-            cells.now.y.now cells.now.c1.now cells.now.c2.now
-            → planes_in planes ≡ planes_of (parameters_of plan.now) slices) };
+        ensures { IfOk result (λ planes. ArePlanesOf plan.now
+            cells.now.y.now cells.now.c1.now cells.now.c2.now (planes_in planes)) };
 }
 
 /// One component after another.
@@ -96,15 +95,9 @@ fn joined<H: Threads>(
 ) -> (Answer, (Answer, Answer))
     requires { (slices : List Coefficients) × AllAreIn (parameters_of plan.now) slices
         cells.now.y.now cells.now.c1.now cells.now.c2.now }
-    ensures y { IfOk result.0 (λ plane. (slices : List Coefficients)
-        → AreIn (parameters_of plan.now) Y slices cells.now.y.now
-        → plane ≡ component_plane (parameters_of plan.now) Y slices) }
-    ensures c1 { IfOk result.1.0 (λ plane. (slices : List Coefficients)
-        → AreIn (parameters_of plan.now) C1 slices cells.now.c1.now
-        → plane ≡ component_plane (parameters_of plan.now) C1 slices) }
-    ensures c2 { IfOk result.1.1 (λ plane. (slices : List Coefficients)
-        → AreIn (parameters_of plan.now) C2 slices cells.now.c2.now
-        → plane ≡ component_plane (parameters_of plan.now) C2 slices) }
+    ensures y { IfOk result.0 (λ plane. IsPlaneOf plan.now Y cells.now.y.now plane) }
+    ensures c1 { IfOk result.1.0 (λ plane. IsPlaneOf plan.now C1 cells.now.c1.now plane) }
+    ensures c2 { IfOk result.1.1 (λ plane. IsPlaneOf plan.now C2 cells.now.c2.now plane) }
 {
     join_mut(
         rt,
@@ -123,12 +116,8 @@ fn colours(
     requires { (slices : List Coefficients)
         × AreIn (parameters_of plan.now) C1 slices cells.now.c1.now
         × AreIn (parameters_of plan.now) C2 slices cells.now.c2.now }
-    ensures c1 { IfOk result.0 (λ plane. (slices : List Coefficients)
-        → AreIn (parameters_of plan.now) C1 slices cells.now.c1.now
-        → plane ≡ component_plane (parameters_of plan.now) C1 slices) }
-    ensures c2 { IfOk result.1 (λ plane. (slices : List Coefficients)
-        → AreIn (parameters_of plan.now) C2 slices cells.now.c2.now
-        → plane ≡ component_plane (parameters_of plan.now) C2 slices) }
+    ensures c1 { IfOk result.0 (λ plane. IsPlaneOf plan.now C1 cells.now.c1.now plane) }
+    ensures c2 { IfOk result.1 (λ plane. IsPlaneOf plan.now C2 cells.now.c2.now plane) }
 {
     (
         component(alloc, plan, Component::C1, cells.c1, work),
@@ -144,11 +133,8 @@ fn component(
     cells: &CoefficientCells,
     work: &mut Vec<i32>,
 ) -> Result<Plane, NoMemory>
-    requires whole { (slices : List Coefficients)
-        × AreIn (parameters_of plan.now) c slices cells.now }
-    ensures value { IfOk result (λ plane. (slices : List Coefficients)
-        → AreIn (parameters_of plan.now) c slices cells.now
-        → plane ≡ component_plane (parameters_of plan.now) c slices) }
+    requires whole { HoldsComponent plan.now c cells.now }
+    ensures value { IfOk result (λ plane. IsPlaneOf plan.now c cells.now plane) }
 {
     match narrow_plane(alloc, plan, c, cells, work)? {
         Some(plane) => Ok(plane),
@@ -163,11 +149,8 @@ fn wide_component(
     c: Component,
     cells: &CoefficientCells,
 ) -> Result<Plane, NoMemory>
-    requires whole { (slices : List Coefficients)
-        × AreIn (parameters_of plan.now) c slices cells.now }
-    ensures value { IfOk result (λ plane. (slices : List Coefficients)
-        → AreIn (parameters_of plan.now) c slices cells.now
-        → plane ≡ component_plane (parameters_of plan.now) c slices) }
+    requires whole { HoldsComponent plan.now c cells.now }
+    ensures value { IfOk result (λ plane. IsPlaneOf plan.now c cells.now plane) }
 {
     let coefficients = grid(alloc, plan, c, cells)?;
     let samples = inverse(alloc, plan, c, coefficients)?;
@@ -181,10 +164,9 @@ fn grid(
     c: Component,
     cells: &CoefficientCells,
 ) -> Result<Grid, NoMemory>
-    requires whole { (slices : List Coefficients)
-        × AreIn (parameters_of plan.now) c slices cells.now }
-    ensures width { IfOk result (λ g. g.width ≡ padded_width (parameters_of plan.now) c) }
-    ensures height { IfOk result (λ g. g.height ≡ padded_height (parameters_of plan.now) c) }
+    requires whole { HoldsComponent plan.now c cells.now }
+    ensures width { IfOk result (λ g. g.width ≡ padded_width plan.now c) }
+    ensures height { IfOk result (λ g. g.height ≡ padded_height plan.now c) }
     ensures cells { IfOk result (λ g. g.cells ≡ cells.now) }
     ensures small { IfOk result (λ g. All (λ z. unsigned_abs z < 2 ^ 60) g.cells) }
 {

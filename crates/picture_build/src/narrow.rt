@@ -1,10 +1,11 @@
 ghost use Rattle.std.specs.Prelude.{◌≡◌, ◌+◌, ◌*◌, ◌<◌, ◌≤◌, ℕ, IfOk, IfSome, length, slice_index_or, true};
 ghost use Rattle.vc_types.specs.Planes.{output_sample};
-ghost use Rattle.vc_types.specs.Subbands.{plane_width, plane_height, plane_depth, padded_width, padded_height};
+ghost use Rattle.vc_types.specs.Subbands.{plane_width, plane_height, plane_depth};
 ghost use Rattle.vc_types.specs.TransformParameters.{parameters_of};
 ghost use Rattle.vc_types.specs.Transforms.{inverse_transform};
 ghost use Rattle.vc_wave.specs.Planes.{plane_of};
 ghost use Rattle.picture_build.specs.Output.{output_plane};
+ghost use Rattle.vc_types.specs.OfPlan.{padded_height, padded_width};
 
 use crate::cells::CoefficientCells;
 use crate::output::format;
@@ -22,11 +23,10 @@ pub(crate) fn narrow_plane(
     cells: &CoefficientCells,
     work: &mut Vec<i32>,
 ) -> Result<Option<Plane>, NoMemory>
-    requires { length cells.now ≡ padded_height (parameters_of plan.now) c * padded_width
-        (parameters_of plan.now) c }
+    requires { length cells.now ≡ padded_height plan.now c * padded_width plan.now c }
     ensures { IfOk result (λ made. IfSome made (λ plane.
         plane ≡ output_plane (parameters_of plan.now) c (inverse_transform (parameters_of plan.now)
-        c (plane_of (padded_width (parameters_of plan.now) c) cells.now)))) }
+        c (plane_of (padded_width plan.now c) cells.now)))) }
 {
     let Some(nested) = cells.narrow() else {
         return Ok(None);
@@ -61,10 +61,9 @@ fn put_samples(
     samples: &mut [u16],
     format: Format,
 ) -> bool
-    requires nested { length nested.now ≡ padded_height (parameters_of plan.now) c * padded_width
-        (parameters_of plan.now) c }
+    requires nested { length nested.now ≡ padded_height plan.now c * padded_width plan.now c }
     requires cells { length cells.old ≡ length nested.now }
-    requires line { padded_width (parameters_of plan.now) c ≤ length line.old }
+    requires line { padded_width plan.now c ≤ length line.old }
     requires columns { format.columns ≡ plane_width plan.now.shape c }
     requires rows { format.rows ≡ plane_height plan.now.shape c }
     requires depth { format.depth ≡ plane_depth plan.now.shape c }
@@ -74,7 +73,7 @@ fn put_samples(
     ensures { result ≡ true → (x y : ℕ) → x < format.columns → y < format.rows
         → slice_index_or samples.new (y * format.columns + x) 0
         ≡ output_sample format.depth (inverse_transform (parameters_of plan.now) c
-        (plane_of (padded_width (parameters_of plan.now) c) nested.now) x y) }
+        (plane_of (padded_width plan.now c) nested.now) x y) }
 {
     turn_rows(plan, c, nested, cells);
     let (stride, _) = padded(plan, c);

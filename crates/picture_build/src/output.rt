@@ -2,9 +2,10 @@ ghost use Rattle.std.specs.Prelude.{◌≡◌, ◌+◌, ◌*◌, ◌<◌, ◌≤
 ghost use Rattle.vc_types.specs.Lifting.{line_of};
 ghost use Rattle.vc_types.specs.Planes.{output_sample};
 ghost use Rattle.vc_types.specs.Rasters.{cell_at};
-ghost use Rattle.vc_types.specs.Subbands.{plane_width, plane_height, plane_depth, padded_width, padded_height};
+ghost use Rattle.vc_types.specs.Subbands.{plane_width, plane_height, plane_depth};
 ghost use Rattle.vc_types.specs.TransformParameters.{parameters_of};
 ghost use Rattle.picture_build.specs.Output.{output_plane};
+ghost use Rattle.vc_types.specs.OfPlan.{padded_height, padded_width};
 
 use std::alloc::Global;
 use vc_types::{Component, Grid, NoMemory, Plan, Plane};
@@ -17,8 +18,8 @@ pub(crate) fn output(
     c: Component,
     grid: &Grid,
 ) -> Result<Plane, NoMemory>
-    requires width { grid.now.width ≡ padded_width (parameters_of plan.now) c }
-    requires height { grid.now.height ≡ padded_height (parameters_of plan.now) c }
+    requires width { grid.now.width ≡ padded_width plan.now c }
+    requires height { grid.now.height ≡ padded_height plan.now c }
     ensures { IfOk result
         (λ plane. plane ≡ output_plane (parameters_of plan.now) c (cell_at grid.now)) }
 {

@@ -1,15 +1,13 @@
 ghost use Rattle.std.specs.Prelude.{◌≡◌, ◌*◌, ◌^◌, ◌<◌, ◌≤◌, ℕ};
 ghost use Rattle.vc_types.specs.declared.video.Component.{Component};
-ghost use Rattle.vc_types.specs.Subbands.{padded_width, padded_height, slice_count, slice_coefficient_count};
-ghost use Rattle.vc_types.specs.TransformParameters.{parameters_of};
+ghost use Rattle.vc_types.specs.OfPlan.{padded_height, padded_width, slice_coefficient_count, slice_count};
 
 use vc_geometry::{padded, slice_len};
 use vc_types::{Component, Plan};
 
 /// The cells of a component.
 pub(crate) fn cell_count(plan: &Plan, c: Component) -> usize
-    ensures value { result ≡ padded_height (parameters_of plan.now) c * padded_width
-        (parameters_of plan.now) c }
+    ensures value { result ≡ padded_height plan.now c * padded_width plan.now c }
 {
     let (width, height) = padded(plan, c);
     height as usize * width as usize
@@ -17,8 +15,8 @@ pub(crate) fn cell_count(plan: &Plan, c: Component) -> usize
 
 /// As many coefficients as any slice has of one component.
 pub(crate) fn most_coefficients(plan: &Plan) -> u32
-    ensures most { (c : Component) (n : ℕ) → n < slice_count (parameters_of plan.now)
-        → slice_coefficient_count (parameters_of plan.now) c n ≤ result }
+    ensures most { (c : Component) (n : ℕ) → n < slice_count plan.now
+        → slice_coefficient_count plan.now c n ≤ result }
     ensures range { result ≤ 2 ^ 30 }
 {
     let y = most_of(plan, Component::Y);
@@ -28,8 +26,8 @@ pub(crate) fn most_coefficients(plan: &Plan) -> u32
 }
 
 fn most_of(plan: &Plan, c: Component) -> u32
-    ensures most { (n : ℕ) → n < slice_count (parameters_of plan.now)
-        → slice_coefficient_count (parameters_of plan.now) c n ≤ result }
+    ensures most { (n : ℕ) → n < slice_count plan.now
+        → slice_coefficient_count plan.now c n ≤ result }
     ensures range { result ≤ 2 ^ 30 }
 {
     let mut most = 0;

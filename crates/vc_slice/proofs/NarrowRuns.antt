@@ -90,23 +90,23 @@ module _ (p : Parameters) (c : Component) (slice index : ℕ) where
 
   -- ---- a subband more
 
-  module _ (b from to : ℕ) (first old new : List ℤ) (h : b < subband_count p.depth_ho p.depth) (at : from ≡ coefficients_before p c slice b) (end : to ≡ from + own b) where
-    pub run_more : to ≡ coefficients_before p c slice (b + 1)
-    run_more = let e = more b h in omega (arith, at, end, e)
+  module _ (b from n : ℕ) (h : b < subband_count p.depth_ho p.depth) (at : from ≡ coefficients_before p c slice b) (count : n ≡ own b) where
+    pub run_more : from + n ≡ coefficients_before p c slice (b + 1)
+    run_more = omega (arith, at, count, more b h)
 
-    pub run_within : to ≤ slice_coefficient_count p c slice
-    run_within = let e = run_more in let all = before_within (b + 1) in omega (arith, e, all)
+    pub run_within : from + n ≤ slice_coefficient_count p c slice
+    run_within = omega (arith, run_more, before_within (b + 1))
 
-    pub done_more : (f : ℤ → ℕ → ℤ) (q : ℕ) → q ≡ index - slice_index_or p.matrix b 0
+    pub done_more : (first old new : List ℤ) (f : ℤ → ℕ → ℤ) (q : ℕ) → q ≡ index - slice_index_or p.matrix b 0
         → ((i : ℕ) → i < from → line_of old i ≡ f (line_of first i) (get_or (quantisers p c slice index) i 0))
         → ((i : ℕ) → from ≤ i → line_of old i ≡ line_of first i)
-        → ((i : ℕ) → from ≤ i → i < to → line_of new i ≡ f (line_of old i) q)
-        → ((i : ℕ) → (i < from) ⊎ (to ≤ i) → line_of new i ≡ line_of old i)
-        → (i : ℕ) → i < to → line_of new i ≡ f (line_of first i) (get_or (quantisers p c slice index) i 0)
-    done_more f q is done left on off i below = elim (cases_lt i from) [
+        → ((i : ℕ) → from ≤ i → i < from + n → line_of new i ≡ f (line_of old i) q)
+        → ((i : ℕ) → (i < from) ⊎ (from + n ≤ i) → line_of new i ≡ line_of old i)
+        → (i : ℕ) → i < from + n → line_of new i ≡ f (line_of first i) (get_or (quantisers p c slice index) i 0)
+    done_more first old new f q is done left on off i below = elim (cases_lt i from) [
       | inl before ↦ off i (inl before) ∙ done i before
       | inr past ↦ on i past below ∙ ap (λ (z : ℤ). f z q) (left i past)
-          ∙ ap (f (line_of first i)) (is ∙ sym (index_in b i from to h at end past below))
+          ∙ ap (f (line_of first i)) (is ∙ sym (index_in b i from (from + n) h at (ap (λ (k : ℕ). from + k) count) past below))
     ]
 
 pub narrow_more : (from to : ℕ) (old new : List ℤ) → ((i : ℕ) → i < from → unsigned_abs (line_of old i) < 2 ^ 29)

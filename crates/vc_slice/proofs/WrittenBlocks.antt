@@ -7,13 +7,16 @@ use Rattle.std.proofs.Math.Nat.{mul-le-mul}
 use Rattle.vc_geometry.specs.Rectangles.{AreSliceRectangles}
 use Rattle.vc_types.specs.declared.rect.Rect.{Rect}
 use Rattle.vc_types.specs.declared.video.Component.{Component}
+use Rattle.vc_types.specs.declared.video.Component.TheVariants.{Y, C1, C2}
 use Rattle.vc_types.specs.Encoding.{kept_before, quantised_numbers, without_last_zeros}
 use Rattle.vc_types.specs.Lifting.{line_of}
 use Rattle.vc_types.specs.Quantisation.{quantised, subband_count}
 use Rattle.vc_types.specs.Slices.{quantisers}
 use Rattle.vc_types.specs.Subbands.{area, slice_coefficient_count, slice_rectangle, subband_at}
-use Rattle.vc_types.specs.TransformParameters.{Parameters}
+use Rattle.vc_types.specs.TransformParameters.{Parameters, parameters_of}
 use Rattle.vc_types.proofs.SliceRectangles.{coefficients_before, coefficients_before-none, coefficients_before-more, coefficients_before-all}
+use Rattle.vc_slice.specs.declared.bands.SliceParts.{SliceParts}
+use Rattle.vc_slice.specs.Bands.{coefficient_count}
 use Rattle.vc_slice.proofs.BlockCodes.{kept_other}
 use Rattle.vc_slice.proofs.BlockCoefficients.{length-quantisers}
 use Rattle.vc_slice.proofs.NarrowRuns.{length-pairs}
@@ -75,7 +78,12 @@ module _ (p : Parameters) (c : Component) (slice : ℕ) (rects : List Rect) (are
       let whole = ap (coefficients_before p c slice) next in
       omega (arith, own, same, more, whole, few_before b (omega arith))
 
-  pub few_coefficients : p.depth_ho + p.depth ≤ 5 → slice_coefficient_count p c slice < 2 ^ 31
-  few_coefficients levels =
+  few_in : p.depth_ho + p.depth ≤ 5 → slice_coefficient_count p c slice < 2 ^ 31
+  few_in levels =
       let all = coefficients_before-all p c slice (subband_count p.depth_ho p.depth) refl in
       omega (arith, all, few_before (subband_count p.depth_ho p.depth) (omega arith))
+
+pub few_coefficients : (parts : SliceParts) (c : Component) → coefficient_count parts c < 2 ^ 31
+few_coefficients parts Y = few_in (parameters_of parts.plan) Y parts.slice parts.luma parts.of_luma (omega (arith, parts.plan.few_levels))
+few_coefficients parts C1 = few_in (parameters_of parts.plan) C1 parts.slice parts.colour parts.of_colour (omega (arith, parts.plan.few_levels))
+few_coefficients parts C2 = few_in (parameters_of parts.plan) C2 parts.slice parts.colour parts.of_other (omega (arith, parts.plan.few_levels))

@@ -1,3 +1,5 @@
+pub mod Bands
+pub mod OfPlan
 pub mod Asked
 pub mod Coded
 pub mod Refusals

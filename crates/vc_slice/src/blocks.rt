@@ -1,14 +1,11 @@
 ghost use Rattle.std.specs.Prelude.{◌≡◌, ◌++◌, ◌∷◌, [], ◌*◌, ◌<◌, ◌≤◌, ◌||◌, nat_lt, length, replicate, IfOk, OnOk};
 ghost use Rattle.vc_types.specs.declared.video.Component.TheVariants.{Y, C1, C2};
 ghost use Rattle.vc_types.specs.Bits.{bits_of};
-ghost use Rattle.vc_types.specs.Encoding.{component_bits};
-ghost use Rattle.vc_types.specs.SliceCoefficients.{AreSliceCoefficients};
-ghost use Rattle.vc_types.specs.Subbands.{slice_count};
-ghost use Rattle.vc_types.specs.TransformParameters.{parameters_of};
 ghost use Rattle.vc_slice.specs.Inside.{padded_block, units_for, up_to_bytes};
+ghost use Rattle.vc_types.specs.OfPlan.{AreSliceCoefficients, component_bits, slice_count};
 
+use crate::bands::{SliceBands, SliceParts};
 use crate::coeffs::SliceCoeffs;
-use crate::rects::rects_of;
 use crate::writing::codes_of;
 use std::alloc::Global;
 use vc_types::{Component, NoMemory, Plan};
@@ -28,21 +25,20 @@ pub(crate) fn blocks_of(
     coeffs: &SliceCoeffs,
     q: u8,
 ) -> Result<Blocks, NoMemory>
-    requires slice { index < slice_count (parameters_of plan.now) }
-    requires coefficients { AreSliceCoefficients (parameters_of plan.now) index coeffs.now }
+    requires slice { index < slice_count plan.now }
+    requires coefficients { AreSliceCoefficients plan.now index coeffs.now }
     requires index { q ≤ 127 }
     ensures y { IfOk result (λ blocks. bits_of blocks.y.items
-        ≡ up_to_bytes (component_bits (parameters_of plan.now) index q coeffs.now Y)) }
+        ≡ up_to_bytes (component_bits plan.now index q coeffs.now Y)) }
     ensures c1 { IfOk result (λ blocks. bits_of blocks.c1.items
-        ≡ up_to_bytes (component_bits (parameters_of plan.now) index q coeffs.now C1)) }
+        ≡ up_to_bytes (component_bits plan.now index q coeffs.now C1)) }
     ensures c2 { IfOk result (λ blocks. bits_of blocks.c2.items
-        ≡ up_to_bytes (component_bits (parameters_of plan.now) index q coeffs.now C2)) }
+        ≡ up_to_bytes (component_bits plan.now index q coeffs.now C2)) }
 {
-    let luma = rects_of(plan, Component::Y, index);
-    let colour = rects_of(plan, Component::C1, index);
-    let y = codes_of(alloc, plan, Component::Y, index, coeffs, q, &luma)?;
-    let c1 = codes_of(alloc, plan, Component::C1, index, coeffs, q, &colour)?;
-    let c2 = codes_of(alloc, plan, Component::C2, index, coeffs, q, &colour)?;
+    let bands = SliceBands::new(SliceParts::new(plan, index), q);
+    let y = codes_of(alloc, &bands, Component::Y, coeffs)?;
+    let c1 = codes_of(alloc, &bands, Component::C1, coeffs)?;
+    let c2 = codes_of(alloc, &bands, Component::C2, coeffs)?;
     Ok(Blocks { y, c1, c2 })
 }
 

@@ -1,22 +1,16 @@
 ghost use Rattle.std.specs.Prelude.{◌≡◌, ◌++◌, ◌∷◌, ◌+◌, ◌*◌, ◌^◌, ◌<◌, ◌≤◌, ℤ, List, unsigned_abs, length, false};
 ghost use Rattle.std.specs.List.{list_any};
-ghost use Rattle.vc_geometry.specs.Rectangles.{AreSliceRectangles};
 ghost use Rattle.vc_types.specs.Codes.{sint_bits};
-ghost use Rattle.vc_types.specs.Quantisation.{subband_count};
 ghost use Rattle.vc_types.specs.Slices.{is_large};
-ghost use Rattle.vc_types.specs.Subbands.{slice_count};
-ghost use Rattle.vc_types.specs.TransformParameters.{parameters_of};
-ghost use Rattle.vc_types.specs.Encoding.{component_bits};
-ghost use Rattle.vc_types.specs.SliceCoefficients.{AreSliceCoefficients};
 ghost use Rattle.vc_slice.specs.Inside.{subband_numbers, codes_behind};
 ghost use Rattle.vc_slice.specs.Listed.{listed};
+ghost use Rattle.vc_slice.specs.Bands.{AreCoefficients, component_codes};
 
+use crate::bands::SliceBands;
 use crate::coeffs::{CoefficientList, SliceCoeffs};
-use crate::component::quantiser;
-use crate::rects::area;
-use vc_geometry::bands;
+use vc_geometry::bands as band_count;
 use vc_quant::Quantiser;
-use vc_types::{Component, Plan, Rect};
+use vc_types::Component;
 
 // The codes of a block's numbers, counted: the bits up to the last number that isn't 0, and the zeros behind it.
 #[derive(Clone, Copy)]
@@ -54,28 +48,16 @@ fn code_len(number: i64) -> u64
 }
 
 // How many bits the codes of a component's numbers have, up to the last that isn't 0.
-pub(crate) fn block_len(
-    plan: &Plan,
-    c: Component,
-    slice: u32,
-    coeffs: &SliceCoeffs,
-    index: u8,
-    rects: &[Rect],
-) -> u64
-    requires slice { slice < slice_count (parameters_of plan.now) }
-    requires coefficients { AreSliceCoefficients (parameters_of plan.now) slice coeffs.now }
-    requires index { index ≤ 127 }
-    requires rects { AreSliceRectangles (parameters_of plan.now) c slice rects.now }
-    requires all { subband_count plan.now.depth_ho plan.now.depth ≤ length rects.now }
-    ensures value { result
-        ≡ length (component_bits (parameters_of plan.now) slice index coeffs.now c) }
+pub(crate) fn block_len(bands: &SliceBands, c: Component, coeffs: &SliceCoeffs) -> u64
+    requires coefficients { AreCoefficients bands.now.parts coeffs.now }
+    ensures value { result ≡ length (component_codes bands.now coeffs.now c) }
     ensures range { result < 2 ^ 40 }
 {
     let mut counted = Counted { bits: 0, zeros: 0 };
     let mut rest = coeffs.component(c);
-    for b in 0..bands(plan) {
-        let (subband, behind) = rest.split_at(area(plan, c, slice, rects, b) as usize);
-        count_subband(&mut counted, &subband, &quantiser(plan, b, index));
+    for b in 0..band_count(&bands.parts.plan) {
+        let (subband, behind) = rest.split_at(bands.parts.area(c, b) as usize);
+        count_subband(&mut counted, &subband, bands.quantiser(b));
         rest = behind;
     }
     counted.bits

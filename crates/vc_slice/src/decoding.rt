@@ -1,11 +1,11 @@
 ghost use Rattle.std.specs.Prelude.{◌≡◌, ◌<◌, ◌≤◌, Ok, Err, Some, IfOk, length};
-ghost use Rattle.vc_types.specs.Slices.{all_coefficients, in_range, slice_coefficients, slice_length};
-ghost use Rattle.vc_types.specs.Subbands.{slice_count};
-ghost use Rattle.vc_types.specs.TransformParameters.{parameters_of};
+ghost use Rattle.vc_types.specs.Slices.{in_range, slice_length};
 ghost use Rattle.vc_types.specs.declared.refusal.Unsound.TheVariants.{CoefficientRange};
 ghost use Rattle.vc_slice.specs.Coded.{coded_of};
 ghost use Rattle.vc_slice.specs.declared.subband.Stopped.TheVariants.{Large};
+ghost use Rattle.vc_types.specs.OfPlan.{all_coefficients, slice_coefficients, slice_count};
 
+use crate::bands::{SliceBands, SliceParts};
 use crate::coded::{CodedSlice, coded_slice};
 use crate::coeffs::SliceCoeffs;
 use crate::done::SliceDone;
@@ -32,11 +32,11 @@ fn answer(
     slice: u32,
     bytes: &[u8],
 ) -> Result<Result<SliceCoeffs, Unsound>, NoMemory>
-    requires slice { slice < slice_count (parameters_of plan.now) }
+    requires slice { slice < slice_count plan.now }
     requires whole { slice_length plan.now.prefix plan.now.scaler bytes.now
         ≡ Some (length bytes.now) }
     ensures value { IfOk result
-        (λ answer. answer ≡ slice_coefficients (parameters_of plan.now) slice bytes.now) }
+        (λ answer. answer ≡ slice_coefficients plan.now slice bytes.now) }
 {
     let Some((coded, _)) = coded_slice(plan.prefix, plan.scaler, bytes) else {
         unreachable!();
@@ -58,17 +58,18 @@ fn coefficients(
     slice: u32,
     coded: &CodedSlice<'_>,
 ) -> Result<SliceCoeffs, Stopped>
-    requires slice { slice < slice_count (parameters_of plan.now) }
+    requires slice { slice < slice_count plan.now }
     requires index { coded.now.index ≤ 127 }
     ensures value { IfOk result (λ coeffs. Ok coeffs
-        ≡ in_range (all_coefficients (parameters_of plan.now) slice (coded_of coded.now))) }
+        ≡ in_range (all_coefficients plan.now slice (coded_of coded.now))) }
     ensures large { result ≡ Err Large
-        → in_range (all_coefficients (parameters_of plan.now) slice (coded_of coded.now))
+        → in_range (all_coefficients plan.now slice (coded_of coded.now))
         ≡ Err CoefficientRange }
 {
-    match narrow_coefficients(alloc, plan, slice, coded) {
+    let bands = SliceBands::new(SliceParts::new(plan, slice), coded.index);
+    match narrow_coefficients(alloc, &bands, coded) {
         Ok(Some(coeffs)) => Ok(coeffs),
-        Ok(None) => wide_coefficients(alloc, plan, slice, coded),
+        Ok(None) => wide_coefficients(alloc, &bands, coded),
         Err(NoMemory) => Err(Stopped::NoMemory),
     }
 }

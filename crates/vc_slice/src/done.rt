@@ -1,6 +1,5 @@
 ghost use Rattle.std.specs.Prelude.{◌≡◌};
-ghost use Rattle.vc_types.specs.Slices.{slice_coefficients};
-ghost use Rattle.vc_types.specs.TransformParameters.{parameters_of};
+ghost use Rattle.vc_types.specs.OfPlan.{slice_coefficients};
 
 use crate::coeffs::SliceCoeffs;
 use crate::job::SliceJob;
@@ -11,5 +10,5 @@ use vc_types::Unsound;
 pub struct SliceDone {
     pub job: SliceJob,
     pub answer: Result<SliceCoeffs, Unsound>,
-    pub ghost decoded: { answer ≡ slice_coefficients (parameters_of job.plan) job.index job.bytes },
+    pub ghost decoded: { answer ≡ slice_coefficients job.plan job.index job.bytes },
 }

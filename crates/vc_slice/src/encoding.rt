@@ -1,18 +1,17 @@
-ghost use Rattle.std.specs.Prelude.{◌≡◌, ◌++◌, ◌∷◌, [], ◌+◌, ◌*◌, ◌^◌, ◌<◌, ◌≤◌, ◌||◌, nat_lt, length, replicate, map, false, IfOk, IfErr, OnOk};
+ghost use Rattle.std.specs.Prelude.{◌≡◌, ◌+◌, ◌*◌, ◌^◌, ◌<◌, ◌≤◌, length, map, false, IfOk, IfErr, OnOk};
 ghost use Rattle.std.specs.List.{range_with_len};
 ghost use Rattle.vc_types.specs.declared.video.Component.TheVariants.{Y, C1, C2};
 ghost use Rattle.vc_types.specs.Bits.{bits_of};
-ghost use Rattle.vc_types.specs.Subbands.{slice_count};
-ghost use Rattle.vc_types.specs.TransformParameters.{parameters_of};
-ghost use Rattle.vc_types.specs.SliceCoefficients.{AreSliceCoefficients};
-ghost use Rattle.vc_slice.specs.Refusals.{IsRefusal};
-ghost use Rattle.vc_types.specs.Encoding.{block_units, component_bits, encoded_length, encoded_slice, is_too_long};
+ghost use Rattle.vc_types.specs.Encoding.{block_units};
+ghost use Rattle.vc_slice.specs.Bands.{AreCoefficients};
+ghost use Rattle.vc_slice.specs.OfPlan.{IsRefusal};
+ghost use Rattle.vc_types.specs.OfPlan.{AreSliceCoefficients, component_bits, encoded_length, encoded_slice, is_too_long, slice_count};
 
+use crate::bands::{SliceBands, SliceParts};
 use crate::blocks::{are_too_long, blocks_of, joined};
 use crate::coeffs::SliceCoeffs;
 use crate::counting::block_len;
 use crate::falls::all_lens;
-use crate::rects::rects_of;
 use std::alloc::Global;
 use vc_types::{Component, NoMemory, Plan};
 
@@ -27,10 +26,10 @@ pub enum EncodeRefusal {
 /// How many bytes a slice has, prefix bytes included, that is encoded at the quantisation index `q` from 0 to 127 (this
 /// project's own encoder): also where a block is longer than 255 times the slice size scaler.
 pub fn encoded_len(plan: &Plan, index: u32, coeffs: &SliceCoeffs, q: u8) -> u64
-    requires slice { index < slice_count (parameters_of plan.now) }
-    requires coefficients { AreSliceCoefficients (parameters_of plan.now) index coeffs.now }
+    requires slice { index < slice_count plan.now }
+    requires coefficients { AreSliceCoefficients plan.now index coeffs.now }
     requires index { q ≤ 127 }
-    ensures { result ≡ encoded_length (parameters_of plan.now) index q coeffs.now }
+    ensures { result ≡ encoded_length plan.now index q coeffs.now }
 {
     slice_len(plan, block_lens(plan, index, coeffs, q))
 }
@@ -43,17 +42,24 @@ pub fn encoded_lens(
     index: u32,
     coeffs: &SliceCoeffs,
 ) -> Result<Vec<u64>, NoMemory>
-    requires slice { index < slice_count (parameters_of plan.now) }
-    requires coefficients { AreSliceCoefficients (parameters_of plan.now) index coeffs.now }
+    requires slice { index < slice_count plan.now }
+    requires coefficients { AreSliceCoefficients plan.now index coeffs.now }
     ensures { IfOk result (λ lens. lens.items
-        ≡ map (λ q. encoded_length (parameters_of plan.now) index q coeffs.now)
+        ≡ map (λ q. encoded_length plan.now index q coeffs.now)
         (range_with_len 0 128)) }
 {
-    let luma = rects_of(plan, Component::Y, index);
-    let colour = rects_of(plan, Component::C1, index);
-    let y = all_lens(plan, Component::Y, index, coeffs, &luma);
-    let c1 = all_lens(plan, Component::C1, index, coeffs, &colour);
-    let c2 = all_lens(plan, Component::C2, index, coeffs, &colour);
+    lens_of(alloc, &SliceParts::new(plan, index), coeffs)
+}
+
+fn lens_of(alloc: Global, parts: &SliceParts, coeffs: &SliceCoeffs) -> Result<Vec<u64>, NoMemory>
+    requires { AreCoefficients parts.now coeffs.now }
+    ensures { IfOk result (λ lens. lens.items
+        ≡ map (λ q. encoded_length parts.now.plan parts.now.slice q coeffs.now)
+        (range_with_len 0 128)) }
+{
+    let y = all_lens(parts, Component::Y, coeffs);
+    let c1 = all_lens(parts, Component::C1, coeffs);
+    let c2 = all_lens(parts, Component::C2, coeffs);
     let mut lens = Vec::with_capacity(alloc, 128)?;
     for q in 0..128usize {
         let of_blocks = BlockLens {
@@ -61,7 +67,7 @@ pub fn encoded_lens(
             c1: c1[q],
             c2: c2[q],
         };
-        lens.push(slice_len(plan, of_blocks))?;
+        lens.push(slice_len(&parts.plan, of_blocks))?;
     }
     Ok(lens)
 }
@@ -76,15 +82,15 @@ pub fn encode(
     coeffs: &SliceCoeffs,
     q: u8,
 ) -> Result<Vec<u8>, EncodeRefusal>
-    requires slice { index < slice_count (parameters_of plan.now) }
-    requires coefficients { AreSliceCoefficients (parameters_of plan.now) index coeffs.now }
+    requires slice { index < slice_count plan.now }
+    requires coefficients { AreSliceCoefficients plan.now index coeffs.now }
     requires index { q ≤ 127 }
     ensures value { IfOk result
-        (λ bytes. bits_of bytes.items ≡ encoded_slice (parameters_of plan.now) index q coeffs.now) }
+        (λ bytes. bits_of bytes.items ≡ encoded_slice plan.now index q coeffs.now) }
     ensures len { IfOk result
-        (λ bytes. length bytes.items ≡ encoded_length (parameters_of plan.now) index q coeffs.now) }
-    ensures fits { OnOk result (is_too_long (parameters_of plan.now) index q coeffs.now ≡ false) }
-    ensures too_long { IfErr result (λ e. IsRefusal (parameters_of plan.now) index q coeffs.now e) }
+        (λ bytes. length bytes.items ≡ encoded_length plan.now index q coeffs.now) }
+    ensures fits { OnOk result (is_too_long plan.now index q coeffs.now ≡ false) }
+    ensures too_long { IfErr result (λ e. IsRefusal plan.now index q coeffs.now e) }
 {
     let Ok(blocks) = blocks_of(alloc, plan, index, coeffs, q) else {
         return Err(EncodeRefusal::NoMemory);
@@ -109,22 +115,19 @@ struct BlockLens {
 }
 
 fn block_lens(plan: &Plan, index: u32, coeffs: &SliceCoeffs, q: u8) -> BlockLens
-    requires slice { index < slice_count (parameters_of plan.now) }
-    requires coefficients { AreSliceCoefficients (parameters_of plan.now) index coeffs.now }
+    requires slice { index < slice_count plan.now }
+    requires coefficients { AreSliceCoefficients plan.now index coeffs.now }
     requires index { q ≤ 127 }
-    ensures y { result.y ≡ length (component_bits (parameters_of plan.now) index q coeffs.now Y) }
-    ensures c1 { result.c1
-        ≡ length (component_bits (parameters_of plan.now) index q coeffs.now C1) }
-    ensures c2 { result.c2
-        ≡ length (component_bits (parameters_of plan.now) index q coeffs.now C2) }
+    ensures y { result.y ≡ length (component_bits plan.now index q coeffs.now Y) }
+    ensures c1 { result.c1 ≡ length (component_bits plan.now index q coeffs.now C1) }
+    ensures c2 { result.c2 ≡ length (component_bits plan.now index q coeffs.now C2) }
     ensures range { (result.y < 2 ^ 40) × (result.c1 < 2 ^ 40) × (result.c2 < 2 ^ 40) }
 {
-    let luma = rects_of(plan, Component::Y, index);
-    let colour = rects_of(plan, Component::C1, index);
+    let bands = SliceBands::new(SliceParts::new(plan, index), q);
     BlockLens {
-        y: block_len(plan, Component::Y, index, coeffs, q, &luma),
-        c1: block_len(plan, Component::C1, index, coeffs, q, &colour),
-        c2: block_len(plan, Component::C2, index, coeffs, q, &colour),
+        y: block_len(&bands, Component::Y, coeffs),
+        c1: block_len(&bands, Component::C1, coeffs),
+        c2: block_len(&bands, Component::C2, coeffs),
     }
 }
 

@@ -1,21 +1,17 @@
 ghost use Rattle.std.specs.Prelude.{◌≡◌, ◌++◌, ◌+◌, ◌-◌, ◌*◌, ◌/◌, ◌^◌, ◌<◌, ◌≤◌, ◌↔◌, ℕ, ℤ, List, false, length, slice_index_or};
 ghost use Rattle.std.specs.List.{list_any};
-ghost use Rattle.vc_types.specs.Encoding.{component_bits};
-ghost use Rattle.vc_geometry.specs.Rectangles.{AreSliceRectangles};
-ghost use Rattle.vc_types.specs.Quantisation.{quant_factor, subband_count};
-ghost use Rattle.vc_types.specs.SliceCoefficients.{AreSliceCoefficients};
+ghost use Rattle.vc_types.specs.Quantisation.{quant_factor};
 ghost use Rattle.vc_types.specs.Slices.{is_large};
-ghost use Rattle.vc_types.specs.Subbands.{slice_count};
-ghost use Rattle.vc_types.specs.TransformParameters.{parameters_of};
 ghost use Rattle.vc_slice.specs.Falls.{sum_from, most_from, code_steps, block_from};
 ghost use Rattle.vc_slice.specs.Inside.{subband_numbers};
 ghost use Rattle.vc_slice.specs.Listed.{listed};
+ghost use Rattle.vc_slice.specs.Bands.{AreCoefficients, codes_at};
 
+use crate::bands::SliceParts;
 use crate::coeffs::{CoefficientList, SliceCoeffs};
-use crate::rects::area;
-use vc_geometry::bands;
+use vc_geometry::bands as band_count;
 use vc_quant::last_index_with;
-use vc_types::{Component, Plan, Rect};
+use vc_types::Component;
 
 // How the codes of a block's numbers get shorter as the slice's index rises. Each code has one bit at every index, and
 // further ones up to some index: how many of those end at each index, and how many numbers there are up to the last that
@@ -88,26 +84,17 @@ impl Falls {
 }
 
 // How many bits the codes of a component's numbers have at each index of the slice, up to the last that isn't 0.
-pub(crate) fn all_lens(
-    plan: &Plan,
-    c: Component,
-    slice: u32,
-    coeffs: &SliceCoeffs,
-    rects: &[Rect],
-) -> [u64; 128]
-    requires slice { slice < slice_count (parameters_of plan.now) }
-    requires coefficients { AreSliceCoefficients (parameters_of plan.now) slice coeffs.now }
-    requires rects { AreSliceRectangles (parameters_of plan.now) c slice rects.now }
-    requires all { subband_count plan.now.depth_ho plan.now.depth ≤ length rects.now }
+pub(crate) fn all_lens(parts: &SliceParts, c: Component, coeffs: &SliceCoeffs) -> [u64; 128]
+    requires coefficients { AreCoefficients parts.now coeffs.now }
     ensures value { (q : ℕ) → q ≤ 127 → slice_index_or result q 0
-        ≡ length (component_bits (parameters_of plan.now) slice q coeffs.now c) }
+        ≡ length (codes_at parts.now q coeffs.now c) }
     ensures range { (q : ℕ) → q ≤ 127 → slice_index_or result q 0 < 2 ^ 40 }
 {
     let mut falls = Falls::new();
     let mut rest = coeffs.component(c);
-    for b in 0..bands(plan) {
-        let (subband, behind) = rest.split_at(area(plan, c, slice, rects, b) as usize);
-        add_subband(&mut falls, &subband, plan.matrix[b as usize]);
+    for b in 0..band_count(&parts.plan) {
+        let (subband, behind) = rest.split_at(parts.area(c, b) as usize);
+        add_subband(&mut falls, &subband, parts.plan.matrix[b as usize]);
         rest = behind;
     }
     falls.lens()

@@ -1,7 +1,6 @@
 ghost use Rattle.std.specs.Prelude.{◌≡◌, ◌<◌, IfOk, Some, length};
 ghost use Rattle.vc_types.specs.Slices.{slice_length};
-ghost use Rattle.vc_types.specs.Subbands.{slice_count};
-ghost use Rattle.vc_types.specs.TransformParameters.{parameters_of};
+ghost use Rattle.vc_types.specs.OfPlan.{slice_count};
 
 use bytes::Bytes;
 use vc_types::{NoMemory, Plan};
@@ -15,7 +14,7 @@ pub struct SliceJob {
     pub index: u32,
     pub bytes: Bytes,
     pub ghost whole: { slice_length plan.prefix plan.scaler bytes ≡ Some (length bytes) },
-    pub ghost in_plan: { index < slice_count (parameters_of plan) },
+    pub ghost in_plan: { index < slice_count plan },
 }
 
 impl SliceJob {

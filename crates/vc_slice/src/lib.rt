@@ -1,6 +1,7 @@
 //! High-quality slices: their bytes, their coefficients, and slices as jobs for workers.
 #![tactic(auto)]
 
+mod bands;
 mod blocks;
 mod coded;
 mod coeffs;
@@ -17,11 +18,11 @@ mod narrow_codes;
 mod narrow_slice;
 mod no_places;
 mod places;
-mod rects;
 mod subband;
 mod wide_slice;
 mod writing;
 
+pub use bands::{SliceBands, SliceParts};
 pub use coded::{CodedSlice, coded_slice, cut};
 pub use coeffs::{CoefficientList, SliceCoeffs};
 pub use decoding::decode;
@@ -29,7 +30,7 @@ pub use done::SliceDone;
 pub use encoding::{EncodeRefusal, encode, encoded_len, encoded_lens};
 pub use job::SliceJob;
 pub use laws::slices_decode_apart;
-pub use narrow::{TooWide, read_numbers, slice_quantisers};
+pub use narrow::{TooWide, read_numbers};
 pub use no_places::NoPlaces;
 pub use places::{Hands, Places};
 pub use vc_types::{Short, Unsound};

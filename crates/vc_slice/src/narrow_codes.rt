@@ -1,85 +1,61 @@
-ghost use Rattle.std.specs.Prelude.{◌≡◌, ◌+◌, ◌^◌, ◌<◌, ◌≤◌, ◌⊎◌, ℕ, IfOk, length, slice_index_or, take, unsigned_abs};
-ghost use Rattle.vc_geometry.specs.Rectangles.{AreSliceRectangles};
+ghost use Rattle.std.specs.Prelude.{◌≡◌, ◌+◌, ◌<◌, ◌≤◌, ◌⊎◌, ℕ, IfOk, length, slice_index_or, take, unsigned_abs};
 ghost use Rattle.vc_types.specs.Bits.{bits_of};
-ghost use Rattle.vc_types.specs.Encoding.{block_bits, without_last_zeros};
+ghost use Rattle.vc_types.specs.Encoding.{without_last_zeros};
 ghost use Rattle.vc_types.specs.Lifting.{line_of};
-ghost use Rattle.vc_types.specs.Quantisation.{quantised, subband_count};
-ghost use Rattle.vc_types.specs.Slices.{quantisers};
-ghost use Rattle.vc_types.specs.Subbands.{slice_count, slice_coefficient_count};
-ghost use Rattle.vc_types.specs.TransformParameters.{parameters_of};
+ghost use Rattle.vc_types.specs.Quantisation.{quantised};
 ghost use Rattle.vc_slice.specs.Inside.{up_to_bytes};
+ghost use Rattle.vc_slice.specs.Bands.{block_codes, coefficient_count, quantisers_of};
 
-use crate::component::quantiser;
+use crate::bands::SliceBands;
 use crate::narrow::greatest;
-use crate::rects::area;
 use std::alloc::Global;
-use vc_geometry::bands;
+use vc_geometry::bands as band_count;
 use vc_golomb::sint_codes;
 use vc_quant::Quantiser;
-use vc_types::{Component, NoMemory, Plan, Rect};
+use vc_types::{Component, NoMemory};
 
 /// The codes of the numbers of a component's coefficients, up to the last that isn't 0, and ones up to whole bytes.
 pub(crate) fn narrow_codes(
     alloc: Global,
-    plan: &Plan,
+    bands: &SliceBands,
     c: Component,
-    slice: u32,
     coefficients: &[i32],
-    index: u8,
-    rects: &[Rect],
 ) -> Result<Vec<u8>, NoMemory>
-    requires slice { slice < slice_count (parameters_of plan.now) }
-    requires index { index ≤ 127 }
-    requires rects { AreSliceRectangles (parameters_of plan.now) c slice rects.now }
-    requires all { subband_count plan.now.depth_ho plan.now.depth ≤ length rects.now }
-    requires count { length coefficients.now
-        ≡ slice_coefficient_count (parameters_of plan.now) c slice }
+    requires { length coefficients.now ≡ coefficient_count bands.now.parts c }
     ensures { IfOk result (λ bytes. bits_of bytes.items
-        ≡ up_to_bytes (block_bits (parameters_of plan.now) c slice index coefficients.now)) }
+        ≡ up_to_bytes (block_codes bands.now c coefficients.now)) }
 {
     let mut numbers = Vec::from_slice(alloc, coefficients)?;
-    codes_in_place(alloc, plan, c, slice, &mut numbers, index, rects)
+    codes_in_place(alloc, bands, c, &mut numbers)
 }
 
 // The same, where the numbers take the place of the coefficients.
 fn codes_in_place(
     alloc: Global,
-    plan: &Plan,
+    bands: &SliceBands,
     c: Component,
-    slice: u32,
     numbers: &mut [i32],
-    index: u8,
-    rects: &[Rect],
 ) -> Result<Vec<u8>, NoMemory>
-    requires slice { slice < slice_count (parameters_of plan.now) }
-    requires index { index ≤ 127 }
-    requires rects { AreSliceRectangles (parameters_of plan.now) c slice rects.now }
-    requires all { subband_count plan.now.depth_ho plan.now.depth ≤ length rects.now }
-    requires count { length numbers.old ≡ slice_coefficient_count (parameters_of plan.now) c slice }
+    requires { length numbers.old ≡ coefficient_count bands.now.parts c }
     ensures { IfOk result (λ bytes. bits_of bytes.items
-        ≡ up_to_bytes (block_bits (parameters_of plan.now) c slice index numbers.old)) }
+        ≡ up_to_bytes (block_codes bands.now c numbers.old)) }
 {
-    quantise(plan, c, slice, index, rects, numbers);
+    quantise(bands, c, numbers);
     let used = used(numbers);
     sint_codes(alloc, &numbers[..used])
 }
 
 // Puts in the place of a component's coefficients the numbers that they are quantised to.
-fn quantise(plan: &Plan, c: Component, slice: u32, index: u8, rects: &[Rect], numbers: &mut [i32])
-    requires slice { slice < slice_count (parameters_of plan.now) }
-    requires index { index ≤ 127 }
-    requires rects { AreSliceRectangles (parameters_of plan.now) c slice rects.now }
-    requires all { subband_count plan.now.depth_ho plan.now.depth ≤ length rects.now }
-    requires count { length numbers.old ≡ slice_coefficient_count (parameters_of plan.now) c slice }
+fn quantise(bands: &SliceBands, c: Component, numbers: &mut [i32])
+    requires { length numbers.old ≡ coefficient_count bands.now.parts c }
     ensures { (i : ℕ) → i < length numbers.old → line_of numbers.new i
-        ≡ quantised (line_of numbers.old i)
-        (slice_index_or (quantisers (parameters_of plan.now) c slice index) i 0) }
+        ≡ quantised (line_of numbers.old i) (slice_index_or (quantisers_of bands.now c) i 0) }
 {
     let greatest = greatest(numbers);
     let mut from = 0usize;
-    for b in 0..bands(plan) {
-        let to = from + area(plan, c, slice, rects, b) as usize;
-        quantise_run(&quantiser(plan, b, index), numbers, from, to, greatest);
+    for b in 0..band_count(&bands.parts.plan) {
+        let to = from + bands.parts.area(c, b) as usize;
+        quantise_run(bands.quantiser(b), numbers, from, to, greatest);
         from = to;
     }
 }

@@ -1,53 +1,38 @@
-ghost use Rattle.std.specs.Prelude.{◌≡◌, ◌++◌, ◌∷◌, ◌+◌, ◌*◌, ◌^◌, ◌<◌, ◌≤◌, ℤ, List, unsigned_abs, length, false, OnOk, IfOk};
+ghost use Rattle.std.specs.Prelude.{◌≡◌, ◌++◌, ◌∷◌, ◌+◌, ◌^◌, ◌<◌, ◌≤◌, ℤ, List, unsigned_abs, length, false, OnOk, IfOk};
 ghost use Rattle.std.specs.List.{list_any};
-ghost use Rattle.vc_geometry.specs.Rectangles.{AreSliceRectangles};
 ghost use Rattle.vc_types.specs.Bits.{bits_of};
-ghost use Rattle.vc_types.specs.Encoding.{component_bits};
-ghost use Rattle.vc_types.specs.Quantisation.{subband_count};
-ghost use Rattle.vc_types.specs.SliceCoefficients.{AreSliceCoefficients};
 ghost use Rattle.vc_types.specs.Slices.{is_large};
-ghost use Rattle.vc_types.specs.Subbands.{slice_count};
-ghost use Rattle.vc_types.specs.TransformParameters.{parameters_of};
 ghost use Rattle.vc_slice.specs.Inside.{codes_behind, subband_numbers, up_to_bytes};
 ghost use Rattle.vc_slice.specs.Listed.{listed};
+ghost use Rattle.vc_slice.specs.Bands.{AreCoefficients, component_codes};
 
+use crate::bands::SliceBands;
 use crate::coeffs::{CoefficientList, SliceCoeffs};
-use crate::component::quantiser;
 use crate::narrow_codes::narrow_codes;
-use crate::rects::area;
 use std::alloc::Global;
 use vc_bits::BitWriter;
-use vc_geometry::bands;
+use vc_geometry::bands as band_count;
 use vc_golomb::write_behind_zeros;
 use vc_quant::Quantiser;
-use vc_types::{Component, NoMemory, Plan, Rect};
+use vc_types::{Component, NoMemory};
 
 /// The codes of a component's numbers, up to the last that isn't 0, and ones up to whole bytes.
 pub(crate) fn codes_of(
     alloc: Global,
-    plan: &Plan,
+    bands: &SliceBands,
     c: Component,
-    slice: u32,
     coeffs: &SliceCoeffs,
-    index: u8,
-    rects: &[Rect],
 ) -> Result<Vec<u8>, NoMemory>
-    requires slice { slice < slice_count (parameters_of plan.now) }
-    requires coefficients { AreSliceCoefficients (parameters_of plan.now) slice coeffs.now }
-    requires index { index ≤ 127 }
-    requires rects { AreSliceRectangles (parameters_of plan.now) c slice rects.now }
-    requires all { subband_count plan.now.depth_ho plan.now.depth ≤ length rects.now }
+    requires { AreCoefficients bands.now.parts coeffs.now }
     ensures { IfOk result (λ bytes. bits_of bytes.items
-        ≡ up_to_bytes (component_bits (parameters_of plan.now) slice index coeffs.now c)) }
+        ≡ up_to_bytes (component_codes bands.now coeffs.now c)) }
 {
     match coeffs.component(c) {
-        CoefficientList::Narrow(numbers) => {
-            narrow_codes(alloc, plan, c, slice, numbers, index, rects)
-        }
+        CoefficientList::Narrow(numbers) => narrow_codes(alloc, bands, c, numbers),
         CoefficientList::Wide(_) => {
             // Most codes have fewer bits than a byte.
             let mut w = BitWriter::with_room(alloc, coeffs.component(c).len())?;
-            write_codes(&mut w, plan, c, slice, coeffs, index, rects)?;
+            write_codes(&mut w, bands, c, coeffs)?;
             w.align(true)?;
             Ok(w.finish())
         }
@@ -57,26 +42,18 @@ pub(crate) fn codes_of(
 // Adds the codes of a component's numbers, up to the last that isn't 0.
 fn write_codes(
     w: &mut BitWriter,
-    plan: &Plan,
+    bands: &SliceBands,
     c: Component,
-    slice: u32,
     coeffs: &SliceCoeffs,
-    index: u8,
-    rects: &[Rect],
 ) -> Result<(), NoMemory>
-    requires slice { slice < slice_count (parameters_of plan.now) }
-    requires coefficients { AreSliceCoefficients (parameters_of plan.now) slice coeffs.now }
-    requires index { index ≤ 127 }
-    requires rects { AreSliceRectangles (parameters_of plan.now) c slice rects.now }
-    requires all { subband_count plan.now.depth_ho plan.now.depth ≤ length rects.now }
-    ensures { OnOk result (w.new
-        ≡ w.old ++ component_bits (parameters_of plan.now) slice index coeffs.now c) }
+    requires { AreCoefficients bands.now.parts coeffs.now }
+    ensures { OnOk result (w.new ≡ w.old ++ component_codes bands.now coeffs.now c) }
 {
     let mut zeros = 0;
     let mut rest = coeffs.component(c);
-    for b in 0..bands(plan) {
-        let (subband, behind) = rest.split_at(area(plan, c, slice, rects, b) as usize);
-        zeros = write_subband(w, zeros, &subband, &quantiser(plan, b, index))?;
+    for b in 0..band_count(&bands.parts.plan) {
+        let (subband, behind) = rest.split_at(bands.parts.area(c, b) as usize);
+        zeros = write_subband(w, zeros, &subband, bands.quantiser(b))?;
         rest = behind;
     }
     Ok(())

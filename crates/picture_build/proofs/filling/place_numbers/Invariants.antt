@@ -8,8 +8,8 @@ use Rattle.picture_build.proofs.filling.place_numbers.Given as goal
 
 abbrev pub invariant-loop-b : goal.invariant-loop-b
 invariant-loop-b l = record {
-  from : l.from ≡ coefficients_before (parameters_of l.plan) l.c l.slice l.b;
-  on : FirstStand (parameters_of l.plan) l.c l.slice (line_of l.numbers) l.from l.cells;
-  off : OthersStay (parameters_of l.plan) l.c l.slice (slice_coefficient_count (parameters_of l.plan) l.c l.slice) l.initial.cells l.cells;
+  from : l.from ≡ coefficients_before (parameters_of l.parts.plan) l.c l.parts.slice l.b;
+  on : FirstStand (parameters_of l.parts.plan) l.c l.parts.slice (line_of l.numbers) l.from l.cells;
+  off : OthersStay (parameters_of l.parts.plan) l.c l.parts.slice (slice_coefficient_count (parameters_of l.parts.plan) l.c l.parts.slice) l.initial.cells l.cells;
   length : length l.cells ≡ length l.initial.cells;
 }

@@ -6,7 +6,7 @@ use Rattle.picture_build.proofs.filling.place_wide.Given as goal
 
 abbrev pub invariant-loop-i : goal.invariant-loop-i
 invariant-loop-i l = record {
-  on : FirstStand (parameters_of l.plan) l.c l.slice (line_of l.coeffs) l.i l.cells;
-  off : OthersStay (parameters_of l.plan) l.c l.slice (length l.coeffs) l.initial.cells l.cells;
+  on : FirstStand (parameters_of l.parts.plan) l.c l.parts.slice (line_of l.coeffs) l.i l.cells;
+  off : OthersStay (parameters_of l.parts.plan) l.c l.parts.slice (length l.coeffs) l.initial.cells l.cells;
   length : length l.cells ≡ length l.initial.cells;
 }

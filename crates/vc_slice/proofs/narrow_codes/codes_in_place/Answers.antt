@@ -1,15 +1,13 @@
 use Rattle.std.proofs.Common.{◌≡◌, length, arith, rules}
 use Rattle.std.proofs.lemmas.List.{length-take}
 use Rattle.vc_types.specs.Encoding.{block_bits}
-use Rattle.vc_types.specs.TransformParameters.{parameters_of}
 use Rattle.vc_slice.proofs.WrittenBlocks.{all_quantised, few_coefficients}
 use Rattle.vc_slice.proofs.narrow_codes.codes_in_place.Goals as goal
 
 pub sint_codes-requires : goal.sint_codes-requires
 sint_codes-requires c =
-    let few = few_coefficients (parameters_of c.args.plan.now) c.args.c c.args.slice c.args.rects.now c.requires.rects (omega (arith, c.args.plan.now.few_levels)) in
     let long : length c.quantise.new.numbers ≡ length c.args.numbers.now = search rules in
-    omega (arith, few, long, c.requires.count, length-take c.used-used.result c.quantise.new.numbers)
+    omega (arith, few_coefficients c.args.bands.now.parts c.args.c, long, c.requires, length-take c.used-used.result c.quantise.new.numbers)
 
 pub returns : goal.returns
 unfolding block_bits

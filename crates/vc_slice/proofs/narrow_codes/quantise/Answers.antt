@@ -1,4 +1,4 @@
-use Rattle.std.proofs.Common.{rules, arith, ◌∙◌, ap, ◌+◌, inr}
+use Rattle.std.proofs.Common.{rules, arith, ◌∙◌, inr}
 use Rattle.vc_types.specs.Quantisation.{quantised}
 use Rattle.vc_types.specs.TransformParameters.{parameters_of}
 use Rattle.vc_types.proofs.SliceRectangles.{coefficients_before-none, coefficients_before-all}
@@ -10,24 +10,26 @@ loop-b-init c = grind (arith, coefficients_before-none)
 
 pub overflow_add-to : goal.overflow_add-to
 overflow_add-to c =
-    let within = run_within (parameters_of c.args.plan.now) c.args.c c.args.slice c.args.index c.loop-b.b c.loop-b.from (c.loop-b.from + c.area.result) c.args.numbers.now c.loop-b.numbers c.loop-b.numbers (omega arith) c.loop-b.invariant.from (ap (λ n. c.loop-b.from + n) c.area.ensures.value) in
-    omega (arith, within, c.requires.count, c.loop-b.invariant.length, c.loop-b.auto.numbers)
+    let bands = c.args.bands.now in
+    let within = run_within (parameters_of bands.parts.plan) c.args.c bands.parts.slice bands.index c.loop-b.b c.loop-b.from c.area.result (omega arith) c.loop-b.invariant.from c.area.ensures.value in
+    omega (arith, within, c.loop-b.invariant.length)
 
 pub quantise_run-requires-clause-run : goal.quantise_run-requires-clause-run
 quantise_run-requires-clause-run c =
-    let within = run_within (parameters_of c.args.plan.now) c.args.c c.args.slice c.args.index c.loop-b.b c.loop-b.from (c.loop-b.from + c.area.result) c.args.numbers.now c.loop-b.numbers c.loop-b.numbers (omega arith) c.loop-b.invariant.from (ap (λ n. c.loop-b.from + n) c.area.ensures.value) in
-    (omega arith, omega (arith, within, c.requires.count, c.loop-b.invariant.length))
+    let bands = c.args.bands.now in
+    let within = run_within (parameters_of bands.parts.plan) c.args.c bands.parts.slice bands.index c.loop-b.b c.loop-b.from c.area.result (omega arith) c.loop-b.invariant.from c.area.ensures.value in
+    (omega arith, omega (arith, within, c.loop-b.invariant.length))
 
 pub loop-b-preserved : goal.loop-b-preserved
 loop-b-preserved c =
-    let p = parameters_of c.args.plan.now in
-    let to = c.loop-b.from + c.area.result in
-    let end = ap (λ n. c.loop-b.from + n) c.area.ensures.value in
+    let bands = c.args.bands.now in
+    let p = parameters_of bands.parts.plan in
     record {
-      from = run_more p c.args.c c.args.slice c.args.index c.loop-b.b c.loop-b.from to c.args.numbers.now c.loop-b.numbers c.quantise_run.new.numbers (omega arith) c.loop-b.invariant.from end;
+      from = run_more p c.args.c bands.parts.slice bands.index c.loop-b.b c.loop-b.from c.area.result (omega arith) c.loop-b.invariant.from c.area.ensures.value;
       length = search rules;
-      done = done_more p c.args.c c.args.slice c.args.index c.loop-b.b c.loop-b.from to c.args.numbers.now c.loop-b.numbers c.quantise_run.new.numbers (omega arith) c.loop-b.invariant.from end
-          quantised c.quantiser.result.index c.quantiser.ensures c.loop-b.invariant.done c.loop-b.invariant.left c.quantise_run.ensures.on c.quantise_run.ensures.off;
+      done = done_more p c.args.c bands.parts.slice bands.index c.loop-b.b c.loop-b.from c.area.result (omega arith) c.loop-b.invariant.from c.area.ensures.value
+          c.args.numbers.now c.loop-b.numbers c.quantise_run.new.numbers quantised c.quantiser.result.now.index c.quantiser.ensures
+          c.loop-b.invariant.done c.loop-b.invariant.left c.quantise_run.ensures.on c.quantise_run.ensures.off;
       left = λ i h. c.quantise_run.ensures.off i (inr h) ∙ c.loop-b.invariant.left i (omega arith);
     }
 

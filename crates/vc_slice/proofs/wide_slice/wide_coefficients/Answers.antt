@@ -8,4 +8,4 @@ pub wide-requires : goal.wide-requires
 wide-requires c = grind (arith, common_steps, long_three, length-block)
 
 pub returns-clause-value : goal.returns-clause-value
-returns-clause-value c = grind (arith, read_three, length-block)
+returns-clause-value c = rw (← c.requires.index) (grind (arith, read_three, length-block))
