@@ -6,31 +6,31 @@ use Rattle.std.proofs.lemmas.Bool.{cases_lt}
 use Rattle.vc_types.specs.declared.rect.Rect.{Rect}
 use Rattle.vc_types.specs.declared.video.Component.{Component}
 use Rattle.vc_types.specs.Lifting.{line_of}
-use Rattle.vc_types.specs.Quantisation.{dequantised, subband_count}
-use Rattle.vc_types.specs.Slices.{quantisers, block_coefficients, is_large}
-use Rattle.vc_types.specs.Subbands.{area, slice_coefficient_count}
-use Rattle.vc_types.specs.TransformParameters.{Parameters}
+use Rattle.vc_types.specs.Quantisation.{dequantised}
+use Rattle.vc_types.specs.Slices.{is_large}
+use Rattle.vc_types.specs.Subbands.{area}
+use Rattle.vc_types.specs.TransformParameters.{parameters_of}
 use Rattle.vc_types.proofs.SliceRectangles.{coefficients_before}
 use Rattle.vc_quant.specs.Narrow.{IsNarrow}
 use Rattle.vc_quant.proofs.Magnitudes.{narrow_coefficient}
+use Rattle.vc_slice.specs.declared.bands.SliceBands.{SliceBands}
+use Rattle.vc_slice.specs.Bands.{band_count, coefficient_count, coefficients_of_block, quantisers_of, rectangle}
 use Rattle.vc_slice.specs.Numbers.{AreBlockNumbers}
-use Rattle.vc_slice.proofs.NarrowRuns.{index_in, coefficient_of, none_large, length-block}
-use Rattle.picture_build.specs.Kept.{kept_at, ChangesOnly, FillsSlice}
-use Rattle.vc_types.proofs.RectangleWalk.{rectangle}
+use Rattle.vc_slice.proofs.NarrowRuns as runs
+use Rattle.picture_build.specs.PartsKept.{Changes, Fills, place_kept}
 
-module _ (p : Parameters) (c : Component) (slice index : ℕ) (numbers : List ℤ) where
+module _ (bands : SliceBands) (c : Component) (numbers : List ℤ) where
   -- coefficient i
   abbrev pub coefficient : ℕ → ℤ
-  coefficient i = dequantised (line_of numbers i) (slice_index_or (quantisers p c slice index) i 0)
+  coefficient i = dequantised (line_of numbers i) (slice_index_or (quantisers_of bands c) i 0)
 
-  module _ (b from q : ℕ) (r : Rect) (inside : b < subband_count p.depth_ho p.depth) (is : r ≡ rectangle p c slice b) (at : from ≡ coefficients_before p c slice b)
-      (own : q ≡ index - slice_index_or p.matrix b 0) where
+  module _ (b from q : ℕ) (r : Rect) (inside : b < band_count bands.parts) (is : r ≡ rectangle bands.parts c b) (at : from ≡ coefficients_before (parameters_of bands.parts.plan) c bands.parts.slice b)
+      (own : q ≡ bands.index - slice_index_or bands.parts.plan.matrix b 0) where
     -- by the quantiser of its subband
     pub coefficient_in : (j : ℕ) → j < area r → dequantised (line_of numbers (from + j)) q ≡ coefficient (from + j)
     coefficient_in j h =
-        let same = ap area is in
-        let whole : from + area r ≡ from + area (rectangle p c slice b) = omega (arith, same) in
-        ap (dequantised (line_of numbers (from + j))) (own ∙ sym (index_in p c slice index b (from + j) from (from + area r) inside at whole (omega arith) (omega arith)))
+        let whole : from + area r ≡ from + area (rectangle bands.parts c b) = omega (arith, ap area is) in
+        ap (dequantised (line_of numbers (from + j))) (own ∙ sym (runs.index_in (parameters_of bands.parts.plan) c bands.parts.slice bands.index b (from + j) from (from + area r) inside at whole (omega arith) (omega arith)))
 
     -- and narrow
     pub narrow_more : (greatest : ℕ) → IsNarrow greatest q → ((j : ℕ) → j < area r → unsigned_abs (line_of numbers (from + j)) ≤ greatest)
@@ -46,24 +46,26 @@ module _ (p : Parameters) (c : Component) (slice index : ℕ) (numbers : List �
 
 -- ---- the numbers of a block
 
-module _ (p : Parameters) (c : Component) (slice index : ℕ) (block : List ℕ) (numbers old new : List ℤ) (read : AreBlockNumbers (slice_coefficient_count p c slice) block numbers) where
+module _ (bands : SliceBands) (c : Component) (block : List ℕ) (numbers old new : List ℤ) (read : AreBlockNumbers (coefficient_count bands.parts c) block numbers) where
   -- the cells of the slice hold the coefficients
   abbrev pub Stand : Type 0
-  Stand = (i : ℕ) → i < slice_coefficient_count p c slice → line_of new (kept_at p c slice i) ≡ coefficient p c slice index numbers i
+  Stand = (i : ℕ) → i < coefficient_count bands.parts c → line_of new (place_kept bands.parts c i) ≡ coefficient bands c numbers i
 
   -- and no large one
   abbrev pub AreNarrow : Type 0
-  AreNarrow = (i : ℕ) → i < slice_coefficient_count p c slice → unsigned_abs (line_of new (kept_at p c slice i)) < 2 ^ 29
+  AreNarrow = (i : ℕ) → i < coefficient_count bands.parts c → unsigned_abs (line_of new (place_kept bands.parts c i)) < 2 ^ 29
 
-  placed : Stand → (i : ℕ) → i < slice_coefficient_count p c slice → line_of new (kept_at p c slice i) ≡ line_of (block_coefficients p c slice index block) i
-  placed on i h = on i h ∙ ap (λ z. dequantised z (slice_index_or (quantisers p c slice index) i 0)) (read i h) ∙ sym (coefficient_of p c slice index block i h)
+  placed : Stand → (i : ℕ) → i < coefficient_count bands.parts c → line_of new (place_kept bands.parts c i) ≡ line_of (coefficients_of_block bands c block) i
+  placed on i h =
+      on i h ∙ ap (λ z. dequantised z (slice_index_or (quantisers_of bands c) i 0)) (read i h)
+      ∙ sym (runs.coefficient_of (parameters_of bands.parts.plan) c bands.parts.slice bands.index block i h)
 
-  pub filled : {E : Type 0} (done : Result (Unit {0}) E) → ChangesOnly p c slice old new → OnOk done Stand → OnOk done (FillsSlice p c slice (block_coefficients p c slice index block) old new)
+  pub filled : {E : Type 0} (done : Result (Unit {0}) E) → Changes bands.parts c old new → OnOk done Stand → OnOk done (Fills bands.parts c (coefficients_of_block bands c block) old new)
   filled (Ok all) only on = record { only = only; own = placed on }
   filled (Err e) only on = on
 
-  pub sound : {E : Type 0} (done : Result (Unit {0}) E) → OnOk done Stand → OnOk done AreNarrow → OnOk done (list_any is_large (block_coefficients p c slice index block) ≡ false)
+  pub sound : {E : Type 0} (done : Result (Unit {0}) E) → OnOk done Stand → OnOk done AreNarrow → OnOk done (list_any is_large (coefficients_of_block bands c block) ≡ false)
   sound (Ok all) on narrow =
-      let zs = block_coefficients p c slice index block in
-      none_large zs zs (slice_coefficient_count p c slice) (length-block p c slice index block) (λ i h. refl) (λ i h. subst (λ z. unsigned_abs z < 2 ^ 29) (placed on i h) (narrow i h))
+      let zs = coefficients_of_block bands c block in
+      runs.none_large zs zs (coefficient_count bands.parts c) (runs.length-block (parameters_of bands.parts.plan) c bands.parts.slice bands.index block) (λ i h. refl) (λ i h. subst (λ z. unsigned_abs z < 2 ^ 29) (placed on i h) (narrow i h))
   sound (Err e) on narrow = on

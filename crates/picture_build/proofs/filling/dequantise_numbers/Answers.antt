@@ -1,12 +1,8 @@
-use Rattle.std.proofs.Common.{arith, ◌≡◌, ◌≢◌, ◌<◌, ◌≤◌, ◌^◌, ℕ, unsigned_abs, refl, sym, subst, ◌∙◌, ◌+◌, ◌-◌}
-use Rattle.std.specs.Prelude.{slice_index_or}
+use Rattle.std.proofs.Common.{arith, ◌≡◌, ◌<◌, ◌≤◌, ◌^◌, ℕ, unsigned_abs, refl, sym, subst, ◌∙◌, ◌+◌}
 use Rattle.vc_types.specs.Lifting.{line_of}
-use Rattle.vc_types.specs.Quantisation.{dequantised}
-use Rattle.vc_types.specs.Subbands.{area, padded_width, place_in}
+use Rattle.vc_types.specs.Subbands.{area}
 use Rattle.vc_types.specs.TransformParameters.{parameters_of}
-use Rattle.vc_types.proofs.SliceCounts.{some_across, some_down}
 use Rattle.vc_types.proofs.SliceRectangles.{coefficients_before-none, coefficients_before-all}
-use Rattle.picture_build.specs.Cells.{cell_number}
 use Rattle.picture_build.proofs.DequantisedNumbers.{coefficient, coefficient_in, narrow_more}
 use Rattle.picture_build.proofs.PlacedNumbers.{subband_within, from_more, subband_stands, subband_stays, all_stand}
 use Rattle.picture_build.proofs.filling.dequantise_numbers.Goals as goal
@@ -22,63 +18,44 @@ loop-b-init c = record {
 
 pub put_rect-requires-clause-from : goal.put_rect-requires-clause-from
 put_rect-requires-clause-from c =
-    let plan = c.args.bands.now.parts.plan in
-    let coeffs = coefficient (parameters_of plan) c.args.c c.args.bands.now.parts.slice c.args.bands.now.index c.args.numbers.now in
-    let within = subband_within (parameters_of plan) c.args.c (some_across plan.slices_x plan.slices_y plan.slices) (some_down plan.slices_x plan.slices_y plan.slices)
-    c.args.bands.now.parts.slice c.loop-b.b c.loop-b.from c.rect-rect.result coeffs c.loop-b.cells c.loop-b.cells c.args.bands.now.parts.in_plan (omega arith) c.rect-rect.ensures.value c.loop-b.invariant.from in
+    let within = subband_within c.args.bands.now.parts c.args.c c.loop-b.b c.loop-b.from c.rect-rect.result (omega arith) c.rect-rect.ensures.value c.loop-b.invariant.from in
     omega (arith, within, c.requires.count)
 
 pub put_rect-requires-clause-small : goal.put_rect-requires-clause-small
 put_rect-requires-clause-small c = λ j h.
-    let plan = c.args.bands.now.parts.plan in
-    let coeffs = coefficient (parameters_of plan) c.args.c c.args.bands.now.parts.slice c.args.bands.now.index c.args.numbers.now in
-    let within = subband_within (parameters_of plan) c.args.c (some_across plan.slices_x plan.slices_y plan.slices) (some_down plan.slices_x plan.slices_y plan.slices)
-    c.args.bands.now.parts.slice c.loop-b.b c.loop-b.from c.rect-rect.result coeffs c.loop-b.cells c.loop-b.cells c.args.bands.now.parts.in_plan (omega arith) c.rect-rect.ensures.value c.loop-b.invariant.from in
-    subst (λ most. unsigned_abs (line_of c.args.numbers.now (c.loop-b.from + j)) ≤ most) (sym c.in-Some.ensures.same.1) (c.requires.small (c.loop-b.from + j) (omega (arith, within)))
+    let within = subband_within c.args.bands.now.parts c.args.c c.loop-b.b c.loop-b.from c.rect-rect.result (omega arith) c.rect-rect.ensures.value c.loop-b.invariant.from in
+    rw c.in-Some.ensures.same.1 (c.requires.small (c.loop-b.from + j) (omega (arith, within)))
 
 pub overflow_add-from : goal.overflow_add-from
 overflow_add-from c =
-    let plan = c.args.bands.now.parts.plan in
-    let coeffs = coefficient (parameters_of plan) c.args.c c.args.bands.now.parts.slice c.args.bands.now.index c.args.numbers.now in
-    let within = subband_within (parameters_of plan) c.args.c (some_across plan.slices_x plan.slices_y plan.slices) (some_down plan.slices_x plan.slices_y plan.slices)
-    c.args.bands.now.parts.slice c.loop-b.b c.loop-b.from c.rect-rect.result coeffs c.loop-b.cells c.loop-b.cells c.args.bands.now.parts.in_plan (omega arith) c.rect-rect.ensures.value c.loop-b.invariant.from in
+    let within = subband_within c.args.bands.now.parts c.args.c c.loop-b.b c.loop-b.from c.rect-rect.result (omega arith) c.rect-rect.ensures.value c.loop-b.invariant.from in
     omega (arith, within, c.requires.count)
 
 pub loop-b-preserved : goal.loop-b-preserved
 loop-b-preserved c =
-    let plan = c.args.bands.now.parts.plan in
-    let p = parameters_of plan in
-    let across = some_across plan.slices_x plan.slices_y plan.slices in
-    let down = some_down plan.slices_x plan.slices_y plan.slices in
-    let coeffs = coefficient p c.args.c c.args.bands.now.parts.slice c.args.bands.now.index c.args.numbers.now in
+    let bands = c.args.bands.now in
+    let parts = bands.parts in
+    let numbers = c.args.numbers.now in
+    let coeffs = coefficient bands c.args.c numbers in
     let r = c.rect-rect.result in
-    let same = c.padded-width.ensures.width in
     let new = c.put_rect.new.self in
-    let q = c.in-Some.quantiser.index in
-    let own : q ≡ c.args.bands.now.index - slice_index_or p.matrix c.loop-b.b 0 =
-    c.in-Some.ensures.same.0 ∙ c.quantiser.ensures in
-    let within = subband_within p c.args.c across down c.args.bands.now.parts.slice c.loop-b.b c.loop-b.from r coeffs c.loop-b.cells new c.args.bands.now.parts.in_plan (omega arith) c.rect-rect.ensures.value c.loop-b.invariant.from in
-    let small : (j : ℕ) → j < area r → unsigned_abs (line_of c.args.numbers.now (c.loop-b.from + j)) ≤ c.in-Some.quantiser.greatest = λ j h.
-    subst (λ most. unsigned_abs (line_of c.args.numbers.now (c.loop-b.from + j)) ≤ most) (sym c.in-Some.ensures.same.1) (c.requires.small (c.loop-b.from + j) (omega (arith, within))) in
-    let here = coefficient_in p c.args.c c.args.bands.now.parts.slice c.args.bands.now.index c.args.numbers.now c.loop-b.b c.loop-b.from q r (omega arith) c.rect-rect.ensures.value c.loop-b.invariant.from own in
-    let on : (j : ℕ) → j < area r → line_of new (cell_number (padded_width p c.args.c) (place_in r j)) ≡ coeffs (c.loop-b.from + j) = λ j h.
-    subst (λ stride. line_of new (cell_number stride (place_in r j)) ≡ dequantised (line_of c.args.numbers.now (c.loop-b.from + j)) q) same (c.put_rect.ensures.on j h) ∙ here j h in
-    let off : (k : ℕ) → ((j : ℕ) → j < area r → k ≢ cell_number (padded_width p c.args.c) (place_in r j)) → line_of new k ≡ line_of c.loop-b.cells k =
-    subst (λ stride. (k : ℕ) → ((j : ℕ) → j < area r → k ≢ cell_number stride (place_in r j)) → line_of new k ≡ line_of c.loop-b.cells k) same c.put_rect.ensures.off in
+    let q = c.in-Some.quantiser in
+    let own = c.in-Some.ensures.same.0 ∙ c.quantiser.ensures in
+    let within = subband_within parts c.args.c c.loop-b.b c.loop-b.from r (omega arith) c.rect-rect.ensures.value c.loop-b.invariant.from in
+    let small : (j : ℕ) → j < area r → unsigned_abs (line_of numbers (c.loop-b.from + j)) ≤ q.greatest =
+    λ j h. rw c.in-Some.ensures.same.1 (c.requires.small (c.loop-b.from + j) (omega (arith, within))) in
+    let here = coefficient_in bands c.args.c numbers c.loop-b.b c.loop-b.from q.index r (omega arith) c.rect-rect.ensures.value c.loop-b.invariant.from own in
+    let on = λ (j : ℕ) (h : j < area r). c.put_rect.ensures.on j h ∙ here j h in
     record {
-      from = from_more p c.args.c across down c.args.bands.now.parts.slice c.loop-b.b c.loop-b.from r coeffs c.loop-b.cells new c.args.bands.now.parts.in_plan (omega arith) c.rect-rect.ensures.value c.loop-b.invariant.from;
-      on = subband_stands p c.args.c across down c.args.bands.now.parts.slice c.loop-b.b c.loop-b.from r coeffs c.loop-b.cells new c.args.bands.now.parts.in_plan (omega arith) c.rect-rect.ensures.value c.loop-b.invariant.from on off c.loop-b.invariant.on;
-      narrow = narrow_more p c.args.c c.args.bands.now.parts.slice c.args.bands.now.index c.args.numbers.now c.loop-b.b c.loop-b.from q r (omega arith) c.rect-rect.ensures.value c.loop-b.invariant.from own c.in-Some.quantiser.greatest c.in-Some.quantiser.is_narrow small c.loop-b.invariant.narrow;
-      off = subband_stays p c.args.c across down c.args.bands.now.parts.slice c.loop-b.b c.loop-b.from r coeffs c.loop-b.cells new c.args.bands.now.parts.in_plan (omega arith) c.rect-rect.ensures.value c.loop-b.invariant.from on off c.args.cells.now c.loop-b.invariant.off;
+      from = from_more parts c.args.c c.loop-b.b c.loop-b.from r (omega arith) c.rect-rect.ensures.value c.loop-b.invariant.from;
+      on = subband_stands parts c.args.c c.loop-b.b c.loop-b.from r (omega arith) c.rect-rect.ensures.value c.loop-b.invariant.from c.padded-width.result.0 c.padded-width.ensures.width coeffs c.loop-b.cells new on c.put_rect.ensures.off c.loop-b.invariant.on;
+      narrow = narrow_more bands c.args.c numbers c.loop-b.b c.loop-b.from q.index r (omega arith) c.rect-rect.ensures.value c.loop-b.invariant.from own q.greatest q.is_narrow small c.loop-b.invariant.narrow;
+      off = subband_stays parts c.args.c c.loop-b.b c.loop-b.from r (omega arith) c.rect-rect.ensures.value c.loop-b.invariant.from c.padded-width.result.0 c.padded-width.ensures.width coeffs c.loop-b.cells new on c.put_rect.ensures.off c.args.cells.now c.loop-b.invariant.off;
       length = c.put_rect.ensures.length ∙ c.loop-b.invariant.length;
     }
 
 pub returns-clause-on : goal.returns-clause-on
-returns-clause-on c =
-    let plan = c.args.bands.now.parts.plan in
-    let coeffs = coefficient (parameters_of plan) c.args.c c.args.bands.now.parts.slice c.args.bands.now.index c.args.numbers.now in
-    all_stand (parameters_of plan) c.args.c (some_across plan.slices_x plan.slices_y plan.slices) (some_down plan.slices_x plan.slices_y plan.slices)
-    c.args.bands.now.parts.slice c.loop-b.b c.loop-b.from coeffs c.loop-b.cells (omega arith) c.loop-b.invariant.from c.loop-b.invariant.on
+returns-clause-on c = all_stand c.args.bands.now.parts c.args.c c.loop-b.b c.loop-b.from (coefficient c.args.bands.now c.args.c c.args.numbers.now) c.loop-b.cells (omega arith) c.loop-b.invariant.from c.loop-b.invariant.on
 
 pub returns-clause-narrow : goal.returns-clause-narrow
 returns-clause-narrow c = λ i h.
