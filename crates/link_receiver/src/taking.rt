@@ -4,6 +4,7 @@ ghost use Rattle.receiver_model.specs.Exchanging.{Exchange, dones_in};
 ghost use Rattle.receiver_model.specs.Standing.{AreDecodings};
 ghost use Rattle.link_receiver.specs.Entered.{IsEntered, IsDrained, outside_of};
 ghost use Rattle.link_receiver.specs.Exchanged.{KeepsPlaces};
+ghost use Rattle.link_receiver.specs.Shown.{Writes};
 ghost use Rattle.link_receiver.specs.States.{GoesOn, WaitsForSecond};
 ghost use Rattle.link_receiver.specs.declared.fault.StepFault.{StepFault};
 ghost use Rattle.link_window.specs.Openings.{session_of};
@@ -11,7 +12,7 @@ ghost use Rattle.link_slices.specs.Calls.{PlaceCall, PlacesAreBelow};
 ghost use Rattle.link_pictures.specs.Outputs.{datagram_output, end_output, stream_end};
 ghost use Rattle.link_pictures.specs.Receiving.{opens_stream_for};
 ghost use Rattle.vc_ports.specs.Faults.{HasCause};
-ghost use Rattle.vc_ports.specs.Writing.{Grew, GrewBySome};
+ghost use Rattle.vc_ports.specs.Writing.{GrewBySome};
 
 use crate::fault::StepFault;
 use crate::reception::Reception;
@@ -108,12 +109,7 @@ fn open_stream(
 
 // Writes the end of the stream, if there is one.
 fn end_stream<O: Sink>(stream: &Option<StreamOutput>, sink: &mut O) -> Result<(), StepFault>
-    ensures written { OnOk result (Grew (O.held sink.old) (O.held sink.new)
-        (stream_end stream.now)) }
-    ensures err { OnErr result (GrewBySome (O.held sink.old) (O.held sink.new)
-        (stream_end stream.now)) }
-    ensures cause { HasCause (O.faults sink.old) (O.faults sink.new)
-        (result ≡ Err StepFault.WriteFault) }
+    ensures { Writes O.held O.faults sink.old sink.new result (stream_end stream.now) }
 {
     match stream {
         Some(stream) => Ok(stream.finish(sink)?),

@@ -29,4 +29,4 @@ returns-clause-has_ended g c = ended_behind c.args.self.now c.end_input.ensures
 pub returns-clause-drained : goal.returns-clause-drained
 returns-clause-drained g c = drains c.args.self.now c.end_input.ensures
     c.in_ok-take_back.ensures.exchanged c.in_ok-release_all.ensures.released
-    c.in_ok-give_up_field.ensures.value _ c.in_ok-end_stream.ensures.written
+    c.in_ok-give_up_field.ensures.value _ c.in_ok-end_stream.ensures.ok
