@@ -2,8 +2,9 @@
 use Rattle.std.proofs.Common.{◌≡◌, ℕ, ◌+◌, ◌≤◌, Bool, true, false, List, length, Option, Some, None, length-take-le, length-drop}
 use Rattle.std.proofs.Common.{Ok, Err, ap, ◌∙◌, arith, cond}
 use Rattle.std.specs.Prelude.{◌==◌, ◌&&◌, is_some, slice_range}
+use Rattle.std.specs.Option.{option_map}
 use Rattle.std.proofs.lemmas.Bool.{cond-true, eq-eqb}
-use Rattle.link_model.specs.Judgement.{early_outcome, refusal_outcome}
+use Rattle.link_model.specs.Judgement.{early_outcome, refusal_outcome, judged_value, judged_received}
 use Rattle.link_model.specs.Packets.{PayloadValue, RtpPacket, rtp_packet, payload}
 use Rattle.link_model.specs.Session.{Received, received, DatagramRefusal, OfRtp, OfPayload, of_packet}
 use Rattle.link_model.specs.Session.{of_payload, Session, session_by, session_from, begins}
@@ -13,7 +14,7 @@ use Rattle.link_model.specs.declared.outcome.Outcome.{Outcome}
 use Rattle.link_model.specs.declared.outcome.Outcome.TheVariants as outcomes
 use Rattle.link_model.specs.declared.refusal.PayloadRefusal.{PayloadRefusal}
 use Rattle.link_model.specs.declared.refusal.RtpRefusal.{RtpRefusal}
-use Rattle.receiver_model.specs.Judging.{opens_from, opens_after, standing_outcome, outcome_from, outcome_by}
+use Rattle.receiver_model.specs.Judging.{opens_from, opens_after, known_by_window, outcome_by}
 use Rattle.receiver_model.specs.Receptions.{StandingSession}
 use Rattle.link_window.specs.Hearing.{OpensSession, BringsFragment, EndsSession, ChangesNothing}
 use Rattle.link_window.specs.Openings.{session_of}
@@ -58,7 +59,7 @@ module _ (d : List ℕ) (r : Received) (is : received d ≡ Ok r) where
   unfolding ends
   end_is s = ap (end_from s) is
 
-  outcome_is : (standing : Option StandingSession) → outcome_by standing (received d) ≡ outcome_from standing r
+  outcome_is : (standing : Option StandingSession) → outcome_by standing (received d) ≡ judged_received (option_map known_by_window standing) r
   outcome_is standing = ap (outcome_by standing) is
 
   -- ---- before a session stands
@@ -78,7 +79,7 @@ module _ (d : List ℕ) (r : Received) (is : received d ≡ Ok r) where
     abbrev some : Option StandingSession
     some = Some st
 
-    next_outcome : outcome_by some (received d) ≡ cond (is_some (opens_from st (session_by r.ssrc r.value))) outcomes.HeaderNew (cond (r.ssrc == st.session.ssrc) (standing_outcome st r.value) outcomes.Foreign)
+    next_outcome : outcome_by some (received d) ≡ cond (is_some (opens_from st (session_by r.ssrc r.value))) outcomes.HeaderNew (cond (r.ssrc == st.session.ssrc) (judged_value (known_by_window st) r.value) outcomes.Foreign)
     next_outcome = outcome_is some
 
     pub opens_behind : (o : Opening) → opens_from st (session_by r.ssrc r.value) ≡ Some (session_of o) → OpensSession some d o
@@ -88,8 +89,8 @@ module _ (d : List ℕ) (r : Received) (is : received d ≡ Ok r) where
       still : opens_after some (begins d) ≡ None
       still = ap (opens_from st) begins_is ∙ none
 
-      no_opening : outcome_by some (received d) ≡ cond (r.ssrc == st.session.ssrc) (standing_outcome st r.value) outcomes.Foreign
-      no_opening = next_outcome ∙ ap (λ (n : Option Session). cond (is_some n) outcomes.HeaderNew (cond (r.ssrc == st.session.ssrc) (standing_outcome st r.value) outcomes.Foreign)) none
+      no_opening : outcome_by some (received d) ≡ cond (r.ssrc == st.session.ssrc) (judged_value (known_by_window st) r.value) outcomes.Foreign
+      no_opening = next_outcome ∙ ap (λ (n : Option Session). cond (is_some n) outcomes.HeaderNew (cond (r.ssrc == st.session.ssrc) (judged_value (known_by_window st) r.value) outcomes.Foreign)) none
 
       -- of another source
       pub foreign : (r.ssrc ≡ st.session.ssrc → ⊥) → ChangesNothing some d outcomes.Foreign
@@ -105,17 +106,17 @@ module _ (d : List ℕ) (r : Received) (is : received d ≡ Ok r) where
         own_end : ends st.session d ≡ is_end r.value
         own_end = end_is st.session ∙ ap (λ (b : Bool). b && is_end r.value) same
 
-        own_outcome : outcome_by some (received d) ≡ standing_outcome st r.value
-        own_outcome = no_opening ∙ cond-true (r.ssrc == st.session.ssrc) (standing_outcome st r.value) outcomes.Foreign same
+        own_outcome : outcome_by some (received d) ≡ judged_value (known_by_window st) r.value
+        own_outcome = no_opening ∙ cond-true (r.ssrc == st.session.ssrc) (judged_value (known_by_window st) r.value) outcomes.Foreign same
 
-        pub nothing_more : (o : Outcome) → fragment_by r.value ≡ None → is_end r.value ≡ false → standing_outcome st r.value ≡ o → ChangesNothing some d o
+        pub nothing_more : (o : Outcome) → fragment_by r.value ≡ None → is_end r.value ≡ false → judged_value (known_by_window st) r.value ≡ o → ChangesNothing some d o
         nothing_more o no_fragment no_end outcome =
             grind (arith, own_end, own_fragment, own_outcome, still)
 
-        pub has_end : fragment_by r.value ≡ None → is_end r.value ≡ true → standing_outcome st r.value ≡ outcomes.End → EndsSession some d
+        pub has_end : fragment_by r.value ≡ None → is_end r.value ≡ true → judged_value (known_by_window st) r.value ≡ outcomes.End → EndsSession some d
         has_end no_fragment end outcome = grind (arith, own_end, own_fragment, own_outcome, still)
 
-        pub brings : (f : Fragment) → fragment_by r.value ≡ Some (sent_fragment f) → is_end r.value ≡ false → standing_outcome st r.value ≡ window_outcome st.window (sent_fragment f) → BringsFragment some d f
+        pub brings : (f : Fragment) → fragment_by r.value ≡ Some (sent_fragment f) → is_end r.value ≡ false → judged_value (known_by_window st) r.value ≡ window_outcome st.window (sent_fragment f) → BringsFragment some d f
         brings f fragment no_end outcome = grind (arith, own_end, own_fragment, own_outcome, still)
 
 -- one that can't be read

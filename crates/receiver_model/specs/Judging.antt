@@ -1,8 +1,7 @@
 -- How a receiver judges a datagram, and what it keeps of it (this project's profile of RFC 8450).
 use Rattle.std.specs.Prelude.{ℕ, ◌||◌, List, true, Option, Some, None, Result}
 use Rattle.std.specs.Option.{option_map}
-use Rattle.link_model.specs.Judgement.{KnownSession, judged_value, judged_received, judgement, with_outcome}
-use Rattle.link_model.specs.Packets.{PayloadValue}
+use Rattle.link_model.specs.Judgement.{KnownSession, judgement, with_outcome}
 use Rattle.link_model.specs.Session.{Received, received, DatagramRefusal, Session, opens_over}
 use Rattle.link_model.specs.Session.{begins, ends, Fragment, fragment_in}
 use Rattle.link_model.specs.Windows.{Window, window_enters, window_outcome, finishes}
@@ -31,13 +30,6 @@ known_by_window st = record {
   has_ended = st.has_ended;
   fragment = window_outcome st.window;
 }
-
--- from the source of the session that stands
-abbrev pub standing_outcome : StandingSession → PayloadValue → Outcome
-standing_outcome st value = judged_value (known_by_window st) value
-
-abbrev pub outcome_from : Option StandingSession → Received → Outcome
-outcome_from standing d = judged_received (option_map known_by_window standing) d
 
 abbrev pub outcome_by : Option StandingSession → Result Received DatagramRefusal → Outcome
 outcome_by standing r = judgement (option_map known_by_window standing) r

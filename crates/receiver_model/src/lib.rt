@@ -1,5 +1,5 @@
-//! The link's receiver: what it has, what it stands for, and that it goes on standing for it. There are definitions and laws
-//! here, and no algorithm.
+//! The link's receiver: what it has, what it stands for, and that it goes on standing for it. There
+//! are definitions and laws here, and no algorithm.
 #![tactic(auto)]
 
 mod laws;

@@ -1,8 +1,9 @@
 use Rattle.std.proofs.Common.{◌≡◌, List, ℕ, Some, None, ap, sym, ◌∙◌}
+use Rattle.link_model.specs.Judgement.{judged_value}
 use Rattle.link_model.specs.Session.{Received, session_by, fragment_by, is_end, params_fragment}
 use Rattle.link_model.specs.Session.{slices_fragment}
 use Rattle.link_model.specs.Windows.{window_outcome}
-use Rattle.receiver_model.specs.Judging.{opens_from, standing_outcome}
+use Rattle.receiver_model.specs.Judging.{opens_from, known_by_window}
 use Rattle.link_window.specs.Views.{sent_fragment}
 use Rattle.link_window.specs.declared.fragment.Fragment.{Fragment}
 use Rattle.link_window.specs.declared.fragment.Part.TheVariants as parts
@@ -29,7 +30,7 @@ returns-in-Header c =
     let is = c.in-Header.is in
     nothing_more c.args.datagram.now r c.requires.read st none (c.if-packet-ssrc.false ∙ c.ssrc.ensures) c.header_outcome.result
     (ap (λ (p : Payload). fragment_by (payload_value p)) is) (ap (λ (p : Payload). is_end (payload_value p)) is)
-    (ap (λ (p : Payload). standing_outcome st (payload_value p)) is
+    (ap (λ (p : Payload). judged_value (known_by_window st) (payload_value p)) is
     ∙ sym (c.header_outcome.ensures packet.ssrc c.in-Header.body.now (c.requires.opening ∙ ap (λ (p : Payload). session_by packet.ssrc (payload_value p)) is)))
 
 pub returns-in-End : goal.returns-in-End
@@ -41,7 +42,7 @@ returns-in-End c =
     let is = c.in-End.is in
     has_end c.args.datagram.now r c.requires.read st none (c.if-packet-ssrc.false ∙ c.ssrc.ensures)
     (ap (λ (p : Payload). fragment_by (payload_value p)) is) (ap (λ (p : Payload). is_end (payload_value p)) is)
-    (ap (λ (p : Payload). standing_outcome st (payload_value p)) is)
+    (ap (λ (p : Payload). judged_value (known_by_window st) (payload_value p)) is)
 
 pub returns-in-Skip : goal.returns-in-Skip
 returns-in-Skip c =
@@ -52,7 +53,7 @@ returns-in-Skip c =
     let is = c.in-Skip.is in
     nothing_more c.args.datagram.now r c.requires.read st none (c.if-packet-ssrc.false ∙ c.ssrc.ensures) outcomes.Skipped
     (ap (λ (p : Payload). fragment_by (payload_value p)) is) (ap (λ (p : Payload). is_end (payload_value p)) is)
-    (ap (λ (p : Payload). standing_outcome st (payload_value p)) is)
+    (ap (λ (p : Payload). judged_value (known_by_window st) (payload_value p)) is)
 
 pub returns-in_ok-body-in-Params : goal.returns-in_ok-body-in-Params
 returns-in_ok-body-in-Params c =
@@ -66,7 +67,7 @@ returns-in_ok-body-in-Params c =
     ap (λ (l : List ℕ). params_fragment (head_of c.in-Params.head) l) (sym c.in_ok-body-in-Params.ensures) in
     brings c.args.datagram.now r c.requires.read st none (c.if-packet-ssrc.false ∙ c.ssrc.ensures) f
     (ap (λ (p : Payload). fragment_by (payload_value p)) is ∙ ap Some same) (ap (λ (p : Payload). is_end (payload_value p)) is)
-    (ap (λ (p : Payload). standing_outcome st (payload_value p)) is ∙ ap (window_outcome st.window) same)
+    (ap (λ (p : Payload). judged_value (known_by_window st) (payload_value p)) is ∙ ap (window_outcome st.window) same)
 
 pub returns-in_ok-body-in-Slices : goal.returns-in_ok-body-in-Slices
 returns-in_ok-body-in-Slices c =
@@ -91,4 +92,4 @@ returns-in_ok-body-in-Slices c =
     ap (λ (l : List ℕ). slices_fragment (head_of s.head) s.count s.x s.y l) (sym c.in_ok-body-in-Slices.ensures) in
     brings c.args.datagram.now r c.requires.read st none (c.if-packet-ssrc.false ∙ c.ssrc.ensures) f
     (ap (λ (p : Payload). fragment_by (payload_value p)) is ∙ ap Some same) (ap (λ (p : Payload). is_end (payload_value p)) is)
-    (ap (λ (p : Payload). standing_outcome st (payload_value p)) is ∙ ap (window_outcome st.window) same)
+    (ap (λ (p : Payload). judged_value (known_by_window st) (payload_value p)) is ∙ ap (window_outcome st.window) same)
