@@ -1,10 +1,12 @@
 -- What an elementary stream brings to a packer, unit by unit (ST 2042-1, sequence): headers of one
 -- value, and pictures, each with all its slices.
-use Rattle.std.specs.Prelude.{ℕ, ◌+◌, ◌==◌, nat_lt, if◌then◌else◌, false, List, [], ◌∷◌, ◌++◌, length, take, drop, Option, Some, None, Result, Ok, Err}
+use Rattle.std.specs.Prelude.{ℕ, ◌+◌, ◌==◌, nat_lt, if◌then◌else◌, false, List, [], ◌∷◌, ◌++◌}
+use Rattle.std.specs.Prelude.{length, take, drop, Option, Some, None, Result, Ok, Err}
 use Rattle.std.specs.Option.{option_map_or}
 use Rattle.byteorder.specs.Endian.{big_number}
 use Rattle.link_model.specs.Kept.{next_slices}
-use Rattle.stream_model.specs.Packing.{LargePart, PackedPicture, first_large_part, packed_datagrams, packed_stream}
+use Rattle.stream_model.specs.Packing.{LargePart, PackedPicture, first_large_part, packed_datagrams}
+use Rattle.stream_model.specs.Packing.{packed_stream}
 use Rattle.vc_types.specs.DataUnits.{DataUnit, unit_length}
 use Rattle.vc_types.specs.ParseCodes.{header_code, picture_code}
 use Rattle.vc_types.specs.SameValues.{same_sequence}

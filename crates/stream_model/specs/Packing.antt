@@ -1,10 +1,15 @@
 -- The datagrams that this project's packer makes of the pictures of an elementary stream (RFC 3550,
 -- 5.1; RFC 8450, 4): for each picture its sequence header, its transform parameters and its slices
 -- in the stream's own bytes, and an end of sequence after the last.
-use Rattle.std.specs.Prelude.{◌≡◌, ℕ, ◌+◌, ◌-◌, ◌*◌, ◌/◌, ◌%◌, ◌^◌, Bool, false, ◌==◌, nat_lt, if◌then◌else◌, List, [], ◌∷◌, ◌++◌, length, map, Option, Some, None, Result, Ok, Err}
+use Rattle.std.specs.Prelude.{◌≡◌, ℕ, ◌+◌, ◌-◌, ◌*◌, ◌/◌, ◌%◌, ◌^◌, Bool, false, ◌==◌, nat_lt}
+use Rattle.std.specs.Prelude.{if◌then◌else◌, List, [], ◌∷◌, ◌++◌, length, map, Option, Some, None}
+use Rattle.std.specs.Prelude.{Result, Ok, Err}
 use Rattle.link_model.specs.Kept.{next_slices}
-use Rattle.link_model.specs.Packets.{RtpPacket, rtp_header, FragmentHead, PayloadValue, Header, End, Params, Slices, payload_bytes}
-use Rattle.link_model.specs.Sending.{DatagramContent, HeaderContent, ParametersContent, SlicesContent, EndContent, high_half, run_bytes, run_end, runs_of_slices}
+use Rattle.link_model.specs.Packets.{RtpPacket, rtp_header, FragmentHead, PayloadValue, Header, End}
+use Rattle.link_model.specs.Packets.{Params, Slices, payload_bytes}
+use Rattle.link_model.specs.Sending.{DatagramContent, HeaderContent, ParametersContent}
+use Rattle.link_model.specs.Sending.{SlicesContent, EndContent, high_half, run_bytes, run_end}
+use Rattle.link_model.specs.Sending.{runs_of_slices}
 use Rattle.vc_types.specs.SenderSettings.{Packing}
 use Rattle.vc_types.specs.Subbands.{slice_count}
 use Rattle.vc_types.specs.TransformParameters.{Parameters}

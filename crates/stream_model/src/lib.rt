@@ -1,5 +1,5 @@
-//! Elementary streams and the link: in specs/ the stream of a list of datagrams and the datagrams of a stream, here laws on
-//! how they grow.
+//! Elementary streams and the link: in specs/ the stream of a list of datagrams and the datagrams
+//! of a stream, here laws on how they grow.
 #![tactic(auto)]
 
 mod laws;

@@ -1,5 +1,6 @@
 ghost use Rattle.std.specs.Prelude.{◌≡◌, ◌+◌, [], ◌∷◌, ◌++◌, List, length};
-ghost use Rattle.stream_model.specs.Packing.{PackedPicture, packed_datagrams, packed_picture, packed_timestamp, timestamp_behind};
+ghost use Rattle.stream_model.specs.Packing.{PackedPicture, packed_datagrams, packed_picture};
+ghost use Rattle.stream_model.specs.Packing.{packed_timestamp, timestamp_behind};
 ghost use Rattle.vc_types.specs.SenderSettings.{Packing};
 
 /// A picture more is packed after the others, with the next sequence number and a timestamp that counts them.
