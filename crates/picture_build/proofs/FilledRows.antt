@@ -1,27 +1,31 @@
 -- A rectangle of a grid that is filled row by row.
-use Rattle.std.proofs.Common.{◌≡◌, ◌≢◌, ℕ, ◌+◌, ◌-◌, ◌*◌, ◌/◌, ◌%◌, ◌<◌, ◌≤◌, List, ℤ, arith, ap, ◌∙◌, ◌⊎◌, inl, inr}
+use Rattle.std.proofs.Common.{◌≡◌, ℕ, ◌+◌, ◌-◌, ◌*◌, ◌/◌, ◌%◌, ◌<◌, ◌≤◌, List, ℤ, arith, ap, ◌∙◌, ◌⊎◌, inl, inr}
 use Rattle.std.proofs.lemmas.Bool.{cases_lt, cases_eq}
 use Rattle.std.proofs.lemmas.Nat.{mul-add-lt, div-mul-add, mod-mul-add, mod_below, div_below}
 use Rattle.vc_types.specs.declared.rect.Rect.{Rect}
+use Rattle.picture_build.specs.declared.cell_rect.CellRect.{CellRect}
+use Rattle.picture_build.specs.CellRects.{ChangesRect, cell_in}
 use Rattle.vc_types.specs.Lifting.{line_of}
 use Rattle.vc_types.specs.Subbands.{area, place_in}
 use Rattle.picture_build.specs.Cells.{cell_number}
 
-module _ (r : Rect) (stride from : ℕ) (coeffs : ℕ → ℤ) where
+module _ (to : CellRect) (from : ℕ) (coeffs : ℕ → ℤ) where
+  abbrev r : Rect
+  r = to.rect
+
+  abbrev stride : ℕ
+  stride = to.stride
+
   -- the first rows have their coefficients
   abbrev pub FirstRows : ℕ → List ℤ → Type 0
   FirstRows row cells = (x y : ℕ) → x < r.width → y < row → line_of cells ((r.y + y) * stride + (r.x + x)) ≡ coeffs (from + (y * r.width + x))
-
-  -- cells outside the rectangle are as before
-  abbrev pub OthersKept : List ℤ → List ℤ → Type 0
-  OthersKept old cells = (k : ℕ) → ((j : ℕ) → j < area r → k ≢ cell_number stride (place_in r j)) → line_of cells k ≡ line_of old k
 
   number_at : (row x : ℕ) → x < r.width → cell_number stride (place_in r (row * r.width + x)) ≡ (r.y + row) * stride + (r.x + x)
   number_at row x h =
       ap (λ n. (r.y + n) * stride + (r.x + (row * r.width + x) % r.width)) (div-mul-add row r.width x h)
       ∙ ap (λ n. (r.y + row) * stride + (r.x + n)) (mod-mul-add row r.width x h)
 
-  module _ (wide : r.x + r.width ≤ stride) (row : ℕ) (below : row < r.height) (old new : List ℤ)
+  module _ (row : ℕ) (below : row < r.height) (old new : List ℤ)
       (on : (x : ℕ) → x < r.width → line_of new ((r.y + row) * stride + r.x + x) ≡ coeffs (from + row * r.width + x))
       (off : (k : ℕ) → (k < (r.y + row) * stride + r.x) ⊎ ((r.y + row) * stride + r.x + r.width ≤ k) → line_of new k ≡ line_of old k) where
     pub rows_more : FirstRows row old → FirstRows (row + 1) new
@@ -32,11 +36,11 @@ module _ (r : Rect) (stride from : ℕ) (coeffs : ℕ → ℤ) where
           ap (line_of new) place ∙ on x h ∙ ap coeffs number)
       | inr ne ↦ (
           let earlier : y < row = omega arith in
-          let above = mul-add-lt (r.y + y) stride (r.x + x) (r.y + row) (omega arith) (omega arith) in
+          let above = mul-add-lt (r.y + y) stride (r.x + x) (r.y + row) (omega arith) (omega (arith, to.across)) in
           off ((r.y + y) * stride + (r.x + x)) (inl (omega (arith, above))) ∙ before x y h earlier)
     ]
 
-    pub others_more : (first : List ℤ) → OthersKept first old → OthersKept first new
+    pub others_more : (first : List ℤ) → ChangesRect to first old → ChangesRect to first new
     others_more first before k none = off k (apart (cases_lt k ((r.y + row) * stride + r.x)) (cases_lt k ((r.y + row) * stride + r.x + r.width))) ∙ before k none
       where
         apart : (k < (r.y + row) * stride + r.x) ⊎ ((r.y + row) * stride + r.x ≤ k) → (k < (r.y + row) * stride + r.x + r.width) ⊎ ((r.y + row) * stride + r.x + r.width ≤ k) → (k < (r.y + row) * stride + r.x) ⊎ ((r.y + row) * stride + r.x + r.width ≤ k)
@@ -48,7 +52,7 @@ module _ (r : Rect) (stride from : ℕ) (coeffs : ℕ → ℤ) where
             let here = number_at row x column in
             absurd (none (row * r.width + x) (mul-add-lt row r.width x r.height below column) (omega (arith, here)))
 
-  pub rows_all : (cells : List ℤ) → FirstRows r.height cells → (j : ℕ) → j < area r → line_of cells (cell_number stride (place_in r j)) ≡ coeffs (from + j)
+  pub rows_all : (cells : List ℤ) → FirstRows r.height cells → (j : ℕ) → j < area r → line_of cells (cell_in to j) ≡ coeffs (from + j)
   rows_all cells rows j h =
       let turned : j < r.height * r.width = omega arith in
       let some : 0 < r.width = some_columns (cases_lt 0 r.width) in

@@ -5,4 +5,4 @@ pub mod Kept
 pub mod Puts
 pub mod Output
 pub mod OfPlan
-pub mod Writes
+pub mod CellRects

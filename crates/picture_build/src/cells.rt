@@ -1,15 +1,14 @@
 ghost use Rattle.std.specs.Prelude.{◌≡◌, ◌≢◌, ◌+◌, ◌*◌, ◌^◌, ◌<◌, ◌≤◌, ℕ, ℤ, pos, IfOk, IfSome, length, unsigned_abs};
 ghost use Rattle.vc_types.specs.Lifting.{line_of};
-ghost use Rattle.vc_types.specs.Quantisation.{dequantised};
-ghost use Rattle.vc_types.specs.Subbands.{area, place_in};
-ghost use Rattle.picture_build.specs.Cells.{cell_number, whole_number};
-ghost use Rattle.picture_build.specs.Writes.{ChangesRow, HasRow};
+ghost use Rattle.vc_types.specs.Subbands.{area};
+ghost use Rattle.picture_build.specs.Cells.{whole_number};
+ghost use Rattle.picture_build.specs.CellRects.{ChangesRect, ChangesRow, HasRow, LiesIn, cell_in, coefficient_of};
 
-use crate::dequantising::dequantise_rect;
+use crate::cell_rect::CellRect;
+use crate::dequantising::{QuantisedNumbers, dequantise_rect};
 use std::alloc::Global;
 use std::marker::Model;
-use vc_quant::NarrowQuantiser;
-use vc_types::{NoMemory, Rect};
+use vc_types::NoMemory;
 
 // What one in the high part of a cell counts.
 const HIGH: i64 = 1 << 30;
@@ -79,31 +78,19 @@ impl CoefficientCells {
     }
 
     /// Puts the coefficients that numbers stand for, from one number on, into a rectangle of cells, row by row.
-    pub(crate) fn put_rect(
-        &mut self,
-        rect: &Rect,
-        stride: usize,
-        numbers: &[i32],
-        from: usize,
-        quantiser: &NarrowQuantiser,
-    )
-        requires sides { (stride ≤ 8192) × (rect.now.y + rect.now.height ≤ 8192) }
-        requires across { rect.now.x + rect.now.width ≤ stride }
-        requires down { (rect.now.y + rect.now.height) * stride ≤ length self.old }
-        requires from { from + area rect.now ≤ length numbers.now }
-        requires small { (j : ℕ) → j < area rect.now
-            → unsigned_abs (line_of numbers.now (from + j)) ≤ quantiser.now.greatest }
-        ensures on { (j : ℕ) → j < area rect.now
-            → line_of self.new (cell_number stride (place_in rect.now j))
-            ≡ dequantised (line_of numbers.now (from + j)) quantiser.now.index }
-        ensures off { (k : ℕ)
-            → ((j : ℕ) → j < area rect.now → k ≢ cell_number stride (place_in rect.now j))
-            → line_of self.new k ≡ line_of self.old k }
+    pub(crate) fn put_rect(&mut self, to: &CellRect, quantised: QuantisedNumbers<'_>, from: usize)
+        requires cells { LiesIn to.now self.old }
+        requires from { from + area to.now.rect ≤ length quantised.numbers.now }
+        requires small { (j : ℕ) → j < area to.now.rect
+            → unsigned_abs (line_of quantised.numbers.now (from + j)) ≤ quantised.quantiser.now.greatest }
+        ensures on { (j : ℕ) → j < area to.now.rect
+            → line_of self.new (cell_in to.now j) ≡ coefficient_of quantised.entry (from + j) }
+        ensures off { ChangesRect to.now self.old self.new }
         ensures length { length self.new ≡ length self.old }
     {
-        dequantise_rect(&mut self.low, rect, stride, numbers, from, quantiser);
+        dequantise_rect(&mut self.low, to, quantised, from);
         if self.is_wide {
-            clear_rect(&mut self.high, rect, stride);
+            clear_rect(&mut self.high, to);
         }
     }
 
@@ -213,19 +200,14 @@ fn clear_row(cells: &mut [i32], at: usize, width: usize)
     }
 }
 
-fn clear_rect(cells: &mut [i32], rect: &Rect, stride: usize)
-    requires sides { (stride ≤ 8192) × (rect.now.y + rect.now.height ≤ 8192) }
-    requires across { rect.now.x + rect.now.width ≤ stride }
-    requires down { (rect.now.y + rect.now.height) * stride ≤ length cells.old }
-    ensures on { (j : ℕ) → j < area rect.now
-        → line_of cells.new (cell_number stride (place_in rect.now j)) ≡ pos 0 }
-    ensures off { (k : ℕ)
-        → ((j : ℕ) → j < area rect.now → k ≢ cell_number stride (place_in rect.now j))
-        → line_of cells.new k ≡ line_of cells.old k }
+fn clear_rect(cells: &mut [i32], to: &CellRect)
+    requires { LiesIn to.now cells.old }
+    ensures on { (j : ℕ) → j < area to.now.rect → line_of cells.new (cell_in to.now j) ≡ pos 0 }
+    ensures off { ChangesRect to.now cells.old cells.new }
     ensures length { length cells.new ≡ length cells.old }
 {
-    for row in 0..rect.height as usize {
-        let at = (rect.y as usize + row) * stride + rect.x as usize;
-        clear_row(cells, at, rect.width as usize);
+    for row in 0..to.rect.height as usize {
+        let at = (to.rect.y as usize + row) * to.stride + to.rect.x as usize;
+        clear_row(cells, at, to.rect.width as usize);
     }
 }

@@ -1,103 +1,80 @@
-ghost use Rattle.std.specs.Prelude.{◌≡◌, ◌≢◌, ◌+◌, ◌*◌, ◌<◌, ◌≤◌, ℕ, length, unsigned_abs};
+ghost use Rattle.std.specs.Prelude.{◌≡◌, ◌+◌, ◌<◌, ◌≤◌, ℕ, length, unsigned_abs};
 ghost use Rattle.vc_types.specs.Lifting.{line_of};
-ghost use Rattle.vc_types.specs.Quantisation.{dequantised};
-ghost use Rattle.vc_types.specs.Subbands.{area, place_in};
-ghost use Rattle.picture_build.specs.Cells.{cell_number};
-ghost use Rattle.picture_build.specs.Writes.{ChangesRow};
+ghost use Rattle.vc_types.specs.Subbands.{area};
+ghost use Rattle.picture_build.specs.CellRects.{ChangesRect, ChangesRow, LiesIn, cell_in, coefficient_of};
 
+use crate::cell_rect::CellRect;
 use vc_quant::NarrowQuantiser;
-use vc_types::Rect;
+
+/// Numbers, and the quantiser by which they stand for coefficients.
+#[derive(Clone, Copy)]
+pub(crate) struct QuantisedNumbers<'a> {
+    pub(crate) numbers: &'a [i32],
+    pub(crate) quantiser: &'a NarrowQuantiser,
+}
 
 /// Puts the coefficients that numbers stand for, from one number on, into a rectangle of cells, row by row.
 pub(crate) fn dequantise_rect(
     cells: &mut [i32],
-    rect: &Rect,
-    stride: usize,
-    numbers: &[i32],
+    to: &CellRect,
+    quantised: QuantisedNumbers<'_>,
     from: usize,
-    quantiser: &NarrowQuantiser,
 )
-    requires sides { (stride ≤ 8192) × (rect.now.y + rect.now.height ≤ 8192) }
-    requires across { rect.now.x + rect.now.width ≤ stride }
-    requires down { (rect.now.y + rect.now.height) * stride ≤ length cells.old }
-    requires from { from + area rect.now ≤ length numbers.now }
-    requires small { (j : ℕ) → j < area rect.now
-        → unsigned_abs (line_of numbers.now (from + j)) ≤ quantiser.now.greatest }
-    ensures on { (j : ℕ) → j < area rect.now
-        → line_of cells.new (cell_number stride (place_in rect.now j))
-        ≡ dequantised (line_of numbers.now (from + j)) quantiser.now.index }
-    ensures off { (k : ℕ)
-        → ((j : ℕ) → j < area rect.now → k ≢ cell_number stride (place_in rect.now j))
-        → line_of cells.new k ≡ line_of cells.old k }
+    requires cells { LiesIn to.now cells.old }
+    requires from { from + area to.now.rect ≤ length quantised.numbers.now }
+    requires small { (j : ℕ) → j < area to.now.rect
+        → unsigned_abs (line_of quantised.numbers.now (from + j)) ≤ quantised.quantiser.now.greatest }
+    ensures on { (j : ℕ) → j < area to.now.rect
+        → line_of cells.new (cell_in to.now j) ≡ coefficient_of quantised.entry (from + j) }
+    ensures off { ChangesRect to.now cells.old cells.new }
     ensures length { length cells.new ≡ length cells.old }
 {
     // Rows of these widths go over at once.
-    match rect.width {
-        1 => put_rows(cells, rect, stride, numbers, from, 1, quantiser),
-        2 => put_rows(cells, rect, stride, numbers, from, 2, quantiser),
-        4 => put_rows(cells, rect, stride, numbers, from, 4, quantiser),
-        8 => put_rows(cells, rect, stride, numbers, from, 8, quantiser),
-        width => put_rows(
-            cells,
-            rect,
-            stride,
-            numbers,
-            from,
-            width as usize,
-            quantiser,
-        ),
+    match to.rect.width {
+        1 => put_rows(cells, to, quantised, from, 1),
+        2 => put_rows(cells, to, quantised, from, 2),
+        4 => put_rows(cells, to, quantised, from, 4),
+        8 => put_rows(cells, to, quantised, from, 8),
+        width => put_rows(cells, to, quantised, from, width as usize),
     }
 }
 
 #[inline(always)]
 fn put_rows(
     cells: &mut [i32],
-    rect: &Rect,
-    stride: usize,
-    numbers: &[i32],
+    to: &CellRect,
+    quantised: QuantisedNumbers<'_>,
     from: usize,
     width: usize,
-    quantiser: &NarrowQuantiser,
 )
-    requires width { width ≡ rect.now.width }
-    requires sides { (stride ≤ 8192) × (rect.now.y + rect.now.height ≤ 8192) }
-    requires across { rect.now.x + rect.now.width ≤ stride }
-    requires down { (rect.now.y + rect.now.height) * stride ≤ length cells.old }
-    requires from { from + area rect.now ≤ length numbers.now }
-    requires small { (j : ℕ) → j < area rect.now
-        → unsigned_abs (line_of numbers.now (from + j)) ≤ quantiser.now.greatest }
-    ensures on { (j : ℕ) → j < area rect.now
-        → line_of cells.new (cell_number stride (place_in rect.now j))
-        ≡ dequantised (line_of numbers.now (from + j)) quantiser.now.index }
-    ensures off { (k : ℕ)
-        → ((j : ℕ) → j < area rect.now → k ≢ cell_number stride (place_in rect.now j))
-        → line_of cells.new k ≡ line_of cells.old k }
+    requires width { width ≡ to.now.rect.width }
+    requires cells { LiesIn to.now cells.old }
+    requires from { from + area to.now.rect ≤ length quantised.numbers.now }
+    requires small { (j : ℕ) → j < area to.now.rect
+        → unsigned_abs (line_of quantised.numbers.now (from + j)) ≤ quantised.quantiser.now.greatest }
+    ensures on { (j : ℕ) → j < area to.now.rect
+        → line_of cells.new (cell_in to.now j) ≡ coefficient_of quantised.entry (from + j) }
+    ensures off { ChangesRect to.now cells.old cells.new }
     ensures length { length cells.new ≡ length cells.old }
 {
-    for row in 0..rect.height as usize {
-        let at = (rect.y as usize + row) * stride + rect.x as usize;
-        put_row(cells, at, numbers, from + row * width, width, quantiser);
+    for row in 0..to.rect.height as usize {
+        let at = (to.rect.y as usize + row) * to.stride + to.rect.x as usize;
+        put_row(cells, at, quantised, from + row * width, width);
     }
 }
 
 #[inline(always)]
-fn put_row(
-    cells: &mut [i32],
-    at: usize,
-    numbers: &[i32],
-    from: usize,
-    width: usize,
-    quantiser: &NarrowQuantiser,
-)
+fn put_row(cells: &mut [i32], at: usize, quantised: QuantisedNumbers<'_>, from: usize, width: usize)
     requires at { at + width ≤ length cells.old }
-    requires from { from + width ≤ length numbers.now }
+    requires from { from + width ≤ length quantised.numbers.now }
     requires small { (x : ℕ) → x < width
-        → unsigned_abs (line_of numbers.now (from + x)) ≤ quantiser.now.greatest }
-    ensures on { (x : ℕ) → x < width → line_of cells.new (at + x)
-        ≡ dequantised (line_of numbers.now (from + x)) quantiser.now.index }
+        → unsigned_abs (line_of quantised.numbers.now (from + x)) ≤ quantised.quantiser.now.greatest }
+    ensures on { (x : ℕ) → x < width → line_of cells.new (at + x) ≡ coefficient_of quantised.entry (from + x) }
     ensures off { ChangesRow width at cells.old cells.new }
     ensures length { length cells.new ≡ length cells.old }
 {
+    let numbers = quantised.numbers;
+    let quantiser = quantised.quantiser;
     if width <= 8 {
         // All numbers are read before a coefficient is written, so that they go over at once.
         let mut few = [0; 8];

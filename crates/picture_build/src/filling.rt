@@ -5,23 +5,25 @@ ghost use Rattle.vc_types.specs.declared.video.Component.TheVariants.{Y, C1, C2}
 ghost use Rattle.vc_types.specs.Lifting.{line_of};
 ghost use Rattle.vc_types.specs.Slices.{coefficients_of, decoded_slice, in_range, is_large, slice_length};
 ghost use Rattle.vc_types.specs.Quantisation.{dequantised};
-ghost use Rattle.vc_types.specs.Subbands.{area, place_in};
+ghost use Rattle.vc_types.specs.Subbands.{area};
 ghost use Rattle.vc_types.specs.TransformParameters.{parameters_of};
 ghost use Rattle.vc_slice.specs.Bands.{coefficient_count, coefficients_of_block, quantisers_of};
 ghost use Rattle.vc_slice.specs.Coded.{coded_of};
 ghost use Rattle.vc_slice.specs.Numbers.{AreUpTo};
-ghost use Rattle.picture_build.specs.Cells.{cell_number};
+ghost use Rattle.picture_build.specs.CellRects.{ChangesRect, LiesIn, cell_in};
 ghost use Rattle.picture_build.specs.Kept.{ChangesOnly, FillsSlice};
 ghost use Rattle.picture_build.specs.PartsKept.{place_kept, AreCells, Changes, Fills};
 ghost use Rattle.vc_types.specs.OfPlan.{AreSliceCoefficients, all_coefficients, padded_height, padded_width, slice_coefficient_count, slice_coefficients, slice_count};
 
+use crate::cell_rect::CellRect;
 use crate::cells::CoefficientCells;
+use crate::dequantising::QuantisedNumbers;
 use vc_geometry::{bands as band_count, padded, place_of, slice_len};
 use vc_slice::{
     CodedSlice, CoefficientList, SliceBands, SliceCoeffs, SliceParts, TooWide, coded_slice,
     read_numbers,
 };
-use vc_types::{Component, Plan, Rect};
+use vc_types::{Component, Plan};
 
 /// Puts a slice's coefficients at their places in the cells of the three components.
 pub(crate) fn fill_slice(
@@ -194,7 +196,15 @@ fn dequantise_numbers(
         let Some(quantiser) = bands.quantiser(b).narrow(greatest) else {
             return Err(TooWide);
         };
-        cells.put_rect(&rect, width as usize, numbers, from, &quantiser);
+        let to = CellRect {
+            rect,
+            stride: width as usize,
+        };
+        let quantised = QuantisedNumbers {
+            numbers,
+            quantiser: &quantiser,
+        };
+        cells.put_rect(&to, quantised, from);
         from += rect.width as usize * rect.height as usize;
     }
     Ok(())
@@ -250,34 +260,27 @@ fn place_numbers(parts: &SliceParts, c: Component, numbers: &[i32], cells: &mut 
     let mut from = 0;
     for b in 0..band_count(&parts.plan) {
         let rect = parts.rect(c, b);
-        place_rect(&rect, numbers, from, cells, width as usize);
+        let to = CellRect {
+            rect,
+            stride: width as usize,
+        };
+        place_rect(&to, numbers, from, cells);
         from += rect.width as usize * rect.height as usize;
     }
 }
 
 // Puts numbers, from one of them on, into a rectangle of cells, row by row.
-fn place_rect(
-    rect: &Rect,
-    numbers: &[i32],
-    from: usize,
-    cells: &mut CoefficientCells,
-    stride: usize,
-)
-    requires sides { (stride ≤ 8192) × (rect.now.y + rect.now.height ≤ 8192) }
-    requires across { rect.now.x + rect.now.width ≤ stride }
-    requires down { (rect.now.y + rect.now.height) * stride ≤ length cells.old }
-    requires from { from + area rect.now ≤ length numbers.now }
-    ensures on { (j : ℕ) → j < area rect.now
-        → line_of cells.new (cell_number stride (place_in rect.now j))
-        ≡ line_of numbers.now (from + j) }
-    ensures off { (k : ℕ)
-        → ((j : ℕ) → j < area rect.now → k ≢ cell_number stride (place_in rect.now j))
-        → line_of cells.new k ≡ line_of cells.old k }
+fn place_rect(to: &CellRect, numbers: &[i32], from: usize, cells: &mut CoefficientCells)
+    requires cells { LiesIn to.now cells.old }
+    requires from { from + area to.now.rect ≤ length numbers.now }
+    ensures on { (j : ℕ) → j < area to.now.rect
+        → line_of cells.new (cell_in to.now j) ≡ line_of numbers.now (from + j) }
+    ensures off { ChangesRect to.now cells.old cells.new }
     ensures length { length cells.new ≡ length cells.old }
 {
-    let width = rect.width as usize;
-    for row in 0..rect.height as usize {
-        let at = (rect.y as usize + row) * stride + rect.x as usize;
+    let width = to.rect.width as usize;
+    for row in 0..to.rect.height as usize {
+        let at = (to.rect.y as usize + row) * to.stride + to.rect.x as usize;
         cells.put_row(at, numbers, from + row * width, width);
     }
 }

@@ -3,6 +3,7 @@
 
 mod builder;
 mod building;
+mod cell_rect;
 mod cells;
 mod dequantising;
 mod filling;

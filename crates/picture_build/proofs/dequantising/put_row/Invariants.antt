@@ -11,7 +11,7 @@ invariant-loop-x l = record {
 
 abbrev pub invariant-loop-x-then-width-le8 : goal.invariant-loop-x-then-width-le8
 invariant-loop-x-then-width-le8 l = record {
-  on : (i : ℕ) → i < l.x → line_of l.cells (l.at + i) ≡ dequantised (line_of l.fn.numbers (l.fn.from + i)) l.fn.quantiser.index;
+  on : (i : ℕ) → i < l.x → line_of l.cells (l.at + i) ≡ dequantised (line_of l.fn.quantised.numbers.now (l.fn.from + i)) l.fn.quantised.quantiser.now.index;
   off : (i : ℕ) → (i < l.at) ⊎ (l.at + l.width ≤ i) → line_of l.cells i ≡ line_of l.initial.cells i;
 }
 

@@ -1,4 +1,4 @@
-use Rattle.std.proofs.Common.{arith, ◌≡◌, ◌<◌, ◌≤◌, ◌^◌, ℕ, unsigned_abs, refl, sym, subst, ◌∙◌, ◌+◌}
+use Rattle.std.proofs.Common.{arith, ◌<◌, ◌≤◌, ◌^◌, ℕ, unsigned_abs, refl, sym, subst, ◌∙◌, ◌+◌}
 use Rattle.vc_types.specs.Lifting.{line_of}
 use Rattle.vc_types.specs.Subbands.{area}
 use Rattle.vc_types.specs.TransformParameters.{parameters_of}

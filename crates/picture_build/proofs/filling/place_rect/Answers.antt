@@ -5,12 +5,12 @@ use Rattle.picture_build.proofs.filling.place_rect.Goals as goal
 
 pub loop-row-preserved : goal.loop-row-preserved
 loop-row-preserved c =
-    let r = c.args.rect.now in
+    let numbers = line_of c.args.numbers.now in
     record {
-      on = rows_more r c.args.stride c.args.from (line_of c.args.numbers.now) c.requires.across c.loop-row.row c.loop-row-test.true c.loop-row.cells c.put_row.new.self c.put_row.ensures.on c.put_row.ensures.off c.loop-row.invariant.on;
-      off = others_more r c.args.stride c.args.from (line_of c.args.numbers.now) c.requires.across c.loop-row.row c.loop-row-test.true c.loop-row.cells c.put_row.new.self c.put_row.ensures.on c.put_row.ensures.off c.args.cells.now c.loop-row.invariant.off;
+      on = rows_more c.args.to.now c.args.from numbers c.loop-row.row c.loop-row-test.true c.loop-row.cells c.put_row.new.self c.put_row.ensures.on c.put_row.ensures.off c.loop-row.invariant.on;
+      off = others_more c.args.to.now c.args.from numbers c.loop-row.row c.loop-row-test.true c.loop-row.cells c.put_row.new.self c.put_row.ensures.on c.put_row.ensures.off c.args.cells.now c.loop-row.invariant.off;
       length = c.put_row.ensures.length ∙ c.loop-row.invariant.length;
     }
 
 pub returns-clause-on : goal.returns-clause-on
-returns-clause-on c = rows_all c.args.rect.now c.args.stride c.args.from (line_of c.args.numbers.now) c.loop-row.cells (λ x y h lt. c.loop-row.invariant.on x y h (omega arith))
+returns-clause-on c = rows_all c.args.to.now c.args.from (line_of c.args.numbers.now) c.loop-row.cells (λ x y h lt. c.loop-row.invariant.on x y h (omega arith))

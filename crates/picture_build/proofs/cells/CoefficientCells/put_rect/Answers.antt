@@ -1,23 +1,22 @@
 use Rattle.std.proofs.Common.{◌≡◌, arith, sym, ap, ◌∙◌, ◌+◌, length, drop, take, ◌++◌}
 use Rattle.vc_types.specs.Lifting.{line_of}
-use Rattle.vc_types.specs.Quantisation.{dequantised}
-use Rattle.vc_types.specs.Subbands.{place_in}
-use Rattle.picture_build.specs.Cells.{cell_number, cells_in}
+use Rattle.picture_build.specs.CellRects.{cell_in, coefficient_of}
+use Rattle.picture_build.specs.Cells.{cells_in}
 use Rattle.picture_build.proofs.GridCells.{written_over}
 use Rattle.picture_build.proofs.TwoParts.{length_seen, written_length, written_off, written_low}
 use Rattle.picture_build.proofs.cells.CoefficientCells.put_rect.Goals as goal
 
-pub dequantise_rect-requires-clause-down : goal.dequantise_rect-requires-clause-down
-dequantise_rect-requires-clause-down c =
+pub dequantise_rect-requires-clause-cells : goal.dequantise_rect-requires-clause-cells
+dequantise_rect-requires-clause-cells c =
     let long = length_seen c.self.inside.is_wide c.self.inside.high.items c.self.inside.low.items c.args.self.now c.self.view_is c.self.invariant in
     let same = ap length c.deref_mut.ensures.value in
-    omega (arith, long, c.requires.down, same)
+    omega (arith, long, c.requires.cells, same)
 
-pub clear_rect-requires-clause-down : goal.clear_rect-requires-clause-down
-clear_rect-requires-clause-down c =
+pub clear_rect-requires : goal.clear_rect-requires
+clear_rect-requires c =
     let long = length_seen c.self.inside.is_wide c.self.inside.high.items c.self.inside.low.items c.args.self.now c.self.view_is c.self.invariant in
     let same = ap length c.deref_mut-then-self.ensures.value in
-    omega (arith, long, c.requires.down, same, c.self.invariant)
+    omega (arith, long, c.requires.cells, same, c.self.invariant)
 
 low_long : (c : goal.After-self-then-self-1) → length c.dequantise_rect.new.cells ≡ length c.self.inside.low.items
 low_long c = c.dequantise_rect.ensures.length ∙ ap length c.deref_mut.ensures.value
@@ -38,10 +37,9 @@ cells_are c =
 
 pub returns-then-self-clause-on : goal.returns-then-self-clause-on
 returns-then-self-clause-on c = λ j h.
-    let r = c.args.rect.now in
-    let at = cell_number c.args.stride (place_in r j) in
+    let at = cell_in c.args.to.now j in
     ap (λ zs. line_of zs at) (cells_are c)
-    ∙ written_low c.self.inside.is_wide c.self.inside.high.items c.self.inside.low.items c.args.self.now c.self.view_is c.self.invariant c.if-self.true c.clear_rect.new.cells c.dequantise_rect.new.cells (even c) at (dequantised (line_of c.args.numbers.now (c.args.from + j)) c.args.quantiser.now.index) (c.clear_rect.ensures.on j h) (c.dequantise_rect.ensures.on j h)
+    ∙ written_low c.self.inside.is_wide c.self.inside.high.items c.self.inside.low.items c.args.self.now c.self.view_is c.self.invariant c.if-self.true c.clear_rect.new.cells c.dequantise_rect.new.cells (even c) at (coefficient_of c.args.quantised (c.args.from + j)) (c.clear_rect.ensures.on j h) (c.dequantise_rect.ensures.on j h)
 
 pub returns-then-self-clause-off : goal.returns-then-self-clause-off
 returns-then-self-clause-off c = λ k outside.
