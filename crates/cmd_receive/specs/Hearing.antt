@@ -1,148 +1,154 @@
--- What a loop over the entries of a source knows.
-use Rattle.std.specs.Prelude.{◌≡◌, ℕ, ◌-◌, List, [], ◌∷◌, ◌++◌, length, Option, Some, None, Result, Ok, Err, ⊤}
-use Rattle.link_capture.specs.Capture.{entries_within}
-use Rattle.link_model.specs.Judgement.{tally_of}
-use Rattle.link_model.specs.Session.{sessions_of}
-use Rattle.receiver_model.specs.Offered.{AreAllOffered}
-use Rattle.link_receiver.specs.States.{ReceiverState}
-use Rattle.link_receiver.specs.HeardLists.{OutputForm, HasHeard, told_jobs, newly_due}
-use Rattle.link_receiver.specs.HeardLists.{due_so_far, due_in_all}
-use Rattle.link_receiver.specs.declared.fault.EnterFault.{EnterFault}
-use Rattle.link_receiver.specs.declared.fault.EnterFault.TheVariants as faults
+-- What hearing the datagrams of an inlet came to, and what a command makes of it.
+use Rattle.std.specs.Prelude.{◌≡◌, ◌≢◌, ◌≤◌, ◌<◌, ◌⊎◌, ℕ, Bool, true, false, List, [], length, take, Option, Some, None, Result, Ok, Err, ⊤}
+use Rattle.link_capture.specs.Capture.{first_entry}
+use Rattle.link_outside.specs.Outlets.{capture_of}
+use Rattle.link_report.specs.declared.answer.Answer.{Answer}
+use Rattle.link_report.specs.declared.answer.Answer.TheVariants.{Done, Stopped, Drained}
 use Rattle.link_report.specs.declared.ending.Ending.{Ending}
-use Rattle.link_report.specs.declared.ending.Ending.TheVariants.{InputFailed, OutputFailed, NoMemory, CaptureCut}
-use Rattle.vc_ports.specs.Changes.{Change, InputChange, OutputChange, Took, Wrote, WrotePart}
-use Rattle.vc_ports.specs.Reading.{Gave}
-use Rattle.vc_ports.specs.Writing.{Grew, GrewBySome}
-use Rattle.vc_slice.specs.Asked.{Told, Grows}
-use Rattle.cmd_receive.specs.Capture.{capture_split, ReadingEnded}
-use Rattle.cmd_receive.specs.declared.decoding.Stop.{Stop}
-use Rattle.cmd_receive.specs.declared.decoding.Stop.TheVariants.{Ended, Cut, Failed, AtLimit}
+use Rattle.link_report.specs.declared.ending.Ending.TheVariants.{CaptureCut, InputFailed, NoMemory, OutputFailed, PacketLimit, WireFailed}
+use Rattle.link_report.specs.declared.summary.Summary.TheVariants.{Judged}
+use Rattle.vc_ports.specs.Changes.{InputChange, WireChange, HasRisen}
+use Rattle.vc_ports.specs.Reading.{IsAtEnd}
+use Rattle.cmd_receive.specs.Ends.{Counts, ended_sessions}
+use Rattle.cmd_receive.specs.Inlets.{GaveEntries, WasGiven}
+use Rattle.cmd_receive.specs.Listening.{Listening, BreaksOff, Drains, Hears}
+use Rattle.cmd_receive.specs.Looping.{has_broken}
+use Rattle.cmd_receive.specs.Receiving.{EndsSessions, HeardToEnd, IsPastPackets}
+use Rattle.cmd_receive.specs.declared.count.SessionCount.{SessionCount}
 
--- entries, and those of other bytes behind them
-abbrev pub then_entries : List (List ℕ) → List (List ℕ) × List ℕ → List (List ℕ) × List ℕ
-then_entries datagrams behind = (datagrams ++ behind.0, behind.1)
+-- ---- sessions, where a number of them is asked for
 
--- what was told of places: no workers were started, and each slice that a picture of the datagrams
--- keeps was offered
-pub record HandsWereOffered (window : ℕ) (datagrams : List (List ℕ)) (hands : Change (Option Told))
+abbrev pub CountsTo : Option SessionCount → Option ℕ → List (List ℕ) → Type 0
+CountsTo None None heard = ⊤
+CountsTo (Some count) (Some sessions) heard = Counts count sessions heard
+CountsTo count sessions heard = ⊥
+
+abbrev pub IsReached : Option SessionCount → Type 0
+IsReached None = ⊥
+IsReached (Some count) = count.left ≡ 0
+
+abbrev pub IsUnreached : Option SessionCount → Type 0
+IsUnreached None = ⊤
+IsUnreached (Some count) = 0 < count.left
+
+-- so many have had their end, and not before the last datagram
+abbrev pub EndsWith : Option ℕ → List (List ℕ) → Type 0
+EndsWith None heard = ⊥
+EndsWith (Some sessions) heard = EndsSessions sessions heard
+
+-- fewer have had it
+abbrev pub GoesOnAfter : Option ℕ → List (List ℕ) → Type 0
+GoesOnAfter None heard = ⊤
+GoesOnAfter (Some sessions) heard = ended_sessions heard < sessions
+
+-- and before the last datagram
+abbrev pub WentOn : Option ℕ → List (List ℕ) → Type 0
+WentOn sessions heard = (k : ℕ) → k < length heard → GoesOnAfter sessions (take k heard)
+
+-- ---- at most so many datagrams
+
+-- no more came
+pub record RanOut
+    (packets : ℕ) (stopped : List (List ℕ) → Option Ending → Type 0) (x y : Listening)
+    (end : Option Ending) (heard : List (List ℕ)) : Type 0 where
+  pub fewer : length heard < packets
+  pub stopped_so : stopped heard end
+  pub hears : Hears x y heard
+
+-- so many sessions have ended
+pub record HeardSessions
+    (packets : ℕ) (sessions : Option ℕ) (came : List (List ℕ) → Type 0) (x y : Listening)
+    (heard : List (List ℕ)) : Type 0 where
+  pub few : length heard ≤ packets
+  pub came_so : came heard
+  pub hears : Hears x y heard
+  pub ended : EndsWith sessions heard
+
+-- so many came as were asked for
+pub record HeardMost
+    (packets : ℕ) (sessions : Option ℕ) (came : List (List ℕ) → Type 0) (x y : Listening)
+    (end : Ending) (heard : List (List ℕ)) : Type 0 where
+  pub end_is : end ≡ PacketLimit packets
+  pub count : length heard ≡ packets
+  pub came_so : came heard
+  pub hears : Hears x y heard
+  pub goes_on : GoesOnAfter sessions heard
+
+-- the receiver broke off at the last of them
+pub record BrokeAt
+    (packets : ℕ) (came : List (List ℕ) → Type 0) (x y : Listening)
+    (end : Ending) (heard : List (List ℕ)) : Type 0 where
+  pub few : length heard ≤ packets
+  pub came_so : came heard
+  pub breaks : BreaksOff x y heard end
+
+abbrev pub HearsUntil : ℕ → Option ℕ → (List (List ℕ) → Type 0)
+    → (List (List ℕ) → Option Ending → Type 0) → (x y : Listening) → Result (Unit {0}) Ending
+    → Type 0
+HearsUntil packets sessions came stopped x y (Ok done) = (heard : List (List ℕ))
+    × (RanOut packets stopped x y None heard ⊎ HeardSessions packets sessions came x y heard)
+HearsUntil packets sessions came stopped x y (Err end) = (heard : List (List ℕ))
+    × (RanOut packets stopped x y (Some end) heard
+    ⊎ (HeardMost packets sessions came x y end heard ⊎ BrokeAt packets came x y end heard))
+
+-- ---- those of a capture
+
+-- by how it ended; at the limit so many bytes more were read
+abbrev pub CaptureHeard : (packets more : ℕ) → InputChange → (x y : Listening) → List (List ℕ)
+    → List ℕ → Result (Unit {0}) Ending → Type 0
+CaptureHeard packets more input x y datagrams part (Ok done) =
+    Hears x y datagrams × (part ≡ []) × IsAtEnd input.left.after
+CaptureHeard packets more input x y datagrams part (Err (CaptureCut place)) =
+    Hears x y datagrams × (length datagrams < packets) × (part ≢ []) × IsAtEnd input.left.after
+    × (place ≡ length (capture_of datagrams))
+CaptureHeard packets more input x y datagrams part (Err InputFailed) =
+    Hears x y datagrams × ((length datagrams < packets) ⊎ (part ≡ [])) × HasRisen input.faults
+CaptureHeard packets more input x y datagrams part (Err (PacketLimit limit)) =
+    Hears x y datagrams × (limit ≡ packets) × (length datagrams ≡ packets) × (length part ≡ more)
+CaptureHeard packets more input x y datagrams part (Err end) = BreaksOff x y datagrams end
+
+-- the datagrams of these entries were heard, and a part of one was read behind them
+pub record HearsCapture
+    (packets more : ℕ) (input : InputChange) (x y : Listening) (result : Result (Unit {0}) Ending)
     : Type 0 where
-  pub more : Told
-  pub grows : Grows hands.before hands.after more
-  pub started : more.started ≡ []
-  pub offered : AreAllOffered window (sessions_of datagrams) (told_jobs more)
+  pub datagrams : List (List ℕ)
+  pub part : List ℕ
+  pub gave : GaveEntries input datagrams part
+  pub few : length datagrams ≤ packets
+  pub not_whole : first_entry part ≡ None
+  pub heard : CaptureHeard packets more input x y datagrams part result
 
--- the source gave the bytes of so many entries, up to a place, and the receiver heard their
--- datagrams and wrote what these let go
-pub record IsBehind
-    (form : OutputForm) (window packets number place : ℕ)
-    (before after held_before held_after : Option (List ℕ))
-    (receiver : ReceiverState) (datagrams : List (List ℕ)) : Type 0 where
-  pub given : List ℕ
-  pub gave : Gave before after given
-  pub edge : length given ≡ place
-  pub split : (more : List ℕ) → entries_within packets (given ++ more)
-      ≡ then_entries datagrams (entries_within (packets - number) more)
-  pub count : length datagrams ≡ number
-  pub heard : HasHeard form receiver window datagrams
-  pub wrote : Grew held_before held_after (due_so_far form window datagrams)
+-- ---- those of a wire
 
--- reading ended so, behind the datagrams that the receiver heard
-pub record HasStopped
-    (form : OutputForm) (window packets : ℕ) (end : Option Ending) (receiver : ReceiverState)
-    (input : InputChange) (output : OutputChange) (hands : Change (Option Told)) : Type 0 where
-  pub given : List ℕ
-  pub took : Took input given
-  pub reading : ReadingEnded packets end input (capture_split packets given)
-  pub heard : HasHeard form receiver window (capture_split packets given).datagrams
-  pub wrote : Wrote output (due_so_far form window (capture_split packets given).datagrams)
-  pub told : HandsWereOffered window (capture_split packets given).datagrams hands
+abbrev pub WireHeard : (packets sessions : ℕ) → WireChange → (x y : Listening) → List (List ℕ)
+    → Result (Unit {0}) Ending → Type 0
+WireHeard packets sessions wire x y datagrams (Ok done) =
+    Hears x y datagrams × HeardToEnd packets sessions wire datagrams
+WireHeard packets sessions wire x y datagrams (Err WireFailed) =
+    Hears x y datagrams × HasRisen wire.faults
+WireHeard packets sessions wire x y datagrams (Err (PacketLimit limit)) =
+    Hears x y datagrams × IsPastPackets packets sessions limit datagrams
+WireHeard packets sessions wire x y datagrams (Err end) = BreaksOff x y datagrams end
 
--- there was no memory, or the output failed
-pub record HasBroken
-    (form : OutputForm) (window packets : ℕ) (input : InputChange) (output : OutputChange) : Type 0
-  where
-    pub given : List ℕ
-    pub took : Took input given
-    pub wrote : WrotePart output (due_in_all form window (capture_split packets given).datagrams)
+pub record HearsWire
+    (packets sessions : ℕ) (wire : WireChange) (x y : Listening) (result : Result (Unit {0}) Ending)
+    : Type 0 where
+  pub datagrams : List (List ℕ)
+  pub given : WasGiven wire datagrams
+  pub few : length datagrams ≤ packets
+  pub heard : WireHeard packets sessions wire x y datagrams result
 
--- how the loop ended
-abbrev pub Stops : OutputForm → ℕ → ℕ → Stop → ReceiverState → InputChange → OutputChange
-    → Change (Option Told) → Type 0
-Stops form window packets Ended receiver input output hands =
-    HasStopped form window packets None receiver input output hands
-Stops form window packets (Cut place) receiver input output hands =
-    HasStopped form window packets (Some (CaptureCut place)) receiver input output hands
-Stops form window packets Failed receiver input output hands =
-    HasStopped form window packets (Some InputFailed) receiver input output hands
-Stops form window packets AtLimit receiver input output hands =
-    (place : ℕ) × (datagrams : List (List ℕ))
-    × IsBehind form window packets packets place input.left.before input.left.after
-    output.held.before output.held.after receiver datagrams
-    × HandsWereOffered window datagrams hands
+-- ---- the end of the receiver's input
 
-abbrev pub LoopEnded : OutputForm → ℕ → ℕ → Result Stop Ending → ReceiverState → InputChange
-    → OutputChange → Change (Option Told) → Type 0
-LoopEnded form window packets (Ok stop) receiver input output hands =
-    Stops form window packets stop receiver input output hands
-LoopEnded form window packets (Err NoMemory) receiver input output hands =
-    HasBroken form window packets input output
-LoopEnded form window packets (Err OutputFailed) receiver input output hands =
-    HasBroken form window packets input output
-LoopEnded form window packets (Err end) receiver input output hands = ⊥
+-- the receiver can hear more
+abbrev pub CanGoOn : Result (Unit {0}) Ending → Type 0
+CanGoOn (Ok done) = ⊤
+CanGoOn (Err end) = has_broken end ≡ false
 
--- how reading ended, with a byte more behind as many entries as were asked for
-abbrev pub HeardAll : OutputForm → ℕ → ℕ → Result (Option Ending) Ending → ReceiverState
-    → InputChange → OutputChange → Change (Option Told) → Type 0
-HeardAll form window packets (Ok end) receiver input output hands =
-    HasStopped form window packets end receiver input output hands
-HeardAll form window packets (Err NoMemory) receiver input output hands =
-    HasBroken form window packets input output
-HeardAll form window packets (Err OutputFailed) receiver input output hands =
-    HasBroken form window packets input output
-HeardAll form window packets (Err end) receiver input output hands = ⊥
-
--- reading ended so, all that is due was written, and the receiver has the counts
-pub record HasReceived
-    (form : OutputForm) (window packets : ℕ) (end : Option Ending) (receiver : ReceiverState)
-    (input : InputChange) (output : OutputChange) (hands : Change (Option Told)) : Type 0 where
-  pub given : List ℕ
-  pub took : Took input given
-  pub reading : ReadingEnded packets end input (capture_split packets given)
-  pub wrote : Wrote output (due_in_all form window (capture_split packets given).datagrams)
-  pub counted : receiver.reception.counts
-      ≡ tally_of window (capture_split packets given).datagrams
-  pub told : HandsWereOffered window (capture_split packets given).datagrams hands
-
-abbrev pub ReceivesCapture : OutputForm → ℕ → ℕ → Result (Option Ending) Ending → ReceiverState
-    → InputChange → OutputChange → Change (Option Told) → Type 0
-ReceivesCapture form window packets (Ok end) receiver input output hands =
-    HasReceived form window packets end receiver input output hands
-ReceivesCapture form window packets (Err NoMemory) receiver input output hands =
-    HasBroken form window packets input output
-ReceivesCapture form window packets (Err OutputFailed) receiver input output hands =
-    HasBroken form window packets input output
-ReceivesCapture form window packets (Err end) receiver input output hands = ⊥
-
--- how a command ends where its receiver failed
-abbrev pub ending_of : EnterFault → Ending
-ending_of faults.NoMemory = NoMemory
-ending_of faults.WriteFault = OutputFailed
-ending_of faults.Ended = NoMemory
-
--- ---- one datagram more
-
--- it was heard, and what it lets go was written, or a part of that
-abbrev pub Enters : OutputForm → ℕ → List (List ℕ) → List ℕ → ReceiverState
-    → Result (Unit {0}) Ending → Option (List ℕ) → Option (List ℕ) → Type 0
-Enters form window heard datagram receiver (Ok done) before after =
-    HasHeard form receiver window (heard ++ datagram ∷ [])
-    × Grew before after (newly_due form window heard datagram)
-Enters form window heard datagram receiver (Err end) before after =
-    GrewBySome before after (newly_due form window heard datagram)
-
--- the ways in which a receiver fails
-abbrev pub IsBroken : Ending → Type 0
-IsBroken NoMemory = ⊤
-IsBroken OutputFailed = ⊤
-IsBroken end = ⊥
+-- what was still due was written, or the receiver broke off, before or then
+abbrev pub Concludes : (x y : Listening) → Result (Unit {0}) Ending → Answer → Type 0
+Concludes x y heard (Done (Judged tally)) = (heard ≡ Ok tt) × Drains x y tally
+Concludes x y heard (Drained tally end) = (heard ≡ Err end) × (has_broken end ≡ false) × Drains x y tally
+Concludes x y heard (Stopped end) = ((heard ≡ Err end) × (has_broken end ≡ true) × (y ≡ x))
+    ⊎ (CanGoOn heard × BreaksOff x y [] end)
+Concludes x y heard answer = ⊥

@@ -1,9 +1,12 @@
 pub mod Capture
 pub mod Decoding
+pub mod Listening
+pub mod HearingLaws
+pub mod Inlets
+pub mod InletLaws
 pub mod Hearing
 pub mod Exchanges
 pub mod LoopLaws
 pub mod Looping
 pub mod Receiving
-pub mod Listening
 pub mod Ends

@@ -1,95 +1,138 @@
--- What a loop over the datagrams of a wire knows.
-use Rattle.std.specs.Prelude.{◌≡◌, ◌≤◌, ◌<◌, ℕ, List, [], length, take, Option, Result, Ok, Err}
-use Rattle.cmd_receive.specs.Hearing.{HandsWereOffered, IsBroken}
-use Rattle.link_model.specs.Judgement.{tally_of}
-use Rattle.link_model.specs.Output.{output_so_far, full_output}
-use Rattle.link_receiver.specs.HeardLists.{AsFrames, HasHeard}
+-- A receiver with its output and its places, and what it does with the datagrams that it is given.
+use Rattle.std.specs.Prelude.{◌≡◌, ◌≤◌, ℕ, List, [], ◌∷◌, ◌++◌, Option, Result, Ok, Err, ⊤}
+use Rattle.link_model.specs.Judgement.{outcome_behind, tally_of}
+use Rattle.link_model.specs.Session.{sessions_of}
+use Rattle.link_model.specs.declared.outcome.Outcome.{Outcome}
+use Rattle.link_model.specs.declared.tally.Tally.{Tally}
+use Rattle.link_receiver.specs.HeardLists.{OutputForm, HasHeard, AskedPlaces, told_jobs}
+use Rattle.link_receiver.specs.HeardLists.{due_so_far, due_in_all}
 use Rattle.link_receiver.specs.States.{ReceiverState}
+use Rattle.link_receiver.specs.declared.fault.EnterFault.{EnterFault}
+use Rattle.link_receiver.specs.declared.fault.EnterFault.TheVariants as faults
 use Rattle.link_report.specs.declared.ending.Ending.{Ending}
-use Rattle.cmd_receive.specs.Receiving.{HeardToEnd, IsPastPackets}
-use Rattle.cmd_receive.specs.declared.receiving.Stop.{Stop}
-use Rattle.cmd_receive.specs.declared.receiving.Stop.TheVariants.{Ended, Failed, AtLimit}
-use Rattle.cmd_receive.specs.Ends.{Counts, ended_sessions}
-use Rattle.cmd_receive.specs.declared.count.SessionCount.{SessionCount}
-use Rattle.vc_ports.specs.Changes.{Change, OutputChange, WireChange, Wrote, WrotePart}
-use Rattle.vc_ports.specs.Wires.{WireTold}
-use Rattle.vc_ports.specs.Writing.{Grew}
-use Rattle.vc_slice.specs.Asked.{Told}
-use Rattle.link_outside.specs.Passing.{Passes}
+use Rattle.link_report.specs.declared.ending.Ending.TheVariants.{NoMemory, OutputFailed}
+use Rattle.link_slices.specs.Calls.{PlacesAreBelow}
+use Rattle.receiver_model.specs.Offered.{AreAllOffered}
+use Rattle.vc_ports.specs.Changes.{Change}
+use Rattle.vc_ports.specs.Faults.{Rose}
+use Rattle.vc_ports.specs.Writing.{Grew, GrewBySome}
+use Rattle.vc_slice.specs.Asked.{Told, Grows}
+use Rattle.cmd_receive.specs.declared.listener.Listener.{Listener}
 
--- the wire gave these datagrams, and nothing else was done to it
-abbrev pub GaveDatagrams : WireChange → List (List ℕ) → Type 0
-GaveDatagrams wire heard = Passes wire.told.before wire.told.after [] heard
+-- the receiver, and what its output and its places tell
+pub record Listening : Type 0 where
+  pub receiver : ReceiverState
+  pub held : Option (List ℕ)
+  pub faults : ℕ
+  pub asked : Option Told
+  pub bound : ℕ
 
--- the receiver heard them, they let go what was written, and their slices were offered
-pub record HasListened
-    (window : ℕ) (receiver : ReceiverState) (held_before held_after : Option (List ℕ))
-    (hands : Change (Option Told)) (heard : List (List ℕ)) : Type 0 where
-  pub has_heard : HasHeard AsFrames receiver window heard
-  pub wrote : Grew held_before held_after (output_so_far window heard)
-  pub offered : HandsWereOffered window heard hands
+abbrev pub listening : {O P : Type 0} → (O → Option (List ℕ)) → (O → ℕ) → (P → Option Told)
+    → (P → ℕ) → Listener O P → Listening
+listening held faults told bound l = record {
+  receiver = l.receiver.now;
+  held = held l.output.now;
+  faults = faults l.output.now;
+  asked = told l.places.now;
+  bound = bound l.places.now;
+}
 
--- so many datagrams were heard of those that the wire gave, and none of them but the last ends the
--- session that was asked for
-pub record IsBehindDatagrams
-    (window sessions number : ℕ) (count : SessionCount) (receiver : ReceiverState)
-    (told_before told_after : WireTold) (held_before held_after : Option (List ℕ))
-    (hands : Change (Option Told)) (heard : List (List ℕ)) : Type 0 where
-  pub number_is : length heard ≡ number
-  pub counts : Counts count sessions heard
-  pub no_sooner : (k : ℕ) → k < length heard → ended_sessions (take k heard) < sessions
-  pub gave : Passes told_before told_after [] heard
-  pub is_heard : HasListened window receiver held_before held_after hands heard
+-- it borrows the same output and the same places
+abbrev pub BorrowsAs : {O P : Type 0} → Listener O P → Listener O P → Type 0
+BorrowsAs old new = (new.output.ghost_name ≡ old.output.ghost_name)
+    × (new.places.ghost_name ≡ old.places.ghost_name)
 
--- ---- the loop
+-- slices are out at places that there are
+abbrev pub IsWell : Listening → Type 0
+IsWell x = PlacesAreBelow x.bound x.receiver.reception.out
 
--- it stopped behind these datagrams
-pub record StopsBehind
-    (window packets : ℕ) (receiver : ReceiverState)
-    (wire : WireChange) (output : OutputChange) (hands : Change (Option Told))
-    (heard : List (List ℕ)) : Type 0 where
-  pub few : length heard ≤ packets
-  pub gave : GaveDatagrams wire heard
-  pub is_heard : HasListened window receiver output.held.before output.held.after hands heard
+-- ---- what was heard
 
-abbrev pub EndsSo : (packets sessions : ℕ) → Stop → WireChange → List (List ℕ) → Type 0
-EndsSo packets sessions Ended wire heard = HeardToEnd packets sessions wire heard
-EndsSo packets sessions Failed wire heard = Unit {0}
-EndsSo packets sessions AtLimit wire heard = IsPastPackets packets sessions packets heard
+-- nothing, and no slices are out
+pub record IsNew (r : ReceiverState) : Type 0 where
+  pub form : OutputForm
+  pub window : ℕ
+  pub heard : HasHeard form r window []
+  pub out : r.reception.out ≡ []
 
--- there was no memory, or the output failed
-pub record BreaksBehind
-    (window packets : ℕ) (wire : WireChange) (output : OutputChange) (heard : List (List ℕ))
+-- what was told of places: no workers were started, and each slice that a picture of the datagrams
+-- keeps was offered
+pub record HandsWereOffered (window : ℕ) (datagrams : List (List ℕ)) (hands : Change (Option Told))
     : Type 0 where
-  pub few : length heard ≤ packets
-  pub gave : GaveDatagrams wire heard
-  pub wrote : WrotePart output (full_output window heard)
+  pub more : Told
+  pub grows : Grows hands.before hands.after more
+  pub started : more.started ≡ []
+  pub offered : AreAllOffered window (sessions_of datagrams) (told_jobs more)
 
-abbrev pub LoopEnds : (window packets sessions : ℕ) → Result Stop Ending → ReceiverState
-    → WireChange → OutputChange → Change (Option Told) → Type 0
-LoopEnds window packets sessions (Ok stop) receiver wire output hands = (heard : List (List ℕ))
-    × StopsBehind window packets receiver wire output hands heard
-    × EndsSo packets sessions stop wire heard
-LoopEnds window packets sessions (Err end) receiver wire output hands = (heard : List (List ℕ))
-    × BreaksBehind window packets wire output heard × IsBroken end
+-- it has heard these datagrams, and wrote what they let go, since its output held so much and its
+-- places told so much
+pub record HasHeardSince
+    (form : OutputForm) (window : ℕ) (held : Option (List ℕ)) (asked : Option Told)
+    (x : Listening) (heard : List (List ℕ)) : Type 0 where
+  pub has_heard : HasHeard form x.receiver window heard
+  pub wrote : Grew held x.held (due_so_far form window heard)
+  pub offered : HandsWereOffered window heard (record { before = asked; after = x.asked })
 
--- ---- behind the end of the receiver's input
+-- and their end: all that is due was written, and these are the counts
+pub record HasEndedSince
+    (form : OutputForm) (window : ℕ) (held : Option (List ℕ)) (asked : Option Told)
+    (x : Listening) (heard : List (List ℕ)) (tally : Tally) : Type 0 where
+  pub wrote : Grew held x.held (due_in_all form window heard)
+  pub counted : tally ≡ tally_of window heard
+  pub offered : HandsWereOffered window heard (record { before = asked; after = x.asked })
 
--- all frames of the datagrams were written, and the receiver has the counts
-pub record ReceivedBehind
-    (window packets : ℕ) (receiver : ReceiverState)
-    (wire : WireChange) (output : OutputChange) (hands : Change (Option Told))
-    (heard : List (List ℕ)) : Type 0 where
-  pub few : length heard ≤ packets
-  pub gave : GaveDatagrams wire heard
-  pub wrote : Wrote output (full_output window heard)
-  pub counted : receiver.reception.counts ≡ tally_of window heard
-  pub offered : HandsWereOffered window heard hands
+-- ---- what its calls do
 
-abbrev pub ReceivesAll : (window packets sessions : ℕ) → Result Stop Ending → ReceiverState
-    → WireChange → OutputChange → Change (Option Told) → Type 0
-ReceivesAll window packets sessions (Ok stop) receiver wire output hands =
-    (heard : List (List ℕ)) × ReceivedBehind window packets receiver wire output hands heard
-    × EndsSo packets sessions stop wire heard
-ReceivesAll window packets sessions (Err end) receiver wire output hands =
-    (heard : List (List ℕ)) × BreaksBehind window packets wire output heard × IsBroken end
+-- no workers were started, and no fault was forgotten
+pub record GoesOn (x y : Listening) : Type 0 where
+  pub asked : AskedPlaces x.asked y.asked
+  pub well : IsWell x → IsWell y
+  pub later : x.faults ≤ y.faults
+
+-- it heard these datagrams, whatever it had heard before
+pub record Hears (x y : Listening) (heard : List (List ℕ)) : Type 0 where
+  pub goes : GoesOn x y
+  pub since : (form : OutputForm) (window : ℕ) (held : Option (List ℕ)) (asked : Option Told)
+      (before : List (List ℕ)) → HasHeardSince form window held asked x before
+      → HasHeardSince form window held asked y (before ++ heard)
+
+-- it was given these datagrams, and a part of what is due of them was written
+pub record Stumbles (x y : Listening) (given : List (List ℕ)) : Type 0 where
+  pub goes : GoesOn x y
+  pub since : (form : OutputForm) (window : ℕ) (held : Option (List ℕ)) (asked : Option Told)
+      (before : List (List ℕ)) → HasHeardSince form window held asked x before
+      → GrewBySome held y.held (due_in_all form window (before ++ given))
+
+-- by how it broke off: it can hear nothing more
+abbrev pub BreaksOff : (x y : Listening) → List (List ℕ) → Ending → Type 0
+BreaksOff x y given NoMemory = Stumbles x y given
+BreaksOff x y given OutputFailed = Stumbles x y given × Rose x.faults y.faults
+BreaksOff x y given end = ⊥
+
+-- it heard a datagram, and judged it
+pub record Judges (x y : Listening) (datagram : List ℕ) (outcome : Outcome) : Type 0 where
+  pub hears : Hears x y (datagram ∷ [])
+  pub judged : (form : OutputForm) (window : ℕ) (heard : List (List ℕ))
+      → HasHeard form x.receiver window heard → outcome ≡ outcome_behind window heard datagram
+
+abbrev pub TakesDatagram : (x y : Listening) → List ℕ → Result Outcome Ending → Type 0
+TakesDatagram x y datagram (Ok outcome) = Judges x y datagram outcome
+TakesDatagram x y datagram (Err end) = BreaksOff x y (datagram ∷ []) end
+
+-- it heard the end of the input
+pub record Drains (x y : Listening) (tally : Tally) : Type 0 where
+  pub goes : GoesOn x y
+  pub since : (form : OutputForm) (window : ℕ) (held : Option (List ℕ)) (asked : Option Told)
+      (heard : List (List ℕ)) → HasHeardSince form window held asked x heard
+      → HasEndedSince form window held asked y heard tally
+
+abbrev pub TakesEnd : (x y : Listening) → Result Tally Ending → Type 0
+TakesEnd x y (Ok tally) = Drains x y tally
+TakesEnd x y (Err end) = BreaksOff x y [] end
+
+-- ---- how it fails
+
+abbrev pub ending_of : EnterFault → Ending
+ending_of faults.NoMemory = NoMemory
+ending_of faults.WriteFault = OutputFailed
+ending_of faults.Ended = NoMemory

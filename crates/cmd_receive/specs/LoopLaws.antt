@@ -1,68 +1,15 @@
 -- Datagrams that a loop sends one after another. The laws of its outlet cite these.
-use Rattle.std.proofs.Common.{◌≡◌, ◌⊎◌, ℕ, ◌+◌, ◌≤◌, Bool, true, false, List, [], ◌∷◌, ◌++◌, length, take, Option, Some, None, refl, sym, ap, subst, arith, inl, inr, append-nil, append_assoc, length-append}
+use Rattle.std.proofs.Common.{◌≡◌, ◌⊎◌, ℕ, ◌+◌, ◌≤◌, Bool, true, false, List, [], ◌∷◌, ◌++◌, length, take, Option, Some, None, refl, sym, ap, subst, arith, inl, inr, length-append}
 use Rattle.std.proofs.Math.Seq.{take-append-add}
 use Rattle.std.proofs.lemmas.List.{take-append-le}
-use Rattle.link_outside.specs.declared.outlet.OutletFault.{OutletFault}
-use Rattle.link_outside.specs.declared.outlet.OutletFault.TheVariants as outlets
-use Rattle.link_model.specs.Output.{full_output}
-use Rattle.link_receiver.proofs.Asked.{asked_none, asked_twice}
-use Rattle.cmd_receive.specs.Exchanges.{AreInTurn, BrokeBehind, HasHeardSince, Hears, LoopBroke, LoopState, WereLooped, Passed, Stumbles}
-use Rattle.vc_ports.specs.Wires.{WireTold}
-use Rattle.vc_ports.specs.Writing.{GrewBySome}
 use Rattle.link_outside.specs.Calls.{passes_none, passes_then}
 use Rattle.link_outside.specs.Passing.{Passes, grown_by, led_by, looped_back}
-
-none_passed : (x : LoopState) → Passed x x [] []
-none_passed x = record {
-  passes = passes_none x.told;
-  few = omega arith;
-  asked = asked_none x.asked;
-  below = λ b. b;
-  wire_later = omega arith;
-  output_later = omega arith;
-}
-
-pub none_looped : (x : LoopState) → WereLooped x x []
-none_looped x = (
-  [],
-  record {
-    passed = none_passed x;
-    hears = λ window held asked earlier was.
-        subst (HasHeardSince window held asked x) (sym (append-nil earlier)) was;
-  },
-  inl refl,
-)
-
-module _ (x y z : LoopState) (sent given more_sent more_given : List (List ℕ)) where
-  passed_then : Passed x y sent given → Passed y z more_sent more_given
-      → Passed x z (sent ++ more_sent) (given ++ more_given)
-  passed_then p q = record {
-    passes = passes_then x.told y.told z.told sent given more_sent more_given p.passes q.passes;
-    few = omega (arith, p.few, q.few, length-append sent more_sent, length-append given more_given);
-    asked = asked_twice x.asked y.asked z.asked p.asked q.asked;
-    below = λ b. q.below (p.below b);
-    wire_later = omega (arith, p.wire_later, q.wire_later);
-    output_later = omega (arith, p.output_later, q.output_later);
-  }
-
-  hears_then : Hears x y sent given → Hears y z more_sent more_given
-      → Hears x z (sent ++ more_sent) (given ++ more_given)
-  hears_then p q = record {
-    passed = passed_then p.passed q.passed;
-    hears = λ window held asked earlier was.
-        subst (HasHeardSince window held asked z) (append_assoc earlier given more_given)
-        (q.hears window held asked (earlier ++ given) (p.hears window held asked earlier was));
-  }
-
-  stumbles_then : Hears x y sent given → Stumbles y z more_sent more_given
-      → Stumbles x z (sent ++ more_sent) (given ++ more_given)
-  stumbles_then p q = record {
-    passed = passed_then p.passed q.passed;
-    wrote = λ window held asked earlier was.
-        subst (λ (l : List (List ℕ)). GrewBySome held z.held (full_output window l))
-        (append_assoc earlier given more_given)
-        (q.wrote window held asked (earlier ++ given) (p.hears window held asked earlier was));
-  }
+use Rattle.link_outside.specs.declared.outlet.OutletFault.{OutletFault}
+use Rattle.link_outside.specs.declared.outlet.OutletFault.TheVariants as outlets
+use Rattle.link_report.specs.declared.ending.Ending.TheVariants.{NoMemory, OutputFailed}
+use Rattle.vc_ports.specs.Wires.{WireTold}
+use Rattle.cmd_receive.specs.Exchanges.{AreInTurn, BrokeBehind, Exchanged, HearsInTurn, LoopBroke, LoopState, WereLooped}
+use Rattle.cmd_receive.specs.HearingLaws.{breaks_then, hears_then, none_heard}
 
 -- ---- one for each
 
@@ -133,32 +80,57 @@ module _ (sent given more_sent more_given : List (List ℕ)) (few : length given
 
 -- ---- datagrams one after another
 
+pub none_looped : (x : LoopState) → WereLooped x x []
+none_looped x = (
+  [],
+  record {
+    exchanged = record { passes = passes_none x.told; few = omega arith; later = omega arith };
+    hears = none_heard x.listening;
+    in_turn = inl refl;
+  },
+)
+
 module _ (x y z : LoopState) (first second : List (List ℕ)) where
+  exchanged_then : (given some more : List (List ℕ)) → Exchanged x y first given
+      → Exchanged y z some more → Exchanged x z (first ++ some) (given ++ more)
+  exchanged_then given some more p q = record {
+    passes = passes_then x.told y.told z.told first given some more p.passes q.passes;
+    few = omega (arith, p.few, q.few, length-append first some, length-append given more);
+    later = omega (arith, p.later, q.later);
+  }
+
   pub more_looped : WereLooped x y first → WereLooped y z second → WereLooped x z (first ++ second)
-  more_looped p q = (
-    p.0 ++ q.0,
-    hears_then x y z first p.0 second q.0 p.1 q.1,
-    in_turn_then first p.0 second q.0 p.1.passed.few x.told y.told z.told
-        p.1.passed.passes q.1.passed.passes p.2 q.2,
+  more_looped (heard, p) (more, q) = (
+    heard ++ more,
+    record {
+      exchanged = exchanged_then heard second more p.exchanged q.exchanged;
+      hears = hears_then p.hears q.hears;
+      in_turn = in_turn_then first heard second more p.exchanged.few x.told y.told z.told
+          p.exchanged.passes q.exchanged.passes p.in_turn q.in_turn;
+    },
   )
 
-  broke_then : (heard given some : List (List ℕ)) (fault : OutletFault) → Hears x y first heard
-      → BrokeBehind y z some given fault → BrokeBehind x z (first ++ some) (heard ++ given) fault
-  broke_then heard given some outlets.Wire p q =
-      (hears_then x y z first heard some given p q.0, omega (arith, p.passed.wire_later, q.1))
-  broke_then heard given some outlets.Output p q =
-      (stumbles_then x y z first heard some given p q.0, omega (arith, p.passed.output_later, q.1))
-  broke_then heard given some outlets.NoMemory p q = stumbles_then x y z first heard some given p q
+  broke_then : (heard some more : List (List ℕ)) (fault : OutletFault) → HearsInTurn x y first heard
+      → BrokeBehind y z some more fault → BrokeBehind x z (first ++ some) (heard ++ more) fault
+  broke_then heard some more outlets.Wire p q = (
+    exchanged_then heard some more p.exchanged q.0,
+    hears_then p.hears q.1,
+    omega (arith, p.exchanged.later, q.2),
+  )
+  broke_then heard some more outlets.Output p q =
+      (exchanged_then heard some more p.exchanged q.0, breaks_then _ _ _ heard more OutputFailed p.hears q.1)
+  broke_then heard some more outlets.NoMemory p q =
+      (exchanged_then heard some more p.exchanged q.0, breaks_then _ _ _ heard more NoMemory p.hears q.1)
 
   pub part_behind : (fault : OutletFault) → WereLooped x y first → LoopBroke y z second fault
       → LoopBroke x z (first ++ second) fault
-  part_behind fault p q = record {
+  part_behind fault (heard, p) q = record {
     count = length first + q.count;
     within = omega (arith, q.within, length-append first second);
-    given = p.0 ++ q.given;
-    broke = subst (λ (l : List (List ℕ)). BrokeBehind x z l (p.0 ++ q.given) fault)
+    given = heard ++ q.given;
+    broke = subst (λ (l : List (List ℕ)). BrokeBehind x z l (heard ++ q.given) fault)
         (sym (take-append-add first second q.count))
-        (broke_then p.0 q.given (take q.count second) fault p.1 q.broke);
+        (broke_then heard (take q.count second) q.given fault p q.broke);
   }
 
 pub part_before : (x y : LoopState) (first second : List (List ℕ)) (fault : OutletFault)

@@ -116,8 +116,8 @@ pub record HasBegun
     (x : LoopState) : Type 0 where
   pub ready : x.told ≡ looping_at told at
   pub later : faults ≤ x.wire_faults
-  pub started : Grows asked x.asked (starting workers (Ok tt))
-  pub new : HasHeard AsFrames x.receiver window []
+  pub started : Grows asked x.listening.asked (starting workers (Ok tt))
+  pub new : HasHeard AsFrames x.listening.receiver window []
 
 -- what the whole did, whatever was before it began
 abbrev pub LoopsBetween : Sending → ℕ → Result Summary Ending → InputChange → (x y : LoopState)
@@ -127,11 +127,11 @@ LoopsBetween s most answer input x y =
     → HasBegun window workers at told faults asked x
     → LoopsBack s most window workers at answer input
     (record {
-      held = record { before = x.held; after = y.held };
-      faults = record { before = x.output_faults; after = y.output_faults };
+      held = record { before = x.listening.held; after = y.listening.held };
+      faults = record { before = x.listening.faults; after = y.listening.faults };
     })
     (record {
       told = record { before = told; after = y.told };
       faults = record { before = faults; after = y.wire_faults };
     })
-    (record { before = asked; after = y.asked })
+    (record { before = asked; after = y.listening.asked })

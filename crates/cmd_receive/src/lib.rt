@@ -1,11 +1,16 @@
 //! `decode`, `unpack`, `recv` and `loop`: datagrams of a capture or a wire to raw frames or to an elementary stream.
 #![tactic(auto)]
 
+mod capture_inlet;
 mod count;
 mod decoding;
+mod hearing;
+mod inlet;
+mod listener;
 mod looping;
 mod outlet;
 mod receiving;
+mod wire_inlet;
 
 pub use count::SessionCount;
 pub use decoding::{decode, unpack};

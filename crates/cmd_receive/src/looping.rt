@@ -1,11 +1,14 @@
 ghost use Rattle.std.specs.Prelude.{◌≡◌, ◌≤◌};
 ghost use Rattle.link_report.specs.declared.summary.Summary.{Summary};
 ghost use Rattle.cmd_receive.specs.Exchanges.{IsReady, loop_state};
-ghost use Rattle.cmd_receive.specs.Looping.{LoopsBack, LoopsBetween, has_broken};
+ghost use Rattle.cmd_receive.specs.Looping.{LoopsBack, LoopsBetween};
 ghost use Rattle.vc_ports.specs.Changes.{changed, input_of, output_of, wire_of};
 ghost use Rattle.vc_types.specs.SenderSettings.{sending_view};
 
+use crate::hearing::has_broken;
+use crate::listener::Listener;
 use crate::outlet::LoopOutlet;
+use crate::wire_inlet::WireInlet;
 use cmd_send::{Totals, send_frames};
 use link_model::Tally;
 use link_outside::Inbox;
@@ -58,8 +61,10 @@ pub fn loop_back<H: Threads + Copy + Send + Sync, S: Source, O: Sink, N: Wire, P
     let Reached::Yes = wire.aim(at) else {
         return Err(Ending::WireFailed);
     };
+    let inlet = WireInlet::new(&mut inbox, wire);
     let mut receiver = Receiver::new(alloc, window);
-    let mut outlet = LoopOutlet::new(&mut inbox, &mut receiver, wire, output, hands);
+    let listener = Listener::new(&mut receiver, output, hands);
+    let mut outlet = LoopOutlet { inlet, listener };
     loop_through(rt, alloc, s, frames, input, &mut outlet)
 }
 
@@ -72,38 +77,29 @@ fn loop_through<H: Threads + Copy + Send + Sync, S: Source, O: Sink, N: Wire, P:
     input: &mut S,
     outlet: &mut LoopOutlet<N, O, P>,
 ) -> Result<Summary, Ending>
-    requires ready { IsReady (loop_state N.told N.faults O.held O.faults P.told P.bound
-        outlet.old.receiver.now outlet.old.wire.now outlet.old.output.now outlet.old.places.now) }
-    ensures borrows_inbox { outlet.new.inbox.ghost_name ≡ outlet.old.inbox.ghost_name }
-    ensures borrows_receiver { outlet.new.receiver.ghost_name ≡ outlet.old.receiver.ghost_name }
-    ensures borrows_wire { outlet.new.wire.ghost_name ≡ outlet.old.wire.ghost_name }
-    ensures borrows_output { outlet.new.output.ghost_name ≡ outlet.old.output.ghost_name }
-    ensures borrows_places { outlet.new.places.ghost_name ≡ outlet.old.places.ghost_name }
+    requires ready { IsReady
+        (loop_state N.told N.faults O.held O.faults P.told P.bound outlet.old) }
+    ensures borrows_wire { outlet.new.inlet.wire.ghost_name ≡ outlet.old.inlet.wire.ghost_name }
+    ensures borrows_output { outlet.new.listener.output.ghost_name
+        ≡ outlet.old.listener.output.ghost_name }
+    ensures borrows_places { outlet.new.listener.places.ghost_name
+        ≡ outlet.old.listener.places.ghost_name }
     ensures loops { LoopsBetween (sending_view s.now) frames result
         (input_of S.left S.faults input.old input.new)
-        (loop_state N.told N.faults O.held O.faults P.told P.bound
-        outlet.old.receiver.now outlet.old.wire.now outlet.old.output.now outlet.old.places.now)
-        (loop_state N.told N.faults O.held O.faults P.told P.bound
-        outlet.new.receiver.now outlet.new.wire.now outlet.new.output.now outlet.new.places.now) }
+        (loop_state N.told N.faults O.held O.faults P.told P.bound outlet.old)
+        (loop_state N.told N.faults O.held O.faults P.told P.bound outlet.new) }
 {
     match send_frames(rt, alloc, s, frames, input, outlet) {
         Ok(totals) => {
-            let tally = outlet.drain()?;
+            let tally = outlet.listener.drain()?;
             Ok(looped(&totals, tally))
         }
         Err(ending) if has_broken(&ending) => Err(ending),
         Err(ending) => {
-            outlet.drain()?;
+            outlet.listener.drain()?;
             Err(ending)
         }
     }
-}
-
-// Whether the receiver broke off, so that it can hear nothing more.
-fn has_broken(ending: &Ending) -> bool
-    ensures { result ≡ has_broken ending.now }
-{
-    matches!(ending, Ending::NoMemory | Ending::OutputFailed)
 }
 
 // What is said of frames that were sent and heard.

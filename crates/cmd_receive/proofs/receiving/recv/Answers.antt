@@ -1,8 +1,7 @@
-use Rattle.std.proofs.Common.{refl, ap, ◌∙◌, inl, inr}
-use Rattle.std.specs.Prelude.{Ok, Err}
+use Rattle.std.proofs.Common.{rules, refl, ap, arith, ◌∙◌, inl, inr}
 use Rattle.link_receiver.specs.States.{ReceiverState}
-use Rattle.vc_ports.proofs.Counts.{Rose-earlier}
-use Rattle.cmd_receive.proofs.RecvAnswers.{not_begun, just_started, not_listening, done, failed, limited, stopped}
+use Rattle.cmd_receive.proofs.Concluded.{datagrams_back, just_started, not_begun, not_listening, took_datagrams}
+use Rattle.cmd_receive.specs.Listening.{listening}
 use Rattle.cmd_receive.proofs.receiving.recv.Goals as goal
 
 -- no workers
@@ -11,7 +10,7 @@ returns-in_default g c = not_begun c.args.window c.args.workers c.args.packets c
 
 -- no buffer
 pub returns-in_default-new : goal.returns-in_default-new
-returns-in_default-new g c = not_begun c.args.window c.args.workers c.args.packets c.args.sessions c.args.at.now _ _ _ refl refl (inl (just_started c.args.workers _ _ c.in-Ok.ensures.told))
+returns-in_default-new g c = not_begun c.args.window c.args.workers c.args.packets c.args.sessions c.args.at.now _ _ _ refl refl (inl (just_started c.in-Ok.ensures.told))
 
 -- a wire that doesn't listen
 pub returns-in_default-listen : goal.returns-in_default-listen
@@ -19,23 +18,18 @@ returns-in_default-listen g c =
     not_listening c.args.window c.args.workers c.args.packets c.args.sessions c.args.at.now _ _ _ _ c.tally.result.now c.in_default-listen.ensures.told refl (c.tally.ensures ∙ ap (λ (r : ReceiverState). r.reception.counts) c.new-receiver.ensures.value)
     (c.in_default-listen.ensures.cause.rose refl) c.in-Ok.ensures.told
 
-pub returns-in-Ok-Ended : goal.returns-in-Ok-Ended
-returns-in-Ok-Ended g c =
-    let st = rw c.in-Ok-Ended.field-0-is at (c.in-Ok-Ended.ensures.received c.args.window c.new-receiver.ensures.heard) in
-    done c.args.window c.args.workers c.args.packets c.args.sessions c.args.at.now _ _ _ _ c.in-Yes.ensures.told _ _ _ _ _ _ c.in-Ok.ensures.told _ c.tally-in-Ok-Ended.ensures st
-
-pub returns-in-Ok-Failed : goal.returns-in-Ok-Failed
-returns-in-Ok-Failed g c =
-    let st = rw c.in-Ok-Failed.field-0-is at (c.in-Ok-Failed.ensures.received c.args.window c.new-receiver.ensures.heard) in
-    failed c.args.window c.args.workers c.args.packets c.args.sessions c.args.at.now _ _ _ _ c.in-Yes.ensures.told _ _ _ _ _ _ c.in-Ok.ensures.told _ c.tally-in-Ok-Failed.ensures st
-    (Rose-earlier _ _ _ c.in-Yes.ensures.cause.later (c.in-Ok-Failed.ensures.wire_cause.rose (ap Ok c.in-Ok-Failed.field-0-is)))
-
-pub returns-in-Ok-AtLimit : goal.returns-in-Ok-AtLimit
-returns-in-Ok-AtLimit g c =
-    let st = rw c.in-Ok-AtLimit.field-0-is at (c.in-Ok-AtLimit.ensures.received c.args.window c.new-receiver.ensures.heard) in
-    limited c.args.window c.args.workers c.args.packets c.args.sessions c.args.at.now _ _ _ _ c.in-Yes.ensures.told _ _ _ _ _ _ c.in-Ok.ensures.told _ c.tally-in-Ok-AtLimit.ensures st
-
 pub returns : goal.returns
 returns g c =
-    let st = c.in-Err.ensures.received c.args.window c.new-receiver.ensures.heard in
-    stopped c.args.window c.args.workers c.args.packets c.args.sessions c.args.at.now c.receive.new.receiver _ _ _ c.in-Yes.ensures.told _ _ _ _ _ _ c.in-Ok.ensures.told c.in-Err.end c.in-Err.ensures.told st (λ is. c.in-Err.ensures.output_cause.rose (ap Err is))
+    let first = c.new-listener.result in
+    let was = c.new-listener.ensures in
+    let heard_by = c.new-inlet.ensures in
+    let out = c.conclude.new.listener in
+    let in_wire = c.hear_wire-heard.new.inlet in
+    datagrams_back _ _ g.O.Sink.held g.O.Sink.faults g.P.Places.told c.args.output.now first.output.now out.output.now _ c.args.hands.now out.places.now _
+    _ g.N.Wire.told g.N.Wire.faults c.args.wire.now in_wire.wire.now _
+    c.args.window c.args.workers c.args.packets c.args.sessions c.args.at.now _
+    (took_datagrams c.args.window c.args.workers c.args.packets c.args.sessions c.args.at.now _ _ _ _ _ _ (g.P.Places.told c.args.hands.now) (listening g.O.Sink.held g.O.Sink.faults g.P.Places.told g.P.Places.bound first) _ _ _ _
+    (rw was.receiver c.new-receiver.ensures.heard) (rw was.places c.in-Ok.ensures.told)
+    (ap g.N.Wire.told heard_by.wire ∙ c.in-Yes.ensures.told) (omega (arith, ap g.N.Wire.faults heard_by.wire, c.in-Yes.ensures.cause.later))
+    c.hear_wire-heard.ensures.heard c.conclude.ensures.concludes)
+    was.output (search rules) (search rules) (search rules)

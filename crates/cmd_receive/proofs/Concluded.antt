@@ -1,0 +1,340 @@
+-- What a command came to: datagrams were heard since workers were started, and then the end.
+use Rattle.std.proofs.Common.{◌≡◌, true, false, ◌≤◌, ℕ, List, [], ◌∷◌, Option, Some, None, Ok, Err, refl, ap, ◌∙◌, sym, subst, arith, inl, inr, ◌++◌, length, length-append}
+use Rattle.std.specs.Prelude.{Result, ◌⊎◌}
+use Rattle.link_model.specs.Judgement.{no_counts, outcomes_behind, tally_of, with_sessions}
+use Rattle.link_model.specs.Output.{all_output, full_output}
+use Rattle.link_model.specs.declared.tally.Tally.{Tally}
+use Rattle.link_outside.specs.Outlets.{capture_of}
+use Rattle.link_receiver.proofs.Asked.{grows_twice}
+use Rattle.link_receiver.proofs.Hired.{started}
+use Rattle.link_receiver.specs.HeardLists.{OutputForm, AsFrames, HasHeard, due_in_all}
+use Rattle.link_receiver.specs.StartedWorkers.{HasStarted}
+use Rattle.link_report.specs.declared.answer.Answer.{Answer}
+use Rattle.link_report.specs.declared.answer.Answer.TheVariants.{Done, Drained, Stopped}
+use Rattle.link_report.specs.declared.ending.Ending.{Ending}
+use Rattle.link_report.specs.declared.ending.Ending.TheVariants.{CaptureCut, InputFailed, NoMemory, OutputFailed, PacketLimit, WireFailed}
+use Rattle.link_report.specs.declared.summary.Summary.TheVariants.{Judged}
+use Rattle.vc_ports.proofs.Given.{Gave-none}
+use Rattle.vc_ports.proofs.Growing.{Grew-none, GrewBySome-none}
+use Rattle.vc_ports.specs.Changes.{Change, InputChange, OutputChange, WireChange, HasRisen, Stays, changed, output_of, wire_of}
+use Rattle.vc_ports.specs.Wires.{WireTold, listening}
+use Rattle.vc_ports.specs.Writing.{GrewBySome}
+use Rattle.vc_slice.specs.Asked.{Told, Grows, starting, told_more}
+use Rattle.cmd_receive.proofs.Asking.{nothing_offered}
+use Rattle.cmd_receive.proofs.HeardEntries.{capture_breaks, capture_hears, split_is}
+use Rattle.cmd_receive.proofs.HeardWire.{wire_breaks, wire_hears}
+use Rattle.cmd_receive.proofs.Listened.{breaks_at_end, heard_all, heard_part}
+use Rattle.cmd_receive.specs.Capture.{CaptureSplit, ReadingEnded, capture_split}
+use Rattle.cmd_receive.specs.Decoding.{CaptureEnded, HasGivenWork, StartsWorkers, TakesCapture, has_failed_input}
+use Rattle.cmd_receive.specs.Hearing.{CanGoOn, CaptureHeard, Concludes, HearsCapture, HearsWire, WireHeard}
+use Rattle.cmd_receive.specs.InletLaws.{told_between}
+use Rattle.cmd_receive.specs.Listening.{Listening, BreaksOff, HandsWereOffered, HasEndedSince, Hears, Stumbles}
+use Rattle.cmd_receive.specs.Looping.{has_broken}
+use Rattle.cmd_receive.specs.Receiving.{HeardAt, IsJudged, ReceivesFrom, RecvEnded, as_entries, has_failed_wire}
+
+-- ---- workers
+
+-- they were started, and then slices were offered
+pub gave_work : {window workers : ℕ} {split : CaptureSplit} {before mid after : Option Told}
+    → Grows before mid (starting workers (Ok tt))
+    → HandsWereOffered window split.datagrams (record { before = mid; after = after })
+    → HasGivenWork window workers (record { before = before; after = after }) split
+gave_work {workers = workers} {before = before} {mid = mid} {after = after} grew told = record {
+  more = told_more (starting workers (Ok tt)) told.more;
+  grows = grows_twice before mid after (starting workers (Ok tt)) told.more grew told.grows;
+  started = ap (λ (l : List ℕ). workers ∷ l) told.started;
+  offered = told.offered;
+}
+
+-- and nothing was offered
+pub just_started : {workers : ℕ} {before after : Option Told}
+    → Grows before after (starting workers (Ok tt))
+    → HasStarted workers (record { before = before; after = after })
+just_started {workers = workers} grew =
+    record { more = starting workers (Ok tt); grows = grew; started = refl }
+
+-- ---- the end
+
+-- by the answer, since the receiver had heard nothing
+abbrev pub CameTo : OutputForm → ℕ → (x y : Listening) → List (List ℕ) → Result (Unit {0}) Ending
+    → Answer → Type 0
+CameTo form window x y ds heard (Done (Judged tally)) =
+    (heard ≡ Ok tt) × HasEndedSince form window x.held x.asked y ds tally
+CameTo form window x y ds heard (Drained tally end) = (heard ≡ Err end) × (has_broken end ≡ false)
+    × HasEndedSince form window x.held x.asked y ds tally
+CameTo form window x y ds heard (Stopped end) = BreaksOff x y ds end
+CameTo form window x y ds heard answer = ⊥
+
+module _ {form : OutputForm} {window : ℕ} {x mid : Listening} (y : Listening) {ds : List (List ℕ)}
+    (new : HasHeard form x.receiver window []) (heard : Result (Unit {0}) Ending)
+    (hears : CanGoOn heard → Hears x mid ds)
+    (breaks : (end : Ending) → has_broken end ≡ true → heard ≡ Err end → BreaksOff x mid ds end) where
+  pub came_to : (answer : Answer) → Concludes mid y heard answer → CameTo form window x y ds heard answer
+  came_to (Done (Judged tally)) c =
+      (c.0, c.1.since form window x.held x.asked ds (heard_all new (hears (rw c.0 tt))))
+  came_to (Drained tally end) c = (c.0, c.1,
+      c.2.since form window x.held x.asked ds (heard_all new (hears (rw c.0 c.1))))
+  came_to (Stopped end) (inl c) = rw c.2 (breaks end c.1 c.0)
+  came_to (Stopped end) (inr c) = breaks_at_end x mid y ds end (hears c.0) c.1
+  came_to answer c = absurd c
+
+abbrev pub output : (x y : Listening) → OutputChange
+output x y = record {
+  held = record { before = x.held; after = y.held };
+  faults = record { before = x.faults; after = y.faults };
+}
+
+abbrev pub hands : Option Told → Listening → Change (Option Told)
+hands before y = record { before = before; after = y.asked }
+
+module _ (form : OutputForm) (window workers : ℕ) (before : Option Told) (x y : Listening)
+    (ds : List (List ℕ)) (heard : Result (Unit {0}) Ending)
+    (new : HasHeard form x.receiver window []) (grew : Grows before x.asked (starting workers (Ok tt))) where
+  has_started : {given : List (List ℕ)} → Stumbles x y given → HasStarted workers (hands before y)
+  has_started s = started workers before x.asked y.asked grew s.goes.asked
+
+  workers_did : (answer : Answer) (split : CaptureSplit) → split.datagrams ≡ ds
+      → CameTo form window x y ds heard answer → StartsWorkers window workers answer (hands before y) split
+  workers_did (Done (Judged tally)) split is c = gave_work grew (rw is c.1.offered)
+  workers_did (Drained tally end) split is c = gave_work grew (rw is c.2.offered)
+  workers_did (Stopped NoMemory) split is c = inl (has_started c)
+  workers_did (Stopped OutputFailed) split is c = has_started c.0
+  workers_did (Stopped end) split is c = tt
+  workers_did answer split is c = absurd c
+
+  output_did : (answer : Answer) → CameTo form window x y ds heard answer
+      → answer ≡ Stopped OutputFailed → HasRisen (output x y).faults
+  output_did answer c is = (rw is at c).1
+
+  -- ---- a capture
+
+  module _ {mid : Listening} (packets : ℕ) (input : InputChange)
+      (h : HearsCapture packets 1 input x mid heard) (is_of : h.datagrams ≡ ds) where
+    abbrev split : CaptureSplit
+    split = record { datagrams = h.datagrams; rest = h.part; given = capture_of h.datagrams ++ h.part }
+
+    reading : (end : Ending) → has_broken end ≡ false
+        → CaptureHeard packets 1 input x mid h.datagrams h.part (Err end)
+        → ReadingEnded packets (Some end) input split
+    reading (CaptureCut place) not so = record {
+      wanted = so.1;
+      part = so.2;
+      ended = so.3;
+      begins = omega (arith, so.4, length-append (capture_of h.datagrams) h.part);
+    }
+    reading InputFailed not so = record { short = h.not_whole; wanted = so.1 }
+    reading (PacketLimit limit) not so =
+        record { limit_is = so.1; count = so.2; one_more = so.3 }
+    reading NoMemory not so = absurd cc
+    reading OutputFailed not so = absurd cc
+    reading end not so = absurd so
+
+    ended : (answer : Answer) → CameTo form window x y ds heard answer
+        → CaptureEnded form window packets answer input (output x y) split
+    ended (Done (Judged tally)) c =
+        let so = rw c.0 at h.heard in
+        record {
+          reading = record { no_rest = so.1; ended = so.2 };
+          wrote = rw is_of c.1.wrote;
+          tally_is = rw is_of c.1.counted;
+        }
+    ended (Drained tally end) c = record {
+      reading = reading end c.1 (rw c.0 at h.heard);
+      wrote = rw is_of c.2.wrote;
+      tally_is = rw is_of c.2.counted;
+    }
+    ended (Stopped NoMemory) c = rw is_of (heard_part new c)
+    ended (Stopped OutputFailed) c = rw is_of (heard_part new c.0)
+    ended (Stopped end) c = absurd c
+    ended answer c = absurd c
+
+    input_did : (answer : Answer) → CameTo form window x y ds heard answer
+        → has_failed_input answer → HasRisen input.faults
+    input_did answer c failed =
+        let drained = rw failed.1 at c in
+        (rw drained.0 at h.heard).2
+
+    capture_taken : (answer : Answer) → CameTo form window x y ds heard answer
+        → TakesCapture form window workers packets answer input (output x y) (hands before y)
+    capture_taken answer c =
+        let is = sym (split_is packets h.datagrams h.part h.gave.fit h.few h.not_whole) in
+        record {
+          given = capture_of h.datagrams ++ h.part;
+          took = h.gave.took;
+          ended = subst (λ (s : CaptureSplit). CaptureEnded form window packets answer input (output x y) s)
+              is (ended answer c);
+          input_failed = input_did answer c;
+          output_failed = output_did answer c;
+          workers_started = subst (λ (s : CaptureSplit). StartsWorkers window workers answer (hands before y) s)
+              is (workers_did answer split is_of c);
+        }
+
+  -- ---- a wire
+
+  module _ {mid : Listening} (packets sessions : ℕ) (at : List ℕ) (told listens after : WireTold)
+      (i j k : ℕ) (is : listens ≡ listening told at) (later : i ≤ j)
+      (h : HearsWire packets sessions (told_between listens after j k) x mid heard)
+      (is_of : h.datagrams ≡ ds) where
+    abbrev wire : WireChange
+    wire = told_between told after i k
+
+    passed : HeardAt at wire ds
+    passed = rw (← is, ← is_of) h.given.passes
+
+    judged : {tally : Tally} → HasEndedSince AsFrames window x.held x.asked y ds tally
+        → IsJudged window tally (output x y) ds
+    judged e = record { wrote = e.wrote; tally_is = e.counted }
+
+    drained : (tally : Tally) (end : Ending) → has_broken end ≡ false
+        → WireHeard packets sessions (told_between listens after j k) x mid ds (Err end)
+        → IsJudged window tally (output x y) ds
+        → RecvEnded window packets sessions at (Drained tally end) wire (output x y) ds
+    drained tally WireFailed not so e = (inl passed, e)
+    drained tally (PacketLimit limit) not so e = (passed, so.1, e)
+    drained tally NoMemory not so e = absurd cc
+    drained tally OutputFailed not so e = absurd cc
+    drained tally end not so e = absurd so
+
+    so : WireHeard packets sessions (told_between listens after j k) x mid ds heard
+    so = rw is_of at h.heard
+
+    wire_did : (answer : Answer) → CameTo AsFrames window x y ds heard answer
+        → has_failed_wire answer → HasRisen wire.faults
+    wire_did answer c failed =
+        let end = rw failed.1 at c in
+        omega (arith, later, (rw end.0 at so).1)
+
+    recv_ended : HasHeard AsFrames x.receiver window [] → (answer : Answer)
+        → CameTo AsFrames window x y ds heard answer
+        → RecvEnded window packets sessions at answer wire (output x y) ds
+    recv_ended new (Done (Judged tally)) c = (passed, (rw c.0 at so).1, judged c.1)
+    recv_ended new (Drained tally end) c = drained tally end c.1 (rw c.0 at so) (judged c.2)
+    recv_ended new (Stopped NoMemory) c = (inl passed, heard_part new c)
+    recv_ended new (Stopped OutputFailed) c = (passed, heard_part new c.0)
+    recv_ended new (Stopped end) c = absurd c
+    recv_ended new answer c = absurd c
+
+-- all of a capture was taken
+pub took_capture : (form : OutputForm) (window workers packets : ℕ) (input : InputChange)
+    (before : Option Told) (x mid y : Listening) (heard : Result (Unit {0}) Ending) (answer : Answer)
+    → HasHeard form x.receiver window [] → Grows before x.asked (starting workers (Ok tt))
+    → HearsCapture packets 1 input x mid heard → Concludes mid y heard answer
+    → TakesCapture form window workers packets answer input
+    (output x y) (hands before y)
+took_capture form window workers packets input before x mid y heard answer new grew h c =
+    capture_taken form window workers before x y h.datagrams heard new grew packets input h refl answer
+    (came_to y new heard
+    (λ can. capture_hears packets 1 input x mid h.datagrams h.part heard can h.heard)
+    (λ end broken is. capture_breaks packets 1 input x mid h.datagrams h.part end broken
+    (rw is at h.heard)) answer c)
+
+-- what was lent comes back as it was left
+module _ (O P : Type 0) (held : O → Option (List ℕ)) (faults : O → ℕ) (asked : P → Option Told)
+    (o_old o_first o_left o_end : O) (p_old p_left p_end : P) where
+  pub capture_back : (form : OutputForm) (window workers packets : ℕ) (input : InputChange)
+      (answer : Answer) → TakesCapture form window workers packets answer input
+      (output_of held faults o_first o_left) (changed asked p_old p_left)
+      → o_first ≡ o_old → o_end ≡ o_left → p_end ≡ p_left
+      → TakesCapture form window workers packets answer input
+      (output_of held faults o_old o_end) (changed asked p_old p_end)
+  capture_back form window workers packets input answer took first o_is p_is =
+      rw (← first, o_is, p_is) took
+
+  module _ (N : Type 0) (told : N → WireTold) (wire_faults : N → ℕ) (n_old n_left n_end : N) where
+    pub datagrams_back : (window workers packets sessions : ℕ) (at : List ℕ) (answer : Answer)
+        → ReceivesFrom window workers packets sessions at answer (wire_of told wire_faults n_old n_left)
+        (output_of held faults o_first o_left) (changed asked p_old p_left)
+        → o_first ≡ o_old → o_end ≡ o_left → p_end ≡ p_left → n_end ≡ n_left
+        → ReceivesFrom window workers packets sessions at answer (wire_of told wire_faults n_old n_end)
+        (output_of held faults o_old o_end) (changed asked p_old p_end)
+    datagrams_back window workers packets sessions at answer took first o_is p_is n_is =
+        rw (← first, o_is, p_is, n_is) took
+
+-- all of a wire's datagrams were
+pub took_datagrams : (window workers packets sessions : ℕ) (at : List ℕ) (told listens after : WireTold)
+    (i j k : ℕ) (before : Option Told) (x mid y : Listening) (heard : Result (Unit {0}) Ending)
+    (answer : Answer) → HasHeard AsFrames x.receiver window []
+    → Grows before x.asked (starting workers (Ok tt))
+    → listens ≡ listening told at → i ≤ j
+    → HearsWire packets sessions (told_between listens after j k) x mid heard
+    → Concludes mid y heard answer
+    → ReceivesFrom window workers packets sessions at answer (told_between told after i k)
+    (output x y) (hands before y)
+took_datagrams window workers packets sessions at told listens after i j k before x mid y heard answer new
+    grew is later h c =
+    let wire = told_between listens after j k in
+    let came = came_to y new heard
+    (λ can. wire_hears packets sessions wire x mid h.datagrams heard can h.heard)
+    (λ end broken ended. wire_breaks packets sessions wire x mid h.datagrams end broken
+    (rw ended at h.heard)) answer c in
+    record {
+      heard = h.datagrams;
+      few = h.few;
+      ended = recv_ended AsFrames window workers before x y h.datagrams heard new grew packets sessions
+          at told listens after i j k is later h refl new answer came;
+      wire_failed = wire_did AsFrames window workers before x y h.datagrams heard new grew packets
+          sessions at told listens after i j k is later h refl answer came;
+      output_failed = output_did AsFrames window workers before x y h.datagrams heard new grew answer came;
+      workers_started = workers_did AsFrames window workers before x y h.datagrams heard new grew
+          answer (as_entries h.datagrams) refl came;
+    }
+
+-- ---- nothing was begun
+
+-- no workers were started
+pub not_started : (form : OutputForm) (window workers packets : ℕ) (input : InputChange)
+    (output : OutputChange) (hands : Change (Option Told)) → Stays input.left → Stays output.held
+    → Stays hands → TakesCapture form window workers packets (Stopped NoMemory) input output hands
+not_started form window workers packets input output hands input_stays output_stays hands_stay = record {
+  given = [];
+  took = rw input_stays (Gave-none input.left.before);
+  ended = rw output_stays (GrewBySome-none output.held.before _);
+  input_failed = λ failed. absurd (cc failed.1);
+  output_failed = λ failed. absurd cc;
+  workers_started = inr hands_stay;
+}
+
+-- there was no memory
+pub not_begun : (window workers packets sessions : ℕ) (at : List ℕ) (wire : WireChange)
+    (output : OutputChange) (hands : Change (Option Told)) → Stays wire.told → Stays output.held
+    → HasStarted workers hands ⊎ Stays hands
+    → ReceivesFrom window workers packets sessions at (Stopped NoMemory) wire output hands
+not_begun window workers packets sessions at wire output hands wire_stays output_stays at_most = record {
+  heard = [];
+  few = omega arith;
+  ended = (inr (refl, wire_stays), rw output_stays (GrewBySome-none output.held.before _));
+  wire_failed = λ failed. absurd (cc failed.1);
+  output_failed = λ failed. absurd cc;
+  workers_started = at_most;
+}
+
+nothing_written : (window : ℕ) → full_output window [] ≡ []
+unfolding full_output all_output
+nothing_written window = refl
+
+nothing_counted : (window : ℕ) → no_counts ≡ tally_of window []
+unfolding tally_of with_sessions outcomes_behind
+nothing_counted window = refl
+
+-- the wire didn't come to listen
+pub not_listening : (window workers packets sessions : ℕ) (at : List ℕ) (wire : WireChange)
+    (output : OutputChange) (before after : Option Told) (tally : Tally) → Stays wire.told
+    → Stays output.held → tally ≡ no_counts → HasRisen wire.faults
+    → Grows before after (starting workers (Ok tt))
+    → ReceivesFrom window workers packets sessions at (Drained tally WireFailed) wire output
+    (record { before = before; after = after })
+not_listening window workers packets sessions at wire output before after tally wire_stays output_stays none
+    rose grew = record {
+  heard = [];
+  few = omega arith;
+  ended = (
+    inr (refl, wire_stays),
+    record {
+      wrote = rw (nothing_written window, output_stays) (Grew-none output.held.before);
+      tally_is = none ∙ nothing_counted window;
+    },
+  );
+  wire_failed = λ failed. rose;
+  output_failed = λ failed. absurd cc;
+  workers_started = gave_work grew (nothing_offered window after);
+}
