@@ -72,8 +72,11 @@ module _ {form : OutputForm} {window : ℕ} {x mid : Listening} (y : Listening) 
   pub came_to : (answer : Answer) → Concludes mid y heard answer → CameTo form window x y ds heard answer
   came_to (Done (Judged tally)) c =
       (c.0, c.1.since form window x.held x.asked ds (heard_all new (hears (rw c.0 tt))))
-  came_to (Drained tally end) c = (c.0, c.1,
-      c.2.since form window x.held x.asked ds (heard_all new (hears (rw c.0 c.1))))
+  came_to (Drained tally end) c = (
+    c.0,
+    c.1,
+    c.2.since form window x.held x.asked ds (heard_all new (hears (rw c.0 c.1))),
+  )
   came_to (Stopped end) (inl c) = rw c.2 (breaks end c.1 c.0)
   came_to (Stopped end) (inr c) = breaks_at_end x mid y ds end (hears c.0) c.1
   came_to answer c = absurd c
@@ -325,16 +328,16 @@ pub not_listening : (window workers packets sessions : ℕ) (at : List ℕ) (wir
     (record { before = before; after = after })
 not_listening window workers packets sessions at wire output before after tally wire_stays output_stays none
     rose grew = record {
-  heard = [];
-  few = omega arith;
-  ended = (
-    inr (refl, wire_stays),
-    record {
-      wrote = rw (nothing_written window, output_stays) (Grew-none output.held.before);
-      tally_is = none ∙ nothing_counted window;
-    },
-  );
-  wire_failed = λ failed. rose;
-  output_failed = λ failed. absurd cc;
-  workers_started = gave_work grew (nothing_offered window after);
-}
+      heard = [];
+      few = omega arith;
+      ended = (
+        inr (refl, wire_stays),
+        record {
+          wrote = rw (nothing_written window, output_stays) (Grew-none output.held.before);
+          tally_is = none ∙ nothing_counted window;
+        },
+      );
+      wire_failed = λ failed. rose;
+      output_failed = λ failed. absurd cc;
+      workers_started = gave_work grew (nothing_offered window after);
+    }

@@ -50,11 +50,14 @@ module _ (x : LoopState) (datagram : List ℕ) (mid : WireTold) (j : ℕ) (first
     -- no more will come
     pub ended : StoppedWire (told_between mid after j k) [] None
         → WereLooped x (behind x.listening) (datagram ∷ [])
-    ended s = ([], record {
-      exchanged = exchanged x.listening [] (omega arith) (rw s.ended.0 at s.given);
-      hears = none_heard x.listening;
-      in_turn = inr s.ended.1;
-    })
+    ended s = (
+      [],
+      record {
+        exchanged = exchanged x.listening [] (omega arith) (rw s.ended.0 at s.given);
+        hears = none_heard x.listening;
+        in_turn = inr s.ended.1;
+      },
+    )
 
     -- none was received
     pub failed : StoppedWire (told_between mid after j k) [] (Some WireFailed)
@@ -86,11 +89,14 @@ module _ (x : LoopState) (datagram : List ℕ) (mid : WireTold) (j : ℕ) (first
     -- one was received
     module _ (came : List ℕ) (was : WasGiven (told_between mid after j k) (came ∷ [])) (z : Listening) where
       pub heard : Hears x.listening z (came ∷ []) → WereLooped x (behind z) (datagram ∷ [])
-      heard hears = (came ∷ [], record {
-        exchanged = exchanged z (came ∷ []) (omega arith) was;
-        hears = hears;
-        in_turn = inl refl;
-      })
+      heard hears = (
+        came ∷ [],
+        record {
+          exchanged = exchanged z (came ∷ []) (omega arith) was;
+          hears = hears;
+          in_turn = inl refl;
+        },
+      )
 
       pub unwritten : BreaksOff x.listening z (came ∷ []) OutputFailed
           → LoopBroke x (behind z) (datagram ∷ []) outlets.Output

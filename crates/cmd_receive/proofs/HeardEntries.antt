@@ -30,8 +30,12 @@ entries_are packets [] part fit few none = within-part packets part none
 entries_are zero (d ∷ ds) part fit few none = absurd (omega (arith, few))
 entries_are (suc most) (d ∷ ds) part fit few none =
     let rest = entries_are most ds part fit.1 (omega (arith, few)) none in
-    rw (flat_map-cons entry d ds, append_assoc (entry d) (capture_of ds) part,
-    within_entry most d (capture_of ds ++ part) fit.0, rest) refl
+    rw (
+      flat_map-cons entry d ds,
+      append_assoc (entry d) (capture_of ds) part,
+      within_entry most d (capture_of ds ++ part) fit.0,
+      rest,
+    ) refl
 
 pub split_is : (packets : ℕ) (ds : List (List ℕ)) (part : List ℕ) → FitEntries ds
     → length ds ≤ packets → first_entry part ≡ None
@@ -75,18 +79,21 @@ module _ (packets : ℕ) (input : InputChange) (x y : Listening) where
   by_end ds InputFailed r =
       let s = r.stopped_so in
       let none : s.lost ≡ [] = s.ended.0 in
-      ran_out ds (Err InputFailed) (Some InputFailed) s (omega (arith, r.fewer))
-      (hears_all_of ds s.lost none r.hears,
-      inl (omega (arith, ap length (all_of ds s.lost none), r.fewer)),
-      s.ended.1)
+      ran_out ds (Err InputFailed) (Some InputFailed) s (omega (arith, r.fewer)) (
+        hears_all_of ds s.lost none r.hears,
+        inl (omega (arith, ap length (all_of ds s.lost none), r.fewer)),
+        s.ended.1,
+      )
   by_end ds (CaptureCut at) r =
       let s = r.stopped_so in
       let none : s.lost ≡ [] = s.ended.0 in
-      ran_out ds (Err (CaptureCut at)) (Some (CaptureCut at)) s (omega (arith, r.fewer))
-      (hears_all_of ds s.lost none r.hears,
-      omega (arith, ap length (all_of ds s.lost none), r.fewer),
-      s.ended.1, s.ended.2,
-      omega (arith, s.ended.3, ap (λ (l : List (List ℕ)). length (capture_of l)) (all_of ds s.lost none)))
+      ran_out ds (Err (CaptureCut at)) (Some (CaptureCut at)) s (omega (arith, r.fewer)) (
+        hears_all_of ds s.lost none r.hears,
+        omega (arith, ap length (all_of ds s.lost none), r.fewer),
+        s.ended.1,
+        s.ended.2,
+        omega (arith, s.ended.3, ap (λ (l : List (List ℕ)). length (capture_of l)) (all_of ds s.lost none)),
+      )
   by_end ds end r = absurd r.stopped_so.ended
 
 module _ (N : Type 0) (packets last : ℕ) (input : InputChange) (x y : Listening) where
@@ -115,10 +122,11 @@ module _ (N : Type 0) (packets last : ℕ) (input : InputChange) (x y : Listenin
       → HearsUntil packets None Came Stops x y result
       → N × HearsCapture packets 0 input x y result
   capture_heard (Ok done) (ds, inl r) =
-      let s = r.stopped_so.1 in
-      (r.stopped_so.0,
-      ran_out packets input x y ds (Ok tt) None s (omega (arith, r.fewer))
-      (hears_all_of packets input x y ds s.lost s.ended.0 r.hears, s.ended.1, s.ended.2))
+      let s = r.stopped_so.1 in (
+        r.stopped_so.0,
+        ran_out packets input x y ds (Ok tt) None s (omega (arith, r.fewer))
+            (hears_all_of packets input x y ds s.lost s.ended.0 r.hears, s.ended.1, s.ended.2),
+      )
   capture_heard (Ok done) (ds, inr s) = absurd s.ended
   capture_heard (Err end) (ds, inl r) = (
     r.stopped_so.0,

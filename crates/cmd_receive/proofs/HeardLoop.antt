@@ -44,8 +44,11 @@ went_on_more sessions heard d went now k less = by_place (eq-or-lt_of_le within)
 
     by_place : (k ≡ length heard) ⊎ (k < length heard)
         → GoesOnAfter sessions (take k (heard ++ d ∷ []))
-    by_place (inl last) = rw (last, take-append-le (length heard) heard (d ∷ []) (omega arith),
-        take_all (length heard) heard (omega arith)) now
+    by_place (inl last) = rw (
+      last,
+      take-append-le (length heard) heard (d ∷ []) (omega arith),
+      take_all (length heard) heard (omega arith),
+    ) now
     by_place (inr before) =
         rw (take-append-le k heard (d ∷ []) (omega (arith, before))) (went k before)
 
@@ -79,48 +82,63 @@ module _ (X : Type 0) (came : X → X → List (List ℕ) → Type 0)
   Until k z result = HearsUntil packets sessions (came i k) (stopped i k) x z result
 
   pub until_sessions : number ≤ packets → IsReached count → Until j y (Ok tt)
-  until_sessions few is = (ds, inr (record {
-    few = omega (arith, at.number_is, few);
-    came_so = at.came_so;
-    hears = at.hears;
-    ended = ends_with count sessions ds at.counts is at.went_on;
-  }))
+  until_sessions few is = (
+    ds,
+    inr (record {
+      few = omega (arith, at.number_is, few);
+      came_so = at.came_so;
+      hears = at.hears;
+      ended = ends_with count sessions ds at.counts is at.went_on;
+    }),
+  )
 
   pub until_limit : number ≡ packets → IsUnreached count → Until j y (Err (PacketLimit packets))
-  until_limit all un = (ds, inr (inl (record {
-    end_is = refl;
-    count = omega (arith, at.number_is, all);
-    came_so = at.came_so;
-    hears = at.hears;
-    goes_on = goes_on count sessions ds at.counts un;
-  })))
+  until_limit all un = (
+    ds,
+    inr (inl (record {
+      end_is = refl;
+      count = omega (arith, at.number_is, all);
+      came_so = at.came_so;
+      hears = at.hears;
+      goes_on = goes_on count sessions ds at.counts un;
+    })),
+  )
 
   module _ (stops : (i j k : X) (ds : List (List ℕ)) (end : Option Ending) → came i j ds
       → stopped j k [] end → stopped i k ds end) (k : X) (room : number < packets) where
     pub until_end : stopped j k [] None → Until k y (Ok tt)
-    until_end now = (ds, inl (record {
-      fewer = omega (arith, at.number_is, room);
-      stopped_so = stops i j k ds None at.came_so now;
-      hears = at.hears;
-    }))
+    until_end now = (
+      ds,
+      inl (record {
+        fewer = omega (arith, at.number_is, room);
+        stopped_so = stops i j k ds None at.came_so now;
+        hears = at.hears;
+      }),
+    )
 
     pub until_stop : (end : Ending) (result : Result (Unit {0}) Ending) → result ≡ Err end
         → stopped j k [] (Some end) → Until k y result
-    until_stop end result is now = rw is (ds, inl (record {
-      fewer = omega (arith, at.number_is, room);
-      stopped_so = stops i j k ds (Some end) at.came_so now;
-      hears = at.hears;
-    }))
+    until_stop end result is now = rw is (
+      ds,
+      inl (record {
+        fewer = omega (arith, at.number_is, room);
+        stopped_so = stops i j k ds (Some end) at.came_so now;
+        hears = at.hears;
+      }),
+    )
 
   module _ (then : (i j k : X) (ds es : List (List ℕ)) → came i j ds → came j k es
       → came i k (ds ++ es)) (k : X) (d : List ℕ) (now : came j k (d ∷ [])) (z : Listening) where
     pub until_break : number < packets → (end : Ending) (result : Result (Unit {0}) Ending)
         → result ≡ Err end → BreaksOff y z (d ∷ []) end → Until k z result
-    until_break room end result is breaks = rw is (ds ++ d ∷ [], inr (inr (record {
-      few = omega (arith, at.number_is, room, length-append ds (d ∷ []));
-      came_so = then i j k ds (d ∷ []) at.came_so now;
-      breaks = breaks_then x y z ds (d ∷ []) end at.hears breaks;
-    })))
+    until_break room end result is breaks = rw is (
+      ds ++ d ∷ [],
+      inr (inr (record {
+        few = omega (arith, at.number_is, room, length-append ds (d ∷ []));
+        came_so = then i j k ds (d ∷ []) at.came_so now;
+        breaks = breaks_then x y z ds (d ∷ []) end at.hears breaks;
+      })),
+    )
 
     pub heard_one : Hears y z (d ∷ []) → IsUnreached count → (next : Option SessionCount)
         → CountsTo next sessions (ds ++ d ∷ [])

@@ -44,10 +44,11 @@ module _ (packets sessions : ℕ) (wire : WireChange) (x y : Listening) where
         (λ ds end. N × StoppedWire wire ds end) x y result
         → N × HearsWire packets sessions wire x y result
     wire_heard (Ok done) (ds, inl r) =
-        let s = r.stopped_so.1 in
-        (r.stopped_so.0,
-        whole ds (Ok tt) (all_given ds s.lost s.ended.0 s.given) (omega (arith, r.fewer))
-        (r.hears, inr (record { fewer = r.fewer; nothing_more = s.ended.1 })))
+        let s = r.stopped_so.1 in (
+          r.stopped_so.0,
+          whole ds (Ok tt) (all_given ds s.lost s.ended.0 s.given) (omega (arith, r.fewer))
+              (r.hears, inr (record { fewer = r.fewer; nothing_more = s.ended.1 })),
+        )
     wire_heard (Ok done) (ds, inr s) =
         (s.came_so.0, whole ds (Ok tt) s.came_so.1 s.few (s.hears, inl s.ended))
     wire_heard (Err end) (ds, inl r) = (
@@ -55,13 +56,15 @@ module _ (packets sessions : ℕ) (wire : WireChange) (x y : Listening) where
       by_end ds end (record { fewer = r.fewer; stopped_so = r.stopped_so.1; hears = r.hears }),
     )
     wire_heard (Err end) (ds, inr (inl m)) =
-        rw m.end_is (m.came_so.0,
-        whole ds (Err (PacketLimit packets)) m.came_so.1 (omega (arith, m.count))
-        (m.hears, record { limit_is = refl; count = m.count; goes_on = m.goes_on }))
+        rw m.end_is (
+          m.came_so.0,
+          whole ds (Err (PacketLimit packets)) m.came_so.1 (omega (arith, m.count))
+              (m.hears, record { limit_is = refl; count = m.count; goes_on = m.goes_on }),
+        )
     wire_heard (Err end) (ds, inr (inr b)) =
         (b.came_so.0, whole ds (Err end) b.came_so.1 b.few (broke ds end b.breaks))
 
--- ---- the receiver
+  -- ---- the receiver
 
   pub wire_hears : (ds : List (List ℕ)) (result : Result (Unit {0}) Ending) → CanGoOn result
       → WireHeard packets sessions wire x y ds result → Hears x y ds

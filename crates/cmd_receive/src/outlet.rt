@@ -18,7 +18,8 @@ pub(crate) struct LoopOutlet<'a, 'b, 'c, 'd, 'e, N, O, P> {
     pub(crate) listener: Listener<'c, 'd, 'e, O, P>,
 }
 
-impl<'a, 'b, 'c, 'd, 'e, N: Wire, O: Sink, P: Places> Outlet for LoopOutlet<'a, 'b, 'c, 'd, 'e, N, O, P> {
+impl<'a, 'b, 'c, 'd, 'e, N: Wire, O: Sink, P: Places> Outlet
+    for LoopOutlet<'a, 'b, 'c, 'd, 'e, N, O, P> {
     ghost use Rattle.cmd_receive.specs.Exchanges.{IsReady, LoopBroke, LoopsAs, WereLooped, loop_state};
 
     ghost is_ready = { λ x.

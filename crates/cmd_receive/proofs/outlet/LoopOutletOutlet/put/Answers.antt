@@ -13,9 +13,10 @@ pub returns-in-Err-OutputFailed-clause-broke : goal.returns-in-Err-OutputFailed-
 returns-in-Err-OutputFailed-clause-broke g c =
     let given = rw c.in-Ok-Some.field-0-is at c.in-Ok-Some.ensures.brings in
     let now = c.in-Err-OutputFailed.ensures in
-    let sent = c.in-Yes.ensures in
-    ((given.0, (now.borrows_output, now.borrows_places)),
-    unwritten _ _ _ _ sent.cause.later sent.told _ _ _ given.1 _ (rw c.in-Err-OutputFailed.field-0-is at now.takes))
+    let sent = c.in-Yes.ensures in (
+      (given.0, (now.borrows_output, now.borrows_places)),
+      unwritten _ _ _ _ sent.cause.later sent.told _ _ _ given.1 _ (rw c.in-Err-OutputFailed.field-0-is at now.takes),
+    )
 
 -- memory ran out for what came
 pub returns-in-Err-hear : goal.returns-in-Err-hear
@@ -26,8 +27,10 @@ returns-in-Err-hear g c =
     record {
       ready = tt;
       carried = tt;
-      broke = ((given.0, (now.borrows_output, now.borrows_places)),
-          unheard _ _ _ _ sent.cause.later sent.told _ _ _ given.1 _ c.in-Err-hear.field-0 now.takes);
+      broke = (
+        (given.0, (now.borrows_output, now.borrows_places)),
+        unheard _ _ _ _ sent.cause.later sent.told _ _ _ given.1 _ c.in-Err-hear.field-0 now.takes,
+      );
     }
 
 -- no more will come

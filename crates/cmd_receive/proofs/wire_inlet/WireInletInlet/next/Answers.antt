@@ -15,9 +15,11 @@ returns-in-Ok-End-clause-brings g c =
 
 pub returns-in-Ok-Failed-clause-brings : goal.returns-in-Ok-Failed-clause-brings
 returns-in-Ok-Failed-clause-brings g c =
-    let now = c.in-Ok-Failed.ensures in
-    (refl, wire_failed _ _ _ _ now.cause.later (rw c.in-Ok-Failed.field-0-is at now.told)
-    (now.cause.rose (ap Ok c.in-Ok-Failed.field-0-is)))
+    let now = c.in-Ok-Failed.ensures in (
+      refl,
+      wire_failed _ _ _ _ now.cause.later (rw c.in-Ok-Failed.field-0-is at now.told)
+          (now.cause.rose (ap Ok c.in-Ok-Failed.field-0-is)),
+    )
 
 pub returns-in-Err-clause-brings : goal.returns-in-Err-clause-brings
 returns-in-Err-clause-brings g c =
