@@ -5,7 +5,7 @@ use Rattle.std.proofs.lemmas.Bool.{cases_lt}
 use Rattle.std.proofs.lemmas.List.{ext_get_or}
 use Rattle.std.proofs.lemmas.List.FromFn.{length-map-range_with_len, get_or-map-range_with_len}
 use Rattle.std.proofs.lemmas.Nat.{div-add-mod', div_below, mod_below}
-use Rattle.std.proofs.Math.Nat.{add-mul, mul-le-mul, mul-le-mul_right}
+use Rattle.std.proofs.Math.Nat.{add-mul, mul-le-mul_right}
 use Rattle.link_model.specs.SendingPictures.{number_in, numbers_in_slice}
 use Rattle.vc_types.specs.declared.rect.Rect.{Rect}
 use Rattle.vc_types.specs.declared.video.Component.{Component}
@@ -64,11 +64,6 @@ module _ (cells : List ℤ) (stride from first step : ℕ) (r : Rect) where
       ap (λ n. n * stride + r.x + x) (sym (stands (r.x + x) row (omega arith) (omega (arith, inside)) below)) ∙ omega arith in
       ap (line_of new) at ∙ copied row x below inside ∙ ap (line_of cells) place
       ∙ sym (plane_in stride cells (r.x + x) (turned (r.x + x) (r.y + row)) (omega (arith, inside, across)))
-
-pub area_small : (r : Rect) → r.width ≤ 8192 → r.height ≤ 8192 → r.width * r.height ≤ 2 ^ 26
-area_small r across down =
-    let all : r.width * r.height ≤ 8192 * 8192 = mul-le-mul across down in
-    omega (arith, all)
 
 -- ---- a slice, rectangle by rectangle
 

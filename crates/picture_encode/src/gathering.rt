@@ -1,162 +1,105 @@
-ghost use Rattle.std.specs.Prelude.{◌≡◌, ◌++◌, ◌+◌, ◌*◌, ◌^◌, ◌<◌, ◌≤◌, ◌⊎◌, ℕ, All, OnOk, IfOk, length, unsigned_abs};
-ghost use Rattle.link_model.specs.SendingPictures.{number_in, numbers_in_slice};
-ghost use Rattle.picture_encode.specs.Grids.{IsGrid, IsNarrowGrid, IsWideGrid, AreGrids, cells_of, narrow_numbers, rectangle_numbers, slice_in_grids};
+ghost use Rattle.std.specs.Prelude.{◌≡◌, ◌++◌, ◌+◌, ◌*◌, ◌^◌, ◌<◌, ◌≤◌, ℕ, All, OnOk, IfOk, length, unsigned_abs};
+ghost use Rattle.picture_encode.specs.Copies.{HasCopy, HasRows, KeepsOthers};
+ghost use Rattle.picture_encode.specs.Grids.{cells_of, rectangle_numbers};
+ghost use Rattle.picture_encode.specs.PartsInGrids.{AreGrids, IsGrid, IsNarrowGrid, IsWideGrid, narrow_numbers, numbers_in, slice_in_grids};
+ghost use Rattle.vc_slice.specs.Bands.{AreCoefficients, coefficient_count};
 ghost use Rattle.vc_types.specs.declared.video.Component.TheVariants.{Y, C1, C2};
-ghost use Rattle.vc_types.specs.Lifting.{line_of};
 ghost use Rattle.vc_types.specs.Rasters.{cell_at};
-ghost use Rattle.vc_types.specs.SliceCoefficients.{AreSliceCoefficients};
-ghost use Rattle.vc_geometry.specs.Rectangles.{AreSliceRectangles};
-ghost use Rattle.vc_types.specs.Quantisation.{subband_count};
-ghost use Rattle.vc_types.specs.Subbands.{area, padded_width, padded_height, slice_count, slice_coefficient_count, slice_rectangle, subband_at};
+ghost use Rattle.vc_types.specs.Subbands.{area};
 ghost use Rattle.vc_types.specs.TransformParameters.{parameters_of};
 
 use crate::grids::{ComponentGrid, PictureGrids};
-use crate::rows::{SteppedRows, rows_from};
+use crate::rows::{SteppedRect, rows_from};
 use std::alloc::Global;
-use vc_geometry::{bands, padded, slice_len, slice_rect, slice_rects};
-use vc_slice::SliceCoeffs;
-use vc_types::{Component, Grid, NoMemory, Plan, Rect};
+use vc_geometry::{bands as band_count, padded};
+use vc_slice::{SliceCoeffs, SliceParts};
+use vc_types::{Component, Grid, NoMemory, Rect};
 use vc_wave::nesting_of;
-
-const NOWHERE: Rect = Rect {
-    x: 0,
-    y: 0,
-    width: 0,
-    height: 0,
-};
 
 /// The coefficients of a slice, gathered out of a picture's grids.
 pub(crate) fn gather(
     alloc: Global,
-    plan: &Plan,
+    parts: &SliceParts,
     grids: &PictureGrids,
-    slice: u32,
 ) -> Result<SliceCoeffs, NoMemory>
-    requires slice { slice < slice_count (parameters_of plan.now) }
-    requires grids { AreGrids (parameters_of plan.now) grids.now }
-    ensures value { IfOk result
-        (λ coeffs. coeffs ≡ slice_in_grids (parameters_of plan.now) grids.now slice) }
-    ensures whole { IfOk result
-        (λ coeffs. AreSliceCoefficients (parameters_of plan.now) slice coeffs) }
+    requires grids { AreGrids parts.now grids.now }
+    ensures value { IfOk result (λ coeffs. coeffs ≡ slice_in_grids parts.now grids.now) }
+    ensures whole { IfOk result (λ coeffs. AreCoefficients parts.now coeffs) }
 {
-    let coeffs = gathered(alloc, plan, grids, slice)?;
+    let coeffs = gathered(alloc, parts, grids)?;
     Ok(coeffs)
 }
 
 #[tactic(auto, unfolding(crate::specs::Grids::cells_of))]
 fn gathered(
     alloc: Global,
-    plan: &Plan,
+    parts: &SliceParts,
     grids: &PictureGrids,
-    slice: u32,
 ) -> Result<SliceCoeffs, NoMemory>
-    requires slice { slice < slice_count (parameters_of plan.now) }
-    requires grids { AreGrids (parameters_of plan.now) grids.now }
-    ensures { IfOk result
-        (λ coeffs. coeffs ≡ slice_in_grids (parameters_of plan.now) grids.now slice) }
+    requires { AreGrids parts.now grids.now }
+    ensures { IfOk result (λ coeffs. coeffs ≡ slice_in_grids parts.now grids.now) }
 {
     match (&grids.y, &grids.c1, &grids.c2) {
         (ComponentGrid::Narrow(y), ComponentGrid::Narrow(c1), ComponentGrid::Narrow(c2)) => {
-            gather_narrow(alloc, plan, slice, y, c1, c2)
+            gather_narrow(alloc, parts, y, c1, c2)
         }
-        _ => gather_any(alloc, plan, grids, slice),
+        _ => gather_any(alloc, parts, grids),
     }
 }
 
 // The same where all components are in 32 bits.
 fn gather_narrow(
     alloc: Global,
-    plan: &Plan,
-    slice: u32,
+    parts: &SliceParts,
     y: &[i32],
     c1: &[i32],
     c2: &[i32],
 ) -> Result<SliceCoeffs, NoMemory>
-    requires slice { slice < slice_count (parameters_of plan.now) }
-    requires y { IsNarrowGrid (parameters_of plan.now) Y y.now }
-    requires c1 { IsNarrowGrid (parameters_of plan.now) C1 c1.now }
-    requires c2 { IsNarrowGrid (parameters_of plan.now) C2 c2.now }
+    requires y { IsNarrowGrid parts.now Y y.now }
+    requires c1 { IsNarrowGrid parts.now C1 c1.now }
+    requires c2 { IsNarrowGrid parts.now C2 c2.now }
     ensures { IfOk result (λ coeffs. coeffs ≡ record {
-      y = narrow_numbers (parameters_of plan.now) Y y.now slice;
-      c1 = narrow_numbers (parameters_of plan.now) C1 c1.now slice;
-      c2 = narrow_numbers (parameters_of plan.now) C2 c2.now slice;
+      y = narrow_numbers parts.now Y y.now;
+      c1 = narrow_numbers parts.now C1 c1.now;
+      c2 = narrow_numbers parts.now C2 c2.now;
     }) }
 {
-    let luma = part_of(plan, Component::Y, slice);
-    let colour = part_of(plan, Component::C1, slice);
-    let (of_y, of_c) = (luma.count, colour.count);
+    let of_y = parts.count(Component::Y) as usize;
+    let of_c = parts.count(Component::C1) as usize;
     let mut numbers = vec![in alloc; 0i32; of_y + of_c + of_c]?;
-    copy_components(plan, slice, y, c1, c2, &luma, &colour, &mut numbers);
+    copy_components(parts, y, c1, c2, &mut numbers);
     Ok(SliceCoeffs::narrow(numbers, of_y, of_c, of_c))
 }
 
-// The parts of the subbands of a component that belong to a slice, in front of others, and how many coefficients they have.
-#[derive(Drop)]
-struct Part {
-    rects: [Rect; 16],
-    count: usize,
-}
-
-fn part_of(plan: &Plan, c: Component, slice: u32) -> Part
-    requires { slice < slice_count (parameters_of plan.now) }
-    ensures rects { AreSliceRectangles (parameters_of plan.now) c slice result.rects }
-    ensures colours { c ≡ C1 → AreSliceRectangles (parameters_of plan.now) C2 slice result.rects }
-    ensures count { result.count ≡ slice_coefficient_count (parameters_of plan.now) c slice }
-    ensures range { result.count ≤ 2 ^ 30 }
+// Copies the numbers of a slice, one component after the other.
+fn copy_components(parts: &SliceParts, y: &[i32], c1: &[i32], c2: &[i32], numbers: &mut [i32])
+    requires y { IsNarrowGrid parts.now Y y.now }
+    requires c1 { IsNarrowGrid parts.now C1 c1.now }
+    requires c2 { IsNarrowGrid parts.now C2 c2.now }
+    requires numbers { length numbers.old ≡ coefficient_count parts.now Y
+        + coefficient_count parts.now C1 + coefficient_count parts.now C1 }
+    ensures { numbers.new ≡ narrow_numbers parts.now Y y.now
+        ++ narrow_numbers parts.now C1 c1.now ++ narrow_numbers parts.now C2 c2.now }
 {
-    let mut rects = [NOWHERE; 16];
-    slice_rects(plan, c, slice, &mut rects);
-    let count = count(plan, c, slice, &rects);
-    Part { rects, count }
-}
-
-// Copies the numbers of a slice, one component behind the other.
-fn copy_components(
-    plan: &Plan,
-    slice: u32,
-    y: &[i32],
-    c1: &[i32],
-    c2: &[i32],
-    luma: &Part,
-    colour: &Part,
-    numbers: &mut [i32],
-)
-    requires slice { slice < slice_count (parameters_of plan.now) }
-    requires y { IsNarrowGrid (parameters_of plan.now) Y y.now }
-    requires c1 { IsNarrowGrid (parameters_of plan.now) C1 c1.now }
-    requires c2 { IsNarrowGrid (parameters_of plan.now) C2 c2.now }
-    requires luma { AreSliceRectangles (parameters_of plan.now) Y slice luma.now.rects }
-    requires colour { AreSliceRectangles (parameters_of plan.now) C1 slice colour.now.rects }
-    requires second { AreSliceRectangles (parameters_of plan.now) C2 slice colour.now.rects }
-    requires of_y { luma.now.count ≡ slice_coefficient_count (parameters_of plan.now) Y slice }
-    requires of_c { colour.now.count ≡ slice_coefficient_count (parameters_of plan.now) C1 slice }
-    requires numbers { length numbers.old ≡ luma.now.count + colour.now.count + colour.now.count }
-    ensures { numbers.new ≡ narrow_numbers (parameters_of plan.now) Y y.now slice
-        ++ narrow_numbers (parameters_of plan.now) C1 c1.now slice
-        ++ narrow_numbers (parameters_of plan.now) C2 c2.now slice }
-{
-    let (for_y, for_colours) = numbers.split_at_mut(luma.count);
-    let (for_c1, for_c2) = for_colours.split_at_mut(colour.count);
-    copy_slice(plan, Component::Y, y, slice, &luma.rects, for_y);
-    copy_slice(plan, Component::C1, c1, slice, &colour.rects, for_c1);
-    copy_slice(plan, Component::C2, c2, slice, &colour.rects, for_c2);
+    let (for_y, for_colours) = numbers.split_at_mut(parts.count(Component::Y) as usize);
+    let (for_c1, for_c2) = for_colours.split_at_mut(parts.count(Component::C1) as usize);
+    copy_slice(parts, Component::Y, y, for_y);
+    copy_slice(parts, Component::C1, c1, for_c1);
+    copy_slice(parts, Component::C2, c2, for_c2);
 }
 
 // The same, however wide they are.
 fn gather_any(
     alloc: Global,
-    plan: &Plan,
+    parts: &SliceParts,
     grids: &PictureGrids,
-    slice: u32,
 ) -> Result<SliceCoeffs, NoMemory>
-    requires slice { slice < slice_count (parameters_of plan.now) }
-    requires grids { AreGrids (parameters_of plan.now) grids.now }
-    ensures { IfOk result
-        (λ coeffs. coeffs ≡ slice_in_grids (parameters_of plan.now) grids.now slice) }
+    requires { AreGrids parts.now grids.now }
+    ensures { IfOk result (λ coeffs. coeffs ≡ slice_in_grids parts.now grids.now) }
 {
-    let y = gather_component(alloc, plan, Component::Y, &grids.y, slice)?;
-    let c1 = gather_component(alloc, plan, Component::C1, &grids.c1, slice)?;
-    let c2 = gather_component(alloc, plan, Component::C2, &grids.c2, slice)?;
+    let y = gather_component(alloc, parts, Component::Y, &grids.y)?;
+    let c1 = gather_component(alloc, parts, Component::C1, &grids.c1)?;
+    let c2 = gather_component(alloc, parts, Component::C2, &grids.c2)?;
     let coeffs = SliceCoeffs::joined(alloc, &y, &c1, &c2)?;
     Ok(coeffs)
 }
@@ -164,38 +107,32 @@ fn gather_any(
 #[tactic(auto, unfolding(crate::specs::Grids::cells_of))]
 fn gather_component(
     alloc: Global,
-    plan: &Plan,
+    parts: &SliceParts,
     c: Component,
     grid: &ComponentGrid,
-    slice: u32,
 ) -> Result<Vec<i64>, NoMemory>
-    requires slice { slice < slice_count (parameters_of plan.now) }
-    requires grid { IsGrid (parameters_of plan.now) c grid.now }
+    requires { IsGrid parts.now c grid.now }
     ensures { IfOk result (λ coeffs. coeffs.items
-        ≡ numbers_in_slice (parameters_of plan.now) c
-        (cells_of (parameters_of plan.now) c grid.now) slice) }
+        ≡ numbers_in parts.now c (cells_of (parameters_of parts.now.plan) c grid.now)) }
 {
     match grid {
-        ComponentGrid::Narrow(cells) => gather_widened(alloc, plan, c, cells, slice),
-        ComponentGrid::Wide(grid) => gather_wide(alloc, plan, c, grid, slice),
+        ComponentGrid::Narrow(cells) => gather_widened(alloc, parts, c, cells),
+        ComponentGrid::Wide(grid) => gather_wide(alloc, parts, c, grid),
     }
 }
 
 fn gather_wide(
     alloc: Global,
-    plan: &Plan,
+    parts: &SliceParts,
     c: Component,
     grid: &Grid,
-    slice: u32,
 ) -> Result<Vec<i64>, NoMemory>
-    requires slice { slice < slice_count (parameters_of plan.now) }
-    requires grid { IsWideGrid (parameters_of plan.now) c grid.now }
-    ensures { IfOk result (λ coeffs. coeffs.items
-        ≡ numbers_in_slice (parameters_of plan.now) c (cell_at grid.now) slice) }
+    requires { IsWideGrid parts.now c grid.now }
+    ensures { IfOk result (λ coeffs. coeffs.items ≡ numbers_in parts.now c (cell_at grid.now)) }
 {
-    let mut coeffs = Vec::with_capacity(alloc, slice_len(plan, c, slice) as usize)?;
-    for b in 0..bands(plan) {
-        push_rect(&mut coeffs, grid, &slice_rect(plan, c, b, slice))?;
+    let mut coeffs = Vec::with_capacity(alloc, parts.count(c) as usize)?;
+    for b in 0..band_count(&parts.plan) {
+        push_rect(&mut coeffs, grid, &parts.rect(c, b))?;
     }
     Ok(coeffs)
 }
@@ -230,19 +167,15 @@ fn push_row(coeffs: &mut Vec<i64>, cells: &[i128]) -> Result<(), NoMemory>
 
 fn gather_widened(
     alloc: Global,
-    plan: &Plan,
+    parts: &SliceParts,
     c: Component,
     cells: &[i32],
-    slice: u32,
 ) -> Result<Vec<i64>, NoMemory>
-    requires slice { slice < slice_count (parameters_of plan.now) }
-    requires grid { IsNarrowGrid (parameters_of plan.now) c cells.now }
-    ensures { IfOk result
-        (λ coeffs. coeffs.items ≡ narrow_numbers (parameters_of plan.now) c cells.now slice) }
+    requires { IsNarrowGrid parts.now c cells.now }
+    ensures { IfOk result (λ coeffs. coeffs.items ≡ narrow_numbers parts.now c cells.now) }
 {
-    let part = part_of(plan, c, slice);
-    let mut numbers = vec![in alloc; 0i32; part.count]?;
-    copy_slice(plan, c, cells, slice, &part.rects, &mut numbers);
+    let mut numbers = vec![in alloc; 0i32; parts.count(c) as usize]?;
+    copy_slice(parts, c, cells, &mut numbers);
     widened(alloc, &numbers)
 }
 
@@ -256,117 +189,57 @@ fn widened(alloc: Global, numbers: &[i32]) -> Result<Vec<i64>, NoMemory>
     Ok(wide)
 }
 
-// The part of subband number `b` that belongs to a slice.
-#[inline(always)]
-fn rect_at(plan: &Plan, c: Component, slice: u32, rects: &[Rect], b: u32) -> Rect
-    requires number { b < subband_count plan.now.depth_ho plan.now.depth }
-    requires rects { AreSliceRectangles (parameters_of plan.now) c slice rects.now }
-    requires all { subband_count plan.now.depth_ho plan.now.depth ≤ length rects.now }
-    ensures value { result ≡ slice_rectangle (parameters_of plan.now) c
-        (subband_at plan.now.depth_ho plan.now.depth b) slice }
-    ensures right { result.x + result.width ≤ padded_width (parameters_of plan.now) c }
-    ensures bottom { result.y + result.height ≤ padded_height (parameters_of plan.now) c }
-    ensures range { (result.x + result.width ≤ 8192) × (result.y + result.height ≤ 8192) }
-{
-    rects[b as usize]
-}
-
-// How many coefficients a slice has in its rectangles.
-fn count(plan: &Plan, c: Component, slice: u32, rects: &[Rect]) -> usize
-    requires slice { slice < slice_count (parameters_of plan.now) }
-    requires rects { AreSliceRectangles (parameters_of plan.now) c slice rects.now }
-    requires all { subband_count plan.now.depth_ho plan.now.depth ≤ length rects.now }
-    ensures value { result ≡ slice_coefficient_count (parameters_of plan.now) c slice }
-    ensures range { result ≤ 2 ^ 30 }
-{
-    let mut len = 0;
-    for b in 0..bands(plan) {
-        let rect = rect_at(plan, c, slice, rects, b);
-        len += rect.width as usize * rect.height as usize;
-    }
-    len
-}
-
 // Copies the numbers of a slice, rectangle by rectangle.
-fn copy_slice(
-    plan: &Plan,
-    c: Component,
-    cells: &[i32],
-    slice: u32,
-    rects: &[Rect],
-    coeffs: &mut [i32],
-)
-    requires slice { slice < slice_count (parameters_of plan.now) }
-    requires grid { IsNarrowGrid (parameters_of plan.now) c cells.now }
-    requires rects { AreSliceRectangles (parameters_of plan.now) c slice rects.now }
-    requires all { subband_count plan.now.depth_ho plan.now.depth ≤ length rects.now }
-    requires coeffs { length coeffs.old ≡ slice_coefficient_count (parameters_of plan.now) c slice }
-    ensures { coeffs.new ≡ narrow_numbers (parameters_of plan.now) c cells.now slice }
+fn copy_slice(parts: &SliceParts, c: Component, cells: &[i32], coeffs: &mut [i32])
+    requires grid { IsNarrowGrid parts.now c cells.now }
+    requires coeffs { length coeffs.old ≡ coefficient_count parts.now c }
+    ensures { coeffs.new ≡ narrow_numbers parts.now c cells.now }
 {
-    let (width, _) = padded(plan, c);
-    let nesting = nesting_of(plan, c);
+    let (width, _) = padded(&parts.plan, c);
+    let nesting = nesting_of(&parts.plan, c);
     let mut from = 0;
-    for b in 0..bands(plan) {
-        let rect = rect_at(plan, c, slice, rects, b);
+    for b in 0..band_count(&parts.plan) {
+        let rect = parts.rect(c, b);
         let rows = rows_from(nesting, b, rect.y as usize);
-        copy_rect(coeffs, from, cells, width as usize, rows, &rect);
+        let source = SteppedRect {
+            cells,
+            stride: width as usize,
+            rows,
+            rect,
+        };
+        copy_rect(coeffs, from, &source);
         from += rect.width as usize * rect.height as usize;
     }
 }
 
-/// Copies the numbers of a rectangle, row by row, out of rows of cells.
-pub(crate) fn copy_rect(
-    coeffs: &mut [i32],
-    from: usize,
-    cells: &[i32],
-    stride: usize,
-    rows: SteppedRows,
-    rect: &Rect,
-)
-    requires some { 1 ≤ stride }
-    requires across { rect.now.x + rect.now.width ≤ stride }
-    requires down { (row : ℕ) → row < rect.now.height
-        → (rows.first + row * rows.step) * stride + stride ≤ length cells.now }
-    requires from { from + area rect.now ≤ length coeffs.old }
-    ensures on { (row x : ℕ) → row < rect.now.height → x < rect.now.width
-        → line_of coeffs.new (from + row * rect.now.width + x)
-        ≡ line_of cells.now ((rows.first + row * rows.step) * stride + rect.now.x + x) }
-    ensures off { (i : ℕ) → (i < from) ⊎ (from + area rect.now ≤ i)
-        → line_of coeffs.new i ≡ line_of coeffs.old i }
+// Copies the numbers of a rectangle, row by row, to those from one of them on.
+fn copy_rect(coeffs: &mut [i32], from: usize, source: &SteppedRect<'_>)
+    requires { from + area source.now.rect ≤ length coeffs.old }
+    ensures on { HasRows source.now from coeffs.new }
+    ensures off { KeepsOthers from (area source.now.rect) coeffs.old coeffs.new }
 {
     // Rows of these widths go over at once.
-    match rect.width {
-        1 => copy_rows(coeffs, from, cells, stride, rows, rect, 1),
-        2 => copy_rows(coeffs, from, cells, stride, rows, rect, 2),
-        4 => copy_rows(coeffs, from, cells, stride, rows, rect, 4),
-        8 => copy_rows(coeffs, from, cells, stride, rows, rect, 8),
-        16 => copy_rows(coeffs, from, cells, stride, rows, rect, 16),
-        width => copy_rows(coeffs, from, cells, stride, rows, rect, width as usize),
+    match source.rect.width {
+        1 => copy_rows(coeffs, from, source, 1),
+        2 => copy_rows(coeffs, from, source, 2),
+        4 => copy_rows(coeffs, from, source, 4),
+        8 => copy_rows(coeffs, from, source, 8),
+        16 => copy_rows(coeffs, from, source, 16),
+        width => copy_rows(coeffs, from, source, width as usize),
     }
 }
 
 #[inline(always)]
-fn copy_rows(
-    coeffs: &mut [i32],
-    from: usize,
-    cells: &[i32],
-    stride: usize,
-    rows: SteppedRows,
-    rect: &Rect,
-    width: usize,
-)
-    requires width { width ≡ rect.now.width }
-    requires some { 1 ≤ stride }
-    requires across { rect.now.x + rect.now.width ≤ stride }
-    requires down { (row : ℕ) → row < rect.now.height
-        → (rows.first + row * rows.step) * stride + stride ≤ length cells.now }
-    requires from { from + area rect.now ≤ length coeffs.old }
-    ensures on { (row x : ℕ) → row < rect.now.height → x < rect.now.width
-        → line_of coeffs.new (from + row * rect.now.width + x)
-        ≡ line_of cells.now ((rows.first + row * rows.step) * stride + rect.now.x + x) }
-    ensures off { (i : ℕ) → (i < from) ⊎ (from + area rect.now ≤ i)
-        → line_of coeffs.new i ≡ line_of coeffs.old i }
+fn copy_rows(coeffs: &mut [i32], from: usize, source: &SteppedRect<'_>, width: usize)
+    requires width { width ≡ source.now.rect.width }
+    requires from { from + area source.now.rect ≤ length coeffs.old }
+    ensures on { HasRows source.now from coeffs.new }
+    ensures off { KeepsOthers from (area source.now.rect) coeffs.old coeffs.new }
 {
+    let cells = source.cells;
+    let stride = source.stride;
+    let rows = source.rows;
+    let rect = source.rect;
     for row in 0..rect.height as usize {
         let at = (rows.first + row * rows.step) * stride + rect.x as usize;
         copy_row(coeffs, from + row * width, cells, at, width);
@@ -378,9 +251,8 @@ fn copy_rows(
 fn copy_row(coeffs: &mut [i32], at: usize, cells: &[i32], from: usize, width: usize)
     requires at { at + width ≤ length coeffs.old }
     requires from { from + width ≤ length cells.now }
-    ensures on { (x : ℕ) → x < width → line_of coeffs.new (at + x) ≡ line_of cells.now (from + x) }
-    ensures off { (i : ℕ) → (i < at) ⊎ (at + width ≤ i)
-        → line_of coeffs.new i ≡ line_of coeffs.old i }
+    ensures on { HasCopy width at coeffs.new from cells.now }
+    ensures off { KeepsOthers at width coeffs.old coeffs.new }
 {
     if width <= 16 {
         copy_few(coeffs, at, cells, from, width);
@@ -395,9 +267,8 @@ fn copy_few(coeffs: &mut [i32], at: usize, cells: &[i32], from: usize, width: us
     requires few { width ≤ 16 }
     requires at { at + width ≤ length coeffs.old }
     requires from { from + width ≤ length cells.now }
-    ensures on { (x : ℕ) → x < width → line_of coeffs.new (at + x) ≡ line_of cells.now (from + x) }
-    ensures off { (i : ℕ) → (i < at) ⊎ (at + width ≤ i)
-        → line_of coeffs.new i ≡ line_of coeffs.old i }
+    ensures on { HasCopy width at coeffs.new from cells.now }
+    ensures off { KeepsOthers at width coeffs.old coeffs.new }
 {
     let mut few = [0; 16];
     for x in 0..width {
@@ -411,9 +282,8 @@ fn copy_few(coeffs: &mut [i32], at: usize, cells: &[i32], from: usize, width: us
 fn copy_many(coeffs: &mut [i32], at: usize, cells: &[i32], from: usize, width: usize)
     requires at { at + width ≤ length coeffs.old }
     requires from { from + width ≤ length cells.now }
-    ensures on { (x : ℕ) → x < width → line_of coeffs.new (at + x) ≡ line_of cells.now (from + x) }
-    ensures off { (i : ℕ) → (i < at) ⊎ (at + width ≤ i)
-        → line_of coeffs.new i ≡ line_of coeffs.old i }
+    ensures on { HasCopy width at coeffs.new from cells.now }
+    ensures off { KeepsOthers at width coeffs.old coeffs.new }
 {
     for x in 0..width {
         coeffs[at + x] = cells[from + x];

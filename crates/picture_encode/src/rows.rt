@@ -1,8 +1,9 @@
-ghost use Rattle.std.specs.Prelude.{◌≡◌, ◌+◌, ◌-◌, ◌*◌, ◌^◌, ◌<◌, ◌≤◌};
+ghost use Rattle.std.specs.Prelude.{◌≡◌, ◌+◌, ◌-◌, ◌*◌, ◌^◌, ◌<◌, ◌≤◌, ℕ, length};
 ghost use Rattle.picture_encode.specs.Rows.{band_row, level_below};
 ghost use Rattle.vc_types.specs.Quantisation.{subband_count};
 ghost use Rattle.vc_types.specs.Transforms.{source_of};
 
+use vc_types::Rect;
 use vc_wave::Nesting;
 
 /// Rows of cells, each so many behind the one before.
@@ -10,6 +11,19 @@ use vc_wave::Nesting;
 pub(crate) struct SteppedRows {
     pub(crate) first: usize,
     pub(crate) step: usize,
+}
+
+/// A rectangle whose rows stand among rows of cells in steps.
+#[derive(Clone, Copy)]
+pub(crate) struct SteppedRect<'a> {
+    pub(crate) cells: &'a [i32],
+    pub(crate) stride: usize,
+    pub(crate) rows: SteppedRows,
+    pub(crate) rect: Rect,
+    pub(crate) ghost some: { 1 ≤ stride },
+    pub(crate) ghost across: { rect.x + rect.width ≤ stride },
+    pub(crate) ghost down: { (row : ℕ) → row < rect.height
+        → (rows.first + row * rows.step) * stride + stride ≤ length cells.now },
 }
 
 /// The rows of cells that hold the rows of subband number `b` from one of them on, in nested subbands that have no levels

@@ -1,14 +1,15 @@
 ghost use Rattle.std.specs.Prelude.{◌≡◌, ◌<◌, ◌≤◌, [], ◌∷◌, ◌++◌, IfOk, IfErr, OnOk};
-ghost use Rattle.link_model.specs.SendingPictures.{packed_bits, need_of, sent_coefficients, sent_parameters, told_lengths};
+ghost use Rattle.link_model.specs.SendingPictures.{packed_bits, need_of, sent_parameters, told_lengths};
 ghost use Rattle.picture_encode.specs.Choosing.{AnswersAtMost127, AnswersNeed};
 ghost use Rattle.picture_encode.specs.Encoded.{IsEncodedAt, RefusesAt, IsEncoded, IsRefusedSlice, AreFirstSlices, IsRefusedPicture};
-ghost use Rattle.picture_encode.specs.Grids.{AreGrids, HaveCoefficients};
+ghost use Rattle.picture_encode.specs.Grids.{HaveCoefficients};
+ghost use Rattle.picture_encode.specs.PartsInGrids.{AreGrids, AreOf};
 ghost use Rattle.picture_encode.specs.Refusals.{refusal_of};
 ghost use Rattle.picture_encode.specs.Shapes.{CanBeTransformed};
+ghost use Rattle.vc_slice.specs.Bands.{AreCoefficients};
 ghost use Rattle.vc_types.specs.Bits.{bits_of};
 ghost use Rattle.vc_types.specs.Planes.{Planes, planes_in};
 ghost use Rattle.vc_types.specs.SenderSettings.{sending_view};
-ghost use Rattle.vc_types.specs.SliceCoefficients.{AreSliceCoefficients};
 ghost use Rattle.vc_types.specs.Subbands.{slice_count};
 ghost use Rattle.vc_types.specs.TransformParameters.{parameters_of};
 
@@ -19,7 +20,7 @@ use crate::refusal::SliceRefusal;
 use crate::transform::Transform;
 use std::alloc::Global;
 use std::mem::replace;
-use vc_slice::{EncodeRefusal, SliceCoeffs, encode, encoded_lens};
+use vc_slice::{EncodeRefusal, SliceCoeffs, SliceParts, encode, encoded_lens};
 use vc_types::{NoMemory, Plan, Plane, SendSettings, SliceNeed};
 
 // The heads of the packet and of the payload in front of slices have so many bytes.
@@ -74,64 +75,65 @@ pub fn encode_picture<F: Fn(&SliceNeed) -> u8, T: Transform>(
     let count = plan.slices_x * plan.slices_y;
     let mut slices = Vec::with_capacity(alloc, count as usize)?;
     for slice in 0..count {
-        let encoded = encode_slice(alloc, s, plan, chooser, grids, slice)?;
+        let parts = SliceParts::new(plan, slice);
+        let sent = SentSlice { s, parts };
+        let encoded = encode_slice(alloc, &sent, chooser, grids)?;
         push(&mut slices, encoded)?;
     }
     Ok(slices)
 }
 
+/// A slice of a picture that is sent: by these settings, in the plan that they make.
+#[derive(Clone, Copy)]
+struct SentSlice<'a> {
+    s: &'a SendSettings,
+    parts: SliceParts,
+    ghost sent: { parameters_of parts.plan ≡ sent_parameters (sending_view s.now) },
+}
+
 fn encode_slice<F: Fn(&SliceNeed) -> u8>(
     alloc: Global,
-    s: &SendSettings,
-    plan: &Plan,
+    sent: &SentSlice<'_>,
     chooser: &Chooser<F>,
     grids: &PictureGrids,
-    slice: u32,
 ) -> Result<EncodedSlice, SliceRefusal>
     requires callable { F.IsAlwaysCallable chooser.now.choose }
     requires range { AnswersAtMost127 F.Fn chooser.now.choose }
-    requires plan { parameters_of plan.now ≡ sent_parameters (sending_view s.now) }
-    requires slice { slice < slice_count (parameters_of plan.now) }
-    requires grids { AreGrids (parameters_of plan.now) grids.now }
+    requires grids { AreGrids sent.now.parts grids.now }
     ensures encoded { IfOk result (λ e. (planes : Planes)
-        → HaveCoefficients (parameters_of plan.now) planes grids.now
+        → HaveCoefficients (parameters_of sent.now.parts.plan) planes grids.now
         → IsEncoded (AnswersNeed F.Fn chooser.now.choose) chooser.now.wants_lens
-        (sending_view s.now) planes slice e) }
+        (sending_view sent.now.s.now) planes sent.now.parts.slice e) }
     ensures refused { IfErr result (λ e. (planes : Planes)
-        → HaveCoefficients (parameters_of plan.now) planes grids.now
+        → HaveCoefficients (parameters_of sent.now.parts.plan) planes grids.now
         → IsRefusedSlice (AnswersNeed F.Fn chooser.now.choose) chooser.now.wants_lens
-        (sending_view s.now) planes slice e) }
+        (sending_view sent.now.s.now) planes sent.now.parts.slice e) }
 {
-    let coeffs = gather(alloc, plan, grids, slice)?;
-    let index = choose(alloc, s, plan, chooser, slice, &coeffs)?;
-    let bytes = encode_at(alloc, s, plan, slice, &coeffs, index)?;
+    let coeffs = gather(alloc, &sent.parts, grids)?;
+    let index = choose(alloc, sent, chooser, &coeffs)?;
+    let bytes = encode_at(alloc, sent, &coeffs, index)?;
     Ok(EncodedSlice { index, bytes })
 }
 
 // The index of a slice.
 fn choose<F: Fn(&SliceNeed) -> u8>(
     alloc: Global,
-    s: &SendSettings,
-    plan: &Plan,
+    sent: &SentSlice<'_>,
     chooser: &Chooser<F>,
-    slice: u32,
     coeffs: &SliceCoeffs,
 ) -> Result<u8, NoMemory>
     requires callable { F.IsAlwaysCallable chooser.now.choose }
     requires range { AnswersAtMost127 F.Fn chooser.now.choose }
-    requires plan { parameters_of plan.now ≡ sent_parameters (sending_view s.now) }
-    requires slice { slice < slice_count (parameters_of plan.now) }
-    requires coefficients { AreSliceCoefficients (parameters_of plan.now) slice coeffs.now }
-    ensures answer { IfOk result (λ index. (planes : Planes)
-        → coeffs.now ≡ sent_coefficients (parameters_of plan.now) planes slice
-        → AnswersNeed F.Fn chooser.now.choose
-        (need_of (sending_view s.now) chooser.now.wants_lens planes slice) index) }
+    requires coefficients { AreCoefficients sent.now.parts coeffs.now }
+    ensures answer { IfOk result (λ index. (planes : Planes) → AreOf planes sent.now.parts coeffs.now
+        → AnswersNeed F.Fn chooser.now.choose (need_of (sending_view sent.now.s.now)
+        chooser.now.wants_lens planes sent.now.parts.slice) index) }
     ensures range { IfOk result (λ index. index ≤ 127) }
 {
     let need = SliceNeed {
-        index: slice,
-        room: s.size - HEADS,
-        lens: told_lens(alloc, chooser.wants_lens, plan, slice, coeffs)?,
+        index: sent.parts.slice,
+        room: sent.s.size - HEADS,
+        lens: told_lens(alloc, chooser.wants_lens, &sent.parts, coeffs)?,
     };
     Ok(chooser.index(&need))
 }
@@ -140,18 +142,15 @@ fn choose<F: Fn(&SliceNeed) -> u8>(
 fn told_lens(
     alloc: Global,
     wanted: bool,
-    plan: &Plan,
-    slice: u32,
+    parts: &SliceParts,
     coeffs: &SliceCoeffs,
 ) -> Result<Vec<u64>, NoMemory>
-    requires slice { slice < slice_count (parameters_of plan.now) }
-    requires coefficients { AreSliceCoefficients (parameters_of plan.now) slice coeffs.now }
-    ensures { IfOk result (λ lens. (planes : Planes)
-        → coeffs.now ≡ sent_coefficients (parameters_of plan.now) planes slice
-        → lens.items ≡ told_lengths wanted (parameters_of plan.now) planes slice) }
+    requires coefficients { AreCoefficients parts.now coeffs.now }
+    ensures { IfOk result (λ lens. (planes : Planes) → AreOf planes parts.now coeffs.now
+        → lens.items ≡ told_lengths wanted (parameters_of parts.now.plan) planes parts.now.slice) }
 {
     if wanted {
-        encoded_lens(alloc, plan, slice, coeffs)
+        encoded_lens(alloc, &parts.plan, parts.slice, coeffs)
     } else {
         Ok(Vec::new(alloc))
     }
@@ -161,25 +160,20 @@ fn told_lens(
 // datagram.
 fn encode_at(
     alloc: Global,
-    s: &SendSettings,
-    plan: &Plan,
-    slice: u32,
+    sent: &SentSlice<'_>,
     coeffs: &SliceCoeffs,
     index: u8,
 ) -> Result<Vec<u8>, SliceRefusal>
-    requires plan { parameters_of plan.now ≡ sent_parameters (sending_view s.now) }
-    requires slice { slice < slice_count (parameters_of plan.now) }
-    requires coefficients { AreSliceCoefficients (parameters_of plan.now) slice coeffs.now }
+    requires coefficients { AreCoefficients sent.now.parts coeffs.now }
     requires index { index ≤ 127 }
-    ensures encoded { IfOk result (λ bytes. (planes : Planes)
-        → coeffs.now ≡ sent_coefficients (parameters_of plan.now) planes slice
-        → IsEncodedAt (sending_view s.now) planes slice index bytes.items) }
-    ensures refused { IfErr result (λ e. (planes : Planes)
-        → coeffs.now ≡ sent_coefficients (parameters_of plan.now) planes slice
-        → RefusesAt (sending_view s.now) planes slice index e) }
+    ensures encoded { IfOk result (λ bytes. (planes : Planes) → AreOf planes sent.now.parts coeffs.now
+        → IsEncodedAt (sending_view sent.now.s.now) planes sent.now.parts.slice index bytes.items) }
+    ensures refused { IfErr result (λ e. (planes : Planes) → AreOf planes sent.now.parts coeffs.now
+        → RefusesAt (sending_view sent.now.s.now) planes sent.now.parts.slice index e) }
 {
-    match encode(alloc, plan, slice, coeffs, index) {
-        Ok(bytes) if bytes.len() <= (s.size - HEADS) as usize => {
+    let slice = sent.parts.slice;
+    match encode(alloc, &sent.parts.plan, slice, coeffs, index) {
+        Ok(bytes) if bytes.len() <= (sent.s.size - HEADS) as usize => {
             bits_are_packed(&bytes);
             Ok(bytes)
         }

@@ -9,6 +9,6 @@ use Rattle.picture_encode.proofs.gathering.copy_slice.Given as goal
 
 abbrev pub invariant-loop-b : goal.invariant-loop-b
 invariant-loop-b l = record {
-  from : l.from ≡ coefficients_before (parameters_of l.plan) l.c l.slice l.b;
-  copied : (i : ℕ) → i < l.from → line_of l.coeffs i ≡ number_in (nested_in (parameters_of l.plan) l.c (padded_width (parameters_of l.plan) l.c) l.cells) (coefficient_place (parameters_of l.plan) l.c l.slice i);
+  from : l.from ≡ coefficients_before (parameters_of l.parts.plan) l.c l.parts.slice l.b;
+  copied : (i : ℕ) → i < l.from → line_of l.coeffs i ≡ number_in (nested_in (parameters_of l.parts.plan) l.c (padded_width (parameters_of l.parts.plan) l.c) l.cells) (coefficient_place (parameters_of l.parts.plan) l.c l.parts.slice i);
 }

@@ -9,15 +9,15 @@ use Rattle.picture_encode.proofs.gathering.gather_narrow.Goals as goal
 
 pub returns : goal.returns
 returns c =
-    let p = parameters_of c.args.plan.now in
-    let slice = c.args.slice in
-    let y = c.part_of-luma.ensures.count in
-    let colour = c.part_of-colour.ensures.count in
+    let p = parameters_of c.args.parts.now.plan in
+    let slice = c.args.parts.now.slice in
+    let of_y = c.count-of_y.ensures in
+    let of_c = c.count-of_c.ensures in
     let numbers = c.copy_components.new.numbers in
     let same = written_over c.in_ok-numbers.numbers.len numbers (drop (length numbers) c.in_ok-numbers.numbers.items) (omega arith) in
     c.narrow.ensures
-    ∙ three_are c.part_of-luma.result.count c.part_of-colour.result.count (narrow_numbers p Y c.args.y.now slice) (narrow_numbers p C1 c.args.c1.now slice) (narrow_numbers p C2 c.args.c2.now slice)
-    (length-narrow p Y c.args.y.now slice ∙ sym y)
-    (length-narrow p C1 c.args.c1.now slice ∙ sym colour)
-    (length-narrow p C2 c.args.c2.now slice ∙ colour_counts p slice ∙ sym colour)
+    ∙ three_are c.count-of_y.result c.count-of_c.result (narrow_numbers p Y c.args.y.now slice) (narrow_numbers p C1 c.args.c1.now slice) (narrow_numbers p C2 c.args.c2.now slice)
+    (length-narrow p Y c.args.y.now slice ∙ sym of_y)
+    (length-narrow p C1 c.args.c1.now slice ∙ sym of_c)
+    (length-narrow p C2 c.args.c2.now slice ∙ colour_counts p slice ∙ sym of_c)
     _ (same ∙ c.copy_components.ensures)

@@ -6,7 +6,7 @@ use Rattle.picture_encode.proofs.slices.choose.Goals as goal
 
 pub returns-clause-answer : goal.returns-clause-answer
 returns-clause-answer g c = λ planes same. (
-  record { index = c.args.slice; room = c.args.s.now.size - 32; lens = c.in_ok-told_lens.field-0 },
-  told_need (sending_view c.args.s.now) c.args.chooser.now.wants_lens planes c.args.slice (parameters_of c.args.plan.now) c.in_ok-told_lens.field-0.items c.requires.plan (c.in_ok-told_lens.ensures planes same),
+  record { index = c.args.sent.now.parts.slice; room = c.args.sent.now.s.now.size - 32; lens = c.in_ok-told_lens.field-0 },
+  told_need (sending_view c.args.sent.now.s.now) c.args.chooser.now.wants_lens planes c.args.sent.now.parts.slice (parameters_of c.args.sent.now.parts.plan) c.in_ok-told_lens.field-0.items c.args.sent.now.sent (c.in_ok-told_lens.ensures planes same),
   c.index.ensures.answer,
 )

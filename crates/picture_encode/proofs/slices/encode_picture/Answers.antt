@@ -31,7 +31,7 @@ returns-in_err-encoded-clause-refused g c =
     let counts : slice_count (parameters_of c.args.plan.now) ≡ slice_count (sent_parameters s) = ap (λ (p : Parameters). slice_count p) c.requires.plan in
     let below : c.loop-slice.slice < slice_count (sent_parameters s) = omega (arith, counts) in
     let same : c.from_residual-in_err-encoded.result ≡ Err e = search rules in
-    rw same (one_refused (AnswersNeed g.F.Fn c.args.chooser.now.choose) c.args.chooser.now.wants_lens s planes c.loop-slice.slice c.loop-slice.slices.items c.loop-slice.invariant e below (c.in_err-encoded.ensures.refused planes c.in_ok-grids.ensures))
+    rw same (one_refused (AnswersNeed g.F.Fn c.args.chooser.now.choose) c.args.chooser.now.wants_lens s planes c.loop-slice.slice c.loop-slice.slices.items c.loop-slice.invariant e below (rw c.new-parts.ensures.slice at (c.in_err-encoded.ensures.refused planes (rw c.new-parts.ensures.plan c.in_ok-grids.ensures))))
 
 pub returns-in_err-push-clause-refused : goal.returns-in_err-push-clause-refused
 returns-in_err-push-clause-refused g c =
@@ -41,7 +41,7 @@ returns-in_err-push-clause-refused g c =
 pub loop-slice-preserved : goal.loop-slice-preserved
 loop-slice-preserved g c =
     let planes = planes_in c.args.planes.now in
-    one_more (AnswersNeed g.F.Fn c.args.chooser.now.choose) c.args.chooser.now.wants_lens (sending_view c.args.s.now) planes c.loop-slice.slice c.loop-slice.slices.items c.loop-slice.invariant c.in_ok-encoded.encoded c.push.new.slices.items c.in_ok-push.ensures (c.in_ok-encoded.ensures.encoded planes c.in_ok-grids.ensures)
+    one_more (AnswersNeed g.F.Fn c.args.chooser.now.choose) c.args.chooser.now.wants_lens (sending_view c.args.s.now) planes c.loop-slice.slice c.loop-slice.slices.items c.loop-slice.invariant c.in_ok-encoded.encoded c.push.new.slices.items c.in_ok-push.ensures (rw c.new-parts.ensures.slice at (c.in_ok-encoded.ensures.encoded planes (rw c.new-parts.ensures.plan c.in_ok-grids.ensures)))
 
 pub returns-clause-encoded : goal.returns-clause-encoded
 returns-clause-encoded g c =
