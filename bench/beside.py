@@ -1,4 +1,4 @@
-"""A program beside another one on the same work: times taken in turn, and instructions. For bench/play and bench/encode.
+"""A program beside another one on the same work: times taken in turn, instructions, and the files that they read.
 
 A work is a pair: the words of a command, and the file that it reads from standard input, or None. The machine's speed may
 change while it is measured, so the programs run in turn, and the ratio of each turn is taken before the median is.
@@ -11,6 +11,25 @@ import subprocess
 import sys
 import tempfile
 import time
+from pathlib import Path
+
+sys.path.append(str(Path(__file__).resolve().parent.parent / "crosscheck"))
+import common  # noqa: E402
+
+
+def write_apart(write, path, *more):
+    """Writes a file in a process of its own. A program counts the memory of the process that started it as its own up to when
+    it begins, so this one has to stay small."""
+    child = os.fork()
+    if child == 0:
+        try:
+            write(path, *more)
+            os._exit(0)
+        except BaseException as error:
+            print(f"{common.NAME}: {error}", file=sys.stderr, flush=True)
+            os._exit(1)
+    if os.waitpid(child, 0)[1] != 0:
+        common.fail(f"cannot write {path}")
 
 
 class Run:
@@ -29,12 +48,11 @@ class Run:
             self.said = report.read().decode(errors="replace")
         self.processors, self.peak = used.ru_utime + used.ru_stime, used.ru_maxrss
         if child.returncode != 0:
-            name = os.path.basename(sys.argv[0])
-            sys.exit(f"bench/{name}: {' '.join(words)} ended with status {child.returncode} and said: {self.said.strip()}")
+            common.fail(f"{' '.join(words)} ended with status {child.returncode} and said: {self.said.strip()}")
 
 
 class Turns:
-    """What each picture behind the first costs, in seconds: a list of turns for each program. A program is two works, of
+    """What each picture after the first costs, in seconds: a list of turns for each program. A program is two works, of
     one picture and of so many more."""
 
     def __init__(self, programs, pictures, runs):

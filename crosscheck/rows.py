@@ -1,23 +1,14 @@
-#!/usr/bin/env python3
-"""Runs the built program on worked rows, and compares its status, its output and its report.
+"""Rows for crosscheck/program and crosscheck/memory: the words, the input in hexadecimal, and the status, output and report that
+the formats of docs/FORMATS.md ask for."""
 
-    bench/program crates/vc2link/out/vc2link
+from receiver import LINES
 
-No contract speaks of `main`: which stream is the input, the output and the report, that its words are those behind the
-program's name, and that the process ends with the status. A wrong one is seen here and nowhere else. Each row has the
-words, the input in hexadecimal, and the status, output and report that the formats in docs/FORMATS.md ask for. The
-program is built by the first `rt run` in crates/vc2link. The rows of `loop` are run over 127.0.0.1, at a port that is free.
-"""
-
-import socket
-import subprocess
-import sys
-
-# Datagrams behind their lengths: a sequence header of 8 by 4 samples, transform parameters, and two empty slices.
+# Datagrams after their lengths: a sequence header of 8 by 4 samples, transform parameters, and two empty slices.
 HEADER = "0015 8060 0000 00000000 00000001 00000000 70F063C080"
 PARAMETERS = "001F 8060 0001 00000000 00000001 000000EC 00000000 00000001 0003 0000 096640"
 SLICES = "0028 8060 0002 00000000 00000001 000000EC 00000000 00000001 0008 0002 0000 0000 0000000000000000"
 CAPTURE = HEADER + PARAMETERS + SLICES
+
 
 def picture(number, coded):
     """The datagrams of one more picture of two slices: transform parameters, and the slices."""
@@ -58,15 +49,10 @@ GREY = bytes([0x80]) * 96
 WOVEN = bytes(0x71 if place in (8, 9, 24, 25) else 0x80 for place in range(96))
 PLAYED = "pictures 1\nunpaired 0\nframes 1\n"
 
-# The lines of a tally, in their order.
-COUNTS = """datagrams rtp-short rtp-version rtp-shape payload-short payload-code payload-fragment foreign header-new header-same
-header-other header-bad end skipped late params-kept params-repeat params-conflict params-bad slices-kept slices-repeat
-slices-conflict slices-pending slices-full slices-form slices-place slices-cut incomplete unsound unpaired frames""".split()
-
 
 def tally(**counts):
     """The lines of a tally: these counts, and 0 for each other one."""
-    return "".join(f"{name} {counts.get(name.replace('-', '_'), 0)}\n" for name in COUNTS)
+    return "".join(f"{name} {counts.get(name.replace('-', '_'), 0)}\n" for name in LINES)
 
 
 ONE_PICTURE = tally(datagrams=3, header_new=1, params_kept=1, slices_kept=1, frames=1)
@@ -108,47 +94,3 @@ ROWS = [
     ("decode --window 4 --window 4", "", 2, b"", "usage at 3\n"),
     ("encode --width 8", "", 2, b"", "usage at 3\n"),
 ]
-
-
-def free_address():
-    """An address of this machine at which nothing listens."""
-    with socket.socket(socket.AF_INET, socket.SOCK_DGRAM) as taken:
-        taken.bind(("127.0.0.1", 0))
-        return f"127.0.0.1:{taken.getsockname()[1]}"
-
-
-def network_rows():
-    words = f"loop --at {free_address()} {CODING}"
-    return [
-        (words, FRAME, 0, bytes.fromhex(FRAME), "frames 1\ndatagrams 4\nbytes 106\n" + SENT_FRAME),
-        (words + " --workers 0", "", 0, b"", "frames 0\ndatagrams 1\nbytes 16\n" + tally(datagrams=1, foreign=1)),
-        (words, FRAME[:-2], 10, b"", "raw cut at frame 0\n"),
-        (words + " --frames 1", FRAME + FRAME, 14, bytes.fromhex(FRAME), "frame limit 1\n"),
-        ("loop --at nowhere " + CODING, FRAME, 6, b"", "wire failed\n"),
-    ]
-
-
-def differs(program, row):
-    words, given, status, output, report = row
-    ran = subprocess.run([program, *words.split()], input=bytes.fromhex(given), capture_output=True, timeout=60)
-    found = (ran.returncode, ran.stdout, ran.stderr.decode(errors="replace"))
-    wanted = (status, output, report)
-    return [f"  {name}: {a!r} in place of {b!r}" for name, a, b in zip(("status", "output", "report"), found, wanted) if a != b]
-
-
-def main():
-    if len(sys.argv) != 2 or sys.argv[1].startswith("-"):
-        sys.exit(__doc__)
-    bad = 0
-    rows = ROWS + network_rows()
-    for row in rows:
-        lines = differs(sys.argv[1], row)
-        if lines:
-            bad += 1
-            print(f"vc2link {row[0]}", *lines, sep="\n")
-    print(f"{len(rows) - bad} rows as wanted, {bad} not")
-    sys.exit(1 if bad else 0)
-
-
-if __name__ == "__main__":
-    main()
