@@ -1,13 +1,13 @@
 -- A sequence header is read as it is spelled, and each part of it.
-use Rattle.std.proofs.Common.{◌≡◌, ℕ, zero, suc, lit≤, ◌-◌, ◌^◌, ◌<◌, ◌≤◌, ◌⊎◌, inl, inr, Bool, true, false, cond, eqb, leb, List, ◌++◌, Option, Some, None, Result, Ok, refl, sym, ap, subst, ◌∙◌, append_assoc, arith}
-use Rattle.std.specs.Prelude.{IsTrue, IfSome, unwrap_or, ◌||◌}
-use Rattle.std.proofs.lemmas.Bool.{leb-true, le-leb, eqb-true}
+use Rattle.std.proofs.Common.{◌≡◌, ℕ, zero, suc, lit≤, ◌-◌, ◌^◌, ◌<◌, ◌≤◌, Bool, true, false, cond, eqb, leb, List, ◌++◌, Option, Some, None, Result, Ok, refl, sym, ap, subst, ◌∙◌, append_assoc, arith}
+use Rattle.std.specs.Prelude.{IsTrue, IfSome, unwrap_or}
+use Rattle.std.proofs.lemmas.Bool.{leb-true, le-leb, eqb-true, eq-eqb}
 use Rattle.std.proofs.lemmas.Bool.Decides.{nat_tests}
 use Rattle.vc_types.specs.Bits.{digit_of}
 use Rattle.vc_types.specs.Codes.{uint_bits}
 use Rattle.vc_types.specs.Fields.{Field, ◌>>=◌, give, flagged_bits, flagged_value, pair_bits, IsCodec, and_then}
-use Rattle.vc_types.specs.HeaderSpelling.{Choice, Preset, Custom, choice_bits, sampling_index, CleanArea, area_bits, range_bits, Colour, colour_bits, HeaderSpelling, header_bits, chosen_range, spelled_header, IsNumber, IsChoice, ArePair, IsArea, IsRange, IsColour, IsHeader}
-use Rattle.vc_types.specs.SequenceHeader.{HeaderField, header_number, index, part, major_version, profile, base_video_format, frame_size, sampling_by_index, colour_difference_sampling, scan_format, ratio, clean_area, excursion, custom_signal_range, signal_range_of, colour_part, colour_specification, picture_coding_mode, sequence_header}
+use Rattle.vc_types.specs.HeaderSpelling.{Choice, Preset, Custom, choice_bits, sampling_index, CleanArea, area_bits, range_bits, Colour, colour_bits, HeaderSpelling, header_bits_of, header_bits, chosen_range, spelled_header, IsNumber, IsChoice, ArePair, IsArea, IsRange, IsColour, IsHeaderOf, IsHeader}
+use Rattle.vc_types.specs.SequenceHeader.{HeaderField, header_number, index, part, is_version_of, major_version, profile, base_video_format, frame_size, sampling_by_index, colour_difference_sampling, scan_format, ratio, clean_area, excursion, custom_signal_range, signal_range_of, colour_part, colour_specification, picture_coding_mode, sequence_header_of, sequence_header}
 use Rattle.vc_types.specs.Video.{BaseFormat, format_of, range_of, signal_range, excursion_fits, dimensions_fit}
 use Rattle.vc_types.specs.declared.refusal.HeaderRefusal.{HeaderRefusal}
 use Rattle.vc_types.specs.declared.refusal.HeaderRefusal.TheVariants as refusals
@@ -28,29 +28,24 @@ index_is limit refusal small = retold uint_bits (λ n. n) (λ n. n ≤ limit) (�
     (λ n ok. ((omega arith, le-leb n limit ok), refl, refl))
     (tested_codec (λ n. leb n limit) refusal number_is)
 
-is_version : (n : ℕ) → IsTrue (eqb n 2 || eqb n 3) → (n ≡ 2) ⊎ (n ≡ 3)
-is_version n h = grind (arith, nat_tests)
+version_is_number : (p n : ℕ) → IsTrue (is_version_of p n) → IsNumber n
+version_is_number p n h = grind (arith, nat_tests)
 
-version_passes : (n : ℕ) → (n ≡ 2) ⊎ (n ≡ 3) → IsTrue (eqb n 2 || eqb n 3)
-version_passes n h = grind (arith, nat_tests)
-
-version_is_number : (n : ℕ) → (n ≡ 2) ⊎ (n ≡ 3) → IsNumber n
-version_is_number n (inl e) = omega arith
-version_is_number n (inr e) = omega arith
-
-major_is : IsCodec major_version uint_bits (λ n. n) (λ n. (n ≡ 2) ⊎ (n ≡ 3))
+major_is : (p : ℕ) → IsCodec (major_version p) uint_bits (λ n. n) (λ n. IsTrue (is_version_of p n))
 unfolding major_version
-major_is = retold uint_bits (λ n. n) (λ n. (n ≡ 2) ⊎ (n ≡ 3)) (λ (n : ℕ). n) (λ (n : ℕ). n)
-    (λ n ok. (is_version n ok.1, refl, refl))
-    (λ n ok. ((version_is_number n ok, version_passes n ok), refl, refl))
-    (tested_codec (λ n. eqb n 2 || eqb n 3) refusals.Version number_is)
+major_is p = retold uint_bits (λ n. n) (λ n. IsTrue (is_version_of p n)) (λ (n : ℕ). n) (λ (n : ℕ). n)
+    (λ n ok. (ok.1, refl, refl))
+    (λ n ok. ((version_is_number p n ok, ok), refl, refl))
+    (tested_codec (λ n. is_version_of p n) refusals.Version number_is)
 
-profile_is : IsCodec profile (λ (a : Unit {0}). uint_bits 3) (λ a. 3) (λ a. Unit {0})
+profile_is : (p : ℕ) → IsNumber p
+    → IsCodec (profile p) (λ (a : Unit {0}). uint_bits p) (λ a. p) (λ a. Unit {0})
 unfolding profile
-profile_is = retold (λ (a : Unit {0}). uint_bits 3) (λ a. 3) (λ a. Unit {0}) (λ (n : ℕ). tt) (λ (a : Unit {0}). 3)
-    (λ n ok. (tt, sym (eqb-true n 3 ok.1), ap uint_bits (eqb-true n 3 ok.1)))
-    (λ a ok. ((lit≤ tt, refl), refl, refl))
-    (tested_codec (λ n. eqb n 3) refusals.Profile number_is)
+profile_is p number = retold (λ (a : Unit {0}). uint_bits p) (λ a. p) (λ a. Unit {0})
+    (λ (n : ℕ). tt) (λ (a : Unit {0}). p)
+    (λ n ok. (tt, sym (eqb-true n p ok.1), ap uint_bits (eqb-true n p ok.1)))
+    (λ a ok. ((number, eq-eqb p p refl), refl, refl))
+    (tested_codec (λ n. eqb n p) refusals.Profile number_is)
 
 base_is : IsCodec base_video_format uint_bits (λ n. n) (λ n. n ≤ 16)
 unfolding base_video_format
@@ -233,14 +228,15 @@ anything None = tt
 anything (Some x) = tt
 
 -- What is read is spelled so, and what is spelled so is read, whatever follows.
-pub header_is : IsCodec sequence_header header_bits spelled_header IsHeader
-unfolding sequence_header
-header_is = retold header_bits spelled_header IsHeader parts_told parts_of
+pub header_is_of : (p : ℕ) → IsNumber p
+    → IsCodec (sequence_header_of p) (header_bits_of p) spelled_header (IsHeaderOf p)
+unfolding sequence_header_of
+header_is_of p number = retold (header_bits_of p) spelled_header (IsHeaderOf p) parts_told parts_of
     (λ a ok. (record { major = ok.0; minor = ok.1.0; level = ok.1.1.1.0; base = ok.1.1.1.1.0; size = ok.1.1.1.1.1.0; frame_rate = ok.1.1.1.1.1.1.1.1.0; aspect_ratio = ok.1.1.1.1.1.1.1.1.1.0; clean_area = ok.1.1.1.1.1.1.1.1.1.1.0; range = ok.1.1.1.1.1.1.1.1.1.1.1.0; colour = ok.1.1.1.1.1.1.1.1.1.1.1.1.0; dimensions = ok.1.1.1.1.1.1.1.1.1.1.1.1.1.1 }, refl, refl))
     (λ s ok. ((ok.major, (ok.minor, (tt, (ok.level, (ok.base, (ok.size, (anything s.sampling, (anything s.interlaced, (ok.frame_rate, (ok.aspect_ratio, (ok.clean_area, (ok.range, (ok.colour, (tt, ok.dimensions)))))))))))))), refl, refl))
-    (then_codec major_is (λ (major : ℕ).
+    (then_codec (major_is p) (λ (major : ℕ).
     then_codec number_is (λ (minor : ℕ).
-    then_codec profile_is (λ (high_quality : ℕ).
+    then_codec (profile_is p number) (λ (same_profile : ℕ).
     then_codec number_is (λ (level : ℕ).
     then_codec base_is (λ (base : ℕ).
     then_codec (size_is (format_of base)) (λ (size : ℕ × ℕ).
@@ -265,3 +261,6 @@ header_is = retold header_bits spelled_header IsHeader parts_told parts_of
       range = range;
       fields = fields;
     }) refusals.Dimensions)))))))))))))))
+
+pub header_is : IsCodec sequence_header header_bits spelled_header IsHeader
+header_is = header_is_of 3 (lit≤ tt)

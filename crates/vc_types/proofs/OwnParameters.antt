@@ -6,7 +6,7 @@ use Rattle.vc_types.specs.Fields.{give, refuse, tested, flag, behind_flag}
 use Rattle.vc_types.specs.Limits.{slices_fit, padded_luma_fits}
 use Rattle.vc_types.specs.Quantisation.{filled_matrix, subband_count}
 use Rattle.vc_types.specs.SequenceHeader.{Sequence, picture_shape}
-use Rattle.vc_types.specs.TransformParameters.{ParamsField, number, wavelet_index, wavelet_depth, extended_parameters, slice_counts, prefix_bytes, size_scaler, matrix_value, matrix_values, matrix_by_default, default_of, quantisation_matrix, transform_parameters}
+use Rattle.vc_types.specs.TransformParameters.{ParamsField, Transform, number, wavelet_index, wavelet_depth, extended_parameters, slice_counts, prefix_bytes, size_scaler, matrix_value, matrix_values, matrix_by_default, default_of, quantisation_matrix, wavelet_transform, with_matrix, transform_parameters}
 use Rattle.vc_types.proofs.OwnBits.{ReadsOwn, give_own, refuse_own, then_own, tested_own, next_own, number_own, behind_flag_own}
 
 one_number : ReadsOwn number
@@ -66,14 +66,28 @@ matrix_own wavelet depth across =
     then_own (flag refusals.Short) _ (next_own refusals.Short)
     (λ custom. choice_own custom _ (matrix_by_default default) (then_own (matrix_values count) (λ values. give (filled_matrix values)) (values_own count) (λ values. give_own (filled_matrix values))) (default_own default))
 
+pub transform_own : (major : ℕ) → ReadsOwn (wavelet_transform major)
+unfolding wavelet_transform
+transform_own major =
+    then_own wavelet_index _ wavelet_own (λ wavelet.
+    then_own wavelet_depth _ depth_own (λ depth.
+    then_own (extended_parameters major wavelet depth) _ (extended_own major wavelet depth) (λ across.
+    give_own _)))
+
+pub with_matrix_own : (sequence : Sequence) (t : Transform) (slices slice_bytes : ℕ × ℕ)
+    → ReadsOwn (with_matrix sequence t slices slice_bytes)
+unfolding with_matrix
+with_matrix_own sequence t slices slice_bytes =
+    let matrix_field = quantisation_matrix t.wavelet t.depth t.across in
+    then_own matrix_field _ (matrix_own t.wavelet t.depth t.across) (λ matrix.
+    choice_own (padded_luma_fits (picture_shape sequence) t.across.1 t.depth) _
+    (refuse refusals.TooLarge) (give_own _) (refuse_own refusals.TooLarge))
+
 pub parameters_own : (sequence : Sequence) → ReadsOwn (transform_parameters sequence)
 unfolding transform_parameters
 parameters_own sequence =
-    then_own wavelet_index _ wavelet_own (λ wavelet.
-    then_own wavelet_depth _ depth_own (λ depth.
-    then_own (extended_parameters sequence.major wavelet depth) _ (extended_own sequence.major wavelet depth) (λ across.
+    then_own (wavelet_transform sequence.major) _ (transform_own sequence.major) (λ transform.
     then_own slice_counts _ counts_own (λ slices.
     then_own prefix_bytes _ prefix_own (λ prefix.
     then_own size_scaler _ scaler_own (λ scaler.
-    then_own (quantisation_matrix wavelet depth across) _ (matrix_own wavelet depth across) (λ matrix.
-    choice_own (padded_luma_fits (picture_shape sequence) across.1 depth) _ (refuse refusals.TooLarge) (give_own _) (refuse_own refusals.TooLarge))))))))
+    with_matrix_own sequence transform slices (prefix, scaler)))))

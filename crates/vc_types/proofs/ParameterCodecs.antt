@@ -1,5 +1,5 @@
 -- Transform parameters are read as they are spelled, and each part of them.
-use Rattle.std.proofs.Common.{◌≡◌, ℕ, zero, suc, ◌+◌, ◌-◌, ◌*◌, ◌^◌, ◌≤◌, Bool, true, false, cond, eqb, leb, List, [], ◌∷◌, ◌++◌, length, Option, Some, None, refl, sym, ap, ◌∙◌, arith, lit≤}
+use Rattle.std.proofs.Common.{◌≡◌, ℕ, zero, suc, ◌+◌, ◌-◌, ◌*◌, ◌^◌, ◌≤◌, Bool, true, false, cond, eqb, leb, List, [], ◌∷◌, ◌++◌, length, Option, Some, None, refl, sym, ap, ◌∙◌, append_assoc, arith, lit≤}
 use Rattle.std.specs.Prelude.{IsTrue, IfSome, IsSome, MatchOption, unwrap_or, ◌&&◌}
 use Rattle.std.proofs.lemmas.Bool.{leb-true, le-leb, and_parts, and_from}
 use Rattle.vc_types.specs.Codes.{uint_bits}
@@ -8,7 +8,7 @@ use Rattle.vc_types.specs.Limits.{slices_fit, slice_bytes_fit, padded_luma_fits,
 use Rattle.vc_types.specs.ParameterSpelling.{ParameterSpelling, extension_bits, numbers_bits, parameter_bits, across_of, spelled_parameters, MayCode, IsMatrix, AreParameters}
 use Rattle.vc_types.specs.Quantisation.{filled_matrix, subband_count}
 use Rattle.vc_types.specs.SequenceHeader.{Sequence, picture_shape}
-use Rattle.vc_types.specs.TransformParameters.{Parameters, ParamsField, number, wavelet_index, wavelet_depth, extended_parameters, slice_counts, prefix_bytes, size_scaler, matrix_value, matrix_values, matrix_by_default, default_of, quantisation_matrix, transform_parameters}
+use Rattle.vc_types.specs.TransformParameters.{Parameters, Transform, ParamsField, number, wavelet_index, wavelet_depth, extended_parameters, slice_counts, prefix_bytes, size_scaler, matrix_value, matrix_values, matrix_by_default, default_of, quantisation_matrix, wavelet_transform, with_matrix, transform_parameters}
 use Rattle.vc_types.specs.declared.refusal.ParamsRefusal.{ParamsRefusal}
 use Rattle.vc_types.specs.declared.refusal.ParamsRefusal.TheVariants as refusals
 use Rattle.vc_types.proofs.FieldCodecs.{give_codec, give_if_codec, then_codec, mapped_codec, retold, number_codec, tested_codec, plain_flag_codec, flag_choice_codec}
@@ -49,11 +49,11 @@ scaler_is = between_is 1 65535 refusals.SliceBytes (lit≤ tt)
 
 -- ---- the wavelet and the depth across
 
-abbrev ArePartsAcross : Bool → ℕ → Option ℕ × Option ℕ → Type 0
+abbrev pub ArePartsAcross : Bool → ℕ → Option ℕ × Option ℕ → Type 0
 ArePartsAcross true depth e = IfSome e.0 (λ n. n ≤ 6) × IfSome e.1 (λ n. (n ≤ 2 ^ 32 - 1) × IsTrue (leb (depth + n) 5))
 ArePartsAcross false depth e = (e.0 ≡ None) × (e.1 ≡ None)
 
-abbrev across_value : ℕ → Option ℕ × Option ℕ → ℕ × ℕ
+abbrev pub across_value : ℕ → Option ℕ × Option ℕ → ℕ × ℕ
 across_value wavelet e = (unwrap_or e.0 wavelet, unwrap_or e.1 0)
 
 abbrev coded_across : ℕ → ℕ → ParamsField (ℕ × ℕ)
@@ -105,7 +105,7 @@ matrix_value_is : IsCodec matrix_value uint_bits (λ n. n) (λ n. n ≤ 127)
 unfolding matrix_value
 matrix_value_is = at_most_is 127 refusals.Matrix (lit≤ tt)
 
-abbrev AreValues : ℕ → List ℕ → Type 0
+abbrev pub AreValues : ℕ → List ℕ → Type 0
 AreValues n values = (length values ≡ n) × IsTrue (matrix_fits values)
 
 abbrev front_of : List ℕ → ℕ × List ℕ
@@ -147,26 +147,90 @@ matrix_is : (wavelet depth : ℕ) (across : ℕ × ℕ) → IsCodec (quantisatio
 unfolding quantisation_matrix
 matrix_is wavelet depth across = flag_choice_codec refusals.Short (mapped_codec filled_matrix (values_are (subband_count across.1 depth))) (default_is (default_of wavelet depth across))
 
+-- ---- the transform, and the end with the matrix
+
+-- a transform as it is spelled: the wavelet, the depth, and the parts across
+abbrev pub TransformSpelling : Type 0
+TransformSpelling = ℕ × (ℕ × ((Option ℕ × Option ℕ) × Unit {0}))
+
+abbrev pub transform_bits : ℕ → TransformSpelling → List Bool
+transform_bits major a = joined (uint_bits a.0 ∷ uint_bits a.1.0 ∷ extension_bits major a.1.1.0 ∷ [])
+
+abbrev pub spelled_transform : TransformSpelling → Transform
+spelled_transform a = record { wavelet = a.0; depth = a.1.0; across = across_value a.0 a.1.1.0 }
+
+abbrev pub IsTransform : ℕ → TransformSpelling → Type 0
+IsTransform major a =
+    (a.0 ≤ 6) × (((1 ≤ a.1.0) × (a.1.0 ≤ 5)) × (ArePartsAcross (eqb major 3) a.1.0 a.1.1.0 × Unit {0}))
+
+pub transform_is : (major : ℕ)
+    → IsCodec (wavelet_transform major) (transform_bits major) spelled_transform (IsTransform major)
+unfolding wavelet_transform
+transform_is major =
+    then_codec wavelet_is (λ (wavelet : ℕ).
+    then_codec depth_is (λ (depth : ℕ).
+    then_codec (extended_is major wavelet depth) (λ (across : ℕ × ℕ).
+    give_codec (record { wavelet = wavelet; depth = depth; across = across }))))
+
+-- parameters by their transform, slice counts, prefix bytes and scaler, and matrix
+abbrev pub parameters_with : Sequence → Transform → ℕ × ℕ → ℕ × ℕ → List ℕ → Parameters
+parameters_with sequence t slices slice_bytes matrix = record {
+  shape = picture_shape sequence;
+  wavelet = t.wavelet;
+  wavelet_ho = t.across.0;
+  depth = t.depth;
+  depth_ho = t.across.1;
+  slices_x = slices.0;
+  slices_y = slices.1;
+  prefix = slice_bytes.0;
+  scaler = slice_bytes.1;
+  matrix = matrix;
+}
+
+-- a matrix of a transform as it is spelled, and what follows it, which is nothing
+abbrev pub IsMatrixOf : Sequence → Transform → Option (List ℕ) × Unit {0} → Type 0
+IsMatrixOf sequence t m =
+    MatchOption m.0 (IsSome (default_of t.wavelet t.depth t.across))
+    (AreValues (subband_count t.across.1 t.depth))
+    × IsTrue (padded_luma_fits (picture_shape sequence) t.across.1 t.depth)
+
+abbrev pub spelled_matrix : Transform → Option (List ℕ) → List ℕ
+spelled_matrix t m =
+    flagged_value (unwrap_or (default_of t.wavelet t.depth t.across) []) filled_matrix m
+
+pub with_matrix_is : (sequence : Sequence) (t : Transform) (slices slice_bytes : ℕ × ℕ)
+    → IsCodec (with_matrix sequence t slices slice_bytes)
+    (λ (m : Option (List ℕ) × Unit {0}). joined (flagged_bits numbers_bits m.0 ∷ []))
+    (λ m. parameters_with sequence t slices slice_bytes (spelled_matrix t m.0)) (IsMatrixOf sequence t)
+unfolding with_matrix
+with_matrix_is sequence t slices slice_bytes =
+    then_codec (matrix_is t.wavelet t.depth t.across) (λ (matrix : List ℕ).
+    give_if_codec (padded_luma_fits (picture_shape sequence) t.across.1 t.depth)
+    (parameters_with sequence t slices slice_bytes matrix) refusals.TooLarge)
+
 -- ---- the whole parameters
 
 abbrev Parts : Type 0
-Parts = ℕ × (ℕ × ((Option ℕ × Option ℕ) × ((ℕ × ℕ) × (ℕ × (ℕ × (Option (List ℕ) × Unit {0}))))))
+Parts = TransformSpelling × ((ℕ × ℕ) × (ℕ × (ℕ × (Option (List ℕ) × Unit {0}))))
 
 abbrev parts_told : Parts → ParameterSpelling
 parts_told a = record {
-  wavelet = a.0;
-  depth = a.1.0;
-  wavelet_ho = a.1.1.0.0;
-  depth_ho = a.1.1.0.1;
-  slices_x = a.1.1.1.0.0;
-  slices_y = a.1.1.1.0.1;
-  prefix = a.1.1.1.1.0;
-  scaler = a.1.1.1.1.1.0;
-  matrix = a.1.1.1.1.1.1.0;
+  wavelet = a.0.0;
+  depth = a.0.1.0;
+  wavelet_ho = a.0.1.1.0.0;
+  depth_ho = a.0.1.1.0.1;
+  slices_x = a.1.0.0;
+  slices_y = a.1.0.1;
+  prefix = a.1.1.0;
+  scaler = a.1.1.1.0;
+  matrix = a.1.1.1.1.0;
 }
 
 abbrev parts_of : ParameterSpelling → Parts
-parts_of s = (s.wavelet, (s.depth, ((s.wavelet_ho, s.depth_ho), ((s.slices_x, s.slices_y), (s.prefix, (s.scaler, (s.matrix, tt)))))))
+parts_of s = (
+  (s.wavelet, (s.depth, ((s.wavelet_ho, s.depth_ho), tt))),
+  ((s.slices_x, s.slices_y), (s.prefix, (s.scaler, (s.matrix, tt)))),
+)
 
 matrix_told : (count : ℕ) (d : Type 0) (m : Option (List ℕ)) → MatchOption m d (AreValues count) → MatchOption m d (IsMatrix count)
 matrix_told count d None ok = ok
@@ -206,53 +270,80 @@ across_from true wavelet depth o p may ok = (known o ok.0, few p ok.1)
     few (Some n) h = (omega (arith, h), le-leb (depth + n) 5 h)
 across_from false wavelet depth o p may ok = may
 
-abbrev with_across : Sequence → ℕ → ℕ × ℕ → ℕ → ℕ × ℕ → ℕ → ℕ → List ℕ → Parameters
-with_across sequence wavelet across depth slices prefix scaler matrix = record {
-  shape = picture_shape sequence;
-  wavelet = wavelet;
-  wavelet_ho = across.0;
-  depth = depth;
-  depth_ho = across.1;
-  slices_x = slices.0;
-  slices_y = slices.1;
-  prefix = prefix;
-  scaler = scaler;
-  matrix = matrix;
-}
+-- the bits behind the transform
+abbrev slices_bits : ParameterSpelling → List Bool
+slices_bits s = joined (
+    pair_bits (s.slices_x, s.slices_y) ∷
+    uint_bits s.prefix ∷
+    uint_bits s.scaler ∷
+    flagged_bits numbers_bits s.matrix ∷
+    [])
 
--- What is read is spelled so, and what is spelled so is read, whatever follows.
-pub parameters_are : (sequence : Sequence) → IsCodec (transform_parameters sequence) (parameter_bits sequence.major) (spelled_parameters sequence) (AreParameters sequence)
-unfolding transform_parameters
-parameters_are sequence = retold (parameter_bits sequence.major) (spelled_parameters sequence) (AreParameters sequence) parts_told parts_of
-    (λ a ok.
-    let across : ℕ × ℕ = across_value a.0 a.1.1.0 in
-    let known = across_told (eqb sequence.major 3) a.0 a.1.0 a.1.1.0.0 a.1.1.0.1 ok.0 ok.1.0.1 ok.1.1.0 in (
+module _ (sequence : Sequence) where
+  abbrev extended : Bool
+  extended = eqb sequence.major 3
+
+  joined_bits : (a b c rest : List Bool) → (a ++ (b ++ (c ++ []))) ++ rest ≡ a ++ (b ++ (c ++ rest))
+  joined_bits a b c rest = simp append_assoc
+
+  regrouped : (s : ParameterSpelling)
+      → transform_bits sequence.major (parts_of s).0 ++ slices_bits s ≡ parameter_bits sequence.major s
+  regrouped s =
+      joined_bits (uint_bits s.wavelet) (uint_bits s.depth)
+      (extension_bits sequence.major (s.wavelet_ho, s.depth_ho)) (slices_bits s)
+
+  abbrev ArePartsOf : Parts → Type 0
+  ArePartsOf a =
+      IsTransform sequence.major a.0
+      × (IsTrue (slices_fit a.1.0.0 a.1.0.1)
+      × ((a.1.1.0 ≤ 65535)
+      × (((1 ≤ a.1.1.1.0) × (a.1.1.1.0 ≤ 65535))
+      × IsMatrixOf sequence (spelled_transform a.0) a.1.1.1.1)))
+
+  are_told : (a : Parts) → ArePartsOf a → AreParameters sequence (parts_told a)
+  are_told a ok =
+      let t = spelled_transform a.0 in
+      let transform = ok.0 in
+      let known = across_told extended t.wavelet t.depth a.0.1.1.0.0 a.0.1.1.0.1
+      transform.0 transform.1.0.1 transform.1.1.0 in
+      let bytes = ok.1.1 in
+      let count = subband_count t.across.1 t.depth in
+      let default = IsSome (default_of t.wavelet t.depth t.across) in
       record {
-        wavelet = ok.0;
+        wavelet = transform.0;
         wavelet_ho = known.1.0;
-        some_levels = ok.1.0.0;
+        some_levels = transform.1.0.0;
         few_levels = known.1.1;
         extension = known.0;
-        slices = ok.1.1.1.0;
-        slice_bytes = slice_bytes_is a.1.1.1.1.0 a.1.1.1.1.1.0 ok.1.1.1.1.0 ok.1.1.1.1.1.0.0 ok.1.1.1.1.1.0.1;
-        matrix = matrix_told (subband_count across.1 a.1.0) (IsSome (default_of a.0 a.1.0 across)) a.1.1.1.1.1.1.0 ok.1.1.1.1.1.1.0;
-        padded_luma = ok.1.1.1.1.1.1.1;
-      },
-      refl,
-      refl,
-    ))
-    (λ s ok.
-    let few = ok.few_levels in
-    let bytes = slice_bytes_are s.prefix s.scaler ok.slice_bytes in (
-      (ok.wavelet, ((ok.some_levels, omega (arith, few)), (across_from (eqb sequence.major 3) s.wavelet s.depth s.wavelet_ho s.depth_ho ok.extension (ok.wavelet_ho, few), (ok.slices, (bytes.0, (bytes.1, (matrix_of (subband_count (across_of s).1 s.depth) (IsSome (default_of s.wavelet s.depth (across_of s))) s.matrix ok.matrix, ok.padded_luma))))))),
-      refl,
-      refl,
-    ))
-    (then_codec wavelet_is (λ (wavelet : ℕ).
-    then_codec depth_is (λ (depth : ℕ).
-    then_codec (extended_is sequence.major wavelet depth) (λ (across : ℕ × ℕ).
-    then_codec slices_are (λ (slices : ℕ × ℕ).
-    then_codec prefix_is (λ (prefix : ℕ).
-    then_codec scaler_is (λ (scaler : ℕ).
-    then_codec (matrix_is wavelet depth across) (λ (matrix : List ℕ).
-    give_if_codec (padded_luma_fits (picture_shape sequence) across.1 depth) (with_across sequence wavelet across depth slices prefix scaler matrix) refusals.TooLarge))))))))
+        slices = ok.1.0;
+        slice_bytes = slice_bytes_is a.1.1.0 a.1.1.1.0 bytes.0 bytes.1.0.0 bytes.1.0.1;
+        matrix = matrix_told count default a.1.1.1.1.0 bytes.1.1.0;
+        padded_luma = bytes.1.1.1;
+      }
+
+  are_parts : (s : ParameterSpelling) → AreParameters sequence s → ArePartsOf (parts_of s)
+  are_parts s ok =
+      let few = ok.few_levels in
+      let bytes = slice_bytes_are s.prefix s.scaler ok.slice_bytes in
+      let across = across_from extended s.wavelet s.depth s.wavelet_ho s.depth_ho
+      ok.extension (ok.wavelet_ho, few) in
+      let count = subband_count (across_of s).1 s.depth in
+      let default = IsSome (default_of s.wavelet s.depth (across_of s)) in
+      let matrix = matrix_of count default s.matrix ok.matrix in (
+        (ok.wavelet, ((ok.some_levels, omega (arith, few)), (across, tt))),
+        (ok.slices, (bytes.0, (bytes.1, (matrix, ok.padded_luma)))),
+      )
+
+  -- What is read is spelled so, and what is spelled so is read, whatever follows.
+  pub parameters_are : IsCodec (transform_parameters sequence) (parameter_bits sequence.major)
+      (spelled_parameters sequence) (AreParameters sequence)
+  unfolding transform_parameters
+  parameters_are = retold (parameter_bits sequence.major) (spelled_parameters sequence)
+      (AreParameters sequence) parts_told parts_of
+      (λ a ok. (are_told a ok, refl, regrouped (parts_told a)))
+      (λ s ok. (are_parts s ok, refl, sym (regrouped s)))
+      (then_codec (transform_is sequence.major) (λ (t : Transform).
+      then_codec slices_are (λ (slices : ℕ × ℕ).
+      then_codec prefix_is (λ (prefix : ℕ).
+      then_codec scaler_is (λ (scaler : ℕ).
+      with_matrix_is sequence t slices (prefix, scaler))))))

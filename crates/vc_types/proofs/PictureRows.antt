@@ -10,7 +10,7 @@ use Rattle.vc_types.specs.Planes.{output_sample, component_plane, decoded_planes
 use Rattle.vc_types.specs.Quantisation.{quant_factor, quant_offset, dequantised, default_matrix}
 use Rattle.vc_types.specs.Rasters.{Raster, raster}
 use Rattle.vc_types.specs.SequenceHeader as header
-use Rattle.vc_types.specs.SequenceHeader.{Sequence, sequence_header}
+use Rattle.vc_types.specs.SequenceHeader.{Sequence, sequence_header_of, sequence_header}
 use Rattle.vc_types.specs.Slices.{block, coded_slice, quantisers, block_coefficients, decoded_slice}
 use Rattle.vc_types.specs.Subbands.{slice_rectangle, place_among, slice_coefficient_count, coefficient_place}
 use Rattle.vc_types.specs.TransformParameters as parameters
@@ -37,7 +37,7 @@ sequence = record {
 }
 
 pub header_is : sequence_header (bits_of (0x70 ∷ 0xf6 ∷ 0xf0 ∷ 0x20 ∷ [])) ≡ Ok (sequence, false ∷ false ∷ false ∷ false ∷ false ∷ [])
-unfolding sequence_header header.header_number header.major_version header.profile header.base_video_format header.frame_size header.colour_difference_sampling header.scan_format header.ratio header.clean_area header.excursion header.custom_signal_range header.signal_range_of header.colour_part header.colour_specification header.picture_coding_mode number_up_to uint_at uint_after bits_of byte_bits format_of range_of
+unfolding sequence_header_of header.header_number header.major_version header.profile header.base_video_format header.frame_size header.colour_difference_sampling header.scan_format header.ratio header.clean_area header.excursion header.custom_signal_range header.signal_range_of header.colour_part header.colour_specification header.picture_coding_mode number_up_to uint_at uint_after bits_of byte_bits format_of range_of
 header_is = refl
 
 -- the planes of a component: these samples, row by row
@@ -46,7 +46,7 @@ two_by_two samples = record { width = 2; height = 2; samples = samples }
 
 -- one slice, whose luma coefficients are LL 0, HL 1, LH 0 and HH 1
 pub planes_are : decoded_planes sequence (0x09 ∷ 0x26 ∷ 0x40 ∷ 0x00 ∷ 0x02 ∷ 0x94 ∷ 0x80 ∷ 0x00 ∷ 0x00 ∷ []) ≡ Some (record { y = two_by_two (0x80 ∷ 0x80 ∷ 0x7f ∷ 0x80 ∷ []); c1 = two_by_two (0x80 ∷ 0x80 ∷ 0x80 ∷ 0x80 ∷ []); c2 = two_by_two (0x80 ∷ 0x80 ∷ 0x80 ∷ 0x80 ∷ []) })
-unfolding decoded_planes decoded_picture transform_parameters parameters.number parameters.wavelet_index parameters.wavelet_depth parameters.extended_parameters parameters.slice_counts parameters.prefix_bytes parameters.size_scaler parameters.matrix_value parameters.matrix_values parameters.quantisation_matrix default_matrix header.picture_shape video_depth number_up_to uint_at uint_after bits_of byte_bits slices_from coded_slice block decoded_slice block_coefficients quantisers slice_rectangle slice_coefficient_count bounded_sints bounded_sint bounded_uint bounded_uint_after dequantised quant_factor quant_offset component_plane raster output_sample inverse_transform levels_across inverse_levels inverse_level on_cells on_rows on_columns interleaved synthesised lifted_by synthesis_steps lifted change weighted component_cells standing_at all_placed coefficient_place place_among
+unfolding decoded_planes decoded_picture transform_parameters parameters.wavelet_transform parameters.with_matrix parameters.number parameters.wavelet_index parameters.wavelet_depth parameters.extended_parameters parameters.slice_counts parameters.prefix_bytes parameters.size_scaler parameters.matrix_value parameters.matrix_values parameters.quantisation_matrix default_matrix header.picture_shape video_depth number_up_to uint_at uint_after bits_of byte_bits slices_from coded_slice block decoded_slice block_coefficients quantisers slice_rectangle slice_coefficient_count bounded_sints bounded_sint bounded_uint bounded_uint_after dequantised quant_factor quant_offset component_plane raster output_sample inverse_transform levels_across inverse_levels inverse_level on_cells on_rows on_columns interleaved synthesised lifted_by synthesis_steps lifted change weighted component_cells standing_at all_placed coefficient_place place_among
 planes_are = refl
 
 -- one level across alone below one both ways, and H is 1
@@ -54,5 +54,5 @@ abbrev four_by_two : List ℕ → Raster
 four_by_two samples = record { width = 4; height = 2; samples = samples }
 
 pub level_across_alone : decoded_planes (record sequence { major = 3; width = 4 }) (0x09 ∷ 0x49 ∷ 0x33 ∷ 0xf8 ∷ 0x00 ∷ 0x01 ∷ 0x97 ∷ 0x00 ∷ 0x00 ∷ []) ≡ Some (record { y = four_by_two (0x7f ∷ 0x7f ∷ 0x80 ∷ 0x80 ∷ 0x7f ∷ 0x7f ∷ 0x80 ∷ 0x80 ∷ []); c1 = four_by_two (replicate 8 0x80); c2 = four_by_two (replicate 8 0x80) })
-unfolding decoded_planes decoded_picture transform_parameters parameters.number parameters.wavelet_index parameters.wavelet_depth parameters.extended_parameters parameters.slice_counts parameters.prefix_bytes parameters.size_scaler parameters.matrix_value parameters.matrix_values parameters.quantisation_matrix default_matrix header.picture_shape video_depth number_up_to uint_at uint_after bits_of byte_bits slices_from coded_slice block decoded_slice block_coefficients quantisers slice_rectangle slice_coefficient_count bounded_sints bounded_sint bounded_uint bounded_uint_after dequantised quant_factor quant_offset component_plane raster output_sample inverse_transform levels_across level_across interleaved_across inverse_levels inverse_level on_cells on_rows on_columns interleaved synthesised lifted_by synthesis_steps lifted change weighted component_cells standing_at all_placed coefficient_place place_among
+unfolding decoded_planes decoded_picture transform_parameters parameters.wavelet_transform parameters.with_matrix parameters.number parameters.wavelet_index parameters.wavelet_depth parameters.extended_parameters parameters.slice_counts parameters.prefix_bytes parameters.size_scaler parameters.matrix_value parameters.matrix_values parameters.quantisation_matrix default_matrix header.picture_shape video_depth number_up_to uint_at uint_after bits_of byte_bits slices_from coded_slice block decoded_slice block_coefficients quantisers slice_rectangle slice_coefficient_count bounded_sints bounded_sint bounded_uint bounded_uint_after dequantised quant_factor quant_offset component_plane raster output_sample inverse_transform levels_across level_across interleaved_across inverse_levels inverse_level on_cells on_rows on_columns interleaved synthesised lifted_by synthesis_steps lifted change weighted component_cells standing_at all_placed coefficient_place place_among
 level_across_alone = refl

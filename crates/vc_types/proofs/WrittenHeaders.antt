@@ -1,5 +1,5 @@
 -- Headers of the encoder's form are spelled in the encoder's way, and read again.
-use Rattle.std.proofs.Common.{◌≡◌, ℕ, zero, suc, ◌-◌, ◌%◌, ◌≤◌, ◌<◌, Bool, true, false, List, ◌++◌, length, replicate, Ok, refl, sym, ap, ◌∙◌, arith, lit≤, inr}
+use Rattle.std.proofs.Common.{◌≡◌, ℕ, zero, suc, ◌-◌, ◌%◌, ◌≤◌, ◌<◌, Bool, true, false, List, ◌++◌, length, replicate, Ok, refl, sym, ap, ◌∙◌, arith, lit≤}
 use Rattle.std.specs.Prelude.{IsTrue, ◌&&◌}
 use Rattle.std.proofs.lemmas.Bool.{and_parts}
 use Rattle.std.proofs.lemmas.List.{length-replicate}
@@ -60,7 +60,7 @@ is_accepted s form dimensions =
     let width = (side_is s.width sides.0).most in
     let height = (side_is s.height sides.1).most in
     record {
-      major = inr refl;
+      major = refl;
       minor = lit≤ tt;
       level = lit≤ tt;
       base = base_known s.top_first;

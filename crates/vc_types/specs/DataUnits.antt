@@ -1,7 +1,7 @@
 -- Data units (ST 2042-1, data unit; parse info header): what a unit is, and what it is written as.
 use Rattle.std.specs.Prelude.{ℕ, ◌+◌, Bool, ◌||◌, List, ◌∷◌, ◌++◌, length, ◌==◌, if◌then◌else◌}
 use Rattle.byteorder.specs.Endian.{big_bytes}
-use Rattle.vc_types.specs.ParseCodes.{header_code, end_code, auxiliary_code, padding_code, picture_code}
+use Rattle.vc_types.specs.ParseCodes.{header_code, end_code, auxiliary_code, padding_code, low_delay_code, picture_code}
 
 -- a data unit: its parse code and its body
 pub record DataUnit : Type 0 where
@@ -19,7 +19,7 @@ is_end_of_sequence u = u.code == end_code
 abbrev pub is_unit_code : ℕ → Bool
 is_unit_code code =
     code == header_code || code == end_code || code == auxiliary_code || code == padding_code
-    || code == picture_code
+    || code == low_delay_code || code == picture_code
 
 -- "BBCD"
 abbrev pub parse_info_prefix : ℕ

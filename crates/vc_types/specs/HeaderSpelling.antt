@@ -1,10 +1,10 @@
 -- The spelling of a sequence header (ST 2042-1, sequence header): which of its parts are coded and
 -- by what numbers, the bits that they are written as, and the value that they stand for.
-use Rattle.std.specs.Prelude.{◌≡◌, ℕ, ◌<◌, ◌≤◌, ◌-◌, ◌^◌, ◌⊎◌, Bool, List, [], ◌∷◌, ◌++◌, Option, Some, None, IsTrue, IfSome, unwrap_or, ◌==◌, if◌then◌else◌}
+use Rattle.std.specs.Prelude.{◌≡◌, ℕ, ◌<◌, ◌≤◌, ◌-◌, ◌^◌, Bool, List, [], ◌∷◌, ◌++◌, Option, Some, None, IsTrue, IfSome, unwrap_or, ◌==◌, if◌then◌else◌}
 use Rattle.vc_types.specs.Bits.{digit_of}
 use Rattle.vc_types.specs.Codes.{uint_bits}
 use Rattle.vc_types.specs.Fields.{flagged_bits, flagged_value, joined, pair_bits, Begins}
-use Rattle.vc_types.specs.SequenceHeader.{Sequence}
+use Rattle.vc_types.specs.SequenceHeader.{Sequence, high_quality_profile, is_version_of}
 use Rattle.vc_types.specs.Video.{format_of, range_of, dimensions_fit, excursion_fits}
 use Rattle.vc_types.specs.declared.video.Sampling.{Sampling}
 use Rattle.vc_types.specs.declared.video.Sampling.TheVariants.{S444, S422, S420}
@@ -70,12 +70,12 @@ pub record HeaderSpelling : Type 0 where
   pub colour : Option (Choice Colour)
   pub fields : Bool
 
--- the fields, written in order; the profile is 3
-abbrev pub header_bits : HeaderSpelling → List Bool
-header_bits s = joined (
+-- the fields of a header of profile p, written in order
+abbrev pub header_bits_of : ℕ → HeaderSpelling → List Bool
+header_bits_of p s = joined (
     uint_bits s.major ∷
     uint_bits s.minor ∷
-    uint_bits 3 ∷
+    uint_bits p ∷
     uint_bits s.level ∷
     uint_bits s.base ∷
     flagged_bits pair_bits s.size ∷
@@ -88,6 +88,10 @@ header_bits s = joined (
     flagged_bits (choice_bits colour_bits) s.colour ∷
     uint_bits (digit_of s.fields) ∷
     [])
+
+-- those of a header of high quality
+abbrev pub header_bits : HeaderSpelling → List Bool
+header_bits s = header_bits_of high_quality_profile s
 
 abbrev pub chosen_range : Choice SignalRange → SignalRange
 chosen_range (Preset index) = range_of index
@@ -138,8 +142,9 @@ pub record IsColour (c : Colour) : Type 0 where
   pub matrix : IfSome c.matrix IsNumber
   pub transfer : IfSome c.transfer IsNumber
 
-pub record IsHeader (s : HeaderSpelling) : Type 0 where
-  pub major : (s.major ≡ 2) ⊎ (s.major ≡ 3)
+-- of a header of profile p
+pub record IsHeaderOf (p : ℕ) (s : HeaderSpelling) : Type 0 where
+  pub major : IsTrue (is_version_of p s.major)
   pub minor : IsNumber s.minor
   pub level : IsNumber s.level
   pub base : s.base ≤ 16
@@ -152,10 +157,19 @@ pub record IsHeader (s : HeaderSpelling) : Type 0 where
   pub dimensions : IsTrue (dimensions_fit (spelled_header s).width (spelled_header s).height
       (spelled_header s).sampling s.fields)
 
--- bytes begin with a header of this value, which takes so many bytes
+-- of a header of high quality
+abbrev pub IsHeader : HeaderSpelling → Type 0
+IsHeader s = IsHeaderOf high_quality_profile s
+
+-- bytes begin with a header of profile p and of this value, which takes so many bytes
+abbrev pub BeginsWithHeaderOf : ℕ → List ℕ → Sequence → ℕ → Type 0
+BeginsWithHeaderOf p bytes sequence used =
+    Begins (header_bits_of p) spelled_header (IsHeaderOf p) bytes sequence used
+
+-- with a header of high quality
 abbrev pub BeginsWithHeader : List ℕ → Sequence → ℕ → Type 0
 BeginsWithHeader bytes sequence used =
-    Begins header_bits spelled_header IsHeader bytes sequence used
+    BeginsWithHeaderOf high_quality_profile bytes sequence used
 
 -- ---- the headers that this project writes
 

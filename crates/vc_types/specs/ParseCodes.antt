@@ -18,6 +18,10 @@ auxiliary_code = 0x20
 abbrev pub padding_code : ℕ
 padding_code = 0x30
 
+-- of a low-delay picture
+abbrev pub low_delay_code : ℕ
+low_delay_code = 0xC8
+
 -- of a high-quality picture
 abbrev pub picture_code : ℕ
 picture_code = 0xE8

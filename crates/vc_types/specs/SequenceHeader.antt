@@ -1,5 +1,5 @@
 -- Sequence headers (ST 2042-1, sequence header): the fields in order, and the first refusal.
-use Rattle.std.specs.Prelude.{ℕ, ◌-◌, ◌^◌, ◌/◌, Bool, ◌||◌, List, length, nat_le, ◌==◌, if◌then◌else◌, Result, Ok, Err}
+use Rattle.std.specs.Prelude.{ℕ, ◌-◌, ◌^◌, ◌/◌, Bool, ◌&&◌, ◌||◌, List, length, nat_le, ◌==◌, if◌then◌else◌, Result, Ok, Err}
 use Rattle.vc_types.specs.Bits.{bits_of}
 use Rattle.vc_types.specs.declared.header.Header.{Header}
 use Rattle.vc_types.specs.declared.shape.Shape.{Shape}
@@ -43,6 +43,18 @@ sequence_of h = record {
 abbrev pub HeaderField : Type 0 → Type 0
 HeaderField X = Field Bool HeaderRefusal X
 
+-- ---- profiles
+
+abbrev pub low_delay_profile : ℕ
+low_delay_profile = 0
+
+abbrev pub high_quality_profile : ℕ
+high_quality_profile = 3
+
+-- the major versions of a profile's headers: version 1 is of low delay alone
+abbrev pub is_version_of : ℕ → ℕ → Bool
+is_version_of p n = (p == low_delay_profile && n == 1) || n == 2 || n == 3
+
 -- ---- the fields
 
 unfoldable pub header_number : HeaderField ℕ
@@ -56,11 +68,11 @@ index limit refusal = tested (λ n. nat_le n limit) refusal header_number
 abbrev pub part : {X : Type 0} → X → HeaderField X → HeaderField X
 part default field = behind_flag refusals.Short default field
 
-unfoldable pub major_version : HeaderField ℕ
-major_version = tested (λ n. n == 2 || n == 3) refusals.Version header_number
+unfoldable pub major_version : ℕ → HeaderField ℕ
+major_version p = tested (λ n. is_version_of p n) refusals.Version header_number
 
-unfoldable pub profile : HeaderField ℕ
-profile = tested (λ n. n == 3) refusals.Profile header_number
+unfoldable pub profile : ℕ → HeaderField ℕ
+profile p = tested (λ n. n == p) refusals.Profile header_number
 
 unfoldable pub base_video_format : HeaderField ℕ
 base_video_format = index 16 refusals.BaseFormat
@@ -140,11 +152,12 @@ picture_coding_mode = do
 
 -- ---- the whole header
 
-unfoldable pub sequence_header : HeaderField Sequence
-sequence_header = do
-  major ← major_version
+-- a header of profile p
+unfoldable pub sequence_header_of : ℕ → HeaderField Sequence
+sequence_header_of p = do
+  major ← major_version p
   minor ← header_number
-  high_quality ← profile
+  same_profile ← profile p
   level ← header_number
   base ← base_video_format
   size ← frame_size (format_of base)
@@ -170,6 +183,10 @@ sequence_header = do
     fields = fields;
   }) else refuse refusals.Dimensions
 
+-- a header of high quality
+abbrev pub sequence_header : HeaderField Sequence
+sequence_header = sequence_header_of high_quality_profile
+
 -- how many bytes were used, where these bits are left behind a field
 abbrev pub bytes_used : List ℕ → List Bool → ℕ
 bytes_used bytes left = length bytes - length left / 8
@@ -179,9 +196,14 @@ abbrev pub with_bytes_used : {E X : Type 0} → List ℕ → Result (X × List B
 with_bytes_used bytes (Ok read) = Ok (read.0, bytes_used bytes read.1)
 with_bytes_used bytes (Err refusal) = Err refusal
 
--- the header at the front of bytes and how many of them it takes, or the first refusal
+-- the header of profile p at the front of bytes and how many of them it takes, or the first
+-- refusal
+abbrev pub coded_header_of : ℕ → List ℕ → Result (Sequence × ℕ) HeaderRefusal
+coded_header_of p bytes = with_bytes_used bytes (sequence_header_of p (bits_of bytes))
+
+-- the same of high quality
 abbrev pub coded_header : List ℕ → Result (Sequence × ℕ) HeaderRefusal
-coded_header bytes = with_bytes_used bytes (sequence_header (bits_of bytes))
+coded_header bytes = coded_header_of high_quality_profile bytes
 
 -- ---- the planes of one picture of the sequence
 

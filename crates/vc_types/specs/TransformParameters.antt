@@ -112,29 +112,49 @@ quantisation_matrix wavelet depth across = do
   if custom then custom_matrix (subband_count across.1 depth)
       else matrix_by_default (default_of wavelet depth across)
 
--- ---- the whole parameters, of a picture of this sequence
+-- ---- what the parameters of all pictures have: the transform first, and the matrix last
+
+-- a transform: its wavelet and levels, and the wavelet and the levels across alone
+pub record Transform : Type 0 where
+  pub wavelet : ℕ
+  pub depth : ℕ
+  pub across : ℕ × ℕ
+
+-- by the major version
+unfoldable pub wavelet_transform : ℕ → ParamsField Transform
+wavelet_transform major = do
+  wavelet ← wavelet_index
+  depth ← wavelet_depth
+  across ← extended_parameters major wavelet depth
+  give (record { wavelet = wavelet; depth = depth; across = across })
+
+-- The matrix, and with it the parameters of a transform, slice counts, and prefix bytes and scaler;
+-- last the padded luma is tested.
+unfoldable pub with_matrix : Sequence → Transform → ℕ × ℕ → ℕ × ℕ → ParamsField Parameters
+with_matrix sequence t slices slice_bytes = do
+  matrix ← quantisation_matrix t.wavelet t.depth t.across
+  if padded_luma_fits (picture_shape sequence) t.across.1 t.depth then give (record {
+    shape = picture_shape sequence;
+    wavelet = t.wavelet;
+    wavelet_ho = t.across.0;
+    depth = t.depth;
+    depth_ho = t.across.1;
+    slices_x = slices.0;
+    slices_y = slices.1;
+    prefix = slice_bytes.0;
+    scaler = slice_bytes.1;
+    matrix = matrix;
+  }) else refuse refusals.TooLarge
+
+-- ---- the whole parameters, of a high-quality picture of this sequence
 
 unfoldable pub transform_parameters : Sequence → ParamsField Parameters
 transform_parameters sequence = do
-  wavelet ← wavelet_index
-  depth ← wavelet_depth
-  across ← extended_parameters sequence.major wavelet depth
+  transform ← wavelet_transform sequence.major
   slices ← slice_counts
   prefix ← prefix_bytes
   scaler ← size_scaler
-  matrix ← quantisation_matrix wavelet depth across
-  if padded_luma_fits (picture_shape sequence) across.1 depth then give (record {
-    shape = picture_shape sequence;
-    wavelet = wavelet;
-    wavelet_ho = across.0;
-    depth = depth;
-    depth_ho = across.1;
-    slices_x = slices.0;
-    slices_y = slices.1;
-    prefix = prefix;
-    scaler = scaler;
-    matrix = matrix;
-  }) else refuse refusals.TooLarge
+  with_matrix sequence transform slices (prefix, scaler)
 
 -- the parameters at the front of bytes and how many of them they take, or the first refusal
 abbrev pub coded_parameters : Sequence → List ℕ → Result (Parameters × ℕ) ParamsRefusal

@@ -11,6 +11,7 @@ mod need;
 mod parse_codes;
 mod plan;
 mod plane;
+mod profiles;
 mod rect;
 mod refusal;
 mod settings;
@@ -28,11 +29,12 @@ pub use limits::{dimensions_fit, padded, picture_height, slices_fit};
 pub use memory::NoMemory;
 pub use need::SliceNeed;
 pub use parse_codes::{
-    AUXILIARY_DATA, END_OF_SEQUENCE, HIGH_QUALITY_FRAGMENT, HIGH_QUALITY_PICTURE, PADDING_DATA,
-    SEQUENCE_HEADER,
+    AUXILIARY_DATA, END_OF_SEQUENCE, HIGH_QUALITY_FRAGMENT, HIGH_QUALITY_PICTURE,
+    LOW_DELAY_PICTURE, PADDING_DATA, SEQUENCE_HEADER,
 };
 pub use plan::Plan;
 pub use plane::Plane;
+pub use profiles::{HIGH_QUALITY_PROFILE, LOW_DELAY_PROFILE};
 pub use rect::Rect;
 pub use refusal::{HeaderRefusal, ParamsRefusal, Short, Unsound};
 pub use settings::{GenSettings, PackSettings, SendSettings};

@@ -8,6 +8,9 @@ pub const AUXILIARY_DATA: u8 = 0x20;
 
 pub const PADDING_DATA: u8 = 0x30;
 
+/// The body is a picture number, transform parameters and low-delay slices.
+pub const LOW_DELAY_PICTURE: u8 = 0xC8;
+
 /// The body is a picture number, transform parameters and high-quality slices.
 pub const HIGH_QUALITY_PICTURE: u8 = 0xE8;
 

@@ -3,9 +3,9 @@
 pub enum HeaderRefusal {
     /// The bytes end within a field.
     Short,
-    /// The major version is neither 2 nor 3.
+    /// The major version is neither 2 nor 3; of low delay, nor 1.
     Version,
-    /// The profile isn't 3, high quality.
+    /// The profile isn't the one that was asked for.
     Profile,
     /// The base video format is above 16.
     BaseFormat,
