@@ -1,11 +1,12 @@
 -- The wavelet transform of a component (ST 2042-1, inverse wavelet transform), in the grid of
 -- nested subbands. A grid is the number in each column and row; outside the part that it speaks of,
 -- each function here leaves it as it is.
-use Rattle.std.specs.Prelude.{ℕ, zero, suc, ◌+◌, ◌-◌, ◌*◌, ◌/◌, ◌%◌, ◌^◌, Bool, ◌&&◌, nat_lt, if◌then◌else◌, ℤ, pos, ◌+ℤ◌, ◌-ℤ◌, ◌*ℤ◌, min}
+use Rattle.std.specs.Prelude.{ℕ, zero, suc, ◌+◌, ◌-◌, ◌*◌, ◌/◌, ◌%◌, ◌^◌, Bool, ◌&&◌, nat_lt, ◌==◌, if◌then◌else◌, ℤ, pos, ◌+ℤ◌, ◌-ℤ◌, ◌*ℤ◌, min}
 use Rattle.std.specs.Int.{int_shr}
 use Rattle.vc_types.specs.declared.video.Component.{Component}
 use Rattle.vc_types.specs.Lifting.{Line}
 use Rattle.vc_types.specs.TransformParameters.{Parameters}
+use Rattle.vc_types.specs.Subbands.{Orientation, LL, H, HL, LH, HH, nested}
 use Rattle.vc_types.specs.Subbands.{plane_width, plane_height, plane_depth, levels, padded_width, padded_height}
 use Rattle.vc_types.specs.Wavelets.{is_shifted, synthesised, analysed}
 
@@ -35,47 +36,63 @@ halved z = int_shr (z +ℤ pos 1) 1
 abbrev pub doubled : ℤ → ℤ
 doubled z = pos 2 *ℤ z
 
--- where column or row k of a level stands in its subbands, side by side: an even one in the first
--- half, an odd one in the second
-abbrev pub half_place : ℕ → ℕ → ℕ
-half_place half k = k / 2 + k % 2 * half
+-- ---- a level, whose subbands have w columns and h rows each
 
--- and back
-abbrev pub source_of : ℕ → ℕ → ℕ
-source_of half k = if nat_lt k half then 2 * k else 2 * (k - half) + 1
+-- the coefficient in column x and row y of a subband, where the subbands stand nested
+abbrev pub coefficient_in : Orientation → ℕ → ℕ → Cells → Cells
+coefficient_in o w h cells x y = let r = nested o w h in cells (r.x + x) (r.y + y)
 
--- ---- a level across alone, whose subbands have w columns and h rows
+abbrev pub is_even : ℕ → Bool
+is_even n = n % 2 == 0
 
--- L goes to the even columns, and H to the odd ones
+-- ---- a level across alone
+
+-- L goes to the even columns, H to the odd columns
+abbrev pub orientation_across : ℕ → Orientation
+orientation_across x = if is_even x then LL else H
+
 unfoldable pub interleaved_across : ℕ → ℕ → Cells → Cells
 interleaved_across w h cells x y =
-    if is_within (2 * w) h x y then cells (half_place w x) y else cells x y
+    if is_within (2 * w) h x y
+    then coefficient_in (orientation_across x) w h cells (x / 2) y
+    else cells x y
 
 -- the subbands are interleaved, each row is synthesised, and the samples are shifted
 unfoldable pub level_across : ℕ → ℕ → ℕ → Cells → Cells
 level_across wavelet w h cells =
-    on_cells halved (is_shifted wavelet) (2 * w) h
-    (on_rows (synthesised wavelet (2 * w)) h
-    (interleaved_across w h cells))
+    let together = interleaved_across w h cells in
+    let rows = on_rows (synthesised wavelet (2 * w)) h together in
+    on_cells halved (is_shifted wavelet) (2 * w) h rows
 
--- ---- a level both ways, whose subbands have w columns and h rows
+-- ---- a level both ways
 
--- LL goes to the even columns and even rows, HL to the odd columns and even rows, LH to the even
--- columns and odd rows, HH to the odd columns and odd rows
+-- LL goes to the even columns of the even rows and HL to their odd columns, LH to the even columns
+-- of the odd rows and HH to their odd columns
+abbrev pub orientation_both_ways : ℕ → ℕ → Orientation
+orientation_both_ways x y =
+    if is_even y then (if is_even x then LL else HL) else (if is_even x then LH else HH)
+
 unfoldable pub interleaved : ℕ → ℕ → Cells → Cells
 interleaved w h cells x y =
-    if is_within (2 * w) (2 * h) x y then cells (half_place w x) (half_place h y) else cells x y
+    if is_within (2 * w) (2 * h) x y
+    then coefficient_in (orientation_both_ways x y) w h cells (x / 2) (y / 2)
+    else cells x y
 
 -- the subbands are interleaved, each column is synthesised with one wavelet, then each row with the
 -- other, and the samples are shifted as the one of the rows wants it
 unfoldable pub inverse_level : ℕ → ℕ → ℕ → ℕ → Cells → Cells
 inverse_level vertical horizontal w h cells =
-    on_cells halved (is_shifted horizontal) (2 * w) (2 * h)
-    (on_rows (synthesised horizontal (2 * w)) (2 * h)
-    (on_columns (synthesised vertical (2 * h)) (2 * w)
-    (interleaved w h cells)))
+    let together = interleaved w h cells in
+    let columns = on_columns (synthesised vertical (2 * h)) (2 * w) together in
+    let rows = on_rows (synthesised horizontal (2 * w)) (2 * h) columns in
+    on_cells halved (is_shifted horizontal) (2 * w) (2 * h) rows
 
--- the four quarters are taken from every other column and row
+-- which column or row is taken to place k of two halves: the even ones to the first half, the odd
+-- ones to the second
+abbrev pub source_of : ℕ → ℕ → ℕ
+source_of half k = if nat_lt k half then 2 * k else 2 * (k - half) + 1
+
+-- the four subbands are taken from every other column and row
 unfoldable pub deinterleaved : ℕ → ℕ → Cells → Cells
 deinterleaved w h cells x y =
     if is_within (2 * w) (2 * h) x y then cells (source_of w x) (source_of h y) else cells x y
@@ -83,10 +100,10 @@ deinterleaved w h cells x y =
 -- the samples are doubled, each row is analysed, then each column, and the subbands are taken apart
 unfoldable pub forward_level : ℕ → ℕ → ℕ → Cells → Cells
 forward_level wavelet w h cells =
-    deinterleaved w h
-    (on_columns (analysed wavelet (2 * h)) (2 * w)
-    (on_rows (analysed wavelet (2 * w)) (2 * h)
-    (on_cells doubled (is_shifted wavelet) (2 * w) (2 * h) cells)))
+    let samples = on_cells doubled (is_shifted wavelet) (2 * w) (2 * h) cells in
+    let rows = on_rows (analysed wavelet (2 * w)) (2 * h) samples in
+    let columns = on_columns (analysed wavelet (2 * h)) (2 * w) rows in
+    deinterleaved w h columns
 
 -- ---- all levels, the lowest of which has subbands of w columns and h rows
 
@@ -118,9 +135,10 @@ lowest_height p c = padded_height p c / 2 ^ p.depth
 -- the levels across alone, and then the levels both ways
 unfoldable pub inverse_transform : Parameters → Component → Cells → Cells
 inverse_transform p c cells =
-    inverse_levels p.wavelet p.wavelet_ho p.depth
-    (lowest_width p c * 2 ^ p.depth_ho) (lowest_height p c)
-    (levels_across p.wavelet_ho p.depth_ho (lowest_width p c) (lowest_height p c) cells)
+    let w = lowest_width p c in
+    let h = lowest_height p c in
+    let across = levels_across p.wavelet_ho p.depth_ho w h cells in
+    inverse_levels p.wavelet p.wavelet_ho p.depth (w * 2 ^ p.depth_ho) h across
 
 -- samples less 2 ^ (depth - 1); past the last column and row, those of the last
 unfoldable pub padded_plane : Parameters → Component → (ℕ → ℕ → ℕ) → Cells
