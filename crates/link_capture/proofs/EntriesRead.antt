@@ -5,19 +5,19 @@ use Rattle.std.proofs.lemmas.List.{length-append}
 use Rattle.vc_ports.specs.Reading.{Gave}
 use Rattle.vc_ports.proofs.Given.{Gave-none, Gave-then}
 use Rattle.link_capture.specs.Capture.{entry, first_entry}
-use Rattle.link_capture.specs.Endings.{GaveEntries, Ends}
+use Rattle.link_capture.specs.Endings.{GaveSplit, Ends}
 use Rattle.link_capture.specs.Reading.{ReadsEntry, place_after_entry}
 use Rattle.link_capture.specs.declared.fault.EntryFault.{EntryFault}
 use Rattle.link_capture.proofs.Heads.{length-entry}
 use Rattle.link_capture.proofs.Entries.{entries_of-nothing, entries_of-next, entries_of-cut}
 
 -- before the first entry
-pub begun : (before : Option (List ℕ)) → GaveEntries before before 0 [] []
+pub begun : (before : Option (List ℕ)) → GaveSplit before before 0 [] []
 begun before = record { given = []; gave = Gave-none before; split = entries_of-nothing; edge = refl }
 
 -- an entry more
-pub with_entry : (before mid after : Option (List ℕ)) (place : ℕ) (entries : List (List ℕ)) (datagram : Vec ℕ) → GaveEntries before mid place entries [] → ReadsEntry mid after place (Ok (Some datagram))
-    → GaveEntries before after (place_after_entry place (Ok (Some datagram))) (entries ++ datagram.items ∷ []) []
+pub with_entry : (before mid after : Option (List ℕ)) (place : ℕ) (entries : List (List ℕ)) (datagram : Vec ℕ) → GaveSplit before mid place entries [] → ReadsEntry mid after place (Ok (Some datagram))
+    → GaveSplit before after (place_after_entry place (Ok (Some datagram))) (entries ++ datagram.items ∷ []) []
 with_entry before mid after place entries datagram heard read = record {
   given = heard.given ++ entry datagram.items;
   gave = Gave-then before mid after heard.given (entry datagram.items) heard.gave read.1;
@@ -26,8 +26,8 @@ with_entry before mid after place entries datagram heard read = record {
 }
 
 -- bytes that begin no whole entry
-pub with_rest : (before mid after : Option (List ℕ)) (place : ℕ) (entries : List (List ℕ)) (part : List ℕ) → GaveEntries before mid place entries [] → Gave mid after part → first_entry part ≡ None
-    → GaveEntries before after place entries part
+pub with_rest : (before mid after : Option (List ℕ)) (place : ℕ) (entries : List (List ℕ)) (part : List ℕ) → GaveSplit before mid place entries [] → Gave mid after part → first_entry part ≡ None
+    → GaveSplit before after place entries part
 with_rest before mid after place entries part heard gave not_whole = record {
   given = heard.given ++ part;
   gave = Gave-then before mid after heard.given part heard.gave gave;
@@ -36,6 +36,6 @@ with_rest before mid after place entries part heard gave not_whole = record {
 }
 
 -- the end by a fault
-pub at_fault : (before mid after : Option (List ℕ)) (place : ℕ) (entries : List (List ℕ)) (fault : EntryFault) → GaveEntries before mid place entries [] → ReadsEntry mid after place (Err fault)
+pub at_fault : (before mid after : Option (List ℕ)) (place : ℕ) (entries : List (List ℕ)) (fault : EntryFault) → GaveSplit before mid place entries [] → ReadsEntry mid after place (Err fault)
     → Ends before after place entries (Some fault)
 at_fault before mid after place entries fault heard read = grind (arith, with_rest)

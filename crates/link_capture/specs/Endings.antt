@@ -7,7 +7,7 @@ use Rattle.link_capture.specs.declared.fault.EntryFault.TheVariants.{Cut, ReadFa
 
 -- the source gave bytes whose entries are these and whose rest is this; the rest begins at the
 -- place
-pub record GaveEntries
+pub record GaveSplit
     (before after : Option (List ℕ)) (place : ℕ) (entries : List (List ℕ)) (rest : List ℕ)
     : Type 0 where
   pub given : List ℕ
@@ -17,11 +17,11 @@ pub record GaveEntries
 
 -- how a loop over the entries ended, at an edge or by a fault
 abbrev pub Ends : Option (List ℕ) → Option (List ℕ) → ℕ → List (List ℕ) → Option EntryFault → Type 0
-Ends before after place entries None = GaveEntries before after place entries [] × IsAtEnd after
+Ends before after place entries None = GaveSplit before after place entries [] × IsAtEnd after
 Ends before after place entries (Some (Cut at)) =
     (at ≡ place)
-    × ((rest : List ℕ) × (rest ≢ []) × GaveEntries before after place entries rest × IsAtEnd after)
+    × ((rest : List ℕ) × (rest ≢ []) × GaveSplit before after place entries rest × IsAtEnd after)
 Ends before after place entries (Some ReadFault) =
-    (rest : List ℕ) × GaveEntries before after place entries rest
+    (rest : List ℕ) × GaveSplit before after place entries rest
 Ends before after place entries (Some NoMemory) =
-    (rest : List ℕ) × GaveEntries before after place entries rest
+    (rest : List ℕ) × GaveSplit before after place entries rest

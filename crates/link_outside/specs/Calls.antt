@@ -1,5 +1,7 @@
--- What one call of a wire makes of what it tells, and calls one after another. The laws of an outlet cite these.
-use Rattle.std.proofs.Common.{◌≡◌, ℕ, Bool, true, false, List, [], ◌∷◌, ◌++◌, take, drop, Option, Some, None, refl, sym, ap, ◌∙◌, append_assoc, append-nil, take-append-drop}
+-- What one call of a wire makes of what it tells, and calls one after another. The laws of an outlet cite
+-- these.
+use Rattle.std.proofs.Common.{◌≡◌, ℕ, Bool, true, false, List, [], ◌∷◌, ◌++◌, take, drop, Option, Some, None}
+use Rattle.std.proofs.Common.{refl, sym, ap, ◌∙◌, append_assoc, append-nil, take-append-drop}
 use Rattle.std.specs.Option.{option_map}
 use Rattle.std.specs.Prelude.{IfSome, if◌then◌else◌, Result, Ok, Err}
 use Rattle.std.specs.Result.{IsErr}
@@ -41,7 +43,8 @@ pub looped-none : (looped : Bool) → looped_back looped [] ≡ []
 looped-none true = refl
 looped-none false = refl
 
-looped-append : (looped : Bool) (a b : Lists) → looped_back looped (a ++ b) ≡ looped_back looped a ++ looped_back looped b
+looped-append : (looped : Bool) (a b : Lists)
+    → looped_back looped (a ++ b) ≡ looped_back looped a ++ looped_back looped b
 looped-append true a b = refl
 looped-append false a b = refl
 
@@ -51,7 +54,8 @@ pub passes_none : (told : WireTold) → Passes told told [] []
 passes_none told = record {
   sent_grew = grown-none told.sent;
   given_grew = grown-none told.given;
-  came = ap (grown_by told.coming) (looped-none told.looped) ∙ sym (grown-none told.coming) ∙ sym (led-none told.coming);
+  came = ap (grown_by told.coming) (looped-none told.looped)
+      ∙ sym (grown-none told.coming) ∙ sym (led-none told.coming);
   at_stays = refl;
   to_stays = refl;
   looped_stays = refl;
@@ -61,7 +65,8 @@ passes_none told = record {
 
 -- ---- one call
 
-pub passes_sent : (before after : WireTold) (datagram : List ℕ) → after ≡ sending before datagram → Passes before after (datagram ∷ []) []
+pub passes_sent : (before after : WireTold) (datagram : List ℕ) → after ≡ sending before datagram
+    → Passes before after (datagram ∷ []) []
 passes_sent before after datagram is = rw is (record {
   sent_grew = refl;
   given_grew = grown-none before.given;
@@ -73,19 +78,24 @@ passes_sent before after datagram is = rw is (record {
   aimed_stays = refl;
 })
   where
-    by_loop : (looped : Bool) (coming : Told) → grown_by coming (looped_back looped (datagram ∷ [])) ≡ (if looped then grown coming datagram else coming)
+    by_loop : (looped : Bool) (coming : Told) → grown_by coming (looped_back looped (datagram ∷ []))
+        ≡ (if looped then grown coming datagram else coming)
     by_loop true coming = refl
     by_loop false coming = sym (grown-none coming)
 
-first_of : (datagram : List ℕ) (coming : Told) → IfSome coming (λ all. take 1 all ≡ datagram ∷ []) → coming ≡ led_by (datagram ∷ []) (option_map (drop 1) coming)
+first_of : (datagram : List ℕ) (coming : Told) → IfSome coming (λ all. take 1 all ≡ datagram ∷ [])
+    → coming ≡ led_by (datagram ∷ []) (option_map (drop 1) coming)
 first_of datagram None first = refl
-first_of datagram (Some all) first = ap Some (sym (take-append-drop 1 all) ∙ ap (λ (l : Lists). l ++ drop 1 all) first)
+first_of datagram (Some all) first =
+    ap Some (sym (take-append-drop 1 all) ∙ ap (λ (l : Lists). l ++ drop 1 all) first)
 
-pub passes_given : (before after : WireTold) (datagram : List ℕ) → Receives before after datagram → Passes before after [] (datagram ∷ [])
+pub passes_given : (before after : WireTold) (datagram : List ℕ) → Receives before after datagram
+    → Passes before after [] (datagram ∷ [])
 passes_given before after datagram received = rw received.told (record {
   sent_grew = grown-none before.sent;
   given_grew = refl;
-  came = ap (grown_by before.coming) (looped-none before.looped) ∙ sym (grown-none before.coming) ∙ first_of datagram before.coming received.first;
+  came = ap (grown_by before.coming) (looped-none before.looped)
+      ∙ sym (grown-none before.coming) ∙ first_of datagram before.coming received.first;
   at_stays = refl;
   to_stays = refl;
   looped_stays = refl;
@@ -94,9 +104,11 @@ passes_given before after datagram received = rw received.told (record {
 })
 
 -- a datagram for which there was no memory
-pub lost : (before after : WireTold) (datagram : List ℕ) (answer : Result Arrived NoMemory) → IsErr answer → Receives before after datagram → Arrives before after answer
+pub lost : (before after : WireTold) (datagram : List ℕ) (answer : Result Arrived NoMemory) → IsErr answer
+    → Receives before after datagram → Arrives before after answer
 lost before after datagram (Ok arrived) failed received = absurd (false≢true failed)
-lost before after datagram (Err no_memory) failed received = (datagram, passes_given before after datagram received)
+lost before after datagram (Err no_memory) failed received =
+    (datagram, passes_given before after datagram received)
 
 -- ---- calls one after another
 
@@ -104,14 +116,17 @@ pub passes_then : (before mid after : WireTold) (sent given more_sent more_given
     → Passes before mid sent given → Passes mid after more_sent more_given
     → Passes before after (sent ++ more_sent) (given ++ more_given)
 passes_then before mid after sent given more_sent more_given first second = record {
-  sent_grew = second.sent_grew ∙ ap (λ (l : Told). grown_by l more_sent) first.sent_grew ∙ grown-twice before.sent sent more_sent;
-  given_grew = second.given_grew ∙ ap (λ (l : Told). grown_by l more_given) first.given_grew ∙ grown-twice before.given given more_given;
+  sent_grew = second.sent_grew ∙ ap (λ (l : Told). grown_by l more_sent) first.sent_grew
+      ∙ grown-twice before.sent sent more_sent;
+  given_grew = second.given_grew ∙ ap (λ (l : Told). grown_by l more_given) first.given_grew
+      ∙ grown-twice before.given given more_given;
   came =
       ap (grown_by before.coming) (looped-append before.looped sent more_sent)
       ∙ sym (grown-twice before.coming (looped_back before.looped sent) (looped_back before.looped more_sent))
       ∙ ap (λ (l : Told). grown_by l (looped_back before.looped more_sent)) first.came
       ∙ led-then-grown mid.coming given (looped_back before.looped more_sent)
-      ∙ ap (λ (b : Bool). led_by given (grown_by mid.coming (looped_back b more_sent))) (sym first.looped_stays)
+      ∙ ap (λ (b : Bool). led_by given (grown_by mid.coming (looped_back b more_sent)))
+      (sym first.looped_stays)
       ∙ ap (led_by given) second.came
       ∙ led-twice after.coming given more_given;
   at_stays = second.at_stays ∙ first.at_stays;

@@ -1,4 +1,5 @@
-//! The two ends of a wire or a capture: where datagrams go one after another, and datagrams received through one buffer.
+//! The two ends of a wire or a capture: where datagrams go one after another, and datagrams received
+//! through one buffer.
 #![tactic(auto)]
 
 mod capture;

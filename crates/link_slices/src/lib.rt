@@ -1,4 +1,5 @@
-//! Slices on their way to workers and back: as jobs of the machine, and those that are out at places, where others decode them.
+//! Slices on their way to workers and back: as jobs of the machine, and those that are out at places, where
+//! others decode them.
 #![tactic(auto)]
 
 mod comparing;

@@ -1,6 +1,9 @@
-ghost use Rattle.std.specs.Prelude.{◌≡◌, ◌+◌, ◌≤◌, ◌<◌, ◌↔◌, ◌≢◌, length, IfOk, IfSome, IsNone, IsSome, IsTrue, IsFalse, MatchOption};
+ghost use Rattle.std.specs.Prelude.{◌≡◌, ◌+◌, ◌≤◌, ◌<◌, ◌↔◌, ◌≢◌, length, IfOk, IfSome};
+ghost use Rattle.std.specs.Prelude.{IsNone, IsSome, IsTrue, IsFalse, MatchOption};
 ghost use Rattle.vc_types.specs.Fields.{Answers};
-ghost use Rattle.link_model.specs.Packets.{version, has_padding, has_extension, csrc_count, marker, payload_type, header_end, padding_count, payload_end, is_shaped, packet_fields, rtp_packet};
+ghost use Rattle.link_model.specs.Packets.{version, has_padding, has_extension, csrc_count, marker};
+ghost use Rattle.link_model.specs.Packets.{payload_type, header_end, padding_count, payload_end};
+ghost use Rattle.link_model.specs.Packets.{is_shaped, packet_fields, rtp_packet};
 ghost use Rattle.rtp_head.specs.Views.{packet_of};
 
 use crate::view::RtpView;
@@ -91,8 +94,8 @@ fn payload_end(bytes: &[u8], from: usize) -> Option<usize>
     Some(bytes.len() - padding)
 }
 
-/// Reads the RTP header of a datagram (RFC 3550, 5.1). The payload is what lies between the header, with its CSRC
-/// list and extension, and the padding.
+/// Reads the RTP header of a datagram (RFC 3550, 5.1). The payload is what lies between the header, with
+/// its CSRC list and extension, and the padding.
 #[tactic(auto, unfolding(link_model::specs::Packets::rtp_packet, link_model::specs::Packets::packet_fields, link_model::specs::Packets::is_shaped))]
 pub fn read_rtp(bytes: &[u8]) -> Result<RtpView, RtpRefusal>
     ensures value { Answers packet_of result (rtp_packet bytes.now) }

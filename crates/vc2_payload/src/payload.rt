@@ -13,7 +13,8 @@ pub struct FragmentHead {
     pub scaler: u16,
 }
 
-/// A payload by its parse code (RFC 8450, 4). A body is borrowed, and `from` is its place in the payload's bytes.
+/// A payload by its parse code (RFC 8450, 4). A body is borrowed, and `from` is its place in the payload's
+/// bytes.
 #[derive(Clone, Copy, Debug, PartialEq, Eq)]
 pub enum Payload<'a> {
     /// Code 00: a coded sequence header, and whatever follows it.

@@ -1,8 +1,10 @@
-ghost use Rattle.std.specs.Prelude.{◌≡◌, ◌+◌, ◌-◌, ◌≤◌, ◌<◌, ◌↔◌, ◌≢◌, ◌&&◌, length, take, drop, IfOk, IfSome, IsNone, IsSome, IsTrue, IsFalse, nat_le};
+ghost use Rattle.std.specs.Prelude.{◌≡◌, ◌+◌, ◌-◌, ◌≤◌, ◌<◌, ◌↔◌, ◌≢◌, ◌&&◌, length, take, drop, IfOk};
+ghost use Rattle.std.specs.Prelude.{IfSome, IsNone, IsSome, IsTrue, IsFalse, nat_le};
 ghost use Rattle.byteorder.specs.Endian.{big_number};
 ghost use Rattle.vc_types.specs.Fields.{Answers};
 ghost use Rattle.vc_types.specs.ParseCodes.{fragment_code};
-ghost use Rattle.link_model.specs.Packets.{payload_code, fragment_fits, fragment_value, fragment_head, is_known_code, payload};
+ghost use Rattle.link_model.specs.Packets.{payload_code, fragment_fits, fragment_value};
+ghost use Rattle.link_model.specs.Packets.{fragment_head, is_known_code, payload};
 ghost use Rattle.vc2_payload.specs.Views.{head_of, payload_value, HasBodyIn, CanBeWritten};
 
 use crate::payload::{FragmentHead, Payload};
@@ -12,7 +14,8 @@ use vc_types::{
     AUXILIARY_DATA, END_OF_SEQUENCE, HIGH_QUALITY_FRAGMENT, PADDING_DATA, SEQUENCE_HEADER,
 };
 
-// The bytes that every payload begins with, those of a fragment with parameters, and those of one with slices.
+// The bytes that every payload begins with, those of a fragment with parameters, and those of one with
+// slices.
 const HEAD_BYTES: usize = 4;
 
 const PARAMS_BYTES: usize = 16;
@@ -74,8 +77,8 @@ fn fragment(bytes: &[u8]) -> Option<Payload<'_>>
     }
 }
 
-/// Reads a payload (RFC 8450, 4). Bytes behind a fragment's body and behind code 10 are ignored, and so are the
-/// contents of codes 20 and 30.
+/// Reads a payload (RFC 8450, 4). Bytes behind a fragment's body and behind code 10 are ignored, and so are
+/// the contents of codes 20 and 30.
 #[tactic(auto, unfolding(link_model::specs::Packets::payload))]
 pub fn read_payload(bytes: &[u8]) -> Result<Payload<'_>, PayloadRefusal>
     ensures value { Answers payload_value result (payload bytes.now) }

@@ -64,7 +64,8 @@ fn append(out: &mut Vec<u8>, head: &[u8], offsets: &[u8], body: &[u8]) -> Result
     Ok(())
 }
 
-/// Appends a payload (RFC 8450, 4): a fragment's length is that of its body, and the flags of every other payload are
+/// Appends a payload (RFC 8450, 4): a fragment's length is that of its body, and the flags of every other
+/// payload are
 /// 0. Where memory runs out, nothing is appended.
 #[tactic(auto, unfolding(link_model::specs::Packets::payload_bytes))]
 pub fn write_payload(out: &mut Vec<u8>, p: &Payload<'_>) -> Result<(), NoMemory>

@@ -4,8 +4,8 @@ ghost use Rattle.vc_types.specs.OfPlan.{padded_height, padded_width};
 
 use vc_types::{Component, Plan, padded as padded_side};
 
-/// The width and height of a component's plane, padded up to multiples of 2^(depth + depth_ho) and 2^depth (ST
-/// 2042-1, subband data dimensions).
+/// The width and height of a component's plane, padded up to multiples of 2^(depth + depth_ho) and 2^depth
+/// (ST 2042-1, subband data dimensions).
 pub fn padded(plan: &Plan, c: Component) -> (u32, u32)
     ensures width { result.0 ≡ padded_width plan.now c }
     ensures height { result.1 ≡ padded_height plan.now c }

@@ -1,12 +1,14 @@
 ghost use Rattle.std.specs.Prelude.{◌≡◌, ◌+◌, ◌*◌, ◌^◌, ◌<◌, ◌≤◌};
-ghost use Rattle.vc_types.specs.OfPlan.{coefficient_place, padded_height, padded_width, slice_coefficient_count, slice_count};
+ghost use Rattle.vc_types.specs.OfPlan.{coefficient_place, padded_height, padded_width};
+ghost use Rattle.vc_types.specs.OfPlan.{slice_coefficient_count, slice_count};
 
 use crate::slices::slice_rect;
 use crate::subbands::bands;
 use vc_types::{Component, Plan};
 
-/// The column and row in a component's padded grid of coefficient number `i` of a slice: the subbands in order, and in each
-/// the slice's rectangle row by row. To visit them all, walk the rectangles of `slice_rect`.
+/// The column and row in a component's padded grid of coefficient number `i` of a slice: the subbands in
+/// order, and in each the slice's rectangle row by row. To visit them all, walk the rectangles of
+/// `slice_rect`.
 pub fn place_of(plan: &Plan, c: Component, slice: u32, i: u32) -> (u32, u32)
     requires slice { slice < slice_count plan.now }
     requires number { i < slice_coefficient_count plan.now c slice }

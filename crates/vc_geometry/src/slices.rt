@@ -1,14 +1,15 @@
 ghost use Rattle.std.specs.Prelude.{◌≡◌, ◌+◌, ◌-◌, ◌*◌, ◌/◌, ◌^◌, ◌<◌, ◌≤◌, length};
 ghost use Rattle.vc_types.specs.Subbands.{share, share_start};
 ghost use Rattle.vc_geometry.specs.Rectangles.{AreSliceRectangles};
-ghost use Rattle.vc_types.specs.OfPlan.{band_count, padded_height, padded_width, slice_coefficient_count, slice_column, slice_count, slice_rectangle, slice_row};
+ghost use Rattle.vc_types.specs.OfPlan.{band_count, padded_height, padded_width, slice_coefficient_count};
+ghost use Rattle.vc_types.specs.OfPlan.{slice_column, slice_count, slice_rectangle, slice_row};
 
 use crate::spans::{Span, part};
 use crate::subbands::{band, bands};
 use vc_types::{Component, Plan, Rect};
 
-/// The part of subband number `b` that belongs to a slice, as a rectangle of the component's padded grid (ST 2042-1, slice
-/// coordinates). It may be empty.
+/// The part of subband number `b` that belongs to a slice, as a rectangle of the component's padded grid
+/// (ST 2042-1, slice coordinates). It may be empty.
 pub fn slice_rect(plan: &Plan, c: Component, b: u32, slice: u32) -> Rect
     requires number { b < band_count plan.now }
     requires slice { slice < slice_count plan.now }

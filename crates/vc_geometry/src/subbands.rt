@@ -6,7 +6,8 @@ ghost use Rattle.vc_types.specs.OfPlan.{band_count, padded_height, padded_width,
 use crate::padding::padded;
 use vc_types::{Component, Plan, Rect};
 
-/// How many subbands a component has: LL, then H of each level across alone, then HL, LH and HH of each level both ways.
+/// How many subbands a component has: LL, then H of each level across alone, then HL, LH and HH of each
+/// level both ways.
 pub fn bands(plan: &Plan) -> u32
     ensures value { result ≡ length (subbands plan.now.depth_ho plan.now.depth) }
     ensures count { result ≡ band_count plan.now }

@@ -1,5 +1,6 @@
 -- Codes in a bounded block, whose bits ones without end follow (ST 2042-1, bounded blocks).
-use Rattle.std.specs.Prelude.{◌≡◌, ℕ, zero, suc, ◌-◌, ◌+◌, ◌*◌, ◌<◌, ℤ, pos, neg_ℤ, unsigned_abs, Bool, true, false, List, [], ◌∷◌, length, drop, slice_index_or, ◌==◌, if◌then◌else◌}
+use Rattle.std.specs.Prelude.{◌≡◌, ℕ, zero, suc, ◌-◌, ◌+◌, ◌*◌, ◌<◌, ℤ, pos, neg_ℤ, unsigned_abs, Bool, true}
+use Rattle.std.specs.Prelude.{false, List, [], ◌∷◌, length, drop, slice_index_or, ◌==◌, if◌then◌else◌}
 use Rattle.vc_types.specs.Bits.{digit_of}
 use Rattle.vc_types.specs.Codes.{sint_bits}
 

@@ -1,7 +1,8 @@
 -- Data units (ST 2042-1, data unit; parse info header): what a unit is, and what it is written as.
 use Rattle.std.specs.Prelude.{ℕ, ◌+◌, Bool, ◌||◌, List, ◌∷◌, ◌++◌, length, ◌==◌, if◌then◌else◌}
 use Rattle.byteorder.specs.Endian.{big_bytes}
-use Rattle.vc_types.specs.ParseCodes.{header_code, end_code, auxiliary_code, padding_code, low_delay_code, picture_code}
+use Rattle.vc_types.specs.ParseCodes.{header_code, end_code, auxiliary_code}
+use Rattle.vc_types.specs.ParseCodes.{padding_code, low_delay_code, picture_code}
 
 -- a data unit: its parse code and its body
 pub record DataUnit : Type 0 where

@@ -1,6 +1,8 @@
 -- Fields that are read one after another from the front of a list of bits or bytes. A field gives
 -- its value and what is left, or the first refusal.
-use Rattle.std.specs.Prelude.{◌≡◌, ℕ, Bool, true, false, List, [], ◌∷◌, ◌++◌, length, take, drop, Option, Some, None, Result, Ok, Err, nat_lt, if◌then◌else◌, ◌+◌, ◌-◌, ◌/◌, ◌%◌, replicate}
+use Rattle.std.specs.Prelude.{◌≡◌, ℕ, Bool, true, false, List, [], ◌∷◌, ◌++◌, length, take}
+use Rattle.std.specs.Prelude.{drop, Option, Some, None, Result, Ok, Err, nat_lt}
+use Rattle.std.specs.Prelude.{if◌then◌else◌, ◌+◌, ◌-◌, ◌/◌, ◌%◌, replicate}
 use Rattle.vc_types.specs.Bits.{bits_of}
 use Rattle.vc_types.specs.Codes.{uint_bits, uint_at}
 

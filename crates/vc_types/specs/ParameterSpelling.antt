@@ -1,6 +1,7 @@
 -- The spelling of transform parameters (ST 2042-1, transform parameters): which of their parts are
 -- coded and by what numbers, the bits that they are written as, and the value that they stand for.
-use Rattle.std.specs.Prelude.{◌≡◌, ℕ, ◌+◌, ◌≤◌, Bool, true, false, List, [], ◌∷◌, length, Option, Some, None, ⊤, IsTrue, IsSome, MatchOption, unwrap_or, ◌==◌, if◌then◌else◌}
+use Rattle.std.specs.Prelude.{◌≡◌, ℕ, ◌+◌, ◌≤◌, Bool, true, false, List, [], ◌∷◌, length, Option, Some, None}
+use Rattle.std.specs.Prelude.{⊤, IsTrue, IsSome, MatchOption, unwrap_or, ◌==◌, if◌then◌else◌}
 use Rattle.std.specs.List.{flat_map}
 use Rattle.std.specs.Str.{bytes_eq}
 use Rattle.vc_types.specs.Codes.{uint_bits}

@@ -1,5 +1,6 @@
 -- The planes of a decoded picture (ST 2042-1, picture output).
-use Rattle.std.specs.Prelude.{ℕ, ◌-◌, ◌^◌, List, [], slice_index_or, ℤ, pos, negsuc, ◌+ℤ◌, unsigned_abs, min, Option}
+use Rattle.std.specs.Prelude.{ℕ, ◌-◌, ◌^◌, List, [], slice_index_or, ℤ, pos}
+use Rattle.std.specs.Prelude.{negsuc, ◌+ℤ◌, unsigned_abs, min, Option}
 use Rattle.std.specs.Option.{option_map}
 use Rattle.vc_types.specs.declared.video.Component.{Component}
 use Rattle.vc_types.specs.declared.video.Component.TheVariants.{Y, C1, C2}

@@ -1,6 +1,8 @@
 -- Quantisers and quantisation matrices (ST 2042-1, inverse quantisation and quantisation matrices;
 -- the default matrices are this project's profile).
-use Rattle.std.specs.Prelude.{ℕ, ◌+◌, ◌-◌, ◌*◌, ◌/◌, ◌%◌, ◌^◌, if◌then◌else◌, ◌==◌, ℤ, pos, negsuc, neg_ℤ, unsigned_abs, List, [], ◌∷◌, ◌++◌, take, replicate, slice_index_or, Option, Some, None}
+use Rattle.std.specs.Prelude.{ℕ, ◌+◌, ◌-◌, ◌*◌, ◌/◌, ◌%◌, ◌^◌, if◌then◌else◌, ◌==◌, ℤ, pos}
+use Rattle.std.specs.Prelude.{negsuc, neg_ℤ, unsigned_abs, List, [], ◌∷◌, ◌++◌, take}
+use Rattle.std.specs.Prelude.{replicate, slice_index_or, Option, Some, None}
 use Rattle.std.specs.List.{flat_map, range_with_len}
 
 -- ---- quantisers

@@ -1,5 +1,6 @@
 -- Sequence headers (ST 2042-1, sequence header): the fields in order, and the first refusal.
-use Rattle.std.specs.Prelude.{ℕ, ◌-◌, ◌^◌, ◌/◌, Bool, ◌&&◌, ◌||◌, List, length, nat_le, ◌==◌, if◌then◌else◌, Result, Ok, Err}
+use Rattle.std.specs.Prelude.{ℕ, ◌-◌, ◌^◌, ◌/◌, Bool, ◌&&◌, ◌||◌, List, length}
+use Rattle.std.specs.Prelude.{nat_le, ◌==◌, if◌then◌else◌, Result, Ok, Err}
 use Rattle.vc_types.specs.Bits.{bits_of}
 use Rattle.vc_types.specs.declared.header.Header.{Header}
 use Rattle.vc_types.specs.declared.shape.Shape.{Shape}
@@ -8,7 +9,8 @@ use Rattle.vc_types.specs.declared.video.Sampling.TheVariants.{S444, S422, S420}
 use Rattle.vc_types.specs.declared.video.SignalRange.{SignalRange}
 use Rattle.vc_types.specs.declared.refusal.HeaderRefusal.{HeaderRefusal}
 use Rattle.vc_types.specs.declared.refusal.HeaderRefusal.TheVariants as refusals
-use Rattle.vc_types.specs.Video.{BaseFormat, format_of, range_of, signal_range, dimensions_fit, excursion_fits, colour_width, colour_height, picture_height, video_depth}
+use Rattle.vc_types.specs.Video.{BaseFormat, format_of, range_of, signal_range, dimensions_fit}
+use Rattle.vc_types.specs.Video.{excursion_fits, colour_width, colour_height, picture_height, video_depth}
 use Rattle.vc_types.specs.Fields.{Field, ◌>>=◌, give, skip, refuse, tested, behind_flag, number_up_to}
 
 -- the value of a sequence header

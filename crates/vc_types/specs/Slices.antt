@@ -1,5 +1,6 @@
 -- High-quality slices (ST 2042-1, high-quality slice).
-use Rattle.std.specs.Prelude.{ℕ, ◌-◌, ◌*◌, ◌^◌, Bool, nat_lt, nat_le, if◌then◌else◌, List, ◌++◌, length, map, replicate, slice_index_or, ℤ, unsigned_abs, Option, Some, None, Result, Ok, Err}
+use Rattle.std.specs.Prelude.{ℕ, ◌-◌, ◌*◌, ◌^◌, Bool, nat_lt, nat_le, if◌then◌else◌, List, ◌++◌, length, map}
+use Rattle.std.specs.Prelude.{replicate, slice_index_or, ℤ, unsigned_abs, Option, Some, None, Result, Ok, Err}
 use Rattle.std.specs.List.{flat_map, list_any, enumerate_from, zip}
 use Rattle.vc_types.specs.declared.refusal.Unsound.{Unsound}
 use Rattle.vc_types.specs.declared.refusal.Unsound.TheVariants.{IndexRange, CoefficientRange}

@@ -1,6 +1,7 @@
 -- Transform parameters (ST 2042-1, transform parameters): the fields in order, and the first
 -- refusal.
-use Rattle.std.specs.Prelude.{ℕ, zero, suc, ◌+◌, ◌-◌, ◌^◌, Bool, ◌&&◌, List, [], ◌∷◌, Option, Some, None, Result, nat_le, ◌==◌, if◌then◌else◌}
+use Rattle.std.specs.Prelude.{ℕ, zero, suc, ◌+◌, ◌-◌, ◌^◌, Bool, ◌&&◌, List, [], ◌∷◌, Option}
+use Rattle.std.specs.Prelude.{Some, None, Result, nat_le, ◌==◌, if◌then◌else◌}
 use Rattle.vc_types.specs.declared.plan.Plan.{Plan}
 use Rattle.vc_types.specs.declared.shape.Shape.{Shape}
 use Rattle.vc_types.specs.declared.refusal.ParamsRefusal.{ParamsRefusal}

@@ -1,13 +1,15 @@
 -- The wavelet transform of a component (ST 2042-1, inverse wavelet transform), in the grid of
 -- nested subbands. A grid is the number in each column and row; outside the part that it speaks of,
 -- each function here leaves it as it is.
-use Rattle.std.specs.Prelude.{ℕ, zero, suc, ◌+◌, ◌-◌, ◌*◌, ◌/◌, ◌%◌, ◌^◌, Bool, ◌&&◌, nat_lt, ◌==◌, if◌then◌else◌, ℤ, pos, ◌+ℤ◌, ◌-ℤ◌, ◌*ℤ◌, min}
+use Rattle.std.specs.Prelude.{ℕ, zero, suc, ◌+◌, ◌-◌, ◌*◌, ◌/◌, ◌%◌, ◌^◌, Bool, ◌&&◌, nat_lt}
+use Rattle.std.specs.Prelude.{◌==◌, if◌then◌else◌, ℤ, pos, ◌+ℤ◌, ◌-ℤ◌, ◌*ℤ◌, min}
 use Rattle.std.specs.Int.{int_shr}
 use Rattle.vc_types.specs.declared.video.Component.{Component}
 use Rattle.vc_types.specs.Lifting.{Line}
 use Rattle.vc_types.specs.TransformParameters.{Parameters}
 use Rattle.vc_types.specs.Subbands.{Orientation, LL, H, HL, LH, HH, nested}
-use Rattle.vc_types.specs.Subbands.{plane_width, plane_height, plane_depth, levels, padded_width, padded_height}
+use Rattle.vc_types.specs.Subbands.{plane_width, plane_height, plane_depth}
+use Rattle.vc_types.specs.Subbands.{levels, padded_width, padded_height}
 use Rattle.vc_types.specs.Wavelets.{is_shifted, synthesised, analysed}
 
 abbrev pub Cells : Type 0

@@ -1,5 +1,6 @@
 -- The seven wavelets (ST 2042-1, wavelet filters): lines synthesised and analysed.
-use Rattle.std.specs.Prelude.{ℕ, ◌≡◌, ◌-◌, ◌*◌, ◌%◌, ◌^◌, ◌<◌, ◌≤◌, Bool, true, false, not, List, [], ◌∷◌, ℤ, pos, negsuc, fold, map, reverse, slice_index_or, unsigned_abs}
+use Rattle.std.specs.Prelude.{ℕ, ◌≡◌, ◌-◌, ◌*◌, ◌%◌, ◌^◌, ◌<◌, ◌≤◌, Bool, true, false, not, List, [], ◌∷◌, ℤ}
+use Rattle.std.specs.Prelude.{pos, negsuc, fold, map, reverse, slice_index_or, unsigned_abs}
 use Rattle.vc_types.specs.Lifting.{Line, LiftingStep, Parity, even, odd, lifted}
 
 -- a step that adds its change, and one that takes it away: taps, S, D
