@@ -1,6 +1,6 @@
 ghost use Rattle.std.specs.Prelude.{◌≡◌, ◌≤◌, IfOk, IsTrue};
 ghost use Rattle.vc_types.specs.Fields.{Gives};
-ghost use Rattle.vc_types.specs.SequenceHeader.{major_version, profile, frame_size};
+ghost use Rattle.vc_types.specs.SequenceHeader.{is_version_of, major_version, profile, frame_size};
 ghost use Rattle.vc_types.specs.SequenceHeader.{colour_difference_sampling, scan_format, ratio, clean_area};
 ghost use Rattle.vc_types.specs.SequenceHeader.{excursion, custom_signal_range, signal_range_of, colour_part};
 ghost use Rattle.vc_types.specs.SequenceHeader.{colour_specification};
@@ -10,28 +10,36 @@ ghost use Rattle.vc_seqhdr.specs.Formats.{format_view};
 use crate::fields::{flag, index, number};
 use crate::formats::{Format, preset_range};
 use vc_bits::BitReader;
-use vc_types::{HeaderRefusal, Sampling, SignalRange};
+use vc_types::{HeaderRefusal, LOW_DELAY_PROFILE, Sampling, SignalRange};
 
+fn is_version_of(wanted: u8, major: u32) -> bool
+    ensures { result ≡ is_version_of wanted major }
+{
+    (wanted == LOW_DELAY_PROFILE && major == 1) || major == 2 || major == 3
+}
+
+/// The major version of a header of the profile that is wanted.
 #[tactic(auto, unfolding(vc_types::specs::SequenceHeader::major_version))]
-pub fn major_version(r: &mut BitReader) -> Result<u32, HeaderRefusal>
-    ensures { Gives (λ n. n) result r.new.left (major_version r.old.left) }
+pub fn major_version(wanted: u8, r: &mut BitReader) -> Result<u32, HeaderRefusal>
+    ensures { Gives (λ n. n) result r.new.left (major_version wanted r.old.left) }
 {
     let major = number(r)?;
-    if major != 2 && major != 3 {
+    if !is_version_of(wanted, major) {
         return Err(HeaderRefusal::Version);
     }
     Ok(major)
 }
 
+/// The profile, which is the one that is wanted.
 #[tactic(auto, unfolding(vc_types::specs::SequenceHeader::profile))]
-pub fn profile(r: &mut BitReader) -> Result<u32, HeaderRefusal>
-    ensures { Gives (λ n. n) result r.new.left (profile r.old.left) }
+pub fn profile(wanted: u8, r: &mut BitReader) -> Result<u32, HeaderRefusal>
+    ensures { Gives (λ n. n) result r.new.left (profile wanted r.old.left) }
 {
-    let profile = number(r)?;
-    if profile != 3 {
+    let coded = number(r)?;
+    if coded != wanted as u32 {
         return Err(HeaderRefusal::Profile);
     }
-    Ok(profile)
+    Ok(coded)
 }
 
 /// Width and height of a frame.
