@@ -5,7 +5,7 @@ pub enum UnitFault {
     Prefix,
     /// The distance to the next unit is below 13 or above 268,435,456. That of an end of sequence isn't used.
     Offset,
-    /// The parse code, in hexadecimal, isn't 00, 10, 20, 30 or E8.
+    /// The parse code, in hexadecimal, isn't 00, 10, 20, 30, C8 or E8.
     Code,
     /// The source ended within a unit.
     Short,

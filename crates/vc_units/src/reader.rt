@@ -10,7 +10,8 @@ use byteorder::{BigEndian, ByteOrder};
 use std::alloc::Global;
 use vc_ports::{Filled, Source, fill};
 use vc_types::{
-    AUXILIARY_DATA, END_OF_SEQUENCE, HIGH_QUALITY_PICTURE, PADDING_DATA, SEQUENCE_HEADER,
+    AUXILIARY_DATA, END_OF_SEQUENCE, HIGH_QUALITY_PICTURE, LOW_DELAY_PICTURE, PADDING_DATA,
+    SEQUENCE_HEADER,
 };
 
 // The most bytes that a unit may have.
@@ -128,7 +129,8 @@ fn body_length(info: &[u8; PARSE_INFO_BYTES]) -> Result<usize, UnitFault>
     }
     match info[4] {
         END_OF_SEQUENCE => Ok(0),
-        SEQUENCE_HEADER | AUXILIARY_DATA | PADDING_DATA | HIGH_QUALITY_PICTURE => {
+        SEQUENCE_HEADER | AUXILIARY_DATA | PADDING_DATA | LOW_DELAY_PICTURE
+        | HIGH_QUALITY_PICTURE => {
             let next = BigEndian::read_u32(&info[5..]);
             if next < PARSE_INFO_BYTES as u32 || next > LONGEST_UNIT {
                 return Err(UnitFault::Offset);
