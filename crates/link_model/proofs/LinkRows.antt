@@ -8,7 +8,7 @@ use Rattle.vc_types.specs.Fields.{number_up_to}
 use Rattle.vc_types.specs.Quantisation.{default_matrix}
 use Rattle.vc_types.specs.SameValues.{same_sequence, same_parameters}
 use Rattle.vc_types.specs.SequenceHeader as header
-use Rattle.vc_types.specs.SequenceHeader.{sequence_header}
+use Rattle.vc_types.specs.SequenceHeader.{sequence_header_of}
 use Rattle.vc_types.specs.Slices.{block, coded_slice, slice_length}
 use Rattle.vc_types.specs.TransformParameters as parameters
 use Rattle.vc_types.specs.TransformParameters.{transform_parameters}
@@ -131,12 +131,13 @@ unfolding base_above greatest_of same_sequence same_parameters part_outcome frag
     outcomes_behind parameters_in split_parts next_slice next_slices slice_run own first_copy greatest
     nearest picture_number is_closed is_late enters parts_of header_end is_shaped payload_end packet_fields
     rtp_packet fragment_fits fragment_value payload received begins ends fragment_in hears bits_of byte_bits
-    uint_at uint_after number_up_to default_matrix sequence_header block coded_slice slice_length
+    uint_at uint_after number_up_to default_matrix sequence_header_of block coded_slice slice_length
     transform_parameters format_of range_of video_depth header.header_number header.major_version
     header.profile header.base_video_format header.frame_size header.colour_difference_sampling
     header.scan_format header.ratio header.clean_area header.excursion header.custom_signal_range
     header.signal_range_of header.colour_part header.colour_specification header.picture_coding_mode
     header.picture_shape parameters.number parameters.wavelet_index parameters.wavelet_depth
-    parameters.extended_parameters parameters.slice_counts parameters.prefix_bytes parameters.size_scaler
+    parameters.extended_parameters parameters.wavelet_transform parameters.with_matrix
+    parameters.slice_counts parameters.prefix_bytes parameters.size_scaler
     parameters.matrix_value parameters.matrix_values parameters.quantisation_matrix
 all_outcomes = (refl, refl, refl, refl)
