@@ -9,6 +9,10 @@ mod slices;
 mod transform;
 mod writer;
 
+pub use limits::{padded_luma_fits, picture_shape};
+pub use matrix::quantisation_matrix;
 pub use reader::read_params;
+pub use slices::slice_counts;
+pub use transform::{extended_parameters, wavelet_depth, wavelet_index};
 pub use vc_types::ParamsRefusal;
 pub use writer::write_params;

@@ -4,7 +4,7 @@ ghost use Rattle.vc_types.specs.SequenceHeader.{sequence_of, picture_shape};
 
 use vc_types::{Header, Shape, padded};
 
-/// The shape of one picture of the sequence.
+/// The shape of one picture of the sequence: of a frame or, with field coding, of a field.
 pub fn picture_shape(h: &Header) -> Shape
     ensures value { result ≡ picture_shape (sequence_of h.now) }
     ensures fits { IsTrue (shape_fits result) }
@@ -14,7 +14,7 @@ pub fn picture_shape(h: &Header) -> Shape
     h.shape()
 }
 
-/// Whether the luma of a picture, padded for so many levels across alone and both ways, has few enough
+/// Whether the luma of a picture, padded for so many levels across alone and both ways, has at most 8,912,896
 /// samples.
 pub fn padded_luma_fits(shape: &Shape, depth_ho: u8, depth: u8) -> bool
     requires width { shape.now.luma_width ≤ 8192 }

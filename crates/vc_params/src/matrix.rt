@@ -36,7 +36,10 @@ fn matrix_values(count: usize, r: &mut BitReader) -> Result<[u8; 16], ParamsRefu
     Ok(matrix)
 }
 
-/// The custom matrix, or the default one of the transform, given its wavelet and its levels across.
+/// The quantisation matrix (ST 2042-1, quantisation matrix): the custom one, or the default one of the
+/// transform, given its wavelet and its levels across. It has a value for each subband in order, and then
+/// zeros. Refused with `Matrix` where a value is above 127, and with `NoDefault` where none is coded and the
+/// transform has no default.
 #[tactic(auto, unfolding(vc_types::specs::TransformParameters::quantisation_matrix))]
 pub fn quantisation_matrix(
     wavelet: u8,

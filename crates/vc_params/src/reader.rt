@@ -46,7 +46,7 @@ fn front(h: &Header, bytes: &[u8]) -> Result<(Plan, usize), ParamsRefusal>
     Ok((plan, used))
 }
 
-#[tactic(auto, unfolding(vc_types::specs::TransformParameters::transform_parameters))]
+#[tactic(auto, unfolding(vc_types::specs::TransformParameters::transform_parameters, vc_types::specs::TransformParameters::wavelet_transform, vc_types::specs::TransformParameters::with_matrix))]
 fn parameters(h: &Header, r: &mut BitReader) -> Result<Plan, ParamsRefusal>
     ensures { Gives (λ p. parameters_of p) result r.new.left
         (transform_parameters (sequence_of h.now) r.old.left) }

@@ -7,7 +7,7 @@ use crate::fields::number;
 use vc_bits::BitReader;
 use vc_types::{ParamsRefusal, slices_fit};
 
-/// How many slices there are across and down.
+/// How many slices there are across and down. Refused with `Slices`, once both are read.
 #[tactic(auto, unfolding(vc_types::specs::TransformParameters::slice_counts))]
 pub fn slice_counts(r: &mut BitReader) -> Result<(u32, u32), ParamsRefusal>
     ensures gives { Gives (λ x. (x.0, x.1)) result r.new.left (slice_counts r.old.left) }

@@ -7,6 +7,7 @@ use crate::fields::{flag, number};
 use vc_bits::BitReader;
 use vc_types::ParamsRefusal;
 
+/// The wavelet, refused with `Wavelet` where its index is above 6.
 #[tactic(auto, unfolding(vc_types::specs::TransformParameters::wavelet_index))]
 pub fn wavelet_index(r: &mut BitReader) -> Result<u8, ParamsRefusal>
     ensures gives { Gives (λ n. n) result r.new.left (wavelet_index r.old.left) }
@@ -19,6 +20,7 @@ pub fn wavelet_index(r: &mut BitReader) -> Result<u8, ParamsRefusal>
     Ok(index as u8)
 }
 
+/// How many levels there are both ways, 1 to 5, refused with `Depth`.
 #[tactic(auto, unfolding(vc_types::specs::TransformParameters::wavelet_depth))]
 pub fn wavelet_depth(r: &mut BitReader) -> Result<u8, ParamsRefusal>
     ensures gives { Gives (λ n. n) result r.new.left (wavelet_depth r.old.left) }
@@ -63,7 +65,9 @@ fn levels_across(depth: u8, r: &mut BitReader) -> Result<u8, ParamsRefusal>
     Ok(levels as u8)
 }
 
-/// The wavelet across and how many levels are across alone, which major version 3 may code.
+/// The wavelet across and how many levels are across alone, which major version 3 may code (ST 2042-1,
+/// extended transform parameters); of other versions, and where they aren't coded, the wavelet itself and no
+/// level. Refused with `Wavelet`, or with `Depth` where there are more than 5 levels together.
 #[tactic(auto, unfolding(vc_types::specs::TransformParameters::extended_parameters))]
 pub fn extended_parameters(
     major: u32,
