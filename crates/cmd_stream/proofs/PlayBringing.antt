@@ -61,9 +61,14 @@ module _ (stream : Option Stream) (u : DataUnit) where
   unfolding takes
   takes-picture e = rw e refl
 
-  takes-other : u.code ≢ 0 → u.code ≢ 0xE8 → takes stream u ≡ Some stream
+  takes-low : u.code ≡ 0xC8 → takes stream u ≡ None
   unfolding takes
-  takes-other header picture = rw (ne_eqb u.code 0 header, ne_eqb u.code 0xE8 picture) refl
+  takes-low e = rw e refl
+
+  takes-other : u.code ≢ 0 → u.code ≢ 0xE8 → u.code ≢ 0xC8 → takes stream u ≡ Some stream
+  unfolding takes
+  takes-other header picture low =
+      rw (ne_eqb u.code 0 header, ne_eqb u.code 0xE8 picture, ne_eqb u.code 0xC8 low) refl
 
   module _ (before : Option (List ℕ)) where
     header-by : (next : Option Stream) (k : PlayState) → with_header stream (coded_header u.body) ≡ next → kept_in next ≡ Some k → u.code ≡ 0 → Brought stream u (Some k) before before (Ok tt)
@@ -91,9 +96,22 @@ module _ (stream : Option Stream) (u : DataUnit) where
     brings-no-header kept new code is e =
         (refused-by (with_header stream (coded_header u.body)) refl (sym (agreed-kept stream (coded_header u.body)) ∙ ap (λ (was : Option PlayState). agreed_state was (coded_header u.body)) (sym is) ∙ e) code, refl)
 
-    pub brings-other : u.code ≢ 0 → u.code ≢ 0xE8 → Brought stream u (kept_in stream) before before (Ok tt)
-    brings-other header picture =
-        (record { next = stream; due = []; taken = takes-other header picture; grows = sym (append-nil (played stream)) }, refl, Grew-none before)
+    pub brings-low : (new : Option PlayState) → u.code ≡ 0xC8
+        → Brought stream u new before before (Err faults.Refused)
+    brings-low new code = (takes-low code, refl)
+
+    pub brings-other : u.code ≢ 0 → u.code ≢ 0xE8 → u.code ≢ 0xC8
+        → Brought stream u (kept_in stream) before before (Ok tt)
+    brings-other header picture low = (
+      record {
+        next = stream;
+        due = [];
+        taken = takes-other header picture low;
+        grows = sym (append-nil (played stream));
+      },
+      refl,
+      Grew-none before,
+    )
 
 -- a picture before any header
 pub brings-no-stream : (stream : Option Stream) (u : DataUnit) (new : Option PlayState) (before : Option (List ℕ)) → u.code ≡ 0xE8 → None ≡ kept_in stream → Brought stream u new before before (Err faults.Refused)

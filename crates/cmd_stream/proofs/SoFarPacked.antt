@@ -90,12 +90,17 @@ module _ (s : Packing) where
   -- a unit that is packed, and what is due for it
   pub packed_grows : (stream next : Option PackStream) (u : DataUnit) → packs_unit s stream u ≡ Ok next → BringsUnit s stream u
   unfolding packs_unit
-  packed_grows stream next u e = (let grown = by (u.code == 0) (u.code == 0xE8) e in record { next = next; due = grown.0; taken = e; grows = grown.1 })
+  packed_grows stream next u e = (let grown = by (u.code == 0) (u.code == 0xE8) (u.code == 0xC8) e in record { next = next; due = grown.0; taken = e; grows = grown.1 })
     where
-      by : (header picture : Bool) → cond header (packs_header stream u.body (coded_header u.body)) (cond picture (packs_picture s stream u.body) (Ok stream)) ≡ Ok next → Grows stream next
-      by true picture e = same_grows stream next (header_same stream u.body (coded_header u.body) next e)
-      by false true e = picture_grows stream u.body next e
-      by false false e = same_grows stream next (ap (stream_packed s) (sym (ok_is stream next e)))
+      by : (header picture low : Bool)
+          → cond header (packs_header stream u.body (coded_header u.body))
+          (cond picture (packs_picture s stream u.body) (cond low (Err BadUnit) (Ok stream)))
+          ≡ Ok next → Grows stream next
+      by true picture low e =
+          same_grows stream next (header_same stream u.body (coded_header u.body) next e)
+      by false true low e = picture_grows stream u.body next e
+      by false false true e = absurd cc
+      by false false false e = same_grows stream next (ap (stream_packed s) (sym (ok_is stream next e)))
 
   -- ---- what each kind of unit brings
 
@@ -108,9 +113,14 @@ module _ (s : Packing) where
     unfolding packs_unit
     of_picture e = rw e refl
 
-    pub of_other : u.code ≢ 0 → u.code ≢ 0xE8 → packs_unit s stream u ≡ Ok stream
+    pub of_low : u.code ≡ 0xC8 → packs_unit s stream u ≡ Err BadUnit
     unfolding packs_unit
-    of_other header picture = rw (ne_eqb u.code 0 header, ne_eqb u.code 0xE8 picture) refl
+    of_low e = rw e refl
+
+    pub of_other : u.code ≢ 0 → u.code ≢ 0xE8 → u.code ≢ 0xC8 → packs_unit s stream u ≡ Ok stream
+    unfolding packs_unit
+    of_other header picture low =
+        rw (ne_eqb u.code 0 header, ne_eqb u.code 0xE8 picture, ne_eqb u.code 0xC8 low) refl
 
 -- ---- the end
 

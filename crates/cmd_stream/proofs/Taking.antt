@@ -13,7 +13,7 @@ use Rattle.cmd_stream.specs.Counted.{packed_totals, packed_totals_with}
 use Rattle.cmd_stream.specs.PackSteps.{BringsUnit, IsPackedBehind, PacksBody, TakesHeader, TakesUnit, next_packed}
 use Rattle.cmd_stream.specs.PackViews.{IsBehindPictures, IsBehindUnits, IsOpened}
 use Rattle.cmd_stream.proofs.Counting.{totals_are}
-use Rattle.cmd_stream.proofs.SoFarPacked.{header_same, of_header, of_other, of_picture, picture_more}
+use Rattle.cmd_stream.proofs.SoFarPacked.{header_same, of_header, of_low, of_other, of_picture, picture_more}
 use Rattle.vc_ports.specs.Writing.{Grew, GrewBySome}
 use Rattle.vc_ports.proofs.Growing.{Grew-none}
 use Rattle.vc_types.specs.DataUnits.{DataUnit}
@@ -39,9 +39,18 @@ module _ (s : Packing) (stream : Option PackStream) (u : DataUnit) (new : Stream
   takes_header code (Err refusals.WriteFault) is = absurd is
   takes_header code (Err refusals.NoMemory) is = absurd is
 
-  pub takes_other : u.code ≢ 0 → u.code ≢ 0xE8 → IsBehindUnits s stream new → TakesUnit s stream u new held held (Ok tt)
-  takes_other header picture behind = (
-    record { next = stream; due = []; taken = of_other s stream u header picture; grows = sym (append-nil (stream_packed s stream)) },
+  pub takes_low : u.code ≡ 0xC8 → TakesUnit s stream u new held held (Err refusals.Bad)
+  takes_low code = (of_low s stream u code, refl)
+
+  pub takes_other : u.code ≢ 0 → u.code ≢ 0xE8 → u.code ≢ 0xC8 → IsBehindUnits s stream new
+      → TakesUnit s stream u new held held (Ok tt)
+  takes_other header picture low behind = (
+    record {
+      next = stream;
+      due = [];
+      taken = of_other s stream u header picture low;
+      grows = sym (append-nil (stream_packed s stream));
+    },
     behind,
     Grew-none held,
   )

@@ -6,7 +6,7 @@ use Rattle.std.specs.List.{flat_map}
 use Rattle.vc_types.specs.RawFrames.{is_wide, frame_bytes}
 use Rattle.vc_types.specs.FieldPairs.{woven}
 use Rattle.byteorder.specs.Endian.{big_number}
-use Rattle.vc_types.specs.ParseCodes.{header_code, picture_code}
+use Rattle.vc_types.specs.ParseCodes.{header_code, low_delay_code, picture_code}
 use Rattle.vc_types.specs.Planes.{Planes, decoded_planes}
 use Rattle.vc_types.specs.SameValues.{same_sequence}
 use Rattle.vc_types.specs.SequenceHeader.{Sequence, coded_header, picture_shape}
@@ -47,13 +47,15 @@ abbrev pub shows : List ℕ → Stream → Option Stream
 shows body stream = option_map (with_picture stream) (picture_in stream.sequence body)
 
 -- A unit more: a sequence header of the first one's value, or a picture behind a header, which
--- decodes soundly. Other units bring nothing. None where the unit is refused.
+-- decodes soundly. Other units bring nothing. None where the unit is refused, as each low-delay
+-- picture is.
 unfoldable pub takes : Option Stream → DataUnit → Option (Option Stream)
 takes stream u =
     if u.code == header_code then
     option_map (λ next. Some next) (with_header stream (coded_header u.body))
     else if u.code == picture_code then
     option_map (λ next. Some next) (option_and_then (shows u.body) stream)
+    else if u.code == low_delay_code then None
     else Some stream
 
 -- what came up to now, and the place of the next unit

@@ -17,7 +17,7 @@ use std::alloc::Global;
 use std::thread::Threads;
 use vc_ports::Sink;
 use vc_seqhdr::read_header;
-use vc_types::{HIGH_QUALITY_PICTURE, SEQUENCE_HEADER};
+use vc_types::{HIGH_QUALITY_PICTURE, LOW_DELAY_PICTURE, SEQUENCE_HEADER};
 use vc_units::Unit;
 
 /// The player between two units.
@@ -59,6 +59,7 @@ impl Player {
                 Some(stream) => stream.show(rt, alloc, unit.body, output),
                 None => Err(TakeFault::Refused),
             },
+            LOW_DELAY_PICTURE => Err(TakeFault::Refused),
             _ => Ok(()),
         }
     }

@@ -15,7 +15,7 @@ use link_sender::Packer;
 use std::alloc::Global;
 use vc_ports::{Sink, WriteFault};
 use vc_seqhdr::read_header;
-use vc_types::{HIGH_QUALITY_PICTURE, PackSettings, SEQUENCE_HEADER};
+use vc_types::{HIGH_QUALITY_PICTURE, LOW_DELAY_PICTURE, PackSettings, SEQUENCE_HEADER};
 use vc_units::Unit;
 
 /// What is kept of a stream between two units.
@@ -64,6 +64,7 @@ impl StreamPacker {
                 }
                 None => Err(UnitRefusal::Bad),
             },
+            LOW_DELAY_PICTURE => Err(UnitRefusal::Bad),
             _ => Ok(()),
         }
     }

@@ -8,7 +8,7 @@ use Rattle.link_model.specs.Kept.{next_slices}
 use Rattle.stream_model.specs.Packing.{LargePart, PackedPicture, first_large_part, packed_datagrams}
 use Rattle.stream_model.specs.Packing.{packed_stream}
 use Rattle.vc_types.specs.DataUnits.{DataUnit, unit_length}
-use Rattle.vc_types.specs.ParseCodes.{header_code, picture_code}
+use Rattle.vc_types.specs.ParseCodes.{header_code, low_delay_code, picture_code}
 use Rattle.vc_types.specs.SameValues.{same_sequence}
 use Rattle.vc_types.specs.SenderSettings.{Packing}
 use Rattle.vc_types.specs.SequenceHeader.{Sequence, coded_header}
@@ -93,13 +93,15 @@ packs_picture s None body = Err BadUnit
 packs_picture s (Some t) body = if_it_is_whole s t (picture_to_pack t body)
 
 -- A unit more: a sequence header of the first one's value, or a picture after a header, which has
--- all its slices and whose parts have room in datagrams. Other units bring nothing.
+-- all its slices and whose parts have room in datagrams. A low-delay picture is refused, and other
+-- units bring nothing.
 unfoldable pub packs_unit : Packing → Option PackStream → DataUnit
     → Result (Option PackStream) PackFault
 packs_unit s stream u =
     if u.code == header_code then packs_header stream u.body (coded_header u.body)
     else (if u.code == picture_code then packs_picture s stream u.body
-    else Ok stream)
+    else (if u.code == low_delay_code then Err BadUnit
+    else Ok stream))
 
 -- what came up to now, and the place of the next unit
 pub record PackedSoFar : Type 0 where

@@ -2,7 +2,7 @@ use Rattle.std.proofs.Common.{rules, ◌≢◌, None}
 use Rattle.vc_types.specs.SequenceHeader.{coded_header}
 use Rattle.vc_units.specs.Reading.{unit_of}
 use Rattle.cmd_stream.specs.PlayViews.{playback_state, player_state}
-use Rattle.cmd_stream.proofs.PlayBringing.{brings-agreed, brings-picture, brings-no-stream, brings-other, agrees-few}
+use Rattle.cmd_stream.proofs.PlayBringing.{brings-agreed, brings-picture, brings-no-stream, brings-low, brings-other, agrees-few}
 use Rattle.cmd_stream.proofs.player.Player.take.Goals as goal
 
 pub returns-in-0-clause-brought : goal.returns-in-0-clause-brought
@@ -19,8 +19,15 @@ returns-in-Some-clause-brought g c stream is =
 pub returns-in-None-clause-brought : goal.returns-in-None-clause-brought
 returns-in-None-clause-brought g c stream is = brings-no-stream stream (unit_of c.args.unit) None (g.O.Sink.held c.args.output.now) c.in-232.is (rw c.in-None.is at is)
 
+pub returns-in-200-clause-brought : goal.returns-in-200-clause-brought
+returns-in-200-clause-brought g c stream is =
+    let held = g.O.Sink.held c.args.output.now in
+    brings-low stream (unit_of c.args.unit) held (player_state c.args.self.now) c.in-200.is
+
 pub returns-in_default-clause-brought : goal.returns-in_default-clause-brought
 returns-in_default-clause-brought g c stream is =
     let header : c.args.unit.code ≢ 0 = search rules in
     let picture : c.args.unit.code ≢ 0xE8 = search rules in
-    rw is (brings-other stream (unit_of c.args.unit) (g.O.Sink.held c.args.output.now) header picture)
+    let low : c.args.unit.code ≢ 0xC8 = search rules in
+    let held = g.O.Sink.held c.args.output.now in
+    rw is (brings-other stream (unit_of c.args.unit) held header picture low)

@@ -6,7 +6,7 @@ use Rattle.cmd_stream.specs.declared.pack_fault.UnitRefusal.TheVariants as refus
 use Rattle.cmd_stream.specs.declared.stream.StreamPacker.{StreamPacker}
 use Rattle.cmd_stream.specs.PackSteps.{PacksBody}
 use Rattle.cmd_stream.specs.PackViews.{IsOpened}
-use Rattle.cmd_stream.proofs.Taking.{opened_none, takes_header, takes_none, takes_other, takes_packed, takes_refused, takes_unput}
+use Rattle.cmd_stream.proofs.Taking.{opened_none, takes_header, takes_low, takes_none, takes_other, takes_packed, takes_refused, takes_unput}
 use Rattle.vc_units.specs.Reading.{unit_of}
 use Rattle.cmd_stream.proofs.stream.StreamPacker.take.Goals as goal
 
@@ -47,8 +47,15 @@ returns-in-Some-clause-value g c = λ s stream was.
 pub returns-in-232-clause-value : goal.returns-in-232-clause-value
 returns-in-232-clause-value g c = λ s stream was. takes_none s stream (unit_of c.args.unit) c.args.self.now (g.O.Sink.held c.args.output.now) c.in-232.is (opened_none s stream (subst (IsOpened s stream) c.in-None.is was.opened))
 
+pub returns-in-200-clause-value : goal.returns-in-200-clause-value
+returns-in-200-clause-value g c = λ s stream was.
+    let held = g.O.Sink.held c.args.output.now in
+    takes_low s stream (unit_of c.args.unit) c.args.self.now held c.in-200.is
+
 pub returns-clause-value : goal.returns-clause-value
 returns-clause-value g c = λ s stream was.
     let header : c.args.unit.code ≢ 0 = search rules in
     let picture : c.args.unit.code ≢ 0xE8 = search rules in
-    takes_other s stream (unit_of c.args.unit) c.args.self.now (g.O.Sink.held c.args.output.now) header picture was
+    let low : c.args.unit.code ≢ 0xC8 = search rules in
+    let held = g.O.Sink.held c.args.output.now in
+    takes_other s stream (unit_of c.args.unit) c.args.self.now held header picture low was
