@@ -5,10 +5,10 @@ ghost use Rattle.vc_types.specs.SequenceHeader.{sequence_of};
 ghost use Rattle.vc_types.specs.Video.{excursion_fits, range_of};
 
 use crate::named::field;
-use crate::words::{add_bytes, bytes_of};
+use crate::words::{add_bytes, bytes_of, natural, parted};
 use std::alloc::Global;
-use vc_seqhdr::{read_header, write_header};
-use vc_types::{Header, Sampling, Shape, SignalRange, dimensions_fit};
+use vc_seqhdr::{read_header, read_header_of, write_header};
+use vc_types::{Header, HeaderRefusal, Sampling, Shape, SignalRange, dimensions_fit};
 use worked_common::{Bad, Part};
 
 fn sampling_word(sampling: Sampling) -> &'static str {
@@ -52,13 +52,30 @@ fn text_of(alloc: Global, header: &Header, used: usize) -> Result<String, Bad> {
     Ok(all)
 }
 
-/// The sequence header at the front of bytes, and how many of them it takes.
-pub(crate) fn header(alloc: Global, parts: &[Part], given: &str) -> Result<String, Bad> {
-    let bytes = bytes_of(alloc, parts, given)?;
-    match read_header(bytes.as_slice()) {
+fn text_of_read(
+    alloc: Global,
+    read: Result<(Header, usize), HeaderRefusal>,
+) -> Result<String, Bad> {
+    match read {
         Ok((header, used)) => text_of(alloc, &header, used),
         Err(refusal) => Ok(format!(in alloc; "{refusal:?}")?),
     }
+}
+
+/// The sequence header at the front of bytes, and how many of them it takes.
+pub(crate) fn header(alloc: Global, parts: &[Part], given: &str) -> Result<String, Bad> {
+    let bytes = bytes_of(alloc, parts, given)?;
+    text_of_read(alloc, read_header(bytes.as_slice()))
+}
+
+/// The same of the profile that stands before a colon.
+pub(crate) fn header_of(alloc: Global, parts: &[Part], given: &str) -> Result<String, Bad> {
+    let (profile, given) = parted(given)?;
+    let Ok(profile) = u8::try_from(natural(profile)?) else {
+        return Err(Bad::NoRow);
+    };
+    let bytes = bytes_of(alloc, parts, given)?;
+    text_of_read(alloc, read_header_of(profile, bytes.as_slice()))
 }
 
 /// What is read of the first 0, 1, 2, .. and all of some bytes.

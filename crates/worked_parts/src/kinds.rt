@@ -33,6 +33,7 @@ pub(crate) fn came(alloc: Global, parts: &[Part], kind: &str, given: &str) -> Re
 fn came_of_heads(alloc: Global, parts: &[Part], kind: &str, given: &str) -> Result<String, Bad> {
     match kind {
         "header" => headers::header(alloc, parts, given),
+        "header-of" => headers::header_of(alloc, parts, given),
         "header-cuts" => headers::header_cuts(alloc, parts, given),
         "header-written" => headers::header_written(alloc, given),
         "header-planes" => headers::header_planes(alloc, parts, given),
