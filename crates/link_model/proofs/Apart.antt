@@ -1,6 +1,5 @@
 -- The numbers of a session are above all of the earlier ones.
-use Rattle.std.proofs.Common.{◌≡◌, ℕ, ◌+◌, ◌%◌, ◌^◌, ◌<◌, ◌≤◌, true, false, List, [], ◌∷◌, ◌++◌, refl, sym, subst, inl, inr, arith}
-use Rattle.std.specs.Prelude.{◌⊎◌, fold}
+use Rattle.std.proofs.Common.{◌≡◌, ℕ, ◌+◌, ◌%◌, ◌^◌, ◌<◌, ◌≤◌, true, false, List, [], ◌∷◌, ◌++◌, refl, sym, subst, inl, inr, arith, ◌⊎◌, fold}
 use Rattle.link_model.specs.Numbers.{Numbered, greatest, base_above, picture_number, is_opened, enters, entered, parts_of}
 use Rattle.link_model.specs.Output.{greatest_of, entered_behind, is_opened_in}
 use Rattle.link_model.specs.Session.{Fragment, HeardSession}

@@ -1,8 +1,6 @@
 -- The book of a list of parts: with a part more it is the book of the longer list, and it answers the part's outcome, the
 -- slices that are kept and the whole bytes.
-use Rattle.std.proofs.Common.{◌≡◌, ℕ, ◌<◌, ◌≤◌, min, Bool, List, [], ◌∷◌, ◌++◌, length, map, take, Option, Some, None, Result, refl, ap, sym, ◌∙◌, inl, inr, arith, cond}
-use Rattle.std.specs.Prelude.{filter_map, fold, nat_lt, unwrap_or}
-use Rattle.std.specs.List.{flat_map}
+use Rattle.std.proofs.Common.{◌≡◌, ℕ, ◌<◌, ◌≤◌, min, Bool, List, [], ◌∷◌, ◌++◌, length, map, take, Option, Some, None, Result, refl, ap, sym, ◌∙◌, inl, inr, arith, cond, filter_map, fold, nat_lt, unwrap_or, flat_map}
 use Rattle.std.specs.Option.{option_map, option_or, option_and_then}
 use Rattle.std.proofs.lemmas.Bool.{cases_lt, cond-true, cond-false, lt-ltb, le-ltb}
 use Rattle.std.proofs.lemmas.List.{append-nil, append_assoc, length-take, length-append, take_all, take-append-le}

@@ -1,9 +1,6 @@
 -- What is written of a list of datagrams begins what is written of a longer one, and all that is written in the end.
-use Rattle.std.proofs.Common.{◌≡◌, ℕ, List, [], ◌∷◌, ◌++◌, Option, Some, None, refl, ap, sym, subst, ◌∙◌}
-use Rattle.std.specs.Prelude.{filter_map, fold}
-use Rattle.std.specs.List.{flat_map}
+use Rattle.std.proofs.Common.{◌≡◌, ℕ, List, [], ◌∷◌, ◌++◌, Option, Some, None, refl, ap, sym, subst, ◌∙◌, filter_map, fold, flat_map, append_assoc, append-nil}
 use Rattle.std.specs.Option.{option_map_or}
-use Rattle.std.proofs.lemmas.List.{append_assoc, append-nil}
 use Rattle.std.proofs.lemmas.List.Sums.{fold-append}
 use Rattle.link_model.specs.Numbers.{Numbered, base_above}
 use Rattle.link_model.specs.Output.{frame_bytes_at, all_frames, frames_so_far, greatest_of, entered_behind, all_output, last_so_far, full_output, output_so_far, IsPrefixOf}

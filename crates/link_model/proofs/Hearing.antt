@@ -1,8 +1,7 @@
 -- One datagram more: it opens a session, or belongs to the last one, with a fragment, with its end, or with neither.
-use Rattle.std.proofs.Common.{◌≡◌, ℕ, List, [], ◌∷◌, ◌++◌, Option, Some, None, ap, ◌∙◌}
+use Rattle.std.proofs.Common.{◌≡◌, ℕ, List, [], ◌∷◌, ◌++◌, Option, Some, None, ap, ◌∙◌, append-nil}
 use Rattle.std.specs.List.{cons_option}
 use Rattle.std.specs.Option.{option_map_or}
-use Rattle.std.proofs.lemmas.List.{append-nil}
 use Rattle.link_model.specs.Session.{Session, Fragment, HeardSession, just_opened, opens_next, with_datagram, last_with, hears, sessions_of, begins, fragment_in}
 use Rattle.link_model.proofs.Growing.{sessions_of-append}
 

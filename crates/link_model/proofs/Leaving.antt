@@ -1,7 +1,6 @@
 -- Pictures are let go in rising order: those that are let go later stand after those that are let go now, and so does
 -- what they write.
-use Rattle.std.proofs.Common.{◌≡◌, ℕ, ◌+◌, ◌-◌, ◌<◌, ◌≤◌, Bool, true, false, List, [], ◌∷◌, ◌++◌, refl, ap, sym, ◌∙◌, inl, inr, arith, cond}
-use Rattle.std.specs.Prelude.{◌⊎◌, filter}
+use Rattle.std.proofs.Common.{◌≡◌, ℕ, ◌+◌, ◌-◌, ◌<◌, ◌≤◌, Bool, true, false, List, [], ◌∷◌, ◌++◌, refl, ap, sym, ◌∙◌, inl, inr, arith, cond, ◌⊎◌, filter}
 use Rattle.std.specs.List.{flat_map, range_with_len}
 use Rattle.std.proofs.lemmas.Bool.{cases_lt, false≢true}
 use Rattle.std.proofs.lemmas.List.Concat.{flat_map-append}
@@ -67,16 +66,7 @@ module _ (es : List Numbered) where
     pub passing-over : (n rest : ℕ) → past + rest ≡ n → filter test (opened_numbers es) ≡ flat_map passing (range_with_len 0 n)
     unfolding opened_numbers
     passing-over n rest size =
-        grind (
-          arith,
-          exchanged,
-          filter_is,
-          flat_map-filter,
-          in_longer,
-          none_passes,
-          one-outside,
-          same_pieces,
-        )
+        grind (arith, exchanged, filter_is, flat_map-filter, in_longer, none_passes, one-outside, same_pieces)
 
 -- ---- pictures that are let go
 

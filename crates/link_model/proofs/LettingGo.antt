@@ -1,9 +1,7 @@
 -- The picture that a window names next is the least that may be released, and pictures are released in the order in
 -- which they are let go.
-use Rattle.std.proofs.Common.{◌≡◌, ℕ, zero, suc, ◌+◌, ◌<◌, ◌≤◌, Bool, true, false, List, [], ◌∷◌, ◌++◌, Option, Some, None, refl, ap, sym, ◌∙◌, arith, cond}
-use Rattle.std.specs.Prelude.{nat_le, not, ◌&&◌, ◌||◌, is_some, filter}
+use Rattle.std.proofs.Common.{◌≡◌, ℕ, zero, suc, ◌+◌, ◌<◌, ◌≤◌, Bool, true, false, List, [], ◌∷◌, ◌++◌, Option, Some, None, refl, ap, sym, ◌∙◌, arith, cond, nat_le, not, ◌&&◌, ◌||◌, is_some, filter, option_map, option_and_then}
 use Rattle.std.specs.List.{list_all, range_with_len, last_or}
-use Rattle.std.specs.Option.{option_map, option_and_then}
 use Rattle.std.proofs.lemmas.Bool.{lt-leb, and_left, false_from_ne_true, both_ways}
 use Rattle.link_model.specs.Books.{Book, book_whole}
 use Rattle.link_model.specs.Numbers.{greatest, is_closed, is_opened, parts_of, opened_numbers}
@@ -42,15 +40,7 @@ module _ (p : WindowPast) where
 
     complete_of_window : (n : ℕ) → greatest p.entries < n + p.size → complete_in (window_of p) n ≡ complete_at p.sequence p.entries n
     complete_of_window n above =
-        grind (
-          arith,
-          book_of_window,
-          books_by,
-          gone_in,
-          not_gone,
-          unopened_incomplete,
-          whole_of_book,
-        )
+        grind (arith, book_of_window, books_by, gone_in, not_gone, unopened_incomplete, whole_of_book)
 
   let_go_of_window : greatest_behind p.before p.entries ≡ greatest p.entries → (n : ℕ) → let_go_in (window_of p) n ≡ is_let_go_by n
   unfolding window_of is_let_go

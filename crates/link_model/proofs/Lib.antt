@@ -1,6 +1,5 @@
 pub mod WrittenPackets
 pub mod WrittenPayloads
-pub mod LinkRows
 pub mod Keeping
 pub mod Slots
 pub mod Bookkeeping
@@ -27,7 +26,6 @@ pub mod OpeningOutcomes
 pub mod SessionOutcomes
 pub mod Closing
 pub mod SessionOutput
-pub mod SentRows
 pub mod PackedBits
 pub mod SentHeads
 pub mod SentDatagrams

@@ -1,6 +1,5 @@
 -- HeaderNew comes only where a datagram opens a session, and neither it nor End of a part or a refusal.
-use Rattle.std.proofs.Common.{◌≡◌, ℕ, Bool, true, false, List, [], ◌∷◌, Option, Some, None, Result, Ok, Err, refl, ap, sym, ◌∙◌, cond, arith}
-use Rattle.std.specs.Prelude.{nat_lt}
+use Rattle.std.proofs.Common.{◌≡◌, ℕ, Bool, true, false, List, [], ◌∷◌, Option, Some, None, Result, Ok, Err, refl, ap, sym, ◌∙◌, cond, arith, nat_lt}
 use Rattle.std.proofs.lemmas.Bool.{false≢true}
 use Rattle.vc_types.specs.SameValues.{same_sequence}
 use Rattle.link_model.specs.Judgement.{parameters_outcome, run_outcome, slices_outcome, part_outcome, fragment_outcome, refusal_outcome, header_outcome, later_outcome, outcome_of, KnownPicture, known_by_parts, outcome_behind, early_outcome, opening_outcome}

@@ -1,8 +1,6 @@
 -- A picture that is let go stays so, and nothing of it changes then.
-use Rattle.std.proofs.Common.{◌≡◌, ℕ, zero, suc, ◌+◌, ◌-◌, ◌<◌, ◌≤◌, Bool, true, false, List, ◌++◌, Some, refl, ap, ◌∙◌, arith}
-use Rattle.std.specs.Prelude.{is_some}
+use Rattle.std.proofs.Common.{◌≡◌, ℕ, zero, suc, ◌+◌, ◌-◌, ◌<◌, ◌≤◌, Bool, true, false, List, ◌++◌, Some, refl, ap, ◌∙◌, arith, is_some, option_and_then}
 use Rattle.std.specs.List.{list_all, range_with_len}
-use Rattle.std.specs.Option.{option_and_then}
 use Rattle.std.proofs.lemmas.Bool.{and_from}
 use Rattle.link_model.specs.Complete.{whole_picture}
 use Rattle.link_model.specs.Numbers.{Numbered, greatest, parts_of, entered}

@@ -1,8 +1,6 @@
 -- The numbers of a range that pass a test, in rising order: the first of them, and those that stand after some of them.
-use Rattle.std.proofs.Common.{◌≡◌, ℕ, zero, suc, ◌+◌, ◌<◌, ◌≤◌, Bool, true, false, List, [], ◌∷◌, ◌++◌, length, drop, Option, Some, None, refl, ap, sym, subst, ◌∙◌, arith, cond}
-use Rattle.std.specs.Prelude.{not, ◌&&◌, filter}
+use Rattle.std.proofs.Common.{◌≡◌, ℕ, zero, suc, ◌+◌, ◌<◌, ◌≤◌, Bool, true, false, List, [], ◌∷◌, ◌++◌, length, drop, Option, Some, None, refl, ap, sym, subst, ◌∙◌, arith, cond, not, ◌&&◌, filter, option_and_then}
 use Rattle.std.specs.List.{flat_map, range_with_len, last_or}
-use Rattle.std.specs.Option.{option_and_then}
 use Rattle.std.proofs.lemmas.Bool.{cond-false, le-leb, and_right}
 use Rattle.link_model.specs.Numbers.{Numbered, is_opened, opened_numbers}
 use Rattle.link_model.specs.Windows.{first_of, released_up_to}

@@ -1,8 +1,5 @@
 -- A datagram that was sent is read back as what it carries.
-use Rattle.std.proofs.Common.{◌≡◌, ◌<◌, ◌≤◌, ℕ, ◌+◌, ◌*◌, ◌/◌, ◌^◌, true, List, [], ◌++◌, length, take, Ok, sym, ap, ◌∙◌, arith}
-use Rattle.std.specs.Prelude.{slice_range}
-use Rattle.std.proofs.Math.Nat.{div-lt_iff_lt-mul, mul_comm}
-use Rattle.std.proofs.lemmas.List.{append-nil, take_all}
+use Rattle.std.proofs.Common.{◌≡◌, ◌<◌, ◌≤◌, ℕ, ◌+◌, ◌*◌, ◌/◌, ◌^◌, true, List, [], ◌++◌, length, take, Ok, sym, ap, ◌∙◌, arith, slice_range, div-lt_iff_lt-mul, mul_comm, append-nil, take_all}
 use Rattle.link_model.specs.Packets.{RtpPacket, RtpFits, rtp_packet, rtp_header, PayloadValue, payload, payload_bytes, IsWritable, HeadFits, read_back}
 use Rattle.link_model.specs.Sending.{Outgoing, DatagramContent, HeaderContent, ParametersContent, SlicesContent, EndContent, sent_value, sent_packet, sent_datagram, sent_head, timestamp_of, AreSettings, FitsDatagram}
 use Rattle.link_model.specs.Session.{received, of_packet, of_payload}
@@ -30,10 +27,9 @@ row_below first across down some below small = grind (arith, div-lt_iff_lt-mul, 
 
 is_writable : (s : Sending) (number picture : ℕ) (c : DatagramContent) → AreSettings s → FitsDatagram s c → IsWritable (sent_value s number (record { picture = picture; content = c }))
 unfolding sent_value
-is_writable s number picture HeaderContent are fits = omega arith
 is_writable s number picture ParametersContent are fits = (head_fits s number picture are, fits)
 is_writable s number picture (SlicesContent run) are fits = (head_fits s number picture are, record { some = fits.some; counted = fits.few; column = omega (arith, are.across, are.some_across); row = row_below run.first s.across s.down are.some_across fits.inside are.down }, fits.short)
-is_writable s number picture EndContent are fits = omega arith
+is_writable s number picture c are fits = omega arith
 
 same_back : (s : Sending) (number picture : ℕ) (c : DatagramContent) → read_back (sent_value s number (record { picture = picture; content = c })) [] ≡ sent_value s number (record { picture = picture; content = c })
 unfolding sent_value

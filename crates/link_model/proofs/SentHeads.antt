@@ -1,6 +1,5 @@
 -- The sequence header and the transform parameters that are sent are read again.
-use Rattle.std.proofs.Common.{◌≡◌, ◌≤◌, ◌∙◌, ap, ℕ, zero, suc, Bool, true, cond, List, [], ◌++◌, length, Some, None, Ok, refl, arith}
-use Rattle.std.specs.Prelude.{IsTrue, unwrap_or, nat_le, ◌&&◌}
+use Rattle.std.proofs.Common.{◌≡◌, ◌≤◌, ◌∙◌, ap, ℕ, zero, suc, Bool, true, cond, List, [], ◌++◌, length, Some, None, Ok, refl, arith, IsTrue, unwrap_or, nat_le, ◌&&◌}
 use Rattle.link_model.specs.SendingPictures.{sent_sequence, sent_header, sent_parameters, sent_parameter_bytes}
 use Rattle.vc_types.specs.declared.settings.SendSettings.{SendSettings}
 use Rattle.vc_types.specs.Limits.{matrix_fits, slice_bytes_fit, padded_luma_fits}
@@ -22,49 +21,10 @@ record HasDefault (wavelet depth : ℕ) : Type 0 where
 
 has_default : (wavelet depth : ℕ) → wavelet ≤ 6 → 1 ≤ depth → depth ≤ 4 → HasDefault wavelet depth
 unfolding default_matrix
-has_default zero zero known some few = absurd (omega arith)
-has_default zero (suc zero) known some few = record { some = refl; small = refl }
-has_default zero (suc (suc zero)) known some few = record { some = refl; small = refl }
-has_default zero (suc (suc (suc zero))) known some few = record { some = refl; small = refl }
-has_default zero (suc (suc (suc (suc zero)))) known some few = record { some = refl; small = refl }
-has_default zero (suc (suc (suc (suc (suc depth))))) known some few = absurd (omega arith)
-has_default (suc zero) zero known some few = absurd (omega arith)
-has_default (suc zero) (suc zero) known some few = record { some = refl; small = refl }
-has_default (suc zero) (suc (suc zero)) known some few = record { some = refl; small = refl }
-has_default (suc zero) (suc (suc (suc zero))) known some few = record { some = refl; small = refl }
-has_default (suc zero) (suc (suc (suc (suc zero)))) known some few = record { some = refl; small = refl }
-has_default (suc zero) (suc (suc (suc (suc (suc depth))))) known some few = absurd (omega arith)
-has_default (suc (suc zero)) zero known some few = absurd (omega arith)
-has_default (suc (suc zero)) (suc zero) known some few = record { some = refl; small = refl }
-has_default (suc (suc zero)) (suc (suc zero)) known some few = record { some = refl; small = refl }
-has_default (suc (suc zero)) (suc (suc (suc zero))) known some few = record { some = refl; small = refl }
-has_default (suc (suc zero)) (suc (suc (suc (suc zero)))) known some few = record { some = refl; small = refl }
-has_default (suc (suc zero)) (suc (suc (suc (suc (suc depth))))) known some few = absurd (omega arith)
-has_default (suc (suc (suc zero))) zero known some few = absurd (omega arith)
-has_default (suc (suc (suc zero))) (suc zero) known some few = record { some = refl; small = refl }
-has_default (suc (suc (suc zero))) (suc (suc zero)) known some few = record { some = refl; small = refl }
-has_default (suc (suc (suc zero))) (suc (suc (suc zero))) known some few = record { some = refl; small = refl }
-has_default (suc (suc (suc zero))) (suc (suc (suc (suc zero)))) known some few = record { some = refl; small = refl }
-has_default (suc (suc (suc zero))) (suc (suc (suc (suc (suc depth))))) known some few = absurd (omega arith)
-has_default (suc (suc (suc (suc zero)))) zero known some few = absurd (omega arith)
-has_default (suc (suc (suc (suc zero)))) (suc zero) known some few = record { some = refl; small = refl }
-has_default (suc (suc (suc (suc zero)))) (suc (suc zero)) known some few = record { some = refl; small = refl }
-has_default (suc (suc (suc (suc zero)))) (suc (suc (suc zero))) known some few = record { some = refl; small = refl }
-has_default (suc (suc (suc (suc zero)))) (suc (suc (suc (suc zero)))) known some few = record { some = refl; small = refl }
-has_default (suc (suc (suc (suc zero)))) (suc (suc (suc (suc (suc depth))))) known some few = absurd (omega arith)
-has_default (suc (suc (suc (suc (suc zero))))) zero known some few = absurd (omega arith)
-has_default (suc (suc (suc (suc (suc zero))))) (suc zero) known some few = record { some = refl; small = refl }
-has_default (suc (suc (suc (suc (suc zero))))) (suc (suc zero)) known some few = record { some = refl; small = refl }
-has_default (suc (suc (suc (suc (suc zero))))) (suc (suc (suc zero))) known some few = record { some = refl; small = refl }
-has_default (suc (suc (suc (suc (suc zero))))) (suc (suc (suc (suc zero)))) known some few = record { some = refl; small = refl }
-has_default (suc (suc (suc (suc (suc zero))))) (suc (suc (suc (suc (suc depth))))) known some few = absurd (omega arith)
-has_default (suc (suc (suc (suc (suc (suc zero)))))) zero known some few = absurd (omega arith)
-has_default (suc (suc (suc (suc (suc (suc zero)))))) (suc zero) known some few = record { some = refl; small = refl }
-has_default (suc (suc (suc (suc (suc (suc zero)))))) (suc (suc zero)) known some few = record { some = refl; small = refl }
-has_default (suc (suc (suc (suc (suc (suc zero)))))) (suc (suc (suc zero))) known some few = record { some = refl; small = refl }
-has_default (suc (suc (suc (suc (suc (suc zero)))))) (suc (suc (suc (suc zero)))) known some few = record { some = refl; small = refl }
-has_default (suc (suc (suc (suc (suc (suc zero)))))) (suc (suc (suc (suc (suc depth))))) known some few = absurd (omega arith)
 has_default (suc (suc (suc (suc (suc (suc (suc wavelet))))))) depth known some few = absurd (omega arith)
+has_default wavelet zero known some few = absurd (omega arith)
+has_default wavelet (suc (suc (suc (suc (suc depth))))) known some few = absurd (omega arith)
+has_default wavelet depth known some few = record { some = refl; small = refl }
 
 symmetric : (wavelet : ℕ) → same_across wavelet (wavelet, 0) ≡ true
 symmetric wavelet = grind arith

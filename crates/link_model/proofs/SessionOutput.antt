@@ -1,8 +1,5 @@
 -- What is written as a datagram comes, as the next session opens, and as the input ends.
-use Rattle.std.proofs.Common.{◌≡◌, ℕ, List, [], ◌∷◌, ◌++◌, refl, ap, sym, ◌∙◌}
-use Rattle.std.specs.Prelude.{filter_map}
-use Rattle.std.specs.List.{flat_map}
-use Rattle.std.proofs.lemmas.List.{append_assoc, append-nil}
+use Rattle.std.proofs.Common.{◌≡◌, ℕ, List, [], ◌∷◌, ◌++◌, refl, ap, sym, ◌∙◌, filter_map, flat_map, append_assoc, append-nil}
 use Rattle.link_model.specs.Numbers.{greatest, least, base_above, parts_of, opened_numbers}
 use Rattle.link_model.specs.Output.{let_go_numbers, frame_bytes_at, frames_so_far, greatest_of, entered_behind, all_output, last_so_far}
 use Rattle.link_model.specs.Session.{Session, HeardSession, just_opened, with_datagram, fragment_in}

@@ -1,8 +1,7 @@
 -- The slots of a picture's slices: a run of slices fills those that it covers, and lies within the picture.
-use Rattle.std.proofs.Common.{◌≡◌, ℕ, zero, suc, ◌+◌, ◌<◌, ◌≤◌, List, [], ◌∷◌, ◌++◌, length, map, take, drop, replicate, Option, Some, None, Result, Ok, refl, ap, sym, arith}
+use Rattle.std.proofs.Common.{◌≡◌, ℕ, zero, suc, ◌+◌, ◌<◌, ◌≤◌, List, [], ◌∷◌, ◌++◌, length, map, take, drop, replicate, Option, Some, None, Result, Ok, refl, ap, sym, arith, le-leb}
 use Rattle.std.specs.List.{range_with_len}
 use Rattle.std.specs.Option.{option_or}
-use Rattle.std.proofs.lemmas.Bool.{le-leb}
 use Rattle.std.proofs.lemmas.Option.{slice_get_past}
 use Rattle.link_model.specs.Books.{Slots, slot_at, filled_with, with_run}
 use Rattle.link_model.specs.Kept.{Own, own, own_slice, SliceRun, runs_of, slice_run, slice_in, first_copy, next_slices}
@@ -51,15 +50,13 @@ module _ (g : ℕ → Option (List ℕ)) where
   filled_here a zero [] = refl
   filled_here a zero (slice ∷ slices) = refl
   filled_here a (suc n) [] = grind (arith, map_same, or_none)
-  filled_here a (suc n) (slice ∷ slices) =
-      grind (arith, le-leb, map_same, filled_here (a + 1) n slices)
+  filled_here a (suc n) (slice ∷ slices) = grind (arith, le-leb, map_same, filled_here (a + 1) n slices)
 
   filled_from : (first a n : ℕ) (slices : List (List ℕ)) → take first (slots a n) ++ filled_with (drop first (slots a n)) slices ≡ map (with_slice (a + first) slices) (range_with_len a n)
   filled_from zero a n slices = grind (arith, filled_here)
   filled_from (suc first) a zero [] = refl
   filled_from (suc first) a zero (slice ∷ slices) = refl
-  filled_from (suc first) a (suc n) slices =
-      grind (arith, before, filled_from first (a + 1) n slices)
+  filled_from (suc first) a (suc n) slices = grind (arith, before, filled_from first (a + 1) n slices)
 
   pub with_run_is : (n : ℕ) (run : SliceRun) → with_run (slots 0 n) run ≡ map (λ i. option_or (g i) (slice_in run i)) (range_with_len 0 n)
   with_run_is n run = grind (arith, filled_from)

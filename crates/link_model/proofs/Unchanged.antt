@@ -1,10 +1,8 @@
 -- A part that isn't kept leaves its picture's book as it was.
-use Rattle.std.proofs.Common.{◌≡◌, ℕ, zero, suc, ◌+◌, false, List, [], ◌∷◌, drop, Option, Some, None, Result, refl, ap, sym, ◌∙◌, arith}
-use Rattle.std.specs.Prelude.{is_none}
+use Rattle.std.proofs.Common.{◌≡◌, ℕ, zero, suc, ◌+◌, false, List, [], ◌∷◌, drop, Option, Some, None, Result, refl, ap, sym, ◌∙◌, arith, is_none, take-append-drop}
 use Rattle.std.specs.List.{list_any, enumerate_from}
 use Rattle.std.specs.Option.{option_or}
 use Rattle.std.proofs.lemmas.Bool.{false≢true, or_parts}
-use Rattle.std.proofs.lemmas.List.{take-append-drop}
 use Rattle.link_model.specs.Books.{Slots, slot_at, Gathered, Book, filled_with, with_run, gathers_run, takes_params, takes_slices, book_plan, known_by_book, book_takes, book_outcome}
 use Rattle.link_model.specs.Judgement.{parameters_outcome, slices_outcome, run_outcome, numbered_slices, is_new, keeps}
 use Rattle.link_model.specs.Kept.{SliceRun, slice_run}

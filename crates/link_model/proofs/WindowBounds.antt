@@ -1,6 +1,5 @@
 -- How many books a window has.
-use Rattle.std.proofs.Common.{◌≡◌, ℕ, zero, suc, ◌+◌, ◌-◌, ◌<◌, ◌≤◌, max, Bool, true, false, List, [], ◌∷◌, ◌++◌, length, None, refl, ap, sym, subst, ◌∙◌, arith, cond}
-use Rattle.std.specs.Prelude.{nat_le, not, ◌&&◌, ◌||◌, filter}
+use Rattle.std.proofs.Common.{◌≡◌, ℕ, zero, suc, ◌+◌, ◌-◌, ◌<◌, ◌≤◌, max, Bool, true, false, List, [], ◌∷◌, ◌++◌, length, None, refl, ap, sym, subst, ◌∙◌, arith, cond, nat_le, not, ◌&&◌, ◌||◌, filter}
 use Rattle.std.specs.List.{last_or}
 use Rattle.std.proofs.lemmas.Bool.{and_parts, not-true, leb-false, or_parts}
 use Rattle.link_model.specs.Books.{Book}
@@ -47,16 +46,7 @@ module _ (p : WindowPast) where
     where
       within : (k : ℕ) → (needed_by p.entries (gone_in p) k && open_in k) ≡ true → (greatest_behind p.before p.entries + 1 - p.size ≤ k) × (k < greatest_behind p.before p.entries + 1 - p.size + p.size)
       within k passes =
-          grind (
-            arith,
-            at_most_top,
-            gone_in,
-            leb-false,
-            needed_by,
-            not-true,
-            opened_at_most,
-            or_parts,
-          )
+          grind (arith, at_most_top, gone_in, leb-false, needed_by, not-true, opened_at_most, or_parts)
 
 pub few_books : (w : Window) (p : WindowPast) → StandsForPast w p → length (filter (λ (b : NumberedBook). not (closed_in w b.number)) w.books) ≤ w.size
 unfolding window_of

@@ -1,6 +1,5 @@
 -- A window's greatest number, the picture that a fragment opened, and the window of a list's last session.
-use Rattle.std.proofs.Common.{◌≡◌, ℕ, ◌+◌, ◌%◌, ◌^◌, ◌<◌, ◌≤◌, max, Bool, true, false, List, [], ◌∷◌, ◌++◌, map, Some, None, refl, ap, sym, subst, ◌∙◌, inl, inr, arith, cond}
-use Rattle.std.specs.Prelude.{nat_le, not, ◌&&◌, ◌||◌, fold}
+use Rattle.std.proofs.Common.{◌≡◌, ℕ, ◌+◌, ◌%◌, ◌^◌, ◌<◌, ◌≤◌, max, Bool, true, false, List, [], ◌∷◌, ◌++◌, map, Some, None, refl, ap, sym, subst, ◌∙◌, inl, inr, arith, cond, nat_le, not, ◌&&◌, ◌||◌, fold}
 use Rattle.std.specs.List.{last_or}
 use Rattle.std.proofs.lemmas.Bool.{cases_lt, and_from, and_left, cond-true, eq-eqb, false≢true, lt-leb, not_from_false, or_from}
 use Rattle.std.proofs.lemmas.List.Sums.{fold-append}

@@ -1,9 +1,7 @@
 -- A window stands for its past: what carries over each step, and what it answers.
-use Rattle.std.proofs.Common.{◌≡◌, ℕ, zero, suc, ◌+◌, ◌<◌, Bool, true, false, List, [], ◌∷◌, ◌++◌, drop, Some, None, refl, ap, sym, ◌∙◌, arith, cond}
+use Rattle.std.proofs.Common.{◌≡◌, ℕ, zero, suc, ◌+◌, ◌<◌, Bool, true, false, List, [], ◌∷◌, ◌++◌, drop, Some, None, refl, ap, sym, ◌∙◌, arith, cond, option_map, append_assoc}
 use Rattle.std.specs.List.{last_or}
-use Rattle.std.specs.Option.{option_map}
 use Rattle.std.proofs.lemmas.Bool.{cond-true, cond-false, not-true, not_from_false, leb-false}
-use Rattle.std.proofs.lemmas.List.{append_assoc}
 use Rattle.std.proofs.lemmas.List.Prefix.{front_rest}
 use Rattle.std.proofs.lemmas.Option.{none-some}
 use Rattle.link_model.specs.Books.{book_of}
@@ -106,8 +104,7 @@ module _ (w : Window) (p : WindowPast) (stands : StandsForPast w p) where
 
     -- its book is there
     pub book_of_next : book_at w.books n ≡ Some (book_of p.sequence (parts_of n p.entries))
-    book_of_next =
-        grind (arith, book_of_window, books_by, gone_in, needed_by, next_passes, not_from_false)
+    book_of_next = grind (arith, book_of_window, books_by, gone_in, needed_by, next_passes, not_from_false)
 
   -- ---- the end
 

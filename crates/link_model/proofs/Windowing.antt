@@ -1,6 +1,5 @@
 -- What a window's value is by its past, and that it stays so with a fragment more, a release, and the end of the input.
-use Rattle.std.proofs.Common.{◌≡◌, ℕ, ◌+◌, ◌-◌, ◌^◌, ◌<◌, ◌≤◌, max, Bool, true, false, List, [], ◌∷◌, ◌++◌, map, Option, Some, None, refl, ap, sym, ◌∙◌, inl, inr, arith, cond}
-use Rattle.std.specs.Prelude.{nat_lt, nat_le, not, ◌&&◌, ◌||◌, filter}
+use Rattle.std.proofs.Common.{◌≡◌, ℕ, ◌+◌, ◌-◌, ◌^◌, ◌<◌, ◌≤◌, max, Bool, true, false, List, [], ◌∷◌, ◌++◌, map, Option, Some, None, refl, ap, sym, ◌∙◌, inl, inr, arith, cond, nat_lt, nat_le, not, ◌&&◌, ◌||◌, filter}
 use Rattle.std.specs.List.{flat_map, range_with_len, last_or}
 use Rattle.std.proofs.lemmas.Bool.{cases_lt, and_from, and_left, and_parts, cond-true, le-ltb, lt-ltb, leb-false, not_from_false, or_parts, or_from}
 use Rattle.std.proofs.lemmas.List.{append-nil, map-append}

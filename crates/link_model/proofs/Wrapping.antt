@@ -1,6 +1,5 @@
 -- A picture's number has the 32 bits that were sent, is the nearest such number to the greatest one, and fits 64 bits.
-use Rattle.std.proofs.Common.{◌≡◌, ℕ, ◌+◌, ◌-◌, ◌%◌, ◌^◌, ◌<◌, ◌≤◌, false, List, [], ◌∷◌, ◌++◌, arith}
-use Rattle.std.specs.Prelude.{fold, nat_le, nat_lt}
+use Rattle.std.proofs.Common.{◌≡◌, ℕ, ◌+◌, ◌-◌, ◌%◌, ◌^◌, ◌<◌, ◌≤◌, false, List, [], ◌∷◌, ◌++◌, arith, fold, nat_le, nat_lt}
 use Rattle.std.proofs.lemmas.Bool.{or_parts, leb-false, cond-true, cond-false, lt-ltb, le-ltb}
 use Rattle.link_model.specs.Numbers.{Numbered, greatest, distance, nearest, is_closed, is_late, enters, entered}
 use Rattle.link_model.specs.Session.{Fragment}
@@ -39,8 +38,7 @@ unfolding is_late
 unlate window es n early = leb-false (2 ^ 64 - 16) n (or_parts (is_closed window es n) (nat_le (2 ^ 64 - 16) n) early).1
 
 pub enters_fits : (base window : ℕ) (es : List Numbered) (f : Fragment) → greatest es < 2 ^ 64 - 16 → greatest (enters base window es f) < 2 ^ 64 - 16
-enters_fits base window es f fits =
-    grind (arith, early_enters, greatest-one, late_changes_nothing, unlate)
+enters_fits base window es f fits = grind (arith, early_enters, greatest-one, late_changes_nothing, unlate)
 
 pub entered_fits : (base window : ℕ) (fragments : List Fragment) → greatest (entered base window fragments) < 2 ^ 64 - 16
 entered_fits base window fragments = all_fit [] fragments greatest-none

@@ -1,6 +1,5 @@
 -- An RTP header that was written is read back.
-use Rattle.std.proofs.Common.{◌≡◌, ◌<◌, ◌≤◌, ℕ, ◌+◌, ◌/◌, ◌%◌, ◌^◌, Bool, true, false, List, ◌++◌, length, drop, Ok, refl, arith, if◌then◌else◌, ◌==◌}
-use Rattle.std.proofs.lemmas.Bool.{le-ltb}
+use Rattle.std.proofs.Common.{◌≡◌, ◌<◌, ◌≤◌, ℕ, ◌+◌, ◌/◌, ◌%◌, ◌^◌, Bool, true, false, List, ◌++◌, length, drop, Ok, refl, arith, if◌then◌else◌, ◌==◌, le-ltb}
 use Rattle.byteorder.specs.Endian.{big_number}
 use Rattle.link_model.specs.Packets.{RtpPacket, RtpFits, version, has_padding, has_extension, csrc_count, marker, payload_type, rtp_packet, rtp_header, is_shaped, header_end, payload_end, packet_fields}
 
