@@ -73,10 +73,16 @@ abbrev pub lying_state : Cargo → ℕ
 lying_state (Waiting stamp job) = 1
 lying_state (Finished stamp done) = 3
 
--- a place that was out was taken back: its slot has what lay there
+-- the serial that it is stamped with
+abbrev pub stamp_of : Cargo → ℕ
+stamp_of (Waiting stamp job) = stamp
+stamp_of (Finished stamp done) = stamp
+
+-- a place that was out was taken back: its slot has what lay there, stamped with its serial
 pub record HasTakenBack (place serial state : ℕ) (old new : SeatState) : Type 0 where
   pub cargo : Cargo
   pub lay : lying_state cargo ≡ state
+  pub stamped : stamp_of cargo ≡ serial
   pub did : StepsLeaving old new (back_of place serial cargo) ((place, Some cargo) ∷ old.1)
   pub empty : new.0.lanes ≡ lanes_back old.0.lanes place
   pub out : (lane_at old.0 place).is_out ≡ true

@@ -3,7 +3,7 @@ ghost use Rattle.std.specs.Prelude.{OnOk, OnErr, IfOk, IfErr, cond, ◌==◌, sl
 ghost use Rattle.std.specs.VecDeque.{deque_len, deque_capacity};
 ghost use Rattle.claim_board.specs.Views.{lane};
 ghost use Rattle.claim_board.specs.Counts.{occurrences};
-ghost use Rattle.claim_board.specs.Plays.{back_of, empty_slots, lying_state};
+ghost use Rattle.claim_board.specs.Plays.{back_of, empty_slots, lying_state, stamp_of};
 ghost use Rattle.claim_board.specs.Seats.{IsFeederOf, feeder_sees, place_count};
 ghost use Rattle.claim_board.specs.Views.{DidOnce, lane_at};
 ghost use Rattle.claim_board.specs.Steps.{MayStep, IsSameSeat};
@@ -132,6 +132,8 @@ impl Board {
         requires lies { (state ≡ 1) ⊎ (state ≡ 3) }
         ensures seat { IsFeederOf self.now f.new }
         ensures lay { IfOk result (λ cargo. lying_state cargo ≡ state) }
+        ensures stamped { IfOk result (λ cargo. stamp_of cargo
+            ≡ (lane_at (feeder_sees f.old) place).serial) }
         ensures took { IfOk result (λ cargo. DidOnce (feeder_sees f.old) (feeder_sees f.new)
             (back_of place (lane_at (feeder_sees f.old) place).serial cargo)) }
         ensures empty { OnOk result (lane_at (feeder_sees f.new) place
