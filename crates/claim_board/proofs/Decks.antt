@@ -1,6 +1,5 @@
 -- The slots of a seat, as they turn.
-use Rattle.std.proofs.Common.{◌≡◌, ℕ, suc, ◌+◌, ◌<◌, List, [], ◌∷◌, ◌++◌, length, get_or, take, drop, refl, sym, ap, ◌∙◌, arith, append_assoc, ◌≢◌, ne_eqb, eqb, cond}
-use Rattle.std.specs.Prelude.{None}
+use Rattle.std.proofs.Common.{◌≡◌, ℕ, suc, ◌+◌, ◌<◌, List, [], ◌∷◌, ◌++◌, length, get_or, take, drop, refl, sym, ap, ◌∙◌, arith, append_assoc, ◌≢◌, ne_eqb, eqb, cond, None, sum_by}
 use Rattle.std.proofs.lemmas.List.{drop_more, take-append-drop, take_more}
 use Rattle.atomic_table.specs.Table.{turned}
 use Rattle.std.proofs.lemmas.List.Sums.{sum_by-append}
@@ -8,7 +7,6 @@ use Rattle.claim_board.proofs.Sums.{occurrences-cons}
 use Rattle.claim_board.specs.Rule.{Slot}
 use Rattle.claim_board.specs.Plays.{empty_slots}
 use Rattle.claim_board.specs.Counts.{occurrences}
-use Rattle.std.specs.List.{sum_by}
 
 empties-append : (xs ys : List ℕ) → empty_slots (xs ++ ys) ≡ empty_slots xs ++ empty_slots ys
 empties-append [] ys = refl

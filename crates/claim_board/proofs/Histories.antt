@@ -16,13 +16,12 @@ use Rattle.claim_board.specs.History.{deed_place, after_deed, standing, MayDo, p
 -- ---- one deed
 
 pub length_deed : (ps : List JobPlace) (seat : ℕ) (d : Deed) → length (after_deed ps seat d) ≡ length ps
-length_deed ps seat (WasRead p w) = refl
-length_deed ps seat (WasFetched p) = refl
 length_deed ps seat (WasPut p job) = length-set ps p _
 length_deed ps seat (WasClaimed p t job) = length-set ps p _
 length_deed ps seat (WasCompleted p t done) = grind (arith, length-set)
 length_deed ps seat (WasTaken p t done) = length-set ps p _
 length_deed ps seat (WasWithdrawn p t job) = length-set ps p _
+length_deed ps seat d = refl
 
 pub length_after : (n : ℕ) (h : List Entry) → length (places_after n h) ≡ n
 length_after n [] = length-replicate n unused_place
@@ -30,13 +29,12 @@ length_after n (e ∷ h) = length_deed (places_after n h) e.seat e.deed ∙ leng
 
 -- another place stays as it is
 pub elsewhere : (ps : List JobPlace) (seat : ℕ) (d : Deed) (q : ℕ) → q ≢ deed_place d → place_at (after_deed ps seat d) q ≡ place_at ps q
-elsewhere ps seat (WasRead p w) q ne = refl
-elsewhere ps seat (WasFetched p) q ne = refl
 elsewhere ps seat (WasPut p job) q ne = get_or-set_other ps p q _ unused_place ne
 elsewhere ps seat (WasClaimed p t job) q ne = get_or-set_other ps p q _ unused_place ne
 elsewhere ps seat (WasCompleted p t done) q ne = grind (arith, get_or-set_other)
 elsewhere ps seat (WasTaken p t done) q ne = get_or-set_other ps p q _ unused_place ne
 elsewhere ps seat (WasWithdrawn p t job) q ne = get_or-set_other ps p q _ unused_place ne
+elsewhere ps seat d q ne = refl
 
 -- ---- at the place itself
 
@@ -77,13 +75,12 @@ holder c = 0
 -- a place that a seat holds isn't what another seat's deed says of its place
 not_held : (ps : List JobPlace) (seat me : ℕ) (d : Deed) (t : ℕ) (j : Job) → MayDo ps seat d → seat ≢ me → place_at ps (deed_place d) ≡ standing t (Claimed me j)
     → place_at (after_deed ps seat d) (deed_place d) ≡ standing t (Claimed me j)
-not_held ps seat me (WasRead p w) t j may ne e = e
-not_held ps seat me (WasFetched p) t j may ne e = e
 not_held ps seat me (WasPut p job) t j may ne e = absurd (let a = state_is ps p t _ e in let b = empty_of_put ps p may in omega arith)
 not_held ps seat me (WasClaimed p u job) t j may ne e = absurd (let a = state_is ps p t _ e in let b = state_is ps p u _ may in omega arith)
 not_held ps seat me (WasCompleted p u done) t j may ne e = absurd (ne (ap (λ (x : JobPlace). holder x.content) (sym may ∙ e)))
 not_held ps seat me (WasTaken p u done) t j may ne e = absurd (let a = state_is ps p t _ e in let b = state_is ps p u _ may in omega arith)
 not_held ps seat me (WasWithdrawn p u job) t j may ne e = absurd (let a = state_is ps p t _ e in let b = state_is ps p u _ may in omega arith)
+not_held ps seat me d t j may ne e = e
 
 stays : (ps : List JobPlace) (seat me : ℕ) (d : Deed) (q t : ℕ) (j : Job) → MayDo ps seat d → seat ≢ me → place_at ps q ≡ standing t (Claimed me j)
     → place_at (after_deed ps seat d) q ≡ standing t (Claimed me j)
@@ -104,10 +101,8 @@ tag (WasRead p w) = 0
 tag d = 1
 
 held_none : (me : ℕ) (c : Content) → state_number (state_of c) ≢ 2 → held_count me c ≡ 0
-held_none me Nothing ne = refl
-held_none me (Offered j) ne = refl
 held_none me (Claimed w j) ne = absurd (ne refl)
-held_none me (Decoded d) ne = refl
+held_none me c ne = refl
 
 held_other : (me w t : ℕ) (j : Job) (x : JobPlace) → x ≡ standing t (Claimed w j) → w ≢ me → held_count me x.content ≡ 0
 held_other me w t j x e ne = ap (λ (y : JobPlace). held_count me y.content) e ∙ (rw (ne_eqb w me ne) refl)
@@ -123,8 +118,6 @@ there ps p t c e some = within ps p (omega (arith, state_is ps p t c e, some))
 
 count_here : (ps : List JobPlace) (seat me : ℕ) (d : Deed) → MayDo ps seat d → (0 < tag d → seat ≢ me)
     → held_count me (place_at (after_deed ps seat d) (deed_place d)).content ≡ held_count me (place_at ps (deed_place d)).content
-count_here ps seat me (WasRead p w) may ne = refl
-count_here ps seat me (WasFetched p) may ne = refl
 count_here ps seat me (WasPut p job) may ne =
     let h = ltb-true p (length ps) (and_parts (ltb p (length ps)) (is_free (place_at ps p)) may).0 in
     let a = empty_of_put ps p may in
@@ -137,6 +130,7 @@ count_here ps seat me (WasTaken p t done) may ne =
     ap (λ (x : JobPlace). held_count me x.content) (free_here ps p t _ (there ps p t _ may (omega arith)) may) ∙ sym (held_none me (place_at ps p).content (λ e. omega (arith, state_is ps p t _ may, e)))
 count_here ps seat me (WasWithdrawn p t job) may ne =
     ap (λ (x : JobPlace). held_count me x.content) (free_here ps p t _ (there ps p t _ may (omega arith)) may) ∙ sym (held_none me (place_at ps p).content (λ e. omega (arith, state_is ps p t _ may, e)))
+count_here ps seat me d may ne = refl
 
 count_deed : (ps : List JobPlace) (seat me : ℕ) (d : Deed) (q : ℕ) → MayDo ps seat d → (0 < tag d → seat ≢ me)
     → held_count me (place_at (after_deed ps seat d) q).content ≡ held_count me (place_at ps q).content
@@ -165,8 +159,6 @@ up_set (y ∷ ys) (suc p) zero x h = omega arith
 up_set (y ∷ ys) (suc p) (suc q) x h = up_set ys p q x h
 
 up_deed : (ps : List JobPlace) (seat : ℕ) (d : Deed) (q : ℕ) → (place_at ps q).serial ≤ (place_at (after_deed ps seat d) q).serial
-up_deed ps seat (WasRead p w) q = omega arith
-up_deed ps seat (WasFetched p) q = omega arith
 up_deed ps seat (WasPut p job) q = up_set ps p q _ (omega arith)
 up_deed ps seat (WasClaimed p t job) q = up_set ps p q _ (omega arith)
 up_deed ps seat (WasCompleted p t done) q = dite (ℕ_discrete (place_at ps p).serial t)
@@ -174,6 +166,7 @@ up_deed ps seat (WasCompleted p t done) q = dite (ℕ_discrete (place_at ps p).s
     (λ ne. rw (ne_eqb (place_at ps p).serial t ne) (omega arith))
 up_deed ps seat (WasTaken p t done) q = up_set ps p q _ (omega arith)
 up_deed ps seat (WasWithdrawn p t job) q = up_set ps p q _ (omega arith)
+up_deed ps seat d q = omega arith
 
 pub up : (n : ℕ) (more known : List Entry) (q : ℕ) → (place_at (places_after n known) q).serial ≤ (place_at (places_after n (more ++ known)) q).serial
 up n [] known q = omega arith

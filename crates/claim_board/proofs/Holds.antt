@@ -1,5 +1,5 @@
 -- The places that a worker holds, and the slots that are with it.
-use Rattle.std.proofs.Common.{◌≡◌, refl, ℕ, ◌+◌, ◌/◌, ◌<◌, ◌≤◌, cond, List, ◌∷◌, ◌++◌, length, sym, ap, ◌∙◌, subst, arith, eqb, eq-eqb, ne_eqb, append_assoc}
+use Rattle.std.proofs.Common.{◌≡◌, refl, ℕ, ◌+◌, ◌/◌, ◌<◌, ◌≤◌, cond, List, ◌∷◌, ◌++◌, length, sym, ap, ◌∙◌, subst, arith, eqb, eq-eqb, ne_eqb, append_assoc, Some}
 use mathlib.Core.Logic.{dite}
 use native.Mathlib.Decide.{ℕ_discrete}
 use Rattle.vc_slice.specs.declared.done.SliceDone.{SliceDone}
@@ -12,19 +12,16 @@ use Rattle.claim_board.specs.Views.{SeatView, DidOnce, DidAtLast, Holds, content
 use Rattle.claim_board.specs.declared.view.Entry.{Entry}
 use Rattle.claim_board.specs.declared.view.Deed.{Deed}
 use Rattle.claim_board.specs.declared.view.Deed.TheVariants.{WasRead, WasClaimed, WasCompleted}
-use Rattle.std.specs.Prelude.{Some}
 use Rattle.atomic_table.specs.Table.{rest}
 use Rattle.claim_board.specs.Rule.{Slot}
 use Rattle.claim_board.specs.declared.cargo.Cargo.TheVariants.{Waiting}
-use Rattle.claim_board.proofs.Few.{few}
+use Rattle.claim_board.proofs.Idle.{few}
 use Rattle.claim_board.proofs.Histories.{claim_here, complete_here, count_same, each_append, elsewhere, number_at, other_or_read, up, within}
 use Rattle.claim_board.proofs.Sums.{occurrences-cons}
 
 pub held_once : (me : ℕ) (c : Content) → held_count me c ≤ 1
-held_once me Nothing = omega arith
-held_once me (Offered j) = omega arith
 held_once me (Claimed w j) = dite (ℕ_discrete w me) (λ e. rw (eq-eqb w me e) (omega arith)) (λ ne. rw (ne_eqb w me ne) (omega arith))
-held_once me (Decoded d) = omega arith
+held_once me c = omega arith
 
 -- ---- steps in a row
 

@@ -1,6 +1,5 @@
 -- What a step keeps of the rule.
-use Rattle.std.proofs.Common.{◌≡◌, ◌≢◌, ℕ, zero, suc, ◌+◌, ◌*◌, ◌^◌, ◌<◌, ◌≤◌, Bool, true, false, List, [], ◌∷◌, length, get_or, set, sym, refl, ap, ◌∙◌, subst, ⊎_elim, arith, length-set, get_or-set_other, get_or-set_same}
-use Rattle.std.specs.Prelude.{Some}
+use Rattle.std.proofs.Common.{◌≡◌, ◌≢◌, ℕ, zero, suc, ◌+◌, ◌*◌, ◌^◌, ◌<◌, ◌≤◌, Bool, true, false, List, [], ◌∷◌, length, get_or, set, sym, refl, ap, ◌∙◌, subst, ⊎_elim, arith, length-set, get_or-set_other, get_or-set_same, Some}
 use mathlib.Core.Logic.{dite}
 use mathlib.Core.Option.{some, none, some-injective, some-ne-none}
 use mathlib.Core.Option as maybe
@@ -161,7 +160,6 @@ offered w t home known p at is = cases p.serial p.content at.is_fetched at.shows
   where
     cases : (serial : ℕ) (c : Content) (fetched : Bool) → w ≡ word_of (standing serial c) → serial ≤ 2 ^ 61 → known ≡ lane serial fetched (is_out c) → Lies home fetched serial c
         → IsOffered t home known (standing serial c)
-    cases serial Nothing fetched e small k l = absurd (omega arith)
     cases serial (Offered job) true e small k l =
         let same : serial ≡ t = omega arith in record {
           own = l.0;
@@ -171,8 +169,7 @@ offered w t home known p at is = cases p.serial p.content at.is_fetched at.shows
           small = omega arith;
         }
     cases serial (Offered job) false e small k l = absurd l
-    cases serial (Claimed seat job) fetched e small k l = absurd (omega arith)
-    cases serial (Decoded done) fetched e small k l = absurd (omega arith)
+    cases serial c fetched e small k l = absurd (omega arith)
 
 pub record IsDecoded (t : ℕ) (home : maybe.Option (maybe.Option Slot)) (known : Lane) (p : JobPlace) : Type 0 where
   pub own : SliceDone
@@ -186,9 +183,6 @@ decoded w t home known p at is = cases p.serial p.content at.is_fetched at.shows
   where
     cases : (serial : ℕ) (c : Content) (fetched : Bool) → w ≡ word_of (standing serial c) → serial ≤ 2 ^ 61 → known ≡ lane serial fetched (is_out c) → Lies home fetched serial c
         → IsDecoded t home known (standing serial c)
-    cases serial Nothing fetched e small k l = absurd (omega arith)
-    cases serial (Offered job) fetched e small k l = absurd (omega arith)
-    cases serial (Claimed seat job) fetched e small k l = absurd (omega arith)
     cases serial (Decoded done) true e small k l =
         let same : serial ≡ t = omega arith in record {
           own = l.0;
@@ -198,6 +192,7 @@ decoded w t home known p at is = cases p.serial p.content at.is_fetched at.shows
           small = omega arith;
         }
     cases serial (Decoded done) false e small k l = absurd l
+    cases serial c fetched e small k l = absurd (omega arith)
 
 -- what the feeder's lane says of its place
 pub record IsIdle (t : ℕ) (fetched : Bool) (w : ℕ) (home : maybe.Option (maybe.Option Slot)) (p : JobPlace) : Type 0 where
@@ -219,6 +214,4 @@ idle w t f home known p at is = cases p.serial p.content at.is_fetched at.shows 
           small = omega arith;
           lies = subst (λ (u : ℕ). Lies home f u Nothing) same (subst (λ (b : Bool). Lies home b serial Nothing) got l);
         }
-    cases serial (Offered job) fetched e small k l = let h : true ≡ false = ap (λ (x : Lane). x.is_out) (sym k ∙ is) in cc
-    cases serial (Claimed seat job) fetched e small k l = let h : true ≡ false = ap (λ (x : Lane). x.is_out) (sym k ∙ is) in cc
-    cases serial (Decoded done) fetched e small k l = let h : true ≡ false = ap (λ (x : Lane). x.is_out) (sym k ∙ is) in cc
+    cases serial c fetched e small k l = let h : true ≡ false = ap (λ (x : Lane). x.is_out) (sym k ∙ is) in cc

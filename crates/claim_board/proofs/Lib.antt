@@ -4,10 +4,8 @@ pub mod Keeps
 pub mod Workers
 pub mod Feeds
 pub mod Decks
-pub mod Few
-pub mod Opens
-pub mod Holds
 pub mod Idle
+pub mod Holds
 pub mod Sweeps
 pub mod Tight
 pub mod Progress

@@ -25,13 +25,9 @@ progress p = 4 * p.serial + stage p.content
 
 stage_empty : (c : Content) → state_number (state_of c) ≡ 0 → stage c ≡ 4
 stage_empty Nothing e = refl
-stage_empty (Offered job) e = absurd (omega arith)
-stage_empty (Claimed seat job) e = absurd (omega arith)
-stage_empty (Decoded done) e = absurd (omega arith)
+stage_empty c e = absurd (omega arith)
 
 up_here : (ps : List JobPlace) (seat : ℕ) (d : Deed) → MayDo ps seat d → progress (place_at ps (deed_place d)) ≤ progress (place_at (after_deed ps seat d) (deed_place d))
-up_here ps seat (WasRead p w) may = omega arith
-up_here ps seat (WasFetched p) may = omega arith
 up_here ps seat (WasPut p job) may =
     let h = ltb-true p (length ps) (and_parts (ltb p (length ps)) (is_free (place_at ps p)) may).0 in
     let was = stage_empty (place_at ps p).content (empty_of_put ps p may) in
@@ -41,6 +37,7 @@ up_here ps seat (WasClaimed p t job) may = omega (arith, ap progress may, ap pro
 up_here ps seat (WasCompleted p t done) may = omega (arith, ap progress may, ap progress (complete_here ps p t seat (job_of done.job) (there ps p t _ may (omega arith)) may))
 up_here ps seat (WasTaken p t done) may = omega (arith, ap progress may, ap progress (free_here ps p t _ (there ps p t _ may (omega arith)) may))
 up_here ps seat (WasWithdrawn p t job) may = omega (arith, ap progress may, ap progress (free_here ps p t _ (there ps p t _ may (omega arith)) may))
+up_here ps seat d may = omega arith
 
 up_deed : (ps : List JobPlace) (seat : ℕ) (d : Deed) (q : ℕ) → MayDo ps seat d → progress (place_at ps q) ≤ progress (place_at (after_deed ps seat d) q)
 up_deed ps seat d q may = dite (ℕ_discrete q (deed_place d))
@@ -56,12 +53,7 @@ claim_step ps seat (WasClaimed q u job) p t is may =
     let was = ap progress may in
     let now = ap progress (claim_here ps q u seat (job_of job) (there ps q u _ may (omega arith)) may) in
     subst (λ (k : ℕ). (progress (place_at ps k) ≡ 4 * t + 1) × (progress (place_at (after_deed ps seat (WasClaimed q u job)) k) ≡ 4 * t + 2)) e (omega arith, omega arith)
-claim_step ps seat (WasRead q w) p t is may = absurd (false≢true is)
-claim_step ps seat (WasFetched q) p t is may = absurd (false≢true is)
-claim_step ps seat (WasPut q job) p t is may = absurd (false≢true is)
-claim_step ps seat (WasCompleted q u done) p t is may = absurd (false≢true is)
-claim_step ps seat (WasTaken q u done) p t is may = absurd (false≢true is)
-claim_step ps seat (WasWithdrawn q u job) p t is may = absurd (false≢true is)
+claim_step ps seat d p t is may = absurd (false≢true is)
 
 -- none yet, or one and the place is past it
 once : (n p t : ℕ) (h : List Entry) → IsHistory n h → (claims_in p t h ≡ 0) ⊎ ((claims_in p t h ≡ 1) × (4 * t + 2 ≤ progress (place_at (places_after n h) p)))

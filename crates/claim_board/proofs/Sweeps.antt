@@ -1,8 +1,7 @@
 -- The places that were left are asked, one after another.
-use Rattle.std.proofs.Common.{◌≡◌, refl, ℕ, zero, suc, ◌+◌, Bool, true, false, cond, List, [], ◌∷◌, get_or, sym, ◌∙◌, subst, arith}
+use Rattle.std.proofs.Common.{◌≡◌, refl, ℕ, zero, suc, ◌+◌, Bool, true, false, cond, List, [], ◌∷◌, get_or, sym, ◌∙◌, subst, arith, count_by}
 use Rattle.std.proofs.lemmas.Bool.{false≢true}
 use Rattle.std.proofs.lemmas.List.Sums.{sum_by-cons}
-use Rattle.std.specs.List.{count_by}
 use Rattle.claim_board.specs.declared.feeder.BoardFeeder.{BoardFeeder}
 use Rattle.claim_board.specs.Feeders.{HasAskedBelow, HasAskedIfLeft, left_in}
 

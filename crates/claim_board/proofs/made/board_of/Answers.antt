@@ -1,9 +1,8 @@
-use Rattle.std.proofs.Common.{rules, ◌≡◌, ◌∙◌, ℕ, List, sym, subst}
-use Rattle.std.specs.Prelude.{replicate, None}
+use Rattle.std.proofs.Common.{rules, ◌≡◌, ◌∙◌, ℕ, List, sym, subst, replicate, None}
 use Rattle.atomic_table.specs.Table.{opening}
 use Rattle.claim_board.specs.Views.{first_view}
 use Rattle.claim_board.specs.Rule.{BoardRule, Slot}
-use Rattle.claim_board.proofs.Opens.{opens}
+use Rattle.claim_board.proofs.Workers.{opens}
 use Rattle.claim_board.proofs.made.board_of.Goals as goal
 
 pub vacant-requires : goal.vacant-requires

@@ -1,5 +1,4 @@
-use Rattle.std.proofs.Common.{ap, arith, sym, ◌∙◌, ◌≤◌, ◌∷◌, ◌/◌, List, ℕ}
-use Rattle.std.specs.Prelude.{Some}
+use Rattle.std.proofs.Common.{ap, arith, sym, ◌∙◌, ◌≤◌, ◌∷◌, ◌/◌, List, ℕ, Some}
 use Rattle.atomic_table.specs.Table.{rest}
 use Rattle.claim_board.specs.Plays.{SeatState}
 use Rattle.claim_board.specs.Rule.{Slot}

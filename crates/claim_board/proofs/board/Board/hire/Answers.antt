@@ -1,5 +1,5 @@
 use Rattle.std.proofs.Common.{rules}
-use Rattle.claim_board.proofs.Opens.{splits}
+use Rattle.claim_board.proofs.Workers.{splits}
 use Rattle.claim_board.proofs.board.Board.hire.Goals as goal
 
 pub split_seat-requires : goal.split_seat-requires

@@ -1,5 +1,4 @@
-use Rattle.std.proofs.Common.{◌≡◌, vec_len}
-use Rattle.std.specs.Prelude.{All}
+use Rattle.std.proofs.Common.{◌≡◌, vec_len, All}
 use Rattle.claim_board.specs.Calls.{AreEmpty, IsNewWorker}
 use Rattle.claim_board.specs.Seats.{IsFeederOf, feeder_sees, place_count}
 use Rattle.claim_board.proofs.board.Board.hire_all.Given as goal

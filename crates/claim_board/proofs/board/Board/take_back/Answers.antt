@@ -1,11 +1,9 @@
-use Rattle.std.proofs.Common.{arith, ap, refl, sym, ◌∙◌, ◌∷◌, ◌<◌, ◌≡◌, length, vec_len, List, ℕ}
-use Rattle.std.specs.Prelude.{Some}
+use Rattle.std.proofs.Common.{arith, ap, refl, sym, ◌∙◌, ◌∷◌, ◌<◌, ◌≡◌, length, vec_len, List, ℕ, Some}
 use Rattle.std.specs.VecDeque.{deque_capacity}
 use Rattle.atomic_table.specs.Table.{rest}
 use Rattle.claim_board.specs.Plays.{SeatState}
 use Rattle.claim_board.specs.Rule.{Slot}
-use Rattle.claim_board.proofs.Few.{room_left}
-use Rattle.claim_board.proofs.Idle.{fetched_then, idle_back, inside, small_then}
+use Rattle.claim_board.proofs.Idle.{room_left, fetched_then, idle_back, inside, small_then}
 use Rattle.claim_board.proofs.board.Board.take_back.Goals as goal
 
 pub open-cargo-requires-clause-slot : goal.open-cargo-requires-clause-slot
