@@ -33,14 +33,7 @@ head_bytes : (prefix index : ℕ) (bits : List Bool) → index < 256 → packed_
 head_bytes zero index bits small =
     grind (arith, append_assoc, bits_of-cons, bits_of-nil, packed_bits-byte, small)
 head_bytes (suc prefix) index bits small =
-    grind (
-      arith,
-      append_assoc,
-      bits_of-cons,
-      packed_bits-byte,
-      small,
-      head_bytes prefix index bits small,
-    )
+    grind (arith, append_assoc, bits_of-cons, packed_bits-byte, small, head_bytes prefix index bits small)
 
 none_packed : packed_bits [] ≡ []
 unfolding packed_bits

@@ -1,8 +1,6 @@
 -- The numbers that a receiver gives the pictures of a sender: each is as far from the first as it was sent.
-use Rattle.std.proofs.Common.{◌≡◌, ◌<◌, ◌≤◌, ℕ, ◌+◌, ◌-◌, ◌%◌, ◌^◌, max, Bool, true, false, cond, List, [], ◌∷◌, ◌++◌, map, refl, sym, ap, ◌∙◌, subst, arith, All, inl, inr}
-use Rattle.std.specs.Prelude.{fold, filter, nat_le, ◌==◌}
+use Rattle.std.proofs.Common.{◌≡◌, ◌<◌, ◌≤◌, ℕ, ◌+◌, ◌-◌, ◌%◌, ◌^◌, max, Bool, true, false, cond, List, [], ◌∷◌, ◌++◌, map, refl, sym, ap, ◌∙◌, subst, arith, All, inl, inr, fold, filter, nat_le, ◌==◌, append_assoc, append-nil}
 use Rattle.std.proofs.lemmas.Bool.{cases_Bool, cases_lt, both_ways, or_from, lt-leb, eq-eqb, ne_eqb}
-use Rattle.std.proofs.lemmas.List.{append_assoc, append-nil}
 use Rattle.std.proofs.lemmas.List.Elements.{All-head, All-tail, All-cons, All-nil, All-push}
 use Rattle.std.proofs.lemmas.List.Sums.{fold-append}
 use Rattle.link_model.specs.Numbers.{Numbered, greatest, base_above, nearest, picture_number, is_closed, is_late, enters, entered, parts_of, has_parts, is_opened}
@@ -110,8 +108,7 @@ module _ (s : Sending) (IsPart : ℕ → Part → Type 0) where
 
   -- the number of a picture after others
   pub number_behind : (base first j : ℕ) (e : Numbered) (es : List Numbered) → first % 2 ^ 32 ≡ s.picture % 2 ^ 32 → All (IsEntry first) (e ∷ es) → j < 2 ^ 31 → picture_number base (e ∷ es) (number_bits s j) ≡ first + j
-  number_behind base first j e es bits all few =
-      grind (arith, greatest_is, later_number, number_found)
+  number_behind base first j e es bits all few = grind (arith, greatest_is, later_number, number_found)
 
   with_one : (window : ℕ) (es : List Numbered) (f : Fragment) → AreEntries es → IsSentFragment f → AreEntries (es ++ record { number = picture_number (2 ^ 32) es f.number; part = f.part } ∷ [])
   with_one window [] f are sent =

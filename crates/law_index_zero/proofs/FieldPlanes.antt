@@ -1,15 +1,14 @@
 -- The pictures of a frame without a fault are pictures without a fault.
-use Rattle.std.proofs.Common.{◌≡◌, ◌<◌, ℕ, ◌+◌, ◌*◌, ◌/◌, ◌%◌, ◌^◌, Bool, true, false, List, [], ◌∷◌, map, get_or, Option, None, sym, ap, ◌∙◌, arith, All}
+use Rattle.std.proofs.Common.{◌≡◌, ◌<◌, ℕ, ◌+◌, ◌*◌, ◌/◌, ◌%◌, ◌^◌, Bool, true, false, List, [], ◌∷◌, map, get_or, Option, None, sym, ap, ◌∙◌, arith, All, pow_pos}
 use Rattle.std.specs.List.{flat_map, range_with_len}
 use Rattle.std.specs.Option.{option_map, option_or}
-use Rattle.std.proofs.Math.Pow.{pow_pos}
 use Rattle.std.proofs.lemmas.Bool.{cond-true}
 use Rattle.std.proofs.lemmas.Bool.Decides.{nat_tests}
 use Rattle.std.proofs.lemmas.List.Elements.{All-append, All-nil, All-map}
 use Rattle.field_pairs.specs.Sizes.{IsWhole, AreWhole, HaveEvenHeights}
 use Rattle.field_pairs.proofs.RowsOfRasters.{length-raster}
 use Rattle.link_sender.proofs.SentFrames.{none_outside, unmapped}
-use Rattle.law_index_zero.proofs.SentFaults.{neither, all_inside}
+use Rattle.law_index_zero.proofs.SentStream.{neither, all_inside}
 use Rattle.link_model.specs.SendingFaults.{first_outside, plane_fault, sample_fault, first_sample_fault}
 use Rattle.link_model.specs.SendingPictures.{HasSides, IsFrame, plane_in, sent_sequence, sent_parameters}
 use Rattle.vc_types.specs.declared.settings.SendSettings.{SendSettings}

@@ -1,17 +1,13 @@
 -- The runs of a picture's slices fit their datagrams, and at index 0 they are taken from them again.
-use Rattle.std.proofs.Common.{◌≡◌, ◌<◌, ◌≤◌, ℕ, ◌*◌, List, [], ◌∷◌, ◌++◌, length, take, get_or, Some, None, Ok, refl, sym, ap, subst, ◌∙◌, arith, All}
-use Rattle.std.specs.Prelude.{slice_get}
-use Rattle.std.specs.List.{flat_map}
-use Rattle.std.proofs.lemmas.List.{length-append, length-take, get_or-take}
+use Rattle.std.proofs.Common.{◌≡◌, ◌<◌, ◌≤◌, ℕ, ◌*◌, List, [], ◌∷◌, ◌++◌, length, take, get_or, Some, None, Ok, refl, sym, ap, subst, ◌∙◌, arith, All, slice_get, flat_map, length-append, length-take, get_or-take}
 use Rattle.std.proofs.lemmas.List.Concat.{flat_map-append, flat_map-cons}
 use Rattle.std.proofs.lemmas.List.Elements.{All-head, All-tail, All-map, All-weaker}
 use Rattle.std.proofs.lemmas.Option.{slice_get_past, get_or_from_slice_get}
 use Rattle.law_index_zero.proofs.Among.{IsAmong, among_all, All-front, All-back}
 use Rattle.law_index_zero.proofs.CodedSlices.{slice_length-encoded}
-use Rattle.law_index_zero.proofs.SentFaults.{HasBytes, all_have_bytes, length-sent_slices, none_too_large, not_too_long, IsSmall}
+use Rattle.law_index_zero.proofs.SentStream.{HasBytes, all_have_bytes, length-sent_slices, none_too_large, not_too_long, IsSmall, all_enumerated}
 use Rattle.law_index_zero.proofs.SentRuns.{IsRun, runs_of_slices-are_runs, slices_in_runs_of_slices}
-use Rattle.law_index_zero.proofs.SentSlices.{IsWhole, sent_part, slice_run-sent_part}
-use Rattle.law_index_zero.proofs.SentStream.{all_enumerated}
+use Rattle.law_index_zero.proofs.OwnParts.{IsWhole, sent_part, slice_run-sent_part}
 use Rattle.link_model.specs.Kept.{SliceRun, slice_run}
 use Rattle.link_model.specs.Sending.{runs_of_slices, picture_runs, IsRunOf}
 use Rattle.link_model.specs.SendingFaults.{first_of_slices}

@@ -1,15 +1,10 @@
 -- The pictures of frames, one after another: which of them are a frame's, and that none has a fault.
-use Rattle.std.proofs.Common.{◌≡◌, ◌<◌, ℕ, zero, suc, ◌+◌, ◌*◌, Bool, true, false, cond, List, [], ◌∷◌, ◌++◌, length, drop, Some, None, refl, sym, ap, ◌∙◌, arith}
-use Rattle.std.specs.Prelude.{slice_get}
-use Rattle.std.specs.List.{flat_map}
+use Rattle.std.proofs.Common.{◌≡◌, ◌<◌, ℕ, zero, suc, ◌+◌, ◌*◌, Bool, true, false, cond, List, [], ◌∷◌, ◌++◌, length, drop, Some, None, refl, sym, ap, ◌∙◌, arith, slice_get, flat_map, drop-drop, length-append, suc-mul, zero-mul}
 use Rattle.std.proofs.lemmas.Grind.{common_steps}
-use Rattle.std.proofs.lemmas.List.{drop-drop, length-append}
 use Rattle.std.proofs.lemmas.List.Concat.{flat_map-cons}
 use Rattle.std.proofs.lemmas.Option.{none-some}
-use Rattle.std.proofs.Math.Nat.{suc-mul}
-use Rattle.law_index_zero.proofs.SentFaults.{both_sound, faultless}
+use Rattle.law_index_zero.proofs.SentStream.{both_sound, faultless, count}
 use Rattle.law_index_zero.proofs.SentRuns.{get_behind, get_in_front}
-use Rattle.law_index_zero.proofs.SentStream.{count}
 use Rattle.link_model.specs.Sending.{both_fields, pictures_of, pictures_per_frame}
 use Rattle.link_model.specs.SendingFaults.{first_slice_fault, send_fault}
 use Rattle.vc_types.specs.FieldPairs.{fields_of}
@@ -103,10 +98,7 @@ module _ (s : Sending) where
   unfolding first_slice_fault
   no_slice_fault indices [] none = refl
   no_slice_fault indices (frame ∷ frames) none =
-      let first = faultless s indices frame (ap (λ (n : ℕ). send_fault s (drop n indices) frame) (none_of per_frame) ∙ none 0 frame refl) in
+      let first = faultless s indices frame (ap (λ (n : ℕ). send_fault s (drop n indices) frame) (sym (zero-mul per_frame)) ∙ none 0 frame refl) in
       let rest = no_slice_fault (drop per_frame indices) frames (λ f own at. ap (λ (l : List ℕ). send_fault s l own) (sym (next_indices f indices)) ∙ none (suc f) own at) in
       ap (first_slice_fault s indices) (flat_map-cons (pictures_of s) frame frames)
       ∙ both_sound s indices (pictures_of s frame) (all_pictures frames) first.1 (ap (λ (n : ℕ). first_slice_fault s (drop (n * count s) indices) (all_pictures frames)) (pictures_many frame) ∙ rest)
-    where
-      none_of : (n : ℕ) → 0 ≡ 0 * n
-      none_of n = omega arith

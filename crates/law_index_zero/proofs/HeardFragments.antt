@@ -1,18 +1,15 @@
 -- Every fragment that is heard of a sender's stream is one of a picture that was sent.
-use Rattle.std.proofs.Common.{◌≡◌, ◌<◌, ◌≤◌, ℕ, ◌^◌, Bool, true, false, List, [], ◌∷◌, ◌++◌, length, take, Option, Some, None, Ok, refl, sym, ap, ◌∙◌, subst, arith, All, inl, inr}
-use Rattle.std.specs.Prelude.{◌⊎◌, slice_get, filter_map}
+use Rattle.std.proofs.Common.{◌≡◌, ◌<◌, ◌≤◌, ℕ, ◌^◌, Bool, true, false, List, [], ◌∷◌, ◌++◌, length, take, Option, Some, None, Ok, refl, sym, ap, ◌∙◌, subst, arith, All, inl, inr, ◌⊎◌, slice_get, filter_map, append_assoc}
 use Rattle.std.specs.List.{flat_map, cons_option}
 use Rattle.std.proofs.lemmas.Bool.{false≢true}
-use Rattle.std.proofs.lemmas.List.{append_assoc}
 use Rattle.std.proofs.lemmas.List.Elements.{All-cons, All-nil, All-contains}
 use Rattle.std.proofs.lemmas.Option.{none-some, slice_get_within}
 use Rattle.law_index_zero.specs.HeardStreams.{IsHeardOf}
 use Rattle.law_index_zero.proofs.Among.{IsAmong, among_at, among_first, among_later, front_of}
 use Rattle.law_index_zero.proofs.EnteredNumbers.{IsSentFragment}
 use Rattle.law_index_zero.proofs.OneSession.{opens_once}
-use Rattle.law_index_zero.proofs.OwnParts.{IsOwnPart}
+use Rattle.law_index_zero.proofs.OwnParts.{IsOwnPart, sent_part}
 use Rattle.law_index_zero.proofs.SentFragments.{header_unheard, end_unheard, parameters_heard, slices_heard}
-use Rattle.law_index_zero.proofs.SentSlices.{sent_part}
 use Rattle.law_index_zero.proofs.SentStream.{IsOfPicture, IsSent, all_sent, runs_at}
 use Rattle.link_model.specs.Sending.{Outgoing, outgoing, DatagramContent, HeaderContent, ParametersContent, SlicesContent, EndContent, number_bits, pictures_of, sent_datagram, sent_stream, FitsDatagram}
 use Rattle.link_model.specs.SendingPictures.{sent_sequence, sent_parameters, sent_parameter_bytes}
@@ -62,10 +59,9 @@ module _ (settings : SendSettings) (small : settings.ssrc < 2 ^ 32) (indices : L
     of_content EndContent own is = absurd (none-some f (sym (end_unheard settings (are_settings settings small) number picture) ∙ is))
     of_content ParametersContent (inl own) is = of_picture ParametersContent own (ParamsPart (sent_parameter_bytes s)) (inl refl)
         (sym (parameters_heard settings (are_settings settings small) number picture (fits (outgoing picture ParametersContent) own)) ∙ is)
-    of_content ParametersContent (inr last) is = absurd (false≢true (ap is_end_content last))
     of_content (SlicesContent run) (inl own) is = of_picture (SlicesContent run) own (SlicesPart (sent_part (sent_parameters s) run)) (inr (run, own.content, refl))
         (sym (slices_heard settings (are_settings settings small) number picture run (fits (outgoing picture (SlicesContent run)) own)) ∙ is)
-    of_content (SlicesContent run) (inr last) is = absurd (false≢true (ap is_end_content last))
+    of_content c (inr last) is = absurd (false≢true (ap is_end_content last))
 
   pub sent_fragment : (d : List ℕ) (f : Fragment) → IsSent s indices pictures d → fragment_in own_session d ≡ Some f → IsSentFragment s IsPartOf f
   sent_fragment d f sent is = of_content sent.number sent.o.picture f sent.o.content sent.content (ap (fragment_in own_session) (sym sent.is) ∙ is)

@@ -1,10 +1,8 @@
 -- What is there in time of a picture is entered with its number.
-use Rattle.std.proofs.Common.{◌≡◌, ◌≤◌, ℕ, ◌+◌, ◌%◌, ◌^◌, false, List, [], ◌∷◌, ◌++◌, length, take, Some, sym, ap, ◌∙◌, subst, arith, All}
-use Rattle.std.specs.Prelude.{filter_map}
-use Rattle.std.specs.List.{count_by}
+use Rattle.std.proofs.Common.{◌≡◌, ◌≤◌, ℕ, ◌+◌, ◌%◌, ◌^◌, false, List, [], ◌∷◌, ◌++◌, length, take, Some, sym, ap, ◌∙◌, subst, arith, All, filter_map, count_by}
 use Rattle.law_index_zero.specs.HeardStreams.{IsInTime, entered_of, has_slices_of, slice_datagrams}
 use Rattle.law_index_zero.proofs.Among.{All-front}
-use Rattle.law_index_zero.proofs.EnteredCounts.{slices_in, is_slices_of, entered_counted, datagrams_counted, counted_behind}
+use Rattle.law_index_zero.proofs.InOrder.{slices_in, is_slices_of, entered_counted, datagrams_counted, counted_behind}
 use Rattle.law_index_zero.proofs.EnteredNumbers.{IsSentFragment, IsEntry, base_is, entered_begins, part_entered}
 use Rattle.law_index_zero.proofs.OneSession.{HeardAt, heard_at, opens_once}
 use Rattle.link_model.specs.Kept.{part_slices}

@@ -1,6 +1,5 @@
 -- At quantisation index 0 the coefficients of a slice that was encoded come back.
-use Rattle.std.proofs.Common.{◌≡◌, ◌<◌, ℕ, suc, ◌+◌, ◌-◌, ◌*◌, ℤ, pos, negsuc, unsigned_abs, Bool, true, false, List, [], ◌∷◌, ◌++◌, length, map, replicate, Ok, refl, sym, ap, ◌∙◌, arith, length-append, inl, inr}
-use Rattle.std.specs.Prelude.{◌==◌, slice_index_or}
+use Rattle.std.proofs.Common.{◌≡◌, ◌<◌, ℕ, suc, ◌+◌, ◌-◌, ◌*◌, ℤ, pos, negsuc, unsigned_abs, Bool, true, false, List, [], ◌∷◌, ◌++◌, length, map, replicate, Ok, refl, sym, ap, ◌∙◌, arith, length-append, inl, inr, ◌==◌, slice_index_or}
 use Rattle.std.specs.List.{flat_map, list_any, enumerate_from, zip, sum_by}
 use Rattle.std.proofs.lemmas.Bool.{cases_Bool, eqb-true}
 use Rattle.std.proofs.lemmas.List.{length-replicate, replicate-append-replicate}
@@ -70,13 +69,11 @@ quantisers_from p c slice n [] = refl
 quantisers_from p c slice n (b ∷ bs) =
     let own : ℕ = area (slice_rectangle p c b slice) in
     let behind : ℕ = sum_by area (map (λ b. slice_rectangle p c b slice) bs) in
+    let none : 0 - slice_index_or p.matrix n 0 ≡ 0 = omega arith in
     flat_map-cons (λ (b : ℕ × Subband). replicate (area (slice_rectangle p c b.1 slice)) (0 - slice_index_or p.matrix b.0 0)) (n, b) (enumerate_from (n + 1) bs)
-    ∙ (λ i. replicate own (none (slice_index_or p.matrix n 0) i) ++ quantisers_from p c slice (n + 1) bs i)
+    ∙ (λ i. replicate own (none i) ++ quantisers_from p c slice (n + 1) bs i)
     ∙ replicate-append-replicate own behind 0
     ∙ ap (λ (k : ℕ). replicate k 0) (sym (sum_by-cons area (slice_rectangle p c b slice) (map (λ b. slice_rectangle p c b slice) bs)))
-  where
-    none : (m : ℕ) → 0 - m ≡ 0
-    none m = omega arith
 
 quantisers-zero : (p : Parameters) (c : Component) (slice : ℕ) → quantisers p c slice 0 ≡ replicate (slice_coefficient_count p c slice) 0
 unfolding quantisers slice_coefficient_count

@@ -1,11 +1,8 @@
 -- One session in a list of datagrams: where it opens, and its fragments in each front of the list.
-use Rattle.std.proofs.Common.{◌≡◌, ◌≤◌, ℕ, zero, suc, ◌+◌, List, [], ◌∷◌, ◌++◌, length, take, Option, Some, None, refl, sym, ap, ◌∙◌, arith}
-use Rattle.std.specs.Prelude.{filter_map, fold, slice_get}
+use Rattle.std.proofs.Common.{◌≡◌, ◌≤◌, ℕ, zero, suc, ◌+◌, List, [], ◌∷◌, ◌++◌, length, take, Option, Some, None, refl, sym, ap, ◌∙◌, arith, add-one, filter_map, fold, slice_get, append_assoc, append-nil}
 use Rattle.std.proofs.lemmas.Grind.{common_steps}
-use Rattle.std.proofs.lemmas.List.{append_assoc, append-nil}
 use Rattle.std.proofs.lemmas.List.Elements.{filter_map-append}
 use Rattle.std.proofs.lemmas.List.Sums.{fold-append}
-use Rattle.std.proofs.Common.{add-one}
 use Rattle.link_model.specs.Session.{Session, Fragment, HeardSession, just_opened, opens_next, with_datagram, hears, sessions_of, begins, fragment_in}
 use Rattle.link_model.proofs.Hearing.{hears_new, hears_on}
 

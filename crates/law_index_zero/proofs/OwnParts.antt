@@ -1,24 +1,68 @@
 -- What a picture keeps where each part is one that was sent of it: the parameters and slices that were sent.
-use Rattle.std.proofs.Common.{◌≡◌, ◌<◌, ◌≤◌, ℕ, suc, ◌+◌, Bool, true, cond, List, [], ◌∷◌, ◌++◌, length, take, Option, Some, None, Ok, refl, sym, ap, ◌∙◌, subst, arith, All, inl, inr}
-use Rattle.std.specs.Prelude.{◌⊎◌, slice_get, unwrap_or, is_some, filter_map}
+use Rattle.std.proofs.Common.{◌≡◌, ◌≤◌, ℕ, ◌/◌, ◌%◌, true, List, [], ◌∷◌, ◌++◌, length, Some, Ok, refl, sym, ap, ◌∙◌, arith, append_assoc, All, ◌==◌, append-nil, div-lt_iff_lt-mul, mul_comm, mod-lt, div-add-mod', ◌<◌, suc, ◌+◌, Bool, cond, take, Option, None, subst, inl, inr, ◌⊎◌, slice_get, unwrap_or, is_some, filter_map, take_all}
+use Rattle.std.proofs.lemmas.List.Elements.{All-head, All-tail, All-cons, All-nil, filter_map-append}
+use Rattle.std.proofs.Math.Seq.{take-append_seam, drop-append_seam}
+use Rattle.link_model.specs.Kept.{SliceRun, next_slice, next_slices, slice_run, cut_off, first_slice, has_form, has_place, KeptParameters, kept_parameters, parameters_in, ReadParameters, SplitParts, split_by, also_before, split_parts, Own, own_of, own, own_slice, runs_of, run_taken, slice_in, first_copy, part_slices, waiting_limit}
+use Rattle.link_model.specs.Sending.{run_bytes, run_end, runs_of_slices}
+use Rattle.link_model.specs.Session.{SlicePart, Part, ParamsPart, SlicesPart}
+use Rattle.vc_types.specs.Fields.{joined}
+use Rattle.vc_types.specs.Slices.{slice_length}
+use Rattle.vc_types.specs.Subbands.{slice_count}
+use Rattle.vc_types.specs.TransformParameters.{Parameters, coded_parameters}
 use Rattle.std.specs.List.{flat_map, range_with_len, list_all, cons_option}
 use Rattle.std.specs.Option.{option_map, option_map_or, option_or, option_and_then}
-use Rattle.std.proofs.lemmas.List.{append-nil, take_all}
-use Rattle.std.proofs.lemmas.List.Elements.{All-head, All-tail, All-cons, All-nil, filter_map-append}
 use Rattle.std.proofs.lemmas.Option.{none-some, slice_get_cases}
 use Rattle.link_model.specs.Complete.{slice_numbers, has_all_slices, all_bytes, whole_of, whole_picture}
-use Rattle.link_model.specs.Kept.{KeptParameters, kept_parameters, parameters_in, ReadParameters, SplitParts, split_by, also_before, split_parts, Own, own_of, own, own_slice, SliceRun, runs_of, run_taken, slice_run, slice_in, first_copy, part_slices, waiting_limit}
-use Rattle.link_model.specs.Sending.{runs_of_slices}
-use Rattle.link_model.specs.Session.{Part, ParamsPart, SlicesPart, SlicePart}
 use Rattle.link_model.proofs.Keeping.{first_copy-append}
 use Rattle.link_model.proofs.Releasing.{all_from}
 use Rattle.law_index_zero.proofs.Among.{IsAmong, among_first, among_later, among_all}
 use Rattle.law_index_zero.proofs.SentRuns.{HasOwn, runs_have_own, copies_are_own, first_copy-runs_of_slices}
-use Rattle.law_index_zero.proofs.SentSlices.{sent_part}
-use Rattle.vc_types.specs.Fields.{joined}
 use Rattle.vc_types.specs.SequenceHeader.{Sequence}
-use Rattle.vc_types.specs.Subbands.{slice_count}
-use Rattle.vc_types.specs.TransformParameters.{Parameters, coded_parameters}
+
+-- ---- the slices of a run
+
+-- the bytes are one whole slice, whatever follows
+abbrev pub IsWhole : Parameters → List ℕ → Type 0
+IsWhole p slice = (behind : List ℕ) → slice_length p.prefix p.scaler (slice ++ behind) ≡ Some (length slice)
+
+next-first : (p : Parameters) (slice behind : List ℕ) → IsWhole p slice → next_slice p (slice ++ behind) ≡ Ok (slice, behind)
+unfolding next_slice
+next-first p slice behind whole = ap (cut_off (slice ++ behind)) (whole behind) ∙ (λ i. Ok (take-append_seam slice behind i, drop-append_seam slice behind i))
+
+pub next_slices-joined : (p : Parameters) (slices : List (List ℕ)) (behind : List ℕ) → All (IsWhole p) slices → next_slices p (length slices) (joined slices ++ behind) ≡ Ok (slices, behind)
+unfolding next_slices
+next_slices-joined p [] behind whole = refl
+next_slices-joined p (slice ∷ slices) behind whole =
+    let first : next_slice p ((slice ++ joined slices) ++ behind) ≡ Ok (slice, joined slices ++ behind) = ap (next_slice p) (append_assoc slice (joined slices) behind) ∙ next-first p slice (joined slices ++ behind) (All-head (IsWhole p) slice slices whole) in
+    let others = next_slices-joined p slices behind (All-tail (IsWhole p) slice slices whole) in
+    rw (first, others) refl
+
+-- a run as it stands in its fragment
+abbrev pub sent_part : Parameters → SliceRun → SlicePart
+sent_part p run = record { prefix = p.prefix; scaler = p.scaler; count = length run.slices; x = run.first % p.slices_x; y = run.first / p.slices_x; body = run_bytes run }
+
+pub itself : (n : ℕ) → (n == n) ≡ true
+itself n = grind arith
+
+module _ (p : Parameters) (run : SliceRun) (across : 1 ≤ p.slices_x) (some : 1 ≤ length run.slices) (within : run_end run ≤ slice_count p) (whole : All (IsWhole p) run.slices) where
+  form : has_form p (sent_part p run) ≡ true
+  form = rw (itself p.prefix, itself p.scaler) refl
+
+  first_is : first_slice p (sent_part p run) ≡ run.first
+  first_is = div-add-mod' run.first p.slices_x
+
+  place : has_place p (sent_part p run) ≡ true
+  place = grind (arith, div-lt_iff_lt-mul, first_is, mod-lt, mul_comm)
+
+  body : next_slices p (length run.slices) (run_bytes run) ≡ Ok (run.slices, [])
+  body = ap (next_slices p (length run.slices)) (sym (append-nil (run_bytes run))) ∙ next_slices-joined p run.slices [] whole
+
+  -- a run that was sent is the run that is taken
+  pub slice_run-sent_part : slice_run p (sent_part p run) ≡ Ok run
+  unfolding slice_run
+  slice_run-sent_part = rw (form, place, body) (ap (λ (n : ℕ). Ok (record { first = n; slices = run.slices })) first_is)
+
+-- ---- the parts of a picture
 
 -- ---- of lists
 
@@ -26,8 +70,7 @@ use Rattle.vc_types.specs.TransformParameters.{Parameters, coded_parameters}
 pub run_having : (runs : List SliceRun) (i : ℕ) (bytes : List ℕ) → first_copy runs i ≡ Some bytes → (run : SliceRun) × (IsAmong runs run) × (slice_in run i ≡ Some bytes)
 unfolding first_copy
 run_having [] i bytes is = absurd (none-some bytes is)
-run_having (run ∷ runs) i bytes is =
-    grind (arith, among_first, among_later, run_having runs i bytes)
+run_having (run ∷ runs) i bytes is = grind (arith, among_first, among_later, run_having runs i bytes)
 
 copy_first : (run : SliceRun) (rest : List SliceRun) (i : ℕ) (bytes : List ℕ) → slice_in run i ≡ Some bytes → first_copy (run ∷ rest) i ≡ Some bytes
 unfolding first_copy
@@ -52,11 +95,8 @@ all_joined : (f : ℕ → Option (List ℕ)) (a : ℕ) (xs : List (List ℕ)) �
 all_joined f a [] gives = refl
 all_joined f a (x ∷ xs) gives =
     let here : f a ≡ Some x = ap f (omega arith) ∙ gives 0 x refl in
-    (λ i. unwrap_or (here i) [] ++ flat_map (λ i. unwrap_or (f i) []) (range_with_len (a + 1) (length xs)))
-    ∙ ap (λ (l : List ℕ). x ++ l) (all_joined f (a + 1) xs (λ k bytes is. ap f (next a k) ∙ gives (suc k) bytes is))
-  where
-    next : (a k : ℕ) → a + 1 + k ≡ a + suc k
-    next a k = omega arith
+    let rest = all_joined f (a + 1) xs (λ k bytes is. ap f (omega arith) ∙ gives (suc k) bytes is) in
+    (λ i. unwrap_or (here i) [] ++ rest i)
 
 -- ---- parts
 

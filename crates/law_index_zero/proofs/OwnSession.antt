@@ -1,18 +1,15 @@
 -- Of the sender's own list one session is heard, the sender's, with the fragments of all pictures in their order.
-use Rattle.std.proofs.Common.{◌≡◌, ◌<◌, ℕ, zero, suc, ◌+◌, ◌-◌, ◌*◌, ◌^◌, false, List, [], ◌∷◌, ◌++◌, length, drop, map, Option, Some, None, refl, sym, ap, ◌∙◌, subst, arith, All, inl, inr}
-use Rattle.std.specs.Prelude.{◌⊎◌, filter_map, fold, slice_get}
+use Rattle.std.proofs.Common.{◌≡◌, ◌<◌, ℕ, zero, suc, ◌+◌, ◌-◌, ◌*◌, ◌^◌, false, List, [], ◌∷◌, ◌++◌, length, drop, map, Option, Some, None, refl, sym, ap, ◌∙◌, subst, arith, All, inl, inr, ◌⊎◌, filter_map, fold, slice_get, append-nil}
 use Rattle.std.specs.List.{cons_option, enumerate_from, flat_map}
 use Rattle.std.proofs.lemmas.Bool.{and_right}
 use Rattle.std.proofs.lemmas.Grind.{common_steps}
-use Rattle.std.proofs.lemmas.List.{append-nil}
 use Rattle.std.proofs.lemmas.List.Elements.{All-cons, All-head, All-nil, All-tail, All-weaker, filter_map-append}
 use Rattle.std.proofs.lemmas.Option.{none-some}
 use Rattle.law_index_zero.proofs.HeardFragments.{own_session}
 use Rattle.law_index_zero.proofs.InOrder.{HasParts, fragment_of, fragments_of, fragments_from}
 use Rattle.law_index_zero.proofs.OneSession.{stays}
-use Rattle.law_index_zero.proofs.SentSlices.{itself}
+use Rattle.law_index_zero.proofs.OwnParts.{itself, sent_part}
 use Rattle.law_index_zero.proofs.SentFragments.{end_begins_none, end_unheard, header_begins, header_unheard, parameters_begin_none, parameters_heard, slices_begin_none, slices_heard}
-use Rattle.law_index_zero.proofs.SentSlices.{sent_part}
 use Rattle.law_index_zero.proofs.SentStream.{IsOfPicture, IsSent, all_of_pictures, all_sent, contents, count, more_outgoing, none_outgoing, picture_contents, runs_at, runs_later}
 use Rattle.link_model.specs.Kept.{SliceRun}
 use Rattle.link_model.specs.Sending.{DatagramContent, EndContent, FitsDatagram, HeaderContent, Outgoing, ParametersContent, SlicesContent, datagrams_from, end_datagram, frames_outgoing, last_datagram, outgoing, picture_runs, pictures_of, pictures_outgoing, pictures_per_frame, sent_datagram, sent_datagrams, sent_stream}
@@ -102,10 +99,9 @@ module _ (settings : SendSettings) (small : settings.ssrc < 2 ^ 32) (indices : L
   content_begins : (number picture : ℕ) (c : DatagramContent) → IsOfPicture s 0 indices pictures (outgoing picture c) ⊎ (c ≡ EndContent) → BeginsOwn (sent_datagram s number (outgoing picture c))
   content_begins number picture HeaderContent is = inr (header_begins settings (are_settings settings small) number picture)
   content_begins number picture ParametersContent (inl is) = inl (parameters_begin_none settings (are_settings settings small) number picture (fits (outgoing picture ParametersContent) is))
-  content_begins number picture ParametersContent (inr last) = absurd cc
   content_begins number picture (SlicesContent run) (inl is) = inl (slices_begin_none settings (are_settings settings small) number picture run (fits (outgoing picture (SlicesContent run)) is))
-  content_begins number picture (SlicesContent run) (inr last) = absurd cc
   content_begins number picture EndContent is = inl (end_begins_none settings (are_settings settings small) number picture)
+  content_begins number picture c (inr last) = absurd cc
 
   sent_begins : (d : List ℕ) → IsSent s indices pictures d → BeginsOwn d
   sent_begins d sent = subst BeginsOwn (sym sent.is) (content_begins sent.number sent.o.picture sent.o.content sent.content)
@@ -151,15 +147,7 @@ module _ (settings : SendSettings) (small : settings.ssrc < 2 ^ 32) (indices : L
     stream_told : filter_map (fragment_in own) (sent_stream s indices frames) ≡ fragments_from s 0 (parts_from s indices pictures)
     unfolding sent_stream
     stream_told =
-        grind (
-          arith,
-          common_steps,
-          append-nil,
-          datagrams_told,
-          end_told,
-          filter_map-append,
-          fragments_from,
-        )
+        grind (arith, common_steps, append-nil, datagrams_told, end_told, filter_map-append, fragments_from)
 
     all_begin : All BeginsOwn (sent_stream s indices frames)
     all_begin = All-weaker (IsSent s indices pictures) BeginsOwn sent_begins (sent_stream s indices frames) (all_sent s indices frames pictures are)

@@ -1,17 +1,14 @@
 -- A picture without a fault, sent at index 0, decodes to its planes.
-use Rattle.std.proofs.Common.{◌≡◌, ◌<◌, ◌≤◌, ℕ, ◌+◌, ◌*◌, ◌^◌, true, false, List, [], ◌++◌, length, take, get_or, Some, None, sym, ap, subst, ◌∙◌, arith}
-use Rattle.std.specs.Prelude.{IsTrue, slice_get, nat_le, ◌&&◌}
-use Rattle.std.proofs.Math.Pow.{pow_pos}
+use Rattle.std.proofs.Common.{◌≡◌, ◌<◌, ◌≤◌, ℕ, ◌+◌, ◌*◌, ◌^◌, true, false, List, [], ◌++◌, length, take, get_or, Some, None, sym, ap, subst, ◌∙◌, arith, IsTrue, slice_get, nat_le, ◌&&◌, pow_pos, append-nil, get_or-take}
 use Rattle.std.proofs.lemmas.Bool.{and_parts, leb-true}
 use Rattle.std.proofs.lemmas.Grind.{common_steps}
-use Rattle.std.proofs.lemmas.List.{append-nil, get_or-take}
 use Rattle.std.proofs.lemmas.List.FromFn.{get_or-enumerate_from, length-enumerate_from}
 use Rattle.std.proofs.lemmas.Option.{get_or_from_slice_get}
 use Rattle.field_pairs.specs.Sizes.{IsWhole}
 use Rattle.law_index_zero.specs.FramesToSend.{IsPictureToSend}
 use Rattle.law_index_zero.proofs.FittingRuns.{scaler_is_some, all_slices}
 use Rattle.link_sender.proofs.SentFrames.{unmapped}
-use Rattle.law_index_zero.proofs.SentFaults.{neither, all_inside, none_too_large, not_too_long, length-sent_slices}
+use Rattle.law_index_zero.proofs.SentStream.{neither, all_inside, none_too_large, not_too_long, length-sent_slices}
 use Rattle.law_index_zero.proofs.SentPictures.{IsSendable, decoded_planes-sent, sent_slices-zero, slices_at_zero}
 use Rattle.link_model.specs.SendingFaults.{plane_fault, sample_fault, first_outside, first_sample_fault, is_too_large}
 use Rattle.link_model.specs.SendingPictures.{sent_sequence, sent_parameters, sent_parameter_bytes, sent_coefficients, sent_slices, slices_with_indices, plane_in}
@@ -111,8 +108,7 @@ module _ (settings : SendSettings) (planes : Planes) (indices : List ℕ) (is : 
   symmetric = grind arith
 
   is_sendable : IsSendable p planes
-  is_sendable =
-      grind (arith, across, bits, down, few_levels, fits, inside, scaler_is_some, symmetric, whole)
+  is_sendable = grind (arith, across, bits, down, few_levels, fits, inside, scaler_is_some, symmetric, whole)
 
   -- its whole bytes decode to its planes
   pub picture_back : decoded_planes (sent_sequence s) (sent_parameter_bytes s ++ joined (sent_slices p planes indices)) ≡ Some planes

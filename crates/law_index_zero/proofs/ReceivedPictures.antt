@@ -1,6 +1,5 @@
 -- A picture of which all is there in time is complete, and its whole bytes are those that were sent.
-use Rattle.std.proofs.Common.{◌≡◌, ◌<◌, ◌≤◌, ℕ, ◌+◌, ◌*◌, ◌^◌, List, ◌∷◌, ◌++◌, length, drop, map, Some, refl, sym, ap, subst, ◌∙◌, arith, All, inl, inr}
-use Rattle.std.specs.Prelude.{slice_get, filter_map}
+use Rattle.std.proofs.Common.{◌≡◌, ◌<◌, ◌≤◌, ℕ, ◌+◌, ◌*◌, ◌^◌, List, ◌∷◌, ◌++◌, length, drop, map, Some, refl, sym, ap, subst, ◌∙◌, arith, All, inl, inr, slice_get, filter_map, zero-add}
 use Rattle.std.proofs.lemmas.List.Elements.{All-weaker}
 use Rattle.std.proofs.lemmas.Option.{same_Some, slice_get_within}
 use Rattle.law_index_zero.specs.HeardStreams.{IsHeardOf, IsHeardInTime, IsNumberOf, entered_of}
@@ -10,12 +9,9 @@ use Rattle.law_index_zero.proofs.FittingRuns.{run_fits, all_slices, run_taken_ag
 use Rattle.law_index_zero.proofs.FramePictures.{all_pictures, length-all_pictures, no_slice_fault, AreFaultless}
 use Rattle.law_index_zero.proofs.HeardFragments.{IsPartOf, own_session, session_is, all_heard}
 use Rattle.law_index_zero.proofs.InTime.{entered_is, in_time}
-use Rattle.law_index_zero.proofs.OwnParts.{IsOwnPart, whole_picture-own}
-use Rattle.law_index_zero.proofs.SentFaults.{AreSoundPictures, are_sound}
-use Rattle.std.proofs.Math.Nat.{zero-add}
+use Rattle.law_index_zero.proofs.OwnParts.{IsOwnPart, whole_picture-own, sent_part}
+use Rattle.law_index_zero.proofs.SentStream.{AreSoundPictures, are_sound, IsOfPicture, IsContent, among_pictures, count, runs_at}
 use Rattle.law_index_zero.proofs.SentFragments.{parameters_heard, slices_heard}
-use Rattle.law_index_zero.proofs.SentSlices.{sent_part}
-use Rattle.law_index_zero.proofs.SentStream.{IsOfPicture, IsContent, among_pictures, count, runs_at}
 use Rattle.link_sender.proofs.Heads.{short_parameters_of}
 use Rattle.link_model.specs.Complete.{whole_picture}
 use Rattle.link_model.specs.Kept.{SliceRun, part_slices, waiting_limit}

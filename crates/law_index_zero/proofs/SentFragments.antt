@@ -1,13 +1,12 @@
 -- What a datagram that was sent is to a receiver: the beginning of the sender's session, or a fragment of it.
-use Rattle.std.proofs.Common.{◌≡◌, ℕ, List, [], Some, None, refl, sym, ap, ◌∙◌}
-use Rattle.std.proofs.lemmas.List.{append-nil}
+use Rattle.std.proofs.Common.{◌≡◌, ℕ, List, [], Some, None, refl, sym, ap, ◌∙◌, append-nil}
 use Rattle.link_model.specs.Kept.{SliceRun}
 use Rattle.link_model.specs.Sending.{DatagramContent, HeaderContent, ParametersContent, SlicesContent, EndContent, sent_value, sent_datagram, number_bits, AreSettings, FitsDatagram}
 use Rattle.link_model.specs.SendingPictures.{sent_sequence, sent_header, sent_parameters, sent_parameter_bytes}
 use Rattle.link_model.specs.Session.{Session, session_with, session_from, begins, ParamsPart, SlicesPart, fragment_from, fragment_in}
 use Rattle.link_model.proofs.SentDatagrams.{received-sent_datagram}
 use Rattle.link_model.proofs.SentHeads.{coded_header-sent}
-use Rattle.law_index_zero.proofs.SentSlices.{itself, sent_part}
+use Rattle.law_index_zero.proofs.OwnParts.{itself, sent_part}
 use Rattle.vc_types.specs.declared.settings.SendSettings.{SendSettings}
 use Rattle.vc_types.specs.SenderSettings.{Sending, sending_view}
 use Rattle.vc_types.specs.SequenceHeader.{coded_header}

@@ -1,10 +1,8 @@
 -- The sender's own list at index 0 is written as all its frames.
-use Rattle.std.proofs.Common.{◌≡◌, ◌<◌, ◌≤◌, ℕ, suc, ◌+◌, ◌*◌, ◌^◌, true, false, List, [], ◌∷◌, ◌++◌, length, map, Some, refl, sym, ap, ◌∙◌, arith, All, inl, inr}
-use Rattle.std.specs.Prelude.{slice_get}
+use Rattle.std.proofs.Common.{◌≡◌, ◌<◌, ◌≤◌, ℕ, suc, ◌+◌, ◌*◌, ◌^◌, true, false, List, [], ◌∷◌, ◌++◌, length, map, Some, refl, sym, ap, ◌∙◌, arith, All, inl, inr, slice_get, mul-le-mul_right, suc-mul, add-zero}
 use Rattle.std.specs.List.{flat_map, range_with_len}
 use Rattle.std.proofs.lemmas.Bool.{cases_Bool}
 use Rattle.std.proofs.lemmas.List.Elements.{All-cons, All-map, All-weaker}
-use Rattle.std.proofs.Math.Nat.{mul-le-mul_right, suc-mul}
 use Rattle.std.proofs.lemmas.Option.{slice_get_within}
 use Rattle.law_index_zero.specs.FramesToSend.{AreAtIndexZero, AreFramesToSend}
 use Rattle.law_index_zero.specs.HeardStreams.{entered_of}
@@ -18,7 +16,6 @@ use Rattle.law_index_zero.proofs.OwnSession.{IsOwnSession, all_have_parts, lengt
 use Rattle.law_index_zero.proofs.ReceivedPictures.{few_pictures, fits, whole_from_parts}
 use Rattle.law_index_zero.proofs.SentStream.{all_among, runs_at}
 use Rattle.law_index_zero.proofs.WholeFrames.{AreWholePictures, bytes_back, coded_fields, even_start, none_at_even, one_each, sent_bytes, two_each}
-use Rattle.std.proofs.Math.Nat.{add-zero}
 use Rattle.link_model.specs.Complete.{whole_picture}
 use Rattle.link_model.specs.Kept.{SliceRun}
 use Rattle.link_model.specs.Numbers.{Numbered, parts_of}
@@ -38,25 +35,18 @@ over_ones : (g : ℕ → List ℕ) (raw : Planes → List ℕ) (n : ℕ) (frames
 over_ones g raw n [] each = refl
 over_ones g raw n (frame ∷ frames) each =
     let here : g n ≡ raw frame = ap g (sym (add-zero n)) ∙ each 0 frame refl in
-    (λ i. here i ++ over_ones g raw (n + 1) frames (λ f own at. ap g (next n f) ∙ each (suc f) own at) i)
-  where
-    next : (n f : ℕ) → n + 1 + f ≡ n + suc f
-    next n f = omega arith
+    (λ i. here i ++ over_ones g raw (n + 1) frames (λ f own at. ap g (omega arith) ∙ each (suc f) own at) i)
 
 over_pairs : (g : ℕ → List ℕ) (raw : Planes → List ℕ) (n : ℕ) (frames : List Planes) → ((f : ℕ) (frame : Planes) → slice_get frames f ≡ Some frame → (g (n + f * 2) ≡ []) × (g (n + f * 2 + 1) ≡ raw frame))
     → flat_map g (range_with_len n (length frames * 2)) ≡ flat_map raw frames
 over_pairs g raw n [] each = refl
 over_pairs g raw n (frame ∷ frames) each =
     let two : suc (length frames) * 2 ≡ suc (suc (length frames * 2)) = omega arith in
-    let none : n + 0 * 2 ≡ n = omega arith in
     let pair = each 0 frame refl in
-    let earlier : g n ≡ [] = ap g (sym none) ∙ pair.0 in
-    let later : g (n + 1) ≡ raw frame = ap (λ (k : ℕ). g (k + 1)) (sym none) ∙ pair.1 in
-    let rest = over_pairs g raw (n + 1 + 1) frames (λ f own at. (let own_pair = each (suc f) own at in (ap g (next n f) ∙ own_pair.0, ap (λ (k : ℕ). g (k + 1)) (next n f) ∙ own_pair.1))) in
+    let earlier : g n ≡ [] = ap g (omega arith) ∙ pair.0 in
+    let later : g (n + 1) ≡ raw frame = ap g (omega arith) ∙ pair.1 in
+    let rest = over_pairs g raw (n + 1 + 1) frames (λ f own at. (ap g (omega arith) ∙ (each (suc f) own at).0, ap g (omega arith) ∙ (each (suc f) own at).1)) in
     ap (λ (k : ℕ). flat_map g (range_with_len n k)) two ∙ (λ i. earlier i ++ (later i ++ rest i))
-  where
-    next : (n f : ℕ) → n + 1 + 1 + f * 2 ≡ n + suc f * 2
-    next n f = omega arith
 
 module _ (settings : SendSettings) (small : settings.ssrc < 2 ^ 32) (window : ℕ) (some : 1 ≤ window) (indices : List ℕ) (frames : List Planes) (can : AreFramesToSend (sending_view settings) indices frames) (zeros : AreAtIndexZero (sending_view settings) indices frames) where
   abbrev s : Sending
@@ -122,11 +112,8 @@ module _ (settings : SendSettings) (small : settings.ssrc < 2 ^ 32) (window : �
       bits = omega arith;
       zero = λ i below. zeros (f * pictures_per_frame s + i) (place_inside i below);
       each = λ i planes below is.
-          ap (λ (n : ℕ). whole_picture sequence (parts_of n es)) (sum i) ∙ is_whole (f * pictures_per_frame s + i) planes (there i planes below is);
+          ap (λ (n : ℕ). whole_picture sequence (parts_of n es)) (omega arith) ∙ is_whole (f * pictures_per_frame s + i) planes (there i planes below is);
     }
-      where
-        sum : (i : ℕ) → number + i ≡ first s + (f * pictures_per_frame s + i)
-        sum i = omega arith
 
     frame_written : written (last_picture s number) ≡ raw_frame s frame
     frame_written = bytes_back settings indices frames can f number frame at es wholes
@@ -154,13 +141,11 @@ module _ (settings : SendSettings) (small : settings.ssrc < 2 ^ 32) (window : �
 
   module _ (h : HeardSession) (own : IsOwnSession settings small indices pictures many (fits settings small indices frames can.sound can.few) frames refl h) where
     entries_are : entered_of window h ≡ es
-    entries_are =
-        grind (arith, all_have_parts, entered_in_order, entered_is, length-parts_from, many)
+    entries_are = grind (arith, all_have_parts, entered_in_order, entered_is, length-parts_from, many)
 
     frames_of_session : full_output window (sent_stream s indices frames) ≡ raw_video s frames
     unfolding full_output all_output all_frames
-    frames_of_session =
-        grind (arith, all_have_parts, all_written, entries_are, first, opened_in_order)
+    frames_of_session = grind (arith, all_have_parts, all_written, entries_are, first, opened_in_order)
 
   pub stream_back : full_output window (sent_stream (sending_view settings) indices frames) ≡ raw_video (sending_view settings) frames
   unfolding full_output all_output

@@ -1,7 +1,5 @@
 -- A frame whose pictures are whole is the frame that was sent.
-use Rattle.std.proofs.Common.{◌≡◌, ◌<◌, ℕ, ◌+◌, ◌-◌, ◌*◌, ◌%◌, ◌^◌, Bool, true, false, cond, List, [], ◌++◌, drop, Option, Some, None, refl, sym, ap, ◌∙◌, arith}
-use Rattle.std.specs.Prelude.{slice_get, ◌==◌, is_some}
-use Rattle.std.specs.Option.{option_and_then}
+use Rattle.std.proofs.Common.{◌≡◌, ◌<◌, ℕ, ◌+◌, ◌-◌, ◌*◌, ◌%◌, ◌^◌, Bool, true, false, cond, List, [], ◌++◌, drop, Option, Some, None, refl, sym, ap, ◌∙◌, arith, slice_get, ◌==◌, is_some, option_and_then}
 use Rattle.std.proofs.lemmas.Bool.{cond-true, cond-false, ne_eqb}
 use Rattle.field_pairs.proofs.Fields.{woven-fields_of}
 use Rattle.field_pairs.specs.Sizes.{AreWhole}
@@ -11,8 +9,7 @@ use Rattle.law_index_zero.proofs.Among.{among_all, among_from}
 use Rattle.law_index_zero.proofs.FieldPlanes.{field_samples, field_whole, field_sides, frame_sides, even_rows}
 use Rattle.law_index_zero.proofs.FramePictures.{all_pictures, no_slice_fault, one_picture, two_pictures, picture_at}
 use Rattle.law_index_zero.proofs.PicturesBack.{picture_back}
-use Rattle.law_index_zero.proofs.SentFaults.{are_sound, faultless}
-use Rattle.law_index_zero.proofs.SentStream.{count}
+use Rattle.law_index_zero.proofs.SentStream.{are_sound, faultless, count}
 use Rattle.link_model.specs.Complete.{whole_picture}
 use Rattle.link_model.specs.Numbers.{Numbered, is_opened, parts_of}
 use Rattle.link_model.specs.Output.{complete_at, field_frame_at, frame_at, frame_bytes_at, planes_at, raw_bytes, woven_fields}
@@ -225,8 +222,7 @@ module _ (settings : SendSettings) (indices : List ℕ) (frames : List Planes) (
     pair_last = omega (arith, two_each s fields)
 
   pub frame_back : IsFrameBack (sending_view settings) number frame es
-  frame_back =
-      grind (arith, frame_last, frame_opened, frame_there, pair_last, pair_opened, pair_there)
+  frame_back = grind (arith, frame_last, frame_opened, frame_there, pair_last, pair_opened, pair_there)
 
   -- and its raw bytes are those of the frame
   pub bytes_back : frame_bytes_at (sent_sequence (sending_view settings)) es (last_picture (sending_view settings) number) ≡ raw_frame (sending_view settings) frame

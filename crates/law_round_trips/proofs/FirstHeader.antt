@@ -1,6 +1,5 @@
 -- The header of the first session is read again from the bytes that stand for it.
-use Rattle.std.proofs.Common.{◌≡◌, ℕ, Bool, List, [], ◌∷◌, ◌++◌, take, Option, Some, None, cond, Result, Ok, Err, refl, sym, ap, ◌∙◌, append-nil}
-use Rattle.std.specs.Prelude.{is_some, fold}
+use Rattle.std.proofs.Common.{◌≡◌, ℕ, Bool, List, [], ◌∷◌, ◌++◌, take, Option, Some, None, cond, Result, Ok, Err, refl, sym, ap, ◌∙◌, append-nil, is_some, fold}
 use Rattle.std.specs.Option.{option_map_or}
 use Rattle.link_model.specs.Packets.{PayloadValue, Header}
 use Rattle.link_model.specs.Session.{DatagramRefusal, HeardSession, Received, Session, begins, hears, just_opened, last_with, opens_next, received, session_by, session_from, session_with, sessions_of}

@@ -1,6 +1,5 @@
 -- What is written of the first session.
-use Rattle.std.proofs.Common.{◌≡◌, ◌≤◌, ℕ, List, [], ◌∷◌, ◌++◌, length, Some, None, refl, sym, ap, subst, ◌∙◌, append_assoc, append-nil, arith}
-use Rattle.std.specs.List.{flat_map}
+use Rattle.std.proofs.Common.{◌≡◌, ◌≤◌, ℕ, List, [], ◌∷◌, ◌++◌, length, Some, None, refl, sym, ap, subst, ◌∙◌, append_assoc, append-nil, arith, flat_map}
 use Rattle.link_model.specs.Numbers.{Numbered, opened_numbers}
 use Rattle.link_model.specs.Output.{IsPrefixOf, all_frames, all_output, entered_behind, frame_bytes_at, full_output}
 use Rattle.link_model.specs.Session.{HeardSession, Session, sessions_of}
@@ -27,9 +26,8 @@ first_sessions_begin_output window datagrams = begins_all window (sessions_of da
 
 alone_is_all : (window : ℕ) (hs : List HeardSession) → length hs ≤ 1 → all_output window hs ≡ first_output window hs
 unfolding all_output first_output
-alone_is_all window [] few = refl
-alone_is_all window (h ∷ []) few = refl
 alone_is_all window (h ∷ g ∷ hs) few = absurd (omega arith)
+alone_is_all window hs few = refl
 
 pub one_session_is_all : OneSessionIsAll
 unfolding full_output

@@ -7,6 +7,5 @@ pub mod LoopedBack
 pub mod FirstHeader
 pub mod FirstSession
 pub mod ReadUnits
-pub mod TakenPictures
 pub mod ShownFrames
 pub mod PlayedBack

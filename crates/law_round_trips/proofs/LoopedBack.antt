@@ -1,6 +1,5 @@
 -- What is heard over a looped wire is what was sent, so frames at index 0 come back.
-use Rattle.std.proofs.Common.{◌≡◌, ◌⊎◌, ◌<◌, ◌≤◌, ℕ, ◌*◌, ◌^◌, Bool, true, All, List, [], ◌∷◌, ◌++◌, length, Option, Some, None, Result, Ok, refl, sym, ap, subst, ◌∙◌, arith, inl, inr, append-nil, length-append}
-use Rattle.std.specs.Prelude.{IsTrue}
+use Rattle.std.proofs.Common.{◌≡◌, ◌⊎◌, ◌<◌, ◌≤◌, ℕ, ◌*◌, ◌^◌, Bool, true, All, List, [], ◌∷◌, ◌++◌, length, Option, Some, None, Result, Ok, refl, sym, ap, subst, ◌∙◌, arith, inl, inr, append-nil, length-append, IsTrue}
 use Rattle.frame_writer.specs.WholeFrames.{HoldFrames}
 use Rattle.cmd_send.specs.FramesSent.{frame_shape, stream_sent}
 use Rattle.cmd_send.specs.Sends.{HasSentAll, SendsFrames}

@@ -1,6 +1,5 @@
 -- The elementary stream of datagrams is played to what is written of their first session.
-use Rattle.std.proofs.Common.{◌≡◌, ℕ, ◌+◌, ◌-◌, ◌*◌, Bool, true, false, cond, List, [], ◌∷◌, ◌++◌, length, Option, Some, None, Result, refl, sym, ap, subst, ◌∙◌, append-nil, inl, arith}
-use Rattle.std.specs.List.{flat_map}
+use Rattle.std.proofs.Common.{◌≡◌, ℕ, ◌+◌, ◌-◌, ◌*◌, Bool, true, false, cond, List, [], ◌∷◌, ◌++◌, length, Option, Some, None, Result, refl, sym, ap, subst, ◌∙◌, append-nil, inl, arith, flat_map}
 use Rattle.std.specs.Option.{option_map, option_map_or}
 use Rattle.std.proofs.lemmas.List.Elements.{All-cons}
 use Rattle.link_model.specs.Numbers.{opened_numbers}
@@ -16,8 +15,7 @@ use Rattle.law_round_trips.specs.Playback.{AreReadable, IsPlayedTo, StreamsArePl
 use Rattle.law_round_trips.proofs.FirstHeader.{IsHeaderOf, first_header_is, first_of}
 use Rattle.law_round_trips.proofs.FirstSession.{by_number, nothing_first}
 use Rattle.law_round_trips.proofs.ReadUnits.{IsInside, nothing_read, units_read}
-use Rattle.law_round_trips.proofs.ShownFrames.{AreShownAs, left_over, numbers_shown, played_as}
-use Rattle.law_round_trips.proofs.TakenPictures.{so_far_with}
+use Rattle.law_round_trips.proofs.ShownFrames.{AreShownAs, left_over, numbers_shown, played_as, so_far_with}
 
 -- ---- units that are read whole
 

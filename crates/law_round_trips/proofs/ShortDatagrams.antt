@@ -1,19 +1,16 @@
 -- Each datagram that is sent fits an entry of a capture, and the entries of datagrams are read back.
-use Rattle.std.proofs.Common.{◌≡◌, ◌<◌, ◌≤◌, ℕ, zero, suc, ◌*◌, ◌^◌, List, [], ◌∷◌, length, drop, refl, sym, ap, subst, ◌∙◌, arith, All, inl, inr}
-use Rattle.std.specs.Prelude.{◌⊎◌}
+use Rattle.std.proofs.Common.{◌≡◌, ◌<◌, ◌≤◌, ℕ, zero, suc, ◌*◌, ◌^◌, List, [], ◌∷◌, length, drop, refl, sym, ap, subst, ◌∙◌, arith, All, inl, inr, ◌⊎◌}
 use Rattle.std.proofs.lemmas.List.Concat.{flat_map-cons}
 use Rattle.std.proofs.lemmas.List.Elements.{All-head, All-tail, All-weaker}
 use Rattle.cmd_receive.proofs.Within.{within_entry, within_nothing}
 use Rattle.link_outside.specs.Outlets.{capture_of}
 use Rattle.law_index_zero.proofs.FittingRuns.{room_few, run_is}
 use Rattle.law_index_zero.proofs.FramePictures.{AreFaultless, all_pictures, no_slice_fault}
-use Rattle.law_index_zero.proofs.SentFaults.{are_sound}
-use Rattle.law_index_zero.proofs.SentStream.{IsOfPicture, IsSent, all_sent, count}
-use Rattle.link_sender.proofs.Heads.{short_parameters_of}
+use Rattle.law_index_zero.proofs.SentStream.{are_sound, IsOfPicture, IsSent, all_sent, count}
+use Rattle.link_sender.proofs.Heads.{short_parameters_of, short_header}
 use Rattle.link_capture.specs.Capture.{entries_within, entry}
 use Rattle.link_model.specs.Packets.{fragment_bytes, payload_bytes, payload_head, rtp_header}
 use Rattle.link_model.specs.Sending.{DatagramContent, EndContent, HeaderContent, ParametersContent, SlicesContent, outgoing, sent_datagram, sent_stream, sent_value}
-use Rattle.link_sender.proofs.Heads.{short_header}
 use Rattle.vc_types.specs.declared.settings.SendSettings.{SendSettings}
 use Rattle.vc_types.specs.Planes.{Planes}
 use Rattle.vc_types.specs.SenderSettings.{Sending, sending_view}
