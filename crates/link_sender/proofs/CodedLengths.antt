@@ -1,10 +1,8 @@
 -- How long the blocks and the slices of small coefficients are.
-use Rattle.std.proofs.Common.{◌≡◌, ℕ, zero, suc, ◌+◌, ◌*◌, ◌^◌, ◌<◌, ◌≤◌, ℤ, unsigned_abs, true, false, List, [], ◌∷◌, length, map, drop, refl, ap, ◌∙◌, arith}
-use Rattle.std.specs.Prelude.{◌==◌}
+use Rattle.std.proofs.Common.{◌≡◌, ℕ, zero, suc, ◌+◌, ◌*◌, ◌^◌, ◌<◌, ◌≤◌, ℤ, unsigned_abs, true, false, List, [], ◌∷◌, length, map, drop, refl, ap, ◌∙◌, arith, ◌==◌, length-append, length-drop}
 use Rattle.std.specs.Int.Digits.{digits_of}
 use Rattle.std.specs.List.{flat_map, range_with_len, zip}
 use Rattle.std.proofs.lemmas.Int.Digits.{length-digits_of-le}
-use Rattle.std.proofs.lemmas.List.{length-append, length-drop}
 use Rattle.std.proofs.lemmas.List.Concat.{flat_map-cons}
 use Rattle.std.proofs.Math.Nat.{div-mul-le_self, mul-le-mul_right, div-le_of_le-mul, pow-suc}
 use Rattle.vc_types.specs.declared.video.Component.{Component}

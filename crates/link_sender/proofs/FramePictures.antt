@@ -1,8 +1,6 @@
 -- The pictures of a frame whose samples are in range: they can be transformed.
-use Rattle.std.proofs.Common.{◌≡◌, ℕ, ◌+◌, ◌*◌, ◌/◌, ◌%◌, ◌^◌, ◌<◌, Bool, true, false, cond, List, [], ◌∷◌, None, refl, sym, ap, subst, ◌∙◌, arith}
-use Rattle.std.specs.Prelude.{All, IsTrue}
+use Rattle.std.proofs.Common.{◌≡◌, ℕ, ◌+◌, ◌*◌, ◌/◌, ◌%◌, ◌^◌, ◌<◌, Bool, true, false, cond, List, [], ◌∷◌, None, refl, sym, ap, subst, ◌∙◌, arith, All, IsTrue, pow_pos}
 use Rattle.std.proofs.lemmas.Bool.Decides.{nat_tests}
-use Rattle.std.proofs.Math.Pow.{pow_pos}
 use Rattle.std.proofs.lemmas.Grind.{common_steps}
 use Rattle.field_pairs.specs.Sizes.{HaveEvenHeights}
 use Rattle.link_model.specs.Sending.{pictures_of}
@@ -46,8 +44,7 @@ even_sides : (width height : ℕ) (sampling : Sampling) → sampling_fits width 
 even_sides width height sampling fits = grind (arith, nat_tests)
 
 even_frame : (width height : ℕ) (sampling : Sampling) (fields : Bool) → fields ≡ true → IsTrue (dimensions_fit width height sampling fields) → AreEven height (colour_height sampling height)
-even_frame width height sampling fields are fits =
-    grind (arith, nat_tests, even_sides)
+even_frame width height sampling fields are fits = grind (arith, nat_tests, even_sides)
 
 pub even_heights : (settings : SendSettings) (frame : Planes) → IsFrame (sending_view settings) frame → settings.fields ≡ true → HaveEvenHeights frame
 even_heights settings frame is fields = grind (arith, common_steps, even_frame)

@@ -1,6 +1,5 @@
 -- The pictures of a frame, encoded one after another, and what is sent of them.
-use Rattle.std.proofs.Common.{◌≡◌, ℕ, ◌+◌, ◌*◌, ◌≤◌, Bool, List, [], ◌∷◌, ◌++◌, length, map, take, drop, Option, None, refl, sym, ap, subst, ◌∙◌, arith, append_assoc}
-use Rattle.std.specs.Prelude.{All}
+use Rattle.std.proofs.Common.{◌≡◌, ℕ, ◌+◌, ◌*◌, ◌≤◌, Bool, List, [], ◌∷◌, ◌++◌, length, map, take, drop, Option, None, refl, sym, ap, subst, ◌∙◌, arith, append_assoc, All, true, false}
 use Rattle.std.specs.List.{AllZip, enumerate_from, flat_map, range_with_len}
 use Rattle.std.specs.Option.{option_or}
 use Rattle.std.proofs.lemmas.List.{length-map, take_all, take-append-drop}
@@ -12,7 +11,7 @@ use Rattle.std.proofs.Math.Seq.{take-append_seam, drop-append_seam}
 use Rattle.std.proofs.lemmas.Grind.{common_steps}
 use Rattle.link_model.specs.Sending.{Outgoing, datagrams_from, frame_datagrams, frame_needs, picture_outgoing, pictures_of, pictures_outgoing, pictures_per_frame}
 use Rattle.link_model.specs.SendingFaults.{SendFault, first_of_slices, first_sample_fault, first_slice_fault, send_fault}
-use Rattle.link_model.specs.SendingPictures.{Need, need_of, picture_needs, sent_parameters, sent_slice, sent_slices}
+use Rattle.link_model.specs.SendingPictures.{Need, need_of, picture_needs, sent_parameters, sent_slice, sent_slices, IsFrame}
 use Rattle.link_sender.specs.declared.datagram.Datagram.{Datagram}
 use Rattle.link_sender.specs.declared.encoding.FrameSlices.{FrameSlices}
 use Rattle.link_sender.specs.declared.refusal.SendRefusal.{SendRefusal}
@@ -29,6 +28,10 @@ use Rattle.picture_encode.specs.Refusals.{Tells}
 use Rattle.vc_types.specs.Planes.{Planes}
 use Rattle.vc_types.specs.SenderSettings.{Sending}
 use Rattle.vc_types.specs.Subbands.{slice_count}
+use Rattle.link_sender.proofs.FramePictures.{whole_frame, one_picture, earlier_can, later_can, two_pictures}
+use Rattle.picture_encode.specs.Shapes.{CanBeTransformed}
+use Rattle.vc_types.specs.FieldPairs.{fields_of}
+use Rattle.vc_types.specs.TransformParameters.{Parameters}
 
 zip_join : {A B : Type 0} (R : A → B → Type 0) (xs : List A) (ys : List B) (us : List A) (vs : List B) → AllZip R xs ys → AllZip R us vs → AllZip R (xs ++ us) (ys ++ vs)
 zip_join R [] [] us vs h k = k
@@ -210,3 +213,54 @@ module _ (choice : Chooses) (wanted : Bool) (s : Sending) where
 
   pub none_for_frame : (frame : Planes) → IsRefused choice wanted s frame sender.NoMemory
   none_for_frame frame = record { asked = []; rest = frame_needs s wanted frame; indices = []; needs = refl; answers = tt; fault = tt }
+
+-- ---- encoded frames
+
+module _ (choice : Chooses) (wanted : Bool) (s : Sending) (frame : Planes) (is : IsFrame s frame) (sound : first_sample_fault s frame ≡ None) (p : Parameters) (own : p ≡ sent_parameters s) where
+  abbrev Encoded : Planes → List EncodedSlice → Type 0
+  Encoded planes slices = AreFirstSlices choice wanted s planes (slice_count p) slices
+
+  of_settings : (planes : Planes) (slices : List EncodedSlice) → Encoded planes slices → AreFirstSlices choice wanted s planes (slice_count (sent_parameters s)) slices
+  of_settings planes slices are = subst (λ (q : Parameters). AreFirstSlices choice wanted s planes (slice_count q) slices) own are
+
+  by_plan : (planes : Planes) → CanBeTransformed (sent_parameters s) planes → CanBeTransformed p planes
+  by_plan planes can = subst (λ (q : Parameters). CanBeTransformed q planes) (sym own) can
+
+  pub none : OneIsTooLarge choice wanted s (pictures_of s frame) NoMemory
+  none = none_for_slices choice wanted s (pictures_of s frame)
+
+  -- ---- a frame that is one picture
+
+  module _ (single : s.frames.fields ≡ false) where
+    pub whole_can : CanBeTransformed p frame
+    whole_can = by_plan frame (whole_frame s frame is sound single)
+
+    pub whole_refused : (e : SliceRefusal) → IsRefusedPicture choice wanted s frame e → OneIsTooLarge choice wanted s (pictures_of s frame) e
+    whole_refused e refused = subst (λ (l : List Planes). OneIsTooLarge choice wanted s l e) (sym (one_picture s frame is sound single)) (first_refused choice wanted s frame [] e refused)
+
+    pub whole_encoded : (slices : List EncodedSlice) → Encoded frame slices → AreEncoded choice wanted s (pictures_of s frame) (slices ∷ [])
+    whole_encoded slices are = subst (λ (l : List Planes). AreEncoded choice wanted s l (slices ∷ [])) (sym (one_picture s frame is sound single)) (of_settings frame slices are, tt)
+
+  -- ---- a frame of two fields
+
+  module _ (earlier later : Planes) (double : s.frames.fields ≡ true) (are : (earlier, later) ≡ fields_of s.frames.top frame) where
+    pub first_can : CanBeTransformed p earlier
+    first_can = by_plan earlier (earlier_can s frame is sound earlier later double are)
+
+    pub second_can : CanBeTransformed p later
+    second_can = by_plan later (later_can s frame is sound earlier later double are)
+
+    pictures : pictures_of s frame ≡ earlier ∷ later ∷ []
+    pictures = two_pictures s frame is sound earlier later double are
+
+    pub first_field_refused : (e : SliceRefusal) → IsRefusedPicture choice wanted s earlier e → OneIsTooLarge choice wanted s (pictures_of s frame) e
+    first_field_refused e refused = subst (λ (l : List Planes). OneIsTooLarge choice wanted s l e) (sym pictures) (first_refused choice wanted s earlier (later ∷ []) e refused)
+
+    pub second_field_refused : (first : List EncodedSlice) (e : SliceRefusal) → Encoded earlier first → IsRefusedPicture choice wanted s later e → OneIsTooLarge choice wanted s (pictures_of s frame) e
+    second_field_refused first e encoded refused =
+        subst (λ (l : List Planes). OneIsTooLarge choice wanted s l e) (sym pictures)
+        (later_refused choice wanted s earlier first (later ∷ []) e (of_settings earlier first encoded) (first_refused choice wanted s later [] e refused))
+
+    pub fields_encoded : (first second : List EncodedSlice) → Encoded earlier first → Encoded later second → AreEncoded choice wanted s (pictures_of s frame) (first ∷ second ∷ [])
+    fields_encoded first second one two =
+        subst (λ (l : List Planes). AreEncoded choice wanted s l (first ∷ second ∷ [])) (sym pictures) (of_settings earlier first one, (of_settings later second two, tt))

@@ -1,6 +1,5 @@
 -- The bytes of a picture's sequence header and of its transform parameters.
-use Rattle.std.proofs.Common.{◌≡◌, ℕ, ◌+◌, ◌-◌, ◌*◌, ◌%◌, ◌^◌, ◌<◌, ◌≤◌, Bool, true, false, cond, List, [], ◌∷◌, length, Some, None, refl, sym, ap, subst, ◌∙◌, arith}
-use Rattle.std.specs.Prelude.{nat_le, ◌&&◌, ◌==◌, replicate}
+use Rattle.std.proofs.Common.{◌≡◌, ℕ, ◌+◌, ◌-◌, ◌*◌, ◌%◌, ◌^◌, ◌<◌, ◌≤◌, Bool, true, false, cond, List, [], ◌∷◌, length, Some, None, refl, sym, ap, subst, ◌∙◌, arith, nat_le, ◌&&◌, ◌==◌, replicate}
 use Rattle.std.specs.List.{list_all}
 use Rattle.std.proofs.lemmas.Bool.{and_parts, leb-true}
 use Rattle.std.proofs.lemmas.Bool.Decides.{nat_tests}
@@ -8,7 +7,7 @@ use Rattle.std.proofs.lemmas.Grind.{common_steps}
 use Rattle.std.proofs.lemmas.List.{length-append, length-replicate, length-take}
 use Rattle.link_model.specs.SendingPictures.{packed_bits, sent_header, sent_parameter_bytes, sent_parameters, sent_sequence}
 use Rattle.link_model.proofs.PackedBits.{length-packed_bits}
-use Rattle.link_model.proofs.SentHeads.{plan}
+use Rattle.link_model.proofs.SentHeads.{plan, between}
 use Rattle.link_sender.proofs.CodedLengths.{uint_short}
 use Rattle.vc_types.specs.Bits.{bits_of, digit_of}
 use Rattle.vc_types.specs.Codes.{uint_bits}
@@ -24,7 +23,6 @@ use Rattle.vc_types.specs.ParameterSpelling.{coded_unless, encoder_parameters, n
 use Rattle.vc_types.specs.SenderSettings.{Sending, sending_view}
 use Rattle.vc_types.specs.SequenceHeader.{Sequence}
 use Rattle.vc_types.specs.TransformParameters.{Parameters, parameters_of}
-use Rattle.link_model.proofs.SentHeads.{between}
 use Rattle.vc_types.proofs.Matrices.{matrix_fits-take}
 use Rattle.vc_types.proofs.WrittenParameters.{IsPlan}
 

@@ -1,6 +1,5 @@
 -- The first fault of a frame's samples, by those of its planes.
-use Rattle.std.proofs.Common.{◌≡◌, Option, None, Result, Ok, Err, ap, sym, ◌∙◌}
-use Rattle.std.specs.Prelude.{OnOk, IfErr}
+use Rattle.std.proofs.Common.{◌≡◌, Option, None, Result, Ok, Err, ap, sym, ◌∙◌, OnOk, IfErr}
 use Rattle.vc_types.specs.Rasters.{Raster}
 use Rattle.std.specs.Option.{option_or}
 use Rattle.link_model.specs.SendingFaults.{SendFault, plane_fault, first_sample_fault}
@@ -15,23 +14,20 @@ use Rattle.vc_types.specs.TransformParameters.{Parameters}
 
 -- a fault that is told stays the first
 pub says_first : (a rest : Option SendFault) (e : SendRefusal) → SaysFault a e → SaysFault (option_or a rest) e
-says_first a rest (SampleRange plane place value) h = ap (λ (o : Option SendFault). option_or o rest) h
-says_first a rest (SliceTooLarge slice bytes) h = ap (λ (o : Option SendFault). option_or o rest) h
 says_first a rest NoMemory h = tt
+says_first a rest e h = ap (λ (o : Option SendFault). option_or o rest) h
 
 -- where there is none before it
 pub says_rest : (a rest : Option SendFault) (e : SendRefusal) → a ≡ None → SaysFault rest e → SaysFault (option_or a rest) e
-says_rest a rest (SampleRange plane place value) none h = ap (λ (o : Option SendFault). option_or o rest) none ∙ h
-says_rest a rest (SliceTooLarge slice bytes) none h = ap (λ (o : Option SendFault). option_or o rest) none ∙ h
 says_rest a rest NoMemory none h = tt
+says_rest a rest e none h = ap (λ (o : Option SendFault). option_or o rest) none ∙ h
 
 pub none_rest : (a rest : Option SendFault) → a ≡ None → rest ≡ None → option_or a rest ≡ None
 none_rest a rest none h = ap (λ (o : Option SendFault). option_or o rest) none ∙ h
 
 pub same_says : (a b : Option SendFault) (e : SendRefusal) → a ≡ b → SaysFault a e → SaysFault b e
-same_says a b (SampleRange plane place value) same h = sym same ∙ h
-same_says a b (SliceTooLarge slice bytes) same h = sym same ∙ h
 same_says a b NoMemory same h = tt
+same_says a b e same h = sym same ∙ h
 
 -- the first of three planes
 abbrev three : Shape → Raster → Raster → Raster → Option SendFault

@@ -1,28 +1,64 @@
 -- How many datagrams, and how many bytes, pictures with small samples are sent in.
-use Rattle.std.proofs.Common.{◌≡◌, ℕ, suc, ◌+◌, ◌*◌, ◌^◌, ◌<◌, ◌≤◌, Bool, true, false, cond, List, [], ◌∷◌, ◌++◌, length, map, take, drop, refl, sym, ap, ◌∙◌, arith}
+use Rattle.std.proofs.Common.{ℕ, ◌+◌, ◌-◌, ◌*◌, ◌^◌, ◌<◌, ◌≤◌, pos, unsigned_abs, arith, ◌-ℤ◌, pow_mono, ◌≡◌, suc, Bool, true, false, cond, List, [], ◌∷◌, ◌++◌, length, map, take, drop, refl, sym, ap, ◌∙◌, mul-le-mul_left, mul-le-mul_right}
+use Rattle.std.proofs.lemmas.Int.{ints}
+use Rattle.link_model.specs.SendingPictures.{plane_in, sent_cells, numbers_in_slice, sent_coefficients, sent_header, sent_parameter_bytes, sent_parameters, sent_slice, sent_slices, slices_with_indices}
+use Rattle.vc_types.specs.declared.video.Component.{Component}
+use Rattle.vc_types.specs.Planes.{Planes}
+use Rattle.vc_types.specs.Rasters.{Raster, sample_at}
+use Rattle.vc_types.specs.Subbands.{plane_depth, slice_coefficient_count, padded_height, padded_width, slice_count}
+use Rattle.vc_types.specs.TransformParameters.{Parameters}
+use Rattle.vc_types.specs.Transforms.{padded_plane, forward_transform, forward_levels, lowest_width, lowest_height}
+use Rattle.vc_wave.specs.Planes.{AreBelow}
+use Rattle.vc_wave.proofs.PlaneGrowth.{below_more, forward_levels_grow}
+use Rattle.link_sender.proofs.CodedLengths.{AreSmallNumbers, slice_short}
 use Rattle.std.specs.List.{enumerate_from, sum_by}
 use Rattle.std.proofs.lemmas.Grind.{common_steps}
 use Rattle.std.proofs.lemmas.List.{length-append, length-map, length-take}
 use Rattle.std.proofs.lemmas.List.FromFn.{length-enumerate_from}
 use Rattle.std.proofs.lemmas.List.Sums.{sum_by-append, sum_by-cons, sum_by_push}
-use Rattle.std.proofs.Math.Nat.{mul-le-mul_left, mul-le-mul_right}
 use Rattle.link_model.specs.Kept.{SliceRun}
 use Rattle.link_model.specs.Packets.{rtp_header, fragment_bytes, payload_bytes, payload_head}
 use Rattle.link_model.specs.Sending.{Outgoing, DatagramContent, HeaderContent, ParametersContent, SlicesContent, EndContent, datagrams_from, has_room, outgoing, picture_outgoing, pictures_outgoing, run_bytes, run_end, run_of_one, run_with, runs_from, runs_of_slices, sent_datagram, sent_value}
-use Rattle.link_model.specs.SendingPictures.{plane_in, sent_coefficients, sent_header, sent_parameter_bytes, sent_parameters, sent_slice, sent_slices, slices_with_indices}
 use Rattle.link_model.proofs.PackedBits.{length-packed_bits}
 use Rattle.vc_slice.proofs.EncodedSlices.{length_slice}
-use Rattle.vc_types.specs.declared.video.Component.{Component}
 use Rattle.vc_types.specs.declared.video.Component.TheVariants.{Y, C1, C2}
 use Rattle.vc_types.specs.Encoding.{encoded_length}
 use Rattle.vc_types.specs.Fields.{joined}
-use Rattle.vc_types.specs.Planes.{Planes}
 use Rattle.vc_types.specs.SenderSettings.{Sending}
-use Rattle.vc_types.specs.Subbands.{padded_height, padded_width, plane_depth, slice_coefficient_count, slice_count}
-use Rattle.vc_types.specs.TransformParameters.{Parameters}
-use Rattle.link_sender.proofs.CodedLengths.{slice_short}
 use Rattle.link_sender.proofs.SharedCells.{counted, counted_more, counted_most}
-use Rattle.link_sender.proofs.SmallCells.{HasSmallSamples, small_numbers}
+
+-- ---- small cells
+
+-- samples below the greatest limit that the samples of a depth may have
+pub record HasSmallSamples (plane : Raster) : Type 0 where
+  pub below : (x y : ℕ) → sample_at plane x y < 2 ^ 17
+
+centred : (s d : ℕ) → s < 2 ^ 17 → d ≤ 17 → unsigned_abs (pos s -ℤ pos (2 ^ (d - 1))) < 2 ^ 17
+centred s d small few =
+    let half : 2 ^ (d - 1) ≤ 2 ^ 16 = pow_mono {i = d - 1} {j = 16} (omega arith) in
+    omega (arith, ints, half, small)
+
+module _ (p : Parameters) (c : Component) (planes : Planes) (levels : p.depth ≤ 5) (depth : plane_depth p.shape c ≤ 17) (small : HasSmallSamples (plane_in planes c)) where
+  abbrev samples : ℕ → ℕ → ℕ
+  samples = sample_at (plane_in planes c)
+
+  first_below : AreBelow (2 ^ 17) (padded_plane p c samples)
+  unfolding padded_plane
+  first_below x y = grind (arith, centred)
+
+  cells_below : AreBelow (2 ^ 60) (sent_cells p planes c)
+  unfolding sent_cells forward_transform
+  cells_below =
+      let w = lowest_width p c in
+      let h = lowest_height p c in
+      let first = padded_plane p c samples in
+      below_more (17 + 8 * p.depth) 60 (forward_levels p.wavelet p.depth w h first) (omega arith) (forward_levels_grow p.wavelet p.depth w h 17 first (omega arith) first_below)
+
+  pub small_numbers : (slice : ℕ) → AreSmallNumbers (slice_coefficient_count p c slice) (numbers_in_slice p c (sent_cells p planes c) slice)
+  unfolding numbers_in_slice
+  small_numbers slice = grind (arith, cells_below)
+
+-- ---- the bytes of slices
 
 abbrev pub HaveSmallSamples : Planes → Type 0
 HaveSmallSamples planes = (c : Component) → HasSmallSamples (plane_in planes c)
@@ -79,14 +115,7 @@ module _ (p : Parameters) (planes : Planes) (levels : p.depth ≤ 5) (depth : (c
   slices_short : (indices : List ℕ) (slice : ℕ) → bytes_in (slices_from slice indices) + 16 * before slice ≤ length indices * most + 16 * before (slice + length indices)
   slices_short [] slice = let same : slice + 0 ≡ slice = omega arith in let e = ap before same in omega (arith, e)
   slices_short (index ∷ indices) slice =
-      grind (
-        arith,
-        common_steps,
-        counted_more,
-        sent_short,
-        sum_by-cons,
-        slices_short indices (slice + 1),
-      )
+      grind (arith, common_steps, counted_more, sent_short, sum_by-cons, slices_short indices (slice + 1))
 
   abbrev area : Component → ℕ
   area c = padded_width p c * padded_height p c
@@ -181,8 +210,7 @@ module _ (s : Sending) where
 
   runs_weight : (picture : ℕ) (runs : List SliceRun) → sum_by weight (map (outgoing picture) (map SlicesContent runs)) ≡ sum_by run_weight runs
   runs_weight picture [] = refl
-  runs_weight picture (run ∷ runs) =
-      grind (arith, common_steps, sum_by-cons, runs_weight picture runs)
+  runs_weight picture (run ∷ runs) = grind (arith, common_steps, sum_by-cons, runs_weight picture runs)
 
   -- ---- pictures
 
@@ -207,15 +235,7 @@ module _ (s : Sending) where
     picture_bytes : (picture : ℕ) (indices : List ℕ) (planes : Planes) → HaveSmallSamples planes → sum_by weight (picture_outgoing s picture indices planes) ≤ 2 ^ 30
     unfolding picture_outgoing
     picture_bytes picture indices planes small =
-        grind (
-          arith,
-          common_steps,
-          all_runs_short,
-          runs_weight,
-          slices_few,
-          slices_most,
-          sum_by-cons,
-        )
+        grind (arith, common_steps, all_runs_short, runs_weight, slices_few, slices_most, sum_by-cons)
 
     picture_few : (picture : ℕ) (indices : List ℕ) (planes : Planes) → HaveSmallSamples planes → length (picture_outgoing s picture indices planes) ≤ 2 ^ 18
     unfolding picture_outgoing

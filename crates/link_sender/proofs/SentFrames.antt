@@ -1,9 +1,7 @@
 -- How many datagrams, and how many bytes, frames are sent in whose samples are within their limits.
-use Rattle.std.proofs.Common.{◌≡◌, ℕ, zero, suc, ◌+◌, ◌-◌, ◌*◌, ◌/◌, ◌^◌, ◌<◌, ◌≤◌, Bool, true, false, cond, List, [], ◌∷◌, ◌++◌, length, map, get_or, Option, Some, None, refl, sym, subst, arith}
-use Rattle.std.specs.Prelude.{All, nat_le, not}
+use Rattle.std.proofs.Common.{◌≡◌, ℕ, zero, suc, ◌+◌, ◌-◌, ◌*◌, ◌/◌, ◌^◌, ◌<◌, ◌≤◌, Bool, true, false, cond, List, [], ◌∷◌, ◌++◌, length, map, get_or, Option, Some, None, refl, sym, subst, arith, All, nat_le, not, leb-true, lt-ltb, div-mul-le_self, mul-le-mul_left, mul-le-mul_right, pow_mono, pow_pos}
 use Rattle.std.specs.List.{flat_map, range_with_len, sum_by}
 use Rattle.std.specs.Option.{option_map, option_or}
-use Rattle.std.proofs.lemmas.Bool.{leb-true, lt-ltb}
 use Rattle.std.proofs.lemmas.Bool.Decides.{nat_tests}
 use Rattle.std.proofs.lemmas.Grind.{common_steps}
 use Rattle.std.proofs.lemmas.List.{get_or_past, length-append}
@@ -12,8 +10,6 @@ use Rattle.std.proofs.lemmas.List.Elements.{All-append, All-cons, All-get_or, Al
 use Rattle.std.proofs.lemmas.List.Sums.{prefix_len-le-length}
 use Rattle.std.proofs.lemmas.Nat.{le-div}
 use Rattle.std.proofs.lemmas.Option.{none-some}
-use Rattle.std.proofs.Math.Nat.{div-mul-le_self, mul-le-mul_left, mul-le-mul_right}
-use Rattle.std.proofs.Math.Pow.{pow_mono, pow_pos}
 use Rattle.link_model.specs.Sending.{both_fields, end_datagram, outgoing, EndContent, pictures_of, pictures_per_frame, sent_datagrams}
 use Rattle.link_model.specs.SendingFaults.{SendFault, first_outside, first_sample_fault, plane_fault}
 use Rattle.link_model.specs.SendingPictures.{plane_in, sent_parameters, sent_sequence}
@@ -33,8 +29,7 @@ use Rattle.vc_types.specs.Video.{colour_height, colour_width, picture_height, vi
 use Rattle.vc_types.proofs.SliceCounts.{some_across, some_down}
 use Rattle.link_sender.specs.Counts.{AreFew, HaveSoundSamples}
 use Rattle.link_sender.proofs.Heads.{short_header, short_parameters_of}
-use Rattle.link_sender.proofs.SentBytes.{AreAllSmall, HaveSmallSamples, KeepsSmall, datagram_length, datagrams_bytes, datagrams_count, pictures_bytes, pictures_few}
-use Rattle.link_sender.proofs.SmallCells.{HasSmallSamples}
+use Rattle.link_sender.proofs.SentBytes.{AreAllSmall, HaveSmallSamples, KeepsSmall, datagram_length, datagrams_bytes, datagrams_count, pictures_bytes, pictures_few, HasSmallSamples}
 
 -- ---- samples within their limit
 
@@ -161,13 +156,11 @@ module _ (s : Sending) (keeps : KeepsSmall s) where
 
   few_datagrams : (indices : List ℕ) (frames : List Planes) → HaveSoundSamples s frames → length (sent_datagrams s indices frames) ≤ 2 ^ 19 * length frames
   unfolding sent_datagrams
-  few_datagrams indices frames inside =
-      grind (arith, all_small, datagrams_count, pictures_few, two_each)
+  few_datagrams indices frames inside = grind (arith, all_small, datagrams_count, pictures_few, two_each)
 
   few_bytes : (indices : List ℕ) (frames : List Planes) → HaveSoundSamples s frames → sum_by length (sent_datagrams s indices frames) ≤ 2 ^ 31 * length frames
   unfolding sent_datagrams
-  few_bytes indices frames inside =
-      grind (arith, all_small, datagrams_bytes, pictures_bytes, two_each)
+  few_bytes indices frames inside = grind (arith, all_small, datagrams_bytes, pictures_bytes, two_each)
 
 pub end_bytes : (s : Sending) (number frames : ℕ) → length (end_datagram s number frames) ≡ 16
 unfolding end_datagram

@@ -1,6 +1,5 @@
 -- How many coefficients of a component the slices before one have together.
-use Rattle.std.proofs.Common.{◌≡◌, ℕ, zero, suc, ◌+◌, ◌-◌, ◌*◌, ◌/◌, ◌%◌, ◌^◌, ◌<◌, ◌≤◌, List, [], ◌∷◌, ◌++◌, map, refl, sym, ap, ◌∙◌, arith, inl, inr}
-use Rattle.std.specs.List.{sum_by}
+use Rattle.std.proofs.Common.{◌≡◌, ℕ, zero, suc, ◌+◌, ◌-◌, ◌*◌, ◌/◌, ◌%◌, ◌^◌, ◌<◌, ◌≤◌, List, [], ◌∷◌, ◌++◌, map, refl, sym, ap, ◌∙◌, arith, inl, inr, sum_by}
 use Rattle.std.proofs.lemmas.Bool.{cases_lt}
 use Rattle.std.proofs.lemmas.Grind.{common_steps}
 use Rattle.std.proofs.lemmas.List.{map-append}
@@ -109,8 +108,7 @@ module _ (across down slice : ℕ) (some : 0 < across) (some_down : 0 < down) (p
 
   all_more : (bands : List Subband) → sum_by (covered across down slice) (map place bands) + sum_by area (map part bands) ≡ sum_by (covered across down (slice + 1)) (map place bands)
   all_more [] = refl
-  all_more (b ∷ bands) =
-      grind (arith, common_steps, covered, covered_more, sum_by-cons, all_more bands)
+  all_more (b ∷ bands) = grind (arith, common_steps, covered, covered_more, sum_by-cons, all_more bands)
 
 all_most : (across down slice : ℕ) → 0 < across → 0 < down → slice ≤ across * down → (rs : List Rect) → sum_by (covered across down slice) rs ≤ sum_by area rs
 all_most across down slice some some_down few [] = omega arith

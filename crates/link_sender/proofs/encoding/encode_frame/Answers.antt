@@ -5,7 +5,7 @@ use Rattle.picture_encode.specs.declared.refusal.SliceRefusal.TheVariants.{NoMem
 use Rattle.vc_types.specs.Planes.{planes_in}
 use Rattle.vc_types.specs.SenderSettings.{sending_view}
 use Rattle.vc_types.specs.TransformParameters.{parameters_of}
-use Rattle.link_sender.proofs.EncodedFrames.{first_can, first_field_refused, fields_encoded, none, second_can, second_field_refused, whole_can, whole_encoded, whole_refused}
+use Rattle.link_sender.proofs.Frames.{first_can, first_field_refused, fields_encoded, none, second_can, second_field_refused, whole_can, whole_encoded, whole_refused}
 use Rattle.link_sender.proofs.FramePictures.{even_heights}
 use Rattle.link_sender.proofs.encoding.encode_frame.Goals as goal
 

@@ -1,5 +1,4 @@
-use Rattle.std.proofs.Common.{◌<◌, ◌≤◌, ℕ}
-use Rattle.std.specs.Prelude.{slice_index_or}
+use Rattle.std.proofs.Common.{◌<◌, ◌≤◌, ℕ, slice_index_or}
 use Rattle.link_sender.proofs.samples.greatest.Given as goal
 
 abbrev pub invariant-loop-sample : goal.invariant-loop-sample

@@ -5,7 +5,7 @@ use Rattle.link_sender.specs.declared.outbox.Outbox.{Outbox}
 use Rattle.link_sender.specs.declared.runs.OpenRun.{OpenRun}
 use Rattle.link_sender.specs.Puts.{PutsDatagrams}
 use Rattle.link_sender.specs.Runs.{PacksSlices, HoldsSlices, run_with_slices}
-use Rattle.link_sender.proofs.RunsPut.{another_run, has_some, one_more}
+use Rattle.link_sender.proofs.PutPictures.{another_run, has_some, one_more}
 use Rattle.link_sender.proofs.outbox.Outbox.pack.Goals as goal
 use Rattle.link_sender.proofs.outbox.Outbox.pack.Goals.{then-len-slice+in_ok-put_run, else-len-slice}
 

@@ -1,15 +1,13 @@
-use Rattle.std.proofs.Common.{◌+◌, ◌<◌, ◌≤◌, ◌^◌, List, [], ◌∷◌, ◌++◌, ℕ, length, take, sym, ap, subst, ◌∙◌, arith}
+use Rattle.std.proofs.Common.{◌+◌, ◌<◌, ◌≤◌, ◌^◌, List, [], ◌∷◌, ◌++◌, ℕ, length, take, sym, ap, subst, ◌∙◌, arith, All}
 use Rattle.std.proofs.lemmas.List.{length-map, take_all}
 use Rattle.std.proofs.lemmas.List.Elements.{All-get_or, All-head}
-use Rattle.std.specs.Prelude.{All}
 use Rattle.picture_encode.specs.declared.slices.EncodedSlice.{EncodedSlice}
 use Rattle.picture_encode.specs.Encoded.{slice_bytes}
 use Rattle.vc_types.specs.SenderSettings.{packing_view}
 use Rattle.link_sender.specs.Runs.{EndsRun, FitsRun, PacksSlices}
 use Rattle.link_sender.proofs.Numbered.{then_ok}
-use Rattle.link_sender.proofs.PutPictures.{next_slice, own_bytes, some_slices}
+use Rattle.link_sender.proofs.PutPictures.{next_slice, own_bytes, some_slices, none_packed, starts, whole_packed}
 use Rattle.link_sender.proofs.PayloadLengths.{some_room}
-use Rattle.link_sender.proofs.RunsPut.{none_packed, starts, whole_packed}
 use Rattle.link_sender.proofs.outbox.Outbox.put_encoded.Goals as goal
 
 pub loop-slice-init : goal.loop-slice-init

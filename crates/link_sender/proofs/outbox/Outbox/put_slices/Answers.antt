@@ -1,5 +1,4 @@
-use Rattle.std.proofs.Common.{◌≡◌, ◌+◌, ◌-◌, ◌<◌, ◌≤◌, ◌^◌, ◌++◌, [], ◌∷◌, List, ℕ, refl, sym, ap, subst, ◌∙◌, arith, rules, append_assoc}
-use Rattle.std.proofs.lemmas.List.{append-nil}
+use Rattle.std.proofs.Common.{◌≡◌, ◌+◌, ◌-◌, ◌<◌, ◌≤◌, ◌^◌, ◌++◌, [], ◌∷◌, List, ℕ, refl, sym, ap, subst, ◌∙◌, arith, rules, append_assoc, append-nil}
 use Rattle.std.proofs.lemmas.Grind.{common_steps}
 use Rattle.link_model.specs.Kept.{next_slices}
 use Rattle.link_model.proofs.Slots.{next_slices-count}
@@ -7,10 +6,9 @@ use Rattle.stream_model.specs.Packing.{first_large_slice, slices_in, slices_room
 use Rattle.link_sender.specs.Runs.{EndsRun, PacksSlices}
 use Rattle.link_sender.proofs.Cutting.{cut_off_front, none_is_left, one_is_there, some_bytes}
 use Rattle.link_sender.proofs.Numbered.{then_ok}
-use Rattle.link_sender.proofs.PutPictures.{some_slices}
+use Rattle.link_sender.proofs.PutPictures.{some_slices, none_packed, starts, whole_packed}
 use Rattle.link_sender.proofs.PayloadLengths.{some_room}
 use Rattle.link_sender.proofs.Rooms.{first_fits}
-use Rattle.link_sender.proofs.RunsPut.{none_packed, starts, whole_packed}
 use Rattle.vc_types.specs.SenderSettings.{packing_view}
 use Rattle.vc_types.specs.Subbands.{slice_count}
 use Rattle.vc_types.specs.TransformParameters.{parameters_of}

@@ -6,7 +6,7 @@ use Rattle.vc_types.specs.TransformParameters.{parameters_of}
 use Rattle.link_sender.specs.Views.{packed_picture_of}
 use Rattle.link_sender.specs.declared.outbox.Outbox.{Outbox}
 use Rattle.link_sender.specs.declared.picture.Picture.{Picture}
-use Rattle.link_sender.proofs.Packers.{is_packed}
+use Rattle.link_sender.proofs.SentAsPacked.{is_packed}
 use Rattle.link_sender.proofs.PayloadLengths.{most_room, some_room}
 use Rattle.link_sender.proofs.Putting.{puts_more}
 use Rattle.link_sender.proofs.Rooms.{parts_fit}
