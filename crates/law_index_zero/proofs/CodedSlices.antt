@@ -35,10 +35,6 @@ head_bytes zero index bits small =
 head_bytes (suc prefix) index bits small =
     grind (arith, append_assoc, bits_of-cons, packed_bits-byte, small, head_bytes prefix index bits small)
 
-none_packed : packed_bits [] ≡ []
-unfolding packed_bits
-none_packed = refl
-
 -- ---- a block
 
 -- the length of the block of some bits, in units of the slice size scaler
@@ -58,9 +54,6 @@ enough scaler bits some = omega (arith, lt-div-mul-add {a = (length bits + 7) / 
 length-filled : (scaler : ℕ) (bits : List Bool) → 0 < scaler → length (filled_block scaler bits) ≡ 8 * (units_of scaler bits * scaler)
 length-filled scaler bits some = omega (arith, enough scaler bits some, length-append bits (replicate (8 * (units_of scaler bits * scaler) - length bits) true), length-replicate {A = Bool} (8 * (units_of scaler bits * scaler) - length bits) true)
 
-pub length-block_bytes : (scaler : ℕ) (bits : List Bool) → 0 < scaler → length (block_bytes scaler bits) ≡ units_of scaler bits * scaler
-length-block_bytes scaler bits some = omega (arith, length-filled scaler bits some, length-packed_bits (filled_block scaler bits) (omega (arith, length-filled scaler bits some)))
-
 pub bits_of-block_bytes : (scaler : ℕ) (bits : List Bool) → 0 < scaler → bits_of (block_bytes scaler bits) ≡ filled_block scaler bits
 bits_of-block_bytes scaler bits some = bits_of-packed_bits (filled_block scaler bits) (omega (arith, length-filled scaler bits some))
 
@@ -77,10 +70,6 @@ encoded_bytes scaler bits more some small =
 
 items_front : (n : ℕ) (front rest : List ℕ) → length front ≡ n → next_items {T = ℕ} {E = Unit {0}} tt n (front ++ rest) ≡ Ok (front, rest)
 items_front n front rest is = rw (sym is) (rw (le-ltb (length (front ++ rest)) (length front) (omega (arith, length-append front rest))) (λ i. Ok (take-append_seam front rest i, drop-append_seam front rest i)))
-
-block_front : (scaler units : ℕ) (own rest : List ℕ) → length own ≡ units * scaler → block scaler (units ∷ (own ++ rest)) ≡ Ok (own, rest)
-unfolding block
-block_front scaler units own rest is = items_front (units * scaler) own rest is
 
 -- ---- a slice
 
@@ -105,23 +94,21 @@ module _ (p : Parameters) (slice index : ℕ) (s : Coefficients) (some : 0 < p.s
 
   -- the bytes of a slice
   pub bytes_are : packed_bits (encoded_slice p slice index s) ≡ laid_out []
-  unfolding encoded_slice
+  unfolding encoded_slice packed_bits
   bytes_are =
       let head : List Bool = bits_of (replicate p.prefix 0 ++ index ∷ []) in
       let y : List Bool = component_bits p slice index s Y in
       let c1 : List Bool = component_bits p slice index s C1 in
       let c2 : List Bool = component_bits p slice index s C2 in
       let last : packed_bits (encoded_block p.scaler c2) ≡ with_length (block_bytes p.scaler c2) c2 [] =
-      ap packed_bits (sym (append-nil (encoded_block p.scaler c2))) ∙ encoded_bytes p.scaler c2 [] some small.c2 ∙ ap (with_length (block_bytes p.scaler c2) c2) none_packed in
+      ap packed_bits (sym (append-nil (encoded_block p.scaler c2))) ∙ encoded_bytes p.scaler c2 [] some small.c2 ∙ ap (with_length (block_bytes p.scaler c2) c2) refl in
       let two : packed_bits (encoded_block p.scaler c1 ++ encoded_block p.scaler c2) ≡ with_length (block_bytes p.scaler c1) c1 (with_length (block_bytes p.scaler c2) c2 []) =
       encoded_bytes p.scaler c1 (encoded_block p.scaler c2) some small.c1 ∙ ap (with_length (block_bytes p.scaler c1) c1) last in
-      ap packed_bits (append_assoc (head ++ encoded_block p.scaler y) (encoded_block p.scaler c1) (encoded_block p.scaler c2) ∙ append_assoc head (encoded_block p.scaler y) (encoded_block p.scaler c1 ++ encoded_block p.scaler c2))
-      ∙ head_bytes p.prefix index (encoded_block p.scaler y ++ (encoded_block p.scaler c1 ++ encoded_block p.scaler c2)) known
-      ∙ ap (λ (l : List ℕ). replicate p.prefix 0 ++ index ∷ l) (encoded_bytes p.scaler y (encoded_block p.scaler c1 ++ encoded_block p.scaler c2) some small.y ∙ ap (with_length (block_bytes p.scaler y) y) two)
+      grind (arith, append_assoc, c1, c2, encoded_bytes, head_bytes, small, y)
 
   pub read : (behind : List ℕ) → coded_slice p.prefix p.scaler (laid_out behind) ≡ Ok (coded, behind)
-  unfolding coded_slice
-  read behind = grind (arith, block_front, items_front, length-block_bytes, length-replicate)
+  unfolding coded_slice block
+  read behind = grind (arith, items_front, length-replicate, length-filled, length-packed_bits)
 
   behind_it : (behind : List ℕ) → laid_out [] ++ behind ≡ laid_out behind
   behind_it behind = grind (arith, append_assoc)

@@ -3,7 +3,7 @@ use Rattle.std.proofs.Common.{◌≡◌, ◌<◌, ◌≤◌, ℕ, ◌+◌, ◌-�
 use Rattle.std.proofs.lemmas.Bool.{cases_Bool, cases_lt, both_ways, or_from, lt-leb, eq-eqb, ne_eqb}
 use Rattle.std.proofs.lemmas.List.Elements.{All-head, All-tail, All-cons, All-nil, All-push}
 use Rattle.std.proofs.lemmas.List.Sums.{fold-append}
-use Rattle.link_model.specs.Numbers.{Numbered, greatest, base_above, nearest, picture_number, is_closed, is_late, enters, entered, parts_of, has_parts, is_opened}
+use Rattle.link_model.specs.Numbers.{Numbered, greatest, base_above, picture_number, is_closed, is_late, enters, entered, parts_of, has_parts, is_opened}
 use Rattle.link_model.specs.Sending.{number_bits}
 use Rattle.link_model.specs.Session.{Part, Fragment}
 use Rattle.link_model.proofs.Numbering.{late_changes_nothing, early_enters, parts_of-append, entered_follows}
@@ -39,10 +39,6 @@ pub first_number : (base bits : ℕ) → picture_number base [] bits ≡ base + 
 unfolding picture_number
 first_number base bits = refl
 
-later_number : (base : ℕ) (e : Numbered) (es : List Numbered) (bits : ℕ) → picture_number base (e ∷ es) bits ≡ nearest (greatest (e ∷ es)) bits
-unfolding picture_number
-later_number base e es bits = refl
-
 pub none_greatest : greatest [] ≡ 0
 unfolding greatest
 none_greatest = refl
@@ -66,10 +62,6 @@ other_part number e es apart = ap (λ (b : Bool). map (λ (e : Numbered). e.part
 pub not_late : (window : ℕ) (es : List Numbered) (n : ℕ) → is_closed window es n ≡ false → n < 2 ^ 64 - 16 → is_late window es n ≡ false
 unfolding is_late
 not_late window es n unclosed small = or_from (is_closed window es n) (nat_le (2 ^ 64 - 16) n) unclosed (lt-leb (2 ^ 64 - 16) n small)
-
-none_closed : (window n : ℕ) → 1 ≤ window → is_closed window [] n ≡ false
-unfolding is_closed
-none_closed window n some = lt-leb (n + window) (greatest []) (omega (arith, none_greatest, some))
 
 module _ (s : Sending) (IsPart : ℕ → Part → Type 0) where
   -- a fragment is of one of fewer than 2 ^ 31 pictures
@@ -108,7 +100,8 @@ module _ (s : Sending) (IsPart : ℕ → Part → Type 0) where
 
   -- the number of a picture after others
   pub number_behind : (base first j : ℕ) (e : Numbered) (es : List Numbered) → first % 2 ^ 32 ≡ s.picture % 2 ^ 32 → All (IsEntry first) (e ∷ es) → j < 2 ^ 31 → picture_number base (e ∷ es) (number_bits s j) ≡ first + j
-  number_behind base first j e es bits all few = grind (arith, greatest_is, later_number, number_found)
+  unfolding picture_number
+  number_behind base first j e es bits all few = grind (arith, greatest_is, number_found)
 
   with_one : (window : ℕ) (es : List Numbered) (f : Fragment) → AreEntries es → IsSentFragment f → AreEntries (es ++ record { number = picture_number (2 ^ 32) es f.number; part = f.part } ∷ [])
   with_one window [] f are sent =
@@ -173,7 +166,8 @@ module _ (s : Sending) (IsPart : ℕ → Part → Type 0) where
 
     -- it isn't late
     early_in : (es : List Numbered) → first ≤ 2 ^ 33 → All (IsEntry first) es → is_closed window es own_number ≡ false → is_late window es (picture_number (2 ^ 32) es f.number) ≡ false
-    early_in [] low all unclosed = grind (arith, first_number, not_late, none_closed)
+    unfolding is_closed
+    early_in [] low all unclosed = grind (arith, first_number, not_late, lt-leb, none_greatest)
     early_in (e ∷ es) low all unclosed = grind (arith, number_in, not_late)
 
     -- its number is its picture's
@@ -210,11 +204,9 @@ module _ (s : Sending) (IsPart : ℕ → Part → Type 0) where
         own_entry : IsEntry first (entry_in before)
         own_entry = among_all (IsEntry first) (entry_in before) after all_after (before, [], entered_now)
 
-        number_is : picture_number (2 ^ 32) before f.number ≡ own_number
-        number_is = number_by before all_before own_entry
-
         parts_now : parts_of own_number after ≡ parts_of own_number before ++ f.part ∷ []
-        parts_now = grind (arith, entered_now, number_is, own_part, parts_of-append, unopened)
+        parts_now =
+            grind (arith, entered_now, own_part, parts_of-append, unopened, number_by, all_before, own_entry)
 
         -- so its part is one of its picture's, after those that came before it
         pub part_entered : (rest : List Part) × (parts_of own_number last ≡ parts_of own_number before ++ f.part ∷ rest)

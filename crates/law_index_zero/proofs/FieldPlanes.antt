@@ -1,7 +1,7 @@
 -- The pictures of a frame without a fault are pictures without a fault.
-use Rattle.std.proofs.Common.{◌≡◌, ◌<◌, ℕ, ◌+◌, ◌*◌, ◌/◌, ◌%◌, ◌^◌, Bool, true, false, List, [], ◌∷◌, map, get_or, Option, None, sym, ap, ◌∙◌, arith, All, pow_pos}
+use Rattle.std.proofs.Common.{◌≡◌, ◌<◌, ℕ, ◌+◌, ◌*◌, ◌/◌, ◌%◌, ◌^◌, Bool, true, false, List, [], ◌∷◌, map, get_or, None, sym, ap, ◌∙◌, arith, All, pow_pos}
 use Rattle.std.specs.List.{flat_map, range_with_len}
-use Rattle.std.specs.Option.{option_map, option_or}
+use Rattle.std.specs.Option.{option_map}
 use Rattle.std.proofs.lemmas.Bool.{cond-true}
 use Rattle.std.proofs.lemmas.Bool.Decides.{nat_tests}
 use Rattle.std.proofs.lemmas.List.Elements.{All-append, All-nil, All-map}
@@ -36,14 +36,10 @@ all_raster : (P : ℕ → Type 0) (width height : ℕ) (f : ℕ → ℕ → ℕ)
 unfolding raster
 all_raster P width height f each = all_flat P (λ y. map (λ x. f x y) (range_with_len 0 width)) (range_with_len 0 height) (λ y. all_mapped P (λ x. f x y) (range_with_len 0 width) (λ x. each x y))
 
-inside : (limit : ℕ) (plane : Raster) → 0 < limit → first_outside limit 0 plane.samples ≡ None → (x y : ℕ) → sample_at plane x y < limit
-unfolding sample_at
-inside limit plane some none x y = all_inside limit 0 plane.samples some none (y * plane.width + x)
-
 rows_sound : (limit first : ℕ) (plane : Raster) → 0 < limit → first_outside limit 0 plane.samples ≡ None → first_outside limit 0 (every_other_row first plane).samples ≡ None
-unfolding every_other_row
+unfolding every_other_row sample_at
 rows_sound limit first plane some none = none_outside limit 0 (raster plane.width (plane.height / 2) (λ x y. sample_at plane x (2 * y + first)))
-    (all_raster (λ k. k < limit) plane.width (plane.height / 2) (λ x y. sample_at plane x (2 * y + first)) (λ x y. inside limit plane some none x (2 * y + first)))
+    (all_raster (λ k. k < limit) plane.width (plane.height / 2) (λ x y. sample_at plane x (2 * y + first)) (λ x y. (all_inside limit 0 plane.samples some none ((2 * y + first) * plane.width + x))))
 
 rows_whole : (first : ℕ) (plane : Raster) → IsWhole (every_other_row first plane)
 unfolding every_other_row
@@ -62,12 +58,9 @@ module _ (s : Sending) (frame : Planes) (first : ℕ) where
   abbrev field : Planes
   field = on_each (every_other_row first) frame
 
-  neither_from : {A : Type 0} (a b : Option A) → a ≡ None → b ≡ None → option_or a b ≡ None
-  neither_from a b none also = ap (λ o. option_or o b) none ∙ also
-
   pub field_samples : first_sample_fault s frame ≡ None → first_sample_fault s field ≡ None
   unfolding first_sample_fault
-  field_samples none = grind (arith, neither, neither_from, plane_rows_sound)
+  field_samples none = grind (arith, neither, plane_rows_sound)
 
   pub field_whole : AreWhole field
   field_whole = record { y = rows_whole first frame.y; c1 = rows_whole first frame.c1; c2 = rows_whole first frame.c2 }
@@ -86,20 +79,14 @@ module _ (s : Sending) (frame : Planes) (first : ℕ) where
 
 -- ---- a frame that is a picture
 
-whole_height : (fields : Bool) (n : ℕ) → fields ≡ false → n ≡ picture_height fields n
-whole_height fields n is = grind arith
-
 pub frame_sides : (s : Sending) (frame : Planes) → s.frames.fields ≡ false → IsFrame s frame → (c : Component) → HasSides (plane_width (sent_parameters s).shape c) (plane_height (sent_parameters s).shape c) (plane_in frame c)
 unfolding sent_parameters sent_sequence picture_shape
-frame_sides s frame fields is c = grind (arith, whole_height)
+frame_sides s frame fields is c = grind arith
 
 -- ---- the rows of a frame with field coding
-
-even_luma : (width height : ℕ) (sampling : Sampling) → dimensions_fit width height sampling true ≡ true → height % 2 ≡ 0
-even_luma width height sampling h = grind (arith, nat_tests)
 
 even_colour : (width height : ℕ) (sampling : Sampling) → dimensions_fit width height sampling true ≡ true → colour_height sampling height % 2 ≡ 0
 even_colour width height sampling h = grind (arith, nat_tests)
 
 pub even_rows : (settings : SendSettings) (frame : Planes) → settings.fields ≡ true → IsFrame (sending_view settings) frame → HaveEvenHeights frame
-even_rows settings frame fields is = grind (arith, even_colour, even_luma)
+even_rows settings frame fields is = grind (arith, even_colour, nat_tests)

@@ -49,26 +49,12 @@ module _ (s : Sending) where
       by_coding true = ((fields_of s.frames.top frame).0, (fields_of s.frames.top frame).1 ∷ all_pictures frames, refl)
       by_coding false = (frame, all_pictures frames, refl)
 
-  next_place : (f i : ℕ) → suc f * pictures_per_frame s + i ≡ pictures_per_frame s + (f * pictures_per_frame s + i)
-  next_place f i = omega (arith, suc-mul f (pictures_per_frame s))
-
-  first_place : (i : ℕ) → 0 * pictures_per_frame s + i ≡ i
-  first_place i = omega arith
-
   -- picture i of frame f
   pub picture_at : (frames : List Planes) (f i : ℕ) (frame : Planes) → slice_get frames f ≡ Some frame → i < pictures_per_frame s → slice_get (all_pictures frames) (f * pictures_per_frame s + i) ≡ slice_get (pictures_of s frame) i
   picture_at [] f i frame at below = absurd (none-some frame at)
-  picture_at (own ∷ frames) zero i frame at below =
-      grind (arith, first_place, flat_map-cons, get_in_front, pictures_many)
+  picture_at (own ∷ frames) zero i frame at below = grind (arith, flat_map-cons, get_in_front, pictures_many)
   picture_at (own ∷ frames) (suc f) i frame at below =
-      grind (
-        arith,
-        flat_map-cons,
-        get_behind,
-        next_place,
-        pictures_many,
-        picture_at frames f i frame at below,
-      )
+      grind (arith, flat_map-cons, get_behind, pictures_many, picture_at frames f i frame at below, suc-mul)
 
   pub length-all_pictures : (frames : List Planes) → length (all_pictures frames) ≡ length frames * pictures_per_frame s
   length-all_pictures [] = omega arith
@@ -91,14 +77,10 @@ module _ (s : Sending) where
   abbrev per_frame : ℕ
   per_frame = pictures_per_frame s * count s
 
-  next_indices : (f : ℕ) (indices : List ℕ) → drop (suc f * per_frame) indices ≡ drop (f * per_frame) (drop per_frame indices)
-  next_indices f indices = grind (arith, drop-drop, suc-mul)
-
   pub no_slice_fault : (indices : List ℕ) (frames : List Planes) → AreFaultless indices frames → first_slice_fault s indices (all_pictures frames) ≡ None
   unfolding first_slice_fault
   no_slice_fault indices [] none = refl
   no_slice_fault indices (frame ∷ frames) none =
       let first = faultless s indices frame (ap (λ (n : ℕ). send_fault s (drop n indices) frame) (sym (zero-mul per_frame)) ∙ none 0 frame refl) in
-      let rest = no_slice_fault (drop per_frame indices) frames (λ f own at. ap (λ (l : List ℕ). send_fault s l own) (sym (next_indices f indices)) ∙ none (suc f) own at) in
-      ap (first_slice_fault s indices) (flat_map-cons (pictures_of s) frame frames)
-      ∙ both_sound s indices (pictures_of s frame) (all_pictures frames) first.1 (ap (λ (n : ℕ). first_slice_fault s (drop (n * count s) indices) (all_pictures frames)) (pictures_many frame) ∙ rest)
+      let rest = no_slice_fault (drop per_frame indices) frames (λ f own at. ap (λ (l : List ℕ). send_fault s l own) (sym (grind (arith, drop-drop, suc-mul))) ∙ none (suc f) own at) in
+      grind (arith, both_sound, flat_map-cons, pictures_many)

@@ -1,5 +1,5 @@
 -- Every fragment that is heard of a sender's stream is one of a picture that was sent.
-use Rattle.std.proofs.Common.{◌≡◌, ◌<◌, ◌≤◌, ℕ, ◌^◌, Bool, true, false, List, [], ◌∷◌, ◌++◌, length, take, Option, Some, None, Ok, refl, sym, ap, ◌∙◌, subst, arith, All, inl, inr, ◌⊎◌, slice_get, filter_map, append_assoc}
+use Rattle.std.proofs.Common.{◌≡◌, ◌<◌, ◌≤◌, ℕ, ◌^◌, Bool, true, false, List, [], ◌∷◌, ◌++◌, length, take, Option, Some, Ok, refl, sym, ap, ◌∙◌, subst, arith, All, inl, inr, ◌⊎◌, slice_get, filter_map, append_assoc}
 use Rattle.std.specs.List.{flat_map, cons_option}
 use Rattle.std.proofs.lemmas.Bool.{false≢true}
 use Rattle.std.proofs.lemmas.List.Elements.{All-cons, All-nil, All-contains}
@@ -29,8 +29,7 @@ all_found P h [] each = All-nil P
 all_found {A} {B} P h (x ∷ xs) each = by_first (h x) refl (all_found P h xs (λ z y is found. each z y (among_later x z xs is) found))
   where
     by_first : (o : Option B) → h x ≡ o → All P (filter_map h xs) → All P (cons_option o (filter_map h xs))
-    by_first None is rest = rest
-    by_first (Some y) is rest = All-cons P y (filter_map h xs) (each x y (among_first x xs) is) rest
+    by_first o is rest = grind (arith, All-cons, among_first)
 
 abbrev is_end_content : DatagramContent → Bool
 is_end_content HeaderContent = false

@@ -10,7 +10,7 @@ use Rattle.law_index_zero.proofs.Among.{among_all, among_from, All-front}
 use Rattle.law_index_zero.proofs.EnteredNumbers.{IsEntry, first_number, none_greatest, not_late, number_behind, other_part, own_part, unopened, IsSentFragment, all_added, number_by}
 use Rattle.link_model.specs.Numbers.{Numbered, enters, entered, greatest, has_parts, is_closed, is_late, opened_numbers, parts_of, picture_number}
 use Rattle.link_model.specs.Sending.{number_bits}
-use Rattle.link_model.specs.Session.{Part, Fragment, ParamsPart, SlicesPart}
+use Rattle.link_model.specs.Session.{Part, Fragment}
 use Rattle.link_model.proofs.Leaving.{one, opened-over, past}
 use Rattle.link_model.proofs.Ranges.{in_longer}
 use Rattle.link_model.proofs.Numbering.{early_enters, greatest_one, greatest-append, parts_of-append, late_changes_nothing, parts_of-other}
@@ -53,11 +53,7 @@ pub parts_in : (n : ℕ) (pictures : List (List Part)) (j : ℕ) (parts : List P
 parts_in n [] j parts at = absurd (none-some parts at)
 parts_in n (own ∷ pictures) zero parts at =
     let here : n + 0 ≡ n = omega arith in
-    ap (λ (k : ℕ). parts_of k (entries_from n (own ∷ pictures))) here
-    ∙ parts_of-append n (entries_of n own) (entries_from (n + 1) pictures)
-    ∙ (λ i. own_parts n own i ++ later_parts n (n + 1) pictures (omega arith) i)
-    ∙ append-nil own
-    ∙ same_Some own parts at
+    grind (arith, append-nil, later_parts, own_parts, parts_of-append, same_Some)
 parts_in n (own ∷ pictures) (suc j) parts at =
     grind (arith, parts_of-append, others_parts, parts_in (n + 1) pictures j parts at)
 
@@ -73,12 +69,10 @@ module _ (n : ℕ) (pictures : List (List Part)) (some : All HasParts pictures) 
   entries = entries_from n pictures
 
   unopened_outside : (k : ℕ) → (k < n) ⊎ (n + length pictures ≤ k) → one entries k ≡ []
-  unopened_outside k (inl below) = ap (λ (l : List Part). cond (has_parts l) (k ∷ []) []) (later_parts k n pictures below)
-  unopened_outside k (inr beyond) = ap (λ (l : List Part). cond (has_parts l) (k ∷ []) []) (parts_beyond k n pictures beyond)
+  unopened_outside k h1 = grind (arith, later_parts, parts_beyond)
 
   has_some : (parts : List Part) → HasParts parts → has_parts parts ≡ true
-  has_some [] are = absurd (omega (arith, are))
-  has_some (part ∷ parts) are = refl
+  has_some parts are = grind arith
 
   opened_at : (j : ℕ) → j < length pictures → one entries (n + j) ≡ (n + j) ∷ []
   opened_at j below =
@@ -145,19 +139,6 @@ module _ (s : Sending) where
     unfolding is_closed
     early j es few before = not_late window es (first + j) (lt-leb (first + j + window) (greatest es) (omega (arith, before.top, some))) (omega (arith, few))
 
-    enters_now : (j : ℕ) (es : List Numbered) (part : Part) → j < 2 ^ 31 → IsBefore j es → enters (2 ^ 32) window es (fragment_of j part) ≡ es ++ entry j part ∷ []
-    enters_now j es part few before = grind (arith, early, early_enters, number_now)
-
-    longer : (es : List Numbered) (e : Numbered) → 1 ≤ length (es ++ e ∷ [])
-    longer [] e = omega arith
-    longer (g ∷ es) e = omega arith
-
-    before_more : (j : ℕ) (es : List Numbered) (part : Part) → j < 2 ^ 31 → IsBefore j es → IsBefore j (es ++ entry j part ∷ [])
-    before_more j es part few before = grind (arith, common_steps, greatest-append, greatest_one, longer)
-
-    before_next : (j : ℕ) (es : List Numbered) → 1 ≤ length es → IsBefore j es → IsBefore (j + 1) es
-    before_next j es more before = record { all = before.all; top = omega (arith, before.top); starts = inl more }
-
     record HasEntered (j : ℕ) (es : List Numbered) (parts : List Part) : Type 0 where
       is : fold (enters (2 ^ 32) window) es (fragments_of j parts) ≡ es ++ entries_of (first + j) parts
       before : IsBefore j (es ++ entries_of (first + j) parts)
@@ -168,8 +149,10 @@ module _ (s : Sending) where
         grind (
           arith,
           append_assoc,
-          enters_now,
-          one_enters j (es ++ entry j part ∷ []) parts few (before_more j es part few before),
+          one_enters j (es ++ entry j part ∷ []) parts few (grind (arith, common_steps, greatest-append, greatest_one)),
+          early,
+          early_enters,
+          number_now,
         )
 
     with_some : (es : List Numbered) (n : ℕ) (parts : List Part) → HasParts parts → 1 ≤ length (es ++ entries_of n parts)
@@ -185,12 +168,8 @@ module _ (s : Sending) where
         let own = one_enters j es parts (omega (arith, few)) before in
         let now : List Numbered = es ++ entries_of (first + j) parts in
         let rest = all_enter (j + 1) now pictures (All-tail HasParts parts pictures are) (omega (arith, few))
-        (before_next j now (with_some es (first + j) parts (All-head HasParts parts pictures are)) own.before) in
-        fold-append (enters (2 ^ 32) window) es (fragments_of j parts) (fragments_from (j + 1) pictures)
-        ∙ ap (λ (l : List Numbered). fold (enters (2 ^ 32) window) l (fragments_from (j + 1) pictures)) own.is
-        ∙ rest
-        ∙ ap (λ (n : ℕ). now ++ entries_from n pictures) (sym (next j))
-        ∙ append_assoc es (entries_of (first + j) parts) (entries_from (first + j + 1) pictures)
+        (record { all = own.before.all; top = omega (arith, own.before.top); starts = inl (with_some es (first + j) parts (All-head HasParts parts pictures are)) }) in
+        grind (arith, append_assoc, fold-append, next)
 
     none_before : IsBefore 0 []
     none_before = record { all = All-nil IsOwn; top = omega (arith, none_greatest); starts = inr refl }
@@ -210,19 +189,6 @@ is_slices_of bits f = f.number == bits && has_slices f.part
 slices_more : (n : ℕ) (es : List Numbered) (e : Numbered) → slices_in n (es ++ e ∷ []) ≡ slices_in n es + slices_in n (e ∷ [])
 slices_more n es e = grind (arith, common_steps, filter_map-append, length-append, parts_of-append)
 
-one_part : (part : Part) → length (filter_map part_slices (part ∷ [])) ≡ cond (has_slices part) 1 0
-one_part (ParamsPart body) = refl
-one_part (SlicesPart slices) = refl
-
-slices_other : (n : ℕ) (e : Numbered) → (e.number ≡ n → ⊥) → slices_in n (e ∷ []) ≡ 0
-slices_other n e apart = ap (λ (l : List Part). length (filter_map part_slices l)) (parts_of-other n e apart)
-
-slices_own : (n : ℕ) (e : Numbered) → e.number ≡ n → slices_in n (e ∷ []) ≡ cond (has_slices e.part) 1 0
-slices_own n e same = ap (λ (l : List Part). length (filter_map part_slices l)) (own_part n e [] same ∙ ap (λ (l : List Part). e.part ∷ l) (unopened n)) ∙ one_part e.part
-
-count_own : (bits : ℕ) (f : Fragment) → f.number ≡ bits → ◌≡◌ {A = ℕ} (cond (is_slices_of bits f) 1 0) (cond (has_slices f.part) 1 0)
-count_own bits f same = ap (λ (b : Bool). (let n : ℕ = cond (b && has_slices f.part) 1 0 in n)) (eq-eqb f.number bits same)
-
 -- of datagrams
 pub datagrams_counted : {A : Type 0} (bits : ℕ) (h : A → Option Fragment) (xs : List A) → count_by (is_slices_of bits) (filter_map h xs) ≡ count_by (λ d. has_slices_of bits (h d)) xs
 datagrams_counted bits h [] = refl
@@ -237,7 +203,7 @@ module _ (s : Sending) (IsPart : ℕ → Part → Type 0) (window : ℕ) (some :
 
   one_entry : (es : List Numbered) (f : Fragment) (sent : IsSentFragment s IsPart f) → picture_number (2 ^ 32) es f.number ≡ first + sent.picture
       → slices_in (first + j) (record { number = picture_number (2 ^ 32) es f.number; part = f.part } ∷ []) ≤ cond (own f) 1 0
-  one_entry es f sent is = grind (arith, count_own, slices_other, slices_own)
+  one_entry es f sent is = grind (arith, parts_of-other, own_part, unopened, eq-eqb)
 
   one_counted : (es : List Numbered) (f : Fragment) → IsSentFragment s IsPart f → All (IsEntry s IsPart first) (enters (2 ^ 32) window es f) → slices_in (first + j) (enters (2 ^ 32) window es f) ≤ slices_in (first + j) es + cond (own f) 1 0
   one_counted es f sent all = elim (cases_Bool (is_late window es (picture_number (2 ^ 32) es f.number))) [
@@ -262,8 +228,5 @@ module _ (s : Sending) (IsPart : ℕ → Part → Type 0) (window : ℕ) (some :
       let total = sum_by-cons (λ (g : Fragment). cond (own g) 1 0) f fs in
       omega (arith, here, later, total)
 
-  none_in : slices_in (first + j) [] ≡ 0
-  none_in = ap (λ (l : List Part). length (filter_map part_slices l)) (unopened (first + j))
-
   pub entered_counted : (fs : List Fragment) → All (IsSentFragment s IsPart) fs → All (IsEntry s IsPart first) (entered (2 ^ 32) window fs) → slices_in (first + j) (entered (2 ^ 32) window fs) ≤ count_by own fs
-  entered_counted fs sent all = omega (arith, all_counted [] fs sent all, none_in)
+  entered_counted fs sent all = grind (arith, all_counted [] fs sent all, unopened)

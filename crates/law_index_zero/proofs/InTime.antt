@@ -6,7 +6,7 @@ use Rattle.law_index_zero.proofs.InOrder.{slices_in, is_slices_of, entered_count
 use Rattle.law_index_zero.proofs.EnteredNumbers.{IsSentFragment, IsEntry, base_is, entered_begins, part_entered}
 use Rattle.law_index_zero.proofs.OneSession.{HeardAt, heard_at, opens_once}
 use Rattle.link_model.specs.Kept.{part_slices}
-use Rattle.link_model.specs.Numbers.{Numbered, base_above, is_closed, entered, parts_of}
+use Rattle.link_model.specs.Numbers.{Numbered, is_closed, entered, parts_of}
 use Rattle.link_model.specs.Output.{greatest_of, is_closed_in}
 use Rattle.link_model.specs.Sending.{number_bits}
 use Rattle.link_model.specs.Session.{Session, Part, Fragment, HeardSession, with_datagram, sessions_of, fragment_in}
@@ -14,13 +14,9 @@ use Rattle.link_model.proofs.Closing.{open_before}
 use Rattle.link_model.proofs.Hearing.{with_fragment}
 use Rattle.vc_types.specs.SenderSettings.{Sending}
 
--- numbers begin at 2 ^ 32
-first_base : (window : ℕ) → base_above (greatest_of window []) ≡ 2 ^ 32
-unfolding greatest_of
-first_base window = base_is
-
 pub entered_is : (window : ℕ) (h : HeardSession) → entered_of window h ≡ entered (2 ^ 32) window h.fragments
-entered_is window h = ap (λ (base : ℕ). entered base window h.fragments) (first_base window)
+unfolding greatest_of
+entered_is window h = ap (λ (base : ℕ). entered base window h.fragments) (base_is)
 
 module _ (s : Sending) (IsPart : ℕ → Part → Type 0) (window : ℕ) (some : 1 ≤ window) (datagrams : List (List ℕ)) (h : HeardSession) (one : sessions_of datagrams ≡ h ∷ []) (sent : All (IsSentFragment s IsPart) h.fragments) (first : ℕ) (bits : first % 2 ^ 32 ≡ s.picture % 2 ^ 32) (low : first ≤ 2 ^ 33) (entries : All (IsEntry s IsPart first) (entered (2 ^ 32) window h.fragments)) where
   -- the part of a datagram after the parts of those before it

@@ -1,5 +1,5 @@
 -- At quantisation index 0 the coefficients of a slice that was encoded come back.
-use Rattle.std.proofs.Common.{◌≡◌, ◌<◌, ℕ, suc, ◌+◌, ◌-◌, ◌*◌, ℤ, pos, negsuc, unsigned_abs, Bool, true, false, List, [], ◌∷◌, ◌++◌, length, map, replicate, Ok, refl, sym, ap, ◌∙◌, arith, length-append, inl, inr, ◌==◌, slice_index_or}
+use Rattle.std.proofs.Common.{◌≡◌, ◌<◌, ℕ, suc, ◌+◌, ◌-◌, ◌*◌, ℤ, pos, unsigned_abs, Bool, true, false, List, [], ◌∷◌, ◌++◌, length, map, replicate, Ok, refl, sym, ap, ◌∙◌, arith, length-append, inl, inr, ◌==◌, slice_index_or}
 use Rattle.std.specs.List.{flat_map, list_any, enumerate_from, zip, sum_by}
 use Rattle.std.proofs.lemmas.Bool.{cases_Bool, eqb-true}
 use Rattle.std.proofs.lemmas.List.{length-replicate, replicate-append-replicate}
@@ -32,8 +32,7 @@ pub record EndsInZeros (zs : List ℤ) : Type 0 where
   pub is : zs ≡ without_last_zeros zs ++ replicate zeros (pos 0)
 
 is_zero : (z : ℤ) → unsigned_abs z ≡ 0 → z ≡ pos 0
-is_zero (pos n) none = ap pos none
-is_zero (negsuc n) none = absurd (omega (arith, none))
+is_zero z none = grind arith
 
 first_kept : (z : ℤ) (zs kept : List ℤ) (n : ℕ) → zs ≡ kept ++ replicate n (pos 0) → (m : ℕ) × (z ∷ zs ≡ kept_before kept z ++ replicate m (pos 0))
 first_kept z zs (k ∷ kept) n is = (n, ap (λ (l : List ℤ). z ∷ l) is)
@@ -56,10 +55,7 @@ numbers_back zs m =
     let ends = ends_in_zeros zs in
     let kept : List ℤ = without_last_zeros zs in
     let long : length zs ≡ length kept + ends.zeros = ap length ends.is ∙ length-append kept (replicate ends.zeros (pos 0)) ∙ ap (λ (n : ℕ). length kept + n) (length-replicate {A = ℤ} ends.zeros (pos 0)) in
-    ap (λ (n : ℕ). bounded_sints n (flat_map sint_bits kept ++ replicate m true)) long
-    ∙ bounded_sints-written kept ends.zeros (replicate m true)
-    ∙ ap (λ (l : List ℤ). kept ++ l) (bounded_sints-ones ends.zeros m)
-    ∙ sym ends.is
+    grind (arith, bounded_sints-ones, bounded_sints-written, long)
 
 -- ---- at index 0 every quantiser is 0
 
@@ -96,9 +92,7 @@ long (z ∷ zs) = ap suc (long zs)
 module _ (p : Parameters) (slice : ℕ) (some : 0 < p.scaler) where
   numbers-zero : (c : Component) (zs : List ℤ) → length zs ≡ slice_coefficient_count p c slice → quantised_numbers p c slice 0 zs ≡ map (λ z. quantised z 0) zs
   unfolding quantised_numbers
-  numbers-zero c zs count =
-      ap (λ (l : List ℕ). map (λ z. quantised z.0 z.1) (zip zs l)) (quantisers-zero p c slice ∙ ap (λ (n : ℕ). replicate n 0) (sym count))
-      ∙ by_zeros quantised zs
+  numbers-zero c zs count = cc (quantisers-zero p c slice, count, by_zeros quantised zs)
 
   block_back : (c : Component) (zs : List ℤ) → length zs ≡ slice_coefficient_count p c slice → block_coefficients p c slice 0 (block_bytes p.scaler (block_bits p c slice 0 zs)) ≡ zs
   unfolding block_coefficients block_bits
@@ -119,9 +113,6 @@ module _ (p : Parameters) (slice : ℕ) (some : 0 < p.scaler) where
 abbrev coefficients : List ℤ → List ℤ → List ℤ → Coefficients
 coefficients y c1 c2 = record { y = y; c1 = c1; c2 = c2 }
 
-none_large : (y c1 c2 : List ℤ) → list_any is_large y ≡ false → list_any is_large c1 ≡ false → list_any is_large c2 ≡ false → list_any is_large (y ++ c1 ++ c2) ≡ false
-none_large y c1 c2 a b c = list_any-append is_large (y ++ c1) c2 ∙ rw c (rw (list_any-append is_large y c1) (rw (a, b) refl))
-
 in_range-small : (s : Coefficients) → list_any is_large (s.y ++ s.c1 ++ s.c2) ≡ false → in_range s ≡ Ok s
 in_range-small s small = rw small refl
 
@@ -131,4 +122,4 @@ unfolding decoded_slice
 decoded_slice-coded p slice s some known fits are =
     let all : all_coefficients p slice (coded p slice 0 s some known fits) ≡ s =
     (λ i. coefficients (block_back p slice some Y s.y (are.lengths Y) i) (block_back p slice some C1 s.c1 (are.lengths C1) i) (block_back p slice some C2 s.c2 (are.lengths C2) i)) in
-    ap in_range all ∙ in_range-small s (none_large s.y s.c1 s.c2 (are.small Y) (are.small C1) (are.small C2))
+    ap in_range all ∙ in_range-small s (list_any-append is_large (s.y ++ s.c1) s.c2 ∙ rw (are.small C2) (rw (list_any-append is_large s.y s.c1) (rw ((are.small Y), (are.small C1)) refl)))

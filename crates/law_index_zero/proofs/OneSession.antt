@@ -21,11 +21,8 @@ pub record Stays (old new : HeardSession) (ds : List (List ℕ)) : Type 0 where
   pub session : new.session ≡ old.session
   pub fragments : new.fragments ≡ old.fragments ++ filter_map (fragment_in old.session) ds
 
-stays_itself : (old new : HeardSession) → old ∷ [] ≡ new ∷ [] → Stays old new []
-stays_itself old new is = grind (arith, common_steps, append-nil)
-
 pub stays : (old new : HeardSession) (ds : List (List ℕ)) → fold hears (old ∷ []) ds ≡ new ∷ [] → Stays old new ds
-stays old new [] is = stays_itself old new is
+stays old new [] is = grind (arith, common_steps, append-nil)
 stays old new (d ∷ ds) is = by_next (opens_next (old ∷ []) (begins d)) refl (stays (with_datagram old d) new ds)
   where
     by_next : (o : Option Session) → opens_next (old ∷ []) (begins d) ≡ o → (fold hears (with_datagram old d ∷ []) ds ≡ new ∷ [] → Stays (with_datagram old d) new ds) → Stays old new (d ∷ ds)
@@ -45,11 +42,8 @@ pub record Opens (h : HeardSession) (ds : List (List ℕ)) : Type 0 where
   pub opened : (front : List (List ℕ)) → 1 ≤ length (sessions_of (before ++ header ∷ front))
   pub fragments : h.fragments ≡ filter_map (fragment_in h.session) behind
 
-none_open : (h : HeardSession) → [] ≡ h ∷ [] → ⊥
-none_open h is = (let same = ap length is in absurd (omega (arith, same)))
-
 pub opens_once : (h : HeardSession) (ds : List (List ℕ)) → fold hears [] ds ≡ h ∷ [] → Opens h ds
-opens_once h [] is = absurd (none_open h is)
+opens_once h [] is = absurd ((let same = ap length is in absurd (omega (arith, same))))
 opens_once h (d ∷ ds) is = by_next (opens_next [] (begins d)) refl (opens_once h ds)
   where
     by_next : (o : Option Session) → opens_next [] (begins d) ≡ o → (fold hears [] ds ≡ h ∷ [] → Opens h ds) → Opens h (d ∷ ds)
@@ -121,7 +115,5 @@ heard_at h ds place d is at some =
       next = ap (λ (l : List (List ℕ)). sessions_of l) next ∙ fold-append hears [] (take place ds) (d ∷ []) ∙ ap (λ (hs : List HeardSession). hears hs d) stand ∙ hears_on (old ∷ []) d opens;
       session = sym all.session;
       more = filter_map (fragment_in old.session) rest;
-      fragments = all.fragments
-          ∙ ap (λ (l : List Fragment). old.fragments ++ l) (filter_map-append (fragment_in old.session) (d ∷ []) rest)
-          ∙ sym (append_assoc old.fragments (filter_map (fragment_in old.session) (d ∷ [])) (filter_map (fragment_in old.session) rest));
+      fragments = grind (arith, append_assoc, filter_map-append, old);
     }

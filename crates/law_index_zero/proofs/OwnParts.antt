@@ -1,5 +1,5 @@
 -- What a picture keeps where each part is one that was sent of it: the parameters and slices that were sent.
-use Rattle.std.proofs.Common.{◌≡◌, ◌≤◌, ℕ, ◌/◌, ◌%◌, true, List, [], ◌∷◌, ◌++◌, length, Some, Ok, refl, sym, ap, ◌∙◌, arith, append_assoc, All, ◌==◌, append-nil, div-lt_iff_lt-mul, mul_comm, mod-lt, div-add-mod', ◌<◌, suc, ◌+◌, Bool, cond, take, Option, None, subst, inl, inr, ◌⊎◌, slice_get, unwrap_or, is_some, filter_map, take_all}
+use Rattle.std.proofs.Common.{◌≡◌, ◌≤◌, ℕ, ◌/◌, ◌%◌, true, List, [], ◌∷◌, ◌++◌, length, Some, Ok, refl, sym, ap, ◌∙◌, arith, append_assoc, All, ◌==◌, append-nil, div-lt_iff_lt-mul, mul_comm, mod-lt, div-add-mod', ◌<◌, suc, ◌+◌, take, Option, None, subst, inl, inr, ◌⊎◌, slice_get, unwrap_or, is_some, filter_map, take_all}
 use Rattle.std.proofs.lemmas.List.Elements.{All-head, All-tail, All-cons, All-nil, filter_map-append}
 use Rattle.std.proofs.Math.Seq.{take-append_seam, drop-append_seam}
 use Rattle.link_model.specs.Kept.{SliceRun, next_slice, next_slices, slice_run, cut_off, first_slice, has_form, has_place, KeptParameters, kept_parameters, parameters_in, ReadParameters, SplitParts, split_by, also_before, split_parts, Own, own_of, own, own_slice, runs_of, run_taken, slice_in, first_copy, part_slices, waiting_limit}
@@ -10,9 +10,9 @@ use Rattle.vc_types.specs.Slices.{slice_length}
 use Rattle.vc_types.specs.Subbands.{slice_count}
 use Rattle.vc_types.specs.TransformParameters.{Parameters, coded_parameters}
 use Rattle.std.specs.List.{flat_map, range_with_len, list_all, cons_option}
-use Rattle.std.specs.Option.{option_map, option_map_or, option_or, option_and_then}
+use Rattle.std.specs.Option.{option_map, option_map_or, option_or}
 use Rattle.std.proofs.lemmas.Option.{none-some, slice_get_cases}
-use Rattle.link_model.specs.Complete.{slice_numbers, has_all_slices, all_bytes, whole_of, whole_picture}
+use Rattle.link_model.specs.Complete.{slice_numbers, has_all_slices, all_bytes, whole_picture}
 use Rattle.link_model.proofs.Keeping.{first_copy-append}
 use Rattle.link_model.proofs.Releasing.{all_from}
 use Rattle.law_index_zero.proofs.Among.{IsAmong, among_first, among_later, among_all}
@@ -117,14 +117,6 @@ module _ (sequence : Sequence) (p : Parameters) (bytes : List ℕ) (read : (more
       ap (λ (r : ReadParameters). kept_parameters bytes r) (ap (coded_parameters sequence) (sym (append-nil bytes)) ∙ read [])
       ∙ ap (λ (l : List ℕ). (let kept : KeptParameters = record { parameters = p; bytes = l } in Some kept)) (take_all (length bytes) bytes (omega arith))
 
-  slices_none : (slices : SlicePart) → parameters_in sequence (SlicesPart slices) ≡ None
-  unfolding parameters_in
-  slices_none slices = refl
-
-  split_here : (part : Part) (parts : List Part) → parameters_in sequence part ≡ Some plan → split_parts sequence (part ∷ parts) ≡ Some (split_by parts plan)
-  unfolding split_parts
-  split_here part parts is = ap (λ (o : Option KeptParameters). option_map_or (λ plan. Some (split_by parts plan)) o (option_map (also_before part) (split_parts sequence parts))) is
-
   split_later : (part : Part) (parts : List Part) → parameters_in sequence part ≡ None → split_parts sequence (part ∷ parts) ≡ option_map (also_before part) (split_parts sequence parts)
   unfolding split_parts
   split_later part parts is = ap (λ (o : Option KeptParameters). option_map_or (λ plan. Some (split_by parts plan)) o (option_map (also_before part) (split_parts sequence parts))) is
@@ -138,22 +130,24 @@ module _ (sequence : Sequence) (p : Parameters) (bytes : List ℕ) (read : (more
     pub few : length split.before ≤ length (filter_map part_slices front)
 
   at_first : (front : List Part) (part : Part) (parts : List Part) → part ≡ ParamsPart bytes → AreSplit front (part ∷ parts)
+  unfolding split_parts
   at_first front part parts same = record {
     split = split_by parts plan;
-    is = split_here part parts (ap (parameters_in sequence) same ∙ params_kept);
+    is = (ap (λ (o : Option KeptParameters). option_map_or (λ plan. Some (split_by parts plan)) o (option_map (also_before part) (split_parts sequence parts))) (ap (parameters_in sequence) same ∙ params_kept));
     plan_is = refl;
     all = sym (ap (λ (q : Part). filter_map part_slices (q ∷ parts)) same);
     few = omega arith;
   }
 
   is_split : (front rest : List Part) → All IsOwn (front ++ ParamsPart bytes ∷ rest) → AreSplit front (front ++ ParamsPart bytes ∷ rest)
+  unfolding parameters_in
   is_split [] rest all = at_first [] (ParamsPart bytes) rest refl
   is_split (ParamsPart body ∷ front) rest all = grind (arith, All-head, at_first)
   is_split (SlicesPart slices ∷ front) rest all =
       let more = is_split front rest (All-tail IsOwn (SlicesPart slices) (front ++ ParamsPart bytes ∷ rest) all) in
       record {
         split = also_before (SlicesPart slices) more.split;
-        is = split_later (SlicesPart slices) (front ++ ParamsPart bytes ∷ rest) (slices_none slices) ∙ ap (option_map (also_before (SlicesPart slices))) more.is;
+        is = split_later (SlicesPart slices) (front ++ ParamsPart bytes ∷ rest) (refl) ∙ ap (option_map (also_before (SlicesPart slices))) more.is;
         plan_is = more.plan_is;
         all = ap (λ (l : List SlicePart). slices ∷ l) more.all;
         few = omega (arith, more.few);
@@ -191,9 +185,6 @@ module _ (sequence : Sequence) (p : Parameters) (bytes : List ℕ) (read : (more
     -- ---- the whole picture
 
     module _ (room : ℕ) (slices : List (List ℕ)) (runs_are : runs ≡ runs_of_slices room slices) (count : length slices ≡ slice_count p) where
-      have_own : All (HasOwn slices) runs
-      have_own = subst (λ (l : List SliceRun). All (HasOwn slices) l) (sym runs_are) (runs_have_own room slices)
-
       module _ (front rest : List Part) (all : All IsOwn (front ++ ParamsPart bytes ∷ rest)) (few : length (filter_map part_slices front) ≤ waiting_limit) (each : (run : SliceRun) → IsAmong runs run → IsAmong (front ++ ParamsPart bytes ∷ rest) (SlicesPart (sent_part p run))) where
         abbrev parts : List Part
         parts = front ++ ParamsPart bytes ∷ rest
@@ -210,12 +201,6 @@ module _ (sequence : Sequence) (p : Parameters) (bytes : List ℕ) (read : (more
             ∙ ap (λ (k : KeptParameters). runs_of k.parameters (filter_map part_slices parts)) plan_is in
             (λ i. record { plan = plan_is i; runs = same i })
 
-        own_is : own sequence parts ≡ Some (record { plan = plan; runs = runs_in parts })
-        unfolding own
-        own_is =
-            let s = is_split front rest all in
-            ap (option_map own_of) s.is ∙ ap Some (keeps_all s.split s.plan_is s.all (omega (arith, s.few, few)))
-
         slice_there : (i : ℕ) (own : List ℕ) → slice_get slices i ≡ Some own → first_copy (runs_in parts) i ≡ Some own
         slice_there i own is =
             let has : first_copy runs i ≡ Some own = ap (λ (l : List SliceRun). first_copy l i) runs_are ∙ first_copy-runs_of_slices room slices i ∙ is in
@@ -223,7 +208,7 @@ module _ (sequence : Sequence) (p : Parameters) (bytes : List ℕ) (read : (more
             let among = run_among run.0 parts run.1 (each run.0 run.1) in
             let copy = copy_there among.0 run.0 among.1 i own run.2 in
             let found : first_copy (runs_in parts) i ≡ Some copy.0 = ap (λ (l : List SliceRun). first_copy l i) among.2 ∙ copy.1 in
-            found ∙ sym (copies_are_own slices (runs_in parts) i copy.0 (all_own slices have_own parts all) found) ∙ is
+            found ∙ sym (copies_are_own slices (runs_in parts) i copy.0 (all_own slices (subst (λ (l : List SliceRun). All (HasOwn slices) l) (sym runs_are) (runs_have_own room slices)) parts all) found) ∙ is
 
         there : (i : ℕ) → 0 ≤ i → i < slice_count p → is_some (first_copy (runs_in parts) i) ≡ true
         there i from below = elim ((slice_get_cases slices i).1) [
@@ -233,13 +218,11 @@ module _ (sequence : Sequence) (p : Parameters) (bytes : List ℕ) (read : (more
 
         -- the whole bytes are the parameters that were sent, and after them the slices
         pub whole_picture-own : whole_picture sequence parts ≡ Some (bytes ++ joined slices)
-        unfolding whole_picture has_all_slices all_bytes
+        unfolding whole_picture has_all_slices all_bytes own
         whole_picture-own =
             let own : Own = record { plan = plan; runs = runs_in parts } in
             let complete : list_all (λ i. is_some (own_slice own i)) (slice_numbers own) ≡ true = all_from (λ i. is_some (own_slice own i)) 0 (slice_count p) (λ k from below. there k from (omega (arith, below))) in
             let all_slices : flat_map (λ i. unwrap_or (own_slice own i) []) (slice_numbers own) ≡ joined slices =
             ap (λ n. flat_map (λ i. unwrap_or (own_slice own i) []) (range_with_len 0 n)) (sym count)
             ∙ all_joined (own_slice own) 0 slices (λ k got is. ap (own_slice own) (omega arith) ∙ slice_there k got is) in
-            ap (option_and_then whole_of) own_is
-            ∙ ap (λ (b : Bool). cond b (Some (all_bytes own)) None) complete
-            ∙ ap (λ (l : List ℕ). Some (bytes ++ l)) all_slices
+            grind (arith, (let s = is_split front rest all in ap (option_map own_of) s.is ∙ ap Some (keeps_all s.split s.plan_is s.all (omega (arith, s.few, few)))))

@@ -1,5 +1,5 @@
 -- Of the sender's own list one session is heard, the sender's, with the fragments of all pictures in their order.
-use Rattle.std.proofs.Common.{◌≡◌, ◌<◌, ℕ, zero, suc, ◌+◌, ◌-◌, ◌*◌, ◌^◌, false, List, [], ◌∷◌, ◌++◌, length, drop, map, Option, Some, None, refl, sym, ap, ◌∙◌, subst, arith, All, inl, inr, ◌⊎◌, filter_map, fold, slice_get, append-nil}
+use Rattle.std.proofs.Common.{◌≡◌, ◌<◌, ℕ, zero, suc, ◌+◌, ◌-◌, ◌*◌, ◌^◌, List, [], ◌∷◌, ◌++◌, length, drop, map, Option, Some, None, refl, sym, ap, ◌∙◌, subst, arith, All, inl, inr, ◌⊎◌, filter_map, fold, slice_get, append-nil}
 use Rattle.std.specs.List.{cons_option, enumerate_from, flat_map}
 use Rattle.std.proofs.lemmas.Bool.{and_right}
 use Rattle.std.proofs.lemmas.Grind.{common_steps}
@@ -10,11 +10,11 @@ use Rattle.law_index_zero.proofs.InOrder.{HasParts, fragment_of, fragments_of, f
 use Rattle.law_index_zero.proofs.OneSession.{stays}
 use Rattle.law_index_zero.proofs.OwnParts.{itself, sent_part}
 use Rattle.law_index_zero.proofs.SentFragments.{end_begins_none, end_unheard, header_begins, header_unheard, parameters_begin_none, parameters_heard, slices_begin_none, slices_heard}
-use Rattle.law_index_zero.proofs.SentStream.{IsOfPicture, IsSent, all_of_pictures, all_sent, contents, count, more_outgoing, none_outgoing, picture_contents, runs_at, runs_later}
+use Rattle.law_index_zero.proofs.SentStream.{IsOfPicture, IsSent, all_of_pictures, all_sent, count, more_outgoing, none_outgoing, picture_contents, runs_at, runs_later}
 use Rattle.link_model.specs.Kept.{SliceRun}
 use Rattle.link_model.specs.Sending.{DatagramContent, EndContent, FitsDatagram, HeaderContent, Outgoing, ParametersContent, SlicesContent, datagrams_from, end_datagram, frames_outgoing, last_datagram, outgoing, picture_runs, pictures_of, pictures_outgoing, pictures_per_frame, sent_datagram, sent_datagrams, sent_stream}
 use Rattle.link_model.specs.SendingPictures.{sent_parameter_bytes, sent_parameters}
-use Rattle.link_model.specs.Session.{Fragment, HeardSession, ParamsPart, Part, Session, SlicesPart, begins, fragment_in, hears, is_other, just_opened, sessions_of, with_datagram}
+use Rattle.link_model.specs.Session.{Fragment, HeardSession, ParamsPart, Part, Session, SlicesPart, begins, fragment_in, hears, just_opened, sessions_of, with_datagram}
 use Rattle.link_model.proofs.Hearing.{hears_new, hears_on}
 use Rattle.link_model.proofs.SentDatagrams.{are_settings}
 use Rattle.vc_types.specs.declared.settings.SendSettings.{SendSettings}
@@ -22,9 +22,6 @@ use Rattle.vc_types.specs.Planes.{Planes}
 use Rattle.vc_types.proofs.SameValues.{sequences_exactly}
 use Rattle.vc_types.specs.SenderSettings.{Sending, sending_view}
 use Rattle.vc_types.specs.TransformParameters.{Parameters}
-
-no_other : (t : Session) → is_other t t ≡ false
-no_other t = rw (itself t.ssrc, (sequences_exactly t.sequence t.sequence).1 refl) refl
 
 -- ---- the parts that are sent of pictures
 
@@ -69,9 +66,6 @@ module _ (s : Sending) where
   told_runs j [] = refl
   told_runs j (run ∷ runs) = ap (λ (l : List Fragment). fragment_of s j (run_part run) ∷ l) (told_runs j runs)
 
-  told_contents : (j : ℕ) (runs : List SliceRun) → filter_map told (map (outgoing j) (contents s runs)) ≡ fragments_of s j (parts_sent runs)
-  told_contents j runs = ap (λ (l : List Fragment). fragment_of s j (ParamsPart (sent_parameter_bytes s)) ∷ l) (told_runs j runs)
-
   pub told_pictures : (j : ℕ) (indices : List ℕ) (pictures : List Planes) → filter_map told (pictures_outgoing s j indices pictures) ≡ fragments_from s j (parts_from indices pictures)
   told_pictures j indices [] = ap (filter_map told) (none_outgoing s j indices)
   told_pictures j indices (planes ∷ pictures) =
@@ -80,8 +74,8 @@ module _ (s : Sending) where
         more_outgoing,
         picture_contents,
         filter_map-append,
-        told_contents,
         told_pictures (j + 1) (drop (count s) indices) pictures,
+        told_runs,
       )
 
 -- ---- the session
@@ -108,7 +102,7 @@ module _ (settings : SendSettings) (small : settings.ssrc < 2 ^ 32) (indices : L
 
   -- a session goes on
   hears_own : (h : HeardSession) (d : List ℕ) → h.session ≡ own → BeginsOwn d → hears (h ∷ []) d ≡ with_datagram h d ∷ []
-  hears_own h d same o = grind (arith, and_right, hears_on, no_other)
+  hears_own h d same o = grind (arith, and_right, hears_on, itself, sequences_exactly)
 
   goes_on : (h : HeardSession) (ds : List (List ℕ)) → h.session ≡ own → All BeginsOwn ds → (new : HeardSession) × (fold hears (h ∷ []) ds ≡ new ∷ [])
   goes_on h [] same all = (h, refl)
@@ -171,10 +165,7 @@ module _ (settings : SendSettings) (small : settings.ssrc < 2 ^ 32) (indices : L
           record {
             one = ap sessions_of is ∙ ap (λ (hs : List HeardSession). fold hears hs rest) opened ∙ on.1;
             session = kept.session;
-            fragments = kept.fragments
-                ∙ sym (ap (λ (o : Option Fragment). cons_option o (filter_map (fragment_in own) rest)) header_told)
-                ∙ sym (ap (filter_map (fragment_in own)) is)
-                ∙ stream_told;
+            fragments = grind (arith, stream_told);
           },
         )
 

@@ -4,18 +4,16 @@ use Rattle.std.proofs.lemmas.Bool.{and_parts, leb-true}
 use Rattle.std.proofs.lemmas.Grind.{common_steps}
 use Rattle.std.proofs.lemmas.List.FromFn.{get_or-enumerate_from, length-enumerate_from}
 use Rattle.std.proofs.lemmas.Option.{get_or_from_slice_get}
-use Rattle.field_pairs.specs.Sizes.{IsWhole}
 use Rattle.law_index_zero.specs.FramesToSend.{IsPictureToSend}
 use Rattle.law_index_zero.proofs.FittingRuns.{scaler_is_some, all_slices}
 use Rattle.link_sender.proofs.SentFrames.{unmapped}
 use Rattle.law_index_zero.proofs.SentStream.{neither, all_inside, none_too_large, not_too_long, length-sent_slices}
 use Rattle.law_index_zero.proofs.SentPictures.{IsSendable, decoded_planes-sent, sent_slices-zero, slices_at_zero}
-use Rattle.link_model.specs.SendingFaults.{plane_fault, sample_fault, first_outside, first_sample_fault, is_too_large}
+use Rattle.link_model.specs.SendingFaults.{first_outside, first_sample_fault, is_too_large}
 use Rattle.link_model.specs.SendingPictures.{sent_sequence, sent_parameters, sent_parameter_bytes, sent_coefficients, sent_slices, slices_with_indices, plane_in}
 use Rattle.link_model.proofs.SentHeads.{coded_parameters-sent, plan}
 use Rattle.vc_types.specs.declared.settings.SendSettings.{SendSettings}
 use Rattle.vc_types.specs.declared.video.Component.{Component}
-use Rattle.vc_types.specs.declared.video.Component.TheVariants.{Y, C1, C2}
 use Rattle.vc_types.specs.Encoding.{is_too_long}
 use Rattle.vc_types.specs.Fields.{joined}
 use Rattle.vc_types.specs.Planes.{Planes, decoded_planes}
@@ -60,24 +58,13 @@ module _ (settings : SendSettings) (planes : Planes) (indices : List ℕ) (is : 
   unfolding sent_parameters sent_sequence picture_shape
   bits c = grind (arith, colour_bits, luma_bits, range_between)
 
-  plane_sound : (plane : ℕ) (c : Component) → plane_fault (depth c) plane (plane_in planes c) ≡ None → first_outside (2 ^ depth c) 0 (plane_in planes c).samples ≡ None
-  plane_sound plane c none = unmapped (sample_fault plane) (first_outside (2 ^ depth c) 0 (plane_in planes c).samples) none
-
-  no_sample : (plane_fault (depth Y) 0 planes.y ≡ None) × (plane_fault (depth C1) 1 planes.c1 ≡ None) × (plane_fault (depth C2) 2 planes.c2 ≡ None)
-  unfolding first_sample_fault
-  no_sample = grind (arith, neither)
-
   sound : (c : Component) → first_outside (2 ^ depth c) 0 (plane_in planes c).samples ≡ None
-  sound c = grind (arith, no_sample, plane_sound)
+  unfolding first_sample_fault
+  sound c = grind (arith, unmapped, neither)
 
   inside : (c : Component) (x y : ℕ) → sample_at (plane_in planes c) x y < 2 ^ depth c
   unfolding sample_at
   inside c x y = all_inside (2 ^ depth c) 0 (plane_in planes c).samples (pow_pos (depth c)) (sound c) (y * (plane_in planes c).width + x)
-
-  whole : (c : Component) → IsWhole (plane_in planes c)
-  whole Y = is.whole.y
-  whole C1 = is.whole.c1
-  whole C2 = is.whole.c2
 
   many : length (slices_with_indices p indices) ≡ slice_count p
   many = length-enumerate_from 0 (take (slice_count p) indices) ∙ sym (length-sent_slices s planes indices) ∙ all_slices settings planes indices is.slices zeros
@@ -92,10 +79,6 @@ module _ (settings : SendSettings) (planes : Planes) (indices : List ℕ) (is : 
       let here : is_too_large s planes (0 + n) (get_or (take (slice_count p) indices) n 0) ≡ false = subst (λ (z : ℕ × ℕ). is_too_large s planes z.0 z.1 ≡ false) at small in
       not_too_long s planes n 0 (sym (λ i. is_too_large s planes (number i) (none_above i)) ∙ here)
 
-  across : 0 < (sent_parameters (sending_view settings)).slices_x
-  unfolding sent_parameters
-  across = some_across settings.slices_x settings.slices_y settings.slices
-
   down : 0 < (sent_parameters (sending_view settings)).slices_y
   unfolding sent_parameters
   down = some_down settings.slices_x settings.slices_y settings.slices
@@ -108,7 +91,8 @@ module _ (settings : SendSettings) (planes : Planes) (indices : List ℕ) (is : 
   symmetric = grind arith
 
   is_sendable : IsSendable p planes
-  is_sendable = grind (arith, across, bits, down, few_levels, fits, inside, scaler_is_some, symmetric, whole)
+  unfolding sent_parameters
+  is_sendable = grind (arith, bits, down, few_levels, fits, inside, scaler_is_some, symmetric, some_across)
 
   -- its whole bytes decode to its planes
   pub picture_back : decoded_planes (sent_sequence s) (sent_parameter_bytes s ++ joined (sent_slices p planes indices)) ≡ Some planes

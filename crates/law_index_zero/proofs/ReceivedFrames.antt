@@ -3,7 +3,7 @@ use Rattle.std.proofs.Common.{◌≡◌, ◌<◌, ◌≤◌, ℕ, ◌+◌, ◌*�
 use Rattle.std.proofs.lemmas.Bool.{cases_Bool, eqb-true}
 use Rattle.std.proofs.lemmas.List.Concat.{flat_map-append, flat_map-cons}
 use Rattle.law_index_zero.specs.FramesToSend.{AreFramesToSend}
-use Rattle.law_index_zero.specs.HeardStreams.{IsHeardOf, IsNumberOf, entered_of}
+use Rattle.law_index_zero.specs.HeardStreams.{IsHeardOf, entered_of}
 use Rattle.law_index_zero.specs.IndexZero.{IsFrameHeard, IsWritten, last_picture, raw_frame}
 use Rattle.law_index_zero.proofs.Among.{IsAmong, among_first, among_later}
 use Rattle.law_index_zero.proofs.FramePictures.{all_pictures, first_picture_at, picture_at, some_pictures}
@@ -61,16 +61,12 @@ module _ (settings : SendSettings) (small : settings.ssrc < 2 ^ 32) (window : �
   abbrev first : ℕ
   first = (entries_are settings small indices frames can.sound can.few window some datagrams h heard).first
 
-  first_below : 0 < pictures_per_frame s
-  first_below = some_pictures s
-
   -- the number of its first picture
   first_number : number ≡ first + place 0
   first_number =
       let same : f * pictures_per_frame s ≡ place 0 = omega arith in
       let picture = first_picture_at s frame in
-      number_is settings small indices frames can.sound can.few (place 0) picture.0 (there 0 picture.0 first_below picture.1) (time.zero 0 first_below) window some datagrams h heard number
-      (subst (λ (k : ℕ). IsNumberOf s es k number) same time.first)
+      grind (arith, (some_pictures s), number_is, there)
 
   wholes : AreWholePictures s indices f number frame es
   wholes = grind (arith, first_number, there, whole_received)

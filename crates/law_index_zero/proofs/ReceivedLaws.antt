@@ -1,16 +1,13 @@
 -- The laws as they are told.
-use Rattle.std.proofs.Common.{◌≡◌, ℕ, ◌*◌, List, drop, arith}
+use Rattle.std.proofs.Common.{arith}
 use Rattle.law_index_zero.specs.IndexZero.{IndexZeroIsLossless, PicturesAreReceived, PicturesComeBack, SentStreamsComeBack}
 use Rattle.law_index_zero.proofs.PicturesBack.{picture_back}
 use Rattle.law_index_zero.proofs.ReceivedFrames.{frame_is_written}
 use Rattle.law_index_zero.proofs.ReceivedPictures.{number_is, whole_received}
 use Rattle.law_index_zero.proofs.StreamsBack.{stream_back}
 
-from_first : (indices : List ℕ) (n : ℕ) → drop (0 * n) indices ≡ indices
-from_first indices n = grind arith
-
 pub pictures_come_back : PicturesComeBack
-pictures_come_back settings indices planes is zeros = grind (arith, from_first, picture_back)
+pictures_come_back settings indices planes is zeros = grind (arith, picture_back)
 
 pub pictures_are_received : PicturesAreReceived
 pictures_are_received settings window indices frames datagrams h picture number planes small some can heard at zeros own time =

@@ -95,9 +95,6 @@ module _ (settings : SendSettings) (small : settings.ssrc < 2 ^ 32) (indices : L
         (among_pictures s 0 indices pictures j planes at c is) in
         (length among.0, among_at (outgoing j c) (frames_outgoing s indices frames) among)
 
-    parameters_place : (k : ℕ) × (slice_get (frames_outgoing s indices frames) k ≡ Some (outgoing j ParametersContent))
-    parameters_place = sent_place ParametersContent (among_later HeaderContent ParametersContent (ParametersContent ∷ map SlicesContent runs) (among_first ParametersContent (map SlicesContent runs)))
-
     slices_place : (run : SliceRun) → IsAmong runs run → (k : ℕ) × (slice_get (frames_outgoing s indices frames) k ≡ Some (outgoing j (SlicesContent run)))
     slices_place run is = sent_place (SlicesContent run) (among_later HeaderContent (SlicesContent run) (ParametersContent ∷ map SlicesContent runs) (among_later ParametersContent (SlicesContent run) (map SlicesContent runs) (among_map SlicesContent run runs is)))
 
@@ -108,9 +105,6 @@ module _ (settings : SendSettings) (small : settings.ssrc < 2 ^ 32) (indices : L
       abbrev pub are : AreEntries s IsPart (entered (2 ^ 32) window h.fragments)
       are = entries_are window some datagrams h heard
 
-      same_session : h.session ≡ own_session settings small indices pictures few_pictures fits
-      same_session = session_is settings small indices pictures few_pictures fits frames refl datagrams h heard
-
       abbrev parts : List Part
       parts = parts_of (are.first + j) (entered (2 ^ 32) window h.fragments)
 
@@ -119,7 +113,7 @@ module _ (settings : SendSettings) (small : settings.ssrc < 2 ^ 32) (indices : L
 
       heard_as : (k : ℕ) (c : DatagramContent) (part : Part) → fragment_in (own_session settings small indices pictures few_pictures fits) (sent_datagram s (s.seq + k) (outgoing j c)) ≡ Some (record { number = number_bits s j; part = part })
           → fragment_in h.session (sent_datagram s (s.seq + k) (outgoing j c)) ≡ Some (record { number = number_bits s j; part = part })
-      heard_as k c part is = ap (λ (t : Session). fragment_in t (sent_datagram s (s.seq + k) (outgoing j c))) same_session ∙ is
+      heard_as k c part is = ap (λ (t : Session). fragment_in t (sent_datagram s (s.seq + k) (outgoing j c))) (session_is settings small indices pictures few_pictures fits frames refl datagrams h heard) ∙ is
 
       own_parts : All (IsOwnPart p bytes runs) parts
       own_parts = All-weaker (IsPart j) (IsOwnPart p bytes runs)
@@ -129,7 +123,7 @@ module _ (settings : SendSettings) (small : settings.ssrc < 2 ^ 32) (indices : L
       module _ (time : IsHeardInTime window s indices frames datagrams h.session j (are.first + j)) where
         parameters_there : (front : List Part) × (rest : List Part) × (parts ≡ front ++ ParamsPart bytes ∷ rest) × (length (filter_map part_slices front) ≤ waiting_limit)
         parameters_there =
-            let k = parameters_place in
+            let k = (sent_place ParametersContent (among_later HeaderContent ParametersContent (ParametersContent ∷ map SlicesContent runs) (among_first ParametersContent (map SlicesContent runs)))) in
             let t = time.parameters k.0 k.1 in
             let part : Part = ParamsPart bytes in
             let is = heard_as k.0 ParametersContent part (parameters_heard settings (are_settings settings small) (s.seq + k.0) j (omega (arith, short_parameters_of settings))) in

@@ -1,5 +1,5 @@
 -- A picture that was sent at index 0 decodes to its planes.
-use Rattle.std.proofs.Common.{◌≡◌, ◌<◌, ◌≤◌, ℕ, ◌-◌, ◌*◌, ◌^◌, ℤ, pos, ◌+ℤ◌, ◌-ℤ◌, unsigned_abs, List, [], length, map, get_or, ap, ◌∙◌, arith, IsTrue, pow-add, zero, suc, ◌+◌, Bool, false, ◌∷◌, ◌++◌, drop, Some, Result, Ok, refl, append_assoc, slice_get, take, pow_mono}
+use Rattle.std.proofs.Common.{◌≡◌, ◌<◌, ◌≤◌, ℕ, ◌-◌, ◌^◌, ℤ, pos, ◌-ℤ◌, unsigned_abs, List, [], length, map, get_or, ap, ◌∙◌, arith, IsTrue, pow-add, zero, suc, ◌+◌, false, ◌∷◌, ◌++◌, Some, Ok, refl, append_assoc, slice_get, take, pow_mono}
 use Rattle.std.specs.List.{range_with_len, enumerate_from, list_any}
 use Rattle.std.proofs.lemmas.Int.{ints}
 use Rattle.std.proofs.lemmas.List.FromFn.{length-map-range_with_len, get_or-map-range_with_len}
@@ -7,8 +7,8 @@ use Rattle.field_pairs.specs.Sizes.{IsWhole}
 use Rattle.link_model.specs.SendingPictures.{HasSides, plane_in, sent_cells, number_in, numbers_in_slice, sent_coefficients, sent_slice, sent_slices}
 use Rattle.field_pairs.proofs.RowsOfRasters.{raster_of_plane}
 use Rattle.vc_types.specs.declared.video.Component.{Component}
-use Rattle.vc_types.specs.Pictures.{component_cells, slices_from, decoded_picture, with_parameters, with_slices}
-use Rattle.vc_types.specs.Planes.{Planes, component_plane, clipped, output_sample, planes_of, decoded_planes}
+use Rattle.vc_types.specs.Pictures.{component_cells, slices_from, decoded_picture}
+use Rattle.vc_types.specs.Planes.{Planes, component_plane, output_sample, planes_of, decoded_planes}
 use Rattle.vc_types.specs.Rasters.{sample_at}
 use Rattle.vc_types.specs.Slices.{Coefficients, coefficients_of, is_large}
 use Rattle.vc_types.specs.Subbands.{slice_count, slice_coefficient_count, coefficient_place, plane_width, plane_height, plane_depth, padded_width, padded_height, levels}
@@ -21,11 +21,10 @@ use Rattle.vc_wave.proofs.TransformLaws.{inverse_transform-forward_transform, pa
 use Rattle.vc_wave.proofs.TransformLocality.{inverse_transform_agrees}
 use Rattle.std.proofs.lemmas.Option.{none-some, same_Some}
 use Rattle.std.proofs.Math.Seq.{drop-append_seam}
-use Rattle.vc_types.specs.declared.refusal.ParamsRefusal.{ParamsRefusal}
 use Rattle.vc_types.specs.declared.video.Component.TheVariants.{Y, C1, C2}
 use Rattle.vc_types.specs.Encoding.{is_too_long}
 use Rattle.vc_types.specs.Fields.{joined}
-use Rattle.vc_types.specs.SequenceHeader.{Sequence, with_bytes_used}
+use Rattle.vc_types.specs.SequenceHeader.{Sequence}
 use Rattle.law_index_zero.proofs.CodedSlices.{coded_slice-encoded}
 use Rattle.vc_types.proofs.FieldCodecs.{ok_is}
 use Rattle.law_index_zero.proofs.LosslessSlices.{AreCoefficients, decoded_slice-coded}
@@ -36,12 +35,9 @@ use Rattle.vc_wave.proofs.PlaneGrowth.{forward_below}
 
 -- ---- a sample comes back
 
-not_clipped : (half s : ℕ) → s < 2 * half → unsigned_abs (clipped half (pos s -ℤ pos half) +ℤ pos half) ≡ s
-not_clipped half s small = grind (arith, ints)
-
 sample_back : (depth s : ℕ) → 1 ≤ depth → s < 2 ^ depth → output_sample depth (pos s -ℤ pos (2 ^ (depth - 1))) ≡ s
 unfolding output_sample
-sample_back depth s some small = grind (arith, not_clipped, pow-add)
+sample_back depth s some small = grind (arith, pow-add, ints)
 
 -- ---- coefficients
 
@@ -91,13 +87,10 @@ module _ (p : Parameters) (planes : Planes) (across : 0 < p.slices_x) (down : 0 
         ∙ ap (λ (cells : Cells). cells x y) (inverse_transform-forward_transform p c (sample_at (plane_in planes c)) symmetric)
         ∙ padded_own p c (sample_at (plane_in planes c)) x y a b
 
-    sample_is : (x y : ℕ) → x < plane_width p.shape c → y < plane_height p.shape c → output_sample (plane_depth p.shape c) (inverse_transform p c (component_cells p c all) x y) ≡ sample_at (plane_in planes c) x y
-    sample_is x y a b = ap (output_sample (plane_depth p.shape c)) (cell_is x y a b) ∙ sample_back (plane_depth p.shape c) (sample_at (plane_in planes c) x y) depth (small x y)
-
     -- a component's plane comes back
     pub plane_back : component_plane p c all ≡ plane_in planes c
     unfolding component_plane
-    plane_back = grind (arith, raster_of_plane, sample_is)
+    plane_back = grind (arith, raster_of_plane, cell_is, sample_back)
 
 -- ---- its slices
 
@@ -122,9 +115,6 @@ module _ (p : Parameters) (planes : Planes) (some : 0 < p.scaler) (fits : (n : �
 
 -- ---- a whole picture
 
-with_params : (bytes : List ℕ) (n : ℕ) (p : Parameters) (read : Result (Parameters × List Bool) ParamsRefusal) → with_bytes_used bytes read ≡ Ok (p, n) → with_parameters bytes read ≡ with_slices p (slices_from p 0 (slice_count p) (drop n bytes))
-with_params bytes n p read is = grind (arith, ok_is)
-
 -- what a plane of a picture has to be
 pub record IsSound (p : Parameters) (planes : Planes) (c : Component) : Type 0 where
   pub size : HasSides (plane_width p.shape c) (plane_height p.shape c) (plane_in planes c)
@@ -135,13 +125,10 @@ pub record IsSound (p : Parameters) (planes : Planes) (c : Component) : Type 0 w
 
 -- ---- coefficients are small
 
-less_half : (s half : ℕ) → s < 2 ^ 16 → half ≤ 2 ^ 15 → unsigned_abs (pos s -ℤ pos half) < 2 ^ 16
-less_half s half a b = omega (arith, ints, a, b)
-
 module _ (p : Parameters) (planes : Planes) (c : Component) (sound_plane : IsSound p planes c) (levels : p.depth ≤ 5) where
   plane_below : AreBelow (2 ^ 16) (padded_plane p c (sample_at (plane_in planes c)))
   unfolding padded_plane
-  plane_below x y = grind (arith, less_half, pow_mono)
+  plane_below x y = grind (arith, pow_mono, ints)
 
   pub cells_below : (x y : ℕ) → unsigned_abs (sent_cells p planes c x y) < 2 ^ 60
   unfolding sent_cells forward_transform
@@ -167,13 +154,6 @@ module _ (p : Parameters) (planes : Planes) (is : IsSendable p planes) where
   unfolding numbers_in_slice
   small_in c n = none_large (λ i. number_in (sent_cells p planes c) (coefficient_place p c n i)) (λ i. cells_below p planes c (is.each c) is.levels (coefficient_place p c n i).0 (coefficient_place p c n i).1) (range_with_len 0 (slice_coefficient_count p c n))
 
-  small_of : (n : ℕ) (c : Component) → list_any is_large (coefficients_of (sent_coefficients p planes n) c) ≡ false
-  unfolding sent_coefficients
-  small_of n c = grind (arith, small_in)
-
-  pub are_coefficients : (n : ℕ) → AreCoefficients p n (sent_coefficients p planes n)
-  are_coefficients n = record { lengths = λ c. length-own p planes is.across is.down c n; small = small_of n }
-
   -- the slices of a picture at index 0
   abbrev pub slices_at_zero : List (List ℕ)
   slices_at_zero = map (at_zero p planes) (range_with_len 0 (slice_count p))
@@ -187,9 +167,9 @@ module _ (p : Parameters) (planes : Planes) (is : IsSendable p planes) where
 
   -- parameters that are read as these, and after them the slices, decode to the planes
   pub decoded_planes-sent : (sequence : Sequence) (bytes behind : List ℕ) → ((more : List ℕ) → coded_parameters sequence (bytes ++ more) ≡ Ok (p, length bytes)) → decoded_planes sequence (bytes ++ (joined slices_at_zero ++ behind)) ≡ Some planes
-  unfolding decoded_planes decoded_picture
+  unfolding decoded_planes decoded_picture sent_coefficients
   decoded_planes-sent sequence bytes behind read =
-      grind (arith, are_coefficients, drop-append_seam, planes_back, slices_back, with_params)
+      grind (arith, drop-append_seam, planes_back, slices_back, ok_is, length-own, small_in)
 
 -- at indices that are all 0 the slices are these
 zeros_at : (p : Parameters) (planes : Planes) (i n : ℕ) (indices : List ℕ) → ((k : ℕ) → k < n → slice_get indices k ≡ Some 0)

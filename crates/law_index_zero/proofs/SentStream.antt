@@ -1,5 +1,5 @@
 -- What is in a sender's stream: the datagrams of its pictures, one picture after another, and the end.
-use Rattle.std.proofs.Common.{◌≡◌, ℕ, zero, suc, ◌+◌, ◌-◌, ◌*◌, List, [], ◌∷◌, ◌++◌, map, drop, length, Some, refl, sym, ap, ◌∙◌, subst, arith, All, inl, inr, ◌⊎◌, slice_get, drop-drop, suc-mul, add-zero, zero-mul, ◌<◌, ◌≤◌, true, false, take, get_or, Option, None, nat_lt}
+use Rattle.std.proofs.Common.{◌≡◌, ℕ, zero, suc, ◌+◌, ◌-◌, ◌*◌, List, [], ◌∷◌, ◌++◌, map, drop, length, Some, refl, sym, ap, ◌∙◌, subst, arith, All, inl, inr, ◌⊎◌, slice_get, drop-drop, suc-mul, add-zero, zero-mul, ◌<◌, ◌≤◌, false, take, get_or, Option, None, nat_lt}
 use Rattle.std.specs.List.{enumerate_from, flat_map}
 use Rattle.std.proofs.lemmas.List.Elements.{All-append, All-cons, All-nil, All-head, All-tail, All-map, All-weaker}
 use Rattle.std.proofs.lemmas.Option.{none-some, same_Some}
@@ -14,7 +14,7 @@ use Rattle.std.specs.Option.{option_or}
 use Rattle.std.proofs.lemmas.Bool.{or_parts, ltb-false, cond-true, cond-false}
 use Rattle.std.proofs.lemmas.List.{length-map}
 use Rattle.std.proofs.lemmas.List.FromFn.{length-enumerate_from}
-use Rattle.link_model.specs.SendingFaults.{first_outside, is_too_large, first_of_slices, slice_fault, first_slice_fault, send_fault, first_sample_fault}
+use Rattle.link_model.specs.SendingFaults.{first_outside, is_too_large, first_of_slices, first_slice_fault, send_fault, first_sample_fault}
 use Rattle.link_model.proofs.PackedBits.{length-packed_bits}
 use Rattle.vc_slice.proofs.EncodedSlices.{length_slice}
 use Rattle.vc_types.specs.Encoding.{encoded_length, is_too_long}
@@ -161,26 +161,20 @@ module _ (s : Sending) where
 -- ---- neither of two
 
 pub neither : {A : Type 0} (a b : Option A) → option_or a b ≡ None → (a ≡ None) × (b ≡ None)
-neither None b none = (refl, none)
-neither (Some x) b none = absurd (none-some x (sym none))
+neither a b none = grind (arith, none-some)
 
 -- ---- samples
 
 outside_found : (limit place sample : ℕ) (samples : List ℕ) → nat_lt sample limit ≡ false → first_outside limit place (sample ∷ samples) ≡ None → ⊥
 unfolding first_outside
-outside_found limit place sample samples outside none =
-    none-some (place, sample) (sym none ∙ cond-false (nat_lt sample limit)
-    (first_outside limit (place + 1) samples) (Some (place, sample)) outside)
-
-outside_later : (limit place sample : ℕ) (samples : List ℕ) → nat_lt sample limit ≡ true → first_outside limit place (sample ∷ samples) ≡ None → first_outside limit (place + 1) samples ≡ None
-unfolding first_outside
-outside_later limit place sample samples inside none = sym (cond-true (nat_lt sample limit) (first_outside limit (place + 1) samples) (Some (place, sample)) inside) ∙ none
+outside_found limit place sample samples outside none = grind (arith, cond-false, none-some)
 
 pub all_inside : (limit place : ℕ) (samples : List ℕ) → 0 < limit → first_outside limit place samples ≡ None → (k : ℕ) → get_or samples k 0 < limit
+unfolding first_outside
 all_inside limit place [] some none k = some
 all_inside limit place (sample ∷ samples) some none zero = grind (arith, outside_found)
 all_inside limit place (sample ∷ samples) some none (suc k) =
-    grind (arith, outside_later, outside_found, all_inside limit (place + 1) samples some)
+    grind (arith, outside_found, all_inside limit (place + 1) samples some, cond-true)
 
 -- ---- slices
 
@@ -188,19 +182,10 @@ module _ (s : Sending) (planes : Planes) where
   abbrev pub IsSmall : ℕ × ℕ → Type 0
   IsSmall z = is_too_large s planes z.0 z.1 ≡ false
 
-  large_found : (z : ℕ × ℕ) (zs : List (ℕ × ℕ)) → is_too_large s planes z.0 z.1 ≡ true → first_of_slices s planes (z ∷ zs) ≡ None → ⊥
-  unfolding first_of_slices
-  large_found z zs large none =
-      none-some (slice_fault s planes z.0 z.1) (sym none ∙ cond-true (is_too_large s planes z.0 z.1)
-      (Some (slice_fault s planes z.0 z.1)) (first_of_slices s planes zs) large)
-
-  none_later : (z : ℕ × ℕ) (zs : List (ℕ × ℕ)) → is_too_large s planes z.0 z.1 ≡ false → first_of_slices s planes (z ∷ zs) ≡ None → first_of_slices s planes zs ≡ None
-  unfolding first_of_slices
-  none_later z zs fits none = sym (cond-false (is_too_large s planes z.0 z.1) (Some (slice_fault s planes z.0 z.1)) (first_of_slices s planes zs) fits) ∙ none
-
   pub none_too_large : (zs : List (ℕ × ℕ)) → first_of_slices s planes zs ≡ None → All IsSmall zs
+  unfolding first_of_slices
   none_too_large [] none = All-nil IsSmall
-  none_too_large (z ∷ zs) none = grind (arith, large_found, none_later, none_too_large zs)
+  none_too_large (z ∷ zs) none = grind (arith, none_too_large zs, cond-true, none-some, planes, cond-false)
 
   pub not_too_long : (slice index : ℕ) → is_too_large s planes slice index ≡ false → is_too_long (sent_parameters s) slice index (sent_coefficients (sent_parameters s) planes slice) ≡ false
   unfolding is_too_large

@@ -20,7 +20,7 @@ use Rattle.link_model.specs.Complete.{whole_picture}
 use Rattle.link_model.specs.Kept.{SliceRun}
 use Rattle.link_model.specs.Numbers.{Numbered, parts_of}
 use Rattle.link_model.specs.Output.{all_frames, all_output, frame_bytes_at, full_output}
-use Rattle.link_model.specs.Sending.{pictures_of, pictures_per_frame, sent_stream}
+use Rattle.link_model.specs.Sending.{pictures_per_frame, sent_stream}
 use Rattle.link_model.specs.SendingPictures.{sent_parameter_bytes, sent_parameters, sent_sequence}
 use Rattle.link_model.specs.Session.{HeardSession, ParamsPart, Part}
 use Rattle.vc_types.specs.declared.settings.SendSettings.{SendSettings}
@@ -101,9 +101,6 @@ module _ (settings : SendSettings) (small : settings.ssrc < 2 ^ 32) (window : �
     abbrev number : ℕ
     number = first s + f * pictures_per_frame s
 
-    there : (i : ℕ) (planes : Planes) → i < pictures_per_frame s → slice_get (pictures_of s frame) i ≡ Some planes → slice_get pictures (f * pictures_per_frame s + i) ≡ Some planes
-    there i planes below is = picture_at s frames f i frame at below ∙ is
-
     place_inside : (i : ℕ) → i < pictures_per_frame s → f * pictures_per_frame s + i < length frames * pictures_per_frame s
     place_inside i below = omega (arith, below, mul-le-mul_right {m = suc f} {n = length frames} (pictures_per_frame s) (slice_get_within frames f frame at), suc-mul f (pictures_per_frame s))
 
@@ -112,7 +109,7 @@ module _ (settings : SendSettings) (small : settings.ssrc < 2 ^ 32) (window : �
       bits = omega arith;
       zero = λ i below. zeros (f * pictures_per_frame s + i) (place_inside i below);
       each = λ i planes below is.
-          ap (λ (n : ℕ). whole_picture sequence (parts_of n es)) (omega arith) ∙ is_whole (f * pictures_per_frame s + i) planes (there i planes below is);
+          ap (λ (n : ℕ). whole_picture sequence (parts_of n es)) (omega arith) ∙ is_whole (f * pictures_per_frame s + i) planes (picture_at s frames f i frame at below ∙ is);
     }
 
     frame_written : written (last_picture s number) ≡ raw_frame s frame

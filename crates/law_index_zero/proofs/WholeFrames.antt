@@ -1,6 +1,6 @@
 -- A frame whose pictures are whole is the frame that was sent.
-use Rattle.std.proofs.Common.{◌≡◌, ◌<◌, ℕ, ◌+◌, ◌-◌, ◌*◌, ◌%◌, ◌^◌, Bool, true, false, cond, List, [], ◌++◌, drop, Option, Some, None, refl, sym, ap, ◌∙◌, arith, slice_get, ◌==◌, is_some, option_and_then}
-use Rattle.std.proofs.lemmas.Bool.{cond-true, cond-false, ne_eqb}
+use Rattle.std.proofs.Common.{◌≡◌, ◌<◌, ℕ, ◌+◌, ◌-◌, ◌*◌, ◌%◌, ◌^◌, Bool, true, false, cond, List, [], ◌++◌, drop, Option, Some, None, refl, sym, ap, ◌∙◌, arith, slice_get, is_some, option_and_then}
+use Rattle.std.proofs.lemmas.Bool.{cond-true, cond-false}
 use Rattle.field_pairs.proofs.Fields.{woven-fields_of}
 use Rattle.field_pairs.specs.Sizes.{AreWhole}
 use Rattle.law_index_zero.specs.FramesToSend.{AreFramesToSend, IsAtIndexZero, IsPictureToSend}
@@ -12,7 +12,7 @@ use Rattle.law_index_zero.proofs.PicturesBack.{picture_back}
 use Rattle.law_index_zero.proofs.SentStream.{are_sound, faultless, count}
 use Rattle.link_model.specs.Complete.{whole_picture}
 use Rattle.link_model.specs.Numbers.{Numbered, is_opened, parts_of}
-use Rattle.link_model.specs.Output.{complete_at, field_frame_at, frame_at, frame_bytes_at, planes_at, raw_bytes, woven_fields}
+use Rattle.link_model.specs.Output.{complete_at, field_frame_at, frame_at, frame_bytes_at, planes_at, raw_bytes}
 use Rattle.link_model.specs.Sending.{number_bits, pictures_of, pictures_per_frame}
 use Rattle.link_model.specs.SendingFaults.{first_sample_fault, first_of_slices}
 use Rattle.link_model.specs.SendingPictures.{IsFrame, sent_sequence, sent_parameters, sent_parameter_bytes, sent_slices, slices_with_indices}
@@ -21,29 +21,11 @@ use Rattle.vc_types.specs.declared.settings.SendSettings.{SendSettings}
 use Rattle.vc_types.specs.FieldPairs.{every_other_row, on_each, fields_of, woven}
 use Rattle.vc_types.specs.Fields.{joined}
 use Rattle.vc_types.specs.Planes.{Planes, decoded_planes}
-use Rattle.vc_types.specs.RawFrames.{frame_bytes, is_wide}
 use Rattle.vc_types.specs.SenderSettings.{Sending, sending_view}
-use Rattle.vc_types.specs.SequenceHeader.{Sequence, picture_shape}
+use Rattle.vc_types.specs.SequenceHeader.{Sequence}
 use Rattle.vc_types.specs.Settings.{first_picture_fits}
 
--- a whole picture is opened
-complete_from : (sequence : Sequence) (es : List Numbered) (n : ℕ) (bytes : List ℕ) → whole_picture sequence (parts_of n es) ≡ Some bytes → complete_at sequence es n ≡ true
-unfolding complete_at
-complete_from sequence es n bytes is = ap (λ (o : Option (List ℕ)). is_some o) is
-
-whole_is_opened : (sequence : Sequence) (es : List Numbered) (n : ℕ) (bytes : List ℕ) → whole_picture sequence (parts_of n es) ≡ Some bytes → is_opened es n ≡ true
-whole_is_opened sequence es n bytes is = complete_opened sequence es n (complete_from sequence es n bytes is)
-
--- the planes of a picture
-planes_from : (sequence : Sequence) (es : List Numbered) (n : ℕ) (bytes : List ℕ) (planes : Planes) → whole_picture sequence (parts_of n es) ≡ Some bytes → decoded_planes sequence bytes ≡ Some planes → planes_at sequence es n ≡ Some planes
-unfolding planes_at
-planes_from sequence es n bytes planes whole decodes = ap (option_and_then (decoded_planes sequence)) whole ∙ decodes
-
 -- ---- frames of pictures
-
-frame_alone : (sequence : Sequence) (es : List Numbered) (n : ℕ) → sequence.fields ≡ false → frame_at sequence es n ≡ planes_at sequence es n
-unfolding frame_at
-frame_alone sequence es n fields = cond-false sequence.fields (field_frame_at sequence es n) (planes_at sequence es n) fields
 
 frame_of_two : (sequence : Sequence) (es : List Numbered) (n : ℕ) (earlier later : Planes) → sequence.fields ≡ true → (n + 1) % 2 ≡ 1 → planes_at sequence es n ≡ Some earlier → planes_at sequence es (n + 1) ≡ Some later
     → frame_at sequence es (n + 1) ≡ Some (woven sequence.top_first earlier later)
@@ -56,27 +38,18 @@ even_start fields picture fits is = grind arith
 -- the even one of two fields has no frame
 pub none_at_even : (sequence : Sequence) (es : List Numbered) (n : ℕ) → sequence.fields ≡ true → n % 2 ≡ 0 → frame_bytes_at sequence es n ≡ []
 unfolding frame_at frame_bytes_at
-none_at_even sequence es n fields even = ap (raw_bytes sequence)
-    (cond-true sequence.fields (field_frame_at sequence es n) (planes_at sequence es n) fields
-    ∙ cond-false (n % 2 == 1) (woven_fields sequence.top_first (planes_at sequence es (n - 1)) (planes_at sequence es n)) None (ne_eqb (n % 2) 1 (λ odd. omega (arith, odd, even))))
+none_at_even sequence es n fields even =
+    cc (cond-true sequence.fields (field_frame_at sequence es n) (planes_at sequence es n) fields)
 
 pub coded_fields : (s : Sending) → (sent_sequence s).fields ≡ s.frames.fields
 unfolding sent_sequence
 coded_fields s = refl
-
-coded_top : (s : Sending) → (sent_sequence s).top_first ≡ s.frames.top
-unfolding sent_sequence
-coded_top s = refl
 
 pub one_each : (s : Sending) → s.frames.fields ≡ false → pictures_per_frame s ≡ 1
 one_each s is = ap (λ (b : Bool). (let n : ℕ = cond b 2 1 in n)) is
 
 pub two_each : (s : Sending) → s.frames.fields ≡ true → pictures_per_frame s ≡ 2
 two_each s is = ap (λ (b : Bool). (let n : ℕ = cond b 2 1 in n)) is
-
-raw_of : (sequence : Sequence) (es : List Numbered) (n : ℕ) (frame : Planes) → frame_at sequence es n ≡ Some frame → frame_bytes_at sequence es n ≡ frame_bytes frame (is_wide (picture_shape sequence))
-unfolding frame_bytes_at
-raw_of sequence es n frame is = ap (raw_bytes sequence) is
 
 -- the whole bytes of a picture, by its place
 abbrev pub sent_bytes : Sending → List ℕ → ℕ → Planes → List ℕ
@@ -130,10 +103,12 @@ module _ (settings : SendSettings) (indices : List ℕ) (frames : List Planes) (
     whole_there = are.each i planes below is
 
     opened_there : is_opened es (number + i) ≡ true
-    opened_there = whole_is_opened sequence es (number + i) bytes whole_there
+    unfolding complete_at
+    opened_there = complete_opened sequence es (number + i) (ap (λ (o : Option (List ℕ)). is_some o) whole_there)
 
     planes_there : IsPictureToSend s (indices_of i) planes → planes_at sequence es (number + i) ≡ Some planes
-    planes_there picture = planes_from sequence es (number + i) bytes planes whole_there (picture_back settings planes (indices_of i) picture (are.zero i below))
+    unfolding planes_at
+    planes_there picture = ap (option_and_then (decoded_planes sequence)) whole_there ∙ (picture_back settings planes (indices_of i) picture (are.zero i below))
 
   -- ---- with frame coding
 
@@ -153,13 +128,8 @@ module _ (settings : SendSettings) (indices : List ℕ) (frames : List Planes) (
     }
 
     frame_there : frame_at sequence es (number + 0) ≡ Some frame
-    frame_there = frame_alone sequence es (number + 0) (coded_fields s ∙ fields) ∙ planes_there 0 frame one_below alone picture_of_frame
-
-    frame_opened : is_opened es (number + 0) ≡ true
-    frame_opened = opened_there 0 frame one_below alone
-
-    frame_last : number + 0 ≡ last_picture s number
-    frame_last = omega (arith, one_each s fields)
+    unfolding frame_at
+    frame_there = (cond-false sequence.fields (field_frame_at sequence es (number + 0)) (planes_at sequence es (number + 0)) (coded_fields s ∙ fields)) ∙ planes_there 0 frame one_below alone picture_of_frame
 
   -- ---- with field coding
 
@@ -191,12 +161,10 @@ module _ (settings : SendSettings) (indices : List ℕ) (frames : List Planes) (
     }
 
     earlier_is : (top : Bool) (own : List ℕ) → first_of_slices s (fields_of top frame).0 (slices_with_indices (sent_parameters s) own) ≡ None → IsPictureToSend s own (fields_of top frame).0
-    earlier_is true own none = as_field 0 own none
-    earlier_is false own none = as_field 1 own none
+    earlier_is top own none = grind (arith, as_field)
 
     later_is : (top : Bool) (own : List ℕ) → first_of_slices s (fields_of top frame).1 (slices_with_indices (sent_parameters s) own) ≡ None → IsPictureToSend s own (fields_of top frame).1
-    later_is true own none = as_field 1 own none
-    later_is false own none = as_field 0 own none
+    later_is top own none = grind (arith, as_field)
 
     earlier_there : planes_at sequence es (number + 0) ≡ Some earlier
     earlier_there = planes_there 0 earlier earlier_below earlier_at (earlier_is s.frames.top (indices_of 0) (slices_sound 0 earlier (there 0 earlier earlier_below earlier_at)))
@@ -211,19 +179,19 @@ module _ (settings : SendSettings) (indices : List ℕ) (frames : List Planes) (
     odd = grind (arith, even_start, two_each)
 
     pair_there : frame_at sequence es (number + 1) ≡ Some frame
+    unfolding sent_sequence
     pair_there =
         frame_of_two sequence es number earlier later (coded_fields s ∙ fields) odd (sym (ap (planes_at sequence es) no_more) ∙ earlier_there) later_there
-        ∙ ap Some (ap (λ (top : Bool). woven top earlier later) (coded_top s) ∙ woven-fields_of s.frames.top frame (even_rows settings frame fields is_frame) is_whole)
+        ∙ ap Some (ap (λ (top : Bool). woven top earlier later) (refl) ∙ woven-fields_of s.frames.top frame (even_rows settings frame fields is_frame) is_whole)
 
     pair_opened : is_opened es (number + 1) ≡ true
     pair_opened = opened_there 1 later later_below later_at
 
-    pair_last : number + 1 ≡ last_picture s number
-    pair_last = omega (arith, two_each s fields)
-
   pub frame_back : IsFrameBack (sending_view settings) number frame es
-  frame_back = grind (arith, frame_last, frame_opened, frame_there, pair_last, pair_opened, pair_there)
+  frame_back =
+      grind (arith, frame_there, pair_opened, pair_there, one_each, opened_there, one_below, alone, two_each)
 
   -- and its raw bytes are those of the frame
   pub bytes_back : frame_bytes_at (sent_sequence (sending_view settings)) es (last_picture (sending_view settings) number) ≡ raw_frame (sending_view settings) frame
-  bytes_back = raw_of sequence es (last_picture s number) frame frame_back.is
+  unfolding frame_bytes_at
+  bytes_back = ap (raw_bytes sequence) frame_back.is
