@@ -1,7 +1,8 @@
 -- The header of the first session is read again from the bytes that stand for it.
-use Rattle.std.proofs.Common.{◌≡◌, ℕ, Bool, List, [], ◌∷◌, ◌++◌, take, Option, Some, None, cond, Result, Ok, Err, refl, sym, ap, ◌∙◌, append-nil, is_some, fold}
+use Rattle.std.proofs.Common.{◌≡◌, ℕ, Bool, List, [], ◌∷◌, ◌++◌, take, Option, Some, None, cond, Result, Ok, refl, sym, ap, ◌∙◌, append-nil, is_some, fold, arith}
 use Rattle.std.specs.Option.{option_map_or}
-use Rattle.link_model.specs.Packets.{PayloadValue, Header}
+use Rattle.std.proofs.lemmas.Grind.{common_steps}
+use Rattle.link_model.specs.Packets.{PayloadValue}
 use Rattle.link_model.specs.Session.{DatagramRefusal, HeardSession, Received, Session, begins, hears, just_opened, last_with, opens_next, received, session_by, session_from, session_with, sessions_of}
 use Rattle.link_model.proofs.Hearing.{hears_new, hears_nothing}
 use Rattle.stream_model.specs.Streams.{first_header, header_in, header_of_payload, header_of_received, used_bytes}
@@ -33,13 +34,7 @@ module _ (body : List ℕ) (s : Sequence) (used : ℕ) where
   Left = (left : List Bool) × (sequence_header (bits_of body) ≡ Ok (s, left)) × (used ≡ bytes_used body left)
 
   left_behind : (read : Result (Sequence × List Bool) HeaderRefusal) → sequence_header (bits_of body) ≡ read → with_bytes_used body read ≡ Ok (s, used) → Left
-  left_behind (Ok read) is told =
-      let same : (read.0, bytes_used body read.1) ≡ (s, used) = ok_is {E = HeaderRefusal} (read.0, bytes_used body read.1) (s, used) told in (
-        read.1,
-        is ∙ ap (λ (w : Sequence × ℕ). Ok (w.0, read.1)) same,
-        sym (ap (λ (w : Sequence × ℕ). w.1) same),
-      )
-  left_behind (Err refusal) is told = absurd cc
+  left_behind read is told = grind (arith, ok_is)
 
   pub used_again : coded_header body ≡ Ok (s, used) → IsHeaderOf (take used body) s
   used_again told =
@@ -55,19 +50,13 @@ module _ (body : List ℕ) (s : Sequence) (used : ℕ) where
 
 module _ (t : Session) where
   of_read : (ssrc : ℕ) (body : List ℕ) (read : Result (Sequence × ℕ) HeaderRefusal) → coded_header body ≡ read → session_with ssrc read ≡ Some t → IsHeaderOf (used_bytes body read) t.sequence
-  of_read ssrc body (Ok read) is told =
-      let again = used_again body read.0 read.1 is in
-      let same : record { ssrc = ssrc; sequence = read.0 } ≡ t = cc told in
-      (again.0, again.1 ∙ ap (λ (s : Session). Ok (s.sequence, again.0)) same)
-  of_read ssrc body (Err refusal) is told = absurd cc
+  of_read ssrc body read is told = grind (arith, common_steps, used_again)
 
   of_value : (ssrc : ℕ) (value : PayloadValue) → session_by ssrc value ≡ Some t → IsHeaderOf (header_of_payload value) t.sequence
-  of_value ssrc (Header high from body) told = of_read ssrc body (coded_header body) refl told
-  of_value ssrc other told = absurd cc
+  of_value ssrc value told = grind (arith, common_steps, of_read)
 
   of_received : (r : Result Received DatagramRefusal) → session_from r ≡ Some t → IsHeaderOf (header_of_received r) t.sequence
-  of_received (Ok r) told = of_value r.ssrc r.value told
-  of_received (Err refusal) told = absurd cc
+  of_received r told = grind (arith, of_value)
 
   pub header_begins : (d : List ℕ) → begins d ≡ Some t → IsHeaderOf (header_in d) t.sequence
   unfolding begins header_in
@@ -83,21 +72,17 @@ first_of (h ∷ g ∷ hs) = first_of (g ∷ hs)
 
 module _ (t : Session) where
   last_stays : (hs : List HeardSession) (d : List ℕ) → first_of hs ≡ Some t → first_of (last_with hs d) ≡ Some t
-  last_stays [] d is = is
-  last_stays (h ∷ []) d is = is
-  last_stays (h ∷ g ∷ hs) d is = is
+  last_stays hs d is = grind arith
 
   next_stays : (hs : List HeardSession) (s : Session) → first_of hs ≡ Some t → first_of (just_opened s ∷ hs) ≡ Some t
-  next_stays [] s is = absurd cc
-  next_stays (h ∷ hs) s is = is
+  next_stays hs s is = grind arith
 
   one_stays : (hs : List HeardSession) (d : List ℕ) → first_of hs ≡ Some t → first_of (hears hs d) ≡ Some t
   unfolding hears
   one_stays hs d is = by_next (opens_next hs (begins d))
     where
       by_next : (o : Option Session) → first_of (option_map_or (λ s. just_opened s ∷ hs) o (last_with hs d)) ≡ Some t
-      by_next None = last_stays hs d is
-      by_next (Some s) = next_stays hs s is
+      by_next o = grind (arith, last_stays, next_stays)
 
   pub first_stays : (datagrams : List (List ℕ)) (hs : List HeardSession) → first_of hs ≡ Some t → first_of (fold hears hs datagrams) ≡ Some t
   first_stays [] hs is = is

@@ -1,5 +1,6 @@
 -- What is heard over a looped wire is what was sent, so frames at index 0 come back.
-use Rattle.std.proofs.Common.{◌≡◌, ◌⊎◌, ◌<◌, ◌≤◌, ℕ, ◌*◌, ◌^◌, Bool, true, All, List, [], ◌∷◌, ◌++◌, length, Option, Some, None, Result, Ok, refl, sym, ap, subst, ◌∙◌, arith, inl, inr, append-nil, length-append, IsTrue}
+use Rattle.std.proofs.Common.{◌≡◌, ◌⊎◌, ◌<◌, ◌≤◌, ℕ, ◌*◌, ◌^◌, All, List, [], ◌++◌, length, Option, Some, Result, Ok, sym, ap, subst, ◌∙◌, arith, inl, inr, append-nil, length-append, IsTrue}
+use Rattle.std.proofs.lemmas.Grind.{common_steps}
 use Rattle.frame_writer.specs.WholeFrames.{HoldFrames}
 use Rattle.cmd_send.specs.FramesSent.{frame_shape, stream_sent}
 use Rattle.cmd_send.specs.Sends.{HasSentAll, SendsFrames}
@@ -22,39 +23,27 @@ use Rattle.vc_types.specs.declared.choice.IndexChoice.TheVariants.{Index}
 use Rattle.vc_types.specs.declared.settings.SendSettings.{SendSettings}
 use Rattle.vc_types.specs.Planes.{Planes}
 use Rattle.vc_types.specs.SenderSettings.{Sending, sending_view}
-use Rattle.link_outside.specs.Passing.{grown_by, led_by, looped_back}
+use Rattle.link_outside.specs.Passing.{led_by}
 
 -- ---- lists that are told
 
 no_elements : (A : Type 0) (list : List A) → length list ≡ 0 → list ≡ []
-no_elements A [] none = refl
-no_elements A (one ∷ rest) none = absurd (omega (arith, none))
+no_elements A list none = grind (arith, common_steps)
 
 -- all that was left was given, where the input tells it
 all_given : (before after : Option (List ℕ)) (bytes given : List ℕ) → before ≡ Some bytes → Gave before after given → IsAtEnd after → bytes ≡ given
-all_given before None bytes given told gave ended = absurd (cc (sym told ∙ gave))
-all_given before (Some rest) bytes given told gave ended =
-    some_is bytes (given ++ rest) (sym told ∙ gave) ∙ ap (λ (l : List ℕ). given ++ l) ended ∙ append-nil given
+all_given before after bytes given told gave ended = grind (arith, append-nil, some_is)
 
 -- what came is what was sent
 module _ (sent heard : List (List ℕ)) where
   all_behind : (rest : List (List ℕ)) → sent ≡ heard ++ rest → (length heard ≡ length sent) ⊎ (Some rest ≡ Some []) → rest ≡ []
-  all_behind rest is (inl same) = no_elements (List ℕ) rest (omega (arith, same, ap (λ (l : List (List ℕ)). length l) is, length-append heard rest))
-  all_behind rest is (inr none) = cc none
+  all_behind rest is h2 = grind (arith, length-append, no_elements)
 
   by_wire : (after : Option (List (List ℕ))) → Some sent ≡ led_by heard after → (length heard ≡ length sent) ⊎ (after ≡ Some []) → heard ≡ sent
-  by_wire None came turn = absurd (cc came)
-  by_wire (Some rest) came turn =
-      let is : sent ≡ heard ++ rest = some_is sent (heard ++ rest) came in
-      let none : rest ≡ [] = all_behind rest is turn in
-      sym (is ∙ ap (λ (l : List (List ℕ)). heard ++ l) none ∙ append-nil heard)
+  by_wire after came turn = grind (arith, all_behind, append-nil, some_is)
 
 pub heard_is_sent : (at : List ℕ) (wire : WireChange) (heard sent : List (List ℕ)) → IsTrue wire.told.before.looped → wire.told.before.coming ≡ Some [] → SentInTurn at wire heard sent → heard ≡ sent
-heard_is_sent at wire heard sent looped none s =
-    let came : grown_by (Some []) (looped_back true sent) ≡ led_by heard wire.told.after.coming =
-    subst (λ (b : Bool). grown_by (Some []) (looped_back b sent) ≡ led_by heard wire.told.after.coming) looped
-    (subst (λ (c : Option (List (List ℕ))). grown_by c (looped_back wire.told.before.looped sent) ≡ led_by heard wire.told.after.coming) none s.passes.came) in
-    by_wire sent heard wire.told.after.coming came s.in_turn
+heard_is_sent at wire heard sent looped none s = grind (arith, common_steps, by_wire)
 
 -- ---- the law
 

@@ -1,15 +1,14 @@
 -- The elementary stream of datagrams is played to what is written of their first session.
-use Rattle.std.proofs.Common.{◌≡◌, ℕ, ◌+◌, ◌-◌, ◌*◌, Bool, true, false, cond, List, [], ◌∷◌, ◌++◌, length, Option, Some, None, Result, refl, sym, ap, subst, ◌∙◌, append-nil, inl, arith, flat_map}
-use Rattle.std.specs.Option.{option_map, option_map_or}
+use Rattle.std.proofs.Common.{◌≡◌, ℕ, ◌+◌, ◌-◌, ◌*◌, Bool, false, cond, List, [], ◌∷◌, ◌++◌, length, Option, Some, None, refl, sym, ap, subst, ◌∙◌, append-nil, inl, arith}
+use Rattle.std.specs.Option.{option_map_or}
 use Rattle.std.proofs.lemmas.List.Elements.{All-cons}
 use Rattle.link_model.specs.Numbers.{opened_numbers}
 use Rattle.link_model.specs.Session.{HeardSession, Session, sessions_of}
-use Rattle.stream_model.specs.Streams.{behind_header, end_unit, first_header, first_pictures, frame_units, header_unit, stream_of, units_behind, with_end}
+use Rattle.stream_model.specs.Streams.{behind_header, end_unit, first_header, first_pictures, header_unit, stream_of, units_behind, with_end}
 use Rattle.cmd_stream.specs.Playing.{UnitSplit, frames_due, so_far, unit_split}
-use Rattle.cmd_stream.specs.Stream.{Stream, StreamPicture, StreamSoFar, after_unit, all_taken, at_start, paired_frames, played, raw_frames, takes, units_taken, unpaired_in, with_header}
+use Rattle.cmd_stream.specs.Stream.{Stream, StreamPicture, StreamSoFar, all_taken, at_start, paired_frames, played, raw_frames, takes, units_taken, unpaired_in}
 use Rattle.vc_types.specs.DataUnits.{DataUnit, unit_length}
 use Rattle.vc_types.specs.SequenceHeader.{Sequence}
-use Rattle.vc_types.specs.declared.refusal.HeaderRefusal.{HeaderRefusal}
 use Rattle.vc_units.specs.Units.{units_within}
 use Rattle.law_round_trips.specs.Playback.{AreReadable, IsPlayedTo, StreamsArePlayedBack, first_output}
 use Rattle.law_round_trips.proofs.FirstHeader.{IsHeaderOf, first_header_is, first_of}
@@ -51,25 +50,21 @@ unfolding paired_frames
 nothing_played s = by_mode s.fields
   where
     by_mode : (fields : Bool) → raw_frames s (cond fields (paired_frames s.top_first []) []) ≡ []
-    by_mode true = refl
-    by_mode false = refl
+    by_mode fields = grind arith
 
 nothing_left : (s : Sequence) → left_over s [] ≡ 0
 unfolding paired_frames
 nothing_left s = by_mode s.fields
   where
     by_mode : (fields : Bool) → cond fields (0 - 2 * length (cond fields (paired_frames s.top_first []) [])) 0 ≡ 0
-    by_mode true = omega arith
-    by_mode false = refl
+    by_mode fields = grind arith
 
 -- ---- a stream of pictures
 
 module _ (packets : ℕ) (header : List ℕ) (s : Sequence) (begins : IsHeaderOf header s) where
   header_taken : (more : List DataUnit) → all_taken at_start (header_unit header ∷ more) ≡ all_taken (so_far_with s [] (0 + unit_length (header_unit header))) more
   unfolding all_taken takes
-  header_taken more = ap (λ (r : Result (Sequence × ℕ) HeaderRefusal).
-      option_map_or (λ stream. all_taken (after_unit at_start (header_unit header) stream) more)
-      (option_map (λ (next : Stream). Some next) (with_header None r)) (at_start, true)) begins.1
+  header_taken more = grind arith
 
   end_taken : (pictures : List StreamPicture) (place : ℕ) → all_taken (so_far_with s pictures place) (end_unit ∷ []) ≡ (so_far_with s pictures (place + unit_length end_unit), false)
   unfolding all_taken takes
@@ -83,11 +78,7 @@ module _ (packets : ℕ) (header : List ℕ) (s : Sequence) (begins : IsHeaderOf
     all = (header_unit header ∷ units) ++ end_unit ∷ []
 
     own_played : played_as s shown.pictures ≡ bytes
-    own_played =
-        ap (played_as s) (sym (append-nil shown.pictures))
-        ∙ shown.played []
-        ∙ ap (λ (l : List ℕ). bytes ++ l) (nothing_played s)
-        ∙ append-nil bytes
+    own_played = cc (append-nil shown.pictures, shown.played [], nothing_played s, append-nil bytes)
 
     none_left : left_over s shown.pictures ≡ 0
     none_left = ap (left_over s) (sym (append-nil shown.pictures)) ∙ shown.paired [] ∙ nothing_left s
@@ -99,8 +90,7 @@ module _ (packets : ℕ) (header : List ℕ) (s : Sequence) (begins : IsHeaderOf
         let read = units_read (header_unit header ∷ units) packets 0 inside readable.lengths readable.few in
         let place : ℕ = 0 + unit_length (header_unit header) in
         let pictures = shown.taken [] place (end_unit ∷ []) in
-        read_played packets all read (so_far_with s shown.pictures (pictures.0 + unit_length end_unit)) bytes
-        (header_taken (units ++ end_unit ∷ []) ∙ pictures.1 ∙ end_taken shown.pictures pictures.0) own_played none_left
+        grind (arith, end_taken, header_taken, none_left, own_played, read_played, shown)
 
   -- without units there are no pictures
   no_pictures : (bytes : List ℕ) → AreShownAs s [] bytes → bytes ≡ []
@@ -133,8 +123,7 @@ module _ (window packets : ℕ) (datagrams : List (List ℕ)) where
       let own = by_number window (sessions_of datagrams) t is in
       let s = t.sequence in
       let numbers = opened_numbers own.entered in
-      subst (λ (units : List DataUnit). AreShownAs s units (first_output window (sessions_of datagrams))) (sym own.units_are)
-      (subst (AreShownAs s (flat_map (frame_units s own.entered) numbers)) (sym own.bytes_are) (numbers_shown s own.entered numbers))
+      grind (arith, numbers_shown)
 
   by_first : AreReadable packets (units_of (sessions_of datagrams)) → (o : Option Session) → first_of (sessions_of datagrams) ≡ o → ArePlayed (sessions_of datagrams)
   by_first readable None none = subst ArePlayed (sym (nothing_first (sessions_of datagrams) none)) none_played

@@ -39,12 +39,10 @@ module _ (shape : Shape) where
   samples_many false n bytes long = long
 
   as_many : (wide : Bool) (n : ℕ) → many wide n ≡ cond wide (2 * n) n
-  as_many true n = refl
-  as_many false n = refl
+  as_many wide n = grind arith
 
   three : (wide : Bool) (luma colour : ℕ) → cond wide (2 * (luma + (colour + colour))) (luma + (colour + colour)) ≡ cond wide (2 * luma) luma + (cond wide (2 * colour) colour + cond wide (2 * colour) colour)
-  three true luma colour = omega arith
-  three false luma colour = refl
+  three wide luma colour = grind arith
 
   module _ (bytes : List ℕ) (long : length bytes ≡ frame_length shape) where
     abbrev luma : ℕ

@@ -18,10 +18,7 @@ Reads most previous units = units_within most (units_behind previous units) ≡ 
 
 -- it is read back, whatever follows
 inside_read : (u : DataUnit) (previous : ℕ) → IsInside u → unit_length u ≤ 268435456 → (more : List ℕ) → data_unit (unit_bytes u.code u.body previous ++ more) ≡ Ok (u, more)
-inside_read u previous inside short more = data_unit-unit_bytes u.code u.body previous more inside.known (λ ends. absurd (no_end ends)) short
-  where
-    no_end : u.code ≡ end_code → ⊥
-    no_end ends = (let other = inside.goes_on in let same : is_end_of_sequence u ≡ is_end_of_sequence (record { code = end_code; body = u.body }) = ap (λ (c : ℕ). is_end_of_sequence (record { code = c; body = u.body })) ends in cc)
+inside_read u previous inside short more = grind (arith, data_unit-unit_bytes)
 
 end_read : (previous : ℕ) → (more : List ℕ) → data_unit (unit_bytes end_code [] previous ++ more) ≡ Ok (end_unit, more)
 end_read previous more = data_unit-unit_bytes end_code [] previous more refl (λ e. refl) (omega arith)

@@ -1,5 +1,5 @@
 -- Each datagram that is sent fits an entry of a capture, and the entries of datagrams are read back.
-use Rattle.std.proofs.Common.{◌≡◌, ◌<◌, ◌≤◌, ℕ, zero, suc, ◌*◌, ◌^◌, List, [], ◌∷◌, length, drop, refl, sym, ap, subst, ◌∙◌, arith, All, inl, inr, ◌⊎◌}
+use Rattle.std.proofs.Common.{◌≡◌, ◌<◌, ◌≤◌, ℕ, zero, suc, ◌*◌, ◌^◌, List, [], ◌∷◌, length, drop, refl, sym, subst, arith, All, inl, inr, ◌⊎◌}
 use Rattle.std.proofs.lemmas.List.Concat.{flat_map-cons}
 use Rattle.std.proofs.lemmas.List.Elements.{All-head, All-tail, All-weaker}
 use Rattle.cmd_receive.proofs.Within.{within_entry, within_nothing}
@@ -8,7 +8,7 @@ use Rattle.law_index_zero.proofs.FittingRuns.{room_few, run_is}
 use Rattle.law_index_zero.proofs.FramePictures.{AreFaultless, all_pictures, no_slice_fault}
 use Rattle.law_index_zero.proofs.SentStream.{are_sound, IsOfPicture, IsSent, all_sent, count}
 use Rattle.link_sender.proofs.Heads.{short_parameters_of, short_header}
-use Rattle.link_capture.specs.Capture.{entries_within, entry}
+use Rattle.link_capture.specs.Capture.{entries_within}
 use Rattle.link_model.specs.Packets.{fragment_bytes, payload_bytes, payload_head, rtp_header}
 use Rattle.link_model.specs.Sending.{DatagramContent, EndContent, HeaderContent, ParametersContent, SlicesContent, outgoing, sent_datagram, sent_stream, sent_value}
 use Rattle.vc_types.specs.declared.settings.SendSettings.{SendSettings}
@@ -24,9 +24,7 @@ entries_back most [] short few = within_nothing most
 entries_back zero (d ∷ datagrams) short few = absurd (omega (arith, few))
 entries_back (suc most) (d ∷ datagrams) short few =
     let rest = entries_back most datagrams (All-tail IsShort d datagrams short) (omega (arith, few)) in
-    ap (entries_within (suc most)) (flat_map-cons entry d datagrams)
-    ∙ within_entry most d (capture_of datagrams) (All-head IsShort d datagrams short)
-    ∙ ap (λ (split : List (List ℕ) × List ℕ). (d ∷ split.0, split.1)) rest
+    grind (arith, All-head, flat_map-cons, within_entry)
 
 module _ (settings : SendSettings) (indices : List ℕ) (frames : List Planes) (faultless : AreFaultless (sending_view settings) indices frames) where
   abbrev s : Sending

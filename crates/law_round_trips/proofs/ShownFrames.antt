@@ -1,8 +1,7 @@
 -- The units of frames are played to the bytes of these frames.
-use Rattle.std.proofs.Common.{◌≡◌, ℕ, ◌+◌, ◌%◌, ◌^◌, true, false, ltb, List, [], ◌∷◌, ◌++◌, length, Option, Some, None, refl, sym, ap, ◌∙◌, append_assoc, append-nil, length-append, arith, unwrap_or, le-ltb, suc, ◌-◌, ◌*◌, Bool, cond, map, subst, All, ◌==◌, is_some, flat_map}
+use Rattle.std.proofs.Common.{◌≡◌, ℕ, ◌+◌, ◌%◌, ◌^◌, true, false, List, [], ◌∷◌, ◌++◌, length, Option, Some, None, refl, sym, ap, ◌∙◌, append_assoc, append-nil, length-append, arith, unwrap_or, le-ltb, ◌-◌, ◌*◌, Bool, cond, map, All, ◌==◌, is_some, flat_map}
 use Rattle.std.specs.Option.{option_and_then, option_map, option_map_or}
-use Rattle.byteorder.specs.Endian.{big_bytes, big_number}
-use Rattle.byteorder.specs.Numbers.{big_from-bytes}
+use Rattle.byteorder.specs.Endian.{big_bytes}
 use Rattle.link_model.specs.Complete.{whole_picture}
 use Rattle.link_model.specs.Numbers.{Numbered, parts_of}
 use Rattle.link_model.specs.Output.{planes_at, field_frame_at, frame_at, frame_bytes_at, raw_bytes, woven_fields}
@@ -14,6 +13,7 @@ use Rattle.vc_types.specs.SequenceHeader.{Sequence, picture_shape}
 use Rattle.std.proofs.lemmas.Bool.{cond-false, cond-true, eq-eqb, eqb-true}
 use Rattle.std.proofs.lemmas.List.Concat.{flat_map-cons}
 use Rattle.std.proofs.lemmas.List.Elements.{All-append, All-cons, All-nil}
+use Rattle.std.proofs.lemmas.Grind.{common_steps}
 use Rattle.vc_types.specs.FieldPairs.{woven}
 use Rattle.vc_types.specs.RawFrames.{frame_bytes, is_wide}
 use Rattle.law_round_trips.proofs.ReadUnits.{IsInside}
@@ -60,18 +60,14 @@ shown_at n planes = record { number = n % 2 ^ 32; planes = planes }
 module _ (s : Sequence) (es : List Numbered) (n : ℕ) (planes : Planes) where
   whole_read : (whole : List ℕ) → decoded_planes s whole ≡ Some planes → picture_in s (big_bytes 4 n ++ whole) ≡ Some (shown_at n planes)
   unfolding picture_in
-  whole_read whole is =
-      let enough : ltb (length (big_bytes 4 n ++ whole)) 4 ≡ false = le-ltb _ _ (omega (arith, length-append (big_bytes 4 n) whole)) in
-      let number : big_number 4 (big_bytes 4 n ++ whole) ≡ n % 2 ^ 32 = big_from-bytes 4 n whole in
-      rw (enough, number, is) refl
+  whole_read whole is = grind (arith, le-ltb, length-append)
 
   unit_read : planes_at s es n ≡ Some planes → picture_in s (picture_unit_at s es n).body ≡ Some (shown_at n planes)
   unfolding planes_at
   unit_read is = by_whole (whole_picture s (parts_of n es)) is
     where
       by_whole : (o : Option (List ℕ)) → option_and_then (decoded_planes s) o ≡ Some planes → picture_in s (big_bytes 4 n ++ unwrap_or o []) ≡ Some (shown_at n planes)
-      by_whole None is = absurd cc
-      by_whole (Some whole) is = whole_read whole is
+      by_whole o is = grind (arith, whole_read)
 
   pub unit_taken : planes_at s es n ≡ Some planes → (before : List StreamPicture) → takes (Some (stream_with s before)) (picture_unit_at s es n) ≡ Some (Some (stream_with s (before ++ shown_at n planes ∷ [])))
   unfolding takes
@@ -137,9 +133,7 @@ module _ (s : Sequence) (es : List Numbered) (n : ℕ) where
   -- by the frame and the numbers of its pictures
   shown_by : (o : Option Planes) (numbers : List ℕ) → frame_at s es n ≡ o → frame_pictures s n ≡ numbers → AreShownAs s (units_by o numbers) (raw_bytes s o) → AreShownAs s (frame_units s es n) (frame_bytes_at s es n)
   unfolding frame_units frame_bytes_at
-  shown_by o numbers is are shown =
-      subst (λ (f : Option Planes). AreShownAs s (units_by f (frame_pictures s n)) (raw_bytes s f)) (sym is)
-      (subst (λ (ns : List ℕ). AreShownAs s (units_by o ns) (raw_bytes s o)) (sym are) shown)
+  shown_by o numbers is are shown = grind arith
 
   no_frame : frame_at s es n ≡ None → AreShownAs s (frame_units s es n) (frame_bytes_at s es n)
   no_frame is = shown_by None (frame_pictures s n) is refl (none_shown s)
@@ -157,10 +151,7 @@ module _ (s : Sequence) (es : List Numbered) (n : ℕ) where
       pictures = shown_at n planes ∷ [];
       inside = All-cons IsInside (picture_unit_at s es n) [] (is_inside n) (All-nil IsInside);
       taken = picture_taken s es n planes is;
-      played = λ rest.
-          each_played (shown_at n planes ∷ rest)
-          ∙ flat_map-cons (bytes_of s) planes (map (λ p. p.planes) rest)
-          ∙ ap (λ (l : List ℕ). bytes_of s planes ++ l) (sym (each_played rest));
+      played = grind (arith, each_played, flat_map-cons);
       paired = λ rest. none_over (shown_at n planes ∷ rest) ∙ sym (none_over rest);
     }
 
@@ -184,10 +175,7 @@ module _ (s : Sequence) (es : List Numbered) (n : ℕ) where
     second = shown_at n b
 
     is_frame : is_pair first second ≡ true
-    is_frame =
-        let even : (n - 1) % 2 ^ 32 % 2 ≡ 0 = omega (arith, odd) in
-        let next : n % 2 ^ 32 ≡ (n - 1) % 2 ^ 32 + 1 = omega (arith, odd) in
-        rw (eq-eqb ((n - 1) % 2 ^ 32 % 2) 0 even) (eq-eqb (n % 2 ^ 32) ((n - 1) % 2 ^ 32 + 1) next)
+    is_frame = grind (arith, eq-eqb)
 
     pairs_of : (pictures : List StreamPicture) → stream_frames (stream_with s pictures) ≡ paired_frames s.top_first pictures
     pairs_of pictures = cond-true s.fields (paired_frames s.top_first pictures) (map (λ p. p.planes) pictures) fields
@@ -203,10 +191,7 @@ module _ (s : Sequence) (es : List Numbered) (n : ℕ) where
     over_of pictures = cond-true s.fields (length pictures - 2 * length (stream_frames (stream_with s pictures))) 0 fields
 
     same_over : (rest : List StreamPicture) → left_over s (first ∷ second ∷ rest) ≡ left_over s rest
-    same_over rest =
-        let more : length (stream_frames (stream_with s (first ∷ second ∷ rest))) ≡ suc (length (stream_frames (stream_with s rest))) = ap length (all_of rest) in
-        let counts : length (first ∷ second ∷ rest) - 2 * length (stream_frames (stream_with s (first ∷ second ∷ rest))) ≡ length rest - 2 * length (stream_frames (stream_with s rest)) = omega (arith, more) in
-        over_of (first ∷ second ∷ rest) ∙ counts ∙ sym (over_of rest)
+    same_over rest = grind (arith, all_of, over_of)
 
     pair_shown : AreShownAs s (picture_unit_at s es (n - 1) ∷ picture_unit_at s es n ∷ []) (bytes_of s (woven s.top_first a b))
     pair_shown = record {
@@ -221,9 +206,7 @@ module _ (s : Sequence) (es : List Numbered) (n : ℕ) where
   module _ (fields : s.fields ≡ true) (odd : n % 2 ≡ 1) where
     pair_is : frame_at s es n ≡ woven_fields s.top_first (planes_at s es (n - 1)) (planes_at s es n)
     unfolding frame_at
-    pair_is =
-        cond-true s.fields (field_frame_at s es n) (planes_at s es n) fields
-        ∙ cond-true (n % 2 == 1) (woven_fields s.top_first (planes_at s es (n - 1)) (planes_at s es n)) None (eq-eqb (n % 2) 1 odd)
+    pair_is = grind (arith, cond-true, eq-eqb)
 
     both_pictures : frame_pictures s n ≡ (n - 1) ∷ n ∷ []
     both_pictures = cond-true s.fields ((n - 1) ∷ n ∷ []) (n ∷ []) fields
@@ -236,9 +219,7 @@ module _ (s : Sequence) (es : List Numbered) (n : ℕ) where
 
   even_shown : s.fields ≡ true → (n % 2 == 1) ≡ false → AreShownAs s (frame_units s es n) (frame_bytes_at s es n)
   unfolding frame_at
-  even_shown fields even = no_frame
-      (cond-true s.fields (field_frame_at s es n) (planes_at s es n) fields
-      ∙ cond-false (n % 2 == 1) (woven_fields s.top_first (planes_at s es (n - 1)) (planes_at s es n)) None even)
+  even_shown fields even = grind (arith, cond-false, cond-true, no_frame)
 
   pub number_shown : AreShownAs s (frame_units s es n) (frame_bytes_at s es n)
   number_shown = by_mode s.fields refl
