@@ -50,12 +50,9 @@ module _ (number window n : ℕ) (small : window ≤ 8) (low : n ≤ number) whe
       let e : Numbered = record { number = picture_number (base_above number) es f.number; part = f.part } in
       one_more es e (omega (arith, greatest-append es (e ∷ []), above.0)) above.1 (omega (arith, above.0, early, small, base_is_above number))
 
-  enters_above : (es : List Numbered) (f : Fragment) → IsAbove es → IsAbove (enters (base_above number) window es f)
-  enters_above es f above = grind (arith, adds, early_enters, early_is, late_changes_nothing)
-
   all_above : (es : List Numbered) (fragments : List Fragment) → IsAbove es → IsAbove (fold (enters (base_above number) window) es fragments)
   all_above es [] above = above
-  all_above es (f ∷ fragments) above = all_above (enters (base_above number) window es f) fragments (enters_above es f above)
+  all_above es (f ∷ fragments) above = all_above (enters (base_above number) window es f) fragments (grind (arith, adds, early_enters, early_is, late_changes_nothing))
 
   pub nothing_below : (fragments : List Fragment) → parts_of n (entered (base_above number) window fragments) ≡ []
   nothing_below fragments = grind (arith, all_above, no_parts)

@@ -1,7 +1,7 @@
 -- The book of a list of parts: with a part more it is the book of the longer list, and it answers the part's outcome, the
 -- slices that are kept and the whole bytes.
 use Rattle.std.proofs.Common.{◌≡◌, ℕ, ◌<◌, ◌≤◌, min, Bool, List, [], ◌∷◌, ◌++◌, length, map, take, Option, Some, None, Result, refl, ap, sym, ◌∙◌, inl, inr, arith, cond, filter_map, fold, nat_lt, unwrap_or, flat_map}
-use Rattle.std.specs.Option.{option_map, option_or, option_and_then}
+use Rattle.std.specs.Option.{option_map, option_and_then}
 use Rattle.std.proofs.lemmas.Bool.{cases_lt, cond-true, cond-false, lt-ltb, le-ltb}
 use Rattle.std.proofs.lemmas.List.{append-nil, append_assoc, length-take, length-append, take_all, take-append-le}
 use Rattle.std.proofs.lemmas.List.Elements.{filter_map-append}
@@ -10,7 +10,7 @@ use Rattle.std.proofs.lemmas.Option.{none-some}
 use Rattle.link_model.specs.Complete.{has_all_slices, all_bytes, whole_picture}
 use Rattle.link_model.specs.Books.{Slots, slot_at, Gathered, Book, nothing_gathered, gathers_run, gathers, takes_plan, waits_too, book_takes, book_outcome, gathered_of, book_by, book_of, book_slice, book_whole}
 use Rattle.link_model.specs.Judgement.{known_by_parts, part_outcome, parameters_outcome, slices_outcome, run_outcome, waiting_outcome}
-use Rattle.link_model.specs.Kept.{KeptParameters, parameters_in, SplitParts, split_parts, Own, own_of, own, own_slice, runs_of, run_taken, part_slices, slice_in, SliceRun, first_copy, slice_run, waiting_limit}
+use Rattle.link_model.specs.Kept.{KeptParameters, parameters_in, SplitParts, split_parts, Own, own_of, own, own_slice, runs_of, run_taken, part_slices, SliceRun, first_copy, slice_run, waiting_limit}
 use Rattle.link_model.specs.Session.{Part, ParamsPart, SlicesPart, SlicePart}
 use Rattle.link_model.specs.declared.outcome.Outcome.{Outcome}
 use Rattle.link_model.specs.declared.outcome.Outcome.TheVariants.{SlicesPending, SlicesFull}
@@ -48,16 +48,13 @@ module _ (s : Sequence) (part : Part) where
 
 -- ---- one part more
 
-one_run : (runs : List SliceRun) (run : SliceRun) (i : ℕ) → first_copy (runs ++ run ∷ []) i ≡ option_or (first_copy runs i) (slice_in run i)
-unfolding first_copy
-one_run runs run i = first_copy-append runs (run ∷ []) i ∙ ap (option_or (first_copy runs i)) (or_none (slice_in run i))
-
 abbrev with_runs : Own → List SliceRun → Own
 with_runs kept more = record { plan = kept.plan; runs = kept.runs ++ more }
 
 -- what is gathered with a slice part more
 gathers-one : (kept : Own) (r : Result SliceRun Outcome) → gathers_run (gathered_of kept) r ≡ gathered_of (with_runs kept (filter_map run_taken (r ∷ [])))
-gathers-one kept o = grind (arith, append-nil, one_run, with_run_is)
+unfolding first_copy
+gathers-one kept o = grind (arith, append-nil, with_run_is, first_copy-append, or_none)
 
 -- and with several
 gathers-all : (parts : List SlicePart) (kept : Own) → fold gathers (gathered_of kept) parts ≡ gathered_of (with_runs kept (runs_of kept.plan.parameters parts))

@@ -70,9 +70,6 @@ module _ (s : Sequence) (n : ℕ) (part : Part) where
     part_later : k < n → with_part s (with_number k book ∷ books) n part ≡ with_number k book ∷ with_part s books n part
     part_later later = cond-true (nat_lt k n) (with_number k book ∷ with_part s books n part) (cond (k == n) (with_number n (book_takes book part) ∷ books) (fresh ∷ with_number k book ∷ books)) (lt-ltb k n later)
 
-    part_here : k ≡ n → with_part s (with_number k book ∷ books) n part ≡ with_number n (book_takes book part) ∷ books
-    part_here here = grind (arith, le-ltb)
-
   module _ (test : ℕ → Bool) (book : ℕ → Book) where
     opens_first : (a m : ℕ) → n < a → with_part s (books_over test book a m) n part ≡ fresh ∷ books_over test book a m
     opens_first a zero below = refl
@@ -84,7 +81,7 @@ module _ (s : Sequence) (n : ℕ) (part : Part) where
         (elsewhere : (k : ℕ) → (k ≡ n → ⊥) → picked other later k ≡ picked test book k) where
       taken_here : (a m : ℕ) → a ≡ n → (b : Bool) → test n ≡ b
           → with_part s (cond b (with_number a (book a) ∷ []) [] ++ books_over test book (a + 1) m) n part ≡ with_number n (later n) ∷ books_over test book (a + 1) m
-      taken_here a m same o is = grind (arith, opens_first, part_here)
+      taken_here a m same o is = grind (arith, opens_first, le-ltb)
 
       pub part_inside : (a m : ℕ) → a ≤ n → n < a + m → with_part s (books_over test book a m) n part ≡ books_over other later a m
       part_inside a zero from to = absurd (omega arith)

@@ -57,16 +57,13 @@ module _ (es : List Numbered) where
     abbrev pub passing : ℕ → List ℕ
     passing n = cond (test n) (one n) []
 
-    none_passes : (n : ℕ) → one n ≡ [] → passing n ≡ []
-    none_passes n none = grind arith
-
     exchanged : (n : ℕ) → cond (is_opened es n) (cond (test n) (n ∷ []) []) [] ≡ passing n
     exchanged n = grind arith
 
     pub passing-over : (n rest : ℕ) → past + rest ≡ n → filter test (opened_numbers es) ≡ flat_map passing (range_with_len 0 n)
     unfolding opened_numbers
     passing-over n rest size =
-        grind (arith, exchanged, filter_is, flat_map-filter, in_longer, none_passes, one-outside, same_pieces)
+        grind (arith, exchanged, filter_is, flat_map-filter, in_longer, one-outside, same_pieces)
 
 -- ---- pictures that are let go
 
@@ -100,12 +97,9 @@ module _ (window : ℕ) (s : Sequence) (old new : List Numbered) (later : Follow
   abbrev piece : List Numbered → ℕ → List ℕ
   piece es n = cond (is_let_go window s old n) (frame_bytes_at s es n) []
 
-  piece_same : (n : ℕ) → piece new n ≡ piece old n
-  piece_same n = grind (arith, frame_same)
-
   written_same : flat_map (frame_bytes_at s new) (let_go_numbers window s old) ≡ frames_so_far window s old
   unfolding let_go_numbers frames_so_far
-  written_same = grind (arith, flat_map-filter, piece_same, same_pieces)
+  written_same = grind (arith, flat_map-filter, same_pieces, frame_same)
 
   -- the pictures that are let go now, and what they add
   pub releases : (rest : List ℕ) × (let_go_numbers window s new ≡ let_go_numbers window s old ++ rest) × (frames_so_far window s new ≡ frames_so_far window s old ++ flat_map (frame_bytes_at s new) rest)

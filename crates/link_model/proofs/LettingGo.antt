@@ -1,6 +1,6 @@
 -- The picture that a window names next is the least that may be released, and pictures are released in the order in
 -- which they are let go.
-use Rattle.std.proofs.Common.{◌≡◌, ℕ, zero, suc, ◌+◌, ◌<◌, ◌≤◌, Bool, true, false, List, [], ◌∷◌, ◌++◌, Option, Some, None, refl, ap, sym, ◌∙◌, arith, cond, nat_le, not, ◌&&◌, ◌||◌, is_some, filter, option_map, option_and_then}
+use Rattle.std.proofs.Common.{◌≡◌, ℕ, zero, suc, ◌+◌, ◌<◌, ◌≤◌, Bool, true, false, List, [], ◌∷◌, ◌++◌, Option, Some, None, refl, ap, sym, ◌∙◌, arith, cond, not, ◌&&◌, ◌||◌, is_some, filter, option_map, option_and_then}
 use Rattle.std.specs.List.{list_all, range_with_len, last_or}
 use Rattle.std.proofs.lemmas.Bool.{lt-leb, and_left, false_from_ne_true, both_ways}
 use Rattle.link_model.specs.Books.{Book, book_whole}
@@ -33,14 +33,10 @@ module _ (p : WindowPast) where
   unopened_incomplete n shut = false_from_ne_true (complete_at p.sequence p.entries n) (λ complete. both_ways (is_opened p.entries n) shut (complete_opened p.sequence p.entries n complete))
 
   module _ (runs : p.is_ended ≡ false) where
-    not_gone : (n : ℕ) → greatest p.entries < n + p.size → gone_in p n ≡ false
-    unfolding is_closed
-    not_gone n above = and_left (p.is_ended || nat_le (n + p.size) (greatest p.entries)) (released_up_to (last_or None p.released) n)
-        (ap (λ (b : Bool). b || nat_le (n + p.size) (greatest p.entries)) runs ∙ lt-leb (n + p.size) (greatest p.entries) above)
-
     complete_of_window : (n : ℕ) → greatest p.entries < n + p.size → complete_in (window_of p) n ≡ complete_at p.sequence p.entries n
+    unfolding is_closed
     complete_of_window n above =
-        grind (arith, book_of_window, books_by, gone_in, not_gone, unopened_incomplete, whole_of_book)
+        grind (arith, book_of_window, books_by, gone_in, unopened_incomplete, whole_of_book, and_left, lt-leb)
 
   let_go_of_window : greatest_behind p.before p.entries ≡ greatest p.entries → (n : ℕ) → let_go_in (window_of p) n ≡ is_let_go_by n
   unfolding window_of is_let_go

@@ -2,15 +2,14 @@
 use Rattle.std.proofs.Common.{◌≡◌, ℕ, Bool, true, false, List, [], ◌∷◌, Option, Some, None, Result, Ok, Err, refl, ap, sym, ◌∙◌, cond, arith, nat_lt}
 use Rattle.std.proofs.lemmas.Bool.{false≢true}
 use Rattle.vc_types.specs.SameValues.{same_sequence}
-use Rattle.link_model.specs.Judgement.{parameters_outcome, run_outcome, slices_outcome, part_outcome, fragment_outcome, refusal_outcome, header_outcome, later_outcome, outcome_of, KnownPicture, known_by_parts, outcome_behind, early_outcome, opening_outcome}
-use Rattle.link_model.specs.Kept.{KeptParameters, ReadParameters, own_parameters, waiting_limit, SliceRun, slice_run}
+use Rattle.link_model.specs.Judgement.{run_outcome, slices_outcome, part_outcome, fragment_outcome, refusal_outcome, header_outcome, outcome_of, KnownPicture, known_by_parts, outcome_behind, early_outcome, opening_outcome}
+use Rattle.link_model.specs.Kept.{KeptParameters, own_parameters, waiting_limit, SliceRun, slice_run}
 use Rattle.link_model.specs.Numbers.{Numbered, is_late, parts_of, picture_number}
 use Rattle.link_model.specs.Packets.{PayloadValue, Header, End, Skip, Params, Slices}
 use Rattle.link_model.specs.Session.{Received, received, DatagramRefusal, Session, Part, ParamsPart, SlicesPart, SlicePart, Fragment, HeardSession, opens_next, sessions_of, session_with, session_by, session_from, begins}
 use Rattle.link_model.specs.declared.outcome.Outcome.{Outcome}
 use Rattle.link_model.specs.declared.outcome.Outcome.TheVariants as outcomes
 use Rattle.vc_types.specs.SequenceHeader.{Sequence, coded_header}
-use Rattle.vc_types.specs.TransformParameters.{Parameters, coded_parameters}
 use Rattle.vc_types.specs.declared.refusal.HeaderRefusal.{HeaderRefusal}
 
 -- what becomes of a datagram that begins or ends a session
@@ -29,23 +28,17 @@ abbrev run_turns : Result SliceRun Outcome → Bool
 run_turns (Ok run) = false
 run_turns (Err outcome) = turns outcome
 
-runs_turn_nothing : (p : Parameters) (s : SlicePart) → run_turns (slice_run p s) ≡ false
-unfolding slice_run
-runs_turn_nothing p s = grind arith
-
 run_outcomes : (kept : ℕ → Option (List ℕ)) (r : Result SliceRun Outcome) → run_turns r ≡ false → turns (run_outcome kept r) ≡ false
 run_outcomes kept r none = grind (arith, neither)
 
-parameters_outcomes : (plan : Option KeptParameters) (r : ReadParameters) → turns (parameters_outcome plan r) ≡ false
-parameters_outcomes plan r = grind (arith, neither)
-
 slices_outcomes : (known : KnownPicture) (plan : Option KeptParameters) (s : SlicePart) → turns (slices_outcome known plan s) ≡ false
+unfolding slice_run
 slices_outcomes known None s = neither (nat_lt known.waiting waiting_limit) outcomes.SlicesPending outcomes.SlicesFull refl refl
-slices_outcomes known (Some plan) s = run_outcomes known.slice (slice_run plan.parameters s) (runs_turn_nothing plan.parameters s)
+slices_outcomes known (Some plan) s = run_outcomes known.slice (slice_run plan.parameters s) (grind arith)
 
 part_outcomes : (s : Sequence) (before : List Part) (part : Part) → turns (part_outcome s before part) ≡ false
 unfolding part_outcome
-part_outcomes s before (ParamsPart body) = parameters_outcomes (own_parameters s before) (coded_parameters s body)
+part_outcomes s before (ParamsPart body) = grind (arith, neither)
 part_outcomes s before (SlicesPart slices) = slices_outcomes (known_by_parts s before) (own_parameters s before) slices
 
 pub fragment_outcomes : (base window : ℕ) (s : Sequence) (es : List Numbered) (f : Fragment) → turns (fragment_outcome base window s es f) ≡ false
@@ -72,9 +65,6 @@ unopened : (x : Outcome) → turns x ≡ false → opens x ≡ false
 unopened x other = grind arith
 
 module _ (window : ℕ) where
-  later_outcomes : (base : ℕ) (h : HeardSession) (value : PayloadValue) → opens (later_outcome base window h value) ≡ false
-  later_outcomes base h value = grind (arith, fragment_outcomes, header_outcomes, unopened)
-
   first_opens : (ssrc : ℕ) (value : PayloadValue) → opens (early_outcome value) ≡ true → (s : Session) × (session_by ssrc value ≡ Some s)
   first_opens ssrc (Header high from body) is = by_read (coded_header body) is
     where
@@ -89,7 +79,7 @@ module _ (window : ℕ) where
   new_opens : (hs : List HeardSession) (r : Result Received DatagramRefusal) → opens (outcome_of window hs r) ≡ true → (s : Session) × (opens_next hs (session_from r) ≡ Some s)
   new_opens hs (Err refusal) is = absurd (false≢true (sym (unopened (refusal_outcome refusal) (refusal_outcomes refusal)) ∙ is))
   new_opens [] (Ok r) is = first_opens r.ssrc r.value is
-  new_opens (h ∷ hs) (Ok r) is = grind (arith, later_outcomes)
+  new_opens (h ∷ hs) (Ok r) is = grind (arith, fragment_outcomes, header_outcomes, unopened)
 
   pub new_is_opening : (before : List (List ℕ)) (d : List ℕ) → outcome_behind window before d ≡ outcomes.HeaderNew → (s : Session) × (opens_next (sessions_of before) (begins d) ≡ Some s)
   unfolding begins outcome_behind

@@ -1,5 +1,5 @@
 -- The numbers of a range that pass a test, in rising order: the first of them, and those that stand after some of them.
-use Rattle.std.proofs.Common.{◌≡◌, ℕ, zero, suc, ◌+◌, ◌<◌, ◌≤◌, Bool, true, false, List, [], ◌∷◌, ◌++◌, length, drop, Option, Some, None, refl, ap, sym, subst, ◌∙◌, arith, cond, not, ◌&&◌, filter, option_and_then}
+use Rattle.std.proofs.Common.{◌≡◌, ℕ, zero, suc, ◌+◌, ◌<◌, ◌≤◌, Bool, true, List, [], ◌∷◌, ◌++◌, length, drop, Option, Some, None, refl, ap, sym, subst, ◌∙◌, arith, cond, not, ◌&&◌, filter, option_and_then}
 use Rattle.std.specs.List.{flat_map, range_with_len, last_or}
 use Rattle.std.proofs.lemmas.Bool.{cond-false, le-leb, and_right}
 use Rattle.link_model.specs.Numbers.{Numbered, is_opened, opened_numbers}
@@ -19,9 +19,6 @@ numbers_over test a m = flat_map (number_if test) (range_with_len a m)
 pub same_numbers : (test other : ℕ → Bool) (a m : ℕ) → ((k : ℕ) → test k ≡ other k) → numbers_over test a m ≡ numbers_over other a m
 same_numbers test other a zero same = refl
 same_numbers test other a (suc m) same = grind (arith, same_numbers test other (a + 1) m same)
-
-pub no_numbers : (test : ℕ → Bool) (a m : ℕ) → ((k : ℕ) → a ≤ k → test k ≡ false) → numbers_over test a m ≡ []
-no_numbers test a m each = nothing_in (number_if test) a m (λ k from to. cond-false (test k) (k ∷ []) [] (each k from))
 
 pub fewer_numbers : (test keep : ℕ → Bool) (a m : ℕ) → filter keep (numbers_over test a m) ≡ numbers_over (λ k. test k && keep k) a m
 fewer_numbers test keep a zero = refl
@@ -44,7 +41,7 @@ opened_over es test n rest size = passing-over es test n rest size ∙ same_over
 module _ (test go : ℕ → Bool) (down : (f g : ℕ) → f ≤ g → go g ≡ true → go f ≡ true) where
   pub first_that : (a m : ℕ) → first_of (numbers_over (λ k. test k && go k) a m) ≡ option_and_then (λ k. cond (go k) (Some k) None) (first_of (numbers_over test a m))
   first_that a zero = refl
-  first_that a (suc m) = grind (arith, and_right, no_numbers, first_that (a + 1) m)
+  first_that a (suc m) = grind (arith, and_right, first_that (a + 1) m, nothing_in, cond-false)
 
 -- ---- numbers that rise
 

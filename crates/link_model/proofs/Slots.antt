@@ -81,14 +81,11 @@ module _ (p : Parameters) where
   next_slices-count zero bytes x e = ap (λ (x : List (List ℕ) × List ℕ). length x.0) (sym (okay_is ([], bytes) x e))
   next_slices-count (suc n) bytes x e = grind (arith, next_slices-count n)
 
-  run_inside : (part : SlicePart) (run : SliceRun) → slice_run p part ≡ Ok run → run.first + length run.slices ≤ slice_count p
-  unfolding slice_run
-  run_inside part run e = grind (arith, next_slices-count, taken_is)
-
   no_copy : (parts : List SlicePart) (i : ℕ) → slice_count p ≤ i → first_copy (runs_of p parts) i ≡ None
-  unfolding first_copy
+  unfolding first_copy slice_run
   no_copy [] i past = refl
-  no_copy (part ∷ parts) i past = grind (arith, slice_get_past, run_inside, no_copy parts i past)
+  no_copy (part ∷ parts) i past =
+      grind (arith, slice_get_past, no_copy parts i past, next_slices-count, taken_is)
 
 module _ (s : Sequence) where
   -- no slice is kept past the picture's last

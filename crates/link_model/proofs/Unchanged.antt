@@ -3,13 +3,11 @@ use Rattle.std.proofs.Common.{◌≡◌, ℕ, zero, suc, ◌+◌, false, List, [
 use Rattle.std.specs.List.{list_any, enumerate_from}
 use Rattle.std.specs.Option.{option_or}
 use Rattle.std.proofs.lemmas.Bool.{false≢true, or_parts}
-use Rattle.link_model.specs.Books.{Slots, slot_at, Gathered, Book, filled_with, with_run, gathers_run, takes_params, takes_slices, book_plan, known_by_book, book_takes, book_outcome}
-use Rattle.link_model.specs.Judgement.{parameters_outcome, slices_outcome, run_outcome, numbered_slices, is_new, keeps}
+use Rattle.link_model.specs.Books.{Slots, slot_at, Gathered, Book, filled_with, gathers_run, takes_slices, book_plan, known_by_book, book_takes, book_outcome}
+use Rattle.link_model.specs.Judgement.{slices_outcome, run_outcome, is_new, keeps}
 use Rattle.link_model.specs.Kept.{SliceRun, slice_run}
 use Rattle.link_model.specs.Session.{Part, ParamsPart, SlicesPart, SlicePart}
 use Rattle.link_model.specs.declared.outcome.Outcome.{Outcome}
-use Rattle.vc_types.specs.TransformParameters.{Parameters, coded_parameters}
-use Rattle.vc_types.specs.declared.refusal.ParamsRefusal.{ParamsRefusal}
 
 -- a run without a new slice changes nothing; the slots at hand are those from a number on
 same_from : (kept : ℕ → Option (List ℕ)) (slots : Slots) (slices : List (List ℕ)) (first : ℕ) → ((k : ℕ) → slot_at slots k ≡ kept (first + k))
@@ -32,16 +30,9 @@ slot_behind [] (suc first) k = refl
 slot_behind (slot ∷ slots) (suc first) k =
     slot_behind slots first k ∙ (let same : suc (first + k) ≡ suc first + k = omega arith in ap (slot_at (slot ∷ slots)) same)
 
-repeat_same : (slots : Slots) (run : SliceRun) → list_any (is_new (slot_at slots)) (numbered_slices run) ≡ false → with_run slots run ≡ slots
-repeat_same slots run none = grind (arith, same_from, slot_behind, take-append-drop)
-
 module _ (book : Book) where
-  params_unchanged : (o : Option Gathered) (body : List ℕ) (r : Result (Parameters × ℕ) ParamsRefusal) → coded_parameters book.sequence body ≡ r
-      → keeps (parameters_outcome (book_plan (record book { gathered = o })) r) ≡ false → takes_params o book body ≡ book
-  params_unchanged o body r is e = grind arith
-
   run_unchanged : (g : Gathered) (r : Result SliceRun Outcome) → keeps (run_outcome (slot_at g.slots) r) ≡ false → gathers_run g r ≡ g
-  run_unchanged g o e = grind (arith, repeat_same)
+  run_unchanged g o e = grind (arith, same_from, slot_behind, take-append-drop)
 
   slices_unchanged : (slices : SlicePart) (o : Option Gathered) → book.gathered ≡ o → keeps (let b : Book = record book { gathered = o } in slices_outcome (known_by_book b) (book_plan b) slices) ≡ false → takes_slices o book slices ≡ book
   slices_unchanged slices None is e = grind arith
@@ -51,7 +42,7 @@ module _ (book : Book) where
 
   pub unkept_changes_nothing : (part : Part) → keeps (book_outcome book part) ≡ false → book_takes book part ≡ book
   unfolding book_outcome book_takes
-  unkept_changes_nothing (ParamsPart body) e = params_unchanged book.gathered body (coded_parameters book.sequence body) refl e
+  unkept_changes_nothing (ParamsPart body) e = grind arith
   unkept_changes_nothing (SlicesPart slices) e = slices_unchanged slices book.gathered refl e
 
 pub ruleset laws = (unkept_changes_nothing)

@@ -5,7 +5,7 @@ use Rattle.std.specs.Option.{option_map, option_map_or}
 use Rattle.std.proofs.Math.Seq.{drop-append_seam}
 use Rattle.std.proofs.lemmas.Option.{same_Some, none-some}
 use Rattle.link_model.specs.Complete.{slice_numbers, all_bytes}
-use Rattle.link_model.specs.Kept.{KeptParameters, kept_parameters, parameters_in, SplitParts, split_by, also_before, split_parts, Own, own_of, own, own_slice, SliceRun, runs_of, slice_run, first_copy, next_slice, next_slices, waiting_limit}
+use Rattle.link_model.specs.Kept.{KeptParameters, kept_parameters, parameters_in, SplitParts, split_by, also_before, split_parts, Own, own_of, own, own_slice, runs_of, slice_run, first_copy, next_slice, next_slices, waiting_limit}
 use Rattle.link_model.specs.Session.{Part, ParamsPart, SlicesPart, SlicePart}
 use Rattle.vc_types.specs.Bits.{bits_of}
 use Rattle.vc_types.specs.Fields.{joined}
@@ -71,14 +71,10 @@ module _ (p : Parameters) (alone : SlicesStandAlone p) where
   next_whole zero bytes x e = subst (λ (x : List (List ℕ) × List ℕ). AreWhole x.0) (okay_is ([], bytes) x e) (λ k b none. absurd (none-some b none))
   next_whole (suc n) bytes x e = grind (arith, next_whole n)
 
-  run_whole : (part : SlicePart) (run : SliceRun) → slice_run p part ≡ Ok run → AreWhole run.slices
-  unfolding slice_run
-  run_whole part run e = grind (arith, next_whole, taken_is)
-
   runs_whole : (parts : List SlicePart) (i : ℕ) (bytes : List ℕ) → first_copy (runs_of p parts) i ≡ Some bytes → IsWholeSlice p bytes
-  unfolding first_copy
+  unfolding first_copy slice_run
   runs_whole [] i bytes e = absurd (none-some bytes e)
-  runs_whole (part ∷ parts) i bytes e = grind (arith, run_whole, runs_whole parts i bytes)
+  runs_whole (part ∷ parts) i bytes e = grind (arith, runs_whole parts i bytes, next_whole, taken_is)
 
 -- ---- the whole picture
 

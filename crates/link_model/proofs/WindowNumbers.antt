@@ -21,13 +21,9 @@ module _ (before window : ℕ) where
   abbrev IsHigh : List Numbered → Type 0
   IsHigh es = is_nothing es ≡ false → base_above before ≤ greatest es
 
-  first_is_high : (bits : ℕ) → base_above before ≤ picture_number (base_above before) [] bits
-  unfolding picture_number
-  first_is_high bits = omega arith
-
   enters_high : (es : List Numbered) (f : Fragment) → IsHigh es → IsHigh (enters (base_above before) window es f)
-  enters_high es f high =
-      grind (arith, early_enters, first_is_high, greatest-append, late_changes_nothing, greatest_one)
+  unfolding picture_number
+  enters_high es f high = grind (arith, early_enters, greatest-append, late_changes_nothing, greatest_one)
 
   all_high : (es : List Numbered) (fragments : List Fragment) → IsHigh es → IsHigh (fold (enters (base_above before) window) es fragments)
   all_high es [] high = high

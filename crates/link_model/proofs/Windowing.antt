@@ -1,7 +1,7 @@
 -- What a window's value is by its past, and that it stays so with a fragment more, a release, and the end of the input.
-use Rattle.std.proofs.Common.{◌≡◌, ℕ, ◌+◌, ◌-◌, ◌^◌, ◌<◌, ◌≤◌, max, Bool, true, false, List, [], ◌∷◌, ◌++◌, map, Option, Some, None, refl, ap, sym, ◌∙◌, inl, inr, arith, cond, nat_lt, nat_le, not, ◌&&◌, ◌||◌, filter}
+use Rattle.std.proofs.Common.{◌≡◌, ℕ, ◌+◌, ◌-◌, ◌^◌, ◌<◌, ◌≤◌, max, Bool, true, false, List, [], ◌∷◌, ◌++◌, map, Option, Some, None, refl, ap, sym, ◌∙◌, arith, cond, nat_lt, nat_le, not, ◌&&◌, ◌||◌, filter}
 use Rattle.std.specs.List.{flat_map, range_with_len, last_or}
-use Rattle.std.proofs.lemmas.Bool.{cases_lt, and_from, and_left, and_parts, cond-true, le-ltb, lt-ltb, leb-false, not_from_false, or_parts, or_from}
+use Rattle.std.proofs.lemmas.Bool.{and_from, and_left, and_parts, cond-true, le-ltb, lt-ltb, leb-false, not_from_false, or_parts, or_from}
 use Rattle.std.proofs.lemmas.List.{append-nil, map-append}
 use Rattle.link_model.specs.Books.{Book, book_of, book_takes}
 use Rattle.link_model.specs.Judgement.{fragment_outcome}
@@ -184,27 +184,10 @@ module _ (p : WindowPast) (runs : p.is_ended ≡ false) where
                   ∙ sym later_books) j;
             })
 
-        -- or stays
-        settled : n ≤ greatest_behind p.before p.entries → greatest_behind p.before p.entries ≡ greatest p.entries
-        settled high = grind arith
-
         stayed : n ≤ greatest_behind p.before p.entries → rises_to (opens_picture (window_of p) n part) n ≡ window_of later
         unfolding window_of is_closed
         stayed high =
-            grind (
-              arith,
-              books_over,
-              later_books,
-              le-ltb,
-              not_nothing,
-              rises,
-              settled,
-              top_later,
-              with_part_is,
-            )
-
-        entered_is : rises_to (opens_picture (window_of p) n part) n ≡ window_of later
-        entered_is = elim (cases_lt (greatest_behind p.before p.entries) n) [ inl less ↦ raised less | inr high ↦ stayed high ]
+            grind (arith, books_over, later_books, le-ltb, not_nothing, rises, top_later, with_part_is)
 
   -- a fragment more
   pub enters_is : (f : Fragment) → window_enters (window_of p) f ≡ window_of (past_enters p f)
@@ -213,11 +196,12 @@ module _ (p : WindowPast) (runs : p.is_ended ≡ false) where
       grind (
         arith,
         early_enters,
-        entered_is,
         first_is_above,
         late_changes_nothing,
         late_of_window,
         number_of_window,
+        raised,
+        stayed,
       )
 
   -- and its outcome

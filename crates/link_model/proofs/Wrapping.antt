@@ -1,5 +1,5 @@
 -- A picture's number has the 32 bits that were sent, is the nearest such number to the greatest one, and fits 64 bits.
-use Rattle.std.proofs.Common.{◌≡◌, ℕ, ◌+◌, ◌-◌, ◌%◌, ◌^◌, ◌<◌, ◌≤◌, false, List, [], ◌∷◌, ◌++◌, arith, fold, nat_le, nat_lt}
+use Rattle.std.proofs.Common.{◌≡◌, ℕ, ◌+◌, ◌-◌, ◌%◌, ◌^◌, ◌<◌, ◌≤◌, false, List, [], ◌∷◌, arith, fold, nat_le, nat_lt}
 use Rattle.std.proofs.lemmas.Bool.{or_parts, leb-false, cond-true, cond-false, lt-ltb, le-ltb}
 use Rattle.link_model.specs.Numbers.{Numbered, greatest, distance, nearest, is_closed, is_late, enters, entered}
 use Rattle.link_model.specs.Session.{Fragment}
@@ -25,23 +25,17 @@ module _ (g bits : ℕ) (large : 2 ^ 32 ≤ g) (small : bits < 2 ^ 32) where
 
 -- ---- all numbers that enter fit
 
-greatest-none : greatest [] < 2 ^ 64 - 16
-unfolding greatest
-greatest-none = omega arith
-
-greatest-one : (es : List Numbered) (e : Numbered) → greatest es < 2 ^ 64 - 16 → e.number < 2 ^ 64 - 16 → greatest (es ++ e ∷ []) < 2 ^ 64 - 16
-unfolding greatest
-greatest-one es e fits small = omega (arith, greatest-append es (e ∷ []), fits, small)
-
 unlate : (window : ℕ) (es : List Numbered) (n : ℕ) → is_late window es n ≡ false → n < 2 ^ 64 - 16
 unfolding is_late
 unlate window es n early = leb-false (2 ^ 64 - 16) n (or_parts (is_closed window es n) (nat_le (2 ^ 64 - 16) n) early).1
 
 pub enters_fits : (base window : ℕ) (es : List Numbered) (f : Fragment) → greatest es < 2 ^ 64 - 16 → greatest (enters base window es f) < 2 ^ 64 - 16
-enters_fits base window es f fits = grind (arith, early_enters, greatest-one, late_changes_nothing, unlate)
+unfolding greatest
+enters_fits base window es f fits = grind (arith, early_enters, late_changes_nothing, unlate, greatest-append)
 
 pub entered_fits : (base window : ℕ) (fragments : List Fragment) → greatest (entered base window fragments) < 2 ^ 64 - 16
-entered_fits base window fragments = all_fit [] fragments greatest-none
+unfolding greatest
+entered_fits base window fragments = all_fit [] fragments (omega arith)
   where
     all_fit : (es : List Numbered) (fragments : List Fragment) → greatest es < 2 ^ 64 - 16 → greatest (fold (enters base window) es fragments) < 2 ^ 64 - 16
     all_fit es [] fits = fits

@@ -1,12 +1,6 @@
 -- An RTP header that was written is read back.
-use Rattle.std.proofs.Common.{◌≡◌, ◌<◌, ◌≤◌, ℕ, ◌+◌, ◌/◌, ◌%◌, ◌^◌, Bool, true, false, List, ◌++◌, length, drop, Ok, refl, arith, if◌then◌else◌, ◌==◌, le-ltb}
-use Rattle.byteorder.specs.Endian.{big_number}
-use Rattle.link_model.specs.Packets.{RtpPacket, RtpFits, version, has_padding, has_extension, csrc_count, marker, payload_type, rtp_packet, rtp_header, is_shaped, header_end, payload_end, packet_fields}
-
--- a packet without CSRC list, extension or padding: the payload is all that follows the first 12 bytes
-plain_packet : (bytes : List ℕ) → 12 ≤ length bytes → version bytes ≡ 2 → has_padding bytes ≡ false → has_extension bytes ≡ false → csrc_count bytes ≡ 0 → rtp_packet bytes ≡ Ok (record { marker = marker bytes; payload_type = payload_type bytes; sequence = big_number 2 (drop 2 bytes); timestamp = big_number 4 (drop 4 bytes); ssrc = big_number 4 (drop 8 bytes); from = 12; to = length bytes })
-unfolding rtp_packet is_shaped header_end payload_end packet_fields
-plain_packet bytes long two unpadded unextended alone = grind (arith, le-ltb)
+use Rattle.std.proofs.Common.{◌≡◌, ◌<◌, ℕ, ◌+◌, ◌/◌, ◌%◌, ◌^◌, Bool, true, false, List, ◌++◌, length, Ok, refl, arith, if◌then◌else◌, ◌==◌, le-ltb}
+use Rattle.link_model.specs.Packets.{RtpPacket, RtpFits, marker, payload_type, rtp_packet, rtp_header, is_shaped, header_end, payload_end, packet_fields}
 
 -- the marker and the payload type in one byte
 marker_is : (m : Bool) (t : ℕ) → t < 2 ^ 7 → ((if m then 128 + t else t) / 128 == 1) ≡ m
@@ -25,7 +19,7 @@ same_packet : {m m' : Bool} {t t' s s' z z' c c' to to' : ℕ} → m ≡ m' → 
 same_packet em et es ez ec eto = λ i. packet (em i) (et i) (es i) (ez i) (ec i) (eto i)
 
 pub rtp_packet-rtp_header : (p : RtpPacket) (rest : List ℕ) → RtpFits p → rtp_packet (rtp_header p ++ rest) ≡ Ok (record p { from = 12; to = 12 + length rest })
-unfolding rtp_header
-rtp_packet-rtp_header p rest fits = grind (arith, marker_is, plain_packet, same_packet, type_is)
+unfolding rtp_header rtp_packet is_shaped header_end payload_end packet_fields
+rtp_packet-rtp_header p rest fits = grind (arith, marker_is, same_packet, type_is, le-ltb)
 
 pub ruleset laws = (rtp_packet-rtp_header)
