@@ -6,15 +6,17 @@ use Rattle.std.proofs.lemmas.List.Elements.{All-from_get_or}
 use Rattle.std.proofs.lemmas.Nat.{mul-add-lt, div_below}
 use Rattle.std.proofs.Math.Nat.{mul-le-mul_left, mul-le-mul_right}
 use Rattle.vc_types.specs.Lifting.{line_of}
-use Rattle.vc_types.specs.Transforms.{source_of, doubled, half_place}
+use Rattle.vc_types.specs.Transforms.{source_of, doubled}
 use Rattle.vc_types.specs.Wavelets.{synthesised, analysed}
 use Rattle.vc_lift.proofs.LineLaws.{synthesis_grows_little, synthesis_is_local, analysis_is_local}
-use Rattle.vc_wave.specs.Remade.{on_samples, halves_together, merged}
-use Rattle.vc_wave.proofs.PlaneLines.{rearranged_in}
+use Rattle.vc_wave.specs.Remade.{half_place, on_samples, halves_together, merged}
+use Rattle.vc_wave.proofs.PlaneLines.{rearranged_in, on_samples_in}
 use Rattle.vc_wave.proofs.PlaneGrowth.{doubled_below}
 use Rattle.vc_wave.proofs.Weaving.{half_place_below, source_of-half_place}
 use Rattle.vc_lift.specs.Columns.{column_of}
 use Rattle.vc_wave.specs.Remade.{sample_place}
+use Rattle.vc_wave.specs.declared.lines.Lines.{Lines}
+use Rattle.vc_wave.specs.Lines.{IsInside}
 
 -- ---- places
 
@@ -30,11 +32,12 @@ places_differ true half j k h lt ne e = ne (place_back half j k h lt e)
 places_differ false half j k h lt ne e = ne e
 
 -- a row of the lines is inside the grid
-pub row_inside : (start step width half p n : ℕ) → p < 2 * half → start + (2 * half - 1) * step + width ≤ n → start + p * step + width ≤ n
-row_inside start step width half p n h inside = let last : p ≤ 2 * half - 1 = omega arith in omega (arith, mul-le-mul_right step last)
-
-pub placed_inside : (start step width half n : ℕ) (apart : Bool) (k p : ℕ) → p ≡ sample_place apart half k → k < 2 * half → start + (2 * half - 1) * step + width ≤ n → start + p * step + width ≤ n
-placed_inside start step width half n apart k p e h = row_inside start step width half p n (rw e (place_below apart half k h))
+pub placed_inside : (lines : Lines) (cells : ℕ) → IsInside lines cells → (apart : Bool) (k : ℕ) → k < 2 * lines.half
+    → lines.start + sample_place apart lines.half k * lines.step + lines.width ≤ cells
+placed_inside lines cells inside apart k h =
+    let below = place_below apart lines.half k h in
+    let last : sample_place apart lines.half k ≤ 2 * lines.half - 1 = omega arith in
+    omega (arith, mul-le-mul_right lines.step last, inside.inside)
 
 pub block_inside : (half width k n : ℕ) → k < 2 * half → n ≡ 2 * half * width → k * width + width ≤ n
 block_inside half width k n h e = let more : k + 1 ≤ 2 * half = omega arith in omega (arith, mul-le-mul_right width more)
@@ -91,10 +94,6 @@ all_of_block m half width block whole small = All-from_get_or (λ z. unsigned_ab
         let column : i % width < width = omega arith in
         subst (λ j. unsigned_abs (line_of block j) < m) place (small (i % width) (i / width) column (div_below i width (2 * half) some h))
     at i h (inr none) = (let zero : width ≡ 0 = omega arith in absurd (omega (arith, subst (λ n. i < 2 * half * n) zero h)))
-
-pub on_samples_in : (f : ℤ → ℤ) (wanted : Bool) (n : ℕ) (l : ℕ → ℤ) (k : ℕ) → k < n → on_samples f wanted n l k ≡ (if wanted then f (l k) else l k)
-unfolding on_samples
-on_samples_in f wanted n l k h = grind arith
 
 module _ (wavelet half width : ℕ) (line : ℕ → ℤ) (gathered made : List ℤ) (x : ℕ)
     (from : (k : ℕ) → k < 2 * half → column_of width gathered x k ≡ line (half_place half k))

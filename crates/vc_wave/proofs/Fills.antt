@@ -1,23 +1,25 @@
 -- Rows of cells that are filled with a plane's samples, and what the forward transform makes of them.
-use Rattle.std.proofs.Common.{◌≡◌, ℕ, ◌+◌, ◌-◌, ◌*◌, ◌^◌, ◌<◌, ◌≤◌, List, length, set, ℤ, pos, ◌-ℤ◌, unsigned_abs, All, arith, ap, ◌∙◌, ◌⊎◌, inl, inr, slice_index_or, min}
+use Rattle.std.proofs.Common.{◌≡◌, ℕ, suc, ◌+◌, ◌-◌, ◌*◌, ◌/◌, ◌%◌, ◌^◌, ◌<◌, ◌≤◌, List, length, set, ℤ, pos}
+use Rattle.std.proofs.Common.{◌-ℤ◌, unsigned_abs, All, IsTrue, arith, ap, sym, ◌∙◌, ◌⊎◌, inl, inr, slice_index_or, min}
 use Rattle.std.proofs.lemmas.Bool.{cases_lt, cases_eq}
 use Rattle.std.specs.Prelude.{slice_range}
 use Rattle.std.proofs.lemmas.List.{get_or-set_same, get_or-set_other, get_or_past, get_or-take, get_or-drop, length-take-le, length-drop}
 use Rattle.std.proofs.lemmas.List.Elements.{All-get_or}
 use Rattle.std.proofs.lemmas.Nat.{same_from_place}
-use Rattle.std.proofs.Math.Nat.{mul-le-mul_right}
-use Rattle.std.proofs.Math.Pow.{pow_mono}
+use Rattle.std.proofs.lemmas.Int.{ints}
+use Rattle.std.proofs.Math.Nat.{mul-le-mul_right, pow-suc}
+use Rattle.std.proofs.Math.Pow.{pow_mono, pow_pos}
 use Rattle.vc_types.specs.declared.video.Component.{Component}
 use Rattle.vc_types.specs.Lifting.{line_of}
-use Rattle.vc_types.specs.Rasters.{Raster, Lattice, cell_at, sample_at}
+use Rattle.vc_types.specs.Rasters.{Raster, sample_at}
 use Rattle.vc_types.specs.Subbands.{plane_width, plane_height, plane_depth, padded_width, padded_height}
-use Rattle.vc_types.specs.TransformParameters.{Parameters}
+use Rattle.vc_types.specs.TransformParameters.{Parameters, is_symmetric}
 use Rattle.vc_types.specs.Transforms.{forward_levels, forward_transform, lowest_width, lowest_height, padded_plane}
 use Rattle.vc_wave.specs.Planes.{AreBelow, plane_of}
 use Rattle.vc_wave.proofs.TransformLocality.{forward_levels_agrees}
 use Rattle.vc_wave.specs.Samples.{padded_sample}
-use Rattle.vc_wave.proofs.Grids.{lattice, cell_at_plane}
-use Rattle.vc_wave.proofs.PlaneSteps.{plane_in, plane_out}
+use Rattle.vc_wave.proofs.PlaneSteps.{plane_in, plane_small}
+use Rattle.vc_wave.proofs.TransformLaws.{no_levels, same_side}
 
 -- ---- one sample more
 
@@ -46,51 +48,70 @@ row_read p samples w h x y row list wide high down some inside =
 pub row_inside : (p : Raster) (samples : List ℕ) (w h y row : ℕ) → length samples ≡ p.width * p.height → w ≡ p.width → h ≡ p.height → row ≡ min y (h - 1) → 1 ≤ p.height → row * w + w ≤ length samples
 row_inside p samples w h y row whole wide high down some = grind (arith, mul-le-mul_right)
 
--- ---- the forward transform of the filled cells
+-- ---- how large the filled cells are
 
-centred_small : (s d : ℕ) → s < 2 ^ d → 1 ≤ d → d ≤ 16 → unsigned_abs (pos s -ℤ pos (2 ^ (d - 1))) < 2 ^ 16
-centred_small s d h some few = grind (arith, pow_mono)
+centred_within : (s d : ℕ) → 1 ≤ d → s < 2 ^ d → unsigned_abs (pos s -ℤ pos (2 ^ (d - 1))) ≤ 2 ^ (d - 1)
+centred_within s d some h =
+    let whole : d ≡ suc (d - 1) = omega arith in
+    let twice : 2 ^ d ≡ 2 * 2 ^ (d - 1) = ap (λ n. 2 ^ n) whole ∙ pow-suc 2 (d - 1) ∙ omega arith in
+    omega (arith, ints, twice, h)
 
-pub samples_below : (m : ℕ) (p : Raster) → 0 < m → All (λ s. s < m) p.samples → (x y : ℕ) → sample_at p x y < m
+samples_below : (m : ℕ) (p : Raster) → 0 < m → All (λ s. s < m) p.samples → (x y : ℕ) → sample_at p x y < m
 unfolding sample_at
 samples_below m p some small x y = elim (cases_lt (y * p.width + x) (length p.samples)) [
   | inl h ↦ All-get_or (λ s. s < m) p.samples (y * p.width + x) 0 h small
   | inr h ↦ rw (get_or_past p.samples (y * p.width + x) 0 h) some
 ]
 
-module _ (p : Parameters) (c : Component) (plane : Raster) (made : Lattice) (width height depth : ℕ) (first cells : List ℤ)
-    (across : width ≡ padded_width p c) (down : height ≡ padded_height p c)
-    (own_width : plane.width ≡ plane_width p.shape c) (own_height : plane.height ≡ plane_height p.shape c) (own_depth : depth ≡ plane_depth p.shape c)
-    (filled : (x y : ℕ) → x < width → y < height → line_of first (y * width + x) ≡ padded_sample plane depth x y)
-    (whole : length first ≡ height * width) (kept : length cells ≡ length first) (is : made ≡ lattice width height cells) where
-  same_sample : (x y : ℕ) → padded_sample plane depth x y ≡ padded_plane p c (sample_at plane) x y
-  unfolding padded_plane
-  same_sample x y = grind arith
+module _ (plane : Raster) (width height depth : ℕ) (first : List ℤ)
+    (filled : (x y : ℕ) → x < width → y < height → line_of first (y * width + x) ≡ padded_sample plane depth x y) where
+  module _ (whole : length first ≡ height * width) (wide : 0 < width) (some : 1 ≤ depth)
+      (small : All (λ s. s < 2 ^ depth) plane.samples) where
+    row_within : (i : ℕ) → i < length first → (i / width < height) ⊎ (height ≤ i / width) → i / width < height
+    row_within i inside (inl lt) = lt
+    row_within i inside (inr ge) =
+        let below = mul-le-mul_right width ge in
+        let place : i / width * width + i % width ≡ i = omega arith in
+        absurd (omega (arith, below, whole, inside, place))
 
-  pub first_agrees : (x y : ℕ) → x < padded_width p c → y < padded_height p c → plane_of width first x y ≡ padded_plane p c (sample_at plane) x y
-  first_agrees x y h lt = plane_in width first x y (omega (arith, across)) ∙ filled x y (omega (arith, across)) (omega (arith, down)) ∙ same_sample x y
+    pub filled_within : (i : ℕ) → unsigned_abs (line_of first i) ≤ 2 ^ (depth - 1)
+    filled_within i = elim (cases_lt i (length first)) [
+      | inr past ↦ rw (get_or_past first i (pos 0) past) (omega arith)
+      | inl inside ↦ (
+          let place : i / width * width + i % width ≡ i = omega arith in
+          let row : i / width < height = row_within i inside (cases_lt (i / width) height) in
+          let at : line_of first i ≡ padded_sample plane depth (i % width) (i / width) =
+          ap (line_of first) (sym place) ∙ filled (i % width) (i / width) (omega arith) row in
+          rw at (centred_within _ depth some (samples_below (2 ^ depth) plane (pow_pos depth) small _ _)))
+    ]
 
-  made_plane : cell_at made ≡ plane_of width cells
-  made_plane = ap cell_at is ∙ cell_at_plane (lattice width height cells) (kept ∙ whole ∙ omega arith)
+    pub filled_below : depth ≤ 16 → AreBelow (2 ^ 16) (plane_of width first)
+    filled_below few x y =
+        let most : 2 ^ (depth - 1) ≤ 2 ^ 15 = pow_mono {i = depth - 1} {j = 15} (omega arith) in
+        let cell = plane_small width (2 ^ (depth - 1)) first filled_within x y in
+        omega (arith, most, cell)
 
-  pub forward_made : (w h : ℕ) → w ≡ lowest_width p c → h ≡ lowest_height p c → plane_of width cells ≡ forward_levels p.wavelet p.depth w h (plane_of width first) → (x y : ℕ) → x < made.width → y < made.height → cell_at made x y ≡ forward_transform p c (sample_at plane) x y
-  unfolding forward_transform
-  forward_made w h lowest_across lowest_down levels x y a b =
-      let wide : made.width ≡ width = ap (λ (g : Lattice). g.width) is in
-      let high : made.height ≡ height = ap (λ (g : Lattice). g.height) is in
-      ap (λ f. f x y) made_plane ∙ ap (λ f. f x y) levels
-      ∙ ap (λ n. forward_levels p.wavelet p.depth n h (plane_of width first) x y) lowest_across
-      ∙ ap (λ n. forward_levels p.wavelet p.depth (lowest_width p c) n (plane_of width first) x y) lowest_down
-      ∙ forward_levels_agrees p c (plane_of width first) (padded_plane p c (sample_at plane)) first_agrees x y (omega (arith, wide, across, a)) (omega (arith, high, down, b))
+  -- ---- the forward transform of the filled cells
 
--- how large the filled cells are
-module _ (plane : Raster) (width height depth : ℕ) (first : List ℤ) (filled : (x y : ℕ) → x < width → y < height → line_of first (y * width + x) ≡ padded_sample plane depth x y) (whole : length first ≡ height * width) where
-  pub filled_below : 1 ≤ depth → depth ≤ 16 → All (λ s. s < 2 ^ depth) plane.samples → AreBelow (2 ^ 16) (plane_of width first)
-  filled_below some few small x y = elim (cases_lt x width) [
-    | inl h ↦ rw (plane_in width first x y h) (within x y h (cases_lt y height))
-    | inr h ↦ rw (plane_out width first x y h) (omega arith)
-  ]
-    where
-      within : (x y : ℕ) → x < width → (y < height) ⊎ (height ≤ y) → unsigned_abs (line_of first (y * width + x)) < 2 ^ 16
-      within x y h (inl lt) = rw (filled x y h lt) (centred_small _ depth (samples_below (2 ^ depth) plane (omega (arith, pow_mono some)) small (min x (plane.width - 1)) (min y (plane.height - 1))) some few)
-      within x y h (inr ge) = (let below = mul-le-mul_right width ge in rw (get_or_past first (y * width + x) (pos 0) (omega (arith, below, whole))) (omega arith))
+  module _ (p : Parameters) (c : Component) (across : width ≡ padded_width p c) (down : height ≡ padded_height p c)
+      (own_width : plane.width ≡ plane_width p.shape c) (own_height : plane.height ≡ plane_height p.shape c)
+      (own_depth : depth ≡ plane_depth p.shape c) where
+    same_sample : (x y : ℕ) → padded_sample plane depth x y ≡ padded_plane p c (sample_at plane) x y
+    unfolding padded_plane
+    same_sample x y = grind arith
+
+    first_agrees : (x y : ℕ) → x < padded_width p c → y < padded_height p c
+        → plane_of width first x y ≡ padded_plane p c (sample_at plane) x y
+    first_agrees x y h lt =
+        plane_in width first x y (omega (arith, across))
+        ∙ filled x y (omega (arith, across)) (omega (arith, down)) ∙ same_sample x y
+
+    -- of a symmetric transform, which has no levels across alone
+    pub filled_levels : IsTrue (is_symmetric p) → (x y : ℕ) → x < padded_width p c → y < padded_height p c
+        → forward_levels p.wavelet p.depth (lowest_width p c * 2 ^ p.depth_ho) (lowest_height p c) (plane_of width first) x y
+        ≡ forward_transform p c (sample_at plane) x y
+    unfolding forward_transform
+    filled_levels symmetric x y a b =
+        let side = same_side (lowest_width p c) p.depth_ho (no_levels p symmetric) in
+        ap (λ n. forward_levels p.wavelet p.depth n (lowest_height p c) (plane_of width first) x y) side
+        ∙ forward_levels_agrees p c (plane_of width first) (padded_plane p c (sample_at plane)) first_agrees x y a b

@@ -14,7 +14,7 @@ use Rattle.vc_types.specs.Rasters.{Lattice, cell_at}
 use Rattle.vc_types.specs.declared.video.Component.{Component}
 use Rattle.vc_types.specs.Subbands.{padded_width, padded_height}
 use Rattle.vc_types.specs.TransformParameters.{Parameters}
-use Rattle.vc_types.specs.Transforms.{Cells, levels_across, inverse_levels, lowest_width, lowest_height, inverse_transform}
+use Rattle.vc_types.specs.Transforms.{inverse_transform}
 use Rattle.vc_wave.specs.Planes.{AreBelow, plane_of}
 use Rattle.vc_wave.proofs.PlaneSteps.{plane_in, plane_out}
 
@@ -99,15 +99,3 @@ module _ (p : Parameters) (c : Component) (coeffs made : Lattice) (width height 
 
   pub inverse_made : plane_of width cells ≡ inverse_transform p c (plane_of width first) → cell_at made ≡ inverse_transform p c (cell_at coeffs)
   inverse_made levels = made_plane ∙ levels ∙ ap (inverse_transform p c) first_plane
-
--- the levels in two loops
-module _ (p : Parameters) (c : Component) (w side h : ℕ) (first second last : Cells) (lowest_across : w ≡ lowest_width p c) (lowest_down : h ≡ lowest_height p c) (above : side ≡ w * 2 ^ p.depth_ho) where
-  abbrev both_ways : ℕ → ℕ → Cells → Cells
-  both_ways n m g = inverse_levels p.wavelet p.wavelet_ho p.depth n m g
-
-  abbrev across_alone : ℕ → ℕ → Cells → Cells
-  across_alone n m g = levels_across p.wavelet_ho p.depth_ho n m g
-
-  pub all_levels : second ≡ across_alone w h first → last ≡ both_ways side h second → last ≡ inverse_transform p c first
-  unfolding inverse_transform
-  all_levels before levels = grind arith

@@ -13,7 +13,8 @@ use Rattle.vc_wave.specs.Remade.{level_in_turn}
 use Rattle.vc_wave.proofs.Grids.{padded_whole}
 use Rattle.vc_wave.proofs.LayoutLaws.{laid_together}
 use Rattle.vc_wave.proofs.Levels.{next_level}
-use Rattle.vc_wave.proofs.NarrowLevels.{in_turn_level}
+use Rattle.vc_wave.proofs.TransformLocality.{side_parts}
+use Rattle.vc_wave.proofs.TurnedLevels.{in_turn_level}
 
 double : (n m u : ℕ) → suc n ≡ m → 2 * (u * 2 ^ n) ≡ u * 2 ^ m
 double n m u e = grind (arith, pow-suc)
@@ -23,36 +24,42 @@ in_turn : (vertical horizontal w h : ℕ) (plane : Cells) → level_in_turn vert
 unfolding row_in_turn
 in_turn vertical horizontal w h plane = ap (level_in_turn vertical horizontal w h) (laid_together 0 w h plane) ∙ in_turn_level vertical horizontal w h (laid_out 1 w h plane)
 
-module _ (p : Parameters) (c : Component) (w h : ℕ) (some : 1 ≤ p.depth) (wide : w ≡ lowest_width p c * 2 ^ p.depth_ho * 2 ^ (p.depth - 1)) (high : h ≡ lowest_height p c * 2 ^ (p.depth - 1)) where
-  together : lowest_width p c * 2 ^ p.depth_ho * 2 ^ (p.depth - 1) ≡ lowest_width p c * 2 ^ (p.depth_ho + (p.depth - 1))
-  together = grind (arith, pow-add)
+module _ (p : Parameters) (c : Component) (some : 1 ≤ p.depth) where
+  -- the columns and rows of the highest level's subbands
+  abbrev w : ℕ
+  w = lowest_width p c * 2 ^ p.depth_ho * 2 ^ (p.depth - 1)
+
+  abbrev h : ℕ
+  h = lowest_height p c * 2 ^ (p.depth - 1)
 
   whole_width : 2 * w ≡ padded_width p c
-  whole_width = ap (λ n. 2 * n) (wide ∙ together) ∙ double (p.depth_ho + (p.depth - 1)) (levels p) (lowest_width p c) (omega arith) ∙ padded_whole (plane_width p.shape c) (levels p)
+  whole_width =
+      ap (λ n. 2 * n) (side_parts (lowest_width p c) (p.depth - 1) p.depth_ho)
+      ∙ double (p.depth - 1 + p.depth_ho) (levels p) (lowest_width p c) (omega arith)
+      ∙ padded_whole (plane_width p.shape c) (levels p)
 
   whole_height : 2 * h ≡ padded_height p c
-  whole_height = ap (λ n. 2 * n) high ∙ double (p.depth - 1) p.depth (lowest_height p c) (omega arith) ∙ padded_whole (plane_height p.shape c) p.depth
+  whole_height = double (p.depth - 1) p.depth (lowest_height p c) (omega arith) ∙ padded_whole (plane_height p.shape c) p.depth
 
-  pub highest_made : (stride : ℕ) (cells : List ℤ) (nested : Cells) → nested_above p c (p.depth - 1) stride cells ≡ after_levels p c (p.depth - 1) nested
+  pub highest_made : (stride : ℕ) (cells : List ℤ) (nested : Cells)
+      → nested_above p c (p.depth - 1) stride cells ≡ after_levels p c (p.depth - 1) nested
       → level_in_turn p.wavelet p.wavelet_ho w h (plane_of stride cells) ≡ inverse_transform p c nested
   unfolding inverse_transform
   highest_made stride cells nested below =
-      let plane = plane_of stride cells in
-      let side = lowest_width p c * 2 ^ p.depth_ho in
-      let first = levels_across p.wavelet_ho p.depth_ho (lowest_width p c) (lowest_height p c) nested in
-      let columns = side * 2 ^ (p.depth - 1) in
-      let rows = lowest_height p c * 2 ^ (p.depth - 1) in
       let one : 1 ≡ p.depth - (p.depth - 1) = omega arith in
       let all : p.depth - 1 + 1 ≡ p.depth = omega arith in
-      ap (λ n. level_in_turn p.wavelet p.wavelet_ho n h plane) wide
-      ∙ ap (λ n. level_in_turn p.wavelet p.wavelet_ho columns n plane) high
-      ∙ in_turn p.wavelet p.wavelet_ho columns rows plane
-      ∙ ap (λ n. inverse_level p.wavelet p.wavelet_ho columns rows (laid_out n columns rows plane)) one
-      ∙ next_level p.wavelet p.wavelet_ho (p.depth - 1) side (lowest_height p c) first (nested_above p c (p.depth - 1) stride cells)
-      (inverse_level p.wavelet p.wavelet_ho columns rows (nested_above p c (p.depth - 1) stride cells)) below refl
+      let side = lowest_width p c * 2 ^ p.depth_ho in
+      in_turn p.wavelet p.wavelet_ho w h (plane_of stride cells)
+      ∙ ap (λ n. inverse_level p.wavelet p.wavelet_ho w h (laid_out n w h (plane_of stride cells))) one
+      ∙ next_level p.wavelet p.wavelet_ho (p.depth - 1) side (lowest_height p c)
+      (levels_across p.wavelet_ho p.depth_ho (lowest_width p c) (lowest_height p c) nested)
+      (nested_above p c (p.depth - 1) stride cells)
+      (inverse_level p.wavelet p.wavelet_ho w h (nested_above p c (p.depth - 1) stride cells)) below refl
       ∙ ap (λ n. after_levels p c n nested) all
 
-  pub highest_room : (columns rows stride cells : ℕ) → columns ≡ plane_width p.shape c → rows ≡ plane_height p.shape c → 1 ≤ columns → 1 ≤ rows → padded_width p c ≤ stride → padded_height p c * stride ≤ cells → FillsPlane w h columns rows stride cells
+  pub highest_room : (columns rows stride cells : ℕ) → columns ≡ plane_width p.shape c → rows ≡ plane_height p.shape c
+      → 1 ≤ columns → 1 ≤ rows → padded_width p c ≤ stride → padded_height p c * stride ≤ cells
+      → FillsPlane w h columns rows stride cells
   highest_room columns rows stride cells is is_high first top inside room =
       let width = whole_width in
       let height = whole_height in

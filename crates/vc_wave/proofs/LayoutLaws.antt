@@ -12,7 +12,7 @@ use Rattle.vc_wave.specs.Planes.{plane_of}
 use Rattle.vc_wave.specs.Remade.{halves_together}
 use Rattle.vc_wave.proofs.PlaneLines.{column_in, column_out, rearranged_in, rearranged_past}
 use Rattle.vc_wave.proofs.PlaneSteps.{plane_in, plane_out}
-use Rattle.vc_wave.proofs.TransformLocality.{Agree}
+use Rattle.vc_wave.proofs.TransformLocality.{StaysIn}
 use Rattle.vc_wave.proofs.Weaving.{half_place_below, source_below, source_of-half_place, half_place-source_of, first_source}
 
 -- the row of a level that a cell is taken to
@@ -71,8 +71,7 @@ quotient_parts n m = omega (arith, mod-eq-sub-div-mul n m, div-mul-le_self n m)
 -- ---- a function of planes that leaves all but the first columns and rows, on rows that stand apart
 
 module _ (f : Cells → Cells) (a b levels w h stride : ℕ) (wide : a ≤ w) (high : b ≤ h) (inside : a ≤ stride)
-    (past : (c : Cells) (x y : ℕ) → (a ≤ x) ⊎ (b ≤ y) → f c x y ≡ c x y)
-    (agrees : (c d : Cells) → Agree a b c d → Agree a b (f c) (f d))
+    (stays : StaysIn a b f)
     (old new : List ℤ) (made : plane_of (stride * 2 ^ levels) new ≡ f (plane_of (stride * 2 ^ levels) old)) where
   -- cell (x, k * 2 ^ levels + r) is cell (r * stride + x, k) of the rows that stand apart
   same_place : (x k r : ℕ) → (k * 2 ^ levels + r) * stride + x ≡ k * (stride * 2 ^ levels) + (r * stride + x)
@@ -94,7 +93,7 @@ module _ (f : Cells → Cells) (a b levels w h stride : ℕ) (wide : a ≤ w) (h
   -- a cell that the function leaves
   left_at : (x k r : ℕ) → x < stride → r < 2 ^ levels → (a ≤ r * stride + x) ⊎ (b ≤ k) → plane_of stride new x (k * 2 ^ levels + r) ≡ plane_of stride old x (k * 2 ^ levels + r)
   left_at x k r h lt out =
-      spread new x k r h lt ∙ ap (λ p. p (r * stride + x) k) made ∙ past (plane_of (stride * 2 ^ levels) old) (r * stride + x) k out ∙ sym (spread old x k r h lt)
+      spread new x k r h lt ∙ ap (λ p. p (r * stride + x) k) made ∙ stays.past (plane_of (stride * 2 ^ levels) old) (r * stride + x) k out ∙ sym (spread old x k r h lt)
 
   -- none of the cells outside the first columns and rows falls on those
   not_first : (x y k r : ℕ) → row_in_turn levels w h x y ≡ k * 2 ^ levels + r → x < stride → (a ≤ x) ⊎ (b ≤ y) → (a ≤ r * stride + x) ⊎ (r * stride + x < a) → (b ≤ k) ⊎ (k < b) → (a ≤ r * stride + x) ⊎ (b ≤ k)
@@ -123,11 +122,11 @@ module _ (f : Cells → Cells) (a b levels w h stride : ℕ) (wide : a ≤ w) (h
       either (inr h) = inl h
 
   laid_at : (x y : ℕ) → (x < a) ⊎ (a ≤ x) → (y < b) ⊎ (b ≤ y) → laid_out levels w h (plane_of stride new) x y ≡ f (laid_out levels w h (plane_of stride old)) x y
-  laid_at x y (inr right) any = kept x y (cases_lt x stride) (inl right) ∙ sym (past (laid_out levels w h (plane_of stride old)) x y (inl right))
-  laid_at x y (inl lt) (inr low) = kept x y (cases_lt x stride) (inr low) ∙ sym (past (laid_out levels w h (plane_of stride old)) x y (inr low))
+  laid_at x y (inr right) any = kept x y (cases_lt x stride) (inl right) ∙ sym (stays.past (laid_out levels w h (plane_of stride old)) x y (inl right))
+  laid_at x y (inl lt) (inr low) = kept x y (cases_lt x stride) (inr low) ∙ sym (stays.past (laid_out levels w h (plane_of stride old)) x y (inr low))
   laid_at x y (inl lt) (inl below) =
       at_lowest new x y lt below ∙ ap (λ p. p x y) made
-      ∙ agrees (plane_of (stride * 2 ^ levels) old) (laid_out levels w h (plane_of stride old)) (λ u v d e. sym (at_lowest old u v d e)) x y lt below
+      ∙ stays.agrees (plane_of (stride * 2 ^ levels) old) (laid_out levels w h (plane_of stride old)) (λ u v d e. sym (at_lowest old u v d e)) x y lt below
 
   pub laid_after : laid_out levels w h (plane_of stride new) ≡ f (laid_out levels w h (plane_of stride old))
   laid_after = fun_ext (λ x. fun_ext (λ y. laid_at x y (cases_lt x a) (cases_lt y b)))

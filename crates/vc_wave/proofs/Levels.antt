@@ -19,40 +19,40 @@ level_fits w level levels h =
     let times = mul-le-mul_left w more in
     omega (arith, times, ap (λ p. w * p) (pow-suc 2 level))
 
+pub twice_side : (w n : ℕ) → w * 2 ^ (n + 1) ≡ 2 * (w * 2 ^ n)
+twice_side w n = ap (λ k. w * 2 ^ k) (add-one n) ∙ ap (λ p. w * p) (pow-suc 2 n) ∙ omega arith
+
 pub level_some : (w level : ℕ) → 0 < w → 0 < w * 2 ^ level
 level_some w level h = omega (arith, mul-le-mul h (pow_pos level))
 
--- there is room for it where the lists are still as long as they were
-pub level_room : (w h level levels columns rows stride cells cells_now block scratch scratch_now : ℕ) → level < levels → columns ≡ w * 2 ^ level → rows ≡ h * 2 ^ level → cells_now ≡ cells → scratch_now ≡ scratch
-    → HasRoom (w * 2 ^ levels) (h * 2 ^ levels) stride cells block scratch → HasRoom (2 * columns) (2 * rows) stride cells_now block scratch_now
-level_room w h level levels columns rows stride cells cells_now block scratch scratch_now lt across down same kept room =
-    grind (arith, level_fits, mul-le-mul_right)
+-- there is room for it
+pub level_room : (w h n levels stride cells block scratch : ℕ) → n < levels
+    → HasRoom (w * 2 ^ levels) (h * 2 ^ levels) stride cells block scratch
+    → HasRoom (2 * (w * 2 ^ n)) (2 * (h * 2 ^ n)) stride cells block scratch
+level_room w h n levels stride cells block scratch lt room = grind (arith, level_fits, mul-le-mul_right)
 
-pub across_room : (w h level levels columns stride cells cells_now block scratch scratch_now : ℕ) → level < levels → columns ≡ w * 2 ^ level → cells_now ≡ cells → scratch_now ≡ scratch
-    → HasRoom (w * 2 ^ levels) h stride cells block scratch → HasRoom (2 * columns) h stride cells_now block scratch_now
-across_room w h level levels columns stride cells cells_now block scratch scratch_now lt across same kept room =
-    grind (arith, level_fits)
+pub across_room : (w h n levels stride cells block scratch : ℕ) → n < levels
+    → HasRoom (w * 2 ^ levels) h stride cells block scratch → HasRoom (2 * (w * 2 ^ n)) h stride cells block scratch
+across_room w h n levels stride cells block scratch lt room = grind (arith, level_fits)
 
--- room for all levels of a component, where the lists are still as long as they were, and for the lowest levels alone
-pub whole_room : (p : Parameters) (c : Component) (w side h stride cells cells_now block scratch scratch_now : ℕ) → w ≡ lowest_width p c → side ≡ w * 2 ^ p.depth_ho → h ≡ lowest_height p c → cells_now ≡ cells → scratch_now ≡ scratch
-    → HasRoom (padded_width p c) (padded_height p c) stride cells block scratch → HasRoom (side * 2 ^ p.depth) (h * 2 ^ p.depth) stride cells_now block scratch_now
-whole_room p c w side h stride cells cells_now block scratch scratch_now narrow above low same kept room =
-    grind (arith, side_whole, div-mul-le_self, mul-le-mul_right)
+-- room for all levels of a component, and for the lowest levels alone
+module _ (p : Parameters) (c : Component) (stride cells block scratch : ℕ)
+    (room : HasRoom (padded_width p c) (padded_height p c) stride cells block scratch) where
+  pub whole_room : HasRoom (lowest_width p c * 2 ^ p.depth_ho * 2 ^ p.depth) (lowest_height p c * 2 ^ p.depth)
+      stride cells block scratch
+  whole_room = grind (arith, side_whole, div-mul-le_self, mul-le-mul_right)
 
-lower_room : (w h d stride cells block scratch : ℕ) → HasRoom (w * 2 ^ d) (h * 2 ^ d) stride cells block scratch → HasRoom w h stride cells block scratch
-lower_room w h d stride cells block scratch room =
-    let across = less w d (w * 2 ^ d) (omega arith) in
-    let down = less h d (h * 2 ^ d) (omega arith) in
-    record {
-      across = omega (arith, across, room.across);
-      down = (let fits = mul-le-mul_right stride down in omega (arith, fits, room.down));
-      row = omega (arith, across, room.row);
-      side_by_side = (let fits = mul-le-mul_right block down in omega (arith, fits, room.side_by_side));
-    }
-
-pub lowest_room : (p : Parameters) (c : Component) (w h stride cells block scratch : ℕ) → w ≡ lowest_width p c → h ≡ lowest_height p c → HasRoom (padded_width p c) (padded_height p c) stride cells block scratch → HasRoom (w * 2 ^ p.depth_ho) h stride cells block scratch
-lowest_room p c w h stride cells block scratch narrow low room =
-    lower_room (w * 2 ^ p.depth_ho) h p.depth stride cells block scratch (whole_room p c w (w * 2 ^ p.depth_ho) h stride cells cells block scratch scratch narrow refl low refl refl room)
+  pub lowest_room : HasRoom (lowest_width p c * 2 ^ p.depth_ho) (lowest_height p c) stride cells block scratch
+  lowest_room =
+      let side = less (lowest_width p c * 2 ^ p.depth_ho) p.depth (padded_width p c)
+      (side_whole (padded_width p c) p.depth p.depth_ho) in
+      let low = less (lowest_height p c) p.depth (padded_height p c) (div-mul-le_self (padded_height p c) (2 ^ p.depth)) in
+      record {
+        across = omega (arith, side, room.across);
+        down = (let fits = mul-le-mul_right stride low in omega (arith, fits, room.down));
+        row = omega (arith, side, room.row);
+        side_by_side = (let fits = mul-le-mul_right block low in omega (arith, fits, room.side_by_side));
+      }
 
 -- ---- one level more
 

@@ -8,15 +8,13 @@ pub mod PlaneSteps
 pub mod Copies
 pub mod Grids
 pub mod Fills
-mod NarrowRows
+mod RowHalves
 mod OutputRows
 mod HighestLevel
 pub mod Clipping
 mod NarrowColumns
 pub mod LayoutLaws
 pub mod Turns
-pub mod NarrowLevels
-mod NarrowCarry
-mod PartedRows
-mod PartedLevels
+mod TurnedLevels
+mod CarriedBounds
 pub mod ExactSides

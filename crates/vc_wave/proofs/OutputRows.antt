@@ -5,8 +5,8 @@ use Rattle.std.proofs.lemmas.List.{get_or-set_same, get_or-set_other}
 use Rattle.std.proofs.lemmas.Nat.{mul-add-lt}
 use Rattle.vc_types.specs.Lifting.{Line, line_of}
 use Rattle.vc_types.specs.Planes.{output_sample}
-use Rattle.vc_types.specs.Transforms.{half_place}
 use Rattle.vc_wave.specs.Planes.{plane_of}
+use Rattle.vc_wave.specs.Remade.{half_place}
 use Rattle.vc_wave.proofs.PlaneLines.{ReadsBelow}
 use Rattle.vc_wave.proofs.PlaneSteps.{plane_in}
 

@@ -1,18 +1,19 @@
 -- How much the transform of a plane may raise its magnitudes.
 use Rattle.std.proofs.Common.{◌≡◌, ℕ, zero, suc, ◌+◌, ◌-◌, ◌*◌, ◌^◌, ◌<◌, ◌≤◌, ℤ, pos, negsuc, ◌+ℤ◌, unsigned_abs, arith, refl, subst, sym, ◌∙◌, Bool, false}
 use Rattle.std.specs.Int.{int_shr}
+use mathlib.Core.Path.{fun_ext}
 use Rattle.std.proofs.lemmas.Int.{ints}
 use Rattle.std.proofs.lemmas.Nat.{pow-add}
 use Rattle.std.proofs.Math.Nat.{mul-le-mul_left}
 use Rattle.std.proofs.Math.Pow.{pow_mono}
 use Rattle.vc_types.specs.Lifting.{Line}
-use Rattle.vc_types.specs.Transforms.{Cells, half_place, source_of, on_columns, on_rows, halved, doubled, level_across, inverse_level, forward_level, levels_across, inverse_levels, forward_levels}
+use Rattle.vc_types.specs.Transforms.{Cells, source_of, on_columns, on_rows, halved, doubled, level_across, inverse_level, forward_level, levels_across, inverse_levels, forward_levels}
 use Rattle.vc_types.specs.Wavelets.{is_shifted, synthesised, analysed, GrowsAtMost}
 use Rattle.vc_lift.proofs.LineLaws.{synthesis_grows_little, analysis_grows_less, synthesis_past, analysis_past}
 use Rattle.vc_wave.specs.declared.pass.Direction.{Direction}
 use Rattle.vc_wave.specs.declared.pass.Direction.TheVariants.{Synthesis, Analysis}
 use Rattle.vc_wave.specs.Planes.{AreBelow}
-use Rattle.vc_wave.specs.Remade.{rearranged, halves_together, on_samples, merged, parted, remade}
+use Rattle.vc_wave.specs.Remade.{half_place, rearranged, halves_together, on_samples, merged, parted, remade}
 use Rattle.vc_wave.proofs.PlaneLines.{LeavesPast, column_in, column_out, row_in, row_out, rearranged_in, rearranged_past}
 use Rattle.vc_wave.proofs.Weaving.{level_across_remade, inverse_level_remade, forward_level_remade}
 
@@ -71,80 +72,100 @@ remade_raises Analysis wavelet shifted half m large l small k =
     let a = parted_raises wavelet half (2 * m) (omega arith) (on_samples doubled shifted (2 * half) l) (on_samples_raises doubled shifted (2 * half) m (2 * m) (doubled_below m) (omega arith) l small) k in
     omega (arith, a)
 
--- ---- planes: each pass over lines raises a bound by four bits
+-- ---- planes
+
+-- a function of planes raises a bound on magnitudes by so many bits
+abbrev pub GrowsBy : ℕ → (Cells → Cells) → Type 0
+GrowsBy bits f = (n : ℕ) (c : Cells) → 16 ≤ n → AreBelow (2 ^ n) c → AreBelow (2 ^ (n + bits)) (f c)
+
+none_grows : (bits : ℕ) → GrowsBy bits (λ c. c)
+none_grows bits n c large small = below_more n (n + bits) c (omega arith) small
+
+-- one after another
+both_grow : (i j bits : ℕ) (f g : Cells → Cells) → i + j ≡ bits → GrowsBy i f → GrowsBy j g → GrowsBy bits (λ c. f (g c))
+both_grow i j bits f g sum p q n c large small =
+    below_more (n + j + i) (n + bits) (f (g c)) (omega arith) (p (n + j) (g c) (omega arith) (q n c large small))
 
 four_more : (n : ℕ) → 2 ^ (n + 4) ≡ 16 * 2 ^ n
 four_more n = pow-add 2 n 4 ∙ omega arith
 
-module _ (d : Direction) (wavelet : ℕ) (shifted : Bool) (half lines n : ℕ) (c : Cells) (large : 16 ≤ n) (small : AreBelow (2 ^ n) c) where
-  raises : Raises (2 ^ n) (2 ^ (n + 4)) (remade d wavelet shifted half)
-  raises = rw (four_more n) (remade_raises d wavelet shifted half (2 ^ n) (pow_mono large))
+-- each pass over lines raises it by four bits
+module _ (d : Direction) (wavelet : ℕ) (shifted : Bool) (half lines : ℕ) where
+  raises : (n : ℕ) → 16 ≤ n → Raises (2 ^ n) (2 ^ (n + 4)) (remade d wavelet shifted half)
+  raises n large = rw (four_more n) (remade_raises d wavelet shifted half (2 ^ n) (pow_mono large))
 
-  kept : (x y : ℕ) → unsigned_abs (c x y) < 2 ^ (n + 4)
-  kept = below_more n (n + 4) c (omega arith) small
+  pub columns_grow : GrowsBy 4 (on_columns (remade d wavelet shifted half) lines)
+  columns_grow n c large small x y =
+      let made = raises n large in
+      let kept = none_grows 4 n c large small in
+      grind (arith, column_in, made, column_out, kept)
 
-  pub columns_grow : AreBelow (2 ^ (n + 4)) (on_columns (remade d wavelet shifted half) lines c)
-  columns_grow x y = grind (arith, column_in, raises, column_out, kept)
+  pub rows_grow : GrowsBy 4 (on_rows (remade d wavelet shifted half) lines)
+  rows_grow n c large small x y =
+      let made = raises n large in
+      let kept = none_grows 4 n c large small in
+      grind (arith, row_in, made, row_out, kept)
 
-  pub rows_grow : AreBelow (2 ^ (n + 4)) (on_rows (remade d wavelet shifted half) lines c)
-  rows_grow x y = grind (arith, row_in, raises, row_out, kept)
+level_across_grows : (wavelet w h : ℕ) → GrowsBy 4 (level_across wavelet w h)
+level_across_grows wavelet w h =
+    subst (GrowsBy 4) (fun_ext (λ c. sym (level_across_remade wavelet w h c)))
+    (rows_grow Synthesis wavelet (is_shifted wavelet) w h)
 
-abbrev At : ℕ → Cells → Type 0
-At n c = AreBelow (2 ^ n) c
+inverse_level_grows : (vertical horizontal w h : ℕ) → GrowsBy 8 (inverse_level vertical horizontal w h)
+inverse_level_grows vertical horizontal w h =
+    subst (GrowsBy 8) (fun_ext (λ c. sym (inverse_level_remade vertical horizontal w h c)))
+    (both_grow 4 4 8 (on_rows (remade Synthesis horizontal (is_shifted horizontal) w) (2 * h))
+    (on_columns (remade Synthesis vertical false h) (2 * w)) (omega arith)
+    (rows_grow Synthesis horizontal (is_shifted horizontal) w (2 * h))
+    (columns_grow Synthesis vertical false h (2 * w)))
 
-pub level_across_grows : (wavelet w h n : ℕ) (c : Cells) → 16 ≤ n → AreBelow (2 ^ n) c → AreBelow (2 ^ (n + 4)) (level_across wavelet w h c)
-level_across_grows wavelet w h n c large small =
-    subst (At (n + 4)) (sym (level_across_remade wavelet w h c)) (rows_grow Synthesis wavelet (is_shifted wavelet) w h n c large small)
-
-pub inverse_level_grows : (vertical horizontal w h n : ℕ) (c : Cells) → 16 ≤ n → AreBelow (2 ^ n) c → AreBelow (2 ^ (n + 8)) (inverse_level vertical horizontal w h c)
-inverse_level_grows vertical horizontal w h n c large small =
-    let columns = columns_grow Synthesis vertical false h (2 * w) n c large small in
-    let rows = rows_grow Synthesis horizontal (is_shifted horizontal) w (2 * h) (n + 4) (on_columns (remade Synthesis vertical false h) (2 * w) c) (omega arith) columns in
-    let eight : n + 4 + 4 ≡ n + 8 = omega arith in
-    subst (At (n + 8)) (sym (inverse_level_remade vertical horizontal w h c)) (subst (λ m. At m (on_rows (remade Synthesis horizontal (is_shifted horizontal) w) (2 * h) (on_columns (remade Synthesis vertical false h) (2 * w) c))) eight rows)
-
-pub forward_level_grows : (wavelet w h n : ℕ) (c : Cells) → 16 ≤ n → AreBelow (2 ^ n) c → AreBelow (2 ^ (n + 8)) (forward_level wavelet w h c)
-forward_level_grows wavelet w h n c large small =
-    let rows = rows_grow Analysis wavelet (is_shifted wavelet) w (2 * h) n c large small in
-    let columns = columns_grow Analysis wavelet false h (2 * w) (n + 4) (on_rows (remade Analysis wavelet (is_shifted wavelet) w) (2 * h) c) (omega arith) rows in
-    let eight : n + 4 + 4 ≡ n + 8 = omega arith in
-    subst (At (n + 8)) (sym (forward_level_remade wavelet w h c)) (subst (λ m. At m (on_columns (remade Analysis wavelet false h) (2 * w) (on_rows (remade Analysis wavelet (is_shifted wavelet) w) (2 * h) c))) eight columns)
+pub forward_level_grows : (wavelet w h : ℕ) → GrowsBy 8 (forward_level wavelet w h)
+forward_level_grows wavelet w h =
+    subst (GrowsBy 8) (fun_ext (λ c. sym (forward_level_remade wavelet w h c)))
+    (both_grow 4 4 8 (on_columns (remade Analysis wavelet false h) (2 * w))
+    (on_rows (remade Analysis wavelet (is_shifted wavelet) w) (2 * h)) (omega arith)
+    (columns_grow Analysis wavelet false h (2 * w))
+    (rows_grow Analysis wavelet (is_shifted wavelet) w (2 * h)))
 
 -- ---- all levels
 
-pub levels_across_grow : (wavelet e w h n : ℕ) (c : Cells) → 16 ≤ n → AreBelow (2 ^ n) c → AreBelow (2 ^ (n + 4 * e)) (levels_across wavelet e w h c)
+pub levels_across_grow : (wavelet e w h : ℕ) → GrowsBy (4 * e) (levels_across wavelet e w h)
 unfolding levels_across
-levels_across_grow wavelet zero w h n c large small = below_more n (n + 4 * 0) c (omega arith) small
-levels_across_grow wavelet (suc e) w h n c large small =
-    let before = levels_across wavelet e w h c in
-    below_more (n + 4 * e + 4) (n + 4 * suc e) (level_across wavelet (w * 2 ^ e) h before) (omega arith)
-    (level_across_grows wavelet (w * 2 ^ e) h (n + 4 * e) before (omega arith) (levels_across_grow wavelet e w h n c large small))
+levels_across_grow wavelet zero w h = none_grows (4 * 0)
+levels_across_grow wavelet (suc e) w h =
+    both_grow 4 (4 * e) (4 * suc e) (level_across wavelet (w * 2 ^ e) h) (levels_across wavelet e w h) (omega arith)
+    (level_across_grows wavelet (w * 2 ^ e) h) (levels_across_grow wavelet e w h)
 
-pub inverse_levels_grow : (vertical horizontal d w h n : ℕ) (c : Cells) → 16 ≤ n → AreBelow (2 ^ n) c → AreBelow (2 ^ (n + 8 * d)) (inverse_levels vertical horizontal d w h c)
+pub inverse_levels_grow : (vertical horizontal d w h : ℕ) → GrowsBy (8 * d) (inverse_levels vertical horizontal d w h)
 unfolding inverse_levels
-inverse_levels_grow vertical horizontal zero w h n c large small = below_more n (n + 8 * 0) c (omega arith) small
-inverse_levels_grow vertical horizontal (suc d) w h n c large small =
-    let before = inverse_levels vertical horizontal d w h c in
-    below_more (n + 8 * d + 8) (n + 8 * suc d) (inverse_level vertical horizontal (w * 2 ^ d) (h * 2 ^ d) before) (omega arith)
-    (inverse_level_grows vertical horizontal (w * 2 ^ d) (h * 2 ^ d) (n + 8 * d) before (omega arith) (inverse_levels_grow vertical horizontal d w h n c large small))
+inverse_levels_grow vertical horizontal zero w h = none_grows (8 * 0)
+inverse_levels_grow vertical horizontal (suc d) w h =
+    both_grow 8 (8 * d) (8 * suc d) (inverse_level vertical horizontal (w * 2 ^ d) (h * 2 ^ d))
+    (inverse_levels vertical horizontal d w h) (omega arith)
+    (inverse_level_grows vertical horizontal (w * 2 ^ d) (h * 2 ^ d)) (inverse_levels_grow vertical horizontal d w h)
 
-pub forward_levels_grow : (wavelet d w h n : ℕ) (c : Cells) → 16 ≤ n → AreBelow (2 ^ n) c → AreBelow (2 ^ (n + 8 * d)) (forward_levels wavelet d w h c)
+pub forward_levels_grow : (wavelet d w h : ℕ) → GrowsBy (8 * d) (forward_levels wavelet d w h)
 unfolding forward_levels
-forward_levels_grow wavelet zero w h n c large small = below_more n (n + 8 * 0) c (omega arith) small
-forward_levels_grow wavelet (suc d) w h n c large small =
-    let next = forward_level wavelet (w * 2 ^ d) (h * 2 ^ d) c in
-    below_more (n + 8 + 8 * d) (n + 8 * suc d) (forward_levels wavelet d w h next) (omega arith)
-    (forward_levels_grow wavelet d w h (n + 8) next (omega arith) (forward_level_grows wavelet (w * 2 ^ d) (h * 2 ^ d) n c large small))
+forward_levels_grow wavelet zero w h = none_grows (8 * 0)
+forward_levels_grow wavelet (suc d) w h =
+    both_grow (8 * d) 8 (8 * suc d) (forward_levels wavelet d w h) (forward_level wavelet (w * 2 ^ d) (h * 2 ^ d))
+    (omega arith) (forward_levels_grow wavelet d w h) (forward_level_grows wavelet (w * 2 ^ d) (h * 2 ^ d))
 
 -- five levels in all, from coefficients below 2 ^ 60
-pub across_below : (wavelet e d w h : ℕ) (first second : Cells) → d + e ≤ 5 → second ≡ levels_across wavelet e w h first → AreBelow (2 ^ 60) first → AreBelow (2 ^ (100 - 8 * d)) second
+pub across_below : (wavelet e d w h : ℕ) (first second : Cells) → d + e ≤ 5 → second ≡ levels_across wavelet e w h first
+    → AreBelow (2 ^ 60) first → AreBelow (2 ^ (100 - 8 * d)) second
 across_below wavelet e d w h first second few is small =
-    subst (At (100 - 8 * d)) (sym is) (below_more (60 + 4 * e) (100 - 8 * d) (levels_across wavelet e w h first) (omega arith) (levels_across_grow wavelet e w h 60 first (omega arith) small))
+    rw is (below_more (60 + 4 * e) (100 - 8 * d) (levels_across wavelet e w h first) (omega arith)
+    (levels_across_grow wavelet e w h 60 first (omega arith) small))
 
-pub all_below : (vertical horizontal d w h : ℕ) (second last : Cells) → d ≤ 5 → last ≡ inverse_levels vertical horizontal d w h second → AreBelow (2 ^ (100 - 8 * d)) second → AreBelow (2 ^ 100) last
+pub all_below : (vertical horizontal d w h : ℕ) (second last : Cells) → d ≤ 5
+    → last ≡ inverse_levels vertical horizontal d w h second → AreBelow (2 ^ (100 - 8 * d)) second → AreBelow (2 ^ 100) last
 all_below vertical horizontal d w h second last few is small =
-    subst (At 100) (sym is) (below_more (100 - 8 * d + 8 * d) 100 (inverse_levels vertical horizontal d w h second) (omega arith) (inverse_levels_grow vertical horizontal d w h (100 - 8 * d) second (omega arith) small))
+    rw is (below_more (100 - 8 * d + 8 * d) 100 (inverse_levels vertical horizontal d w h second) (omega arith)
+    (inverse_levels_grow vertical horizontal d w h (100 - 8 * d) second (omega arith) small))
 
-pub forward_below : (wavelet d w h : ℕ) (first last : Cells) → d ≤ 5 → last ≡ forward_levels wavelet d w h first → AreBelow (2 ^ 16) first → AreBelow (2 ^ 60) last
+pub forward_below : (wavelet d w h : ℕ) (first last : Cells) → d ≤ 5 → last ≡ forward_levels wavelet d w h first
+    → AreBelow (2 ^ 16) first → AreBelow (2 ^ 60) last
 forward_below wavelet d w h first last few is small =
-    subst (At 60) (sym is) (below_more (16 + 8 * d) 60 (forward_levels wavelet d w h first) (omega arith) (forward_levels_grow wavelet d w h 16 first (omega arith) small))
+    rw is (below_more (16 + 8 * d) 60 (forward_levels wavelet d w h first) (omega arith)
+    (forward_levels_grow wavelet d w h 16 first (omega arith) small))

@@ -16,6 +16,18 @@ LeavesPast n f = (l : ℕ → ℤ) (k : ℕ) → n ≤ k → f l k ≡ l k
 abbrev pub ReadsBelow : ℕ → (Line → Line) → Type 0
 ReadsBelow n f = (l m : ℕ → ℤ) → ((k : ℕ) → k < n → l k ≡ m k) → (k : ℕ) → k < n → f l k ≡ f m k
 
+-- a function of lines of n samples
+pub record IsPass (n : ℕ) (f : Line → Line) : Type 0 where
+  pub past : LeavesPast n f
+  pub reads : ReadsBelow n f
+
+-- one after another
+pub both_passes : (n : ℕ) (f g : Line → Line) → IsPass n f → IsPass n g → IsPass n (λ l. f (g l))
+both_passes n f g p q = record {
+  past = λ l k h. p.past (g l) k h ∙ q.past l k h;
+  reads = λ l m e. p.reads (g l) (g m) (q.reads l m e);
+}
+
 -- ---- at a place
 
 pub column_in : (f : Line → Line) (n : ℕ) (g : Cells) (x y : ℕ) → x < n → on_columns f n g x y ≡ f (λ k. g x k) y
@@ -61,7 +73,7 @@ pub on_rows-same : (f : Line → Line) (n : ℕ) (c : Cells) → ((l : ℕ → �
 unfolding on_rows
 on_rows-same f n c same = fun_ext (λ x. fun_ext (λ y. same_columns f (λ u v. c v u) y x (nat_lt y n) same))
 
--- ---- samples of a line moved and on_samples
+-- ---- samples that are moved, and samples that are changed
 
 pub rearranged_in : (n : ℕ) (source : ℕ → ℕ) (l : ℕ → ℤ) (k : ℕ) → k < n → rearranged n source l k ≡ l (source k)
 unfolding rearranged
@@ -75,10 +87,15 @@ rearranged_past n source l k h = grind (arith, nat_tests)
 abbrev pub StaysBelow : ℕ → (ℕ → ℕ) → Type 0
 StaysBelow n source = (k : ℕ) → k < n → source k < n
 
-pub rearranged_reads : (n : ℕ) (source : ℕ → ℕ) → StaysBelow n source → ReadsBelow n (rearranged n source)
-rearranged_reads n source stays l m e k h = rearranged_in n source l k h ∙ e (source k) (stays k h) ∙ sym (rearranged_in n source m k h)
+pub rearranged_pass : (n : ℕ) (source : ℕ → ℕ) → StaysBelow n source → IsPass n (rearranged n source)
+rearranged_pass n source stays = record {
+  past = rearranged_past n source;
+  reads = λ l m e k h.
+      rearranged_in n source l k h ∙ e (source k) (stays k h) ∙ sym (rearranged_in n source m k h);
+}
 
-module _ (f : Line → Line) (m n : ℕ) (source : ℕ → ℕ) (past : LeavesPast m f) (reads : ReadsBelow m f) (stays : StaysBelow n source) (c : Cells) where
+module _ (f : Line → Line) (m n : ℕ) (source : ℕ → ℕ) (pass : IsPass m f) (stays : StaysBelow n source)
+    (c : Cells) where
   rows_first : Cells
   rows_first = on_rows (rearranged n source) m c
 
@@ -90,9 +107,12 @@ module _ (f : Line → Line) (m n : ℕ) (source : ℕ → ℕ) (past : LeavesPa
   unfolding rows_first
   moved_past x k h = grind (arith, row_in, rearranged_past, row_out)
 
-  at_place : (x y : ℕ) → (x < n) ⊎ (n ≤ x) → (y < m) ⊎ (m ≤ y) → on_columns f n rows_first x y ≡ on_rows (rearranged n source) m (on_columns f n c) x y
+  at_place : (x y : ℕ) → (x < n) ⊎ (n ≤ x) → (y < m) ⊎ (m ≤ y)
+      → on_columns f n rows_first x y ≡ on_rows (rearranged n source) m (on_columns f n c) x y
   unfolding rows_first
   at_place x y h g =
+      let past : LeavesPast m f = pass.past in
+      let reads : ReadsBelow m f = pass.reads in
       grind (arith, column_in, rows_first, moved_in, row_in, rearranged_in, past, row_out, column_out, moved_past, rearranged_past)
 
   -- rows may be rearranged before the columns or after them
@@ -100,9 +120,22 @@ module _ (f : Line → Line) (m n : ℕ) (source : ℕ → ℕ) (past : LeavesPa
   unfolding rows_first
   on_columns-rearranged = fun_ext (λ x. fun_ext (λ y. at_place x y (cases_lt x n) (cases_lt y m)))
 
+-- samples that are changed where they stand
+pub on_samples_in : (f : ℤ → ℤ) (wanted : Bool) (n : ℕ) (l : Line) (k : ℕ) → k < n
+    → on_samples f wanted n l k ≡ (if wanted then f (l k) else l k)
+unfolding on_samples
+on_samples_in f wanted n l k h = grind arith
+
 pub on_samples_past : (f : ℤ → ℤ) (wanted : Bool) (n : ℕ) → LeavesPast n (on_samples f wanted n)
 unfolding on_samples
 on_samples_past f wanted n l k h = grind arith
+
+pub on_samples_pass : (f : ℤ → ℤ) (wanted : Bool) (n : ℕ) → IsPass n (on_samples f wanted n)
+unfolding on_samples
+on_samples_pass f wanted n = record {
+  past = on_samples_past f wanted n;
+  reads = λ l m e k h. ap (λ z. if wanted && nat_lt k n then f z else z) (e k h);
+}
 
 rows_changed : (f : ℤ → ℤ) (wanted inside above : Bool) (a : ℤ) → (if wanted && (inside && above) then f a else a) ≡ (if above then (if wanted && inside then f a else a) else a)
 rows_changed f wanted inside above a = grind arith

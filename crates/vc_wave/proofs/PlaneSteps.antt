@@ -1,13 +1,17 @@
 -- So many columns more, or one row more, of a plane that is kept row by row.
-use Rattle.std.proofs.Common.{◌≡◌, ◌≢◌, ℕ, ◌+◌, ◌-◌, ◌*◌, ◌<◌, ◌≤◌, List, ℤ, pos, arith, ap, sym, ◌∙◌, ◌⊎◌, inl, inr}
+use Rattle.std.proofs.Common.{◌≡◌, ◌≢◌, ℕ, suc, ◌+◌, ◌-◌, ◌*◌, ◌/◌, ◌%◌, ◌<◌, ◌≤◌, List, ℤ, pos, arith, ap, sym, ◌∙◌, ◌⊎◌}
+use Rattle.std.proofs.Common.{inl, inr, unsigned_abs, Option, subst}
 use mathlib.Core.Path.{fun_ext}
 use Rattle.std.proofs.lemmas.Bool.{cases_lt, cases_eq}
 use Rattle.std.proofs.lemmas.Bool.Decides.{nat_tests}
 use Rattle.std.proofs.lemmas.Nat.{same_from_place}
+use Rattle.std.proofs.Math.Nat.{mul-le-mul_right}
 use Rattle.vc_types.specs.Lifting.{Line, line_of}
 use Rattle.vc_types.specs.Transforms.{Cells, on_columns, on_rows}
-use Rattle.vc_wave.proofs.PlaneLines.{LeavesPast, ReadsBelow, column_in, column_out, row_in, row_out}
+use Rattle.vc_wave.specs.Lines.{row_from, IsMade, IsRowMade}
+use Rattle.vc_wave.specs.NarrowBounds.{HasBound, RowHasBound}
 use Rattle.vc_wave.specs.Planes.{plane_of}
+use Rattle.vc_wave.proofs.PlaneLines.{LeavesPast, IsPass, column_in, column_out, row_in, row_out}
 
 pub plane_in : (stride : ℕ) (cells : List ℤ) (x y : ℕ) → x < stride → plane_of stride cells x y ≡ line_of cells (y * stride + x)
 unfolding plane_of
@@ -16,6 +20,19 @@ plane_in stride cells x y h = grind (arith, nat_tests)
 pub plane_out : (stride : ℕ) (cells : List ℤ) (x y : ℕ) → stride ≤ x → plane_of stride cells x y ≡ pos 0
 unfolding plane_of
 plane_out stride cells x y h = grind (arith, nat_tests)
+
+-- how large a plane's cells are, by their places
+pub plane_small : (pitch m : ℕ) (cells : List ℤ) → ((i : ℕ) → unsigned_abs (line_of cells i) ≤ m)
+    → (x y : ℕ) → unsigned_abs (plane_of pitch cells x y) ≤ m
+plane_small pitch m cells small x y = grind (arith, plane_in, plane_out)
+
+pub cells_small : (pitch m : ℕ) (cells : List ℤ) → 0 < pitch
+    → ((x y : ℕ) → unsigned_abs (plane_of pitch cells x y) ≤ m) → (i : ℕ) → unsigned_abs (line_of cells i) ≤ m
+cells_small pitch m cells some small i =
+    let column : i % pitch < pitch = omega arith in
+    let place : i / pitch * pitch + i % pitch ≡ i = omega arith in
+    subst (λ j. unsigned_abs (line_of cells j) ≤ m) place
+    (subst (λ z. unsigned_abs z ≤ m) (plane_in pitch cells (i % pitch) (i / pitch) column) (small (i % pitch) (i / pitch)))
 
 pub columns_none : (f : Line → Line) (g : Cells) → g ≡ on_columns f 0 g
 columns_none f g = fun_ext (λ x. fun_ext (λ y. sym (column_out f 0 g x y (omega arith))))
@@ -66,37 +83,74 @@ module _ (f : Line → Line) (stride n b m : ℕ) (g : Cells) (old : List ℤ) (
     pub columns_more : plane_of stride new ≡ on_columns f (n + b) g
     columns_more = fun_ext (λ x. fun_ext (λ y. more_at x y (cases_lt x n) (cases_lt x (n + b))))
 
-module _ (f : Line → Line) (stride n m : ℕ) (g : Cells) (old : List ℤ) (wide : m ≤ stride) (done : plane_of stride old ≡ on_rows f n g) where
-  row_at : (x y : ℕ) → plane_of stride old x y ≡ on_rows f n g x y
-  row_at x y = ap (λ p. p x y) done
+-- ---- rows
+
+-- a line by itself that is made is a row that is made
+pub row_of_line : (f : Line → Line) (start half : ℕ) (old new : List ℤ)
+    → IsMade f (record { start = start; step = 1; width = 1; half = half }) old new
+    → IsRowMade f start (2 * half) old new
+row_of_line f start half old new made = record {
+  on = λ k h. ap (line_of new) (place k) ∙ made.on 0 k (omega arith) h ∙ ap (λ l. f l k) (fun_ext (λ j. ap (line_of old) (sym (place j))));
+  off = λ i out. made.off i (λ x k one h e. apart i x k one h e out);
+}
+  where
+    place : (k : ℕ) → start + k ≡ start + k * 1 + 0
+    place k = omega arith
+
+    apart : (i x k : ℕ) → x < 1 → k < 2 * half → i ≡ start + k * 1 + x → (i < start) ⊎ (start + 2 * half ≤ i) → ⊥
+    apart i x k one h e (inl before) = omega arith
+    apart i x k one h e (inr after) = omega arith
+
+module _ (f : Line → Line) (stride n m : ℕ) (first old : List ℤ) (pass : IsPass m f) (wide : m ≤ stride)
+    (done : plane_of stride old ≡ on_rows f n (plane_of stride first)) where
+  abbrev before : Cells
+  before = plane_of stride first
 
   -- a row that is still as it was
-  pub row_left : (k : ℕ) → k < m → line_of old (n * stride + k * 1 + 0) ≡ g k n
-  row_left k h = (let place : n * stride + k * 1 + 0 ≡ n * stride + k = omega arith in ap (line_of old) place) ∙ sym (plane_in stride old k n (omega arith)) ∙ row_at k n ∙ row_out f n g k n (omega arith)
+  pub row_left : (k : ℕ) → k < m → row_from old (n * stride) k ≡ before k n
+  row_left k h =
+      sym (plane_in stride old k n (omega arith)) ∙ ap (λ p. p k n) done ∙ row_out f n before k n (omega arith)
 
-  module _ (new : List ℤ) (past : LeavesPast m f) (reads : ReadsBelow m f)
-      (on : (x k : ℕ) → x < 1 → k < m → line_of new (n * stride + k * 1 + x) ≡ f (λ j. line_of old (n * stride + j * 1 + x)) k)
-      (off : (i : ℕ) → ((x k : ℕ) → x < 1 → k < m → i ≢ n * stride + k * 1 + x) → line_of new i ≡ line_of old i) where
-    kept_row : (x y : ℕ) → x < stride → ((k : ℕ) → k < m → y * stride + x ≢ n * stride + k) → plane_of stride new x y ≡ on_rows f n g x y
-    kept_row x y h apart = plane_in stride new x y h ∙ off (y * stride + x) (λ u k one lt e. apart k lt (omega arith)) ∙ sym (plane_in stride old x y h) ∙ row_at x y
+  -- and a bound on it
+  pub row_bound : (carry : ℕ → Option ℕ) → HasBound carry first → RowHasBound carry old (n * stride) m
+  row_bound carry bound = record {
+    most = bound.most;
+    after = bound.after;
+    small = λ k h. rw (row_left k h) (plane_small stride bound.most first bound.small k n);
+    fits = bound.fits;
+  }
 
-    at_row : (x : ℕ) → (x < stride) ⊎ (stride ≤ x) → (x < m) ⊎ (m ≤ x) → plane_of stride new x n ≡ f (λ k. g k n) x
-    at_row x s (inl h) =
-        plane_in stride new x n (omega arith) ∙ (let place : n * stride + x ≡ n * stride + x * 1 + 0 = omega arith in ap (line_of new) place) ∙ on 0 x (omega arith) h ∙ reads (λ j. line_of old (n * stride + j * 1 + 0)) (λ k. g k n) row_left x h
-    at_row x (inl s) (inr h) = kept_row x n s (λ k lt e. omega arith) ∙ row_out f n g x n (omega arith) ∙ sym (past (λ k. g k n) x h)
-    at_row x (inr s) (inr h) = plane_out stride new x n s ∙ sym (plane_out stride old x n s) ∙ row_at x n ∙ row_out f n g x n (omega arith) ∙ sym (past (λ k. g k n) x h)
+  module _ (new : List ℤ) (made : IsRowMade f (n * stride) m old new) where
+    outside : (x y : ℕ) → x < stride → (y < n) ⊎ (n ≤ y) → (y ≢ n) ⊎ (m ≤ x)
+        → (y * stride + x < n * stride) ⊎ (n * stride + m ≤ y * stride + x)
+    outside x y h (inl up) any =
+        (let below : suc y * stride ≤ n * stride = mul-le-mul_right stride up in inl (omega (arith, below)))
+    outside x y h (inr from) (inl ne) =
+        (let above : suc n * stride ≤ y * stride = mul-le-mul_right stride (omega arith) in inr (omega (arith, above)))
+    outside x y h (inr from) (inr past) =
+        (let above : n * stride ≤ y * stride = mul-le-mul_right stride from in inr (omega (arith, above)))
 
-    other_row : (x y : ℕ) → (x < stride) ⊎ (stride ≤ x) → y ≢ n → plane_of stride new x y ≡ on_rows f n g x y
-    other_row x y (inl h) ne = kept_row x y h (λ k lt e. ne (same_from_place y x n k stride h (omega arith) e).0)
-    other_row x y (inr h) ne = plane_out stride new x y h ∙ sym (plane_out stride old x y h) ∙ row_at x y
+    row_kept : (x y : ℕ) → (x < stride) ⊎ (stride ≤ x) → (y ≢ n) ⊎ (m ≤ x)
+        → plane_of stride new x y ≡ on_rows f n before x y
+    row_kept x y (inl h) apart =
+        plane_in stride new x y h ∙ made.off (y * stride + x) (outside x y h (cases_lt y n) apart)
+        ∙ sym (plane_in stride old x y h) ∙ ap (λ p. p x y) done
+    row_kept x y (inr h) apart = plane_out stride new x y h ∙ sym (plane_out stride old x y h) ∙ ap (λ p. p x y) done
 
-    next_rows : (x y : ℕ) → y ≢ n → on_rows f n g x y ≡ on_rows f (n + 1) g x y
+    in_row : (x : ℕ) → (x < m) ⊎ (m ≤ x) → plane_of stride new x n ≡ f (λ k. before k n) x
+    in_row x (inl h) =
+        plane_in stride new x n (omega arith) ∙ made.on x h
+        ∙ pass.reads (row_from old (n * stride)) (λ k. before k n) row_left x h
+    in_row x (inr h) =
+        row_kept x n (cases_lt x stride) (inr h) ∙ row_out f n before x n (omega arith)
+        ∙ sym (pass.past (λ k. before k n) x h)
+
+    next_rows : (x y : ℕ) → y ≢ n → on_rows f n before x y ≡ on_rows f (n + 1) before x y
     unfolding on_rows
     next_rows x y ne = grind (arith, nat_tests)
 
-    row_more_at : (x y : ℕ) → (y ≡ n) ⊎ (y ≢ n) → plane_of stride new x y ≡ on_rows f (n + 1) g x y
-    row_more_at x y (inl e) = rw e (at_row x (cases_lt x stride) (cases_lt x m) ∙ sym (row_in f (n + 1) g x n (omega arith)))
-    row_more_at x y (inr ne) = other_row x y (cases_lt x stride) ne ∙ next_rows x y ne
-
-    pub rows_more : plane_of stride new ≡ on_rows f (n + 1) g
-    rows_more = fun_ext (λ x. fun_ext (λ y. row_more_at x y (cases_eq y n)))
+    pub rows_more : plane_of stride new ≡ on_rows f (n + 1) before
+    rows_more = fun_ext (λ x. fun_ext (λ y. elim (cases_eq y n) [
+      | inl e ↦ rw e (in_row x (cases_lt x m) ∙ sym (row_in f (n + 1) before x n (omega arith)))
+      | inr ne ↦ row_kept x y (cases_lt x stride) (inl ne) ∙ next_rows x y ne
+    ]))

@@ -9,21 +9,21 @@ use Rattle.std.proofs.lemmas.Int.{ints}
 use Rattle.vc_types.specs.declared.video.Component.{Component}
 use Rattle.vc_types.specs.Subbands.{plane_width, plane_height, plane_depth}
 use Rattle.vc_types.specs.TransformParameters.{Parameters, is_symmetric}
-use Rattle.vc_types.specs.Transforms.{Cells, is_within, interleaved, deinterleaved, source_of, on_cells, halved, doubled, inverse_level, forward_level, inverse_levels, forward_levels, levels_across, lowest_width, lowest_height, inverse_transform, padded_plane, forward_transform, half_place}
+use Rattle.vc_types.specs.Transforms.{Cells, is_within, interleaved, deinterleaved, source_of, on_cells, halved, doubled, inverse_level, forward_level, inverse_levels, forward_levels, levels_across, lowest_width, lowest_height, inverse_transform, padded_plane, forward_transform}
+use Rattle.vc_wave.specs.Remade.{half_place}
 use Rattle.vc_lift.proofs.LineLaws.{undone_lines}
 use Rattle.vc_wave.proofs.PlaneLines.{on_columns-on_columns, on_rows-on_rows, on_columns-same, on_rows-same}
-use Rattle.vc_wave.proofs.Weaving.{half_place_below, source_of-half_place}
+use Rattle.vc_wave.proofs.Weaving.{half_place_below, source_of-half_place, interleaved_places}
 
 -- ---- the inverse undoes the forward transform
 
-interleaved_in : (w h : ℕ) (c : Cells) (x y : ℕ) → x < 2 * w → y < 2 * h → interleaved w h c x y ≡ c (half_place w x) (half_place h y)
-unfolding interleaved
-interleaved_in w h c x y a b = grind (arith, nat_tests)
+interleaved_in : (w h : ℕ) (c : Cells) (x y : ℕ) → x < 2 * w → y < 2 * h
+    → interleaved w h c x y ≡ c (half_place w x) (half_place h y)
+interleaved_in w h c x y a b = ap (λ f. f x y) (interleaved_places w h c) ∙ grind (arith, nat_tests)
 
 interleaved_out : (w h : ℕ) (c : Cells) (x y : ℕ) → (2 * w ≤ x) ⊎ (2 * h ≤ y) → interleaved w h c x y ≡ c x y
-unfolding interleaved
-interleaved_out w h c x y (inl a) = grind (arith, nat_tests)
-interleaved_out w h c x y (inr b) = grind (arith, nat_tests)
+interleaved_out w h c x y (inl a) = ap (λ f. f x y) (interleaved_places w h c) ∙ grind (arith, nat_tests)
+interleaved_out w h c x y (inr b) = ap (λ f. f x y) (interleaved_places w h c) ∙ grind (arith, nat_tests)
 
 deinterleaved_in : (w h : ℕ) (c : Cells) (x y : ℕ) → x < 2 * w → y < 2 * h → deinterleaved w h c x y ≡ c (source_of w x) (source_of h y)
 unfolding deinterleaved

@@ -162,19 +162,27 @@ module _ (levels w h width height level from : ℕ) (nested old new : List ℤ) 
 
 -- ---- a component
 
-module _ (p : Parameters) (c : Component) (w h side width height : ℕ) (narrow : w ≡ lowest_width p c) (low : h ≡ lowest_height p c) (is : side ≡ w * 2 ^ p.depth_ho) (across : width ≡ padded_width p c) (down : height ≡ padded_height p c) where
-  pub whole_width : side * 2 ^ p.depth ≡ width
+module _ (p : Parameters) (c : Component) where
+  abbrev side : ℕ
+  side = lowest_width p c * 2 ^ p.depth_ho
+
+  whole_width : side * 2 ^ p.depth ≡ padded_width p c
   whole_width = grind (arith, side_parts, padded_whole)
 
-  pub whole_height : h * 2 ^ p.depth ≤ height
-  whole_height = rw (low, down) (div-mul-le_self (padded_height p c) (2 ^ p.depth))
+  pub whole_height : lowest_height p c * 2 ^ p.depth ≤ padded_height p c
+  whole_height = div-mul-le_self (padded_height p c) (2 ^ p.depth)
 
-  pub first_width : side ≤ width
-  first_width = less side p.depth width (let whole = whole_width in omega (arith, whole))
+  pub first_width : side ≤ padded_width p c
+  first_width = less side p.depth (padded_width p c) (let whole = whole_width in omega (arith, whole))
 
-  pub level_width : (level : ℕ) → level < p.depth → 2 * (side * 2 ^ level) ≤ width
-  level_width level h = (let fits = level_fits side level p.depth h in let whole = whole_width in omega (arith, fits, whole))
+  pub level_width : (level : ℕ) → level < p.depth → 2 * (side * 2 ^ level) ≤ padded_width p c
+  level_width level h =
+      (let fits = level_fits side level p.depth h in let whole = whole_width in omega (arith, fits, whole))
 
-  pub rows_turned : (nested cells : List ℤ) → ((x y : ℕ) → x < side * 2 ^ p.depth → y < height → line_of cells (row_in_turn p.depth side h x y * width + x) ≡ line_of nested (y * width + x))
-      → (x y : ℕ) → x < padded_width p c → y < padded_height p c → nested_in p c (padded_width p c) cells x y ≡ plane_of (padded_width p c) nested x y
+  pub rows_turned : (nested cells : List ℤ)
+      → ((x y : ℕ) → x < side * 2 ^ p.depth → y < padded_height p c
+      → line_of cells (row_in_turn p.depth side (lowest_height p c) x y * padded_width p c + x)
+      ≡ line_of nested (y * padded_width p c + x))
+      → (x y : ℕ) → x < padded_width p c → y < padded_height p c
+      → nested_in p c (padded_width p c) cells x y ≡ plane_of (padded_width p c) nested x y
   rows_turned nested cells turned x y a b = grind (arith, whole_width, plane_in)

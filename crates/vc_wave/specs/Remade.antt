@@ -1,7 +1,7 @@
 -- What either direction makes of a line.
-use Rattle.std.specs.Prelude.{ℕ, ◌*◌, Bool, true, false, ◌&&◌, nat_lt, if◌then◌else◌, ℤ}
+use Rattle.std.specs.Prelude.{ℕ, ◌+◌, ◌*◌, ◌/◌, ◌%◌, Bool, true, false, ◌&&◌, nat_lt, if◌then◌else◌, ℤ}
 use Rattle.vc_types.specs.Lifting.{Line}
-use Rattle.vc_types.specs.Transforms.{Cells, half_place, source_of, halved, doubled, on_columns, on_rows}
+use Rattle.vc_types.specs.Transforms.{Cells, source_of, halved, doubled, on_columns, on_rows}
 use Rattle.vc_types.specs.Wavelets.{is_shifted, synthesised, analysed}
 use Rattle.vc_wave.specs.declared.pass.Direction.{Direction}
 use Rattle.vc_wave.specs.declared.pass.Direction.TheVariants.{Synthesis, Analysis}
@@ -9,6 +9,10 @@ use Rattle.vc_wave.specs.declared.pass.Direction.TheVariants.{Synthesis, Analysi
 -- the first n samples are taken from other places
 unfoldable pub rearranged : ℕ → (ℕ → ℕ) → Line → Line
 rearranged n source l k = if nat_lt k n then l (source k) else l k
+
+-- where sample k of a line stands while its even and odd samples stand in two halves
+abbrev pub half_place : ℕ → ℕ → ℕ
+half_place half k = k / 2 + k % 2 * half
 
 -- two halves become the even and the odd samples, and back
 abbrev pub halves_together : ℕ → Line → Line

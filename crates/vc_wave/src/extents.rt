@@ -2,6 +2,7 @@ ghost use Rattle.std.specs.Prelude.{◌≡◌, ◌*◌, ◌^◌, ◌<◌, ◌≤
 ghost use Rattle.vc_types.specs.TransformParameters.{parameters_of};
 ghost use Rattle.vc_types.specs.Transforms.{lowest_width, lowest_height};
 
+use crate::sides::side_at;
 use crate::turn::{Nesting, nesting_of};
 use vc_types::{Component, Plan};
 
@@ -25,6 +26,24 @@ pub(crate) struct Levels {
     pub ghost some_rows: { 0 < nesting.h },
     pub ghost narrow: { nesting.w * 2 ^ nesting.levels < 2 ^ 60 },
     pub ghost low: { nesting.h * 2 ^ nesting.levels < 2 ^ 60 },
+}
+
+impl Levels {
+    /// Level number `n` of them, counted from the lowest up, in rows that stand so far apart.
+    pub(crate) fn level(self, n: u8, pitch: usize) -> Level
+        requires { n < self.nesting.levels }
+        ensures wavelets { result.wavelets ≡ self.wavelets }
+        ensures pitch { result.pitch ≡ pitch }
+        ensures w { result.w ≡ self.nesting.w * 2 ^ n }
+        ensures h { result.h ≡ self.nesting.h * 2 ^ n }
+    {
+        Level {
+            wavelets: self.wavelets,
+            pitch,
+            w: side_at(self.nesting.w, n),
+            h: side_at(self.nesting.h, n),
+        }
+    }
 }
 
 /// A level both ways: how far apart its rows stand, and how many columns and rows its subbands have.

@@ -142,14 +142,7 @@ pub(crate) fn merge_levels(levels: Levels, cells: &mut [i128], scratch: &mut [i1
         levels.nesting.w levels.nesting.h (plane_of levels.pitch cells.old) }
 {
     for n in 0..levels.nesting.levels {
-        let (w, h) = (side_at(levels.nesting.w, n), side_at(levels.nesting.h, n));
-        let level = Level {
-            wavelets: levels.wavelets,
-            pitch: levels.pitch,
-            w,
-            h,
-        };
-        merge_level(level, cells, scratch);
+        merge_level(levels.level(n, levels.pitch), cells, scratch);
     }
 }
 
@@ -166,16 +159,6 @@ pub(crate) fn part_levels(levels: Levels, cells: &mut [i128], scratch: &mut [i12
 {
     for n in 0..levels.nesting.levels {
         let left = levels.nesting.levels - 1 - n;
-        let (w, h) = (
-            side_at(levels.nesting.w, left),
-            side_at(levels.nesting.h, left),
-        );
-        let level = Level {
-            wavelets: levels.wavelets,
-            pitch: levels.pitch,
-            w,
-            h,
-        };
-        part_level(level, cells, scratch);
+        part_level(levels.level(left, levels.pitch), cells, scratch);
     }
 }

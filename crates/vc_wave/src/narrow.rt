@@ -3,16 +3,16 @@ ghost use Rattle.std.specs.Prelude.{length, unsigned_abs};
 ghost use Rattle.vc_types.specs.Lifting.{line_of};
 ghost use Rattle.vc_types.specs.Subbands.{padded_width, padded_height};
 ghost use Rattle.vc_types.specs.TransformParameters.{parameters_of};
-ghost use Rattle.vc_types.specs.Transforms.{halved, half_place, on_columns, on_rows, levels_across};
+ghost use Rattle.vc_types.specs.Transforms.{halved, on_columns, on_rows, levels_across};
 ghost use Rattle.vc_types.specs.Transforms.{inverse_levels};
 ghost use Rattle.vc_types.specs.Wavelets.{is_shifted, synthesised};
 ghost use Rattle.vc_lift.specs.Ranges.{narrow_bound};
 ghost use Rattle.vc_wave.specs.declared.pass.Direction.TheVariants.{Synthesis};
 ghost use Rattle.vc_wave.specs.Layout.{laid_out, nested_in, nested_above, after_levels};
-ghost use Rattle.vc_wave.specs.Lines.{IsMade};
+ghost use Rattle.vc_wave.specs.Lines.{IsRowMade};
 ghost use Rattle.vc_wave.specs.NarrowBounds.{AreWithin, HasBound, RowHasBound, rows_bound};
 ghost use Rattle.vc_wave.specs.Planes.{HasRoom, plane_of};
-ghost use Rattle.vc_wave.specs.Remade.{remade, level_in_turn};
+ghost use Rattle.vc_wave.specs.Remade.{halves_together, on_samples, remade, level_in_turn};
 
 use crate::bounds::{columns_reach, greatest, rows_reach};
 use crate::extents::{Level, Levels, Rows, levels_of};
@@ -50,16 +50,8 @@ fn weave(cells: &mut [i32], start: usize, half: usize, shifted: bool, line: &mut
     requires line { 2 * half ≤ length line.old }
     requires small { shifted ≡ true → (k : ℕ) → k < 2 * half
         → unsigned_abs (line_of cells.old (start + k)) + 1 < 2 ^ 31 }
-    ensures even { (k : ℕ) → k < half
-        → line_of cells.new (start + 2 * k)
-        ≡ (if shifted then halved (line_of cells.old (start + k)) else line_of cells.old
-        (start + k)) }
-    ensures odd { (k : ℕ) → k < half
-        → line_of cells.new (start + (2 * k + 1))
-        ≡ (if shifted then halved (line_of cells.old (start + (half + k))) else line_of cells.old
-        (start + (half + k))) }
-    ensures off { (i : ℕ) → (i < start) ⊎ (start + 2 * half ≤ i)
-        → line_of cells.new i ≡ line_of cells.old i }
+    ensures { IsRowMade (λ l. on_samples halved shifted (2 * half) (halves_together half l))
+        start (2 * half) cells.old cells.new }
 {
     copy_row(line, cells, start, 2 * half);
     for k in 0..half {
@@ -77,8 +69,8 @@ fn merge_row(wavelet: u8, cells: &mut [i32], start: usize, half: usize, line: &m
     requires inside { start + 2 * half ≤ length cells.old }
     requires line { 2 * half ≤ length line.old }
     requires bound { RowHasBound (rows_bound wavelet) cells.old start (2 * half) }
-    ensures { IsMade (remade Synthesis wavelet (is_shifted wavelet) half)
-        (record { start = start; step = 1; width = 1; half = half }) cells.old cells.new }
+    ensures { IsRowMade (remade Synthesis wavelet (is_shifted wavelet) half)
+        start (2 * half) cells.old cells.new }
 {
     let halves = Halves {
         even: start,
@@ -212,14 +204,7 @@ fn merge_levels(
     let mut bound = most;
     for n in 0..count {
         let pitch = side_at(levels.pitch, levels.nesting.levels - 1 - n);
-        let (w, h) = (side_at(levels.nesting.w, n), side_at(levels.nesting.h, n));
-        let level = Level {
-            wavelets: levels.wavelets,
-            pitch,
-            w,
-            h,
-        };
-        bound = merge_level(level, cells, line, bound)?;
+        bound = merge_level(levels.level(n, pitch), cells, line, bound)?;
     }
     Some(bound)
 }

@@ -11,10 +11,10 @@ ghost use Rattle.vc_lift.specs.Ranges.{narrow_analysis_bound};
 ghost use Rattle.vc_wave.specs.declared.pass.Direction.TheVariants.{Analysis};
 ghost use Rattle.vc_wave.specs.ForwardBounds.{forward_fits_narrow, parted_rows_bound, parted_level_bound};
 ghost use Rattle.vc_wave.specs.Layout.{laid_out, nested_in};
-ghost use Rattle.vc_wave.specs.Lines.{IsMade};
+ghost use Rattle.vc_wave.specs.Lines.{IsRowMade};
 ghost use Rattle.vc_wave.specs.NarrowBounds.{HasBound, RowHasBound, bound_over};
 ghost use Rattle.vc_wave.specs.Planes.{HasRoom, plane_of};
-ghost use Rattle.vc_wave.specs.Remade.{remade, parted_in_turn};
+ghost use Rattle.vc_wave.specs.Remade.{halves_apart, on_samples, remade, parted_in_turn};
 ghost use Rattle.vc_wave.specs.Samples.{padded_sample};
 
 use crate::analysis::sample_depth;
@@ -44,16 +44,8 @@ fn unweave(cells: &mut [i32], start: usize, half: usize, shifted: bool, line: &m
     requires line { 2 * half ≤ length line.old }
     requires small { shifted ≡ true → (k : ℕ) → k < 2 * half
         → 2 * unsigned_abs (line_of cells.old (start + k)) < 2 ^ 31 }
-    ensures even { (k : ℕ) → k < half
-        → line_of cells.new (start + k)
-        ≡ (if shifted then doubled (line_of cells.old (start + 2 * k)) else line_of cells.old
-        (start + 2 * k)) }
-    ensures odd { (k : ℕ) → k < half
-        → line_of cells.new (start + (half + k))
-        ≡ (if shifted then doubled (line_of cells.old (start + (2 * k + 1))) else line_of cells.old
-        (start + (2 * k + 1))) }
-    ensures off { (i : ℕ) → (i < start) ⊎ (start + 2 * half ≤ i)
-        → line_of cells.new i ≡ line_of cells.old i }
+    ensures { IsRowMade (λ l. halves_apart half (on_samples doubled shifted (2 * half) l))
+        start (2 * half) cells.old cells.new }
 {
     copy_row(line, cells, start, 2 * half);
     for k in 0..half {
@@ -70,8 +62,8 @@ fn part_row(wavelet: u8, cells: &mut [i32], start: usize, half: usize, line: &mu
     requires inside { start + 2 * half ≤ length cells.old }
     requires line { 2 * half ≤ length line.old }
     requires bound { RowHasBound (parted_rows_bound wavelet) cells.old start (2 * half) }
-    ensures { IsMade (remade Analysis wavelet (is_shifted wavelet) half)
-        (record { start = start; step = 1; width = 1; half = half }) cells.old cells.new }
+    ensures { IsRowMade (remade Analysis wavelet (is_shifted wavelet) half)
+        start (2 * half) cells.old cells.new }
 {
     let halves = Halves {
         even: start,
@@ -151,17 +143,7 @@ fn part_levels(levels: Levels, cells: &mut [i32], line: &mut [i32])
     for n in 0..levels.nesting.levels {
         let left = levels.nesting.levels - 1 - n;
         let pitch = side_at(levels.pitch, n);
-        let (w, h) = (
-            side_at(levels.nesting.w, left),
-            side_at(levels.nesting.h, left),
-        );
-        let level = Level {
-            wavelets: levels.wavelets,
-            pitch,
-            w,
-            h,
-        };
-        part_level(level, cells, line);
+        part_level(levels.level(left, pitch), cells, line);
     }
 }
 

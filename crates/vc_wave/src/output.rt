@@ -5,19 +5,18 @@ ghost use Rattle.vc_types.specs.Planes.{output_sample};
 ghost use Rattle.vc_types.specs.Subbands.{plane_width, plane_height, plane_depth, padded_width};
 ghost use Rattle.vc_types.specs.Subbands.{padded_height};
 ghost use Rattle.vc_types.specs.TransformParameters.{parameters_of};
-ghost use Rattle.vc_types.specs.Transforms.{half_place, inverse_transform};
+ghost use Rattle.vc_types.specs.Transforms.{inverse_transform};
 ghost use Rattle.vc_types.specs.Wavelets.{is_shifted};
 ghost use Rattle.vc_wave.specs.declared.pass.Direction.TheVariants.{Synthesis};
 ghost use Rattle.vc_wave.specs.Layout.{nested_in};
 ghost use Rattle.vc_wave.specs.NarrowBounds.{AreWithin, HasBound, RowHasBound, rows_bound};
 ghost use Rattle.vc_wave.specs.Planes.{FillsPlane, plane_of};
-ghost use Rattle.vc_wave.specs.Remade.{remade, shifted_down, level_in_turn};
+ghost use Rattle.vc_wave.specs.Remade.{half_place, remade, shifted_down, level_in_turn};
 
 use crate::bounds::{columns_reach, rows_reach};
 use crate::extents::{Level, Rows, levels_of};
 use crate::narrow::{merge_below, merge_columns, shifted_down};
 use crate::shift::is_shifted;
-use crate::sides::side_at;
 use vc_lift::{Halves, synth_narrow};
 use vc_types::{Component, Plan};
 
@@ -212,16 +211,6 @@ pub fn inverse_output(
         return false;
     };
     let levels = levels_of(plan, c, stride);
-    let below = plan.depth - 1;
-    let (w, h) = (
-        side_at(levels.nesting.w, below),
-        side_at(levels.nesting.h, below),
-    );
-    let level = Level {
-        wavelets: levels.wavelets,
-        pitch: stride,
-        w,
-        h,
-    };
+    let level = levels.level(plan.depth - 1, stride);
     put_level(level, cells, most, samples, format)
 }

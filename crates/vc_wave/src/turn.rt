@@ -133,12 +133,7 @@ pub fn turn_rows(plan: &Plan, c: Component, nested: &[i32], cells: &mut [i32])
 {
     let (width, height) = padded(plan, c);
     let (width, height) = (width as usize, height as usize);
-    let (w, h) = lowest(plan, c);
-    let nesting = Nesting {
-        levels: plan.depth,
-        w: side_at(w, plan.depth_ho),
-        h,
-    };
+    let nesting = nesting_of(plan, c);
     turn_columns(nesting, nested, cells, width, height, 0, nesting.w);
     for level in 0..plan.depth {
         let from = side_at(nesting.w, level);

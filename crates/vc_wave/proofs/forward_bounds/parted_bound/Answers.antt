@@ -1,6 +1,6 @@
 use Rattle.std.proofs.Common.{arith}
 use Rattle.vc_wave.specs.ForwardBounds.{parted_level_bound}
-use Rattle.vc_wave.proofs.NarrowCarry.{bound_start, bound_next, none_after}
+use Rattle.vc_wave.proofs.CarriedBounds.{bound_start, bound_next, none_after}
 use Rattle.vc_wave.proofs.forward_bounds.parted_bound.Goals as goal
 
 pub loop-level-init : goal.loop-level-init

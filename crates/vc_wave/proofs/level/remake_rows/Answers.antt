@@ -1,29 +1,36 @@
-use Rattle.std.proofs.Common.{rules, ◌≡◌, ◌+◌, ◌*◌, ◌^◌, ◌<◌, ◌∙◌, unsigned_abs, arith, ap, sym, subst, Bool}
-use Rattle.vc_types.specs.Lifting.{line_of}
-use Rattle.vc_types.specs.Transforms.{on_rows}
-use Rattle.vc_wave.specs.Remade.{remade}
+use Rattle.std.proofs.Common.{◌≡◌, ◌+◌, ◌*◌, ◌^◌, ◌<◌, unsigned_abs, arith}
 use Rattle.vc_wave.specs.Planes.{plane_of}
-use Rattle.vc_wave.proofs.Weaving.{remade_past, remade_reads}
-use Rattle.vc_wave.proofs.PlaneSteps.{rows_none, row_left, rows_more}
+use Rattle.vc_wave.specs.Remade.{remade}
+use Rattle.vc_wave.proofs.PlaneSteps.{rows_none, row_of_line, row_left, rows_more}
+use Rattle.vc_wave.proofs.Weaving.{remade_pass}
 use Rattle.vc_wave.proofs.level.remake_rows.Goals as goal
 
 pub loop-y-init : goal.loop-y-init
-loop-y-init c = rows_none (remade c.args.direction c.args.rows.wavelet c.is_shifted-shifted.result c.args.rows.half) (plane_of c.args.rows.pitch c.args.cells.now)
+loop-y-init c =
+    rows_none (remade c.args.direction c.args.rows.wavelet c.is_shifted-shifted.result c.args.rows.half)
+    (plane_of c.args.rows.pitch c.args.cells.now)
 
 pub remake-requires-clause-small : goal.remake-requires-clause-small
 remake-requires-clause-small c = λ x k h lt.
-    let left = row_left (remade c.args.direction c.args.rows.wavelet c.is_shifted-shifted.result c.args.rows.half) c.args.rows.pitch c.loop-y.y (2 * c.args.rows.half) (plane_of c.args.rows.pitch c.args.cells.now) c.loop-y.cells c.requires.room.across c.loop-y.invariant k lt in
+    let rows = c.args.rows in
+    let shifted = c.is_shifted-shifted.result in
     let first : x ≡ 0 = omega arith in
-    let small : unsigned_abs (line_of c.loop-y.cells (c.loop-y.y * c.args.rows.pitch + k * 1 + 0)) < 2 ^ 107 = subst (λ z. unsigned_abs z < 2 ^ 107) (sym left) (c.requires.small k c.loop-y.y) in
-    subst (λ u. unsigned_abs (line_of c.loop-y.cells (c.loop-y.y * c.args.rows.pitch + k * 1 + u)) < 2 ^ 107) (sym first) small
+    let once : k * 1 + 0 ≡ k = omega arith in
+    let left = row_left (remade c.args.direction rows.wavelet shifted rows.half) rows.pitch c.loop-y.y (2 * rows.half)
+    c.args.cells.now c.loop-y.cells (remade_pass c.args.direction rows.wavelet shifted rows.half)
+    c.requires.room.across c.loop-y.invariant k lt in
+    let place : c.loop-y.y * rows.pitch + k * 1 + x ≡ c.loop-y.y * rows.pitch + k = omega arith in
+    rw (place, left) (c.requires.small k c.loop-y.y)
 
 pub loop-y-preserved : goal.loop-y-preserved
-loop-y-preserved c = search (rules, rows_more, remade_past, remade_reads)
+loop-y-preserved c =
+    let rows = c.args.rows in
+    let f = remade c.args.direction rows.wavelet c.is_shifted-shifted.result rows.half in
+    rows_more f rows.pitch c.loop-y.y (2 * rows.half) c.args.cells.now c.loop-y.cells
+    (remade_pass c.args.direction rows.wavelet c.is_shifted-shifted.result rows.half) c.requires.room.across c.loop-y.invariant
+    c.remake.new.cells (row_of_line f (c.loop-y.y * rows.pitch) rows.half c.loop-y.cells c.remake.new.cells c.remake.ensures)
 
 pub returns : goal.returns
 returns c =
-    let before = plane_of c.args.rows.pitch c.args.cells.now in
     let end : c.loop-y.y ≡ c.args.rows.count = omega arith in
-    c.loop-y.invariant
-    ∙ ap (λ n. on_rows (remade c.args.direction c.args.rows.wavelet c.is_shifted-shifted.result c.args.rows.half) n before) end
-    ∙ ap (λ (b : Bool). on_rows (remade c.args.direction c.args.rows.wavelet b c.args.rows.half) c.args.rows.count before) c.is_shifted-shifted.ensures
+    rw (end, c.is_shifted-shifted.ensures) at c.loop-y.invariant

@@ -1,4 +1,4 @@
-use Rattle.std.proofs.Common.{◌+◌, ◌*◌, length, arith, ap, ◌∙◌}
+use Rattle.std.proofs.Common.{◌+◌, ◌*◌, ◌≤◌, length, arith, ap, ◌∙◌}
 use Rattle.vc_types.specs.Lifting.{line_of}
 use Rattle.vc_wave.specs.Lines.{line_at}
 use Rattle.vc_wave.specs.Remade.{sample_place}
@@ -6,21 +6,25 @@ use Rattle.vc_wave.proofs.Copies.{placed_inside, half_small, gathered_more}
 use Rattle.vc_wave.proofs.lines.gather.Goals as goal
 
 pub overflow_mul-k-end : goal.overflow_mul-k-end
-overflow_mul-k-end c = omega (arith, half_small c.args.lines.now.half c.args.lines.now.width (length c.args.block.now) c.requires.inside.some c.requires.block)
+overflow_mul-k-end c = grind (arith, half_small)
 
 pub sample_place-requires-clause-half : goal.sample_place-requires-clause-half
-sample_place-requires-clause-half c = omega (arith, half_small c.args.lines.now.half c.args.lines.now.width (length c.args.block.now) c.requires.inside.some c.requires.block)
+sample_place-requires-clause-half c = grind (arith, half_small)
 
 pub overflow_add-start : goal.overflow_add-start
 overflow_add-start c =
-    let inside = placed_inside c.args.lines.now.start c.args.lines.now.step c.args.lines.now.width c.args.lines.now.half (length c.args.cells.now) c.args.apart c.loop-k.k c.sample_place.result c.sample_place.ensures c.loop-k-test.true c.requires.inside.inside in
-    omega (arith, inside)
+    let place = c.sample_place.ensures in
+    let within = rw (← place) at (placed_inside c.args.lines.now (length c.args.cells.now) c.requires.inside c.args.apart c.loop-k.k c.loop-k-test.true) in
+    omega (arith, within)
 
 pub copy-requires-clause-start : goal.copy-requires-clause-start
-copy-requires-clause-start c = placed_inside c.args.lines.now.start c.args.lines.now.step c.args.lines.now.width c.args.lines.now.half (length c.args.cells.now) c.args.apart c.loop-k.k c.sample_place.result c.sample_place.ensures c.loop-k-test.true c.requires.inside.inside
+copy-requires-clause-start c =
+    rw c.sample_place.ensures
+    (placed_inside c.args.lines.now (length c.args.cells.now) c.requires.inside c.args.apart c.loop-k.k c.loop-k-test.true)
 
 pub loop-k-preserved : goal.loop-k-preserved
 loop-k-preserved c =
-    gathered_more c.args.lines.now.width c.loop-k.k c.loop-k.block c.copy.new.to (λ x j. line_at c.args.cells.now c.args.lines.now x (sample_place c.args.apart c.args.lines.now.half j))
-    (λ x h. c.copy.ensures.on x h ∙ ap (λ p. line_of c.args.cells.now (c.args.lines.now.start + p * c.args.lines.now.step + x)) c.sample_place.ensures)
-    c.copy.ensures.off c.loop-k.invariant
+    let lines = c.args.lines.now in
+    gathered_more lines.width c.loop-k.k c.loop-k.block c.copy.new.to
+    (λ x j. line_at c.args.cells.now lines x (sample_place c.args.apart lines.half j))
+    (rw c.sample_place.ensures at c.copy.ensures.on) c.copy.ensures.off c.loop-k.invariant

@@ -1,10 +1,11 @@
 use Rattle.std.proofs.Common.{◌+◌, ◌*◌, ◌^◌, ◌<◌, length, arith, ap, sym, ◌∙◌}
 use Rattle.std.specs.Prelude.{if◌then◌else◌}
-use Rattle.vc_types.specs.Transforms.{halved, half_place}
+use Rattle.vc_types.specs.Transforms.{halved}
 use Rattle.vc_wave.proofs.Weaving.{half_place_below}
 use Rattle.vc_wave.specs.Lines.{line_at}
-use Rattle.vc_wave.specs.Remade.{merged}
-use Rattle.vc_wave.proofs.Copies.{block_inside, all_of_block, on_samples_in, merged_column, made_below}
+use Rattle.vc_wave.specs.Remade.{half_place, merged}
+use Rattle.vc_wave.proofs.Copies.{block_inside, all_of_block, merged_column, made_below}
+use Rattle.vc_wave.proofs.PlaneLines.{on_samples_in}
 use Rattle.vc_wave.proofs.lines.merge.Goals as goal
 
 pub synth_columns-requires-clause-small : goal.synth_columns-requires-clause-small

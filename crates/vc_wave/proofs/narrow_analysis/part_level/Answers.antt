@@ -1,31 +1,34 @@
-use Rattle.std.proofs.Common.{◌*◌, arith, ap, sym, subst, ◌∙◌}
-use Rattle.vc_types.specs.Transforms.{Cells, on_columns}
-use Rattle.vc_types.specs.Wavelets.{analysed}
+use Rattle.std.proofs.Common.{◌*◌, arith, ap, ◌∙◌}
+use Rattle.vc_types.specs.Transforms.{on_columns, on_rows}
+use Rattle.vc_types.specs.Wavelets.{is_shifted, analysed}
+use Rattle.vc_wave.specs.declared.pass.Direction.TheVariants.{Analysis}
 use Rattle.vc_wave.specs.Planes.{plane_of}
-use Rattle.vc_wave.specs.Remade.{parted_in_turn}
-use Rattle.vc_wave.proofs.NarrowColumns.{plane_small, cells_small}
-use Rattle.vc_wave.proofs.NarrowLevels.{AtMost}
-use Rattle.vc_wave.proofs.PartedLevels.{level_bounds}
-use Rattle.vc_wave.proofs.PartedRows.{rows_after}
+use Rattle.vc_wave.specs.Remade.{remade, parted_in_turn}
+use Rattle.vc_wave.proofs.CarriedBounds.{level_bounds, level_rows_at_most, made_within}
 use Rattle.vc_wave.proofs.narrow_analysis.part_level.Goals as goal
 
 pub part_rows-requires-clause-bound : goal.part_rows-requires-clause-bound
 part_rows-requires-clause-bound c =
-    let m = level_bounds c.args.level.wavelets.down c.requires.bound.most c.requires.bound.after c.requires.bound.fits in
-    record { most = c.requires.bound.most; after = m.made; small = c.requires.bound.small; fits = m.across }
+    let b = c.requires.bound in
+    let m = level_bounds c.args.level.wavelets.down b.most b.after b.fits in
+    record { most = b.most; after = m.made; small = b.small; fits = m.across }
 
 pub part_columns-requires-clause-bound : goal.part_columns-requires-clause-bound
 part_columns-requires-clause-bound c =
-    let m = level_bounds c.args.level.wavelets.down c.requires.bound.most c.requires.bound.after c.requires.bound.fits in
-    let before = plane_of c.args.level.pitch c.args.cells.now in
-    let small = rows_after c.args.level.wavelets.down c.args.level.w (2 * c.args.level.h) c.requires.bound.most m.made before (omega arith) m.across (plane_small c.args.level.pitch c.requires.bound.most c.args.cells.now c.requires.bound.small) in
+    let l = c.args.level in
+    let b = c.requires.bound in
+    let m = level_bounds l.wavelets.down b.most b.after b.fits in
     record {
       most = m.made;
-      after = c.requires.bound.after;
-      small = cells_small c.args.level.pitch m.made c.part_rows.new.cells (omega (arith, c.requires.room.across)) (subst (λ (p : Cells). AtMost m.made p) (sym c.part_rows.ensures) small);
+      after = b.after;
+      small = made_within l.pitch b.most m.made (on_rows (remade Analysis l.wavelets.down (is_shifted l.wavelets.down) l.w) (2 * l.h))
+          c.args.cells.now c.part_rows.new.cells (omega (arith, c.requires.room.across)) b.small c.part_rows.ensures
+          (level_rows_at_most l.wavelets.down b.most b.after b.fits l.w l.h (plane_of l.pitch c.args.cells.now) (omega arith));
       fits = m.down;
     }
 
 pub returns : goal.returns
 unfolding parted_in_turn
-returns c = c.part_columns.ensures ∙ ap (on_columns (analysed c.args.level.wavelets.down (2 * c.args.level.h)) (2 * c.args.level.w)) c.part_rows.ensures
+returns c =
+    let l = c.args.level in
+    c.part_columns.ensures ∙ ap (on_columns (analysed l.wavelets.down (2 * l.h)) (2 * l.w)) c.part_rows.ensures

@@ -4,7 +4,7 @@ use Rattle.vc_types.specs.Wavelets.{is_shifted}
 use Rattle.vc_wave.specs.declared.pass.Direction.TheVariants.{Synthesis}
 use Rattle.vc_wave.specs.Remade.{remade}
 use Rattle.vc_wave.proofs.OutputRows.{rows_put}
-use Rattle.vc_wave.proofs.Weaving.{remade_reads}
+use Rattle.vc_wave.proofs.Weaving.{remade_pass}
 use Rattle.vc_wave.proofs.output.put_rows.Goals as goal
 
 pub put_row-requires-clause-at : goal.put_row-requires-clause-at
@@ -26,7 +26,7 @@ loop-y-preserved c =
     let y = c.loop-y.y in
     record {
       put =
-          rows_put f c.args.rows.pitch (2 * c.args.rows.half) c.args.format.columns c.args.format.depth y (remade_reads Synthesis c.args.rows.wavelet (is_shifted c.args.rows.wavelet) c.args.rows.half) c.requires.width c.requires.across c.args.cells.now c.loop-y.cells c.loop-y.samples c.put_row.new.samples
+          rows_put f c.args.rows.pitch (2 * c.args.rows.half) c.args.format.columns c.args.format.depth y (remade_pass Synthesis c.args.rows.wavelet (is_shifted c.args.rows.wavelet) c.args.rows.half).reads c.requires.width c.requires.across c.args.cells.now c.loop-y.cells c.loop-y.samples c.put_row.new.samples
           c.loop-y.invariant.left c.put_row.ensures.on c.put_row.ensures.off c.loop-y.invariant.put;
       left = λ i h. c.put_row.ensures.beside i (inr (omega (arith, h, c.requires.across))) ∙ c.loop-y.invariant.left i (omega (arith, h));
     }

@@ -4,7 +4,7 @@ use Rattle.std.proofs.lemmas.Int.{to_z-of_z}
 use Rattle.vc_types.specs.Lifting.{line_of}
 use Rattle.vc_types.specs.Planes.{output_sample}
 use Rattle.vc_wave.specs.Remade.{shifted_down}
-use Rattle.vc_wave.proofs.NarrowRows.{even_more, odd_more, off_more}
+use Rattle.vc_wave.proofs.RowHalves.{even_more, odd_more, off_more}
 use Rattle.vc_wave.proofs.OutputRows.{row_whole, row_odd}
 use Rattle.vc_wave.proofs.output.weave_samples.Goals as goal
 

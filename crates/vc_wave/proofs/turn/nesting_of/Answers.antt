@@ -1,7 +1,7 @@
 use Rattle.std.proofs.Common.{rules, ◌*◌, ◌^◌, arith, ap, ◌∙◌}
 use Rattle.vc_types.specs.TransformParameters.{parameters_of}
 use Rattle.vc_wave.proofs.Levels.{level_some}
-use Rattle.vc_wave.proofs.NarrowLevels.{sides_small}
+use Rattle.vc_wave.proofs.TurnedLevels.{sides_small}
 use Rattle.vc_wave.proofs.turn.nesting_of.Goals as goal
 
 pub side_at-requires-clause-fits : goal.side_at-requires-clause-fits
