@@ -57,8 +57,8 @@ module _ (limit : ℕ) (s : CountedStep) (steps : List CountedStep) (e o half af
   on_even zeroth =
       option_and_then_some (λ more. bound_after limit steps more o) (stretched_below limit s e o) after (sym (first_chosen s.parity _ _ zeroth) ∙ fits)
       (λ more is rest.
-      (let mine : IsWithin x half s.parity e = subst (λ q. IsWithin x half q e) (sym zeroth) even in
-      let met : IsWithin x half (1 - s.parity) o = subst (λ q. IsWithin x half (1 - q) o) (sym zeroth) odd in
+      (let mine : IsWithin x half s.parity e = rw zeroth even in
+      let met : IsWithin x half (1 - s.parity) o = rw zeroth odd in
       record {
         even = more;
         odd = o;
@@ -74,8 +74,8 @@ module _ (limit : ℕ) (s : CountedStep) (steps : List CountedStep) (e o half af
       let ne : s.parity ≢ 0 = omega arith in
       option_and_then_some (λ more. bound_after limit steps e more) (stretched_below limit s o e) after (sym (second_chosen s.parity _ _ ne) ∙ fits)
       (λ more is rest.
-      (let mine : IsWithin x half s.parity o = subst (λ q. IsWithin x half q o) (sym first) odd in
-      let met : IsWithin x half (1 - s.parity) e = subst (λ q. IsWithin x half (1 - q) e) (sym first) even in
+      (let mine : IsWithin x half s.parity o = rw first odd in
+      let met : IsWithin x half (1 - s.parity) e = rw first even in
       record {
         even = e;
         odd = more;
@@ -124,7 +124,7 @@ pub of_parity : (x : ℕ → ℤ) (half m q : ℕ) → q < 2 → ((k : ℕ) → 
 of_parity x half m q lt small = record { within = λ n h. small (2 * n + q) (omega arith) }
 
 same_within : (x y : ℕ → ℤ) (half q m : ℕ) → q < 2 → ((k : ℕ) → k < 2 * half → y k ≡ x k) → IsWithin x half q m → IsWithin y half q m
-same_within x y half q m lt same w = record { within = λ n h. subst (λ z. unsigned_abs z ≤ m) (sym (same (2 * n + q) (omega arith))) (w.within n h) }
+same_within x y half q m lt same w = record { within = λ n h. rw (same (2 * n + q) (omega arith)) (w.within n h) }
 
 pub range_now : (steps : List CountedStep) (half : ℕ) (x y : ℕ → ℤ) (i : ℕ) (s : CountedStep) → 0 < half → HaveParities steps → StaysNarrow steps half x → s ≡ get_or steps i s → i < length steps → ((k : ℕ) → k < 2 * half → y k ≡ lift_all (take i steps) half x k) → HasRange (2 ^ 31) s half y
 range_now steps half x y i s some p narrow e lt same =
@@ -183,7 +183,7 @@ narrow_covers wavelet most after fits = (bound_covers (2 ^ 31) (counted_synthesi
 pub synthesis_after : (wavelet half most after : ℕ) (x : ℕ → ℤ) → 0 < half → narrow_bound wavelet most ≡ Some after → ((k : ℕ) → k < 2 * half → unsigned_abs (x k) ≤ most) → (k : ℕ) → k < 2 * half → unsigned_abs (synthesised wavelet (2 * half) x k) ≤ after
 unfolding counted_steps
 synthesis_after wavelet half most after x some fits small k h =
-    subst (λ (z : ℤ). unsigned_abs z ≤ after) (sym (ap (λ f. f k) (synthesised_counted wavelet half x)))
+    rw (ap (λ f. f k) (synthesised_counted wavelet half x))
     (narrow_after (counted_synthesis wavelet) half most after x some (parities_of (counted_synthesis wavelet) (synthesis_little wavelet)) fits small k h)
 
 pub narrow_analysis_covers : (wavelet most after : ℕ) → narrow_analysis_bound wavelet most ≡ Some after → most ≤ after
@@ -193,5 +193,5 @@ narrow_analysis_covers wavelet most after fits = (bound_covers (2 ^ 31) (counted
 pub analysis_after : (wavelet half most after : ℕ) (x : ℕ → ℤ) → 0 < half → narrow_analysis_bound wavelet most ≡ Some after → ((k : ℕ) → k < 2 * half → unsigned_abs (x k) ≤ most) → (k : ℕ) → k < 2 * half → unsigned_abs (analysed wavelet (2 * half) x k) ≤ after
 unfolding counted_steps
 analysis_after wavelet half most after x some fits small k h =
-    subst (λ (z : ℤ). unsigned_abs z ≤ after) (sym (ap (λ f. f k) (analysed_counted wavelet half x)))
+    rw (ap (λ f. f k) (analysed_counted wavelet half x))
     (narrow_after (counted_analysis wavelet) half most after x some (parities_of (counted_analysis wavelet) (analysis_little wavelet)) fits small k h)

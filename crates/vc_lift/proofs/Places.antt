@@ -39,10 +39,10 @@ module _ (width : ℕ) (cells : List ℤ) (k x : ℕ) (v : ℤ) (lt : x < width)
 
 module _ (half width n back j x p : ℕ) (some : n < half) (left : back ≤ n) (right : n + j < half + back) where
   pub inside_below : x < width → (2 * (n - back) + (1 - p)) * width + x + 2 * j * width < 2 * half * width
-  inside_below lt = subst (λ i. i < 2 * half * width) (sym (inside_place half width n back j x p left right)) (place_below half width (2 * min (n + j - back) (half - 1) + (1 - p)) x (omega arith) lt)
+  inside_below lt = rw (inside_place half width n back j x p left right) (place_below half width (2 * min (n + j - back) (half - 1) + (1 - p)) x (omega arith) lt)
 
   pub inside_small : (cells : List ℤ) (b : ℕ) → IsWithin (column_of width cells x) half (1 - p) b → unsigned_abs (line_of cells ((2 * (n - back) + (1 - p)) * width + x + 2 * j * width)) ≤ b
-  inside_small cells b w = subst (λ i. unsigned_abs (line_of cells i) ≤ b) (sym (inside_place half width n back j x p left right)) (w.within (min (n + j - back) (half - 1)) (omega arith))
+  inside_small cells b w = rw (inside_place half width n back j x p left right) (w.within (min (n + j - back) (half - 1)) (omega arith))
 
 -- a sample that is written as the step changes it
 pub one_written : (s : CountedStep) (half n : ℕ) (f g : ℕ → ℤ) (v : ℤ) → f ≡ g → v ≡ changed_by s.adds (f (2 * n + s.parity)) (change_at s half f n) → with_sample f (2 * n + s.parity) v ≡ one_changed s half n g

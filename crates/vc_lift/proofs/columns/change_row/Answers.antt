@@ -16,7 +16,7 @@ change_at-change-requires c = record {
   whole = omega arith;
   at = c.requires.at;
   column = omega arith;
-  met = subst (λ (f : ℕ → ℤ). IsWithin f c.args.columns.half (1 - c.args.step.now.parity) (2 ^ 112)) (sym (c.loop-x.invariant.left c.loop-x.x (omega arith) (omega arith))) (c.requires.met c.loop-x.x (omega arith));
+  met = rw (c.loop-x.invariant.left c.loop-x.x (omega arith) (omega arith)) (c.requires.met c.loop-x.x (omega arith));
 }
 
 pub changed_by-requires-clause-sample : goal.changed_by-requires-clause-sample

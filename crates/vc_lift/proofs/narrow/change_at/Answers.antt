@@ -18,5 +18,5 @@ returns-clause-bound c =
     let line = line_in c.args.halves.now c.args.cells.now c.args.x in
     let made = narrow_shift c.weigh.result _ k (narrow_rounding k c.args.step.now.plain.shift) c.weigh.ensures.bound
     ∙ ap (λ z. int_shr (z +ℤ pos (half_of k)) k) c.weigh.ensures.value in
-    subst (λ (z : ℤ). unsigned_abs (line (2 * c.args.n + c.args.step.now.parity)) + unsigned_abs z < 2 ^ 31) (sym made)
+    rw made
     (change_within (counted_of c.args.step.now) c.args.halves.now.half line c.args.n (2 ^ 31) c.requires.room)

@@ -21,7 +21,7 @@ change_run-requires c =
     record {
       small = c.requires.lines.small;
       at = omega arith;
-      run = subst (λ len. CanRun s h n c.args.width len) (sym c.loop-n.auto.cells) (number_run s h n c.args.width (length c.args.cells.now) p (omega arith) c.requires.lines);
+      run = rw c.loop-n.auto.cells (number_run s h n c.args.width (length c.args.cells.now) p (omega arith) c.requires.lines);
       room = λ x lt.
           room_after s h c.args.lo n c.args.width c.args.cells.now c.loop-n.cells c.requires.lines.some p c.loop-n.auto.n c.loop-n.invariant
           (2 ^ 31) x n lt (omega arith) (omega arith) (c.requires.room x n lt c.loop-n.auto.n c.loop-n-test.true);
@@ -40,4 +40,4 @@ loop-n-preserved c =
 pub returns : goal.returns
 returns c =
     let end : c.loop-n.n ≡ c.args.hi = omega arith in
-    subst (λ n. AreMade (lift_between (counted_of c.args.step.now) c.args.halves.now.half c.args.lo n) c.args.halves.now c.args.width c.args.cells.now c.loop-n.cells) end c.loop-n.invariant
+    rw end at c.loop-n.invariant

@@ -1,23 +1,24 @@
-use Rattle.std.proofs.Common.{sym, subst}
 use Rattle.std.proofs.lemmas.Bool.Decides.{Decides-int_eq}
 use Rattle.std.proofs.lemmas.Slice.Eq.{slice_eq-Decides}
-use Rattle.vc_lift.specs.Runs.{CanChange}
 use Rattle.vc_lift.proofs.narrow.change_weighted.Goals as goal
 
 pub with_taps-requires : goal.with_taps-requires
-with_taps-requires c = (slice_eq-Decides Decides-int_eq c.args.step.now.taps.now _ c.eq.result c.eq.ensures).0 c.if-eq.true
+with_taps-requires c =
+    (slice_eq-Decides Decides-int_eq c.args.step.now.taps.now _ c.eq.result c.eq.ensures).0 c.if-eq.true
 
 pub with_taps-requires-then-eq-2 : goal.with_taps-requires-then-eq-2
-with_taps-requires-then-eq-2 c = (slice_eq-Decides Decides-int_eq c.args.step.now.taps.now _ c.eq-else-eq.result c.eq-else-eq.ensures).0 c.if-eq-2.true
+with_taps-requires-then-eq-2 c =
+    (slice_eq-Decides Decides-int_eq c.args.step.now.taps.now _ c.eq-else-eq.result c.eq-else-eq.ensures).0 c.if-eq-2.true
 
 pub with_taps-requires-then-eq-3 : goal.with_taps-requires-then-eq-3
-with_taps-requires-then-eq-3 c = (slice_eq-Decides Decides-int_eq c.args.step.now.taps.now _ c.eq-else-eq-2.result c.eq-else-eq-2.ensures).0 c.if-eq-3.true
+with_taps-requires-then-eq-3 c =
+    (slice_eq-Decides Decides-int_eq c.args.step.now.taps.now _ c.eq-else-eq-2.result c.eq-else-eq-2.ensures).0 c.if-eq-3.true
 
 pub change_signed-requires : goal.change_signed-requires
-change_signed-requires c = subst (λ s. CanChange s c.args.halves.now c.args.n c.args.width c.args.cells.now) (sym c.with_taps.ensures) c.requires
+change_signed-requires c = rw c.with_taps.ensures c.requires
 
 pub change_signed-requires-then-eq-2 : goal.change_signed-requires-then-eq-2
-change_signed-requires-then-eq-2 c = subst (λ s. CanChange s c.args.halves.now c.args.n c.args.width c.args.cells.now) (sym c.with_taps-then-eq-2.ensures) c.requires
+change_signed-requires-then-eq-2 c = rw c.with_taps-then-eq-2.ensures c.requires
 
 pub change_signed-requires-then-eq-3 : goal.change_signed-requires-then-eq-3
-change_signed-requires-then-eq-3 c = subst (λ s. CanChange s c.args.halves.now c.args.n c.args.width c.args.cells.now) (sym c.with_taps-then-eq-3.ensures) c.requires
+change_signed-requires-then-eq-3 c = rw c.with_taps-then-eq-3.ensures c.requires

@@ -34,5 +34,5 @@ loop-i-preserved c =
 
 pub returns : goal.returns
 returns c =
-    let h = c.args.halves.now in
-    subst (λ ts. AreMade (lift_all ts h.half) h c.args.width c.args.cells.now c.loop-i.cells) (take_all c.loop-i.i (steps_of c.args.steps.now) (omega arith)) c.loop-i.invariant
+    let all = take_all c.loop-i.i (steps_of c.args.steps.now) (omega arith) in
+    rw all at c.loop-i.invariant

@@ -18,7 +18,8 @@ met_place : (c : goal.After-sum-in-loop-j-1) → c.place.result ≡ halves_place
 met_place c = met_at (counted_of c.args.step.now) c.args.halves.now c.args.n c.loop-j.j c.min-met.result c.place.result c.args.step.now.plain.parity (omega arith) c.place.ensures
 
 met_small : (c : goal.After-sum-in-loop-j-1) → unsigned_abs (slice_index_or c.args.cells.now (c.place.result + c.args.x) (pos 0)) ≤ c.requires.room.other
-met_small c = subst (λ i. unsigned_abs (line_of c.args.cells.now (i + c.args.x)) ≤ c.requires.room.other) (sym (met_place c)) (c.requires.room.met c.loop-j.j c.loop-j-test.true)
+met_small c =
+    rw (met_place c) (c.requires.room.met c.loop-j.j c.loop-j-test.true)
 
 pub overflow_mul-sum : goal.overflow_mul-sum
 overflow_mul-sum c =
@@ -43,7 +44,8 @@ loop-j-preserved c =
     let tap = slice_index_or taps j (pos 0) in
     let sum = to_z w32 c.loop-j.sum-bits in
     let met : c.place.result ≡ halves_place c.args.halves.now (place_met (counted_of c.args.step.now) c.args.halves.now.half c.args.n j) = met_at (counted_of c.args.step.now) c.args.halves.now c.args.n j c.min-met.result c.place.result c.args.step.now.plain.parity (omega arith) c.place.ensures in
-    let small_here : unsigned_abs x ≤ c.requires.room.other = subst (λ i. unsigned_abs (line_of c.args.cells.now (i + c.args.x)) ≤ c.requires.room.other) (sym met) (c.requires.room.met j c.loop-j-test.true) in
+    let small_here : unsigned_abs x ≤ c.requires.room.other =
+    rw met (c.requires.room.met j c.loop-j-test.true) in
     let read = sum_read w32 taps c.requires.room.other j tap x sum (λ i. tap) c.loop-j-test.true (narrow_taps c.args.step.now.plain.light) own (narrow_room _ c.requires.room.other _ c.requires.room.sum) small_here (c.loop-j.invariant.bound c.requires.room.other c.requires.room.met) in
     let f = λ (j : ℕ). slice_index_or taps j (pos 0) *ℤ line_in c.args.halves.now c.args.cells.now c.args.x (place_met (counted_of c.args.step.now) c.args.halves.now.half c.args.n j) in
     record {
