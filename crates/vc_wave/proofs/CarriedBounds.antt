@@ -1,5 +1,5 @@
 -- A bound on all magnitudes is carried through lines, passes and levels in 32 bits.
-use Rattle.std.proofs.Common.{◌≡◌, ℕ, zero, suc, ◌+◌, ◌-◌, ◌*◌, ◌/◌, ◌^◌, ◌<◌, ◌≤◌, ◌⊎◌, inl, inr, List, ℤ, pos, negsuc}
+use Rattle.std.proofs.Common.{◌≡◌, ℕ, zero, suc, ◌+◌, ◌-◌, ◌*◌, ◌/◌, ◌^◌, ◌<◌, ◌≤◌, inl, inr, List, ℤ, pos, negsuc}
 use Rattle.std.proofs.Common.{◌+ℤ◌, unsigned_abs, arith, ap, sym, subst, refl, ◌∙◌, Bool, true, false, max}
 use Rattle.std.proofs.Common.{Option, Some, None}
 use Rattle.std.specs.Prelude.{if◌then◌else◌, nat_lt}

@@ -1,7 +1,6 @@
 -- The highest level both ways: its sides, and what it makes of the subbands that are left below it.
 use Rattle.std.proofs.Common.{◌≡◌, ℕ, suc, ◌+◌, ◌-◌, ◌*◌, ◌^◌, ◌≤◌, List, ℤ, arith, refl, ap, ◌∙◌}
 use Rattle.std.proofs.Math.Nat.{pow-suc}
-use Rattle.std.proofs.lemmas.Nat.{pow-add}
 use Rattle.vc_types.specs.declared.video.Component.{Component}
 use Rattle.vc_types.specs.Subbands.{levels, plane_width, plane_height, padded_width, padded_height}
 use Rattle.vc_types.specs.TransformParameters.{Parameters}

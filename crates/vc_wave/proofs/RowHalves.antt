@@ -1,8 +1,7 @@
 -- Rows in 32 bits: put together from two halves, and taken apart into two halves, in place.
-use Rattle.std.proofs.Common.{◌≡◌, ◌≢◌, ℕ, zero, suc, ◌+◌, ◌*◌, ◌/◌, ◌%◌, ◌^◌, ◌<◌, ◌≤◌, ◌⊎◌, inl, inr, List, length, set}
-use Rattle.std.proofs.Common.{slice_index_or, ℤ, pos, unsigned_abs, arith, ap, sym, subst, ◌∙◌, Bool, true, false}
+use Rattle.std.proofs.Common.{◌≡◌, ◌≢◌, ℕ, zero, suc, ◌+◌, ◌*◌, ◌%◌, ◌^◌, ◌<◌, ◌≤◌, ◌⊎◌, inl, inr, List, length, set}
+use Rattle.std.proofs.Common.{slice_index_or, ℤ, pos, unsigned_abs, arith, ap, sym, subst, ◌∙◌, Bool, true}
 use Rattle.std.specs.Prelude.{if◌then◌else◌, ◌==◌}
-use Rattle.std.proofs.lemmas.Bool.{cases_lt}
 use Rattle.std.proofs.lemmas.List.{get_or-set_same, get_or-set_other, length-set}
 use Rattle.vc_types.specs.Lifting.{Line, line_of}
 use Rattle.vc_types.specs.Transforms.{halved, doubled, source_of}
@@ -18,7 +17,7 @@ use Rattle.vc_wave.specs.Lines.{row_from, IsRowMade}
 use Rattle.vc_wave.specs.NarrowBounds.{RowHasBound, rows_bound}
 use Rattle.vc_wave.specs.Remade.{half_place, halves_together, halves_apart, on_samples, merged, remade, shifted_down}
 use Rattle.vc_wave.proofs.CarriedBounds.{RowsMade, RowsParted, rows_made, rows_parted, readied_at_most}
-use Rattle.vc_wave.proofs.PlaneLines.{IsPass, rearranged_in, on_samples_in, on_samples_pass}
+use Rattle.vc_wave.proofs.PlaneLines.{rearranged_in, on_samples_in, on_samples_pass}
 use Rattle.vc_wave.proofs.Weaving.{half_place_below, source_below, half_place-source_of, source_of-half_place}
 
 -- ---- two samples more of a row

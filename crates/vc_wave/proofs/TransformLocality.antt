@@ -1,8 +1,7 @@
 -- The transforms of a part of the plane read that part alone, and leave all other cells.
-use Rattle.std.proofs.Common.{◌≡◌, ℕ, zero, suc, ◌*◌, ◌^◌, ◌<◌, ◌≤◌, ◌⊎◌, inl, inr, arith, sym, ap, subst, refl, ◌∙◌}
+use Rattle.std.proofs.Common.{◌≡◌, ℕ, zero, suc, ◌*◌, ◌^◌, ◌<◌, ◌≤◌, ◌⊎◌, arith, sym, ap, subst, refl, ◌∙◌}
 use Rattle.std.proofs.Common.{false, ◌+◌, ◌/◌}
 use mathlib.Core.Path.{fun_ext}
-use Rattle.std.proofs.lemmas.Bool.{cases_lt}
 use Rattle.std.proofs.lemmas.Nat.{pow-add}
 use Rattle.std.proofs.Math.Nat.{div-mul-le_self, mul-le-mul_left, mul-le-mul_right, pow-suc}
 use Rattle.std.proofs.Math.Pow.{pow_pos}
@@ -15,7 +14,6 @@ use Rattle.vc_types.specs.Transforms.{levels_across, inverse_levels, forward_lev
 use Rattle.vc_types.specs.Transforms.{lowest_width, lowest_height}
 use Rattle.vc_types.specs.Wavelets.{is_shifted}
 use Rattle.vc_wave.specs.declared.pass.Direction.TheVariants.{Synthesis, Analysis}
-use Rattle.vc_wave.specs.Remade.{remade}
 use Rattle.vc_wave.proofs.PlaneLines.{LeavesPast, ReadsBelow, IsPass, column_in, column_out, row_in, row_out}
 use Rattle.vc_wave.proofs.Weaving.{remade_pass, level_across_remade, inverse_level_remade, forward_level_remade}
 

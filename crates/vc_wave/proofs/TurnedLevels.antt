@@ -1,5 +1,5 @@
 -- Levels in 32 bits, whose rows stand in turn: what each makes of the nested subbands, and how far it reaches.
-use Rattle.std.proofs.Common.{◌≡◌, ℕ, suc, ◌+◌, ◌-◌, ◌*◌, ◌^◌, ◌<◌, ◌≤◌, List, ℤ, arith, ap, sym, refl, ◌∙◌}
+use Rattle.std.proofs.Common.{◌≡◌, ℕ, suc, ◌+◌, ◌-◌, ◌*◌, ◌^◌, ◌<◌, ◌≤◌, List, ℤ, arith, ap, sym, ◌∙◌}
 use Rattle.std.proofs.lemmas.Nat.{pow-add}
 use Rattle.std.proofs.Math.Nat.{mul-le-mul_left, mul-le-mul_right, div-mul-le_self, pow-suc}
 use Rattle.std.proofs.Math.Pow.{pow_mono, pow_pos}
@@ -11,7 +11,7 @@ use Rattle.vc_types.specs.Transforms.{Cells, on_columns, on_rows, inverse_level,
 use Rattle.vc_types.specs.Transforms.{inverse_levels, forward_levels, lowest_width, lowest_height}
 use Rattle.vc_types.specs.Wavelets.{is_shifted, synthesised, analysed}
 use Rattle.vc_wave.specs.declared.pass.Direction.TheVariants.{Synthesis, Analysis}
-use Rattle.vc_wave.specs.Layout.{laid_out, row_in_turn, after_levels}
+use Rattle.vc_wave.specs.Layout.{laid_out, row_in_turn}
 use Rattle.vc_wave.specs.Planes.{HasRoom, plane_of}
 use Rattle.vc_wave.specs.Remade.{remade, halves_together, halves_apart, level_in_turn, parted_in_turn}
 use Rattle.vc_wave.proofs.LayoutLaws.{laid_together, laid_after}

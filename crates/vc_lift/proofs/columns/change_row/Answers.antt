@@ -1,10 +1,9 @@
-use Rattle.std.proofs.Common.{◌≡◌, ◌+◌, ◌-◌, ◌*◌, ◌^◌, ◌<◌, ◌≤◌, ◌≢◌, ℕ, length, unsigned_abs, ℤ, to_z, of_z, arith, sym, ap, subst, ◌∙◌, inl, inr}
+use Rattle.std.proofs.Common.{◌≡◌, ◌+◌, ◌*◌, ◌^◌, ◌<◌, ◌≤◌, ◌≢◌, ℕ, length, unsigned_abs, ℤ, to_z, of_z, arith, sym, ap, subst, ◌∙◌, inl, inr}
 use Rattle.std.specs.Int.{w128}
 use Rattle.std.proofs.lemmas.Bool.{cases_eq}
 use Rattle.std.proofs.lemmas.Int.{to_z-of_z}
 use Rattle.vc_types.specs.Lifting.{changed_by}
 use Rattle.vc_lift.specs.CountedSteps.{change_at}
-use Rattle.vc_lift.specs.Growth.{IsWithin}
 use Rattle.vc_lift.specs.Columns.{column_of}
 use Rattle.vc_lift.specs.Steps.{counted_of}
 use Rattle.vc_lift.proofs.Places.{place_below, column_of-set_same, column_of-set_other, one_written}

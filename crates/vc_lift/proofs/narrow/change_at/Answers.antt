@@ -1,4 +1,4 @@
-use Rattle.std.proofs.Common.{arith, ◌^◌, ◌<◌, ◌+◌, ◌*◌, pos, unsigned_abs, ap, sym, subst, ◌∙◌, ℤ, ◌+ℤ◌}
+use Rattle.std.proofs.Common.{arith, ◌^◌, ◌+◌, pos, ap, ◌∙◌, ℤ, ◌+ℤ◌}
 use Rattle.std.specs.Int.{int_shr}
 use Rattle.vc_types.specs.Lifting.{half_of}
 use Rattle.vc_lift.specs.CountedSteps.{change_at}

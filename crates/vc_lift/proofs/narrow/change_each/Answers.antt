@@ -1,7 +1,6 @@
-use Rattle.std.proofs.Common.{◌≡◌, ◌+◌, ◌^◌, length, subst, arith, sym}
+use Rattle.std.proofs.Common.{◌≡◌, ◌+◌, ◌^◌, length, arith}
 use Rattle.vc_types.specs.Lifting.{line_of}
-use Rattle.vc_lift.specs.CountedSteps.{lift_between}
-use Rattle.vc_lift.specs.Halves.{line_in, AreMade, CanRun}
+use Rattle.vc_lift.specs.Halves.{line_in}
 use Rattle.vc_lift.specs.Steps.{counted_of}
 use Rattle.vc_lift.proofs.Betweens.{between_none, number_run, number_made, made_more, room_after}
 use Rattle.vc_lift.proofs.narrow.change_each.Goals as goal

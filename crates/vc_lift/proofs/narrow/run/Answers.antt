@@ -1,6 +1,6 @@
-use Rattle.std.proofs.Common.{take, take_all, arith, refl, sym, ap, subst, ◌∙◌}
+use Rattle.std.proofs.Common.{take, take_all, arith, refl, sym, ap, ◌∙◌}
 use Rattle.vc_lift.specs.CountedSteps.{lift_all}
-use Rattle.vc_lift.specs.Halves.{line_in, AreMade}
+use Rattle.vc_lift.specs.Halves.{line_in}
 use Rattle.vc_lift.specs.Steps.{counted_of}
 use Rattle.vc_lift.specs.StepLists.{steps_of}
 use Rattle.vc_lift.proofs.LineLocality.{same_lift}

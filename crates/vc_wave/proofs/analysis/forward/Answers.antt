@@ -1,4 +1,4 @@
-use Rattle.std.proofs.Common.{◌≡◌, ◌*◌, ◌^◌, ◌<◌, All, length, drop, arith, ap, ◌∙◌}
+use Rattle.std.proofs.Common.{◌≡◌, ◌*◌, ◌^◌, length, drop, arith, ap, ◌∙◌}
 use Rattle.vc_types.specs.Rasters.{Lattice, cell_at}
 use Rattle.vc_types.specs.Subbands.{padded_width, padded_height}
 use Rattle.vc_types.specs.TransformParameters.{parameters_of}

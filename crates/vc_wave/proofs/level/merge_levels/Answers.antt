@@ -1,4 +1,4 @@
-use Rattle.std.proofs.Common.{rules, ◌≡◌, ◌+◌, ◌-◌, ◌*◌, ◌^◌, arith}
+use Rattle.std.proofs.Common.{rules, ◌≡◌, ◌+◌, ◌-◌, ◌*◌, arith}
 use Rattle.vc_types.specs.Transforms.{inverse_levels}
 use Rattle.vc_wave.specs.Planes.{plane_of}
 use Rattle.vc_wave.proofs.Levels.{level_room, no_levels, next_level}

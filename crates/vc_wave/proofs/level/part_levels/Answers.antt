@@ -1,4 +1,4 @@
-use Rattle.std.proofs.Common.{◌≡◌, ◌+◌, ◌-◌, ◌*◌, ◌^◌, arith, ap, sym, subst, ◌∙◌}
+use Rattle.std.proofs.Common.{◌≡◌, ◌+◌, ◌-◌, ◌*◌, ◌^◌, arith, sym, subst, ◌∙◌}
 use Rattle.vc_types.specs.Transforms.{Cells, forward_level, forward_levels}
 use Rattle.vc_wave.specs.Planes.{AreBelow, plane_of}
 use Rattle.vc_wave.proofs.Levels.{level_room, no_forward, next_forward}

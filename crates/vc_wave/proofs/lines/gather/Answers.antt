@@ -1,5 +1,4 @@
-use Rattle.std.proofs.Common.{◌+◌, ◌*◌, ◌≤◌, length, arith, ap, ◌∙◌}
-use Rattle.vc_types.specs.Lifting.{line_of}
+use Rattle.std.proofs.Common.{length, arith}
 use Rattle.vc_wave.specs.Lines.{line_at}
 use Rattle.vc_wave.specs.Remade.{sample_place}
 use Rattle.vc_wave.proofs.Copies.{placed_inside, half_small, gathered_more}

@@ -1,4 +1,4 @@
-use Rattle.std.proofs.Common.{◌+◌, ◌*◌, ◌≤◌, length, arith}
+use Rattle.std.proofs.Common.{length, arith}
 use Rattle.vc_wave.proofs.Copies.{placed_inside, half_small, scattered_on, scattered_off}
 use Rattle.vc_wave.proofs.lines.scatter.Goals as goal
 

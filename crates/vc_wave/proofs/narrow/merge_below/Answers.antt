@@ -1,4 +1,4 @@
-use Rattle.std.proofs.Common.{rules, ◌≡◌, ◌-◌, ◌*◌, ◌^◌, ◌≤◌, length, arith, refl}
+use Rattle.std.proofs.Common.{rules, ◌*◌, ◌^◌, length, arith, refl}
 use Rattle.vc_types.specs.TransformParameters.{parameters_of}
 use Rattle.vc_types.specs.Transforms.{lowest_width, lowest_height}
 use Rattle.vc_wave.specs.Planes.{HasRoom}

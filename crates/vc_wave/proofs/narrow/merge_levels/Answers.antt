@@ -1,4 +1,4 @@
-use Rattle.std.proofs.Common.{◌≡◌, ◌-◌, ◌<◌, length, arith, refl}
+use Rattle.std.proofs.Common.{◌≡◌, ◌-◌, length, arith, refl}
 use Rattle.vc_wave.proofs.TurnedLevels.{pitch_fits, turn_room, first_laid, next_laid}
 use Rattle.vc_wave.proofs.narrow.merge_levels.Goals as goal
 

@@ -1,5 +1,4 @@
-use Rattle.std.proofs.Common.{◌≡◌, ◌+◌, ◌-◌, ◌*◌, ◌^◌, ◌≤◌, length, unsigned_abs, arith, refl, sym}
-use Rattle.vc_types.specs.Lifting.{line_of}
+use Rattle.std.proofs.Common.{◌≡◌, ◌+◌, ◌-◌, ◌*◌, ◌^◌, length, arith, refl, sym}
 use Rattle.vc_wave.specs.ForwardBounds.{parted_level_bound}
 use Rattle.vc_wave.specs.Planes.{plane_of}
 use Rattle.vc_wave.specs.Remade.{parted_in_turn}

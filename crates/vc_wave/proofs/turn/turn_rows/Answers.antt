@@ -1,6 +1,5 @@
 use Rattle.std.proofs.Common.{◌≡◌, ◌*◌, ◌^◌, arith, sym, ap, ◌∙◌}
 use Rattle.vc_types.specs.TransformParameters.{parameters_of}
-use Rattle.vc_types.specs.Transforms.{lowest_width}
 use Rattle.vc_wave.specs.Layout.{row_in_turn}
 use Rattle.vc_wave.proofs.Levels.{level_fits}
 use Rattle.vc_wave.proofs.Turns.{same_rows, first_together, level_together, columns_more}

@@ -1,4 +1,4 @@
-use Rattle.std.proofs.Common.{◌*◌, ◌^◌, ◌<◌, arith}
+use Rattle.std.proofs.Common.{arith}
 use Rattle.vc_wave.proofs.Levels.{level_fits, level_some}
 use Rattle.vc_wave.proofs.extents.Levels.level.Goals as goal
 
