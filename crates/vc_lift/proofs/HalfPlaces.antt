@@ -6,15 +6,20 @@ use Rattle.vc_lift.specs.CountedSteps.{CountedStep, place_met}
 use Rattle.vc_lift.specs.Halves.{half_start, halves_place}
 
 -- sample number n of a parity
-pub place_at : (h : Halves) (n parity : ℕ) → parity < 2 → halves_place h (2 * n + parity) ≡ half_start h parity + n * h.pitch
+pub place_at : (h : Halves) (n parity : ℕ) → parity < 2
+    → halves_place h (2 * n + parity) ≡ half_start h parity + n * h.pitch
 place_at h n parity lt = grind arith
 
 -- the sample that tap j of a step meets
-pub met_at : (s : CountedStep) (h : Halves) (n j met place : ℕ) → s.parity < 2 → met ≡ min (n + j - s.back) (h.half - 1) → place ≡ half_start h (1 - s.parity) + met * h.pitch → place ≡ halves_place h (place_met s h.half n j)
-met_at s h n j met place lt is at = at ∙ ap (λ m. half_start h (1 - s.parity) + m * h.pitch) is ∙ sym (place_at h (min (n + j - s.back) (h.half - 1)) (1 - s.parity) (omega arith))
+pub met_at : (s : CountedStep) (h : Halves) (n j met place : ℕ) → s.parity < 2
+    → met ≡ min (n + j - s.back) (h.half - 1) → place ≡ half_start h (1 - s.parity) + met * h.pitch
+    → place ≡ halves_place h (place_met s h.half n j)
+met_at s h n j met place lt is at = at ∙ ap (λ m. half_start h (1 - s.parity) + m * h.pitch) is
+    ∙ sym (place_at h (min (n + j - s.back) (h.half - 1)) (1 - s.parity) (omega arith))
 
 -- a cell of another stretch lies before a run, or past what has been reached of it
-pub beside_run : (i at width x : ℕ) → x < width → (i + width ≤ at) ⊎ (at + width ≤ i) → (i + x < at) ⊎ (at + x ≤ i + x)
+pub beside_run : (i at width x : ℕ) → x < width → (i + width ≤ at) ⊎ (at + width ≤ i)
+    → (i + x < at) ⊎ (at + x ≤ i + x)
 beside_run i at width x lt (inl before) = inl (omega arith)
 beside_run i at width x lt (inr past) = inr (omega arith)
 

@@ -1,5 +1,6 @@
 -- The places of columns' cells, row by row.
-use Rattle.std.proofs.Common.{◌≡◌, ℕ, ◌+◌, ◌-◌, ◌*◌, ◌<◌, ◌≤◌, ◌≢◌, List, length, set, ℤ, pos, arith, ◌⊎◌, inl, inr, min, ap, ◌∙◌, unsigned_abs}
+use Rattle.std.proofs.Common.{◌≡◌, ℕ, ◌+◌, ◌-◌, ◌*◌, ◌<◌, ◌≤◌, ◌≢◌, List, length, set, ℤ, pos, arith, ◌⊎◌}
+use Rattle.std.proofs.Common.{inl, inr, min, ap, ◌∙◌, unsigned_abs}
 use mathlib.Core.Path.{fun_ext}
 use Rattle.std.proofs.lemmas.Bool.{cases_eq}
 use Rattle.std.proofs.lemmas.Bool.Decides.{nat_tests}
@@ -14,8 +15,11 @@ pub place_below : (half width k x : ℕ) → k < 2 * half → x < width → k * 
 place_below half width k x h lt = omega (arith, mul-add-lt k width x (2 * half) h lt)
 
 -- inside a column a tap meets a sample that isn't held at an end
-pub inside_place : (half width n back j x p : ℕ) → back ≤ n → n + j < half + back → (2 * (n - back) + (1 - p)) * width + x + 2 * j * width ≡ (2 * min (n + j - back) (half - 1) + (1 - p)) * width + x
-inside_place half width n back j x p h lt = let inner : min (n + j - back) (half - 1) ≡ n - back + j = omega arith in rw inner (omega arith)
+pub inside_place : (half width n back j x p : ℕ) → back ≤ n → n + j < half + back
+    → (2 * (n - back) + (1 - p)) * width + x + 2 * j * width
+    ≡ (2 * min (n + j - back) (half - 1) + (1 - p)) * width + x
+inside_place half width n back j x p h lt = let inner : min (n + j - back) (half - 1) ≡ n - back + j =
+    omega arith in rw inner (omega arith)
 
 pub sample_same : (line : ℕ → ℤ) (k j : ℕ) (v : ℤ) → j ≡ k → with_sample line k v j ≡ v
 unfolding with_sample
@@ -26,26 +30,42 @@ unfolding with_sample
 sample_other line k j v ne = grind (arith, nat_tests)
 
 module _ (width : ℕ) (cells : List ℤ) (k x : ℕ) (v : ℤ) (lt : x < width) where
-  set_at : k * width + x < length cells → (j : ℕ) → (j ≡ k) ⊎ (j ≢ k) → column_of width (set cells (k * width + x) v) x j ≡ with_sample (column_of width cells x) k v j
-  set_at within j (inl e) = rw (sample_same (column_of width cells x) k j v e, e) (get_or-set_same cells (k * width + x) v (pos 0) within)
-  set_at within j (inr ne) = rw (sample_other (column_of width cells x) k j v ne) (get_or-set_other cells (k * width + x) (j * width + x) v (pos 0) (λ e. ne (same_from_place j x k x width lt lt e).0))
+  set_at : k * width + x < length cells → (j : ℕ) → (j ≡ k) ⊎ (j ≢ k)
+      → column_of width (set cells (k * width + x) v) x j ≡ with_sample (column_of width cells x) k v j
+  set_at within j (inl e) =
+      rw (sample_same (column_of width cells x) k j v e, e)
+      (get_or-set_same cells (k * width + x) v (pos 0) within)
+  set_at within j (inr ne) =
+      rw (sample_other (column_of width cells x) k j v ne)
+      (get_or-set_other cells (k * width + x) (j * width + x) v (pos 0)
+      (λ e. ne (same_from_place j x k x width lt lt e).0))
 
   -- a cell that is written changes its own column there, and no other
-  pub column_of-set_same : k * width + x < length cells → column_of width (set cells (k * width + x) v) x ≡ with_sample (column_of width cells x) k v
+  pub column_of-set_same : k * width + x < length cells
+      → column_of width (set cells (k * width + x) v) x ≡ with_sample (column_of width cells x) k v
   column_of-set_same within = fun_ext (λ j. set_at within j (cases_eq j k))
 
-  pub column_of-set_other : (i : ℕ) → i < width → i ≢ x → column_of width (set cells (k * width + x) v) i ≡ column_of width cells i
-  column_of-set_other i h ne = fun_ext (λ j. get_or-set_other cells (k * width + x) (j * width + i) v (pos 0) (λ e. ne (same_from_place j i k x width h lt e).1))
+  pub column_of-set_other : (i : ℕ) → i < width → i ≢ x
+      → column_of width (set cells (k * width + x) v) i ≡ column_of width cells i
+  column_of-set_other i h ne =
+      fun_ext (λ j. get_or-set_other cells (k * width + x) (j * width + i) v (pos 0)
+      (λ e. ne (same_from_place j i k x width h lt e).1))
 
 module _ (half width n back j x p : ℕ) (some : n < half) (left : back ≤ n) (right : n + j < half + back) where
   pub inside_below : x < width → (2 * (n - back) + (1 - p)) * width + x + 2 * j * width < 2 * half * width
-  inside_below lt = rw (inside_place half width n back j x p left right) (place_below half width (2 * min (n + j - back) (half - 1) + (1 - p)) x (omega arith) lt)
+  inside_below lt = rw (inside_place half width n back j x p left right)
+      (place_below half width (2 * min (n + j - back) (half - 1) + (1 - p)) x (omega arith) lt)
 
-  pub inside_small : (cells : List ℤ) (b : ℕ) → IsWithin (column_of width cells x) half (1 - p) b → unsigned_abs (line_of cells ((2 * (n - back) + (1 - p)) * width + x + 2 * j * width)) ≤ b
-  inside_small cells b w = rw (inside_place half width n back j x p left right) (w.within (min (n + j - back) (half - 1)) (omega arith))
+  pub inside_small : (cells : List ℤ) (b : ℕ) → IsWithin (column_of width cells x) half (1 - p) b
+      → unsigned_abs (line_of cells ((2 * (n - back) + (1 - p)) * width + x + 2 * j * width)) ≤ b
+  inside_small cells b w =
+      rw (inside_place half width n back j x p left right)
+      (w.within (min (n + j - back) (half - 1)) (omega arith))
 
 -- a sample that is written as the step changes it
-pub one_written : (s : CountedStep) (half n : ℕ) (f g : ℕ → ℤ) (v : ℤ) → f ≡ g → v ≡ changed_by s.adds (f (2 * n + s.parity)) (change_at s half f n) → with_sample f (2 * n + s.parity) v ≡ one_changed s half n g
+pub one_written : (s : CountedStep) (half n : ℕ) (f g : ℕ → ℤ) (v : ℤ) → f ≡ g
+    → v ≡ changed_by s.adds (f (2 * n + s.parity)) (change_at s half f n)
+    → with_sample f (2 * n + s.parity) v ≡ one_changed s half n g
 one_written s half n f g v e d = ap (with_sample f (2 * n + s.parity)) d ∙ ap (λ h. one_changed s half n h) e
 
 -- a line is one column

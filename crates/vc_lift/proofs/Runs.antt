@@ -1,5 +1,6 @@
 -- A run of steps: its order, and one step more.
-use Rattle.std.proofs.Common.{◌≡◌, ℕ, ◌+◌, ◌-◌, ◌<◌, length, take, get_or, ℤ, sym, ap, refl, ◌∙◌, Bool, true, false, fold, map, List, IsTrue, arith}
+use Rattle.std.proofs.Common.{◌≡◌, ℕ, ◌+◌, ◌-◌, ◌<◌, length, take, get_or, ℤ, sym, ap, refl, ◌∙◌, Bool, true}
+use Rattle.std.proofs.Common.{false, fold, map, List, IsTrue, arith}
 use Rattle.std.proofs.lemmas.List.{length-map, length-reverse, get_or-map}
 use Rattle.std.proofs.lemmas.List.Sums.{fold_more}
 use Rattle.vc_lift.specs.declared.table.Row.{Row}
@@ -19,7 +20,9 @@ pub length-steps_of : (s : Steps) → length (steps_of s) ≡ length s.rows.now
 length-steps_of s = length-in_order s.undo (map counted_row s.rows.now) ∙ length-map s.rows.now counted_row
 
 -- a row of steps that grow little is a plain one, whichever way they go
-pub plain_row : (undo : Bool) (rows : List Row) (k : ℕ) (d : Row) → IsTrue (grows_little 16 (in_order undo (map counted_row rows))) → k < length rows → IsPlain (counted_row (get_or rows k d))
+pub plain_row : (undo : Bool) (rows : List Row) (k : ℕ) (d : Row)
+    → IsTrue (grows_little 16 (in_order undo (map counted_row rows))) → k < length rows
+    → IsPlain (counted_row (get_or rows k d))
 plain_row true rows k d little h =
     let steps = map counted_row rows in
     let i = length rows - 1 - k in
@@ -36,6 +39,9 @@ plain_row false rows k d little h =
     (ap is_plain (sym (get_or-map counted_row rows k d (counted_row d) h))
     ∙ plain_at 16 (map counted_row rows) 4096 4096 k (counted_row d) little within)
 
-pub lift_all_more : (steps : List CountedStep) (half : ℕ) (x : ℕ → ℤ) (i : ℕ) (s : CountedStep) → i < length steps → s ≡ get_or steps i s → lift_all (take (i + 1) steps) half x ≡ lift s half (lift_all (take i steps) half x)
+pub lift_all_more : (steps : List CountedStep) (half : ℕ) (x : ℕ → ℤ) (i : ℕ) (s : CountedStep)
+    → i < length steps → s ≡ get_or steps i s
+    → lift_all (take (i + 1) steps) half x ≡ lift s half (lift_all (take i steps) half x)
 unfolding lift_all
-lift_all_more steps half x i s h e = fold_more (λ y t. lift t half y) x steps i s h ∙ ap (λ t. lift t half (fold (λ y t. lift t half y) x (take i steps))) (sym e)
+lift_all_more steps half x i s h e = fold_more (λ y t. lift t half y) x steps i s h
+    ∙ ap (λ t. lift t half (fold (λ y t. lift t half y) x (take i steps))) (sym e)

@@ -1,5 +1,6 @@
 -- Sums of signed numbers by their index, and how large they get.
-use Rattle.std.proofs.Common.{◌≡◌, ℕ, zero, suc, ◌+◌, ◌*◌, ◌≤◌, ℤ, pos, ◌+ℤ◌, ◌*ℤ◌, arith, ap, refl, ◌∙◌, unsigned_abs}
+use Rattle.std.proofs.Common.{◌≡◌, ℕ, zero, suc, ◌+◌, ◌*◌, ◌≤◌, ℤ, pos, ◌+ℤ◌, ◌*ℤ◌, arith, ap, refl, ◌∙◌}
+use Rattle.std.proofs.Common.{unsigned_abs}
 use Rattle.std.proofs.lemmas.Int.{ints, unsigned_abs-mul}
 use Rattle.std.proofs.Math.Nat.{mul-le-mul}
 use Rattle.std.proofs.Math.Numerals.{add-one}
@@ -23,7 +24,8 @@ regroup a b c = omega (arith, ints)
 pub sum_below_first : (n : ℕ) (f : ℕ → ℤ) → sum_below (suc n) f ≡ f 0 +ℤ sum_below n (λ k. f (suc k))
 unfolding sum_below
 sum_below_first zero f = add_zero (f 0)
-sum_below_first (suc n) f = ap (λ z. z +ℤ f (suc n)) (sum_below_first n f) ∙ regroup (f 0) (sum_below n (λ k. f (suc k))) (f (suc n))
+sum_below_first (suc n) f = ap (λ z. z +ℤ f (suc n)) (sum_below_first n f)
+    ∙ regroup (f 0) (sum_below n (λ k. f (suc k))) (f (suc n))
 
 pub abs-add : (a b : ℤ) → unsigned_abs (a +ℤ b) ≤ unsigned_abs a + unsigned_abs b
 abs-add a b = omega (arith, ints)

@@ -1,5 +1,6 @@
 -- A bound on all magnitudes is carried through lines, passes and levels in 32 bits.
-use Rattle.std.proofs.Common.{◌≡◌, ℕ, zero, suc, ◌+◌, ◌-◌, ◌*◌, ◌/◌, ◌^◌, ◌<◌, ◌≤◌, inl, inr, List, ℤ, pos, negsuc}
+use Rattle.std.proofs.Common.{◌≡◌, ℕ, zero, suc, ◌+◌, ◌-◌, ◌*◌, ◌/◌, ◌^◌, ◌<◌, ◌≤◌, inl, inr, List, ℤ, pos}
+use Rattle.std.proofs.Common.{negsuc}
 use Rattle.std.proofs.Common.{◌+ℤ◌, unsigned_abs, arith, ap, sym, subst, refl, ◌∙◌, Bool, true, false, max}
 use Rattle.std.proofs.Common.{Option, Some, None}
 use Rattle.std.specs.Prelude.{if◌then◌else◌, nat_lt}
@@ -15,13 +16,16 @@ use Rattle.vc_types.specs.Transforms.{Cells, source_of, halved, doubled, on_colu
 use Rattle.vc_types.specs.Wavelets.{is_shifted, synthesised, analysed}
 use Rattle.vc_lift.specs.Ranges.{narrow_bound, narrow_analysis_bound}
 use Rattle.vc_lift.proofs.LineLaws.{synthesis_past, analysis_past}
-use Rattle.vc_lift.proofs.NarrowGrowth.{synthesis_after, analysis_after, narrow_covers, narrow_analysis_covers}
+use Rattle.vc_lift.proofs.NarrowGrowth.{synthesis_after, analysis_after, narrow_covers}
+use Rattle.vc_lift.proofs.NarrowGrowth.{narrow_analysis_covers}
 use Rattle.vc_wave.specs.declared.pass.Direction.TheVariants.{Synthesis, Analysis}
 use Rattle.vc_wave.specs.ForwardBounds.{doubled_bound, parted_rows_bound, parted_level_bound}
 use Rattle.vc_wave.specs.NarrowBounds.{AreWithin, CarriesTo, HasBound, shifted_bound, rows_bound, bound_over}
 use Rattle.vc_wave.specs.Planes.{plane_of}
-use Rattle.vc_wave.specs.Remade.{half_place, rearranged, halves_together, on_samples, merged, remade, parted_in_turn}
-use Rattle.vc_wave.proofs.PlaneLines.{column_in, column_out, row_in, row_out, rearranged_in, rearranged_past, on_samples_in}
+use Rattle.vc_wave.specs.Remade.{half_place, rearranged, halves_together, on_samples, merged, remade}
+use Rattle.vc_wave.specs.Remade.{parted_in_turn}
+use Rattle.vc_wave.proofs.PlaneLines.{column_in, column_out, row_in, row_out, rearranged_in, rearranged_past}
+use Rattle.vc_wave.proofs.PlaneLines.{on_samples_in}
 use Rattle.vc_wave.proofs.PlaneLines.{on_samples_past}
 use Rattle.vc_wave.proofs.PlaneSteps.{plane_small, cells_small}
 use Rattle.vc_wave.proofs.Weaving.{remade_pass}
@@ -38,13 +42,15 @@ halved_at_most n (negsuc zero) h = omega arith
 halved_at_most n (negsuc (suc k)) h = shr_once n (negsuc (suc k) +ℤ pos 1) (omega (arith, ints))
 
 -- what a bound says that a test lets through
-room_of : (shifted below : Bool) (n m after : ℕ) → (if shifted then (if below then Some n else None) else Some m) ≡ Some after
+room_of : (shifted below : Bool) (n m after : ℕ)
+    → (if shifted then (if below then Some n else None) else Some m) ≡ Some after
     → shifted ≡ true → below ≡ true
 room_of true true n m after e h = refl
 room_of true false n m after e h = grind (arith, nat_tests)
 room_of false below n m after e h = grind (arith, nat_tests)
 
-chosen : (shifted below : Bool) (n m after : ℕ) → (if shifted then (if below then Some n else None) else Some m) ≡ Some after
+chosen : (shifted below : Bool) (n m after : ℕ)
+    → (if shifted then (if below then Some n else None) else Some m) ≡ Some after
     → (if shifted then n else m) ≡ after
 chosen true true n m after e = grind (arith, nat_tests)
 chosen true false n m after e = grind (arith, nat_tests)
@@ -66,7 +72,8 @@ doubled_kept : (shifted : Bool) (most twice : ℕ) (z : ℤ) → (if shifted the
 doubled_kept true most twice z is h = omega (arith, ints, is)
 doubled_kept false most twice z is h = omega (arith, is)
 
-doubled_covers : (shifted : Bool) (most twice : ℕ) → (if shifted then 2 * most else most) ≡ twice → most ≤ twice
+doubled_covers : (shifted : Bool) (most twice : ℕ) → (if shifted then 2 * most else most) ≡ twice
+    → most ≤ twice
 doubled_covers true most twice is = omega (arith, is)
 doubled_covers false most twice is = omega (arith, is)
 
@@ -80,16 +87,20 @@ rearranged_carries : (n most : ℕ) (source : ℕ → ℕ) → Carries most most
 rearranged_carries n most source l small k = grind (arith, rearranged_in, rearranged_past)
 
 module _ (wavelet half most after : ℕ) (some : 0 < half) where
-  pub synthesis_carries : narrow_bound wavelet most ≡ Some after → Carries most after (synthesised wavelet (2 * half))
+  pub synthesis_carries : narrow_bound wavelet most ≡ Some after
+      → Carries most after (synthesised wavelet (2 * half))
   synthesis_carries fits l small k = elim (cases_lt k (2 * half)) [
     | inl h ↦ synthesis_after wavelet half most after l some fits (λ j lt. small j) k h
-    | inr past ↦ rw (synthesis_past wavelet half l k past) (omega (arith, narrow_covers wavelet most after fits, small k))
+    | inr past ↦ rw (synthesis_past wavelet half l k past)
+        (omega (arith, narrow_covers wavelet most after fits, small k))
   ]
 
-  pub analysis_carries : narrow_analysis_bound wavelet most ≡ Some after → Carries most after (analysed wavelet (2 * half))
+  pub analysis_carries : narrow_analysis_bound wavelet most ≡ Some after
+      → Carries most after (analysed wavelet (2 * half))
   analysis_carries fits l small k = elim (cases_lt k (2 * half)) [
     | inl h ↦ analysis_after wavelet half most after l some fits (λ j lt. small j) k h
-    | inr past ↦ rw (analysis_past wavelet half l k past) (omega (arith, narrow_analysis_covers wavelet most after fits, small k))
+    | inr past ↦ rw (analysis_past wavelet half l k past)
+        (omega (arith, narrow_analysis_covers wavelet most after fits, small k))
   ]
 
 -- ---- rows: a bound in its two parts
@@ -110,21 +121,25 @@ module _ (wavelet most after : ℕ) where
   pub rows_made : rows_bound wavelet most ≡ Some after → RowsMade wavelet most after
   unfolding rows_bound
   rows_made fits =
-      option_and_then_some (λ (made : ℕ). shifted_bound wavelet most made) (narrow_bound wavelet most) after fits
+      option_and_then_some (λ (made : ℕ). shifted_bound wavelet most made)
+      (narrow_bound wavelet most) after fits
       (λ made is last. record {
         made = made;
         synthesised = is;
-        room = λ h. (let below = room_of (is_shifted wavelet) (nat_lt (made + 1) (2 ^ 31)) _ _ after last h in grind (arith, nat_tests));
+        room = λ h. (let below = room_of (is_shifted wavelet) (nat_lt (made + 1) (2 ^ 31)) _ _ after last h in
+            grind (arith, nat_tests));
         last = chosen (is_shifted wavelet) (nat_lt (made + 1) (2 ^ 31)) _ _ after last;
       })
 
   pub rows_parted : parted_rows_bound wavelet most ≡ Some after → RowsParted wavelet most after
   unfolding parted_rows_bound
   rows_parted fits =
-      option_and_then_some (λ (twice : ℕ). narrow_analysis_bound wavelet twice) (doubled_bound wavelet most) after fits
+      option_and_then_some (λ (twice : ℕ). narrow_analysis_bound wavelet twice)
+      (doubled_bound wavelet most) after fits
       (λ twice is last. record {
         twice = twice;
-        room = λ h. (let below = room_of (is_shifted wavelet) (nat_lt (2 * most) (2 ^ 31)) _ _ twice is h in grind (arith, nat_tests));
+        room = λ h. (let below = room_of (is_shifted wavelet) (nat_lt (2 * most) (2 ^ 31)) _ _ twice is h in
+            grind (arith, nat_tests));
         first = chosen (is_shifted wavelet) (nat_lt (2 * most) (2 ^ 31)) _ _ twice is;
         analysed = last;
       })
@@ -148,7 +163,8 @@ module _ (wavelet most after : ℕ) where
   readied_at_most m z = doubled_kept (is_shifted wavelet) most m.twice z m.first
 
   module _ (half : ℕ) (some : 0 < half) where
-    pub rows_carry : rows_bound wavelet most ≡ Some after → Carries most after (remade Synthesis wavelet (is_shifted wavelet) half)
+    pub rows_carry : rows_bound wavelet most ≡ Some after
+        → Carries most after (remade Synthesis wavelet (is_shifted wavelet) half)
     rows_carry fits l small k =
         let m = rows_made fits in
         let made : Carries most m.made (merged wavelet half) = λ j within.
@@ -161,12 +177,14 @@ module _ (wavelet most after : ℕ) where
               (omega (arith, rows_cover fits, small k))
         ]
 
-    pub parted_rows_carry : parted_rows_bound wavelet most ≡ Some after → Carries most after (remade Analysis wavelet (is_shifted wavelet) half)
+    pub parted_rows_carry : parted_rows_bound wavelet most ≡ Some after
+        → Carries most after (remade Analysis wavelet (is_shifted wavelet) half)
     parted_rows_carry fits l small k =
         let m = rows_parted fits in
         let readied = on_samples doubled (is_shifted wavelet) (2 * half) l in
         let within : (j : ℕ) → unsigned_abs (readied j) ≤ m.twice = λ j. elim (cases_lt j (2 * half)) [
-          | inl h ↦ rw (on_samples_in doubled (is_shifted wavelet) (2 * half) l j h) (readied_at_most m (l j) (small j))
+          | inl h ↦ rw (on_samples_in doubled (is_shifted wavelet) (2 * half) l j h)
+              (readied_at_most m (l j) (small j))
           | inr past ↦ rw (on_samples_past doubled (is_shifted wavelet) (2 * half) l j past)
               (omega (arith, doubled_covers (is_shifted wavelet) most m.twice m.first, small j))
         ] in
@@ -178,7 +196,8 @@ module _ (wavelet most after : ℕ) where
 abbrev pub AtMost : ℕ → Cells → Type 0
 AtMost m c = (x y : ℕ) → unsigned_abs (c x y) ≤ m
 
-module _ (f : Line → Line) (n most after : ℕ) (c : Cells) (carries : Carries most after f) (more : most ≤ after)
+module _ (f : Line → Line) (n most after : ℕ) (c : Cells) (carries : Carries most after f)
+    (more : most ≤ after)
     (small : AtMost most c) where
   pub columns_at_most : AtMost after (on_columns f n c)
   columns_at_most x y = elim (cases_lt x n) [
@@ -193,29 +212,35 @@ module _ (f : Line → Line) (n most after : ℕ) (c : Cells) (carries : Carries
   ]
 
 -- of cells that are kept row by row
-pub made_within : (pitch most after : ℕ) (f : Cells → Cells) (old new : List ℤ) → 0 < pitch → AreWithin most old
-    → plane_of pitch new ≡ f (plane_of pitch old) → (AtMost most (plane_of pitch old) → AtMost after (f (plane_of pitch old)))
+pub made_within : (pitch most after : ℕ) (f : Cells → Cells) (old new : List ℤ) → 0 < pitch
+    → AreWithin most old
+    → plane_of pitch new ≡ f (plane_of pitch old)
+    → (AtMost most (plane_of pitch old) → AtMost after (f (plane_of pitch old)))
     → AreWithin after new
 made_within pitch most after f old new some small is grows =
     cells_small pitch after new some
     (subst (λ (p : Cells). AtMost after p) (sym is) (grows (plane_small pitch most old small)))
 
-pub has_bound : {carry : ℕ → Option ℕ} {cells : List ℤ} {after : ℕ} → CarriesTo carry cells after → HasBound carry cells
+pub has_bound : {carry : ℕ → Option ℕ} {cells : List ℤ} {after : ℕ} → CarriesTo carry cells after
+    → HasBound carry cells
 has_bound {after = after} r = record { most = r.most; after = after; small = r.small; fits = r.fits }
 
 module _ (wavelet half n pitch after : ℕ) (old new : List ℤ) (some : 0 < half) (wide : 0 < pitch) where
   pub columns_within : CarriesTo (narrow_bound wavelet) old after
-      → plane_of pitch new ≡ on_columns (synthesised wavelet (2 * half)) n (plane_of pitch old) → AreWithin after new
+      → plane_of pitch new ≡ on_columns (synthesised wavelet (2 * half)) n (plane_of pitch old)
+      → AreWithin after new
   columns_within r is =
       made_within pitch r.most after (on_columns (synthesised wavelet (2 * half)) n) old new wide r.small is
       (columns_at_most (synthesised wavelet (2 * half)) n r.most after (plane_of pitch old)
       (synthesis_carries wavelet half r.most after some r.fits) (narrow_covers wavelet r.most after r.fits))
 
   pub rows_within : CarriesTo (rows_bound wavelet) old after
-      → plane_of pitch new ≡ on_rows (remade Synthesis wavelet (is_shifted wavelet) half) n (plane_of pitch old)
+      → plane_of pitch new
+      ≡ on_rows (remade Synthesis wavelet (is_shifted wavelet) half) n (plane_of pitch old)
       → AreWithin after new
   rows_within r is =
-      made_within pitch r.most after (on_rows (remade Synthesis wavelet (is_shifted wavelet) half) n) old new wide r.small is
+      made_within pitch r.most after
+      (on_rows (remade Synthesis wavelet (is_shifted wavelet) half) n) old new wide r.small is
       (rows_at_most (remade Synthesis wavelet (is_shifted wavelet) half) n r.most after (plane_of pitch old)
       (rows_carry wavelet r.most after half some r.fits) (rows_cover wavelet r.most after r.fits))
 
@@ -231,15 +256,18 @@ module _ (wavelet most after : ℕ) (fits : parted_level_bound wavelet most ≡ 
   pub level_bounds : LevelParted wavelet most after
   unfolding parted_level_bound
   level_bounds =
-      option_and_then_some (λ (made : ℕ). narrow_analysis_bound wavelet made) (parted_rows_bound wavelet most) after fits
+      option_and_then_some (λ (made : ℕ). narrow_analysis_bound wavelet made)
+      (parted_rows_bound wavelet most) after fits
       (λ made is last. record { made = made; across = is; down = last })
 
   module _ (w h : ℕ) (c : Cells) (wide : 0 < w) (small : AtMost most c) where
-    pub level_rows_at_most : AtMost level_bounds.made (on_rows (remade Analysis wavelet (is_shifted wavelet) w) (2 * h) c)
+    pub level_rows_at_most : AtMost level_bounds.made
+        (on_rows (remade Analysis wavelet (is_shifted wavelet) w) (2 * h) c)
     level_rows_at_most =
         let m = level_bounds in
         rows_at_most (remade Analysis wavelet (is_shifted wavelet) w) (2 * h) most m.made c
-        (parted_rows_carry wavelet most m.made w wide m.across) (parted_rows_cover wavelet most m.made m.across) small
+        (parted_rows_carry wavelet most m.made w wide m.across)
+        (parted_rows_cover wavelet most m.made m.across) small
 
     pub parted_at_most : 0 < h → AtMost after (parted_in_turn wavelet w h c)
     unfolding parted_in_turn
@@ -247,7 +275,8 @@ module _ (wavelet most after : ℕ) (fits : parted_level_bound wavelet most ≡ 
         let m = level_bounds in
         columns_at_most (analysed wavelet (2 * h)) (2 * w) m.made after
         (on_rows (remade Analysis wavelet (is_shifted wavelet) w) (2 * h) c)
-        (analysis_carries wavelet h m.made after high m.down) (narrow_analysis_covers wavelet m.made after m.down)
+        (analysis_carries wavelet h m.made after high m.down)
+        (narrow_analysis_covers wavelet m.made after m.down)
         level_rows_at_most
 
 -- a bound that is carried over one level after another
@@ -275,7 +304,8 @@ module _ (carry : ℕ → Option ℕ) (most : ℕ) where
       let sum : suc d + n ≡ suc (d + n) = omega arith in
       ap (λ k. bound_over carry k most) sum ∙ ap (option_and_then carry) (none_more d n e)
 
-  pub none_after : (levels n : ℕ) → n ≤ levels → bound_over carry n most ≡ None → bound_over carry levels most ≡ None
+  pub none_after : (levels n : ℕ) → n ≤ levels → bound_over carry n most ≡ None
+      → bound_over carry levels most ≡ None
   none_after levels n le e =
       let sum : levels ≡ levels - n + n = omega arith in
       ap (λ k. bound_over carry k most) sum ∙ none_more (levels - n) n e
@@ -297,7 +327,8 @@ pub record Reached (carry : ℕ → Option ℕ) (n most : ℕ) : Type 0 where
   pub bound : ℕ
   pub is : bound_over carry n most ≡ Some bound
 
-reached : (carry : ℕ → Option ℕ) (d n most after : ℕ) → bound_over carry (d + n) most ≡ Some after → Reached carry n most
+reached : (carry : ℕ → Option ℕ) (d n most after : ℕ) → bound_over carry (d + n) most ≡ Some after
+    → Reached carry n most
 reached carry zero n most after fits =
     let none : 0 + n ≡ n = omega arith in
     record { bound = after; is = ap (λ k. bound_over carry k most) (sym none) ∙ fits }
@@ -306,7 +337,8 @@ reached carry (suc d) n most after fits =
     let m = one_more carry (d + n) most after (ap (λ k. bound_over carry k most) (sym sum) ∙ fits) in
     reached carry d n most m.before m.so_far
 
-pub reached_at : (carry : ℕ → Option ℕ) (levels n most after : ℕ) → n ≤ levels → bound_over carry levels most ≡ Some after
+pub reached_at : (carry : ℕ → Option ℕ) (levels n most after : ℕ) → n ≤ levels
+    → bound_over carry levels most ≡ Some after
     → Reached carry n most
 reached_at carry levels n most after le fits =
     let sum : levels ≡ levels - n + n = omega arith in

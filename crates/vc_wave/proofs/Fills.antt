@@ -1,9 +1,11 @@
 -- Rows of cells that are filled with a plane's samples, and what the forward transform makes of them.
 use Rattle.std.proofs.Common.{◌≡◌, ℕ, suc, ◌+◌, ◌-◌, ◌*◌, ◌/◌, ◌%◌, ◌^◌, ◌<◌, ◌≤◌, List, length, set, ℤ, pos}
-use Rattle.std.proofs.Common.{◌-ℤ◌, unsigned_abs, All, IsTrue, arith, ap, sym, ◌∙◌, ◌⊎◌, inl, inr, slice_index_or, min}
+use Rattle.std.proofs.Common.{◌-ℤ◌, unsigned_abs, All, IsTrue, arith, ap, sym, ◌∙◌, ◌⊎◌, inl, inr}
+use Rattle.std.proofs.Common.{slice_index_or, min}
 use Rattle.std.proofs.lemmas.Bool.{cases_lt, cases_eq}
 use Rattle.std.specs.Prelude.{slice_range}
-use Rattle.std.proofs.lemmas.List.{get_or-set_same, get_or-set_other, get_or_past, get_or-take, get_or-drop, length-take-le, length-drop}
+use Rattle.std.proofs.lemmas.List.{get_or-set_same, get_or-set_other, get_or_past, get_or-take, get_or-drop}
+use Rattle.std.proofs.lemmas.List.{length-take-le, length-drop}
 use Rattle.std.proofs.lemmas.List.Elements.{All-get_or}
 use Rattle.std.proofs.lemmas.Nat.{same_from_place}
 use Rattle.std.proofs.lemmas.Int.{ints}
@@ -14,7 +16,8 @@ use Rattle.vc_types.specs.Lifting.{line_of}
 use Rattle.vc_types.specs.Rasters.{Raster, sample_at}
 use Rattle.vc_types.specs.Subbands.{plane_width, plane_height, plane_depth, padded_width, padded_height}
 use Rattle.vc_types.specs.TransformParameters.{Parameters, is_symmetric}
-use Rattle.vc_types.specs.Transforms.{forward_levels, forward_transform, lowest_width, lowest_height, padded_plane}
+use Rattle.vc_types.specs.Transforms.{forward_levels, forward_transform, lowest_width, lowest_height}
+use Rattle.vc_types.specs.Transforms.{padded_plane}
 use Rattle.vc_wave.specs.Planes.{AreBelow, plane_of}
 use Rattle.vc_wave.proofs.TransformLocality.{forward_levels_agrees}
 use Rattle.vc_wave.specs.Samples.{padded_sample}
@@ -23,29 +26,44 @@ use Rattle.vc_wave.proofs.TransformLaws.{no_levels, same_side}
 
 -- ---- one sample more
 
-module _ (columns x y : ℕ) (cells : List ℤ) (v : ℤ) (value : ℕ → ℕ → ℤ) (inside : x < columns) (within : y * columns + x < length cells) (is : v ≡ value x y) where
-  pub above_kept : ((u t : ℕ) → u < columns → t < y → line_of cells (t * columns + u) ≡ value u t) → (u t : ℕ) → u < columns → t < y → line_of (set cells (y * columns + x) v) (t * columns + u) ≡ value u t
-  above_kept above u t h lt = get_or-set_other cells (y * columns + x) (t * columns + u) v (pos 0) (λ e. (let same = same_from_place t u y x columns h inside e in omega (arith, same))) ∙ above u t h lt
+module _ (columns x y : ℕ) (cells : List ℤ) (v : ℤ) (value : ℕ → ℕ → ℤ) (inside : x < columns)
+    (within : y * columns + x < length cells) (is : v ≡ value x y) where
+  pub above_kept : ((u t : ℕ) → u < columns → t < y → line_of cells (t * columns + u) ≡ value u t) → (u t : ℕ)
+      → u < columns → t < y → line_of (set cells (y * columns + x) v) (t * columns + u) ≡ value u t
+  above_kept above u t h lt =
+      get_or-set_other cells (y * columns + x) (t * columns + u) v (pos 0)
+      (λ e. (let same = same_from_place t u y x columns h inside e in omega (arith, same))) ∙ above u t h lt
 
-  pub row_more : ((u : ℕ) → u < x → line_of cells (y * columns + u) ≡ value u y) → (u : ℕ) → u < x + 1 → line_of (set cells (y * columns + x) v) (y * columns + u) ≡ value u y
+  pub row_more : ((u : ℕ) → u < x → line_of cells (y * columns + u) ≡ value u y) → (u : ℕ) → u < x + 1
+      → line_of (set cells (y * columns + x) v) (y * columns + u) ≡ value u y
   row_more row u h = grind (arith, get_or-set_same, within, get_or-set_other)
 
-pub rows_filled : (columns y : ℕ) (cells : List ℤ) (value : ℕ → ℕ → ℤ) → ((u t : ℕ) → u < columns → t < y → line_of cells (t * columns + u) ≡ value u t) → ((u : ℕ) → u < columns → line_of cells (y * columns + u) ≡ value u y) → (u t : ℕ) → u < columns → t < y + 1 → line_of cells (t * columns + u) ≡ value u t
-rows_filled columns y cells value above row u t h lt = elim (cases_eq t y) [ inl e ↦ rw e (row u h) | inr ne ↦ above u t h (omega arith) ]
+pub rows_filled : (columns y : ℕ) (cells : List ℤ) (value : ℕ → ℕ → ℤ)
+    → ((u t : ℕ) → u < columns → t < y → line_of cells (t * columns + u) ≡ value u t)
+    → ((u : ℕ) → u < columns → line_of cells (y * columns + u) ≡ value u y) → (u t : ℕ) → u < columns
+    → t < y + 1 → line_of cells (t * columns + u) ≡ value u t
+rows_filled columns y cells value above row u t h lt =
+    elim (cases_eq t y) [ inl e ↦ rw e (row u h) | inr ne ↦ above u t h (omega arith) ]
 
 -- the sample that is read
-pub sample_read : (p : Raster) (samples : List ℕ) (w h x y row column : ℕ) → samples ≡ p.samples → w ≡ p.width → h ≡ p.height → row ≡ min y (h - 1) → column ≡ min x (w - 1) → slice_index_or samples (row * w + column) 0 ≡ sample_at p (min x (p.width - 1)) (min y (p.height - 1))
+pub sample_read : (p : Raster) (samples : List ℕ) (w h x y row column : ℕ) → samples ≡ p.samples → w ≡ p.width
+    → h ≡ p.height → row ≡ min y (h - 1) → column ≡ min x (w - 1)
+    → slice_index_or samples (row * w + column) 0 ≡ sample_at p (min x (p.width - 1)) (min y (p.height - 1))
 unfolding sample_at
 sample_read p samples w h x y row column list wide high down across = grind arith
 
 -- the samples of a row, the last of which is met again past it
-pub row_read : (p : Raster) (samples : List ℕ) (w h x y row : ℕ) → samples ≡ p.samples → w ≡ p.width → h ≡ p.height → row ≡ min y (h - 1) → 0 < w → row * w + w ≤ length samples
-    → slice_index_or (slice_range samples (row * w) (row * w + w)) (min x (length (slice_range samples (row * w) (row * w + w)) - 1)) 0 ≡ sample_at p (min x (p.width - 1)) (min y (p.height - 1))
+pub row_read : (p : Raster) (samples : List ℕ) (w h x y row : ℕ) → samples ≡ p.samples → w ≡ p.width
+    → h ≡ p.height → row ≡ min y (h - 1) → 0 < w → row * w + w ≤ length samples
+    → slice_index_or (slice_range samples (row * w) (row * w + w))
+    (min x (length (slice_range samples (row * w) (row * w + w)) - 1)) 0
+    ≡ sample_at p (min x (p.width - 1)) (min y (p.height - 1))
 row_read p samples w h x y row list wide high down some inside =
     grind (arith, length-take-le, length-drop, get_or-take, get_or-drop, sample_read)
 
 -- a row that is read lies in the plane
-pub row_inside : (p : Raster) (samples : List ℕ) (w h y row : ℕ) → length samples ≡ p.width * p.height → w ≡ p.width → h ≡ p.height → row ≡ min y (h - 1) → 1 ≤ p.height → row * w + w ≤ length samples
+pub row_inside : (p : Raster) (samples : List ℕ) (w h y row : ℕ) → length samples ≡ p.width * p.height
+    → w ≡ p.width → h ≡ p.height → row ≡ min y (h - 1) → 1 ≤ p.height → row * w + w ≤ length samples
 row_inside p samples w h y row whole wide high down some = grind (arith, mul-le-mul_right)
 
 -- ---- how large the filled cells are
@@ -64,7 +82,8 @@ samples_below m p some small x y = elim (cases_lt (y * p.width + x) (length p.sa
 ]
 
 module _ (plane : Raster) (width height depth : ℕ) (first : List ℤ)
-    (filled : (x y : ℕ) → x < width → y < height → line_of first (y * width + x) ≡ padded_sample plane depth x y) where
+    (filled : (x y : ℕ) → x < width → y < height
+    → line_of first (y * width + x) ≡ padded_sample plane depth x y) where
   module _ (whole : length first ≡ height * width) (wide : 0 < width) (some : 1 ≤ depth)
       (small : All (λ s. s < 2 ^ depth) plane.samples) where
     row_within : (i : ℕ) → i < length first → (i / width < height) ⊎ (height ≤ i / width) → i / width < height
@@ -93,7 +112,8 @@ module _ (plane : Raster) (width height depth : ℕ) (first : List ℤ)
 
   -- ---- the forward transform of the filled cells
 
-  module _ (p : Parameters) (c : Component) (across : width ≡ padded_width p c) (down : height ≡ padded_height p c)
+  module _ (p : Parameters) (c : Component) (across : width ≡ padded_width p c)
+      (down : height ≡ padded_height p c)
       (own_width : plane.width ≡ plane_width p.shape c) (own_height : plane.height ≡ plane_height p.shape c)
       (own_depth : depth ≡ plane_depth p.shape c) where
     same_sample : (x y : ℕ) → padded_sample plane depth x y ≡ padded_plane p c (sample_at plane) x y
@@ -108,10 +128,12 @@ module _ (plane : Raster) (width height depth : ℕ) (first : List ℤ)
 
     -- of a symmetric transform, which has no levels across alone
     pub filled_levels : IsTrue (is_symmetric p) → (x y : ℕ) → x < padded_width p c → y < padded_height p c
-        → forward_levels p.wavelet p.depth (lowest_width p c * 2 ^ p.depth_ho) (lowest_height p c) (plane_of width first) x y
+        → forward_levels p.wavelet p.depth (lowest_width p c * 2 ^ p.depth_ho) (lowest_height p c)
+        (plane_of width first) x y
         ≡ forward_transform p c (sample_at plane) x y
     unfolding forward_transform
     filled_levels symmetric x y a b =
         let side = same_side (lowest_width p c) p.depth_ho (no_levels p symmetric) in
         ap (λ n. forward_levels p.wavelet p.depth n (lowest_height p c) (plane_of width first) x y) side
-        ∙ forward_levels_agrees p c (plane_of width first) (padded_plane p c (sample_at plane)) first_agrees x y a b
+        ∙ forward_levels_agrees p c (plane_of width first)
+        (padded_plane p c (sample_at plane)) first_agrees x y a b

@@ -1,5 +1,6 @@
 -- Columns that are synthesised or analysed in place.
-use Rattle.std.proofs.Common.{rules, ◌≡◌, ◌≢◌, ℕ, suc, ◌+◌, ◌*◌, ◌/◌, ◌%◌, ◌^◌, ◌<◌, ◌≤◌, List, ℤ, arith, ap, sym, subst, ◌∙◌}
+use Rattle.std.proofs.Common.{rules, ◌≡◌, ◌≢◌, ℕ, suc, ◌+◌, ◌*◌, ◌/◌, ◌%◌, ◌^◌, ◌<◌, ◌≤◌, List, ℤ, arith, ap}
+use Rattle.std.proofs.Common.{sym, subst, ◌∙◌}
 use mathlib.Core.Path.{fun_ext}
 use Rattle.std.proofs.Math.Nat.{mul-le-mul_right}
 use Rattle.vc_types.specs.Lifting.{Line, line_of}
@@ -26,17 +27,23 @@ column_place pitch half k =
 rows_apart : (pitch width j k : ℕ) → width ≤ pitch → j ≢ k → StandApart width (j * pitch) (k * pitch)
 rows_apart pitch width j k wide ne = search (rules, mul-le-mul_right)
 
-pub column_lines : (pitch width half len : ℕ) → 0 < half → half < 2 ^ 60 → width ≤ pitch → 2 * half * pitch ≤ len → AreLines (column_halves pitch half) width len
+pub column_lines : (pitch width half len : ℕ) → 0 < half → half < 2 ^ 60 → width ≤ pitch
+    → 2 * half * pitch ≤ len → AreLines (column_halves pitch half) width len
 column_lines pitch width half len some small wide inside = record {
   some = some;
   small = small;
-  inside = λ k h. (let place = column_place pitch half k in let above : suc k * pitch ≤ 2 * half * pitch = mul-le-mul_right pitch h in omega (arith, place, above));
+  inside = λ k h. (let place = column_place pitch half k in
+      let above : suc k * pitch ≤ 2 * half * pitch = mul-le-mul_right pitch h in omega (arith, place, above));
   apart = λ j k h lt ne.
-      subst (λ i. StandApart width i (halves_place (column_halves pitch half) k)) (sym (column_place pitch half j))
-      (subst (λ i. StandApart width (j * pitch) i) (sym (column_place pitch half k)) (rows_apart pitch width j k wide ne));
+      subst (λ i. StandApart width i (halves_place (column_halves pitch half) k))
+      (sym (column_place pitch half j))
+      (subst (λ i. StandApart width (j * pitch) i) (sym (column_place pitch half k))
+      (rows_apart pitch width j k wide ne));
 }
 
-pub column_narrow : (steps : List CountedStep) (pitch half : ℕ) (cells : List ℤ) (x : ℕ) → HasBound (λ m. bound_after (2 ^ 31) steps m m) cells → StaysNarrow steps half (line_in (column_halves pitch half) cells x)
+pub column_narrow : (steps : List CountedStep) (pitch half : ℕ) (cells : List ℤ) (x : ℕ)
+    → HasBound (λ m. bound_after (2 ^ 31) steps m m) cells
+    → StaysNarrow steps half (line_in (column_halves pitch half) cells x)
 column_narrow steps pitch half cells x bound = grind arith
 
 module _ (make : Line → Line) (pitch columns half : ℕ) (past : LeavesPast (2 * half) make) (old new : List ℤ)

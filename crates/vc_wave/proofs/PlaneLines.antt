@@ -30,7 +30,8 @@ both_passes n f g p q = record {
 
 -- ---- at a place
 
-pub column_in : (f : Line → Line) (n : ℕ) (g : Cells) (x y : ℕ) → x < n → on_columns f n g x y ≡ f (λ k. g x k) y
+pub column_in : (f : Line → Line) (n : ℕ) (g : Cells) (x y : ℕ) → x < n
+    → on_columns f n g x y ≡ f (λ k. g x k) y
 unfolding on_columns
 column_in f n g x y h = grind (arith, nat_tests)
 
@@ -48,19 +49,24 @@ row_out f n g x y h = grind (arith, nat_tests)
 
 -- ---- one after another
 
-columns_after : (f g : Line → Line) (c : Cells) (x y : ℕ) (test : Bool) → (if test then f (λ k. if test then g (λ j. c x j) k else c x k) y else (if test then g (λ j. c x j) y else c x y)) ≡ (if test then f (g (λ k. c x k)) y else c x y)
+columns_after : (f g : Line → Line) (c : Cells) (x y : ℕ) (test : Bool)
+    → (if test then f (λ k. if test then g (λ j. c x j) k else c x k) y else
+    (if test then g (λ j. c x j) y else c x y)) ≡ (if test then f (g (λ k. c x k)) y else c x y)
 columns_after f g c x y true = refl
 columns_after f g c x y false = refl
 
-pub on_columns-on_columns : (f g : Line → Line) (n : ℕ) (c : Cells) → on_columns f n (on_columns g n c) ≡ on_columns (λ l. f (g l)) n c
+pub on_columns-on_columns : (f g : Line → Line) (n : ℕ) (c : Cells)
+    → on_columns f n (on_columns g n c) ≡ on_columns (λ l. f (g l)) n c
 unfolding on_columns
 on_columns-on_columns f g n c = fun_ext (λ x. fun_ext (λ y. columns_after f g c x y (nat_lt x n)))
 
-pub on_rows-on_rows : (f g : Line → Line) (n : ℕ) (c : Cells) → on_rows f n (on_rows g n c) ≡ on_rows (λ l. f (g l)) n c
+pub on_rows-on_rows : (f g : Line → Line) (n : ℕ) (c : Cells)
+    → on_rows f n (on_rows g n c) ≡ on_rows (λ l. f (g l)) n c
 unfolding on_rows
 on_rows-on_rows f g n c = fun_ext (λ x. fun_ext (λ y. columns_after f g (λ u v. c v u) y x (nat_lt y n)))
 
-same_columns : (f : Line → Line) (c : Cells) (x y : ℕ) (test : Bool) → ((l : ℕ → ℤ) → f l ≡ l) → (if test then f (λ k. c x k) y else c x y) ≡ c x y
+same_columns : (f : Line → Line) (c : Cells) (x y : ℕ) (test : Bool) → ((l : ℕ → ℤ) → f l ≡ l)
+    → (if test then f (λ k. c x k) y else c x y) ≡ c x y
 same_columns f c x y true same = ap (λ l. l y) (same (λ k. c x k))
 same_columns f c x y false same = refl
 
@@ -75,7 +81,8 @@ on_rows-same f n c same = fun_ext (λ x. fun_ext (λ y. same_columns f (λ u v. 
 
 -- ---- samples that are moved, and samples that are changed
 
-pub rearranged_in : (n : ℕ) (source : ℕ → ℕ) (l : ℕ → ℤ) (k : ℕ) → k < n → rearranged n source l k ≡ l (source k)
+pub rearranged_in : (n : ℕ) (source : ℕ → ℕ) (l : ℕ → ℤ) (k : ℕ) → k < n
+    → rearranged n source l k ≡ l (source k)
 unfolding rearranged
 rearranged_in n source l k h = grind (arith, nat_tests)
 
@@ -113,10 +120,23 @@ module _ (f : Line → Line) (m n : ℕ) (source : ℕ → ℕ) (pass : IsPass m
   at_place x y h g =
       let past : LeavesPast m f = pass.past in
       let reads : ReadsBelow m f = pass.reads in
-      grind (arith, column_in, rows_first, moved_in, row_in, rearranged_in, past, row_out, column_out, moved_past, rearranged_past)
+      grind (
+        arith,
+        column_in,
+        rows_first,
+        moved_in,
+        row_in,
+        rearranged_in,
+        past,
+        row_out,
+        column_out,
+        moved_past,
+        rearranged_past,
+      )
 
   -- rows may be rearranged before the columns or after them
-  pub on_columns-rearranged : on_columns f n (on_rows (rearranged n source) m c) ≡ on_rows (rearranged n source) m (on_columns f n c)
+  pub on_columns-rearranged : on_columns f n (on_rows (rearranged n source) m c)
+      ≡ on_rows (rearranged n source) m (on_columns f n c)
   unfolding rows_first
   on_columns-rearranged = fun_ext (λ x. fun_ext (λ y. at_place x y (cases_lt x n) (cases_lt y m)))
 
@@ -137,10 +157,14 @@ on_samples_pass f wanted n = record {
   reads = λ l m e k h. ap (λ z. if wanted && nat_lt k n then f z else z) (e k h);
 }
 
-rows_changed : (f : ℤ → ℤ) (wanted inside above : Bool) (a : ℤ) → (if wanted && (inside && above) then f a else a) ≡ (if above then (if wanted && inside then f a else a) else a)
+rows_changed : (f : ℤ → ℤ) (wanted inside above : Bool) (a : ℤ)
+    → (if wanted && (inside && above) then f a else a)
+    ≡ (if above then (if wanted && inside then f a else a) else a)
 rows_changed f wanted inside above a = grind arith
 
 -- the cells of a part of the plane, row by row
-pub on_cells_rows : (f : ℤ → ℤ) (wanted : Bool) (width height : ℕ) (c : Cells) → on_cells f wanted width height c ≡ on_rows (on_samples f wanted width) height c
+pub on_cells_rows : (f : ℤ → ℤ) (wanted : Bool) (width height : ℕ) (c : Cells)
+    → on_cells f wanted width height c ≡ on_rows (on_samples f wanted width) height c
 unfolding on_cells on_rows on_samples
-on_cells_rows f wanted width height c = fun_ext (λ x. fun_ext (λ y. rows_changed f wanted (nat_lt x width) (nat_lt y height) (c x y)))
+on_cells_rows f wanted width height c =
+    fun_ext (λ x. fun_ext (λ y. rows_changed f wanted (nat_lt x width) (nat_lt y height) (c x y)))

@@ -1,5 +1,6 @@
 -- Rows in 32 bits: put together from two halves, and taken apart into two halves, in place.
-use Rattle.std.proofs.Common.{◌≡◌, ◌≢◌, ℕ, zero, suc, ◌+◌, ◌*◌, ◌%◌, ◌^◌, ◌<◌, ◌≤◌, ◌⊎◌, inl, inr, List, length, set}
+use Rattle.std.proofs.Common.{◌≡◌, ◌≢◌, ℕ, zero, suc, ◌+◌, ◌*◌, ◌%◌, ◌^◌, ◌<◌, ◌≤◌, ◌⊎◌, inl, inr, List}
+use Rattle.std.proofs.Common.{length, set}
 use Rattle.std.proofs.Common.{slice_index_or, ℤ, pos, unsigned_abs, arith, ap, sym, subst, ◌∙◌, Bool, true}
 use Rattle.std.specs.Prelude.{if◌then◌else◌, ◌==◌}
 use Rattle.std.proofs.lemmas.List.{get_or-set_same, get_or-set_other, length-set}
@@ -15,7 +16,8 @@ use Rattle.vc_wave.specs.declared.pass.Direction.TheVariants.{Synthesis, Analysi
 use Rattle.vc_wave.specs.ForwardBounds.{parted_rows_bound}
 use Rattle.vc_wave.specs.Lines.{row_from, IsRowMade}
 use Rattle.vc_wave.specs.NarrowBounds.{RowHasBound, rows_bound}
-use Rattle.vc_wave.specs.Remade.{half_place, halves_together, halves_apart, on_samples, merged, remade, shifted_down}
+use Rattle.vc_wave.specs.Remade.{half_place, halves_together, halves_apart, on_samples, merged, remade}
+use Rattle.vc_wave.specs.Remade.{shifted_down}
 use Rattle.vc_wave.proofs.CarriedBounds.{RowsMade, RowsParted, rows_made, rows_parted, readied_at_most}
 use Rattle.vc_wave.proofs.PlaneLines.{rearranged_in, on_samples_in, on_samples_pass}
 use Rattle.vc_wave.proofs.Weaving.{half_place_below, source_below, half_place-source_of, source_of-half_place}
@@ -45,19 +47,24 @@ module _ {A : Type 0} (none : A) (cells : List A) (start k : ℕ) (v w : A)
       → (i : ℕ) → i < k + 1 → slice_index_or two_set (start + 2 * i) none ≡ g i
   even_more g is before i h = grind (arith, get_or-set_other, get_or-set_same)
 
-  pub odd_more : (g : ℕ → A) → w ≡ g k → ((i : ℕ) → i < k → slice_index_or cells (start + (2 * i + 1)) none ≡ g i)
+  pub odd_more : (g : ℕ → A) → w ≡ g k
+      → ((i : ℕ) → i < k → slice_index_or cells (start + (2 * i + 1)) none ≡ g i)
       → (i : ℕ) → i < k + 1 → slice_index_or two_set (start + (2 * i + 1)) none ≡ g i
   odd_more g is before i h = grind (arith, get_or-set_same, last_within, get_or-set_other)
 
   pub off_more : (first : List A)
-      → ((i : ℕ) → (i < start) ⊎ (start + 2 * k ≤ i) → slice_index_or cells i none ≡ slice_index_or first i none)
-      → (i : ℕ) → (i < start) ⊎ (start + 2 * (k + 1) ≤ i) → slice_index_or two_set i none ≡ slice_index_or first i none
-  off_more first before i (inl h) = both_left none cells _ _ v w i (λ p. omega arith) (λ p. omega arith) ∙ before i (inl h)
+      → ((i : ℕ) → (i < start) ⊎ (start + 2 * k ≤ i)
+      → slice_index_or cells i none ≡ slice_index_or first i none)
+      → (i : ℕ) → (i < start) ⊎ (start + 2 * (k + 1) ≤ i)
+      → slice_index_or two_set i none ≡ slice_index_or first i none
+  off_more first before i (inl h) = both_left none cells _ _ v w i (λ p. omega arith) (λ p. omega arith)
+      ∙ before i (inl h)
   off_more first before i (inr h) =
       both_left none cells _ _ v w i (λ p. omega arith) (λ p. omega arith) ∙ before i (inr (omega arith))
 
 -- the next one of each half
-module _ (cells : List ℤ) (start half k : ℕ) (v w : ℤ) (below : k < half) (within : start + 2 * half ≤ length cells) where
+module _ (cells : List ℤ) (start half k : ℕ) (v w : ℤ) (below : k < half)
+    (within : start + 2 * half ≤ length cells) where
   abbrev pub low_set : List ℤ
   low_set = set cells (start + k) v
 
@@ -78,23 +85,32 @@ module _ (cells : List ℤ) (start half k : ℕ) (v w : ℤ) (below : k < half) 
   pub halves_off : (first : List ℤ)
       → ((i : ℕ) → (i < start) ⊎ (start + 2 * half ≤ i) → line_of cells i ≡ line_of first i)
       → (i : ℕ) → (i < start) ⊎ (start + 2 * half ≤ i) → line_of halves_set i ≡ line_of first i
-  halves_off first before i (inl h) = both_left (pos 0) cells _ _ v w i (λ p. omega arith) (λ p. omega arith) ∙ before i (inl h)
-  halves_off first before i (inr h) = both_left (pos 0) cells _ _ v w i (λ p. omega arith) (λ p. omega arith) ∙ before i (inr h)
+  halves_off first before i (inl h) = both_left (pos 0) cells _ _ v w i (λ p. omega arith) (λ p. omega arith)
+      ∙ before i (inl h)
+  halves_off first before i (inr h) = both_left (pos 0) cells _ _ v w i (λ p. omega arith) (λ p. omega arith)
+      ∙ before i (inr h)
 
 -- samples that are put in turn from two halves
-pub halves_met : {A : Type 0} (pairs half : ℕ) (made from : ℕ → A) → ((k : ℕ) → k < pairs → made (2 * k) ≡ from k)
-    → ((k : ℕ) → k < pairs → made (2 * k + 1) ≡ from (half + k)) → (k : ℕ) → k < 2 * pairs → made k ≡ from (half_place half k)
+pub halves_met : {A : Type 0} (pairs half : ℕ) (made from : ℕ → A)
+    → ((k : ℕ) → k < pairs → made (2 * k) ≡ from k)
+    → ((k : ℕ) → k < pairs → made (2 * k + 1) ≡ from (half + k)) → (k : ℕ) → k < 2 * pairs
+    → made k ≡ from (half_place half k)
 halves_met pairs half made from even odd k h = grind arith
 
 module _ (start half : ℕ) (shifted : Bool) (old new : List ℤ)
     (off : (i : ℕ) → (i < start) ⊎ (start + 2 * half ≤ i) → line_of new i ≡ line_of old i) where
-  pub woven : ((k : ℕ) → k < half → line_of new (start + 2 * k) ≡ shifted_down shifted (line_of old (start + k)))
-      → ((k : ℕ) → k < half → line_of new (start + (2 * k + 1)) ≡ shifted_down shifted (line_of old (start + (half + k))))
-      → IsRowMade (λ l. on_samples halved shifted (2 * half) (halves_together half l)) start (2 * half) old new
+  pub woven : ((k : ℕ) → k < half
+      → line_of new (start + 2 * k) ≡ shifted_down shifted (line_of old (start + k)))
+      → ((k : ℕ) → k < half
+      → line_of new (start + (2 * k + 1)) ≡ shifted_down shifted (line_of old (start + (half + k))))
+      → IsRowMade (λ l. on_samples halved shifted (2 * half) (halves_together half l)) start
+      (2 * half) old new
   woven even odd = record {
     on = λ k h.
-        halves_met half half (row_from new start) (λ j. shifted_down shifted (row_from old start j)) even odd k h
-        ∙ ap (shifted_down shifted) (sym (rearranged_in (2 * half) (half_place half) (row_from old start) k h))
+        halves_met half half (row_from new start)
+        (λ j. shifted_down shifted (row_from old start j)) even odd k h
+        ∙ ap (shifted_down shifted)
+        (sym (rearranged_in (2 * half) (half_place half) (row_from old start) k h))
         ∙ sym (on_samples_in halved shifted (2 * half) (halves_together half (row_from old start)) k h);
     off = off;
   }
@@ -108,11 +124,14 @@ module _ (start half : ℕ) (shifted : Bool) (old new : List ℤ)
   unwoven even odd = record {
     on = λ k h.
         let below = source_below half k h in
-        let place : start + k ≡ start + half_place half (source_of half k) = ap (λ n. start + n) (sym (half_place-source_of half k h)) in
+        let place : start + k ≡ start + half_place half (source_of half k) =
+        ap (λ n. start + n) (sym (half_place-source_of half k h)) in
         ap (line_of new) place
-        ∙ sym (halves_met half half readied (row_from new start) (λ j lt. sym (even j lt)) (λ j lt. sym (odd j lt)) (source_of half k) below)
+        ∙ sym (halves_met half half readied (row_from new start) (λ j lt. sym (even j lt))
+        (λ j lt. sym (odd j lt)) (source_of half k) below)
         ∙ sym (on_samples_in doubled shifted (2 * half) (row_from old start) (source_of half k) below)
-        ∙ sym (rearranged_in (2 * half) (source_of half) (on_samples doubled shifted (2 * half) (row_from old start)) k h);
+        ∙ sym (rearranged_in (2 * half) (source_of half)
+        (on_samples doubled shifted (2 * half) (row_from old start)) k h);
     off = off;
   }
 
@@ -130,16 +149,19 @@ module _ (start half : ℕ) where
   pub row_place : (k : ℕ) → halves_place (row_halves start half) k ≡ start + half_place half k
   row_place k = (let first = start_of start half (k % 2) (omega arith) in omega (arith, first))
 
-  row_at : (cells : List ℤ) (k : ℕ) → line_in (row_halves start half) cells 0 k ≡ row_from cells start (half_place half k)
+  row_at : (cells : List ℤ) (k : ℕ)
+      → line_in (row_halves start half) cells 0 k ≡ row_from cells start (half_place half k)
   row_at cells k = (let place = row_place k in ap (line_of cells) (omega (arith, place)))
 
   -- in the order of the whole line
   together : (cells : List ℤ) (k : ℕ) → k < 2 * half
       → halves_together half (row_from cells start) k ≡ line_in (row_halves start half) cells 0 k
-  together cells k h = rearranged_in (2 * half) (half_place half) (row_from cells start) k h ∙ sym (row_at cells k)
+  together cells k h = rearranged_in (2 * half) (half_place half) (row_from cells start) k h
+      ∙ sym (row_at cells k)
 
   -- a cell outside the row
-  pub row_beside : (old new : List ℤ) → ((i : ℕ) → IsBeside (row_halves start half) 1 i → line_of new i ≡ line_of old i)
+  pub row_beside : (old new : List ℤ)
+      → ((i : ℕ) → IsBeside (row_halves start half) 1 i → line_of new i ≡ line_of old i)
       → (i : ℕ) → (i < start) ⊎ (start + 2 * half ≤ i) → line_of new i ≡ line_of old i
   row_beside old new beside i out = grind (arith, row_place, half_place_below)
 
@@ -155,7 +177,8 @@ module _ (start half : ℕ) where
           → StaysNarrow (counted_synthesis wavelet) half (line_in (row_halves start half) old x)
       synthesis_narrow x one =
           let first : 0 ≡ x = omega arith in
-          subst (λ u. StaysNarrow (counted_synthesis wavelet) half (line_in (row_halves start half) old u)) first
+          subst (λ u. StaysNarrow (counted_synthesis wavelet) half
+          (line_in (row_halves start half) old u)) first
           (record { most = bound.most; after = made.made; small = old_small; fits = made.synthesised })
 
       module _ (synth : (x k : ℕ) → x < 1 → k < 2 * half → line_in (row_halves start half) mid x k
@@ -163,19 +186,23 @@ module _ (start half : ℕ) where
         mid_small : (k : ℕ) → k < 2 * half → unsigned_abs (row_from mid start (half_place half k)) ≤ made.made
         mid_small k h =
             rw (sym (row_at mid k) ∙ synth 0 k (omega arith) h)
-            (synthesis_after wavelet half bound.most made.made (line_in (row_halves start half) old 0) some made.synthesised old_small k h)
+            (synthesis_after wavelet half bound.most made.made
+            (line_in (row_halves start half) old 0) some made.synthesised old_small k h)
 
-        pub shift_room : is_shifted wavelet ≡ true → (k : ℕ) → k < 2 * half → unsigned_abs (line_of mid (start + k)) + 1 < 2 ^ 31
+        pub shift_room : is_shifted wavelet ≡ true → (k : ℕ) → k < 2 * half
+            → unsigned_abs (line_of mid (start + k)) + 1 < 2 ^ 31
         shift_room h k lt =
             let small = mid_small (source_of half k) (source_below half k lt) in
             let here = rw (half_place-source_of half k lt) at small in
             omega (arith, here, made.room h)
 
         -- the line with its halves together
-        merged_at : (k : ℕ) → k < 2 * half → halves_together half (row_from mid start) k ≡ merged wavelet half (row_from old start) k
+        merged_at : (k : ℕ) → k < 2 * half
+            → halves_together half (row_from mid start) k ≡ merged wavelet half (row_from old start) k
         merged_at k h =
             together mid k h ∙ synth 0 k (omega arith) h
-            ∙ sym (synthesis_is_local wavelet (2 * half) (halves_together half (row_from old start)) (line_in (row_halves start half) old 0)
+            ∙ sym (synthesis_is_local wavelet (2 * half) (halves_together half (row_from old start))
+            (line_in (row_halves start half) old 0)
             (omega arith) (together old) k h)
 
         pub row_value : (shifted : Bool) (k : ℕ) → k < 2 * half
@@ -188,13 +215,16 @@ module _ (start half : ℕ) where
             → shifted_down (is_shifted wavelet) (line_of mid (start + half_place half k))
             ≡ remade Synthesis wavelet (is_shifted wavelet) half (row_from old start) k
         sample_value k h =
-            ap (shifted_down (is_shifted wavelet)) (sym (rearranged_in (2 * half) (half_place half) (row_from mid start) k h))
-            ∙ sym (on_samples_in halved (is_shifted wavelet) (2 * half) (halves_together half (row_from mid start)) k h)
+            ap (shifted_down (is_shifted wavelet))
+            (sym (rearranged_in (2 * half) (half_place half) (row_from mid start) k h))
+            ∙ sym (on_samples_in halved (is_shifted wavelet) (2 * half)
+            (halves_together half (row_from mid start)) k h)
             ∙ row_value (is_shifted wavelet) k h
 
         pub row_merged : (shifted : Bool) (new : List ℤ)
             → ((i : ℕ) → IsBeside (row_halves start half) 1 i → line_of mid i ≡ line_of old i)
-            → IsRowMade (λ l. on_samples halved shifted (2 * half) (halves_together half l)) start (2 * half) mid new
+            → IsRowMade (λ l. on_samples halved shifted (2 * half) (halves_together half l)) start
+            (2 * half) mid new
             → IsRowMade (remade Synthesis wavelet shifted half) start (2 * half) old new
         row_merged shifted new beside weave = record {
           on = λ k h. weave.on k h ∙ row_value shifted k h;
@@ -205,13 +235,17 @@ module _ (start half : ℕ) where
       parts : RowsParted wavelet bound.most bound.after
       parts = rows_parted wavelet bound.most bound.after bound.fits
 
-      pub double_room : is_shifted wavelet ≡ true → (k : ℕ) → k < 2 * half → 2 * unsigned_abs (line_of old (start + k)) < 2 ^ 31
-      double_room h k lt = (let room = parts.room h in let small = bound.small k lt in omega (arith, room, small))
+      pub double_room : is_shifted wavelet ≡ true → (k : ℕ) → k < 2 * half
+          → 2 * unsigned_abs (line_of old (start + k)) < 2 ^ 31
+      double_room h k lt =
+          (let room = parts.room h in let small = bound.small k lt in omega (arith, room, small))
 
       abbrev doubles : Line
       doubles = on_samples doubled (is_shifted wavelet) (2 * half) (row_from old start)
 
-      module _ (unweave : IsRowMade (λ l. halves_apart half (on_samples doubled (is_shifted wavelet) (2 * half) l)) start (2 * half) old mid) where
+      module _ (unweave : IsRowMade
+          (λ l. halves_apart half (on_samples doubled (is_shifted wavelet) (2 * half) l)) start
+          (2 * half) old mid) where
         -- the samples as they are doubled
         doubled_at : (k : ℕ) → k < 2 * half → line_in (row_halves start half) mid 0 k ≡ doubles k
         doubled_at k h =
@@ -220,16 +254,19 @@ module _ (start half : ℕ) where
             ∙ rearranged_in (2 * half) (source_of half) doubles (half_place half k) below
             ∙ ap doubles (source_of-half_place half k h)
 
-        mid_doubled : (k : ℕ) → k < 2 * half → unsigned_abs (line_in (row_halves start half) mid 0 k) ≤ parts.twice
+        mid_doubled : (k : ℕ) → k < 2 * half
+            → unsigned_abs (line_in (row_halves start half) mid 0 k) ≤ parts.twice
         mid_doubled k h =
-            rw (doubled_at k h ∙ on_samples_in doubled (is_shifted wavelet) (2 * half) (row_from old start) k h)
+            rw (doubled_at k h ∙ on_samples_in doubled (is_shifted wavelet) (2 * half)
+            (row_from old start) k h)
             (readied_at_most wavelet bound.most bound.after parts (row_from old start k) (bound.small k h))
 
         pub analysis_narrow : (x : ℕ) → x < 1
             → StaysNarrow (counted_analysis wavelet) half (line_in (row_halves start half) mid x)
         analysis_narrow x one =
             let first : 0 ≡ x = omega arith in
-            subst (λ u. StaysNarrow (counted_analysis wavelet) half (line_in (row_halves start half) mid u)) first
+            subst (λ u. StaysNarrow (counted_analysis wavelet) half
+            (line_in (row_halves start half) mid u)) first
             (record { most = parts.twice; after = bound.after; small = mid_doubled; fits = parts.analysed })
 
         pub row_parted : (new : List ℤ)
@@ -243,7 +280,8 @@ module _ (start half : ℕ) where
               let below = source_below half k h in
               ap (row_from new start) (sym (half_place-source_of half k h)) ∙ sym (row_at new j)
               ∙ analyse 0 j (omega arith) below
-              ∙ analysis_is_local wavelet (2 * half) (line_in (row_halves start half) mid 0) doubles (omega arith) doubled_at j below
+              ∙ analysis_is_local wavelet (2 * half) (line_in (row_halves start half) mid 0) doubles
+              (omega arith) doubled_at j below
               ∙ sym (rearranged_in (2 * half) (source_of half) (analysed wavelet (2 * half) doubles) k h);
           off = λ i out. row_beside mid new beside i out ∙ unweave.off i out;
         }

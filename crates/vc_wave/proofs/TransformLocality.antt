@@ -15,7 +15,8 @@ use Rattle.vc_types.specs.Transforms.{lowest_width, lowest_height}
 use Rattle.vc_types.specs.Wavelets.{is_shifted}
 use Rattle.vc_wave.specs.declared.pass.Direction.TheVariants.{Synthesis, Analysis}
 use Rattle.vc_wave.proofs.PlaneLines.{LeavesPast, ReadsBelow, IsPass, column_in, column_out, row_in, row_out}
-use Rattle.vc_wave.proofs.Weaving.{remade_pass, level_across_remade, inverse_level_remade, forward_level_remade}
+use Rattle.vc_wave.proofs.Weaving.{remade_pass, level_across_remade, inverse_level_remade}
+use Rattle.vc_wave.proofs.Weaving.{forward_level_remade}
 
 -- two planes are the same in the first columns and rows
 abbrev pub Agree : ℕ → ℕ → Cells → Cells → Type 0
@@ -40,7 +41,8 @@ module _ (width height : ℕ) where
 
   -- lines of m samples, in the first n columns or rows
   module _ (f : Line → Line) (n m : ℕ) (past : LeavesPast m f) (reads : ReadsBelow m f) (c d : Cells) where
-    columns_left : n ≤ width → m ≤ height → (x y : ℕ) → (width ≤ x) ⊎ (height ≤ y) → on_columns f n c x y ≡ c x y
+    columns_left : n ≤ width → m ≤ height → (x y : ℕ) → (width ≤ x) ⊎ (height ≤ y)
+        → on_columns f n c x y ≡ c x y
     columns_left wide high x y out = grind (arith, column_in, column_out)
 
     rows_left : m ≤ width → n ≤ height → (x y : ℕ) → (width ≤ x) ⊎ (height ≤ y) → on_rows f n c x y ≡ c x y
@@ -116,7 +118,8 @@ module _ (w h width height : ℕ) where
   inverse_levels_stay vertical horizontal (suc d) wide high =
       both_stay width height (inverse_level vertical horizontal (w * 2 ^ d) (h * 2 ^ d))
       (inverse_levels vertical horizontal d w h)
-      (inverse_level_stays width height (w * 2 ^ d) (h * 2 ^ d) (side_twice w d width wide) (side_twice h d height high)
+      (inverse_level_stays width height (w * 2 ^ d) (h * 2 ^ d) (side_twice w d width wide)
+      (side_twice h d height high)
       vertical horizontal)
       (inverse_levels_stay vertical horizontal d (side_once w d width wide) (side_once h d height high))
 
@@ -127,7 +130,8 @@ module _ (w h width height : ℕ) where
   forward_levels_stay wavelet (suc d) wide high =
       both_stay width height (forward_levels wavelet d w h) (forward_level wavelet (w * 2 ^ d) (h * 2 ^ d))
       (forward_levels_stay wavelet d (side_once w d width wide) (side_once h d height high))
-      (forward_level_stays width height (w * 2 ^ d) (h * 2 ^ d) (side_twice w d width wide) (side_twice h d height high)
+      (forward_level_stays width height (w * 2 ^ d) (h * 2 ^ d) (side_twice w d width wide)
+      (side_twice h d height high)
       wavelet)
 
 -- the lowest width, and the levels of both kinds
@@ -160,7 +164,8 @@ module _ (p : Parameters) (c : Component) (a b : Cells)
       let h = lowest_height p c in
       let across = levels_across_stay w h (padded_width p c) (padded_height p c) p.wavelet_ho p.depth_ho
       (less (w * 2 ^ p.depth_ho) p.depth (padded_width p c) wide) (less h p.depth (padded_height p c) high) in
-      (inverse_levels_stay (w * 2 ^ p.depth_ho) h (padded_width p c) (padded_height p c) p.wavelet p.wavelet_ho p.depth
+      (inverse_levels_stay (w * 2 ^ p.depth_ho) h (padded_width p c)
+      (padded_height p c) p.wavelet p.wavelet_ho p.depth
       wide high).agrees
       (levels_across p.wavelet_ho p.depth_ho w h a) (levels_across p.wavelet_ho p.depth_ho w h b)
       (across.agrees a b same)
@@ -170,5 +175,6 @@ module _ (p : Parameters) (c : Component) (a b : Cells)
       (forward_levels p.wavelet p.depth (lowest_width p c) (lowest_height p c) a)
       (forward_levels p.wavelet p.depth (lowest_width p c) (lowest_height p c) b)
   forward_levels_agrees =
-      (forward_levels_stay (lowest_width p c) (lowest_height p c) (padded_width p c) (padded_height p c) p.wavelet p.depth
+      (forward_levels_stay (lowest_width p c) (lowest_height p c) (padded_width p c)
+      (padded_height p c) p.wavelet p.depth
       (without (lowest_width p c) p.depth_ho p.depth (padded_width p c) wide) high).agrees a b same

@@ -1,4 +1,5 @@
--- Levels in 32 bits, whose rows stand in turn: what each makes of the nested subbands, and how far it reaches.
+-- Levels in 32 bits, whose rows stand in turn: what each makes of the nested subbands, and how far it
+-- reaches.
 use Rattle.std.proofs.Common.{◌≡◌, ℕ, suc, ◌+◌, ◌-◌, ◌*◌, ◌^◌, ◌<◌, ◌≤◌, List, ℤ, arith, ap, sym, ◌∙◌}
 use Rattle.std.proofs.lemmas.Nat.{pow-add}
 use Rattle.std.proofs.Math.Nat.{mul-le-mul_left, mul-le-mul_right, div-mul-le_self, pow-suc}
@@ -15,9 +16,11 @@ use Rattle.vc_wave.specs.Layout.{laid_out, row_in_turn}
 use Rattle.vc_wave.specs.Planes.{HasRoom, plane_of}
 use Rattle.vc_wave.specs.Remade.{remade, halves_together, halves_apart, level_in_turn, parted_in_turn}
 use Rattle.vc_wave.proofs.LayoutLaws.{laid_together, laid_after}
-use Rattle.vc_wave.proofs.Levels.{level_fits, twice_side, no_levels, next_level, no_forward, next_forward, whole_room}
+use Rattle.vc_wave.proofs.Levels.{level_fits, twice_side, no_levels, next_level, no_forward, next_forward}
+use Rattle.vc_wave.proofs.Levels.{whole_room}
 use Rattle.vc_wave.proofs.PlaneLines.{on_columns-on_columns, on_columns-same}
-use Rattle.vc_wave.proofs.TransformLocality.{StaysIn, both_stay, columns_stay, rows_stay, levels_across_stay, side_whole, less}
+use Rattle.vc_wave.proofs.TransformLocality.{StaysIn, both_stay, columns_stay, rows_stay, levels_across_stay}
+use Rattle.vc_wave.proofs.TransformLocality.{side_whole, less}
 use Rattle.vc_wave.proofs.Weaving.{remade_pass, synthesis_pass, analysis_pass, remade_merged, remade_parted}
 use Rattle.vc_wave.proofs.Weaving.{halves_apart-halves_together, inverse_level_remade, forward_level_remade}
 
@@ -37,7 +40,8 @@ module _ (vertical horizontal w h : ℕ) where
       (omega arith) (omega arith))
 
   -- with its rows in turn, it is the level of the nested subbands
-  pub in_turn_level : (c : Cells) → level_in_turn vertical horizontal w h (on_columns (halves_together h) (2 * w) c)
+  pub in_turn_level : (c : Cells)
+      → level_in_turn vertical horizontal w h (on_columns (halves_together h) (2 * w) c)
       ≡ inverse_level vertical horizontal w h c
   unfolding level_in_turn
   in_turn_level c =
@@ -46,7 +50,8 @@ module _ (vertical horizontal w h : ℕ) where
       ∙ sym (inverse_level_remade vertical horizontal w h c)
 
   module _ (left stride : ℕ) (old new : List ℤ) (wide : 2 * w ≤ stride) where
-    level_laid : plane_of (stride * 2 ^ left) new ≡ level_in_turn vertical horizontal w h (plane_of (stride * 2 ^ left) old)
+    level_laid : plane_of (stride * 2 ^ left) new
+        ≡ level_in_turn vertical horizontal w h (plane_of (stride * 2 ^ left) old)
         → laid_out left (2 * w) (2 * h) (plane_of stride new)
         ≡ inverse_level vertical horizontal w h (laid_out (suc left) w h (plane_of stride old))
     level_laid made =
@@ -74,18 +79,21 @@ module _ (wavelet w h : ℕ) where
   unfolding parted_in_turn
   parted_level c d is =
       sym (on_columns-on_columns (halves_apart h) (halves_together h) (2 * w) d
-      ∙ on_columns-same (λ l. halves_apart h (halves_together h l)) (2 * w) d (halves_apart-halves_together h))
+      ∙ on_columns-same (λ l. halves_apart h (halves_together h l)) (2 * w) d
+      (halves_apart-halves_together h))
       ∙ ap (on_columns (halves_apart h) (2 * w)) is
       ∙ on_columns-on_columns (halves_apart h) (analysed wavelet (2 * h)) (2 * w) (rows_apart c)
       ∙ ap (λ (f : Line → Line). on_columns f (2 * w) (rows_apart c)) (remade_parted wavelet h)
       ∙ sym (forward_level_remade wavelet w h c)
 
   module _ (level stride : ℕ) (old new : List ℤ) (wide : 2 * w ≤ stride) where
-    level_parted : plane_of (stride * 2 ^ level) new ≡ parted_in_turn wavelet w h (plane_of (stride * 2 ^ level) old)
+    level_parted : plane_of (stride * 2 ^ level) new
+        ≡ parted_in_turn wavelet w h (plane_of (stride * 2 ^ level) old)
         → laid_out (suc level) w h (plane_of stride new)
         ≡ forward_level wavelet w h (laid_out level (2 * w) (2 * h) (plane_of stride old))
     level_parted made =
-        parted_level (laid_out level (2 * w) (2 * h) (plane_of stride old)) (laid_out (suc level) w h (plane_of stride new))
+        parted_level (laid_out level (2 * w) (2 * h) (plane_of stride old))
+        (laid_out (suc level) w h (plane_of stride new))
         (sym (laid_together level w h (plane_of stride new))
         ∙ laid_after (parted_in_turn wavelet w h) (2 * w) (2 * h) level (2 * w) (2 * h) stride
         (omega arith) (omega arith) wide parted_stays old new made)
@@ -97,7 +105,8 @@ pub across_laid : (wavelet e levels w h stride : ℕ) (old new : List ℤ) → w
     ≡ levels_across wavelet e w h (laid_out levels (w * 2 ^ e) h (plane_of stride old))
 across_laid wavelet e levels w h stride =
     λ old new wide. laid_after (levels_across wavelet e w h) (w * 2 ^ e) h levels (w * 2 ^ e) h stride
-    (omega arith) (omega arith) wide (levels_across_stay w h (w * 2 ^ e) h wavelet e (omega arith) (omega arith)) old new
+    (omega arith) (omega arith) wide
+    (levels_across_stay w h (w * 2 ^ e) h wavelet e (omega arith) (omega arith)) old new
 
 -- ---- levels in turn, from the lowest up
 
@@ -112,7 +121,8 @@ module _ (vertical horizontal levels w h stride : ℕ) (first : Cells) where
   first_laid cells is = grind (arith, no_levels)
 
   pub next_laid : (n : ℕ) (old new : List ℤ) → n < levels → w * 2 ^ levels ≤ stride → AreLaid n old
-      → (pitch columns rows : ℕ) → pitch ≡ stride * 2 ^ (levels - 1 - n) → columns ≡ w * 2 ^ n → rows ≡ h * 2 ^ n
+      → (pitch columns rows : ℕ) → pitch ≡ stride * 2 ^ (levels - 1 - n) → columns ≡ w * 2 ^ n
+      → rows ≡ h * 2 ^ n
       → plane_of pitch new ≡ level_in_turn vertical horizontal columns rows (plane_of pitch old)
       → AreLaid (n + 1) new
   next_laid n old new lt wide so_far pitch columns rows apart across down made =
@@ -121,7 +131,8 @@ module _ (vertical horizontal levels w h stride : ℕ) (first : Cells) where
       let before : levels - n ≡ suc left = omega arith in
       let fits = level_fits w n levels lt in
       rw (rest, twice_side w n, twice_side h n)
-      (next_level vertical horizontal n w h first (laid_out (suc left) (w * 2 ^ n) (h * 2 ^ n) (plane_of stride old))
+      (next_level vertical horizontal n w h first
+      (laid_out (suc left) (w * 2 ^ n) (h * 2 ^ n) (plane_of stride old))
       (laid_out left (2 * (w * 2 ^ n)) (2 * (h * 2 ^ n)) (plane_of stride new)) (rw before at so_far)
       (level_laid vertical horizontal (w * 2 ^ n) (h * 2 ^ n) left stride old new (omega (arith, fits, wide))
       (rw (apart, across, down) at made)))
@@ -135,7 +146,8 @@ module _ (wavelet levels w h stride : ℕ) (whole : Cells) where
       forward_levels wavelet (levels - n) w h
       (laid_out n (w * 2 ^ (levels - n)) (h * 2 ^ (levels - n)) (plane_of stride cells)) ≡ whole
 
-  pub first_parted : (cells : List ℤ) → forward_levels wavelet levels w h (plane_of stride cells) ≡ whole → AreParted 0 cells
+  pub first_parted : (cells : List ℤ) → forward_levels wavelet levels w h (plane_of stride cells) ≡ whole
+      → AreParted 0 cells
   unfolding row_in_turn
   first_parted cells is = (let all : levels - 0 ≡ levels = omega arith in rw all is)
 
@@ -150,13 +162,15 @@ module _ (wavelet levels w h stride : ℕ) (whole : Cells) where
       let one : n + 1 ≡ suc n = omega arith in
       let fits = level_fits w left levels (omega arith) in
       rw (rest, one)
-      (next_forward wavelet left w h (laid_out n (2 * (w * 2 ^ left)) (2 * (h * 2 ^ left)) (plane_of stride old))
+      (next_forward wavelet left w h
+      (laid_out n (2 * (w * 2 ^ left)) (2 * (h * 2 ^ left)) (plane_of stride old))
       (laid_out (suc n) (w * 2 ^ left) (h * 2 ^ left) (plane_of stride new)) whole
       (level_parted wavelet (w * 2 ^ left) (h * 2 ^ left) n stride old new (omega (arith, fits, wide))
       (rw (apart, across, down) at made))
       (rw (before, twice_side w left, twice_side h left) at so_far))
 
-  pub last_parted : (n : ℕ) (cells : List ℤ) → n ≡ levels → AreParted n cells → laid_out levels w h (plane_of stride cells) ≡ whole
+  pub last_parted : (n : ℕ) (cells : List ℤ) → n ≡ levels → AreParted n cells
+      → laid_out levels w h (plane_of stride cells) ≡ whole
   last_parted n cells e so_far = grind (arith, no_forward)
 
 -- ---- rooms
@@ -173,13 +187,15 @@ pub pitch_fits : (stride h levels left cells : ℕ) → 0 < h → left ≤ level
 pitch_fits stride h levels left cells some le fits =
     let power : 2 ^ left ≤ 2 ^ levels = pow_mono le in
     let once : 1 * 2 ^ levels ≤ h * 2 ^ levels = mul-le-mul_right (2 ^ levels) some in
-    let all : 2 ^ left * stride ≤ h * 2 ^ levels * stride = mul-le-mul_right stride (omega (arith, power, once)) in
+    let all : 2 ^ left * stride ≤ h * 2 ^ levels * stride =
+    mul-le-mul_right stride (omega (arith, power, once)) in
     omega (arith, all, fits)
 
 regroup : (h stride a b : ℕ) → 2 * (h * a) * (stride * b) ≡ h * (2 * a * b) * stride
 regroup h stride a b = omega arith
 
-module _ (w h levels stride cells line : ℕ) (room : HasRoom (w * 2 ^ levels) (h * 2 ^ levels) stride cells 0 line) where
+module _ (w h levels stride cells line : ℕ)
+    (room : HasRoom (w * 2 ^ levels) (h * 2 ^ levels) stride cells 0 line) where
   -- a level has room among all of them
   pub turn_room : (n : ℕ) → n < levels
       → HasRoom (2 * (w * 2 ^ n)) (2 * (h * 2 ^ n)) (stride * 2 ^ (levels - 1 - n)) cells 0 line
@@ -196,7 +212,8 @@ module _ (w h levels stride cells line : ℕ) (room : HasRoom (w * 2 ^ levels) (
       }
 
   pub parted_room : (n : ℕ) → n < levels
-      → HasRoom (2 * (w * 2 ^ (levels - 1 - n))) (2 * (h * 2 ^ (levels - 1 - n))) (stride * 2 ^ n) cells 0 line
+      → HasRoom (2 * (w * 2 ^ (levels - 1 - n))) (2 * (h * 2 ^ (levels - 1 - n)))
+      (stride * 2 ^ n) cells 0 line
   parted_room n lt =
       let back : levels - 1 - (levels - 1 - n) ≡ n = omega arith in
       rw back at (turn_room (levels - 1 - n) (omega arith))
@@ -219,7 +236,8 @@ apart_room w h e d stride cells line room =
 
 pub all_rooms : (p : Parameters) (c : Component) (stride cells line : ℕ) → padded_width p c ≤ stride
     → padded_height p c * stride ≤ cells → padded_width p c ≤ line
-    → HasRoom (lowest_width p c * 2 ^ p.depth_ho * 2 ^ p.depth) (lowest_height p c * 2 ^ p.depth) stride cells 0 line
+    → HasRoom (lowest_width p c * 2 ^ p.depth_ho * 2 ^ p.depth)
+    (lowest_height p c * 2 ^ p.depth) stride cells 0 line
 all_rooms p c stride cells line across down row =
     whole_room p c stride cells 0 line
     (record { across = across; down = down; row = row; side_by_side = omega arith })
@@ -230,7 +248,8 @@ pub sides_small : (p : Parameters) (c : Component) (w h : ℕ) → w ≡ lowest_
     × (w * 2 ^ p.depth_ho ≤ padded_width p c)
 sides_small p c w h narrow low across down =
     rw (narrow, low)
-    (let side = less (lowest_width p c * 2 ^ p.depth_ho) p.depth (padded_width p c) (side_whole (padded_width p c) p.depth p.depth_ho) in
+    (let side = less (lowest_width p c * 2 ^ p.depth_ho) p.depth (padded_width p c)
+    (side_whole (padded_width p c) p.depth p.depth_ho) in
     let wide = side_whole (padded_width p c) p.depth p.depth_ho in
     let high = div-mul-le_self (padded_height p c) (2 ^ p.depth) in
     (omega (arith, side), omega (arith, wide), omega (arith, high), side))

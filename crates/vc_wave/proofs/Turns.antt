@@ -1,5 +1,6 @@
 -- Nested subbands that are copied to rows in turn, a run of columns after another.
-use Rattle.std.proofs.Common.{◌≡◌, ℕ, zero, suc, ◌+◌, ◌-◌, ◌*◌, ◌^◌, ◌<◌, ◌≤◌, ◌⊎◌, inl, inr, List, ℤ, arith, ap, sym, ◌∙◌}
+use Rattle.std.proofs.Common.{◌≡◌, ℕ, zero, suc, ◌+◌, ◌-◌, ◌*◌, ◌^◌, ◌<◌, ◌≤◌, ◌⊎◌, inl, inr, List, ℤ, arith}
+use Rattle.std.proofs.Common.{ap, sym, ◌∙◌}
 use Rattle.std.specs.Prelude.{if◌then◌else◌}
 use Rattle.std.proofs.lemmas.Bool.{cases_lt, cases_eq}
 use Rattle.std.proofs.lemmas.Nat.{mul-add-lt}
@@ -19,7 +20,8 @@ use Rattle.vc_wave.proofs.Grids.{padded_whole}
 use Rattle.vc_wave.proofs.Levels.{level_fits}
 use Rattle.vc_wave.proofs.PlaneSteps.{plane_in}
 use Rattle.vc_wave.proofs.TransformLocality.{side_parts, less}
-use Rattle.vc_wave.proofs.LayoutLaws.{turned, turned_in, turned_right, turned_below, row_step, row_end, rows_apart}
+use Rattle.vc_wave.proofs.LayoutLaws.{turned, turned_in, turned_right, turned_below, row_step, row_end}
+use Rattle.vc_wave.proofs.LayoutLaws.{rows_apart}
 use Rattle.vc_wave.proofs.Weaving.{source_below}
 
 -- ---- rows
@@ -40,11 +42,13 @@ level_below w h levels x y height high below = elim (cases_lt x (2 * w)) [
 ]
 
 -- no row leaves the grid
-pub row_below : (levels w h x y height : ℕ) → h * 2 ^ levels ≤ height → y < height → row_in_turn levels w h x y < height
+pub row_below : (levels w h x y height : ℕ) → h * 2 ^ levels ≤ height → y < height
+    → row_in_turn levels w h x y < height
 row_below zero w h x y height high below = rw (row_end w h x y) below
 row_below (suc levels) w h x y height high below =
     rw (row_step levels w h x y)
-    (row_below levels (2 * w) (2 * h) x (turned w h x y) height (omega (arith, twice_power h levels)) (level_below w h levels x y height high below))
+    (row_below levels (2 * w) (2 * h) x (turned w h x y) height (omega (arith, twice_power h levels))
+    (level_below w h levels x y height high below))
 
 -- columns that lie together in each level have the same rows
 abbrev pub AreTogether : ℕ → ℕ → ℕ → Type 0
@@ -53,15 +57,19 @@ AreTogether w a b = (k : ℕ) → ((a < w * 2 ^ k) × (b < w * 2 ^ k)) ⊎ ((w *
 same_turn : (w h a b y : ℕ) → AreTogether w a b → turned w h a y ≡ turned w h b y
 same_turn w h a b y together = both (together 1) (cases_lt y (2 * h))
   where
-    both : ((a < w * 2 ^ 1) × (b < w * 2 ^ 1)) ⊎ ((w * 2 ^ 1 ≤ a) × (w * 2 ^ 1 ≤ b)) → (y < 2 * h) ⊎ (2 * h ≤ y) → turned w h a y ≡ turned w h b y
-    both (inr right) any = turned_right w h a y (omega (arith, right.0)) ∙ sym (turned_right w h b y (omega (arith, right.1)))
+    both : ((a < w * 2 ^ 1) × (b < w * 2 ^ 1)) ⊎ ((w * 2 ^ 1 ≤ a) × (w * 2 ^ 1 ≤ b))
+        → (y < 2 * h) ⊎ (2 * h ≤ y) → turned w h a y ≡ turned w h b y
+    both (inr right) any = turned_right w h a y (omega (arith, right.0))
+        ∙ sym (turned_right w h b y (omega (arith, right.1)))
     both (inl within) (inr low) = turned_below w h a y low ∙ sym (turned_below w h b y low)
-    both (inl within) (inl up) = turned_in w h a y (omega (arith, within.0)) up ∙ sym (turned_in w h b y (omega (arith, within.1)) up)
+    both (inl within) (inl up) = turned_in w h a y (omega (arith, within.0)) up
+        ∙ sym (turned_in w h b y (omega (arith, within.1)) up)
 
 together_above : (w a b : ℕ) → AreTogether w a b → AreTogether (2 * w) a b
 together_above w a b together k = rw (twice_power w k) (together (suc k))
 
-pub same_rows : (levels w h a b y : ℕ) → AreTogether w a b → row_in_turn levels w h a y ≡ row_in_turn levels w h b y
+pub same_rows : (levels w h a b y : ℕ) → AreTogether w a b
+    → row_in_turn levels w h a y ≡ row_in_turn levels w h b y
 same_rows zero w h a b y together = row_end w h a y ∙ sym (row_end w h b y)
 same_rows (suc levels) w h a b y together =
     row_step levels w h a y
@@ -71,9 +79,12 @@ same_rows (suc levels) w h a b y together =
 
 -- the columns of the lowest subband, and those that each level has more
 pub first_together : (w x : ℕ) → x < w → AreTogether w x 0
-first_together w x h k = (let more : w * 1 ≤ w * 2 ^ k = mul-le-mul_left w (pow_pos k) in inl (omega (arith, more), omega (arith, more)))
+first_together w x h k =
+    (let more : w * 1 ≤ w * 2 ^ k = mul-le-mul_left w (pow_pos k) in
+    inl (omega (arith, more), omega (arith, more)))
 
-pub level_together : (w level x : ℕ) → w * 2 ^ level ≤ x → x < 2 * (w * 2 ^ level) → AreTogether w x (w * 2 ^ level)
+pub level_together : (w level x : ℕ) → w * 2 ^ level ≤ x → x < 2 * (w * 2 ^ level)
+    → AreTogether w x (w * 2 ^ level)
 level_together w level x from to k = elim (cases_lt level k) [
   | inl above ↦ (
       let power : 2 ^ suc level ≤ 2 ^ k = pow_mono above in
@@ -88,14 +99,19 @@ level_together w level x from to k = elim (cases_lt level k) [
 
 -- ---- a level more
 
-pub one_level : (levels level w h x row next columns rows first : ℕ) → level < levels → columns ≡ w * 2 ^ level → rows ≡ h * 2 ^ level → next ≡ (if is_within (2 * columns) (2 * rows) x row then source_of rows row else row)
-    → row_in_turn (levels - level) (w * 2 ^ level) (h * 2 ^ level) x row ≡ first → row_in_turn (levels - (level + 1)) (w * 2 ^ (level + 1)) (h * 2 ^ (level + 1)) x next ≡ first
+pub one_level : (levels level w h x row next columns rows first : ℕ) → level < levels
+    → columns ≡ w * 2 ^ level → rows ≡ h * 2 ^ level
+    → next ≡ (if is_within (2 * columns) (2 * rows) x row then source_of rows row else row)
+    → row_in_turn (levels - level) (w * 2 ^ level) (h * 2 ^ level) x row ≡ first
+    → row_in_turn (levels - (level + 1)) (w * 2 ^ (level + 1)) (h * 2 ^ (level + 1)) x next ≡ first
 unfolding turned
 one_level levels level w h x row next columns rows first lt across down is so_far =
     let left = levels - (level + 1) in
     let rest : levels - level ≡ suc left = omega arith in
-    let twice : (side : ℕ) → side * 2 ^ (level + 1) ≡ 2 * (side * 2 ^ level) = λ side. ap (λ n. side * 2 ^ n) (add-one level) ∙ ap (λ p. side * p) (pow-suc 2 level) ∙ omega arith in
-    let taken : next ≡ turned (w * 2 ^ level) (h * 2 ^ level) x row = is ∙ ap (λ n. turned n rows x row) across ∙ ap (λ n. turned (w * 2 ^ level) n x row) down in
+    let twice : (side : ℕ) → side * 2 ^ (level + 1) ≡ 2 * (side * 2 ^ level) =
+    λ side. ap (λ n. side * 2 ^ n) (add-one level) ∙ ap (λ p. side * p) (pow-suc 2 level) ∙ omega arith in
+    let taken : next ≡ turned (w * 2 ^ level) (h * 2 ^ level) x row = is
+    ∙ ap (λ n. turned n rows x row) across ∙ ap (λ n. turned (w * 2 ^ level) n x row) down in
     ap (λ n. row_in_turn left n (h * 2 ^ (level + 1)) x next) (twice w)
     ∙ ap (λ n. row_in_turn left (2 * (w * 2 ^ level)) n x next) (twice h)
     ∙ ap (row_in_turn left (2 * (w * 2 ^ level)) (2 * (h * 2 ^ level)) x) taken
@@ -103,58 +119,81 @@ one_level levels level w h x row next columns rows first lt across down is so_fa
     ∙ ap (λ n. row_in_turn n (w * 2 ^ level) (h * 2 ^ level) x row) (sym rest)
     ∙ so_far
 
-pub all_turned : (levels level w h x row first : ℕ) → level ≡ levels → row_in_turn (levels - level) (w * 2 ^ level) (h * 2 ^ level) x row ≡ first → row ≡ first
+pub all_turned : (levels level w h x row first : ℕ) → level ≡ levels
+    → row_in_turn (levels - level) (w * 2 ^ level) (h * 2 ^ level) x row ≡ first → row ≡ first
 all_turned levels level w h x row first e so_far =
     let none : 0 ≡ levels - level = omega arith in
-    sym (row_end (w * 2 ^ level) (h * 2 ^ level) x row) ∙ ap (λ n. row_in_turn n (w * 2 ^ level) (h * 2 ^ level) x row) none ∙ so_far
+    sym (row_end (w * 2 ^ level) (h * 2 ^ level) x row)
+    ∙ ap (λ n. row_in_turn n (w * 2 ^ level) (h * 2 ^ level) x row) none ∙ so_far
 
 -- ---- a row more
 
-module _ (levels w h width height from to y row : ℕ) (nested old new : List ℤ) (some : from ≤ to) (wide : to ≤ width)
+module _ (levels w h width height from to y row : ℕ) (nested old new : List ℤ) (some : from ≤ to)
+    (wide : to ≤ width)
     (together : (x t : ℕ) → from ≤ x → x < to → row_in_turn levels w h x t ≡ row_in_turn levels w h from t)
     (is : row ≡ row_in_turn levels w h from y)
-    (on : (x : ℕ) → x < to - from → line_of new (row * width + from + x) ≡ line_of nested (y * width + from + x))
-    (off : (i : ℕ) → (i < row * width + from) ⊎ (row * width + from + (to - from) ≤ i) → line_of new i ≡ line_of old i) where
+    (on : (x : ℕ) → x < to - from
+    → line_of new (row * width + from + x) ≡ line_of nested (y * width + from + x))
+    (off : (i : ℕ) → (i < row * width + from) ⊎ (row * width + from + (to - from) ≤ i)
+    → line_of new i ≡ line_of old i) where
   abbrev pub Turned : ℕ → List ℤ → Type 0
-  Turned rows cells = (x t : ℕ) → from ≤ x → x < to → t < rows → line_of cells (row_in_turn levels w h x t * width + x) ≡ line_of nested (t * width + x)
+  Turned rows cells = (x t : ℕ) → from ≤ x → x < to → t < rows
+      → line_of cells (row_in_turn levels w h x t * width + x) ≡ line_of nested (t * width + x)
 
-  here : (x : ℕ) → from ≤ x → x < to → line_of new (row_in_turn levels w h x y * width + x) ≡ line_of nested (y * width + x)
+  here : (x : ℕ) → from ≤ x → x < to
+      → line_of new (row_in_turn levels w h x y * width + x) ≡ line_of nested (y * width + x)
   here x a b =
-      let place : row_in_turn levels w h x y * width + x ≡ row * width + from + (x - from) = ap (λ n. n * width + x) (together x y a b ∙ sym is) ∙ omega arith in
+      let place : row_in_turn levels w h x y * width + x ≡ row * width + from + (x - from) =
+      ap (λ n. n * width + x) (together x y a b ∙ sym is) ∙ omega arith in
       let source : y * width + from + (x - from) ≡ y * width + x = omega arith in
       ap (line_of new) place ∙ on (x - from) (omega arith) ∙ ap (line_of nested) source
 
-  apart : (x r : ℕ) → x < to → from ≤ x → (r < row) ⊎ (row < r) → line_of new (r * width + x) ≡ line_of old (r * width + x)
-  apart x r b a (inl lt) = (let before = mul-add-lt r width x row lt (omega arith) in off (r * width + x) (inl (omega (arith, before))))
-  apart x r b a (inr gt) = (let past : suc row * width ≤ r * width = mul-le-mul_right width gt in off (r * width + x) (inr (omega (arith, past))))
+  apart : (x r : ℕ) → x < to → from ≤ x → (r < row) ⊎ (row < r)
+      → line_of new (r * width + x) ≡ line_of old (r * width + x)
+  apart x r b a (inl lt) =
+      (let before = mul-add-lt r width x row lt (omega arith) in
+      off (r * width + x) (inl (omega (arith, before))))
+  apart x r b a (inr gt) =
+      (let past : suc row * width ≤ r * width = mul-le-mul_right width gt in
+      off (r * width + x) (inr (omega (arith, past))))
 
   pub turned_more : Turned y old → Turned (y + 1) new
   turned_more before x t a b lt = elim (cases_eq t y) [
     | inl e ↦ rw e (here x a b)
     | inr ne ↦ apart x (row_in_turn levels w h x t) b a
-        (either_way (row_in_turn levels w h x t) row (λ same. ne (rows_apart levels w h from t y (sym (together x t a b) ∙ same ∙ is))))
+        (either_way (row_in_turn levels w h x t) row
+        (λ same. ne (rows_apart levels w h from t y (sym (together x t a b) ∙ same ∙ is))))
         ∙ before x t a b (omega arith)
   ]
 
-  pub turned_left : (first : List ℤ) → ((x t : ℕ) → x < from → line_of old (t * width + x) ≡ line_of first (t * width + x)) → (x t : ℕ) → x < from → line_of new (t * width + x) ≡ line_of first (t * width + x)
+  pub turned_left : (first : List ℤ)
+      → ((x t : ℕ) → x < from → line_of old (t * width + x) ≡ line_of first (t * width + x)) → (x t : ℕ)
+      → x < from → line_of new (t * width + x) ≡ line_of first (t * width + x)
   turned_left first before x t a = left (cases_lt t row) ∙ before x t a
     where
       left : (t < row) ⊎ (row ≤ t) → line_of new (t * width + x) ≡ line_of old (t * width + x)
-      left (inl lt) = (let early : suc t * width ≤ row * width = mul-le-mul_right width lt in off (t * width + x) (inl (omega (arith, early))))
+      left (inl lt) = (let early : suc t * width ≤ row * width = mul-le-mul_right width lt in
+          off (t * width + x) (inl (omega (arith, early))))
       left (inr ge) = elim (cases_eq t row) [
-        | inl e ↦ (let same : t * width ≡ row * width = ap (λ n. n * width) e in off (t * width + x) (inl (omega (arith, same))))
-        | inr ne ↦ (let past : suc row * width ≤ t * width = mul-le-mul_right width (omega arith) in off (t * width + x) (inr (omega (arith, past))))
+        | inl e ↦ (let same : t * width ≡ row * width = ap (λ n. n * width) e in
+            off (t * width + x) (inl (omega (arith, same))))
+        | inr ne ↦ (let past : suc row * width ≤ t * width = mul-le-mul_right width (omega arith) in
+            off (t * width + x) (inr (omega (arith, past))))
       ]
 
 -- ---- the columns of a level more
 
 module _ (levels w h width height level from : ℕ) (nested old new : List ℤ) (is : from ≡ w * 2 ^ level)
-    (on : (x t : ℕ) → from ≤ x → x < 2 * from → t < height → line_of new (row_in_turn levels w h x t * width + x) ≡ line_of nested (t * width + x))
+    (on : (x t : ℕ) → from ≤ x → x < 2 * from → t < height
+    → line_of new (row_in_turn levels w h x t * width + x) ≡ line_of nested (t * width + x))
     (off : (x t : ℕ) → x < from → line_of new (t * width + x) ≡ line_of old (t * width + x)) where
-  pub columns_more : ((x t : ℕ) → x < w * 2 ^ level → t < height → line_of old (row_in_turn levels w h x t * width + x) ≡ line_of nested (t * width + x))
-      → (x t : ℕ) → x < w * 2 ^ (level + 1) → t < height → line_of new (row_in_turn levels w h x t * width + x) ≡ line_of nested (t * width + x)
+  pub columns_more : ((x t : ℕ) → x < w * 2 ^ level → t < height
+      → line_of old (row_in_turn levels w h x t * width + x) ≡ line_of nested (t * width + x))
+      → (x t : ℕ) → x < w * 2 ^ (level + 1) → t < height
+      → line_of new (row_in_turn levels w h x t * width + x) ≡ line_of nested (t * width + x)
   columns_more before x t a b =
-      let twice : w * 2 ^ (level + 1) ≡ 2 * (w * 2 ^ level) = ap (λ n. w * 2 ^ n) (add-one level) ∙ sym (twice_power w level) ∙ omega arith in
+      let twice : w * 2 ^ (level + 1) ≡ 2 * (w * 2 ^ level) = ap (λ n. w * 2 ^ n) (add-one level)
+      ∙ sym (twice_power w level) ∙ omega arith in
       elim (cases_lt x from) [
         | inl lt ↦ off x (row_in_turn levels w h x t) lt ∙ before x t (omega (arith, is)) b
         | inr ge ↦ on x t ge (omega (arith, is, twice)) b

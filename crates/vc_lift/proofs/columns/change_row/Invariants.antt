@@ -5,6 +5,9 @@ use Rattle.vc_lift.proofs.columns.change_row.Given as goal
 
 abbrev pub invariant-loop-x : goal.invariant-loop-x
 invariant-loop-x l = record {
-  done : (i : ℕ) → i < l.x → column_of l.columns.width l.cells i ≡ one_changed (counted_of l.step) l.columns.half l.n (column_of l.columns.width l.initial.cells i);
-  left : (i : ℕ) → l.x ≤ i → i < l.columns.width → column_of l.columns.width l.cells i ≡ column_of l.columns.width l.initial.cells i;
+  done : (i : ℕ) → i < l.x
+      → column_of l.columns.width l.cells i
+      ≡ one_changed (counted_of l.step) l.columns.half l.n (column_of l.columns.width l.initial.cells i);
+  left : (i : ℕ) → l.x ≤ i → i < l.columns.width
+      → column_of l.columns.width l.cells i ≡ column_of l.columns.width l.initial.cells i;
 }

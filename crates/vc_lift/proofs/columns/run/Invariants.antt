@@ -5,4 +5,6 @@ use Rattle.vc_lift.specs.StepLists.{steps_of}
 use Rattle.vc_lift.proofs.columns.run.Given as goal
 
 abbrev pub invariant-loop-i : goal.invariant-loop-i
-invariant-loop-i l = (x : ℕ) → x < l.columns.width → column_of l.columns.width l.cells x ≡ lift_all (take l.i (steps_of l.steps)) l.columns.half (column_of l.columns.width l.initial.cells x)
+invariant-loop-i l = (x : ℕ) → x < l.columns.width
+    → column_of l.columns.width l.cells x
+    ≡ lift_all (take l.i (steps_of l.steps)) l.columns.half (column_of l.columns.width l.initial.cells x)

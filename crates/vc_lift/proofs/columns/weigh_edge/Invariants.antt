@@ -7,6 +7,8 @@ use Rattle.vc_lift.proofs.columns.weigh_edge.Given as goal
 
 abbrev pub invariant-loop-j : goal.invariant-loop-j
 invariant-loop-j l = record {
-  value : l.sum ≡ sum_below l.j (λ j. slice_index_or l.step.taps.now j (pos 0) *ℤ column_of l.columns.width l.cells l.x (place_met (counted_of l.step) l.columns.half l.n j));
+  value : l.sum ≡ sum_below l.j
+      (λ j. slice_index_or l.step.taps.now j (pos 0) *ℤ column_of l.columns.width l.cells l.x
+      (place_met (counted_of l.step) l.columns.half l.n j));
   bound : unsigned_abs l.sum ≤ sum_by unsigned_abs (take l.j l.step.taps.now) * 2 ^ 112;
 }

@@ -16,7 +16,8 @@ unfolding change_at
 returns-clause-bound c =
     let k = c.args.step.now.shift in
     let line = line_in c.args.halves.now c.args.cells.now c.args.x in
-    let made = narrow_shift c.weigh.result _ k (narrow_rounding k c.args.step.now.plain.shift) c.weigh.ensures.bound
+    let made = narrow_shift c.weigh.result _ k
+    (narrow_rounding k c.args.step.now.plain.shift) c.weigh.ensures.bound
     ∙ ap (λ z. int_shr (z +ℤ pos (half_of k)) k) c.weigh.ensures.value in
     rw made
     (change_within (counted_of c.args.step.now) c.args.halves.now.half line c.args.n (2 ^ 31) c.requires.room)

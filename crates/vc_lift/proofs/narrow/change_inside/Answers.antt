@@ -15,17 +15,24 @@ change_run-requires c =
     record {
       small = r.each.lines.small;
       at = omega arith;
-      run = inside_run s c.args.halves.now c.args.lo c.args.hi (length c.args.cells.now) c.args.step.now.plain.parity r.whole some r.each.within (r.left some) (r.right some) r.each.lines;
+      run = inside_run s c.args.halves.now c.args.lo c.args.hi
+          (length c.args.cells.now) c.args.step.now.plain.parity r.whole some r.each.within (r.left some)
+          (r.right some) r.each.lines;
       room = λ x h.
-          inside_room s c.args.halves.now c.args.lo c.args.hi (length c.args.cells.now) c.args.step.now.plain.parity r.whole some r.each.within (r.left some) (r.right some) r.each.lines
-          (2 ^ 31) c.args.cells.now x h (r.each.room 0 (c.args.lo + x) (omega arith) (omega arith) (omega arith));
+          inside_room s c.args.halves.now c.args.lo c.args.hi
+          (length c.args.cells.now) c.args.step.now.plain.parity r.whole some r.each.within (r.left some)
+          (r.right some) r.each.lines
+          (2 ^ 31) c.args.cells.now x h
+          (r.each.room 0 (c.args.lo + x) (omega arith) (omega arith) (omega arith));
     }
 
 pub returns-then-lo-hi : goal.returns-then-lo-hi
 returns-then-lo-hi c =
     let r = c.requires in
     let some = c.if-lo-hi.true in
-    inside_made (counted_of c.args.step.now) c.args.halves.now c.args.lo c.args.hi (length c.args.cells.now) c.args.step.now.plain.parity r.whole some r.each.within (r.left some) (r.right some) r.each.lines
+    inside_made (counted_of c.args.step.now) c.args.halves.now c.args.lo c.args.hi
+    (length c.args.cells.now) c.args.step.now.plain.parity r.whole some r.each.within (r.left some)
+    (r.right some) r.each.lines
     c.args.cells.now c.change_run.new.cells c.change_run.ensures
 
 pub returns-else-lo-hi : goal.returns-else-lo-hi
@@ -34,6 +41,7 @@ returns-else-lo-hi c =
     let half = c.args.halves.now.half in
     let end : c.args.lo ≡ c.args.hi = omega arith in
     record {
-      on = λ x k one h. (let line = line_in c.args.halves.now c.args.cells.now x in between_none s half c.args.lo line k ∙ ap (λ n. lift_between s half c.args.lo n line k) end);
+      on = λ x k one h. (let line = line_in c.args.halves.now c.args.cells.now x in
+          between_none s half c.args.lo line k ∙ ap (λ n. lift_between s half c.args.lo n line k) end);
       off = λ i none j. line_of c.args.cells.now i;
     }

@@ -8,11 +8,13 @@ with_taps-requires c =
 
 pub with_taps-requires-then-eq-2 : goal.with_taps-requires-then-eq-2
 with_taps-requires-then-eq-2 c =
-    (slice_eq-Decides Decides-int_eq c.args.step.now.taps.now _ c.eq-else-eq.result c.eq-else-eq.ensures).0 c.if-eq-2.true
+    (slice_eq-Decides Decides-int_eq c.args.step.now.taps.now _ c.eq-else-eq.result c.eq-else-eq.ensures).0
+    c.if-eq-2.true
 
 pub with_taps-requires-then-eq-3 : goal.with_taps-requires-then-eq-3
 with_taps-requires-then-eq-3 c =
-    (slice_eq-Decides Decides-int_eq c.args.step.now.taps.now _ c.eq-else-eq-2.result c.eq-else-eq-2.ensures).0 c.if-eq-3.true
+    (slice_eq-Decides Decides-int_eq c.args.step.now.taps.now _ c.eq-else-eq-2.result
+    c.eq-else-eq-2.ensures).0 c.if-eq-3.true
 
 pub change_signed-requires : goal.change_signed-requires
 change_signed-requires c = rw c.with_taps.ensures c.requires

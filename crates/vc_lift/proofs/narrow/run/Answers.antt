@@ -15,8 +15,10 @@ loop-i-init c = record { on = λ x k h lt. refl; off = λ i none. refl }
 pub lift-requires-clause-range : goal.lift-requires-clause-range
 lift-requires-clause-range c = λ x h.
     let ss = steps_of c.args.steps.now in
-    range_now ss c.args.halves.now.half (line_in c.args.halves.now c.args.cells.now x) (line_in c.args.halves.now c.loop-i.cells x) c.loop-i.i (counted_of c.step_at-step.result)
-    c.requires.lines.some (parities_of ss c.args.steps.now.little) (c.requires.narrow x h) c.step_at-step.ensures (omega arith) (λ k lt. c.loop-i.invariant.on x k h lt)
+    range_now ss c.args.halves.now.half (line_in c.args.halves.now c.args.cells.now x)
+    (line_in c.args.halves.now c.loop-i.cells x) c.loop-i.i (counted_of c.step_at-step.result)
+    c.requires.lines.some (parities_of ss c.args.steps.now.little)
+    (c.requires.narrow x h) c.step_at-step.ensures (omega arith) (λ k lt. c.loop-i.invariant.on x k h lt)
 
 pub loop-i-preserved : goal.loop-i-preserved
 loop-i-preserved c =
@@ -27,8 +29,10 @@ loop-i-preserved c =
       on = λ x k h lt.
           (let before = line_in c.args.halves.now c.args.cells.now x in
           c.lift.ensures.on x k h lt
-          ∙ same_lift half c.requires.lines.some s (line_in c.args.halves.now c.loop-i.cells x) (lift_all (take c.loop-i.i ss) half before) (λ j under. c.loop-i.invariant.on x j h under) k lt
-          ∙ sym (ap (λ f. f k) (lift_all_more ss half before c.loop-i.i s (omega arith) c.step_at-step.ensures)));
+          ∙ same_lift half c.requires.lines.some s (line_in c.args.halves.now c.loop-i.cells x)
+          (lift_all (take c.loop-i.i ss) half before) (λ j under. c.loop-i.invariant.on x j h under) k lt
+          ∙ sym (ap (λ f. f k)
+          (lift_all_more ss half before c.loop-i.i s (omega arith) c.step_at-step.ensures)));
       off = λ i none. c.lift.ensures.off i none ∙ c.loop-i.invariant.off i none;
     }
 

@@ -12,6 +12,7 @@ pub returns-clause-value : goal.returns-clause-value
 returns-clause-value c =
     let bounds = c.loop-i.bounds in
     sym (c.loop-i.invariant.same
-    ∙ ap (λ ts. bound_after (2 ^ 31) ts bounds.0 bounds.1) (drop_all c.loop-i.i (steps_of c.args.steps.now) (omega arith))
+    ∙ ap (λ ts. bound_after (2 ^ 31) ts bounds.0 bounds.1)
+    (drop_all c.loop-i.i (steps_of c.args.steps.now) (omega arith))
     ∙ bound_none (2 ^ 31) bounds.0 bounds.1
     ∙ ap Some (sym c.max.ensures))

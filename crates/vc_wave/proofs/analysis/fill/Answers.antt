@@ -10,4 +10,7 @@ pub loop-x-preserved : goal.loop-x-preserved
 loop-x-preserved c = grind (arith, common_steps, mul-add-lt, sample_read, to_z-of_z, above_kept, row_more)
 
 pub loop-y-preserved : goal.loop-y-preserved
-loop-y-preserved c = rows_filled c.args.columns c.loop-y.y c.loop-x.cells (padded_sample c.args.plane.now c.args.depth) c.loop-x.invariant.above (λ u h. c.loop-x.invariant.row u (omega arith))
+loop-y-preserved c =
+    rows_filled c.args.columns c.loop-y.y c.loop-x.cells
+    (padded_sample c.args.plane.now c.args.depth) c.loop-x.invariant.above
+    (λ u h. c.loop-x.invariant.row u (omega arith))

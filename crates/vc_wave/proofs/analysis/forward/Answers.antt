@@ -11,12 +11,14 @@ use Rattle.vc_wave.proofs.PlaneGrowth.{forward_below}
 use Rattle.vc_wave.proofs.analysis.forward.Goals as goal
 
 -- all cells are filled
-whole : (c : goal.After-deref_mut) → length c.fill.new.cells ≡ c.padded-width.result.1 * c.padded-width.result.0
+whole : (c : goal.After-deref_mut)
+    → length c.fill.new.cells ≡ c.padded-width.result.1 * c.padded-width.result.0
 whole c = omega (arith, c.in_ok-cells.ensures.len)
 
 filled : (c : goal.After-deref_mut) → AreBelow (2 ^ 16) (plane_of c.padded-width.result.0 c.fill.new.cells)
 filled c =
-    filled_below c.args.plane.now c.padded-width.result.0 c.padded-width.result.1 c.sample_depth.result c.fill.new.cells
+    filled_below c.args.plane.now c.padded-width.result.0 c.padded-width.result.1 c.sample_depth.result
+    c.fill.new.cells
     c.fill.ensures (whole c) (omega arith) c.sample_depth.ensures.range.0
     (rw c.sample_depth.ensures.value c.requires.samples) c.sample_depth.ensures.range.1
 
@@ -32,7 +34,8 @@ part_levels-requires-clause-room c =
       across = omega (arith, width);
       down = (let rows = ap (λ n. n * c.padded-width.result.0) height in omega (arith, all, rows));
       row = omega (arith, width, c.in_ok-scratch.ensures.len);
-      side_by_side = (let rows = ap (λ n. n * BLOCK) height in omega (arith, rows, c.in_ok-scratch.ensures.len));
+      side_by_side = (let rows = ap (λ n. n * BLOCK) height in
+          omega (arith, rows, c.in_ok-scratch.ensures.len));
     } in
     rw (l.levels, l.pitch, l.w, l.h) (whole_room p c.args.c c.padded-width.result.0 _ BLOCK _ room)
 
@@ -45,7 +48,8 @@ made_is c =
     let len : c.in_ok-cells.cells.len ≡ length c.part_levels.new.cells = omega arith in
     c.new.ensures
     ∙ ap (lattice c.padded-width.result.0 c.padded-width.result.1)
-    (written_over c.in_ok-cells.cells.len c.part_levels.new.cells (drop (length c.part_levels.new.cells) c.in_ok-cells.cells.items) len)
+    (written_over c.in_ok-cells.cells.len c.part_levels.new.cells
+    (drop (length c.part_levels.new.cells) c.in_ok-cells.cells.items) len)
 
 pub returns-clause-value : goal.returns-clause-value
 returns-clause-value c = λ x y a b.
@@ -58,18 +62,22 @@ returns-clause-value c = λ x y a b.
     let grid = lattice c.padded-width.result.0 c.padded-width.result.1 c.part_levels.new.cells in
     let made = rw (l.levels, l.pitch, l.down, l.w, l.h) at c.part_levels.ensures in
     ap (λ (g : Lattice). cell_at g x y) is
-    ∙ ap (λ f. f x y) (cell_at_plane grid (omega (arith, whole c.before.before.before.before.before, c.part_levels.auto.cells)))
+    ∙ ap (λ f. f x y) (cell_at_plane grid
+    (omega (arith, whole c.before.before.before.before.before, c.part_levels.auto.cells)))
     ∙ ap (λ f. f x y) made
-    ∙ filled_levels c.args.plane.now c.padded-width.result.0 c.padded-width.result.1 c.sample_depth.result c.fill.new.cells
+    ∙ filled_levels c.args.plane.now c.padded-width.result.0 c.padded-width.result.1 c.sample_depth.result
+    c.fill.new.cells
     c.fill.ensures (parameters_of c.args.plan.now) c.args.c width height c.requires.width c.requires.height
-    c.sample_depth.ensures.value c.requires.symmetric x y (omega (arith, wide, width, a)) (omega (arith, high, height, b))
+    c.sample_depth.ensures.value c.requires.symmetric x y (omega (arith, wide, width, a))
+    (omega (arith, high, height, b))
 
 pub returns-clause-small : goal.returns-clause-small
 returns-clause-small c =
     let plan = c.args.plan.now in
     let l = c.levels_of in
     let made = rw (l.ensures.levels, l.ensures.pitch, l.ensures.down) at c.part_levels.ensures in
-    lattice_below (2 ^ 60) c.padded-width.result.0 c.padded-width.result.1 c.new.result c.part_levels.new.cells
+    lattice_below (2 ^ 60) c.padded-width.result.0 c.padded-width.result.1 c.new.result
+    c.part_levels.new.cells
     (omega arith) (made_is c)
     (forward_below plan.wavelet plan.depth l.result.nesting.w l.result.nesting.h _ _ (omega arith) made
     (filled c.before.before.before.before.before))

@@ -11,8 +11,15 @@ loop-n-init c = search (rules, no_levels)
 pub merge_level-requires-clause-room : goal.merge_level-requires-clause-room
 merge_level-requires-clause-room c =
     let l = c.args.levels in
-    rw (c.level.ensures.w, c.level.ensures.h, c.level.ensures.pitch, c.loop-n.auto.cells, c.loop-n.auto.scratch)
-    (level_room l.nesting.w l.nesting.h c.loop-n.n l.nesting.levels _ _ _ _ c.loop-n-test.true c.requires.room)
+    rw (
+      c.level.ensures.w,
+      c.level.ensures.h,
+      c.level.ensures.pitch,
+      c.loop-n.auto.cells,
+      c.loop-n.auto.scratch,
+    )
+    (level_room l.nesting.w l.nesting.h c.loop-n.n l.nesting.levels _ _ _ _ c.loop-n-test.true
+    c.requires.room)
 
 pub merge_level-requires-clause-small : goal.merge_level-requires-clause-small
 merge_level-requires-clause-small c =
@@ -22,15 +29,23 @@ merge_level-requires-clause-small c =
     rw (c.level.ensures.pitch, c.loop-n.invariant)
     (below_more (first + 8 * c.loop-n.n) 100
     (inverse_levels l.wavelets.down l.wavelets.across c.loop-n.n l.nesting.w l.nesting.h before) (omega arith)
-    (inverse_levels_grow l.wavelets.down l.wavelets.across c.loop-n.n l.nesting.w l.nesting.h first before (omega arith)
+    (inverse_levels_grow l.wavelets.down l.wavelets.across c.loop-n.n l.nesting.w l.nesting.h first before
+    (omega arith)
     c.requires.small))
 
 pub loop-n-preserved : goal.loop-n-preserved
 loop-n-preserved c =
     let l = c.args.levels in
-    next_level l.wavelets.down l.wavelets.across c.loop-n.n l.nesting.w l.nesting.h (plane_of l.pitch c.args.cells.now)
+    next_level l.wavelets.down l.wavelets.across c.loop-n.n l.nesting.w l.nesting.h
+    (plane_of l.pitch c.args.cells.now)
     (plane_of l.pitch c.loop-n.cells) (plane_of l.pitch c.merge_level.new.cells) c.loop-n.invariant
-    (rw (c.level.ensures.wavelets, c.level.ensures.w, c.level.ensures.h, c.level.ensures.pitch) at c.merge_level.ensures)
+    (rw (
+      c.level.ensures.wavelets,
+      c.level.ensures.w,
+      c.level.ensures.h,
+      c.level.ensures.pitch,
+    ) at c.merge_level.ensures)
 
 pub returns : goal.returns
-returns c = (let end : c.loop-n.n ≡ c.args.levels.nesting.levels = omega arith in rw end at c.loop-n.invariant)
+returns c = (let end : c.loop-n.n ≡ c.args.levels.nesting.levels = omega arith in
+    rw end at c.loop-n.invariant)

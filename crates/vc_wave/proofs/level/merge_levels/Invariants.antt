@@ -4,4 +4,7 @@ use Rattle.vc_wave.specs.Planes.{plane_of}
 use Rattle.vc_wave.proofs.level.merge_levels.Given as goal
 
 abbrev pub invariant-loop-n : goal.invariant-loop-n
-invariant-loop-n l = plane_of l.levels.pitch l.cells ≡ inverse_levels l.levels.wavelets.down l.levels.wavelets.across l.n l.levels.nesting.w l.levels.nesting.h (plane_of l.levels.pitch l.initial.cells)
+invariant-loop-n l =
+    plane_of l.levels.pitch l.cells
+    ≡ inverse_levels l.levels.wavelets.down l.levels.wavelets.across l.n l.levels.nesting.w l.levels.nesting.h
+    (plane_of l.levels.pitch l.initial.cells)

@@ -13,7 +13,10 @@ remake_columns-requires-clause-small c =
     let l = c.args.level in
     let wavelet = l.wavelets.down in
     let before = plane_of l.pitch c.args.cells.now in
-    rw c.remake_rows.ensures (below_more 104 107 (on_rows (remade Analysis wavelet (is_shifted wavelet) l.w) (2 * l.h) before) (omega arith) (rows_grow Analysis wavelet (is_shifted wavelet) l.w (2 * l.h) 100 before (omega arith) c.requires.small))
+    rw c.remake_rows.ensures
+    (below_more 104 107 (on_rows (remade Analysis wavelet (is_shifted wavelet) l.w) (2 * l.h) before)
+    (omega arith) (rows_grow Analysis wavelet (is_shifted wavelet) l.w (2 * l.h) 100 before
+    (omega arith) c.requires.small))
 
 pub returns : goal.returns
 returns c =

@@ -8,13 +8,21 @@ use Rattle.vc_wave.proofs.level.part_levels.Goals as goal
 pub part_level-requires-clause-room : goal.part_level-requires-clause-room
 part_level-requires-clause-room c =
     let l = c.args.levels in
-    rw (c.level.ensures.w, c.level.ensures.h, c.level.ensures.pitch, c.loop-n.auto.cells, c.loop-n.auto.scratch)
-    (level_room l.nesting.w l.nesting.h (l.nesting.levels - 1 - c.loop-n.n) l.nesting.levels _ _ _ _ (omega arith) c.requires.room)
+    rw (
+      c.level.ensures.w,
+      c.level.ensures.h,
+      c.level.ensures.pitch,
+      c.loop-n.auto.cells,
+      c.loop-n.auto.scratch,
+    )
+    (level_room l.nesting.w l.nesting.h (l.nesting.levels - 1 - c.loop-n.n) l.nesting.levels _ _ _ _
+    (omega arith) c.requires.room)
 
 pub part_level-requires-clause-small : goal.part_level-requires-clause-small
 part_level-requires-clause-small c =
     rw c.level.ensures.pitch
-    (below_more (16 + 8 * c.loop-n.n) 100 (plane_of c.args.levels.pitch c.loop-n.cells) (omega arith) c.loop-n.invariant.small)
+    (below_more (16 + 8 * c.loop-n.n) 100 (plane_of c.args.levels.pitch c.loop-n.cells)
+    (omega arith) c.loop-n.invariant.small)
 
 pub loop-n-preserved : goal.loop-n-preserved
 loop-n-preserved c =
@@ -29,13 +37,21 @@ loop-n-preserved c =
     let after : l.nesting.levels - (c.loop-n.n + 1) ≡ left = omega arith in
     let size : 16 + 8 * c.loop-n.n + 8 ≡ 16 + 8 * (c.loop-n.n + 1) = omega arith in
     let is : made ≡ forward_level wavelet (w * 2 ^ left) (h * 2 ^ left) now =
-    rw (c.level.ensures.wavelets, c.level.ensures.w, c.level.ensures.h, c.level.ensures.pitch) at c.part_level.ensures in
+    rw (
+      c.level.ensures.wavelets,
+      c.level.ensures.w,
+      c.level.ensures.h,
+      c.level.ensures.pitch,
+    ) at c.part_level.ensures in
     record {
       value = rw after
-          (next_forward wavelet left w h now made (forward_levels wavelet l.nesting.levels w h (plane_of l.pitch c.args.cells.now)) is
+          (next_forward wavelet left w h now made
+          (forward_levels wavelet l.nesting.levels w h (plane_of l.pitch c.args.cells.now)) is
           (rw before at c.loop-n.invariant.value));
-      small = subst (λ n. AreBelow (2 ^ n) made) size (subst (λ (p : Cells). AreBelow (2 ^ (16 + 8 * c.loop-n.n + 8)) p) (sym is)
-          (forward_level_grows wavelet (w * 2 ^ left) (h * 2 ^ left) (16 + 8 * c.loop-n.n) now (omega arith) c.loop-n.invariant.small));
+      small = subst (λ n. AreBelow (2 ^ n) made) size
+          (subst (λ (p : Cells). AreBelow (2 ^ (16 + 8 * c.loop-n.n + 8)) p) (sym is)
+          (forward_level_grows wavelet (w * 2 ^ left) (h * 2 ^ left) (16 + 8 * c.loop-n.n) now
+          (omega arith) c.loop-n.invariant.small));
     }
 
 pub returns : goal.returns

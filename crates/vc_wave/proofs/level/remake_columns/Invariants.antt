@@ -6,7 +6,9 @@ use Rattle.vc_wave.proofs.level.remake_columns.Given as goal
 
 abbrev pub invariant-loop-start : goal.invariant-loop-start
 invariant-loop-start l = record {
-  done : plane_of l.level.pitch l.cells ≡ on_columns (remade l.fn.direction l.level.wavelets.down false l.level.h) l.start (plane_of l.level.pitch l.initial.cells);
+  done : plane_of l.level.pitch l.cells
+      ≡ on_columns (remade l.fn.direction l.level.wavelets.down false l.level.h) l.start
+      (plane_of l.level.pitch l.initial.cells);
   within : l.start ≤ 2 * l.level.w;
 }
 

@@ -16,7 +16,8 @@ remake-requires-clause-small c = λ x k h lt.
     let shifted = c.is_shifted-shifted.result in
     let first : x ≡ 0 = omega arith in
     let once : k * 1 + 0 ≡ k = omega arith in
-    let left = row_left (remade c.args.direction rows.wavelet shifted rows.half) rows.pitch c.loop-y.y (2 * rows.half)
+    let left = row_left (remade c.args.direction rows.wavelet shifted rows.half) rows.pitch c.loop-y.y
+    (2 * rows.half)
     c.args.cells.now c.loop-y.cells (remade_pass c.args.direction rows.wavelet shifted rows.half)
     c.requires.room.across c.loop-y.invariant k lt in
     let place : c.loop-y.y * rows.pitch + k * 1 + x ≡ c.loop-y.y * rows.pitch + k = omega arith in
@@ -27,8 +28,10 @@ loop-y-preserved c =
     let rows = c.args.rows in
     let f = remade c.args.direction rows.wavelet c.is_shifted-shifted.result rows.half in
     rows_more f rows.pitch c.loop-y.y (2 * rows.half) c.args.cells.now c.loop-y.cells
-    (remade_pass c.args.direction rows.wavelet c.is_shifted-shifted.result rows.half) c.requires.room.across c.loop-y.invariant
-    c.remake.new.cells (row_of_line f (c.loop-y.y * rows.pitch) rows.half c.loop-y.cells c.remake.new.cells c.remake.ensures)
+    (remade_pass c.args.direction rows.wavelet c.is_shifted-shifted.result rows.half) c.requires.room.across
+    c.loop-y.invariant
+    c.remake.new.cells (row_of_line f
+    (c.loop-y.y * rows.pitch) rows.half c.loop-y.cells c.remake.new.cells c.remake.ensures)
 
 pub returns : goal.returns
 returns c =

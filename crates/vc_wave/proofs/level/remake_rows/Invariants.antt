@@ -5,4 +5,7 @@ use Rattle.vc_wave.specs.Planes.{plane_of}
 use Rattle.vc_wave.proofs.level.remake_rows.Given as goal
 
 abbrev pub invariant-loop-y : goal.invariant-loop-y
-invariant-loop-y l = plane_of l.rows.pitch l.cells ≡ on_rows (remade l.fn.direction l.rows.wavelet l.pass.shifted l.rows.half) l.y (plane_of l.rows.pitch l.initial.cells)
+invariant-loop-y l =
+    plane_of l.rows.pitch l.cells
+    ≡ on_rows (remade l.fn.direction l.rows.wavelet l.pass.shifted l.rows.half) l.y
+    (plane_of l.rows.pitch l.initial.cells)

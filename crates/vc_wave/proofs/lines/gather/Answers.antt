@@ -13,13 +13,16 @@ sample_place-requires-clause-half c = grind (arith, half_small)
 pub overflow_add-start : goal.overflow_add-start
 overflow_add-start c =
     let place = c.sample_place.ensures in
-    let within = rw (← place) at (placed_inside c.args.lines.now (length c.args.cells.now) c.requires.inside c.args.apart c.loop-k.k c.loop-k-test.true) in
+    let within = rw (← place) at
+    (placed_inside c.args.lines.now
+    (length c.args.cells.now) c.requires.inside c.args.apart c.loop-k.k c.loop-k-test.true) in
     omega (arith, within)
 
 pub copy-requires-clause-start : goal.copy-requires-clause-start
 copy-requires-clause-start c =
     rw c.sample_place.ensures
-    (placed_inside c.args.lines.now (length c.args.cells.now) c.requires.inside c.args.apart c.loop-k.k c.loop-k-test.true)
+    (placed_inside c.args.lines.now
+    (length c.args.cells.now) c.requires.inside c.args.apart c.loop-k.k c.loop-k-test.true)
 
 pub loop-k-preserved : goal.loop-k-preserved
 loop-k-preserved c =

@@ -5,4 +5,5 @@ use Rattle.vc_wave.specs.Remade.{sample_place}
 use Rattle.vc_wave.proofs.lines.gather.Given as goal
 
 abbrev pub invariant-loop-k : goal.invariant-loop-k
-invariant-loop-k l = (x j : ℕ) → x < l.lines.width → j < l.k → column_of l.lines.width l.block x j ≡ line_at l.cells l.lines x (sample_place l.apart l.lines.half j)
+invariant-loop-k l = (x j : ℕ) → x < l.lines.width → j < l.k
+    → column_of l.lines.width l.block x j ≡ line_at l.cells l.lines x (sample_place l.apart l.lines.half j)

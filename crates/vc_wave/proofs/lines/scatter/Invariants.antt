@@ -7,6 +7,8 @@ use Rattle.vc_wave.proofs.lines.scatter.Given as goal
 
 abbrev pub invariant-loop-k : goal.invariant-loop-k
 invariant-loop-k l = record {
-  on : (x j : ℕ) → x < l.lines.width → j < l.k → line_at l.cells l.lines x (sample_place l.apart l.lines.half j) ≡ column_of l.lines.width l.block x j;
-  off : (i : ℕ) → ((x j : ℕ) → x < l.lines.width → j < 2 * l.lines.half → i ≢ l.lines.start + j * l.lines.step + x) → line_of l.cells i ≡ line_of l.initial.cells i;
+  on : (x j : ℕ) → x < l.lines.width → j < l.k
+      → line_at l.cells l.lines x (sample_place l.apart l.lines.half j) ≡ column_of l.lines.width l.block x j;
+  off : (i : ℕ) → ((x j : ℕ) → x < l.lines.width → j < 2 * l.lines.half
+      → i ≢ l.lines.start + j * l.lines.step + x) → line_of l.cells i ≡ line_of l.initial.cells i;
 }

@@ -7,7 +7,8 @@ use Rattle.vc_wave.proofs.narrow.merge_across.Goals as goal
 
 pub loop-level-init : goal.loop-level-init
 loop-level-init c = record {
-  made = no_across c.args.rows.wavelet c.args.rows.half c.args.rows.count (plane_of c.args.rows.pitch c.args.cells.now);
+  made = no_across c.args.rows.wavelet c.args.rows.half c.args.rows.count
+      (plane_of c.args.rows.pitch c.args.cells.now);
   within = c.requires.within;
   small = c.requires.most;
 }

@@ -6,7 +6,8 @@ use Rattle.vc_wave.proofs.narrow.merge_across.Given as goal
 
 abbrev pub invariant-loop-level : goal.invariant-loop-level
 invariant-loop-level l = record {
-  made : plane_of l.rows.pitch l.cells ≡ levels_across l.rows.wavelet l.level l.rows.half l.rows.count (plane_of l.rows.pitch l.initial.cells);
+  made : plane_of l.rows.pitch l.cells
+      ≡ levels_across l.rows.wavelet l.level l.rows.half l.rows.count (plane_of l.rows.pitch l.initial.cells);
   within : AreWithin l.bound l.cells;
   small : l.bound < 2 ^ 31;
 }

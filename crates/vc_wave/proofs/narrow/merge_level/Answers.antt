@@ -12,8 +12,10 @@ merge_columns-requires-clause-bound c = has_bound (rw c.in_ok-made.was at c.colu
 pub rows_reach-requires-clause-within : goal.rows_reach-requires-clause-within
 rows_reach-requires-clause-within c =
     let l = c.args.level in
-    columns_within l.wavelets.down l.h (2 * l.w) l.pitch c.in_ok-made.made c.args.cells.now c.merge_columns.new.cells
-    (omega arith) (omega (arith, c.requires.room.across)) (rw c.in_ok-made.was at c.columns_reach.ensures.value)
+    columns_within l.wavelets.down l.h
+    (2 * l.w) l.pitch c.in_ok-made.made c.args.cells.now c.merge_columns.new.cells
+    (omega arith) (omega (arith, c.requires.room.across))
+    (rw c.in_ok-made.was at c.columns_reach.ensures.value)
     c.merge_columns.ensures
 
 pub merge_rows-requires-clause-bound : goal.merge_rows-requires-clause-bound
@@ -24,11 +26,13 @@ unfolding level_in_turn
 returns-clause-made c =
     let l = c.args.level in
     c.merge_rows.ensures
-    ∙ ap (on_rows (remade Synthesis l.wavelets.across (is_shifted l.wavelets.across) l.w) (2 * l.h)) c.merge_columns.ensures
+    ∙ ap (on_rows (remade Synthesis l.wavelets.across (is_shifted l.wavelets.across) l.w)
+    (2 * l.h)) c.merge_columns.ensures
 
 pub returns-clause-within : goal.returns-clause-within
 returns-clause-within c =
     let l = c.args.level in
-    rows_within l.wavelets.across l.w (2 * l.h) l.pitch c.in_ok-after.after c.merge_columns.new.cells c.merge_rows.new.cells
+    rows_within l.wavelets.across l.w
+    (2 * l.h) l.pitch c.in_ok-after.after c.merge_columns.new.cells c.merge_rows.new.cells
     (omega arith) (omega (arith, c.requires.room.across)) (rw c.in_ok-after.was at c.rows_reach.ensures.value)
     c.merge_rows.ensures

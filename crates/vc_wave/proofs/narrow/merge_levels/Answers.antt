@@ -6,7 +6,8 @@ pub loop-n-init : goal.loop-n-init
 loop-n-init c =
     let l = c.args.levels in
     record {
-      made = first_laid l.wavelets.down l.wavelets.across l.nesting.levels l.nesting.w l.nesting.h l.pitch _ c.args.cells.now refl;
+      made = first_laid l.wavelets.down l.wavelets.across l.nesting.levels l.nesting.w l.nesting.h l.pitch _
+          c.args.cells.now refl;
       within = c.requires.within;
       small = c.requires.most;
     }
@@ -14,26 +15,41 @@ loop-n-init c =
 pub side_at-pitch-requires-clause-fits : goal.side_at-pitch-requires-clause-fits
 side_at-pitch-requires-clause-fits c =
     let l = c.args.levels in
-    let fits = pitch_fits l.pitch l.nesting.h l.nesting.levels (l.nesting.levels - 1 - c.loop-n.n) (length c.args.cells.now)
+    let fits = pitch_fits l.pitch l.nesting.h l.nesting.levels (l.nesting.levels - 1 - c.loop-n.n)
+    (length c.args.cells.now)
     l.some_rows (omega arith) c.requires.room.down in
     omega (arith, fits)
 
 pub merge_level-requires-clause-room : goal.merge_level-requires-clause-room
 merge_level-requires-clause-room c =
     let l = c.args.levels in
-    rw (c.level.ensures.w, c.level.ensures.h, c.level.ensures.pitch, c.side_at-pitch.ensures, c.loop-n.auto.cells, c.loop-n.auto.line)
+    rw (
+      c.level.ensures.w,
+      c.level.ensures.h,
+      c.level.ensures.pitch,
+      c.side_at-pitch.ensures,
+      c.loop-n.auto.cells,
+      c.loop-n.auto.line,
+    )
     (turn_room l.nesting.w l.nesting.h l.nesting.levels l.pitch _ _ c.requires.room c.loop-n.n
     (omega (arith, c.loop-n-test.true, c.requires.count)))
 
 pub loop-n-preserved : goal.loop-n-preserved
 loop-n-preserved c =
     let l = c.args.levels in
-    let made = rw (c.in_ok-bound.was, c.level.ensures.wavelets, c.level.ensures.pitch) at c.merge_level.ensures.made in
+    let made = rw (
+      c.in_ok-bound.was,
+      c.level.ensures.wavelets,
+      c.level.ensures.pitch,
+    ) at c.merge_level.ensures.made in
     record {
       made =
-          next_laid l.wavelets.down l.wavelets.across l.nesting.levels l.nesting.w l.nesting.h l.pitch _ c.loop-n.n
-          c.loop-n.cells c.merge_level.new.cells (omega (arith, c.loop-n-test.true, c.requires.count)) c.requires.room.across
-          c.loop-n.invariant.made c.side_at-pitch.result c.level.result.w c.level.result.h c.side_at-pitch.ensures
+          next_laid l.wavelets.down l.wavelets.across l.nesting.levels l.nesting.w l.nesting.h l.pitch _
+          c.loop-n.n
+          c.loop-n.cells c.merge_level.new.cells
+          (omega (arith, c.loop-n-test.true, c.requires.count)) c.requires.room.across
+          c.loop-n.invariant.made c.side_at-pitch.result c.level.result.w c.level.result.h
+          c.side_at-pitch.ensures
           c.level.ensures.w c.level.ensures.h made;
       within = rw c.in_ok-bound.was at c.merge_level.ensures.within;
       small = rw c.in_ok-bound.was at c.merge_level.ensures.small;

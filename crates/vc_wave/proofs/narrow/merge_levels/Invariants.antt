@@ -7,7 +7,11 @@ use Rattle.vc_wave.proofs.narrow.merge_levels.Given as goal
 
 abbrev pub invariant-loop-n : goal.invariant-loop-n
 invariant-loop-n l = record {
-  made : laid_out (l.levels.nesting.levels - l.n) (l.levels.nesting.w * 2 ^ l.n) (l.levels.nesting.h * 2 ^ l.n) (plane_of l.levels.pitch l.cells) ≡ inverse_levels l.levels.wavelets.down l.levels.wavelets.across l.n l.levels.nesting.w l.levels.nesting.h (laid_out l.levels.nesting.levels l.levels.nesting.w l.levels.nesting.h (plane_of l.levels.pitch l.initial.cells));
+  made : laid_out (l.levels.nesting.levels - l.n) (l.levels.nesting.w * 2 ^ l.n)
+      (l.levels.nesting.h * 2 ^ l.n) (plane_of l.levels.pitch l.cells)
+      ≡ inverse_levels l.levels.wavelets.down l.levels.wavelets.across l.n l.levels.nesting.w
+      l.levels.nesting.h (laid_out l.levels.nesting.levels l.levels.nesting.w l.levels.nesting.h
+      (plane_of l.levels.pitch l.initial.cells));
   within : AreWithin l.bound l.cells;
   small : l.bound < 2 ^ 31;
 }

@@ -4,14 +4,18 @@ use Rattle.vc_wave.proofs.narrow.merge_row.Goals as goal
 
 pub synth_narrow-requires-clause-narrow : goal.synth_narrow-requires-clause-narrow
 synth_narrow-requires-clause-narrow c =
-    synthesis_narrow c.args.start c.args.half c.args.wavelet c.requires.some.0 c.args.cells.now c.args.cells.now c.requires.bound
+    synthesis_narrow c.args.start c.args.half c.args.wavelet c.requires.some.0 c.args.cells.now
+    c.args.cells.now c.requires.bound
 
 pub weave-requires-clause-small : goal.weave-requires-clause-small
 weave-requires-clause-small c = λ h.
-    shift_room c.args.start c.args.half c.args.wavelet c.requires.some.0 c.args.cells.now c.synth_narrow.new.cells c.requires.bound
+    shift_room c.args.start c.args.half c.args.wavelet c.requires.some.0 c.args.cells.now
+    c.synth_narrow.new.cells c.requires.bound
     c.synth_narrow.ensures.on (sym c.is_shifted.ensures ∙ h)
 
 pub returns : goal.returns
 returns c =
-    row_merged c.args.start c.args.half c.args.wavelet c.requires.some.0 c.args.cells.now c.synth_narrow.new.cells c.requires.bound
-    c.synth_narrow.ensures.on _ c.weave.new.cells c.synth_narrow.ensures.off (rw c.is_shifted.ensures at c.weave.ensures)
+    row_merged c.args.start c.args.half c.args.wavelet c.requires.some.0 c.args.cells.now
+    c.synth_narrow.new.cells c.requires.bound
+    c.synth_narrow.ensures.on _ c.weave.new.cells c.synth_narrow.ensures.off
+    (rw c.is_shifted.ensures at c.weave.ensures)

@@ -17,8 +17,10 @@ pub merge_row-requires-clause-bound : goal.merge_row-requires-clause-bound
 merge_row-requires-clause-bound c =
     let rows = c.args.rows in
     let shifted = is_shifted rows.wavelet in
-    row_bound (remade Synthesis rows.wavelet shifted rows.half) rows.pitch c.loop-y.y (2 * rows.half) c.args.cells.now c.loop-y.cells
-    (remade_pass Synthesis rows.wavelet shifted rows.half) c.requires.across c.loop-y.invariant (rows_bound rows.wavelet) c.requires.bound
+    row_bound (remade Synthesis rows.wavelet shifted rows.half) rows.pitch c.loop-y.y
+    (2 * rows.half) c.args.cells.now c.loop-y.cells
+    (remade_pass Synthesis rows.wavelet shifted rows.half) c.requires.across c.loop-y.invariant
+    (rows_bound rows.wavelet) c.requires.bound
 
 pub loop-y-preserved : goal.loop-y-preserved
 loop-y-preserved c = search (rules, rows_more, remade_pass)

@@ -7,4 +7,7 @@ use Rattle.vc_wave.specs.Remade.{remade}
 use Rattle.vc_wave.proofs.narrow.merge_rows.Given as goal
 
 abbrev pub invariant-loop-y : goal.invariant-loop-y
-invariant-loop-y l = plane_of l.rows.pitch l.cells ≡ on_rows (remade Synthesis l.rows.wavelet (is_shifted l.rows.wavelet) l.rows.half) l.y (plane_of l.rows.pitch l.initial.cells)
+invariant-loop-y l =
+    plane_of l.rows.pitch l.cells
+    ≡ on_rows (remade Synthesis l.rows.wavelet (is_shifted l.rows.wavelet) l.rows.half) l.y
+    (plane_of l.rows.pitch l.initial.cells)

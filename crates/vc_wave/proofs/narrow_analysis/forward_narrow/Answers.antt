@@ -14,7 +14,8 @@ part_levels-requires-clause-room c =
     let p = parameters_of c.args.plan.now in
     let l = c.levels_of.ensures in
     rw (l.levels, l.pitch, l.w, l.h, c.padded-width.ensures.width)
-    (all_rooms p c.args.c (padded_width p c.args.c) (length c.fill.new.cells) (length c.args.line.now) (omega arith)
+    (all_rooms p c.args.c (padded_width p c.args.c) (length c.fill.new.cells) (length c.args.line.now)
+    (omega arith)
     (omega (arith, c.fill.auto.cells, c.requires.cells)) c.requires.line)
 
 pub part_levels-requires-clause-bound : goal.part_levels-requires-clause-bound
@@ -23,12 +24,15 @@ part_levels-requires-clause-bound c =
     let depth = c.sample_depth.result in
     let whole : length c.fill.new.cells ≡ c.padded-width.result.1 * c.padded-width.result.0 =
     rw (c.padded-width.ensures.width, c.padded-width.ensures.height) (c.fill.auto.cells ∙ c.requires.cells) in
-    let b = bound_there (parted_level_bound p.wavelet) p.depth (2 ^ (depth - 1)) (rw c.sample_depth.ensures.value c.requires.narrow) in
+    let b = bound_there (parted_level_bound p.wavelet) p.depth (2 ^ (depth - 1))
+    (rw c.sample_depth.ensures.value c.requires.narrow) in
     rw (c.levels_of.ensures.down, c.levels_of.ensures.levels) (record {
       most = 2 ^ (depth - 1);
       after = b.bound;
-      small = filled_within c.args.plane.now c.padded-width.result.0 c.padded-width.result.1 depth c.fill.new.cells c.fill.ensures
-          whole (omega arith) c.sample_depth.ensures.range.0 (rw c.sample_depth.ensures.value c.requires.samples);
+      small = filled_within c.args.plane.now c.padded-width.result.0 c.padded-width.result.1 depth
+          c.fill.new.cells c.fill.ensures
+          whole (omega arith) c.sample_depth.ensures.range.0
+          (rw c.sample_depth.ensures.value c.requires.samples);
       fits = b.is;
     })
 

@@ -21,9 +21,12 @@ part_columns-requires-clause-bound c =
     record {
       most = m.made;
       after = b.after;
-      small = made_within l.pitch b.most m.made (on_rows (remade Analysis l.wavelets.down (is_shifted l.wavelets.down) l.w) (2 * l.h))
-          c.args.cells.now c.part_rows.new.cells (omega (arith, c.requires.room.across)) b.small c.part_rows.ensures
-          (level_rows_at_most l.wavelets.down b.most b.after b.fits l.w l.h (plane_of l.pitch c.args.cells.now) (omega arith));
+      small = made_within l.pitch b.most m.made
+          (on_rows (remade Analysis l.wavelets.down (is_shifted l.wavelets.down) l.w) (2 * l.h))
+          c.args.cells.now c.part_rows.new.cells
+          (omega (arith, c.requires.room.across)) b.small c.part_rows.ensures
+          (level_rows_at_most l.wavelets.down b.most b.after b.fits l.w l.h
+          (plane_of l.pitch c.args.cells.now) (omega arith));
       fits = m.down;
     }
 
@@ -31,4 +34,5 @@ pub returns : goal.returns
 unfolding parted_in_turn
 returns c =
     let l = c.args.level in
-    c.part_columns.ensures ∙ ap (on_columns (analysed l.wavelets.down (2 * l.h)) (2 * l.w)) c.part_rows.ensures
+    c.part_columns.ensures
+    ∙ ap (on_columns (analysed l.wavelets.down (2 * l.h)) (2 * l.w)) c.part_rows.ensures

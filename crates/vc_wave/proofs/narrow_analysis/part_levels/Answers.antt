@@ -11,22 +11,33 @@ pub loop-n-init : goal.loop-n-init
 loop-n-init c =
     let l = c.args.levels in
     record {
-      made = first_parted l.wavelets.down l.nesting.levels l.nesting.w l.nesting.h l.pitch _ c.args.cells.now refl;
-      small = λ m b first e i. (let same = bound_zero (parted_level_bound l.wavelets.down) m b e in rw (sym same) (first i));
+      made = first_parted l.wavelets.down l.nesting.levels l.nesting.w l.nesting.h l.pitch _ c.args.cells.now
+          refl;
+      small = λ m b first e i. (let same = bound_zero (parted_level_bound l.wavelets.down) m b e in
+          rw (sym same) (first i));
     }
 
 pub side_at-pitch-requires-clause-fits : goal.side_at-pitch-requires-clause-fits
 side_at-pitch-requires-clause-fits c =
     let l = c.args.levels in
-    let fits = pitch_fits l.pitch l.nesting.h l.nesting.levels c.loop-n.n (length c.args.cells.now) l.some_rows (omega arith)
+    let fits = pitch_fits l.pitch l.nesting.h l.nesting.levels c.loop-n.n
+    (length c.args.cells.now) l.some_rows (omega arith)
     c.requires.room.down in
     omega (arith, fits)
 
 pub part_level-requires-clause-room : goal.part_level-requires-clause-room
 part_level-requires-clause-room c =
     let l = c.args.levels in
-    rw (c.level.ensures.w, c.level.ensures.h, c.level.ensures.pitch, c.side_at-pitch.ensures, c.loop-n.auto.cells, c.loop-n.auto.line)
-    (parted_room l.nesting.w l.nesting.h l.nesting.levels l.pitch _ _ c.requires.room c.loop-n.n c.loop-n-test.true)
+    rw (
+      c.level.ensures.w,
+      c.level.ensures.h,
+      c.level.ensures.pitch,
+      c.side_at-pitch.ensures,
+      c.loop-n.auto.cells,
+      c.loop-n.auto.line,
+    )
+    (parted_room l.nesting.w l.nesting.h l.nesting.levels l.pitch _ _ c.requires.room c.loop-n.n
+    c.loop-n-test.true)
 
 pub part_level-requires-clause-bound : goal.part_level-requires-clause-bound
 part_level-requires-clause-bound c =
@@ -36,7 +47,13 @@ part_level-requires-clause-bound c =
     let r = reached_at carry l.nesting.levels (c.loop-n.n + 1) b.most b.after (omega arith) b.fits in
     let m = one_more carry c.loop-n.n b.most r.bound r.is in
     rw c.level.ensures.wavelets
-    (record { most = m.before; after = r.bound; small = c.loop-n.invariant.small b.most m.before b.small m.so_far; fits = m.next })
+    (record {
+      most = m.before;
+      after = r.bound;
+      small = c.loop-n.invariant.small b.most m.before b.small
+          m.so_far;
+      fits = m.next;
+    })
 
 pub loop-n-preserved : goal.loop-n-preserved
 loop-n-preserved c =
@@ -48,22 +65,35 @@ loop-n-preserved c =
     let pitch = c.side_at-pitch.result in
     let wide = level_some l.nesting.w left l.some_columns in
     let high = level_some l.nesting.h left l.some_rows in
-    let room = parted_room l.nesting.w l.nesting.h l.nesting.levels l.pitch _ _ c.requires.room n c.loop-n-test.true in
-    let made : plane_of pitch c.part_level.new.cells ≡ parted_in_turn l.wavelets.down w h (plane_of pitch c.loop-n.cells) =
-    rw (c.level.ensures.wavelets, c.level.ensures.pitch, c.level.ensures.w, c.level.ensures.h) at c.part_level.ensures in
+    let room = parted_room l.nesting.w l.nesting.h l.nesting.levels l.pitch _ _ c.requires.room n
+    c.loop-n-test.true in
+    let made : plane_of pitch c.part_level.new.cells
+    ≡ parted_in_turn l.wavelets.down w h (plane_of pitch c.loop-n.cells) =
+    rw (
+      c.level.ensures.wavelets,
+      c.level.ensures.pitch,
+      c.level.ensures.w,
+      c.level.ensures.h,
+    ) at c.part_level.ensures in
     record {
       made =
-          next_parted l.wavelets.down l.nesting.levels l.nesting.w l.nesting.h l.pitch _ n c.loop-n.cells c.part_level.new.cells
-          c.loop-n-test.true c.requires.room.across c.loop-n.invariant.made pitch w h c.side_at-pitch.ensures refl refl made;
+          next_parted l.wavelets.down l.nesting.levels l.nesting.w l.nesting.h l.pitch _ n c.loop-n.cells
+          c.part_level.new.cells
+          c.loop-n-test.true c.requires.room.across c.loop-n.invariant.made pitch w h c.side_at-pitch.ensures
+          refl refl made;
       small = λ m b first e.
           (let o = one_more (parted_level_bound l.wavelets.down) n m b e in
-          made_within pitch o.before b (parted_in_turn l.wavelets.down w h) c.loop-n.cells c.part_level.new.cells
-          (omega (arith, wide, c.side_at-pitch.ensures, room.across)) (c.loop-n.invariant.small m o.before first o.so_far) made
-          (λ small. parted_at_most l.wavelets.down o.before b o.next w h (plane_of pitch c.loop-n.cells) wide small high));
+          made_within pitch o.before b
+          (parted_in_turn l.wavelets.down w h) c.loop-n.cells c.part_level.new.cells
+          (omega (arith, wide, c.side_at-pitch.ensures, room.across))
+          (c.loop-n.invariant.small m o.before first o.so_far) made
+          (λ small. parted_at_most l.wavelets.down o.before b o.next w h
+          (plane_of pitch c.loop-n.cells) wide small high));
     }
 
 pub returns : goal.returns
 returns c =
     let l = c.args.levels in
-    last_parted l.wavelets.down l.nesting.levels l.nesting.w l.nesting.h l.pitch _ c.loop-n.n c.loop-n.cells (omega arith)
+    last_parted l.wavelets.down l.nesting.levels l.nesting.w l.nesting.h l.pitch _ c.loop-n.n c.loop-n.cells
+    (omega arith)
     c.loop-n.invariant.made

@@ -13,7 +13,8 @@ put_level-requires-clause-plane c =
     let l = c.levels_of-levels.ensures in
     let level = c.level-level.ensures in
     rw (level.w, level.h, level.pitch, l.w, l.h, c.merge_below.auto.cells)
-    (highest_room p c.args.c (omega arith) c.args.format.columns c.args.format.rows c.args.stride (length c.args.cells.now)
+    (highest_room p c.args.c (omega arith) c.args.format.columns c.args.format.rows c.args.stride
+    (length c.args.cells.now)
     r.columns r.rows r.range.0 r.range.1 r.stride r.cells)
 
 pub put_level-requires-clause-within : goal.put_level-requires-clause-within
@@ -26,5 +27,14 @@ returns c = λ whole x y h lt.
     let level = c.level-level.ensures in
     let made = highest_made p c.args.c (omega arith) c.args.stride c.merge_below.new.cells
     (nested_in p c.args.c c.args.stride c.args.cells.now) (rw c.in-Some.is at c.merge_below.ensures.made) in
-    (rw (level.wavelets, level.pitch, level.w, level.h, l.down, l.across, l.w, l.h) at c.put_level.ensures whole x y h lt)
+    (rw (
+      level.wavelets,
+      level.pitch,
+      level.w,
+      level.h,
+      l.down,
+      l.across,
+      l.w,
+      l.h,
+    ) at c.put_level.ensures whole x y h lt)
     ∙ ap (λ (f : Cells). output_sample c.args.format.depth (f x y)) made

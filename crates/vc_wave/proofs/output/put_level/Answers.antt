@@ -10,7 +10,8 @@ merge_columns-requires-clause-bound c = has_bound (rw c.in-Some.is at c.columns_
 pub rows_reach-requires-clause-within : goal.rows_reach-requires-clause-within
 rows_reach-requires-clause-within c =
     let l = c.args.level in
-    columns_within l.wavelets.down l.h (2 * l.w) l.pitch c.in-Some.made c.args.cells.now c.merge_columns.new.cells
+    columns_within l.wavelets.down l.h
+    (2 * l.w) l.pitch c.in-Some.made c.args.cells.now c.merge_columns.new.cells
     (omega arith) (omega (arith, c.requires.plane.across)) (rw c.in-Some.is at c.columns_reach.ensures.value)
     c.merge_columns.ensures
 

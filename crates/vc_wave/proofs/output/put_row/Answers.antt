@@ -5,11 +5,13 @@ use Rattle.vc_wave.proofs.output.put_row.Goals as goal
 
 pub synth_narrow-requires-clause-narrow : goal.synth_narrow-requires-clause-narrow
 synth_narrow-requires-clause-narrow c =
-    synthesis_narrow c.args.start c.args.half c.args.wavelet c.requires.some.0 c.args.cells.now c.args.cells.now c.requires.bound
+    synthesis_narrow c.args.start c.args.half c.args.wavelet c.requires.some.0 c.args.cells.now
+    c.args.cells.now c.requires.bound
 
 pub weave_samples-requires-clause-small : goal.weave_samples-requires-clause-small
 weave_samples-requires-clause-small c = λ h.
-    shift_room c.args.start c.args.half c.args.wavelet c.requires.some.0 c.args.cells.now c.synth_narrow.new.cells c.requires.bound
+    shift_room c.args.start c.args.half c.args.wavelet c.requires.some.0 c.args.cells.now
+    c.synth_narrow.new.cells c.requires.bound
     c.synth_narrow.ensures.on (sym c.is_shifted.ensures ∙ h)
 
 pub returns-clause-on : goal.returns-clause-on
@@ -17,7 +19,8 @@ returns-clause-on c = λ k h.
     c.weave_samples.ensures.on k h
     ∙ ap (output_sample c.args.format.depth)
     (rw c.is_shifted.ensures
-    (sample_value c.args.start c.args.half c.args.wavelet c.requires.some.0 c.args.cells.now c.synth_narrow.new.cells c.requires.bound
+    (sample_value c.args.start c.args.half c.args.wavelet c.requires.some.0 c.args.cells.now
+    c.synth_narrow.new.cells c.requires.bound
     c.synth_narrow.ensures.on k (omega (arith, h, c.requires.width))))
 
 pub returns-clause-beside : goal.returns-clause-beside

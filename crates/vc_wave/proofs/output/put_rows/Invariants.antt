@@ -9,6 +9,10 @@ use Rattle.vc_wave.proofs.output.put_rows.Given as goal
 
 abbrev pub invariant-loop-y : goal.invariant-loop-y
 invariant-loop-y l = record {
-  put : (x t : ℕ) → x < l.format.columns → t < l.y → slice_index_or l.samples (t * l.format.columns + x) 0 ≡ output_sample l.format.depth (remade Synthesis l.rows.wavelet (is_shifted l.rows.wavelet) l.rows.half (λ k. plane_of l.rows.pitch l.initial.cells k t) x);
+  put : (x t : ℕ) → x < l.format.columns → t < l.y
+      → slice_index_or l.samples (t * l.format.columns + x) 0
+      ≡ output_sample l.format.depth
+      (remade Synthesis l.rows.wavelet (is_shifted l.rows.wavelet) l.rows.half
+      (λ k. plane_of l.rows.pitch l.initial.cells k t) x);
   left : (i : ℕ) → l.y * l.rows.pitch ≤ i → line_of l.cells i ≡ line_of l.initial.cells i;
 }

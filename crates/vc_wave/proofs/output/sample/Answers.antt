@@ -14,4 +14,5 @@ returns c =
     let high = to_z w32 (of_z w32 (to_z w32 (of_z w32 half) -ℤ pos 1)) in
     let below : low ≡ neg_ℤ half = omega (arith, ints) in
     let above : high ≡ half -ℤ pos 1 = omega (arith, ints) in
-    omega (arith, ints) ∙ output_sample-is c.args.depth c.args.cell _ c.clamp.result half low high is (to_z-of_z w32 c.args.cell c.ranges.cell) below above c.clamp.ensures.value
+    omega (arith, ints) ∙ output_sample-is c.args.depth c.args.cell _ c.clamp.result half low high is
+    (to_z-of_z w32 c.args.cell c.ranges.cell) below above c.clamp.ensures.value

@@ -6,7 +6,12 @@ use Rattle.vc_wave.proofs.output.weave_samples.Given as goal
 
 abbrev pub invariant-loop-k : goal.invariant-loop-k
 invariant-loop-k l = record {
-  even : (i : ℕ) → i < l.k → slice_index_or l.samples (l.at + 2 * i) 0 ≡ output_sample l.format.depth (shifted_down l.shifted (line_of l.cells (l.start + i)));
-  odd : (i : ℕ) → i < l.k → slice_index_or l.samples (l.at + (2 * i + 1)) 0 ≡ output_sample l.format.depth (shifted_down l.shifted (line_of l.cells (l.start + (l.half + i))));
-  off : (i : ℕ) → (i < l.at) ⊎ (l.at + 2 * l.k ≤ i) → slice_index_or l.samples i 0 ≡ slice_index_or l.initial.samples i 0;
+  even : (i : ℕ) → i < l.k
+      → slice_index_or l.samples (l.at + 2 * i) 0
+      ≡ output_sample l.format.depth (shifted_down l.shifted (line_of l.cells (l.start + i)));
+  odd : (i : ℕ) → i < l.k
+      → slice_index_or l.samples (l.at + (2 * i + 1)) 0
+      ≡ output_sample l.format.depth (shifted_down l.shifted (line_of l.cells (l.start + (l.half + i))));
+  off : (i : ℕ) → (i < l.at) ⊎ (l.at + 2 * l.k ≤ i)
+      → slice_index_or l.samples i 0 ≡ slice_index_or l.initial.samples i 0;
 }

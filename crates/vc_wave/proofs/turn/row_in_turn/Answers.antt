@@ -18,4 +18,5 @@ loop-level-preserved c = grind (arith, one_level)
 pub returns : goal.returns
 returns c =
     let n = c.args.nesting in
-    all_turned n.levels c.loop-level.level n.w n.h c.args.x c.loop-level.row _ (omega arith) c.loop-level.invariant
+    all_turned n.levels c.loop-level.level n.w n.h c.args.x c.loop-level.row _
+    (omega arith) c.loop-level.invariant

@@ -27,13 +27,15 @@ turn_columns-requires-clause-together c x y a b =
 pub side_at-from-requires-clause-fits : goal.side_at-from-requires-clause-fits
 side_at-from-requires-clause-fits c =
     let n = c.nesting_of-nesting in
-    let fits = level_fits n.result.w c.loop-level.level n.result.levels (omega (arith, n.ensures.levels, c.loop-level-test.true)) in
+    let fits = level_fits n.result.w c.loop-level.level n.result.levels
+    (omega (arith, n.ensures.levels, c.loop-level-test.true)) in
     omega (arith, fits, n.ensures.small)
 
 pub overflow_mul-from : goal.overflow_mul-from
 overflow_mul-from c =
     let n = c.nesting_of-nesting in
-    let fits = level_fits n.result.w c.loop-level.level n.result.levels (omega (arith, n.ensures.levels, c.loop-level-test.true)) in
+    let fits = level_fits n.result.w c.loop-level.level n.result.levels
+    (omega (arith, n.ensures.levels, c.loop-level-test.true)) in
     omega (arith, fits, n.ensures.small, c.side_at-from.ensures)
 
 pub turn_columns-requires-in-loop-level-clause-small : goal.turn_columns-requires-in-loop-level-clause-small
@@ -46,8 +48,15 @@ turn_columns-requires-in-loop-level-clause-high c =
 
 pub turn_columns-requires-in-loop-level-clause-columns : goal.turn_columns-requires-in-loop-level-clause-columns
 turn_columns-requires-in-loop-level-clause-columns c =
-    let fits = level_width (parameters_of c.args.plan.now) c.args.c c.loop-level.level c.loop-level-test.true in
-    (omega arith, rw (c.side_at-from.ensures, c.nesting_of-nesting.ensures.w, c.padded-width.ensures.width) fits)
+    let fits = level_width
+    (parameters_of c.args.plan.now) c.args.c c.loop-level.level c.loop-level-test.true in (
+      omega arith,
+      rw (
+        c.side_at-from.ensures,
+        c.nesting_of-nesting.ensures.w,
+        c.padded-width.ensures.width,
+      ) fits,
+    )
 
 pub turn_columns-requires-in-loop-level-clause-together : goal.turn_columns-requires-in-loop-level-clause-together
 turn_columns-requires-in-loop-level-clause-together c x y a b =
@@ -62,12 +71,21 @@ pub loop-level-preserved : goal.loop-level-preserved
 loop-level-preserved c =
     let n = c.nesting_of-nesting.result in
     let turn = c.turn_columns-in-loop-level in
-    columns_more n.levels n.w n.h c.padded-width.result.0 c.padded-width.result.1 c.loop-level.level c.side_at-from.result
-    c.args.nested.now c.loop-level.cells turn.new.cells c.side_at-from.ensures turn.ensures.on turn.ensures.off c.loop-level.invariant
+    columns_more n.levels n.w n.h c.padded-width.result.0 c.padded-width.result.1 c.loop-level.level
+    c.side_at-from.result
+    c.args.nested.now c.loop-level.cells turn.new.cells c.side_at-from.ensures turn.ensures.on
+    turn.ensures.off c.loop-level.invariant
 
 pub returns : goal.returns
 returns c =
     let n = c.nesting_of-nesting.ensures in
     let end : c.loop-level.level ≡ c.args.plan.now.depth = omega arith in
     rows_turned (parameters_of c.args.plan.now) c.args.c c.args.nested.now c.loop-level.cells
-    (rw (end, n.levels, n.w, n.h, c.padded-width.ensures.width, c.padded-width.ensures.height) at c.loop-level.invariant)
+    (rw (
+      end,
+      n.levels,
+      n.w,
+      n.h,
+      c.padded-width.ensures.width,
+      c.padded-width.ensures.height,
+    ) at c.loop-level.invariant)

@@ -19,6 +19,11 @@ invariant_of-result c =
     record {
       some_columns = omega (arith, level_some l.nesting.w n l.some_columns, c.side_at.ensures);
       some_rows = omega (arith, level_some l.nesting.h n l.some_rows, c.side_at-2.ensures);
-      narrow = omega (arith, level_fits l.nesting.w n l.nesting.levels c.requires, c.side_at.ensures, l.narrow);
+      narrow = omega (
+        arith,
+        level_fits l.nesting.w n l.nesting.levels c.requires,
+        c.side_at.ensures,
+        l.narrow,
+      );
       low = omega (arith, level_fits l.nesting.h n l.nesting.levels c.requires, c.side_at-2.ensures, l.low);
     }
