@@ -17,7 +17,7 @@ use Rattle.vc_wave.specs.Layout.{row_in_turn, nested_in}
 use Rattle.vc_wave.specs.Planes.{plane_of}
 use Rattle.vc_wave.proofs.Copies.{either_way}
 use Rattle.vc_wave.proofs.Grids.{padded_whole}
-use Rattle.vc_wave.proofs.Levels.{level_fits}
+use Rattle.vc_wave.proofs.Levels.{level_fits, twice_side}
 use Rattle.vc_wave.proofs.PlaneSteps.{plane_in}
 use Rattle.vc_wave.proofs.TransformLocality.{side_parts, less}
 use Rattle.vc_wave.proofs.LayoutLaws.{turned, turned_in, turned_right, turned_below, row_step, row_end}
@@ -42,13 +42,20 @@ level_below w h levels x y height high below = elim (cases_lt x (2 * w)) [
 ]
 
 -- no row leaves the grid
-pub row_below : (levels w h x y height : ℕ) → h * 2 ^ levels ≤ height → y < height
+row_below : (levels w h x y height : ℕ) → h * 2 ^ levels ≤ height → y < height
     → row_in_turn levels w h x y < height
 row_below zero w h x y height high below = rw (row_end w h x y) below
 row_below (suc levels) w h x y height high below =
     rw (row_step levels w h x y)
     (row_below levels (2 * w) (2 * h) x (turned w h x y) height (omega (arith, twice_power h levels))
     (level_below w h levels x y height high below))
+
+pub row_room : (levels w h x y height width row : ℕ) → row ≡ row_in_turn levels w h x y
+    → h * 2 ^ levels ≤ height → y < height → row * width + width ≤ height * width
+row_room levels w h x y height width row is high below =
+    let inside : row < height = rw is (row_below levels w h x y height high below) in
+    let all : suc row * width ≤ height * width = mul-le-mul_right width inside in
+    omega (arith, all)
 
 -- columns that lie together in each level have the same rows
 abbrev pub AreTogether : ℕ → ℕ → ℕ → Type 0
@@ -107,17 +114,10 @@ pub one_level : (levels level w h x row next columns rows first : ℕ) → level
 unfolding turned
 one_level levels level w h x row next columns rows first lt across down is so_far =
     let left = levels - (level + 1) in
-    let rest : levels - level ≡ suc left = omega arith in
-    let twice : (side : ℕ) → side * 2 ^ (level + 1) ≡ 2 * (side * 2 ^ level) =
-    λ side. ap (λ n. side * 2 ^ n) (add-one level) ∙ ap (λ p. side * p) (pow-suc 2 level) ∙ omega arith in
-    let taken : next ≡ turned (w * 2 ^ level) (h * 2 ^ level) x row = is
-    ∙ ap (λ n. turned n rows x row) across ∙ ap (λ n. turned (w * 2 ^ level) n x row) down in
-    ap (λ n. row_in_turn left n (h * 2 ^ (level + 1)) x next) (twice w)
-    ∙ ap (λ n. row_in_turn left (2 * (w * 2 ^ level)) n x next) (twice h)
-    ∙ ap (row_in_turn left (2 * (w * 2 ^ level)) (2 * (h * 2 ^ level)) x) taken
-    ∙ sym (row_step left (w * 2 ^ level) (h * 2 ^ level) x row)
-    ∙ ap (λ n. row_in_turn n (w * 2 ^ level) (h * 2 ^ level) x row) (sym rest)
-    ∙ so_far
+    let rest : suc left ≡ levels - level = omega arith in
+    let taken : next ≡ turned (w * 2 ^ level) (h * 2 ^ level) x row = rw (across, down) at is in
+    rw (twice_side w level, twice_side h level, taken)
+    (rw (← rest, row_step left (w * 2 ^ level) (h * 2 ^ level) x row) at so_far)
 
 pub all_turned : (levels level w h x row first : ℕ) → level ≡ levels
     → row_in_turn (levels - level) (w * 2 ^ level) (h * 2 ^ level) x row ≡ first → row ≡ first

@@ -45,6 +45,7 @@ fn copy(to: &mut [i128], at: usize, from: &[i128], start: usize, width: usize)
 
 // Copies lines of a grid to columns of a block.
 #[inline(always)]
+#[tactic(auto, using(crate::proofs::Copies::half_small))]
 fn gather(cells: &[i128], lines: &Lines, apart: bool, block: &mut [i128])
     requires inside { IsInside lines.now (length cells.now) }
     requires block { length block.old ≡ 2 * lines.now.half * lines.now.width }
@@ -60,6 +61,7 @@ fn gather(cells: &[i128], lines: &Lines, apart: bool, block: &mut [i128])
 
 // Copies columns of a block to lines of a grid.
 #[inline(always)]
+#[tactic(auto, using(crate::proofs::Copies::half_small))]
 fn scatter(cells: &mut [i128], lines: &Lines, apart: bool, block: &[i128])
     requires inside { IsInside lines.now (length cells.old) }
     requires block { length block.now ≡ 2 * lines.now.half * lines.now.width }

@@ -1,14 +1,11 @@
-use Rattle.std.proofs.Common.{◌≡◌, ◌+◌, ◌*◌, arith}
-use Rattle.vc_wave.specs.Planes.{plane_of}
+use Rattle.std.proofs.Common.{rules, ◌≡◌, ◌+◌, ◌*◌, arith}
 use Rattle.vc_wave.specs.Remade.{remade}
 use Rattle.vc_wave.proofs.PlaneSteps.{rows_none, row_of_line, row_left, rows_more}
 use Rattle.vc_wave.proofs.Weaving.{remade_pass}
 use Rattle.vc_wave.proofs.level.remake_rows.Goals as goal
 
 pub loop-y-init : goal.loop-y-init
-loop-y-init c =
-    rows_none (remade c.args.direction c.args.rows.wavelet c.is_shifted-shifted.result c.args.rows.half)
-    (plane_of c.args.rows.pitch c.args.cells.now)
+loop-y-init c = search (rules, rows_none)
 
 pub remake-requires-clause-small : goal.remake-requires-clause-small
 remake-requires-clause-small c = λ x k h lt.
@@ -24,14 +21,7 @@ remake-requires-clause-small c = λ x k h lt.
     rw (place, left) (c.requires.small k c.loop-y.y)
 
 pub loop-y-preserved : goal.loop-y-preserved
-loop-y-preserved c =
-    let rows = c.args.rows in
-    let f = remade c.args.direction rows.wavelet c.is_shifted-shifted.result rows.half in
-    rows_more f rows.pitch c.loop-y.y (2 * rows.half) c.args.cells.now c.loop-y.cells
-    (remade_pass c.args.direction rows.wavelet c.is_shifted-shifted.result rows.half) c.requires.room.across
-    c.loop-y.invariant
-    c.remake.new.cells (row_of_line f
-    (c.loop-y.y * rows.pitch) rows.half c.loop-y.cells c.remake.new.cells c.remake.ensures)
+loop-y-preserved c = search (rules, rows_more, row_of_line, remade_pass)
 
 pub returns : goal.returns
 returns c =

@@ -1,14 +1,8 @@
 use Rattle.std.proofs.Common.{length, arith}
 use Rattle.vc_wave.specs.Lines.{line_at}
 use Rattle.vc_wave.specs.Remade.{sample_place}
-use Rattle.vc_wave.proofs.Copies.{placed_inside, half_small, gathered_more}
+use Rattle.vc_wave.proofs.Copies.{placed_inside, gathered_more}
 use Rattle.vc_wave.proofs.lines.gather.Goals as goal
-
-pub overflow_mul-k-end : goal.overflow_mul-k-end
-overflow_mul-k-end c = grind (arith, half_small)
-
-pub sample_place-requires-clause-half : goal.sample_place-requires-clause-half
-sample_place-requires-clause-half c = grind (arith, half_small)
 
 pub overflow_add-start : goal.overflow_add-start
 overflow_add-start c =

@@ -1,12 +1,6 @@
 use Rattle.std.proofs.Common.{length, arith}
-use Rattle.vc_wave.proofs.Copies.{placed_inside, half_small, scattered_on, scattered_off}
+use Rattle.vc_wave.proofs.Copies.{placed_inside, scattered_on, scattered_off}
 use Rattle.vc_wave.proofs.lines.scatter.Goals as goal
-
-pub overflow_mul-k-end : goal.overflow_mul-k-end
-overflow_mul-k-end c = grind (arith, half_small)
-
-pub sample_place-requires-clause-half : goal.sample_place-requires-clause-half
-sample_place-requires-clause-half c = grind (arith, half_small)
 
 pub overflow_add-at : goal.overflow_add-at
 overflow_add-at c =
