@@ -166,7 +166,7 @@ module _ (start half : ℕ) where
   row_beside old new beside i out = grind (arith, row_place, half_place_below)
 
   module _ (wavelet : ℕ) (some : 0 < half) where
-    module _ (old mid : List ℤ) (bound : RowHasBound (rows_bound wavelet) old start (2 * half)) where
+    module _ (old : List ℤ) (bound : RowHasBound (rows_bound wavelet) old start (2 * half)) where
       made : RowsMade wavelet bound.most bound.after
       made = rows_made wavelet bound.most bound.after bound.fits
 
@@ -181,7 +181,8 @@ module _ (start half : ℕ) where
           (line_in (row_halves start half) old u)) first
           (record { most = bound.most; after = made.made; small = old_small; fits = made.synthesised })
 
-      module _ (synth : (x k : ℕ) → x < 1 → k < 2 * half → line_in (row_halves start half) mid x k
+      module _ (mid : List ℤ)
+          (synth : (x k : ℕ) → x < 1 → k < 2 * half → line_in (row_halves start half) mid x k
           ≡ synthesised wavelet (2 * half) (line_in (row_halves start half) old x) k) where
         mid_small : (k : ℕ) → k < 2 * half → unsigned_abs (row_from mid start (half_place half k)) ≤ made.made
         mid_small k h =
@@ -231,7 +232,7 @@ module _ (start half : ℕ) where
           off = λ i out. weave.off i out ∙ row_beside old mid beside i out;
         }
 
-    module _ (old mid : List ℤ) (bound : RowHasBound (parted_rows_bound wavelet) old start (2 * half)) where
+    module _ (old : List ℤ) (bound : RowHasBound (parted_rows_bound wavelet) old start (2 * half)) where
       parts : RowsParted wavelet bound.most bound.after
       parts = rows_parted wavelet bound.most bound.after bound.fits
 
@@ -243,7 +244,7 @@ module _ (start half : ℕ) where
       abbrev doubles : Line
       doubles = on_samples doubled (is_shifted wavelet) (2 * half) (row_from old start)
 
-      module _ (unweave : IsRowMade
+      module _ (mid : List ℤ) (unweave : IsRowMade
           (λ l. halves_apart half (on_samples doubled (is_shifted wavelet) (2 * half) l)) start
           (2 * half) old mid) where
         -- the samples as they are doubled

@@ -1,27 +1,23 @@
-use Rattle.std.proofs.Common.{arith, ap, sym, ◌∙◌}
+use Rattle.std.proofs.Common.{rules, arith, ap, sym, ◌∙◌}
 use Rattle.vc_types.specs.Planes.{output_sample}
 use Rattle.vc_wave.proofs.RowHalves.{synthesis_narrow, shift_room, sample_value, row_beside}
 use Rattle.vc_wave.proofs.output.put_row.Goals as goal
 
 pub synth_narrow-requires-clause-narrow : goal.synth_narrow-requires-clause-narrow
-synth_narrow-requires-clause-narrow c =
-    synthesis_narrow c.args.start c.args.half c.args.wavelet c.requires.some.0 c.args.cells.now
-    c.args.cells.now c.requires.bound
+synth_narrow-requires-clause-narrow c = search (rules, synthesis_narrow)
 
 pub weave_samples-requires-clause-small : goal.weave_samples-requires-clause-small
 weave_samples-requires-clause-small c = λ h.
-    shift_room c.args.start c.args.half c.args.wavelet c.requires.some.0 c.args.cells.now
-    c.synth_narrow.new.cells c.requires.bound
-    c.synth_narrow.ensures.on (sym c.is_shifted.ensures ∙ h)
+    shift_room c.args.start c.args.half c.args.wavelet c.requires.some.0 c.args.cells.now c.requires.bound
+    c.synth_narrow.new.cells c.synth_narrow.ensures.on (sym c.is_shifted.ensures ∙ h)
 
 pub returns-clause-on : goal.returns-clause-on
 returns-clause-on c = λ k h.
     c.weave_samples.ensures.on k h
     ∙ ap (output_sample c.args.format.depth)
     (rw c.is_shifted.ensures
-    (sample_value c.args.start c.args.half c.args.wavelet c.requires.some.0 c.args.cells.now
-    c.synth_narrow.new.cells c.requires.bound
-    c.synth_narrow.ensures.on k (omega (arith, h, c.requires.width))))
+    (sample_value c.args.start c.args.half c.args.wavelet c.requires.some.0 c.args.cells.now c.requires.bound
+    c.synth_narrow.new.cells c.synth_narrow.ensures.on k (omega (arith, h, c.requires.width))))
 
 pub returns-clause-beside : goal.returns-clause-beside
 returns-clause-beside c =
