@@ -11,22 +11,18 @@ loop-n-init c = search (rules, no_levels)
 pub merge_level-requires-clause-room : goal.merge_level-requires-clause-room
 merge_level-requires-clause-room c =
     let l = c.args.levels in
-    rw (
-      c.level.ensures.w,
-      c.level.ensures.h,
-      c.level.ensures.pitch,
-      c.loop-n.auto.cells,
-      c.loop-n.auto.scratch,
-    )
+    let level = c.level.ensures in
+    rw (level.w, level.h, level.pitch, c.loop-n.auto.cells, c.loop-n.auto.scratch)
     (level_room l.nesting.w l.nesting.h c.loop-n.n l.nesting.levels _ _ _ _ c.loop-n-test.true
     c.requires.room)
 
 pub merge_level-requires-clause-small : goal.merge_level-requires-clause-small
 merge_level-requires-clause-small c =
     let l = c.args.levels in
+    let level = c.level.ensures in
     let first = 100 - 8 * l.nesting.levels in
     let before = plane_of l.pitch c.args.cells.now in
-    rw (c.level.ensures.pitch, c.loop-n.invariant)
+    rw (level.pitch, c.loop-n.invariant)
     (below_more (first + 8 * c.loop-n.n) 100
     (inverse_levels l.wavelets.down l.wavelets.across c.loop-n.n l.nesting.w l.nesting.h before) (omega arith)
     (inverse_levels_grow l.wavelets.down l.wavelets.across c.loop-n.n l.nesting.w l.nesting.h first before
@@ -36,15 +32,11 @@ merge_level-requires-clause-small c =
 pub loop-n-preserved : goal.loop-n-preserved
 loop-n-preserved c =
     let l = c.args.levels in
+    let level = c.level.ensures in
     next_level l.wavelets.down l.wavelets.across c.loop-n.n l.nesting.w l.nesting.h
     (plane_of l.pitch c.args.cells.now)
     (plane_of l.pitch c.loop-n.cells) (plane_of l.pitch c.merge_level.new.cells) c.loop-n.invariant
-    (rw (
-      c.level.ensures.wavelets,
-      c.level.ensures.w,
-      c.level.ensures.h,
-      c.level.ensures.pitch,
-    ) at c.merge_level.ensures)
+    (rw (level.wavelets, level.w, level.h, level.pitch) at c.merge_level.ensures)
 
 pub returns : goal.returns
 returns c = (let end : c.loop-n.n ≡ c.args.levels.nesting.levels = omega arith in

@@ -8,13 +8,8 @@ use Rattle.vc_wave.proofs.level.part_levels.Goals as goal
 pub part_level-requires-clause-room : goal.part_level-requires-clause-room
 part_level-requires-clause-room c =
     let l = c.args.levels in
-    rw (
-      c.level.ensures.w,
-      c.level.ensures.h,
-      c.level.ensures.pitch,
-      c.loop-n.auto.cells,
-      c.loop-n.auto.scratch,
-    )
+    let level = c.level.ensures in
+    rw (level.w, level.h, level.pitch, c.loop-n.auto.cells, c.loop-n.auto.scratch)
     (level_room l.nesting.w l.nesting.h (l.nesting.levels - 1 - c.loop-n.n) l.nesting.levels _ _ _ _
     (omega arith) c.requires.room)
 
@@ -27,6 +22,7 @@ part_level-requires-clause-small c =
 pub loop-n-preserved : goal.loop-n-preserved
 loop-n-preserved c =
     let l = c.args.levels in
+    let level = c.level.ensures in
     let wavelet = l.wavelets.down in
     let w = l.nesting.w in
     let h = l.nesting.h in
@@ -37,12 +33,7 @@ loop-n-preserved c =
     let after : l.nesting.levels - (c.loop-n.n + 1) ≡ left = omega arith in
     let size : 16 + 8 * c.loop-n.n + 8 ≡ 16 + 8 * (c.loop-n.n + 1) = omega arith in
     let is : made ≡ forward_level wavelet (w * 2 ^ left) (h * 2 ^ left) now =
-    rw (
-      c.level.ensures.wavelets,
-      c.level.ensures.w,
-      c.level.ensures.h,
-      c.level.ensures.pitch,
-    ) at c.part_level.ensures in
+    rw (level.wavelets, level.w, level.h, level.pitch) at c.part_level.ensures in
     record {
       value = rw after
           (next_forward wavelet left w h now made

@@ -51,12 +51,8 @@ returns-clause-made c =
     let w = lowest_width p c.args.c in
     let h = lowest_height p c.args.c in
     let small = sides_small p c.args.c w h refl refl low.small.0 low.small.1 in
-    let across = rw (
-      c.in_ok-most.was,
-      low.width,
-      low.height,
-      c.side_at-pitch.ensures,
-    ) at c.merge_across.ensures.made in
+    let pitch = c.side_at-pitch.ensures in
+    let across = rw (c.in_ok-most.was, low.width, low.height, pitch) at c.merge_across.ensures.made in
     let laid = across_laid p.wavelet_ho p.depth_ho p.depth w h c.args.stride c.args.cells.now
     c.merge_across.new.cells
     (omega (arith, small.3, c.requires.stride)) across in

@@ -23,25 +23,16 @@ side_at-pitch-requires-clause-fits c =
 pub merge_level-requires-clause-room : goal.merge_level-requires-clause-room
 merge_level-requires-clause-room c =
     let l = c.args.levels in
-    rw (
-      c.level.ensures.w,
-      c.level.ensures.h,
-      c.level.ensures.pitch,
-      c.side_at-pitch.ensures,
-      c.loop-n.auto.cells,
-      c.loop-n.auto.line,
-    )
+    let level = c.level.ensures in
+    rw (level.w, level.h, level.pitch, c.side_at-pitch.ensures, c.loop-n.auto.cells, c.loop-n.auto.line)
     (turn_room l.nesting.w l.nesting.h l.nesting.levels l.pitch _ _ c.requires.room c.loop-n.n
     (omega (arith, c.loop-n-test.true, c.requires.count)))
 
 pub loop-n-preserved : goal.loop-n-preserved
 loop-n-preserved c =
     let l = c.args.levels in
-    let made = rw (
-      c.in_ok-bound.was,
-      c.level.ensures.wavelets,
-      c.level.ensures.pitch,
-    ) at c.merge_level.ensures.made in
+    let level = c.level.ensures in
+    let made = rw (c.in_ok-bound.was, level.wavelets, level.pitch) at c.merge_level.ensures.made in
     record {
       made =
           next_laid l.wavelets.down l.wavelets.across l.nesting.levels l.nesting.w l.nesting.h l.pitch _
@@ -50,7 +41,7 @@ loop-n-preserved c =
           (omega (arith, c.loop-n-test.true, c.requires.count)) c.requires.room.across
           c.loop-n.invariant.made c.side_at-pitch.result c.level.result.w c.level.result.h
           c.side_at-pitch.ensures
-          c.level.ensures.w c.level.ensures.h made;
+          level.w level.h made;
       within = rw c.in_ok-bound.was at c.merge_level.ensures.within;
       small = rw c.in_ok-bound.was at c.merge_level.ensures.small;
     }

@@ -28,25 +28,20 @@ side_at-pitch-requires-clause-fits c =
 pub part_level-requires-clause-room : goal.part_level-requires-clause-room
 part_level-requires-clause-room c =
     let l = c.args.levels in
-    rw (
-      c.level.ensures.w,
-      c.level.ensures.h,
-      c.level.ensures.pitch,
-      c.side_at-pitch.ensures,
-      c.loop-n.auto.cells,
-      c.loop-n.auto.line,
-    )
+    let level = c.level.ensures in
+    rw (level.w, level.h, level.pitch, c.side_at-pitch.ensures, c.loop-n.auto.cells, c.loop-n.auto.line)
     (parted_room l.nesting.w l.nesting.h l.nesting.levels l.pitch _ _ c.requires.room c.loop-n.n
     c.loop-n-test.true)
 
 pub part_level-requires-clause-bound : goal.part_level-requires-clause-bound
 part_level-requires-clause-bound c =
     let l = c.args.levels in
+    let level = c.level.ensures in
     let carry = parted_level_bound l.wavelets.down in
     let b = c.requires.bound in
     let r = reached_at carry l.nesting.levels (c.loop-n.n + 1) b.most b.after (omega arith) b.fits in
     let m = one_more carry c.loop-n.n b.most r.bound r.is in
-    rw c.level.ensures.wavelets
+    rw level.wavelets
     (record {
       most = m.before;
       after = r.bound;
@@ -58,6 +53,7 @@ part_level-requires-clause-bound c =
 pub loop-n-preserved : goal.loop-n-preserved
 loop-n-preserved c =
     let l = c.args.levels in
+    let level = c.level.ensures in
     let n = c.loop-n.n in
     let left = l.nesting.levels - 1 - n in
     let w = l.nesting.w * 2 ^ left in
@@ -69,12 +65,7 @@ loop-n-preserved c =
     c.loop-n-test.true in
     let made : plane_of pitch c.part_level.new.cells
     ≡ parted_in_turn l.wavelets.down w h (plane_of pitch c.loop-n.cells) =
-    rw (
-      c.level.ensures.wavelets,
-      c.level.ensures.pitch,
-      c.level.ensures.w,
-      c.level.ensures.h,
-    ) at c.part_level.ensures in
+    rw (level.wavelets, level.pitch, level.w, level.h) at c.part_level.ensures in
     record {
       made =
           next_parted l.wavelets.down l.nesting.levels l.nesting.w l.nesting.h l.pitch _ n c.loop-n.cells

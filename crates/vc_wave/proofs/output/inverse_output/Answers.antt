@@ -27,14 +27,6 @@ returns c = λ whole x y h lt.
     let level = c.level-level.ensures in
     let made = highest_made p c.args.c (omega arith) c.args.stride c.merge_below.new.cells
     (nested_in p c.args.c c.args.stride c.args.cells.now) (rw c.in-Some.is at c.merge_below.ensures.made) in
-    (rw (
-      level.wavelets,
-      level.pitch,
-      level.w,
-      level.h,
-      l.down,
-      l.across,
-      l.w,
-      l.h,
-    ) at c.put_level.ensures whole x y h lt)
+    let put = c.put_level.ensures whole x y h lt in
+    (rw (level.wavelets, level.pitch, level.w, level.h, l.down, l.across, l.w, l.h) at put)
     ∙ ap (λ (f : Cells). output_sample c.args.format.depth (f x y)) made

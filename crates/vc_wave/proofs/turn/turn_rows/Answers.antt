@@ -1,4 +1,4 @@
-use Rattle.std.proofs.Common.{◌≡◌, ◌*◌, ◌^◌, arith, sym, ap, ◌∙◌}
+use Rattle.std.proofs.Common.{◌≡◌, ◌≤◌, ◌*◌, ◌^◌, arith, sym, ap, ◌∙◌}
 use Rattle.vc_types.specs.TransformParameters.{parameters_of}
 use Rattle.vc_wave.specs.Layout.{row_in_turn}
 use Rattle.vc_wave.proofs.Levels.{level_fits}
@@ -48,15 +48,12 @@ turn_columns-requires-in-loop-level-clause-high c =
 
 pub turn_columns-requires-in-loop-level-clause-columns : goal.turn_columns-requires-in-loop-level-clause-columns
 turn_columns-requires-in-loop-level-clause-columns c =
+    let n = c.nesting_of-nesting.ensures in
     let fits = level_width
-    (parameters_of c.args.plan.now) c.args.c c.loop-level.level c.loop-level-test.true in (
-      omega arith,
-      rw (
-        c.side_at-from.ensures,
-        c.nesting_of-nesting.ensures.w,
-        c.padded-width.ensures.width,
-      ) fits,
-    )
+    (parameters_of c.args.plan.now) c.args.c c.loop-level.level c.loop-level-test.true in
+    let wide : 2 * c.side_at-from.result ≤ c.padded-width.result.0 =
+    rw (c.side_at-from.ensures, n.w, c.padded-width.ensures.width) fits in
+    (omega arith, wide)
 
 pub turn_columns-requires-in-loop-level-clause-together : goal.turn_columns-requires-in-loop-level-clause-together
 turn_columns-requires-in-loop-level-clause-together c x y a b =
@@ -79,13 +76,7 @@ loop-level-preserved c =
 pub returns : goal.returns
 returns c =
     let n = c.nesting_of-nesting.ensures in
+    let size = c.padded-width.ensures in
     let end : c.loop-level.level ≡ c.args.plan.now.depth = omega arith in
     rows_turned (parameters_of c.args.plan.now) c.args.c c.args.nested.now c.loop-level.cells
-    (rw (
-      end,
-      n.levels,
-      n.w,
-      n.h,
-      c.padded-width.ensures.width,
-      c.padded-width.ensures.height,
-    ) at c.loop-level.invariant)
+    (rw (end, n.levels, n.w, n.h, size.width, size.height) at c.loop-level.invariant)
