@@ -1,14 +1,13 @@
 -- The last bits of a word.
 use Rattle.std.proofs.Common.{rules, ◌≡◌, ℕ, zero, suc, ◌+◌, ◌-◌, ◌*◌, ◌/◌, ◌%◌, ◌^◌, ◌<◌, ◌≤◌, Bool, true, eqb, List, [], ◌∷◌, ◌++◌, length, get_or, drop, refl, sym, ap, ◌∙◌, arith, mod-lt, append_assoc, append-nil, zero-add, suc-add, length-drop, replicate}
 use Rattle.std.specs.Int.{bit_at}
-use Rattle.std.proofs.Math.Seq.{drop-append-add, drop-length}
-use Rattle.std.proofs.Math.ListN.{drop_of_length-le}
+use Rattle.std.proofs.Math.Seq.{drop-append-add}
 use Rattle.std.proofs.lemmas.Nat.{div-mul-add, pow_pos, pow-add, mul-add-lt, one_shl}
 use Rattle.std.proofs.lemmas.Nat.Bits.{bit_at_cat_low, bit_at_ones}
 use Rattle.std.proofs.lemmas.List.{get_or_append_left, drop-drop, drop-append-le}
 use Rattle.vc_types.specs.Bits.{byte_bits, bits_of}
 use Rattle.vc_types.specs.Bounded.{bounded, BeginsWith}
-use Rattle.vc_types.proofs.Bits.{bit_of_byte, bits_of-nil, bits_of-cons, length-byte_bits, length-bits_of, drop-bits_of}
+use Rattle.vc_types.proofs.Bits.{bit_of_byte, bits_of-nil, bits_of-cons, length-byte_bits, drop-bits_of}
 use Rattle.vc_types.proofs.BoundedCodes.{same_ones}
 use Rattle.vc_bits.specs.Bits.{word_bits}
 use Rattle.vc_bits.specs.Inside.{low_bits}
@@ -29,11 +28,13 @@ bit_of_word_bits (suc count) word (suc place) lt =
     bit_of_word_bits count word place (omega arith) ∙ ap (λ (n : ℕ). eqb (bit_at word n) 1) same
 
 -- fewer of its last bits
-pub drop-word_bits : (n count word : ℕ) → n ≤ count → drop n (word_bits count word) ≡ word_bits (count - n) word
+pub drop-word_bits : (n count word : ℕ) → drop n (word_bits count word) ≡ word_bits (count - n) word
 unfolding word_bits
-drop-word_bits zero count word le = let same : count ≡ count - 0 = omega arith in ap (λ (k : ℕ). word_bits k word) same
-drop-word_bits (suc n) zero word le = absurd (omega arith)
-drop-word_bits (suc n) (suc count) word le = let same : count - n ≡ suc count - suc n = omega arith in drop-word_bits n count word (omega arith) ∙ ap (λ (k : ℕ). word_bits k word) same
+drop-word_bits zero count word = let same : count ≡ count - 0 = omega arith in ap (λ (k : ℕ). word_bits k word) same
+drop-word_bits (suc n) zero word = let none : 0 ≡ 0 - suc n = omega arith in ap (λ (k : ℕ). word_bits k word) none
+drop-word_bits (suc n) (suc count) word =
+    let same : count - n ≡ suc count - suc n = omega arith in
+    drop-word_bits n count word ∙ ap (λ (k : ℕ). word_bits k word) same
 
 -- a byte is a word
 pub byte_is_word : (byte : ℕ) → word_bits 8 byte ≡ byte_bits byte
@@ -92,20 +93,29 @@ peeked_word count word bits many place lt =
 low_word : (count word : ℕ) → count ≤ 8 → low_bits count (word % 2 ^ count) ≡ word_bits count word
 low_word count word small =
     let same : 8 - (8 - count) ≡ count = omega arith in
-    ap (drop (8 - count)) (sym (byte_is_word (word % 2 ^ count))) ∙ drop-word_bits (8 - count) 8 (word % 2 ^ count) (omega arith) ∙ ap (λ (n : ℕ). word_bits n (word % 2 ^ count)) same
+    ap (drop (8 - count)) (sym (byte_is_word (word % 2 ^ count))) ∙ drop-word_bits (8 - count) 8 (word % 2 ^ count) ∙ ap (λ (n : ℕ). word_bits n (word % 2 ^ count)) same
     ∙ same_word_bits count (word % 2 ^ count) word (λ i lt. low_bits_of word count i lt)
 
-pub peeked_ones : (count word byte : ℕ) (bytes : List ℕ) → count < 8 → bytes ≡ [] → byte_bits byte ≡ low_bits count (word % 2 ^ count) ++ replicate (8 - count) true → BeginsWith (word_bits count word ++ bits_of bytes) (byte_bits byte)
-peeked_ones count word byte bytes small none is place lt =
+-- where neither bytes nor a tail are behind
+none_behind : (bits : List Bool) (bytes : List ℕ) (tail_bits tail : ℕ) → bytes ≡ [] → tail_bits ≡ 0
+    → bits ++ (bits_of bytes ++ word_bits tail_bits tail) ≡ bits
+unfolding word_bits
+none_behind bits bytes tail_bits tail none few = rw (none, few, bits_of-nil) (append-nil bits)
+
+pub peeked_ones : (count word byte : ℕ) (bytes : List ℕ) (tail_bits tail : ℕ) → count < 8 → bytes ≡ [] → tail_bits ≡ 0
+    → byte_bits byte ≡ low_bits count (word % 2 ^ count) ++ replicate (8 - count) true
+    → BeginsWith (word_bits count word ++ (bits_of bytes ++ word_bits tail_bits tail)) (byte_bits byte)
+peeked_ones count word byte bytes tail_bits tail small none few is place lt =
     let bits = word_bits count word in
-    let here : bits ++ bits_of bytes ≡ bits = ap (λ (more : List ℕ). bits ++ bits_of more) none ∙ ap (λ (more : List Bool). bits ++ more) bits_of-nil ∙ append-nil bits in
+    let here = none_behind bits bytes tail_bits tail none few in
     let filled : byte_bits byte ≡ bits ++ replicate (8 - count) true = is ∙ ap (λ (front : List Bool). front ++ replicate (8 - count) true) (low_word count word (omega arith)) in
     ap (λ (xs : List Bool). bounded xs place) here ∙ (same_ones bits (8 - count)).at place ∙ ap (λ (xs : List Bool). bounded xs place) (sym filled)
 
-pub peeked_end : (count word : ℕ) (bytes : List ℕ) → count ≤ 0 → bytes ≡ [] → BeginsWith (word_bits count word ++ bits_of bytes) (byte_bits 255)
+pub peeked_end : (count word : ℕ) (bytes : List ℕ) (tail_bits tail : ℕ) → count ≤ 0 → bytes ≡ [] → tail_bits ≡ 0
+    → BeginsWith (word_bits count word ++ (bits_of bytes ++ word_bits tail_bits tail)) (byte_bits 255)
 unfolding word_bits
-peeked_end count word bytes small none place lt =
-    grind (arith, length-byte_bits, bits_of-nil, no_byte, bit_of_byte)
+peeked_end count word bytes tail_bits tail small none few place lt =
+    grind (arith, length-byte_bits, none_behind, no_byte, bit_of_byte)
 
 pub ruleset peeks = (peeked_word, peeked_ones, peeked_end)
 
@@ -114,15 +124,13 @@ pub ruleset peeks = (peeked_word, peeked_ones, peeked_end)
 -- within the word
 pub skipped_word : (count word n : ℕ) (bits : List Bool) → n ≤ count → word_bits (count - n) word ++ bits ≡ drop n (word_bits count word ++ bits)
 skipped_word count word n bits le =
-    sym (drop-append-le n (word_bits count word) bits (omega (arith, length-word_bits count word)) ∙ ap (λ (front : List Bool). front ++ bits) (drop-word_bits n count word le))
+    sym (drop-append-le n (word_bits count word) bits (omega (arith, length-word_bits count word)) ∙ ap (λ (front : List Bool). front ++ bits) (drop-word_bits n count word))
 
 -- and behind it
 pub skipped_past : (count word n : ℕ) (bits : List Bool) → count < n → drop (n - count) bits ≡ drop n (word_bits count word ++ bits)
 skipped_past count word n bits lt =
     let parts : length (word_bits count word) + (n - count) ≡ n = omega (arith, length-word_bits count word) in
     sym (ap (λ (k : ℕ). drop k (word_bits count word ++ bits)) (sym parts) ∙ drop-append-add (word_bits count word) bits (n - count))
-
-pub ruleset skips = (skipped_word, skipped_past)
 
 -- no bit of a word
 pub word_none : (word : ℕ) (bits : List Bool) → word_bits 0 word ++ bits ≡ bits
@@ -132,10 +140,6 @@ word_none word bits = refl
 pub none_yet : (bytes : List ℕ) → word_bits 0 0 ++ bits_of bytes ≡ bits_of bytes
 none_yet bytes = word_none 0 (bits_of bytes)
 
--- behind all bytes
-pub skipped_all : (bytes : List ℕ) (n : ℕ) → length bytes ≤ n / 8 → word_bits 0 0 ++ bits_of (drop (length bytes) bytes) ≡ drop n (bits_of bytes)
-skipped_all bytes n le = grind (arith, length-bits_of, none_yet, drop-length, bits_of-nil, drop_of_length-le)
-
 -- behind some bytes and bits of the next
 behind_bits : (bytes : List ℕ) (n : ℕ) → 0 < length bytes → n ≤ 8 → word_bits (8 - n) (get_or bytes 0 0) ++ bits_of (drop 1 bytes) ≡ drop n (bits_of bytes)
 behind_bits bytes n some few = grind (arith, skipped_word, byte_is_word, bits_of-cons)
@@ -144,8 +148,6 @@ pub skipped_bytes : (bytes : List ℕ) (n : ℕ) → n / 8 < length bytes → wo
 skipped_bytes bytes n lt =
     let whole : 8 * (n / 8) + n % 8 ≡ n = omega arith in
     behind_bits (drop (n / 8) bytes) (n % 8) (omega (arith, length-drop (n / 8) bytes)) (omega arith) ∙ ap (drop (n % 8)) (sym (drop-bits_of (n / 8) bytes)) ∙ drop-drop (n % 8) (8 * (n / 8)) (bits_of bytes) ∙ ap (λ (k : ℕ). drop k (bits_of bytes)) whole
-
-pub ruleset behinds = (none_yet, skipped_all, skipped_bytes)
 
 -- ---- twelve bits
 
@@ -198,10 +200,12 @@ filled_bits count word small =
     let long : 12 ≡ count + (12 - count) = omega arith in
     ap (word_bits 12) (filled_is count word small) ∙ ap (λ (n : ℕ). word_bits n (word % 2 ^ count * 2 ^ (12 - count) + (2 ^ (12 - count) - 1))) long ∙ ones_behind count (12 - count) word
 
-pub peeked_filled : (count word number : ℕ) (bytes : List ℕ) → bytes ≡ [] → word_bits 12 number ≡ word_bits count word ++ replicate (12 - count) true → BeginsWith (word_bits count word ++ bits_of bytes) (word_bits 12 number)
-peeked_filled count word number bytes none is place lt =
+pub peeked_filled : (count word number : ℕ) (bytes : List ℕ) (tail_bits tail : ℕ) → bytes ≡ [] → tail_bits ≡ 0
+    → word_bits 12 number ≡ word_bits count word ++ replicate (12 - count) true
+    → BeginsWith (word_bits count word ++ (bits_of bytes ++ word_bits tail_bits tail)) (word_bits 12 number)
+peeked_filled count word number bytes tail_bits tail none few is place lt =
     let bits = word_bits count word in
-    let here : bits ++ bits_of bytes ≡ bits = ap (λ (more : List ℕ). bits ++ bits_of more) none ∙ ap (λ (more : List Bool). bits ++ more) bits_of-nil ∙ append-nil bits in
+    let here = none_behind bits bytes tail_bits tail none few in
     ap (λ (xs : List Bool). bounded xs place) here ∙ (same_ones bits (12 - count)).at place ∙ ap (λ (xs : List Bool). bounded xs place) (sym is)
 
 -- ---- four bytes

@@ -1,6 +1,7 @@
-ghost use Rattle.std.specs.Prelude.{◌≡◌, ◌+◌, ◌*◌, ◌/◌, ◌<◌, ◌≤◌, take, drop, length, slice_index_or};
+ghost use Rattle.std.specs.Prelude.{◌≡◌, ◌+◌, ◌*◌, ◌/◌, ◌^◌, ◌<◌, ◌≤◌, take, drop, length, slice_index_or};
 ghost use Rattle.vc_types.specs.Bits.{byte_bits, bits_of, number_of};
 ghost use Rattle.vc_types.specs.Bounded.{BeginsWith};
+ghost use Rattle.vc_bits.specs.Bits.{word_bits};
 
 // The eight bits behind those of the first byte that were used. Ones stand behind the last byte.
 #[tactic(auto, using(crate::proofs::Peeking::peeked))]
@@ -37,6 +38,19 @@ pub(crate) fn skip<'a>(rest: &'a [u8], used: u8, bits: u32) -> (&'a [u8], u8)
         let (_, after) = rest.split_at(rest.len());
         (after, 0)
     }
+}
+
+// The number that the first bits of bytes make, so many.
+pub(crate) fn first_bits(bytes: &[u8], count: u8) -> u8
+    requires few { count < 8 }
+    requires some { 0 < count → 0 < length bytes.now }
+    ensures bits { word_bits count result ≡ take count (bits_of bytes.now) }
+    ensures range { result < 2 ^ count }
+{
+    if count == 0 {
+        return 0;
+    }
+    bytes[0] >> (8 - count)
 }
 
 // The number of which the n bits behind the used ones are the digits.

@@ -5,38 +5,58 @@ ghost use Rattle.vc_types.specs.Bounded.{bounded, BeginsWith};
 ghost use Rattle.vc_bits.specs.Bits.{word_bits};
 
 use crate::byte::filled;
+use crate::pending::joined;
 use std::marker::Model;
 
-/// A bounded block (ST 2042-1, data coding): the bits of some bytes, and ones without end behind them. It is
-/// seen as the bits that are left of the bytes.
+/// A bounded block (ST 2042-1, data coding): some bits, and ones without end behind them. It is seen as the
+/// bits that are left.
 #[derive(Drop)]
 pub struct Block<'a> {
-    // The bits that come next are the last bits of a word, and this many. The bytes behind them are read into
-    // it before fewer than twelve bits are left there.
+    // The bits that come next are the last bits of a word, and this many. Behind them come bytes, and then
+    // the last bits of a tail, fewer than a byte. All are read into the word before fewer than twelve bits
+    // are left there.
     word: u64,
     count: u32,
     rest: &'a [u8],
+    tail: u8,
+    tail_bits: u8,
 }
 
 impl<'a> Model for Block<'a> {
-    ghost use Rattle.std.specs.Prelude.{◌≡◌, ◌<◌, ◌≤◌, ◌++◌, [], List, Bool};
+    ghost use Rattle.std.specs.Prelude.{◌≡◌, ◌<◌, ◌≤◌, ◌^◌, ◌++◌, [], List, Bool};
     ghost use Rattle.vc_types.specs.Bits.{bits_of};
     ghost use Rattle.vc_bits.specs.Bits.{word_bits};
 
     ghost Value = { List Bool };
 
-    ghost view = { λ b. word_bits b.count b.word ++ bits_of b.rest.now };
+    ghost view = { λ b. word_bits b.count b.word ++ (bits_of b.rest.now ++ word_bits b.tail_bits b.tail) };
 
-    ghost invariant = { λ b. (b.count ≤ 64) × (b.count < 12 → b.rest.now ≡ []) };
+    ghost invariant = { λ b. (b.count ≤ 64) × (b.count < 12 → b.rest.now ≡ []) × (b.tail_bits < 8)
+        × (b.tail < 2 ^ b.tail_bits) × (b.count < 12 → b.tail_bits ≡ 0) };
 }
 
 impl<'a> Block<'a> {
-    #[tactic(auto, using(crate::proofs::Words::behinds))]
     pub(crate) fn new(bytes: &'a [u8]) -> Block<'a>
         ensures { result ≡ bits_of bytes.now }
     {
         let (word, count, rest) = refilled(0, 0, bytes);
-        Block { word, count, rest }
+        Block {
+            word,
+            count,
+            rest,
+            tail: 0,
+            tail_bits: 0,
+        }
+    }
+
+    // The bits of bytes, and behind them a number's last bits, so many.
+    pub(crate) fn with_tail(bytes: &'a [u8], tail: u8, tail_bits: u8) -> Block<'a>
+        requires bits { tail_bits < 8 }
+        requires tail { tail < 2 ^ tail_bits }
+        ensures { result ≡ bits_of bytes.now ++ word_bits tail_bits tail }
+    {
+        let (word, count, rest) = refilled(0, 0, bytes);
+        ended(word, count, rest, tail, tail_bits)
     }
 
     /// The same block, to be read apart.
@@ -47,6 +67,8 @@ impl<'a> Block<'a> {
             word: self.word,
             count: self.count,
             rest: self.rest,
+            tail: self.tail,
+            tail_bits: self.tail_bits,
         }
     }
 
@@ -93,18 +115,44 @@ impl<'a> Block<'a> {
     }
 
     /// Goes on behind the next bits.
-    #[tactic(auto, using(crate::proofs::Words::skips))]
+    #[tactic(auto, using(crate::proofs::Tails::tails))]
     pub fn skip(&mut self, bits: u32)
         ensures { self.new ≡ drop bits self.old }
     {
-        let (word, count, rest) = if bits <= self.count {
-            refilled(self.word, self.count - bits, self.rest)
+        if bits <= self.count {
+            let (word, count, rest) = refilled(self.word, self.count - bits, self.rest);
+            *self = ended(word, count, rest, self.tail, self.tail_bits);
         } else {
-            behind(self.rest, bits - self.count)
+            *self = behind(self.rest, self.tail, self.tail_bits, bits - self.count);
+        }
+    }
+}
+
+// The block of a word's last bits, so many, of bytes behind them, and of a tail's bits behind these.
+#[inline(always)]
+fn ended<'a>(word: u64, count: u32, rest: &'a [u8], tail: u8, tail_bits: u8) -> Block<'a>
+    requires count { count ≤ 64 }
+    requires few { count < 12 → rest.now ≡ [] }
+    requires bits { tail_bits < 8 }
+    requires tail { tail < 2 ^ tail_bits }
+    ensures { result ≡ word_bits count word ++ (bits_of rest.now ++ word_bits tail_bits tail) }
+{
+    if count >= 12 {
+        return Block {
+            word,
+            count,
+            rest,
+            tail,
+            tail_bits,
         };
-        self.word = word;
-        self.count = count;
-        self.rest = rest;
+    }
+    let last = u32::from(tail_bits);
+    Block {
+        word: joined(word % (1 << count), count, u64::from(tail), last),
+        count: count + last,
+        rest,
+        tail: 0,
+        tail_bits: 0,
     }
 }
 
@@ -174,20 +222,22 @@ fn with_bytes<'a>(word: u64, count: u32, rest: &'a [u8]) -> (u64, u32, &'a [u8])
     (word, count, rest)
 }
 
-// The bits behind some others.
-#[tactic(auto, using(crate::proofs::Words::behinds))]
-fn behind<'a>(rest: &'a [u8], bits: u32) -> (u64, u32, &'a [u8])
-    ensures bits { word_bits result.1 result.0 ++ bits_of result.2.now
-        ≡ drop bits (bits_of rest.now) }
-    ensures count { result.1 ≤ 64 }
-    ensures few { result.1 < 12 → result.2.now ≡ [] }
+// What is left of bytes and of a tail behind some of their bits.
+#[tactic(auto, using(crate::proofs::Tails::tails))]
+fn behind<'a>(rest: &'a [u8], tail: u8, tail_bits: u8, bits: u32) -> Block<'a>
+    requires bits { tail_bits < 8 }
+    requires tail { tail < 2 ^ tail_bits }
+    ensures { result ≡ drop bits (bits_of rest.now ++ word_bits tail_bits tail) }
 {
     let bytes = (bits / 8) as usize;
     if bytes >= rest.len() {
         let (_, after) = rest.split_at(rest.len());
-        return (0, 0, after);
+        let past = bits - 8 * rest.len() as u32;
+        let left = u32::from(tail_bits).saturating_sub(past);
+        return ended(u64::from(tail), left, after, 0, 0);
     }
     let (_, after) = rest.split_at(bytes);
     let (_, more) = after.split_at(1);
-    refilled(u64::from(after[0]), 8 - bits % 8, more)
+    let (word, count, rest) = refilled(u64::from(after[0]), 8 - bits % 8, more);
+    ended(word, count, rest, tail, tail_bits)
 }

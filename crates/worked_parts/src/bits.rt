@@ -1,4 +1,5 @@
 //! Rows of bits that are read and written.
+use crate::codes::{add_signed, signed_of};
 use crate::words::{add_bytes, add_number, add_word, bytes_of, natural, parted};
 use std::alloc::Global;
 use vc_bits::{BitReader, BitWriter, Block};
@@ -38,6 +39,31 @@ fn add_block(r: &mut BitReader, count: u32, into: &mut String) -> Result<(), Bad
     }
 }
 
+// The bits of a block of so many, and four behind its end.
+fn add_bits_past(block: &Block, count: u32, into: &mut String) -> Result<(), Bad> {
+    let mut block = block.copy();
+    for _ in 0..u64::from(count) + 4 {
+        into.push_str(if block.bit() { "1" } else { "0" })?;
+    }
+    add_word(into, "")
+}
+
+// A block of so many bits: its bits, and the numbers whose codes come first, one by one and at once.
+fn add_block_bits(
+    alloc: Global,
+    r: &mut BitReader,
+    count: u32,
+    into: &mut String,
+) -> Result<(), Bad> {
+    let Ok(block) = r.block_bits(count as usize) else {
+        return add_word(into, "end");
+    };
+    add_bits_past(&block, count, into)?;
+    add_signed(alloc, &block, 6, 1 << 62, into)?;
+    into.push_str(signed_of(alloc, &block, 6)?.as_str())?;
+    Ok(())
+}
+
 fn skip(r: &mut BitReader, count: u32) -> Result<(), Bad> {
     if r.bits_left() < u128::from(count) {
         return Err(Bad::NoRow);
@@ -64,6 +90,7 @@ fn add_read(alloc: Global, r: &mut BitReader, word: &str, into: &mut String) -> 
         "bit" => add_bit(r, into),
         "bits" => add_bits(alloc, r, count, into),
         "block" => add_block(r, count, into),
+        "block-bits" => add_block_bits(alloc, r, count, into),
         "skip" => skip(r, count),
         "peek" => add_number(alloc, into, i128::from(r.peek())),
         "place" => add_place(alloc, r, into),

@@ -4,7 +4,7 @@ use crate::words::{
     short_numbers, text, text_of_short,
 };
 use std::alloc::Global;
-use vc_bits::{BitReader, BitWriter};
+use vc_bits::{BitReader, BitWriter, Block};
 use vc_golomb::{
     UintRefusal, read_sint_bounded, read_sints, read_uint, sint_codes, write_behind_zeros,
     write_sint, write_uint,
@@ -135,26 +135,49 @@ fn count_and_most(text: &str) -> Result<(u32, u64), Bad> {
     }
 }
 
+/// Adds so many numbers, up to a greatest magnitude, that are read of a block by their signed codes.
+pub(crate) fn add_signed(
+    alloc: Global,
+    block: &Block,
+    count: u32,
+    most: u64,
+    into: &mut String,
+) -> Result<(), Bad> {
+    if most > 1 << 62 {
+        return Err(Bad::NoRow);
+    }
+    let mut block = block.copy();
+    for _ in 0..count {
+        match read_sint_bounded(&mut block, most) {
+            Ok(number) => add_number(alloc, into, i128::from(number))?,
+            Err(_) => add_word(into, "large")?,
+        }
+    }
+    Ok(())
+}
+
 /// So many numbers, up to a greatest magnitude, that are read of a block by their signed codes.
 pub(crate) fn read_signed(alloc: Global, parts: &[Part], given: &str) -> Result<String, Bad> {
     let (front, bytes) = parted(given)?;
     let (count, most) = count_and_most(front)?;
     let bytes = bytes_of(alloc, parts, bytes)?;
     let mut r = BitReader::new(bytes.as_slice());
-    let Ok(mut block) = r.block(bytes.len()) else {
+    let Ok(block) = r.block(bytes.len()) else {
         return Err(Bad::NoRow);
     };
-    if most > 1 << 62 {
-        return Err(Bad::NoRow);
-    }
     let mut all = String::new(alloc);
-    for _ in 0..count {
-        match read_sint_bounded(&mut block, most) {
-            Ok(number) => add_number(alloc, &mut all, i128::from(number))?,
-            Err(_) => add_word(&mut all, "large")?,
-        }
-    }
+    add_signed(alloc, &block, count, most, &mut all)?;
     Ok(all)
+}
+
+/// So many numbers, as a text, that are read of a block by their signed codes at once.
+pub(crate) fn signed_of(alloc: Global, block: &Block, count: u32) -> Result<String, Bad> {
+    let count = count as usize;
+    let mut out = vec![in alloc; 0i32; count + 8]?;
+    match read_sints(block, count, out.as_mut_slice()) {
+        Ok(_) => text_of_short(alloc, &out.as_slice()[..count]),
+        Err(_) => text(alloc, "large"),
+    }
 }
 
 /// So many numbers that are read of a block by their signed codes at once.
@@ -164,15 +187,11 @@ pub(crate) fn read_signed_at_once(
     given: &str,
 ) -> Result<String, Bad> {
     let (count, bytes) = parted(given)?;
-    let count = natural(count)? as usize;
+    let count = natural(count)?;
     let bytes = bytes_of(alloc, parts, bytes)?;
     let mut r = BitReader::new(bytes.as_slice());
     let Ok(block) = r.block(bytes.len()) else {
         return Err(Bad::NoRow);
     };
-    let mut out = vec![in alloc; 0i32; count + 8]?;
-    match read_sints(&block, count, out.as_mut_slice()) {
-        Ok(_) => text_of_short(alloc, &out.as_slice()[..count]),
-        Err(_) => text(alloc, "large"),
-    }
+    signed_of(alloc, &block, count)
 }
