@@ -24,13 +24,13 @@ module _ (bands : SliceBands) (c : Component) (numbers : List ℤ) where
   abbrev pub coefficient : ℕ → ℤ
   coefficient i = dequantised (line_of numbers i) (slice_index_or (quantisers_of bands c) i 0)
 
-  module _ (b from q : ℕ) (r : Rect) (inside : b < band_count bands.parts) (is : r ≡ rectangle bands.parts c b) (at : from ≡ coefficients_before (parameters_of bands.parts.plan) c bands.parts.slice b)
-      (own : q ≡ bands.index - slice_index_or bands.parts.plan.matrix b 0) where
+  module _ (b from q : ℕ) (r : Rect) (inside : b < band_count bands.parts.now) (is : r ≡ rectangle bands.parts.now c b) (at : from ≡ coefficients_before (parameters_of bands.parts.now.plan) c bands.parts.now.slice b)
+      (own : q ≡ bands.index - slice_index_or bands.parts.now.plan.matrix b 0) where
     -- by the quantiser of its subband
     pub coefficient_in : (j : ℕ) → j < area r → dequantised (line_of numbers (from + j)) q ≡ coefficient (from + j)
     coefficient_in j h =
-        let whole : from + area r ≡ from + area (rectangle bands.parts c b) = omega (arith, ap area is) in
-        ap (dequantised (line_of numbers (from + j))) (own ∙ sym (runs.index_in (parameters_of bands.parts.plan) c bands.parts.slice bands.index b (from + j) from (from + area r) inside at whole (omega arith) (omega arith)))
+        let whole : from + area r ≡ from + area (rectangle bands.parts.now c b) = omega (arith, ap area is) in
+        ap (dequantised (line_of numbers (from + j))) (own ∙ sym (runs.index_in (parameters_of bands.parts.now.plan) c bands.parts.now.slice bands.index b (from + j) from (from + area r) inside at whole (omega arith) (omega arith)))
 
     -- and narrow
     pub narrow_more : (greatest : ℕ) → IsNarrow greatest q → ((j : ℕ) → j < area r → unsigned_abs (line_of numbers (from + j)) ≤ greatest)
@@ -46,26 +46,26 @@ module _ (bands : SliceBands) (c : Component) (numbers : List ℤ) where
 
 -- ---- the numbers of a block
 
-module _ (bands : SliceBands) (c : Component) (block : List ℕ) (numbers old new : List ℤ) (read : AreBlockNumbers (coefficient_count bands.parts c) block numbers) where
+module _ (bands : SliceBands) (c : Component) (block : List ℕ) (numbers old new : List ℤ) (read : AreBlockNumbers (coefficient_count bands.parts.now c) block numbers) where
   -- the cells of the slice hold the coefficients
   abbrev pub Stand : Type 0
-  Stand = (i : ℕ) → i < coefficient_count bands.parts c → line_of new (place_kept bands.parts c i) ≡ coefficient bands c numbers i
+  Stand = (i : ℕ) → i < coefficient_count bands.parts.now c → line_of new (place_kept bands.parts.now c i) ≡ coefficient bands c numbers i
 
   -- and no large one
   abbrev pub AreNarrow : Type 0
-  AreNarrow = (i : ℕ) → i < coefficient_count bands.parts c → unsigned_abs (line_of new (place_kept bands.parts c i)) < 2 ^ 29
+  AreNarrow = (i : ℕ) → i < coefficient_count bands.parts.now c → unsigned_abs (line_of new (place_kept bands.parts.now c i)) < 2 ^ 29
 
-  placed : Stand → (i : ℕ) → i < coefficient_count bands.parts c → line_of new (place_kept bands.parts c i) ≡ line_of (coefficients_of_block bands c block) i
+  placed : Stand → (i : ℕ) → i < coefficient_count bands.parts.now c → line_of new (place_kept bands.parts.now c i) ≡ line_of (coefficients_of_block bands c block) i
   placed on i h =
       on i h ∙ ap (λ z. dequantised z (slice_index_or (quantisers_of bands c) i 0)) (read i h)
-      ∙ sym (runs.coefficient_of (parameters_of bands.parts.plan) c bands.parts.slice bands.index block i h)
+      ∙ sym (runs.coefficient_of (parameters_of bands.parts.now.plan) c bands.parts.now.slice bands.index block i h)
 
-  pub filled : {E : Type 0} (done : Result (Unit {0}) E) → Changes bands.parts c old new → OnOk done Stand → OnOk done (Fills bands.parts c (coefficients_of_block bands c block) old new)
+  pub filled : {E : Type 0} (done : Result (Unit {0}) E) → Changes bands.parts.now c old new → OnOk done Stand → OnOk done (Fills bands.parts.now c (coefficients_of_block bands c block) old new)
   filled (Ok all) only on = record { only = only; own = placed on }
   filled (Err e) only on = on
 
   pub sound : {E : Type 0} (done : Result (Unit {0}) E) → OnOk done Stand → OnOk done AreNarrow → OnOk done (list_any is_large (coefficients_of_block bands c block) ≡ false)
   sound (Ok all) on narrow =
       let zs = coefficients_of_block bands c block in
-      runs.none_large zs zs (coefficient_count bands.parts c) (runs.length-block (parameters_of bands.parts.plan) c bands.parts.slice bands.index block) (λ i h. refl) (λ i h. subst (λ z. unsigned_abs z < 2 ^ 29) (placed on i h) (narrow i h))
+      runs.none_large zs zs (coefficient_count bands.parts.now c) (runs.length-block (parameters_of bands.parts.now.plan) c bands.parts.now.slice bands.index block) (λ i h. refl) (λ i h. subst (λ z. unsigned_abs z < 2 ^ 29) (placed on i h) (narrow i h))
   sound (Err e) on narrow = on

@@ -143,7 +143,8 @@ pub(crate) fn put_blocks(
         (in_range (all_coefficients plan.now slice (coded_of coded.now))
         ≡ Ok (all_coefficients plan.now slice (coded_of coded.now))) }
 {
-    let bands = SliceBands::new(SliceParts::new(plan, slice), coded.index);
+    let parts = SliceParts::new(plan, slice);
+    let bands = SliceBands::new(&parts, coded.index);
     put_block(&bands, Component::Y, coded.y, numbers, y)?;
     put_block(&bands, Component::C1, coded.c1, numbers, c1)?;
     put_block(&bands, Component::C2, coded.c2, numbers, c2)
@@ -156,10 +157,10 @@ fn put_block(
     numbers: &mut [i32],
     cells: &mut CoefficientCells,
 ) -> Result<(), TooWide>
-    requires room { coefficient_count bands.now.parts c + 8 ≤ length numbers.old }
-    requires cells { AreCells bands.now.parts c cells.old }
-    ensures only { Changes bands.now.parts c cells.old cells.new }
-    ensures filled { OnOk result (Fills bands.now.parts c
+    requires room { coefficient_count bands.now.parts.now c + 8 ≤ length numbers.old }
+    requires cells { AreCells bands.now.parts.now c cells.old }
+    ensures only { Changes bands.now.parts.now c cells.old cells.new }
+    ensures filled { OnOk result (Fills bands.now.parts.now c
         (coefficients_of_block bands.now c block.now) cells.old cells.new) }
     ensures sound { OnOk result
         (list_any is_large (coefficients_of_block bands.now c block.now) ≡ false) }
@@ -177,16 +178,16 @@ fn dequantise_numbers(
     greatest: u32,
     cells: &mut CoefficientCells,
 ) -> Result<(), TooWide>
-    requires count { coefficient_count bands.now.parts c ≤ length numbers.now }
-    requires small { AreUpTo greatest (coefficient_count bands.now.parts c) numbers.now }
-    requires cells { AreCells bands.now.parts c cells.old }
-    ensures on { OnOk result ((i : ℕ) → i < coefficient_count bands.now.parts c
-        → line_of cells.new (place_kept bands.now.parts c i)
+    requires count { coefficient_count bands.now.parts.now c ≤ length numbers.now }
+    requires small { AreUpTo greatest (coefficient_count bands.now.parts.now c) numbers.now }
+    requires cells { AreCells bands.now.parts.now c cells.old }
+    ensures on { OnOk result ((i : ℕ) → i < coefficient_count bands.now.parts.now c
+        → line_of cells.new (place_kept bands.now.parts.now c i)
         ≡ dequantised (line_of numbers.now i) (slice_index_or (quantisers_of bands.now c) i 0)) }
-    ensures narrow { OnOk result ((i : ℕ) → i < coefficient_count bands.now.parts c
-        → unsigned_abs (line_of cells.new (place_kept bands.now.parts c i)) < 2 ^ 29) }
-    ensures off { (k : ℕ) → ((i : ℕ) → i < coefficient_count bands.now.parts c
-        → k ≢ place_kept bands.now.parts c i) → line_of cells.new k ≡ line_of cells.old k }
+    ensures narrow { OnOk result ((i : ℕ) → i < coefficient_count bands.now.parts.now c
+        → unsigned_abs (line_of cells.new (place_kept bands.now.parts.now c i)) < 2 ^ 29) }
+    ensures off { (k : ℕ) → ((i : ℕ) → i < coefficient_count bands.now.parts.now c
+        → k ≢ place_kept bands.now.parts.now c i) → line_of cells.new k ≡ line_of cells.old k }
     ensures length { length cells.new ≡ length cells.old }
 {
     let (width, _) = padded(&bands.parts.plan, c);

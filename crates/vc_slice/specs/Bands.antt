@@ -20,11 +20,11 @@ abbrev pub coefficients_of_slice : SliceParts → CodedSlice → Coefficients
 coefficients_of_slice parts = plans.all_coefficients parts.plan parts.slice
 
 abbrev pub quantisers_of : SliceBands → Component → List ℕ
-quantisers_of bands c = plans.quantisers bands.parts.plan c bands.parts.slice bands.index
+quantisers_of bands c = plans.quantisers bands.parts.now.plan c bands.parts.now.slice bands.index
 
 abbrev pub coefficients_of_block : SliceBands → Component → List ℕ → List ℤ
 coefficients_of_block bands c =
-    plans.block_coefficients bands.parts.plan c bands.parts.slice bands.index
+    plans.block_coefficients bands.parts.now.plan c bands.parts.now.slice bands.index
 
 -- coefficients are those of the slice: as many, and small
 abbrev pub AreCoefficients : SliceParts → Coefficients → Type 0
@@ -35,7 +35,7 @@ abbrev pub codes_at : SliceParts → ℕ → Coefficients → Component → List
 codes_at parts = plans.component_bits parts.plan parts.slice
 
 abbrev pub component_codes : SliceBands → Coefficients → Component → List Bool
-component_codes bands = codes_at bands.parts bands.index
+component_codes bands = codes_at bands.parts.now bands.index
 
 abbrev pub block_codes : SliceBands → Component → List ℤ → List Bool
-block_codes bands c = plans.block_bits bands.parts.plan c bands.parts.slice bands.index
+block_codes bands c = plans.block_bits bands.parts.now.plan c bands.parts.now.slice bands.index

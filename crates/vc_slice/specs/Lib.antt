@@ -8,4 +8,3 @@ pub mod Falls
 pub mod Numbers
 pub mod OneBlock
 pub mod Listed
-pub mod Quantisers

@@ -3,7 +3,6 @@ ghost use Rattle.vc_types.specs.declared.video.Component.TheVariants.{Y, C1, C2}
 ghost use Rattle.vc_types.specs.OfPlan.{band_count, padded_height, padded_width, slice_count};
 ghost use Rattle.vc_types.specs.Subbands.{area};
 ghost use Rattle.vc_geometry.specs.OfPlan.{AreSliceRectangles};
-ghost use Rattle.vc_slice.specs.OfPlan.{AreSliceQuantisers};
 
 use vc_geometry::{bands as band_count, slice_rects};
 use vc_quant::Quantiser;
@@ -29,14 +28,12 @@ pub struct SliceParts {
     ghost of_other: { AreSliceRectangles plan C2 slice colour },
 }
 
-/// A slice and its quantisation index, with the quantisers of the subbands.
+/// The parts of a slice, and its quantisation index.
 #[derive(Clone, Copy)]
-pub struct SliceBands {
-    pub parts: SliceParts,
+pub struct SliceBands<'a> {
+    pub parts: &'a SliceParts,
     pub index: u8,
-    quantisers: [Quantiser; 16],
     pub ghost index_is_known: { index ≤ 127 },
-    ghost of_subbands: { AreSliceQuantisers parts.plan index quantisers },
 }
 
 impl SliceParts {
@@ -94,27 +91,24 @@ impl SliceParts {
     }
 }
 
-impl SliceBands {
+impl<'a> SliceBands<'a> {
     /// The bands of a slice of this index.
-    pub fn new(parts: SliceParts, index: u8) -> SliceBands
+    pub fn new(parts: &'a SliceParts, index: u8) -> SliceBands<'a>
         requires { index ≤ 127 }
-        ensures parts { result.parts ≡ parts }
+        ensures parts { result.parts.now ≡ parts.now }
         ensures index { result.index ≡ index }
     {
-        SliceBands {
-            parts,
-            index,
-            quantisers: quantisers_of(&parts.plan, index),
-        }
+        SliceBands { parts, index }
     }
 
     /// The quantiser of subband number `b`.
     #[inline(always)]
-    pub fn quantiser(&self, b: u32) -> &Quantiser
-        requires { b < band_count self.now.parts.plan }
-        ensures { result.now.index ≡ self.now.index - slice_index_or self.now.parts.plan.matrix b 0 }
+    pub fn quantiser(&self, b: u32) -> Quantiser
+        requires { b < band_count self.now.parts.now.plan }
+        ensures { result.index
+            ≡ self.now.index - slice_index_or self.now.parts.now.plan.matrix b 0 }
     {
-        &self.quantisers[b as usize]
+        Quantiser::new(self.index.saturating_sub(self.parts.plan.matrix[b as usize]))
     }
 }
 
@@ -127,25 +121,4 @@ fn rects_of(plan: &Plan, c: Component, slice: u32) -> [Rect; 16]
     let mut rects = [NOWHERE; 16];
     slice_rects(plan, c, slice, &mut rects);
     rects
-}
-
-// The quantisers of the subbands in a slice of this index, in front of others.
-fn quantisers_of(plan: &Plan, index: u8) -> [Quantiser; 16]
-    requires { index ≤ 127 }
-    ensures { AreSliceQuantisers plan.now index result }
-{
-    let mut quantisers = [Quantiser::new(index); 16];
-    for b in 0..band_count(plan) {
-        quantisers[b as usize] = quantiser(plan, b, index);
-    }
-    quantisers
-}
-
-// The slice's index less the subband's matrix value, and at least 0.
-fn quantiser(plan: &Plan, b: u32, index: u8) -> Quantiser
-    requires number { b < band_count plan.now }
-    requires index { index ≤ 127 }
-    ensures { result.index ≡ index - slice_index_or plan.now.matrix b 0 }
-{
-    Quantiser::new(index.saturating_sub(plan.matrix[b as usize]))
 }

@@ -35,7 +35,8 @@ pub(crate) fn blocks_of(
     ensures c2 { IfOk result (λ blocks. bits_of blocks.c2.items
         ≡ up_to_bytes (component_bits plan.now index q coeffs.now C2)) }
 {
-    let bands = SliceBands::new(SliceParts::new(plan, index), q);
+    let parts = SliceParts::new(plan, index);
+    let bands = SliceBands::new(&parts, q);
     let y = codes_of(alloc, &bands, Component::Y, coeffs)?;
     let c1 = codes_of(alloc, &bands, Component::C1, coeffs)?;
     let c2 = codes_of(alloc, &bands, Component::C2, coeffs)?;

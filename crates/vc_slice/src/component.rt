@@ -30,7 +30,7 @@ pub(crate) fn read_component(
         read_subband(
             &mut bits,
             bands.parts.area(c, b),
-            bands.quantiser(b),
+            &bands.quantiser(b),
             coeffs,
         )?;
     }

@@ -49,7 +49,7 @@ fn code_len(number: i64) -> u64
 
 // How many bits the codes of a component's numbers have, up to the last that isn't 0.
 pub(crate) fn block_len(bands: &SliceBands, c: Component, coeffs: &SliceCoeffs) -> u64
-    requires coefficients { AreCoefficients bands.now.parts coeffs.now }
+    requires coefficients { AreCoefficients bands.now.parts.now coeffs.now }
     ensures value { result ≡ length (component_codes bands.now coeffs.now c) }
     ensures range { result < 2 ^ 40 }
 {
@@ -57,7 +57,7 @@ pub(crate) fn block_len(bands: &SliceBands, c: Component, coeffs: &SliceCoeffs) 
     let mut rest = coeffs.component(c);
     for b in 0..band_count(&bands.parts.plan) {
         let (subband, behind) = rest.split_at(bands.parts.area(c, b) as usize);
-        count_subband(&mut counted, &subband, bands.quantiser(b));
+        count_subband(&mut counted, &subband, &bands.quantiser(b));
         rest = behind;
     }
     counted.bits

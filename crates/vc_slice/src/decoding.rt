@@ -66,7 +66,8 @@ fn coefficients(
         → in_range (all_coefficients plan.now slice (coded_of coded.now))
         ≡ Err CoefficientRange }
 {
-    let bands = SliceBands::new(SliceParts::new(plan, slice), coded.index);
+    let parts = SliceParts::new(plan, slice);
+    let bands = SliceBands::new(&parts, coded.index);
     match narrow_coefficients(alloc, &bands, coded) {
         Ok(Some(coeffs)) => Ok(coeffs),
         Ok(None) => wide_coefficients(alloc, &bands, coded),

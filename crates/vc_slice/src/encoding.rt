@@ -123,7 +123,8 @@ fn block_lens(plan: &Plan, index: u32, coeffs: &SliceCoeffs, q: u8) -> BlockLens
     ensures c2 { result.c2 ≡ length (component_bits plan.now index q coeffs.now C2) }
     ensures range { (result.y < 2 ^ 40) × (result.c1 < 2 ^ 40) × (result.c2 < 2 ^ 40) }
 {
-    let bands = SliceBands::new(SliceParts::new(plan, index), q);
+    let parts = SliceParts::new(plan, index);
+    let bands = SliceBands::new(&parts, q);
     BlockLens {
         y: block_len(&bands, Component::Y, coeffs),
         c1: block_len(&bands, Component::C1, coeffs),

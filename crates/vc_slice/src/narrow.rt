@@ -29,8 +29,8 @@ pub(crate) fn read_narrow(
     block: &[u8],
     out: &mut [i32],
 ) -> Result<(), TooWide>
-    requires room { coefficient_count bands.now.parts c + 8 ≤ length out.old }
-    ensures value { OnOk result ((i : ℕ) → i < coefficient_count bands.now.parts c
+    requires room { coefficient_count bands.now.parts.now c + 8 ≤ length out.old }
+    ensures value { OnOk result ((i : ℕ) → i < coefficient_count bands.now.parts.now c
         → line_of out.new i ≡ line_of (coefficients_of_block bands.now c block.now) i) }
     ensures sound { OnOk result
         (list_any is_large (coefficients_of_block bands.now c block.now) ≡ false) }
@@ -51,10 +51,10 @@ pub fn read_numbers(
     block: &[u8],
     out: &mut [i32],
 ) -> Result<u32, TooWide>
-    requires room { coefficient_count bands.now.parts c + 8 ≤ length out.old }
+    requires room { coefficient_count bands.now.parts.now c + 8 ≤ length out.old }
     ensures numbers { OnOk result
-        (AreBlockNumbers (coefficient_count bands.now.parts c) block.now out.new) }
-    ensures most { IfOk result (λ most. AreUpTo most (coefficient_count bands.now.parts c) out.new) }
+        (AreBlockNumbers (coefficient_count bands.now.parts.now c) block.now out.new) }
+    ensures most { IfOk result (λ most. AreUpTo most (coefficient_count bands.now.parts.now c) out.new) }
 {
     let count = bands.parts.count(c) as usize;
     let Ok(most) = read_sints(&bits_of(block), count, out) else {
@@ -82,19 +82,19 @@ pub(crate) fn greatest(numbers: &[i32]) -> u32
 // Puts in the place of a block's numbers, whose magnitudes are at most the greatest, the coefficients that they stand
 // for; false where one may not fit 32 bits.
 fn dequantise(bands: &SliceBands, c: Component, greatest: u32, numbers: &mut [i32]) -> bool
-    requires count { coefficient_count bands.now.parts c ≤ length numbers.old }
-    requires greatest { (i : ℕ) → i < coefficient_count bands.now.parts c
+    requires count { coefficient_count bands.now.parts.now c ≤ length numbers.old }
+    requires greatest { (i : ℕ) → i < coefficient_count bands.now.parts.now c
         → unsigned_abs (line_of numbers.old i) ≤ greatest }
-    ensures value { result ≡ true → (i : ℕ) → i < coefficient_count bands.now.parts c
+    ensures value { result ≡ true → (i : ℕ) → i < coefficient_count bands.now.parts.now c
         → line_of numbers.new i ≡ dequantised (line_of numbers.old i)
         (slice_index_or (quantisers_of bands.now c) i 0) }
-    ensures narrow { result ≡ true → (i : ℕ) → i < coefficient_count bands.now.parts c
+    ensures narrow { result ≡ true → (i : ℕ) → i < coefficient_count bands.now.parts.now c
         → unsigned_abs (line_of numbers.new i) < 2 ^ 29 }
 {
     let mut from = 0usize;
     for b in 0..band_count(&bands.parts.plan) {
         let to = from + bands.parts.area(c, b) as usize;
-        if !dequantise_run(bands.quantiser(b), numbers, from, to, greatest) {
+        if !dequantise_run(&bands.quantiser(b), numbers, from, to, greatest) {
             return false;
         }
         from = to;

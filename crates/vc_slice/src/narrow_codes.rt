@@ -21,7 +21,7 @@ pub(crate) fn narrow_codes(
     c: Component,
     coefficients: &[i32],
 ) -> Result<Vec<u8>, NoMemory>
-    requires { length coefficients.now ≡ coefficient_count bands.now.parts c }
+    requires { length coefficients.now ≡ coefficient_count bands.now.parts.now c }
     ensures { IfOk result (λ bytes. bits_of bytes.items
         ≡ up_to_bytes (block_codes bands.now c coefficients.now)) }
 {
@@ -36,7 +36,7 @@ fn codes_in_place(
     c: Component,
     numbers: &mut [i32],
 ) -> Result<Vec<u8>, NoMemory>
-    requires { length numbers.old ≡ coefficient_count bands.now.parts c }
+    requires { length numbers.old ≡ coefficient_count bands.now.parts.now c }
     ensures { IfOk result (λ bytes. bits_of bytes.items
         ≡ up_to_bytes (block_codes bands.now c numbers.old)) }
 {
@@ -47,7 +47,7 @@ fn codes_in_place(
 
 // Puts in the place of a component's coefficients the numbers that they are quantised to.
 fn quantise(bands: &SliceBands, c: Component, numbers: &mut [i32])
-    requires { length numbers.old ≡ coefficient_count bands.now.parts c }
+    requires { length numbers.old ≡ coefficient_count bands.now.parts.now c }
     ensures { (i : ℕ) → i < length numbers.old → line_of numbers.new i
         ≡ quantised (line_of numbers.old i) (slice_index_or (quantisers_of bands.now c) i 0) }
 {
@@ -55,7 +55,7 @@ fn quantise(bands: &SliceBands, c: Component, numbers: &mut [i32])
     let mut from = 0usize;
     for b in 0..band_count(&bands.parts.plan) {
         let to = from + bands.parts.area(c, b) as usize;
-        quantise_run(bands.quantiser(b), numbers, from, to, greatest);
+        quantise_run(&bands.quantiser(b), numbers, from, to, greatest);
         from = to;
     }
 }

@@ -22,7 +22,7 @@ pub(crate) fn narrow_coefficients(
 ) -> Result<Option<SliceCoeffs>, NoMemory>
     requires index { bands.now.index ≡ coded.now.index }
     ensures value { IfOk result (λ found. IfSome found (λ coeffs. Ok coeffs
-        ≡ in_range (coefficients_of_slice bands.now.parts (coded_of coded.now)))) }
+        ≡ in_range (coefficients_of_slice bands.now.parts.now (coded_of coded.now)))) }
 {
     let y = bands.parts.count(Component::Y) as usize;
     let c = bands.parts.count(Component::C1) as usize;
@@ -42,13 +42,13 @@ fn read_blocks(
     numbers: &mut [i32],
 ) -> Result<(), TooWide>
     requires index { bands.now.index ≡ coded.now.index }
-    requires y { y ≡ coefficient_count bands.now.parts Y }
-    requires c { c ≡ coefficient_count bands.now.parts C1 }
+    requires y { y ≡ coefficient_count bands.now.parts.now Y }
+    requires c { c ≡ coefficient_count bands.now.parts.now C1 }
     requires room { y + c + c + 8 ≤ length numbers.old }
     ensures value { OnOk result (three_parts y c c numbers.new
-        ≡ coefficients_of_slice bands.now.parts (coded_of coded.now)) }
-    ensures sound { OnOk result (in_range (coefficients_of_slice bands.now.parts (coded_of coded.now))
-        ≡ Ok (coefficients_of_slice bands.now.parts (coded_of coded.now))) }
+        ≡ coefficients_of_slice bands.now.parts.now (coded_of coded.now)) }
+    ensures sound { OnOk result (in_range (coefficients_of_slice bands.now.parts.now (coded_of coded.now))
+        ≡ Ok (coefficients_of_slice bands.now.parts.now (coded_of coded.now))) }
 {
     read_at(bands, Component::Y, coded.y, 0, numbers)?;
     read_at(bands, Component::C1, coded.c1, y, numbers)?;
@@ -64,8 +64,8 @@ fn read_at(
     from: usize,
     numbers: &mut [i32],
 ) -> Result<(), TooWide>
-    requires room { from + coefficient_count bands.now.parts c + 8 ≤ length numbers.old }
-    ensures on { OnOk result ((i : ℕ) → i < coefficient_count bands.now.parts c
+    requires room { from + coefficient_count bands.now.parts.now c + 8 ≤ length numbers.old }
+    ensures on { OnOk result ((i : ℕ) → i < coefficient_count bands.now.parts.now c
         → line_of numbers.new (from + i) ≡ line_of (coefficients_of_block bands.now c block.now) i) }
     ensures off { (i : ℕ) → i < from → line_of numbers.new i ≡ line_of numbers.old i }
     ensures sound { OnOk result

@@ -21,9 +21,9 @@ pub(crate) fn wide_coefficients(
 ) -> Result<SliceCoeffs, Stopped>
     requires index { bands.now.index ≡ coded.now.index }
     ensures value { IfOk result (λ coeffs. Ok coeffs
-        ≡ in_range (coefficients_of_slice bands.now.parts (coded_of coded.now))) }
+        ≡ in_range (coefficients_of_slice bands.now.parts.now (coded_of coded.now))) }
     ensures large { result ≡ Err stopped.Large
-        → in_range (coefficients_of_slice bands.now.parts (coded_of coded.now))
+        → in_range (coefficients_of_slice bands.now.parts.now (coded_of coded.now))
         ≡ Err CoefficientRange }
 {
     let y = bands.parts.count(Component::Y) as usize;

@@ -23,7 +23,7 @@ pub(crate) fn codes_of(
     c: Component,
     coeffs: &SliceCoeffs,
 ) -> Result<Vec<u8>, NoMemory>
-    requires { AreCoefficients bands.now.parts coeffs.now }
+    requires { AreCoefficients bands.now.parts.now coeffs.now }
     ensures { IfOk result (λ bytes. bits_of bytes.items
         ≡ up_to_bytes (component_codes bands.now coeffs.now c)) }
 {
@@ -46,14 +46,14 @@ fn write_codes(
     c: Component,
     coeffs: &SliceCoeffs,
 ) -> Result<(), NoMemory>
-    requires { AreCoefficients bands.now.parts coeffs.now }
+    requires { AreCoefficients bands.now.parts.now coeffs.now }
     ensures { OnOk result (w.new ≡ w.old ++ component_codes bands.now coeffs.now c) }
 {
     let mut zeros = 0;
     let mut rest = coeffs.component(c);
     for b in 0..band_count(&bands.parts.plan) {
         let (subband, behind) = rest.split_at(bands.parts.area(c, b) as usize);
-        zeros = write_subband(w, zeros, &subband, bands.quantiser(b))?;
+        zeros = write_subband(w, zeros, &subband, &bands.quantiser(b))?;
         rest = behind;
     }
     Ok(())

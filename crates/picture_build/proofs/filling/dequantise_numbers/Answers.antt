@@ -9,7 +9,7 @@ use Rattle.picture_build.proofs.filling.dequantise_numbers.Goals as goal
 
 pub loop-b-init : goal.loop-b-init
 loop-b-init c = record {
-  from = sym (coefficients_before-none (parameters_of c.args.bands.now.parts.plan) c.args.c c.args.bands.now.parts.slice);
+  from = sym (coefficients_before-none (parameters_of c.args.bands.now.parts.now.plan) c.args.c c.args.bands.now.parts.now.slice);
   on = λ i h. absurd (omega arith);
   narrow = λ i h. absurd (omega arith);
   off = λ k none. refl;
@@ -18,23 +18,23 @@ loop-b-init c = record {
 
 pub put_rect-requires-clause-from : goal.put_rect-requires-clause-from
 put_rect-requires-clause-from c =
-    let within = subband_within c.args.bands.now.parts c.args.c c.loop-b.b c.loop-b.from c.rect-rect.result (omega arith) c.rect-rect.ensures.value c.loop-b.invariant.from in
+    let within = subband_within c.args.bands.now.parts.now c.args.c c.loop-b.b c.loop-b.from c.rect-rect.result (omega arith) c.rect-rect.ensures.value c.loop-b.invariant.from in
     omega (arith, within, c.requires.count)
 
 pub put_rect-requires-clause-small : goal.put_rect-requires-clause-small
 put_rect-requires-clause-small c = λ j h.
-    let within = subband_within c.args.bands.now.parts c.args.c c.loop-b.b c.loop-b.from c.rect-rect.result (omega arith) c.rect-rect.ensures.value c.loop-b.invariant.from in
+    let within = subband_within c.args.bands.now.parts.now c.args.c c.loop-b.b c.loop-b.from c.rect-rect.result (omega arith) c.rect-rect.ensures.value c.loop-b.invariant.from in
     rw c.in-Some.ensures.same.1 (c.requires.small (c.loop-b.from + j) (omega (arith, within)))
 
 pub overflow_add-from : goal.overflow_add-from
 overflow_add-from c =
-    let within = subband_within c.args.bands.now.parts c.args.c c.loop-b.b c.loop-b.from c.rect-rect.result (omega arith) c.rect-rect.ensures.value c.loop-b.invariant.from in
+    let within = subband_within c.args.bands.now.parts.now c.args.c c.loop-b.b c.loop-b.from c.rect-rect.result (omega arith) c.rect-rect.ensures.value c.loop-b.invariant.from in
     omega (arith, within, c.requires.count)
 
 pub loop-b-preserved : goal.loop-b-preserved
 loop-b-preserved c =
     let bands = c.args.bands.now in
-    let parts = bands.parts in
+    let parts = bands.parts.now in
     let numbers = c.args.numbers.now in
     let coeffs = coefficient bands c.args.c numbers in
     let r = c.rect-rect.result in
@@ -55,9 +55,9 @@ loop-b-preserved c =
     }
 
 pub returns-clause-on : goal.returns-clause-on
-returns-clause-on c = all_stand c.args.bands.now.parts c.args.c c.loop-b.b c.loop-b.from (coefficient c.args.bands.now c.args.c c.args.numbers.now) c.loop-b.cells (omega arith) c.loop-b.invariant.from c.loop-b.invariant.on
+returns-clause-on c = all_stand c.args.bands.now.parts.now c.args.c c.loop-b.b c.loop-b.from (coefficient c.args.bands.now c.args.c c.args.numbers.now) c.loop-b.cells (omega arith) c.loop-b.invariant.from c.loop-b.invariant.on
 
 pub returns-clause-narrow : goal.returns-clause-narrow
 returns-clause-narrow c = λ i h.
-    let all = coefficients_before-all (parameters_of c.args.bands.now.parts.plan) c.args.c c.args.bands.now.parts.slice c.loop-b.b (omega arith) in
+    let all = coefficients_before-all (parameters_of c.args.bands.now.parts.now.plan) c.args.c c.args.bands.now.parts.now.slice c.loop-b.b (omega arith) in
     subst (λ z. unsigned_abs z < 2 ^ 29) (sym (returns-clause-on c i h)) (c.loop-b.invariant.narrow i (omega (arith, all, c.loop-b.invariant.from)))

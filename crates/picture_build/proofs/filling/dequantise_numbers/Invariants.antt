@@ -8,9 +8,9 @@ use Rattle.picture_build.proofs.filling.dequantise_numbers.Given as goal
 
 abbrev pub invariant-loop-b : goal.invariant-loop-b
 invariant-loop-b l = record {
-  from : l.from ≡ coefficients_before (parameters_of l.bands.parts.plan) l.c l.bands.parts.slice l.b;
-  on : FirstStand l.bands.parts l.c (coefficient l.bands l.c l.numbers) l.from l.cells;
+  from : l.from ≡ coefficients_before (parameters_of l.bands.parts.now.plan) l.c l.bands.parts.now.slice l.b;
+  on : FirstStand l.bands.parts.now l.c (coefficient l.bands l.c l.numbers) l.from l.cells;
   narrow : (i : ℕ) → i < l.from → unsigned_abs (coefficient l.bands l.c l.numbers i) < 2 ^ 29;
-  off : OthersStay l.bands.parts l.c (coefficient_count l.bands.parts l.c) l.initial.cells l.cells;
+  off : OthersStay l.bands.parts.now l.c (coefficient_count l.bands.parts.now l.c) l.initial.cells l.cells;
   length : length l.cells ≡ length l.initial.cells;
 }

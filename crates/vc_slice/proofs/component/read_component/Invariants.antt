@@ -8,6 +8,6 @@ use Rattle.vc_slice.proofs.component.read_component.Given as goal
 
 abbrev pub invariant-loop-b : goal.invariant-loop-b
 invariant-loop-b l = record {
-  read : l.coeffs.items ++ coefficients_by (quantisers_from (parameters_of l.bands.parts.plan) l.c l.bands.parts.slice l.bands.index l.b) l.bits ≡ l.initial.coeffs.items ++ block_coefficients (parameters_of l.bands.parts.plan) l.c l.bands.parts.slice l.bands.index l.block;
+  read : l.coeffs.items ++ coefficients_by (quantisers_from (parameters_of l.bands.parts.now.plan) l.c l.bands.parts.now.slice l.bands.index l.b) l.bits ≡ l.initial.coeffs.items ++ block_coefficients (parameters_of l.bands.parts.now.plan) l.c l.bands.parts.now.slice l.bands.index l.block;
   sound : list_any is_large l.coeffs.items ≡ false;
 }

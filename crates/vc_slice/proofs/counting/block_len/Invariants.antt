@@ -8,7 +8,7 @@ use Rattle.vc_slice.proofs.counting.block_len.Given as goal
 
 abbrev pub invariant-loop-b : goal.invariant-loop-b
 invariant-loop-b l = record {
-  rest : AreFrom (parameters_of l.bands.parts.plan) l.bands.parts.slice l.bands.index l.c l.b (listed l.rest);
-  bits : l.counted.bits + length (codes_behind l.counted.zeros (numbers_from (parameters_of l.bands.parts.plan) l.bands.parts.slice l.bands.index l.c l.b (listed l.rest))) ≡ length (component_bits (parameters_of l.bands.parts.plan) l.bands.parts.slice l.bands.index l.coeffs l.c);
+  rest : AreFrom (parameters_of l.bands.parts.now.plan) l.bands.parts.now.slice l.bands.index l.c l.b (listed l.rest);
+  bits : l.counted.bits + length (codes_behind l.counted.zeros (numbers_from (parameters_of l.bands.parts.now.plan) l.bands.parts.now.slice l.bands.index l.c l.b (listed l.rest))) ≡ length (component_bits (parameters_of l.bands.parts.now.plan) l.bands.parts.now.slice l.bands.index l.coeffs l.c);
   room : l.counted.bits + l.counted.zeros ≤ l.b * (128 * 2 ^ 26);
 }

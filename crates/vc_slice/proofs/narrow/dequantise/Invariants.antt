@@ -9,9 +9,9 @@ use Rattle.vc_slice.proofs.narrow.dequantise.Given as goal
 
 abbrev pub invariant-loop-b : goal.invariant-loop-b
 invariant-loop-b l = record {
-  from : l.from ≡ coefficients_before (parameters_of l.bands.parts.plan) l.c l.bands.parts.slice l.b;
+  from : l.from ≡ coefficients_before (parameters_of l.bands.parts.now.plan) l.c l.bands.parts.now.slice l.b;
   length : length l.numbers ≡ length l.initial.numbers;
-  done : (i : ℕ) → i < l.from → line_of l.numbers i ≡ dequantised (line_of l.initial.numbers i) (slice_index_or (quantisers (parameters_of l.bands.parts.plan) l.c l.bands.parts.slice l.bands.index) i 0);
+  done : (i : ℕ) → i < l.from → line_of l.numbers i ≡ dequantised (line_of l.initial.numbers i) (slice_index_or (quantisers (parameters_of l.bands.parts.now.plan) l.c l.bands.parts.now.slice l.bands.index) i 0);
   narrow : (i : ℕ) → i < l.from → unsigned_abs (line_of l.numbers i) < 2 ^ 29;
   left : (i : ℕ) → l.from ≤ i → line_of l.numbers i ≡ line_of l.initial.numbers i;
 }

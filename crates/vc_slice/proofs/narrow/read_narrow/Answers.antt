@@ -10,6 +10,6 @@ returns-then-dequantise-clause-value c = grind (arith, coefficient_of)
 
 pub returns-then-dequantise-clause-sound : goal.returns-then-dequantise-clause-sound
 returns-then-dequantise-clause-sound c =
-    let p = parameters_of c.args.bands.now.parts.plan in
-    none_large (block_coefficients p c.args.c c.args.bands.now.parts.slice c.args.bands.now.index c.args.block.now) c.dequantise.new.numbers (slice_coefficient_count p c.args.c c.args.bands.now.parts.slice)
-    (length-block p c.args.c c.args.bands.now.parts.slice c.args.bands.now.index c.args.block.now) (returns-then-dequantise-clause-value c) (c.dequantise.ensures.narrow (search rules))
+    let p = parameters_of c.args.bands.now.parts.now.plan in
+    none_large (block_coefficients p c.args.c c.args.bands.now.parts.now.slice c.args.bands.now.index c.args.block.now) c.dequantise.new.numbers (slice_coefficient_count p c.args.c c.args.bands.now.parts.now.slice)
+    (length-block p c.args.c c.args.bands.now.parts.now.slice c.args.bands.now.index c.args.block.now) (returns-then-dequantise-clause-value c) (c.dequantise.ensures.narrow (search rules))

@@ -7,7 +7,7 @@ use Rattle.vc_slice.proofs.narrow_codes.codes_in_place.Goals as goal
 pub sint_codes-requires : goal.sint_codes-requires
 sint_codes-requires c =
     let long : length c.quantise.new.numbers ≡ length c.args.numbers.now = search rules in
-    omega (arith, few_coefficients c.args.bands.now.parts c.args.c, long, c.requires, length-take c.used-used.result c.quantise.new.numbers)
+    omega (arith, few_coefficients c.args.bands.now.parts.now c.args.c, long, c.requires, length-take c.used-used.result c.quantise.new.numbers)
 
 pub returns : goal.returns
 unfolding block_bits

@@ -13,8 +13,8 @@ read_at-requires-3 c = omega (arith, colour_counts)
 
 pub returns-clause-value : goal.returns-clause-value
 returns-clause-value c =
-    let p = parameters_of c.args.bands.now.parts.plan in
-    let n = c.args.bands.now.parts.slice in
+    let p = parameters_of c.args.bands.now.parts.now.plan in
+    let n = c.args.bands.now.parts.now.slice in
     let coded = c.args.coded.now in
     let index = c.args.bands.now.index in
     let both = colour_counts p n in

@@ -8,7 +8,7 @@ pub loop-b-init : goal.loop-b-init
 loop-b-init c = grind (arith, all_from, all_bits)
 
 pub split_at-requires : goal.split_at-requires
-split_at-requires c = enough (parameters_of c.args.bands.now.parts.plan) c.args.bands.now.parts.slice c.args.bands.now.index c.args.c c.loop-b.b c.area.result (listed c.loop-b.rest) (omega arith) c.area.ensures.value c.loop-b.invariant.rest
+split_at-requires c = enough (parameters_of c.args.bands.now.parts.now.plan) c.args.bands.now.parts.now.slice c.args.bands.now.index c.args.c c.loop-b.b c.area.result (listed c.loop-b.rest) (omega arith) c.area.ensures.value c.loop-b.invariant.rest
 
 pub loop-b-preserved : goal.loop-b-preserved
 loop-b-preserved c = grind (arith, subband_from, rest_from, numbers_from)

@@ -8,7 +8,7 @@ use Rattle.vc_slice.proofs.writing.write_codes.Given as goal
 
 abbrev pub invariant-loop-b : goal.invariant-loop-b
 invariant-loop-b l = record {
-  rest : AreFrom (parameters_of l.bands.parts.plan) l.bands.parts.slice l.bands.index l.c l.b (listed l.rest);
-  codes : l.w ++ codes_behind l.zeros (numbers_from (parameters_of l.bands.parts.plan) l.bands.parts.slice l.bands.index l.c l.b (listed l.rest)) ≡ l.fn.w ++ component_bits (parameters_of l.bands.parts.plan) l.bands.parts.slice l.bands.index l.coeffs l.c;
+  rest : AreFrom (parameters_of l.bands.parts.now.plan) l.bands.parts.now.slice l.bands.index l.c l.b (listed l.rest);
+  codes : l.w ++ codes_behind l.zeros (numbers_from (parameters_of l.bands.parts.now.plan) l.bands.parts.now.slice l.bands.index l.c l.b (listed l.rest)) ≡ l.fn.w ++ component_bits (parameters_of l.bands.parts.now.plan) l.bands.parts.now.slice l.bands.index l.coeffs l.c;
   room : l.zeros ≤ l.b * 2 ^ 26;
 }
