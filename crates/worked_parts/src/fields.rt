@@ -82,13 +82,14 @@ fn have_even_heights(planes: &[Plane; 3]) -> bool
 }
 
 fn add_planes(alloc: Global, planes: &[Plane; 3], into: &mut String) -> Result<(), Bad> {
-    add_samples(alloc, into, planes[0].samples())?;
-    add_samples(alloc, into, planes[1].samples())?;
-    add_samples(alloc, into, planes[2].samples())
+    for plane in planes {
+        add_samples(alloc, into, plane.samples())?;
+    }
+    Ok(())
 }
 
 /// The frame of two fields, of which the earlier is the first.
-pub(crate) fn woven(alloc: Global, given: &str) -> Result<String, Bad> {
+pub(crate) fn woven(alloc: Global, given: &str, into: &mut String) -> Result<(), Bad> {
     let (front, both) = parted(given)?;
     let sizes = sizes_of(front)?;
     let (first, second) = parted(both)?;
@@ -98,23 +99,30 @@ pub(crate) fn woven(alloc: Global, given: &str) -> Result<String, Bad> {
         return Err(Bad::NoRow);
     }
     let frame = weave(alloc, first, second, sizes.top_first)?;
-    let mut all = String::new(alloc);
-    add_planes(alloc, &frame, &mut all)?;
-    Ok(all)
+    add_planes(alloc, &frame, into)
+}
+
+fn add_split(
+    alloc: Global,
+    frame: &[Plane; 3],
+    top_first: bool,
+    into: &mut String,
+) -> Result<(), Bad>
+    requires { HaveEvenHeights (planes_in frame.now) }
+{
+    let (first, second) = split(alloc, frame, top_first)?;
+    add_planes(alloc, &first, into)?;
+    add_word(into, ":")?;
+    add_planes(alloc, &second, into)
 }
 
 /// The two fields of a frame, the earlier first.
-pub(crate) fn parts(alloc: Global, given: &str) -> Result<String, Bad> {
+pub(crate) fn parts(alloc: Global, given: &str, into: &mut String) -> Result<(), Bad> {
     let (front, frame) = parted(given)?;
     let sizes = sizes_of(front)?;
     let frame = planes(alloc, &sizes, frame)?;
     if !have_even_heights(&frame) {
         return Err(Bad::NoRow);
     }
-    let (first, second) = split(alloc, &frame, sizes.top_first)?;
-    let mut all = String::new(alloc);
-    add_planes(alloc, &first, &mut all)?;
-    add_word(&mut all, ":")?;
-    add_planes(alloc, &second, &mut all)?;
-    Ok(all)
+    add_split(alloc, &frame, sizes.top_first, into)
 }

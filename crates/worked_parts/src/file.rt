@@ -1,5 +1,5 @@
 use crate::kinds::came;
-use crate::words::spread;
+use crate::words::{add_pieces, spread};
 use std::alloc::Global;
 use worked_common::{Bad, Part, put};
 
@@ -25,22 +25,31 @@ fn add_part(alloc: Global, parts: &mut Vec<Part>, text: &str) -> Result<(), Bad>
     Ok(())
 }
 
+// Whether what came says the same as what is wanted, both with one space after each word.
+fn is_wanted(alloc: Global, parts: &[Part], came: &str, wanted: &str) -> Result<bool, Bad> {
+    let wanted = spread(alloc, parts, wanted)?;
+    Ok(came == wanted.as_str())
+}
+
 fn try_row(alloc: Global, read: &mut Read, kind: &str, rest: &str) -> Result<(), Bad> {
     let Some((given, wanted)) = rest.split_once('=') else {
         return Err(Bad::NoRow);
     };
-    let parts = read.parts.as_slice();
-    let came = came(alloc, parts, kind, given)?;
-    let came = spread(alloc, parts, came.as_str())?;
-    let wanted = spread(alloc, parts, wanted)?;
-    let came = came.as_str();
-    if came != wanted.as_str() {
-        let said = format!(in alloc; "{kind} {given}= {came}, which isn't what is wanted\n")?;
-        read.said.push_str(said.as_str())?;
-        read.differ = read.differ.saturating_add(1);
-    }
     read.rows = read.rows.saturating_add(1);
-    Ok(())
+    let came = came(alloc, read.parts.as_slice(), kind, given)?;
+    if is_wanted(alloc, read.parts.as_slice(), came.as_str(), wanted)? {
+        return Ok(());
+    }
+    read.differ = read.differ.saturating_add(1);
+    let came = [
+        kind,
+        " ",
+        given,
+        "= ",
+        came.as_str(),
+        ", which isn't what is wanted\n",
+    ];
+    add_pieces(&mut read.said, &came)
 }
 
 fn take_line(alloc: Global, read: &mut Read, line: &str) -> Result<(), Bad> {

@@ -1,3 +1,4 @@
+use crate::words::spread;
 use crate::{
     bits, codes, datagrams, fields, headers, lines, narrow_planes, parameters, places, planes,
     ports, quantisers, sizes, slices, wires,
@@ -5,8 +6,14 @@ use crate::{
 use std::alloc::Global;
 use worked_common::{Bad, Part};
 
-/// What a call came to, as text: the kind of a row says which call, and what it is given stands behind that.
+/// What a call came to, as text, with one space after each word: the kind of a row says which call, and what it is
+/// given stands behind that.
 pub(crate) fn came(alloc: Global, parts: &[Part], kind: &str, given: &str) -> Result<String, Bad> {
+    let came = came_of_codes(alloc, parts, kind, given)?;
+    spread(alloc, parts, came.as_str())
+}
+
+fn came_of_codes(alloc: Global, parts: &[Part], kind: &str, given: &str) -> Result<String, Bad> {
     match kind {
         "read-bits" => bits::read(alloc, parts, given),
         "read-block" => bits::read_block(alloc, parts, given),
@@ -18,89 +25,113 @@ pub(crate) fn came(alloc: Global, parts: &[Part], kind: &str, given: &str) -> Re
         "read-unsigned" => codes::read_unsigned(alloc, parts, given),
         "read-signed" => codes::read_signed(alloc, parts, given),
         "read-signed-at-once" => codes::read_signed_at_once(alloc, parts, given),
-        "factors" => quantisers::factors(alloc, given),
-        "offsets" => quantisers::offsets(alloc, given),
-        "dequantised" => quantisers::dequantised(alloc, given),
-        "dequantised-at-once" => quantisers::dequantised_at_once(alloc, given),
-        "quantised" => quantisers::quantised(alloc, given),
-        "quantised-at-once" => quantisers::quantised_at_once(alloc, given),
-        "last-indices" => quantisers::last_indices(alloc, given),
-        "default-matrix" => quantisers::matrix(alloc, given),
-        _ => came_of_heads(alloc, parts, kind, given),
-    }
-}
-
-fn came_of_heads(alloc: Global, parts: &[Part], kind: &str, given: &str) -> Result<String, Bad> {
-    match kind {
         "header" => headers::header(alloc, parts, given),
         "header-of" => headers::header_of(alloc, parts, given),
         "header-cuts" => headers::header_cuts(alloc, parts, given),
         "header-written" => headers::header_written(alloc, given),
         "header-planes" => headers::header_planes(alloc, parts, given),
-        "parameters" => parameters::parameters(alloc, parts, given),
-        "parameters-cuts" => parameters::parameters_cuts(alloc, parts, given),
-        "parameters-written" => parameters::parameters_written(alloc, parts, given),
-        "plan-planes" => parameters::plan_planes(alloc, parts, given),
-        "rtp" => datagrams::rtp(alloc, parts, given),
-        "rtp-cuts" => datagrams::rtp_cuts(alloc, parts, given),
-        "rtp-written" => datagrams::rtp_written(alloc, given),
-        "payload" => datagrams::payload(alloc, parts, given),
-        "payload-cuts" => datagrams::payload_cuts(alloc, parts, given),
-        "payload-written" => datagrams::payload_written(alloc, parts, given),
-        "cut" => slices::cut_slice(alloc, parts, given),
-        "cut-cuts" => slices::cut_cuts(alloc, parts, given),
-        "slice" => slices::slice(alloc, parts, given),
-        "slice-kept" => slices::slice_kept(alloc, parts, given),
-        "slice-written" => slices::slice_written(alloc, parts, given),
-        "slice-lengths" => slices::slice_lengths(alloc, parts, given),
-        _ => came_of_ports(alloc, parts, kind, given),
+        _ => came_of_others(alloc, parts, kind, given),
     }
 }
 
-fn came_of_ports(alloc: Global, parts: &[Part], kind: &str, given: &str) -> Result<String, Bad> {
+fn came_of_others(alloc: Global, parts: &[Part], kind: &str, given: &str) -> Result<String, Bad> {
+    let mut all = String::new(alloc);
+    add_of_parts(alloc, parts, kind, given, &mut all)?;
+    Ok(all)
+}
+
+fn add_of_parts(
+    alloc: Global,
+    parts: &[Part],
+    kind: &str,
+    given: &str,
+    into: &mut String,
+) -> Result<(), Bad> {
     match kind {
-        "memory-source" => ports::memory_source(alloc, parts, given),
-        "plain-source" => ports::plain_source(alloc, parts, given),
-        "filled" => ports::filled(alloc, parts, given),
-        "memory-sink" => ports::memory_sink(alloc, parts, given),
-        "plain-sink" => ports::plain_sink(alloc, parts, given),
-        "written" => ports::written(alloc, parts, given),
-        "memory-wire" => wires::memory_wire(alloc, parts, given),
-        "plain-wire" => wires::plain_wire(alloc, parts, given),
-        _ => came_of_planes(alloc, kind, given),
+        "parameters" => parameters::parameters(alloc, parts, given, into),
+        "parameters-cuts" => parameters::parameters_cuts(alloc, parts, given, into),
+        "parameters-written" => parameters::parameters_written(alloc, parts, given, into),
+        "plan-planes" => parameters::plan_planes(alloc, parts, given, into),
+        "rtp" => datagrams::rtp(alloc, parts, given, into),
+        "rtp-cuts" => datagrams::rtp_cuts(alloc, parts, given, into),
+        "rtp-written" => datagrams::rtp_written(alloc, given, into),
+        "payload" => datagrams::payload(alloc, parts, given, into),
+        "payload-cuts" => datagrams::payload_cuts(alloc, parts, given, into),
+        "payload-written" => datagrams::payload_written(alloc, parts, given, into),
+        "cut" => slices::cut_slice(alloc, parts, given, into),
+        "cut-cuts" => slices::cut_cuts(alloc, parts, given, into),
+        "slice" => slices::slice(alloc, parts, given, into),
+        "slice-kept" => slices::slice_kept(alloc, parts, given, into),
+        "slice-written" => slices::slice_written(alloc, parts, given, into),
+        "slice-lengths" => slices::slice_lengths(alloc, parts, given, into),
+        _ => add_of_ports(alloc, parts, kind, given, into),
     }
 }
 
-fn came_of_planes(alloc: Global, kind: &str, given: &str) -> Result<String, Bad> {
+fn add_of_ports(
+    alloc: Global,
+    parts: &[Part],
+    kind: &str,
+    given: &str,
+    into: &mut String,
+) -> Result<(), Bad> {
     match kind {
-        "synthesised" => lines::synthesised(alloc, given),
-        "analysed" => lines::analysed(alloc, given),
-        "synthesised-sums" => lines::synthesised_sums(alloc, given),
-        "analysed-sums" => lines::analysed_sums(alloc, given),
-        "comes-back" => lines::back(alloc, given),
-        "columns-synthesised" => lines::columns_synthesised(alloc, given),
-        "columns-analysed" => lines::columns_analysed(alloc, given),
-        "synthesis-bound" => lines::synthesis_bound(alloc, given),
-        "analysis-bound" => lines::analysis_bound(alloc, given),
-        "padding" => places::padding(alloc, given),
-        "subbands" => places::subbands(alloc, given),
-        "slice-rectangles" => places::rectangles(alloc, given),
-        "slice-rectangles-at-once" => places::rectangles_at_once(alloc, given),
-        "coefficient-counts" => places::lengths(alloc, given),
-        "coefficient-places" => places::places(alloc, given),
-        "inverse" => planes::inverses(alloc, given),
-        "inverse-sum" => planes::inverse_sum(alloc, given),
-        "forward" => planes::forwards(alloc, given),
-        "output" => narrow_planes::outputs(alloc, given),
-        "output-of-extremes" => narrow_planes::extreme_outputs(alloc, given),
-        "forward-of-extremes" => narrow_planes::extreme_forwards(alloc, given),
-        "woven" => fields::woven(alloc, given),
-        "split" => fields::parts(alloc, given),
-        "dimensions" => sizes::dimensions(alloc, given),
-        "slices" => sizes::slices(alloc, given),
-        "padded" => sizes::side(alloc, given),
-        "picture-height" => sizes::height(alloc, given),
-        "shape" => sizes::shape(alloc, given),
+        "memory-source" => ports::memory_source(alloc, parts, given, into),
+        "plain-source" => ports::plain_source(alloc, parts, given, into),
+        "filled" => ports::filled(alloc, parts, given, into),
+        "memory-sink" => ports::memory_sink(alloc, parts, given, into),
+        "plain-sink" => ports::plain_sink(alloc, parts, given, into),
+        "written" => ports::written(alloc, parts, given, into),
+        "memory-wire" => wires::memory_wire(alloc, parts, given, into),
+        "plain-wire" => wires::plain_wire(alloc, parts, given, into),
+        _ => add_of_quantisers(alloc, kind, given, into),
+    }
+}
+
+fn add_of_quantisers(alloc: Global, kind: &str, given: &str, into: &mut String) -> Result<(), Bad> {
+    match kind {
+        "factors" => quantisers::factors(alloc, given, into),
+        "offsets" => quantisers::offsets(alloc, given, into),
+        "dequantised" => quantisers::dequantised(alloc, given, into),
+        "dequantised-at-once" => quantisers::dequantised_at_once(alloc, given, into),
+        "quantised" => quantisers::quantised(alloc, given, into),
+        "quantised-at-once" => quantisers::quantised_at_once(alloc, given, into),
+        "last-indices" => quantisers::last_indices(alloc, given, into),
+        "default-matrix" => quantisers::matrix(alloc, given, into),
+        "woven" => fields::woven(alloc, given, into),
+        "split" => fields::parts(alloc, given, into),
+        "dimensions" => sizes::dimensions(given, into),
+        "slices" => sizes::slices(given, into),
+        "padded" => sizes::side(alloc, given, into),
+        "picture-height" => sizes::height(alloc, given, into),
+        "shape" => sizes::shape(alloc, given, into),
+        _ => add_of_planes(alloc, kind, given, into),
+    }
+}
+
+fn add_of_planes(alloc: Global, kind: &str, given: &str, into: &mut String) -> Result<(), Bad> {
+    match kind {
+        "synthesised" => lines::synthesised(alloc, given, into),
+        "analysed" => lines::analysed(alloc, given, into),
+        "synthesised-sums" => lines::synthesised_sums(alloc, given, into),
+        "analysed-sums" => lines::analysed_sums(alloc, given, into),
+        "comes-back" => lines::back(alloc, given, into),
+        "columns-synthesised" => lines::columns_synthesised(alloc, given, into),
+        "columns-analysed" => lines::columns_analysed(alloc, given, into),
+        "synthesis-bound" => lines::synthesis_bound(alloc, given, into),
+        "analysis-bound" => lines::analysis_bound(alloc, given, into),
+        "padding" => places::padding(alloc, given, into),
+        "subbands" => places::subbands(alloc, given, into),
+        "slice-rectangles" => places::rectangles(alloc, given, into),
+        "slice-rectangles-at-once" => places::rectangles_at_once(alloc, given, into),
+        "coefficient-counts" => places::lengths(alloc, given, into),
+        "coefficient-places" => places::places(alloc, given, into),
+        "inverse" => planes::inverses(alloc, given, into),
+        "inverse-sum" => planes::inverse_sum(alloc, given, into),
+        "forward" => planes::forwards(alloc, given, into),
+        "output" => narrow_planes::outputs(alloc, given, into),
+        "output-of-extremes" => narrow_planes::extreme_outputs(alloc, given, into),
+        "forward-of-extremes" => narrow_planes::extreme_forwards(alloc, given, into),
         _ => Err(Bad::NoRow),
     }
 }

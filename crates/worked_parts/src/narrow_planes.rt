@@ -4,9 +4,7 @@ ghost use Rattle.vc_types.specs.Subbands.{plane_width, plane_height, plane_depth
 
 use crate::planes::{format_of, is_alike, plane_of};
 use crate::plans::{PlannedPlane, planned};
-use crate::words::{
-    add_number, add_samples, natural, parted, samples, short_numbers, text, weighed,
-};
+use crate::words::{add_number, add_samples, add_word, natural, short_numbers, weighed};
 use std::alloc::Global;
 use vc_geometry::padded;
 use vc_types::Plane;
@@ -51,17 +49,13 @@ fn turned(alloc: Global, of: &PlannedPlane, nested: &[i32]) -> Result<Vec<i32>, 
 }
 
 /// The samples of coefficients, clipped, in 32 bits, or that these aren't enough.
-pub(crate) fn outputs(alloc: Global, given: &str) -> Result<String, Bad> {
+pub(crate) fn outputs(alloc: Global, given: &str, into: &mut String) -> Result<(), Bad> {
     let (planned, cells) = planned(alloc, given)?;
     let nested = short_numbers(alloc, cells)?;
     let mut cells = turned(alloc, &planned, nested.as_slice())?;
     match put_out(alloc, &planned, cells.as_mut_slice())? {
-        Some(made) => {
-            let mut all = String::new(alloc);
-            add_samples(alloc, &mut all, made.as_slice())?;
-            Ok(all)
-        }
-        None => text(alloc, "wide"),
+        Some(made) => add_samples(alloc, into, made.as_slice()),
+        None => add_word(into, "wide"),
     }
 }
 
@@ -85,19 +79,17 @@ fn extreme_cells(alloc: Global, count: u32, most: i32) -> Result<Vec<i32>, Bad> 
     Ok(cells)
 }
 
-fn sum_of_samples(alloc: Global, samples: &[u16]) -> Result<String, Bad> {
+fn add_sum(alloc: Global, samples: &[u16], into: &mut String) -> Result<(), Bad> {
     let mut wide = Vec::new(alloc);
     for sample in samples {
         wide.push(i128::from(*sample))?;
     }
-    let mut all = String::new(alloc);
-    add_number(alloc, &mut all, weighed(wide.as_slice()))?;
-    Ok(all)
+    add_number(alloc, into, weighed(wide.as_slice()))
 }
 
 /// The sum of each sample times its place where all coefficients, whose rows are taken in turn, are so large, or that 32
 /// bits aren't enough.
-pub(crate) fn extreme_outputs(alloc: Global, given: &str) -> Result<String, Bad> {
+pub(crate) fn extreme_outputs(alloc: Global, given: &str, into: &mut String) -> Result<(), Bad> {
     let (planned, most) = planned(alloc, given)?;
     let Ok(most) = i32::try_from(natural(most)?) else {
         return Err(Bad::NoRow);
@@ -105,8 +97,8 @@ pub(crate) fn extreme_outputs(alloc: Global, given: &str) -> Result<String, Bad>
     let (width, height) = padded(&planned.plan, planned.component);
     let mut cells = extreme_cells(alloc, width * height, most)?;
     match put_out(alloc, &planned, cells.as_mut_slice())? {
-        Some(made) => sum_of_samples(alloc, made.as_slice()),
-        None => text(alloc, "wide"),
+        Some(made) => add_sum(alloc, made.as_slice(), into),
+        None => add_word(into, "wide"),
     }
 }
 
@@ -115,6 +107,20 @@ fn cell_at(cells: &[i32], columns: usize, x: usize, row: usize) -> Result<i128, 
         Some(cell) => Ok(i128::from(*cell)),
         None => Err(Bad::NoRow),
     }
+}
+
+// The same coefficients, whose rows are taken in turn, row by row in nested subbands.
+fn nested(alloc: Global, of: &PlannedPlane, cells: &[i32]) -> Result<Vec<i128>, Bad> {
+    let (width, height) = padded(&of.plan, of.component);
+    let (columns, rows) = (width as usize, height as usize);
+    let mut nested = Vec::new(alloc);
+    for y in 0..rows {
+        for x in 0..columns {
+            let row = row_in_turn(nesting_of(&of.plan, of.component), x, y);
+            nested.push(cell_at(cells, columns, x, row)?)?;
+        }
+    }
+    Ok(nested)
 }
 
 // The coefficients of a plane row by row in nested subbands, if 32 bits are enough.
@@ -141,14 +147,7 @@ fn parted_plane(alloc: Global, of: &PlannedPlane, plane: &Plane) -> Result<Optio
         cells.as_mut_slice(),
         line.as_mut_slice(),
     );
-    let mut nested = Vec::new(alloc);
-    for y in 0..rows {
-        for x in 0..columns {
-            let row = row_in_turn(nesting_of(&of.plan, of.component), x, y);
-            nested.push(cell_at(cells.as_slice(), columns, x, row)?)?;
-        }
-    }
-    Ok(Some(nested))
+    Ok(Some(nested(alloc, of, cells.as_slice())?))
 }
 
 // So many samples, which are 0 or the greatest, as they come.
@@ -164,18 +163,14 @@ fn extreme_samples(alloc: Global, count: usize, most: u16) -> Result<Vec<u16>, B
 
 /// The sum of each coefficient times its place where the samples are as far apart as they may be, or that 32 bits aren't
 /// enough.
-pub(crate) fn extreme_forwards(alloc: Global, given: &str) -> Result<String, Bad> {
+pub(crate) fn extreme_forwards(alloc: Global, given: &str, into: &mut String) -> Result<(), Bad> {
     let (planned, _) = planned(alloc, given)?;
     let format = format_of(&planned.plan, planned.component);
     let most = u16::MAX >> (16 - format.depth);
     let extreme = extreme_samples(alloc, format.columns * format.rows, most)?;
     let plane = plane_of(&planned, extreme)?;
     match parted_plane(alloc, &planned, &plane)? {
-        Some(cells) => {
-            let mut all = String::new(alloc);
-            add_number(alloc, &mut all, weighed(cells.as_slice()))?;
-            Ok(all)
-        }
-        None => text(alloc, "wide"),
+        Some(cells) => add_number(alloc, into, weighed(cells.as_slice())),
+        None => add_word(into, "wide"),
     }
 }

@@ -1,8 +1,6 @@
 //! Rows of transform parameters, which stand behind a sequence header.
-ghost use Rattle.std.specs.Prelude.{◌≡◌};
-
 use crate::headers::shape_text;
-use crate::words::{add_bytes, bytes_of, natural, parted};
+use crate::words::{add_bytes, add_named, add_number, add_word, bytes_of, natural, parted};
 use std::alloc::Global;
 use vc_params::{ParamsRefusal, read_params, write_params};
 use vc_seqhdr::read_header;
@@ -39,51 +37,74 @@ pub(crate) fn plan_of(alloc: Global, parts: &[Part], given: &str) -> Result<Plan
     }
 }
 
-fn text_of(alloc: Global, plan: &Plan, used: usize) -> Result<String, Bad> {
-    let (wavelet, wavelet_ho) = (plan.wavelet, plan.wavelet_ho);
-    let (depth, depth_ho) = (plan.depth, plan.depth_ho);
-    let (across, down) = (plan.slices_x, plan.slices_y);
-    let (prefix, scaler) = (plan.prefix, plan.scaler);
-    let mut all = format!(in alloc; "wavelet {wavelet} {wavelet_ho} depth {depth} {depth_ho} ")?;
-    let slices = format!(in alloc;
-        "slices {across} {down} prefix {prefix} scaler {scaler} matrix "
+fn add_plan(alloc: Global, plan: &Plan, used: usize, into: &mut String) -> Result<(), Bad> {
+    add_word(into, "wavelet")?;
+    add_number(alloc, into, i128::from(plan.wavelet))?;
+    add_number(alloc, into, i128::from(plan.wavelet_ho))?;
+    add_word(into, "depth")?;
+    add_number(alloc, into, i128::from(plan.depth))?;
+    add_number(alloc, into, i128::from(plan.depth_ho))?;
+    add_word(into, "slices")?;
+    add_number(alloc, into, i128::from(plan.slices_x))?;
+    add_number(alloc, into, i128::from(plan.slices_y))?;
+    add_named(
+        alloc,
+        into,
+        &[("prefix", plan.prefix), ("scaler", plan.scaler)],
     )?;
-    all.push_str(slices.as_str())?;
+    add_word(into, "matrix")?;
     for value in plan.matrix {
-        let word = format!(in alloc; "{value} ")?;
-        all.push_str(word.as_str())?;
+        add_number(alloc, into, i128::from(value))?;
     }
-    let takes = format!(in alloc; "takes {used}")?;
-    all.push_str(takes.as_str())?;
-    Ok(all)
+    add_word(into, "takes")?;
+    add_number(alloc, into, used as i128)
+}
+
+fn add_refusal(alloc: Global, refusal: ParamsRefusal, into: &mut String) -> Result<(), Bad> {
+    let word = format!(in alloc; "{refusal:?}")?;
+    add_word(into, word.as_str())
 }
 
 /// The transform parameters behind a sequence header, and how many bytes they take.
-pub(crate) fn parameters(alloc: Global, parts: &[Part], given: &str) -> Result<String, Bad> {
+pub(crate) fn parameters(
+    alloc: Global,
+    parts: &[Part],
+    given: &str,
+    into: &mut String,
+) -> Result<(), Bad> {
     match plan_read(alloc, parts, given)? {
-        Ok((plan, used)) => text_of(alloc, &plan, used),
-        Err(refusal) => Ok(format!(in alloc; "{refusal:?}")?),
+        Ok((plan, used)) => add_plan(alloc, &plan, used, into),
+        Err(refusal) => add_refusal(alloc, refusal, into),
     }
 }
 
 /// What is read of the first 0, 1, 2, .. and all of the bytes behind a sequence header.
-pub(crate) fn parameters_cuts(alloc: Global, parts: &[Part], given: &str) -> Result<String, Bad> {
+pub(crate) fn parameters_cuts(
+    alloc: Global,
+    parts: &[Part],
+    given: &str,
+    into: &mut String,
+) -> Result<(), Bad> {
     let bytes = bytes_of(alloc, parts, given)?;
     let (header, rest) = behind_header(bytes.as_slice())?;
-    let mut all = String::new(alloc);
     for length in 0..=rest.len() {
-        let word = match read_params(&header, rest.get(..length).unwrap_or(rest)) {
-            Ok(_) => String::from_str(alloc, "read ")?,
-            Err(refusal) => format!(in alloc; "{refusal:?} ")?,
-        };
-        all.push_str(word.as_str())?;
+        match read_params(&header, rest.get(..length).unwrap_or(rest)) {
+            Ok(_) => add_word(into, "read")?,
+            Err(refusal) => add_refusal(alloc, refusal, into)?,
+        }
     }
-    Ok(all)
+    Ok(())
 }
 
 /// The planes of a plan's picture.
-pub(crate) fn plan_planes(alloc: Global, parts: &[Part], given: &str) -> Result<String, Bad> {
-    shape_text(alloc, &plan_of(alloc, parts, given)?.shape)
+pub(crate) fn plan_planes(
+    alloc: Global,
+    parts: &[Part],
+    given: &str,
+    into: &mut String,
+) -> Result<(), Bad> {
+    let text = shape_text(alloc, &plan_of(alloc, parts, given)?.shape)?;
+    add_word(into, text.as_str())
 }
 
 /// The bytes that are written of a plan, in a stream of a major version that stands before it.
@@ -91,7 +112,8 @@ pub(crate) fn parameters_written(
     alloc: Global,
     parts: &[Part],
     given: &str,
-) -> Result<String, Bad> {
+    into: &mut String,
+) -> Result<(), Bad> {
     let (major, plan) = parted(given)?;
     let major = natural(major)?;
     let plan = plan_of(alloc, parts, plan)?;
@@ -99,11 +121,5 @@ pub(crate) fn parameters_written(
     if !is_symmetric && major != 3 {
         return Err(Bad::NoRow);
     }
-    let mut all = String::new(alloc);
-    add_bytes(
-        alloc,
-        &mut all,
-        write_params(alloc, major, &plan)?.as_slice(),
-    )?;
-    Ok(all)
+    add_bytes(alloc, into, write_params(alloc, major, &plan)?.as_slice())
 }

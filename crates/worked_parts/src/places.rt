@@ -4,17 +4,17 @@ ghost use Rattle.vc_types.specs.Subbands.{slice_count};
 ghost use Rattle.vc_types.specs.TransformParameters.{parameters_of};
 
 use crate::plans::{PlannedPlane, planned};
-use crate::words::{add_word, natural};
+use crate::words::{add_number, add_word, natural};
 use std::alloc::Global;
 use vc_geometry::{Rect, band, bands, padded, place_of, slice_len, slice_rect, slice_rects};
 use worked_common::Bad;
 
 /// A component's padded width and height.
-pub(crate) fn padding(alloc: Global, given: &str) -> Result<String, Bad> {
+pub(crate) fn padding(alloc: Global, given: &str, into: &mut String) -> Result<(), Bad> {
     let (planned, _) = planned(alloc, given)?;
     let (width, height) = padded(&planned.plan, planned.component);
-    let text = format!(in alloc; "{width} {height}")?;
-    Ok(text)
+    add_number(alloc, into, i128::from(width))?;
+    add_number(alloc, into, i128::from(height))
 }
 
 fn add_rect(alloc: Global, rect: Rect, into: &mut String) -> Result<(), Bad> {
@@ -29,14 +29,12 @@ fn add_rect(alloc: Global, rect: Rect, into: &mut String) -> Result<(), Bad> {
 }
 
 /// Where a component's subbands stand, in their order.
-pub(crate) fn subbands(alloc: Global, given: &str) -> Result<String, Bad> {
+pub(crate) fn subbands(alloc: Global, given: &str, into: &mut String) -> Result<(), Bad> {
     let (planned, _) = planned(alloc, given)?;
-    let mut all = String::new(alloc);
     for b in 0..bands(&planned.plan) {
-        let rect = band(&planned.plan, planned.component, b);
-        add_rect(alloc, rect, &mut all)?;
+        add_rect(alloc, band(&planned.plan, planned.component, b), into)?;
     }
-    Ok(all)
+    Ok(())
 }
 
 // A slice by its number.
@@ -51,19 +49,18 @@ fn slice_of(planned: &PlannedPlane, word: &str) -> Result<u32, Bad>
 }
 
 /// The part of each subband that belongs to a slice.
-pub(crate) fn rectangles(alloc: Global, given: &str) -> Result<String, Bad> {
+pub(crate) fn rectangles(alloc: Global, given: &str, into: &mut String) -> Result<(), Bad> {
     let (planned, word) = planned(alloc, given)?;
     let slice = slice_of(&planned, word)?;
-    let mut all = String::new(alloc);
     for b in 0..bands(&planned.plan) {
         let rect = slice_rect(&planned.plan, planned.component, b, slice);
-        add_rect(alloc, rect, &mut all)?;
+        add_rect(alloc, rect, into)?;
     }
-    Ok(all)
+    Ok(())
 }
 
 /// The same at once, and none for numbers above the last subband's.
-pub(crate) fn rectangles_at_once(alloc: Global, given: &str) -> Result<String, Bad> {
+pub(crate) fn rectangles_at_once(alloc: Global, given: &str, into: &mut String) -> Result<(), Bad> {
     let (planned, word) = planned(alloc, given)?;
     let slice = slice_of(&planned, word)?;
     let mut rects = [Rect {
@@ -73,34 +70,30 @@ pub(crate) fn rectangles_at_once(alloc: Global, given: &str) -> Result<String, B
         height: 0,
     }; 16];
     slice_rects(&planned.plan, planned.component, slice, &mut rects);
-    let mut all = String::new(alloc);
     for b in 0..bands(&planned.plan) {
-        add_rect(alloc, rects[b as usize], &mut all)?;
+        add_rect(alloc, rects[b as usize], into)?;
     }
-    Ok(all)
+    Ok(())
 }
 
 /// How many coefficients each slice has.
-pub(crate) fn lengths(alloc: Global, given: &str) -> Result<String, Bad> {
+pub(crate) fn lengths(alloc: Global, given: &str, into: &mut String) -> Result<(), Bad> {
     let (planned, _) = planned(alloc, given)?;
-    let mut all = String::new(alloc);
     for slice in 0..planned.plan.slices_x * planned.plan.slices_y {
-        let len = slice_len(&planned.plan, planned.component, slice);
-        let word = format!(in alloc; "{len}")?;
-        add_word(&mut all, word.as_str())?;
+        let length = slice_len(&planned.plan, planned.component, slice);
+        add_number(alloc, into, i128::from(length))?;
     }
-    Ok(all)
+    Ok(())
 }
 
 /// The column and row of each coefficient of a slice.
-pub(crate) fn places(alloc: Global, given: &str) -> Result<String, Bad> {
+pub(crate) fn places(alloc: Global, given: &str, into: &mut String) -> Result<(), Bad> {
     let (planned, word) = planned(alloc, given)?;
     let slice = slice_of(&planned, word)?;
-    let mut all = String::new(alloc);
     for i in 0..slice_len(&planned.plan, planned.component, slice) {
         let (x, y) = place_of(&planned.plan, planned.component, slice, i);
         let word = format!(in alloc; "{x},{y}")?;
-        add_word(&mut all, word.as_str())?;
+        add_word(into, word.as_str())?;
     }
-    Ok(all)
+    Ok(())
 }

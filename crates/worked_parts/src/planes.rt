@@ -5,7 +5,7 @@ ghost use Rattle.vc_types.specs.TransformParameters.{is_symmetric, parameters_of
 
 use crate::lines::some_cells;
 use crate::plans::{PlannedPlane, planned};
-use crate::words::{add_number, add_samples, numbers, samples, text, text_of, weighed};
+use crate::words::{add_number, add_numbers, numbers, samples, weighed};
 use std::alloc::Global;
 use vc_geometry::padded;
 use vc_types::{Component, Grid, Plan, Plane};
@@ -54,20 +54,18 @@ pub(crate) fn samples_of(alloc: Global, of: &PlannedPlane, cells: Vec<i128>) -> 
 }
 
 /// The samples of coefficients.
-pub(crate) fn inverses(alloc: Global, given: &str) -> Result<String, Bad> {
+pub(crate) fn inverses(alloc: Global, given: &str, into: &mut String) -> Result<(), Bad> {
     let (planned, cells) = planned(alloc, given)?;
     let made = samples_of(alloc, &planned, numbers(alloc, cells)?)?;
-    text_of(alloc, made.cells())
+    add_numbers(alloc, into, made.cells())
 }
 
 /// The sum of each sample times its place that some coefficients are made into.
-pub(crate) fn inverse_sum(alloc: Global, given: &str) -> Result<String, Bad> {
+pub(crate) fn inverse_sum(alloc: Global, given: &str, into: &mut String) -> Result<(), Bad> {
     let (planned, _) = planned(alloc, given)?;
     let (width, height) = padded(&planned.plan, planned.component);
     let made = samples_of(alloc, &planned, some_cells(alloc, width * height)?)?;
-    let mut all = String::new(alloc);
-    add_number(alloc, &mut all, weighed(made.cells()))?;
-    Ok(all)
+    add_number(alloc, into, weighed(made.cells()))
 }
 
 // Whether samples have so many bits at most.
@@ -115,8 +113,8 @@ pub(crate) fn coefficients(alloc: Global, of: &PlannedPlane, plane: &Plane) -> R
 }
 
 /// The coefficients of samples.
-pub(crate) fn forwards(alloc: Global, given: &str) -> Result<String, Bad> {
+pub(crate) fn forwards(alloc: Global, given: &str, into: &mut String) -> Result<(), Bad> {
     let (planned, text) = planned(alloc, given)?;
     let plane = plane_of(&planned, samples(alloc, text)?)?;
-    text_of(alloc, coefficients(alloc, &planned, &plane)?.cells())
+    add_numbers(alloc, into, coefficients(alloc, &planned, &plane)?.cells())
 }

@@ -51,27 +51,47 @@ fn add_read<S: Source>(
     }
 }
 
-fn reads<S: Source>(alloc: Global, source: &mut S, sizes: &str) -> Result<String, Bad> {
-    let mut all = String::new(alloc);
+fn add_reads<S: Source>(
+    alloc: Global,
+    source: &mut S,
+    sizes: &str,
+    into: &mut String,
+) -> Result<(), Bad> {
     for word in sizes.split_whitespace() {
-        add_read(alloc, source, word, &mut all)?;
+        add_read(alloc, source, word, into)?;
     }
-    Ok(all)
+    Ok(())
+}
+
+// A source of bytes, whose calls of these numbers fail.
+fn source(alloc: Global, parts: &[Part], numbers: &str, bytes: &str) -> Result<MemSource, Bad> {
+    let bytes = bytes_of(alloc, parts, bytes)?;
+    Ok(MemSource::new(bytes, fails(alloc, numbers)?))
 }
 
 /// What reads into buffers of these sizes answer, where the calls of these numbers fail.
-pub(crate) fn memory_source(alloc: Global, parts: &[Part], given: &str) -> Result<String, Bad> {
+pub(crate) fn memory_source(
+    alloc: Global,
+    parts: &[Part],
+    given: &str,
+    into: &mut String,
+) -> Result<(), Bad> {
     let (numbers, rest) = parted(given)?;
     let (bytes, sizes) = parted(rest)?;
-    let mut source = MemSource::new(bytes_of(alloc, parts, bytes)?, fails(alloc, numbers)?);
-    reads(alloc, &mut source, sizes)
+    let mut source = source(alloc, parts, numbers, bytes)?;
+    add_reads(alloc, &mut source, sizes, into)
 }
 
 /// The same of a source that never fails.
-pub(crate) fn plain_source(alloc: Global, parts: &[Part], given: &str) -> Result<String, Bad> {
+pub(crate) fn plain_source(
+    alloc: Global,
+    parts: &[Part],
+    given: &str,
+    into: &mut String,
+) -> Result<(), Bad> {
     let (bytes, sizes) = parted(given)?;
     let mut source = PlainSource::new(bytes_of(alloc, parts, bytes)?);
-    reads(alloc, &mut source, sizes)
+    add_reads(alloc, &mut source, sizes, into)
 }
 
 fn add_filled<S: Source>(
@@ -92,15 +112,19 @@ fn add_filled<S: Source>(
 }
 
 /// What filling buffers of these sizes comes to, where the reads of these numbers fail.
-pub(crate) fn filled(alloc: Global, parts: &[Part], given: &str) -> Result<String, Bad> {
+pub(crate) fn filled(
+    alloc: Global,
+    parts: &[Part],
+    given: &str,
+    into: &mut String,
+) -> Result<(), Bad> {
     let (numbers, rest) = parted(given)?;
     let (bytes, sizes) = parted(rest)?;
-    let mut source = MemSource::new(bytes_of(alloc, parts, bytes)?, fails(alloc, numbers)?);
-    let mut all = String::new(alloc);
+    let mut source = source(alloc, parts, numbers, bytes)?;
     for word in sizes.split_whitespace() {
-        add_filled(alloc, &mut source, word, &mut all)?;
+        add_filled(alloc, &mut source, word, into)?;
     }
-    Ok(all)
+    Ok(())
 }
 
 // A sink of so many bytes, whose calls of these numbers fail.
@@ -130,26 +154,33 @@ fn add_held(alloc: Global, sink: &MemSink, into: &mut String) -> Result<(), Bad>
 }
 
 /// What writes of pieces answer, and what is held then, by a sink that has room for so many bytes.
-pub(crate) fn memory_sink(alloc: Global, parts: &[Part], given: &str) -> Result<String, Bad> {
+pub(crate) fn memory_sink(
+    alloc: Global,
+    parts: &[Part],
+    given: &str,
+    into: &mut String,
+) -> Result<(), Bad> {
     let (front, pieces) = parted(given)?;
     let mut sink = sink(alloc, front)?;
-    let mut all = String::new(alloc);
     for piece in pieces.split('/') {
         let piece = bytes_of(alloc, parts, piece)?;
-        add_write(alloc, &mut sink, piece.as_slice(), &mut all)?;
+        add_write(alloc, &mut sink, piece.as_slice(), into)?;
     }
-    add_held(alloc, &sink, &mut all)?;
-    Ok(all)
+    add_held(alloc, &sink, into)
 }
 
 /// What a sink that drops all answers.
-pub(crate) fn plain_sink(alloc: Global, parts: &[Part], given: &str) -> Result<String, Bad> {
-    let mut all = String::new(alloc);
+pub(crate) fn plain_sink(
+    alloc: Global,
+    parts: &[Part],
+    given: &str,
+    into: &mut String,
+) -> Result<(), Bad> {
     for piece in given.split('/') {
         let piece = bytes_of(alloc, parts, piece)?;
-        add_write(alloc, &mut PlainSink::new(), piece.as_slice(), &mut all)?;
+        add_write(alloc, &mut PlainSink::new(), piece.as_slice(), into)?;
     }
-    Ok(all)
+    Ok(())
 }
 
 fn add_whole(sink: &mut MemSink, piece: &[u8], into: &mut String) -> Result<(), Bad> {
@@ -160,14 +191,17 @@ fn add_whole(sink: &mut MemSink, piece: &[u8], into: &mut String) -> Result<(), 
 }
 
 /// What writes of whole pieces come to, and what is held then.
-pub(crate) fn written(alloc: Global, parts: &[Part], given: &str) -> Result<String, Bad> {
+pub(crate) fn written(
+    alloc: Global,
+    parts: &[Part],
+    given: &str,
+    into: &mut String,
+) -> Result<(), Bad> {
     let (front, pieces) = parted(given)?;
     let mut sink = sink(alloc, front)?;
-    let mut all = String::new(alloc);
     for piece in pieces.split('/') {
         let piece = bytes_of(alloc, parts, piece)?;
-        add_whole(&mut sink, piece.as_slice(), &mut all)?;
+        add_whole(&mut sink, piece.as_slice(), into)?;
     }
-    add_held(alloc, &sink, &mut all)?;
-    Ok(all)
+    add_held(alloc, &sink, into)
 }

@@ -2,36 +2,34 @@
 ghost use Rattle.std.specs.Prelude.{◌≤◌, All, IfOk, IsTrue, unsigned_abs};
 
 use crate::words::{
-    add_number, long_numbers, natural, number, parted, range, short_numbers, text, text_of_short,
+    add_number, add_short, add_word, long_numbers, natural, number, parted, range, short_numbers,
 };
 use std::alloc::Global;
 use vc_quant::{Quantiser, default_matrix, dequant, factor, last_index_with, offset, quant};
 use worked_common::Bad;
 
 /// The factors of a range of indices.
-pub(crate) fn factors(alloc: Global, given: &str) -> Result<String, Bad> {
+pub(crate) fn factors(alloc: Global, given: &str, into: &mut String) -> Result<(), Bad> {
     let (first, last) = range(given)?;
-    let mut all = String::new(alloc);
     for q in first..=last {
         if q > 127 {
             return Err(Bad::NoRow);
         }
-        add_number(alloc, &mut all, i128::from(factor(q as u8)))?;
+        add_number(alloc, into, i128::from(factor(q as u8)))?;
     }
-    Ok(all)
+    Ok(())
 }
 
 /// The offsets of a range of indices.
-pub(crate) fn offsets(alloc: Global, given: &str) -> Result<String, Bad> {
+pub(crate) fn offsets(alloc: Global, given: &str, into: &mut String) -> Result<(), Bad> {
     let (first, last) = range(given)?;
-    let mut all = String::new(alloc);
     for q in first..=last {
         if q > 127 {
             return Err(Bad::NoRow);
         }
-        add_number(alloc, &mut all, i128::from(offset(q as u8)))?;
+        add_number(alloc, into, i128::from(offset(q as u8)))?;
     }
-    Ok(all)
+    Ok(())
 }
 
 fn index(word: &str) -> Result<u8, Bad>
@@ -45,31 +43,29 @@ fn index(word: &str) -> Result<u8, Bad>
 }
 
 /// The coefficients that numbers stand for at an index.
-pub(crate) fn dequantised(alloc: Global, given: &str) -> Result<String, Bad> {
+pub(crate) fn dequantised(alloc: Global, given: &str, into: &mut String) -> Result<(), Bad> {
     let (index_word, numbers) = parted(given)?;
     let q = index(index_word)?;
-    let mut all = String::new(alloc);
     for m in long_numbers(alloc, numbers)?.iter() {
         if m.unsigned_abs() > 1 << 62 {
             return Err(Bad::NoRow);
         }
-        add_number(alloc, &mut all, dequant(*m, q))?;
+        add_number(alloc, into, dequant(*m, q))?;
     }
-    Ok(all)
+    Ok(())
 }
 
 /// The numbers that coefficients are quantised to at an index.
-pub(crate) fn quantised(alloc: Global, given: &str) -> Result<String, Bad> {
+pub(crate) fn quantised(alloc: Global, given: &str, into: &mut String) -> Result<(), Bad> {
     let (index_word, coefficients) = parted(given)?;
     let q = index(index_word)?;
-    let mut all = String::new(alloc);
     for c in long_numbers(alloc, coefficients)?.iter() {
         if c.unsigned_abs() >= 1 << 60 {
             return Err(Bad::NoRow);
         }
-        add_number(alloc, &mut all, i128::from(quant(*c, q)))?;
+        add_number(alloc, into, i128::from(quant(*c, q)))?;
     }
-    Ok(all)
+    Ok(())
 }
 
 // Whether all magnitudes are at most so large.
@@ -92,7 +88,11 @@ fn index_and_greatest(text: &str) -> Result<(u8, u32), Bad>
 }
 
 /// The coefficients of numbers up to a greatest magnitude, at once, or that they may be too wide for 32 bits.
-pub(crate) fn dequantised_at_once(alloc: Global, given: &str) -> Result<String, Bad> {
+pub(crate) fn dequantised_at_once(
+    alloc: Global,
+    given: &str,
+    into: &mut String,
+) -> Result<(), Bad> {
     let (front, numbers) = parted(given)?;
     let (q, greatest) = index_and_greatest(front)?;
     let mut cells = short_numbers(alloc, numbers)?;
@@ -100,14 +100,14 @@ pub(crate) fn dequantised_at_once(alloc: Global, given: &str) -> Result<String, 
         return Err(Bad::NoRow);
     }
     if Quantiser::new(q).dequant_all(cells.as_mut_slice(), greatest) {
-        text_of_short(alloc, cells.as_slice())
+        add_short(alloc, into, cells.as_slice())
     } else {
-        text(alloc, "wide")
+        add_word(into, "wide")
     }
 }
 
 /// The numbers of coefficients up to a greatest magnitude, at once.
-pub(crate) fn quantised_at_once(alloc: Global, given: &str) -> Result<String, Bad> {
+pub(crate) fn quantised_at_once(alloc: Global, given: &str, into: &mut String) -> Result<(), Bad> {
     let (front, coefficients) = parted(given)?;
     let (q, greatest) = index_and_greatest(front)?;
     let mut cells = short_numbers(alloc, coefficients)?;
@@ -115,7 +115,7 @@ pub(crate) fn quantised_at_once(alloc: Global, given: &str) -> Result<String, Ba
         return Err(Bad::NoRow);
     }
     Quantiser::new(q).quant_all(cells.as_mut_slice(), greatest);
-    text_of_short(alloc, cells.as_slice())
+    add_short(alloc, into, cells.as_slice())
 }
 
 fn last_index(digits: u32, magnitude: u64) -> Result<u8, Bad> {
@@ -126,20 +126,19 @@ fn last_index(digits: u32, magnitude: u64) -> Result<u8, Bad> {
 }
 
 /// The last index at which magnitudes are quantised to numbers that have so many digits where 1 is added.
-pub(crate) fn last_indices(alloc: Global, given: &str) -> Result<String, Bad> {
+pub(crate) fn last_indices(alloc: Global, given: &str, into: &mut String) -> Result<(), Bad> {
     let (digits, magnitudes) = parted(given)?;
     let digits = natural(digits)?;
-    let mut all = String::new(alloc);
     for word in magnitudes.split_whitespace() {
         let Ok(magnitude) = u64::try_from(number(word)?) else {
             return Err(Bad::NoRow);
         };
-        add_number(alloc, &mut all, i128::from(last_index(digits, magnitude)?))?;
+        add_number(alloc, into, i128::from(last_index(digits, magnitude)?))?;
     }
-    Ok(all)
+    Ok(())
 }
 
-fn add_matrix(alloc: Global, matrix: &[u8; 16], into: &mut String) -> Result<(), Bad> {
+fn add_matrix(alloc: Global, into: &mut String, matrix: &[u8; 16]) -> Result<(), Bad> {
     for value in matrix {
         add_number(alloc, into, i128::from(*value))?;
     }
@@ -147,7 +146,7 @@ fn add_matrix(alloc: Global, matrix: &[u8; 16], into: &mut String) -> Result<(),
 }
 
 /// The default matrix of a wavelet at a depth, if there is one.
-pub(crate) fn matrix(alloc: Global, given: &str) -> Result<String, Bad> {
+pub(crate) fn matrix(alloc: Global, given: &str, into: &mut String) -> Result<(), Bad> {
     let Some((wavelet, depth)) = given.trim().split_once(' ') else {
         return Err(Bad::NoRow);
     };
@@ -156,11 +155,7 @@ pub(crate) fn matrix(alloc: Global, given: &str) -> Result<String, Bad> {
         return Err(Bad::NoRow);
     }
     match default_matrix(wavelet as u8, depth as u8) {
-        Ok(matrix) => {
-            let mut all = String::new(alloc);
-            add_matrix(alloc, &matrix, &mut all)?;
-            Ok(all)
-        }
-        Err(_) => text(alloc, "none"),
+        Ok(matrix) => add_matrix(alloc, into, &matrix),
+        Err(_) => add_word(into, "none"),
     }
 }

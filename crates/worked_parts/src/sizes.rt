@@ -2,9 +2,11 @@
 ghost use Rattle.std.specs.Prelude.{◌≡◌};
 
 use crate::plans::sampling;
-use crate::words::{natural, text, two};
+use crate::words::{add_number, add_word, natural, two};
 use std::alloc::Global;
-use vc_types::{Header, Sampling, SignalRange, dimensions_fit, padded, picture_height, slices_fit};
+use vc_types::{
+    Header, Sampling, Shape, SignalRange, dimensions_fit, padded, picture_height, slices_fit,
+};
 use worked_common::Bad;
 
 fn has_fields(word: &str) -> Result<bool, Bad> {
@@ -15,27 +17,27 @@ fn has_fields(word: &str) -> Result<bool, Bad> {
     }
 }
 
-fn answer(alloc: Global, fit: bool) -> Result<String, Bad> {
-    text(alloc, if fit { "fit" } else { "no" })
+fn add_answer(into: &mut String, fit: bool) -> Result<(), Bad> {
+    add_word(into, if fit { "fit" } else { "no" })
 }
 
 /// Whether frames of a size and a sampling can be coded, as frames or as fields.
-pub(crate) fn dimensions(alloc: Global, given: &str) -> Result<String, Bad> {
+pub(crate) fn dimensions(given: &str, into: &mut String) -> Result<(), Bad> {
     let mut words = given.split_whitespace();
     let (width, height) = two(words.next().unwrap_or(""), 'x')?;
     let sampling = sampling(words.next().unwrap_or(""))?;
     let fields = has_fields(words.next().unwrap_or(""))?;
-    answer(alloc, dimensions_fit(width, height, sampling, fields))
+    add_answer(into, dimensions_fit(width, height, sampling, fields))
 }
 
 /// Whether a picture can be cut into so many slices across and down.
-pub(crate) fn slices(alloc: Global, given: &str) -> Result<String, Bad> {
+pub(crate) fn slices(given: &str, into: &mut String) -> Result<(), Bad> {
     let (across, down) = two(given, 'x')?;
-    answer(alloc, slices_fit(across, down))
+    add_answer(into, slices_fit(across, down))
 }
 
 /// The least multiple of a power of two that is at least a side.
-pub(crate) fn side(alloc: Global, given: &str) -> Result<String, Bad> {
+pub(crate) fn side(alloc: Global, given: &str, into: &mut String) -> Result<(), Bad> {
     let Some((side, depth)) = given.trim().split_once(' ') else {
         return Err(Bad::NoRow);
     };
@@ -43,19 +45,16 @@ pub(crate) fn side(alloc: Global, given: &str) -> Result<String, Bad> {
     if side > 8192 || depth > 5 {
         return Err(Bad::NoRow);
     }
-    let side = padded(side, depth as u8);
-    let said = format!(in alloc; "{side}")?;
-    Ok(said)
+    add_number(alloc, into, i128::from(padded(side, depth as u8)))
 }
 
 /// The height of a picture of a frame's height, of frames or of fields.
-pub(crate) fn height(alloc: Global, given: &str) -> Result<String, Bad> {
+pub(crate) fn height(alloc: Global, given: &str, into: &mut String) -> Result<(), Bad> {
     let Some((height, word)) = given.trim().split_once(' ') else {
         return Err(Bad::NoRow);
     };
     let height = picture_height(has_fields(word)?, natural(height)?);
-    let said = format!(in alloc; "{height}")?;
-    Ok(said)
+    add_number(alloc, into, i128::from(height))
 }
 
 fn range(excursions: (u32, u32)) -> SignalRange
@@ -99,21 +98,28 @@ fn header(
     })
 }
 
-/// The sizes and the bits of the planes of a picture, luma first, from a frame's size, its sampling, the excursions of luma
-/// and colour, and whether it is coded as a frame.
-pub(crate) fn shape(alloc: Global, given: &str) -> Result<String, Bad> {
+fn add_size(alloc: Global, size: (u32, u32), depth: u8, into: &mut String) -> Result<(), Bad> {
+    let (width, height) = size;
+    let word = format!(in alloc; "{width}x{height} ")?;
+    into.push_str(word.as_str())?;
+    add_number(alloc, into, i128::from(depth))
+}
+
+fn shape_of(given: &str) -> Result<Shape, Bad> {
     let mut words = given.split_whitespace();
     let size = two(words.next().unwrap_or(""), 'x')?;
     let sampling = sampling(words.next().unwrap_or(""))?;
     let excursions = two(words.next().unwrap_or(""), ',')?;
     let fields = has_fields(words.next().unwrap_or(""))?;
-    let shape = header(size, sampling, excursions, fields)?.shape();
-    let luma = (shape.luma_width, shape.luma_height, shape.luma_depth);
-    let colour = (shape.colour_width, shape.colour_height, shape.colour_depth);
-    let (width, height, depth) = luma;
-    let said = format!(in alloc; "{width}x{height} {depth}")?;
-    let (width, height, depth) = colour;
-    let said = said.as_str();
-    let said = format!(in alloc; "{said} {width}x{height} {depth}")?;
-    Ok(said)
+    Ok(header(size, sampling, excursions, fields)?.shape())
+}
+
+/// The sizes and the bits of the planes of a picture, luma first, from a frame's size, its sampling, the excursions of luma
+/// and colour, and whether it is coded as a frame.
+pub(crate) fn shape(alloc: Global, given: &str, into: &mut String) -> Result<(), Bad> {
+    let shape = shape_of(given)?;
+    let luma = (shape.luma_width, shape.luma_height);
+    let colour = (shape.colour_width, shape.colour_height);
+    add_size(alloc, luma, shape.luma_depth, into)?;
+    add_size(alloc, colour, shape.colour_depth, into)
 }

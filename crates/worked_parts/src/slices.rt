@@ -8,46 +8,73 @@ ghost use Rattle.vc_types.specs.Subbands.{slice_coefficient_count, slice_count};
 ghost use Rattle.vc_types.specs.TransformParameters.{parameters_of};
 
 use crate::parameters::plan_of;
-use crate::words::{add_bytes, add_number, add_word, bytes_of, long_numbers, natural, parted};
+use crate::words::{
+    add_bytes, add_number, add_pieces, add_word, bytes_of, long_numbers, natural, parted,
+};
 use bytes::Bytes;
 use std::alloc::Global;
 use vc_geometry::slice_len;
 use vc_slice::{
-    CoefficientList, EncodeRefusal, SliceCoeffs, SliceDone, SliceJob, cut, decode, encode,
+    CoefficientList, EncodeRefusal, SliceCoeffs, SliceDone, SliceJob, Unsound, cut, decode, encode,
     encoded_len, encoded_lens,
 };
 use vc_types::{Component, Plan};
 use worked_common::{Bad, Part};
 
-/// The length of the slice that begins bytes: prefix bytes : size scaler : the bytes.
-pub(crate) fn cut_slice(alloc: Global, parts: &[Part], given: &str) -> Result<String, Bad> {
+// How slices are coded, and bytes that begin with one.
+#[derive(Drop)]
+struct Cut {
+    prefix: u32,
+    scaler: u32,
+    bytes: Vec<u8>,
+}
+
+// prefix bytes : size scaler : the bytes.
+fn cut_of(alloc: Global, parts: &[Part], given: &str) -> Result<Cut, Bad> {
     let (prefix, rest) = parted(given)?;
     let (scaler, bytes) = parted(rest)?;
-    let (prefix, scaler) = (natural(prefix)?, natural(scaler)?);
-    let bytes = bytes_of(alloc, parts, bytes)?;
-    let text = match cut(prefix, scaler, bytes.as_slice()) {
-        Ok(length) => format!(in alloc; "{length}")?,
-        Err(_) => String::from_str(alloc, "Short")?,
-    };
-    Ok(text)
+    Ok(Cut {
+        prefix: natural(prefix)?,
+        scaler: natural(scaler)?,
+        bytes: bytes_of(alloc, parts, bytes)?,
+    })
+}
+
+fn add_cut(alloc: Global, of: &Cut, bytes: &[u8], into: &mut String) -> Result<(), Bad> {
+    match cut(of.prefix, of.scaler, bytes) {
+        Ok(length) => add_number(alloc, into, length as i128),
+        Err(_) => add_word(into, "Short"),
+    }
+}
+
+/// The length of the slice that begins bytes: prefix bytes : size scaler : the bytes.
+pub(crate) fn cut_slice(
+    alloc: Global,
+    parts: &[Part],
+    given: &str,
+    into: &mut String,
+) -> Result<(), Bad> {
+    let of = cut_of(alloc, parts, given)?;
+    add_cut(alloc, &of, of.bytes.as_slice(), into)
+}
+
+fn add_cuts(alloc: Global, of: &Cut, into: &mut String) -> Result<(), Bad> {
+    let bytes = of.bytes.as_slice();
+    for length in 0..=bytes.len() {
+        add_cut(alloc, of, bytes.get(..length).unwrap_or(bytes), into)?;
+    }
+    Ok(())
 }
 
 /// The same of the first 0, 1, 2, .. and all of the bytes.
-pub(crate) fn cut_cuts(alloc: Global, parts: &[Part], given: &str) -> Result<String, Bad> {
-    let (prefix, rest) = parted(given)?;
-    let (scaler, bytes) = parted(rest)?;
-    let (prefix, scaler) = (natural(prefix)?, natural(scaler)?);
-    let bytes = bytes_of(alloc, parts, bytes)?;
-    let bytes = bytes.as_slice();
-    let mut all = String::new(alloc);
-    for length in 0..=bytes.len() {
-        let word = match cut(prefix, scaler, bytes.get(..length).unwrap_or(bytes)) {
-            Ok(length) => format!(in alloc; "{length} ")?,
-            Err(_) => String::from_str(alloc, "Short ")?,
-        };
-        all.push_str(word.as_str())?;
-    }
-    Ok(all)
+pub(crate) fn cut_cuts(
+    alloc: Global,
+    parts: &[Part],
+    given: &str,
+    into: &mut String,
+) -> Result<(), Bad> {
+    let of = cut_of(alloc, parts, given)?;
+    add_cuts(alloc, &of, into)
 }
 
 fn slice_count(plan: &Plan) -> u32
@@ -73,15 +100,19 @@ fn plan_and_slice(
     Ok((plan, slice))
 }
 
+fn shared(bytes: Vec<u8>) -> Result<Bytes, Bad> {
+    match Bytes::from_vec(bytes) {
+        Ok(bytes) => Ok(bytes),
+        Err(_) => Err(Bad::NoMemory),
+    }
+}
+
 // A slice that is decoded: plan : number of the slice : its bytes.
 fn job_of(alloc: Global, parts: &[Part], given: &str) -> Result<SliceJob, Bad> {
     let (plan, rest) = parted(given)?;
     let (index, bytes) = parted(rest)?;
     let (plan, index) = plan_and_slice(alloc, parts, plan, index)?;
-    let bytes = bytes_of(alloc, parts, bytes)?;
-    let Ok(bytes) = Bytes::copy_from_slice(alloc, bytes.as_slice()) else {
-        return Err(Bad::NoMemory);
-    };
+    let bytes = shared(bytes_of(alloc, parts, bytes)?)?;
     match cut(plan.prefix, plan.scaler, bytes.as_slice()) {
         Ok(length) if length == bytes.len() => Ok(SliceJob {
             plan,
@@ -106,12 +137,15 @@ fn add_numbers(
     Ok(())
 }
 
-fn coefficients_text(alloc: Global, coeffs: &SliceCoeffs) -> Result<String, Bad> {
-    let mut all = String::new(alloc);
-    add_numbers(alloc, &mut all, "y", &coeffs.component(Component::Y))?;
-    add_numbers(alloc, &mut all, "c1", &coeffs.component(Component::C1))?;
-    add_numbers(alloc, &mut all, "c2", &coeffs.component(Component::C2))?;
-    Ok(all)
+fn add_coefficients(alloc: Global, coeffs: &SliceCoeffs, into: &mut String) -> Result<(), Bad> {
+    add_numbers(alloc, into, "y", &coeffs.component(Component::Y))?;
+    add_numbers(alloc, into, "c1", &coeffs.component(Component::C1))?;
+    add_numbers(alloc, into, "c2", &coeffs.component(Component::C2))
+}
+
+fn add_fault(alloc: Global, why: Unsound, into: &mut String) -> Result<(), Bad> {
+    let word = format!(in alloc; "{why:?}")?;
+    add_word(into, word.as_str())
 }
 
 fn decoded(alloc: Global, parts: &[Part], given: &str) -> Result<SliceDone, Bad> {
@@ -120,25 +154,38 @@ fn decoded(alloc: Global, parts: &[Part], given: &str) -> Result<SliceDone, Bad>
 }
 
 /// The coefficients of a slice, or why it has none: plan : number of the slice : its bytes.
-pub(crate) fn slice(alloc: Global, parts: &[Part], given: &str) -> Result<String, Bad> {
+pub(crate) fn slice(
+    alloc: Global,
+    parts: &[Part],
+    given: &str,
+    into: &mut String,
+) -> Result<(), Bad> {
     let done = decoded(alloc, parts, given)?;
     match &done.answer {
-        Ok(coeffs) => coefficients_text(alloc, coeffs),
-        Err(why) => Ok(format!(in alloc; "{why:?}")?),
+        Ok(coeffs) => add_coefficients(alloc, coeffs, into),
+        Err(why) => add_fault(alloc, *why, into),
+    }
+}
+
+fn bits_of(coeffs: &SliceCoeffs) -> &'static str {
+    match coeffs.component(Component::Y) {
+        CoefficientList::Narrow(_) => "32",
+        CoefficientList::Wide(_) => "64",
     }
 }
 
 /// In how many bits the coefficients of a slice are kept.
-pub(crate) fn slice_kept(alloc: Global, parts: &[Part], given: &str) -> Result<String, Bad> {
+pub(crate) fn slice_kept(
+    alloc: Global,
+    parts: &[Part],
+    given: &str,
+    into: &mut String,
+) -> Result<(), Bad> {
     let done = decoded(alloc, parts, given)?;
-    let bits = match &done.answer {
-        Ok(coeffs) => match coeffs.component(Component::Y) {
-            CoefficientList::Narrow(_) => "32",
-            CoefficientList::Wide(_) => "64",
-        },
-        Err(_) => return Err(Bad::NoRow),
-    };
-    Ok(String::from_str(alloc, bits)?)
+    match &done.answer {
+        Ok(coeffs) => add_word(into, bits_of(coeffs)),
+        Err(_) => Err(Bad::NoRow),
+    }
 }
 
 // ---- encoding
@@ -233,87 +280,145 @@ fn index_of(number: u32) -> Result<u8, Bad>
     }
 }
 
-// The bytes of a slice at an index, or how many it would have.
-fn encoded(
-    alloc: Global,
-    plan: &Plan,
+// A plan, and the coefficients of one of its slices.
+#[derive(Drop)]
+struct PlannedSlice {
+    plan: Plan,
     slice: u32,
-    coeffs: &SliceCoeffs,
-    index: u32,
-) -> Result<String, Bad>
-    requires slice { slice < slice_count (parameters_of plan.now) }
-    requires coefficients { AreSliceCoefficients (parameters_of plan.now) slice coeffs.now }
+    coeffs: SliceCoeffs,
+    ghost slice_is_planned: { slice < slice_count (parameters_of plan) },
+    ghost coefficients_fit: { AreSliceCoefficients (parameters_of plan) slice coeffs },
+}
+
+fn planned_slice(plan: Plan, slice: u32, coeffs: SliceCoeffs) -> Result<PlannedSlice, Bad>
+    requires { slice < slice_count (parameters_of plan) }
 {
+    let coeffs = of_slice(&plan, slice, coeffs)?;
+    Ok(PlannedSlice {
+        plan,
+        slice,
+        coeffs,
+    })
+}
+
+fn planned_slice_of(
+    alloc: Global,
+    parts: &[Part],
+    plan: &str,
+    slice: &str,
+    coefficients: &str,
+) -> Result<PlannedSlice, Bad> {
+    let (plan, slice) = plan_and_slice(alloc, parts, plan, slice)?;
+    planned_slice(plan, slice, coefficients_of_text(alloc, coefficients)?)
+}
+
+// The same slice with its coefficients in 32 bits, where they fit.
+fn narrowed_slice(alloc: Global, wide: &PlannedSlice) -> Result<Option<PlannedSlice>, Bad> {
+    match narrowed(alloc, &wide.coeffs)? {
+        Some(coeffs) => Ok(Some(planned_slice(wide.plan, wide.slice, coeffs)?)),
+        None => Ok(None),
+    }
+}
+
+// Adds the bytes of a slice at an index, or how many it would have.
+fn add_encoded(alloc: Global, of: &PlannedSlice, index: u32, into: &mut String) -> Result<(), Bad> {
     let index = index_of(index)?;
-    match encode(alloc, plan, slice, coeffs, index) {
-        Ok(bytes) => {
-            let mut all = String::new(alloc);
-            add_bytes(alloc, &mut all, bytes.as_slice())?;
-            Ok(all)
+    match encode(alloc, &of.plan, of.slice, &of.coeffs, index) {
+        Ok(bytes) => add_bytes(alloc, into, bytes.as_slice()),
+        Err(EncodeRefusal::TooLong { bytes }) => {
+            add_word(into, "TooLong")?;
+            add_number(alloc, into, bytes as i128)
         }
-        Err(EncodeRefusal::TooLong { bytes }) => Ok(format!(in alloc; "TooLong {bytes}")?),
         Err(EncodeRefusal::NoMemory) => Err(Bad::NoMemory),
     }
+}
+
+fn encoded(alloc: Global, of: &PlannedSlice, index: u32) -> Result<String, Bad> {
+    let mut all = String::new(alloc);
+    add_encoded(alloc, of, index, &mut all)?;
+    Ok(all)
+}
+
+// Adds what is encoded of a slice in 64 bits, and what is in 32, where it differs.
+fn add_both(
+    alloc: Global,
+    wide: &PlannedSlice,
+    narrow: &PlannedSlice,
+    index: u32,
+    into: &mut String,
+) -> Result<(), Bad> {
+    let in_64 = encoded(alloc, wide, index)?;
+    let in_32 = encoded(alloc, narrow, index)?;
+    add_word(into, in_64.as_str())?;
+    if in_64.as_str() == in_32.as_str() {
+        return Ok(());
+    }
+    add_pieces(into, &["in 64 bits, in 32 ", in_32.as_str()])
 }
 
 /// The bytes of a slice, or TooLong and how many it would have. Given is
 /// plan : number of the slice : quantisation index : coefficients.
 /// These are encoded in 64 bits and, where they fit, in 32: what differs is told too.
-pub(crate) fn slice_written(alloc: Global, parts: &[Part], given: &str) -> Result<String, Bad> {
+pub(crate) fn slice_written(
+    alloc: Global,
+    parts: &[Part],
+    given: &str,
+    into: &mut String,
+) -> Result<(), Bad> {
     let (plan, rest) = parted(given)?;
     let (slice, rest) = parted(rest)?;
     let (index, coefficients) = parted(rest)?;
-    let (plan, slice) = plan_and_slice(alloc, parts, plan, slice)?;
     let index = natural(index)?;
-    let coeffs = of_slice(&plan, slice, coefficients_of_text(alloc, coefficients)?)?;
-    let wide = encoded(alloc, &plan, slice, &coeffs, index)?;
-    let Some(narrow) = narrowed(alloc, &coeffs)? else {
-        return Ok(wide);
-    };
-    let narrow = of_slice(&plan, slice, narrow)?;
-    let narrow = encoded(alloc, &plan, slice, &narrow, index)?;
-    let (in_64, in_32) = (wide.as_str(), narrow.as_str());
-    if in_64 == in_32 {
-        return Ok(wide);
+    let wide = planned_slice_of(alloc, parts, plan, slice, coefficients)?;
+    match narrowed_slice(alloc, &wide)? {
+        Some(narrow) => add_both(alloc, &wide, &narrow, index, into),
+        None => add_encoded(alloc, &wide, index, into),
     }
-    Ok(format!(in alloc; "{in_64} in 64 bits, in 32 {in_32}")?)
 }
 
-// The length of a slice at an index. What was found at once is told too, where it differs.
-fn length_text(
+// Adds the length of a slice at an index, and what was found at once, where it differs.
+fn add_length(
     alloc: Global,
-    plan: &Plan,
-    slice: u32,
-    coeffs: &SliceCoeffs,
+    of: &PlannedSlice,
     index: u32,
     at_once: &[u64],
-) -> Result<String, Bad>
-    requires slice { slice < slice_count (parameters_of plan.now) }
-    requires coefficients { AreSliceCoefficients (parameters_of plan.now) slice coeffs.now }
-{
+    into: &mut String,
+) -> Result<(), Bad> {
     let index = index_of(index)?;
-    let length = encoded_len(plan, slice, coeffs, index);
+    let length = encoded_len(&of.plan, of.slice, &of.coeffs, index);
+    add_number(alloc, into, i128::from(length))?;
     let other = at_once.get(usize::from(index)).copied().unwrap_or(0);
     if length == other {
-        return Ok(format!(in alloc; "{length}")?);
+        return Ok(());
     }
-    Ok(format!(in alloc; "{length} alone, at once {other}")?)
+    add_word(into, "alone, at once")?;
+    add_number(alloc, into, i128::from(other))
+}
+
+fn add_lengths(
+    alloc: Global,
+    of: &PlannedSlice,
+    indices: &str,
+    into: &mut String,
+) -> Result<(), Bad> {
+    let at_once = encoded_lens(alloc, &of.plan, of.slice, &of.coeffs)?;
+    for index in indices.split_whitespace() {
+        add_length(alloc, of, natural(index)?, at_once.as_slice(), into)?;
+    }
+    Ok(())
 }
 
 /// The lengths of a slice at some indices, each found alone and all at once. Given is
 /// plan : number of the slice : the indices : coefficients.
-pub(crate) fn slice_lengths(alloc: Global, parts: &[Part], given: &str) -> Result<String, Bad> {
+pub(crate) fn slice_lengths(
+    alloc: Global,
+    parts: &[Part],
+    given: &str,
+    into: &mut String,
+) -> Result<(), Bad> {
     let (plan, rest) = parted(given)?;
     let (slice, rest) = parted(rest)?;
     let (indices, coefficients) = parted(rest)?;
-    let (plan, slice) = plan_and_slice(alloc, parts, plan, slice)?;
-    let coeffs = of_slice(&plan, slice, coefficients_of_text(alloc, coefficients)?)?;
-    let at_once = encoded_lens(alloc, &plan, slice, &coeffs)?;
-    let mut all = String::new(alloc);
-    for index in indices.split_whitespace() {
-        let index = natural(index)?;
-        let text = length_text(alloc, &plan, slice, &coeffs, index, at_once.as_slice())?;
-        add_word(&mut all, text.as_str())?;
-    }
-    Ok(all)
+    let of = planned_slice_of(alloc, parts, plan, slice, coefficients)?;
+    add_lengths(alloc, &of, indices, into)
 }

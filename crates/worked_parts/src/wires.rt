@@ -49,16 +49,23 @@ fn buffer(alloc: Global) -> Result<Vec<u8>, Bad>
     Ok(buffer)
 }
 
+fn add_datagram_text(
+    alloc: Global,
+    buffer: &[u8],
+    count: usize,
+    into: &mut String,
+) -> Result<(), Bad> {
+    add_word(into, "came")?;
+    add_front(alloc, buffer, count, into)
+}
+
 fn add_received<N: Wire>(alloc: Global, wire: &mut N, into: &mut String) -> Result<(), Bad>
     requires { IsTrue (N.told wire.old).listens }
     ensures { OnOk result (IsTrue (N.told wire.new).listens) }
 {
     let mut buffer = buffer(alloc)?;
     match wire.recv(buffer.as_mut_slice()) {
-        Came::Datagram(count) => {
-            add_word(into, "came")?;
-            add_front(alloc, buffer.as_slice(), count, into)
-        }
+        Came::Datagram(count) => add_datagram_text(alloc, buffer.as_slice(), count, into),
         Came::End => add_word(into, "end"),
         Came::Failed => add_word(into, "failed"),
     }
@@ -130,27 +137,38 @@ fn add_kept(alloc: Global, what: &str, kept: Option<&[u8]>, into: &mut String) -
     }
 }
 
+// Adds where the wire listened and sent to at first, and the first two datagrams sent.
+fn add_all_kept(alloc: Global, wire: &MemWire, into: &mut String) -> Result<(), Bad> {
+    add_kept(alloc, "at", wire.at(0), into)?;
+    add_kept(alloc, "to", wire.to(0), into)?;
+    add_kept(alloc, "kept", wire.sent(0), into)?;
+    add_kept(alloc, "more", wire.sent(1), into)
+}
+
 /// What an exchange over a wire in memory comes to, and what the wire keeps of it.
-pub(crate) fn memory_wire(alloc: Global, parts: &[Part], given: &str) -> Result<String, Bad> {
+pub(crate) fn memory_wire(
+    alloc: Global,
+    parts: &[Part],
+    given: &str,
+    into: &mut String,
+) -> Result<(), Bad> {
     let (front, rest) = parted(given)?;
     let (coming, sent) = parted(rest)?;
     let mut wire = memory(alloc, parts, front, coming)?;
     let sent = bytes_of(alloc, parts, sent)?;
-    let mut all = String::new(alloc);
-    exchange(alloc, &mut wire, sent.as_slice(), &mut all)?;
-    add_kept(alloc, "at", wire.at(0), &mut all)?;
-    add_kept(alloc, "to", wire.to(0), &mut all)?;
-    add_kept(alloc, "kept", wire.sent(0), &mut all)?;
-    add_kept(alloc, "more", wire.sent(1), &mut all)?;
-    Ok(all)
+    exchange(alloc, &mut wire, sent.as_slice(), into)?;
+    add_all_kept(alloc, &wire, into)
 }
 
 /// What an exchange over a wire that never fails comes to.
-pub(crate) fn plain_wire(alloc: Global, parts: &[Part], given: &str) -> Result<String, Bad> {
+pub(crate) fn plain_wire(
+    alloc: Global,
+    parts: &[Part],
+    given: &str,
+    into: &mut String,
+) -> Result<(), Bad> {
     let (coming, sent) = parted(given)?;
     let mut wire = PlainWire::new(datagrams(alloc, parts, coming)?);
     let sent = bytes_of(alloc, parts, sent)?;
-    let mut all = String::new(alloc);
-    exchange(alloc, &mut wire, sent.as_slice(), &mut all)?;
-    Ok(all)
+    exchange(alloc, &mut wire, sent.as_slice(), into)
 }

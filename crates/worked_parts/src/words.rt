@@ -116,6 +116,27 @@ pub(crate) fn add_number(alloc: Global, into: &mut String, number: i128) -> Resu
     Ok(())
 }
 
+/// Adds pieces to a text, one after another.
+pub(crate) fn add_pieces(into: &mut String, pieces: &[&str]) -> Result<(), Bad> {
+    for piece in pieces {
+        into.push_str(piece)?;
+    }
+    Ok(())
+}
+
+/// Adds numbers to a text, each after its name.
+pub(crate) fn add_named(
+    alloc: Global,
+    into: &mut String,
+    numbers: &[(&str, u32)],
+) -> Result<(), Bad> {
+    for (name, number) in numbers {
+        add_word(into, name)?;
+        add_number(alloc, into, i128::from(*number))?;
+    }
+    Ok(())
+}
+
 /// Adds bytes to a text, each as two digits and a space.
 pub(crate) fn add_bytes(alloc: Global, into: &mut String, bytes: &[u8]) -> Result<(), Bad> {
     for byte in bytes {
@@ -125,21 +146,26 @@ pub(crate) fn add_bytes(alloc: Global, into: &mut String, bytes: &[u8]) -> Resul
     Ok(())
 }
 
-/// A text of numbers.
-pub(crate) fn text_of(alloc: Global, numbers: &[i128]) -> Result<String, Bad> {
-    let mut all = String::new(alloc);
+/// Adds numbers to a text.
+pub(crate) fn add_numbers(alloc: Global, into: &mut String, numbers: &[i128]) -> Result<(), Bad> {
     for number in numbers {
-        add_number(alloc, &mut all, *number)?;
+        add_number(alloc, into, *number)?;
     }
-    Ok(all)
+    Ok(())
+}
+
+/// Adds numbers of 32 bits to a text.
+pub(crate) fn add_short(alloc: Global, into: &mut String, numbers: &[i32]) -> Result<(), Bad> {
+    for number in numbers {
+        add_number(alloc, into, i128::from(*number))?;
+    }
+    Ok(())
 }
 
 /// A text of numbers of 32 bits.
 pub(crate) fn text_of_short(alloc: Global, numbers: &[i32]) -> Result<String, Bad> {
     let mut all = String::new(alloc);
-    for number in numbers {
-        add_number(alloc, &mut all, i128::from(*number))?;
-    }
+    add_short(alloc, &mut all, numbers)?;
     Ok(all)
 }
 
