@@ -16,7 +16,7 @@ use vc_slice::{SliceJob, decode};
 use vc_types::NoMemory;
 
 // What is done at the only place.
-#[derive(Clone, Copy, Debug)]
+#[derive(Clone, Copy)]
 enum Call {
     Take,
     Withdraw,
@@ -28,7 +28,7 @@ enum Call {
     Work,
 }
 
-#[derive(Clone, Copy, Debug, PartialEq, Eq)]
+#[derive(Clone, Copy, PartialEq, Eq)]
 enum Answer {
     /// The picture's number in the job that is given, or was decoded.
     Job(u64),
@@ -197,16 +197,13 @@ const WITHDRAWN: [(Call, Answer); 4] = [
     (Call::Withdraw, Answer::Word(4)),
 ];
 
-// Whether the only place of a new board answers these calls so, once a job was put there.
-fn answers<H: Wait + Copy + Drop>(
-    rt: H,
-    alloc: Global,
-    calls: &[(Call, Answer)],
-) -> Result<bool, NoMemory> {
-    let mut fresh = new_board(alloc)?;
-    if !fresh.put(rt, empty_slice(7)?) {
-        return Ok(false);
-    }
+const NOTHING_PUT: [(Call, Answer); 2] = [
+    (Call::ClaimToo, Answer::Word(0)),
+    (Call::Take, Answer::Word(0)),
+];
+
+// Whether the only place answers these calls so.
+fn answers(alloc: Global, fresh: &mut Fresh, calls: &[(Call, Answer)]) -> Result<bool, NoMemory> {
     for (call, answer) in calls {
         if fresh.turn(alloc, *call)? != *answer {
             return Ok(false);
@@ -215,15 +212,33 @@ fn answers<H: Wait + Copy + Drop>(
     Ok(true)
 }
 
+// Whether the only place of a new board answers so, once a job was put there.
+fn answers_on_job<H: Wait + Copy + Drop>(
+    rt: H,
+    alloc: Global,
+    calls: &[(Call, Answer)],
+) -> Result<bool, NoMemory> {
+    let mut fresh = new_board(alloc)?;
+    Ok(fresh.put(rt, empty_slice(7)?) && answers(alloc, &mut fresh, calls)?)
+}
+
+fn new_board_answers(alloc: Global, calls: &[(Call, Answer)]) -> Result<bool, NoMemory> {
+    let mut fresh = new_board(alloc)?;
+    answers(alloc, &mut fresh, calls)
+}
+
+fn new_board_goes_on(alloc: Global) -> Result<bool, NoMemory> {
+    let mut fresh = new_board(alloc)?;
+    fresh.goes_on(alloc)
+}
+
 #[test]
 fn a_place_goes_round(rt: HostRuntime) -> Result<(), Fail> {
     let alloc = rt.alloc();
-    assert!(rt; answers(rt, alloc, &HELD)?);
-    assert!(rt; answers(rt, alloc, &COMPLETED)?);
-    assert!(rt; answers(rt, alloc, &WITHDRAWN)?);
-    let mut fresh = new_board(alloc)?;
-    assert_eq!(rt; fresh.turn(alloc, Call::ClaimToo)?, Answer::Word(0));
-    assert_eq!(rt; fresh.turn(alloc, Call::Take)?, Answer::Word(0));
-    assert!(rt; new_board(alloc)?.goes_on(alloc)?);
+    for calls in [HELD.as_slice(), COMPLETED.as_slice(), WITHDRAWN.as_slice()] {
+        assert!(rt; answers_on_job(rt, alloc, calls)?);
+    }
+    assert!(rt; new_board_answers(alloc, &NOTHING_PUT)?);
+    assert!(rt; new_board_goes_on(alloc)?);
     Ok(())
 }

@@ -2,7 +2,25 @@
 
 use std::alloc::Global;
 use std::test::Fail;
+use vc_ports::{MemSink, MemWire};
 use vc_types::Words;
+
+/// What the program writes to and calls.
+#[derive(Drop)]
+pub(crate) struct Outside {
+    pub(crate) output: MemSink,
+    pub(crate) report: MemSink,
+    pub(crate) wire: MemWire,
+}
+
+/// An output that has room for so many bytes, a report, and a wire that nothing comes from.
+pub(crate) fn outside(alloc: Global, room: usize) -> Result<Outside, Fail> {
+    Ok(Outside {
+        output: MemSink::new(alloc, room, Vec::new(alloc))?,
+        report: MemSink::new(alloc, 1000, Vec::new(alloc))?,
+        wire: MemWire::new(alloc, Vec::new(alloc), false, 0, Vec::new(alloc))?,
+    })
+}
 
 /// A capture whose datagrams have these payloads and one source.
 pub(crate) fn capture(alloc: Global, payloads: &[&[u8]]) -> Result<Vec<u8>, Fail> {

@@ -78,6 +78,47 @@ fn enter_all(
     Ok(true)
 }
 
+// Takes a header and a picture, and ends. Whether each is taken, and the end is a fault of the sink.
+fn enter_picture(
+    alloc: Global,
+    receiver: &mut Receiver,
+    places: &mut Counting,
+    sink: &mut MemSink,
+) -> Result<bool, NoMemory>
+    requires { PlacesAreBelow 1 receiver.old.reception.out }
+    ensures { PlacesAreBelow 1 receiver.new.reception.out }
+{
+    let payloads: [(&[u8], Result<Outcome, EnterFault>); 4] = [
+        (&HEADER_PAYLOAD, Ok(Outcome::HeaderNew)),
+        (&params_payload(0), Ok(Outcome::ParamsKept)),
+        (&slice_payload(0, 0), Ok(Outcome::SlicesKept)),
+        (&slice_payload(0, 1), Ok(Outcome::SlicesKept)),
+    ];
+    Ok(
+        enter_all(alloc, &payloads, receiver, places, sink)?
+            && receiver.drain(places, sink) == Err(EnterFault::WriteFault),
+    )
+}
+
+// Whether it ends again, after one datagram that it doesn't take.
+fn has_ended(
+    alloc: Global,
+    receiver: &mut Receiver,
+    places: &mut Counting,
+    sink: &mut MemSink,
+) -> Result<bool, NoMemory>
+    requires { PlacesAreBelow 1 receiver.old.reception.out }
+{
+    let payloads: [(&[u8], Result<Outcome, EnterFault>); 1] = [(
+        &params_payload(1),
+        Err(EnterFault::Ended),
+    )];
+    Ok(
+        enter_all(alloc, &payloads, receiver, places, sink)?
+            && receiver.drain(places, sink) == Err(EnterFault::Ended),
+    )
+}
+
 // The first write fails, that of the picture's frame, and a second one would not.
 #[test]
 fn nothing_is_called_after_a_fault(rt: HostRuntime) -> Result<(), Fail> {
@@ -85,27 +126,9 @@ fn nothing_is_called_after_a_fault(rt: HostRuntime) -> Result<(), Fail> {
     let mut places = Counting { calls: 0 };
     let mut sink = MemSink::new(alloc, 96, vec![in alloc; 1]?)?;
     let mut receiver = Receiver::new(alloc, 2);
-    let before: [(&[u8], Result<Outcome, EnterFault>); 4] = [
-        (&HEADER_PAYLOAD, Ok(Outcome::HeaderNew)),
-        (&params_payload(0), Ok(Outcome::ParamsKept)),
-        (&slice_payload(0, 0), Ok(Outcome::SlicesKept)),
-        (&slice_payload(0, 1), Ok(Outcome::SlicesKept)),
-    ];
-    assert!(rt; enter_all(alloc, &before, &mut receiver, &mut places, &mut sink)?);
-    assert_eq!(rt;
-        receiver.drain(&mut places, &mut sink),
-        Err(EnterFault::WriteFault)
-    );
+    assert!(rt; enter_picture(alloc, &mut receiver, &mut places, &mut sink)?);
     let calls = places.calls;
-    let after: [(&[u8], Result<Outcome, EnterFault>); 1] = [(
-        &params_payload(1),
-        Err(EnterFault::Ended),
-    )];
-    assert!(rt; enter_all(alloc, &after, &mut receiver, &mut places, &mut sink)?);
-    assert_eq!(rt;
-        receiver.drain(&mut places, &mut sink),
-        Err(EnterFault::Ended)
-    );
+    assert!(rt; has_ended(alloc, &mut receiver, &mut places, &mut sink)?);
     assert_eq!(rt; (calls, places.calls), (2, 2));
     assert!(rt; sink.bytes().is_empty());
     Ok(())

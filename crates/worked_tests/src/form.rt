@@ -15,7 +15,7 @@ use vc_slice::Places;
 use vc_types::NoMemory;
 
 // A call of one of the two places, 0 and 1.
-#[derive(Clone, Copy, Debug)]
+#[derive(Clone, Copy)]
 enum Call {
     /// A picture's number.
     Put(u64),
@@ -26,13 +26,13 @@ enum Call {
     Claim(Place),
 }
 
-#[derive(Clone, Copy, Debug)]
+#[derive(Clone, Copy)]
 enum Place {
     First,
     Second,
 }
 
-#[derive(Clone, Copy, Debug, PartialEq, Eq)]
+#[derive(Clone, Copy, PartialEq, Eq)]
 enum Answer {
     At(u32),
     /// The number of what comes back, or is claimed.
@@ -146,13 +146,21 @@ const ENDED: [(Call, Answer); 7] = [
     (Call::Put(9), Answer::Job(9)),
 ];
 
+// The place of the first call that a new board answers otherwise, if there is one.
+fn first_other(alloc: Global, calls: &[(Call, Answer)]) -> Result<Option<usize>, NoMemory> {
+    let mut fresh = new_form(alloc)?;
+    for (place, (call, answer)) in calls.iter().enumerate() {
+        if fresh.turn(*call)? != *answer {
+            return Ok(Some(place));
+        }
+    }
+    Ok(None)
+}
+
 #[test]
 fn the_lowest_empty_place_is_used(rt: HostRuntime) -> Result<(), Fail> {
     for calls in [LOWEST.as_slice(), ENDED.as_slice()] {
-        let mut fresh = new_form(rt.alloc())?;
-        for (call, answer) in calls {
-            assert_eq!(rt; fresh.turn(*call)?, *answer, "{call:?} of {calls:?}");
-        }
+        assert_eq!(rt; first_other(rt.alloc(), calls)?, None);
     }
     Ok(())
 }

@@ -242,20 +242,36 @@ const TWO_PLACES: [(Move, u8); 73] = [
     (Move::Params(6), 1),
 ];
 
+// The place of the first event that breaks another condition than is wanted, in a machine with so many places.
+// It is past the last one where only other bytes are written than so many grey ones.
+fn first_other(
+    alloc: Global,
+    places: u32,
+    moves: &[(Move, u8)],
+    count: usize,
+) -> Result<Option<usize>, NoMemory> {
+    let mut core = Core::new(alloc, 4, places)?;
+    for (place, (m, condition)) in moves.iter().enumerate() {
+        if broken(alloc, &mut core, *m)? != *condition {
+            return Ok(Some(place));
+        }
+    }
+    Ok(if is_grey(&core, count) {
+        None
+    } else {
+        Some(moves.len())
+    })
+}
+
 #[test]
 fn each_event_has_its_conditions(rt: HostRuntime) -> Result<(), Fail> {
-    let alloc = rt.alloc();
     let rows = [
         (1, REDONE.as_slice(), 96),
         (1, ONE_PLACE.as_slice(), 0),
         (2, TWO_PLACES.as_slice(), 480),
     ];
     for (places, moves, count) in rows {
-        let mut core = Core::new(alloc, 4, places)?;
-        for (place, (m, condition)) in moves.iter().enumerate() {
-            assert_eq!(rt; broken(alloc, &mut core, *m)?, *condition, "event {place}");
-        }
-        assert!(rt; is_grey(&core, count));
+        assert_eq!(rt; first_other(rt.alloc(), places, moves, count)?, None);
     }
     Ok(())
 }

@@ -1,13 +1,13 @@
 //! A capture whose slices come only as workers take them, one of which is held up.
 
-use crate::captures::{capture, words_of};
+use crate::captures::{capture, outside, words_of};
 use link_program::link_main;
 use slice_pool::{Crew, Worker};
 use std::alloc::Global;
 use std::sync::Arc;
 use std::test::Fail;
 use std::thread::Threads;
-use vc_ports::{Got, MemSink, MemWire, PlainSource, Source};
+use vc_ports::{Got, PlainSource, Source};
 use vc_slice::Hands;
 use worked_common::{Doorkeeper, HEADER_PAYLOAD, slice_payload};
 
@@ -75,20 +75,18 @@ fn is_frame_written<H: Threads + Copy + Send + Sync, P: Hands>(
         reads: 0,
         in_time: false,
     };
-    let mut output = MemSink::new(alloc, 96, Vec::new(alloc))?;
-    let mut report = MemSink::new(alloc, 1000, Vec::new(alloc))?;
-    let mut wire = MemWire::new(alloc, Vec::new(alloc), false, 0, Vec::new(alloc))?;
+    let mut outside = outside(alloc, 96)?;
     let status = link_main(
         rt,
         alloc,
         &words,
         &mut input,
-        &mut output,
-        &mut report,
-        &mut wire,
+        &mut outside.output,
+        &mut outside.report,
+        &mut outside.wire,
         hands,
     );
-    Ok(status == 0 && input.in_time && output.bytes() == [0x80; 96].as_slice())
+    Ok(status == 0 && input.in_time && outside.output.bytes() == [0x80; 96].as_slice())
 }
 
 #[test]

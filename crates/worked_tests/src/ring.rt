@@ -8,7 +8,7 @@ use vc_slice::decode;
 use vc_types::NoMemory;
 
 // A call, with places, serials and pictures' numbers.
-#[derive(Clone, Copy, Debug)]
+#[derive(Clone, Copy)]
 enum Call {
     Put {
         number: u64,
@@ -33,7 +33,7 @@ enum Call {
     },
 }
 
-#[derive(Clone, Copy, Debug, PartialEq, Eq)]
+#[derive(Clone, Copy, PartialEq, Eq)]
 enum Answer {
     At(u32),
     /// This place has a job of the slice.
@@ -194,22 +194,30 @@ const PAST: [(Call, Answer); 5] = [
     ),
 ];
 
+// The place of the first call that a new ring of so many places answers otherwise, if there is one.
+fn first_other(
+    alloc: Global,
+    places: u32,
+    calls: &[(Call, Answer)],
+) -> Result<Option<usize>, NoMemory> {
+    let mut ring = Ring::new(alloc, places)?;
+    for (place, (call, answer)) in calls.iter().enumerate() {
+        if turn(alloc, &mut ring, *call)? != *answer {
+            return Ok(Some(place));
+        }
+    }
+    Ok(None)
+}
+
 #[test]
 fn each_call_of_a_ring_is_answered(rt: HostRuntime) -> Result<(), Fail> {
-    let alloc = rt.alloc();
-    for (places, calls) in [
+    let rows = [
         (1, LATE.as_slice()),
         (2, DONE.as_slice()),
         (2, PAST.as_slice()),
-    ] {
-        let mut ring = Ring::new(alloc, places)?;
-        for (call, answer) in calls {
-            assert_eq!(rt;
-                turn(alloc, &mut ring, *call)?,
-                *answer,
-                "{call:?} of {calls:?}"
-            );
-        }
+    ];
+    for (places, calls) in rows {
+        assert_eq!(rt; first_other(rt.alloc(), places, calls)?, None);
     }
     Ok(())
 }

@@ -1,11 +1,11 @@
 //! Hands that tell what they are asked, and decode nothing.
 
-use crate::captures::{capture, words_of};
+use crate::captures::{capture, outside, words_of};
 use link_program::link_main;
 use std::alloc::Global;
 use std::test::Fail;
 use std::thread::Threads;
-use vc_ports::{MemSink, MemSource, MemWire};
+use vc_ports::MemSource;
 use worked_common::{HEADER_PAYLOAD, Recorder, params_payload, slice_payload};
 
 // The number of picture 0.
@@ -39,20 +39,18 @@ fn are_two_frames<H: Threads + Copy + Send + Sync>(
 ) -> Result<bool, Fail> {
     let words = words_of(alloc, "decode --window 2 --workers 3")?;
     let mut input = MemSource::new(loss_and_disorder(alloc)?, Vec::new(alloc));
-    let mut output = MemSink::new(alloc, 192, Vec::new(alloc))?;
-    let mut report = MemSink::new(alloc, 1000, Vec::new(alloc))?;
-    let mut wire = MemWire::new(alloc, Vec::new(alloc), false, 0, Vec::new(alloc))?;
+    let mut outside = outside(alloc, 192)?;
     let status = link_main(
         rt,
         alloc,
         &words,
         &mut input,
-        &mut output,
-        &mut report,
-        &mut wire,
+        &mut outside.output,
+        &mut outside.report,
+        &mut outside.wire,
         hands,
     );
-    Ok(status == 0 && output.bytes() == [0x80; 192].as_slice())
+    Ok(status == 0 && outside.output.bytes() == [0x80; 192].as_slice())
 }
 
 // They are released one after another, and none of their slices came back.
