@@ -28,19 +28,32 @@ pub(crate) struct Ran {
     pub(crate) bench: Bench,
 }
 
+fn input(alloc: Global, setup: &Setup, number: Number) -> Result<MemSource, Bad> {
+    let all = setup.input.as_slice();
+    let length = number.bytes(Each::Cut).unwrap_or(all.len());
+    let bytes = Vec::from_slice(alloc, all.get(..length).unwrap_or(all))?;
+    Ok(MemSource::new(bytes, number.fails(alloc, Each::Read)?))
+}
+
+fn wire(alloc: Global, setup: &Setup, number: Number) -> Result<MemWire, Bad> {
+    let coming = datagrams(alloc, setup.comes.as_slice())?;
+    let calls = number.fails(alloc, Each::Wire)?;
+    Ok(MemWire::new(alloc, coming, setup.looped, setup.room, calls)?)
+}
+
+// A sink with so much room, for calls of this kind.
+fn sink(alloc: Global, room: usize, number: Number, each: Each) -> Result<MemSink, Bad> {
+    Ok(MemSink::new(alloc, room, number.fails(alloc, each)?)?)
+}
+
 impl Bench {
     fn new(alloc: Global, setup: &Setup, number: Number) -> Result<Bench, Bad> {
-        let all = setup.input.as_slice();
-        let length = number.bytes(Each::Cut).unwrap_or(all.len());
-        let input = Vec::from_slice(alloc, all.get(..length).unwrap_or(all))?;
         let room = number.bytes(Each::Room).unwrap_or(setup.room);
-        let coming = datagrams(alloc, setup.comes.as_slice())?;
-        let calls = number.fails(alloc, Each::Wire)?;
         Ok(Bench {
-            input: MemSource::new(input, number.fails(alloc, Each::Read)?),
-            output: MemSink::new(alloc, room, number.fails(alloc, Each::Write)?)?,
-            report: MemSink::new(alloc, 2_000, number.fails(alloc, Each::Report)?)?,
-            wire: MemWire::new(alloc, coming, setup.looped, setup.room, calls)?,
+            input: input(alloc, setup, number)?,
+            output: sink(alloc, room, number, Each::Write)?,
+            report: sink(alloc, 2_000, number, Each::Report)?,
+            wire: wire(alloc, setup, number)?,
         })
     }
 

@@ -7,14 +7,20 @@ use std::sync::Wait;
 use std::thread::Threads;
 use worked_common::Bad;
 
+// What the runs of a file came to so far.
+#[derive(Drop)]
+struct Found {
+    runs: u64,
+    differ: u64,
+    said: String,
+}
+
 // What was made of a file's lines so far.
 #[derive(Drop)]
 struct Read {
     names: Names,
     row: Option<Row>,
-    runs: u64,
-    differ: u64,
-    said: String,
+    found: Found,
 }
 
 // Says what a row came to.
@@ -28,6 +34,28 @@ fn tell(alloc: Global, row: &Row, number: u64, ran: &Ran, what: &str) -> Result<
         "{name}, at {number}: another {what}: status {status}, {length} bytes, {left} left\n{text}"
     )?;
     Ok(line)
+}
+
+impl Found {
+    // Counts a run, and says what it came to, if that isn't what is wanted.
+    fn add(&mut self, alloc: Global, row: &Row, number: u64, ran: &Ran) -> Result<(), Bad> {
+        self.runs = self.runs.saturating_add(1);
+        let Some(what) = row.wants.differs(ran) else {
+            return Ok(());
+        };
+        self.differ = self.differ.saturating_add(1);
+        let told = tell(alloc, row, number, ran, what)?;
+        self.said.push_str(told.as_str())?;
+        Ok(())
+    }
+}
+
+// What is said of a whole file.
+fn end_of(alloc: Global, name: &str, found: &Found) -> Result<String, Bad> {
+    let (runs, differ) = (found.runs, found.differ);
+    let said = found.said.as_str();
+    let said = format!(in alloc; "{said}{name}: {runs} runs, {differ} differ")?;
+    Ok(said)
 }
 
 // Keeps what a row wrote, if it is to be kept.
@@ -53,17 +81,31 @@ fn finish<H: Threads + Wait + Copy + Send + Sync + 'static>(
     let numbers = row.numbers;
     for number in numbers.first..=numbers.last {
         let ran = run(rt, alloc, &row.setup, numbers.at(number))?;
-        if let Some(what) = row.wants.differs(&ran) {
-            let told = tell(alloc, row, number, &ran, what)?;
-            read.said.push_str(told.as_str())?;
-            read.differ = read.differ.saturating_add(1);
-        }
+        read.found.add(alloc, row, number, &ran)?;
         if number == numbers.last {
             keep(alloc, &mut read.names, row, &ran)?;
         }
-        read.runs = read.runs.saturating_add(1);
     }
     Ok(())
+}
+
+fn begin(alloc: Global, read: &mut Read, name: &str) -> Result<(), Bad> {
+    read.row = Some(Row::new(alloc, name)?);
+    Ok(())
+}
+
+fn begin_again(alloc: Global, read: &mut Read, name: &str) -> Result<(), Bad> {
+    match &mut read.row {
+        Some(row) => row.again(alloc, name),
+        None => Err(Bad::NoRow),
+    }
+}
+
+fn set(alloc: Global, read: &mut Read, key: &str, text: &str) -> Result<(), Bad> {
+    match &mut read.row {
+        Some(row) => row.set(alloc, &read.names, key, text),
+        None => Err(Bad::NoRow),
+    }
 }
 
 fn take_line<H: Threads + Wait + Copy + Send + Sync + 'static>(
@@ -78,27 +120,32 @@ fn take_line<H: Threads + Wait + Copy + Send + Sync + 'static>(
     match key {
         "" => Ok(()),
         "part" => read.names.add_part(alloc, text),
-        "counts" => {
-            read.names.counts = String::from_str(alloc, text)?;
-            Ok(())
-        }
+        "counts" => read.names.set_counts(alloc, text),
         "row" => {
             finish(rt, alloc, read)?;
-            read.row = Some(Row::new(alloc, text)?);
-            Ok(())
+            begin(alloc, read, text)
         }
         "and" => {
             finish(rt, alloc, read)?;
-            match &mut read.row {
-                Some(row) => row.again(alloc, text),
-                None => Err(Bad::NoRow),
-            }
+            begin_again(alloc, read, text)
         }
-        _ => match &mut read.row {
-            Some(row) => row.set(alloc, &read.names, key, text),
-            None => Err(Bad::NoRow),
-        },
+        _ => set(alloc, read, key, text),
     }
+}
+
+// Takes the lines of a file, up to the first that can't be tried, which is returned with its number.
+fn take_lines<'a, H: Threads + Wait + Copy + Send + Sync + 'static>(
+    rt: H,
+    alloc: Global,
+    read: &mut Read,
+    text: &'a str,
+) -> Option<(usize, &'a str)> {
+    for (place, line) in text.lines().enumerate() {
+        if take_line(rt, alloc, read, line).is_err() {
+            return Some((place.saturating_add(1), line));
+        }
+    }
+    None
 }
 
 /// Runs the rows of a file, and says what it came to.
@@ -111,24 +158,19 @@ pub(crate) fn run_file<H: Threads + Wait + Copy + Send + Sync + 'static>(
     let mut read = Read {
         names: Names::new(alloc),
         row: None,
-        runs: 0,
-        differ: 0,
-        said: String::new(alloc),
+        found: Found {
+            runs: 0,
+            differ: 0,
+            said: String::new(alloc),
+        },
     };
-    for (place, line) in text.lines().enumerate() {
-        if take_line(rt, alloc, &mut read, line).is_err() {
-            let place = place.saturating_add(1);
-            let said = read.said.as_str();
-            let said = format!(in alloc;
-                "{said}{name}: line {place}, or the row before it, can't be tried: {line}"
-            )?;
-            return Ok(said);
-        }
+    if let Some((place, line)) = take_lines(rt, alloc, &mut read, text) {
+        let said = read.found.said.as_str();
+        let said = format!(in alloc;
+            "{said}{name}: line {place}, or the row before it, can't be tried: {line}"
+        )?;
+        return Ok(said);
     }
     finish(rt, alloc, &mut read)?;
-    let runs = read.runs;
-    let differ = read.differ;
-    let said = read.said.as_str();
-    let said = format!(in alloc; "{said}{name}: {runs} runs, {differ} differ")?;
-    Ok(said)
+    end_of(alloc, name, &read.found)
 }

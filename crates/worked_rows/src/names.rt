@@ -27,6 +27,12 @@ impl Names {
         Ok(())
     }
 
+    /// Names the lines of a tally.
+    pub(crate) fn set_counts(&mut self, alloc: Global, text: &str) -> Result<(), Bad> {
+        self.counts = String::from_str(alloc, text)?;
+        Ok(())
+    }
+
     /// Adds a part of a line, as `header 00000000 70F063C080`.
     pub(crate) fn add_part(&mut self, alloc: Global, text: &str) -> Result<(), Bad> {
         let Some((name, rest)) = text.split_once(' ') else {
