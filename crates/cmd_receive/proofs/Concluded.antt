@@ -60,7 +60,7 @@ abbrev pub CameTo : OutputForm → ℕ → (x y : Listening) → List (List ℕ)
     → Answer → Type 0
 CameTo form window x y ds heard (Done (Judged tally)) =
     (heard ≡ Ok tt) × HasEndedSince form window x.held x.asked y ds tally
-CameTo form window x y ds heard (Drained tally end) = (heard ≡ Err end) × (has_broken end ≡ false)
+CameTo form window x y ds heard (Drained (Judged tally) end) = (heard ≡ Err end) × (has_broken end ≡ false)
     × HasEndedSince form window x.held x.asked y ds tally
 CameTo form window x y ds heard (Stopped end) = BreaksOff x y ds end
 CameTo form window x y ds heard answer = ⊥
@@ -72,7 +72,7 @@ module _ {form : OutputForm} {window : ℕ} {x mid : Listening} (y : Listening) 
   pub came_to : (answer : Answer) → Concludes mid y heard answer → CameTo form window x y ds heard answer
   came_to (Done (Judged tally)) c =
       (c.0, c.1.since form window x.held x.asked ds (heard_all new (hears (rw c.0 tt))))
-  came_to (Drained tally end) c = (
+  came_to (Drained (Judged tally) end) c = (
     c.0,
     c.1,
     c.2.since form window x.held x.asked ds (heard_all new (hears (rw c.0 c.1))),
@@ -99,7 +99,7 @@ module _ (form : OutputForm) (window workers : ℕ) (before : Option Told) (x y 
   workers_did : (answer : Answer) (split : CaptureSplit) → split.datagrams ≡ ds
       → CameTo form window x y ds heard answer → StartsWorkers window workers answer (hands before y) split
   workers_did (Done (Judged tally)) split is c = gave_work grew (rw is c.1.offered)
-  workers_did (Drained tally end) split is c = gave_work grew (rw is c.2.offered)
+  workers_did (Drained (Judged tally) end) split is c = gave_work grew (rw is c.2.offered)
   workers_did (Stopped NoMemory) split is c = inl (has_started c)
   workers_did (Stopped OutputFailed) split is c = has_started c.0
   workers_did (Stopped end) split is c = tt
@@ -141,7 +141,7 @@ module _ (form : OutputForm) (window workers : ℕ) (before : Option Told) (x y 
           wrote = rw is_of c.1.wrote;
           tally_is = rw is_of c.1.counted;
         }
-    ended (Drained tally end) c = record {
+    ended (Drained (Judged tally) end) c = record {
       reading = reading end c.1 (rw c.0 at h.heard);
       wrote = rw is_of c.2.wrote;
       tally_is = rw is_of c.2.counted;
@@ -191,7 +191,7 @@ module _ (form : OutputForm) (window workers : ℕ) (before : Option Told) (x y 
     drained : (tally : Tally) (end : Ending) → has_broken end ≡ false
         → WireHeard packets sessions (told_between listens after j k) x mid ds (Err end)
         → IsJudged window tally (output x y) ds
-        → RecvEnded window packets sessions at (Drained tally end) wire (output x y) ds
+        → RecvEnded window packets sessions at (Drained (Judged tally) end) wire (output x y) ds
     drained tally WireFailed not so e = (inl passed, e)
     drained tally (PacketLimit limit) not so e = (passed, so.1, e)
     drained tally NoMemory not so e = absurd cc
@@ -211,7 +211,7 @@ module _ (form : OutputForm) (window workers : ℕ) (before : Option Told) (x y 
         → CameTo AsFrames window x y ds heard answer
         → RecvEnded window packets sessions at answer wire (output x y) ds
     recv_ended new (Done (Judged tally)) c = (passed, (rw c.0 at so).1, judged c.1)
-    recv_ended new (Drained tally end) c = drained tally end c.1 (rw c.0 at so) (judged c.2)
+    recv_ended new (Drained (Judged tally) end) c = drained tally end c.1 (rw c.0 at so) (judged c.2)
     recv_ended new (Stopped NoMemory) c = (inl passed, heard_part new c)
     recv_ended new (Stopped OutputFailed) c = (passed, heard_part new c.0)
     recv_ended new (Stopped end) c = absurd c
@@ -324,7 +324,7 @@ pub not_listening : (window workers packets sessions : ℕ) (at : List ℕ) (wir
     (output : OutputChange) (before after : Option Told) (tally : Tally) → Stays wire.told
     → Stays output.held → tally ≡ no_counts → HasRisen wire.faults
     → Grows before after (starting workers (Ok tt))
-    → ReceivesFrom window workers packets sessions at (Drained tally WireFailed) wire output
+    → ReceivesFrom window workers packets sessions at (Drained (Judged tally) WireFailed) wire output
     (record { before = before; after = after })
 not_listening window workers packets sessions at wire output before after tally wire_stays output_stays none
     rose grew = record {

@@ -7,6 +7,7 @@ use Rattle.link_receiver.specs.HeardLists.{OutputForm}
 use Rattle.link_report.specs.declared.answer.Answer.{Answer}
 use Rattle.link_report.specs.declared.answer.Answer.TheVariants.{Done, Stopped, Drained}
 use Rattle.link_report.specs.declared.ending.Ending.TheVariants.{NoMemory, InputFailed, OutputFailed, CaptureCut, PacketLimit}
+use Rattle.link_report.specs.declared.summary.Summary.TheVariants.{Judged}
 use Rattle.vc_ports.specs.Changes.{Change, InputChange, OutputChange, HasRisen, Took}
 use Rattle.vc_ports.proofs.Given.{behind_given}
 use Rattle.vc_ports.specs.Reading.{IsAtEnd}
@@ -76,12 +77,13 @@ module _ (window workers packets : ℕ) (input : InputChange) (output : OutputCh
   completes (Stopped NoMemory) d = tt
   completes (Stopped OutputFailed) d = sound_output (d.output_failed refl)
   completes (Stopped end) d = d.ended
-  completes (Drained tally InputFailed) d = sound_input (d.input_failed (tally, refl))
-  completes (Drained tally (CaptureCut place)) d =
+  completes (Drained summary InputFailed) d = sound_input (d.input_failed (summary, refl))
+  completes (Drained (Judged tally) (CaptureCut place)) d =
       cut_by packets d.given input d.took whole d.ended.reading.ended d.ended.reading.part
-  completes (Drained tally (PacketLimit limit)) d =
+  completes (Drained (Judged tally) (PacketLimit limit)) d =
       past_by packets d.given input d.took whole limit d.ended.reading
-  completes (Drained tally end) d = d.ended.reading
+  completes (Drained (Judged tally) end) d = d.ended.reading
+  completes (Drained summary end) d = d.ended
 
   pub decode_completes : (answer : Answer)
       → Decodes window workers packets answer input output hands → IsComplete answer

@@ -6,6 +6,7 @@ use Rattle.cmd_receive.proofs.DecodeCompletes.{IsComplete}
 use Rattle.link_report.specs.declared.answer.Answer.{Answer}
 use Rattle.link_report.specs.declared.answer.Answer.TheVariants.{Done, Stopped, Drained}
 use Rattle.link_report.specs.declared.ending.Ending.TheVariants.{NoMemory, OutputFailed, PacketLimit, WireFailed}
+use Rattle.link_report.specs.declared.summary.Summary.TheVariants.{Judged}
 use Rattle.cmd_receive.specs.Receiving.{HeardAt, IsPastPackets, IsReceivable, ReceivesFrom}
 use Rattle.cmd_receive.specs.Ends.{ended_sessions}
 use Rattle.cmd_receive.proofs.Rising.{ended_up_to}
@@ -42,6 +43,6 @@ module _ (window workers packets sessions : ℕ) (at : List ℕ) (wire : WireCha
   recv_completes (Stopped NoMemory) r = tt
   recv_completes (Stopped OutputFailed) r = sound_output (r.output_failed refl)
   recv_completes (Stopped end) r = r.ended
-  recv_completes (Drained tally WireFailed) r = sound_wire (r.wire_failed (tally, refl))
-  recv_completes (Drained tally (PacketLimit limit)) r = past_by r.heard limit r.ended.0 r.ended.1
-  recv_completes (Drained tally end) r = r.ended
+  recv_completes (Drained summary WireFailed) r = sound_wire (r.wire_failed (summary, refl))
+  recv_completes (Drained (Judged tally) (PacketLimit limit)) r = past_by r.heard limit r.ended.0 r.ended.1
+  recv_completes (Drained summary end) r = r.ended

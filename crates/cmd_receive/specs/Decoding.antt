@@ -10,6 +10,7 @@ use Rattle.link_report.specs.declared.answer.Answer.{Answer}
 use Rattle.link_report.specs.declared.answer.Answer.TheVariants.{Done, Stopped, Drained}
 use Rattle.link_report.specs.declared.ending.Ending.{Ending}
 use Rattle.link_report.specs.declared.ending.Ending.TheVariants.{NoMemory, InputFailed, OutputFailed}
+use Rattle.link_report.specs.declared.summary.Summary.{Summary}
 use Rattle.link_report.specs.declared.summary.Summary.TheVariants.{Judged}
 use Rattle.vc_ports.specs.Changes.{Change, InputChange, OutputChange, HasRisen, Took, Wrote}
 use Rattle.vc_ports.specs.Changes.{WrotePart, Stays}
@@ -30,7 +31,7 @@ abbrev pub CaptureEnded : OutputForm → ℕ → ℕ → Answer → InputChange 
     → Type 0
 CaptureEnded form window packets (Done (Judged tally)) input output s =
     IsTaken form window packets None tally input output s
-CaptureEnded form window packets (Drained tally end) input output s =
+CaptureEnded form window packets (Drained (Judged tally) end) input output s =
     IsTaken form window packets (Some end) tally input output s
 CaptureEnded form window packets (Stopped NoMemory) input output s =
     WrotePart output (due_in_all form window s.datagrams)
@@ -40,7 +41,7 @@ CaptureEnded form window packets answer input output s = ⊥
 
 -- a read failed
 abbrev pub has_failed_input : Answer → Type 0
-has_failed_input answer = (tally : Tally) × (answer ≡ Drained tally InputFailed)
+has_failed_input answer = (summary : Summary) × (answer ≡ Drained summary InputFailed)
 
 -- ---- workers
 

@@ -148,7 +148,7 @@ CanGoOn (Err end) = has_broken end ≡ false
 -- what was still due was written, or the receiver broke off, before or then
 abbrev pub Concludes : (x y : Listening) → Result (Unit {0}) Ending → Answer → Type 0
 Concludes x y heard (Done (Judged tally)) = (heard ≡ Ok tt) × Drains x y tally
-Concludes x y heard (Drained tally end) = (heard ≡ Err end) × (has_broken end ≡ false) × Drains x y tally
+Concludes x y heard (Drained (Judged tally) end) = (heard ≡ Err end) × (has_broken end ≡ false) × Drains x y tally
 Concludes x y heard (Stopped end) = ((heard ≡ Err end) × (has_broken end ≡ true) × (y ≡ x))
     ⊎ (CanGoOn heard × BreaksOff x y [] end)
 Concludes x y heard answer = ⊥

@@ -8,6 +8,7 @@ use Rattle.link_model.specs.declared.tally.Tally.{Tally}
 use Rattle.link_report.specs.declared.answer.Answer.{Answer}
 use Rattle.link_report.specs.declared.answer.Answer.TheVariants.{Done, Stopped, Drained}
 use Rattle.link_report.specs.declared.ending.Ending.TheVariants.{NoMemory, OutputFailed, PacketLimit, WireFailed}
+use Rattle.link_report.specs.declared.summary.Summary.{Summary}
 use Rattle.link_report.specs.declared.summary.Summary.TheVariants.{Judged}
 use Rattle.cmd_receive.specs.Ends.{ended_sessions}
 use Rattle.vc_ports.specs.Changes.{Change, OutputChange, WireChange, HasRisen, Stays, Wrote, WrotePart}
@@ -62,10 +63,10 @@ abbrev pub RecvEnded : (window packets sessions : ℕ) → List ℕ → Answer �
 RecvEnded window packets sessions at (Done (Judged tally)) wire output heard =
     HeardAt at wire heard × HeardToEnd packets sessions wire heard
     × IsJudged window tally output heard
-RecvEnded window packets sessions at (Drained tally (PacketLimit limit)) wire output heard =
+RecvEnded window packets sessions at (Drained (Judged tally) (PacketLimit limit)) wire output heard =
     HeardAt at wire heard × IsPastPackets packets sessions limit heard
     × IsJudged window tally output heard
-RecvEnded window packets sessions at (Drained tally WireFailed) wire output heard =
+RecvEnded window packets sessions at (Drained (Judged tally) WireFailed) wire output heard =
     HeardAtMost at wire heard × IsJudged window tally output heard
 RecvEnded window packets sessions at (Stopped OutputFailed) wire output heard =
     HeardAt at wire heard × WrotePart output (full_output window heard)
@@ -75,7 +76,7 @@ RecvEnded window packets sessions at answer wire output heard = ⊥
 
 -- a call of the wire failed
 abbrev pub has_failed_wire : Answer → Type 0
-has_failed_wire answer = (tally : Tally) × (answer ≡ Drained tally WireFailed)
+has_failed_wire answer = (summary : Summary) × (answer ≡ Drained summary WireFailed)
 
 -- datagrams as those of a capture of them alone
 abbrev pub as_entries : List (List ℕ) → CaptureSplit

@@ -64,7 +64,7 @@ pub(crate) fn conclude<O: Sink, P: Places>(
     match heard {
         Err(ending) if has_broken(&ending) => Answer::Stopped(ending),
         Err(ending) => match listener.drain() {
-            Ok(tally) => Answer::Drained(tally, ending),
+            Ok(tally) => Answer::Drained(Summary::Judged { tally }, ending),
             Err(broken) => Answer::Stopped(broken),
         },
         Ok(()) => match listener.drain() {

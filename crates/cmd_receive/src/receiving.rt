@@ -9,7 +9,7 @@ use crate::listener::Listener;
 use crate::wire_inlet::WireInlet;
 use link_outside::Inbox;
 use link_receiver::Receiver;
-use link_report::{Answer, Ending};
+use link_report::{Answer, Ending, Summary};
 use std::alloc::Global;
 use vc_ports::{Reached, Sink, Wire};
 use vc_slice::{Hands, Places};
@@ -45,7 +45,8 @@ pub fn recv<N: Wire, O: Sink, P: Hands>(
     };
     let mut receiver = Receiver::new(alloc, window);
     let Reached::Yes = wire.listen(at) else {
-        return Answer::Drained(*receiver.tally(), Ending::WireFailed);
+        let tally = *receiver.tally();
+        return Answer::Drained(Summary::Judged { tally }, Ending::WireFailed);
     };
     let mut inlet = WireInlet::new(&mut inbox, wire);
     let mut listener = Listener::new(&mut receiver, output, hands);

@@ -1,6 +1,6 @@
 -- What a command came to, as its status and its report say.
 use Rattle.std.specs.Prelude.{◌≡◌, ◌⊎◌, ℕ, zero, suc, List, ◌++◌, Result, Ok, Err}
-use Rattle.link_report.specs.Report.{summary_text, status_line, tally_text, ending_status}
+use Rattle.link_report.specs.Report.{summary_text, status_line, ending_status}
 use Rattle.link_report.specs.declared.answer.Answer.{Answer}
 use Rattle.link_report.specs.declared.answer.Answer.TheVariants.{Done, Stopped, Drained}
 use Rattle.link_report.specs.declared.ending.Ending.{Ending}
@@ -15,12 +15,12 @@ answer_of (Err ending) = Stopped ending
 abbrev pub answer_status : Answer → ℕ
 answer_status (Done summary) = 0
 answer_status (Stopped ending) = ending_status ending
-answer_status (Drained tally ending) = ending_status ending
+answer_status (Drained summary ending) = ending_status ending
 
 abbrev pub answer_text : Answer → List ℕ
 answer_text (Done summary) = summary_text summary
 answer_text (Stopped ending) = status_line ending
-answer_text (Drained tally ending) = tally_text tally ++ status_line ending
+answer_text (Drained summary ending) = summary_text summary ++ status_line ending
 
 -- the status where the report failed, which hides no other
 abbrev pub status_at_fault : ℕ → ℕ

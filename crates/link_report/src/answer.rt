@@ -4,10 +4,8 @@ ghost use Rattle.vc_ports.specs.Changes.{output_of};
 ghost use Rattle.link_report.specs.Answers.{answer_of, answer_status, answer_text, Says, Reports};
 ghost use Rattle.link_report.specs.declared.answer.Answer.{Answer};
 
-use crate::counts::{push_counts, tally_counts};
 use crate::ending::Ending;
 use crate::summary::Summary;
-use link_model::Tally;
 use std::alloc::Global;
 use vc_ports::{Sink, WriteFault, write_all};
 use vc_types::NoMemory;
@@ -24,7 +22,7 @@ pub enum Answer {
     /// It stopped.
     Stopped(Ending),
     /// It read no further, and judged and wrote all that it had heard.
-    Drained(Tally, Ending),
+    Drained(Summary, Ending),
 }
 
 impl From<Result<Summary, Ending>> for Answer {
@@ -55,8 +53,8 @@ impl Answer {
         match self {
             Answer::Done(summary) => summary.push_to(&mut text)?,
             Answer::Stopped(ending) => ending.push_to(&mut text)?,
-            Answer::Drained(tally, ending) => {
-                push_counts(&mut text, &tally_counts(tally))?;
+            Answer::Drained(summary, ending) => {
+                summary.push_to(&mut text)?;
                 ending.push_to(&mut text)?;
             }
         }
