@@ -30,15 +30,15 @@ use Rattle.cmd_receive.specs.Hearing.{CanGoOn, CaptureHeard, Concludes, HearsCap
 use Rattle.cmd_receive.specs.InletLaws.{told_between}
 use Rattle.cmd_receive.specs.Listening.{Listening, BreaksOff, HandsWereOffered, HasEndedSince, Hears, Stumbles}
 use Rattle.cmd_receive.specs.Looping.{has_broken}
-use Rattle.cmd_receive.specs.Receiving.{HeardAt, IsJudged, ReceivesFrom, RecvEnded, as_entries, has_failed_wire}
+use Rattle.cmd_receive.specs.Receiving.{HeardAt, IsJudged, ReceivesFrom, RecvEnded, has_failed_wire}
 
 -- ---- workers
 
 -- they were started, and then slices were offered
-pub gave_work : {window workers : ℕ} {split : CaptureSplit} {before mid after : Option Told}
+pub gave_work : {window workers : ℕ} {ds : List (List ℕ)} {before mid after : Option Told}
     → Grows before mid (starting workers (Ok tt))
-    → HandsWereOffered window split.datagrams (record { before = mid; after = after })
-    → HasGivenWork window workers (record { before = before; after = after }) split
+    → HandsWereOffered window ds (record { before = mid; after = after })
+    → HasGivenWork window workers (record { before = before; after = after }) ds
 gave_work {workers = workers} {before = before} {mid = mid} {after = after} grew told = record {
   more = told_more (starting workers (Ok tt)) told.more;
   grows = grows_twice before mid after (starting workers (Ok tt)) told.more grew told.grows;
@@ -96,14 +96,14 @@ module _ (form : OutputForm) (window workers : ℕ) (before : Option Told) (x y 
   has_started : {given : List (List ℕ)} → Stumbles x y given → HasStarted workers (hands before y)
   has_started s = started workers before x.asked y.asked grew s.goes.asked
 
-  workers_did : (answer : Answer) (split : CaptureSplit) → split.datagrams ≡ ds
-      → CameTo form window x y ds heard answer → StartsWorkers window workers answer (hands before y) split
-  workers_did (Done (Judged tally)) split is c = gave_work grew (rw is c.1.offered)
-  workers_did (Drained (Judged tally) end) split is c = gave_work grew (rw is c.2.offered)
-  workers_did (Stopped NoMemory) split is c = inl (has_started c)
-  workers_did (Stopped OutputFailed) split is c = has_started c.0
-  workers_did (Stopped end) split is c = tt
-  workers_did answer split is c = absurd c
+  workers_did : (answer : Answer) → CameTo form window x y ds heard answer
+      → StartsWorkers window workers answer (hands before y) ds
+  workers_did (Done (Judged tally)) c = gave_work grew c.1.offered
+  workers_did (Drained (Judged tally) end) c = gave_work grew c.2.offered
+  workers_did (Stopped NoMemory) c = inl (has_started c)
+  workers_did (Stopped OutputFailed) c = has_started c.0
+  workers_did (Stopped end) c = tt
+  workers_did answer c = absurd c
 
   output_did : (answer : Answer) → CameTo form window x y ds heard answer
       → answer ≡ Stopped OutputFailed → HasRisen (output x y).faults
@@ -168,8 +168,8 @@ module _ (form : OutputForm) (window workers : ℕ) (before : Option Told) (x y 
               is (ended answer c);
           input_failed = input_did answer c;
           output_failed = output_did answer c;
-          workers_started = subst (λ (s : CaptureSplit). StartsWorkers window workers answer (hands before y) s)
-              is (workers_did answer split is_of c);
+          workers_started = subst (λ (l : List (List ℕ)). StartsWorkers window workers answer (hands before y) l)
+              (sym is_of ∙ ap (λ (s : CaptureSplit). s.datagrams) is) (workers_did answer c);
         }
 
   -- ---- a wire
@@ -279,7 +279,7 @@ took_datagrams window workers packets sessions at told listens after i j k befor
           sessions at told listens after i j k is later h refl answer came;
       output_failed = output_did AsFrames window workers before x y h.datagrams heard new grew answer came;
       workers_started = workers_did AsFrames window workers before x y h.datagrams heard new grew
-          answer (as_entries h.datagrams) refl came;
+          answer came;
     }
 
 -- ---- nothing was begun

@@ -29,7 +29,6 @@ use Rattle.cmd_receive.specs.Decoding.{HasGivenWork}
 use Rattle.cmd_receive.specs.Exchanges.{BrokeBehind, Exchanged, HearsInTurn, LoopBroke, LoopState, WereLooped}
 use Rattle.cmd_receive.specs.Listening.{Listening, BreaksOff, Drains, HasEndedSince, Hears, Stumbles}
 use Rattle.cmd_receive.specs.Looping.{GivesWork, HasBegun, LoopWrote, LoopsBack, LoopsBetween, SentInTurn, SentSome, has_broken}
-use Rattle.cmd_receive.specs.Receiving.{as_entries}
 
 -- ---- what was heard is fixed
 
@@ -149,7 +148,7 @@ module _ (s : Sending) (most : ℕ) (input : InputChange) (x y : LoopState) (hea
 
       module _ {tally : Tally}
           (e : HasEndedSince AsFrames window x.listening.held x.listening.asked z heard tally) where
-        worked : HasGivenWork window workers hands (as_entries heard)
+        worked : HasGivenWork window workers hands heard
         worked = gave_work b.started e.offered
 
         sent_all : (frames datagrams bytes : ℕ) → sending ≡ Ok (summaries.Sent frames datagrams bytes)

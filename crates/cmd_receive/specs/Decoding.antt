@@ -46,19 +46,21 @@ has_failed_input answer = (summary : Summary) × (answer ≡ Drained summary Inp
 -- ---- workers
 
 -- so many were started, once, and each slice that a picture of the datagrams keeps was offered
-pub record HasGivenWork (window workers : ℕ) (hands : Change (Option Told)) (s : CaptureSplit)
-    : Type 0 where
+pub record HasGivenWork
+    (window workers : ℕ) (hands : Change (Option Told)) (datagrams : List (List ℕ)) : Type 0 where
   pub more : Told
   pub grows : Grows hands.before hands.after more
   pub started : more.started ≡ workers ∷ []
-  pub offered : AreAllOffered window (sessions_of s.datagrams) (told_jobs more)
+  pub offered : AreAllOffered window (sessions_of datagrams) (told_jobs more)
 
 -- where memory ran out they were started, or nothing was asked of them
-abbrev pub StartsWorkers : ℕ → ℕ → Answer → Change (Option Told) → CaptureSplit → Type 0
-StartsWorkers window workers (Stopped OutputFailed) hands s = HasStarted workers hands
-StartsWorkers window workers (Stopped NoMemory) hands s = HasStarted workers hands ⊎ Stays hands
-StartsWorkers window workers (Stopped end) hands s = Unit {0}
-StartsWorkers window workers answer hands s = HasGivenWork window workers hands s
+abbrev pub StartsWorkers : ℕ → ℕ → Answer → Change (Option Told) → List (List ℕ) → Type 0
+StartsWorkers window workers (Stopped OutputFailed) hands datagrams = HasStarted workers hands
+StartsWorkers window workers (Stopped NoMemory) hands datagrams =
+    HasStarted workers hands ⊎ Stays hands
+StartsWorkers window workers (Stopped end) hands datagrams = Unit {0}
+StartsWorkers window workers answer hands datagrams =
+    HasGivenWork window workers hands datagrams
 
 -- ---- the bytes that the input gave
 
@@ -71,7 +73,8 @@ pub record TakesCapture
   pub ended : CaptureEnded form window packets answer input output (capture_split packets given)
   pub input_failed : has_failed_input answer → HasRisen input.faults
   pub output_failed : answer ≡ Stopped OutputFailed → HasRisen output.faults
-  pub workers_started : StartsWorkers window workers answer hands (capture_split packets given)
+  pub workers_started : StartsWorkers window workers answer hands
+      (capture_split packets given).datagrams
 
 -- as raw frames
 abbrev pub Decodes : (window workers packets : ℕ) → Answer → InputChange → OutputChange

@@ -11,7 +11,7 @@ use Rattle.link_report.specs.declared.summary.Summary.{Summary}
 use Rattle.link_report.specs.declared.summary.Summary.TheVariants.{Looped, Sent}
 use Rattle.link_receiver.specs.HeardLists.{AsFrames, HasHeard}
 use Rattle.cmd_receive.specs.Exchanges.{AreInTurn, LoopState}
-use Rattle.cmd_receive.specs.Receiving.{IsJudged, as_entries}
+use Rattle.cmd_receive.specs.Receiving.{IsJudged}
 use Rattle.vc_ports.specs.Changes.{Change, InputChange, OutputChange, WireChange, HasRisen, Stays, Wrote, WrotePart}
 use Rattle.vc_ports.specs.Wires.{WireTold, aiming, listening}
 use Rattle.vc_slice.specs.Asked.{Told, Grows, starting}
@@ -92,8 +92,7 @@ abbrev pub GivesWork : (window workers : ℕ) → Result Summary Ending → Chan
     → List (List ℕ) → Type 0
 GivesWork window workers (Err OutputFailed) hands heard = HasStarted workers hands
 GivesWork window workers (Err NoMemory) hands heard = HasStarted workers hands ⊎ Stays hands
-GivesWork window workers answer hands heard =
-    HasGivenWork window workers hands (as_entries heard)
+GivesWork window workers answer hands heard = HasGivenWork window workers hands heard
 
 -- looping at most so many raw frames of the bytes that the input gave over a wire, at one address
 pub record LoopsBack

@@ -1,6 +1,5 @@
 -- What receiving from a wire did, by how it ended.
 use Rattle.std.specs.Prelude.{◌≡◌, ◌⊎◌, ◌≤◌, ◌<◌, ℕ, List, [], length, take, Option, Some}
-use Rattle.cmd_receive.specs.Capture.{CaptureSplit}
 use Rattle.cmd_receive.specs.Decoding.{StartsWorkers}
 use Rattle.link_model.specs.Judgement.{tally_of}
 use Rattle.link_model.specs.Output.{full_output}
@@ -78,10 +77,6 @@ RecvEnded window packets sessions at answer wire output heard = ⊥
 abbrev pub has_failed_wire : Answer → Type 0
 has_failed_wire answer = (summary : Summary) × (answer ≡ Drained summary WireFailed)
 
--- datagrams as those of a capture of them alone
-abbrev pub as_entries : List (List ℕ) → CaptureSplit
-as_entries datagrams = record { datagrams = datagrams; rest = []; given = [] }
-
 -- receiving at most so many datagrams at an address, until so many sessions have ended
 pub record ReceivesFrom
     (window workers packets sessions : ℕ) (at : List ℕ) (answer : Answer)
@@ -91,7 +86,7 @@ pub record ReceivesFrom
   pub ended : RecvEnded window packets sessions at answer wire output heard
   pub wire_failed : has_failed_wire answer → HasRisen wire.faults
   pub output_failed : answer ≡ Stopped OutputFailed → HasRisen output.faults
-  pub workers_started : StartsWorkers window workers answer hands (as_entries heard)
+  pub workers_started : StartsWorkers window workers answer hands heard
 
 -- what will come ends that session within so many datagrams, or has fewer
 abbrev pub IsReceivable : (packets sessions : ℕ) → List (List ℕ) → Type 0
