@@ -12,7 +12,7 @@ use Rattle.receiver_model.proofs.AllOffered.{none_offered, more_offered}
 use Rattle.link_receiver.proofs.Asked.{grows_none, grows_twice}
 use Rattle.link_receiver.specs.States.{ReceiverState}
 use Rattle.link_slices.specs.Jobs.{job_of}
-use Rattle.cmd_receive.specs.Listening.{HandsWereOffered}
+use Rattle.cmd_receive.specs.Playouts.{HandsWereOffered}
 use Rattle.vc_slice.specs.Asked.{Told, Offer, nothing_told, told_more}
 use Rattle.link_receiver.specs.HeardLists.{OutputForm, HasHeard, AskedPlaces, OfferedToPlaces, told_jobs}
 

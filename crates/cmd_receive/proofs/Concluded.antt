@@ -13,6 +13,7 @@ use Rattle.link_report.specs.declared.answer.Answer.{Answer}
 use Rattle.link_report.specs.declared.answer.Answer.TheVariants.{Done, Drained, Stopped}
 use Rattle.link_report.specs.declared.ending.Ending.{Ending}
 use Rattle.link_report.specs.declared.ending.Ending.TheVariants.{CaptureCut, InputFailed, NoMemory, OutputFailed, PacketLimit, WireFailed}
+use Rattle.link_report.specs.declared.summary.Summary.{Summary}
 use Rattle.link_report.specs.declared.summary.Summary.TheVariants.{Judged}
 use Rattle.vc_ports.proofs.Given.{Gave-none}
 use Rattle.vc_ports.proofs.Growing.{Grew-none, GrewBySome-none}
@@ -26,11 +27,13 @@ use Rattle.cmd_receive.proofs.HeardWire.{wire_breaks, wire_hears}
 use Rattle.cmd_receive.proofs.Listened.{breaks_at_end, heard_all, heard_part}
 use Rattle.cmd_receive.specs.Capture.{CaptureSplit, ReadingEnded, capture_split}
 use Rattle.cmd_receive.specs.Decoding.{CaptureEnded, HasGivenWork, StartsWorkers, TakesCapture, has_failed_input}
-use Rattle.cmd_receive.specs.Hearing.{CanGoOn, CaptureHeard, Concludes, HearsCapture, HearsWire, WireHeard}
+use Rattle.cmd_receive.specs.Concluding.{CanGoOn, Concludes, has_broken}
+use Rattle.cmd_receive.specs.Hearing.{CaptureHeard, fault_ending}
 use Rattle.cmd_receive.specs.InletLaws.{told_between}
-use Rattle.cmd_receive.specs.Listening.{Listening, BreaksOff, HandsWereOffered, HasEndedSince, Hears, Stumbles}
-use Rattle.cmd_receive.specs.Looping.{has_broken}
+use Rattle.cmd_receive.specs.Playouts.{PlayoutState, BreaksOff, HandsWereOffered, HasEndedSince, Hears, PlaysCapture, Stumbles}
 use Rattle.cmd_receive.specs.Receiving.{HeardAt, IsJudged, ReceivesFrom, RecvEnded, has_failed_wire}
+use Rattle.cmd_receive.specs.Sessions.{HearsWire, WireHeard}
+use Rattle.vc_ports.specs.Reading.{IsAtEnd}
 
 -- ---- workers
 
@@ -56,7 +59,7 @@ just_started {workers = workers} grew =
 -- ---- the end
 
 -- by the answer, since the receiver had heard nothing
-abbrev pub CameTo : OutputForm → ℕ → (x y : Listening) → List (List ℕ) → Result (Unit {0}) Ending
+abbrev pub CameTo : OutputForm → ℕ → (x y : PlayoutState) → List (List ℕ) → Result (Unit {0}) Ending
     → Answer → Type 0
 CameTo form window x y ds heard (Done (Judged tally)) =
     (heard ≡ Ok tt) × HasEndedSince form window x.held x.asked y ds tally
@@ -65,7 +68,7 @@ CameTo form window x y ds heard (Drained (Judged tally) end) = (heard ≡ Err en
 CameTo form window x y ds heard (Stopped end) = BreaksOff x y ds end
 CameTo form window x y ds heard answer = ⊥
 
-module _ {form : OutputForm} {window : ℕ} {x mid : Listening} (y : Listening) {ds : List (List ℕ)}
+module _ {form : OutputForm} {window : ℕ} {x mid : PlayoutState} (y : PlayoutState) {ds : List (List ℕ)}
     (new : HasHeard form x.receiver window []) (heard : Result (Unit {0}) Ending)
     (hears : CanGoOn heard → Hears x mid ds)
     (breaks : (end : Ending) → has_broken end ≡ true → heard ≡ Err end → BreaksOff x mid ds end) where
@@ -81,16 +84,23 @@ module _ {form : OutputForm} {window : ℕ} {x mid : Listening} (y : Listening) 
   came_to (Stopped end) (inr c) = breaks_at_end x mid y ds end (hears c.0) c.1
   came_to answer c = absurd c
 
-abbrev pub output : (x y : Listening) → OutputChange
+-- it read no further, whatever it says
+drained_so : (form : OutputForm) (window : ℕ) (x y : PlayoutState) (ds : List (List ℕ))
+    (heard : Result (Unit {0}) Ending) (summary : Summary) (end : Ending)
+    → CameTo form window x y ds heard (Drained summary end) → heard ≡ Err end
+drained_so form window x y ds heard (Judged tally) end c = c.0
+drained_so form window x y ds heard summary end c = absurd c
+
+abbrev pub output : (x y : PlayoutState) → OutputChange
 output x y = record {
   held = record { before = x.held; after = y.held };
   faults = record { before = x.faults; after = y.faults };
 }
 
-abbrev pub hands : Option Told → Listening → Change (Option Told)
+abbrev pub hands : Option Told → PlayoutState → Change (Option Told)
 hands before y = record { before = before; after = y.asked }
 
-module _ (form : OutputForm) (window workers : ℕ) (before : Option Told) (x y : Listening)
+module _ (form : OutputForm) (window workers : ℕ) (before : Option Told) (x y : PlayoutState)
     (ds : List (List ℕ)) (heard : Result (Unit {0}) Ending)
     (new : HasHeard form x.receiver window []) (grew : Grows before x.asked (starting workers (Ok tt))) where
   has_started : {given : List (List ℕ)} → Stumbles x y given → HasStarted workers (hands before y)
@@ -111,13 +121,20 @@ module _ (form : OutputForm) (window workers : ℕ) (before : Option Told) (x y 
 
   -- ---- a capture
 
-  module _ {mid : Listening} (packets : ℕ) (input : InputChange)
-      (h : HearsCapture packets 1 input x mid heard) (is_of : h.datagrams ≡ ds) where
+  module _ {mid : PlayoutState} (packets : ℕ) (input : InputChange)
+      (h : PlaysCapture packets input x mid heard) (is_of : h.datagrams ≡ ds) where
     abbrev split : CaptureSplit
     split = record { datagrams = h.datagrams; rest = h.part; given = capture_of h.datagrams ++ h.part }
 
-    reading : (end : Ending) → has_broken end ≡ false
-        → CaptureHeard packets 1 input x mid h.datagrams h.part (Err end)
+    abbrev Did : Result (Unit {0}) Ending → Type 0
+    Did result = CaptureHeard packets 1 input (Hears x mid)
+        (λ l fault. BreaksOff x mid l (fault_ending fault)) ⊥ h.datagrams h.part result
+
+    at_end : IsAtEnd input.left.after ⊎ ⊥ → IsAtEnd input.left.after
+    at_end (inl at) = at
+    at_end (inr never) = absurd never
+
+    reading : (end : Ending) → has_broken end ≡ false → Did (Err end)
         → ReadingEnded packets (Some end) input split
     reading (CaptureCut place) not so = record {
       wanted = so.1;
@@ -135,14 +152,14 @@ module _ (form : OutputForm) (window workers : ℕ) (before : Option Told) (x y 
     ended : (answer : Answer) → CameTo form window x y ds heard answer
         → CaptureEnded form window packets answer input (output x y) split
     ended (Done (Judged tally)) c =
-        let so = rw c.0 at h.heard in
+        let so : Did (Ok tt) = rw c.0 at h.did in
         record {
-          reading = record { no_rest = so.1; ended = so.2 };
+          reading = record { no_rest = so.1; ended = at_end so.2 };
           wrote = rw is_of c.1.wrote;
           tally_is = rw is_of c.1.counted;
         }
     ended (Drained (Judged tally) end) c = record {
-      reading = reading end c.1 (rw c.0 at h.heard);
+      reading = reading end c.1 (rw c.0 at h.did);
       wrote = rw is_of c.2.wrote;
       tally_is = rw is_of c.2.counted;
     }
@@ -154,8 +171,8 @@ module _ (form : OutputForm) (window workers : ℕ) (before : Option Told) (x y 
     input_did : (answer : Answer) → CameTo form window x y ds heard answer
         → has_failed_input answer → HasRisen input.faults
     input_did answer c failed =
-        let drained = rw failed.1 at c in
-        (rw drained.0 at h.heard).2
+        let drained = drained_so form window x y ds heard failed.0 InputFailed (rw failed.1 at c) in
+        (rw drained at h.did).2
 
     capture_taken : (answer : Answer) → CameTo form window x y ds heard answer
         → TakesCapture form window workers packets answer input (output x y) (hands before y)
@@ -174,7 +191,7 @@ module _ (form : OutputForm) (window workers : ℕ) (before : Option Told) (x y 
 
   -- ---- a wire
 
-  module _ {mid : Listening} (packets sessions : ℕ) (at : List ℕ) (told listens after : WireTold)
+  module _ {mid : PlayoutState} (packets sessions : ℕ) (at : List ℕ) (told listens after : WireTold)
       (i j k : ℕ) (is : listens ≡ listening told at) (later : i ≤ j)
       (h : HearsWire packets sessions (told_between listens after j k) x mid heard)
       (is_of : h.datagrams ≡ ds) where
@@ -204,8 +221,8 @@ module _ (form : OutputForm) (window workers : ℕ) (before : Option Told) (x y 
     wire_did : (answer : Answer) → CameTo AsFrames window x y ds heard answer
         → has_failed_wire answer → HasRisen wire.faults
     wire_did answer c failed =
-        let end = rw failed.1 at c in
-        omega (arith, later, (rw end.0 at so).1)
+        let drained = drained_so AsFrames window x y ds heard failed.0 WireFailed (rw failed.1 at c) in
+        omega (arith, later, (rw drained at so).1)
 
     recv_ended : HasHeard AsFrames x.receiver window [] → (answer : Answer)
         → CameTo AsFrames window x y ds heard answer
@@ -219,17 +236,24 @@ module _ (form : OutputForm) (window workers : ℕ) (before : Option Told) (x y 
 
 -- all of a capture was taken
 pub took_capture : (form : OutputForm) (window workers packets : ℕ) (input : InputChange)
-    (before : Option Told) (x mid y : Listening) (heard : Result (Unit {0}) Ending) (answer : Answer)
+    (before : Option Told) (x mid y : PlayoutState) (heard : Result (Unit {0}) Ending) (answer : Answer)
     → HasHeard form x.receiver window [] → Grows before x.asked (starting workers (Ok tt))
-    → HearsCapture packets 1 input x mid heard → Concludes mid y heard answer
+    → PlaysCapture packets input x mid heard → Concludes mid y heard answer
     → TakesCapture form window workers packets answer input
     (output x y) (hands before y)
 took_capture form window workers packets input before x mid y heard answer new grew h c =
     capture_taken form window workers before x y h.datagrams heard new grew packets input h refl answer
-    (came_to y new heard
-    (λ can. capture_hears packets 1 input x mid h.datagrams h.part heard can h.heard)
-    (λ end broken is. capture_breaks packets 1 input x mid h.datagrams h.part end broken
-    (rw is at h.heard)) answer c)
+    (came_to y new heard hears breaks answer c)
+  where
+    hears : CanGoOn heard → Hears x mid h.datagrams
+    hears can = capture_hears packets 1 input (Hears x mid)
+        (λ l fault. BreaksOff x mid l (fault_ending fault)) ⊥ h.datagrams h.part heard can h.did
+
+    breaks : (end : Ending) → has_broken end ≡ true → heard ≡ Err end → BreaksOff x mid h.datagrams end
+    breaks end broken is =
+        let b = capture_breaks packets 1 input (Hears x mid)
+        (λ l fault. BreaksOff x mid l (fault_ending fault)) ⊥ h.datagrams h.part end broken (rw is at h.did) in
+        rw b.1 b.2
 
 -- what was lent comes back as it was left
 module _ (O P : Type 0) (held : O → Option (List ℕ)) (faults : O → ℕ) (asked : P → Option Told)
@@ -255,7 +279,7 @@ module _ (O P : Type 0) (held : O → Option (List ℕ)) (faults : O → ℕ) (a
 
 -- all of a wire's datagrams were
 pub took_datagrams : (window workers packets sessions : ℕ) (at : List ℕ) (told listens after : WireTold)
-    (i j k : ℕ) (before : Option Told) (x mid y : Listening) (heard : Result (Unit {0}) Ending)
+    (i j k : ℕ) (before : Option Told) (x mid y : PlayoutState) (heard : Result (Unit {0}) Ending)
     (answer : Answer) → HasHeard AsFrames x.receiver window []
     → Grows before x.asked (starting workers (Ok tt))
     → listens ≡ listening told at → i ≤ j

@@ -7,17 +7,16 @@ use Rattle.link_report.specs.declared.ending.Ending.{Ending}
 use Rattle.link_report.specs.declared.ending.Ending.TheVariants.{NoMemory, OutputFailed, WireFailed}
 use Rattle.vc_ports.specs.Faults.{Rose}
 use Rattle.vc_ports.specs.Wires.{WireTold, sending}
-use Rattle.cmd_receive.proofs.Listened.{all_but}
 use Rattle.cmd_receive.specs.Exchanges.{Exchanged, LoopBroke, LoopState, WereLooped}
-use Rattle.cmd_receive.specs.HearingLaws.{none_heard}
+use Rattle.cmd_receive.specs.HearingLaws.{all_but, none_heard}
 use Rattle.cmd_receive.specs.InletLaws.{told_between}
 use Rattle.cmd_receive.specs.Inlets.{StoppedWire, WasGiven}
-use Rattle.cmd_receive.specs.Listening.{Listening, BreaksOff, Hears}
+use Rattle.cmd_receive.specs.Playouts.{PlayoutState, BreaksOff, Hears}
 
 module _ (x : LoopState) (datagram : List ℕ) (mid : WireTold) (j : ℕ) (first : x.wire_faults ≤ j) where
   -- it wasn't sent
   pub unsent : mid ≡ x.told → Rose x.wire_faults j
-      → LoopBroke x (record { listening = x.listening; told = mid; wire_faults = j }) (datagram ∷ []) outlets.Wire
+      → LoopBroke x (record { playout = x.playout; told = mid; wire_faults = j }) (datagram ∷ []) outlets.Wire
   unsent same rose = record {
     count = 0;
     within = omega arith;
@@ -28,16 +27,16 @@ module _ (x : LoopState) (datagram : List ℕ) (mid : WireTold) (j : ℕ) (first
         few = omega arith;
         later = first;
       },
-      none_heard x.listening,
+      none_heard x.playout,
       rose,
     );
   }
 
   module _ (sent : mid ≡ sending x.told datagram) (after : WireTold) (k : ℕ) where
-    abbrev behind : Listening → LoopState
-    behind z = record { listening = z; told = after; wire_faults = k }
+    abbrev behind : PlayoutState → LoopState
+    behind z = record { playout = z; told = after; wire_faults = k }
 
-    exchanged : (z : Listening) (given : List (List ℕ)) → length given ≤ 1
+    exchanged : (z : PlayoutState) (given : List (List ℕ)) → length given ≤ 1
         → WasGiven (told_between mid after j k) given
         → Exchanged x (behind z) (datagram ∷ []) given
     exchanged z given few was = record {
@@ -49,46 +48,46 @@ module _ (x : LoopState) (datagram : List ℕ) (mid : WireTold) (j : ℕ) (first
 
     -- no more will come
     pub ended : StoppedWire (told_between mid after j k) [] None
-        → WereLooped x (behind x.listening) (datagram ∷ [])
+        → WereLooped x (behind x.playout) (datagram ∷ [])
     ended s = (
       [],
       record {
-        exchanged = exchanged x.listening [] (omega arith) (rw s.ended.0 at s.given);
-        hears = none_heard x.listening;
+        exchanged = exchanged x.playout [] (omega arith) (rw s.ended.0 at s.given);
+        hears = none_heard x.playout;
         in_turn = inr s.ended.1;
       },
     )
 
     -- none was received
     pub failed : StoppedWire (told_between mid after j k) [] (Some WireFailed)
-        → LoopBroke x (behind x.listening) (datagram ∷ []) outlets.Wire
+        → LoopBroke x (behind x.playout) (datagram ∷ []) outlets.Wire
     failed s = record {
       count = 1;
       within = omega arith;
       given = [];
       broke = (
-        exchanged x.listening [] (omega arith) (rw s.ended.0 at s.given),
-        none_heard x.listening,
+        exchanged x.playout [] (omega arith) (rw s.ended.0 at s.given),
+        none_heard x.playout,
         omega (arith, first, s.ended.1),
       );
     }
 
     -- or one was lost
     pub lost : (end : Ending) → StoppedWire (told_between mid after j k) [] (Some end)
-        → LoopBroke x (behind x.listening) (datagram ∷ []) outlets.NoMemory
+        → LoopBroke x (behind x.playout) (datagram ∷ []) outlets.NoMemory
     lost end s = record {
       count = 1;
       within = omega arith;
       given = s.lost;
       broke = (
-        exchanged x.listening s.lost s.few s.given,
-        all_but s.lost s.few (none_heard x.listening),
+        exchanged x.playout s.lost s.few s.given,
+        all_but s.lost s.few (none_heard x.playout),
       );
     }
 
     -- one was received
-    module _ (came : List ℕ) (was : WasGiven (told_between mid after j k) (came ∷ [])) (z : Listening) where
-      pub heard : Hears x.listening z (came ∷ []) → WereLooped x (behind z) (datagram ∷ [])
+    module _ (came : List ℕ) (was : WasGiven (told_between mid after j k) (came ∷ [])) (z : PlayoutState) where
+      pub heard : Hears x.playout z (came ∷ []) → WereLooped x (behind z) (datagram ∷ [])
       heard hears = (
         came ∷ [],
         record {
@@ -98,7 +97,7 @@ module _ (x : LoopState) (datagram : List ℕ) (mid : WireTold) (j : ℕ) (first
         },
       )
 
-      pub unwritten : BreaksOff x.listening z (came ∷ []) OutputFailed
+      pub unwritten : BreaksOff x.playout z (came ∷ []) OutputFailed
           → LoopBroke x (behind z) (datagram ∷ []) outlets.Output
       unwritten breaks = record {
         count = 1;
@@ -107,17 +106,11 @@ module _ (x : LoopState) (datagram : List ℕ) (mid : WireTold) (j : ℕ) (first
         broke = (exchanged z (came ∷ []) (omega arith) was, breaks);
       }
 
-      pub unheard : (end : Ending) → BreaksOff x.listening z (came ∷ []) end
+      pub unheard : BreaksOff x.playout z (came ∷ []) NoMemory
           → LoopBroke x (behind z) (datagram ∷ []) outlets.NoMemory
-      unheard end breaks = record {
+      unheard breaks = record {
         count = 1;
         within = omega arith;
         given = came ∷ [];
-        broke = (exchanged z (came ∷ []) (omega arith) was, stumbled end breaks);
+        broke = (exchanged z (came ∷ []) (omega arith) was, breaks);
       }
-        where
-          stumbled : (end : Ending) → BreaksOff x.listening z (came ∷ []) end
-              → BreaksOff x.listening z (came ∷ []) NoMemory
-          stumbled NoMemory breaks = breaks
-          stumbled OutputFailed breaks = breaks.0
-          stumbled end breaks = absurd breaks

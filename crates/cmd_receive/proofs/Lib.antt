@@ -5,6 +5,7 @@ pub mod Arriving
 pub mod HeardLoop
 pub mod HeardEntries
 pub mod HeardWire
+pub mod Wanted
 pub mod Concluded
 pub mod DecodeCompletes
 pub mod LoopCompletes

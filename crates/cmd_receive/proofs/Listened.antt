@@ -1,5 +1,5 @@
 -- What a receiver's calls do to what it has heard, and what it has heard since it heard nothing.
-use Rattle.std.proofs.Common.{◌≡◌, ℕ, ◌≤◌, List, [], ◌∷◌, ◌++◌, length, Option, Err, refl, ap, arith, append-nil, append_assoc}
+use Rattle.std.proofs.Common.{◌≡◌, ℕ, List, [], ◌∷◌, ◌++◌, Option, Err, refl, append-nil}
 use Rattle.std.specs.Prelude.{Result}
 use Rattle.link_model.specs.Judgement.{tally_of}
 use Rattle.link_model.specs.declared.tally.Tally.{Tally}
@@ -10,33 +10,20 @@ use Rattle.link_receiver.specs.States.{ReceiverState}
 use Rattle.link_receiver.specs.declared.fault.EnterFault.{EnterFault}
 use Rattle.link_receiver.specs.declared.fault.EnterFault.TheVariants as faults
 use Rattle.link_report.specs.declared.ending.Ending.{Ending}
-use Rattle.link_report.specs.declared.ending.Ending.TheVariants.{NoMemory, OutputFailed}
 use Rattle.receiver_model.specs.Entering.{datagram_jobs}
-use Rattle.vc_ports.proofs.Growing.{Grew-none, Grew-then, GrewBySome-all, GrewBySome-front, GrewBySome-then}
+use Rattle.vc_ports.proofs.Growing.{Grew-none, Grew-then, GrewBySome-then}
 use Rattle.vc_ports.specs.Faults.{HasCause}
 use Rattle.vc_ports.specs.Writing.{Grew, GrewBySome}
 use Rattle.vc_slice.specs.Asked.{Told}
 use Rattle.cmd_receive.proofs.Asking.{nothing_offered, offered_then, offered_with}
-use Rattle.cmd_receive.specs.HearingLaws.{breaks_then}
-use Rattle.cmd_receive.specs.Listening.{Listening, BreaksOff, Drains, GoesOn, HasEndedSince, HasHeardSince, Hears, Stumbles, ending_of}
-
-module _ (form : OutputForm) (window : ℕ) (held after : Option (List ℕ)) where
-  -- what is due so far is a part of all
-  part_of_all : (ds : List (List ℕ)) → GrewBySome held after (due_so_far form window ds)
-      → GrewBySome held after (due_in_all form window ds)
-  part_of_all ds grew = rw (due_at_end form window ds) at
-      (GrewBySome-front held after (due_so_far form window ds) (still_due form window ds) grew)
-
-  -- and of all that is due with a datagram more
-  part_of_more : (ds : List (List ℕ)) (d : List ℕ)
-      → GrewBySome held after (due_so_far form window ds)
-      → GrewBySome held after (due_in_all form window (ds ++ d ∷ []))
-  part_of_more ds d grew = part_of_all (ds ++ d ∷ []) (rw (due_with form window ds d) at
-      (GrewBySome-front held after (due_so_far form window ds) (newly_due form window ds d) grew))
+use Rattle.cmd_receive.specs.Hearing.{fault_ending}
+use Rattle.cmd_receive.specs.HearingLaws.{breaks_then, part_of_all}
+use Rattle.cmd_receive.specs.Playouts.{PlayoutState, BreaksOff, Drains, GoesOn, HasEndedSince}
+use Rattle.cmd_receive.specs.Playouts.{HasHeardSince, Hears, Stumbles, fault_of}
 
 -- ---- its calls
 
-module _ (x y : Listening) (goes : GoesOn x y) where
+module _ (x y : PlayoutState) (goes : GoesOn x y) where
   module _ (d : List ℕ) where
     pub hears_one : ((form : OutputForm) (window : ℕ) (ds : List (List ℕ))
         → HasHeard form x.receiver window ds → HasHeard form y.receiver window (ds ++ d ∷ []))
@@ -91,39 +78,17 @@ module _ (x y : Listening) (goes : GoesOn x y) where
         (GrewBySome-then held x.held y.held _ _ was.wrote (part form window ds was.has_heard));
   }
 
-module _ {x y : Listening} {given : List (List ℕ)} where
+module _ {x y : PlayoutState} {given : List (List ℕ)} where
   pub breaks_so : {A : Type 0} (fault : EnterFault) → Stumbles x y given
       → HasCause x.faults y.faults (◌≡◌ {A = Result A EnterFault} (Err fault) (Err faults.WriteFault))
-      → BreaksOff x y given (ending_of fault)
+      → BreaksOff x y given (fault_ending (fault_of fault))
   breaks_so faults.NoMemory stumbles cause = stumbles
   breaks_so faults.WriteFault stumbles cause = (stumbles, cause.rose refl)
   breaks_so faults.Ended stumbles cause = stumbles
 
-  -- ---- several of them
-
-  pub so_far : Hears x y given → Stumbles x y given
-  so_far p = record {
-    goes = p.goes;
-    since = λ form window held asked before was.
-        part_of_all form window held y.held (before ++ given)
-        (GrewBySome-all held y.held _ (p.since form window held asked before was).wrote);
-  }
-
-  -- it heard all but a last one, for which there was no memory
-  pub all_but : (lost : List (List ℕ)) → length lost ≤ 1 → Hears x y given
-      → Stumbles x y (given ++ lost)
-  all_but [] few p = rw (append-nil given) (so_far p)
-  all_but (d ∷ []) few p = record {
-    goes = p.goes;
-    since = λ form window held asked before was. rw (← append_assoc before given (d ∷ []))
-        (part_of_more form window held y.held (before ++ given) d
-        (GrewBySome-all held y.held _ (p.since form window held asked before was).wrote));
-  }
-  all_but (d ∷ e ∷ rest) few p = absurd (omega (arith, few))
-
 -- ---- since it had heard nothing
 
-begun : {form : OutputForm} {window : ℕ} (x : Listening) → HasHeard form x.receiver window []
+pub begun : {form : OutputForm} {window : ℕ} (x : PlayoutState) → HasHeard form x.receiver window []
     → HasHeardSince form window x.held x.asked x []
 begun {form = form} {window = window} x new = record {
   has_heard = new;
@@ -131,7 +96,7 @@ begun {form = form} {window = window} x new = record {
   offered = nothing_offered window x.asked;
 }
 
-module _ {form : OutputForm} {window : ℕ} {x y : Listening} {given : List (List ℕ)}
+module _ {form : OutputForm} {window : ℕ} {x y : PlayoutState} {given : List (List ℕ)}
     (new : HasHeard form x.receiver window []) where
   pub heard_all : Hears x y given → HasHeardSince form window x.held x.asked y given
   heard_all p = p.since form window x.held x.asked [] (begun x new)
@@ -140,6 +105,6 @@ module _ {form : OutputForm} {window : ℕ} {x y : Listening} {given : List (Lis
   heard_part p = p.since form window x.held x.asked [] (begun x new)
 
 -- the receiver broke off at the end of its input
-pub breaks_at_end : (x y z : Listening) (given : List (List ℕ)) (end : Ending) → Hears x y given
+pub breaks_at_end : (x y z : PlayoutState) (given : List (List ℕ)) (end : Ending) → Hears x y given
     → BreaksOff y z [] end → BreaksOff x z given end
 breaks_at_end x y z given end p q = rw append-nil at (breaks_then x y z given [] end p q)

@@ -23,12 +23,14 @@ use Rattle.vc_slice.specs.Asked.{Told, Grows, starting}
 use Rattle.vc_types.specs.SenderSettings.{Sending}
 use Rattle.cmd_receive.proofs.Asking.{nothing_offered}
 use Rattle.cmd_receive.proofs.Concluded.{gave_work}
-use Rattle.cmd_receive.proofs.Listened.{breaks_at_end, heard_all, heard_part, so_far}
+use Rattle.cmd_receive.proofs.Listened.{breaks_at_end, heard_all, heard_part}
 use Rattle.cmd_receive.proofs.Outcomes.{Outcome, outcome_of}
 use Rattle.cmd_receive.specs.Decoding.{HasGivenWork}
+use Rattle.cmd_receive.specs.Concluding.{has_broken}
+use Rattle.cmd_receive.specs.HearingLaws.{so_far}
 use Rattle.cmd_receive.specs.Exchanges.{BrokeBehind, Exchanged, HearsInTurn, LoopBroke, LoopState, WereLooped}
-use Rattle.cmd_receive.specs.Listening.{Listening, BreaksOff, Drains, HasEndedSince, Hears, Stumbles}
-use Rattle.cmd_receive.specs.Looping.{GivesWork, HasBegun, LoopWrote, LoopsBack, LoopsBetween, SentInTurn, SentSome, has_broken}
+use Rattle.cmd_receive.specs.Playouts.{PlayoutState, BreaksOff, Drains, HasEndedSince, Hears, Stumbles}
+use Rattle.cmd_receive.specs.Looping.{GivesWork, HasBegun, LoopWrote, LoopsBack, LoopsBetween, SentInTurn, SentSome}
 
 -- ---- what was heard is fixed
 
@@ -58,7 +60,7 @@ module _ (s : Sending) (most : ℕ) (input : InputChange) (x y : LoopState) (hea
       (outcome_of (Went x y heard) (Broke x y heard) s most input sending did)
 
   abbrev pub Kept : Type 0
-  Kept = Hears x.listening y.listening heard
+  Kept = Hears x.playout y.playout heard
 
   pub kept_all : (frames datagrams bytes : ℕ) → sending ≡ Ok (summaries.Sent frames datagrams bytes)
       → Kept
@@ -76,12 +78,12 @@ module _ (s : Sending) (most : ℕ) (input : InputChange) (x y : LoopState) (hea
       by_end end not o = o.1.hears
 
   pub breaks : (end : Ending) → has_broken end ≡ true → sending ≡ Err end
-      → BreaksOff x.listening y.listening heard end
+      → BreaksOff x.playout y.playout heard end
   breaks end broken is = by_end end broken (outcome_at (Err end) is)
     where
       by_end : (end : Ending) → has_broken end ≡ true
           → Outcome (Went x y heard) (Broke x y heard) (Err end)
-          → BreaksOff x.listening y.listening heard end
+          → BreaksOff x.playout y.playout heard end
       by_end endings.NoMemory broken (sent, inl went) = so_far went.hears
       by_end endings.NoMemory broken (sent, inr broke) = broke.2.1
       by_end endings.OutputFailed broken o = o.1.2.1
@@ -89,9 +91,9 @@ module _ (s : Sending) (most : ℕ) (input : InputChange) (x y : LoopState) (hea
 
   -- ---- the end of the receiver's input
 
-  module _ (z : Listening) where
+  module _ (z : PlayoutState) where
     abbrev pub after : LoopState
-    after = record { listening = z; told = y.told; wire_faults = y.wire_faults }
+    after = record { playout = z; told = y.told; wire_faults = y.wire_faults }
 
     module _ (window workers : ℕ) (at : List ℕ) (told : WireTold) (faults : ℕ) (asked : Option Told)
         (b : HasBegun window workers at told faults asked x) where
@@ -103,8 +105,8 @@ module _ (s : Sending) (most : ℕ) (input : InputChange) (x y : LoopState) (hea
 
       abbrev output : OutputChange
       output = record {
-        held = record { before = x.listening.held; after = z.held };
-        faults = record { before = x.listening.faults; after = z.faults };
+        held = record { before = x.playout.held; after = z.held };
+        faults = record { before = x.playout.faults; after = z.faults };
       }
 
       abbrev hands : Change (Option Told)
@@ -126,7 +128,7 @@ module _ (s : Sending) (most : ℕ) (input : InputChange) (x y : LoopState) (hea
             passes = rw b.ready at (passes_of (take w.0 ds) fault w.2);
           }) sending did
 
-      broken : (end : Ending) → BreaksOff x.listening z heard end
+      broken : (end : Ending) → BreaksOff x.playout z heard end
           → LoopsBack s most window workers at (Err end) input output wire hands
       broken endings.NoMemory e = record {
         heard = heard;
@@ -134,7 +136,7 @@ module _ (s : Sending) (most : ℕ) (input : InputChange) (x y : LoopState) (hea
         input_failed = λ is. absurd cc;
         output_failed = λ is. absurd cc;
         wire_failed = λ is. absurd cc;
-        workers_started = inl (started workers asked x.listening.asked z.asked b.started e.goes.asked);
+        workers_started = inl (started workers asked x.playout.asked z.asked b.started e.goes.asked);
       }
       broken endings.OutputFailed e = record {
         heard = heard;
@@ -142,12 +144,12 @@ module _ (s : Sending) (most : ℕ) (input : InputChange) (x y : LoopState) (hea
         input_failed = λ is. absurd cc;
         output_failed = λ is. e.1;
         wire_failed = λ is. absurd cc;
-        workers_started = started workers asked x.listening.asked z.asked b.started e.0.goes.asked;
+        workers_started = started workers asked x.playout.asked z.asked b.started e.0.goes.asked;
       }
       broken end e = absurd e
 
       module _ {tally : Tally}
-          (e : HasEndedSince AsFrames window x.listening.held x.listening.asked z heard tally) where
+          (e : HasEndedSince AsFrames window x.playout.held x.playout.asked z heard tally) where
         worked : HasGivenWork window workers hands heard
         worked = gave_work b.started e.offered
 
@@ -197,32 +199,32 @@ module _ (s : Sending) (most : ℕ) (input : InputChange) (x y : LoopState) (hea
           workers_started = work_by end not;
         }
 
-    pub broke_off : (end : Ending) → BreaksOff x.listening z heard end
+    pub broke_off : (end : Ending) → BreaksOff x.playout z heard end
         → LoopsBetween s most (Err end) input x after
     broke_off end e = λ window workers at told faults asked b.
         broken window workers at told faults asked b end e
 
     pub all_sent : (frames datagrams bytes : ℕ) (tally : Tally)
-        → sending ≡ Ok (summaries.Sent frames datagrams bytes) → Drains y.listening z tally
+        → sending ≡ Ok (summaries.Sent frames datagrams bytes) → Drains y.playout z tally
         → (summary : Summary) → summary ≡ summaries.Looped frames datagrams bytes tally
         → LoopsBetween s most (Ok summary) input x after
     all_sent frames datagrams bytes tally is d summary same = λ window workers at told faults asked b.
         rw same (sent_all window workers at told faults asked b
-        (d.since AsFrames window x.listening.held x.listening.asked heard
+        (d.since AsFrames window x.playout.held x.playout.asked heard
         (heard_all b.new (kept_all frames datagrams bytes is))) frames datagrams bytes is)
 
     pub all_stopped : (end : Ending) (tally : Tally) → has_broken end ≡ false → sending ≡ Err end
-        → Drains y.listening z tally → (answer : Result Summary Ending) → answer ≡ Err end
+        → Drains y.playout z tally → (answer : Result Summary Ending) → answer ≡ Err end
         → LoopsBetween s most answer input x after
     all_stopped end tally not is d answer same = λ window workers at told faults asked b.
         rw same (stopped window workers at told faults asked b
-        (d.since AsFrames window x.listening.held x.listening.asked heard
+        (d.since AsFrames window x.playout.held x.playout.asked heard
         (heard_all b.new (kept end not is))) end not is)
 
     module _ (end : Ending) (answer : Result Summary Ending) (same : answer ≡ Err end)
-        (e : BreaksOff y.listening z [] end) where
+        (e : BreaksOff y.playout z [] end) where
       undrained : Kept → LoopsBetween s most answer input x after
-      undrained k = rw same (broke_off end (breaks_at_end x.listening y.listening z heard end k e))
+      undrained k = rw same (broke_off end (breaks_at_end x.playout y.playout z heard end k e))
 
       pub sent_undrained : (frames datagrams bytes : ℕ)
           → sending ≡ Ok (summaries.Sent frames datagrams bytes)

@@ -7,19 +7,19 @@ use Rattle.link_report.specs.declared.ending.Ending.TheVariants.{NoMemory, Outpu
 use Rattle.vc_ports.specs.Faults.{Rose}
 use Rattle.vc_ports.specs.Wires.{WireTold}
 use Rattle.vc_slice.specs.Asked.{Told}
-use Rattle.cmd_receive.specs.Listening.{Listening, BorrowsAs, BreaksOff, Hears, IsWell, listening}
+use Rattle.cmd_receive.specs.Playouts.{PlayoutState, BorrowsAs, BreaksOff, Hears, IsWell, playout_state}
 use Rattle.cmd_receive.specs.declared.outlet.LoopOutlet.{LoopOutlet}
 
 -- a receiver that listens to what comes from a wire
 pub record LoopState : Type 0 where
-  pub listening : Listening
+  pub playout : PlayoutState
   pub told : WireTold
   pub wire_faults : ℕ
 
 abbrev pub loop_state : {N O P : Type 0} → (N → WireTold) → (N → ℕ) → (O → Option (List ℕ))
     → (O → ℕ) → (P → Option Told) → (P → ℕ) → LoopOutlet N O P → LoopState
 loop_state told wire_faults held faults asked bound x = record {
-  listening = listening held faults asked bound x.listener;
+  playout = playout_state held faults asked bound x.playout;
   told = told x.inlet.wire.now;
   wire_faults = wire_faults x.inlet.wire.now;
 }
@@ -27,13 +27,13 @@ loop_state told wire_faults held faults asked bound x = record {
 -- it borrows the same wire, output and places
 abbrev pub LoopsAs : {N O P : Type 0} → LoopOutlet N O P → LoopOutlet N O P → Type 0
 LoopsAs old new = (new.inlet.wire.ghost_name ≡ old.inlet.wire.ghost_name)
-    × BorrowsAs old.listener new.listener
+    × BorrowsAs old.playout new.playout
 
 -- the wire listens and is aimed, and slices are out at places that there are
 pub record IsReady (x : LoopState) : Type 0 where
   pub listens : IsTrue x.told.listens
   pub aimed : IsTrue x.told.aimed
-  pub well : IsWell x.listening
+  pub well : IsWell x.playout
 
 -- these datagrams were sent and those were given, at most one for each
 pub record Exchanged (x y : LoopState) (sent given : List (List ℕ)) : Type 0 where
@@ -48,7 +48,7 @@ AreInTurn told sent given = (length given ≡ length sent) ⊎ (told.coming ≡ 
 -- each was answered, and what came was heard
 pub record HearsInTurn (x y : LoopState) (sent heard : List (List ℕ)) : Type 0 where
   pub exchanged : Exchanged x y sent heard
-  pub hears : Hears x.listening y.listening heard
+  pub hears : Hears x.playout y.playout heard
   pub in_turn : AreInTurn y.told sent heard
 
 abbrev pub WereLooped : (x y : LoopState) → List (List ℕ) → Type 0
@@ -57,11 +57,11 @@ WereLooped x y sent = (heard : List (List ℕ)) × HearsInTurn x y sent heard
 -- the first so many of these datagrams were sent, and then something failed
 abbrev pub BrokeBehind : (x y : LoopState) → List (List ℕ) → List (List ℕ) → OutletFault → Type 0
 BrokeBehind x y first given outlets.Wire = Exchanged x y first given
-    × Hears x.listening y.listening given × Rose x.wire_faults y.wire_faults
+    × Hears x.playout y.playout given × Rose x.wire_faults y.wire_faults
 BrokeBehind x y first given outlets.Output = Exchanged x y first given
-    × BreaksOff x.listening y.listening given OutputFailed
+    × BreaksOff x.playout y.playout given OutputFailed
 BrokeBehind x y first given outlets.NoMemory = Exchanged x y first given
-    × BreaksOff x.listening y.listening given NoMemory
+    × BreaksOff x.playout y.playout given NoMemory
 
 pub record LoopBroke (x y : LoopState) (sent : List (List ℕ)) (fault : OutletFault) : Type 0 where
   pub count : ℕ

@@ -1,154 +1,105 @@
--- What hearing the datagrams of an inlet came to, and what a command makes of it.
-use Rattle.std.specs.Prelude.{◌≡◌, ◌≢◌, ◌≤◌, ◌<◌, ◌⊎◌, ℕ, Bool, true, false, List, [], length, take, Option, Some, None, Result, Ok, Err, ⊤}
+-- What hearing the datagrams of an inlet came to. Two relations say what came, and what stopped it;
+-- two say what the listener heard, and how it broke off; two facts, whether it wants more.
+use Rattle.std.specs.Prelude.{◌≡◌, ◌≢◌, ◌≤◌, ◌<◌, ◌⊎◌, ℕ, List, [], length}
+use Rattle.std.specs.Prelude.{Option, Some, None, Result, Ok, Err}
 use Rattle.link_capture.specs.Capture.{first_entry}
 use Rattle.link_outside.specs.Outlets.{capture_of}
-use Rattle.link_report.specs.declared.answer.Answer.{Answer}
-use Rattle.link_report.specs.declared.answer.Answer.TheVariants.{Done, Stopped, Drained}
 use Rattle.link_report.specs.declared.ending.Ending.{Ending}
-use Rattle.link_report.specs.declared.ending.Ending.TheVariants.{CaptureCut, InputFailed, NoMemory, OutputFailed, PacketLimit, WireFailed}
-use Rattle.link_report.specs.declared.summary.Summary.TheVariants.{Judged}
-use Rattle.vc_ports.specs.Changes.{InputChange, WireChange, HasRisen}
+use Rattle.link_report.specs.declared.ending.Ending.TheVariants.{CaptureCut, InputFailed, NoMemory}
+use Rattle.link_report.specs.declared.ending.Ending.TheVariants.{OutputFailed, PacketLimit}
+use Rattle.vc_ports.specs.Changes.{InputChange, HasRisen}
 use Rattle.vc_ports.specs.Reading.{IsAtEnd}
-use Rattle.cmd_receive.specs.Ends.{Counts, ended_sessions}
-use Rattle.cmd_receive.specs.Inlets.{GaveEntries, WasGiven}
-use Rattle.cmd_receive.specs.Listening.{Listening, BreaksOff, Drains, Hears}
-use Rattle.cmd_receive.specs.Looping.{has_broken}
-use Rattle.cmd_receive.specs.Receiving.{EndsSessions, HeardToEnd, IsPastPackets}
-use Rattle.cmd_receive.specs.declared.count.SessionCount.{SessionCount}
+use Rattle.cmd_receive.specs.Inlets.{GaveEntries}
+use Rattle.cmd_receive.specs.declared.listener.ListenerFault.{ListenerFault}
+use Rattle.cmd_receive.specs.declared.listener.ListenerFault.TheVariants as faults
 
--- ---- sessions, where a number of them is asked for
-
-abbrev pub CountsTo : Option SessionCount → Option ℕ → List (List ℕ) → Type 0
-CountsTo None None heard = ⊤
-CountsTo (Some count) (Some sessions) heard = Counts count sessions heard
-CountsTo count sessions heard = ⊥
-
-abbrev pub IsReached : Option SessionCount → Type 0
-IsReached None = ⊥
-IsReached (Some count) = count.left ≡ 0
-
-abbrev pub IsUnreached : Option SessionCount → Type 0
-IsUnreached None = ⊤
-IsUnreached (Some count) = 0 < count.left
-
--- so many have had their end, and not before the last datagram
-abbrev pub EndsWith : Option ℕ → List (List ℕ) → Type 0
-EndsWith None heard = ⊥
-EndsWith (Some sessions) heard = EndsSessions sessions heard
-
--- fewer have had it
-abbrev pub GoesOnAfter : Option ℕ → List (List ℕ) → Type 0
-GoesOnAfter None heard = ⊤
-GoesOnAfter (Some sessions) heard = ended_sessions heard < sessions
-
--- and before the last datagram
-abbrev pub WentOn : Option ℕ → List (List ℕ) → Type 0
-WentOn sessions heard = (k : ℕ) → k < length heard → GoesOnAfter sessions (take k heard)
+-- how a command ends where its listener broke off
+abbrev pub fault_ending : ListenerFault → Ending
+fault_ending faults.NoMemory = NoMemory
+fault_ending faults.Output = OutputFailed
 
 -- ---- at most so many datagrams
 
--- no more came
+-- no more came, or the inlet failed
 pub record RanOut
-    (packets : ℕ) (stopped : List (List ℕ) → Option Ending → Type 0) (x y : Listening)
-    (end : Option Ending) (heard : List (List ℕ)) : Type 0 where
-  pub fewer : length heard < packets
-  pub stopped_so : stopped heard end
-  pub hears : Hears x y heard
+    (packets : ℕ) (stopped : List (List ℕ) → Option Ending → Type 0)
+    (heard : List (List ℕ) → Type 0) (end : Option Ending) (datagrams : List (List ℕ)) : Type 0
+  where
+    pub fewer : length datagrams < packets
+    pub stopped_so : stopped datagrams end
+    pub heard_so : heard datagrams
 
--- so many sessions have ended
-pub record HeardSessions
-    (packets : ℕ) (sessions : Option ℕ) (came : List (List ℕ) → Type 0) (x y : Listening)
-    (heard : List (List ℕ)) : Type 0 where
-  pub few : length heard ≤ packets
-  pub came_so : came heard
-  pub hears : Hears x y heard
-  pub ended : EndsWith sessions heard
+-- the listener has heard enough
+pub record HeardEnough
+    (packets : ℕ) (came heard : List (List ℕ) → Type 0) (enough : Type 0)
+    (datagrams : List (List ℕ)) : Type 0 where
+  pub few : length datagrams ≤ packets
+  pub came_so : came datagrams
+  pub heard_so : heard datagrams
+  pub is_enough : enough
 
--- so many came as were asked for
+-- so many came as were asked for, and it wants one more
 pub record HeardMost
-    (packets : ℕ) (sessions : Option ℕ) (came : List (List ℕ) → Type 0) (x y : Listening)
-    (end : Ending) (heard : List (List ℕ)) : Type 0 where
+    (packets : ℕ) (came heard : List (List ℕ) → Type 0) (wants : Type 0)
+    (end : Ending) (datagrams : List (List ℕ)) : Type 0 where
   pub end_is : end ≡ PacketLimit packets
-  pub count : length heard ≡ packets
-  pub came_so : came heard
-  pub hears : Hears x y heard
-  pub goes_on : GoesOnAfter sessions heard
+  pub count : length datagrams ≡ packets
+  pub came_so : came datagrams
+  pub heard_so : heard datagrams
+  pub wants_more : wants
 
--- the receiver broke off at the last of them
+-- it broke off at the last of them
 pub record BrokeAt
-    (packets : ℕ) (came : List (List ℕ) → Type 0) (x y : Listening)
-    (end : Ending) (heard : List (List ℕ)) : Type 0 where
-  pub few : length heard ≤ packets
-  pub came_so : came heard
-  pub breaks : BreaksOff x y heard end
+    (packets : ℕ) (came : List (List ℕ) → Type 0)
+    (broke : List (List ℕ) → ListenerFault → Type 0) (end : Ending) (datagrams : List (List ℕ))
+    : Type 0 where
+  pub few : length datagrams ≤ packets
+  pub came_so : came datagrams
+  pub fault : ListenerFault
+  pub end_is : end ≡ fault_ending fault
+  pub broke_so : broke datagrams fault
 
-abbrev pub HearsUntil : ℕ → Option ℕ → (List (List ℕ) → Type 0)
-    → (List (List ℕ) → Option Ending → Type 0) → (x y : Listening) → Result (Unit {0}) Ending
-    → Type 0
-HearsUntil packets sessions came stopped x y (Ok done) = (heard : List (List ℕ))
-    × (RanOut packets stopped x y None heard ⊎ HeardSessions packets sessions came x y heard)
-HearsUntil packets sessions came stopped x y (Err end) = (heard : List (List ℕ))
-    × (RanOut packets stopped x y (Some end) heard
-    ⊎ (HeardMost packets sessions came x y end heard ⊎ BrokeAt packets came x y end heard))
+abbrev pub HearsUntil : ℕ → (came : List (List ℕ) → Type 0)
+    → (stopped : List (List ℕ) → Option Ending → Type 0) → (heard : List (List ℕ) → Type 0)
+    → (broke : List (List ℕ) → ListenerFault → Type 0) → (wants enough : Type 0)
+    → Result (Unit {0}) Ending → Type 0
+HearsUntil packets came stopped heard broke wants enough (Ok done) = (datagrams : List (List ℕ))
+    × (RanOut packets stopped heard None datagrams
+    ⊎ HeardEnough packets came heard enough datagrams)
+HearsUntil packets came stopped heard broke wants enough (Err end) = (datagrams : List (List ℕ))
+    × (RanOut packets stopped heard (Some end) datagrams
+    ⊎ (HeardMost packets came heard wants end datagrams
+    ⊎ BrokeAt packets came broke end datagrams))
 
 -- ---- those of a capture
 
 -- by how it ended; at the limit so many bytes more were read
-abbrev pub CaptureHeard : (packets more : ℕ) → InputChange → (x y : Listening) → List (List ℕ)
+abbrev pub CaptureHeard : (packets more : ℕ) → InputChange → (heard : List (List ℕ) → Type 0)
+    → (broke : List (List ℕ) → ListenerFault → Type 0) → (enough : Type 0) → List (List ℕ)
     → List ℕ → Result (Unit {0}) Ending → Type 0
-CaptureHeard packets more input x y datagrams part (Ok done) =
-    Hears x y datagrams × (part ≡ []) × IsAtEnd input.left.after
-CaptureHeard packets more input x y datagrams part (Err (CaptureCut place)) =
-    Hears x y datagrams × (length datagrams < packets) × (part ≢ []) × IsAtEnd input.left.after
+CaptureHeard packets more input heard broke enough datagrams part (Ok done) =
+    heard datagrams × (part ≡ []) × (IsAtEnd input.left.after ⊎ enough)
+CaptureHeard packets more input heard broke enough datagrams part (Err (CaptureCut place)) =
+    heard datagrams × (length datagrams < packets) × (part ≢ []) × IsAtEnd input.left.after
     × (place ≡ length (capture_of datagrams))
-CaptureHeard packets more input x y datagrams part (Err InputFailed) =
-    Hears x y datagrams × ((length datagrams < packets) ⊎ (part ≡ [])) × HasRisen input.faults
-CaptureHeard packets more input x y datagrams part (Err (PacketLimit limit)) =
-    Hears x y datagrams × (limit ≡ packets) × (length datagrams ≡ packets) × (length part ≡ more)
-CaptureHeard packets more input x y datagrams part (Err end) = BreaksOff x y datagrams end
+CaptureHeard packets more input heard broke enough datagrams part (Err InputFailed) =
+    heard datagrams × ((length datagrams < packets) ⊎ (part ≡ [])) × HasRisen input.faults
+CaptureHeard packets more input heard broke enough datagrams part (Err (PacketLimit limit)) =
+    heard datagrams × (limit ≡ packets) × (length datagrams ≡ packets) × (length part ≡ more)
+CaptureHeard packets more input heard broke enough datagrams part (Err NoMemory) =
+    broke datagrams faults.NoMemory
+CaptureHeard packets more input heard broke enough datagrams part (Err OutputFailed) =
+    broke datagrams faults.Output
+CaptureHeard packets more input heard broke enough datagrams part (Err end) = ⊥
 
 -- the datagrams of these entries were heard, and a part of one was read behind them
 pub record HearsCapture
-    (packets more : ℕ) (input : InputChange) (x y : Listening) (result : Result (Unit {0}) Ending)
-    : Type 0 where
+    (packets more : ℕ) (input : InputChange) (heard : List (List ℕ) → Type 0)
+    (broke : List (List ℕ) → ListenerFault → Type 0) (enough : Type 0)
+    (result : Result (Unit {0}) Ending) : Type 0 where
   pub datagrams : List (List ℕ)
   pub part : List ℕ
   pub gave : GaveEntries input datagrams part
   pub few : length datagrams ≤ packets
   pub not_whole : first_entry part ≡ None
-  pub heard : CaptureHeard packets more input x y datagrams part result
-
--- ---- those of a wire
-
-abbrev pub WireHeard : (packets sessions : ℕ) → WireChange → (x y : Listening) → List (List ℕ)
-    → Result (Unit {0}) Ending → Type 0
-WireHeard packets sessions wire x y datagrams (Ok done) =
-    Hears x y datagrams × HeardToEnd packets sessions wire datagrams
-WireHeard packets sessions wire x y datagrams (Err WireFailed) =
-    Hears x y datagrams × HasRisen wire.faults
-WireHeard packets sessions wire x y datagrams (Err (PacketLimit limit)) =
-    Hears x y datagrams × IsPastPackets packets sessions limit datagrams
-WireHeard packets sessions wire x y datagrams (Err end) = BreaksOff x y datagrams end
-
-pub record HearsWire
-    (packets sessions : ℕ) (wire : WireChange) (x y : Listening) (result : Result (Unit {0}) Ending)
-    : Type 0 where
-  pub datagrams : List (List ℕ)
-  pub given : WasGiven wire datagrams
-  pub few : length datagrams ≤ packets
-  pub heard : WireHeard packets sessions wire x y datagrams result
-
--- ---- the end of the receiver's input
-
--- the receiver can hear more
-abbrev pub CanGoOn : Result (Unit {0}) Ending → Type 0
-CanGoOn (Ok done) = ⊤
-CanGoOn (Err end) = has_broken end ≡ false
-
--- what was still due was written, or the receiver broke off, before or then
-abbrev pub Concludes : (x y : Listening) → Result (Unit {0}) Ending → Answer → Type 0
-Concludes x y heard (Done (Judged tally)) = (heard ≡ Ok tt) × Drains x y tally
-Concludes x y heard (Drained (Judged tally) end) = (heard ≡ Err end) × (has_broken end ≡ false) × Drains x y tally
-Concludes x y heard (Stopped end) = ((heard ≡ Err end) × (has_broken end ≡ true) × (y ≡ x))
-    ⊎ (CanGoOn heard × BreaksOff x y [] end)
-Concludes x y heard answer = ⊥
+  pub did : CaptureHeard packets more input heard broke enough datagrams part result

@@ -1,10 +1,13 @@
 pub mod Capture
 pub mod Decoding
-pub mod Listening
+pub mod Playouts
 pub mod HearingLaws
 pub mod Inlets
 pub mod InletLaws
 pub mod Hearing
+pub mod Concluding
+pub mod Sessions
+pub mod SessionLaws
 pub mod Exchanges
 pub mod LoopLaws
 pub mod Looping

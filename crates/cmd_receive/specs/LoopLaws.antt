@@ -85,7 +85,7 @@ none_looped x = (
   [],
   record {
     exchanged = record { passes = passes_none x.told; few = omega arith; later = omega arith };
-    hears = none_heard x.listening;
+    hears = none_heard x.playout;
     in_turn = inl refl;
   },
 )

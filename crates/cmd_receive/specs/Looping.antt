@@ -1,5 +1,5 @@
 -- What looping raw frames over a wire did, by how it ended.
-use Rattle.std.specs.Prelude.{◌≡◌, ◌⊎◌, ◌≤◌, ℕ, Bool, true, false, List, [], length, take, Option, Result, Ok, Err}
+use Rattle.std.specs.Prelude.{◌≡◌, ◌⊎◌, ◌≤◌, ℕ, List, [], length, take, Option, Result, Ok, Err}
 use Rattle.link_outside.specs.declared.outlet.OutletFault.{OutletFault}
 use Rattle.cmd_receive.specs.Decoding.{HasGivenWork}
 use Rattle.link_receiver.specs.StartedWorkers.{HasStarted}
@@ -39,12 +39,6 @@ pub record SentSome
     pub passes : Passes (looping_at wire.told.before at) wire.told.after (take count sent) given
 
 -- ---- the output
-
--- the receiver broke off, so that nothing more can be heard
-abbrev pub has_broken : Ending → Bool
-has_broken NoMemory = true
-has_broken OutputFailed = true
-has_broken ending = false
 
 -- by how sending ended, and by the answer: all frames of what was heard were written; or a part of
 -- them, where the output failed or memory ran out
@@ -115,8 +109,8 @@ pub record HasBegun
     (x : LoopState) : Type 0 where
   pub ready : x.told ≡ looping_at told at
   pub later : faults ≤ x.wire_faults
-  pub started : Grows asked x.listening.asked (starting workers (Ok tt))
-  pub new : HasHeard AsFrames x.listening.receiver window []
+  pub started : Grows asked x.playout.asked (starting workers (Ok tt))
+  pub new : HasHeard AsFrames x.playout.receiver window []
 
 -- what the whole did, whatever was before it began
 abbrev pub LoopsBetween : Sending → ℕ → Result Summary Ending → InputChange → (x y : LoopState)
@@ -126,11 +120,11 @@ LoopsBetween s most answer input x y =
     → HasBegun window workers at told faults asked x
     → LoopsBack s most window workers at answer input
     (record {
-      held = record { before = x.listening.held; after = y.listening.held };
-      faults = record { before = x.listening.faults; after = y.listening.faults };
+      held = record { before = x.playout.held; after = y.playout.held };
+      faults = record { before = x.playout.faults; after = y.playout.faults };
     })
     (record {
       told = record { before = told; after = y.told };
       faults = record { before = faults; after = y.wire_faults };
     })
-    (record { before = asked; after = y.listening.asked })
+    (record { before = asked; after = y.playout.asked })

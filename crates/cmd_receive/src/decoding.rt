@@ -1,18 +1,16 @@
-ghost use Rattle.std.specs.Prelude.{◌≡◌, ◌≤◌, ℕ, List, [], None};
+ghost use Rattle.std.specs.Prelude.{◌≡◌, ◌≤◌, ℕ, []};
 ghost use Rattle.link_receiver.specs.HeardLists.{OutputForm, HasHeard};
 ghost use Rattle.vc_ports.specs.Changes.{changed, input_of, output_of};
 ghost use Rattle.cmd_receive.specs.Decoding.{TakesCapture, Decodes, Unpacks};
-ghost use Rattle.cmd_receive.specs.Hearing.{HearsCapture};
-ghost use Rattle.cmd_receive.specs.Listening.{IsNew, IsWell, listening};
+ghost use Rattle.cmd_receive.specs.Playouts.{IsNew, IsWell, PlaysCapture, playout_state};
 
-use crate::capture_inlet::CaptureInlet;
-use crate::hearing::{conclude, hear_all};
-use crate::listener::Listener;
-use link_capture::CaptureReader;
+use crate::concluding::conclude;
+use crate::hearing::hear_capture;
+use crate::playout::Playout;
 use link_receiver::Receiver;
 use link_report::{Answer, Ending};
 use std::alloc::Global;
-use vc_ports::{Filled, Sink, Source, fill};
+use vc_ports::{Sink, Source};
 use vc_slice::{Hands, Places};
 
 /// Decodes a capture: reads at most so many entries, takes each as a datagram, with so many
@@ -102,73 +100,25 @@ fn take_capture<S: Source, O: Sink, P: Hands>(
         return Answer::Stopped(Ending::NoMemory);
     };
     let mut receiver = receiver;
-    let mut listener = Listener::new(&mut receiver, output, hands);
-    let heard = hear_capture(alloc, packets, input, &mut listener);
-    conclude(&mut listener, heard)
+    let mut playout = Playout::new(&mut receiver, output, hands);
+    let heard = play_capture(alloc, packets, input, &mut playout);
+    conclude(&mut playout, heard)
 }
 
-// Hears at most so many entries, and reads one byte more where there were as many.
-fn hear_capture<S: Source, O: Sink, P: Places>(
+// Has a receiver that has heard nothing hear the datagrams of a capture's entries.
+fn play_capture<S: Source, O: Sink, P: Places>(
     alloc: Global,
     packets: u32,
     input: &mut S,
-    listener: &mut Listener<O, P>,
+    playout: &mut Playout<O, P>,
 ) -> Result<(), Ending>
-    requires new { IsNew listener.old.receiver.now }
-    ensures borrows_output { listener.new.output.ghost_name ≡ listener.old.output.ghost_name }
-    ensures borrows_places { listener.new.places.ghost_name ≡ listener.old.places.ghost_name }
-    ensures well { IsWell (listening O.held O.faults P.told P.bound listener.new) }
-    ensures heard { HearsCapture packets 1 (input_of S.left S.faults input.old input.new)
-        (listening O.held O.faults P.told P.bound listener.old)
-        (listening O.held O.faults P.told P.bound listener.new) result }
+    requires new { IsNew playout.old.receiver.now }
+    ensures borrows_output { playout.new.output.ghost_name ≡ playout.old.output.ghost_name }
+    ensures borrows_places { playout.new.places.ghost_name ≡ playout.old.places.ghost_name }
+    ensures well { IsWell (playout_state O.held O.faults P.told P.bound playout.new) }
+    ensures heard { PlaysCapture packets (input_of S.left S.faults input.old input.new)
+        (playout_state O.held O.faults P.told P.bound playout.old)
+        (playout_state O.held O.faults P.told P.bound playout.new) result }
 {
-    match hear_entries(alloc, packets, input, listener) {
-        Err(Ending::PacketLimit { limit }) => match fill(input, &mut [0; 1]) {
-            Filled::Whole => Err(Ending::PacketLimit { limit }),
-            Filled::End(_) => Ok(()),
-            Filled::Failed(_) => Err(Ending::InputFailed),
-        },
-        heard => heard,
-    }
-}
-
-fn hear_entries<S: Source, O: Sink, P: Places>(
-    alloc: Global,
-    packets: u32,
-    input: &mut S,
-    listener: &mut Listener<O, P>,
-) -> Result<(), Ending>
-    requires new { IsNew listener.old.receiver.now }
-    ensures borrows_output { listener.new.output.ghost_name ≡ listener.old.output.ghost_name }
-    ensures borrows_places { listener.new.places.ghost_name ≡ listener.old.places.ghost_name }
-    ensures well { IsWell (listening O.held O.faults P.told P.bound listener.new) }
-    ensures heard { HearsCapture packets 0 (input_of S.left S.faults input.old input.new)
-        (listening O.held O.faults P.told P.bound listener.old)
-        (listening O.held O.faults P.told P.bound listener.new) result }
-{
-    let mut inlet = CaptureInlet {
-        reader: CaptureReader::new(alloc, input),
-    };
-    hear_inlet(packets, &mut inlet, listener)
-}
-
-fn hear_inlet<S: Source, O: Sink, P: Places>(
-    packets: u32,
-    inlet: &mut CaptureInlet<S>,
-    listener: &mut Listener<O, P>,
-) -> Result<(), Ending>
-    requires sound { inlet.old.reader.fault ≡ None }
-    requires place { inlet.old.reader.place ≡ 0 }
-    requires new { IsNew listener.old.receiver.now }
-    ensures borrows_output { listener.new.output.ghost_name ≡ listener.old.output.ghost_name }
-    ensures borrows_places { listener.new.places.ghost_name ≡ listener.old.places.ghost_name }
-    ensures borrows_source { inlet.new.reader.source.ghost_name
-        ≡ inlet.old.reader.source.ghost_name }
-    ensures well { IsWell (listening O.held O.faults P.told P.bound listener.new) }
-    ensures heard { HearsCapture packets 0
-        (input_of S.left S.faults inlet.old.reader.source.now inlet.new.reader.source.now)
-        (listening O.held O.faults P.told P.bound listener.old)
-        (listening O.held O.faults P.told P.bound listener.new) result }
-{
-    hear_all(packets, None, inlet, listener)
+    hear_capture(alloc, packets, input, playout)
 }

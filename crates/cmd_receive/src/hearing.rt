@@ -1,114 +1,97 @@
-ghost use Rattle.std.specs.Prelude.{◌≡◌, ℕ, IsTrue, IsFalse, List, [], ◌∷◌, ◌++◌, Option};
-ghost use Rattle.cmd_receive.specs.Hearing.{Concludes, CountsTo, HearsUntil, IsReached, IsUnreached};
-ghost use Rattle.cmd_receive.specs.Listening.{IsNew, IsWell, listening};
-ghost use Rattle.cmd_receive.specs.Looping.{has_broken};
-ghost use Rattle.link_model.specs.Judgement.{outcome_behind};
+ghost use Rattle.std.specs.Prelude.{◌≡◌, None};
+ghost use Rattle.cmd_receive.specs.Hearing.{HearsCapture, HearsUntil};
+ghost use Rattle.vc_ports.specs.Changes.{input_of};
 
-use crate::SessionCount;
+use crate::capture_inlet::CaptureInlet;
 use crate::inlet::Inlet;
 use crate::listener::Listener;
-use link_model::Outcome;
-use link_report::{Answer, Ending, Summary};
-use vc_ports::Sink;
-use vc_slice::Places;
+use link_capture::CaptureReader;
+use link_report::Ending;
+use std::alloc::Global;
+use vc_ports::{Filled, Source, fill};
 
-/// Hears the datagrams of an inlet, at most so many, until so many sessions have ended, where a number
-/// of them is asked for.
-pub(crate) fn hear_all<I: Inlet, O: Sink, P: Places>(
+/// Has a listener hear the datagrams of an inlet, at most so many, until it has heard enough.
+pub fn hear_all<I: Inlet, L: Listener>(
     packets: u32,
-    sessions: Option<u32>,
     inlet: &mut I,
-    listener: &mut Listener<O, P>,
+    listener: &mut L,
 ) -> Result<(), Ending>
-    requires ready { I.is_ready inlet.old packets }
-    requires new { IsNew listener.old.receiver.now }
-    ensures borrows_output { listener.new.output.ghost_name ≡ listener.old.output.ghost_name }
-    ensures borrows_places { listener.new.places.ghost_name ≡ listener.old.places.ghost_name }
-    ensures well { IsWell (listening O.held O.faults P.told P.bound listener.new) }
-    ensures heard { HearsUntil packets sessions
+    requires inlet { I.is_ready inlet.old packets }
+    requires listener { L.is_ready listener.old }
+    ensures { HearsUntil packets
         (I.came inlet.old inlet.new) (I.stopped inlet.old inlet.new)
-        (listening O.held O.faults P.told P.bound listener.old)
-        (listening O.held O.faults P.told P.bound listener.new) result }
+        (L.heard listener.old listener.new) (L.broke listener.old listener.new)
+        (L.wants_one listener.new) (L.has_enough listener.new) result }
 {
-    let mut count = count_of(sessions);
     for _place in 0..packets {
-        if is_reached(&count) {
+        if !listener.wants_more() {
             return Ok(());
         }
         match inlet.next()? {
-            Some(datagram) => {
-                let outcome = listener.hear(datagram)?;
-                judge(&mut count, outcome);
-            }
+            Some(datagram) => listener.hear(datagram)?,
             None => return Ok(()),
         }
     }
-    if is_reached(&count) {
-        Ok(())
-    } else {
+    if listener.wants_more() {
         Err(Ending::PacketLimit { limit: packets })
+    } else {
+        Ok(())
     }
 }
 
-/// Ends the receiver's input, unless it broke off, and says what the command came to.
-pub(crate) fn conclude<O: Sink, P: Places>(
-    listener: &mut Listener<O, P>,
-    heard: Result<(), Ending>,
-) -> Answer
-    requires well { IsWell (listening O.held O.faults P.told P.bound listener.old) }
-    ensures borrows_output { listener.new.output.ghost_name ≡ listener.old.output.ghost_name }
-    ensures borrows_places { listener.new.places.ghost_name ≡ listener.old.places.ghost_name }
-    ensures concludes { Concludes (listening O.held O.faults P.told P.bound listener.old)
-        (listening O.held O.faults P.told P.bound listener.new) heard result }
+/// Has a listener hear the datagrams of a capture's entries, at most so many, until it has heard
+/// enough, and reads one byte more where there were as many.
+pub fn hear_capture<S: Source, L: Listener>(
+    alloc: Global,
+    packets: u32,
+    input: &mut S,
+    listener: &mut L,
+) -> Result<(), Ending>
+    requires { L.is_ready listener.old }
+    ensures { HearsCapture packets 1 (input_of S.left S.faults input.old input.new)
+        (L.heard listener.old listener.new) (L.broke listener.old listener.new)
+        (L.has_enough listener.new) result }
 {
-    match heard {
-        Err(ending) if has_broken(&ending) => Answer::Stopped(ending),
-        Err(ending) => match listener.drain() {
-            Ok(tally) => Answer::Drained(Summary::Judged { tally }, ending),
-            Err(broken) => Answer::Stopped(broken),
+    match hear_entries(alloc, packets, input, listener) {
+        Err(Ending::PacketLimit { limit }) => match fill(input, &mut [0; 1]) {
+            Filled::Whole => Err(Ending::PacketLimit { limit }),
+            Filled::End(_) => Ok(()),
+            Filled::Failed(_) => Err(Ending::InputFailed),
         },
-        Ok(()) => match listener.drain() {
-            Ok(tally) => Answer::Done(Summary::Judged { tally }),
-            Err(broken) => Answer::Stopped(broken),
-        },
+        heard => heard,
     }
 }
 
-/// Whether the receiver broke off, so that it can hear nothing more.
-pub(crate) fn has_broken(ending: &Ending) -> bool
-    ensures { result ≡ has_broken ending.now }
+fn hear_entries<S: Source, L: Listener>(
+    alloc: Global,
+    packets: u32,
+    input: &mut S,
+    listener: &mut L,
+) -> Result<(), Ending>
+    requires { L.is_ready listener.old }
+    ensures { HearsCapture packets 0 (input_of S.left S.faults input.old input.new)
+        (L.heard listener.old listener.new) (L.broke listener.old listener.new)
+        (L.has_enough listener.new) result }
 {
-    matches!(ending, Ending::NoMemory | Ending::OutputFailed)
+    let mut inlet = CaptureInlet {
+        reader: CaptureReader::new(alloc, input),
+    };
+    hear_inlet(packets, &mut inlet, listener)
 }
 
-// Counts to so many sessions, where a number of them is asked for.
-fn count_of(sessions: Option<u32>) -> Option<SessionCount>
-    ensures { CountsTo result sessions [] }
+fn hear_inlet<S: Source, L: Listener>(
+    packets: u32,
+    inlet: &mut CaptureInlet<S>,
+    listener: &mut L,
+) -> Result<(), Ending>
+    requires sound { inlet.old.reader.fault ≡ None }
+    requires place { inlet.old.reader.place ≡ 0 }
+    requires ready { L.is_ready listener.old }
+    ensures borrows { inlet.new.reader.source.ghost_name ≡ inlet.old.reader.source.ghost_name }
+    ensures heard { HearsCapture packets 0
+        (input_of S.left S.faults inlet.old.reader.source.now inlet.new.reader.source.now)
+        (L.heard listener.old listener.new) (L.broke listener.old listener.new)
+        (L.has_enough listener.new) result }
 {
-    match sessions {
-        Some(sessions) => Some(SessionCount::new(sessions)),
-        None => None,
-    }
-}
-
-fn is_reached(count: &Option<SessionCount>) -> bool
-    ensures reached { IsTrue result → IsReached count.now }
-    ensures unreached { IsFalse result → IsUnreached count.now }
-{
-    match count {
-        Some(count) => count.left == 0,
-        None => false,
-    }
-}
-
-fn judge(count: &mut Option<SessionCount>, outcome: Outcome)
-    requires unreached { IsUnreached count.old }
-    ensures { (sessions : Option ℕ) (window : ℕ) (datagrams : List (List ℕ)) (datagram : List ℕ)
-        → CountsTo count.old sessions datagrams
-        → outcome ≡ outcome_behind window datagrams datagram
-        → CountsTo count.new sessions (datagrams ++ datagram ∷ []) }
-{
-    if let Some(count) = count {
-        count.judge(outcome);
-    }
+    hear_all(packets, inlet, listener)
 }

@@ -5,7 +5,7 @@ use bytes::Bytes;
 use link_report::Ending;
 
 /// Where datagrams come from one after another.
-pub(crate) trait Inlet {
+pub trait Inlet {
     ghost use Rattle.link_report.specs.declared.ending.Ending.{Ending};
 
     /// It can be asked so many times.

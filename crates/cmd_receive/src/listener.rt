@@ -1,82 +1,72 @@
-ghost use Rattle.std.specs.Prelude.{◌≡◌};
-ghost use Rattle.cmd_receive.specs.Listening.{ending_of};
+ghost use Rattle.std.specs.Prelude.{◌≡◌, ℕ, ◌≤◌, List, [], ◌∷◌, ◌++◌, length, IsTrue, IsFalse, OnOk, IfErr};
+ghost use Rattle.cmd_receive.specs.Hearing.{fault_ending};
 
 use bytes::Bytes;
-use link_model::{Outcome, Tally};
-use link_receiver::{EnterFault, Receiver};
 use link_report::Ending;
-use vc_ports::Sink;
-use vc_slice::Places;
 
-/// A receiver, with the output where its frames go and the places where its slices are decoded, all
-/// borrowed.
-#[derive(Drop)]
-pub(crate) struct Listener<'a, 'b, 'c, O, P> {
-    pub(crate) receiver: &'a mut Receiver,
-    pub(crate) output: &'b mut O,
-    pub(crate) places: &'c mut P,
+/// Why a listener broke off.
+#[derive(Clone, Copy, Debug, PartialEq, Eq)]
+pub enum ListenerFault {
+    NoMemory,
+    /// A write to its output failed.
+    Output,
 }
 
-impl<'a, 'b, 'c, O: Sink, P: Places> Listener<'a, 'b, 'c, O, P> {
-    ghost use Rattle.cmd_receive.specs.Listening.{IsNew, IsWell, TakesDatagram, TakesEnd, listening};
+impl From<ListenerFault> for Ending {
+    ghost from_gives = { λ fault ending. ending ≡ fault_ending fault };
 
-    /// One of a receiver that has heard nothing.
-    pub(crate) fn new(
-        receiver: &'a mut Receiver,
-        output: &'b mut O,
-        places: &'c mut P,
-    ) -> Listener<'a, 'b, 'c, O, P>
-        requires new { IsNew receiver.old }
-        ensures borrows_output { result.output.ghost_name ≡ output.entry.ghost_name }
-        ensures borrows_places { result.places.ghost_name ≡ places.entry.ghost_name }
-        ensures receiver { result.receiver.now ≡ receiver.old }
-        ensures output { result.output.now ≡ output.old }
-        ensures places { result.places.now ≡ places.old }
-        ensures new { IsNew result.receiver.now }
-        ensures well { IsWell (listening O.held O.faults P.told P.bound result) }
-    {
-        Listener {
-            receiver,
-            output,
-            places,
-        }
-    }
-
-    /// Takes a datagram, and judges it.
-    pub(crate) fn hear(&mut self, datagram: Bytes) -> Result<Outcome, Ending>
-        requires well { IsWell (listening O.held O.faults P.told P.bound self.old) }
-        ensures borrows_output { self.new.output.ghost_name ≡ self.old.output.ghost_name }
-        ensures borrows_places { self.new.places.ghost_name ≡ self.old.places.ghost_name }
-        ensures takes { TakesDatagram (listening O.held O.faults P.told P.bound self.old)
-            (listening O.held O.faults P.told P.bound self.new) datagram result }
-    {
-        match self.receiver.enter(datagram, self.places, self.output) {
-            Ok(outcome) => Ok(outcome),
-            Err(fault) => Err(ending_of(fault)),
-        }
-    }
-
-    /// Ends the receiver's input, writes the frames that are still due, and answers the counts.
-    pub(crate) fn drain(&mut self) -> Result<Tally, Ending>
-        requires well { IsWell (listening O.held O.faults P.told P.bound self.old) }
-        ensures borrows_output { self.new.output.ghost_name ≡ self.old.output.ghost_name }
-        ensures borrows_places { self.new.places.ghost_name ≡ self.old.places.ghost_name }
-        ensures takes { TakesEnd (listening O.held O.faults P.told P.bound self.old)
-            (listening O.held O.faults P.told P.bound self.new) result }
-    {
-        match self.receiver.drain(self.places, self.output) {
-            Ok(()) => Ok(*self.receiver.tally()),
-            Err(fault) => Err(ending_of(fault)),
+    fn from(fault: ListenerFault) -> Ending {
+        match fault {
+            ListenerFault::NoMemory => Ending::NoMemory,
+            ListenerFault::Output => Ending::OutputFailed,
         }
     }
 }
 
-// How a command ends where its receiver failed.
-fn ending_of(fault: EnterFault) -> Ending
-    ensures { result ≡ ending_of fault }
-{
-    match fault {
-        EnterFault::NoMemory | EnterFault::Ended => Ending::NoMemory,
-        EnterFault::WriteFault => Ending::OutputFailed,
-    }
+/// What hears datagrams one after another.
+pub trait Listener {
+    ghost use Rattle.cmd_receive.specs.declared.listener.ListenerFault.{ListenerFault};
+
+    /// It can hear a datagram, where it wants one.
+    ghost is_ready: { Self → Type 0 };
+
+    /// It wants one more.
+    ghost wants_one: { Self → Type 0 };
+
+    /// It has heard enough.
+    ghost has_enough: { Self → Type 0 };
+
+    /// It heard these datagrams, one after another.
+    ghost heard: { Self → Self → List (List ℕ) → Type 0 };
+
+    /// It was given these, and then broke off so: it can hear nothing more.
+    ghost broke: { Self → Self → List (List ℕ) → ListenerFault → Type 0 };
+
+    /// Whether it wants a datagram more.
+    fn wants_more(&self) -> bool
+        ensures more { IsTrue result → wants_one self.now }
+        ensures enough { IsFalse result → has_enough self.now };
+
+    /// Takes a datagram.
+    fn hear(&mut self, datagram: Bytes) -> Result<(), ListenerFault>
+        requires ready { is_ready self.old }
+        requires wanted { wants_one self.old }
+        ensures ready { OnOk result (is_ready self.new) }
+        ensures heard { OnOk result (heard self.old self.new (datagram ∷ [])) }
+        ensures broke { IfErr result (λ fault. broke self.old self.new (datagram ∷ []) fault) };
+
+    // It heard nothing where it is as it was.
+    ghost none: { (x : Self) → heard x x [] };
+
+    // Datagrams, and then more of them.
+    ghost more: { (x y z : Self) (first second : List (List ℕ))
+        → heard x y first → heard y z second → heard x z (first ++ second) };
+
+    // Datagrams, and then some at which it broke off.
+    ghost breaks_then: { (x y z : Self) (first second : List (List ℕ)) (fault : ListenerFault)
+        → heard x y first → broke y z second fault → broke x z (first ++ second) fault };
+
+    // Datagrams, and then perhaps one for which there was no memory.
+    ghost loses_last: { (x y : Self) (first lost : List (List ℕ)) → length lost ≤ 1
+        → heard x y first → broke x y (first ++ lost) ListenerFault.NoMemory };
 }

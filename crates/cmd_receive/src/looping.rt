@@ -5,9 +5,9 @@ ghost use Rattle.cmd_receive.specs.Looping.{LoopsBack, LoopsBetween};
 ghost use Rattle.vc_ports.specs.Changes.{changed, input_of, output_of, wire_of};
 ghost use Rattle.vc_types.specs.SenderSettings.{sending_view};
 
-use crate::hearing::has_broken;
-use crate::listener::Listener;
+use crate::concluding::has_broken;
 use crate::outlet::LoopOutlet;
+use crate::playout::Playout;
 use crate::wire_inlet::WireInlet;
 use cmd_send::{Totals, send_frames};
 use link_model::Tally;
@@ -63,8 +63,8 @@ pub fn loop_back<H: Threads + Copy + Send + Sync, S: Source, O: Sink, N: Wire, P
     };
     let inlet = WireInlet::new(&mut inbox, wire);
     let mut receiver = Receiver::new(alloc, window);
-    let listener = Listener::new(&mut receiver, output, hands);
-    let mut outlet = LoopOutlet { inlet, listener };
+    let playout = Playout::new(&mut receiver, output, hands);
+    let mut outlet = LoopOutlet { inlet, playout };
     loop_through(rt, alloc, s, frames, input, &mut outlet)
 }
 
@@ -80,10 +80,10 @@ fn loop_through<H: Threads + Copy + Send + Sync, S: Source, O: Sink, N: Wire, P:
     requires ready { IsReady
         (loop_state N.told N.faults O.held O.faults P.told P.bound outlet.old) }
     ensures borrows_wire { outlet.new.inlet.wire.ghost_name ≡ outlet.old.inlet.wire.ghost_name }
-    ensures borrows_output { outlet.new.listener.output.ghost_name
-        ≡ outlet.old.listener.output.ghost_name }
-    ensures borrows_places { outlet.new.listener.places.ghost_name
-        ≡ outlet.old.listener.places.ghost_name }
+    ensures borrows_output { outlet.new.playout.output.ghost_name
+        ≡ outlet.old.playout.output.ghost_name }
+    ensures borrows_places { outlet.new.playout.places.ghost_name
+        ≡ outlet.old.playout.places.ghost_name }
     ensures loops { LoopsBetween (sending_view s.now) frames result
         (input_of S.left S.faults input.old input.new)
         (loop_state N.told N.faults O.held O.faults P.told P.bound outlet.old)
@@ -91,12 +91,12 @@ fn loop_through<H: Threads + Copy + Send + Sync, S: Source, O: Sink, N: Wire, P:
 {
     match send_frames(rt, alloc, s, frames, input, outlet) {
         Ok(totals) => {
-            let tally = outlet.listener.drain()?;
+            let tally = outlet.playout.drain()?;
             Ok(looped(&totals, tally))
         }
         Err(ending) if has_broken(&ending) => Err(ending),
         Err(ending) => {
-            outlet.listener.drain()?;
+            outlet.playout.drain()?;
             Err(ending)
         }
     }

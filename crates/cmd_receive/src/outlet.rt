@@ -3,7 +3,8 @@ ghost use Rattle.std.specs.Prelude.{◌≡◌, refl};
 ghost use Rattle.cmd_receive.specs.LoopLaws.{none_looped, more_looped, part_behind, part_before};
 
 use crate::inlet::Inlet;
-use crate::listener::Listener;
+use crate::listener::ListenerFault;
+use crate::playout::Playout;
 use crate::wire_inlet::WireInlet;
 use link_outside::{Outlet, OutletFault};
 use link_report::Ending;
@@ -15,7 +16,7 @@ use vc_slice::Places;
 #[derive(Drop)]
 pub(crate) struct LoopOutlet<'a, 'b, 'c, 'd, 'e, N, O, P> {
     pub(crate) inlet: WireInlet<'a, 'b, N>,
-    pub(crate) listener: Listener<'c, 'd, 'e, O, P>,
+    pub(crate) playout: Playout<'c, 'd, 'e, O, P>,
 }
 
 impl<'a, 'b, 'c, 'd, 'e, N: Wire, O: Sink, P: Places> Outlet
@@ -38,10 +39,10 @@ impl<'a, 'b, 'c, 'd, 'e, N: Wire, O: Sink, P: Places> Outlet
             return Err(OutletFault::Wire);
         };
         match self.inlet.next() {
-            Ok(Some(came)) => match self.listener.hear(came) {
+            Ok(Some(came)) => match self.playout.enter(came) {
                 Ok(_) => Ok(()),
-                Err(Ending::OutputFailed) => Err(OutletFault::Output),
-                Err(_) => Err(OutletFault::NoMemory),
+                Err(ListenerFault::Output) => Err(OutletFault::Output),
+                Err(ListenerFault::NoMemory) => Err(OutletFault::NoMemory),
             },
             Ok(None) => Ok(()),
             Err(Ending::WireFailed) => Err(OutletFault::Wire),

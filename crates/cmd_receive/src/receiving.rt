@@ -1,11 +1,15 @@
-ghost use Rattle.std.specs.Prelude.{◌≡◌, ◌≤◌, IsTrue};
-ghost use Rattle.cmd_receive.specs.Hearing.{HearsWire};
-ghost use Rattle.cmd_receive.specs.Listening.{IsNew, IsWell, listening};
+ghost use Rattle.std.specs.Prelude.{◌≡◌, ◌≤◌, ℕ, [], IsTrue};
+ghost use Rattle.cmd_receive.specs.Ends.{Counts};
+ghost use Rattle.cmd_receive.specs.Playouts.{IsNew, IsWell, playout_state};
 ghost use Rattle.cmd_receive.specs.Receiving.{ReceivesFrom};
+ghost use Rattle.cmd_receive.specs.Sessions.{HearsWire};
 ghost use Rattle.vc_ports.specs.Changes.{changed, output_of, wire_of};
 
-use crate::hearing::{conclude, hear_all};
-use crate::listener::Listener;
+use crate::SessionCount;
+use crate::concluding::conclude;
+use crate::hearing::hear_all;
+use crate::playout::Playout;
+use crate::session_playout::SessionPlayout;
 use crate::wire_inlet::WireInlet;
 use link_outside::Inbox;
 use link_receiver::Receiver;
@@ -14,10 +18,11 @@ use std::alloc::Global;
 use vc_ports::{Reached, Sink, Wire};
 use vc_slice::{Hands, Places};
 
-/// Receives datagrams at an address, at most so many, until so many sessions have ended, with so many pictures open at a
-/// time (2 to 8), and writes the raw frames that the datagrams make. A frame goes out as soon as its pictures are let go.
-/// Each slice that a picture keeps is offered to so many workers; what they don't decode in time is decoded here. Where
-/// the wire fails, or as many datagrams came as were asked for, the frames of what was heard are written all the same.
+/// Receives datagrams at an address, at most so many, until so many sessions have ended, with so many
+/// pictures open at a time (2 to 8), and writes the raw frames that the datagrams make. A frame goes out as
+/// soon as its pictures are let go. Each slice that a picture keeps is offered to so many workers; what
+/// they don't decode in time is decoded here. Where the wire fails, or as many datagrams came as were asked
+/// for, the frames of what was heard are written all the same.
 pub fn recv<N: Wire, O: Sink, P: Hands>(
     alloc: Global,
     window: u8,
@@ -49,28 +54,32 @@ pub fn recv<N: Wire, O: Sink, P: Hands>(
         return Answer::Drained(Summary::Judged { tally }, Ending::WireFailed);
     };
     let mut inlet = WireInlet::new(&mut inbox, wire);
-    let mut listener = Listener::new(&mut receiver, output, hands);
-    let heard = hear_wire(packets, sessions, &mut inlet, &mut listener);
-    conclude(&mut listener, heard)
+    let playout = Playout::new(&mut receiver, output, hands);
+    let count = SessionCount::new(sessions);
+    let mut listener = SessionPlayout { playout, count };
+    let heard = hear_wire(packets, &mut inlet, &mut listener);
+    conclude(&mut listener.playout, heard)
 }
 
-// Hears at most so many datagrams, until so many sessions have ended.
+// Has a receiver that has heard nothing hear at most so many datagrams, until its sessions have ended.
 fn hear_wire<N: Wire, O: Sink, P: Places>(
     packets: u32,
-    sessions: u32,
     inlet: &mut WireInlet<N>,
-    listener: &mut Listener<O, P>,
+    listener: &mut SessionPlayout<O, P>,
 ) -> Result<(), Ending>
     requires listens { IsTrue (N.told inlet.old.wire.now).listens }
-    requires new { IsNew listener.old.receiver.now }
-    ensures borrows_output { listener.new.output.ghost_name ≡ listener.old.output.ghost_name }
-    ensures borrows_places { listener.new.places.ghost_name ≡ listener.old.places.ghost_name }
+    requires new { IsNew listener.old.playout.receiver.now }
+    ensures borrows_output { listener.new.playout.output.ghost_name
+        ≡ listener.old.playout.output.ghost_name }
+    ensures borrows_places { listener.new.playout.places.ghost_name
+        ≡ listener.old.playout.places.ghost_name }
     ensures borrows_wire { inlet.new.wire.ghost_name ≡ inlet.old.wire.ghost_name }
-    ensures well { IsWell (listening O.held O.faults P.told P.bound listener.new) }
-    ensures heard { HearsWire packets sessions
+    ensures well { IsWell (playout_state O.held O.faults P.told P.bound listener.new.playout) }
+    ensures heard { (sessions : ℕ) → Counts listener.old.count sessions []
+        → HearsWire packets sessions
         (wire_of N.told N.faults inlet.old.wire.now inlet.new.wire.now)
-        (listening O.held O.faults P.told P.bound listener.old)
-        (listening O.held O.faults P.told P.bound listener.new) result }
+        (playout_state O.held O.faults P.told P.bound listener.old.playout)
+        (playout_state O.held O.faults P.told P.bound listener.new.playout) result }
 {
-    hear_all(packets, Some(sessions), inlet, listener)
+    hear_all(packets, inlet, listener)
 }

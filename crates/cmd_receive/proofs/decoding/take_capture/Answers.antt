@@ -1,17 +1,17 @@
 use Rattle.std.proofs.Common.{rules, refl}
 use Rattle.cmd_receive.proofs.Concluded.{capture_back, not_started, took_capture}
-use Rattle.cmd_receive.specs.Listening.{listening}
+use Rattle.cmd_receive.specs.Playouts.{playout_state}
 use Rattle.cmd_receive.proofs.decoding.take_capture.Goals as goal
 
 pub returns : goal.returns
 returns g c = λ form window new.
-    let first = c.new-listener.result in
-    let was = c.new-listener.ensures in
-    let out = c.conclude.new.listener in
+    let first = c.new-playout.result in
+    let was = c.new-playout.ensures in
+    let out = c.conclude.new.playout in
     capture_back _ _ g.O.Sink.held g.O.Sink.faults g.P.Places.told c.args.output.now first.output.now out.output.now _ c.args.hands.now out.places.now _
     form window c.args.workers c.args.packets _ _
-    (took_capture form window c.args.workers c.args.packets _ (g.P.Places.told c.args.hands.now) (listening g.O.Sink.held g.O.Sink.faults g.P.Places.told g.P.Places.bound first) _ _ _ _ (rw was.receiver new) (rw was.places c.in-Ok.ensures.told)
-    c.hear_capture-heard.ensures.heard c.conclude.ensures.concludes)
+    (took_capture form window c.args.workers c.args.packets _ (g.P.Places.told c.args.hands.now) (playout_state g.O.Sink.held g.O.Sink.faults g.P.Places.told g.P.Places.bound first) _ _ _ _ (rw was.receiver new) (rw was.places c.in-Ok.ensures.told)
+    c.play_capture-heard.ensures.heard c.conclude.ensures.concludes)
     was.output (search rules) (search rules)
 
 pub returns-in_default : goal.returns-in_default

@@ -27,11 +27,11 @@ returns-in_default-aim g c =
 
 pub returns : goal.returns
 returns g c =
-    let was = c.new-listener.ensures in
+    let was = c.new-playout.ensures in
     let sent_by = c.new-inlet.ensures in
     let out = c.loop_through.new.outlet in
     given_back _ _ _ g.O.Sink.held g.O.Sink.faults g.N.Wire.told g.N.Wire.faults g.P.Places.told _ _ _ _ _ _ _
-    c.args.output.now c.new-listener.result.output.now out.listener.output.now _ c.args.wire.now out.inlet.wire.now _ c.args.hands.now out.listener.places.now _
+    c.args.output.now c.new-playout.result.output.now out.playout.output.now _ c.args.wire.now out.inlet.wire.now _ c.args.hands.now out.playout.places.now _
     (c.loop_through.ensures.loops c.args.window c.args.workers c.args.at.now _ (g.N.Wire.faults c.args.wire.now) _ (record {
       ready = ap g.N.Wire.told sent_by.wire ∙ c.in-Yes-aim.ensures.told ∙ ap (λ (t : WireTold). aiming t c.args.at.now) c.in-Yes.ensures.told;
       later = omega (arith, ap g.N.Wire.faults sent_by.wire, c.in-Yes.ensures.cause.later, c.in-Yes-aim.ensures.cause.later);

@@ -9,29 +9,24 @@ returns-in_default-clause-broke g c =
     ((refl, (refl, refl)), unsent _ _ _ _ now.cause.later now.told (now.cause.rose refl))
 
 -- the output failed
-pub returns-in-Err-OutputFailed-clause-broke : goal.returns-in-Err-OutputFailed-clause-broke
-returns-in-Err-OutputFailed-clause-broke g c =
+pub returns-in-Err-Output-clause-broke : goal.returns-in-Err-Output-clause-broke
+returns-in-Err-Output-clause-broke g c =
     let given = rw c.in-Ok-Some.field-0-is at c.in-Ok-Some.ensures.brings in
-    let now = c.in-Err-OutputFailed.ensures in
+    let now = c.in-Err-Output.ensures in
     let sent = c.in-Yes.ensures in (
       (given.0, (now.borrows_output, now.borrows_places)),
-      unwritten _ _ _ _ sent.cause.later sent.told _ _ _ given.1 _ (rw c.in-Err-OutputFailed.field-0-is at now.takes),
+      unwritten _ _ _ _ sent.cause.later sent.told _ _ _ given.1 _ (rw c.in-Err-Output.field-0-is at now.takes),
     )
 
 -- memory ran out for what came
-pub returns-in-Err-hear : goal.returns-in-Err-hear
-returns-in-Err-hear g c =
+pub returns-in-Err-NoMemory-clause-broke : goal.returns-in-Err-NoMemory-clause-broke
+returns-in-Err-NoMemory-clause-broke g c =
     let given = rw c.in-Ok-Some.field-0-is at c.in-Ok-Some.ensures.brings in
-    let now = c.in-Err-hear.ensures in
-    let sent = c.in-Yes.ensures in
-    record {
-      ready = tt;
-      carried = tt;
-      broke = (
-        (given.0, (now.borrows_output, now.borrows_places)),
-        unheard _ _ _ _ sent.cause.later sent.told _ _ _ given.1 _ c.in-Err-hear.field-0 now.takes,
-      );
-    }
+    let now = c.in-Err-NoMemory.ensures in
+    let sent = c.in-Yes.ensures in (
+      (given.0, (now.borrows_output, now.borrows_places)),
+      unheard _ _ _ _ sent.cause.later sent.told _ _ _ given.1 _ (rw c.in-Err-NoMemory.field-0-is at now.takes),
+    )
 
 -- no more will come
 pub returns-in-Ok-None-clause-carried : goal.returns-in-Ok-None-clause-carried

@@ -1,5 +1,5 @@
 use Rattle.cmd_receive.proofs.Listened.{breaks_so, hears_one, stumbles_at}
-use Rattle.cmd_receive.proofs.listener.Listener.hear.Goals as goal
+use Rattle.cmd_receive.proofs.playout.Playout.enter.Goals as goal
 
 pub returns-in-Ok-clause-takes : goal.returns-in-Ok-clause-takes
 returns-in-Ok-clause-takes g c =
@@ -14,6 +14,6 @@ returns-in-Ok-clause-takes g c =
 pub returns-in-Err-clause-takes : goal.returns-in-Err-clause-takes
 returns-in-Err-clause-takes g c =
     let now = c.in-Err.ensures in
-    rw c.ending_of.ensures (breaks_so c.in-Err.fault
+    rw c.fault_of.ensures (breaks_so c.in-Err.fault
     (stumbles_at _ _ (record { asked = now.asked; well = λ w. now.below; later = now.cause.later })
     _ (λ form window ds h. now.part form window ds h)) now.cause)
