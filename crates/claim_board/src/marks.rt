@@ -1,4 +1,5 @@
-ghost use Rattle.std.specs.Prelude.{◌≡◌, ◌==◌, ◌<◌, false, replicate, slice_index_or, slice_set, vec_len, IfOk};
+ghost use Rattle.std.specs.Prelude.{◌≡◌, ◌==◌, ◌<◌, false, replicate};
+ghost use Rattle.std.specs.Prelude.{slice_index_or, slice_set, vec_len, IfOk};
 ghost use Rattle.std.specs.List.{count_by};
 
 use std::alloc::Global;

@@ -7,8 +7,8 @@ ghost use Rattle.vc_types.specs.SenderSettings.{generating_view};
 use link_gen::frame_shape;
 use vc_types::{GenSettings, Shape};
 
-/// How many samples all generated frames have: at most 1,000 frames of three planes of 8,192 by 8,192, so that no count of
-/// 64 bits is passed.
+/// How many samples all generated frames have: at most 1,000 frames of three planes of 8,192 by 8,192, so
+/// that no count of 64 bits is passed.
 pub fn samples_of(g: &GenSettings) -> u64
     ensures { result ≡ sample_total (generating_view g.now) }
 {

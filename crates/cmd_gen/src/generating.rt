@@ -16,7 +16,8 @@ use std::alloc::Global;
 use vc_ports::Sink;
 use vc_types::{GenSettings, NoMemory, Plane};
 
-/// Writes generated raw frames (this project's own), one after another. One frame is kept in memory, which no clause says.
+/// Writes generated raw frames (this project's own), one after another. One frame is kept in memory, which
+/// no clause says.
 pub fn generate<O: Sink>(alloc: Global, g: &GenSettings, output: &mut O) -> Result<Summary, Ending>
     ensures { Generates (generating_view g.now) result
         (output_of O.held O.faults output.old output.new) }

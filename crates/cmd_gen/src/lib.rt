@@ -1,4 +1,5 @@
-//! `gen`: generated raw frames, written, or with `--check 1` sent, received and compared, datagram by datagram.
+//! `gen`: generated raw frames, written, or with `--check 1` sent, received and compared, datagram by
+//! datagram.
 #![tactic(auto)]
 
 mod checker;

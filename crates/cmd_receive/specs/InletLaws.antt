@@ -1,14 +1,17 @@
 -- Datagrams that come one after another, out of a capture or from a wire. The laws of an inlet cite these.
-use Rattle.std.proofs.Common.{◌≡◌, ℕ, ◌+◌, List, [], ◌∷◌, ◌++◌, length, Option, Some, None, sym, subst, arith, append-nil, append_assoc, length-append}
+use Rattle.std.proofs.Common.{◌≡◌, ℕ, ◌+◌, List, [], ◌∷◌, ◌++◌, length, Option, Some, None, sym}
+use Rattle.std.proofs.Common.{subst, arith, append-nil, append_assoc, length-append}
 use Rattle.link_outside.specs.CaptureLaws.{capture-append}
 use Rattle.link_outside.specs.Calls.{passes_none, passes_then}
 use Rattle.link_outside.specs.Outlets.{capture_of}
 use Rattle.link_report.specs.declared.ending.Ending.{Ending}
-use Rattle.link_report.specs.declared.ending.Ending.TheVariants.{CaptureCut, InputFailed, NoMemory, WireFailed}
+use Rattle.link_report.specs.declared.ending.Ending.TheVariants.{CaptureCut, InputFailed}
+use Rattle.link_report.specs.declared.ending.Ending.TheVariants.{NoMemory, WireFailed}
 use Rattle.vc_ports.proofs.Given.{Gave-none, Gave-then}
 use Rattle.vc_ports.specs.Changes.{InputChange, WireChange}
 use Rattle.vc_ports.specs.Wires.{WireTold}
-use Rattle.cmd_receive.specs.Inlets.{EndsReading, EndsWire, FitEntries, GaveEntries, GaveWhole, StoppedReading, StoppedWire, WasGiven}
+use Rattle.cmd_receive.specs.Inlets.{EndsReading, EndsWire, FitEntries, GaveEntries}
+use Rattle.cmd_receive.specs.Inlets.{GaveWhole, StoppedReading, StoppedWire, WasGiven}
 
 -- ---- a capture
 

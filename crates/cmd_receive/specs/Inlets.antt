@@ -1,12 +1,14 @@
 -- What datagrams that come one after another did to a capture's source, and to a wire.
-use Rattle.std.specs.Prelude.{◌≡◌, ◌≢◌, ◌≤◌, ◌<◌, ◌+◌, ◌^◌, ℕ, List, [], ◌∷◌, ◌++◌, length, Option, Some, None, Result, Ok, Err, ⊤}
+use Rattle.std.specs.Prelude.{◌≡◌, ◌≢◌, ◌≤◌, ◌<◌, ◌+◌, ◌^◌, ℕ, List, [], ◌∷◌, ◌++◌}
+use Rattle.std.specs.Prelude.{length, Option, Some, None, Result, Ok, Err, ⊤}
 use Rattle.link_capture.specs.Capture.{first_entry}
 use Rattle.link_capture.specs.declared.fault.EntryFault.{EntryFault}
 use Rattle.link_capture.specs.declared.fault.EntryFault.TheVariants as entries
 use Rattle.link_outside.specs.Outlets.{capture_of}
 use Rattle.link_outside.specs.Passing.{Passes}
 use Rattle.link_report.specs.declared.ending.Ending.{Ending}
-use Rattle.link_report.specs.declared.ending.Ending.TheVariants.{CaptureCut, InputFailed, NoMemory, WireFailed}
+use Rattle.link_report.specs.declared.ending.Ending.TheVariants.{CaptureCut, InputFailed}
+use Rattle.link_report.specs.declared.ending.Ending.TheVariants.{NoMemory, WireFailed}
 use Rattle.vc_ports.specs.Changes.{InputChange, WireChange, HasRisen, Took}
 use Rattle.vc_ports.specs.Reading.{IsAtEnd}
 

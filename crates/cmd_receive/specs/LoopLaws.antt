@@ -1,5 +1,6 @@
 -- Datagrams that a loop sends one after another. The laws of its outlet cite these.
-use Rattle.std.proofs.Common.{◌≡◌, ◌⊎◌, ℕ, ◌+◌, ◌≤◌, Bool, true, false, List, [], ◌∷◌, ◌++◌, length, take, Option, Some, None, refl, sym, ap, subst, arith, inl, inr, length-append}
+use Rattle.std.proofs.Common.{◌≡◌, ◌⊎◌, ℕ, ◌+◌, ◌≤◌, Bool, true, false, List, [], ◌∷◌, ◌++◌, length, take}
+use Rattle.std.proofs.Common.{Option, Some, None, refl, sym, ap, subst, arith, inl, inr, length-append}
 use Rattle.std.proofs.Math.Seq.{take-append-add}
 use Rattle.std.proofs.lemmas.List.{take-append-le}
 use Rattle.link_outside.specs.Calls.{passes_none, passes_then}
@@ -8,7 +9,8 @@ use Rattle.link_outside.specs.declared.outlet.OutletFault.{OutletFault}
 use Rattle.link_outside.specs.declared.outlet.OutletFault.TheVariants as outlets
 use Rattle.link_report.specs.declared.ending.Ending.TheVariants.{NoMemory, OutputFailed}
 use Rattle.vc_ports.specs.Wires.{WireTold}
-use Rattle.cmd_receive.specs.Exchanges.{AreInTurn, BrokeBehind, Exchanged, HearsInTurn, LoopBroke, LoopState, WereLooped}
+use Rattle.cmd_receive.specs.Exchanges.{AreInTurn, BrokeBehind, Exchanged, HearsInTurn}
+use Rattle.cmd_receive.specs.Exchanges.{LoopBroke, LoopState, WereLooped}
 use Rattle.cmd_receive.specs.HearingLaws.{breaks_then, hears_then, none_heard}
 
 -- ---- one for each

@@ -6,13 +6,15 @@ use Rattle.link_receiver.specs.StartedWorkers.{HasStarted}
 use Rattle.cmd_send.specs.Sends.{SendsFrames}
 use Rattle.link_model.specs.Output.{full_output}
 use Rattle.link_report.specs.declared.ending.Ending.{Ending}
-use Rattle.link_report.specs.declared.ending.Ending.TheVariants.{InputFailed, NoMemory, OutputFailed, WireFailed}
+use Rattle.link_report.specs.declared.ending.Ending.TheVariants.{InputFailed, NoMemory}
+use Rattle.link_report.specs.declared.ending.Ending.TheVariants.{OutputFailed, WireFailed}
 use Rattle.link_report.specs.declared.summary.Summary.{Summary}
 use Rattle.link_report.specs.declared.summary.Summary.TheVariants.{Looped, Sent}
 use Rattle.link_receiver.specs.HeardLists.{AsFrames, HasHeard}
 use Rattle.cmd_receive.specs.Exchanges.{AreInTurn, LoopState}
 use Rattle.cmd_receive.specs.Receiving.{IsJudged}
-use Rattle.vc_ports.specs.Changes.{Change, InputChange, OutputChange, WireChange, HasRisen, Stays, Wrote, WrotePart}
+use Rattle.vc_ports.specs.Changes.{Change, InputChange, OutputChange, WireChange}
+use Rattle.vc_ports.specs.Changes.{HasRisen, Stays, Wrote, WrotePart}
 use Rattle.vc_ports.specs.Wires.{WireTold, aiming, listening}
 use Rattle.vc_slice.specs.Asked.{Told, Grows, starting}
 use Rattle.vc_types.specs.SenderSettings.{Sending}

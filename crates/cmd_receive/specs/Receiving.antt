@@ -6,7 +6,8 @@ use Rattle.link_model.specs.Output.{full_output}
 use Rattle.link_model.specs.declared.tally.Tally.{Tally}
 use Rattle.link_report.specs.declared.answer.Answer.{Answer}
 use Rattle.link_report.specs.declared.answer.Answer.TheVariants.{Done, Stopped, Drained}
-use Rattle.link_report.specs.declared.ending.Ending.TheVariants.{NoMemory, OutputFailed, PacketLimit, WireFailed}
+use Rattle.link_report.specs.declared.ending.Ending.TheVariants.{NoMemory, OutputFailed}
+use Rattle.link_report.specs.declared.ending.Ending.TheVariants.{PacketLimit, WireFailed}
 use Rattle.link_report.specs.declared.summary.Summary.{Summary}
 use Rattle.link_report.specs.declared.summary.Summary.TheVariants.{Judged}
 use Rattle.cmd_receive.specs.Ends.{ended_sessions}

@@ -4,11 +4,14 @@ use Rattle.std.specs.Prelude.{◌≡◌, ◌≢◌, ◌⊎◌, ◌≤◌, ◌<�
 use Rattle.link_outside.specs.declared.outlet.OutletFault.{OutletFault}
 use Rattle.link_outside.specs.declared.outlet.OutletFault.TheVariants as outlets
 use Rattle.frame_writer.specs.WholeFrames.{HoldFrames}
-use Rattle.cmd_send.specs.FramesSent.{AreSendable, bytes_in, frame_fault, frame_shape, frames_sent, stream_sent}
+use Rattle.cmd_send.specs.FramesSent.{AreSendable, bytes_in, frame_fault}
+use Rattle.cmd_send.specs.FramesSent.{frame_shape, frames_sent, stream_sent}
 use Rattle.link_model.specs.SendingFaults.{SendFault}
 use Rattle.link_model.specs.SendingFaults as faults
 use Rattle.link_report.specs.declared.ending.Ending.{Ending}
-use Rattle.link_report.specs.declared.ending.Ending.TheVariants.{InputFailed, OutputFailed, WireFailed, NoMemory, RawCut, SampleTooLarge, SliceTooLarge, FrameLimit}
+use Rattle.link_report.specs.declared.ending.Ending.TheVariants.{InputFailed, OutputFailed, WireFailed}
+use Rattle.link_report.specs.declared.ending.Ending.TheVariants.{NoMemory, RawCut, SampleTooLarge}
+use Rattle.link_report.specs.declared.ending.Ending.TheVariants.{SliceTooLarge, FrameLimit}
 use Rattle.link_report.specs.declared.summary.Summary.{Summary}
 use Rattle.link_report.specs.declared.summary.Summary.TheVariants.{Sent}
 use Rattle.vc_ports.specs.Changes.{InputChange, Took, HasRisen}

@@ -1,5 +1,6 @@
 -- What a sender of frames keeps from one frame to the next, and what each of its steps does.
-use Rattle.std.specs.Prelude.{◌≡◌, ◌⊎◌, ◌+◌, ◌-◌, ◌*◌, ◌%◌, ◌^◌, ◌≤◌, ℕ, List, [], ◌∷◌, ◌++◌, length, Option, Some, None, Result, Ok, Err}
+use Rattle.std.specs.Prelude.{◌≡◌, ◌⊎◌, ◌+◌, ◌-◌, ◌*◌, ◌%◌, ◌^◌, ◌≤◌, ℕ, List, [], ◌∷◌}
+use Rattle.std.specs.Prelude.{◌++◌, length, Option, Some, None, Result, Ok, Err}
 use Rattle.link_outside.specs.declared.outlet.OutletFault.{OutletFault}
 use Rattle.link_outside.specs.declared.outlet.OutletFault.TheVariants as outlets
 use Rattle.frame_writer.specs.declared.read_fault.FrameReadFault.{FrameReadFault}
@@ -12,7 +13,8 @@ use Rattle.cmd_send.specs.Looping.{HasSent, StopsSending, end_sent, next_sent}
 use Rattle.link_model.specs.Sending.{pictures_per_frame, timestamp_of}
 use Rattle.link_model.specs.SendingFaults as faults
 use Rattle.link_report.specs.declared.ending.Ending.{Ending}
-use Rattle.link_report.specs.declared.ending.Ending.TheVariants.{InputFailed, NoMemory, OutputFailed, RawCut, SampleTooLarge, SliceTooLarge, WireFailed}
+use Rattle.link_report.specs.declared.ending.Ending.TheVariants.{InputFailed, NoMemory, OutputFailed, RawCut}
+use Rattle.link_report.specs.declared.ending.Ending.TheVariants.{SampleTooLarge, SliceTooLarge, WireFailed}
 use Rattle.link_sender.specs.declared.refusal.SendRefusal.{SendRefusal}
 use Rattle.link_sender.specs.declared.refusal.SendRefusal.TheVariants as sending
 use Rattle.link_sender.specs.Sent.{Numbers}

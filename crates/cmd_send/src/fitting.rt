@@ -2,8 +2,8 @@ ghost use Rattle.std.specs.Prelude.{◌≡◌, ◌≤◌, nat_le};
 ghost use Rattle.std.specs.List.{position};
 ghost use Rattle.link_model.specs.SendingPictures.{least_fitting};
 
-/// The least index at which a slice has at most so many bytes, by its lengths at the indices from 0 on, and 127 where there
-/// is none.
+/// The least index at which a slice has at most so many bytes, by its lengths at the indices from 0 on, and
+/// 127 where there is none.
 pub(crate) fn least_fitting(lens: &[u64], bytes: u32) -> u8
     ensures value { result ≡ least_fitting bytes lens.now }
     ensures range { result ≤ 127 }

@@ -10,9 +10,9 @@ use std::thread::Threads;
 use vc_ports::{Sink, Source};
 use vc_types::SendSettings;
 
-/// Encodes at most so many raw frames: reads them one after another, up to one that is refused or the end of the input, and
-/// writes the entries of the datagrams that carry each, and at the end of the input that of the end of the sequence. Raw
-/// frames and captures are this project's own.
+/// Encodes at most so many raw frames: reads them one after another, up to one that is refused or the end
+/// of the input, and writes the entries of the datagrams that carry each, and at the end of the input that
+/// of the end of the sequence. Raw frames and captures are this project's own.
 pub fn encode<H: Threads + Copy + Send + Sync, S: Source, O: Sink>(
     rt: H,
     alloc: Global,

@@ -1,4 +1,5 @@
-//! `encode` and `send`: raw frames sent as the datagrams that carry them, frame by frame, to wherever datagrams go.
+//! `encode` and `send`: raw frames sent as the datagrams that carry them, frame by frame, to wherever
+//! datagrams go.
 #![tactic(auto)]
 
 mod fitting;

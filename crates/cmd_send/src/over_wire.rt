@@ -14,9 +14,10 @@ use std::thread::Threads;
 use vc_ports::{Reached, Source, Wire};
 use vc_types::SendSettings;
 
-/// Sends at most so many raw frames to an address: aims the wire, and then reads frames one after another, up to one that is
-/// refused or the end of the input, and sends the datagrams that carry each, and at the end of the input that of the end of
-/// the sequence (RFC 8450). Raw frames are this project's own. Where the wire can't be aimed, nothing is read.
+/// Sends at most so many raw frames to an address: aims the wire, and then reads frames one after another,
+/// up to one that is refused or the end of the input, and sends the datagrams that carry each, and at the
+/// end of the input that of the end of the sequence (RFC 8450). Raw frames are this project's own. Where
+/// the wire can't be aimed, nothing is read.
 pub fn send<H: Threads + Copy + Send + Sync, S: Source, N: Wire>(
     rt: H,
     alloc: Global,

@@ -23,10 +23,11 @@ use std::thread::Threads;
 use vc_ports::{Filled, Source, fill};
 use vc_types::{IndexChoice, SendSettings, Shape, SliceNeed};
 
-/// Sends at most so many raw frames: reads them one after another, up to one that is refused or the end of the input, and
-/// puts the datagrams that carry each, and at the end of the input that of the end of the sequence. Raw frames are this
-/// project's own. The datagrams of a frame go out before the next is read, and one frame and its datagrams are kept, and
-/// luma is transformed beside the colours, which no clause says.
+/// Sends at most so many raw frames: reads them one after another, up to one that is refused or the end of
+/// the input, and puts the datagrams that carry each, and at the end of the input that of the end of the
+/// sequence. Raw frames are this project's own. The datagrams of a frame go out before the next is read,
+/// and one frame and its datagrams are kept, and luma is transformed beside the colours, which no clause
+/// says.
 pub fn send_frames<H: Threads + Copy + Send + Sync, S: Source, O: Outlet>(
     rt: H,
     alloc: Global,

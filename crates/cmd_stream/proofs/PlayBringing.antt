@@ -13,7 +13,7 @@ use Rattle.cmd_stream.specs.declared.play_fault.TakeFault.TheVariants as faults
 use Rattle.cmd_stream.specs.PlaySteps.{PlayState, stream_state, shown}
 use Rattle.vc_types.specs.SameValues.{same_sequence}
 use Rattle.cmd_stream.specs.Stream.{Stream, StreamPicture, with_header, with_picture, picture_in, shows, takes, played, paired_frames, raw_frames}
-use Rattle.cmd_stream.specs.Taking.{agreed_state, Agrees, frame_due, Shows, Brings, Brought, HasAtMost, CountsAtMost}
+use Rattle.cmd_stream.specs.Taking.{agreed_state, Agrees, frame_due, Shows, BringsDue, Brought, HasAtMost, CountsAtMost}
 use Rattle.cmd_stream.proofs.Showing.{begun, shown-kept, played-more}
 
 abbrev kept_in : Option Stream → Option PlayState
@@ -126,7 +126,7 @@ module _ (s : Stream) (u : DataUnit) (code : u.code ≡ 0xE8) (new : PlayState) 
   shows-none : picture_in s.sequence u.body ≡ None → takes (Some s) u ≡ None
   shows-none e = takes-picture (Some s) u code ∙ ap (λ (picture : Option StreamPicture). option_map (λ next. Some next) (option_map (with_picture s) picture)) e
 
-  abbrev due_for : (p : StreamPicture) → picture_in s.sequence u.body ≡ Some p → Brings (Some s) u
+  abbrev due_for : (p : StreamPicture) → picture_in s.sequence u.body ≡ Some p → BringsDue (Some s) u
   due_for p e = record { next = Some (with_picture s p); due = frame_due (stream_state s) p; taken = shows-some p e; grows = played-more s p }
 
   brings-shown : (result : Result (Unit {0}) TakeFault) → Shows u.body (stream_state s) new before after result → Brought (Some s) u (Some new) before after result

@@ -24,7 +24,7 @@ use Rattle.cmd_stream.specs.PlayLooping.{PlayIsBehind, UnitsHaveEnded, PlayStops
 use Rattle.cmd_stream.specs.Playing.{UnitSplit, IsLast, PlayEnded, Plays}
 use Rattle.cmd_stream.specs.PlaySteps.{PlayState}
 use Rattle.cmd_stream.specs.Stream.{StreamSoFar, Stream, units_taken, takes, after_unit, played, pictures_in, frames_in, unpaired_in}
-use Rattle.cmd_stream.specs.Taking.{Brings, Brought}
+use Rattle.cmd_stream.specs.Taking.{BringsDue, Brought}
 use Rattle.cmd_stream.proofs.SoFar.{so_far-taken, so_far-refused, taken-grows}
 use Rattle.cmd_stream.proofs.UnitSplits.{no_units, one_unit}
 
@@ -104,7 +104,7 @@ module _ (packets number : ℕ) (input : InputChange) (output : OutputChange) (m
     refused_unit none same =
         grind (arith, common_steps, so_far-refused, with_one, accepted, wrote, wrote_of, all_written)
 
-    module _ (b : Brings h.stream u) where
+    module _ (b : BringsDue h.stream u) where
       taken : units_taken (at.units ++ u ∷ []) ≡ (after_unit h u b.next, false)
       taken = so_far-taken at.units u h b.next at.so_far b.taken
 

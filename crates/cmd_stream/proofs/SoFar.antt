@@ -7,7 +7,7 @@ use Rattle.vc_types.specs.SequenceHeader.{coded_header}
 use Rattle.vc_types.specs.DataUnits.{DataUnit}
 use Rattle.vc_ports.proofs.Given.{some_is}
 use Rattle.cmd_stream.specs.Stream.{Stream, StreamPicture, StreamSoFar, at_start, with_header, with_picture, picture_in, shows, takes, all_taken, units_taken, after_unit, played}
-use Rattle.cmd_stream.specs.Taking.{Brings}
+use Rattle.cmd_stream.specs.Taking.{BringsDue}
 use Rattle.cmd_stream.proofs.PlayBringing.{played-header}
 use Rattle.cmd_stream.proofs.Showing.{played-more}
 
@@ -59,6 +59,6 @@ shown-grows None new u e = absurd cc
 shown-grows (Some s) new u e = picture-grows s new (picture_in s.sequence u.body) e
 
 -- a unit that is taken, and what is due for it
-pub taken-grows : (stream new : Option Stream) (u : DataUnit) → takes stream u ≡ Some new → Brings stream u
+pub taken-grows : (stream new : Option Stream) (u : DataUnit) → takes stream u ≡ Some new → BringsDue stream u
 unfolding takes
 taken-grows stream new u e = grind (arith, common_steps, header-grows, shown-grows, some_is)

@@ -9,7 +9,7 @@ use Rattle.vc_units.specs.Reading.{GaveUnit}
 use Rattle.vc_types.specs.DataUnits.{DataUnit, is_end_of_sequence}
 use Rattle.vc_units.proofs.Streams.{units_within-nothing}
 use Rattle.cmd_stream.specs.PlayLooping.{PlayIsBehind, UnitsHaveEnded}
-use Rattle.cmd_stream.specs.Taking.{Brings}
+use Rattle.cmd_stream.specs.Taking.{BringsDue}
 use Rattle.cmd_stream.specs.Stream.{StreamSoFar, at_start, all_taken, after_unit, played}
 use Rattle.cmd_stream.proofs.SoFar.{so_far-taken}
 use Rattle.cmd_stream.proofs.UnitSplits.{no_units, none_split, one_unit, split_more}
@@ -30,7 +30,7 @@ begun packets left held = record {
 
 module _ (packets number : ℕ) (before mid held_before held_mid : Option (List ℕ)) (h : StreamSoFar) (at : PlayIsBehind packets number before mid held_before held_mid h) where
   module _ (room : number < packets) (after : Option (List ℕ)) (u : DataUnit) (gave : GaveUnit mid after u) where
-    module _ (held_after : Option (List ℕ)) (b : Brings h.stream u) (grew : Grew held_mid held_after b.due) where
+    module _ (held_after : Option (List ℕ)) (b : BringsDue h.stream u) (grew : Grew held_mid held_after b.due) where
       all_written : Grew held_before held_after (played b.next)
       all_written = rw b.grows (Grew-then held_before held_mid held_after (played h.stream) b.due at.wrote grew)
 

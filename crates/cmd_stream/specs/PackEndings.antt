@@ -1,7 +1,8 @@
 -- How packing ends by a unit that isn't packed.
 use Rattle.std.specs.Prelude.{ℕ}
 use Rattle.link_report.specs.declared.ending.Ending.{Ending}
-use Rattle.link_report.specs.declared.ending.Ending.TheVariants.{NoMemory, OutputFailed, SliceTooLarge, StreamBad}
+use Rattle.link_report.specs.declared.ending.Ending.TheVariants.{NoMemory, OutputFailed}
+use Rattle.link_report.specs.declared.ending.Ending.TheVariants.{SliceTooLarge, StreamBad}
 use Rattle.cmd_stream.specs.declared.pack_fault.UnitRefusal.{UnitRefusal}
 use Rattle.cmd_stream.specs.declared.pack_fault.UnitRefusal.TheVariants as refusals
 

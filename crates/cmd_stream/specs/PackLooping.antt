@@ -1,5 +1,6 @@
 -- What a loop over the units of a source knows.
-use Rattle.std.specs.Prelude.{◌≡◌, ◌⊎◌, ℕ, ◌-◌, true, false, List, [], ◌++◌, length, Option, None, Result, Ok, Err}
+use Rattle.std.specs.Prelude.{◌≡◌, ◌⊎◌, ℕ, ◌-◌, true, false, List, [], ◌++◌}
+use Rattle.std.specs.Prelude.{length, Option, None, Result, Ok, Err}
 use Rattle.std.specs.List.{list_any}
 use Rattle.link_outside.specs.Outlets.{capture_of}
 use Rattle.cmd_stream.specs.PlayLooping.{then_units}

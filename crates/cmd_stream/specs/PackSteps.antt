@@ -1,5 +1,6 @@
 -- What is done with a unit.
-use Rattle.std.specs.Prelude.{◌≡◌, ◌≤◌, ◌+◌, ℕ, ⊤, List, [], ◌∷◌, ◌++◌, length, take, drop, Option, Some, None, Result, Ok, Err}
+use Rattle.std.specs.Prelude.{◌≡◌, ◌≤◌, ◌+◌, ℕ, ⊤, List, [], ◌∷◌, ◌++◌, length, take}
+use Rattle.std.specs.Prelude.{drop, Option, Some, None, Result, Ok, Err}
 use Rattle.std.specs.Global.{Vec}
 use Rattle.cmd_send.specs.FramesSent.{bytes_in}
 use Rattle.link_outside.specs.Outlets.{capture_of}
@@ -9,8 +10,11 @@ use Rattle.link_report.specs.declared.ending.Ending.{Ending}
 use Rattle.link_report.specs.declared.ending.Ending.TheVariants as endings
 use Rattle.link_report.specs.declared.summary.Summary.{Summary}
 use Rattle.link_report.specs.declared.summary.Summary.TheVariants as summaries
-use Rattle.stream_model.specs.Packed.{BadUnit, PackStream, PartTooLarge, packs_header, packs_unit, picture_to_pack, pictures_packed, settings_for, stream_packed, whole_packed, with_packed}
-use Rattle.stream_model.specs.Packing.{PackedPicture, first_large_part, packed_datagrams, packed_picture, slices_in}
+use Rattle.stream_model.specs.Packed.{BadUnit, PackStream, PartTooLarge, packs_header}
+use Rattle.stream_model.specs.Packed.{packs_unit, picture_to_pack, pictures_packed}
+use Rattle.stream_model.specs.Packed.{settings_for, stream_packed, whole_packed, with_packed}
+use Rattle.stream_model.specs.Packing.{PackedPicture, first_large_part}
+use Rattle.stream_model.specs.Packing.{packed_datagrams, packed_picture, slices_in}
 use Rattle.cmd_stream.specs.declared.pack_fault.UnitRefusal.{UnitRefusal}
 use Rattle.cmd_stream.specs.declared.pack_fault.UnitRefusal.TheVariants as refusals
 use Rattle.cmd_stream.specs.declared.opened.Opened.{Opened}

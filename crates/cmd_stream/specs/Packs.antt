@@ -1,14 +1,17 @@
 -- What packing an elementary stream to a capture did, by how it ended.
-use Rattle.std.specs.Prelude.{◌≡◌, ◌⊎◌, ℕ, ◌<◌, false, List, [], ◌∷◌, ◌++◌, length, None, IsTrue, IsFalse, Result, Ok, Err}
+use Rattle.std.specs.Prelude.{◌≡◌, ◌⊎◌, ℕ, ◌<◌, false, List, [], ◌∷◌, ◌++◌, length}
+use Rattle.std.specs.Prelude.{None, IsTrue, IsFalse, Result, Ok, Err}
 use Rattle.cmd_send.specs.FramesSent.{bytes_in}
 use Rattle.link_outside.specs.Outlets.{capture_of}
 use Rattle.cmd_stream.specs.Counted.{counted_in_64}
 use Rattle.cmd_stream.specs.Playing.{IsLast, UnitSplit, has_ended, unit_split}
 use Rattle.link_report.specs.declared.ending.Ending.{Ending}
-use Rattle.link_report.specs.declared.ending.Ending.TheVariants.{InputFailed, OutputFailed, NoMemory, PacketLimit, SliceTooLarge, StreamBad}
+use Rattle.link_report.specs.declared.ending.Ending.TheVariants.{InputFailed, OutputFailed, NoMemory}
+use Rattle.link_report.specs.declared.ending.Ending.TheVariants.{PacketLimit, SliceTooLarge, StreamBad}
 use Rattle.link_report.specs.declared.summary.Summary.{Summary}
 use Rattle.link_report.specs.declared.summary.Summary.TheVariants as summaries
-use Rattle.stream_model.specs.Packed.{BadUnit, PackFault, PackedSoFar, PartTooLarge, packs_unit, pictures_packed, stream_packed, units_packed, whole_packed}
+use Rattle.stream_model.specs.Packed.{BadUnit, PackFault, PackedSoFar, PartTooLarge, packs_unit}
+use Rattle.stream_model.specs.Packed.{pictures_packed, stream_packed, units_packed, whole_packed}
 use Rattle.vc_ports.specs.Changes.{InputChange, OutputChange, Took, Wrote, WrotePart, HasRisen}
 use Rattle.vc_ports.specs.Reading.{IsAtEnd}
 use Rattle.vc_types.specs.DataUnits.{DataUnit}

@@ -1,7 +1,8 @@
 -- How playing ends by a fault.
 use Rattle.std.specs.Prelude.{ℕ}
 use Rattle.link_report.specs.declared.ending.Ending.{Ending}
-use Rattle.link_report.specs.declared.ending.Ending.TheVariants.{InputFailed, OutputFailed, NoMemory, StreamBad}
+use Rattle.link_report.specs.declared.ending.Ending.TheVariants.{InputFailed, OutputFailed}
+use Rattle.link_report.specs.declared.ending.Ending.TheVariants.{NoMemory, StreamBad}
 use Rattle.cmd_stream.specs.declared.play_fault.TakeFault.{TakeFault}
 use Rattle.cmd_stream.specs.declared.play_fault.TakeFault.TheVariants as taking
 use Rattle.vc_units.specs.declared.fault.UnitFault.{UnitFault}

@@ -1,5 +1,6 @@
 -- What a loop over the units of a source knows.
-use Rattle.std.specs.Prelude.{◌≡◌, ◌⊎◌, ℕ, ◌-◌, ◌*◌, ◌^◌, if◌then◌else◌, true, false, List, [], ◌++◌, length, Option, Result, Ok, Err}
+use Rattle.std.specs.Prelude.{◌≡◌, ◌⊎◌, ℕ, ◌-◌, ◌*◌, ◌^◌, if◌then◌else◌, true, false}
+use Rattle.std.specs.Prelude.{List, [], ◌++◌, length, Option, Result, Ok, Err}
 use Rattle.std.specs.List.{list_any}
 use Rattle.std.specs.Option.{option_map_or}
 use Rattle.vc_ports.specs.Changes.{InputChange, OutputChange, Took}

@@ -1,8 +1,10 @@
 -- What playing a stream did, by how it ended.
-use Rattle.std.specs.Prelude.{◌≡◌, ◌≢◌, ◌⊎◌, ℕ, ◌<◌, Bool, false, List, [], ◌∷◌, ◌++◌, length, None, IsTrue, IsFalse, Result, Ok, Err}
+use Rattle.std.specs.Prelude.{◌≡◌, ◌≢◌, ◌⊎◌, ℕ, ◌<◌, Bool, false, List, [], ◌∷◌, ◌++◌}
+use Rattle.std.specs.Prelude.{length, None, IsTrue, IsFalse, Result, Ok, Err}
 use Rattle.std.specs.List.{list_any}
 use Rattle.link_report.specs.declared.ending.Ending.{Ending}
-use Rattle.link_report.specs.declared.ending.Ending.TheVariants.{InputFailed, OutputFailed, NoMemory, PacketLimit, StreamBad}
+use Rattle.link_report.specs.declared.ending.Ending.TheVariants.{InputFailed, OutputFailed, NoMemory}
+use Rattle.link_report.specs.declared.ending.Ending.TheVariants.{PacketLimit, StreamBad}
 use Rattle.link_report.specs.declared.summary.Summary.{Summary}
 use Rattle.link_report.specs.declared.summary.Summary.TheVariants.{Played}
 use Rattle.vc_ports.specs.Changes.{InputChange, OutputChange, Took, Wrote, WrotePart, HasRisen}
@@ -11,7 +13,8 @@ use Rattle.vc_types.specs.DataUnits.{DataUnit, is_end_of_sequence}
 use Rattle.vc_units.specs.Units.{data_unit, units_within}
 use Rattle.vc_units.specs.declared.fault.UnitFault.{UnitFault}
 use Rattle.vc_units.specs.declared.fault.UnitFault.TheVariants.{Short}
-use Rattle.cmd_stream.specs.Stream.{StreamSoFar, takes, units_taken, played, pictures_in, frames_in, unpaired_in}
+use Rattle.cmd_stream.specs.Stream.{StreamSoFar, takes, units_taken, played}
+use Rattle.cmd_stream.specs.Stream.{pictures_in, frames_in, unpaired_in}
 
 -- ---- what the input gave
 

@@ -1,5 +1,6 @@
 -- What reading the slices of a picture gives.
-use Rattle.std.specs.Prelude.{◌≡◌, ◌<◌, ◌≤◌, ℕ, suc, ◌+◌, Bool, true, false, List, ◌∷◌, ◌++◌, length, slice_index_or, Option, Some, None, Result, Ok, Err}
+use Rattle.std.specs.Prelude.{◌≡◌, ◌<◌, ◌≤◌, ℕ, suc, ◌+◌, Bool, true, false, List, ◌∷◌, ◌++◌}
+use Rattle.std.specs.Prelude.{length, slice_index_or, Option, Some, None, Result, Ok, Err}
 use Rattle.vc_types.specs.SliceCoefficients.{AreSliceCoefficients}
 use Rattle.picture_build.specs.Kept.{PartPicture, slice_that_came, with_slice, slices_of, HasAllSlices}
 use Rattle.vc_types.specs.Fields.{and_then}

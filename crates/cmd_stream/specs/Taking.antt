@@ -1,5 +1,6 @@
 -- What is done with a unit.
-use Rattle.std.specs.Prelude.{◌≡◌, ℕ, ◌≤◌, List, [], ◌++◌, if◌then◌else◌, Option, Some, None, Result, Ok, Err, IfSome, false}
+use Rattle.std.specs.Prelude.{◌≡◌, ℕ, ◌≤◌, List, [], ◌++◌, if◌then◌else◌, Option}
+use Rattle.std.specs.Prelude.{Some, None, Result, Ok, Err, IfSome, false}
 use Rattle.std.specs.Option.{option_map, option_to_list}
 use Rattle.frame_writer.specs.Samples.{HaveByteSamples}
 use Rattle.vc_types.specs.RawFrames.{is_wide}
@@ -85,7 +86,7 @@ abbrev pub CountsAtMost : ℕ → Option PlayState → Type 0
 CountsAtMost units kept = IfSome kept (HasAtMost units)
 
 -- a unit is taken: the stream with it, and the bytes that are due for it
-pub record Brings (stream : Option Stream) (u : DataUnit) : Type 0 where
+pub record BringsDue (stream : Option Stream) (u : DataUnit) : Type 0 where
   pub next : Option Stream
   pub due : List ℕ
   pub taken : takes stream u ≡ Some next
@@ -95,8 +96,8 @@ pub record Brings (stream : Option Stream) (u : DataUnit) : Type 0 where
 abbrev pub Brought : Option Stream → DataUnit → Option PlayState → Option (List ℕ) → Option (List ℕ)
     → Result (Unit {0}) TakeFault → Type 0
 Brought stream u new before after (Ok done) =
-    (b : Brings stream u) × (new ≡ option_map stream_state b.next) × Grew before after b.due
+    (b : BringsDue stream u) × (new ≡ option_map stream_state b.next) × Grew before after b.due
 Brought stream u new before after (Err faults.WriteFault) =
-    (b : Brings stream u) × GrewBySome before after b.due
+    (b : BringsDue stream u) × GrewBySome before after b.due
 Brought stream u new before after (Err faults.Refused) = (takes stream u ≡ None) × (after ≡ before)
 Brought stream u new before after (Err faults.NoMemory) = after ≡ before

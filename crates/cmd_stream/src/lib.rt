@@ -1,4 +1,5 @@
-//! `play` and `pack`: an elementary stream, picture by picture, to raw frames or to the datagrams that carry its pictures.
+//! `play` and `pack`: an elementary stream, picture by picture, to raw frames or to the datagrams that
+//! carry its pictures.
 #![tactic(auto)]
 
 mod opened;

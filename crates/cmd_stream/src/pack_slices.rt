@@ -4,7 +4,8 @@ ghost use Rattle.vc_types.specs.TransformParameters.{parameters_of};
 use vc_slice::cut;
 use vc_types::Plan;
 
-/// How many bytes a picture's slices have, which begin the bytes; none where the bytes end before the last slice.
+/// How many bytes a picture's slices have, which begin the bytes; none where the bytes end before the last
+/// slice.
 pub(crate) fn slices_len(plan: &Plan, bytes: &[u8]) -> Option<usize>
     ensures { EndsSlices (parameters_of plan.now) bytes.now result }
 {

@@ -11,8 +11,8 @@ use std::alloc::Global;
 use vc_slice::{SliceDone, SliceJob, cut, decode};
 use vc_types::{NoMemory, Plan};
 
-/// Puts a picture's slices, one after another at the front of the bytes, into a builder of its plan; false where a slice
-/// is cut short or unsound.
+/// Puts a picture's slices, one after another at the front of the bytes, into a builder of its plan; false
+/// where a slice is cut short or unsound.
 pub(crate) fn take_slices(
     alloc: Global,
     plan: &Plan,

@@ -93,7 +93,8 @@ impl StreamPacker {
         }
     }
 
-    // Takes a sequence header: the first, or one of the same value, whose bytes stand for the pictures behind it.
+    // Takes a sequence header: the first, or one of the same value, whose bytes stand for the pictures
+    // behind it.
     fn take_header(&mut self, body: Vec<u8>) -> Result<(), UnitRefusal>
         ensures value { (s : Packing) (stream : Option PackStream) → IsBehindUnits s stream self.old
             → TakesHeader s stream body.items self.new result }

@@ -4,7 +4,8 @@ use Rattle.std.specs.List.{flat_map}
 use Rattle.field_pairs.specs.Sizes.{AreWhole}
 use Rattle.link_model.specs.Sending.{pictures_of, pictures_per_frame}
 use Rattle.link_model.specs.SendingFaults.{first_of_slices, first_sample_fault, send_fault}
-use Rattle.link_model.specs.SendingPictures.{HasSides, IsFrame, plane_in, sent_parameters, slices_with_indices}
+use Rattle.link_model.specs.SendingPictures.{HasSides, IsFrame, plane_in}
+use Rattle.link_model.specs.SendingPictures.{sent_parameters, slices_with_indices}
 use Rattle.vc_types.specs.declared.video.Component.{Component}
 use Rattle.vc_types.specs.Planes.{Planes}
 use Rattle.vc_types.specs.SenderSettings.{Sending}

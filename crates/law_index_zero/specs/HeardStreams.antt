@@ -1,12 +1,15 @@
 -- What a receiver hears of a sender's stream, and what is there in time.
-use Rattle.std.specs.Prelude.{◌≡◌, ◌<◌, ◌≤◌, ℕ, ◌+◌, ◌%◌, ◌^◌, ◌==◌, Bool, true, false, ◌&&◌, List, [], ◌∷◌, length, take, slice_get, Option, Some, None, Ok}
+use Rattle.std.specs.Prelude.{◌≡◌, ◌<◌, ◌≤◌, ℕ, ◌+◌, ◌%◌, ◌^◌, ◌==◌, Bool, true, false, ◌&&◌, List}
+use Rattle.std.specs.Prelude.{[], ◌∷◌, length, take, slice_get, Option, Some, None, Ok}
 use Rattle.std.specs.List.{Contains, count_by}
 use Rattle.link_model.specs.Kept.{SliceRun, waiting_limit}
 use Rattle.link_model.specs.Numbers.{Numbered, is_opened}
 use Rattle.link_model.specs.Output.{closing_place, entered_behind}
-use Rattle.link_model.specs.Sending.{ParametersContent, SlicesContent, frames_outgoing, number_bits, outgoing, sent_datagram}
+use Rattle.link_model.specs.Sending.{ParametersContent, SlicesContent, frames_outgoing}
+use Rattle.link_model.specs.Sending.{number_bits, outgoing, sent_datagram}
 use Rattle.link_model.specs.SendingPictures.{sent_sequence}
-use Rattle.link_model.specs.Session.{Fragment, HeardSession, ParamsPart, Part, Received, Session, SlicesPart, fragment_in, received, sessions_of}
+use Rattle.link_model.specs.Session.{Fragment, HeardSession, ParamsPart, Part, Received, Session}
+use Rattle.link_model.specs.Session.{SlicesPart, fragment_in, received, sessions_of}
 use Rattle.vc_types.specs.Planes.{Planes}
 use Rattle.vc_types.specs.SenderSettings.{Sending}
 

@@ -2,13 +2,15 @@
 -- of the stream is lost, repeated, or out of order.
 use Rattle.std.specs.Prelude.{◌≡◌, ◌<◌, ◌≤◌, ℕ, ◌+◌, ◌-◌, ◌*◌, ◌^◌, true, List, ◌++◌, slice_get, Some}
 use Rattle.std.specs.List.{flat_map}
-use Rattle.law_index_zero.specs.FramesToSend.{AreAtIndexZero, AreFramesToSend, IsAtIndexZero, IsPictureToSend, indices_from, pictures_of_all}
+use Rattle.law_index_zero.specs.FramesToSend.{AreAtIndexZero, AreFramesToSend, IsAtIndexZero}
+use Rattle.law_index_zero.specs.FramesToSend.{IsPictureToSend, indices_from, pictures_of_all}
 use Rattle.law_index_zero.specs.HeardStreams.{IsHeardInTime, IsHeardOf, IsNumberOf, entered_of}
 use Rattle.link_model.specs.Complete.{whole_picture}
 use Rattle.link_model.specs.Numbers.{is_opened, parts_of}
 use Rattle.link_model.specs.Output.{frame_at, full_output}
 use Rattle.link_model.specs.Sending.{pictures_per_frame, sent_stream}
-use Rattle.link_model.specs.SendingPictures.{sent_parameter_bytes, sent_parameters, sent_sequence, sent_slices}
+use Rattle.link_model.specs.SendingPictures.{sent_parameter_bytes, sent_parameters}
+use Rattle.link_model.specs.SendingPictures.{sent_sequence, sent_slices}
 use Rattle.link_model.specs.Session.{HeardSession}
 use Rattle.vc_types.specs.declared.settings.SendSettings.{SendSettings}
 use Rattle.vc_types.specs.Fields.{joined}

@@ -1,4 +1,5 @@
-ghost use Rattle.law_index_zero.specs.IndexZero.{IndexZeroIsLossless, PicturesAreReceived, PicturesComeBack, SentStreamsComeBack};
+ghost use Rattle.law_index_zero.specs.IndexZero.{IndexZeroIsLossless, PicturesAreReceived};
+ghost use Rattle.law_index_zero.specs.IndexZero.{PicturesComeBack, SentStreamsComeBack};
 
 /// Whatever else of a stream is lost, repeated or out of order: a picture that was sent at
 /// quantisation index 0, and of which all datagrams came before it closed, has the bytes that

@@ -1,6 +1,7 @@
 use bytes::Bytes;
 
-/// Slices as they were sent in one fragment (RFC 8450, 4): so many in raster order, from the one at x and y on.
+/// Slices as they were sent in one fragment (RFC 8450, 4): so many in raster order, from the one at x and y
+/// on.
 #[derive(Drop)]
 pub struct SlicePart {
     /// Slice prefix bytes.

@@ -1,6 +1,8 @@
-ghost use Rattle.std.specs.Prelude.{◌≡◌, ◌==◌, [], ℕ, List, None, Some, IfOk, IfSome, OnOk, is_some, position};
+ghost use Rattle.std.specs.Prelude.{◌≡◌, ◌==◌, [], ℕ, List, None, Some, IfOk};
+ghost use Rattle.std.specs.Prelude.{IfSome, OnOk, is_some, position};
 ghost use Rattle.std.specs.Option.{option_and_then, option_copied, option_map, option_map_or};
-ghost use Rattle.receiver_model.specs.Receptions.{PictureAnswers, answer_at, answers_at, answers_without, keeps_answer, kept_answer};
+ghost use Rattle.receiver_model.specs.Receptions.{PictureAnswers, answer_at, answers_at};
+ghost use Rattle.receiver_model.specs.Receptions.{answers_without, keeps_answer, kept_answer};
 ghost use Rattle.receiver_model.specs.Releasing.{answers_by, book_planes};
 ghost use Rattle.receiver_model.specs.WholeBooks.{ArePicturePlanes, IsWholeBook};
 ghost use Rattle.link_pictures.specs.Completing.{IsWholeBySome, IsWholeIfAny, IsWholePlan};

@@ -2,7 +2,8 @@ ghost use Rattle.std.specs.Prelude.{◌≡◌, ◌<◌, IfOk, None, Some, is_som
 ghost use Rattle.std.specs.List.{range_with_len};
 ghost use Rattle.std.specs.Option.{option_map};
 ghost use Rattle.receiver_model.specs.Releasing.{sound_slices};
-ghost use Rattle.link_pictures.specs.Completing.{ComesInto, CompletesPicture, HasWholeSlices, PutsDecoded, comes_to};
+ghost use Rattle.link_pictures.specs.Completing.{ComesInto, CompletesPicture};
+ghost use Rattle.link_pictures.specs.Completing.{HasWholeSlices, PutsDecoded, comes_to};
 ghost use Rattle.link_pictures.specs.SeenAnswers.{HasEntries};
 ghost use Rattle.picture_build.specs.Kept.{slice_that_came};
 ghost use Rattle.vc_types.specs.Planes.{planes_in, planes_of};

@@ -1,5 +1,6 @@
-//! The pictures of a receiver, from the answers to their slices to what goes out of them once they are released: frames and,
-//! with field coding, frames that are woven of two fields, or the units of an elementary stream.
+//! The pictures of a receiver, from the answers to their slices to what goes out of them once they are
+//! released: frames and, with field coding, frames that are woven of two fields, or the units of an
+//! elementary stream.
 #![tactic(auto)]
 
 mod answers;

@@ -24,8 +24,8 @@ pub struct Shown {
     pub alone: u64,
 }
 
-/// The frames of a sequence's pictures. It keeps the first field of a frame whose second one isn't released yet, and is
-/// seen as that field, if one waits.
+/// The frames of a sequence's pictures. It keeps the first field of a frame whose second one isn't released
+/// yet, and is seen as that field, if one waits.
 #[derive(Drop)]
 pub struct FrameOutput {
     alloc: Global,
@@ -54,11 +54,12 @@ impl FrameOutput {
         }
     }
 
-    /// Takes the planes of the picture that is released next, if it has any, and writes the frame of which it is the last
-    /// picture. Without field coding that is the picture. With it fields of even numbers wait, and one of an odd number is
-    /// woven with the field of the number before, if that waits. Planes have the sizes and depths of the sequence's
-    /// pictures. Without memory nothing goes out, and after a fault of the sink a prefix of the frame went out; whatever the
-    /// answer, what waited before waits no longer.
+    /// Takes the planes of the picture that is released next, if it has any, and writes the frame of which
+    /// it is the last picture. Without field coding that is the picture. With it fields of even numbers
+    /// wait, and one of an odd number is woven with the field of the number before, if that waits. Planes
+    /// have the sizes and depths of the sequence's pictures. Without memory nothing goes out, and after a
+    /// fault of the sink a prefix of the frame went out; whatever the answer, what waited before waits no
+    /// longer.
     pub fn release<O: Sink>(
         &mut self,
         header: &Header,
@@ -167,7 +168,8 @@ impl FrameOutput {
         self.waiting.take().is_some()
     }
 
-    // The frame of which a picture is the last. What waited waits no longer, and a first field waits from now on.
+    // The frame of which a picture is the last. What waited waits no longer, and a first field waits from
+    // now on.
     fn completed(
         &mut self,
         header: &Header,

@@ -6,9 +6,13 @@ use Rattle.std.specs.Fmt.{decimal}
 use Rattle.link_model.specs.declared.tally.Tally.{Tally}
 use Rattle.link_report.specs.declared.counts.Count.{Count}
 use Rattle.link_report.specs.declared.ending.Ending.{Ending}
-use Rattle.link_report.specs.declared.ending.Ending.TheVariants.{Usage, NoMemory, InputFailed, OutputFailed, WireFailed, CaptureCut, PacketLimit, RawCut, SampleTooLarge, SliceTooLarge, StreamBad, FrameLimit}
+use Rattle.link_report.specs.declared.ending.Ending.TheVariants.{Usage, NoMemory, InputFailed, OutputFailed}
+use Rattle.link_report.specs.declared.ending.Ending.TheVariants.{WireFailed, CaptureCut, PacketLimit, RawCut}
+use Rattle.link_report.specs.declared.ending.Ending.TheVariants.{SampleTooLarge, SliceTooLarge, StreamBad}
+use Rattle.link_report.specs.declared.ending.Ending.TheVariants.{FrameLimit}
 use Rattle.link_report.specs.declared.summary.Summary.{Summary}
-use Rattle.link_report.specs.declared.summary.Summary.TheVariants.{Judged, Sent, Looped, Packed, Played, Generated, Compared}
+use Rattle.link_report.specs.declared.summary.Summary.TheVariants.{Judged, Sent, Looped, Packed, Played}
+use Rattle.link_report.specs.declared.summary.Summary.TheVariants.{Generated, Compared}
 
 abbrev pub space : List ℕ
 space = 32 ∷ []

@@ -62,8 +62,9 @@ impl Answer {
     }
 }
 
-/// Says in the report what a command came to, and answers the status. The text is made whole before any of it is
-/// written; want of memory for it is status 3. A fault of the report is status 7 where the status would be 0.
+/// Says in the report what a command came to, and answers the status. The text is made whole before any of
+/// it is written; want of memory for it is status 3. A fault of the report is status 7 where the status
+/// would be 0.
 #[tactic(auto, unfolding(crate::specs::Report::status_line))]
 pub fn write_answer<E: Sink>(alloc: Global, report: &mut E, answer: &Answer) -> u8
     ensures { Reports answer.now result (output_of E.held E.faults report.old report.new) }

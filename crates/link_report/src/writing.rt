@@ -19,8 +19,8 @@ fn tally_string(alloc: Global, tally: &Tally) -> Result<String, NoMemory>
     Ok(text)
 }
 
-/// Writes the 31 lines of a tally. They are made whole first: without memory nothing goes out. After a fault of the
-/// report a prefix of them went out.
+/// Writes the 31 lines of a tally. They are made whole first: without memory nothing goes out. After a
+/// fault of the report a prefix of them went out.
 pub fn write_tally<O: Sink>(alloc: Global, sink: &mut O, tally: &Tally) -> Result<(), ReportFault>
     ensures ok { OnOk result (Grew (O.held sink.old) (O.held sink.new) (tally_text tally.now)) }
     ensures err { OnErr result

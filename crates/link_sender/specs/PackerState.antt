@@ -1,7 +1,8 @@
 -- What a packer keeps from one picture to the next, and what packing a picture does.
 use Rattle.std.specs.Prelude.{◌≡◌, ◌+◌, ◌%◌, ◌^◌, ℕ, None, Result, Ok, Err, length}
 use Rattle.std.specs.Global.{Vec}
-use Rattle.stream_model.specs.Packing.{PackedPicture, end_around, first_large_part, packed_picture, packed_timestamp}
+use Rattle.stream_model.specs.Packing.{PackedPicture, end_around, first_large_part}
+use Rattle.stream_model.specs.Packing.{packed_picture, packed_timestamp}
 use Rattle.link_sender.specs.declared.datagram.Datagram.{Datagram}
 use Rattle.link_sender.specs.declared.packer.Packer.{Packer}
 use Rattle.link_sender.specs.declared.refusal.SendRefusal.{SendRefusal}

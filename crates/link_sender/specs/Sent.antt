@@ -1,8 +1,11 @@
 -- What sending a frame does.
-use Rattle.std.specs.Prelude.{◌≡◌, ◌+◌, ◌-◌, ◌*◌, ◌%◌, ◌^◌, ℕ, All, Bool, List, [], ◌∷◌, ◌++◌, length, map, Option, Some, None, Result, Ok, Err}
+use Rattle.std.specs.Prelude.{◌≡◌, ◌+◌, ◌-◌, ◌*◌, ◌%◌, ◌^◌, ℕ, All, Bool, List, [], ◌∷◌, ◌++◌}
+use Rattle.std.specs.Prelude.{length, map, Option, Some, None, Result, Ok, Err}
 use Rattle.std.specs.Global.{Vec}
 use Rattle.std.specs.List.{AllZip, flat_map}
-use Rattle.link_model.specs.Sending.{Outgoing, HeaderContent, ParametersContent, SlicesContent, frame_datagrams, frame_needs, outgoing, pictures_of, pictures_per_frame, runs_of_slices, timestamp_of}
+use Rattle.link_model.specs.Sending.{Outgoing, HeaderContent, ParametersContent, SlicesContent}
+use Rattle.link_model.specs.Sending.{frame_datagrams, frame_needs, outgoing, pictures_of}
+use Rattle.link_model.specs.Sending.{pictures_per_frame, runs_of_slices, timestamp_of}
 use Rattle.link_model.specs.SendingFaults.{first_slice_fault, send_fault}
 use Rattle.link_model.specs.SendingPictures.{Need, picture_needs, sent_parameters, slice_room}
 use Rattle.link_sender.specs.declared.datagram.Datagram.{Datagram}

@@ -1,5 +1,5 @@
-//! Pictures in RTP datagrams (RFC 8450): frames sent as a sequence header, transform parameters and slices each, and pictures
-//! of an elementary stream packed in their own bytes.
+//! Pictures in RTP datagrams (RFC 8450): frames sent as a sequence header, transform parameters and slices
+//! each, and pictures of an elementary stream packed in their own bytes.
 #![tactic(auto)]
 
 mod datagram;

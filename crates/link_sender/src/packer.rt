@@ -14,8 +14,8 @@ use crate::{Datagram, SendRefusal};
 use std::alloc::Global;
 use vc_types::{NoMemory, PackSettings, Plan};
 
-/// Packs the pictures of an elementary stream: what it keeps from one to the next are how many there were, modulo 2^64,
-/// the extended sequence number of the next datagram, and the timestamp of the last.
+/// Packs the pictures of an elementary stream: what it keeps from one to the next are how many there were,
+/// modulo 2^64, the extended sequence number of the next datagram, and the timestamp of the last.
 #[derive(Drop)]
 pub struct Packer {
     pub(crate) alloc: Global,
@@ -42,10 +42,11 @@ impl Packer {
         }
     }
 
-    /// The datagrams of a picture by its own number: its sequence header, its transform parameters and its slices, whose
-    /// bytes are given as they are coded. The bytes of the slices are exactly the plan's slices. A picture is refused
-    /// whole, at its first part in order of sending that has no room in a datagram; for a sequence header or transform
-    /// parameters the refusal says slice 0. A refusal or want of memory leaves the packer as it was.
+    /// The datagrams of a picture by its own number: its sequence header, its transform parameters and its
+    /// slices, whose bytes are given as they are coded. The bytes of the slices are exactly the plan's
+    /// slices. A picture is refused whole, at its first part in order of sending that has no room in a
+    /// datagram; for a sequence header or transform parameters the refusal says slice 0. A refusal or want
+    /// of memory leaves the packer as it was.
     pub fn send_picture(
         &mut self,
         number: u32,

@@ -1,4 +1,5 @@
-ghost use Rattle.std.specs.Prelude.{◌≡◌, ◌≤◌, ◌<◌, ◌+◌, ◌*◌, [], ◌∷◌, ◌++◌, All, None, OnOk, length, map, ℕ, List};
+ghost use Rattle.std.specs.Prelude.{◌≡◌, ◌≤◌, ◌<◌, ◌+◌, ◌*◌, [], ◌∷◌, ◌++◌, All};
+ghost use Rattle.std.specs.Prelude.{None, OnOk, length, map, ℕ, List};
 ghost use Rattle.link_model.specs.Sending.{SlicesContent, runs_of_slices};
 ghost use Rattle.stream_model.specs.Packing.{AreAllSlices, first_large_slice, slices_in, slices_room};
 ghost use Rattle.link_sender.specs.declared.outbox.Outbox.{Outbox};

@@ -1,8 +1,10 @@
 ghost use Rattle.std.specs.Prelude.{◌≡◌, IfOk, OnErr, OnOk, length};
 ghost use Rattle.link_model.specs.Sending.{datagrams_from};
 ghost use Rattle.link_model.specs.SendingPictures.{IsFrame, packed_bits, sent_header, sent_parameter_bytes};
-ghost use Rattle.link_sender.specs.Packing.{IsPictureAt, IsPlace, Sends, bytes_of_all, packing_of, picture_at};
-ghost use Rattle.link_sender.specs.Sent.{ArePictures, IsPicture, SendsFrame, coded_frame_outgoing, coded_outgoing, numbers_behind};
+ghost use Rattle.link_sender.specs.Packing.{IsPictureAt, IsPlace, Sends};
+ghost use Rattle.link_sender.specs.Packing.{bytes_of_all, packing_of, picture_at};
+ghost use Rattle.link_sender.specs.Sent.{ArePictures, IsPicture, SendsFrame};
+ghost use Rattle.link_sender.specs.Sent.{coded_frame_outgoing, coded_outgoing, numbers_behind};
 ghost use Rattle.link_sender.specs.State.{numbers_of, EndsSequence};
 ghost use Rattle.picture_encode.specs.Choosing.{AnswersAtMost127, AnswersNeed};
 ghost use Rattle.picture_encode.specs.Encoded.{slice_bytes};

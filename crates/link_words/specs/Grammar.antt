@@ -1,12 +1,15 @@
 -- Which words are a command with its options, and where the first bad word is.
-use Rattle.std.specs.Prelude.{ℕ, zero, suc, ◌+◌, ◌-◌, ◌%◌, List, [], Bool, false, ◌&&◌, ◌||◌, not, ◌==◌, nat_lt, Option, Some, None, if◌then◌else◌, length, slice_index_or, take, drop, position, unwrap_or, is_some, codes}
+use Rattle.std.specs.Prelude.{ℕ, zero, suc, ◌+◌, ◌-◌, ◌%◌, List, [], Bool, false, ◌&&◌, ◌||◌, not}
+use Rattle.std.specs.Prelude.{◌==◌, nat_lt, Option, Some, None, if◌then◌else◌, length, slice_index_or}
+use Rattle.std.specs.Prelude.{take, drop, position, unwrap_or, is_some, codes}
 use Rattle.std.specs.Str.{bytes_eq}
 use Rattle.vc_types.specs.declared.video.Sampling.{Sampling}
 use Rattle.vc_types.specs.declared.video.Sampling.TheVariants.{S444, S422, S420}
 use Rattle.link_words.specs.Numbers.{number_within}
 use Rattle.link_words.specs.Options.{option_row, names_of, name_in}
 use Rattle.link_words.specs.declared.options.Values.{Values}
-use Rattle.link_words.specs.declared.options.Values.TheVariants.{Number, Optional, Required, Subsampling, Pair, Address}
+use Rattle.link_words.specs.declared.options.Values.TheVariants.{Number, Optional, Required}
+use Rattle.link_words.specs.declared.options.Values.TheVariants.{Subsampling, Pair, Address}
 use Rattle.link_words.specs.declared.options.Name.{Name}
 use Rattle.link_words.specs.declared.options.Command.{Command}
 

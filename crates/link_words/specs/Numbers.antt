@@ -1,5 +1,6 @@
 -- Numbers in words: 0, or decimal digits without a sign of which the first is not 0.
-use Rattle.std.specs.Prelude.{ℕ, ◌+◌, ◌-◌, ◌*◌, List, Bool, ◌&&◌, ◌||◌, not, ◌==◌, nat_lt, Option, Some, None, if◌then◌else◌, length, slice_index, fold}
+use Rattle.std.specs.Prelude.{ℕ, ◌+◌, ◌-◌, ◌*◌, List, Bool, ◌&&◌, ◌||◌, not, ◌==◌, nat_lt, Option}
+use Rattle.std.specs.Prelude.{Some, None, if◌then◌else◌, length, slice_index, fold}
 use Rattle.std.specs.List.{list_all}
 use Rattle.vc_types.specs.Settings.{within}
 

@@ -1,12 +1,20 @@
 -- The commands and their options: a row for each option, and for each command the list of its rows.
-use Rattle.std.specs.Prelude.{ℕ, ⊤, ◌≤◌, List, [], ◌∷◌, ◌++◌, codes, Option, Some, None, if◌then◌else◌, find, Bool, true, false}
+use Rattle.std.specs.Prelude.{ℕ, ⊤, ◌≤◌, List, [], ◌∷◌, ◌++◌, codes, Option, Some}
+use Rattle.std.specs.Prelude.{None, if◌then◌else◌, find, Bool, true, false}
 use Rattle.std.specs.Str.{bytes_eq}
 use Rattle.link_words.specs.declared.options.Values.{Values}
-use Rattle.link_words.specs.declared.options.Values.TheVariants.{Number, Optional, Required, Pair, Subsampling, Address}
+use Rattle.link_words.specs.declared.options.Values.TheVariants.{Number, Optional, Required, Pair}
+use Rattle.link_words.specs.declared.options.Values.TheVariants.{Subsampling, Address}
 use Rattle.link_words.specs.declared.options.Name.{Name}
-use Rattle.link_words.specs.declared.options.Name.TheVariants.{Width, Height, Sampling, Range, Fields, Top, Wavelet, Depth, Slices, Prefix, Scaler, Size, Index, Fit, Ssrc, Seq, Picture, Tick, Pt, Frames, Seed, Count, Check, Window, Workers, Packets, Sessions, To, At}
+use Rattle.link_words.specs.declared.options.Name.TheVariants.{Width, Height, Sampling, Range, Fields}
+use Rattle.link_words.specs.declared.options.Name.TheVariants.{Top, Wavelet, Depth, Slices, Prefix}
+use Rattle.link_words.specs.declared.options.Name.TheVariants.{Scaler, Size, Index, Fit, Ssrc, Seq}
+use Rattle.link_words.specs.declared.options.Name.TheVariants.{Picture, Tick, Pt, Frames, Seed, Count}
+use Rattle.link_words.specs.declared.options.Name.TheVariants.{Check, Window, Workers, Packets, Sessions}
+use Rattle.link_words.specs.declared.options.Name.TheVariants.{To, At}
 use Rattle.link_words.specs.declared.options.Command.{Command}
-use Rattle.link_words.specs.declared.options.Command.TheVariants.{Decode, Encode, Send, Recv, Loop, Unpack, Pack, Play, Gen}
+use Rattle.link_words.specs.declared.options.Command.TheVariants.{Decode, Encode, Send, Recv, Loop}
+use Rattle.link_words.specs.declared.options.Command.TheVariants.{Unpack, Pack, Play, Gen}
 
 abbrev pub command_of : List ℕ → Option Command
 command_of word =

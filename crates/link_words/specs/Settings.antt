@@ -1,5 +1,6 @@
 -- The settings that words of the grammar mean: what is given, and defaults.
-use Rattle.std.specs.Prelude.{ℕ, ◌+◌, ◌-◌, ◌%◌, List, Bool, ◌&&◌, ◌||◌, not, ◌==◌, nat_lt, Option, Some, None, if◌then◌else◌, length, unwrap_or, ok_or, option_map, Result, Err}
+use Rattle.std.specs.Prelude.{ℕ, ◌+◌, ◌-◌, ◌%◌, List, Bool, ◌&&◌, ◌||◌, not, ◌==◌, nat_lt, Option, Some, None}
+use Rattle.std.specs.Prelude.{if◌then◌else◌, length, unwrap_or, ok_or, option_map, Result, Err}
 use Rattle.std.specs.Str.{bytes_eq}
 use Rattle.std.specs.List.{list_any}
 use Rattle.vc_types.specs.declared.choice.IndexChoice.{IndexChoice}
@@ -16,9 +17,15 @@ use Rattle.link_words.specs.Options.{command_of, option_row, names_of, is_requir
 use Rattle.link_words.specs.declared.options.Values.{Values}
 use Rattle.link_words.specs.declared.options.Values.TheVariants as values
 use Rattle.link_words.specs.declared.options.Name.{Name}
-use Rattle.link_words.specs.declared.options.Name.TheVariants.{Width, Height, Sampling, Range, Fields, Top, Wavelet, Depth, Slices, Prefix, Scaler, Size, Index, Fit, Ssrc, Seq, Picture, Tick, Pt, Frames, Seed, Count, Check, Window, Workers, Packets, Sessions, To, At}
+use Rattle.link_words.specs.declared.options.Name.TheVariants.{Width, Height, Sampling, Range, Fields}
+use Rattle.link_words.specs.declared.options.Name.TheVariants.{Top, Wavelet, Depth, Slices, Prefix}
+use Rattle.link_words.specs.declared.options.Name.TheVariants.{Scaler, Size, Index, Fit, Ssrc, Seq}
+use Rattle.link_words.specs.declared.options.Name.TheVariants.{Picture, Tick, Pt, Frames, Seed, Count}
+use Rattle.link_words.specs.declared.options.Name.TheVariants.{Check, Window, Workers, Packets, Sessions}
+use Rattle.link_words.specs.declared.options.Name.TheVariants.{To, At}
 use Rattle.link_words.specs.declared.options.Command.{Command}
-use Rattle.link_words.specs.declared.options.Command.TheVariants.{Decode, Encode, Send, Recv, Loop, Unpack, Pack, Play, Gen}
+use Rattle.link_words.specs.declared.options.Command.TheVariants.{Decode, Encode, Send, Recv, Loop}
+use Rattle.link_words.specs.declared.options.Command.TheVariants.{Unpack, Pack, Play, Gen}
 
 -- ---- what is given
 

@@ -3,8 +3,10 @@ use Rattle.std.specs.Prelude.{ℕ, ◌≤◌, IsTrue}
 use Rattle.vc_types.specs.SenderSettings.{generating_view, sending_view}
 use Rattle.vc_types.specs.Settings.{within}
 use Rattle.link_words.specs.declared.settings.Settings.{Settings}
-use Rattle.link_words.specs.declared.settings.Settings.TheVariants.{Decode, Encode, Send, Recv, Loop, Unpack, Pack, Play, Gen}
-use Rattle.link_words.specs.Settings.{Meaning, ToDecode, ToEncode, ToSend, ToRecv, ToLoop, ToUnpack, ToPack, ToPlay, ToGen}
+use Rattle.link_words.specs.declared.settings.Settings.TheVariants.{Decode, Encode, Send, Recv, Loop}
+use Rattle.link_words.specs.declared.settings.Settings.TheVariants.{Unpack, Pack, Play, Gen}
+use Rattle.link_words.specs.Settings.{Meaning, ToDecode, ToEncode, ToSend, ToRecv}
+use Rattle.link_words.specs.Settings.{ToLoop, ToUnpack, ToPack, ToPlay, ToGen}
 
 abbrev pub meaning_view : Settings → Meaning
 meaning_view (Decode window workers packets) = ToDecode window workers packets

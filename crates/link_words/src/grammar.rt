@@ -1,6 +1,8 @@
 ghost use Rattle.std.specs.Prelude.{◌≡◌, ◌<◌, ◌≤◌, ◌%◌, ◌-◌, length, nat_lt, is_some, position, IfSome, ◌==◌};
 ghost use Rattle.link_words.specs.Options.{option_row, names_of, name_in};
-ghost use Rattle.link_words.specs.Grammar.{word_at, cross_of, sampling_written, slices_written, accepts, accepts_as, is_choice, excludes, excluded_at, is_given_before, option_at, word_fits, first_bad};
+ghost use Rattle.link_words.specs.Grammar.{word_at, cross_of, sampling_written, slices_written, accepts};
+ghost use Rattle.link_words.specs.Grammar.{accepts_as, is_choice, excludes, excluded_at};
+ghost use Rattle.link_words.specs.Grammar.{is_given_before, option_at, word_fits, first_bad};
 
 use crate::numbers::number_within;
 use crate::options::{Command, Name, Values, name_in, names_of, option_row};

@@ -56,9 +56,9 @@ const EXAMPLES: [&str; 7] = [
     "  vc2link gen --width 1920 --height 1080 --frames 2 --check 1",
 ];
 
-/// The page that a reader asks for by `--help`: each command with its options, each option with the values that it takes,
-/// its default and what it means, and the statuses. Names and values are those of the grammar, by worked rows; no
-/// clause says so.
+/// The page that a reader asks for by `--help`: each command with its options, each option with the values
+/// that it takes, its default and what it means, and the statuses. Names and values are those of the
+/// grammar, by worked rows; no clause says so.
 pub fn help_page(alloc: Global) -> Result<String, NoMemory> {
     let mut page = String::new(alloc);
     push_lines(&mut page, &HEAD)?;

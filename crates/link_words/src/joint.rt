@@ -1,5 +1,6 @@
 ghost use Rattle.std.specs.Prelude.{◌≡◌, ◌≤◌};
-ghost use Rattle.vc_types.specs.Settings.{luma_fits, first_picture_fits, default_across, default_down, can_be_sent};
+ghost use Rattle.vc_types.specs.Settings.{luma_fits, first_picture_fits};
+ghost use Rattle.vc_types.specs.Settings.{default_across, default_down, can_be_sent};
 
 use vc_types::{padded, picture_height, slices_fit};
 

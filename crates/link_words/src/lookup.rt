@@ -1,7 +1,8 @@
 ghost use Rattle.std.specs.Prelude.{◌≡◌, ◌<◌, ◌≤◌, length, IsTrue};
 ghost use Rattle.vc_types.specs.Settings.{choice_fits};
 ghost use Rattle.link_words.specs.Options.{option_row, is_required, HasDefault, IsInRange};
-ghost use Rattle.link_words.specs.Settings.{stands_at, place_of, is_given, value_of, number_meant, given, is_set, choice_of, lacks};
+ghost use Rattle.link_words.specs.Settings.{stands_at, place_of, is_given, value_of};
+ghost use Rattle.link_words.specs.Settings.{number_meant, given, is_set, choice_of, lacks};
 
 use crate::grammar::word_at;
 use crate::numbers::number_within;

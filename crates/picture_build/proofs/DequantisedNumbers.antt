@@ -17,7 +17,7 @@ use Rattle.vc_slice.specs.declared.bands.SliceBands.{SliceBands}
 use Rattle.vc_slice.specs.Bands.{band_count, coefficient_count, coefficients_of_block, quantisers_of, rectangle}
 use Rattle.vc_slice.specs.Numbers.{AreBlockNumbers}
 use Rattle.vc_slice.proofs.NarrowRuns as runs
-use Rattle.picture_build.specs.PartsKept.{Changes, Fills, place_kept}
+use Rattle.picture_build.specs.PartsKept.{ChangesPart, FillsPart, place_kept}
 
 module _ (bands : SliceBands) (c : Component) (numbers : List ℤ) where
   -- coefficient i
@@ -60,7 +60,7 @@ module _ (bands : SliceBands) (c : Component) (block : List ℕ) (numbers old ne
       on i h ∙ ap (λ z. dequantised z (slice_index_or (quantisers_of bands c) i 0)) (read i h)
       ∙ sym (runs.coefficient_of (parameters_of bands.parts.now.plan) c bands.parts.now.slice bands.index block i h)
 
-  pub filled : {E : Type 0} (done : Result (Unit {0}) E) → Changes bands.parts.now c old new → OnOk done Stand → OnOk done (Fills bands.parts.now c (coefficients_of_block bands c block) old new)
+  pub filled : {E : Type 0} (done : Result (Unit {0}) E) → ChangesPart bands.parts.now c old new → OnOk done Stand → OnOk done (FillsPart bands.parts.now c (coefficients_of_block bands c block) old new)
   filled (Ok all) only on = record { only = only; own = placed on }
   filled (Err e) only on = on
 

@@ -1,6 +1,7 @@
 -- A picture whose slices come one after another, in any order: a finite map from a slice's number
 -- to its coefficients.
-use Rattle.std.specs.Prelude.{◌≡◌, ◌≢◌, ◌<◌, ◌≤◌, ◌+◌, ◌*◌, ℕ, length, Bool, true, false, if◌then◌else◌, List, [], map, replicate, slice_index_or, slice_set, ℤ, Option, Some, None}
+use Rattle.std.specs.Prelude.{◌≡◌, ◌≢◌, ◌<◌, ◌≤◌, ◌+◌, ◌*◌, ℕ, length, Bool, true, false, if◌then◌else◌, List}
+use Rattle.std.specs.Prelude.{[], map, replicate, slice_index_or, slice_set, ℤ, Option, Some, None}
 use Rattle.std.specs.List.{range_with_len}
 use Rattle.std.specs.Option.{is_some, unwrap_or}
 use Rattle.vc_types.specs.declared.video.Component.{Component}
@@ -8,7 +9,8 @@ use Rattle.vc_types.specs.declared.video.Component.TheVariants.{Y, C1, C2}
 use Rattle.vc_types.specs.Lifting.{line_of}
 use Rattle.vc_types.specs.SliceCoefficients.{AreSliceCoefficients}
 use Rattle.vc_types.specs.Slices.{Coefficients, coefficients_of}
-use Rattle.vc_types.specs.Subbands.{slice_count, slice_coefficient_count, coefficient_place, padded_width, padded_height}
+use Rattle.vc_types.specs.Subbands.{slice_count, slice_coefficient_count}
+use Rattle.vc_types.specs.Subbands.{coefficient_place, padded_width, padded_height}
 use Rattle.vc_types.specs.TransformParameters.{Parameters}
 use Rattle.picture_build.specs.Cells.{cell_number}
 use Rattle.picture_build.specs.PictureCoefficients.{ArePictureCoefficients}

@@ -15,8 +15,8 @@ AreCells parts c cells =
 abbrev pub place_kept : SliceParts → Component → ℕ → ℕ
 place_kept parts c = kept_at (parameters_of parts.plan) c parts.slice
 
-abbrev pub Changes : SliceParts → Component → List ℤ → List ℤ → Type 0
-Changes parts c = ChangesOnly (parameters_of parts.plan) c parts.slice
+abbrev pub ChangesPart : SliceParts → Component → List ℤ → List ℤ → Type 0
+ChangesPart parts c = ChangesOnly (parameters_of parts.plan) c parts.slice
 
-abbrev pub Fills : SliceParts → Component → List ℤ → List ℤ → List ℤ → Type 0
-Fills parts c = FillsSlice (parameters_of parts.plan) c parts.slice
+abbrev pub FillsPart : SliceParts → Component → List ℤ → List ℤ → List ℤ → Type 0
+FillsPart parts c = FillsSlice (parameters_of parts.plan) c parts.slice

@@ -28,9 +28,9 @@ pub enum NotPut {
     Wide,
 }
 
-/// A picture whose slices come one after another, in any order. It is seen as the transform parameters and a finite map
-/// from a slice's number to its coefficients. It keeps 8 bytes a coefficient, and 4 more for each coefficient of its
-/// largest slice; no slice that comes takes more.
+/// A picture whose slices come one after another, in any order. It is seen as the transform parameters and
+/// a finite map from a slice's number to its coefficients. It keeps 8 bytes a coefficient, and 4 more for
+/// each coefficient of its largest slice; no slice that comes takes more.
 #[derive(Drop)]
 pub struct PictureBuilder {
     alloc: Global,
@@ -114,7 +114,7 @@ impl PictureBuilder {
         index < self.came.len() && self.came[index]
     }
 
-    /// Fills in a slice that didn't come yet. It takes no memory.
+    /// FillsPart in a slice that didn't come yet. It takes no memory.
     pub fn fill(&mut self, index: u32, c: &SliceCoeffs)
         requires in_plan { index < slice_count self.old.parameters }
         requires once { slice_that_came self.old index ≡ None }
@@ -133,8 +133,8 @@ impl PictureBuilder {
         self.came[index as usize] = true;
     }
 
-    /// Decodes a slice that didn't come yet (ST 2042-1, high-quality slice) straight to the places of its coefficients.
-    /// After a refusal the picture is as before.
+    /// Decodes a slice that didn't come yet (ST 2042-1, high-quality slice) straight to the places of its
+    /// coefficients. After a refusal the picture is as before.
     pub fn put(&mut self, index: u32, bytes: &[u8]) -> Result<(), NotPut>
         requires in_plan { index < slice_count self.old.parameters }
         requires once { slice_that_came self.old index ≡ None }

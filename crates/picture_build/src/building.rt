@@ -11,10 +11,10 @@ use std::thread::Threads;
 use vc_slice::SliceCoeffs;
 use vc_types::{NoMemory, Plan, Plane};
 
-/// The planes of Y, C1 and C2 from a picture's slices in raster order (ST 2042-1, picture decoding): the coefficients at
-/// their places, the inverse transform, and the samples clipped and without padding. Each slice has the coefficients that
-/// the plan gives it, with magnitudes below 2^60. It takes the memory of a `PictureBuilder`, and fails only where memory
-/// runs out.
+/// The planes of Y, C1 and C2 from a picture's slices in raster order (ST 2042-1, picture decoding): the
+/// coefficients at their places, the inverse transform, and the samples clipped and without padding. Each
+/// slice has the coefficients that the plan gives it, with magnitudes below 2^60. It takes the memory of a
+/// `PictureBuilder`, and fails only where memory runs out.
 pub fn build(alloc: Global, plan: &Plan, slices: Vec<SliceCoeffs>) -> Result<[Plane; 3], NoMemory>
     requires count { length slices.items ≡ slice_count plan.now }
     requires whole { ArePictureCoefficients (parameters_of plan.now) slices.items }

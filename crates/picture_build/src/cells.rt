@@ -1,8 +1,10 @@
-ghost use Rattle.std.specs.Prelude.{◌≡◌, ◌≢◌, ◌+◌, ◌*◌, ◌^◌, ◌<◌, ◌≤◌, ℕ, ℤ, pos, IfOk, IfSome, length, unsigned_abs};
+ghost use Rattle.std.specs.Prelude.{◌≡◌, ◌≢◌, ◌+◌, ◌*◌, ◌^◌, ◌<◌, ◌≤◌, ℕ, ℤ, pos};
+ghost use Rattle.std.specs.Prelude.{IfOk, IfSome, length, unsigned_abs};
 ghost use Rattle.vc_types.specs.Lifting.{line_of};
 ghost use Rattle.vc_types.specs.Subbands.{area};
 ghost use Rattle.picture_build.specs.Cells.{whole_number};
-ghost use Rattle.picture_build.specs.CellRects.{ChangesRect, ChangesRow, HasRow, LiesIn, cell_in, coefficient_of};
+ghost use Rattle.picture_build.specs.CellRects.{ChangesRect, ChangesRow, HasRow, LiesIn};
+ghost use Rattle.picture_build.specs.CellRects.{cell_in, coefficient_of};
 
 use crate::cell_rect::CellRect;
 use crate::dequantising::{QuantisedNumbers, dequantise_rect};
@@ -77,7 +79,8 @@ impl CoefficientCells {
         }
     }
 
-    /// Puts the coefficients that numbers stand for, from one number on, into a rectangle of cells, row by row.
+    /// Puts the coefficients that numbers stand for, from one number on, into a rectangle of cells, row by
+    /// row.
     pub(crate) fn put_rect(&mut self, to: &CellRect, quantised: QuantisedNumbers<'_>, from: usize)
         requires cells { LiesIn to.now self.old }
         requires from { from + area to.now.rect ≤ length quantised.numbers.now }

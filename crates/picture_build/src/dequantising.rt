@@ -69,7 +69,8 @@ fn put_row(cells: &mut [i32], at: usize, quantised: QuantisedNumbers<'_>, from: 
     requires from { from + width ≤ length quantised.numbers.now }
     requires small { (x : ℕ) → x < width
         → unsigned_abs (line_of quantised.numbers.now (from + x)) ≤ quantised.quantiser.now.greatest }
-    ensures on { (x : ℕ) → x < width → line_of cells.new (at + x) ≡ coefficient_of quantised.entry (from + x) }
+    ensures on { (x : ℕ) → x < width
+        → line_of cells.new (at + x) ≡ coefficient_of quantised.entry (from + x) }
     ensures off { ChangesRow width at cells.old cells.new }
     ensures length { length cells.new ≡ length cells.old }
 {

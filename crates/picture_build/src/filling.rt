@@ -1,4 +1,5 @@
-ghost use Rattle.std.specs.Prelude.{◌≡◌, ◌≢◌, ◌+◌, ◌*◌, ◌^◌, ◌<◌, ◌≤◌, ℕ, length, true, false, slice_index_or, unsigned_abs, Some, Ok, OnOk};
+ghost use Rattle.std.specs.Prelude.{◌≡◌, ◌≢◌, ◌+◌, ◌*◌, ◌^◌, ◌<◌, ◌≤◌, ℕ, length, true, false};
+ghost use Rattle.std.specs.Prelude.{slice_index_or, unsigned_abs, Some, Ok, OnOk};
 ghost use Rattle.std.specs.List.{list_any};
 ghost use Rattle.vc_types.specs.declared.video.Component.{Component};
 ghost use Rattle.vc_types.specs.declared.video.Component.TheVariants.{Y, C1, C2};
@@ -12,8 +13,9 @@ ghost use Rattle.vc_slice.specs.Coded.{coded_of};
 ghost use Rattle.vc_slice.specs.Numbers.{AreUpTo};
 ghost use Rattle.picture_build.specs.CellRects.{ChangesRect, LiesIn, cell_in};
 ghost use Rattle.picture_build.specs.Kept.{ChangesOnly, FillsSlice};
-ghost use Rattle.picture_build.specs.PartsKept.{place_kept, AreCells, Changes, Fills};
-ghost use Rattle.vc_types.specs.OfPlan.{AreSliceCoefficients, all_coefficients, padded_height, padded_width, slice_coefficient_count, slice_coefficients, slice_count};
+ghost use Rattle.picture_build.specs.PartsKept.{place_kept, AreCells, ChangesPart, FillsPart};
+ghost use Rattle.vc_types.specs.OfPlan.{AreSliceCoefficients, all_coefficients, padded_height, padded_width};
+ghost use Rattle.vc_types.specs.OfPlan.{slice_coefficient_count, slice_coefficients, slice_count};
 
 use crate::cell_rect::CellRect;
 use crate::cells::CoefficientCells;
@@ -65,7 +67,7 @@ fn fill_component(
     requires whole { AreSliceCoefficients parts.now.plan parts.now.slice coeffs.now }
     requires room { coefficient_count parts.now c ≤ length numbers.old }
     requires cells { AreCells parts.now c cells.old }
-    ensures cells { Fills parts.now c (coefficients_of coeffs.now c) cells.old cells.new }
+    ensures cells { FillsPart parts.now c (coefficients_of coeffs.now c) cells.old cells.new }
 {
     match coeffs.component(c) {
         CoefficientList::Narrow(coeffs) => place_numbers(parts, c, coeffs, cells),
@@ -85,7 +87,7 @@ fn fill_wide(
     requires small { list_any is_large coeffs.now ≡ false }
     requires room { coefficient_count parts.now c ≤ length numbers.old }
     requires cells { AreCells parts.now c cells.old }
-    ensures { Fills parts.now c coeffs.now cells.old cells.new }
+    ensures { FillsPart parts.now c coeffs.now cells.old cells.new }
 {
     if narrowed(coeffs, numbers) {
         place_numbers(parts, c, numbers, cells);
@@ -108,8 +110,8 @@ pub(crate) fn parts_of<'a>(plan: &Plan, bytes: &'a [u8]) -> CodedSlice<'a>
     coded
 }
 
-/// Reads the blocks of a slice to their coefficients' places in the cells of the three components. Where a coefficient
-/// may be too wide, only cells of this slice were changed.
+/// Reads the blocks of a slice to their coefficients' places in the cells of the three components. Where a
+/// coefficient may be too wide, only cells of this slice were changed.
 pub(crate) fn put_blocks(
     plan: &Plan,
     slice: u32,
@@ -159,8 +161,8 @@ fn put_block(
 ) -> Result<(), TooWide>
     requires room { coefficient_count bands.now.parts.now c + 8 ≤ length numbers.old }
     requires cells { AreCells bands.now.parts.now c cells.old }
-    ensures only { Changes bands.now.parts.now c cells.old cells.new }
-    ensures filled { OnOk result (Fills bands.now.parts.now c
+    ensures only { ChangesPart bands.now.parts.now c cells.old cells.new }
+    ensures filled { OnOk result (FillsPart bands.now.parts.now c
         (coefficients_of_block bands.now c block.now) cells.old cells.new) }
     ensures sound { OnOk result
         (list_any is_large (coefficients_of_block bands.now c block.now) ≡ false) }
@@ -169,8 +171,8 @@ fn put_block(
     dequantise_numbers(bands, c, numbers, greatest, cells)
 }
 
-// Puts the coefficients that a block's numbers stand for at their places. Where one may be too wide, only cells of this
-// slice were changed.
+// Puts the coefficients that a block's numbers stand for at their places. Where one may be too wide, only
+// cells of this slice were changed.
 fn dequantise_numbers(
     bands: &SliceBands,
     c: Component,

@@ -24,8 +24,8 @@ pub(crate) struct PictureCells<'a> {
     pub(crate) c2: &'a CoefficientCells,
 }
 
-/// How the three components of a picture are transformed. Luma and colour have lists to work in, which are made where
-/// they haven't the length of a component.
+/// How the three components of a picture are transformed. Luma and colour have lists to work in, which are
+/// made where they haven't the length of a component.
 pub(crate) trait Transform {
     /// The planes of a picture.
     fn planes(

@@ -1,4 +1,5 @@
-//! A picture's planes from the coefficients of its slices (ST 2042-1, picture decoding), and what shapes they have.
+//! A picture's planes from the coefficients of its slices (ST 2042-1, picture decoding), and what shapes
+//! they have.
 #![tactic(auto)]
 
 mod builder;

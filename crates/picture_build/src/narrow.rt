@@ -14,8 +14,8 @@ use vc_geometry::padded;
 use vc_types::{Component, NoMemory, Plan, Plane};
 use vc_wave::{Format, inverse_output, turn_rows};
 
-/// The plane of a component, made in 32 bits; none where these may not be enough on the way. The list is room to work in: one
-/// of another length is replaced.
+/// The plane of a component, made in 32 bits; none where these may not be enough on the way. The list is
+/// room to work in: one of another length is replaced.
 pub(crate) fn narrow_plane(
     alloc: Global,
     plan: &Plan,
@@ -50,8 +50,8 @@ pub(crate) fn narrow_plane(
     }
 }
 
-// Fills a plane with the samples of a component, and answers whether 32 bits were enough. The cells and the line are room to
-// work in.
+// FillsPart a plane with the samples of a component, and answers whether 32 bits were enough. The cells and the
+// line are room to work in.
 fn put_samples(
     plan: &Plan,
     c: Component,

@@ -10,8 +10,8 @@ ghost use Rattle.vc_types.specs.OfPlan.{padded_height, padded_width};
 use std::alloc::Global;
 use vc_types::{Component, Grid, NoMemory, Plan, Plane};
 
-/// A component's plane from its padded grid (ST 2042-1, picture output): the padding is cut off, and each number is clipped
-/// and half of the samples' range added.
+/// A component's plane from its padded grid (ST 2042-1, picture output): the padding is cut off, and each
+/// number is clipped and half of the samples' range added.
 pub(crate) fn output(
     alloc: Global,
     plan: &Plan,
@@ -30,7 +30,7 @@ pub(crate) fn output(
     Ok(Plane::new(width, height, samples))
 }
 
-// Fills the rows of samples from a grid that has at least as many columns and rows.
+// FillsPart the rows of samples from a grid that has at least as many columns and rows.
 fn output_rows(samples: &mut [u16], columns: usize, rows: usize, grid: &Grid, depth: u8)
     requires depth { (1 ≤ depth) × (depth ≤ 16) }
     requires columns { columns ≤ grid.now.width }
@@ -64,7 +64,8 @@ fn output_row(samples: &mut [u16], at: usize, cells: &[i128], from: usize, width
     }
 }
 
-// The sample of so many bits: a number clipped to half of their range on either side of 0, and that half added.
+// The sample of so many bits: a number clipped to half of their range on either side of 0, and that half
+// added.
 #[inline(always)]
 fn sample(cell: i128, depth: u8) -> u16
     requires { (1 ≤ depth) × (depth ≤ 16) }

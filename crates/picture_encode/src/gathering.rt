@@ -1,7 +1,9 @@
-ghost use Rattle.std.specs.Prelude.{◌≡◌, ◌++◌, ◌+◌, ◌*◌, ◌^◌, ◌<◌, ◌≤◌, ℕ, All, OnOk, IfOk, length, unsigned_abs};
+ghost use Rattle.std.specs.Prelude.{◌≡◌, ◌++◌, ◌+◌, ◌*◌, ◌^◌, ◌<◌, ◌≤◌, ℕ, All};
+ghost use Rattle.std.specs.Prelude.{OnOk, IfOk, length, unsigned_abs};
 ghost use Rattle.picture_encode.specs.Copies.{HasCopy, HasRows, KeepsOthers};
 ghost use Rattle.picture_encode.specs.Grids.{cells_of, rectangle_numbers};
-ghost use Rattle.picture_encode.specs.PartsInGrids.{AreGrids, IsGrid, IsNarrowGrid, IsWideGrid, narrow_numbers, numbers_in, slice_in_grids};
+ghost use Rattle.picture_encode.specs.PartsInGrids.{AreGrids, IsGrid, IsNarrowGrid, IsWideGrid};
+ghost use Rattle.picture_encode.specs.PartsInGrids.{narrow_numbers, numbers_in, slice_in_grids};
 ghost use Rattle.vc_slice.specs.Bands.{AreCoefficients, coefficient_count};
 ghost use Rattle.vc_types.specs.declared.video.Component.TheVariants.{Y, C1, C2};
 ghost use Rattle.vc_types.specs.Rasters.{cell_at};

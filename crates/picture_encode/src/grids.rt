@@ -1,8 +1,8 @@
 use std::alloc::Global;
 use vc_types::Grid;
 
-/// The coefficients of a component: in 32 bits, with the rows of the nested subbands taken in turn, or in a grid of nested
-/// subbands, however wide they are.
+/// The coefficients of a component: in 32 bits, with the rows of the nested subbands taken in turn, or in a
+/// grid of nested subbands, however wide they are.
 #[derive(Drop)]
 pub(crate) enum ComponentGrid {
     Narrow(Vec<i32>),

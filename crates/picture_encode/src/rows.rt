@@ -26,8 +26,8 @@ pub(crate) struct SteppedRect<'a> {
         → (rows.first + row * rows.step) * stride + stride ≤ length cells.now },
 }
 
-/// The rows of cells that hold the rows of subband number `b` from one of them on, in nested subbands that have no levels
-/// across alone.
+/// The rows of cells that hold the rows of subband number `b` from one of them on, in nested subbands that
+/// have no levels across alone.
 #[inline(always)]
 pub(crate) fn rows_from(nesting: Nesting, b: u32, y: usize) -> SteppedRows
     requires levels { nesting.levels ≤ 5 }

@@ -1,7 +1,8 @@
 ghost use Rattle.std.specs.Prelude.{◌≡◌, ◌<◌, ◌≤◌, [], ◌∷◌, ◌++◌, IfOk, IfErr, OnOk};
 ghost use Rattle.link_model.specs.SendingPictures.{packed_bits, need_of, sent_parameters, told_lengths};
 ghost use Rattle.picture_encode.specs.Choosing.{AnswersAtMost127, AnswersNeed};
-ghost use Rattle.picture_encode.specs.Encoded.{IsEncodedAt, RefusesAt, IsEncoded, IsRefusedSlice, AreFirstSlices, IsRefusedPicture};
+ghost use Rattle.picture_encode.specs.Encoded.{IsEncodedAt, RefusesAt, IsEncoded, IsRefusedSlice};
+ghost use Rattle.picture_encode.specs.Encoded.{AreFirstSlices, IsRefusedPicture};
 ghost use Rattle.picture_encode.specs.Grids.{HaveCoefficients};
 ghost use Rattle.picture_encode.specs.PartsInGrids.{AreGrids, AreOf};
 ghost use Rattle.picture_encode.specs.Refusals.{refusal_of};

@@ -14,7 +14,8 @@ use std::{env, io};
 use vc_ports::{NoGate, Sink, Source, StdSink, StdSource};
 use vc_types::Words;
 
-// The words behind the program's name, or the status without them. Words that aren't text are outside the grammar.
+// The words behind the program's name, or the status without them. Words that aren't text are outside the
+// grammar.
 fn words_of(rt: &HostRuntime) -> Result<Words, u8> {
     let args = match env::args(rt) {
         Ok(args) => args,

@@ -30,11 +30,11 @@ pub fn read_header(bytes: &[u8]) -> Result<(Header, usize), HeaderRefusal>
     read_header_of(HIGH_QUALITY_PROFILE, bytes)
 }
 
-/// The sequence header at the front of the bytes (ST 2042-1, sequence header), and how many bytes it takes. Its
-/// profile has to be the one that is given: 0 for low delay, 3 for high quality. Its major version is 2 or 3,
-/// and with low delay it may also be 1. The fields are read in order, and the first that is missing or out of
-/// range decides the refusal; the dimensions are tested last. Frame rate, pixel aspect ratio, clean area and
-/// colour specification are read and not kept.
+/// The sequence header at the front of the bytes (ST 2042-1, sequence header), and how many bytes it takes.
+/// Its profile has to be the one that is given: 0 for low delay, 3 for high quality. Its major version is 2
+/// or 3, and with low delay it may also be 1. The fields are read in order, and the first that is missing
+/// or out of range decides the refusal; the dimensions are tested last. Frame rate, pixel aspect ratio,
+/// clean area and colour specification are read and not kept.
 pub fn read_header_of(profile: u8, bytes: &[u8]) -> Result<(Header, usize), HeaderRefusal>
     // What is read is spelled so.
     ensures found { IfOk result

@@ -1,5 +1,6 @@
 -- How the codes of numbers get shorter as the quantisation index rises.
-use Rattle.std.specs.Prelude.{ℕ, zero, suc, ◌+◌, ◌^◌, nat_le, if◌then◌else◌, max, ◌-◌, ℤ, length, List, [], ◌∷◌}
+use Rattle.std.specs.Prelude.{ℕ, zero, suc, ◌+◌, ◌^◌, nat_le, if◌then◌else◌}
+use Rattle.std.specs.Prelude.{max, ◌-◌, ℤ, length, List, [], ◌∷◌}
 use Rattle.vc_slice.specs.Inside.{codes_behind}
 
 -- the sum of the entries from a place on

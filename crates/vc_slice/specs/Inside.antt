@@ -1,5 +1,7 @@
 -- Reading and writing a block, coefficient after coefficient.
-use Rattle.std.specs.Prelude.{◌≡◌, Option, Some, None, false, ℕ, ◌+◌, ◌-◌, ◌*◌, ◌/◌, ℤ, unsigned_abs, Bool, true, ◌==◌, if◌then◌else◌, List, [], ◌∷◌, ◌++◌, length, map, replicate}
+use Rattle.std.specs.Prelude.{◌≡◌, Option, Some, None, false, ℕ, ◌+◌, ◌-◌, ◌*◌, ◌/◌, ℤ}
+use Rattle.std.specs.Prelude.{unsigned_abs, Bool, true, ◌==◌, if◌then◌else◌, List, []}
+use Rattle.std.specs.Prelude.{◌∷◌, ◌++◌, length, map, replicate}
 use Rattle.vc_bits.specs.Bits.{to_edge}
 use Rattle.vc_types.specs.Bits.{byte_bits, bits_of}
 use Rattle.vc_types.specs.Bounded.{bounded_sint}

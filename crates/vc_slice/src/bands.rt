@@ -108,7 +108,10 @@ impl<'a> SliceBands<'a> {
         ensures { result.index
             ≡ self.now.index - slice_index_or self.now.parts.now.plan.matrix b 0 }
     {
-        Quantiser::new(self.index.saturating_sub(self.parts.plan.matrix[b as usize]))
+        Quantiser::new(
+            self.index
+                .saturating_sub(self.parts.plan.matrix[b as usize]),
+        )
     }
 }
 

@@ -1,4 +1,5 @@
-ghost use Rattle.std.specs.Prelude.{◌≡◌, ◌*◌, ◌↔◌, MatchOption, None, Some, Ok, Err, IfOk, IfSome, IsErr, length, ◌≤◌};
+ghost use Rattle.std.specs.Prelude.{◌≡◌, ◌*◌, ◌↔◌, MatchOption, None, Some, Ok, Err};
+ghost use Rattle.std.specs.Prelude.{IfOk, IfSome, IsErr, length, ◌≤◌};
 ghost use Rattle.vc_types.specs.Slices.{block, coded_slice, slice_length};
 ghost use Rattle.vc_slice.specs.Coded.{coded_of};
 

@@ -112,8 +112,8 @@ impl CoefficientBlock {
     }
 }
 
-/// The coefficients of a slice: of each component the subbands in order, LL first, and in each the slice's rectangle row
-/// by row. Contracts see three lists.
+/// The coefficients of a slice: of each component the subbands in order, LL first, and in each the slice's
+/// rectangle row by row. Contracts see three lists.
 #[derive(Drop)]
 pub struct SliceCoeffs {
     block: CoefficientBlock,
@@ -135,8 +135,8 @@ impl Model for SliceCoeffs {
 }
 
 impl SliceCoeffs {
-    /// So many coefficients of each component, each in the slice's order, one component behind the other. There may be
-    /// more numbers behind them.
+    /// So many coefficients of each component, each in the slice's order, one component behind the other.
+    /// There may be more numbers behind them.
     pub fn narrow(numbers: Vec<i32>, y: usize, c1: usize, c2: usize) -> SliceCoeffs
         requires { y + c1 + c2 ≤ length numbers.items }
         ensures { result ≡ three_parts y c1 c2 numbers.items }

@@ -1,4 +1,5 @@
-ghost use Rattle.std.specs.Prelude.{◌≡◌, ◌++◌, ◌∷◌, ◌+◌, ◌*◌, ◌^◌, ◌<◌, ◌≤◌, ℤ, List, unsigned_abs, length, false};
+ghost use Rattle.std.specs.Prelude.{◌≡◌, ◌++◌, ◌∷◌, ◌+◌, ◌*◌, ◌^◌, ◌<◌, ◌≤◌, ℤ};
+ghost use Rattle.std.specs.Prelude.{List, unsigned_abs, length, false};
 ghost use Rattle.std.specs.List.{list_any};
 ghost use Rattle.vc_types.specs.Codes.{sint_bits};
 ghost use Rattle.vc_types.specs.Slices.{is_large};
@@ -12,7 +13,8 @@ use vc_geometry::bands as band_count;
 use vc_quant::Quantiser;
 use vc_types::Component;
 
-// The codes of a block's numbers, counted: the bits up to the last number that isn't 0, and the zeros behind it.
+// The codes of a block's numbers, counted: the bits up to the last number that isn't 0, and the zeros
+// behind it.
 #[derive(Clone, Copy)]
 struct Counted {
     bits: u64,

@@ -16,8 +16,8 @@ use crate::wide_slice::wide_coefficients;
 use std::alloc::Global;
 use vc_types::{NoMemory, Plan, Unsound};
 
-/// Decodes a slice (ST 2042-1, high-quality slice): its coefficients; IndexRange where its quantisation index is above
-/// 127, and else CoefficientRange where a coefficient has a magnitude of 2^60 or more.
+/// Decodes a slice (ST 2042-1, high-quality slice): its coefficients; IndexRange where its quantisation
+/// index is above 127, and else CoefficientRange where a coefficient has a magnitude of 2^60 or more.
 pub fn decode(alloc: Global, job: SliceJob) -> Result<SliceDone, NoMemory>
     ensures job { IfOk result (λ done. done.job ≡ job) }
 {

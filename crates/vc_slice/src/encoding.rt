@@ -5,7 +5,8 @@ ghost use Rattle.vc_types.specs.Bits.{bits_of};
 ghost use Rattle.vc_types.specs.Encoding.{block_units};
 ghost use Rattle.vc_slice.specs.Bands.{AreCoefficients};
 ghost use Rattle.vc_slice.specs.OfPlan.{IsRefusal};
-ghost use Rattle.vc_types.specs.OfPlan.{AreSliceCoefficients, component_bits, encoded_length, encoded_slice, is_too_long, slice_count};
+ghost use Rattle.vc_types.specs.OfPlan.{AreSliceCoefficients, component_bits, encoded_length};
+ghost use Rattle.vc_types.specs.OfPlan.{encoded_slice, is_too_long, slice_count};
 
 use crate::bands::{SliceBands, SliceParts};
 use crate::blocks::{are_too_long, blocks_of, joined};
@@ -23,8 +24,8 @@ pub enum EncodeRefusal {
     NoMemory,
 }
 
-/// How many bytes a slice has, prefix bytes included, that is encoded at the quantisation index `q` from 0 to 127 (this
-/// project's own encoder): also where a block is longer than 255 times the slice size scaler.
+/// How many bytes a slice has, prefix bytes included, that is encoded at the quantisation index `q` from 0
+/// to 127 (this project's own encoder): also where a block is longer than 255 times the slice size scaler.
 pub fn encoded_len(plan: &Plan, index: u32, coeffs: &SliceCoeffs, q: u8) -> u64
     requires slice { index < slice_count plan.now }
     requires coefficients { AreSliceCoefficients plan.now index coeffs.now }
@@ -34,8 +35,8 @@ pub fn encoded_len(plan: &Plan, index: u32, coeffs: &SliceCoeffs, q: u8) -> u64
     slice_len(plan, block_lens(plan, index, coeffs, q))
 }
 
-/// How many bytes a slice has, prefix bytes included, at each of the quantisation indices from 0 to 127: the same as
-/// `encoded_len` says of each, found at once.
+/// How many bytes a slice has, prefix bytes included, at each of the quantisation indices from 0 to 127:
+/// the same as `encoded_len` says of each, found at once.
 pub fn encoded_lens(
     alloc: Global,
     plan: &Plan,
@@ -72,9 +73,9 @@ fn lens_of(alloc: Global, parts: &SliceParts, coeffs: &SliceCoeffs) -> Result<Ve
     Ok(lens)
 }
 
-/// Encodes a slice (ST 2042-1, high-quality slice) at the quantisation index `q` from 0 to 127, in this project's own
-/// way: prefix bytes of 0, and each block as short as its codes allow. TooLong exactly where a block is longer than 255
-/// times the slice size scaler.
+/// Encodes a slice (ST 2042-1, high-quality slice) at the quantisation index `q` from 0 to 127, in this
+/// project's own way: prefix bytes of 0, and each block as short as its codes allow. TooLong exactly where
+/// a block is longer than 255 times the slice size scaler.
 pub fn encode(
     alloc: Global,
     plan: &Plan,

@@ -1,4 +1,5 @@
-ghost use Rattle.std.specs.Prelude.{◌≡◌, ◌++◌, ◌+◌, ◌-◌, ◌*◌, ◌/◌, ◌^◌, ◌<◌, ◌≤◌, ◌↔◌, ℕ, ℤ, List, false, length, slice_index_or};
+ghost use Rattle.std.specs.Prelude.{◌≡◌, ◌++◌, ◌+◌, ◌-◌, ◌*◌, ◌/◌, ◌^◌, ◌<◌, ◌≤◌, ◌↔◌, ℕ};
+ghost use Rattle.std.specs.Prelude.{ℤ, List, false, length, slice_index_or};
 ghost use Rattle.std.specs.List.{list_any};
 ghost use Rattle.vc_types.specs.Quantisation.{quant_factor};
 ghost use Rattle.vc_types.specs.Slices.{is_large};
@@ -13,9 +14,9 @@ use vc_geometry::bands as band_count;
 use vc_quant::last_index_with;
 use vc_types::Component;
 
-// How the codes of a block's numbers get shorter as the slice's index rises. Each code has one bit at every index, and
-// further ones up to some index: how many of those end at each index, and how many numbers there are up to the last that
-// turns 0 behind it.
+// How the codes of a block's numbers get shorter as the slice's index rises. Each code has one bit at every
+// index, and further ones up to some index: how many of those end at each index, and how many numbers there
+// are up to the last that turns 0 behind it.
 #[derive(Drop)]
 pub(crate) struct Falls {
     count: u64,
@@ -83,7 +84,8 @@ impl Falls {
     }
 }
 
-// How many bits the codes of a component's numbers have at each index of the slice, up to the last that isn't 0.
+// How many bits the codes of a component's numbers have at each index of the slice, up to the last that
+// isn't 0.
 pub(crate) fn all_lens(parts: &SliceParts, c: Component, coeffs: &SliceCoeffs) -> [u64; 128]
     requires coefficients { AreCoefficients parts.now coeffs.now }
     ensures value { (q : ℕ) → q ≤ 127 → slice_index_or result q 0

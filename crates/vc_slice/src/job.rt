@@ -5,8 +5,8 @@ ghost use Rattle.vc_types.specs.OfPlan.{slice_count};
 use bytes::Bytes;
 use vc_types::{NoMemory, Plan};
 
-/// A slice that is to be decoded: the plan and the number of its picture, its own number there, and its bytes, prefix
-/// bytes included. The bytes are one whole slice, and the plan has a slice of that number.
+/// A slice that is to be decoded: the plan and the number of its picture, its own number there, and its
+/// bytes, prefix bytes included. The bytes are one whole slice, and the plan has a slice of that number.
 #[derive(Drop)]
 pub struct SliceJob {
     pub plan: Plan,

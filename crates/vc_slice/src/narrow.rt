@@ -1,4 +1,5 @@
-ghost use Rattle.std.specs.Prelude.{◌≡◌, ◌+◌, ◌^◌, ◌<◌, ◌≤◌, ◌⊎◌, ℕ, All, IfOk, OnOk, length, slice_index_or, unsigned_abs, true, false};
+ghost use Rattle.std.specs.Prelude.{◌≡◌, ◌+◌, ◌^◌, ◌<◌, ◌≤◌, ◌⊎◌, ℕ, All, IfOk, OnOk, length};
+ghost use Rattle.std.specs.Prelude.{slice_index_or, unsigned_abs, true, false};
 ghost use Rattle.std.specs.List.{list_any};
 ghost use Rattle.vc_types.specs.Lifting.{line_of};
 ghost use Rattle.vc_types.specs.Quantisation.{dequantised};
@@ -20,9 +21,9 @@ const LARGE_INDEX: u8 = 80;
 #[derive(Clone, Copy, Debug, PartialEq, Eq)]
 pub struct TooWide;
 
-/// Reads the coefficients of a component's block (ST 2042-1, high-quality slice) to the front of `out`, which has room
-/// for eight more. What is behind them isn't said. TooWide says nothing of the block but that it is to be read in 64
-/// bits.
+/// Reads the coefficients of a component's block (ST 2042-1, high-quality slice) to the front of `out`,
+/// which has room for eight more. What is behind them isn't said. TooWide says nothing of the block but
+/// that it is to be read in 64 bits.
 pub(crate) fn read_narrow(
     bands: &SliceBands,
     c: Component,
@@ -43,8 +44,9 @@ pub(crate) fn read_narrow(
     }
 }
 
-/// Reads the numbers that a component's block has for its coefficients (ST 2042-1, high-quality slice) to the front of
-/// `out`, which has room for eight more: a bound of their magnitudes. TooWide where one of them doesn't fit 32 bits.
+/// Reads the numbers that a component's block has for its coefficients (ST 2042-1, high-quality slice) to
+/// the front of `out`, which has room for eight more: a bound of their magnitudes. TooWide where one of
+/// them doesn't fit 32 bits.
 pub fn read_numbers(
     bands: &SliceBands,
     c: Component,
@@ -79,8 +81,8 @@ pub(crate) fn greatest(numbers: &[i32]) -> u32
     seen
 }
 
-// Puts in the place of a block's numbers, whose magnitudes are at most the greatest, the coefficients that they stand
-// for; false where one may not fit 32 bits.
+// Puts in the place of a block's numbers, whose magnitudes are at most the greatest, the coefficients that
+// they stand for; false where one may not fit 32 bits.
 fn dequantise(bands: &SliceBands, c: Component, greatest: u32, numbers: &mut [i32]) -> bool
     requires count { coefficient_count bands.now.parts.now c ≤ length numbers.old }
     requires greatest { (i : ℕ) → i < coefficient_count bands.now.parts.now c

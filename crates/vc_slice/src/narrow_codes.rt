@@ -1,4 +1,5 @@
-ghost use Rattle.std.specs.Prelude.{◌≡◌, ◌+◌, ◌<◌, ◌≤◌, ◌⊎◌, ℕ, IfOk, length, slice_index_or, take, unsigned_abs};
+ghost use Rattle.std.specs.Prelude.{◌≡◌, ◌+◌, ◌<◌, ◌≤◌, ◌⊎◌, ℕ, IfOk, length};
+ghost use Rattle.std.specs.Prelude.{slice_index_or, take, unsigned_abs};
 ghost use Rattle.vc_types.specs.Bits.{bits_of};
 ghost use Rattle.vc_types.specs.Encoding.{without_last_zeros};
 ghost use Rattle.vc_types.specs.Lifting.{line_of};
@@ -14,7 +15,8 @@ use vc_golomb::sint_codes;
 use vc_quant::Quantiser;
 use vc_types::{Component, NoMemory};
 
-/// The codes of the numbers of a component's coefficients, up to the last that isn't 0, and ones up to whole bytes.
+/// The codes of the numbers of a component's coefficients, up to the last that isn't 0, and ones up to
+/// whole bytes.
 pub(crate) fn narrow_codes(
     alloc: Global,
     bands: &SliceBands,

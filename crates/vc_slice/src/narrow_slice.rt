@@ -33,7 +33,8 @@ pub(crate) fn narrow_coefficients(
     }
 }
 
-// Reads the three blocks of a slice one behind the other, where Y has so many coefficients and each colour so many.
+// Reads the three blocks of a slice one behind the other, where Y has so many coefficients and each colour
+// so many.
 fn read_blocks(
     bands: &SliceBands,
     coded: &CodedSlice<'_>,

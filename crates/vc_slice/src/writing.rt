@@ -1,4 +1,5 @@
-ghost use Rattle.std.specs.Prelude.{◌≡◌, ◌++◌, ◌∷◌, ◌+◌, ◌^◌, ◌<◌, ◌≤◌, ℤ, List, unsigned_abs, length, false, OnOk, IfOk};
+ghost use Rattle.std.specs.Prelude.{◌≡◌, ◌++◌, ◌∷◌, ◌+◌, ◌^◌, ◌<◌, ◌≤◌, ℤ, List};
+ghost use Rattle.std.specs.Prelude.{unsigned_abs, length, false, OnOk, IfOk};
 ghost use Rattle.std.specs.List.{list_any};
 ghost use Rattle.vc_types.specs.Bits.{bits_of};
 ghost use Rattle.vc_types.specs.Slices.{is_large};
@@ -59,8 +60,8 @@ fn write_codes(
     Ok(())
 }
 
-// Adds the codes of the next numbers of a block, where so many zeros came just before. The zeros at the end wait for a
-// number that isn't 0: how many they are then.
+// Adds the codes of the next numbers of a block, where so many zeros came just before. The zeros at the end
+// wait for a number that isn't 0: how many they are then.
 fn write_subband(
     w: &mut BitWriter,
     zeros: u64,

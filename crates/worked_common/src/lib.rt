@@ -1,4 +1,5 @@
-//! What worked rows and tests share: bytes as pairs of digits, entries of a capture; jobs, places, a gate and payloads.
+//! What worked rows and tests share: bytes as pairs of digits, entries of a capture; jobs, places, a gate
+//! and payloads.
 #![tactic(auto)]
 
 mod at_once;

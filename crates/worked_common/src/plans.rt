@@ -31,7 +31,8 @@ macro_rules! plan {
 /// A picture of 2 by 2 samples, 4:4:4, 8 bits, by wavelet 3 at depth 1 with its default matrix, in one slice.
 pub const ONE_SLICE: Plan = plan!(2, 2, 1, MATRIX);
 
-/// A picture of 8 by 4 samples, 4:4:4, 8 bits, by wavelet 3 at depth 1 with its default matrix, in two slices side by side.
+/// A picture of 8 by 4 samples, 4:4:4, 8 bits, by wavelet 3 at depth 1 with its default matrix, in two
+/// slices side by side.
 pub const TWO_SLICES: Plan = plan!(8, 4, 2, MATRIX);
 
 /// The same of 6 by 2 samples in three slices side by side.

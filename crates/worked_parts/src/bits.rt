@@ -158,7 +158,8 @@ fn write_bits(w: &mut BitWriter, number: u32, count: u32) -> Result<(), Bad> {
     Ok(())
 }
 
-// A bit as 1, a number of so many bits as 22/5, a bit so many times as 1*9, and how the last byte is filled, as fill:1.
+// A bit as 1, a number of so many bits as 22/5, a bit so many times as 1*9, and how the last byte is
+// filled, as fill:1.
 fn write_word(w: &mut BitWriter, word: &str) -> Result<(), Bad> {
     if let Some((number, count)) = word.split_once('/') {
         return write_bits(w, natural(number)?, natural(count)?);

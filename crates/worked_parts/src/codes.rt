@@ -109,8 +109,8 @@ fn read_all(alloc: Global, r: &mut BitReader, most: u32) -> Result<String, Bad> 
     Err(Bad::NoRow)
 }
 
-/// The numbers up to a greatest one that are read of bytes by their unsigned codes, why the next one isn't, and after how
-/// many bits.
+/// The numbers up to a greatest one that are read of bytes by their unsigned codes, why the next one isn't,
+/// and after how many bits.
 pub(crate) fn read_unsigned(alloc: Global, parts: &[Part], given: &str) -> Result<String, Bad> {
     let (most, bytes) = parted(given)?;
     let most = natural(most)?;

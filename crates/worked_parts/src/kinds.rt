@@ -6,8 +6,8 @@ use crate::{
 use std::alloc::Global;
 use worked_common::{Bad, Part};
 
-/// What a call came to, as text, with one space after each word: the kind of a row says which call, and what it is
-/// given stands behind that.
+/// What a call came to, as text, with one space after each word: the kind of a row says which call, and
+/// what it is given stands behind that.
 pub(crate) fn came(alloc: Global, parts: &[Part], kind: &str, given: &str) -> Result<String, Bad> {
     let came = came_of_codes(alloc, parts, kind, given)?;
     spread(alloc, parts, came.as_str())

@@ -90,7 +90,8 @@ fn sums(alloc: Global, given: &str, undo: bool, into: &mut String) -> Result<(),
     Ok(())
 }
 
-/// For each even length of a range, the sum of each sample times its place that is synthesised of a line of such cells.
+/// For each even length of a range, the sum of each sample times its place that is synthesised of a line of
+/// such cells.
 pub(crate) fn synthesised_sums(alloc: Global, given: &str, into: &mut String) -> Result<(), Bad> {
     sums(alloc, given, false, into)
 }

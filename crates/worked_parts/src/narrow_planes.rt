@@ -87,8 +87,8 @@ fn add_sum(alloc: Global, samples: &[u16], into: &mut String) -> Result<(), Bad>
     add_number(alloc, into, weighed(wide.as_slice()))
 }
 
-/// The sum of each sample times its place where all coefficients, whose rows are taken in turn, are so large, or that 32
-/// bits aren't enough.
+/// The sum of each sample times its place where all coefficients, whose rows are taken in turn, are so
+/// large, or that 32 bits aren't enough.
 pub(crate) fn extreme_outputs(alloc: Global, given: &str, into: &mut String) -> Result<(), Bad> {
     let (planned, most) = planned(alloc, given)?;
     let Ok(most) = i32::try_from(natural(most)?) else {
@@ -161,8 +161,8 @@ fn extreme_samples(alloc: Global, count: usize, most: u16) -> Result<Vec<u16>, B
     Ok(samples)
 }
 
-/// The sum of each coefficient times its place where the samples are as far apart as they may be, or that 32 bits aren't
-/// enough.
+/// The sum of each coefficient times its place where the samples are as far apart as they may be, or that
+/// 32 bits aren't enough.
 pub(crate) fn extreme_forwards(alloc: Global, given: &str, into: &mut String) -> Result<(), Bad> {
     let (planned, _) = planned(alloc, given)?;
     let format = format_of(&planned.plan, planned.component);

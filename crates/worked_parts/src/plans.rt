@@ -89,8 +89,9 @@ fn plan(header: &Header, bytes: &[u8]) -> Result<Plan, Bad> {
     }
 }
 
-/// A plan and a component of words as `13x6 444 8 2,6 2,1 3x2 y`: the luma's size, the sampling, the bits of samples, the
-/// wavelets down and across, the levels both ways and across alone, and the slices across and down. Its matrix is 0.
+/// A plan and a component of words as `13x6 444 8 2,6 2,1 3x2 y`: the luma's size, the sampling, the bits
+/// of samples, the wavelets down and across, the levels both ways and across alone, and the slices across
+/// and down. Its matrix is 0.
 fn planned_of(alloc: Global, text: &str) -> Result<PlannedPlane, Bad> {
     let mut words = text.split_whitespace();
     let size = two(words.next().unwrap_or(""), 'x')?;

@@ -114,8 +114,8 @@ fn shape_of(given: &str) -> Result<Shape, Bad> {
     Ok(header(size, sampling, excursions, fields)?.shape())
 }
 
-/// The sizes and the bits of the planes of a picture, luma first, from a frame's size, its sampling, the excursions of luma
-/// and colour, and whether it is coded as a frame.
+/// The sizes and the bits of the planes of a picture, luma first, from a frame's size, its sampling, the
+/// excursions of luma and colour, and whether it is coded as a frame.
 pub(crate) fn shape(alloc: Global, given: &str, into: &mut String) -> Result<(), Bad> {
     let shape = shape_of(given)?;
     let luma = (shape.luma_width, shape.luma_height);

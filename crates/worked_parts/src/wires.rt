@@ -115,8 +115,8 @@ fn datagrams(alloc: Global, parts: &[Part], text: &str) -> Result<Vec<Vec<u8>>, 
     Ok(all)
 }
 
-// A wire that has room for so many bytes and may be looped, whose calls of these numbers fail, and from which these
-// datagrams come.
+// A wire that has room for so many bytes and may be looped, whose calls of these numbers fail, and from
+// which these datagrams come.
 fn memory(alloc: Global, parts: &[Part], front: &str, coming: &str) -> Result<MemWire, Bad> {
     let mut words = front.split_whitespace();
     let room = natural(words.next().unwrap_or(""))? as usize;

@@ -212,7 +212,8 @@ fn spread_word(alloc: Global, parts: &[Part], word: &str, into: &mut String) -> 
     Ok(())
 }
 
-/// The words of a text, with one space behind each: many of a word where it is as 0*64, and the bytes of parts.
+/// The words of a text, with one space behind each: many of a word where it is as 0*64, and the bytes of
+/// parts.
 pub(crate) fn spread(alloc: Global, parts: &[Part], text: &str) -> Result<String, Bad> {
     let mut all = String::new(alloc);
     for word in text.split_whitespace() {

@@ -8,7 +8,8 @@
 //! - `row NAME` begins a row, and `and NAME` one more that is run on the same: of the keys below, those up
 //!   to `room` stay.
 //! - `words WORD..`, `in BYTES` and `comes BYTES` are the command line, in which `""` is the empty word, the
-//!   input, and entries that come from the wire; `is looped`: what is sent comes back after them. `hands KIND`
+//! input, and entries that come from the wire; `is looped`: what is sent comes back after them. `hands
+//! KIND`
 //!   has the kinds of hands.rt. `room N` is the room of the output, and of the wire.
 //! - `each read|write|report|wire A..B` runs the row once for each number of that range, at which this call
 //!   of the input, the output, the report or the wire fails; with `each cut A..B` the input has so many

@@ -1,5 +1,5 @@
-//! The words of a board's place, as its seats find them: four times the serial and the state, which is 0 empty, 1 waiting,
-//! 2 held, 3 done.
+//! The words of a board's place, as its seats find them: four times the serial and the state, which is 0
+//! empty, 1 waiting, 2 held, 3 done.
 
 ghost use Rattle.std.specs.Prelude.{◌≡◌, All, IfOk, true, false};
 ghost use Rattle.claim_board.specs.Calls.{AreEmpty, IsNewWorker};

@@ -1,4 +1,5 @@
-//! Pictures built by the calls that no command makes: of a list of slices at once, and by a builder that is given up.
+//! Pictures built by the calls that no command makes: of a list of slices at once, and by a builder that is
+//! given up.
 
 ghost use Rattle.std.specs.Prelude.{◌≡◌, ◌<◌, IfOk, length, true};
 ghost use Rattle.picture_build.specs.Kept.{HasAllSlices};

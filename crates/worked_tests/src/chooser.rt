@@ -12,8 +12,8 @@ use std::alloc::Global;
 use std::test::Fail;
 use vc_types::{IndexChoice, NoMemory, Plane, Sampling, SendSettings, SliceNeed};
 
-// Frames of 8 by 4 samples, 4:4:4, 8 bits, by wavelet 3 at depth 1 in two slices side by side, each with 12 bytes before it.
-// A datagram has room for 32 bytes of them.
+// Frames of 8 by 4 samples, 4:4:4, 8 bits, by wavelet 3 at depth 1 in two slices side by side, each with 12
+// bytes before it. A datagram has room for 32 bytes of them.
 fn two_slices() -> SendSettings
     ensures size { (result.width ≡ 8) × (result.height ≡ 4) × (result.sampling ≡ S444) }
 {

@@ -59,7 +59,8 @@ fn datagram(alloc: Global, payload: &[u8]) -> Result<Bytes, NoMemory> {
     Ok(Bytes::copy_from_slice(alloc, &bytes)?)
 }
 
-// Takes a datagram with each payload, up to the first that doesn't come to its outcome. Whether there is none.
+// Takes a datagram with each payload, up to the first that doesn't come to its outcome. Whether there is
+// none.
 fn enter_all(
     alloc: Global,
     payloads: &[(&[u8], Result<Outcome, EnterFault>)],

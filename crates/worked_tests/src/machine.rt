@@ -1,4 +1,5 @@
-//! The machine of a feeder and its workers: events one after another, and the number of the condition that each breaks, or 0.
+//! The machine of a feeder and its workers: events one after another, and the number of the condition that
+//! each breaks, or 0.
 
 use bytes::Bytes;
 use link_core::{Core, Event, StepRefusal, step};
@@ -242,8 +243,8 @@ const TWO_PLACES: [(Move, u8); 73] = [
     (Move::Params(6), 1),
 ];
 
-// The place of the first event that breaks another condition than is wanted, in a machine with so many places.
-// It is past the last one where only other bytes are written than so many grey ones.
+// The place of the first event that breaks another condition than is wanted, in a machine with so many
+// places. It is past the last one where only other bytes are written than so many grey ones.
 fn first_other(
     alloc: Global,
     places: u32,
