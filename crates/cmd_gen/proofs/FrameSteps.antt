@@ -36,7 +36,7 @@ use Rattle.vc_types.specs.Settings.{within}
 -- ---- one frame
 
 module _ {F : Type 0} (g : Generating) (window : ℕ) (sent : List Planes) (frame : Planes) (old : Sender F) (checker : Checker) (behind : HasChecked g window sent old checker)
-    (answers : Need → ℕ → Type 0) (as_chosen : (need : Need) (index : ℕ) → answers need index → index ≡ chosen_index (sent_by_default g.frames).choice need) where
+    (answers : Need → ℕ → Type 0) (as_chosen : (need : Need) (index : ℕ) → answers need index → index ≡ chosen_index (sent_by_default g.frames) need) where
   abbrev s : Sending
   s = sent_by_default g.frames
 

@@ -68,7 +68,7 @@ fn check_by<H: Threads + Copy + Send + Sync, F: Fn(&SliceNeed) -> u8, P: Places>
     requires callable { F.IsAlwaysCallable chooser.choose }
     requires range { AnswersAtMost127 F.Fn chooser.choose }
     requires chooses { ChoosesAs F.Fn chooser.choose
-        (sent_by_default (generating_view g.now).frames).choice }
+        (sent_by_default (generating_view g.now).frames) }
     requires wants { chooser.wants_lens
         ≡ wants_lengths (sent_by_default (generating_view g.now).frames).choice }
     ensures checkable { OnOk result (IsCheckable (generating_view g.now)) }
@@ -97,7 +97,8 @@ fn check_frames<H: Threads + Copy + Send + Sync, F: Fn(&SliceNeed) -> u8, P: Pla
 ) -> Result<(), Ending>
     requires callable { F.IsAlwaysCallable sender.old.chooser.choose }
     requires range { AnswersAtMost127 F.Fn sender.old.chooser.choose }
-    requires chooses { ChoosesAs F.Fn sender.old.chooser.choose sender.old.settings.choice }
+    requires chooses { ChoosesAs F.Fn sender.old.chooser.choose
+        (sending_view sender.old.settings) }
     requires wants { sender.old.chooser.wants_lens ≡ wants_lengths sender.old.settings.choice }
     requires sent { HasSentFrames (generating_view g.now) [] sender.old }
     requires below { PlacesAreBelow (P.bound places.old) checker.old.receiver.reception.out }
@@ -128,7 +129,8 @@ fn check_frame<H: Threads + Copy + Send + Sync, F: Fn(&SliceNeed) -> u8, P: Plac
 ) -> Result<(), Ending>
     requires callable { F.IsAlwaysCallable sender.old.chooser.choose }
     requires range { AnswersAtMost127 F.Fn sender.old.chooser.choose }
-    requires chooses { ChoosesAs F.Fn sender.old.chooser.choose sender.old.settings.choice }
+    requires chooses { ChoosesAs F.Fn sender.old.chooser.choose
+        (sending_view sender.old.settings) }
     requires wants { sender.old.chooser.wants_lens ≡ wants_lengths sender.old.settings.choice }
     requires sizes { IsFrame (sending_view sender.old.settings) (planes_in frame.now) }
     requires below { PlacesAreBelow (P.bound places.old) checker.old.receiver.reception.out }

@@ -21,18 +21,18 @@ map-flat_map f g [] = refl
 map-flat_map f g (x ∷ xs) = simp (flat_map-cons, map-append, map-flat_map f g xs)
 
 -- all indices of a frame, by its needs
-indices-needs : (s : Sending) (frame : Planes) → frame_indices s frame ≡ map (chosen_index s.choice) (frame_needs s (wants_lengths s.choice) frame)
+indices-needs : (s : Sending) (frame : Planes) → frame_indices s frame ≡ map (chosen_index s) (frame_needs s (wants_lengths s.choice) frame)
 unfolding chosen_indices frame_needs
-indices-needs s frame = sym (map-flat_map (chosen_index s.choice) (picture_needs s (wants_lengths s.choice)) (pictures_of s frame))
+indices-needs s frame = sym (map-flat_map (chosen_index s) (picture_needs s (wants_lengths s.choice)) (pictures_of s frame))
 
-module _ (s : Sending) (answers : Need → ℕ → Type 0) (as_chosen : (need : Need) (index : ℕ) → answers need index → index ≡ chosen_index s.choice need) where
-  chosen_all : (needs : List Need) (indices : List ℕ) → AllZip answers needs indices → indices ≡ map (chosen_index s.choice) needs
+module _ (s : Sending) (answers : Need → ℕ → Type 0) (as_chosen : (need : Need) (index : ℕ) → answers need index → index ≡ chosen_index s need) where
+  chosen_all : (needs : List Need) (indices : List ℕ) → AllZip answers needs indices → indices ≡ map (chosen_index s) needs
   chosen_all [] [] all = refl
   chosen_all [] (index ∷ indices) all = absurd all
   chosen_all (need ∷ needs) [] all = absurd all
   chosen_all (need ∷ needs) (index ∷ indices) all =
       ap (λ (i : ℕ). i ∷ indices) (as_chosen need index all.0)
-      ∙ ap (λ (l : List ℕ). chosen_index s.choice need ∷ l) (chosen_all needs indices all.1)
+      ∙ ap (λ (l : List ℕ). chosen_index s need ∷ l) (chosen_all needs indices all.1)
 
   -- answers on all needs of a frame
   pub whole_indices : (frame : Planes) (indices : List ℕ) → AllZip answers (frame_needs s (wants_lengths s.choice) frame) indices → indices ≡ frame_indices s frame
@@ -40,7 +40,7 @@ module _ (s : Sending) (answers : Need → ℕ → Type 0) (as_chosen : (need : 
 
   -- answers on the first needs
   pub first_indices : (frame : Planes) (asked rest : List Need) (indices : List ℕ) → frame_needs s (wants_lengths s.choice) frame ≡ asked ++ rest → AllZip answers asked indices
-      → frame_indices s frame ≡ indices ++ map (chosen_index s.choice) rest
+      → frame_indices s frame ≡ indices ++ map (chosen_index s) rest
   first_indices frame asked rest indices are all =
       grind (arith, common_steps, indices-needs, map-append, chosen_all)
 
@@ -122,9 +122,9 @@ send_fault-front s front more frame fault found =
     (fault-front s front more (pictures_of s frame) fault)
 
 -- a frame is refused for the fault at the indices that are chosen of its first needs
-pub refused_as_chosen : (s : Sending) (answers : Need → ℕ → Type 0) (as_chosen : (need : Need) (index : ℕ) → answers need index → index ≡ chosen_index s.choice need)
+pub refused_as_chosen : (s : Sending) (answers : Need → ℕ → Type 0) (as_chosen : (need : Need) (index : ℕ) → answers need index → index ≡ chosen_index s need)
     (frame : Planes) (asked rest : List Need) (indices : List ℕ) (fault : SendFault) → frame_needs s (wants_lengths s.choice) frame ≡ asked ++ rest → AllZip answers asked indices
     → send_fault s indices frame ≡ Some fault → frame_fault s frame ≡ Some fault
 refused_as_chosen s answers as_chosen frame asked rest indices fault are all found =
     ap (λ (l : List ℕ). send_fault s l frame) (first_indices s answers as_chosen frame asked rest indices are all)
-    ∙ send_fault-front s indices (map (chosen_index s.choice) rest) frame fault found
+    ∙ send_fault-front s indices (map (chosen_index s) rest) frame fault found

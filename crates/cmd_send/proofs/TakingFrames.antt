@@ -27,7 +27,7 @@ use Rattle.link_sender.specs.Sent.{IsSent, IsRefused, Numbers}
 use Rattle.vc_types.specs.Planes.{Planes}
 use Rattle.vc_types.specs.SenderSettings.{Sending}
 
-module _ (s : Sending) (answers : Need → ℕ → Type 0) (as_chosen : (need : Need) (index : ℕ) → answers need index → index ≡ chosen_index s.choice need) (frames : List Planes) (frame : Planes) where
+module _ (s : Sending) (answers : Need → ℕ → Type 0) (as_chosen : (need : Need) (index : ℕ) → answers need index → index ≡ chosen_index s need) (frames : List Planes) (frame : Planes) where
   -- ---- a frame that is sent
 
   module _ (old new : Numbers) (datagrams : List Datagram) (small : length frames + 1 < 2 ^ 32) (is : old ≡ numbers_after s frames) (sent : IsSent answers (wants_lengths s.choice) s frame old new datagrams) where

@@ -47,7 +47,7 @@ impl<F: Fn(&SliceNeed) -> u8> FrameSender<F> {
         requires callable { F.IsAlwaysCallable self.old.sender.chooser.choose }
         requires range { AnswersAtMost127 F.Fn self.old.sender.chooser.choose }
         requires chooses { ChoosesAs F.Fn self.old.sender.chooser.choose
-            self.old.sender.settings.choice }
+            (sending_view self.old.sender.settings) }
         requires wants { self.old.sender.chooser.wants_lens
             ≡ wants_lengths self.old.sender.settings.choice }
         requires sizes { IsFrame (sending_view self.old.sender.settings) (planes_in frame.now) }

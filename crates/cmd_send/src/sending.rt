@@ -65,7 +65,7 @@ fn send_by<H: Threads + Copy + Send + Sync, F: Fn(&SliceNeed) -> u8, S: Source, 
 ) -> Result<Totals, Ending>
     requires callable { F.IsAlwaysCallable chooser.choose }
     requires range { AnswersAtMost127 F.Fn chooser.choose }
-    requires chooses { ChoosesAs F.Fn chooser.choose s.now.choice }
+    requires chooses { ChoosesAs F.Fn chooser.choose (sending_view s.now) }
     requires wants { chooser.wants_lens ≡ wants_lengths s.now.choice }
     requires ready { O.is_ready outlet.old }
     ensures { SendsFrames (sending_view s.now) frames (sent_answer result)
@@ -98,7 +98,7 @@ fn send_each<H: Threads + Copy + Send + Sync, F: Fn(&SliceNeed) -> u8, S: Source
     requires callable { F.IsAlwaysCallable sender.old.sender.chooser.choose }
     requires range { AnswersAtMost127 F.Fn sender.old.sender.chooser.choose }
     requires chooses { ChoosesAs F.Fn sender.old.sender.chooser.choose
-        sender.old.sender.settings.choice }
+        (sending_view sender.old.sender.settings) }
     requires wants { sender.old.sender.chooser.wants_lens
         ≡ wants_lengths sender.old.sender.settings.choice }
     requires behind { IsBehindFrames (sending_view sender.old.sender.settings) [] sender.old }

@@ -15,10 +15,11 @@ use Rattle.law_index_zero.proofs.FramePictures.{all_pictures, length-all_picture
 use Rattle.law_index_zero.proofs.SentStream.{count}
 use Rattle.link_model.specs.Sending.{frames_indices, pictures_of, pictures_per_frame}
 use Rattle.link_model.specs.SendingFaults.{first_of_slices, first_sample_fault, first_slice_fault, send_fault}
-use Rattle.link_model.specs.SendingPictures.{Need, chosen_index, chosen_indices, picture_needs, sent_parameters, slices_with_indices, wants_lengths}
+use Rattle.link_model.specs.SendingPictures.{Need, chosen_by, chosen_index, chosen_indices, picture_needs, sent_parameters, slices_with_indices, wants_lengths}
 use Rattle.vc_types.specs.declared.choice.IndexChoice.TheVariants.{Index}
 use Rattle.vc_types.specs.Planes.{Planes}
 use Rattle.vc_types.specs.SenderSettings.{Sending}
+use Rattle.vc_types.specs.Subbands.{slice_count}
 
 abbrev pub zeros : ℕ → List ℕ
 zeros n = replicate n 0
@@ -30,9 +31,9 @@ zero_at n i below =
     slice_get-get_or (zeros n) i 0 (omega (arith, below, long)) ∙ ap Some (get_or-replicate n i 0 0 below)
 
 module _ (s : Sending) (chooses : s.choice ≡ Index 0) where
-  mapped : (needs : List Need) → map (chosen_index s.choice) needs ≡ zeros (length needs)
+  mapped : (needs : List Need) → map (chosen_index s) needs ≡ zeros (length needs)
   mapped [] = refl
-  mapped (need ∷ needs) = (λ i. chosen_index (chooses i) need ∷ mapped needs i)
+  mapped (need ∷ needs) = (λ i. chosen_by (slice_count (sent_parameters s)) (chooses i) need ∷ mapped needs i)
 
   chosen_zeros : (planes : Planes) → chosen_indices s planes ≡ zeros (count s)
   unfolding chosen_indices picture_needs

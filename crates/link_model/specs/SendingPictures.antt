@@ -155,10 +155,13 @@ picture_needs s wanted planes =
 unfoldable pub least_fitting : ℕ → List ℕ → ℕ
 least_fitting bytes lengths = min (position_or_len (λ len. nat_le len bytes) lengths) 127
 
--- one index for all slices, or for each the least that fits a budget
-abbrev pub chosen_index : IndexChoice → Need → ℕ
-chosen_index (Index index) need = index
-chosen_index (Fit bytes) need = least_fitting bytes need.lengths
+-- one index for all of a picture's slices, which are so many, or for each the least that fits a budget
+abbrev pub chosen_by : (slices : ℕ) → IndexChoice → Need → ℕ
+chosen_by slices (Index index) need = index
+chosen_by slices (Fit bytes) need = least_fitting bytes need.lengths
+
+abbrev pub chosen_index : Sending → Need → ℕ
+chosen_index s need = chosen_by (slice_count (sent_parameters s)) s.choice need
 
 abbrev pub wants_lengths : IndexChoice → Bool
 wants_lengths (Index index) = false
@@ -167,7 +170,7 @@ wants_lengths (Fit bytes) = true
 -- the indices of a picture's slices, as the settings choose them
 unfoldable pub chosen_indices : Sending → Planes → List ℕ
 chosen_indices s planes =
-    map (chosen_index s.choice) (picture_needs s (wants_lengths s.choice) planes)
+    map (chosen_index s) (picture_needs s (wants_lengths s.choice) planes)
 
 -- ---- the planes of a frame
 

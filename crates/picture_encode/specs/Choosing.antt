@@ -3,7 +3,7 @@ use Rattle.std.specs.Prelude.{◌≡◌, ℕ, ◌≤◌}
 use Rattle.std.specs.Borrow.{Bor}
 use Rattle.std.specs.Fn.{Shared, FnReturnsAt}
 use Rattle.link_model.specs.SendingPictures.{Need, chosen_index}
-use Rattle.vc_types.specs.declared.choice.IndexChoice.{IndexChoice}
+use Rattle.vc_types.specs.SenderSettings.{Sending}
 use Rattle.vc_types.specs.declared.need.SliceNeed.{SliceNeed}
 
 abbrev pub need_view : SliceNeed → Need
@@ -21,8 +21,8 @@ AnswersNeed calls f need index =
     (told : SliceNeed) × (need_view told ≡ need) × FnReturnsAt calls f told index
 
 -- it answers as the settings of a sender choose
-abbrev pub ChoosesAs : {F : Type 0} → Shared F (Bor SliceNeed × Unit {0}) ℕ → F → IndexChoice
+abbrev pub ChoosesAs : {F : Type 0} → Shared F (Bor SliceNeed × Unit {0}) ℕ → F → Sending
     → Type 0
-ChoosesAs calls f choice =
+ChoosesAs calls f s =
     (told : SliceNeed) (index : ℕ)
-    → FnReturnsAt calls f told index → index ≡ chosen_index choice (need_view told)
+    → FnReturnsAt calls f told index → index ≡ chosen_index s (need_view told)
