@@ -78,6 +78,16 @@ pub(crate) fn parameters(
     }
 }
 
+fn add_cuts(alloc: Global, header: &Header, rest: &[u8], into: &mut String) -> Result<(), Bad> {
+    for length in 0..=rest.len() {
+        match read_params(header, rest.get(..length).unwrap_or(rest)) {
+            Ok(_) => add_word(into, "read")?,
+            Err(refusal) => add_refusal(alloc, refusal, into)?,
+        }
+    }
+    Ok(())
+}
+
 /// What is read of the first 0, 1, 2, .. and all of the bytes behind a sequence header.
 pub(crate) fn parameters_cuts(
     alloc: Global,
@@ -87,13 +97,7 @@ pub(crate) fn parameters_cuts(
 ) -> Result<(), Bad> {
     let bytes = bytes_of(alloc, parts, given)?;
     let (header, rest) = behind_header(bytes.as_slice())?;
-    for length in 0..=rest.len() {
-        match read_params(&header, rest.get(..length).unwrap_or(rest)) {
-            Ok(_) => add_word(into, "read")?,
-            Err(refusal) => add_refusal(alloc, refusal, into)?,
-        }
-    }
-    Ok(())
+    add_cuts(alloc, &header, rest, into)
 }
 
 /// The planes of a plan's picture.

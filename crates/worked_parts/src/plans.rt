@@ -60,6 +60,30 @@ fn header(size: (u32, u32), sampling: Sampling, bits: u32) -> Result<Header, Bad
     })
 }
 
+fn write_numbers(w: &mut BitWriter, numbers: &[u32]) -> Result<(), Bad> {
+    for number in numbers {
+        write_uint(w, u64::from(*number))?;
+    }
+    Ok(())
+}
+
+fn write_parameters(
+    w: &mut BitWriter,
+    wavelets: (u32, u32),
+    levels: (u32, u32),
+    slices: (u32, u32),
+) -> Result<(), Bad> {
+    write_numbers(w, &[wavelets.0, levels.0])?;
+    for across in [wavelets.1, levels.1] {
+        w.bit(true)?;
+        write_uint(w, u64::from(across))?;
+    }
+    write_numbers(w, &[slices.0, slices.1, 0, 1])?;
+    w.bit(true)?;
+    w.repeat(true, 16)?;
+    Ok(())
+}
+
 // Wavelets, levels and slices as transform parameters, with a matrix of zeros.
 fn parameters(
     alloc: Global,
@@ -68,17 +92,7 @@ fn parameters(
     slices: (u32, u32),
 ) -> Result<Vec<u8>, Bad> {
     let mut w = BitWriter::new(alloc);
-    write_uint(&mut w, u64::from(wavelets.0))?;
-    write_uint(&mut w, u64::from(levels.0))?;
-    for across in [wavelets.1, levels.1] {
-        w.bit(true)?;
-        write_uint(&mut w, u64::from(across))?;
-    }
-    for number in [slices.0, slices.1, 0, 1] {
-        write_uint(&mut w, u64::from(number))?;
-    }
-    w.bit(true)?;
-    w.repeat(true, 16)?;
+    write_parameters(&mut w, wavelets, levels, slices)?;
     Ok(w.finish())
 }
 

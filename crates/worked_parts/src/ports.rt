@@ -111,6 +111,18 @@ fn add_filled<S: Source>(
     add_word(into, what)
 }
 
+fn add_all_filled<S: Source>(
+    alloc: Global,
+    source: &mut S,
+    sizes: &str,
+    into: &mut String,
+) -> Result<(), Bad> {
+    for word in sizes.split_whitespace() {
+        add_filled(alloc, source, word, into)?;
+    }
+    Ok(())
+}
+
 /// What filling buffers of these sizes comes to, where the reads of these numbers fail.
 pub(crate) fn filled(
     alloc: Global,
@@ -121,16 +133,34 @@ pub(crate) fn filled(
     let (numbers, rest) = parted(given)?;
     let (bytes, sizes) = parted(rest)?;
     let mut source = source(alloc, parts, numbers, bytes)?;
-    for word in sizes.split_whitespace() {
-        add_filled(alloc, &mut source, word, into)?;
-    }
-    Ok(())
+    add_all_filled(alloc, &mut source, sizes, into)
 }
 
 // A sink of so many bytes, whose calls of these numbers fail.
 fn sink(alloc: Global, text: &str) -> Result<MemSink, Bad> {
     let (room, numbers) = text.trim().split_once(' ').unwrap_or((text, ""));
     Ok(MemSink::new(alloc, natural(room)? as usize, fails(alloc, numbers)?)?)
+}
+
+// The bytes of each piece of a text, between which strokes stand.
+fn pieces_of(alloc: Global, parts: &[Part], text: &str) -> Result<Vec<Vec<u8>>, Bad> {
+    let mut pieces = Vec::new(alloc);
+    for piece in text.split('/') {
+        pieces.push(bytes_of(alloc, parts, piece)?)?;
+    }
+    Ok(pieces)
+}
+
+fn add_writes<O: Sink>(
+    alloc: Global,
+    sink: &mut O,
+    pieces: &[Vec<u8>],
+    into: &mut String,
+) -> Result<(), Bad> {
+    for piece in pieces {
+        add_write(alloc, sink, piece.as_slice(), into)?;
+    }
+    Ok(())
 }
 
 fn add_write<O: Sink>(
@@ -162,10 +192,8 @@ pub(crate) fn memory_sink(
 ) -> Result<(), Bad> {
     let (front, pieces) = parted(given)?;
     let mut sink = sink(alloc, front)?;
-    for piece in pieces.split('/') {
-        let piece = bytes_of(alloc, parts, piece)?;
-        add_write(alloc, &mut sink, piece.as_slice(), into)?;
-    }
+    let pieces = pieces_of(alloc, parts, pieces)?;
+    add_writes(alloc, &mut sink, pieces.as_slice(), into)?;
     add_held(alloc, &sink, into)
 }
 
@@ -176,11 +204,8 @@ pub(crate) fn plain_sink(
     given: &str,
     into: &mut String,
 ) -> Result<(), Bad> {
-    for piece in given.split('/') {
-        let piece = bytes_of(alloc, parts, piece)?;
-        add_write(alloc, &mut PlainSink::new(), piece.as_slice(), into)?;
-    }
-    Ok(())
+    let pieces = pieces_of(alloc, parts, given)?;
+    add_writes(alloc, &mut PlainSink::new(), pieces.as_slice(), into)
 }
 
 fn add_whole(sink: &mut MemSink, piece: &[u8], into: &mut String) -> Result<(), Bad> {
@@ -199,8 +224,8 @@ pub(crate) fn written(
 ) -> Result<(), Bad> {
     let (front, pieces) = parted(given)?;
     let mut sink = sink(alloc, front)?;
-    for piece in pieces.split('/') {
-        let piece = bytes_of(alloc, parts, piece)?;
+    let pieces = pieces_of(alloc, parts, pieces)?;
+    for piece in pieces.iter() {
         add_whole(&mut sink, piece.as_slice(), into)?;
     }
     add_held(alloc, &sink, into)
