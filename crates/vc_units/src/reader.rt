@@ -129,7 +129,10 @@ fn body_length(info: &[u8; PARSE_INFO_BYTES]) -> Result<usize, UnitFault>
     }
     match info[4] {
         END_OF_SEQUENCE => Ok(0),
-        SEQUENCE_HEADER | AUXILIARY_DATA | PADDING_DATA | LOW_DELAY_PICTURE
+        SEQUENCE_HEADER
+        | AUXILIARY_DATA
+        | PADDING_DATA
+        | LOW_DELAY_PICTURE
         | HIGH_QUALITY_PICTURE => {
             let next = BigEndian::read_u32(&info[5..]);
             if next < PARSE_INFO_BYTES as u32 || next > LONGEST_UNIT {
