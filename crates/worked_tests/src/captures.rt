@@ -13,13 +13,15 @@ pub(crate) struct Outside {
     pub(crate) wire: MemWire,
 }
 
-/// An output that has room for so many bytes, a report, and a wire that nothing comes from.
-pub(crate) fn outside(alloc: Global, room: usize) -> Result<Outside, Fail> {
-    Ok(Outside {
-        output: MemSink::new(alloc, room, Vec::new(alloc))?,
-        report: MemSink::new(alloc, 1000, Vec::new(alloc))?,
-        wire: MemWire::new(alloc, Vec::new(alloc), false, 0, Vec::new(alloc))?,
-    })
+impl Outside {
+    /// An output that has room for so many bytes, a report, and a wire that nothing comes from.
+    pub(crate) fn new(alloc: Global, room: usize) -> Result<Outside, Fail> {
+        Ok(Outside {
+            output: MemSink::new(alloc, room, Vec::new(alloc))?,
+            report: MemSink::new(alloc, 1000, Vec::new(alloc))?,
+            wire: MemWire::new(alloc, Vec::new(alloc), false, 0, Vec::new(alloc))?,
+        })
+    }
 }
 
 /// A capture whose datagrams have these payloads and one source.

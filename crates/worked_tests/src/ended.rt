@@ -95,10 +95,10 @@ fn enter_picture(
         (&slice_payload(0, 0), Ok(Outcome::SlicesKept)),
         (&slice_payload(0, 1), Ok(Outcome::SlicesKept)),
     ];
-    Ok(
-        enter_all(alloc, &payloads, receiver, places, sink)?
-            && receiver.drain(places, sink) == Err(EnterFault::WriteFault),
-    )
+    if !enter_all(alloc, &payloads, receiver, places, sink)? {
+        return Ok(false);
+    }
+    Ok(receiver.drain(places, sink) == Err(EnterFault::WriteFault))
 }
 
 // Whether it ends again, after one datagram that it doesn't take.

@@ -1,6 +1,6 @@
 //! A capture whose slices come only as workers take them, one of which is held up.
 
-use crate::captures::{capture, outside, words_of};
+use crate::captures::{Outside, capture, words_of};
 use link_program::link_main;
 use slice_pool::{Crew, Worker};
 use std::alloc::Global;
@@ -75,7 +75,7 @@ fn is_frame_written<H: Threads + Copy + Send + Sync, P: Hands>(
         reads: 0,
         in_time: false,
     };
-    let mut outside = outside(alloc, 96)?;
+    let mut outside = Outside::new(alloc, 96)?;
     let status = link_main(
         rt,
         alloc,

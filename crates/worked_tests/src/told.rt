@@ -1,6 +1,6 @@
 //! Hands that tell what they are asked, and decode nothing.
 
-use crate::captures::{capture, outside, words_of};
+use crate::captures::{Outside, capture, words_of};
 use link_program::link_main;
 use std::alloc::Global;
 use std::test::Fail;
@@ -39,7 +39,7 @@ fn are_two_frames<H: Threads + Copy + Send + Sync>(
 ) -> Result<bool, Fail> {
     let words = words_of(alloc, "decode --window 2 --workers 3")?;
     let mut input = MemSource::new(loss_and_disorder(alloc)?, Vec::new(alloc));
-    let mut outside = outside(alloc, 192)?;
+    let mut outside = Outside::new(alloc, 192)?;
     let status = link_main(
         rt,
         alloc,
