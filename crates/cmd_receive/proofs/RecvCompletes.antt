@@ -45,4 +45,5 @@ module _ (window workers packets sessions : ℕ) (at : List ℕ) (wire : WireCha
   recv_completes (Stopped end) r = r.ended
   recv_completes (Drained summary WireFailed) r = sound_wire (r.wire_failed (summary, refl))
   recv_completes (Drained (Judged tally) (PacketLimit limit)) r = past_by r.heard limit r.ended.0 r.ended.1
+  recv_completes (Drained (Judged tally) end) r = r.ended
   recv_completes (Drained summary end) r = r.ended
