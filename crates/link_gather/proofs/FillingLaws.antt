@@ -1,12 +1,12 @@
 -- Slots filled slice by slice hold what a whole run leaves in them, and how many slices were cut.
 use Rattle.std.proofs.Common.{◌≡◌, ℕ, zero, suc, ◌+◌, ◌-◌, ◌<◌, ◌≤◌, Bool, true, false, List, [], ◌∷◌, ◌++◌, length, take, drop, set, replicate, nat_eq, Option, Some, None, Result, Ok, Err, refl, ap, sym, ◌∙◌, arith, cond}
-use Rattle.std.specs.Prelude.{is_ok, is_some, is_none, not, ◌||◌, unwrap_or}
+use Rattle.std.specs.Prelude.{is_ok, is_some, is_none, not, ◌||◌, unwrap_or, filter, map}
 use Rattle.std.specs.List.{flat_map, list_any, list_all, count_by, enumerate_from}
 use Rattle.std.specs.Option.{option_map_or}
 use Rattle.std.specs.Str.{bytes_eq}
 use Rattle.std.proofs.lemmas.Bool.{false≢true}
-use Rattle.std.proofs.Math.Bool.{or-false, or_assoc}
-use Rattle.std.proofs.lemmas.List.{take-append-drop}
+use Rattle.std.proofs.Math.Bool.{or-false}
+use Rattle.std.proofs.lemmas.List.{take-append-drop, append_assoc, append-nil}
 use Rattle.std.proofs.lemmas.List.Sums.{sum_by-cons, count_by-le-length}
 use Rattle.std.proofs.lemmas.Option.{none-some}
 use Rattle.link_model.specs.Books.{Slots, slot_at, filled_with, with_run}
@@ -16,7 +16,8 @@ use Rattle.link_model.specs.Session.{SlicePart}
 use Rattle.link_model.specs.declared.outcome.Outcome.{Outcome}
 use Rattle.link_model.specs.declared.outcome.Outcome.TheVariants.{SlicesForm, SlicesPlace, SlicesCut}
 use Rattle.link_model.proofs.Slots.{okay_is}
-use Rattle.link_gather.specs.Filling.{cut_by, slices_cut, run_cut, has_conflict, has_new, put_in, put_result, is_put_other, is_put_new}
+use Rattle.link_gather.specs.Filling.{cut_by, slices_cut, run_cut, has_conflict, put_in, put_result, is_put_other, is_put_new}
+use Rattle.link_gather.specs.NewSlices.{PictureSlice, picture_slice, run_new}
 use Rattle.vc_types.specs.Fields.{and_then}
 use Rattle.vc_types.specs.Slices.{slice_length}
 use Rattle.vc_types.specs.TransformParameters.{Parameters}
@@ -118,7 +119,9 @@ module _ (old : Slots) (i : ℕ) (slice : List ℕ) where
   conflicts_later first (s ∷ slices) later =
       grind (arith, put_elsewhere, conflicts_later (first + 1) slices (omega arith))
 
-  new_later : (first : ℕ) (slices : List (List ℕ)) → i < first → list_any (is_new (slot_at now)) (enumerate_from first slices) ≡ list_any (is_new (slot_at old)) (enumerate_from first slices)
+  new_later : (first : ℕ) (slices : List (List ℕ)) → i < first
+      → filter (is_new (slot_at now)) (enumerate_from first slices)
+      ≡ filter (is_new (slot_at old)) (enumerate_from first slices)
   new_later first [] later = refl
   new_later first (s ∷ slices) later =
       grind (arith, put_elsewhere, new_later (first + 1) slices (omega arith))
@@ -126,8 +129,22 @@ module _ (old : Slots) (i : ℕ) (slice : List ℕ) where
   pub conflict_first : (slices : List (List ℕ)) → has_conflict old (record { first = i; slices = slice ∷ slices }) ≡ (is_conflict (slot_at old) (i, slice) || has_conflict now (record { first = i + 1; slices = slices }))
   conflict_first slices = ap (λ (b : Bool). is_conflict (slot_at old) (i, slice) || b) (sym (conflicts_later (i + 1) slices (omega arith)))
 
-  pub new_first : (slices : List (List ℕ)) → has_new old (record { first = i; slices = slice ∷ slices }) ≡ (is_new (slot_at old) (i, slice) || has_new now (record { first = i + 1; slices = slices }))
-  new_first slices = ap (λ (b : Bool). is_new (slot_at old) (i, slice) || b) (sym (new_later (i + 1) slices (omega arith)))
+  module _ (p : Parameters) where
+    abbrev one_if_new : List PictureSlice
+    one_if_new = cond (is_new (slot_at old) (i, slice)) (picture_slice p i slice ∷ []) []
+
+    split_new : (b : Bool) (rest : List (ℕ × List ℕ))
+        → map (λ (s : ℕ × List ℕ). picture_slice p s.0 s.1) (cond b ((i, slice) ∷ rest) rest)
+        ≡ cond b (picture_slice p i slice ∷ []) []
+        ++ map (λ (s : ℕ × List ℕ). picture_slice p s.0 s.1) rest
+    split_new true rest = refl
+    split_new false rest = refl
+
+    pub new_first : (slices : List (List ℕ))
+        → run_new p old (record { first = i; slices = slice ∷ slices })
+        ≡ one_if_new ++ run_new p now (record { first = i + 1; slices = slices })
+    new_first slices = rw (new_later (i + 1) slices (omega arith))
+        (split_new (is_new (slot_at old) (i, slice)) (filter (is_new (slot_at old)) (enumerate_from (i + 1) slices)))
 
 -- ---- how many slots have a slice
 
@@ -199,8 +216,8 @@ module _ (p : Parameters) (slots : Slots) (i : ℕ) (rest : List ℕ) where
     pub conflict_none : (b : Bool) → (b || has_conflict slots (run_cut p i n rest)) ≡ b
     conflict_none b = ap (λ (l : List (List ℕ)). b || list_any (is_conflict (slot_at slots)) (enumerate_from i l)) none ∙ or-false b
 
-    pub new_none : (b : Bool) → (b || has_new slots (run_cut p i n rest)) ≡ b
-    new_none b = ap (λ (l : List (List ℕ)). b || list_any (is_new (slot_at slots)) (enumerate_from i l)) none ∙ or-false b
+    pub new_none : (l : List PictureSlice) → l ++ run_new p slots (run_cut p i n rest) ≡ l
+    new_none l = rw none (append-nil l)
 
   pub none_left : (n : ℕ) → n ≡ 0 → slices_cut p n rest ≡ []
   none_left n e = ap (λ k. slices_cut p k rest) e
@@ -226,10 +243,13 @@ module _ (p : Parameters) (slots : Slots) (i : ℕ) (rest : List ℕ) where
     pub conflict_step : (b : Bool) → ((b || is_conflict (slot_at slots) (i, one)) || has_conflict (put_in slots i one) (run_cut p (i + 1) m (drop len rest))) ≡ (b || has_conflict slots (run_cut p i n rest))
     conflict_step b = grind (arith, conflict_first)
 
-    pub new_step : (b : Bool) → ((b || is_new (slot_at slots) (i, one)) || has_new (put_in slots i one) (run_cut p (i + 1) m (drop len rest))) ≡ (b || has_new slots (run_cut p i n rest))
-    new_step b =
-        or_assoc b (is_new (slot_at slots) (i, one)) (has_new (put_in slots i one) (run_cut p (i + 1) m (drop len rest)))
-        ∙ ap (λ (c : Bool). b || c) (sym (new_first slots i one behind) ∙ ap (λ (l : List (List ℕ)). list_any (is_new (slot_at slots)) (enumerate_from i l)) cut_is)
+    pub new_step : (l : List PictureSlice)
+        → (l ++ cond (is_new (slot_at slots) (i, one)) (picture_slice p i one ∷ []) [])
+        ++ run_new p (put_in slots i one) (run_cut p (i + 1) m (drop len rest))
+        ≡ l ++ run_new p slots (run_cut p i n rest)
+    new_step l = append_assoc l _ _
+        ∙ ap (λ (r : List PictureSlice). l ++ r) (sym (new_first slots i one p behind)
+        ∙ ap (λ (s : List (List ℕ)). run_new p slots (record { first = i; slices = s })) cut_is)
 
 -- what becomes of a slice, in words
 pub other_is : (o : Option (List ℕ)) (i : ℕ) (slice : List ℕ) → is_put_other (put_result o slice) ≡ option_map_or (λ bytes. not (bytes_eq bytes slice)) o false

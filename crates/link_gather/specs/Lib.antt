@@ -1,2 +1,3 @@
+pub mod NewSlices
 pub mod Views
 pub mod Filling

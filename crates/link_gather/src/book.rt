@@ -1,16 +1,17 @@
-ghost use Rattle.std.specs.Prelude.{◌≡◌, ◌++◌, ◌∷◌, [], List, ℕ, IfOk, IsTrue};
-ghost use Rattle.std.specs.Prelude.{OnOk, Some, is_some, fold, map};
+ghost use Rattle.std.specs.Prelude.{◌≡◌, ◌++◌, ◌∷◌, [], List, IfOk, IsTrue, OnOk, Some, is_some, fold, map};
+ghost use Rattle.std.specs.Prelude.{if◌then◌else◌};
 ghost use Rattle.std.specs.Option.{option_copied, option_map};
-ghost use Rattle.link_model.specs.Books.{nothing_gathered, gathers, book_of, book_takes};
-ghost use Rattle.link_model.specs.Books.{book_outcome, book_plan, book_slice, book_whole};
+ghost use Rattle.link_model.specs.Books.{nothing_gathered, gathers, book_of, book_takes, book_outcome, book_plan, book_slice, book_whole};
 ghost use Rattle.link_model.specs.Judgement.{part_outcome};
 ghost use Rattle.link_model.specs.Session.{Part, ParamsPart, SlicesPart};
-ghost use Rattle.link_gather.specs.Views.{slice_part_of};
+ghost use Rattle.link_gather.specs.NewSlices.{new_slices};
+ghost use Rattle.link_gather.specs.Views.{new_slice_of, slice_part_of};
+ghost use Rattle.vc_types.specs.SameValues.{same_parameters};
 ghost use Rattle.vc_types.specs.SequenceHeader.{Sequence, sequence_of};
 ghost use Rattle.vc_types.specs.TransformParameters.{parameters_of};
 
 use crate::gathering::Gathering;
-use crate::part::SlicePart;
+use crate::part::{SlicePart, Taken};
 use bytes::Bytes;
 use link_model::Outcome;
 use std::alloc::Global;
@@ -21,8 +22,8 @@ use vc_types::{Header, NoMemory, Plan};
 // How many parts of slices wait for their picture's parameters.
 const WAITING_LIMIT: usize = 16384;
 
-/// What one picture keeps of its parts, in whatever order they come: the first transform parameters that
-/// are accepted, and of each slice the first copy. After `NoMemory` nothing is promised of it.
+/// What one picture keeps of its parts, in whatever order they come: the first transform parameters that are accepted,
+/// and of each slice the first copy. After `NoMemory` nothing is promised of it.
 #[derive(Drop)]
 pub struct PictureBook {
     alloc: Global,
@@ -60,8 +61,7 @@ impl PictureBook {
         }
     }
 
-    /// Takes transform parameters: keeps them where there are none yet, and then takes the slices that
-    /// waited.
+    /// Takes transform parameters: keeps them where there are none yet, and then takes the slices that waited.
     pub fn take_params(&mut self, body: Bytes) -> Result<Outcome, NoMemory>
         ensures outcome { IfOk result
             (λ outcome. outcome ≡ book_outcome self.old (ParamsPart body)) }
@@ -72,30 +72,35 @@ impl PictureBook {
         ensures stands { (s : Sequence) (parts : List Part) → self.old ≡ book_of s parts
             → OnOk result (self.new ≡ book_of s (parts ++ ParamsPart body ∷ [])) }
     {
-        self.params(body)
+        let taken = self.enter_params(body)?;
+        Ok(taken.outcome)
     }
 
+    /// The same, and answers the slices that waited, if the picture has them since then.
     #[tactic(auto, unfolding(link_model::specs::Books::book_takes, link_model::specs::Books::book_outcome))]
-    fn params(&mut self, mut body: Bytes) -> Result<Outcome, NoMemory>
+    pub fn enter_params(&mut self, mut body: Bytes) -> Result<Taken, NoMemory>
         ensures outcome { IfOk result
-            (λ outcome. outcome ≡ book_outcome self.old (ParamsPart body)) }
+            (λ taken. taken.outcome ≡ book_outcome self.old (ParamsPart body)) }
         ensures value { OnOk result (self.new ≡ book_takes self.old (ParamsPart body)) }
+        ensures slices { IfOk result
+            (λ taken. map new_slice_of taken.slices.items ≡ new_slices self.old self.new) }
     {
         let Ok((plan, used)) = read_params(&self.header, body.as_slice()) else {
-            return Ok(Outcome::ParamsBad);
+            return Ok(Taken::nothing(self.alloc, Outcome::ParamsBad));
         };
         if let Some(gathering) = &self.gathering {
-            return Ok(if gathering.plan().is_same(&plan) {
-                Outcome::ParamsRepeat
-            } else {
-                Outcome::ParamsConflict
-            });
+            let outcome = params_again(&gathering.plan(), &plan);
+            return Ok(Taken::nothing(self.alloc, outcome));
         }
         body.truncate(used);
         let gathering = gathered(self.alloc, plan, body, &self.waiting)?;
+        let slices = gathering.slices(self.alloc)?;
         self.gathering = Some(gathering);
         self.waiting = Vec::new(self.alloc);
-        Ok(Outcome::ParamsKept)
+        Ok(Taken {
+            outcome: Outcome::ParamsKept,
+            slices,
+        })
     }
 
     /// Takes slices: keeps those that aren't kept yet, or lets the part wait for parameters.
@@ -111,24 +116,28 @@ impl PictureBook {
         ensures stands { (s : Sequence) (parts : List Part) → self.old ≡ book_of s parts
             → OnOk result (self.new ≡ book_of s (parts ++ SlicesPart (slice_part_of part) ∷ [])) }
     {
-        self.slices(part)
+        let taken = self.enter_slices(part)?;
+        Ok(taken.outcome)
     }
 
+    /// The same, and answers those that weren't kept yet.
     #[tactic(auto, unfolding(link_model::specs::Books::book_takes, link_model::specs::Books::book_outcome))]
-    fn slices(&mut self, part: SlicePart) -> Result<Outcome, NoMemory>
+    pub fn enter_slices(&mut self, part: SlicePart) -> Result<Taken, NoMemory>
         ensures outcome { IfOk result
-            (λ outcome. outcome ≡ book_outcome self.old (SlicesPart (slice_part_of part))) }
+            (λ taken. taken.outcome ≡ book_outcome self.old (SlicesPart (slice_part_of part))) }
         ensures value { OnOk result
             (self.new ≡ book_takes self.old (SlicesPart (slice_part_of part))) }
+        ensures slices { IfOk result
+            (λ taken. map new_slice_of taken.slices.items ≡ new_slices self.old self.new) }
     {
         match &mut self.gathering {
-            Some(gathering) => gathering.take(&part),
+            Some(gathering) => gathering.take(self.alloc, &part),
             None => {
                 if self.waiting.len() >= WAITING_LIMIT {
-                    return Ok(Outcome::SlicesFull);
+                    return Ok(Taken::nothing(self.alloc, Outcome::SlicesFull));
                 }
                 self.waiting.push(part)?;
-                Ok(Outcome::SlicesPending)
+                Ok(Taken::nothing(self.alloc, Outcome::SlicesPending))
             }
         }
     }
@@ -176,6 +185,18 @@ impl PictureBook {
     }
 }
 
+// What becomes of parameters that are accepted after those that are kept.
+fn params_again(kept: &Plan, plan: &Plan) -> Outcome
+    ensures { result ≡ (if same_parameters (parameters_of kept.now) (parameters_of plan.now)
+        then Outcome.ParamsRepeat else Outcome.ParamsConflict) }
+{
+    if kept.is_same(plan) {
+        Outcome::ParamsRepeat
+    } else {
+        Outcome::ParamsConflict
+    }
+}
+
 // What is gathered of the parts that waited.
 fn gathered(
     alloc: Global,
@@ -190,7 +211,7 @@ fn gathered(
 {
     let mut gathering = Gathering::new(alloc, plan, bytes)?;
     for part in waiting {
-        gathering.take(part)?;
+        let _taken = gathering.take(alloc, part)?;
     }
     Ok(gathering)
 }

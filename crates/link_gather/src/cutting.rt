@@ -1,13 +1,17 @@
-ghost use Rattle.std.specs.Prelude.{◌≡◌, ◌≤◌, ◌<◌, ◌||◌, ◌+◌, ◌^◌, IfOk, OnOk, is_ok, length};
+ghost use Rattle.std.specs.Prelude.{◌≡◌, ◌≤◌, ◌<◌, ◌||◌, ◌+◌, ◌++◌, ◌^◌, ◌==◌, ◌∷◌, [], IfOk, OnOk, is_ok, length, map, not};
+ghost use Rattle.std.specs.Prelude.{if◌then◌else◌};
 ghost use Rattle.link_model.specs.Books.{with_run};
 ghost use Rattle.link_model.specs.Kept.{next_slices};
-ghost use Rattle.link_gather.specs.Filling.{run_cut, has_conflict, has_new};
-ghost use Rattle.link_gather.specs.Filling.{is_put_other, is_put_new, seen_outcome};
+ghost use Rattle.link_gather.specs.Filling.{run_cut, has_conflict, has_new, is_put_other, is_put_new, seen_outcome};
+ghost use Rattle.link_gather.specs.NewSlices.{HasWholeSlots, run_new};
+ghost use Rattle.link_gather.specs.Views.{new_slice_of};
+ghost use Rattle.vc_types.specs.OfPlan.{slice_count};
 ghost use Rattle.vc_types.specs.TransformParameters.{parameters_of};
 
+use crate::part::{NewSlice, SlicePart};
 use crate::slots::{Put, Slots};
-use bytes::Bytes;
 use link_model::Outcome;
+use std::alloc::Global;
 use vc_slice::cut;
 use vc_types::{NoMemory, Plan};
 
@@ -29,69 +33,84 @@ pub(crate) fn has_slices(plan: &Plan, count: u16, bytes: &[u8]) -> bool
     true
 }
 
-/// What became of the slices of one part together.
-#[derive(Clone, Copy)]
+/// What became of the slices of one part together: whether one is kept with other bytes, and those
+/// that are new.
+#[derive(Drop)]
 pub(crate) struct Seen {
     pub(crate) conflict: bool,
-    pub(crate) new: bool,
+    pub(crate) slices: Vec<NewSlice>,
 }
 
 impl Seen {
     // With what became of one slice more.
-    fn with(self, put: Put) -> Seen
-        ensures conflict { result.conflict ≡ (self.conflict || is_put_other put) }
-        ensures new { result.new ≡ (self.new || is_put_new put) }
+    fn add(&mut self, put: Put, slice: NewSlice) -> Result<(), NoMemory>
+        ensures conflict { OnOk result
+            (self.new.conflict ≡ (self.old.conflict || is_put_other put)) }
+        ensures slices { OnOk result (map new_slice_of self.new.slices.items
+            ≡ map new_slice_of self.old.slices.items
+            ++ (if is_put_new put then new_slice_of slice ∷ [] else [])) }
     {
-        Seen {
-            conflict: self.conflict || put == Put::Other,
-            new: self.new || put == Put::New,
+        match put {
+            Put::New => self.slices.push(slice)?,
+            Put::Same => {}
+            Put::Other => self.conflict = true,
         }
+        Ok(())
     }
 
-    pub(crate) fn outcome(self) -> Outcome
-        ensures { result ≡ seen_outcome self.conflict self.new }
+    pub(crate) fn outcome(&self) -> Outcome
+        ensures { result
+            ≡ seen_outcome self.now.conflict (not (length self.now.slices.items == 0)) }
     {
         if self.conflict {
             Outcome::SlicesConflict
-        } else if self.new {
-            Outcome::SlicesKept
-        } else {
+        } else if self.slices.is_empty() {
             Outcome::SlicesRepeat
+        } else {
+            Outcome::SlicesKept
         }
     }
 }
 
-/// Keeps the slices that begin the body, so many from a number on, except those that are kept.
+/// Keeps the slices of a part, from a number on, except those that are kept.
 pub(crate) fn keep_slices(
+    alloc: Global,
     slots: &mut Slots,
     first: usize,
-    count: u16,
     plan: &Plan,
-    body: &Bytes,
+    part: &SlicePart,
 ) -> Result<Seen, NoMemory>
-    requires inside { first + count ≤ length slots.old }
-    requires small { first + count < 2 ^ 32 }
-    ensures value { OnOk result
-        (slots.new ≡ with_run slots.old (run_cut (parameters_of plan.now) first count body.now)) }
-    ensures conflict { IfOk result
-        (λ seen. seen.conflict
-        ≡ has_conflict slots.old (run_cut (parameters_of plan.now) first count body.now)) }
-    ensures new { IfOk result
-        (λ seen. seen.new
-        ≡ has_new slots.old (run_cut (parameters_of plan.now) first count body.now)) }
-    ensures length { length slots.new ≡ length slots.old }
+    requires inside { first + part.now.count ≤ slice_count plan.now }
+    requires small { first + part.now.count < 2 ^ 32 }
+    requires slots { HasWholeSlots (parameters_of plan.now) slots.old }
+    ensures value { let run = run_cut (parameters_of plan.now) first part.now.count part.now.body in
+        OnOk result (slots.new ≡ with_run slots.old run) }
+    ensures conflict { let run = run_cut (parameters_of plan.now) first part.now.count part.now.body
+        in IfOk result (λ seen. seen.conflict ≡ has_conflict slots.old run) }
+    ensures slices { let run = run_cut (parameters_of plan.now) first part.now.count part.now.body
+        in IfOk result (λ seen. map new_slice_of seen.slices.items
+        ≡ run_new (parameters_of plan.now) slots.old run) }
+    ensures some { let run = run_cut (parameters_of plan.now) first part.now.count part.now.body in
+        IfOk result (λ seen. not (length seen.slices.items == 0) ≡ has_new slots.old run) }
+    ensures slots { HasWholeSlots (parameters_of plan.now) slots.new }
 {
-    let mut rest = body.clone()?;
+    let mut rest = part.body.clone()?;
     let mut seen = Seen {
         conflict: false,
-        new: false,
+        slices: Vec::new(alloc),
     };
-    for i in first..first + usize::from(count) {
+    for i in first..first + usize::from(part.count) {
         let Ok(len) = cut(plan.prefix, plan.scaler, rest.as_slice()) else {
             return Ok(seen);
         };
-        let slice = rest.split_to(len)?;
-        seen = seen.with(slots.put(i, slice));
+        let bytes = rest.split_to(len)?;
+        let put = slots.put(i, &bytes)?;
+        let slice = NewSlice {
+            plan: *plan,
+            index: i as u32,
+            bytes,
+        };
+        seen.add(put, slice)?;
     }
     Ok(seen)
 }

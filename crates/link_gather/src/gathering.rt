@@ -1,16 +1,17 @@
-ghost use Rattle.std.specs.Prelude.{◌≡◌, ◌+◌, ◌++◌, ◌^◌, ◌<◌, ◌≤◌, [], true, false, Ok, Err, IfOk};
-ghost use Rattle.std.specs.Prelude.{IfErr, IfSome, IsNone, IsSome, OnOk, is_some, unwrap_or};
+ghost use Rattle.std.specs.Prelude.{◌≡◌, ◌+◌, ◌++◌, ◌^◌, ◌<◌, ◌≤◌, [], true, false, Ok, Err, IfOk, IfErr, IfSome, IsNone, IsSome, OnOk, is_some, map};
+ghost use Rattle.std.specs.Prelude.{unwrap_or};
+ghost use Rattle.std.specs.List.{cons_option};
 ghost use Rattle.std.specs.Option.{option_copied};
-ghost use Rattle.link_model.specs.Books.{nothing_gathered, gathers, gathered_bytes};
-ghost use Rattle.link_model.specs.Books.{gathered_outcome, gathered_whole, slot_at};
+ghost use Rattle.link_model.specs.Books.{nothing_gathered, gathers, gathered_bytes, gathered_outcome, gathered_whole, slot_at};
 ghost use Rattle.link_model.specs.Kept.{has_form, has_place, first_slice, slice_run};
 ghost use Rattle.link_gather.specs.Filling.{run_cut};
-ghost use Rattle.link_gather.specs.Views.{slice_part_of};
+ghost use Rattle.link_gather.specs.NewSlices.{new_in, slice_at};
+ghost use Rattle.link_gather.specs.Views.{new_slice_of, slice_part_of};
 ghost use Rattle.vc_types.specs.Subbands.{slice_count};
 ghost use Rattle.vc_types.specs.TransformParameters.{parameters_of};
 
 use crate::cutting::{has_slices, keep_slices};
-use crate::part::SlicePart;
+use crate::part::{NewSlice, SlicePart, Taken};
 use crate::slots::Slots;
 use bytes::Bytes;
 use link_model::Outcome;
@@ -28,9 +29,8 @@ pub(crate) struct Gathering {
 }
 
 impl Model for Gathering {
-    ghost use Rattle.std.specs.Prelude.{◌≡◌, length};
+    ghost use Rattle.link_gather.specs.NewSlices.{HasWholeSlots};
     ghost use Rattle.link_model.specs.Books.{Gathered};
-    ghost use Rattle.vc_types.specs.Subbands.{slice_count};
     ghost use Rattle.vc_types.specs.TransformParameters.{parameters_of};
 
     ghost Value = { Gathered };
@@ -43,7 +43,7 @@ impl Model for Gathering {
       slots = g.slots;
     } };
 
-    ghost invariant = { λ g. length g.slots ≡ slice_count (parameters_of g.plan) };
+    ghost invariant = { λ g. HasWholeSlots (parameters_of g.plan) g.slots };
 }
 
 impl Gathering {
@@ -64,18 +64,51 @@ impl Gathering {
     }
 
     /// Takes the slices of a part, except those that are kept already.
-    pub(crate) fn take(&mut self, part: &SlicePart) -> Result<Outcome, NoMemory>
+    pub(crate) fn take(&mut self, alloc: Global, part: &SlicePart) -> Result<Taken, NoMemory>
         ensures outcome { IfOk result
-            (λ outcome. outcome ≡ gathered_outcome self.old (slice_part_of part.now)) }
+            (λ taken. taken.outcome ≡ gathered_outcome self.old (slice_part_of part.now)) }
         ensures value { OnOk result (self.new ≡ gathers self.old (slice_part_of part.now)) }
+        ensures slices { IfOk result (λ taken. map new_slice_of taken.slices.items
+            ≡ new_in (λ i. is_some (slot_at self.old.slots i)) self.new) }
     {
         match first_taken(&self.plan, part) {
-            Err(outcome) => Ok(outcome),
+            Err(outcome) => Ok(Taken::nothing(alloc, outcome)),
             Ok(first) => {
-                let seen = keep_slices(&mut self.slots, first, part.count, &self.plan, &part.body)?;
-                Ok(seen.outcome())
+                let seen = keep_slices(alloc, &mut self.slots, first, &self.plan, part)?;
+                Ok(Taken {
+                    outcome: seen.outcome(),
+                    slices: seen.slices,
+                })
             }
         }
+    }
+
+    /// All slices that came.
+    pub(crate) fn slices(&self, alloc: Global) -> Result<Vec<NewSlice>, NoMemory>
+        ensures { IfOk result
+            (λ slices. map new_slice_of slices.items ≡ new_in (λ i. false) self.now) }
+    {
+        let mut slices = Vec::new(alloc);
+        for index in 0..self.plan.slices_x * self.plan.slices_y {
+            self.push_slice(&mut slices, index)?;
+        }
+        Ok(slices)
+    }
+
+    fn push_slice(&self, slices: &mut Vec<NewSlice>, index: u32) -> Result<(), NoMemory>
+        requires { index < slice_count self.now.plan.parameters }
+        ensures { OnOk result (map new_slice_of slices.new.items
+            ≡ map new_slice_of slices.old.items ++ cons_option (slice_at self.now index) []) }
+    {
+        if let Some(bytes) = self.slice(index) {
+            let bytes = bytes.clone()?;
+            slices.push(NewSlice {
+                plan: self.plan,
+                index,
+                bytes,
+            })?;
+        }
+        Ok(())
     }
 
     pub(crate) fn slice(&self, index: u32) -> Option<&Bytes>

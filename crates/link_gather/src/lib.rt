@@ -9,4 +9,4 @@ mod slots;
 
 pub use book::PictureBook;
 pub use link_model::Outcome;
-pub use part::SlicePart;
+pub use part::{NewSlice, SlicePart, Taken};

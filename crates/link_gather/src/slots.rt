@@ -1,4 +1,4 @@
-ghost use Rattle.std.specs.Prelude.{◌≡◌, ◌<◌, IfOk, None, is_some, length, replicate};
+ghost use Rattle.std.specs.Prelude.{◌≡◌, ◌<◌, IfOk, OnOk, OnErr, None, is_some, length, replicate};
 ghost use Rattle.std.specs.List.{list_all};
 ghost use Rattle.std.specs.Option.{option_copied};
 ghost use Rattle.link_model.specs.Books.{slot_at};
@@ -61,18 +61,20 @@ impl Slots {
         self.items.get(i)?.as_ref()
     }
 
-    /// Keeps a slice, unless its slot has one.
-    pub(crate) fn put(&mut self, i: usize, slice: Bytes) -> Put
+    /// Keeps a slice, unless its slot has one. The bytes are shared.
+    pub(crate) fn put(&mut self, i: usize, slice: &Bytes) -> Result<Put, NoMemory>
         requires { i < length self.old }
-        ensures value { self.new ≡ put_in self.old i slice }
-        ensures result { result ≡ put_result (slot_at self.old i) slice }
+        ensures value { OnOk result (self.new ≡ put_in self.old i slice.now) }
+        ensures result { IfOk result (λ put. put ≡ put_result (slot_at self.old i) slice.now) }
+        ensures unchanged { OnErr result (self.new ≡ self.old) }
     {
         match self.get(i) {
-            Some(kept) => compare(kept, &slice),
+            Some(kept) => Ok(compare(kept, slice)),
             None => {
-                self.items[i] = Some(slice);
+                let copy = slice.clone()?;
+                self.items[i] = Some(copy);
                 self.kept += 1;
-                Put::New
+                Ok(Put::New)
             }
         }
     }

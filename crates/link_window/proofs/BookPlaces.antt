@@ -1,6 +1,7 @@
 -- What stands at a picture's place among books, and what opening a picture and taking a part into its book leave.
 use Rattle.std.proofs.Common.{◌≡◌, ℕ, ◌<◌, ◌≤◌, true, false, List, [], ◌∷◌, length, set, get_or, Option, Some, None, refl, sym, arith, cond, Bor}
-use Rattle.std.specs.Prelude.{◌==◌, is_some, unwrap_or}
+use Rattle.std.proofs.Common.{map, Result, Ok, Err, ap, ◌∙◌}
+use Rattle.std.specs.Prelude.{◌==◌, IfOk, OnOk, is_some, unwrap_or}
 use Rattle.std.specs.Option.{option_copied}
 use Rattle.std.specs.List.{insert}
 use Rattle.std.proofs.lemmas.Bool.{false≢true}
@@ -8,6 +9,9 @@ use Rattle.std.proofs.lemmas.Option.{none-some}
 use Rattle.link_model.specs.Books.{Book, book_of, book_takes}
 use Rattle.link_model.specs.Session.{Part}
 use Rattle.link_model.specs.Windows.{NumberedBook, with_number, book_at, with_part}
+use Rattle.link_gather.specs.NewSlices.{brought_slices, new_slices}
+use Rattle.link_gather.specs.Views.{new_slice_of}
+use Rattle.link_gather.specs.declared.part.Taken.{Taken}
 use Rattle.link_window.specs.Places.{number_place, with_book}
 use Rattle.vc_types.specs.SequenceHeader.{Sequence}
 
@@ -72,3 +76,13 @@ copied_none (Some x) o is none = absurd (false≢true (sym none))
 pub copied_some : {X : Type 0} (r : Option (Bor X)) (o : Option X) → option_copied r ≡ o → is_some r ≡ true → (x : X) × (o ≡ Some x)
 copied_some None o is some = absurd (false≢true some)
 copied_some (Some x) o is some = (x.now, sym is)
+
+-- ---- what a part brings to a picture's book
+
+pub brings_by : {E : Type 0} (r : Result Taken E) (old new book : Book) (part : Part)
+    → OnOk r (new ≡ book_takes old part)
+    → IfOk r (λ taken. map new_slice_of taken.slices.items ≡ new_slices old new) → old ≡ book
+    → IfOk r (λ taken. map new_slice_of taken.slices.items ≡ brought_slices book part)
+brings_by (Err e) old new book part takes new_ones is = tt
+brings_by (Ok taken) old new book part takes new_ones is =
+    new_ones ∙ ap (new_slices old) takes ∙ ap (λ (b : Book). brought_slices b part) is

@@ -1,6 +1,5 @@
-pub mod SessionBooks
 pub mod SessionWindows
 pub mod DatagramSteps
-pub mod OfferedJobs
+pub mod BroughtJobs
 pub mod WindowJobs
 pub mod BookPlaces

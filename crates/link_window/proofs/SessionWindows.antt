@@ -1,11 +1,23 @@
--- What a fragment leaves of a session's window.
-use Rattle.std.proofs.Common.{◌≡◌, ◌-◌, ◌^◌, ◌<◌, false, refl, sym, subst, ◌∙◌, arith}
+-- What a fragment leaves of a session's window, whose books are whole.
+use Rattle.std.proofs.Common.{◌≡◌, ℕ, ◌-◌, ◌^◌, ◌<◌, false, Some, refl, sym, subst, ◌∙◌, arith}
 use Rattle.std.proofs.lemmas.Bool.{or_parts, leb-false}
+use Rattle.std.proofs.lemmas.Option.{cond_some}
+use Rattle.link_model.specs.Books.{Book, book_of}
+use Rattle.link_model.specs.Numbers.{parts_of}
 use Rattle.link_model.specs.Session.{Fragment}
-use Rattle.link_model.specs.Windows.{Window, new_window, new_past, number_by, late_in, opens_picture, rises_to}
+use Rattle.link_model.specs.Windows.{Window, WindowPast, StandsForPast, book_at, new_window, new_past}
+use Rattle.link_model.specs.Windows.{number_by, late_in, opens_picture, rises_to}
 use Rattle.link_model.specs.Windows.{window_enters, past_enters}
-use Rattle.link_model.proofs.WindowStands.{new_stands, running_is, enters_stands}
+use Rattle.link_model.proofs.WindowStands.{book_is, new_stands, running_is, enters_stands}
+use Rattle.receiver_model.specs.WholeBooks.{IsWholeBook}
+use Rattle.receiver_model.proofs.WholeBooks.{book_is_whole}
 use Rattle.link_window.specs.Pasts.{IsSessionWindow}
+
+module _ (w : Window) (p : WindowPast) (stands : StandsForPast w p) where
+  -- a book is that of the picture's parts
+  pub window_book_whole : (n : ℕ) (b : Book) → book_at w.books n ≡ Some b → IsWholeBook p.sequence b
+  window_book_whole n b is = book_is_whole p.sequence (parts_of n p.entries) b
+      (sym (cond_some _ (book_of p.sequence (parts_of n p.entries)) b (sym (book_is w p stands n) ∙ is)).1)
 
 module _ (w : Window) (f : Fragment) where
   enters_size : (window_enters w f).size ≡ w.size
@@ -20,7 +32,8 @@ module _ (w : Window) (f : Fragment) where
   unfolding window_enters
   enters_sequence = grind arith
 
-  pub enters_sound : IsSessionWindow w.sequence w → w.is_ended ≡ false → IsSessionWindow (window_enters w f).sequence (window_enters w f)
+  pub enters_sound : IsSessionWindow w.sequence w → w.is_ended ≡ false
+      → IsSessionWindow (window_enters w f).sequence (window_enters w f)
   enters_sound sound runs = record {
     past = past_enters sound.past f;
     stands = enters_stands w sound.past sound.stands (running_is w sound.past sound.stands runs) f;
@@ -37,7 +50,8 @@ module _ (w : Window) (f : Fragment) where
   enters_early early = rw early refl
 
 -- a window that begins anew
-pub anew_sound : (w : Window) → IsSessionWindow w.sequence w → (anew : Window) → anew ≡ new_window w.sequence w.size w.top → IsSessionWindow anew.sequence anew
+pub anew_sound : (w : Window) → IsSessionWindow w.sequence w → (anew : Window)
+    → anew ≡ new_window w.sequence w.size w.top → IsSessionWindow anew.sequence anew
 anew_sound w sound anew is = subst (λ (v : Window). IsSessionWindow v.sequence v) (sym is) (record {
   past = new_past w.sequence w.size w.top;
   stands = new_stands w.sequence w.size w.top;

@@ -1,36 +1,26 @@
 -- The jobs that a fragment of a session's window offers.
-use Rattle.std.proofs.Common.{◌≡◌, ℕ, Bool, true, false, [], Some, None, refl, ap, sym, subst, ◌∙◌, cond, arith}
+use Rattle.std.proofs.Common.{◌≡◌, ℕ, ◌<◌, Bool, true, false, [], map, Some, None, refl, ap, sym, subst}
+use Rattle.std.proofs.Common.{◌∙◌, cond, arith}
 use Rattle.std.proofs.lemmas.Option.{none-some, same_Some}
 use Rattle.link_model.specs.Session.{Fragment}
 use Rattle.link_model.specs.Books.{book_outcome}
-use Rattle.link_model.specs.Windows.{Window, book_at, book_in, number_by, late_in, opens_picture, rises_to, window_enters, window_outcome, past_enters}
+use Rattle.link_model.specs.Windows.{Window, book_in, number_by, late_in, opens_picture, rises_to}
+use Rattle.link_model.specs.Windows.{window_enters, window_outcome}
 use Rattle.link_model.specs.declared.outcome.Outcome.TheVariants.{Late}
-use Rattle.link_model.proofs.WindowStands.{running_is, enters_stands, late_leaves}
-use Rattle.receiver_model.specs.Exchanging.{new_jobs_of, offered_jobs}
-use Rattle.link_window.specs.Missing.{missing_in, jobs_by}
+use Rattle.link_model.proofs.WindowStands.{late_leaves}
+use Rattle.receiver_model.specs.Exchanging.{offered_jobs}
+use Rattle.link_gather.specs.NewSlices.{brought_slices}
 use Rattle.link_window.specs.Pasts.{IsSessionWindow}
-use Rattle.link_window.proofs.OfferedJobs.{offered_are, no_new_jobs}
+use Rattle.link_window.specs.PictureJobs.{picture_job}
+use Rattle.link_window.proofs.BroughtJobs.{brought_are, no_new_jobs}
 use Rattle.link_window.proofs.SessionWindows.{enters_early, enters_sound}
-use Rattle.link_window.proofs.SessionBooks.{window_book_whole, gathered_stays}
-use Rattle.vc_types.specs.SequenceHeader.{Sequence}
-
-module _ (w : Window) (f : Fragment) where
-  picture_offers : (s : Sequence) → IsSessionWindow s w → w.is_ended ≡ false → (n : ℕ) → n ≡ number_by w f.number
-      → jobs_by (book_at (window_enters w f).books n) n (missing_in f.part (book_at w.books n)) ≡ offered_jobs w (window_enters w f) f
-  unfolding offered_jobs
-  picture_offers s sound runs n is =
-      let p = sound.past in
-      let later = enters_stands w p sound.stands (running_is w p sound.stands runs) f in
-      offered_are p.sequence f.part w (window_enters w f) n (gathered_stays w p sound.stands runs f n is) (window_book_whole (window_enters w f) (past_enters p f) later n)
-      ∙ ap (new_jobs_of w (window_enters w f)) is
-
--- ---- by the number that is asked for first
 
 is_late : (late : Bool) (n : ℕ) → None ≡ cond late None (Some n) → late ≡ true
 is_late true n e = refl
 is_late false n e = absurd (none-some n e)
 
-is_early : (late : Bool) (n number : ℕ) → Some number ≡ cond late None (Some n) → (late ≡ false) × (number ≡ n)
+is_early : (late : Bool) (n number : ℕ) → Some number ≡ cond late None (Some n)
+    → (late ≡ false) × (number ≡ n)
 is_early true n number e = absurd (none-some number (sym e))
 is_early false n number e = (refl, same_Some number n e)
 
@@ -52,7 +42,8 @@ module _ (w : Window) (f : Fragment) where
     late_offers = grind (arith, late, late_leaves, no_new_jobs)
 
   -- another enters its picture
-  module _ (number : ℕ) (some : Some number ≡ cond (late_in w (number_by w f.number)) None (Some (number_by w f.number))) where
+  module _ (number : ℕ)
+      (some : Some number ≡ cond (late_in w (number_by w f.number)) None (Some (number_by w f.number))) where
     early : (late_in w (number_by w f.number) ≡ false) × (number ≡ number_by w f.number)
     early = is_early (late_in w (number_by w f.number)) (number_by w f.number) number some
 
@@ -62,12 +53,17 @@ module _ (w : Window) (f : Fragment) where
 
     module _ (kept : Window) (is : kept ≡ rises_to (opens_picture w number f.part) number) where
       pub early_value : kept ≡ window_enters w f
-      early_value = is ∙ ap (λ (n : ℕ). rises_to (opens_picture w n f.part) n) early.1 ∙ sym (enters_early w f early.0)
+      early_value = is ∙ ap (λ (n : ℕ). rises_to (opens_picture w n f.part) n) early.1
+          ∙ sym (enters_early w f early.0)
 
       module _ (sound : IsSessionWindow w.sequence w) (runs : w.is_ended ≡ false) where
         pub early_sound : IsSessionWindow kept.sequence kept
-        early_sound = subst (λ (v : Window). IsSessionWindow v.sequence v) (sym early_value) (enters_sound w f sound runs)
+        early_sound = subst (λ (v : Window). IsSessionWindow v.sequence v) (sym early_value)
+            (enters_sound w f sound runs)
 
-        pub early_offers : jobs_by (book_at kept.books number) number (missing_in f.part (book_at w.books number)) ≡ offered_jobs w (window_enters w f) f
-        early_offers = ap (λ (v : Window). jobs_by (book_at v.books number) number (missing_in f.part (book_at w.books number))) early_value
-            ∙ picture_offers w f w.sequence sound runs number early.1
+    pub early_offers : 0 < w.size → w.is_ended ≡ false
+        → map (picture_job number) (brought_slices (book_in w number) f.part)
+        ≡ offered_jobs w (window_enters w f) f
+    early_offers some runs =
+        ap (λ n. map (picture_job n) (brought_slices (book_in w n) f.part)) early.1
+        ∙ brought_are w f runs some early.0

@@ -1,6 +1,6 @@
 pub mod Openings
 pub mod Hearing
 pub mod Pasts
-pub mod Missing
+pub mod PictureJobs
 pub mod Views
 pub mod Places

@@ -1,15 +1,16 @@
-ghost use Rattle.std.specs.Prelude.{◌≡◌, ◌≤◌, IfOk, OnOk, length, unwrap_or, []};
+ghost use Rattle.std.specs.Prelude.{◌≡◌, ◌≤◌, IfOk, OnOk, length, map, unwrap_or, []};
 ghost use Rattle.std.specs.Option.{option_copied};
 ghost use Rattle.link_model.specs.Books.{book_of, book_outcome};
 ghost use Rattle.link_model.specs.Windows.{book_at, with_part};
+ghost use Rattle.link_gather.specs.NewSlices.{brought_slices};
+ghost use Rattle.link_gather.specs.Views.{new_slice_of};
 ghost use Rattle.link_window.specs.Places.{number_place, with_book};
 ghost use Rattle.link_window.specs.Views.{sent_part};
 ghost use Rattle.vc_types.specs.SequenceHeader.{sequence_of};
 
 use crate::fragment::Part;
 use crate::picture::OpenPicture;
-use link_gather::PictureBook;
-use link_model::Outcome;
+use link_gather::{PictureBook, Taken};
 use std::alloc::Global;
 use vc_types::{Header, NoMemory};
 
@@ -63,10 +64,14 @@ pub(crate) fn take_part(
     pictures: &mut Vec<OpenPicture>,
     number: u64,
     part: Part,
-) -> Result<Outcome, NoMemory>
+) -> Result<Taken, NoMemory>
     ensures outcome { let old = book_at pictures.old.items number in
         let book = unwrap_or old (book_of (sequence_of h) []) in
-        IfOk result (λ outcome. outcome ≡ book_outcome book (sent_part part)) }
+        IfOk result (λ taken. taken.outcome ≡ book_outcome book (sent_part part)) }
+    ensures slices { let old = book_at pictures.old.items number in
+        let book = unwrap_or old (book_of (sequence_of h) []) in
+        IfOk result (λ taken. map new_slice_of taken.slices.items
+        ≡ brought_slices book (sent_part part)) }
     ensures value { OnOk result (pictures.new.items
         ≡ with_part (sequence_of h) pictures.old.items number (sent_part part)) }
 {

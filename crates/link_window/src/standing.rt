@@ -10,13 +10,12 @@ ghost use Rattle.receiver_model.specs.Exchanging.{offered_jobs, unreleased_job};
 ghost use Rattle.receiver_model.specs.Judging.{is_over};
 ghost use Rattle.receiver_model.specs.WholeBooks.{IsWholeBook};
 ghost use Rattle.link_slices.specs.Jobs.{job_of};
-ghost use Rattle.link_window.specs.Missing.{jobs_by};
 ghost use Rattle.link_window.specs.Openings.{session_of};
 ghost use Rattle.link_window.specs.Views.{sent_fragment, releasable_of};
 ghost use Rattle.vc_types.specs.SequenceHeader.{coded_header, sequence_of};
 
 use crate::heard::Opening;
-use crate::offering::{all_jobs, has_job, jobs_of, missing_slices};
+use crate::jobs::{has_job, jobs_of};
 use crate::{Fragment, Released, Window};
 use link_gather::PictureBook;
 use link_model::Outcome;
@@ -150,25 +149,12 @@ impl Standing {
                 jobs: Vec::new(self.alloc),
             });
         };
-        let missing = missing_slices(self.alloc, self.window.book(number), &f.part)?;
-        let outcome = self.window.keep(number, f.part)?;
-        let jobs = self.jobs(number, missing)?;
-        Ok(Entered { outcome, jobs })
-    }
-
-    // The jobs of the slices that a picture has, of those that weren't there before, or of all.
-    fn jobs(&self, number: u64, missing: Option<Vec<u32>>) -> Result<Vec<SliceJob>, NoMemory>
-        ensures { IfOk result (λ jobs. map job_of jobs.items
-            ≡ jobs_by (windows.book_at self.now.window.books number) number
-            (option_map (λ numbers. numbers.items) missing)) }
-    {
-        let Some(book) = self.book(number) else {
-            return Ok(Vec::new(self.alloc));
-        };
-        match missing {
-            Some(missing) => jobs_of(self.alloc, book, number, &missing),
-            None => all_jobs(self.alloc, book, number),
-        }
+        let taken = self.window.keep(number, f.part)?;
+        let jobs = jobs_of(self.alloc, number, taken.slices)?;
+        Ok(Entered {
+            outcome: taken.outcome,
+            jobs,
+        })
     }
 
     /// The session has its end.

@@ -1,5 +1,4 @@
-ghost use Rattle.std.specs.Prelude.{◌≡◌, ◌+◌, ◌-◌, ◌^◌, ◌<◌, ◌≤◌, ◌&&◌, if◌then◌else◌, IfOk};
-ghost use Rattle.std.specs.Prelude.{OnOk, OnErr, Ok, Some, None, true, false, length};
+ghost use Rattle.std.specs.Prelude.{◌≡◌, ◌+◌, ◌-◌, ◌^◌, ◌<◌, ◌≤◌, ◌&&◌, if◌then◌else◌, IfOk, OnOk, OnErr, Ok, Some, None, true, false, length, map};
 ghost use Rattle.std.specs.Option.{option_copied, option_map};
 ghost use Rattle.link_model.specs.Books.{book_of, book_outcome};
 ghost use Rattle.link_model.specs.Judgement.{fragment_outcome};
@@ -7,6 +6,8 @@ ghost use Rattle.link_model.specs.Numbers as numbers;
 ghost use Rattle.link_model.specs.Numbers.{is_opened, parts_of};
 ghost use Rattle.link_model.specs.Windows as windows;
 ghost use Rattle.link_model.specs.Windows.{WindowPast, StandsForPast};
+ghost use Rattle.link_gather.specs.NewSlices.{brought_slices};
+ghost use Rattle.link_gather.specs.Views.{new_slice_of};
 ghost use Rattle.link_window.specs.Views.{sent_part, sent_fragment, releasable_of};
 ghost use Rattle.vc_types.specs.SequenceHeader.{sequence_of};
 
@@ -15,7 +16,7 @@ use crate::fragment::{Fragment, Part};
 use crate::numbering::{base_above, nearest};
 use crate::picture::OpenPicture;
 use crate::progress::Progress;
-use link_gather::PictureBook;
+use link_gather::{PictureBook, Taken};
 use link_model::Outcome;
 use std::alloc::Global;
 use std::marker::Model;
@@ -128,25 +129,28 @@ impl Window {
         let Some(number) = self.number_of(f.number) else {
             return Ok(Outcome::Late);
         };
-        self.keep(number, f.part)
+        let taken = self.keep(number, f.part)?;
+        Ok(taken.outcome)
     }
 
-    /// Takes a part into the book of a picture whose number isn't late. Without memory for it the
-    /// window begins anew.
-    pub(crate) fn keep(&mut self, number: u64, part: Part) -> Result<Outcome, NoMemory>
+    /// Takes a part into the book of a picture whose number isn't late, and answers the slices that
+    /// are new. Without memory for it the window begins anew.
+    pub(crate) fn keep(&mut self, number: u64, part: Part) -> Result<Taken, NoMemory>
         requires { number < 2 ^ 64 - 16 }
-        ensures outcome { IfOk result (λ outcome. outcome
+        ensures outcome { IfOk result (λ taken. taken.outcome
             ≡ book_outcome (windows.book_in self.old number) (sent_part part)) }
+        ensures slices { IfOk result (λ taken. map new_slice_of taken.slices.items
+            ≡ brought_slices (windows.book_in self.old number) (sent_part part)) }
         ensures value { OnOk result (self.new ≡ windows.rises_to
             (windows.opens_picture self.old number (sent_part part)) number) }
         ensures lost { OnErr result (self.new
             ≡ windows.new_window self.old.sequence self.old.size self.old.top) }
     {
         match take_part(self.alloc, self.header, &mut self.pictures, number, part) {
-            Ok(outcome) => {
+            Ok(taken) => {
                 self.is_new = false;
                 self.rise_to(number);
-                Ok(outcome)
+                Ok(taken)
             }
             Err(e) => {
                 self.begin_anew();

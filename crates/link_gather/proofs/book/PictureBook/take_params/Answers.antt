@@ -1,16 +1,15 @@
-use Rattle.std.proofs.Common.{◌≡◌, ap, ◌∙◌}
-use Rattle.std.proofs.lemmas.Result.{on_ok_weaker, IfOk-weaker}
+use Rattle.std.proofs.Common.{ap, ◌∙◌}
 use Rattle.link_model.specs.Books.{Book, book_takes, book_outcome}
-use Rattle.link_model.specs.Judgement.{part_outcome}
 use Rattle.link_model.specs.Session.{ParamsPart}
 use Rattle.link_model.proofs.Bookkeeping.{takes-more, book_outcome_is}
 use Rattle.link_gather.proofs.book.PictureBook.take_params.Goals as goal
 
 pub returns-clause-judged : goal.returns-clause-judged
-returns-clause-judged c = λ s parts is.
-    IfOk-weaker c.params.result (λ outcome. outcome ≡ book_outcome c.args.self.now (ParamsPart c.args.body)) (λ outcome. outcome ≡ part_outcome s parts (ParamsPart c.args.body))
-    (λ outcome e. e ∙ ap (λ (b : Book). book_outcome b (ParamsPart c.args.body)) is ∙ book_outcome_is s parts (ParamsPart c.args.body)) c.params.ensures.outcome
+returns-clause-judged c = λ s parts is. c.in_ok-taken.ensures.outcome
+    ∙ ap (λ (b : Book). book_outcome b (ParamsPart c.args.body)) is
+    ∙ book_outcome_is s parts (ParamsPart c.args.body)
 
 pub returns-clause-stands : goal.returns-clause-stands
-returns-clause-stands c = λ s parts is.
-    on_ok_weaker c.params.result (λ after. after ∙ ap (λ (b : Book). book_takes b (ParamsPart c.args.body)) is ∙ takes-more s parts (ParamsPart c.args.body)) c.params.ensures.value
+returns-clause-stands c = λ s parts is. c.in_ok-taken.ensures.value
+    ∙ ap (λ (b : Book). book_takes b (ParamsPart c.args.body)) is
+    ∙ takes-more s parts (ParamsPart c.args.body)
