@@ -176,7 +176,7 @@ takes_nothing told r e = (
   λ some. absurd (none_is_next (next_picture r) e some),
 )
 
-pub exchanges_then : (result : Result (Unit {0}) NoMemory) (a b c : Option Told)
+pub exchanges_then : {A : Type 0} (result : Result A NoMemory) (a b c : Option Told)
     (r s t : Reception) (jobs : List SliceJob) → Offers a b r s jobs
     → OnOk result (TakesBack b c s t) → OnOk result (Exchanges a c r t jobs)
 exchanges_then (Err e) a b c r s t jobs h m = tt

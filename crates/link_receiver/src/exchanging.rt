@@ -19,39 +19,46 @@ use vc_types::NoMemory;
 #[tactic(auto, using(crate::proofs::Asked::keeps_none, crate::proofs::Asked::keeps_twice))]
 impl Reception {
     /// Offers jobs to places, and takes back what is decoded: where a job is handed back, and where
-    /// a picture may be released.
+    /// a picture may be released, which is answered.
     pub(crate) fn exchange<P: Places>(
         &mut self,
         jobs: Vec<SliceJob>,
         places: &mut P,
-    ) -> Result<(), NoMemory>
+    ) -> Result<Option<Released>, NoMemory>
         requires below { PlacesAreBelow (P.bound places.old) self.old.out }
         ensures exchanged { OnOk result ((calls : List PlaceCall)
             × IsExchanged (P.told places.old) (P.told places.new) self.old self.new calls
             × AreOffersOf (map job_of jobs.items) (proposed_in (exchanges_of calls))
             × (is_some (next_picture self.old) ≡ true
             → are_asked self.old.out (exchanges_of calls) ≡ true)) }
+        ensures next { IfOk result
+            (λ next. option_map releasable_of next ≡ next_picture self.new) }
         ensures places { KeepsPlaces P.told P.bound places.old places.new self.new.out }
     {
         self.offer_all(jobs, places)?;
         self.take_back(places)
     }
 
-    /// Takes back what is decoded, if a picture may be released.
-    pub(crate) fn take_back<P: Places>(&mut self, places: &mut P) -> Result<(), NoMemory>
+    /// Takes back what is decoded, if a picture may be released, which is answered.
+    pub(crate) fn take_back<P: Places>(
+        &mut self,
+        places: &mut P,
+    ) -> Result<Option<Released>, NoMemory>
         requires below { PlacesAreBelow (P.bound places.old) self.old.out }
         ensures exchanged { OnOk result ((calls : List PlaceCall)
             × IsExchanged (P.told places.old) (P.told places.new) self.old self.new calls
             × (proposed_in (exchanges_of calls) ≡ [])
             × (is_some (next_picture self.old) ≡ true
             → are_asked self.old.out (exchanges_of calls) ≡ true)) }
+        ensures next { IfOk result
+            (λ next. option_map releasable_of next ≡ next_picture self.new) }
         ensures places { KeepsPlaces P.told P.bound places.old places.new self.new.out }
     {
-        let Some(_next) = self.next_release() else {
-            return Ok(());
+        let Some(next) = self.next_release() else {
+            return Ok(None);
         };
         let _came = self.ask_all(places)?;
-        Ok(())
+        Ok(Some(next))
     }
 
     fn offer_all<P: Places>(&mut self, jobs: Vec<SliceJob>, places: &mut P) -> Result<(), NoMemory>

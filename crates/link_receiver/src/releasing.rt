@@ -1,4 +1,5 @@
 ghost use Rattle.std.specs.Prelude.{◌≡◌, OnOk, OnErr, Some, Err};
+ghost use Rattle.std.specs.Option.{option_map};
 ghost use Rattle.receiver_model.specs.Releasing.{releases_picture_of};
 ghost use Rattle.receiver_model.specs.Releasing.{freed_places, next_picture};
 ghost use Rattle.receiver_model.specs.Releasing.{book_count};
@@ -25,13 +26,15 @@ use vc_slice::Places;
 
 #[tactic(auto, using(crate::proofs::Asked::keeps_none, crate::proofs::Asked::keeps_twice))]
 impl Reception {
-    /// Releases each picture that may be released.
+    /// Releases each picture that may be released, of which this is the next, if there is one.
     pub(crate) fn release_all<P: Places, O: Sink>(
         &mut self,
+        mut next: Option<Released>,
         stream: &mut Option<StreamOutput>,
         places: &mut P,
         sink: &mut O,
     ) -> Result<(), StepFault>
+        requires next { option_map releasable_of next ≡ next_picture self.old }
         requires waiting { WaitsForSecond self.old.standing self.old.field }
         requires below { PlacesAreBelow (P.bound places.old) self.old.out }
         ensures released { OnOk result (AreReleased (P.told places.old) (P.told places.new)
@@ -44,10 +47,11 @@ impl Reception {
         ensures places { KeepsPlaces P.told P.bound places.old places.new self.new.out }
     {
         for _ in 0..self.open_pictures() {
-            let Some(picture) = self.next_release() else {
+            let Some(picture) = next else {
                 return Ok(());
             };
             self.release(picture, stream, places, sink)?;
+            next = self.next_release();
         }
         Ok(())
     }

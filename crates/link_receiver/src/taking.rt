@@ -51,8 +51,8 @@ impl Reception {
     {
         let is_first = self.is_idle();
         let kept = self.keep(datagram)?;
-        self.exchange(kept.jobs, places)?;
-        self.release_all(stream, places, sink)?;
+        let next = self.exchange(kept.jobs, places)?;
+        self.release_all(next, stream, places, sink)?;
         open_stream(stream, &kept.opening, is_first, datagram)?;
         self.open(kept.opening)?;
         Ok(kept.outcome)
@@ -80,8 +80,8 @@ impl Reception {
         ensures places { KeepsPlaces P.told P.bound places.old places.new self.new.out }
     {
         self.end_input();
-        self.take_back(places)?;
-        self.release_all(stream, places, sink)?;
+        let next = self.take_back(places)?;
+        self.release_all(next, stream, places, sink)?;
         self.give_up_field()?;
         end_stream(stream, sink)?;
         Ok(())

@@ -4,29 +4,29 @@ use Rattle.link_receiver.proofs.reception.Reception.finish.Goals as goal
 
 pub release_all-requires-clause-waiting : goal.release_all-requires-clause-waiting
 release_all-requires-clause-waiting g c = waits_at_end c.args.self.now c.end_input.ensures
-    c.in_ok-take_back.ensures.exchanged c.requires.waiting
+    c.in_ok-next.ensures.exchanged c.requires.waiting
 
 pub returns-in_err-release_all-clause-failed : goal.returns-in_err-release_all-clause-failed
 returns-in_err-release_all-clause-failed g c = on_err _ _ (fails_at_end
-    c.args.self.now c.end_input.ensures c.in_ok-take_back.ensures.exchanged c.args.stream.now
+    c.args.self.now c.end_input.ensures c.in_ok-next.ensures.exchanged c.args.stream.now
     _ _ c.in_err-release_all.ensures.err)
 
 pub returns-in_err-give_up_field-clause-failed : goal.returns-in_err-give_up_field-clause-failed
 returns-in_err-give_up_field-clause-failed g c = on_err _ _ (fails_released_at_end
-    c.args.self.now c.end_input.ensures c.in_ok-take_back.ensures.exchanged
+    c.args.self.now c.end_input.ensures c.in_ok-next.ensures.exchanged
     c.in_ok-release_all.ensures.released)
 
 pub returns-in_err-end_stream-clause-failed : goal.returns-in_err-end_stream-clause-failed
 returns-in_err-end_stream-clause-failed g c = on_err _ _ (fails_last c.args.self.now
-    c.end_input.ensures c.in_ok-take_back.ensures.exchanged c.in_ok-release_all.ensures.released _
+    c.end_input.ensures c.in_ok-next.ensures.exchanged c.in_ok-release_all.ensures.released _
     c.in_err-end_stream.ensures.err)
 
 pub returns-clause-has_ended : goal.returns-clause-has_ended
 returns-clause-has_ended g c = ended_behind c.args.self.now c.end_input.ensures
-    c.in_ok-take_back.ensures.exchanged c.in_ok-release_all.ensures.released
+    c.in_ok-next.ensures.exchanged c.in_ok-release_all.ensures.released
     c.in_ok-give_up_field.ensures.value
 
 pub returns-clause-drained : goal.returns-clause-drained
 returns-clause-drained g c = drains c.args.self.now c.end_input.ensures
-    c.in_ok-take_back.ensures.exchanged c.in_ok-release_all.ensures.released
+    c.in_ok-next.ensures.exchanged c.in_ok-release_all.ensures.released
     c.in_ok-give_up_field.ensures.value _ c.in_ok-end_stream.ensures.ok

@@ -9,11 +9,11 @@ use Rattle.link_receiver.proofs.reception.Reception.release_all.Goals as goal
 
 pub loop-init : goal.loop-init
 loop-init g c =
-    grind (arith, releasing_begins, keeps_none, c.open_pictures-end.ensures, c.requires.waiting, c.requires.below)
+    grind (arith, releasing_begins, keeps_none, c.open_pictures-end.ensures, c.requires.next, c.requires.waiting, c.requires.below)
 
 pub returns-in_default-clause-released : goal.returns-in_default-clause-released
 returns-in_default-clause-released g c =
-    let none : next_picture c.loop.self ≡ None = sym c.next_release.ensures
+    let none : next_picture c.loop.self ≡ None = sym c.loop.invariant.next
     ∙ ap (option_map releasable_of) c.in_default.is in
     releasing_stops c.loop.invariant.releasing none
 
@@ -29,7 +29,7 @@ returns-in_err-release-clause-err g c =
     let e : n - c.loop.counter ≡ suc (n - (c.loop.counter + 1)) =
     omega (arith, c.loop.invariant.within, c.loop-test.true) in
     let next : next_picture c.loop.self ≡ Some (releasable_of c.in-Some.picture) =
-    sym c.next_release.ensures ∙ ap (option_map releasable_of) c.in-Some.is in
+    sym c.loop.invariant.next ∙ ap (option_map releasable_of) c.in-Some.is in
     on_err _ _ (releasing_fails e c.loop.invariant.releasing
     (releasable_of c.in-Some.picture) next _ c.in_err-release.ensures.err)
 
@@ -39,7 +39,7 @@ loop-preserved g c =
     let e : n - c.loop.counter ≡ suc (n - (c.loop.counter + 1)) =
     omega (arith, c.loop.invariant.within, c.loop-test.true) in
     let next : next_picture c.loop.self ≡ Some (releasable_of c.in-Some.picture) =
-    sym c.next_release.ensures ∙ ap (option_map releasable_of) c.in-Some.is in
+    sym c.loop.invariant.next ∙ ap (option_map releasable_of) c.in-Some.is in
     record {
       releasing = releasing_goes_on e c.loop.invariant.releasing
           (releasable_of c.in-Some.picture) next _ _ _ _ c.in_ok-release.ensures.value
@@ -47,6 +47,7 @@ loop-preserved g c =
           c.in_ok-release.ensures.written c.in_ok-release.ensures.told;
       within = c.loop.invariant.within;
       later = omega (arith, c.loop.invariant.later, c.release.ensures.cause.later);
+      next = c.next_release-next.ensures;
       waiting = c.in_ok-release.ensures.waiting;
       places = keeps_twice c.loop.invariant.places c.release.ensures.places;
     }

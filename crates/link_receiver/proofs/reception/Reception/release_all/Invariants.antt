@@ -1,5 +1,7 @@
 use Rattle.std.proofs.Common.{◌≡◌, ◌-◌, ◌≤◌}
-use Rattle.receiver_model.specs.Releasing.{book_count}
+use Rattle.std.specs.Option.{option_map}
+use Rattle.receiver_model.specs.Releasing.{book_count, next_picture}
+use Rattle.link_window.specs.Views.{releasable_of}
 use Rattle.link_receiver.proofs.ReleaseLoop.{IsReleasing}
 use Rattle.link_receiver.specs.States.{WaitsForSecond}
 use Rattle.link_receiver.specs.Exchanged.{KeepsPlaces}
@@ -12,6 +14,7 @@ invariant-loop g l = record {
       (g.P.Places.told l.places);
   within : l.end ≡ book_count l.fn.self;
   later : g.O.Sink.faults l.fn.sink ≤ g.O.Sink.faults l.sink;
+  next : option_map releasable_of l.next ≡ next_picture l.self;
   waiting : WaitsForSecond l.self.standing l.self.field;
   places : KeepsPlaces g.P.Places.told g.P.Places.bound l.fn.places l.places l.self.out;
 }

@@ -1,7 +1,7 @@
 use Rattle.std.proofs.Common.{◌≡◌, ◌∙◌, None, ap, sym}
 use Rattle.std.specs.Option.{option_map}
 use Rattle.receiver_model.specs.Releasing.{next_picture}
-use Rattle.link_receiver.proofs.CallSteps.{takes_nothing}
+use Rattle.link_receiver.proofs.CallSteps.{calls_session, same_next, takes_nothing}
 use Rattle.link_window.specs.Views.{releasable_of}
 use Rattle.link_receiver.proofs.reception.Reception.take_back.Goals as goal
 
@@ -14,3 +14,12 @@ returns-in_default-clause-exchanged g c =
 pub returns-clause-exchanged : goal.returns-clause-exchanged
 returns-clause-exchanged g c =
     let all = c.in_ok-_came.ensures.exchanged in (all.0, all.1, all.2, λ some. all.3)
+
+pub returns-in_default-clause-next : goal.returns-in_default-clause-next
+returns-in_default-clause-next g c = sym (ap (option_map releasable_of) c.in_default.is) ∙ c.next_release.ensures
+
+pub returns-clause-next : goal.returns-clause-next
+returns-clause-next g c =
+    let all = c.in_ok-_came.ensures.exchanged in
+    sym (ap (option_map releasable_of) c.in-Some.is) ∙ c.next_release.ensures
+    ∙ sym (same_next _ _ (calls_session _ _ _ _ all.0 all.1))
