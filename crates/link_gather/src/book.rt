@@ -1,7 +1,8 @@
 ghost use Rattle.std.specs.Prelude.{◌≡◌, ◌++◌, ◌∷◌, [], List, IfOk, IsTrue, OnOk, Some, is_some, fold, map};
 ghost use Rattle.std.specs.Prelude.{if◌then◌else◌};
 ghost use Rattle.std.specs.Option.{option_copied, option_map};
-ghost use Rattle.link_model.specs.Books.{nothing_gathered, gathers, book_of, book_takes, book_outcome, book_plan, book_slice, book_whole};
+ghost use Rattle.link_model.specs.Books.{nothing_gathered, gathers, book_of, book_takes};
+ghost use Rattle.link_model.specs.Books.{book_outcome, book_plan, book_slice, book_whole};
 ghost use Rattle.link_model.specs.Judgement.{part_outcome};
 ghost use Rattle.link_model.specs.Session.{Part, ParamsPart, SlicesPart};
 ghost use Rattle.link_gather.specs.NewSlices.{new_slices};
@@ -22,8 +23,8 @@ use vc_types::{Header, NoMemory, Plan};
 // How many parts of slices wait for their picture's parameters.
 const WAITING_LIMIT: usize = 16384;
 
-/// What one picture keeps of its parts, in whatever order they come: the first transform parameters that are accepted,
-/// and of each slice the first copy. After `NoMemory` nothing is promised of it.
+/// What one picture keeps of its parts, in whatever order they come: the first transform parameters that
+/// are accepted, and of each slice the first copy. After `NoMemory` nothing is promised of it.
 #[derive(Drop)]
 pub struct PictureBook {
     alloc: Global,
@@ -61,7 +62,8 @@ impl PictureBook {
         }
     }
 
-    /// Takes transform parameters: keeps them where there are none yet, and then takes the slices that waited.
+    /// Takes transform parameters: keeps them where there are none yet, and then takes the slices that
+    /// waited.
     pub fn take_params(&mut self, body: Bytes) -> Result<Outcome, NoMemory>
         ensures outcome { IfOk result
             (λ outcome. outcome ≡ book_outcome self.old (ParamsPart body)) }

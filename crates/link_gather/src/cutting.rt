@@ -1,8 +1,10 @@
-ghost use Rattle.std.specs.Prelude.{◌≡◌, ◌≤◌, ◌<◌, ◌||◌, ◌+◌, ◌++◌, ◌^◌, ◌==◌, ◌∷◌, [], IfOk, OnOk, is_ok, length, map, not};
+ghost use Rattle.std.specs.Prelude.{◌≡◌, ◌≤◌, ◌<◌, ◌||◌, ◌+◌, ◌++◌, ◌^◌, ◌==◌, ◌∷◌, []};
+ghost use Rattle.std.specs.Prelude.{IfOk, OnOk, is_ok, length, map, not};
 ghost use Rattle.std.specs.Prelude.{if◌then◌else◌};
 ghost use Rattle.link_model.specs.Books.{with_run};
 ghost use Rattle.link_model.specs.Kept.{next_slices};
-ghost use Rattle.link_gather.specs.Filling.{run_cut, has_conflict, has_new, is_put_other, is_put_new, seen_outcome};
+ghost use Rattle.link_gather.specs.Filling.{run_cut, has_conflict, has_new};
+ghost use Rattle.link_gather.specs.Filling.{is_put_other, is_put_new, seen_outcome};
 ghost use Rattle.link_gather.specs.NewSlices.{HasWholeSlots, run_new};
 ghost use Rattle.link_gather.specs.Views.{new_slice_of};
 ghost use Rattle.vc_types.specs.OfPlan.{slice_count};

@@ -1,8 +1,10 @@
-ghost use Rattle.std.specs.Prelude.{◌≡◌, ◌+◌, ◌++◌, ◌^◌, ◌<◌, ◌≤◌, [], true, false, Ok, Err, IfOk, IfErr, IfSome, IsNone, IsSome, OnOk, is_some, map};
+ghost use Rattle.std.specs.Prelude.{◌≡◌, ◌+◌, ◌++◌, ◌^◌, ◌<◌, ◌≤◌, [], true, false, Ok, Err, IfOk};
+ghost use Rattle.std.specs.Prelude.{IfErr, IfSome, IsNone, IsSome, OnOk, is_some, map};
 ghost use Rattle.std.specs.Prelude.{unwrap_or};
 ghost use Rattle.std.specs.List.{cons_option};
 ghost use Rattle.std.specs.Option.{option_copied};
-ghost use Rattle.link_model.specs.Books.{nothing_gathered, gathers, gathered_bytes, gathered_outcome, gathered_whole, slot_at};
+ghost use Rattle.link_model.specs.Books.{nothing_gathered, gathers, gathered_bytes};
+ghost use Rattle.link_model.specs.Books.{gathered_outcome, gathered_whole, slot_at};
 ghost use Rattle.link_model.specs.Kept.{has_form, has_place, first_slice, slice_run};
 ghost use Rattle.link_gather.specs.Filling.{run_cut};
 ghost use Rattle.link_gather.specs.NewSlices.{new_in, slice_at};

@@ -20,7 +20,7 @@ use Rattle.link_receiver.specs.Entered.{IsEntered, IsDrained}
 use Rattle.link_receiver.specs.Freeing.{all_freed_places}
 use Rattle.link_receiver.specs.Offers.{AreOffersOf, proposed_in, are_asked}
 use Rattle.link_receiver.specs.Released.{AreReleased}
-use Rattle.link_receiver.specs.States.{IsRunning, WaitsForSecond, GoesOn}
+use Rattle.link_receiver.specs.States.{IsRunning, WaitsForSecond, IsReceiving}
 use Rattle.link_slices.proofs.Growing.{grows_twice}
 use Rattle.link_slices.specs.Calls.{PlaceCall, told_of, exchanges_of, freeing}
 use Rattle.link_slices.specs.Jobs.{job_of}
@@ -188,17 +188,17 @@ module _ {a b : Option Told} (old : Reception) {kept exchanged : Reception} (d :
     has_ended_behind o n = ap (λ (r : Reception). r.has_ended) n ∙ opened-has_ended o
         ∙ has_ended_released
 
-    opens : GoesOn old → WaitsForSecond released.standing released.field
+    opens : IsReceiving old → WaitsForSecond released.standing released.field
         → (o : Option Opening) → (o ≡ None → IsRunning kept.standing)
-        → GoesOn (opens_session (option_map session_of o) released)
+        → IsReceiving (opens_session (option_map session_of o) released)
     opens old_goes waits None running = grind (arith, size_released, running_released)
     opens old_goes waits (Some opening) running = grind (arith, size_released)
 
-    pub goes_on_behind : GoesOn old → WaitsForSecond released.standing released.field
+    pub goes_on_behind : IsReceiving old → WaitsForSecond released.standing released.field
         → (o : Option Opening) → (o ≡ None → IsRunning kept.standing) → {new : Reception}
-        → new ≡ opens_session (option_map session_of o) released → GoesOn new
+        → new ≡ opens_session (option_map session_of o) released → IsReceiving new
     goes_on_behind old_goes waits o running n =
-        subst GoesOn (sym n) (opens old_goes waits o running)
+        subst IsReceiving (sym n) (opens old_goes waits o running)
 
     module _ {outcome : Outcome} {o : Option Session} {new : Reception}
         {last : Option WrittenStream} {is_first : Bool} {datagram : List ℕ}

@@ -70,7 +70,7 @@ pub record IsSeen (st : StandingSession) (n : ℕ)
 -- ---- what goes out
 
 -- these bytes, or, where the step fails, a part of them
-pub record Writes {O A : Type 0} (held : O → Option (List ℕ)) (faults : O → ℕ) (before after : O)
+pub record StepWrites {O A : Type 0} (held : O → Option (List ℕ)) (faults : O → ℕ) (before after : O)
     (result : Result A StepFault) (bytes : List ℕ) : Type 0 where
   pub ok : OnOk result (Grew (held before) (held after) bytes)
   pub err : OnErr result (GrewBySome (held before) (held after) bytes)

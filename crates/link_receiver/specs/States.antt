@@ -28,11 +28,11 @@ WaitsForSecond standing None = Unit {0}
 WaitsForSecond None (Some field) = ⊥
 WaitsForSecond (Some st) (Some field) = ArePicturePlanes st.session.sequence field.planes
 
-pub record GoesOn (r : Reception) : Type 0 where
+pub record IsReceiving (r : Reception) : Type 0 where
   pub least : 2 ≤ r.size
   pub most : r.size ≤ 8
   pub running : IsRunning r.standing
   pub waiting : WaitsForSecond r.standing r.field
 
 abbrev pub IsReceiver : ReceiverState → Type 0
-IsReceiver r = has_stopped r ≡ false → GoesOn r.reception
+IsReceiver r = has_stopped r ≡ false → IsReceiving r.reception

@@ -1,4 +1,5 @@
-ghost use Rattle.std.specs.Prelude.{◌≡◌, ◌≤◌, ◌↔◌, List, true, false, Some, None, IfOk, OnOk, OnErr, Err, ℕ, [], ◌∷◌, ◌++◌};
+ghost use Rattle.std.specs.Prelude.{◌≡◌, ◌≤◌, ◌↔◌, List, true, false, Some, None, IfOk};
+ghost use Rattle.std.specs.Prelude.{OnOk, OnErr, Err, ℕ, [], ◌∷◌, ◌++◌};
 ghost use Rattle.link_model.specs.Judgement.{outcome_behind, tally_of};
 ghost use Rattle.receiver_model.specs.Entering.{datagram_jobs};
 ghost use Rattle.receiver_model.specs.Exchanging.{Exchange, dones_in};

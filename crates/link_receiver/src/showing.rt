@@ -5,7 +5,7 @@ ghost use Rattle.receiver_model.specs.Receptions.{answers_without};
 ghost use Rattle.receiver_model.specs.Releasing.{released_planes};
 ghost use Rattle.receiver_model.specs.WholeBooks.{ArePicturePlanes};
 ghost use Rattle.link_receiver.specs.Shown.{shown_picture, shown_bytes, stream_behind_shown};
-ghost use Rattle.link_receiver.specs.Shown.{WaitsIn, IsSeen, Writes};
+ghost use Rattle.link_receiver.specs.Shown.{WaitsIn, IsSeen, StepWrites};
 ghost use Rattle.link_pictures.specs.Writing.{writes_picture};
 ghost use Rattle.vc_types.specs.Planes.{planes_in};
 
@@ -37,7 +37,7 @@ pub(crate) fn show<O: Sink>(
         (IsSeen standing.now number answers.old field.old answers.new field.new) }
     ensures stream { OnOk result (stream.new
         ≡ stream_behind_shown stream.old standing.now answers.old field.old number) }
-    ensures wrote { Writes O.held O.faults sink.old sink.new result
+    ensures wrote { StepWrites O.held O.faults sink.old sink.new result
         (shown_bytes stream.old standing.now answers.old field.old number) }
 {
     match stream {
@@ -56,7 +56,7 @@ fn show_frame<O: Sink>(
     requires waiting { WaitsIn standing.now field.old }
     ensures seen { IfOk result
         (IsSeen standing.now number answers.old field.old answers.new field.new) }
-    ensures wrote { Writes O.held O.faults sink.old sink.new result
+    ensures wrote { StepWrites O.held O.faults sink.old sink.new result
         (shown_bytes None standing.now answers.old field.old number) }
 {
     let planes = take_planes(answers, standing, number)?;
@@ -78,7 +78,7 @@ fn show_units<O: Sink>(
         (IsSeen standing.now number answers.old field.old answers.new field.new) }
     ensures stream { OnOk result (stream.new ≡ writes_picture stream.old
         (shown_picture standing.now answers.old field.old number)) }
-    ensures wrote { Writes O.held O.faults sink.old sink.new result
+    ensures wrote { StepWrites O.held O.faults sink.old sink.new result
         (shown_bytes (Some stream.old) standing.now answers.old field.old number) }
 {
     let whole = whole_bytes(standing.book(number))?;

@@ -4,8 +4,8 @@ ghost use Rattle.receiver_model.specs.Exchanging.{Exchange, dones_in};
 ghost use Rattle.receiver_model.specs.Standing.{AreDecodings};
 ghost use Rattle.link_receiver.specs.Entered.{IsEntered, IsDrained, outside_of};
 ghost use Rattle.link_receiver.specs.Exchanged.{KeepsPlaces};
-ghost use Rattle.link_receiver.specs.Shown.{Writes};
-ghost use Rattle.link_receiver.specs.States.{GoesOn, WaitsForSecond};
+ghost use Rattle.link_receiver.specs.Shown.{StepWrites};
+ghost use Rattle.link_receiver.specs.States.{IsReceiving, WaitsForSecond};
 ghost use Rattle.link_receiver.specs.declared.fault.StepFault.{StepFault};
 ghost use Rattle.link_window.specs.Openings.{session_of};
 ghost use Rattle.link_slices.specs.Calls.{PlaceCall, PlacesAreBelow};
@@ -34,12 +34,12 @@ impl Reception {
         places: &mut P,
         sink: &mut O,
     ) -> Result<Outcome, StepFault>
-        requires goes_on { GoesOn self.old }
+        requires goes_on { IsReceiving self.old }
         requires below { PlacesAreBelow (P.bound places.old) self.old.out }
         ensures entered { IfOk result (λ outcome. (calls : List PlaceCall) × IsEntered
             (outside_of P.told O.held places.old places.new sink.old sink.new stream.old stream.new)
             self.old self.new datagram.now outcome calls) }
-        ensures goes_on { OnOk result (GoesOn self.new) }
+        ensures goes_on { OnOk result (IsReceiving self.new) }
         ensures has_ended { OnOk result (self.new.has_ended ≡ self.old.has_ended) }
         ensures failed { OnErr result ((exchanges : List Exchange)
             × AreDecodings (dones_in exchanges)
@@ -107,9 +107,9 @@ fn open_stream(
     Ok(())
 }
 
-// Writes the end of the stream, if there is one.
+// StepWrites the end of the stream, if there is one.
 fn end_stream<O: Sink>(stream: &Option<StreamOutput>, sink: &mut O) -> Result<(), StepFault>
-    ensures { Writes O.held O.faults sink.old sink.new result (stream_end stream.now) }
+    ensures { StepWrites O.held O.faults sink.old sink.new result (stream_end stream.now) }
 {
     match stream {
         Some(stream) => Ok(stream.finish(sink)?),
