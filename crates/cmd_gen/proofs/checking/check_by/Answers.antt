@@ -4,7 +4,8 @@ use Rattle.cmd_gen.proofs.FrameSteps.{nothing_sent}
 use Rattle.cmd_gen.specs.Looping.{IsOneRefused}
 use Rattle.link_receiver.proofs.Asked.{asked_twice}
 use Rattle.link_report.specs.declared.ending.Ending.{Ending}
-use Rattle.vc_types.specs.SenderSettings.{generating_view, sending_view}
+use Rattle.vc_types.specs.declared.settings.SendSettings.{SendSettings}
+use Rattle.vc_types.specs.SenderSettings.{Sending, generating_view}
 use Rattle.cmd_gen.proofs.checking.check_by.Goals as goal
 
 pub check_frames-requires-clause-sent : goal.check_frames-requires-clause-sent
@@ -16,8 +17,9 @@ check_frames-requires-clause-range g c = λ κs lives. rw c.new-sender.ensures.c
 
 pub check_frames-requires-clause-chooses : goal.check_frames-requires-clause-chooses
 check_frames-requires-clause-chooses g c = λ κs lives.
-    let settings = ap sending_view c.new-sender.ensures.settings ∙ c.default_settings.ensures in
-    rw (c.new-sender.ensures.chooser, settings) c.requires.chooses
+    let choice = ap (λ (s : SendSettings). s.choice) c.new-sender.ensures.settings
+    ∙ ap (λ (s : Sending). s.choice) c.default_settings.ensures in
+    rw (c.new-sender.ensures.chooser, choice) c.requires.chooses
 
 pub returns-in_err-check_frames-clause-refused : goal.returns-in_err-check_frames-clause-refused
 returns-in_err-check_frames-clause-refused g c =
