@@ -1,9 +1,10 @@
 -- Bits behind whole bytes: the tail of a block.
 use Rattle.std.proofs.Common.{◌≡◌, ℕ, ◌+◌, ◌-◌, ◌*◌, ◌/◌, ◌%◌, ◌^◌, ◌<◌, ◌≤◌, Bool, List, []}
 use Rattle.std.proofs.Common.{◌∷◌, ◌++◌, length, get_or, take, drop, refl, sym, ap, ◌∙◌, arith}
-use Rattle.std.proofs.Common.{append_assoc, append-nil}
-use Rattle.std.proofs.Math.Seq.{drop-append-add, drop-length, take-add, take-append-le, take-append_seam}
-use Rattle.std.proofs.lemmas.Nat.{div_below, pow-add, pow_pos}
+use Rattle.std.proofs.Common.{append_assoc, append-nil, inl, inr}
+use Rattle.std.proofs.Math.ListN.{drop_of_length-le}
+use Rattle.std.proofs.Math.Seq.{drop-append-add, take-add, take-append-le, take-append_seam}
+use Rattle.std.proofs.lemmas.Bool.{cases_lt}
 use Rattle.std.proofs.lemmas.List.{drop-append-le, drop-take}
 use Rattle.vc_types.specs.Bits.{byte_bits, bits_of}
 use Rattle.vc_types.proofs.Bits.{bits_of-nil, bits_of-cons, length-byte_bits, length-bits_of}
@@ -11,7 +12,7 @@ use Rattle.vc_types.proofs.Bits.{take-bits_of, drop-bits_of}
 use Rattle.vc_bits.specs.Bits.{word_bits}
 use Rattle.vc_bits.proofs.Waiting.{last_bits}
 use Rattle.vc_bits.proofs.Words.{byte_is_word, drop-word_bits, length-word_bits, split}
-use Rattle.vc_bits.proofs.Words.{skipped_bytes, skipped_past, skipped_word}
+use Rattle.vc_bits.proofs.Words.{skipped_past, skipped_word}
 
 -- ---- in a block
 
@@ -30,17 +31,17 @@ behind_word count word rest bits tail is =
 
 -- the word takes it, where no bytes are between
 pub taken : (count word last number next tail_bits tail : ℕ) (rest : List ℕ) → count < 12 → rest ≡ []
-    → last ≡ tail_bits → number ≡ tail
+    → last ≡ tail_bits → tail_bits < 8 → number ≡ tail
     → word_bits (count + last) next
-    ≡ word_bits count (word % (1 * 2 ^ count % 2 ^ 64)) ++ word_bits last number
-    → word_bits (count + last) next ++ (bits_of rest ++ word_bits 0 0)
+    ≡ word_bits count (word % (1 * 2 ^ count % 2 ^ 64)) ++ word_bits last (number % (1 * 2 ^ last % 2 ^ 64))
+    → word_bits (count + last) next ++ (bits_of rest ++ word_bits 0 tail)
     ≡ word_bits count word ++ (bits_of rest ++ word_bits tail_bits tail)
 unfolding word_bits
-taken count word last number next tail_bits tail rest few none same_bits same is =
-    rw (none, bits_of-nil) (append-nil (word_bits (count + last) next) ∙ is
-    ∙ ap (λ (front : List Bool). front ++ word_bits last number) (last_bits count word (omega arith))
-    ∙ ap (λ (n : ℕ). word_bits count word ++ word_bits n number) same_bits
-    ∙ ap (λ (n : ℕ). word_bits count word ++ word_bits tail_bits n) same)
+taken count word last number next tail_bits tail rest few none same_bits small same is =
+    let small_word = word % (1 * 2 ^ count % 2 ^ 64) in
+    rw (none, bits_of-nil, ← same_bits, ← same) (append-nil (word_bits (count + last) next) ∙ is
+    ∙ ap (λ (bits : List Bool). word_bits count small_word ++ bits) (last_bits last number (omega arith))
+    ∙ ap (λ (bits : List Bool). bits ++ word_bits last number) (last_bits count word (omega arith)))
 
 -- some bits of the word are skipped
 pub within_word : (count word n left next : ℕ) (bytes rest : List ℕ) (tail : List Bool) → n ≤ count
@@ -51,31 +52,39 @@ within_word count word n left next bytes rest tail le is =
     ∙ append_assoc (word_bits (count - n) word) (bits_of bytes) tail
     ∙ skipped_word count word n (bits_of bytes ++ tail) le
 
--- some bytes and bits of the next
-pub within_bytes : (bytes rest : List ℕ) (n left next : ℕ) (tail : List Bool) → n / 8 < length bytes
-    → word_bits left next ++ bits_of rest
-    ≡ word_bits (8 - n % 8) (get_or (drop (n / 8) bytes) 0 0) ++ bits_of (drop 1 (drop (n / 8) bytes))
-    → word_bits left next ++ (bits_of rest ++ tail) ≡ drop n (bits_of bytes ++ tail)
-within_bytes bytes rest n left next tail lt is =
-    behind_word left next rest (drop n (bits_of bytes)) tail (is ∙ skipped_bytes bytes n lt)
-    ∙ sym (drop-append-le n (bits_of bytes) tail (omega (arith, length-bits_of bytes)))
-
--- all bytes, and bits of the tail
-pub within_tail : (bytes : List ℕ) (n tail_bits tail left : ℕ) → length bytes ≤ n / 8
-    → left ≡ tail_bits - (n - 8 * length bytes)
-    → word_bits left tail ++ (bits_of (drop (length bytes) bytes) ++ word_bits 0 0)
+-- some of bytes and a tail
+behind_both : (bytes : List ℕ) (n tail_bits tail : ℕ)
+    → drop n (bits_of bytes) ++ word_bits (tail_bits - (n - 8 * length bytes)) tail
     ≡ drop n (bits_of bytes ++ word_bits tail_bits tail)
-unfolding word_bits
-within_tail bytes n tail_bits tail left le is =
+behind_both bytes n tail_bits tail =
+    let bits = bits_of bytes in
+    let more = word_bits tail_bits tail in
     let past = n - 8 * length bytes in
-    let parts : length (bits_of bytes) + past ≡ n = omega (arith, length-bits_of bytes) in
-    rw (drop-length bytes, bits_of-nil) (append-nil (word_bits left tail)
-    ∙ ap (λ (k : ℕ). word_bits k tail) is
-    ∙ sym (drop-word_bits past tail_bits tail)
-    ∙ sym (drop-append-add (bits_of bytes) (word_bits tail_bits tail) past)
-    ∙ ap (λ (k : ℕ). drop k (bits_of bytes ++ word_bits tail_bits tail)) parts)
+    elim (cases_lt n (8 * length bytes)) [
+      | inl lt ↦
+          let none : tail_bits - past ≡ tail_bits = omega arith in
+          ap (λ (k : ℕ). drop n bits ++ word_bits k tail) none
+          ∙ sym (drop-append-le n bits more (omega (arith, length-bits_of bytes)))
+      | inr ge ↦
+          let whole : length bits + past ≡ n = omega (arith, length-bits_of bytes) in
+          let none : drop n bits ≡ [] = drop_of_length-le bits (omega (arith, length-bits_of bytes)) in
+          rw none
+          (sym (drop-word_bits past tail_bits tail)
+          ∙ sym (drop-append-add bits more past) ∙ ap (λ (k : ℕ). drop k (bits ++ more)) whole)
+    ]
 
-pub ruleset tails = (within_word, within_bytes, within_tail, skipped_past)
+-- all of the word, and some of these
+pub past_word : (count word n past left next tail_bits tail kept : ℕ) (bytes rest : List ℕ) → count < n
+    → past ≡ n - count → kept ≡ tail_bits - (past - 8 * length bytes)
+    → word_bits left next ++ bits_of rest ≡ drop past (bits_of bytes)
+    → word_bits left next ++ (bits_of rest ++ word_bits kept tail)
+    ≡ drop n (word_bits count word ++ (bits_of bytes ++ word_bits tail_bits tail))
+past_word count word n past left next tail_bits tail kept bytes rest lt far is_kept is =
+    let more = bits_of bytes ++ word_bits tail_bits tail in
+    behind_word left next rest (drop past (bits_of bytes)) (word_bits kept tail) is
+    ∙ ap (λ (k : ℕ). drop past (bits_of bytes) ++ word_bits k tail) is_kept
+    ∙ behind_both bytes past tail_bits tail ∙ ap (λ (k : ℕ). drop k more) far
+    ∙ skipped_past count word n more lt
 
 -- ---- of what is read
 
@@ -93,13 +102,6 @@ first_of (byte ∷ bytes) count few some =
     sym (ap (take count) (bits_of-cons byte bytes)
     ∙ take-append-le count (byte_bits byte) (bits_of bytes) (omega (arith, length-byte_bits byte))
     ∙ ap (take count) parts ∙ ap (λ (n : ℕ). take n (first ++ last)) (sym long) ∙ take-append_seam first last)
-
-pub first_fits : (byte count : ℕ) → byte < 256 → count < 8 → byte / 2 ^ (8 - count) < 2 ^ count
-first_fits byte count small few =
-    let eight : 8 ≡ count + (8 - count) = omega arith in
-    let whole : 2 ^ 8 ≡ 2 ^ count * 2 ^ (8 - count) =
-    ap (λ (n : ℕ). 2 ^ n) eight ∙ pow-add 2 count (8 - count) in
-    div_below byte (2 ^ (8 - count)) (2 ^ count) (pow_pos (8 - count)) (omega (arith, whole))
 
 pub none_of : (count : ℕ) (bits : List Bool) → count ≡ 0 → word_bits count 0 ≡ take count bits
 unfolding word_bits

@@ -1,13 +1,14 @@
 -- The last bits of a word.
 use Rattle.std.proofs.Common.{rules, ◌≡◌, ℕ, zero, suc, ◌+◌, ◌-◌, ◌*◌, ◌/◌, ◌%◌, ◌^◌, ◌<◌, ◌≤◌, Bool, true, eqb, List, [], ◌∷◌, ◌++◌, length, get_or, drop, refl, sym, ap, ◌∙◌, arith, mod-lt, append_assoc, append-nil, zero-add, suc-add, length-drop, replicate}
 use Rattle.std.specs.Int.{bit_at}
-use Rattle.std.proofs.Math.Seq.{drop-append-add}
+use Rattle.std.proofs.Math.Seq.{drop-append-add, drop-length}
+use Rattle.std.proofs.Math.ListN.{drop_of_length-le}
 use Rattle.std.proofs.lemmas.Nat.{div-mul-add, pow_pos, pow-add, mul-add-lt, one_shl}
 use Rattle.std.proofs.lemmas.Nat.Bits.{bit_at_cat_low, bit_at_ones}
 use Rattle.std.proofs.lemmas.List.{get_or_append_left, drop-drop, drop-append-le}
 use Rattle.vc_types.specs.Bits.{byte_bits, bits_of}
 use Rattle.vc_types.specs.Bounded.{bounded, BeginsWith}
-use Rattle.vc_types.proofs.Bits.{bit_of_byte, bits_of-nil, bits_of-cons, length-byte_bits, drop-bits_of}
+use Rattle.vc_types.proofs.Bits.{bit_of_byte, bits_of-nil, bits_of-cons, length-byte_bits, length-bits_of, drop-bits_of}
 use Rattle.vc_types.proofs.BoundedCodes.{same_ones}
 use Rattle.vc_bits.specs.Bits.{word_bits}
 use Rattle.vc_bits.specs.Inside.{low_bits}
@@ -140,6 +141,10 @@ word_none word bits = refl
 pub none_yet : (bytes : List ℕ) → word_bits 0 0 ++ bits_of bytes ≡ bits_of bytes
 none_yet bytes = word_none 0 (bits_of bytes)
 
+-- behind all bytes
+pub skipped_all : (bytes : List ℕ) (n : ℕ) → length bytes ≤ n / 8 → word_bits 0 0 ++ bits_of (drop (length bytes) bytes) ≡ drop n (bits_of bytes)
+skipped_all bytes n le = grind (arith, length-bits_of, none_yet, drop-length, bits_of-nil, drop_of_length-le)
+
 -- behind some bytes and bits of the next
 behind_bits : (bytes : List ℕ) (n : ℕ) → 0 < length bytes → n ≤ 8 → word_bits (8 - n) (get_or bytes 0 0) ++ bits_of (drop 1 bytes) ≡ drop n (bits_of bytes)
 behind_bits bytes n some few = grind (arith, skipped_word, byte_is_word, bits_of-cons)
@@ -148,6 +153,8 @@ pub skipped_bytes : (bytes : List ℕ) (n : ℕ) → n / 8 < length bytes → wo
 skipped_bytes bytes n lt =
     let whole : 8 * (n / 8) + n % 8 ≡ n = omega arith in
     behind_bits (drop (n / 8) bytes) (n % 8) (omega (arith, length-drop (n / 8) bytes)) (omega arith) ∙ ap (drop (n % 8)) (sym (drop-bits_of (n / 8) bytes)) ∙ drop-drop (n % 8) (8 * (n / 8)) (bits_of bytes) ∙ ap (λ (k : ℕ). drop k (bits_of bytes)) whole
+
+pub ruleset behinds = (none_yet, skipped_all, skipped_bytes)
 
 -- ---- twelve bits
 

@@ -1,4 +1,4 @@
-ghost use Rattle.std.specs.Prelude.{◌≡◌, ◌+◌, ◌*◌, ◌/◌, ◌^◌, ◌<◌, ◌≤◌, take, drop, length, slice_index_or};
+ghost use Rattle.std.specs.Prelude.{◌≡◌, ◌+◌, ◌*◌, ◌/◌, ◌<◌, ◌≤◌, take, drop, length, slice_index_or};
 ghost use Rattle.vc_types.specs.Bits.{byte_bits, bits_of, number_of};
 ghost use Rattle.vc_types.specs.Bounded.{BeginsWith};
 ghost use Rattle.vc_bits.specs.Bits.{word_bits};
@@ -44,8 +44,7 @@ pub(crate) fn skip<'a>(rest: &'a [u8], used: u8, bits: u32) -> (&'a [u8], u8)
 pub(crate) fn first_bits(bytes: &[u8], count: u8) -> u8
     requires few { count < 8 }
     requires some { 0 < count → 0 < length bytes.now }
-    ensures bits { word_bits count result ≡ take count (bits_of bytes.now) }
-    ensures range { result < 2 ^ count }
+    ensures { word_bits count result ≡ take count (bits_of bytes.now) }
 {
     if count == 0 {
         return 0;

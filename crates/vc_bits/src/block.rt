@@ -23,7 +23,7 @@ pub struct Block<'a> {
 }
 
 impl<'a> Model for Block<'a> {
-    ghost use Rattle.std.specs.Prelude.{◌≡◌, ◌<◌, ◌≤◌, ◌^◌, ◌++◌, [], List, Bool};
+    ghost use Rattle.std.specs.Prelude.{◌≡◌, ◌<◌, ◌≤◌, ◌++◌, [], List, Bool};
     ghost use Rattle.vc_types.specs.Bits.{bits_of};
     ghost use Rattle.vc_bits.specs.Bits.{word_bits};
 
@@ -32,7 +32,7 @@ impl<'a> Model for Block<'a> {
     ghost view = { λ b. word_bits b.count b.word ++ (bits_of b.rest.now ++ word_bits b.tail_bits b.tail) };
 
     ghost invariant = { λ b. (b.count ≤ 64) × (b.count < 12 → b.rest.now ≡ []) × (b.tail_bits < 8)
-        × (b.tail < 2 ^ b.tail_bits) × (b.count < 12 → b.tail_bits ≡ 0) };
+        × (b.count < 12 → b.tail_bits ≡ 0) };
 }
 
 impl<'a> Block<'a> {
@@ -51,12 +51,18 @@ impl<'a> Block<'a> {
 
     // The bits of bytes, and behind them a number's last bits, so many.
     pub(crate) fn with_tail(bytes: &'a [u8], tail: u8, tail_bits: u8) -> Block<'a>
-        requires bits { tail_bits < 8 }
-        requires tail { tail < 2 ^ tail_bits }
+        requires { tail_bits < 8 }
         ensures { result ≡ bits_of bytes.now ++ word_bits tail_bits tail }
     {
         let (word, count, rest) = refilled(0, 0, bytes);
-        ended(word, count, rest, tail, tail_bits)
+        let (word, count, tail_bits) = ended(word, count, rest, tail, tail_bits);
+        Block {
+            word,
+            count,
+            rest,
+            tail,
+            tail_bits,
+        }
     }
 
     /// The same block, to be read apart.
@@ -115,44 +121,27 @@ impl<'a> Block<'a> {
     }
 
     /// Goes on behind the next bits.
-    #[tactic(auto, using(crate::proofs::Tails::tails))]
+    #[inline(always)]
     pub fn skip(&mut self, bits: u32)
         ensures { self.new ≡ drop bits self.old }
     {
         if bits <= self.count {
             let (word, count, rest) = refilled(self.word, self.count - bits, self.rest);
-            *self = ended(word, count, rest, self.tail, self.tail_bits);
+            let (word, count, tail_bits) = ended(word, count, rest, self.tail, self.tail_bits);
+            self.word = word;
+            self.count = count;
+            self.tail_bits = tail_bits;
+            self.rest = rest;
         } else {
-            *self = behind(self.rest, self.tail, self.tail_bits, bits - self.count);
+            let past = bits - self.count;
+            let left = tail_left(self.rest, self.tail_bits, past);
+            let (word, count, rest) = behind(self.rest, past);
+            let (word, count, tail_bits) = ended(word, count, rest, self.tail, left);
+            self.word = word;
+            self.count = count;
+            self.tail_bits = tail_bits;
+            self.rest = rest;
         }
-    }
-}
-
-// The block of a word's last bits, so many, of bytes behind them, and of a tail's bits behind these.
-#[inline(always)]
-fn ended<'a>(word: u64, count: u32, rest: &'a [u8], tail: u8, tail_bits: u8) -> Block<'a>
-    requires count { count ≤ 64 }
-    requires few { count < 12 → rest.now ≡ [] }
-    requires bits { tail_bits < 8 }
-    requires tail { tail < 2 ^ tail_bits }
-    ensures { result ≡ word_bits count word ++ (bits_of rest.now ++ word_bits tail_bits tail) }
-{
-    if count >= 12 {
-        return Block {
-            word,
-            count,
-            rest,
-            tail,
-            tail_bits,
-        };
-    }
-    let last = u32::from(tail_bits);
-    Block {
-        word: joined(word % (1 << count), count, u64::from(tail), last),
-        count: count + last,
-        rest,
-        tail: 0,
-        tail_bits: 0,
     }
 }
 
@@ -222,22 +211,49 @@ fn with_bytes<'a>(word: u64, count: u32, rest: &'a [u8]) -> (u64, u32, &'a [u8])
     (word, count, rest)
 }
 
-// What is left of bytes and of a tail behind some of their bits.
-#[tactic(auto, using(crate::proofs::Tails::tails))]
-fn behind<'a>(rest: &'a [u8], tail: u8, tail_bits: u8, bits: u32) -> Block<'a>
-    requires bits { tail_bits < 8 }
-    requires tail { tail < 2 ^ tail_bits }
-    ensures { result ≡ drop bits (bits_of rest.now ++ word_bits tail_bits tail) }
+// The same bits. A word that has fewer than twelve takes the tail's too: no bytes are between then.
+#[inline(always)]
+fn ended(word: u64, count: u32, rest: &[u8], tail: u8, tail_bits: u8) -> (u64, u32, u8)
+    requires count { count ≤ 64 }
+    requires few { count < 12 → rest.now ≡ [] }
+    requires tail { tail_bits < 8 }
+    ensures bits { word_bits result.1 result.0 ++ (bits_of rest.now ++ word_bits result.2 tail)
+        ≡ word_bits count word ++ (bits_of rest.now ++ word_bits tail_bits tail) }
+    ensures count { (count ≤ result.1) × (result.1 ≤ 64) }
+    ensures few { result.1 < 12 → result.2 ≡ 0 }
+    ensures tail { result.2 ≤ tail_bits }
+{
+    if count >= 12 || tail_bits == 0 {
+        return (word, count, tail_bits);
+    }
+    let last = u32::from(tail_bits);
+    let number = u64::from(tail) % (1 << last);
+    let word = joined(word % (1 << count), count, number, last);
+    (word, count + last, 0)
+}
+
+// How many bits of a tail are left behind some of the bits of bytes and of it.
+fn tail_left(rest: &[u8], tail_bits: u8, bits: u32) -> u8
+    ensures { result ≡ tail_bits - (bits - 8 * length rest.now) }
+{
+    let past = u128::from(bits).saturating_sub(8 * rest.len() as u128);
+    u128::from(tail_bits).saturating_sub(past) as u8
+}
+
+// The bits behind some others.
+#[tactic(auto, using(crate::proofs::Words::behinds))]
+fn behind<'a>(rest: &'a [u8], bits: u32) -> (u64, u32, &'a [u8])
+    ensures bits { word_bits result.1 result.0 ++ bits_of result.2.now
+        ≡ drop bits (bits_of rest.now) }
+    ensures count { result.1 ≤ 64 }
+    ensures few { result.1 < 12 → result.2.now ≡ [] }
 {
     let bytes = (bits / 8) as usize;
     if bytes >= rest.len() {
         let (_, after) = rest.split_at(rest.len());
-        let past = bits - 8 * rest.len() as u32;
-        let left = u32::from(tail_bits).saturating_sub(past);
-        return ended(u64::from(tail), left, after, 0, 0);
+        return (0, 0, after);
     }
     let (_, after) = rest.split_at(bytes);
     let (_, more) = after.split_at(1);
-    let (word, count, rest) = refilled(u64::from(after[0]), 8 - bits % 8, more);
-    ended(word, count, rest, tail, tail_bits)
+    refilled(u64::from(after[0]), 8 - bits % 8, more)
 }

@@ -7,5 +7,5 @@ use Rattle.vc_bits.proofs.block.Block.with_tail.Goals as goal
 pub returns : goal.returns
 returns c =
     let tail = word_bits c.args.tail_bits c.args.tail in
-    c.ended.ensures ∙ behind_word _ _ _ _ tail c.refilled-word.ensures.bits
+    c.ended-word.ensures.bits ∙ behind_word _ _ _ _ tail c.refilled-word.ensures.bits
     ∙ ap (λ (bits : List Bool). bits ++ tail) (none_yet c.args.bytes.now)

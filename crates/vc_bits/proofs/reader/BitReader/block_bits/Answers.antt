@@ -10,7 +10,7 @@ pub returns-clause-ok : goal.returns-clause-ok
 returns-clause-ok c =
     let left = ap (λ (s : BitsLeft). s.left) c.self.view_is in
     part_read c.self.inside.rest.now _ _ c.self.inside.used c.args.bits _ _ _ _ _ _ refl
-    c.split_at.ensures.front c.split_at.ensures.back c.first_bits.ensures.bits
+    c.split_at.ensures.front c.split_at.ensures.back c.first_bits.ensures
     c.with_tail-block.ensures c.from.ensures c.skip.ensures left
 
 pub returns-clause-moved : goal.returns-clause-moved
