@@ -17,7 +17,7 @@ use Rattle.claim_board.specs.declared.view.Deed.{Deed}
 use Rattle.claim_board.specs.declared.view.Deed.TheVariants.{WasRead, WasFetched, WasPut, WasTaken, WasWithdrawn}
 use Rattle.claim_board.specs.History.{MayDo, after_deed, deed_place, standing, places_after, word_of}
 use Rattle.claim_board.specs.Rule.{Slot, BoardState, ShowsPlace, BoardRule}
-use Rattle.claim_board.specs.Plays.{SeatState, handed_back, lying_state, stamp_of, tells_back, tells_put, tells_fetch}
+use Rattle.claim_board.specs.Plays.{SeatState, deed_back, lying_state, stamp_of, tells_back, tells_put, tells_fetch}
 use Rattle.claim_board.proofs.Histories.{free_here, may_put_at, put_here}
 use Rattle.claim_board.proofs.Keeps.{changes, decoded, goes, has_done, idle, offered, places_long, the_feeder}
 use Rattle.claim_board.proofs.Workers.{looks}
@@ -92,7 +92,7 @@ module _ (n id t st : ℕ) (m : SeatState) (said : maybe.Option Slot) (s : Board
   is_back : (d : Deed) (cargo : Cargo) (c : Content) → let i = deed_place d in let ps = places_after o.places o.history in
       i < length s.words → (lane_at m.0 i).serial ≡ t → t ≤ 2 ^ 61 → st < 4 → get_or s.words i 0 ≡ 4 * t + st
       → lane_at o.feeder i ≡ lane t true true → get_elem? s.homes i ≡ some (some (Some cargo)) → place_at ps i ≡ standing t c
-      → MayDo ps m.0.number d → after_deed ps m.0.number d ≡ frees_place ps i → lanes_after d m.0.lanes ≡ lanes_back m.0.lanes i → handed_back i t cargo ≡ d → lying_state cargo ≡ st → stamp_of cargo ≡ t
+      → MayDo ps m.0.number d → after_deed ps m.0.number d ≡ frees_place ps i → lanes_after d m.0.lanes ≡ lanes_back m.0.lanes i → deed_back i t cargo ≡ d → lying_state cargo ≡ st → stamp_of cargo ≡ t
       → Taken n id m i t st said s (4 * t)
   is_back d cargo c in_words serial small low hit known lies stands may frees back is lay stamped =
       let i : ℕ = deed_place d in
@@ -115,7 +115,7 @@ module _ (n id t st : ℕ) (m : SeatState) (said : maybe.Option Slot) (s : Board
                 cargo = cargo;
                 lay = lay ∙ state;
                 stamped = stamped ∙ same;
-                did = (subst (λ (e : Deed). DidOnce m.0 w e) (sym is ∙ ap (λ (k : ℕ). handed_back i k cargo) same) (has_done s o id m.0 d me may), refl);
+                did = (subst (λ (e : Deed). DidOnce m.0 w e) (sym is ∙ ap (λ (k : ℕ). deed_back i k cargo) same) (has_done s o id m.0 d me may), refl);
                 empty = back;
                 out = ap (λ (l : Lane). l.is_out) own;
               }),

@@ -64,9 +64,9 @@ tells_claim step old found new =
     × (found ≢ step.first → StepsLeaving old new (WasRead step.word found) old.1)
 
 -- what the feeder did, where it has this back
-abbrev pub handed_back : ℕ → ℕ → Cargo → Deed
-handed_back place serial (Waiting stamp job) = WasWithdrawn place serial job
-handed_back place serial (Finished stamp done) = WasTaken place serial done
+abbrev pub deed_back : ℕ → ℕ → Cargo → Deed
+deed_back place serial (Waiting stamp job) = WasWithdrawn place serial job
+deed_back place serial (Finished stamp done) = WasTaken place serial done
 
 -- the state of a place where this lies
 abbrev pub lying_state : Cargo → ℕ
@@ -83,7 +83,7 @@ pub record HasTakenBack (place serial state : ℕ) (old new : SeatState) : Type 
   pub cargo : Cargo
   pub lay : lying_state cargo ≡ state
   pub stamped : stamp_of cargo ≡ serial
-  pub did : StepsLeaving old new (handed_back place serial cargo) ((place, Some cargo) ∷ old.1)
+  pub did : StepsLeaving old new (deed_back place serial cargo) ((place, Some cargo) ∷ old.1)
   pub empty : new.0.lanes ≡ lanes_back old.0.lanes place
   pub out : (lane_at old.0 place).is_out ≡ true
 

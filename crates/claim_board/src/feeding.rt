@@ -3,7 +3,7 @@ ghost use Rattle.std.specs.Prelude.{OnOk, OnErr, IfOk, IfErr, cond, ◌==◌, sl
 ghost use Rattle.std.specs.VecDeque.{deque_len, deque_capacity};
 ghost use Rattle.claim_board.specs.Views.{lane};
 ghost use Rattle.claim_board.specs.Counts.{occurrences};
-ghost use Rattle.claim_board.specs.Plays.{handed_back, empty_slots, lying_state, stamp_of};
+ghost use Rattle.claim_board.specs.Plays.{deed_back, empty_slots, lying_state, stamp_of};
 ghost use Rattle.claim_board.specs.Seats.{IsFeederOf, feeder_sees, place_count};
 ghost use Rattle.claim_board.specs.Views.{DidOnce, lane_at};
 ghost use Rattle.claim_board.specs.Steps.{MayStep, IsSameSeat};
@@ -135,7 +135,7 @@ impl Board {
         ensures stamped { IfOk result (λ cargo. stamp_of cargo
             ≡ (lane_at (feeder_sees f.old) place).serial) }
         ensures took { IfOk result (λ cargo. DidOnce (feeder_sees f.old) (feeder_sees f.new)
-            (handed_back place (lane_at (feeder_sees f.old) place).serial cargo)) }
+            (deed_back place (lane_at (feeder_sees f.old) place).serial cargo)) }
         ensures empty { OnOk result (lane_at (feeder_sees f.new) place
             ≡ lane (lane_at (feeder_sees f.old) place).serial true false) }
         ensures was_out { OnOk result ((lane_at (feeder_sees f.old) place).is_out ≡ true) }
