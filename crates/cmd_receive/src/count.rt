@@ -5,7 +5,7 @@ ghost use Rattle.cmd_receive.specs.Ends.{Counts, count_behind};
 use link_model::Outcome;
 
 /// Counts the sessions that are still to end, as their datagrams are judged one after another.
-#[derive(Clone, Copy, Debug)]
+#[derive(Clone, Copy)]
 pub struct SessionCount {
     /// So many are still to end.
     pub left: u32,

@@ -8,7 +8,7 @@ use link_report::Summary;
 use link_sender::Datagram;
 
 /// How many frames went out, and how many datagrams, and how many bytes these have.
-#[derive(Clone, Copy, Debug, PartialEq, Eq)]
+#[derive(Clone, Copy)]
 pub struct Totals {
     pub frames: u64,
     pub datagrams: u64,

@@ -1,5 +1,5 @@
 /// What became of a datagram. Each gets exactly one outcome, the first that applies.
-#[derive(Clone, Copy, Debug, PartialEq, Eq)]
+#[derive(Clone, Copy)]
 pub enum Outcome {
     RtpShort,
     RtpVersion,

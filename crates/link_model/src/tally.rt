@@ -1,5 +1,5 @@
 /// How many datagrams were judged, how many got each outcome, and what became of the pictures.
-#[derive(Clone, Copy, Debug, Default, PartialEq, Eq)]
+#[derive(Clone, Copy, Default)]
 pub struct Tally {
     /// The sum of the counts of outcomes.
     pub datagrams: u64,

@@ -11,7 +11,7 @@ use vc_types::NoMemory;
 const ROOM: usize = 65535;
 
 /// What arrived from a wire.
-#[derive(Debug, Drop)]
+#[derive(Drop)]
 pub enum Arrived {
     Datagram(Bytes),
     /// Nothing more will come.

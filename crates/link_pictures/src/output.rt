@@ -16,7 +16,7 @@ use vc_ports::Sink;
 use vc_types::{Header, NoMemory, Plane};
 
 /// What a released picture came to.
-#[derive(Clone, Copy, Debug, PartialEq, Eq)]
+#[derive(Clone, Copy)]
 pub struct Shown {
     /// Whether a frame went out, of which it is the last picture.
     pub has_frame: bool,

@@ -15,7 +15,7 @@ const DONE: u8 = 0;
 const REPORT_FAULT: u8 = 7;
 
 /// What a command came to.
-#[derive(Clone, Copy, Debug, PartialEq, Eq)]
+#[derive(Clone, Copy)]
 pub enum Answer {
     /// It came to its end.
     Done(Summary),

@@ -4,7 +4,7 @@ ghost use Rattle.std.specs.String.{string_bytes};
 use vc_types::NoMemory;
 
 /// Why a command stopped: what the line of its status says.
-#[derive(Clone, Copy, Debug, PartialEq, Eq)]
+#[derive(Clone, Copy)]
 pub enum Ending {
     /// The words are outside the grammar from this place on.
     Usage { place: u64 },

@@ -7,7 +7,7 @@ use link_model::Tally;
 use vc_types::NoMemory;
 
 /// What a command counted.
-#[derive(Clone, Copy, Debug, PartialEq, Eq)]
+#[derive(Clone, Copy)]
 pub enum Summary {
     /// Datagrams were judged, and frames or units written: `decode`, `recv` and `unpack`.
     Judged {

@@ -1,7 +1,7 @@
 ghost use Rattle.std.specs.Prelude.{◌≤◌, length};
 
 /// The bytes of one RTP datagram, as many as a datagram of UDP can carry.
-#[derive(Debug, Drop)]
+#[derive(Drop)]
 pub struct Datagram {
     pub bytes: Vec<u8>,
     pub ghost fits: { length bytes.items ≤ 65507 },

@@ -10,7 +10,7 @@ use vc_types::NoMemory;
 use vc2_payload::{Payload, PayloadRefusal, read_payload};
 
 /// The source of a datagram, its payload, and where in the datagram that stands.
-#[derive(Clone, Copy, Debug)]
+#[derive(Clone, Copy)]
 pub(crate) struct Packet<'a> {
     pub(crate) ssrc: u32,
     pub(crate) from: usize,

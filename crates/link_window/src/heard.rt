@@ -3,7 +3,7 @@ use link_model::Outcome;
 use vc_types::Header;
 
 /// The session that a datagram opens: whose datagrams count, and the header of its sequence.
-#[derive(Clone, Copy, Debug)]
+#[derive(Clone, Copy)]
 pub struct Opening {
     pub ssrc: u32,
     pub header: Header,

@@ -27,7 +27,7 @@ use vc_types::{Header, NoMemory};
 const LIMIT: u128 = (1 << 64) - 16;
 
 /// A picture that may be released, and whether it is complete.
-#[derive(Clone, Copy, Debug, PartialEq, Eq)]
+#[derive(Clone, Copy)]
 pub struct Released {
     pub number: u64,
     pub complete: bool,

@@ -1,7 +1,7 @@
 use vc_types::{GenSettings, SendSettings};
 
 /// What the words of a command line say: a command and its options, defaults filled in. An address is a word.
-#[derive(Clone, Copy, Debug)]
+#[derive(Clone, Copy)]
 pub enum Settings<'a> {
     Decode {
         window: u8,

@@ -1,5 +1,5 @@
 /// What an RTP header says, and where the payload stands in the datagram: from one byte up to another.
-#[derive(Clone, Copy, Debug, PartialEq, Eq)]
+#[derive(Clone, Copy)]
 pub struct RtpView {
     pub marker: bool,
     /// 7 bits.

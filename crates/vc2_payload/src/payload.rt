@@ -1,5 +1,5 @@
 /// What each fragment begins with (RFC 8450, 4).
-#[derive(Clone, Copy, Debug, PartialEq, Eq)]
+#[derive(Clone, Copy)]
 pub struct FragmentHead {
     /// The upper half of the extended sequence number.
     pub high: u16,
@@ -15,7 +15,7 @@ pub struct FragmentHead {
 
 /// A payload by its parse code (RFC 8450, 4). A body is borrowed, and `from` is its place in the payload's
 /// bytes.
-#[derive(Clone, Copy, Debug, PartialEq, Eq)]
+#[derive(Clone, Copy)]
 pub enum Payload<'a> {
     /// Code 00: a coded sequence header, and whatever follows it.
     Header {

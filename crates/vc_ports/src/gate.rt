@@ -4,7 +4,7 @@ pub trait Gate: Drop {
 }
 
 /// A gate that is open.
-#[derive(Clone, Copy, Debug)]
+#[derive(Clone, Copy)]
 pub struct NoGate;
 
 impl Gate for NoGate {

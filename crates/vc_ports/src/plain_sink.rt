@@ -3,7 +3,7 @@ ghost use Rattle.std.specs.Prelude.{None};
 use crate::sink::{Sink, Took};
 
 /// A sink that drops what it is given and never fails. It tells nothing.
-#[derive(Clone, Copy, Debug)]
+#[derive(Clone, Copy)]
 pub struct PlainSink;
 
 impl PlainSink {

@@ -4,7 +4,7 @@ ghost use Rattle.vc_ports.specs.Faults.{HasCause};
 ghost use Rattle.vc_ports.specs.Writing.{Writes};
 
 /// What a write answered.
-#[derive(Clone, Copy, Debug, PartialEq, Eq)]
+#[derive(Clone, Copy)]
 pub enum Took {
     /// So many first bytes of the piece went out: 1 to the piece's length.
     Bytes(usize),

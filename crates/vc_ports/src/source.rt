@@ -4,7 +4,7 @@ ghost use Rattle.vc_ports.specs.Faults.{HasCause};
 ghost use Rattle.vc_ports.specs.Reading.{Reads};
 
 /// What a read answered.
-#[derive(Clone, Copy, Debug, PartialEq, Eq)]
+#[derive(Clone, Copy)]
 pub enum Got {
     /// So many bytes stand at the front of the buffer: 1 to the buffer's length.
     Bytes(usize),

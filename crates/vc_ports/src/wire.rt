@@ -3,7 +3,7 @@ ghost use Rattle.vc_ports.specs.Faults.{HasCause};
 ghost use Rattle.vc_ports.specs.Wires.{WireTold, Reaches, Comes, listening, aiming, sending};
 
 /// What a call that gives nothing back came to.
-#[derive(Clone, Copy, Debug, PartialEq, Eq)]
+#[derive(Clone, Copy)]
 pub enum Reached {
     Yes,
     /// The call failed, and changed nothing.

@@ -6,7 +6,7 @@ use crate::places::{Hands, Places};
 use vc_types::NoMemory;
 
 /// No place at all: each slice is handed back, and no worker starts.
-#[derive(Clone, Copy, Debug)]
+#[derive(Clone, Copy)]
 pub struct NoPlaces;
 
 impl Places for NoPlaces {

@@ -1,5 +1,5 @@
 /// How a sender chooses the quantisation index of each slice.
-#[derive(Clone, Copy, Debug, PartialEq, Eq)]
+#[derive(Clone, Copy)]
 pub enum IndexChoice {
     /// Always this one, 0 to 127.
     Index(u8),

@@ -7,7 +7,7 @@ use crate::shape::Shape;
 use crate::video::{Sampling, SignalRange};
 
 /// A sequence header that was accepted (ST 2042-1, sequence header). Width and height are those of a frame.
-#[derive(Clone, Copy, Debug)]
+#[derive(Clone, Copy)]
 pub struct Header {
     pub major: u32,
     pub minor: u32,

@@ -1,5 +1,5 @@
 /// What the chooser of quantisation indices is told of a slice.
-#[derive(Debug, Drop)]
+#[derive(Drop)]
 pub struct SliceNeed {
     /// The slice's number in raster order.
     pub index: u32,

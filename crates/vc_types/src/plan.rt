@@ -8,7 +8,7 @@ use crate::shape::Shape;
 /// How a picture was transformed and cut into slices: the transform parameters that were accepted (ST 2042-1,
 /// transform parameters), with the picture's shape. The matrix has a value for each subband in order; entries
 /// that no subband uses are 0.
-#[derive(Clone, Copy, Debug)]
+#[derive(Clone, Copy)]
 pub struct Plan {
     pub shape: Shape,
     pub wavelet: u8,

@@ -9,7 +9,7 @@ use crate::video::Sampling;
 /// How frames are coded and sent. Width and height are those of a frame, `range` the number of its signal
 /// range. `size` is the length of a whole datagram of RTP, without the headers of IP and UDP: its slices get
 /// `size - 32`, for the RTP header has 12 bytes and the payload header 20.
-#[derive(Clone, Copy, Debug)]
+#[derive(Clone, Copy)]
 pub struct SendSettings {
     pub width: u32,
     pub height: u32,
@@ -50,7 +50,7 @@ pub struct SendSettings {
 }
 
 /// Which frames are generated. Width and height are those of a frame, `range` the number of its signal range.
-#[derive(Clone, Copy, Debug)]
+#[derive(Clone, Copy)]
 pub struct GenSettings {
     pub width: u32,
     pub height: u32,
@@ -69,7 +69,7 @@ pub struct GenSettings {
 
 /// How the pictures of an elementary stream are sent. `size` is the length of a whole datagram of RTP,
 /// without the headers of IP and UDP; `fields` says whether the stream's pictures are fields.
-#[derive(Clone, Copy, Debug)]
+#[derive(Clone, Copy)]
 pub struct PackSettings {
     pub size: u32,
     pub ssrc: u32,

@@ -1,5 +1,5 @@
 /// The sizes of one picture's planes in samples, and the bits of their samples.
-#[derive(Clone, Copy, Debug, PartialEq, Eq)]
+#[derive(Clone, Copy)]
 pub struct Shape {
     pub luma_width: u32,
     pub luma_height: u32,

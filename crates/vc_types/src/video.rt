@@ -1,5 +1,5 @@
 /// How the colour planes are sampled (ST 2042-1, colour difference sampling format).
-#[derive(Clone, Copy, Debug, PartialEq, Eq)]
+#[derive(Clone, Copy)]
 pub enum Sampling {
     S444,
     S422,
@@ -7,7 +7,7 @@ pub enum Sampling {
 }
 
 /// One of the three planes of a picture: luma and the two colour differences.
-#[derive(Clone, Copy, Debug, PartialEq, Eq)]
+#[derive(Clone, Copy)]
 pub enum Component {
     Y,
     C1,
@@ -15,7 +15,7 @@ pub enum Component {
 }
 
 /// Offsets and excursions of the samples (ST 2042-1, signal range). Decoding uses the excursions alone.
-#[derive(Clone, Copy, Debug, PartialEq, Eq)]
+#[derive(Clone, Copy)]
 pub struct SignalRange {
     pub luma_offset: u32,
     pub luma_excursion: u32,

@@ -1,5 +1,5 @@
 /// A data unit (ST 2042-1, data unit).
-#[derive(Debug, Drop, PartialEq, Eq)]
+#[derive(Drop)]
 pub struct Unit {
     /// The parse code, in hexadecimal: 00 for a sequence header, 10 for an end of sequence, 20 for auxiliary
     /// data, 30 for padding, C8 for a low-delay picture and E8 for a high-quality picture.

@@ -4,7 +4,7 @@ use vc_slice::{Hands, Places, SliceDone, SliceJob};
 use vc_types::NoMemory;
 
 /// No place at all, and no memory for workers.
-#[derive(Clone, Copy, Debug)]
+#[derive(Clone, Copy)]
 pub struct NoWorkers;
 
 impl Places for NoWorkers {
