@@ -17,14 +17,15 @@ fn sum(count: u64, more: u64) -> Result<u64, NoMemory>
 pub(crate) fn with_outcome(t: &Tally, outcome: Outcome) -> Result<Tally, NoMemory>
     ensures { IfOk result (λ counts. counts ≡ with_outcome t.now outcome) }
 {
-    let counts = Tally {
+    let mut counts = Tally {
         datagrams: sum(t.datagrams, 1)?,
         ..*t
     };
     if count_of(&counts, outcome) == u64::MAX {
         return Err(NoMemory);
     }
-    Ok(one_more(counts, outcome))
+    count_once(&mut counts, outcome);
+    Ok(counts)
 }
 
 fn count_of(t: &Tally, outcome: Outcome) -> u64
@@ -60,115 +61,37 @@ fn count_of(t: &Tally, outcome: Outcome) -> u64
     }
 }
 
-fn one_more(t: Tally, outcome: Outcome) -> Tally
-    requires { count_of t outcome < u64.MAX }
-    ensures { result ≡ one_more t outcome }
+fn count_once(t: &mut Tally, outcome: Outcome)
+    requires { count_of t.old outcome < u64.MAX }
+    ensures { t.new ≡ one_more t.old outcome }
 {
     match outcome {
-        Outcome::RtpShort => Tally {
-            rtp_short: t.rtp_short + 1,
-            ..t
-        },
-        Outcome::RtpVersion => Tally {
-            rtp_version: t.rtp_version + 1,
-            ..t
-        },
-        Outcome::RtpShape => Tally {
-            rtp_shape: t.rtp_shape + 1,
-            ..t
-        },
-        Outcome::PayloadShort => Tally {
-            payload_short: t.payload_short + 1,
-            ..t
-        },
-        Outcome::PayloadCode => Tally {
-            payload_code: t.payload_code + 1,
-            ..t
-        },
-        Outcome::PayloadFragment => Tally {
-            payload_fragment: t.payload_fragment + 1,
-            ..t
-        },
-        Outcome::Foreign => Tally {
-            foreign: t.foreign + 1,
-            ..t
-        },
-        Outcome::HeaderNew => Tally {
-            header_new: t.header_new + 1,
-            ..t
-        },
-        Outcome::HeaderSame => Tally {
-            header_same: t.header_same + 1,
-            ..t
-        },
-        Outcome::HeaderOther => Tally {
-            header_other: t.header_other + 1,
-            ..t
-        },
-        Outcome::HeaderBad => Tally {
-            header_bad: t.header_bad + 1,
-            ..t
-        },
-        Outcome::End => Tally {
-            end: t.end + 1,
-            ..t
-        },
-        Outcome::Skipped => Tally {
-            skipped: t.skipped + 1,
-            ..t
-        },
-        Outcome::Late => Tally {
-            late: t.late + 1,
-            ..t
-        },
-        Outcome::ParamsKept => Tally {
-            params_kept: t.params_kept + 1,
-            ..t
-        },
-        Outcome::ParamsRepeat => Tally {
-            params_repeat: t.params_repeat + 1,
-            ..t
-        },
-        Outcome::ParamsConflict => Tally {
-            params_conflict: t.params_conflict + 1,
-            ..t
-        },
-        Outcome::ParamsBad => Tally {
-            params_bad: t.params_bad + 1,
-            ..t
-        },
-        Outcome::SlicesKept => Tally {
-            slices_kept: t.slices_kept + 1,
-            ..t
-        },
-        Outcome::SlicesRepeat => Tally {
-            slices_repeat: t.slices_repeat + 1,
-            ..t
-        },
-        Outcome::SlicesConflict => Tally {
-            slices_conflict: t.slices_conflict + 1,
-            ..t
-        },
-        Outcome::SlicesPending => Tally {
-            slices_pending: t.slices_pending + 1,
-            ..t
-        },
-        Outcome::SlicesFull => Tally {
-            slices_full: t.slices_full + 1,
-            ..t
-        },
-        Outcome::SlicesForm => Tally {
-            slices_form: t.slices_form + 1,
-            ..t
-        },
-        Outcome::SlicesPlace => Tally {
-            slices_place: t.slices_place + 1,
-            ..t
-        },
-        Outcome::SlicesCut => Tally {
-            slices_cut: t.slices_cut + 1,
-            ..t
-        },
+        Outcome::RtpShort => t.rtp_short += 1,
+        Outcome::RtpVersion => t.rtp_version += 1,
+        Outcome::RtpShape => t.rtp_shape += 1,
+        Outcome::PayloadShort => t.payload_short += 1,
+        Outcome::PayloadCode => t.payload_code += 1,
+        Outcome::PayloadFragment => t.payload_fragment += 1,
+        Outcome::Foreign => t.foreign += 1,
+        Outcome::HeaderNew => t.header_new += 1,
+        Outcome::HeaderSame => t.header_same += 1,
+        Outcome::HeaderOther => t.header_other += 1,
+        Outcome::HeaderBad => t.header_bad += 1,
+        Outcome::End => t.end += 1,
+        Outcome::Skipped => t.skipped += 1,
+        Outcome::Late => t.late += 1,
+        Outcome::ParamsKept => t.params_kept += 1,
+        Outcome::ParamsRepeat => t.params_repeat += 1,
+        Outcome::ParamsConflict => t.params_conflict += 1,
+        Outcome::ParamsBad => t.params_bad += 1,
+        Outcome::SlicesKept => t.slices_kept += 1,
+        Outcome::SlicesRepeat => t.slices_repeat += 1,
+        Outcome::SlicesConflict => t.slices_conflict += 1,
+        Outcome::SlicesPending => t.slices_pending += 1,
+        Outcome::SlicesFull => t.slices_full += 1,
+        Outcome::SlicesForm => t.slices_form += 1,
+        Outcome::SlicesPlace => t.slices_place += 1,
+        Outcome::SlicesCut => t.slices_cut += 1,
     }
 }
 
