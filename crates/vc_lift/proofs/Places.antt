@@ -1,6 +1,6 @@
 -- The places of columns' cells, row by row.
 use Rattle.std.proofs.Common.{◌≡◌, ℕ, ◌+◌, ◌-◌, ◌*◌, ◌<◌, ◌≤◌, ◌≢◌, List, length, set, ℤ, pos, arith, ◌⊎◌}
-use Rattle.std.proofs.Common.{inl, inr, min, ap, ◌∙◌, unsigned_abs}
+use Rattle.std.proofs.Common.{inl, inr, min, ap, ◌∙◌, unsigned_abs, le-mul_of_pos_right}
 use mathlib.Core.Path.{fun_ext}
 use Rattle.std.proofs.lemmas.Bool.{cases_eq}
 use Rattle.std.proofs.lemmas.Bool.Decides.{nat_tests}
@@ -13,6 +13,10 @@ use Rattle.vc_lift.specs.Columns.{column_of, with_sample, one_changed}
 
 pub place_below : (half width k x : ℕ) → k < 2 * half → x < width → k * width + x < 2 * half * width
 place_below half width k x h lt = omega (arith, mul-add-lt k width x (2 * half) h lt)
+
+-- columns have no more samples each than all of them together
+pub fewer : (half width x : ℕ) → x < width → 2 * half ≤ 2 * half * width
+fewer half width x lt = le-mul_of_pos_right (2 * half) (omega arith)
 
 -- inside a column a tap meets a sample that isn't held at an end
 pub inside_place : (half width n back j x p : ℕ) → back ≤ n → n + j < half + back

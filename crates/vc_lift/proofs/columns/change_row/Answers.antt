@@ -7,7 +7,7 @@ use Rattle.vc_types.specs.Lifting.{changed_by}
 use Rattle.vc_lift.specs.CountedSteps.{change_at}
 use Rattle.vc_lift.specs.Columns.{column_of}
 use Rattle.vc_lift.specs.Steps.{counted_of}
-use Rattle.vc_lift.proofs.Places.{place_below, column_of-set_same, column_of-set_other, one_written}
+use Rattle.vc_lift.proofs.Places.{fewer, place_below, column_of-set_same, column_of-set_other, one_written}
 use Rattle.vc_lift.proofs.Sums.{read_back, changed_read}
 use Rattle.vc_lift.proofs.columns.change_row.Goals as goal
 
@@ -19,6 +19,47 @@ change_at-change-requires c = record {
   met = rw (c.loop-x.invariant.left c.loop-x.x (omega arith) (omega arith))
       (c.requires.met c.loop-x.x (omega arith));
 }
+
+pub overflow_mul-k : goal.overflow_mul-k
+overflow_mul-k c = omega (arith, fewer c.args.columns.half c.args.columns.width c.loop-x.x (omega arith))
+
+pub overflow_add-k : goal.overflow_add-k
+overflow_add-k c = omega (arith, fewer c.args.columns.half c.args.columns.width c.loop-x.x (omega arith))
+
+pub overflow_mul-k-in-loop-x : goal.overflow_mul-k-in-loop-x
+overflow_mul-k-in-loop-x c = omega (
+  arith,
+  place_below c.args.columns.half c.args.columns.width
+      (2 * c.args.n + c.args.step.now.parity) c.loop-x.x (omega arith) (omega arith),
+)
+
+pub overflow_add-k-in-loop-x : goal.overflow_add-k-in-loop-x
+overflow_add-k-in-loop-x c = omega (
+  arith,
+  place_below c.args.columns.half c.args.columns.width
+      (2 * c.args.n + c.args.step.now.parity) c.loop-x.x (omega arith) (omega arith),
+)
+
+pub offset_bounds-cells-k : goal.offset_bounds-cells-k
+offset_bounds-cells-k c = omega (
+  arith,
+  place_below c.args.columns.half c.args.columns.width
+      (2 * c.args.n + c.args.step.now.parity) c.loop-x.x (omega arith) (omega arith),
+)
+
+pub offset_bounds-cells-k-in-loop-x : goal.offset_bounds-cells-k-in-loop-x
+offset_bounds-cells-k-in-loop-x c = omega (
+  arith,
+  place_below c.args.columns.half c.args.columns.width
+      (2 * c.args.n + c.args.step.now.parity) c.loop-x.x (omega arith) (omega arith),
+)
+
+pub bounds-cells-k : goal.bounds-cells-k
+bounds-cells-k c = omega (
+  arith,
+  place_below c.args.columns.half c.args.columns.width
+      (2 * c.args.n + c.args.step.now.parity) c.loop-x.x (omega arith) (omega arith),
+)
 
 pub changed_by-requires-clause-sample : goal.changed_by-requires-clause-sample
 changed_by-requires-clause-sample c =

@@ -6,10 +6,48 @@ use Rattle.vc_lift.specs.CountedSteps.{sum_met}
 use Rattle.vc_lift.proofs.WeightedSums.{sum_below_none, sum_below_more}
 use Rattle.vc_lift.proofs.Sums.{tap_read, sample_fits, light_fits, light_room, term_fits, sum_fits, sum_read}
 use Rattle.vc_lift.proofs.Sums.{sum_more}
+use Rattle.vc_lift.proofs.Places.{fewer, place_below}
 use Rattle.vc_lift.proofs.columns.weigh_edge.Goals as goal
 
 pub loop-j-init : goal.loop-j-init
 loop-j-init c = record { value = sym (sum_below_none _); bound = search rules }
+
+pub overflow_add-n : goal.overflow_add-n
+overflow_add-n c = omega (arith, fewer c.args.columns.half c.args.columns.width c.args.x c.requires.column)
+
+pub overflow_mul-sum : goal.overflow_mul-sum
+overflow_mul-sum c = omega (arith, fewer c.args.columns.half c.args.columns.width c.args.x c.requires.column)
+
+pub overflow_add-sum : goal.overflow_add-sum
+overflow_add-sum c = omega (arith, fewer c.args.columns.half c.args.columns.width c.args.x c.requires.column)
+
+pub overflow_mul-sum-in-loop-j : goal.overflow_mul-sum-in-loop-j
+overflow_mul-sum-in-loop-j c = omega (
+  arith,
+  place_below c.args.columns.half c.args.columns.width
+      (2 * c.min-met.result + (1 - c.args.step.now.parity)) c.args.x (omega arith) c.requires.column,
+)
+
+pub overflow_add-sum-in-loop-j : goal.overflow_add-sum-in-loop-j
+overflow_add-sum-in-loop-j c = omega (
+  arith,
+  place_below c.args.columns.half c.args.columns.width
+      (2 * c.min-met.result + (1 - c.args.step.now.parity)) c.args.x (omega arith) c.requires.column,
+)
+
+pub offset_bounds-cells-met : goal.offset_bounds-cells-met
+offset_bounds-cells-met c = omega (
+  arith,
+  place_below c.args.columns.half c.args.columns.width
+      (2 * c.min-met.result + (1 - c.args.step.now.parity)) c.args.x (omega arith) c.requires.column,
+)
+
+pub bounds-cells-met : goal.bounds-cells-met
+bounds-cells-met c = omega (
+  arith,
+  place_below c.args.columns.half c.args.columns.width
+      (2 * c.min-met.result + (1 - c.args.step.now.parity)) c.args.x (omega arith) c.requires.column,
+)
 
 pub overflow_mul-sum-in-loop-j-2 : goal.overflow_mul-sum-in-loop-j-2
 overflow_mul-sum-in-loop-j-2 c =

@@ -1,5 +1,5 @@
 use Rattle.std.proofs.lemmas.Grind.{common_steps}
-use Rattle.std.proofs.Common.{rules, ◌≡◌, ◌+◌, ◌≤◌, ℕ, length, unsigned_abs, pos, ◌+ℤ◌, ◌*ℤ◌, slice_index_or}
+use Rattle.std.proofs.Common.{rules, ◌≡◌, ◌+◌, ◌<◌, ◌≤◌, ℕ, length, unsigned_abs, pos, ◌+ℤ◌, ◌*ℤ◌, slice_index_or}
 use Rattle.std.proofs.Common.{FitsSigned, to_z, arith, sym, ap, subst, ◌∙◌}
 use Rattle.std.specs.Int.{w32}
 use Rattle.vc_types.specs.Lifting.{line_of}
@@ -27,6 +27,27 @@ met_small : (c : goal.After-sum-in-loop-j-1)
     (pos 0)) ≤ c.requires.room.other
 met_small c =
     rw (met_place c) (c.requires.room.met c.loop-j.j c.loop-j-test.true)
+
+pub overflow_add-sum : goal.overflow_add-sum
+overflow_add-sum c =
+    let inside : c.place.result + c.args.x < length c.args.cells.now =
+    rw (met_at (counted_of c.args.step.now) c.args.halves.now c.args.n c.loop-j.j c.min-met.result
+    c.place.result c.args.step.now.plain.parity (omega arith) c.place.ensures)
+    (c.requires.inside c.loop-j.j c.loop-j-test.true) in omega arith
+
+pub offset_bounds-cells-place : goal.offset_bounds-cells-place
+offset_bounds-cells-place c =
+    let inside : c.place.result + c.args.x < length c.args.cells.now =
+    rw (met_at (counted_of c.args.step.now) c.args.halves.now c.args.n c.loop-j.j c.min-met.result
+    c.place.result c.args.step.now.plain.parity (omega arith) c.place.ensures)
+    (c.requires.inside c.loop-j.j c.loop-j-test.true) in omega arith
+
+pub bounds-cells-place : goal.bounds-cells-place
+bounds-cells-place c =
+    let inside : c.place.result + c.args.x < length c.args.cells.now =
+    rw (met_at (counted_of c.args.step.now) c.args.halves.now c.args.n c.loop-j.j c.min-met.result
+    c.place.result c.args.step.now.plain.parity (omega arith) c.place.ensures)
+    (c.requires.inside c.loop-j.j c.loop-j-test.true) in omega arith
 
 pub overflow_mul-sum : goal.overflow_mul-sum
 overflow_mul-sum c =
