@@ -1,2 +1,3 @@
 pub mod OfPlan
 pub mod Rectangles
+pub mod Parts

@@ -1,5 +1,6 @@
-ghost use Rattle.std.specs.Prelude.{◌≤◌, ◌<◌, length};
+ghost use Rattle.std.specs.Prelude.{◌≡◌, ◌+◌, ◌≤◌, ◌<◌, length, slice_set};
 ghost use Rattle.vc_geometry.specs.OfPlan.{AreSliceRectangles};
+ghost use Rattle.vc_geometry.specs.Parts.{part_of};
 ghost use Rattle.vc_types.specs.OfPlan.{band_count, slice_count};
 
 use crate::padding::padded;
@@ -28,9 +29,22 @@ pub fn slice_rects(plan: &Plan, c: Component, slice: u32, rects: &mut [Rect])
     for level in 0..depth {
         let columns = columns.halved(depth - level);
         let rows = rows.halved(depth - level);
-        let b = (1 + across + 3 * level) as usize;
-        rects[b] = part(columns.side, 0, &columns, &rows);
-        rects[b + 1] = part(0, rows.side, &columns, &rows);
-        rects[b + 2] = part(columns.side, rows.side, &columns, &rows);
+        put_level((1 + across + 3 * level) as usize, &columns, &rows, rects);
     }
+}
+
+// Puts the parts of a level's HL, LH and HH into their places, from what the slice has of its halved sides.
+#[inline(always)]
+fn put_level(b: usize, columns: &Span, rows: &Span, rects: &mut [Rect])
+    requires room { b + 2 < length rects.old }
+    requires half { (columns.now.side + columns.now.side ≤ 8192)
+        × (rows.now.side + rows.now.side ≤ 8192) }
+    ensures { rects.new ≡ slice_set (slice_set (slice_set rects.old
+        b (part_of columns.now.side 0 columns.now rows.now))
+        (b + 1) (part_of 0 rows.now.side columns.now rows.now))
+        (b + 2) (part_of columns.now.side rows.now.side columns.now rows.now) }
+{
+    rects[b] = part(columns.side, 0, columns, rows);
+    rects[b + 1] = part(0, rows.side, columns, rows);
+    rects[b + 2] = part(columns.side, rows.side, columns, rows);
 }

@@ -1,4 +1,5 @@
 use Rattle.std.proofs.Common.{◌+◌, ◌-◌, ◌<◌, ◌≤◌, arith, ◌∙◌, sym, ap, subst}
+use Rattle.std.proofs.lemmas.Nat.{mul-le}
 use Rattle.vc_types.specs.declared.rect.Rect.{Rect}
 use Rattle.vc_types.specs.Subbands.{area, place_in}
 use Rattle.vc_types.specs.TransformParameters.{parameters_of}
@@ -7,6 +8,13 @@ use Rattle.vc_geometry.proofs.places.place_of.Goals as goal
 
 pub loop-b-init : goal.loop-b-init
 loop-b-init c = IsLeft-first (parameters_of c.args.plan.now) c.args.c c.args.slice c.args.i c.requires.number
+
+pub overflow_mul-area : goal.overflow_mul-area
+overflow_mul-area c = omega (
+  arith,
+  mul-le c.slice_rect-rect.result.width c.slice_rect-rect.result.height 8192 8192
+      (omega arith) (omega arith),
+)
 
 pub returns-then-left-area-clause-value : goal.returns-then-left-area-clause-value
 returns-then-left-area-clause-value c =
