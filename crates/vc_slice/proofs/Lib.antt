@@ -7,6 +7,7 @@ pub mod EncodedSlices
 pub mod PaddedBlocks
 pub mod FallSums
 pub mod NarrowRuns
+pub mod RunsInPlace
 pub mod ColourParts
 pub mod WideSlices
 pub mod WrittenBlocks
