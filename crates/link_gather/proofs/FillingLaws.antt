@@ -251,6 +251,47 @@ module _ (p : Parameters) (slots : Slots) (i : ℕ) (rest : List ℕ) where
         ∙ ap (λ (r : List PictureSlice). l ++ r) (sym (new_first slots i one p behind)
         ∙ ap (λ (s : List (List ℕ)). run_new p slots (record { first = i; slices = s })) cut_is)
 
+  -- the slices up to an end
+  pub left_none : (end : ℕ) → end ≤ i → slices_cut p (end - i) rest ≡ []
+  left_none end over = none_left (end - i) (omega arith)
+
+  pub left_cut : (end : ℕ) → i < end → slice_length p.prefix p.scaler rest ≡ None → slices_cut p (end - i) rest ≡ []
+  left_cut end below none = none_cut (end - i) (omega arith) none
+
+  -- one slice is put into its slot, and the others are left
+  module _ (end len : ℕ) (below : i < end) (inside : i < length slots) (cut : slice_length p.prefix p.scaler rest ≡ Some len)
+      (slice left : List ℕ) (front : slice ≡ take len rest) (behind : left ≡ drop len rest) (now : Slots) (put : now ≡ put_in slots i slice) where
+    size : suc (end - (i + 1)) ≡ end - i
+    size = omega arith
+
+    put_one : now ≡ put_in slots i (take len rest)
+    put_one = put ∙ ap (put_in slots i) front
+
+    pub run_goes_on : with_run now (run_cut p (i + 1) (end - (i + 1)) left) ≡ with_run slots (run_cut p i (end - i) rest)
+    run_goes_on =
+        ap (λ (l : List ℕ). with_run now (run_cut p (i + 1) (end - (i + 1)) l)) behind
+        ∙ ap (λ (s : Slots). with_run s (run_cut p (i + 1) (end - (i + 1)) (drop len rest))) put_one
+        ∙ run_step len inside cut (end - i) (end - (i + 1)) size
+
+    pub conflict_goes_on : (b seen : Bool) → seen ≡ (b || is_conflict (slot_at slots) (i, slice))
+        → (seen || has_conflict now (run_cut p (i + 1) (end - (i + 1)) left)) ≡ (b || has_conflict slots (run_cut p i (end - i) rest))
+    conflict_goes_on b seen is =
+        ap (λ (l : List ℕ). seen || has_conflict now (run_cut p (i + 1) (end - (i + 1)) l)) behind
+        ∙ ap (λ (s : Slots). seen || has_conflict s (run_cut p (i + 1) (end - (i + 1)) (drop len rest))) put_one
+        ∙ ap (λ (b : Bool). b || has_conflict (put_in slots i (take len rest)) (run_cut p (i + 1) (end - (i + 1)) (drop len rest)))
+        (is ∙ ap (λ (l : List ℕ). b || is_conflict (slot_at slots) (i, l)) front)
+        ∙ conflict_step len inside cut (end - i) (end - (i + 1)) size b
+
+    pub new_goes_on : (l seen : List PictureSlice)
+        → seen ≡ l ++ cond (is_new (slot_at slots) (i, slice)) (picture_slice p i slice ∷ []) []
+        → seen ++ run_new p now (run_cut p (i + 1) (end - (i + 1)) left) ≡ l ++ run_new p slots (run_cut p i (end - i) rest)
+    new_goes_on l seen is =
+        ap (λ (r : List ℕ). seen ++ run_new p now (run_cut p (i + 1) (end - (i + 1)) r)) behind
+        ∙ ap (λ (s : Slots). seen ++ run_new p s (run_cut p (i + 1) (end - (i + 1)) (drop len rest))) put_one
+        ∙ ap (λ (l : List PictureSlice). l ++ run_new p (put_in slots i (take len rest)) (run_cut p (i + 1) (end - (i + 1)) (drop len rest)))
+        (is ∙ ap (λ (r : List ℕ). l ++ cond (is_new (slot_at slots) (i, r)) (picture_slice p i r ∷ []) []) front)
+        ∙ new_step len inside cut (end - i) (end - (i + 1)) size l
+
 -- what becomes of a slice, in words
 pub other_is : (o : Option (List ℕ)) (i : ℕ) (slice : List ℕ) → is_put_other (put_result o slice) ≡ option_map_or (λ bytes. not (bytes_eq bytes slice)) o false
 other_is None i slice = refl

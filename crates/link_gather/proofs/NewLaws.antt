@@ -6,7 +6,8 @@ use Rattle.std.specs.Prelude.{◌==◌, ◌⊎◌, filter, filter_map, is_none, 
 use Rattle.std.specs.List.{cons_option, enumerate_from, list_any, range_with_len}
 use Rattle.std.specs.Option.{option_and_then, option_map, option_map_or, option_or}
 use Rattle.std.proofs.lemmas.Bool.{cases_lt}
-use Rattle.std.proofs.lemmas.List.{append_assoc, length-map}
+use Rattle.std.proofs.lemmas.List.{append_assoc, length-map, length-replicate}
+use Rattle.std.proofs.lemmas.Option.{none-some}
 use Rattle.link_model.specs.Books.{Slots, slot_at, filled_with, with_run, Gathered, Book, book_slice}
 use Rattle.link_model.specs.Judgement.{is_new}
 use Rattle.link_model.specs.Kept.{KeptParameters, SliceRun, slice_in}
@@ -62,10 +63,25 @@ put_whole p slots i slice whole one = record {
   ];
 }
 
+-- whatever the slots have become
+pub still_whole : (p : Parameters) (slots now : Slots) (i : ℕ) (slice : List ℕ)
+    → HasWholeSlots p slots → slice_length p.prefix p.scaler slice ≡ Some (length slice)
+    → now ≡ put_in slots i slice → HasWholeSlots p now
+still_whole p slots now i slice whole one is = rw is (put_whole p slots i slice whole one)
+
 pub none_there : (n i : ℕ) → slot_at (replicate {A = Option (List ℕ)} n None) i ≡ None
 none_there zero i = refl
 none_there (suc n) zero = refl
 none_there (suc n) (suc i) = none_there n i
+
+-- slots without a slice
+pub empty_whole : (p : Parameters) (slots : Slots) → slots ≡ replicate (slice_count p) None
+    → HasWholeSlots p slots
+empty_whole p slots is = record {
+  count = ap (λ (l : Slots). length l) is ∙ length-replicate (slice_count p) None;
+  whole = λ i bytes e. absurd (none-some bytes (sym (none_there (slice_count p) i)
+      ∙ ap (λ (l : Slots). slot_at l i) (sym is) ∙ e));
+}
 
 -- ---- numbers that give something
 

@@ -1,17 +1,20 @@
 ghost use Rattle.std.specs.Prelude.{◌≡◌, ◌≤◌, ◌<◌, ◌||◌, ◌+◌, ◌++◌, ◌^◌, ◌==◌, ◌∷◌, []};
-ghost use Rattle.std.specs.Prelude.{IfOk, OnOk, is_ok, length, map, not};
+ghost use Rattle.std.specs.Prelude.{IfOk, OnOk, Some, is_ok, length, map, not};
 ghost use Rattle.std.specs.Prelude.{if◌then◌else◌};
-ghost use Rattle.link_model.specs.Books.{with_run};
+ghost use Rattle.link_model.specs.Books.{slot_at, with_run};
+ghost use Rattle.link_model.specs.Judgement.{is_conflict, is_new};
 ghost use Rattle.link_model.specs.Kept.{next_slices};
 ghost use Rattle.link_gather.specs.Filling.{run_cut, has_conflict, has_new};
-ghost use Rattle.link_gather.specs.Filling.{is_put_other, is_put_new, seen_outcome};
-ghost use Rattle.link_gather.specs.NewSlices.{HasWholeSlots, run_new};
+ghost use Rattle.link_gather.specs.Filling.{put_in, is_put_other, is_put_new, seen_outcome};
+ghost use Rattle.link_gather.specs.NewSlices.{HasWholeSlots, picture_slice, run_new};
 ghost use Rattle.link_gather.specs.Views.{new_slice_of};
 ghost use Rattle.vc_types.specs.OfPlan.{slice_count};
+ghost use Rattle.vc_types.specs.Slices.{slice_length};
 ghost use Rattle.vc_types.specs.TransformParameters.{parameters_of};
 
 use crate::part::{NewSlice, SlicePart};
 use crate::slots::{Put, Slots};
+use bytes::Bytes;
 use link_model::Outcome;
 use std::alloc::Global;
 use vc_slice::cut;
@@ -44,6 +47,36 @@ pub(crate) struct Seen {
 }
 
 impl Seen {
+    // Keeps one slice more, unless its slot has one.
+    fn keep(
+        &mut self,
+        slots: &mut Slots,
+        plan: &Plan,
+        i: usize,
+        bytes: Bytes,
+    ) -> Result<(), NoMemory>
+        requires inside { i < slice_count plan.now }
+        requires small { i < 2 ^ 32 }
+        requires whole { slice_length plan.now.prefix plan.now.scaler bytes ≡ Some (length bytes) }
+        requires slots { HasWholeSlots (parameters_of plan.now) slots.old }
+        ensures value { OnOk result (slots.new ≡ put_in slots.old i bytes) }
+        ensures conflict { OnOk result (self.new.conflict
+            ≡ (self.old.conflict || is_conflict (slot_at slots.old) (i, bytes))) }
+        ensures slices { OnOk result (map new_slice_of self.new.slices.items
+            ≡ map new_slice_of self.old.slices.items
+            ++ (if is_new (slot_at slots.old) (i, bytes)
+            then picture_slice (parameters_of plan.now) i bytes ∷ [] else [])) }
+        ensures slots { HasWholeSlots (parameters_of plan.now) slots.new }
+    {
+        let put = slots.put(i, &bytes)?;
+        let slice = NewSlice {
+            plan: *plan,
+            index: i as u32,
+            bytes,
+        };
+        self.add(put, slice)
+    }
+
     // With what became of one slice more.
     fn add(&mut self, put: Put, slice: NewSlice) -> Result<(), NoMemory>
         ensures conflict { OnOk result
@@ -106,13 +139,7 @@ pub(crate) fn keep_slices(
             return Ok(seen);
         };
         let bytes = rest.split_to(len)?;
-        let put = slots.put(i, &bytes)?;
-        let slice = NewSlice {
-            plan: *plan,
-            index: i as u32,
-            bytes,
-        };
-        seen.add(put, slice)?;
+        seen.keep(slots, plan, i, bytes)?;
     }
     Ok(seen)
 }
