@@ -9,8 +9,9 @@ use vc_types::NoMemory;
 #[derive(Clone, Copy)]
 pub(crate) struct Count(pub(crate) &'static str, pub(crate) u64);
 
+// Adds its line to a text.
 #[tactic(auto, unfolding(crate::specs::Report::line))]
-fn push_count(text: &mut String, count: &Count) -> Result<(), NoMemory>
+pub(crate) fn push_count(text: &mut String, count: &Count) -> Result<(), NoMemory>
     ensures { OnOk result
         (string_bytes text.new ≡ string_bytes text.old ++ line count.now.0.now count.now.1) }
 {

@@ -1,6 +1,9 @@
 ghost use Rattle.std.specs.Prelude.{◌≡◌, ◌++◌, OnOk};
 ghost use Rattle.std.specs.String.{string_bytes};
+ghost use Rattle.link_report.specs.Report.{status_line};
+ghost use Rattle.link_report.specs.declared.ending.Ending.TheVariants.{SampleTooLarge, SliceTooLarge};
 
+use crate::counts::{Count, push_count};
 use vc_types::NoMemory;
 
 /// Why a command stopped: what the line of its status says.
@@ -50,31 +53,57 @@ impl Ending {
     }
 
     // Adds the line of the status to a text.
-    #[tactic(auto, unfolding(crate::specs::Report::status_line, crate::specs::Report::line))]
+    #[tactic(auto, unfolding(crate::specs::Report::status_line))]
     pub(crate) fn push_to(&self, text: &mut String) -> Result<(), NoMemory>
         ensures { OnOk result
             (string_bytes text.new ≡ string_bytes text.old ++ status_line self.now) }
     {
         match *self {
-            Ending::Usage { place } => write!(text, "usage at {place}\n")?,
-            Ending::NoMemory => write!(text, "no memory\n")?,
-            Ending::InputFailed => write!(text, "input failed\n")?,
-            Ending::OutputFailed => write!(text, "output failed\n")?,
-            Ending::WireFailed => write!(text, "wire failed\n")?,
-            Ending::CaptureCut { place } => write!(text, "capture cut at {place}\n")?,
-            Ending::PacketLimit { limit } => write!(text, "packet limit {limit}\n")?,
-            Ending::RawCut { frame } => write!(text, "raw cut at frame {frame}\n")?,
+            Ending::Usage { place } => push_count(text, &Count("usage at", place)),
+            Ending::NoMemory => push_words(text, "no memory\n"),
+            Ending::InputFailed => push_words(text, "input failed\n"),
+            Ending::OutputFailed => push_words(text, "output failed\n"),
+            Ending::WireFailed => push_words(text, "wire failed\n"),
+            Ending::CaptureCut { place } => push_count(text, &Count("capture cut at", place)),
+            Ending::PacketLimit { limit } => {
+                push_count(text, &Count("packet limit", u64::from(limit)))
+            }
+            Ending::RawCut { frame } => push_count(text, &Count("raw cut at frame", frame)),
             Ending::SampleTooLarge {
                 place,
                 plane,
                 value,
-            } => write!(text, "sample {place} of plane {plane} is {value}\n")?,
-            Ending::SliceTooLarge { slice, bytes } => {
-                write!(text, "slice {slice} needs {bytes} bytes\n")?;
+            } => push_sample(text, place, plane, value),
+            Ending::SliceTooLarge { slice, bytes } => push_slice(text, slice, bytes),
+            Ending::StreamBad { place } => push_count(text, &Count("stream bad at", place)),
+            Ending::FrameLimit { limit } => {
+                push_count(text, &Count("frame limit", u64::from(limit)))
             }
-            Ending::StreamBad { place } => write!(text, "stream bad at {place}\n")?,
-            Ending::FrameLimit { limit } => write!(text, "frame limit {limit}\n")?,
         }
-        Ok(())
     }
+}
+
+fn push_words(text: &mut String, words: &str) -> Result<(), NoMemory>
+    ensures { OnOk result (string_bytes text.new ≡ string_bytes text.old ++ words.now) }
+{
+    text.push_str(words)?;
+    Ok(())
+}
+
+#[tactic(auto, unfolding(crate::specs::Report::status_line))]
+fn push_sample(text: &mut String, place: u64, plane: u8, value: u16) -> Result<(), NoMemory>
+    ensures { OnOk result (string_bytes text.new
+        ≡ string_bytes text.old ++ status_line (SampleTooLarge place plane value)) }
+{
+    write!(text, "sample {place} of plane {plane} is {value}\n")?;
+    Ok(())
+}
+
+#[tactic(auto, unfolding(crate::specs::Report::status_line))]
+fn push_slice(text: &mut String, slice: u32, bytes: u64) -> Result<(), NoMemory>
+    ensures { OnOk result (string_bytes text.new
+        ≡ string_bytes text.old ++ status_line (SliceTooLarge slice bytes)) }
+{
+    write!(text, "slice {slice} needs {bytes} bytes\n")?;
+    Ok(())
 }

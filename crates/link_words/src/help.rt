@@ -61,18 +61,32 @@ const EXAMPLES: [&str; 7] = [
 /// grammar, by worked rows; no clause says so.
 pub fn help_page(alloc: Global) -> Result<String, NoMemory> {
     let mut page = String::new(alloc);
-    push_lines(&mut page, &HEAD)?;
-    for command in &COMMANDS {
-        push_command(&mut page, *command)?;
-    }
-    page.push_str("\nOptions\n")?;
-    for name in &NAMES {
-        push_option(&mut page, *name)?;
-    }
-    push_lines(&mut page, &FILES)?;
-    push_lines(&mut page, &STATUSES)?;
-    push_lines(&mut page, &EXAMPLES)?;
+    push_page(&mut page)?;
     Ok(page)
+}
+
+fn push_page(page: &mut String) -> Result<(), NoMemory> {
+    push_lines(page, &HEAD)?;
+    push_commands(page)?;
+    push_options(page)?;
+    push_lines(page, &FILES)?;
+    push_lines(page, &STATUSES)?;
+    push_lines(page, &EXAMPLES)
+}
+
+fn push_commands(page: &mut String) -> Result<(), NoMemory> {
+    for command in &COMMANDS {
+        push_command(page, *command)?;
+    }
+    Ok(())
+}
+
+fn push_options(page: &mut String) -> Result<(), NoMemory> {
+    push_words(page, "\nOptions\n")?;
+    for name in &NAMES {
+        push_option(page, *name)?;
+    }
+    Ok(())
 }
 
 fn push_lines(page: &mut String, lines: &[&str]) -> Result<(), NoMemory> {
@@ -102,15 +116,23 @@ fn word_of(command: Command) -> &'static str
 
 // A command, what it reads and writes, and its options.
 fn push_command(page: &mut String, command: Command) -> Result<(), NoMemory> {
+    push_job(page, command)?;
+    for (i, name) in names_of(command).iter().enumerate() {
+        push_name(page, if i % 7 == 0 { "\n    " } else { " " }, *name)?;
+    }
+    push_words(page, "\n")
+}
+
+fn push_job(page: &mut String, command: Command) -> Result<(), NoMemory> {
     let (word, job) = (word_of(command), job_of(command));
     write!(page, "  {word}: {job}")?;
-    for (i, name) in names_of(command).iter().enumerate() {
-        let (word, _) = option_row(*name);
-        let before = if i % 7 == 0 { "\n    " } else { " " };
-        write!(page, "{before}{word}")?;
-    }
-    page.push_str("\n")?;
     Ok(())
+}
+
+fn push_name(page: &mut String, before: &str, name: Name) -> Result<(), NoMemory> {
+    let (word, _) = option_row(name);
+    page.push_str(before)?;
+    push_words(page, word)
 }
 
 // An option with its values, and what it means.
@@ -118,23 +140,40 @@ fn push_option(page: &mut String, name: Name) -> Result<(), NoMemory> {
     let (word, values) = option_row(name);
     write!(page, "  {word}: ")?;
     push_values(page, values)?;
-    let meaning = meaning_of(name);
+    push_meaning(page, meaning_of(name))
+}
+
+fn push_meaning(page: &mut String, meaning: &str) -> Result<(), NoMemory> {
     write!(page, "\n    {meaning}\n")?;
     Ok(())
 }
 
 fn push_values(page: &mut String, values: Values) -> Result<(), NoMemory> {
     match values {
-        Values::Number(low, high, default) => {
-            write!(page, "{low} to {high}, {default} by default")?;
-        }
-        Values::Optional(low, high) => write!(page, "{low} to {high}, none by default")?,
-        Values::Required(low, high) => write!(page, "{low} to {high}, required")?,
-        Values::Subsampling => page.push_str("444, 422 or 420; 422 by default")?,
-        Values::Pair => {
-            page.push_str("two of 1 to 65535 with x between; 16 by 8 samples each by default")?;
-        }
-        Values::Address => page.push_str("an address, required")?,
+        Values::Number(low, high, default) => push_number(page, low, high, default),
+        Values::Optional(low, high) => push_range(page, low, high, "none by default"),
+        Values::Required(low, high) => push_range(page, low, high, "required"),
+        Values::Subsampling => push_words(page, "444, 422 or 420; 422 by default"),
+        Values::Pair => push_words(
+            page,
+            "two of 1 to 65535 with x between; 16 by 8 samples each by default",
+        ),
+        Values::Address => push_words(page, "an address, required"),
     }
+}
+
+fn push_number(page: &mut String, low: u32, high: u32, default: u32) -> Result<(), NoMemory> {
+    write!(page, "{low} to {high}, {default} by default")?;
+    Ok(())
+}
+
+// A range, and what is meant where no number is given.
+fn push_range(page: &mut String, low: u32, high: u32, without: &str) -> Result<(), NoMemory> {
+    write!(page, "{low} to {high}, {without}")?;
+    Ok(())
+}
+
+fn push_words(page: &mut String, words: &str) -> Result<(), NoMemory> {
+    page.push_str(words)?;
     Ok(())
 }
