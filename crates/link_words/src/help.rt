@@ -1,7 +1,7 @@
 ghost use Rattle.std.specs.Prelude.{◌≡◌, Some};
 ghost use Rattle.link_words.specs.Options.{command_of};
 
-use crate::meanings::{COMMANDS, NAMES, job_of, meaning_of};
+use crate::meanings::{COMMANDS, NAMES};
 use crate::options::{Command, Name, Values, names_of, option_row};
 use std::alloc::Global;
 use vc_types::NoMemory;
@@ -75,16 +75,16 @@ fn push_page(page: &mut String) -> Result<(), NoMemory> {
 }
 
 fn push_commands(page: &mut String) -> Result<(), NoMemory> {
-    for command in &COMMANDS {
-        push_command(page, *command)?;
+    for (command, job) in &COMMANDS {
+        push_command(page, *command, job)?;
     }
     Ok(())
 }
 
 fn push_options(page: &mut String) -> Result<(), NoMemory> {
     push_words(page, "\nOptions\n")?;
-    for name in &NAMES {
-        push_option(page, *name)?;
+    for (name, meaning) in &NAMES {
+        push_option(page, *name, meaning)?;
     }
     Ok(())
 }
@@ -115,16 +115,15 @@ fn word_of(command: Command) -> &'static str
 }
 
 // A command, what it reads and writes, and its options.
-fn push_command(page: &mut String, command: Command) -> Result<(), NoMemory> {
-    push_job(page, command)?;
+fn push_command(page: &mut String, command: Command, job: &str) -> Result<(), NoMemory> {
+    push_job(page, word_of(command), job)?;
     for (i, name) in names_of(command).iter().enumerate() {
         push_name(page, if i % 7 == 0 { "\n    " } else { " " }, *name)?;
     }
     push_words(page, "\n")
 }
 
-fn push_job(page: &mut String, command: Command) -> Result<(), NoMemory> {
-    let (word, job) = (word_of(command), job_of(command));
+fn push_job(page: &mut String, word: &str, job: &str) -> Result<(), NoMemory> {
     write!(page, "  {word}: {job}")?;
     Ok(())
 }
@@ -136,11 +135,11 @@ fn push_name(page: &mut String, before: &str, name: Name) -> Result<(), NoMemory
 }
 
 // An option with its values, and what it means.
-fn push_option(page: &mut String, name: Name) -> Result<(), NoMemory> {
+fn push_option(page: &mut String, name: Name, meaning: &str) -> Result<(), NoMemory> {
     let (word, values) = option_row(name);
     write!(page, "  {word}: ")?;
     push_values(page, values)?;
-    push_meaning(page, meaning_of(name))
+    push_meaning(page, meaning)
 }
 
 fn push_meaning(page: &mut String, meaning: &str) -> Result<(), NoMemory> {

@@ -1,108 +1,104 @@
 use crate::options::{Command, Name};
 
-/// The commands in the order of the page.
-pub(crate) const COMMANDS: [Command; 9] = [
-    Command::Encode,
-    Command::Decode,
-    Command::Send,
-    Command::Recv,
-    Command::Loop,
-    Command::Play,
-    Command::Unpack,
-    Command::Pack,
-    Command::Gen,
+/// The commands in the order of the page, each with what it reads and writes.
+pub(crate) const COMMANDS: [(Command, &str); 9] = [
+    (
+        Command::Encode,
+        "raw frames from the input; a capture of the datagrams that carry them to the output",
+    ),
+    (
+        Command::Decode,
+        "a capture from the input; raw frames to the output",
+    ),
+    (
+        Command::Send,
+        "raw frames from the input; the datagrams that carry them to the network",
+    ),
+    (
+        Command::Recv,
+        "datagrams from the network up to the end of a session; raw frames to the output",
+    ),
+    (
+        Command::Loop,
+        "raw frames from the input, sent to an address and received there; raw frames to the output",
+    ),
+    (
+        Command::Play,
+        "a VC-2 elementary stream from the input; raw frames to the output",
+    ),
+    (
+        Command::Unpack,
+        "a capture from the input; an elementary stream of its whole pictures to the output",
+    ),
+    (
+        Command::Pack,
+        "an elementary stream from the input; a capture of the datagrams that carry it to the output",
+    ),
+    (
+        Command::Gen,
+        "nothing from the input; generated raw frames to the output, or with --check 1 nothing",
+    ),
 ];
 
-/// The options in the order of the page.
-pub(crate) const NAMES: [Name; 29] = [
-    Name::Width,
-    Name::Height,
-    Name::Sampling,
-    Name::Range,
-    Name::Fields,
-    Name::Top,
-    Name::Wavelet,
-    Name::Depth,
-    Name::Slices,
-    Name::Prefix,
-    Name::Scaler,
-    Name::Index,
-    Name::Fit,
-    Name::Size,
-    Name::Ssrc,
-    Name::Seq,
-    Name::Picture,
-    Name::Tick,
-    Name::Pt,
-    Name::Frames,
-    Name::To,
-    Name::At,
-    Name::Window,
-    Name::Workers,
-    Name::Packets,
-    Name::Sessions,
-    Name::Seed,
-    Name::Count,
-    Name::Check,
+/// The options in the order of the page, each with what it means.
+pub(crate) const NAMES: [(Name, &str); 29] = [
+    (Name::Width, "samples in a row of luma"),
+    (Name::Height, "rows of luma in a frame"),
+    (Name::Sampling, "4:4:4, 4:2:2 or 4:2:0"),
+    (
+        Name::Range,
+        "1: 8 bits, full; 2: 8 bits, video; 3: 10 bits, video; 4: 12 bits, video",
+    ),
+    (Name::Fields, "1: each frame is sent as two fields"),
+    (Name::Top, "1: the top field is the earlier one"),
+    (
+        Name::Wavelet,
+        "0: Deslauriers-Dubuc (9,7); 1: LeGall (5,3); 2: Deslauriers-Dubuc (13,7);\n    3 and 4: Haar without and with a shift; 5: Fidelity; 6: Daubechies (9,7)",
+    ),
+    (Name::Depth, "levels of the transform"),
+    (Name::Slices, "slices across and down a picture"),
+    (Name::Prefix, "bytes in front of each slice"),
+    (Name::Scaler, "a slice's lengths count so many bytes"),
+    (
+        Name::Index,
+        "the quantisation index of all slices; 0 loses nothing; not with --fit",
+    ),
+    (
+        Name::Fit,
+        "the least index at which a slice has so many bytes at most, else 127; not with --index",
+    ),
+    (
+        Name::Size,
+        "bytes of a datagram at most: RTP, without the headers of IP and UDP",
+    ),
+    (Name::Ssrc, "the source's number in RTP"),
+    (Name::Seq, "the first sequence number, of 32 bits"),
+    (
+        Name::Picture,
+        "the first picture's number; even with --fields 1",
+    ),
+    (
+        Name::Tick,
+        "how far the timestamps of two frames are apart: 3600 is 25 frames a second",
+    ),
+    (Name::Pt, "the payload type in RTP"),
+    (Name::Frames, "frames at most"),
+    (Name::To, "where datagrams go, as 192.0.2.1:5004"),
+    (Name::At, "where datagrams come, as 0.0.0.0:5004"),
+    (
+        Name::Window,
+        "how many pictures are open at a time; more lets later datagrams count and delays the frames",
+    ),
+    (
+        Name::Workers,
+        "threads that decode slices; 0: none beside the first",
+    ),
+    (Name::Packets, "datagrams, entries or units at most"),
+    (Name::Sessions, "how many ends of sequence are waited for"),
+    (Name::Seed, "where the noise begins"),
+    (Name::Count, "frames that are generated"),
+    (
+        Name::Check,
+        "1: the frames are encoded and decoded, and the samples that differ are counted",
+    ),
 ];
-
-/// What a command reads and writes.
-pub(crate) fn job_of(command: Command) -> &'static str {
-    match command {
-        Command::Encode =>
-            "raw frames from the input; a capture of the datagrams that carry them to the output",
-        Command::Decode => "a capture from the input; raw frames to the output",
-        Command::Send => "raw frames from the input; the datagrams that carry them to the network",
-        Command::Recv =>
-            "datagrams from the network up to the end of a session; raw frames to the output",
-        Command::Loop =>
-            "raw frames from the input, sent to an address and received there; raw frames to the output",
-        Command::Play => "a VC-2 elementary stream from the input; raw frames to the output",
-        Command::Unpack =>
-            "a capture from the input; an elementary stream of its whole pictures to the output",
-        Command::Pack =>
-            "an elementary stream from the input; a capture of the datagrams that carry it to the output",
-        Command::Gen =>
-            "nothing from the input; generated raw frames to the output, or with --check 1 nothing",
-    }
-}
-
-/// What an option means.
-pub(crate) fn meaning_of(name: Name) -> &'static str {
-    match name {
-        Name::Width => "samples in a row of luma",
-        Name::Height => "rows of luma in a frame",
-        Name::Sampling => "4:4:4, 4:2:2 or 4:2:0",
-        Name::Range => "1: 8 bits, full; 2: 8 bits, video; 3: 10 bits, video; 4: 12 bits, video",
-        Name::Fields => "1: each frame is sent as two fields",
-        Name::Top => "1: the top field is the earlier one",
-        Name::Wavelet => {
-            "0: Deslauriers-Dubuc (9,7); 1: LeGall (5,3); 2: Deslauriers-Dubuc (13,7);\n    3 and 4: Haar without and with a shift; 5: Fidelity; 6: Daubechies (9,7)"
-        }
-        Name::Depth => "levels of the transform",
-        Name::Slices => "slices across and down a picture",
-        Name::Prefix => "bytes in front of each slice",
-        Name::Scaler => "a slice's lengths count so many bytes",
-        Name::Index => "the quantisation index of all slices; 0 loses nothing; not with --fit",
-        Name::Fit =>
-            "the least index at which a slice has so many bytes at most, else 127; not with --index",
-        Name::Size => "bytes of a datagram at most: RTP, without the headers of IP and UDP",
-        Name::Ssrc => "the source's number in RTP",
-        Name::Seq => "the first sequence number, of 32 bits",
-        Name::Picture => "the first picture's number; even with --fields 1",
-        Name::Tick => "how far the timestamps of two frames are apart: 3600 is 25 frames a second",
-        Name::Pt => "the payload type in RTP",
-        Name::Frames => "frames at most",
-        Name::To => "where datagrams go, as 192.0.2.1:5004",
-        Name::At => "where datagrams come, as 0.0.0.0:5004",
-        Name::Window =>
-            "how many pictures are open at a time; more lets later datagrams count and delays the frames",
-        Name::Workers => "threads that decode slices; 0: none beside the first",
-        Name::Packets => "datagrams, entries or units at most",
-        Name::Sessions => "how many ends of sequence are waited for",
-        Name::Seed => "where the noise begins",
-        Name::Count => "frames that are generated",
-        Name::Check =>
-            "1: the frames are encoded and decoded, and the samples that differ are counted",
-    }
-}
