@@ -3,7 +3,7 @@ use crate::plans::UNWEIGHTED_SLICES;
 use bytes::Bytes;
 use std::alloc::Global;
 use vc_slice::{Hands, Places, SliceDone, SliceJob, decode};
-use vc_types::NoMemory;
+use vc_types::{NoMemory, Plan};
 
 /// What is given back in place of the answer to a slice.
 #[derive(Clone, Copy)]
@@ -60,24 +60,29 @@ impl TwoPlaces {
     // The slice whose answer is given back in place of that to this one.
     fn turned(&mut self, job: &SliceJob) -> Option<SliceJob> {
         let first = self.first(job)?;
-        let bytes = job.bytes.clone().ok()?;
         match self.given {
-            Given::OfNextPicture => {
-                job_of(job.plan, job.number.saturating_add(1), job.index, bytes)
-            }
-            Given::OfAnotherPlan => job_of(UNWEIGHTED_SLICES, job.number, job.index, bytes),
-            Given::OfOtherBytes => {
-                let other = if bytes.as_slice() == first.bytes.as_slice() {
-                    Bytes::from_static(&[0; 4])
-                } else {
-                    first.bytes
-                };
-                job_of(job.plan, job.number, job.index, other)
-            }
+            Given::OfNextPicture => moved(job, job.plan, job.number.saturating_add(1)),
+            Given::OfAnotherPlan => moved(job, UNWEIGHTED_SLICES, job.number),
+            Given::OfOtherBytes => with_other_bytes(job, first),
             Given::OfFirstSlice => Some(first),
             Given::InOppositeOrder => job.copy().ok(),
         }
     }
+}
+
+// The slice of the same index and bytes in another picture.
+fn moved(job: &SliceJob, plan: Plan, number: u64) -> Option<SliceJob> {
+    job_of(plan, number, job.index, job.bytes.clone().ok()?)
+}
+
+// The slice with the bytes of the first one, or with empty ones where it has those.
+fn with_other_bytes(job: &SliceJob, first: SliceJob) -> Option<SliceJob> {
+    let other = if job.bytes.as_slice() == first.bytes.as_slice() {
+        Bytes::from_static(&[0; 4])
+    } else {
+        first.bytes
+    };
+    job_of(job.plan, job.number, job.index, other)
 }
 
 impl Places for TwoPlaces {
