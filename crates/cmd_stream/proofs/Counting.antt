@@ -1,11 +1,8 @@
 -- Datagrams that are counted one after another.
-use Rattle.std.proofs.Common.{◌≡◌, ℕ, ◌+◌, List, ◌∷◌, [], ◌++◌, length, take, ap, sym, ◌∙◌, arith, length-append}
+use Rattle.std.proofs.Common.{◌≡◌, ℕ, ◌+◌, List, ◌++◌, length, arith, length-append}
 use Rattle.cmd_send.proofs.Numbering.{sum-append}
-use Rattle.cmd_send.proofs.PuttingAll.{bytes_more}
 use Rattle.cmd_send.specs.FramesSent.{bytes_in}
 use Rattle.cmd_stream.specs.Counted.{counted_in_64}
-use Rattle.link_sender.specs.declared.datagram.Datagram.{Datagram}
-use Rattle.link_sender.specs.Packing.{bytes_of_all}
 use Rattle.cmd_stream.specs.declared.totals.Totals.{Totals}
 use Rattle.cmd_stream.specs.Counted.{packed_totals, packed_totals_with}
 

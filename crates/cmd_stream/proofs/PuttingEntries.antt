@@ -7,7 +7,7 @@ use Rattle.link_sender.specs.Packing.{bytes_of_all}
 use Rattle.link_outside.specs.Outlets.{capture_of}
 use Rattle.link_outside.specs.CaptureLaws.{capture-append, capture-one}
 use Rattle.vc_ports.specs.Writing.{Grew, GrewBySome}
-use Rattle.vc_ports.proofs.Growing.{Grew-then, GrewBySome-then, GrewBySome-front}
+use Rattle.vc_ports.proofs.Growing.{GrewBySome-then, GrewBySome-front}
 
 module _ (datagrams : List Datagram) (i : ℕ) (one : Datagram) (more : take (i + 1) datagrams ≡ take i datagrams ++ one ∷ []) where
   capture_more : capture_of (bytes_of_all (take (i + 1) datagrams)) ≡ capture_of (bytes_of_all (take i datagrams)) ++ entry one.bytes.items

@@ -1,11 +1,9 @@
 -- Bytes of a stream that comes to its end, of which a part was given.
-use Rattle.std.proofs.Common.{◌≡◌, ◌⊎◌, ℕ, ◌+◌, List, [], ◌∷◌, ◌++◌, length, length-append, append-nil, Option, Some, None, IsSomeAnd, Err, inl, inr, refl, sym, ap, subst, ◌∙◌, arith}
+use Rattle.std.proofs.Common.{◌≡◌, ◌⊎◌, ℕ, ◌+◌, List, [], ◌∷◌, ◌++◌, length, length-append, append-nil, Some, Err, inl, inr, refl, sym, ap, ◌∙◌, arith}
 use Rattle.std.specs.Prelude.{◌≢◌, IsTrue, IsFalse}
 use Rattle.std.proofs.lemmas.Grind.{common_steps}
 use Rattle.cmd_stream.specs.Playing.{UnitSplit, unit_split, has_ended, IsLast}
-use Rattle.vc_ports.proofs.Given.{some_is}
 use Rattle.vc_ports.specs.Changes.{InputChange}
-use Rattle.vc_ports.specs.Reading.{Gave}
 use Rattle.vc_units.proofs.Behind.{NoneBehind, data_unit-bad, units_within-rest}
 use Rattle.vc_units.specs.Units.{data_unit, units_within}
 use Rattle.vc_units.specs.declared.fault.UnitFault.{UnitFault}

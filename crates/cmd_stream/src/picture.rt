@@ -90,13 +90,28 @@ fn built<H: Threads + Copy + Send + Sync>(
     ensures value { IfOk result (IsBuilt (parameters_of plan.now) slices) }
 {
     let mut builder = begun(alloc, *plan, kept.take())?;
-    let all = take_slices(alloc, plan, number, slices, &mut builder)?;
+    let planes = planes_of(rt, alloc, plan, number, slices, &mut builder);
+    *kept = Some(builder);
+    planes
+}
+
+// What the builder makes of the slices.
+fn planes_of<H: Threads + Copy + Send + Sync>(
+    rt: H,
+    alloc: Global,
+    plan: &Plan,
+    number: u32,
+    slices: Bytes,
+    builder: &mut PictureBuilder,
+) -> Result<Option<[Plane; 3]>, NoMemory>
+    requires { builder.old ≡ no_slices (parameters_of plan.now) }
+    ensures value { IfOk result (IsBuilt (parameters_of plan.now) slices) }
+{
+    let all = take_slices(alloc, plan, number, slices, builder)?;
     if !all {
         return Ok(None);
     }
-    let planes = builder.planes_joined(rt)?;
-    *kept = Some(builder);
-    Ok(Some(planes))
+    Ok(Some(builder.planes_joined(rt)?))
 }
 
 // A builder that no slice of the plan came to: the one that was kept, if it is of the same plan.

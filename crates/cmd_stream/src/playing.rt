@@ -1,11 +1,13 @@
-ghost use Rattle.std.specs.Prelude.{◌≡◌, None, Err};
+ghost use Rattle.std.specs.Prelude.{◌≡◌, ◌-◌, ◌^◌, None, Err, OnOk};
+ghost use Rattle.std.specs.Result.{result_map_both};
 ghost use Rattle.vc_ports.specs.Changes.{input_of, output_of};
 ghost use Rattle.vc_ports.specs.Faults.{HasCause};
 ghost use Rattle.cmd_stream.specs.PlayEndings.{reading_ended, taking_ended};
-ghost use Rattle.cmd_stream.specs.PlayLooping.{PlayLoopEnded};
+ghost use Rattle.cmd_stream.specs.PlayLooping.{PlayLoopEnded, summary_of};
 ghost use Rattle.cmd_stream.specs.Playing.{Plays};
 ghost use Rattle.cmd_stream.specs.PlaySteps.{state_so_far};
 ghost use Rattle.cmd_stream.specs.Stream.{at_start};
+ghost use Rattle.cmd_stream.specs.Taking.{CountsAtMost};
 ghost use Rattle.cmd_stream.specs.PlayViews.{player_state};
 
 use crate::play_fault::TakeFault;
@@ -42,11 +44,33 @@ pub fn play<H: Threads + Copy + Send + Sync, S: Source, O: Sink>(
         (output_of O.held O.faults output.old output.new) }
 {
     let mut player = Player::new();
-    match play_units(rt, alloc, packets, &mut player, input, output)? {
-        Stop::Ended => Ok(player.summary()),
+    match play_all(rt, alloc, packets, &mut player, input, output) {
+        Ok(()) => Ok(player.summary()),
+        Err(ending) => Err(ending),
+    }
+}
+
+// Plays the units of a stream, and asks for the end behind the last of so many.
+fn play_all<H: Threads + Copy + Send + Sync, S: Source, O: Sink>(
+    rt: H,
+    alloc: Global,
+    packets: u32,
+    player: &mut Player,
+    input: &mut S,
+    output: &mut O,
+) -> Result<(), Ending>
+    requires { player_state player.old ≡ state_so_far at_start }
+    ensures few { OnOk result (CountsAtMost (2 ^ 32 - 1) (player_state player.new)) }
+    ensures plays { Plays packets (result_map_both
+        (λ done. summary_of (player_state player.new)) (λ ending. ending) result)
+        (input_of S.left S.faults input.old input.new)
+        (output_of O.held O.faults output.old output.new) }
+{
+    match play_units(rt, alloc, packets, player, input, output)? {
+        Stop::Ended => Ok(()),
         Stop::AtLimit => match fill(input, &mut [0; 1]) {
             Filled::Whole => Err(Ending::PacketLimit { limit: packets }),
-            Filled::End(_) => Ok(player.summary()),
+            Filled::End(_) => Ok(()),
             Filled::Failed(_) => Err(Ending::InputFailed),
         },
     }
