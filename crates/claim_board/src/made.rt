@@ -97,7 +97,7 @@ impl Board {
         for _worker in 0..workers {
             let order = VecDeque::with_capacity(alloc, self.table.word_count())?;
             let worker = self.hire_one(feeder, order);
-            team.push(worker)?;
+            team.push_reserved(worker);
         }
         Ok(team)
     }
