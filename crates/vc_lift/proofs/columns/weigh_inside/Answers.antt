@@ -11,10 +11,12 @@ pub loop-j-init : goal.loop-j-init
 loop-j-init c = record { value = sym (sum_below_none _); bound = search rules }
 
 pub overflow_mul-first : goal.overflow_mul-first
-overflow_mul-first c = omega (arith, fewer c.args.columns.half c.args.columns.width c.args.x c.requires.can.column)
+overflow_mul-first c =
+    omega (arith, fewer c.args.columns.half c.args.columns.width c.args.x c.requires.can.column)
 
 pub overflow_add-first : goal.overflow_add-first
-overflow_add-first c = omega (arith, fewer c.args.columns.half c.args.columns.width c.args.x c.requires.can.column)
+overflow_add-first c =
+    omega (arith, fewer c.args.columns.half c.args.columns.width c.args.x c.requires.can.column)
 
 pub overflow_mul-first-2 : goal.overflow_mul-first-2
 overflow_mul-first-2 c = omega (

@@ -31,19 +31,44 @@ own_left : (c : goal.In-loop-x)
 own_left c = c.loop-x.invariant.off _ (inr (omega arith))
 
 pub overflow_add-at : goal.overflow_add-at
-overflow_add-at c = omega (arith, place_at c.args.halves.now c.args.n c.args.step.now.parity c.args.step.now.plain.parity, c.requires.run.at)
+overflow_add-at c = omega (
+  arith,
+  place_at c.args.halves.now c.args.n c.args.step.now.parity
+      c.args.step.now.plain.parity,
+  c.requires.run.at,
+)
 
 pub offset_bounds-cells-at : goal.offset_bounds-cells-at
-offset_bounds-cells-at c = omega (arith, place_at c.args.halves.now c.args.n c.args.step.now.parity c.args.step.now.plain.parity, c.requires.run.at)
+offset_bounds-cells-at c = omega (
+  arith,
+  place_at c.args.halves.now c.args.n c.args.step.now.parity
+      c.args.step.now.plain.parity,
+  c.requires.run.at,
+)
 
 pub overflow_add-at-in-loop-x : goal.overflow_add-at-in-loop-x
-overflow_add-at-in-loop-x c = omega (arith, place_at c.args.halves.now c.args.n c.args.step.now.parity c.args.step.now.plain.parity, c.requires.run.at)
+overflow_add-at-in-loop-x c = omega (
+  arith,
+  place_at c.args.halves.now c.args.n c.args.step.now.parity
+      c.args.step.now.plain.parity,
+  c.requires.run.at,
+)
 
 pub offset_bounds-cells-at-in-loop-x : goal.offset_bounds-cells-at-in-loop-x
-offset_bounds-cells-at-in-loop-x c = omega (arith, place_at c.args.halves.now c.args.n c.args.step.now.parity c.args.step.now.plain.parity, c.requires.run.at)
+offset_bounds-cells-at-in-loop-x c = omega (
+  arith,
+  place_at c.args.halves.now c.args.n c.args.step.now.parity
+      c.args.step.now.plain.parity,
+  c.requires.run.at,
+)
 
 pub bounds-cells-at : goal.bounds-cells-at
-bounds-cells-at c = omega (arith, place_at c.args.halves.now c.args.n c.args.step.now.parity c.args.step.now.plain.parity, c.requires.run.at)
+bounds-cells-at c = omega (
+  arith,
+  place_at c.args.halves.now c.args.n c.args.step.now.parity
+      c.args.step.now.plain.parity,
+  c.requires.run.at,
+)
 
 pub change_at-change-requires : goal.change_at-change-requires
 change_at-change-requires c = record {

@@ -1,6 +1,6 @@
 use Rattle.std.proofs.lemmas.Grind.{common_steps}
-use Rattle.std.proofs.Common.{rules, ◌≡◌, ◌+◌, ◌<◌, ◌≤◌, ℕ, length, unsigned_abs, pos, ◌+ℤ◌, ◌*ℤ◌, slice_index_or}
-use Rattle.std.proofs.Common.{FitsSigned, to_z, arith, sym, ap, subst, ◌∙◌}
+use Rattle.std.proofs.Common.{rules, ◌≡◌, ◌+◌, ◌<◌, ◌≤◌, ℕ, length, unsigned_abs, pos, ◌+ℤ◌, ◌*ℤ◌}
+use Rattle.std.proofs.Common.{slice_index_or, FitsSigned, to_z, arith, sym, ap, subst, ◌∙◌}
 use Rattle.std.specs.Int.{w32}
 use Rattle.vc_types.specs.Lifting.{line_of}
 use Rattle.vc_lift.specs.CountedSteps.{sum_met, place_met, sum_below}

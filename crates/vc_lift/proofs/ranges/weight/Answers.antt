@@ -5,7 +5,11 @@ use Rattle.vc_lift.proofs.ranges.weight.Goals as goal
 
 pub overflow_add-sum : goal.overflow_add-sum
 overflow_add-sum c =
-    omega (arith, sum_by-take-le unsigned_abs c.args.step.now.taps.now c.loop-j.j, c.args.step.now.plain.light)
+    omega (
+      arith,
+      sum_by-take-le unsigned_abs c.args.step.now.taps.now c.loop-j.j,
+      c.args.step.now.plain.light,
+    )
 
 pub loop-j-preserved : goal.loop-j-preserved
 loop-j-preserved c =
