@@ -7,6 +7,36 @@ use Rattle.vc_geometry.proofs.HalvedShares.{half}
 use Rattle.vc_geometry.proofs.LevelParts.{add_lowest, add_across, add_level}
 use Rattle.vc_geometry.proofs.parts.slice_rects.Goals as goal
 
+pub halved-lowest-requires : goal.halved-lowest-requires
+halved-lowest-requires c = omega arith
+
+pub halved-requires : goal.halved-requires
+halved-requires c = omega arith
+
+pub halved-columns-requires : goal.halved-columns-requires
+halved-columns-requires c = omega arith
+
+pub halved-columns-requires-in-loop-level-2 : goal.halved-columns-requires-in-loop-level-2
+halved-columns-requires-in-loop-level-2 c = omega arith
+
+pub halved-rows-requires : goal.halved-rows-requires
+halved-rows-requires c = omega arith
+
+pub part-requires-in-loop-level : goal.part-requires-in-loop-level
+part-requires-in-loop-level c = record { range = (omega arith, omega arith) }
+
+pub put_level-requires : goal.put_level-requires
+put_level-requires c = record {
+  room = omega (arith, length-set c.args.rects.now 0 c.part.result);
+  half = (omega arith, omega arith);
+}
+
+pub bounds-rects-level : goal.bounds-rects-level
+bounds-rects-level c = omega (arith, length-set c.args.rects.now 0 c.part.result)
+
+pub offset_bounds-rects-level : goal.offset_bounds-rects-level
+offset_bounds-rects-level c = omega (arith, length-set c.args.rects.now 0 c.part.result)
+
 pub loop-level-init : goal.loop-level-init
 loop-level-init c =
     let p = parameters_of c.args.plan.now in
