@@ -1,4 +1,5 @@
 mod Gathered
+mod PushedNumbers
 mod WalkedSlices
 mod Transformed
 pub mod PackedBits

@@ -1,7 +1,28 @@
+use Rattle.std.proofs.Common.{sym, subst}
 use Rattle.vc_types.specs.Planes.{planes_in}
 use Rattle.vc_types.specs.TransformParameters.{parameters_of}
+use Rattle.picture_encode.specs.Shapes.{IsPlane}
 use Rattle.picture_encode.proofs.Transformed.{narrow_has, wide_has}
 use Rattle.picture_encode.proofs.transform.component.Goals as goal
+
+pub narrow-requires-clause-plane : goal.narrow-requires-clause-plane
+narrow-requires-clause-plane c =
+    subst (IsPlane (parameters_of c.args.plan.now) c.args.c) (sym c.plane_in-plane.ensures) (c.requires.each c.args.c)
+
+-- the plane is that component's
+own : (c : goal.Else-forward_fits_narrow)
+    → IsPlane (parameters_of c.args.plan.now) c.args.c c.plane_in-plane.result.now
+own c =
+    subst (IsPlane (parameters_of c.args.plan.now) c.args.c) (sym c.plane_in-plane.ensures) (c.requires.each c.args.c)
+
+pub forward-requires-clause-width : goal.forward-requires-clause-width
+forward-requires-clause-width c = (own c).width
+
+pub forward-requires-clause-height : goal.forward-requires-clause-height
+forward-requires-clause-height c = (own c).height
+
+pub forward-requires-clause-samples : goal.forward-requires-clause-samples
+forward-requires-clause-samples c = (own c).samples
 
 pub returns-in_ok-narrow : goal.returns-in_ok-narrow
 returns-in_ok-narrow c =
