@@ -6,6 +6,8 @@ pub mod WholeSlices
 pub mod RasterLists
 pub mod PlaneSizes
 pub mod GridCells
+pub mod RowsWithin
+pub mod SetCells
 pub mod PlacedGrids
 pub mod BuiltPlanes
 pub mod Placements

@@ -85,15 +85,19 @@ whole_push p slices s before own n none h = elim (cases_eq n (length slices)) [
 not_large : (z : ℤ) (large : Bool) → nat_le (2 ^ 60) (unsigned_abs z) ≡ large → large ≡ false → unsigned_abs z < 2 ^ 60
 not_large z large e f = grind (arith, nat_tests)
 
--- each coefficient of a whole slice is below 2 ^ 60
-pub coefficient-small : (p : Parameters) (n : ℕ) (s : Coefficients) (c : Component) (i : ℕ) → AreSliceCoefficients p n s → i < slice_coefficient_count p c n → unsigned_abs (slice_index_or (coefficients_of s c) i (pos 0)) < 2 ^ 60
-coefficient-small p n s c i whole h =
-    let zs = coefficients_of s c in
+-- each of a list that has no large number is below 2 ^ 60
+pub small_at : (zs : List ℤ) (i : ℕ) → list_any is_large zs ≡ false → i < length zs → unsigned_abs (slice_index_or zs i (pos 0)) < 2 ^ 60
+small_at zs i none within =
     let z = slice_index_or zs i (pos 0) in
-    let none = whole.small c in
-    let within : i < length zs = (let count = whole.count c in omega (arith, count)) in
     not_large z (is_large z) refl (small_by (is_large z) refl none (λ e. list_any_at is_large zs i (pos 0) within e))
   where
     small_by : (large : Bool) {any : Bool} → large ≡ large → any ≡ false → (large ≡ true → any ≡ true) → large ≡ false
     small_by true {any} e none at = absurd (let now = at refl in cc)
     small_by false e none at = refl
+
+-- and so is each coefficient of a whole slice
+pub coefficient-small : (p : Parameters) (n : ℕ) (s : Coefficients) (c : Component) (i : ℕ) → AreSliceCoefficients p n s → i < slice_coefficient_count p c n → unsigned_abs (slice_index_or (coefficients_of s c) i (pos 0)) < 2 ^ 60
+coefficient-small p n s c i whole h =
+    let zs = coefficients_of s c in
+    let count = whole.count c in
+    small_at zs i (whole.small c) (omega (arith, count))

@@ -1,9 +1,10 @@
-use Rattle.std.proofs.Common.{arith, ◌<◌, ◌≤◌, ◌^◌, ℕ, unsigned_abs, refl, sym, subst, ◌∙◌, ◌+◌}
+use Rattle.std.proofs.Common.{arith, ◌<◌, ◌≤◌, ◌^◌, ℕ, unsigned_abs, refl, sym, subst, ◌∙◌, ◌+◌, length}
 use Rattle.vc_types.specs.Lifting.{line_of}
 use Rattle.vc_types.specs.Subbands.{area}
 use Rattle.vc_types.specs.TransformParameters.{parameters_of}
 use Rattle.vc_types.proofs.SliceRectangles.{coefficients_before-none, coefficients_before-all}
 use Rattle.picture_build.proofs.DequantisedNumbers.{coefficient, coefficient_in, narrow_more}
+use Rattle.picture_build.proofs.RowsWithin.{few_cells, rows_within}
 use Rattle.picture_build.proofs.PlacedNumbers.{subband_within, from_more, subband_stands, subband_stays, all_stand}
 use Rattle.picture_build.proofs.filling.dequantise_numbers.Goals as goal
 
@@ -61,3 +62,21 @@ pub returns-clause-narrow : goal.returns-clause-narrow
 returns-clause-narrow c = λ i h.
     let all = coefficients_before-all (parameters_of c.args.bands.now.parts.now.plan) c.args.c c.args.bands.now.parts.now.slice c.loop-b.b (omega arith) in
     subst (λ z. unsigned_abs z < 2 ^ 29) (sym (returns-clause-on c i h)) (c.loop-b.invariant.narrow i (omega (arith, all, c.loop-b.invariant.from)))
+
+pub put_rect-requires-clause-cells : goal.put_rect-requires-clause-cells
+put_rect-requires-clause-cells c =
+    let r = c.rect-rect.result in
+    rows_within (r.y + r.height) c.padded-width.result.0 _ _ (length c.args.cells.now) (length c.loop-b.cells)
+    c.rect-rect.ensures.bottom c.padded-width.ensures.width c.requires.cells c.loop-b.invariant.length
+
+pub overflow_mul-from : goal.overflow_mul-from
+overflow_mul-from c =
+    let r = c.rect-rect.result in
+    let few = few_cells r.x r.y r.width r.height c.rect-rect.ensures.range in
+    omega (arith, few)
+
+pub returns-clause-off : goal.returns-clause-off
+returns-clause-off c = c.loop-b.invariant.off
+
+pub returns-in_default-clause-off : goal.returns-in_default-clause-off
+returns-in_default-clause-off c = c.loop-b.invariant.off

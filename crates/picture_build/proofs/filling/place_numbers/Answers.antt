@@ -1,7 +1,8 @@
-use Rattle.std.proofs.Common.{arith, refl, sym, ◌∙◌}
+use Rattle.std.proofs.Common.{arith, refl, sym, ◌∙◌, length, ◌+◌}
 use Rattle.vc_types.specs.Lifting.{line_of}
 use Rattle.vc_types.specs.TransformParameters.{parameters_of}
 use Rattle.vc_types.proofs.SliceRectangles.{coefficients_before-none}
+use Rattle.picture_build.proofs.RowsWithin.{few_cells, rows_within}
 use Rattle.picture_build.proofs.PlacedNumbers.{subband_within, from_more, subband_stands, subband_stays, all_stand}
 use Rattle.picture_build.proofs.filling.place_numbers.Goals as goal
 
@@ -32,3 +33,18 @@ loop-b-preserved c =
 
 pub returns-clause-on : goal.returns-clause-on
 returns-clause-on c = all_stand c.args.parts.now c.args.c c.loop-b.b c.loop-b.from (line_of c.args.numbers.now) c.loop-b.cells (omega arith) c.loop-b.invariant.from c.loop-b.invariant.on
+
+pub place_rect-requires-clause-cells : goal.place_rect-requires-clause-cells
+place_rect-requires-clause-cells c =
+    let r = c.rect-rect.result in
+    rows_within (r.y + r.height) c.padded-width.result.0 _ _ (length c.args.cells.now) (length c.loop-b.cells)
+    c.rect-rect.ensures.bottom c.padded-width.ensures.width c.requires.cells c.loop-b.invariant.length
+
+pub overflow_mul-from : goal.overflow_mul-from
+overflow_mul-from c =
+    let r = c.rect-rect.result in
+    let few = few_cells r.x r.y r.width r.height c.rect-rect.ensures.range in
+    omega (arith, few)
+
+pub returns-clause-off : goal.returns-clause-off
+returns-clause-off c = c.loop-b.invariant.off

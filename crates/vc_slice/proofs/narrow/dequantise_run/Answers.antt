@@ -1,4 +1,4 @@
-use Rattle.std.proofs.Common.{ℤ, ◌≤◌, ◌<◌, ◌^◌, unsigned_abs}
+use Rattle.std.proofs.Common.{◌≤◌, ◌<◌, ◌^◌, unsigned_abs}
 use Rattle.vc_types.specs.Quantisation.{dequantised}
 use Rattle.vc_slice.proofs.RunsInPlace.{of_run, put_back, put_back_by, put_back_off}
 use Rattle.vc_slice.proofs.narrow.dequantise_run.Goals as goal
