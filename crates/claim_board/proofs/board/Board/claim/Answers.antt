@@ -1,4 +1,4 @@
-use Rattle.std.proofs.Common.{arith, ap, sym, ◌∙◌, ◌≡◌, ◌<◌, ◌≤◌, length}
+use Rattle.std.proofs.Common.{arith, ap, refl, sym, ◌∙◌, ◌≡◌, ◌<◌, ◌≤◌, length}
 use Rattle.std.specs.VecDeque.{deque_capacity}
 use Rattle.atomic_table.specs.Seated.{TableId}
 use Rattle.claim_board.specs.Counts.{occurrences}
@@ -44,3 +44,18 @@ invariant_of-s c =
 
 pub returns-clause-mine : goal.returns-clause-mine
 returns-clause-mine c = claimed_holds c.args.place c.in-Ok.claimed.serial c.in-Ok.claimed.job c.args.s.now.seat.me.0 c.claim_at.new.seat.me.0 c.in-Ok.ensures.claimed
+
+pub claim_at-requires : goal.claim_at-requires
+claim_at-requires c = record { table = record { table = c.requires.seat.0; within = c.requires.place } }
+
+pub returns-in-Err-clause-seat : goal.returns-in-Err-clause-seat
+returns-in-Err-clause-seat c = (c.claim_at.ensures.id.table ∙ c.requires.seat.0, c.requires.seat.1)
+
+pub returns-in-Err-clause-refused : goal.returns-in-Err-clause-refused
+returns-in-Err-clause-refused c = (c.in-Err.ensures.refused.0, c.in-Err.ensures.refused.1)
+
+pub returns-clause-seat : goal.returns-clause-seat
+returns-clause-seat c = (c.claim_at.ensures.id.table ∙ c.requires.seat.0, c.requires.seat.1)
+
+pub returns-clause-claimed : goal.returns-clause-claimed
+returns-clause-claimed c = (refl, c.in-Ok.ensures.claimed)
