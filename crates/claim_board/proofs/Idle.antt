@@ -2,7 +2,8 @@
 use Rattle.std.proofs.Common.{◌≡◌, refl, ℕ, ◌+◌, ◌<◌, ◌≤◌, ◌^◌, vec_len, cond, true, false, List, ◌∷◌, length, get_or, set, sym, ap, ◌∙◌, arith, eqb, eq-eqb, ne_eqb, get_or-set_other, get_or-set_same, drop, ◌≢◌, zero, suc, Bool, []}
 use mathlib.Core.Logic.{dite}
 use native.Mathlib.Decide.{ℕ_discrete}
-use Rattle.claim_board.specs.Views.{lane, SeatView, lane_in, lane_at, lanes_put, lanes_back}
+use Rattle.std.specs.Prelude.{◌&&◌, nat_lt, not}
+use Rattle.claim_board.specs.Views.{lane, SeatView, lane_in, lane_at, lanes_put, lanes_back, may_take_a_job}
 use Rattle.atomic_table.specs.Seated.{TableId}
 use Rattle.claim_board.specs.Seats.{IsFeederOf, place_count}
 use Rattle.claim_board.specs.declared.board.Board.{Board}
@@ -19,7 +20,7 @@ pub popped : (q p : ℕ) (old front new : List ℕ) → ((rest : List ℕ) × (f
     → occurrences q old ≡ cond (eqb p q) 1 0 + occurrences q new
 popped q p old front new f e same = sym same ∙ (ap (occurrences q) f.1 ∙ (occurrences-cons q p f.0 ∙ ap (λ (l : List ℕ). cond (eqb p q) 1 0 + occurrences q l) (sym (e ∙ ap (drop 1) f.1))))
 
-pub out_is_not_idle : (l : Lane) → l.is_out ≡ true → idle_count l ≡ 0
+out_is_not_idle : (l : Lane) → l.is_out ≡ true → idle_count l ≡ 0
 out_is_not_idle l e = grind arith
 
 idle_put : (v : SeatView) (p q : ℕ) (xs ys : List ℕ) → p < length v.lanes → (lane_at v p).is_fetched ≡ true → (lane_at v p).is_out ≡ false
@@ -27,13 +28,13 @@ idle_put : (v : SeatView) (p q : ℕ) (xs ys : List ℕ) → p < length v.lanes 
     → occurrences q ys ≡ idle_count (lane_in (lanes_put v.lanes p) q)
 idle_put v p q xs ys h fetched empty idle less = grind (arith, get_or-set_same, get_or-set_other)
 
-idle_returned : (v : SeatView) (p q : ℕ) (xs : List ℕ) → p < length v.lanes → (lane_at v p).is_out ≡ true
+idle_returned : (v : SeatView) (p q : ℕ) (xs : List ℕ) → p < length v.lanes → idle_count (lane_at v p) ≡ 0
     → ((k : ℕ) → occurrences k xs ≡ idle_count (lane_at v k)) → occurrences q (p ∷ xs) ≡ idle_count (lane_in (lanes_back v.lanes p) q)
-idle_returned v p q xs h out idle =
+idle_returned v p q xs h not_idle idle =
     let new : Lane = lane (lane_at v p).serial true false in
     rw (occurrences-cons q p xs) (dite (ℕ_discrete p q)
     (λ e. let now : idle_count (lane_in (lanes_back v.lanes p) q) ≡ 1 = ap (λ (k : ℕ). idle_count (lane_in (lanes_back v.lanes p) k)) (sym e) ∙ ap idle_count (get_or-set_same v.lanes p new (lane 0 false false) h) in
-    let was : occurrences q xs ≡ 0 = idle q ∙ (ap (λ (k : ℕ). idle_count (lane_at v k)) (sym e) ∙ out_is_not_idle (lane_at v p) out) in
+    let was : occurrences q xs ≡ 0 = idle q ∙ (ap (λ (k : ℕ). idle_count (lane_at v k)) (sym e) ∙ not_idle) in
     let one : cond {A = ℕ} (eqb p q) 1 0 ≡ 1 = (rw (eq-eqb p q e) refl) in omega arith)
     (λ ne. let now : idle_count (lane_in (lanes_back v.lanes p) q) ≡ idle_count (lane_at v q) = ap idle_count (get_or-set_other v.lanes p q new (lane 0 false false) (λ x. ne (sym x))) in
     let was = idle q in let none : cond {A = ℕ} (eqb p q) 1 0 ≡ 0 = (rw (ne_eqb p q ne) refl) in omega arith))
@@ -43,13 +44,20 @@ idle_after_put : (v w : SeatView) (p : ℕ) (xs ys : List ℕ) → w.lanes ≡ l
     → (q : ℕ) → occurrences q ys ≡ idle_count (lane_at w q)
 idle_after_put v w p xs ys e less h fetched empty idle q = idle_put v p q xs ys h fetched empty idle (less q) ∙ ap (λ (ls : List Lane). idle_count (lane_in ls q)) (sym e)
 
-idle_after_return : (v w : SeatView) (p : ℕ) (xs ys : List ℕ) → w.lanes ≡ lanes_back v.lanes p → ys ≡ p ∷ xs → p < length v.lanes → (lane_at v p).is_out ≡ true
+-- the slot of a place that wasn't idle came to the feeder
+pub idle_after_return : (v w : SeatView) (p : ℕ) (xs ys : List ℕ) → w.lanes ≡ lanes_back v.lanes p → ys ≡ p ∷ xs → p < length v.lanes → idle_count (lane_at v p) ≡ 0
     → ((k : ℕ) → occurrences k xs ≡ idle_count (lane_at v k)) → (q : ℕ) → occurrences q ys ≡ idle_count (lane_at w q)
-idle_after_return v w p xs ys e more h out idle q = ap (occurrences q) more ∙ (idle_returned v p q xs h out idle ∙ ap (λ (ls : List Lane). idle_count (get_or ls q (lane 0 false false))) (sym e))
+idle_after_return v w p xs ys e more h not_idle idle q = ap (occurrences q) more ∙ (idle_returned v p q xs h not_idle idle ∙ ap (λ (ls : List Lane). idle_count (get_or ls q (lane 0 false false))) (sym e))
 
 -- a fact about each lane, where one lane was replaced
 lane_after : (v w : SeatView) (p q : ℕ) (new : Lane) (P : Lane → Type 0) → w.lanes ≡ set v.lanes p new → p < length v.lanes → P new → P (lane_at v q) → P (lane_at w q)
 lane_after v w p q new P e h here there = grind (arith, get_or-set_same, get_or-set_other)
+
+-- another place may take a job as before
+pub still_taken : (v w : SeatView) (p q : ℕ) → w.lanes ≡ lanes_back v.lanes p → q ≢ p → may_take_a_job w q ≡ may_take_a_job v q
+still_taken v w p q e ne =
+    let may_take : Lane → Bool = λ l. not l.is_out && nat_lt l.serial (2 ^ 61) in
+    ap (λ (ls : List Lane). may_take (lane_in ls q)) e ∙ ap may_take (get_or-set_other v.lanes p q (lane (lane_at v p).serial true false) (lane 0 false false) ne)
 
 lane_here : (v : SeatView) (p : ℕ) (new : Lane) (w : SeatView) → w.lanes ≡ set v.lanes p new → p < length v.lanes → lane_at w p ≡ new
 lane_here v p new w e h = ap (λ (ls : List Lane). get_or ls p (lane 0 false false)) e ∙ get_or-set_same v.lanes p new (lane 0 false false) h
@@ -68,7 +76,7 @@ module _ (b : Board) (f : FeederSeat) (p : ℕ) (is_of : IsFeederOf b f) (place 
     idle_then to less empty = idle_after_put f.seat.me.0 w p f.order.items ys to less in_lanes (f.fetched p inside) empty f.idle
 
     pub idle_back : w.lanes ≡ lanes_back f.seat.me.0.lanes p → ys ≡ p ∷ f.order.items → (lane_at f.seat.me.0 p).is_out ≡ true → (q : ℕ) → occurrences q ys ≡ idle_count (lane_at w q)
-    idle_back to more out = idle_after_return f.seat.me.0 w p f.order.items ys to more in_lanes out f.idle
+    idle_back to more out = idle_after_return f.seat.me.0 w p f.order.items ys to more in_lanes (out_is_not_idle (lane_at f.seat.me.0 p) out) f.idle
 
   module _ (w : SeatView) (new : Lane) (to : w.lanes ≡ set f.seat.me.0.lanes p new) where
     pub fetched_then : new.is_fetched ≡ true → (q : ℕ) → q < vec_len f.lanes → (lane_at w q).is_fetched ≡ true
