@@ -1,10 +1,10 @@
 -- A ring stays one by each of its steps.
 use Rattle.std.proofs.Common.{◌≡◌, ℕ, ◌+◌, ◌<◌, ◌^◌, Bool, true, false, cond, List, length}
 use Rattle.std.proofs.Common.{Some, None, Result, Ok, Err, refl, ap, sym, subst, ◌∙◌, arith, inl, inr}
-use Rattle.std.proofs.Common.{length-set}
+use Rattle.std.proofs.Common.{get_or, length-set}
 use Rattle.std.specs.Prelude.{◌&&◌, ◌==◌, not, nat_lt, OnOk, OnErr, position, slice_set}
 use Rattle.std.proofs.lemmas.Bool.{and_from, cases_lt, false≢true, lt-ltb}
-use Rattle.std.proofs.lemmas.List.{get_or_past, set-get_or}
+use Rattle.std.proofs.lemmas.List.{get_or_past, get_or_read, set-get_or}
 use Rattle.std.proofs.lemmas.List.Quantifiers.{position-Some}
 use Rattle.machine_model.proofs.PlacesKept.{puts_apart, puts_own, claims_apart}
 use Rattle.machine_model.proofs.PlacesKept.{claims_own, completes_apart, completes_own, frees_apart}
@@ -63,6 +63,20 @@ module _ (places : List JobPlace) (place : ℕ) where
     | inl within ↦ within
     | inr past ↦ absurd (false≢true (sym (ap (is_in Waiting) (get_or_past places place unused_place past)) ∙ waits))
   ]
+
+  -- what an index reads there, where it waits
+  pub reads_waiting : (read : JobPlace) → is_in Waiting (place_at places place) ≡ true → read ≡ get_or places place read → read ≡ place_at places place
+  reads_waiting read waits same = get_or_read _ _ _ (waiting_within waits) same unused_place
+
+  -- a place that a worker claimed, or that is as it was
+  pub claimed_there : {X E : Type 0} (r : Result X E) (worker : ℕ) (old new : JobPlace) → old ≡ place_at places place
+      → OnOk r (new ≡ record old { content = claimed_by worker old.content }) → OnOk r (slice_set places place new ≡ claims_job places worker place)
+  claimed_there (Ok x) worker old new read done = ap (slice_set places place) (done ∙ ap (λ (p : JobPlace). (let q : JobPlace = record p { content = claimed_by worker p.content } in q)) read)
+  claimed_there (Err e) worker old new read done = tt
+
+  pub kept_there : {X E : Type 0} (r : Result X E) (old new : JobPlace) → old ≡ place_at places place → OnErr r (new ≡ old) → OnErr r (slice_set places place new ≡ places)
+  kept_there (Ok x) old new read kept = tt
+  kept_there (Err e) old new read kept = same_places new (kept ∙ read)
 
 pub place_is : (p : JobPlace) (serial : ℕ) (content : Content) → serial ≡ p.serial → p.content ≡ content → p ≡ record { serial = serial; content = content }
 place_is p serial content number there = λ i. record { serial = (sym number) i; content = there i }
