@@ -1,5 +1,6 @@
 use Rattle.std.proofs.Common.{◌≤◌, ℕ, sym, subst}
 use Rattle.link_receiver.proofs.Entering.{waits_exchanged, fails_early, fails_in, fails_released, size_released, goes_on_behind, has_ended_behind, enters}
+use Rattle.link_receiver.proofs.Asked.{keeps_none, keeps_twice}
 use Rattle.vc_types.proofs.Failures.{on_err}
 use Rattle.std.specs.Option.{option_map}
 use Rattle.link_window.specs.Openings.{session_of}
@@ -57,3 +58,21 @@ pub returns-clause-has_ended : goal.returns-clause-has_ended
 returns-clause-has_ended g c = has_ended_behind _ _ _ c.in_ok-kept.ensures.value
     c.in_ok-next.ensures.exchanged c.in_ok-release_all.ensures.released
     (option_map session_of c.in_ok-kept.kept.opening) c.in_ok-open.ensures.value
+
+pub returns-in_err-kept-clause-places : goal.returns-in_err-kept-clause-places
+returns-in_err-kept-clause-places g c = keeps_none (rw c.keep.ensures.out c.requires.below)
+
+pub returns-in_err-next-clause-places : goal.returns-in_err-next-clause-places
+returns-in_err-next-clause-places g c = c.exchange.ensures.places
+
+pub returns-in_err-release_all-clause-places : goal.returns-in_err-release_all-clause-places
+returns-in_err-release_all-clause-places g c = keeps_twice c.exchange.ensures.places c.release_all.ensures.places
+
+pub returns-in_err-open_stream-clause-places : goal.returns-in_err-open_stream-clause-places
+returns-in_err-open_stream-clause-places g c = keeps_twice c.exchange.ensures.places c.release_all.ensures.places
+
+pub returns-in_err-open-clause-places : goal.returns-in_err-open-clause-places
+returns-in_err-open-clause-places g c = rw c.open.ensures.out (keeps_twice c.exchange.ensures.places c.release_all.ensures.places)
+
+pub returns-clause-places : goal.returns-clause-places
+returns-clause-places g c = rw c.open.ensures.out (keeps_twice c.exchange.ensures.places c.release_all.ensures.places)

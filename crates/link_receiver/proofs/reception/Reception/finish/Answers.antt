@@ -1,4 +1,5 @@
 use Rattle.link_receiver.proofs.Entering.{waits_at_end, fails_at_end, fails_released_at_end, fails_last, ended_behind, drains}
+use Rattle.link_receiver.proofs.Asked.{keeps_twice}
 use Rattle.vc_types.proofs.Failures.{on_err}
 use Rattle.link_receiver.proofs.reception.Reception.finish.Goals as goal
 
@@ -30,3 +31,18 @@ pub returns-clause-drained : goal.returns-clause-drained
 returns-clause-drained g c = drains c.args.self.now c.end_input.ensures
     c.in_ok-next.ensures.exchanged c.in_ok-release_all.ensures.released
     c.in_ok-give_up_field.ensures.value _ c.in_ok-end_stream.ensures.ok
+
+pub returns-in_err-next-clause-places : goal.returns-in_err-next-clause-places
+returns-in_err-next-clause-places g c = c.take_back.ensures.places
+
+pub returns-in_err-release_all-clause-places : goal.returns-in_err-release_all-clause-places
+returns-in_err-release_all-clause-places g c = keeps_twice c.take_back.ensures.places c.release_all.ensures.places
+
+pub returns-in_err-give_up_field-clause-places : goal.returns-in_err-give_up_field-clause-places
+returns-in_err-give_up_field-clause-places g c = rw c.give_up_field.ensures.out (keeps_twice c.take_back.ensures.places c.release_all.ensures.places)
+
+pub returns-in_err-end_stream-clause-places : goal.returns-in_err-end_stream-clause-places
+returns-in_err-end_stream-clause-places g c = rw c.give_up_field.ensures.out (keeps_twice c.take_back.ensures.places c.release_all.ensures.places)
+
+pub returns-clause-places : goal.returns-clause-places
+returns-clause-places g c = rw c.give_up_field.ensures.out (keeps_twice c.take_back.ensures.places c.release_all.ensures.places)
