@@ -12,7 +12,18 @@ use std::sync::{Arc, Wait};
 use std::thread::Threads;
 use std::{env, io};
 use vc_ports::{NoGate, Sink, Source, StdSink, StdSource};
-use vc_types::Words;
+use vc_types::{NoMemory, Words};
+
+// Nearly the 32 MiB beyond which glibc takes each block from the system alone.
+const LARGE_BLOCK: usize = 33_488_896;
+
+// Takes a large block and lets it go. From then on glibc keeps the blocks up to this size that are let go, in
+// place of giving them back to the system, so that a picture's planes lie where those of the picture before
+// did. Under another C library nothing changes.
+fn keep_large_blocks(alloc: Global) -> Result<(), NoMemory> {
+    let _block: Vec<u8> = Vec::with_capacity(alloc, LARGE_BLOCK)?;
+    Ok(())
+}
 
 // The words behind the program's name, or the status without them. Words that aren't text are outside the
 // grammar.
@@ -55,6 +66,8 @@ fn run<H: Threads + Wait + Net + Copy + Send + Sync + 'static, S: Source, O: Sin
 }
 
 fn main(rt: HostRuntime) -> ExitCode {
+    // Where there is no room for the block, blocks come and go as they would.
+    let _ = keep_large_blocks(rt.alloc());
     let status = match words_of(&rt) {
         Ok(words) => run(
             rt,
