@@ -79,8 +79,36 @@ fn check_by<H: Threads + Copy + Send + Sync, F: Fn(&SliceNeed) -> u8, P: Places>
 {
     let mut sender = Sender::new(alloc, default_settings(g), chooser);
     let mut checker = Checker::new(alloc, g, window);
-    check_frames(rt, alloc, g, &mut sender, &mut checker, places)?;
-    match finish(&mut sender, &mut checker, places) {
+    check_all(rt, alloc, g, &mut sender, &mut checker, places)
+}
+
+// Sends and receives all generated frames and the end, and answers how many samples differ.
+fn check_all<H: Threads + Copy + Send + Sync, F: Fn(&SliceNeed) -> u8, P: Places>(
+    rt: H,
+    alloc: Global,
+    g: &GenSettings,
+    sender: &mut Sender<F>,
+    checker: &mut Checker,
+    places: &mut P,
+) -> Result<u64, Ending>
+    requires callable { F.IsAlwaysCallable sender.old.chooser.choose }
+    requires range { AnswersAtMost127 F.Fn sender.old.chooser.choose }
+    requires chooses { ChoosesAs F.Fn sender.old.chooser.choose
+        (sending_view sender.old.settings) }
+    requires wants { sender.old.chooser.wants_lens ≡ wants_lengths sender.old.settings.choice }
+    requires sent { HasSentFrames (generating_view g.now) [] sender.old }
+    requires below { PlacesAreBelow (P.bound places.old) checker.old.receiver.reception.out }
+    ensures checkable { (window : ℕ) → IsCheckedUpTo (generating_view g.now) window [] checker.old
+        → OnOk result (IsCheckable (generating_view g.now)) }
+    ensures different { (window : ℕ) → IsCheckedUpTo (generating_view g.now) window [] checker.old
+        → IfOk result (λ different. different ≡ differences (generating_view g.now)
+        (full_output window (checked_stream (generating_view g.now)))) }
+    ensures refused { (window : ℕ) → IsCheckedUpTo (generating_view g.now) window [] checker.old
+        → IfErr result (IsOneRefused (generating_view g.now)) }
+    ensures told { AskedPlaces (P.told places.old) (P.told places.new) }
+{
+    check_frames(rt, alloc, g, sender, checker, places)?;
+    match finish(sender, checker, places) {
         Ok(different) => Ok(different),
         Err(NoMemory) => Err(Ending::NoMemory),
     }
