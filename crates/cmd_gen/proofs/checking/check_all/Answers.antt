@@ -1,11 +1,9 @@
-use Rattle.std.proofs.Common.{rules, ◌≡◌, ℕ, Err, IfErr, ap, subst, sym, ◌∙◌}
+use Rattle.std.proofs.Common.{rules, ◌≡◌, ℕ, Err, IfErr, subst, sym}
 use Rattle.std.specs.Prelude.{Result}
-use Rattle.cmd_gen.proofs.FrameSteps.{nothing_sent}
 use Rattle.cmd_gen.specs.Looping.{IsOneRefused}
 use Rattle.link_receiver.proofs.Asked.{asked_twice}
 use Rattle.link_report.specs.declared.ending.Ending.{Ending}
-use Rattle.vc_types.specs.declared.settings.SendSettings.{SendSettings}
-use Rattle.vc_types.specs.SenderSettings.{Sending, generating_view}
+use Rattle.vc_types.specs.SenderSettings.{generating_view}
 use Rattle.cmd_gen.proofs.checking.check_all.Goals as goal
 
 pub returns-in_err-check_frames-clause-refused : goal.returns-in_err-check_frames-clause-refused

@@ -1,9 +1,5 @@
-use Rattle.std.proofs.Common.{rules, ◌≡◌, ℕ, Err, IfErr, ap, subst, sym, ◌∙◌}
-use Rattle.std.specs.Prelude.{Result}
+use Rattle.std.proofs.Common.{ap, ◌∙◌}
 use Rattle.cmd_gen.proofs.FrameSteps.{nothing_sent}
-use Rattle.cmd_gen.specs.Looping.{IsOneRefused}
-use Rattle.link_receiver.proofs.Asked.{asked_twice}
-use Rattle.link_report.specs.declared.ending.Ending.{Ending}
 use Rattle.vc_types.specs.declared.settings.SendSettings.{SendSettings}
 use Rattle.vc_types.specs.SenderSettings.{Sending, generating_view}
 use Rattle.cmd_gen.proofs.checking.check_by.Goals as goal
