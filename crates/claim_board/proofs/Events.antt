@@ -4,7 +4,7 @@ use Rattle.std.specs.Option.{option_map_or}
 use Rattle.machine_model.specs.Machine.{Machine}
 use Rattle.machine_model.specs.Places.{Job, puts_job}
 use Rattle.claim_board.specs.declared.view.Deed.{Deed}
-use Rattle.claim_board.specs.declared.view.Deed.TheVariants.{WasRead, WasFetched, WasPut, WasClaimed, WasCompleted, WasTaken, WasWithdrawn}
+use Rattle.claim_board.specs.declared.view.Deed.TheVariants.{WasPut, WasClaimed, WasCompleted, WasTaken, WasWithdrawn}
 use Rattle.claim_board.specs.History.{MayDo}
 use Rattle.claim_board.specs.Laws.{IsItsEvent, IsOfFeeder}
 use Rattle.claim_board.proofs.Histories.{number_at, state_is}

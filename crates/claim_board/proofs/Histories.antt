@@ -9,7 +9,7 @@ use Rattle.machine_model.specs.Places.{Content, Nothing, Offered, Claimed, Decod
 use Rattle.link_slices.specs.Jobs.{job_of}
 use Rattle.claim_board.specs.declared.view.Entry.{Entry}
 use Rattle.claim_board.specs.declared.view.Deed.{Deed}
-use Rattle.claim_board.specs.declared.view.Deed.TheVariants.{WasRead, WasFetched, WasPut, WasClaimed, WasCompleted, WasTaken, WasWithdrawn}
+use Rattle.claim_board.specs.declared.view.Deed.TheVariants.{WasRead, WasPut, WasClaimed, WasCompleted, WasTaken, WasWithdrawn}
 use Rattle.claim_board.specs.Counts.{held_count}
 use Rattle.claim_board.specs.History.{deed_place, after_deed, standing, MayDo, places_after, IsHistory, Each, IsOther, IsOtherOrRead}
 

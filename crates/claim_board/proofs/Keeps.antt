@@ -11,7 +11,7 @@ use Rattle.vc_slice.specs.declared.done.SliceDone.{SliceDone}
 use Rattle.link_slices.specs.Jobs.{answered, job_of}
 use Rattle.claim_board.specs.Views.{lane, SeatView, lane_at, did, DidOnce}
 use Rattle.claim_board.specs.declared.view.Lane.{Lane}
-use Rattle.machine_model.specs.Places.{Content, Nothing, Offered, Claimed, Decoded, JobPlace, place_at}
+use Rattle.machine_model.specs.Places.{Content, Nothing, Offered, Decoded, JobPlace, place_at}
 use Rattle.claim_board.specs.declared.cargo.Cargo.TheVariants.{Waiting, Finished}
 use Rattle.claim_board.specs.declared.view.Entry.{Entry}
 use Rattle.claim_board.specs.declared.view.Deed.{Deed}

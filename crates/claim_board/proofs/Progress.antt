@@ -8,7 +8,7 @@ use Rattle.link_slices.specs.Jobs.{job_of}
 use Rattle.machine_model.specs.Places.{Content, Nothing, Offered, Claimed, Decoded, JobPlace, place_at, is_free, state_number, state_of}
 use Rattle.claim_board.specs.declared.view.Entry.{Entry}
 use Rattle.claim_board.specs.declared.view.Deed.{Deed}
-use Rattle.claim_board.specs.declared.view.Deed.TheVariants.{WasRead, WasFetched, WasPut, WasClaimed, WasCompleted, WasTaken, WasWithdrawn}
+use Rattle.claim_board.specs.declared.view.Deed.TheVariants.{WasPut, WasClaimed, WasCompleted, WasTaken, WasWithdrawn}
 use Rattle.claim_board.specs.History.{after_deed, deed_place, places_after, IsHistory, MayDo}
 use Rattle.claim_board.specs.Laws.{claims_in, is_claim}
 use Rattle.claim_board.proofs.Histories.{claim_here, complete_here, elsewhere, empty_of_put, free_here, put_here, there}

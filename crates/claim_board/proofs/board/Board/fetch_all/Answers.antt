@@ -1,4 +1,4 @@
-use Rattle.std.proofs.Common.{arith, ap, refl, sym, ◌∙◌, ◌≡◌, ◌≢◌, ◌<◌, ◌∷◌, true, false, length, List, ℕ, None, get_or-set_other, get_or-set_same, set}
+use Rattle.std.proofs.Common.{arith, ap, sym, ◌∙◌, ◌≡◌, ◌≢◌, ◌<◌, ◌∷◌, true, false, length, List, ℕ, None, get_or-set_other, get_or-set_same, set}
 use mathlib.Core.Logic.{dite}
 use native.Mathlib.Decide.{ℕ_discrete}
 use Rattle.claim_board.specs.Counts.{idle_count}
