@@ -13,12 +13,20 @@ const READS: [(Got, [u8; 2]); 3] = [
 
 fn reads_all<S: Source>(source: &mut S) -> bool {
     let mut buf = [9; 2];
-    for answer in READS {
-        if (source.read(&mut buf), buf) != answer {
+    for (answer, bytes) in READS {
+        if !is_same_read(source.read(&mut buf), answer) || buf != bytes {
             return false;
         }
     }
     true
+}
+
+fn is_same_read(got: Got, answer: Got) -> bool {
+    match (got, answer) {
+        (Got::Bytes(got), Got::Bytes(count)) => got == count,
+        (Got::End, Got::End) | (Got::Failed, Got::Failed) => true,
+        _ => false,
+    }
 }
 
 // Writes of two bytes, where there is room for three. A write that takes none is a fault.
@@ -30,11 +38,19 @@ const WRITES: [([u8; 2], Took); 3] = [
 
 fn writes_three<O: Sink>(sink: &mut O) -> bool {
     for (piece, answer) in WRITES {
-        if sink.write(&piece) != answer {
+        if !is_same_write(sink.write(&piece), answer) {
             return false;
         }
     }
     true
+}
+
+fn is_same_write(took: Took, answer: Took) -> bool {
+    match (took, answer) {
+        (Took::Bytes(took), Took::Bytes(count)) => took == count,
+        (Took::Failed, Took::Failed) => true,
+        _ => false,
+    }
 }
 
 #[test]
