@@ -1,5 +1,5 @@
 -- What a command came to: datagrams were heard since workers were started, and then the end.
-use Rattle.std.proofs.Common.{◌≡◌, true, false, ◌≤◌, ℕ, List, [], ◌∷◌, Option, Some, None, Ok, Err, refl, ap, ◌∙◌, sym, subst, arith, inl, inr, ◌++◌, length, length-append}
+use Rattle.std.proofs.Common.{◌≡◌, true, false, ◌≤◌, ℕ, List, [], ◌∷◌, Option, Ok, Err, refl, ap, ◌∙◌, sym, subst, arith, inl, inr, ◌++◌}
 use Rattle.std.specs.Prelude.{Result, ◌⊎◌}
 use Rattle.link_model.specs.Judgement.{no_counts, outcomes_behind, tally_of, with_sessions}
 use Rattle.link_model.specs.Output.{all_output, full_output}
@@ -7,33 +7,32 @@ use Rattle.link_model.specs.declared.tally.Tally.{Tally}
 use Rattle.link_outside.specs.Outlets.{capture_of}
 use Rattle.link_receiver.proofs.Asked.{grows_twice}
 use Rattle.link_receiver.proofs.Hired.{started}
-use Rattle.link_receiver.specs.HeardLists.{OutputForm, AsFrames, HasHeard, due_in_all}
+use Rattle.link_receiver.specs.HeardLists.{OutputForm, AsFrames, HasHeard}
 use Rattle.link_receiver.specs.StartedWorkers.{HasStarted}
 use Rattle.link_report.specs.declared.answer.Answer.{Answer}
 use Rattle.link_report.specs.declared.answer.Answer.TheVariants.{Done, Drained, Stopped}
 use Rattle.link_report.specs.declared.ending.Ending.{Ending}
-use Rattle.link_report.specs.declared.ending.Ending.TheVariants.{CaptureCut, InputFailed, NoMemory, OutputFailed, PacketLimit, WireFailed}
+use Rattle.link_report.specs.declared.ending.Ending.TheVariants.{InputFailed, NoMemory, OutputFailed, PacketLimit, WireFailed}
 use Rattle.link_report.specs.declared.summary.Summary.{Summary}
 use Rattle.link_report.specs.declared.summary.Summary.TheVariants.{Judged}
 use Rattle.vc_ports.proofs.Given.{Gave-none}
 use Rattle.vc_ports.proofs.Growing.{Grew-none, GrewBySome-none}
 use Rattle.vc_ports.specs.Changes.{Change, InputChange, OutputChange, WireChange, HasRisen, Stays, changed, output_of, wire_of}
 use Rattle.vc_ports.specs.Wires.{WireTold, listening}
-use Rattle.vc_ports.specs.Writing.{GrewBySome}
 use Rattle.vc_slice.specs.Asked.{Told, Grows, starting, told_more}
 use Rattle.cmd_receive.proofs.Asking.{nothing_offered}
-use Rattle.cmd_receive.proofs.HeardEntries.{capture_breaks, capture_hears, split_is}
+use Rattle.link_hearing.proofs.CaptureSplits.{failed_so, read_all, read_until, split, splits}
+use Rattle.link_hearing.proofs.HeardEntries.{capture_breaks, capture_hears}
 use Rattle.cmd_receive.proofs.HeardWire.{wire_breaks, wire_hears}
 use Rattle.cmd_receive.proofs.Listened.{breaks_at_end, heard_all, heard_part}
-use Rattle.cmd_receive.specs.Capture.{CaptureSplit, ReadingEnded, capture_split}
+use Rattle.link_hearing.specs.Capture.{CaptureSplit}
 use Rattle.cmd_receive.specs.Decoding.{CaptureEnded, HasGivenWork, StartsWorkers, TakesCapture, has_failed_input}
-use Rattle.cmd_receive.specs.Concluding.{CanGoOn, Concludes, has_broken}
-use Rattle.cmd_receive.specs.Hearing.{CaptureHeard, fault_ending}
-use Rattle.cmd_receive.specs.InletLaws.{told_between}
+use Rattle.link_hearing.specs.Hearing.{CanGoOn, fault_ending, has_broken}
+use Rattle.cmd_receive.specs.Concluding.{Concludes}
+use Rattle.cmd_receive.specs.WireInletLaws.{told_between}
 use Rattle.cmd_receive.specs.Playouts.{PlayoutState, BreaksOff, HandsWereOffered, HasEndedSince, Hears, PlaysCapture, Stumbles}
 use Rattle.cmd_receive.specs.Receiving.{HeardAt, IsJudged, ReceivesFrom, RecvEnded, has_failed_wire}
 use Rattle.cmd_receive.specs.Sessions.{HearsWire, WireHeard}
-use Rattle.vc_ports.specs.Reading.{IsAtEnd}
 
 -- ---- workers
 
@@ -123,43 +122,15 @@ module _ (form : OutputForm) (window workers : ℕ) (before : Option Told) (x y 
 
   module _ {mid : PlayoutState} (packets : ℕ) (input : InputChange)
       (h : PlaysCapture packets input x mid heard) (is_of : h.datagrams ≡ ds) where
-    abbrev split : CaptureSplit
-    split = record { datagrams = h.datagrams; rest = h.part; given = capture_of h.datagrams ++ h.part }
-
-    abbrev Did : Result (Unit {0}) Ending → Type 0
-    Did result = CaptureHeard packets 1 input (Hears x mid)
-        (λ l fault. BreaksOff x mid l (fault_ending fault)) ⊥ h.datagrams h.part result
-
-    at_end : IsAtEnd input.left.after ⊎ ⊥ → IsAtEnd input.left.after
-    at_end (inl at) = at
-    at_end (inr never) = absurd never
-
-    reading : (end : Ending) → has_broken end ≡ false → Did (Err end)
-        → ReadingEnded packets (Some end) input split
-    reading (CaptureCut place) not so = record {
-      wanted = so.1;
-      part = so.2;
-      ended = so.3;
-      begins = omega (arith, so.4, length-append (capture_of h.datagrams) h.part);
-    }
-    reading InputFailed not so = record { short = h.not_whole; wanted = so.1 }
-    reading (PacketLimit limit) not so =
-        record { limit_is = so.1; count = so.2; one_more = so.3 }
-    reading NoMemory not so = absurd cc
-    reading OutputFailed not so = absurd cc
-    reading end not so = absurd so
-
     ended : (answer : Answer) → CameTo form window x y ds heard answer
-        → CaptureEnded form window packets answer input (output x y) split
-    ended (Done (Judged tally)) c =
-        let so : Did (Ok tt) = rw c.0 at h.did in
-        record {
-          reading = record { no_rest = so.1; ended = at_end so.2 };
-          wrote = rw is_of c.1.wrote;
-          tally_is = rw is_of c.1.counted;
-        }
+        → CaptureEnded form window packets answer input (output x y) (split packets input h)
+    ended (Done (Judged tally)) c = record {
+      reading = read_all packets input h c.0;
+      wrote = rw is_of c.1.wrote;
+      tally_is = rw is_of c.1.counted;
+    }
     ended (Drained (Judged tally) end) c = record {
-      reading = reading end c.1 (rw c.0 at h.did);
+      reading = read_until packets input h end c.1 c.0;
       wrote = rw is_of c.2.wrote;
       tally_is = rw is_of c.2.counted;
     }
@@ -171,13 +142,13 @@ module _ (form : OutputForm) (window workers : ℕ) (before : Option Told) (x y 
     input_did : (answer : Answer) → CameTo form window x y ds heard answer
         → has_failed_input answer → HasRisen input.faults
     input_did answer c failed =
-        let drained = drained_so form window x y ds heard failed.0 InputFailed (rw failed.1 at c) in
-        (rw drained at h.did).2
+        failed_so packets input h
+        (drained_so form window x y ds heard failed.0 InputFailed (rw failed.1 at c))
 
     capture_taken : (answer : Answer) → CameTo form window x y ds heard answer
         → TakesCapture form window workers packets answer input (output x y) (hands before y)
     capture_taken answer c =
-        let is = sym (split_is packets h.datagrams h.part h.gave.fit h.few h.not_whole) in
+        let is = splits packets input h in
         record {
           given = capture_of h.datagrams ++ h.part;
           took = h.gave.took;

@@ -9,8 +9,8 @@ use Rattle.vc_ports.specs.Faults.{Rose}
 use Rattle.vc_ports.specs.Wires.{WireTold, sending}
 use Rattle.cmd_receive.specs.Exchanges.{Exchanged, LoopBroke, LoopState, WereLooped}
 use Rattle.cmd_receive.specs.HearingLaws.{all_but, none_heard}
-use Rattle.cmd_receive.specs.InletLaws.{told_between}
-use Rattle.cmd_receive.specs.Inlets.{StoppedWire, WasGiven}
+use Rattle.cmd_receive.specs.WireInletLaws.{told_between}
+use Rattle.cmd_receive.specs.WireInlets.{StoppedWire, WasGiven}
 use Rattle.cmd_receive.specs.Playouts.{PlayoutState, BreaksOff, Hears}
 
 module _ (x : LoopState) (datagram : List ℕ) (mid : WireTold) (j : ℕ) (first : x.wire_faults ≤ j) where

@@ -7,16 +7,15 @@ use Rattle.link_report.specs.declared.ending.Ending.TheVariants.{NoMemory, Outpu
 use Rattle.link_report.specs.declared.ending.Ending.TheVariants.{PacketLimit, WireFailed}
 use Rattle.vc_ports.specs.Changes.{WireChange}
 use Rattle.cmd_receive.proofs.Listened.{begun}
-use Rattle.cmd_receive.specs.Concluding.{CanGoOn, has_broken}
 use Rattle.cmd_receive.specs.Ends.{Counts}
-use Rattle.cmd_receive.specs.Hearing.{HearsUntil, fault_ending}
+use Rattle.link_hearing.specs.Hearing.{CanGoOn, HearsUntil, fault_ending, has_broken}
 use Rattle.cmd_receive.specs.HearingLaws.{all_but}
-use Rattle.cmd_receive.specs.Inlets.{StoppedWire, WasGiven}
+use Rattle.cmd_receive.specs.WireInlets.{StoppedWire, WasGiven}
 use Rattle.cmd_receive.specs.Playouts.{PlayoutState, BreaksOff, Hears, IsNew, IsWell}
 use Rattle.cmd_receive.specs.Sessions.{CountsOn, HearsWanted, HearsWire, WireHeard}
 use Rattle.cmd_receive.specs.declared.count.SessionCount.{SessionCount}
-use Rattle.cmd_receive.specs.declared.listener.ListenerFault.{ListenerFault}
-use Rattle.cmd_receive.specs.declared.listener.ListenerFault.TheVariants as faults
+use Rattle.link_hearing.specs.declared.listener.ListenerFault.{ListenerFault}
+use Rattle.link_hearing.specs.declared.listener.ListenerFault.TheVariants as faults
 
 module _ (packets : ℕ) (wire : WireChange) (x y : PlayoutState) (first last : SessionCount) where
   module _ (sessions : ℕ) where

@@ -1,12 +1,10 @@
 pub mod Asking
-pub mod Within
 pub mod Listened
 pub mod Arriving
-pub mod HeardLoop
-pub mod HeardEntries
 pub mod HeardWire
 pub mod Wanted
 pub mod Concluded
+pub mod PlayedCaptures
 pub mod DecodeCompletes
 pub mod LoopCompletes
 pub mod Outcomes

@@ -16,7 +16,7 @@ use Rattle.vc_ports.specs.Faults.{HasCause}
 use Rattle.vc_ports.specs.Writing.{Grew, GrewBySome}
 use Rattle.vc_slice.specs.Asked.{Told}
 use Rattle.cmd_receive.proofs.Asking.{nothing_offered, offered_then, offered_with}
-use Rattle.cmd_receive.specs.Hearing.{fault_ending}
+use Rattle.link_hearing.specs.Hearing.{fault_ending}
 use Rattle.cmd_receive.specs.HearingLaws.{breaks_then, part_of_all}
 use Rattle.cmd_receive.specs.Playouts.{PlayoutState, BreaksOff, Drains, GoesOn, HasEndedSince}
 use Rattle.cmd_receive.specs.Playouts.{HasHeardSince, Hears, Stumbles, fault_of}

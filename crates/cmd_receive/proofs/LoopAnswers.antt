@@ -26,7 +26,7 @@ use Rattle.cmd_receive.proofs.Concluded.{gave_work}
 use Rattle.cmd_receive.proofs.Listened.{breaks_at_end, heard_all, heard_part}
 use Rattle.cmd_receive.proofs.Outcomes.{Outcome, outcome_of}
 use Rattle.cmd_receive.specs.Decoding.{HasGivenWork}
-use Rattle.cmd_receive.specs.Concluding.{has_broken}
+use Rattle.link_hearing.specs.Hearing.{has_broken}
 use Rattle.cmd_receive.specs.HearingLaws.{so_far}
 use Rattle.cmd_receive.specs.Exchanges.{BrokeBehind, Exchanged, HearsInTurn, LoopBroke, LoopState, WereLooped}
 use Rattle.cmd_receive.specs.Playouts.{PlayoutState, BreaksOff, Drains, HasEndedSince, Hears, Stumbles}

@@ -1,22 +1,11 @@
 -- The end of a receiver's input, and what a command makes of it.
-use Rattle.std.specs.Prelude.{◌≡◌, ◌⊎◌, ℕ, Bool, true, false, [], Result, Ok, Err, ⊤}
+use Rattle.std.specs.Prelude.{◌≡◌, ◌⊎◌, true, false, [], Result, Ok, Err}
 use Rattle.link_report.specs.declared.answer.Answer.{Answer}
 use Rattle.link_report.specs.declared.answer.Answer.TheVariants.{Done, Stopped, Drained}
 use Rattle.link_report.specs.declared.ending.Ending.{Ending}
-use Rattle.link_report.specs.declared.ending.Ending.TheVariants.{NoMemory, OutputFailed}
 use Rattle.link_report.specs.declared.summary.Summary.TheVariants.{Judged}
+use Rattle.link_hearing.specs.Hearing.{CanGoOn, has_broken}
 use Rattle.cmd_receive.specs.Playouts.{PlayoutState, BreaksOff, Drains}
-
--- the receiver broke off, so that nothing more can be heard
-abbrev pub has_broken : Ending → Bool
-has_broken NoMemory = true
-has_broken OutputFailed = true
-has_broken ending = false
-
--- the receiver can hear more
-abbrev pub CanGoOn : Result (Unit {0}) Ending → Type 0
-CanGoOn (Ok done) = ⊤
-CanGoOn (Err end) = has_broken end ≡ false
 
 -- what was still due was written, or the receiver broke off, before or then
 abbrev pub Concludes : (x y : PlayoutState) → Result (Unit {0}) Ending → Answer → Type 0

@@ -15,7 +15,7 @@ use Rattle.link_report.specs.declared.summary.Summary.TheVariants.{Judged}
 use Rattle.vc_ports.specs.Changes.{Change, InputChange, OutputChange, HasRisen, Took, Wrote}
 use Rattle.vc_ports.specs.Changes.{WrotePart, Stays}
 use Rattle.vc_slice.specs.Asked.{Told, Grows}
-use Rattle.cmd_receive.specs.Capture.{CaptureSplit, capture_split, ReadingEnded}
+use Rattle.link_hearing.specs.Capture.{CaptureSplit, capture_split, ReadingEnded}
 
 -- ---- input and output
 
@@ -87,7 +87,3 @@ abbrev pub Unpacks : (window workers packets : ℕ) → Answer → InputChange �
     → Change (Option Told) → Type 0
 Unpacks window workers packets answer input output hands =
     TakesCapture AsUnits window workers packets answer input output hands
-
--- at most `packets` entries are the whole of the bytes
-abbrev pub IsDecodable : ℕ → List ℕ → Type 0
-IsDecodable packets bytes = (capture_split packets bytes).rest ≡ []

@@ -1,10 +1,8 @@
-pub mod Capture
 pub mod Decoding
 pub mod Playouts
 pub mod HearingLaws
-pub mod Inlets
-pub mod InletLaws
-pub mod Hearing
+pub mod WireInlets
+pub mod WireInletLaws
 pub mod Concluding
 pub mod Sessions
 pub mod SessionLaws

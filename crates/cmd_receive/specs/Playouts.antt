@@ -17,9 +17,9 @@ use Rattle.vc_ports.specs.Changes.{Change, InputChange}
 use Rattle.vc_ports.specs.Faults.{Rose}
 use Rattle.vc_ports.specs.Writing.{Grew, GrewBySome}
 use Rattle.vc_slice.specs.Asked.{Told, Grows}
-use Rattle.cmd_receive.specs.Hearing.{HearsCapture, fault_ending}
-use Rattle.cmd_receive.specs.declared.listener.ListenerFault.{ListenerFault}
-use Rattle.cmd_receive.specs.declared.listener.ListenerFault.TheVariants as faults
+use Rattle.link_hearing.specs.Hearing.{HearsCapture, fault_ending}
+use Rattle.link_hearing.specs.declared.listener.ListenerFault.{ListenerFault}
+use Rattle.link_hearing.specs.declared.listener.ListenerFault.TheVariants as faults
 use Rattle.cmd_receive.specs.declared.playout.Playout.{Playout}
 
 -- the receiver, and what its output and its places tell

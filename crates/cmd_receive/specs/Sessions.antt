@@ -6,7 +6,7 @@ use Rattle.link_report.specs.declared.ending.Ending.TheVariants.{PacketLimit, Wi
 use Rattle.vc_ports.specs.Changes.{WireChange, HasRisen}
 use Rattle.vc_slice.specs.Asked.{Told}
 use Rattle.cmd_receive.specs.Ends.{Counts, ended_sessions}
-use Rattle.cmd_receive.specs.Inlets.{WasGiven}
+use Rattle.cmd_receive.specs.WireInlets.{WasGiven}
 use Rattle.cmd_receive.specs.Playouts.{PlayoutState, BreaksOff, HasHeardSince, Hears}
 use Rattle.cmd_receive.specs.Receiving.{HeardToEnd, IsPastPackets}
 use Rattle.cmd_receive.specs.declared.count.SessionCount.{SessionCount}

@@ -1,8 +1,9 @@
 ghost use Rattle.std.specs.Prelude.{◌≡◌};
-ghost use Rattle.cmd_receive.specs.Concluding.{Concludes, has_broken};
+ghost use Rattle.cmd_receive.specs.Concluding.{Concludes};
 ghost use Rattle.cmd_receive.specs.Playouts.{IsWell, playout_state};
 
 use crate::playout::Playout;
+use link_hearing::has_broken;
 use link_report::{Answer, Ending, Summary};
 use vc_ports::Sink;
 use vc_slice::Places;
@@ -29,11 +30,4 @@ pub(crate) fn conclude<O: Sink, P: Places>(
             Err(fault) => Answer::Stopped(Ending::from(fault)),
         },
     }
-}
-
-/// Whether the receiver broke off, so that it can hear nothing more.
-pub(crate) fn has_broken(ending: &Ending) -> bool
-    ensures { result ≡ has_broken ending.now }
-{
-    matches!(ending, Ending::NoMemory | Ending::OutputFailed)
 }

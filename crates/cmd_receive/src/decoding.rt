@@ -5,8 +5,8 @@ ghost use Rattle.cmd_receive.specs.Decoding.{TakesCapture, Decodes, Unpacks};
 ghost use Rattle.cmd_receive.specs.Playouts.{IsNew, IsWell, PlaysCapture, playout_state};
 
 use crate::concluding::conclude;
-use crate::hearing::hear_capture;
 use crate::playout::Playout;
+use link_hearing::hear_capture;
 use link_receiver::Receiver;
 use link_report::{Answer, Ending};
 use std::alloc::Global;

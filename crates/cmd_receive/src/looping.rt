@@ -5,11 +5,11 @@ ghost use Rattle.cmd_receive.specs.Looping.{LoopsBack, LoopsBetween};
 ghost use Rattle.vc_ports.specs.Changes.{changed, input_of, output_of, wire_of};
 ghost use Rattle.vc_types.specs.SenderSettings.{sending_view};
 
-use crate::concluding::has_broken;
 use crate::outlet::LoopOutlet;
 use crate::playout::Playout;
 use crate::wire_inlet::WireInlet;
 use cmd_send::{Totals, send_frames};
+use link_hearing::has_broken;
 use link_model::Tally;
 use link_outside::Inbox;
 use link_receiver::Receiver;

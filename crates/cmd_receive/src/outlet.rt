@@ -2,10 +2,9 @@ ghost use Rattle.std.proofs.Common.{◌∙◌};
 ghost use Rattle.std.specs.Prelude.{◌≡◌, refl};
 ghost use Rattle.cmd_receive.specs.LoopLaws.{none_looped, more_looped, part_behind, part_before};
 
-use crate::inlet::Inlet;
-use crate::listener::ListenerFault;
 use crate::playout::Playout;
 use crate::wire_inlet::WireInlet;
+use link_hearing::{Inlet, ListenerFault};
 use link_outside::{Outlet, OutletFault};
 use link_report::Ending;
 use vc_ports::{Reached, Sink, Wire};

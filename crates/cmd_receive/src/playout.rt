@@ -3,8 +3,8 @@ ghost use Rattle.std.specs.Prelude.{◌≡◌, ⊤, refl};
 ghost use Rattle.cmd_receive.specs.HearingLaws.{all_but, breaks_then, hears_then, none_heard};
 ghost use Rattle.cmd_receive.specs.Playouts.{fault_of};
 
-use crate::listener::{Listener, ListenerFault};
 use bytes::Bytes;
+use link_hearing::{Listener, ListenerFault};
 use link_model::{Outcome, Tally};
 use link_receiver::{EnterFault, Receiver};
 use vc_ports::Sink;
@@ -75,7 +75,7 @@ impl<'a, 'b, 'c, O: Sink, P: Places> Playout<'a, 'b, 'c, O, P> {
 
 impl<'a, 'b, 'c, O: Sink, P: Places> Listener for Playout<'a, 'b, 'c, O, P> {
     ghost use Rattle.cmd_receive.specs.Playouts.{BorrowsAs, BreaksOff, Hears, IsWell, playout_state};
-    ghost use Rattle.cmd_receive.specs.Hearing.{fault_ending};
+    ghost use Rattle.link_hearing.specs.Hearing.{fault_ending};
 
     ghost is_ready = { λ x. IsWell (playout_state O.held O.faults P.told P.bound x) };
 

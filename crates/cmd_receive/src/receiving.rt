@@ -7,10 +7,10 @@ ghost use Rattle.vc_ports.specs.Changes.{changed, output_of, wire_of};
 
 use crate::SessionCount;
 use crate::concluding::conclude;
-use crate::hearing::hear_all;
 use crate::playout::Playout;
 use crate::session_playout::SessionPlayout;
 use crate::wire_inlet::WireInlet;
+use link_hearing::hear_all;
 use link_outside::Inbox;
 use link_receiver::Receiver;
 use link_report::{Answer, Ending, Summary};

@@ -4,9 +4,9 @@ ghost use Rattle.cmd_receive.specs.HearingLaws.{all_but, breaks_then};
 ghost use Rattle.cmd_receive.specs.SessionLaws.{more_wanted, none_wanted};
 
 use crate::SessionCount;
-use crate::listener::{Listener, ListenerFault};
 use crate::playout::Playout;
 use bytes::Bytes;
+use link_hearing::{Listener, ListenerFault};
 use vc_ports::Sink;
 use vc_slice::Places;
 
@@ -18,7 +18,7 @@ pub(crate) struct SessionPlayout<'a, 'b, 'c, O, P> {
 }
 
 impl<'a, 'b, 'c, O: Sink, P: Places> Listener for SessionPlayout<'a, 'b, 'c, O, P> {
-    ghost use Rattle.cmd_receive.specs.Hearing.{fault_ending};
+    ghost use Rattle.link_hearing.specs.Hearing.{fault_ending};
     ghost use Rattle.cmd_receive.specs.Playouts.{BorrowsAs, BreaksOff, IsWell, playout_state};
     ghost use Rattle.cmd_receive.specs.Sessions.{HearsWanted};
 

@@ -1,11 +1,11 @@
 ghost use Rattle.std.proofs.Common.{◌∙◌};
 ghost use Rattle.std.specs.Prelude.{◌≡◌, IsTrue, refl};
-ghost use Rattle.cmd_receive.specs.InletLaws.{none_given, more_given, wire_stops};
-ghost use Rattle.cmd_receive.specs.Inlets.{StoppedWire, WasGiven};
+ghost use Rattle.cmd_receive.specs.WireInletLaws.{none_given, more_given, wire_stops};
+ghost use Rattle.cmd_receive.specs.WireInlets.{StoppedWire, WasGiven};
 ghost use Rattle.vc_ports.specs.Changes.{wire_of};
 
-use crate::inlet::Inlet;
 use bytes::Bytes;
+use link_hearing::Inlet;
 use link_outside::{Arrived, Inbox};
 use link_report::Ending;
 use std::alloc::Global;

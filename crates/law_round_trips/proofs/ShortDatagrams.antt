@@ -2,7 +2,7 @@
 use Rattle.std.proofs.Common.{◌≡◌, ◌<◌, ◌≤◌, ℕ, zero, suc, ◌*◌, ◌^◌, List, [], ◌∷◌, length, drop, refl, sym, subst, arith, All, inl, inr, ◌⊎◌}
 use Rattle.std.proofs.lemmas.List.Concat.{flat_map-cons}
 use Rattle.std.proofs.lemmas.List.Elements.{All-head, All-tail, All-weaker}
-use Rattle.cmd_receive.proofs.Within.{within_entry, within_nothing}
+use Rattle.link_hearing.proofs.Within.{within_entry, within_nothing}
 use Rattle.link_outside.specs.Outlets.{capture_of}
 use Rattle.law_index_zero.proofs.FittingRuns.{room_few, run_is}
 use Rattle.law_index_zero.proofs.FramePictures.{AreFaultless, all_pictures, no_slice_fault}

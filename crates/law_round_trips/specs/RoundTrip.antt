@@ -2,8 +2,7 @@
 -- `loop` writes them back.
 use Rattle.std.specs.Prelude.{◌≡◌, ◌<◌, ◌≤◌, ℕ, ◌*◌, ◌^◌, IsTrue, All, List, [], length, Option, Some, Ok}
 use Rattle.link_outside.specs.Outlets.{capture_of}
-use Rattle.cmd_receive.specs.Capture.{capture_split}
-use Rattle.cmd_receive.specs.Decoding.{IsDecodable}
+use Rattle.link_hearing.specs.Capture.{IsWholeCapture, capture_split}
 use Rattle.cmd_gen.specs.Differences.{differences}
 use Rattle.frame_writer.specs.WholeFrames.{HoldFrames}
 use Rattle.cmd_send.specs.FramesSent.{AreSendable, frame_shape, stream_sent}
@@ -30,7 +29,7 @@ pub record IsRawVideo (s : Sending) (bytes : List ℕ) (frames : List Planes) : 
 
 -- a capture is read whole, and these bytes are written of it
 pub record IsDecodedTo (window packets : ℕ) (capture bytes : List ℕ) : Type 0 where
-  pub decodable : IsDecodable packets capture
+  pub decodable : IsWholeCapture packets capture
   pub written : full_output window (capture_split packets capture).datagrams ≡ bytes
 
 -- Raw frames that are sent at index 0 come back, up to `packets` datagrams.

@@ -1,4 +1,5 @@
-use Rattle.cmd_receive.proofs.HeardEntries.{heard_apart, plays_well}
+use Rattle.cmd_receive.proofs.PlayedCaptures.{plays_well}
+use Rattle.link_hearing.proofs.HeardEntries.{heard_apart}
 use Rattle.cmd_receive.proofs.decoding.play_capture.Goals as goal
 
 pub returns : goal.returns

@@ -2,7 +2,7 @@ use Rattle.std.proofs.Common.{rules, refl}
 use Rattle.vc_types.specs.SenderSettings.{sending_view}
 use Rattle.cmd_receive.proofs.LoopAnswers.{all_sent, all_stopped, breaks, broke_off, fixed, sent_undrained, stopped_undrained}
 use Rattle.cmd_receive.specs.Exchanges.{loop_state}
-use Rattle.cmd_receive.specs.Hearing.{fault_ending}
+use Rattle.link_hearing.specs.Hearing.{fault_ending}
 use Rattle.cmd_receive.proofs.looping.loop_through.Goals as goal
 
 -- all was sent, and then the receiver broke off

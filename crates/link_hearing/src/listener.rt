@@ -1,11 +1,11 @@
 ghost use Rattle.std.specs.Prelude.{◌≡◌, ℕ, ◌≤◌, List, [], ◌∷◌, ◌++◌, length, IsTrue, IsFalse, OnOk, IfErr};
-ghost use Rattle.cmd_receive.specs.Hearing.{fault_ending};
+ghost use Rattle.link_hearing.specs.Hearing.{fault_ending, has_broken};
 
 use bytes::Bytes;
 use link_report::Ending;
 
 /// Why a listener broke off.
-#[derive(Clone, Copy, Debug, PartialEq, Eq)]
+#[derive(Clone, Copy)]
 pub enum ListenerFault {
     NoMemory,
     /// A write to its output failed.
@@ -23,9 +23,16 @@ impl From<ListenerFault> for Ending {
     }
 }
 
+/// Whether this is how a listener broke off, so that it can hear nothing more.
+pub fn has_broken(ending: &Ending) -> bool
+    ensures { result ≡ has_broken ending.now }
+{
+    matches!(ending, Ending::NoMemory | Ending::OutputFailed)
+}
+
 /// What hears datagrams one after another.
 pub trait Listener {
-    ghost use Rattle.cmd_receive.specs.declared.listener.ListenerFault.{ListenerFault};
+    ghost use Rattle.link_hearing.specs.declared.listener.ListenerFault.{ListenerFault};
 
     /// It can hear a datagram, where it wants one.
     ghost is_ready: { Self → Type 0 };

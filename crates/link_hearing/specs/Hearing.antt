@@ -1,7 +1,7 @@
 -- What hearing the datagrams of an inlet came to. Two relations say what came, and what stopped it;
 -- two say what the listener heard, and how it broke off; two facts, whether it wants more.
-use Rattle.std.specs.Prelude.{◌≡◌, ◌≢◌, ◌≤◌, ◌<◌, ◌⊎◌, ℕ, List, [], length}
-use Rattle.std.specs.Prelude.{Option, Some, None, Result, Ok, Err}
+use Rattle.std.specs.Prelude.{◌≡◌, ◌≢◌, ◌≤◌, ◌<◌, ◌⊎◌, ℕ, Bool, true, false, List, [], length}
+use Rattle.std.specs.Prelude.{Option, Some, None, Result, Ok, Err, ⊤}
 use Rattle.link_capture.specs.Capture.{first_entry}
 use Rattle.link_outside.specs.Outlets.{capture_of}
 use Rattle.link_report.specs.declared.ending.Ending.{Ending}
@@ -9,14 +9,25 @@ use Rattle.link_report.specs.declared.ending.Ending.TheVariants.{CaptureCut, Inp
 use Rattle.link_report.specs.declared.ending.Ending.TheVariants.{OutputFailed, PacketLimit}
 use Rattle.vc_ports.specs.Changes.{InputChange, HasRisen}
 use Rattle.vc_ports.specs.Reading.{IsAtEnd}
-use Rattle.cmd_receive.specs.Inlets.{GaveEntries}
-use Rattle.cmd_receive.specs.declared.listener.ListenerFault.{ListenerFault}
-use Rattle.cmd_receive.specs.declared.listener.ListenerFault.TheVariants as faults
+use Rattle.link_hearing.specs.Inlets.{GaveEntries}
+use Rattle.link_hearing.specs.declared.listener.ListenerFault.{ListenerFault}
+use Rattle.link_hearing.specs.declared.listener.ListenerFault.TheVariants as faults
 
 -- how a command ends where its listener broke off
 abbrev pub fault_ending : ListenerFault → Ending
 fault_ending faults.NoMemory = NoMemory
 fault_ending faults.Output = OutputFailed
+
+-- the listener broke off, so that nothing more can be heard
+abbrev pub has_broken : Ending → Bool
+has_broken NoMemory = true
+has_broken OutputFailed = true
+has_broken ending = false
+
+-- it can hear more
+abbrev pub CanGoOn : Result (Unit {0}) Ending → Type 0
+CanGoOn (Ok done) = ⊤
+CanGoOn (Err end) = has_broken end ≡ false
 
 -- ---- at most so many datagrams
 

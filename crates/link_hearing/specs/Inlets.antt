@@ -1,15 +1,13 @@
--- What datagrams that come one after another did to a capture's source, and to a wire.
+-- What datagrams that come one after another did to a capture's source.
 use Rattle.std.specs.Prelude.{◌≡◌, ◌≢◌, ◌≤◌, ◌<◌, ◌+◌, ◌^◌, ℕ, List, [], ◌∷◌, ◌++◌}
 use Rattle.std.specs.Prelude.{length, Option, Some, None, Result, Ok, Err, ⊤}
 use Rattle.link_capture.specs.Capture.{first_entry}
 use Rattle.link_capture.specs.declared.fault.EntryFault.{EntryFault}
 use Rattle.link_capture.specs.declared.fault.EntryFault.TheVariants as entries
 use Rattle.link_outside.specs.Outlets.{capture_of}
-use Rattle.link_outside.specs.Passing.{Passes}
 use Rattle.link_report.specs.declared.ending.Ending.{Ending}
-use Rattle.link_report.specs.declared.ending.Ending.TheVariants.{CaptureCut, InputFailed}
-use Rattle.link_report.specs.declared.ending.Ending.TheVariants.{NoMemory, WireFailed}
-use Rattle.vc_ports.specs.Changes.{InputChange, WireChange, HasRisen, Took}
+use Rattle.link_report.specs.declared.ending.Ending.TheVariants.{CaptureCut, InputFailed, NoMemory}
+use Rattle.vc_ports.specs.Changes.{InputChange, HasRisen, Took}
 use Rattle.vc_ports.specs.Reading.{IsAtEnd}
 
 -- what an inlet did, by its answer
@@ -68,23 +66,3 @@ abbrev pub entry_ending : EntryFault → Ending
 entry_ending (entries.Cut place) = CaptureCut place
 entry_ending entries.ReadFault = InputFailed
 entry_ending entries.NoMemory = NoMemory
-
--- ---- a wire
-
--- it gave these, and nothing else was done to it
-pub record WasGiven (wire : WireChange) (datagrams : List (List ℕ)) : Type 0 where
-  pub passes : Passes wire.told.before wire.told.after [] datagrams
-  pub later : wire.faults.before ≤ wire.faults.after
-
-abbrev pub EndsWire : Option Ending → WireChange → List (List ℕ) → Type 0
-EndsWire None wire lost = (lost ≡ []) × (wire.told.after.coming ≡ Some [])
-EndsWire (Some WireFailed) wire lost = (lost ≡ []) × HasRisen wire.faults
-EndsWire (Some NoMemory) wire lost = ⊤
-EndsWire end wire lost = ⊥
-
-pub record StoppedWire (wire : WireChange) (datagrams : List (List ℕ)) (end : Option Ending)
-    : Type 0 where
-  pub lost : List (List ℕ)
-  pub few : length lost ≤ 1
-  pub given : WasGiven wire (datagrams ++ lost)
-  pub ended : EndsWire end wire lost

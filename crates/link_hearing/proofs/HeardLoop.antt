@@ -3,8 +3,8 @@ use Rattle.std.proofs.Common.{◌≡◌, ℕ, ◌+◌, ◌<◌, List, [], ◌∷
 use Rattle.std.proofs.Common.{length-append}
 use Rattle.std.specs.Prelude.{Result}
 use Rattle.link_report.specs.declared.ending.Ending.{Ending}
-use Rattle.cmd_receive.specs.Hearing.{HearsUntil, fault_ending}
-use Rattle.cmd_receive.specs.declared.listener.ListenerFault.{ListenerFault}
+use Rattle.link_hearing.specs.Hearing.{HearsUntil, fault_ending}
+use Rattle.link_hearing.specs.declared.listener.ListenerFault.{ListenerFault}
 
 -- so many came and were heard
 pub record IsAt (came heard : List (List ℕ) → Type 0) (number : ℕ) (ds : List (List ℕ)) : Type 0

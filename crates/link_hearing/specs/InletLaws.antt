@@ -1,19 +1,13 @@
--- Datagrams that come one after another, out of a capture or from a wire. The laws of an inlet cite these.
-use Rattle.std.proofs.Common.{◌≡◌, ℕ, ◌+◌, List, [], ◌∷◌, ◌++◌, length, Option, Some, None, sym}
-use Rattle.std.proofs.Common.{subst, arith, append-nil, append_assoc, length-append}
+-- Datagrams that come one after another out of a capture. The laws of its inlet cite these.
+use Rattle.std.proofs.Common.{ℕ, ◌+◌, List, [], ◌∷◌, ◌++◌, length, Option, Some, None}
+use Rattle.std.proofs.Common.{arith, append-nil, append_assoc, length-append}
 use Rattle.link_outside.specs.CaptureLaws.{capture-append}
-use Rattle.link_outside.specs.Calls.{passes_none, passes_then}
 use Rattle.link_outside.specs.Outlets.{capture_of}
 use Rattle.link_report.specs.declared.ending.Ending.{Ending}
-use Rattle.link_report.specs.declared.ending.Ending.TheVariants.{CaptureCut, InputFailed}
-use Rattle.link_report.specs.declared.ending.Ending.TheVariants.{NoMemory, WireFailed}
+use Rattle.link_report.specs.declared.ending.Ending.TheVariants.{CaptureCut, InputFailed, NoMemory}
 use Rattle.vc_ports.proofs.Given.{Gave-none, Gave-then}
-use Rattle.vc_ports.specs.Changes.{InputChange, WireChange}
-use Rattle.vc_ports.specs.Wires.{WireTold}
-use Rattle.cmd_receive.specs.Inlets.{EndsReading, EndsWire, FitEntries, GaveEntries}
-use Rattle.cmd_receive.specs.Inlets.{GaveWhole, StoppedReading, StoppedWire, WasGiven}
-
--- ---- a capture
+use Rattle.vc_ports.specs.Changes.{InputChange}
+use Rattle.link_hearing.specs.Inlets.{EndsReading, FitEntries, GaveEntries, GaveWhole, StoppedReading}
 
 -- an input of which so much was left, and which had counted so many faults, before and after
 abbrev pub left_between : (before after : Option (List ℕ)) → (first last : ℕ) → InputChange
@@ -76,40 +70,4 @@ module _ (a b c : Option (List ℕ)) (i j k place mid : ℕ) (first : List (List
       not_whole = q.until.not_whole;
     };
     ended = ends_then end q.lost q.part q.ended;
-  }
-
--- ---- a wire
-
-abbrev pub told_between : (before after : WireTold) → (first last : ℕ) → WireChange
-told_between before after first last = record {
-  told = record { before = before; after = after };
-  faults = record { before = first; after = last };
-}
-
-pub none_given : (told : WireTold) (faults : ℕ) → WasGiven (told_between told told faults faults) []
-none_given told faults = record { passes = passes_none told; later = omega arith }
-
-module _ (a b c : WireTold) (i j k : ℕ) (first : List (List ℕ))
-    (p : WasGiven (told_between a b i j) first) where
-  pub more_given : (second : List (List ℕ)) → WasGiven (told_between b c j k) second
-      → WasGiven (told_between a c i k) (first ++ second)
-  more_given second q = record {
-    passes = passes_then a b c [] first [] second p.passes q.passes;
-    later = omega (arith, p.later, q.later);
-  }
-
-  wire_ends : (end : Option Ending) (lost : List (List ℕ))
-      → EndsWire end (told_between b c j k) lost → EndsWire end (told_between a c i k) lost
-  wire_ends None lost e = e
-  wire_ends (Some WireFailed) lost e = (e.0, omega (arith, p.later, e.1))
-  wire_ends (Some NoMemory) lost e = tt
-  wire_ends other lost e = absurd e
-
-  pub wire_stops : (end : Option Ending) → StoppedWire (told_between b c j k) [] end
-      → StoppedWire (told_between a c i k) first end
-  wire_stops end q = record {
-    lost = q.lost;
-    few = q.few;
-    given = more_given q.lost q.given;
-    ended = wire_ends end q.lost q.ended;
   }

@@ -1,5 +1,5 @@
-use Rattle.cmd_receive.proofs.HeardEntries.{capture_heard}
-use Rattle.cmd_receive.proofs.hearing.hear_inlet.Goals as goal
+use Rattle.link_hearing.proofs.HeardEntries.{capture_heard}
+use Rattle.link_hearing.proofs.hearing.hear_inlet.Goals as goal
 
 pub returns-clause-borrows : goal.returns-clause-borrows
 returns-clause-borrows g c =

@@ -51,3 +51,9 @@ ReadingEnded packets (Some (CaptureCut place)) input s = IsCut packets input s p
 ReadingEnded packets (Some InputFailed) input s = CouldNotRead packets s
 ReadingEnded packets (Some (PacketLimit limit)) input s = IsPastLimit packets s limit
 ReadingEnded packets end input s = ⊥
+
+-- ---- the whole
+
+-- at most `packets` entries are the whole of the bytes
+abbrev pub IsWholeCapture : ℕ → List ℕ → Type 0
+IsWholeCapture packets bytes = (capture_split packets bytes).rest ≡ []

@@ -1,7 +1,7 @@
 ghost use Rattle.std.proofs.Common.{◌∙◌};
 ghost use Rattle.std.specs.Prelude.{◌≡◌, ◌<◌, ◌+◌, ◌*◌, ◌^◌, None, refl};
-ghost use Rattle.cmd_receive.specs.InletLaws.{none_read, more_read, reading_stops};
-ghost use Rattle.cmd_receive.specs.Inlets.{GaveWhole, StoppedReading, entry_ending};
+ghost use Rattle.link_hearing.specs.InletLaws.{none_read, more_read, reading_stops};
+ghost use Rattle.link_hearing.specs.Inlets.{GaveWhole, StoppedReading, entry_ending};
 ghost use Rattle.vc_ports.specs.Changes.{input_of};
 
 use crate::inlet::Inlet;

@@ -1,5 +1,5 @@
 ghost use Rattle.std.specs.Prelude.{ℕ, ◌+◌, List, [], ◌∷◌, ◌++◌, Option, OnOk};
-ghost use Rattle.cmd_receive.specs.Inlets.{Brings};
+ghost use Rattle.link_hearing.specs.Inlets.{Brings};
 
 use bytes::Bytes;
 use link_report::Ending;

@@ -1,6 +1,6 @@
-use Rattle.cmd_receive.proofs.HeardEntries.{none_more, not_read, one_more}
+use Rattle.link_hearing.proofs.HeardEntries.{none_more, not_read, one_more}
 use Rattle.vc_ports.proofs.Fronts.{none_of_one}
-use Rattle.cmd_receive.proofs.hearing.hear_capture.Goals as goal
+use Rattle.link_hearing.proofs.hearing.hear_capture.Goals as goal
 
 -- one byte more
 pub returns-in-Whole : goal.returns-in-Whole

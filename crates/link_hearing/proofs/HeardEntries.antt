@@ -1,8 +1,8 @@
 -- What hearing a capture's entries came to, by what its inlet and a listener did.
-use Rattle.std.proofs.Common.{◌≡◌, true, ◌≤◌, ◌+◌, ◌-◌, ℕ, zero, suc, List, [], ◌∷◌, ◌++◌, length}
-use Rattle.std.proofs.Common.{Option, Some, None, Ok, Err, refl, sym, ap, ◌∙◌, arith, inl, inr}
+use Rattle.std.proofs.Common.{◌≡◌, true, ◌≤◌, ◌+◌, ℕ, zero, suc, List, [], ◌∷◌, ◌++◌, length}
+use Rattle.std.proofs.Common.{Option, Some, None, Ok, Err, refl, ap, arith, inl, inr}
 use Rattle.std.proofs.Common.{append-nil, append_assoc, length-append}
-use Rattle.std.specs.Prelude.{Result, ◌⊎◌}
+use Rattle.std.specs.Prelude.{Result}
 use Rattle.std.proofs.lemmas.List.Concat.{flat_map-cons}
 use Rattle.link_capture.proofs.Entries.{within-part}
 use Rattle.link_capture.proofs.Heads.{first_entry-stub}
@@ -15,16 +15,15 @@ use Rattle.vc_ports.proofs.Given.{Gave-then}
 use Rattle.vc_ports.specs.Changes.{InputChange}
 use Rattle.vc_ports.specs.Faults.{Rose}
 use Rattle.vc_ports.specs.Reading.{Gave, GaveAll}
-use Rattle.cmd_receive.proofs.Within.{within_entry}
-use Rattle.cmd_receive.specs.Capture.{CaptureSplit, capture_split}
-use Rattle.cmd_receive.specs.Concluding.{CanGoOn, has_broken}
-use Rattle.cmd_receive.specs.Hearing.{CaptureHeard, HearsCapture, HearsUntil, RanOut, fault_ending}
-use Rattle.cmd_receive.specs.InletLaws.{left_between}
-use Rattle.cmd_receive.specs.Inlets.{EndsReading, FitEntries, GaveEntries}
-use Rattle.cmd_receive.specs.Inlets.{GaveUntil, GaveWhole, StoppedReading}
-use Rattle.cmd_receive.specs.Playouts.{PlayoutState, IsWell, PlaysCapture}
-use Rattle.cmd_receive.specs.declared.listener.ListenerFault.{ListenerFault}
-use Rattle.cmd_receive.specs.declared.listener.ListenerFault.TheVariants as faults
+use Rattle.link_hearing.proofs.Within.{within_entry}
+use Rattle.link_hearing.specs.Capture.{capture_split}
+use Rattle.link_hearing.specs.Hearing.{CanGoOn, CaptureHeard, HearsCapture, HearsUntil}
+use Rattle.link_hearing.specs.Hearing.{fault_ending, has_broken}
+use Rattle.link_hearing.specs.InletLaws.{left_between}
+use Rattle.link_hearing.specs.Inlets.{FitEntries, GaveEntries}
+use Rattle.link_hearing.specs.Inlets.{GaveWhole, StoppedReading}
+use Rattle.link_hearing.specs.declared.listener.ListenerFault.{ListenerFault}
+use Rattle.link_hearing.specs.declared.listener.ListenerFault.TheVariants as faults
 
 -- ---- the entries of the bytes
 
@@ -213,7 +212,7 @@ module _ (packets more : ℕ) (input : InputChange) (heard : List (List ℕ) →
   capture_breaks ds part OutputFailed is did = (faults.Output, refl, did)
   capture_breaks ds part end is did = absurd cc
 
--- ---- a playout
+-- ---- what is lent
 
 -- what is lent to a listener is the same, whatever it heard
 module _ (B : Type 0) (packets more : ℕ) (input : InputChange) (heard : List (List ℕ) → Type 0)
@@ -247,14 +246,3 @@ module _ (B : Type 0) (packets more : ℕ) (input : InputChange) (heard : List (
           did = apart.1;
         },
       )
-
--- no slice is out at a place that isn't there
-pub plays_well : (packets : ℕ) (input : InputChange) (x y : PlayoutState)
-    (result : Result (Unit {0}) Ending) → PlaysCapture packets input x y result → IsWell x → IsWell y
-plays_well packets input x y (Ok done) h w = h.did.0.goes.well w
-plays_well packets input x y (Err (CaptureCut at)) h w = h.did.0.goes.well w
-plays_well packets input x y (Err InputFailed) h w = h.did.0.goes.well w
-plays_well packets input x y (Err (PacketLimit limit)) h w = h.did.0.goes.well w
-plays_well packets input x y (Err NoMemory) h w = h.did.goes.well w
-plays_well packets input x y (Err OutputFailed) h w = h.did.0.goes.well w
-plays_well packets input x y (Err end) h w = absurd h.did

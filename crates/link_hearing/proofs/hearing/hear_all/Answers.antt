@@ -1,6 +1,6 @@
 use Rattle.std.proofs.Common.{rules, ◌≡◌, ℕ, ◌+◌, ◌-◌, ◌∷◌, ◌++◌, [], refl, subst, arith}
-use Rattle.cmd_receive.proofs.HeardLoop.{heard_one, until_break}
-use Rattle.cmd_receive.proofs.hearing.hear_all.Goals as goal
+use Rattle.link_hearing.proofs.HeardLoop.{heard_one, until_break}
+use Rattle.link_hearing.proofs.hearing.hear_all.Goals as goal
 
 pub loop-place-init : goal.loop-place-init
 loop-place-init g c =

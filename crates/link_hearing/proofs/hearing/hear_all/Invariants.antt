@@ -1,6 +1,6 @@
 use Rattle.std.proofs.Common.{◌-◌, List, ℕ}
-use Rattle.cmd_receive.proofs.HeardLoop.{IsAt}
-use Rattle.cmd_receive.proofs.hearing.hear_all.Given as goal
+use Rattle.link_hearing.proofs.HeardLoop.{IsAt}
+use Rattle.link_hearing.proofs.hearing.hear_all.Given as goal
 
 abbrev pub invariant-loop-place : goal.invariant-loop-place
 invariant-loop-place g l = record {

@@ -1,5 +1,5 @@
-use Rattle.cmd_receive.proofs.Arriving.{none_left, not_read, one_lost, one_read}
-use Rattle.cmd_receive.proofs.capture_inlet.CaptureInletInlet.next.Goals as goal
+use Rattle.link_hearing.proofs.Arriving.{none_left, not_read, one_lost, one_read}
+use Rattle.link_hearing.proofs.capture_inlet.CaptureInletInlet.next.Goals as goal
 
 pub returns-in-Ok-clause-brings : goal.returns-in-Ok-clause-brings
 returns-in-Ok-clause-brings g c =

@@ -1,5 +1,5 @@
 ghost use Rattle.std.specs.Prelude.{◌≡◌, None};
-ghost use Rattle.cmd_receive.specs.Hearing.{HearsCapture, HearsUntil};
+ghost use Rattle.link_hearing.specs.Hearing.{HearsCapture, HearsUntil};
 ghost use Rattle.vc_ports.specs.Changes.{input_of};
 
 use crate::capture_inlet::CaptureInlet;

@@ -1,0 +1,4 @@
+pub mod Inlets
+pub mod InletLaws
+pub mod Hearing
+pub mod Capture
